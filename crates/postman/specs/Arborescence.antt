@@ -1,0 +1,37 @@
+-- An arborescence (document 01: a tree): "for each part but part 0 one link whose head is in it and whose tail is in another part, such that going back
+-- along links from any part arrives at part 0. With k = 1 the empty tree is the one tree."
+use mathlib.Core.Bool.{Bool, not, _&&_}
+use mathlib.Core.List.{List, map}
+use Prim.Native.Nat.{ℕ, zero, suc, _-_}
+use lib.ListN.{length, getD}
+use lib.Dec.{eqb}
+use Rattle.postman.specs.Lists.{select, allOf, below, upFrom, choices, iterate}
+use Rattle.postman.specs.Plan.{Plan}
+use Rattle.postman.specs.Link.{Link, links}
+use Rattle.postman.specs.Component.{component, componentCount}
+
+-- "candidate links for a part ascend by (tail, head)"
+unfoldable pub candidates : Plan → ℕ → List Link
+unfolding links component select
+candidates p q = select (λ l. eqb (component p (l .head)) q && not (eqb (component p (l .tail)) q)) (links p)
+
+-- The component that the link into component q comes from. The list t holds the links into components 1, 2, and so on.
+unfoldable pub parent : Plan → List Link → ℕ → ℕ
+unfolding component
+parent p t zero = 0
+parent p t (suc q) = component p (getD t q (record { tail = 0; head = 0 }) .tail)
+
+-- k steps back from any component arrive at component 0. `Laws.Iteration`: what some number of steps reaches, k steps do.
+unfoldable pub arrives : Plan → List Link → Bool
+unfolding iterate parent allOf below componentCount
+arrives p t = allOf (λ q. eqb (iterate (componentCount p) (parent p t) q) 0) (below (componentCount p))
+
+-- "trees ascend by the choice for part 1, then part 2, and so on"
+unfoldable pub arborescences : Plan → List (List Link)
+unfolding select arrives choices candidates componentCount upFrom
+arborescences p = select (arrives p) (choices (map (candidates p) (upFrom 1 (componentCount p - 1))))
+
+-- "N is the number of trees."
+unfoldable pub arborescenceCount : Plan → ℕ
+unfolding arborescences
+arborescenceCount p = length (arborescences p)

@@ -1,0 +1,15 @@
+-- The definitions, in document 01's order: what a reader has to believe.
+pub mod Lists
+pub mod Plan
+pub mod BitField
+pub mod Refusal
+pub mod PlanFile
+pub mod Tour
+pub mod Required
+pub mod Distance
+pub mod Link
+pub mod Component
+pub mod Arborescence
+pub mod Balancing
+pub mod LagrangianBound
+pub mod PlanCall

@@ -1,0 +1,113 @@
+-- The plan call: its refusals and its answer.
+use mathlib.Core.Path.{_≡_}
+use mathlib.Core.Bool.{Bool, true, false, not, cond}
+use mathlib.Core.List.{List, [], _∷_, _++_, map}
+use mathlib.Core.Option.{Option}
+use Prim.Native.Nat.{ℕ, _≤_, _<_, min}
+use lib.ListN.{length, getD, take}
+use lib.IntN.{ℤ, pos}
+use lib.Dec.{T, eqb, ltb, leb}
+use Rattle.postman.specs.Lists.{anyOf, minimum, maxℤ}
+use Rattle.postman.specs.Plan.{Plan, requiredArcs, requiredNumbers}
+use Rattle.postman.specs.Refusal.{Conditions, firstRefusal, Answer, given, refused, answer}
+use Rattle.postman.specs.PlanFile.{fileConditions, isOutside, planOf}
+use Rattle.postman.specs.Tour.{walkCost, IsTour}
+use Rattle.postman.specs.Required.{required}
+use Rattle.postman.specs.Distance.{hasPath}
+use Rattle.postman.specs.Component.{componentCount}
+use Rattle.postman.specs.Arborescence.{arborescences, arborescenceCount}
+use Rattle.postman.specs.Balancing.{completionCost}
+use Rattle.postman.specs.LagrangianBound.{Multipliers, lagrangianBound}
+
+-- ---- the refusals
+
+-- "budget B from 1 to 1,000,000"; "The short call leaves B out and uses 10,000."
+unfoldable pub highestBudget : ℕ
+highestBudget = 1000000
+
+unfoldable pub defaultBudget : ℕ
+defaultBudget = 10000
+
+-- 8 short sheet, for the plan call: "drive sheet below 17,266 places"
+unfoldable pub sheetPlaces : ℕ
+sheetPlaces = 17266
+
+-- 12 cut off: "some required vertex has no path to another"
+unfoldable pub isCutOff : Plan → Bool
+unfolding anyOf required hasPath
+isCutOff p = anyOf (λ i. anyOf (λ j. not (hasPath p i j)) (required p)) (required p)
+
+-- 10 idle: "no must arc"; 11 scattered: "more than 8 parts"
+unfoldable pub networkConditions : Plan → Conditions
+unfolding requiredArcs componentCount isCutOff
+networkConditions p = (eqb (length (requiredArcs p)) 0, 10) ∷ (ltb 8 (componentCount p), 11) ∷ (isCutOff p, 12) ∷ []
+
+-- "then 8 to 12". 9 budget: "0 or above 1,000,000"
+unfoldable pub callRefusal : List ℕ → ℕ → ℕ → Option ℕ
+unfolding firstRefusal fileConditions sheetPlaces isOutside highestBudget networkConditions planOf
+callRefusal bytes budget places =
+    firstRefusal
+    (fileConditions bytes
+    ++ (ltb places sheetPlaces, 8)
+    ∷ (isOutside budget 1 highestBudget, 9)
+    ∷ networkConditions (planOf bytes))
+
+-- ---- the answer
+
+-- "T is the smaller of B and N. Whole is yes exactly when N ≤ B."
+unfoldable pub triedCount : Plan → ℕ → ℕ
+unfolding arborescenceCount
+triedCount p budget = min budget (arborescenceCount p)
+
+unfoldable pub isWhole : Plan → ℕ → Bool
+unfolding arborescenceCount
+isWhole p budget = leb (arborescenceCount p) budget
+
+-- "Cost is the least cost of the first T trees."
+unfoldable pub bestCost : Plan → ℕ → ℕ
+unfolding minimum completionCost triedCount arborescences
+bestCost p budget = minimum (map (completionCost p) (take (triedCount p budget) (arborescences p)))
+
+-- The lower bound (document 01: the floor) "is the cost if whole, else the larger of L(0) and L(u), with the u that the answer holds".
+unfoldable pub lowerBound : Plan → ℕ → Multipliers → ℤ
+unfolding isWhole bestCost maxℤ lagrangianBound
+lowerBound p budget u = cond (isWhole p budget) (pos (bestCost p budget)) (maxℤ (lagrangianBound p (λ i. pos 0)) (lagrangianBound p u))
+
+-- "The answer holds the places written, cost, floor, trees tried T, whole (yes or no), k and u." These are the fields but for the places and u.
+pub record Summary : Type 0 where
+  pub cost : ℕ
+  pub floor : ℤ
+  pub trees : ℕ
+  pub whole : Bool
+  pub parts : ℕ
+
+unfoldable pub summary : Plan → ℕ → Multipliers → Summary
+unfolding bestCost lowerBound triedCount isWhole componentCount
+summary p budget u =
+    record { cost = bestCost p budget; floor = lowerBound p budget u; trees = triedCount p budget; whole = isWhole p budget; parts = componentCount p }
+
+unfoldable pub planCall : List ℕ → ℕ → ℕ → Multipliers → Answer Summary
+unfolding answer callRefusal planOf summary
+planCall bytes budget places u = answer (callRefusal bytes budget places) (summary (planOf bytes) budget u)
+
+unfoldable pub shortCall : List ℕ → ℕ → Multipliers → Answer Summary
+unfolding planCall defaultBudget
+shortCall bytes places u = planCall bytes defaultBudget places u
+
+-- What the fields hold in a refusal, which document 01 leaves open: 0 and no.
+unfoldable pub fields : Answer Summary → Summary
+fields (given s) = s
+fields (refused r) = record { cost = 0; floor = pos 0; trees = 0; whole = false; parts = 0 }
+
+-- The root of the multipliers that we answer: the lowest required vertex.
+unfoldable pub root : Plan → ℕ
+unfolding required
+root p = getD (required p) 0 0
+
+-- "The written places are a drive of that cost whose first arc is the lowest must arc; which such drive, of at most 17,266 places, is free."
+pub record IsAnswerTour (p : Plan) (budget : ℕ) (w : List ℕ) : Type 0 where
+  pub tour : IsTour p w
+  pub costs : walkCost (p .arcs) w ≡ bestCost p budget
+  pub nonempty : 0 < length w
+  pub first : getD w 0 0 ≡ getD (requiredNumbers p) 0 0
+  pub short : length w ≤ sheetPlaces
