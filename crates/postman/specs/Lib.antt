@@ -13,3 +13,5 @@ pub mod Arborescence
 pub mod Balancing
 pub mod LagrangianBound
 pub mod PlanCall
+-- What is proved about them.
+pub mod Laws
