@@ -4,3 +4,8 @@ pub mod Membership
 pub mod Minimum
 pub mod Pick
 pub mod Occurrences
+pub mod Distance
+pub mod Assignment
+pub mod Amounts
+pub mod Required
+pub mod Balancing

@@ -1,0 +1,67 @@
+-- The least balancing is the least: heads and tails are as many, all of them required vertices, so the laws of amounts apply to them.
+use mathlib.Core.Path.{_≡_, sym, ap₂, _∙_}
+use mathlib.Core.Logic.{_⊎_, inl, inr}
+use mathlib.Core.List.{List, _++_, map, List·Memᴰ, List·Memᴰ·append-cases, Memᴰ·cast}
+use Prim.Native.Nat.{ℕ, _+_, _≤_}
+use native.Mathlib.Omega.{arith}
+use lib.ListN.{length, length-map, length-append}
+use Rattle.postman.specs.Plan.{Plan, requiredArcs}
+use Rattle.postman.specs.Required.{required}
+use Rattle.postman.specs.Distance.{distance}
+use Rattle.postman.specs.Link.{Link}
+use Rattle.postman.specs.Balancing.{heads, tails, imbalance, IsBalancing, balancingCost, leastBalancing}
+use Rattle.postman.specs.Laws.Membership.{map-mem}
+use Rattle.postman.specs.Laws.Required.{required-once, required-ends}
+use Rattle.postman.specs.Laws.Distance.{InPlan, triangle, distance-self}
+use Rattle.postman.specs.Laws.Amounts.{Within, difference, assignment-le, assignment-at}
+
+-- the links of t join required vertices
+abbrev pub Joins : Plan → List Link → Type 0
+Joins p t = (l : Link) → List·Memᴰ l t → List·Memᴰ (l .tail) (required p) × List·Memᴰ (l .head) (required p)
+
+module _ (p : Plan) (ok : InPlan p) (t : List Link) (joins : Joins p t) where
+  pub within-heads : Within (required p) (heads p t)
+  unfolding heads
+  within-heads = record {
+    once = required-once p;
+    among = λ i m. elim (List·Memᴰ·append-cases (map (λ a. a .head) (requiredArcs p)) m) [
+      | inl n ↦ let r = map-mem (λ a. a .head) (requiredArcs p) n in Memᴰ·cast (r .2) (required-ends p ok (r .1) .1)
+      | inr n ↦ let r = map-mem (λ l. l .head) t n in Memᴰ·cast (r .2) (joins (r .0) (r .1) .1)
+    ];
+  }
+
+  pub within-tails : Within (required p) (tails p t)
+  unfolding tails
+  within-tails = record {
+    once = required-once p;
+    among = λ i m. elim (List·Memᴰ·append-cases (map (λ a. a .tail) (requiredArcs p)) m) [
+      | inl n ↦ let r = map-mem (λ a. a .tail) (requiredArcs p) n in Memᴰ·cast (r .2) (required-ends p ok (r .1) .0)
+      | inr n ↦ let r = map-mem (λ l. l .tail) t n in Memᴰ·cast (r .2) (joins (r .0) (r .1) .0)
+    ];
+  }
+
+  pub delta-length : length (heads p t) ≡ length (tails p t)
+  unfolding heads tails
+  delta-length =
+      length-append (map (λ a. a .head) (requiredArcs p)) (map (λ l. l .head) t)
+      ∙ ap₂ _+_ (length-map (requiredArcs p) (λ a. a .head) ∙ sym (length-map (requiredArcs p) (λ a. a .tail))) (length-map t (λ l. l .head) ∙ sym (length-map t (λ l. l .tail)))
+      ∙ sym (length-append (map (λ a. a .tail) (requiredArcs p)) (map (λ l. l .tail) t))
+
+  pub least-balancing-le : (f : ℕ → ℕ → ℕ) → IsBalancing (required p) (imbalance p t) f → leastBalancing p t ≤ balancingCost (required p) (distance p) f
+  unfolding leastBalancing imbalance difference
+  least-balancing-le f b = assignment-le (distance p) (triangle p ok) (distance-self p ok) (required p) (heads p t) (tails p t) f delta-length within-heads within-tails b
+
+  pub least-balancing-at : (f : ℕ → ℕ → ℕ) × IsBalancing (required p) (imbalance p t) f × (balancingCost (required p) (distance p) f ≡ leastBalancing p t)
+  unfolding leastBalancing imbalance difference
+  least-balancing-at = assignment-at (distance p) (required p) (heads p t) (tails p t) delta-length within-heads within-tails
+
+  -- a balancing that no other undercuts has the least cost: what a run that found one, with multipliers, cites
+  pub certificate : (f : ℕ → ℕ → ℕ) → IsBalancing (required p) (imbalance p t) f
+      → ((g : ℕ → ℕ → ℕ) → IsBalancing (required p) (imbalance p t) g → balancingCost (required p) (distance p) f ≤ balancingCost (required p) (distance p) g)
+      → leastBalancing p t ≡ balancingCost (required p) (distance p) f
+  certificate f b c =
+      let r = least-balancing-at in
+      let h = c (r .0) (r .1) in
+      let g = least-balancing-le f b in
+      let e = r .2 in
+      omega arith
