@@ -9,3 +9,10 @@ pub mod Assignment
 pub mod Amounts
 pub mod Required
 pub mod Balancing
+pub mod Walk
+pub mod Ascending
+pub mod Component
+pub mod Link
+pub mod Existence
+pub mod Iteration
+pub mod Route
