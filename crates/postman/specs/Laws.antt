@@ -16,3 +16,7 @@ pub mod Link
 pub mod Existence
 pub mod Iteration
 pub mod Route
+pub mod Entries
+pub mod Arborescence
+pub mod LinkLegs
+pub mod TourBound

@@ -2,7 +2,7 @@
 use mathlib.Core.Path.{_≡_, refl, sym, ap, _∙_, subst, subst⁻¹}
 use mathlib.Core.Logic.{_⊎_, inl, inr}
 use mathlib.Core.Bool.{Bool, not, cond, _||_}
-use mathlib.Core.List.{List, [], _∷_, _++_, map, flatMap, List·Memᴰ, List·Memᴰ·head, List·Memᴰ·tail, List·Memᴰ·cases-cons, List·Memᴰ·append-cases, Memᴰ·append-left, Memᴰ·append-right}
+use mathlib.Core.List.{List, [], _∷_, _++_, map, flatMap, List·Memᴰ, List·Memᴰ·head, List·Memᴰ·tail, List·Memᴰ·cases-cons, List·Memᴰ·append-cases, List·Memᴰ·eq-of-singleton, Memᴰ·append-left, Memᴰ·append-right}
 use Prim.Native.Nat.{ℕ, zero, suc, _+_, _≤_, _<_, suc-le-suc}
 use native.Mathlib.Nat.{le-of-suc-le-suc, not-suc-le-zero, add-zero, suc-add, add-suc}
 use native.Mathlib.Decide.{decLe}
@@ -132,9 +132,28 @@ length-below n = length-upFrom 0 n
 
 -- ---- one element of each list
 
-pub mem-choices : {A : Type 0} (f : ℕ → A) (g : ℕ → List A) (qs : List ℕ) → ((q : ℕ) → List·Memᴰ q qs → List·Memᴰ (f q) (g q)) → List·Memᴰ (map f qs) (choices (map g qs))
-unfolding choices
-mem-choices f g [] h = List·Memᴰ·head refl
-mem-choices f g (q ∷ qs) h =
-    mem-flatMap (λ x. map (λ xs. x ∷ xs) (choices (map g qs))) (h q (List·Memᴰ·head refl))
-    (mem-map (λ xs. f q ∷ xs) (mem-choices f g qs (λ r m. h r (List·Memᴰ·tail m))))
+pub mem-choices : {A : Type 0} (d : A) (g : ℕ → List A) (a n : ℕ) (xs : List A) → length xs ≡ n → ((i : ℕ) → i < n → List·Memᴰ (getD xs i d) (g (a + i)))
+    → List·Memᴰ xs (choices (map g (upFrom a n)))
+unfolding choices upFrom
+mem-choices d g a zero [] l h = List·Memᴰ·head refl
+mem-choices d g a zero (x ∷ xs) l h = absurd (omega arith)
+mem-choices d g a (suc n) [] l h = absurd (omega arith)
+mem-choices d g a (suc n) (x ∷ xs) l h =
+    let r = mem-choices d g (suc a) n xs (omega arith) (λ i k. subst (λ z. List·Memᴰ (getD xs i d) (g z)) (add-suc a i ∙ sym (suc-add a i)) (h (suc i) (omega arith))) in
+    mem-flatMap (λ y. map (λ ys. y ∷ ys) (choices (map g (upFrom (suc a) n)))) (subst (λ z. List·Memᴰ x (g z)) (add-zero a) (h 0 (omega arith))) (mem-map (λ ys. x ∷ ys) r)
+
+pub choices-mem : {A : Type 0} (d : A) (g : ℕ → List A) (a n : ℕ) {xs : List A} → List·Memᴰ xs (choices (map g (upFrom a n)))
+    → (length xs ≡ n) × ((i : ℕ) → i < n → List·Memᴰ (getD xs i d) (g (a + i)))
+unfolding choices upFrom
+choices-mem d g a zero m = (ap length (List·Memᴰ·eq-of-singleton m), λ i l. absurd (omega arith))
+choices-mem {A} d g a (suc n) m =
+    let f : A → List (List A) = λ y. map (λ ys. y ∷ ys) (choices (map g (upFrom (suc a) n))) in
+    let r = flatMap-mem f (g a) m in
+    let s = map-mem (λ ys. r .0 ∷ ys) (choices (map g (upFrom (suc a) n))) (r .2) in
+    let t = choices-mem d g (suc a) n (s .1) in
+    subst⁻¹ (λ (zs : List A). (length zs ≡ suc n) × ((i : ℕ) → i < suc n → List·Memᴰ (getD zs i d) (g (a + i)))) (s .2)
+    (ap suc (t .0), at (r .0) (s .0) (r .1) (t .1))
+  where
+    at : (x : A) (xs : List A) → List·Memᴰ x (g a) → ((i : ℕ) → i < n → List·Memᴰ (getD xs i d) (g (suc a + i))) → (i : ℕ) → i < suc n → List·Memᴰ (getD (x ∷ xs) i d) (g (a + i))
+    at x xs h k zero l = subst⁻¹ (λ z. List·Memᴰ x (g z)) (add-zero a) h
+    at x xs h k (suc i) l = subst (λ z. List·Memᴰ (getD xs i d) (g z)) (suc-add a i ∙ sym (add-suc a i)) (k i (omega arith))
