@@ -20,3 +20,6 @@ pub mod Entries
 pub mod Arborescence
 pub mod LinkLegs
 pub mod TourBound
+pub mod SignedSum
+pub mod LagrangianBound
+pub mod Multiplier

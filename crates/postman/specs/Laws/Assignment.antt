@@ -20,7 +20,7 @@ module _ (d : ℕ → ℕ → ℕ) where
   assign-le s ss p = minimum-le (mem-map (λ r. d s (r .0) + assignment d ss (r .1)) (picks-of p))
 
   -- the assignment's first choice
-  assign-at : (s : ℕ) (ss ts : List ℕ) → 0 < length ts → (t : ℕ) × (rs : List ℕ) × Pick t ts rs × (assignment d (s ∷ ss) ts ≡ d s t + assignment d ss rs)
+  pub assign-at : (s : ℕ) (ss ts : List ℕ) → 0 < length ts → (t : ℕ) × (rs : List ℕ) × Pick t ts rs × (assignment d (s ∷ ss) ts ≡ d s t + assignment d ss rs)
   unfolding assignment
   assign-at s ss ts h =
       let f : ℕ × List ℕ → ℕ = λ r. d s (r .0) + assignment d ss (r .1) in

@@ -1,0 +1,2 @@
+-- Tactics for the integers.
+pub mod Linear

@@ -1,0 +1,3 @@
+-- A plan by value and what it stands for; an arc's standing.
+pub mod Records
+pub mod Standings
