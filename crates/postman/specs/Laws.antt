@@ -23,3 +23,8 @@ pub mod TourBound
 pub mod SignedSum
 pub mod LagrangianBound
 pub mod Multiplier
+pub mod BitField
+pub mod Acceptance
+pub mod PlanFile
+pub mod Optimality
+pub mod Refusal

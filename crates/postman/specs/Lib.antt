@@ -13,5 +13,8 @@ pub mod Arborescence
 pub mod Balancing
 pub mod LagrangianBound
 pub mod PlanCall
+pub mod Guarantee
 -- What is proved about them.
 pub mod Laws
+pub mod Theorem
+pub mod Cases

@@ -37,20 +37,19 @@ unfoldable pub isCutOff : Plan → Bool
 unfolding anyOf required hasPath
 isCutOff p = anyOf (λ i. anyOf (λ j. not (hasPath p i j)) (required p)) (required p)
 
--- 10 idle: "no must arc"; 11 scattered: "more than 8 parts"
-unfoldable pub networkConditions : Plan → Conditions
-unfolding requiredArcs componentCount isCutOff
-networkConditions p = (eqb (length (requiredArcs p)) 0, 10) ∷ (ltb 8 (componentCount p), 11) ∷ (isCutOff p, 12) ∷ []
-
--- "then 8 to 12". 9 budget: "0 or above 1,000,000"
-unfoldable pub callRefusal : List ℕ → ℕ → ℕ → Option ℕ
-unfolding firstRefusal fileConditions sheetPlaces isOutside highestBudget networkConditions planOf
-callRefusal bytes budget places =
-    firstRefusal
-    (fileConditions bytes
+-- "then 8 to 12". 9 budget: "0 or above 1,000,000"; 10 idle: "no must arc"; 11 scattered: "more than 8 parts". The conditions but for the last:
+unfoldable pub earlierConditions : List ℕ → ℕ → ℕ → Conditions
+unfolding fileConditions sheetPlaces isOutside highestBudget requiredArcs componentCount planOf
+earlierConditions bytes budget places =
+    fileConditions bytes
     ++ (ltb places sheetPlaces, 8)
     ∷ (isOutside budget 1 highestBudget, 9)
-    ∷ networkConditions (planOf bytes))
+    ∷ (eqb (length (requiredArcs (planOf bytes))) 0, 10)
+    ∷ (ltb 8 (componentCount (planOf bytes)), 11) ∷ []
+
+unfoldable pub callRefusal : List ℕ → ℕ → ℕ → Option ℕ
+unfolding firstRefusal earlierConditions isCutOff planOf
+callRefusal bytes budget places = firstRefusal (earlierConditions bytes budget places ++ (isCutOff (planOf bytes), 12) ∷ [])
 
 -- ---- the answer
 

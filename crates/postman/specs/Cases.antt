@@ -1,0 +1,215 @@
+-- Document 01's starred cases, as rows of one table under one lemma, `cases`. The checker computes each claim from the definitions.
+use mathlib.Core.Path.{_≡_, refl, ap}
+use mathlib.Core.Bool.{Bool, true, false, _&&_, Bool·beq}
+use mathlib.Core.List.{List, [], _∷_, map, List·Memᴰ}
+use mathlib.Core.Option.{Option, none, some}
+use Prim.Native.Nat.{ℕ}
+use lib.ListN.{length}
+use lib.Dec.{T, eqb, eqb→eq}
+use lib.IntN.{ℤ, pos, negsuc}
+use Rattle.postman.specs.Lists.{allOf, below}
+use Rattle.postman.specs.Plan.{Arc, Plan}
+use Rattle.postman.specs.PlanFile.{planOf, fileOf}
+use Rattle.postman.specs.Link.{links}
+use Rattle.postman.specs.Component.{componentCount}
+use Rattle.postman.specs.Arborescence.{arborescenceCount}
+use Rattle.postman.specs.Balancing.{leastBalancing}
+use Rattle.postman.specs.LagrangianBound.{lagrangianBound}
+use Rattle.postman.specs.PlanCall.{sheetPlaces, defaultBudget, callRefusal, isWhole, bestCost}
+use Rattle.postman.specs.Laws.Tests.{and-parts}
+use Rattle.postman.specs.Laws.Membership.{allOf-at}
+
+-- ---- what a case says of its plan
+
+pub data Claim : Type 0 where
+  file : List ℕ → Claim
+  refusal : ℕ → Claim
+  parts : ℕ → Claim
+  linkCount : ℕ → Claim
+  trees : ℕ → Claim
+  balancing : ℕ → Claim
+  boundAtZero : ℕ → Claim
+  costAt : ℕ → ℕ → Claim
+  wholeAt : ℕ → Bool → Claim
+
+-- The short call's refusal of a plan's file, 0 for none.
+abbrev refusalOf : Plan → ℕ
+refusalOf p = number (callRefusal (fileOf p) defaultBudget sheetPlaces)
+  where
+    number : Option ℕ → ℕ
+    number none = 0
+    number (some r) = r
+
+-- The file, both ways; the refusal; k; the number of links; N; Z; L(0); the cost, and whole, at a budget.
+abbrev pub Means : Plan → Claim → Type 0
+Means p (file bytes) = (fileOf p ≡ bytes) × (planOf bytes ≡ p)
+Means p (refusal r) = refusalOf p ≡ r
+Means p (parts k) = componentCount p ≡ k
+Means p (linkCount k) = length (links p) ≡ k
+Means p (trees k) = arborescenceCount p ≡ k
+Means p (balancing c) = leastBalancing p [] ≡ c
+Means p (boundAtZero l) = lagrangianBound p (λ i. pos 0) ≡ pos l
+Means p (costAt b c) = bestCost p b ≡ c
+Means p (wholeAt b w) = isWhole p b ≡ w
+
+-- ---- the table
+
+pub record Row : Type 0 where
+  pub plan : Plan
+  pub claims : List Claim
+
+abbrev arc : ℕ → ℕ → ℕ → ℕ → Arc
+arc tail head standing cost = record { tail = tail; head = head; standing = standing; cost = cost }
+
+abbrev row : ℕ → List Arc → List Claim → Row
+row n arcs cs = record { plan = record { n = n; arcs = arcs }; claims = cs }
+
+-- a required loop of cost 1 at each of n vertices
+abbrev loops : ℕ → List Arc
+unfolding below
+loops n = map (λ v. arc v v 1 1) (below n)
+
+unfoldable pub table : List Row
+unfolding below
+table =
+    -- A
+    row 2 (arc 0 1 1 5 ∷ arc 1 0 0 3 ∷ [])
+    (file (0x10 ∷ 0x40 ∷ 0x20 ∷ 0x01 ∷ 0x40 ∷ 0x01 ∷ 0x41 ∷ 0x00 ∷ 0x00 ∷ 0x03 ∷ []) ∷ refusal 0 ∷ costAt 10000 8 ∷ trees 1 ∷ balancing 3 ∷ [])
+    -- B
+    ∷ row 4 (arc 0 1 1 1 ∷ arc 1 0 0 1 ∷ arc 2 3 1 1 ∷ arc 3 2 0 1 ∷ arc 1 2 0 10 ∷ arc 3 0 0 10 ∷ [])
+    (refusal 0 ∷ parts 2 ∷ trees 1 ∷ costAt 10000 22 ∷ balancing 2 ∷ boundAtZero 12 ∷ [])
+    -- C
+    ∷ row 3 (arc 0 0 1 1 ∷ arc 1 1 1 1 ∷ arc 2 2 1 1 ∷ arc 0 1 0 2 ∷ arc 1 2 0 2 ∷ arc 2 0 0 2 ∷ arc 0 2 0 3 ∷ [])
+    (refusal 0 ∷ linkCount 4 ∷ trees 2 ∷ costAt 1 14 ∷ wholeAt 1 false ∷ costAt 2 9 ∷ wholeAt 2 true ∷ boundAtZero 7 ∷ [])
+    -- D, E
+    ∷ row 2 (arc 0 1 1 5 ∷ []) (refusal 12 ∷ [])
+    ∷ row 2 (arc 0 1 0 5 ∷ arc 1 0 0 3 ∷ []) (refusal 10 ∷ [])
+    -- F
+    ∷ row 8 (loops 8) (refusal 12 ∷ [])
+    ∷ row 9 (loops 9) (refusal 11 ∷ [])
+    -- G
+    ∷ row 2 (arc 0 1 1 5 ∷ arc 1 0 0 0 ∷ []) (refusal 6 ∷ [])
+    ∷ row 2 (arc 0 1 1 5 ∷ arc 1 0 3 3 ∷ []) (refusal 7 ∷ [])
+    ∷ row 2 (arc 0 1 1 5 ∷ arc 1 0 3 0 ∷ []) (refusal 6 ∷ [])
+    ∷ []
+
+-- ---- the same claims, as tests that compute
+
+sameNumbers : List ℕ → List ℕ → Bool
+sameNumbers [] [] = true
+sameNumbers [] (y ∷ ys) = false
+sameNumbers (x ∷ xs) [] = false
+sameNumbers (x ∷ xs) (y ∷ ys) = eqb x y && sameNumbers xs ys
+
+sameArc : Arc → Arc → Bool
+sameArc a b = eqb (a .tail) (b .tail) && (eqb (a .head) (b .head) && (eqb (a .standing) (b .standing) && eqb (a .cost) (b .cost)))
+
+sameArcs : List Arc → List Arc → Bool
+unfolding sameArc
+sameArcs [] [] = true
+sameArcs [] (b ∷ ys) = false
+sameArcs (a ∷ xs) [] = false
+sameArcs (a ∷ xs) (b ∷ ys) = sameArc a b && sameArcs xs ys
+
+samePlan : Plan → Plan → Bool
+unfolding sameArcs
+samePlan p q = eqb (p .n) (q .n) && sameArcs (p .arcs) (q .arcs)
+
+isPos : ℤ → ℕ → Bool
+isPos (pos a) b = eqb a b
+isPos (negsuc a) b = false
+
+holds : Plan → Claim → Bool
+unfolding sameNumbers samePlan isPos fileOf planOf callRefusal sheetPlaces defaultBudget componentCount links arborescenceCount leastBalancing lagrangianBound bestCost isWhole
+holds p (file bytes) = sameNumbers (fileOf p) bytes && samePlan (planOf bytes) p
+holds p (refusal r) = eqb (refusalOf p) r
+holds p (parts k) = eqb (componentCount p) k
+holds p (linkCount k) = eqb (length (links p)) k
+holds p (trees k) = eqb (arborescenceCount p) k
+holds p (balancing c) = eqb (leastBalancing p []) c
+holds p (boundAtZero l) = isPos (lagrangianBound p (λ i. pos 0)) l
+holds p (costAt b c) = eqb (bestCost p b) c
+holds p (wholeAt b w) = Bool·beq (isWhole p b) w
+
+rowHolds : Row → Bool
+unfolding holds allOf
+rowHolds r = allOf (holds (r .plan)) (r .claims)
+
+-- THE COMPUTATION: every claim of every row
+computed : T (allOf rowHolds table)
+unfolding rowHolds table allOf
+computed = tt
+
+-- ---- what a test computes is what the claim means
+
+same-numbers : (xs ys : List ℕ) → T (sameNumbers xs ys) → xs ≡ ys
+unfolding sameNumbers
+same-numbers [] [] t = refl
+same-numbers [] (y ∷ ys) t = absurd t
+same-numbers (x ∷ xs) [] t = absurd t
+same-numbers (x ∷ xs) (y ∷ ys) t =
+    let b = and-parts (eqb x y) (sameNumbers xs ys) t in
+    let e = eqb→eq x y (b .0) in
+    let f = same-numbers xs ys (b .1) in
+    cc
+
+same-arc : (a b : Arc) → T (sameArc a b) → a ≡ b
+unfolding sameArc
+same-arc a b t =
+    let x = and-parts (eqb (a .tail) (b .tail)) _ t in
+    let y = and-parts (eqb (a .head) (b .head)) _ (x .1) in
+    let w = and-parts (eqb (a .standing) (b .standing)) _ (y .1) in
+    let e₁ = eqb→eq (a .tail) (b .tail) (x .0) in
+    let e₂ = eqb→eq (a .head) (b .head) (y .0) in
+    let e₃ = eqb→eq (a .standing) (b .standing) (w .0) in
+    let e₄ = eqb→eq (a .cost) (b .cost) (w .1) in
+    λ i. record { tail = e₁ i; head = e₂ i; standing = e₃ i; cost = e₄ i }
+
+same-arcs : (xs ys : List Arc) → T (sameArcs xs ys) → xs ≡ ys
+unfolding sameArcs
+same-arcs [] [] t = refl
+same-arcs [] (b ∷ ys) t = absurd t
+same-arcs (a ∷ xs) [] t = absurd t
+same-arcs (a ∷ xs) (b ∷ ys) t =
+    let x = and-parts (sameArc a b) (sameArcs xs ys) t in
+    let e = same-arc a b (x .0) in
+    let f = same-arcs xs ys (x .1) in
+    cc
+
+same-plan : (p q : Plan) → T (samePlan p q) → p ≡ q
+unfolding samePlan
+same-plan p q t =
+    let x = and-parts (eqb (p .n) (q .n)) _ t in
+    let e = eqb→eq (p .n) (q .n) (x .0) in
+    let f = same-arcs (p .arcs) (q .arcs) (x .1) in
+    λ i. record { n = e i; arcs = f i }
+
+is-pos : (a : ℤ) (b : ℕ) → T (isPos a b) → a ≡ pos b
+unfolding isPos
+is-pos (pos a) b t = ap pos (eqb→eq a b t)
+is-pos (negsuc a) b t = absurd t
+
+same-truth : (a b : Bool) → T (Bool·beq a b) → a ≡ b
+same-truth true true t = refl
+same-truth true false t = absurd t
+same-truth false true t = absurd t
+same-truth false false t = refl
+
+sound : (p : Plan) (c : Claim) → T (holds p c) → Means p c
+unfolding holds
+sound p (file bytes) t =
+    let b = and-parts (sameNumbers (fileOf p) bytes) (samePlan (planOf bytes) p) t in
+    (same-numbers (fileOf p) bytes (b .0), same-plan (planOf bytes) p (b .1))
+sound p (refusal r) t = eqb→eq (refusalOf p) r t
+sound p (parts k) t = eqb→eq (componentCount p) k t
+sound p (linkCount k) t = eqb→eq (length (links p)) k t
+sound p (trees k) t = eqb→eq (arborescenceCount p) k t
+sound p (balancing c) t = eqb→eq (leastBalancing p []) c t
+sound p (boundAtZero l) t = is-pos (lagrangianBound p (λ i. pos 0)) l t
+sound p (costAt b c) t = eqb→eq (bestCost p b) c t
+sound p (wholeAt b w) t = same-truth (isWhole p b) w t
+
+-- THE LEMMA
+pub cases : (r : Row) → List·Memᴰ r table → (c : Claim) → List·Memᴰ c (r .claims) → Means (r .plan) c
+unfolding rowHolds
+cases r m c n = sound (r .plan) c (allOf-at (holds (r .plan)) n (allOf-at rowHolds m computed))
