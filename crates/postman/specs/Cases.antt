@@ -95,33 +95,26 @@ table =
 
 -- ---- the same claims, as tests that compute
 
-sameNumbers : List ℕ → List ℕ → Bool
-sameNumbers [] [] = true
-sameNumbers [] (y ∷ ys) = false
-sameNumbers (x ∷ xs) [] = false
-sameNumbers (x ∷ xs) (y ∷ ys) = eqb x y && sameNumbers xs ys
+sameList : {A : Type 0} → (A → A → Bool) → List A → List A → Bool
+sameList f [] [] = true
+sameList f [] (y ∷ ys) = false
+sameList f (x ∷ xs) [] = false
+sameList f (x ∷ xs) (y ∷ ys) = f x y && sameList f xs ys
 
 sameArc : Arc → Arc → Bool
 sameArc a b = eqb (a .tail) (b .tail) && (eqb (a .head) (b .head) && (eqb (a .standing) (b .standing) && eqb (a .cost) (b .cost)))
 
-sameArcs : List Arc → List Arc → Bool
-unfolding sameArc
-sameArcs [] [] = true
-sameArcs [] (b ∷ ys) = false
-sameArcs (a ∷ xs) [] = false
-sameArcs (a ∷ xs) (b ∷ ys) = sameArc a b && sameArcs xs ys
-
 samePlan : Plan → Plan → Bool
-unfolding sameArcs
-samePlan p q = eqb (p .n) (q .n) && sameArcs (p .arcs) (q .arcs)
+unfolding sameList sameArc
+samePlan p q = eqb (p .n) (q .n) && sameList sameArc (p .arcs) (q .arcs)
 
 isPos : ℤ → ℕ → Bool
 isPos (pos a) b = eqb a b
 isPos (negsuc a) b = false
 
 holds : Plan → Claim → Bool
-unfolding sameNumbers samePlan isPos fileOf planOf callRefusal sheetPlaces defaultBudget componentCount links arborescenceCount leastBalancing lagrangianBound bestCost isWhole
-holds p (file bytes) = sameNumbers (fileOf p) bytes && samePlan (planOf bytes) p
+unfolding sameList samePlan isPos fileOf planOf callRefusal sheetPlaces defaultBudget componentCount links arborescenceCount leastBalancing lagrangianBound bestCost isWhole
+holds p (file bytes) = sameList eqb (fileOf p) bytes && samePlan (planOf bytes) p
 holds p (refusal r) = eqb (refusalOf p) r
 holds p (parts k) = eqb (componentCount p) k
 holds p (linkCount k) = eqb (length (links p)) k
@@ -142,15 +135,15 @@ computed = tt
 
 -- ---- what a test computes is what the claim means
 
-same-numbers : (xs ys : List ℕ) → T (sameNumbers xs ys) → xs ≡ ys
-unfolding sameNumbers
-same-numbers [] [] t = refl
-same-numbers [] (y ∷ ys) t = absurd t
-same-numbers (x ∷ xs) [] t = absurd t
-same-numbers (x ∷ xs) (y ∷ ys) t =
-    let b = and-parts (eqb x y) (sameNumbers xs ys) t in
-    let e = eqb→eq x y (b .0) in
-    let f = same-numbers xs ys (b .1) in
+same-list : {A : Type 0} (f : A → A → Bool) → ((x y : A) → T (f x y) → x ≡ y) → (xs ys : List A) → T (sameList f xs ys) → xs ≡ ys
+unfolding sameList
+same-list f h [] [] t = refl
+same-list f h [] (y ∷ ys) t = absurd t
+same-list f h (x ∷ xs) [] t = absurd t
+same-list f h (x ∷ xs) (y ∷ ys) t =
+    let b = and-parts (f x y) (sameList f xs ys) t in
+    let e = h x y (b .0) in
+    let g = same-list f h xs ys (b .1) in
     cc
 
 same-arc : (a b : Arc) → T (sameArc a b) → a ≡ b
@@ -165,23 +158,12 @@ same-arc a b t =
     let e₄ = eqb→eq (a .cost) (b .cost) (w .1) in
     λ i. record { tail = e₁ i; head = e₂ i; standing = e₃ i; cost = e₄ i }
 
-same-arcs : (xs ys : List Arc) → T (sameArcs xs ys) → xs ≡ ys
-unfolding sameArcs
-same-arcs [] [] t = refl
-same-arcs [] (b ∷ ys) t = absurd t
-same-arcs (a ∷ xs) [] t = absurd t
-same-arcs (a ∷ xs) (b ∷ ys) t =
-    let x = and-parts (sameArc a b) (sameArcs xs ys) t in
-    let e = same-arc a b (x .0) in
-    let f = same-arcs xs ys (x .1) in
-    cc
-
 same-plan : (p q : Plan) → T (samePlan p q) → p ≡ q
 unfolding samePlan
 same-plan p q t =
     let x = and-parts (eqb (p .n) (q .n)) _ t in
     let e = eqb→eq (p .n) (q .n) (x .0) in
-    let f = same-arcs (p .arcs) (q .arcs) (x .1) in
+    let f = same-list sameArc same-arc (p .arcs) (q .arcs) (x .1) in
     λ i. record { n = e i; arcs = f i }
 
 is-pos : (a : ℤ) (b : ℕ) → T (isPos a b) → a ≡ pos b
@@ -198,8 +180,8 @@ same-truth false false t = refl
 sound : (p : Plan) (c : Claim) → T (holds p c) → Means p c
 unfolding holds
 sound p (file bytes) t =
-    let b = and-parts (sameNumbers (fileOf p) bytes) (samePlan (planOf bytes) p) t in
-    (same-numbers (fileOf p) bytes (b .0), same-plan (planOf bytes) p (b .1))
+    let b = and-parts (sameList eqb (fileOf p) bytes) (samePlan (planOf bytes) p) t in
+    (same-list eqb eqb→eq (fileOf p) bytes (b .0), same-plan (planOf bytes) p (b .1))
 sound p (refusal r) t = eqb→eq (refusalOf p) r t
 sound p (parts k) t = eqb→eq (componentCount p) k t
 sound p (linkCount k) t = eqb→eq (length (links p)) k t

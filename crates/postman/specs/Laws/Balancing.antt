@@ -5,7 +5,7 @@ use mathlib.Core.List.{List, _++_, map, List·Memᴰ, List·Memᴰ·append-cases
 use Prim.Native.Nat.{ℕ, _+_, _≤_}
 use native.Mathlib.Omega.{arith}
 use lib.ListN.{length, length-map, length-append}
-use Rattle.postman.specs.Plan.{Plan, requiredArcs}
+use Rattle.postman.specs.Plan.{Arc, Plan, requiredArcs}
 use Rattle.postman.specs.Required.{required}
 use Rattle.postman.specs.Distance.{distance}
 use Rattle.postman.specs.Link.{Link}
@@ -19,26 +19,27 @@ use Rattle.postman.specs.Laws.Amounts.{Within, difference, assignment-le
 abbrev pub Joins : Plan → List Link → Type 0
 Joins p t = (l : Link) → List·Memᴰ l t → List·Memᴰ (l .tail) (required p) × List·Memᴰ (l .head) (required p)
 
+-- one end of the required arcs and of the links: all required
+within-ends : (p : Plan) (t : List Link) (f : Arc → ℕ) (g : Link → ℕ)
+    → ((a : Arc) → List·Memᴰ a (requiredArcs p) → List·Memᴰ (f a) (required p))
+    → ((l : Link) → List·Memᴰ l t → List·Memᴰ (g l) (required p))
+    → Within (required p) (map f (requiredArcs p) ++ map g t)
+within-ends p t f g ha hl = record {
+  once = required-once p;
+  among = λ i m. elim (List·Memᴰ·append-cases (map f (requiredArcs p)) m) [
+    | inl n ↦ let r = map-mem f (requiredArcs p) n in Memᴰ·cast (r .2) (ha (r .0) (r .1))
+    | inr n ↦ let r = map-mem g t n in Memᴰ·cast (r .2) (hl (r .0) (r .1))
+  ];
+}
+
 module _ (p : Plan) (ok : InPlan p) (t : List Link) (joins : Joins p t) where
   pub within-heads : Within (required p) (heads p t)
   unfolding heads
-  within-heads = record {
-    once = required-once p;
-    among = λ i m. elim (List·Memᴰ·append-cases (map (λ a. a .head) (requiredArcs p)) m) [
-      | inl n ↦ let r = map-mem (λ a. a .head) (requiredArcs p) n in Memᴰ·cast (r .2) (required-ends p ok (r .1) .1)
-      | inr n ↦ let r = map-mem (λ l. l .head) t n in Memᴰ·cast (r .2) (joins (r .0) (r .1) .1)
-    ];
-  }
+  within-heads = within-ends p t (λ a. a .head) (λ l. l .head) (λ a m. required-ends p ok m .1) (λ l m. joins l m .1)
 
   pub within-tails : Within (required p) (tails p t)
   unfolding tails
-  within-tails = record {
-    once = required-once p;
-    among = λ i m. elim (List·Memᴰ·append-cases (map (λ a. a .tail) (requiredArcs p)) m) [
-      | inl n ↦ let r = map-mem (λ a. a .tail) (requiredArcs p) n in Memᴰ·cast (r .2) (required-ends p ok (r .1) .0)
-      | inr n ↦ let r = map-mem (λ l. l .tail) t n in Memᴰ·cast (r .2) (joins (r .0) (r .1) .0)
-    ];
-  }
+  within-tails = within-ends p t (λ a. a .tail) (λ l. l .tail) (λ a m. required-ends p ok m .0) (λ l m. joins l m .0)
 
   pub same-length : length (heads p t) ≡ length (tails p t)
   unfolding heads tails
