@@ -28,3 +28,4 @@ pub mod Acceptance
 pub mod PlanFile
 pub mod Optimality
 pub mod Refusal
+pub mod Search

@@ -2,7 +2,7 @@
 use mathlib.Core.Bool.{Bool, true, false, cond, _&&_, _||_}
 use mathlib.Core.List.{List, [], _∷_, map, flatMap}
 use Prim.Native.Nat.{ℕ, zero, suc, _+_, min}
-use lib.Dec.{eqb}
+use lib.Dec.{eqb, ltb}
 use lib.IntN.{ℤ, pos, _+ℤ_}
 use lib.Signed.{leZ}
 
@@ -52,6 +52,17 @@ unfoldable pub minimum : List ℕ → ℕ
 unfolding least
 minimum [] = 0
 minimum (x ∷ xs) = least x (λ y. y) xs
+
+-- The first element of least value: of x, the best so far, and a list, where an element replaces those before it only if its value is less; and of a list, d where
+-- there is none.
+unfoldable pub argminFrom {ℓ} : {A : Type ℓ} → (A → ℕ) → A → List A → A
+argminFrom f x [] = x
+argminFrom f x (y ∷ ys) = argminFrom f (cond (ltb (f y) (f x)) y x) ys
+
+unfoldable pub argmin {ℓ} : {A : Type ℓ} → (A → ℕ) → A → List A → A
+unfolding argminFrom
+argmin f d [] = d
+argmin f d (x ∷ xs) = argminFrom f x xs
 
 -- The lesser and the greater of two integers, and the least integer of a list, 0 where there is none.
 unfoldable pub minℤ : ℤ → ℤ → ℤ

@@ -7,13 +7,14 @@ use Prim.Native.Nat.{ℕ, _≤_, _<_, min}
 use lib.ListN.{length, getD, take}
 use lib.IntN.{ℤ, pos}
 use lib.Dec.{T, eqb, ltb, leb}
-use Rattle.postman.specs.Lists.{anyOf, minimum, maxℤ}
+use Rattle.postman.specs.Lists.{anyOf, minimum, maxℤ, argmin}
 use Rattle.postman.specs.Plan.{Plan, requiredArcs, requiredNumbers}
 use Rattle.postman.specs.Refusal.{Conditions, firstRefusal, Answer, given, refused, answer}
 use Rattle.postman.specs.PlanFile.{fileConditions, isOutside, planOf}
 use Rattle.postman.specs.Tour.{walkCost, IsTour}
 use Rattle.postman.specs.Required.{required}
 use Rattle.postman.specs.Distance.{hasPath}
+use Rattle.postman.specs.Link.{Link}
 use Rattle.postman.specs.Component.{componentCount}
 use Rattle.postman.specs.Arborescence.{arborescences, arborescenceCount}
 use Rattle.postman.specs.Balancing.{completionCost}
@@ -66,6 +67,11 @@ isWhole p budget = leb (arborescenceCount p) budget
 unfoldable pub bestCost : Plan → ℕ → ℕ
 unfolding minimum completionCost triedCount arborescences
 bestCost p budget = minimum (map (completionCost p) (take (triedCount p budget) (arborescences p)))
+
+-- The tree that the drive is laid from, among trees of equal cost, is ours to choose: the first of least cost.
+unfoldable pub bestArborescence : Plan → ℕ → List Link
+unfolding argmin completionCost triedCount arborescences
+bestArborescence p budget = argmin (completionCost p) [] (take (triedCount p budget) (arborescences p))
 
 -- The lower bound (document 01: the floor) "is the cost if whole, else the larger of L(0) and L(u), with the u that the answer holds".
 unfoldable pub lowerBound : Plan → ℕ → Multipliers → ℤ
