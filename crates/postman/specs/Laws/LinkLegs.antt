@@ -27,10 +27,10 @@ unfolding weight ends
 pick-weight w (here {xs = xs} e) = ap (λ (z : Link). w (z .tail) (z .head) + weight w (ends xs)) (sym e)
 pick-weight w (there q) = let h = pick-weight w q in omega arith
 
-pub sub-weight : (w : ℕ → ℕ → ℕ) {xs ls rest : List Link} → Without xs ls rest → weight w (ends ls) ≡ weight w (ends xs) + weight w (ends rest)
+pub without-weight : (w : ℕ → ℕ → ℕ) {xs ls rest : List Link} → Without xs ls rest → weight w (ends ls) ≡ weight w (ends xs) + weight w (ends rest)
 unfolding weight ends
-sub-weight w done = omega arith
-sub-weight w (next q s) = let h = sub-weight w s in let k = pick-weight w q in omega arith
+without-weight w done = omega arith
+without-weight w (next q s) = let h = without-weight w s in let k = pick-weight w q in omega arith
 
 pub extract : (f : ℕ → Link) (part : ℕ → ℕ) (qs : List ℕ) (ls : List Link) → ((q : ℕ) → List·Memᴰ q qs → List·Memᴰ (f q) ls × (part (f q .head) ≡ q)) → ((q : ℕ) → occurrences q qs ≤ 1)
     → (rest : List Link) × Without (map f qs) ls rest

@@ -79,7 +79,7 @@ module _ (p : Plan) (ok : Plannable p) where
       nonempty (List·Memᴰ·head e) = omega arith
       nonempty (List·Memᴰ·tail m) = omega arith
 
-  -- all trees tried: no tour is cheaper
+  -- all arborescences tried: no tour is cheaper
   pub whole-le : (budget : ℕ) → T (isWhole p budget) → (w : List ℕ) → IsTour p w → bestCost p budget ≤ walkCost (p .arcs) w
   whole-le budget t w h =
       let r = tour-arborescence w h in

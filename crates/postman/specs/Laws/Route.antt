@@ -80,7 +80,7 @@ module _ (p : Plan) (ok : WellFormed p) where
   abbrev Sought : List ℕ → List ℕ → Type 0
   Sought ks w = (k : ℕ) → List·Memᴰ k ks → List·Memᴰ k w × IsRequiredNumber p k
 
-  -- a walk on from v, reached from the required vertex i by u, in which the must arcs ks occur
+  -- a walk on from v, reached from the required vertex i by u, in which the required arcs ks occur
   scan : (w ks u : List ℕ) (i v e : ℕ) → IsWalk (p .arcs) v w e → IsWalk (p .arcs) i u v → List·Memᴰ i (required p) → List·Memᴰ e (required p)
       → ((k : ℕ) → occurrences k ks ≤ 1) → Sought ks w → Route p i e ks (walkCost (p .arcs) u + walkCost (p .arcs) w)
   scan [] [] u i v e h g mi me o m = leg i e e u [] 0 mi me (subst (λ z. IsWalk (p .arcs) i u z) h g) ([], refl, le-refl 0, none)

@@ -26,7 +26,7 @@ use Rattle.postman.specs.Laws.Component.{component-lt, component-at, arc
 use Rattle.postman.specs.Laws.Assignment.{weight, legs-le}
 use Rattle.postman.specs.Laws.Balancing.{same-length}
 use Rattle.postman.specs.Laws.Arborescence.{mem-arborescences, joins}
-use Rattle.postman.specs.Laws.LinkLegs.{ends, Without, sub-weight, extract, ends-heads, ends-tails, chain-weight, link-weight}
+use Rattle.postman.specs.Laws.LinkLegs.{ends, Without, without-weight, extract, ends-heads, ends-tails, chain-weight, link-weight}
 use Rattle.postman.specs.Laws.Route.{Move, link, arc, linksOf, arcsOf, IsRoute, routeCost, Route, tour-route}
 use Rattle.postman.specs.Laws.Entries.{entry, entries, Good, follow}
 
@@ -112,8 +112,8 @@ module _ (p : Plan) (ok : InPlan p) (ms : List Move) (x : ℕ) (route : IsRoute 
   completion-le =
       let s = rest in
       let b = legs-le (distance p) (triangle p ok) (distance-self p ok) (ends (s .0)) (heads p t) (tails p t) (same-length p ok t (joins p is-arborescence)) (λ i.
-      let h₁ = sub-weight (λ a b. delta i b) (s .1) in
-      let h₂ = sub-weight (λ a b. delta i a) (s .1) in
+      let h₁ = without-weight (λ a b. delta i b) (s .1) in
+      let h₂ = without-weight (λ a b. delta i a) (s .1) in
       let h₃ = route-balance p i x x ms route in
       let h₄ = occurrences-map-permutation i (λ k. arcAt (p .arcs) k .head) perm ∙ ap (occurrences i) (numbers-field p (λ a. a .head)) in
       let h₅ = occurrences-map-permutation i (λ k. arcAt (p .arcs) k .tail) perm ∙ ap (occurrences i) (numbers-field p (λ a. a .tail)) in
@@ -122,7 +122,7 @@ module _ (p : Plan) (ok : InPlan p) (ms : List Move) (x : ℕ) (route : IsRoute 
       let h₈ = ends-heads i t in
       let h₉ = ends-tails i t in
       omega arith) in
-      let c₁ = sub-weight (distance p) (s .1) in
+      let c₁ = without-weight (distance p) (s .1) in
       let c₂ = link-weight p t in
       let c₃ = chain-weight p whole in
       let c₄ = permutation-cost (p .arcs) perm ∙ numbers-cost p in
