@@ -1,0 +1,17 @@
+-- What a row and a table of distances hold: for vertices from n on too, where d is 0 on the diagonal and else "no path".
+use mathlib.Core.Path.{_≡_}
+use mathlib.Core.List.{List, [], _++_}
+use Prim.Native.Nat.{ℕ, _+_, _<_}
+use lib.ListN.{length, getD, take, drop}
+use Rattle.postman.specs.Plan.{Plan}
+use Rattle.postman.specs.Distance.{distance}
+
+abbrev pub IsRow : Plan → ℕ → List ℕ → Type 0
+IsRow p i row = (j : ℕ) → j < 64 → getD row j 0 ≡ distance p i j
+
+abbrev pub IsTable : Plan → List (List ℕ) → Type 0
+IsTable p table = (i j : ℕ) → i < 64 → j < 64 → getD (getD table i []) j 0 ≡ distance p i j
+
+-- A list with the elements from a place on replaced by others, as many as there are of those.
+unfoldable pub overwrite : List ℕ → ℕ → List ℕ → List ℕ
+overwrite old at new = take at old ++ new ++ drop (at + length new) old

@@ -1,0 +1,9 @@
+-- What is proved about the definitions.
+pub mod Records
+pub mod LastArc
+pub mod Outside
+pub mod Relaxation
+pub mod Rank
+pub mod FirstNumber
+pub mod ShortestPath
+pub mod PathWriting
