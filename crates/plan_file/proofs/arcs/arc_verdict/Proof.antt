@@ -1,0 +1,46 @@
+-- `arc_verdict` meets its contract: three verdicts, each the first or else the next, are the first of three conditions.
+use mathlib.Core.Path.{_∙_, ap₂}
+use mathlib.Core.Bool.{_||_}
+use lib.Dec.{leb, eqb}
+use Rattle.postman.specs.Refusal.{firstRefusal}
+use Rattle.plan_file.specs.Verdicts.{orElse, or-else-cond}
+use Rattle.plan.specs.Standings.{isRefusedStanding}
+use borrow.Author.Needs.{needs}
+use Rattle.plan_file.proofs.arcs.arc_verdict.Statement.{statement}
+use Rattle.plan_file.proofs.arcs.arc_verdict.Tie as tie
+
+ends-verdict-requires : tie.Need-ends-verdict-requires
+ends-verdict-requires c κs = search needs
+
+cost-verdict-requires : tie.Need-cost-verdict-requires
+cost-verdict-requires c κs = search needs
+
+standing-verdict-requires : tie.Need-standing-verdict-requires
+standing-verdict-requires c κs = search needs
+
+first-refused-requires : tie.Need-first-refused-requires
+first-refused-requires c κs = search needs
+
+first-refused-requires-2 : tie.Need-first-refused-requires-2
+first-refused-requires-2 c κs = search needs
+
+returns : tie.Need-returns
+unfolding firstRefusal
+returns c =
+    let a = c .before .before .before .before .before .args in
+    let ends = c .before .before .before .before .ends-verdict .ensures in
+    let price = c .before .before .before .cost-verdict .ensures in
+    let kind = c .before .before .standing-verdict .ensures in
+    let rest = c .before .first-refused .ensures ∙ ap₂ orElse price kind ∙ or-else-cond (eqb (a .cost) 0) 6 _ in
+    c .first-refused2 .ensures ∙ ap₂ orElse ends rest ∙ or-else-cond (leb (a .n) (a .tail) || leb (a .n) (a .head)) 5 _
+
+pub arc-verdict-spec : {M : Type 1} → statement M
+arc-verdict-spec =
+    tie.close
+    (tie.spec
+    ends-verdict-requires
+    cost-verdict-requires
+    standing-verdict-requires
+    first-refused-requires
+    first-refused-requires-2
+    returns)

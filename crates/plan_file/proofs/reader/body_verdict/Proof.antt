@@ -1,0 +1,72 @@
+-- `body_verdict` meets its contract: at each return the tests on the way say which conditions apply, and the arcs are left to `arcs_verdict`.
+use mathlib.Core.Path.{_∙_, sym}
+use Prim.Native.Nat.{_<_, _≤_, _*_, _-_}
+use native.Mathlib.Omega.{arith}
+use lib.ListN.{length}
+use borrow.Author.Tests.{lt-ltb, le-ltb, eq-eqb, ne-eqb}
+use Rattle.postman.specs.BitField.{fieldAt}
+use Rattle.postman.specs.Refusal.{firstRefusal}
+use Rattle.postman.specs.PlanFile.{fileBits, fileLength}
+use Rattle.plan_file.specs.Reading.{bodyConditions}
+use borrow.Author.Needs.{needs}
+use Rattle.plan_file.proofs.reader.body_verdict.Statement.{statement}
+use Rattle.plan_file.proofs.reader.body_verdict.Tie as tie
+
+file-length-requires : tie.Need-file-length-requires
+file-length-requires c κs = search needs
+
+returns : tie.Need-returns
+unfolding bodyConditions firstRefusal
+returns c =
+    let a = c .before .before .before .args in
+    let torn : length (a .s .now) < fileLength (a .m) = omega (arith, c .before .file-length .ensures) in
+    simp (lt-ltb _ _ torn)
+
+returns-2 : tie.Need-returns-2
+unfolding bodyConditions firstRefusal
+returns-2 c =
+    let a = c .before .before .before .before .args in
+    let long : fileLength (a .m) ≤ length (a .s .now) = omega (arith, c .before .before .file-length .ensures) in
+    let over : fileLength (a .m) < length (a .s .now) = omega (arith, c .before .before .file-length .ensures) in
+    simp (le-ltb _ _ long, lt-ltb _ _ over)
+
+fill-bits-requires : tie.Need-fill-bits-requires
+fill-bits-requires c κs = search needs
+
+returns-3 : tie.Need-returns-3
+unfolding bodyConditions firstRefusal
+returns-3 c =
+    let a = c .before .before .before .before .before .before .args in
+    let e = c .before .before .before .before .file-length .ensures in
+    let low : fileLength (a .m) ≤ length (a .s .now) = omega arith in
+    let high : length (a .s .now) ≤ fileLength (a .m) = omega arith in
+    let fill = ne-eqb (fieldAt (a .s .now) (fileBits (a .m)) (8 * fileLength (a .m) - fileBits (a .m))) 0 (λ z. c .if3 .taken (c .before .fill-bits .ensures ∙ z)) in
+    simp (le-ltb _ _ low, le-ltb _ _ high, fill)
+
+arcs-verdict-requires : tie.Need-arcs-verdict-requires
+unfolding fileBits fileLength
+arcs-verdict-requires c κs =
+    let e = c .before .before .before .before .file-length .ensures in
+    (omega arith, omega arith)
+
+returns-4 : tie.Need-returns-4
+unfolding bodyConditions firstRefusal
+returns-4 c =
+    let a = c .before .before .before .before .before .before .before .args in
+    let e = c .before .before .before .before .before .file-length .ensures in
+    let low : fileLength (a .m) ≤ length (a .s .now) = omega arith in
+    let high : length (a .s .now) ≤ fileLength (a .m) = omega arith in
+    let fill = eq-eqb (fieldAt (a .s .now) (fileBits (a .m)) (8 * fileLength (a .m) - fileBits (a .m))) 0 (sym (c .before .before .fill-bits .ensures) ∙ c .before .if3 .left) in
+    simp (le-ltb _ _ low, le-ltb _ _ high, fill) (c .arcs-verdict .ensures)
+
+pub body-verdict-spec : {M : Type 1} → statement M
+body-verdict-spec =
+    tie.close
+    (tie.spec
+    file-length-requires
+    returns
+    returns-2
+    fill-bits-requires
+    returns-3
+    arcs-verdict-requires
+    returns-4)

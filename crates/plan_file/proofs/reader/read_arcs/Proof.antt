@@ -1,0 +1,62 @@
+-- `read_arcs` meets its contract. The loop's invariant: the first k records are the arcs', and the later ones are zeros.
+use mathlib.Core.Path.{_≡_, refl, _∙_, ap}
+use mathlib.Core.List.{map}
+use Prim.Native.Nat.{_≤_, _-_}
+use native.Mathlib.Omega.{arith}
+use lib.ListN.{set}
+use Rattle.postman.specs.Lists.{below, upFrom}
+use Rattle.postman.specs.PlanFile.{arcOf}
+use Rattle.plan.specs.Records.{recordsOf}
+use Rattle.plan_file.specs.RecordLaws.{records-more}
+use borrow.Author.Needs.{needs}
+use Rattle.plan_file.proofs.reader.read_arcs.Statement.{statement}
+use Rattle.plan_file.proofs.reader.read_arcs.Tie as tie
+
+abbrev Inv-loop : tie.InvT-loop
+Inv-loop s m arcs₀ k₀ arcs k = (k ≤ m) × (arcs ≡ recordsOf (map (arcOf s) (below k)))
+
+abbrev μ-loop : tie.MeasureT-loop
+μ-loop s m arcs₀ k₀ arcs k = m - k
+
+loop-holds : tie.Need-loop-holds Inv-loop μ-loop
+unfolding recordsOf below upFrom
+loop-holds c = (omega arith, refl)
+
+read-arc-requires : tie.Need-read-arc-requires Inv-loop μ-loop
+read-arc-requires c κs = search needs
+
+mul-arcs : tie.Need-mul-arcs Inv-loop μ-loop
+mul-arcs c = search needs
+
+array-set-from-arcs : tie.Need-array-set-from-arcs Inv-loop μ-loop
+array-set-from-arcs c = search needs
+
+add-k : tie.Need-add-k Inv-loop μ-loop
+add-k c = search needs
+
+loop-less : tie.Need-loop-less Inv-loop μ-loop
+loop-less c = search needs
+
+loop-again : tie.Need-loop-again Inv-loop μ-loop
+loop-again c =
+    let f = arcOf (c .before .before .before .before .args .s .now) in
+    let l = c .before .before .loop in
+    (omega arith, ap (set (l .arcs) (l .k)) (c .read-arc .ensures) ∙ rw (l .inv .1) (records-more f (l .k) (omega arith)))
+
+returns : tie.Need-returns Inv-loop μ-loop
+returns c = let e : c .before .loop .k ≡ c .before .before .before .args .m = omega arith in rw e at (c .before .loop .inv .1)
+
+pub read-arcs-spec : {M : Type 1} → statement M
+read-arcs-spec =
+    tie.close
+    (tie.spec
+    Inv-loop
+    μ-loop
+    loop-holds
+    read-arc-requires
+    mul-arcs
+    array-set-from-arcs
+    add-k
+    loop-less
+    loop-again
+    returns)

@@ -1,0 +1,131 @@
+// From a plan to bytes: the first refusal, or the file.
+ghost use mathlib.Core.Path.{_≡_};
+ghost use mathlib.Core.List.{_++_, map, flatMap};
+ghost use Prim.Native.Nat.{ℕ, _+_, _*_, _<_, _≤_};
+ghost use lib.ListN.{length, replicate, drop};
+ghost use Rattle.postman.specs.Lists.{below};
+ghost use Rattle.postman.specs.Refusal.{firstRefusal};
+ghost use Rattle.postman.specs.PlanFile.{arcConditions, fileLength, fileOf, writeRefusal, writeAnswer, bytesAfter};
+ghost use Rattle.plan_file.specs.Verdicts.{verdictNumber, writtenAnswer};
+ghost use Rattle.plan.specs.Records.{arcValue, recordAt, planValue};
+ghost use Rattle.plan_file.specs.PlanUpdate.{putHeader, putArc, putArcs};
+use plan::Arc;
+use plan::Plan;
+use crate::Refusal;
+use crate::Verdict;
+use crate::Written;
+use crate::arcs::is_outside;
+use crate::arcs::record_verdict;
+use crate::bits::put_field;
+use crate::reader::file_length;
+
+// The first refusal of the first m records, record by record.
+fn records_verdict(n: u8, m: usize, arcs: [Arc; 256]) -> Verdict
+    requires { ⌜ m ≤ 256 ⌝ }
+    ensures { λ r. ⌜ verdictNumber r ≡ firstRefusal (flatMap (arcConditions n) (map (recordAt arcs) (below m))) ⌝ }
+{
+    for k in 0..m {
+        let a = arcs[k];
+        match record_verdict(n, a) {
+            Verdict::Accepted => {}
+            Verdict::Refused(r) => {
+                return Verdict::Refused(r);
+            }
+        }
+    }
+    Verdict::Accepted
+}
+
+// The first refusal of a plan that is to be written where there is room for `room` bytes.
+pub fn plan_verdict(p: Plan, room: usize) -> Verdict
+    ensures { λ r. ⌜ verdictNumber r ≡ writeRefusal (planValue p) room ⌝ }
+{
+    let n = p.n;
+    let m = p.m;
+    if is_outside(n as u32, 1, 64) {
+        return Verdict::Refused(Refusal::Extent);
+    }
+    if is_outside(m as u32, 1, 256) {
+        return Verdict::Refused(Refusal::Extent);
+    }
+    let arcs = p.arcs;
+    match records_verdict(n, m as usize, arcs) {
+        Verdict::Accepted => {
+            if room < file_length(m as usize) {
+                return Verdict::Refused(Refusal::ShortSheet);
+            }
+            Verdict::Accepted
+        }
+        Verdict::Refused(r) => Verdict::Refused(r),
+    }
+}
+
+// The first `count` bytes become zero.
+fn clear(s: &mut [u8], count: usize)
+    requires { ⌜ count ≤ length (now s) ⌝ }
+    ensures { λ _. ⌜ now (s .exit) ≡ replicate count 0 ++ drop count (now (s .entry)) ⌝ }
+{
+    for i in 0..count {
+        s[i] = 0;
+    }
+}
+
+// Edition, n and m.
+fn put_header(s: &mut [u8], n: u32, m: u32)
+    requires { ⌜ 3 ≤ length (now s) ⌝ }
+    ensures { λ _. ⌜ now (s .exit) ≡ putHeader (now (s .entry)) n m ⌝ }
+{
+    put_field(s, 0, 4, 1);
+    put_field(s, 4, 7, n);
+    put_field(s, 11, 9, m);
+}
+
+// The fields of an arc, from bit `at` on.
+fn put_arc(s: &mut [u8], at: usize, a: Arc)
+    requires { ⌜ (at + 30 ≤ 8 * length (now s)) × (at ≤ 7900) ⌝ }
+    ensures { λ _. ⌜ now (s .exit) ≡ putArc (now (s .entry)) at (arcValue a) ⌝ }
+{
+    put_field(s, at, 6, a.tail as u32);
+    put_field(s, at + 6, 6, a.head as u32);
+    put_field(s, at + 12, 2, a.standing as u32);
+    put_field(s, at + 14, 16, a.cost as u32);
+}
+
+// The first m records, one after the other.
+fn put_arcs(s: &mut [u8], arcs: [Arc; 256], m: usize)
+    requires { ⌜ (m ≤ 256) × (20 + 30 * m ≤ 8 * length (now s)) ⌝ }
+    ensures { λ _. ⌜ now (s .exit) ≡ putArcs (now (s .entry)) (recordAt arcs) m ⌝ }
+{
+    for k in 0..m {
+        let a = arcs[k];
+        put_arc(s, 20 + 30 * k, a);
+    }
+}
+
+// The file of a plan that is not refused, at the start of the slice.
+fn put_plan(s: &mut [u8], p: Plan)
+    requires { ⌜ (p .m ≤ 256) × (fileLength (p .m) ≤ length (now s)) ⌝ }
+    ensures { λ _. ⌜ now (s .exit) ≡ fileOf (planValue p) ++ drop (fileLength (p .m)) (now (s .entry)) ⌝ }
+{
+    let n = p.n;
+    let m = p.m;
+    let arcs = p.arcs;
+    clear(s, file_length(m as usize));
+    put_header(s, n as u32, m as u32);
+    put_arcs(s, arcs, m as usize);
+}
+
+// Writing, into any slice: the first refusal by document 01's order, with the slice untouched; or the file's length, with the file in the slice.
+pub fn write_plan(p: Plan, s: &mut [u8]) -> Written
+    ensures { λ r. ⌜ writtenAnswer r ≡ writeAnswer (planValue p) (now (s .entry)) ⌝ }
+    ensures { λ r. ⌜ now (s .exit) ≡ bytesAfter (planValue p) (now (s .entry)) ⌝ }
+{
+    match plan_verdict(p, s.len()) {
+        Verdict::Accepted => {
+            put_plan(s, p);
+            let m = p.m;
+            Written::Length(file_length(m as usize))
+        }
+        Verdict::Refused(r) => Written::Refused(r),
+    }
+}
