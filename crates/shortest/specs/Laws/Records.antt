@@ -1,5 +1,5 @@
 -- A plan by value has as many arcs as its field m says, and arc k is that of record k.
-use mathlib.Core.Path.{_≡_, refl, ap, _∙_, subst}
+use mathlib.Core.Path.{_≡_, refl, sym, ap, _∙_, subst}
 use mathlib.Core.List.{List, [], _∷_, _++_}
 use Prim.Native.Nat.{ℕ, _+_, _≤_, _<_}
 use native.Mathlib.Nat.{zero-add}
@@ -9,7 +9,7 @@ use lib.ListN.{length, length-map, take}
 use lib.Seq.{take-suc, take-all}
 use Rattle.postman.specs.Lists.{below}
 use Rattle.postman.specs.Plan.{Arc, Plan, arcAt, IsArc, WellFormed}
-use Rattle.postman.specs.Laws.Membership.{length-below, getD-mem, getD-map-upFrom}
+use Rattle.postman.specs.Laws.Membership.{length-below, getD-mem, mem-getD, getD-map-upFrom}
 use Rattle.plan.specs.declared.Plan.{Plan as PlanRecord}
 use Rattle.plan.specs.Records.{planValue, recordAt}
 
@@ -52,3 +52,19 @@ module _ (r : PlanRecord) (ok : WellFormed (planValue r)) where
 
   pub arcs-all : take (r .m) (planValue r .arcs) ≡ planValue r .arcs
   arcs-all = let e = plan-length r in take-all (r .m) (planValue r .arcs) (omega arith)
+
+-- and the other way round: what the limits say of its record makes a plan well formed
+pub well-formed : (r : PlanRecord) → 1 ≤ r .n → r .n ≤ 64 → 1 ≤ r .m → r .m ≤ 256 → ((k : ℕ) → k < r .m → IsArc (r .n) (recordAt (r .arcs) k)) → WellFormed (planValue r)
+well-formed r a b c d h =
+    let e = plan-length r in
+    let n = plan-vertices r in
+    record {
+      some-vertex = omega arith;
+      vertices = omega arith;
+      some-arc = omega arith;
+      arc-count = omega arith;
+      each = λ x m.
+          let k = mem-getD _ m in
+          let l = k .1 in
+          rw n (subst (λ (y : Arc). IsArc (r .n) y) (sym (plan-arc r (k .0) (omega arith)) ∙ k .2) (h (k .0) (omega arith)));
+    }

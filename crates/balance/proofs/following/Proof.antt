@@ -1,0 +1,19 @@
+-- The bound is that of the list. Assumes nothing.
+use native.Mathlib.Omega.{arith}
+use mathlib.Core.Path.{refl}
+use borrow.Author.Needs.{needs}
+use Rattle.balance.proofs.following.Statement.{statement}
+use Rattle.balance.proofs.following.Tie as tie
+use Rattle.balance.proofs.following.Reads as reads
+use Rattle.balance.proofs.following.Lts as lts
+
+-- src/lib.rt:34:5
+element-copy-out-result : tie.Need-element-copy-out-result
+element-copy-out-result c = search needs
+
+-- src/lib.rt:30:1
+returns : tie.Need-returns
+returns c = (refl, omega (arith, c .before .pre .1 (c .before .args .v)))
+
+pub following-spec : {M : Type 1} → statement M
+following-spec = tie.close (tie.spec element-copy-out-result returns)

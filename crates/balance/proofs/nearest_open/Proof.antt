@@ -1,0 +1,119 @@
+-- The loop's state after a turns is the fold over the first a vertices. Assumes nothing.
+use mathlib.Core.Path.{_≡_, refl, sym, ap, _∙_}
+use mathlib.Core.List.{List}
+use Prim.Native.Nat.{ℕ, _+_, _≤_, _<_, _-_, min}
+use native.Mathlib.Omega.{arith}
+use lib.ListN.{length, getD, set, take}
+use Rattle.balance.specs.Fold.{fold}
+use Rattle.balance.specs.Search.{beyond, nearer, nearest}
+use Rattle.balance.specs.Laws.Turns.{nearest-more, take-all}
+use Rattle.balance.specs.Laws.Search.{nearest-small}
+use borrow.Author.Needs.{needs}
+use Rattle.balance.proofs.nearest_open.Statement.{statement}
+use Rattle.balance.proofs.nearest_open.Tie as tie
+use Rattle.balance.proofs.nearest_open.Reads as reads
+use Rattle.balance.proofs.nearest_open.Lts as lts
+use Rattle.balance.proofs.chosen.Reads as chosen-reads
+use Rattle.balance.proofs.lesser.Reads as lesser-reads
+use Rattle.balance.proofs.open_distance.Reads as open-distance-reads
+use Rattle.balance.proofs.vertex.Reads as vertex-reads
+use Rattle.balance.proofs.wide.Reads as wide-reads
+
+abbrev Inv-loop : tie.InvT-loop
+Inv-loop x rank vs t best₀ low₀ a₀ best low a =
+    (a ≤ length vs) × ((best, low) ≡ fold (nearer x rank) (t, beyond) (take a vs))
+
+abbrev μ-loop : tie.MeasureT-loop
+μ-loop x rank vs t best₀ low₀ a₀ best low a = length vs - a
+
+-- src/lib.rt:111:5
+loop-holds : tie.Need-loop-holds Inv-loop μ-loop
+unfolding fold
+loop-holds c = (omega arith, refl)
+
+-- src/lib.rt:112:13
+vertex-requires : tie.Need-vertex-requires Inv-loop μ-loop
+vertex-requires c κs = search needs
+
+-- src/lib.rt:113:13
+wide-requires : tie.Need-wide-requires Inv-loop μ-loop
+wide-requires c κs = search needs
+
+-- src/lib.rt:114:33
+element-copy-out-open-distance : tie.Need-element-copy-out-open-distance Inv-loop μ-loop
+element-copy-out-open-distance c = search needs
+
+-- src/lib.rt:114:42
+mul-open-distance : tie.Need-mul-open-distance Inv-loop μ-loop
+mul-open-distance c = search needs
+
+-- src/lib.rt:114:42
+element-copy-out-open-distance-2 : tie.Need-element-copy-out-open-distance-2 Inv-loop μ-loop
+element-copy-out-open-distance-2 c = search needs
+
+-- src/lib.rt:114:13
+open-distance-requires : tie.Need-open-distance-requires Inv-loop μ-loop
+open-distance-requires c κs = search needs
+
+-- src/lib.rt:115:9
+chosen-requires : tie.Need-chosen-requires Inv-loop μ-loop
+chosen-requires c κs = search needs
+
+-- src/lib.rt:116:9
+lesser-requires : tie.Need-lesser-requires Inv-loop μ-loop
+lesser-requires c κs = search needs
+
+-- src/lib.rt:117:9
+add-a : tie.Need-add-a Inv-loop μ-loop
+add-a c = search needs
+
+-- src/lib.rt:111:5
+loop-less : tie.Need-loop-less Inv-loop μ-loop
+loop-less c = search needs
+
+-- src/lib.rt:111:5
+loop-again : tie.Need-loop-again Inv-loop μ-loop
+loop-again c = 
+    let l = c .before .before .before .before .before .before .before in
+    let at = l .before in
+    let start = at .before .before in (
+      omega arith,
+      nearest-more (start .args .x .now) (start .args .rank .now) (start .args .vs .now) (start .args .t, beyond) (at .loop .a)
+      (at .loop .inv .1)
+      (l .loop-test .taken)
+      (c .before .before .before .before .before .before .vertex .ensures .0)
+      (c .before .before .before .before .before .wide .ensures)
+      (c .before .before .open-distance .ensures)
+      (c .before .chosen .ensures)
+      (c .lesser .ensures),
+    )
+
+-- src/lib.rt:104:1
+returns : tie.Need-returns Inv-loop μ-loop
+unfolding nearest
+returns c = 
+    let start = c .before .before .before in
+    let e = take-all (start .args .vs .now) (c .before .loop .a) (c .loop-test .left) in
+    let q = c .before .loop .inv .1 ∙ ap (fold _ _) e in
+    let r : c .before .loop .best ≡ nearest (start .args .vs .now) (start .args .t) (start .args .x .now) (start .args .rank .now) = ap (λ (r : ℕ × ℕ). r .0) q in
+    (r, omega (arith, r, nearest-small (start .args .vs .now) (start .args .t) (start .args .x .now) (start .args .rank .now) (start .pre .0) (start .pre .1)))
+
+pub nearest-open-spec : {M : Type 1} → statement M
+nearest-open-spec =
+    tie.close
+    (tie.spec
+    Inv-loop
+    μ-loop
+    loop-holds
+    vertex-requires
+    wide-requires
+    element-copy-out-open-distance
+    mul-open-distance
+    element-copy-out-open-distance-2
+    open-distance-requires
+    chosen-requires
+    lesser-requires
+    add-a
+    loop-less
+    loop-again
+    returns)

@@ -1,0 +1,15 @@
+-- Laws.
+pub mod Sum
+pub mod Duality
+pub mod Fold
+pub mod Fill
+pub mod Search
+pub mod Augment
+pub mod Step
+pub mod Arcs
+pub mod Multipliers
+pub mod Turns
+pub mod Direct
+pub mod DirectBalance
+pub mod Plan
+pub mod Among

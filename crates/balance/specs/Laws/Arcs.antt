@@ -1,0 +1,95 @@
+-- Arcs added one by one to the empty state: every state on the way is certified, and counts the arcs so far, in their order.
+use mathlib.Core.Path.{_≡_, refl, sym, ap, ap₂, _∙_, subst, subst₂}
+use mathlib.Core.Logic.{_⊎_, inl, inr}
+use mathlib.Core.List.{List, [], _∷_, _++_, map, List·Memᴰ, List·Memᴰ·head, List·Memᴰ·tail, List·Memᴰ·not-nil, List·Memᴰ·append-cases, List·Memᴰ·eq-of-singleton, Memᴰ·cast, append-assoc, append-nil}
+use Prim.Native.Nat.{ℕ, zero, suc, _+_, _*_, _≤_, _<_}
+use native.Mathlib.Decide.{decLe}
+use native.Mathlib.Omega.{arith}
+use lib.ListN.{length, getD, replicate, length-replicate, getD-replicate, length-append}
+use Rattle.postman.specs.Lists.{delta, occurrences}
+use Rattle.postman.specs.Link.{Link}
+use Rattle.postman.specs.Balancing.{sumOver, balancingCost, assignment}
+use Rattle.postman.specs.Laws.Occurrences.{occurrences-append}
+use Rattle.postman.specs.Laws.Amounts.{Within}
+use Rattle.balance.specs.Optimality.{Feasible, Tight, Balances, sent, received}
+use Rattle.balance.specs.Step.{State, amount, potential, empty, add, addAll}
+use Rattle.balance.specs.Invariant.{Metric, limit, Small, Certified, Counted}
+use Rattle.balance.specs.Laws.Sum.{sum-ext, sum-zero}
+use Rattle.balance.specs.Laws.Duality.{cost-least, price-least}
+use Rattle.balance.specs.Laws.Step.{add-certified, add-counted}
+
+-- ---- the empty state
+
+pub zero-at : {A : Type 0} (n k : ℕ) (z : A) → getD (replicate n z) k z ≡ z
+zero-at zero k z = refl
+zero-at (suc n) zero z = refl
+zero-at (suc n) (suc k) z = zero-at n k z
+
+pub empty-certified : (d : ℕ → ℕ → ℕ) (vs : List ℕ) → Certified d vs empty
+unfolding empty
+empty-certified d vs = record {
+  numbers = record {
+    long-amounts = length-replicate {A = ℕ} 4096 0;
+    long-potentials = length-replicate {A = ℕ} 64 0;
+    few = λ k. (let e = zero-at {A = ℕ} 4096 k 0 in omega arith);
+    low = λ k. (let e = zero-at {A = ℕ} 64 k 0 in omega arith);
+    cheap = omega arith;
+  };
+  feasible = λ i j mi mj. (let e = zero-at {A = ℕ} 64 i 0 in omega arith);
+  tight = λ i j mi mj h. (let e = zero-at {A = ℕ} 4096 (i * 64 + j) 0 in absurd (omega arith));
+  loopless = λ i m. zero-at {A = ℕ} 4096 (i * 64 + i) 0;
+}
+
+pub empty-counted : (vs : List ℕ) → Counted vs empty [] []
+unfolding empty sumOver occurrences sent received
+empty-counted vs = record {
+  number = refl;
+  balanced = λ i m. (
+  let a = sum-ext vs (λ j. amount (replicate 4096 0) i j) (λ j. 0) (λ j n. zero-at {A = ℕ} 4096 (i * 64 + j) 0) ∙ sum-zero vs in
+  let b = sum-ext vs (λ j. amount (replicate 4096 0) j i) (λ j. 0) (λ j n. zero-at {A = ℕ} 4096 (j * 64 + i) 0) ∙ sum-zero vs in
+  omega arith);
+  priced = refl;
+}
+
+-- ---- one arc more, at the end
+
+sum-append : (xs ys : List ℕ) (u : ℕ → ℕ) → sumOver (xs ++ ys) u ≡ sumOver xs u + sumOver ys u
+unfolding sumOver
+sum-append [] ys u = omega arith
+sum-append (x ∷ xs) ys u = let h = sum-append xs ys u in omega arith
+
+last-counted : (vs : List ℕ) (s : State) (h t : ℕ) (hs ts : List ℕ) → Counted vs s (h ∷ hs) (t ∷ ts) → Counted vs s (hs ++ h ∷ []) (ts ++ t ∷ [])
+unfolding sumOver occurrences
+last-counted vs s h t hs ts c = record {
+  number = (let e = c .number in let l = length-append hs (h ∷ []) in omega arith);
+  balanced = λ i m. (let e = c .balanced i m in let a = occurrences-append i hs (h ∷ []) in let b = occurrences-append i ts (t ∷ []) in omega arith);
+  priced = (let e = c .priced in let a = sum-append hs (h ∷ []) (potential (s .potentials)) in let b = sum-append ts (t ∷ []) (potential (s .potentials)) in omega arith);
+}
+
+within-last : (vs us : List ℕ) (v : ℕ) → List·Memᴰ v vs → Within vs us → Within vs (us ++ v ∷ [])
+within-last vs us v m w = record {
+  once = w .once;
+  among = λ i n. elim (List·Memᴰ·append-cases us n) [ inl k ↦ w .among i k | inr k ↦ Memᴰ·cast (List·Memᴰ·eq-of-singleton k) m ];
+}
+
+module _ (d : ℕ → ℕ → ℕ) (vs : List ℕ) (metric : Metric d vs) where
+  -- ---- all arcs
+
+  -- the arcs join vertices of vs
+  abbrev pub Inside : List Link → Type 0
+  Inside arcs = (a : Link) → List·Memᴰ a arcs → List·Memᴰ (a .tail) vs × List·Memᴰ (a .head) vs
+
+  pub all-counted : (arcs : List Link) (s : State) (hs ts : List ℕ) → Inside arcs → Within vs hs → Within vs ts → Certified d vs s → Counted vs s hs ts
+      → length hs + length arcs ≤ limit
+      → Certified d vs (addAll d vs s arcs) × Counted vs (addAll d vs s arcs) (hs ++ map (λ a. a .head) arcs) (ts ++ map (λ a. a .tail) arcs)
+  unfolding addAll
+  all-counted [] s hs ts inside wh wt c n l = (c, subst₂ (Counted vs s) (sym (append-nil hs)) (sym (append-nil ts)) n)
+  all-counted (a ∷ arcs) s hs ts inside wh wt c n l =
+      let m = inside a (List·Memᴰ·head refl) in
+      let k = n .number in
+      let c′ = add-certified d vs metric s c (omega arith) (a .tail) (a .head) (m .0) (m .1) in
+      let n′ = last-counted vs (add d vs s (a .tail) (a .head)) (a .head) (a .tail) hs ts (add-counted d vs metric s c (omega arith) (a .tail) (a .head) (m .0) (m .1) hs ts wh wt n) in
+      let e = length-append hs (a .head ∷ []) in
+      let r = all-counted arcs (add d vs s (a .tail) (a .head)) (hs ++ a .head ∷ []) (ts ++ a .tail ∷ []) (λ b k. inside b (List·Memᴰ·tail k))
+      (within-last vs hs (a .head) (m .1) wh) (within-last vs ts (a .tail) (m .0) wt) c′ n′ (omega arith) in
+      (r .0, subst₂ (Counted vs (addAll d vs (add d vs s (a .tail) (a .head)) arcs)) (append-assoc hs (a .head ∷ []) (map (λ a. a .head) arcs)) (append-assoc ts (a .tail ∷ []) (map (λ a. a .tail) arcs)) (r .1))

@@ -1,0 +1,85 @@
+-- The tour that is written completes the arborescence: its paths are cheapest paths, of at most n − 1 arcs, and there is one for each leg.
+use mathlib.Core.Path.{_≡_, refl, sym, subst⁻¹, subst₃}
+use mathlib.Core.Bool.{not}
+use mathlib.Core.List.{List, List·Memᴰ}
+use Prim.Native.Nat.{ℕ, _+_, _≤_, _<_}
+use native.Mathlib.Omega.{arith}
+use lib.ListN.{length, length-append}
+use lib.Dec.{T, ltb→lt}
+use Rattle.postman.specs.Lists.{anyOf}
+use Rattle.postman.specs.Plan.{Plan, requiredNumbers, WellFormed}
+use Rattle.postman.specs.Required.{required}
+use Rattle.postman.specs.Distance.{noPath, distance, hasPath}
+use Rattle.postman.specs.Link.{Link}
+use Rattle.postman.specs.PlanCall.{isCutOff, sheetPlaces}
+use Rattle.postman.specs.Laws.Tests.{not-not}
+use Rattle.postman.specs.Laws.Membership.{anyOf-not}
+use Rattle.postman.specs.Laws.Required.{required-lt}
+use Rattle.shortest.specs.ShortestPath.{shortestPath}
+use Rattle.shortest.specs.Laws.ShortestPath.{shortest-path}
+use Rattle.circuit.specs.Legs.{units, legTails, legHeads, Completes}
+use Rattle.circuit.specs.Tour.{placesOf, tourBy, tour, ArePaths, HavePaths, IsCompletion}
+use Rattle.circuit.specs.Circuit.{circuit}
+use Rattle.circuit.specs.Eulerian.{Eulerian}
+use Rattle.circuit.specs.Laws.Legs.{leg-at, leg-ends, eulerian}
+use Rattle.circuit.specs.Laws.Few.{few-others, few-numbers}
+use Rattle.circuit.specs.Laws.Tour.{legs-count, is-tour, tour-cost, tour-length, tour-first}
+
+module _ (p : Plan) (ok : WellFormed p) (linked : T (not (isCutOff p))) where
+  pub has-path : {i j : ℕ} → List·Memᴰ i (required p) → List·Memᴰ j (required p) → distance p i j < noPath
+  unfolding isCutOff hasPath
+  has-path {i} {j} m n =
+      let u = anyOf-not (λ j. not (hasPath p i j)) n (anyOf-not (λ i. anyOf (λ j. not (hasPath p i j)) (required p)) m linked) in
+      ltb→lt (distance p i j) noPath (not-not (hasPath p i j) u)
+
+  pub are-paths : ArePaths p (shortestPath p)
+  are-paths i j m n =
+      let s = shortest-path p ok i j (required-lt p m) (has-path m n) in
+      let a = s .short in
+      let b = ok .vertices in
+      record { walk = s .walk; costs = s .costs; short = omega arith }
+
+module _ (p : Plan) (ok : WellFormed p) (t : List Link) (amounts : List ℕ) (h : Completes p t amounts) where
+  pub completion : IsCompletion p t amounts (tour p t amounts)
+  unfolding tour sheetPlaces
+  completion =
+      let paths = are-paths p ok (h .linked) in
+      let f = tour-first p ok t amounts h (shortestPath p) paths in
+      record {
+        tour = is-tour p ok t amounts h (shortestPath p) paths;
+        costs = tour-cost p ok t amounts h (shortestPath p) paths;
+        nonempty = f .0;
+        first = f .1;
+        short = tour-length p ok t amounts h (shortestPath p) paths;
+      }
+
+  -- ---- what the code asks on the way
+
+  pub few-legs : length (requiredNumbers p) + length t + length (units amounts) ≤ 526
+  few-legs = let a = few-others p ok t amounts h in let b = few-numbers p in let c = ok .arc-count in omega arith
+
+  pub have-paths : HavePaths p (requiredNumbers p) (legTails p t amounts) (legHeads p t amounts)
+  have-paths e k l =
+      let r = leg-at p ok t amounts h e l in
+      let s = leg-ends p ok t amounts h (r .1) in
+      let i = subst⁻¹ (λ z. List·Memᴰ z (required p)) (r .2) (s .0) in
+      let j = subst⁻¹ (λ z. List·Memᴰ z (required p)) (r .3) (s .1) in
+      record { from = required-lt p i; to = required-lt p j; linked = has-path p ok (h .linked) i j }
+
+  -- lists that are those of the legs: what the code has laid
+  pub record Ready (numbers tails heads : List ℕ) : Type 0 where
+    pub few : length tails ≤ 526
+    pub eulerian : Eulerian tails heads
+    pub have-paths : HavePaths p numbers tails heads
+    pub written : placesOf (shortestPath p) numbers tails heads (circuit tails heads) ≡ tour p t amounts
+
+  pub ready : (numbers tails heads : List ℕ) → numbers ≡ requiredNumbers p → tails ≡ legTails p t amounts → heads ≡ legHeads p t amounts → Ready numbers tails heads
+  unfolding tour tourBy
+  ready numbers tails heads a b c =
+      subst₃ Ready (sym a) (sym b) (sym c)
+      record {
+        few = (let n = legs-count p t amounts in let l = length-append t (units amounts) in let f = few-legs in omega arith);
+        eulerian = eulerian p ok t amounts h;
+        have-paths = have-paths;
+        written = refl;
+      }

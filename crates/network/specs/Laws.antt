@@ -1,0 +1,12 @@
+-- What is proved about the definitions.
+pub mod RequiredSum
+pub mod Search
+pub mod Array
+pub mod Flat
+pub mod Thinning
+pub mod RequiredVertex
+pub mod CutOff
+pub mod LinkPair
+pub mod Selection
+pub mod Labels
+pub mod Roots

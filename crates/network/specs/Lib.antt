@@ -1,0 +1,8 @@
+-- What the functions give back, and the models that they compute.
+pub mod Contracts
+pub mod RequiredSum
+pub mod Thinning
+pub mod LinkPair
+pub mod Labels
+-- What is proved about them.
+pub mod Laws

@@ -1,0 +1,5 @@
+pub mod Refusals
+pub mod Tour
+pub mod Contract
+-- What is proved about them.
+pub mod Laws
