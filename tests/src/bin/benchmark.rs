@@ -1,0 +1,118 @@
+//! Times the planners on the same plans in one process: `cargo run --release --bin benchmark [--features proved]`.
+//!
+//! The planners take turns. A time is the processor's, not the clock's, so that other work on the machine counts little, and it is the least of several
+//! runs; beside it stands how far the slowest run was above it, which is the machine's noise. The sheet is cleared before each run, outside the time.
+
+use postman_tests::instances::towns;
+use postman_tests::oracle::{count_trees, file_of, Graph};
+use postman_tests::plan::{Plan, SHEET_PLACES};
+use postman_tests::planner::{Answer, Planner};
+use postman_tests::yardstick::{Balance, Steps, Yardstick};
+use std::cell::Cell;
+use std::time::{Duration, Instant};
+
+const BUDGETS: [u64; 3] = [10_000, 100_000, 1_000_000];
+
+/// Rounds of one plan and budget: at least five, and more of short ones.
+const ROUNDS: usize = 50;
+const ENOUGH: Duration = Duration::from_millis(2_000);
+
+/// The yardstick comes first; what the others' times are divided by.
+fn planners() -> Vec<(&'static str, Box<dyn Planner>)> {
+    vec![
+        ("yardstick", Box::new(Yardstick)),
+        #[cfg(feature = "proved")]
+        ("proved", Box::new(postman_tests::planner::Proved)),
+    ]
+}
+
+/// The yardstick, counting the trees that it has to balance.
+#[derive(Default)]
+struct Counting(Cell<u64>);
+
+impl Steps for Counting {
+    fn balancing_with(&self, balance: &Balance, units: &[(usize, usize)]) -> i64 {
+        self.0.set(self.0.get() + 1);
+        balance.cost_with(units)
+    }
+}
+
+/// The processor time of this thread so far (Linux).
+fn processor_time() -> Duration {
+    #[repr(C)]
+    struct Timespec {
+        seconds: i64,
+        nanoseconds: i64,
+    }
+    extern "C" {
+        fn clock_gettime(clock: i32, time: *mut Timespec) -> i32;
+    }
+    const THREAD_TIME: i32 = 3;
+    let mut time = Timespec { seconds: 0, nanoseconds: 0 };
+    // SAFETY: the C library's function, with a place for its answer.
+    let status = unsafe { clock_gettime(THREAD_TIME, &mut time) };
+    assert_eq!(status, 0, "no such clock");
+    Duration::new(time.seconds as u64, time.nanoseconds as u32)
+}
+
+/// The times of each planner, ascending. All have to answer the same.
+fn times(planners: &[(&str, Box<dyn Planner>)], file: &[u8], budget: u64, expected: &Answer) -> Vec<Vec<Duration>> {
+    let mut times = vec![Vec::new(); planners.len()];
+    let mut sheet = vec![0; SHEET_PLACES];
+    let begun = Instant::now();
+    for round in 0..ROUNDS {
+        if round >= 5 && begun.elapsed() > ENOUGH {
+            break;
+        }
+        for ((_, planner), times) in planners.iter().zip(&mut times) {
+            sheet.fill(0);
+            let start = processor_time();
+            let answer = planner.plan_call(file, budget, &mut sheet).expect("a good plan");
+            times.push(processor_time() - start);
+            // Which drive of the cost is laid is free, and with it the number of places.
+            assert_eq!(Answer { places: 0, ..answer }, Answer { places: 0, ..expected.clone() });
+        }
+    }
+    times.iter_mut().for_each(|times| times.sort());
+    times
+}
+
+fn describe(name: &str, plan: &Plan) {
+    let graph = Graph::new(plan);
+    let (n, m, required) = (plan.n, plan.arcs.len(), graph.required_arcs.len());
+    let units: i64 = graph.imbalance.iter().filter(|&&d| d > 0).sum();
+    println!("{name}: {n} vertices, {m} arcs, {required} required, {} parts,", graph.parts);
+    println!("  {} links, {:.3e} trees, {units} units of imbalance", graph.links.len(), count_trees(&graph) as f64);
+}
+
+fn main() {
+    let planners = planners();
+    let mut totals = vec![0.0; planners.len()];
+    for (name, plan) in towns() {
+        describe(name, &plan);
+        let file = file_of(&plan);
+        for budget in BUDGETS {
+            let counting = Counting::default();
+            let answer = counting.plan_call(&file, budget, &mut vec![0; SHEET_PLACES]).expect("a good plan");
+            let (tried, balanced) = (answer.trees, counting.0.get());
+            println!(
+                "  budget {budget}: {tried} trees, {balanced} balanced, cost {}, floor {}",
+                answer.cost, answer.floor
+            );
+            let times = times(&planners, &file, budget, &answer);
+            let yardstick = times[0][0].as_secs_f64();
+            for (((planner, _), times), total) in planners.iter().zip(&times).zip(&mut totals) {
+                let (least, most) = (times[0].as_secs_f64(), times[times.len() - 1].as_secs_f64());
+                let noise = (most / least - 1.0) * 100.0;
+                let (runs, ms, ratio) = (times.len(), least * 1e3, least / yardstick);
+                println!(
+                    "    {planner:<10} {ms:>10.3} ms, ratio {ratio:.2} ({runs} runs, the slowest {noise:.0} % above)"
+                );
+                *total += least;
+            }
+        }
+    }
+    for ((planner, _), total) in planners.iter().zip(&totals) {
+        println!("total: {planner:<10} {:>10.1} ms, ratio {:.2}", total * 1e3, total / totals[0]);
+    }
+}

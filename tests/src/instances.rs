@@ -1,0 +1,214 @@
+//! Plans to try a planner on: random ones, and those of the benchmark.
+
+mod towns;
+
+pub use towns::{dead_ends, towns};
+
+use crate::oracle::file_of;
+use crate::plan::{Arc, Plan, CLOSED, MOST_ARCS, MOST_VERTICES, OPTIONAL, REQUIRED};
+use crate::random::Random;
+use std::ops::RangeInclusive;
+
+/// What random plans look like.
+pub struct Shape {
+    pub vertices: RangeInclusive<usize>,
+    pub parts: RangeInclusive<usize>,
+    /// Vertices of a part, and required arcs of a part beside those that hold it together.
+    pub part_size: RangeInclusive<usize>,
+    pub more_required: RangeInclusive<usize>,
+    /// Optional arcs beside those that make a drive possible.
+    pub more_optional: RangeInclusive<usize>,
+    pub closed: RangeInclusive<usize>,
+    /// In one plan of so many a drive is left to chance.
+    pub loose: usize,
+    /// Whether there is an arc from each vertex to each other, so that there are many links.
+    pub complete: bool,
+}
+
+impl Shape {
+    /// Small enough for brute force: up to 5 parts of up to 3 vertices, or up to 8 of one.
+    pub fn small(random: &mut Random) -> Shape {
+        let (most_parts, size) = random.pick(&[(5, 1), (4, 2), (3, 3), (8, 1)]);
+        let more_optional = random.pick(&[5, 16, 40]);
+        let complete = random.once_in(4);
+        Shape {
+            vertices: 1..=if complete { 8 } else { 10 },
+            parts: if most_parts == 8 { 6..=8 } else { 1..=most_parts },
+            part_size: 1..=size,
+            more_required: 0..=if most_parts == 8 { 0 } else { 2 },
+            more_optional: 0..=more_optional,
+            closed: 0..=3,
+            loose: 6,
+            complete,
+        }
+    }
+
+    /// Up to all the limits.
+    pub fn large(random: &mut Random) -> Shape {
+        let more_optional = random.within(0..=150);
+        let most_required = random.pick(&[0, 2, 20]);
+        Shape {
+            vertices: 12..=64,
+            parts: 1..=8,
+            part_size: 1..=8,
+            more_required: 0..=most_required,
+            more_optional: 0..=more_optional,
+            closed: 0..=10,
+            loose: 10,
+            complete: false,
+        }
+    }
+
+    /// Around the most parts that are allowed, every other plan without a drive.
+    pub fn scattered(_: &mut Random) -> Shape {
+        Shape {
+            vertices: 8..=12,
+            parts: 7..=10,
+            part_size: 1..=1,
+            more_required: 0..=1,
+            more_optional: 0..=5,
+            closed: 0..=2,
+            loose: 2,
+            complete: false,
+        }
+    }
+}
+
+/// A way to draw costs: many ties, the extremes, or anything.
+fn cost_law(random: &mut Random) -> impl Fn(&mut Random) -> u16 {
+    let kind = random.below(9);
+    move |random| match kind {
+        0 => 1,
+        1 => 65_535,
+        2 => random.pick(&[1, 65_535]),
+        3 => random.within(1..=2) as u16,
+        4 | 5 => random.within(1..=9) as u16,
+        // No arc is as long as two: what is an arc stays a link.
+        6 | 7 => random.within(51..=99) as u16,
+        _ => random.within(1..=65_535) as u16,
+    }
+}
+
+/// A random plan. Its vertices are mixed, so that the parts' numbers follow no pattern.
+pub fn random_plan(random: &mut Random, shape: &Shape) -> Plan {
+    let n = random.within(shape.vertices.clone());
+    let cost = cost_law(random);
+    let mut vertices: Vec<usize> = (0..n).collect();
+    random.shuffle(&mut vertices);
+    let mut arcs = Vec::new();
+
+    let mut rest = &vertices[..];
+    for _ in 0..random.within(shape.parts.clone()) {
+        let size = random.within(shape.part_size.clone()).min(rest.len());
+        let (part, others) = rest.split_at(size);
+        rest = others;
+        if !part.is_empty() {
+            require_part(random, &cost, part, shape.more_required.clone(), &mut arcs);
+        }
+    }
+
+    // A circle through all vertices makes a drive possible; where one of its arcs is closed, chance decides.
+    random.shuffle(&mut vertices);
+    let broken = if random.once_in(shape.loose) { random.below(n) } else { n };
+    for (i, &v) in vertices.iter().enumerate() {
+        let standing = if i == broken { CLOSED } else { OPTIONAL };
+        arcs.push(Arc::new(v, vertices[(i + 1) % n], standing, cost(random)));
+    }
+    if shape.complete {
+        let pairs = (0..n * n).map(|k| (k / n, k % n)).filter(|(v, w)| v != w);
+        arcs.extend(pairs.map(|(v, w)| Arc::new(v, w, OPTIONAL, cost(random))));
+    }
+    for (count, standing) in [(shape.more_optional.clone(), OPTIONAL), (shape.closed.clone(), CLOSED)] {
+        for _ in 0..random.within(count) {
+            arcs.push(Arc::new(random.below(n), random.below(n), standing, cost(random)));
+        }
+    }
+    if random.once_in(3) {
+        let twin = random.pick(&arcs);
+        arcs.push(Arc { cost: cost(random), ..twin });
+    }
+    random.shuffle(&mut arcs);
+    arcs.truncate(MOST_ARCS);
+    Plan { n, arcs }
+}
+
+/// Required arcs that join the vertices of a part, in any direction, and some more of them, loops and parallel arcs too.
+fn require_part(
+    random: &mut Random,
+    cost: &impl Fn(&mut Random) -> u16,
+    part: &[usize],
+    more: RangeInclusive<usize>,
+    arcs: &mut Vec<Arc>,
+) {
+    for (i, &v) in part.iter().enumerate() {
+        let w = part[random.below(i.max(1))];
+        let (tail, head) = if random.once_in(2) { (v, w) } else { (w, v) };
+        // The first vertex would get a loop; a part of one vertex needs it.
+        if i > 0 || part.len() == 1 {
+            arcs.push(Arc::new(tail, head, REQUIRED, cost(random)));
+        }
+    }
+    for _ in 0..random.within(more) {
+        arcs.push(Arc::new(random.pick(part), random.pick(part), REQUIRED, cost(random)));
+    }
+}
+
+/// A good file with up to three things wrong in its fields, often in the same arc, and one in its bytes.
+pub fn damaged(random: &mut Random, plan: &Plan) -> Vec<u8> {
+    let mut plan = plan.clone();
+    let mut k = random.below(plan.arcs.len());
+    for _ in 0..3 {
+        if random.once_in(3) {
+            k = random.below(plan.arcs.len());
+        }
+        match random.below(24) {
+            0 | 1 => plan.arcs[k].cost = 0,
+            2 | 3 => plan.arcs[k].standing = 3,
+            4 => plan.arcs[k].tail = random.within(0..=63) as u8,
+            5 => plan.arcs[k].head = random.within(0..=63) as u8,
+            6 => plan.n = random.within(0..=127),
+            _ => {}
+        }
+    }
+    let mut file = file_of(&plan);
+    match random.below(12) {
+        0 => file.truncate(random.below(file.len() + 1)),
+        1 => file.extend((0..random.within(1..=3)).map(|_| random.bits() as u8)),
+        2 => {
+            let at = random.below(file.len());
+            file[at] ^= 1 << random.below(8);
+        }
+        3 => *file.last_mut().expect("a file has bytes") |= 1 << random.below(5),
+        4 => file[1] = random.bits() as u8,
+        5 => file[2] = random.bits() as u8,
+        _ => {}
+    }
+    file
+}
+
+/// Random bytes, of which most begin like a file.
+pub fn random_bytes(random: &mut Random, length: usize) -> Vec<u8> {
+    let mut bytes: Vec<u8> = (0..length).map(|_| random.bits() as u8).collect();
+    if length >= 3 && !random.once_in(4) {
+        // edition 1, n from 1 to 64, and as many arcs as the length asks for, or nearly
+        let n = random.within(1..=64);
+        let m = (length * 8).saturating_sub(20) / 30 + random.pick(&[0, 0, 0, 1]);
+        let start = 1 << 20 | n << 13 | (m % 512) << 4 | random.below(16);
+        bytes[..3].copy_from_slice(&(start as u32).to_be_bytes()[1..]);
+    }
+    bytes
+}
+
+/// The most vertices and arcs, all required, and balanced as they stand.
+pub fn fullest() -> Plan {
+    let arc = |k: usize| Arc::new(k % MOST_VERTICES, (k + 1 + k / MOST_VERTICES) % MOST_VERTICES, REQUIRED, 65_535);
+    Plan { n: MOST_VERTICES, arcs: (0..MOST_ARCS).map(arc).collect() }
+}
+
+/// A ring with as many required arcs as there is room for beside its first: each calls for a way all round, at the highest cost.
+pub fn longest() -> Plan {
+    let last = MOST_VERTICES - 1;
+    let ring = (1..=last).map(|v| Arc::new(v, (v + 1) % MOST_VERTICES, OPTIONAL, 65_535));
+    let required = (0..MOST_ARCS - last).map(|_| Arc::new(0, 1, REQUIRED, 65_535));
+    Plan { n: MOST_VERTICES, arcs: ring.chain(required).collect() }
+}

@@ -1,0 +1,17 @@
+//! Tests and benchmarks of the survey drive's planner, from Rust.
+//!
+//! [`planner`] is how any Rust program calls a planner; [`yardstick`] is one, [`oracle`] knows what every planner has to answer,
+//! [`properties`] compares the two on [`instances`].
+
+// Loops over vertices read best with the vertex as index.
+#![allow(clippy::needless_range_loop)]
+
+pub mod instances;
+pub mod mutants;
+pub mod oracle;
+pub mod plan;
+pub mod planner;
+pub mod properties;
+pub mod random;
+pub mod suite;
+pub mod yardstick;

@@ -1,0 +1,27 @@
+//! Wrong planners, each wrong in one way, and what has to catch it.
+
+mod answers;
+mod codecs;
+mod steps;
+
+use crate::planner::{Codec, Planner};
+use crate::properties::Property;
+
+pub struct Mutant<T: ?Sized> {
+    pub name: &'static str,
+    /// The properties that it violates, among others.
+    pub violates: &'static [Property],
+    pub wrong: Box<T>,
+}
+
+/// Wrong in a step of the method, or in what is answered.
+pub fn planners() -> Vec<Mutant<dyn Planner>> {
+    let mut all = steps::mutants();
+    all.extend(answers::mutants());
+    all
+}
+
+/// Wrong in reading or writing.
+pub fn codecs() -> Vec<Mutant<dyn Codec>> {
+    codecs::mutants()
+}

@@ -1,0 +1,104 @@
+//! The plan file as a string of the characters 0 and 1.
+
+use crate::plan::{Arc, Plan};
+use crate::planner::Refusal;
+
+/// The last bits of a number, as many as wanted.
+fn bits_of(number: u64, width: usize) -> String {
+    (0..width).rev().map(|i| if number / 2u64.pow(i as u32) % 2 == 1 { '1' } else { '0' }).collect()
+}
+
+fn number(bits: &str) -> usize {
+    bits.chars().fold(0, |x, bit| 2 * x + usize::from(bit == '1'))
+}
+
+fn unpack(bytes: &[u8]) -> String {
+    bytes.iter().map(|&byte| bits_of(byte.into(), 8)).collect()
+}
+
+/// The bits of a file of m arcs, before the fill, and its bytes.
+fn bit_length(m: usize) -> usize {
+    4 + 7 + 9 + m * (6 + 6 + 2 + 16)
+}
+
+fn byte_length(m: usize) -> usize {
+    let bits = bit_length(m);
+    bits / 8 + usize::from(!bits.is_multiple_of(8))
+}
+
+/// The fields of a file that is long enough for its arc count, whatever they hold.
+pub fn parse(bytes: &[u8]) -> Plan {
+    let bits = unpack(bytes);
+    let arcs = (0..number(&bits[11..20])).map(|k| {
+        let arc = &bits[20 + 30 * k..50 + 30 * k];
+        let byte = |from: usize, to: usize| number(&arc[from..to]) as u8;
+        Arc { tail: byte(0, 6), head: byte(6, 12), standing: byte(12, 14), cost: number(&arc[14..]) as u16 }
+    });
+    Plan { n: number(&bits[4..11]), arcs: arcs.collect() }
+}
+
+/// The first arc that breaks a limit gives its first number; 0 for none.
+fn arcs_refusal(n: usize, arcs: &[Arc]) -> Refusal {
+    let of_arc = |a: &Arc| match a {
+        a if usize::from(a.tail) >= n || usize::from(a.head) >= n => 5,
+        a if a.cost == 0 => 6,
+        a if a.standing > 2 => 7,
+        _ => 0,
+    };
+    arcs.iter().map(of_arc).find(|&number| number != 0).unwrap_or(0)
+}
+
+fn is_off_limits(n: usize, m: usize) -> bool {
+    !(1..=64).contains(&n) || !(1..=256).contains(&m)
+}
+
+/// Reading's refusal, 0 for none, where the list has room for so many records.
+pub fn read_refusal(bytes: &[u8], room: usize) -> Refusal {
+    let bits = unpack(bytes);
+    if bits.len() < 24 {
+        return 1;
+    }
+    if &bits[..4] != "0001" {
+        return 2;
+    }
+    let (n, m) = (number(&bits[4..11]), number(&bits[11..20]));
+    if is_off_limits(n, m) {
+        return 3;
+    }
+    if bytes.len() < byte_length(m) {
+        return 1;
+    }
+    if bytes.len() > byte_length(m) || bits[bit_length(m)..].contains('1') {
+        return 4;
+    }
+    match arcs_refusal(n, &parse(bytes).arcs) {
+        0 if room < m => 8,
+        number => number,
+    }
+}
+
+/// Writing's refusal, 0 for none, where the slice has room for so many bytes.
+pub fn write_refusal(n: usize, arcs: &[Arc], room: usize) -> Refusal {
+    if is_off_limits(n, arcs.len()) {
+        return 3;
+    }
+    match arcs_refusal(n, arcs) {
+        0 if room < byte_length(arcs.len()) => 8,
+        number => number,
+    }
+}
+
+/// The file of a plan; fields that are too wide are cut, so that bad files can be made too.
+pub fn file_of(plan: &Plan) -> Vec<u8> {
+    let mut bits = bits_of(1, 4) + &bits_of(plan.n as u64, 7) + &bits_of(plan.arcs.len() as u64, 9);
+    for a in &plan.arcs {
+        bits += &bits_of(a.tail.into(), 6);
+        bits += &bits_of(a.head.into(), 6);
+        bits += &bits_of(a.standing.into(), 2);
+        bits += &bits_of(a.cost.into(), 16);
+    }
+    while !bits.len().is_multiple_of(8) {
+        bits.push('0');
+    }
+    bits.as_bytes().chunks(8).map(|byte| byte.iter().fold(0, |x, &bit| x << 1 | (bit - b'0'))).collect()
+}

@@ -1,0 +1,45 @@
+//! The plan as data, and the numbers that bound it. No rule of the planner stands here: the yardstick and the oracle share
+//! these types and nothing else.
+
+/// An arc as the plan file's reader and writer hold it: fields wider than those of the file.
+#[derive(Clone, Copy, PartialEq, Eq, Debug, Default)]
+pub struct Arc {
+    pub tail: u8,
+    pub head: u8,
+    /// 0: may be driven; 1: must be driven; 2: closed.
+    pub standing: u8,
+    pub cost: u16,
+}
+
+/// Standings.
+pub const OPTIONAL: u8 = 0;
+pub const REQUIRED: u8 = 1;
+pub const CLOSED: u8 = 2;
+
+/// A directed graph with vertices 0 to n − 1 and numbered arcs.
+#[derive(Clone, PartialEq, Eq, Debug, Default)]
+pub struct Plan {
+    pub n: usize,
+    pub arcs: Vec<Arc>,
+}
+
+/// The most vertices and arcs of a plan, and the most bytes of its file.
+pub const MOST_VERTICES: usize = 64;
+pub const MOST_ARCS: usize = 256;
+pub const LONGEST_FILE: usize = 963;
+
+/// The places that a sheet for the drive must have at least.
+pub const SHEET_PLACES: usize = 17_266;
+
+/// The short call's budget, and the highest that the plan call takes.
+pub const DEFAULT_BUDGET: u64 = 10_000;
+pub const HIGHEST_BUDGET: u64 = 1_000_000;
+
+/// The most components ("parts") of a plan.
+pub const MOST_PARTS: usize = 8;
+
+impl Arc {
+    pub fn new(tail: usize, head: usize, standing: u8, cost: u16) -> Arc {
+        Arc { tail: tail as u8, head: head as u8, standing, cost }
+    }
+}

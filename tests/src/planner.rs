@@ -1,0 +1,79 @@
+//! What a planner is, for any Rust program: two traits over slices, the answer, and the refusals by number.
+//!
+//! With the feature `proved`, `Proved` is the proved library behind these traits, and can stand for `Yardstick` here:
+//!
+//! ```
+//! use postman_tests::{plan::SHEET_PLACES, planner::Planner, yardstick::Yardstick};
+//!
+//! let file = [0x10, 0x40, 0x20, 0x01, 0x40, 0x01, 0x41, 0x00, 0x00, 0x03];
+//! let mut sheet = vec![0; SHEET_PLACES];
+//! let answer = Yardstick.short_call(&file, &mut sheet).expect("a good plan");
+//! assert_eq!(answer.cost, 8);
+//! assert_eq!(sheet[..answer.places], [0, 1]);
+//! ```
+
+use crate::plan::{Arc, MOST_VERTICES};
+
+#[cfg(feature = "proved")]
+mod proved;
+#[cfg(feature = "proved")]
+pub use proved::Proved;
+
+/// A refusal, by its number.
+pub type Refusal = u32;
+
+/// The refusals' trade words.
+pub mod refusal {
+    use super::Refusal;
+
+    pub const TORN: Refusal = 1;
+    pub const EDITION: Refusal = 2;
+    pub const EXTENT: Refusal = 3;
+    pub const MARGIN: Refusal = 4;
+    pub const OFF_SHEET: Refusal = 5;
+    pub const UNPRICED: Refusal = 6;
+    pub const STANDING: Refusal = 7;
+    pub const SHORT_SHEET: Refusal = 8;
+    pub const BUDGET: Refusal = 9;
+    pub const IDLE: Refusal = 10;
+    pub const SCATTERED: Refusal = 11;
+    pub const CUT_OFF: Refusal = 12;
+}
+
+/// What the plan call answers beside the drive.
+#[derive(Clone, PartialEq, Eq, Debug)]
+pub struct Answer {
+    /// How many places of the sheet the drive takes, from the sheet's start.
+    pub places: usize,
+    pub cost: u64,
+    /// No drive costs less.
+    pub floor: u64,
+    /// Trees tried.
+    pub trees: u64,
+    /// Whether all trees were tried.
+    pub whole: bool,
+    /// The number of components.
+    pub parts: u64,
+    /// u: one signed multiplier per vertex.
+    pub multipliers: [i64; MOST_VERTICES],
+}
+
+/// The plan call and the short call.
+pub trait Planner {
+    /// Lays a drive for the plan file `plan`, trying at most `budget` trees, and writes its arc numbers into `sheet` from the start.
+    /// Later places are untouched; a refusal changes none.
+    fn plan_call(&self, plan: &[u8], budget: u64, sheet: &mut [u16]) -> Result<Answer, Refusal>;
+
+    /// The plan call with the default budget.
+    fn short_call(&self, plan: &[u8], sheet: &mut [u16]) -> Result<Answer, Refusal>;
+}
+
+/// Reading and writing of plan files.
+pub trait Codec {
+    /// Reads a file: n and m; the arcs are put into `records` from the start. Later records are untouched; a refusal changes none.
+    fn read(&self, bytes: &[u8], records: &mut [Arc]) -> Result<(usize, usize), Refusal>;
+
+    /// Writes the file of `n` vertices and the arcs `records` into `bytes` from the start: the file's length. Later bytes are untouched; a
+    /// refusal changes none.
+    fn write(&self, n: u32, records: &[Arc], bytes: &mut [u8]) -> Result<usize, Refusal>;
+}

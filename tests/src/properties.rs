@@ -1,0 +1,132 @@
+//! What document 01 promises, as properties that any planner can be held to.
+
+mod call;
+mod codec;
+
+pub use call::{examine_answer, examine_refusal, Case};
+pub use codec::{examine_codec, examine_writing};
+
+use std::collections::BTreeSet;
+
+/// One promise.
+#[derive(Clone, Copy, PartialEq, Eq, PartialOrd, Ord, Debug)]
+pub enum Property {
+    /// The call comes back.
+    Returns,
+    /// The refusal is the first that applies, and none otherwise.
+    Refusal,
+    /// A refusal leaves the sheet as it was.
+    SheetKept,
+    /// So do the places after the count.
+    RestKept,
+    /// The places are a drive.
+    Drive,
+    /// Its cost is the answer's.
+    DriveCost,
+    /// It begins with the lowest required arc.
+    FirstArc,
+    /// The cost is the least of the first T trees.
+    LeastCost,
+    /// T is the smaller of budget and N.
+    Trees,
+    /// Whole exactly when N is at most the budget.
+    Whole,
+    /// k.
+    Parts,
+    /// Whole: no drive is cheaper.
+    Optimum,
+    /// Whole: the floor is the cost.
+    FloorOfWhole,
+    /// No drive costs less than the floor.
+    FloorHolds,
+    /// The floor is at least R + Z.
+    FloorAboveBalancing,
+    /// Not whole: the floor is the larger of L(0) and L(u).
+    FloorEquation,
+    /// Every reduced cost is at least 0.
+    Feasible,
+    /// The sum of u(i) × D(i) is Z.
+    Tight,
+    /// u is 0 where not required.
+    Elsewhere,
+    /// u is 0 at the lowest required vertex: our choice too.
+    Root,
+    /// No u that meets all this is larger anywhere: our choice, where document 01 leaves one.
+    Greatest,
+    /// The same input gives the same answer, whatever the sheet held.
+    Repeatable,
+    /// The short call is the plan call with 10,000.
+    ShortCall,
+    /// A case or a limit that document 01 states in numbers.
+    Stated,
+    /// Reading answers n, m and the arcs, or the first refusal that applies.
+    Reading,
+    /// Records from m on, and all in a refusal, are kept.
+    RecordsKept,
+    /// Writing answers the length and gives the file, or the first refusal that applies.
+    Writing,
+    /// Bytes after the file, and all in a refusal, are kept.
+    BytesKept,
+}
+
+/// All of them.
+pub const PROPERTIES: [Property; 28] = {
+    use Property::*;
+    [
+        Returns,
+        Refusal,
+        SheetKept,
+        RestKept,
+        Drive,
+        DriveCost,
+        FirstArc,
+        LeastCost,
+        Trees,
+        Whole,
+        Parts,
+        Optimum,
+        FloorOfWhole,
+        FloorHolds,
+        FloorAboveBalancing,
+        FloorEquation,
+        Feasible,
+        Tight,
+        Elsewhere,
+        Root,
+        Greatest,
+        Repeatable,
+        ShortCall,
+        Stated,
+        Reading,
+        RecordsKept,
+        Writing,
+        BytesKept,
+    ]
+};
+
+/// What was found against a planner.
+#[derive(Default)]
+pub struct Findings {
+    pub violated: BTreeSet<Property>,
+    /// The first few, told.
+    pub stories: Vec<String>,
+    /// How often a property was looked at.
+    pub looks: u64,
+}
+
+impl Findings {
+    pub fn expect(&mut self, property: Property, holds: bool, story: impl FnOnce() -> String) {
+        self.looks += 1;
+        if !holds {
+            self.violated.insert(property);
+            if self.stories.len() < 8 {
+                self.stories.push(format!("{property:?}: {}", story()));
+            }
+        }
+    }
+
+    /// Fails a test if anything was found, and tells from which seed.
+    pub fn assert_none(&self, planner: &str, seed: u64) {
+        assert!(self.violated.is_empty(), "{planner}, SEED={seed}:\n{}", self.stories.join("\n"));
+    }
+}

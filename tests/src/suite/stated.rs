@@ -1,0 +1,112 @@
+//! Document 01's cases and limits, in its own numbers.
+
+use crate::instances::fullest;
+use crate::oracle::file_of;
+use crate::plan::{Arc, Plan, CLOSED, OPTIONAL, REQUIRED};
+use crate::planner::{Planner, Refusal};
+use crate::properties::{Findings, Property};
+
+/// A plan as document 01 writes it: arcs are (tail, head, standing, cost).
+fn plan(n: usize, arcs: &[(usize, usize, u8, u16)]) -> Plan {
+    Plan { n, arcs: arcs.iter().map(|&(t, h, standing, cost)| Arc::new(t, h, standing, cost)).collect() }
+}
+
+/// Case A's file, as document 01 prints it.
+pub const FILE_A: [u8; 10] = [0x10, 0x40, 0x20, 0x01, 0x40, 0x01, 0x41, 0x00, 0x00, 0x03];
+
+pub fn case_a() -> Plan {
+    case_a_with(OPTIONAL, 3)
+}
+
+/// A with another standing and cost in arc 1.
+fn case_a_with(standing: u8, cost: u16) -> Plan {
+    plan(2, &[(0, 1, REQUIRED, 5), (1, 0, standing, cost)])
+}
+
+pub fn case_b() -> Plan {
+    let streets = [(0, 1, REQUIRED, 1), (1, 0, OPTIONAL, 1), (2, 3, REQUIRED, 1), (3, 2, OPTIONAL, 1)];
+    let ways = [(1, 2, OPTIONAL, 10), (3, 0, OPTIONAL, 10)];
+    plan(4, &[&streets[..], &ways].concat())
+}
+
+pub fn case_c() -> Plan {
+    let loops = [(0, 0, REQUIRED, 1), (1, 1, REQUIRED, 1), (2, 2, REQUIRED, 1)];
+    let ways = [(0, 1, OPTIONAL, 2), (1, 2, OPTIONAL, 2), (2, 0, OPTIONAL, 2), (0, 2, OPTIONAL, 3)];
+    plan(3, &[&loops[..], &ways].concat())
+}
+
+/// A required loop of cost 1 at each vertex.
+fn loops(n: usize) -> Plan {
+    Plan { n, arcs: (0..n).map(|v| Arc::new(v, v, REQUIRED, 1)).collect() }
+}
+
+/// Cost, trees tried, whole and parts; or the refusal.
+type Stated = Result<(u64, u64, bool, u64), Refusal>;
+
+struct Row {
+    what: &'static str,
+    file: Vec<u8>,
+    budget: u64,
+    places: usize,
+    stated: Stated,
+}
+
+/// The cases, on a sheet that is just long enough.
+fn cases() -> Vec<Row> {
+    let idle = plan(2, &[(0, 1, OPTIONAL, 5), (1, 0, OPTIONAL, 3)]);
+    let circle = Plan { n: 64, arcs: (0..64).map(|v| Arc::new(v, (v + 1) % 64, REQUIRED, 1)).collect() };
+    let mut wider = fullest();
+    wider.arcs.push(Arc::new(0, 0, CLOSED, 1));
+    let rows = [
+        ("A", case_a(), 10_000, Ok((8, 1, true, 1))),
+        ("B", case_b(), 10_000, Ok((22, 1, true, 2))),
+        ("C, one tree", case_c(), 1, Ok((14, 1, false, 3))),
+        ("C, two trees", case_c(), 2, Ok((9, 2, true, 3))),
+        ("D", plan(2, &[(0, 1, REQUIRED, 5)]), 10_000, Err(12)),
+        ("E", idle.clone(), 10_000, Err(10)),
+        ("E, budget first", idle, 0, Err(9)),
+        ("F, eight", loops(8), 10_000, Err(12)),
+        ("F, nine", loops(9), 10_000, Err(11)),
+        ("G, cost 0", case_a_with(OPTIONAL, 0), 10_000, Err(6)),
+        ("G, standing 3", case_a_with(3, 3), 10_000, Err(7)),
+        ("G, both", case_a_with(3, 0), 10_000, Err(6)),
+        ("n 64", circle, 10_000, Ok((64, 1, true, 1))),
+        ("n 65", Plan { n: 65, ..case_a() }, 10_000, Err(3)),
+        ("n 0", Plan { n: 0, ..case_a() }, 10_000, Err(3)),
+        ("m 256", fullest(), 10_000, Ok((256 * 65_535, 1, true, 1))),
+        ("m 257", wider, 10_000, Err(3)),
+        ("m 0", Plan { n: 2, arcs: vec![] }, 10_000, Err(3)),
+    ];
+    rows.map(|(what, plan, budget, stated)| Row { what, file: file_of(&plan), budget, places: 17_266, stated }).into()
+}
+
+/// Budgets and sheets, on case A: what is refused, 0 for nothing.
+fn limits() -> Vec<Row> {
+    let budgets = [(0, 9), (1, 0), (1_000_000, 0), (1_000_001, 9), (1 << 32, 9), (1 << 32 | 1, 9), (u64::MAX, 9)];
+    let sheets = [(17_267, 0), (17_266, 0), (17_265, 8), (2, 8), (1, 8), (0, 8)];
+    let mut rows: Vec<(u64, usize, Refusal)> = vec![(0, 17_265, 8)];
+    rows.extend(budgets.map(|(budget, refused)| (budget, 17_266, refused)));
+    rows.extend(sheets.map(|(places, refused)| (10_000, places, refused)));
+    let row = |(budget, places, refused)| {
+        let stated = if refused == 0 { Ok((8, 1, true, 1)) } else { Err(refused) };
+        Row { what: "budget and sheet on A", file: FILE_A.to_vec(), budget, places, stated }
+    };
+    let mut rows: Vec<Row> = rows.into_iter().map(row).collect();
+    let file = file_of(&case_a_with(3, 3));
+    rows.push(Row { what: "standing before short sheet", file, budget: 10_000, places: 0, stated: Err(7) });
+    rows
+}
+
+/// Holds a planner to all of them.
+pub fn run_stated(found: &mut Findings, planner: &dyn Planner) {
+    for Row { what, file, budget, places, stated } in cases().into_iter().chain(limits()) {
+        let told = planner.plan_call(&file, budget, &mut vec![0; places]).map(|a| (a.cost, a.trees, a.whole, a.parts));
+        let about = || format!("{what}, budget {budget}, {places} places: {told:?} instead of {stated:?}");
+        found.expect(Property::Stated, told == stated, about);
+    }
+    let mut sheet = vec![0; 17_266];
+    let short = planner.short_call(&FILE_A, &mut sheet);
+    let drive = short.is_ok_and(|a| (a.cost, a.floor) == (8, 8) && sheet[..a.places] == [0, 1]);
+    let refused = planner.short_call(&FILE_A, &mut sheet[..17_265]) == Err(8);
+    found.expect(Property::Stated, drive && refused, || "the short call on A".to_string());
+}

@@ -1,0 +1,237 @@
+//! The yardstick: the planner written plainly in Rust, for speed, by the same method as the proved one. It is what the proved library's
+//! speed is measured against, and the stock from which the wrong planners are made.
+
+mod arborescence;
+mod balance;
+mod bound;
+mod circuit;
+mod distance;
+mod file;
+mod network;
+
+pub use arborescence::{Candidate, Trees};
+pub use balance::{Balance, Lengths};
+pub use bound::{cheapest_arborescence, Entries};
+pub use circuit::shortest_path;
+pub use distance::{distances, Distances, NO_PATH};
+pub use file::{read, write};
+pub use network::{components, Components, Network};
+
+use crate::plan::{
+    Arc, Plan, CLOSED, DEFAULT_BUDGET, HIGHEST_BUDGET, MOST_PARTS, MOST_VERTICES, REQUIRED, SHEET_PLACES,
+};
+use crate::planner::{refusal, Answer, Codec, Planner, Refusal};
+
+/// The decisions that planners of this trade get wrong, each with its right answer. A wrong planner overrides one.
+pub trait Steps {
+    /// Whether an arc may serve in paths.
+    fn is_open(&self, arc: &Arc) -> bool {
+        arc.standing != CLOSED
+    }
+
+    /// The components of the required vertices.
+    fn components(&self, plan: &Plan) -> Components {
+        components(plan)
+    }
+
+    /// Whether the path from i to j may go through k, so that the pair (i, j) is dropped.
+    fn is_via(&self, d: &Distances, i: usize, k: usize, j: usize) -> bool {
+        d[i][j] == d[i][k] + d[k][j]
+    }
+
+    /// By what the candidate links of a component ascend.
+    fn link_order(&self, tail: usize, head: usize) -> (usize, usize) {
+        (tail, head)
+    }
+
+    /// The unit that evens out an arc: from where to where it goes.
+    fn unit(&self, tail: usize, head: usize) -> (usize, usize) {
+        (head, tail)
+    }
+
+    /// The multipliers of the required vertices, 0 at the first.
+    fn multipliers(&self, balance: &Balance) -> Vec<i64> {
+        balance.greatest_potentials(0)
+    }
+
+    /// The sum of u(i) × D(i).
+    fn price(&self, u: &[i64; MOST_VERTICES], imbalance: &[i64; MOST_VERTICES]) -> i64 {
+        u.iter().zip(imbalance).map(|(u, d)| u * d).sum()
+    }
+
+    /// L(u), from R, the price of the imbalance and A(u).
+    fn lagrangian_bound(&self, required_cost: i64, price: i64, arborescence: i64) -> i64 {
+        required_cost + price + arborescence
+    }
+
+    /// A(u), from the least reduced costs between components.
+    fn cheapest_arborescence(&self, entries: &Entries, parts: usize) -> i64 {
+        cheapest_arborescence(entries, parts)
+    }
+
+    /// Whether a tree is looked at, by its place in the order.
+    fn considers(&self, _place: u64) -> bool {
+        true
+    }
+
+    /// Whether a tree with this bound need not be balanced.
+    fn is_hopeless(&self, bound: i64, best: i64) -> bool {
+        bound >= best
+    }
+
+    /// The least balancing once the units of a tree's links are added.
+    fn balancing_with(&self, balance: &Balance, units: &[(usize, usize)]) -> i64 {
+        balance.cost_with(units)
+    }
+
+    /// The arcs that a leg from i to j is driven by.
+    fn path(&self, plan: &Plan, d: &Distances, i: usize, j: usize) -> Vec<u16> {
+        shortest_path(plan, d, |a| self.is_open(a), i, j)
+    }
+}
+
+/// The right planner.
+#[derive(Clone, Copy, Default, Debug)]
+pub struct Yardstick;
+
+impl Steps for Yardstick {}
+
+impl<S: Steps> Planner for S {
+    fn plan_call(&self, plan: &[u8], budget: u64, sheet: &mut [u16]) -> Result<Answer, Refusal> {
+        plan_call(self, plan, budget, sheet)
+    }
+
+    fn short_call(&self, plan: &[u8], sheet: &mut [u16]) -> Result<Answer, Refusal> {
+        plan_call(self, plan, DEFAULT_BUDGET, sheet)
+    }
+}
+
+impl Codec for Yardstick {
+    fn read(&self, bytes: &[u8], records: &mut [Arc]) -> Result<(usize, usize), Refusal> {
+        let plan = read(bytes)?;
+        let m = plan.arcs.len();
+        let room = records.get_mut(..m).ok_or(refusal::SHORT_SHEET)?;
+        room.copy_from_slice(&plan.arcs);
+        Ok((plan.n, m))
+    }
+
+    fn write(&self, n: u32, records: &[Arc], bytes: &mut [u8]) -> Result<usize, Refusal> {
+        let file = write(n, records)?;
+        let room = bytes.get_mut(..file.len()).ok_or(refusal::SHORT_SHEET)?;
+        room.copy_from_slice(&file);
+        Ok(file.len())
+    }
+}
+
+/// The plan call's refusals 1 to 10, in their order.
+fn accept(file: &[u8], budget: u64, places: usize) -> Result<Plan, Refusal> {
+    let plan = read(file)?;
+    if places < SHEET_PLACES {
+        return Err(refusal::SHORT_SHEET);
+    }
+    if budget == 0 || budget > HIGHEST_BUDGET {
+        return Err(refusal::BUDGET);
+    }
+    if !plan.arcs.iter().any(|a| a.standing == REQUIRED) {
+        return Err(refusal::IDLE);
+    }
+    Ok(plan)
+}
+
+/// What trying the trees found.
+struct Found {
+    /// The first tree of least cost among those tried, as pairs of (tail, head), and its cost.
+    links: Vec<(usize, usize)>,
+    cost: i64,
+    tried: u64,
+    whole: bool,
+}
+
+fn plan_call<S: Steps>(steps: &S, file: &[u8], budget: u64, sheet: &mut [u16]) -> Result<Answer, Refusal> {
+    let plan = accept(file, budget, sheet.len())?;
+    let components = steps.components(&plan);
+    if components.count > MOST_PARTS {
+        return Err(refusal::SCATTERED);
+    }
+    let d = distances(&plan, |a| steps.is_open(a));
+    let network = Network::new(steps, &plan, &d, components);
+    if network.is_cut_off() {
+        return Err(refusal::CUT_OFF);
+    }
+
+    let lengths = network.lengths();
+    let mut balance = Balance::new(&lengths, network.required.len());
+    for a in plan.arcs.iter().filter(|a| a.standing == REQUIRED) {
+        let (from, to) = steps.unit(a.tail.into(), a.head.into());
+        balance.add(network.place[from], network.place[to]);
+    }
+    let mut u = [0; MOST_VERTICES];
+    for (&v, x) in network.required.iter().zip(steps.multipliers(&balance)) {
+        u[v] = x;
+    }
+
+    let found = try_trees(steps, &network, &balance, &u, budget);
+    let floor = if found.whole {
+        found.cost
+    } else {
+        lower_bound(steps, &network, &[0; MOST_VERTICES]).max(lower_bound(steps, &network, &u))
+    };
+
+    let drive = circuit::lay(steps, &network, balance, &found.links);
+    let places = drive.len().min(sheet.len());
+    sheet[..places].copy_from_slice(&drive[..places]);
+    Ok(Answer {
+        places,
+        cost: found.cost as u64,
+        floor: floor.max(0) as u64,
+        trees: found.tried,
+        whole: found.whole,
+        parts: network.components.count as u64,
+        multipliers: u,
+    })
+}
+
+/// L(u).
+fn lower_bound<S: Steps>(steps: &S, network: &Network, u: &[i64; MOST_VERTICES]) -> i64 {
+    let entries = network.cheapest_entries(u);
+    let arborescence = steps.cheapest_arborescence(&entries, network.components.count);
+    steps.lagrangian_bound(network.required_cost, steps.price(u, &network.imbalance), arborescence)
+}
+
+/// Tries trees in order up to the budget, and looks whether there is one more.
+fn try_trees<S: Steps>(
+    steps: &S,
+    network: &Network,
+    balance: &Balance,
+    u: &[i64; MOST_VERTICES],
+    budget: u64,
+) -> Found {
+    let candidates = network.candidates(steps, u);
+    let fixed = network.required_cost;
+    let mut best = i64::MAX;
+    let mut links = Vec::new();
+    let mut tried = 0;
+    let mut trees = Trees::first(&candidates);
+    let mut units = Vec::with_capacity(MOST_PARTS);
+    while let Some(tree) = &mut trees {
+        if tried == budget {
+            return Found { links, cost: best, tried, whole: false };
+        }
+        // Weak duality: no balancing with the tree's links costs less than what the multipliers say.
+        let bound = fixed + balance.cost + tree.reduced_sum();
+        if steps.considers(tried) && !steps.is_hopeless(bound, best) {
+            units.clear();
+            units.extend(tree.links().map(|c| (network.place[c.from], network.place[c.to])));
+            let cost = fixed + tree.length_sum() + steps.balancing_with(balance, &units);
+            if cost < best {
+                best = cost;
+                links = tree.links().map(|c| (c.tail, c.head)).collect();
+            }
+        }
+        tried += 1;
+        if !tree.advance() {
+            trees = None;
+        }
+    }
+    Found { links, cost: best, tried, whole: true }
+}

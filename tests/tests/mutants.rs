@@ -1,0 +1,68 @@
+//! The test of the tests: every wrong planner is caught by the suite, by the properties that it violates; and every property of the suite
+//! catches some wrong planner.
+
+use postman_tests::instances::Shape;
+use postman_tests::mutants::{codecs, planners};
+use postman_tests::oracle::Effort;
+use postman_tests::properties::{Case, Findings, Property, PROPERTIES};
+use postman_tests::suite;
+
+const SEED: u64 = 50_000;
+
+/// The properties that were to be violated and were not.
+fn missed(violates: &[Property], found: &Findings) -> Vec<Property> {
+    violates.iter().copied().filter(|p| !found.violated.contains(p)).collect()
+}
+
+fn cases() -> Vec<Case> {
+    let mut cases = suite::random_cases(SEED, 500, Shape::small, &Effort::BRUTE_FORCE);
+    cases.extend(suite::random_cases(SEED, 40, Shape::large, &Effort::LIGHT));
+    cases
+}
+
+#[test]
+fn wrong_planners_are_caught() {
+    // A wrong planner may panic, and is caught for it; that need not be told each time.
+    std::panic::set_hook(Box::new(|_| {}));
+    let cases = cases();
+    let mut escaped = Vec::new();
+    for mutant in planners() {
+        let planner = &*mutant.wrong;
+        let mut found = Findings::default();
+        suite::run_stated(&mut found, planner);
+        if mutant.violates.iter().any(|p| [Property::Refusal, Property::SheetKept].contains(p)) {
+            suite::run_files(&mut found, planner, SEED, 1);
+        }
+        for case in &cases {
+            if missed(mutant.violates, &found).is_empty() {
+                break;
+            }
+            suite::run_case(&mut found, planner, case, 12);
+        }
+        println!("{}: {:?}", mutant.name, found.violated);
+        let missed = missed(mutant.violates, &found);
+        if !missed.is_empty() {
+            escaped.push((mutant.name, missed));
+        }
+    }
+    let _ = std::panic::take_hook();
+    assert!(escaped.is_empty(), "{escaped:?}");
+}
+
+#[test]
+fn wrong_readers_and_writers_are_caught() {
+    for mutant in codecs() {
+        let mut found = Findings::default();
+        suite::run_codec(&mut found, &*mutant.wrong, SEED, 1);
+        println!("{}: {:?}", mutant.name, found.violated);
+        assert_eq!(missed(mutant.violates, &found), [], "{}", mutant.name);
+    }
+}
+
+#[test]
+fn every_property_catches_some_mutant() {
+    let mut caught: Vec<Property> = planners().iter().flat_map(|m| m.violates.to_vec()).collect();
+    caught.extend(codecs().iter().flat_map(|m| m.violates.to_vec()));
+    let idle: Vec<Property> = PROPERTIES.into_iter().filter(|p| !caught.contains(p)).collect();
+    assert_eq!(idle, []);
+}

@@ -1,0 +1,139 @@
+//! The oracle is held to document 01's numbers, and its algorithms to plainer ones.
+
+use postman_tests::instances::{random_plan, Shape};
+use postman_tests::oracle::*;
+use postman_tests::plan::{Arc, Plan, CLOSED, MOST_VERTICES, OPTIONAL, REQUIRED, SHEET_PLACES};
+use postman_tests::random::Random;
+use postman_tests::suite::{case_a, case_b, case_c, FILE_A};
+
+const SEED: u64 = 70_000;
+
+/// The facts of small random plans that are not refused.
+fn some_facts(count: u64) -> impl Iterator<Item = Facts> {
+    (SEED..SEED + count).filter_map(|seed| {
+        let random = &mut Random::new(seed);
+        let shape = Shape::small(random);
+        let plan = random_plan(random, &shape);
+        let good = call_refusal(&file_of(&plan), 1, SHEET_PLACES) == 0;
+        good.then(|| Facts::of(&plan, &Effort::BRUTE_FORCE))
+    })
+}
+
+#[test]
+fn stated_numbers() {
+    let facts = |plan: &Plan| Facts::of(plan, &Effort::BRUTE_FORCE);
+    let a = facts(&case_a());
+    assert_eq!((a.tree_costs, a.tree_count, a.least_balancing, a.optimum), (vec![8], 1, 3, Some(8)));
+    assert_eq!(file_of(&case_a()), FILE_A);
+    assert_eq!(parse(&FILE_A), case_a());
+
+    let b = facts(&case_b());
+    assert_eq!((b.graph.parts, b.tree_count, b.tree_costs), (2, 1, vec![22]));
+    assert_eq!((b.least_balancing, b.bound_at_zero, b.optimum), (2, 12, Some(22)));
+
+    let c = facts(&case_c());
+    assert_eq!((c.graph.links.len(), c.tree_count, c.tree_costs), (4, 2, vec![14, 9]));
+    assert_eq!((c.bound_at_zero, c.optimum), (7, Some(9)));
+}
+
+#[test]
+fn files_read_back() {
+    for facts in some_facts(300) {
+        assert_eq!(parse(&file_of(&facts.graph.plan)), facts.graph.plan);
+    }
+    let longest = Plan { n: 64, arcs: vec![Arc::new(63, 63, CLOSED, 65_535); 256] };
+    assert_eq!(file_of(&longest).len(), 963);
+}
+
+#[test]
+fn trees_are_counted_alike() {
+    let mut complete = 0;
+    for facts in some_facts(1_500) {
+        let enumerated = first_trees(&facts.graph, 40_000, 40_000);
+        if enumerated.complete {
+            complete += 1;
+            assert_eq!(enumerated.trees.len() as u128, facts.tree_count, "{:?}", facts.graph.plan);
+        }
+    }
+    assert!(complete > 1_000);
+}
+
+/// The least cost of sending each vertex of a list to one of another, over all ways: by the sets of the second list that are taken.
+fn assignment_by_sets(graph: &Graph, from: &[usize], to: &[usize]) -> u64 {
+    let mut least = vec![u64::MAX; 1 << to.len()];
+    least[0] = 0;
+    for set in 0usize..1 << to.len() {
+        let placed = set.count_ones() as usize;
+        for j in (0..to.len()).filter(|j| set >> j & 1 == 0) {
+            let sum = least[set] + graph.d[from[placed]][to[j]];
+            least[set | 1 << j] = least[set | 1 << j].min(sum);
+        }
+    }
+    least[(1 << to.len()) - 1]
+}
+
+/// All heads to all tails, without first taking away what balances: the same cost.
+#[test]
+fn balancing_is_least() {
+    let mut tried = 0;
+    for facts in some_facts(600) {
+        let (graph, arcs) = (&facts.graph, &facts.graph.plan.arcs);
+        for tree in &first_trees(graph, 40_000, 3).trees {
+            let tails = graph.required_arcs.iter().map(|&k| usize::from(arcs[k].tail)).chain(tree.iter().map(|l| l.0));
+            let heads = graph.required_arcs.iter().map(|&k| usize::from(arcs[k].head)).chain(tree.iter().map(|l| l.1));
+            let (tails, heads): (Vec<usize>, Vec<usize>) = (tails.collect(), heads.collect());
+            if tails.len() <= 11 {
+                tried += 1;
+                assert_eq!(assignment(graph, tree).cost, assignment_by_sets(graph, &heads, &tails), "{:?}", graph.plan);
+            }
+        }
+    }
+    assert!(tried > 300);
+}
+
+/// A(u) against the list of trees, for any u, lawful or not.
+#[test]
+fn cheapest_tree_is_the_cheapest() {
+    let random = &mut Random::new(SEED);
+    for facts in some_facts(600) {
+        let u: [i64; MOST_VERTICES] = std::array::from_fn(|_| random.below(200) as i64 - 100);
+        let enumerated = first_trees(&facts.graph, 40_000, 40_000);
+        let sum = |tree: &Vec<(usize, usize)>| tree.iter().map(|&(i, j)| facts.graph.reduced(&u, i, j)).sum::<i64>();
+        if enumerated.complete {
+            assert_eq!(Some(cheapest_tree(&facts.graph, &u)), enumerated.trees.iter().map(sum).min());
+        }
+    }
+}
+
+/// Lawful multipliers are closed under taking the larger at each vertex, and whole; so a u is the greatest exactly when no set of vertices without the root
+/// can be raised by 1.
+#[test]
+fn greatest_multipliers_cannot_be_raised() {
+    let is_lawful = |facts: &Facts, u: &[i64]| {
+        let graph = &facts.graph;
+        let feasible = graph.required.iter().all(|&i| graph.required.iter().all(|&j| graph.reduced(u, i, j) >= 0));
+        feasible && graph.price(u) == facts.least_balancing as i64
+    };
+    for facts in some_facts(600) {
+        assert!(is_lawful(&facts, &facts.greatest));
+        let others = &facts.graph.required[1..];
+        for set in 1usize..1 << others.len() {
+            let mut raised = facts.greatest;
+            (0..others.len()).filter(|i| set >> i & 1 == 1).for_each(|i| raised[others[i]] += 1);
+            assert!(!is_lawful(&facts, &raised), "{:?}", facts.graph.plan);
+        }
+    }
+}
+
+#[test]
+fn judge_finds_every_fault() {
+    let arcs = [(0, 1, REQUIRED), (1, 0, OPTIONAL), (1, 2, REQUIRED), (2, 0, OPTIONAL), (0, 1, CLOSED)];
+    let plan = Plan { n: 3, arcs: arcs.iter().map(|&(t, h, s)| Arc::new(t, h, s, 10)).collect() };
+    assert_eq!(judge(&plan, &[0, 2, 3]), Ok(30));
+    assert_eq!(judge(&plan, &[0, 1, 0, 2, 3]), Ok(50));
+    assert_eq!(judge(&plan, &[3, 0, 2]), Ok(30));
+    let faults: [&[u16]; 7] = [&[], &[0, 1], &[4, 2, 3, 0, 1], &[0, 2], &[0, 3, 2], &[0, 2, 3, 5], &[2, 3]];
+    for drive in faults {
+        assert!(judge(&plan, drive).is_err(), "{drive:?}");
+    }
+}
