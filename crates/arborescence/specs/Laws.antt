@@ -1,0 +1,14 @@
+-- What is proved about the definitions.
+pub mod Lists
+pub mod Reach
+pub mod Completion
+pub mod Order
+pub mod Candidates
+pub mod Iterates
+pub mod Edmonds
+pub mod Circle
+pub mod Pairs
+pub mod Layout
+pub mod Picture
+pub mod Solve
+pub mod PairCosts

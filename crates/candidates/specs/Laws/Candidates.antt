@@ -1,0 +1,59 @@
+-- The plan's candidates are the links at the places: links, and candidates among them, are selected from the pairs of required vertices, these from all pairs, and
+-- the pairs in order are those of the places in order.
+use mathlib.Core.Path.{_≡_, refl, sym, ap, ap₂, _∙_}
+use mathlib.Core.Bool.{Bool, false, not, _&&_}
+use mathlib.Core.List.{List, map}
+use Prim.Native.Nat.{ℕ, _+_, _*_, _/_, _%_, _<_}
+use native.Mathlib.Omega.{arith}
+use lib.ListN.{getD}
+use lib.Dec.{eqb}
+use Rattle.postman.specs.Lists.{select, below}
+use Rattle.postman.specs.Plan.{Plan, WellFormed}
+use Rattle.postman.specs.Required.{isRequired}
+use Rattle.postman.specs.Link.{Link, pairs, isLink, links}
+use Rattle.postman.specs.Component.{component}
+use Rattle.postman.specs.Arborescence.{candidates}
+use Rattle.postman.specs.Laws.Membership.{below-mem}
+use Rattle.postman.specs.Laws.Link.{link}
+use Rattle.network.specs.Contracts.{IsLinks, IsComponents}
+use Rattle.network.specs.LinkPair.{isLinkPair}
+use Rattle.network.specs.Laws.Selection.{select-select}
+use Rattle.arborescence.specs.Laws.Lists.{select-map}
+use Rattle.candidates.specs.Places.{linkOf, isCandidate, placesOf}
+use Rattle.candidates.specs.Laws.Rows.{pairs-are, bothPass, pairs-select}
+use Rattle.candidates.specs.Laws.Vertices.{required-of-64}
+
+module _ (p : Plan) (ok : WellFormed p) where
+  abbrev crosses : ℕ → Link → Bool
+  crosses q l = eqb (component p (l .head)) q && not (eqb (component p (l .tail)) q)
+
+  abbrev isPair : Link → Bool
+  isPair l = bothPass (isRequired p) l && isLink p l
+
+  from-pairs : (q : ℕ) → candidates p q ≡ select (λ l. isPair l && crosses q l) (pairs (below 64))
+  unfolding candidates links
+  from-pairs q =
+      ap (λ (vs : List ℕ). select (crosses q) (select (isLink p) (pairs vs))) (sym (required-of-64 p ok))
+      ∙ ap (λ (ls : List Link). select (crosses q) (select (isLink p) ls)) (pairs-select (isRequired p) (below 64))
+      ∙ ap (select (crosses q)) (select-select (isLink p) (bothPass (isRequired p)) (pairs (below 64)))
+      ∙ select-select (crosses q) isPair (pairs (below 64))
+
+  is-pair : (i j : ℕ) → isPair (link i j) ≡ isLinkPair p i j
+  unfolding isLinkPair
+  is-pair i j = refl
+
+  module _ (flags : List Bool) (of : List ℕ) (count : ℕ) (are : IsLinks p flags) (known : IsComponents p of count) where
+    at-place : (q x : ℕ) → x < 4096 → (isPair (linkOf x) && crosses q (linkOf x)) ≡ isCandidate flags of q x
+    at-place q x l =
+        let i : x / 64 < 64 = omega arith in
+        let j : x % 64 < 64 = omega arith in
+        let e : x / 64 * 64 + x % 64 ≡ x = omega arith in
+        ap₂ _&&_ (is-pair (x / 64) (x % 64) ∙ sym (are (x / 64) (x % 64) i j) ∙ ap (λ y. getD flags y false) e)
+        (ap₂ (λ h t. eqb h q && not (eqb t q)) (sym (known .each (x % 64) j)) (sym (known .each (x / 64) i)))
+
+    pub candidates-are : (q : ℕ) → candidates p q ≡ map linkOf (placesOf flags of q)
+    unfolding placesOf
+    candidates-are q =
+        from-pairs q
+        ∙ ap (select (λ l. isPair l && crosses q l)) pairs-are
+        ∙ select-map (λ l. isPair l && crosses q l) (isCandidate flags of q) linkOf (below 4096) (λ x m. at-place q x (below-mem m))
