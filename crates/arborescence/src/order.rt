@@ -1,6 +1,5 @@
 // Arborescences in document 01's order, one after the other. A choice holds, at place q, the number of the candidate that component q takes.
 use crate::reach;
-
 ghost use mathlib.Core.Path.{_≡_};
 ghost use mathlib.Core.Bool.{true};
 ghost use Prim.Native.Nat.{ℕ, suc, _+_, _-_, _^_, _<_, _≤_};
@@ -66,7 +65,15 @@ pub fn source_sets(start: &[usize; 9], source: &[u8; 4096], k: usize) -> [u64; 8
 }
 
 // Where component q may be entered from, where the components below n have their choice.
-fn entry_set(start: &[usize; 9], source: &[u8; 4096], sets: &[u64; 8], k: usize, choice: [usize; 8], n: usize, q: usize) -> u64
+fn entry_set(
+    start: &[usize; 9],
+    source: &[u8; 4096],
+    sets: &[u64; 8],
+    k: usize,
+    choice: [usize; 8],
+    n: usize,
+    q: usize,
+) -> u64
     requires { ⌜ IsLayout k (now start) (now source) × AreSourceSets (laidOut k (now start) (now source)) (now sets) × HasChosen (laidOut k (now start) (now source)) n choice × (n ≤ 8) × (1 ≤ q) × (q < k) ⌝ }
     ensures { λ r. ⌜ r ≡ entrySet (laidOut k (now (start .entry)) (now (source .entry))) (take n choice) q ⌝ }
 {
@@ -76,7 +83,14 @@ fn entry_set(start: &[usize; 9], source: &[u8; 4096], sets: &[u64; 8], k: usize,
     sets[q]
 }
 
-fn entry_sets(start: &[usize; 9], source: &[u8; 4096], sets: &[u64; 8], k: usize, choice: [usize; 8], n: usize) -> [u64; 8]
+fn entry_sets(
+    start: &[usize; 9],
+    source: &[u8; 4096],
+    sets: &[u64; 8],
+    k: usize,
+    choice: [usize; 8],
+    n: usize,
+) -> [u64; 8]
     requires { ⌜ IsLayout k (now start) (now source) × AreSourceSets (laidOut k (now start) (now source)) (now sets) × HasChosen (laidOut k (now start) (now source)) n choice × (n ≤ 8) ⌝ }
     ensures { λ r. ⌜ ((q : ℕ) → 1 ≤ q → q < k → getD r q 0 ≡ entrySet (laidOut k (now (start .entry)) (now (source .entry))) (take n choice) q) ⌝ }
 {
@@ -88,7 +102,14 @@ fn entry_sets(start: &[usize; 9], source: &[u8; 4096], sets: &[u64; 8], k: usize
 }
 
 // Whether the choice whose entry sets are e can be completed once component q takes its candidate i.
-fn completes(start: &[usize; 9], source: &[u8; 4096], k: usize, e: [u64; 8], q: usize, i: usize) -> bool
+fn completes(
+    start: &[usize; 9],
+    source: &[u8; 4096],
+    k: usize,
+    e: [u64; 8],
+    q: usize,
+    i: usize,
+) -> bool
     requires { ⌜ IsLayout k (now start) (now source) × (1 ≤ q) × (q < k) × (i < laidOut k (now start) (now source) .count q) ⌝ }
     ensures { λ r. ⌜ r ≡ reachesAll (λ x. getD (set e q (2 ^ laidOut k (now (start .entry)) (now (source .entry)) .source q i)) x 0) k ⌝ }
 {
@@ -99,7 +120,15 @@ fn completes(start: &[usize; 9], source: &[u8; 4096], k: usize, e: [u64; 8], q: 
 
 // The first candidate of component q, from number `from` on, with which the choice for the components below q can be completed; their number where there is
 // none.
-fn find(start: &[usize; 9], source: &[u8; 4096], sets: &[u64; 8], k: usize, choice: [usize; 8], q: usize, from: usize) -> usize
+fn find(
+    start: &[usize; 9],
+    source: &[u8; 4096],
+    sets: &[u64; 8],
+    k: usize,
+    choice: [usize; 8],
+    q: usize,
+    from: usize,
+) -> usize
     requires { ⌜ IsLayout k (now start) (now source) × AreSourceSets (laidOut k (now start) (now source)) (now sets) × HasChosen (laidOut k (now start) (now source)) q choice × (1 ≤ q) × (q < k) × (from ≤ laidOut k (now start) (now source) .count q) ⌝ }
     ensures { λ r. ⌜ r ≡ «found-from» (laidOut k (now (start .entry)) (now (source .entry))) (take q choice) from ⌝ }
 {
@@ -116,7 +145,14 @@ fn find(start: &[usize; 9], source: &[u8; 4096], sets: &[u64; 8], k: usize, choi
 }
 
 // A choice for the components below n that can be completed, completed: each further component takes its first candidate that leaves it so.
-fn fill(start: &[usize; 9], source: &[u8; 4096], sets: &[u64; 8], k: usize, choice: [usize; 8], n: usize) -> [usize; 8]
+fn fill(
+    start: &[usize; 9],
+    source: &[u8; 4096],
+    sets: &[u64; 8],
+    k: usize,
+    choice: [usize; 8],
+    n: usize,
+) -> [usize; 8]
     requires { ⌜ IsLayout k (now start) (now source) × AreSourceSets (laidOut k (now start) (now source)) (now sets) × HasChosen (laidOut k (now start) (now source)) n choice × (1 ≤ n) × (n ≤ k) × T (completable (laidOut k (now start) (now source)) (take n choice)) ⌝ }
     ensures { λ r. ⌜ take k r ≡ «filled-up» (laidOut k (now (start .entry)) (now (source .entry))) (k - n) (take n choice) ⌝ }
     ensures { λ r. ⌜ HasChosen (laidOut k (now (start .entry)) (now (source .entry))) k r ⌝ }
@@ -149,7 +185,13 @@ pub fn first(start: &[usize; 9], source: &[u8; 4096], sets: &[u64; 8], k: usize)
 }
 
 // The arborescence after a given one, where there is one.
-pub fn next(start: &[usize; 9], source: &[u8; 4096], sets: &[u64; 8], k: usize, choice: [usize; 8]) -> Step
+pub fn next(
+    start: &[usize; 9],
+    source: &[u8; 4096],
+    sets: &[u64; 8],
+    k: usize,
+    choice: [usize; 8],
+) -> Step
     requires { ⌜ IsLayout k (now start) (now source) × AreSourceSets (laidOut k (now start) (now source)) (now sets) × HasChosen (laidOut k (now start) (now source)) k choice ⌝ }
     ensures { λ r. ⌜ stepOf k (r .found) (r .choice) ≡ nextChoice (laidOut k (now (start .entry)) (now (source .entry))) (take k choice) ⌝ }
     ensures { λ r. ⌜ (r .found ≡ true → HasChosen (laidOut k (now (start .entry)) (now (source .entry))) k (r .choice)) ⌝ }

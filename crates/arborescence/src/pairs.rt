@@ -1,6 +1,5 @@
 // A(u): the least reduced cost of a pair for each two components, and the cheapest arborescence over these.
 use crate::cheapest;
-
 ghost use mathlib.Core.Path.{_≡_};
 ghost use mathlib.Core.Bool.{true, false};
 ghost use mathlib.Core.List.{[]};
@@ -74,7 +73,12 @@ fn lesser(a: i64, b: i64) -> i64
 }
 
 // The least reduced cost for each two components.
-fn pair_costs(d: &[[u32; 64]; 64], u: &[i64; 64], component: &[u8; 64], required: &[bool; 64]) -> [i64; 64]
+fn pair_costs(
+    d: &[[u32; 64]; 64],
+    u: &[i64; 64],
+    component: &[u8; 64],
+    required: &[bool; 64],
+) -> [i64; 64]
     requires { ⌜ AreCosts (now d) (now u) (now component) (now required) ⌝ }
     ensures { λ r. ⌜ AreLeastOffers (now (d .entry)) (now (u .entry)) (now (component .entry)) (now (required .entry)) 4096 r ⌝ }
 {
@@ -98,7 +102,13 @@ fn all_left(k: usize) -> [bool; 8]
 }
 
 // A(u), the least sum of reduced costs over all arborescences of links, for multipliers u under which no pair of required vertices has a negative reduced cost.
-pub fn cheapest_arborescence(d: &[[u32; 64]; 64], u: &[i64; 64], component: &[u8; 64], required: &[bool; 64], k: usize) -> i64
+pub fn cheapest_arborescence(
+    d: &[[u32; 64]; 64],
+    u: &[i64; 64],
+    component: &[u8; 64],
+    required: &[bool; 64],
+    k: usize,
+) -> i64
     requires { ⌜ (1 ≤ k) × (k ≤ 8) × AreCosts (now d) (now u) (now component) (now required) ⌝ }
     ensures { λ r. ⌜ ((p : Plan) → WellFormed p → IsNetwork p (now (d .entry)) (now (component .entry)) (now (required .entry)) k → Feasible p (multipliersOf (now (u .entry))) → r ≡ cheapestArborescence p (multipliersOf (now (u .entry)))) ⌝ }
 {

@@ -78,7 +78,16 @@ fn length_of(d: u32, ui: u64, uj: u64, back: u16) -> u64
 }
 
 // Every vertex may go by w, which is `base` away from the target.
-fn relax_by(d: &[[u32; 64]; 64], f: &[u16; 4096], u: &[u64; 64], vs: &[u8], w: usize, base: u64, x: &mut [u64; 64], next: &mut [u8; 64])
+fn relax_by(
+    d: &[[u32; 64]; 64],
+    f: &[u16; 4096],
+    u: &[u64; 64],
+    vs: &[u8],
+    w: usize,
+    base: u64,
+    x: &mut [u64; 64],
+    next: &mut [u8; 64],
+)
     requires { ⌜ (w < 64) × (base ≤ beyond) × AtMost beyond (now u) × AtMost 63 (now vs) ⌝ }
     ensures { λ r. ⌜ (now (x .exit) ≡ relax (residualLength (cell (now (d .entry))) (now (f .entry)) (now (u .entry))) (now (vs .entry)) w base (now (x .entry), now (next .entry)) .0) × (now (next .exit) ≡ relax (residualLength (cell (now (d .entry))) (now (f .entry)) (now (u .entry))) (now (vs .entry)) w base (now (x .entry), now (next .entry)) .1) ⌝ }
 {
@@ -137,7 +146,15 @@ fn finished(whole: bool, rank: u8) -> bool
 }
 
 // The search towards t, until the goal is settled or all vertices are.
-fn search_towards<'a>(d: &[[u32; 64]; 64], f: &'a [u16; 4096], u: &'a [u64; 64], vs: &[u8], t: u8, goal: u8, whole: bool) -> Found
+fn search_towards<'a>(
+    d: &[[u32; 64]; 64],
+    f: &'a [u16; 4096],
+    u: &'a [u64; 64],
+    vs: &[u8],
+    t: u8,
+    goal: u8,
+    whole: bool,
+) -> Found
     requires { ⌜ (t < 64) × (goal < 64) × AtMost beyond (now u) × AtMost 63 (now vs) × (length (now vs) ≤ 64) ⌝ }
     ensures { λ r. ⌜ foundOf r ≡ search (residualLength (cell (now (d .entry))) (now (f .entry)) (now (u .entry))) (now (vs .entry)) t whole goal ⌝ }
 {
@@ -151,7 +168,11 @@ fn search_towards<'a>(d: &[[u32; 64]; 64], f: &'a [u16; 4096], u: &'a [u64; 64],
     let mut k: usize = 1;
     while k < vs.len() {
         if finished(whole, rank[end]) {
-            return Found { distance: x, next: next, rank: rank };
+            return Found {
+                distance: x,
+                next: next,
+                rank: rank,
+            };
         }
         let w = wide(nearest_open(&x, &rank, vs, t));
         let base = level(&x, w);
@@ -159,7 +180,11 @@ fn search_towards<'a>(d: &[[u32; 64]; 64], f: &'a [u16; 4096], u: &'a [u64; 64],
         k += 1;
         rank[w] = k as u8;
     }
-    Found { distance: x, next: next, rank: rank }
+    Found {
+        distance: x,
+        next: next,
+        rank: rank,
+    }
 }
 
 // Where a unit more from v to w is counted.
@@ -236,7 +261,12 @@ pub struct Balance {
 pub fn empty() -> Balance
     ensures { λ r. ⌜ stateOf r ≡ emptyState ⌝ }
 {
-    Balance { amounts: [0; 4096], potentials: [0; 64], cost: 0, count: 0 }
+    Balance {
+        amounts: [0; 4096],
+        potentials: [0; 64],
+        cost: 0,
+        count: 0,
+    }
 }
 
 // One arc more.
@@ -255,7 +285,12 @@ pub fn add(s: Balance, d: &[[u32; 64]; 64], vs: &[u8], tail: u8, head: u8) -> Ba
     let f = augment_along(before, &next, head, tail);
     let sum = s.cost + u[h];
     let cost = monus(sum, u[t]);
-    Balance { amounts: f, potentials: u, cost: cost, count: s.count + 1 }
+    Balance {
+        amounts: f,
+        potentials: u,
+        cost: cost,
+        count: s.count + 1,
+    }
 }
 
 // a less b.

@@ -1,6 +1,6 @@
 // One closed walk through the legs of a tour.
-use plan::{Arc, Plan};
-
+use plan::Arc;
+use plan::Plan;
 ghost use mathlib.Core.Path.{_≡_};
 ghost use Prim.Native.Nat.{ℕ, _+_, _<_, _≤_};
 ghost use mathlib.Core.Bool.{cond, _&&_};
@@ -75,11 +75,17 @@ fn advance(
     if e < tails.len() {
         order[depth] = e as u16;
         used[e] = 1;
-        return Progress { depth: depth + 1, start };
+        return Progress {
+            depth: depth + 1,
+            start,
+        };
     }
     let at = start - 1;
     order[at] = k;
-    Progress { depth: top, start: at }
+    Progress {
+        depth: top,
+        start: at,
+    }
 }
 
 // The legs' numbers in the order of the circuit.
@@ -156,7 +162,7 @@ fn counted(a: Arc) -> usize
 }
 
 // The required arcs: their numbers, tails and heads, in file order, and how many there are.
-fn gather(
+pub fn gather(
     plan: Plan,
     numbers: &mut [u16; 256],
     tails: &mut [u8; 526],
@@ -259,7 +265,16 @@ fn write(
     let mut at: usize = 0;
     let mut x: usize = 0;
     while x < order.len() {
-        at = write_leg(plan, table, numbers, tails, heads, wide(order[x]), places, at);
+        at = write_leg(
+            plan,
+            table,
+            numbers,
+            tails,
+            heads,
+            wide(order[x]),
+            places,
+            at,
+        );
         x += 1;
     }
     at
@@ -305,7 +320,15 @@ pub fn write_tour(
     let mut tails = [0u8; 526];
     let mut heads = [0u8; 526];
     let mut order = [0u16; 526];
-    let counts = lay(plan, link_tails, link_heads, amounts, &mut numbers, &mut tails, &mut heads);
+    let counts = lay(
+        plan,
+        link_tails,
+        link_heads,
+        amounts,
+        &mut numbers,
+        &mut tails,
+        &mut heads,
+    );
     let c = counts.required;
     let n = counts.legs;
     write_circuit(

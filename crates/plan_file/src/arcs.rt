@@ -11,10 +11,11 @@ ghost use Rattle.postman.specs.PlanFile.{arcOf, arcConditions, isOutside};
 ghost use Rattle.plan_file.specs.Verdicts.{verdictNumber, orElse};
 ghost use Rattle.plan.specs.Standings.{standingOf, isRefusedStanding};
 ghost use Rattle.plan.specs.Records.{arcValue};
-use plan::{Arc, Standing};
 use crate::Refusal;
 use crate::Verdict;
 use crate::bits::field;
+use plan::Arc;
+use plan::Standing;
 
 // On the file's field of two bits.
 pub fn field_standing(f: u32) -> Standing

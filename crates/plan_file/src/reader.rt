@@ -11,14 +11,14 @@ ghost use Rattle.postman.specs.PlanFile.{arcOf, arcConditions, fileBits, fileLe
 ghost use Rattle.plan_file.specs.Verdicts.{verdictNumber};
 ghost use Rattle.plan.specs.Records.{recordOf, recordsOf, planRecord, noPlan};
 ghost use Rattle.plan_file.specs.Reading.{bodyConditions, IsReading};
-use plan::Arc;
-use plan::Plan;
 use crate::Reading;
 use crate::Refusal;
 use crate::Verdict;
 use crate::arcs::field_verdict;
 use crate::arcs::is_outside;
 use crate::bits::field;
+use plan::Arc;
+use plan::Plan;
 
 // The bytes of a file of m arcs.
 pub(crate) fn file_length(m: usize) -> usize

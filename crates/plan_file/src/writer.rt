@@ -9,8 +9,6 @@ ghost use Rattle.postman.specs.PlanFile.{arcConditions, fileLength, fileOf, wri
 ghost use Rattle.plan_file.specs.Verdicts.{verdictNumber, writtenAnswer};
 ghost use Rattle.plan.specs.Records.{arcValue, recordAt, planValue};
 ghost use Rattle.plan_file.specs.PlanUpdate.{putHeader, putArc, putArcs};
-use plan::Arc;
-use plan::Plan;
 use crate::Refusal;
 use crate::Verdict;
 use crate::Written;
@@ -18,6 +16,8 @@ use crate::arcs::is_outside;
 use crate::arcs::record_verdict;
 use crate::bits::put_field;
 use crate::reader::file_length;
+use plan::Arc;
+use plan::Plan;
 
 // The first refusal of the first m records, record by record.
 fn records_verdict(n: u8, m: usize, arcs: [Arc; 256]) -> Verdict

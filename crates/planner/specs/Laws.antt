@@ -1,2 +1,4 @@
 -- What is proved about the definitions.
 pub mod Tour
+pub mod Lay
+pub mod Bound

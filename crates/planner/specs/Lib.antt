@@ -1,5 +1,7 @@
 pub mod Refusals
 pub mod Tour
+pub mod Prepared
+pub mod Priced
 pub mod Contract
 -- What is proved about them.
 pub mod Laws

@@ -1,4 +1,8 @@
 // The plan call.
+pub mod bound; // L(u)
+pub mod lay; // the drive of a tree
+pub mod prepare; // the state of the required arcs
+
 ghost use mathlib.Core.Path.{_≡_};
 ghost use Rattle.planner.specs.Refusals.{refusalNumber};
 

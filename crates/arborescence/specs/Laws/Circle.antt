@@ -83,10 +83,12 @@ module _ (vs : List ℕ) (entry : ℕ → ℕ) (others : AreOthers vs) (root : e
           let b = round .2 in
           let l = r .1 in
           let l′ = s .1 in
-          let e : r .0 + (k - r .0) ≡ k = omega arith in
-          (k - r .0 + s .0, omega arith,
-          ap (iterate (k - r .0 + s .0) entry) (r .2) ∙ iterate-add (k - r .0) (s .0) entry (iterate (r .0) entry y)
-          ∙ ap (iterate (s .0) entry) (sym (iterate-add (r .0) (k - r .0) entry y) ∙ ap (λ i. iterate i entry y) e ∙ round .3) ∙ sym (s .2)));
+          let e : r .0 + (k - r .0) ≡ k = omega arith in (
+            k - r .0 + s .0,
+            omega arith,
+            ap (iterate (k - r .0 + s .0) entry) (r .2) ∙ iterate-add (k - r .0) (s .0) entry (iterate (r .0) entry y)
+                ∙ ap (iterate (s .0) entry) (sym (iterate-add (r .0) (k - r .0) entry y) ∙ ap (λ i. iterate i entry y) e ∙ round .3) ∙ sym (s .2),
+          ));
     }
 
 -- what a test drops makes the list shorter

@@ -106,10 +106,13 @@ module _ (f : ℕ → ℕ) where
       let a = r .2 in
       let b = r .3 in
       let e : i + (n - i) ≡ n = omega arith in
-      let g : j + (n - i) ≡ n + (j - i) = omega arith in
-      (j - i, omega arith, omega arith,
-      sym (iterate-add n (j - i) f x) ∙ ap (λ z. iterate z f x) (sym g) ∙ iterate-add j (n - i) f x ∙ ap (iterate (n - i) f) (sym (r .4))
-      ∙ sym (iterate-add i (n - i) f x) ∙ ap (λ z. iterate z f x) e)
+      let g : j + (n - i) ≡ n + (j - i) = omega arith in (
+        j - i,
+        omega arith,
+        omega arith,
+        sym (iterate-add n (j - i) f x) ∙ ap (λ z. iterate z f x) (sym g) ∙ iterate-add j (n - i) f x ∙ ap (iterate (n - i) f) (sym (r .4))
+            ∙ sym (iterate-add i (n - i) f x) ∙ ap (λ z. iterate z f x) e,
+      )
 
   -- round a circle of m steps, what is reached at all is reached in fewer than m
   pub reduce : (m y : ℕ) → 1 ≤ m → iterate m f y ≡ y → (i : ℕ) → (j : ℕ) × (j < m) × (iterate i f y ≡ iterate j f y)

@@ -95,10 +95,12 @@ module _ (c : Sources) (choice : List ℕ) where
       }
 
   pub chosen-more : (n i : ℕ) → n < length choice → HasChosen c n choice → i < c .count n → HasChosen c (n + 1) (set choice n i)
-  chosen-more n i l h b = record { each = λ q a d. elim (ℕ-discrete q n) [
-    | yes e ↦ subst⁻¹ (λ x. getD (set choice n i) x 0 < c .count x) e (subst⁻¹ (λ x. x < c .count n) (getD-set-same choice n i 0 l) b)
-    | no o ↦ subst⁻¹ (λ x. x < c .count q) (getD-set-other choice n q i 0 o) (h .each q a (omega arith))
-  ] }
+  chosen-more n i l h b = record {
+    each = λ q a d. elim (ℕ-discrete q n) [
+      | yes e ↦ subst⁻¹ (λ x. getD (set choice n i) x 0 < c .count x) e (subst⁻¹ (λ x. x < c .count n) (getD-set-same choice n i 0 l) b)
+      | no o ↦ subst⁻¹ (λ x. x < c .count q) (getD-set-other choice n q i 0 o) (h .each q a (omega arith))
+    ];
+  }
 
   pub chosen-fewer : (n m : ℕ) → m ≤ n → HasChosen c n choice → HasChosen c m choice
   chosen-fewer n m l h = record { each = λ q a d. h .each q a (omega arith) }

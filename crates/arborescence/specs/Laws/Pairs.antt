@@ -181,15 +181,17 @@ module _ (p : Plan) where
       unfolding reducedCost
       leg-at q m =
           let r = is .attained (up q) q (all-lt some (t .inside q m)) (others-lt m .1) (parent-other t q m) in
-          let s = chain p ok (r .0) (r .1) (r .2 .tail) (r .2 .head) in
-          (s .0, record {
-            tail = r .0;
-            head = r .1;
-            chained = s .1;
-            from = r .2 .from;
-            to = r .2 .to;
-            cost = chain-reduced (r .0) (r .1) (s .0) (s .1) ∙ ap (λ (n : ℕ). pos n -ℤ u (r .0) +ℤ u (r .1)) (s .2) ∙ sym (r .3);
-          })
+          let s = chain p ok (r .0) (r .1) (r .2 .tail) (r .2 .head) in (
+            s .0,
+            record {
+              tail = r .0;
+              head = r .1;
+              chained = s .1;
+              from = r .2 .from;
+              to = r .2 .to;
+              cost = chain-reduced (r .0) (r .1) (s .0) (s .1) ∙ ap (λ (n : ℕ). pos n -ℤ u (r .0) +ℤ u (r .1)) (s .2) ∙ sym (r .3);
+            },
+          )
 
       leg : (q : ℕ) → (ls : List Link) × (List·Memᴰ q vs → IsLeg q ls)
       leg q = elim (mem? q vs) [

@@ -145,10 +145,12 @@ marked-more e y i on x l s h = record {
 
 pub shrunk-more : (v : List ℤ) (on : List Bool) (c i : ℕ) (m : List ℤ) (r : ℕ) (a : ℤ) → i < length m → IsShrunk v on c i m → IsPlace v on c (i / 8) (i % 8) r → a ≡ getD v r (pos 0)
     → IsShrunk v on c (i + 1) (set m i a)
-shrunk-more v on c i m r a l h k e = record { each = λ j b. elim (ℕ-discrete j i) [
-  | yes s ↦ subst⁻¹ (λ u. (r : ℕ) × IsPlace v on c (u / 8) (u % 8) r × (getD (set m i a) u (pos 0) ≡ getD v r (pos 0))) s (r, k, getD-set-same m i a (pos 0) l ∙ e)
-  | no o ↦ let q = h .each j (omega arith) in (q .0, q .1, getD-set-other m i j a (pos 0) o ∙ q .2)
-] }
+shrunk-more v on c i m r a l h k e = record {
+  each = λ j b. elim (ℕ-discrete j i) [
+    | yes s ↦ subst⁻¹ (λ u. (r : ℕ) × IsPlace v on c (u / 8) (u % 8) r × (getD (set m i a) u (pos 0) ≡ getD v r (pos 0))) s (r, k, getD-set-same m i a (pos 0) l ∙ e)
+    | no o ↦ let q = h .each j (omega arith) in (q .0, q .1, getD-set-other m i j a (pos 0) o ∙ q .2)
+  ];
+}
 
 pub marked-start : (e : List ℕ) (y : ℕ) (on : List Bool) → IsMarked e y 8 on → getD on y false ≡ true
 unfolding iterate

@@ -148,12 +148,15 @@ module _ (g : ℕ → ℕ) where
     grown-enter : (f′ : ℕ → ℕ) × Grown (enter (g i) i s) f′
     unfolding enter
     grown-enter = elim (has? s i) [
-      | inl h ↦ (f, record {
+      | inl h ↦ (
+        f,
+        record {
           root = b .root;
           source = λ x k. b .source x (no-new h x k);
           inside = λ x k. enter-keeps (g i) i s (f x) (b .inside x (no-new h x k));
           back = λ x k. b .back x (no-new h x k);
-        })
+        },
+      )
       | inr o ↦ elim (ℕ-discrete (bitAnd s (g i)) 0) [
         | yes e ↦ (f, subst⁻¹ (λ z. Grown z f) (cond-ind (eqb (bitAnd s (g i)) 0) s (bitOr s (2 ^ i)) (λ z. z ≡ s) (λ t. refl) (λ t. absurd (eqb-other t e))) b)
         | no e ↦ let r = meet s (g i) e in (update f i (r .0), with-source (r .0) o (r .1) (r .2))
@@ -167,12 +170,15 @@ module _ (g : ℕ → ℕ) where
 
   pub grown-sweeps : (n r : ℕ) → (f : ℕ → ℕ) × Grown (sweeps g n r) f
   unfolding sweeps iterate
-  grown-sweeps n zero = ((λ x. 0), record {
-    root = refl;
-    source = λ x h n. absurd (n (single-has 0 x h));
-    inside = λ x h. has-single 0;
-    back = λ x h. (1, refl);
-  })
+  grown-sweeps n zero = (
+    (λ x. 0),
+    record {
+      root = refl;
+      source = λ x h n. absurd (n (single-has 0 x h));
+      inside = λ x h. has-single 0;
+      back = λ x h. (1, refl);
+    },
+  )
   grown-sweeps n (suc r) = let b = grown-sweeps n r in grown-sweep n (sweeps g n r) (b .0) (b .1)
 
   -- ---- both ways
@@ -189,13 +195,15 @@ module _ (g : ℕ → ℕ) where
   reached-arrives k l t =
       let e = eqb→eq (sweeps g (k - 1) k) (2 ^ k - 1) t in
       let r = grown-sweeps (k - 1) k in
-      let all : (x : ℕ) → x < k → Has (sweeps g (k - 1) k) x = λ x h. subst⁻¹ (λ s. Has s x) e (has-all k x h) in
-      (r .0, record {
-        root = r .1 .root;
-        inside = λ q h. has-lt k (sweeps g (k - 1) k) (r .0 q) (sweeps-lt k (k - 1) k (omega arith)) (r .1 .inside q (all q h));
-        source = λ q h h′. r .1 .source q (all q h′) (λ z. (omega arith));
-        back = λ q h. r .1 .back q (all q h);
-      })
+      let all : (x : ℕ) → x < k → Has (sweeps g (k - 1) k) x = λ x h. subst⁻¹ (λ s. Has s x) e (has-all k x h) in (
+        r .0,
+        record {
+          root = r .1 .root;
+          inside = λ q h. has-lt k (sweeps g (k - 1) k) (r .0 q) (sweeps-lt k (k - 1) k (omega arith)) (r .1 .inside q (all q h));
+          source = λ q h h′. r .1 .source q (all q h′) (λ z. (omega arith));
+          back = λ q h. r .1 .back q (all q h);
+        },
+      )
 
   pub arrives-reaches : (k : ℕ) → 1 ≤ k → (f : ℕ → ℕ) → Arrives k f → ((q : ℕ) → q < k → iterate k f q ≡ 0) → T (reachesAll g k)
   unfolding reachesAll

@@ -148,14 +148,16 @@ module _ (w : List ℤ) (left : List Bool) (p : IsPicture w left) where
           subst⁻¹ (λ (x : ℤ). (pos 0 ≤ℤ x) × (x ≤ℤ pos highest)) (reduced i l) (less-within (getD w i (pos 0)) (payOf w left e (i % 8)) (p .low i l) (p .high i l) (a .0))
 
       is-reduced : IsReduced (othersIn left) (matrixOf w) (entryOf e) (matrixOf v)
-      is-reduced = record { reduced = λ s q m n o. (
-        let a = all-in left (p .root) m .0 in
-        let r = others-in left n in
-        let l = r .1 in
-        let x : (s * 8 + q) % 8 ≡ q = omega arith in
-        let y : payOf w left e q ≡ matrixOf w (entryOf e q) q = ap (λ b. cond b (getD w (getD e q 0 * 8 + q) (pos 0)) (pos 0)) (r .2) in
-        reduced (s * 8 + q) (omega arith) ∙ ap (less (getD w (s * 8 + q) (pos 0))) (ap (payOf w left e) x ∙ y)
-        ∙ less-exact (matrixOf w s q) (matrixOf w (entryOf e q) q) (are-entries .cheapest s q m n o)) }
+      is-reduced = record {
+        reduced = λ s q m n o. (
+            let a = all-in left (p .root) m .0 in
+            let r = others-in left n in
+            let l = r .1 in
+            let x : (s * 8 + q) % 8 ≡ q = omega arith in
+            let y : payOf w left e q ≡ matrixOf w (entryOf e q) q = ap (λ b. cond b (getD w (getD e q 0 * 8 + q) (pos 0)) (pos 0)) (r .2) in
+            reduced (s * 8 + q) (omega arith) ∙ ap (less (getD w (s * 8 + q) (pos 0))) (ap (payOf w left e) x ∙ y)
+            ∙ less-exact (matrixOf w s q) (matrixOf w (entryOf e q) q) (are-entries .cheapest s q m n o));
+      }
 
       free : (q : ℕ) → List·Memᴰ q (othersIn left) → matrixOf v (entryOf e q) q ≡ pos 0
       free q m = is-reduced .reduced (entryOf e q) q (are-entries .inside q m) m (are-entries .other q m) ∙ simp zl (omega arith)
@@ -177,9 +179,10 @@ module _ (w : List ℤ) (left : List Bool) (p : IsPicture w left) where
             let r = at-x in
             let n = others-few left in
             let o : iterate 8 (entryOf e) (r .0) ≢ 0 = λ s. found (r .2 ∙ s) in
-            subst⁻¹ (λ y. IsCircle (othersIn left) (entryOf e) (orbit (entryOf e) 8 y) 16 × List·Memᴰ y (orbit (entryOf e) 8 y)) (r .2)
-            (is-circle (othersIn left) (entryOf e) (others-are left) (h .root) (are-entries .inside) 8 (r .0) (omega arith) (r .1) o,
-            start-mem (othersIn left) (entryOf e) (others-are left) (h .root) (are-entries .inside) 8 (r .0) (omega arith) (r .1) o)
+            subst⁻¹ (λ y. IsCircle (othersIn left) (entryOf e) (orbit (entryOf e) 8 y) 16 × List·Memᴰ y (orbit (entryOf e) 8 y)) (r .2) (
+              is-circle (othersIn left) (entryOf e) (others-are left) (h .root) (are-entries .inside) 8 (r .0) (omega arith) (r .1) o,
+              start-mem (othersIn left) (entryOf e) (others-are left) (h .root) (are-entries .inside) 8 (r .0) (omega arith) (r .1) o,
+            )
 
         on-mem : (x : ℕ) → getD on x false ≡ true → List·Memᴰ x cs
         unfolding orbit

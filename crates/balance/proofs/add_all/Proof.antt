@@ -65,8 +65,8 @@ loop-again c =
     let e = ap (λ (s : State). s .count) (c .add .ensures) in (
       omega arith,
       subst⁻¹ (Certified (cell (start .args .d .now)) (start .args .vs .now)) (c .add .ensures)
-      (add-certified (cell (start .args .d .now)) (start .args .vs .now) (start .pre .0) (stateOf (at .loop .b)) (at .loop .inv .1) (omega (arith, at .loop .inv .2, start .pre .3))
-      (getD (start .args .tails .now) (at .loop .k) 0) (getD (start .args .heads .now) (at .loop .k) 0) (start .pre .4 (at .loop .k) l) (start .pre .5 (at .loop .k) (omega (arith, start .pre .2)))),
+          (add-certified (cell (start .args .d .now)) (start .args .vs .now) (start .pre .0) (stateOf (at .loop .b)) (at .loop .inv .1) (omega (arith, at .loop .inv .2, start .pre .3))
+          (getD (start .args .tails .now) (at .loop .k) 0) (getD (start .args .heads .now) (at .loop .k) 0) (start .pre .4 (at .loop .k) l) (start .pre .5 (at .loop .k) (omega (arith, start .pre .2)))),
       counted (cell (start .args .d .now)) (start .args .vs .now) (stateOf (at .loop .b)) (getD (start .args .tails .now) (at .loop .k) 0) (getD (start .args .heads .now) (at .loop .k) 0) (start .args .s .count) (at .loop .k) e (at .loop .inv .2),
       all-more (cell (start .args .d .now)) (start .args .vs .now) (at .loop .k) (start .args .tails .now) (start .args .heads .now) (stateOf (at .loop .b)) (at .loop .inv .3) l (start .pre .2) (c .add .ensures),
     )

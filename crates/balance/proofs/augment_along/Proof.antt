@@ -32,7 +32,7 @@ loop-holds c = (omega arith, c .pre .0, c .pre .3, refl)
 
 -- src/lib.rt:194:13
 returns : tie.Need-returns Inv-loop μ-loop
-returns c = 
+returns c =
     sym (augment-end _ _ _ _ _ (c .if1 .taken)) ∙ c .before .before .loop .inv .3
 
 -- src/lib.rt:196:13
@@ -105,7 +105,7 @@ loop-less c = search needs
 
 -- src/lib.rt:192:5
 loop-again : tie.Need-loop-again Inv-loop μ-loop
-loop-again c = 
+loop-again c =
     let l = c .before .before .before .before .before .before in
     let at = l .before in
     let start = at .before in
@@ -115,20 +115,20 @@ loop-again c =
       c .before .before .before .following .ensures .1,
       at-most-more (limit + at .loop .k) (limit + (at .loop .k + 1)) (at .loop .g) (c .before .place-of .result) (c .moved-by .result) (at .loop .inv .2) (omega arith) (⊎-elim (λ e. omega arith) (λ e. omega arith) (c .moved-by .ensures .1)),
       augment-more (start .args .next .now) (start .args .t) (at .loop .g) (at .loop .k) (at .loop .v)
-      (at .loop .inv .3)
-      (l .loop-test .taken)
-      (c .before .before .before .before .before .if1 .left)
-      (c .before .before .before .before .wide .ensures)
-      (c .before .before .before .following .ensures .0)
-      (c .before .before .wide2 .ensures)
-      (c .before .place-of .ensures .0)
-      (c .moved-by .ensures .0),
+          (at .loop .inv .3)
+          (l .loop-test .taken)
+          (c .before .before .before .before .before .if1 .left)
+          (c .before .before .before .before .wide .ensures)
+          (c .before .before .before .following .ensures .0)
+          (c .before .before .wide2 .ensures)
+          (c .before .place-of .ensures .0)
+          (c .moved-by .ensures .0),
     )
 
 -- src/lib.rt:185:1
 returns-2 : tie.Need-returns-2 Inv-loop μ-loop
 unfolding augment
-returns-2 c = 
+returns-2 c =
     let z : 64 - c .before .loop .k ≡ 0 = omega arith in
     sym (ap (λ n. augment (c .before .before .args .next .now) (c .before .before .args .t) n (c .before .loop .g) (c .before .loop .v)) z) ∙ c .before .loop .inv .3
 

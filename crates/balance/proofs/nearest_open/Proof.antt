@@ -73,25 +73,25 @@ loop-less c = search needs
 
 -- src/lib.rt:111:5
 loop-again : tie.Need-loop-again Inv-loop μ-loop
-loop-again c = 
+loop-again c =
     let l = c .before .before .before .before .before .before .before in
     let at = l .before in
     let start = at .before .before in (
       omega arith,
       nearest-more (start .args .x .now) (start .args .rank .now) (start .args .vs .now) (start .args .t, beyond) (at .loop .a)
-      (at .loop .inv .1)
-      (l .loop-test .taken)
-      (c .before .before .before .before .before .before .vertex .ensures .0)
-      (c .before .before .before .before .before .wide .ensures)
-      (c .before .before .open-distance .ensures)
-      (c .before .chosen .ensures)
-      (c .lesser .ensures),
+          (at .loop .inv .1)
+          (l .loop-test .taken)
+          (c .before .before .before .before .before .before .vertex .ensures .0)
+          (c .before .before .before .before .before .wide .ensures)
+          (c .before .before .open-distance .ensures)
+          (c .before .chosen .ensures)
+          (c .lesser .ensures),
     )
 
 -- src/lib.rt:104:1
 returns : tie.Need-returns Inv-loop μ-loop
 unfolding nearest
-returns c = 
+returns c =
     let start = c .before .before .before in
     let e = take-all (start .args .vs .now) (c .before .loop .a) (c .loop-test .left) in
     let q = c .before .loop .inv .1 ∙ ap (fold _ _) e in

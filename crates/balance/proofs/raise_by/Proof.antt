@@ -75,22 +75,22 @@ loop-less c = search needs
 
 -- src/lib.rt:216:5
 loop-again : tie.Need-loop-again Inv-loop μ-loop
-loop-again c = 
+loop-again c =
     let l = c .before .before .before .before .before in
     let at = l .before in
     let start = at .before .before .before in (
       omega arith,
       fill-more (λ v. getD (start .args .u .now) v 0 + min (getD (start .args .x .now) v 0) (start .args .most)) (start .args .vs .now) (start .args .u .now) (at .loop .a)
-      (at .loop .inv .1)
-      (l .loop-test .taken)
-      (c .before .before .before .wide .ensures ∙ c .before .before .before .before .vertex .ensures .0)
-      (ap₂ _+_ (c .before .before .level .ensures .0) (c .lesser .ensures)),
+          (at .loop .inv .1)
+          (l .loop-test .taken)
+          (c .before .before .before .wide .ensures ∙ c .before .before .before .before .vertex .ensures .0)
+          (ap₂ _+_ (c .before .before .level .ensures .0) (c .lesser .ensures)),
     )
 
 -- src/lib.rt:210:1
 returns : tie.Need-returns Inv-loop μ-loop
 unfolding raise
-returns c = 
+returns c =
     let start = c .before .before .before .before in
     let e = take-all (start .args .vs .now) (c .before .loop .a) (c .loop-test .left) in
     c .before .loop .inv .1 ∙ ap (fold _ _) e

@@ -144,13 +144,13 @@ loop-again c =
     let start = at .before .before .before in (
       omega arith,
       relax-more (cell (start .args .d .now)) (start .args .f .now) (start .args .u .now) (start .args .vs .now) (start .args .w) (start .args .base) (start .args .x .now, start .args .next .now) (at .loop .a)
-      (at .loop .inv .1)
-      (l .loop-test .taken)
-      (c .before .before .before .before .before .before .before .before .wide .ensures ∙ c .before .before .before .before .before .before .before .before .before .vertex .ensures .0)
-      (at .before .level .ensures .0)
-      (c .before .before .before .before .length-of .ensures .0)
-      (c .before .lesser .ensures)
-      (c .chosen .ensures),
+          (at .loop .inv .1)
+          (l .loop-test .taken)
+          (c .before .before .before .before .before .before .before .before .wide .ensures ∙ c .before .before .before .before .before .before .before .before .before .vertex .ensures .0)
+          (at .before .level .ensures .0)
+          (c .before .before .before .before .length-of .ensures .0)
+          (c .before .lesser .ensures)
+          (c .chosen .ensures),
     )
 
 -- src/lib.rt:70:1

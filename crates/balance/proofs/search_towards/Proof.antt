@@ -53,7 +53,7 @@ loop-holds c =
       omega arith,
       subst⁻¹ (AtMost beyond) (c .relax-by .ensures .0) (relax-low _ _ _ _ _ beyond (replicate-low 64 beyond)),
       rounds-start (residualLength (cell (start .args .d .now)) (start .args .f .now) (start .args .u .now)) (start .args .vs .now) (start .args .t) (start .args .whole) (start .args .goal)
-      (c .before .before .before .before .wide .ensures) (c .relax-by .ensures .0) (c .relax-by .ensures .1),
+          (c .before .before .before .before .wide .ensures) (c .relax-by .ensures .0) (c .relax-by .ensures .1),
     )
 
 -- src/lib.rt:150:28
@@ -114,15 +114,15 @@ loop-again c =
       omega (arith, c .before .before .before .before .before .before .before .before .before .before .before .loop-test .taken, start .pre .4),
       subst⁻¹ (AtMost beyond) (c .relax-by2 .ensures .0) (relax-low _ _ _ _ _ beyond (at .loop .inv .2)),
       rounds-more (residualLength (cell (start .args .d .now)) (start .args .f .now) (start .args .u .now)) (start .args .vs .now) (start .args .t) (start .args .whole) (start .args .goal)
-      (at .loop .k) (at .loop .x) (at .loop .next) (at .loop .rank)
-      (at .loop .inv .3)
-      (c .before .before .before .before .before .before .before .before .before .before .before .loop-test .taken)
-      (ap (λ q. not (start .args .whole) && ltb 0 (getD (at .loop .rank) q 0)) (sym (at .before .before .before .before .wide2 .ensures)) ∙ sym (c .before .before .before .before .before .before .before .before .before .before .finished .ensures) ∙ c .before .before .before .before .before .before .before .before .before .if1 .left)
-      (c .before .before .before .before .before .wide3 .ensures ∙ c .before .before .before .before .before .before .nearest-open .ensures .0)
-      (c .before .before .before .level .ensures .0)
-      (c .relax-by2 .ensures .0)
-      (c .relax-by2 .ensures .1)
-      refl,
+          (at .loop .k) (at .loop .x) (at .loop .next) (at .loop .rank)
+          (at .loop .inv .3)
+          (c .before .before .before .before .before .before .before .before .before .before .before .loop-test .taken)
+          (ap (λ q. not (start .args .whole) && ltb 0 (getD (at .loop .rank) q 0)) (sym (at .before .before .before .before .wide2 .ensures)) ∙ sym (c .before .before .before .before .before .before .before .before .before .before .finished .ensures) ∙ c .before .before .before .before .before .before .before .before .before .if1 .left)
+          (c .before .before .before .before .before .wide3 .ensures ∙ c .before .before .before .before .before .before .nearest-open .ensures .0)
+          (c .before .before .before .level .ensures .0)
+          (c .relax-by2 .ensures .0)
+          (c .relax-by2 .ensures .1)
+          refl,
     )
 
 -- src/lib.rt:137:1

@@ -85,12 +85,12 @@ loop-again c =
     let base = at .before .level in (
       omega arith,
       fill-more (λ v. pos (getD (start .args .x .now) v 0 + getD (start .args .u .now) v 0) -ℤ pos (getD (start .args .u .now) (start .args .root) 0)) (start .args .vs .now)
-      (replicate 64 (pos 0)) (at .loop .a)
-      (at .loop .inv .1)
-      (l .loop-test .taken)
-      (c .before .before .before .wide .ensures ∙ c .before .before .before .before .vertex .ensures .0)
-      (read-back (xv .result + uv .result) (base .result) (omega (arith, xv .ensures .1, uv .ensures .1)) (omega (arith, base .ensures .1)) (c .difference .ensures)
-      ∙ ap₂ (λ (p q : ℕ). pos p -ℤ pos q) (ap₂ _+_ (xv .ensures .0) (uv .ensures .0)) (base .ensures .0)),
+          (replicate 64 (pos 0)) (at .loop .a)
+          (at .loop .inv .1)
+          (l .loop-test .taken)
+          (c .before .before .before .wide .ensures ∙ c .before .before .before .before .vertex .ensures .0)
+          (read-back (xv .result + uv .result) (base .result) (omega (arith, xv .ensures .1, uv .ensures .1)) (omega (arith, base .ensures .1)) (c .difference .ensures)
+          ∙ ap₂ (λ (p q : ℕ). pos p -ℤ pos q) (ap₂ _+_ (xv .ensures .0) (uv .ensures .0)) (base .ensures .0)),
     )
 
 -- src/lib.rt:269:1

@@ -45,9 +45,9 @@ unfolding empty sumOver occurrences sent received
 empty-counted vs = record {
   number = refl;
   balanced = λ i m. (
-  let a = sum-ext vs (λ j. amount (replicate 4096 0) i j) (λ j. 0) (λ j n. zero-at {A = ℕ} 4096 (i * 64 + j) 0) ∙ sum-zero vs in
-  let b = sum-ext vs (λ j. amount (replicate 4096 0) j i) (λ j. 0) (λ j n. zero-at {A = ℕ} 4096 (j * 64 + i) 0) ∙ sum-zero vs in
-  omega arith);
+      let a = sum-ext vs (λ j. amount (replicate 4096 0) i j) (λ j. 0) (λ j n. zero-at {A = ℕ} 4096 (i * 64 + j) 0) ∙ sum-zero vs in
+      let b = sum-ext vs (λ j. amount (replicate 4096 0) j i) (λ j. 0) (λ j n. zero-at {A = ℕ} 4096 (j * 64 + i) 0) ∙ sum-zero vs in
+      omega arith);
   priced = refl;
 }
 

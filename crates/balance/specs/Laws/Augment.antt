@@ -132,8 +132,8 @@ module _ (vs : List ℕ) (unique : (i : ℕ) → occurrences i vs ≤ 1) (small 
   -- ---- a path
 
   module _ (t : ℕ) (next : List ℕ) (rank : ℕ → ℕ) (onward : (v : ℕ) → List·Memᴰ v vs → List·Memᴰ (getD next v 0) vs)
-    (reached : (v : ℕ) → List·Memᴰ v vs → 0 < rank (getD next v 0))
-    (order : (v : ℕ) → List·Memᴰ v vs → 0 < rank v → v ≢ t → rank (getD next v 0) < rank v) where
+      (reached : (v : ℕ) → List·Memᴰ v vs → 0 < rank (getD next v 0))
+      (order : (v : ℕ) → List·Memᴰ v vs → 0 < rank v → v ≢ t → rank (getD next v 0) < rank v) where
     -- a vertex from which a path of rank at most n leads on
     pub record On (n z : ℕ) : Type 0 where
       pub member : List·Memᴰ z vs
@@ -221,11 +221,11 @@ module _ (vs : List ℕ) (unique : (i : ℕ) → occurrences i vs ≤ 1) (small 
           ];
           loopless = step-loopless;
           step = λ z on. subst⁻¹ (λ n. (0 < n) ⊎ (u z ≡ d z (getD next z 0) + u (getD next z 0)))
-          (push-other f (r .long) v w mv (onward v mv) (getD next z 0) z (onward z (on .member)) (on .member) (λ e g. apart z on .1 g e) (λ e g. apart z on .0 g))
-          (r .step z (later z on));
+              (push-other f (r .long) v w mv (onward v mv) (getD next z 0) z (onward z (on .member)) (on .member) (λ e g. apart z on .1 g e) (λ e g. apart z on .0 g))
+              (r .step z (later z on));
           room = λ z on. subst⁻¹ (λ n. n ≤ c)
-          (push-other f (r .long) v w mv (onward v mv) z (getD next z 0) (on .member) (onward z (on .member)) (λ e g. apart z on .0 e) (λ e g. apart z on .1 e g))
-          (r .room z (later z on));
+              (push-other f (r .long) v w mv (onward v mv) z (getD next z 0) (on .member) (onward z (on .member)) (λ e g. apart z on .0 e) (λ e g. apart z on .1 e g))
+              (r .room z (later z on));
         }
 
       pub augment-sent : (n : ℕ) (f : List ℕ) (v : ℕ) → List·Memᴰ v vs → 0 < rank v → rank v ≤ n → Ready (rank v) f → Sent v f (augment next t n f v)

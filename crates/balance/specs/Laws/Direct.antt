@@ -266,7 +266,7 @@ module _ (vs : List ℕ) (unique : (i : ℕ) → occurrences i vs ≤ 1) (small 
 
   -- a property of amounts that passing by a vertex keeps
   module _ (Keep : List ℕ → Type 0)
-    (keeps : (f : List ℕ) (a b c : ℕ) → List·Memᴰ a vs → List·Memᴰ b vs → List·Memᴰ c vs → length f ≡ 4096 → Loopless vs f → Keep f → Keep (bypass f a b c)) where
+      (keeps : (f : List ℕ) (a b c : ℕ) → List·Memᴰ a vs → List·Memᴰ b vs → List·Memᴰ c vs → length f ≡ 4096 → Loopless vs f → Keep f → Keep (bypass f a b c)) where
     -- what g, with some ways by b gone, keeps of f
     record Under (b : ℕ) (f g : List ℕ) : Type 0 where
       falls : Falls f g

@@ -45,9 +45,9 @@ certified-sparse d vs metric s certified room = record {
   long = certified .numbers .long-amounts;
   loopless = certified .loopless;
   rows = λ i m. (
-  let a = sum-most vs (λ j. amount (s .amounts) i j) limit (λ j. let b = certified .numbers .few (i * 64 + j) in omega arith) in
-  let b = mul-le-mul-right {m = length vs} {n = 64} limit (metric .size) in
-  omega arith);
+      let a = sum-most vs (λ j. amount (s .amounts) i j) limit (λ j. let b = certified .numbers .few (i * 64 + j) in omega arith) in
+      let b = mul-le-mul-right {m = length vs} {n = 64} limit (metric .size) in
+      omega arith);
 }
 
 -- passing by a vertex keeps that, and what it adds fits

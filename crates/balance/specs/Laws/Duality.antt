@@ -118,7 +118,7 @@ price-le d vs u hs ts l wh wt feasible =
     omega (arith, simp zl at k)
 
 module _ (d : ℕ → ℕ → ℕ) (triangle : (i k j : ℕ) → d i j ≤ d i k + d k j) (self : (i : ℕ) → d i i ≡ 0) (vs : List ℕ) (f : ℕ → ℕ → ℕ) (u : ℕ → ℕ) (hs ts : List ℕ)
-  (long : length hs ≡ length ts) (wh : Within vs hs) (wt : Within vs ts) (balanced : Balances vs f hs ts) (feasible : Feasible d vs u) (tight : Tight d vs f u) where
+    (long : length hs ≡ length ts) (wh : Within vs hs) (wt : Within vs ts) (balanced : Balances vs f hs ts) (feasible : Feasible d vs u) (tight : Tight d vs f u) where
   -- THE THEOREM: the amounts cost the least assignment, and so does the price of the imbalance
   pub cost-least : balancingCost vs d f ≡ assignment d hs ts
   cost-least =

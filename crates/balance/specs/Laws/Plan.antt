@@ -106,11 +106,11 @@ module _ (p : Plan) (ok : WellFormed p) (connected : T (not (isCutOff p))) where
     size = (let a = required-size p in let b = ok .vertices in omega arith);
     small = λ i m. (let a = required-lt p m in let b = ok .vertices in omega arith);
     bound = λ i j mi mj. (
-    let w = linked p ok connected mi mj in
-    let a = distance-bound p ends 65535 (bounded ok .costs) i j (w .0) (required-lt p mi) (w .1) in
-    let b = ok .vertices in
-    let c = mul-le-mul-right {m = p .n - 1} {n = 63} 65535 (omega arith) in
-    omega arith);
+        let w = linked p ok connected mi mj in
+        let a = distance-bound p ends 65535 (bounded ok .costs) i j (w .0) (required-lt p mi) (w .1) in
+        let b = ok .vertices in
+        let c = mul-le-mul-right {m = p .n - 1} {n = 63} 65535 (omega arith) in
+        omega arith);
     self = λ i m. distance-self p ends i;
     triangle = λ i k j mi mk mj. triangle p ends i k j;
   }
@@ -301,11 +301,11 @@ module _ (p : Plan) (ok : WellFormed p) (connected : T (not (isCutOff p))) where
       are-multipliers = record {
         elsewhere = λ i n. M-other d (required p) table-metric s certified room root mr i n;
         feasible = λ i j mi mj. (
-        let a = U-here i mi in
-        let b = U-here j mj in
-        let g = w-feasible d (required p) table-metric s certified room root mr i j mi mj in
-        let e = agrees i j mi mj in
-        simp zl (omega (arith, simp zl at a, simp zl at b)));
+            let a = U-here i mi in
+            let b = U-here j mj in
+            let g = w-feasible d (required p) table-metric s certified room root mr i j mi mj in
+            let e = agrees i j mi mj in
+            simp zl (omega (arith, simp zl at a, simp zl at b)));
         tight =
             let a = price-from U W c U-here in
             let b = price-at [] none (omega arith) W (feasible-distance W (w-feasible d (required p) table-metric s certified room root mr))

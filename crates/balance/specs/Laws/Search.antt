@@ -167,7 +167,7 @@ pub record Searching (ℓ : ℕ → ℕ → ℕ) (vs : List ℕ) (t k : ℕ) (s 
 
 module _ (ℓ : ℕ → ℕ → ℕ) (vs : List ℕ) (t : ℕ) (ground : Ground ℓ vs t) where
   module _ (k w : ℕ) (s : Found) (before : Searching ℓ vs t k s) (member : List·Memᴰ w vs) (fresh : at (s .rank) w ≡ 0)
-    (least : (v : ℕ) → List·Memᴰ v vs → at (s .rank) v ≡ 0 → at (s .distance) w ≤ at (s .distance) v) where
+      (least : (v : ℕ) → List·Memᴰ v vs → at (s .rank) v ≡ 0 → at (s .distance) w ≤ at (s .distance) v) where
     abbrev after : Found
     after = settle ℓ vs t (k + 1) w s
 
@@ -441,12 +441,12 @@ module _ (ℓ : ℕ → ℕ → ℕ) (vs : List ℕ) (t : ℕ) (ground : Ground 
     ];
     reached = λ v m. (let e = ap (at (start ℓ vs t .rank)) (start-at v m .1) in let a = start-here in omega arith);
     edge = λ v m. (
-    let n = start-at v m .1 in
-    let a = start-at v m .0 in
-    let b = ap (at (start ℓ vs t .distance)) n in
-    let c = ap (ℓ v) n in
-    let z = start-zero in
-    omega arith);
+        let n = start-at v m .1 in
+        let a = start-at v m .0 in
+        let b = ap (at (start ℓ vs t .distance)) n in
+        let c = ap (ℓ v) n in
+        let z = start-zero in
+        omega arith);
     order = λ v m h n. absurd (n (only v h));
     recent = λ v. elim (ℕ-discrete v t) [
       | yes e ↦ let a = ap (at (start ℓ vs t .rank)) e in let b = start-here in omega arith

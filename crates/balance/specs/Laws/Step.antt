@@ -70,10 +70,10 @@ module _ (d : ℕ → ℕ → ℕ) (vs : List ℕ) (metric : Metric d vs) (s : S
     small = metric .small;
     target = mt;
     short = λ i j mi mj. (
-    let a = residual-le (d i j) (u i) (u j) (f j i) in
-    let b = metric .bound i j mi mj in
-    let c = certified .numbers .low j in
-    omega arith);
+        let a = residual-le (d i j) (u i) (u j) (f j i) in
+        let b = metric .bound i j mi mj in
+        let c = certified .numbers .low j in
+        omega arith);
     still = let a = residual-le (d t t) (u t) (u t) (f t t) in let b = metric .self t mt in omega arith;
   }
 

@@ -105,6 +105,6 @@ sum-occurrences w vs (s ∷ ss) h =
     sum-ext vs _ (λ i. w s * delta i s + w i * occurrences i ss) (λ i m. mul-add (w i) (delta i s) (occurrences i ss) ∙ ap (λ z. z + w i * occurrences i ss) (times-delta w i s))
     ∙ sum-add vs (λ i. w s * delta i s) (λ i. w i * occurrences i ss)
     ∙ ap₂ _+_
-      (sum-ext vs (λ i. w s * delta i s) (λ i. delta i s * w s) (λ i m. mul-comm (w s) (delta i s))
-      ∙ sum-mul vs (λ i. delta i s) (w s) ∙ ap (λ z. z * w s) (sum-delta vs s ∙ o) ∙ mul-comm 1 (w s) ∙ mul-one (w s))
-      r
+    (sum-ext vs (λ i. w s * delta i s) (λ i. delta i s * w s) (λ i m. mul-comm (w s) (delta i s))
+    ∙ sum-mul vs (λ i. delta i s) (w s) ∙ ap (λ z. z * w s) (sum-delta vs s ∙ o) ∙ mul-comm 1 (w s) ∙ mul-one (w s))
+    r

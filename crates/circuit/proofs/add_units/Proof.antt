@@ -95,9 +95,11 @@ loop-again : tie.Need-loop-again Inv-loop μ-loop
 loop-again c =
     let s = c .before .before .before .before .before .before .before .before in
     let l = c .before .before .before .before .before .before .before .loop in
-    let w = c .before .before .before .before .wide in
-    (search needs, added-units (s .args .amounts .now) (l .x) (w .result) (s .args .at) (l .to) (s .args .tails .now) (l .tails) _ (s .args .heads .now) (l .heads) _ (w .ensures) (l .inv .1)
-    (c .before .before .fill .ensures) (c .fill2 .ensures))
+    let w = c .before .before .before .before .wide in (
+      search needs,
+      added-units (s .args .amounts .now) (l .x) (w .result) (s .args .at) (l .to) (s .args .tails .now) (l .tails) _ (s .args .heads .now) (l .heads) _ (w .ensures) (l .inv .1)
+          (c .before .before .fill .ensures) (c .fill2 .ensures),
+    )
 
 -- src/lib.rt:119:1
 returns : tie.Need-returns Inv-loop μ-loop

@@ -34,9 +34,10 @@ loop-holds : tie.Need-loop-holds Inv-loop μ-loop
 loop-holds c =
     let s = c .before .before .before in
     let a = s .args in
-    let n = s .pre .0 in
-    (held-first (a .tails .now) (a .heads .now) (a .order .now) (replicate 526 0) (s .pre .2 .some) (s .pre .1) (omega arith) (λ e k. getD-replicate 526 e 0 0 (omega arith)),
-    run-first (a .tails .now) (a .heads .now) (a .order .now) (s .pre .2 .some) (s .pre .1))
+    let n = s .pre .0 in (
+      held-first (a .tails .now) (a .heads .now) (a .order .now) (replicate 526 0) (s .pre .2 .some) (s .pre .1) (omega arith) (λ e k. getD-replicate 526 e 0 0 (omega arith)),
+      run-first (a .tails .now) (a .heads .now) (a .order .now) (s .pre .2 .some) (s .pre .1),
+    )
 
 -- src/lib.rt:86:13
 advance-requires : tie.Need-advance-requires Inv-loop μ-loop

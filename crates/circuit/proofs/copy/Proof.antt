@@ -49,9 +49,12 @@ loop-again c =
     let a = c .before .before .before .args in
     let l = c .before .before .loop in
     let n = l .inv .1 in
-    let v = getD (a .from .now) (l .i) 0 in
-    (search needs, length-set (l .to) (a .at + l .i) v ∙ l .inv .1, extends-one (a .to .now) (take (l .i) (a .from .now)) (l .to) (a .at) (l .i) v (l .inv .2) (omega (arith, c .before .before .before .pre .0))
-    ∙ ap (λ z. take (a .at) (a .to .now) ++ z) (take-one (a .from .now) (l .i) (c .before .loop-test .taken)))
+    let v = getD (a .from .now) (l .i) 0 in (
+      search needs,
+      length-set (l .to) (a .at + l .i) v ∙ l .inv .1,
+      extends-one (a .to .now) (take (l .i) (a .from .now)) (l .to) (a .at) (l .i) v (l .inv .2) (omega (arith, c .before .before .before .pre .0))
+          ∙ ap (λ z. take (a .at) (a .to .now) ++ z) (take-one (a .from .now) (l .i) (c .before .loop-test .taken)),
+    )
 
 -- src/lib.rt:106:1
 returns : tie.Need-returns Inv-loop μ-loop

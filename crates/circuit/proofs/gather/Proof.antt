@@ -88,9 +88,13 @@ loop-again c =
     let p = s .args .t1 in
     let b = counted-le (isRequiredArc (recordAt (p .arcs) (l .k))) in
     let e = c .counted .ensures in
-    let i = l .inv in
-    (i .0, omega arith, i .2, omega arith,
-    noted-arc (planValue p) (l .numbers) (l .tails) (l .heads) (l .c) (l .k) (c .counted .result) (recordAt (p .arcs) (l .k)) (plan-arc p (l .k) (omega arith)) e (omega arith) (i .4))
+    let i = l .inv in (
+      i .0,
+      omega arith,
+      i .2,
+      omega arith,
+      noted-arc (planValue p) (l .numbers) (l .tails) (l .heads) (l .c) (l .k) (c .counted .result) (recordAt (p .arcs) (l .k)) (plan-arc p (l .k) (omega arith)) e (omega arith) (i .4),
+    )
 
 -- src/lib.rt:155:1
 returns : tie.Need-returns Inv-loop μ-loop

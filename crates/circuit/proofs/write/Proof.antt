@@ -23,7 +23,7 @@ abbrev μ-loop : tie.MeasureT-loop
 
 -- src/lib.rt:260:5
 loop-holds : tie.Need-loop-holds Inv-loop μ-loop
-loop-holds c = 
+loop-holds c =
     let a = c .before .before .before .before .before .args in
     (omega arith, to-none (shortestPath (planValue (a .plan))) (a .numbers .now) (a .tails .now) (a .heads .now) (a .order .now) (a .places .now))
 
@@ -41,14 +41,18 @@ wide-requires c κs = search needs
 
 -- src/lib.rt:261:9
 write-leg-requires : tie.Need-write-leg-requires Inv-loop μ-loop
-write-leg-requires c κs = 
+write-leg-requires c κs =
     let s = c .before .before .before .before .before .before .before .before .before .before in
     let a = s .args in
     let l = c .before .before .before .before .loop in
     let e = c .before .wide .ensures in
-    let t = c .before .before .before .loop-test .taken in
-    (s .pre .0, ((subst⁻¹ (λ z. z < length (a .tails .now)) e (s .pre .1 .0 (l .x) t), s .pre .1 .1 .0 .0, s .pre .1 .1 .0 .1),
-    to-room (shortestPath (planValue (a .plan))) (a .numbers .now) (a .tails .now) (a .heads .now) (a .order .now) (a .places .now) (l .x) (l .at) (l .places) t (s .pre .1 .1 .1) (l .inv .1) (c .before .wide .result) e))
+    let t = c .before .before .before .loop-test .taken in (
+      s .pre .0,
+      (
+        (subst⁻¹ (λ z. z < length (a .tails .now)) e (s .pre .1 .0 (l .x) t), s .pre .1 .1 .0 .0, s .pre .1 .1 .0 .1),
+        to-room (shortestPath (planValue (a .plan))) (a .numbers .now) (a .tails .now) (a .heads .now) (a .order .now) (a .places .now) (l .x) (l .at) (l .places) t (s .pre .1 .1 .1) (l .inv .1) (c .before .wide .result) e,
+      ),
+    )
 
 -- src/lib.rt:262:9
 add-x : tie.Need-add-x Inv-loop μ-loop
@@ -60,7 +64,7 @@ loop-less c = search needs
 
 -- src/lib.rt:260:5
 loop-again : tie.Need-loop-again Inv-loop μ-loop
-loop-again c = 
+loop-again c =
     let s = c .before .before .before .before .before .before .before .before .before .before .before .before .before in
     let a = s .args in
     let l = c .before .before .before .before .before .before .before .loop in
@@ -70,7 +74,7 @@ loop-again c =
 
 -- src/lib.rt:242:1
 same-length : tie.Need-same-length Inv-loop μ-loop
-same-length c = 
+same-length c =
     let s = c .before .before .before .before .before .before .before in
     let a = s .args in
     let l = c .before .loop in
@@ -78,7 +82,7 @@ same-length c =
 
 -- src/lib.rt:242:1
 returns : tie.Need-returns Inv-loop μ-loop
-returns c = 
+returns c =
     let a = c .before .before .before .before .before .before .before .args in
     let l = c .before .loop in
     let e : l .x ≡ length (a .order .now) = omega arith in

@@ -27,9 +27,13 @@ write-requires c κs =
     let e = c .before .before .before .before .arrange .ensures in
     let t = a .tails .now in
     let h = a .heads .now in
-    let u = s .pre .1 .0 .2 in
-    (s .pre .0, (subst⁻¹ (λ (z : List ℕ). (x : ℕ) → x < length z → getD z x 0 < length t) e (circuit-below t h u),
-    ((u .ends, s .pre .1 .1 .0), subst⁻¹ (λ (z : List ℕ). length (placesOf (shortestPath (planValue (a .plan))) (a .numbers .now) t h z) ≤ length (a .places .now)) e (s .pre .1 .1 .1))))
+    let u = s .pre .1 .0 .2 in (
+      s .pre .0,
+      (
+        subst⁻¹ (λ (z : List ℕ). (x : ℕ) → x < length z → getD z x 0 < length t) e (circuit-below t h u),
+        ((u .ends, s .pre .1 .1 .0), subst⁻¹ (λ (z : List ℕ). length (placesOf (shortestPath (planValue (a .plan))) (a .numbers .now) t h z) ≤ length (a .places .now)) e (s .pre .1 .1 .1)),
+      ),
+    )
 
 -- src/lib.rt:269:1
 same-length : tie.Need-same-length

@@ -188,9 +188,9 @@ module _ (tails heads : List ℕ) (h : Eulerian tails heads) where
           let z = last-leg tails heads root k d root (s .chained) in
           let placed : (v : ℕ) → T (X v) → (y : ℕ) → y < length tails → getD tails y 0 ≡ v → List·Memᴰ y (k ∷ d)
           = λ v t y m o. (
-            let x = anyOf-at (λ j. eqb (getD heads j 0) v) (k ∷ d) t in
-            let n = s .spent (x .0) (x .1) y m (o ∙ sym (eqb→eq (getD heads (x .0) 0) v (x .2))) in
-            mem-of-occurrences y (k ∷ d) (omega arith)) in
+          let x = anyOf-at (λ j. eqb (getD heads j 0) v) (k ∷ d) t in
+          let n = s .spent (x .0) (x .1) y m (o ∙ sym (eqb→eq (getD heads (x .0) 0) v (x .2))) in
+          mem-of-occurrences y (k ∷ d) (omega arith)) in
           let all = h .connected X (anyOf-mem (λ j. eqb (getD heads j 0) root) (z .1) (eqb-same (z .2)))
           (λ y m t. anyOf-mem (λ j. eqb (getD heads j 0) (getD heads y 0)) (placed (getD tails y 0) t y m refl) (eqb-same {i = getD heads y 0} refl)) in
           placed (getD tails e 0) (all e l) e l refl

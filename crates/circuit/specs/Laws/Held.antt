@@ -125,9 +125,9 @@ module _ (tails heads order used : List ℕ) (d start : ℕ) (h : Held tails ord
             marks = (let n = length-set used e 1 in let m = h .marks in omega arith);
             flags = λ x k. mark-set x k g ∙ sym (ap₂ (λ (y z : List ℕ). occurrences x y + occurrences x z) w p);
             tidy = λ x. (
-              let t = tidy-more tails (walkOf order (suc d)) (drop start order) (getD heads top 0) e (h .tidy) g x in
-              let c = ap₂ (λ (y z : List ℕ). occurrences x y + occurrences x z) w p in
-              omega arith);
+                let t = tidy-more tails (walkOf order (suc d)) (drop start order) (getD heads top 0) e (h .tidy) g x in
+                let c = ap₂ (λ (y z : List ℕ). occurrences x y + occurrences x z) w p in
+                omega arith);
           };
           walk = w ∙ sym (ap (λ (z : State). z .walk) s);
           placed = p ∙ sym (ap (λ (z : State). z .placed) s);
@@ -150,13 +150,13 @@ module _ (tails heads order used : List ℕ) (d start : ℕ) (h : Held tails ord
             places = length-set order (start - 1) top ∙ h .places;
             marks = h .marks;
             flags = λ x k. (
-              let m = h .flags x k in
-              let c = ap₂ (λ (y z : List ℕ). occurrences x y + occurrences x z) w p in
-              omega arith);
+                let m = h .flags x k in
+                let c = ap₂ (λ (y z : List ℕ). occurrences x y + occurrences x z) w p in
+                omega arith);
             tidy = λ x. (
-              let t = h .tidy x in
-              let c = ap₂ (λ (y z : List ℕ). occurrences x y + occurrences x z) w p in
-              omega arith);
+                let t = h .tidy x in
+                let c = ap₂ (λ (y z : List ℕ). occurrences x y + occurrences x z) w p in
+                omega arith);
           };
           walk = w ∙ sym (ap (λ (z : State). z .walk) s);
           placed = p ∙ sym (ap (λ (z : State). z .placed) s);

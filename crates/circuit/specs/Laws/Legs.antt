@@ -255,12 +255,12 @@ module _ (p : Plan) (ok : WellFormed p) (t : List Link) (amounts : List ℕ) (h 
     ends = legs-length;
     balanced = legs-balanced;
     connected = λ X x f e k. (
-      let b = entered-too X (legTails p t amounts) (legHeads p t amounts) legs-length legs-balanced f in
-      let r = leg-at 0 legs-some in
-      let s = leg-at e k in
-      subst⁻¹ (λ z. T (X z)) (s .2)
-      (all-in X
-      (λ l m y. let j = leg-number m in subst (λ z. T (X z)) (j .3) (f (j .0) (j .1) (subst⁻¹ (λ z. T (X z)) (j .2) y)))
-      (λ l m y. let j = leg-number m in subst (λ z. T (X z)) (j .2) (b (j .0) (j .1) (subst⁻¹ (λ z. T (X z)) (j .3) y)))
-      (leg-ends (r .1) .0) (subst (λ z. T (X z)) (r .2) x) (leg-ends (s .1) .0)));
+        let b = entered-too X (legTails p t amounts) (legHeads p t amounts) legs-length legs-balanced f in
+        let r = leg-at 0 legs-some in
+        let s = leg-at e k in
+        subst⁻¹ (λ z. T (X z)) (s .2)
+        (all-in X
+        (λ l m y. let j = leg-number m in subst (λ z. T (X z)) (j .3) (f (j .0) (j .1) (subst⁻¹ (λ z. T (X z)) (j .2) y)))
+        (λ l m y. let j = leg-number m in subst (λ z. T (X z)) (j .2) (b (j .0) (j .1) (subst⁻¹ (λ z. T (X z)) (j .3) y)))
+        (leg-ends (r .1) .0) (subst (λ z. T (X z)) (r .2) x) (leg-ends (s .1) .0)));
   }

@@ -204,9 +204,9 @@ module _ (p : Plan) (ok : WellFormed p) (t : List Link) (amounts : List ℕ) (h 
     closed = walk-flat (p .arcs) (legTails p t amounts) (legHeads p t amounts) (places p t amounts path) order (getD (legTails p t amounts) 0 0) (getD (legTails p t amounts) 0 0)
         (λ e m. places-walk e (order-lt m)) (order-circuit .closed);
     covers = λ k l m. (
-      let r = mem-getD 0 (mem-numbers p (record { number = l; must = m })) in
-      mem-flatMap (places p t amounts path) (order-mem (number-lt (r .0) (r .1)))
-      (subst⁻¹ (List·Memᴰ k) (places-arc p t amounts path (r .0) (r .1)) (List·Memᴰ·head (sym (r .2)))));
+        let r = mem-getD 0 (mem-numbers p (record { number = l; must = m })) in
+        mem-flatMap (places p t amounts path) (order-mem (number-lt (r .0) (r .1)))
+        (subst⁻¹ (List·Memᴰ k) (places-arc p t amounts path (r .0) (r .1)) (List·Memᴰ·head (sym (r .2)))));
   }
 
   -- ---- its cost

@@ -1,16 +1,15 @@
 -- The invariant: the count is that of the arcs before the kth, one at most for each.
 use mathlib.Core.Path.{_≡_, refl, sym, ap, _∙_}
-use Prim.Native.Nat.{ℕ, _+_, _*_, _-_, _≤_, _<_}
+use Prim.Native.Nat.{ℕ, _-_, _≤_}
 use native.Mathlib.Omega.{arith}
 use Rattle.plan.specs.Records.{planValue, recordAt}
-use Rattle.shortest.specs.Laws.Records.{record-arcs, record-arc}
+use Rattle.shortest.specs.Laws.Records.{record-arcs}
 use Rattle.network.specs.RequiredSum.{requiredSum}
 use mathlib.Core.Bool.{Bool, cond}
 use Rattle.postman.specs.Lists.{delta}
 use lib.Dec.{eqb}
 use Rattle.postman.specs.Plan.{Arc, isRequiredArc}
 use Rattle.postman.specs.Laws.Tests.{cond-ind}
-use Rattle.postman.specs.Laws.Occurrences.{delta-no, delta-yes}
 use Rattle.network.specs.RequiredSum.{endOf}
 use Rattle.network.specs.Laws.RequiredSum.{sum-none, sum-more, sum-ends}
 use borrow.Author.Needs.{needs}

@@ -44,10 +44,13 @@ loop-less c = search needs
 loop-again : tie.Need-loop-again Inv-loop μ-loop
 loop-again c =
     let v = c .before .before in
-    let s = v .before .args in (
+    let s = v .before .args in
+    let here : isCut (s .d .now) (s .t2) (v .loop .i) ≡ false =
+    ⊎-elim (λ w. no-right (getD (s .t2) (v .loop .i) false) (sym (w .1 .ensures) ∙ w .2 .left)) (λ w. no-left _ (w .left)) (c .if1 .came)
+    in (
       omega arith,
       below-more (λ k. isCut (s .d .now) (s .t2) k ≡ false) (v .loop .i) (v .loop .inv .1)
-          (⊎-elim (λ w. no-right (getD (s .t2) (v .loop .i) false) (sym (w .1 .ensures) ∙ w .2 .left)) (λ w. no-left _ (w .left)) (c .if1 .came)),
+          here,
     )
 
 returns-2 : tie.Need-returns-2 Inv-loop μ-loop

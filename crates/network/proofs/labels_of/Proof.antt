@@ -1,10 +1,10 @@
 -- The invariant: the arcs before the kth are counted.
-use mathlib.Core.Path.{_≡_, refl, sym, _∙_, ap, subst, subst⁻¹}
+use mathlib.Core.Path.{_≡_, refl, subst, subst⁻¹}
 use Prim.Native.Nat.{ℕ, _+_, _-_, _≤_, _<_}
 use mathlib.Core.List.{List}
 use native.Mathlib.Omega.{arith}
 use lib.ListN.{length, getD}
-use Rattle.postman.specs.Plan.{Arc, WellFormed, arcAt}
+use Rattle.postman.specs.Plan.{Arc, WellFormed}
 use Rattle.plan.specs.declared.Plan.{Plan as PlanRecord}
 use Rattle.plan.specs.Records.{planValue, recordAt}
 use Rattle.shortest.specs.Laws.Records.{plan-length, plan-arc, record-arcs, record-ends}

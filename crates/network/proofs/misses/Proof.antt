@@ -1,5 +1,5 @@
 -- The invariant: no required vertex before the jth is missed.
-use mathlib.Core.Path.{_≡_, sym, _∙_}
+use mathlib.Core.Path.{_≡_, sym}
 use mathlib.Core.Logic.{⊎-elim}
 use mathlib.Core.Bool.{false}
 use Prim.Native.Nat.{ℕ, _-_, _≤_, _<_}
@@ -54,10 +54,13 @@ loop-less c = search needs
 loop-again : tie.Need-loop-again Inv-loop μ-loop
 loop-again c =
     let v = c .before .before in
-    let s = v .before .args in (
+    let s = v .before .args in
+    let here : isMissed (s .d .now) (s .t2) (s .i) (v .loop .j) ≡ false =
+    ⊎-elim (λ w. no-right (getD (s .t2) (v .loop .j) false) (ne-eqb _ 4294967295 (w .2 .left))) (λ w. no-left _ (w .left)) (c .if1 .came)
+    in (
       omega arith,
       below-more (λ k. isMissed (s .d .now) (s .t2) (s .i) k ≡ false) (v .loop .j) (v .loop .inv .1)
-          (⊎-elim (λ w. no-right (getD (s .t2) (v .loop .j) false) (ne-eqb _ 4294967295 (w .2 .left))) (λ w. no-left _ (w .left)) (c .if1 .came)),
+          here,
     )
 
 returns-2 : tie.Need-returns-2 Inv-loop μ-loop

@@ -1,10 +1,9 @@
 -- The invariant: the ranks before the vth are those of their vertices, and `all` is that of v.
 use mathlib.Core.Path.{_≡_, refl, sym, ap, _∙_}
 use mathlib.Core.List.{List}
-use mathlib.Core.Bool.{Bool, false, cond}
-use Prim.Native.Nat.{ℕ, _+_, _-_, _≤_, _<_}
+use mathlib.Core.Bool.{Bool, cond}
+use Prim.Native.Nat.{ℕ, _+_, _-_, _≤_}
 use native.Mathlib.Omega.{arith}
-use lib.ListN.{length, getD}
 use Rattle.postman.specs.Lists.{select, below, upFrom}
 use Rattle.postman.specs.Laws.Tests.{cond-ind}
 use Rattle.network.specs.Labels.{isRoot, rootsBelow}

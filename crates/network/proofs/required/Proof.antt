@@ -1,9 +1,6 @@
 -- The invariant: the flags before the vth are those of their vertices.
-use mathlib.Core.Path.{_≡_, _∙_}
 use mathlib.Core.Bool.{false}
-use Prim.Native.Nat.{ℕ, _-_, _≤_, _<_}
-use native.Mathlib.Omega.{arith}
-use lib.ListN.{length, getD, length-set, length-replicate}
+use Prim.Native.Nat.{_-_}
 use Rattle.postman.specs.Required.{isRequired}
 use Rattle.plan.specs.Records.{planValue}
 use Rattle.network.specs.Laws.Array.{Prefix, prefix-none, prefix-more, prefix-all}

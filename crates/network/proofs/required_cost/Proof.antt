@@ -1,6 +1,6 @@
 -- The invariant: the sum is that of the arcs before the kth, of at most 65,535 each.
 use mathlib.Core.Path.{_≡_, refl, sym, ap, _∙_}
-use Prim.Native.Nat.{ℕ, _+_, _*_, _-_, _≤_, _<_}
+use Prim.Native.Nat.{_*_, _-_, _≤_}
 use native.Mathlib.Omega.{arith}
 use Rattle.plan.specs.Records.{planValue, recordAt}
 use Rattle.shortest.specs.Laws.Records.{record-arcs, record-arc}

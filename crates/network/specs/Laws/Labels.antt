@@ -1,23 +1,21 @@
 -- Labels after all arcs: two required vertices have one label exactly where they have one component. Merging keeps each label in its component, and makes the
 -- labels of a required arc's ends one; a walk of required arcs then keeps its label.
 use mathlib.Core.Path.{_≡_, refl, sym, ap, _∙_, subst, subst⁻¹}
-use mathlib.Core.Logic.{_⊎_, inl, inr, _≢_}
-use mathlib.Core.Bool.{Bool, true, false, not, cond}
+use mathlib.Core.Logic.{inl, inr, _≢_}
+use mathlib.Core.Bool.{not, cond}
 use mathlib.Core.List.{List, [], _∷_, List·Memᴰ, List·Memᴰ·head, List·Memᴰ·tail, List·Memᴰ·cases-cons}
-use Prim.Native.Nat.{ℕ, suc, _+_, _≤_, _<_}
-use native.Mathlib.Nat.{le-refl}
+use Prim.Native.Nat.{ℕ, _+_, _≤_, _<_}
 use native.Mathlib.Decide.{ℕ-discrete, decLe}
 use native.Mathlib.Omega.{arith}
 use lib.ListN.{length, getD}
 use lib.Seq.{ext-getD}
 use lib.Dec.{T, eqb, ltb, eqb→eq, ltb→lt, lt→ltb, T-not}
-use Rattle.postman.specs.Lists.{select}
 use Rattle.postman.specs.Plan.{Arc, Plan, isRequiredArc, arcAt, requiredArcs, WellFormed}
 use Rattle.postman.specs.Tour.{IsWalk}
 use Rattle.postman.specs.Required.{required}
 use Rattle.postman.specs.Component.{bothWays, component}
 use Rattle.postman.specs.Laws.Tests.{test, cond-ind, eqb-other}
-use Rattle.postman.specs.Laws.Membership.{mem-select, select-mem, getD-mem, mem-getD}
+use Rattle.postman.specs.Laws.Membership.{select-mem, getD-mem, mem-getD}
 use Rattle.postman.specs.Laws.Distance.{InPlan, bounded}
 use Rattle.postman.specs.Laws.Required.{IsRequiredNumber, required-mem, number-ends}
 use Rattle.postman.specs.Laws.Component.{undirected, component-walk, arc-component}

@@ -1,15 +1,15 @@
 -- A pair is a link exactly where thinning keeps it, over the table and the flags of the plan.
-use mathlib.Core.Path.{_≡_, refl, sym, ap, ap₂, _∙_, subst, subst⁻¹}
+use mathlib.Core.Path.{_≡_, refl, ap₂, subst, subst⁻¹}
 use mathlib.Core.Bool.{Bool, true, false, not, _&&_}
-use mathlib.Core.List.{List, [], map, List·Memᴰ}
+use mathlib.Core.List.{List, map, List·Memᴰ}
 use Prim.Native.Nat.{ℕ, _+_, _<_}
 use lib.ListN.{getD}
 use lib.Dec.{T, eqb}
-use Rattle.postman.specs.Lists.{select, anyOf, below}
+use Rattle.postman.specs.Lists.{anyOf, below}
 use Rattle.postman.specs.Plan.{Plan, WellFormed}
 use Rattle.postman.specs.Required.{isRequired, required}
 use Rattle.postman.specs.Distance.{distance}
-use Rattle.postman.specs.Link.{Link, pairs, isVia, isLink, links}
+use Rattle.postman.specs.Link.{pairs, isVia, isLink, links}
 use Rattle.postman.specs.Laws.Tests.{same-test, and-both, and-parts}
 use Rattle.postman.specs.Laws.Membership.{mem-select, select-mem, mem-map, mem-flatMap, anyOf-mem, anyOf-at, mem-below, below-mem}
 use Rattle.postman.specs.Laws.Link.{link, link-ends}

@@ -1,13 +1,12 @@
 -- A vertex is required where some required arc touches it, and then it is one of the list of required vertices.
-use mathlib.Core.Path.{_≡_, refl, sym, ap, _∙_, subst, subst⁻¹}
-use mathlib.Core.Logic.{_⊎_, inl, inr}
+use mathlib.Core.Path.{_≡_, sym, _∙_, subst}
+use mathlib.Core.Logic.{inl, inr}
 use mathlib.Core.Bool.{Bool, true, false, _&&_, _||_}
-use mathlib.Core.List.{List, List·Memᴰ, Memᴰ·cast}
+use mathlib.Core.List.{List·Memᴰ, Memᴰ·cast}
 use Prim.Native.Nat.{ℕ, _<_}
 use native.Mathlib.Omega.{arith}
-use lib.ListN.{length}
 use lib.Dec.{T, eqb, eqb→eq}
-use Rattle.postman.specs.Lists.{select, below, anyOf}
+use Rattle.postman.specs.Lists.{select, below}
 use Rattle.postman.specs.Plan.{Arc, Plan, isRequiredArc, arcAt, requiredArcs, WellFormed}
 use Rattle.postman.specs.Required.{isRequired, required}
 use Rattle.postman.specs.Laws.Tests.{and-parts, or-cases}

@@ -1,21 +1,21 @@
 -- The roots are the lowest vertices of the components, in order, so that their places are the components' numbers. A vertex that is not required is joined to
 -- none of them.
-use mathlib.Core.Path.{_≡_, refl, sym, ap, _∙_, subst, subst⁻¹}
-use mathlib.Core.Logic.{_⊎_, inl, inr}
+use mathlib.Core.Path.{_≡_, refl, sym, ap, _∙_}
+use mathlib.Core.Logic.{inl, inr}
 use mathlib.Core.Bool.{Bool, true, false, not, cond, _&&_}
 use mathlib.Core.List.{List, [], _∷_, List·Memᴰ, Memᴰ·cast}
-use Prim.Native.Nat.{ℕ, _≤_, _<_}
+use Prim.Native.Nat.{ℕ, _<_}
 use native.Mathlib.Decide.{decLe}
 use native.Mathlib.Omega.{arith}
 use lib.ListN.{length, getD}
 use lib.Dec.{T, eqb, ltb, eqb→eq, ltb→lt, lt→ltb, T-not, not-T}
 use Rattle.postman.specs.Lists.{select, below, anyOf}
-use Rattle.postman.specs.Plan.{Arc, Plan, arcAt, requiredArcs, WellFormed}
+use Rattle.postman.specs.Plan.{Plan, arcAt, requiredArcs, WellFormed}
 use Rattle.postman.specs.Tour.{IsWalk}
 use Rattle.postman.specs.Required.{isRequired, required}
 use Rattle.postman.specs.Component.{joined, lowest, component, componentCount}
 use Rattle.postman.specs.Laws.Tests.{test, same-test, and-both, and-parts, eqb-same}
-use Rattle.postman.specs.Laws.Membership.{select-mem, getD-mem, anyOf-mem, anyOf-at, mem-below, below-mem}
+use Rattle.postman.specs.Laws.Membership.{select-mem, getD-mem, anyOf-mem, anyOf-at, below-mem}
 use Rattle.postman.specs.Laws.Distance.{InPlan, bounded}
 use Rattle.postman.specs.Laws.Required.{required-ends, required-lt}
 use Rattle.postman.specs.Laws.Component.{undirected, joined-walk, walk-joined, walk-component, component-walk, component-at}

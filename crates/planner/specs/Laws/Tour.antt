@@ -88,7 +88,7 @@ module _ (p : Plan) (ok : Plannable p) (few : componentCount p ≤ 8) where
           | inr z ↦ let x = sum-none (λ k. amount f j k) (mjk .1) in omega arith
         ]
 
-    completes : Completes p t f
+    pub completes : Completes p t f
     unfolding amountsOf
     completes = record {
       some = ok .some-arc;

@@ -1,14 +1,13 @@
 -- The invariant: no arc before the kth begins a cheapest path. What the table holds makes the test that of the definition.
-use mathlib.Core.Path.{_≡_, refl, sym, ap, _∙_}
-use mathlib.Core.Bool.{Bool, true, false, not, _&&_}
+use mathlib.Core.Path.{_≡_, refl, sym, _∙_}
+use mathlib.Core.Bool.{Bool, true, false, _&&_}
 use mathlib.Core.List.{List, []}
 use Prim.Native.Nat.{ℕ, _+_, _-_, _≤_, _<_}
 use native.Mathlib.Omega.{arith}
 use borrow.Author.Count.{below-more}
 use lib.ListN.{length, getD}
-use lib.Dec.{T, eqb}
-use Rattle.postman.specs.Plan.{Arc, isOpen, arcAt, WellFormed}
-use Rattle.postman.specs.Distance.{distance}
+use lib.Dec.{eqb}
+use Rattle.postman.specs.Plan.{isOpen, WellFormed}
 use Rattle.plan.specs.declared.Plan.{Plan as PlanRecord}
 use Rattle.plan.specs.Records.{planValue, recordAt}
 use Rattle.shortest.specs.ShortestPath.{begins, nextArc}

@@ -8,7 +8,7 @@ use Rattle.postman.specs.Plan.{Arc, WellFormed, arcAt}
 use Rattle.plan.specs.declared.Plan.{Plan as PlanRecord}
 use Rattle.plan.specs.Records.{planValue, recordAt}
 use Rattle.shortest.specs.ShortestPath.{nextArc, shortestPath}
-use Rattle.shortest.specs.Laws.Records.{record-arcs, plan-vertices, plan-length, plan-arc}
+use Rattle.shortest.specs.Laws.Records.{record-arcs, plan-length, plan-arc}
 use Rattle.shortest.specs.Laws.ShortestPath.{next-begins}
 use Rattle.shortest.specs.Laws.PathWriting.{Writing, writing-none, writing-room, writing-more, writing-all}
 use borrow.Author.Needs.{needs}

@@ -1,8 +1,8 @@
-use mathlib.Core.Path.{_≡_, refl, sym, ap, _∙_}
+use mathlib.Core.Path.{_≡_, refl, ap, _∙_}
 use Prim.Native.Nat.{ℕ, _+_, _-_, _≤_, _<_}
 use native.Mathlib.Omega.{arith}
 use mathlib.Core.List.{List}
-use lib.ListN.{length, getD, set, take}
+use lib.ListN.{getD, set, take}
 use Rattle.postman.specs.Plan.{Arc, WellFormed}
 use Rattle.plan.specs.declared.Plan.{Plan as PlanRecord}
 use Rattle.plan.specs.Records.{planValue, recordAt}
@@ -53,7 +53,8 @@ mul-shorter c = search needs
 array-read-shorter : tie.Need-array-read-shorter Inv-loop μ-loop
 array-read-shorter c =
     let v = c .before .before .before .before in
-    record-ends (v .before .args .t1) (v .before .pre) (v .loop .k) (omega arith) .0
+    let e = record-ends (v .before .args .t1) (v .before .pre) (v .loop .k) (omega arith) in
+    omega arith
 
 weight-requires : tie.Need-weight-requires Inv-loop μ-loop
 weight-requires c κs = search needs
@@ -64,7 +65,8 @@ mul-shorter-2 c = search needs
 array-read-shorter-2 : tie.Need-array-read-shorter-2 Inv-loop μ-loop
 array-read-shorter-2 c =
     let v = c .before .before .before .before .before in
-    record-ends (v .before .args .t1) (v .before .pre) (v .loop .k) (omega arith) .1
+    let e = record-ends (v .before .args .t1) (v .before .pre) (v .loop .k) (omega arith) in
+    omega arith
 
 shorter-requires : tie.Need-shorter-requires Inv-loop μ-loop
 shorter-requires c κs = search needs
@@ -75,7 +77,8 @@ mul-next c = search needs
 array-write-next : tie.Need-array-write-next Inv-loop μ-loop
 array-write-next c =
     let v = c .before .before .before .before .before .before in
-    record-ends (v .before .args .t1) (v .before .pre) (v .loop .k) (omega arith) .1
+    let e = record-ends (v .before .args .t1) (v .before .pre) (v .loop .k) (omega arith) in
+    omega arith
 
 add-k : tie.Need-add-k Inv-loop μ-loop
 add-k c = search needs

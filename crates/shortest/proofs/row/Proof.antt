@@ -1,5 +1,5 @@
 -- The invariant: k − 1 rounds are done. A round that changes nothing ends the loop, and so does round n − 1.
-use mathlib.Core.Path.{_≡_, refl, ap, subst}
+use mathlib.Core.Path.{_≡_, refl}
 use Prim.Native.Nat.{_-_, _≤_}
 use native.Mathlib.Omega.{arith}
 use Rattle.postman.specs.Distance.{noPath}

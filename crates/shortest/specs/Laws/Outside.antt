@@ -1,5 +1,5 @@
 -- No walk of an arc begins or ends at a number that is no vertex. So the table holds "no path" there, but for the diagonal.
-use mathlib.Core.Path.{_≡_, sym}
+use mathlib.Core.Path.{_≡_}
 use mathlib.Core.Logic.{_≢_}
 use mathlib.Core.List.{List, [], _∷_}
 use Prim.Native.Nat.{ℕ, _≤_}

@@ -1,6 +1,6 @@
 -- A plan by value has as many arcs as its field m says, and arc k is that of record k.
 use mathlib.Core.Path.{_≡_, refl, sym, ap, _∙_, subst}
-use mathlib.Core.List.{List, [], _∷_, _++_}
+use mathlib.Core.List.{[], _∷_, _++_}
 use Prim.Native.Nat.{ℕ, _+_, _≤_, _<_}
 use native.Mathlib.Nat.{zero-add}
 use native.Mathlib.Numerals.{add-one}
@@ -8,7 +8,7 @@ use native.Mathlib.Omega.{arith}
 use lib.ListN.{length, length-map, take}
 use lib.Seq.{take-suc, take-all}
 use Rattle.postman.specs.Lists.{below}
-use Rattle.postman.specs.Plan.{Arc, Plan, arcAt, IsArc, WellFormed}
+use Rattle.postman.specs.Plan.{Arc, arcAt, IsArc, WellFormed}
 use Rattle.postman.specs.Laws.Membership.{length-below, getD-mem, mem-getD, getD-map-upFrom}
 use Rattle.plan.specs.declared.Plan.{Plan as PlanRecord}
 use Rattle.plan.specs.Records.{planValue, recordAt}

@@ -1,8 +1,6 @@
 -- After k rounds over all arcs a row is at most the cost of every walk of k arcs from its source, by the walk's last arc; and it is at least the distance, by the
 -- triangle inequality. So n − 1 rounds give the distances, and so does a round that changes nothing.
 use mathlib.Core.Path.{_≡_, refl, sym, ap, _∙_, subst, subst⁻¹}
-use mathlib.Core.Logic.{_⊎_, inl, inr}
-use mathlib.Core.Bool.{Bool, cond, not}
 use mathlib.Core.List.{List, [], _∷_, _++_, List·Memᴰ, List·Memᴰ·head, List·Memᴰ·tail}
 use Prim.Native.Nat.{ℕ, zero, suc, _+_, _-_, _≤_, _<_, min, zero-le}
 use native.Mathlib.Nat.{le-refl, le-trans}

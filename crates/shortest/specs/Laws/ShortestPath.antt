@@ -1,17 +1,16 @@
 -- The path is a walk that costs d: at each vertex some cheapest path begins with an open arc, and d falls along it because every arc costs at least 1. So no
 -- vertex is entered twice, and fewer vertices than there are lie nearer to the end: n arcs are enough.
-use mathlib.Core.Path.{_≡_, refl, sym, ap, _∙_, subst, subst⁻¹}
-use mathlib.Core.Logic.{_⊎_, inl, inr, _≢_}
-use mathlib.Core.Bool.{Bool, true, not, cond, _&&_}
-use mathlib.Core.List.{List, [], _∷_, map, List·Memᴰ, List·Memᴰ·cases-cons}
+use mathlib.Core.Path.{_≡_, ap}
+use mathlib.Core.Logic.{inl, inr, _≢_}
+use mathlib.Core.Bool.{true, _&&_}
+use mathlib.Core.List.{List, [], _∷_, List·Memᴰ, List·Memᴰ·cases-cons}
 use Prim.Native.Nat.{ℕ, zero, suc, _+_, _-_, _≤_, _<_, zero-le}
-use native.Mathlib.Nat.{le-refl, le-trans}
 use native.Mathlib.Decide.{decLe, ℕ-discrete}
 use native.Mathlib.Omega.{arith}
-use lib.ListN.{length, getD}
-use lib.Dec.{T, eqb, ltb, eqb→eq, lt→ltb, ltb→lt, T-not, not-T}
-use Rattle.postman.specs.Lists.{select, below, firstIndex, occurrences, delta}
-use Rattle.postman.specs.Plan.{Arc, Plan, isOpen, arcAt, WellFormed}
+use lib.ListN.{length}
+use lib.Dec.{T, eqb, ltb, eqb→eq, lt→ltb, ltb→lt, not-T}
+use Rattle.postman.specs.Lists.{select, below, occurrences}
+use Rattle.postman.specs.Plan.{Plan, isOpen, arcAt, WellFormed}
 use Rattle.postman.specs.Tour.{IsWalk, walkCost}
 use Rattle.postman.specs.Distance.{noPath, distance}
 use Rattle.postman.specs.Laws.Tests.{cond-ind, and-both, and-parts, eqb-same, eqb-other}

@@ -38,11 +38,13 @@ returns c =
     let s = c .before .before .before .before in
     let v = c .before .before .before .loop in
     let t = c .before .before .loop-test .taken in
-    let a = c .before .astray in
-    (a .ensures .0, record {
-      none = λ e. absurd (c .if1 .taken e);
-      some = λ n. (v .q, v .inv .0, t, on (getD (s .args .t1) (v .q) false) refl, a .ensures .1 (on (getD (s .args .t1) (v .q) false) refl));
-    })
+    let a = c .before .astray in (
+      a .ensures .0,
+      record {
+        none = λ e. absurd (c .if1 .taken e);
+        some = λ n. (v .q, v .inv .0, t, on (getD (s .args .t1) (v .q) false) refl, a .ensures .1 (on (getD (s .args .t1) (v .q) false) refl));
+      },
+    )
   where
     on : (b : Bool) → getD (c .before .before .before .before .args .t1) (c .before .before .before .loop .q) false ≡ b → getD (c .before .before .before .before .args .t1) (c .before .before .before .loop .q) false ≡ true
     on true e = e
@@ -60,11 +62,14 @@ loop-less c = search needs
 loop-again : tie.Need-loop-again Inv-loop μ-loop
 loop-again c =
     let v = c .before .before .before .loop in
-    let t = c .before .before .loop-test .taken in
-    (omega arith, omega arith, λ x p l h. elim (ℕ-discrete x (v .q)) [
-      | yes e ↦ subst⁻¹ (λ y. iterate 8 (entryOf (c .before .before .before .before .args .e)) y ≡ 0) e (sym (c .before .astray .ensures .1 (ap (λ y. getD (c .before .before .before .before .args .t1) y false) (sym e) ∙ h)) ∙ c .if1 .left)
-      | no o ↦ v .inv .2 x p (omega arith) h
-    ])
+    let t = c .before .before .loop-test .taken in (
+      omega arith,
+      omega arith,
+      λ x p l h. elim (ℕ-discrete x (v .q)) [
+        | yes e ↦ subst⁻¹ (λ y. iterate 8 (entryOf (c .before .before .before .before .args .e)) y ≡ 0) e (sym (c .before .astray .ensures .1 (ap (λ y. getD (c .before .before .before .before .args .t1) y false) (sym e) ∙ h)) ∙ c .if1 .left)
+        | no o ↦ v .inv .2 x p (omega arith) h
+      ],
+    )
 
 -- src/cheapest.rt:150:1
 returns-2 : tie.Need-returns-2 Inv-loop μ-loop

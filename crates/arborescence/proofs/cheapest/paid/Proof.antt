@@ -69,11 +69,13 @@ loop-again c =
     let hi2 = v .inv .4 in
     let e : j + 1 ≡ v .q = omega arith in
     let f : toZ w64 (ofZ w64 (c .pay .result)) ≡ c .pay .result = back64 _ (c .pay .ok) in
-    let g = toZ-ofZ (add-s c) ∙ ap (λ (x : ℤ). x +ℤ toZ w64 (v .s)) f in
-    (omega arith, omega arith,
-    g ∙ ap₂ _+ℤ_ (c .pay .ensures) (v .inv .2 ∙ ap (payments (s .args .w .now) (s .args .left) (s .args .e)) (sym e)) ∙ sym (payments-more (s .args .w .now) (s .args .left) (s .args .e) j (omega arith)),
-    subst⁻¹ (λ (x : ℤ). pos 0 ≤ℤ x) g (simp zl (omega (arith, z))),
-    subst⁻¹ (λ (x : ℤ). x ≤ℤ pos ((8 - j) * highest)) g (simp zl (omega (arith, z))))
+    let g = toZ-ofZ (add-s c) ∙ ap (λ (x : ℤ). x +ℤ toZ w64 (v .s)) f in (
+      omega arith,
+      omega arith,
+      g ∙ ap₂ _+ℤ_ (c .pay .ensures) (v .inv .2 ∙ ap (payments (s .args .w .now) (s .args .left) (s .args .e)) (sym e)) ∙ sym (payments-more (s .args .w .now) (s .args .left) (s .args .e) j (omega arith)),
+      subst⁻¹ (λ (x : ℤ). pos 0 ≤ℤ x) g (simp zl (omega (arith, z))),
+      subst⁻¹ (λ (x : ℤ). x ≤ℤ pos ((8 - j) * highest)) g (simp zl (omega (arith, z))),
+    )
 
 -- src/cheapest.rt:90:1
 returns : tie.Need-returns Inv-loop μ-loop

@@ -78,9 +78,12 @@ loop-again c =
     let t = c .before .before .before .loop-test .taken in
     let f = back64 (c .before .pay .result) (c .before .pay .ok) ∙ c .before .pay .ensures in
     let g : toZ w64 (ofZ w64 (getD (s .args .w .now) (v .i) (pos 0))) ≡ getD (s .args .w .now) (v .i) (pos 0) = back64 _ (c .before .before .lesser-arg .given) in
-    let h = v .inv .1 in
-    (omega arith, search needs, filled-more (pos 0) (λ m. less (getD (s .args .w .now) m (pos 0)) (payOf (s .args .w .now) (s .args .left) (s .args .e) (m % 8))) (v .v) (v .i) _ (omega arith) (v .inv .2)
-    (back64 _ (c .lesser .ok) ∙ c .lesser .ensures ∙ ap₂ less g f))
+    let h = v .inv .1 in (
+      omega arith,
+      search needs,
+      filled-more (pos 0) (λ m. less (getD (s .args .w .now) m (pos 0)) (payOf (s .args .w .now) (s .args .left) (s .args .e) (m % 8))) (v .v) (v .i) _ (omega arith) (v .inv .2)
+          (back64 _ (c .lesser .ok) ∙ c .lesser .ensures ∙ ap₂ less g f),
+    )
 
 -- src/cheapest.rt:115:1
 returns : tie.Need-returns Inv-loop μ-loop

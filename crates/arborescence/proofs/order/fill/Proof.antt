@@ -15,7 +15,7 @@ use Rattle.arborescence.proofs.order.fill.Lts as lts
 use Rattle.arborescence.proofs.order.find.Reads as find-reads
 
 abbrev Inv-loop : tie.InvT-loop
-Inv-loop start source sets k n c₀ q₀ c q =     (length c ≡ 8) × (1 ≤ q) × (q ≤ k) × HasChosen (laidOut k start source) q c × T (completable (laidOut k start source) (take q c))
+Inv-loop start source sets k n c₀ q₀ c q = (length c ≡ 8) × (1 ≤ q) × (q ≤ k) × HasChosen (laidOut k start source) q c × T (completable (laidOut k start source) (take q c))
     × (filled (laidOut k start source) (k - q) (take q c) ≡ filled (laidOut k start source) (k - n) (take n c₀))
 
 abbrev μ-loop : tie.MeasureT-loop
@@ -47,7 +47,7 @@ loop-less c = search needs
 
 -- src/order.rt:123:5
 loop-again : tie.Need-loop-again Inv-loop μ-loop
-loop-again c =     let s = c .before .before .before in
+loop-again c = let s = c .before .before .before in
     let v = c .before .before .loop in
     let few = s .pre .0 .few in
     let t = c .before .loop-test .taken in
@@ -63,12 +63,13 @@ loop-again c =     let s = c .before .before .before in
 -- src/order.rt:118:1
 returns : tie.Need-returns Inv-loop μ-loop
 unfolding filled
-returns c =     let v = c .before .loop in
+returns c = let v = c .before .loop in
     let k = c .before .before .args .k in
     let e : v .q ≡ k = omega arith in
-    let z : k - v .q ≡ 0 = omega arith in
-    (ap (λ n. take n (v .c)) (sym e) ∙ sym (ap (λ m. filled (laidOut k (c .before .before .args .start .now) (c .before .before .args .source .now)) m (take (v .q) (v .c))) z) ∙ v .inv .5,
-    subst (λ n. HasChosen (laidOut k (c .before .before .args .start .now) (c .before .before .args .source .now)) n (v .c)) e (v .inv .3))
+    let z : k - v .q ≡ 0 = omega arith in (
+      ap (λ n. take n (v .c)) (sym e) ∙ sym (ap (λ m. filled (laidOut k (c .before .before .args .start .now) (c .before .before .args .source .now)) m (take (v .q) (v .c))) z) ∙ v .inv .5,
+      subst (λ n. HasChosen (laidOut k (c .before .before .args .start .now) (c .before .before .args .source .now)) n (v .c)) e (v .inv .3),
+    )
 
 pub fill-spec : {M : Type 1} → statement M
 fill-spec =

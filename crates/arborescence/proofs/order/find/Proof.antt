@@ -42,14 +42,13 @@ completes-requires c κs = let s = c .before .before .before .before in (s .pre 
 
 -- src/order.rt:110:13
 returns : tie.Need-returns Inv-loop μ-loop
-returns c =     let s = c .before .before .before .before .before .before in
+returns c = let s = c .before .before .before .before .before .before in
     let v = c .before .before .before .loop in
     let g = laidOut (s .args .k) (s .args .start .now) (s .args .source .now) in
     let few = s .pre .0 .few in
     let e = c .before .before .before .before .entry-sets in
     let d : length (e .result) ≡ 8 = search needs in
     let n = c .before .before .before .before .before .count in
-
     let xs = take (s .args .q) (s .args .choice) in
     let l : length (s .args .choice) ≡ 8 = search needs in
     let h : length xs ≡ s .args .q = length-take-le (s .args .q) (s .args .choice) (omega arith) in
@@ -66,21 +65,22 @@ loop-less c = search needs
 
 -- src/order.rt:108:5
 loop-again : tie.Need-loop-again Inv-loop μ-loop
-loop-again c =     let s = c .before .before .before .before .before .before in
+loop-again c = let s = c .before .before .before .before .before .before in
     let v = c .before .before .before .loop in
     let g = laidOut (s .args .k) (s .args .start .now) (s .args .source .now) in
     let few = s .pre .0 .few in
     let e = c .before .before .before .before .entry-sets in
     let d : length (e .result) ≡ 8 = search needs in
     let n = c .before .before .before .before .before .count in
-
-    let t = c .before .before .loop-test .taken in
-    (omega arith, λ xs h f. search-passed g xs (n .result) (v .i) (s .args .from) (n .ensures .0 ∙ ap (g .count) (sym h)) (v .inv .1 xs h f)
-    (sym (completes-is g xs (e .result) (s .args .q) (v .i) _ h (omega arith) f refl) ∙ sym (c .before .completes .ensures) ∙ c .if1 .left) t)
+    let t = c .before .before .loop-test .taken in (
+      omega arith,
+      λ xs h f. search-passed g xs (n .result) (v .i) (s .args .from) (n .ensures .0 ∙ ap (g .count) (sym h)) (v .inv .1 xs h f)
+          (sym (completes-is g xs (e .result) (s .args .q) (v .i) _ h (omega arith) f refl) ∙ sym (c .before .completes .ensures) ∙ c .if1 .left) t,
+    )
 
 -- src/order.rt:101:1
 returns-2 : tie.Need-returns-2 Inv-loop μ-loop
-returns-2 c =     let s = c .before .before .before .before in
+returns-2 c = let s = c .before .before .before .before in
     let v = c .before .loop in
     let g = laidOut (s .args .k) (s .args .start .now) (s .args .source .now) in
     let few = s .pre .0 .few in

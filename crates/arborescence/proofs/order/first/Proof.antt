@@ -24,7 +24,7 @@ all-reached-requires c κs = (c .pre .0 .sources .some-component, c .pre .0 .few
 
 -- src/order.rt:136:13
 fill-requires : tie.Need-fill-requires
-fill-requires c κs =     let s = c .before .before in
+fill-requires c κs = let s = c .before .before in
     let g = laidOut (s .args .k) (s .args .start .now) (s .args .source .now) in
     let e : completable g none-chosen ≡ true = sym (open-is g (s .args .sets .now) (s .pre .1)) ∙ sym (c .before .all-reached .ensures) ∙ c .if1 .taken in
     (s .pre .0, s .pre .1, record { each = λ q p b. absurd (omega arith) }, omega arith, s .pre .0 .sources .some-component, subst⁻¹ T e tt)
@@ -32,7 +32,7 @@ fill-requires c κs =     let s = c .before .before in
 -- src/order.rt:137:9
 returns : tie.Need-returns
 unfolding firstChoice
-returns c =     let s = c .before .before .before in
+returns c = let s = c .before .before .before in
     let g = laidOut (s .args .k) (s .args .start .now) (s .args .source .now) in
     let e : completable g none-chosen ≡ true = sym (open-is g (s .args .sets .now) (s .pre .1)) ∙ sym (c .before .before .all-reached .ensures) ∙ c .before .if1 .taken in
     (rw (e, c .fill .ensures .0), λ t. c .fill .ensures .1)
@@ -40,7 +40,7 @@ returns c =     let s = c .before .before .before in
 -- src/order.rt:130:1
 returns-2 : tie.Need-returns-2
 unfolding firstChoice
-returns-2 c =     let s = c .before .before in
+returns-2 c = let s = c .before .before in
     let g = laidOut (s .args .k) (s .args .start .now) (s .args .source .now) in
     let e : completable g none-chosen ≡ false = sym (open-is g (s .args .sets .now) (s .pre .1)) ∙ sym (c .before .all-reached .ensures) ∙ c .if1 .left in
     (rw e, λ t. (let y : _≡_ {A = ℕ} 0 1 = cc in absurd (omega arith)))

@@ -43,7 +43,7 @@ array-read-find c = let h = c .before .before .pre .0 .few in search needs
 
 -- src/order.rt:156:57
 add-find : tie.Need-add-find Inv-loop μ-loop
-add-find c =     let s = c .before .before in
+add-find c = let s = c .before .before in
     let v = c .before .loop in
     let t = c .loop-test .taken in
     let j = v .q - 1 in
@@ -53,7 +53,7 @@ add-find c =     let s = c .before .before in
 
 -- src/order.rt:156:13
 find-requires : tie.Need-find-requires Inv-loop μ-loop
-find-requires c κs =     let s = c .before .before in
+find-requires c κs = let s = c .before .before in
     let v = c .before .loop in
     let t = c .loop-test .taken in
     let j = v .q - 1 in
@@ -79,13 +79,12 @@ add-fill c = search needs
 
 -- src/order.rt:160:17
 fill-requires : tie.Need-fill-requires Inv-loop μ-loop
-fill-requires c κs =     let s = c .before .before .before .before .before in
+fill-requires c κs = let s = c .before .before .before .before .before in
     let v = c .before .before .before .before .loop in
     let few = s .pre .0 .few in
     let l : length (s .args .t5) ≡ 8 = search needs in
     let g = laidOut (s .args .k) (s .args .start .now) (s .args .source .now) in
     let ok = s .pre .0 .sources in
-
     let t = c .before .before .before .loop-test .taken in
     let j = v .q - 1 in
     let i = c .before .before .find .result in
@@ -96,13 +95,12 @@ fill-requires c κs =     let s = c .before .before .before .before .before in
 
 -- src/order.rt:161:13
 returns : tie.Need-returns Inv-loop μ-loop
-returns c =     let s = c .before .before .before .before .before .before in
+returns c = let s = c .before .before .before .before .before .before in
     let v = c .before .before .before .before .before .loop in
     let few = s .pre .0 .few in
     let l : length (s .args .t5) ≡ 8 = search needs in
     let g = laidOut (s .args .k) (s .args .start .now) (s .args .source .now) in
     let ok = s .pre .0 .sources in
-
     let t = c .before .before .before .before .loop-test .taken in
     let j = v .q - 1 in
     let i = c .before .before .before .find .result in
@@ -116,13 +114,12 @@ loop-less c = search needs
 
 -- src/order.rt:154:5
 loop-again : tie.Need-loop-again Inv-loop μ-loop
-loop-again c =     let s = c .before .before .before .before .before in
+loop-again c = let s = c .before .before .before .before .before in
     let v = c .before .before .before .before .loop in
     let few = s .pre .0 .few in
     let l : length (s .args .t5) ≡ 8 = search needs in
     let g = laidOut (s .args .k) (s .args .start .now) (s .args .source .now) in
     let ok = s .pre .0 .sources in
-
     let t = c .before .before .before .loop-test .taken in
     let j = v .q - 1 in
     let i = c .before .before .find .result in
@@ -133,7 +130,7 @@ loop-again c =     let s = c .before .before .before .before .before in
 -- src/order.rt:149:1
 returns-2 : tie.Need-returns-2 Inv-loop μ-loop
 unfolding advanced
-returns-2 c =     let v = c .before .loop in
+returns-2 c = let v = c .before .loop in
     let s = c .before .before in
     let g = laidOut (s .args .k) (s .args .start .now) (s .args .source .now) in
     let e : v .q ≡ 1 = omega arith in

@@ -82,9 +82,12 @@ loop-again c =
     let f : toZ w64 (ofZ w64 (getD (v .m) (x .result) (pos 0))) ≡ getD (v .m) (x .result) (pos 0) = back64 _ (c .before .before .lesser-arg .given) in
     let g : toZ w64 (ofZ w64 (c .before .offer .result)) ≡ offerOf d u r (v .l / 64) (v .l % 64) = back64 (c .before .offer .result) (c .before .offer .ok) ∙ c .before .offer .ensures in
     let q : IsLesser (getD (v .m) (x .result) (pos 0)) (offerOf d u r (v .l / 64) (v .l % 64)) (c .lesser .result) = rw (← f, ← g) (c .lesser .ensures) in
-    let k : toZ w64 (ofZ w64 (c .lesser .result)) ≡ c .lesser .result = back64 (c .lesser .result) (c .lesser .ok) in
-    (omega arith, search needs, rw k
-    (offers-more d u (s .args .component .now) r (s .pre) (v .l) t (v .m) (v .inv .2) (x .result) (v .inv .1) (x .ensures .0) (x .ensures .1) (c .lesser .result) q))
+    let k : toZ w64 (ofZ w64 (c .lesser .result)) ≡ c .lesser .result = back64 (c .lesser .result) (c .lesser .ok) in (
+      omega arith,
+      search needs,
+      rw k
+          (offers-more d u (s .args .component .now) r (s .pre) (v .l) t (v .m) (v .inv .2) (x .result) (v .inv .1) (x .ensures .0) (x .ensures .1) (c .lesser .result) q),
+    )
 
 -- src/pairs.rt:71:1
 returns : tie.Need-returns Inv-loop μ-loop

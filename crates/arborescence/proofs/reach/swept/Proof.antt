@@ -45,7 +45,7 @@ loop-less c = search needs
 
 -- src/reach.rt:32:5
 loop-again : tie.Need-loop-again Inv-loop μ-loop
-loop-again c =     let v = c .before .before .before .loop in
+loop-again c = let v = c .before .before .before .loop in
     let l = v .inv .0 in
     let e : v .j + 1 - 1 ≡ v .j = omega arith in
     (omega arith, omega arith, omega arith, c .entered .ensures ∙ rw (e, v .inv .3) (sym (sweep-step _ _ _ l)))

@@ -1,0 +1,2 @@
+-- The records of a plan with one arc more.
+pub mod Copied

@@ -1,0 +1,125 @@
+// A sum over all that a plan's table, paths and network hold.
+use network::Network;
+use plan::Plan;
+ghost use Prim.Native.Nat.{_<_};
+ghost use Rattle.postman.specs.Plan.{WellFormed};
+ghost use Rattle.plan.specs.Records.{planValue};
+ghost use Rattle.shortest.specs.Contracts.{IsTable};
+
+fn fold(sum: u64, x: u64) -> u64 {
+    (sum % 65521 * 31 + x % 4294967296) % 65521
+}
+
+fn wide(x: u16) -> u64 {
+    x as u64
+}
+
+fn fold_row(sum: u64, row: [u32; 64]) -> u64 {
+    let mut s = sum;
+    for j in 0..64 {
+        s = fold(s, row[j] as u64);
+    }
+    s
+}
+
+fn fold_table(sum: u64, t: &[[u32; 64]; 64]) -> u64 {
+    let mut s = sum;
+    for i in 0..64 {
+        s = fold_row(s, t[i]);
+    }
+    s
+}
+
+fn fold_places(sum: u64, places: &[u16], n: usize) -> u64 {
+    let mut s = fold(sum, n as u64);
+    for k in 0..64 {
+        if k < n && k < places.len() {
+            s = fold(s, wide(places[k]));
+        }
+    }
+    s
+}
+
+// The path from i to j, where there is one.
+fn fold_path(sum: u64, p: Plan, t: &[[u32; 64]; 64], i: usize, j: usize) -> u64
+    requires { ⌜ WellFormed (planValue p) × IsTable (planValue p) (now t) × (i < 64) × (j < 64) ⌝ }
+{
+    let n = p.n as usize;
+    if i >= n {
+        return sum;
+    }
+    if j >= n {
+        return sum;
+    }
+    if t[i][j] == 4294967295 {
+        return sum;
+    }
+    let mut places = [0u16; 64];
+    let end = shortest::path(p, t, i, j, &mut places, 0);
+    fold_places(sum, &places, end)
+}
+
+fn fold_paths_from(sum: u64, p: Plan, t: &[[u32; 64]; 64], i: usize) -> u64
+    requires { ⌜ WellFormed (planValue p) × IsTable (planValue p) (now t) × (i < 64) ⌝ }
+{
+    let mut s = sum;
+    for j in 0..64 {
+        s = fold_path(s, p, t, i, j);
+    }
+    s
+}
+
+fn fold_paths(sum: u64, p: Plan, t: &[[u32; 64]; 64]) -> u64
+    requires { ⌜ WellFormed (planValue p) × IsTable (planValue p) (now t) ⌝ }
+{
+    let mut s = sum;
+    for i in 0..64 {
+        s = fold_paths_from(s, p, t, i);
+    }
+    s
+}
+
+fn fold_signed(sum: u64, x: i64) -> u64 {
+    let s = fold(sum, (x < 0) as u64);
+    fold(s, crate::show::magnitude(x))
+}
+
+fn fold_vertices(sum: u64, required: [bool; 64], component: [u8; 64], d: [i64; 64]) -> u64 {
+    let mut s = sum;
+    for v in 0..64 {
+        s = fold(s, required[v] as u64);
+        s = fold(s, component[v] as u64);
+        s = fold_signed(s, d[v]);
+    }
+    s
+}
+
+fn fold_links(sum: u64, links: [bool; 4096]) -> u64 {
+    let mut s = sum;
+    for x in 0..4096 {
+        s = fold(s, links[x] as u64);
+    }
+    s
+}
+
+fn fold_network(sum: u64, net: Network) -> u64 {
+    let required = net.required;
+    let component = net.component;
+    let d = net.imbalance;
+    let links = net.links;
+    let a = fold_vertices(sum, required, component, d);
+    let b = fold_links(a, links);
+    let c = fold(b, net.components as u64);
+    let e = fold(c, net.required_cost);
+    fold(e, net.cut_off as u64)
+}
+
+pub fn of(p: Plan) -> u64
+    requires { ⌜ WellFormed (planValue p) ⌝ }
+{
+    let t = shortest::table(p);
+    let net = network::network_of(p, &t);
+    let a = fold_table(0, &t);
+    let b = fold_paths(a, p, &t);
+    fold_network(b, net)
+}

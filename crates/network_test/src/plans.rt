@@ -1,0 +1,88 @@
+// Plans made arc by arc. What an arc holds is brought into its range, so that every plan is well formed.
+use plan::Arc;
+use plan::Plan;
+ghost use Prim.Native.Nat.{_≤_};
+ghost use Rattle.postman.specs.Plan.{IsArc, WellFormed};
+ghost use Rattle.plan.specs.Records.{planValue, arcValue};
+ghost use Rattle.network_test.specs.Copied.{Copied};
+
+// A cost of at least 1.
+fn priced(cost: u16) -> u16
+    ensures { λ r. ⌜ (1 ≤ r) × (r ≤ 65535) ⌝ }
+{
+    if cost == 0 {
+        return 1;
+    }
+    cost
+}
+
+fn in_range(n: u8, tail: u8, head: u8, standing: u8, cost: u16) -> Arc
+    requires { ⌜ (1 ≤ n) × (n ≤ 64) ⌝ }
+    ensures { λ r. ⌜ IsArc n (arcValue r) ⌝ }
+{
+    Arc {
+        tail: tail % n,
+        head: head % n,
+        standing: standing % 3,
+        cost: priced(cost),
+    }
+}
+
+fn vertices(n: u8) -> u8
+    ensures { λ r. ⌜ (1 ≤ r) × (r ≤ 64) ⌝ }
+{
+    if n == 0 {
+        return 1;
+    }
+    if n > 64 {
+        return 64;
+    }
+    n
+}
+
+// A plan of one arc.
+pub fn plan_of(n: u8, tail: u8, head: u8, standing: u8, cost: u16) -> Plan
+    ensures { λ r. ⌜ WellFormed (planValue r) ⌝ }
+{
+    let k = vertices(n);
+    let a = in_range(k, tail, head, standing, cost);
+    let arcs = [a; 256];
+    Plan {
+        n: k,
+        m: 1,
+        arcs: arcs,
+    }
+}
+
+// The records of the plan's arcs, and the arc a in all others.
+fn copied(p: Plan, a: Arc) -> [Arc; 256]
+    requires { ⌜ WellFormed (planValue p) ⌝ }
+    ensures { λ r. ⌜ Copied (p .arcs) a r (p .m) ⌝ }
+{
+    let m = p.m as usize;
+    let mut arcs = [a; 256];
+    for k in 0..m {
+        let b = p.arcs[k];
+        arcs[k] = b;
+    }
+    arcs
+}
+
+// The plan with one arc more, while there is room.
+pub fn with_arc(p: Plan, tail: u8, head: u8, standing: u8, cost: u16) -> Plan
+    requires { ⌜ WellFormed (planValue p) ⌝ }
+    ensures { λ r. ⌜ WellFormed (planValue r) ⌝ }
+{
+    let m = p.m;
+    if m >= 256 {
+        return p;
+    }
+    let n = p.n;
+    let a = in_range(n, tail, head, standing, cost);
+    let arcs = copied(p, a);
+    Plan {
+        n: n,
+        m: m + 1,
+        arcs: arcs,
+    }
+}

@@ -1,0 +1,68 @@
+-- Each call is asked what the laws of laying say; the state with the links added is the balancing of the plan with them, and its direct amounts complete it.
+use mathlib.Core.Path.{sym, ap, _∙_, subst}
+use mathlib.Core.List.{[]}
+use Prim.Native.Nat.{_≤_}
+use native.Mathlib.Omega.{arith}
+use borrow.Author.Needs.{needs}
+use Rattle.circuit.specs.Filled.{linksOf}
+use Rattle.circuit.specs.Tour.{tour, written}
+use Rattle.balance.specs.Records.{stateOf}
+use Rattle.planner.specs.Laws.Lay.{base-metric, base-table, state-certified, state-room, tree-joined, tree-short, tree-length, tails-in, heads-in, full-is, amounts-are, amounts-complete}
+use Rattle.planner.proofs.lay.lay.Statement.{statement}
+use Rattle.planner.proofs.lay.lay.Tie as tie
+use Rattle.planner.proofs.lay.lay.Reads as reads
+use Rattle.planner.proofs.lay.lay.Lts as lts
+use Rattle.balance.proofs.add_all.Reads as add-all-reads
+use Rattle.balance.proofs.direct_amounts.Reads as direct-amounts-reads
+use Rattle.circuit.proofs.write_tour.Reads as write-tour-reads
+
+add-all-requires : tie.Need-add-all-requires
+add-all-requires c κs =
+    let s = c .before .before .before .before in
+    let b = s .pre .0 in
+    let t = s .pre .1 in
+    let r = state-room _ _ _ (b .known) [] (λ l m. elim m [ ]) (omega arith) _ (b .base-is) in
+    let n = tree-length _ _ _ _ b _ _ t in
+    (base-metric _ _ _ (b .known), state-certified _ _ _ (b .known) [] (λ l m. elim m [ ]) (omega arith) _ (b .base-is), sym (t .same), omega arith, tails-in _ _ _ _ b _ _ t, heads-in _ _ _ _ b _ _ t)
+
+direct-amounts-requires : tie.Need-direct-amounts-requires
+direct-amounts-requires c κs =
+    let s = c .before .before .before .before .before in
+    let b = s .pre .0 in
+    let t = s .pre .1 in
+    let e = full-is _ _ _ _ b _ _ t (stateOf (c .add-all .result)) (c .add-all .ensures) in
+    let j = tree-joined _ _ _ _ b _ _ t in
+    let l = tree-short _ _ _ _ b _ _ t in
+    let r = state-room _ _ _ (b .known) _ j (omega arith) _ e in
+    (base-metric _ _ _ (b .known), state-certified _ _ _ (b .known) _ j (omega arith) _ e, omega arith)
+
+write-tour-requires : tie.Need-write-tour-requires
+write-tour-requires c κs =
+    let s = c .before .before .before .before .before .before .before .before in
+    let b = s .pre .0 in
+    let t = s .pre .1 in
+    let full = c .before .before .before .add-all in
+    let laid = c .before .before .direct-amounts in
+    let e = full-is _ _ _ _ b _ _ t (stateOf (full .result)) (full .ensures) in
+    let a = amounts-are _ _ _ _ b _ _ t _ e (laid .result) (laid .ensures) in
+    ((b .known .plannable .well-formed, base-table _ _ _ (b .known)), ((t .same, amounts-complete _ _ _ _ b _ _ t _ a), s .pre .2))
+
+same-length : tie.Need-same-length
+same-length c = search needs
+
+returns : tie.Need-returns
+returns c =
+    let s = c .before .before .before .before .before .before .before .before .before .before .before in
+    let b = s .pre .0 in
+    let t = s .pre .1 in
+    let full = c .before .before .before .before .before .before .add-all in
+    let laid = c .before .before .before .before .before .direct-amounts in
+    let w = c .before .before .write-tour in
+    let e = full-is _ _ _ _ b _ _ t (stateOf (full .result)) (full .ensures) in
+    let a = amounts-are _ _ _ _ b _ _ t _ e (laid .result) (laid .ensures) in
+    (rw a at (w .ensures .0), rw a at (w .ensures .1))
+
+pub lay-spec : {M : Type 1} → statement M
+lay-spec =
+    tie.close
+    (tie.spec add-all-requires direct-amounts-requires write-tour-requires same-length returns)

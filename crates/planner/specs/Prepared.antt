@@ -1,0 +1,31 @@
+-- What is known of a plan once it is prepared.
+use mathlib.Core.Path.{_≡_}
+use mathlib.Core.List.{List, []}
+use Prim.Native.Nat.{ℕ, _≤_}
+use lib.ListN.{length}
+use Rattle.postman.specs.Plan.{Plan}
+use Rattle.postman.specs.Required.{required}
+use Rattle.postman.specs.Component.{componentCount}
+use Rattle.postman.specs.Arborescence.{IsArborescence}
+use Rattle.postman.specs.Laws.Optimality.{Plannable}
+use Rattle.balance.specs.Step.{State, cell}
+use Rattle.balance.specs.Balance.{balance}
+use Rattle.circuit.specs.Filled.{linksOf}
+use Rattle.planner.specs.Tour.{tableOf}
+
+-- The plan is not refused; the table of its distances, and its required vertices.
+pub record IsKnown (p : Plan) (table : List (List ℕ)) (vs : List ℕ) : Type 0 where
+  pub plannable : Plannable p
+  pub few : componentCount p ≤ 8
+  pub distances : table ≡ tableOf p
+  pub vertices : vs ≡ required p
+
+-- With the state of its required arcs.
+pub record IsBase (p : Plan) (table : List (List ℕ)) (vs : List ℕ) (base : State) : Type 0 where
+  pub known : IsKnown p table vs
+  pub base-is : base ≡ balance (cell (tableOf p)) p []
+
+-- Tails and heads of the links of an arborescence.
+pub record IsTree (p : Plan) (tails heads : List ℕ) : Type 0 where
+  pub same : length heads ≡ length tails
+  pub tree : IsArborescence p (linksOf tails heads)

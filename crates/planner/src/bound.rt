@@ -1,0 +1,45 @@
+// L(u), and the floor.
+use plan::Plan;
+ghost use mathlib.Core.Path.{_≡_};
+ghost use Prim.Native.Nat.{ℕ, _≤_};
+ghost use lib.IntN.{pos, _+ℤ_};
+ghost use Rattle.integers.specs.Linear.{Within};
+ghost use Rattle.postman.specs.Lists.{maxℤ};
+ghost use Rattle.postman.specs.LagrangianBound.{lagrangianBound};
+ghost use Rattle.plan.specs.Records.{planValue};
+ghost use Rattle.arborescence.specs.PairCosts.{multipliersOf};
+ghost use Rattle.planner.specs.Priced.{IsPriced};
+
+// "the larger of L(0) and L(u)"
+pub fn larger(a: i64, b: i64) -> i64
+    ensures { λ r. ⌜ r ≡ maxℤ a b ⌝ }
+{
+    if a <= b { b } else { a }
+}
+
+// Three parts of a bound.
+fn total(required_cost: u64, price: u64, cheapest: i64) -> i64
+    requires { ⌜ («required_cost» ≤ 4398046511104) × (price ≤ 4398046511104) × Within 66059280 cheapest ⌝ }
+    ensures { λ r. ⌜ r ≡ pos «required_cost» +ℤ pos price +ℤ cheapest ⌝ }
+{
+    let sum = required_cost + price;
+    sum as i64 + cheapest
+}
+
+// "L(u) = R + (sum of u(i) × D(i)) + A(u)."
+pub fn lagrangian(
+    plan: Plan,
+    table: &[[u32; 64]; 64],
+    u: &[i64; 64],
+    component: &[u8; 64],
+    required: &[bool; 64],
+    k: usize,
+    required_cost: u64,
+    price: u64,
+) -> i64
+    requires { ⌜ IsPriced (planValue plan) (now table) (now u) (now component) (now required) k «required_cost» price ⌝ }
+    ensures { λ r. ⌜ r ≡ lagrangianBound (planValue plan) (multipliersOf (now (u .entry))) ⌝ }
+{
+    let a = arborescence::pairs::cheapest_arborescence(table, u, component, required, k);
+    total(required_cost, price, a)
+}

@@ -1,0 +1,24 @@
+// What the trees are tried from: the state of the required arcs.
+use balance::Balance;
+use plan::Plan;
+ghost use mathlib.Core.Path.{_≡_};
+ghost use mathlib.Core.List.{[]};
+ghost use Rattle.plan.specs.Records.{planValue};
+ghost use Rattle.balance.specs.Records.{stateOf};
+ghost use Rattle.balance.specs.Step.{cell};
+ghost use Rattle.balance.specs.Balance.{balance as balanceOf};
+ghost use Rattle.planner.specs.Tour.{tableOf};
+ghost use Rattle.planner.specs.Prepared.{IsKnown};
+
+// The balancing of the required arcs, added one by one in file order.
+pub fn base_state(plan: Plan, table: &[[u32; 64]; 64], vs: &[u8]) -> Balance
+    requires { ⌜ IsKnown (planValue plan) (now table) (now vs) ⌝ }
+    ensures { λ r. ⌜ stateOf r ≡ balanceOf (cell (tableOf (planValue plan))) (planValue plan) [] ⌝ }
+{
+    let mut numbers = [0u16; 256];
+    let mut tails = [0u8; 526];
+    let mut heads = [0u8; 526];
+    let c = circuit::gather(plan, &mut numbers, &mut tails, &mut heads);
+    let none = balance::empty();
+    balance::add_all(none, table, vs, &tails[..c], &heads[..c])
+}

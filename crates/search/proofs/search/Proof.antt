@@ -1,0 +1,136 @@
+-- After `tried` turns the choice is the one at that place of the order, and the best is that of the arborescences before it. Assumes nothing.
+use mathlib.Core.Path.{_≡_, refl}
+use Prim.Native.Nat.{_+_, _-_, _≤_}
+use native.Mathlib.Omega.{arith}
+use lib.ListN.{take}
+use Rattle.postman.specs.Plan.{Plan}
+use Rattle.arborescence.specs.Order.{choiceAt}
+use Rattle.arborescence.specs.Layout.{laidOut, stepOf}
+use Rattle.plan.specs.Records.{planValue}
+use Rattle.search.specs.Best.{IsBest}
+use Rattle.search.specs.Prepared.{Prepared}
+use Rattle.search.specs.Contracts.{stateFrom}
+use Rattle.search.specs.Laws.Costs.{ready, feasible}
+use Rattle.search.specs.Laws.Choice.{has-chosen, choosable}
+use Rattle.search.specs.Laws.Steps.{next-step, some-step, goes, stops}
+use Rattle.search.specs.Laws.Best.{best-first, best-more, first-choice, searched}
+use borrow.Author.Needs.{needs}
+use Rattle.search.proofs.search.Statement.{statement}
+use Rattle.search.proofs.search.Tie as tie
+
+abbrev Inv-loop : tie.InvT-loop
+Inv-loop d vs start source tails heads k u required-cost budget amounts potentials cost count sets best₀ found₀ choice₀ tried₀ best found choice tried =
+    (1 ≤ tried) × (tried ≤ budget) × (stepOf k found choice ≡ choiceAt (laidOut k start source) tried)
+    × ((p : Plan) → Prepared p d vs start source tails heads k (stateFrom amounts potentials cost count) u required-cost → IsBest p tried (k - 1) (best .cost) (best .tails) (best .heads))
+
+abbrev μ-loop : tie.MeasureT-loop
+μ-loop d vs start source tails heads k u required-cost budget amounts potentials cost count sets best₀ found₀ choice₀ tried₀ best found choice tried =
+    budget - tried
+
+source-sets-requires : tie.Need-source-sets-requires Inv-loop μ-loop
+source-sets-requires c κs = c .before .before .before .pre .0 .layout
+
+first-requires : tie.Need-first-requires Inv-loop μ-loop
+first-requires c κs = (c .before .before .before .before .before .pre .0 .layout, c .before .source-sets .ensures)
+
+completed-requires : tie.Need-completed-requires Inv-loop μ-loop
+completed-requires c κs =
+    let h = c .before .before .before .before .before .before .before .before .before .pre .0 in
+    let f = c .before .before .before .first in
+    let e = first-choice h (f .result .found) (f .result .choice) (f .ensures) in
+    (choosable h 0 (f .result .choice) e, ready h)
+
+next-requires : tie.Need-next-requires Inv-loop μ-loop
+next-requires c κs =
+    let h = c .before .before .before .before .before .before .before .before .before .before .before .pre .0 in
+    let f = c .before .before .before .before .before .first in
+    let e = first-choice h (f .result .found) (f .result .choice) (f .ensures) in
+    (h .layout, c .before .before .before .before .before .before .before .source-sets .ensures, has-chosen h 0 (f .result .choice) e)
+
+loop-holds : tie.Need-loop-holds Inv-loop μ-loop
+loop-holds c =
+    let h = c .before .before .before .before .before .before .before .before .before .before .before .before .before .pre .0 in
+    let f = c .before .before .before .before .before .before .before .first in
+    let e = first-choice h (f .result .found) (f .result .choice) (f .ensures) in
+    let s = c .before .before .before .before .before .before .before .before .before .before .before .before .before in (
+      omega arith,
+      s .pre .1,
+      next-step (laidOut (s .args .k) (s .args .start .now) (s .args .source .now)) 0 (take (s .args .k) (f .result .choice)) e (c .before .next .ensures),
+      λ p g. best-first g 0 (f .result .choice) e refl (c .before .before .before .completed .ensures .1) (c .before .before .before .completed .ensures .0),
+    )
+
+goes-on-requires : tie.Need-goes-on-requires Inv-loop μ-loop
+goes-on-requires c κs = search needs
+
+turn-requires : tie.Need-turn-requires Inv-loop μ-loop
+turn-requires c κs =
+    let s = c .before .before .before .before .before .before .before .before .before .before .before .before .before .before .before .before .before .before in
+    let v = c .before .before .before .before .loop in
+    let g = goes (v .found) (v .tried) (s .args .budget) (c .before .before .before .goes-on .ensures) (c .before .before .if1 .taken) in
+    let e = some-step (s .args .k) (v .found) (v .choice) (v .inv .2) (g .0) in
+    (choosable (s .pre .0) (v .tried) (v .choice) e, ready (s .pre .0), feasible (s .pre .0))
+
+add-tried : tie.Need-add-tried Inv-loop μ-loop
+add-tried c =
+    let s = c .before .before .before .before .before .before .before .before .before .before .before .before .before .before .before .before .before .before .before in
+    let v = c .before .before .before .before .before .loop in
+    let g = goes (v .found) (v .tried) (s .args .budget) (c .before .before .before .before .goes-on .ensures) (c .before .before .before .if1 .taken) in
+    let e = some-step (s .args .k) (v .found) (v .choice) (v .inv .2) (g .0) in
+    let l : v .tried + 1 ≤ s .args .budget = omega (arith, g .1) in
+    let b = s .fits .budget in
+    search needs
+
+next-requires-2 : tie.Need-next-requires-2 Inv-loop μ-loop
+next-requires-2 c κs =
+    let s = c .before .before .before .before .before .before .before .before .before .before .before .before .before .before .before .before .before .before .before .before in
+    let v = c .before .before .before .before .before .before .loop in
+    let g = goes (v .found) (v .tried) (s .args .budget) (c .before .before .before .before .before .goes-on .ensures) (c .before .before .before .before .if1 .taken) in
+    let e = some-step (s .args .k) (v .found) (v .choice) (v .inv .2) (g .0) in
+    (s .pre .0 .layout, c .before .before .before .before .before .before .before .before .before .before .before .before .before .before .before .before .source-sets .ensures, has-chosen (s .pre .0) (v .tried) (v .choice) e)
+
+loop-less : tie.Need-loop-less Inv-loop μ-loop
+loop-less c =
+    let s = c .before .before .before .before .before .before .before .before .before .before .before .before .before .before .before .before .before .before .before .before .before .before in
+    let v = c .before .before .before .before .before .before .before .before .loop in
+    let g = goes (v .found) (v .tried) (s .args .budget) (c .before .before .before .before .before .before .before .goes-on .ensures) (c .before .before .before .before .before .before .if1 .taken) in
+    let e = some-step (s .args .k) (v .found) (v .choice) (v .inv .2) (g .0) in
+    omega (arith, g .1)
+
+loop-again : tie.Need-loop-again Inv-loop μ-loop
+loop-again c =
+    let s = c .before .before .before .before .before .before .before .before .before .before .before .before .before .before .before .before .before .before .before .before .before .before in
+    let v = c .before .before .before .before .before .before .before .before .loop in
+    let g = goes (v .found) (v .tried) (s .args .budget) (c .before .before .before .before .before .before .before .goes-on .ensures) (c .before .before .before .before .before .before .if1 .taken) in
+    let e = some-step (s .args .k) (v .found) (v .choice) (v .inv .2) (g .0) in (
+      omega arith,
+      omega (arith, g .1),
+      next-step (laidOut (s .args .k) (s .args .start .now) (s .args .source .now)) (v .tried) (take (s .args .k) (v .choice)) e (c .before .next2 .ensures),
+      λ p h. best-more h (v .tried) (v .choice) e (v .inv .0) (v .inv .3 p h) (c .before .before .before .turn .ensures),
+    )
+
+returns : tie.Need-returns Inv-loop μ-loop
+returns c =
+    let s = c .before .before .before .before .before .before .before .before .before .before .before .before .before .before .before .before .before .before in
+    let v = c .before .before .before .before .loop in
+    searched (s .pre .0) (s .args .budget) (v .tried) (v .found) (v .choice) _ (s .pre .1) (v .inv .1) (v .inv .2)
+    (stops (v .found) (v .tried) (s .args .budget) (c .before .before .before .goes-on .ensures) (c .before .before .if1 .left))
+    (v .inv .3 (planValue (s .args .plan)) (s .pre .0)) refl refl
+
+pub search-spec : {M : Type 1} → statement M
+search-spec =
+    tie.close
+    (tie.spec
+    Inv-loop
+    μ-loop
+    source-sets-requires
+    first-requires
+    completed-requires
+    next-requires
+    loop-holds
+    goes-on-requires
+    turn-requires
+    add-tried
+    next-requires-2
+    loop-less
+    loop-again
+    returns)

@@ -1,0 +1,10 @@
+-- What is proved about the definitions.
+pub mod Links
+pub mod Entries
+pub mod Costs
+pub mod Choice
+pub mod Steps
+pub mod Best
+pub mod Turns
+pub mod Reduced
+pub mod Completion
