@@ -1,5 +1,5 @@
 -- Amounts from surplus to deficit only: what a vertex b receives from a and sends on to c goes from a to c directly, for every b, a and c in their order.
-use mathlib.Core.Bool.{Bool, cond}
+use mathlib.Core.Bool.{cond}
 use mathlib.Core.List.{List}
 use Prim.Native.Nat.{ℕ, _+_, _*_, _-_, min}
 use lib.ListN.{set}

@@ -1,4 +1,4 @@
--- Laws.
+-- What is proved: sums and duality, the search, the step and the arcs, the multipliers, the direct amounts, and what all of it says of a plan.
 pub mod Sum
 pub mod Duality
 pub mod Fold

@@ -1,8 +1,8 @@
 -- Dijkstra's search towards a vertex t, over lengths ℓ(i,j) between the vertices vs. It settles the vertices in the order of their distance to t, the first of vs
 -- where several are nearest. `Laws.Search`: what it finds.
 use mathlib.Core.Bool.{Bool, not, cond, _&&_}
-use mathlib.Core.List.{List, [], _∷_}
-use Prim.Native.Nat.{ℕ, zero, suc, _+_, _*_, _-_, min}
+use mathlib.Core.List.{List}
+use Prim.Native.Nat.{ℕ, zero, suc, _+_, _-_, min}
 use lib.ListN.{length, getD, set, replicate}
 use lib.Dec.{eqb, ltb}
 use Rattle.balance.specs.Fold.{fold}

@@ -1,8 +1,8 @@
 -- One arc more, from t to h: one unit more is sent from h to t, along a cheapest residual path.
-use mathlib.Core.Bool.{Bool, false, cond}
+use mathlib.Core.Bool.{false, cond}
 use mathlib.Core.List.{List, [], _∷_}
 use Prim.Native.Nat.{ℕ, zero, suc, _+_, _*_, _-_, min}
-use lib.ListN.{length, getD, set, replicate}
+use lib.ListN.{getD, set, replicate}
 use lib.Dec.{eqb, ltb}
 use Rattle.postman.specs.Link.{Link}
 use Rattle.balance.specs.Fold.{fold}

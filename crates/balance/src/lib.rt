@@ -23,6 +23,7 @@ fn vertex(vs: &[u8], a: usize) -> u8
     vs[a]
 }
 
+// A vertex as an index.
 fn wide(v: u8) -> usize
     ensures { λ r. ⌜ r ≡ v ⌝ }
 {
@@ -249,7 +250,7 @@ fn raise_by(x: &[u64; 64], most: u64, u: &[u64; 64], vs: &[u8]) -> [u64; 64]
     raised
 }
 
-// The amounts and the potentials that certify them, the amounts' cost, and how many arcs were counted.
+// The amounts, at i * 64 + j what is sent from vertex i to vertex j, and the potentials that certify them, the amounts' cost, and how many arcs were counted.
 pub struct Balance {
     pub amounts: [u16; 4096],
     pub potentials: [u64; 64],
@@ -257,7 +258,7 @@ pub struct Balance {
     pub count: u16,
 }
 
-// No arc is counted.
+// The state in which no arc is counted.
 pub fn empty() -> Balance
     ensures { λ r. ⌜ stateOf r ≡ emptyState ⌝ }
 {
@@ -269,7 +270,7 @@ pub fn empty() -> Balance
     }
 }
 
-// One arc more.
+// One arc more: one unit more is sent from its head to its tail, along a cheapest residual path.
 pub fn add(s: Balance, d: &[[u32; 64]; 64], vs: &[u8], tail: u8, head: u8) -> Balance
     requires { ⌜ Metric (cell (now d)) (now vs) × Certified (cell (now d)) (now vs) (stateOf s) × (s .count < limit) × List·Memᴰ tail (now vs) × List·Memᴰ head (now vs) ⌝ }
     ensures { λ r. ⌜ stateOf r ≡ addState (cell (now (d .entry))) (now (vs .entry)) (stateOf s) tail head ⌝ }
@@ -332,7 +333,7 @@ pub fn multipliers(s: Balance, d: &[[u32; 64]; 64], vs: &[u8], root: u8) -> [i64
 // Arcs added one by one, in their order.
 pub fn add_all(s: Balance, d: &[[u32; 64]; 64], vs: &[u8], tails: &[u8], heads: &[u8]) -> Balance
     requires { ⌜ Metric (cell (now d)) (now vs) × Certified (cell (now d)) (now vs) (stateOf s) × (length (now tails) ≡ length (now heads)) × (s .count + length (now tails) ≤ limit) × AllIn (now vs) (now tails) × AllIn (now vs) (now heads) ⌝ }
-    ensures { λ r. ⌜ stateOf r ≡ addAllStates (cell (now (d .entry))) (now (vs .entry)) (stateOf s) (arcsOf (now (tails .entry)) (now (heads .entry))) ⌝ }
+    ensures { λ r. ⌜ (stateOf r ≡ addAllStates (cell (now (d .entry))) (now (vs .entry)) (stateOf s) (arcsOf (now (tails .entry)) (now (heads .entry)))) × Certified (cell (now (d .entry))) (now (vs .entry)) (stateOf r) × (r .count ≡ s .count + length (now (tails .entry))) ⌝ }
 {
     let mut b = s;
     let mut k: usize = 0;

@@ -19,7 +19,7 @@ pub record Added (ls : List Link) (n m : ℕ) (tails tails′ heads heads′ : L
   pub tails-are : Extends tails n (map (λ l. l .tail) ls) tails′
   pub heads-are : Extends heads n (map (λ l. l .head) ls) heads′
 
--- The links with these tails and heads.
+-- The links with these tails and heads: an arborescence is handed over as two lists.
 unfoldable pub linksOf : List ℕ → List ℕ → List Link
 linksOf [] hs = []
 linksOf (t ∷ ts) [] = []

@@ -19,9 +19,9 @@ ghost use Rattle.circuit.specs.Tour.{legPlaces, placesOf, tour, written,
 ghost use Rattle.circuit.specs.Filled.{Extends, Added, Noted, Laid, linksOf};
 
 // How far the walk reaches from the start of the places, and where the placed legs begin.
-pub struct Progress {
-    pub depth: usize,
-    pub start: usize,
+struct Progress {
+    depth: usize,
+    start: usize,
 }
 
 // Whether a leg with this tail and flag is an unused one out of v.
@@ -184,9 +184,9 @@ pub fn gather(
 }
 
 // How many legs are required arcs, and how many there are.
-pub struct Counts {
-    pub required: usize,
-    pub legs: usize,
+struct Counts {
+    required: usize,
+    legs: usize,
 }
 
 // All legs: the required arcs, the links, the units of the amounts.

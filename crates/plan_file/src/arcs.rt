@@ -13,7 +13,7 @@ ghost use Rattle.plan.specs.Standings.{standingOf, isRefusedStanding};
 ghost use Rattle.plan.specs.Records.{arcValue};
 use crate::Refusal;
 use crate::Verdict;
-use crate::bits::field;
+use crate::bit_reader::take_at;
 use plan::Arc;
 use plan::Standing;
 
@@ -100,10 +100,10 @@ pub(crate) fn field_verdict(s: &[u8], n: u32, k: usize) -> Verdict
     ensures { λ r. ⌜ verdictNumber r ≡ firstRefusal (arcConditions n (arcOf (now (s .entry)) k)) ⌝ }
 {
     let at = 20 + 30 * k;
-    let tail = field(s, at, 6);
-    let head = field(s, at + 6, 6);
-    let two_bits = field(s, at + 12, 2);
-    let cost = field(s, at + 14, 16);
+    let tail = take_at(s, at, 6).field;
+    let head = take_at(s, at + 6, 6).field;
+    let two_bits = take_at(s, at + 12, 2).field;
+    let cost = take_at(s, at + 14, 16).field;
     let standing = field_standing(two_bits);
     arc_verdict(n, tail, head, cost, standing)
 }

@@ -3,6 +3,7 @@ ghost use mathlib.Core.Path.{_≡_};
 ghost use Rattle.plan_file.specs.Verdicts.{refusalNumber};
 
 pub mod bits; // bit fields of a slice of bytes
+pub mod bit_reader; // a file's slice with a bit position
 pub mod arcs; // what is refused of an arc
 pub mod reader; // from bytes to a plan
 pub mod writer; // from a plan to bytes

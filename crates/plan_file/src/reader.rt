@@ -16,7 +16,7 @@ use crate::Refusal;
 use crate::Verdict;
 use crate::arcs::field_verdict;
 use crate::arcs::is_outside;
-use crate::bits::field;
+use crate::bit_reader::take_at;
 use plan::Arc;
 use plan::Plan;
 
@@ -35,7 +35,7 @@ fn fill_bits(s: &[u8], m: usize) -> u32
 {
     let at = 20 + 30 * m;
     let end = 8 * file_length(m);
-    field(s, at, end - at)
+    take_at(s, at, end - at).field
 }
 
 // The first refusal of the m arcs, arc by arc.
@@ -80,15 +80,15 @@ pub fn file_verdict(s: &[u8]) -> Verdict
     if s.len() < 3 {
         return Verdict::Refused(Refusal::Torn);
     }
-    let edition = field(s, 0, 4);
+    let edition = take_at(s, 0, 4).field;
     if edition != 1 {
         return Verdict::Refused(Refusal::Edition);
     }
-    let n = field(s, 4, 7);
+    let n = take_at(s, 4, 7).field;
     if is_outside(n, 1, 64) {
         return Verdict::Refused(Refusal::Extent);
     }
-    let m = field(s, 11, 9);
+    let m = take_at(s, 11, 9).field;
     if is_outside(m, 1, 256) {
         return Verdict::Refused(Refusal::Extent);
     }
@@ -96,20 +96,19 @@ pub fn file_verdict(s: &[u8]) -> Verdict
 }
 
 // The record of arc k of the file.
-fn read_arc(s: &[u8], k: usize) -> Arc
+pub fn read_arc(s: &[u8], k: usize) -> Arc
     requires { ⌜ (k < 256) × (50 + 30 * k ≤ 8 * length (now s)) ⌝ }
     ensures { λ r. ⌜ r ≡ recordOf (arcOf (now (s .entry)) k) ⌝ }
 {
-    let at = 20 + 30 * k;
-    let tail = field(s, at, 6);
-    let head = field(s, at + 6, 6);
-    let standing = field(s, at + 12, 2);
-    let cost = field(s, at + 14, 16);
+    let tail = take_at(s, 20 + 30 * k, 6);
+    let head = take_at(s, tail.at, 6);
+    let standing = take_at(s, head.at, 2);
+    let cost = take_at(s, standing.at, 16);
     Arc {
-        tail: tail as u8,
-        head: head as u8,
-        standing: standing as u8,
-        cost: cost as u16,
+        tail: tail.field as u8,
+        head: head.field as u8,
+        standing: standing.field as u8,
+        cost: cost.field as u16,
     }
 }
 
@@ -136,8 +135,8 @@ fn accepted_plan(s: &[u8]) -> Plan
     requires { ⌜ firstRefusal (fileConditions (now s)) ≡ none ⌝ }
     ensures { λ r. ⌜ r ≡ planRecord (planOf (now (s .entry))) ⌝ }
 {
-    let n = field(s, 4, 7);
-    let m = field(s, 11, 9);
+    let n = take_at(s, 4, 7).field;
+    let m = take_at(s, 11, 9).field;
     let arcs = read_arcs(s, m as usize);
     Plan {
         n: n as u8,

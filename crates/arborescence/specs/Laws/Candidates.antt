@@ -3,6 +3,7 @@
 use mathlib.Core.Path.{_≡_, refl, sym, ap, ap₂, _∙_, subst, subst⁻¹}
 use mathlib.Core.Bool.{Bool, not, cond, _&&_}
 use mathlib.Core.List.{List, [], _∷_, _++_, map, flatMap, List·Memᴰ, List·Memᴰ·head, List·Memᴰ·tail, append-assoc}
+use mathlib.Core.Option.{Option, none, some}
 use Prim.Native.Nat.{ℕ, zero, suc, _+_, _-_, _≤_, _<_}
 use native.Mathlib.Nat.{add-zero, add-suc, suc-add}
 use native.Mathlib.Numerals.{one-add}
@@ -21,10 +22,31 @@ use Rattle.postman.specs.Laws.Distance.{InPlan}
 use Rattle.postman.specs.Laws.Component.{component-lt}
 use Rattle.postman.specs.Laws.Link.{link-ends}
 use Rattle.postman.specs.Laws.Arborescence.{candidates-mem}
-use Rattle.arborescence.specs.Order.{Sources, AreSources, parentOf, arrivesBy, extensions, none-chosen, inOrder}
+use Rattle.arborescence.specs.Order.{Sources, AreSources, parentOf, arrivesBy, extensions, none-chosen, inOrder, choiceAt, entryAt}
 use Rattle.arborescence.specs.Candidates.{AreCandidates, linksOf}
 use Rattle.arborescence.specs.Laws.Lists.{map-cong, map-map, map-flatMap, flatMap-map, flatMap-cong, select-map, by-place}
 use Rattle.arborescence.specs.Laws.Reach.{same-steps}
+use Rattle.arborescence.specs.Laws.Completion.{Chooses, extension-of}
+use Rattle.arborescence.specs.Laws.Order.{choice-at}
+
+-- ---- entries of a list
+
+module _ {A : Type 0} where
+  unfoldable pub mapOption : {B : Type 0} → (A → B) → Option A → Option B
+  mapOption f none = none
+  mapOption f (some x) = some (f x)
+
+  entry-map : {B : Type 0} (f : A → B) (l : List A) (t : ℕ) → entryAt (map f l) t ≡ mapOption f (entryAt l t)
+  unfolding entryAt mapOption
+  entry-map f [] t = refl
+  entry-map f (x ∷ l) zero = refl
+  entry-map f (x ∷ l) (suc t) = entry-map f l t
+
+  entry-mem : (l : List A) (t : ℕ) (x : A) → entryAt l t ≡ some x → List·Memᴰ x l
+  unfolding entryAt
+  entry-mem [] t x e = let y : _≡_ {A = ℕ} 0 1 = cc in absurd (omega arith)
+  entry-mem (y ∷ l) zero x e = let h : x ≡ y = cc in List·Memᴰ·head h
+  entry-mem (y ∷ l) (suc t) x e = List·Memᴰ·tail (entry-mem l t x e)
 
 -- ---- one element of each list, by numbers
 
@@ -66,7 +88,7 @@ allOf-cong f f′ (x ∷ xs) h = ap₂ _&&_ (h x (List·Memᴰ·head refl)) (all
 abbrev noLink : Link
 noLink = record { tail = 0; head = 0 }
 
-module _ (p : Plan) (ok : InPlan p) (some : 1 ≤ componentCount p) (c : Sources) (are : AreCandidates p c) where
+module _ (p : Plan) (ok : InPlan p) (nonempty : 1 ≤ componentCount p) (c : Sources) (are : AreCandidates p c) where
   abbrev k : ℕ
   k = componentCount p
 
@@ -151,3 +173,22 @@ module _ (p : Plan) (ok : InPlan p) (some : 1 ≤ componentCount p) (c : Sources
       ∙ map-cong (λ ys. linksOf p (0 ∷ ys)) (chosen noLink (candidates p) 1) picks (λ ys m. links-are ys (select-mem (λ ys. arrivesBy c (0 ∷ ys)) numbers m .0)))
       ∙ ap (map (linksOf p)) (sym (select-map (arrivesBy c) (λ ys. arrivesBy c (0 ∷ ys)) (λ ys. 0 ∷ ys) numbers (λ ys m. refl))
       ∙ ap (λ (l : List (List ℕ)). select (arrivesBy c) (map (λ ys. 0 ∷ ys) l)) (sym numbers-same))
+
+  -- after t steps the choice stands for arborescence t, and there is none exactly where there is no arborescence t
+  pub arborescence-at : (t : ℕ) → entryAt (arborescences p) t ≡ mapOption (linksOf p) (choiceAt c t)
+  arborescence-at t = ap (λ (l : List (List Link)). entryAt l t) in-order ∙ entry-map (linksOf p) (inOrder c) t ∙ ap (mapOption (linksOf p)) (sym (choice-at c are-sources t))
+
+  -- a choice that the steps reach takes one candidate of each component: what the next step requires
+  pub choice-chooses : (t : ℕ) (xs : List ℕ) → choiceAt c t ≡ some xs → (length xs ≡ k) × Chooses c xs
+  unfolding inOrder
+  choice-chooses t xs e =
+      let m = entry-mem (inOrder c) t xs (sym (choice-at c are-sources t) ∙ e) in
+      let r = extension-of c (c .components - 1) none-chosen m in
+      let n = are .components in
+      let l = r .2 in
+      let s = ap length (r .1) in
+      (omega arith, λ q a b. subst⁻¹ (λ (z : List ℕ). getD z q 0 < c .count q) (r .1) (later (r .0) (r .3) q a (omega arith)))
+    where
+      later : (ys : List ℕ) → ((i : ℕ) → i < c .components - 1 → getD ys i 0 < c .count (1 + i)) → (q : ℕ) → 1 ≤ q → q < suc (c .components - 1) → getD (0 ∷ ys) q 0 < c .count q
+      later ys h zero a b = absurd (omega arith)
+      later ys h (suc q) a b = subst (λ i. getD ys q 0 < c .count i) (one-add q) (h q (omega arith))

@@ -1,5 +1,5 @@
 -- The parts are what the callees ensure, and the laws of the step give what they ask. Assumes nothing.
-use mathlib.Core.Path.{_≡_, ap, ap₂, _∙_, subst⁻¹}
+use mathlib.Core.Path.{ap, ap₂, _∙_, subst⁻¹}
 use mathlib.Core.List.{List}
 use Prim.Native.Nat.{ℕ, _+_, _≤_, _<_}
 use native.Mathlib.Omega.{arith}
@@ -12,15 +12,7 @@ use Rattle.balance.specs.Laws.Step.{vertices-small, levels-small, amount
 use borrow.Author.Needs.{needs}
 use Rattle.balance.proofs.add.Statement.{statement}
 use Rattle.balance.proofs.add.Tie as tie
-use Rattle.balance.proofs.add.Reads as reads
-use Rattle.balance.proofs.add.Lts as lts
-use Rattle.balance.proofs.augment_along.Reads as augment-along-reads
-use Rattle.balance.proofs.monus.Reads as monus-reads
-use Rattle.balance.proofs.raise_by.Reads as raise-by-reads
-use Rattle.balance.proofs.search_towards.Reads as search-towards-reads
-use Rattle.balance.proofs.wide.Reads as wide-reads
 
--- src/lib.rt:244:9
 search-towards-requires : tie.Need-search-towards-requires
 search-towards-requires c κs =
     let start = c .before .before .before .before in (
@@ -31,25 +23,20 @@ search-towards-requires c κs =
       start .pre .0 .size,
     )
 
--- src/lib.rt:246:9
 wide-requires : tie.Need-wide-requires
 wide-requires c κs = search needs
 
--- src/lib.rt:247:9
 wide-requires-2 : tie.Need-wide-requires-2
 wide-requires-2 c κs = search needs
 
--- src/lib.rt:248:16
 mul-most : tie.Need-mul-most
 mul-most c = search needs
 
--- src/lib.rt:248:16
 array-read-most : tie.Need-array-read-most
 array-read-most c =
     let start = c .before .before .before .before .before .before .before .before in
     omega (arith, c .before .wide .ensures, start .pre .0 .small (start .args .head) (start .pre .4))
 
--- src/lib.rt:249:13
 raise-by-requires : tie.Need-raise-by-requires
 unfolding way
 raise-by-requires c κs =
@@ -60,7 +47,6 @@ raise-by-requires c κs =
       vertices-small (cell (start .args .d .now)) (start .args .vs .now) (start .pre .0),
     )
 
--- src/lib.rt:252:9
 augment-along-requires : tie.Need-augment-along-requires
 unfolding way
 augment-along-requires c κs =
@@ -72,17 +58,14 @@ augment-along-requires c κs =
       amounts-small (cell (start .args .d .now)) (start .args .vs .now) (start .pre .0) (stateOf (start .args .t1)) (start .pre .1) (start .pre .2),
     )
 
--- src/lib.rt:253:24
 mul-sum : tie.Need-mul-sum
 mul-sum c = search needs
 
--- src/lib.rt:253:24
 array-read-sum : tie.Need-array-read-sum
 array-read-sum c =
     let start = c .before .before .before .before .before .before .before .before .before .before .before .before .before .before .before .before in
     omega (arith, c .before .before .before .before .before .before .before .before .before .wide .ensures, start .pre .0 .small (start .args .head) (start .pre .4))
 
--- src/lib.rt:253:15
 add-sum : tie.Need-add-sum
 unfolding way
 add-sum c =
@@ -91,25 +74,20 @@ add-sum c =
     let e = ap₂ (λ (w : Found) (k : ℕ). raise (w .distance) (getD (w .distance) k 0) (start .args .t1 .potentials) (start .args .vs .now)) (c .before .before .before .before .before .before .before .before .before .before .before .search-towards .ensures) (h .ensures) in
     record { fits = subst⁻¹ (λ (u : List ℕ). start .args .t1 .cost + getD u (h .result) 0 < 18446744073709551616) (c .before .before .before .before .raise-by .ensures ∙ e) (sum-small (cell (start .args .d .now)) (start .args .vs .now) (start .pre .0) (stateOf (start .args .t1)) (start .pre .1) (start .pre .2) (start .args .tail) (start .args .head) (start .pre .3) (start .pre .4) (h .ensures)) }
 
--- src/lib.rt:254:27
 mul-monus : tie.Need-mul-monus
 mul-monus c = search needs
 
--- src/lib.rt:254:27
 array-read-monus : tie.Need-array-read-monus
 array-read-monus c =
     let start = c .before .before .before .before .before .before .before .before .before .before .before .before .before .before .before .before in
     omega (arith, c .before .before .before .before .before .before .before .before .wide2 .ensures, start .pre .0 .small (start .args .tail) (start .pre .3))
 
--- src/lib.rt:254:9
 monus-requires : tie.Need-monus-requires
 monus-requires c κs = search needs
 
--- src/lib.rt:255:61
 add-t34 : tie.Need-add-t34
 add-t34 c = search needs
 
--- src/lib.rt:240:1
 returns : tie.Need-returns
 unfolding way
 returns c =

@@ -1,6 +1,6 @@
 -- The arcs left to add, from the state that the loop holds, lead to what all of them lead to. Assumes nothing.
 use mathlib.Core.Path.{_≡_, refl, sym, ap, _∙_, subst⁻¹}
-use Prim.Native.Nat.{ℕ, _+_, _≤_, _-_}
+use Prim.Native.Nat.{_+_, _≤_, _-_}
 use native.Mathlib.Omega.{arith}
 use lib.ListN.{length, getD, drop}
 use Rattle.balance.specs.Step.{State, cell, add, addAll, arcsOf}
@@ -11,9 +11,6 @@ use Rattle.balance.specs.Laws.Turns.{all-more, all-end, counted}
 use borrow.Author.Needs.{needs}
 use Rattle.balance.proofs.add_all.Statement.{statement}
 use Rattle.balance.proofs.add_all.Tie as tie
-use Rattle.balance.proofs.add_all.Reads as reads
-use Rattle.balance.proofs.add_all.Lts as lts
-use Rattle.balance.proofs.add.Reads as add-reads
 
 abbrev Inv-loop : tie.InvT-loop
 Inv-loop d vs tails heads b₀ k₀ b k =
@@ -23,19 +20,15 @@ Inv-loop d vs tails heads b₀ k₀ b k =
 abbrev μ-loop : tie.MeasureT-loop
 μ-loop d vs tails heads b₀ k₀ b k = length tails - k
 
--- src/lib.rt:303:5
 loop-holds : tie.Need-loop-holds Inv-loop μ-loop
 loop-holds c = (omega arith, c .before .before .before .pre .1, omega arith, refl)
 
--- src/lib.rt:304:17
 shared-slice-read-t : tie.Need-shared-slice-read-t Inv-loop μ-loop
 shared-slice-read-t c = search needs
 
--- src/lib.rt:305:17
 shared-slice-read-h : tie.Need-shared-slice-read-h Inv-loop μ-loop
 shared-slice-read-h c = search needs
 
--- src/lib.rt:306:13
 add-requires : tie.Need-add-requires Inv-loop μ-loop
 add-requires c κs =
     let at = c .before .before .before in
@@ -48,15 +41,12 @@ add-requires c κs =
       start .pre .5 (at .loop .k) (omega (arith, start .pre .2)),
     )
 
--- src/lib.rt:308:9
 add-k : tie.Need-add-k Inv-loop μ-loop
 add-k c = search needs
 
--- src/lib.rt:303:5
 loop-less : tie.Need-loop-less Inv-loop μ-loop
 loop-less c = search needs
 
--- src/lib.rt:303:5
 loop-again : tie.Need-loop-again Inv-loop μ-loop
 loop-again c =
     let at = c .before .before .before .before in
@@ -71,12 +61,11 @@ loop-again c =
       all-more (cell (start .args .d .now)) (start .args .vs .now) (at .loop .k) (start .args .tails .now) (start .args .heads .now) (stateOf (at .loop .b)) (at .loop .inv .3) l (start .pre .2) (c .add .ensures),
     )
 
--- src/lib.rt:297:1
 returns : tie.Need-returns Inv-loop μ-loop
 returns c =
     let start = c .before .before .before .before .before in
-    sym (all-end (cell (start .args .d .now)) (start .args .vs .now) (c .before .loop .k) (start .args .tails .now) (start .args .heads .now) (stateOf (c .before .loop .b)) (c .loop-test .left))
-    ∙ c .before .loop .inv .3
+    let e = sym (all-end (cell (start .args .d .now)) (start .args .vs .now) (c .before .loop .k) (start .args .tails .now) (start .args .heads .now) (stateOf (c .before .loop .b)) (c .loop-test .left)) in
+    (e ∙ c .before .loop .inv .3, c .before .loop .inv .1, omega arith)
 
 pub add-all-spec : {M : Type 1} → statement M
 add-all-spec =

@@ -1,23 +1,15 @@
 -- What is left of the path after k steps, from where they led, leaves what the whole path does. Assumes nothing.
 use mathlib.Core.Path.{_≡_, refl, sym, ap, _∙_}
 use mathlib.Core.Logic.{⊎-elim}
-use Prim.Native.Nat.{ℕ, _+_, _*_, _≤_, _<_, _-_}
+use Prim.Native.Nat.{_+_, _*_, _≤_, _<_, _-_}
 use native.Mathlib.Omega.{arith}
-use lib.ListN.{length, getD, set, take}
-use Rattle.balance.specs.Fold.{fold}
 use Rattle.balance.specs.Bounds.{AtMost}
 use Rattle.balance.specs.Invariant.{limit}
-use Rattle.balance.specs.Step.{augment, push}
+use Rattle.balance.specs.Step.{augment}
 use Rattle.balance.specs.Laws.Turns.{augment-end, augment-more, at-most-more}
 use borrow.Author.Needs.{needs}
 use Rattle.balance.proofs.augment_along.Statement.{statement}
 use Rattle.balance.proofs.augment_along.Tie as tie
-use Rattle.balance.proofs.augment_along.Reads as reads
-use Rattle.balance.proofs.augment_along.Lts as lts
-use Rattle.balance.proofs.following.Reads as following-reads
-use Rattle.balance.proofs.moved_by.Reads as moved-by-reads
-use Rattle.balance.proofs.place_of.Reads as place-of-reads
-use Rattle.balance.proofs.wide.Reads as wide-reads
 
 abbrev Inv-loop : tie.InvT-loop
 Inv-loop next h t g₀ v₀ k₀ g v k =
@@ -26,84 +18,64 @@ Inv-loop next h t g₀ v₀ k₀ g v k =
 abbrev μ-loop : tie.MeasureT-loop
 μ-loop next h t g₀ v₀ k₀ g v k = 64 - k
 
--- src/lib.rt:192:5
 loop-holds : tie.Need-loop-holds Inv-loop μ-loop
 loop-holds c = (omega arith, c .pre .0, c .pre .3, refl)
 
--- src/lib.rt:194:13
 returns : tie.Need-returns Inv-loop μ-loop
 returns c =
     sym (augment-end _ _ _ _ _ (c .if1 .taken)) ∙ c .before .before .loop .inv .3
 
--- src/lib.rt:196:13
 wide-requires : tie.Need-wide-requires Inv-loop μ-loop
 wide-requires c κs = search needs
 
--- src/lib.rt:197:13
 following-requires : tie.Need-following-requires Inv-loop μ-loop
 following-requires c κs = search needs
 
--- src/lib.rt:198:13
 wide-requires-2 : tie.Need-wide-requires-2 Inv-loop μ-loop
 wide-requires-2 c κs = search needs
 
--- src/lib.rt:199:22
 mul-back : tie.Need-mul-back Inv-loop μ-loop
 mul-back c = search needs
 
--- src/lib.rt:199:22
 add-back : tie.Need-add-back Inv-loop μ-loop
 add-back c = search needs
 
--- src/lib.rt:199:20
 mul-back-2 : tie.Need-mul-back-2 Inv-loop μ-loop
 mul-back-2 c = search needs
 
--- src/lib.rt:199:20
 array-read-back : tie.Need-array-read-back Inv-loop μ-loop
 array-read-back c = search needs
 
--- src/lib.rt:200:23
 mul-ahead : tie.Need-mul-ahead Inv-loop μ-loop
 mul-ahead c = search needs
 
--- src/lib.rt:200:23
 add-ahead : tie.Need-add-ahead Inv-loop μ-loop
 add-ahead c = search needs
 
--- src/lib.rt:200:21
 mul-ahead-2 : tie.Need-mul-ahead-2 Inv-loop μ-loop
 mul-ahead-2 c = search needs
 
--- src/lib.rt:200:21
 array-read-ahead : tie.Need-array-read-ahead Inv-loop μ-loop
 array-read-ahead c = search needs
 
--- src/lib.rt:201:13
 place-of-requires : tie.Need-place-of-requires Inv-loop μ-loop
 place-of-requires c κs = search needs
 
--- src/lib.rt:202:17
 moved-by-requires : tie.Need-moved-by-requires Inv-loop μ-loop
 moved-by-requires c κs = omega (arith, c .before .before .before .before .before .before .loop .inv .2 (c .before .before .before .wide .result * 64 + c .before .wide2 .result))
 
--- src/lib.rt:202:9
 mul-g : tie.Need-mul-g Inv-loop μ-loop
 mul-g c = search needs
 
--- src/lib.rt:202:9
 array-write-g : tie.Need-array-write-g Inv-loop μ-loop
 array-write-g c = search needs
 
--- src/lib.rt:204:9
 add-k : tie.Need-add-k Inv-loop μ-loop
 add-k c = search needs
 
--- src/lib.rt:192:5
 loop-less : tie.Need-loop-less Inv-loop μ-loop
 loop-less c = search needs
 
--- src/lib.rt:192:5
 loop-again : tie.Need-loop-again Inv-loop μ-loop
 loop-again c =
     let l = c .before .before .before .before .before .before in
@@ -125,7 +97,6 @@ loop-again c =
           (c .moved-by .ensures .0),
     )
 
--- src/lib.rt:185:1
 returns-2 : tie.Need-returns-2 Inv-loop μ-loop
 unfolding augment
 returns-2 c =

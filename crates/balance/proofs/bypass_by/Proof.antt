@@ -7,124 +7,91 @@ use Rattle.balance.specs.Direct.{gained}
 use borrow.Author.Needs.{needs}
 use Rattle.balance.proofs.bypass_by.Statement.{statement}
 use Rattle.balance.proofs.bypass_by.Tie as tie
-use Rattle.balance.proofs.bypass_by.Reads as reads
-use Rattle.balance.proofs.bypass_by.Lts as lts
-use Rattle.balance.proofs.fewer.Reads as fewer-reads
-use Rattle.balance.proofs.gained_by.Reads as gained-by-reads
 
--- src/lib.rt:334:15
 mul-x : tie.Need-mul-x
 mul-x c = search needs
 
--- src/lib.rt:334:15
 add-x : tie.Need-add-x
 add-x c = search needs
 
--- src/lib.rt:334:13
 mul-x-2 : tie.Need-mul-x-2
 mul-x-2 c = search needs
 
--- src/lib.rt:334:13
 element-copy-out-x : tie.Need-element-copy-out-x
 element-copy-out-x c = search needs
 
--- src/lib.rt:335:15
 mul-y : tie.Need-mul-y
 mul-y c = search needs
 
--- src/lib.rt:335:15
 add-y : tie.Need-add-y
 add-y c = search needs
 
--- src/lib.rt:335:13
 mul-y-2 : tie.Need-mul-y-2
 mul-y-2 c = search needs
 
--- src/lib.rt:335:13
 element-copy-out-y : tie.Need-element-copy-out-y
 element-copy-out-y c = search needs
 
--- src/lib.rt:336:15
 mul-z : tie.Need-mul-z
 mul-z c = search needs
 
--- src/lib.rt:336:15
 add-z : tie.Need-add-z
 add-z c = search needs
 
--- src/lib.rt:336:13
 mul-z-2 : tie.Need-mul-z-2
 mul-z-2 c = search needs
 
--- src/lib.rt:336:13
 element-copy-out-z : tie.Need-element-copy-out-z
 element-copy-out-z c = search needs
 
--- src/lib.rt:337:9
 fewer-requires : tie.Need-fewer-requires
 fewer-requires c κs = search needs
 
--- src/lib.rt:338:9
 gained-by-requires : tie.Need-gained-by-requires
 gained-by-requires c κs = search needs
 
--- src/lib.rt:339:21
 sub-f : tie.Need-sub-f
 sub-f c = search needs
 
--- src/lib.rt:339:7
 mul-f : tie.Need-mul-f
 mul-f c = search needs
 
--- src/lib.rt:339:7
 add-f : tie.Need-add-f
 add-f c = search needs
 
--- src/lib.rt:339:5
 mul-f-2 : tie.Need-mul-f-2
 mul-f-2 c = search needs
 
--- src/lib.rt:339:5
 element-write-f : tie.Need-element-write-f
 element-write-f c = search needs
 
--- src/lib.rt:340:21
 sub-f-2 : tie.Need-sub-f-2
 sub-f-2 c = search needs
 
--- src/lib.rt:340:7
 mul-f-3 : tie.Need-mul-f-3
 mul-f-3 c = search needs
 
--- src/lib.rt:340:7
 add-f-2 : tie.Need-add-f-2
 add-f-2 c = search needs
 
--- src/lib.rt:340:5
 mul-f-4 : tie.Need-mul-f-4
 mul-f-4 c = search needs
 
--- src/lib.rt:340:5
 element-write-f-2 : tie.Need-element-write-f-2
 element-write-f-2 c = search needs
 
--- src/lib.rt:341:7
 mul-f-5 : tie.Need-mul-f-5
 mul-f-5 c = search needs
 
--- src/lib.rt:341:7
 add-f-3 : tie.Need-add-f-3
 add-f-3 c = search needs
 
--- src/lib.rt:341:5
 mul-f-6 : tie.Need-mul-f-6
 mul-f-6 c = search needs
 
--- src/lib.rt:341:5
 element-write-f-3 : tie.Need-element-write-f-3
 element-write-f-3 c = search needs
 
--- src/lib.rt:330:1
 returns : tie.Need-returns
 returns c =
     let start = c .before .before .before .before .before in

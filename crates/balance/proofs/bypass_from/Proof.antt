@@ -1,9 +1,9 @@
 -- The loop's state after k turns is the fold over the first k vertices. Assumes nothing.
-use mathlib.Core.Path.{_≡_, refl, ap, _∙_, subst, subst⁻¹}
-use mathlib.Core.List.{List, List·Memᴰ}
-use Prim.Native.Nat.{ℕ, _≤_, _-_}
+use mathlib.Core.Path.{_≡_, refl, ap, _∙_, subst⁻¹}
+use mathlib.Core.List.{List·Memᴰ}
+use Prim.Native.Nat.{_≤_, _-_}
 use native.Mathlib.Omega.{arith}
-use lib.ListN.{length, getD, take}
+use lib.ListN.{length, take}
 use Rattle.postman.specs.Laws.Membership.{getD-mem}
 use Rattle.balance.specs.Fold.{fold}
 use Rattle.balance.specs.Invariant.{Sparse}
@@ -14,11 +14,6 @@ use Rattle.balance.specs.Laws.DirectBalance.{bypass-sparse, bypass-room}
 use borrow.Author.Needs.{needs}
 use Rattle.balance.proofs.bypass_from.Statement.{statement}
 use Rattle.balance.proofs.bypass_from.Tie as tie
-use Rattle.balance.proofs.bypass_from.Reads as reads
-use Rattle.balance.proofs.bypass_from.Lts as lts
-use Rattle.balance.proofs.bypass_by.Reads as bypass-by-reads
-use Rattle.balance.proofs.vertex.Reads as vertex-reads
-use Rattle.balance.proofs.wide.Reads as wide-reads
 
 abbrev Inv-loop : tie.InvT-loop
 Inv-loop f₀ vs b a k₀ f k =
@@ -27,20 +22,16 @@ Inv-loop f₀ vs b a k₀ f k =
 abbrev μ-loop : tie.MeasureT-loop
 μ-loop f₀ vs b a k₀ f k = length vs - k
 
--- src/lib.rt:350:5
 loop-holds : tie.Need-loop-holds Inv-loop μ-loop
 unfolding fold
 loop-holds c = (omega arith, c .before .pre .0, refl)
 
--- src/lib.rt:351:22
 vertex-requires : tie.Need-vertex-requires Inv-loop μ-loop
 vertex-requires c κs = search needs
 
--- src/lib.rt:351:13
 wide-requires : tie.Need-wide-requires Inv-loop μ-loop
 wide-requires c κs = search needs
 
--- src/lib.rt:352:9
 bypass-by-requires : tie.Need-bypass-by-requires Inv-loop μ-loop
 bypass-by-requires c κs =
     let at = c .before .before .before .before in
@@ -54,15 +45,12 @@ bypass-by-requires c κs =
       bypass-room (start .args .vs .now) (at .loop .f) (start .args .a) (start .args .b) _ (start .pre .3) (start .pre .2) mc (at .loop .inv .1),
     )
 
--- src/lib.rt:353:9
 add-k : tie.Need-add-k Inv-loop μ-loop
 add-k c = search needs
 
--- src/lib.rt:350:5
 loop-less : tie.Need-loop-less Inv-loop μ-loop
 loop-less c = search needs
 
--- src/lib.rt:350:5
 loop-again : tie.Need-loop-again Inv-loop μ-loop
 loop-again c =
     let at = c .before .before .before .before .before in
@@ -75,7 +63,6 @@ loop-again c =
       fold-turn (λ g c. bypass g (start .args .a) (start .args .b) c) (start .args .f .now) (start .args .vs .now) (at .loop .k) (at .loop .inv .2) l e (c .bypass-by .ensures),
     )
 
--- src/lib.rt:345:1
 returns : tie.Need-returns Inv-loop μ-loop
 unfolding bypassFrom
 returns c =

@@ -1,9 +1,9 @@
 -- The loop's state after k turns is the fold over the first k vertices. Assumes nothing.
 use mathlib.Core.Path.{_≡_, refl, ap, _∙_, subst⁻¹}
 use mathlib.Core.List.{List·Memᴰ}
-use Prim.Native.Nat.{ℕ, _≤_, _-_}
+use Prim.Native.Nat.{_≤_, _-_}
 use native.Mathlib.Omega.{arith}
-use lib.ListN.{length, getD, take}
+use lib.ListN.{length, take}
 use Rattle.postman.specs.Laws.Membership.{getD-mem}
 use Rattle.balance.specs.Fold.{fold}
 use Rattle.balance.specs.Invariant.{Sparse}
@@ -14,11 +14,6 @@ use Rattle.balance.specs.Laws.DirectBalance.{from-sparse}
 use borrow.Author.Needs.{needs}
 use Rattle.balance.proofs.bypass_vertex.Statement.{statement}
 use Rattle.balance.proofs.bypass_vertex.Tie as tie
-use Rattle.balance.proofs.bypass_vertex.Reads as reads
-use Rattle.balance.proofs.bypass_vertex.Lts as lts
-use Rattle.balance.proofs.bypass_from.Reads as bypass-from-reads
-use Rattle.balance.proofs.vertex.Reads as vertex-reads
-use Rattle.balance.proofs.wide.Reads as wide-reads
 
 abbrev Inv-loop : tie.InvT-loop
 Inv-loop f₀ vs b k₀ f k =
@@ -27,20 +22,16 @@ Inv-loop f₀ vs b k₀ f k =
 abbrev μ-loop : tie.MeasureT-loop
 μ-loop f₀ vs b k₀ f k = length vs - k
 
--- src/lib.rt:363:5
 loop-holds : tie.Need-loop-holds Inv-loop μ-loop
 unfolding fold
 loop-holds c = (omega arith, c .before .pre .0, refl)
 
--- src/lib.rt:364:22
 vertex-requires : tie.Need-vertex-requires Inv-loop μ-loop
 vertex-requires c κs = search needs
 
--- src/lib.rt:364:13
 wide-requires : tie.Need-wide-requires Inv-loop μ-loop
 wide-requires c κs = search needs
 
--- src/lib.rt:365:9
 bypass-from-requires : tie.Need-bypass-from-requires Inv-loop μ-loop
 bypass-from-requires c κs =
     let at = c .before .before .before .before in
@@ -49,15 +40,12 @@ bypass-from-requires c κs =
     let e = c .before .wide .ensures ∙ c .before .before .vertex .ensures .0 in
     (at .loop .inv .1, start .pre .1, start .pre .2, subst⁻¹ (λ n. List·Memᴰ n (start .args .vs .now)) e (getD-mem (start .args .vs .now) 0 (at .loop .k) l))
 
--- src/lib.rt:366:9
 add-k : tie.Need-add-k Inv-loop μ-loop
 add-k c = search needs
 
--- src/lib.rt:363:5
 loop-less : tie.Need-loop-less Inv-loop μ-loop
 loop-less c = search needs
 
--- src/lib.rt:363:5
 loop-again : tie.Need-loop-again Inv-loop μ-loop
 loop-again c =
     let at = c .before .before .before .before .before in
@@ -70,7 +58,6 @@ loop-again c =
       fold-turn (bypassFrom (start .args .vs .now) (start .args .b)) (start .args .f .now) (start .args .vs .now) (at .loop .k) (at .loop .inv .2) l e (c .bypass-from .ensures),
     )
 
--- src/lib.rt:358:1
 returns : tie.Need-returns Inv-loop μ-loop
 unfolding bypassVertex
 returns c =

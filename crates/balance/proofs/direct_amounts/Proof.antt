@@ -1,9 +1,9 @@
 -- The loop's state after k turns is the fold over the first k vertices. Assumes nothing.
 use mathlib.Core.Path.{_≡_, refl, ap, _∙_, subst⁻¹}
 use mathlib.Core.List.{List·Memᴰ}
-use Prim.Native.Nat.{ℕ, _≤_, _-_}
+use Prim.Native.Nat.{_≤_, _-_}
 use native.Mathlib.Omega.{arith}
-use lib.ListN.{length, getD, take}
+use lib.ListN.{length, take}
 use Rattle.postman.specs.Laws.Membership.{getD-mem}
 use Rattle.balance.specs.Fold.{fold}
 use Rattle.balance.specs.Invariant.{Sparse}
@@ -17,11 +17,6 @@ use Rattle.balance.specs.Laws.DirectBalance.{certified-sparse, vertex-sp
 use borrow.Author.Needs.{needs}
 use Rattle.balance.proofs.direct_amounts.Statement.{statement}
 use Rattle.balance.proofs.direct_amounts.Tie as tie
-use Rattle.balance.proofs.direct_amounts.Reads as reads
-use Rattle.balance.proofs.direct_amounts.Lts as lts
-use Rattle.balance.proofs.bypass_vertex.Reads as bypass-vertex-reads
-use Rattle.balance.proofs.vertex.Reads as vertex-reads
-use Rattle.balance.proofs.wide.Reads as wide-reads
 
 abbrev Inv-loop : tie.InvT-loop
 Inv-loop d vs f₀ k₀ f k =
@@ -30,22 +25,18 @@ Inv-loop d vs f₀ k₀ f k =
 abbrev μ-loop : tie.MeasureT-loop
 μ-loop d vs f₀ k₀ f k = length vs - k
 
--- src/lib.rt:377:5
 loop-holds : tie.Need-loop-holds Inv-loop μ-loop
 unfolding fold
 loop-holds c = (omega arith, (let start = c .before .before in certified-sparse (cell (start .args .d .now)) (start .args .vs .now) (start .pre .0) (stateOf (start .args .s)) (start .pre .1) (start .pre .2)), refl)
 
--- src/lib.rt:378:22
 vertex-requires : tie.Need-vertex-requires Inv-loop μ-loop
 vertex-requires c κs =
     let start = c .before .before .before .before in
     (c .loop-test .taken, vertices-small (cell (start .args .d .now)) (start .args .vs .now) (start .pre .0))
 
--- src/lib.rt:378:13
 wide-requires : tie.Need-wide-requires Inv-loop μ-loop
 wide-requires c κs = search needs
 
--- src/lib.rt:379:9
 bypass-vertex-requires : tie.Need-bypass-vertex-requires Inv-loop μ-loop
 bypass-vertex-requires c κs =
     let at = c .before .before .before .before in
@@ -54,15 +45,12 @@ bypass-vertex-requires c κs =
     let e = c .before .wide .ensures ∙ c .before .before .vertex .ensures .0 in
     (at .loop .inv .1, vertices-small (cell (start .args .d .now)) (start .args .vs .now) (start .pre .0), subst⁻¹ (λ n. List·Memᴰ n (start .args .vs .now)) e (getD-mem (start .args .vs .now) 0 (at .loop .k) l))
 
--- src/lib.rt:380:9
 add-k : tie.Need-add-k Inv-loop μ-loop
 add-k c = search needs
 
--- src/lib.rt:377:5
 loop-less : tie.Need-loop-less Inv-loop μ-loop
 loop-less c = search needs
 
--- src/lib.rt:377:5
 loop-again : tie.Need-loop-again Inv-loop μ-loop
 loop-again c =
     let at = c .before .before .before .before .before in
@@ -75,7 +63,6 @@ loop-again c =
       fold-turn (bypassVertex (start .args .vs .now)) (start .args .s .amounts) (start .args .vs .now) (at .loop .k) (at .loop .inv .2) l e (c .bypass-vertex .ensures),
     )
 
--- src/lib.rt:371:1
 returns : tie.Need-returns Inv-loop μ-loop
 unfolding direct
 returns c =

@@ -2,17 +2,12 @@
 use mathlib.Core.Path.{sym, ap, _∙_}
 use mathlib.Core.Bool.{Bool, _&&_}
 use lib.Dec.{ltb}
-use borrow.Author.Needs.{needs}
 use Rattle.balance.proofs.finished.Statement.{statement}
 use Rattle.balance.proofs.finished.Tie as tie
-use Rattle.balance.proofs.finished.Reads as reads
-use Rattle.balance.proofs.finished.Lts as lts
 
--- src/lib.rt:107:1
 returns : tie.Need-returns
 returns c = sym (ap (λ (b : Bool). b && ltb 0 (c .before .args .rank)) (c .if1 .taken))
 
--- src/lib.rt:107:1
 returns-2 : tie.Need-returns-2
 returns-2 c = c .if1 .left ∙ sym (ap (λ (b : Bool). b && ltb 0 (c .before .args .rank)) (c .if1 .left))
 

@@ -4,18 +4,13 @@ use borrow.Author.Tests.{eq-eqb, ne-eqb}
 use borrow.Author.Needs.{needs}
 use Rattle.balance.proofs.gained_by.Statement.{statement}
 use Rattle.balance.proofs.gained_by.Tie as tie
-use Rattle.balance.proofs.gained_by.Reads as reads
-use Rattle.balance.proofs.gained_by.Lts as lts
 
--- src/lib.rt:326:28
 add-result : tie.Need-add-result
 add-result c = search needs
 
--- src/lib.rt:322:1
 returns : tie.Need-returns
 returns c = rw (eq-eqb (c .before .args .a) (c .before .args .c) (omega arith))
 
--- src/lib.rt:322:1
 returns-2 : tie.Need-returns-2
 returns-2 c = rw (ne-eqb (c .before .args .a) (c .before .args .c) (λ e. omega arith))
 

@@ -4,23 +4,16 @@ use native.Mathlib.Omega.{arith}
 use borrow.Author.Needs.{needs}
 use Rattle.balance.proofs.length_of.Statement.{statement}
 use Rattle.balance.proofs.length_of.Tie as tie
-use Rattle.balance.proofs.length_of.Reads as reads
-use Rattle.balance.proofs.length_of.Lts as lts
-use Rattle.balance.proofs.monus.Reads as monus-reads
 
--- src/lib.rt:49:9
 returns : tie.Need-returns
 returns c = (rw (lt-ltb 0 (c .before .args .back) (omega arith)), omega arith)
 
--- src/lib.rt:51:11
 add-monus : tie.Need-add-monus
 add-monus c = search needs
 
--- src/lib.rt:51:5
 monus-requires : tie.Need-monus-requires
 monus-requires c κs = search needs
 
--- src/lib.rt:44:1
 returns-2 : tie.Need-returns-2
 returns-2 c = (rw (le-ltb 0 (c .before .before .args .back) (omega arith)) (c .monus .ensures), omega (arith, c .monus .ensures))
 

@@ -4,18 +4,13 @@ use mathlib.Core.Path.{refl}
 use borrow.Author.Needs.{needs}
 use Rattle.balance.proofs.level.Statement.{statement}
 use Rattle.balance.proofs.level.Tie as tie
-use Rattle.balance.proofs.level.Reads as reads
-use Rattle.balance.proofs.level.Lts as lts
 
--- src/lib.rt:34:5
 mul-result : tie.Need-mul-result
 mul-result c = search needs
 
--- src/lib.rt:34:5
 element-copy-out-result : tie.Need-element-copy-out-result
 element-copy-out-result c = search needs
 
--- src/lib.rt:30:1
 returns : tie.Need-returns
 returns c = (refl, omega (arith, c .before .pre .1 (c .before .args .v)))
 

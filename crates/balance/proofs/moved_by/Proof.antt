@@ -6,22 +6,16 @@ use mathlib.Core.Path.{refl}
 use borrow.Author.Needs.{needs}
 use Rattle.balance.proofs.moved_by.Statement.{statement}
 use Rattle.balance.proofs.moved_by.Tie as tie
-use Rattle.balance.proofs.moved_by.Reads as reads
-use Rattle.balance.proofs.moved_by.Lts as lts
 
--- src/lib.rt:156:16
 sub-result : tie.Need-sub-result
 sub-result c = search needs
 
--- src/lib.rt:156:9
 returns : tie.Need-returns
 returns c = (rw (lt-ltb 0 (c .before .args .back) (omega arith)), inl (omega arith))
 
--- src/lib.rt:158:5
 add-result : tie.Need-add-result
 add-result c = search needs
 
--- src/lib.rt:151:1
 returns-2 : tie.Need-returns-2
 returns-2 c = (rw (le-ltb 0 (c .before .args .back) (omega arith)), inr refl)
 

@@ -13,24 +13,16 @@ use Rattle.balance.specs.Laws.Turns.{search-low}
 use borrow.Author.Needs.{needs}
 use Rattle.balance.proofs.multipliers.Statement.{statement}
 use Rattle.balance.proofs.multipliers.Tie as tie
-use Rattle.balance.proofs.multipliers.Reads as reads
-use Rattle.balance.proofs.multipliers.Lts as lts
-use Rattle.balance.proofs.search_towards.Reads as search-towards-reads
-use Rattle.balance.proofs.true_costs.Reads as true-costs-reads
-use Rattle.balance.proofs.wide.Reads as wide-reads
 
--- src/lib.rt:289:9
 search-towards-requires : tie.Need-search-towards-requires
 search-towards-requires c κs =
     let start = c .before .before .before .before in
     let r = start .pre .0 .small (start .args .root) (start .pre .3) in
     (r, r, levels-small (cell (start .args .d .now)) (start .args .vs .now) (start .pre .0) (stateOf (start .args .t1)) (start .pre .1) (start .pre .2), vertices-small (cell (start .args .d .now)) (start .args .vs .now) (start .pre .0), start .pre .0 .size)
 
--- src/lib.rt:292:9
 wide-requires : tie.Need-wide-requires
 wide-requires c κs = search needs
 
--- src/lib.rt:293:5
 true-costs-requires : tie.Need-true-costs-requires
 true-costs-requires c κs =
     let start = c .before .before .before .before .before .before .before .before .before .before in
@@ -42,7 +34,6 @@ true-costs-requires c κs =
       vertices-small (cell (start .args .d .now)) (start .args .vs .now) (start .pre .0),
     )
 
--- src/lib.rt:285:1
 returns : tie.Need-returns
 unfolding greatest ways
 returns c =

@@ -1,9 +1,8 @@
 -- The loop's state after a turns is the fold over the first a vertices. Assumes nothing.
-use mathlib.Core.Path.{_≡_, refl, sym, ap, _∙_}
-use mathlib.Core.List.{List}
-use Prim.Native.Nat.{ℕ, _+_, _≤_, _<_, _-_, min}
+use mathlib.Core.Path.{_≡_, refl, ap, _∙_}
+use Prim.Native.Nat.{ℕ, _≤_, _-_}
 use native.Mathlib.Omega.{arith}
-use lib.ListN.{length, getD, set, take}
+use lib.ListN.{length, take}
 use Rattle.balance.specs.Fold.{fold}
 use Rattle.balance.specs.Search.{beyond, nearer, nearest}
 use Rattle.balance.specs.Laws.Turns.{nearest-more, take-all}
@@ -11,13 +10,6 @@ use Rattle.balance.specs.Laws.Search.{nearest-small}
 use borrow.Author.Needs.{needs}
 use Rattle.balance.proofs.nearest_open.Statement.{statement}
 use Rattle.balance.proofs.nearest_open.Tie as tie
-use Rattle.balance.proofs.nearest_open.Reads as reads
-use Rattle.balance.proofs.nearest_open.Lts as lts
-use Rattle.balance.proofs.chosen.Reads as chosen-reads
-use Rattle.balance.proofs.lesser.Reads as lesser-reads
-use Rattle.balance.proofs.open_distance.Reads as open-distance-reads
-use Rattle.balance.proofs.vertex.Reads as vertex-reads
-use Rattle.balance.proofs.wide.Reads as wide-reads
 
 abbrev Inv-loop : tie.InvT-loop
 Inv-loop x rank vs t best₀ low₀ a₀ best low a =
@@ -26,52 +18,40 @@ Inv-loop x rank vs t best₀ low₀ a₀ best low a =
 abbrev μ-loop : tie.MeasureT-loop
 μ-loop x rank vs t best₀ low₀ a₀ best low a = length vs - a
 
--- src/lib.rt:111:5
 loop-holds : tie.Need-loop-holds Inv-loop μ-loop
 unfolding fold
 loop-holds c = (omega arith, refl)
 
--- src/lib.rt:112:13
 vertex-requires : tie.Need-vertex-requires Inv-loop μ-loop
 vertex-requires c κs = search needs
 
--- src/lib.rt:113:13
 wide-requires : tie.Need-wide-requires Inv-loop μ-loop
 wide-requires c κs = search needs
 
--- src/lib.rt:114:33
 element-copy-out-open-distance : tie.Need-element-copy-out-open-distance Inv-loop μ-loop
 element-copy-out-open-distance c = search needs
 
--- src/lib.rt:114:42
 mul-open-distance : tie.Need-mul-open-distance Inv-loop μ-loop
 mul-open-distance c = search needs
 
--- src/lib.rt:114:42
 element-copy-out-open-distance-2 : tie.Need-element-copy-out-open-distance-2 Inv-loop μ-loop
 element-copy-out-open-distance-2 c = search needs
 
--- src/lib.rt:114:13
 open-distance-requires : tie.Need-open-distance-requires Inv-loop μ-loop
 open-distance-requires c κs = search needs
 
--- src/lib.rt:115:9
 chosen-requires : tie.Need-chosen-requires Inv-loop μ-loop
 chosen-requires c κs = search needs
 
--- src/lib.rt:116:9
 lesser-requires : tie.Need-lesser-requires Inv-loop μ-loop
 lesser-requires c κs = search needs
 
--- src/lib.rt:117:9
 add-a : tie.Need-add-a Inv-loop μ-loop
 add-a c = search needs
 
--- src/lib.rt:111:5
 loop-less : tie.Need-loop-less Inv-loop μ-loop
 loop-less c = search needs
 
--- src/lib.rt:111:5
 loop-again : tie.Need-loop-again Inv-loop μ-loop
 loop-again c =
     let l = c .before .before .before .before .before .before .before in
@@ -88,7 +68,6 @@ loop-again c =
           (c .lesser .ensures),
     )
 
--- src/lib.rt:104:1
 returns : tie.Need-returns Inv-loop μ-loop
 unfolding nearest
 returns c =

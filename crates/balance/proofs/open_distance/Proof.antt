@@ -1,17 +1,12 @@
 -- By the test. Assumes nothing.
 use borrow.Author.Tests.{eq-eqb, ne-eqb}
 use native.Mathlib.Omega.{arith}
-use borrow.Author.Needs.{needs}
 use Rattle.balance.proofs.open_distance.Statement.{statement}
 use Rattle.balance.proofs.open_distance.Tie as tie
-use Rattle.balance.proofs.open_distance.Reads as reads
-use Rattle.balance.proofs.open_distance.Lts as lts
 
--- src/lib.rt:74:1
 returns : tie.Need-returns
 returns c = rw (eq-eqb (c .before .args .rank) 0 (omega arith))
 
--- src/lib.rt:74:1
 returns-2 : tie.Need-returns-2
 returns-2 c = rw (ne-eqb (c .before .args .rank) 0 (λ e. omega arith))
 

@@ -4,30 +4,22 @@ use native.Mathlib.Omega.{arith}
 use borrow.Author.Needs.{needs}
 use Rattle.balance.proofs.place_of.Statement.{statement}
 use Rattle.balance.proofs.place_of.Tie as tie
-use Rattle.balance.proofs.place_of.Reads as reads
-use Rattle.balance.proofs.place_of.Lts as lts
 
--- src/lib.rt:145:16
 mul-result : tie.Need-mul-result
 mul-result c = search needs
 
--- src/lib.rt:145:16
 add-result : tie.Need-add-result
 add-result c = search needs
 
--- src/lib.rt:145:9
 returns : tie.Need-returns
 returns c = (rw (lt-ltb 0 (c .before .args .back) (omega arith)), omega arith)
 
--- src/lib.rt:147:5
 mul-result-2 : tie.Need-mul-result-2
 mul-result-2 c = search needs
 
--- src/lib.rt:147:5
 add-result-2 : tie.Need-add-result-2
 add-result-2 c = search needs
 
--- src/lib.rt:140:1
 returns-2 : tie.Need-returns-2
 returns-2 c = (rw (le-ltb 0 (c .before .args .back) (omega arith)), omega arith)
 

@@ -1,9 +1,9 @@
 -- The loop's state after a turns is the fold over the first a vertices. Assumes nothing.
-use mathlib.Core.Path.{_≡_, refl, sym, ap, _∙_}
+use mathlib.Core.Path.{_≡_, refl, ap, _∙_}
 use mathlib.Core.List.{List}
 use Prim.Native.Nat.{ℕ, _≤_, _-_}
 use native.Mathlib.Omega.{arith}
-use lib.ListN.{length, getD, take}
+use lib.ListN.{length, take}
 use Rattle.balance.specs.Fold.{fold}
 use Rattle.balance.specs.Search.{relaxed, relax}
 use Rattle.balance.specs.Step.{cell, residualLength}
@@ -11,14 +11,6 @@ use Rattle.balance.specs.Laws.Turns.{relax-more, take-all}
 use borrow.Author.Needs.{needs}
 use Rattle.balance.proofs.relax_by.Statement.{statement}
 use Rattle.balance.proofs.relax_by.Tie as tie
-use Rattle.balance.proofs.relax_by.Reads as reads
-use Rattle.balance.proofs.relax_by.Lts as lts
-use Rattle.balance.proofs.chosen.Reads as chosen-reads
-use Rattle.balance.proofs.length_of.Reads as length-of-reads
-use Rattle.balance.proofs.lesser.Reads as lesser-reads
-use Rattle.balance.proofs.level.Reads as level-reads
-use Rattle.balance.proofs.vertex.Reads as vertex-reads
-use Rattle.balance.proofs.wide.Reads as wide-reads
 
 abbrev Inv-loop : tie.InvT-loop
 Inv-loop d f u vs w base x₀ next₀ uw w8 a₀ x next a =
@@ -27,116 +19,88 @@ Inv-loop d f u vs w base x₀ next₀ uw w8 a₀ x next a =
 abbrev μ-loop : tie.MeasureT-loop
 μ-loop d f u vs w base x₀ next₀ uw w8 a₀ x next a = length vs - a
 
--- src/lib.rt:74:9
 level-requires : tie.Need-level-requires Inv-loop μ-loop
 level-requires c κs = search needs
 
--- src/lib.rt:75:14
 cast-w8 : tie.Need-cast-w8 Inv-loop μ-loop
 cast-w8 c = search needs
 
--- src/lib.rt:77:5
 loop-holds : tie.Need-loop-holds Inv-loop μ-loop
 unfolding fold
 loop-holds c = (omega arith, refl)
 
--- src/lib.rt:78:22
 vertex-requires : tie.Need-vertex-requires Inv-loop μ-loop
 vertex-requires c κs = search needs
 
--- src/lib.rt:78:13
 wide-requires : tie.Need-wide-requires Inv-loop μ-loop
 wide-requires c κs = search needs
 
--- src/lib.rt:79:34
 mul-length-of : tie.Need-mul-length-of Inv-loop μ-loop
 mul-length-of c = search needs
 
--- src/lib.rt:79:34
 mul-length-of-2 : tie.Need-mul-length-of-2 Inv-loop μ-loop
 mul-length-of-2 c = search needs
 
--- src/lib.rt:79:34
 index-1-length-of : tie.Need-index-1-length-of Inv-loop μ-loop
 index-1-length-of c = search needs
 
--- src/lib.rt:79:34
 index-2-length-of : tie.Need-index-2-length-of Inv-loop μ-loop
 index-2-length-of c = search needs
 
--- src/lib.rt:79:43
 mul-length-of-3 : tie.Need-mul-length-of-3 Inv-loop μ-loop
 mul-length-of-3 c = search needs
 
--- src/lib.rt:79:43
 element-copy-out-length-of : tie.Need-element-copy-out-length-of Inv-loop μ-loop
 element-copy-out-length-of c = search needs
 
--- src/lib.rt:79:55
 mul-length-of-4 : tie.Need-mul-length-of-4 Inv-loop μ-loop
 mul-length-of-4 c = search needs
 
--- src/lib.rt:79:55
 add-length-of : tie.Need-add-length-of Inv-loop μ-loop
 add-length-of c = search needs
 
--- src/lib.rt:79:53
 mul-length-of-5 : tie.Need-mul-length-of-5 Inv-loop μ-loop
 mul-length-of-5 c = search needs
 
--- src/lib.rt:79:53
 element-copy-out-length-of-2 : tie.Need-element-copy-out-length-of-2 Inv-loop μ-loop
 element-copy-out-length-of-2 c = search needs
 
--- src/lib.rt:79:24
 length-of-requires : tie.Need-length-of-requires Inv-loop μ-loop
 length-of-requires c κs = search needs
 
--- src/lib.rt:79:17
 add-c : tie.Need-add-c Inv-loop μ-loop
 add-c c = search needs
 
--- src/lib.rt:80:19
 mul-old : tie.Need-mul-old Inv-loop μ-loop
 mul-old c = search needs
 
--- src/lib.rt:80:19
 element-copy-out-old : tie.Need-element-copy-out-old Inv-loop μ-loop
 element-copy-out-old c = search needs
 
--- src/lib.rt:81:22
 element-copy-out-before : tie.Need-element-copy-out-before Inv-loop μ-loop
 element-copy-out-before c = search needs
 
--- src/lib.rt:82:16
 lesser-requires : tie.Need-lesser-requires Inv-loop μ-loop
 lesser-requires c κs = search needs
 
--- src/lib.rt:82:9
 mul-x : tie.Need-mul-x Inv-loop μ-loop
 mul-x c = search needs
 
--- src/lib.rt:82:9
 element-write-x : tie.Need-element-write-x Inv-loop μ-loop
 element-write-x c = search needs
 
--- src/lib.rt:83:19
 chosen-requires : tie.Need-chosen-requires Inv-loop μ-loop
 chosen-requires c κs = search needs
 
--- src/lib.rt:83:9
 element-write-next : tie.Need-element-write-next Inv-loop μ-loop
 element-write-next c = search needs
 
--- src/lib.rt:84:9
 add-a : tie.Need-add-a Inv-loop μ-loop
 add-a c = search needs
 
--- src/lib.rt:77:5
 loop-less : tie.Need-loop-less Inv-loop μ-loop
 loop-less c = search needs
 
--- src/lib.rt:77:5
 loop-again : tie.Need-loop-again Inv-loop μ-loop
 loop-again c =
     let l = c .before .before .before .before .before .before .before .before .before .before in
@@ -153,7 +117,6 @@ loop-again c =
           (c .chosen .ensures),
     )
 
--- src/lib.rt:70:1
 returns : tie.Need-returns Inv-loop μ-loop
 unfolding relax
 returns c =

@@ -1,10 +1,10 @@
 -- What is left of the rounds, from what the loop holds, is the search. Assumes nothing.
 use mathlib.Core.Path.{_≡_, refl, sym, ap, _∙_, subst⁻¹}
-use mathlib.Core.Bool.{Bool, true, false, not, _&&_}
+use mathlib.Core.Bool.{not, _&&_}
 use lib.Dec.{ltb}
-use Prim.Native.Nat.{ℕ, _+_, _≤_, _-_}
+use Prim.Native.Nat.{_≤_, _-_}
 use native.Mathlib.Omega.{arith}
-use lib.ListN.{length, getD, set}
+use lib.ListN.{length, getD}
 use Rattle.balance.specs.Bounds.{AtMost}
 use Rattle.balance.specs.Search.{beyond, rounds, search as searched}
 use Rattle.balance.specs.Step.{cell, residualLength}
@@ -12,13 +12,6 @@ use Rattle.balance.specs.Laws.Turns.{relax-low, replicate-low, rounds-st
 use borrow.Author.Needs.{needs}
 use Rattle.balance.proofs.search_towards.Statement.{statement}
 use Rattle.balance.proofs.search_towards.Tie as tie
-use Rattle.balance.proofs.search_towards.Reads as reads
-use Rattle.balance.proofs.search_towards.Lts as lts
-use Rattle.balance.proofs.finished.Reads as finished-reads
-use Rattle.balance.proofs.level.Reads as level-reads
-use Rattle.balance.proofs.nearest_open.Reads as nearest-open-reads
-use Rattle.balance.proofs.relax_by.Reads as relax-by-reads
-use Rattle.balance.proofs.wide.Reads as wide-reads
 
 abbrev Inv-loop : tie.InvT-loop
 Inv-loop d f u vs t goal whole x₀ next₀ rank₀ target end k₀ x next rank k =
@@ -28,23 +21,18 @@ Inv-loop d f u vs t goal whole x₀ next₀ rank₀ target end k₀ x next rank 
 abbrev μ-loop : tie.MeasureT-loop
 μ-loop d f u vs t goal whole x₀ next₀ rank₀ target end k₀ x next rank k = length vs - k
 
--- src/lib.rt:144:9
 wide-requires : tie.Need-wide-requires Inv-loop μ-loop
 wide-requires c κs = search needs
 
--- src/lib.rt:145:9
 wide-requires-2 : tie.Need-wide-requires-2 Inv-loop μ-loop
 wide-requires-2 c κs = search needs
 
--- src/lib.rt:146:5
 relax-by-requires : tie.Need-relax-by-requires Inv-loop μ-loop
 relax-by-requires c κs = search needs
 
--- src/lib.rt:147:5
 array-write-rank : tie.Need-array-write-rank Inv-loop μ-loop
 array-write-rank c = search needs
 
--- src/lib.rt:149:5
 loop-holds : tie.Need-loop-holds Inv-loop μ-loop
 loop-holds c =
     let start = c .before .before .before .before .before .before in
@@ -56,15 +44,12 @@ loop-holds c =
           (c .before .before .before .before .wide .ensures) (c .relax-by .ensures .0) (c .relax-by .ensures .1),
     )
 
--- src/lib.rt:150:28
 array-read-finished : tie.Need-array-read-finished Inv-loop μ-loop
 array-read-finished c = search needs
 
--- src/lib.rt:150:12
 finished-requires : tie.Need-finished-requires Inv-loop μ-loop
 finished-requires c κs = search needs
 
--- src/lib.rt:151:13
 returns : tie.Need-returns Inv-loop μ-loop
 returns c =
     let at = c .before .before .before in
@@ -73,39 +58,30 @@ returns c =
     (ap (λ q. not (start .args .whole) && ltb 0 (getD (at .loop .rank) q 0)) (sym (at .before .before .before .before .wide2 .ensures)) ∙ sym (c .before .finished .ensures) ∙ c .if1 .taken))
     ∙ at .loop .inv .3
 
--- src/lib.rt:153:22
 nearest-open-requires : tie.Need-nearest-open-requires Inv-loop μ-loop
 nearest-open-requires c κs = search needs
 
--- src/lib.rt:153:13
 wide-requires-3 : tie.Need-wide-requires-3 Inv-loop μ-loop
 wide-requires-3 c κs = search needs
 
--- src/lib.rt:154:13
 level-requires : tie.Need-level-requires Inv-loop μ-loop
 level-requires c κs = search needs
 
--- src/lib.rt:155:9
 relax-by-requires-2 : tie.Need-relax-by-requires-2 Inv-loop μ-loop
 relax-by-requires-2 c κs = search needs
 
--- src/lib.rt:156:9
 add-k : tie.Need-add-k Inv-loop μ-loop
 add-k c = search needs
 
--- src/lib.rt:157:19
 cast-rank : tie.Need-cast-rank Inv-loop μ-loop
 cast-rank c = search needs
 
--- src/lib.rt:157:9
 array-write-rank-2 : tie.Need-array-write-rank-2 Inv-loop μ-loop
 array-write-rank-2 c = search needs
 
--- src/lib.rt:149:5
 loop-less : tie.Need-loop-less Inv-loop μ-loop
 loop-less c = search needs
 
--- src/lib.rt:149:5
 loop-again : tie.Need-loop-again Inv-loop μ-loop
 loop-again c =
     let at = c .before .before .before .before .before .before .before .before .before .before .before .before in
@@ -125,7 +101,6 @@ loop-again c =
           refl,
     )
 
--- src/lib.rt:137:1
 returns-2 : tie.Need-returns-2 Inv-loop μ-loop
 returns-2 c =
     sym (rounds-none _ _ _ _ _ (c .before .loop .k) _ (c .loop-test .left)) ∙ c .before .loop .inv .3

@@ -1,22 +1,15 @@
 -- The loop's state after a turns is the fold over the first a vertices. Assumes nothing.
 use mathlib.Core.Path.{_≡_, refl, ap, ap₂, _∙_}
-use mathlib.Core.List.{List}
 use Prim.Native.Nat.{ℕ, _+_, _≤_, _-_}
 use native.Mathlib.Omega.{arith}
 use lib.ListN.{length, getD, set, take, replicate}
-use lib.IntN.{ℤ, pos, _-ℤ_}
+use lib.IntN.{pos, _-ℤ_}
 use Rattle.balance.specs.Fold.{fold}
 use Rattle.balance.specs.Multipliers.{fromRoot}
 use Rattle.balance.specs.Laws.Turns.{fill-more, take-all, read-back}
 use borrow.Author.Needs.{needs}
 use Rattle.balance.proofs.true_costs.Statement.{statement}
 use Rattle.balance.proofs.true_costs.Tie as tie
-use Rattle.balance.proofs.true_costs.Reads as reads
-use Rattle.balance.proofs.true_costs.Lts as lts
-use Rattle.balance.proofs.difference.Reads as difference-reads
-use Rattle.balance.proofs.level.Reads as level-reads
-use Rattle.balance.proofs.vertex.Reads as vertex-reads
-use Rattle.balance.proofs.wide.Reads as wide-reads
 
 abbrev Inv-loop : tie.InvT-loop
 Inv-loop x u vs root base r₀ a₀ r a =
@@ -25,56 +18,43 @@ Inv-loop x u vs root base r₀ a₀ r a =
 abbrev μ-loop : tie.MeasureT-loop
 μ-loop x u vs root base r₀ a₀ r a = length vs - a
 
--- src/lib.rt:273:9
 level-requires : tie.Need-level-requires Inv-loop μ-loop
 level-requires c κs = search needs
 
--- src/lib.rt:276:5
 loop-holds : tie.Need-loop-holds Inv-loop μ-loop
 unfolding fold
 loop-holds c = (omega arith, refl)
 
--- src/lib.rt:277:22
 vertex-requires : tie.Need-vertex-requires Inv-loop μ-loop
 vertex-requires c κs = search needs
 
--- src/lib.rt:277:13
 wide-requires : tie.Need-wide-requires Inv-loop μ-loop
 wide-requires c κs = search needs
 
--- src/lib.rt:278:27
 level-requires-2 : tie.Need-level-requires-2 Inv-loop μ-loop
 level-requires-2 c κs = search needs
 
--- src/lib.rt:278:41
 level-requires-3 : tie.Need-level-requires-3 Inv-loop μ-loop
 level-requires-3 c κs = search needs
 
--- src/lib.rt:278:27
 add-difference : tie.Need-add-difference Inv-loop μ-loop
 add-difference c = search needs
 
--- src/lib.rt:278:16
 difference-requires : tie.Need-difference-requires Inv-loop μ-loop
 difference-requires c κs = search needs
 
--- src/lib.rt:278:9
 mul-r : tie.Need-mul-r Inv-loop μ-loop
 mul-r c = search needs
 
--- src/lib.rt:278:9
 array-set-from-r : tie.Need-array-set-from-r Inv-loop μ-loop
 array-set-from-r c = search needs
 
--- src/lib.rt:279:9
 add-a : tie.Need-add-a Inv-loop μ-loop
 add-a c = search needs
 
--- src/lib.rt:276:5
 loop-less : tie.Need-loop-less Inv-loop μ-loop
 loop-less c = search needs
 
--- src/lib.rt:276:5
 loop-again : tie.Need-loop-again Inv-loop μ-loop
 loop-again c =
     let l = c .before .before .before .before .before in
@@ -93,7 +73,6 @@ loop-again c =
           ∙ ap₂ (λ (p q : ℕ). pos p -ℤ pos q) (ap₂ _+_ (xv .ensures .0) (uv .ensures .0)) (base .ensures .0)),
     )
 
--- src/lib.rt:269:1
 returns : tie.Need-returns Inv-loop μ-loop
 unfolding fromRoot
 returns c =

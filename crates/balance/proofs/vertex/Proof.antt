@@ -4,14 +4,10 @@ use mathlib.Core.Path.{refl}
 use borrow.Author.Needs.{needs}
 use Rattle.balance.proofs.vertex.Statement.{statement}
 use Rattle.balance.proofs.vertex.Tie as tie
-use Rattle.balance.proofs.vertex.Reads as reads
-use Rattle.balance.proofs.vertex.Lts as lts
 
--- src/lib.rt:20:5
 shared-slice-read-result : tie.Need-shared-slice-read-result
 shared-slice-read-result c = search needs
 
--- src/lib.rt:16:1
 returns : tie.Need-returns
 returns c = (refl, omega (arith, c .before .pre .1 (c .before .args .a)))
 

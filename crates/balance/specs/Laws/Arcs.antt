@@ -1,21 +1,19 @@
 -- Arcs added one by one to the empty state: every state on the way is certified, and counts the arcs so far, in their order.
-use mathlib.Core.Path.{_≡_, refl, sym, ap, ap₂, _∙_, subst, subst₂}
-use mathlib.Core.Logic.{_⊎_, inl, inr}
-use mathlib.Core.List.{List, [], _∷_, _++_, map, List·Memᴰ, List·Memᴰ·head, List·Memᴰ·tail, List·Memᴰ·not-nil, List·Memᴰ·append-cases, List·Memᴰ·eq-of-singleton, Memᴰ·cast, append-assoc, append-nil}
-use Prim.Native.Nat.{ℕ, zero, suc, _+_, _*_, _≤_, _<_}
-use native.Mathlib.Decide.{decLe}
+use mathlib.Core.Path.{_≡_, refl, sym, _∙_, subst₂}
+use mathlib.Core.Logic.{inl, inr}
+use mathlib.Core.List.{List, [], _∷_, _++_, map, List·Memᴰ, List·Memᴰ·head, List·Memᴰ·tail, List·Memᴰ·append-cases, List·Memᴰ·eq-of-singleton, Memᴰ·cast, append-assoc, append-nil}
+use Prim.Native.Nat.{ℕ, zero, suc, _+_, _*_, _≤_}
 use native.Mathlib.Omega.{arith}
-use lib.ListN.{length, getD, replicate, length-replicate, getD-replicate, length-append}
-use Rattle.postman.specs.Lists.{delta, occurrences}
+use lib.ListN.{length, getD, replicate, length-replicate, length-append}
+use Rattle.postman.specs.Lists.{occurrences}
 use Rattle.postman.specs.Link.{Link}
-use Rattle.postman.specs.Balancing.{sumOver, balancingCost, assignment}
+use Rattle.postman.specs.Balancing.{sumOver}
 use Rattle.postman.specs.Laws.Occurrences.{occurrences-append}
 use Rattle.postman.specs.Laws.Amounts.{Within}
-use Rattle.balance.specs.Optimality.{Feasible, Tight, Balances, sent, received}
+use Rattle.balance.specs.Optimality.{sent, received}
 use Rattle.balance.specs.Step.{State, amount, potential, empty, add, addAll}
-use Rattle.balance.specs.Invariant.{Metric, limit, Small, Certified, Counted}
+use Rattle.balance.specs.Invariant.{Metric, limit, Certified, Counted}
 use Rattle.balance.specs.Laws.Sum.{sum-ext, sum-zero}
-use Rattle.balance.specs.Laws.Duality.{cost-least, price-least}
 use Rattle.balance.specs.Laws.Step.{add-certified, add-counted}
 
 -- ---- the empty state

@@ -1,22 +1,21 @@
 -- One unit more along a path. Each step adds one to what its first vertex sends on, and takes one from what its second does, so that along the path only the ends
 -- are left. The path visits a vertex once, so a step finds the amounts of its pair as they were.
-use mathlib.Core.Path.{_≡_, refl, sym, ap, ap₂, _∙_, subst, subst⁻¹}
+use mathlib.Core.Path.{_≡_, refl, ap, _∙_, subst⁻¹}
 use mathlib.Core.Logic.{_⊎_, inl, inr, _≢_}
-use mathlib.Core.Bool.{Bool, true, false, not, cond}
-use mathlib.Core.List.{List, [], _∷_, List·Memᴰ}
-use Prim.Native.Nat.{ℕ, zero, suc, _+_, _*_, _-_, _≤_, _<_, min}
+use mathlib.Core.Bool.{Bool, cond}
+use mathlib.Core.List.{List, List·Memᴰ}
+use Prim.Native.Nat.{ℕ, zero, suc, _+_, _*_, _-_, _≤_, _<_}
 use native.Mathlib.Decide.{ℕ-discrete, decLe}
 use native.Mathlib.Omega.{arith}
 use lib.ListN.{length, getD, set, length-set}
 use lib.Seq.{getD-set-same, getD-set-other}
-use lib.Dec.{T, eqb, ltb, eqb→eq}
+use lib.Dec.{eqb, eqb→eq}
 use borrow.Author.Tests.{lt-ltb, le-ltb}
 use Rattle.postman.specs.Lists.{delta, occurrences}
-use Rattle.postman.specs.Balancing.{sumOver}
 use Rattle.postman.specs.Laws.Tests.{cond-ind, eqb-other}
 use Rattle.postman.specs.Laws.Occurrences.{delta-yes, delta-no}
 use Rattle.balance.specs.Optimality.{Tight, sent, received}
-use Rattle.balance.specs.Step.{amount, place, moved, push, augment}
+use Rattle.balance.specs.Step.{amount, push, augment}
 use Rattle.balance.specs.Invariant.{Loopless}
 use Rattle.balance.specs.Laws.Sum.{sum-ext, sum-change-once, once}
 

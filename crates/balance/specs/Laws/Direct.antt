@@ -1,22 +1,21 @@
 -- No vertex of the direct amounts both sends and receives. Passing by a vertex makes no other send or receive more, takes what it passes from what it sends and
 -- from what it receives, and keeps the balance; reduced costs stay 0, by the triangle inequality.
-use mathlib.Core.Path.{_≡_, refl, sym, ap, ap₂, _∙_, subst, subst⁻¹}
+use mathlib.Core.Path.{_≡_, refl, sym, ap, ap₂, _∙_, subst⁻¹}
 use mathlib.Core.Logic.{_⊎_, inl, inr, _≢_}
 use mathlib.Core.Bool.{Bool, true, false, cond}
-use mathlib.Core.List.{List, [], _∷_, List·Memᴰ, List·Memᴰ·head, List·Memᴰ·tail, List·Memᴰ·cases-cons, List·Memᴰ·not-nil, Memᴰ·cast}
-use Prim.Native.Nat.{ℕ, zero, suc, _+_, _*_, _-_, _≤_, _<_, min}
+use mathlib.Core.List.{List, List·Memᴰ}
+use Prim.Native.Nat.{ℕ, _+_, _*_, _-_, _≤_, _<_}
 use native.Mathlib.Nat.{mul-comm, mul-one, zero-mul}
 use native.Mathlib.Decide.{ℕ-discrete, decLe}
 use native.Mathlib.Omega.{arith}
-use lib.ListN.{length, getD, set, length-set}
+use lib.ListN.{length, set, length-set}
 use lib.Seq.{set-getD}
 use lib.Dec.{eqb}
 use borrow.Author.Tests.{eq-eqb, ne-eqb}
 use Rattle.postman.specs.Lists.{delta, occurrences}
 use Rattle.postman.specs.Laws.Occurrences.{delta-yes, delta-no}
 use Rattle.postman.specs.Balancing.{sumOver}
-use Rattle.balance.specs.Fold.{fold}
-use Rattle.balance.specs.Optimality.{Feasible, Tight, Balances, sent, received}
+use Rattle.balance.specs.Optimality.{sent, received}
 use Rattle.balance.specs.Step.{amount}
 use Rattle.balance.specs.Invariant.{Loopless}
 use Rattle.balance.specs.Direct.{passed, gained, bypass, bypassFrom, bypassVertex, direct}

@@ -1,22 +1,22 @@
 -- The direct amounts of a certified state: they balance the same arcs, tight for the same potentials, and send no more units than there are arcs.
-use mathlib.Core.Path.{_≡_, refl, sym, ap, ap₂, _∙_, subst⁻¹}
+use mathlib.Core.Path.{_≡_, refl, sym, ap, _∙_, subst⁻¹}
 use mathlib.Core.Logic.{_⊎_, inl, inr, _≢_}
 use mathlib.Core.List.{List, [], _∷_, List·Memᴰ, List·Memᴰ·head, List·Memᴰ·tail}
-use Prim.Native.Nat.{ℕ, zero, suc, _+_, _*_, _-_, _≤_, _<_, min}
-use native.Mathlib.Nat.{mul-comm, mul-one, zero-mul, suc-mul, mul-le-mul-right}
-use native.Mathlib.Decide.{ℕ-discrete, decLe}
+use Prim.Native.Nat.{ℕ, _+_, _*_, _≤_}
+use native.Mathlib.Nat.{mul-comm, mul-one, suc-mul, mul-le-mul-right}
+use native.Mathlib.Decide.{ℕ-discrete}
 use native.Mathlib.Omega.{arith}
-use lib.ListN.{length, getD}
+use lib.ListN.{length}
 use Rattle.postman.specs.Lists.{occurrences}
 use Rattle.postman.specs.Balancing.{sumOver}
 use Rattle.postman.specs.Laws.Amounts.{Within}
-use Rattle.balance.specs.Optimality.{Feasible, Tight, Balances, sent, received}
+use Rattle.balance.specs.Optimality.{Tight, Balances, sent, received}
 use Rattle.balance.specs.Step.{State, amount, potential}
 use Rattle.balance.specs.Direct.{passed, bypass, bypassFrom, bypassVertex, direct}
 use Rattle.balance.specs.Invariant.{Metric, limit, Sparse, Certified, Counted}
 use Rattle.balance.specs.Laws.Fold.{fold-all}
-use Rattle.balance.specs.Laws.Sum.{sum-ext, sum-le, sum-none, sum-occurrences}
-use Rattle.balance.specs.Laws.Direct.{Falls, bypass-passes, Kept, direct-kept, direct-one-way}
+use Rattle.balance.specs.Laws.Sum.{sum-le, sum-none, sum-occurrences}
+use Rattle.balance.specs.Laws.Direct.{bypass-passes, Kept, direct-kept, direct-one-way}
 
 -- ---- what fits
 

@@ -1,16 +1,13 @@
 -- The multipliers are feasible and tight, as potentials raised by distances are. They are the greatest: whatever is feasible and tight for the same amounts falls
 -- along a residual pair by at most its length, so from a vertex to the root by at most the distance.
-use mathlib.Core.Path.{_≡_, refl, sym, ap, ap₂, _∙_, subst, subst⁻¹}
-use mathlib.Core.Logic.{_⊎_, inl, inr, _≢_}
-use mathlib.Core.Bool.{Bool, true, false}
-use mathlib.Core.List.{List, [], _∷_, List·Memᴰ}
-use Prim.Native.Nat.{ℕ, zero, suc, _+_, _*_, _-_, _≤_, _<_}
+use mathlib.Core.Path.{_≡_, ap, _∙_}
+use mathlib.Core.Bool.{true}
+use mathlib.Core.List.{List, List·Memᴰ}
+use Prim.Native.Nat.{ℕ, zero, suc, _+_, _≤_, _<_}
 use native.Mathlib.Decide.{ℕ-discrete, decLe}
 use native.Mathlib.Omega.{arith}
-use lib.ListN.{length, getD, set, replicate, length-replicate}
-use lib.IntN.{ℤ, pos, _+ℤ_, _-ℤ_}
-use lib.Signed.{_≤ℤ_}
-use Rattle.integers.specs.Linear.{z, zl}
+use lib.ListN.{getD, replicate, length-replicate}
+use lib.IntN.{ℤ, pos, _-ℤ_}
 use Rattle.balance.specs.Optimality.{Feasible, Tight}
 use Rattle.balance.specs.Search.{Found, search}
 use Rattle.balance.specs.Step.{State, amount, potential, residualLength}
@@ -18,7 +15,7 @@ use Rattle.balance.specs.Multipliers.{fromRoot, ways, multipliers}
 use Rattle.balance.specs.Invariant.{Metric, limit, Certified}
 use Rattle.balance.specs.Laws.Search.{Ground, Searching, searched, whole-settled}
 use Rattle.balance.specs.Laws.Step.{residual-back, residual-ahead, residual-le, residual-ground}
-use Rattle.balance.specs.Laws.Fill.{fill-length, fill-other, fill-here}
+use Rattle.balance.specs.Laws.Fill.{fill-other, fill-here}
 use Rattle.balance.specs.Laws.Arcs.{zero-at}
 
 module _ (d : ℕ → ℕ → ℕ) (vs : List ℕ) (metric : Metric d vs) (s : State) (certified : Certified d vs s) (room : s .count < limit) (root : ℕ) (mr : List·Memᴰ root vs) where

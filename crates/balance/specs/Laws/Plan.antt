@@ -1,10 +1,10 @@
 -- For a plan that is not cut off: the state that counts its required arcs and the links of t holds a least balancing and its cost, and the multipliers drawn from
 -- the state of no link are the greatest.
-use mathlib.Core.Path.{_≡_, refl, sym, ap, ap₂, _∙_, subst, subst₂, subst⁻¹, fun-ext}
+use mathlib.Core.Path.{_≡_, refl, sym, ap, ap₂, _∙_, subst₂, subst⁻¹, fun-ext}
 use mathlib.Core.Logic.{_⊎_, inl, inr}
-use mathlib.Core.Bool.{Bool, true, false, not, cond}
+use mathlib.Core.Bool.{Bool, not}
 use mathlib.Core.List.{List, [], _∷_, _++_, map, List·Memᴰ, List·Memᴰ·head, List·Memᴰ·tail, List·Memᴰ·not-nil, List·Memᴰ·append-cases, append-nil}
-use Prim.Native.Nat.{ℕ, zero, suc, _+_, _*_, _-_, _≤_, _<_}
+use Prim.Native.Nat.{ℕ, suc, _+_, _*_, _-_, _≤_, _<_}
 use native.Mathlib.Nat.{mul-le-mul-right, zero-mul, suc-mul}
 use native.Mathlib.Omega.{arith}
 use lib.ListN.{length, getD, length-map, length-append}
@@ -17,7 +17,7 @@ use Rattle.postman.specs.Plan.{Arc, Plan, isRequiredArc, requiredArcs, WellForm
 use Rattle.postman.specs.Required.{isRequired, required}
 use Rattle.postman.specs.Distance.{distance}
 use Rattle.postman.specs.Link.{Link}
-use Rattle.postman.specs.Balancing.{heads, tails, imbalance, sumOver, IsBalancing, balancingCost, assignment, leastBalancing}
+use Rattle.postman.specs.Balancing.{heads, tails, imbalance, sumOver, IsBalancing, balancingCost, leastBalancing}
 use Rattle.postman.specs.LagrangianBound.{Multipliers, reducedCost, priceOfImbalance, AreMultipliers, AreGreatest}
 use Rattle.postman.specs.PlanCall.{isCutOff}
 use Rattle.postman.specs.Laws.Tests.{cond-ind}
@@ -35,10 +35,10 @@ use Rattle.balance.specs.Multipliers.{multipliers}
 use Rattle.balance.specs.Balance.{requiredEnds, balance}
 use Rattle.balance.specs.Direct.{direct}
 use Rattle.balance.specs.Invariant.{Metric, limit, Certified, Counted}
-use Rattle.balance.specs.Laws.Duality.{is-balancing, cost-price, slack-tight, cost-least, price-least, slack}
+use Rattle.balance.specs.Laws.Duality.{is-balancing, cost-price, slack-tight, cost-least, price-least}
 use Rattle.balance.specs.Laws.Arcs.{Inside, all-counted, empty-certified, empty-counted}
 use Rattle.balance.specs.Laws.DirectBalance.{direct-tight, one-way, direct-balanced, direct-units}
-use Rattle.balance.specs.Laws.Multipliers.{x-root, w, w-feasible, w-tight, below-greatest, M, M-here, M-other}
+use Rattle.balance.specs.Laws.Multipliers.{x-root, w, w-feasible, w-tight, below-greatest, M-here, M-other}
 
 -- ---- sums of signed numbers, and of the naturals that a constant makes of them
 

@@ -1,30 +1,27 @@
 -- Adding an arc keeps a state certified. Distances to t obey the residual lengths, so raising the potentials by them, by no more than h's, keeps every reduced
 -- cost and makes it 0 along the path from h to t.
-use mathlib.Core.Path.{_≡_, refl, sym, ap, ap₂, _∙_, subst, subst⁻¹}
-use mathlib.Core.Logic.{_⊎_, inl, inr, _≢_}
-use mathlib.Core.Bool.{Bool, true, false, not, cond}
+use mathlib.Core.Path.{_≡_, refl, ap, ap₂, _∙_}
+use mathlib.Core.Logic.{_⊎_, inl, inr}
+use mathlib.Core.Bool.{Bool, false, cond}
 use mathlib.Core.List.{List, [], _∷_, List·Memᴰ, List·Memᴰ·cases-cons, Memᴰ·cast}
 use Prim.Native.Nat.{ℕ, zero, suc, _+_, _*_, _-_, _≤_, _<_, min}
-use native.Mathlib.Decide.{ℕ-discrete, decLe}
+use native.Mathlib.Decide.{decLe}
 use native.Mathlib.Omega.{arith}
-use lib.ListN.{length, getD, set, replicate, length-replicate}
-use lib.Dec.{T, eqb, ltb}
+use lib.ListN.{length, getD}
 use borrow.Author.Tests.{lt-ltb, le-ltb}
-use Rattle.postman.specs.Lists.{delta, occurrences}
+use Rattle.postman.specs.Lists.{occurrences}
 use Rattle.postman.specs.Balancing.{sumOver}
 use Rattle.postman.specs.Laws.Occurrences.{mem?}
 use Rattle.postman.specs.Laws.Amounts.{Within}
 use Rattle.postman.specs.Laws.Membership.{getD-mem}
 use Rattle.balance.specs.Bounds.{AtMost}
-use Rattle.balance.specs.Fold.{fold}
-use Rattle.balance.specs.Optimality.{Feasible, Tight, Balances, sent, received}
+use Rattle.balance.specs.Optimality.{Feasible, Tight, Balances}
 use Rattle.balance.specs.Search.{Found, beyond, search}
-use Rattle.balance.specs.Step.{State, amount, potential, residual, residualLength, augment, raise, way, add, empty}
-use Rattle.balance.specs.Invariant.{Metric, limit, Small, Certified, Counted}
-use Rattle.balance.specs.Laws.Sum.{sum-ext}
+use Rattle.balance.specs.Step.{State, amount, potential, residual, residualLength, augment, raise, way, add}
+use Rattle.balance.specs.Invariant.{Metric, limit, Certified, Counted}
 use Rattle.balance.specs.Laws.Duality.{cost-price, tight-slack}
 use Rattle.balance.specs.Laws.Search.{Ground, Searching, searched, goal-settled}
-use Rattle.balance.specs.Laws.Augment.{On, Ready, Sent, augment-sent}
+use Rattle.balance.specs.Laws.Augment.{Sent, augment-sent}
 use Rattle.balance.specs.Laws.Fill.{fill-length, fill-other, fill-here}
 
 -- ---- residual lengths

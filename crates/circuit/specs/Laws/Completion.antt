@@ -1,5 +1,5 @@
 -- The tour that is written completes the arborescence: its paths are cheapest paths, of at most n − 1 arcs, and there is one for each leg.
-use mathlib.Core.Path.{_≡_, refl, sym, subst⁻¹, subst₃}
+use mathlib.Core.Path.{_≡_, refl, sym, ap, _∙_, subst⁻¹, subst₃}
 use mathlib.Core.Bool.{not}
 use mathlib.Core.List.{List, List·Memᴰ}
 use Prim.Native.Nat.{ℕ, _+_, _≤_, _<_}
@@ -8,16 +8,18 @@ use lib.ListN.{length, length-append}
 use lib.Dec.{T, ltb→lt}
 use Rattle.postman.specs.Lists.{anyOf}
 use Rattle.postman.specs.Plan.{Plan, requiredNumbers, WellFormed}
-use Rattle.postman.specs.Required.{required}
+use Rattle.postman.specs.Tour.{walkCost}
+use Rattle.postman.specs.Required.{required, requiredCost}
 use Rattle.postman.specs.Distance.{noPath, distance, hasPath}
 use Rattle.postman.specs.Link.{Link}
+use Rattle.postman.specs.Balancing.{linkCost, balancingCost, leastBalancing, completionCost}
 use Rattle.postman.specs.PlanCall.{isCutOff, sheetPlaces}
 use Rattle.postman.specs.Laws.Tests.{not-not}
 use Rattle.postman.specs.Laws.Membership.{anyOf-not}
 use Rattle.postman.specs.Laws.Required.{required-lt}
 use Rattle.shortest.specs.ShortestPath.{shortestPath}
 use Rattle.shortest.specs.Laws.ShortestPath.{shortest-path}
-use Rattle.circuit.specs.Legs.{units, legTails, legHeads, Completes}
+use Rattle.circuit.specs.Legs.{amount, units, legTails, legHeads, Completes}
 use Rattle.circuit.specs.Tour.{placesOf, tourBy, tour, ArePaths, HavePaths, IsCompletion}
 use Rattle.circuit.specs.Circuit.{circuit}
 use Rattle.circuit.specs.Eulerian.{Eulerian}
@@ -52,6 +54,11 @@ module _ (p : Plan) (ok : WellFormed p) (t : List Link) (amounts : List ℕ) (h 
         first = f .1;
         short = tour-length p ok t amounts h (shortestPath p) paths;
       }
+
+  -- least amounts give the cost of the arborescence's completion
+  pub completes-at-least-cost : balancingCost (required p) (distance p) (amount amounts) ≡ leastBalancing p t → walkCost (p .arcs) (tour p t amounts) ≡ completionCost p t
+  unfolding completionCost
+  completes-at-least-cost e = completion .costs ∙ ap (λ z. requiredCost p + linkCost p t + z) e
 
   -- ---- what the code asks on the way
 

@@ -50,24 +50,24 @@ add-result : tie.Need-add-result
 add-result c =
     let s = c .before .before .before .before .before .before .before in
     let lt : length (s .args .t7) ≡ 8 = search needs in
-    let lh : length (s .args .t8) ≡ 8 = search needs in
-    let l = sum-small (s .pre .1) (s .args .n) (s .pre .0) (s .args .t7) (s .args .t8) lt lh (s .pre .2) (c .before .add-all .ensures) refl (c .link-cost .ensures .1) in
+    let lh : length (s .args .t8) ≡ 8 = s .good .1 .1 .1 .1 .1 .1 .1 .0 .1 .0 .1 in
+    let l = sum-small (s .pre .1) (s .args .n) (s .pre .0) (s .args .t7) (s .args .t8) lt lh (s .pre .2) (c .before .add-all .ensures .0) refl (c .link-cost .ensures .1) in
     search needs
 
 add-result-2 : tie.Need-add-result-2
 add-result-2 c =
     let s = c .before .before .before .before .before .before .before in
     let lt : length (s .args .t7) ≡ 8 = search needs in
-    let lh : length (s .args .t8) ≡ 8 = search needs in
-    let l = sum-small (s .pre .1) (s .args .n) (s .pre .0) (s .args .t7) (s .args .t8) lt lh (s .pre .2) (c .before .add-all .ensures) refl (c .link-cost .ensures .1) in
+    let lh : length (s .args .t8) ≡ 8 = s .good .1 .1 .1 .1 .1 .1 .1 .0 .1 .0 .1 in
+    let l = sum-small (s .pre .1) (s .args .n) (s .pre .0) (s .args .t7) (s .args .t8) lt lh (s .pre .2) (c .before .add-all .ensures .0) refl (c .link-cost .ensures .1) in
     search needs
 
 returns : tie.Need-returns
 returns c =
     let s = c .before .before .before .before .before .before .before in
     let lt : length (s .args .t7) ≡ 8 = search needs in
-    let lh : length (s .args .t8) ≡ 8 = search needs in
-    completion-made (s .pre .1) (s .args .n) (s .pre .0) (s .args .t7) (s .args .t8) lt lh (s .pre .2) (c .before .add-all .ensures) refl (c .link-cost .ensures .0)
+    let lh : length (s .args .t8) ≡ 8 = s .good .1 .1 .1 .1 .1 .1 .1 .0 .1 .0 .1 in
+    completion-made (s .pre .1) (s .args .n) (s .pre .0) (s .args .t7) (s .args .t8) lt lh (s .pre .2) (c .before .add-all .ensures .0) refl (c .link-cost .ensures .0)
 
 pub completion-spec : {M : Type 1} → statement M
 completion-spec =

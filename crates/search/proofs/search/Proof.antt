@@ -37,25 +37,25 @@ completed-requires : tie.Need-completed-requires Inv-loop μ-loop
 completed-requires c κs =
     let h = c .before .before .before .before .before .before .before .before .before .pre .0 in
     let f = c .before .before .before .first in
-    let e = first-choice h (f .result .found) (f .result .choice) (f .ensures) in
+    let e = first-choice h (f .result .found) (f .result .choice) (f .ensures .0) in
     (choosable h 0 (f .result .choice) e, ready h)
 
 next-requires : tie.Need-next-requires Inv-loop μ-loop
 next-requires c κs =
     let h = c .before .before .before .before .before .before .before .before .before .before .before .pre .0 in
     let f = c .before .before .before .before .before .first in
-    let e = first-choice h (f .result .found) (f .result .choice) (f .ensures) in
+    let e = first-choice h (f .result .found) (f .result .choice) (f .ensures .0) in
     (h .layout, c .before .before .before .before .before .before .before .source-sets .ensures, has-chosen h 0 (f .result .choice) e)
 
 loop-holds : tie.Need-loop-holds Inv-loop μ-loop
 loop-holds c =
     let h = c .before .before .before .before .before .before .before .before .before .before .before .before .before .pre .0 in
     let f = c .before .before .before .before .before .before .before .first in
-    let e = first-choice h (f .result .found) (f .result .choice) (f .ensures) in
+    let e = first-choice h (f .result .found) (f .result .choice) (f .ensures .0) in
     let s = c .before .before .before .before .before .before .before .before .before .before .before .before .before in (
       omega arith,
       s .pre .1,
-      next-step (laidOut (s .args .k) (s .args .start .now) (s .args .source .now)) 0 (take (s .args .k) (f .result .choice)) e (c .before .next .ensures),
+      next-step (laidOut (s .args .k) (s .args .start .now) (s .args .source .now)) 0 (take (s .args .k) (f .result .choice)) e (c .before .next .ensures .0),
       λ p g. best-first g 0 (f .result .choice) e refl (c .before .before .before .completed .ensures .1) (c .before .before .before .completed .ensures .0),
     )
 
@@ -104,7 +104,7 @@ loop-again c =
     let e = some-step (s .args .k) (v .found) (v .choice) (v .inv .2) (g .0) in (
       omega arith,
       omega (arith, g .1),
-      next-step (laidOut (s .args .k) (s .args .start .now) (s .args .source .now)) (v .tried) (take (s .args .k) (v .choice)) e (c .before .next2 .ensures),
+      next-step (laidOut (s .args .k) (s .args .start .now) (s .args .source .now)) (v .tried) (take (s .args .k) (v .choice)) e (c .before .next2 .ensures .0),
       λ p h. best-more h (v .tried) (v .choice) e (v .inv .0) (v .inv .3 p h) (c .before .before .before .turn .ensures),
     )
 

@@ -13,26 +13,26 @@ mul-at c = search needs
 add-at : tie.Need-add-at
 add-at c = search needs
 
-field-requires : tie.Need-field-requires
-field-requires c κs = search needs
+take-at-requires : tie.Need-take-at-requires
+take-at-requires c κs = search needs
 
-add-field : tie.Need-add-field
-add-field c = search needs
+add-take-at : tie.Need-add-take-at
+add-take-at c = search needs
 
-field-requires-2 : tie.Need-field-requires-2
-field-requires-2 c κs = search needs
+take-at-requires-2 : tie.Need-take-at-requires-2
+take-at-requires-2 c κs = search needs
 
-add-field-2 : tie.Need-add-field-2
-add-field-2 c = search needs
+add-take-at-2 : tie.Need-add-take-at-2
+add-take-at-2 c = search needs
 
-field-requires-3 : tie.Need-field-requires-3
-field-requires-3 c κs = search needs
+take-at-requires-3 : tie.Need-take-at-requires-3
+take-at-requires-3 c κs = search needs
 
-add-field-3 : tie.Need-add-field-3
-add-field-3 c = search needs
+add-take-at-3 : tie.Need-add-take-at-3
+add-take-at-3 c = search needs
 
-field-requires-4 : tie.Need-field-requires-4
-field-requires-4 c κs = search needs
+take-at-requires-4 : tie.Need-take-at-requires-4
+take-at-requires-4 c κs = search needs
 
 field-standing-requires : tie.Need-field-standing-requires
 field-standing-requires c κs = search needs
@@ -46,10 +46,10 @@ returns c =
     let a = c .before .before .before .before .before .before .before .args in
     c .arc-verdict .ensures
     ∙ arc-parts (a .n) (arcOf (a .s .now) (a .k)) _ _ _ _
-    (c .before .before .before .before .before .field .ensures)
-    (c .before .before .before .before .field2 .ensures)
-    (c .before .before .field4 .ensures)
-    (c .before .field-standing .ensures ∙ ap standingOf (c .before .before .before .field3 .ensures))
+    (c .before .before .before .before .before .take-at .ensures .0)
+    (c .before .before .before .before .take-at2 .ensures .0)
+    (c .before .before .take-at4 .ensures .0)
+    (c .before .field-standing .ensures ∙ ap standingOf (c .before .before .before .take-at3 .ensures .0))
 
 pub field-verdict-spec : {M : Type 1} → statement M
 field-verdict-spec =
@@ -57,13 +57,13 @@ field-verdict-spec =
     (tie.spec
     mul-at
     add-at
-    field-requires
-    add-field
-    field-requires-2
-    add-field-2
-    field-requires-3
-    add-field-3
-    field-requires-4
+    take-at-requires
+    add-take-at
+    take-at-requires-2
+    add-take-at-2
+    take-at-requires-3
+    add-take-at-3
+    take-at-requires-4
     field-standing-requires
     arc-verdict-requires
     returns)

@@ -8,13 +8,13 @@ use borrow.Author.Needs.{needs}
 use Rattle.plan_file.proofs.reader.accepted_plan.Statement.{statement}
 use Rattle.plan_file.proofs.reader.accepted_plan.Tie as tie
 
-field-requires : tie.Need-field-requires
-field-requires c κs =
+take-at-requires : tie.Need-take-at-requires
+take-at-requires c κs =
     let ok = is-accepted (c .before .args .s .now) (c .before .pre) in
     (omega arith, omega (arith, ok .header), omega arith)
 
-field-requires-2 : tie.Need-field-requires-2
-field-requires-2 c κs =
+take-at-requires-2 : tie.Need-take-at-requires-2
+take-at-requires-2 c κs =
     let ok = is-accepted (c .before .before .args .s .now) (c .before .before .pre) in
     (omega arith, omega (arith, ok .header), omega arith)
 
@@ -25,26 +25,26 @@ read-arcs-requires : tie.Need-read-arcs-requires
 unfolding arcCount fileBits fileLength
 read-arcs-requires c κs =
     let ok = is-accepted (c .before .before .before .args .s .now) (c .before .before .before .pre) in
-    (omega (arith, ok .limits .arc-count, c .field2 .ensures), omega (arith, ok .whole, c .field2 .ensures))
-
-cast-t6 : tie.Need-cast-t6
-unfolding vertexCount
-cast-t6 c =
-    let ok = is-accepted (c .before .before .before .before .args .s .now) (c .before .before .before .before .pre) in
-    omega (arith, ok .limits .vertices, c .before .before .field .ensures)
+    (omega (arith, ok .limits .arc-count, c .take-at2 .ensures .0), omega (arith, ok .whole, c .take-at2 .ensures .0))
 
 cast-t7 : tie.Need-cast-t7
-unfolding arcCount
+unfolding vertexCount
 cast-t7 c =
     let ok = is-accepted (c .before .before .before .before .args .s .now) (c .before .before .before .before .pre) in
-    omega (arith, ok .limits .arc-count, c .before .field2 .ensures)
+    omega (arith, ok .limits .vertices, c .before .before .take-at .ensures .0)
+
+cast-t8 : tie.Need-cast-t8
+unfolding arcCount
+cast-t8 c =
+    let ok = is-accepted (c .before .before .before .before .args .s .now) (c .before .before .before .before .pre) in
+    omega (arith, ok .limits .arc-count, c .before .take-at2 .ensures .0)
 
 returns : tie.Need-returns
 unfolding planRecord planOf vertexCount arcCount
 returns c =
     let s = c .before .before .before .before .args .s .now in
-    let n = c .before .before .field .ensures in
-    let m = c .before .field2 .ensures in
+    let n = c .before .before .take-at .ensures .0 in
+    let m = c .before .take-at2 .ensures .0 in
     let count = length-counted (arcOf s) (arcCount s) in
     cc (c .read-arcs .ensures)
 
@@ -52,10 +52,10 @@ pub accepted-plan-spec : {M : Type 1} → statement M
 accepted-plan-spec =
     tie.close
     (tie.spec
-    field-requires
-    field-requires-2
+    take-at-requires
+    take-at-requires-2
     cast-read-arcs
     read-arcs-requires
-    cast-t6
     cast-t7
+    cast-t8
     returns)

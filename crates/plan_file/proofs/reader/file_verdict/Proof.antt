@@ -18,17 +18,17 @@ returns c =
     let s = c .before .before .args .s .now in
     rw (file-refusal s) (simp (lt-ltb (length s) 3 (c .if1 .taken)))
 
-field-requires : tie.Need-field-requires
-field-requires c κs = search needs
+take-at-requires : tie.Need-take-at-requires
+take-at-requires c κs = search needs
 
 returns-2 : tie.Need-returns-2
 returns-2 c =
     let s = c .before .before .before .before .args .s .now in
-    let edition = ne-eqb (fieldAt s 0 4) 1 (λ e. c .if2 .taken (c .before .field .ensures ∙ e)) in
+    let edition = ne-eqb (fieldAt s 0 4) 1 (λ e. c .if2 .taken (c .before .take-at .ensures .0 ∙ e)) in
     rw (file-refusal s) (simp (le-ltb (length s) 3 (c .before .before .if1 .left), edition))
 
-field-requires-2 : tie.Need-field-requires-2
-field-requires-2 c κs = search needs
+take-at-requires-2 : tie.Need-take-at-requires-2
+take-at-requires-2 c κs = search needs
 
 is-outside-requires : tie.Need-is-outside-requires
 is-outside-requires c κs = search needs
@@ -36,13 +36,13 @@ is-outside-requires c κs = search needs
 returns-3 : tie.Need-returns-3
 returns-3 c =
     let s = c .before .before .before .before .before .before .before .args .s .now in
-    let edition = eq-eqb (fieldAt s 0 4) 1 (sym (c .before .before .before .before .field .ensures) ∙ c .before .before .before .if2 .left) in
+    let edition = eq-eqb (fieldAt s 0 4) 1 (sym (c .before .before .before .before .take-at .ensures .0) ∙ c .before .before .before .if2 .left) in
     let extent : isOutside (fieldAt s 4 7) 1 64 ≡ true =
-    ap (λ (n : ℕ). isOutside n 1 64) (sym (c .before .before .field2 .ensures)) ∙ sym (c .before .is-outside .ensures) ∙ c .if3 .taken in
+    ap (λ (n : ℕ). isOutside n 1 64) (sym (c .before .before .take-at2 .ensures .0)) ∙ sym (c .before .is-outside .ensures) ∙ c .if3 .taken in
     rw (file-refusal s) (simp (le-ltb (length s) 3 (c .before .before .before .before .before .if1 .left), edition, extent))
 
-field-requires-3 : tie.Need-field-requires-3
-field-requires-3 c κs = search needs
+take-at-requires-3 : tie.Need-take-at-requires-3
+take-at-requires-3 c κs = search needs
 
 is-outside-requires-2 : tie.Need-is-outside-requires-2
 is-outside-requires-2 c κs = search needs
@@ -51,29 +51,29 @@ returns-4 : tie.Need-returns-4
 returns-4 c =
     let s = c .before .before .before .before .before .before .before .before .before .before .args .s .now in
     let edition =
-    eq-eqb (fieldAt s 0 4) 1 (sym (c .before .before .before .before .before .before .before .field .ensures) ∙ c .before .before .before .before .before .before .if2 .left) in
+    eq-eqb (fieldAt s 0 4) 1 (sym (c .before .before .before .before .before .before .before .take-at .ensures .0) ∙ c .before .before .before .before .before .before .if2 .left) in
     let vertices : isOutside (fieldAt s 4 7) 1 64 ≡ false =
-    ap (λ (n : ℕ). isOutside n 1 64) (sym (c .before .before .before .before .before .field2 .ensures))
+    ap (λ (n : ℕ). isOutside n 1 64) (sym (c .before .before .before .before .before .take-at2 .ensures .0))
     ∙ sym (c .before .before .before .before .is-outside .ensures)
     ∙ c .before .before .before .if3 .left in
     let extent : isOutside (fieldAt s 11 9) 1 256 ≡ true =
-    ap (λ (m : ℕ). isOutside m 1 256) (sym (c .before .before .field3 .ensures)) ∙ sym (c .before .is-outside2 .ensures) ∙ c .if4 .taken in
+    ap (λ (m : ℕ). isOutside m 1 256) (sym (c .before .before .take-at3 .ensures .0)) ∙ sym (c .before .is-outside2 .ensures) ∙ c .if4 .taken in
     rw (file-refusal s) (simp (le-ltb (length s) 3 (c .before .before .before .before .before .before .before .before .if1 .left), edition, vertices, extent))
 
 cast-body-verdict : tie.Need-cast-body-verdict
 cast-body-verdict c = search needs
 
 body-verdict-requires : tie.Need-body-verdict-requires
-body-verdict-requires c κs = inside (c .before .before .field3 .result) 1 256 (sym (c .before .is-outside2 .ensures) ∙ c .if4 .left) .1
+body-verdict-requires c κs = inside (c .before .before .take-at3 .result .field) 1 256 (sym (c .before .is-outside2 .ensures) ∙ c .if4 .left) .1
 
 returns-5 : tie.Need-returns-5
 returns-5 c =
     let s = c .before .before .before .before .before .before .before .before .before .before .before .args .s .now in
-    let n = c .before .before .before .before .before .before .field2 .ensures in
-    let m = c .before .before .before .field3 .ensures in
+    let n = c .before .before .before .before .before .before .take-at2 .ensures .0 in
+    let m = c .before .before .before .take-at3 .ensures .0 in
     let edition =
     eq-eqb (fieldAt s 0 4) 1
-    (sym (c .before .before .before .before .before .before .before .before .field .ensures) ∙ c .before .before .before .before .before .before .before .if2 .left) in
+    (sym (c .before .before .before .before .before .before .before .before .take-at .ensures .0) ∙ c .before .before .before .before .before .before .before .if2 .left) in
     let vertices : isOutside (fieldAt s 4 7) 1 64 ≡ false =
     ap (λ (n : ℕ). isOutside n 1 64) (sym n) ∙ sym (c .before .before .before .before .before .is-outside .ensures) ∙ c .before .before .before .before .if3 .left in
     let extent : isOutside (fieldAt s 11 9) 1 256 ≡ false =
@@ -87,12 +87,12 @@ file-verdict-spec =
     tie.close
     (tie.spec
     returns
-    field-requires
+    take-at-requires
     returns-2
-    field-requires-2
+    take-at-requires-2
     is-outside-requires
     returns-3
-    field-requires-3
+    take-at-requires-3
     is-outside-requires-2
     returns-4
     cast-body-verdict

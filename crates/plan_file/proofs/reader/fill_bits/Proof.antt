@@ -19,19 +19,19 @@ mul-end : tie.Need-mul-end
 unfolding fileBits fileLength
 mul-end c = omega arith
 
-sub-field : tie.Need-sub-field
+sub-take-at : tie.Need-sub-take-at
 unfolding fileBits fileLength
-sub-field c = omega arith
+sub-take-at c = omega arith
 
-field-requires : tie.Need-field-requires
+take-at-requires : tie.Need-take-at-requires
 unfolding fileBits fileLength
-field-requires c κs = (omega arith, omega arith, omega arith)
+take-at-requires c κs = (omega arith, omega arith, omega arith)
 
 returns : tie.Need-returns
 unfolding fileBits fileLength
-returns c = c .field .ensures ∙ rw (c .before .file-length .ensures)
+returns c = c .take-at .ensures .0 ∙ rw (c .before .file-length .ensures)
 
 pub fill-bits-spec : {M : Type 1} → statement M
 fill-bits-spec =
     tie.close
-    (tie.spec mul-at add-at file-length-requires mul-end sub-field field-requires returns)
+    (tie.spec mul-at add-at file-length-requires mul-end sub-take-at take-at-requires returns)

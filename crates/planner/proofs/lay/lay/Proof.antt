@@ -30,7 +30,7 @@ direct-amounts-requires c κs =
     let s = c .before .before .before .before .before in
     let b = s .pre .0 in
     let t = s .pre .1 in
-    let e = full-is _ _ _ _ b _ _ t (stateOf (c .add-all .result)) (c .add-all .ensures) in
+    let e = full-is _ _ _ _ b _ _ t (stateOf (c .add-all .result)) (c .add-all .ensures .0) in
     let j = tree-joined _ _ _ _ b _ _ t in
     let l = tree-short _ _ _ _ b _ _ t in
     let r = state-room _ _ _ (b .known) _ j (omega arith) _ e in
@@ -43,7 +43,7 @@ write-tour-requires c κs =
     let t = s .pre .1 in
     let full = c .before .before .before .add-all in
     let laid = c .before .before .direct-amounts in
-    let e = full-is _ _ _ _ b _ _ t (stateOf (full .result)) (full .ensures) in
+    let e = full-is _ _ _ _ b _ _ t (stateOf (full .result)) (full .ensures .0) in
     let a = amounts-are _ _ _ _ b _ _ t _ e (laid .result) (laid .ensures) in
     ((b .known .plannable .well-formed, base-table _ _ _ (b .known)), ((t .same, amounts-complete _ _ _ _ b _ _ t _ a), s .pre .2))
 
@@ -58,7 +58,7 @@ returns c =
     let full = c .before .before .before .before .before .before .add-all in
     let laid = c .before .before .before .before .before .direct-amounts in
     let w = c .before .before .write-tour in
-    let e = full-is _ _ _ _ b _ _ t (stateOf (full .result)) (full .ensures) in
+    let e = full-is _ _ _ _ b _ _ t (stateOf (full .result)) (full .ensures .0) in
     let a = amounts-are _ _ _ _ b _ _ t _ e (laid .result) (laid .ensures) in
     (rw a at (w .ensures .0), rw a at (w .ensures .1))
 

@@ -58,7 +58,7 @@ add-all-requires c κs =
 returns : tie.Need-returns
 returns c =
     let s = c .before .before .before .before .before .before .before .before .before in
-    base-from _ _ _ (s .pre) _ _ _ _ (c .before .before .before .before .gather .ensures) (c .before .before .before .empty .ensures) (c .add-all .ensures)
+    base-from _ _ _ (s .pre) _ _ _ _ (c .before .before .before .before .gather .ensures) (c .before .before .before .empty .ensures) (c .add-all .ensures .0)
 
 pub base-state-spec : {M : Type 1} → statement M
 base-state-spec =

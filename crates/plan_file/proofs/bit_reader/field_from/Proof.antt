@@ -1,0 +1,20 @@
+-- `field_from` meets its contract: the field is what `field` answers.
+use mathlib.Core.Path.{refl}
+use borrow.Author.Needs.{needs}
+use Rattle.plan_file.proofs.bit_reader.field_from.Statement.{statement}
+use Rattle.plan_file.proofs.bit_reader.field_from.Tie as tie
+
+-- src/bit_reader.rt:25:9
+field-requires : tie.Need-field-requires
+field-requires c κs = search needs
+
+-- src/bit_reader.rt:28:13
+add-t5 : tie.Need-add-t5
+add-t5 c = search needs
+
+-- src/bit_reader.rt:21:1
+returns : tie.Need-returns
+returns c = (c .field .ensures, refl)
+
+pub field-from-spec : {M : Type 1} → statement M
+field-from-spec = tie.close (tie.spec field-requires add-t5 returns)

@@ -1,0 +1,89 @@
+-- `read_answer` meets its contract, by document 01's order: the file's refusal, then the room; n and m are the fields that `take_at` answers.
+use mathlib.Core.Path.{_≡_, _∙_, sym, ap}
+use mathlib.Core.List.{List}
+use Prim.Native.Nat.{ℕ}
+use native.Mathlib.Omega.{arith}
+use Rattle.postman.specs.BitField.{fieldAt}
+use Rattle.postman.specs.PlanFile.{vertexCount, arcCount, readRefusal}
+use Rattle.plan_file.specs.Acceptance.{is-accepted}
+use Rattle.plan_file.specs.FieldLaws.{field-lt}
+use Rattle.plan_file.specs.Verdicts.{verdictNumber}
+use Rattle.records.specs.ReadingLaws.{too-short, long-enough, answer-refused, answer-given}
+use Rattle.plan_file.specs.ReadLaws.{refusal-of-file}
+use borrow.Author.Needs.{needs}
+use Rattle.records.proofs.reader.read_answer.Statement.{statement}
+use Rattle.records.proofs.reader.read_answer.Tie as tie
+
+vertex-count : (bytes : List ℕ) (n : ℕ) → n ≡ fieldAt bytes 4 7 → n ≡ vertexCount bytes
+unfolding vertexCount
+vertex-count bytes n e = e
+
+-- m's field starts where n's ends
+arc-count : (bytes : List ℕ) (k m : ℕ) → k ≡ 11 → m ≡ fieldAt bytes k 9 → m ≡ arcCount bytes
+unfolding arcCount
+arc-count bytes k m at e = e ∙ ap (λ (j : ℕ). fieldAt bytes j 9) at
+
+file-verdict-requires : tie.Need-file-verdict-requires
+file-verdict-requires c κs = search needs
+
+enum-told : tie.Need-enum-told
+enum-told c = search needs
+
+take-at-requires : tie.Need-take-at-requires
+take-at-requires c κs =
+    let ok = is-accepted (c .before .before .before .before .args .bytes .now) (sym (c .before .before .file-verdict .ensures) ∙ ap verdictNumber (c .enum-told .given .1)) in
+    (omega arith, omega (arith, ok .header), omega arith)
+
+take-at-requires-2 : tie.Need-take-at-requires-2
+take-at-requires-2 c κs =
+    let ok = is-accepted (c .before .before .before .before .before .args .bytes .now) (sym (c .before .before .before .file-verdict .ensures) ∙ ap verdictNumber (c .before .enum-told .given .1)) in
+    (omega arith, omega (arith, ok .header), omega arith)
+
+cast-if1 : tie.Need-cast-if1
+cast-if1 c = search needs
+
+returns : tie.Need-returns
+returns c =
+    let a = c .before .before .before .before .before .before .before .args in
+    let m = arc-count (a .bytes .now) (c .before .before .take-at .result .at) (c .before .take-at2 .result .field) (c .before .before .take-at .ensures .1) (c .before .take-at2 .ensures .0) in
+    answer-refused (readRefusal (a .bytes .now) (a .room)) (vertexCount (a .bytes .now), arcCount (a .bytes .now)) 8
+    (too-short (a .bytes .now) (a .room) (sym (c .before .before .before .before .before .file-verdict .ensures) ∙ ap verdictNumber (c .before .before .before .enum-told .given .1)) (omega (arith, m, c .if1 .taken)))
+
+cast-t13 : tie.Need-cast-t13
+cast-t13 c = omega (arith, field-lt (c .before .before .before .before .before .before .before .args .bytes .now) 4 7)
+
+cast-t14 : tie.Need-cast-t14
+cast-t14 c = omega (arith, field-lt (c .before .before .before .before .before .before .before .args .bytes .now) (c .before .before .take-at .result .at) 9)
+
+enum-known-r : tie.Need-enum-known-r
+enum-known-r c = search needs
+
+returns-2 : tie.Need-returns-2
+returns-2 c =
+    let a = c .before .before .before .before .before .before .before .args in
+    let n = vertex-count (a .bytes .now) (c .before .before .take-at .result .field) (c .before .before .take-at .ensures .0) in
+    let m = arc-count (a .bytes .now) (c .before .before .take-at .result .at) (c .before .take-at2 .result .field) (c .before .before .take-at .ensures .1) (c .before .take-at2 .ensures .0) in
+    answer-given (readRefusal (a .bytes .now) (a .room)) (vertexCount (a .bytes .now), arcCount (a .bytes .now)) _
+    (long-enough (a .bytes .now) (a .room) (sym (c .before .before .before .before .before .file-verdict .ensures) ∙ ap verdictNumber (c .before .before .before .enum-told .given .1)) (omega (arith, m, c .if1 .left))) (λ i. (n i, m i))
+
+returns-3 : tie.Need-returns-3
+returns-3 c =
+    let a = c .before .before .before .before .before .args in
+    answer-refused (readRefusal (a .bytes .now) (a .room)) (vertexCount (a .bytes .now), arcCount (a .bytes .now)) _
+    (refusal-of-file (a .bytes .now) (a .room) _ (sym (c .before .before .before .file-verdict .ensures) ∙ ap verdictNumber (c .before .r .given .1)))
+
+pub read-answer-spec : {M : Type 1} → statement M
+read-answer-spec =
+    tie.close
+    (tie.spec
+    file-verdict-requires
+    enum-told
+    take-at-requires
+    take-at-requires-2
+    cast-if1
+    returns
+    cast-t13
+    cast-t14
+    enum-known-r
+    returns-2
+    returns-3)

@@ -1,0 +1,44 @@
+// Lists that are the first records of an array: for callers that hold arrays, whose contracts say nothing of a lent list.
+ghost use mathlib.Core.Path.{_≡_};
+ghost use mathlib.Core.List.{map, _++_};
+ghost use Prim.Native.Nat.{_≤_};
+ghost use lib.ListN.{take, drop};
+ghost use Rattle.postman.specs.PlanFile.{readAnswer, recordsAfter, writeAnswer, bytesAfter};
+ghost use Rattle.plan.specs.Records.{arcValue};
+ghost use Rattle.plan_file.specs.Verdicts.{writtenAnswer};
+ghost use Rattle.records.specs.Reading.{readNumbers};
+ghost use Rattle.records.specs.Writing.{listPlan};
+use crate::reader::Read;
+use crate::reader::read_records;
+use crate::writer::write_records;
+use plan::Arc;
+use plan_file::Written;
+
+// One record more than a plan may have.
+pub struct Filled {
+    pub read: Read,
+    pub arcs: [Arc; 257],
+}
+
+// Reading into the first `room` records of the array; the others stay.
+pub fn read_array(bytes: &[u8], arcs: [Arc; 257], room: usize) -> Filled
+    requires { ⌜ room ≤ 257 ⌝ }
+    ensures { λ r. ⌜ (readNumbers (r .read) ≡ readAnswer (now (bytes .entry)) (map arcValue (take room arcs)))
+        × (map arcValue (r .arcs) ≡ recordsAfter (now (bytes .entry)) (map arcValue (take room arcs)) ++ map arcValue (drop room arcs)) ⌝ }
+{
+    let mut list = arcs;
+    let read = read_records(bytes, &mut list[..room]);
+    Filled {
+        read: read,
+        arcs: list,
+    }
+}
+
+// Writing the first m records of the array.
+pub fn write_array(n: u8, arcs: [Arc; 257], m: usize, bytes: &mut [u8]) -> Written
+    requires { ⌜ m ≤ 257 ⌝ }
+    ensures { λ r. ⌜ (writtenAnswer r ≡ writeAnswer (listPlan n (take m arcs)) (now (bytes .entry)))
+        × (now (bytes .exit) ≡ bytesAfter (listPlan n (take m arcs)) (now (bytes .entry))) ⌝ }
+{
+    write_records(n, &arcs[..m], bytes)
+}

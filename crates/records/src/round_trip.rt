@@ -1,0 +1,24 @@
+// What is written from a list is read back into a list.
+ghost use Prim.Native.Nat.{_≤_};
+ghost use Rattle.records.specs.Reread.{IsReread};
+use crate::arrays::Filled;
+use crate::arrays::read_array;
+use crate::arrays::write_array;
+use crate::reader::Read;
+use plan::Arc;
+use plan_file::Written;
+
+// The first m records of `arcs` are written, and the file is read into `list`. Every file has room in 963 bytes, and every plan in 257 records.
+pub fn reread_array(n: u8, arcs: [Arc; 257], m: usize, list: [Arc; 257]) -> Filled
+    requires { ⌜ m ≤ 257 ⌝ }
+    ensures { λ r. ⌜ IsReread n arcs m list r ⌝ }
+{
+    let mut bytes = [0u8; 963];
+    match write_array(n, arcs, m, &mut bytes) {
+        Written::Length(k) => read_array(&bytes[..k], list, 257),
+        Written::Refused(r) => Filled {
+            read: Read::Refused(r),
+            arcs: list,
+        },
+    }
+}

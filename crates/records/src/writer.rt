@@ -1,0 +1,72 @@
+// From a lent list of arc records to bytes.
+ghost use mathlib.Core.Path.{_≡_};
+ghost use lib.ListN.{replicate};
+ghost use Rattle.postman.specs.PlanFile.{writeAnswer, bytesAfter};
+ghost use Rattle.plan_file.specs.Verdicts.{writtenAnswer};
+ghost use Rattle.plan.specs.Records.{zeroRecord, planValue};
+ghost use Rattle.records.specs.Writing.{atMost, loaded, countedPlan, listPlan};
+use plan::Arc;
+use plan::Plan;
+use plan_file::Written;
+use plan_file::writer::write_plan;
+
+// The lesser of two numbers.
+pub fn at_most(n: usize, limit: usize) -> usize
+    ensures { λ r. ⌜ r ≡ atMost n limit ⌝ }
+{
+    if n < limit {
+        return n;
+    }
+    limit
+}
+
+// 256 records of zeros.
+pub fn no_records() -> [Arc; 256]
+    ensures { λ r. ⌜ r ≡ replicate 256 zeroRecord ⌝ }
+{
+    let zero = Arc {
+        tail: 0,
+        head: 0,
+        standing: 0,
+        cost: 0,
+    };
+    [zero; 256]
+}
+
+// The records of the list, at most 256, and zeros after them.
+pub fn load_records(records: &[Arc]) -> [Arc; 256]
+    ensures { λ r. ⌜ r ≡ loaded (now (records .entry)) ⌝ }
+{
+    let count = at_most(records.len(), 256);
+    let mut arcs = no_records();
+    let mut k = 0;
+    while k < count {
+        arcs[k] = records[k];
+        k = k + 1;
+    }
+    arcs
+}
+
+// Writing a plan of m records. There are 256: a longer list is refused for its length, whatever it holds.
+pub fn write_arcs(n: u8, m: usize, arcs: [Arc; 256], bytes: &mut [u8]) -> Written
+    ensures { λ r. ⌜ (writtenAnswer r ≡ writeAnswer (planValue (countedPlan n m arcs)) (now (bytes .entry)))
+        × (now (bytes .exit) ≡ bytesAfter (planValue (countedPlan n m arcs)) (now (bytes .entry))) ⌝ }
+{
+    let count = at_most(m, 257);
+    let plan = Plan {
+        n: n,
+        m: count as u16,
+        arcs: arcs,
+    };
+    write_plan(plan, bytes)
+}
+
+// Writing, from any list into any slice: the first refusal by document 01's order, with the slice untouched; or the file's length, with the file in the slice from its
+// start and the bytes after it untouched.
+pub fn write_records(n: u8, records: &[Arc], bytes: &mut [u8]) -> Written
+    ensures { λ r. ⌜ (writtenAnswer r ≡ writeAnswer (listPlan n (now (records .entry))) (now (bytes .entry)))
+        × (now (bytes .exit) ≡ bytesAfter (listPlan n (now (records .entry))) (now (bytes .entry))) ⌝ }
+{
+    let arcs = load_records(records);
+    write_arcs(n, records.len(), arcs, bytes)
+}

@@ -1,0 +1,239 @@
+// Lists of arc records, read and written: what each call answers, and what it leaves in the list or in the bytes.
+ghost use Prim.Native.Nat.{_≤_};
+use libc::STDOUT_FILENO;
+use plan::Arc;
+use plan_file::Refusal;
+use plan_file::Written;
+use records::arrays::Filled;
+use records::arrays::read_array;
+use records::arrays::write_array;
+use records::reader::Read;
+use records::round_trip::reread_array;
+
+// ---- what is printed
+
+fn text(s: &[u8]) {
+    io::write_all(STDOUT_FILENO, s);
+}
+
+fn number(label: &[u8], n: u64) {
+    text(label);
+    io::print_decimal(STDOUT_FILENO, n);
+}
+
+fn byte(b: u8) {
+    text(b" ");
+    io::print_hex(STDOUT_FILENO, b as u64, 2);
+}
+
+fn bytes(s: &[u8]) {
+    for i in 0..s.len() {
+        byte(s[i]);
+    }
+    text(b"\n");
+}
+
+fn refusal(r: Refusal) {
+    number(b"refused ", plan_file::refusal_number(r) as u64);
+    text(b"\n");
+}
+
+fn arc(a: Arc) {
+    number(b" (", a.tail as u64);
+    number(b" ", a.head as u64);
+    number(b" ", a.standing as u64);
+    number(b" ", a.cost as u64);
+    text(b")");
+}
+
+// The answer, and four of the records.
+fn filled(r: Filled, first: usize)
+    requires { ⌜ first ≤ 253 ⌝ }
+{
+    let read = r.read;
+    let arcs = r.arcs;
+    match read {
+        Read::Given(n, m) => {
+            number(b"n ", n as u64);
+            number(b" m ", m as u64);
+            text(b"\n");
+        }
+        Read::Refused(q) => refusal(q),
+    }
+    arc(arcs[first]);
+    arc(arcs[first + 1]);
+    arc(arcs[first + 2]);
+    arc(arcs[first + 3]);
+    text(b"\n");
+}
+
+fn written(w: Written) {
+    match w {
+        Written::Length(k) => {
+            number(b"length ", k as u64);
+            text(b"\n");
+        }
+        Written::Refused(r) => refusal(r),
+    }
+}
+
+// ---- lists
+
+fn arc_of(tail: u8, head: u8, standing: u8, cost: u16) -> Arc {
+    Arc {
+        tail: tail,
+        head: head,
+        standing: standing,
+        cost: cost,
+    }
+}
+
+// What a list holds before it is read into.
+fn nines() -> [Arc; 257] {
+    [arc_of(9, 9, 9, 9); 257]
+}
+
+// Two records, the second 256 times.
+fn list_of(first: Arc, other: Arc) -> [Arc; 257] {
+    let mut arcs = [other; 257];
+    arcs[0] = first;
+    arcs
+}
+
+// Case A: 0→1 5 M; 1→0 3.
+fn case_a() -> [Arc; 257] {
+    list_of(arc_of(0, 1, 1, 5), arc_of(1, 0, 0, 3))
+}
+
+// ---- reading
+
+fn read(label: &[u8], s: &[u8], room: usize)
+    requires { ⌜ room ≤ 257 ⌝ }
+{
+    text(label);
+    filled(read_array(s, nines(), room), 0);
+}
+
+// Case A's file, with one byte or more changed.
+fn read_cases() {
+    read(
+        b"case A into 4: ",
+        b"\x10\x40\x20\x01\x40\x01\x41\x00\x00\x03",
+        4,
+    );
+    read(b"into 2: ", b"\x10\x40\x20\x01\x40\x01\x41\x00\x00\x03", 2);
+    read(b"into 1: ", b"\x10\x40\x20\x01\x40\x01\x41\x00\x00\x03", 1);
+    read(b"into 0: ", b"\x10\x40\x20\x01\x40\x01\x41\x00\x00\x03", 0);
+    read(b"2 bytes into 1: ", b"\x10\x40", 1);
+    read(
+        b"edition 2 into 1: ",
+        b"\x20\x40\x20\x01\x40\x01\x41\x00\x00\x03",
+        1,
+    );
+    read(
+        b"n 65 into 1: ",
+        b"\x18\x20\x20\x01\x40\x01\x41\x00\x00\x03",
+        1,
+    );
+    read(
+        b"m 257 into 1: ",
+        b"\x10\x50\x10\x01\x40\x01\x41\x00\x00\x03",
+        1,
+    );
+    read(
+        b"one byte short, into 1: ",
+        b"\x10\x40\x20\x01\x40\x01\x41\x00\x00",
+        1,
+    );
+    read(
+        b"one byte long, into 1: ",
+        b"\x10\x40\x20\x01\x40\x01\x41\x00\x00\x03\x00",
+        1,
+    );
+    read(
+        b"tail 2 in arc 1, into 4: ",
+        b"\x10\x40\x20\x01\x40\x01\x42\x00\x00\x03",
+        4,
+    );
+    read(
+        b"cost 0 in arc 1, into 4: ",
+        b"\x10\x40\x20\x01\x40\x01\x41\x00\x00\x00",
+        4,
+    );
+    read(
+        b"cost 0 in arc 1, into 1: ",
+        b"\x10\x40\x20\x01\x40\x01\x41\x00\x00\x00",
+        1,
+    );
+    read(
+        b"standing 3 in arc 1, into 4: ",
+        b"\x10\x40\x20\x01\x40\x01\x41\x03\x00\x03",
+        4,
+    );
+}
+
+// ---- writing
+
+// Writes into 9 and 12 bytes that were all ee, and prints them.
+fn write_9(label: &[u8], n: u8, arcs: [Arc; 257], m: usize)
+    requires { ⌜ m ≤ 257 ⌝ }
+{
+    text(label);
+    let mut s = [0xeeu8; 9];
+    written(write_array(n, arcs, m, &mut s));
+    bytes(&s);
+}
+
+fn write_12(label: &[u8], n: u8, arcs: [Arc; 257], m: usize)
+    requires { ⌜ m ≤ 257 ⌝ }
+{
+    text(label);
+    let mut s = [0xeeu8; 12];
+    written(write_array(n, arcs, m, &mut s));
+    bytes(&s);
+}
+
+fn write_cases() {
+    let a = arc_of(0, 1, 1, 5);
+    write_12(b"case A in 12 bytes: ", 2, case_a(), 2);
+    write_9(b"in 9 bytes: ", 2, case_a(), 2);
+    write_12(b"no record: ", 2, case_a(), 0);
+    write_12(b"256 records in 12 bytes: ", 2, case_a(), 256);
+    write_12(b"257 records: ", 2, case_a(), 257);
+    write_12(b"n 0: ", 0, case_a(), 2);
+    write_12(b"n 65: ", 65, case_a(), 2);
+    write_12(b"tail 2: ", 2, list_of(a, arc_of(2, 0, 0, 1)), 2);
+    write_12(b"cost 0: ", 2, list_of(a, arc_of(1, 0, 0, 0)), 2);
+    write_12(b"standing 3: ", 2, list_of(a, arc_of(1, 0, 3, 1)), 2);
+    write_12(
+        b"standing 3 in arc 0, tail 2 in arc 1: ",
+        2,
+        list_of(arc_of(0, 1, 3, 1), arc_of(2, 0, 0, 1)),
+        2,
+    );
+    write_9(b"cost 0 in 9 bytes: ", 2, list_of(a, arc_of(1, 0, 0, 0)), 2);
+    write_12(
+        b"a fault in a record from m on: ",
+        2,
+        list_of(a, arc_of(9, 9, 9, 0)),
+        1,
+    );
+}
+
+// ---- both ways
+
+fn both_ways() {
+    text(b"case A, there and back: ");
+    filled(reread_array(2, case_a(), 2, nines()), 0);
+    let wide = list_of(arc_of(63, 0, 2, 65535), arc_of(62, 63, 1, 257));
+    text(b"256 records, there and back: ");
+    filled(reread_array(64, wide, 256, nines()), 253);
+    text(b"257 records: ");
+    filled(reread_array(64, wide, 257, nines()), 253);
+}
+
+fn main() {
+    read_cases();
+    write_cases();
+    both_ways();
+}
