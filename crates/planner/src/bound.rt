@@ -1,6 +1,7 @@
 // L(u), and the floor.
 use plan::Plan;
 ghost use mathlib.Core.Path.{_≡_};
+ghost use mathlib.Core.Bool.{cond};
 ghost use Prim.Native.Nat.{ℕ, _≤_};
 ghost use lib.IntN.{pos, _+ℤ_};
 ghost use Rattle.integers.specs.Linear.{Within};
@@ -42,4 +43,18 @@ pub fn lagrangian(
 {
     let a = arborescence::pairs::cheapest_arborescence(table, u, component, required, k);
     total(required_cost, price, a)
+}
+
+// The floor: "the cost if whole, else the larger of L(0) and L(u)".
+pub fn floor_of(plan: Plan, table: &[[u32; 64]; 64], u: &[i64; 64], component: &[u8; 64], required: &[bool; 64], k: usize, required_cost: u64, price: u64, whole: bool, cost: u64) -> i64
+    requires { ⌜ IsPriced (planValue plan) (now table) (now u) (now component) (now required) k «required_cost» price × (cost ≤ 4398046511104) ⌝ }
+    ensures { λ r. ⌜ r ≡ cond whole (pos cost) (maxℤ (lagrangianBound (planValue plan) (λ i. pos 0)) (lagrangianBound (planValue plan) (multipliersOf (now (u .entry))))) ⌝ }
+{
+    if whole {
+        return cost as i64;
+    }
+    let zeros = [0i64; 64];
+    let without = lagrangian(plan, table, &zeros, component, required, k, required_cost, 0);
+    let priced = lagrangian(plan, table, u, component, required, k, required_cost, price);
+    larger(without, priced)
 }

@@ -1,6 +1,6 @@
 -- What the cheapest arborescence is asked: multipliers with reduced costs that are not negative, 0 at a required vertex, are bounded by distances; so are the reduced
 -- costs, and A(u).
-use mathlib.Core.Path.{_≡_, refl, sym, ap, _∙_, subst, subst⁻¹}
+use mathlib.Core.Path.{_≡_, refl, sym, ap, ap₂, _∙_, subst, subst⁻¹, fun-ext}
 use mathlib.Core.Logic.{_⊎_, inl, inr}
 use mathlib.Core.Bool.{Bool, true, false}
 use mathlib.Core.List.{List, [], _∷_, map, List·Memᴰ, List·Memᴰ·head, List·Memᴰ·tail}
@@ -8,9 +8,9 @@ use Prim.Native.Nat.{ℕ, zero, suc, _+_, _*_, _-_, _≤_, _<_}
 use native.Mathlib.Nat.{suc-mul, mul-le-mul-right}
 use native.Mathlib.Decide.{decLe}
 use native.Mathlib.Omega.{arith}
-use lib.ListN.{length, getD, List·getD-eq-default}
+use lib.ListN.{length, getD, replicate, List·getD-eq-default}
 use lib.Dec.{T}
-use lib.IntN.{ℤ, pos, _+ℤ_, _-ℤ_}
+use lib.IntN.{ℤ, pos, _+ℤ_, _-ℤ_, _*ℤ_, zero-*ℤ}
 use lib.Signed.{_≤ℤ_}
 use Rattle.integers.specs.Linear.{z, zl, zz, Within}
 use Rattle.postman.specs.Lists.{select, sumOf, sumOfℤ, below}
@@ -20,6 +20,7 @@ use Rattle.postman.specs.Distance.{distance}
 use Rattle.postman.specs.Link.{Link}
 use Rattle.postman.specs.Component.{component, componentCount}
 use Rattle.postman.specs.Arborescence.{arborescences, arborescenceCount}
+use Rattle.postman.specs.Balancing.{imbalance}
 use Rattle.postman.specs.LagrangianBound.{reducedCost, reducedSum, cheapestArborescence, priceOfImbalance, lagrangianBound}
 use Rattle.postman.specs.Laws.Tests.{cond-ind}
 use Rattle.postman.specs.Laws.Membership.{select-mem, mem-select, mem-below}
@@ -29,9 +30,10 @@ use Rattle.postman.specs.Laws.Required.{required-lt}
 use Rattle.postman.specs.Laws.Component.{component-lt}
 use Rattle.postman.specs.Laws.Balancing.{Joins}
 use Rattle.postman.specs.Laws.Arborescence.{arborescences-mem, joins}
-use Rattle.postman.specs.Laws.LagrangianBound.{Feasible, cheapest-at, cheapest-nonneg}
+use Rattle.postman.specs.Laws.LagrangianBound.{Feasible, cheapest-at, cheapest-nonneg, zero-feasible}
 use Rattle.postman.specs.Laws.Optimality.{Plannable, some-arborescence}
 use Rattle.balance.specs.Invariant.{Metric}
+use Rattle.balance.specs.Laws.Arcs.{zero-at}
 use Rattle.balance.specs.Laws.Plan.{plan-metric}
 use Rattle.arborescence.specs.Picture.{highest}
 use Rattle.arborescence.specs.PairCosts.{costOf, AreCosts, IsNetwork, multipliersOf}
@@ -171,3 +173,39 @@ module _ (p : Plan) (table : List (List ℕ)) (u : List ℤ) (c : List ℕ) (fla
   -- R is small
   pub cost-small : r ≤ 4398046511104
   cost-small = let a = h .cost in let b = required-cost-small p (h .plannable .well-formed) in omega arith
+
+-- ---- u = 0
+
+zeros-are : multipliersOf (replicate 64 (pos 0)) ≡ (λ (i : ℕ). pos 0)
+zeros-are = fun-ext (λ i. zero-at 64 i (pos 0))
+
+pub zero-bound : (p : Plan) → lagrangianBound p (multipliersOf (replicate 64 (pos 0))) ≡ lagrangianBound p (λ i. pos 0)
+zero-bound p = ap (lagrangianBound p) zeros-are
+
+zero-price : (p : Plan) → priceOfImbalance p (λ i. pos 0) ≡ pos 0
+unfolding priceOfImbalance
+zero-price p = at (required p)
+  where
+    at : (vs : List ℕ) → sumOfℤ (map (λ i. pos 0 *ℤ imbalance p [] i) vs) ≡ pos 0
+    at [] = refl
+    at (v ∷ vs) = ap₂ _+ℤ_ (zero-*ℤ (imbalance p [] v)) (at vs)
+
+-- what is known of a plan and multipliers is known of it and 0
+pub zero-priced : {p : Plan} {table : List (List ℕ)} {u : List ℤ} {c : List ℕ} {flags : List Bool} {k r price : ℕ} → IsPriced p table u c flags k r price → IsPriced p table (replicate 64 (pos 0)) c flags k r 0
+zero-priced {p} h = record {
+  plannable = h .plannable;
+  few = h .few;
+  some = h .some;
+  distances = h .distances;
+  long = h .long;
+  required-flags = h .required-flags;
+  components = h .components;
+  cost = h .cost;
+  feasible = subst⁻¹ (Feasible p) zeros-are (zero-feasible p);
+  elsewhere = λ i n. zero-at 64 i (pos 0);
+  root = h .root;
+  root-required = h .root-required;
+  at-root = zero-at 64 (h .root) (pos 0);
+  price-is = ap (priceOfImbalance p) zeros-are ∙ zero-price p;
+  price-small = omega arith;
+}

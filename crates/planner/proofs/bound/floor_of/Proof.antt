@@ -1,0 +1,57 @@
+-- Whole, the floor is the cost; otherwise both bounds are computed, and L(0) is L of the zeros.
+use mathlib.Core.Path.{_≡_, ap₂, _∙_}
+use mathlib.Core.Bool.{true, false}
+use Prim.Native.Nat.{_^_, _<_}
+use native.Mathlib.Omega.{arith}
+use Rattle.integers.specs.Linear.{plain64, back64}
+use Rattle.postman.specs.Lists.{maxℤ}
+use Rattle.planner.specs.Laws.Bound.{zero-bound, zero-priced}
+use borrow.Author.Needs.{needs}
+use Rattle.planner.proofs.bound.floor_of.Statement.{statement}
+use Rattle.planner.proofs.bound.floor_of.Tie as tie
+use Rattle.planner.proofs.bound.floor_of.Reads as reads
+use Rattle.planner.proofs.bound.floor_of.Lts as lts
+use Rattle.planner.proofs.bound.lagrangian.Reads as lagrangian-reads
+use Rattle.planner.proofs.bound.larger.Reads as larger-reads
+
+-- src/bound.rt:54:16
+cast-result : tie.Need-cast-result
+cast-result c = search needs
+
+-- src/bound.rt:54:9
+returns : tie.Need-returns
+returns c =
+    let e : c .before .args .whole ≡ true = c .if1 .taken in
+    let l : c .before .args .cost < 2 ^ 63 = omega arith in
+    rw e (plain64 (c .before .args .cost) l)
+
+-- src/bound.rt:57:9
+lagrangian-requires : tie.Need-lagrangian-requires
+lagrangian-requires c κs = zero-priced (c .before .before .pre .0)
+
+-- src/bound.rt:58:9
+lagrangian-requires-2 : tie.Need-lagrangian-requires-2
+lagrangian-requires-2 c κs = search needs
+
+-- src/bound.rt:59:5
+larger-requires : tie.Need-larger-requires
+larger-requires c κs = search needs
+
+-- src/bound.rt:49:1
+returns-2 : tie.Need-returns-2
+returns-2 c =
+    let e : c .before .before .before .before .before .args .whole ≡ false = c .before .before .before .before .if1 .left in
+    let l = c .before .before .lagrangian in
+    let m = c .before .lagrangian2 in
+    rw e (back64 _ (c .larger .ok) ∙ c .larger .ensures ∙ ap₂ maxℤ (back64 _ (l .ok) ∙ l .ensures ∙ zero-bound _) (back64 _ (m .ok) ∙ m .ensures))
+
+pub floor-of-spec : {M : Type 1} → statement M
+floor-of-spec =
+    tie.close
+    (tie.spec
+    cast-result
+    returns
+    lagrangian-requires
+    lagrangian-requires-2
+    larger-requires
+    returns-2)
