@@ -2,3 +2,4 @@
 pub mod Tour
 pub mod Lay
 pub mod Bound
+pub mod Solve

@@ -46,7 +46,18 @@ pub fn lagrangian(
 }
 
 // The floor: "the cost if whole, else the larger of L(0) and L(u)".
-pub fn floor_of(plan: Plan, table: &[[u32; 64]; 64], u: &[i64; 64], component: &[u8; 64], required: &[bool; 64], k: usize, required_cost: u64, price: u64, whole: bool, cost: u64) -> i64
+pub fn floor_of(
+    plan: Plan,
+    table: &[[u32; 64]; 64],
+    u: &[i64; 64],
+    component: &[u8; 64],
+    required: &[bool; 64],
+    k: usize,
+    required_cost: u64,
+    price: u64,
+    whole: bool,
+    cost: u64,
+) -> i64
     requires { ⌜ IsPriced (planValue plan) (now table) (now u) (now component) (now required) k «required_cost» price × (cost ≤ 4398046511104) ⌝ }
     ensures { λ r. ⌜ r ≡ cond whole (pos cost) (maxℤ (lagrangianBound (planValue plan) (λ i. pos 0)) (lagrangianBound (planValue plan) (multipliersOf (now (u .entry))))) ⌝ }
 {
@@ -54,7 +65,16 @@ pub fn floor_of(plan: Plan, table: &[[u32; 64]; 64], u: &[i64; 64], component: &
         return cost as i64;
     }
     let zeros = [0i64; 64];
-    let without = lagrangian(plan, table, &zeros, component, required, k, required_cost, 0);
+    let without = lagrangian(
+        plan,
+        table,
+        &zeros,
+        component,
+        required,
+        k,
+        required_cost,
+        0,
+    );
     let priced = lagrangian(plan, table, u, component, required, k, required_cost, price);
     larger(without, priced)
 }

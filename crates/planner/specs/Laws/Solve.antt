@@ -1,0 +1,131 @@
+-- From a prepared plan to what the search and the bounds ask: the multipliers are the greatest, and they price the imbalance at the cost of the state.
+use mathlib.Core.Path.{_≡_, refl, sym, ap, _∙_, subst, subst⁻¹}
+use mathlib.Core.Bool.{Bool}
+use mathlib.Core.List.{List, [], _∷_, List·Memᴰ, List·Memᴰ·head, List·Memᴰ·tail}
+use Prim.Native.Nat.{ℕ, _+_, _*_, _≤_, _<_}
+use native.Mathlib.Nat.{mul-le-mul-right}
+use native.Mathlib.Omega.{arith}
+use lib.ListN.{length, getD}
+use lib.IntN.{ℤ, pos}
+use Rattle.postman.specs.Plan.{Plan}
+use Rattle.postman.specs.Required.{required, requiredCost}
+use Rattle.postman.specs.Component.{componentCount}
+use Rattle.postman.specs.Distance.{distance}
+use Rattle.postman.specs.LagrangianBound.{AreGreatest, priceOfImbalance}
+use Rattle.postman.specs.PlanCall.{root}
+use Rattle.postman.specs.Laws.Membership.{getD-mem}
+use Rattle.postman.specs.Laws.Distance.{bounded}
+use Rattle.postman.specs.Laws.Required.{number-ends}
+use Rattle.postman.specs.Laws.Component.{component-lt}
+use Rattle.postman.specs.Laws.Balancing.{Joins}
+use Rattle.postman.specs.Laws.Existence.{some-required}
+use Rattle.postman.specs.Laws.Optimality.{Plannable}
+use Rattle.balance.specs.Step.{State, cell}
+use Rattle.balance.specs.Balance.{balance}
+use Rattle.balance.specs.Multipliers.{multipliers}
+use Rattle.balance.specs.Laws.Plan.{balance-least, balance-certified, balance-room, multipliers-greatest}
+use Rattle.network.specs.Contracts.{IsRequiredFlags, IsComponents}
+use Rattle.arborescence.specs.Layout.{laidOut, IsLayout}
+use Rattle.arborescence.specs.Candidates.{AreCandidates}
+use Rattle.arborescence.specs.PairCosts.{multipliersOf}
+use Rattle.candidates.specs.declared.Candidates.{Candidates}
+use Rattle.candidates.specs.LaidOut.{AreLaidOut}
+use Rattle.search.specs.Prepared.{Prepared}
+use Rattle.planner.specs.Tour.{tableOf}
+use Rattle.planner.specs.Prepared.{IsKnown, IsBase}
+use Rattle.planner.specs.Priced.{IsPriced}
+use Rattle.planner.specs.Laws.Tour.{agrees}
+use Rattle.planner.specs.Laws.Lay.{base-table}
+
+nonempty : {x : ℕ} {xs : List ℕ} → List·Memᴰ x xs → 0 < length xs
+nonempty (List·Memᴰ·head e) = omega arith
+nonempty (List·Memᴰ·tail m) = omega arith
+
+module _ (p : Plan) (ok : Plannable p) (few : componentCount p ≤ 8) where
+  abbrev d : ℕ → ℕ → ℕ
+  d = cell (tableOf p)
+
+  -- some vertex is required, the lowest among them
+  some-vertex : 0 < length (required p)
+  some-vertex = nonempty (number-ends p (bounded (ok .well-formed) .ends) (some-required p (ok .some-arc) .1) .0)
+
+  pub root-required : List·Memᴰ (root p) (required p)
+  unfolding root
+  root-required = getD-mem (required p) 0 0 some-vertex
+
+  pub some-component : 1 ≤ componentCount p
+  some-component = let a = component-lt p (bounded (ok .well-formed) .ends) root-required in omega arith
+
+  abbrev s : State
+  s = balance d p []
+
+  none-joined : Joins p []
+  none-joined l m = elim m [ ]
+
+  pub greatest : AreGreatest p (root p) (multipliersOf (multipliers d (required p) s (root p)))
+  greatest = multipliers-greatest p (ok .well-formed) (ok .connected) d (agrees p ok few) (root p) root-required
+
+  price : priceOfImbalance p (multipliersOf (multipliers d (required p) s (root p))) ≡ pos (s .cost)
+  price = greatest .multipliers .tight ∙ ap pos (sym (balance-least p (ok .well-formed) (ok .connected) d (agrees p ok few) [] none-joined (omega arith)))
+
+  price-small : s .cost ≤ 4398046511104
+  price-small =
+      let c = balance-certified p (ok .well-formed) (ok .connected) d (agrees p ok few) [] none-joined (omega arith) .numbers .cheap in
+      let r = balance-room p (ok .well-formed) (ok .connected) d (agrees p ok few) [] none-joined (omega arith) in
+      let m = mul-le-mul-right {m = s .count} {n = 356} 8257410000 r in
+      omega arith
+
+module _ (p : Plan) (table : List (List ℕ)) (vs : List ℕ) (base : State) (b : IsBase p table vs base) (u : List ℤ) (e : u ≡ multipliers (cell table) vs base (root p)) where
+  abbrev ok : Plannable p
+  ok = b .known .plannable
+
+  abbrev few : componentCount p ≤ 8
+  few = b .known .few
+
+  abbrev model : List ℤ
+  model = multipliers (cell (tableOf p)) (required p) (balance (cell (tableOf p)) p []) (root p)
+
+  u-is : u ≡ model
+  u-is =
+      e ∙ ap (λ (x : List (List ℕ)). multipliers (cell x) vs base (root p)) (b .known .distances) ∙ ap (λ (v : List ℕ). multipliers (cell (tableOf p)) v base (root p)) (b .known .vertices)
+      ∙ ap (λ (s : State). multipliers (cell (tableOf p)) (required p) s (root p)) (b .base-is)
+
+  pub greatest-are : AreGreatest p (root p) (multipliersOf u)
+  greatest-are = subst⁻¹ (λ (x : List ℤ). AreGreatest p (root p) (multipliersOf x)) u-is (greatest p ok few)
+
+  cost-is : base .cost ≡ balance (cell (tableOf p)) p [] .cost
+  cost-is = ap (λ (s : State). s .cost) (b .base-is)
+
+  pub priced : (c : List ℕ) (flags : List Bool) (k r : ℕ) → length flags ≡ 64 → IsRequiredFlags p flags → IsComponents p c k → r ≡ requiredCost p → IsPriced p table u c flags k r (base .cost)
+  priced c flags k r long hf hc hr = record {
+    plannable = ok;
+    few = (let a = hc .all in let f = few in omega arith);
+    some = (let a = hc .all in let f = some-component p ok few in omega arith);
+    distances = base-table p table vs (b .known);
+    long = long;
+    required-flags = hf;
+    components = hc;
+    cost = hr;
+    feasible = greatest-are .multipliers .feasible;
+    elsewhere = greatest-are .multipliers .elsewhere;
+    root = root p;
+    root-required = root-required p ok few;
+    at-root = greatest-are .at-root;
+    price-is = subst⁻¹ (λ (x : List ℤ). priceOfImbalance p (multipliersOf x) ≡ pos (base .cost)) u-is (price p ok few ∙ ap pos (sym cost-is));
+    price-small = (let a = price-small p ok few in let f = cost-is in omega arith);
+  }
+
+  pub prepared : (k r : ℕ) (c : Candidates) → k ≡ componentCount p → r ≡ requiredCost p → AreLaidOut p c → Prepared p table vs (c .start) (c .source) (c .tails) (c .heads) k base u r
+  prepared k r c hk hr h = record {
+    plannable = ok;
+    few = few;
+    count = hk;
+    distances = base-table p table vs (b .known);
+    vertices = b .known .vertices;
+    layout = subst⁻¹ (λ (n : ℕ). IsLayout n (c .start) (c .source)) hk (h .layout);
+    candidates = subst⁻¹ (λ (n : ℕ). AreCandidates p (laidOut n (c .start) (c .source))) hk (h .are-candidates);
+    ends = λ q i l m g. (let m′ : q < componentCount p = omega arith in (h .tail q i l m′ g, h .head q i l m′ g));
+    base-is = b .base-is ∙ ap (λ (x : List (List ℕ)). balance (cell x) p []) (sym (b .known .distances));
+    multipliers = greatest-are .multipliers;
+    required-cost = hr;
+  }
