@@ -3,3 +3,4 @@ pub mod Tour
 pub mod Lay
 pub mod Bound
 pub mod Solve
+pub mod Answer

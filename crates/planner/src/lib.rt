@@ -2,6 +2,7 @@
 pub mod bound; // L(u)
 pub mod lay; // the drive of a tree
 pub mod prepare; // the state of the required arcs
+pub mod solve; // the answer of a plan that is not refused
 
 ghost use mathlib.Core.Path.{_≡_};
 ghost use Rattle.planner.specs.Refusals.{refusalNumber};

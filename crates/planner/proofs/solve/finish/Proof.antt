@@ -1,0 +1,153 @@
+-- The candidates, the state and the multipliers are what the search asks; what it keeps is the best tree, whose drive is laid; and the bounds price the same state.
+use mathlib.Core.Path.{_≡_, refl, sym, ap, _∙_}
+use mathlib.Core.Bool.{Bool}
+use Prim.Native.Nat.{ℕ, _-_, _≤_}
+use native.Mathlib.Omega.{arith}
+use lib.ListN.{length}
+use Rattle.planner.specs.Laws.Solve.{some-component, greatest-are, priced, prepared}
+use Rattle.planner.specs.Laws.Answer.{cost-small, kept-links, kept-tree, kept-fits, found-summary, finished}
+use denote.Ref.{now}
+use mir.Val.{toZ, ofZ}
+use mir.Syntax.{w64}
+use Rattle.integers.specs.Linear.{back64}
+use Rattle.postman.specs.LagrangianBound.{AreGreatest}
+use Rattle.postman.specs.PlanCall.{summary, root}
+use Rattle.plan.specs.Records.{planValue}
+use Rattle.planner.specs.Contract.{summaryOf, multipliersOf}
+use Rattle.planner.specs.declared.Planned.{Planned}
+use Rattle.planner.specs.declared.Verdict.the-variants.{Accepted}
+use borrow.Author.Needs.{needs, length-unmapped}
+use Rattle.planner.proofs.solve.finish.Statement.{statement}
+use Rattle.planner.proofs.solve.finish.Tie as tie
+use Rattle.planner.proofs.solve.finish.Reads as reads
+use Rattle.planner.proofs.solve.finish.Lts as lts
+use Rattle.candidates.proofs.of_network.Reads as of-network-reads
+use Rattle.planner.proofs.bound.floor_of.Reads as floor-of-reads
+use Rattle.planner.proofs.lay.lay.Reads as lay-reads
+use Rattle.search.proofs.search.Reads as search-reads
+
+-- src/solve.rt:29:9
+of-network-requires : tie.Need-of-network-requires
+of-network-requires c κs =
+    let s = c .before .before in
+    let b = s .pre .0 .0 .known in
+    let a = s .pre .1 .0 .components .all in
+    let l = some-component _ (b .plannable) (b .few) in
+    let m = b .few in
+    (omega arith, omega arith)
+
+-- src/solve.rt:35:13
+cast-k : tie.Need-cast-k
+cast-k c = search needs
+
+-- src/solve.rt:37:9
+search-requires : tie.Need-search-requires
+search-requires c κs =
+    let s = c .before .before .before .before .before .before .before .before .before .before .before .before in
+    let b = s .pre .0 .0 in
+    let n = s .pre .1 .0 in
+    let o = c .before .before .before .before .before .before .before .before .before .of-network in
+    (prepared _ _ _ _ b _ (s .pre .0 .1) _ _ (o .result) (n .components .all) (n .required-cost) (o .ensures _ (b .known .plannable .well-formed) n), s .pre .1 .1)
+
+-- src/solve.rt:40:13
+sub-n : tie.Need-sub-n
+sub-n c =
+    let s = c .before .before .before .before .before .before .before .before .before .before .before .before .before .before .before in
+    let b = s .pre .0 .0 .known in
+    let a = s .pre .1 .0 .components .all in
+    let l = some-component _ (b .plannable) (b .few) in
+    omega arith
+
+-- src/solve.rt:41:45
+array-share-prefix-ts : tie.Need-array-share-prefix-ts
+array-share-prefix-ts c =
+    let s = c .before .before .before .before .before .before .before .before .before .before .before .before .before .before .before in
+    let b = s .pre .0 .0 .known in
+    let r = c .before .before .search in
+    let m = ap (λ n. n - 1) (s .pre .1 .0 .components .all) in
+    kept-fits _ (b .plannable) (b .few) _ (s .pre .1 .1) _ (r .result .tails) (r .result .heads) m (r .ensures .links) .tails-le
+
+-- src/solve.rt:41:45
+slice-aggregate-lay : tie.Need-slice-aggregate-lay
+slice-aggregate-lay c =
+    let s = c .before .before .before .before .before .before .before .before .before .before .before .before .before .before .before .before in
+    let b = s .pre .0 .0 .known in
+    let r = c .before .before .before .search in
+    let m = ap (λ n. n - 1) (s .pre .1 .0 .components .all) in
+    kept-fits _ (b .plannable) (b .few) _ (s .pre .1 .1) _ (r .result .tails) (r .result .heads) m (r .ensures .links) .tails-length
+
+-- src/solve.rt:41:55
+array-share-prefix-hs : tie.Need-array-share-prefix-hs
+array-share-prefix-hs c =
+    let s = c .before .before .before .before .before .before .before .before .before .before .before .before .before .before .before .before in
+    let b = s .pre .0 .0 .known in
+    let r = c .before .before .before .search in
+    let m = ap (λ n. n - 1) (s .pre .1 .0 .components .all) in
+    kept-fits _ (b .plannable) (b .few) _ (s .pre .1 .1) _ (r .result .tails) (r .result .heads) m (r .ensures .links) .heads-le
+
+-- src/solve.rt:41:55
+slice-aggregate-lay-2 : tie.Need-slice-aggregate-lay-2
+slice-aggregate-lay-2 c =
+    let s = c .before .before .before .before .before .before .before .before .before .before .before .before .before .before .before .before .before in
+    let b = s .pre .0 .0 .known in
+    let r = c .before .before .before .before .search in
+    let m = ap (λ n. n - 1) (s .pre .1 .0 .components .all) in
+    kept-fits _ (b .plannable) (b .few) _ (s .pre .1 .1) _ (r .result .tails) (r .result .heads) m (r .ensures .links) .heads-length
+
+-- src/solve.rt:41:9
+lay-requires : tie.Need-lay-requires
+lay-requires c κs =
+    let s = c .before .before .before .before .before .before .before .before .before .before .before .before .before .before .before .before .before .before in
+    let b = s .pre .0 .0 .known in
+    let r = c .before .before .before .before .before .search in
+    let m = ap (λ n. n - 1) (s .pre .1 .0 .components .all) in
+    let f = kept-fits _ (b .plannable) (b .few) _ (s .pre .1 .1) _ (r .result .tails) (r .result .heads) m (r .ensures .links) in
+    (s .pre .0 .0, kept-tree _ (b .plannable) (b .few) _ (s .pre .1 .1) _ _ _ (f .tails-le) (f .heads-le) (r .ensures .links), s .pre .1 .2)
+
+-- src/solve.rt:44:9
+floor-of-requires : tie.Need-floor-of-requires
+floor-of-requires c κs =
+    let s = c .before .before .before .before .before .before .before .before .before .before .before .before .before .before .before .before .before .before .before .before .before .before .before .before .before .before in
+    let b = s .pre .0 .0 in
+    let n = s .pre .1 .0 in
+    let r = c .before .before .before .before .before .before .before .before .before .before .before .before .before .search in
+    let long : length (s .args .net .required) ≡ 64 = length-unmapped Bool (s .args .net .required) 64 (s .good .1 .1 .1 .0 .1 .1 .0 .1 .0 .1) in
+    let l = cost-small _ (b .known .plannable) (b .known .few) _ (s .pre .1 .1) in
+    let e = r .ensures .cost in
+    (priced _ _ _ _ b _ (s .pre .0 .1) _ _ _ _ long (n .required) (n .components) (n .required-cost), omega arith)
+
+-- src/solve.rt:24:1
+same-length : tie.Need-same-length
+same-length c = search needs
+
+-- src/solve.rt:24:1
+returns : tie.Need-returns
+returns c =
+    let s = c .before .before .before .before .before .before .before .before .before .before .before .before .before .before .before .before .before .before .before .before .before .before .before .before .before .before .before in
+    let b = s .pre .0 .0 in
+    let n = s .pre .1 .0 in
+    let r = c .before .before .before .before .before .before .before .before .before .before .before .before .before .before .search in
+    let l = c .before .before .before .before .before .before .before .before .lay in
+    let k = b .known in
+    let x : Planned = record { verdict = Accepted; places = l .result; cost = r .result .cost; floor = toZ w64 (ofZ w64 (c .floor-of .result)); trees = r .result .tried; whole = r .result .whole; parts = s .args .net .components; multipliers = s .args .t6 } in
+    let g : AreGreatest (planValue (s .args .plan)) (root (planValue (s .args .plan))) (multipliersOf x) = greatest-are _ _ _ _ b _ (s .pre .0 .1) in
+    let f : summaryOf x ≡ summary (planValue (s .args .plan)) (s .args .budget) (multipliersOf x) =
+    found-summary (planValue (s .args .plan)) (k .plannable) (k .few) (s .args .budget) (s .pre .1 .1) x (r .ensures .cost) (r .ensures .tried) (r .ensures .whole) (n .components .all) (back64 _ (c .floor-of .ok) ∙ c .floor-of .ensures) in
+    finished (planValue (s .args .plan)) (k .plannable) (k .few) (s .args .budget) (s .pre .1 .1) (now (s .args .sheet)) (l .last .1 .1 .1 .1 .1 .1 .0) x refl g f (s .args .net .components - 1) (r .result .tails) (r .result .heads) (r .ensures .links) (l .ensures .0) (l .ensures .1)
+
+pub finish-spec : {M : Type 1} → statement M
+finish-spec =
+    tie.close
+    (tie.spec
+    of-network-requires
+    cast-k
+    search-requires
+    sub-n
+    array-share-prefix-ts
+    slice-aggregate-lay
+    array-share-prefix-hs
+    slice-aggregate-lay-2
+    lay-requires
+    floor-of-requires
+    same-length
+    returns)

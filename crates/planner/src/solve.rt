@@ -1,0 +1,87 @@
+// The answer of a plan that is not refused.
+use crate::Planned;
+use crate::Verdict;
+use crate::bound::floor_of;
+use crate::lay::lay;
+use balance::Balance;
+use network::Network;
+use plan::Plan;
+ghost use mathlib.Core.Path.{_≡_};
+ghost use mathlib.Core.Option.{none};
+ghost use Prim.Native.Nat.{ℕ, _≤_};
+ghost use lib.ListN.{length};
+ghost use Rattle.postman.specs.PlanCall.{sheetPlaces, root};
+ghost use Rattle.plan.specs.Records.{planValue};
+ghost use Rattle.balance.specs.Step.{cell};
+ghost use Rattle.balance.specs.Records.{stateOf};
+ghost use Rattle.balance.specs.Multipliers.{multipliers};
+ghost use Rattle.network.specs.Contracts.{IsNetwork};
+ghost use Rattle.planner.specs.Prepared.{IsBase};
+ghost use Rattle.planner.specs.Contract.{IsPlanned};
+
+// The trees are tried, the drive of the best is written, and the floor is computed, from the state of the required arcs and the multipliers.
+pub fn finish(
+    plan: Plan,
+    table: &[[u32; 64]; 64],
+    vs: &[u8],
+    net: Network,
+    base: Balance,
+    u: [i64; 64],
+    budget: u32,
+    sheet: &mut [u16],
+) -> Planned
+    requires { ⌜ IsBase (planValue plan) (now table) (now vs) (stateOf base) × (u ≡ multipliers (cell (now table)) (now vs) (stateOf base) (root (planValue plan))) ⌝ }
+    requires { ⌜ IsNetwork (planValue plan) net × (1 ≤ budget) × (sheetPlaces ≤ length (now sheet)) ⌝ }
+    ensures { λ r. ⌜ IsPlanned (planValue plan) budget none (now (sheet .entry)) (now (sheet .exit)) r ⌝ }
+{
+    let c = candidates::of_network(net);
+    let start = c.start;
+    let source = c.source;
+    let tails = c.tails;
+    let heads = c.heads;
+    let parts = net.components;
+    let k = parts as usize;
+    let required_cost = net.required_cost;
+    let s = search::search(
+        plan,
+        table,
+        vs,
+        &start,
+        &source,
+        &tails,
+        &heads,
+        k,
+        base,
+        &u,
+        required_cost,
+        budget,
+    );
+    let ts = s.tails;
+    let hs = s.heads;
+    let n = k - 1;
+    let places = lay(plan, table, vs, base, &ts[..n], &hs[..n], sheet);
+    let component = net.component;
+    let flags = net.required;
+    let floor = floor_of(
+        plan,
+        table,
+        &u,
+        &component,
+        &flags,
+        k,
+        required_cost,
+        base.cost,
+        s.whole,
+        s.cost,
+    );
+    Planned {
+        verdict: Verdict::Accepted,
+        places: places,
+        cost: s.cost,
+        floor: floor,
+        trees: s.tried,
+        whole: s.whole,
+        parts: parts,
+        multipliers: u,
+    }
+}
