@@ -4,3 +4,4 @@ pub mod Lay
 pub mod Bound
 pub mod Solve
 pub mod Answer
+pub mod Root

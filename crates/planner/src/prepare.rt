@@ -8,7 +8,9 @@ ghost use Rattle.balance.specs.Records.{stateOf};
 ghost use Rattle.balance.specs.Step.{cell};
 ghost use Rattle.balance.specs.Balance.{balance as balanceOf};
 ghost use Rattle.planner.specs.Tour.{tableOf};
-ghost use Rattle.planner.specs.Prepared.{IsKnown};
+ghost use Rattle.balance.specs.Multipliers.{multipliers};
+ghost use Rattle.postman.specs.PlanCall.{root};
+ghost use Rattle.planner.specs.Prepared.{IsKnown, IsBase};
 
 // The balancing of the required arcs, added one by one in file order.
 pub fn base_state(plan: Plan, table: &[[u32; 64]; 64], vs: &[u8]) -> Balance
@@ -21,4 +23,13 @@ pub fn base_state(plan: Plan, table: &[[u32; 64]; 64], vs: &[u8]) -> Balance
     let c = circuit::gather(plan, &mut numbers, &mut tails, &mut heads);
     let none = balance::empty();
     balance::add_all(none, table, vs, &tails[..c], &heads[..c])
+}
+
+// The greatest multipliers that are 0 at the lowest required vertex.
+pub fn multipliers_of(plan: Plan, table: &[[u32; 64]; 64], vs: &[u8], base: Balance) -> [i64; 64]
+    requires { ⌜ IsBase (planValue plan) (now table) (now vs) (stateOf base) ⌝ }
+    ensures { λ r. ⌜ r ≡ multipliers (cell (now (table .entry))) (now (vs .entry)) (stateOf base) (root (planValue plan)) ⌝ }
+{
+    let first = vs[0];
+    balance::multipliers(base, table, vs, first)
 }

@@ -3,6 +3,8 @@ use crate::Planned;
 use crate::Verdict;
 use crate::bound::floor_of;
 use crate::lay::lay;
+use crate::prepare::base_state;
+use crate::prepare::multipliers_of;
 use balance::Balance;
 use network::Network;
 use plan::Plan;
@@ -16,7 +18,7 @@ ghost use Rattle.balance.specs.Step.{cell};
 ghost use Rattle.balance.specs.Records.{stateOf};
 ghost use Rattle.balance.specs.Multipliers.{multipliers};
 ghost use Rattle.network.specs.Contracts.{IsNetwork};
-ghost use Rattle.planner.specs.Prepared.{IsBase};
+ghost use Rattle.planner.specs.Prepared.{IsKnown, IsBase};
 ghost use Rattle.planner.specs.Contract.{IsPlanned};
 
 // The trees are tried, the drive of the best is written, and the floor is computed, from the state of the required arcs and the multipliers.
@@ -84,4 +86,22 @@ pub fn finish(
         parts: parts,
         multipliers: u,
     }
+}
+
+// The state and the multipliers first, over the required vertices.
+pub fn solve(
+    plan: Plan,
+    table: &[[u32; 64]; 64],
+    vs: &[u8],
+    net: Network,
+    budget: u32,
+    sheet: &mut [u16],
+) -> Planned
+    requires { ⌜ IsKnown (planValue plan) (now table) (now vs) ⌝ }
+    requires { ⌜ IsNetwork (planValue plan) net × (1 ≤ budget) × (sheetPlaces ≤ length (now sheet)) ⌝ }
+    ensures { λ r. ⌜ IsPlanned (planValue plan) budget none (now (sheet .entry)) (now (sheet .exit)) r ⌝ }
+{
+    let base = base_state(plan, table, vs);
+    let u = multipliers_of(plan, table, vs, base);
+    finish(plan, table, vs, net, base, u, budget, sheet)
 }

@@ -46,7 +46,7 @@ module _ (p : Plan) (ok : Plannable p) (few : componentCount p ≤ 8) where
   d = cell (tableOf p)
 
   -- some vertex is required, the lowest among them
-  some-vertex : 0 < length (required p)
+  pub some-vertex : 0 < length (required p)
   some-vertex = nonempty (number-ends p (bounded (ok .well-formed) .ends) (some-required p (ok .some-arc) .1) .0)
 
   pub root-required : List·Memᴰ (root p) (required p)
