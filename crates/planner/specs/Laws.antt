@@ -5,3 +5,6 @@ pub mod Bound
 pub mod Solve
 pub mod Answer
 pub mod Root
+pub mod Idle
+pub mod Table
+pub mod Refused
