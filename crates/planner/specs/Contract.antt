@@ -1,14 +1,17 @@
 -- What the plan call answers, field by field.
 use mathlib.Core.Path.{_≡_}
 use mathlib.Core.List.{List}
+use mathlib.Core.Logic.{_↔_}
 use mathlib.Core.Option.{Option, none, some}
 use Prim.Native.Nat.{ℕ}
 use lib.ListN.{length, getD, replicate}
 use lib.IntN.{ℤ, pos}
 use Rattle.postman.specs.Plan.{Plan}
-use Rattle.postman.specs.Refusal.{answer, unless}
+use Rattle.postman.specs.Refusal.{answer, unless, firstRefusal}
+use Rattle.postman.specs.Tour.{IsTour}
 use Rattle.postman.specs.LagrangianBound.{Multipliers, AreGreatest}
-use Rattle.postman.specs.PlanCall.{Summary, summary, fields, root, IsAnswerTour}
+use Rattle.postman.specs.PlanFile.{planOf}
+use Rattle.postman.specs.PlanCall.{Summary, summary, fields, root, IsAnswerTour, callRefusal, earlierConditions}
 use Rattle.postman.specs.Guarantee.{Guarantee}
 use Rattle.circuit.specs.Tour.{written}
 use Rattle.planner.specs.declared.Planned.{Planned}
@@ -45,3 +48,10 @@ pub record IsPlanned (p : Plan) (budget : ℕ) (refusal : Option ℕ) (old new :
   -- u is 0 everywhere in a refusal
   pub no-multipliers : (k : ℕ) → refusal ≡ some k → r .multipliers ≡ replicate 64 (pos 0)
   pub answered : refusal ≡ none → IsAnswer p budget r
+
+-- THE PLAN CALL on any bytes, any budget and any sheet. 12 is given exactly when no number before it applies and no drive exists.
+pub record IsPlanCall (bytes : List ℕ) (budget : ℕ) (old new : List ℕ) (r : Planned) : Type 0 where
+  pub planned : IsPlanned (planOf bytes) budget (callRefusal bytes budget (length old)) old new r
+  pub cut-off
+      : (verdictNumber (r .verdict) ≡ some 12)
+      ↔ ((firstRefusal (earlierConditions bytes budget (length old)) ≡ none) × ((w : List ℕ) → IsTour (planOf bytes) w → ⊥))

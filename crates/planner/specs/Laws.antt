@@ -8,3 +8,4 @@ pub mod Root
 pub mod Idle
 pub mod Table
 pub mod Refused
+pub mod Call

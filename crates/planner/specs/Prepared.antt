@@ -3,7 +3,7 @@ use mathlib.Core.Path.{_≡_}
 use mathlib.Core.List.{List, []}
 use Prim.Native.Nat.{ℕ, _≤_}
 use lib.ListN.{length}
-use Rattle.postman.specs.Plan.{Plan}
+use Rattle.postman.specs.Plan.{Plan, WellFormed}
 use Rattle.postman.specs.Required.{required}
 use Rattle.postman.specs.Component.{componentCount}
 use Rattle.postman.specs.Arborescence.{IsArborescence}
@@ -11,7 +11,15 @@ use Rattle.postman.specs.Laws.Optimality.{Plannable}
 use Rattle.balance.specs.Step.{State, cell}
 use Rattle.balance.specs.Balance.{balance}
 use Rattle.circuit.specs.Filled.{linksOf}
+use Rattle.network.specs.declared.Network.{Network}
+use Rattle.network.specs.Contracts.{IsNetwork}
 use Rattle.planner.specs.Tour.{tableOf}
+
+-- The table of the distances of a plan that was read, and its network.
+pub record IsMeasured (p : Plan) (table : List (List ℕ)) (net : Network) : Type 0 where
+  pub well-formed : WellFormed p
+  pub distances : table ≡ tableOf p
+  pub network : IsNetwork p net
 
 -- The plan is not refused; the table of its distances, and its required vertices.
 pub record IsKnown (p : Plan) (table : List (List ℕ)) (vs : List ℕ) : Type 0 where

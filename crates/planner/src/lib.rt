@@ -1,4 +1,5 @@
 // The plan call.
+pub mod call; // the plan call and the short call
 pub mod bound; // L(u)
 pub mod lay; // the drive of a tree
 pub mod prepare; // the state of the required arcs

@@ -1,0 +1,160 @@
+// The plan call: the refusals in document 01's order, and the answer.
+use crate::Planned;
+use crate::Refusal;
+use crate::Verdict;
+use crate::solve::solve;
+use budget::Budget;
+use budget::Checked;
+use network::Network;
+use plan::Plan;
+ghost use mathlib.Core.Path.{_≡_};
+ghost use mathlib.Core.Option.{none};
+ghost use Prim.Native.Nat.{ℕ, _≤_};
+ghost use lib.ListN.{length};
+ghost use Rattle.postman.specs.Plan.{WellFormed};
+ghost use Rattle.postman.specs.PlanCall.{sheetPlaces, defaultBudget};
+ghost use Rattle.plan.specs.Records.{planValue};
+ghost use Rattle.plan_file.specs.Verdicts.{refusalNumber as fileRefusalNumber};
+ghost use Rattle.network.specs.Contracts.{IsNetwork};
+ghost use Rattle.planner.specs.Refusals.{refusalNumber, verdictNumber, networkRefusal, planRefusal, budgetRefusal, sheetRefusal};
+ghost use Rattle.planner.specs.Tour.{tableOf};
+ghost use Rattle.planner.specs.Prepared.{IsMeasured};
+ghost use Rattle.planner.specs.Contract.{IsPlanned, IsPlanCall};
+ghost use Rattle.planner.specs.Laws.Refused.{refusedWith};
+
+// A refusal "returns its number only".
+fn refused(r: Refusal) -> Planned
+    ensures { λ a. ⌜ a ≡ refusedWith r ⌝ }
+{
+    Planned {
+        verdict: Verdict::Refused(r),
+        places: 0,
+        cost: 0,
+        floor: 0,
+        trees: 0,
+        whole: false,
+        parts: 0,
+        multipliers: [0i64; 64],
+    }
+}
+
+// A refusal of reading, as one of the plan call.
+fn file_refusal(r: plan_file::Refusal) -> Refusal
+    ensures { λ q. ⌜ refusalNumber q ≡ fileRefusalNumber r ⌝ }
+{
+    match r {
+        plan_file::Refusal::Torn => Refusal::Torn,
+        plan_file::Refusal::Edition => Refusal::Edition,
+        plan_file::Refusal::Extent => Refusal::Extent,
+        plan_file::Refusal::Margin => Refusal::Margin,
+        plan_file::Refusal::OffSheet => Refusal::OffSheet,
+        plan_file::Refusal::Unpriced => Refusal::Unpriced,
+        plan_file::Refusal::Standing => Refusal::Standing,
+        plan_file::Refusal::ShortSheet => Refusal::ShortSheet,
+    }
+}
+
+// 10, 11 and 12, by what the network holds.
+fn network_verdict(components: u8, cut_off: bool) -> Verdict
+    ensures { λ r. ⌜ verdictNumber r ≡ networkRefusal components «cut_off» ⌝ }
+{
+    if components == 0 {
+        return Verdict::Refused(Refusal::Idle);
+    }
+    if 8 < components {
+        return Verdict::Refused(Refusal::Scattered);
+    }
+    if cut_off {
+        return Verdict::Refused(Refusal::CutOff);
+    }
+    Verdict::Accepted
+}
+
+// The answer of a plan that is not refused, over the required vertices.
+fn answer(
+    plan: Plan,
+    table: &[[u32; 64]; 64],
+    net: Network,
+    budget: u32,
+    sheet: &mut [u16],
+) -> Planned
+    requires { ⌜ IsMeasured (planValue plan) (now table) net × (networkRefusal (net .components) (net .«cut_off») ≡ none) ⌝ }
+    requires { ⌜ (1 ≤ budget) × (sheetPlaces ≤ length (now sheet)) ⌝ }
+    ensures { λ r. ⌜ IsPlanned (planValue plan) budget none (now (sheet .entry)) (now (sheet .exit)) r ⌝ }
+{
+    let flags = net.required;
+    let v = candidates::vertices_of(flags);
+    let list = v.list;
+    let n = v.count;
+    solve(plan, table, &list[..n], net, budget, sheet)
+}
+
+// 10, 11 and 12, then the answer.
+fn plan_measured(
+    plan: Plan,
+    table: &[[u32; 64]; 64],
+    net: Network,
+    budget: u32,
+    sheet: &mut [u16],
+) -> Planned
+    requires { ⌜ IsMeasured (planValue plan) (now table) net × (1 ≤ budget) × (sheetPlaces ≤ length (now sheet)) ⌝ }
+    ensures { λ r. ⌜ IsPlanned (planValue plan) budget (networkRefusal (net .components) (net .«cut_off»)) (now (sheet .entry)) (now (sheet .exit)) r ⌝ }
+{
+    match network_verdict(net.components, net.cut_off) {
+        Verdict::Refused(r) => refused(r),
+        Verdict::Accepted => answer(plan, table, net, budget, sheet),
+    }
+}
+
+// The distances and the network of a plan that the file's rules let through.
+fn plan_read(plan: Plan, budget: u32, sheet: &mut [u16]) -> Planned
+    requires { ⌜ WellFormed (planValue plan) × (1 ≤ budget) × (sheetPlaces ≤ length (now sheet)) ⌝ }
+    ensures { λ r. ⌜ IsPlanned (planValue plan) budget (planRefusal (planValue plan)) (now (sheet .entry)) (now (sheet .exit)) r ⌝ }
+{
+    let table = shortest::table(plan);
+    let net = network::network_of(plan, &table);
+    plan_measured(plan, &table, net, budget, sheet)
+}
+
+// 9, then the rest.
+fn plan_within(plan: Plan, budget: u64, sheet: &mut [u16]) -> Planned
+    requires { ⌜ WellFormed (planValue plan) × (sheetPlaces ≤ length (now sheet)) ⌝ }
+    ensures { λ r. ⌜ IsPlanned (planValue plan) budget (budgetRefusal (planValue plan) budget) (now (sheet .entry)) (now (sheet .exit)) r ⌝ }
+{
+    match Budget::new(budget) {
+        Checked::Refused => refused(Refusal::Budget),
+        Checked::Good(b) => plan_read(plan, b.trees, sheet),
+    }
+}
+
+// 8, then the rest.
+fn plan_onto(plan: Plan, budget: u64, sheet: &mut [u16]) -> Planned
+    requires { ⌜ WellFormed (planValue plan) ⌝ }
+    ensures { λ r. ⌜ IsPlanned (planValue plan) budget (sheetRefusal (planValue plan) budget (length (now (sheet .entry)))) (now (sheet .entry)) (now (sheet .exit)) r ⌝ }
+{
+    if sheet.len() < 17_266 {
+        return refused(Refusal::ShortSheet);
+    }
+    plan_within(plan, budget, sheet)
+}
+
+// THE PLAN CALL, for any bytes, any budget and any sheet.
+pub fn plan_call(bytes: &[u8], budget: u64, sheet: &mut [u16]) -> Planned
+    ensures { λ r. ⌜ IsPlanCall (now (bytes .entry)) budget (now (sheet .entry)) (now (sheet .exit)) r ⌝ }
+{
+    let reading = plan_file::reader::read_plan(bytes);
+    let plan = reading.plan;
+    let verdict = reading.verdict;
+    match verdict {
+        plan_file::Verdict::Refused(r) => refused(file_refusal(r)),
+        plan_file::Verdict::Accepted => plan_onto(plan, budget, sheet),
+    }
+}
+
+// THE SHORT CALL: "leaves B out and uses 10,000".
+pub fn short_call(bytes: &[u8], sheet: &mut [u16]) -> Planned
+    ensures { λ r. ⌜ IsPlanCall (now (bytes .entry)) defaultBudget (now (sheet .entry)) (now (sheet .exit)) r ⌝ }
+{
+    let b = Budget::standard();
+    plan_call(bytes, b.trees as u64, sheet)
+}
