@@ -9,3 +9,4 @@ pub mod Idle
 pub mod Table
 pub mod Refused
 pub mod Call
+pub mod Answered
