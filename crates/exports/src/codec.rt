@@ -6,6 +6,7 @@ ghost use Rattle.postman.specs.Refusal.{given};
 ghost use Rattle.postman.specs.PlanFile.{readAnswer, writeAnswer, bytesAfter};
 ghost use Rattle.plan_file.specs.Verdicts.{refusalNumber, writtenAnswer};
 ghost use Rattle.records.specs.Reading.{readNumbers};
+ghost use Rattle.records.specs.Writing.{atMost};
 ghost use Rattle.exports.specs.RecordBytes.{arcsIn};
 ghost use Rattle.exports.specs.Codec.{oneNumber, packed, lentAfter, lentPlan};
 use crate::record_bytes::load_records;
@@ -16,7 +17,6 @@ use plan_file::refusal_number;
 use records::reader::Read;
 use records::reader::arcs_read;
 use records::reader::read_answer;
-use records::writer::at_most;
 use records::writer::write_arcs;
 
 // Minus the refusal's number.
@@ -50,6 +50,16 @@ fn written_number(w: Written) -> i64
     }
 }
 
+// n as a byte. n above 64 is refused whatever it is, so 65 stands for it.
+fn vertices_of(n: u32) -> u8
+    ensures { λ r. ⌜ r ≡ atMost n 65 ⌝ }
+{
+    if n < 65 {
+        return n as u8;
+    }
+    65
+}
+
 // Reading, from any bytes into any list of records, five bytes each: 512 n + m, with the file's arcs in the list from its start and the bytes after them untouched; or
 // minus the number of the first refusal by document 01's order, with every byte untouched.
 #[no_mangle]
@@ -63,14 +73,13 @@ pub extern "C" fn read_plan(file: &[u8], lent: &mut [u8]) -> i64
 }
 
 // Writing, from any n and any list of records, five bytes each, into any slice: the file's length, with the file in the slice from its start and the bytes after it
-// untouched; or minus the number of the first refusal by document 01's order, with every byte untouched. n above 64 is refused whatever it is, so 65 stands for it.
+// untouched; or minus the number of the first refusal by document 01's order, with every byte untouched.
 #[no_mangle]
 pub extern "C" fn write_plan(n: u32, lent: &[u8], bytes: &mut [u8]) -> i64
     ensures { λ r. ⌜ (r ≡ oneNumber (writeAnswer (lentPlan n (now (lent .entry))) (now (bytes .entry))))
         × (now (bytes .exit) ≡ bytesAfter (lentPlan n (now (lent .entry))) (now (bytes .entry))) ⌝ }
 {
-    let vertices = at_most(n as usize, 65);
     let arcs = load_records(lent);
-    let written = write_arcs(vertices as u8, lent.len() / 5, arcs, bytes);
+    let written = write_arcs(vertices_of(n), lent.len() / 5, arcs, bytes);
     written_number(written)
 }

@@ -1,22 +1,17 @@
 -- The plan by value is refused as the lent records are, and is the same plan where it is not.
 use mathlib.Core.Path.{_∙_, sym, ap}
-use native.Mathlib.Omega.{arith}
 use Rattle.integers.specs.Linear.{back64}
-use Rattle.records.specs.WritingLaws.{at-most-le}
 use Rattle.exports.specs.Codec.{oneNumber}
 use Rattle.exports.specs.Laws.Writing.{value-answer, value-bytes, length-small}
 use borrow.Author.Needs.{needs}
 use Rattle.exports.proofs.codec.write_plan.Statement.{statement}
 use Rattle.exports.proofs.codec.write_plan.Tie as tie
 
-at-most-requires : tie.Need-at-most-requires
-at-most-requires c κs = search needs
-
 load-records-requires : tie.Need-load-records-requires
 load-records-requires c κs = search needs
 
-cast-write-arcs : tie.Need-cast-write-arcs
-cast-write-arcs c = omega (arith, c .before .at-most .ensures, at-most-le (c .before .before .before .before .args .n) 65)
+vertices-of-requires : tie.Need-vertices-of-requires
+vertices-of-requires c κs = search needs
 
 write-arcs-requires : tie.Need-write-arcs-requires
 write-arcs-requires c κs = search needs
@@ -30,8 +25,8 @@ same-length c = search needs
 returns : tie.Need-returns
 returns c =
     let a = c .before .before .before .before .before .before .before .before .before .args in
-    let n = c .before .before .before .before .before .before .at-most .ensures in
-    let arcs = c .before .before .before .before .before .load-records .ensures in
+    let arcs = c .before .before .before .before .before .before .load-records .ensures in
+    let n = c .before .before .before .before .before .vertices-of .ensures in
     let w = c .before .before .before .write-arcs .ensures in (
       back64 _ (c .written-number .ok) ∙ c .written-number .ensures ∙ ap oneNumber (w .0 ∙ value-answer (a .n) (a .lent .now) (a .bytes .now) _ _ n arcs),
       w .1 ∙ value-bytes (a .n) (a .lent .now) (a .bytes .now) _ _ n arcs,
@@ -41,9 +36,8 @@ pub write-plan-spec : {M : Type 1} → statement M
 write-plan-spec =
     tie.close
     (tie.spec
-    at-most-requires
     load-records-requires
-    cast-write-arcs
+    vertices-of-requires
     write-arcs-requires
     written-number-requires
     same-length

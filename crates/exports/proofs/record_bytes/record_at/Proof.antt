@@ -1,6 +1,7 @@
 -- Five bytes are read, and the cost's two are below 256 each.
 use native.Mathlib.Omega.{arith}
-use Prim.Native.Nat.{_+_}
+use Prim.Native.Nat.{ℕ, _+_, _<_}
+use lib.ListN.{getD}
 use borrow.Author.Needs.{needs}
 use Rattle.exports.proofs.record_bytes.record_at.Statement.{statement}
 use Rattle.exports.proofs.record_bytes.record_at.Tie as tie
@@ -38,11 +39,15 @@ add-t12 c = search needs
 shared-slice-read-t14 : tie.Need-shared-slice-read-t14
 shared-slice-read-t14 c = search needs
 
+-- byte j of the record
+byte : (c : tie.After-shared-slice-known5) (j : ℕ) → getD (c .before .before .before .before .before .args .lent .now) (c .before .before .before .before .before .args .at + j) 0 < 256
+byte c j = omega (arith, c .shared-slice-known5 .given (c .before .before .before .before .before .args .at + j))
+
 mul-t15 : tie.Need-mul-t15
-mul-t15 c = omega (arith, c .shared-slice-known5 .given (c .before .before .before .before .before .args .at + 3))
+mul-t15 c = omega (arith, byte c 3, byte c 4)
 
 add-t16 : tie.Need-add-t16
-add-t16 c = omega (arith, c .shared-slice-known5 .given (c .before .before .before .before .before .args .at + 3), c .shared-slice-known5 .given (c .before .before .before .before .before .args .at + 4))
+add-t16 c = omega (arith, byte c 3, byte c 4)
 
 returns : tie.Need-returns
 returns c = search needs
