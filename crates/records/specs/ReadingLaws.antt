@@ -55,12 +55,12 @@ module _ {A : Type 0} where
   answer-given o x y e f = rw (e, f) refl
 
   -- and from the answer back to the refusal
-  was-given : (o : Option ℕ) (x y : A) → given y ≡ answer o x → (o ≡ none) × (y ≡ x)
+  pub was-given : (o : Option ℕ) (x y : A) → given y ≡ answer o x → (o ≡ none) × (y ≡ x)
   unfolding answer
   was-given none x y e = (refl, cc)
   was-given (some r) x y e = let z : _≡_ {A = ℕ} 0 1 = cc in absurd (omega arith)
 
-  was-refused : (o : Option ℕ) (x : A) (r : ℕ) → refused r ≡ answer o x → o ≡ some r
+  pub was-refused : (o : Option ℕ) (x : A) (r : ℕ) → refused r ≡ answer o x → o ≡ some r
   unfolding answer
   was-refused none x r e = let z : _≡_ {A = ℕ} 0 1 = cc in absurd (omega arith)
   was-refused (some q) x r e = cc

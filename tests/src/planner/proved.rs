@@ -9,9 +9,11 @@ use crate::plan::{Arc, MOST_VERTICES};
 /// Words of the answer: places, cost, floor, trees, whole, parts.
 const ANSWER_WORDS: usize = 6;
 
-/// Words of an arc: tail, head, standing, cost. A file that is read has n and m before them.
-const ARC_WORDS: usize = 4;
-const HEADER_WORDS: usize = 2;
+/// Bytes of a record: tail, head, standing, the cost's high byte, its low byte.
+const RECORD_BYTES: usize = 5;
+
+/// A file that was read answers n times this, plus m.
+const COUNTS: usize = 512;
 
 mod ffi {
     // Nothing checks these declarations against the library's source.
@@ -41,11 +43,11 @@ mod ffi {
             multipliers_len: usize,
         ) -> u32;
 
-        /// 0 for a file that was read, else the refusal's number. `fields` has room for n, m and, for each record lent, four words.
-        pub fn read_plan(plan: *const u8, plan_len: usize, fields: *mut u32, fields_len: usize) -> u32;
+        /// 512 n + m, or minus the refusal's number. `records` has five bytes for each record lent.
+        pub fn read_plan(plan: *const u8, plan_len: usize, records: *mut u8, records_len: usize) -> i64;
 
-        /// The file's length in bytes, or minus the refusal's number. `fields` has four words for each arc; m is a quarter of its length.
-        pub fn write_plan(n: u32, fields: *const u32, fields_len: usize, bytes: *mut u8, bytes_len: usize) -> i64;
+        /// The file's length in bytes, or minus the refusal's number. `records` has five bytes for each arc; m is a fifth of its length.
+        pub fn write_plan(n: u32, records: *const u8, records_len: usize, bytes: *mut u8, bytes_len: usize) -> i64;
     }
 }
 
@@ -107,33 +109,36 @@ impl Planner for Proved {
     }
 }
 
-fn words(a: &Arc) -> [u32; ARC_WORDS] {
-    [a.tail.into(), a.head.into(), a.standing.into(), a.cost.into()]
+fn to_bytes(a: &Arc) -> [u8; RECORD_BYTES] {
+    let [high, low] = a.cost.to_be_bytes();
+    [a.tail, a.head, a.standing, high, low]
+}
+
+fn from_bytes(b: &[u8]) -> Arc {
+    Arc { tail: b[0], head: b[1], standing: b[2], cost: u16::from_be_bytes([b[3], b[4]]) }
+}
+
+/// What was asked for, or the refusal: minus its number.
+fn unless_refused(number: i64) -> Result<usize, Refusal> {
+    usize::try_from(number).map_err(|_| Refusal::try_from(number.unsigned_abs()).expect("a refusal's number is small"))
 }
 
 impl Codec for Proved {
     fn read(&self, bytes: &[u8], records: &mut [Arc]) -> Result<(usize, usize), Refusal> {
-        let mut fields = vec![0; HEADER_WORDS];
-        fields.extend(records.iter().flat_map(words));
+        let mut lent: Vec<u8> = records.iter().flat_map(to_bytes).collect();
         // SAFETY: as in `plan_call`.
-        let number = unsafe { ffi::read_plan(bytes.as_ptr(), bytes.len(), fields.as_mut_ptr(), fields.len()) };
+        let number = unsafe { ffi::read_plan(bytes.as_ptr(), bytes.len(), lent.as_mut_ptr(), lent.len()) };
         // All records are taken back, not only the m that were asked for: what the library did to the others is seen by the caller.
-        for (record, w) in records.iter_mut().zip(fields[HEADER_WORDS..].chunks_exact(ARC_WORDS)) {
-            let byte = |x: u32| u8::try_from(x).expect("a record's field is a byte");
-            let cost = u16::try_from(w[3]).expect("a record's cost has 16 bits");
-            *record = Arc { tail: byte(w[0]), head: byte(w[1]), standing: byte(w[2]), cost };
+        for (record, b) in records.iter_mut().zip(lent.chunks_exact(RECORD_BYTES)) {
+            *record = from_bytes(b);
         }
-        match number {
-            0 => Ok((fields[0] as usize, fields[1] as usize)),
-            number => Err(number),
-        }
+        unless_refused(number).map(|counts| (counts / COUNTS, counts % COUNTS))
     }
 
     fn write(&self, n: u32, records: &[Arc], bytes: &mut [u8]) -> Result<usize, Refusal> {
-        let fields: Vec<u32> = records.iter().flat_map(words).collect();
+        let lent: Vec<u8> = records.iter().flat_map(to_bytes).collect();
         // SAFETY: as in `plan_call`.
-        let length = unsafe { ffi::write_plan(n, fields.as_ptr(), fields.len(), bytes.as_mut_ptr(), bytes.len()) };
-        usize::try_from(length).map_err(|_| length.unsigned_abs() as Refusal)
+        unless_refused(unsafe { ffi::write_plan(n, lent.as_ptr(), lent.len(), bytes.as_mut_ptr(), bytes.len()) })
     }
 }
 
@@ -141,12 +146,12 @@ impl Codec for Proved {
 mod tests {
     use super::*;
 
-    /// The words that the safe wrapper lends on its own account are lent slices too: a refusal changes none.
+    /// What the safe wrapper lends on its own account are lent slices too: a refusal changes none.
     #[test]
-    fn refusals_keep_the_lent_words() {
+    fn refusals_keep_what_is_lent() {
         let mut answer = [0xA5A5_A5A5_A5A5_A5A5; ANSWER_WORDS];
         let mut u = [-0x5A5A_5A5A; MOST_VERTICES];
-        let mut fields = [0xA5A5_A5A5; HEADER_WORDS + ARC_WORDS];
+        let mut record = [0xA5; RECORD_BYTES];
         let file = [0x20, 0x40, 0x20]; // edition 2
                                        // SAFETY: as in `plan_call`; the empty sheet's pointer is not null, and its length is 0.
         unsafe {
@@ -154,10 +159,10 @@ mod tests {
             let (s, a, m) = (sheet.as_mut_ptr(), answer.as_mut_ptr(), u.as_mut_ptr());
             assert_eq!(ffi::plan_call(file.as_ptr(), 3, 1, s, 0, a, ANSWER_WORDS, m, MOST_VERTICES), 2);
             assert_eq!(ffi::short_call(file.as_ptr(), 3, s, 0, a, ANSWER_WORDS, m, MOST_VERTICES), 2);
-            assert_eq!(ffi::read_plan(file.as_ptr(), 3, fields.as_mut_ptr(), fields.len()), 2);
+            assert_eq!(ffi::read_plan(file.as_ptr(), 3, record.as_mut_ptr(), record.len()), -2);
         }
         assert_eq!(answer, [0xA5A5_A5A5_A5A5_A5A5; ANSWER_WORDS]);
         assert_eq!(u, [-0x5A5A_5A5A; MOST_VERTICES]);
-        assert_eq!(fields, [0xA5A5_A5A5; HEADER_WORDS + ARC_WORDS]);
+        assert_eq!(record, [0xA5; RECORD_BYTES]);
     }
 }

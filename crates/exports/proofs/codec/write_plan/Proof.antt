@@ -1,0 +1,44 @@
+-- The plan by value is refused as the lent records are, and is the same plan where it is not.
+use mathlib.Core.Path.{_∙_, sym, ap}
+use Rattle.integers.specs.Linear.{back64}
+use Rattle.exports.specs.Codec.{oneNumber}
+use Rattle.exports.specs.Laws.Writing.{value-answer, value-bytes, length-small}
+use borrow.Author.Needs.{needs}
+use Rattle.exports.proofs.codec.write_plan.Statement.{statement}
+use Rattle.exports.proofs.codec.write_plan.Tie as tie
+
+load-records-requires : tie.Need-load-records-requires
+load-records-requires c κs = search needs
+
+vertices-of-requires : tie.Need-vertices-of-requires
+vertices-of-requires c κs = search needs
+
+write-arcs-requires : tie.Need-write-arcs-requires
+write-arcs-requires c κs = search needs
+
+written-number-requires : tie.Need-written-number-requires
+written-number-requires c κs = λ k e. length-small _ _ k (sym e ∙ c .before .before .write-arcs .ensures .0)
+
+same-length : tie.Need-same-length
+same-length c = search needs
+
+returns : tie.Need-returns
+returns c =
+    let a = c .before .before .before .before .before .before .before .before .before .args in
+    let arcs = c .before .before .before .before .before .before .load-records .ensures in
+    let n = c .before .before .before .before .before .vertices-of .ensures in
+    let w = c .before .before .before .write-arcs .ensures in (
+      back64 _ (c .written-number .ok) ∙ c .written-number .ensures ∙ ap oneNumber (w .0 ∙ value-answer (a .n) (a .lent .now) (a .bytes .now) _ _ n arcs),
+      w .1 ∙ value-bytes (a .n) (a .lent .now) (a .bytes .now) _ _ n arcs,
+    )
+
+pub write-plan-spec : {M : Type 1} → statement M
+write-plan-spec =
+    tie.close
+    (tie.spec
+    load-records-requires
+    vertices-of-requires
+    write-arcs-requires
+    written-number-requires
+    same-length
+    returns)

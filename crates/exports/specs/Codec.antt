@@ -1,0 +1,29 @@
+-- What reading and writing answer to a caller in another language.
+use mathlib.Core.List.{List, _++_, flatMap}
+use Prim.Native.Nat.{ℕ, _+_, _*_, _/_}
+use lib.IntN.{ℤ, pos, negℤ}
+use lib.ListN.{length, drop}
+use Rattle.postman.specs.Plan.{Plan}
+use Rattle.postman.specs.Refusal.{Answer, refused, given, unless}
+use Rattle.postman.specs.PlanFile.{planOf, arcCount, readRefusal}
+use Rattle.exports.specs.RecordBytes.{arcBytes, arcsIn}
+
+-- An answer is one number: what was asked for, or minus the refusal's number. No refusal has the number 0.
+abbrev pub oneNumber : Answer ℕ → ℤ
+oneNumber (given x) = pos x
+oneNumber (refused r) = negℤ (pos r)
+
+-- "It answers n and m": 512 n + m, m being at most 256.
+abbrev pub packed : Answer (ℕ × ℕ) → Answer ℕ
+packed (given x) = given (x .0 * 512 + x .1)
+packed (refused r) = refused r
+
+-- "The arcs go into a lent list of arc records; records from m on are untouched." So are bytes that are left over.
+unfoldable pub lentAfter : List ℕ → List ℕ → List ℕ
+unfolding unless readRefusal planOf arcCount arcBytes flatMap
+lentAfter file lent = unless (readRefusal file (length lent / 5)) (flatMap arcBytes (planOf file .arcs) ++ drop (5 * arcCount file) lent) lent
+
+-- "Writing takes n and a list of records (m is its length)."
+unfoldable pub lentPlan : ℕ → List ℕ → Plan
+unfolding arcsIn
+lentPlan n lent = record { n = n; arcs = arcsIn lent }

@@ -1,0 +1,4 @@
+-- What is proved about the definitions.
+pub mod RecordBytes
+pub mod Reading
+pub mod Writing

@@ -1,0 +1,5 @@
+-- How plan files and records cross the border to other languages.
+pub mod RecordBytes
+pub mod Codec
+-- What is proved about them.
+pub mod Laws

@@ -1,0 +1,85 @@
+// Reading and writing plan files, for callers in other languages. An answer is one number: minus the refusal's number, or what was asked for.
+ghost use mathlib.Core.Path.{_≡_};
+ghost use Prim.Native.Nat.{ℕ, _≤_};
+ghost use lib.IntN.{pos, negℤ};
+ghost use Rattle.postman.specs.Refusal.{given};
+ghost use Rattle.postman.specs.PlanFile.{readAnswer, writeAnswer, bytesAfter};
+ghost use Rattle.plan_file.specs.Verdicts.{refusalNumber, writtenAnswer};
+ghost use Rattle.records.specs.Reading.{readNumbers};
+ghost use Rattle.records.specs.Writing.{atMost};
+ghost use Rattle.exports.specs.RecordBytes.{arcsIn};
+ghost use Rattle.exports.specs.Codec.{oneNumber, packed, lentAfter, lentPlan};
+use crate::record_bytes::load_records;
+use crate::record_bytes::store_arcs;
+use plan_file::Refusal;
+use plan_file::Written;
+use plan_file::refusal_number;
+use records::reader::Read;
+use records::reader::arcs_read;
+use records::reader::read_answer;
+use records::writer::write_arcs;
+
+// Minus the refusal's number.
+fn refused_number(r: Refusal) -> i64
+    ensures { λ k. ⌜ k ≡ negℤ (pos (refusalNumber r)) ⌝ }
+{
+    0 - refusal_number(r) as i64
+}
+
+// What reading answers, as one number.
+fn read_number(r: Read) -> i64
+    ensures { λ k. ⌜ k ≡ oneNumber (packed (readNumbers r)) ⌝ }
+{
+    match r {
+        Read::Given(n, m) => {
+            let both = n as u32 * 512 + m as u32;
+            both as i64
+        }
+        Read::Refused(q) => refused_number(q),
+    }
+}
+
+// What writing answers, as one number. No file is longer than 963 bytes.
+fn written_number(w: Written) -> i64
+    requires { ⌜ ((k : ℕ) → writtenAnswer w ≡ given k → k ≤ 963) ⌝ }
+    ensures { λ k. ⌜ k ≡ oneNumber (writtenAnswer w) ⌝ }
+{
+    match w {
+        Written::Length(k) => k as i64,
+        Written::Refused(q) => refused_number(q),
+    }
+}
+
+// n as a byte. n above 64 is refused whatever it is, so 65 stands for it.
+fn vertices_of(n: u32) -> u8
+    ensures { λ r. ⌜ r ≡ atMost n 65 ⌝ }
+{
+    if n < 65 {
+        return n as u8;
+    }
+    65
+}
+
+// Reading, from any bytes into any list of records, five bytes each: 512 n + m, with the file's arcs in the list from its start and the bytes after them untouched; or
+// minus the number of the first refusal by document 01's order, with every byte untouched.
+#[no_mangle]
+pub extern "C" fn read_plan(file: &[u8], lent: &mut [u8]) -> i64
+    ensures { λ r. ⌜ (r ≡ oneNumber (packed (readAnswer (now (file .entry)) (arcsIn (now (lent .entry))))))
+        × (now (lent .exit) ≡ lentAfter (now (file .entry)) (now (lent .entry))) ⌝ }
+{
+    let read = read_answer(file, lent.len() / 5);
+    store_arcs(file, arcs_read(read), lent);
+    read_number(read)
+}
+
+// Writing, from any n and any list of records, five bytes each, into any slice: the file's length, with the file in the slice from its start and the bytes after it
+// untouched; or minus the number of the first refusal by document 01's order, with every byte untouched.
+#[no_mangle]
+pub extern "C" fn write_plan(n: u32, lent: &[u8], bytes: &mut [u8]) -> i64
+    ensures { λ r. ⌜ (r ≡ oneNumber (writeAnswer (lentPlan n (now (lent .entry))) (now (bytes .entry))))
+        × (now (bytes .exit) ≡ bytesAfter (lentPlan n (now (lent .entry))) (now (bytes .entry))) ⌝ }
+{
+    let arcs = load_records(lent);
+    let written = write_arcs(vertices_of(n), lent.len() / 5, arcs, bytes);
+    written_number(written)
+}
