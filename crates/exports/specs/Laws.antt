@@ -2,3 +2,4 @@
 pub mod RecordBytes
 pub mod Reading
 pub mod Writing
+pub mod Answer

@@ -1,3 +1,4 @@
 // What other languages call: `extern "C"` functions over numbers and slices, none of which asks anything of its caller.
 pub mod record_bytes; // a record as five bytes
 pub mod codec; // reading and writing plan files
+pub mod call; // the plan call and the short call

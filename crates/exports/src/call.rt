@@ -1,0 +1,104 @@
+// The plan call and the short call, for callers in other languages. The number is 0, or the refusal's; an answer goes into two lent slices.
+ghost use mathlib.Core.Path.{_≡_};
+ghost use mathlib.Core.Option.{none};
+ghost use lib.IntN.{pos, natAbs};
+ghost use lib.Signed.{_≤ℤ_};
+ghost use Rattle.postman.specs.PlanCall.{defaultBudget};
+ghost use Rattle.planner.specs.Refusals.{verdictNumber};
+ghost use Rattle.exports.specs.Answer.{wordsOf, putFirst, IsHandedOver, IsExportedCall};
+use planner::Planned;
+use planner::Verdict;
+use planner::refusal_number;
+use records::writer::at_most;
+
+// The floor as a word. It is at least 0, since R + Z is.
+fn floor_word(floor: i64) -> u64
+    requires { ⌜ pos 0 ≤ℤ floor ⌝ }
+    ensures { λ r. ⌜ r ≡ natAbs floor ⌝ }
+{
+    floor as u64
+}
+
+// The words of an answer: places, cost, floor, trees, whole as 0 or 1, parts.
+fn words(r: Planned) -> [u64; 6]
+    requires { ⌜ pos 0 ≤ℤ r .floor ⌝ }
+    ensures { λ w. ⌜ w ≡ wordsOf r ⌝ }
+{
+    let floor = floor_word(r.floor);
+    [
+        r.places as u64,
+        r.cost,
+        floor,
+        r.trees as u64,
+        r.whole as u64,
+        r.parts as u64,
+    ]
+}
+
+// As many words as there is room for.
+fn put_words(words: [u64; 6], lent: &mut [u64])
+    ensures { λ _. ⌜ now (lent .exit) ≡ putFirst words (now (lent .entry)) ⌝ }
+{
+    let n = at_most(lent.len(), 6);
+    for i in 0..n {
+        lent[i] = words[i];
+    }
+}
+
+// As many multipliers as there is room for.
+fn put_multipliers(u: [i64; 64], lent: &mut [i64])
+    ensures { λ _. ⌜ now (lent .exit) ≡ putFirst u (now (lent .entry)) ⌝ }
+{
+    let n = at_most(lent.len(), 64);
+    for i in 0..n {
+        lent[i] = u[i];
+    }
+}
+
+// An answer that is no refusal goes into the lent slices.
+fn hand_over(r: Planned, words_lent: &mut [u64], u_lent: &mut [i64]) -> u32
+    requires { ⌜ (verdictNumber (r .verdict) ≡ none → pos 0 ≤ℤ r .floor) ⌝ }
+    ensures { λ k. ⌜ IsHandedOver r (now («words_lent» .entry)) (now («words_lent» .exit)) (now («u_lent» .entry)) (now («u_lent» .exit)) k ⌝ }
+{
+    let verdict = r.verdict;
+    match verdict {
+        Verdict::Accepted => {
+            put_words(words(r), words_lent);
+            let u = r.multipliers;
+            put_multipliers(u, u_lent);
+            0
+        }
+        Verdict::Refused(q) => refusal_number(q) as u32,
+    }
+}
+
+// THE PLAN CALL. `answer` takes places, cost, floor, trees, whole and parts, `multipliers` takes u; a refusal changes no lent slice.
+#[no_mangle]
+pub extern "C" fn plan_call(
+    plan: &[u8],
+    budget: u64,
+    sheet: &mut [u16],
+    answer: &mut [u64],
+    multipliers: &mut [i64],
+) -> u32
+    ensures { λ k. ⌜ IsExportedCall (now (plan .entry)) budget (now (sheet .entry)) (now (sheet .exit)) (now (answer .entry)) (now (answer .exit))
+        (now (multipliers .entry)) (now (multipliers .exit)) k ⌝ }
+{
+    let r = planner::call::plan_call(plan, budget, sheet);
+    hand_over(r, answer, multipliers)
+}
+
+// THE SHORT CALL.
+#[no_mangle]
+pub extern "C" fn short_call(
+    plan: &[u8],
+    sheet: &mut [u16],
+    answer: &mut [u64],
+    multipliers: &mut [i64],
+) -> u32
+    ensures { λ k. ⌜ IsExportedCall (now (plan .entry)) defaultBudget (now (sheet .entry)) (now (sheet .exit)) (now (answer .entry)) (now (answer .exit))
+        (now (multipliers .entry)) (now (multipliers .exit)) k ⌝ }
+{
+    let r = planner::call::short_call(plan, sheet);
+    hand_over(r, answer, multipliers)
+}
