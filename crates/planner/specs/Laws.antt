@@ -9,4 +9,5 @@ pub mod Idle
 pub mod Table
 pub mod Refused
 pub mod Call
+pub mod LongFile
 pub mod Answered
