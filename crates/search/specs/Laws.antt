@@ -8,3 +8,4 @@ pub mod Best
 pub mod Turns
 pub mod Reduced
 pub mod Completion
+pub mod States

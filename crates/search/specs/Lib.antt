@@ -4,5 +4,6 @@ pub mod Costs
 pub mod Best
 pub mod Prepared
 pub mod Contracts
+pub mod States
 -- What is proved about them.
 pub mod Laws

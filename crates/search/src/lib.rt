@@ -1,4 +1,6 @@
 // The search over a plan's arborescences, in document 01's order: the first of least completion cost is kept.
+mod states; // the states of a trail
+
 use arborescence::order;
 use balance::Balance;
 use plan::Plan;
