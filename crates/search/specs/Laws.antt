@@ -9,3 +9,4 @@ pub mod Turns
 pub mod Reduced
 pub mod Completion
 pub mod States
+pub mod Orderless

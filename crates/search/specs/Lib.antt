@@ -5,5 +5,6 @@ pub mod Best
 pub mod Prepared
 pub mod Contracts
 pub mod States
+pub mod Trail
 -- What is proved about them.
 pub mod Laws
