@@ -1,6 +1,7 @@
 -- What is proved about the definitions.
 pub mod Lists
 pub mod Reach
+pub mod Stop
 pub mod Completion
 pub mod Order
 pub mod Candidates

@@ -35,14 +35,22 @@ fn swept(sets: &[u64; 8], k: usize, s: u64) -> u64
     r
 }
 
-// Whether all k components are reached, each entered from the components of its set.
+// Whether all k components are reached, each entered from the components of its set. It stops at the sweep that reaches all, and at the first that adds none.
 pub fn all_reached(sets: &[u64; 8], k: usize) -> bool
     requires { ⌜ (1 ≤ k) × (k ≤ 8) ⌝ }
     ensures { λ r. ⌜ r ≡ reachesAll (λ q. getD (now (sets .entry)) q 0) k ⌝ }
 {
+    let all = single(k) - 1;
     let mut r = 1;
     for j in 0..k {
-        r = swept(sets, k, r);
+        let s = swept(sets, k, r);
+        if s == all {
+            return true;
+        }
+        if s == r {
+            return false;
+        }
+        r = s;
     }
-    r == single(k) - 1
+    r == all
 }

@@ -57,7 +57,7 @@ same-steps P f f′ i e zero x h = refl
 same-steps P f f′ i e (suc m) x h = ap (iterate m f′) (e x h) ∙ same-steps P f f′ i e m (f x) (i x h)
 
 module _ (g : ℕ → ℕ) where
-  sweep-keeps : (n s x : ℕ) → Has s x → Has (sweep g n s) x
+  pub sweep-keeps : (n s x : ℕ) → Has s x → Has (sweep g n s) x
   unfolding sweep
   sweep-keeps zero s x h = h
   sweep-keeps (suc n) s x h = enter-keeps (g (suc n)) (suc n) (sweep g n s) x (sweep-keeps n s x h)
@@ -72,7 +72,7 @@ module _ (g : ℕ → ℕ) where
         subst (Has (sweep g (suc n) s)) e (enter-at (g (suc n)) (suc n) (sweep g n s) y (sweep-keeps n s y hs) (subst⁻¹ (λ z. Has (g z) y) e hg))
   ]
 
-  sweep-lt : (k n s : ℕ) → n < k → s < 2 ^ k → sweep g n s < 2 ^ k
+  pub sweep-lt : (k n s : ℕ) → n < k → s < 2 ^ k → sweep g n s < 2 ^ k
   unfolding sweep
   sweep-lt k zero s h l = l
   sweep-lt k (suc n) s h l = enter-lt k (g (suc n)) (suc n) (sweep g n s) (sweep-lt k n s (omega arith) l) h
