@@ -1,5 +1,5 @@
--- Dijkstra's search towards a vertex t, over lengths ℓ(i,j) between the vertices vs. It settles the vertices in the order of their distance to t, the first of vs
--- where several are nearest. `Laws.Search`: what it finds.
+-- Dijkstra's search towards a vertex t, over lengths ℓ(i,j) between the vertices vs. It settles the vertices in the order of their distance to t; where several are
+-- nearest, the goal of the search comes first, since the search may end there, and then the first of vs. `Laws.Search`: what it finds.
 use mathlib.Core.Bool.{Bool, not, cond, _&&_}
 use mathlib.Core.List.{List}
 use Prim.Native.Nat.{ℕ, zero, suc, _+_, _-_, min}
@@ -35,10 +35,10 @@ openDistance distance rank v = cond (eqb (getD rank v 0) 0) (getD distance v 0) 
 abbrev pub nearer : List ℕ → List ℕ → ℕ × ℕ → ℕ → ℕ × ℕ
 nearer distance rank s v = (cond (ltb (openDistance distance rank v) (s .1)) v (s .0), min (openDistance distance rank v) (s .1))
 
--- The first of the nearest vertices that are not settled; t where all are.
+-- The nearest of the vertices that are not settled: the goal where it is one of them, else the first. The goal where all are settled.
 unfoldable pub nearest : List ℕ → ℕ → List ℕ → List ℕ → ℕ
 unfolding fold
-nearest vs t distance rank = fold (nearer distance rank) (t, beyond) vs .0
+nearest vs goal distance rank = fold (nearer distance rank) (goal, openDistance distance rank goal) vs .0
 
 module _ (ℓ : ℕ → ℕ → ℕ) (vs : List ℕ) (t : ℕ) where
   -- t is settled, and every vertex may go to it.
@@ -56,15 +56,15 @@ module _ (ℓ : ℕ → ℕ → ℕ) (vs : List ℕ) (t : ℕ) where
       record { distance = r .0; next = r .1; rank = set (s .rank) w k }
 
   -- The next vertex is settled, when k are.
-  unfoldable pub round : ℕ → Found → Found
+  unfoldable pub round : ℕ → ℕ → Found → Found
   unfolding settle nearest
-  round k s = settle (k + 1) (nearest vs t (s .distance) (s .rank)) s
+  round goal k s = settle (k + 1) (nearest vs goal (s .distance) (s .rank)) s
 
   -- At most n rounds: until the goal is settled, or all of them.
   unfoldable pub rounds : Bool → ℕ → ℕ → ℕ → Found → Found
   unfolding round
   rounds whole goal zero k s = s
-  rounds whole goal (suc n) k s = cond (not whole && ltb 0 (getD (s .rank) goal 0)) s (rounds whole goal n (k + 1) (round k s))
+  rounds whole goal (suc n) k s = cond (not whole && ltb 0 (getD (s .rank) goal 0)) s (rounds whole goal n (k + 1) (round goal k s))
 
   -- The search until the goal is settled, and the whole search.
   unfoldable pub search : Bool → ℕ → Found

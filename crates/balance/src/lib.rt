@@ -113,13 +113,14 @@ fn open_distance(rank: u8, x: u64) -> u64
     if rank == 0 { x } else { 1099511627776 }
 }
 
-// The first of the nearest vertices that are not settled; t where all are.
-fn nearest_open(x: &[u64; 64], rank: &[u8; 64], vs: &[u8], t: u8) -> u8
-    requires { ⌜ (t < 64) × AtMost 63 (now vs) ⌝ }
-    ensures { λ r. ⌜ (r ≡ nearest (now (vs .entry)) t (now (x .entry)) (now (rank .entry))) × (r < 64) ⌝ }
+// The nearest of the vertices that are not settled: the goal where it is one of them, else the first. The goal where all are settled.
+fn nearest_open(x: &[u64; 64], rank: &[u8; 64], vs: &[u8], goal: u8) -> u8
+    requires { ⌜ (goal < 64) × AtMost 63 (now vs) ⌝ }
+    ensures { λ r. ⌜ (r ≡ nearest (now (vs .entry)) goal (now (x .entry)) (now (rank .entry))) × (r < 64) ⌝ }
 {
-    let mut best = t;
-    let mut low: u64 = 1099511627776;
+    let end = wide(goal);
+    let mut best = goal;
+    let mut low = open_distance(rank[end], x[end]);
     let mut a: usize = 0;
     while a < vs.len() {
         let v = vertex(vs, a);
@@ -175,7 +176,7 @@ fn search_towards<'a>(
                 rank: rank,
             };
         }
-        let w = wide(nearest_open(&x, &rank, vs, t));
+        let w = wide(nearest_open(&x, &rank, vs, goal));
         let base = level(&x, w);
         relax_by(d, f, u, vs, w, base, &mut x, &mut next);
         k += 1;

@@ -69,7 +69,7 @@ module _ (d : ℕ → ℕ → ℕ) (vs : List ℕ) (metric : Metric d vs) where
   among-add : (s : State) → Certified d vs s → s .count < limit → (t h : ℕ) → List·Memᴰ t vs → List·Memᴰ h vs → Among vs (s .amounts) → Among vs (add d vs s t h .amounts)
   unfolding add way
   among-add s c room t h mt mh a =
-      let r = searched (residualLength d (s .amounts) (s .potentials)) vs t (residual-ground d vs metric s c room t mt) false h in
+      let r = searched (residualLength d (s .amounts) (s .potentials)) vs t (residual-ground d vs metric s c room t mt) false h mh in
       among-augment vs (metric .small) (search (residualLength d (s .amounts) (s .potentials)) vs t false h .next) t (r .1 .onward) 64 (s .amounts) h mh a
 
   pub among-all : (arcs : List Link) (s : State) → ((a : Link) → List·Memᴰ a arcs → List·Memᴰ (a .tail) vs × List·Memᴰ (a .head) vs)

@@ -42,10 +42,10 @@ module _ (d : ℕ → ℕ → ℕ) (vs : List ℕ) (metric : Metric d vs) (s : S
   ground = residual-ground d vs metric s certified room root mr
 
   state : (k : ℕ) × Searching ℓ vs root k found
-  state = searched ℓ vs root ground true root
+  state = searched ℓ vs root ground true root mr
 
   settled : (v : ℕ) → List·Memᴰ v vs → 0 < rank v
-  settled v m = whole-settled ℓ vs root ground true root tt v m
+  settled v m = whole-settled ℓ vs root ground true root mr tt v m
 
   x-near : (i j : ℕ) → List·Memᴰ i vs → List·Memᴰ j vs → x i ≤ x j + ℓ i j
   x-near i j mi mj = state .1 .near j i mj mi (settled j mj)

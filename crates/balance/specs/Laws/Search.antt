@@ -109,30 +109,33 @@ module _ (distance rank : List ℕ) where
         ],
       )
 
-  -- what the search for the nearest comes to: what it started with, or a vertex with its distance
-  abbrev Comes : List ℕ → ℕ × ℕ → ℕ × ℕ → Type 0
-  Comes us s r = ((r .0 ≡ s .0) × (r .1 ≡ s .1)) ⊎ (List·Memᴰ (r .0) us × (key (r .0) ≡ r .1))
+  -- what the search for the nearest comes to: the vertex that it started with, or one of the list, with its distance
+  abbrev Comes : List ℕ → ℕ → ℕ × ℕ → Type 0
+  Comes us g r = ((r .0 ≡ g) ⊎ List·Memᴰ (r .0) us) × (key (r .0) ≡ r .1)
 
-  nearest-at : (us : List ℕ) (s : ℕ × ℕ) → Comes us s (fold (nearer distance rank) s us)
+  nearest-at : (us : List ℕ) (g low : ℕ) → key g ≡ low → Comes us g (fold (nearer distance rank) (g, low) us)
   unfolding fold
-  nearest-at [] s = inl (refl, refl)
-  nearest-at (u ∷ us) s = elim (nearest-at us (nearer distance rank s u)) [
-    | inr p ↦ inr (List·Memᴰ·tail (p .0), p .1)
-    | inl p ↦ elim (decLe (s .1) (key u)) [
-      | yes l ↦ inl (p .0 ∙ ap (λ (b : Bool). cond b u (s .0)) (le-ltb (key u) (s .1) l), (let e = p .1 in omega arith))
-      | no l ↦
-          let e = p .0 ∙ ap (λ (b : Bool). cond b u (s .0)) (lt-ltb (key u) (s .1) (omega arith)) in
-          let q = p .1 in
-          let k = ap key e in
-          inr (List·Memᴰ·head e, omega arith)
-    ]
+  nearest-at [] g low e = (inl refl, e)
+  nearest-at (u ∷ us) g low e = elim (decLe low (key u)) [
+    | yes l ↦
+        let c = ap (λ (b : Bool). cond b u g) (le-ltb (key u) low l) in
+        let r = nearest-at us (cond (ltb (key u) low) u g) (min (key u) low) (let k = ap key c in omega arith) in (
+          elim (r .0) [ inl p ↦ inl (p ∙ c) | inr m ↦ inr (List·Memᴰ·tail m) ],
+          r .1,
+        )
+    | no l ↦
+        let c = ap (λ (b : Bool). cond b u g) (lt-ltb (key u) low (omega arith)) in
+        let r = nearest-at us (cond (ltb (key u) low) u g) (min (key u) low) (let k = ap key c in omega arith) in (
+          elim (r .0) [ inl p ↦ inr (List·Memᴰ·head (p ∙ c)) | inr m ↦ inr (List·Memᴰ·tail m) ],
+          r .1,
+        )
   ]
 
-pub nearest-small : (vs : List ℕ) (t : ℕ) (distance rank : List ℕ) → t < 64 → AtMost 63 vs → nearest vs t distance rank < 64
+pub nearest-small : (vs : List ℕ) (goal : ℕ) (distance rank : List ℕ) → goal < 64 → AtMost 63 vs → nearest vs goal distance rank < 64
 unfolding nearest
-nearest-small vs t distance rank h b = elim (nearest-at distance rank vs (t, beyond)) [
-  | inl p ↦ let e = p .0 in omega arith
-  | inr p ↦ let r = mem-getD 0 (p .0) in let a = b (r .0) in let e = r .2 in omega arith
+nearest-small vs goal distance rank h b = elim (nearest-at distance rank vs goal (openDistance distance rank goal) refl .0) [
+  | inl e ↦ omega arith
+  | inr m ↦ let r = mem-getD 0 m in let a = b (r .0) in let e = r .2 in omega arith
 ]
 
 -- ---- what holds after each round
@@ -334,33 +337,33 @@ module _ (ℓ : ℕ → ℕ → ℕ) (vs : List ℕ) (t : ℕ) (ground : Ground 
   key-shut distance rank v h = ap (λ (b : Bool). cond b (at distance v) beyond) (ne-eqb (at rank v) 0 (λ e. omega arith))
 
   -- the nearest vertex is not settled, and no other such is nearer
-  nearest-holds : (k : ℕ) (s : Found) → Searching ℓ vs t k s → k < length vs
-      → List·Memᴰ (nearest vs t (s .distance) (s .rank)) vs × (at (s .rank) (nearest vs t (s .distance) (s .rank)) ≡ 0)
-      × ((v : ℕ) → List·Memᴰ v vs → at (s .rank) v ≡ 0 → at (s .distance) (nearest vs t (s .distance) (s .rank)) ≤ at (s .distance) v)
+  nearest-holds : (goal k : ℕ) (s : Found) → List·Memᴰ goal vs → Searching ℓ vs t k s → k < length vs
+      → List·Memᴰ (nearest vs goal (s .distance) (s .rank)) vs × (at (s .rank) (nearest vs goal (s .distance) (s .rank)) ≡ 0)
+      × ((v : ℕ) → List·Memᴰ v vs → at (s .rank) v ≡ 0 → at (s .distance) (nearest vs goal (s .distance) (s .rank)) ≤ at (s .distance) v)
   unfolding nearest
-  nearest-holds k s h l =
+  nearest-holds goal k s aim h l =
       let o = open-one vs (at (s .rank)) (let e = h .left in omega arith) in
-      let r = fold (nearer (s .distance) (s .rank)) (t, beyond) vs in
-      let low = nearest-low (s .distance) (s .rank) vs (t, beyond) .1 in
+      let r = fold (nearer (s .distance) (s .rank)) (goal, openDistance (s .distance) (s .rank) goal) vs in
+      let low = nearest-low (s .distance) (s .rank) vs (goal, openDistance (s .distance) (s .rank) goal) .1 in
       let a = low (o .0) (o .1) in
       let b = key-open (s .distance) (s .rank) (o .0) (o .2) in
       let c = h .low (o .0) (o .1) in
-      elim (nearest-at (s .distance) (s .rank) vs (t, beyond)) [
-        | inl p ↦ let q = p .1 in absurd (omega arith)
-        | inr p ↦
-            let q = p .1 in
-            elim (decLe 1 (at (s .rank) (fold (nearer (s .distance) (s .rank)) (t, beyond) vs .0))) [
-              | yes g ↦ let e = key-shut (s .distance) (s .rank) (fold (nearer (s .distance) (s .rank)) (t, beyond) vs .0) g in absurd (omega arith)
-              | no g ↦
-                  let z : at (s .rank) (fold (nearer (s .distance) (s .rank)) (t, beyond) vs .0) ≡ 0 = omega arith in
-                  let e = key-open (s .distance) (s .rank) (fold (nearer (s .distance) (s .rank)) (t, beyond) vs .0) z in
-                  (p .0, z, λ v m n. let x = low v m in let y = key-open (s .distance) (s .rank) v n in omega arith)
-            ]
+      let p = nearest-at (s .distance) (s .rank) vs goal (openDistance (s .distance) (s .rank) goal) refl in
+      let q = p .1 in
+      elim (decLe 1 (at (s .rank) (r .0))) [
+        | yes g ↦ let e = key-shut (s .distance) (s .rank) (r .0) g in absurd (omega arith)
+        | no g ↦
+            let z : at (s .rank) (r .0) ≡ 0 = omega arith in
+            let e = key-open (s .distance) (s .rank) (r .0) z in (
+              elim (p .0) [ inl e ↦ subst⁻¹ (λ v. List·Memᴰ v vs) e aim | inr m ↦ m ],
+              z,
+              λ v m n. let x = low v m in let y = key-open (s .distance) (s .rank) v n in omega arith,
+            )
       ]
 
-  round-step : (k : ℕ) (s : Found) → Searching ℓ vs t k s → k < length vs → Searching ℓ vs t (k + 1) (round ℓ vs t k s)
+  round-step : (goal k : ℕ) (s : Found) → List·Memᴰ goal vs → Searching ℓ vs t k s → k < length vs → Searching ℓ vs t (k + 1) (round ℓ vs t goal k s)
   unfolding round
-  round-step k s h l = let n = nearest-holds k s h l in settle-step k (nearest vs t (s .distance) (s .rank)) s h (n .0) (n .1) (n .2)
+  round-step goal k s aim h l = let n = nearest-holds goal k s aim h l in settle-step k (nearest vs goal (s .distance) (s .rank)) s h (n .0) (n .1) (n .2)
 
   -- ---- the start
 
@@ -463,7 +466,7 @@ module _ (ℓ : ℕ → ℕ → ℕ) (vs : List ℕ) (t : ℕ) (ground : Ground 
 
   -- ---- the search
 
-  module _ (whole : Bool) (goal : ℕ) where
+  module _ (whole : Bool) (goal : ℕ) (aim : List·Memᴰ goal vs) where
     -- the goal is settled, unless the search is to be whole
     abbrev Done : Found → Type 0
     Done s = T (not whole && ltb 0 (at (s .rank) goal))
@@ -473,10 +476,10 @@ module _ (ℓ : ℕ → ℕ → ℕ) (vs : List ℕ) (t : ℕ) (ground : Ground 
     unfolding rounds
     rounds-hold zero k s e h = (k, h, inr (omega arith))
     rounds-hold (suc n) k s e h =
-        cond-ind (not whole && ltb 0 (at (s .rank) goal)) s (rounds ℓ vs t whole goal n (k + 1) (round ℓ vs t k s))
+        cond-ind (not whole && ltb 0 (at (s .rank) goal)) s (rounds ℓ vs t whole goal n (k + 1) (round ℓ vs t goal k s))
         (λ r. (k′ : ℕ) × Searching ℓ vs t k′ r × (Done r ⊎ (k′ ≡ length vs)))
         (λ y. (k, h, inl y))
-        (λ y. rounds-hold n (k + 1) (round ℓ vs t k s) (omega arith) (round-step k s h (omega arith)))
+        (λ y. rounds-hold n (k + 1) (round ℓ vs t goal k s) (omega arith) (round-step goal k s aim h (omega arith)))
 
     abbrev result : Found
     result = search ℓ vs t whole goal
@@ -496,10 +499,10 @@ module _ (ℓ : ℕ → ℕ → ℕ) (vs : List ℕ) (t : ℕ) (ground : Ground 
         omega arith
 
     -- the goal is settled
-    pub goal-settled : List·Memᴰ goal vs → 0 < at (search ℓ vs t whole goal .rank) goal
-    goal-settled m = elim (search-rounds .2) [
+    pub goal-settled : 0 < at (search ℓ vs t whole goal .rank) goal
+    goal-settled = elim (search-rounds .2) [
       | inl y ↦ ltb→lt 0 (at (result .rank) goal) (and-parts (not whole) (ltb 0 (at (result .rank) goal)) y .1)
-      | inr e ↦ all-settled e goal m
+      | inr e ↦ all-settled e goal aim
     ]
 
     -- and every vertex is, where the search is whole

@@ -88,7 +88,7 @@ module _ (d : ℕ → ℕ → ℕ) (vs : List ℕ) (metric : Metric d vs) (s : S
     y v = min (x v) (x h)
 
     state : (k : ℕ) × Searching ℓ vs t k found
-    state = searched ℓ vs t (residual-ground t mt) false h
+    state = searched ℓ vs t (residual-ground t mt) false h mh
 
     settled-h : 0 < rank h
     settled-h = goal-settled ℓ vs t (residual-ground t mt) false h mh

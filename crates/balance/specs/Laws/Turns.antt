@@ -124,18 +124,18 @@ module _ (ℓ : ℕ → ℕ → ℕ) (vs : List ℕ) (t : ℕ) (whole : Bool) (g
 
   pub rounds-more : (k : ℕ) (x next rank : List ℕ) {w base k′ : ℕ} {x′ next′ : List ℕ} {r : Found}
       → rounds ℓ vs t whole goal (length vs - k) k (record { distance = x; next = next; rank = rank }) ≡ r → k < length vs
-      → (not whole && ltb 0 (getD rank goal 0)) ≡ false → w ≡ nearest vs t x rank → base ≡ getD x w 0
+      → (not whole && ltb 0 (getD rank goal 0)) ≡ false → w ≡ nearest vs goal x rank → base ≡ getD x w 0
       → x′ ≡ relax ℓ vs w base (x, next) .0 → next′ ≡ relax ℓ vs w base (x, next) .1 → k′ ≡ k + 1
       → rounds ℓ vs t whole goal (length vs - (k + 1)) (k + 1) (record { distance = x′; next = next′; rank = set rank w k′ }) ≡ r
   unfolding rounds round settle
   rounds-more k x next rank {w} {base} {k′} inv l test ew eb ex en ek =
       let m : length vs - k ≡ suc (length vs - (k + 1)) = omega arith in
       let s = made x next rank in
-      let turn : made _ _ _ ≡ round ℓ vs t k (made x next rank)
+      let turn : made _ _ _ ≡ round ℓ vs t goal k (made x next rank)
       = found-same (ex ∙ ap (λ q. relax ℓ vs w q (x, next) .0) eb) (en ∙ ap (λ q. relax ℓ vs w q (x, next) .1) eb) (ap (set rank w) ek)
       ∙ ap (λ q. settle ℓ vs t (k + 1) q (made x next rank)) ew in
       ap (rounds ℓ vs t whole goal (length vs - (k + 1)) (k + 1)) turn
-      ∙ sym (ap (λ (b : Bool). cond b (made x next rank) (rounds ℓ vs t whole goal (length vs - (k + 1)) (k + 1) (round ℓ vs t k (made x next rank)))) test)
+      ∙ sym (ap (λ (b : Bool). cond b (made x next rank) (rounds ℓ vs t whole goal (length vs - (k + 1)) (k + 1) (round ℓ vs t goal k (made x next rank)))) test)
       ∙ ap (λ n. rounds ℓ vs t whole goal n k (made x next rank)) (sym m)
       ∙ inv
 
@@ -154,16 +154,16 @@ replicate-low (suc n) b zero = omega arith
 replicate-low (suc n) b (suc k) = replicate-low n b k
 
 -- no distance of a search is beyond
-round-low : (ℓ : ℕ → ℕ → ℕ) (vs : List ℕ) (t k : ℕ) (s : Found) → AtMost beyond (s .distance) → AtMost beyond (round ℓ vs t k s .distance)
+round-low : (ℓ : ℕ → ℕ → ℕ) (vs : List ℕ) (t goal k : ℕ) (s : Found) → AtMost beyond (s .distance) → AtMost beyond (round ℓ vs t goal k s .distance)
 unfolding round settle
-round-low ℓ vs t k s h = relax-low ℓ vs _ _ (s .distance, s .next) beyond h
+round-low ℓ vs t goal k s h = relax-low ℓ vs _ _ (s .distance, s .next) beyond h
 
 rounds-low : (ℓ : ℕ → ℕ → ℕ) (vs : List ℕ) (t : ℕ) (whole : Bool) (goal n k : ℕ) (s : Found) → AtMost beyond (s .distance) → AtMost beyond (rounds ℓ vs t whole goal n k s .distance)
 unfolding rounds
 rounds-low ℓ vs t whole goal zero k s h = h
 rounds-low ℓ vs t whole goal (suc n) k s h =
-    cond-ind (not whole && ltb 0 (getD (s .rank) goal 0)) s (rounds ℓ vs t whole goal n (k + 1) (round ℓ vs t k s)) (λ r. AtMost beyond (r .distance)) (λ y. h)
-    (λ y. rounds-low ℓ vs t whole goal n (k + 1) (round ℓ vs t k s) (round-low ℓ vs t k s h))
+    cond-ind (not whole && ltb 0 (getD (s .rank) goal 0)) s (rounds ℓ vs t whole goal n (k + 1) (round ℓ vs t goal k s)) (λ r. AtMost beyond (r .distance)) (λ y. h)
+    (λ y. rounds-low ℓ vs t whole goal n (k + 1) (round ℓ vs t goal k s) (round-low ℓ vs t goal k s h))
 
 pub search-low : (ℓ : ℕ → ℕ → ℕ) (vs : List ℕ) (t : ℕ) (whole : Bool) (goal : ℕ) → AtMost beyond (search ℓ vs t whole goal .distance)
 unfolding search start
