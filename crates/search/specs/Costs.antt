@@ -1,13 +1,15 @@
 -- Costs of links by a table of distances, multipliers in an array, and the state of the required arcs. `Laws.Costs`: they are the plan's.
+use mathlib.Core.Path.{_≡_}
 use mathlib.Core.List.{List, map, List·Memᴰ}
 use Prim.Native.Nat.{ℕ, _+_, _≤_, _<_}
-use lib.ListN.{getD}
+use lib.ListN.{length, getD}
 use lib.IntN.{ℤ, pos, _+ℤ_, _-ℤ_}
 use lib.Signed.{_≤ℤ_}
 use Rattle.postman.specs.Lists.{sumOf, sumOfℤ}
 use Rattle.postman.specs.Link.{Link}
 use Rattle.balance.specs.Step.{State, cell, addAll}
 use Rattle.balance.specs.Invariant.{Metric, Certified}
+use Rattle.search.specs.Trail.{SameLinks}
 
 -- The d of the links.
 unfoldable pub tableCost : List (List ℕ) → List Link → ℕ
@@ -27,12 +29,17 @@ unfoldable pub completionIn : List (List ℕ) → List ℕ → State → ℕ →
 unfolding tableCost addAll
 completionIn table vs base r t = r + tableCost table t + addAll (cell table) vs base t .cost
 
--- What the code asks of them.
+-- The links join vertices of vs.
+abbrev pub Joining : List ℕ → List Link → Type 0
+Joining vs t = (l : Link) → List·Memᴰ l t → List·Memᴰ (l .tail) vs × List·Memᴰ (l .head) vs
+
+-- What the code asks of them. The order of the links does not matter for the cost.
 pub record Ready (table : List (List ℕ)) (vs : List ℕ) (base : State) (r : ℕ) : Type 0 where
   pub metric : Metric (cell table) vs
   pub certified : Certified (cell table) vs base
   pub room : base .count ≤ 356
   pub cheap : r ≤ 16777216
+  pub orderless : (t s : List Link) → Joining vs t → Joining vs s → length t ≤ 8 → length s ≤ 8 → SameLinks t s → addAll (cell table) vs base t .cost ≡ addAll (cell table) vs base s .cost
 
 abbrev pub Feasible : List (List ℕ) → List ℕ → List ℤ → Type 0
 Feasible table vs u = (i j : ℕ) → List·Memᴰ i vs → List·Memᴰ j vs → pos 0 ≤ℤ reducedAt table u i j

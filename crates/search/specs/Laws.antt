@@ -10,3 +10,4 @@ pub mod Reduced
 pub mod Completion
 pub mod States
 pub mod Orderless
+pub mod Trail

@@ -16,6 +16,8 @@ baseIn amounts potentials costs count = stateAt amounts potentials costs count 0
 
 -- Up to `depth`, state j has the first j links added.
 pub record IsTrail (table : List (List ℕ)) (vs : List ℕ) (count : ℕ) (tails heads : List ℕ) (amounts potentials : List (List ℕ)) (costs : List ℕ) (depth : ℕ) : Type 0 where
+  pub tails-size : length tails ≡ 8
+  pub heads-size : length heads ≡ 8
   pub rows : length amounts ≡ 8
   pub potential-rows : length potentials ≡ 8
   pub cost-size : length costs ≡ 8

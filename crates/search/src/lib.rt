@@ -1,6 +1,9 @@
 // The search over a plan's arborescences, in document 01's order: the first of least completion cost is kept.
 mod states; // the states of a trail
+mod trail; // a tree's links in an order that begins as that of the last tree
 
+use crate::states::extend;
+use crate::trail::reordered;
 use arborescence::order;
 use balance::Balance;
 use plan::Plan;
@@ -15,7 +18,8 @@ ghost use Rattle.balance.specs.Records.{stateOf};
 ghost use Rattle.search.specs.Links.{linksIn, chosenLinks, placeOf, Inside, Choosable};
 ghost use Rattle.search.specs.Costs.{tableCost, reducedIn, completionIn, Ready, Feasible, Reducible, Short, AllReducible};
 ghost use Rattle.search.specs.Prepared.{Prepared};
-ghost use Rattle.search.specs.Contracts.{stateFrom, Kept, IsSearched};
+ghost use Rattle.search.specs.Contracts.{Kept, IsSearched};
+ghost use Rattle.search.specs.States.{baseIn, IsTrail, IsExtended};
 
 // The best so far: its completion cost, and its links' tails and heads.
 struct Best {
@@ -102,11 +106,14 @@ fn reduced_sum(d: &[[u32; 64]; 64], u: &[i64; 64], tails: [u8; 8], heads: [u8; 8
     sum
 }
 
-// The completion cost of the first n links: they are added to the state of the required arcs.
+// The completion cost of the first n links. They are added in an order that begins as the trail's does, so that the states they share are taken up again.
 fn completion(
-    amounts: &[u16; 4096],
-    potentials: &[u64; 64],
-    cost: u64,
+    amounts: &mut [[u16; 4096]; 8],
+    potentials: &mut [[u64; 64]; 8],
+    costs: &mut [u64; 8],
+    trail_tails: &mut [u8; 8],
+    trail_heads: &mut [u8; 8],
+    depth: usize,
     count: u16,
     d: &[[u32; 64]; 64],
     vs: &[u8],
@@ -115,27 +122,27 @@ fn completion(
     n: usize,
     required_cost: u64,
 ) -> u64
-    requires { ⌜ (n ≤ 8) × Ready (now d) (now vs) (stateFrom (now amounts) (now potentials) cost count) «required_cost» × Inside (now vs) n tails heads ⌝ }
-    ensures { λ r. ⌜ r ≡ completionIn (now (d .entry)) (now (vs .entry)) (stateFrom (now (amounts .entry)) (now (potentials .entry)) cost count) «required_cost» (linksIn n tails heads) ⌝ }
+    requires { ⌜ (n ≤ 7) × (depth ≤ 7) × Ready (now d) (now vs) (baseIn (now amounts) (now potentials) (now costs) count) «required_cost» × Inside (now vs) n tails heads × IsTrail (now d) (now vs) count (now «trail_tails») (now «trail_heads») (now amounts) (now potentials) (now costs) depth ⌝ }
+    ensures { λ r. ⌜ (r ≡ completionIn (now (d .entry)) (now (vs .entry)) (baseIn (now (amounts .entry)) (now (potentials .entry)) (now (costs .entry)) count) «required_cost» (linksIn n tails heads))
+        × IsExtended (now (d .entry)) (now (vs .entry)) count (now («trail_tails» .exit)) (now («trail_heads» .exit)) (now (amounts .entry)) (now (potentials .entry)) (now (costs .entry)) (now (amounts .exit)) (now (potentials .exit)) (now (costs .exit)) n ⌝ }
 {
-    let a = *amounts;
-    let u = *potentials;
-    let base = Balance {
-        amounts: a,
-        potentials: u,
-        cost: cost,
-        count: count,
-    };
-    let b = balance::add_all(base, d, vs, &tails[..n], &heads[..n]);
-    let c = b.cost;
-    required_cost + link_cost(d, tails, heads, n) + c
+    let o = reordered(trail_tails, trail_heads, depth, tails, heads, n);
+    let ts = o.tails;
+    let hs = o.heads;
+    extend(amounts, potentials, costs, count, d, vs, ts, hs, o.kept, n);
+    *trail_tails = ts;
+    *trail_heads = hs;
+    required_cost + link_cost(d, tails, heads, n) + costs[n]
 }
 
 // The better of the best so far and the first n links. Links whose bound is no less than the best so far are not balanced.
 fn consider(
     best: Best,
-    amounts: &[u16; 4096],
-    potentials: &[u64; 64],
+    amounts: &mut [[u16; 4096]; 8],
+    potentials: &mut [[u64; 64]; 8],
+    costs: &mut [u64; 8],
+    trail_tails: &mut [u8; 8],
+    trail_heads: &mut [u8; 8],
     cost: u64,
     count: u16,
     d: &[[u32; 64]; 64],
@@ -146,8 +153,9 @@ fn consider(
     n: usize,
     required_cost: u64,
 ) -> Best
-    requires { ⌜ (n ≤ 8) × Ready (now d) (now vs) (stateFrom (now amounts) (now potentials) cost count) «required_cost» × Feasible (now d) (now vs) (now u) × Inside (now vs) n tails heads ⌝ }
-    ensures { λ r. ⌜ Kept (now (d .entry)) (now (vs .entry)) (stateFrom (now (amounts .entry)) (now (potentials .entry)) cost count) (now (u .entry)) «required_cost» n (linksIn n tails heads) best r ⌝ }
+    requires { ⌜ (n ≤ 7) × Ready (now d) (now vs) (baseIn (now amounts) (now potentials) (now costs) count) «required_cost» × Feasible (now d) (now vs) (now u) × Inside (now vs) n tails heads × (cost ≡ baseIn (now amounts) (now potentials) (now costs) count .cost) × IsTrail (now d) (now vs) count (now «trail_tails») (now «trail_heads») (now amounts) (now potentials) (now costs) n ⌝ }
+    ensures { λ r. ⌜ Kept (now (d .entry)) (now (vs .entry)) (baseIn (now (amounts .entry)) (now (potentials .entry)) (now (costs .entry)) count) (now (u .entry)) «required_cost» n (linksIn n tails heads) best r
+        × IsExtended (now (d .entry)) (now (vs .entry)) count (now («trail_tails» .exit)) (now («trail_heads» .exit)) (now (amounts .entry)) (now (potentials .entry)) (now (costs .entry)) (now (amounts .exit)) (now (potentials .exit)) (now (costs .exit)) n ⌝ }
 {
     let old = best.cost;
     let bound = required_cost + cost + reduced_sum(d, u, tails, heads, n);
@@ -155,7 +163,10 @@ fn consider(
         let c = completion(
             amounts,
             potentials,
-            cost,
+            costs,
+            trail_tails,
+            trail_heads,
+            n,
             count,
             d,
             vs,
@@ -183,8 +194,11 @@ fn turn(
     heads: &[u8; 4096],
     k: usize,
     choice: [usize; 8],
-    amounts: &[u16; 4096],
-    potentials: &[u64; 64],
+    amounts: &mut [[u16; 4096]; 8],
+    potentials: &mut [[u64; 64]; 8],
+    costs: &mut [u64; 8],
+    trail_tails: &mut [u8; 8],
+    trail_heads: &mut [u8; 8],
     cost: u64,
     count: u16,
     d: &[[u32; 64]; 64],
@@ -192,8 +206,9 @@ fn turn(
     u: &[i64; 64],
     required_cost: u64,
 ) -> Best
-    requires { ⌜ Choosable (now vs) (now start) (now tails) (now heads) k choice × Ready (now d) (now vs) (stateFrom (now amounts) (now potentials) cost count) «required_cost» × Feasible (now d) (now vs) (now u) ⌝ }
-    ensures { λ r. ⌜ Kept (now (d .entry)) (now (vs .entry)) (stateFrom (now (amounts .entry)) (now (potentials .entry)) cost count) (now (u .entry)) «required_cost» (k - 1) (chosenLinks (now (start .entry)) (now (tails .entry)) (now (heads .entry)) k choice) best r ⌝ }
+    requires { ⌜ Choosable (now vs) (now start) (now tails) (now heads) k choice × Ready (now d) (now vs) (baseIn (now amounts) (now potentials) (now costs) count) «required_cost» × Feasible (now d) (now vs) (now u) × (cost ≡ baseIn (now amounts) (now potentials) (now costs) count .cost) × IsTrail (now d) (now vs) count (now «trail_tails») (now «trail_heads») (now amounts) (now potentials) (now costs) (k - 1) ⌝ }
+    ensures { λ r. ⌜ Kept (now (d .entry)) (now (vs .entry)) (baseIn (now (amounts .entry)) (now (potentials .entry)) (now (costs .entry)) count) (now (u .entry)) «required_cost» (k - 1) (chosenLinks (now (start .entry)) (now (tails .entry)) (now (heads .entry)) k choice) best r
+        × IsExtended (now (d .entry)) (now (vs .entry)) count (now («trail_tails» .exit)) (now («trail_heads» .exit)) (now (amounts .entry)) (now (potentials .entry)) (now (costs .entry)) (now (amounts .exit)) (now (potentials .exit)) (now (costs .exit)) (k - 1) ⌝ }
 {
     let ts = picked(start, tails, k, choice);
     let hs = picked(start, heads, k, choice);
@@ -201,6 +216,9 @@ fn turn(
         best,
         amounts,
         potentials,
+        costs,
+        trail_tails,
+        trail_heads,
         cost,
         count,
         d,
@@ -213,30 +231,36 @@ fn turn(
     )
 }
 
-// The links of a choice, with their completion cost.
+// The links of a choice, with their completion cost. There is no trail before them.
 fn completed(
     start: &[usize; 9],
     tails: &[u8; 4096],
     heads: &[u8; 4096],
     k: usize,
     choice: [usize; 8],
-    amounts: &[u16; 4096],
-    potentials: &[u64; 64],
-    cost: u64,
+    amounts: &mut [[u16; 4096]; 8],
+    potentials: &mut [[u64; 64]; 8],
+    costs: &mut [u64; 8],
+    trail_tails: &mut [u8; 8],
+    trail_heads: &mut [u8; 8],
     count: u16,
     d: &[[u32; 64]; 64],
     vs: &[u8],
     required_cost: u64,
 ) -> Best
-    requires { ⌜ Choosable (now vs) (now start) (now tails) (now heads) k choice × Ready (now d) (now vs) (stateFrom (now amounts) (now potentials) cost count) «required_cost» ⌝ }
-    ensures { λ r. ⌜ (r .cost ≡ completionIn (now (d .entry)) (now (vs .entry)) (stateFrom (now (amounts .entry)) (now (potentials .entry)) cost count) «required_cost» (chosenLinks (now (start .entry)) (now (tails .entry)) (now (heads .entry)) k choice)) × (linksIn (k - 1) (r .tails) (r .heads) ≡ chosenLinks (now (start .entry)) (now (tails .entry)) (now (heads .entry)) k choice) ⌝ }
+    requires { ⌜ Choosable (now vs) (now start) (now tails) (now heads) k choice × Ready (now d) (now vs) (baseIn (now amounts) (now potentials) (now costs) count) «required_cost» × IsTrail (now d) (now vs) count (now «trail_tails») (now «trail_heads») (now amounts) (now potentials) (now costs) 0 ⌝ }
+    ensures { λ r. ⌜ (r .cost ≡ completionIn (now (d .entry)) (now (vs .entry)) (baseIn (now (amounts .entry)) (now (potentials .entry)) (now (costs .entry)) count) «required_cost» (chosenLinks (now (start .entry)) (now (tails .entry)) (now (heads .entry)) k choice)) × (linksIn (k - 1) (r .tails) (r .heads) ≡ chosenLinks (now (start .entry)) (now (tails .entry)) (now (heads .entry)) k choice)
+        × IsExtended (now (d .entry)) (now (vs .entry)) count (now («trail_tails» .exit)) (now («trail_heads» .exit)) (now (amounts .entry)) (now (potentials .entry)) (now (costs .entry)) (now (amounts .exit)) (now (potentials .exit)) (now (costs .exit)) (k - 1) ⌝ }
 {
     let ts = picked(start, tails, k, choice);
     let hs = picked(start, heads, k, choice);
     let c = completion(
         amounts,
         potentials,
-        cost,
+        costs,
+        trail_tails,
+        trail_heads,
+        0,
         count,
         d,
         vs,
@@ -277,10 +301,15 @@ pub fn search(
     requires { ⌜ Prepared (planValue plan) (now d) (now vs) (now start) (now source) (now tails) (now heads) k (stateOf base) (now u) «required_cost» × (1 ≤ budget) ⌝ }
     ensures { λ r. ⌜ IsSearched (planValue plan) budget k r ⌝ }
 {
-    let amounts = base.amounts;
-    let potentials = base.potentials;
+    let f = base.amounts;
+    let p = base.potentials;
     let cost = base.cost;
     let count = base.count;
+    let mut amounts = [f; 8];
+    let mut potentials = [p; 8];
+    let mut costs = [cost; 8];
+    let mut trail_tails = [0u8; 8];
+    let mut trail_heads = [0u8; 8];
     let sets = order::source_sets(start, source, k);
     let first = order::first(start, source, &sets, k);
     let one = first.choice;
@@ -290,9 +319,11 @@ pub fn search(
         heads,
         k,
         one,
-        &amounts,
-        &potentials,
-        cost,
+        &mut amounts,
+        &mut potentials,
+        &mut costs,
+        &mut trail_tails,
+        &mut trail_heads,
         count,
         d,
         vs,
@@ -310,8 +341,11 @@ pub fn search(
             heads,
             k,
             choice,
-            &amounts,
-            &potentials,
+            &mut amounts,
+            &mut potentials,
+            &mut costs,
+            &mut trail_tails,
+            &mut trail_heads,
             cost,
             count,
             d,

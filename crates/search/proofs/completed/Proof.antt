@@ -1,40 +1,52 @@
--- The ends picked are those of the choice's links. Assumes nothing.
+-- The ends picked are those of the choice's links.
 use mathlib.Core.Path.{_≡_, ap, _∙_}
 use native.Mathlib.Omega.{arith}
 use lib.ListN.{length}
 use Rattle.search.specs.Costs.{completionIn}
-use Rattle.search.specs.Contracts.{stateFrom}
+use Rattle.search.specs.States.{baseIn}
 use Rattle.search.specs.Laws.Links.{links-chosen}
 use Rattle.search.specs.Laws.Completion.{chosen-inside}
 use borrow.Author.Needs.{needs}
 use Rattle.search.proofs.completed.Statement.{statement}
 use Rattle.search.proofs.completed.Tie as tie
+use Rattle.search.proofs.completed.Reads as reads
+use Rattle.search.proofs.completed.Lts as lts
+use Rattle.search.proofs.completion.Reads as completion-reads
+use Rattle.search.proofs.picked.Reads as picked-reads
 
+-- src/lib.rt:255:9
 picked-requires : tie.Need-picked-requires
 picked-requires c κs = search needs
 
+-- src/lib.rt:256:9
 picked-requires-2 : tie.Need-picked-requires-2
 picked-requires-2 c κs = search needs
 
+-- src/lib.rt:269:9
 sub-completion : tie.Need-sub-completion
 sub-completion c = search needs
 
+-- src/lib.rt:257:9
 completion-requires : tie.Need-completion-requires
 completion-requires c κs =
-    let s = c .before .before .before in
+    let s = c .before .before .before .before .before .before .before .before in
     let f = s .pre .0 .few in
-    (omega arith, s .pre .1, chosen-inside (s .pre .0) (c .before .picked .result) (c .picked2 .result) (c .before .picked .ensures) (c .picked2 .ensures))
+    let t = c .before .before .before .before .before .before .picked in
+    let h = c .before .before .before .before .before .picked2 in
+    (omega arith, omega arith, s .pre .1, chosen-inside (s .pre .0) (t .result) (h .result) (t .ensures) (h .ensures), s .pre .2)
 
+-- src/lib.rt:235:1
 returns : tie.Need-returns
 returns c =
-    let s = c .before .before .before .before in
+    let s = c .before .before .before .before .before .before .before .before .before in
     let f = s .pre .0 .few in
-    let ts = c .before .before .picked .result in
-    let hs = c .before .picked2 .result in
-    let lt : length ts ≡ 8 = search needs in
-    let lh : length hs ≡ 8 = search needs in
-    let e = links-chosen (s .args .start .now) (s .args .tails .now) (s .args .heads .now) (s .args .k) (s .args .choice) ts hs (omega arith) (omega arith) (c .before .before .picked .ensures) (c .before .picked2 .ensures) in
-    (c .completion .ensures ∙ ap (completionIn (s .args .d .now) (s .args .vs .now) (stateFrom (s .args .amounts .now) (s .args .potentials .now) (s .args .cost) (s .args .count)) (s .args .required-cost)) e, e)
+    let t = c .before .before .before .before .before .before .before .picked in
+    let h = c .before .before .before .before .before .before .picked2 in
+    let lt : length (t .result) ≡ 8 = search needs in
+    let lh : length (h .result) ≡ 8 = search needs in
+    let e = links-chosen (s .args .start .now) (s .args .tails .now) (s .args .heads .now) (s .args .k) (s .args .choice) (t .result) (h .result) (omega arith) (omega arith) (t .ensures) (h .ensures) in
+    let b = baseIn (s .args .amounts .now) (s .args .potentials .now) (s .args .costs .now) (s .args .count) in
+    (c .completion .ensures .0 ∙ ap (completionIn (s .args .d .now) (s .args .vs .now) b (s .args .required-cost)) e, e, c .completion .ensures .1)
 
 pub completed-spec : {M : Type 1} → statement M
 completed-spec =

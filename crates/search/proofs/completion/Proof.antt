@@ -1,84 +1,86 @@
--- The links are added to the state of the required arcs, whose cost stays small. Assumes nothing.
+-- The links that are kept have their states, the others are added; the cost does not depend on the order, and stays small.
 use mathlib.Core.Path.{_≡_, refl}
 use native.Mathlib.Omega.{arith}
-use lib.ListN.{length, length-take}
+use lib.ListN.{length}
 use Rattle.search.specs.Laws.Costs.{inside-short}
-use Rattle.search.specs.Laws.Completion.{all-in, sum-small, completion-made}
+use Rattle.search.specs.Laws.Completion.{sum-small, completion-made}
+use Rattle.search.specs.Laws.States.{trail-kept, last-cost}
 use borrow.Author.Needs.{needs}
 use Rattle.search.proofs.completion.Statement.{statement}
 use Rattle.search.proofs.completion.Tie as tie
+use Rattle.search.proofs.completion.Reads as reads
+use Rattle.search.proofs.completion.Lts as lts
+use Rattle.search.proofs.link_cost.Reads as link-cost-reads
+use Rattle.search.proofs.states.extend.Reads as extend-reads
+use Rattle.search.proofs.trail.reordered.Reads as reordered-reads
 
-array-share-prefix-tails : tie.Need-array-share-prefix-tails
-array-share-prefix-tails c = search needs
+-- src/lib.rt:129:9
+reordered-requires : tie.Need-reordered-requires
+reordered-requires c κs = search needs
 
-slice-aggregate-add-all : tie.Need-slice-aggregate-add-all
-slice-aggregate-add-all c =
-    let s = c .before .before .before .before in
-    let l : length (s .args .t7) ≡ 8 = search needs in
-    omega (arith, length-take (s .args .n) (s .args .t7), s .pre .0)
+-- src/lib.rt:132:5
+extend-requires : tie.Need-extend-requires
+extend-requires c κs =
+    let s = c .before .before .before .before .before .before .before .before .before in
+    let o = c .before .before .before .before .before .reordered in
+    let h = o .ensures in
+    let ready = s .pre .2 in
+    let depth = s .pre .1 in
+    let lt : length (o .result .tails) ≡ 8 = search needs in
+    let lh : length (o .result .heads) ≡ 8 = search needs in
+    (h .within, s .pre .0, ready .room, ready .metric, ready .certified, h .inside _ (s .pre .3), trail-kept (s .pre .4) (o .result .tails) (o .result .heads) lt lh _ (h .reached) (omega arith) (h .kept))
 
-array-share-prefix-heads : tie.Need-array-share-prefix-heads
-array-share-prefix-heads c = search needs
-
-slice-aggregate-add-all-2 : tie.Need-slice-aggregate-add-all-2
-slice-aggregate-add-all-2 c =
-    let s = c .before .before .before .before .before in
-    let l : length (s .args .t8) ≡ 8 = search needs in
-    omega (arith, length-take (s .args .n) (s .args .t8), s .pre .0)
-
-add-all-requires : tie.Need-add-all-requires
-add-all-requires c κs =
-    let s = c .before .before .before .before .before in
-    let ready = s .pre .1 in
-    let inside = s .pre .2 in
-    let lt : length (s .args .t7) ≡ 8 = search needs in
-    let lh : length (s .args .t8) ≡ 8 = search needs in (
-      ready .metric,
-      ready .certified,
-      omega (arith, length-take (s .args .n) (s .args .t7), length-take (s .args .n) (s .args .t8), s .pre .0),
-      omega (arith, length-take (s .args .n) (s .args .t7), s .pre .0, ready .room),
-      all-in (s .args .vs .now) (s .args .t7) (s .args .n) (λ q l. inside q l .0),
-      all-in (s .args .vs .now) (s .args .t8) (s .args .n) (λ q l. inside q l .1),
-    )
-
+-- src/lib.rt:135:21
 link-cost-requires : tie.Need-link-cost-requires
 link-cost-requires c κs =
-    let s = c .before .before .before .before .before .before in
-    (s .pre .0, inside-short (s .args .d .now) (s .args .vs .now) (s .pre .1 .metric) (s .args .n) (s .args .t7) (s .args .t8) (s .pre .2))
+    let s = c .before .before .before .before .before .before .before .before .before .before in
+    let few = s .pre .0 in
+    (omega arith, inside-short (s .args .d .now) (s .args .vs .now) (s .pre .2 .metric) (s .args .n) (s .args .tails) (s .args .heads) (s .pre .3))
 
+-- src/lib.rt:135:5
 add-result : tie.Need-add-result
-add-result c =
-    let s = c .before .before .before .before .before .before .before in
-    let lt : length (s .args .t7) ≡ 8 = search needs in
-    let lh : length (s .args .t8) ≡ 8 = s .good .1 .1 .1 .1 .1 .1 .1 .0 .1 .0 .1 in
-    let l = sum-small (s .pre .1) (s .args .n) (s .pre .0) (s .args .t7) (s .args .t8) lt lh (s .pre .2) (c .before .add-all .ensures .0) refl (c .link-cost .ensures .1) in
-    search needs
+add-result c = search needs
 
+-- src/lib.rt:135:53
+mul-result : tie.Need-mul-result
+mul-result c = search needs
+
+-- src/lib.rt:135:53
+element-copy-out-result : tie.Need-element-copy-out-result
+element-copy-out-result c = search needs
+
+-- src/lib.rt:135:5
 add-result-2 : tie.Need-add-result-2
 add-result-2 c =
-    let s = c .before .before .before .before .before .before .before in
-    let lt : length (s .args .t7) ≡ 8 = search needs in
-    let lh : length (s .args .t8) ≡ 8 = s .good .1 .1 .1 .1 .1 .1 .1 .0 .1 .0 .1 in
-    let l = sum-small (s .pre .1) (s .args .n) (s .pre .0) (s .args .t7) (s .args .t8) lt lh (s .pre .2) (c .before .add-all .ensures .0) refl (c .link-cost .ensures .1) in
+    let s = c .before .before .before .before .before .before .before .before .before .before .before .before in
+    let o = c .before .before .before .before .before .before .before .before .reordered in
+    let few = s .pre .0 in
+    let lt : length (s .args .tails) ≡ 8 = s .good .1 .1 .1 .1 .1 .1 .1 .1 .1 .0 .1 .0 .1 in
+    let lh : length (s .args .heads) ≡ 8 = s .good .1 .1 .1 .1 .1 .1 .1 .1 .1 .1 .0 .1 .0 .1 in
+    let c0 = last-cost (s .pre .2) (s .args .n) few (s .args .tails) (s .args .heads) lt lh (s .pre .3) (o .result) (o .ensures) (c .before .before .extend .ensures) in
+    let l = sum-small (s .pre .2) (s .args .n) (omega arith) (s .args .tails) (s .args .heads) lt lh (s .pre .3) refl c0 (c .before .link-cost .ensures .1) in
     search needs
 
+-- src/lib.rt:110:1
 returns : tie.Need-returns
 returns c =
-    let s = c .before .before .before .before .before .before .before in
-    let lt : length (s .args .t7) ≡ 8 = search needs in
-    let lh : length (s .args .t8) ≡ 8 = s .good .1 .1 .1 .1 .1 .1 .1 .0 .1 .0 .1 in
-    completion-made (s .pre .1) (s .args .n) (s .pre .0) (s .args .t7) (s .args .t8) lt lh (s .pre .2) (c .before .add-all .ensures .0) refl (c .link-cost .ensures .0)
+    let s = c .before .before .before .before .before .before .before .before .before .before .before .before in
+    let o = c .before .before .before .before .before .before .before .before .reordered in
+    let few = s .pre .0 in
+    let lt : length (s .args .tails) ≡ 8 = s .good .1 .1 .1 .1 .1 .1 .1 .1 .1 .0 .1 .0 .1 in
+    let lh : length (s .args .heads) ≡ 8 = s .good .1 .1 .1 .1 .1 .1 .1 .1 .1 .1 .0 .1 .0 .1 in
+    let c0 = last-cost (s .pre .2) (s .args .n) few (s .args .tails) (s .args .heads) lt lh (s .pre .3) (o .result) (o .ensures) (c .before .before .extend .ensures) in
+    (completion-made (s .pre .2) (s .args .n) (omega arith) (s .args .tails) (s .args .heads) lt lh (s .pre .3) refl c0 (c .before .link-cost .ensures .0), c .before .before .extend .ensures)
 
 pub completion-spec : {M : Type 1} → statement M
 completion-spec =
     tie.close
     (tie.spec
-    array-share-prefix-tails
-    slice-aggregate-add-all
-    array-share-prefix-heads
-    slice-aggregate-add-all-2
-    add-all-requires
+    reordered-requires
+    extend-requires
     link-cost-requires
     add-result
+    mul-result
+    element-copy-out-result
     add-result-2
     returns)

@@ -1,4 +1,4 @@
--- Each way out is one of the three ways to keep the better. Assumes nothing.
+-- Each way out is one of the three ways to keep the better; the trail is that of the links that were balanced, or is as it was.
 use mathlib.Core.Path.{refl}
 use mathlib.Core.Logic.{inl, inr}
 use Prim.Native.Nat.{_+_, _≤_}
@@ -7,39 +7,61 @@ use Rattle.search.specs.Laws.Costs.{inside-short, inside-reducible}
 use borrow.Author.Needs.{needs}
 use Rattle.search.proofs.consider.Statement.{statement}
 use Rattle.search.proofs.consider.Tie as tie
+use Rattle.search.proofs.consider.Reads as reads
+use Rattle.search.proofs.consider.Lts as lts
+use Rattle.search.proofs.completion.Reads as completion-reads
+use Rattle.search.proofs.reduced_sum.Reads as reduced-sum-reads
 
+-- src/lib.rt:161:17
 add-bound : tie.Need-add-bound
 add-bound c =
     let s = c .before in
+    let e = s .pre .4 in
     let l : s .args .required-cost + s .args .cost ≤ 3000000000000 = omega (arith, s .pre .1 .cheap, s .pre .1 .room, s .pre .1 .certified .numbers .cheap) in
     search needs
 
+-- src/lib.rt:161:40
 reduced-sum-requires : tie.Need-reduced-sum-requires
 reduced-sum-requires c κs =
-    let s = c .before in (
-      s .pre .0,
+    let s = c .before in
+    let few = s .pre .0 in (
+      omega arith,
       inside-short (s .args .d .now) (s .args .vs .now) (s .pre .1 .metric) (s .args .n) (s .args .tails) (s .args .heads) (s .pre .3),
       inside-reducible (s .args .d .now) (s .args .vs .now) (s .pre .1 .metric) (s .args .n) (s .args .tails) (s .args .heads) (s .pre .3) (s .args .u .now) (s .pre .2),
     )
 
+-- src/lib.rt:161:17
 add-bound-2 : tie.Need-add-bound-2
 add-bound-2 c =
     let s = c .before .before in
+    let e = s .pre .4 in
     let l : s .args .required-cost + s .args .cost ≤ 3000000000000 = omega (arith, s .pre .1 .cheap, s .pre .1 .room, s .pre .1 .certified .numbers .cheap) in
     let m = c .reduced-sum .ensures .1 in
     search needs
 
+-- src/lib.rt:163:13
 completion-requires : tie.Need-completion-requires
-completion-requires c κs = let s = c .before .before .before in (s .pre .0, s .pre .1, s .pre .3)
+completion-requires c κs = let s = c .before .before .before .before .before .before .before .before in (s .pre .0, s .pre .0, s .pre .1, s .pre .3, s .pre .5)
 
+-- src/lib.rt:179:13
 returns : tie.Need-returns
-returns c = inr (inr (c .before .completion .ensures, omega (arith, c .before .completion .ensures), refl))
+returns c =
+    let h = c .before .completion .ensures in
+    (inr (inr (h .0, omega (arith, h .0), refl)), h .1)
 
+-- src/lib.rt:139:1
 returns-2 : tie.Need-returns-2
-returns-2 c = inr (inl (refl, omega (arith, c .before .completion .ensures)))
+returns-2 c =
+    let h = c .before .completion .ensures in
+    (inr (inl (refl, omega (arith, h .0))), h .1)
 
+-- src/lib.rt:139:1
 returns-3 : tie.Need-returns-3
-returns-3 c = inl (refl, c .before .reduced-sum .result, c .before .reduced-sum .ensures .0, omega arith)
+returns-3 c =
+    let s = c .before .before .before in
+    let e = s .pre .4 in
+    let r = c .before .reduced-sum in
+    (inl (refl, r .result, r .ensures .0, omega arith), record { same-base = refl; trail = s .pre .5 })
 
 pub consider-spec : {M : Type 1} → statement M
 consider-spec =

@@ -1,42 +1,55 @@
--- The ends picked are those of the choice's links. Assumes nothing.
+-- The ends picked are those of the choice's links.
 use mathlib.Core.Path.{_≡_, subst}
 use mathlib.Core.List.{List}
 use Prim.Native.Nat.{_-_}
 use native.Mathlib.Omega.{arith}
 use lib.ListN.{length}
 use Rattle.postman.specs.Link.{Link}
-use Rattle.search.specs.Contracts.{stateFrom, Kept}
+use Rattle.search.specs.Contracts.{Kept}
+use Rattle.search.specs.States.{baseIn}
 use Rattle.search.specs.Laws.Links.{links-chosen}
 use Rattle.search.specs.Laws.Completion.{chosen-inside}
 use borrow.Author.Needs.{needs}
 use Rattle.search.proofs.turn.Statement.{statement}
 use Rattle.search.proofs.turn.Tie as tie
+use Rattle.search.proofs.turn.Reads as reads
+use Rattle.search.proofs.turn.Lts as lts
+use Rattle.search.proofs.consider.Reads as consider-reads
+use Rattle.search.proofs.picked.Reads as picked-reads
 
+-- src/lib.rt:213:9
 picked-requires : tie.Need-picked-requires
 picked-requires c κs = search needs
 
+-- src/lib.rt:214:9
 picked-requires-2 : tie.Need-picked-requires-2
 picked-requires-2 c κs = search needs
 
+-- src/lib.rt:229:9
 sub-consider : tie.Need-sub-consider
 sub-consider c = search needs
 
+-- src/lib.rt:215:5
 consider-requires : tie.Need-consider-requires
 consider-requires c κs =
-    let s = c .before .before .before in
+    let s = c .before .before .before .before .before .before .before .before in
     let f = s .pre .0 .few in
-    (omega arith, s .pre .1, s .pre .2, chosen-inside (s .pre .0) (c .before .picked .result) (c .picked2 .result) (c .before .picked .ensures) (c .picked2 .ensures))
+    let t = c .before .before .before .before .before .before .picked in
+    let h = c .before .before .before .before .before .picked2 in
+    (omega arith, s .pre .1, s .pre .2, chosen-inside (s .pre .0) (t .result) (h .result) (t .ensures) (h .ensures), s .pre .3, s .pre .4)
 
+-- src/lib.rt:190:1
 returns : tie.Need-returns
 returns c =
-    let s = c .before .before .before .before in
+    let s = c .before .before .before .before .before .before .before .before .before in
     let f = s .pre .0 .few in
-    let ts = c .before .before .picked .result in
-    let hs = c .before .picked2 .result in
-    let lt : length ts ≡ 8 = search needs in
-    let lh : length hs ≡ 8 = search needs in
-    let e = links-chosen (s .args .start .now) (s .args .tails .now) (s .args .heads .now) (s .args .k) (s .args .choice) ts hs (omega arith) (omega arith) (c .before .before .picked .ensures) (c .before .picked2 .ensures) in
-    subst (λ (t : List Link). Kept (s .args .d .now) (s .args .vs .now) (stateFrom (s .args .amounts .now) (s .args .potentials .now) (s .args .cost) (s .args .count)) (s .args .u .now) (s .args .required-cost) (s .args .k - 1) t (s .args .best) (c .consider .result)) e (c .consider .ensures)
+    let t = c .before .before .before .before .before .before .before .picked in
+    let h = c .before .before .before .before .before .before .picked2 in
+    let lt : length (t .result) ≡ 8 = search needs in
+    let lh : length (h .result) ≡ 8 = search needs in
+    let e = links-chosen (s .args .start .now) (s .args .tails .now) (s .args .heads .now) (s .args .k) (s .args .choice) (t .result) (h .result) (omega arith) (omega arith) (t .ensures) (h .ensures) in
+    let b = baseIn (s .args .amounts .now) (s .args .potentials .now) (s .args .costs .now) (s .args .count) in
+    (subst (λ (l : List Link). Kept (s .args .d .now) (s .args .vs .now) b (s .args .u .now) (s .args .required-cost) (s .args .k - 1) l (s .args .best) (c .consider .result)) e (c .consider .ensures .0), c .consider .ensures .1)
 
 pub turn-spec : {M : Type 1} → statement M
 turn-spec =

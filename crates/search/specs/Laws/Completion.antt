@@ -10,9 +10,9 @@ use Rattle.postman.specs.Link.{Link}
 use Rattle.balance.specs.Step.{State, cell, addAll, arcsOf}
 use Rattle.balance.specs.Invariant.{AllIn}
 use Rattle.search.specs.Links.{linksIn, Inside, placeOf, Choosable}
-use Rattle.search.specs.Costs.{tableCost, completionIn, Ready}
+use Rattle.search.specs.Costs.{tableCost, completionIn, Joining, Ready}
 use Rattle.search.specs.Laws.Links.{links-length}
-use Rattle.search.specs.Laws.Costs.{Joining, all-certified}
+use Rattle.search.specs.Laws.Costs.{all-certified}
 
 pub all-in : (vs ts : List ℕ) (n : ℕ) → ((q : ℕ) → q < n → List·Memᴰ (getD ts q 0) vs) → AllIn vs (take n ts)
 all-in vs ts n h k l =

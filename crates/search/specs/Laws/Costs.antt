@@ -1,5 +1,5 @@
 -- For a prepared plan, the costs by the table are the plan's, and the bound of an arborescence is at most its completion cost.
-use mathlib.Core.Path.{_≡_, refl, sym, ap, ap₂, _∙_, subst⁻¹}
+use mathlib.Core.Path.{_≡_, refl, sym, ap, ap₂, _∙_, subst, subst⁻¹}
 use mathlib.Core.List.{List, [], _∷_, map, List·Memᴰ, List·Memᴰ·head, List·Memᴰ·tail, List·Memᴰ·not-nil}
 use Prim.Native.Nat.{ℕ, suc, _+_, _*_, _≤_}
 use native.Mathlib.Nat.{suc-mul, mul-le-mul-right}
@@ -13,7 +13,7 @@ use Rattle.postman.specs.Plan.{Arc, Plan, isRequiredArc, requiredArcs, WellForm
 use Rattle.postman.specs.Required.{required, requiredCost}
 use Rattle.postman.specs.Distance.{distance}
 use Rattle.postman.specs.Link.{Link}
-use Rattle.postman.specs.Balancing.{linkCost, completionCost}
+use Rattle.postman.specs.Balancing.{linkCost, leastBalancing, completionCost}
 use Rattle.postman.specs.LagrangianBound.{reducedCost, reducedSum}
 use Rattle.postman.specs.Laws.Tests.{cond-ind}
 use Rattle.postman.specs.Laws.Distance.{InPlan, bounded}
@@ -27,13 +27,11 @@ use Rattle.balance.specs.Laws.Step.{add-certified}
 use Rattle.balance.specs.Laws.Plan.{table-metric, balance-links, balance-certified, balance-least, balance-room}
 use Rattle.arborescence.specs.Laws.Lists.{map-cong}
 use Rattle.search.specs.Links.{Inside}
-use Rattle.search.specs.Costs.{tableCost, reducedAt, reducedIn, completionIn, Ready, Feasible, Short, AllReducible}
+use Rattle.search.specs.Costs.{tableCost, reducedAt, reducedIn, completionIn, Joining, Ready, Feasible, Short, AllReducible}
 use Rattle.search.specs.Prepared.{Prepared}
+use Rattle.search.specs.Laws.Orderless.{least-same}
 
 -- ---- links added keep the state certified, and its cost small
-
-abbrev pub Joining : List ℕ → List Link → Type 0
-Joining vs t = (l : Link) → List·Memᴰ l t → List·Memᴰ (l .tail) vs × List·Memᴰ (l .head) vs
 
 pub all-certified : (d : ℕ → ℕ → ℕ) (vs : List ℕ) → Metric d vs → (s : State) (t : List Link) → Certified d vs s → Joining vs t → s .count + length t ≤ limit
     → Certified d vs (addAll d vs s t) × (addAll d vs s t .count ≡ s .count + length t)
@@ -98,6 +96,12 @@ module _ {p : Plan} {table : List (List ℕ)} {vs start source tails heads : Lis
   base-certified : Certified (cell table) (required p) (balance (cell table) p [])
   base-certified = balance-certified p (h .plannable .well-formed) (h .plannable .connected) (cell table) agrees [] nothing (omega arith)
 
+  state-same : (t : List Link) → addAll (cell table) vs base t ≡ balance (cell table) p t
+  state-same t = ap₂ (λ (v : List ℕ) (s : State). addAll (cell table) v s t) (h .vertices) (h .base-is) ∙ sym (balance-links (cell table) p t)
+
+  added-least : (t : List Link) → Joins p t → length t ≤ 100 → addAll (cell table) vs base t .cost ≡ leastBalancing p t
+  added-least t j l = ap (λ (s : State). s .cost) (state-same t) ∙ balance-least p (h .plannable .well-formed) (h .plannable .connected) (cell table) agrees t j l
+
   pub ready : Ready table vs base r
   ready = record {
     metric = subst⁻¹ (Metric (cell table)) (h .vertices) metric;
@@ -107,6 +111,9 @@ module _ {p : Plan} {table : List (List ℕ)} {vs start source tails heads : Lis
         let e = ap (λ (s : State). s .count) (h .base-is) in
         omega arith);
     cheap = (let a = required-small p (h .plannable .well-formed) in let e = h .required-cost in omega arith);
+    orderless = λ t s jt js lt ls same. (
+        let joins : (t : List Link) → Joining vs t → Joins p t = λ t j. subst (λ (v : List ℕ). Joining v t) (h .vertices) j in
+        added-least t (joins t jt) (omega arith) ∙ least-same p in-plan t s same (joins t jt) (joins s js) ∙ sym (added-least s (joins s js) (omega arith)));
   }
 
   reduced-same : (i j : ℕ) → List·Memᴰ i (required p) → List·Memᴰ j (required p) → reducedAt table u i j ≡ reducedCost p (λ i. getD u i (pos 0)) i j
@@ -122,15 +129,11 @@ module _ {p : Plan} {table : List (List ℕ)} {vs start source tails heads : Lis
     unfolding tableCost linkCost
     cost-same = ap sumOf (map-cong (λ l. cell table (l .tail) (l .head)) (λ l. distance p (l .tail) (l .head)) t (λ l m. agrees (l .tail) (l .head) (joins l m .0) (joins l m .1)))
 
-    state-same : addAll (cell table) vs base t ≡ balance (cell table) p t
-    state-same = ap₂ (λ (v : List ℕ) (s : State). addAll (cell table) v s t) (h .vertices) (h .base-is) ∙ sym (balance-links (cell table) p t)
-
     -- THE COST IS THE COMPLETION COST
     pub completion-is : completionIn table vs base r t ≡ completionCost p t
     unfolding completionIn completionCost
     completion-is =
-        let a = balance-least p (h .plannable .well-formed) (h .plannable .connected) (cell table) agrees t joins short in
-        let b = ap (λ (s : State). s .cost) state-same in
+        let a = added-least t joins short in
         let c = cost-same in
         let d = h .required-cost in
         omega arith

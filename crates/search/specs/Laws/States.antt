@@ -4,7 +4,8 @@ use mathlib.Core.Logic.{_⊎_, inl, inr}
 use mathlib.Core.List.{List, [], _∷_, _++_, List·Memᴰ}
 use Prim.Native.Nat.{ℕ, zero, suc, _+_, _≤_, _<_}
 use native.Mathlib.Omega.{arith}
-use lib.ListN.{length, getD, set, length-set}
+use native.Mathlib.Numerals.{add-one}
+use lib.ListN.{length, getD, set, length-set, replicate}
 use lib.Dec.{leb, leb→le, nleb→lt}
 use lib.Seq.{getD-set-same, getD-set-other}
 use Rattle.postman.specs.Link.{Link}
@@ -12,9 +13,12 @@ use Rattle.postman.specs.Laws.Tests.{test}
 use Rattle.balance.specs.Step.{State, cell, add, addAll, arcsOf}
 use Rattle.balance.specs.Invariant.{Metric, Certified}
 use Rattle.search.specs.Links.{linksIn, Inside}
+use Rattle.search.specs.Costs.{Ready}
+use Rattle.search.specs.declared.trail.Ordered.{Ordered}
+use Rattle.search.specs.Trail.{BeginsAs, IsOrdered}
 use Rattle.search.specs.States.{stateAt, baseIn, IsStep, IsTrail, IsExtended}
 use Rattle.search.specs.Laws.Links.{linkHere, links-more, links-length}
-use Rattle.search.specs.Laws.Costs.{Joining, all-certified}
+use Rattle.search.specs.Laws.Costs.{all-certified}
 use Rattle.search.specs.Laws.Completion.{inside-joins}
 
 -- ---- one step
@@ -119,8 +123,65 @@ module _ (table : List (List ℕ)) (vs : List ℕ) (count : ℕ) (tails heads : 
 
           longer : IsTrail table vs count tails heads amounts′ potentials′ costs′ (q + 1)
           longer = record {
+            tails-size = old .tails-size;
+            heads-size = old .heads-size;
             rows = ap length (i .amounts-are) ∙ length-set amounts (q + 1) (s .amounts) ∙ old .rows;
             potential-rows = ap length (i .potentials-are) ∙ length-set potentials (q + 1) (s .potentials) ∙ old .potential-rows;
             cost-size = ap length (i .costs-are) ∙ length-set costs (q + 1) (s .cost) ∙ old .cost-size;
             states = λ j b. state j (cases j b) ∙ ap (λ (s : State). addAll d vs s (linksIn j tails heads)) (sym base);
           }
+
+-- ---- a trail taken up again
+
+links-agree : (n : ℕ) (ts hs ts′ hs′ : List ℕ) → length ts ≡ 8 → length hs ≡ 8 → length ts′ ≡ 8 → length hs′ ≡ 8 → n ≤ 8
+    → ((q : ℕ) → q < n → (getD ts q 0 ≡ getD ts′ q 0) × (getD hs q 0 ≡ getD hs′ q 0)) → linksIn n ts hs ≡ linksIn n ts′ hs′
+unfolding arcsOf
+links-agree zero ts hs ts′ hs′ lt lh lt′ lh′ l e = refl
+links-agree (suc n) ts hs ts′ hs′ lt lh lt′ lh′ l e =
+    let here = e n (omega arith) in
+    let before = links-agree n ts hs ts′ hs′ lt lh lt′ lh′ (omega arith) (λ q b. e q (omega arith)) in
+    ap (λ m. linksIn m ts hs) (sym (add-one n)) ∙ links-more n ts hs (omega arith) (omega arith)
+    ∙ ap₂ (λ (t : List Link) (l : Link). t ++ l ∷ []) before (ap₂ (λ (x y : ℕ). record { tail = x; head = y }) (here .0) (here .1))
+    ∙ sym (ap (λ m. linksIn m ts′ hs′) (sym (add-one n)) ∙ links-more n ts′ hs′ (omega arith) (omega arith))
+
+-- the states of the links that are kept are those of the old trail
+pub trail-kept : {table : List (List ℕ)} {vs : List ℕ} {count : ℕ} {old-tails old-heads : List ℕ} {amounts potentials : List (List ℕ)} {costs : List ℕ} {depth : ℕ}
+    → IsTrail table vs count old-tails old-heads amounts potentials costs depth → (ts hs : List ℕ) → length ts ≡ 8 → length hs ≡ 8 → (kept : ℕ) → kept ≤ depth → depth ≤ 8
+    → BeginsAs old-tails old-heads kept ts hs → IsTrail table vs count ts hs amounts potentials costs kept
+trail-kept {table} {vs} {count} {old-tails} {old-heads} {amounts} {potentials} {costs} old ts hs lt lh kept l few b = record {
+  tails-size = lt;
+  heads-size = lh;
+  rows = old .rows;
+  potential-rows = old .potential-rows;
+  cost-size = old .cost-size;
+  states = λ j m. old .states j (omega arith) ∙ ap (addAll (cell table) vs (baseIn amounts potentials costs count))
+      (sym (links-agree j ts hs old-tails old-heads lt lh (old .tails-size) (old .heads-size) (omega arith) (λ q n. b q (omega arith))));
+}
+
+-- the last state has the cost of the links, whatever their order
+pub last-cost : {table : List (List ℕ)} {vs : List ℕ} {count r : ℕ} {amounts potentials amounts′ potentials′ : List (List ℕ)} {costs costs′ : List ℕ} {depth : ℕ} {old-tails old-heads : List ℕ}
+    → Ready table vs (baseIn amounts potentials costs count) r → (n : ℕ) → n ≤ 7 → (tails heads : List ℕ) → length tails ≡ 8 → length heads ≡ 8 → Inside vs n tails heads
+    → (o : Ordered) → IsOrdered old-tails old-heads depth tails heads n o → IsExtended table vs count (o .tails) (o .heads) amounts potentials costs amounts′ potentials′ costs′ n
+    → getD costs′ n 0 ≡ addAll (cell table) vs (baseIn amounts potentials costs count) (linksIn n tails heads) .cost
+last-cost {table} {vs} ready n few tails heads lt lh inside o h x =
+    let t = linksIn n tails heads in
+    let s = linksIn n (o .tails) (o .heads) in
+    let a = links-length n tails heads (omega arith) (omega arith) in
+    let tl = x .trail .tails-size in
+    let hl = x .trail .heads-size in
+    let b = links-length n (o .tails) (o .heads) (omega arith) (omega arith) in
+    ap (λ (s : State). s .cost) (x .trail .states n (omega arith) ∙ ap (λ (base : State). addAll (cell table) vs base s) (x .same-base))
+    ∙ sym (ready .orderless t s (inside-joins vs n tails heads inside) (inside-joins vs n (o .tails) (o .heads) (h .inside vs inside)) (omega arith) (omega arith) (h .same))
+
+-- before the first links there is no trail
+pub no-trail : (table : List (List ℕ)) (vs : List ℕ) (count : ℕ) (tails heads f u : List ℕ) (c : ℕ) → length tails ≡ 8 → length heads ≡ 8
+    → IsTrail table vs count tails heads (replicate 8 f) (replicate 8 u) (replicate 8 c) 0
+unfolding addAll arcsOf
+no-trail table vs count tails heads f u c lt lh = record {
+  tails-size = lt;
+  heads-size = lh;
+  rows = refl;
+  potential-rows = refl;
+  cost-size = refl;
+  states = λ j l. (let e : j ≡ 0 = omega arith in rw e (ap (λ n. record { amounts = f; potentials = u; cost = c; count = n }) (omega arith)));
+}
