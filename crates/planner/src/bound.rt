@@ -12,7 +12,7 @@ ghost use Rattle.arborescence.specs.PairCosts.{multipliersOf};
 ghost use Rattle.planner.specs.Priced.{IsPriced};
 
 // "the larger of L(0) and L(u)"
-pub fn larger(a: i64, b: i64) -> i64
+pub(crate) fn larger(a: i64, b: i64) -> i64
     ensures { λ r. ⌜ r ≡ maxℤ a b ⌝ }
 {
     if a <= b { b } else { a }
@@ -28,7 +28,7 @@ fn total(required_cost: u64, price: u64, cheapest: i64) -> i64
 }
 
 // "L(u) = R + (sum of u(i) × D(i)) + A(u)."
-pub fn lagrangian(
+pub(crate) fn lagrangian(
     plan: Plan,
     table: &[[u32; 64]; 64],
     u: &[i64; 64],
@@ -46,7 +46,7 @@ pub fn lagrangian(
 }
 
 // The floor: "the cost if whole, else the larger of L(0) and L(u)".
-pub fn floor_of(
+pub(crate) fn floor_of(
     plan: Plan,
     table: &[[u32; 64]; 64],
     u: &[i64; 64],

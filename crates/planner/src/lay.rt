@@ -13,7 +13,7 @@ ghost use Rattle.planner.specs.Tour.{amountsOf};
 ghost use Rattle.planner.specs.Prepared.{IsBase, IsTree};
 
 // Writes the drive of the arborescence with these links: they are added to the state of the required arcs, and the amounts are made direct.
-pub fn lay(
+pub(crate) fn lay(
     plan: Plan,
     table: &[[u32; 64]; 64],
     vs: &[u8],

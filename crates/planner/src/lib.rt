@@ -1,9 +1,9 @@
 // The plan call.
 pub mod call; // the plan call and the short call
-pub mod bound; // L(u)
-pub mod lay; // the drive of a tree
-pub mod prepare; // the state of the required arcs
-pub mod solve; // the answer of a plan that is not refused
+mod bound; // L(u)
+mod lay; // the drive of a tree
+mod prepare; // the state of the required arcs
+mod solve; // the answer of a plan that is not refused
 
 ghost use mathlib.Core.Path.{_≡_};
 ghost use Rattle.planner.specs.Refusals.{refusalNumber};

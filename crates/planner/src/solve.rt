@@ -22,7 +22,7 @@ ghost use Rattle.planner.specs.Prepared.{IsKnown, IsBase};
 ghost use Rattle.planner.specs.Contract.{IsPlanned};
 
 // The trees are tried, the drive of the best is written, and the floor is computed, from the state of the required arcs and the multipliers.
-pub fn finish(
+pub(crate) fn finish(
     plan: Plan,
     table: &[[u32; 64]; 64],
     vs: &[u8],
@@ -89,7 +89,7 @@ pub fn finish(
 }
 
 // The state and the multipliers first, over the required vertices.
-pub fn solve(
+pub(crate) fn solve(
     plan: Plan,
     table: &[[u32; 64]; 64],
     vs: &[u8],
