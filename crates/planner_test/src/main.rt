@@ -107,29 +107,27 @@ fn sheet_after(sheet: &[u16]) {
 
 // ---- the calls
 
-fn call(label: &[u8], file: &[u8], budget: u64) {
+fn call_on(label: &[u8], file: &[u8], budget: u64, sheet: &mut [u16]) {
     text(label);
-    let mut sheet = [65535u16; 17266];
-    let r = plan_call(file, budget, &mut sheet);
+    let r = plan_call(file, budget, sheet);
     outcome(r);
-    sheet_after(&sheet);
+    sheet_after(sheet);
+}
+
+fn call(label: &[u8], file: &[u8], budget: u64) {
+    let mut sheet = [65535u16; 17266];
+    call_on(label, file, budget, &mut sheet);
 }
 
 // On a sheet that is one place short, and on one that is longer than asked.
 fn call_short(label: &[u8], file: &[u8], budget: u64) {
-    text(label);
     let mut sheet = [65535u16; 17265];
-    let r = plan_call(file, budget, &mut sheet);
-    outcome(r);
-    sheet_after(&sheet);
+    call_on(label, file, budget, &mut sheet);
 }
 
 fn call_long(label: &[u8], file: &[u8], budget: u64) {
-    text(label);
     let mut sheet = [65535u16; 17300];
-    let r = plan_call(file, budget, &mut sheet);
-    outcome(r);
-    sheet_after(&sheet);
+    call_on(label, file, budget, &mut sheet);
 }
 
 fn short(label: &[u8], file: &[u8]) {
