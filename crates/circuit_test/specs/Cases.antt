@@ -2,10 +2,10 @@
 use mathlib.Core.Path.{_≡_, refl, sym, ap, ap₂, _∙_}
 use mathlib.Core.Bool.{cond}
 use mathlib.Core.List.{List, [], _∷_, map, List·Memᴰ·head, List·Memᴰ·tail}
-use Prim.Native.Nat.{ℕ, zero, suc, _+_, _-_, _%_, _≤_, _<_}
+use Prim.Native.Nat.{ℕ, zero, suc, _+_, _-_, _*_, _/_, _%_, _≤_, _<_}
 use native.Mathlib.Decide.{decLe}
 use native.Mathlib.Omega.{arith}
-use lib.ListN.{length, set, replicate, length-replicate, getD-replicate, length-set}
+use lib.ListN.{length, getD, set, replicate, length-replicate, getD-replicate, length-set}
 use lib.Seq.{getD-set-same, getD-set-other}
 use lib.Dec.{ltb}
 use borrow.Author.Tests.{lt-ltb, le-ltb}
@@ -22,6 +22,13 @@ may i j c = record { tail = i; head = j; standing = 0; cost = c }
 
 abbrev must : ℕ → ℕ → ℕ → Arc
 must i j c = record { tail = i; head = j; standing = 1; cost = c }
+
+-- Four numbers for each arc: tail, head, standing, cost.
+abbrev pub arcIn : List ℕ → ℕ → Arc
+arcIn rows k = record { tail = getD rows (k * 4) 0; head = getD rows (k * 4 + 1) 0; standing = getD rows (k * 4 + 2) 0; cost = getD rows (k * 4 + 3) 0 }
+
+unfoldable pub planIn : ℕ → List ℕ → Plan
+planIn n rows = record { n = n; arcs = map (arcIn rows) (below (length rows / 4)) }
 
 -- "A: n 2; 0→1 5 M; 1→0 3."
 unfoldable pub caseA : Plan
@@ -69,7 +76,7 @@ pub runs-long : Runs long [] [] (single 64 190)
 unfolding long below planTest completionTest arborescences linksOf
 runs-long = runs long [] [] 64 190 tt (omega arith) refl tt (List·Memᴰ·head refl)
 
--- ---- the ring, as the code builds it
+-- ---- the records, as the code fills them
 
 ring-low : (k : ℕ) → k < 190 → ring k ≡ must 0 1 7
 ring-low k l = ap (λ b. cond b (must 0 1 7) (may (k - 189) ((k - 188) % 64) 65535)) (lt-ltb k 190 l)
@@ -77,35 +84,31 @@ ring-low k l = ap (λ b. cond b (must 0 1 7) (may (k - 189) ((k - 188) % 64) 655
 ring-high : (k : ℕ) → 190 ≤ k → ring k ≡ may (k - 189) ((k - 188) % 64) 65535
 ring-high k l = ap (λ b. cond b (must 0 1 7) (may (k - 189) ((k - 188) % 64) 65535)) (le-ltb k 190 l)
 
--- The first k records are those of the ring.
-pub record RingTo (arcs : List ArcRecord) (k : ℕ) : Type 0 where
-  pub from : 190 ≤ k
-  pub to : k ≤ 253
+-- The first k records are those of f.
+pub record FilledTo (f : ℕ → Arc) (arcs : List ArcRecord) (k : ℕ) : Type 0 where
+  pub to : k ≤ 256
   pub records : length arcs ≡ 256
-  pub content : (i : ℕ) → i < k → recordAt arcs i ≡ ring i
+  pub content : (i : ℕ) → i < k → recordAt arcs i ≡ f i
 
-pub ring-none : (n : ℕ) → n ≡ 256 → RingTo (replicate n (recordOf (must 0 1 7))) 190
-ring-none n e = record {
-  from = omega arith;
-  to = omega arith;
-  records = length-replicate n (recordOf (must 0 1 7)) ∙ e;
-  content = λ i l. ap arcValue (getD-replicate n i (recordOf (must 0 1 7)) zeroRecord (omega arith)) ∙ sym (ring-low i l);
+pub filled-none : (f : ℕ → Arc) (a : Arc) (n k : ℕ) → n ≡ 256 → k ≤ 256 → ((i : ℕ) → i < k → a ≡ f i) → FilledTo f (replicate n (recordOf a)) k
+filled-none f a n k e l h = record {
+  to = l;
+  records = length-replicate n (recordOf a) ∙ e;
+  content = λ i m. ap arcValue (getD-replicate n i (recordOf a) zeroRecord (omega arith)) ∙ h i m;
 }
 
-pub ring-more : (arcs : List ArcRecord) (k : ℕ) → k < 253 → RingTo arcs k → RingTo (set arcs k (recordOf (may (k - 189) ((k - 188) % 64) 65535))) (k + 1)
-ring-more arcs k l h =
-    let a = recordOf (may (k - 189) ((k - 188) % 64) 65535) in
-    let f = h .from in
+pub filled-more : (f : ℕ → Arc) (arcs : List ArcRecord) (k : ℕ) (a : Arc) → k < 256 → a ≡ f k → FilledTo f arcs k → FilledTo f (set arcs k (recordOf a)) (k + 1)
+filled-more f arcs k a l q h =
+    let r = recordOf a in
     let n = h .records in
     record {
-      from = omega arith;
       to = omega arith;
-      records = length-set arcs k a ∙ h .records;
+      records = length-set arcs k r ∙ h .records;
       content = λ i m. elim (decLe k i) [
         | yes g ↦ (
             let e : i ≡ k = omega arith in
-            ap (λ z. recordAt (set arcs k a) z) e ∙ ap arcValue (getD-set-same arcs k a zeroRecord (omega arith)) ∙ sym (ap ring e ∙ ring-high k f))
-        | no g ↦ ap arcValue (getD-set-other arcs k i a zeroRecord (λ e. omega arith)) ∙ h .content i (omega arith)
+            ap (λ z. recordAt (set arcs k r) z) e ∙ ap arcValue (getD-set-same arcs k r zeroRecord (omega arith)) ∙ q ∙ ap f (sym e))
+        | no g ↦ ap arcValue (getD-set-other arcs k i r zeroRecord (λ e. omega arith)) ∙ h .content i (omega arith)
       ];
     }
 
@@ -114,10 +117,17 @@ unfolding upFrom
 map-cong f g a zero h = refl
 map-cong f g a (suc n) h = ap₂ _∷_ (h a (omega arith) (omega arith)) (map-cong f g (suc a) n (λ i l m. h i (omega arith) (omega arith)))
 
-ring-map : (arcs : List ArcRecord) (n : ℕ) → ((i : ℕ) → i < n → recordAt arcs i ≡ ring i) → map (recordAt arcs) (below n) ≡ map ring (below n)
-unfolding below
-ring-map arcs n h = map-cong (recordAt arcs) ring 0 n (λ i l m. h i (omega arith))
+pub filled-all : (f : ℕ → Arc) (arcs : List ArcRecord) (n m k : ℕ) → m ≤ k → FilledTo f arcs k → planValue (record { n = n; m = m; arcs = arcs }) ≡ record { n = n; arcs = map f (below m) }
+unfolding planValue below
+filled-all f arcs n m k l h = ap (λ z. record { n = n; arcs = z }) (map-cong (recordAt arcs) f 0 m (λ i b c. h .content i (omega arith)))
 
-pub ring-all : (arcs : List ArcRecord) (k : ℕ) → 253 ≤ k → RingTo arcs k → planValue (record { n = 64; m = 253; arcs = arcs }) ≡ long
-unfolding planValue long
-ring-all arcs k l h = ap (λ z. record { n = 64; arcs = z }) (ring-map arcs 253 (λ i m. h .content i (omega arith)))
+-- The ring: its first 190 arcs are alike.
+pub ring-none : (n : ℕ) → n ≡ 256 → FilledTo ring (replicate n (recordOf (must 0 1 7))) 190
+ring-none n e = filled-none ring (must 0 1 7) n 190 e (omega arith) (λ i l. sym (ring-low i l))
+
+pub ring-more : (arcs : List ArcRecord) (k : ℕ) → 190 ≤ k → k < 253 → FilledTo ring arcs k → FilledTo ring (set arcs k (recordOf (may (k - 189) ((k - 188) % 64) 65535))) (k + 1)
+ring-more arcs k f l h = filled-more ring arcs k (may (k - 189) ((k - 188) % 64) 65535) (omega arith) (sym (ring-high k f)) h
+
+pub ring-all : (arcs : List ArcRecord) (k : ℕ) → 253 ≤ k → FilledTo ring arcs k → planValue (record { n = 64; m = 253; arcs = arcs }) ≡ long
+unfolding long
+ring-all arcs k l h = filled-all ring arcs 64 253 k l h

@@ -7,7 +7,7 @@ ghost use Prim.Native.Nat.{_≤_, _<_};
 ghost use lib.ListN.{length};
 ghost use Rattle.plan.specs.Records.{planValue};
 ghost use Rattle.circuit_test.specs.Single.{Runs, single};
-ghost use Rattle.circuit_test.specs.Cases.{caseA, caseB, caseC, loops, long};
+ghost use Rattle.circuit_test.specs.Cases.{planIn, caseA, caseB, caseC, loops, long};
 
 // ---- what is printed
 
@@ -156,124 +156,58 @@ fn report(plan: Plan, places: &[u16], n: usize)
 
 // ---- the plans
 
-fn plan_a() -> Plan
-    ensures { λ r. ⌜ planValue r ≡ caseA ⌝ }
+// Four numbers for each arc: tail, head, standing, cost.
+fn plan_of(n: u8, rows: &[u8]) -> Plan
+    requires { ⌜ length (now rows) ≤ 1024 ⌝ }
+    ensures { λ r. ⌜ planValue r ≡ planIn n (now (rows .entry)) ⌝ }
 {
+    let m = rows.len() / 4;
     let mut arcs = [Arc {
         tail: 0,
         head: 0,
         standing: 0,
         cost: 0,
     }; 256];
-    arcs[0] = Arc {
-        tail: 0,
-        head: 1,
-        standing: 1,
-        cost: 5,
-    };
-    arcs[1] = Arc {
-        tail: 1,
-        head: 0,
-        standing: 0,
-        cost: 3,
-    };
-    Plan { n: 2, m: 2, arcs }
+    let mut k: usize = 0;
+    while k < m {
+        let at = k * 4;
+        arcs[k] = Arc {
+            tail: rows[at],
+            head: rows[at + 1],
+            standing: rows[at + 2],
+            cost: rows[at + 3] as u16,
+        };
+        k += 1;
+    }
+    Plan {
+        n,
+        m: m as u16,
+        arcs,
+    }
+}
+
+fn plan_a() -> Plan
+    ensures { λ r. ⌜ planValue r ≡ caseA ⌝ }
+{
+    plan_of(2, b"\x00\x01\x01\x05\x01\x00\x00\x03")
 }
 
 fn plan_b() -> Plan
     ensures { λ r. ⌜ planValue r ≡ caseB ⌝ }
 {
-    let mut arcs = [Arc {
-        tail: 0,
-        head: 0,
-        standing: 0,
-        cost: 0,
-    }; 256];
-    arcs[0] = Arc {
-        tail: 0,
-        head: 1,
-        standing: 1,
-        cost: 1,
-    };
-    arcs[1] = Arc {
-        tail: 1,
-        head: 0,
-        standing: 0,
-        cost: 1,
-    };
-    arcs[2] = Arc {
-        tail: 2,
-        head: 3,
-        standing: 1,
-        cost: 1,
-    };
-    arcs[3] = Arc {
-        tail: 3,
-        head: 2,
-        standing: 0,
-        cost: 1,
-    };
-    arcs[4] = Arc {
-        tail: 1,
-        head: 2,
-        standing: 0,
-        cost: 10,
-    };
-    arcs[5] = Arc {
-        tail: 3,
-        head: 0,
-        standing: 0,
-        cost: 10,
-    };
-    Plan { n: 4, m: 6, arcs }
+    plan_of(
+        4,
+        b"\x00\x01\x01\x01\x01\x00\x00\x01\x02\x03\x01\x01\x03\x02\x00\x01\x01\x02\x00\x0a\x03\x00\x00\x0a",
+    )
 }
 
 fn plan_c() -> Plan
     ensures { λ r. ⌜ planValue r ≡ caseC ⌝ }
 {
-    let mut arcs = [Arc {
-        tail: 0,
-        head: 0,
-        standing: 1,
-        cost: 1,
-    }; 256];
-    arcs[1] = Arc {
-        tail: 1,
-        head: 1,
-        standing: 1,
-        cost: 1,
-    };
-    arcs[2] = Arc {
-        tail: 2,
-        head: 2,
-        standing: 1,
-        cost: 1,
-    };
-    arcs[3] = Arc {
-        tail: 0,
-        head: 1,
-        standing: 0,
-        cost: 2,
-    };
-    arcs[4] = Arc {
-        tail: 1,
-        head: 2,
-        standing: 0,
-        cost: 2,
-    };
-    arcs[5] = Arc {
-        tail: 2,
-        head: 0,
-        standing: 0,
-        cost: 2,
-    };
-    arcs[6] = Arc {
-        tail: 0,
-        head: 2,
-        standing: 0,
-        cost: 3,
-    };
-    Plan { n: 3, m: 7, arcs }
+    plan_of(
+        3,
+        b"\x00\x00\x01\x01\x01\x01\x01\x01\x02\x02\x01\x01\x00\x01\x00\x02\x01\x02\x00\x02\x02\x00\x00\x02\x00\x02\x00\x03",
+    )
 }
 
 fn plan_loops() -> Plan

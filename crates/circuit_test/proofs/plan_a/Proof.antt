@@ -1,26 +1,19 @@
--- The records are those of the case.
-use mathlib.Core.Path.{refl}
-use Rattle.postman.specs.Lists.{below}
-use Rattle.plan.specs.Records.{planValue}
-use Rattle.circuit_test.specs.Cases.{caseA}
+-- The rows are those of the case.
 use borrow.Author.Needs.{needs}
+use Rattle.postman.specs.Lists.{below}
+use Rattle.circuit_test.specs.Cases.{planIn, caseA}
 use Rattle.circuit_test.proofs.plan_a.Statement.{statement}
 use Rattle.circuit_test.proofs.plan_a.Tie as tie
-use Rattle.circuit_test.proofs.plan_a.Reads as reads
-use Rattle.circuit_test.proofs.plan_a.Lts as lts
 
--- src/main.rt:163:5
-array-set-from-arcs : tie.Need-array-set-from-arcs
-array-set-from-arcs c = search needs
+slice-aggregate-plan-of : tie.Need-slice-aggregate-plan-of
+slice-aggregate-plan-of c = search needs
 
--- src/main.rt:164:5
-array-set-from-arcs-2 : tie.Need-array-set-from-arcs-2
-array-set-from-arcs-2 c = search needs
+plan-of-requires : tie.Need-plan-of-requires
+plan-of-requires c κs = search needs
 
--- src/main.rt:159:1
 returns : tie.Need-returns
-unfolding planValue below caseA
-returns c = refl
+unfolding planIn below caseA
+returns c = c .plan-of .ensures
 
 pub plan-a-spec : {M : Type 1} → statement M
-plan-a-spec = tie.close (tie.spec array-set-from-arcs array-set-from-arcs-2 returns)
+plan-a-spec = tie.close (tie.spec slice-aggregate-plan-of plan-of-requires returns)

@@ -1,7 +1,7 @@
 -- The records up to k are those of the ring.
-use Prim.Native.Nat.{_-_}
+use Prim.Native.Nat.{_-_, _≤_}
 use mathlib.Core.Path.{refl}
-use Rattle.circuit_test.specs.Cases.{RingTo, ring-none, ring-more, ring-all}
+use Rattle.circuit_test.specs.Cases.{ring, FilledTo, ring-none, ring-more, ring-all}
 use borrow.Author.Needs.{needs}
 use Rattle.circuit_test.proofs.plan_long.Statement.{statement}
 use Rattle.circuit_test.proofs.plan_long.Tie as tie
@@ -9,14 +9,14 @@ use Rattle.circuit_test.proofs.plan_long.Reads as reads
 use Rattle.circuit_test.proofs.plan_long.Lts as lts
 
 abbrev Inv-loop : tie.InvT-loop
-Inv-loop arcs₀ k₀ arcs k = RingTo arcs k
+Inv-loop arcs₀ k₀ arcs k = (190 ≤ k) × (k ≤ 253) × FilledTo ring arcs k
 
 abbrev μ-loop : tie.MeasureT-loop
 μ-loop arcs₀ k₀ arcs k = 253 - k
 
 -- src/main.rt:206:5
 loop-holds : tie.Need-loop-holds Inv-loop μ-loop
-loop-holds c = ring-none 256 refl
+loop-holds c = (search needs, search needs, ring-none 256 refl)
 
 -- src/main.rt:207:32
 sub-t5 : tie.Need-sub-t5 Inv-loop μ-loop
@@ -52,11 +52,15 @@ loop-less c = search needs
 
 -- src/main.rt:206:5
 loop-again : tie.Need-loop-again Inv-loop μ-loop
-loop-again c = ring-more _ _ (c .loop-test .taken) (c .before .loop .inv)
+loop-again c = (
+  search needs,
+  search needs,
+  ring-more _ _ (c .before .loop .inv .0) (c .loop-test .taken) (c .before .loop .inv .2),
+)
 
 -- src/main.rt:201:1
 returns : tie.Need-returns Inv-loop μ-loop
-returns c = ring-all _ _ (c .loop-test .left) (c .before .loop .inv)
+returns c = ring-all _ _ (c .loop-test .left) (c .before .loop .inv .2)
 
 pub plan-long-spec : {M : Type 1} → statement M
 plan-long-spec =
