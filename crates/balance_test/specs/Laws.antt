@@ -1,12 +1,13 @@
 -- What the tests tell.
 use mathlib.Core.Path.{_≡_, refl, sym, ap, _∙_, subst, subst⁻¹}
-use mathlib.Core.Bool.{Bool, true, false, _&&_, _||_}
+use mathlib.Core.Bool.{Bool, true, false, not, _&&_, _||_}
 use mathlib.Core.List.{List, [], _∷_, List·Memᴰ, List·Memᴰ·cases-cons, List·Memᴰ·not-nil}
 use mathlib.Core.Logic.{inl, inr}
 use Prim.Native.Nat.{ℕ, zero, suc, _+_, _≤_, _<_}
 use native.Mathlib.Numerals.{add-one}
 use native.Mathlib.Decide.{decLe, ℕ-discrete}
 use native.Mathlib.Omega.{arith}
+use borrow.Author.Tests.{not-false}
 use lib.ListN.{length, getD, take, drop}
 use lib.Seq.{drop-cons}
 use lib.Dec.{T, eqb, leb, ltb, eqb→eq, leb→le, ltb→lt}
@@ -53,33 +54,22 @@ module _ (g : ℕ → Bool) where
       under true e = e
       under false e = refl
 
-  none-take : (xs : List ℕ) (k : ℕ) → k < length xs → anyOf g (take (suc k) xs) ≡ (anyOf g (take k xs) || g (getD xs k 0))
-  unfolding anyOf
-  none-take [] k h = absurd (omega arith)
-  none-take (x ∷ xs) zero h = flip (g x)
+-- One passes the test where not all fail it: so the laws for one come from those for all.
+module _ (g : ℕ → Bool) where
+  none : (xs : List ℕ) → anyOf g xs ≡ not (allOf (λ x. not (g x)) xs)
+  unfolding anyOf allOf
+  none [] = refl
+  none (x ∷ xs) = turn (g x) (allOf (λ y. not (g y)) xs) (none xs)
     where
-      flip : (b : Bool) → (b || false) ≡ b
-      flip true = refl
-      flip false = refl
-  none-take (x ∷ xs) (suc k) h = ap (λ (b : Bool). g x || b) (none-take xs k (omega arith)) ∙ assoc (g x) (anyOf g (take k xs)) (g (getD xs k 0))
-    where
-      assoc : (a b c : Bool) → (a || (b || c)) ≡ ((a || b) || c)
-      assoc true b c = refl
-      assoc false b c = refl
+      turn : (b c : Bool) {d : Bool} → d ≡ not c → (b || d) ≡ not (not b && c)
+      turn true c e = refl
+      turn false c e = e
 
   pub any-more : (xs : List ℕ) (k : ℕ) {v : ℕ} → anyOf g (take k xs) ≡ false → k < length xs → v ≡ getD xs k 0 → g v ≡ false → anyOf g (take (k + 1) xs) ≡ false
-  any-more xs k {v} inv l ev e =
-      ap (λ n. anyOf g (take n xs)) (add-one k) ∙ none-take xs k l ∙ ap (λ (b : Bool). b || g (getD xs k 0)) inv ∙ ap g (sym ev) ∙ e
+  any-more xs k inv l ev e = none (take (k + 1) xs) ∙ ap not (all-more (λ x. not (g x)) xs k (not-false _ (sym (none (take k xs)) ∙ inv)) l ev (ap not e))
 
   pub any-found : (xs : List ℕ) (k : ℕ) {v : ℕ} → k < length xs → v ≡ getD xs k 0 → g v ≡ true → true ≡ anyOf g xs
-  unfolding anyOf
-  any-found [] k l ev e = absurd (omega arith)
-  any-found (x ∷ xs) zero l ev e = sym (ap (λ (b : Bool). b || anyOf g xs) (ap g (sym ev) ∙ e))
-  any-found (x ∷ xs) (suc k) l ev e = over (g x) (any-found xs k (omega arith) ev e)
-    where
-      over : (b : Bool) {c : Bool} → true ≡ c → true ≡ (b || c)
-      over true e = refl
-      over false e = e
+  any-found xs k l ev e = ap not (all-fails (λ x. not (g x)) xs k l ev (ap not e)) ∙ sym (none xs)
 
 -- ---- ascending lists
 
