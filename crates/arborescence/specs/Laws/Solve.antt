@@ -92,6 +92,12 @@ sum-within f (q ∷ vs) h =
     let r1 = r .1 in
     (simp zl (omega (arith, z)), simp zl (omega (arith, z)))
 
+-- What the smaller picture m, l of a picture w, left with the entries e has.
+pub record Smaller (w : List ℤ) (left : List Bool) (e : List ℕ) (m : List ℤ) (l : List Bool) : Type 0 where
+  pub picture : IsPicture m l
+  pub fewer : length (othersIn l) < length (othersIn left)
+  pub cost : (a : ℤ) → IsCheapest (othersIn l) (matrixOf m) a → IsCheapest (othersIn left) (matrixOf w) (treeCost (matrixOf w) (othersIn left) (entryOf e) +ℤ a)
+
 module _ (w : List ℤ) (left : List Bool) (p : IsPicture w left) where
   pub cost-within : (f : ℕ → ℕ) → ((q : ℕ) → List·Memᴰ q (othersIn left) → List·Memᴰ (f q) (0 ∷ othersIn left))
       → (pos 0 ≤ℤ treeCost (matrixOf w) (othersIn left) f) × (treeCost (matrixOf w) (othersIn left) f ≤ℤ pos 57801870)
@@ -238,20 +244,16 @@ module _ (w : List ℤ) (left : List Bool) (p : IsPicture w left) where
               let n : getD on 0 false ≡ false = is-false (λ t. others-are left .positive 0 (circle-is .0 .among 0 (on-mem 0 (is-true t))) refl) in
               kept 0 (omega arith) ∙ ap₂ (λ a b. a && (not b || eqb 0 y)) (p .root) n
 
-          pub smaller-picture : IsPicture m l
-          smaller-picture = record {
-            low = λ i b. (let q = shrunk-to .each i b in subst⁻¹ (λ (x : ℤ). pos 0 ≤ℤ x) (q .2) (v-within (q .0) (q .1 .in-range) .0));
-            high = λ i b. (let q = shrunk-to .each i b in subst⁻¹ (λ (x : ℤ). x ≤ℤ pos highest) (q .2) (v-within (q .0) (q .1 .in-range) .1));
-            root = root-kept;
+          pub smaller : Smaller w left e m l
+          smaller = record {
+            picture = record {
+              low = λ i b. (let q = shrunk-to .each i b in subst⁻¹ (λ (x : ℤ). pos 0 ≤ℤ x) (q .2) (v-within (q .0) (q .1 .in-range) .0));
+              high = λ i b. (let q = shrunk-to .each i b in subst⁻¹ (λ (x : ℤ). x ≤ℤ pos highest) (q .2) (v-within (q .0) (q .1 .in-range) .1));
+              root = root-kept;
+            };
+            fewer = subst⁻¹ (λ (x : List ℕ). length x < length (othersIn left)) others-shrunk
+                (shrunk-fewer (othersIn left) cs y 16 (entryOf e) (circle-is .0) (circle-is .1) (are-entries .other y (circle-is .0 .among y (circle-is .1))));
+            cost = λ a c. pay-entries (othersIn left) (matrixOf w) (matrixOf v) (entryOf e) a is-reduced
+                (shrink-circle (othersIn left) cs y 16 (entryOf e) (matrixOf v) (matrixOf m) (others-are left) (circle-is .0) (circle-is .1) free nonneg contraction a
+                (subst (λ (x : List ℕ). IsCheapest x (matrixOf m) a) others-shrunk c));
           }
-
-          pub smaller-count : length (othersIn l) < length (othersIn left)
-          smaller-count =
-              subst⁻¹ (λ (x : List ℕ). length x < length (othersIn left)) others-shrunk
-              (shrunk-fewer (othersIn left) cs y 16 (entryOf e) (circle-is .0) (circle-is .1) (are-entries .other y (circle-is .0 .among y (circle-is .1))))
-
-          pub solve-shrunk : (a : ℤ) → IsCheapest (othersIn l) (matrixOf m) a → IsCheapest (othersIn left) (matrixOf w) (treeCost (matrixOf w) (othersIn left) (entryOf e) +ℤ a)
-          solve-shrunk a c =
-              pay-entries (othersIn left) (matrixOf w) (matrixOf v) (entryOf e) a is-reduced
-              (shrink-circle (othersIn left) cs y 16 (entryOf e) (matrixOf v) (matrixOf m) (others-are left) (circle-is .0) (circle-is .1) free nonneg contraction a
-              (subst (λ (x : List ℕ). IsCheapest x (matrixOf m) a) others-shrunk c))
