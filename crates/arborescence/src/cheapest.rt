@@ -2,13 +2,12 @@
 // smaller picture is solved.
 ghost use mathlib.Core.Path.{_≡_};
 ghost use mathlib.Core.Bool.{true, false, not, _&&_, _||_};
-ghost use mathlib.Core.List.{List·Memᴰ};
 ghost use Prim.Native.Nat.{ℕ, _+_, _*_, _/_, _%_, _<_, _≤_};
-ghost use lib.ListN.{length, getD, set};
-ghost use lib.IntN.{ℤ, pos};
-ghost use lib.Signed.{_<ℤ_, _≤ℤ_};
+ghost use lib.ListN.{getD, set};
+ghost use lib.IntN.{pos};
+ghost use lib.Signed.{_≤ℤ_};
 ghost use Rattle.postman.specs.Lists.{iterate};
-ghost use Rattle.arborescence.specs.Cheapest.{AreEntries, treeCost, IsCheapest};
+ghost use Rattle.arborescence.specs.Cheapest.{treeCost, IsCheapest};
 ghost use Rattle.arborescence.specs.Picture.{matrixOf, othersIn, IsPicture, highest, placeOf, lineOf, IsCheaper, IsBest, HasEntries, entryOf, payOf, IsLost, IsMarked, IsPlace, IsShrunk, keptOf, less as «less-by»};
 
 // The place of x in row f, or in column f.

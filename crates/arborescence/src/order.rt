@@ -2,7 +2,7 @@
 use crate::reach;
 ghost use mathlib.Core.Path.{_≡_};
 ghost use mathlib.Core.Bool.{true};
-ghost use Prim.Native.Nat.{ℕ, suc, _+_, _-_, _^_, _<_, _≤_};
+ghost use Prim.Native.Nat.{ℕ, _+_, _-_, _^_, _<_, _≤_};
 ghost use lib.ListN.{getD, set, take};
 ghost use lib.Dec.{T};
 ghost use Rattle.arborescence.specs.Reach.{reachesAll};

@@ -2,17 +2,14 @@
 use crate::cheapest;
 ghost use mathlib.Core.Path.{_≡_};
 ghost use mathlib.Core.Bool.{true, false};
-ghost use mathlib.Core.List.{[]};
 ghost use Prim.Native.Nat.{ℕ, _+_, _*_, _/_, _%_, _<_, _≤_};
-ghost use lib.ListN.{length, getD};
+ghost use lib.ListN.{getD};
 ghost use lib.Dec.{ltb};
-ghost use lib.IntN.{ℤ, pos, _+ℤ_, _-ℤ_};
-ghost use lib.Signed.{_≤ℤ_};
+ghost use lib.IntN.{pos, _+ℤ_, _-ℤ_};
 ghost use Rattle.integers.specs.Linear.{Within};
 ghost use Rattle.postman.specs.Plan.{Plan, WellFormed};
 ghost use Rattle.postman.specs.LagrangianBound.{cheapestArborescence};
 ghost use Rattle.postman.specs.Laws.LagrangianBound.{Feasible};
-ghost use Rattle.arborescence.specs.Picture.{highest};
 ghost use Rattle.arborescence.specs.PairCosts.{costOf, offerOf, entryFor, AreCosts, IsLesser, AreLeastOffers, IsNetwork, multipliersOf};
 
 // More than any reduced cost is not.

@@ -1,6 +1,6 @@
 // The components reached from component 0, on sets of components as numbers.
 ghost use mathlib.Core.Path.{_≡_};
-ghost use Prim.Native.Nat.{ℕ, _-_, _^_, _<_, _≤_};
+ghost use Prim.Native.Nat.{_-_, _^_, _<_, _≤_};
 ghost use lib.ListN.{getD};
 ghost use Rattle.arborescence.specs.Reach.{enter, sweep, reachesAll};
 

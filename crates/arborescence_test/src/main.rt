@@ -6,9 +6,9 @@ ghost use mathlib.Core.Path.{_≡_};
 ghost use mathlib.Core.Bool.{true};
 ghost use Prim.Native.Nat.{ℕ, _+_, _<_, _≤_};
 ghost use lib.ListN.{getD};
-ghost use lib.IntN.{ℤ, pos};
+ghost use lib.IntN.{pos};
 ghost use lib.Signed.{_≤ℤ_};
-ghost use Rattle.arborescence.specs.Layout.{laidOut, IsLayout, AreSourceSets, HasChosen};
+ghost use Rattle.arborescence.specs.Layout.{IsLayout};
 ghost use Rattle.arborescence.specs.Picture.{IsPicture, highest};
 
 fn line(n: u64) {

@@ -1,12 +1,11 @@
 // Balancings of small tables, and of a large one: what they cost, their multipliers, and their direct amounts.
 ghost use mathlib.Core.Path.{_≡_};
 ghost use mathlib.Core.Bool.{true, _&&_};
-ghost use Prim.Native.Nat.{ℕ, _+_, _<_, _≤_};
-ghost use lib.ListN.{length, getD};
+ghost use Prim.Native.Nat.{_+_, _<_, _≤_};
+ghost use lib.ListN.{getD};
 ghost use lib.Dec.{eqb, leb, ltb};
 ghost use Rattle.balance.specs.Bounds.{AtMost};
 ghost use Rattle.balance.specs.Step.{cell};
-ghost use Rattle.balance.specs.Invariant.{Metric, AllIn};
 ghost use Rattle.balance_test.specs.Checks.{Admitted, ascending, isShortest, isRow, isTable, isVertex, areVertices};
 
 // A vertex as an index.

@@ -1,6 +1,5 @@
 -- A budget is checked once, where it is made.
-use mathlib.Core.Path.{_≡_, refl}
-use mathlib.Core.Bool.{Bool, cond}
+use mathlib.Core.Bool.{cond}
 use Prim.Native.Nat.{ℕ, _≤_}
 use Rattle.postman.specs.PlanFile.{isOutside}
 use Rattle.postman.specs.PlanCall.{highestBudget}

@@ -1,14 +1,13 @@
 -- What a test of a budget says. A number is outside its limits, or is not, by cases on the two tests.
-use mathlib.Core.Path.{_≡_, refl, sym, ap, _∙_}
+use mathlib.Core.Path.{_≡_, refl, sym, ap}
 use mathlib.Core.Bool.{Bool, true, false, cond, _||_}
 use Prim.Native.Nat.{ℕ, _≤_, _<_}
 use native.Mathlib.Omega.{arith}
 use borrow.Author.Tests.{lt-ltb, le-ltb, ltb-false}
-use lib.Dec.{ltb, lit≤}
+use lib.Dec.{ltb}
 use Rattle.postman.specs.PlanFile.{isOutside}
-use Rattle.postman.specs.PlanCall.{highestBudget, defaultBudget}
+use Rattle.postman.specs.PlanCall.{highestBudget}
 use Rattle.budget.specs.declared.Budget.{Budget}
-use Rattle.budget.specs.declared.Checked.{Checked}
 use Rattle.budget.specs.declared.Checked.the-variants.{Good, Refused}
 use Rattle.budget.specs.Checks.{checkedOf, InRange}
 

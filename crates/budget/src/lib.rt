@@ -1,6 +1,6 @@
 // The budget of the plan call: how many trees it tries at most.
 ghost use mathlib.Core.Path.{_≡_};
-ghost use Rattle.postman.specs.PlanCall.{defaultBudget, highestBudget};
+ghost use Rattle.postman.specs.PlanCall.{defaultBudget};
 ghost use Rattle.budget.specs.Checks.{checkedOf, InRange};
 
 pub struct Budget {

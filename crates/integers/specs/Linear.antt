@@ -15,7 +15,7 @@ use native.Mathlib.Nat.{mul-le-mul}
 use mir.Syntax.{Width, w8, w16, w32, w64}
 use mir.Val.{Fits, SFits, hbits, toZ, ofZ}
 use mir.Facts.{toZ-ofZ, toZ-pos}
-use lib.Dec.{T, ltb, leb, ltb→lt, nltb→le, le→leb, leb→le, lt→ltb, nleb→lt}
+use lib.Dec.{T, ltb, ltb→lt, nltb→le, le→leb, leb→le, lt→ltb, nleb→lt}
 use lib.IntN.{ℤ, pos, negsuc, negℤ, subℕ, natAbs, _+ℤ_, _-ℤ_, _*ℤ_, +ℤ-assoc, negℤ-+ℤ, negℤ-negℤ, *ℤ-comm}
 use lib.Signed.{nonNeg, leZ, ltZ, mag, _≤ℤ_, _<ℤ_, ltZ-yes, ltZ-no, leZ-yes, yes-nonNeg, pos-natAbs}
 

@@ -3,10 +3,8 @@ use mathlib.Core.Path.{_≡_, refl}
 use mathlib.Core.Bool.{Bool, true, false, cond, _||_}
 use mathlib.Core.List.{[], _∷_}
 use mathlib.Core.Option.{Option, none, some}
-use Prim.Native.Nat.{ℕ, zero, suc, _≤_}
-use native.Mathlib.Omega.{arith}
-use lib.Dec.{ltb, leb, eqb}
-use borrow.Author.Tests.{lt-ltb}
+use Prim.Native.Nat.{ℕ}
+use lib.Dec.{leb, eqb}
 use Rattle.postman.specs.Plan.{Arc}
 use Rattle.postman.specs.Refusal.{firstRefusal, Answer, refused, given}
 use Rattle.postman.specs.PlanFile.{arcConditions}

@@ -1,6 +1,6 @@
 // Bit fields in bytes, the most significant bit first.
 ghost use mathlib.Core.Path.{_≡_};
-ghost use Prim.Native.Nat.{ℕ, _+_, _*_, _^_, _<_, _≤_};
+ghost use Prim.Native.Nat.{_+_, _*_, _^_, _<_, _≤_};
 ghost use lib.ListN.{length};
 ghost use Rattle.postman.specs.BitField.{bitAt, fieldAt};
 ghost use Rattle.plan_file.specs.FieldUpdate.{withBit, setBit, putField};

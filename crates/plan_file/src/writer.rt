@@ -1,7 +1,7 @@
 // From a plan to bytes: the first refusal, or the file.
 ghost use mathlib.Core.Path.{_≡_};
 ghost use mathlib.Core.List.{_++_, map, flatMap};
-ghost use Prim.Native.Nat.{ℕ, _+_, _*_, _<_, _≤_};
+ghost use Prim.Native.Nat.{_+_, _*_, _<_, _≤_};
 ghost use lib.ListN.{length, replicate, drop};
 ghost use Rattle.postman.specs.Lists.{below};
 ghost use Rattle.postman.specs.Refusal.{firstRefusal};

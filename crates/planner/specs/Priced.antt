@@ -7,7 +7,6 @@ use lib.ListN.{length}
 use lib.IntN.{ℤ, pos}
 use Rattle.postman.specs.Plan.{Plan}
 use Rattle.postman.specs.Required.{required, requiredCost}
-use Rattle.postman.specs.Component.{componentCount}
 use Rattle.postman.specs.LagrangianBound.{priceOfImbalance}
 use Rattle.postman.specs.Laws.Optimality.{Plannable}
 use Rattle.postman.specs.Laws.LagrangianBound.{Feasible}

@@ -10,7 +10,7 @@ use network::Network;
 use plan::Plan;
 ghost use mathlib.Core.Path.{_≡_};
 ghost use mathlib.Core.Option.{none};
-ghost use Prim.Native.Nat.{ℕ, _≤_};
+ghost use Prim.Native.Nat.{_≤_};
 ghost use lib.ListN.{length};
 ghost use Rattle.postman.specs.PlanCall.{sheetPlaces, root};
 ghost use Rattle.plan.specs.Records.{planValue};

@@ -7,7 +7,7 @@ use planner::Planned;
 use planner::Verdict;
 use planner::call::plan_call;
 use planner::call::short_call;
-ghost use Prim.Native.Nat.{_≤_, _<_};
+ghost use Prim.Native.Nat.{_<_};
 
 // ---- what is printed
 

@@ -1,12 +1,12 @@
 -- The plan call: its refusals and its answer.
 use mathlib.Core.Path.{_≡_}
-use mathlib.Core.Bool.{Bool, true, false, not, cond}
+use mathlib.Core.Bool.{Bool, false, not, cond}
 use mathlib.Core.List.{List, [], _∷_, _++_, map}
 use mathlib.Core.Option.{Option}
 use Prim.Native.Nat.{ℕ, _≤_, _<_, min}
 use lib.ListN.{length, getD, take}
 use lib.IntN.{ℤ, pos}
-use lib.Dec.{T, eqb, ltb, leb}
+use lib.Dec.{eqb, ltb, leb}
 use Rattle.postman.specs.Lists.{anyOf, minimum, maxℤ, argmin}
 use Rattle.postman.specs.Plan.{Plan, requiredArcs, requiredNumbers}
 use Rattle.postman.specs.Refusal.{Conditions, firstRefusal, Answer, given, refused, answer}

@@ -1,24 +1,20 @@
 -- THE THEOREM. For every file, budget and sheet that the plan call does not refuse, and every u that meets document 01's conditions: every tour costs at least the
 -- lower bound, and the rest of the guarantee. Beside it: 12 is given exactly when no number before it applies and no tour exists, and there is a tree to try.
-use mathlib.Core.Path.{_≡_, refl, sym, subst, _∙_}
-use mathlib.Core.Bool.{Bool, true, false, not}
-use mathlib.Core.Logic.{_⊎_, inl, inr, _↔_}
-use mathlib.Core.List.{List, [], _∷_, _++_, List·Memᴰ}
-use mathlib.Core.Option.{Option, none, some}
-use Prim.Native.Nat.{ℕ, _≤_, _<_}
-use native.Mathlib.Omega.{arith}
-use lib.IntN.{ℤ}
+use mathlib.Core.Path.{_≡_, sym, _∙_}
+use mathlib.Core.Logic.{inl, inr, _↔_}
+use mathlib.Core.List.{List}
+use mathlib.Core.Option.{none, some}
+use Prim.Native.Nat.{ℕ, _≤_}
 use lib.Signed.{_≤ℤ_}
 use lib.Dec.{T}
-use Rattle.postman.specs.Plan.{Plan}
-use Rattle.postman.specs.Refusal.{Conditions, firstRefusal}
+use Rattle.postman.specs.Refusal.{firstRefusal}
 use Rattle.postman.specs.PlanFile.{planOf}
 use Rattle.postman.specs.Tour.{IsTour}
 use Rattle.postman.specs.Arborescence.{arborescenceCount}
 use Rattle.postman.specs.LagrangianBound.{Multipliers, AreMultipliers}
 use Rattle.postman.specs.PlanCall.{isCutOff, earlierConditions, callRefusal, bestCost, lowerBound}
 use Rattle.postman.specs.Guarantee.{Guarantee}
-use Rattle.postman.specs.Laws.Acceptance.{EarlierAccepted, CallAccepted, call-conditions, earlier-accepted, call-accepted}
+use Rattle.postman.specs.Laws.Acceptance.{call-conditions, earlier-accepted, call-accepted}
 use Rattle.postman.specs.Laws.Refusal.{earlier-below, last-given, given-last}
 use Rattle.postman.specs.Laws.Tests.{test}
 use Rattle.postman.specs.Laws.Existence.{no-tour, a-tour}

@@ -1,12 +1,10 @@
 // The states of a trail, in arrays: state j has the first j links added to that of the required arcs, which is state 0.
 use balance::Balance;
-ghost use mathlib.Core.Path.{_≡_};
 ghost use mathlib.Core.List.{List·Memᴰ};
-ghost use Prim.Native.Nat.{ℕ, _+_, _<_, _≤_};
+ghost use Prim.Native.Nat.{_+_, _<_, _≤_};
 ghost use Rattle.balance.specs.Step.{cell};
 ghost use Rattle.balance.specs.Invariant.{Metric, Certified};
 ghost use Rattle.search.specs.Links.{Inside};
-ghost use Rattle.search.specs.Costs.{Ready};
 ghost use Rattle.search.specs.States.{stateAt, baseIn, IsStep, IsTrail, IsExtended};
 
 // State q with one link more becomes state q + 1. `count` is the number of arcs of state q.

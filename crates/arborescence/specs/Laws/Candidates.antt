@@ -1,22 +1,20 @@
 -- The choices in order stand for the plan's arborescences, in document 01's order: one candidate of each list, by its number; and going back from a choice is
 -- going back along its links.
 use mathlib.Core.Path.{_≡_, refl, sym, ap, ap₂, _∙_, subst, subst⁻¹}
-use mathlib.Core.Bool.{Bool, not, cond, _&&_}
+use mathlib.Core.Bool.{Bool, _&&_}
 use mathlib.Core.List.{List, [], _∷_, _++_, map, flatMap, List·Memᴰ, List·Memᴰ·head, List·Memᴰ·tail, append-assoc}
 use mathlib.Core.Option.{Option, none, some}
 use Prim.Native.Nat.{ℕ, zero, suc, _+_, _-_, _≤_, _<_}
-use native.Mathlib.Nat.{add-zero, add-suc, suc-add}
 use native.Mathlib.Numerals.{one-add}
 use native.Mathlib.Omega.{arith}
 use lib.ListN.{length, getD, length-append}
 use lib.Seq.{getD-append-seam}
-use lib.Dec.{T, eqb, T-not}
+use lib.Dec.{eqb}
 use Rattle.postman.specs.Lists.{select, allOf, below, upFrom, choices, iterate}
 use Rattle.postman.specs.Plan.{Plan}
 use Rattle.postman.specs.Link.{Link}
 use Rattle.postman.specs.Component.{component, componentCount}
 use Rattle.postman.specs.Arborescence.{linkAt, parent, candidates, arrives, arborescences}
-use Rattle.postman.specs.Laws.Tests.{cond-ind}
 use Rattle.postman.specs.Laws.Membership.{getD-mem, select-mem, choices-mem, upFrom-mem, below-mem, getD-map-upFrom}
 use Rattle.postman.specs.Laws.Distance.{InPlan}
 use Rattle.postman.specs.Laws.Component.{component-lt}

@@ -1,8 +1,8 @@
 -- Either going back along the entries arrives at the root from every component, and they make a tree, or it ends in a circle, whose shrinking leaves fewer
 -- components. A component that has not arrived after as many steps as there are components has gone round.
 use mathlib.Core.Path.{_≡_, refl, sym, ap, _∙_, subst, subst⁻¹}
-use mathlib.Core.Logic.{_⊎_, inl, inr, _≢_}
-use mathlib.Core.Bool.{Bool, not, cond, _||_}
+use mathlib.Core.Logic.{inl, inr, _≢_}
+use mathlib.Core.Bool.{Bool, not, _||_}
 use mathlib.Core.List.{List, [], _∷_, map, List·Memᴰ, List·Memᴰ·head, List·Memᴰ·tail, List·Memᴰ·cases-cons}
 use Prim.Native.Nat.{ℕ, zero, suc, _+_, _-_, _≤_, _<_}
 use native.Mathlib.Omega.{arith}
@@ -10,7 +10,7 @@ use lib.ListN.{length}
 use lib.Dec.{T, eqb, eqb→eq, T-not, not-T}
 use Rattle.postman.specs.Lists.{select, below, iterate}
 use Rattle.postman.specs.Laws.Tests.{cond-ind, or-cases}
-use Rattle.postman.specs.Laws.Membership.{mem-map, map-mem, mem-below, below-mem}
+use Rattle.postman.specs.Laws.Membership.{mem-map, map-mem, mem-below}
 use Rattle.arborescence.specs.Cheapest.{AreOthers, IsTree, IsCircle, isAmong, shrunk}
 use Rattle.arborescence.specs.Laws.Iterates.{iterate-add, iterate-last, stepsTo, steps-fall, goes-round, reduce}
 use Rattle.arborescence.specs.Laws.Edmonds.{among-of}

@@ -1,23 +1,20 @@
 -- The completability test is exact: a choice for the first components extends to an arborescence exactly when it passes.
 use mathlib.Core.Path.{_≡_, refl, sym, ap, _∙_, subst, subst⁻¹}
-use mathlib.Core.Logic.{_⊎_, inl, inr, _≢_}
-use mathlib.Core.Bool.{Bool, not, cond}
+use mathlib.Core.Logic.{inl, inr}
 use mathlib.Core.List.{List, [], _∷_, _++_, map, List·Memᴰ}
 use Prim.Native.Nat.{ℕ, zero, suc, _+_, _-_, _^_, _≤_, _<_}
 use native.Mathlib.Nat.{zero-add}
-use native.Mathlib.Decide.{ℕ-discrete, decLe, decLt}
+use native.Mathlib.Decide.{ℕ-discrete, decLt}
 use native.Mathlib.Omega.{arith}
 use lib.ListN.{length, getD, length-append, length-map, List·getD-append}
 use lib.Seq.{getD-append-add}
-use lib.Bits.{bitOr}
-use lib.Dec.{T, eqb, ltb, ltb→lt, nltb→le, eqb→eq, T-not}
-use Rattle.postman.specs.Lists.{select, allOf, below, upFrom, choices, iterate, firstIndex}
+use lib.Dec.{T, eqb, ltb, ltb→lt, nltb→le, eqb→eq}
+use Rattle.postman.specs.Lists.{below, upFrom, choices, iterate, firstIndex}
 use Rattle.postman.specs.Laws.Tests.{cond-ind, eqb-same}
 use Rattle.postman.specs.Laws.Membership.{mem-select, select-mem, mem-map, map-mem, mem-choices, choices-mem, allOf-mem, allOf-at, mem-below, below-mem, length-below, length-upFrom, getD-map-upFrom}
 use Rattle.postman.specs.Laws.Ascending.{index-lt, index-test}
 use Rattle.postman.specs.Laws.Iteration.{settle}
-use Rattle.arborescence.specs.BitSet.{bit, Has, has?, bit-zero, has-single, single-has}
-use Rattle.arborescence.specs.Reach.{reachesAll}
+use Rattle.arborescence.specs.BitSet.{Has, bit-zero, has-single, single-has}
 use Rattle.arborescence.specs.Order.{Sources, AreSources, parentOf, arrivesBy, extensions, valuesOf, sourceSet, entrySet, completable}
 use Rattle.arborescence.specs.Laws.Reach.{or-left, or-right, or-has, Arrives, reached-arrives, arrives-reaches, same-steps}
 

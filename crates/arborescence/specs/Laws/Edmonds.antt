@@ -1,22 +1,22 @@
 -- Edmonds: once the cheapest entries are paid, a circle of them costs nothing, and shrinking it changes no least cost. A tree of the smaller picture gives one
 -- of the larger: the circle's members keep their entries but for the one where the tree comes in. A tree of the larger gives one of the smaller: the circle
 -- takes the entry of its member of least rank.
-use mathlib.Core.Path.{_≡_, refl, sym, ap, ap₂, _∙_, subst, subst⁻¹}
+use mathlib.Core.Path.{_≡_, refl, sym, ap, _∙_, subst, subst⁻¹}
 use mathlib.Core.Logic.{_⊎_, inl, inr, _≢_}
 use mathlib.Core.Bool.{Bool, not, cond, _||_}
 use mathlib.Core.List.{List, [], _∷_, map, List·Memᴰ, List·Memᴰ·head, List·Memᴰ·tail, List·Memᴰ·cases-cons}
-use Prim.Native.Nat.{ℕ, zero, suc, _+_, _*_, _≤_, _<_}
-use native.Mathlib.Nat.{mul-le-mul-left, mul-suc, le-refl}
+use Prim.Native.Nat.{ℕ, _+_, _*_, _≤_, _<_}
+use native.Mathlib.Nat.{mul-le-mul-left, mul-suc}
 use native.Mathlib.Decide.{ℕ-discrete, decLe}
 use native.Mathlib.Omega.{arith}
 use lib.Dec.{T, eqb, eqb→eq, eqb-refl, T-not, not-T}
-use lib.IntN.{ℤ, pos, _+ℤ_, _-ℤ_}
+use lib.IntN.{ℤ, pos, _+ℤ_}
 use lib.Signed.{_≤ℤ_, ≤ℤ-refl}
 use Rattle.integers.specs.Linear.{z, zl}
-use Rattle.postman.specs.Lists.{select, anyOf, iterate, occurrences, sumOfℤ}
+use Rattle.postman.specs.Lists.{select, occurrences, sumOfℤ}
 use Rattle.postman.specs.Laws.Tests.{cond-ind, or-left, or-right, or-cases, eqb-same}
 use Rattle.postman.specs.Laws.Membership.{mem-select, select-mem, anyOf-mem, anyOf-at}
-use Rattle.postman.specs.Laws.Pick.{Pick, pick-of-mem, left-mem}
+use Rattle.postman.specs.Laws.Pick.{pick-of-mem, left-mem}
 use Rattle.postman.specs.Laws.Occurrences.{mem?, delta-yes, occurrences-pick, occurrences-of-mem}
 use Rattle.postman.specs.Laws.SignedSum.{≤ℤ-trans, sum-add, sum-pick}
 use Rattle.arborescence.specs.Cheapest.{Matrix, AreOthers, IsTree, treeCost, IsCheapest, AreEntries, IsReduced, IsCircle, isAmong, shrunk, IsLeast, IsContraction}

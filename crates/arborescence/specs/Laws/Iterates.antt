@@ -1,17 +1,17 @@
 -- Steps that lead to a place, the number of them, and steps that go round.
 use mathlib.Core.Path.{_≡_, refl, sym, ap, _∙_, subst, subst⁻¹}
 use mathlib.Core.Logic.{_⊎_, inl, inr, _≢_}
-use mathlib.Core.Bool.{Bool, not, cond}
-use mathlib.Core.List.{List, [], _∷_, map, List·Memᴰ, List·Memᴰ·head, List·Memᴰ·tail}
+use mathlib.Core.Bool.{Bool}
+use mathlib.Core.List.{List, [], _∷_, List·Memᴰ}
 use Prim.Native.Nat.{ℕ, zero, suc, _+_, _-_, _≤_, _<_}
 use native.Mathlib.Nat.{zero-add, suc-add, add-zero, add-suc}
-use native.Mathlib.Decide.{ℕ-discrete, decLe, decLt}
+use native.Mathlib.Decide.{ℕ-discrete, decLt}
 use native.Mathlib.Omega.{arith}
 use lib.ListN.{length}
 use lib.Dec.{T, eqb, eqb→eq, T-not}
 use Rattle.postman.specs.Lists.{below, upFrom, iterate, firstIndex}
-use Rattle.postman.specs.Laws.Tests.{cond-ind, eqb-same, eqb-other}
-use Rattle.postman.specs.Laws.Pick.{Pick, pick-of-mem, pick-length, pick-cases}
+use Rattle.postman.specs.Laws.Tests.{cond-ind, eqb-same}
+use Rattle.postman.specs.Laws.Pick.{pick-of-mem, pick-length, pick-cases}
 
 pub iterate-add : (a b : ℕ) (f : ℕ → ℕ) (x : ℕ) → iterate (a + b) f x ≡ iterate b f (iterate a f x)
 unfolding iterate

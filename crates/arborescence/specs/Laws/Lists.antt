@@ -1,15 +1,13 @@
 -- Laws of `map`, `flatMap` and `select`. By induction on the list.
 use mathlib.Core.Path.{_≡_, refl, sym, ap, ap₂, _∙_}
-use mathlib.Core.Bool.{Bool, not, cond}
+use mathlib.Core.Bool.{Bool, cond}
 use mathlib.Core.List.{List, [], _∷_, _++_, map, flatMap, List·Memᴰ, List·Memᴰ·head, List·Memᴰ·tail, append-assoc}
 use Prim.Native.Nat.{ℕ, suc, _+_, _<_}
 use native.Mathlib.Decide.{ℕ-discrete}
 use native.Mathlib.Omega.{arith}
 use lib.ListN.{length, getD, set, length-append}
 use lib.Seq.{getD-append-seam, getD-set-same, getD-set-other}
-use lib.Dec.{T, T-not}
 use Rattle.postman.specs.Lists.{select, below, upFrom}
-use Rattle.postman.specs.Laws.Tests.{cond-ind}
 
 module _ {A B : Type 0} where
   pub map-cong : (f g : A → B) (xs : List A) → ((x : A) → List·Memᴰ x xs → f x ≡ g x) → map f xs ≡ map g xs

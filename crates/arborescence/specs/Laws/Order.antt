@@ -1,19 +1,18 @@
 -- The successor goes through the arborescences in order. The extensions of a choice are those of the choice with each candidate of the next component, one
 -- after the other; the first of them, and the one after a given one, is found by the test.
-use mathlib.Core.Path.{_≡_, refl, sym, ap, ap₂, _∙_, subst, subst⁻¹, fun-ext}
-use mathlib.Core.Logic.{_⊎_, inl, inr, _≢_}
+use mathlib.Core.Path.{_≡_, refl, sym, ap, ap₂, _∙_, subst⁻¹, fun-ext}
+use mathlib.Core.Logic.{_⊎_, inl, inr}
 use mathlib.Core.Bool.{Bool, not, cond}
 use mathlib.Core.List.{List, [], _∷_, _++_, map, flatMap, List·Memᴰ, List·Memᴰ·head, append-assoc, append-nil, Memᴰ·append-right}
 use mathlib.Core.Option.{Option, none, some}
 use Prim.Native.Nat.{ℕ, zero, suc, _+_, _-_, _≤_, _<_}
-use native.Mathlib.Nat.{le-refl}
 use native.Mathlib.Omega.{arith}
 use lib.ListN.{length, getD, take, length-append}
-use lib.Seq.{take-at, getD-append-add, getD-append-seam}
-use lib.Dec.{T, eqb, ltb, ltb→lt, lt→ltb, T-not, not-T}
+use lib.Seq.{take-at, getD-append-seam}
+use lib.Dec.{T, ltb, ltb→lt, T-not}
 use borrow.Author.Tests.{lt-ltb, le-ltb}
 use Rattle.postman.specs.Lists.{select, below, upFrom, choices}
-use Rattle.postman.specs.Laws.Tests.{cond-ind, test}
+use Rattle.postman.specs.Laws.Tests.{cond-ind}
 use Rattle.arborescence.specs.Order.{Sources, AreSources, arrivesBy, extensions, none-chosen, inOrder, completable, search-from, found, filled, advanced, firstChoice, nextChoice, after, choiceAt, entryAt}
 use Rattle.arborescence.specs.Laws.Lists.{select-flatMap, map-flatMap}
 use Rattle.arborescence.specs.Laws.Completion.{Chooses, chooses-more, extension-of, extension-passes, passes-extension}

@@ -2,7 +2,7 @@
 -- pair.
 use mathlib.Core.Path.{_≡_, refl, sym, ap, ap₂, _∙_, subst, subst⁻¹}
 use mathlib.Core.Logic.{_⊎_, inl, inr, _≢_}
-use mathlib.Core.Bool.{Bool, true, false, not, cond, _&&_}
+use mathlib.Core.Bool.{Bool, true, false, cond, _&&_}
 use mathlib.Core.List.{List, [], _∷_, List·Memᴰ, List·Memᴰ·head, List·Memᴰ·tail}
 use Prim.Native.Nat.{ℕ, zero, suc, _+_, _*_, _-_, _/_, _%_, _≤_, _<_}
 use native.Mathlib.Decide.{ℕ-discrete, decLt}
@@ -17,12 +17,11 @@ use Rattle.integers.specs.Linear.{z}
 use Rattle.postman.specs.Lists.{select, upFrom}
 use Rattle.postman.specs.Plan.{Plan, WellFormed}
 use Rattle.postman.specs.Required.{required}
-use Rattle.postman.specs.Distance.{distance}
-use Rattle.postman.specs.Component.{component, componentCount, lowest}
+use Rattle.postman.specs.Component.{componentCount, lowest}
 use Rattle.postman.specs.LagrangianBound.{reducedCost, cheapestArborescence}
 use Rattle.postman.specs.Laws.LagrangianBound.{Feasible}
 use Rattle.postman.specs.Laws.Membership.{upFrom-mem}
-use Rattle.postman.specs.Laws.Distance.{InPlan, bounded}
+use Rattle.postman.specs.Laws.Distance.{bounded}
 use Rattle.postman.specs.Laws.Required.{required-lt}
 use Rattle.postman.specs.Laws.Component.{component-at}
 use Rattle.postman.specs.Laws.SignedSum.{≤ℤ-trans, ≤ℤ-antisym}

@@ -4,29 +4,27 @@
 -- costs nothing or more.
 use mathlib.Core.Path.{_≡_, refl, sym, ap, ap₂, _∙_, subst, subst⁻¹}
 use mathlib.Core.Logic.{_⊎_, inl, inr, _≢_}
-use mathlib.Core.Bool.{Bool, not, cond}
-use mathlib.Core.List.{List, [], _∷_, _++_, map, flatMap, List·Memᴰ, List·Memᴰ·head, List·Memᴰ·tail, List·Memᴰ·cases-cons, List·Memᴰ·eq-of-singleton}
+use mathlib.Core.Bool.{cond}
+use mathlib.Core.List.{List, [], _∷_, map, flatMap, List·Memᴰ, List·Memᴰ·head, List·Memᴰ·tail, List·Memᴰ·cases-cons, List·Memᴰ·eq-of-singleton}
 use Prim.Native.Nat.{ℕ, zero, suc, _+_, _-_, _≤_, _<_}
 use native.Mathlib.Nat.{le-refl}
 use native.Mathlib.Numerals.{one-add}
 use native.Mathlib.Decide.{ℕ-discrete}
 use native.Mathlib.Omega.{arith}
-use lib.ListN.{length, getD, length-map}
-use lib.Dec.{T, eqb, eqb→eq, eqb-refl, T-not}
+use lib.ListN.{length, length-map}
+use lib.Dec.{eqb, eqb→eq, eqb-refl, T-not}
 use lib.IntN.{ℤ, pos, _+ℤ_, _-ℤ_}
-use lib.Signed.{_≤ℤ_, ≤ℤ-refl}
+use lib.Signed.{_≤ℤ_}
 use Rattle.integers.specs.Linear.{z, zl}
-use Rattle.postman.specs.Lists.{upFrom, below, iterate, sumOfℤ, occurrences}
+use Rattle.postman.specs.Lists.{upFrom, below, iterate, sumOfℤ}
 use Rattle.postman.specs.Plan.{Plan, WellFormed}
-use Rattle.postman.specs.Required.{required}
-use Rattle.postman.specs.Distance.{distance}
 use Rattle.postman.specs.Link.{Link, links}
 use Rattle.postman.specs.Component.{component, componentCount}
 use Rattle.postman.specs.Arborescence.{linkAt, parent, Enters, IsArborescence, arborescences}
 use Rattle.postman.specs.LagrangianBound.{Multipliers, reducedCost, reducedSum, cheapestArborescence}
 use Rattle.postman.specs.Laws.Tests.{cond-ind}
 use Rattle.postman.specs.Laws.Membership.{mem-upFrom, upFrom-mem, length-upFrom, getD-map-upFrom, mem-flatMap, flatMap-mem, mem-getD}
-use Rattle.postman.specs.Laws.Pick.{Pick, pick-of-mem, pick-length, pick-cases, left-mem}
+use Rattle.postman.specs.Laws.Pick.{pick-of-mem, pick-length, pick-cases, left-mem}
 use Rattle.postman.specs.Laws.Occurrences.{mem?, occurrences-upFrom}
 use Rattle.postman.specs.Laws.Distance.{InPlan, bounded}
 use Rattle.postman.specs.Laws.Component.{component-lt}
@@ -37,7 +35,7 @@ use Rattle.postman.specs.Laws.Arborescence.{arborescences-mem, mem-arborescence
 use Rattle.postman.specs.Laws.SignedSum.{≤ℤ-trans, ≤ℤ-antisym, sum-append, sum-nonneg, sum-pick}
 use Rattle.postman.specs.Laws.LagrangianBound.{Feasible, cheapest-le, cheapest-at}
 use Rattle.arborescence.specs.Cheapest.{Matrix, AreOthers, IsTree, treeCost, IsCheapest}
-use Rattle.arborescence.specs.Pairs.{IsPair, IsPairMatrix, othersOf}
+use Rattle.arborescence.specs.Pairs.{IsPairMatrix, othersOf}
 use Rattle.arborescence.specs.Laws.Lists.{map-map, by-place}
 use Rattle.arborescence.specs.Laws.Iterates.{stepsTo, steps-fall}
 use Rattle.arborescence.specs.Laws.Edmonds.{sum-mono, parent-other}

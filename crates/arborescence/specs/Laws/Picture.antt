@@ -1,24 +1,22 @@
 -- What the arrays of a picture say of its trees.
-use mathlib.Core.Path.{_≡_, refl, sym, ap, ap₂, _∙_, subst, subst⁻¹}
-use mathlib.Core.Logic.{_⊎_, inl, inr, _≢_}
-use mathlib.Core.Bool.{Bool, true, false, not, cond, _&&_, _||_}
-use mathlib.Core.List.{List, [], _∷_, _++_, map, List·Memᴰ, List·Memᴰ·head, List·Memᴰ·tail, List·Memᴰ·cases-cons}
+use mathlib.Core.Path.{_≡_, refl, sym, ap, _∙_, subst⁻¹}
+use mathlib.Core.Logic.{inl, inr, _≢_}
+use mathlib.Core.Bool.{Bool, true, false, cond}
+use mathlib.Core.List.{List, _∷_, map}
 use Prim.Native.Nat.{ℕ, zero, suc, _+_, _*_, _-_, _/_, _%_, _≤_, _<_}
 use native.Mathlib.Decide.{ℕ-discrete}
 use native.Mathlib.Omega.{arith}
 use lib.ListN.{length, getD, set, replicate}
 use lib.Seq.{getD-set-same, getD-set-other}
-use lib.Dec.{T, eqb, T-not}
+use lib.Dec.{T, T-not}
 use lib.IntN.{ℤ, pos, _+ℤ_, _-ℤ_}
 use lib.Signed.{ltZ, _≤ℤ_, ≤ℤ-refl}
 use Rattle.integers.specs.Linear.{z, zl}
-use Rattle.postman.specs.Lists.{select, upFrom, sumOfℤ, iterate, occurrences}
+use Rattle.postman.specs.Lists.{select, upFrom, sumOfℤ, iterate}
 use Rattle.postman.specs.Laws.Tests.{cond-ind, test, same-test}
-use Rattle.postman.specs.Laws.Membership.{mem-select, select-mem, mem-upFrom, upFrom-mem}
-use Rattle.postman.specs.Laws.Occurrences.{occurrences-select, occurrences-upFrom}
 use Rattle.postman.specs.Laws.SignedSum.{≤ℤ-trans}
-use Rattle.arborescence.specs.Cheapest.{Matrix, AreOthers, IsTree, treeCost, IsCheapest, AreEntries, IsReduced, IsCircle, isAmong, shrunk, IsLeast, IsContraction}
-use Rattle.arborescence.specs.Picture.{matrixOf, othersIn, highest, IsPicture, placeOf, less, lineOf, IsCheaper, IsBest, HasEntries, entryOf, payOf, IsLost, IsMarked, IsPlace, IsShrunk, keptOf}
+use Rattle.arborescence.specs.Cheapest.{treeCost}
+use Rattle.arborescence.specs.Picture.{matrixOf, othersIn, highest, IsPicture, less, lineOf, IsCheaper, IsBest, HasEntries, entryOf, payOf, IsMarked, IsPlace, IsShrunk}
 
 -- tests as equations
 pub is-true : {b : Bool} → T b → b ≡ true

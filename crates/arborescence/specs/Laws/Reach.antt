@@ -2,9 +2,9 @@
 -- steps is reached by r sweeps. Conversely each component that is reached takes the source over which it was reached first.
 use mathlib.Core.Path.{_≡_, refl, sym, ap, ap₂, _∙_, subst, subst⁻¹}
 use mathlib.Core.Logic.{_⊎_, inl, inr, _≢_}
-use mathlib.Core.Bool.{Bool, not, cond}
-use Prim.Native.Nat.{ℕ, zero, suc, _+_, _-_, _^_, _≤_, _<_, max}
-use native.Mathlib.Nat.{pow-suc, le-refl}
+use mathlib.Core.Bool.{cond}
+use Prim.Native.Nat.{ℕ, zero, suc, _-_, _^_, _≤_, _<_}
+use native.Mathlib.Nat.{pow-suc}
 use native.Mathlib.Decide.{ℕ-discrete, decLe}
 use native.Mathlib.Omega.{arith}
 use lib.Bits.{bitAnd, bitOr, or-lt}
@@ -12,7 +12,7 @@ use lib.Pow.{pow-pos, pow-lt}
 use lib.Dec.{T, eqb, eqb→eq, eqb-refl, T-not}
 use Rattle.postman.specs.Lists.{iterate}
 use Rattle.postman.specs.Laws.Tests.{cond-ind, eqb-same, eqb-other}
-use Rattle.arborescence.specs.BitSet.{bit, Has, bit-le, has?, bit-or, bit-zero, has-single, single-has, meet, meet-of, has-lt, all-has, has-all}
+use Rattle.arborescence.specs.BitSet.{bit, Has, bit-le, has?, bit-or, has-single, single-has, meet, meet-of, has-lt, all-has, has-all}
 use Rattle.arborescence.specs.Reach.{enter, sweep, sweeps, reachesAll}
 
 -- ---- what entering does

@@ -1,25 +1,24 @@
 -- One level of Edmonds' recursion, on the arrays: the entries make a tree, or the circle is shrunk, and the least cost of the smaller picture with what was
 -- paid is the least cost of this one.
 use mathlib.Core.Path.{_≡_, refl, sym, ap, ap₂, _∙_, subst, subst⁻¹}
-use mathlib.Core.Logic.{_⊎_, inl, inr, _≢_}
+use mathlib.Core.Logic.{inl, inr, _≢_}
 use mathlib.Core.Bool.{Bool, true, false, not, cond, _&&_, _||_}
 use mathlib.Core.List.{List, [], _∷_, map, List·Memᴰ, List·Memᴰ·head, List·Memᴰ·tail, List·Memᴰ·cases-cons}
-use Prim.Native.Nat.{ℕ, zero, suc, _+_, _*_, _-_, _/_, _%_, _≤_, _<_}
+use Prim.Native.Nat.{ℕ, _+_, _*_, _/_, _%_, _≤_, _<_}
 use native.Mathlib.Decide.{ℕ-discrete}
 use native.Mathlib.Omega.{arith}
 use lib.ListN.{length, getD, set}
 use lib.Seq.{getD-set-same, getD-set-other}
-use lib.Dec.{T, eqb, T-not, not-T}
+use lib.Dec.{eqb, T-not}
 use lib.IntN.{ℤ, pos, _+ℤ_, _-ℤ_}
 use lib.Signed.{ltZ, _≤ℤ_, ≤ℤ-refl}
 use Rattle.integers.specs.Linear.{z, zl}
-use Rattle.postman.specs.Lists.{select, upFrom, below, sumOfℤ, iterate, occurrences}
-use Rattle.postman.specs.Laws.Tests.{cond-ind, test, same-test, and-parts, and-both}
+use Rattle.postman.specs.Lists.{select, upFrom, below, sumOfℤ, iterate}
+use Rattle.postman.specs.Laws.Tests.{test, same-test}
 use Rattle.postman.specs.Laws.Membership.{mem-select, select-mem, mem-upFrom, upFrom-mem, mem-map, map-mem, mem-below, below-mem, length-upFrom}
 use Rattle.postman.specs.Laws.Occurrences.{occurrences-select, occurrences-upFrom}
-use Rattle.postman.specs.Laws.SignedSum.{≤ℤ-trans}
-use Rattle.arborescence.specs.Cheapest.{Matrix, AreOthers, IsTree, treeCost, IsCheapest, AreEntries, IsReduced, IsCircle, isAmong, shrunk, IsLeast, IsContraction}
-use Rattle.arborescence.specs.Picture.{matrixOf, othersIn, highest, IsPicture, placeOf, less, lineOf, IsBest, HasEntries, entryOf, payOf, IsLost, IsMarked, IsPlace, IsShrunk, keptOf}
+use Rattle.arborescence.specs.Cheapest.{AreOthers, treeCost, IsCheapest, AreEntries, IsReduced, IsCircle, isAmong, shrunk, IsContraction}
+use Rattle.arborescence.specs.Picture.{matrixOf, othersIn, highest, IsPicture, placeOf, less, HasEntries, entryOf, payOf, IsLost, IsMarked, IsPlace, IsShrunk, keptOf}
 use Rattle.arborescence.specs.Laws.Edmonds.{among-of, of-among, tree-of-entries, pay-entries, shrink-circle}
 use Rattle.arborescence.specs.Laws.Circle.{orbit, entries-tree, is-circle, start-mem, shrunk-fewer, select-le}
 use Rattle.arborescence.specs.Laws.Picture.{is-true, is-false, of-true, pay-within, less-within}

@@ -1,40 +1,28 @@
 -- Each part of the layout has its test.
-use Rattle.arborescence.specs.Layout.{IsLayout}
 use borrow.Author.Tests.{not-false}
-use mathlib.Core.Bool.{Bool, true, false, not}
-use lib.ListN.{length, getD, set, take}
+use lib.ListN.{getD}
 use native.Mathlib.Omega.{arith}
-use Prim.Native.Nat.{ℕ, suc, _+_, _*_, _-_, _/_, _%_, _^_, _≤_, _<_}
-use mathlib.Core.Path.{_≡_, refl, sym, ap, _∙_, subst, subst⁻¹}
+use Prim.Native.Nat.{ℕ, _+_}
+use mathlib.Core.Path.{_≡_}
 use borrow.Author.Needs.{needs}
 use Rattle.arborescence_test.proofs.is_layout.Statement.{statement}
 use Rattle.arborescence_test.proofs.is_layout.Tie as tie
-use Rattle.arborescence_test.proofs.is_layout.Reads as reads
-use Rattle.arborescence_test.proofs.is_layout.Lts as lts
-use Rattle.arborescence_test.proofs.sources_below.Reads as sources-below-reads
-use Rattle.arborescence_test.proofs.starts_ascend.Reads as starts-ascend-reads
 
--- src/main.rt:74:9
 returns : tie.Need-returns
 returns c = λ t. (let y : _≡_ {A = ℕ} 0 1 = cc in absurd (omega arith))
 
--- src/main.rt:77:9
 returns-2 : tie.Need-returns-2
 returns-2 c = λ t. (let y : _≡_ {A = ℕ} 0 1 = cc in absurd (omega arith))
 
--- src/main.rt:79:9
 starts-ascend-requires : tie.Need-starts-ascend-requires
 starts-ascend-requires c κs = search needs
 
--- src/main.rt:80:9
 returns-3 : tie.Need-returns-3
 returns-3 c = λ t. (let y : _≡_ {A = ℕ} 0 1 = cc in absurd (omega arith))
 
--- src/main.rt:82:5
 sources-below-requires : tie.Need-sources-below-requires
 sources-below-requires c κs = search needs
 
--- src/main.rt:70:1
 returns-4 : tie.Need-returns-4
 returns-4 c =
     let s = c .before .before .before .before .before in

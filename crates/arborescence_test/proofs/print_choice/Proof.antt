@@ -1,15 +1,8 @@
 -- Places below 8.
-use lib.ListN.{length, getD, set, take}
-use native.Mathlib.Omega.{arith}
-use Prim.Native.Nat.{ℕ, suc, _+_, _*_, _-_, _/_, _%_, _^_, _≤_, _<_}
-use mathlib.Core.Path.{_≡_, refl, sym, ap, _∙_, subst, subst⁻¹}
+use Prim.Native.Nat.{_-_, _≤_}
 use borrow.Author.Needs.{needs}
 use Rattle.arborescence_test.proofs.print_choice.Statement.{statement}
 use Rattle.arborescence_test.proofs.print_choice.Tie as tie
-use Rattle.arborescence_test.proofs.print_choice.Reads as reads
-use Rattle.arborescence_test.proofs.print_choice.Lts as lts
-use Rattle.io.proofs.print_decimal.Reads as print-decimal-reads
-use Rattle.io.proofs.write_all.Reads as write-all-reads
 
 abbrev Inv-loop : tie.InvT-loop
 Inv-loop k choice q₀ t5 t6 q = (k ≤ 8) × (1 ≤ q)
@@ -17,51 +10,39 @@ Inv-loop k choice q₀ t5 t6 q = (k ≤ 8) × (1 ≤ q)
 abbrev μ-loop : tie.MeasureT-loop
 μ-loop k choice q₀ t5 t6 q = k - q
 
--- src/main.rt:90:5
 loop-holds : tie.Need-loop-holds Inv-loop μ-loop
 loop-holds c = search needs
 
--- src/main.rt:91:42
 mul-print-decimal : tie.Need-mul-print-decimal Inv-loop μ-loop
 mul-print-decimal c = search needs
 
--- src/main.rt:91:42
 array-read-print-decimal : tie.Need-array-read-print-decimal Inv-loop μ-loop
 array-read-print-decimal c = search needs
 
--- src/main.rt:91:9
 print-decimal-requires : tie.Need-print-decimal-requires Inv-loop μ-loop
 print-decimal-requires c κs = search needs
 
--- src/main.rt:92:38
 slice-aggregate-write-all : tie.Need-slice-aggregate-write-all Inv-loop μ-loop
 slice-aggregate-write-all c = search needs
 
--- src/main.rt:92:9
 write-all-requires : tie.Need-write-all-requires Inv-loop μ-loop
 write-all-requires c κs = search needs
 
--- src/main.rt:90:9
 add-q : tie.Need-add-q Inv-loop μ-loop
 add-q c = search needs
 
--- src/main.rt:90:5
 loop-less : tie.Need-loop-less Inv-loop μ-loop
 loop-less c = search needs
 
--- src/main.rt:90:5
 loop-again : tie.Need-loop-again Inv-loop μ-loop
 loop-again c = search needs
 
--- src/main.rt:94:34
 slice-aggregate-write-all-2 : tie.Need-slice-aggregate-write-all-2 Inv-loop μ-loop
 slice-aggregate-write-all-2 c = search needs
 
--- src/main.rt:94:5
 write-all-requires-2 : tie.Need-write-all-requires-2 Inv-loop μ-loop
 write-all-requires-2 c κs = search needs
 
--- src/main.rt:87:1
 returns : tie.Need-returns Inv-loop μ-loop
 returns c = search needs
 

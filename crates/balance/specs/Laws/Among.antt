@@ -1,22 +1,21 @@
 -- Nothing is sent but between the vertices vs: every pair that a step or a bypass writes to is a pair of them. By induction on the steps.
-use mathlib.Core.Path.{_≡_, refl, sym, ap, _∙_, subst⁻¹}
-use mathlib.Core.Logic.{_⊎_, inl, inr, _≢_}
-use mathlib.Core.Bool.{Bool, false, cond}
-use mathlib.Core.List.{List, [], _∷_, _++_, List·Memᴰ, List·Memᴰ·head, List·Memᴰ·tail, Memᴰ·cast}
+use mathlib.Core.Path.{_≡_, refl}
+use mathlib.Core.Bool.{false}
+use mathlib.Core.List.{List, [], _∷_, List·Memᴰ, List·Memᴰ·head, List·Memᴰ·tail, Memᴰ·cast}
 use Prim.Native.Nat.{ℕ, zero, suc, _+_, _*_, _-_, _≤_, _<_}
 use native.Mathlib.Decide.{ℕ-discrete}
 use native.Mathlib.Omega.{arith}
-use lib.ListN.{length, getD, set, replicate}
+use lib.ListN.{length, getD, set}
 use lib.Seq.{getD-set-other}
 use lib.Dec.{ltb, eqb}
 use Rattle.postman.specs.Link.{Link}
 use Rattle.postman.specs.Laws.Tests.{cond-ind}
 use Rattle.balance.specs.Fold.{fold}
-use Rattle.balance.specs.Search.{Found, search}
-use Rattle.balance.specs.Step.{State, amount, potential, residualLength, place, moved, push, augment, empty, way, add, addAll}
+use Rattle.balance.specs.Search.{search}
+use Rattle.balance.specs.Step.{State, amount, residualLength, moved, push, augment, empty, way, add, addAll}
 use Rattle.balance.specs.Direct.{passed, gained, bypass, bypassFrom, bypassVertex, direct}
 use Rattle.balance.specs.Invariant.{Metric, Certified, limit}
-use Rattle.balance.specs.Laws.Search.{Searching, searched}
+use Rattle.balance.specs.Laws.Search.{searched}
 use Rattle.balance.specs.Laws.Step.{residual-ground, add-certified}
 use Rattle.balance.specs.Laws.Arcs.{zero-at}
 

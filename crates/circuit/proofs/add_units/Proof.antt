@@ -10,10 +10,6 @@ use Rattle.circuit.specs.Laws.Filled.{added-none, added-units, units-fit
 use borrow.Author.Needs.{needs}
 use Rattle.circuit.proofs.add_units.Statement.{statement}
 use Rattle.circuit.proofs.add_units.Tie as tie
-use Rattle.circuit.proofs.add_units.Reads as reads
-use Rattle.circuit.proofs.add_units.Lts as lts
-use Rattle.circuit.proofs.fill.Reads as fill-reads
-use Rattle.circuit.proofs.wide.Reads as wide-reads
 
 abbrev Inv-loop : tie.InvT-loop
 Inv-loop amounts tails₀ heads₀ at to₀ x₀ tails heads to x = (x ≤ 4096) × Added (unitsBelow x amounts) at to tails₀ tails heads₀ heads
@@ -21,28 +17,22 @@ Inv-loop amounts tails₀ heads₀ at to₀ x₀ tails heads to x = (x ≤ 4096)
 abbrev μ-loop : tie.MeasureT-loop
 μ-loop amounts tails₀ heads₀ at to₀ x₀ tails heads to x = 4096 - x
 
--- src/lib.rt:130:5
 loop-holds : tie.Need-loop-holds Inv-loop μ-loop
 unfolding unitsBelow below flatMap
 loop-holds c = (omega arith, added-none (c .args .at) (c .args .tails .now) (c .args .heads .now))
 
--- src/lib.rt:131:22
 mul-wide : tie.Need-mul-wide Inv-loop μ-loop
 mul-wide c = search needs
 
--- src/lib.rt:131:22
 element-copy-out-wide : tie.Need-element-copy-out-wide Inv-loop μ-loop
 element-copy-out-wide c = search needs
 
--- src/lib.rt:131:13
 wide-requires : tie.Need-wide-requires Inv-loop μ-loop
 wide-requires c κs = search needs
 
--- src/lib.rt:132:25
 cast-fill : tie.Need-cast-fill Inv-loop μ-loop
 cast-fill c = search needs
 
--- src/lib.rt:132:9
 fill-requires : tie.Need-fill-requires Inv-loop μ-loop
 fill-requires c κs =
     let s = c .before .before .before .before .before in
@@ -54,11 +44,9 @@ fill-requires c κs =
     let p = s .pre .2 in
     (l .inv .1 .tails-are .same ∙ s .pre .0, omega arith)
 
--- src/lib.rt:133:25
 cast-fill-2 : tie.Need-cast-fill-2 Inv-loop μ-loop
 cast-fill-2 c = search needs
 
--- src/lib.rt:133:9
 fill-requires-2 : tie.Need-fill-requires-2 Inv-loop μ-loop
 fill-requires-2 c κs =
     let s = c .before .before .before .before .before .before .before in
@@ -70,7 +58,6 @@ fill-requires-2 c κs =
     let p = s .pre .2 in
     (l .inv .1 .heads-are .same ∙ s .pre .1, omega arith)
 
--- src/lib.rt:134:9
 add-to : tie.Need-add-to Inv-loop μ-loop
 add-to c =
     let s = c .before .before .before .before .before .before .before .before in
@@ -82,15 +69,12 @@ add-to c =
     let p = s .pre .2 in
     record { fits = omega arith }
 
--- src/lib.rt:135:9
 add-x : tie.Need-add-x Inv-loop μ-loop
 add-x c = search needs
 
--- src/lib.rt:130:5
 loop-less : tie.Need-loop-less Inv-loop μ-loop
 loop-less c = search needs
 
--- src/lib.rt:130:5
 loop-again : tie.Need-loop-again Inv-loop μ-loop
 loop-again c =
     let s = c .before .before .before .before .before .before .before .before in
@@ -101,7 +85,6 @@ loop-again c =
           (c .before .before .fill .ensures) (c .fill2 .ensures),
     )
 
--- src/lib.rt:119:1
 returns : tie.Need-returns Inv-loop μ-loop
 unfolding units
 returns c =

@@ -7,28 +7,19 @@ use Rattle.circuit.specs.Laws.Held.{top-below, has-room, walked-at, plac
 use borrow.Author.Needs.{needs}
 use Rattle.circuit.proofs.advance.Statement.{statement}
 use Rattle.circuit.proofs.advance.Tie as tie
-use Rattle.circuit.proofs.advance.Reads as reads
-use Rattle.circuit.proofs.advance.Lts as lts
-use Rattle.circuit.proofs.next_leg.Reads as next-leg-reads
-use Rattle.circuit.proofs.wide.Reads as wide-reads
 
--- src/lib.rt:60:15
 sub-top : tie.Need-sub-top
 sub-top c = search needs
 
--- src/lib.rt:61:13
 mul-k : tie.Need-mul-k
 mul-k c = search needs
 
--- src/lib.rt:61:13
 slice-read-k : tie.Need-slice-read-k
 slice-read-k c = search needs
 
--- src/lib.rt:62:9
 wide-requires : tie.Need-wide-requires
 wide-requires c κs = search needs
 
--- src/lib.rt:63:13
 shared-slice-read-v : tie.Need-shared-slice-read-v
 shared-slice-read-v c =
     let s = c .before .before .before .before .before .before in
@@ -37,19 +28,15 @@ shared-slice-read-v c =
     let e = c .before .wide .ensures in
     omega arith
 
--- src/lib.rt:64:9
 next-leg-requires : tie.Need-next-leg-requires
 next-leg-requires c κs = search needs
 
--- src/lib.rt:66:24
 cast-order : tie.Need-cast-order
 cast-order c = search needs
 
--- src/lib.rt:66:9
 mul-order : tie.Need-mul-order
 mul-order c = search needs
 
--- src/lib.rt:66:9
 slice-write-order : tie.Need-slice-write-order
 slice-write-order c =
     let s = c .before .before .before .before .before .before .before .before .before in
@@ -60,19 +47,15 @@ slice-write-order c =
     let w = s .pre .3 .within in
     omega arith
 
--- src/lib.rt:67:9
 element-write-used : tie.Need-element-write-used
 element-write-used c = search needs
 
--- src/lib.rt:68:34
 add-t21 : tie.Need-add-t21
 add-t21 c = search needs
 
--- src/lib.rt:68:9
 same-length : tie.Need-same-length
 same-length c = search needs
 
--- src/lib.rt:68:9
 returns : tie.Need-returns
 returns c =
     let s = c .before .before .before .before .before .before .before .before .before in
@@ -81,23 +64,18 @@ returns c =
     let f = n .ensures ∙ ap (λ z. firstUnused (a .tails .now) (a .used .now) (getD (a .heads .now) z 0)) (c .before .before .before .before .wide .ensures) in
     walked-at (a .tails .now) (a .heads .now) (a .order .now) (a .used .now) (a .depth) (a .start) (n .result) (s .pre .2) (s .pre .3) f (c .if1 .taken)
 
--- src/lib.rt:70:14
 sub-at : tie.Need-sub-at
 sub-at c = search needs
 
--- src/lib.rt:71:5
 mul-order-2 : tie.Need-mul-order-2
 mul-order-2 c = search needs
 
--- src/lib.rt:71:5
 slice-write-order-2 : tie.Need-slice-write-order-2
 slice-write-order-2 c = search needs
 
--- src/lib.rt:49:1
 same-length-2 : tie.Need-same-length-2
 same-length-2 c = search needs
 
--- src/lib.rt:49:1
 returns-2 : tie.Need-returns-2
 returns-2 c =
     let s = c .before .before .before .before .before .before .before .before .before in

@@ -10,9 +10,6 @@ use Rattle.circuit.specs.Laws.Held.{held-first, run-first, run-step, run
 use borrow.Author.Needs.{needs}
 use Rattle.circuit.proofs.arrange.Statement.{statement}
 use Rattle.circuit.proofs.arrange.Tie as tie
-use Rattle.circuit.proofs.arrange.Reads as reads
-use Rattle.circuit.proofs.arrange.Lts as lts
-use Rattle.circuit.proofs.advance.Reads as advance-reads
 
 abbrev Inv-loop : tie.InvT-loop
 Inv-loop tails heads order₀ used₀ depth₀ start₀ order used depth start =
@@ -21,15 +18,12 @@ Inv-loop tails heads order₀ used₀ depth₀ start₀ order used depth start =
 abbrev μ-loop : tie.MeasureT-loop
 μ-loop tails heads order₀ used₀ depth₀ start₀ order used depth start = 2 * start - depth
 
--- src/lib.rt:81:5
 array-write-used : tie.Need-array-write-used Inv-loop μ-loop
 array-write-used c = search needs
 
--- src/lib.rt:82:5
 slice-write-order : tie.Need-slice-write-order Inv-loop μ-loop
 slice-write-order c = search needs
 
--- src/lib.rt:85:5
 loop-holds : tie.Need-loop-holds Inv-loop μ-loop
 loop-holds c =
     let s = c .before .before .before in
@@ -39,26 +33,21 @@ loop-holds c =
       run-first (a .tails .now) (a .heads .now) (a .order .now) (s .pre .2 .some) (s .pre .1),
     )
 
--- src/lib.rt:86:13
 advance-requires : tie.Need-advance-requires Inv-loop μ-loop
 advance-requires c κs = search needs
 
--- src/lib.rt:85:5
 loop-less : tie.Need-loop-less Inv-loop μ-loop
 loop-less c = search needs
 
--- src/lib.rt:85:5
 loop-again : tie.Need-loop-again Inv-loop μ-loop
 loop-again c =
     let e = c .before .before .advance .ensures in
     let l = c .before .before .before .before .before .before .loop in
     (e .held, l .inv .1 ∙ run-step _ _ _ _ _ _ _ _ _ e)
 
--- src/lib.rt:76:1
 same-length : tie.Need-same-length Inv-loop μ-loop
 same-length c = search needs
 
--- src/lib.rt:76:1
 returns : tie.Need-returns Inv-loop μ-loop
 returns c =
     let s = c .before .before .before .before .before in

@@ -10,8 +10,6 @@ use Rattle.circuit.specs.Laws.Lists.{take-one}
 use borrow.Author.Needs.{needs}
 use Rattle.circuit.proofs.copy.Statement.{statement}
 use Rattle.circuit.proofs.copy.Tie as tie
-use Rattle.circuit.proofs.copy.Reads as reads
-use Rattle.circuit.proofs.copy.Lts as lts
 
 abbrev Inv-loop : tie.InvT-loop
 Inv-loop to₀ at from i₀ to i = (i ≤ length from) × (length to ≡ length to₀) × (take (at + i) to ≡ take at to₀ ++ take i from)
@@ -19,31 +17,24 @@ Inv-loop to₀ at from i₀ to i = (i ≤ length from) × (length to ≡ length 
 abbrev μ-loop : tie.MeasureT-loop
 μ-loop to₀ at from i₀ to i = length from - i
 
--- src/lib.rt:111:5
 loop-holds : tie.Need-loop-holds Inv-loop μ-loop
 loop-holds c = (search needs, refl, extends-none (c .args .to .now) (c .args .at))
 
--- src/lib.rt:112:22
 shared-slice-read-to : tie.Need-shared-slice-read-to Inv-loop μ-loop
 shared-slice-read-to c = search needs
 
--- src/lib.rt:112:12
 add-to : tie.Need-add-to Inv-loop μ-loop
 add-to c = search needs
 
--- src/lib.rt:112:9
 element-write-to : tie.Need-element-write-to Inv-loop μ-loop
 element-write-to c = search needs
 
--- src/lib.rt:113:9
 add-i : tie.Need-add-i Inv-loop μ-loop
 add-i c = search needs
 
--- src/lib.rt:111:5
 loop-less : tie.Need-loop-less Inv-loop μ-loop
 loop-less c = search needs
 
--- src/lib.rt:111:5
 loop-again : tie.Need-loop-again Inv-loop μ-loop
 loop-again c =
     let a = c .before .before .before .args in
@@ -56,7 +47,6 @@ loop-again c =
           ∙ ap (λ z. take (a .at) (a .to .now) ++ z) (take-one (a .from .now) (l .i) (c .before .loop-test .taken)),
     )
 
--- src/lib.rt:106:1
 returns : tie.Need-returns Inv-loop μ-loop
 returns c =
     let a = c .before .before .args in

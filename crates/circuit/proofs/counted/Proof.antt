@@ -4,19 +4,13 @@ use mathlib.Core.Bool.{cond}
 use borrow.Author.Needs.{needs}
 use Rattle.circuit.proofs.counted.Statement.{statement}
 use Rattle.circuit.proofs.counted.Tie as tie
-use Rattle.circuit.proofs.counted.Reads as reads
-use Rattle.circuit.proofs.counted.Lts as lts
-use Rattle.plan.proofs.is_required.Reads as is-required-reads
 
--- src/lib.rt:148:8
 is-required-requires : tie.Need-is-required-requires
 is-required-requires c κs = search needs
 
--- src/lib.rt:149:9
 returns : tie.Need-returns
 returns c = ap (λ b. cond b 1 0) (sym (c .if1 .taken) ∙ c .before .is-required .ensures)
 
--- src/lib.rt:145:1
 returns-2 : tie.Need-returns-2
 returns-2 c = ap (λ b. cond b 1 0) (sym (c .if1 .left) ∙ c .before .is-required .ensures)
 

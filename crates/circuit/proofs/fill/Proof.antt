@@ -8,8 +8,6 @@ use Rattle.circuit.specs.Laws.Filled.{extends-none, extends-one, replica
 use borrow.Author.Needs.{needs}
 use Rattle.circuit.proofs.fill.Statement.{statement}
 use Rattle.circuit.proofs.fill.Tie as tie
-use Rattle.circuit.proofs.fill.Reads as reads
-use Rattle.circuit.proofs.fill.Lts as lts
 
 abbrev Inv-loop : tie.InvT-loop
 Inv-loop to₀ at value times i₀ to i = (i ≤ times) × (length to ≡ length to₀) × (take (at + i) to ≡ take at to₀ ++ replicate i value)
@@ -17,27 +15,21 @@ Inv-loop to₀ at value times i₀ to i = (i ≤ times) × (length to ≡ length
 abbrev μ-loop : tie.MeasureT-loop
 μ-loop to₀ at value times i₀ to i = times - i
 
--- src/lib.rt:99:5
 loop-holds : tie.Need-loop-holds Inv-loop μ-loop
 loop-holds c = (search needs, refl, extends-none (c .args .to .now) (c .args .at))
 
--- src/lib.rt:100:12
 add-to : tie.Need-add-to Inv-loop μ-loop
 add-to c = search needs
 
--- src/lib.rt:100:9
 element-write-to : tie.Need-element-write-to Inv-loop μ-loop
 element-write-to c = search needs
 
--- src/lib.rt:101:9
 add-i : tie.Need-add-i Inv-loop μ-loop
 add-i c = search needs
 
--- src/lib.rt:99:5
 loop-less : tie.Need-loop-less Inv-loop μ-loop
 loop-less c = search needs
 
--- src/lib.rt:99:5
 loop-again : tie.Need-loop-again Inv-loop μ-loop
 loop-again c =
     let a = c .before .before .args in
@@ -45,7 +37,6 @@ loop-again c =
     let n = l .inv .1 in
     (search needs, length-set (l .to) (a .at + l .i) (a .value) ∙ l .inv .1, extends-one (a .to .now) (replicate (l .i) (a .value)) (l .to) (a .at) (l .i) (a .value) (l .inv .2) (omega (arith, c .before .before .pre .0)) ∙ ap (λ z. take (a .at) (a .to .now) ++ z) (replicate-one (l .i) (a .value)))
 
--- src/lib.rt:94:1
 returns : tie.Need-returns Inv-loop μ-loop
 returns c =
     let a = c .before .before .args in

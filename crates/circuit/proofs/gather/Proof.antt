@@ -11,9 +11,6 @@ use Rattle.circuit.specs.Laws.Noted.{noted-arc, noted-none, noted-all, c
 use borrow.Author.Needs.{needs}
 use Rattle.circuit.proofs.gather.Statement.{statement}
 use Rattle.circuit.proofs.gather.Tie as tie
-use Rattle.circuit.proofs.gather.Reads as reads
-use Rattle.circuit.proofs.gather.Lts as lts
-use Rattle.circuit.proofs.counted.Reads as counted-reads
 
 abbrev Inv-loop : tie.InvT-loop
 Inv-loop numbers₀ tails₀ heads₀ plan m c₀ k₀ numbers tails heads c k =
@@ -22,47 +19,36 @@ Inv-loop numbers₀ tails₀ heads₀ plan m c₀ k₀ numbers tails heads c k =
 abbrev μ-loop : tie.MeasureT-loop
 μ-loop numbers₀ tails₀ heads₀ plan m c₀ k₀ numbers tails heads c k = m - k
 
--- src/lib.rt:164:13
 cast-m : tie.Need-cast-m Inv-loop μ-loop
 cast-m c = search needs
 
--- src/lib.rt:166:5
 loop-holds : tie.Need-loop-holds Inv-loop μ-loop
 loop-holds c = (refl, omega arith, record-arcs (c .args .t1) (c .pre .0), omega arith, noted-none (planValue (c .args .t1)) _ _ _ (c .pre .1) (c .pre .2) (c .pre .3))
 
--- src/lib.rt:167:17
 mul-a : tie.Need-mul-a Inv-loop μ-loop
 mul-a c = search needs
 
--- src/lib.rt:167:17
 element-copy-out-a : tie.Need-element-copy-out-a Inv-loop μ-loop
 element-copy-out-a c = search needs
 
--- src/lib.rt:168:22
 cast-numbers : tie.Need-cast-numbers Inv-loop μ-loop
 cast-numbers c = search needs
 
--- src/lib.rt:168:9
 mul-numbers : tie.Need-mul-numbers Inv-loop μ-loop
 mul-numbers c = search needs
 
--- src/lib.rt:168:9
 element-write-numbers : tie.Need-element-write-numbers Inv-loop μ-loop
 element-write-numbers c = search needs
 
--- src/lib.rt:169:9
 element-write-tails : tie.Need-element-write-tails Inv-loop μ-loop
 element-write-tails c = search needs
 
--- src/lib.rt:170:9
 element-write-heads : tie.Need-element-write-heads Inv-loop μ-loop
 element-write-heads c = search needs
 
--- src/lib.rt:171:14
 counted-requires : tie.Need-counted-requires Inv-loop μ-loop
 counted-requires c κs = search needs
 
--- src/lib.rt:171:9
 add-c : tie.Need-add-c Inv-loop μ-loop
 add-c c =
     let l = c .before .before .before .loop in
@@ -72,15 +58,12 @@ add-c c =
     let i = l .inv in
     record { fits = omega arith }
 
--- src/lib.rt:166:9
 add-k : tie.Need-add-k Inv-loop μ-loop
 add-k c = search needs
 
--- src/lib.rt:166:5
 loop-less : tie.Need-loop-less Inv-loop μ-loop
 loop-less c = search needs
 
--- src/lib.rt:166:5
 loop-again : tie.Need-loop-again Inv-loop μ-loop
 loop-again c =
     let l = c .before .before .before .loop in
@@ -96,7 +79,6 @@ loop-again c =
       noted-arc (planValue p) (l .numbers) (l .tails) (l .heads) (l .c) (l .k) (c .counted .result) (recordAt (p .arcs) (l .k)) (plan-arc p (l .k) (omega arith)) e (omega arith) (i .4),
     )
 
--- src/lib.rt:155:1
 returns : tie.Need-returns Inv-loop μ-loop
 returns c =
     let l = c .before .loop in

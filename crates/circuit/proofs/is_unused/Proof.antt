@@ -2,14 +2,10 @@
 use borrow.Author.Tests.{eq-eqb, ne-eqb}
 use Rattle.circuit.proofs.is_unused.Statement.{statement}
 use Rattle.circuit.proofs.is_unused.Tie as tie
-use Rattle.circuit.proofs.is_unused.Reads as reads
-use Rattle.circuit.proofs.is_unused.Lts as lts
 
--- src/lib.rt:22:9
 returns : tie.Need-returns
 returns c = simp (eq-eqb _ _ (c .if1 .taken))
 
--- src/lib.rt:18:1
 returns-2 : tie.Need-returns-2
 returns-2 c = simp (ne-eqb _ _ (c .if1 .left))
 

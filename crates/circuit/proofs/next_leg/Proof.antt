@@ -11,9 +11,6 @@ use Rattle.circuit.specs.Laws.Search.{first-none, first-at}
 use borrow.Author.Needs.{needs}
 use Rattle.circuit.proofs.next_leg.Statement.{statement}
 use Rattle.circuit.proofs.next_leg.Tie as tie
-use Rattle.circuit.proofs.next_leg.Reads as reads
-use Rattle.circuit.proofs.next_leg.Lts as lts
-use Rattle.circuit.proofs.is_unused.Reads as is-unused-reads
 
 abbrev Inv-loop : tie.InvT-loop
 Inv-loop tails used v e₀ e = (e ≤ length tails) × ((k : ℕ) → k < e → T (not (isUnused tails used v k)))
@@ -21,23 +18,18 @@ Inv-loop tails used v e₀ e = (e ≤ length tails) × ((k : ℕ) → k < e → 
 abbrev μ-loop : tie.MeasureT-loop
 μ-loop tails used v e₀ e = length tails - e
 
--- src/lib.rt:33:5
 loop-holds : tie.Need-loop-holds Inv-loop μ-loop
 loop-holds c = (search needs, λ k h. absurd (omega arith))
 
--- src/lib.rt:34:22
 shared-slice-read-is-unused : tie.Need-shared-slice-read-is-unused Inv-loop μ-loop
 shared-slice-read-is-unused c = search needs
 
--- src/lib.rt:34:32
 element-copy-out-is-unused : tie.Need-element-copy-out-is-unused Inv-loop μ-loop
 element-copy-out-is-unused c = search needs
 
--- src/lib.rt:34:12
 is-unused-requires : tie.Need-is-unused-requires Inv-loop μ-loop
 is-unused-requires c κs = search needs
 
--- src/lib.rt:35:13
 returns : tie.Need-returns Inv-loop μ-loop
 unfolding firstUnused isUnused
 returns c =
@@ -46,20 +38,16 @@ returns c =
     sym (first-at (isUnused (a .tails .now) (a .used .now) (a .v)) (length (a .tails .now)) (l .e) (c .before .before .before .before .loop-test .taken)
     (subst⁻¹ T (sym (c .before .is-unused .ensures) ∙ c .if1 .taken) tt) (l .inv .1))
 
--- src/lib.rt:37:9
 add-e : tie.Need-add-e Inv-loop μ-loop
 add-e c = search needs
 
--- src/lib.rt:33:5
 loop-less : tie.Need-loop-less Inv-loop μ-loop
 loop-less c = search needs
 
--- src/lib.rt:33:5
 loop-again : tie.Need-loop-again Inv-loop μ-loop
 unfolding isUnused
 loop-again c = (search needs, below-more _ _ (c .before .before .before .before .before .loop .inv .1) (subst⁻¹ (λ b. T (not b)) (sym (c .before .is-unused .ensures) ∙ c .if1 .left) tt))
 
--- src/lib.rt:28:1
 returns-2 : tie.Need-returns-2 Inv-loop μ-loop
 unfolding firstUnused
 returns-2 c =

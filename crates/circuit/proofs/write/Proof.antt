@@ -9,10 +9,6 @@ use Rattle.circuit.specs.Laws.Written.{WrittenTo, to-none, to-length, to
 use borrow.Author.Needs.{needs}
 use Rattle.circuit.proofs.write.Statement.{statement}
 use Rattle.circuit.proofs.write.Tie as tie
-use Rattle.circuit.proofs.write.Reads as reads
-use Rattle.circuit.proofs.write.Lts as lts
-use Rattle.circuit.proofs.wide.Reads as wide-reads
-use Rattle.circuit.proofs.write_leg.Reads as write-leg-reads
 
 abbrev Inv-loop : tie.InvT-loop
 Inv-loop plan table numbers tails heads order places₀ at₀ x₀ places at x =
@@ -21,25 +17,20 @@ Inv-loop plan table numbers tails heads order places₀ at₀ x₀ places at x =
 abbrev μ-loop : tie.MeasureT-loop
 μ-loop plan table numbers tails heads order places₀ at₀ x₀ places at x = length order - x
 
--- src/lib.rt:260:5
 loop-holds : tie.Need-loop-holds Inv-loop μ-loop
 loop-holds c =
     let a = c .before .before .before .before .before .args in
     (omega arith, to-none (shortestPath (planValue (a .plan))) (a .numbers .now) (a .tails .now) (a .heads .now) (a .order .now) (a .places .now))
 
--- src/lib.rt:261:65
 mul-wide : tie.Need-mul-wide Inv-loop μ-loop
 mul-wide c = search needs
 
--- src/lib.rt:261:65
 shared-slice-read-wide : tie.Need-shared-slice-read-wide Inv-loop μ-loop
 shared-slice-read-wide c = search needs
 
--- src/lib.rt:261:60
 wide-requires : tie.Need-wide-requires Inv-loop μ-loop
 wide-requires c κs = search needs
 
--- src/lib.rt:261:9
 write-leg-requires : tie.Need-write-leg-requires Inv-loop μ-loop
 write-leg-requires c κs =
     let s = c .before .before .before .before .before .before .before .before .before .before in
@@ -54,15 +45,12 @@ write-leg-requires c κs =
       ),
     )
 
--- src/lib.rt:262:9
 add-x : tie.Need-add-x Inv-loop μ-loop
 add-x c = search needs
 
--- src/lib.rt:260:5
 loop-less : tie.Need-loop-less Inv-loop μ-loop
 loop-less c = search needs
 
--- src/lib.rt:260:5
 loop-again : tie.Need-loop-again Inv-loop μ-loop
 loop-again c =
     let s = c .before .before .before .before .before .before .before .before .before .before .before .before .before in
@@ -72,7 +60,6 @@ loop-again c =
     let g = c .before .before .write-leg in
     (search needs, to-more (shortestPath (planValue (a .plan))) (a .numbers .now) (a .tails .now) (a .heads .now) (a .order .now) (a .places .now) (l .x) (l .at) (l .places) (c .before .before .before .before .before .before .loop-test .taken) (s .pre .1 .1 .1) (l .inv .1) (w .result) (g .result) _ (w .ensures) (g .ensures .0) (g .ensures .1))
 
--- src/lib.rt:242:1
 same-length : tie.Need-same-length Inv-loop μ-loop
 same-length c =
     let s = c .before .before .before .before .before .before .before in
@@ -80,7 +67,6 @@ same-length c =
     let l = c .before .loop in
     to-length (shortestPath (planValue (a .plan))) (a .numbers .now) (a .tails .now) (a .heads .now) (a .order .now) (a .places .now) (l .x) (l .at) (l .places) (s .pre .1 .1 .1) (l .inv .1)
 
--- src/lib.rt:242:1
 returns : tie.Need-returns Inv-loop μ-loop
 returns c =
     let a = c .before .before .before .before .before .before .before .args in

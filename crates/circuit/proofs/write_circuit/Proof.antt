@@ -10,16 +10,10 @@ use Rattle.circuit.specs.Laws.Circuit.{circuit-below}
 use borrow.Author.Needs.{needs}
 use Rattle.circuit.proofs.write_circuit.Statement.{statement}
 use Rattle.circuit.proofs.write_circuit.Tie as tie
-use Rattle.circuit.proofs.write_circuit.Reads as reads
-use Rattle.circuit.proofs.write_circuit.Lts as lts
-use Rattle.circuit.proofs.arrange.Reads as arrange-reads
-use Rattle.circuit.proofs.write.Reads as write-reads
 
--- src/lib.rt:285:5
 arrange-requires : tie.Need-arrange-requires
 arrange-requires c κs = search needs
 
--- src/lib.rt:286:5
 write-requires : tie.Need-write-requires
 write-requires c κs =
     let s = c .before .before .before .before .before .before .before .before .before .before .before in
@@ -35,15 +29,12 @@ write-requires c κs =
       ),
     )
 
--- src/lib.rt:269:1
 same-length : tie.Need-same-length
 same-length c = search needs
 
--- src/lib.rt:269:1
 same-length-2 : tie.Need-same-length-2
 same-length-2 c = search needs
 
--- src/lib.rt:269:1
 returns : tie.Need-returns
 returns c =
     let s = c .before .before .before .before .before .before .before .before .before .before .before .before .before .before in

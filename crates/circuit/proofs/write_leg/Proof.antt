@@ -10,39 +10,28 @@ use Rattle.circuit.specs.Laws.Written.{number-room, number-written, path
 use borrow.Author.Needs.{needs}
 use Rattle.circuit.proofs.write_leg.Statement.{statement}
 use Rattle.circuit.proofs.write_leg.Tie as tie
-use Rattle.circuit.proofs.write_leg.Reads as reads
-use Rattle.circuit.proofs.write_leg.Lts as lts
-use Rattle.circuit.proofs.wide8.Reads as wide8-reads
-use Rattle.shortest.proofs.path.Reads as path-reads
 
--- src/lib.rt:233:22
 mul-places : tie.Need-mul-places
 mul-places c = search needs
 
--- src/lib.rt:233:22
 shared-slice-read-places : tie.Need-shared-slice-read-places
 shared-slice-read-places c = search needs
 
--- src/lib.rt:233:9
 mul-places-2 : tie.Need-mul-places-2
 mul-places-2 c = search needs
 
--- src/lib.rt:233:9
 slice-write-places : tie.Need-slice-write-places
 slice-write-places c =
     let s = c .before .before .before .before .before .before in
     let a = s .args in
     number-room (shortestPath (planValue (a .plan))) (a .numbers .now) (a .tails .now) (a .heads .now) (a .e) (length (a .places .now)) (a .at) (c .before .if1 .taken) (s .pre .1 .1)
 
--- src/lib.rt:234:16
 add-result : tie.Need-add-result
 add-result c = search needs
 
--- src/lib.rt:234:9
 same-length : tie.Need-same-length
 same-length c = search needs
 
--- src/lib.rt:234:9
 returns : tie.Need-returns
 returns c =
     let s = c .before .before .before .before .before .before in
@@ -50,23 +39,18 @@ returns c =
     let r = number-room (shortestPath (planValue (a .plan))) (a .numbers .now) (a .tails .now) (a .heads .now) (a .e) (length (a .places .now)) (a .at) (c .before .if1 .taken) (s .pre .1 .1) in
     number-written (shortestPath (planValue (a .plan))) (a .numbers .now) (a .tails .now) (a .heads .now) (a .e) (a .places .now) (a .at) (c .before .if1 .taken) r
 
--- src/lib.rt:236:19
 shared-slice-read-wide8 : tie.Need-shared-slice-read-wide8
 shared-slice-read-wide8 c = search needs
 
--- src/lib.rt:236:9
 wide8-requires : tie.Need-wide8-requires
 wide8-requires c κs = search needs
 
--- src/lib.rt:237:19
 shared-slice-read-wide8-2 : tie.Need-shared-slice-read-wide8-2
 shared-slice-read-wide8-2 c = search needs
 
--- src/lib.rt:237:9
 wide8-requires-2 : tie.Need-wide8-requires-2
 wide8-requires-2 c κs = search needs
 
--- src/lib.rt:238:5
 path-requires : tie.Need-path-requires
 path-requires c κs =
     let s = c .before .before .before .before .before .before .before .before .before .before in
@@ -79,11 +63,9 @@ path-requires c κs =
     let q = path-of (shortestPath p) (a .numbers .now) (a .tails .now) (a .heads .now) (a .e) _ _ l u v in
     (s .pre .0, ((subst⁻¹ (λ z. z < p .n) u (r .from), subst⁻¹ (λ z. z < p .n) v (r .to), subst₂ (λ x y. distance p x y < noPath) (sym u) (sym v) (r .linked)), subst⁻¹ (λ z. a .at + length z ≤ length (a .places .now)) q (s .pre .1 .1)))
 
--- src/lib.rt:216:1
 same-length-2 : tie.Need-same-length-2
 same-length-2 c = search needs
 
--- src/lib.rt:216:1
 returns-2 : tie.Need-returns-2
 returns-2 c =
     let s = c .before .before .before .before .before .before .before .before .before .before .before .before .before in

@@ -13,12 +13,7 @@ use Rattle.circuit.specs.Laws.Completion.{completion, few-legs, ready}
 use borrow.Author.Needs.{needs}
 use Rattle.circuit.proofs.write_tour.Statement.{statement}
 use Rattle.circuit.proofs.write_tour.Tie as tie
-use Rattle.circuit.proofs.write_tour.Reads as reads
-use Rattle.circuit.proofs.write_tour.Lts as lts
-use Rattle.circuit.proofs.lay.Reads as lay-reads
-use Rattle.circuit.proofs.write_circuit.Reads as write-circuit-reads
 
--- src/lib.rt:308:9
 lay-requires : tie.Need-lay-requires
 lay-requires c κs =
     let s = c .before .before .before .before .before .before in
@@ -29,23 +24,18 @@ lay-requires c κs =
     let n = links-length (a .link-tails .now) (a .link-heads .now) (s .pre .1 .0 .0) in
     ((s .pre .0 .0, length-replicate {A = ℕ} 256 0, length-replicate {A = ℕ} 526 0, length-replicate {A = ℕ} 526 0), (s .pre .1 .0 .0, omega arith))
 
--- src/lib.rt:314:9
 array-share-prefix-numbers : tie.Need-array-share-prefix-numbers
 array-share-prefix-numbers c = prefix-le _ _ _ (c .lay .ensures .numbers-are) (c .lay .ensures .count)
 
--- src/lib.rt:314:9
 slice-aggregate-write-circuit : tie.Need-slice-aggregate-write-circuit
 slice-aggregate-write-circuit c = prefix-length _ _ _ (c .before .lay .ensures .numbers-are) (c .before .lay .ensures .count)
 
--- src/lib.rt:315:9
 array-share-prefix-tails : tie.Need-array-share-prefix-tails
 array-share-prefix-tails c = prefix-le _ _ _ (c .before .lay .ensures .tails-are) (c .before .lay .ensures .number)
 
--- src/lib.rt:315:9
 slice-aggregate-write-circuit-2 : tie.Need-slice-aggregate-write-circuit-2
 slice-aggregate-write-circuit-2 c = prefix-length _ _ _ (c .before .before .lay .ensures .tails-are) (c .before .before .lay .ensures .number)
 
--- src/lib.rt:316:9
 array-share-prefix-heads : tie.Need-array-share-prefix-heads
 array-share-prefix-heads c =
     let s = c .before .before .before .before .before .before .before .before .before in
@@ -56,7 +46,6 @@ array-share-prefix-heads c =
     let l = c .before .before .lay .ensures in
     prefix-le _ _ _ (l .heads-are) (l .number ∙ sym (legs-length p (s .pre .0 .0) t (a .amounts .now) h))
 
--- src/lib.rt:316:9
 slice-aggregate-write-circuit-3 : tie.Need-slice-aggregate-write-circuit-3
 slice-aggregate-write-circuit-3 c =
     let s = c .before .before .before .before .before .before .before .before .before .before in
@@ -67,7 +56,6 @@ slice-aggregate-write-circuit-3 c =
     let l = c .before .before .before .lay .ensures in
     prefix-length _ _ _ (l .heads-are) (l .number ∙ sym (legs-length p (s .pre .0 .0) t (a .amounts .now) h))
 
--- src/lib.rt:317:9
 array-borrow-prefix-order : tie.Need-array-borrow-prefix-order
 array-borrow-prefix-order c =
     let s = c .before .before .before .before .before .before .before .before .before .before in
@@ -80,7 +68,6 @@ array-borrow-prefix-order c =
     let n = prefix-length _ _ _ (l .tails-are) (l .number) in
     omega arith
 
--- src/lib.rt:317:9
 slice-aggregate-write-circuit-4 : tie.Need-slice-aggregate-write-circuit-4
 slice-aggregate-write-circuit-4 c =
     let s = c .before .before .before .before .before .before .before .before .before .before .before in
@@ -94,7 +81,6 @@ slice-aggregate-write-circuit-4 c =
     let m = length-replicate {A = ℕ} 526 0 in
     sym (length-take-le _ (replicate {A = ℕ} 526 0) (omega arith))
 
--- src/lib.rt:311:5
 write-circuit-requires : tie.Need-write-circuit-requires
 write-circuit-requires c κs =
     let s = c .before .before .before .before .before .before .before .before .before .before .before .before in
@@ -112,11 +98,9 @@ write-circuit-requires c κs =
     let q = s .pre .1 .1 in
     (s .pre .0, ((f, length-take-le _ (replicate {A = ℕ} 526 0) (omega arith) ∙ n, r .eulerian), (r .have-paths, omega arith)))
 
--- src/lib.rt:290:1
 same-length : tie.Need-same-length
 same-length c = search needs
 
--- src/lib.rt:290:1
 returns : tie.Need-returns
 returns c =
     let s = c .before .before .before .before .before .before .before .before .before .before .before .before .before .before .before .before in

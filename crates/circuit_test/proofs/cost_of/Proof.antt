@@ -4,10 +4,6 @@ use lib.ListN.{length}
 use borrow.Author.Needs.{needs}
 use Rattle.circuit_test.proofs.cost_of.Statement.{statement}
 use Rattle.circuit_test.proofs.cost_of.Tie as tie
-use Rattle.circuit_test.proofs.cost_of.Reads as reads
-use Rattle.circuit_test.proofs.cost_of.Lts as lts
-use Rattle.circuit_test.proofs.arc_of.Reads as arc-of-reads
-use Rattle.circuit_test.proofs.wide.Reads as wide-reads
 
 abbrev Inv-loop : tie.InvT-loop
 Inv-loop plan places sum₀ i₀ sum i = (i ≤ length places) × (sum < 4294967296)
@@ -15,43 +11,33 @@ Inv-loop plan places sum₀ i₀ sum i = (i ≤ length places) × (sum < 4294967
 abbrev μ-loop : tie.MeasureT-loop
 μ-loop plan places sum₀ i₀ sum i = length places - i
 
--- src/main.rt:97:5
 loop-holds : tie.Need-loop-holds Inv-loop μ-loop
 loop-holds c = search needs
 
--- src/main.rt:98:30
 mul-arc-of : tie.Need-mul-arc-of Inv-loop μ-loop
 mul-arc-of c = search needs
 
--- src/main.rt:98:30
 shared-slice-read-arc-of : tie.Need-shared-slice-read-arc-of Inv-loop μ-loop
 shared-slice-read-arc-of c = search needs
 
--- src/main.rt:98:13
 arc-of-requires : tie.Need-arc-of-requires Inv-loop μ-loop
 arc-of-requires c κs = search needs
 
--- src/main.rt:99:22
 wide-requires : tie.Need-wide-requires Inv-loop μ-loop
 wide-requires c κs = search needs
 
--- src/main.rt:99:16
 add-sum : tie.Need-add-sum Inv-loop μ-loop
 add-sum c = search needs
 
--- src/main.rt:100:9
 add-i : tie.Need-add-i Inv-loop μ-loop
 add-i c = search needs
 
--- src/main.rt:97:5
 loop-less : tie.Need-loop-less Inv-loop μ-loop
 loop-less c = search needs
 
--- src/main.rt:97:5
 loop-again : tie.Need-loop-again Inv-loop μ-loop
 loop-again c = search needs
 
--- src/main.rt:94:1
 returns : tie.Need-returns Inv-loop μ-loop
 returns c = search needs
 

@@ -4,10 +4,6 @@ use lib.ListN.{length}
 use borrow.Author.Needs.{needs}
 use Rattle.circuit_test.proofs.is_closed.Statement.{statement}
 use Rattle.circuit_test.proofs.is_closed.Tie as tie
-use Rattle.circuit_test.proofs.is_closed.Reads as reads
-use Rattle.circuit_test.proofs.is_closed.Lts as lts
-use Rattle.circuit_test.proofs.arc_of.Reads as arc-of-reads
-use Rattle.plan.proofs.is_open.Reads as is-open-reads
 
 abbrev Inv-loop : tie.InvT-loop
 Inv-loop plan places v at₀ i₀ at i = i ≤ length places
@@ -15,47 +11,36 @@ Inv-loop plan places v at₀ i₀ at i = i ≤ length places
 abbrev μ-loop : tie.MeasureT-loop
 μ-loop plan places v at₀ i₀ at i = length places - i
 
--- src/main.rt:51:5
 loop-holds : tie.Need-loop-holds Inv-loop μ-loop
 loop-holds c = search needs
 
--- src/main.rt:52:30
 mul-arc-of : tie.Need-mul-arc-of Inv-loop μ-loop
 mul-arc-of c = search needs
 
--- src/main.rt:52:30
 shared-slice-read-arc-of : tie.Need-shared-slice-read-arc-of Inv-loop μ-loop
 shared-slice-read-arc-of c = search needs
 
--- src/main.rt:52:13
 arc-of-requires : tie.Need-arc-of-requires Inv-loop μ-loop
 arc-of-requires c κs = search needs
 
--- src/main.rt:54:13
 returns : tie.Need-returns Inv-loop μ-loop
 returns c = search needs
 
--- src/main.rt:56:13
 is-open-requires : tie.Need-is-open-requires Inv-loop μ-loop
 is-open-requires c κs = search needs
 
--- src/main.rt:57:13
 returns-2 : tie.Need-returns-2 Inv-loop μ-loop
 returns-2 c = search needs
 
--- src/main.rt:60:9
 add-i : tie.Need-add-i Inv-loop μ-loop
 add-i c = search needs
 
--- src/main.rt:51:5
 loop-less : tie.Need-loop-less Inv-loop μ-loop
 loop-less c = search needs
 
--- src/main.rt:51:5
 loop-again : tie.Need-loop-again Inv-loop μ-loop
 loop-again c = search needs
 
--- src/main.rt:48:1
 returns-3 : tie.Need-returns-3 Inv-loop μ-loop
 returns-3 c = search needs
 

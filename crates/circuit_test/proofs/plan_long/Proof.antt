@@ -5,8 +5,6 @@ use Rattle.circuit_test.specs.Cases.{ring, FilledTo, ring-none, ring-mor
 use borrow.Author.Needs.{needs}
 use Rattle.circuit_test.proofs.plan_long.Statement.{statement}
 use Rattle.circuit_test.proofs.plan_long.Tie as tie
-use Rattle.circuit_test.proofs.plan_long.Reads as reads
-use Rattle.circuit_test.proofs.plan_long.Lts as lts
 
 abbrev Inv-loop : tie.InvT-loop
 Inv-loop arcs₀ k₀ arcs k = (190 ≤ k) × (k ≤ 253) × FilledTo ring arcs k
@@ -14,43 +12,33 @@ Inv-loop arcs₀ k₀ arcs k = (190 ≤ k) × (k ≤ 253) × FilledTo ring arcs 
 abbrev μ-loop : tie.MeasureT-loop
 μ-loop arcs₀ k₀ arcs k = 253 - k
 
--- src/main.rt:206:5
 loop-holds : tie.Need-loop-holds Inv-loop μ-loop
 loop-holds c = (search needs, search needs, ring-none 256 refl)
 
--- src/main.rt:207:32
 sub-t5 : tie.Need-sub-t5 Inv-loop μ-loop
 sub-t5 c = search needs
 
--- src/main.rt:207:31
 cast-t6 : tie.Need-cast-t6 Inv-loop μ-loop
 cast-t6 c = search needs
 
--- src/main.rt:207:56
 sub-t7 : tie.Need-sub-t7 Inv-loop μ-loop
 sub-t7 c = search needs
 
--- src/main.rt:207:54
 cast-t9 : tie.Need-cast-t9 Inv-loop μ-loop
 cast-t9 c = search needs
 
--- src/main.rt:207:9
 mul-arcs : tie.Need-mul-arcs Inv-loop μ-loop
 mul-arcs c = search needs
 
--- src/main.rt:207:9
 array-set-from-arcs : tie.Need-array-set-from-arcs Inv-loop μ-loop
 array-set-from-arcs c = search needs
 
--- src/main.rt:208:9
 add-k : tie.Need-add-k Inv-loop μ-loop
 add-k c = search needs
 
--- src/main.rt:206:5
 loop-less : tie.Need-loop-less Inv-loop μ-loop
 loop-less c = search needs
 
--- src/main.rt:206:5
 loop-again : tie.Need-loop-again Inv-loop μ-loop
 loop-again c = (
   search needs,
@@ -58,7 +46,6 @@ loop-again c = (
   ring-more _ _ (c .before .loop .inv .0) (c .loop-test .taken) (c .before .loop .inv .2),
 )
 
--- src/main.rt:201:1
 returns : tie.Need-returns Inv-loop μ-loop
 returns c = ring-all _ _ (c .loop-test .left) (c .before .loop .inv .2)
 

@@ -5,10 +5,7 @@ use Rattle.plan.specs.Records.{planValue}
 use Rattle.circuit_test.specs.Cases.{loops}
 use Rattle.circuit_test.proofs.plan_loops.Statement.{statement}
 use Rattle.circuit_test.proofs.plan_loops.Tie as tie
-use Rattle.circuit_test.proofs.plan_loops.Reads as reads
-use Rattle.circuit_test.proofs.plan_loops.Lts as lts
 
--- src/main.rt:194:1
 returns : tie.Need-returns
 unfolding planValue below loops
 returns c = refl

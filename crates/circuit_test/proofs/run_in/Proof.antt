@@ -16,33 +16,23 @@ use Rattle.circuit.specs.Laws.Completion.{completion}
 use borrow.Author.Needs.{needs}
 use Rattle.circuit_test.proofs.run_in.Statement.{statement}
 use Rattle.circuit_test.proofs.run_in.Tie as tie
-use Rattle.circuit_test.proofs.run_in.Reads as reads
-use Rattle.circuit_test.proofs.run_in.Lts as lts
-use Rattle.circuit.proofs.write_tour.Reads as write-tour-reads
-use Rattle.circuit_test.proofs.report.Reads as report-reads
-use Rattle.circuit_test.proofs.text.Reads as text-reads
-use Rattle.shortest.proofs.table.Reads as table-reads
 
 short : (p : Plan) (t : List Link) (amounts : List ℕ) → WellFormed p → Completes p t amounts → length (tour p t amounts) ≤ 17266
 unfolding sheetPlaces
 short p t amounts ok h = completion p ok t amounts h .short
 
--- src/main.rt:218:17
 table-requires : tie.Need-table-requires
 table-requires c κs = c .before .before .before .before .pre .0 .well-formed
 
--- src/main.rt:219:9
 write-tour-requires : tie.Need-write-tour-requires
 unfolding sheetPlaces
 write-tour-requires c κs =
     let s = c .before .before .before .before .before .before .before in
     ((s .pre .0 .well-formed, c .before .before .table .ensures), ((s .pre .0 .lengths, s .pre .0 .completes), s .pre .1))
 
--- src/main.rt:220:5
 text-requires : tie.Need-text-requires
 text-requires c κs = search needs
 
--- src/main.rt:221:5
 report-requires : tie.Need-report-requires
 report-requires c κs =
     let s = c .before .before .before .before .before .before .before .before .before .before .before .before in
@@ -56,7 +46,6 @@ report-requires c κs =
     let n = e .1 in
     omega arith
 
--- src/main.rt:215:1
 same-length : tie.Need-same-length
 same-length c =
     let s = c .before .before .before .before .before .before .before .before .before .before .before .before .before in
@@ -69,7 +58,6 @@ same-length c =
     let l = ap length (e .0) ∙ written-length (tour p t (a .amounts .now)) (a .places .now) (omega arith) in
     l
 
--- src/main.rt:215:1
 returns : tie.Need-returns
 returns c = search needs
 

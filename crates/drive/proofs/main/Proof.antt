@@ -5,100 +5,70 @@ use Rattle.planner.specs.Laws.Answered.{floor-above, places-fit, places-count}
 use borrow.Author.Needs.{needs}
 use Rattle.drive.proofs.main.Statement.{statement}
 use Rattle.drive.proofs.main.Tie as tie
-use Rattle.drive.proofs.main.Reads as reads
-use Rattle.drive.proofs.main.Lts as lts
-use Rattle.drive.proofs.answer.Reads as answer-reads
-use Rattle.drive.proofs.line.Reads as line-reads
-use Rattle.drive.proofs.pass_all.Reads as pass-all-reads
-use Rattle.drive.proofs.places.Reads as places-reads
-use Rattle.io.proofs.buffer.Reads as buffer-reads
-use Rattle.io.proofs.read_full.Reads as read-full-reads
-use Rattle.planner.proofs.call.short_call.Reads as short-call-reads
-use Rattle.planner.proofs.refusal_number.Reads as refusal-number-reads
 
--- src/main.rt:70:20
 buffer-requires : tie.Need-buffer-requires
 buffer-requires c κs = search needs
 
--- src/main.rt:71:41
 slice-aggregate-read-full : tie.Need-slice-aggregate-read-full
 slice-aggregate-read-full c = search needs
 
--- src/main.rt:71:9
 read-full-requires : tie.Need-read-full-requires
 read-full-requires c κs = search needs
 
--- src/main.rt:72:5
 pass-all-requires : tie.Need-pass-all-requires
 pass-all-requires c κs = search needs
 
--- src/main.rt:74:24
 array-share-prefix-file : tie.Need-array-share-prefix-file
 array-share-prefix-file c = search needs
 
--- src/main.rt:74:24
 slice-aggregate-short-call : tie.Need-slice-aggregate-short-call
 slice-aggregate-short-call c = search needs
 
--- src/main.rt:74:36
 slice-aggregate-short-call-2 : tie.Need-slice-aggregate-short-call-2
 slice-aggregate-short-call-2 c = search needs
 
--- src/main.rt:74:9
 short-call-requires : tie.Need-short-call-requires
 short-call-requires c κs = search needs
 
--- src/main.rt:79:13
 enum-told : tie.Need-enum-told
 enum-told c = search needs
 
--- src/main.rt:79:13
 answer-requires : tie.Need-answer-requires
 answer-requires c κs =
     let r = c .before .before .before .short-call in
     floor-above _ _ _ _ _ (r .ensures) (ap verdictNumber (c .enum-told .given .1))
 
--- src/main.rt:80:20
 array-share-prefix-sheet : tie.Need-array-share-prefix-sheet
 array-share-prefix-sheet c =
     let r = c .before .before .before .before .short-call in
     places-fit _ _ _ _ _ (r .ensures) (ap verdictNumber (c .before .enum-told .given .1))
 
--- src/main.rt:80:20
 slice-aggregate-places : tie.Need-slice-aggregate-places
 slice-aggregate-places c =
     let r = c .before .before .before .before .before .short-call in
     places-count _ _ _ _ _ (r .ensures) (ap verdictNumber (c .before .before .enum-told .given .1))
 
--- src/main.rt:80:13
 places-requires : tie.Need-places-requires
 places-requires c κs = search needs
 
--- src/main.rt:82:26
 enum-known-verdict : tie.Need-enum-known-verdict
 enum-known-verdict c = search needs
 
--- src/main.rt:82:37
 slice-aggregate-line : tie.Need-slice-aggregate-line
 slice-aggregate-line c = search needs
 
--- src/main.rt:82:50
 refusal-number-requires : tie.Need-refusal-number-requires
 refusal-number-requires c κs = search needs
 
--- src/main.rt:82:50
 cast-line : tie.Need-cast-line
 cast-line c = search needs
 
--- src/main.rt:82:32
 line-requires : tie.Need-line-requires
 line-requires c κs = search needs
 
--- src/main.rt:69:1
 returns : tie.Need-returns
 returns c = search needs
 
--- src/main.rt:69:1
 returns-2 : tie.Need-returns-2
 returns-2 c = search needs
 

@@ -4,43 +4,31 @@ use Rattle.plan.specs.Standings.{must-test}
 use borrow.Author.Needs.{needs}
 use Rattle.plan.proofs.is_required.Statement.{statement}
 use Rattle.plan.proofs.is_required.Tie as tie
-use Rattle.plan.proofs.is_required.Reads as reads
-use Rattle.plan.proofs.is_required.Lts as lts
-use Rattle.plan.proofs.record_standing.Reads as record-standing-reads
 
--- src/lib.rt:59:11
 record-standing-requires : tie.Need-record-standing-requires
 record-standing-requires c κs = search needs
 
--- src/lib.rt:60:26
 enum-told : tie.Need-enum-told
 enum-told c = search needs
 
--- src/lib.rt:61:27
 enum-told-2 : tie.Need-enum-told-2
 enum-told-2 c = search needs
 
--- src/lib.rt:62:29
 enum-told-3 : tie.Need-enum-told-3
 enum-told-3 c = search needs
 
--- src/lib.rt:63:30
 enum-told-4 : tie.Need-enum-told-4
 enum-told-4 c = search needs
 
--- src/lib.rt:56:1
 returns : tie.Need-returns
 returns c = must-test (c .before .before .before .args .a .standing) _ (sym (c .enum-told .given .1) ∙ c .before .before .record-standing .ensures)
 
--- src/lib.rt:56:1
 returns-2 : tie.Need-returns-2
 returns-2 c = must-test (c .before .before .before .args .a .standing) _ (sym (c .enum-told2 .given .1) ∙ c .before .before .record-standing .ensures)
 
--- src/lib.rt:56:1
 returns-3 : tie.Need-returns-3
 returns-3 c = must-test (c .before .before .before .args .a .standing) _ (sym (c .enum-told3 .given .1) ∙ c .before .before .record-standing .ensures)
 
--- src/lib.rt:56:1
 returns-4 : tie.Need-returns-4
 returns-4 c = must-test (c .before .before .before .args .a .standing) _ (sym (c .enum-told4 .given .1) ∙ c .before .before .record-standing .ensures)
 

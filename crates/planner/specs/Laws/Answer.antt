@@ -1,15 +1,15 @@
 -- The answer put together: its fields are those of the definition, its drive is the written one, and the guarantee is the theorem of the floor.
-use mathlib.Core.Path.{_≡_, refl, sym, ap, _∙_, subst, subst⁻¹}
+use mathlib.Core.Path.{_≡_, sym, ap, _∙_, subst, subst⁻¹}
 use mathlib.Core.Bool.{Bool, cond}
 use mathlib.Core.List.{List, [], _∷_, List·Memᴰ, Memᴰ·append-left}
-use mathlib.Core.Option.{Option, none, some, Option·some-ne-none}
-use Prim.Native.Nat.{ℕ, zero, suc, _+_, _*_, _-_, _≤_, _<_, min}
+use mathlib.Core.Option.{none, some, Option·some-ne-none}
+use Prim.Native.Nat.{ℕ, _*_, _-_, _≤_}
 use native.Mathlib.Nat.{suc-mul, mul-le-mul-right}
 use native.Mathlib.Omega.{arith}
-use lib.ListN.{length, getD, take, drop, take-append-drop, length-take}
+use lib.ListN.{length, take, drop, take-append-drop, length-take}
 use lib.IntN.{ℤ, pos}
 use Rattle.postman.specs.Lists.{maxℤ}
-use Rattle.postman.specs.Plan.{Arc, Plan, arcAt, WellFormed}
+use Rattle.postman.specs.Plan.{Arc, Plan, arcAt}
 use Rattle.postman.specs.Refusal.{answer, unless}
 use Rattle.postman.specs.Tour.{IsWalk, walkCost}
 use Rattle.postman.specs.Link.{Link}
@@ -29,7 +29,7 @@ use Rattle.planner.specs.declared.Planned.{Planned}
 use Rattle.planner.specs.Refusals.{verdictNumber}
 use Rattle.planner.specs.Tour.{tourOf, amountsOf}
 use Rattle.planner.specs.Prepared.{IsTree}
-use Rattle.planner.specs.Contract.{summaryOf, multipliersOf, countUnless, IsAnswer, IsPlanned}
+use Rattle.planner.specs.Contract.{summaryOf, multipliersOf, countUnless, IsPlanned}
 use Rattle.planner.specs.Laws.Tour.{answer-tour}
 use Rattle.planner.specs.Laws.Lay.{arcs-links}
 

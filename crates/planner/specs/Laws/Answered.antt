@@ -1,5 +1,5 @@
 -- What a caller reads off an answer: the floor is at least 0, being at least R + Z, and the places written lie within the sheet.
-use mathlib.Core.Path.{_≡_, refl, sym, ap, _∙_, subst⁻¹}
+use mathlib.Core.Path.{_≡_, sym, ap, _∙_, subst⁻¹}
 use mathlib.Core.List.{List}
 use mathlib.Core.Option.{Option, none}
 use Prim.Native.Nat.{ℕ, _^_, _≤_, _<_}

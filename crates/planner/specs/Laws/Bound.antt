@@ -1,10 +1,10 @@
 -- What the cheapest arborescence is asked: multipliers with reduced costs that are not negative, 0 at a required vertex, are bounded by distances; so are the reduced
 -- costs, and A(u).
 use mathlib.Core.Path.{_≡_, refl, sym, ap, ap₂, _∙_, subst, subst⁻¹, fun-ext}
-use mathlib.Core.Logic.{_⊎_, inl, inr}
+use mathlib.Core.Logic.{inl, inr}
 use mathlib.Core.Bool.{Bool, true, false}
 use mathlib.Core.List.{List, [], _∷_, map, List·Memᴰ, List·Memᴰ·head, List·Memᴰ·tail}
-use Prim.Native.Nat.{ℕ, zero, suc, _+_, _*_, _-_, _≤_, _<_}
+use Prim.Native.Nat.{ℕ, suc, _+_, _*_, _≤_, _<_}
 use native.Mathlib.Nat.{suc-mul, mul-le-mul-right}
 use native.Mathlib.Decide.{decLe}
 use native.Mathlib.Omega.{arith}
@@ -12,14 +12,13 @@ use lib.ListN.{length, getD, replicate, List·getD-eq-default}
 use lib.Dec.{T}
 use lib.IntN.{ℤ, pos, _+ℤ_, _-ℤ_, _*ℤ_, zero-*ℤ}
 use lib.Signed.{_≤ℤ_}
-use Rattle.integers.specs.Linear.{z, zl, zz, Within}
+use Rattle.integers.specs.Linear.{z, zl, Within}
 use Rattle.postman.specs.Lists.{select, sumOf, sumOfℤ, below}
 use Rattle.postman.specs.Plan.{Arc, Plan, isRequiredArc, requiredArcs, WellFormed}
 use Rattle.postman.specs.Required.{required, isRequired, requiredCost}
 use Rattle.postman.specs.Distance.{distance}
 use Rattle.postman.specs.Link.{Link}
-use Rattle.postman.specs.Component.{component, componentCount}
-use Rattle.postman.specs.Arborescence.{arborescences, arborescenceCount}
+use Rattle.postman.specs.Arborescence.{arborescenceCount}
 use Rattle.postman.specs.Balancing.{imbalance}
 use Rattle.postman.specs.LagrangianBound.{reducedCost, reducedSum, cheapestArborescence, priceOfImbalance, lagrangianBound}
 use Rattle.postman.specs.Laws.Tests.{cond-ind}
@@ -31,12 +30,12 @@ use Rattle.postman.specs.Laws.Component.{component-lt}
 use Rattle.postman.specs.Laws.Balancing.{Joins}
 use Rattle.postman.specs.Laws.Arborescence.{arborescences-mem, joins}
 use Rattle.postman.specs.Laws.LagrangianBound.{Feasible, cheapest-at, cheapest-nonneg, zero-feasible}
-use Rattle.postman.specs.Laws.Optimality.{Plannable, some-arborescence}
+use Rattle.postman.specs.Laws.Optimality.{some-arborescence}
 use Rattle.balance.specs.Invariant.{Metric}
 use Rattle.balance.specs.Laws.Arcs.{zero-at}
 use Rattle.balance.specs.Laws.Plan.{plan-metric}
 use Rattle.arborescence.specs.Picture.{highest}
-use Rattle.arborescence.specs.PairCosts.{costOf, AreCosts, IsNetwork, multipliersOf}
+use Rattle.arborescence.specs.PairCosts.{AreCosts, IsNetwork, multipliersOf}
 use Rattle.candidates.specs.Laws.Vertices.{required-of-64}
 use Rattle.planner.specs.Priced.{IsPriced}
 

@@ -1,14 +1,13 @@
 -- What laying the drive of an arborescence asks of its steps: the state with the links added is the balancing of the required arcs and the links.
 use mathlib.Core.Path.{_≡_, refl, sym, ap, ap₂, _∙_, subst, subst⁻¹}
 use mathlib.Core.List.{List, [], _∷_, _++_, map, List·Memᴰ, Memᴰ·cast, append-nil}
-use Prim.Native.Nat.{ℕ, zero, suc, _+_, _-_, _≤_, _<_}
+use Prim.Native.Nat.{ℕ, _+_, _≤_}
 use native.Mathlib.Omega.{arith}
 use lib.ListN.{length, getD, take, length-map, length-take}
 use Rattle.postman.specs.Plan.{Arc, Plan, arcAt, requiredArcs, requiredNumbers}
 use Rattle.postman.specs.Required.{required}
 use Rattle.postman.specs.Distance.{distance}
 use Rattle.postman.specs.Link.{Link}
-use Rattle.postman.specs.Arborescence.{IsArborescence}
 use Rattle.postman.specs.Laws.Membership.{getD-mem, map-mem}
 use Rattle.postman.specs.Laws.Distance.{bounded}
 use Rattle.postman.specs.Laws.Required.{required-ends, numbers-field}
@@ -16,7 +15,7 @@ use Rattle.postman.specs.Laws.Balancing.{Joins}
 use Rattle.postman.specs.Laws.Arborescence.{joins}
 use Rattle.balance.specs.Step.{State, cell, empty, add, addAll, arcsOf}
 use Rattle.balance.specs.Balance.{balance, requiredEnds}
-use Rattle.balance.specs.Invariant.{Metric, Certified, AllIn, limit}
+use Rattle.balance.specs.Invariant.{Metric, Certified, AllIn}
 use Rattle.balance.specs.Direct.{direct}
 use Rattle.balance.specs.Laws.Plan.{table-metric, balance-certified, balance-room}
 use Rattle.shortest.specs.Contracts.{IsTable}

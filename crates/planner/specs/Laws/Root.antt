@@ -1,18 +1,16 @@
 -- The root of the multipliers is the first required vertex, and the required vertices are those that are flagged.
-use mathlib.Core.Path.{_≡_, refl, sym, ap, _∙_, subst⁻¹}
-use mathlib.Core.Bool.{Bool, false}
+use mathlib.Core.Path.{_≡_, ap, subst⁻¹}
 use mathlib.Core.List.{List, [], List·Memᴰ}
-use Prim.Native.Nat.{ℕ, _≤_, _<_}
+use Prim.Native.Nat.{ℕ, _<_}
 use native.Mathlib.Omega.{arith}
 use lib.ListN.{length, getD}
 use Rattle.postman.specs.Plan.{Plan}
-use Rattle.postman.specs.Required.{required}
 use Rattle.postman.specs.PlanCall.{root}
 use Rattle.postman.specs.Laws.Membership.{getD-mem}
 use Rattle.balance.specs.Step.{State, cell}
 use Rattle.balance.specs.Invariant.{Certified}
 use Rattle.balance.specs.Multipliers.{multipliers}
-use Rattle.planner.specs.Prepared.{IsKnown, IsBase}
+use Rattle.planner.specs.Prepared.{IsBase}
 use Rattle.planner.specs.Laws.Lay.{state-certified, state-room}
 use Rattle.planner.specs.Laws.Solve.{some-vertex}
 

@@ -1,16 +1,15 @@
 -- From a prepared plan to what the search and the bounds ask: the multipliers are the greatest, and they price the imbalance at the cost of the state.
-use mathlib.Core.Path.{_≡_, refl, sym, ap, _∙_, subst, subst⁻¹}
+use mathlib.Core.Path.{_≡_, sym, ap, _∙_, subst⁻¹}
 use mathlib.Core.Bool.{Bool}
-use mathlib.Core.List.{List, [], _∷_, List·Memᴰ, List·Memᴰ·head, List·Memᴰ·tail}
-use Prim.Native.Nat.{ℕ, _+_, _*_, _≤_, _<_}
+use mathlib.Core.List.{List, [], List·Memᴰ, List·Memᴰ·head, List·Memᴰ·tail}
+use Prim.Native.Nat.{ℕ, _≤_, _<_}
 use native.Mathlib.Nat.{mul-le-mul-right}
 use native.Mathlib.Omega.{arith}
-use lib.ListN.{length, getD}
+use lib.ListN.{length}
 use lib.IntN.{ℤ, pos}
 use Rattle.postman.specs.Plan.{Plan}
 use Rattle.postman.specs.Required.{required, requiredCost}
 use Rattle.postman.specs.Component.{componentCount}
-use Rattle.postman.specs.Distance.{distance}
 use Rattle.postman.specs.LagrangianBound.{AreGreatest, priceOfImbalance}
 use Rattle.postman.specs.PlanCall.{root}
 use Rattle.postman.specs.Laws.Membership.{getD-mem}
@@ -32,7 +31,7 @@ use Rattle.candidates.specs.declared.Candidates.{Candidates}
 use Rattle.candidates.specs.LaidOut.{AreLaidOut}
 use Rattle.search.specs.Prepared.{Prepared}
 use Rattle.planner.specs.Tour.{tableOf}
-use Rattle.planner.specs.Prepared.{IsKnown, IsBase}
+use Rattle.planner.specs.Prepared.{IsBase}
 use Rattle.planner.specs.Priced.{IsPriced}
 use Rattle.planner.specs.Laws.Tour.{agrees}
 use Rattle.planner.specs.Laws.Lay.{base-table}

@@ -1,20 +1,20 @@
 -- The drive that is written is a drive of the answer's cost: the first tree of least cost and the amounts complete the required arcs, at the completion cost.
-use mathlib.Core.Path.{_≡_, refl, sym, ap, _∙_, subst, subst⁻¹}
-use mathlib.Core.Logic.{_⊎_, inl, inr}
-use mathlib.Core.List.{List, [], _∷_, _++_, map, List·Memᴰ, Memᴰ·append-left}
-use Prim.Native.Nat.{ℕ, zero, suc, _+_, _-_, _≤_, _<_}
+use mathlib.Core.Path.{_≡_, ap, _∙_, subst}
+use mathlib.Core.Logic.{inl, inr}
+use mathlib.Core.List.{List, [], _++_, map, List·Memᴰ, Memᴰ·append-left}
+use Prim.Native.Nat.{ℕ, _+_, _≤_, _<_}
 use native.Mathlib.Nat.{zero-add}
 use native.Mathlib.Omega.{arith}
-use lib.ListN.{length, getD, take, drop, take-append-drop}
-use Rattle.postman.specs.Lists.{below, upFrom}
-use Rattle.postman.specs.Plan.{Plan, WellFormed}
+use lib.ListN.{length, getD, drop, take-append-drop}
+use Rattle.postman.specs.Lists.{below}
+use Rattle.postman.specs.Plan.{Plan}
 use Rattle.postman.specs.Required.{required, requiredCost}
 use Rattle.postman.specs.Distance.{distance}
 use Rattle.postman.specs.Link.{Link}
 use Rattle.postman.specs.Component.{componentCount}
 use Rattle.postman.specs.Arborescence.{IsArborescence, arborescences}
-use Rattle.postman.specs.Balancing.{sumOver, balancingCost, linkCost, completionCost}
-use Rattle.postman.specs.PlanCall.{triedCount, bestCost, bestArborescence, IsAnswerTour}
+use Rattle.postman.specs.Balancing.{balancingCost, linkCost, completionCost}
+use Rattle.postman.specs.PlanCall.{triedCount, bestArborescence, IsAnswerTour}
 use Rattle.postman.specs.Laws.Membership.{getD-map-upFrom}
 use Rattle.postman.specs.Laws.Required.{required-lt}
 use Rattle.postman.specs.Laws.Balancing.{Joins}

@@ -5,9 +5,6 @@ use lib.ListN.{length}
 use borrow.Author.Needs.{needs}
 use Rattle.planner_test.proofs.large_plan.Statement.{statement}
 use Rattle.planner_test.proofs.large_plan.Tie as tie
-use Rattle.planner_test.proofs.large_plan.Reads as reads
-use Rattle.planner_test.proofs.large_plan.Lts as lts
-use Rattle.planner_test.proofs.large_arc.Reads as large-arc-reads
 
 abbrev Inv-loop : tie.InvT-loop
 Inv-loop m arcs₀ k₀ arcs k = (k ≤ 256) × (length arcs ≡ 256)
@@ -15,39 +12,30 @@ Inv-loop m arcs₀ k₀ arcs k = (k ≤ 256) × (length arcs ≡ 256)
 abbrev μ-loop : tie.MeasureT-loop
 μ-loop m arcs₀ k₀ arcs k = 256 - k
 
--- src/main.rt:239:5
 loop-holds : tie.Need-loop-holds Inv-loop μ-loop
 loop-holds c = search needs
 
--- src/main.rt:240:28
 large-arc-requires : tie.Need-large-arc-requires Inv-loop μ-loop
 large-arc-requires c κs = search needs
 
--- src/main.rt:240:14
 cast-arcs : tie.Need-cast-arcs Inv-loop μ-loop
 cast-arcs c = search needs
 
--- src/main.rt:240:9
 mul-arcs : tie.Need-mul-arcs Inv-loop μ-loop
 mul-arcs c = search needs
 
--- src/main.rt:240:9
 array-set-from-arcs : tie.Need-array-set-from-arcs Inv-loop μ-loop
 array-set-from-arcs c = search needs
 
--- src/main.rt:239:9
 add-k : tie.Need-add-k Inv-loop μ-loop
 add-k c = search needs
 
--- src/main.rt:239:5
 loop-less : tie.Need-loop-less Inv-loop μ-loop
 loop-less c = search needs
 
--- src/main.rt:239:5
 loop-again : tie.Need-loop-again Inv-loop μ-loop
 loop-again c = search needs
 
--- src/main.rt:231:1
 returns : tie.Need-returns Inv-loop μ-loop
 returns c = search needs
 

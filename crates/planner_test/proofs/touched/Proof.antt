@@ -5,8 +5,6 @@ use lib.ListN.{length}
 use borrow.Author.Needs.{needs}
 use Rattle.planner_test.proofs.touched.Statement.{statement}
 use Rattle.planner_test.proofs.touched.Tie as tie
-use Rattle.planner_test.proofs.touched.Reads as reads
-use Rattle.planner_test.proofs.touched.Lts as lts
 
 abbrev Inv-loop : tie.InvT-loop
 Inv-loop sheet n₀ i₀ i-end n i = (i-end ≡ length sheet) × (i ≤ i-end)
@@ -14,35 +12,27 @@ Inv-loop sheet n₀ i₀ i-end n i = (i-end ≡ length sheet) × (i ≤ i-end)
 abbrev μ-loop : tie.MeasureT-loop
 μ-loop sheet n₀ i₀ i-end n i = i-end - i
 
--- src/main.rt:93:5
 loop-holds : tie.Need-loop-holds Inv-loop μ-loop
 loop-holds c = search needs
 
--- src/main.rt:94:12
 mul-if1 : tie.Need-mul-if1 Inv-loop μ-loop
 mul-if1 c = search needs
 
--- src/main.rt:94:12
 shared-slice-read-if1 : tie.Need-shared-slice-read-if1 Inv-loop μ-loop
 shared-slice-read-if1 c = search needs
 
--- src/main.rt:95:17
 add-n : tie.Need-add-n Inv-loop μ-loop
 add-n c = search needs
 
--- src/main.rt:93:9
 add-i : tie.Need-add-i Inv-loop μ-loop
 add-i c = search needs
 
--- src/main.rt:93:5
 loop-less : tie.Need-loop-less Inv-loop μ-loop
 loop-less c = search needs
 
--- src/main.rt:93:5
 loop-again : tie.Need-loop-again Inv-loop μ-loop
 loop-again c = search needs
 
--- src/main.rt:91:1
 returns : tie.Need-returns Inv-loop μ-loop
 returns c = search needs
 

@@ -1,20 +1,19 @@
 -- Amounts and legs are two ways to say the same: amounts f(i,j) are f(i,j) legs from i to j each, and legs are counted into amounts. So the least assignment
 -- is the least cost of all amounts that balance.
 use mathlib.Core.Path.{_≡_, refl, sym, ap, ap₂, _∙_, subst, fun-ext}
-use mathlib.Core.Bool.{Bool, cond}
-use mathlib.Core.List.{List, [], _∷_, _++_, map, List·Memᴰ, List·Memᴰ·head, List·Memᴰ·tail}
+use mathlib.Core.List.{List, [], _∷_, _++_, List·Memᴰ, List·Memᴰ·head, List·Memᴰ·tail}
 use Prim.Native.Nat.{ℕ, zero, suc, _+_, _*_, _≤_, _<_}
 use native.Mathlib.Nat.{zero-mul, mul-zero, add-mul, mul-add, suc-mul, mul-one, mul-comm, mul-right-comm}
 use native.Mathlib.Decide.{decLe}
 use native.Mathlib.Omega.{arith}
 use lib.ListN.{length, replicate}
 use lib.IntN.{ℤ, pos, _+ℤ_, _-ℤ_, natAbs, +ℤ-assoc, +ℤ-comm, -ℤ-+ℤ-cancel}
-use lib.Dec.{T, eqb, eqb→eq}
+use lib.Dec.{eqb, eqb→eq}
 use Rattle.postman.specs.Lists.{delta, occurrences}
 use Rattle.postman.specs.Balancing.{sumOver, IsBalancing, balancingCost, assignment}
 use Rattle.postman.specs.Laws.Tests.{cond-ind}
 use Rattle.postman.specs.Laws.Occurrences.{delta-yes, delta-sym, mem-of-occurrences, occurrences-of-mem}
-use Rattle.postman.specs.Laws.Assignment.{Legs, weight, legs-le, Pairing, pairing}
+use Rattle.postman.specs.Laws.Assignment.{Legs, weight, legs-le, pairing}
 
 -- units that arrive at ss and are lacking at ts, vertex by vertex
 unfoldable pub difference : List ℕ → List ℕ → ℕ → ℤ

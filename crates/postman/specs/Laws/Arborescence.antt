@@ -1,22 +1,20 @@
 -- The list of arborescences holds just the lists that are arborescences by document 01's words: one candidate of each component, by what `choices` and `select`
 -- hold; and going back arrives in k steps if it arrives at all.
-use mathlib.Core.Path.{_≡_, refl, sym, ap, _∙_, subst, subst⁻¹}
-use mathlib.Core.Logic.{_≢_}
-use mathlib.Core.Bool.{Bool, not, _&&_}
+use mathlib.Core.Path.{refl, subst, subst⁻¹}
+use mathlib.Core.Bool.{not, _&&_}
 use mathlib.Core.List.{List, map, List·Memᴰ}
-use Prim.Native.Nat.{ℕ, zero, suc, _+_, _-_, _<_}
+use Prim.Native.Nat.{ℕ, zero, suc, _-_, _<_}
 use native.Mathlib.Numerals.{one-add}
 use native.Mathlib.Omega.{arith}
-use lib.ListN.{length, getD}
-use lib.Dec.{T, eqb, eqb→eq, not-T}
-use Rattle.postman.specs.Lists.{select, allOf, below, upFrom, choices, iterate}
+use lib.Dec.{eqb, eqb→eq, not-T}
+use Rattle.postman.specs.Lists.{below, upFrom, choices, iterate}
 use Rattle.postman.specs.Plan.{Plan}
 use Rattle.postman.specs.Required.{required}
 use Rattle.postman.specs.Link.{Link, links}
 use Rattle.postman.specs.Component.{component, componentCount}
 use Rattle.postman.specs.Arborescence.{linkAt, parent, Enters, IsArborescence, candidates, arrives, arborescences}
 use Rattle.postman.specs.Laws.Tests.{and-both, and-parts, eqb-same, eqb-other}
-use Rattle.postman.specs.Laws.Membership.{mem-select, select-mem, allOf-mem, allOf-at, mem-below, below-mem, mem-choices, choices-mem, getD-mem, mem-getD}
+use Rattle.postman.specs.Laws.Membership.{mem-select, select-mem, allOf-mem, allOf-at, mem-below, below-mem, mem-choices, choices-mem, mem-getD}
 use Rattle.postman.specs.Laws.Distance.{InPlan}
 use Rattle.postman.specs.Laws.Component.{component-lt}
 use Rattle.postman.specs.Laws.Link.{link-ends}

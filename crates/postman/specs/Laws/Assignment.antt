@@ -1,13 +1,13 @@
 -- The least assignment of heads to tails is at most the cost of any legs that turn the one list into the other. One leg more is one step: a unit moved on
 -- its way costs no less, by the triangle inequality; and equal lists cost nothing.
-use mathlib.Core.Path.{_≡_, refl, sym, ap, _∙_, subst⁻¹}
-use mathlib.Core.Logic.{_⊎_, inl, inr}
-use mathlib.Core.List.{List, [], _∷_, _++_, map, List·Memᴰ, List·Memᴰ·head, List·Memᴰ·tail}
-use Prim.Native.Nat.{ℕ, zero, suc, _+_, _≤_, _<_}
+use mathlib.Core.Path.{_≡_, refl, ap, _∙_, subst⁻¹}
+use mathlib.Core.Logic.{inl, inr}
+use mathlib.Core.List.{List, [], _∷_, map}
+use Prim.Native.Nat.{ℕ, suc, _+_, _≤_, _<_}
 use native.Mathlib.Nat.{le-refl}
 use native.Mathlib.Omega.{arith}
 use lib.ListN.{length, length-map}
-use Rattle.postman.specs.Lists.{minimum, picks, delta, occurrences}
+use Rattle.postman.specs.Lists.{picks, delta, occurrences}
 use Rattle.postman.specs.Balancing.{assignment}
 use Rattle.postman.specs.Laws.Membership.{mem-map, map-mem}
 use Rattle.postman.specs.Laws.Minimum.{minimum-le, minimum-at}

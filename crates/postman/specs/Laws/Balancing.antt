@@ -1,6 +1,6 @@
 -- The least balancing is the least: heads and tails are as many, all of them required vertices, so the laws of amounts apply to them.
 use mathlib.Core.Path.{_≡_, sym, ap₂, _∙_}
-use mathlib.Core.Logic.{_⊎_, inl, inr}
+use mathlib.Core.Logic.{inl, inr}
 use mathlib.Core.List.{List, _++_, map, List·Memᴰ, List·Memᴰ·append-cases, Memᴰ·cast}
 use Prim.Native.Nat.{ℕ, _+_, _≤_}
 use native.Mathlib.Omega.{arith}

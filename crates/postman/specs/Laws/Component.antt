@@ -1,17 +1,17 @@
 -- Being joined by required arcs, direction ignored, is an equivalence, since the graph holds each arc both ways. Each class has a lowest vertex, and a vertex's
 -- component is the place of the lowest vertex that it is joined to.
-use mathlib.Core.Path.{_≡_, refl, sym, ap, _∙_, subst, subst⁻¹}
+use mathlib.Core.Path.{_≡_, refl, sym, ap, subst, subst⁻¹}
 use mathlib.Core.Bool.{Bool, not, _&&_}
 use mathlib.Core.Logic.{_⊎_, inl, inr}
 use mathlib.Core.List.{List, [], _∷_, List·Memᴰ, List·Memᴰ·head, List·Memᴰ·tail, List·Memᴰ·cases-cons}
-use Prim.Native.Nat.{ℕ, zero, suc, _+_, _≤_, _<_}
+use Prim.Native.Nat.{ℕ, zero, suc, _≤_, _<_}
 use native.Mathlib.Nat.{le-refl}
 use native.Mathlib.Decide.{decLe}
 use native.Mathlib.Omega.{arith}
-use lib.ListN.{length, getD}
+use lib.ListN.{getD}
 use lib.Dec.{T, ltb, T-not, not-T, lt→ltb, ltb→lt}
-use Rattle.postman.specs.Lists.{select, anyOf, below}
-use Rattle.postman.specs.Plan.{Arc, Plan, isOpen, isRequiredArc, arcAt, requiredArcs}
+use Rattle.postman.specs.Lists.{anyOf, below}
+use Rattle.postman.specs.Plan.{Arc, Plan, isRequiredArc, arcAt, requiredArcs}
 use Rattle.postman.specs.Tour.{IsWalk, walkCost}
 use Rattle.postman.specs.Required.{isRequired, required}
 use Rattle.postman.specs.Distance.{noPath, distance, hasPath}

@@ -1,16 +1,16 @@
 -- d is the least cost of all walks: a walk is cut at its vertices until it enters none twice, so that n − 1 arcs are enough, and the recursion tries every
 -- first arc. The triangle inequality is two walks put together. Nothing here uses that costs are positive.
-use mathlib.Core.Path.{_≡_, refl, sym, ap, _∙_, subst, subst⁻¹}
+use mathlib.Core.Path.{_≡_, refl, ap, subst, subst⁻¹}
 use mathlib.Core.Logic.{_⊎_, inl, inr}
-use mathlib.Core.Bool.{Bool, not, cond, _&&_}
-use mathlib.Core.List.{List, [], _∷_, _++_, map, List·Memᴰ}
+use mathlib.Core.Bool.{_&&_}
+use mathlib.Core.List.{List, [], _∷_, _++_, List·Memᴰ}
 use Prim.Native.Nat.{ℕ, zero, suc, _+_, _-_, _*_, _≤_, _<_, zero-le, suc-le-suc}
 use native.Mathlib.Nat.{le-refl, le-trans, mul-le-mul-right, suc-mul}
 use native.Mathlib.Decide.{decLe}
 use native.Mathlib.Omega.{arith}
-use lib.ListN.{length, getD}
-use lib.Dec.{T, eqb, ltb, eqb→eq, T-not, not-T, ltb→lt, lt→ltb}
-use Rattle.postman.specs.Lists.{select, below, least}
+use lib.ListN.{length}
+use lib.Dec.{T, eqb, eqb→eq, T-not, ltb→lt, lt→ltb}
+use Rattle.postman.specs.Lists.{below, least}
 use Rattle.postman.specs.Plan.{Arc, Plan, isOpen, arcAt, WellFormed}
 use Rattle.postman.specs.Tour.{IsWalk, walkCost}
 use Rattle.postman.specs.Distance.{noPath, arcsFrom, distanceWithin, distance, hasPath}

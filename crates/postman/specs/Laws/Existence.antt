@@ -1,11 +1,11 @@
 -- A plan with a required arc has a tour exactly when it is not cut off. A tour leads from any required vertex to any other; conversely the required arcs, in
 -- file order, are joined by shortest paths.
-use mathlib.Core.Path.{_≡_, refl, subst, subst⁻¹}
-use mathlib.Core.Logic.{_⊎_, inl, inr}
-use mathlib.Core.Bool.{Bool, not}
-use mathlib.Core.List.{List, [], _∷_, _++_, List·Memᴰ, List·Memᴰ·head, List·Memᴰ·tail, List·Memᴰ·cases-cons, List·Memᴰ·not-nil, Memᴰ·append-right}
+use mathlib.Core.Path.{refl, subst, subst⁻¹}
+use mathlib.Core.Logic.{inl, inr}
+use mathlib.Core.Bool.{not}
+use mathlib.Core.List.{List, [], _∷_, List·Memᴰ, List·Memᴰ·head, List·Memᴰ·tail, List·Memᴰ·cases-cons, List·Memᴰ·not-nil, Memᴰ·append-right}
 use Prim.Native.Nat.{ℕ, _<_}
-use lib.ListN.{length, getD}
+use lib.ListN.{length}
 use lib.Dec.{T, T-not}
 use Rattle.postman.specs.Lists.{anyOf}
 use Rattle.postman.specs.Plan.{Arc, Plan, isRequiredArc, arcAt, requiredNumbers, requiredArcs, WellFormed}
@@ -15,7 +15,7 @@ use Rattle.postman.specs.Distance.{hasPath}
 use Rattle.postman.specs.PlanCall.{isCutOff}
 use Rattle.postman.specs.Laws.Tests.{not-not}
 use Rattle.postman.specs.Laws.Membership.{select-mem, getD-mem, mem-getD, anyOf-at, anyOf-not}
-use Rattle.postman.specs.Laws.Distance.{Bounded, bounded, path-walk, walk-path}
+use Rattle.postman.specs.Laws.Distance.{bounded, path-walk, walk-path}
 use Rattle.postman.specs.Laws.Walk.{Leads, join, around}
 use Rattle.postman.specs.Laws.Required.{IsRequiredNumber, required-arc-of, required-lt, required-open, number-ends, numbers-mem, mem-numbers}
 

@@ -1,13 +1,13 @@
 -- A step taken often enough arrives: what some number of steps reaches, as many steps as there are places do. The steps are the arcs of a graph, and a walk in
 -- it can be cut to fewer arcs than there are vertices.
 use mathlib.Core.Path.{_≡_, refl, sym, ap, _∙_, subst⁻¹}
-use mathlib.Core.List.{List, [], _∷_, map, List·Memᴰ}
-use Prim.Native.Nat.{ℕ, zero, suc, _+_, _-_, _≤_, _<_}
+use mathlib.Core.List.{List, [], _∷_, map}
+use Prim.Native.Nat.{ℕ, zero, suc, _+_, _-_, _<_}
 use native.Mathlib.Nat.{zero-add, suc-add}
 use native.Mathlib.Omega.{arith}
 use lib.ListN.{length, length-map}
 use lib.Dec.{T, ltb}
-use Rattle.postman.specs.Lists.{below, upFrom, iterate}
+use Rattle.postman.specs.Lists.{below, iterate}
 use Rattle.postman.specs.Plan.{Arc, Plan, arcAt}
 use Rattle.postman.specs.Tour.{IsWalk}
 use Rattle.postman.specs.Laws.Membership.{map-mem, below-mem, length-below, getD-map-upFrom}

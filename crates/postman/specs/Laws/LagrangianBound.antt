@@ -1,6 +1,6 @@
 -- L(u) is at most the completion cost of every arborescence: what the links' multipliers take from their reduced costs, weak duality gives back in the
 -- balancing. And L(u) is at least R + Z, since reduced costs are not negative.
-use mathlib.Core.Path.{_≡_, refl, sym, ap, ap₂, _∙_, subst, subst⁻¹, fun-ext}
+use mathlib.Core.Path.{_≡_, refl, ap, ap₂, _∙_, subst⁻¹, fun-ext}
 use mathlib.Core.List.{List, [], _∷_, _++_, map, List·Memᴰ, List·Memᴰ·head, List·Memᴰ·tail}
 use Prim.Native.Nat.{ℕ, _+_, _≤_, _<_}
 use native.Mathlib.Omega.{arith}
@@ -8,22 +8,21 @@ use lib.ListN.{length, length-map}
 use lib.IntN.{ℤ, pos, _+ℤ_, _-ℤ_, _*ℤ_}
 use lib.Signed.{_≤ℤ_, ≤ℤ-refl}
 use Rattle.integers.specs.Linear.{z, zl, zm}
-use Rattle.postman.specs.Lists.{sumOf, sumOfℤ, minimumℤ, occurrences}
+use Rattle.postman.specs.Lists.{sumOfℤ, occurrences}
 use Rattle.postman.specs.Plan.{Plan, requiredArcs}
 use Rattle.postman.specs.Required.{required, requiredCost}
 use Rattle.postman.specs.Distance.{distance}
 use Rattle.postman.specs.Link.{Link}
-use Rattle.postman.specs.Arborescence.{IsArborescence, arborescences}
+use Rattle.postman.specs.Arborescence.{arborescences}
 use Rattle.postman.specs.Balancing.{heads, tails, imbalance, assignment, leastBalancing, linkCost, completionCost}
 use Rattle.postman.specs.LagrangianBound.{Multipliers, reducedCost, reducedSum, cheapestArborescence, priceOfImbalance, lagrangianBound, AreMultipliers}
 use Rattle.postman.specs.Laws.Membership.{mem-map, map-mem}
-use Rattle.postman.specs.Laws.Pick.{Pick, pick-length, mem-of-pick, left-mem}
+use Rattle.postman.specs.Laws.Pick.{pick-length, mem-of-pick, left-mem}
 use Rattle.postman.specs.Laws.Distance.{InPlan}
 use Rattle.postman.specs.Laws.Assignment.{assign-at}
-use Rattle.postman.specs.Laws.Amounts.{Within}
 use Rattle.postman.specs.Laws.Balancing.{Joins, within-heads, within-tails, same-length}
 use Rattle.postman.specs.Laws.Arborescence.{arborescences-mem, joins}
-use Rattle.postman.specs.Laws.SignedSum.{≤ℤ-trans, minimumℤ-le, minimumℤ-at, sum-append, sum-add, sum-sub, sum-pos, sum-nonneg, sum-map, sum-pick, sum-occurrences}
+use Rattle.postman.specs.Laws.SignedSum.{minimumℤ-le, minimumℤ-at, sum-append, sum-add, sum-sub, sum-pos, sum-nonneg, sum-map, sum-pick, sum-occurrences}
 
 -- ---- weak duality
 

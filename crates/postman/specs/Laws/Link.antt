@@ -1,23 +1,23 @@
 -- Thinning loses nothing: any two required vertices are joined by a chain of links whose distances add up to theirs. A pair that was dropped goes by way of
 -- another vertex, and both halves are shorter because every arc costs at least 1; so the induction is on the distance.
-use mathlib.Core.Path.{_≡_, refl, sym, ap, _∙_, subst, subst⁻¹}
+use mathlib.Core.Path.{_≡_, refl, sym, ap, _∙_, subst⁻¹}
 use mathlib.Core.Logic.{_⊎_, inl, inr, _≢_}
-use mathlib.Core.Bool.{Bool, not, _&&_}
-use mathlib.Core.List.{List, [], _∷_, _++_, map, flatMap, List·Memᴰ, Memᴰ·cast}
-use Prim.Native.Nat.{ℕ, zero, suc, _+_, _≤_, _<_}
+use mathlib.Core.Bool.{not, _&&_}
+use mathlib.Core.List.{List, [], _∷_, _++_, map, List·Memᴰ, Memᴰ·cast}
+use Prim.Native.Nat.{ℕ, zero, suc, _+_, _≤_}
 use native.Mathlib.Nat.{le-refl}
 use native.Mathlib.Decide.{decLe, ℕ-discrete}
 use native.Mathlib.Omega.{arith}
 use lib.Dec.{T, eqb, eqb→eq, not-T}
-use Rattle.postman.specs.Lists.{select, anyOf}
-use Rattle.postman.specs.Plan.{Arc, Plan, arcAt, WellFormed}
+use Rattle.postman.specs.Lists.{anyOf}
+use Rattle.postman.specs.Plan.{Plan, arcAt, WellFormed}
 use Rattle.postman.specs.Tour.{IsWalk, walkCost}
 use Rattle.postman.specs.Required.{required}
 use Rattle.postman.specs.Distance.{noPath, distance}
 use Rattle.postman.specs.Link.{Link, pairs, isVia, isLink, links}
 use Rattle.postman.specs.Laws.Tests.{test, and-parts, not-and, eqb-other}
 use Rattle.postman.specs.Laws.Membership.{mem-select, select-mem, getD-mem, anyOf-at, mem-map, map-mem, mem-flatMap, flatMap-mem}
-use Rattle.postman.specs.Laws.Distance.{InPlan, Bounded, bounded, distance-self, distance-walk}
+use Rattle.postman.specs.Laws.Distance.{InPlan, bounded, distance-self, distance-walk}
 
 abbrev pub link : ℕ → ℕ → Link
 link i j = record { tail = i; head = j }

@@ -1,13 +1,13 @@
 -- How often a number occurs: in a list that is made from others, and in a list without one of its elements. By induction on the list.
 use mathlib.Core.Path.{_≡_, refl, sym, ap, _∙_}
 use mathlib.Core.Logic.{_⊎_, inl, inr, _≢_}
-use mathlib.Core.Bool.{Bool, cond}
+use mathlib.Core.Bool.{Bool}
 use mathlib.Core.List.{List, [], _∷_, _++_, map, List·Memᴰ, List·Memᴰ·head, List·Memᴰ·tail}
 use Prim.Native.Nat.{ℕ, zero, suc, _+_, _≤_, _<_, zero-le}
 use native.Mathlib.Nat.{le-refl}
 use native.Mathlib.Decide.{decLe}
 use native.Mathlib.Omega.{arith}
-use lib.Dec.{T, eqb, eqb→eq, T-not}
+use lib.Dec.{eqb, eqb→eq, T-not}
 use Rattle.postman.specs.Lists.{select, upFrom, delta, occurrences}
 use Rattle.postman.specs.Laws.Tests.{cond-ind, eqb-same}
 use Rattle.postman.specs.Laws.Pick.{Pick, here, there, Permutation, none, more}

@@ -1,8 +1,8 @@
 -- The lower bound is below every tour. For any tour there is an arborescence whose completion costs no more; the cost is the least over arborescences where all
 -- are tried, and L(u) is at most the completion cost of each.
-use mathlib.Core.Path.{_≡_, refl, sym, ap, _∙_, subst, subst⁻¹}
+use mathlib.Core.Path.{_≡_, refl, sym, ap, subst, subst⁻¹}
 use mathlib.Core.Bool.{Bool, true, false, not, cond}
-use mathlib.Core.Logic.{_⊎_, inl, inr}
+use mathlib.Core.Logic.{inl, inr}
 use mathlib.Core.List.{List, [], _∷_, map, List·Memᴰ, List·Memᴰ·head, List·Memᴰ·tail, List·Memᴰ·not-nil, List·Memᴰ·cases-cons}
 use Prim.Native.Nat.{ℕ, zero, suc, _+_, _≤_, _<_, min}
 use native.Mathlib.Nat.{le-trans}
@@ -11,7 +11,7 @@ use lib.ListN.{length, take, length-map, length-take}
 use lib.Seq.{take-all, take-take}
 use lib.IntN.{ℤ, pos}
 use lib.Signed.{_≤ℤ_, ≤ℤ-refl}
-use lib.Dec.{T, leb, leb→le, le→leb, nleb→lt, T-not}
+use lib.Dec.{T, leb, leb→le, le→leb, T-not}
 use Rattle.integers.specs.Linear.{z}
 use Rattle.postman.specs.Lists.{minimum, maxℤ}
 use Rattle.postman.specs.Plan.{Plan, requiredArcs, WellFormed}
@@ -23,14 +23,14 @@ use Rattle.postman.specs.Balancing.{leastBalancing, completionCost}
 use Rattle.postman.specs.LagrangianBound.{Multipliers, lagrangianBound, AreMultipliers}
 use Rattle.postman.specs.PlanCall.{isCutOff, triedCount, isWhole, bestCost, lowerBound}
 use Rattle.postman.specs.Guarantee.{Guarantee}
-use Rattle.postman.specs.Laws.Tests.{cond-ind, test}
+use Rattle.postman.specs.Laws.Tests.{cond-ind}
 use Rattle.postman.specs.Laws.Membership.{mem-map, map-mem}
 use Rattle.postman.specs.Laws.Minimum.{minimum-le, minimum-at}
 use Rattle.postman.specs.Laws.Distance.{bounded}
 use Rattle.postman.specs.Laws.Existence.{some-required, a-tour}
 use Rattle.postman.specs.Laws.TourBound.{arborescence-of-tour}
 use Rattle.postman.specs.Laws.LagrangianBound.{Feasible, bound-le, bound-ge, zero-feasible}
-use Rattle.postman.specs.Laws.SignedSum.{≤ℤ-trans, max-left, max-right, max-least}
+use Rattle.postman.specs.Laws.SignedSum.{≤ℤ-trans, max-right, max-least}
 
 take-mem : {A : Type 0} (n : ℕ) {x : A} (xs : List A) → List·Memᴰ x (take n xs) → List·Memᴰ x xs
 take-mem zero [] m = m

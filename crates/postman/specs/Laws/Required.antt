@@ -9,8 +9,8 @@ use native.Mathlib.Numerals.{add-one}
 use native.Mathlib.Omega.{arith}
 use lib.ListN.{length, getD, length-append}
 use lib.Seq.{getD-append-seam}
-use lib.Dec.{T, eqb, ltb, eqb→eq, eqb-refl, lt→ltb}
-use Rattle.postman.specs.Lists.{select, below, upFrom, anyOf, sumOf, occurrences}
+use lib.Dec.{T, eqb, eqb→eq, eqb-refl, lt→ltb}
+use Rattle.postman.specs.Lists.{select, below, upFrom, sumOf, occurrences}
 use Rattle.postman.specs.Plan.{Arc, Plan, isOpen, isRequiredArc, arcAt, requiredArcs, requiredNumbers}
 use Rattle.postman.specs.Tour.{walkCost}
 use Rattle.postman.specs.Required.{isRequired, required, requiredCost}

@@ -1,19 +1,18 @@
 -- A tour as a route of links and required arcs: each required arc once, and the links between them cost no more than the rest of the tour. Walk along the tour
 -- from a required arc, mark the first pass of each required arc, and replace each stretch between two of them by its chain of links.
 use mathlib.Core.Path.{_≡_, refl, sym, ap, _∙_, subst, subst⁻¹}
-use mathlib.Core.Logic.{_⊎_, inl, inr}
+use mathlib.Core.Logic.{inl, inr}
 use mathlib.Core.List.{List, [], _∷_, _++_, List·Memᴰ, List·Memᴰ·head, List·Memᴰ·tail, List·Memᴰ·cases-cons, List·Memᴰ·not-nil, List·Memᴰ·append-cases, Memᴰ·append-left, Memᴰ·append-right}
-use Prim.Native.Nat.{ℕ, _+_, _≤_, _<_}
+use Prim.Native.Nat.{ℕ, _+_, _≤_}
 use native.Mathlib.Nat.{le-refl}
 use native.Mathlib.Decide.{decLe}
 use native.Mathlib.Omega.{arith}
-use Rattle.postman.specs.Lists.{occurrences, delta}
-use Rattle.postman.specs.Plan.{Arc, Plan, arcAt, requiredNumbers, WellFormed}
+use Rattle.postman.specs.Lists.{occurrences}
+use Rattle.postman.specs.Plan.{Plan, arcAt, requiredNumbers, WellFormed}
 use Rattle.postman.specs.Tour.{IsWalk, walkCost, IsTour}
 use Rattle.postman.specs.Required.{required}
-use Rattle.postman.specs.Distance.{distance}
 use Rattle.postman.specs.Link.{Link, links}
-use Rattle.postman.specs.Laws.Pick.{Pick, pick-of-mem, left-mem, Permutation, none, more}
+use Rattle.postman.specs.Laws.Pick.{pick-of-mem, left-mem, Permutation, none, more}
 use Rattle.postman.specs.Laws.Occurrences.{delta-yes, mem-of-occurrences, occurrences-of-mem, occurrences-pick}
 use Rattle.postman.specs.Laws.Distance.{InPlan, bounded, distance-le, walk-append, cost-append}
 use Rattle.postman.specs.Laws.Required.{IsRequiredNumber, required-lt, number-ends, numbers-mem, numbers-once}

@@ -1,13 +1,13 @@
 -- Sums and minima of lists of integers. By induction on the list.
 use mathlib.Core.Path.{_≡_, refl, sym, ap, ap₂, _∙_, subst, fun-ext}
-use mathlib.Core.Bool.{Bool, not, cond}
+use mathlib.Core.Bool.{Bool, not}
 use mathlib.Core.List.{List, [], _∷_, _++_, map, List·Memᴰ, List·Memᴰ·head, List·Memᴰ·tail}
-use Prim.Native.Nat.{ℕ, suc, _+_, _*_, _≤_, _<_}
+use Prim.Native.Nat.{ℕ, _+_, _*_, _≤_, _<_}
 use native.Mathlib.Omega.{arith}
 use lib.ListN.{length}
 use lib.Dec.{T, eqb, eqb→eq}
 use lib.IntN.{ℤ, pos, _+ℤ_, _-ℤ_, _*ℤ_, *ℤ-zero, *ℤ-one, one}
-use lib.Signed.{leZ, _≤ℤ_, leZ-yes, ltZ-no, ≤ℤ-refl}
+use lib.Signed.{leZ, _≤ℤ_, leZ-yes, ≤ℤ-refl}
 use Rattle.integers.specs.Linear.{z, zl, le-no, *ℤ-+ℤ}
 use Rattle.postman.specs.Lists.{sumOf, sumOfℤ, minℤ, maxℤ, minimumℤ, delta, occurrences}
 use Rattle.postman.specs.Laws.Tests.{cond-ind}

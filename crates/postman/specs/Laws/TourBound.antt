@@ -1,23 +1,22 @@
 -- For any tour there is an arborescence whose completion costs no more. Cut the tour into a route of links and required arcs; its first entries are an
 -- arborescence; and the links that are left balance the required arcs with the arborescence counted.
-use mathlib.Core.Path.{_≡_, refl, sym, ap, _∙_, subst, subst⁻¹}
-use mathlib.Core.Logic.{_⊎_, inl, inr, _≢_}
-use mathlib.Core.List.{List, [], _∷_, _++_, map, List·Memᴰ, List·Memᴰ·head, List·Memᴰ·not-nil, List·Memᴰ·eq-of-singleton}
-use Prim.Native.Nat.{ℕ, zero, suc, _+_, _-_, _≤_, _<_}
+use mathlib.Core.Path.{_≡_, refl, ap, _∙_, subst, subst⁻¹}
+use mathlib.Core.Logic.{inl, inr, _≢_}
+use mathlib.Core.List.{List, [], _∷_, map, List·Memᴰ, List·Memᴰ·head, List·Memᴰ·not-nil, List·Memᴰ·eq-of-singleton}
+use Prim.Native.Nat.{ℕ, suc, _+_, _-_, _≤_, _<_}
 use native.Mathlib.Nat.{le-trans}
 use native.Mathlib.Numerals.{one-add}
 use native.Mathlib.Omega.{arith}
-use lib.ListN.{length, getD, length-map}
+use lib.ListN.{length, length-map}
 use Rattle.postman.specs.Lists.{upFrom, iterate, delta, occurrences}
 use Rattle.postman.specs.Plan.{Arc, Plan, arcAt, requiredArcs, requiredNumbers, WellFormed}
 use Rattle.postman.specs.Tour.{walkCost, IsTour}
-use Rattle.postman.specs.Required.{required, requiredCost}
 use Rattle.postman.specs.Distance.{distance}
 use Rattle.postman.specs.Link.{Link, links}
 use Rattle.postman.specs.Component.{component, componentCount}
-use Rattle.postman.specs.Arborescence.{linkAt, parent, Enters, IsArborescence, arborescences}
-use Rattle.postman.specs.Balancing.{heads, tails, leastBalancing, linkCost, completionCost}
-use Rattle.postman.specs.Laws.Membership.{upFrom-mem, mem-upFrom, length-upFrom, getD-map-upFrom}
+use Rattle.postman.specs.Arborescence.{linkAt, Enters, IsArborescence, arborescences}
+use Rattle.postman.specs.Balancing.{heads, tails, leastBalancing, completionCost}
+use Rattle.postman.specs.Laws.Membership.{upFrom-mem, length-upFrom, getD-map-upFrom}
 use Rattle.postman.specs.Laws.Pick.{Pick, here, there, Permutation, none, more, permutation-mem}
 use Rattle.postman.specs.Laws.Occurrences.{occurrences-append, occurrences-upFrom, occurrences-map-permutation}
 use Rattle.postman.specs.Laws.Distance.{InPlan, bounded, triangle, distance-self}
@@ -27,7 +26,7 @@ use Rattle.postman.specs.Laws.Assignment.{weight, legs-le}
 use Rattle.postman.specs.Laws.Balancing.{same-length}
 use Rattle.postman.specs.Laws.Arborescence.{mem-arborescences, joins}
 use Rattle.postman.specs.Laws.LinkLegs.{ends, Without, without-weight, extract, ends-heads, ends-tails, chain-weight, link-weight}
-use Rattle.postman.specs.Laws.Route.{Move, link, arc, linksOf, arcsOf, IsRoute, routeCost, Route, tour-route}
+use Rattle.postman.specs.Laws.Route.{Move, link, arc, linksOf, arcsOf, IsRoute, routeCost, tour-route}
 use Rattle.postman.specs.Laws.Entries.{entry, entries, Good, follow}
 
 pick-cost : (arcs : List Arc) {x : ℕ} {xs ys : List ℕ} → Pick x xs ys → walkCost arcs xs ≡ arcAt arcs x .cost + walkCost arcs ys

@@ -9,24 +9,16 @@ use Rattle.search.specs.Laws.Completion.{chosen-inside}
 use borrow.Author.Needs.{needs}
 use Rattle.search.proofs.completed.Statement.{statement}
 use Rattle.search.proofs.completed.Tie as tie
-use Rattle.search.proofs.completed.Reads as reads
-use Rattle.search.proofs.completed.Lts as lts
-use Rattle.search.proofs.completion.Reads as completion-reads
-use Rattle.search.proofs.picked.Reads as picked-reads
 
--- src/lib.rt:255:9
 picked-requires : tie.Need-picked-requires
 picked-requires c κs = search needs
 
--- src/lib.rt:256:9
 picked-requires-2 : tie.Need-picked-requires-2
 picked-requires-2 c κs = search needs
 
--- src/lib.rt:269:9
 sub-completion : tie.Need-sub-completion
 sub-completion c = search needs
 
--- src/lib.rt:257:9
 completion-requires : tie.Need-completion-requires
 completion-requires c κs =
     let s = c .before .before .before .before .before .before .before .before in
@@ -35,7 +27,6 @@ completion-requires c κs =
     let h = c .before .before .before .before .before .picked2 in
     (omega arith, omega arith, s .pre .1, chosen-inside (s .pre .0) (t .result) (h .result) (t .ensures) (h .ensures), s .pre .2)
 
--- src/lib.rt:235:1
 returns : tie.Need-returns
 returns c =
     let s = c .before .before .before .before .before .before .before .before .before in

@@ -8,17 +8,10 @@ use Rattle.search.specs.Laws.States.{trail-kept, last-cost}
 use borrow.Author.Needs.{needs}
 use Rattle.search.proofs.completion.Statement.{statement}
 use Rattle.search.proofs.completion.Tie as tie
-use Rattle.search.proofs.completion.Reads as reads
-use Rattle.search.proofs.completion.Lts as lts
-use Rattle.search.proofs.link_cost.Reads as link-cost-reads
-use Rattle.search.proofs.states.extend.Reads as extend-reads
-use Rattle.search.proofs.trail.reordered.Reads as reordered-reads
 
--- src/lib.rt:129:9
 reordered-requires : tie.Need-reordered-requires
 reordered-requires c κs = search needs
 
--- src/lib.rt:132:5
 extend-requires : tie.Need-extend-requires
 extend-requires c κs =
     let s = c .before .before .before .before .before .before .before .before .before in
@@ -30,26 +23,21 @@ extend-requires c κs =
     let lh : length (o .result .heads) ≡ 8 = search needs in
     (h .within, s .pre .0, ready .room, ready .metric, ready .certified, h .inside _ (s .pre .3), trail-kept (s .pre .4) (o .result .tails) (o .result .heads) lt lh _ (h .reached) (omega arith) (h .kept))
 
--- src/lib.rt:135:21
 link-cost-requires : tie.Need-link-cost-requires
 link-cost-requires c κs =
     let s = c .before .before .before .before .before .before .before .before .before .before in
     let few = s .pre .0 in
     (omega arith, inside-short (s .args .d .now) (s .args .vs .now) (s .pre .2 .metric) (s .args .n) (s .args .tails) (s .args .heads) (s .pre .3))
 
--- src/lib.rt:135:5
 add-result : tie.Need-add-result
 add-result c = search needs
 
--- src/lib.rt:135:53
 mul-result : tie.Need-mul-result
 mul-result c = search needs
 
--- src/lib.rt:135:53
 element-copy-out-result : tie.Need-element-copy-out-result
 element-copy-out-result c = search needs
 
--- src/lib.rt:135:5
 add-result-2 : tie.Need-add-result-2
 add-result-2 c =
     let s = c .before .before .before .before .before .before .before .before .before .before .before .before in
@@ -61,7 +49,6 @@ add-result-2 c =
     let l = sum-small (s .pre .2) (s .args .n) (omega arith) (s .args .tails) (s .args .heads) lt lh (s .pre .3) refl c0 (c .before .link-cost .ensures .1) in
     search needs
 
--- src/lib.rt:110:1
 returns : tie.Need-returns
 returns c =
     let s = c .before .before .before .before .before .before .before .before .before .before .before .before in

@@ -7,12 +7,7 @@ use Rattle.search.specs.Laws.Costs.{inside-short, inside-reducible}
 use borrow.Author.Needs.{needs}
 use Rattle.search.proofs.consider.Statement.{statement}
 use Rattle.search.proofs.consider.Tie as tie
-use Rattle.search.proofs.consider.Reads as reads
-use Rattle.search.proofs.consider.Lts as lts
-use Rattle.search.proofs.completion.Reads as completion-reads
-use Rattle.search.proofs.reduced_sum.Reads as reduced-sum-reads
 
--- src/lib.rt:161:17
 add-bound : tie.Need-add-bound
 add-bound c =
     let s = c .before in
@@ -20,7 +15,6 @@ add-bound c =
     let l : s .args .required-cost + s .args .cost ≤ 3000000000000 = omega (arith, s .pre .1 .cheap, s .pre .1 .room, s .pre .1 .certified .numbers .cheap) in
     search needs
 
--- src/lib.rt:161:40
 reduced-sum-requires : tie.Need-reduced-sum-requires
 reduced-sum-requires c κs =
     let s = c .before in
@@ -30,7 +24,6 @@ reduced-sum-requires c κs =
       inside-reducible (s .args .d .now) (s .args .vs .now) (s .pre .1 .metric) (s .args .n) (s .args .tails) (s .args .heads) (s .pre .3) (s .args .u .now) (s .pre .2),
     )
 
--- src/lib.rt:161:17
 add-bound-2 : tie.Need-add-bound-2
 add-bound-2 c =
     let s = c .before .before in
@@ -39,23 +32,19 @@ add-bound-2 c =
     let m = c .reduced-sum .ensures .1 in
     search needs
 
--- src/lib.rt:163:13
 completion-requires : tie.Need-completion-requires
 completion-requires c κs = let s = c .before .before .before .before .before .before .before .before in (s .pre .0, s .pre .0, s .pre .1, s .pre .3, s .pre .5)
 
--- src/lib.rt:179:13
 returns : tie.Need-returns
 returns c =
     let h = c .before .completion .ensures in
     (inr (inr (h .0, omega (arith, h .0), refl)), h .1)
 
--- src/lib.rt:139:1
 returns-2 : tie.Need-returns-2
 returns-2 c =
     let h = c .before .completion .ensures in
     (inr (inl (refl, omega (arith, h .0))), h .1)
 
--- src/lib.rt:139:1
 returns-3 : tie.Need-returns-3
 returns-3 c =
     let s = c .before .before .before in

@@ -21,14 +21,6 @@ use Rattle.search.specs.Laws.Best.{best-first, best-more, first-choice, 
 use borrow.Author.Needs.{needs}
 use Rattle.search.proofs.search.Statement.{statement}
 use Rattle.search.proofs.search.Tie as tie
-use Rattle.search.proofs.search.Reads as reads
-use Rattle.search.proofs.search.Lts as lts
-use Rattle.arborescence.proofs.order.first.Reads as first-reads
-use Rattle.arborescence.proofs.order.next.Reads as next-reads
-use Rattle.arborescence.proofs.order.source_sets.Reads as source-sets-reads
-use Rattle.search.proofs.completed.Reads as completed-reads
-use Rattle.search.proofs.goes_on.Reads as goes-on-reads
-use Rattle.search.proofs.turn.Reads as turn-reads
 
 -- what is prepared over a state is prepared over one that is the same
 based : {p : Plan} {table : List (List ℕ)} {vs start source tails heads : List ℕ} {k : ℕ} {b b′ : State} {u : List ℤ} {r : ℕ}
@@ -45,29 +37,24 @@ abbrev μ-loop : tie.MeasureT-loop
 μ-loop d vs start source tails heads k u required-cost budget cost count amounts₀ potentials₀ costs₀ trail-tails₀ trail-heads₀ sets best₀ found₀ choice₀ tried₀ amounts potentials costs trail-tails trail-heads best found choice tried =
     budget - tried
 
--- src/lib.rt:313:16
 source-sets-requires : tie.Need-source-sets-requires Inv-loop μ-loop
 source-sets-requires c κs = c .before .before .before .pre .0 .layout
 
--- src/lib.rt:314:9
 first-requires : tie.Need-first-requires Inv-loop μ-loop
 first-requires c κs = (c .before .before .before .before .before .pre .0 .layout, c .before .source-sets .ensures)
 
--- src/lib.rt:316:9
 completed-requires : tie.Need-completed-requires Inv-loop μ-loop
 completed-requires c κs = let h = c .before .before .before .before .before .before .before .before .before .before .before .before .pre .0 in
     let f = c .before .before .before .before .before .before .first in
     let e = first-choice h (f .result .found) (f .result .choice) (f .ensures .0) in
     (choosable h 0 (f .result .choice) e, ready h, no-trail _ _ _ _ _ _ _ _ refl refl)
 
--- src/lib.rt:332:9
 next-requires : tie.Need-next-requires Inv-loop μ-loop
 next-requires c κs = let h = c .before .before .before .before .before .before .before .before .before .before .before .before .before .before .pre .0 in
     let f = c .before .before .before .before .before .before .before .before .first in
     let e = first-choice h (f .result .found) (f .result .choice) (f .ensures .0) in
     (h .layout, c .before .before .before .before .before .before .before .before .before .before .source-sets .ensures, has-chosen h 0 (f .result .choice) e)
 
--- src/lib.rt:336:5
 loop-holds : tie.Need-loop-holds Inv-loop μ-loop
 loop-holds c = let s = c .before .before .before .before .before .before .before .before .before .before .before .before .before .before .before .before in
     let h = s .pre .0 in
@@ -82,11 +69,9 @@ loop-holds c = let s = c .before .before .before .before .before .before .before
       g .2 .trail,
     )
 
--- src/lib.rt:336:11
 goes-on-requires : tie.Need-goes-on-requires Inv-loop μ-loop
 goes-on-requires c κs = search needs
 
--- src/lib.rt:337:13
 turn-requires : tie.Need-turn-requires Inv-loop μ-loop
 turn-requires c κs = let s = c .before .before .before .before .before .before .before .before .before .before .before .before .before .before .before .before .before .before .before .before .before .before .before .before in
     let v = c .before .before .before .before .before .before .before .loop in
@@ -96,7 +81,6 @@ turn-requires c κs = let s = c .before .before .before .before .before .before 
     let h = based (s .pre .0) (sym b) in
     (choosable h (v .tried) (v .choice) e, ready h, feasible h, ap (λ (x : State). x .cost) (sym b), v .inv .5)
 
--- src/lib.rt:357:9
 add-tried : tie.Need-add-tried Inv-loop μ-loop
 add-tried c = let s = c .before .before .before .before .before .before .before .before .before .before .before .before .before .before .before .before .before .before .before .before .before .before .before .before .before in
     let v = c .before .before .before .before .before .before .before .before .loop in
@@ -106,7 +90,6 @@ add-tried c = let s = c .before .before .before .before .before .before .before 
     let b = s .fits .budget in
     search needs
 
--- src/lib.rt:358:13
 next-requires-2 : tie.Need-next-requires-2 Inv-loop μ-loop
 next-requires-2 c κs = let s = c .before .before .before .before .before .before .before .before .before .before .before .before .before .before .before .before .before .before .before .before .before .before .before .before .before .before in
     let v = c .before .before .before .before .before .before .before .before .before .loop in
@@ -114,7 +97,6 @@ next-requires-2 c κs = let s = c .before .before .before .before .before .befor
     let e = some-step (s .args .k) (v .found) (v .choice) (v .inv .2) (g .0) in
     (s .pre .0 .layout, c .before .before .before .before .before .before .before .before .before .before .before .before .before .before .before .before .before .before .before .before .before .before .source-sets .ensures, has-chosen (s .pre .0) (v .tried) (v .choice) e)
 
--- src/lib.rt:336:5
 loop-less : tie.Need-loop-less Inv-loop μ-loop
 loop-less c = let s = c .before .before .before .before .before .before .before .before .before .before .before .before .before .before .before .before .before .before .before .before .before .before .before .before .before .before .before .before in
     let v = c .before .before .before .before .before .before .before .before .before .before .before .loop in
@@ -122,7 +104,6 @@ loop-less c = let s = c .before .before .before .before .before .before .before 
     let e = some-step (s .args .k) (v .found) (v .choice) (v .inv .2) (g .0) in
     omega (arith, g .1)
 
--- src/lib.rt:336:5
 loop-again : tie.Need-loop-again Inv-loop μ-loop
 loop-again c = let s = c .before .before .before .before .before .before .before .before .before .before .before .before .before .before .before .before .before .before .before .before .before .before .before .before .before .before .before .before in
     let v = c .before .before .before .before .before .before .before .before .before .before .before .loop in
@@ -137,7 +118,6 @@ loop-again c = let s = c .before .before .before .before .before .before .before
       t .1 .trail,
     )
 
--- src/lib.rt:287:1
 returns : tie.Need-returns Inv-loop μ-loop
 returns c = let s = c .before .before .before .before .before .before .before .before .before .before .before .before .before .before .before .before .before .before .before .before .before in
     let v = c .before .before .before .before .loop in

@@ -12,24 +12,16 @@ use Rattle.search.specs.Laws.Completion.{chosen-inside}
 use borrow.Author.Needs.{needs}
 use Rattle.search.proofs.turn.Statement.{statement}
 use Rattle.search.proofs.turn.Tie as tie
-use Rattle.search.proofs.turn.Reads as reads
-use Rattle.search.proofs.turn.Lts as lts
-use Rattle.search.proofs.consider.Reads as consider-reads
-use Rattle.search.proofs.picked.Reads as picked-reads
 
--- src/lib.rt:213:9
 picked-requires : tie.Need-picked-requires
 picked-requires c κs = search needs
 
--- src/lib.rt:214:9
 picked-requires-2 : tie.Need-picked-requires-2
 picked-requires-2 c κs = search needs
 
--- src/lib.rt:229:9
 sub-consider : tie.Need-sub-consider
 sub-consider c = search needs
 
--- src/lib.rt:215:5
 consider-requires : tie.Need-consider-requires
 consider-requires c κs =
     let s = c .before .before .before .before .before .before .before .before in
@@ -38,7 +30,6 @@ consider-requires c κs =
     let h = c .before .before .before .before .before .picked2 in
     (omega arith, s .pre .1, s .pre .2, chosen-inside (s .pre .0) (t .result) (h .result) (t .ensures) (h .ensures), s .pre .3, s .pre .4)
 
--- src/lib.rt:190:1
 returns : tie.Need-returns
 returns c =
     let s = c .before .before .before .before .before .before .before .before .before in

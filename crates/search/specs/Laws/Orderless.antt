@@ -3,14 +3,11 @@ use mathlib.Core.Path.{_≡_, refl, sym, ap, ap₂, _∙_}
 use mathlib.Core.List.{List, [], _∷_, _++_, map}
 use Prim.Native.Nat.{ℕ, _+_, _≤_}
 use native.Mathlib.Omega.{arith}
-use lib.ListN.{length}
-use lib.IntN.{ℤ, pos, _-ℤ_}
+use lib.IntN.{pos, _-ℤ_}
 use Rattle.postman.specs.Lists.{sumOf, occurrences}
 use Rattle.postman.specs.Plan.{Plan, requiredArcs}
-use Rattle.postman.specs.Required.{required}
-use Rattle.postman.specs.Distance.{distance}
 use Rattle.postman.specs.Link.{Link}
-use Rattle.postman.specs.Balancing.{heads, tails, imbalance, IsBalancing, balancingCost, leastBalancing}
+use Rattle.postman.specs.Balancing.{heads, tails, imbalance, IsBalancing, leastBalancing}
 use Rattle.postman.specs.Laws.Distance.{InPlan}
 use Rattle.postman.specs.Laws.Occurrences.{occurrences-append}
 use Rattle.postman.specs.Laws.Balancing.{Joins, least-balancing-le, least-balancing-at}

@@ -84,19 +84,15 @@ module _ (t : ℕ) (c : solve-lts.After-remaining (claims t) (solve-at t) solve.
       smaller (start .args .t1) (start .args .left) (start .pre .1) (e .result) (sized t start) (e .ensures) (v .result) (v .ensures) (y .result) (y .ensures .1) (branch .if1 .left) (on .result) (on .ensures)
       (m .result) (m .ensures) (l .result) (l .ensures)
 
--- src/cheapest.rt:231:9
 solve-entries-requires : (t : ℕ) → solve-lts.Need-entries-requires (claims t) (solve-at t) solve.Post
 solve-entries-requires t c κs = c .before .pre .1 .root
 
--- src/cheapest.rt:232:9
 solve-paid-requires : (t : ℕ) → solve-lts.Need-paid-requires (claims t) (solve-at t) solve.Post
 solve-paid-requires t c κs = (c .before .before .before .pre .1, c .before .entries .ensures)
 
--- src/cheapest.rt:233:9
 solve-lost-requires : (t : ℕ) → solve-lts.Need-lost-requires (claims t) (solve-at t) solve.Post
 solve-lost-requires t c κs = c .before .before .entries .ensures .in-range
 
--- src/cheapest.rt:235:9
 solve-returns : (t : ℕ) → solve-lts.Need-returns (claims t) (solve-at t) solve.Post
 solve-returns t c =
     let s = c .before .before .before .before .before .before in
@@ -106,27 +102,21 @@ solve-returns t c =
     subst⁻¹ (IsCheapest (othersIn (s .args .left)) (matrixOf (s .args .t1))) (back64 _ (p .ok) ∙ p .ensures)
     (solve-tree (s .args .t1) (s .args .left) (s .pre .1) (e .result) (sized t s) (e .ensures) (y .result) (y .ensures .1) (c .if1 .taken))
 
--- src/cheapest.rt:237:13
 solve-reduced-requires : (t : ℕ) → solve-lts.Need-reduced-requires (claims t) (solve-at t) solve.Post
 solve-reduced-requires t c κs = (c .before .before .before .before .before .before .before .pre .1, c .before .before .before .before .before .entries .ensures)
 
--- src/cheapest.rt:238:9
 solve-circle-requires : (t : ℕ) → solve-lts.Need-circle-requires (claims t) (solve-at t) solve.Post
 solve-circle-requires t c κs = (c .before .before .before .lost .ensures .0, c .before .before .before .before .before .before .entries .ensures .in-range)
 
--- src/cheapest.rt:239:9
 solve-contracted-requires : (t : ℕ) → solve-lts.Need-contracted-requires (claims t) (solve-at t) solve.Post
 solve-contracted-requires t c κs = (c .before .before .before .before .before .lost .ensures .0, marked-start _ _ _ (c .before .circle .ensures))
 
--- src/cheapest.rt:240:9
 solve-remaining-requires : (t : ℕ) → solve-lts.Need-remaining-requires (claims t) (solve-at t) solve.Post
 solve-remaining-requires t c κs = search needs
 
--- src/cheapest.rt:241:9
 solve-solve-requires : (t : ℕ) → solve-lts.Need-solve-requires (claims t) (solve-at t) solve.Post
 solve-solve-requires t c κs = (subst (λ x. length (othersIn (c .remaining .result)) < x) (start t c .pre .0) (shrunk t c .fewer), shrunk t c .picture)
 
--- src/cheapest.rt:241:5
 solve-add-result : (t : ℕ) → solve-lts.Need-add-result (claims t) (solve-at t) solve.Post
 solve-add-result t c =
     let b = c .before in
@@ -141,7 +131,6 @@ solve-add-result t c =
     let r1 = r .1 in
     simp (back64, p .ok, c .solve .ok) (simp zz (omega (arith, z)))
 
--- src/cheapest.rt:227:1
 solve-returns-2 : (t : ℕ) → solve-lts.Need-returns-2 (claims t) (solve-at t) solve.Post
 solve-returns-2 t c =
     let s = start t (c .before) in

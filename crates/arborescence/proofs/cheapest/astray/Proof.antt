@@ -1,25 +1,17 @@
 -- The two cases.
-use mathlib.Core.Bool.{Bool, true, false, cond}
-use lib.ListN.{length, getD, set, take}
 use native.Mathlib.Omega.{arith}
-use Prim.Native.Nat.{ℕ, suc, _+_, _*_, _-_, _/_, _%_, _^_, _≤_, _<_}
-use mathlib.Core.Path.{_≡_, refl, sym, ap, _∙_, subst, subst⁻¹}
+use Prim.Native.Nat.{ℕ}
+use mathlib.Core.Path.{_≡_, refl}
 use borrow.Author.Needs.{needs}
 use Rattle.arborescence.proofs.cheapest.astray.Statement.{statement}
 use Rattle.arborescence.proofs.cheapest.astray.Tie as tie
-use Rattle.arborescence.proofs.cheapest.astray.Reads as reads
-use Rattle.arborescence.proofs.cheapest.astray.Lts as lts
-use Rattle.arborescence.proofs.cheapest.back.Reads as back-reads
 
--- src/cheapest.rt:144:9
 back-requires : tie.Need-back-requires
 back-requires c κs = search needs
 
--- src/cheapest.rt:144:9
 returns : tie.Need-returns
 returns c = let t = c .before .if1 .taken in (c .back .ensures .0, (λ h. c .back .ensures .1), λ h. (let y : _≡_ {A = ℕ} 0 1 = cc in absurd (omega arith)))
 
--- src/cheapest.rt:139:1
 returns-2 : tie.Need-returns-2
 returns-2 c = let t = c .if1 .left in (omega arith, (λ h. (let y : _≡_ {A = ℕ} 0 1 = cc in absurd (omega arith))), λ h. refl)
 

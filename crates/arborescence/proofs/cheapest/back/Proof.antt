@@ -3,15 +3,12 @@ use Rattle.arborescence.specs.Picture.{entryOf}
 use Rattle.arborescence.specs.Laws.Iterates.{iterate-last}
 use Rattle.postman.specs.Lists.{iterate}
 use native.Mathlib.Numerals.{add-one}
-use lib.ListN.{length, getD, set, take}
 use native.Mathlib.Omega.{arith}
-use Prim.Native.Nat.{ℕ, suc, _+_, _*_, _-_, _/_, _%_, _^_, _≤_, _<_}
-use mathlib.Core.Path.{_≡_, refl, sym, ap, _∙_, subst, subst⁻¹}
+use Prim.Native.Nat.{_-_, _≤_, _<_}
+use mathlib.Core.Path.{_≡_, refl, sym, ap, _∙_}
 use borrow.Author.Needs.{needs}
 use Rattle.arborescence.proofs.cheapest.back.Statement.{statement}
 use Rattle.arborescence.proofs.cheapest.back.Tie as tie
-use Rattle.arborescence.proofs.cheapest.back.Reads as reads
-use Rattle.arborescence.proofs.cheapest.back.Lts as lts
 
 abbrev Inv-loop : tie.InvT-loop
 Inv-loop x e y₀ i₀ y i = (i ≤ 8) × (y < 8) × (y ≡ iterate i (entryOf e) x)
@@ -19,32 +16,25 @@ Inv-loop x e y₀ i₀ y i = (i ≤ 8) × (y < 8) × (y ≡ iterate i (entryOf e
 abbrev μ-loop : tie.MeasureT-loop
 μ-loop x e y₀ i₀ y i = 8 - i
 
--- src/cheapest.rt:132:5
 loop-holds : tie.Need-loop-holds Inv-loop μ-loop
 unfolding iterate
 loop-holds c = (omega arith, c .pre .0, refl)
 
--- src/cheapest.rt:133:13
 mul-y : tie.Need-mul-y Inv-loop μ-loop
 mul-y c = search needs
 
--- src/cheapest.rt:133:13
 array-read-y : tie.Need-array-read-y Inv-loop μ-loop
 array-read-y c = search needs
 
--- src/cheapest.rt:132:9
 add-i : tie.Need-add-i Inv-loop μ-loop
 add-i c = search needs
 
--- src/cheapest.rt:132:5
 loop-less : tie.Need-loop-less Inv-loop μ-loop
 loop-less c = search needs
 
--- src/cheapest.rt:132:5
 loop-again : tie.Need-loop-again Inv-loop μ-loop
 loop-again c = let v = c .before .loop in let s = c .before .before in (omega arith, s .pre .1 (v .y) (v .inv .1), ap (entryOf (s .args .t1)) (v .inv .2) ∙ sym (iterate-last (v .i) (entryOf (s .args .t1)) (s .args .x)) ∙ rw add-one)
 
--- src/cheapest.rt:127:1
 returns : tie.Need-returns Inv-loop μ-loop
 returns c = let v = c .before .loop in let e : v .i ≡ 8 = omega arith in (v .inv .1, v .inv .2 ∙ ap (λ n. iterate n (entryOf (c .before .before .args .t1)) (c .before .before .args .x)) e)
 

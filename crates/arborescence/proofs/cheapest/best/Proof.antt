@@ -1,17 +1,12 @@
 -- After the turns for members below x, r is a cheapest of those.
 use Rattle.arborescence.specs.Laws.Picture.{best-more}
 use Rattle.arborescence.specs.Picture.{lineOf, IsBest}
-use mathlib.Core.Bool.{Bool, true, false}
-use lib.ListN.{length, getD, set, take}
 use native.Mathlib.Omega.{arith}
-use Prim.Native.Nat.{ℕ, suc, _+_, _*_, _-_, _/_, _%_, _^_, _≤_, _<_}
-use mathlib.Core.Path.{_≡_, refl, sym, ap, _∙_, subst, subst⁻¹}
+use Prim.Native.Nat.{_-_, _≤_}
+use mathlib.Core.Path.{_≡_}
 use borrow.Author.Needs.{needs}
 use Rattle.arborescence.proofs.cheapest.best.Statement.{statement}
 use Rattle.arborescence.proofs.cheapest.best.Tie as tie
-use Rattle.arborescence.proofs.cheapest.best.Reads as reads
-use Rattle.arborescence.proofs.cheapest.best.Lts as lts
-use Rattle.arborescence.proofs.cheapest.cheaper.Reads as cheaper-reads
 
 abbrev Inv-loop : tie.InvT-loop
 Inv-loop w row f first may r₀ x₀ r x = (x ≤ 8) × IsBest (lineOf w row f) may x r
@@ -19,31 +14,24 @@ Inv-loop w row f first may r₀ x₀ r x = (x ≤ 8) × IsBest (lineOf w row f) 
 abbrev μ-loop : tie.MeasureT-loop
 μ-loop w row f first may r₀ x₀ r x = 8 - x
 
--- src/cheapest.rt:46:5
 loop-holds : tie.Need-loop-holds Inv-loop μ-loop
 loop-holds c = (omega arith, record { in-range = c .pre .1; allowed = c .pre .2; cheapest = λ x b m. absurd (omega arith) })
 
--- src/cheapest.rt:47:24
 array-read-cheaper : tie.Need-array-read-cheaper Inv-loop μ-loop
 array-read-cheaper c = search needs
 
--- src/cheapest.rt:47:9
 cheaper-requires : tie.Need-cheaper-requires Inv-loop μ-loop
 cheaper-requires c κs = let v = c .before .loop in (c .before .before .pre .0, v .inv .1 .in-range, c .loop-test .taken)
 
--- src/cheapest.rt:46:9
 add-x : tie.Need-add-x Inv-loop μ-loop
 add-x c = search needs
 
--- src/cheapest.rt:46:5
 loop-less : tie.Need-loop-less Inv-loop μ-loop
 loop-less c = search needs
 
--- src/cheapest.rt:46:5
 loop-again : tie.Need-loop-again Inv-loop μ-loop
 loop-again c = let v = c .before .before .loop in let t = c .before .loop-test .taken in (omega arith, best-more _ _ (v .x) (v .r) _ t (v .inv .1) (c .cheaper .ensures))
 
--- src/cheapest.rt:41:1
 returns : tie.Need-returns Inv-loop μ-loop
 returns c = let v = c .before .loop in let e : v .x ≡ 8 = omega arith in rw e at (v .inv .1)
 

@@ -4,16 +4,13 @@ use Rattle.arborescence.specs.Picture.{entryOf, IsMarked}
 use Rattle.arborescence.specs.Laws.Iterates.{iterate-last}
 use Rattle.postman.specs.Lists.{iterate}
 use native.Mathlib.Numerals.{add-one}
-use mathlib.Core.Bool.{Bool, true, false, cond}
-use lib.ListN.{length, getD, set, take}
+use lib.ListN.{length}
 use native.Mathlib.Omega.{arith}
-use Prim.Native.Nat.{ℕ, suc, _+_, _*_, _-_, _/_, _%_, _^_, _≤_, _<_}
-use mathlib.Core.Path.{_≡_, refl, sym, ap, _∙_, subst, subst⁻¹}
+use Prim.Native.Nat.{_-_, _≤_, _<_}
+use mathlib.Core.Path.{_≡_, refl, sym, ap, _∙_}
 use borrow.Author.Needs.{needs}
 use Rattle.arborescence.proofs.cheapest.circle.Statement.{statement}
 use Rattle.arborescence.proofs.cheapest.circle.Tie as tie
-use Rattle.arborescence.proofs.cheapest.circle.Reads as reads
-use Rattle.arborescence.proofs.cheapest.circle.Lts as lts
 
 abbrev Inv-loop : tie.InvT-loop
 Inv-loop y e on₀ x₀ i₀ on x i = (i ≤ 8) × (x < 8) × (length on ≡ 8) × (x ≡ iterate i (entryOf e) y) × IsMarked e y i on
@@ -21,36 +18,28 @@ Inv-loop y e on₀ x₀ i₀ on x i = (i ≤ 8) × (x < 8) × (length on ≡ 8) 
 abbrev μ-loop : tie.MeasureT-loop
 μ-loop y e on₀ x₀ i₀ on x i = 8 - i
 
--- src/cheapest.rt:161:5
 loop-holds : tie.Need-loop-holds Inv-loop μ-loop
 unfolding iterate
 loop-holds c = (omega arith, c .pre .0, refl, refl, marked-none _ _)
 
--- src/cheapest.rt:162:9
 array-write-on : tie.Need-array-write-on Inv-loop μ-loop
 array-write-on c = search needs
 
--- src/cheapest.rt:163:13
 mul-x : tie.Need-mul-x Inv-loop μ-loop
 mul-x c = search needs
 
--- src/cheapest.rt:163:13
 array-read-x : tie.Need-array-read-x Inv-loop μ-loop
 array-read-x c = search needs
 
--- src/cheapest.rt:161:9
 add-i : tie.Need-add-i Inv-loop μ-loop
 add-i c = search needs
 
--- src/cheapest.rt:161:5
 loop-less : tie.Need-loop-less Inv-loop μ-loop
 loop-less c = search needs
 
--- src/cheapest.rt:161:5
 loop-again : tie.Need-loop-again Inv-loop μ-loop
 loop-again c = let v = c .before .loop in let s = c .before .before in let k = v .inv .2 in let b = v .inv .1 in (omega arith, s .pre .1 (v .x) (v .inv .1), search needs, ap (entryOf (s .args .t1)) (v .inv .3) ∙ sym (iterate-last (v .i) (entryOf (s .args .t1)) (s .args .y)) ∙ rw add-one, marked-more _ _ (v .i) (v .on) (v .x) (omega arith) (v .inv .3) (v .inv .4))
 
--- src/cheapest.rt:155:1
 returns : tie.Need-returns Inv-loop μ-loop
 returns c = let v = c .before .loop in let e : v .i ≡ 8 = omega arith in rw e at (v .inv .4)
 

@@ -1,18 +1,15 @@
 -- From every component below q going back arrives.
-use Rattle.arborescence.specs.Picture.{entryOf, IsLost}
+use Rattle.arborescence.specs.Picture.{entryOf}
 use native.Mathlib.Decide.{ℕ-discrete}
 use Rattle.postman.specs.Lists.{iterate}
-use mathlib.Core.Bool.{Bool, true, false, cond}
-use lib.ListN.{length, getD, set, take}
+use mathlib.Core.Bool.{Bool, true, false}
+use lib.ListN.{getD}
 use native.Mathlib.Omega.{arith}
-use Prim.Native.Nat.{ℕ, suc, _+_, _*_, _-_, _/_, _%_, _^_, _≤_, _<_}
-use mathlib.Core.Path.{_≡_, refl, sym, ap, _∙_, subst, subst⁻¹}
+use Prim.Native.Nat.{ℕ, _-_, _≤_, _<_}
+use mathlib.Core.Path.{_≡_, refl, sym, ap, _∙_, subst⁻¹}
 use borrow.Author.Needs.{needs}
 use Rattle.arborescence.proofs.cheapest.lost.Statement.{statement}
 use Rattle.arborescence.proofs.cheapest.lost.Tie as tie
-use Rattle.arborescence.proofs.cheapest.lost.Reads as reads
-use Rattle.arborescence.proofs.cheapest.lost.Lts as lts
-use Rattle.arborescence.proofs.cheapest.astray.Reads as astray-reads
 
 abbrev Inv-loop : tie.InvT-loop
 Inv-loop e left q₀ q = (1 ≤ q) × (q ≤ 8) × ((x : ℕ) → 1 ≤ x → x < q → getD left x false ≡ true → iterate 8 (entryOf e) x ≡ 0)
@@ -20,19 +17,15 @@ Inv-loop e left q₀ q = (1 ≤ q) × (q ≤ 8) × ((x : ℕ) → 1 ≤ x → x 
 abbrev μ-loop : tie.MeasureT-loop
 μ-loop e left q₀ q = 8 - q
 
--- src/cheapest.rt:154:5
 loop-holds : tie.Need-loop-holds Inv-loop μ-loop
 loop-holds c = (omega arith, omega arith, λ x p l h. absurd (omega arith))
 
--- src/cheapest.rt:155:24
 array-read-astray : tie.Need-array-read-astray Inv-loop μ-loop
 array-read-astray c = search needs
 
--- src/cheapest.rt:155:13
 astray-requires : tie.Need-astray-requires Inv-loop μ-loop
 astray-requires c κs = (c .loop-test .taken, c .before .before .pre)
 
--- src/cheapest.rt:157:13
 returns : tie.Need-returns Inv-loop μ-loop
 returns c =
     let s = c .before .before .before .before in
@@ -50,15 +43,12 @@ returns c =
     on true e = e
     on false e = absurd (c .if1 .taken (c .before .astray .ensures .2 e))
 
--- src/cheapest.rt:154:9
 add-q : tie.Need-add-q Inv-loop μ-loop
 add-q c = search needs
 
--- src/cheapest.rt:154:5
 loop-less : tie.Need-loop-less Inv-loop μ-loop
 loop-less c = search needs
 
--- src/cheapest.rt:154:5
 loop-again : tie.Need-loop-again Inv-loop μ-loop
 loop-again c =
     let v = c .before .before .before .loop in
@@ -71,7 +61,6 @@ loop-again c =
       ],
     )
 
--- src/cheapest.rt:150:1
 returns-2 : tie.Need-returns-2 Inv-loop μ-loop
 returns-2 c = let v = c .before .loop in (omega arith, record { none = λ e q p l h. v .inv .2 q p (omega arith) h; some = λ n. absurd (n refl) })
 

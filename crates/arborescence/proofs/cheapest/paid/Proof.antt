@@ -3,21 +3,16 @@ use Rattle.arborescence.specs.Laws.Picture.{payments, payments-end, paym
 use Rattle.arborescence.specs.Picture.{highest}
 use Rattle.integers.specs.Linear.{z, zl, zz, back64}
 use mir.Facts.{toZ-ofZ}
-use mir.Val.{SFits, toZ, ofZ}
+use mir.Val.{toZ, ofZ}
 use mir.Syntax.{w64}
-use lib.Signed.{ltZ, _≤ℤ_, ≤ℤ-refl}
-use lib.IntN.{ℤ, pos, _+ℤ_, _-ℤ_}
-use mathlib.Core.Bool.{Bool, true, false, cond}
-use lib.ListN.{length, getD, set, take}
+use lib.Signed.{_≤ℤ_, ≤ℤ-refl}
+use lib.IntN.{ℤ, pos, _+ℤ_}
 use native.Mathlib.Omega.{arith}
-use Prim.Native.Nat.{ℕ, suc, _+_, _*_, _-_, _/_, _%_, _^_, _≤_, _<_}
-use mathlib.Core.Path.{_≡_, refl, sym, ap, ap₂, _∙_, subst, subst⁻¹}
+use Prim.Native.Nat.{_+_, _*_, _-_, _≤_}
+use mathlib.Core.Path.{_≡_, sym, ap, ap₂, _∙_, subst⁻¹}
 use borrow.Author.Needs.{needs}
 use Rattle.arborescence.proofs.cheapest.paid.Statement.{statement}
 use Rattle.arborescence.proofs.cheapest.paid.Tie as tie
-use Rattle.arborescence.proofs.cheapest.paid.Reads as reads
-use Rattle.arborescence.proofs.cheapest.paid.Lts as lts
-use Rattle.arborescence.proofs.cheapest.pay.Reads as pay-reads
 
 abbrev Inv-loop : tie.InvT-loop
 Inv-loop w left e s₀ q₀ s q = (1 ≤ q) × (q ≤ 8) × (toZ w64 s ≡ payments w left e q) × (pos 0 ≤ℤ toZ w64 s) × (toZ w64 s ≤ℤ pos ((8 - q) * highest))
@@ -25,19 +20,15 @@ Inv-loop w left e s₀ q₀ s q = (1 ≤ q) × (q ≤ 8) × (toZ w64 s ≡ payme
 abbrev μ-loop : tie.MeasureT-loop
 μ-loop w left e s₀ q₀ s q = q
 
--- src/cheapest.rt:96:5
 loop-holds : tie.Need-loop-holds Inv-loop μ-loop
 loop-holds c = (omega arith, omega arith, sym (payments-end _ _ _), ≤ℤ-refl _, ≤ℤ-refl _)
 
--- src/cheapest.rt:97:9
 sub-q : tie.Need-sub-q Inv-loop μ-loop
 sub-q c = search needs
 
--- src/cheapest.rt:98:13
 pay-requires : tie.Need-pay-requires Inv-loop μ-loop
 pay-requires c κs = let s = c .before .before in let v = c .before .loop in let t = c .loop-test .taken in (omega arith, s .pre .1 .in-range (v .q - 1) (omega arith))
 
--- src/cheapest.rt:98:13
 add-s : tie.Need-add-s Inv-loop μ-loop
 add-s c =
     let s = c .before .before .before in
@@ -51,11 +42,9 @@ add-s c =
     let hi2 = v .inv .4 in
     simp (back64, c .pay .ok) (simp zz (omega (arith, z)))
 
--- src/cheapest.rt:96:5
 loop-less : tie.Need-loop-less Inv-loop μ-loop
 loop-less c = search needs
 
--- src/cheapest.rt:96:5
 loop-again : tie.Need-loop-again Inv-loop μ-loop
 loop-again c =
     let s = c .before .before .before in
@@ -77,7 +66,6 @@ loop-again c =
       subst⁻¹ (λ (x : ℤ). x ≤ℤ pos ((8 - j) * highest)) g (simp zl (omega (arith, z))),
     )
 
--- src/cheapest.rt:90:1
 returns : tie.Need-returns Inv-loop μ-loop
 returns c = let v = c .before .loop in let s = c .before .before in let e : v .q ≡ 1 = omega arith in v .inv .2 ∙ ap (payments (s .args .w .now) (s .args .left) (s .args .e)) e ∙ payments-all _ _ _
 

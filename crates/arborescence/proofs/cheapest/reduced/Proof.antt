@@ -1,25 +1,18 @@
+-- After i turns the first i costs are reduced.
 use Rattle.arborescence.specs.Laws.Lists.{filled-more}
 use Rattle.arborescence.specs.Laws.Picture.{pay-within}
--- After i turns the first i costs are reduced.
 use Rattle.arborescence.specs.Picture.{payOf, less}
-use Rattle.integers.specs.Linear.{z, zl, zz, back64}
-use mir.Facts.{toZ-ofZ}
-use mir.Val.{SFits, toZ, ofZ}
+use Rattle.integers.specs.Linear.{back64}
+use mir.Val.{toZ, ofZ}
 use mir.Syntax.{w64}
-use lib.Signed.{ltZ, _≤ℤ_, ≤ℤ-refl}
-use lib.IntN.{ℤ, pos, _+ℤ_, _-ℤ_}
-use mathlib.Core.Bool.{Bool, true, false, cond}
-use lib.ListN.{length, getD, set, take}
+use lib.IntN.{pos}
+use lib.ListN.{length, getD}
 use native.Mathlib.Omega.{arith}
-use Prim.Native.Nat.{ℕ, suc, _+_, _*_, _-_, _/_, _%_, _^_, _≤_, _<_}
-use mathlib.Core.Path.{_≡_, refl, sym, ap, ap₂, _∙_, subst, subst⁻¹}
+use Prim.Native.Nat.{ℕ, _-_, _%_, _≤_, _<_}
+use mathlib.Core.Path.{_≡_, refl, ap₂, _∙_}
 use borrow.Author.Needs.{needs}
 use Rattle.arborescence.proofs.cheapest.reduced.Statement.{statement}
 use Rattle.arborescence.proofs.cheapest.reduced.Tie as tie
-use Rattle.arborescence.proofs.cheapest.reduced.Reads as reads
-use Rattle.arborescence.proofs.cheapest.reduced.Lts as lts
-use Rattle.arborescence.proofs.cheapest.lesser.Reads as lesser-reads
-use Rattle.arborescence.proofs.cheapest.pay.Reads as pay-reads
 
 abbrev Inv-loop : tie.InvT-loop
 Inv-loop w left e v₀ i₀ v i = (i ≤ 64) × (length v ≡ 64) × ((m : ℕ) → m < i → getD v m (pos 0) ≡ less (getD w m (pos 0)) (payOf w left e (m % 8)))
@@ -27,23 +20,18 @@ Inv-loop w left e v₀ i₀ v i = (i ≤ 64) × (length v ≡ 64) × ((m : ℕ) 
 abbrev μ-loop : tie.MeasureT-loop
 μ-loop w left e v₀ i₀ v i = 64 - i
 
--- src/cheapest.rt:120:5
 loop-holds : tie.Need-loop-holds Inv-loop μ-loop
 loop-holds c = (omega arith, refl, λ m l. absurd (omega arith))
 
--- src/cheapest.rt:121:23
 mul-lesser : tie.Need-mul-lesser Inv-loop μ-loop
 mul-lesser c = search needs
 
--- src/cheapest.rt:121:23
 element-copy-out-lesser : tie.Need-element-copy-out-lesser Inv-loop μ-loop
 element-copy-out-lesser c = search needs
 
--- src/cheapest.rt:121:29
 pay-requires : tie.Need-pay-requires Inv-loop μ-loop
 pay-requires c κs = let s = c .before .before .before in (omega arith, s .pre .1 .in-range _ (omega arith))
 
--- src/cheapest.rt:121:16
 lesser-requires : tie.Need-lesser-requires Inv-loop μ-loop
 lesser-requires c κs =
     let s = c .before .before .before .before in
@@ -54,23 +42,18 @@ lesser-requires c κs =
     let g : toZ w64 (ofZ w64 (getD (s .args .w .now) (v .i) (pos 0))) ≡ getD (s .args .w .now) (v .i) (pos 0) = back64 _ (c .before .lesser-arg .given) in
     (rw g (s .pre .0 .low (v .i) t), rw g (s .pre .0 .high (v .i) t), rw f (a .0), rw f (a .1))
 
--- src/cheapest.rt:121:9
 mul-v : tie.Need-mul-v Inv-loop μ-loop
 mul-v c = search needs
 
--- src/cheapest.rt:121:9
 array-set-from-v : tie.Need-array-set-from-v Inv-loop μ-loop
 array-set-from-v c = search needs
 
--- src/cheapest.rt:120:9
 add-i : tie.Need-add-i Inv-loop μ-loop
 add-i c = search needs
 
--- src/cheapest.rt:120:5
 loop-less : tie.Need-loop-less Inv-loop μ-loop
 loop-less c = search needs
 
--- src/cheapest.rt:120:5
 loop-again : tie.Need-loop-again Inv-loop μ-loop
 loop-again c =
     let s = c .before .before .before .before .before in
@@ -85,7 +68,6 @@ loop-again c =
           (back64 _ (c .lesser .ok) ∙ c .lesser .ensures ∙ ap₂ less g f),
     )
 
--- src/cheapest.rt:115:1
 returns : tie.Need-returns Inv-loop μ-loop
 returns c = let v = c .before .loop in λ i l. v .inv .2 i (omega arith)
 

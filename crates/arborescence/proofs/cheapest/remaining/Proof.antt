@@ -1,17 +1,14 @@
 -- After x turns the first x places are filled.
 use Rattle.arborescence.specs.Laws.Lists.{filled-more}
 use Rattle.arborescence.specs.Picture.{keptOf}
-use mathlib.Core.Bool.{Bool, true, false, cond}
-use lib.ListN.{length, getD, set, take}
+use mathlib.Core.Bool.{false}
+use lib.ListN.{length, getD}
 use native.Mathlib.Omega.{arith}
-use Prim.Native.Nat.{ℕ, suc, _+_, _*_, _-_, _/_, _%_, _^_, _≤_, _<_}
-use mathlib.Core.Path.{_≡_, refl, sym, ap, _∙_, subst, subst⁻¹}
+use Prim.Native.Nat.{ℕ, _-_, _≤_, _<_}
+use mathlib.Core.Path.{_≡_}
 use borrow.Author.Needs.{needs}
 use Rattle.arborescence.proofs.cheapest.remaining.Statement.{statement}
 use Rattle.arborescence.proofs.cheapest.remaining.Tie as tie
-use Rattle.arborescence.proofs.cheapest.remaining.Reads as reads
-use Rattle.arborescence.proofs.cheapest.remaining.Lts as lts
-use Rattle.arborescence.proofs.cheapest.kept.Reads as kept-reads
 
 abbrev Inv-loop : tie.InvT-loop
 Inv-loop c left on l₀ x₀ l x = (x ≤ 8) × (length l ≡ 8) × ((m : ℕ) → m < x → getD l m false ≡ keptOf left on c m)
@@ -19,39 +16,30 @@ Inv-loop c left on l₀ x₀ l x = (x ≤ 8) × (length l ≡ 8) × ((m : ℕ) �
 abbrev μ-loop : tie.MeasureT-loop
 μ-loop c left on l₀ x₀ l x = 8 - x
 
--- src/cheapest.rt:211:5
 loop-holds : tie.Need-loop-holds Inv-loop μ-loop
 loop-holds c = let k : length (c .args .t1) ≡ 8 = search needs in (omega arith, k, λ m l. absurd (omega arith))
 
--- src/cheapest.rt:212:21
 array-read-kept : tie.Need-array-read-kept Inv-loop μ-loop
 array-read-kept c = search needs
 
--- src/cheapest.rt:212:30
 array-read-kept-2 : tie.Need-array-read-kept-2 Inv-loop μ-loop
 array-read-kept-2 c = search needs
 
--- src/cheapest.rt:212:16
 kept-requires : tie.Need-kept-requires Inv-loop μ-loop
 kept-requires c κs = search needs
 
--- src/cheapest.rt:212:9
 array-write-l : tie.Need-array-write-l Inv-loop μ-loop
 array-write-l c = search needs
 
--- src/cheapest.rt:211:9
 add-x : tie.Need-add-x Inv-loop μ-loop
 add-x c = search needs
 
--- src/cheapest.rt:211:5
 loop-less : tie.Need-loop-less Inv-loop μ-loop
 loop-less c = search needs
 
--- src/cheapest.rt:211:5
 loop-again : tie.Need-loop-again Inv-loop μ-loop
 loop-again c = let v = c .before .before .loop in let s = c .before .before .before in let t = c .before .loop-test .taken in let k = v .inv .1 in (omega arith, search needs, filled-more false (keptOf (s .args .t1) (s .args .t2) (s .args .c)) (v .l) (v .x) _ (omega arith) (v .inv .2) (c .kept .ensures))
 
--- src/cheapest.rt:207:1
 returns : tie.Need-returns Inv-loop μ-loop
 returns c = let v = c .before .loop in λ x l. v .inv .2 x (omega arith)
 

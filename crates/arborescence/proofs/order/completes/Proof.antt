@@ -1,34 +1,24 @@
 -- The test, with the set of component q put in.
 use Rattle.arborescence.specs.Reach.{reachesAll}
-use lib.ListN.{length, getD, set, take}
-use native.Mathlib.Omega.{arith}
-use Prim.Native.Nat.{ℕ, suc, _+_, _*_, _-_, _^_, _≤_, _<_}
-use mathlib.Core.Path.{_≡_, refl, sym, ap, _∙_, subst, subst⁻¹}
+use lib.ListN.{getD, set}
+use Prim.Native.Nat.{ℕ}
+use mathlib.Core.Path.{ap, _∙_}
 use borrow.Author.Needs.{needs}
 use Rattle.arborescence.proofs.order.completes.Statement.{statement}
 use Rattle.arborescence.proofs.order.completes.Tie as tie
-use Rattle.arborescence.proofs.order.completes.Reads as reads
-use Rattle.arborescence.proofs.order.completes.Lts as lts
-use Rattle.arborescence.proofs.order.source_of.Reads as source-of-reads
-use Rattle.arborescence.proofs.reach.all_reached.Reads as all-reached-reads
 
--- src/order.rt:95:12
 source-of-requires : tie.Need-source-of-requires
 source-of-requires c κs = search needs
 
--- src/order.rt:95:5
 mul-s : tie.Need-mul-s
 mul-s c = let h = c .before .pre .0 .few in search needs
 
--- src/order.rt:95:5
 array-write-s : tie.Need-array-write-s
 array-write-s c = let h = c .before .pre .0 .few in search needs
 
--- src/order.rt:96:5
 all-reached-requires : tie.Need-all-reached-requires
 all-reached-requires c κs = let s = c .before .before in (s .pre .0 .sources .some-component, s .pre .0 .few)
 
--- src/order.rt:90:1
 returns : tie.Need-returns
 returns c = let s = c .before .before .before in c .all-reached .ensures ∙ ap (λ (v : ℕ). reachesAll (λ x. getD (set (s .args .e) (s .args .q) v) x 0) (s .args .k)) (c .before .before .source-of .ensures)
 

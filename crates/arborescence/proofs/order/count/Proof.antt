@@ -1,37 +1,28 @@
 -- The places of component q's candidates are those between two starts.
 use native.Mathlib.Omega.{arith}
-use mathlib.Core.Path.{_≡_, refl, sym, ap, _∙_, subst, subst⁻¹}
+use mathlib.Core.Path.{refl}
 use borrow.Author.Needs.{needs}
 use Rattle.arborescence.proofs.order.count.Statement.{statement}
 use Rattle.arborescence.proofs.order.count.Tie as tie
-use Rattle.arborescence.proofs.order.count.Reads as reads
-use Rattle.arborescence.proofs.order.count.Lts as lts
 
--- src/order.rt:24:11
 add-result : tie.Need-add-result
 add-result c = search needs
 
--- src/order.rt:24:5
 mul-result : tie.Need-mul-result
 mul-result c = search needs
 
--- src/order.rt:24:5
 element-copy-out-result : tie.Need-element-copy-out-result
 element-copy-out-result c = search needs
 
--- src/order.rt:24:20
 mul-result-2 : tie.Need-mul-result-2
 mul-result-2 c = search needs
 
--- src/order.rt:24:20
 element-copy-out-result-2 : tie.Need-element-copy-out-result-2
 element-copy-out-result-2 c = search needs
 
--- src/order.rt:24:5
 sub-result : tie.Need-sub-result
 sub-result c = omega (arith, c .before .before .pre .0 .ascending (c .before .before .args .q) (c .before .before .pre .1))
 
--- src/order.rt:19:1
 returns : tie.Need-returns
 returns c = (refl, omega (arith, c .before .before .pre .0 .fits (c .before .before .args .q) (c .before .before .pre .1)))
 

@@ -1,42 +1,30 @@
 -- Below n it is the source of the choice, else the set of all sources.
-use Rattle.arborescence.specs.Layout.{laidOut}
 use Rattle.arborescence.specs.Laws.Layout.{entry-chosen, entry-open}
-use lib.ListN.{length, getD, set, take}
+use lib.ListN.{length}
 use native.Mathlib.Omega.{arith}
-use Prim.Native.Nat.{ℕ, suc, _+_, _*_, _-_, _^_, _≤_, _<_}
-use mathlib.Core.Path.{_≡_, refl, sym, ap, _∙_, subst, subst⁻¹}
+use mathlib.Core.Path.{_≡_, sym, _∙_}
 use borrow.Author.Needs.{needs}
 use Rattle.arborescence.proofs.order.entry_set.Statement.{statement}
 use Rattle.arborescence.proofs.order.entry_set.Tie as tie
-use Rattle.arborescence.proofs.order.entry_set.Reads as reads
-use Rattle.arborescence.proofs.order.entry_set.Lts as lts
-use Rattle.arborescence.proofs.order.source_of.Reads as source-of-reads
 
--- src/order.rt:73:47
 mul-source-of : tie.Need-mul-source-of
 mul-source-of c = search needs
 
--- src/order.rt:73:47
 array-read-source-of : tie.Need-array-read-source-of
 array-read-source-of c = search needs
 
--- src/order.rt:73:9
 source-of-requires : tie.Need-source-of-requires
 source-of-requires c κs = let s = c .before in (s .pre .0, s .pre .4, s .pre .5, s .pre .2 .each (s .args .q) (s .pre .4) (c .if1 .taken))
 
--- src/order.rt:73:9
 returns : tie.Need-returns
 returns c = let s = c .before .before in let l : length (s .args .t5) ≡ 8 = search needs in c .source-of .ensures ∙ sym (entry-chosen _ (s .args .t5) (s .args .n) (s .args .q) (c .before .if1 .taken) (omega arith))
 
--- src/order.rt:75:5
 mul-result : tie.Need-mul-result
 mul-result c = search needs
 
--- src/order.rt:75:5
 element-copy-out-result : tie.Need-element-copy-out-result
 element-copy-out-result c = search needs
 
--- src/order.rt:68:1
 returns-2 : tie.Need-returns-2
 returns-2 c = let s = c .before .before in s .pre .1 .each (s .args .q) (s .pre .4) (s .pre .5) ∙ sym (entry-open _ (s .args .t5) (s .args .n) (s .args .q) (omega arith))
 

@@ -3,16 +3,13 @@ use Rattle.arborescence.specs.Laws.Layout.{found-more, first-lt, filled-
 use Rattle.arborescence.specs.Layout.{laidOut, HasChosen}
 use Rattle.arborescence.specs.Order.{completable, filled}
 use lib.Dec.{T}
-use lib.ListN.{length, getD, set, take}
+use lib.ListN.{length, take}
 use native.Mathlib.Omega.{arith}
-use Prim.Native.Nat.{ℕ, suc, _+_, _*_, _-_, _^_, _≤_, _<_}
-use mathlib.Core.Path.{_≡_, refl, sym, ap, _∙_, subst, subst⁻¹}
+use Prim.Native.Nat.{_-_, _≤_, _<_}
+use mathlib.Core.Path.{_≡_, refl, sym, ap, _∙_, subst}
 use borrow.Author.Needs.{needs}
 use Rattle.arborescence.proofs.order.fill.Statement.{statement}
 use Rattle.arborescence.proofs.order.fill.Tie as tie
-use Rattle.arborescence.proofs.order.fill.Reads as reads
-use Rattle.arborescence.proofs.order.fill.Lts as lts
-use Rattle.arborescence.proofs.order.find.Reads as find-reads
 
 abbrev Inv-loop : tie.InvT-loop
 Inv-loop start source sets k n c₀ q₀ c q = (length c ≡ 8) × (1 ≤ q) × (q ≤ k) × HasChosen (laidOut k start source) q c × T (completable (laidOut k start source) (take q c))
@@ -21,31 +18,24 @@ Inv-loop start source sets k n c₀ q₀ c q = (length c ≡ 8) × (1 ≤ q) × 
 abbrev μ-loop : tie.MeasureT-loop
 μ-loop start source sets k n c₀ q₀ c q = k - q
 
--- src/order.rt:123:5
 loop-holds : tie.Need-loop-holds Inv-loop μ-loop
 loop-holds c = let l : length (c .args .choice) ≡ 8 = search needs in (l, c .pre .3, c .pre .4, c .pre .2, c .pre .5, refl)
 
--- src/order.rt:124:16
 find-requires : tie.Need-find-requires Inv-loop μ-loop
 find-requires c κs = let s = c .before .before in let v = c .before .loop in (s .pre .0, s .pre .1, v .inv .3, v .inv .1, c .loop-test .taken, omega arith)
 
--- src/order.rt:124:9
 mul-c : tie.Need-mul-c Inv-loop μ-loop
 mul-c c = let h = c .before .before .before .pre .0 .few in search needs
 
--- src/order.rt:124:9
 array-write-c : tie.Need-array-write-c Inv-loop μ-loop
 array-write-c c = let h = c .before .before .before .pre .0 .few in search needs
 
--- src/order.rt:123:9
 add-q : tie.Need-add-q Inv-loop μ-loop
 add-q c = search needs
 
--- src/order.rt:123:5
 loop-less : tie.Need-loop-less Inv-loop μ-loop
 loop-less c = search needs
 
--- src/order.rt:123:5
 loop-again : tie.Need-loop-again Inv-loop μ-loop
 loop-again c = let s = c .before .before .before in
     let v = c .before .before .loop in
@@ -60,7 +50,6 @@ loop-again c = let s = c .before .before .before in
     let r = found-more g ok (v .c) (v .q) i (v .inv .1) t b (v .inv .3) 0 (omega arith) (c .find .ensures) n in
     (search needs, omega arith, omega arith, r .0, r .1, filled-more g ok (v .c) (v .q) i (v .inv .1) t b (v .inv .3) (c .find .ensures) ∙ v .inv .5)
 
--- src/order.rt:118:1
 returns : tie.Need-returns Inv-loop μ-loop
 unfolding filled
 returns c = let v = c .before .loop in

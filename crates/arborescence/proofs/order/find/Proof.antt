@@ -1,22 +1,16 @@
 -- What is searched from i on is what was searched from the start: no candidate before i passed.
 use Rattle.arborescence.specs.Laws.Layout.{FilledTo, completes-is, search-taken, search-passed, search-over}
 use Rattle.arborescence.specs.Layout.{laidOut}
-use Rattle.arborescence.specs.Order.{entrySet, completable, search-from, found}
+use Rattle.arborescence.specs.Order.{entrySet, search-from}
 use lib.Seq.{length-take-le}
-use mathlib.Core.List.{List, [], _∷_, _++_}
-use mathlib.Core.Bool.{Bool, true, false, cond}
-use lib.ListN.{length, getD, set, take}
+use mathlib.Core.List.{List}
+use lib.ListN.{length, take}
 use native.Mathlib.Omega.{arith}
-use Prim.Native.Nat.{ℕ, suc, _+_, _*_, _-_, _^_, _≤_, _<_}
-use mathlib.Core.Path.{_≡_, refl, sym, ap, _∙_, subst, subst⁻¹}
+use Prim.Native.Nat.{ℕ, _-_, _≤_}
+use mathlib.Core.Path.{_≡_, refl, sym, ap, _∙_}
 use borrow.Author.Needs.{needs}
 use Rattle.arborescence.proofs.order.find.Statement.{statement}
 use Rattle.arborescence.proofs.order.find.Tie as tie
-use Rattle.arborescence.proofs.order.find.Reads as reads
-use Rattle.arborescence.proofs.order.find.Lts as lts
-use Rattle.arborescence.proofs.order.completes.Reads as completes-reads
-use Rattle.arborescence.proofs.order.count.Reads as count-reads
-use Rattle.arborescence.proofs.order.entry_sets.Reads as entry-sets-reads
 
 abbrev Inv-loop : tie.InvT-loop
 Inv-loop start source sets k q from n e i₀ i = (i ≤ n) × ((xs : List ℕ) → length xs ≡ q → FilledTo (entrySet (laidOut k start source) xs) e k → search-from (laidOut k start source) xs (n - i) i ≡ search-from (laidOut k start source) xs (n - from) from)
@@ -24,23 +18,18 @@ Inv-loop start source sets k q from n e i₀ i = (i ≤ n) × ((xs : List ℕ) �
 abbrev μ-loop : tie.MeasureT-loop
 μ-loop start source sets k q from n e i₀ i = n - i
 
--- src/order.rt:105:9
 count-requires : tie.Need-count-requires Inv-loop μ-loop
 count-requires c κs = search needs
 
--- src/order.rt:106:9
 entry-sets-requires : tie.Need-entry-sets-requires Inv-loop μ-loop
 entry-sets-requires c κs = let s = c .before in (s .pre .0, s .pre .1, s .pre .2, omega (arith, s .pre .0 .few))
 
--- src/order.rt:108:5
 loop-holds : tie.Need-loop-holds Inv-loop μ-loop
 loop-holds c = (omega (arith, c .before .count .ensures .0), λ xs h f. refl)
 
--- src/order.rt:109:12
 completes-requires : tie.Need-completes-requires Inv-loop μ-loop
 completes-requires c κs = let s = c .before .before .before .before in (s .pre .0, s .pre .3, s .pre .4, omega (arith, c .before .before .before .count .ensures .0))
 
--- src/order.rt:110:13
 returns : tie.Need-returns Inv-loop μ-loop
 returns c = let s = c .before .before .before .before .before .before in
     let v = c .before .before .before .loop in
@@ -55,15 +44,12 @@ returns c = let s = c .before .before .before .before .before .before in
     search-taken g xs (n .result) (v .i) (s .args .from) (n .ensures .0 ∙ ap (g .count) (sym h)) (v .inv .1 xs h (e .ensures))
     (sym (completes-is g xs (e .result) (s .args .q) (v .i) _ h (omega arith) (e .ensures) refl) ∙ sym (c .before .completes .ensures) ∙ c .if1 .taken) (c .before .before .loop-test .taken)
 
--- src/order.rt:112:9
 add-i : tie.Need-add-i Inv-loop μ-loop
 add-i c = search needs
 
--- src/order.rt:108:5
 loop-less : tie.Need-loop-less Inv-loop μ-loop
 loop-less c = search needs
 
--- src/order.rt:108:5
 loop-again : tie.Need-loop-again Inv-loop μ-loop
 loop-again c = let s = c .before .before .before .before .before .before in
     let v = c .before .before .before .loop in
@@ -78,7 +64,6 @@ loop-again c = let s = c .before .before .before .before .before .before in
           (sym (completes-is g xs (e .result) (s .args .q) (v .i) _ h (omega arith) f refl) ∙ sym (c .before .completes .ensures) ∙ c .if1 .left) t,
     )
 
--- src/order.rt:101:1
 returns-2 : tie.Need-returns-2 Inv-loop μ-loop
 returns-2 c = let s = c .before .before .before .before in
     let v = c .before .loop in

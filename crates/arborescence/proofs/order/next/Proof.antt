@@ -1,22 +1,15 @@
 -- The components from q on have been tried: what is left is the successor that keeps their choices.
 use Rattle.arborescence.specs.Laws.Layout.{chosen-fewer, found-more, advanced-turn}
 use Rattle.arborescence.specs.Layout.{laidOut}
-use Rattle.arborescence.specs.Order.{filled, advanced, nextChoice}
+use Rattle.arborescence.specs.Order.{advanced, nextChoice}
 use borrow.Author.Tests.{lt-ltb, le-ltb}
-use mathlib.Core.Option.{some, none}
-use mathlib.Core.Bool.{true, false, cond}
-use lib.ListN.{length, getD, set, take}
+use lib.ListN.{length, getD, take}
 use native.Mathlib.Omega.{arith}
-use Prim.Native.Nat.{ℕ, suc, _+_, _*_, _-_, _^_, _≤_, _<_}
-use mathlib.Core.Path.{_≡_, refl, sym, ap, _∙_, subst, subst⁻¹}
+use Prim.Native.Nat.{ℕ, _+_, _-_, _≤_, _<_}
+use mathlib.Core.Path.{_≡_, refl, sym, ap, _∙_}
 use borrow.Author.Needs.{needs}
 use Rattle.arborescence.proofs.order.next.Statement.{statement}
 use Rattle.arborescence.proofs.order.next.Tie as tie
-use Rattle.arborescence.proofs.order.next.Reads as reads
-use Rattle.arborescence.proofs.order.next.Lts as lts
-use Rattle.arborescence.proofs.order.count.Reads as count-reads
-use Rattle.arborescence.proofs.order.fill.Reads as fill-reads
-use Rattle.arborescence.proofs.order.find.Reads as find-reads
 
 abbrev Inv-loop : tie.InvT-loop
 Inv-loop start source sets k choice q₀ q = (1 ≤ q) × (q ≤ k) × (advanced (laidOut k start source) q (take k choice) ≡ nextChoice (laidOut k start source) (take k choice))
@@ -24,24 +17,19 @@ Inv-loop start source sets k choice q₀ q = (1 ≤ q) × (q ≤ k) × (advanced
 abbrev μ-loop : tie.MeasureT-loop
 μ-loop start source sets k choice q₀ q = q
 
--- src/order.rt:154:5
 loop-holds : tie.Need-loop-holds Inv-loop μ-loop
 unfolding nextChoice
 loop-holds c = (c .pre .0 .sources .some-component, omega arith, refl)
 
--- src/order.rt:155:9
 sub-q : tie.Need-sub-q Inv-loop μ-loop
 sub-q c = search needs
 
--- src/order.rt:156:57
 mul-find : tie.Need-mul-find Inv-loop μ-loop
 mul-find c = let h = c .before .before .pre .0 .few in search needs
 
--- src/order.rt:156:57
 array-read-find : tie.Need-array-read-find Inv-loop μ-loop
 array-read-find c = let h = c .before .before .pre .0 .few in search needs
 
--- src/order.rt:156:57
 add-find : tie.Need-add-find Inv-loop μ-loop
 add-find c = let s = c .before .before in
     let v = c .before .loop in
@@ -51,7 +39,6 @@ add-find c = let s = c .before .before in
     let b = s .pre .0 .fits j (omega arith) in
     omega arith
 
--- src/order.rt:156:13
 find-requires : tie.Need-find-requires Inv-loop μ-loop
 find-requires c κs = let s = c .before .before in
     let v = c .before .loop in
@@ -61,23 +48,18 @@ find-requires c κs = let s = c .before .before in
     let a = s .pre .2 .each j (omega arith) (omega arith) in
     (s .pre .0, s .pre .1, chosen-fewer g (s .args .t5) (s .args .k) j (omega arith) (s .pre .2), omega arith, omega arith, omega arith)
 
--- src/order.rt:157:16
 count-requires : tie.Need-count-requires Inv-loop μ-loop
 count-requires c κs = let s = c .before .before .before in let v = c .before .before .loop in let t = c .before .loop-test .taken in (s .pre .0, omega arith)
 
--- src/order.rt:159:13
 mul-c : tie.Need-mul-c Inv-loop μ-loop
 mul-c c = let h = c .before .before .before .before .before .pre .0 .few in search needs
 
--- src/order.rt:159:13
 array-write-c : tie.Need-array-write-c Inv-loop μ-loop
 array-write-c c = let h = c .before .before .before .before .before .pre .0 .few in search needs
 
--- src/order.rt:160:53
 add-fill : tie.Need-add-fill Inv-loop μ-loop
 add-fill c = search needs
 
--- src/order.rt:160:17
 fill-requires : tie.Need-fill-requires Inv-loop μ-loop
 fill-requires c κs = let s = c .before .before .before .before .before in
     let v = c .before .before .before .before .loop in
@@ -93,7 +75,6 @@ fill-requires c κs = let s = c .before .before .before .before .before in
     let r = found-more g ok (s .args .t5) j i (omega arith) (omega arith) (omega arith) (chosen-fewer g (s .args .t5) (s .args .k) j (omega arith) (s .pre .2)) (getD (s .args .t5) j 0 + 1) (omega arith) (c .before .before .find .ensures) n in
     (s .pre .0, s .pre .1, r .0, omega arith, omega arith, r .1)
 
--- src/order.rt:161:13
 returns : tie.Need-returns Inv-loop μ-loop
 returns c = let s = c .before .before .before .before .before .before in
     let v = c .before .before .before .before .before .loop in
@@ -108,11 +89,9 @@ returns c = let s = c .before .before .before .before .before .before in
     let e = advanced-turn g ok (s .args .t5) (v .q) i (omega arith) t (v .inv .1) (c .before .before .before .find .ensures) in
     (rw (c .fill .ensures .0) (sym (rw (lt-ltb i (g .count j) n) at e) ∙ v .inv .2), λ t. c .fill .ensures .1)
 
--- src/order.rt:154:5
 loop-less : tie.Need-loop-less Inv-loop μ-loop
 loop-less c = search needs
 
--- src/order.rt:154:5
 loop-again : tie.Need-loop-again Inv-loop μ-loop
 loop-again c = let s = c .before .before .before .before .before in
     let v = c .before .before .before .before .loop in
@@ -127,7 +106,6 @@ loop-again c = let s = c .before .before .before .before .before in
     let e = advanced-turn g ok (s .args .t5) (v .q) i (omega arith) t (v .inv .1) (c .before .before .find .ensures) in
     (omega arith, omega arith, sym (rw (le-ltb i (g .count j) n) at e) ∙ v .inv .2)
 
--- src/order.rt:149:1
 returns-2 : tie.Need-returns-2 Inv-loop μ-loop
 unfolding advanced
 returns-2 c = let v = c .before .loop in

@@ -1,27 +1,18 @@
-use Rattle.arborescence.specs.PairCosts.{offerOf}
 -- After l turns m holds the least offers of the first l pairs.
+use Rattle.arborescence.specs.PairCosts.{offerOf}
 use Rattle.arborescence.specs.Laws.PairCosts.{offers-more, offers-none}
 use Rattle.arborescence.specs.PairCosts.{AreLeastOffers, IsLesser}
-use mathlib.Core.Logic.{inl, inr}
-use Rattle.integers.specs.Linear.{z, zl, zz, back64}
-use mir.Facts.{toZ-ofZ}
-use mir.Val.{SFits, toZ, ofZ}
+use Rattle.integers.specs.Linear.{back64}
+use mir.Val.{toZ, ofZ}
 use mir.Syntax.{w64}
-use lib.Signed.{ltZ, _≤ℤ_, ≤ℤ-refl}
-use lib.IntN.{ℤ, pos, _+ℤ_, _-ℤ_}
-use mathlib.Core.Bool.{Bool, true, false, cond, _&&_}
-use lib.ListN.{length, getD, set, take}
+use lib.IntN.{pos}
+use lib.ListN.{length, getD}
 use native.Mathlib.Omega.{arith}
-use Prim.Native.Nat.{ℕ, suc, _+_, _*_, _-_, _/_, _%_, _^_, _≤_, _<_}
-use mathlib.Core.Path.{_≡_, refl, sym, ap, _∙_, subst, subst⁻¹}
+use Prim.Native.Nat.{_-_, _/_, _%_, _≤_}
+use mathlib.Core.Path.{_≡_, refl, _∙_}
 use borrow.Author.Needs.{needs}
 use Rattle.arborescence.proofs.pairs.pair_costs.Statement.{statement}
 use Rattle.arborescence.proofs.pairs.pair_costs.Tie as tie
-use Rattle.arborescence.proofs.pairs.pair_costs.Reads as reads
-use Rattle.arborescence.proofs.pairs.pair_costs.Lts as lts
-use Rattle.arborescence.proofs.pairs.lesser.Reads as lesser-reads
-use Rattle.arborescence.proofs.pairs.offer.Reads as offer-reads
-use Rattle.arborescence.proofs.pairs.place.Reads as place-reads
 
 abbrev Inv-loop : tie.InvT-loop
 Inv-loop d u component required m₀ l₀ m l = (l ≤ 4096) × (length m ≡ 64) × AreLeastOffers d u component required l m
@@ -29,47 +20,36 @@ Inv-loop d u component required m₀ l₀ m l = (l ≤ 4096) × (length m ≡ 64
 abbrev μ-loop : tie.MeasureT-loop
 μ-loop d u component required m₀ l₀ m l = 4096 - l
 
--- src/pairs.rt:76:5
 loop-holds : tie.Need-loop-holds Inv-loop μ-loop
 loop-holds c = (omega arith, refl, offers-none _ _ _ _)
 
--- src/pairs.rt:77:13
 place-requires : tie.Need-place-requires Inv-loop μ-loop
 place-requires c κs = let t = c .loop-test .taken in (omega arith, omega arith, c .before .before .pre .in-range)
 
--- src/pairs.rt:78:23
 mul-lesser : tie.Need-mul-lesser Inv-loop μ-loop
 mul-lesser c = let h = c .place .ensures .0 in search needs
 
--- src/pairs.rt:78:23
 array-copy-out-lesser : tie.Need-array-copy-out-lesser Inv-loop μ-loop
 array-copy-out-lesser c = let h = c .place .ensures .0 in let k = c .before .before .loop .inv .1 in omega arith
 
--- src/pairs.rt:78:29
 offer-requires : tie.Need-offer-requires Inv-loop μ-loop
 offer-requires c κs = let t = c .before .before .loop-test .taken in let s = c .before .before .before .before in (omega arith, omega arith, s .pre .small _ (omega arith), s .pre .small _ (omega arith))
 
--- src/pairs.rt:78:16
 lesser-requires : tie.Need-lesser-requires Inv-loop μ-loop
 lesser-requires c κs = search needs
 
--- src/pairs.rt:78:9
 mul-m : tie.Need-mul-m Inv-loop μ-loop
 mul-m c = let h = c .before .before .before .place .ensures .0 in search needs
 
--- src/pairs.rt:78:9
 array-set-from-m : tie.Need-array-set-from-m Inv-loop μ-loop
 array-set-from-m c = let h = c .before .before .before .place .ensures .0 in let k = c .before .before .before .before .before .loop .inv .1 in search needs
 
--- src/pairs.rt:76:9
 add-l : tie.Need-add-l Inv-loop μ-loop
 add-l c = search needs
 
--- src/pairs.rt:76:5
 loop-less : tie.Need-loop-less Inv-loop μ-loop
 loop-less c = search needs
 
--- src/pairs.rt:76:5
 loop-again : tie.Need-loop-again Inv-loop μ-loop
 loop-again c =
     let s = c .before .before .before .before .before .before in
@@ -89,7 +69,6 @@ loop-again c =
           (offers-more d u (s .args .component .now) r (s .pre) (v .l) t (v .m) (v .inv .2) (x .result) (v .inv .1) (x .ensures .0) (x .ensures .1) (c .lesser .result) q),
     )
 
--- src/pairs.rt:71:1
 returns : tie.Need-returns Inv-loop μ-loop
 returns c = let v = c .before .loop in let e : v .l ≡ 4096 = omega arith in rw e at (v .inv .2)
 

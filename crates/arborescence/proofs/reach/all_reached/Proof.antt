@@ -10,10 +10,6 @@ use mathlib.Core.Path.{_≡_, refl, sym, ap, _∙_}
 use borrow.Author.Needs.{needs}
 use Rattle.arborescence.proofs.reach.all_reached.Statement.{statement}
 use Rattle.arborescence.proofs.reach.all_reached.Tie as tie
-use Rattle.arborescence.proofs.reach.all_reached.Reads as reads
-use Rattle.arborescence.proofs.reach.all_reached.Lts as lts
-use Rattle.arborescence.proofs.reach.single.Reads as single-reads
-use Rattle.arborescence.proofs.reach.swept.Reads as swept-reads
 
 abbrev Inv-loop : tie.InvT-loop
 Inv-loop sets k all r₀ j₀ r j = (1 ≤ k) × (j ≤ k) × (k ≤ 8) × (all ≡ 2 ^ k - 1) × (r ≡ sweeps (λ q. getD sets q 0) (k - 1) j)
@@ -21,48 +17,38 @@ Inv-loop sets k all r₀ j₀ r j = (1 ≤ k) × (j ≤ k) × (k ≤ 8) × (all 
 abbrev μ-loop : tie.MeasureT-loop
 μ-loop sets k all r₀ j₀ r j = k - j
 
--- src/reach.rt:43:15
 single-requires : tie.Need-single-requires Inv-loop μ-loop
 single-requires c κs = search needs
 
--- src/reach.rt:43:15
 sub-all : tie.Need-sub-all Inv-loop μ-loop
 sub-all c = omega (arith, c .single .ensures, pow-pos (c .before .args .k))
 
--- src/reach.rt:45:5
 loop-holds : tie.Need-loop-holds Inv-loop μ-loop
 unfolding sweeps
 loop-holds c = (omega arith, omega arith, omega arith, ap (λ s. s - 1) (c .single .ensures), refl)
 
--- src/reach.rt:46:13
 swept-requires : tie.Need-swept-requires Inv-loop μ-loop
 swept-requires c κs = search needs
 
--- src/reach.rt:48:13
 returns : tie.Need-returns Inv-loop μ-loop
 returns c = let v = c .before .before .before .loop in
     sym (stop-full _ _ (v .j) _ _ (v .inv .0) (c .before .before .loop-test .taken) (v .inv .4) (c .before .swept .ensures) (c .if1 .taken ∙ v .inv .3))
 
--- src/reach.rt:51:13
 returns-2 : tie.Need-returns-2 Inv-loop μ-loop
 returns-2 c = let v = c .before .before .before .before .loop in
     sym (stop-still _ _ (v .j) _ _ (v .inv .0) (c .before .before .before .loop-test .taken) (v .inv .4) (c .before .before .swept .ensures) (c .if2 .taken) (λ e. c .before .if1 .left (e ∙ sym (v .inv .3))))
 
--- src/reach.rt:45:9
 add-j : tie.Need-add-j Inv-loop μ-loop
 add-j c = search needs
 
--- src/reach.rt:45:5
 loop-less : tie.Need-loop-less Inv-loop μ-loop
 loop-less c = search needs
 
--- src/reach.rt:45:5
 loop-again : tie.Need-loop-again Inv-loop μ-loop
 unfolding sweeps
 loop-again c = let v = c .before .before .before .before .loop in
     (v .inv .0, omega arith, v .inv .2, v .inv .3, c .before .before .swept .ensures ∙ rw (v .inv .4, add-one))
 
--- src/reach.rt:39:1
 returns-3 : tie.Need-returns-3 Inv-loop μ-loop
 unfolding reachesAll
 returns-3 c = let v = c .before .loop in let e : v .j ≡ c .before .before .before .args .k = omega arith in rw (v .inv .3, v .inv .4, e)

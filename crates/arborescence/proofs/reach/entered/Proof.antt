@@ -1,25 +1,17 @@
 -- The two cases of the definition.
 use Rattle.arborescence.specs.Reach.{enter}
-use lib.Bits.{bitAnd, bitOr}
 use borrow.Author.Tests.{eq-eqb, ne-eqb}
-use mathlib.Core.Path.{_≡_, sym, ap, _∙_}
 use borrow.Author.Needs.{needs}
 use Rattle.arborescence.proofs.reach.entered.Statement.{statement}
 use Rattle.arborescence.proofs.reach.entered.Tie as tie
-use Rattle.arborescence.proofs.reach.entered.Reads as reads
-use Rattle.arborescence.proofs.reach.entered.Lts as lts
-use Rattle.arborescence.proofs.reach.single.Reads as single-reads
 
--- src/reach.rt:21:9
 returns : tie.Need-returns
 unfolding enter
 returns c = rw (eq-eqb _ 0 (c .if1 .taken))
 
--- src/reach.rt:23:9
 single-requires : tie.Need-single-requires
 single-requires c κs = search needs
 
--- src/reach.rt:16:1
 returns-2 : tie.Need-returns-2
 unfolding enter
 returns-2 c = rw (ne-eqb _ 0 (c .before .if1 .left), c .single .ensures)

@@ -3,14 +3,10 @@ use Rattle.arborescence.specs.BitSet.{shifted}
 use borrow.Author.Needs.{needs}
 use Rattle.arborescence.proofs.reach.single.Statement.{statement}
 use Rattle.arborescence.proofs.reach.single.Tie as tie
-use Rattle.arborescence.proofs.reach.single.Reads as reads
-use Rattle.arborescence.proofs.reach.single.Lts as lts
 
--- src/reach.rt:12:5
 shl-result : tie.Need-shl-result
 shl-result c = search needs
 
--- src/reach.rt:8:1
 returns : tie.Need-returns
 returns c = shifted (c .args .i) (c .pre)
 

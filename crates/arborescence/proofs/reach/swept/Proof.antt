@@ -1,16 +1,13 @@
 -- After the turns for components below j, r is the sweep of components 1 to j − 1.
 use Rattle.arborescence.specs.Laws.Reach.{sweep-step}
-use Rattle.arborescence.specs.Reach.{enter, sweep}
+use Rattle.arborescence.specs.Reach.{sweep}
 use lib.ListN.{getD}
 use native.Mathlib.Omega.{arith}
-use Prim.Native.Nat.{ℕ, _+_, _-_, _≤_, _<_}
-use mathlib.Core.Path.{_≡_, refl, sym, ap, _∙_}
+use Prim.Native.Nat.{_+_, _-_, _≤_}
+use mathlib.Core.Path.{_≡_, refl, sym, _∙_}
 use borrow.Author.Needs.{needs}
 use Rattle.arborescence.proofs.reach.swept.Statement.{statement}
 use Rattle.arborescence.proofs.reach.swept.Tie as tie
-use Rattle.arborescence.proofs.reach.swept.Reads as reads
-use Rattle.arborescence.proofs.reach.swept.Lts as lts
-use Rattle.arborescence.proofs.reach.entered.Reads as entered-reads
 
 abbrev Inv-loop : tie.InvT-loop
 Inv-loop sets k s r₀ j₀ r j = (1 ≤ j) × (j ≤ k) × (k ≤ 8) × (r ≡ sweep (λ q. getD sets q 0) (j - 1) s)
@@ -18,39 +15,31 @@ Inv-loop sets k s r₀ j₀ r j = (1 ≤ j) × (j ≤ k) × (k ≤ 8) × (r ≡ 
 abbrev μ-loop : tie.MeasureT-loop
 μ-loop sets k s r₀ j₀ r j = k - j
 
--- src/reach.rt:32:5
 loop-holds : tie.Need-loop-holds Inv-loop μ-loop
 unfolding sweep
 loop-holds c = (omega arith, omega arith, omega arith, refl)
 
--- src/reach.rt:33:21
 mul-entered : tie.Need-mul-entered Inv-loop μ-loop
 mul-entered c = search needs
 
--- src/reach.rt:33:21
 element-copy-out-entered : tie.Need-element-copy-out-entered Inv-loop μ-loop
 element-copy-out-entered c = search needs
 
--- src/reach.rt:33:9
 entered-requires : tie.Need-entered-requires Inv-loop μ-loop
 entered-requires c κs = search needs
 
--- src/reach.rt:32:9
 add-j : tie.Need-add-j Inv-loop μ-loop
 add-j c = search needs
 
--- src/reach.rt:32:5
 loop-less : tie.Need-loop-less Inv-loop μ-loop
 loop-less c = search needs
 
--- src/reach.rt:32:5
 loop-again : tie.Need-loop-again Inv-loop μ-loop
 loop-again c = let v = c .before .before .before .loop in
     let l = v .inv .0 in
     let e : v .j + 1 - 1 ≡ v .j = omega arith in
     (omega arith, omega arith, omega arith, c .entered .ensures ∙ rw (e, v .inv .3) (sym (sweep-step _ _ _ l)))
 
--- src/reach.rt:27:1
 returns : tie.Need-returns Inv-loop μ-loop
 returns c = let v = c .before .loop in let e : v .j ≡ c .before .before .args .k = omega arith in rw e at (v .inv .3)
 

@@ -3,17 +3,12 @@ use mathlib.Core.Path.{ap}
 use lib.IntN.{natAbs}
 use Rattle.integers.specs.Linear.{back64}
 use Rattle.planner.specs.Laws.Answered.{floor-cast}
-use borrow.Author.Needs.{needs}
 use Rattle.exports.proofs.call.floor_word.Statement.{statement}
 use Rattle.exports.proofs.call.floor_word.Tie as tie
-use Rattle.exports.proofs.call.floor_word.Reads as reads
-use Rattle.exports.proofs.call.floor_word.Lts as lts
 
--- src/call.rt:19:5
 cast-result : tie.Need-cast-result
 cast-result c = floor-cast _ (c .fits .floor .sfits) (c .pre)
 
--- src/call.rt:15:1
 returns : tie.Need-returns
 returns c = ap natAbs (back64 (c .args .floor) (c .fits .floor .sfits))
 

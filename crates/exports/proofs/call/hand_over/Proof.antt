@@ -5,55 +5,38 @@ use Rattle.exports.specs.Laws.Answer.{handed, kept}
 use borrow.Author.Needs.{needs}
 use Rattle.exports.proofs.call.hand_over.Statement.{statement}
 use Rattle.exports.proofs.call.hand_over.Tie as tie
-use Rattle.exports.proofs.call.hand_over.Reads as reads
-use Rattle.exports.proofs.call.hand_over.Lts as lts
-use Rattle.exports.proofs.call.put_multipliers.Reads as put-multipliers-reads
-use Rattle.exports.proofs.call.put_words.Reads as put-words-reads
-use Rattle.exports.proofs.call.words.Reads as words-reads
-use Rattle.planner.proofs.refusal_number.Reads as refusal-number-reads
 
--- src/call.rt:66:23
 enum-told : tie.Need-enum-told
 enum-told c = search needs
 
--- src/call.rt:66:23
 words-requires : tie.Need-words-requires
 words-requires c κs = c .before .before .before .pre (ap verdictNumber (c .enum-told .given .1))
 
--- src/call.rt:66:13
 put-words-requires : tie.Need-put-words-requires
 put-words-requires c κs = search needs
 
--- src/call.rt:68:13
 put-multipliers-requires : tie.Need-put-multipliers-requires
 put-multipliers-requires c κs = search needs
 
--- src/call.rt:71:26
 enum-known-verdict : tie.Need-enum-known-verdict
 enum-known-verdict c = search needs
 
--- src/call.rt:71:32
 refusal-number-requires : tie.Need-refusal-number-requires
 refusal-number-requires c κs = search needs
 
--- src/call.rt:71:32
 cast-result : tie.Need-cast-result
 cast-result c = search needs
 
--- src/call.rt:59:1
 same-length : tie.Need-same-length
 same-length c = search needs
 
--- src/call.rt:59:1
 same-length-2 : tie.Need-same-length-2
 same-length-2 c = search needs
 
--- src/call.rt:59:1
 returns : tie.Need-returns
 returns c =
     handed _ _ _ _ _ _ (ap verdictNumber (c .before .before .before .before .before .before .before .before .before .enum-told .given .1)) (c .before .before .before .before .before .before .before .before .words .ensures) (c .before .before .before .before .before .before .put-words .ensures) (c .before .put-multipliers .ensures)
 
--- src/call.rt:59:1
 returns-2 : tie.Need-returns-2
 returns-2 c = kept _ _ _ _ _ (ap verdictNumber (c .before .before .verdict .given .1)) (c .refusal-number .ensures)
 

@@ -3,14 +3,10 @@ use Prim.Native.Nat.{_-_}
 use native.Mathlib.Omega.{arith}
 use lib.IntN.{pos}
 use Rattle.integers.specs.Linear.{back64}
-use lib.ListN.{length}
 use Rattle.exports.specs.Laws.Answer.{IsPut, put-start, put-more, put-end}
 use borrow.Author.Needs.{needs}
 use Rattle.exports.proofs.call.put_multipliers.Statement.{statement}
 use Rattle.exports.proofs.call.put_multipliers.Tie as tie
-use Rattle.exports.proofs.call.put_multipliers.Reads as reads
-use Rattle.exports.proofs.call.put_multipliers.Lts as lts
-use Rattle.records.proofs.writer.at_most.Reads as at-most-reads
 
 abbrev Inv-loop : tie.InvT-loop
 Inv-loop lent₀ u n i₀ lent i = IsPut u lent₀ 64 lent n i
@@ -18,47 +14,36 @@ Inv-loop lent₀ u n i₀ lent i = IsPut u lent₀ 64 lent n i
 abbrev μ-loop : tie.MeasureT-loop
 μ-loop lent₀ u n i₀ lent i = n - i
 
--- src/call.rt:52:9
 at-most-requires : tie.Need-at-most-requires Inv-loop μ-loop
 at-most-requires c κs = search needs
 
--- src/call.rt:53:5
 loop-holds : tie.Need-loop-holds Inv-loop μ-loop
 loop-holds c = put-start _ _ _ _ (search needs) (c .at-most .ensures)
 
--- src/call.rt:54:19
 mul-lent : tie.Need-mul-lent Inv-loop μ-loop
 mul-lent c = search needs
 
--- src/call.rt:54:19
 array-copy-out-lent : tie.Need-array-copy-out-lent Inv-loop μ-loop
 array-copy-out-lent c = search needs
 
--- src/call.rt:54:9
 mul-t12 : tie.Need-mul-t12 Inv-loop μ-loop
 mul-t12 c = search needs
 
--- src/call.rt:54:9
 slice-set-from-lent : tie.Need-slice-set-from-lent Inv-loop μ-loop
 slice-set-from-lent c = search needs
 
--- src/call.rt:53:9
 add-i : tie.Need-add-i Inv-loop μ-loop
 add-i c = search needs
 
--- src/call.rt:53:5
 loop-less : tie.Need-loop-less Inv-loop μ-loop
 loop-less c = search needs
 
--- src/call.rt:53:5
 loop-again : tie.Need-loop-again Inv-loop μ-loop
 loop-again c = put-more _ _ _ (pos 0) _ _ _ _ (back64 _ (c .lent .given)) (c .before .before .loop .inv) (omega arith)
 
--- src/call.rt:49:1
 same-length : tie.Need-same-length Inv-loop μ-loop
 same-length c = c .before .loop .inv .same
 
--- src/call.rt:49:1
 returns : tie.Need-returns Inv-loop μ-loop
 returns c = put-end _ _ _ _ _ _ (c .before .loop .inv) (omega arith)
 

@@ -1,15 +1,11 @@
 -- The loop's invariant: the first i are put, and the rest is as it was.
-use mathlib.Core.Path.{_≡_, refl}
+use mathlib.Core.Path.{refl}
 use Prim.Native.Nat.{_-_}
 use native.Mathlib.Omega.{arith}
-use lib.ListN.{length}
 use Rattle.exports.specs.Laws.Answer.{IsPut, put-start, put-more, put-end}
 use borrow.Author.Needs.{needs}
 use Rattle.exports.proofs.call.put_words.Statement.{statement}
 use Rattle.exports.proofs.call.put_words.Tie as tie
-use Rattle.exports.proofs.call.put_words.Reads as reads
-use Rattle.exports.proofs.call.put_words.Lts as lts
-use Rattle.records.proofs.writer.at_most.Reads as at-most-reads
 
 abbrev Inv-loop : tie.InvT-loop
 Inv-loop lent₀ words n i₀ lent i = IsPut words lent₀ 6 lent n i
@@ -17,47 +13,36 @@ Inv-loop lent₀ words n i₀ lent i = IsPut words lent₀ 6 lent n i
 abbrev μ-loop : tie.MeasureT-loop
 μ-loop lent₀ words n i₀ lent i = n - i
 
--- src/call.rt:42:9
 at-most-requires : tie.Need-at-most-requires Inv-loop μ-loop
 at-most-requires c κs = search needs
 
--- src/call.rt:43:5
 loop-holds : tie.Need-loop-holds Inv-loop μ-loop
 loop-holds c = put-start _ _ _ _ (search needs) (c .at-most .ensures)
 
--- src/call.rt:44:19
 mul-lent : tie.Need-mul-lent Inv-loop μ-loop
 mul-lent c = search needs
 
--- src/call.rt:44:19
 array-read-lent : tie.Need-array-read-lent Inv-loop μ-loop
 array-read-lent c = search needs
 
--- src/call.rt:44:9
 mul-lent-2 : tie.Need-mul-lent-2 Inv-loop μ-loop
 mul-lent-2 c = search needs
 
--- src/call.rt:44:9
 slice-write-lent : tie.Need-slice-write-lent Inv-loop μ-loop
 slice-write-lent c = search needs
 
--- src/call.rt:43:9
 add-i : tie.Need-add-i Inv-loop μ-loop
 add-i c = search needs
 
--- src/call.rt:43:5
 loop-less : tie.Need-loop-less Inv-loop μ-loop
 loop-less c = search needs
 
--- src/call.rt:43:5
 loop-again : tie.Need-loop-again Inv-loop μ-loop
 loop-again c = put-more _ _ _ 0 _ _ _ _ refl (c .before .loop .inv) (omega arith)
 
--- src/call.rt:39:1
 same-length : tie.Need-same-length Inv-loop μ-loop
 same-length c = c .before .loop .inv .same
 
--- src/call.rt:39:1
 returns : tie.Need-returns Inv-loop μ-loop
 returns c = put-end _ _ _ _ _ _ (c .before .loop .inv) (omega arith)
 

@@ -7,27 +7,19 @@ use Rattle.exports.specs.Laws.Answer.{words-are}
 use borrow.Author.Needs.{needs}
 use Rattle.exports.proofs.call.words.Statement.{statement}
 use Rattle.exports.proofs.call.words.Tie as tie
-use Rattle.exports.proofs.call.words.Reads as reads
-use Rattle.exports.proofs.call.words.Lts as lts
-use Rattle.exports.proofs.call.floor_word.Reads as floor-word-reads
 
--- src/call.rt:27:9
 floor-word-requires : tie.Need-floor-word-requires
 floor-word-requires c κs = search needs
 
--- src/call.rt:32:9
 cast-t4 : tie.Need-cast-t4
 cast-t4 c = search needs
 
--- src/call.rt:33:9
 cast-t5 : tie.Need-cast-t5
 cast-t5 c = search needs
 
--- src/call.rt:34:9
 cast-t6 : tie.Need-cast-t6
 cast-t6 c = search needs
 
--- src/call.rt:23:1
 returns : tie.Need-returns
 returns c =
     let r = c .before .before .before .before .before .args .r in

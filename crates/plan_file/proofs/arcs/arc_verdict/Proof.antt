@@ -4,7 +4,6 @@ use mathlib.Core.Bool.{_||_}
 use lib.Dec.{leb, eqb}
 use Rattle.postman.specs.Refusal.{firstRefusal}
 use Rattle.plan_file.specs.Verdicts.{orElse, or-else-cond}
-use Rattle.plan.specs.Standings.{isRefusedStanding}
 use borrow.Author.Needs.{needs}
 use Rattle.plan_file.proofs.arcs.arc_verdict.Statement.{statement}
 use Rattle.plan_file.proofs.arcs.arc_verdict.Tie as tie

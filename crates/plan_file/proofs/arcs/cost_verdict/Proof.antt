@@ -1,6 +1,5 @@
 -- `cost_verdict` meets its contract: the test that the code makes is that of the definition.
 use borrow.Author.Tests.{eq-eqb, ne-eqb}
-use borrow.Author.Needs.{needs}
 use Rattle.plan_file.proofs.arcs.cost_verdict.Statement.{statement}
 use Rattle.plan_file.proofs.arcs.cost_verdict.Tie as tie
 

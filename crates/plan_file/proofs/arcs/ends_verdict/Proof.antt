@@ -1,6 +1,5 @@
 -- `ends_verdict` meets its contract: the tests that the code makes are those of the definition.
 use borrow.Author.Tests.{le-leb, lt-leb}
-use borrow.Author.Needs.{needs}
 use Rattle.plan_file.proofs.arcs.ends_verdict.Statement.{statement}
 use Rattle.plan_file.proofs.arcs.ends_verdict.Tie as tie
 

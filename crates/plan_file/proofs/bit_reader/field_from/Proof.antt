@@ -4,15 +4,12 @@ use borrow.Author.Needs.{needs}
 use Rattle.plan_file.proofs.bit_reader.field_from.Statement.{statement}
 use Rattle.plan_file.proofs.bit_reader.field_from.Tie as tie
 
--- src/bit_reader.rt:25:9
 field-requires : tie.Need-field-requires
 field-requires c κs = search needs
 
--- src/bit_reader.rt:28:13
 add-t5 : tie.Need-add-t5
 add-t5 c = search needs
 
--- src/bit_reader.rt:21:1
 returns : tie.Need-returns
 returns c = (c .field .ensures, refl)
 

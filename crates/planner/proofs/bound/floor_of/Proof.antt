@@ -9,35 +9,25 @@ use Rattle.planner.specs.Laws.Bound.{zero-bound, zero-priced}
 use borrow.Author.Needs.{needs}
 use Rattle.planner.proofs.bound.floor_of.Statement.{statement}
 use Rattle.planner.proofs.bound.floor_of.Tie as tie
-use Rattle.planner.proofs.bound.floor_of.Reads as reads
-use Rattle.planner.proofs.bound.floor_of.Lts as lts
-use Rattle.planner.proofs.bound.lagrangian.Reads as lagrangian-reads
-use Rattle.planner.proofs.bound.larger.Reads as larger-reads
 
--- src/bound.rt:54:16
 cast-result : tie.Need-cast-result
 cast-result c = search needs
 
--- src/bound.rt:54:9
 returns : tie.Need-returns
 returns c =
     let e : c .before .args .whole ≡ true = c .if1 .taken in
     let l : c .before .args .cost < 2 ^ 63 = omega arith in
     rw e (plain64 (c .before .args .cost) l)
 
--- src/bound.rt:57:9
 lagrangian-requires : tie.Need-lagrangian-requires
 lagrangian-requires c κs = zero-priced (c .before .before .pre .0)
 
--- src/bound.rt:58:9
 lagrangian-requires-2 : tie.Need-lagrangian-requires-2
 lagrangian-requires-2 c κs = search needs
 
--- src/bound.rt:59:5
 larger-requires : tie.Need-larger-requires
 larger-requires c κs = search needs
 
--- src/bound.rt:49:1
 returns-2 : tie.Need-returns-2
 returns-2 c =
     let e : c .before .before .before .before .before .args .whole ≡ false = c .before .before .before .before .if1 .left in

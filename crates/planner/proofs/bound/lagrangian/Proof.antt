@@ -1,17 +1,10 @@
 -- The arrays hold the plan's network, so the cheapest arborescence is A(u), and the sum is L(u).
-use mathlib.Core.Path.{_≡_, _∙_}
-use native.Mathlib.Omega.{arith}
+use mathlib.Core.Path.{_∙_}
 use Rattle.integers.specs.Linear.{back64}
 use Rattle.planner.specs.Laws.Bound.{are-costs, is-network, cheapest-within, cost-small, bound-is}
-use borrow.Author.Needs.{needs}
 use Rattle.planner.proofs.bound.lagrangian.Statement.{statement}
 use Rattle.planner.proofs.bound.lagrangian.Tie as tie
-use Rattle.planner.proofs.bound.lagrangian.Reads as reads
-use Rattle.planner.proofs.bound.lagrangian.Lts as lts
-use Rattle.arborescence.proofs.pairs.cheapest_arborescence.Reads as cheapest-arborescence-reads
-use Rattle.planner.proofs.bound.total.Reads as total-reads
 
--- src/bound.rt:34:9
 cheapest-arborescence-requires : tie.Need-cheapest-arborescence-requires
 cheapest-arborescence-requires c κs = let h = c .pre in (h .some, h .few, are-costs _ _ _ _ _ _ _ _ h (h .long))
 

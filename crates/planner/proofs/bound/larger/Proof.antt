@@ -4,13 +4,9 @@ use mathlib.Core.Bool.{true, false}
 use lib.Signed.{leZ}
 use mir.Facts.{toZ-ofZ}
 use Rattle.postman.specs.Lists.{maxℤ}
-use borrow.Author.Needs.{needs}
 use Rattle.planner.proofs.bound.larger.Statement.{statement}
 use Rattle.planner.proofs.bound.larger.Tie as tie
-use Rattle.planner.proofs.bound.larger.Reads as reads
-use Rattle.planner.proofs.bound.larger.Lts as lts
 
--- src/bound.rt:15:1
 returns : tie.Need-returns
 unfolding maxℤ
 returns c =
@@ -19,7 +15,6 @@ returns c =
     let t : leZ (c .before .args .a) (c .before .args .b) ≡ true = rw (a, b) at (c .if1 .taken) in
     rw (b, t)
 
--- src/bound.rt:15:1
 returns-2 : tie.Need-returns-2
 unfolding maxℤ
 returns-2 c =

@@ -8,24 +8,18 @@ use Rattle.integers.specs.Linear.{z, zz, plain64}
 use borrow.Author.Needs.{needs}
 use Rattle.planner.proofs.bound.total.Statement.{statement}
 use Rattle.planner.proofs.bound.total.Tie as tie
-use Rattle.planner.proofs.bound.total.Reads as reads
-use Rattle.planner.proofs.bound.total.Lts as lts
 
--- src/bound.rt:26:15
 add-sum : tie.Need-add-sum
 add-sum c = search needs
 
--- src/bound.rt:27:5
 cast-result : tie.Need-cast-result
 cast-result c = search needs
 
--- src/bound.rt:27:5
 add-result : tie.Need-add-result
 add-result c =
     let h : c .args .required-cost + c .args .price < 2 ^ 63 = omega arith in
     simp plain64 (simp zz (omega (arith, z)))
 
--- src/bound.rt:22:1
 returns : tie.Need-returns
 returns c =
     let h : c .args .required-cost + c .args .price < 2 ^ 63 = omega arith in

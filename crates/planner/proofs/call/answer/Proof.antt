@@ -1,26 +1,19 @@
 -- The vertices that are flagged are the required ones, and the list holds them at its start; so the plan is known, and `solve` answers it.
-use mathlib.Core.Path.{_≡_, sym, _∙_}
+use mathlib.Core.Path.{_∙_}
 use native.Mathlib.Omega.{arith}
-use lib.ListN.{length, take, length-take}
+use lib.ListN.{length-take}
 use Rattle.candidates.specs.Laws.Vertices.{vertices-required}
 use Rattle.planner.specs.Laws.Call.{is-known}
 use borrow.Author.Needs.{needs}
 use Rattle.planner.proofs.call.answer.Statement.{statement}
 use Rattle.planner.proofs.call.answer.Tie as tie
-use Rattle.planner.proofs.call.answer.Reads as reads
-use Rattle.planner.proofs.call.answer.Lts as lts
-use Rattle.candidates.proofs.vertices_of.Reads as vertices-of-reads
-use Rattle.planner.proofs.solve.solve.Reads as solve-reads
 
--- src/call.rt:86:9
 vertices-of-requires : tie.Need-vertices-of-requires
 vertices-of-requires c κs = search needs
 
--- src/call.rt:89:24
 array-share-prefix-list : tie.Need-array-share-prefix-list
 array-share-prefix-list c = search needs
 
--- src/call.rt:89:24
 slice-aggregate-solve : tie.Need-slice-aggregate-solve
 slice-aggregate-solve c =
     let h = c .before .before .vertices-of .ensures in
@@ -29,7 +22,6 @@ slice-aggregate-solve c =
     let b = h .fits in
     omega arith
 
--- src/call.rt:89:5
 solve-requires : tie.Need-solve-requires
 solve-requires c κs =
     let s = c .before .before .before .before .before .before in
@@ -37,11 +29,9 @@ solve-requires c κs =
     let v = c .before .before .before .vertices-of .ensures .content ∙ vertices-required _ (m .well-formed) (s .args .net .required) (m .network .required) in
     (is-known _ _ _ m (s .pre .0 .1) _ v, (m .network, s .pre .1 .0, s .pre .1 .1))
 
--- src/call.rt:74:1
 same-length : tie.Need-same-length
 same-length c = search needs
 
--- src/call.rt:74:1
 returns : tie.Need-returns
 returns c = search needs
 

@@ -5,22 +5,18 @@ use Rattle.planner.specs.Refusals.{networkRefusal}
 use Rattle.planner.proofs.call.network_verdict.Statement.{statement}
 use Rattle.planner.proofs.call.network_verdict.Tie as tie
 
--- src/call.rt:62:9
 returns : tie.Need-returns
 unfolding networkRefusal firstRefusal
 returns c = simp (eq-eqb _ _ (c .if1 .taken))
 
--- src/call.rt:65:9
 returns-2 : tie.Need-returns-2
 unfolding networkRefusal firstRefusal
 returns-2 c = simp (ne-eqb _ _ (c .before .if1 .left), lt-ltb _ _ (c .if2 .taken))
 
--- src/call.rt:68:9
 returns-3 : tie.Need-returns-3
 unfolding networkRefusal firstRefusal
 returns-3 c = simp (ne-eqb _ _ (c .before .before .if1 .left), le-ltb _ _ (c .before .if2 .left), c .if3 .taken)
 
--- src/call.rt:58:1
 returns-4 : tie.Need-returns-4
 unfolding networkRefusal firstRefusal
 returns-4 c = simp (ne-eqb _ _ (c .before .before .if1 .left), le-ltb _ _ (c .before .if2 .left), c .if3 .left)

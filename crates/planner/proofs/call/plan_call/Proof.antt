@@ -1,5 +1,5 @@
 -- A file that is refused refuses the call; one that is not gives its plan, and the rest of the conditions are looked at in their order.
-use mathlib.Core.Path.{_≡_, sym, ap, _∙_, subst⁻¹}
+use mathlib.Core.Path.{sym, ap, _∙_, subst⁻¹}
 use mathlib.Core.Option.{some}
 use Rattle.postman.specs.Plan.{WellFormed}
 use Rattle.postman.specs.Laws.Acceptance.{file-accepted}
@@ -8,52 +8,37 @@ use Rattle.planner.specs.Laws.Call.{refused-planned, file-refused, read-
 use borrow.Author.Needs.{needs}
 use Rattle.planner.proofs.call.plan_call.Statement.{statement}
 use Rattle.planner.proofs.call.plan_call.Tie as tie
-use Rattle.planner.proofs.call.plan_call.Reads as reads
-use Rattle.planner.proofs.call.plan_call.Lts as lts
-use Rattle.plan_file.proofs.reader.read_plan.Reads as read-plan-reads
-use Rattle.planner.proofs.call.file_refusal.Reads as file-refusal-reads
-use Rattle.planner.proofs.call.plan_onto.Reads as plan-onto-reads
-use Rattle.planner.proofs.call.refused.Reads as refused-reads
 
--- src/call.rt:145:9
 read-plan-requires : tie.Need-read-plan-requires
 read-plan-requires c κs = search needs
 
--- src/call.rt:149:37
 enum-known-verdict : tie.Need-enum-known-verdict
 enum-known-verdict c = search needs
 
--- src/call.rt:149:51
 file-refusal-requires : tie.Need-file-refusal-requires
 file-refusal-requires c κs = search needs
 
--- src/call.rt:149:43
 refused-requires : tie.Need-refused-requires
 refused-requires c κs = search needs
 
--- src/call.rt:150:65
 enum-told : tie.Need-enum-told
 enum-told c = search needs
 
--- src/call.rt:150:41
 plan-onto-requires : tie.Need-plan-onto-requires
 plan-onto-requires c κs =
     let r = c .before .before .before .before .read-plan in
     let e = sym (r .ensures .verdict) ∙ ap verdictNumber (c .before .enum-told .given .1) in
     subst⁻¹ WellFormed (read-value _ (r .result) (r .ensures) e) (file-accepted _ e)
 
--- src/call.rt:142:1
 returns : tie.Need-returns
 returns c =
     let r = c .before .before .before .before .before .before .read-plan in
     let v = sym (r .ensures .verdict) ∙ ap verdictNumber (c .before .before .before .verdict .given .1) in
     is-call _ _ _ _ _ (refused-planned _ _ _ _ _ _ (c .refused .ensures) (file-refused _ _ _ _ v ∙ ap some (sym (c .before .file-refusal .ensures))))
 
--- src/call.rt:142:1
 same-length : tie.Need-same-length
 same-length c = search needs
 
--- src/call.rt:142:1
 returns-2 : tie.Need-returns-2
 returns-2 c =
     let r = c .before .before .before .before .before .before .before .read-plan in

@@ -1,50 +1,37 @@
 -- Where the network refuses, the answer is the refusal's; where it does not, it is `answer`'s.
-use mathlib.Core.Path.{_≡_, refl, sym, ap, _∙_}
+use mathlib.Core.Path.{refl, sym, ap, _∙_}
 use Rattle.planner.specs.Refusals.{verdictNumber}
 use Rattle.planner.specs.Laws.Call.{refused-planned, planned-as}
 use borrow.Author.Needs.{needs}
 use Rattle.planner.proofs.call.plan_measured.Statement.{statement}
 use Rattle.planner.proofs.call.plan_measured.Tie as tie
-use Rattle.planner.proofs.call.plan_measured.Reads as reads
-use Rattle.planner.proofs.call.plan_measured.Lts as lts
-use Rattle.planner.proofs.call.answer.Reads as answer-reads
-use Rattle.planner.proofs.call.network_verdict.Reads as network-verdict-reads
-use Rattle.planner.proofs.call.refused.Reads as refused-reads
 
--- src/call.rt:103:11
 network-verdict-requires : tie.Need-network-verdict-requires
 network-verdict-requires c κs = search needs
 
--- src/call.rt:104:26
 enum-known-r : tie.Need-enum-known-r
 enum-known-r c = search needs
 
--- src/call.rt:104:32
 refused-requires : tie.Need-refused-requires
 refused-requires c κs = search needs
 
--- src/call.rt:105:63
 enum-told : tie.Need-enum-told
 enum-told c = search needs
 
--- src/call.rt:105:30
 answer-requires : tie.Need-answer-requires
 answer-requires c κs =
     let s = c .before .before .before .before .before in
     let e = sym (c .before .before .before .network-verdict .ensures) ∙ ap verdictNumber (c .before .enum-told .given .1) in
     ((s .pre .0, e), (s .pre .1, s .pre .2))
 
--- src/call.rt:93:1
 returns : tie.Need-returns
 returns c =
     let v = c .before .before .before .before .network-verdict .ensures in
     refused-planned _ _ _ _ _ _ (c .refused .ensures) (sym v ∙ ap verdictNumber (c .before .before .r .given .1))
 
--- src/call.rt:93:1
 same-length : tie.Need-same-length
 same-length c = search needs
 
--- src/call.rt:93:1
 returns-2 : tie.Need-returns-2
 returns-2 c =
     let v = c .before .before .before .before .before .before .network-verdict .ensures in

@@ -1,35 +1,26 @@
 -- A short sheet is refused as 8.
-use mathlib.Core.Path.{_≡_, refl, sym}
+use mathlib.Core.Path.{refl, sym}
 use native.Mathlib.Omega.{arith}
 use Rattle.postman.specs.PlanCall.{sheetPlaces}
 use Rattle.planner.specs.Laws.Call.{sheet-short, sheet-long, refused-planned, planned-as}
 use borrow.Author.Needs.{needs}
 use Rattle.planner.proofs.call.plan_onto.Statement.{statement}
 use Rattle.planner.proofs.call.plan_onto.Tie as tie
-use Rattle.planner.proofs.call.plan_onto.Reads as reads
-use Rattle.planner.proofs.call.plan_onto.Lts as lts
-use Rattle.planner.proofs.call.plan_within.Reads as plan-within-reads
-use Rattle.planner.proofs.call.refused.Reads as refused-reads
 
--- src/call.rt:136:9
 refused-requires : tie.Need-refused-requires
 refused-requires c κs = search needs
 
--- src/call.rt:136:9
 returns : tie.Need-returns
 unfolding sheetPlaces
 returns c = refused-planned _ _ _ _ _ _ (c .refused .ensures) (sheet-short _ _ _ (omega arith))
 
--- src/call.rt:138:5
 plan-within-requires : tie.Need-plan-within-requires
 unfolding sheetPlaces
 plan-within-requires c κs = (c .before .before .before .pre, omega arith)
 
--- src/call.rt:131:1
 same-length : tie.Need-same-length
 same-length c = search needs
 
--- src/call.rt:131:1
 returns-2 : tie.Need-returns-2
 unfolding sheetPlaces
 returns-2 c = planned-as _ _ _ _ _ _ _ _ refl (sym (sheet-long _ _ _ (omega arith))) (c .before .before .plan-within .ensures)

@@ -14,11 +14,6 @@ use Rattle.planner.specs.Laws.Call.{measured-refusal, planned-as}
 use borrow.Author.Needs.{needs}
 use Rattle.planner.proofs.call.plan_read.Statement.{statement}
 use Rattle.planner.proofs.call.plan_read.Tie as tie
-use Rattle.planner.proofs.call.plan_read.Reads as reads
-use Rattle.planner.proofs.call.plan_read.Lts as lts
-use Rattle.network.proofs.network_of.Reads as network-of-reads
-use Rattle.planner.proofs.call.plan_measured.Reads as plan-measured-reads
-use Rattle.shortest.proofs.table.Reads as table-reads
 
 -- each row of an array of arrays has the length of its type
 rows : (xs : List (List ℕ)) (us : List Val) → shadow (each (List ℕ) (eArr (eInt w32) 64 .ty .own) xs us) → (i : ℕ) → i < length xs → length (getD xs i []) ≡ 64
@@ -28,15 +23,12 @@ rows (x ∷ xs) [] s i l = absurd s
 rows (x ∷ xs) (u ∷ us) s zero l = s .0 .1 .0 .1
 rows (x ∷ xs) (u ∷ us) s (suc i) l = rows xs us (s .1) i (omega arith)
 
--- src/call.rt:114:17
 table-requires : tie.Need-table-requires
 table-requires c κs = search needs
 
--- src/call.rt:115:9
 network-of-requires : tie.Need-network-of-requires
 network-of-requires c κs = search needs
 
--- src/call.rt:116:5
 plan-measured-requires : tie.Need-plan-measured-requires
 plan-measured-requires c κs =
     let s = c .before .before .before .before .before .before in
@@ -44,11 +36,9 @@ plan-measured-requires c κs =
     let long : length (t .result) ≡ 64 = t .ok .1 .0 .1 in
     (record { well-formed = s .pre .0; distances = table-is _ (t .result) long (λ i l. rows (t .result) (t .ok .0) (t .ok .1 .1) i (omega arith)) (t .ensures); network = c .before .before .network-of .ensures }, s .pre .1, s .pre .2)
 
--- src/call.rt:110:1
 same-length : tie.Need-same-length
 same-length c = search needs
 
--- src/call.rt:110:1
 returns : tie.Need-returns
 returns c =
     let n = c .before .before .before .before .before .network-of in

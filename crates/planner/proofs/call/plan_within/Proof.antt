@@ -1,50 +1,37 @@
 -- A budget that is let through is the number that was given, within its limits; one that is not is refused as 9.
-use mathlib.Core.Path.{_≡_, sym, _∙_}
+use mathlib.Core.Path.{sym, _∙_}
 use Rattle.budget.specs.Laws.{let-through}
 use Rattle.planner.specs.Laws.Call.{budget-refused, good-planned, refused-planned}
 use borrow.Author.Needs.{needs}
 use Rattle.planner.proofs.call.plan_within.Statement.{statement}
 use Rattle.planner.proofs.call.plan_within.Tie as tie
-use Rattle.planner.proofs.call.plan_within.Reads as reads
-use Rattle.planner.proofs.call.plan_within.Lts as lts
-use Rattle.budget.proofs.Budget.new.Reads as new-reads
-use Rattle.planner.proofs.call.plan_read.Reads as plan-read-reads
-use Rattle.planner.proofs.call.refused.Reads as refused-reads
 
--- src/call.rt:124:11
 new-requires : tie.Need-new-requires
 new-requires c κs = search needs
 
--- src/call.rt:125:37
 enum-told : tie.Need-enum-told
 enum-told c = search needs
 
--- src/call.rt:125:29
 refused-requires : tie.Need-refused-requires
 refused-requires c κs = search needs
 
--- src/call.rt:126:23
 enum-known-b : tie.Need-enum-known-b
 enum-known-b c = search needs
 
--- src/call.rt:126:29
 plan-read-requires : tie.Need-plan-read-requires
 plan-read-requires c κs =
     let s = c .before .before .before .before .before .before in
     let e = sym (c .before .before .before .before .new .ensures) ∙ c .before .before .b .given .1 in
     (s .pre .0, let-through _ _ e .0 .low, s .pre .1)
 
--- src/call.rt:120:1
 returns : tie.Need-returns
 returns c =
     let e = sym (c .before .before .before .new .ensures) ∙ c .before .enum-told .given .1 in
     refused-planned _ _ _ _ _ _ (c .refused .ensures) (budget-refused _ _ e)
 
--- src/call.rt:120:1
 same-length : tie.Need-same-length
 same-length c = search needs
 
--- src/call.rt:120:1
 returns-2 : tie.Need-returns-2
 returns-2 c =
     let e = sym (c .before .before .before .before .before .before .before .new .ensures) ∙ c .before .before .before .before .before .b .given .1 in

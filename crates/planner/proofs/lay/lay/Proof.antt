@@ -1,20 +1,12 @@
 -- Each call is asked what the laws of laying say; the state with the links added is the balancing of the plan with them, and its direct amounts complete it.
-use mathlib.Core.Path.{sym, ap, _∙_, subst}
+use mathlib.Core.Path.{sym}
 use mathlib.Core.List.{[]}
-use Prim.Native.Nat.{_≤_}
 use native.Mathlib.Omega.{arith}
 use borrow.Author.Needs.{needs}
-use Rattle.circuit.specs.Filled.{linksOf}
-use Rattle.circuit.specs.Tour.{tour, written}
 use Rattle.balance.specs.Records.{stateOf}
 use Rattle.planner.specs.Laws.Lay.{base-metric, base-table, state-certified, state-room, tree-joined, tree-short, tree-length, tails-in, heads-in, full-is, amounts-are, amounts-complete}
 use Rattle.planner.proofs.lay.lay.Statement.{statement}
 use Rattle.planner.proofs.lay.lay.Tie as tie
-use Rattle.planner.proofs.lay.lay.Reads as reads
-use Rattle.planner.proofs.lay.lay.Lts as lts
-use Rattle.balance.proofs.add_all.Reads as add-all-reads
-use Rattle.balance.proofs.direct_amounts.Reads as direct-amounts-reads
-use Rattle.circuit.proofs.write_tour.Reads as write-tour-reads
 
 add-all-requires : tie.Need-add-all-requires
 add-all-requires c κs =

@@ -1,50 +1,38 @@
 -- The arrays hold the ends of the required arcs, so adding them to the empty state gives the balancing of the plan.
-use mathlib.Core.Path.{_≡_, sym, ap, _∙_, subst⁻¹}
+use mathlib.Core.Path.{_≡_, subst⁻¹}
 use Prim.Native.Nat.{ℕ, _+_, _≤_}
 use native.Mathlib.Omega.{arith}
-use Rattle.balance.specs.Step.{State, addAll, empty as emptyState}
+use Rattle.balance.specs.Step.{State, empty as emptyState}
 use Rattle.balance.specs.Invariant.{Certified}
 use Rattle.balance.specs.Laws.Arcs.{empty-certified}
 use Rattle.planner.specs.Laws.Lay.{base-metric, prefixes, is-gathered, base-from}
 use borrow.Author.Needs.{needs}
 use Rattle.planner.proofs.prepare.base_state.Statement.{statement}
 use Rattle.planner.proofs.prepare.base_state.Tie as tie
-use Rattle.planner.proofs.prepare.base_state.Reads as reads
-use Rattle.planner.proofs.prepare.base_state.Lts as lts
-use Rattle.balance.proofs.add_all.Reads as add-all-reads
-use Rattle.balance.proofs.empty.Reads as empty-reads
-use Rattle.circuit.proofs.gather.Reads as gather-reads
 
 -- an empty state has room
 room : {s : State} {n : ℕ} → s ≡ emptyState → n ≤ 1000 → s .count + n ≤ 1000
 unfolding emptyState
 room {n = n} e l = subst⁻¹ (λ (s : State). s .count + n ≤ 1000) e (omega arith)
 
--- src/prepare.rt:22:9
 gather-requires : tie.Need-gather-requires
 gather-requires c κs = search needs
 
--- src/prepare.rt:23:9
 empty-requires : tie.Need-empty-requires
 empty-requires c κs = search needs
 
--- src/prepare.rt:24:39
 array-share-prefix-tails : tie.Need-array-share-prefix-tails
 array-share-prefix-tails c = prefixes (c .before .gather .ensures) .tails-le
 
--- src/prepare.rt:24:39
 slice-aggregate-add-all : tie.Need-slice-aggregate-add-all
 slice-aggregate-add-all c = prefixes (c .before .before .gather .ensures) .tails-length
 
--- src/prepare.rt:24:52
 array-share-prefix-heads : tie.Need-array-share-prefix-heads
 array-share-prefix-heads c = prefixes (c .before .before .gather .ensures) .heads-le
 
--- src/prepare.rt:24:52
 slice-aggregate-add-all-2 : tie.Need-slice-aggregate-add-all-2
 slice-aggregate-add-all-2 c = prefixes (c .before .before .before .gather .ensures) .heads-length
 
--- src/prepare.rt:24:5
 add-all-requires : tie.Need-add-all-requires
 add-all-requires c κs =
     let s = c .before .before .before .before .before .before .before .before in
@@ -54,7 +42,6 @@ add-all-requires c κs =
     let f = g .few in
     (base-metric _ _ _ b, subst⁻¹ (Certified _ _) e (empty-certified _ _), g .same, room e (omega arith), g .tails-in, g .heads-in)
 
--- src/prepare.rt:15:1
 returns : tie.Need-returns
 returns c =
     let s = c .before .before .before .before .before .before .before .before .before in

@@ -1,25 +1,18 @@
 -- The state of the required arcs is certified and has room, and its first vertex is the root.
-use mathlib.Core.Path.{_≡_, _∙_}
-use Prim.Native.Nat.{ℕ}
+use mathlib.Core.Path.{_∙_}
 use Rattle.planner.specs.Laws.Lay.{base-metric}
 use Rattle.planner.specs.Laws.Root.{some-place, first-in, from-root, base-certified, base-room}
 use Rattle.planner.proofs.prepare.multipliers_of.Statement.{statement}
 use Rattle.planner.proofs.prepare.multipliers_of.Tie as tie
-use Rattle.planner.proofs.prepare.multipliers_of.Reads as reads
-use Rattle.planner.proofs.prepare.multipliers_of.Lts as lts
-use Rattle.balance.proofs.multipliers.Reads as multipliers-reads
 
--- src/prepare.rt:33:17
 shared-slice-read-first : tie.Need-shared-slice-read-first
 shared-slice-read-first c = some-place _ _ _ _ (c .before .before .pre)
 
--- src/prepare.rt:34:5
 multipliers-requires : tie.Need-multipliers-requires
 multipliers-requires c κs =
     let b = c .before .before .pre in
     (base-metric _ _ _ (b .known), base-certified _ _ _ _ b, base-room _ _ _ _ b, first-in _ _ _ _ b)
 
--- src/prepare.rt:29:1
 returns : tie.Need-returns
 returns c = c .multipliers .ensures ∙ from-root _ _ _ _ (c .before .before .before .pre)
 

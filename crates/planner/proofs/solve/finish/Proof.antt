@@ -1,11 +1,11 @@
 -- The candidates, the state and the multipliers are what the search asks; what it keeps is the best tree, whose drive is laid; and the bounds price the same state.
-use mathlib.Core.Path.{_≡_, refl, sym, ap, _∙_}
+use mathlib.Core.Path.{_≡_, refl, ap, _∙_}
 use mathlib.Core.Bool.{Bool}
-use Prim.Native.Nat.{ℕ, _-_, _≤_}
+use Prim.Native.Nat.{_-_}
 use native.Mathlib.Omega.{arith}
 use lib.ListN.{length}
 use Rattle.planner.specs.Laws.Solve.{some-component, greatest-are, priced, prepared}
-use Rattle.planner.specs.Laws.Answer.{cost-small, kept-links, kept-tree, kept-fits, found-summary, finished}
+use Rattle.planner.specs.Laws.Answer.{cost-small, kept-tree, kept-fits, found-summary, finished}
 use denote.Ref.{now}
 use mir.Val.{toZ, ofZ}
 use mir.Syntax.{w64}
@@ -19,14 +19,7 @@ use Rattle.planner.specs.declared.Verdict.the-variants.{Accepted}
 use borrow.Author.Needs.{needs, length-unmapped}
 use Rattle.planner.proofs.solve.finish.Statement.{statement}
 use Rattle.planner.proofs.solve.finish.Tie as tie
-use Rattle.planner.proofs.solve.finish.Reads as reads
-use Rattle.planner.proofs.solve.finish.Lts as lts
-use Rattle.candidates.proofs.of_network.Reads as of-network-reads
-use Rattle.planner.proofs.bound.floor_of.Reads as floor-of-reads
-use Rattle.planner.proofs.lay.lay.Reads as lay-reads
-use Rattle.search.proofs.search.Reads as search-reads
 
--- src/solve.rt:29:9
 of-network-requires : tie.Need-of-network-requires
 of-network-requires c κs =
     let s = c .before .before in
@@ -36,11 +29,9 @@ of-network-requires c κs =
     let m = b .few in
     (omega arith, omega arith)
 
--- src/solve.rt:35:13
 cast-k : tie.Need-cast-k
 cast-k c = search needs
 
--- src/solve.rt:37:9
 search-requires : tie.Need-search-requires
 search-requires c κs =
     let s = c .before .before .before .before .before .before .before .before .before .before .before .before in
@@ -49,7 +40,6 @@ search-requires c κs =
     let o = c .before .before .before .before .before .before .before .before .before .of-network in
     (prepared _ _ _ _ b _ (s .pre .0 .1) _ _ (o .result) (n .components .all) (n .required-cost) (o .ensures _ (b .known .plannable .well-formed) n), s .pre .1 .1)
 
--- src/solve.rt:40:13
 sub-n : tie.Need-sub-n
 sub-n c =
     let s = c .before .before .before .before .before .before .before .before .before .before .before .before .before .before .before in
@@ -58,7 +48,6 @@ sub-n c =
     let l = some-component _ (b .plannable) (b .few) in
     omega arith
 
--- src/solve.rt:41:45
 array-share-prefix-ts : tie.Need-array-share-prefix-ts
 array-share-prefix-ts c =
     let s = c .before .before .before .before .before .before .before .before .before .before .before .before .before .before .before in
@@ -67,7 +56,6 @@ array-share-prefix-ts c =
     let m = ap (λ n. n - 1) (s .pre .1 .0 .components .all) in
     kept-fits _ (b .plannable) (b .few) _ (s .pre .1 .1) _ (r .result .tails) (r .result .heads) m (r .ensures .links) .tails-le
 
--- src/solve.rt:41:45
 slice-aggregate-lay : tie.Need-slice-aggregate-lay
 slice-aggregate-lay c =
     let s = c .before .before .before .before .before .before .before .before .before .before .before .before .before .before .before .before in
@@ -76,7 +64,6 @@ slice-aggregate-lay c =
     let m = ap (λ n. n - 1) (s .pre .1 .0 .components .all) in
     kept-fits _ (b .plannable) (b .few) _ (s .pre .1 .1) _ (r .result .tails) (r .result .heads) m (r .ensures .links) .tails-length
 
--- src/solve.rt:41:55
 array-share-prefix-hs : tie.Need-array-share-prefix-hs
 array-share-prefix-hs c =
     let s = c .before .before .before .before .before .before .before .before .before .before .before .before .before .before .before .before in
@@ -85,7 +72,6 @@ array-share-prefix-hs c =
     let m = ap (λ n. n - 1) (s .pre .1 .0 .components .all) in
     kept-fits _ (b .plannable) (b .few) _ (s .pre .1 .1) _ (r .result .tails) (r .result .heads) m (r .ensures .links) .heads-le
 
--- src/solve.rt:41:55
 slice-aggregate-lay-2 : tie.Need-slice-aggregate-lay-2
 slice-aggregate-lay-2 c =
     let s = c .before .before .before .before .before .before .before .before .before .before .before .before .before .before .before .before .before in
@@ -94,7 +80,6 @@ slice-aggregate-lay-2 c =
     let m = ap (λ n. n - 1) (s .pre .1 .0 .components .all) in
     kept-fits _ (b .plannable) (b .few) _ (s .pre .1 .1) _ (r .result .tails) (r .result .heads) m (r .ensures .links) .heads-length
 
--- src/solve.rt:41:9
 lay-requires : tie.Need-lay-requires
 lay-requires c κs =
     let s = c .before .before .before .before .before .before .before .before .before .before .before .before .before .before .before .before .before .before in
@@ -104,7 +89,6 @@ lay-requires c κs =
     let f = kept-fits _ (b .plannable) (b .few) _ (s .pre .1 .1) _ (r .result .tails) (r .result .heads) m (r .ensures .links) in
     (s .pre .0 .0, kept-tree _ (b .plannable) (b .few) _ (s .pre .1 .1) _ _ _ (f .tails-le) (f .heads-le) (r .ensures .links), s .pre .1 .2)
 
--- src/solve.rt:44:9
 floor-of-requires : tie.Need-floor-of-requires
 floor-of-requires c κs =
     let s = c .before .before .before .before .before .before .before .before .before .before .before .before .before .before .before .before .before .before .before .before .before .before .before .before .before .before in
@@ -116,11 +100,9 @@ floor-of-requires c κs =
     let e = r .ensures .cost in
     (priced _ _ _ _ b _ (s .pre .0 .1) _ _ _ _ long (n .required) (n .components) (n .required-cost), omega arith)
 
--- src/solve.rt:24:1
 same-length : tie.Need-same-length
 same-length c = search needs
 
--- src/solve.rt:24:1
 returns : tie.Need-returns
 returns c =
     let s = c .before .before .before .before .before .before .before .before .before .before .before .before .before .before .before .before .before .before .before .before .before .before .before .before .before .before .before in

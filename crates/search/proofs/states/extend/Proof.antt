@@ -7,9 +7,6 @@ use Rattle.search.specs.Laws.States.{IsExtending, extending-start, exten
 use borrow.Author.Needs.{needs}
 use Rattle.search.proofs.states.extend.Statement.{statement}
 use Rattle.search.proofs.states.extend.Tie as tie
-use Rattle.search.proofs.states.extend.Reads as reads
-use Rattle.search.proofs.states.extend.Lts as lts
-use Rattle.search.proofs.states.step.Reads as step-reads
 
 abbrev Inv-loop : tie.InvT-loop
 Inv-loop amounts₀ potentials₀ costs₀ count d vs from n tails heads q₀ amounts potentials costs q =
@@ -18,30 +15,24 @@ Inv-loop amounts₀ potentials₀ costs₀ count d vs from n tails heads q₀ am
 abbrev μ-loop : tie.MeasureT-loop
 μ-loop amounts₀ potentials₀ costs₀ count d vs from n tails heads q₀ amounts potentials costs q = n - q
 
--- src/states.rt:60:5
 loop-holds : tie.Need-loop-holds Inv-loop μ-loop
 loop-holds c =
     let s = c .before in
     let p = s .pre in
     extending-start _ _ _ _ _ _ _ _ _ _ (p .0) (p .6)
 
--- src/states.rt:65:21
 cast-step : tie.Need-cast-step Inv-loop μ-loop
 cast-step c = search needs
 
--- src/states.rt:65:13
 add-step : tie.Need-add-step Inv-loop μ-loop
 add-step c = search needs
 
--- src/states.rt:69:13
 array-read-step : tie.Need-array-read-step Inv-loop μ-loop
 array-read-step c = search needs
 
--- src/states.rt:70:13
 array-read-step-2 : tie.Need-array-read-step-2 Inv-loop μ-loop
 array-read-step-2 c = search needs
 
--- src/states.rt:61:9
 step-requires : tie.Need-step-requires Inv-loop μ-loop
 step-requires c κs =
     let s = c .before .before .before .before .before .before in
@@ -55,15 +46,12 @@ step-requires c κs =
     let i = p .5 (v .q) (omega arith) in
     (omega arith, omega arith, p .3, state-certified _ _ _ _ _ _ _ _ _ _ _ _ _ (v .inv) (p .3) (p .4) few room lt lh (p .5), i .0, i .1)
 
--- src/states.rt:72:9
 add-q : tie.Need-add-q Inv-loop μ-loop
 add-q c = search needs
 
--- src/states.rt:60:5
 loop-less : tie.Need-loop-less Inv-loop μ-loop
 loop-less c = search needs
 
--- src/states.rt:60:5
 loop-again : tie.Need-loop-again Inv-loop μ-loop
 loop-again c =
     let s = c .before .before .before .before .before .before .before in
@@ -72,7 +60,6 @@ loop-again c =
     let lh : length (s .args .t8) ≡ 8 = search needs in
     extending-more _ _ _ _ _ _ _ _ _ _ _ _ _ (v .inv) _ _ _ (omega arith) (s .pre .1) lt lh (c .step .ensures)
 
--- src/states.rt:44:1
 returns : tie.Need-returns Inv-loop μ-loop
 returns c =
     let v = c .before .loop in

@@ -1,6 +1,5 @@
 -- The place read lies between the start and n; where both ends agree it is the link's. Assumes nothing.
 use Prim.Native.Nat.{_-_, _≤_}
-use native.Mathlib.Omega.{arith}
 use borrow.Author.Tests.{eqb-true}
 use borrow.Author.Needs.{needs}
 use Rattle.search.proofs.trail.find.Statement.{statement}
