@@ -10,6 +10,7 @@ use Rattle.postman.specs.Link.{Link}
 use Rattle.balance.specs.Step.{State, cell, addAll}
 use Rattle.balance.specs.Invariant.{Metric, Certified}
 use Rattle.search.specs.Trail.{SameLinks}
+use Rattle.search.specs.Pass.{endSum}
 
 -- The d of the links.
 unfoldable pub tableCost : List (List ℕ) → List Link → ℕ
@@ -33,13 +34,16 @@ completionIn table vs base r t = r + tableCost table t + addAll (cell table) vs 
 abbrev pub Joining : List ℕ → List Link → Type 0
 Joining vs t = (l : Link) → List·Memᴰ l t → List·Memᴰ (l .tail) vs × List·Memᴰ (l .head) vs
 
--- What the code asks of them. The order of the links does not matter for the cost.
+-- What the code asks of them. The order of the links does not matter for the cost, and the potentials of links t bound the cost of links s from below.
 pub record Ready (table : List (List ℕ)) (vs : List ℕ) (base : State) (r : ℕ) : Type 0 where
   pub metric : Metric (cell table) vs
   pub certified : Certified (cell table) vs base
   pub room : base .count ≤ 356
   pub cheap : r ≤ 16777216
   pub orderless : (t s : List Link) → Joining vs t → Joining vs s → length t ≤ 8 → length s ≤ 8 → SameLinks t s → addAll (cell table) vs base t .cost ≡ addAll (cell table) vs base s .cost
+  pub dual : (t s : List Link) → Joining vs t → Joining vs s → length t ≤ 8 → length s ≤ 8 → let u = addAll (cell table) vs base t .potentials in
+      addAll (cell table) vs base t .cost + endSum u (map (λ (l : Link). l .tail) t) + endSum u (map (λ (l : Link). l .head) s)
+      ≤ addAll (cell table) vs base s .cost + endSum u (map (λ (l : Link). l .head) t) + endSum u (map (λ (l : Link). l .tail) s)
 
 abbrev pub Feasible : List (List ℕ) → List ℕ → List ℤ → Type 0
 Feasible table vs u = (i j : ℕ) → List·Memᴰ i vs → List·Memᴰ j vs → pos 0 ≤ℤ reducedAt table u i j

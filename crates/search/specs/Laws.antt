@@ -11,3 +11,5 @@ pub mod Completion
 pub mod States
 pub mod Orderless
 pub mod Trail
+pub mod Pass
+pub mod PassedOver

@@ -6,5 +6,6 @@ pub mod Prepared
 pub mod Contracts
 pub mod States
 pub mod Trail
+pub mod Pass
 -- What is proved about them.
 pub mod Laws

@@ -4,7 +4,7 @@ use mathlib.Core.List.{List, []}
 use Prim.Native.Nat.{ℕ, _+_, _≤_}
 use lib.ListN.{length, getD, set}
 use Rattle.balance.specs.Step.{State, cell, add, addAll}
-use Rattle.search.specs.Links.{linksIn}
+use Rattle.search.specs.Links.{linksIn, Inside}
 
 -- State j, whose arcs are `count` in number.
 abbrev pub stateAt : List (List ℕ) → List (List ℕ) → List ℕ → ℕ → ℕ → State
@@ -18,6 +18,7 @@ baseIn amounts potentials costs count = stateAt amounts potentials costs count 0
 pub record IsTrail (table : List (List ℕ)) (vs : List ℕ) (count : ℕ) (tails heads : List ℕ) (amounts potentials : List (List ℕ)) (costs : List ℕ) (depth : ℕ) : Type 0 where
   pub tails-size : length tails ≡ 8
   pub heads-size : length heads ≡ 8
+  pub inside : Inside vs depth tails heads
   pub rows : length amounts ≡ 8
   pub potential-rows : length potentials ≡ 8
   pub cost-size : length costs ≡ 8

@@ -1,7 +1,9 @@
 // The search over a plan's arborescences, in document 01's order: the first of least completion cost is kept.
 mod states; // the states of a trail
+mod pass; // links that are passed over
 mod trail; // a tree's links in an order that begins as that of the last tree
 
+use crate::pass::passed;
 use crate::states::extend;
 use crate::trail::reordered;
 use arborescence::order;
@@ -135,7 +137,7 @@ fn completion(
     required_cost + link_cost(d, tails, heads, n) + costs[n]
 }
 
-// The better of the best so far and the first n links. Links whose bound is no less than the best so far are not balanced.
+// The better of the best so far and the first n links. Links whose bound is no less than the best so far, by u or by the potentials of the last trail, are not balanced.
 fn consider(
     best: Best,
     amounts: &mut [[u16; 4096]; 8],
@@ -160,6 +162,21 @@ fn consider(
     let old = best.cost;
     let bound = required_cost + cost + reduced_sum(d, u, tails, heads, n);
     if bound < old {
+        let fixed = required_cost + link_cost(d, tails, heads, n);
+        let p = potentials[n];
+        if passed(
+            old,
+            &p,
+            costs[n],
+            fixed,
+            *trail_tails,
+            *trail_heads,
+            tails,
+            heads,
+            n,
+        ) {
+            return best;
+        }
         let c = completion(
             amounts,
             potentials,

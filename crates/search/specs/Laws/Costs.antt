@@ -24,12 +24,14 @@ use Rattle.balance.specs.Step.{State, cell, add, addAll}
 use Rattle.balance.specs.Balance.{balance}
 use Rattle.balance.specs.Invariant.{Metric, Certified, limit}
 use Rattle.balance.specs.Laws.Step.{add-certified}
-use Rattle.balance.specs.Laws.Plan.{table-metric, balance-links, balance-certified, balance-least, balance-room}
+use Rattle.balance.specs.Laws.Plan.{table-metric, balance-links, balance-certified, balance-counted, balance-least, balance-room}
 use Rattle.arborescence.specs.Laws.Lists.{map-cong}
 use Rattle.search.specs.Links.{Inside}
 use Rattle.search.specs.Costs.{tableCost, reducedAt, reducedIn, completionIn, Joining, Ready, Feasible, Short, AllReducible}
 use Rattle.search.specs.Prepared.{Prepared}
+use Rattle.search.specs.Pass.{endSum}
 use Rattle.search.specs.Laws.Orderless.{least-same}
+use Rattle.search.specs.Laws.Pass.{price-bound}
 
 -- ---- links added keep the state certified, and its cost small
 
@@ -114,6 +116,14 @@ module _ {p : Plan} {table : List (List ℕ)} {vs start source tails heads : Lis
     orderless = λ t s jt js lt ls same. (
         let joins : (t : List Link) → Joining vs t → Joins p t = λ t j. subst (λ (v : List ℕ). Joining v t) (h .vertices) j in
         added-least t (joins t jt) (omega arith) ∙ least-same p in-plan t s same (joins t jt) (joins s js) ∙ sym (added-least s (joins s js) (omega arith)));
+    dual = λ t s jt js lt ls. (
+        let joins : (t : List Link) → Joining vs t → Joins p t = λ t j. subst (λ (v : List ℕ). Joining v t) (h .vertices) j in
+        let c = balance-certified p (h .plannable .well-formed) (h .plannable .connected) (cell table) agrees t (joins t jt) (omega arith) in
+        let n = balance-counted p (h .plannable .well-formed) (h .plannable .connected) (cell table) agrees t (joins t jt) (omega arith) in
+        let b = price-bound p in-plan (cell table) agrees t s (joins s js) c n in
+        let e = added-least s (joins s js) (omega arith) in
+        subst⁻¹ (λ (x : State). x .cost + endSum (x .potentials) (map (λ (l : Link). l .tail) t) + endSum (x .potentials) (map (λ (l : Link). l .head) s)
+        ≤ addAll (cell table) vs base s .cost + endSum (x .potentials) (map (λ (l : Link). l .head) t) + endSum (x .potentials) (map (λ (l : Link). l .tail) s)) (state-same t) (omega arith));
   }
 
   reduced-same : (i j : ℕ) → List·Memᴰ i (required p) → List·Memᴰ j (required p) → reducedAt table u i j ≡ reducedCost p (λ i. getD u i (pos 0)) i j

@@ -1,7 +1,7 @@
 -- One link more makes a trail one state longer: the states before it are where they were, and the new one is the last of them with the link added.
 use mathlib.Core.Path.{_≡_, refl, sym, ap, ap₂, _∙_, subst⁻¹}
 use mathlib.Core.Logic.{_⊎_, inl, inr}
-use mathlib.Core.List.{List, [], _∷_, _++_}
+use mathlib.Core.List.{List, [], _∷_, _++_, List·Memᴰ}
 use Prim.Native.Nat.{ℕ, zero, suc, _+_, _≤_, _<_}
 use native.Mathlib.Omega.{arith}
 use native.Mathlib.Numerals.{add-one}
@@ -89,9 +89,9 @@ module _ (table : List (List ℕ)) (vs : List ℕ) (count : ℕ) (tails heads : 
           subst⁻¹ (Certified d vs) (x .extended .trail .states q (omega arith))
           (all-certified d vs m (baseIn amounts potentials costs count) (linksIn q tails heads) base (inside-joins vs q tails heads (λ j b. inside j (omega arith))) (omega arith) .0)
 
-      pub extending-more : (amounts′ potentials′ : List (List ℕ)) (costs′ : List ℕ) → q < n → n ≤ 7 → length tails ≡ 8 → length heads ≡ 8
+      pub extending-more : (amounts′ potentials′ : List (List ℕ)) (costs′ : List ℕ) → q < n → n ≤ 7 → length tails ≡ 8 → length heads ≡ 8 → Inside vs n tails heads
           → IsStep table vs amounts potentials costs (count + q) q (getD tails q 0) (getD heads q 0) amounts′ potentials′ costs′ → IsExtending amounts′ potentials′ costs′ n (q + 1)
-      extending-more amounts′ potentials′ costs′ l few lt lh i = record {
+      extending-more amounts′ potentials′ costs′ l few lt lh inside i = record {
         within = omega arith;
         extended = record { same-base = base ∙ x .extended .same-base; trail = longer };
       }
@@ -125,6 +125,7 @@ module _ (table : List (List ℕ)) (vs : List ℕ) (count : ℕ) (tails heads : 
           longer = record {
             tails-size = old .tails-size;
             heads-size = old .heads-size;
+            inside = λ j b. inside j (omega arith);
             rows = ap length (i .amounts-are) ∙ length-set amounts (q + 1) (s .amounts) ∙ old .rows;
             potential-rows = ap length (i .potentials-are) ∙ length-set potentials (q + 1) (s .potentials) ∙ old .potential-rows;
             cost-size = ap length (i .costs-are) ∙ length-set costs (q + 1) (s .cost) ∙ old .cost-size;
@@ -151,6 +152,7 @@ pub trail-kept : {table : List (List ℕ)} {vs : List ℕ} {count : ℕ} {old-ta
 trail-kept {table} {vs} {count} {old-tails} {old-heads} {amounts} {potentials} {costs} old ts hs lt lh kept l few b = record {
   tails-size = lt;
   heads-size = lh;
+  inside = λ q m. (let e = b q m in let i = old .inside q (omega arith) in (subst⁻¹ (λ x. List·Memᴰ x vs) (e .0) (i .0), subst⁻¹ (λ x. List·Memᴰ x vs) (e .1) (i .1)));
   rows = old .rows;
   potential-rows = old .potential-rows;
   cost-size = old .cost-size;
@@ -180,6 +182,7 @@ unfolding addAll arcsOf
 no-trail table vs count tails heads f u c lt lh = record {
   tails-size = lt;
   heads-size = lh;
+  inside = λ q l. absurd (omega arith);
   rows = refl;
   potential-rows = refl;
   cost-size = refl;

@@ -58,7 +58,7 @@ loop-again c =
     let v = c .before .before .before .before .before .loop in
     let lt : length (s .args .t7) ≡ 8 = search needs in
     let lh : length (s .args .t8) ≡ 8 = search needs in
-    extending-more _ _ _ _ _ _ _ _ _ _ _ _ _ (v .inv) _ _ _ (omega arith) (s .pre .1) lt lh (c .step .ensures)
+    extending-more _ _ _ _ _ _ _ _ _ _ _ _ _ (v .inv) _ _ _ (omega arith) (s .pre .1) lt lh (s .pre .5) (c .step .ensures)
 
 returns : tie.Need-returns Inv-loop μ-loop
 returns c =
