@@ -24,6 +24,7 @@ pub mod SignedSum
 pub mod LagrangianBound
 pub mod Multiplier
 pub mod BitField
+pub mod Repeated
 pub mod Acceptance
 pub mod PlanFile
 pub mod Optimality
