@@ -1,4 +1,4 @@
--- Putting a field into a list of bytes. `FieldLaws` says what this changes and what it leaves.
+-- Putting a field into a list of bytes. `Laws.FieldUpdate` says what this changes and what it leaves.
 use mathlib.Core.List.{List}
 use Prim.Native.Nat.{ℕ, zero, suc, _+_, _*_, _-_, _/_, _%_, _^_}
 use lib.ListN.{getD, set}

@@ -4,12 +4,12 @@ use libc::STDOUT_FILENO;
 use plan::Arc;
 use plan::Plan;
 use plan_file::Reading;
-use plan_file::Refusal;
-use plan_file::Verdict;
 use plan_file::Written;
 use plan_file::reader::read_plan;
 use plan_file::round_trip::reread;
 use plan_file::writer::write_plan;
+use refusal::Refusal;
+use refusal::Verdict;
 
 // ---- what is printed
 
@@ -34,7 +34,7 @@ fn bytes(s: &[u8]) {
 }
 
 fn refusal(r: Refusal) {
-    number(b"refused ", plan_file::refusal_number(r) as u64);
+    number(b"refused ", refusal::refusal_number(r) as u64);
     text(b"\n");
 }
 

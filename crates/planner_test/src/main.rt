@@ -4,9 +4,9 @@ use plan::Arc;
 use plan::Plan;
 use plan_file::writer::write_plan;
 use planner::Planned;
-use planner::Verdict;
 use planner::call::plan_call;
 use planner::call::short_call;
+use refusal::Verdict;
 ghost use Prim.Native.Nat.{_<_};
 
 // ---- what is printed
@@ -44,7 +44,7 @@ fn signed(a: i64) {
 fn verdict(v: Verdict) {
     match v {
         Verdict::Accepted => text(b"accepted"),
-        Verdict::Refused(r) => number(b"refused ", planner::refusal_number(r) as u64),
+        Verdict::Refused(r) => number(b"refused ", refusal::refusal_number(r) as u64),
     }
 }
 

@@ -2,13 +2,13 @@
 ghost use Prim.Native.Nat.{_≤_};
 use libc::STDOUT_FILENO;
 use plan::Arc;
-use plan_file::Refusal;
 use plan_file::Written;
 use records::arrays::Filled;
 use records::arrays::read_array;
 use records::arrays::write_array;
 use records::reader::Read;
 use records::round_trip::reread_array;
+use refusal::Refusal;
 
 // ---- what is printed
 
@@ -34,7 +34,7 @@ fn bytes(s: &[u8]) {
 }
 
 fn refusal(r: Refusal) {
-    number(b"refused ", plan_file::refusal_number(r) as u64);
+    number(b"refused ", refusal::refusal_number(r) as u64);
     text(b"\n");
 }
 

@@ -10,13 +10,14 @@ use lib.ListN.{length}
 use borrow.Author.Tests.{lt-ltb, le-ltb}
 use Rattle.postman.specs.Plan.{Plan as Graph}
 use Rattle.postman.specs.Refusal.{firstRefusal, given}
-use Rattle.postman.specs.PlanFile.{isOutside, extentConditions, fileBits, fileLength, writeRefusal, writeAnswer, bytesAfter}
+use Rattle.postman.specs.PlanFile.{isOutside, extentConditions, writeRefusal, writeAnswer, bytesAfter}
 use Rattle.plan.specs.declared.Arc.{Arc as ArcRecord}
 use Rattle.plan.specs.Records.{arcValue, recordOf, planValue}
-use Rattle.plan_file.specs.Acceptance.{is-writable}
-use Rattle.plan_file.specs.Writing.{refused-answer, refused-bytes, was-given}
+use Rattle.postman.specs.Laws.Acceptance.{few-arcs}
+use Rattle.postman.specs.Laws.PlanFile.{fileLength-le}
+use Rattle.plan_file.specs.Laws.Writing.{refused-answer, refused-bytes, length-given}
 use Rattle.records.specs.Writing.{atMost, countedPlan, listPlan, loaded}
-use Rattle.records.specs.WritingLaws.{at-most-same, at-most-limit, same-answer, same-bytes}
+use Rattle.records.specs.Laws.Writing.{at-most-same, at-most-limit, same-answer, same-bytes}
 use Rattle.exports.specs.RecordBytes.{arcsIn}
 use Rattle.exports.specs.Codec.{lentPlan}
 use Rattle.exports.specs.Laws.RecordBytes.{length-records}
@@ -90,8 +91,6 @@ module _ (n : ℕ) (lent bytes : List ℕ) (k : ℕ) (arcs : List ArcRecord) (fe
 
 -- "at most 963 bytes"
 pub length-small : (p : Graph) (bytes : List ℕ) (k : ℕ) → given k ≡ writeAnswer p bytes → k ≤ 963
-unfolding fileLength fileBits
 length-small p bytes k e =
-    let w = was-given p bytes k e in
-    let ok = is-writable p (length bytes) (w .0) in
-    omega (arith, w .1, ok .limits .arc-count)
+    let w = length-given p bytes k e in
+    omega (arith, w .1, fileLength-le (length (p .arcs)) (few-arcs p (length bytes) (w .0)))

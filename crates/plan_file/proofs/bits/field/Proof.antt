@@ -1,12 +1,18 @@
 -- `field` meets its contract. The loop's invariant: r is the field of the first i bits, and below 65,536.
 use mathlib.Core.Path.{_≡_, refl}
-use Prim.Native.Nat.{_+_, _*_, _-_, _<_, _≤_}
+use mathlib.Core.List.{List}
+use Prim.Native.Nat.{ℕ, _+_, _*_, _-_, _<_, _≤_}
+use native.Mathlib.Nat.{lt-of-lt-of-le}
 use native.Mathlib.Omega.{arith}
+use lib.Pow.{pow-mono}
 use Rattle.postman.specs.BitField.{fieldAt, number}
-use Rattle.plan_file.specs.FieldLaws.{bit-lt, field-more, field-small}
+use Rattle.postman.specs.Laws.BitField.{bit-lt, field-lt, field-more}
 use borrow.Author.Needs.{needs}
 use Rattle.plan_file.proofs.bits.field.Statement.{statement}
 use Rattle.plan_file.proofs.bits.field.Tie as tie
+
+field-small : (l : List ℕ) (a w : ℕ) → w ≤ 16 → fieldAt l a w < 65536
+field-small l a w h = lt-of-lt-of-le (field-lt l a w) (pow-mono {j = 16} h)
 
 abbrev Inv-loop : tie.InvT-loop
 Inv-loop s at width r₀ i₀ r i = (i ≤ width) × (r ≡ fieldAt s at i) × (r < 65536)

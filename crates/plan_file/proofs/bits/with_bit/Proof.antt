@@ -3,7 +3,7 @@ use Prim.Native.Nat.{_+_, _*_, _/_, _%_, _<_, _≤_}
 use native.Mathlib.Nat.{div-le-self}
 use native.Mathlib.Omega.{arith}
 use lib.Pow.{pow-mono, pow-pos}
-use Rattle.plan_file.specs.FieldLaws.{with-as, with-lt}
+use Rattle.plan_file.specs.Laws.FieldUpdate.{with-as, with-lt}
 use borrow.Author.Needs.{needs}
 use Rattle.plan_file.proofs.bits.with_bit.Statement.{statement}
 use Rattle.plan_file.proofs.bits.with_bit.Tie as tie

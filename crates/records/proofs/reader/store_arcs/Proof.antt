@@ -49,7 +49,8 @@ use Rattle.plan.specs.declared.Arc.{Arc}
 use Rattle.plan.specs.Records.{recordOf, zeroRecord}
 use Rattle.plan.proofs.Arc as T
 use Rattle.plan.proofs.Arc.Laws as T′
-use Rattle.records.specs.Stored.{storedTo, length-stored}
+use Rattle.records.specs.Stored.{storedTo}
+use Rattle.records.specs.Laws.Stored.{length-stored}
 use Rattle.records.proofs.Counts.{counts}
 use Rattle.records.proofs.Rows.{arc-vals, arc-tells, arc-typed}
 use Rattle.plan_file.proofs.reader.read_arc as callee

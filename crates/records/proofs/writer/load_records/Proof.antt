@@ -47,9 +47,10 @@ use Rattle.plan.specs.declared.Arc.{Arc}
 use Rattle.plan.specs.Records.{zeroRecord}
 use Rattle.plan.proofs.Arc as T
 use Rattle.plan.proofs.Arc.Laws as T′
-use Rattle.records.specs.Stored.{storedTo, length-stored}
+use Rattle.records.specs.Stored.{storedTo}
+use Rattle.records.specs.Laws.Stored.{length-stored}
 use Rattle.records.specs.Writing.{atMost, loaded}
-use Rattle.records.specs.WritingLaws.{at-most-le, at-most-fits}
+use Rattle.records.specs.Laws.Writing.{at-most-le, at-most-fits}
 use Rattle.records.proofs.Counts.{counts}
 use Rattle.records.proofs.Rows.{arc-vals, arc-tells, arc-typed, arc-makes, arc-copy, Arcs, arcs-ty, arcs-val, arcs-typed, to-row, of-row}
 use Rattle.records.proofs.writer.at_most as least

@@ -9,7 +9,7 @@ use Rattle.postman.specs.Lists.{below}
 use Rattle.postman.specs.Plan.{Arc, Plan}
 use Rattle.plan.specs.declared.Arc.{Arc as ArcRecord}
 use Rattle.plan.specs.Records.{arcValue, recordOf, recordAt, recordsOf, zeroRecord, planValue, planRecord}
-use Rattle.plan_file.specs.Counting.{length-counted, counted-more, counted-at}
+use Rattle.postman.specs.Laws.Below.{length-map-below, map-below-more, getD-map-below}
 
 -- One record more, in the place of the first zeros.
 pub records-more
@@ -17,15 +17,15 @@ pub records-more
 unfolding recordsOf
 records-more f k h =
     let done = map recordOf (map f (below k)) in
-    let n : length (map f (below k)) ≡ k = length-counted f k in
-    let n′ : length (map f (below (k + 1))) ≡ k + 1 = length-counted f (k + 1) in
+    let n : length (map f (below k)) ≡ k = length-map-below f k in
+    let n′ : length (map f (below (k + 1))) ≡ k + 1 = length-map-below f (k + 1) in
     let e : 256 - length (map f (below k)) ≡ suc (256 - (k + 1)) = omega arith in
     let long : length done ≡ k = length-map (map f (below k)) recordOf ∙ n in
     ap (λ (z : ℕ). set (done ++ replicate z zeroRecord) k (recordOf (f k))) e
     ∙ set-at done zeroRecord (replicate (256 - (k + 1)) zeroRecord) (recordOf (f k)) k long
     ∙ sym
     (ap (λ (z : ℕ). map recordOf (map f (below (k + 1))) ++ replicate (256 - z) zeroRecord) n′
-    ∙ ap (λ (l : List Arc). map recordOf l ++ replicate (256 - (k + 1)) zeroRecord) (counted-more f k)
+    ∙ ap (λ (l : List Arc). map recordOf l ++ replicate (256 - (k + 1)) zeroRecord) (map-below-more f k)
     ∙ ap (λ (l : List ArcRecord). l ++ replicate (256 - (k + 1)) zeroRecord) (map-append recordOf (map f (below k)) (f k ∷ []))
     ∙ append-snoc done (recordOf (f k)) (replicate (256 - (k + 1)) zeroRecord))
 
@@ -53,7 +53,7 @@ value-record p = rw same
 
     same : map (recordAt (recordsOf (p .arcs))) (below (length (p .arcs))) ≡ p .arcs
     same =
-        ext-getD (arcValue zeroRecord) (map f (below (length (p .arcs)))) (p .arcs) (length-counted f (length (p .arcs)))
+        ext-getD (arcValue zeroRecord) (map f (below (length (p .arcs)))) (p .arcs) (length-map-below f (length (p .arcs)))
         (λ k h.
-        let l : k < length (p .arcs) = rw (length-counted f (length (p .arcs))) at h in
-        counted-at f (length (p .arcs)) k (arcValue zeroRecord) l ∙ record-at (p .arcs) k l)
+        let l : k < length (p .arcs) = rw (length-map-below f (length (p .arcs))) at h in
+        getD-map-below f (length (p .arcs)) k (arcValue zeroRecord) l ∙ record-at (p .arcs) k l)

@@ -1,36 +1,34 @@
 -- What is written from a list is read back into a list: the same n, the same m and the same records.
 use mathlib.Core.Path.{_≡_, refl, sym, ap, _∙_}
-use mathlib.Core.List.{List, [], _++_, map, append-nil}
+use mathlib.Core.List.{List, [], _++_, map, append-nil, List·Memᴰ}
 use mathlib.Core.Option.{Option, none, some}
 use Prim.Native.Nat.{ℕ, _<_, _≤_}
 use native.Mathlib.Omega.{arith}
-use lib.ListN.{length, getD, take, drop, length-map, drop-of-length-le, List·getD-map}
+use lib.ListN.{length, getD, take, drop, length-map, drop-of-length-le}
 use lib.Seq.{length-take-le, take-all}
 use Rattle.postman.specs.Plan.{Arc, Plan as Graph}
 use Rattle.postman.specs.Refusal.{firstRefusal, given, refused, answer, unless}
 use Rattle.postman.specs.PlanFile.{vertexCount, arcCount, planOf, fileOf, fileConditions, readRefusal, readAnswer, recordsAfter, writeRefusal, writeAnswer, bytesAfter}
 use Rattle.plan.specs.declared.Arc.{Arc as ArcRecord}
-use Rattle.plan.specs.Records.{arcValue, recordOf}
-use Rattle.plan_file.specs.Acceptance.{is-writable}
-use Rattle.plan_file.specs.Counting.{length-counted}
-use Rattle.plan_file.specs.RereadLaws.{written-file}
-use Rattle.plan_file.specs.RoundTrip.{plan-back, accepted-back}
-use Rattle.plan_file.specs.Writing.{was-given, was-refused}
+use Rattle.plan.specs.Records.{arcValue, zeroRecord}
+use Rattle.postman.specs.Laws.Membership.{map-mem, mem-getD}
+use Rattle.postman.specs.Laws.Acceptance.{file-is-accepted, arcs-read, vertices-read, writable-well-formed}
+use Rattle.postman.specs.Laws.PlanFile.{plan-same, is-file}
+use Rattle.plan_file.specs.Laws.Reread.{written-file}
+use Rattle.plan_file.specs.Laws.Writing.{length-given, refusal-given}
 use Rattle.records.specs.declared.arrays.Filled.{Filled}
 use Rattle.records.specs.Reading.{readNumbers}
-use Rattle.records.specs.ReadingLaws.{map-drop, long-enough}
+use Rattle.records.specs.Laws.Reading.{map-drop, long-enough}
 use Rattle.records.specs.Reread.{IsReread}
 use Rattle.records.specs.Writing.{listPlan}
 
 -- A file that is not refused, of a plan p, into a list that has room.
 module _ (p : Graph) (file : List ℕ) (into : List Arc) (back : planOf file ≡ p) (accepted : firstRefusal (fileConditions file) ≡ none) (enough : length (p .arcs) ≤ length into) where
   count : arcCount file ≡ length (p .arcs)
-  unfolding planOf
-  count = sym (length-counted _ (arcCount file)) ∙ ap (λ (g : Graph). length (g .arcs)) back
+  count = sym (arcs-read file) ∙ ap (λ (g : Graph). length (g .arcs)) back
 
   vertices : vertexCount file ≡ p .n
-  unfolding planOf
-  vertices = ap (λ (g : Graph). g .n) back
+  vertices = sym (vertices-read file) ∙ ap (λ (g : Graph). g .n) back
 
   not-refused : readRefusal file (length into) ≡ none
   not-refused = long-enough file (length into) accepted (omega (arith, count, enough))
@@ -60,18 +58,24 @@ pub read-back
     → IsReadBack n records into (take k after)
 read-back n records into bytes after k small e f enough =
     let p = listPlan n records in
-    let ok = is-writable p (length bytes) (was-given p bytes k e .0) in
+    let ok = writable-well-formed p (length bytes) costs (length-given p bytes k e .0) in
     let long : length (map arcValue records) ≡ length records = length-map records arcValue in
     let room : length (map arcValue records) ≤ length (map arcValue into) = omega (arith, long, length-map into arcValue, enough) in
-    let back = plan-back p (length bytes) ok costs in
-    let accepted = accepted-back p (length bytes) ok costs in
+    let back = plan-same p ok in
+    let accepted = file-is-accepted (fileOf p) (is-file p ok) in
     rw (written-file p bytes after k e f .1) (record {
       answer = rw long at (reads-answer p (fileOf p) (map arcValue into) back accepted room);
       records-after = rw long at (reads-records p (fileOf p) (map arcValue into) back accepted room);
     })
   where
-    costs : (i : ℕ) (d : Arc) → i < length (map arcValue records) → getD (map arcValue records) i d .cost < 65536
-    costs i d h = rw (List·getD-map arcValue records i (recordOf d)) (small i (recordOf d) (omega (arith, length-map records arcValue, h)))
+    costs : (a : Arc) → List·Memᴰ a (map arcValue records) → a .cost ≤ 65535
+    costs a h =
+        let r = map-mem arcValue records h in
+        let q = mem-getD zeroRecord (r .1) in
+        let x = ap (λ (b : Arc). b .cost) (r .2) in
+        let y = ap (λ (b : ArcRecord). b .cost) (q .2) in
+        let l = small (q .0) zeroRecord (q .1) in
+        omega arith
 
 -- ---- over arrays
 
@@ -104,7 +108,7 @@ module _ (n : ℕ) (records : List ArcRecord) (m : ℕ) (list : List ArcRecord) 
       → IsReread n records m list r
   unfolding answer unless
   reread-file k small e f reads =
-      let w : writeRefusal p 963 ≡ none = rw room at (was-given p bytes k e .0) in
+      let w : writeRefusal p 963 ≡ none = rw room at (length-given p bytes k e .0) in
       let back = read-back n (take m records) list bytes after k small e f (omega (arith, taken, few, list-long)) in
       let got = rw (whole, none-left) at reads in
       record {
@@ -115,5 +119,5 @@ module _ (n : ℕ) (records : List ArcRecord) (m : ℕ) (list : List ArcRecord) 
   pub reread-refused : (q : ℕ) → refused q ≡ writeAnswer p bytes → readNumbers (r .read) ≡ refused q → r .arcs ≡ list → IsReread n records m list r
   unfolding answer unless
   reread-refused q e read same =
-      let w : writeRefusal p 963 ≡ some q = rw room at (was-refused p bytes q e) in
+      let w : writeRefusal p 963 ≡ some q = rw room at (refusal-given p bytes q e) in
       record { answer-is = rw w read; records-are = rw w (ap (map arcValue) same) }

@@ -11,11 +11,13 @@ use lib.ListN.{length, getD, set, replicate, drop, length-append, length-replica
 use lib.Seq.{set-at, append-snoc, drop-cons, getD-append-add, getD-drop, ext-getD}
 use Rattle.postman.specs.Lists.{below, upFrom}
 use Rattle.postman.specs.Plan.{Arc, Plan}
-use Rattle.postman.specs.BitField.{bitAt, number, bitsOf}
+use Rattle.postman.specs.BitField.{bitAt, bitsOf}
 use Rattle.postman.specs.PlanFile.{arcBits, planBits, fileOf, fileLength, fileBits}
-use Rattle.plan_file.specs.Counting.{length-counted, counted-more, counted-at}
+use Rattle.postman.specs.Laws.Below.{length-map-below, map-below-more}
+use Rattle.postman.specs.Laws.BitField.{number-same, byte-of-bits, length-bitsOf, getD-bitsOf}
+use Rattle.postman.specs.Laws.PlanFile.{length-fileOf, file-byte, bits-fit, length-arcs}
 use Rattle.plan_file.specs.FieldUpdate.{putField}
-use Rattle.plan_file.specs.FieldLaws.{length-put, put-inside, put-outside, put-elsewhere, number-of-bits}
+use Rattle.plan_file.specs.Laws.FieldUpdate.{length-put, put-inside, put-outside, put-elsewhere}
 use Rattle.plan_file.specs.PlanUpdate.{putHeader, putArc, putArcs}
 
 -- ---- clearing
@@ -29,25 +31,6 @@ clear-more s i h =
     ∙ sym (append-snoc (replicate i 0) 0 (drop (suc i) s))
     ∙ ap (λ (l : List ℕ). l ++ drop (suc i) s) (replicate-append-replicate {A = ℕ} i 1 0)
     ∙ ap (λ (n : ℕ). replicate (i + 1) 0 ++ drop n s) (sym (add-one i))
-
--- ---- the bits of a number, and their count
-
-pub length-bits : (w v : ℕ) → length (bitsOf w v) ≡ w
-unfolding bitsOf
-length-bits zero v = refl
-length-bits (suc w) v = ap suc (length-bits w v)
-
-pub bits-at : (w v i : ℕ) → i < w → getD (bitsOf w v) i 0 ≡ v / 2 ^ (w - 1 - i) % 2
-unfolding bitsOf
-bits-at zero v i h = absurd (omega arith)
-bits-at (suc w) v zero h = let e : suc w - 1 - 0 ≡ w = omega arith in rw e
-bits-at (suc w) v (suc i) h = let e : suc w - 1 - suc i ≡ w - 1 - i = omega arith in rw e (bits-at w v i (omega arith))
-
-pub length-arc-bits : (a : Arc) → length (arcBits a) ≡ 30
-unfolding arcBits
-length-arc-bits a =
-    simp length-append
-    (omega (arith, length-bits 6 (a .tail), length-bits 6 (a .head), length-bits 2 (a .standing), length-bits 16 (a .cost)))
 
 -- ---- how far the bits have come
 
@@ -101,19 +84,19 @@ module _ (old : List ℕ) (len : ℕ) (room : len ≤ length old) where
             let f : length bits + (i - a) ≡ i = omega arith in
             ap (λ (n : ℕ). bitAt (putField s a w v) n) (sym e)
             ∙ put-inside s a w v (i - a) inside (omega arith)
-            ∙ sym (bits-at w v (i - a) (omega arith))
+            ∙ sym (getD-bitsOf w v (i - a) (omega arith))
             ∙ sym (getD-append-add bits (bitsOf w v) (i - a) 0)
             ∙ ap (λ (n : ℕ). getD (bits ++ bitsOf w v) n 0) f
         front-at i l (no p) (no q) =
             put-outside s a w v i inside (inr (omega arith))
             ∙ h .front i l
             ∙ List·getD-eq-default bits 0 (omega arith)
-            ∙ sym (List·getD-eq-default (bits ++ bitsOf w v) 0 (simp length-append (omega (arith, length-bits w v))))
+            ∙ sym (List·getD-eq-default (bits ++ bitsOf w v) 0 (simp length-append (omega (arith, length-bitsOf w v))))
 
 -- ---- the header, an arc, and the arcs
 
 pub length-header : (n m : ℕ) → length (bitsOf 4 1 ++ bitsOf 7 n ++ bitsOf 9 m) ≡ 20
-length-header n m = simp length-append (omega (arith, length-bits 4 1, length-bits 7 n, length-bits 9 m))
+length-header n m = simp length-append (omega (arith, length-bitsOf 4 1, length-bitsOf 7 n, length-bitsOf 9 m))
 
 flat-snoc : (arcs : List Arc) (a : Arc) → flatMap arcBits (arcs ++ a ∷ []) ≡ flatMap arcBits arcs ++ arcBits a
 unfolding flatMap
@@ -122,12 +105,7 @@ flat-snoc (x ∷ arcs) a = ap (λ (l : List ℕ). arcBits x ++ l) (flat-snoc arc
 
 flat-more : (f : ℕ → Arc) (k : ℕ) → flatMap arcBits (map f (below (suc k))) ≡ flatMap arcBits (map f (below k)) ++ arcBits (f k)
 flat-more f k =
-    ap (λ (n : ℕ). flatMap arcBits (map f (below n))) (sym (add-one k)) ∙ ap (flatMap arcBits) (counted-more f k) ∙ flat-snoc (map f (below k)) (f k)
-
-pub length-flat : (arcs : List Arc) → length (flatMap arcBits arcs) ≡ 30 * length arcs
-unfolding flatMap
-length-flat [] = refl
-length-flat (x ∷ arcs) = length-append (arcBits x) (flatMap arcBits arcs) ∙ omega (arith, length-arc-bits x, length-flat arcs)
+    ap (λ (n : ℕ). flatMap arcBits (map f (below n))) (sym (add-one k)) ∙ ap (flatMap arcBits) (map-below-more f k) ∙ flat-snoc (map f (below k)) (f k)
 
 module _ (old : List ℕ) (len : ℕ) (room : len ≤ length old) where
   pub holds-header
@@ -138,9 +116,9 @@ module _ (old : List ℕ) (len : ℕ) (room : len ≤ length old) where
   unfolding putHeader
   holds-header s n m h l =
       let edition = holds-put old len room s [] h 0 4 1 refl (omega arith) in
-      let vertices = holds-put old len room (putField s 0 4 1) (bitsOf 4 1) edition 4 7 n (length-bits 4 1) (omega arith) in
+      let vertices = holds-put old len room (putField s 0 4 1) (bitsOf 4 1) edition 4 7 n (length-bitsOf 4 1) (omega arith) in
       holds-put old len room (putField (putField s 0 4 1) 4 7 n) (bitsOf 4 1 ++ bitsOf 7 n) vertices 11 9 m
-      (simp length-append (omega (arith, length-bits 4 1, length-bits 7 n))) (omega arith)
+      (simp length-append (omega (arith, length-bitsOf 4 1, length-bitsOf 7 n))) (omega arith)
 
   pub holds-arc
       : (s bits : List ℕ) (i : ℕ) (a : Arc)
@@ -151,13 +129,13 @@ module _ (old : List ℕ) (len : ℕ) (room : len ≤ length old) where
   unfolding putArc arcBits
   holds-arc s bits i a h e l =
       let tail = holds-put old len room s bits h i 6 (a .tail) e (omega arith) in
-      let n1 : length (bits ++ bitsOf 6 (a .tail)) ≡ i + 6 = simp length-append (omega (arith, length-bits 6 (a .tail))) in
+      let n1 : length (bits ++ bitsOf 6 (a .tail)) ≡ i + 6 = simp length-append (omega (arith, length-bitsOf 6 (a .tail))) in
       let head = holds-put old len room _ _ tail (i + 6) 6 (a .head) n1 (omega arith) in
       let n2 : length (bits ++ bitsOf 6 (a .tail) ++ bitsOf 6 (a .head)) ≡ i + 12 =
-      simp length-append (omega (arith, length-bits 6 (a .tail), length-bits 6 (a .head))) in
+      simp length-append (omega (arith, length-bitsOf 6 (a .tail), length-bitsOf 6 (a .head))) in
       let standing = holds-put old len room _ _ head (i + 12) 2 (a .standing) n2 (omega arith) in
       let n3 : length (bits ++ bitsOf 6 (a .tail) ++ bitsOf 6 (a .head) ++ bitsOf 2 (a .standing)) ≡ i + 14 =
-      simp length-append (omega (arith, length-bits 6 (a .tail), length-bits 6 (a .head), length-bits 2 (a .standing))) in
+      simp length-append (omega (arith, length-bitsOf 6 (a .tail), length-bitsOf 6 (a .head), length-bitsOf 2 (a .standing))) in
       let cost = holds-put old len room _ _ standing (i + 14) 16 (a .cost) n3 (omega arith) in
       simp (append-assoc) at cost
 
@@ -173,38 +151,13 @@ module _ (old : List ℕ) (len : ℕ) (room : len ≤ length old) where
   holds-arcs s bits f h e (suc k) l =
       let before = holds-arcs s bits f h e k (omega arith) in
       let n : length (bits ++ flatMap arcBits (map f (below k))) ≡ 20 + 30 * k =
-      simp length-append (omega (arith, length-flat (map f (below k)), length-counted f k)) in
+      simp length-append (omega (arith, length-arcs (map f (below k)), length-map-below f k)) in
       let after = holds-arc (putArcs s f k) (bits ++ flatMap arcBits (map f (below k))) (20 + 30 * k) (f k) before n (omega arith) in
       let join : bits ++ flatMap arcBits (map f (below k)) ++ arcBits (f k) ≡ bits ++ flatMap arcBits (map f (below (suc k))) =
       append-assoc bits (flatMap arcBits (map f (below k))) (arcBits (f k)) ∙ ap (λ (l : List ℕ). bits ++ l) (sym (flat-more f k)) in
       subst (λ (l : List ℕ). Holds old len (putArcs s f (suc k)) l) join after
 
 -- ---- the bytes that the bits make
-
-pub number-same : (b c : ℕ → ℕ) (a w : ℕ) → ((i : ℕ) → i < w → b (a + i) ≡ c (a + i)) → number b a w ≡ number c a w
-unfolding number
-number-same b c a zero e = refl
-number-same b c a (suc w) e =
-    omega (arith, number-same b c a w (λ i l. e i (omega arith)), e w (omega arith))
-
--- A byte is the number of its eight bits.
-pub byte-of-bits : (s : List ℕ) (j : ℕ) → getD s j 0 < 256 → number (bitAt s) (8 * j) 8 ≡ getD s j 0
-unfolding bitAt
-byte-of-bits s j small = number-of-bits (bitAt s) (8 * j) 8 (getD s j 0) (λ i l. bit i l) small
-  where
-    bit : (i : ℕ) → i < 8 → bitAt s (8 * j + i) ≡ getD s j 0 / 2 ^ (8 - 1 - i) % 2
-    bit i l =
-        let e : (8 * j + i) / 8 ≡ j = omega arith in
-        let f : (8 * j + i) % 8 ≡ i = omega arith in
-        rw (e, f)
-
-pub file-at : (p : Plan) (j : ℕ) → j < fileLength (length (p .arcs)) → getD (fileOf p) j 0 ≡ number (λ i. getD (planBits p) i 0) (8 * j) 8
-unfolding fileOf
-file-at p j h = counted-at (λ k. number (λ i. getD (planBits p) i 0) (8 * k) 8) (fileLength (length (p .arcs))) j 0 h
-
-pub length-file : (p : Plan) → length (fileOf p) ≡ fileLength (length (p .arcs))
-unfolding fileOf
-length-file p = length-counted (λ k. number (λ i. getD (planBits p) i 0) (8 * k) 8) (fileLength (length (p .arcs)))
 
 -- Bytes that hold the bits of a plan are its file, and then what there was.
 pub holds-file
@@ -219,16 +172,16 @@ holds-file old s p room small h = ext-getD 0 s (fileOf p ++ drop len old) long (
     len = fileLength (length (p .arcs))
 
     long : length s ≡ length (fileOf p ++ drop len old)
-    long = simp (length-append, length-drop, length-file p) (omega (arith, h .size))
+    long = simp (length-append, length-drop, length-fileOf p) (omega (arith, h .size))
 
     at : (j : ℕ) → j < length s → Dec (j < len) → getD s j 0 ≡ getD (fileOf p ++ drop len old) j 0
     at j l (yes q) =
         sym (byte-of-bits s j (small j))
-        ∙ number-same (bitAt s) (λ i. getD (planBits p) i 0) (8 * j) 8 (λ i k. h .front (8 * j + i) (omega arith))
-        ∙ sym (file-at p j q)
-        ∙ sym (List·getD-append (fileOf p) (drop len old) 0 j (rw (length-file p) q))
+        ∙ number-same (bitAt s) (λ i. getD (planBits p) i 0) (8 * j) (8 * j) 8 (λ i k. h .front (8 * j + i) (omega arith))
+        ∙ sym (file-byte p j q)
+        ∙ sym (List·getD-append (fileOf p) (drop len old) 0 j (rw (length-fileOf p) q))
     at j l (no q) =
-        let e : length (fileOf p) + (j - len) ≡ j = omega (arith, length-file p) in
+        let e : length (fileOf p) + (j - len) ≡ j = omega (arith, length-fileOf p) in
         let f : len + (j - len) ≡ j = omega arith in
         h .rest j (omega arith)
         ∙ sym
@@ -239,10 +192,6 @@ holds-file old s p room small h = ext-getD 0 s (fileOf p ++ drop len old) long (
 
 -- ---- the whole
 
-pub bits-fit : (m : ℕ) → 20 + 30 * m ≤ 8 * fileLength m
-unfolding fileLength fileBits
-bits-fit m = omega arith
-
 -- The first bytes cleared, then the header and the arcs: that is the file of the plan.
 pub put-plan-file
     : (old : List ℕ) (n m : ℕ) (f : ℕ → Arc) (s : List ℕ)
@@ -250,10 +199,10 @@ pub put-plan-file
     → s ≡ putArcs (putHeader (replicate (fileLength m) 0 ++ drop (fileLength m) old) n m) f m
     → ((j : ℕ) → getD s j 0 < 256)
     → s ≡ fileOf (record { n = n; arcs = map f (below m) }) ++ drop (fileLength m) old
-unfolding planBits
+unfolding planBits fileBits
 put-plan-file old n m f s room e small =
     let p : Plan = record { n = n; arcs = map f (below m) } in
-    let count : length (map f (below m)) ≡ m = length-counted f m in
+    let count : length (map f (below m)) ≡ m = length-map-below f m in
     let len = fileLength m in
     let zeros = replicate {A = ℕ} len 0 ++ drop len old in
     let fit = bits-fit m in

@@ -1,47 +1,19 @@
--- What a field's bits are: of a field that is read, and of one that is put. Everything goes by single bits.
+-- What putting a field changes, and what it leaves. Everything goes by single bits.
 use mathlib.Core.Path.{_≡_, refl, sym, ap, _∙_}
 use mathlib.Core.List.{List}
 use mathlib.Core.Logic.{_⊎_, ⊎-elim, inl, inr}
 use Prim.Native.Nat.{ℕ, zero, suc, _+_, _*_, _-_, _/_, _%_, _^_, _<_, _≤_}
-use native.Mathlib.Nat.{pow-suc, lt-of-lt-of-le, mod-lt, div-eq-of-lt, div-one}
+use native.Mathlib.Nat.{pow-suc, mod-lt}
 use native.Mathlib.Decide.{ℕ-discrete, decLt}
 use native.Mathlib.Numerals.{add-one}
 use native.Mathlib.Omega.{arith}
 use lib.Arith.{digits-lt}
-use lib.Dec.{lit<}
 use lib.ListN.{length, getD, set, length-set}
-use lib.Pow.{pow-mono, pow-add, pow-pos, shr-lt, shr-shr, high, low, field, mod-mod-pow}
+use lib.Pow.{pow-add, pow-pos, shr-lt, shr-shr, high, low, field, mod-mod-pow}
 use lib.Seq.{getD-set-same, getD-set-other}
-use Rattle.postman.specs.BitField.{bitAt, number, fieldAt}
+use Rattle.postman.specs.BitField.{bitAt, fieldAt}
+use Rattle.postman.specs.Laws.BitField.{number-of-bits}
 use Rattle.plan_file.specs.FieldUpdate.{withBit, setBit, putBits, putField}
-
--- ---- numbers of bits
-
-pub bit-lt : (l : List ℕ) (n : ℕ) → bitAt l n < 2
-unfolding bitAt
-bit-lt l n = omega arith
-
-module _ (b : ℕ → ℕ) (two : (i : ℕ) → b i < 2) where
-  pub number-lt : (a w : ℕ) → number b a w < 2 ^ w
-  unfolding number
-  number-lt a zero = lit< tt
-  number-lt a (suc w) = rw (pow-suc 2 w) (omega (arith, number-lt a w, two (a + w)))
-
--- One bit more, as a loop counts.
-pub number-more : (b : ℕ → ℕ) (a i : ℕ) → number b a (i + 1) ≡ number b a i * 2 + b (a + i)
-unfolding number
-number-more b a i = rw add-one
-
-pub field-more : (l : List ℕ) (a i : ℕ) → fieldAt l a (i + 1) ≡ fieldAt l a i * 2 + bitAt l (a + i)
-unfolding fieldAt
-field-more l a i = number-more (bitAt l) a i
-
-pub field-lt : (l : List ℕ) (a w : ℕ) → fieldAt l a w < 2 ^ w
-unfolding fieldAt
-field-lt l a w = number-lt (bitAt l) (bit-lt l) a w
-
-pub field-small : (l : List ℕ) (a w : ℕ) → w ≤ 16 → fieldAt l a w < 65536
-field-small l a w h = lt-of-lt-of-le (field-lt l a w) (pow-mono {j = 16} h)
 
 -- ---- one byte
 
@@ -184,27 +156,7 @@ module _ (l : List ℕ) (a w v : ℕ) where
   unfolding putField
   put-elsewhere j h = elsewhere-upto w j h
 
--- ---- the round trip of a field
-
--- A number whose w bits from a on are those of v, most significant first, is v.
-module _ (b : ℕ → ℕ) (a w v : ℕ) (same : (i : ℕ) → i < w → b (a + i) ≡ v / 2 ^ (w - 1 - i) % 2) (small : v < 2 ^ w) where
-  number-upto : (i : ℕ) → i ≤ w → number b a i ≡ v / 2 ^ (w - i)
-  unfolding number
-  number-upto zero hi = let e : w - 0 ≡ w = omega arith in rw e (sym (div-eq-of-lt small))
-  number-upto (suc i) hi =
-      let e : w - i ≡ suc (w - 1 - i) = omega arith in
-      let f : w - suc i ≡ w - 1 - i = omega arith in
-      let half : v / 2 ^ (w - i) ≡ v / 2 ^ (w - 1 - i) / 2 =
-      rw e (ap (λ (z : ℕ). v / 2 ^ z) (sym (add-one (w - 1 - i))) ∙ sym (shr-shr v (w - 1 - i) 1)) in
-      rw f (omega (arith, number-upto i (omega arith), half, same i hi))
-
-  pub number-of-bits : number b a w ≡ v
-  number-of-bits =
-      let e : w - w ≡ 0 = omega arith in
-      let r = rw e at (number-upto w (omega arith)) in
-      r ∙ div-one v
-
 -- A field that was put is read back.
 pub field-round-trip : (l : List ℕ) (a w v : ℕ) → a + w ≤ 8 * length l → v < 2 ^ w → fieldAt (putField l a w v) a w ≡ v
 unfolding fieldAt
-field-round-trip l a w v h hv = number-of-bits (bitAt (putField l a w v)) a w v (λ i hi. put-inside l a w v i h hi) hv
+field-round-trip l a w v h hv = number-of-bits (bitAt (putField l a w v)) a w v hv (λ i hi. put-inside l a w v i h hi)

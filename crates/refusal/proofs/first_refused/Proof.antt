@@ -1,7 +1,7 @@
 -- `first_refused` meets its contract: each arm is a case of the definition.
 use borrow.Author.Needs.{needs}
-use Rattle.plan_file.proofs.arcs.first_refused.Statement.{statement}
-use Rattle.plan_file.proofs.arcs.first_refused.Tie as tie
+use Rattle.refusal.proofs.first_refused.Statement.{statement}
+use Rattle.refusal.proofs.first_refused.Tie as tie
 
 enum-told : tie.Need-enum-told
 enum-told c = search needs

@@ -1,6 +1,6 @@
 -- Writing from a lent list: its plan by value is refused as the list is, and is the same plan where it is not.
 use mathlib.Core.Path.{_≡_, refl, sym, ap, _∙_}
-use mathlib.Core.Bool.{Bool, true, false, _||_}
+use mathlib.Core.Bool.{true, or-true}
 use mathlib.Core.List.{List, map}
 use mathlib.Core.Option.{some}
 use Prim.Native.Nat.{ℕ, _<_, _≤_}
@@ -15,9 +15,9 @@ use Rattle.postman.specs.Refusal.{firstRefusal}
 use Rattle.postman.specs.PlanFile.{isOutside, extentConditions, writeRefusal, writeAnswer, bytesAfter}
 use Rattle.plan.specs.declared.Arc.{Arc as ArcRecord}
 use Rattle.plan.specs.Records.{arcValue, zeroRecord, recordAt, planValue}
-use Rattle.plan_file.specs.Counting.{length-counted, counted-at}
-use Rattle.plan_file.specs.Writing.{refused-answer, refused-bytes}
-use Rattle.records.specs.Stored.{stored-is}
+use Rattle.postman.specs.Laws.Below.{length-map-below, getD-map-below}
+use Rattle.plan_file.specs.Laws.Writing.{refused-answer, refused-bytes}
+use Rattle.records.specs.Laws.Stored.{stored-is}
 use Rattle.records.specs.Writing.{listPlan, atMost, loaded, countOf, countedPlan}
 
 -- ---- the lesser of two numbers
@@ -60,8 +60,8 @@ module _ (n : ℕ) (records : List ArcRecord) where
       let m = length records in
       let long : m ≤ length zeros = rw (length-replicate 256 zeroRecord) h in
       rw (at-most-same m 256 h) (ap (λ (xs : List ArcRecord). getD xs k zeroRecord) (stored-is get zeros m long)
-      ∙ List·getD-append (map get (below m)) (drop m zeros) zeroRecord k (rw (length-counted get m) l)
-      ∙ counted-at get m k zeroRecord l)
+      ∙ List·getD-append (map get (below m)) (drop m zeros) zeroRecord k (rw (length-map-below get m) l)
+      ∙ getD-map-below get m k zeroRecord l)
 
   -- The plan by value is the list's plan.
   same-plan : length records ≤ 256 → written ≡ listPlan n records
@@ -73,9 +73,9 @@ module _ (n : ℕ) (records : List ArcRecord) where
 
       of-count : (m : ℕ) → m ≡ length records → map (recordAt (loaded records)) (below m) ≡ map arcValue records
       of-count m e =
-          let counted = length-counted (recordAt (loaded records)) m in
+          let counted = length-map-below (recordAt (loaded records)) m in
           ext-getD zeroArc (map (recordAt (loaded records)) (below m)) (map arcValue records) (counted ∙ e ∙ sym (length-map records arcValue))
-          (λ k l. counted-at (recordAt (loaded records)) m k zeroArc (omega (arith, counted, l))
+          (λ k l. getD-map-below (recordAt (loaded records)) m k zeroArc (omega (arith, counted, l))
           ∙ ap arcValue (loaded-at h k (omega (arith, counted, l, e)))
           ∙ sym (List·getD-map arcValue records k zeroRecord))
 
@@ -83,10 +83,6 @@ module _ (n : ℕ) (records : List ArcRecord) where
       same-arcs = of-count (countOf (length records)) (at-most-same (length records) _ (omega (arith, h)))
 
 -- ---- a longer list
-
-or-true : (a : Bool) → (a || true) ≡ true
-or-true true = refl
-or-true false = refl
 
 too-long : (m : ℕ) → 256 < m → isOutside m 1 256 ≡ true
 unfolding isOutside
@@ -107,7 +103,7 @@ module _ (n : ℕ) (records : List ArcRecord) (bytes : List ℕ) where
   unfolding planValue
   plan-refused h =
       let m = countOf (length records) in
-      let count : length (map (recordAt (loaded records)) (below m)) ≡ m = length-counted (recordAt (loaded records)) m in
+      let count : length (map (recordAt (loaded records)) (below m)) ≡ m = length-map-below (recordAt (loaded records)) m in
       extent plan (length bytes) (omega (arith, count, at-most-limit (length records) _ h))
 
   list-refused : 256 < length records → writeRefusal list (length bytes) ≡ some 3
