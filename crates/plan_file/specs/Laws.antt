@@ -1,5 +1,4 @@
 -- What is proved about the definitions.
-pub mod FieldUpdate
 pub mod PlanUpdate
 pub mod Arcs
 pub mod Records

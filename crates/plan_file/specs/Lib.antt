@@ -1,5 +1,4 @@
 -- What the contracts cite.
-pub mod FieldUpdate
 pub mod PlanUpdate
 pub mod Reading
 pub mod Writing

@@ -11,7 +11,7 @@ ghost use Rattle.postman.specs.PlanFile.{arcOf, arcConditions, isOutside};
 ghost use Rattle.refusal.specs.Verdict.{verdictNumber};
 ghost use Rattle.plan.specs.Standings.{standingOf, isRefusedStanding};
 ghost use Rattle.plan.specs.Records.{arcValue};
-use crate::bit_reader::take_at;
+use bits::reader::take_at;
 use plan::Arc;
 use plan::Standing;
 use refusal::Refusal;

@@ -1,7 +1,5 @@
 // Plan files: the reader and the writer, by the bit layout that the crate `postman` defines.
 
-pub mod bits; // bit fields of a slice of bytes
-pub mod bit_reader; // a file's slice with a bit position
 pub mod arcs; // what is refused of an arc
 pub mod reader; // from bytes to a plan
 pub mod writer; // from a plan to bytes

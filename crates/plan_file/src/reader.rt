@@ -14,7 +14,7 @@ ghost use Rattle.plan_file.specs.Reading.{bodyConditions, IsReading};
 use crate::Reading;
 use crate::arcs::field_verdict;
 use crate::arcs::is_outside;
-use crate::bit_reader::take_at;
+use bits::reader::take_at;
 use plan::Arc;
 use plan::Plan;
 use refusal::Refusal;

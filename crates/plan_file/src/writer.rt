@@ -13,8 +13,8 @@ ghost use Rattle.plan_file.specs.PlanUpdate.{putHeader, putArc, putArcs}
 use crate::Written;
 use crate::arcs::is_outside;
 use crate::arcs::record_verdict;
-use crate::bits::put_field;
 use crate::reader::file_length;
+use bits::put_field;
 use plan::Arc;
 use plan::Plan;
 use refusal::Refusal;

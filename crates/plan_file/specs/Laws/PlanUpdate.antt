@@ -16,8 +16,8 @@ use Rattle.postman.specs.PlanFile.{arcBits, planBits, fileOf, fileLength, fileB
 use Rattle.postman.specs.Laws.Below.{length-map-below, map-below-more}
 use Rattle.postman.specs.Laws.BitField.{number-same, byte-of-bits, length-bitsOf, getD-bitsOf}
 use Rattle.postman.specs.Laws.PlanFile.{length-fileOf, file-byte, bits-fit, length-arcs}
-use Rattle.plan_file.specs.FieldUpdate.{putField}
-use Rattle.plan_file.specs.Laws.FieldUpdate.{length-put, put-inside, put-outside, put-elsewhere}
+use Rattle.bits.specs.FieldUpdate.{putField}
+use Rattle.bits.specs.Laws.FieldUpdate.{length-put, put-inside, put-outside, put-elsewhere}
 use Rattle.plan_file.specs.PlanUpdate.{putHeader, putArc, putArcs}
 
 -- ---- clearing

@@ -1,9 +1,10 @@
--- The refusal of writing, by the parts of a plan by value.
+-- The refusal of writing, by the parts of a plan by value; and what a refusal, or none, answers and leaves.
 use mathlib.Core.Path.{_≡_}
-use mathlib.Core.Bool.{true, false, cond, _||_}
+use mathlib.Core.Bool.{true, false, cond, _||_, or-true}
 use mathlib.Core.List.{List, [], _∷_, _++_, map, flatMap}
 use mathlib.Core.Option.{none, some}
-use Prim.Native.Nat.{ℕ}
+use Prim.Native.Nat.{ℕ, _<_}
+use borrow.Author.Tests.{lt-ltb}
 use lib.Dec.{ltb}
 use lib.ListN.{length, drop}
 use Rattle.postman.specs.Lists.{below}
@@ -48,6 +49,20 @@ module _ (p : Plan) (room : ℕ) where
     of-room e =
         rw (plan-refusal p room, hn, hm)
         (first-on (flatMap (arcConditions (p .n)) (map (recordAt (p .arcs)) (below (p .m)))) ((ltb room (fileLength (p .m)), 8) ∷ []) e)
+
+-- 3, of n or m above its limit.
+above : (x low high : ℕ) → high < x → isOutside x low high ≡ true
+unfolding isOutside
+above x low high h = rw (lt-ltb high x h) (or-true (ltb x low))
+
+module _ (p : Graph) (room : ℕ) where
+  pub too-many-vertices : 64 < p .n → writeRefusal p room ≡ some 3
+  unfolding writeRefusal extentConditions firstRefusal
+  too-many-vertices h = rw (above (p .n) 1 64 h)
+
+  pub too-many-arcs : 256 < length (p .arcs) → writeRefusal p room ≡ some 3
+  unfolding writeRefusal extentConditions firstRefusal
+  too-many-arcs h = rw (above (length (p .arcs)) 1 256 h, or-true (isOutside (p .n) 1 64))
 
 -- The answer and the slice, of a refusal and of a file; and from the answer back to the refusal.
 module _ (p : Graph) (bytes : List ℕ) where

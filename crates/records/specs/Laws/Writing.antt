@@ -1,6 +1,5 @@
 -- Writing from a lent list: its plan by value is refused as the list is, and is the same plan where it is not.
 use mathlib.Core.Path.{_≡_, refl, sym, ap, _∙_}
-use mathlib.Core.Bool.{true, or-true}
 use mathlib.Core.List.{List, map}
 use mathlib.Core.Option.{some}
 use Prim.Native.Nat.{ℕ, _<_, _≤_}
@@ -11,37 +10,24 @@ use lib.Seq.{ext-getD}
 use borrow.Author.Tests.{lt-ltb, le-ltb}
 use Rattle.postman.specs.Lists.{below}
 use Rattle.postman.specs.Plan.{Arc, Plan as Graph}
-use Rattle.postman.specs.Refusal.{firstRefusal}
-use Rattle.postman.specs.PlanFile.{isOutside, extentConditions, writeRefusal, writeAnswer, bytesAfter}
+use Rattle.postman.specs.PlanFile.{writeRefusal, writeAnswer, bytesAfter}
 use Rattle.plan.specs.declared.Arc.{Arc as ArcRecord}
 use Rattle.plan.specs.Records.{arcValue, zeroRecord, recordAt, planValue}
 use Rattle.postman.specs.Laws.Below.{length-map-below, getD-map-below}
-use Rattle.plan_file.specs.Laws.Writing.{refused-answer, refused-bytes}
+use Rattle.plan_file.specs.Laws.Writing.{too-many-arcs, refused-answer, refused-bytes}
 use Rattle.records.specs.Laws.Stored.{stored-is}
 use Rattle.records.specs.Writing.{listPlan, atMost, loaded, countOf, countedPlan}
 
 -- ---- the lesser of two numbers
 
 pub at-most-le : (n limit : ℕ) → atMost n limit ≤ limit
-at-most-le n limit = at (decLt n limit)
-  where
-    at : Dec (n < limit) → atMost n limit ≤ limit
-    at (yes h) = rw (lt-ltb n limit h) (omega arith)
-    at (no h) = rw (le-ltb n limit (omega arith)) (omega arith)
+at-most-le n limit = elim (decLt n limit) [ yes h ↦ rw (lt-ltb n limit h) (omega arith) | no h ↦ rw (le-ltb n limit (omega arith)) (omega arith) ]
 
 pub at-most-fits : (n limit : ℕ) → atMost n limit ≤ n
-at-most-fits n limit = at (decLt n limit)
-  where
-    at : Dec (n < limit) → atMost n limit ≤ n
-    at (yes h) = rw (lt-ltb n limit h) (omega arith)
-    at (no h) = rw (le-ltb n limit (omega arith)) (omega arith)
+at-most-fits n limit = elim (decLt n limit) [ yes h ↦ rw (lt-ltb n limit h) (omega arith) | no h ↦ rw (le-ltb n limit (omega arith)) (omega arith) ]
 
 pub at-most-same : (n limit : ℕ) → n ≤ limit → atMost n limit ≡ n
-at-most-same n limit h = at (decLt n limit)
-  where
-    at : Dec (n < limit) → atMost n limit ≡ n
-    at (yes l) = rw (lt-ltb n limit l) refl
-    at (no l) = rw (le-ltb n limit (omega arith)) (omega arith)
+at-most-same n limit h = elim (decLt n limit) [ yes l ↦ rw (lt-ltb n limit l) | no l ↦ rw (le-ltb n limit (omega arith)) (omega arith) ]
 
 pub at-most-limit : (n limit : ℕ) → limit ≤ n → atMost n limit ≡ limit
 at-most-limit n limit h = rw (le-ltb n limit h) refl
@@ -84,14 +70,6 @@ module _ (n : ℕ) (records : List ArcRecord) where
 
 -- ---- a longer list
 
-too-long : (m : ℕ) → 256 < m → isOutside m 1 256 ≡ true
-unfolding isOutside
-too-long m h = simp (le-ltb m 1 (omega arith), lt-ltb 256 m h)
-
-extent : (p : Graph) (room : ℕ) → 256 < length (p .arcs) → writeRefusal p room ≡ some 3
-unfolding writeRefusal extentConditions firstRefusal
-extent p room h = rw (too-long (length (p .arcs)) h, or-true (isOutside (p .n) 1 64)) refl
-
 module _ (n : ℕ) (records : List ArcRecord) (bytes : List ℕ) where
   abbrev plan : Graph
   plan = written n records
@@ -104,10 +82,10 @@ module _ (n : ℕ) (records : List ArcRecord) (bytes : List ℕ) where
   plan-refused h =
       let m = countOf (length records) in
       let count : length (map (recordAt (loaded records)) (below m)) ≡ m = length-map-below (recordAt (loaded records)) m in
-      extent plan (length bytes) (omega (arith, count, at-most-limit (length records) _ h))
+      too-many-arcs plan (length bytes) (omega (arith, count, at-most-limit (length records) _ h))
 
   list-refused : 256 < length records → writeRefusal list (length bytes) ≡ some 3
-  list-refused h = extent list (length bytes) (omega (arith, length-map records arcValue, h))
+  list-refused h = too-many-arcs list (length bytes) (omega (arith, length-map records arcValue, h))
 
   -- Writing the plan by value is writing the list.
   pub same-answer : writeAnswer plan bytes ≡ writeAnswer list bytes
