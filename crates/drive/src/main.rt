@@ -2,8 +2,8 @@
 use libc::STDIN_FILENO;
 use libc::STDOUT_FILENO;
 use planner::Planned;
-use planner::Verdict;
 use planner::call::short_call;
+use refusal::Verdict;
 ghost use lib.IntN.{pos};
 ghost use lib.Signed.{_≤ℤ_};
 
@@ -79,6 +79,6 @@ fn main() {
             answer(r);
             places(&sheet[..count]);
         }
-        Verdict::Refused(q) => line(b"refused ", planner::refusal_number(q) as u64),
+        Verdict::Refused(q) => line(b"refused ", refusal::refusal_number(q) as u64),
     }
 }
