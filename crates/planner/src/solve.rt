@@ -1,6 +1,5 @@
 // The answer of a plan that is not refused.
 use crate::Planned;
-use crate::Verdict;
 use crate::bound::floor_of;
 use crate::lay::lay;
 use crate::prepare::base_state;
@@ -8,6 +7,7 @@ use crate::prepare::multipliers_of;
 use balance::Balance;
 use network::Network;
 use plan::Plan;
+use refusal::Verdict;
 ghost use mathlib.Core.Path.{_≡_};
 ghost use mathlib.Core.Option.{none};
 ghost use Prim.Native.Nat.{_≤_};

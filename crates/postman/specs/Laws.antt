@@ -1,6 +1,7 @@
 -- What is proved about the definitions.
 pub mod Tests
 pub mod Membership
+pub mod Below
 pub mod Minimum
 pub mod Pick
 pub mod Occurrences
@@ -24,8 +25,8 @@ pub mod SignedSum
 pub mod LagrangianBound
 pub mod Multiplier
 pub mod BitField
+pub mod Refusal
 pub mod Acceptance
 pub mod PlanFile
 pub mod Optimality
-pub mod Refusal
 pub mod Search

@@ -19,7 +19,7 @@ use Rattle.postman.specs.Laws.Acceptance.{call-accepted}
 use Rattle.circuit.specs.Tour.{written}
 use Rattle.circuit.specs.Laws.Written.{written-length}
 use Rattle.planner.specs.declared.Planned.{Planned}
-use Rattle.planner.specs.Refusals.{verdictNumber}
+use Rattle.refusal.specs.Verdict.{verdictNumber}
 use Rattle.planner.specs.Tour.{tourOf}
 use Rattle.planner.specs.Contract.{multipliersOf, countUnless, IsPlanCall}
 
