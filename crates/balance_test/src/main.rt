@@ -151,28 +151,7 @@ fn print_signed(a: i64) {
     if a < 0 {
         io::write_all(1, b"-");
     }
-    io::print_decimal(1, magnitude(a));
-}
-
-// |a|, and 0 where that is large.
-fn magnitude(a: i64) -> u64 {
-    if a < 0 {
-        return positive(turned(a));
-    }
-    positive(a)
-}
-
-// -a, and 0 where that is large.
-fn turned(a: i64) -> i64 {
-    if a < -4611686018427387904 {
-        return 0;
-    }
-    0 - a
-}
-
-// The larger of 0 and a.
-fn positive(a: i64) -> u64 {
-    if a < 0 { 0 } else { a as u64 }
+    io::print_decimal(1, integers::magnitude(a));
 }
 
 // An amount, to add up.

@@ -4,6 +4,7 @@ pub mod Membership
 pub mod Minimum
 pub mod Pick
 pub mod Occurrences
+pub mod Sum
 pub mod Distance
 pub mod Assignment
 pub mod Amounts

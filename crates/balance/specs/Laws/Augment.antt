@@ -14,10 +14,10 @@ use borrow.Author.Tests.{lt-ltb, le-ltb}
 use Rattle.postman.specs.Lists.{delta, occurrences}
 use Rattle.postman.specs.Laws.Tests.{cond-ind, eqb-other}
 use Rattle.postman.specs.Laws.Occurrences.{delta-yes, delta-no}
+use Rattle.postman.specs.Laws.Sum.{sum-cong-mem, sum-change-once, once}
 use Rattle.balance.specs.Optimality.{Tight, sent, received}
 use Rattle.balance.specs.Step.{amount, push, augment}
 use Rattle.balance.specs.Invariant.{Loopless}
-use Rattle.balance.specs.Laws.Sum.{sum-ext, sum-change-once, once}
 
 module _ (vs : List ℕ) (unique : (i : ℕ) → occurrences i vs ≤ 1) (small : (i : ℕ) → List·Memᴰ i vs → i < 64) where
   -- ---- one amount stored
@@ -33,11 +33,11 @@ module _ (vs : List ℕ) (unique : (i : ℕ) → occurrences i vs ≤ 1) (small 
 
     pub sent-other : (i : ℕ) → List·Memᴰ i vs → i ≢ a → sent vs (amount (set f (a * 64 + b) x)) i ≡ sent vs (amount f) i
     unfolding sent
-    sent-other i mi n = sum-ext vs _ _ (λ j mj. kept i j mi mj (λ e g. n e))
+    sent-other i mi n = sum-cong-mem vs _ _ (λ j mj. kept i j mi mj (λ e g. n e))
 
     pub received-other : (j : ℕ) → List·Memᴰ j vs → j ≢ b → received vs (amount (set f (a * 64 + b) x)) j ≡ received vs (amount f) j
     unfolding received
-    received-other j mj n = sum-ext vs _ _ (λ i mi. kept i j mi mj (λ e g. n g))
+    received-other j mj n = sum-cong-mem vs _ _ (λ i mi. kept i j mi mj (λ e g. n g))
 
     pub sent-here : sent vs (amount (set f (a * 64 + b) x)) a + amount f a b ≡ sent vs (amount f) a + x
     unfolding sent

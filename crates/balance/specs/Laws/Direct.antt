@@ -14,13 +14,12 @@ use lib.Dec.{eqb}
 use borrow.Author.Tests.{eq-eqb, ne-eqb}
 use Rattle.postman.specs.Lists.{delta, occurrences}
 use Rattle.postman.specs.Laws.Occurrences.{delta-yes, delta-no}
-use Rattle.postman.specs.Balancing.{sumOver}
 use Rattle.balance.specs.Optimality.{sent, received}
 use Rattle.balance.specs.Step.{amount}
 use Rattle.balance.specs.Invariant.{Loopless}
 use Rattle.balance.specs.Direct.{passed, gained, bypass, bypassFrom, bypassVertex, direct}
 use Rattle.balance.specs.Laws.Fold.{fold-all, fold-each}
-use Rattle.balance.specs.Laws.Sum.{sum-ext, sum-zero}
+use Rattle.postman.specs.Laws.Sum.{sum-none}
 use Rattle.balance.specs.Laws.Augment.{stored, kept, sent-other, received-other, sent-here, received-here}
 
 module _ (vs : List ℕ) (unique : (i : ℕ) → occurrences i vs ≤ 1) (small : (i : ℕ) → List·Memᴰ i vs → i < 64) where
@@ -260,9 +259,6 @@ module _ (vs : List ℕ) (unique : (i : ℕ) → occurrences i vs ≤ 1) (small 
 
   -- ---- all ways
 
-  sum-empty : (us : List ℕ) (h : ℕ → ℕ) → ((i : ℕ) → List·Memᴰ i us → h i ≡ 0) → sumOver us h ≡ 0
-  sum-empty us h e = sum-ext us h (λ i. 0) e ∙ sum-zero us
-
   -- a property of amounts that passing by a vertex keeps
   module _ (Keep : List ℕ → Type 0)
       (keeps : (f : List ℕ) (a b c : ℕ) → List·Memᴰ a vs → List·Memᴰ b vs → List·Memᴰ c vs → length f ≡ 4096 → Loopless vs f → Keep f → Keep (bypass f a b c)) where
@@ -315,7 +311,7 @@ module _ (vs : List ℕ) (unique : (i : ℕ) → occurrences i vs ≤ 1) (small 
         unfolding sent
         from-over f l o k = elim (decLe 1 (amount (bypassFrom vs b f a) a b)) [
           | no h ↦ inl (omega arith)
-          | yes h ↦ inr (sum-empty vs (λ c. amount (bypassFrom vs b f a) b c) (λ c mc. elim (from-gone f l o k c mc) [ inl e ↦ absurd (omega arith) | inr e ↦ e ]))
+          | yes h ↦ inr (sum-none vs (λ c. amount (bypassFrom vs b f a) b c) (λ c mc. elim (from-gone f l o k c mc) [ inl e ↦ absurd (omega arith) | inr e ↦ e ]))
         ]
 
       -- ---- from all
@@ -345,7 +341,7 @@ module _ (vs : List ℕ) (unique : (i : ℕ) → occurrences i vs ≤ 1) (small 
       unfolding received
       vertex-over f l o k = elim (decLe 1 (sent vs (amount (bypassVertex vs f b)) b)) [
         | no h ↦ inr (omega arith)
-        | yes h ↦ inl (sum-empty vs (λ a. amount (bypassVertex vs f b) a b) (λ a ma. elim (vertex-gone f l o k a ma) [ inl e ↦ e | inr e ↦ absurd (omega arith) ]))
+        | yes h ↦ inl (sum-none vs (λ a. amount (bypassVertex vs f b) a b) (λ a ma. elim (vertex-gone f l o k a ma) [ inl e ↦ e | inr e ↦ absurd (omega arith) ]))
       ]
 
     -- ---- by all

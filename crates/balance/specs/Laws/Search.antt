@@ -15,10 +15,10 @@ use Rattle.postman.specs.Lists.{occurrences}
 use Rattle.postman.specs.Balancing.{sumOver}
 use Rattle.postman.specs.Laws.Tests.{cond-ind, and-parts}
 use Rattle.postman.specs.Laws.Membership.{mem-getD}
+use Rattle.postman.specs.Laws.Sum.{sum-change-once, term-le, once}
 use Rattle.balance.specs.Bounds.{AtMost}
 use Rattle.balance.specs.Fold.{fold}
 use Rattle.balance.specs.Search.{Found, beyond, relaxed, relax, openDistance, nearer, nearest, start, settle, round, rounds, search}
-use Rattle.balance.specs.Laws.Sum.{sum-change-once, sum-none, once}
 
 abbrev at : List ℕ → ℕ → ℕ
 at l v = getD l v 0
@@ -495,7 +495,7 @@ module _ (ℓ : ℕ → ℕ → ℕ) (vs : List ℕ) (t : ℕ) (ground : Ground 
     all-settled : search-rounds .0 ≡ length vs → (v : ℕ) → List·Memᴰ v vs → 0 < at (result .rank) v
     all-settled e v m =
         let l = search-rounds .1 .left in
-        let a = sum-none (λ v. 1 - at (result .rank) v) m in
+        let a = term-le (λ v. 1 - at (result .rank) v) m in
         omega arith
 
     -- the goal is settled

@@ -1,5 +1,5 @@
 -- A floor that is at least 0 fits the cast.
-use Rattle.planner.specs.Laws.Answered.{floor-cast}
+use Rattle.integers.specs.Linear.{nonneg-cast}
 use borrow.Author.Needs.{needs}
 use Rattle.drive.proofs.floor.Statement.{statement}
 use Rattle.drive.proofs.floor.Tie as tie
@@ -8,7 +8,7 @@ slice-aggregate-line : tie.Need-slice-aggregate-line
 slice-aggregate-line c = search needs
 
 cast-line : tie.Need-cast-line
-cast-line c = floor-cast _ (c .before .fits .x .sfits) (c .before .pre)
+cast-line c = nonneg-cast _ (c .before .fits .x .sfits) (c .before .pre)
 
 line-requires : tie.Need-line-requires
 line-requires c κs = search needs
