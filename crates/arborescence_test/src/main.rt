@@ -42,7 +42,7 @@ fn sources_below(source: &[u8; 4096], k: usize) -> bool
     ensures { λ r. ⌜ (r ≡ true → (i : ℕ) → i < 4096 → getD (now (source .entry)) i 0 < k) ⌝ }
 {
     for i in 0..4096 {
-        if k <= order::wide(source[i]) {
+        if k <= integers::wide(source[i]) {
             return false;
         }
     }

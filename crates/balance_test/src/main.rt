@@ -217,15 +217,15 @@ fn report(d: &[[u32; 64]; 64], vs: &[u8], tails: &[u8], heads: &[u8], n: usize)
         io::write_all(1, b"refused\n");
         return;
     }
-    let none = balance::empty();
-    let s = balance::add_all(none, d, vs, tails, heads);
+    let none = balance::state::empty();
+    let s = balance::state::add_all(none, d, vs, tails, heads);
     io::print_decimal(1, s.cost);
     io::write_all(1, b" ");
-    let f = balance::direct_amounts(s, d, vs);
+    let f = balance::direct::direct_amounts(s, d, vs);
     io::print_decimal(1, units(&f));
     io::write_all(1, b":");
     let root = vs[0];
-    let u = balance::multipliers(s, d, vs, root);
+    let u = balance::multipliers::multipliers(s, d, vs, root);
     print_multipliers(u, n);
     io::write_all(1, b"\n");
 }

@@ -20,3 +20,10 @@ pub fn magnitude(a: i64) -> u64
     }
     a as u64
 }
+
+// A byte as an index.
+pub fn wide(x: u8) -> usize
+    ensures { λ r. ⌜ r ≡ x ⌝ }
+{
+    x as usize
+}

@@ -17,7 +17,7 @@ use Rattle.balance.specs.Direct.{passed, gained, bypass, bypassFrom, byp
 use Rattle.balance.specs.Invariant.{Metric, Joining, Certified, limit}
 use Rattle.balance.specs.Laws.Search.{searched}
 use Rattle.balance.specs.Laws.Step.{residual-ground, add-certified}
-use Rattle.balance.specs.Laws.Arcs.{zero-at}
+use Rattle.balance.specs.Laws.Fill.{zero-at}
 
 abbrev pub Among : List ℕ → List ℕ → Type 0
 Among vs f = (i j : ℕ) → i < 64 → j < 64 → 0 < amount f i j → List·Memᴰ i vs × List·Memᴰ j vs

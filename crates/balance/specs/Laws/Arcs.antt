@@ -14,14 +14,10 @@ use Rattle.postman.specs.Laws.Amounts.{Within}
 use Rattle.balance.specs.Optimality.{sent, received}
 use Rattle.balance.specs.Step.{State, amount, potential, empty, add, addAll}
 use Rattle.balance.specs.Invariant.{Metric, Joining, limit, Certified, Counted}
+use Rattle.balance.specs.Laws.Fill.{zero-at}
 use Rattle.balance.specs.Laws.Step.{add-certified, add-counted}
 
 -- ---- the empty state
-
-pub zero-at : {A : Type 0} (n k : ℕ) (z : A) → getD (replicate n z) k z ≡ z
-zero-at zero k z = refl
-zero-at (suc n) zero z = refl
-zero-at (suc n) (suc k) z = zero-at n k z
 
 pub empty-certified : (d : ℕ → ℕ → ℕ) (vs : List ℕ) → Certified d vs empty
 unfolding empty

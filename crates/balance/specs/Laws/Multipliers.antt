@@ -15,8 +15,7 @@ use Rattle.balance.specs.Multipliers.{fromRoot, ways, multipliers}
 use Rattle.balance.specs.Invariant.{Metric, limit, Certified}
 use Rattle.balance.specs.Laws.Search.{Ground, Searching, searched, whole-settled}
 use Rattle.balance.specs.Laws.Step.{residual-back, residual-ahead, residual-le, residual-ground}
-use Rattle.balance.specs.Laws.Fill.{fill-other, fill-here}
-use Rattle.balance.specs.Laws.Arcs.{zero-at}
+use Rattle.balance.specs.Laws.Fill.{zero-at, fill-other, fill-here}
 
 module _ (d : ℕ → ℕ → ℕ) (vs : List ℕ) (metric : Metric d vs) (s : State) (certified : Certified d vs s) (room : s .count < limit) (root : ℕ) (mr : List·Memᴰ root vs) where
   abbrev f : ℕ → ℕ → ℕ

@@ -32,7 +32,7 @@ use Rattle.postman.specs.Laws.Arborescence.{arborescences-mem, joins}
 use Rattle.postman.specs.Laws.LagrangianBound.{Feasible, cheapest-at, cheapest-nonneg, zero-feasible}
 use Rattle.postman.specs.Laws.Optimality.{some-arborescence}
 use Rattle.balance.specs.Invariant.{Metric}
-use Rattle.balance.specs.Laws.Arcs.{zero-at}
+use Rattle.balance.specs.Laws.Fill.{zero-at}
 use Rattle.balance.specs.Laws.Plan.{plan-metric}
 use Rattle.arborescence.specs.Picture.{highest}
 use Rattle.arborescence.specs.PairCosts.{AreCosts, IsNetwork, multipliersOf}

@@ -1,9 +1,8 @@
 -- s is what the components from q on pay.
 use Rattle.arborescence.specs.Laws.Picture.{Paid, paid-none, paid-more, payments, payments-all}
-use Rattle.arborescence.specs.Picture.{highest}
 use Rattle.integers.specs.Linear.{z, zz, back64}
 use mir.Facts.{toZ-ofZ}
-use mir.Val.{toZ}
+use mir.Val.{toZ, ofZ}
 use mir.Syntax.{w64}
 use lib.IntN.{ℤ, _+ℤ_}
 use native.Mathlib.Omega.{arith}
@@ -43,7 +42,8 @@ loop-again : tie.Need-loop-again Inv-loop μ-loop
 loop-again c =
     let s = c .before .before .before in
     let v = c .before .before .loop in
-    let g = toZ-ofZ (add-s c) ∙ ap (λ (x : ℤ). x +ℤ toZ w64 (v .s)) (back64 _ (c .pay .ok)) in (
+    let f : toZ w64 (ofZ w64 (c .pay .result)) ≡ c .pay .result = back64 _ (c .pay .ok) in
+    let g = toZ-ofZ (add-s c) ∙ ap (λ (x : ℤ). x +ℤ toZ w64 (v .s)) f in (
       omega arith,
       omega arith,
       subst⁻¹ (Paid (s .args .w .now) (s .args .left) (s .args .e) (v .q - 1)) g
