@@ -1,6 +1,6 @@
 -- One unit more along a path. Each step adds one to what its first vertex sends on, and takes one from what its second does, so that along the path only the ends
 -- are left. The path visits a vertex once, so a step finds the amounts of its pair as they were.
-use mathlib.Core.Path.{_≡_, refl, ap, _∙_, subst⁻¹}
+use mathlib.Core.Path.{_≡_, ap, ap₂, _∙_, subst⁻¹}
 use mathlib.Core.Logic.{_⊎_, inl, inr, _≢_}
 use mathlib.Core.Bool.{Bool, cond}
 use mathlib.Core.List.{List, List·Memᴰ}
@@ -31,6 +31,16 @@ module _ (vs : List ℕ) (unique : (i : ℕ) → occurrences i vs ≤ 1) (small 
     kept i j mi mj n =
         getD-set-other f (a * 64 + b) (i * 64 + j) x 0
         (λ e. let h = small i mi in let g = small j mj in let p = small a ma in let q = small b mb in n (omega arith) (omega arith))
+
+    -- no amount rises where what is stored is no more than what stood there
+    pub lowered : x ≤ amount f a b → (i j : ℕ) → List·Memᴰ i vs → List·Memᴰ j vs → amount (set f (a * 64 + b) x) i j ≤ amount f i j
+    lowered l i j mi mj = elim (ℕ-discrete i a) [
+      | yes p ↦ elim (ℕ-discrete j b) [
+        | yes q ↦ let s = stored in let g = ap₂ (amount (set f (a * 64 + b) x)) p q in let h = ap₂ (amount f) p q in omega arith
+        | no q ↦ let s = kept i j mi mj (λ e g. q g) in omega arith
+      ]
+      | no p ↦ let s = kept i j mi mj (λ e g. p e) in omega arith
+    ]
 
     pub sent-other : (i : ℕ) → List·Memᴰ i vs → i ≢ a → sent vs (amount (set f (a * 64 + b) x)) i ≡ sent vs (amount f) i
     unfolding sent

@@ -20,7 +20,7 @@ use Rattle.balance.specs.Invariant.{Loopless}
 use Rattle.balance.specs.Direct.{passed, gained, bypass, bypassFrom, bypassVertex, direct}
 use Rattle.balance.specs.Laws.Fold.{fold-all, fold-each}
 use Rattle.postman.specs.Laws.Sum.{sum-none}
-use Rattle.balance.specs.Laws.Augment.{stored, kept, sent-other, received-other, sent-here, received-here}
+use Rattle.balance.specs.Laws.Augment.{stored, kept, sent-other, received-other, sent-here, received-here, lowered}
 
 module _ (vs : List ℕ) (unique : (i : ℕ) → occurrences i vs ≤ 1) (small : (i : ℕ) → List·Memᴰ i vs → i < 64) where
   -- what g keeps of f
@@ -140,24 +140,14 @@ module _ (vs : List ℕ) (unique : (i : ℕ) → occurrences i vs ≤ 1) (small 
 
       -- an entry of each
       one : (i j : ℕ) → List·Memᴰ i vs → List·Memᴰ j vs → amount f₁ i j ≤ amount f i j
-      one i j mi mj = elim (ℕ-discrete i a) [
-        | yes p ↦ elim (ℕ-discrete j b) [
-          | yes q ↦ let s = stored vs unique small f long a b ma mb (amount f a b - m) in let g = ap₂ (amount f₁) p q in let h = ap₂ (amount f) p q in omega arith
-          | no q ↦ let s = kept vs unique small f long a b ma mb (amount f a b - m) i j mi mj (λ e g. q g) in omega arith
-        ]
-        | no p ↦ let s = kept vs unique small f long a b ma mb (amount f a b - m) i j mi mj (λ e g. p e) in omega arith
-      ]
+      one = lowered vs unique small f long a b ma mb (amount f a b - m) (omega arith)
 
       two : (i j : ℕ) → List·Memᴰ i vs → List·Memᴰ j vs → amount f₂ i j ≤ amount f i j
       two i j mi mj =
           let o = one i j mi mj in
-          elim (ℕ-discrete i b) [
-            | yes p ↦ elim (ℕ-discrete j c) [
-              | yes q ↦ let s = stored vs unique small f₁ l₁ b c mb mc (amount f b c - m) in let g = ap₂ (amount f₂) p q in let h = ap₂ (amount f) p q in omega arith
-              | no q ↦ let s = kept vs unique small f₁ l₁ b c mb mc (amount f b c - m) i j mi mj (λ e g. q g) in omega arith
-            ]
-            | no p ↦ let s = kept vs unique small f₁ l₁ b c mb mc (amount f b c - m) i j mi mj (λ e g. p e) in omega arith
-          ]
+          let y = y₁ in
+          let s = lowered vs unique small f₁ l₁ b c mb mc (amount f b c - m) (omega arith) i j mi mj in
+          omega arith
 
       three : (i j : ℕ) → List·Memᴰ i vs → List·Memᴰ j vs → ((i ≡ a) → (j ≡ c) → ⊥) → amount f₃ i j ≤ amount f i j
       three i j mi mj n =

@@ -69,6 +69,24 @@ module _ (d : ℕ → ℕ → ℕ) (vs : List ℕ) (metric : Metric d vs) (s : S
     still = let a = residual-le (d t t) (u t) (u t) (f t t) in let b = metric .self t mt in omega arith;
   }
 
+  -- raises that fall along a pair by at most its residual length keep the potentials feasible and tight
+  module _ (y : ℕ → ℕ) (near : (i j : ℕ) → List·Memᴰ i vs → List·Memᴰ j vs → y i ≤ y j + ℓ i j) where
+    pub raised-feasible : Feasible d vs (λ v. u v + y v)
+    raised-feasible i j mi mj =
+        let c = near i j mi mj in
+        let e = residual-le (d i j) (u i) (u j) (f j i) in
+        let g = certified .feasible i j mi mj in
+        omega arith
+
+    pub raised-tight : Tight d vs f (λ v. u v + y v)
+    raised-tight i j mi mj p =
+        let c = near i j mi mj in
+        let c′ = near j i mj mi in
+        let e = residual-le (d i j) (u i) (u j) (f j i) in
+        let e′ = residual-back (d j i) (u j) (u i) (f i j) p in
+        let g = certified .tight i j mi mj p in
+        omega arith
+
   module _ (t h : ℕ) (mt : List·Memᴰ t vs) (mh : List·Memᴰ h vs) where
     abbrev found : Found
     found = search ℓ vs t false h
@@ -151,24 +169,10 @@ module _ (d : ℕ → ℕ → ℕ) (vs : List ℕ) (metric : Metric d vs) (s : S
         ]
 
     raise-feasible : Feasible d vs u′
-    raise-feasible i j mi mj =
-        let a = raise-here i mi in
-        let b = raise-here j mj in
-        let c = y-near i j mi mj in
-        let e = residual-le (d i j) (u i) (u j) (f j i) in
-        let g = certified .feasible i j mi mj in
-        omega arith
+    raise-feasible i j mi mj = let a = raise-here i mi in let b = raise-here j mj in let c = raised-feasible y y-near i j mi mj in omega arith
 
     raise-tight : Tight d vs f u′
-    raise-tight i j mi mj p =
-        let a = raise-here i mi in
-        let b = raise-here j mj in
-        let c = y-near i j mi mj in
-        let c′ = y-near j i mj mi in
-        let e = residual-le (d i j) (u i) (u j) (f j i) in
-        let e′ = residual-back (d j i) (u j) (u i) (f i j) p in
-        let g = certified .tight i j mi mj p in
-        omega arith
+    raise-tight i j mi mj p = let a = raise-here i mi in let b = raise-here j mj in let c = raised-tight y y-near i j mi mj p in omega arith
 
     -- a step of the path takes back what is sent, or has no reduced cost
     raise-step : (z : ℕ) → List·Memᴰ z vs → 0 < rank z → rank z ≤ rank h
