@@ -2,7 +2,7 @@
 use crate::completion::completion;
 use crate::costs::link_cost;
 use crate::costs::reduced_sum;
-use crate::links::picked;
+use crate::links::links_of;
 use crate::pass::passed;
 ghost use mathlib.Core.Path.{_≡_};
 ghost use Prim.Native.Nat.{_-_, _≤_};
@@ -108,8 +108,9 @@ pub(crate) fn turn(
     ensures { λ r. ⌜ Kept (now (d .entry)) (now (vs .entry)) (baseIn (now (amounts .entry)) (now (potentials .entry)) (now (costs .entry)) count) (now (u .entry)) «required_cost» (k - 1) (chosenLinks (now (start .entry)) (now (tails .entry)) (now (heads .entry)) k choice) best r
         × IsExtended (now (d .entry)) (now (vs .entry)) count (now («trail_tails» .exit)) (now («trail_heads» .exit)) (now (amounts .entry)) (now (potentials .entry)) (now (costs .entry)) (now (amounts .exit)) (now (potentials .exit)) (now (costs .exit)) (k - 1) ⌝ }
 {
-    let ts = picked(start, tails, k, choice);
-    let hs = picked(start, heads, k, choice);
+    let l = links_of(start, tails, heads, k, choice);
+    let ts = l.tails;
+    let hs = l.heads;
     consider(
         best,
         amounts,
@@ -150,8 +151,9 @@ pub(crate) fn completed(
     ensures { λ r. ⌜ (r .cost ≡ completionIn (now (d .entry)) (now (vs .entry)) (baseIn (now (amounts .entry)) (now (potentials .entry)) (now (costs .entry)) count) «required_cost» (chosenLinks (now (start .entry)) (now (tails .entry)) (now (heads .entry)) k choice)) × (linksIn (k - 1) (r .tails) (r .heads) ≡ chosenLinks (now (start .entry)) (now (tails .entry)) (now (heads .entry)) k choice)
         × IsExtended (now (d .entry)) (now (vs .entry)) count (now («trail_tails» .exit)) (now («trail_heads» .exit)) (now (amounts .entry)) (now (potentials .entry)) (now (costs .entry)) (now (amounts .exit)) (now (potentials .exit)) (now (costs .exit)) (k - 1) ⌝ }
 {
-    let ts = picked(start, tails, k, choice);
-    let hs = picked(start, heads, k, choice);
+    let l = links_of(start, tails, heads, k, choice);
+    let ts = l.tails;
+    let hs = l.heads;
     let c = completion(
         amounts,
         potentials,

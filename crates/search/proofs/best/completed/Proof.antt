@@ -1,45 +1,30 @@
--- The ends picked are those of the choice's links.
-use mathlib.Core.Path.{_≡_, ap, _∙_}
+-- The links of the choice are completed.
+use mathlib.Core.Path.{ap, _∙_}
 use native.Mathlib.Omega.{arith}
-use lib.ListN.{length}
 use Rattle.search.specs.Costs.{completionIn}
 use Rattle.search.specs.States.{baseIn}
-use Rattle.search.specs.Laws.Links.{links-chosen}
-use Rattle.search.specs.Laws.Completion.{chosen-inside}
 use borrow.Author.Needs.{needs}
 use Rattle.search.proofs.best.completed.Statement.{statement}
 use Rattle.search.proofs.best.completed.Tie as tie
 
-picked-requires : tie.Need-picked-requires
-picked-requires c κs = search needs
-
-picked-requires-2 : tie.Need-picked-requires-2
-picked-requires-2 c κs = search needs
+links-of-requires : tie.Need-links-of-requires
+links-of-requires c κs = search needs
 
 sub-completion : tie.Need-sub-completion
 sub-completion c = search needs
 
 completion-requires : tie.Need-completion-requires
 completion-requires c κs =
-    let s = c .before .before .before .before .before .before .before .before in
+    let s = c .before .before .before .before .before .before .before .before .before in
     let f = s .pre .0 .few in
-    let t = c .before .before .before .before .before .before .picked in
-    let h = c .before .before .before .before .before .picked2 in
-    (omega arith, omega arith, s .pre .1, chosen-inside (s .pre .0) (t .result) (h .result) (t .ensures) (h .ensures), s .pre .2)
+    (omega arith, omega arith, s .pre .1, c .before .before .before .before .before .before .before .links-of .ensures .1 _ (s .pre .0), s .pre .2)
 
 returns : tie.Need-returns
 returns c =
-    let s = c .before .before .before .before .before .before .before .before .before in
-    let f = s .pre .0 .few in
-    let t = c .before .before .before .before .before .before .before .picked in
-    let h = c .before .before .before .before .before .before .picked2 in
-    let lt : length (t .result) ≡ 8 = search needs in
-    let lh : length (h .result) ≡ 8 = search needs in
-    let e = links-chosen (s .args .start .now) (s .args .tails .now) (s .args .heads .now) (s .args .k) (s .args .choice) (t .result) (h .result) (omega arith) (omega arith) (t .ensures) (h .ensures) in
+    let s = c .before .before .before .before .before .before .before .before .before .before in
+    let e = c .before .before .before .before .before .before .before .before .links-of .ensures .0 in
     let b = baseIn (s .args .amounts .now) (s .args .potentials .now) (s .args .costs .now) (s .args .count) in
     (c .completion .ensures .0 ∙ ap (completionIn (s .args .d .now) (s .args .vs .now) b (s .args .required-cost)) e, e, c .completion .ensures .1)
 
 pub completed-spec : {M : Type 1} → statement M
-completed-spec =
-    tie.close
-    (tie.spec picked-requires picked-requires-2 sub-completion completion-requires returns)
+completed-spec = tie.close (tie.spec links-of-requires sub-completion completion-requires returns)
