@@ -3,7 +3,8 @@ use mathlib.Core.Path.{sym, _∙_}
 use native.Mathlib.Omega.{arith}
 use lib.ListN.{length}
 use borrow.Author.Tests.{not-false, ltb-true}
-use Rattle.balance_test.specs.Laws.{of-true, small-numbers, metric, vertices-in}
+use Rattle.postman.specs.Laws.Tests.{of-true}
+use Rattle.balance_test.specs.Laws.{small-numbers, metric, vertices-in}
 use borrow.Author.Needs.{needs}
 use Rattle.balance_test.proofs.admits.Statement.{statement}
 use Rattle.balance_test.proofs.admits.Tie as tie
