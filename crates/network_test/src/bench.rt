@@ -22,7 +22,7 @@ fn tables() -> u64 {
     let mut sum: u64 = 0;
     for k in 0..100u32 {
         let p = crate::cases::drawn(64, 256, k);
-        let t = shortest::table(p);
+        let t = shortest::distance::table(p);
         sum = sum % 1000000 + small(t[3][5]);
     }
     sum
@@ -32,8 +32,8 @@ fn networks() -> u64 {
     let mut sum: u64 = 0;
     for k in 0..100u32 {
         let p = crate::cases::drawn(64, 256, k);
-        let t = shortest::table(p);
-        let n = network::network_of(p, &t);
+        let t = shortest::distance::table(p);
+        let n = network::network::network_of(p, &t);
         sum = sum % 1000000 + n.required_cost % 1000;
     }
     sum
@@ -43,7 +43,7 @@ fn rings() -> u64 {
     let mut sum: u64 = 0;
     for k in 0..100u32 {
         let p = crate::cases::ring(k % 7 + 1);
-        let t = shortest::table(p);
+        let t = shortest::distance::table(p);
         sum = sum % 1000000 + small(t[3][5]);
     }
     sum
@@ -53,8 +53,8 @@ fn loops() -> u64 {
     let mut sum: u64 = 0;
     for k in 0..100u32 {
         let p = crate::cases::case_f((63 + k % 2) as u8);
-        let t = shortest::table(p);
-        let n = network::network_of(p, &t);
+        let t = shortest::distance::table(p);
+        let n = network::network::network_of(p, &t);
         sum = sum % 1000000 + n.required_cost % 1000;
     }
     sum

@@ -6,7 +6,7 @@ use crate::lay::lay;
 use crate::prepare::base_state;
 use crate::prepare::multipliers_of;
 use balance::Balance;
-use network::Network;
+use network::network::Network;
 use plan::Plan;
 ghost use mathlib.Core.Path.{_≡_};
 ghost use mathlib.Core.Option.{none};

@@ -14,7 +14,7 @@ use Rattle.postman.specs.Balancing.{heads, tails, imbalance}
 use Rattle.postman.specs.Laws.Tests.{cond-ind}
 use Rattle.plan.specs.declared.Plan.{Plan as PlanRecord}
 use Rattle.plan.specs.Records.{planValue, recordAt}
-use Rattle.shortest.specs.Laws.Records.{arcs-more, arcs-all}
+use Rattle.plan.specs.Laws.Records.{arcs-more, arcs-all}
 use Rattle.network.specs.Laws.Selection.{select-append}
 use Rattle.network.specs.RequiredSum.{requiredSum, endOf}
 
