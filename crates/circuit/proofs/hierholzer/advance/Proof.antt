@@ -1,8 +1,5 @@
 -- The flags find what the definition's search finds; each of the two ends is then one step of the definition.
-use mathlib.Core.Path.{ap, _∙_}
 use native.Mathlib.Omega.{arith}
-use lib.ListN.{getD}
-use Rattle.circuit.specs.Held.{firstUnused}
 use Rattle.circuit.specs.Laws.Held.{top-below, has-room, walked-at, placed-at}
 use borrow.Author.Needs.{needs}
 use Rattle.circuit.proofs.hierholzer.advance.Statement.{statement}
@@ -23,10 +20,8 @@ wide-requires c κs = search needs
 shared-slice-read-v : tie.Need-shared-slice-read-v
 shared-slice-read-v c =
     let s = c .before .before .before .before .before .before in
-    let a = s .args in
-    let h = top-below (a .tails .now) (a .heads .now) (a .order .now) (a .used .now) (a .depth) (a .start) (s .pre .2) (s .pre .3) in
     let e = c .before .wide .ensures in
-    omega arith
+    omega (arith, top-below (s .args .heads .now) (s .pre .2) (s .pre .3))
 
 next-leg-requires : tie.Need-next-leg-requires
 next-leg-requires c κs = search needs
@@ -40,12 +35,8 @@ mul-order c = search needs
 slice-write-order : tie.Need-slice-write-order
 slice-write-order c =
     let s = c .before .before .before .before .before .before .before .before .before in
-    let a = s .args in
-    let n = c .before .next-leg in
-    let f = n .ensures ∙ ap (λ z. firstUnused (a .tails .now) (a .used .now) (getD (a .heads .now) z 0)) (c .before .before .before .before .wide .ensures) in
-    let r = has-room (a .tails .now) (a .heads .now) (a .order .now) (a .used .now) (a .depth) (a .start) (n .result) (s .pre .2) (s .pre .3) f (c .if1 .taken) in
     let w = s .pre .3 .within in
-    omega arith
+    omega (arith, has-room (s .args .heads .now) (s .pre .2) (s .pre .3) (c .before .before .before .before .wide .ensures) (c .before .next-leg .ensures) (c .if1 .taken))
 
 element-write-used : tie.Need-element-write-used
 element-write-used c = search needs
@@ -59,10 +50,7 @@ same-length c = search needs
 returns : tie.Need-returns
 returns c =
     let s = c .before .before .before .before .before .before .before .before .before in
-    let a = s .args in
-    let n = c .before .next-leg in
-    let f = n .ensures ∙ ap (λ z. firstUnused (a .tails .now) (a .used .now) (getD (a .heads .now) z 0)) (c .before .before .before .before .wide .ensures) in
-    walked-at (a .tails .now) (a .heads .now) (a .order .now) (a .used .now) (a .depth) (a .start) (n .result) (s .pre .2) (s .pre .3) f (c .if1 .taken)
+    walked-at (s .args .heads .now) (s .pre .2) (s .pre .3) (c .before .before .before .before .wide .ensures) (c .before .next-leg .ensures) (c .if1 .taken)
 
 sub-at : tie.Need-sub-at
 sub-at c = search needs
@@ -79,10 +67,7 @@ same-length-2 c = search needs
 returns-2 : tie.Need-returns-2
 returns-2 c =
     let s = c .before .before .before .before .before .before .before .before .before in
-    let a = s .args in
-    let n = c .before .next-leg in
-    let f = n .ensures ∙ ap (λ z. firstUnused (a .tails .now) (a .used .now) (getD (a .heads .now) z 0)) (c .before .before .before .before .wide .ensures) in
-    placed-at (a .tails .now) (a .heads .now) (a .order .now) (a .used .now) (a .depth) (a .start) (n .result) (s .pre .2) (s .pre .3) f (c .if1 .left)
+    placed-at (s .args .heads .now) (s .pre .2) (s .pre .3) (c .before .before .before .before .wide .ensures) (c .before .next-leg .ensures) (c .if1 .left)
 
 pub advance-spec : {M : Type 1} → statement M
 advance-spec =

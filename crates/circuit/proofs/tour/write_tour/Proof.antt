@@ -7,9 +7,8 @@ use lib.Seq.{length-take-le}
 use Rattle.plan.specs.Records.{planValue}
 use Rattle.circuit.specs.Filled.{linksOf}
 use Rattle.circuit.specs.Tour.{written}
-use Rattle.circuit.specs.Laws.Legs.{legs-length}
 use Rattle.circuit.specs.Laws.Laid.{links-length, prefix-length, prefix-le}
-use Rattle.circuit.specs.Laws.Completion.{completion, few-legs, ready}
+use Rattle.circuit.specs.Laws.Completion.{completion, few-legs, heads-number, tails-number, laid-ready, laid-few}
 use borrow.Author.Needs.{needs}
 use Rattle.circuit.proofs.tour.write_tour.Statement.{statement}
 use Rattle.circuit.proofs.tour.write_tour.Tie as tie
@@ -39,61 +38,36 @@ slice-aggregate-write-circuit-2 c = prefix-length _ _ _ (c .before .before .lay 
 array-share-prefix-heads : tie.Need-array-share-prefix-heads
 array-share-prefix-heads c =
     let s = c .before .before .before .before .before .before .before .before .before in
-    let a = s .args in
-    let p = planValue (a .plan) in
-    let t = linksOf (a .link-tails .now) (a .link-heads .now) in
-    let h = s .pre .1 .0 .1 in
     let l = c .before .before .lay .ensures in
-    prefix-le _ _ _ (l .heads-are) (l .number ∙ sym (legs-length p (s .pre .0 .0) t (a .amounts .now) h))
+    prefix-le _ _ _ (l .heads-are) (heads-number _ (s .pre .0 .0) _ _ (s .pre .1 .0 .1) l)
 
 slice-aggregate-write-circuit-3 : tie.Need-slice-aggregate-write-circuit-3
 slice-aggregate-write-circuit-3 c =
     let s = c .before .before .before .before .before .before .before .before .before .before in
-    let a = s .args in
-    let p = planValue (a .plan) in
-    let t = linksOf (a .link-tails .now) (a .link-heads .now) in
-    let h = s .pre .1 .0 .1 in
     let l = c .before .before .before .lay .ensures in
-    prefix-length _ _ _ (l .heads-are) (l .number ∙ sym (legs-length p (s .pre .0 .0) t (a .amounts .now) h))
+    prefix-length _ _ _ (l .heads-are) (heads-number _ (s .pre .0 .0) _ _ (s .pre .1 .0 .1) l)
 
 array-borrow-prefix-order : tie.Need-array-borrow-prefix-order
 array-borrow-prefix-order c =
     let s = c .before .before .before .before .before .before .before .before .before .before in
-    let a = s .args in
-    let p = planValue (a .plan) in
-    let t = linksOf (a .link-tails .now) (a .link-heads .now) in
-    let h = s .pre .1 .0 .1 in
-    let l = c .before .before .before .lay .ensures in
-    let r = ready p (s .pre .0 .0) t (a .amounts .now) h _ _ _ (l .numbers-are) (l .tails-are) (l .heads-are) .few in
-    let n = prefix-length _ _ _ (l .tails-are) (l .number) in
-    omega arith
+    omega (arith, laid-few _ (s .pre .0 .0) _ _ (s .pre .1 .0 .1) (c .before .before .before .lay .ensures))
 
 slice-aggregate-write-circuit-4 : tie.Need-slice-aggregate-write-circuit-4
 slice-aggregate-write-circuit-4 c =
     let s = c .before .before .before .before .before .before .before .before .before .before .before in
-    let a = s .args in
-    let p = planValue (a .plan) in
-    let t = linksOf (a .link-tails .now) (a .link-heads .now) in
-    let h = s .pre .1 .0 .1 in
-    let l = c .before .before .before .before .lay .ensures in
-    let r = ready p (s .pre .0 .0) t (a .amounts .now) h _ _ _ (l .numbers-are) (l .tails-are) (l .heads-are) .few in
-    let n = prefix-length _ _ _ (l .tails-are) (l .number) in
+    let f = laid-few _ (s .pre .0 .0) _ _ (s .pre .1 .0 .1) (c .before .before .before .before .lay .ensures) in
     let m = length-replicate {A = ℕ} 526 0 in
     sym (length-take-le _ (replicate {A = ℕ} 526 0) (omega arith))
 
 write-circuit-requires : tie.Need-write-circuit-requires
 write-circuit-requires c κs =
     let s = c .before .before .before .before .before .before .before .before .before .before .before .before in
-    let a = s .args in
-    let p = planValue (a .plan) in
-    let t = linksOf (a .link-tails .now) (a .link-heads .now) in
-    let h = s .pre .1 .0 .1 in
     let l = c .before .before .before .before .before .lay .ensures in
-    let r = ready p (s .pre .0 .0) t (a .amounts .now) h _ _ _ (l .numbers-are) (l .tails-are) (l .heads-are) in
-    let n = prefix-length _ _ _ (l .tails-are) (l .number) in
+    let r = laid-ready _ (s .pre .0 .0) _ _ (s .pre .1 .0 .1) l in
+    let n = tails-number _ (s .pre .0 .0) _ _ (s .pre .1 .0 .1) l in
     let m = length-replicate {A = ℕ} 526 0 in
     let f = r .few in
-    let z = completion p (s .pre .0 .0) t (a .amounts .now) h .short in
+    let z = completion _ (s .pre .0 .0) _ _ (s .pre .1 .0 .1) .short in
     let w = ap length (r .written) in
     let q = s .pre .1 .1 in
     (s .pre .0, ((f, length-take-le _ (replicate {A = ℕ} 526 0) (omega arith) ∙ n, r .eulerian), (r .have-paths, omega arith)))
@@ -104,14 +78,9 @@ same-length c = search needs
 returns : tie.Need-returns
 returns c =
     let s = c .before .before .before .before .before .before .before .before .before .before .before .before .before .before .before .before in
-    let a = s .args in
-    let p = planValue (a .plan) in
-    let t = linksOf (a .link-tails .now) (a .link-heads .now) in
-    let h = s .pre .1 .0 .1 in
-    let l = c .before .before .before .before .before .before .before .before .before .lay .ensures in
-    let r = ready p (s .pre .0 .0) t (a .amounts .now) h _ _ _ (l .numbers-are) (l .tails-are) (l .heads-are) in
+    let r = laid-ready _ (s .pre .0 .0) _ _ (s .pre .1 .0 .1) (c .before .before .before .before .before .before .before .before .before .lay .ensures) in
     let e = c .before .before .before .write-circuit .ensures in
-    (e .0 ∙ ap (λ z. written z (a .places .now)) (r .written), e .1 ∙ ap length (r .written))
+    (e .0 ∙ ap (λ z. written z (s .args .places .now)) (r .written), e .1 ∙ ap length (r .written))
 
 pub write-tour-spec : {M : Type 1} → statement M
 write-tour-spec =

@@ -15,20 +15,26 @@ use borrow.Author.Needs.{needs}
 use Rattle.shortest.proofs.path.path.Statement.{statement}
 use Rattle.shortest.proofs.path.path.Tie as tie
 
--- the arc that the code reads is the next arc of the plan
-module _ (r : PlanRecord) (ok : WellFormed (planValue r)) (i j at : ℕ) (old places : List ℕ) (v to k : ℕ) (h : Writing (planValue r) i j old at places v to)
-    (n : v ≡ j → ⊥) (e : k ≡ nextArc (planValue r) v j) where
-  number : k < r .m
-  number =
-      let b = next-begins (planValue r) ok v j n (h .finite) .number in
-      let l = plan-length r in
-      omega arith
+-- the arc that the code reads is the next arc of the plan, and there is a place for it
+module _ (r : PlanRecord) (ok : WellFormed (planValue r)) {i j at : ℕ} {old places : List ℕ} {v to : ℕ} (h : Writing (planValue r) i j old at places v to) (n : v ≡ j → ⊥) where
+  room : at + length (shortestPath (planValue r) i j) ≤ length old → (to < at + length (shortestPath (planValue r) i j)) × (to < length places)
+  room l = let a = writing-room (planValue r) ok i j old at places v to h n in let b = h .size in (a, omega arith)
 
-  written : at + length (shortestPath (planValue r) i j) ≤ length old → Writing (planValue r) i j old at (set places to k) (recordAt (r .arcs) k .head) (to + 1)
-  written room =
-      let a : arcAt (planValue r .arcs) (nextArc (planValue r) v j) ≡ recordAt (r .arcs) k = ap (arcAt (planValue r .arcs)) (sym e) ∙ plan-arc r k number in
-      subst (λ x. Writing (planValue r) i j old at (set places to x) (recordAt (r .arcs) k .head) (to + 1)) (sym e)
-      (subst (λ (x : Arc). Writing (planValue r) i j old at (set places to (nextArc (planValue r) v j)) (x .head) (to + 1)) a (writing-more (planValue r) ok i j old at places v to h n room))
+  module _ {k : ℕ} (e : k ≡ nextArc (planValue r) v j) where
+    number : k < r .m
+    number =
+        let b = next-begins (planValue r) ok v j n (h .finite) .number in
+        let l = plan-length r in
+        omega arith
+
+    small : k < 256
+    small = let a = number in let b = record-arcs r ok in omega arith
+
+    written : at + length (shortestPath (planValue r) i j) ≤ length old → Writing (planValue r) i j old at (set places to k) (recordAt (r .arcs) k .head) (to + 1)
+    written l =
+        let a : arcAt (planValue r .arcs) (nextArc (planValue r) v j) ≡ recordAt (r .arcs) k = ap (arcAt (planValue r .arcs)) (sym e) ∙ plan-arc r k number in
+        subst (λ x. Writing (planValue r) i j old at (set places to x) (recordAt (r .arcs) k .head) (to + 1)) (sym e)
+        (subst (λ (x : Arc). Writing (planValue r) i j old at (set places to (nextArc (planValue r) v j)) (x .head) (to + 1)) a (writing-more (planValue r) ok i j old at places v to h n l))
 
 abbrev Inv-loop : tie.InvT-loop
 Inv-loop table i j places₀ at plan v₀ to₀ places v to = Writing (planValue plan) i j places₀ at places v to
@@ -52,43 +58,31 @@ cast-places : tie.Need-cast-places Inv-loop μ-loop
 cast-places c =
     let v = c .before .before in
     let s = v .before .before in
-    let k = number (s .args .t1) (s .pre .0 .0) (s .args .i) (s .args .j) (s .args .at) _ (v .loop .places) (v .loop .v) (v .loop .to) _ (v .loop .inv) (c .before .loop-test .taken) (c .next-arc .ensures) in
-    let m = record-arcs (s .args .t1) (s .pre .0 .0) in
-    omega arith
+    omega (arith, small (s .args .t1) (s .pre .0 .0) (v .loop .inv) (c .before .loop-test .taken) (c .next-arc .ensures))
 
 mul-places : tie.Need-mul-places Inv-loop μ-loop
 mul-places c =
     let v = c .before .before in
     let s = v .before .before in
-    let r = writing-room (planValue (s .args .t1)) (s .pre .0 .0) (s .args .i) (s .args .j) _ (s .args .at) (v .loop .places) (v .loop .v) (v .loop .to) (v .loop .inv) (c .before .loop-test .taken) in
-    let a = v .loop .inv .size in
-    let b = s .pre .1 .1 in
-    omega arith
+    omega (arith, room (s .args .t1) (s .pre .0 .0) (v .loop .inv) (c .before .loop-test .taken) (s .pre .1 .1))
 
 slice-write-places : tie.Need-slice-write-places Inv-loop μ-loop
 slice-write-places c =
     let v = c .before .before in
     let s = v .before .before in
-    let r = writing-room (planValue (s .args .t1)) (s .pre .0 .0) (s .args .i) (s .args .j) _ (s .args .at) (v .loop .places) (v .loop .v) (v .loop .to) (v .loop .inv) (c .before .loop-test .taken) in
-    let a = v .loop .inv .size in
-    let b = s .pre .1 .1 in
-    omega arith
+    omega (arith, room (s .args .t1) (s .pre .0 .0) (v .loop .inv) (c .before .loop-test .taken) (s .pre .1 .1))
 
 mul-a : tie.Need-mul-a Inv-loop μ-loop
 mul-a c =
     let v = c .before .before in
     let s = v .before .before in
-    let k = number (s .args .t1) (s .pre .0 .0) (s .args .i) (s .args .j) (s .args .at) _ (v .loop .places) (v .loop .v) (v .loop .to) _ (v .loop .inv) (c .before .loop-test .taken) (c .next-arc .ensures) in
-    let m = record-arcs (s .args .t1) (s .pre .0 .0) in
-    omega arith
+    omega (arith, small (s .args .t1) (s .pre .0 .0) (v .loop .inv) (c .before .loop-test .taken) (c .next-arc .ensures))
 
 element-copy-out-a : tie.Need-element-copy-out-a Inv-loop μ-loop
 element-copy-out-a c =
     let v = c .before .before in
     let s = v .before .before in
-    let k = number (s .args .t1) (s .pre .0 .0) (s .args .i) (s .args .j) (s .args .at) _ (v .loop .places) (v .loop .v) (v .loop .to) _ (v .loop .inv) (c .before .loop-test .taken) (c .next-arc .ensures) in
-    let m = record-arcs (s .args .t1) (s .pre .0 .0) in
-    omega arith
+    omega (arith, small (s .args .t1) (s .pre .0 .0) (v .loop .inv) (c .before .loop-test .taken) (c .next-arc .ensures))
 
 cast-v : tie.Need-cast-v Inv-loop μ-loop
 cast-v c = search needs
@@ -97,26 +91,19 @@ add-to : tie.Need-add-to Inv-loop μ-loop
 add-to c =
     let v = c .before .before .before .before in
     let s = v .before .before in
-    let r = writing-room (planValue (s .args .t1)) (s .pre .0 .0) (s .args .i) (s .args .j) _ (s .args .at) (v .loop .places) (v .loop .v) (v .loop .to) (v .loop .inv) (c .before .before .before .loop-test .taken) in
-    let a = v .loop .inv .size in
-    let b = s .pre .1 .1 in
-    omega arith
+    omega (arith, room (s .args .t1) (s .pre .0 .0) (v .loop .inv) (c .before .before .before .loop-test .taken) (s .pre .1 .1))
 
 loop-less : tie.Need-loop-less Inv-loop μ-loop
 loop-less c =
     let v = c .before .before .before .before in
     let s = v .before .before in
-    let r = writing-room (planValue (s .args .t1)) (s .pre .0 .0) (s .args .i) (s .args .j) _ (s .args .at) (v .loop .places) (v .loop .v) (v .loop .to) (v .loop .inv) (c .before .before .before .loop-test .taken) in
-    let a = v .loop .inv .size in
-    let b = s .pre .1 .1 in
-    omega arith
+    omega (arith, room (s .args .t1) (s .pre .0 .0) (v .loop .inv) (c .before .before .before .loop-test .taken) (s .pre .1 .1))
 
 loop-again : tie.Need-loop-again Inv-loop μ-loop
 loop-again c =
     let v = c .before .before .before .before in
     let s = v .before .before in
-    written (s .args .t1) (s .pre .0 .0) (s .args .i) (s .args .j) (s .args .at) _ (v .loop .places) (v .loop .v) (v .loop .to) _ (v .loop .inv)
-    (c .before .before .before .loop-test .taken) (c .before .before .next-arc .ensures) (s .pre .1 .1)
+    written (s .args .t1) (s .pre .0 .0) (v .loop .inv) (c .before .before .before .loop-test .taken) (c .before .before .next-arc .ensures) (s .pre .1 .1)
 
 same-length : tie.Need-same-length Inv-loop μ-loop
 same-length c = c .before .loop .inv .size
