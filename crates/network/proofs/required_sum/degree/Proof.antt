@@ -1,31 +1,27 @@
 -- The invariant: the count is that of the arcs before the kth, one at most for each.
-use mathlib.Core.Path.{_≡_, refl, sym, ap, _∙_}
+use mathlib.Core.Bool.{Bool}
 use Prim.Native.Nat.{ℕ, _-_, _≤_}
 use native.Mathlib.Omega.{arith}
-use Rattle.plan.specs.Records.{planValue, recordAt}
-use Rattle.plan.specs.Laws.Records.{record-arcs}
-use Rattle.network.specs.RequiredSum.{requiredSum}
-use mathlib.Core.Bool.{Bool, cond}
-use Rattle.postman.specs.Lists.{delta}
 use lib.Dec.{eqb}
-use Rattle.postman.specs.Plan.{Arc, isRequiredArc}
+use Rattle.postman.specs.Lists.{delta}
+use Rattle.postman.specs.Plan.{Arc, IsArc}
 use Rattle.postman.specs.Laws.Tests.{cond-ind}
+use Rattle.plan.specs.Laws.Records.{record-arcs}
 use Rattle.network.specs.RequiredSum.{endOf}
-use Rattle.network.specs.Laws.RequiredSum.{sum-none, sum-more, sum-ends}
+use Rattle.network.specs.Laws.RequiredSum.{Summed, summed-none, term-le, summed-more, sum-ends}
 use borrow.Author.Needs.{needs}
 use Rattle.network.proofs.required_sum.degree.Statement.{statement}
 use Rattle.network.proofs.required_sum.degree.Tie as tie
 
-at-most-one : (b : Bool) (v e : ℕ) → cond b (delta v e) 0 ≤ 1
-unfolding delta
-at-most-one b v e =
-    cond-ind b (delta v e) 0 (λ x. x ≤ 1) (λ t. cond-ind (eqb v e) 1 0 (λ x. x ≤ 1) (λ u. omega arith) (λ u. omega arith)) (λ t. omega arith)
-
 abbrev term : Bool → ℕ → Arc → ℕ
 term heads v a = delta v (endOf heads a)
 
+at-most-one : (heads : Bool) (v n : ℕ) (a : Arc) → IsArc n a → term heads v a ≤ 1
+unfolding delta
+at-most-one heads v n a h = cond-ind (eqb v (endOf heads a)) 1 0 (λ x. x ≤ 1) (λ u. omega arith) (λ u. omega arith)
+
 abbrev Inv-loop : tie.InvT-loop
-Inv-loop heads v plan count₀ m k₀ count k = (m ≡ plan .m) × (k ≤ m) × (count ≤ k) × (count ≡ requiredSum (λ a. delta v (endOf heads a)) (planValue plan) k)
+Inv-loop heads v plan count₀ m k₀ count k = Summed (λ a. delta v (endOf heads a)) 1 plan m k count
 
 abbrev μ-loop : tie.MeasureT-loop
 μ-loop heads v plan count₀ m k₀ count k = m - k
@@ -34,7 +30,7 @@ cast-m : tie.Need-cast-m Inv-loop μ-loop
 cast-m c = search needs
 
 loop-holds : tie.Need-loop-holds Inv-loop μ-loop
-loop-holds c = (refl, omega arith, omega arith, sym (sum-none (term (c .args .heads) (c .args .v)) (planValue (c .args .t1))))
+loop-holds c = summed-none (term (c .args .heads) (c .args .v)) 1 (c .args .t1)
 
 mul-ends-at : tie.Need-mul-ends-at Inv-loop μ-loop
 mul-ends-at c = search needs
@@ -50,8 +46,7 @@ add-count c =
     let v = c .before .before .before in
     let s = v .before in
     let m = record-arcs (s .args .t1) (s .pre) in
-    let e = c .ends-at .ensures in
-    let o = at-most-one (isRequiredArc (recordAt (s .args .t1 .arcs) (v .loop .k))) (s .args .v) (endOf (s .args .heads) (recordAt (s .args .t1 .arcs) (v .loop .k))) in
+    let o = term-le (s .args .t1) (s .pre) (at-most-one (s .args .heads) (s .args .v) _) (v .loop .inv) (omega arith) (c .ends-at .ensures) in
     omega arith
 
 add-k : tie.Need-add-k Inv-loop μ-loop
@@ -64,20 +59,14 @@ loop-again : tie.Need-loop-again Inv-loop μ-loop
 loop-again c =
     let v = c .before .before .before in
     let s = v .before in
-    let e = c .ends-at .ensures in
-    let o = at-most-one (isRequiredArc (recordAt (s .args .t1 .arcs) (v .loop .k))) (s .args .v) (endOf (s .args .heads) (recordAt (s .args .t1 .arcs) (v .loop .k))) in
-    let a = sum-more (term (s .args .heads) (s .args .v)) (s .args .t1) (s .pre) (v .loop .k) (omega arith) in
-    (v .loop .inv .0, omega arith, omega arith, omega arith)
+    summed-more (s .args .t1) (s .pre) (at-most-one (s .args .heads) (s .args .v) _) (v .loop .inv) (omega arith) (c .ends-at .ensures)
 
 returns : tie.Need-returns Inv-loop μ-loop
 returns c =
     let v = c .before in
     let s = v .before in
     let m = record-arcs (s .args .t1) (s .pre) in
-    let e : v .loop .k ≡ s .args .t1 .m = omega arith in (
-      v .loop .inv .3 ∙ ap (requiredSum (term (s .args .heads) (s .args .v)) (planValue (s .args .t1))) e ∙ sum-ends (s .args .t1) (s .pre) (endOf (s .args .heads)) (s .args .v),
-      omega arith,
-    )
+    (sum-ends (s .args .t1) (s .pre) (omega arith) (endOf (s .args .heads)) (s .args .v) (v .loop .inv), omega arith)
 
 pub degree-spec : {M : Type 1} → statement M
 degree-spec =
