@@ -1,23 +1,20 @@
 -- The loop stays below its end.
 use Prim.Native.Nat.{_≤_, _-_}
 use borrow.Author.Needs.{needs}
-use Rattle.network_test.proofs.bench.plans.Statement.{statement}
-use Rattle.network_test.proofs.bench.plans.Tie as tie
+use Rattle.network_test.proofs.bench.run.Statement.{statement}
+use Rattle.network_test.proofs.bench.run.Tie as tie
 
 abbrev Inv-loop : tie.InvT-loop
-Inv-loop sum₀ k₀ sum k = k ≤ 100
+Inv-loop letter sum₀ k₀ sum k = k ≤ 100
 
 abbrev μ-loop : tie.MeasureT-loop
-μ-loop sum₀ k₀ sum k = 100 - k
+μ-loop letter sum₀ k₀ sum k = 100 - k
 
 loop-holds : tie.Need-loop-holds Inv-loop μ-loop
 loop-holds c = search needs
 
-drawn-requires : tie.Need-drawn-requires Inv-loop μ-loop
-drawn-requires c κs = search needs
-
-cast-sum : tie.Need-cast-sum Inv-loop μ-loop
-cast-sum c = search needs
+once-requires : tie.Need-once-requires Inv-loop μ-loop
+once-requires c κs = search needs
 
 add-sum : tie.Need-add-sum Inv-loop μ-loop
 add-sum c = search needs
@@ -34,17 +31,7 @@ loop-again c = search needs
 returns : tie.Need-returns Inv-loop μ-loop
 returns c = search needs
 
-pub plans-spec : {M : Type 1} → statement M
-plans-spec =
+pub run-spec : {M : Type 1} → statement M
+run-spec =
     tie.close
-    (tie.spec
-    Inv-loop
-    μ-loop
-    loop-holds
-    drawn-requires
-    cast-sum
-    add-sum
-    add-k
-    loop-less
-    loop-again
-    returns)
+    (tie.spec Inv-loop μ-loop loop-holds once-requires add-sum add-k loop-less loop-again returns)
