@@ -1,6 +1,6 @@
 // The plans.
 use plan::Plan;
-ghost use Prim.Native.Nat.{_≤_};
+ghost use Prim.Native.Nat.{_≤_, _<_};
 ghost use lib.ListN.{length};
 ghost use Rattle.postman.specs.Plan.{WellFormed};
 ghost use Rattle.plan.specs.Records.{planValue};
@@ -78,6 +78,13 @@ pub fn ring(cost: u32) -> Plan
     p
 }
 
+// The next number of a linear congruence.
+fn next(s: u32) -> u32
+    ensures { λ r. ⌜ r < 65536 ⌝ }
+{
+    (s % 65536 * 25173 + 13849) % 65536
+}
+
 // Arcs by a linear congruence.
 pub fn drawn(n: u8, m: u16, seed: u32) -> Plan
     ensures { λ r. ⌜ WellFormed (planValue r) ⌝ }
@@ -85,15 +92,13 @@ pub fn drawn(n: u8, m: u16, seed: u32) -> Plan
     let mut p = crate::plans::plan_of(n, 0, 0, 1, 1);
     let mut s: u32 = seed % 65536;
     for k in 1..m {
-        s = (s % 65536 * 25173 + 13849) % 65536;
-        let t = s / 256;
-        s = (s % 65536 * 25173 + 13849) % 65536;
-        let h = s / 256;
-        s = (s % 65536 * 25173 + 13849) % 65536;
+        let t = next(s);
+        let h = next(t);
+        s = next(h);
         let q = crate::plans::with_arc(
             p,
-            t as u8,
-            h as u8,
+            (t / 256) as u8,
+            (h / 256) as u8,
             (s / 512 % 3) as u8,
             (s / 16 % 20 + 1) as u16,
         );
