@@ -28,5 +28,5 @@ pub(crate) fn lay(
 {
     let full = balance::state::add_all(base, table, vs, tails, heads);
     let amounts = balance::direct::direct_amounts(full, table, vs);
-    circuit::write_tour(plan, table, tails, heads, &amounts, sheet)
+    circuit::tour::write_tour(plan, table, tails, heads, &amounts, sheet)
 }

@@ -20,7 +20,7 @@ pub(crate) fn base_state(plan: Plan, table: &[[u32; 64]; 64], vs: &[u8]) -> Bala
     let mut numbers = [0u16; 256];
     let mut tails = [0u8; 526];
     let mut heads = [0u8; 526];
-    let c = circuit::gather(plan, &mut numbers, &mut tails, &mut heads);
+    let c = circuit::legs::gather(plan, &mut numbers, &mut tails, &mut heads);
     let none = balance::state::empty();
     balance::state::add_all(none, table, vs, &tails[..c], &heads[..c])
 }

@@ -5,7 +5,7 @@ use crate::lay::lay;
 use crate::prepare::base_state;
 use crate::prepare::multipliers_of;
 use balance::state::Balance;
-use network::Network;
+use network::network::Network;
 use plan::Plan;
 use refusal::Verdict;
 ghost use mathlib.Core.Path.{_≡_};

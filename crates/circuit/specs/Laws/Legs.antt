@@ -40,31 +40,26 @@ module _ (p : Plan) (ok : WellFormed p) (t : List Link) (amounts : List ℕ) (h 
 
   -- ---- balanced
 
-  legs-tails : (v : ℕ) → occurrences v (legTails p t amounts) ≡ occurrences v (tails p t) + occurrences v (map (λ l. l .tail) (units amounts))
-  unfolding legTails legs tails
-  legs-tails v =
-      let rs = requiredArcs p in
+  legs-ends : (v : ℕ) (f : Link → ℕ)
+      → occurrences v (map f (legs p t amounts)) ≡ occurrences v (map (λ a. f (arcLeg a)) (requiredArcs p) ++ map f t) + occurrences v (map f (units amounts))
+  unfolding legs
+  legs-ends v f =
+      let rs = map (λ a. f (arcLeg a)) (requiredArcs p) in
       let us = units amounts in
-      let f : Link → ℕ = λ l. l .tail in
-      let a : occurrences v (tails p t) ≡ occurrences v (map (λ b. b .tail) rs) + occurrences v (map f t) = occurrences-append v (map (λ b. b .tail) rs) (map f t) in
-      let b : occurrences v (legTails p t amounts) ≡ occurrences v (map (λ b. b .tail) rs ++ (map f t ++ map f us))
-      = ap (occurrences v) (map-append f (map arcLeg rs) (t ++ us) ∙ ap₂ _++_ (map-map arcLeg f rs) (map-append f t us)) in
-      let c = occurrences-append v (map (λ b. b .tail) rs) (map f t ++ map f us) in
+      let a = occurrences-append v rs (map f t) in
+      let b : occurrences v (map f (legs p t amounts)) ≡ occurrences v (rs ++ (map f t ++ map f us))
+      = ap (occurrences v) (map-append f (map arcLeg (requiredArcs p)) (t ++ us) ∙ ap₂ _++_ (map-map arcLeg f (requiredArcs p)) (map-append f t us)) in
+      let c = occurrences-append v rs (map f t ++ map f us) in
       let d = occurrences-append v (map f t) (map f us) in
       omega arith
 
+  legs-tails : (v : ℕ) → occurrences v (legTails p t amounts) ≡ occurrences v (tails p t) + occurrences v (map (λ l. l .tail) (units amounts))
+  unfolding legTails tails
+  legs-tails v = legs-ends v (λ l. l .tail)
+
   legs-heads : (v : ℕ) → occurrences v (legHeads p t amounts) ≡ occurrences v (heads p t) + occurrences v (map (λ l. l .head) (units amounts))
-  unfolding legHeads legs heads
-  legs-heads v =
-      let rs = requiredArcs p in
-      let us = units amounts in
-      let f : Link → ℕ = λ l. l .head in
-      let a : occurrences v (heads p t) ≡ occurrences v (map (λ b. b .head) rs) + occurrences v (map f t) = occurrences-append v (map (λ b. b .head) rs) (map f t) in
-      let b : occurrences v (legHeads p t amounts) ≡ occurrences v (map (λ b. b .head) rs ++ (map f t ++ map f us))
-      = ap (occurrences v) (map-append f (map arcLeg rs) (t ++ us) ∙ ap₂ _++_ (map-map arcLeg f rs) (map-append f t us)) in
-      let c = occurrences-append v (map (λ b. b .head) rs) (map f t ++ map f us) in
-      let d = occurrences-append v (map f t) (map f us) in
-      omega arith
+  unfolding legHeads heads
+  legs-heads v = legs-ends v (λ l. l .head)
 
   none-in : {vs : List ℕ} (v : ℕ) → ((i : ℕ) → List·Memᴰ i vs → List·Memᴰ i (required p)) → occurrences v (required p) ≡ 0 → occurrences v vs ≡ 0
   none-in {vs} v m z = elim (decLe 1 (occurrences v vs)) [
