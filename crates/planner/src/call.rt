@@ -3,7 +3,7 @@ use crate::Planned;
 use crate::solve::solve;
 use budget::Budget;
 use budget::Checked;
-use network::Network;
+use network::network::Network;
 use plan::Plan;
 use refusal::Refusal;
 use refusal::Verdict;
@@ -93,8 +93,8 @@ fn plan_read(plan: Plan, budget: u32, sheet: &mut [u16]) -> Planned
     requires { ⌜ WellFormed (planValue plan) × (1 ≤ budget) × (sheetPlaces ≤ length (now sheet)) ⌝ }
     ensures { λ r. ⌜ IsPlanned (planValue plan) budget (planRefusal (planValue plan)) (now (sheet .entry)) (now (sheet .exit)) r ⌝ }
 {
-    let table = shortest::table(plan);
-    let net = network::network_of(plan, &table);
+    let table = shortest::distance::table(plan);
+    let net = network::network::network_of(plan, &table);
     plan_measured(plan, &table, net, budget, sheet)
 }
 

@@ -12,24 +12,11 @@ ghost use Prim.Native.Nat.{_<_};
 
 // ---- what is printed
 
-// The larger of 0 and a.
-fn positive(a: i64) -> u64 {
-    if a < 0 { 0 } else { a as u64 }
-}
-
-// -a, and 0 where that is large.
-fn turned(a: i64) -> i64 {
-    if a < -4611686018427387904 {
-        return 0;
-    }
-    0 - a
-}
-
 fn signed(a: i64) {
     if a < 0 {
-        number(b" -", positive(turned(a)));
+        number(b" -", integers::magnitude(a));
     } else {
-        number(b" ", positive(a));
+        number(b" ", integers::magnitude(a));
     }
 }
 

@@ -5,6 +5,7 @@ pub mod Below
 pub mod Minimum
 pub mod Pick
 pub mod Occurrences
+pub mod Sum
 pub mod Distance
 pub mod Assignment
 pub mod Amounts

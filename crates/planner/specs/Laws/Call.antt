@@ -29,7 +29,7 @@ use Rattle.budget.specs.declared.Budget.{Budget}
 use Rattle.budget.specs.declared.Checked.the-variants.{Good, Refused}
 use Rattle.budget.specs.Checks.{checkedOf}
 use Rattle.budget.specs.Laws.{let-through}
-use Rattle.network.specs.declared.Network.{Network}
+use Rattle.network.specs.declared.network.Network.{Network}
 use Rattle.network.specs.Contracts.{IsNetwork}
 use Rattle.planner.specs.declared.Planned.{Planned}
 use Rattle.planner.specs.Refusals.{networkRefusal, planRefusal, budgetRefusal, sheetRefusal}
