@@ -253,36 +253,18 @@ fn run(label: &[u8], plan: Plan, link_tails: &[u8], link_heads: &[u8], y: usize,
 }
 
 fn main() {
-    run(
-        b"A",
-        plan_of(2, b"\x00\x01\x01\x05\x01\x00\x00\x03"),
-        b"",
-        b"",
-        64,
-        1,
+    let a = plan_of(2, b"\x00\x01\x01\x05\x01\x00\x00\x03");
+    run(b"A", a, b"", b"", 64, 1);
+    let b = plan_of(
+        4,
+        b"\x00\x01\x01\x01\x01\x00\x00\x01\x02\x03\x01\x01\x03\x02\x00\x01\x01\x02\x00\x0a\x03\x00\x00\x0a",
     );
-    run(
-        b"B",
-        plan_of(
-            4,
-            b"\x00\x01\x01\x01\x01\x00\x00\x01\x02\x03\x01\x01\x03\x02\x00\x01\x01\x02\x00\x0a\x03\x00\x00\x0a",
-        ),
-        b"\x01",
-        b"\x02",
-        192,
-        1,
+    run(b"B", b, b"\x01", b"\x02", 192, 1);
+    let c = plan_of(
+        3,
+        b"\x00\x00\x01\x01\x01\x01\x01\x01\x02\x02\x01\x01\x00\x01\x00\x02\x01\x02\x00\x02\x02\x00\x00\x02\x00\x02\x00\x03",
     );
-    run(
-        b"C",
-        plan_of(
-            3,
-            b"\x00\x00\x01\x01\x01\x01\x01\x01\x02\x02\x01\x01\x00\x01\x00\x02\x01\x02\x00\x02\x02\x00\x00\x02\x00\x02\x00\x03",
-        ),
-        b"\x00\x01",
-        b"\x01\x02",
-        128,
-        1,
-    );
+    run(b"C", c, b"\x00\x01", b"\x01\x02", 128, 1);
     run(b"loops", plan_loops(), b"", b"", 0, 0);
     run(b"long", plan_long(), b"", b"", 64, 190);
 }
