@@ -8,17 +8,17 @@ ghost use Rattle.postman.specs.Lists.{below};
 ghost use Rattle.postman.specs.BitField.{fieldAt};
 ghost use Rattle.postman.specs.Refusal.{firstRefusal};
 ghost use Rattle.postman.specs.PlanFile.{arcOf, arcConditions, fileBits, fileLength, fileConditions, planOf};
-ghost use Rattle.plan_file.specs.Verdicts.{verdictNumber};
+ghost use Rattle.refusal.specs.Verdict.{verdictNumber};
 ghost use Rattle.plan.specs.Records.{recordOf, recordsOf, planRecord, noPlan};
 ghost use Rattle.plan_file.specs.Reading.{bodyConditions, IsReading};
 use crate::Reading;
-use crate::Refusal;
-use crate::Verdict;
 use crate::arcs::field_verdict;
 use crate::arcs::is_outside;
-use crate::bit_reader::take_at;
+use bits::reader::take_at;
 use plan::Arc;
 use plan::Plan;
+use refusal::Refusal;
+use refusal::Verdict;
 
 // The bytes of a file of m arcs.
 pub(crate) fn file_length(m: usize) -> usize

@@ -6,18 +6,19 @@ ghost use lib.ListN.{length, replicate, drop};
 ghost use Rattle.postman.specs.Lists.{below};
 ghost use Rattle.postman.specs.Refusal.{firstRefusal};
 ghost use Rattle.postman.specs.PlanFile.{arcConditions, fileLength, fileOf, writeRefusal, writeAnswer, bytesAfter};
-ghost use Rattle.plan_file.specs.Verdicts.{verdictNumber, writtenAnswer};
+ghost use Rattle.refusal.specs.Verdict.{verdictNumber};
+ghost use Rattle.plan_file.specs.Writing.{writtenAnswer};
 ghost use Rattle.plan.specs.Records.{arcValue, recordAt, planValue};
 ghost use Rattle.plan_file.specs.PlanUpdate.{putHeader, putArc, putArcs};
-use crate::Refusal;
-use crate::Verdict;
 use crate::Written;
 use crate::arcs::is_outside;
 use crate::arcs::record_verdict;
-use crate::bits::put_field;
 use crate::reader::file_length;
+use bits::put_field;
 use plan::Arc;
 use plan::Plan;
+use refusal::Refusal;
+use refusal::Verdict;
 
 // The first refusal of the first m records, record by record.
 fn records_verdict(n: u8, m: usize, arcs: [Arc; 256]) -> Verdict

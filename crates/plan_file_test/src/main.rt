@@ -1,40 +1,22 @@
 // Plan files, read and written: the cases of document 01 at their limits, and pairs of faults that show the order of refusals.
 ghost use Prim.Native.Nat.{_≤_};
-use libc::STDOUT_FILENO;
 use plan::Arc;
 use plan::Plan;
 use plan_file::Reading;
-use plan_file::Refusal;
-use plan_file::Verdict;
 use plan_file::Written;
 use plan_file::reader::read_plan;
 use plan_file::round_trip::reread;
 use plan_file::writer::write_plan;
+use print::bytes;
+use print::number;
+use print::text;
+use refusal::Refusal;
+use refusal::Verdict;
 
 // ---- what is printed
 
-fn text(s: &[u8]) {
-    io::write_all(STDOUT_FILENO, s);
-}
-
-fn number(label: &[u8], n: u64) {
-    text(label);
-    io::print_decimal(STDOUT_FILENO, n);
-}
-
-fn byte(b: u8) {
-    text(b" ");
-    io::print_hex(STDOUT_FILENO, b as u64, 2);
-}
-
-fn bytes(s: &[u8]) {
-    for i in 0..s.len() {
-        byte(s[i]);
-    }
-}
-
 fn refusal(r: Refusal) {
-    number(b"refused ", plan_file::refusal_number(r) as u64);
+    number(b"refused ", refusal::refusal_number(r) as u64);
     text(b"\n");
 }
 

@@ -1,40 +1,21 @@
 // Lists of arc records, read and written: what each call answers, and what it leaves in the list or in the bytes.
 ghost use Prim.Native.Nat.{_≤_};
-use libc::STDOUT_FILENO;
 use plan::Arc;
-use plan_file::Refusal;
 use plan_file::Written;
+use print::bytes;
+use print::number;
+use print::text;
 use records::arrays::Filled;
 use records::arrays::read_array;
 use records::arrays::write_array;
 use records::reader::Read;
 use records::round_trip::reread_array;
+use refusal::Refusal;
 
 // ---- what is printed
 
-fn text(s: &[u8]) {
-    io::write_all(STDOUT_FILENO, s);
-}
-
-fn number(label: &[u8], n: u64) {
-    text(label);
-    io::print_decimal(STDOUT_FILENO, n);
-}
-
-fn byte(b: u8) {
-    text(b" ");
-    io::print_hex(STDOUT_FILENO, b as u64, 2);
-}
-
-fn bytes(s: &[u8]) {
-    for i in 0..s.len() {
-        byte(s[i]);
-    }
-    text(b"\n");
-}
-
 fn refusal(r: Refusal) {
-    number(b"refused ", plan_file::refusal_number(r) as u64);
+    number(b"refused ", refusal::refusal_number(r) as u64);
     text(b"\n");
 }
 
@@ -182,6 +163,7 @@ fn write_9(label: &[u8], n: u8, arcs: [Arc; 257], m: usize)
     let mut s = [0xeeu8; 9];
     written(write_array(n, arcs, m, &mut s));
     bytes(&s);
+    text(b"\n");
 }
 
 fn write_12(label: &[u8], n: u8, arcs: [Arc; 257], m: usize)
@@ -191,6 +173,7 @@ fn write_12(label: &[u8], n: u8, arcs: [Arc; 257], m: usize)
     let mut s = [0xeeu8; 12];
     written(write_array(n, arcs, m, &mut s));
     bytes(&s);
+    text(b"\n");
 }
 
 fn write_cases() {

@@ -1,5 +1,4 @@
 -- What is proved about the definitions.
-pub mod Records
 pub mod LastArc
 pub mod Outside
 pub mod Relaxation

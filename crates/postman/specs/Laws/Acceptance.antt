@@ -1,13 +1,13 @@
--- What it says that a call is not refused. Conditions are accepted together exactly when each of them is, so a list of conditions is taken apart, or put
+-- What it says that a call is not refused. Conditions are accepted together exactly when each of them is (`Refusal`), so a list of conditions is taken apart, or put
 -- together, condition by condition.
-use mathlib.Core.Path.{_≡_, refl, ap, _∙_, subst⁻¹}
+use mathlib.Core.Path.{_≡_, refl, ap}
 use mathlib.Core.Logic.{_≢_}
 use mathlib.Core.Bool.{Bool, true, false, not, _||_}
-use mathlib.Core.List.{List, [], _∷_, _++_, flatMap, List·Memᴰ, List·Memᴰ·head, List·Memᴰ·tail}
-use mathlib.Core.Option.{none, some, Option·some-ne-none}
+use mathlib.Core.List.{List, [], _∷_, _++_, List·Memᴰ}
+use mathlib.Core.Option.{none}
 use Prim.Native.Nat.{ℕ, _+_, _*_, _≤_, _<_}
 use native.Mathlib.Omega.{arith}
-use lib.ListN.{length, length-map}
+use lib.ListN.{length}
 use lib.Dec.{T, eqb, ltb, leb, eqb→eq, not-T, nleb→lt, nltb→le}
 use lib.Arith.{lt→nleb, le→nltb}
 use Rattle.postman.specs.Lists.{below}
@@ -17,49 +17,10 @@ use Rattle.postman.specs.PlanFile.{edition, vertexCount, arcCount, arcOf
 use Rattle.postman.specs.Component.{componentCount}
 use Rattle.postman.specs.PlanCall.{sheetPlaces, highestBudget, isCutOff, earlierConditions, callRefusal}
 use Rattle.postman.specs.Laws.Tests.{not-or, not-not, eqb-same, eqb-other}
-use Rattle.postman.specs.Laws.Membership.{map-mem, below-mem, length-below}
+use Rattle.postman.specs.Laws.Membership.{map-mem, below-mem}
+use Rattle.postman.specs.Laws.Below.{length-map-below}
 use Rattle.postman.specs.Laws.BitField.{field-lt}
-
--- ---- lists of conditions
-
-nothing-refused : firstRefusal [] ≡ none
-unfolding firstRefusal
-nothing-refused = refl
-
-pub accepted-cons : (b : Bool) (r : ℕ) (cs : Conditions) → firstRefusal ((b, r) ∷ cs) ≡ none → T (not b) × (firstRefusal cs ≡ none)
-unfolding firstRefusal
-accepted-cons true r cs e = absurd (Option·some-ne-none r e)
-accepted-cons false r cs e = (tt, e)
-
-pub cons-accepted : (b : Bool) (r : ℕ) (cs : Conditions) → T (not b) → firstRefusal cs ≡ none → firstRefusal ((b, r) ∷ cs) ≡ none
-unfolding firstRefusal
-cons-accepted true r cs t e = absurd t
-cons-accepted false r cs t e = e
-
-pub accepted-append : (cs ds : Conditions) → firstRefusal (cs ++ ds) ≡ none → (firstRefusal cs ≡ none) × (firstRefusal ds ≡ none)
-accepted-append [] ds e = (nothing-refused, e)
-accepted-append (c ∷ cs) ds e =
-    let h = accepted-cons (c .0) (c .1) (cs ++ ds) e in
-    let r = accepted-append cs ds (h .1) in
-    (cons-accepted (c .0) (c .1) cs (h .0) (r .0), r .1)
-
-pub append-accepted : (cs ds : Conditions) → firstRefusal cs ≡ none → firstRefusal ds ≡ none → firstRefusal (cs ++ ds) ≡ none
-append-accepted [] ds e f = f
-append-accepted (c ∷ cs) ds e f =
-    let h = accepted-cons (c .0) (c .1) cs e in
-    cons-accepted (c .0) (c .1) (cs ++ ds) (h .0) (append-accepted cs ds (h .1) f)
-
-module _ {A : Type 0} (f : A → Conditions) where
-  accepted-flatMap : {x : A} {xs : List A} → List·Memᴰ x xs → firstRefusal (flatMap f xs) ≡ none → firstRefusal (f x) ≡ none
-  unfolding flatMap
-  accepted-flatMap (List·Memᴰ·head {x = y} {xs = ys} e) h = subst⁻¹ (λ z. firstRefusal (f z) ≡ none) e (accepted-append (f y) (flatMap f ys) h .0)
-  accepted-flatMap (List·Memᴰ·tail {x = y} {xs = ys} m) h = accepted-flatMap m (accepted-append (f y) (flatMap f ys) h .1)
-
-  flatMap-accepted : (xs : List A) → ((x : A) → List·Memᴰ x xs → firstRefusal (f x) ≡ none) → firstRefusal (flatMap f xs) ≡ none
-  unfolding flatMap
-  flatMap-accepted [] h = nothing-refused
-  flatMap-accepted (x ∷ xs) h =
-      append-accepted (f x) (flatMap f xs) (h x (List·Memᴰ·head refl)) (flatMap-accepted xs (λ y m. h y (List·Memᴰ·tail m)))
+use Rattle.postman.specs.Laws.Refusal.{nothing-refused, accepted-cons, cons-accepted, accepted-append, append-accepted, accepted-flatMap, flatMap-accepted}
 
 -- ---- limits
 
@@ -74,6 +35,9 @@ neither false c s t = t
 outside-accepted : (x low high : ℕ) → T (not (isOutside x low high)) → (low ≤ x) × (x ≤ high)
 unfolding isOutside
 outside-accepted x low high t = let h = not-or (ltb x low) (ltb high x) t in (nltb→le x low (h .0), nltb→le high x (h .1))
+
+pub inside : (x low high : ℕ) → isOutside x low high ≡ false → (low ≤ x) × (x ≤ high)
+inside x low high e = outside-accepted x low high (rw e tt)
 
 accepted-outside : (x low high : ℕ) → low ≤ x → x ≤ high → T (not (isOutside x low high))
 unfolding isOutside
@@ -193,9 +157,12 @@ module _ (bytes : List ℕ) where
         arcs-in = fill .1;
       }
 
+  pub has-header : IsFile bytes → 3 ≤ length bytes
+  has-header f = let h = counted m (f .some-arc) in let e = f .exact in omega arith
+
   pub file-is-accepted : IsFile bytes → firstRefusal (fileConditions bytes) ≡ none
   file-is-accepted f =
-      let long = counted m (f .some-arc) in
+      let long = has-header f in
       rw conditions
       (cons-accepted _ _ _ (le→nltb (length bytes) 3 (omega arith))
       (cons-accepted _ _ _ (not-not-T (eqb (edition bytes) 1) (eqb-same (f .edition-one)))
@@ -210,7 +177,7 @@ module _ (bytes : List ℕ) where
 
   pub arcs-read : length (planOf bytes .arcs) ≡ arcCount bytes
   unfolding planOf
-  arcs-read = length-map (below m) (arcOf bytes) ∙ length-below m
+  arcs-read = length-map-below (arcOf bytes) m
 
   cost-lt : (k : ℕ) → arcOf bytes k .cost < 65536
   unfolding arcOf
@@ -258,6 +225,12 @@ module _ (bytes : List ℕ) where
 
 -- ---- writing
 
+-- what the conditions say of a plan that is written where there is room for `room` bytes
+pub record IsWritable (p : Plan) (room : ℕ) : Type 0 where
+  pub extent-in : firstRefusal (extentConditions (p .n) (length (p .arcs))) ≡ none
+  pub arcs-in : firstRefusal (planConditions p) ≡ none
+  pub enough : fileLength (length (p .arcs)) ≤ room
+
 module _ (p : Plan) (room : ℕ) where
   abbrev extent : Conditions
   extent = extentConditions (p .n) (length (p .arcs))
@@ -269,12 +242,20 @@ module _ (p : Plan) (room : ℕ) where
   unfolding writeRefusal
   write-conditions = refl
 
-  pub write-accepted : ((a : Arc) → List·Memᴰ a (p .arcs) → IsRecord a) → writeRefusal p room ≡ none → WellFormed p × (fileLength (length (p .arcs)) ≤ room)
-  write-accepted records e =
+  pub accepted-is-writable : writeRefusal p room ≡ none → IsWritable p room
+  accepted-is-writable e =
       let all = accepted-append (extent ++ planConditions p) _ (rw write-conditions at e) in
       let both = accepted-append extent (planConditions p) (all .0) in
-      let costs : (a : Arc) → List·Memᴰ a (p .arcs) → a .cost ≤ 65535 = λ a m. (let l = records a m .cost in omega arith) in
-      (plan-well-formed p (both .0) (both .1) costs, nltb→le room bytes-needed (accepted-cons _ _ _ (all .1) .0))
+      record { extent-in = both .0; arcs-in = both .1; enough = nltb→le room bytes-needed (accepted-cons _ _ _ (all .1) .0) }
+
+  pub few-arcs : writeRefusal p room ≡ none → length (p .arcs) ≤ 256
+  few-arcs e = extent-accepted (p .n) (length (p .arcs)) (accepted-is-writable e .extent-in) .3
+
+  pub writable-well-formed : ((a : Arc) → List·Memᴰ a (p .arcs) → a .cost ≤ 65535) → writeRefusal p room ≡ none → WellFormed p
+  writable-well-formed costs e = let w = accepted-is-writable e in plan-well-formed p (w .extent-in) (w .arcs-in) costs
+
+  pub write-accepted : ((a : Arc) → List·Memᴰ a (p .arcs) → IsRecord a) → writeRefusal p room ≡ none → WellFormed p × (fileLength (length (p .arcs)) ≤ room)
+  write-accepted records e = (writable-well-formed (λ a m. (let l = records a m .cost in omega arith)) e, accepted-is-writable e .enough)
 
   pub well-formed-write : WellFormed p → fileLength (length (p .arcs)) ≤ room → writeRefusal p room ≡ none
   well-formed-write w h =

@@ -4,9 +4,9 @@ use Prim.Native.Nat.{_<_, _≤_}
 use native.Mathlib.Omega.{arith}
 use borrow.Author.Tests.{lt-ltb, le-ltb}
 use Rattle.postman.specs.PlanFile.{fileLength}
-use Rattle.plan_file.specs.Acceptance.{inside}
-use Rattle.plan_file.specs.Verdicts.{verdictNumber}
-use Rattle.plan_file.specs.Writing.{extent-n, extent-m, of-record, of-room}
+use Rattle.postman.specs.Laws.Acceptance.{inside}
+use Rattle.refusal.specs.Verdict.{verdictNumber}
+use Rattle.plan_file.specs.Laws.Writing.{extent-n, extent-m, of-record, of-room}
 use borrow.Author.Needs.{needs}
 use Rattle.plan_file.proofs.writer.plan_verdict.Statement.{statement}
 use Rattle.plan_file.proofs.writer.plan_verdict.Tie as tie

@@ -1,0 +1,7 @@
+-- What is proved about the definitions.
+pub mod PlanUpdate
+pub mod Arcs
+pub mod Records
+pub mod Reading
+pub mod Writing
+pub mod Reread
