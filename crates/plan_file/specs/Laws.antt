@@ -1,4 +1,5 @@
 -- What is proved about the definitions.
+pub mod Packed
 pub mod PlanUpdate
 pub mod Arcs
 pub mod Records

@@ -1,4 +1,5 @@
 -- What the contracts cite.
+pub mod Packed
 pub mod PlanUpdate
 pub mod Reading
 pub mod Writing

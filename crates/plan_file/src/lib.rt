@@ -1,6 +1,7 @@
 // Plan files: the reader and the writer, by the bit layout that the crate `postman` defines.
 
 pub mod arcs; // what is refused of an arc
+mod repeated; // whether two arcs agree
 pub mod reader; // from bytes to a plan
 pub mod writer; // from a plan to bytes
 pub mod round_trip; // the two together

@@ -68,10 +68,18 @@ fn arc_of(tail: u8, head: u8, standing: u8, cost: u16) -> Arc {
     }
 }
 
-// Two arcs, the second m - 1 times.
+// Two arcs, and after them others like the second, each at a cost of its own.
 fn plan_of(n: u8, m: u16, first: Arc, other: Arc) -> Plan {
     let mut arcs = [other; 256];
     arcs[0] = first;
+    for k in 2..256u16 {
+        arcs[k as usize] = arc_of(
+            other.tail,
+            other.head,
+            other.standing,
+            other.cost % 1000 + k,
+        );
+    }
     Plan {
         n: n,
         m: m,
@@ -165,6 +173,22 @@ fn read_order() {
     );
 }
 
+// The same arc twice, and one that differs in cost.
+fn read_repeated() {
+    read(
+        b"arc 0 again: ",
+        b"\x10\x40\x30\x01\x40\x01\x41\x00\x00\x03\x00\x14\x00\x14",
+    );
+    read(
+        b"arc 0 at another cost: ",
+        b"\x10\x40\x30\x01\x40\x01\x41\x00\x00\x03\x00\x14\x00\x18",
+    );
+    read(
+        b"arc 0 again, standing 3 after it: ",
+        b"\x10\x40\x30\x01\x40\x01\x40\x05\x00\x05\x00\x1c\x00\x14",
+    );
+}
+
 // ---- writing
 
 // Writes, and prints the answer.
@@ -211,8 +235,11 @@ fn write_cases() {
     write_12(b"n 64: ", plan_of(64, 1, a, a));
     write_12(b"n 65: ", plan_of(65, 1, a, a));
     write_12(b"m 0: ", plan_of(1, 0, a, a));
-    write_12(b"m 256 in 12 bytes: ", plan_of(1, 256, a, a));
-    write_12(b"m 257: ", plan_of(1, 257, a, a));
+    let b = arc_of(0, 0, 0, 2);
+    write_12(b"m 256 in 12 bytes: ", plan_of(1, 256, a, b));
+    write_12(b"m 257: ", plan_of(1, 257, a, b));
+    write_12(b"the same arc twice: ", plan_of(1, 2, a, a));
+    write_9(b"the same arc twice in 9 bytes: ", plan_of(1, 2, a, a));
 }
 
 fn write_arcs() {
@@ -278,6 +305,7 @@ fn main() {
     read_header();
     read_arcs();
     read_order();
+    read_repeated();
     write_cases();
     write_arcs();
 }

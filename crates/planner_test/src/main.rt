@@ -249,6 +249,16 @@ fn order() {
         1,
     );
     call_short(
+        b"arc 0 again, short sheet, budget 0: ",
+        b"\x10\x40\x30\x01\x40\x01\x41\x00\x00\x03\x00\x14\x00\x14",
+        0,
+    );
+    call(
+        b"arc 0 again, budget 0: ",
+        b"\x10\x40\x30\x01\x40\x01\x41\x00\x00\x03\x00\x14\x00\x14",
+        0,
+    );
+    call_short(
         b"short sheet, budget 0: ",
         b"\x10\x40\x20\x01\x40\x01\x41\x00\x00\x03",
         0,

@@ -27,6 +27,7 @@ pub mod LagrangianBound
 pub mod Multiplier
 pub mod BitField
 pub mod Refusal
+pub mod Repeated
 pub mod Acceptance
 pub mod PlanFile
 pub mod Optimality

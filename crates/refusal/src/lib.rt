@@ -17,6 +17,7 @@ pub enum Refusal {
     Idle,
     Scattered,
     CutOff,
+    Repeated,
 }
 
 // The number of a refusal.
@@ -36,6 +37,7 @@ pub fn refusal_number(r: Refusal) -> u8
         Refusal::Idle => 10,
         Refusal::Scattered => 11,
         Refusal::CutOff => 12,
+        Refusal::Repeated => 13,
     }
 }
 

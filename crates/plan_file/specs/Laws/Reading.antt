@@ -24,7 +24,7 @@ pub file-refusal
     (cond (not (eqb (fieldAt bytes 0 4) 1)) (some 2)
     (cond (isOutside (fieldAt bytes 4 7) 1 64 || isOutside (fieldAt bytes 11 9) 1 256) (some 3)
     (firstRefusal (bodyConditions bytes (fieldAt bytes 4 7) (fieldAt bytes 11 9)))))
-unfolding firstRefusal fileConditions extentConditions edition vertexCount arcCount fillBits planConditions planOf bodyConditions
+unfolding firstRefusal fileConditions extentConditions edition vertexCount arcCount fillBits planOf bodyConditions
 file-refusal bytes = refl
 
 -- The plan by value stands for the file's plan.

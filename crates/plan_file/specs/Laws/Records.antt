@@ -57,3 +57,13 @@ value-record p = rw same
         (λ k h.
         let l : k < length (p .arcs) = rw (length-map-below f (length (p .arcs))) at h in
         getD-map-below f (length (p .arcs)) k (arcValue zeroRecord) l ∙ record-at (p .arcs) k l)
+
+-- Records that hold m arcs, read as m arcs again.
+arcs-back : (f : ℕ → Arc) (m : ℕ) → map (recordAt (recordsOf (map f (below m)))) (below m) ≡ map f (below m)
+unfolding planValue planRecord
+arcs-back f m =
+    let g : List ℕ → List Arc = map (recordAt (recordsOf (map f (below m)))) in
+    ap (λ k. g (below k)) (sym (length-map-below f m)) ∙ ap (λ (p : Plan). p .arcs) (value-record (record { n = 0; arcs = map f (below m) }))
+
+pub arcs-read : (f : ℕ → Arc) (m : ℕ) (records : List ArcRecord) → records ≡ recordsOf (map f (below m)) → map (recordAt records) (below m) ≡ map f (below m)
+arcs-read f m records e = ap (λ (r : List ArcRecord). map (recordAt r) (below m)) e ∙ arcs-back f m

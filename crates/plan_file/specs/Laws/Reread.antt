@@ -15,7 +15,7 @@ use Rattle.plan_file.specs.declared.Reading.{Reading}
 use Rattle.refusal.specs.Verdict.{verdictNumber}
 use Rattle.plan.specs.Records.{zeroRecord, recordAt, planValue, planRecord, noPlan}
 use Rattle.plan_file.specs.Reading.{planUnless, IsReading}
-use Rattle.postman.specs.Laws.Acceptance.{file-is-accepted, writable-well-formed}
+use Rattle.postman.specs.Laws.Acceptance.{file-is-accepted, accepted-is-writable, writable-well-formed}
 use Rattle.postman.specs.Laws.Membership.{map-mem}
 use Rattle.postman.specs.Laws.PlanFile.{length-fileOf, plan-same, is-file}
 use Rattle.plan_file.specs.Laws.Writing.{length-given, refusal-given, given-bytes}
@@ -62,7 +62,7 @@ module _ (p : Plan) (bytes s : List ℕ) (room : length bytes ≡ 963) (r : Read
       let w : writeRefusal g 963 ≡ none = rw room at (length-given g bytes k e .0) in
       let ok = writable-well-formed g 963 (costs-fit p small) w in
       let same : IsReading (fileOf g) r = rw (written-file g bytes s k e f .1) at read in
-      let none-of : firstRefusal (fileConditions (fileOf g)) ≡ none = file-is-accepted (fileOf g) (is-file g ok) in
+      let none-of : firstRefusal (fileConditions (fileOf g)) ≡ none = file-is-accepted (fileOf g) (is-file g ok (accepted-is-writable g 963 w .arcs-in)) in
       record {
         verdict = same .verdict ∙ none-of ∙ sym w;
         plan = rw w (rw (none-of, plan-same g ok) at (same .plan));

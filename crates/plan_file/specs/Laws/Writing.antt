@@ -1,28 +1,28 @@
 -- The refusal of writing, by the parts of a plan by value; and what a refusal, or none, answers and leaves.
 use mathlib.Core.Path.{_≡_}
 use mathlib.Core.Bool.{true, false, cond, _||_, or-true}
-use mathlib.Core.List.{List, [], _∷_, _++_, map, flatMap}
+use mathlib.Core.List.{List, [], _∷_, _++_}
 use mathlib.Core.Option.{none, some}
 use Prim.Native.Nat.{ℕ, _<_}
 use borrow.Author.Tests.{lt-ltb}
 use lib.Dec.{ltb}
 use lib.ListN.{length, drop}
-use Rattle.postman.specs.Lists.{below}
 use Rattle.postman.specs.Plan.{Plan as Graph}
 use Rattle.postman.specs.Refusal.{firstRefusal, unless, refused, given}
-use Rattle.postman.specs.PlanFile.{arcConditions, extentConditions, isOutside, fileLength, planConditions, fileOf, writeRefusal, writeAnswer, bytesAfter}
+use Rattle.postman.specs.PlanFile.{extentConditions, isOutside, fileLength, planConditions, fileOf, writeRefusal, writeAnswer, bytesAfter}
 use Rattle.plan.specs.declared.Plan.{Plan}
 use Rattle.postman.specs.Laws.Below.{length-map-below}
 use Rattle.postman.specs.Laws.Refusal.{first-on, first-stop, answer-refused, answer-given, was-given, was-refused}
 use Rattle.plan.specs.Records.{recordAt, planValue}
+use Rattle.plan_file.specs.Reading.{planFrom}
 
 -- The conditions of writing, of n, m and the records themselves.
 pub plan-refusal
     : (p : Plan) (room : ℕ)
     → writeRefusal (planValue p) room
     ≡ cond (isOutside (p .n) 1 64 || isOutside (p .m) 1 256) (some 3)
-    (firstRefusal (flatMap (arcConditions (p .n)) (map (recordAt (p .arcs)) (below (p .m))) ++ (ltb room (fileLength (p .m)), 8) ∷ []))
-unfolding firstRefusal writeRefusal extentConditions planConditions planValue
+    (firstRefusal (planConditions (planFrom (p .n) (recordAt (p .arcs)) (p .m)) ++ (ltb room (fileLength (p .m)), 8) ∷ []))
+unfolding firstRefusal writeRefusal extentConditions planValue
 plan-refusal p room = rw (length-map-below (recordAt (p .arcs)) (p .m))
 
 -- In document 01's order: n, m, the records, the room.
@@ -36,19 +36,19 @@ module _ (p : Plan) (room : ℕ) where
   module _ (hn : isOutside (p .n) 1 64 ≡ false) (hm : isOutside (p .m) 1 256 ≡ false) where
     pub of-record
         : (r : ℕ)
-        → firstRefusal (flatMap (arcConditions (p .n)) (map (recordAt (p .arcs)) (below (p .m)))) ≡ some r
+        → firstRefusal (planConditions (planFrom (p .n) (recordAt (p .arcs)) (p .m))) ≡ some r
         → writeRefusal (planValue p) room ≡ some r
     of-record r e =
         rw (plan-refusal p room, hn, hm)
-        (first-stop (flatMap (arcConditions (p .n)) (map (recordAt (p .arcs)) (below (p .m)))) ((ltb room (fileLength (p .m)), 8) ∷ []) r e)
+        (first-stop (planConditions (planFrom (p .n) (recordAt (p .arcs)) (p .m))) ((ltb room (fileLength (p .m)), 8) ∷ []) r e)
 
     pub of-room
-        : firstRefusal (flatMap (arcConditions (p .n)) (map (recordAt (p .arcs)) (below (p .m)))) ≡ none
+        : firstRefusal (planConditions (planFrom (p .n) (recordAt (p .arcs)) (p .m))) ≡ none
         → writeRefusal (planValue p) room ≡ cond (ltb room (fileLength (p .m))) (some 8) none
     unfolding firstRefusal
     of-room e =
         rw (plan-refusal p room, hn, hm)
-        (first-on (flatMap (arcConditions (p .n)) (map (recordAt (p .arcs)) (below (p .m)))) ((ltb room (fileLength (p .m)), 8) ∷ []) e)
+        (first-on (planConditions (planFrom (p .n) (recordAt (p .arcs)) (p .m))) ((ltb room (fileLength (p .m)), 8) ∷ []) e)
 
 -- 3, of n or m above its limit.
 above : (x low high : ℕ) → high < x → isOutside x low high ≡ true

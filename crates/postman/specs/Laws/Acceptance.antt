@@ -13,7 +13,7 @@ use lib.Arith.{lt→nleb, le→nltb}
 use Rattle.postman.specs.Lists.{below}
 use Rattle.postman.specs.Plan.{Arc, Plan, WellFormed, requiredArcs}
 use Rattle.postman.specs.Refusal.{Conditions, firstRefusal}
-use Rattle.postman.specs.PlanFile.{edition, vertexCount, arcCount, arcOf, planOf, fileLength, fillBits, isOutside, extentConditions, arcConditions, planConditions, fileConditions, readRefusal, IsRecord, writeRefusal}
+use Rattle.postman.specs.PlanFile.{edition, vertexCount, arcCount, arcOf, planOf, fileLength, fillBits, isOutside, extentConditions, arcConditions, arcsConditions, hasRepeated, planConditions, fileConditions, readRefusal, IsRecord, writeRefusal}
 use Rattle.postman.specs.Component.{componentCount}
 use Rattle.postman.specs.PlanCall.{sheetPlaces, highestBudget, isCutOff, earlierConditions, callRefusal}
 use Rattle.postman.specs.Laws.Tests.{not-or, not-not, eqb-same, eqb-other}
@@ -21,6 +21,7 @@ use Rattle.postman.specs.Laws.Membership.{map-mem, below-mem}
 use Rattle.postman.specs.Laws.Below.{length-map-below}
 use Rattle.postman.specs.Laws.BitField.{field-lt}
 use Rattle.postman.specs.Laws.Refusal.{nothing-refused, accepted-cons, cons-accepted, accepted-append, append-accepted, accepted-flatMap, flatMap-accepted}
+use Rattle.postman.specs.Laws.Repeated.{Distinct, not-repeated}
 
 -- ---- limits
 
@@ -79,16 +80,21 @@ module _ (n : ℕ) (a : Arc) where
       (cons-accepted _ _ _ (le→nltb 2 (a .standing) s) nothing-refused))
 
 module _ (p : Plan) where
-  pub plan-accepted : firstRefusal (planConditions p) ≡ none → (a : Arc) → List·Memᴰ a (p .arcs) → (a .tail < p .n) × (a .head < p .n) × (1 ≤ a .cost) × (a .standing ≤ 2)
-  unfolding planConditions
-  plan-accepted e a m = arc-accepted (p .n) a (accepted-flatMap (arcConditions (p .n)) m e)
+  arcs-accepted : firstRefusal (arcsConditions p) ≡ none → (a : Arc) → List·Memᴰ a (p .arcs) → (a .tail < p .n) × (a .head < p .n) × (1 ≤ a .cost) × (a .standing ≤ 2)
+  unfolding arcsConditions
+  arcs-accepted e a m = arc-accepted (p .n) a (accepted-flatMap (arcConditions (p .n)) m e)
 
-  pub accepted-plan : ((a : Arc) → List·Memᴰ a (p .arcs) → (a .tail < p .n) × (a .head < p .n) × (1 ≤ a .cost) × (a .standing ≤ 2)) → firstRefusal (planConditions p) ≡ none
-  unfolding planConditions
-  accepted-plan h = flatMap-accepted (arcConditions (p .n)) (p .arcs) (λ a m. (let r = h a m in accepted-arc (p .n) a (r .0) (r .1) (r .2) (r .3)))
+  accepted-arcs : ((a : Arc) → List·Memᴰ a (p .arcs) → (a .tail < p .n) × (a .head < p .n) × (1 ≤ a .cost) × (a .standing ≤ 2)) → firstRefusal (arcsConditions p) ≡ none
+  unfolding arcsConditions
+  accepted-arcs h = flatMap-accepted (arcConditions (p .n)) (p .arcs) (λ a m. (let r = h a m in accepted-arc (p .n) a (r .0) (r .1) (r .2) (r .3)))
 
-  pub well-formed-plan : WellFormed p → firstRefusal (planConditions p) ≡ none
-  well-formed-plan w = accepted-plan (λ a m. (let r = w .each a m in (r .tail-in, r .head-in, r .priced, r .standing-in)))
+  -- the arcs one by one, then all of them: "after all arcs passed 5 to 7"
+  pub plan-accepted : firstRefusal (planConditions p) ≡ none → (firstRefusal (arcsConditions p) ≡ none) × T (not (hasRepeated (p .arcs)))
+  unfolding planConditions
+  plan-accepted e = let r = accepted-append (arcsConditions p) _ e in (r .0, accepted-cons _ _ _ (r .1) .0)
+
+  pub plan-distinct : firstRefusal (planConditions p) ≡ none → Distinct (p .arcs)
+  plan-distinct e = not-repeated (p .arcs) (plan-accepted e .1)
 
   plan-well-formed : firstRefusal (extentConditions (p .n) (length (p .arcs))) ≡ none → firstRefusal (planConditions p) ≡ none
       → ((a : Arc) → List·Memᴰ a (p .arcs) → a .cost ≤ 65535) → WellFormed p
@@ -99,7 +105,7 @@ module _ (p : Plan) where
         vertices = limits .1;
         some-arc = limits .2;
         arc-count = limits .3;
-        each = λ a m. let r = plan-accepted f a m in record { tail-in = r .0; head-in = r .1; standing-in = r .3; priced = r .2; cost-in = costs a m };
+        each = λ a m. let r = arcs-accepted (plan-accepted f .0) a m in record { tail-in = r .0; head-in = r .1; standing-in = r .3; priced = r .2; cost-in = costs a m };
       }
 
 -- ---- the file
@@ -206,6 +212,10 @@ module _ (bytes : List ℕ) where
   pub file-accepted : firstRefusal (fileConditions bytes) ≡ none → WellFormed (planOf bytes)
   file-accepted e = is-file-well-formed (accepted-is-file e)
 
+  -- a plan that was read has no two equal arcs
+  pub file-distinct : firstRefusal (fileConditions bytes) ≡ none → Distinct (planOf bytes .arcs)
+  file-distinct e = plan-distinct (planOf bytes) (accepted-is-file e .arcs-in)
+
   -- ---- reading
 
   read-conditions : (room : ℕ) → readRefusal bytes room ≡ firstRefusal (fileConditions bytes ++ (ltb room m, 8) ∷ [])
@@ -257,11 +267,11 @@ module _ (p : Plan) (room : ℕ) where
   pub write-accepted : ((a : Arc) → List·Memᴰ a (p .arcs) → IsRecord a) → writeRefusal p room ≡ none → WellFormed p × (fileLength (length (p .arcs)) ≤ room)
   write-accepted records e = (writable-well-formed (λ a m. (let l = records a m .cost in omega arith)) e, accepted-is-writable e .enough)
 
-  pub well-formed-write : WellFormed p → fileLength (length (p .arcs)) ≤ room → writeRefusal p room ≡ none
-  well-formed-write w h =
+  pub accepted-write : WellFormed p → firstRefusal (planConditions p) ≡ none → fileLength (length (p .arcs)) ≤ room → writeRefusal p room ≡ none
+  accepted-write w a h =
       let limits = accepted-extent (p .n) (length (p .arcs)) (w .some-vertex) (w .vertices) (w .some-arc) (w .arc-count) in
       rw write-conditions
-      (append-accepted (extent ++ planConditions p) _ (append-accepted extent (planConditions p) limits (well-formed-plan p w))
+      (append-accepted (extent ++ planConditions p) _ (append-accepted extent (planConditions p) limits a)
       (cons-accepted _ _ _ (le→nltb room bytes-needed h) nothing-refused))
 
 -- ---- the plan call

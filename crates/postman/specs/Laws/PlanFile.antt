@@ -13,11 +13,12 @@ use lib.Seq.{ext-getD}
 use Rattle.postman.specs.Lists.{upFrom, below}
 use Rattle.postman.specs.Plan.{Arc, Plan, WellFormed, IsArc, arcAt}
 use Rattle.postman.specs.BitField.{bitAt, number, fieldAt, bitsOf}
-use Rattle.postman.specs.PlanFile.{edition, vertexCount, arcCount, arcOf, planOf, fileBits, fileLength, fillBits, IsRecord, arcBits, planBits, fileOf, readRefusal, writeRefusal}
+use Rattle.postman.specs.PlanFile.{edition, vertexCount, arcCount, arcOf, planOf, fileBits, fileLength, fillBits, IsRecord, arcBits, planBits, fileOf, planConditions, readRefusal, writeRefusal}
+use Rattle.postman.specs.Refusal.{firstRefusal}
 use Rattle.postman.specs.Laws.Membership.{getD-mem}
 use Rattle.postman.specs.Laws.Below.{length-map-below, getD-map-below}
 use Rattle.postman.specs.Laws.BitField.{number-lt, number-same, zero-number, bit-lt, field-zero, bit-out, byte-of-bits, packed-bit, length-bitsOf, bitsOf-lt, run, run-zero, length-run, getD-run, bitsOf-number, run-append, bitIn, append-lt, read-left, read-right, read-last, three, length-three, three-lt, read-first, read-second, read-third, read-after}
-use Rattle.postman.specs.Laws.Acceptance.{IsFile, read-is-file, file-is-read, read-accepted, vertices-read, arcs-read, well-formed-plan, write-accepted, well-formed-write}
+use Rattle.postman.specs.Laws.Acceptance.{IsFile, read-is-file, file-is-read, read-accepted, vertices-read, arcs-read, accepted-is-writable, write-accepted, accepted-write}
 
 -- ---- definitions, as equations
 
@@ -206,8 +207,8 @@ module _ (p : Plan) where
     unfolding planOf
     plan-same = λ i. record { n = vertices-same i; arcs = arcs-same i }
 
-    pub is-file : IsFile (fileOf p)
-    is-file =
+    pub is-file : firstRefusal (planConditions p) ≡ none → IsFile (fileOf p)
+    is-file accepted =
         record {
           edition-one = edition-same;
           some-vertex = rw vertices-same (w .some-vertex);
@@ -216,14 +217,14 @@ module _ (p : Plan) where
           arc-count = rw count-same (w .arc-count);
           exact = rw count-same (length-fileOf p);
           filled = fill-same;
-          arcs-in = rw plan-same (well-formed-plan p w);
+          arcs-in = rw plan-same accepted;
         }
 
 pub read-written : (p : Plan) (room : ℕ) → ((a : Arc) → List·Memᴰ a (p .arcs) → IsRecord a) → writeRefusal p room ≡ none
     → (planOf (fileOf p) ≡ p) × ((records : ℕ) → length (p .arcs) ≤ records → readRefusal (fileOf p) records ≡ none)
 read-written p room small e =
     let w = write-accepted p room small e .0 in
-    (plan-same p w, λ records h. file-is-read (fileOf p) records (is-file p w) (rw (count-same p w) h))
+    (plan-same p w, λ records h. file-is-read (fileOf p) records (is-file p w (accepted-is-writable p room e .arcs-in)) (rw (count-same p w) h))
 
 pub fileOf-lt : (p : Plan) (k : ℕ) → getD (fileOf p) k 0 < 256
 fileOf-lt p k = elim (decLt k (fileLength (length (p .arcs)))) [
@@ -309,5 +310,5 @@ written-read bytes room small e =
     let a : length (fileOf (planOf bytes)) ≡ fileLength (arcCount bytes) = length-fileOf (planOf bytes) ∙ ap fileLength (arcs-read bytes) in
     let b = f .exact in (
       ext-getD 0 (fileOf (planOf bytes)) bytes (a ∙ sym b) (λ k l. same-byte bytes f k (small k) (omega arith)),
-      λ space h. well-formed-write (planOf bytes) space w (rw arcs-read (omega arith)),
+      λ space h. accepted-write (planOf bytes) space w (f .arcs-in) (rw arcs-read (omega arith)),
     )

@@ -2,17 +2,18 @@
 -- conditions. Of a whole list: conditions are accepted together exactly when each of them is; and the last condition is the one that is given exactly when none
 -- before it applies and it does, if its number stands for no other.
 use mathlib.Core.Path.{_≡_, refl, sym, ap, _∙_, subst⁻¹}
+use mathlib.Core.Logic.{_≢_}
 use mathlib.Core.Bool.{Bool, true, false, not, cond}
 use mathlib.Core.List.{List, [], _∷_, _++_, map, flatMap, List·Memᴰ, List·Memᴰ·head, List·Memᴰ·tail}
 use mathlib.Core.Option.{Option, none, some, Option·some-ne-none}
 use Prim.Native.Nat.{ℕ, suc, _+_, _-_, _<_, _≤_}
 use native.Mathlib.Numerals.{add-one}
 use native.Mathlib.Omega.{arith}
-use lib.Dec.{T, lit<}
+use lib.Dec.{T}
 use Rattle.postman.specs.Lists.{upFrom, below}
 use Rattle.postman.specs.Plan.{Arc, Plan}
 use Rattle.postman.specs.Refusal.{Conditions, firstRefusal, refused, given, answer}
-use Rattle.postman.specs.PlanFile.{fileConditions, extentConditions, planConditions, arcConditions, planOf}
+use Rattle.postman.specs.PlanFile.{fileConditions, extentConditions, planConditions, arcsConditions, arcConditions, planOf}
 use Rattle.postman.specs.PlanCall.{earlierConditions}
 
 -- ---- one condition more
@@ -161,45 +162,45 @@ module _ {A : Type 0} where
 
 -- ---- the last condition
 
--- the conditions' numbers are below r
-abbrev pub Below : ℕ → Conditions → Type 0
-Below r [] = Unit {0}
-Below r (c ∷ cs) = (c .1 < r) × Below r cs
+-- the conditions' numbers are others than r
+abbrev pub Other : ℕ → Conditions → Type 0
+Other r [] = Unit {0}
+Other r (c ∷ cs) = (c .1 ≢ r) × Other r cs
 
-below-append : (r : ℕ) (cs ds : Conditions) → Below r cs → Below r ds → Below r (cs ++ ds)
-below-append r [] ds h g = g
-below-append r (c ∷ cs) ds h g = (h .0, below-append r cs ds (h .1) g)
+other-append : (r : ℕ) (cs ds : Conditions) → Other r cs → Other r ds → Other r (cs ++ ds)
+other-append r [] ds h g = g
+other-append r (c ∷ cs) ds h g = (h .0, other-append r cs ds (h .1) g)
 
-below-flatMap : {A : Type 0} (r : ℕ) (f : A → Conditions) → ((x : A) → Below r (f x)) → (xs : List A) → Below r (flatMap f xs)
+other-flatMap : {A : Type 0} (r : ℕ) (f : A → Conditions) → ((x : A) → Other r (f x)) → (xs : List A) → Other r (flatMap f xs)
 unfolding flatMap
-below-flatMap r f h [] = tt
-below-flatMap r f h (x ∷ xs) = below-append r (f x) (flatMap f xs) (h x) (below-flatMap r f h xs)
+other-flatMap r f h [] = tt
+other-flatMap r f h (x ∷ xs) = other-append r (f x) (flatMap f xs) (h x) (other-flatMap r f h xs)
 
-arc-below : (n : ℕ) (a : Arc) → Below 12 (arcConditions n a)
+arc-other : (n : ℕ) (a : Arc) → Other 12 (arcConditions n a)
 unfolding arcConditions
-arc-below n a = (lit< tt, (lit< tt, (lit< tt, tt)))
+arc-other n a = (omega arith, (omega arith, (omega arith, tt)))
 
-plan-below : (p : Plan) → Below 12 (planConditions p)
-unfolding planConditions
-plan-below p = below-flatMap 12 (arcConditions (p .n)) (arc-below (p .n)) (p .arcs)
+plan-other : (p : Plan) → Other 12 (planConditions p)
+unfolding planConditions arcsConditions
+plan-other p = other-append 12 (flatMap (arcConditions (p .n)) (p .arcs)) _ (other-flatMap 12 (arcConditions (p .n)) (arc-other (p .n)) (p .arcs)) (omega arith, tt)
 
-file-below : (bytes : List ℕ) → Below 12 (fileConditions bytes)
+file-other : (bytes : List ℕ) → Other 12 (fileConditions bytes)
 unfolding fileConditions extentConditions
-file-below bytes = (lit< tt, (lit< tt, (lit< tt, (lit< tt, (lit< tt, plan-below (planOf bytes))))))
+file-other bytes = (omega arith, (omega arith, (omega arith, (omega arith, (omega arith, plan-other (planOf bytes))))))
 
-pub earlier-below : (bytes : List ℕ) (budget places : ℕ) → Below 12 (earlierConditions bytes budget places)
+pub earlier-other : (bytes : List ℕ) (budget places : ℕ) → Other 12 (earlierConditions bytes budget places)
 unfolding earlierConditions
-earlier-below bytes budget places = below-append 12 (fileConditions bytes) _ (file-below bytes) (lit< tt, (lit< tt, (lit< tt, (lit< tt, tt))))
+earlier-other bytes budget places = other-append 12 (fileConditions bytes) _ (file-other bytes) (omega arith, (omega arith, (omega arith, (omega arith, tt))))
 
-pub last-given : (cs : Conditions) (b : Bool) (r : ℕ) → Below r cs → firstRefusal (cs ++ (b, r) ∷ []) ≡ some r → (firstRefusal cs ≡ none) × T b
+pub last-given : (cs : Conditions) (b : Bool) (r : ℕ) → Other r cs → firstRefusal (cs ++ (b, r) ∷ []) ≡ some r → (firstRefusal cs ≡ none) × T b
 unfolding firstRefusal
 last-given [] true r h e = (refl, tt)
 last-given [] false r h e = let x : _≡_ {A = ℕ} 0 1 = cc in absurd (omega arith)
 last-given (c ∷ cs) b r h e = at (c .0) (c .1) (h .0) e (last-given cs b r (h .1))
   where
-    at : (x : Bool) (k : ℕ) → k < r → firstRefusal ((x, k) ∷ cs ++ (b, r) ∷ []) ≡ some r → (firstRefusal (cs ++ (b, r) ∷ []) ≡ some r → (firstRefusal cs ≡ none) × T b)
+    at : (x : Bool) (k : ℕ) → k ≢ r → firstRefusal ((x, k) ∷ cs ++ (b, r) ∷ []) ≡ some r → (firstRefusal (cs ++ (b, r) ∷ []) ≡ some r → (firstRefusal cs ≡ none) × T b)
         → (firstRefusal ((x, k) ∷ cs) ≡ none) × T b
-    at true k l e ih = let q : k ≡ r = cc in absurd (omega arith)
+    at true k l e ih = let q : k ≡ r = cc in absurd (l q)
     at false k l e ih = ih e
 
 pub given-last : (cs : Conditions) (b : Bool) (r : ℕ) → firstRefusal cs ≡ none → T b → firstRefusal (cs ++ (b, r) ∷ []) ≡ some r
