@@ -3,12 +3,12 @@ use crate::Arc;
 use crate::Plan;
 ghost use mathlib.Core.Path.{_≡_};
 ghost use Prim.Native.Nat.{_≤_};
-ghost use lib.ListN.{length, take};
+ghost use lib.ListN.{take};
 ghost use Rattle.plan.specs.Records.{arcValue, planValue};
-ghost use Rattle.plan.specs.Rows.{arcIn, planIn};
+ghost use Rattle.plan.specs.Rows.{rowOf, planIn};
 
 fn row_of(a: Arc) -> [u16; 4]
-    ensures { λ r. ⌜ arcIn r ≡ arcValue a ⌝ }
+    ensures { λ r. ⌜ r ≡ rowOf (arcValue a) ⌝ }
 {
     [a.tail as u16, a.head as u16, a.standing as u16, a.cost]
 }

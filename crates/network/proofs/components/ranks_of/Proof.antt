@@ -7,7 +7,7 @@ use native.Mathlib.Omega.{arith}
 use Rattle.postman.specs.Lists.{select, below, upFrom}
 use Rattle.postman.specs.Laws.Tests.{cond-ind}
 use Rattle.network.specs.Labels.{isRoot, rootsBelow}
-use Rattle.network.specs.Laws.Array.{Prefix, prefix-none, prefix-more, prefix-all}
+use Rattle.plan.specs.Laws.Prefix.{Prefix, prefix-none, prefix-more, prefix-all}
 use Rattle.network.specs.Laws.Selection.{select-more}
 use borrow.Author.Needs.{needs}
 use Rattle.network.proofs.components.ranks_of.Statement.{statement}
@@ -25,13 +25,13 @@ unfolding rootsBelow select below upFrom
 no-roots r l = refl
 
 abbrev Inv-loop : tie.InvT-loop
-Inv-loop required labels below₀ all₀ v₀ below all v = (all ≤ v) × (all ≡ rootsBelow required labels v) × Prefix 0 (rootsBelow required labels) below v
+Inv-loop required labels below₀ all₀ v₀ below all v = (all ≤ v) × (all ≡ rootsBelow required labels v) × Prefix 64 0 (rootsBelow required labels) below v
 
 abbrev μ-loop : tie.MeasureT-loop
 μ-loop required labels below₀ all₀ v₀ below all v = 64 - v
 
 loop-holds : tie.Need-loop-holds Inv-loop μ-loop
-loop-holds c = (omega arith, no-roots _ _, prefix-none 0 _ 0)
+loop-holds c = (omega arith, no-roots _ _, prefix-none 64 0 _ 0)
 
 array-write-below : tie.Need-array-write-below Inv-loop μ-loop
 array-write-below c = search needs
@@ -64,14 +64,14 @@ loop-again c =
     let e = c .opens .ensures in
     let b = at-most-one (isRoot (v .before .args .t1) (v .before .args .t2) (v .loop .v)) in
     let m = one-more (v .before .args .t1) (v .before .args .t2) (v .loop .v) (v .loop .all) (v .loop .inv .1) in
-    (omega arith, omega arith, prefix-more 0 _ (v .loop .below) (v .loop .v) _ (v .loop .inv .2) (c .before .loop-test .taken) (v .loop .inv .1))
+    (omega arith, omega arith, prefix-more 64 0 _ (v .loop .below) (v .loop .v) _ (v .loop .inv .2) (c .before .loop-test .taken) (v .loop .inv .1))
 
 returns : tie.Need-returns Inv-loop μ-loop
 returns c =
     let v = c .before in
     let few = v .loop .inv .2 .few in
     let e : v .loop .v ≡ 64 = omega arith in
-    (v .loop .inv .1 ∙ ap (rootsBelow (v .before .args .t1) (v .before .args .t2)) e, prefix-all 0 _ (v .loop .below) (v .loop .v) (v .loop .inv .2) (c .loop-test .left))
+    (v .loop .inv .1 ∙ ap (rootsBelow (v .before .args .t1) (v .before .args .t2)) e, prefix-all 64 0 _ (v .loop .below) (v .loop .v) (v .loop .inv .2) (c .loop-test .left))
 
 pub ranks-of-spec : {M : Type 1} → statement M
 ranks-of-spec =

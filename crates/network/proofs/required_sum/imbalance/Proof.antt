@@ -10,7 +10,7 @@ use mir.Facts.{toZ-ofZ}
 use Rattle.integers.specs.Linear.{z, zz}
 use Rattle.postman.specs.Balancing.{imbalance}
 use Rattle.plan.specs.Records.{planValue}
-use Rattle.network.specs.Laws.Array.{Prefix, prefix-none, prefix-more, prefix-all}
+use Rattle.plan.specs.Laws.Prefix.{Prefix, prefix-none, prefix-more, prefix-all}
 use Rattle.network.specs.Laws.RequiredSum.{imbalance-degrees}
 use borrow.Author.Needs.{needs}
 use Rattle.network.proofs.required_sum.imbalance.Statement.{statement}
@@ -24,13 +24,13 @@ held x a b h k e = rw e (toZ-ofZ (fits a b h k))
     fits a b h k = simp zz (omega (arith, z))
 
 abbrev Inv-loop : tie.InvT-loop
-Inv-loop plan d₀ v₀ d v = Prefix (pos 0) (imbalance (planValue plan) []) d v
+Inv-loop plan d₀ v₀ d v = Prefix 64 (pos 0) (imbalance (planValue plan) []) d v
 
 abbrev μ-loop : tie.MeasureT-loop
 μ-loop plan d₀ v₀ d v = 64 - v
 
 loop-holds : tie.Need-loop-holds Inv-loop μ-loop
-loop-holds c = prefix-none (pos 0) _ (pos 0)
+loop-holds c = prefix-none 64 (pos 0) _ (pos 0)
 
 degree-requires : tie.Need-degree-requires Inv-loop μ-loop
 degree-requires c κs = search needs
@@ -56,13 +56,13 @@ loop-less c = search needs
 loop-again : tie.Need-loop-again Inv-loop μ-loop
 loop-again c =
     let v = c .before .before .before .before in
-    prefix-more (pos 0) _ (v .loop .d) (v .loop .v) _ (v .loop .inv) (c .before .before .before .loop-test .taken)
+    prefix-more 64 (pos 0) _ (v .loop .d) (v .loop .v) _ (v .loop .inv) (c .before .before .before .loop-test .taken)
     (held _ _ _ (c .before .before .degree .ensures .1) (c .before .degree2 .ensures .1) (c .difference .ensures)
     ∙ ap₂ (λ (x y : ℕ). pos x -ℤ pos y) (c .before .before .degree .ensures .0) (c .before .degree2 .ensures .0)
     ∙ imbalance-degrees (planValue (v .before .args .plan)) (v .loop .v))
 
 returns : tie.Need-returns Inv-loop μ-loop
-returns c = prefix-all (pos 0) _ (c .before .loop .d) (c .before .loop .v) (c .before .loop .inv) (c .loop-test .left)
+returns c = prefix-all 64 (pos 0) _ (c .before .loop .d) (c .before .loop .v) (c .before .loop .inv) (c .loop-test .left)
 
 pub imbalance-spec : {M : Type 1} → statement M
 imbalance-spec =

@@ -1,15 +1,17 @@
 -- The invariant: the rows before the kth hold the arcs.
-use mathlib.Core.Path.{_≡_, refl, sym, _∙_, subst}
+use mathlib.Core.Path.{_≡_, refl, subst}
+use mathlib.Core.List.{[]}
 use Prim.Native.Nat.{ℕ, _-_, _≤_}
 use native.Mathlib.Omega.{arith}
-use lib.ListN.{length, replicate, length-set, length-replicate}
-use Rattle.plan.specs.Laws.Rows.{HoldBefore, hold-more, rows-plan}
+use lib.ListN.{replicate}
+use Rattle.plan.specs.Laws.Prefix.{prefix-none, prefix-more}
+use Rattle.plan.specs.Laws.Rows.{HoldArcs, rows-plan}
 use borrow.Author.Needs.{needs}
 use Rattle.plan.proofs.rows.rows_of.Statement.{statement}
 use Rattle.plan.proofs.rows.rows_of.Tie as tie
 
 abbrev Inv-loop : tie.InvT-loop
-Inv-loop plan rows₀ m k₀ rows k = (m ≡ plan .m) × (k ≤ m) × (m ≤ 256) × (length rows ≡ 256) × HoldBefore plan rows k
+Inv-loop plan rows₀ m k₀ rows k = (m ≡ plan .m) × (k ≤ m) × HoldArcs plan rows k
 
 abbrev μ-loop : tie.MeasureT-loop
 μ-loop plan rows₀ m k₀ rows k = m - k
@@ -18,7 +20,7 @@ cast-m : tie.Need-cast-m Inv-loop μ-loop
 cast-m c = search needs
 
 loop-holds : tie.Need-loop-holds Inv-loop μ-loop
-loop-holds c = (refl, omega arith, c .pre, length-replicate 256 (replicate {A = ℕ} 4 0), λ i l. absurd (omega arith))
+loop-holds c = (refl, omega arith, prefix-none 256 [] _ (replicate {A = ℕ} 4 0))
 
 mul-row-of : tie.Need-mul-row-of Inv-loop μ-loop
 mul-row-of c = search needs
@@ -45,13 +47,8 @@ loop-again : tie.Need-loop-again Inv-loop μ-loop
 loop-again c =
     let v = c .before .before .before in
     let i = v .loop .inv in
-    let l = i .3 in (
-      i .0,
-      omega arith,
-      i .2,
-      length-set (v .loop .rows) (v .loop .k) _ ∙ l,
-      hold-more (v .before .args .t1) (v .loop .rows) (v .loop .k) _ (omega arith) (i .4) (c .row-of .ensures),
-    )
+    let m = v .before .pre in
+    (i .0, omega arith, prefix-more 256 [] _ (v .loop .rows) (v .loop .k) _ (i .2) (omega arith) (c .row-of .ensures))
 
 returns : tie.Need-returns Inv-loop μ-loop
 returns c =
@@ -59,8 +56,7 @@ returns c =
     let i = v .loop .inv in
     let p = v .before .args .t1 in
     let e : v .loop .k ≡ p .m = omega arith in
-    let l = i .3 in
-    rows-plan p (v .loop .rows) (omega arith) (subst (HoldBefore p (v .loop .rows)) e (i .4))
+    rows-plan p (v .loop .rows) (subst (HoldArcs p (v .loop .rows)) e (i .2))
 
 pub rows-of-spec : {M : Type 1} → statement M
 rows-of-spec =
