@@ -3,7 +3,7 @@ use crate::Arc;
 use crate::Plan;
 ghost use mathlib.Core.Path.{_≡_};
 ghost use Prim.Native.Nat.{_≤_};
-ghost use lib.ListN.{take};
+ghost use lib.ListN.{length, take};
 ghost use Rattle.plan.specs.Records.{arcValue, planValue};
 ghost use Rattle.plan.specs.Rows.{rowOf, planIn};
 
@@ -16,7 +16,7 @@ fn row_of(a: Arc) -> [u16; 4]
 // The rows of the arcs; those from m on are zeros.
 pub fn rows_of(plan: Plan) -> [[u16; 4]; 256]
     requires { ⌜ plan .m ≤ 256 ⌝ }
-    ensures { λ r. ⌜ planIn (plan .n) (take (plan .m) r) ≡ planValue plan ⌝ }
+    ensures { λ r. ⌜ (length r ≡ 256) × (planIn (plan .n) (take (plan .m) r) ≡ planValue plan) ⌝ }
 {
     let mut rows = [[0u16; 4]; 256];
     let m = plan.m as usize;

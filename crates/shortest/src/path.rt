@@ -31,14 +31,7 @@ fn next_arc(arcs: &[[u16; 4]], column: &[u32], v: usize) -> usize
 {
     for k in 0..arcs.len() {
         let h = wide(arcs[k][1]);
-        if leads(
-            arcs[k][0],
-            arcs[k][2],
-            arcs[k][3],
-            v,
-            column[h],
-            column[v],
-        ) {
+        if leads(arcs[k][0], arcs[k][2], arcs[k][3], v, column[h], column[v]) {
             return k;
         }
     }
@@ -74,7 +67,7 @@ pub fn path(
 // The column of the distances to j, out of lent rows of the table.
 pub fn column_to(table: &[[u32; 64]], j: usize) -> [u32; 64]
     requires { ⌜ (length (now table) ≤ 64) × (j < 64) ⌝ }
-    ensures { λ r. ⌜ ((i : ℕ) → i < length (now (table .entry)) → getD r i 0 ≡ getD (getD (now (table .entry)) i []) j 0) ⌝ }
+    ensures { λ r. ⌜ (length r ≡ 64) × ((i : ℕ) → i < length (now (table .entry)) → getD r i 0 ≡ getD (getD (now (table .entry)) i []) j 0) ⌝ }
 {
     let mut column = [0u32; 64];
     for i in 0..table.len() {

@@ -44,6 +44,6 @@ rows-plan r rows h =
     let n : p .n ≡ planValue r .n = rows-vertices (r .n) (take (r .m) rows) ∙ sym (plan-vertices r) in
     let size = rows-length (r .n) (take (r .m) rows) in
     let arcs : p .arcs ≡ planValue r .arcs = ext-getD (arcAt [] 0) (p .arcs) (planValue r .arcs) long (λ k g.
-        (let b : k < r .m = omega arith in
-        row-arc (r .n) (take (r .m) rows) k (omega arith) ∙ ap arcIn (getD-take (r .m) rows k [] b) ∙ ap arcIn (h .before k b) ∙ sym (plan-arc r k b))) in
+    (let b : k < r .m = omega arith in
+    row-arc (r .n) (take (r .m) rows) k (omega arith) ∙ ap arcIn (getD-take (r .m) rows k [] b) ∙ ap arcIn (h .before k b) ∙ sym (plan-arc r k b))) in
     λ i. record { n = n i; arcs = arcs i }

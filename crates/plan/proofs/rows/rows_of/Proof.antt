@@ -56,7 +56,7 @@ returns c =
     let i = v .loop .inv in
     let p = v .before .args .t1 in
     let e : v .loop .k ≡ p .m = omega arith in
-    rows-plan p (v .loop .rows) (subst (HoldArcs p (v .loop .rows)) e (i .2))
+    (i .2 .long, rows-plan p (v .loop .rows) (subst (HoldArcs p (v .loop .rows)) e (i .2)))
 
 pub rows-of-spec : {M : Type 1} → statement M
 rows-of-spec =

@@ -52,7 +52,7 @@ loop-again c =
 returns : tie.Need-returns Inv-loop μ-loop
 returns c =
     let v = c .before in
-    λ i l. v .loop .inv .2 .before i (omega arith)
+    (v .loop .inv .2 .long, λ i l. v .loop .inv .2 .before i (omega arith))
 
 pub column-to-spec : {M : Type 1} → statement M
 column-to-spec =
