@@ -1,52 +1,79 @@
 // `drive`: a plan on standard input, the drive and its floor on standard output.
+mod output; // output in blocks
+
+use crate::output::flush;
+use crate::output::put;
+use crate::output::put_line;
 use libc::STDIN_FILENO;
-use libc::STDOUT_FILENO;
 use planner::Planned;
-use planner::Verdict;
 use planner::call::short_call;
+use refusal::Verdict;
+ghost use Prim.Native.Nat.{_<_};
 ghost use lib.IntN.{pos};
 ghost use lib.Signed.{_≤ℤ_};
 
 // ---- printing
 
-fn text(s: &[u8]) {
-    io::write_all(STDOUT_FILENO, s);
-}
-
-fn line(label: &[u8], n: u64) {
-    text(label);
-    io::print_decimal(STDOUT_FILENO, n);
-    text(b"\n");
-}
-
-fn floor(x: i64)
-    requires { ⌜ pos 0 ≤ℤ x ⌝ }
+fn put_floor(space: &mut [u8; 4096], waiting: usize, x: i64) -> usize
+    requires { ⌜ (waiting < 4096) × (pos 0 ≤ℤ x) ⌝ }
+    ensures { λ r. ⌜ r < 4096 ⌝ }
 {
-    line(b"floor ", x as u64);
+    put_line(space, waiting, b"floor ", x as u64)
 }
 
-fn answer(r: Planned)
+fn put_whole(space: &mut [u8; 4096], waiting: usize, whole: bool) -> usize
+    requires { ⌜ waiting < 4096 ⌝ }
+    ensures { λ r. ⌜ r < 4096 ⌝ }
+{
+    if whole {
+        return put(space, waiting, b"whole yes\n");
+    }
+    put(space, waiting, b"whole no\n")
+}
+
+// The lines before the places.
+fn put_answer(space: &mut [u8; 4096], r: Planned) -> usize
+    requires { ⌜ pos 0 ≤ℤ r .floor ⌝ }
+    ensures { λ n. ⌜ n < 4096 ⌝ }
+{
+    let cost = put_line(space, 0, b"cost ", r.cost);
+    let floor = put_floor(space, cost, r.floor);
+    let trees = put_line(space, floor, b"trees ", r.trees as u64);
+    let whole = put_whole(space, trees, r.whole);
+    put_line(space, whole, b"parts ", r.parts as u64)
+}
+
+fn put_arc(space: &mut [u8; 4096], waiting: usize, number: u16) -> usize
+    requires { ⌜ waiting < 4096 ⌝ }
+    ensures { λ r. ⌜ r < 4096 ⌝ }
+{
+    put_line(space, waiting, b"arc ", number as u64)
+}
+
+fn put_places(space: &mut [u8; 4096], waiting: usize, sheet: &[u16]) -> usize
+    requires { ⌜ waiting < 4096 ⌝ }
+    ensures { λ r. ⌜ r < 4096 ⌝ }
+{
+    let mut n = waiting;
+    for i in 0..sheet.len() {
+        n = put_arc(space, n, sheet[i]);
+    }
+    n
+}
+
+fn print_answer(r: Planned, sheet: &[u16])
     requires { ⌜ pos 0 ≤ℤ r .floor ⌝ }
 {
-    line(b"cost ", r.cost);
-    floor(r.floor);
-    line(b"trees ", r.trees as u64);
-    if r.whole {
-        text(b"whole yes\n");
-    } else {
-        text(b"whole no\n");
-    }
-    line(b"parts ", r.parts as u64);
+    let mut space = io::buffer();
+    let n = put_answer(&mut space, r);
+    let all = put_places(&mut space, n, sheet);
+    flush(space, all);
 }
 
-fn arc(number: u16) {
-    line(b"arc ", number as u64);
-}
-
-fn places(sheet: &[u16]) {
-    for i in 0..sheet.len() {
-        arc(sheet[i]);
-    }
+fn print_refusal(number: u8) {
+    let mut space = io::buffer();
+    let all = put_line(&mut space, 0, b"refused ", number as u64);
+    flush(space, all);
 }
 
 // ---- reading
@@ -75,10 +102,7 @@ fn main() {
     let verdict = r.verdict;
     let count = r.places;
     match verdict {
-        Verdict::Accepted => {
-            answer(r);
-            places(&sheet[..count]);
-        }
-        Verdict::Refused(q) => line(b"refused ", planner::refusal_number(q) as u64),
+        Verdict::Accepted => print_answer(r, &sheet[..count]),
+        Verdict::Refused(q) => print_refusal(refusal::refusal_number(q)),
     }
 }

@@ -1,6 +1,6 @@
 -- Of an answer the contract gives the floor's sign and the count of places, which lie within the sheet.
 use mathlib.Core.Path.{ap}
-use Rattle.planner.specs.Refusals.{verdictNumber}
+use Rattle.refusal.specs.Verdict.{verdictNumber}
 use Rattle.planner.specs.Laws.Answered.{floor-above, places-fit, places-count}
 use borrow.Author.Needs.{needs}
 use Rattle.drive.proofs.main.Statement.{statement}
@@ -33,38 +33,29 @@ short-call-requires c κs = search needs
 enum-told : tie.Need-enum-told
 enum-told c = search needs
 
-answer-requires : tie.Need-answer-requires
-answer-requires c κs =
-    let r = c .before .before .before .short-call in
-    floor-above _ _ _ _ _ (r .ensures) (ap verdictNumber (c .enum-told .given .1))
-
 array-share-prefix-sheet : tie.Need-array-share-prefix-sheet
 array-share-prefix-sheet c =
+    let r = c .before .before .before .short-call in
+    places-fit _ _ _ _ _ (r .ensures) (ap verdictNumber (c .enum-told .given .1))
+
+slice-aggregate-print-answer : tie.Need-slice-aggregate-print-answer
+slice-aggregate-print-answer c =
     let r = c .before .before .before .before .short-call in
-    places-fit _ _ _ _ _ (r .ensures) (ap verdictNumber (c .before .enum-told .given .1))
+    places-count _ _ _ _ _ (r .ensures) (ap verdictNumber (c .before .enum-told .given .1))
 
-slice-aggregate-places : tie.Need-slice-aggregate-places
-slice-aggregate-places c =
-    let r = c .before .before .before .before .before .short-call in
-    places-count _ _ _ _ _ (r .ensures) (ap verdictNumber (c .before .before .enum-told .given .1))
-
-places-requires : tie.Need-places-requires
-places-requires c κs = search needs
+print-answer-requires : tie.Need-print-answer-requires
+print-answer-requires c κs =
+    let r = c .before .before .before .before .short-call in
+    floor-above _ _ _ _ _ (r .ensures) (ap verdictNumber (c .before .enum-told .given .1))
 
 enum-known-verdict : tie.Need-enum-known-verdict
 enum-known-verdict c = search needs
 
-slice-aggregate-line : tie.Need-slice-aggregate-line
-slice-aggregate-line c = search needs
-
 refusal-number-requires : tie.Need-refusal-number-requires
 refusal-number-requires c κs = search needs
 
-cast-line : tie.Need-cast-line
-cast-line c = search needs
-
-line-requires : tie.Need-line-requires
-line-requires c κs = search needs
+print-refusal-requires : tie.Need-print-refusal-requires
+print-refusal-requires c κs = search needs
 
 returns : tie.Need-returns
 returns c = search needs
@@ -85,14 +76,11 @@ main-spec =
     slice-aggregate-short-call-2
     short-call-requires
     enum-told
-    answer-requires
     array-share-prefix-sheet
-    slice-aggregate-places
-    places-requires
+    slice-aggregate-print-answer
+    print-answer-requires
     enum-known-verdict
-    slice-aggregate-line
     refusal-number-requires
-    cast-line
-    line-requires
+    print-refusal-requires
     returns
     returns-2)
