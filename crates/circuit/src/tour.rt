@@ -17,7 +17,7 @@ ghost use Rattle.circuit.specs.Legs.{Completes};
 ghost use Rattle.circuit.specs.Tour.{placesOf, tour, written, HavePaths};
 ghost use Rattle.circuit.specs.Filled.{linksOf};
 
-// Writes the legs in the order of their circuit.
+// Writes the legs in the order of their circuit. What a leg needs of the plan and of the table is lent to it.
 fn write_circuit(
     plan: Plan,
     table: &[[u32; 64]; 64],
@@ -35,7 +35,11 @@ fn write_circuit(
     ensures { λ r. ⌜ r ≡ length (placesOf (shortestPath (planValue plan)) (now (numbers .entry)) (now (tails .entry)) (now (heads .entry)) (circuit (now (tails .entry)) (now (heads .entry)))) ⌝ }
 {
     arrange(tails, heads, order);
-    write(plan, table, numbers, tails, heads, order, places)
+    let arcs = plan::rows::rows_of(plan);
+    let m = plan.m as usize;
+    let n = plan.n as usize;
+    let rows: &[[u32; 64]] = table;
+    write(&arcs[..m], &rows[..n], numbers, tails, heads, order, places)
 }
 
 // Writes the tour that the required arcs, the links of an arborescence and the amounts that balance them make, and answers how many places it has.

@@ -6,3 +6,4 @@ pub mod Rank
 pub mod FirstNumber
 pub mod ShortestPath
 pub mod PathWriting
+pub mod Lookup

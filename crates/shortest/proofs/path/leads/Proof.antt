@@ -1,11 +1,10 @@
 -- The tests in turn: the second is made where the first holds, and the third where both do.
 use mathlib.Core.Logic.{⊎-elim}
-use mathlib.Core.Path.{_≡_, _∙_, sym}
+use mathlib.Core.Path.{_≡_, _∙_}
 use mathlib.Core.Bool.{Bool, true, false, _&&_}
 use borrow.Author.Needs.{needs}
-use lib.Dec.{eqb}
-use Rattle.postman.specs.Plan.{isOpen}
-use Rattle.plan.specs.Records.{arcValue}
+use borrow.Author.Tests.{lt-ltb, le-ltb}
+use lib.Dec.{eqb, ltb}
 use Rattle.shortest.proofs.path.leads.Statement.{statement}
 use Rattle.shortest.proofs.path.leads.Tie as tie
 
@@ -22,38 +21,26 @@ third-made t e g = rw (← e, g)
 third-passed-by : {f x : Bool} (t : Bool) → f ≡ x → f ≡ false → f ≡ (x && t)
 third-passed-by t e g = rw (← e, g)
 
-is-open-requires : tie.Need-is-open-requires
-is-open-requires c κs = search needs
-
-cast-if2 : tie.Need-cast-if2
-cast-if2 c = search needs
-
-cast-result : tie.Need-cast-result
-cast-result c = search needs
-
 add-result : tie.Need-add-result
 add-result c = search needs
 
 returns : tie.Need-returns
 returns c =
-    let s = c .before .before .before .before .args in
-    let o = c .before .before .before .is-open .ensures in
+    let s = c .before .before .args in
     third-made _
-    (⊎-elim (λ w. both-held {a = isOpen (arcValue (s .a))} (eqb (s .a .tail) (s .v)) (sym o ∙ w .0 .taken) (w .2))
-    (λ w. first-failed {a = isOpen (arcValue (s .a))} (eqb (s .a .tail) (s .v)) (sym o ∙ w .0 .left) (w .1 ∙ w .0 .left))
-    (c .before .before .if1 .came))
-    (c .before .if2 .taken)
+    (⊎-elim (λ w. both-held {a = ltb (s .standing) 2} (eqb (s .tail) (s .v)) (lt-ltb _ 2 (w .0 .taken)) (w .1))
+    (λ w. first-failed {a = ltb (s .standing) 2} (eqb (s .tail) (s .v)) (le-ltb _ 2 (w .0 .left)) (w .1 ∙ le-ltb _ 2 (w .0 .left)))
+    (c .before .if1 .came))
+    (c .if2 .taken)
 
 returns-2 : tie.Need-returns-2
 returns-2 c =
-    let s = c .before .before .before .args in
-    let o = c .before .before .is-open .ensures in
+    let s = c .before .before .args in
     third-passed-by _
-    (⊎-elim (λ w. both-held {a = isOpen (arcValue (s .a))} (eqb (s .a .tail) (s .v)) (sym o ∙ w .0 .taken) (w .2))
-    (λ w. first-failed {a = isOpen (arcValue (s .a))} (eqb (s .a .tail) (s .v)) (sym o ∙ w .0 .left) (w .1 ∙ w .0 .left))
+    (⊎-elim (λ w. both-held {a = ltb (s .standing) 2} (eqb (s .tail) (s .v)) (lt-ltb _ 2 (w .0 .taken)) (w .1))
+    (λ w. first-failed {a = ltb (s .standing) 2} (eqb (s .tail) (s .v)) (le-ltb _ 2 (w .0 .left)) (w .1 ∙ le-ltb _ 2 (w .0 .left)))
     (c .before .if1 .came))
     (c .if2 .left)
 
 pub leads-spec : {M : Type 1} → statement M
-leads-spec =
-    tie.close (tie.spec is-open-requires cast-if2 cast-result add-result returns returns-2)
+leads-spec = tie.close (tie.spec add-result returns returns-2)
