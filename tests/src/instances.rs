@@ -129,7 +129,18 @@ pub fn random_plan(random: &mut Random, shape: &Shape) -> Plan {
     }
     random.shuffle(&mut arcs);
     arcs.truncate(MOST_ARCS);
+    part_twins(&mut arcs);
     Plan { n, arcs }
+}
+
+/// Gives another cost to each arc that agrees with one before it in all fields: such a plan is refused.
+pub fn part_twins(arcs: &mut [Arc]) {
+    for k in 0..arcs.len() {
+        let (before, rest) = arcs.split_at_mut(k);
+        while before.contains(&rest[0]) {
+            rest[0].cost = rest[0].cost % 65_535 + 1;
+        }
+    }
 }
 
 /// Required arcs that join the vertices of a part, in any direction, and some more of them, loops and parallel arcs too.
@@ -167,6 +178,7 @@ pub fn damaged(random: &mut Random, plan: &Plan) -> Vec<u8> {
             4 => plan.arcs[k].tail = random.within(0..=63) as u8,
             5 => plan.arcs[k].head = random.within(0..=63) as u8,
             6 => plan.n = random.within(0..=127),
+            7 | 8 => plan.arcs[k] = random.pick(&plan.arcs),
             _ => {}
         }
     }
@@ -205,10 +217,10 @@ pub fn fullest() -> Plan {
     Plan { n: MOST_VERTICES, arcs: (0..MOST_ARCS).map(arc).collect() }
 }
 
-/// A ring with as many required arcs as there is room for beside its first: each calls for a way all round, at the highest cost.
+/// A ring with as many required arcs as there is room for beside its first: each calls for a way all round, at the highest costs.
 pub fn longest() -> Plan {
     let last = MOST_VERTICES - 1;
     let ring = (1..=last).map(|v| Arc::new(v, (v + 1) % MOST_VERTICES, OPTIONAL, 65_535));
-    let required = (0..MOST_ARCS - last).map(|_| Arc::new(0, 1, REQUIRED, 65_535));
+    let required = (0..MOST_ARCS - last).map(|k| Arc::new(0, 1, REQUIRED, 65_535 - k as u16));
     Plan { n: MOST_VERTICES, arcs: ring.chain(required).collect() }
 }

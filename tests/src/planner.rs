@@ -38,6 +38,7 @@ pub mod refusal {
     pub const IDLE: Refusal = 10;
     pub const SCATTERED: Refusal = 11;
     pub const CUT_OFF: Refusal = 12;
+    pub const REPEATED: Refusal = 13;
 }
 
 /// What the plan call answers beside the drive.

@@ -91,7 +91,7 @@ pub fn run_codec(found: &mut Findings, codec: &dyn Codec, seed: u64, rounds: u64
     }
 }
 
-/// Records that are good for n vertices, but for one field of one, at times.
+/// Records that are good for n vertices, but for one field of one, at times, or for two that agree, or differ in standing alone.
 fn random_records(random: &mut Random, n: u32, m: usize) -> Vec<Arc> {
     let n = (n as usize).clamp(1, 64);
     let cost = |random: &mut Random| random.within(1..=65_535) as u16;
@@ -105,6 +105,11 @@ fn random_records(random: &mut Random, n: u32, m: usize) -> Vec<Arc> {
             1 => arc.head = byte,
             2 => arc.standing = byte,
             3 => arc.cost = 0,
+            4 | 5 => {
+                let twin = arcs[random.below(m)];
+                let standing = random.pick(&[twin.standing, (twin.standing + 1) % 3]);
+                arcs[random.below(m)] = Arc { standing, ..twin };
+            }
             _ => {}
         }
     }

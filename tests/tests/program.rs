@@ -48,8 +48,7 @@ fn lines(plan: &[u8]) -> (String, usize) {
     let mut sheet = vec![0; SHEET_PLACES];
     let a = Proved.plan_call(plan, PROGRAM_BUDGET, &mut sheet).expect("a good plan");
     let whole = if a.whole { "yes" } else { "no" };
-    let mut text =
-        format!("cost {}\nfloor {}\ntrees {}\nwhole {whole}\nparts {}\n", a.cost, a.floor, a.trees, a.parts);
+    let mut text = format!("cost {}\nfloor {}\ntrees {}\nwhole {whole}\nparts {}\n", a.cost, a.floor, a.trees, a.parts);
     for place in &sheet[..a.places] {
         text += &format!("arc {place}\n");
     }

@@ -1,5 +1,6 @@
 // Arborescences in document 01's order, one after the other. A choice holds, at place q, the number of the candidate that component q takes.
 use crate::reach;
+use integers::wide;
 ghost use mathlib.Core.Path.{_≡_};
 ghost use mathlib.Core.Bool.{true};
 ghost use Prim.Native.Nat.{ℕ, _+_, _-_, _^_, _<_, _≤_};
@@ -13,12 +14,6 @@ ghost use Rattle.arborescence.specs.Layout.{laidOut, IsLayout, AreSource
 pub struct Step {
     pub found: bool,
     pub choice: [usize; 8],
-}
-
-pub fn wide(x: u8) -> usize
-    ensures { λ r. ⌜ r ≡ x ⌝ }
-{
-    x as usize
 }
 
 // The number of candidates of component q.

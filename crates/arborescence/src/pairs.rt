@@ -1,5 +1,6 @@
 // A(u): the least reduced cost of a pair for each two components, and the cheapest arborescence over these.
 use crate::cheapest;
+use integers::wide;
 ghost use mathlib.Core.Path.{_≡_};
 ghost use mathlib.Core.Bool.{true, false};
 ghost use Prim.Native.Nat.{ℕ, _+_, _*_, _/_, _%_, _<_, _≤_};
@@ -42,12 +43,6 @@ fn offer(d: &[[u32; 64]; 64], u: &[i64; 64], required: &[bool; 64], i: usize, j:
         }
     }
     HIGHEST
-}
-
-fn wide(x: u8) -> usize
-    ensures { λ r. ⌜ r ≡ x ⌝ }
-{
-    x as usize
 }
 
 // The place of the entry that a pair offers to.

@@ -42,7 +42,7 @@ fn sources_below(source: &[u8; 4096], k: usize) -> bool
     ensures { λ r. ⌜ (r ≡ true → (i : ℕ) → i < 4096 → getD (now (source .entry)) i 0 < k) ⌝ }
 {
     for i in 0..4096 {
-        if k <= order::wide(source[i]) {
+        if k <= integers::wide(source[i]) {
             return false;
         }
     }
@@ -218,17 +218,10 @@ fn matrix(seed: usize, most: usize) -> [i64; 64]
     w
 }
 
-fn unsigned(x: i64) -> u64 {
-    if x < 0 {
-        return 0;
-    }
-    x as u64
-}
-
 fn least(w: [i64; 64], k: usize) {
     let left = up_to(k);
     if is_picture(&w, &left) {
-        line(unsigned(cheapest::solve(w, left)));
+        line(integers::magnitude(cheapest::solve(w, left)));
     }
 }
 

@@ -4,6 +4,7 @@ use mathlib.Core.List.{List, List·Memᴰ}
 use Prim.Native.Nat.{ℕ, _+_, _*_, _≤_, _<_}
 use lib.ListN.{length, getD}
 use Rattle.postman.specs.Lists.{occurrences}
+use Rattle.postman.specs.Link.{Link}
 use Rattle.postman.specs.Balancing.{sumOver}
 use Rattle.balance.specs.Optimality.{Feasible, Tight, Balances, sent}
 use Rattle.balance.specs.Step.{State, amount, potential}
@@ -21,6 +22,10 @@ pub record Metric (d : ℕ → ℕ → ℕ) (vs : List ℕ) : Type 0 where
 -- Every number of the list us is one of vs.
 abbrev pub AllIn : List ℕ → List ℕ → Type 0
 AllIn vs us = (k : ℕ) → k < length us → List·Memᴰ (getD us k 0) vs
+
+-- The arcs join vertices of vs.
+abbrev pub Joining : List ℕ → List Link → Type 0
+Joining vs arcs = (a : Link) → List·Memᴰ a arcs → List·Memᴰ (a .tail) vs × List·Memᴰ (a .head) vs
 
 -- At most so many arcs are added to a state: more than 256 required arcs and 7 links.
 abbrev pub limit : ℕ

@@ -1,5 +1,4 @@
--- What is proved: sums and duality, the search, the step and the arcs, the multipliers, the direct amounts, and what all of it says of a plan.
-pub mod Sum
+-- What is proved: duality, the search, the step and the arcs, the multipliers, the direct amounts, and what all of it says of a plan.
 pub mod Duality
 pub mod Fold
 pub mod Fill

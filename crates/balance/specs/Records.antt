@@ -1,6 +1,6 @@
 -- What a search and a state by value stand for.
-use Rattle.balance.specs.declared.Found.{Found as FoundRecord}
-use Rattle.balance.specs.declared.Balance.{Balance as BalanceRecord}
+use Rattle.balance.specs.declared.search.Found.{Found as FoundRecord}
+use Rattle.balance.specs.declared.state.Balance.{Balance as BalanceRecord}
 use Rattle.balance.specs.Search.{Found}
 use Rattle.balance.specs.Step.{State}
 

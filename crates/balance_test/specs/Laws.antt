@@ -1,5 +1,5 @@
 -- What the tests tell.
-use mathlib.Core.Path.{_≡_, refl, sym, ap, _∙_, subst, subst⁻¹}
+use mathlib.Core.Path.{_≡_, refl, sym, ap, _∙_, subst}
 use mathlib.Core.Bool.{Bool, true, false, not, _&&_, _||_}
 use mathlib.Core.List.{List, [], _∷_, List·Memᴰ, List·Memᴰ·cases-cons, List·Memᴰ·not-nil}
 use mathlib.Core.Logic.{inl, inr}
@@ -8,20 +8,17 @@ use native.Mathlib.Numerals.{add-one}
 use native.Mathlib.Decide.{decLe, ℕ-discrete}
 use native.Mathlib.Omega.{arith}
 use borrow.Author.Tests.{not-false}
-use lib.ListN.{length, getD, take, drop}
+use lib.ListN.{length, getD, take, drop, drop-of-length-le, List·getD-eq-default}
 use lib.Seq.{drop-cons}
 use lib.Dec.{T, eqb, leb, ltb, eqb→eq, leb→le, ltb→lt}
 use Rattle.postman.specs.Lists.{anyOf, allOf, occurrences}
-use Rattle.postman.specs.Laws.Tests.{and-parts}
+use Rattle.postman.specs.Laws.Tests.{and-parts, is-true, of-true}
 use Rattle.postman.specs.Laws.Membership.{allOf-at, anyOf-at, getD-mem}
 use Rattle.postman.specs.Laws.Occurrences.{delta-no, delta-yes}
 use Rattle.balance.specs.Bounds.{AtMost}
 use Rattle.balance.specs.Step.{cell}
 use Rattle.balance.specs.Invariant.{Metric, AllIn}
 use Rattle.balance_test.specs.Checks.{ascending, isShortest, isRow, isTable, isVertex, areVertices}
-
-pub as-T : {b : Bool} → b ≡ true → T b
-as-T e = subst⁻¹ T e tt
 
 -- ---- loops over a list, turn by turn
 
@@ -88,13 +85,7 @@ ascending-fails low k xs {v} inv l ev e =
 
 pub ascending-end : (low k : ℕ) (xs : List ℕ) {r : Bool} → ascending low (drop k xs) ≡ r → length xs ≤ k → true ≡ r
 unfolding ascending
-ascending-end low k xs inv l = sym (ap (ascending low) (drop-all xs k l)) ∙ inv
-  where
-    drop-all : (xs : List ℕ) (k : ℕ) → length xs ≤ k → drop k xs ≡ []
-    drop-all [] zero h = refl
-    drop-all [] (suc k) h = refl
-    drop-all (x ∷ xs) zero h = absurd (omega arith)
-    drop-all (x ∷ xs) (suc k) h = drop-all xs k (omega arith)
+ascending-end low k xs inv l = sym (ap (ascending low) (drop-of-length-le xs l)) ∙ inv
 
 record Ascends (low : ℕ) (vs : List ℕ) : Type 0 where
   from : (v : ℕ) → List·Memᴰ v vs → (low ≤ v) × (v < 64)
@@ -125,19 +116,14 @@ ascends low (v ∷ vs) t =
 
 pub small-numbers : (vs : List ℕ) → ascending 0 vs ≡ true → AtMost 63 vs
 small-numbers vs e k = elim (decLe (k + 1) (length vs)) [
-  | yes h ↦ let a = ascends 0 vs (as-T e) .from (getD vs k 0) (getD-mem vs 0 k (omega arith)) .1 in omega arith
-  | no h ↦ let a = past vs k (omega arith) in omega arith
+  | yes h ↦ let a = ascends 0 vs (of-true e) .from (getD vs k 0) (getD-mem vs 0 k (omega arith)) .1 in omega arith
+  | no h ↦ let a = List·getD-eq-default vs 0 {n = k} (omega arith) in omega arith
 ]
-  where
-    past : (xs : List ℕ) (k : ℕ) → length xs ≤ k → getD xs k 0 ≡ 0
-    past [] k h = refl
-    past (x ∷ xs) zero h = absurd (omega arith)
-    past (x ∷ xs) (suc k) h = past xs k (omega arith)
 
 pub metric : (d : List (List ℕ)) (vs : List ℕ) → ascending 0 vs ≡ true → isTable d vs ≡ true → Metric (cell d) vs
 unfolding isTable isRow isShortest
 metric d vs a t =
-    let s = ascends 0 vs (as-T a) in
+    let s = ascends 0 vs (of-true a) in
     record {
       once = s .once;
       size = (let z = s .size (omega arith) in omega arith);
@@ -148,19 +134,15 @@ metric d vs a t =
     }
   where
     row : (i : ℕ) → List·Memᴰ i vs → T (eqb (cell d i i) 0) × T (isRow d vs i)
-    row i m = and-parts (eqb (cell d i i) 0) (isRow d vs i) (allOf-at (λ i. eqb (cell d i i) 0 && isRow d vs i) m (as-T t))
+    row i m = and-parts (eqb (cell d i i) 0) (isRow d vs i) (allOf-at (λ i. eqb (cell d i i) 0 && isRow d vs i) m (of-true t))
 
     pair : (i j : ℕ) → List·Memᴰ i vs → List·Memᴰ j vs → T (leb (cell d i j) 4128705) × T (isShortest d vs i j)
     pair i j mi mj = and-parts (leb (cell d i j) 4128705) (isShortest d vs i j) (allOf-at (λ j. leb (cell d i j) 4128705 && isShortest d vs i j) mj (row i mi .1))
 
 pub vertex-in : (vs : List ℕ) (v : ℕ) → isVertex vs v ≡ true → List·Memᴰ v vs
 unfolding isVertex
-vertex-in vs v e = let r = anyOf-at (λ w. eqb w v) vs (as-T e) in subst (λ w. List·Memᴰ w vs) (eqb→eq (r .0) v (r .2)) (r .1)
+vertex-in vs v e = let r = anyOf-at (λ w. eqb w v) vs (of-true e) in subst (λ w. List·Memᴰ w vs) (eqb→eq (r .0) v (r .2)) (r .1)
 
 pub vertices-in : (vs us : List ℕ) → areVertices vs us ≡ true → AllIn vs us
 unfolding areVertices
-vertices-in vs us e k l = vertex-in vs (getD us k 0) (is-true (isVertex vs (getD us k 0)) (allOf-at (isVertex vs) (getD-mem us 0 k l) (as-T e)))
-  where
-    is-true : (b : Bool) → T b → b ≡ true
-    is-true true t = refl
-    is-true false t = absurd t
+vertices-in vs us e k l = vertex-in vs (getD us k 0) (is-true (allOf-at (isVertex vs) (getD-mem us 0 k l) (of-true e)))

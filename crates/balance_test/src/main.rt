@@ -151,28 +151,7 @@ fn print_signed(a: i64) {
     if a < 0 {
         io::write_all(1, b"-");
     }
-    io::print_decimal(1, magnitude(a));
-}
-
-// |a|, and 0 where that is large.
-fn magnitude(a: i64) -> u64 {
-    if a < 0 {
-        return positive(turned(a));
-    }
-    positive(a)
-}
-
-// -a, and 0 where that is large.
-fn turned(a: i64) -> i64 {
-    if a < -4611686018427387904 {
-        return 0;
-    }
-    0 - a
-}
-
-// The larger of 0 and a.
-fn positive(a: i64) -> u64 {
-    if a < 0 { 0 } else { a as u64 }
+    io::print_decimal(1, integers::magnitude(a));
 }
 
 // An amount, to add up.
@@ -238,15 +217,15 @@ fn report(d: &[[u32; 64]; 64], vs: &[u8], tails: &[u8], heads: &[u8], n: usize)
         io::write_all(1, b"refused\n");
         return;
     }
-    let none = balance::empty();
-    let s = balance::add_all(none, d, vs, tails, heads);
+    let none = balance::state::empty();
+    let s = balance::state::add_all(none, d, vs, tails, heads);
     io::print_decimal(1, s.cost);
     io::write_all(1, b" ");
-    let f = balance::direct_amounts(s, d, vs);
+    let f = balance::direct::direct_amounts(s, d, vs);
     io::print_decimal(1, units(&f));
     io::write_all(1, b":");
     let root = vs[0];
-    let u = balance::multipliers(s, d, vs, root);
+    let u = balance::multipliers::multipliers(s, d, vs, root);
     print_multipliers(u, n);
     io::write_all(1, b"\n");
 }

@@ -1,6 +1,6 @@
 -- What a test of a budget says. A number is outside its limits, or is not, by cases on the two tests.
 use mathlib.Core.Path.{_≡_, refl, sym, ap}
-use mathlib.Core.Bool.{Bool, true, false, cond, _||_}
+use mathlib.Core.Bool.{Bool, true, false, cond, _||_, or-true}
 use Prim.Native.Nat.{ℕ, _≤_, _<_}
 use native.Mathlib.Omega.{arith}
 use borrow.Author.Tests.{lt-ltb, le-ltb, ltb-false}
@@ -14,10 +14,6 @@ use Rattle.budget.specs.Checks.{checkedOf, InRange}
 pub too-low : (n : ℕ) → n ≡ 0 → Refused ≡ checkedOf n
 unfolding checkedOf
 too-low n e = let t = lt-ltb n 1 (omega arith) in rw t
-
-or-true : (b : Bool) → (b || true) ≡ true
-or-true true = refl
-or-true false = refl
 
 pub too-high : (n : ℕ) → highestBudget < n → Refused ≡ checkedOf n
 unfolding checkedOf isOutside

@@ -1,5 +1,5 @@
 // The candidate links of a network's components in arrays, one component after the other.
-use network::Network;
+use network::network::Network;
 ghost use mathlib.Core.Path.{_≡_};
 ghost use mathlib.Core.Bool.{false};
 ghost use mathlib.Core.List.{_++_};

@@ -7,7 +7,7 @@ ghost use Prim.Native.Nat.{_≤_, _<_};
 ghost use lib.ListN.{length};
 ghost use Rattle.plan.specs.Records.{planValue};
 ghost use Rattle.circuit_test.specs.Single.{Runs, single};
-ghost use Rattle.circuit_test.specs.Cases.{planIn, caseA, caseB, caseC, loops, long};
+ghost use Rattle.circuit_test.specs.Cases.{planIn, loops, long};
 
 // ---- what is printed
 
@@ -186,30 +186,6 @@ fn plan_of(n: u8, rows: &[u8]) -> Plan
     }
 }
 
-fn plan_a() -> Plan
-    ensures { λ r. ⌜ planValue r ≡ caseA ⌝ }
-{
-    plan_of(2, b"\x00\x01\x01\x05\x01\x00\x00\x03")
-}
-
-fn plan_b() -> Plan
-    ensures { λ r. ⌜ planValue r ≡ caseB ⌝ }
-{
-    plan_of(
-        4,
-        b"\x00\x01\x01\x01\x01\x00\x00\x01\x02\x03\x01\x01\x03\x02\x00\x01\x01\x02\x00\x0a\x03\x00\x00\x0a",
-    )
-}
-
-fn plan_c() -> Plan
-    ensures { λ r. ⌜ planValue r ≡ caseC ⌝ }
-{
-    plan_of(
-        3,
-        b"\x00\x00\x01\x01\x01\x01\x01\x01\x02\x02\x01\x01\x00\x01\x00\x02\x01\x02\x00\x02\x02\x00\x00\x02\x00\x02\x00\x03",
-    )
-}
-
 fn plan_loops() -> Plan
     ensures { λ r. ⌜ planValue r ≡ loops ⌝ }
 {
@@ -260,8 +236,8 @@ fn run_in(
 )
     requires { ⌜ Runs (planValue plan) (now «link_tails») (now «link_heads») (now amounts) × (17266 ≤ length (now places)) ⌝ }
 {
-    let table = shortest::table(plan);
-    let n = circuit::write_tour(plan, &table, link_tails, link_heads, amounts, places);
+    let table = shortest::distance::table(plan);
+    let n = circuit::tour::write_tour(plan, &table, link_tails, link_heads, amounts, places);
     text(label);
     report(plan, places, n);
 }
@@ -277,9 +253,18 @@ fn run(label: &[u8], plan: Plan, link_tails: &[u8], link_heads: &[u8], y: usize,
 }
 
 fn main() {
-    run(b"A", plan_a(), b"", b"", 64, 1);
-    run(b"B", plan_b(), b"\x01", b"\x02", 192, 1);
-    run(b"C", plan_c(), b"\x00\x01", b"\x01\x02", 128, 1);
+    let a = plan_of(2, b"\x00\x01\x01\x05\x01\x00\x00\x03");
+    run(b"A", a, b"", b"", 64, 1);
+    let b = plan_of(
+        4,
+        b"\x00\x01\x01\x01\x01\x00\x00\x01\x02\x03\x01\x01\x03\x02\x00\x01\x01\x02\x00\x0a\x03\x00\x00\x0a",
+    );
+    run(b"B", b, b"\x01", b"\x02", 192, 1);
+    let c = plan_of(
+        3,
+        b"\x00\x00\x01\x01\x01\x01\x01\x01\x02\x02\x01\x01\x00\x01\x00\x02\x01\x02\x00\x02\x02\x00\x00\x02\x00\x02\x00\x03",
+    );
+    run(b"C", c, b"\x00\x01", b"\x01\x02", 128, 1);
     run(b"loops", plan_loops(), b"", b"", 0, 0);
     run(b"long", plan_long(), b"", b"", 64, 190);
 }

@@ -6,8 +6,8 @@ use crate::output::put;
 use crate::output::put_line;
 use libc::STDIN_FILENO;
 use planner::Planned;
-use planner::Verdict;
 use planner::call::plan_call;
+use refusal::Verdict;
 ghost use Prim.Native.Nat.{_<_};
 ghost use lib.IntN.{pos};
 ghost use lib.Signed.{_≤ℤ_};
@@ -106,6 +106,6 @@ fn main() {
     let count = r.places;
     match verdict {
         Verdict::Accepted => print_answer(r, &sheet[..count]),
-        Verdict::Refused(q) => print_refusal(planner::refusal_number(q)),
+        Verdict::Refused(q) => print_refusal(refusal::refusal_number(q)),
     }
 }

@@ -10,7 +10,7 @@ use lib.Seq.{paste}
 use Rattle.postman.specs.Refusal.{unless}
 use Rattle.records.specs.Writing.{atMost}
 use Rattle.planner.specs.declared.Planned.{Planned}
-use Rattle.planner.specs.Refusals.{verdictNumber}
+use Rattle.refusal.specs.Verdict.{verdictNumber}
 use Rattle.planner.specs.Contract.{IsPlanCall}
 
 -- The words of an answer: places, cost, floor (which is at least 0), trees, whole as 0 or 1, parts.

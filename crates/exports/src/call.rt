@@ -4,12 +4,12 @@ ghost use mathlib.Core.Option.{none};
 ghost use lib.IntN.{pos, natAbs};
 ghost use lib.Signed.{_≤ℤ_};
 ghost use Rattle.postman.specs.PlanCall.{defaultBudget};
-ghost use Rattle.planner.specs.Refusals.{verdictNumber};
+ghost use Rattle.refusal.specs.Verdict.{verdictNumber};
 ghost use Rattle.exports.specs.Answer.{wordsOf, putFirst, IsHandedOver, IsExportedCall};
 use planner::Planned;
-use planner::Verdict;
-use planner::refusal_number;
 use records::writer::at_most;
+use refusal::Verdict;
+use refusal::refusal_number;
 
 // The floor as a word. It is at least 0, since R + Z is.
 fn floor_word(floor: i64) -> u64

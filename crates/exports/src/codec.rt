@@ -4,20 +4,21 @@ ghost use Prim.Native.Nat.{ℕ, _≤_};
 ghost use lib.IntN.{pos, negℤ};
 ghost use Rattle.postman.specs.Refusal.{given};
 ghost use Rattle.postman.specs.PlanFile.{readAnswer, writeAnswer, bytesAfter};
-ghost use Rattle.plan_file.specs.Verdicts.{refusalNumber, writtenAnswer};
+ghost use Rattle.refusal.specs.Verdict.{refusalNumber};
+ghost use Rattle.plan_file.specs.Writing.{writtenAnswer};
 ghost use Rattle.records.specs.Reading.{readNumbers};
 ghost use Rattle.records.specs.Writing.{atMost};
 ghost use Rattle.exports.specs.RecordBytes.{arcsIn};
 ghost use Rattle.exports.specs.Codec.{oneNumber, packed, lentAfter, lentPlan};
 use crate::record_bytes::load_records;
 use crate::record_bytes::store_arcs;
-use plan_file::Refusal;
 use plan_file::Written;
-use plan_file::refusal_number;
 use records::reader::Read;
 use records::reader::arcs_read;
 use records::reader::read_answer;
 use records::writer::write_arcs;
+use refusal::Refusal;
+use refusal::refusal_number;
 
 // Minus the refusal's number.
 fn refused_number(r: Refusal) -> i64

@@ -5,7 +5,7 @@
 --     simp zr (simp zl (omega arith))             an equation of many products: each product is then one atom
 -- The order of the entries in zl matters: `simp` takes the first that fits, so the rules for sums stand before those for a single term. `omega` applies to a hypothesis the first rule of z that fits, and no other.
 -- Assumes nothing.
-use mathlib.Core.Path.{_≡_, refl, sym, _∙_, ap}
+use mathlib.Core.Path.{_≡_, refl, sym, _∙_, ap, subst⁻¹}
 use mathlib.Core.Logic.{_↔_}
 use mathlib.Core.List.{List, [], _∷_}
 use mathlib.Core.Bool.{Bool, true, false, not, cond}
@@ -359,3 +359,21 @@ mul-pos-pos (negsuc m) b h k = absurd (h .le)
 -- |a| ≤ m, |b| ≤ k: |a * b| ≤ m * k
 pub mul-abs : (a b : ℤ) (m k : ℕ) → natAbs a ≤ m → natAbs b ≤ k → natAbs (a *ℤ b) ≤ m * k
 mul-abs a b m k h l = rw abs-mul (mul-le-mul h l)
+
+-- ---- differences and casts
+pub minus-eq : (a b c e : ℕ) → pos a -ℤ pos b ≡ pos c -ℤ pos e → a + e ≡ c + b
+minus-eq a b c e = simp zz (omega arith)
+
+-- what a cast to a u64 asks
+pub nonneg-cast : (a : ℤ) → mag a < 2 ^ 63 → pos 0 ≤ℤ a → T (nonNeg (toZ w64 (ofZ w64 a))) × Fits w64 (natAbs (toZ w64 (ofZ w64 a)))
+nonneg-cast a s l = subst⁻¹ (λ (x : ℤ). T (nonNeg x) × Fits w64 (natAbs x)) (back64 a s) (at a s l)
+  where
+    at : (a : ℤ) → mag a < 2 ^ 63 → pos 0 ≤ℤ a → T (nonNeg a) × Fits w64 (natAbs a)
+    at (pos n) s l = (tt, record { fits = omega arith })
+    at (negsuc n) s l = absurd (l .le)
+
+-- the size of -(a + 1)
+pub turned-size : (a b : ℤ) → P a < N a → P b + P a + 1 ≡ N b + N a → natAbs b + 1 ≡ natAbs a
+turned-size (pos m) b l e = absurd (omega arith)
+turned-size (negsuc m) (pos n) l e = omega arith
+turned-size (negsuc m) (negsuc n) l e = absurd (omega arith)

@@ -11,7 +11,7 @@ use Rattle.postman.specs.Component.{component, componentCount}
 use Rattle.postman.specs.Balancing.{imbalance}
 use Rattle.postman.specs.PlanCall.{isCutOff}
 use Rattle.network.specs.LinkPair.{isLinkPair}
-use Rattle.network.specs.declared.Network.{Network}
+use Rattle.network.specs.declared.network.Network.{Network}
 
 -- D(v), for every vertex v.
 abbrev pub IsImbalance : Plan → List ℤ → Type 0

@@ -1,7 +1,6 @@
 -- What is proved about the definitions.
 pub mod RequiredSum
 pub mod Search
-pub mod Array
 pub mod Flat
 pub mod Thinning
 pub mod RequiredVertex

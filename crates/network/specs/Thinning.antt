@@ -1,4 +1,4 @@
--- Thinning and reachability over a table of distances and flags of required vertices: what the loops over pairs compute.
+-- Thinning over a table of distances and flags of required vertices: what the loops over pairs compute.
 use mathlib.Core.Bool.{Bool, false, not, _&&_}
 use mathlib.Core.List.{List, []}
 use Prim.Native.Nat.{ℕ, _+_}
@@ -8,21 +8,6 @@ use Rattle.postman.specs.Lists.{anyOf, below}
 
 abbrev pub cell : List (List ℕ) → ℕ → ℕ → ℕ
 cell d i j = getD (getD d i []) j 0
-
--- Some required vertex has no path from i; and from some required vertex.
-abbrev pub isMissed : List (List ℕ) → List Bool → ℕ → ℕ → Bool
-isMissed d r i j = getD r j false && eqb (cell d i j) 4294967295
-
-unfoldable pub missesSome : List (List ℕ) → List Bool → ℕ → Bool
-unfolding anyOf below
-missesSome d r i = anyOf (isMissed d r i) (below 64)
-
-abbrev pub isCut : List (List ℕ) → List Bool → ℕ → Bool
-isCut d r i = getD r i false && missesSome d r i
-
-unfoldable pub cutsOff : List (List ℕ) → List Bool → Bool
-unfolding anyOf below
-cutsOff d r = anyOf (isCut d r) (below 64)
 
 -- k is required, other than i and j, and on a cheapest way from i to j.
 abbrev pub between : List (List ℕ) → List Bool → ℕ → ℕ → ℕ → Bool

@@ -10,7 +10,7 @@ use Rattle.postman.specs.Plan.{IsArc, WellFormed}
 use Rattle.plan.specs.declared.Arc.{Arc as ArcRecord}
 use Rattle.plan.specs.declared.Plan.{Plan as PlanRecord}
 use Rattle.plan.specs.Records.{planValue, arcValue, zeroRecord}
-use Rattle.shortest.specs.Laws.Records.{well-formed, record-arc, record-vertices}
+use Rattle.plan.specs.Laws.Records.{well-formed, record-arc, record-vertices}
 
 pub record Copied (old : List ArcRecord) (a : ArcRecord) (new : List ArcRecord) (k : ℕ) : Type 0 where
   pub size : length new ≡ 256

@@ -1,50 +1,9 @@
 // The plans.
 use plan::Plan;
+ghost use Prim.Native.Nat.{_≤_, _<_};
+ghost use lib.ListN.{length};
 ghost use Rattle.postman.specs.Plan.{WellFormed};
 ghost use Rattle.plan.specs.Records.{planValue};
-
-fn case_a() -> Plan
-    ensures { λ r. ⌜ WellFormed (planValue r) ⌝ }
-{
-    let p = crate::plans::plan_of(2, 0, 1, 1, 5);
-    crate::plans::with_arc(p, 1, 0, 0, 3)
-}
-
-fn case_b() -> Plan
-    ensures { λ r. ⌜ WellFormed (planValue r) ⌝ }
-{
-    let p = crate::plans::plan_of(4, 0, 1, 1, 1);
-    let q = crate::plans::with_arc(p, 1, 0, 0, 1);
-    let r = crate::plans::with_arc(q, 2, 3, 1, 1);
-    let s = crate::plans::with_arc(r, 3, 2, 0, 1);
-    let t = crate::plans::with_arc(s, 1, 2, 0, 10);
-    crate::plans::with_arc(t, 3, 0, 0, 10)
-}
-
-fn case_c() -> Plan
-    ensures { λ r. ⌜ WellFormed (planValue r) ⌝ }
-{
-    let p = crate::plans::plan_of(3, 0, 0, 1, 1);
-    let q = crate::plans::with_arc(p, 1, 1, 1, 1);
-    let r = crate::plans::with_arc(q, 2, 2, 1, 1);
-    let s = crate::plans::with_arc(r, 0, 1, 0, 2);
-    let t = crate::plans::with_arc(s, 1, 2, 0, 2);
-    let u = crate::plans::with_arc(t, 2, 0, 0, 2);
-    crate::plans::with_arc(u, 0, 2, 0, 3)
-}
-
-fn case_d() -> Plan
-    ensures { λ r. ⌜ WellFormed (planValue r) ⌝ }
-{
-    crate::plans::plan_of(2, 0, 1, 1, 5)
-}
-
-fn case_e() -> Plan
-    ensures { λ r. ⌜ WellFormed (planValue r) ⌝ }
-{
-    let p = crate::plans::plan_of(2, 0, 1, 0, 5);
-    crate::plans::with_arc(p, 1, 0, 0, 3)
-}
 
 // n vertices, a required loop at each.
 pub fn case_f(n: u8) -> Plan
@@ -58,35 +17,45 @@ pub fn case_f(n: u8) -> Plan
     p
 }
 
-// Parallel arcs, the cheapest of them closed; a closed arc that would join; a vertex that no arc reaches.
-fn parallel() -> Plan
-    ensures { λ r. ⌜ WellFormed (planValue r) ⌝ }
+fn shown(label: &[u8], p: Plan)
+    requires { ⌜ WellFormed (planValue p) ⌝ }
 {
-    let p = crate::plans::plan_of(5, 0, 1, 0, 9);
-    let q = crate::plans::with_arc(p, 0, 1, 1, 4);
-    let r = crate::plans::with_arc(q, 0, 1, 2, 1);
-    let s = crate::plans::with_arc(r, 1, 2, 2, 1);
-    let t = crate::plans::with_arc(s, 2, 1, 1, 7);
-    crate::plans::with_arc(t, 3, 3, 1, 2)
+    io::write_all(1, label);
+    crate::show::plan(p);
+}
+
+fn rows(label: &[u8], n: u8, arcs: &[u8])
+    requires { ⌜ 4 ≤ length (now arcs) ⌝ }
+{
+    shown(label, crate::plans::of_rows(n, arcs));
 }
 
 pub fn named() {
-    io::write_all(1, b"A\n");
-    crate::show::plan(case_a());
-    io::write_all(1, b"B\n");
-    crate::show::plan(case_b());
-    io::write_all(1, b"C\n");
-    crate::show::plan(case_c());
-    io::write_all(1, b"D\n");
-    crate::show::plan(case_d());
-    io::write_all(1, b"E\n");
-    crate::show::plan(case_e());
-    io::write_all(1, b"F\n");
-    crate::show::plan(case_f(8));
-    io::write_all(1, b"F with nine\n");
-    crate::show::plan(case_f(9));
-    io::write_all(1, b"parallel\n");
-    crate::show::plan(parallel());
+    // "A: n 2; 0→1 5 M; 1→0 3."
+    rows(b"A\n", 2, b"\x00\x01\x01\x05\x01\x00\x00\x03");
+    // "B: n 4; 0→1 1 M; 1→0 1; 2→3 1 M; 3→2 1; 1→2 10; 3→0 10."
+    rows(
+        b"B\n",
+        4,
+        b"\x00\x01\x01\x01\x01\x00\x00\x01\x02\x03\x01\x01\x03\x02\x00\x01\x01\x02\x00\x0a\x03\x00\x00\x0a",
+    );
+    // "C: n 3; 0→0 1 M; 1→1 1 M; 2→2 1 M; 0→1 2; 1→2 2; 2→0 2; 0→2 3."
+    rows(
+        b"C\n",
+        3,
+        b"\x00\x00\x01\x01\x01\x01\x01\x01\x02\x02\x01\x01\x00\x01\x00\x02\x01\x02\x00\x02\x02\x00\x00\x02\x00\x02\x00\x03",
+    );
+    // "D: A's first arc alone." "E: A with 0→1 may."
+    rows(b"D\n", 2, b"\x00\x01\x01\x05");
+    rows(b"E\n", 2, b"\x00\x01\x00\x05\x01\x00\x00\x03");
+    shown(b"F\n", case_f(8));
+    shown(b"F with nine\n", case_f(9));
+    // Parallel arcs, the cheapest of them closed; a closed arc that would join; a vertex that no arc reaches.
+    rows(
+        b"parallel\n",
+        5,
+        b"\x00\x01\x00\x09\x00\x01\x01\x04\x00\x01\x02\x01\x01\x02\x02\x01\x02\x01\x01\x07\x03\x03\x01\x02",
+    );
 }
 
 fn sum(p: Plan)
@@ -109,6 +78,13 @@ pub fn ring(cost: u32) -> Plan
     p
 }
 
+// The next number of a linear congruence.
+fn next(s: u32) -> u32
+    ensures { λ r. ⌜ r < 65536 ⌝ }
+{
+    (s % 65536 * 25173 + 13849) % 65536
+}
+
 // Arcs by a linear congruence.
 pub fn drawn(n: u8, m: u16, seed: u32) -> Plan
     ensures { λ r. ⌜ WellFormed (planValue r) ⌝ }
@@ -116,15 +92,13 @@ pub fn drawn(n: u8, m: u16, seed: u32) -> Plan
     let mut p = crate::plans::plan_of(n, 0, 0, 1, 1);
     let mut s: u32 = seed % 65536;
     for k in 1..m {
-        s = (s % 65536 * 25173 + 13849) % 65536;
-        let t = s / 256;
-        s = (s % 65536 * 25173 + 13849) % 65536;
-        let h = s / 256;
-        s = (s % 65536 * 25173 + 13849) % 65536;
+        let t = next(s);
+        let h = next(t);
+        s = next(h);
         let q = crate::plans::with_arc(
             p,
-            t as u8,
-            h as u8,
+            (t / 256) as u8,
+            (h / 256) as u8,
             (s / 512 % 3) as u8,
             (s / 16 % 20 + 1) as u16,
         );

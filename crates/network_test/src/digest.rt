@@ -1,5 +1,5 @@
 // A sum over all that a plan's table, paths and network hold.
-use network::Network;
+use network::network::Network;
 use plan::Plan;
 ghost use Prim.Native.Nat.{_<_};
 ghost use Rattle.postman.specs.Plan.{WellFormed};
@@ -55,7 +55,7 @@ fn fold_path(sum: u64, p: Plan, t: &[[u32; 64]; 64], i: usize, j: usize) -> u64
         return sum;
     }
     let mut places = [0u16; 64];
-    let end = shortest::path(p, t, i, j, &mut places, 0);
+    let end = shortest::path::path(p, t, i, j, &mut places, 0);
     fold_places(sum, &places, end)
 }
 
@@ -117,8 +117,8 @@ fn fold_network(sum: u64, net: Network) -> u64 {
 pub fn of(p: Plan) -> u64
     requires { ⌜ WellFormed (planValue p) ⌝ }
 {
-    let t = shortest::table(p);
-    let net = network::network_of(p, &t);
+    let t = shortest::distance::table(p);
+    let net = network::network::network_of(p, &t);
     let a = fold_table(0, &t);
     let b = fold_paths(a, p, &t);
     fold_network(b, net)

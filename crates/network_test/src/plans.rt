@@ -2,6 +2,7 @@
 use plan::Arc;
 use plan::Plan;
 ghost use Prim.Native.Nat.{_≤_};
+ghost use lib.ListN.{length};
 ghost use Rattle.postman.specs.Plan.{IsArc, WellFormed};
 ghost use Rattle.plan.specs.Records.{planValue, arcValue};
 ghost use Rattle.network_test.specs.Copied.{Copied};
@@ -85,4 +86,23 @@ pub fn with_arc(p: Plan, tail: u8, head: u8, standing: u8, cost: u16) -> Plan
         m: m + 1,
         arcs: arcs,
     }
+}
+
+fn wide(x: u8) -> u16 {
+    x as u16
+}
+
+// Four numbers for each arc: tail, head, standing, cost.
+pub fn of_rows(n: u8, rows: &[u8]) -> Plan
+    requires { ⌜ 4 ≤ length (now rows) ⌝ }
+    ensures { λ r. ⌜ WellFormed (planValue r) ⌝ }
+{
+    let mut p = plan_of(n, rows[0], rows[1], rows[2], wide(rows[3]));
+    let m = rows.len() / 4;
+    for k in 1..m {
+        let at = k * 4;
+        let q = with_arc(p, rows[at], rows[at + 1], rows[at + 2], wide(rows[at + 3]));
+        p = q;
+    }
+    p
 }

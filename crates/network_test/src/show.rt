@@ -129,9 +129,9 @@ pub fn plan(p: Plan)
     requires { ⌜ WellFormed (planValue p) ⌝ }
 {
     let n = p.n as usize;
-    let t = shortest::table(p);
+    let t = shortest::distance::table(p);
     table(&t, n);
-    let net = network::network_of(p, &t);
+    let net = network::network::network_of(p, &t);
     let required = net.required;
     let component = net.component;
     let pairs = net.links;

@@ -1,4 +1,6 @@
 // The plan by value: what every layer above the plan file works on.
+pub mod rows; // the arcs as rows of numbers, which can be lent
+
 ghost use mathlib.Core.Path.{_≡_};
 ghost use Rattle.postman.specs.Plan.{isOpen, isRequiredArc};
 ghost use Rattle.plan.specs.Standings.{standingOf};

@@ -2,7 +2,7 @@
 use mathlib.Core.List.{List}
 use Prim.Native.Nat.{ℕ, zero, suc, _+_, _*_}
 use Rattle.postman.specs.Plan.{Arc}
-use Rattle.plan_file.specs.FieldUpdate.{putField}
+use Rattle.bits.specs.FieldUpdate.{putField}
 
 -- "edition 4 bits (value 1); vertex count n, 7 bits […]; arc count m, 9 bits"
 unfoldable pub putHeader : List ℕ → ℕ → ℕ → List ℕ

@@ -1,18 +1,18 @@
 -- What reading a plan file into a plan by value answers.
-use mathlib.Core.Path.{_≡_, refl}
-use mathlib.Core.Bool.{cond, not, _||_}
-use mathlib.Core.List.{List, _∷_, map, flatMap}
+use mathlib.Core.Path.{_≡_}
+use mathlib.Core.Bool.{not, _||_}
+use mathlib.Core.List.{List, _∷_, map}
 use mathlib.Core.Option.{Option, none, some}
 use Prim.Native.Nat.{ℕ, _-_, _*_}
 use lib.ListN.{length}
 use lib.Dec.{eqb, ltb}
 use Rattle.postman.specs.Lists.{below}
-use Rattle.postman.specs.Plan.{Plan}
+use Rattle.postman.specs.Plan.{Arc, Plan}
 use Rattle.postman.specs.BitField.{fieldAt}
 use Rattle.postman.specs.Refusal.{Conditions, firstRefusal}
-use Rattle.postman.specs.PlanFile.{edition, vertexCount, arcCount, arcOf, arcConditions, extentConditions, fileBits, fileLength, fillBits, isOutside, fileConditions, planConditions, planOf}
+use Rattle.postman.specs.PlanFile.{arcOf, planConditions, fileBits, fileLength, fileConditions, planOf}
 use Rattle.plan_file.specs.declared.Reading.{Reading}
-use Rattle.plan_file.specs.Verdicts.{verdictNumber}
+use Rattle.refusal.specs.Verdict.{verdictNumber}
 use Rattle.plan.specs.Records.{planRecord, noPlan}
 
 -- The plan, or no plan where there is a refusal.
@@ -25,21 +25,14 @@ pub record IsReading (bytes : List ℕ) (r : Reading) : Type 0 where
   pub verdict : verdictNumber (r .verdict) ≡ firstRefusal (fileConditions bytes)
   pub plan : r .plan ≡ planRecord (planUnless (firstRefusal (fileConditions bytes)) (planOf bytes))
 
+-- The plan of n vertices and m arcs.
+abbrev pub planFrom : ℕ → (ℕ → Arc) → ℕ → Plan
+planFrom n arc m = record { n = n; arcs = map arc (below m) }
+
 -- The conditions of a file from its length on, for n and m within their limits.
 unfoldable pub bodyConditions : List ℕ → ℕ → ℕ → Conditions
-unfolding fileLength fieldAt fileBits flatMap arcConditions arcOf below
+unfolding fileLength fieldAt fileBits planConditions arcOf below
 bodyConditions bytes n m =
     (ltb (length bytes) (fileLength m), 1)
     ∷ (ltb (fileLength m) (length bytes) || not (eqb (fieldAt bytes (fileBits m) (8 * fileLength m - fileBits m)) 0), 4)
-    ∷ flatMap (arcConditions n) (map (arcOf bytes) (below m))
-
--- A file's refusal, by the fields of its header.
-pub file-refusal
-    : (bytes : List ℕ)
-    → firstRefusal (fileConditions bytes)
-    ≡ cond (ltb (length bytes) 3) (some 1)
-    (cond (not (eqb (fieldAt bytes 0 4) 1)) (some 2)
-    (cond (isOutside (fieldAt bytes 4 7) 1 64 || isOutside (fieldAt bytes 11 9) 1 256) (some 3)
-    (firstRefusal (bodyConditions bytes (fieldAt bytes 4 7) (fieldAt bytes 11 9)))))
-unfolding firstRefusal fileConditions extentConditions edition vertexCount arcCount fillBits planConditions planOf bodyConditions
-file-refusal bytes = refl
+    ∷ planConditions (planFrom n (arcOf bytes) m)

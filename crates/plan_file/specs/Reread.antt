@@ -3,7 +3,7 @@ use mathlib.Core.Path.{_≡_}
 use Rattle.postman.specs.PlanFile.{writeRefusal}
 use Rattle.plan.specs.declared.Plan.{Plan}
 use Rattle.plan_file.specs.declared.Reading.{Reading}
-use Rattle.plan_file.specs.Verdicts.{verdictNumber}
+use Rattle.refusal.specs.Verdict.{verdictNumber}
 use Rattle.plan.specs.Records.{planValue, planRecord}
 use Rattle.plan_file.specs.Reading.{planUnless}
 

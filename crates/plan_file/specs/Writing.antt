@@ -1,92 +1,11 @@
--- The refusal of writing, by the parts of a plan by value.
-use mathlib.Core.Path.{_≡_, refl}
-use mathlib.Core.Bool.{true, false, cond, _||_}
-use mathlib.Core.List.{List, [], _∷_, _++_, map, flatMap}
-use mathlib.Core.Option.{none, some, Option}
+-- What writing answers.
 use Prim.Native.Nat.{ℕ}
-use native.Mathlib.Omega.{arith}
-use lib.Dec.{ltb}
-use lib.ListN.{length, drop}
-use Rattle.postman.specs.Lists.{below}
-use Rattle.postman.specs.Plan.{Plan as Graph}
-use Rattle.postman.specs.Refusal.{firstRefusal, answer, unless, refused, given}
-use Rattle.postman.specs.PlanFile.{arcConditions, extentConditions, isOutside, fileLength, planConditions, fileOf, writeRefusal, writeAnswer, bytesAfter}
-use Rattle.plan.specs.declared.Plan.{Plan}
-use Rattle.plan_file.specs.Counting.{length-counted}
-use Rattle.plan_file.specs.FirstRefusal.{first-on, first-stop}
-use Rattle.plan.specs.Records.{recordAt, planValue}
+use Rattle.postman.specs.Refusal.{Answer, refused, given}
+use Rattle.refusal.specs.Verdict.{refusalNumber}
+use Rattle.plan_file.specs.declared.Written.{Written}
+use Rattle.plan_file.specs.declared.Written.the-variants.{Length, Refused}
 
--- The conditions of writing, of n, m and the records themselves.
-pub plan-refusal
-    : (p : Plan) (room : ℕ)
-    → writeRefusal (planValue p) room
-    ≡ cond (isOutside (p .n) 1 64 || isOutside (p .m) 1 256) (some 3)
-    (firstRefusal (flatMap (arcConditions (p .n)) (map (recordAt (p .arcs)) (below (p .m))) ++ (ltb room (fileLength (p .m)), 8) ∷ []))
-unfolding firstRefusal writeRefusal extentConditions planConditions planValue
-plan-refusal p room = rw (length-counted (recordAt (p .arcs)) (p .m))
-
--- In document 01's order: n, m, the records, the room.
-module _ (p : Plan) (room : ℕ) where
-  pub extent-n : isOutside (p .n) 1 64 ≡ true → writeRefusal (planValue p) room ≡ some 3
-  extent-n e = rw (plan-refusal p room, e)
-
-  pub extent-m : isOutside (p .n) 1 64 ≡ false → isOutside (p .m) 1 256 ≡ true → writeRefusal (planValue p) room ≡ some 3
-  extent-m e f = rw (plan-refusal p room, e, f)
-
-  module _ (hn : isOutside (p .n) 1 64 ≡ false) (hm : isOutside (p .m) 1 256 ≡ false) where
-    pub of-record
-        : (r : ℕ)
-        → firstRefusal (flatMap (arcConditions (p .n)) (map (recordAt (p .arcs)) (below (p .m)))) ≡ some r
-        → writeRefusal (planValue p) room ≡ some r
-    of-record r e =
-        rw (plan-refusal p room, hn, hm)
-        (first-stop (flatMap (arcConditions (p .n)) (map (recordAt (p .arcs)) (below (p .m)))) ((ltb room (fileLength (p .m)), 8) ∷ []) r e)
-
-    pub of-room
-        : firstRefusal (flatMap (arcConditions (p .n)) (map (recordAt (p .arcs)) (below (p .m)))) ≡ none
-        → writeRefusal (planValue p) room ≡ cond (ltb room (fileLength (p .m))) (some 8) none
-    unfolding firstRefusal
-    of-room e =
-        rw (plan-refusal p room, hn, hm)
-        (first-on (flatMap (arcConditions (p .n)) (map (recordAt (p .arcs)) (below (p .m)))) ((ltb room (fileLength (p .m)), 8) ∷ []) e)
-
--- The answer and the slice, of a refusal and of a file.
-module _ (p : Graph) (bytes : List ℕ) where
-  pub refused-answer : (r : ℕ) → writeRefusal p (length bytes) ≡ some r → writeAnswer p bytes ≡ refused r
-  unfolding writeAnswer answer
-  refused-answer r e = rw e
-
-  pub refused-bytes : (r : ℕ) → writeRefusal p (length bytes) ≡ some r → bytesAfter p bytes ≡ bytes
-  unfolding bytesAfter unless
-  refused-bytes r e = rw e
-
-  pub given-answer : writeRefusal p (length bytes) ≡ none → writeAnswer p bytes ≡ given (fileLength (length (p .arcs)))
-  unfolding writeAnswer answer
-  given-answer e = rw e
-
-  pub given-bytes : writeRefusal p (length bytes) ≡ none → bytesAfter p bytes ≡ fileOf p ++ drop (fileLength (length (p .arcs))) bytes
-  unfolding bytesAfter unless
-  given-bytes e = rw e
-
--- A plan by value stands for a plan of m arcs.
-pub length-value : (p : Plan) → length (planValue p .arcs) ≡ p .m
-unfolding planValue
-length-value p = length-counted (recordAt (p .arcs)) (p .m)
-
--- And from the answer back to the refusal.
-module _ (p : Graph) (bytes : List ℕ) where
-  pub was-given : (k : ℕ) → given k ≡ writeAnswer p bytes → (writeRefusal p (length bytes) ≡ none) × (k ≡ fileLength (length (p .arcs)))
-  unfolding writeAnswer answer
-  was-given k e = at (writeRefusal p (length bytes)) e
-    where
-      at : (o : Option ℕ) → given k ≡ answer o (fileLength (length (p .arcs))) → (o ≡ none) × (k ≡ fileLength (length (p .arcs)))
-      at none e = (refl, cc)
-      at (some r) e = let z : _≡_ {A = ℕ} 0 1 = cc in absurd (omega arith)
-
-  pub was-refused : (r : ℕ) → refused r ≡ writeAnswer p bytes → writeRefusal p (length bytes) ≡ some r
-  unfolding writeAnswer answer
-  was-refused r e = at (writeRefusal p (length bytes)) e
-    where
-      at : (o : Option ℕ) → refused r ≡ answer o (fileLength (length (p .arcs))) → o ≡ some r
-      at none e = let z : _≡_ {A = ℕ} 0 1 = cc in absurd (omega arith)
-      at (some q) e = cc
+-- The length, or document 01's number for the refusal.
+abbrev pub writtenAnswer : Written → Answer ℕ
+writtenAnswer (Length n) = given n
+writtenAnswer (Refused r) = refused (refusalNumber r)

@@ -8,14 +8,15 @@ ghost use lib.ListN.{length};
 ghost use lib.Dec.{leb, eqb};
 ghost use Rattle.postman.specs.Refusal.{firstRefusal};
 ghost use Rattle.postman.specs.PlanFile.{arcOf, arcConditions, isOutside};
-ghost use Rattle.plan_file.specs.Verdicts.{verdictNumber, orElse};
+ghost use Rattle.refusal.specs.Verdict.{verdictNumber};
 ghost use Rattle.plan.specs.Standings.{standingOf, isRefusedStanding};
 ghost use Rattle.plan.specs.Records.{arcValue};
-use crate::Refusal;
-use crate::Verdict;
-use crate::bit_reader::take_at;
+use bits::reader::take_at;
 use plan::Arc;
 use plan::Standing;
+use refusal::Refusal;
+use refusal::Verdict;
+use refusal::first_refused;
 
 // On the file's field of two bits.
 pub fn field_standing(f: u32) -> Standing
@@ -37,16 +38,6 @@ pub(crate) fn is_outside(x: u32, low: u32, high: u32) -> bool
         return true;
     }
     high < x
-}
-
-// The first refusal of two verdicts.
-fn first_refused(a: Verdict, b: Verdict) -> Verdict
-    ensures { λ r. ⌜ verdictNumber r ≡ orElse (verdictNumber a) (verdictNumber b) ⌝ }
-{
-    match a {
-        Verdict::Accepted => b,
-        Verdict::Refused(r) => Verdict::Refused(r),
-    }
 }
 
 // 5 off sheet: "tail or head is n or more"

@@ -7,18 +7,19 @@ ghost use lib.ListN.{length};
 ghost use Rattle.postman.specs.Lists.{below};
 ghost use Rattle.postman.specs.BitField.{fieldAt};
 ghost use Rattle.postman.specs.Refusal.{firstRefusal};
-ghost use Rattle.postman.specs.PlanFile.{arcOf, arcConditions, fileBits, fileLength, fileConditions, planOf};
-ghost use Rattle.plan_file.specs.Verdicts.{verdictNumber};
+ghost use Rattle.postman.specs.PlanFile.{arcOf, arcConditions, planConditions, fileBits, fileLength, fileConditions, planOf};
+ghost use Rattle.refusal.specs.Verdict.{verdictNumber};
 ghost use Rattle.plan.specs.Records.{recordOf, recordsOf, planRecord, noPlan};
-ghost use Rattle.plan_file.specs.Reading.{bodyConditions, IsReading};
+ghost use Rattle.plan_file.specs.Reading.{planFrom, bodyConditions, IsReading};
 use crate::Reading;
-use crate::Refusal;
-use crate::Verdict;
 use crate::arcs::field_verdict;
 use crate::arcs::is_outside;
-use crate::bit_reader::take_at;
+use crate::repeated::repeated_verdict;
+use bits::reader::take_at;
 use plan::Arc;
 use plan::Plan;
+use refusal::Refusal;
+use refusal::Verdict;
 
 // The bytes of a file of m arcs.
 pub(crate) fn file_length(m: usize) -> usize
@@ -54,6 +55,20 @@ fn arcs_verdict(s: &[u8], n: u32, m: usize) -> Verdict
     Verdict::Accepted
 }
 
+// The first refusal of the arcs: arc by arc, then of all together.
+fn all_arcs_verdict(s: &[u8], n: u32, m: usize) -> Verdict
+    requires { ⌜ (m ≤ 256) × (20 + 30 * m ≤ 8 * length (now s)) ⌝ }
+    ensures { λ r. ⌜ verdictNumber r ≡ firstRefusal (planConditions (planFrom n (arcOf (now (s .entry))) m)) ⌝ }
+{
+    match arcs_verdict(s, n, m) {
+        Verdict::Accepted => {
+            let arcs = read_arcs(s, m);
+            repeated_verdict(arcs, m)
+        }
+        Verdict::Refused(r) => Verdict::Refused(r),
+    }
+}
+
 // The first refusal once n and m are within their limits: the length, the margin, the arcs.
 fn body_verdict(s: &[u8], n: u32, m: usize) -> Verdict
     requires { ⌜ m ≤ 256 ⌝ }
@@ -70,7 +85,7 @@ fn body_verdict(s: &[u8], n: u32, m: usize) -> Verdict
     if fill != 0 {
         return Verdict::Refused(Refusal::Margin);
     }
-    arcs_verdict(s, n, m)
+    all_arcs_verdict(s, n, m)
 }
 
 // The first refusal of a file, in document 01's order.

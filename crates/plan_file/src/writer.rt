@@ -5,19 +5,22 @@ ghost use Prim.Native.Nat.{_+_, _*_, _<_, _≤_};
 ghost use lib.ListN.{length, replicate, drop};
 ghost use Rattle.postman.specs.Lists.{below};
 ghost use Rattle.postman.specs.Refusal.{firstRefusal};
-ghost use Rattle.postman.specs.PlanFile.{arcConditions, fileLength, fileOf, writeRefusal, writeAnswer, bytesAfter};
-ghost use Rattle.plan_file.specs.Verdicts.{verdictNumber, writtenAnswer};
+ghost use Rattle.postman.specs.PlanFile.{arcConditions, planConditions, fileLength, fileOf, writeRefusal, writeAnswer, bytesAfter};
+ghost use Rattle.refusal.specs.Verdict.{verdictNumber};
+ghost use Rattle.plan_file.specs.Reading.{planFrom};
+ghost use Rattle.plan_file.specs.Writing.{writtenAnswer};
 ghost use Rattle.plan.specs.Records.{arcValue, recordAt, planValue};
 ghost use Rattle.plan_file.specs.PlanUpdate.{putHeader, putArc, putArcs};
-use crate::Refusal;
-use crate::Verdict;
 use crate::Written;
 use crate::arcs::is_outside;
 use crate::arcs::record_verdict;
-use crate::bits::put_field;
 use crate::reader::file_length;
+use crate::repeated::repeated_verdict;
+use bits::put_field;
 use plan::Arc;
 use plan::Plan;
+use refusal::Refusal;
+use refusal::Verdict;
 
 // The first refusal of the first m records, record by record.
 fn records_verdict(n: u8, m: usize, arcs: [Arc; 256]) -> Verdict
@@ -36,6 +39,17 @@ fn records_verdict(n: u8, m: usize, arcs: [Arc; 256]) -> Verdict
     Verdict::Accepted
 }
 
+// The first refusal of the records: one by one, then of all together.
+fn all_records_verdict(n: u8, m: usize, arcs: [Arc; 256]) -> Verdict
+    requires { ⌜ m ≤ 256 ⌝ }
+    ensures { λ r. ⌜ verdictNumber r ≡ firstRefusal (planConditions (planFrom n (recordAt arcs) m)) ⌝ }
+{
+    match records_verdict(n, m, arcs) {
+        Verdict::Accepted => repeated_verdict(arcs, m),
+        Verdict::Refused(r) => Verdict::Refused(r),
+    }
+}
+
 // The first refusal of a plan that is to be written where there is room for `room` bytes.
 pub fn plan_verdict(p: Plan, room: usize) -> Verdict
     ensures { λ r. ⌜ verdictNumber r ≡ writeRefusal (planValue p) room ⌝ }
@@ -49,7 +63,7 @@ pub fn plan_verdict(p: Plan, room: usize) -> Verdict
         return Verdict::Refused(Refusal::Extent);
     }
     let arcs = p.arcs;
-    match records_verdict(n, m as usize, arcs) {
+    match all_records_verdict(n, m as usize, arcs) {
         Verdict::Accepted => {
             if room < file_length(m as usize) {
                 return Verdict::Refused(Refusal::ShortSheet);

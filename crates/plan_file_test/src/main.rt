@@ -1,40 +1,22 @@
 // Plan files, read and written: the cases of document 01 at their limits, and pairs of faults that show the order of refusals.
 ghost use Prim.Native.Nat.{_≤_};
-use libc::STDOUT_FILENO;
 use plan::Arc;
 use plan::Plan;
 use plan_file::Reading;
-use plan_file::Refusal;
-use plan_file::Verdict;
 use plan_file::Written;
 use plan_file::reader::read_plan;
 use plan_file::round_trip::reread;
 use plan_file::writer::write_plan;
+use print::bytes;
+use print::number;
+use print::text;
+use refusal::Refusal;
+use refusal::Verdict;
 
 // ---- what is printed
 
-fn text(s: &[u8]) {
-    io::write_all(STDOUT_FILENO, s);
-}
-
-fn number(label: &[u8], n: u64) {
-    text(label);
-    io::print_decimal(STDOUT_FILENO, n);
-}
-
-fn byte(b: u8) {
-    text(b" ");
-    io::print_hex(STDOUT_FILENO, b as u64, 2);
-}
-
-fn bytes(s: &[u8]) {
-    for i in 0..s.len() {
-        byte(s[i]);
-    }
-}
-
 fn refusal(r: Refusal) {
-    number(b"refused ", plan_file::refusal_number(r) as u64);
+    number(b"refused ", refusal::refusal_number(r) as u64);
     text(b"\n");
 }
 
@@ -86,10 +68,18 @@ fn arc_of(tail: u8, head: u8, standing: u8, cost: u16) -> Arc {
     }
 }
 
-// Two arcs, the second m - 1 times.
+// Two arcs, and after them others like the second, each at a cost of its own.
 fn plan_of(n: u8, m: u16, first: Arc, other: Arc) -> Plan {
     let mut arcs = [other; 256];
     arcs[0] = first;
+    for k in 2..256u16 {
+        arcs[k as usize] = arc_of(
+            other.tail,
+            other.head,
+            other.standing,
+            other.cost % 1000 + k,
+        );
+    }
     Plan {
         n: n,
         m: m,
@@ -183,6 +173,22 @@ fn read_order() {
     );
 }
 
+// The same arc twice, and one that differs in cost.
+fn read_repeated() {
+    read(
+        b"arc 0 again: ",
+        b"\x10\x40\x30\x01\x40\x01\x41\x00\x00\x03\x00\x14\x00\x14",
+    );
+    read(
+        b"arc 0 at another cost: ",
+        b"\x10\x40\x30\x01\x40\x01\x41\x00\x00\x03\x00\x14\x00\x18",
+    );
+    read(
+        b"arc 0 again, standing 3 after it: ",
+        b"\x10\x40\x30\x01\x40\x01\x40\x05\x00\x05\x00\x1c\x00\x14",
+    );
+}
+
 // ---- writing
 
 // Writes, and prints the answer.
@@ -229,8 +235,11 @@ fn write_cases() {
     write_12(b"n 64: ", plan_of(64, 1, a, a));
     write_12(b"n 65: ", plan_of(65, 1, a, a));
     write_12(b"m 0: ", plan_of(1, 0, a, a));
-    write_12(b"m 256 in 12 bytes: ", plan_of(1, 256, a, a));
-    write_12(b"m 257: ", plan_of(1, 257, a, a));
+    let b = arc_of(0, 0, 0, 2);
+    write_12(b"m 256 in 12 bytes: ", plan_of(1, 256, a, b));
+    write_12(b"m 257: ", plan_of(1, 257, a, b));
+    write_12(b"the same arc twice: ", plan_of(1, 2, a, a));
+    write_9(b"the same arc twice in 9 bytes: ", plan_of(1, 2, a, a));
 }
 
 fn write_arcs() {
@@ -296,6 +305,7 @@ fn main() {
     read_header();
     read_arcs();
     read_order();
+    read_repeated();
     write_cases();
     write_arcs();
 }

@@ -15,7 +15,7 @@ use Rattle.postman.specs.PlanCall.{Summary, summary, fields, root, IsAnswerTour
 use Rattle.postman.specs.Guarantee.{Guarantee}
 use Rattle.circuit.specs.Tour.{written}
 use Rattle.planner.specs.declared.Planned.{Planned}
-use Rattle.planner.specs.Refusals.{verdictNumber}
+use Rattle.refusal.specs.Verdict.{verdictNumber}
 use Rattle.planner.specs.Tour.{tourOf}
 
 -- The fields of the answer, as document 01's.

@@ -11,7 +11,7 @@ use Rattle.postman.specs.Laws.Optimality.{Plannable}
 use Rattle.balance.specs.Step.{State, cell}
 use Rattle.balance.specs.Balance.{balance}
 use Rattle.circuit.specs.Filled.{linksOf}
-use Rattle.network.specs.declared.Network.{Network}
+use Rattle.network.specs.declared.network.Network.{Network}
 use Rattle.network.specs.Contracts.{IsNetwork}
 use Rattle.planner.specs.Tour.{tableOf}
 

@@ -1,12 +1,12 @@
 // The plan call: the refusals in document 01's order, and the answer.
 use crate::Planned;
-use crate::Refusal;
-use crate::Verdict;
 use crate::solve::solve;
 use budget::Budget;
 use budget::Checked;
-use network::Network;
+use network::network::Network;
 use plan::Plan;
+use refusal::Refusal;
+use refusal::Verdict;
 ghost use mathlib.Core.Path.{_≡_};
 ghost use mathlib.Core.Option.{none};
 ghost use Prim.Native.Nat.{_≤_};
@@ -14,8 +14,8 @@ ghost use lib.ListN.{length};
 ghost use Rattle.postman.specs.Plan.{WellFormed};
 ghost use Rattle.postman.specs.PlanCall.{sheetPlaces, defaultBudget};
 ghost use Rattle.plan.specs.Records.{planValue};
-ghost use Rattle.plan_file.specs.Verdicts.{refusalNumber as fileRefusalNumber};
-ghost use Rattle.planner.specs.Refusals.{refusalNumber, verdictNumber, networkRefusal, planRefusal, budgetRefusal, sheetRefusal};
+ghost use Rattle.refusal.specs.Verdict.{verdictNumber};
+ghost use Rattle.planner.specs.Refusals.{networkRefusal, planRefusal, budgetRefusal, sheetRefusal};
 ghost use Rattle.planner.specs.Prepared.{IsMeasured};
 ghost use Rattle.planner.specs.Contract.{IsPlanned, IsPlanCall};
 ghost use Rattle.planner.specs.Laws.Refused.{refusedWith};
@@ -33,22 +33,6 @@ fn refused(r: Refusal) -> Planned
         whole: false,
         parts: 0,
         multipliers: [0i64; 64],
-    }
-}
-
-// A refusal of reading, as one of the plan call.
-fn file_refusal(r: plan_file::Refusal) -> Refusal
-    ensures { λ q. ⌜ refusalNumber q ≡ fileRefusalNumber r ⌝ }
-{
-    match r {
-        plan_file::Refusal::Torn => Refusal::Torn,
-        plan_file::Refusal::Edition => Refusal::Edition,
-        plan_file::Refusal::Extent => Refusal::Extent,
-        plan_file::Refusal::Margin => Refusal::Margin,
-        plan_file::Refusal::OffSheet => Refusal::OffSheet,
-        plan_file::Refusal::Unpriced => Refusal::Unpriced,
-        plan_file::Refusal::Standing => Refusal::Standing,
-        plan_file::Refusal::ShortSheet => Refusal::ShortSheet,
     }
 }
 
@@ -109,8 +93,8 @@ fn plan_read(plan: Plan, budget: u32, sheet: &mut [u16]) -> Planned
     requires { ⌜ WellFormed (planValue plan) × (1 ≤ budget) × (sheetPlaces ≤ length (now sheet)) ⌝ }
     ensures { λ r. ⌜ IsPlanned (planValue plan) budget (planRefusal (planValue plan)) (now (sheet .entry)) (now (sheet .exit)) r ⌝ }
 {
-    let table = shortest::table(plan);
-    let net = network::network_of(plan, &table);
+    let table = shortest::distance::table(plan);
+    let net = network::network::network_of(plan, &table);
     plan_measured(plan, &table, net, budget, sheet)
 }
 
@@ -144,8 +128,8 @@ pub fn plan_call(bytes: &[u8], budget: u64, sheet: &mut [u16]) -> Planned
     let plan = reading.plan;
     let verdict = reading.verdict;
     match verdict {
-        plan_file::Verdict::Refused(r) => refused(file_refusal(r)),
-        plan_file::Verdict::Accepted => plan_onto(plan, budget, sheet),
+        Verdict::Refused(r) => refused(r),
+        Verdict::Accepted => plan_onto(plan, budget, sheet),
     }
 }
 

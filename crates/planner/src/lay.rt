@@ -1,5 +1,5 @@
 // The drive of an arborescence.
-use balance::Balance;
+use balance::state::Balance;
 use plan::Plan;
 ghost use mathlib.Core.Path.{_≡_};
 ghost use Prim.Native.Nat.{_≤_};
@@ -26,7 +26,7 @@ pub(crate) fn lay(
     ensures { λ r. ⌜ now (sheet .exit) ≡ written (tour (planValue plan) (linksOf (now (tails .entry)) (now (heads .entry))) (amountsOf (planValue plan) (linksOf (now (tails .entry)) (now (heads .entry))))) (now (sheet .entry)) ⌝ }
     ensures { λ r. ⌜ r ≡ length (tour (planValue plan) (linksOf (now (tails .entry)) (now (heads .entry))) (amountsOf (planValue plan) (linksOf (now (tails .entry)) (now (heads .entry))))) ⌝ }
 {
-    let full = balance::add_all(base, table, vs, tails, heads);
-    let amounts = balance::direct_amounts(full, table, vs);
-    circuit::write_tour(plan, table, tails, heads, &amounts, sheet)
+    let full = balance::state::add_all(base, table, vs, tails, heads);
+    let amounts = balance::direct::direct_amounts(full, table, vs);
+    circuit::tour::write_tour(plan, table, tails, heads, &amounts, sheet)
 }

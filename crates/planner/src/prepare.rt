@@ -1,5 +1,5 @@
 // What the trees are tried from: the state of the required arcs.
-use balance::Balance;
+use balance::state::Balance;
 use plan::Plan;
 ghost use mathlib.Core.Path.{_≡_};
 ghost use mathlib.Core.List.{[]};
@@ -20,9 +20,9 @@ pub(crate) fn base_state(plan: Plan, table: &[[u32; 64]; 64], vs: &[u8]) -> Bala
     let mut numbers = [0u16; 256];
     let mut tails = [0u8; 526];
     let mut heads = [0u8; 526];
-    let c = circuit::gather(plan, &mut numbers, &mut tails, &mut heads);
-    let none = balance::empty();
-    balance::add_all(none, table, vs, &tails[..c], &heads[..c])
+    let c = circuit::legs::gather(plan, &mut numbers, &mut tails, &mut heads);
+    let none = balance::state::empty();
+    balance::state::add_all(none, table, vs, &tails[..c], &heads[..c])
 }
 
 // The greatest multipliers that are 0 at the lowest required vertex.
@@ -36,5 +36,5 @@ pub(crate) fn multipliers_of(
     ensures { λ r. ⌜ r ≡ multipliers (cell (now (table .entry))) (now (vs .entry)) (stateOf base) (root (planValue plan)) ⌝ }
 {
     let first = vs[0];
-    balance::multipliers(base, table, vs, first)
+    balance::multipliers::multipliers(base, table, vs, first)
 }

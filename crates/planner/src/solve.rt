@@ -1,13 +1,13 @@
 // The answer of a plan that is not refused.
 use crate::Planned;
-use crate::Verdict;
 use crate::bound::floor_of;
 use crate::lay::lay;
 use crate::prepare::base_state;
 use crate::prepare::multipliers_of;
-use balance::Balance;
-use network::Network;
+use balance::state::Balance;
+use network::network::Network;
 use plan::Plan;
+use refusal::Verdict;
 ghost use mathlib.Core.Path.{_≡_};
 ghost use mathlib.Core.Option.{none};
 ghost use Prim.Native.Nat.{_≤_};
@@ -44,7 +44,7 @@ pub(crate) fn finish(
     let parts = net.components;
     let k = parts as usize;
     let required_cost = net.required_cost;
-    let s = search::search(
+    let s = search::tried::search(
         plan,
         table,
         vs,

@@ -1,50 +1,29 @@
 // The plan call on document 01's cases, at the limits, and on files with two faults, which show the order of refusals.
-use libc::STDOUT_FILENO;
 use plan::Arc;
 use plan::Plan;
 use plan_file::writer::write_plan;
 use planner::Planned;
-use planner::Verdict;
 use planner::call::plan_call;
 use planner::call::short_call;
+use print::number;
+use print::text;
+use refusal::Verdict;
 ghost use Prim.Native.Nat.{_<_};
 
 // ---- what is printed
 
-fn text(s: &[u8]) {
-    io::write_all(STDOUT_FILENO, s);
-}
-
-fn number(label: &[u8], n: u64) {
-    text(label);
-    io::print_decimal(STDOUT_FILENO, n);
-}
-
-// The larger of 0 and a.
-fn positive(a: i64) -> u64 {
-    if a < 0 { 0 } else { a as u64 }
-}
-
-// -a, and 0 where that is large.
-fn turned(a: i64) -> i64 {
-    if a < -4611686018427387904 {
-        return 0;
-    }
-    0 - a
-}
-
 fn signed(a: i64) {
     if a < 0 {
-        number(b" -", positive(turned(a)));
+        number(b" -", integers::magnitude(a));
     } else {
-        number(b" ", positive(a));
+        number(b" ", integers::magnitude(a));
     }
 }
 
 fn verdict(v: Verdict) {
     match v {
         Verdict::Accepted => text(b"accepted"),
-        Verdict::Refused(r) => number(b"refused ", planner::refusal_number(r) as u64),
+        Verdict::Refused(r) => number(b"refused ", refusal::refusal_number(r) as u64),
     }
 }
 
@@ -268,6 +247,16 @@ fn order() {
         b"cost 0, short sheet: ",
         b"\x10\x40\x20\x01\x40\x01\x41\x00\x00\x00",
         1,
+    );
+    call_short(
+        b"arc 0 again, short sheet, budget 0: ",
+        b"\x10\x40\x30\x01\x40\x01\x41\x00\x00\x03\x00\x14\x00\x14",
+        0,
+    );
+    call(
+        b"arc 0 again, budget 0: ",
+        b"\x10\x40\x30\x01\x40\x01\x41\x00\x00\x03\x00\x14\x00\x14",
+        0,
     );
     call_short(
         b"short sheet, budget 0: ",

@@ -1,4 +1,4 @@
--- Document 01's starred cases, as rows of one table under one lemma, `cases`. The checker computes each claim from the definitions.
+-- Document 01's starred cases, and the refusal 13, as rows of one table under one lemma, `cases`. The checker computes each claim from the definitions.
 use mathlib.Core.Path.{_≡_, refl, ap}
 use mathlib.Core.Bool.{Bool, true, false, _&&_, Bool·beq}
 use mathlib.Core.List.{List, [], _∷_, map, List·Memᴰ}
@@ -9,7 +9,7 @@ use lib.Dec.{T, eqb, eqb→eq}
 use lib.IntN.{ℤ, pos, negsuc}
 use Rattle.postman.specs.Lists.{allOf, below}
 use Rattle.postman.specs.Plan.{Arc, Plan}
-use Rattle.postman.specs.PlanFile.{planOf, fileOf}
+use Rattle.postman.specs.PlanFile.{agree, planOf, fileOf}
 use Rattle.postman.specs.Link.{links}
 use Rattle.postman.specs.Component.{componentCount}
 use Rattle.postman.specs.Arborescence.{arborescenceCount}
@@ -18,6 +18,7 @@ use Rattle.postman.specs.LagrangianBound.{lagrangianBound}
 use Rattle.postman.specs.PlanCall.{sheetPlaces, defaultBudget, callRefusal, isWhole, bestCost}
 use Rattle.postman.specs.Laws.Tests.{and-parts}
 use Rattle.postman.specs.Laws.Membership.{allOf-at}
+use Rattle.postman.specs.Laws.Repeated.{agree-equal}
 
 -- ---- what a case says of its plan
 
@@ -91,6 +92,9 @@ table =
     ∷ row 2 (arc 0 1 1 5 ∷ arc 1 0 0 0 ∷ []) (refusal 6 ∷ [])
     ∷ row 2 (arc 0 1 1 5 ∷ arc 1 0 3 3 ∷ []) (refusal 7 ∷ [])
     ∷ row 2 (arc 0 1 1 5 ∷ arc 1 0 3 0 ∷ []) (refusal 6 ∷ [])
+    -- A with its first arc typed in twice, and with one that differs from it in cost
+    ∷ row 2 (arc 0 1 1 5 ∷ arc 1 0 0 3 ∷ arc 0 1 1 5 ∷ []) (refusal 13 ∷ [])
+    ∷ row 2 (arc 0 1 1 5 ∷ arc 1 0 0 3 ∷ arc 0 1 1 6 ∷ []) (refusal 0 ∷ costAt 10000 17 ∷ [])
     ∷ []
 
 -- ---- the same claims, as tests that compute
@@ -101,12 +105,9 @@ sameList f [] (y ∷ ys) = false
 sameList f (x ∷ xs) [] = false
 sameList f (x ∷ xs) (y ∷ ys) = f x y && sameList f xs ys
 
-sameArc : Arc → Arc → Bool
-sameArc a b = eqb (a .tail) (b .tail) && (eqb (a .head) (b .head) && (eqb (a .standing) (b .standing) && eqb (a .cost) (b .cost)))
-
 samePlan : Plan → Plan → Bool
-unfolding sameList sameArc
-samePlan p q = eqb (p .n) (q .n) && sameList sameArc (p .arcs) (q .arcs)
+unfolding sameList agree
+samePlan p q = eqb (p .n) (q .n) && sameList agree (p .arcs) (q .arcs)
 
 isPos : ℤ → ℕ → Bool
 isPos (pos a) b = eqb a b
@@ -146,24 +147,12 @@ same-list f h (x ∷ xs) (y ∷ ys) t =
     let g = same-list f h xs ys (b .1) in
     cc
 
-same-arc : (a b : Arc) → T (sameArc a b) → a ≡ b
-unfolding sameArc
-same-arc a b t =
-    let x = and-parts (eqb (a .tail) (b .tail)) _ t in
-    let y = and-parts (eqb (a .head) (b .head)) _ (x .1) in
-    let w = and-parts (eqb (a .standing) (b .standing)) _ (y .1) in
-    let e₁ = eqb→eq (a .tail) (b .tail) (x .0) in
-    let e₂ = eqb→eq (a .head) (b .head) (y .0) in
-    let e₃ = eqb→eq (a .standing) (b .standing) (w .0) in
-    let e₄ = eqb→eq (a .cost) (b .cost) (w .1) in
-    λ i. record { tail = e₁ i; head = e₂ i; standing = e₃ i; cost = e₄ i }
-
 same-plan : (p q : Plan) → T (samePlan p q) → p ≡ q
 unfolding samePlan
 same-plan p q t =
     let x = and-parts (eqb (p .n) (q .n)) _ t in
     let e = eqb→eq (p .n) (q .n) (x .0) in
-    let f = same-list sameArc same-arc (p .arcs) (q .arcs) (x .1) in
+    let f = same-list agree agree-equal (p .arcs) (q .arcs) (x .1) in
     λ i. record { n = e i; arcs = f i }
 
 is-pos : (a : ℤ) (b : ℕ) → T (isPos a b) → a ≡ pos b

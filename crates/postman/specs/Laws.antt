@@ -1,9 +1,11 @@
 -- What is proved about the definitions.
 pub mod Tests
 pub mod Membership
+pub mod Below
 pub mod Minimum
 pub mod Pick
 pub mod Occurrences
+pub mod Sum
 pub mod Distance
 pub mod Assignment
 pub mod Amounts
@@ -24,8 +26,9 @@ pub mod SignedSum
 pub mod LagrangianBound
 pub mod Multiplier
 pub mod BitField
+pub mod Refusal
+pub mod Repeated
 pub mod Acceptance
 pub mod PlanFile
 pub mod Optimality
-pub mod Refusal
 pub mod Search

@@ -1,11 +1,11 @@
 -- The plan file: what reading and writing answer, and what each lent slice then holds.
-use mathlib.Core.Bool.{Bool, not, _||_}
+use mathlib.Core.Bool.{Bool, false, not, _&&_, _||_}
 use mathlib.Core.List.{List, [], _∷_, _++_, map, flatMap}
 use mathlib.Core.Option.{Option}
 use Prim.Native.Nat.{ℕ, _+_, _-_, _*_, _/_, _<_}
 use lib.ListN.{length, getD, drop}
 use lib.Dec.{eqb, ltb, leb}
-use Rattle.postman.specs.Lists.{below}
+use Rattle.postman.specs.Lists.{anyOf, below}
 use Rattle.postman.specs.Plan.{Arc, Plan}
 use Rattle.postman.specs.BitField.{fieldAt, number, bitsOf}
 use Rattle.postman.specs.Refusal.{Conditions, firstRefusal, Answer, answer, unless}
@@ -62,11 +62,25 @@ unfoldable pub arcConditions : ℕ → Arc → Conditions
 arcConditions n a = (leb n (a .tail) || leb n (a .head), 5) ∷ (eqb (a .cost) 0, 6) ∷ (ltb 2 (a .standing), 7) ∷ []
 
 -- "then arc by arc 5, 6, 7"
-unfoldable pub planConditions : Plan → Conditions
+unfoldable pub arcsConditions : Plan → Conditions
 unfolding arcConditions flatMap
-planConditions p = flatMap (arcConditions (p .n)) (p .arcs)
+arcsConditions p = flatMap (arcConditions (p .n)) (p .arcs)
 
--- "Order: 1 (three bytes), 2, 3, 1 (length), 4, then arc by arc 5, 6, 7"
+-- "two arcs agree in tail, head, standing and cost"
+unfoldable pub agree : Arc → Arc → Bool
+agree a b = eqb (a .tail) (b .tail) && (eqb (a .head) (b .head) && (eqb (a .standing) (b .standing) && eqb (a .cost) (b .cost)))
+
+unfoldable pub hasRepeated : List Arc → Bool
+unfolding agree anyOf
+hasRepeated [] = false
+hasRepeated (a ∷ arcs) = anyOf (agree a) arcs || hasRepeated arcs
+
+-- 13 repeated: "after all arcs passed 5 to 7, before 8"
+unfoldable pub planConditions : Plan → Conditions
+unfolding arcsConditions hasRepeated
+planConditions p = arcsConditions p ++ (hasRepeated (p .arcs), 13) ∷ []
+
+-- "Order: 1 (three bytes), 2, 3, 1 (length), 4, then arc by arc 5, 6, 7", then 13
 unfoldable pub fileConditions : List ℕ → Conditions
 unfolding edition extentConditions vertexCount arcCount fileLength fillBits planOf planConditions
 fileConditions bytes =
@@ -115,7 +129,7 @@ unfoldable pub fileOf : Plan → List ℕ
 unfolding planBits number below fileLength
 fileOf p = map (λ k. number (λ i. getD (planBits p) i 0) (8 * k) 8) (below (fileLength (length (p .arcs))))
 
--- "writing [can give] 3 and 5 to 8". 8, for writing: "byte slice below the file"
+-- "writing [can give] 3 and 5 to 8", and 13. 8, for writing: "byte slice below the file"
 unfoldable pub writeRefusal : Plan → ℕ → Option ℕ
 unfolding firstRefusal extentConditions planConditions fileLength
 writeRefusal p room = firstRefusal (extentConditions (p .n) (length (p .arcs)) ++ planConditions p ++ (ltb room (fileLength (length (p .arcs))), 8) ∷ [])

@@ -15,7 +15,7 @@ use Rattle.postman.specs.LagrangianBound.{Multipliers, AreMultipliers}
 use Rattle.postman.specs.PlanCall.{isCutOff, earlierConditions, callRefusal, bestCost, lowerBound}
 use Rattle.postman.specs.Guarantee.{Guarantee}
 use Rattle.postman.specs.Laws.Acceptance.{call-conditions, earlier-accepted, call-accepted}
-use Rattle.postman.specs.Laws.Refusal.{earlier-below, last-given, given-last}
+use Rattle.postman.specs.Laws.Refusal.{earlier-other, last-given, given-last}
 use Rattle.postman.specs.Laws.Tests.{test}
 use Rattle.postman.specs.Laws.Existence.{no-tour, a-tour}
 use Rattle.postman.specs.Laws.Optimality.{Plannable, some-arborescence, guaranteed, larger-cost, larger-bound}
@@ -43,7 +43,7 @@ cut-off bytes budget places = (refused, given)
   where
     refused : callRefusal bytes budget places ≡ some 12 → (firstRefusal (earlierConditions bytes budget places) ≡ none) × ((w : List ℕ) → IsTour (planOf bytes) w → ⊥)
     refused e =
-        let r = last-given (earlierConditions bytes budget places) (isCutOff (planOf bytes)) 12 (earlier-below bytes budget places) (sym (call-conditions bytes budget places) ∙ e) in
+        let r = last-given (earlierConditions bytes budget places) (isCutOff (planOf bytes)) 12 (earlier-other bytes budget places) (sym (call-conditions bytes budget places) ∙ e) in
         (r .0, no-tour (planOf bytes) (earlier-accepted bytes budget places (r .0) .well-formed) (r .1))
 
     given : (firstRefusal (earlierConditions bytes budget places) ≡ none) × ((w : List ℕ) → IsTour (planOf bytes) w → ⊥) → callRefusal bytes budget places ≡ some 12

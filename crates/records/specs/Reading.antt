@@ -1,7 +1,7 @@
 -- What reading into a lent list answers.
 use Prim.Native.Nat.{ℕ}
 use Rattle.postman.specs.Refusal.{Answer, refused, given}
-use Rattle.plan_file.specs.Verdicts.{refusalNumber}
+use Rattle.refusal.specs.Verdict.{refusalNumber}
 use Rattle.records.specs.declared.reader.Read.{Read}
 use Rattle.records.specs.declared.reader.Read.the-variants.{Given, Refused}
 

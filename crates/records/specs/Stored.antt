@@ -1,32 +1,10 @@
 -- Records that are stored one after another from the start of a list.
-use mathlib.Core.Path.{_≡_, refl, sym, ap, _∙_}
-use mathlib.Core.List.{List, _++_, map}
-use Prim.Native.Nat.{ℕ, zero, suc, _+_, _≤_}
-use native.Mathlib.Numerals.{add-one}
-use native.Mathlib.Omega.{arith}
-use lib.ListN.{length, getD, set, drop, length-set}
-use lib.Seq.{set-at, append-snoc, drop-cons}
-use Rattle.postman.specs.Lists.{below}
+use mathlib.Core.List.{List}
+use Prim.Native.Nat.{ℕ, zero, suc}
+use lib.ListN.{set}
 use Rattle.plan.specs.declared.Arc.{Arc}
-use Rattle.plan_file.specs.Counting.{length-counted, counted-more}
 
 -- The records after k stores: record i is `new i` for each i below k.
 abbrev pub storedTo : (ℕ → Arc) → List Arc → ℕ → List Arc
 storedTo new records zero = records
 storedTo new records (suc k) = set (storedTo new records k) k (new k)
-
-pub length-stored : (new : ℕ → Arc) (records : List Arc) (k : ℕ) → length (storedTo new records k) ≡ length records
-length-stored new records zero = refl
-length-stored new records (suc k) = length-set (storedTo new records k) k (new k) ∙ length-stored new records k
-
--- k stores leave the new records before those from k on.
-pub stored-is : (new : ℕ → Arc) (records : List Arc) (k : ℕ) → k ≤ length records → storedTo new records k ≡ map new (below k) ++ drop k records
-unfolding below
-stored-is new records zero h = refl
-stored-is new records (suc k) h =
-    let done = map new (below k) in
-    ap (λ (l : List Arc). set l k (new k)) (stored-is new records k (omega arith) ∙ ap (λ (l : List Arc). done ++ l) (drop-cons records k (new k) h))
-    ∙ set-at done (getD records k (new k)) (drop (suc k) records) (new k) k (length-counted new k)
-    ∙ sym
-    (ap (λ (l : List Arc). l ++ drop (suc k) records) (ap (λ (n : ℕ). map new (below n)) (sym (add-one k)) ∙ counted-more new k)
-    ∙ append-snoc done (new k) (drop (suc k) records))

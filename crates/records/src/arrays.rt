@@ -5,7 +5,7 @@ ghost use Prim.Native.Nat.{_≤_};
 ghost use lib.ListN.{take, drop};
 ghost use Rattle.postman.specs.PlanFile.{readAnswer, recordsAfter, writeAnswer, bytesAfter};
 ghost use Rattle.plan.specs.Records.{arcValue};
-ghost use Rattle.plan_file.specs.Verdicts.{writtenAnswer};
+ghost use Rattle.plan_file.specs.Writing.{writtenAnswer};
 ghost use Rattle.records.specs.Reading.{readNumbers};
 ghost use Rattle.records.specs.Writing.{listPlan};
 use crate::reader::Read;

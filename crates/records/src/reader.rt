@@ -8,12 +8,12 @@ ghost use Rattle.postman.specs.PlanFile.{arcOf, vertexCount, arcCount, readRefu
 ghost use Rattle.plan.specs.Records.{arcValue, recordOf};
 ghost use Rattle.records.specs.Stored.{storedTo};
 ghost use Rattle.records.specs.Reading.{readNumbers, arcsRead};
+use bits::reader::take_at;
 use plan::Arc;
-use plan_file::Refusal;
-use plan_file::Verdict;
-use plan_file::bit_reader::take_at;
 use plan_file::reader::file_verdict;
 use plan_file::reader::read_arc;
+use refusal::Refusal;
+use refusal::Verdict;
 
 // "It answers n and m", or the refusal.
 pub enum Read {

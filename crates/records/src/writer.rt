@@ -2,7 +2,7 @@
 ghost use mathlib.Core.Path.{_≡_};
 ghost use lib.ListN.{replicate};
 ghost use Rattle.postman.specs.PlanFile.{writeAnswer, bytesAfter};
-ghost use Rattle.plan_file.specs.Verdicts.{writtenAnswer};
+ghost use Rattle.plan_file.specs.Writing.{writtenAnswer};
 ghost use Rattle.plan.specs.Records.{zeroRecord, planValue};
 ghost use Rattle.records.specs.Writing.{atMost, loaded, countedPlan, listPlan};
 use plan::Arc;

@@ -1,40 +1,21 @@
 // Lists of arc records, read and written: what each call answers, and what it leaves in the list or in the bytes.
 ghost use Prim.Native.Nat.{_≤_};
-use libc::STDOUT_FILENO;
 use plan::Arc;
-use plan_file::Refusal;
 use plan_file::Written;
+use print::bytes;
+use print::number;
+use print::text;
 use records::arrays::Filled;
 use records::arrays::read_array;
 use records::arrays::write_array;
 use records::reader::Read;
 use records::round_trip::reread_array;
+use refusal::Refusal;
 
 // ---- what is printed
 
-fn text(s: &[u8]) {
-    io::write_all(STDOUT_FILENO, s);
-}
-
-fn number(label: &[u8], n: u64) {
-    text(label);
-    io::print_decimal(STDOUT_FILENO, n);
-}
-
-fn byte(b: u8) {
-    text(b" ");
-    io::print_hex(STDOUT_FILENO, b as u64, 2);
-}
-
-fn bytes(s: &[u8]) {
-    for i in 0..s.len() {
-        byte(s[i]);
-    }
-    text(b"\n");
-}
-
 fn refusal(r: Refusal) {
-    number(b"refused ", plan_file::refusal_number(r) as u64);
+    number(b"refused ", refusal::refusal_number(r) as u64);
     text(b"\n");
 }
 
@@ -93,10 +74,18 @@ fn nines() -> [Arc; 257] {
     [arc_of(9, 9, 9, 9); 257]
 }
 
-// Two records, the second 256 times.
+// Two records, and after them others like the second, each at a cost of its own.
 fn list_of(first: Arc, other: Arc) -> [Arc; 257] {
     let mut arcs = [other; 257];
     arcs[0] = first;
+    for k in 2..257u16 {
+        arcs[k as usize] = arc_of(
+            other.tail,
+            other.head,
+            other.standing,
+            other.cost % 1000 + k,
+        );
+    }
     arcs
 }
 
@@ -124,6 +113,11 @@ fn read_cases() {
     read(b"into 2: ", b"\x10\x40\x20\x01\x40\x01\x41\x00\x00\x03", 2);
     read(b"into 1: ", b"\x10\x40\x20\x01\x40\x01\x41\x00\x00\x03", 1);
     read(b"into 0: ", b"\x10\x40\x20\x01\x40\x01\x41\x00\x00\x03", 0);
+    read(
+        b"arc 0 again, into 2: ",
+        b"\x10\x40\x30\x01\x40\x01\x41\x00\x00\x03\x00\x14\x00\x14",
+        2,
+    );
     read(b"2 bytes into 1: ", b"\x10\x40", 1);
     read(
         b"edition 2 into 1: ",
@@ -182,6 +176,7 @@ fn write_9(label: &[u8], n: u8, arcs: [Arc; 257], m: usize)
     let mut s = [0xeeu8; 9];
     written(write_array(n, arcs, m, &mut s));
     bytes(&s);
+    text(b"\n");
 }
 
 fn write_12(label: &[u8], n: u8, arcs: [Arc; 257], m: usize)
@@ -191,6 +186,7 @@ fn write_12(label: &[u8], n: u8, arcs: [Arc; 257], m: usize)
     let mut s = [0xeeu8; 12];
     written(write_array(n, arcs, m, &mut s));
     bytes(&s);
+    text(b"\n");
 }
 
 fn write_cases() {
@@ -200,6 +196,8 @@ fn write_cases() {
     write_12(b"no record: ", 2, case_a(), 0);
     write_12(b"256 records in 12 bytes: ", 2, case_a(), 256);
     write_12(b"257 records: ", 2, case_a(), 257);
+    write_12(b"the same record twice: ", 2, list_of(a, a), 2);
+    write_9(b"the same record twice in 9 bytes: ", 2, list_of(a, a), 2);
     write_12(b"n 0: ", 0, case_a(), 2);
     write_12(b"n 65: ", 65, case_a(), 2);
     write_12(b"tail 2: ", 2, list_of(a, arc_of(2, 0, 0, 1)), 2);

@@ -8,8 +8,8 @@ use Rattle.postman.specs.Plan.{Plan}
 use Rattle.postman.specs.Link.{Link}
 use Rattle.postman.specs.PlanCall.{triedCount, isWhole, bestCost, bestArborescence}
 use Rattle.balance.specs.Step.{State}
-use Rattle.search.specs.declared.Best.{Best}
-use Rattle.search.specs.declared.Searched.{Searched}
+use Rattle.search.specs.declared.best.Best.{Best}
+use Rattle.search.specs.declared.tried.Searched.{Searched}
 use Rattle.search.specs.Links.{linksIn}
 use Rattle.search.specs.Costs.{reducedIn, completionIn}
 

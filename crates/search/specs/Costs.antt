@@ -8,7 +8,7 @@ use lib.Signed.{_≤ℤ_}
 use Rattle.postman.specs.Lists.{sumOf, sumOfℤ}
 use Rattle.postman.specs.Link.{Link}
 use Rattle.balance.specs.Step.{State, cell, addAll}
-use Rattle.balance.specs.Invariant.{Metric, Certified}
+use Rattle.balance.specs.Invariant.{Metric, Joining, Certified}
 use Rattle.search.specs.Trail.{SameLinks}
 use Rattle.search.specs.Pass.{endSum}
 
@@ -29,10 +29,6 @@ reducedIn table u t = sumOfℤ (map (λ l. reducedAt table u (l .tail) (l .head)
 unfoldable pub completionIn : List (List ℕ) → List ℕ → State → ℕ → List Link → ℕ
 unfolding tableCost addAll
 completionIn table vs base r t = r + tableCost table t + addAll (cell table) vs base t .cost
-
--- The links join vertices of vs.
-abbrev pub Joining : List ℕ → List Link → Type 0
-Joining vs t = (l : Link) → List·Memᴰ l t → List·Memᴰ (l .tail) vs × List·Memᴰ (l .head) vs
 
 -- What the code asks of them. The order of the links does not matter for the cost, and the potentials of links t bound the cost of links s from below.
 pub record Ready (table : List (List ℕ)) (vs : List ℕ) (base : State) (r : ℕ) : Type 0 where

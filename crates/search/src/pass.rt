@@ -1,9 +1,9 @@
 // Links that are passed over: the potentials of the last trail bound their cost from below.
+use integers::wide;
 ghost use mathlib.Core.Path.{_≡_};
 ghost use Prim.Native.Nat.{_<_, _≤_};
 ghost use lib.ListN.{take};
 ghost use Rattle.search.specs.Pass.{endSum, isPassed, AreLow, AreVertices};
-use crate::wide;
 
 // The potentials of the first n ends.
 fn end_sum(p: &[u64; 64], ends: [u8; 8], n: usize) -> u64

@@ -1,5 +1,5 @@
 // The states of a trail, in arrays: state j has the first j links added to that of the required arcs, which is state 0.
-use balance::Balance;
+use balance::state::Balance;
 ghost use mathlib.Core.List.{List·Memᴰ};
 ghost use Prim.Native.Nat.{_+_, _<_, _≤_};
 ghost use Rattle.balance.specs.Step.{cell};
@@ -30,7 +30,7 @@ fn step(
         cost: costs[q],
         count: count,
     };
-    let b = balance::add(s, d, vs, tail, head);
+    let b = balance::state::add(s, d, vs, tail, head);
     let more = b.amounts;
     let raised = b.potentials;
     amounts[q + 1] = more;

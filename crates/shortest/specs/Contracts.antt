@@ -12,6 +12,13 @@ IsRow p i row = (j : ℕ) → j < 64 → getD row j 0 ≡ distance p i j
 abbrev pub IsTable : Plan → List (List ℕ) → Type 0
 IsTable p table = (i j : ℕ) → i < 64 → j < 64 → getD (getD table i []) j 0 ≡ distance p i j
 
+-- The distances from the n vertices to j; and the n rows of the table that are those of vertices.
+abbrev pub IsColumn : Plan → ℕ → List ℕ → Type 0
+IsColumn p j column = (i : ℕ) → i < p .n → getD column i 0 ≡ distance p i j
+
+abbrev pub AreRows : Plan → List (List ℕ) → Type 0
+AreRows p rows = (i j : ℕ) → i < p .n → j < 64 → getD (getD rows i []) j 0 ≡ distance p i j
+
 -- A list with the elements from a place on replaced by others, as many as there are of those.
 unfoldable pub overwrite : List ℕ → ℕ → List ℕ → List ℕ
 overwrite old at new = take at old ++ new ++ drop (at + length new) old

@@ -1,5 +1,4 @@
 -- What is proved about the definitions.
-pub mod Records
 pub mod LastArc
 pub mod Outside
 pub mod Relaxation
@@ -7,3 +6,4 @@ pub mod Rank
 pub mod FirstNumber
 pub mod ShortestPath
 pub mod PathWriting
+pub mod Lookup

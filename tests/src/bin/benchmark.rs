@@ -3,10 +3,10 @@
 //! The planners take turns. A time is the processor's, not the clock's, so that other work on the machine counts little, and it is the least of several
 //! runs; beside it stands how far the slowest run was above it, which is the machine's noise. The sheet is cleared before each run, outside the time.
 
-use postman_tests::instances::towns;
+use postman_tests::instances::{fullest, longest, towns};
 use postman_tests::oracle::{count_trees, file_of, Graph};
 use postman_tests::plan::{Plan, SHEET_PLACES};
-use postman_tests::planner::{Answer, Planner};
+use postman_tests::planner::{Answer, Codec, Planner};
 use postman_tests::yardstick::{Balance, Steps, Yardstick};
 use std::cell::Cell;
 use std::time::{Duration, Instant};
@@ -85,8 +85,51 @@ fn describe(name: &str, plan: &Plan) {
     println!("  {} links, {:.3e} trees, {units} units of imbalance", graph.links.len(), count_trees(&graph) as f64);
 }
 
+/// The time of one call, in microseconds: the least of many rounds of twenty calls.
+fn microseconds(mut call: impl FnMut()) -> f64 {
+    const CALLS: u32 = 20;
+    let mut round = || {
+        let start = processor_time();
+        (0..CALLS).for_each(|_| call());
+        processor_time() - start
+    };
+    let least = (0..50).map(|_| round()).min().expect("some rounds");
+    least.as_secs_f64() * 1e6 / f64::from(CALLS)
+}
+
+/// Reading and writing a file of 256 arcs.
+fn codecs() {
+    let codecs: Vec<(&str, Box<dyn Codec>)> = vec![
+        ("yardstick", Box::new(Yardstick)),
+        #[cfg(feature = "proved")]
+        ("proved", Box::new(postman_tests::planner::Proved)),
+    ];
+    let plan = fullest();
+    let file = file_of(&plan);
+    println!("{} arcs, read and written:", plan.arcs.len());
+    for (name, codec) in codecs {
+        let (mut records, mut bytes) = (plan.arcs.clone(), file.clone());
+        let read = microseconds(|| assert!(codec.read(&file, &mut records).is_ok()));
+        let write = microseconds(|| assert!(codec.write(plan.n as u32, &plan.arcs, &mut bytes).is_ok()));
+        println!("  {name:<10} {read:>6.1} µs, {write:>6.1} µs");
+    }
+}
+
+/// The whole plan call on the plan of the longest drive: one tree, so that what is not fixed is the writing.
+fn longest_drive(planners: &[(&str, Box<dyn Planner>)]) {
+    let file = file_of(&longest());
+    let mut sheet = vec![0; SHEET_PLACES];
+    for (name, planner) in planners {
+        let mut places = 0;
+        let time = microseconds(|| places = planner.plan_call(&file, 1, &mut sheet).expect("a good plan").places);
+        println!("a drive of {places} places: {name:<10} {:>6.2} ms", time / 1e3);
+    }
+}
+
 fn main() {
+    codecs();
     let planners = planners();
+    longest_drive(&planners);
     let mut totals = vec![0.0; planners.len()];
     for (name, plan) in towns() {
         describe(name, &plan);

@@ -2,7 +2,7 @@
 
 use super::Mutant;
 use crate::oracle::{parse, Graph, INFINITE};
-use crate::plan::{DEFAULT_BUDGET, HIGHEST_BUDGET, MOST_PARTS};
+use crate::plan::{DEFAULT_BUDGET, HIGHEST_BUDGET, MOST_PARTS, SHEET_PLACES};
 use crate::planner::{refusal, Answer, Planner, Refusal};
 use crate::properties::Property::*;
 use crate::yardstick::Yardstick;
@@ -112,6 +112,14 @@ pub fn mutants() -> Vec<Mutant<dyn Planner>> {
     add("every plan cut off", &[Refusal, Stated], |p, b, s| right(p, b, &mut s.to_vec()).and(Err(refusal::CUT_OFF)));
     add("budget before short sheet", &[Refusal, Stated], |p, b, s| match right(p, b, s) {
         Err(refusal::SHORT_SHEET) if b == 0 || b > HIGHEST_BUDGET => Err(refusal::BUDGET),
+        result => result,
+    });
+    add("short sheet before repeated", &[Refusal, Stated], |p, b, s| match right(p, b, s) {
+        Err(refusal::REPEATED) if s.len() < SHEET_PLACES => Err(refusal::SHORT_SHEET),
+        result => result,
+    });
+    add("budget before repeated", &[Refusal, Stated], |p, b, s| match right(p, b, s) {
+        Err(refusal::REPEATED) if b == 0 || b > HIGHEST_BUDGET => Err(refusal::BUDGET),
         result => result,
     });
     add("standing before cost", &[Refusal, Stated], |p, b, s| match right(p, b, s) {

@@ -1,6 +1,7 @@
 //! Readers and writers that are wrong.
 
 use super::Mutant;
+use crate::oracle::parse;
 use crate::plan::Arc;
 use crate::planner::{refusal, Codec, Refusal};
 use crate::properties::Property::*;
@@ -18,6 +19,18 @@ impl Codec for Altered {
 
     fn write(&self, n: u32, records: &[Arc], bytes: &mut [u8]) -> Result<usize, Refusal> {
         self.1(n, records, bytes)
+    }
+}
+
+/// Reads a file that is refused by this number all the same.
+fn read_despite(number: Refusal, bytes: &[u8], records: &mut [Arc]) -> Result<(usize, usize), Refusal> {
+    match Yardstick.read(bytes, records) {
+        Err(refused) if refused == number && parse(bytes).arcs.len() <= records.len() => {
+            let plan = parse(bytes);
+            records[..plan.arcs.len()].copy_from_slice(&plan.arcs);
+            Ok((plan.n, plan.arcs.len()))
+        }
+        result => result,
     }
 }
 
@@ -67,6 +80,32 @@ pub fn mutants() -> Vec<Mutant<dyn Codec>> {
             },
             write,
         ),
+        mutant("repeated arcs let through", &[Reading], |b, r| read_despite(refusal::REPEATED, b, r), write),
+        mutant(
+            "short list before repeated",
+            &[Reading],
+            |b, r| match Yardstick.read(b, r) {
+                Err(refusal::REPEATED) if r.len() < parse(b).arcs.len() => Err(refusal::SHORT_SHEET),
+                result => result,
+            },
+            write,
+        ),
+        mutant("repeated only next to each other", &[Writing], read, |n, r, b| match Yardstick.write(n, r, b) {
+            Err(refusal::REPEATED) if r.windows(2).all(|pair| pair[0] != pair[1]) => Ok(0),
+            result => result,
+        }),
+        mutant("repeated whatever the standing", &[Writing], read, |n, r, b| {
+            let one = |a: &Arc| Arc { standing: 0, ..*a };
+            let twins = r.iter().enumerate().any(|(k, a)| r[..k].iter().any(|other| one(other) == one(a)));
+            match Yardstick.write(n, r, b) {
+                Ok(_) if twins => Err(refusal::REPEATED),
+                result => result,
+            }
+        }),
+        mutant("short slice before repeated", &[Writing], read, |n, r, b| match Yardstick.write(n, r, b) {
+            Err(refusal::REPEATED) if b.len() * 8 < 20 + 30 * r.len() => Err(refusal::SHORT_SHEET),
+            result => result,
+        }),
         mutant("other bytes cleared", &[BytesKept], read, |n, r, b| {
             Yardstick.write(n, r, b).inspect(|&length| b[length..].fill(0))
         }),

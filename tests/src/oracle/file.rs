@@ -37,7 +37,7 @@ pub fn parse(bytes: &[u8]) -> Plan {
     Plan { n: number(&bits[4..11]), arcs: arcs.collect() }
 }
 
-/// The first arc that breaks a limit gives its first number; 0 for none.
+/// The first arc that breaks a limit gives its first number; where none does, 13 if two arcs are the same once all are sorted; 0 for none.
 fn arcs_refusal(n: usize, arcs: &[Arc]) -> Refusal {
     let of_arc = |a: &Arc| match a {
         a if usize::from(a.tail) >= n || usize::from(a.head) >= n => 5,
@@ -45,7 +45,10 @@ fn arcs_refusal(n: usize, arcs: &[Arc]) -> Refusal {
         a if a.standing > 2 => 7,
         _ => 0,
     };
-    arcs.iter().map(of_arc).find(|&number| number != 0).unwrap_or(0)
+    let mut sorted: Vec<_> = arcs.iter().map(|a| (a.tail, a.head, a.standing, a.cost)).collect();
+    sorted.sort();
+    let repeated = if sorted.windows(2).any(|pair| pair[0] == pair[1]) { 13 } else { 0 };
+    arcs.iter().map(of_arc).find(|&number| number != 0).unwrap_or(repeated)
 }
 
 fn is_off_limits(n: usize, m: usize) -> bool {

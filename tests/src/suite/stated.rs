@@ -97,9 +97,50 @@ fn limits() -> Vec<Row> {
     rows
 }
 
+/// Case A with more arcs between its two: as many closed ones as make m arcs, which differ in cost, and arc 0 again at the places given.
+fn repeated_at(m: usize, again: &[usize]) -> Plan {
+    let mut plan = case_a();
+    plan.arcs.extend((2..m).map(|k| Arc::new(k % 2, 1 - k % 2, CLOSED, k as u16)));
+    for &k in again {
+        plan.arcs[k] = plan.arcs[0];
+    }
+    plan
+}
+
+/// 13 repeated: where the two arcs stand, what they differ in, and which refusals come before it and after it.
+fn repeats() -> Vec<Row> {
+    let twins = |a: Arc, b: Arc| Plan { n: 3, arcs: [case_a().arcs, vec![a, b]].concat() };
+    let arc = Arc::new(0, 1, CLOSED, 7);
+    let (other_tail, other_head) = (Arc { tail: 2, ..arc }, Arc { head: 2, ..arc });
+    let (other_standing, other_cost) = (Arc { standing: OPTIONAL, ..arc }, Arc { cost: 8, ..arc });
+    let spot = Arc::new(2, 2, CLOSED, 9);
+    let mut standing = repeated_at(9, &[4]);
+    standing.arcs[8].standing = 3;
+    let idle = plan(2, &[(0, 1, OPTIONAL, 5), (1, 0, OPTIONAL, 3), (0, 1, OPTIONAL, 5)]);
+    let good = Ok((8, 1, true, 1));
+    let rows = [
+        ("repeated: none in 256", repeated_at(256, &[]), 1, 17_266, good),
+        ("repeated: arcs 0 and 255", repeated_at(256, &[255]), 1, 17_266, Err(13)),
+        ("repeated: neighbours", repeated_at(9, &[1]), 1, 17_266, Err(13)),
+        ("repeated: three", repeated_at(9, &[3, 7]), 1, 17_266, Err(13)),
+        ("repeated: closed arcs", twins(arc, arc), 1, 17_266, Err(13)),
+        ("repeated: loops", twins(spot, spot), 1, 17_266, Err(13)),
+        ("another tail", twins(arc, other_tail), 1, 17_266, good),
+        ("another head", twins(arc, other_head), 1, 17_266, good),
+        ("another standing", twins(arc, other_standing), 1, 17_266, good),
+        ("another cost", twins(arc, other_cost), 1, 17_266, good),
+        ("standing before repeated", standing, 1, 17_266, Err(7)),
+        ("repeated before short sheet", repeated_at(9, &[4]), 1, 17_265, Err(13)),
+        ("repeated before budget", repeated_at(9, &[4]), 0, 17_266, Err(13)),
+        ("repeated before idle", idle, 1, 17_266, Err(13)),
+    ];
+    let row = |(what, plan, budget, places, stated)| Row { what, file: file_of(&plan), budget, places, stated };
+    rows.map(row).into()
+}
+
 /// Holds a planner to all of them.
 pub fn run_stated(found: &mut Findings, planner: &dyn Planner) {
-    for Row { what, file, budget, places, stated } in cases().into_iter().chain(limits()) {
+    for Row { what, file, budget, places, stated } in cases().into_iter().chain(limits()).chain(repeats()) {
         let told = planner.plan_call(&file, budget, &mut vec![0; places]).map(|a| (a.cost, a.trees, a.whole, a.parts));
         let about = || format!("{what}, budget {budget}, {places} places: {told:?} instead of {stated:?}");
         found.expect(Property::Stated, told == stated, about);

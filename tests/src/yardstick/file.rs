@@ -47,7 +47,14 @@ fn check_arc(n: usize, a: &Arc) -> Result<(), Refusal> {
     Ok(())
 }
 
-/// The plan of a file, or refusals 1 to 7.
+/// 5 to 7, arc by arc, then 13.
+fn check_arcs(n: usize, arcs: &[Arc]) -> Result<(), Refusal> {
+    arcs.iter().try_for_each(|a| check_arc(n, a))?;
+    let repeated = arcs.iter().enumerate().any(|(k, a)| arcs[..k].contains(a));
+    (!repeated).then_some(()).ok_or(refusal::REPEATED)
+}
+
+/// The plan of a file, or refusals 1 to 7 and 13.
 pub fn read(bytes: &[u8]) -> Result<Plan, Refusal> {
     if bytes.len() < 3 {
         return Err(refusal::TORN);
@@ -74,15 +81,15 @@ pub fn read(bytes: &[u8]) -> Result<Plan, Refusal> {
     if bytes.len() > file_length(m) || bits.take(fill) != 0 {
         return Err(refusal::MARGIN);
     }
-    arcs.iter().try_for_each(|a| check_arc(n, a))?;
+    check_arcs(n, &arcs)?;
     Ok(Plan { n, arcs })
 }
 
-/// The file of a plan, or refusals 3 and 5 to 7.
+/// The file of a plan, or refusals 3, 5 to 7 and 13.
 pub fn write(n: u32, arcs: &[Arc]) -> Result<Vec<u8>, Refusal> {
     let n = n as usize;
     check_extent(n, arcs.len())?;
-    arcs.iter().try_for_each(|a| check_arc(n, a))?;
+    check_arcs(n, arcs)?;
     let mut bytes = Vec::with_capacity(file_length(arcs.len()));
     let (mut window, mut held) = (0, 0);
     let mut put = |field: u64, width: u32| {

@@ -152,7 +152,7 @@ module _ (c : Sources) (ok : AreSources c) (choice : List ℕ) (q i : ℕ) (p : 
 
 -- ---- a turn of the successor: component q − 1 takes a later candidate, or those below it go on
 
-pub advanced-turn : (c : Sources) → AreSources c → (choice : List ℕ) (q i : ℕ) → c .components ≤ length choice → 1 < q → q ≤ c .components → i ≡ found c (take (q - 1) choice) (getD choice (q - 1) 0 + 1)
+advanced-turn : (c : Sources) → AreSources c → (choice : List ℕ) (q i : ℕ) → c .components ≤ length choice → 1 < q → q ≤ c .components → i ≡ found c (take (q - 1) choice) (getD choice (q - 1) 0 + 1)
     → advanced c q (take (c .components) choice)
     ≡ cond (ltb i (c .count (q - 1))) (some (filled c (c .components - (q - 1 + 1)) (take (q - 1 + 1) (set choice (q - 1) i)))) (advanced c (q - 1) (take (c .components) choice))
 advanced-turn c ok choice q i b l h e =
@@ -167,3 +167,24 @@ advanced-turn c ok choice q i b l h e =
     ap (λ n. advanced c n (take k choice)) (sym s) ∙ advanced-step c ok j (take k choice) (omega arith)
     ∙ ap (λ x. cond (ltb x (c .count j)) (some (filled c (k - suc j) (with (take j (take k choice)) x))) (advanced c j (take k choice))) f
     ∙ ap₂ (λ (x : List ℕ) (n : ℕ). cond (ltb i (c .count j)) (some (filled c n x)) (advanced c j (take k choice))) w m
+
+-- component q - 1 takes its next candidate with which the choice can be completed, or has none
+module _ {k : ℕ} {start source choice : List ℕ} (h : IsLayout k start source) (chosen : HasChosen (laidOut k start source) k choice) (long : length choice ≡ 8) (q : ℕ) (l : 1 < q) (m : q ≤ k) {i n : ℕ}
+    (ei : i ≡ found (laidOut k start source) (take (q - 1) choice) (getD choice (q - 1) 0 + 1)) (en : n ≡ laidOut k start source .count (q - 1)) where
+  abbrev g : Sources
+  g = laidOut k start source
+
+  turned : advanced g q (take k choice) ≡ cond (ltb i (g .count (q - 1))) (some (filled g (k - (q - 1 + 1)) (take (q - 1 + 1) (set choice (q - 1) i)))) (advanced g (q - 1) (take k choice))
+  turned = let f = h .few in advanced-turn g (h .sources) choice q i (omega arith) l m ei
+
+  pub stepped : i < n → HasChosen g (q - 1 + 1) (set choice (q - 1) i) × T (completable g (take (q - 1 + 1) (set choice (q - 1) i)))
+      × (advanced g q (take k choice) ≡ some (filled g (k - (q - 1 + 1)) (take (q - 1 + 1) (set choice (q - 1) i))))
+  stepped b =
+      let f = h .few in
+      let a = chosen .each (q - 1) (omega arith) (omega arith) in
+      let t = turned in
+      let r = found-more g (h .sources) choice (q - 1) i (omega arith) (omega arith) (omega arith) (chosen-fewer g choice k (q - 1) (omega arith) chosen) (getD choice (q - 1) 0 + 1) (omega arith) ei (omega arith) in
+      (r .0, r .1, rw (lt-ltb i (g .count (q - 1)) (omega arith)) at t)
+
+  pub not-stepped : n ≤ i → advanced g q (take k choice) ≡ advanced g (q - 1) (take k choice)
+  not-stepped b = let t = turned in rw (le-ltb i (g .count (q - 1)) (omega arith)) at t

@@ -1,5 +1,5 @@
 -- What the arrays of a picture say of its trees.
-use mathlib.Core.Path.{_≡_, refl, sym, ap, _∙_, subst⁻¹}
+use mathlib.Core.Path.{_≡_, refl, sym, ap, ap₂, _∙_, subst⁻¹}
 use mathlib.Core.Logic.{inl, inr, _≢_}
 use mathlib.Core.Bool.{Bool, true, false, cond}
 use mathlib.Core.List.{List, _∷_, map}
@@ -8,25 +8,15 @@ use native.Mathlib.Decide.{ℕ-discrete}
 use native.Mathlib.Omega.{arith}
 use lib.ListN.{length, getD, set, replicate}
 use lib.Seq.{getD-set-same, getD-set-other}
-use lib.Dec.{T, T-not}
+use lib.Dec.{T-not}
 use lib.IntN.{ℤ, pos, _+ℤ_, _-ℤ_}
 use lib.Signed.{ltZ, _≤ℤ_, ≤ℤ-refl}
 use Rattle.integers.specs.Linear.{z, zl}
 use Rattle.postman.specs.Lists.{select, upFrom, sumOfℤ, iterate}
-use Rattle.postman.specs.Laws.Tests.{cond-ind, test, same-test}
+use Rattle.postman.specs.Laws.Tests.{cond-ind, test, is-true, is-false}
 use Rattle.postman.specs.Laws.SignedSum.{≤ℤ-trans}
 use Rattle.arborescence.specs.Cheapest.{treeCost}
 use Rattle.arborescence.specs.Picture.{matrixOf, othersIn, highest, IsPicture, less, lineOf, IsCheaper, IsBest, HasEntries, entryOf, payOf, IsMarked, IsPlace, IsShrunk}
-
--- tests as equations
-pub is-true : {b : Bool} → T b → b ≡ true
-is-true {b} t = same-test b true (λ x. tt) (λ x. t)
-
-pub is-false : {b : Bool} → (T b → ⊥) → b ≡ false
-is-false {b} n = same-test b false (λ x. n x) (λ x. absurd x)
-
-pub of-true : {b : Bool} → b ≡ true → T b
-of-true e = subst⁻¹ T e tt
 
 pub lt-le : (a b : ℤ) → ltZ a b ≡ true → a ≤ℤ b
 lt-le a b e = omega (arith, z)
@@ -96,6 +86,27 @@ module _ (w : List ℤ) (left : List Bool) (e : List ℕ) where
   pay-within p q l b =
       cond-ind (getD left q false) (getD w (getD e q 0 * 8 + q) (pos 0)) (pos 0) (λ x. (pos 0 ≤ℤ x) × (x ≤ℤ pos highest))
       (λ t. (p .low (getD e q 0 * 8 + q) (omega arith), p .high (getD e q 0 * 8 + q) (omega arith))) (λ t. (≤ℤ-refl (pos 0), omega (arith, z)))
+
+  -- s is what the components from q on pay, and small
+  pub record Paid (q : ℕ) (s : ℤ) : Type 0 where
+    pub sum : s ≡ payments q
+    pub low : pos 0 ≤ℤ s
+    pub high : s ≤ℤ pos ((8 - q) * highest)
+
+  pub paid-none : Paid 8 (pos 0)
+  paid-none = record { sum = sym payments-end; low = ≤ℤ-refl (pos 0); high = ≤ℤ-refl (pos 0) }
+
+  -- one component more
+  pub paid-more : IsPicture w left → HasEntries w left 8 e → (q : ℕ) → 1 < q → q ≤ 8 → (r s : ℤ) → r ≡ payOf w left e (q - 1) → Paid q s → Paid (q - 1) (r +ℤ s)
+  paid-more p h q l m r s er i =
+      let a = pay-within p (q - 1) (omega arith) (h .in-range (q - 1) (omega arith)) in
+      let lo : pos 0 ≤ℤ r = subst⁻¹ (λ (x : ℤ). pos 0 ≤ℤ x) er (a .0) in
+      let hi : r ≤ℤ pos highest = subst⁻¹ (λ (x : ℤ). x ≤ℤ pos highest) er (a .1) in
+      let n : q - 1 + 1 ≡ q = omega arith in record {
+        sum = ap₂ _+ℤ_ er (i .sum ∙ ap payments (sym n)) ∙ sym (payments-more (q - 1) (omega arith));
+        low = simp zl (omega (arith, z));
+        high = simp zl (omega (arith, z));
+      }
 
 -- what is left of a cost
 pub less-within : (a m : ℤ) → pos 0 ≤ℤ a → a ≤ℤ pos highest → pos 0 ≤ℤ m → (pos 0 ≤ℤ less a m) × (less a m ≤ℤ pos highest)

@@ -14,14 +14,14 @@ use lib.IntN.{ℤ, pos, _+ℤ_, _-ℤ_}
 use lib.Signed.{ltZ, _≤ℤ_, ≤ℤ-refl}
 use Rattle.integers.specs.Linear.{z, zl}
 use Rattle.postman.specs.Lists.{select, upFrom, below, sumOfℤ, iterate}
-use Rattle.postman.specs.Laws.Tests.{test, same-test}
+use Rattle.postman.specs.Laws.Tests.{test, same-test, is-true, is-false, of-true}
 use Rattle.postman.specs.Laws.Membership.{mem-select, select-mem, mem-upFrom, upFrom-mem, mem-map, map-mem, mem-below, below-mem, length-upFrom}
 use Rattle.postman.specs.Laws.Occurrences.{occurrences-select, occurrences-upFrom}
 use Rattle.arborescence.specs.Cheapest.{AreOthers, treeCost, IsCheapest, AreEntries, IsReduced, IsCircle, isAmong, shrunk, IsContraction}
 use Rattle.arborescence.specs.Picture.{matrixOf, othersIn, highest, IsPicture, placeOf, less, HasEntries, entryOf, payOf, IsLost, IsMarked, IsPlace, IsShrunk, keptOf}
 use Rattle.arborescence.specs.Laws.Edmonds.{among-of, of-among, tree-of-entries, pay-entries, shrink-circle}
 use Rattle.arborescence.specs.Laws.Circle.{orbit, entries-tree, is-circle, start-mem, shrunk-fewer, select-le}
-use Rattle.arborescence.specs.Laws.Picture.{is-true, is-false, of-true, pay-within, less-within}
+use Rattle.arborescence.specs.Laws.Picture.{pay-within, less-within}
 
 -- ---- tests
 

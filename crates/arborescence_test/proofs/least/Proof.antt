@@ -12,8 +12,8 @@ is-picture-requires c κs = search needs
 solve-requires : tie.Need-solve-requires
 solve-requires c κs = c .before .is-picture .ensures (c .if1 .taken)
 
-unsigned-requires : tie.Need-unsigned-requires
-unsigned-requires c κs = search needs
+magnitude-requires : tie.Need-magnitude-requires
+magnitude-requires c κs = search needs
 
 line-requires : tie.Need-line-requires
 line-requires c κs = search needs
@@ -31,7 +31,7 @@ least-spec =
     up-to-requires
     is-picture-requires
     solve-requires
-    unsigned-requires
+    magnitude-requires
     line-requires
     returns
     returns-2)

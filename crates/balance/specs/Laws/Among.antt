@@ -14,10 +14,10 @@ use Rattle.balance.specs.Fold.{fold}
 use Rattle.balance.specs.Search.{search}
 use Rattle.balance.specs.Step.{State, amount, residualLength, moved, push, augment, empty, way, add, addAll}
 use Rattle.balance.specs.Direct.{passed, gained, bypass, bypassFrom, bypassVertex, direct}
-use Rattle.balance.specs.Invariant.{Metric, Certified, limit}
+use Rattle.balance.specs.Invariant.{Metric, Joining, Certified, limit}
 use Rattle.balance.specs.Laws.Search.{searched}
 use Rattle.balance.specs.Laws.Step.{residual-ground, add-certified}
-use Rattle.balance.specs.Laws.Arcs.{zero-at}
+use Rattle.balance.specs.Laws.Fill.{zero-at}
 
 abbrev pub Among : List ℕ → List ℕ → Type 0
 Among vs f = (i j : ℕ) → i < 64 → j < 64 → 0 < amount f i j → List·Memᴰ i vs × List·Memᴰ j vs
@@ -71,8 +71,7 @@ module _ (d : ℕ → ℕ → ℕ) (vs : List ℕ) (metric : Metric d vs) where
       let r = searched (residualLength d (s .amounts) (s .potentials)) vs t (residual-ground d vs metric s c room t mt) false h mh in
       among-augment vs (metric .small) (search (residualLength d (s .amounts) (s .potentials)) vs t false h .next) t (r .1 .onward) 64 (s .amounts) h mh a
 
-  pub among-all : (arcs : List Link) (s : State) → ((a : Link) → List·Memᴰ a arcs → List·Memᴰ (a .tail) vs × List·Memᴰ (a .head) vs)
-      → Certified d vs s → s .count + length arcs ≤ limit → Among vs (s .amounts) → Among vs (addAll d vs s arcs .amounts)
+  pub among-all : (arcs : List Link) (s : State) → Joining vs arcs → Certified d vs s → s .count + length arcs ≤ limit → Among vs (s .amounts) → Among vs (addAll d vs s arcs .amounts)
   unfolding addAll add
   among-all [] s inside c l h = h
   among-all (a ∷ arcs) s inside c l h =

@@ -1,27 +1,23 @@
 -- Arcs added one by one to the empty state: every state on the way is certified, and counts the arcs so far, in their order.
-use mathlib.Core.Path.{_≡_, refl, sym, _∙_, subst₂}
+use mathlib.Core.Path.{refl, sym, subst₂}
 use mathlib.Core.Logic.{inl, inr}
 use mathlib.Core.List.{List, [], _∷_, _++_, map, List·Memᴰ, List·Memᴰ·head, List·Memᴰ·tail, List·Memᴰ·append-cases, List·Memᴰ·eq-of-singleton, Memᴰ·cast, append-assoc, append-nil}
-use Prim.Native.Nat.{ℕ, zero, suc, _+_, _*_, _≤_}
+use Prim.Native.Nat.{ℕ, _+_, _*_, _≤_}
 use native.Mathlib.Omega.{arith}
-use lib.ListN.{length, getD, replicate, length-replicate, length-append}
+use lib.ListN.{length, replicate, length-replicate, length-append}
 use Rattle.postman.specs.Lists.{occurrences}
 use Rattle.postman.specs.Link.{Link}
 use Rattle.postman.specs.Balancing.{sumOver}
 use Rattle.postman.specs.Laws.Occurrences.{occurrences-append}
+use Rattle.postman.specs.Laws.Sum.{sum-none, sum-append}
 use Rattle.postman.specs.Laws.Amounts.{Within}
 use Rattle.balance.specs.Optimality.{sent, received}
 use Rattle.balance.specs.Step.{State, amount, potential, empty, add, addAll}
-use Rattle.balance.specs.Invariant.{Metric, limit, Certified, Counted}
-use Rattle.balance.specs.Laws.Sum.{sum-ext, sum-zero}
+use Rattle.balance.specs.Invariant.{Metric, Joining, limit, Certified, Counted}
+use Rattle.balance.specs.Laws.Fill.{zero-at}
 use Rattle.balance.specs.Laws.Step.{add-certified, add-counted}
 
 -- ---- the empty state
-
-pub zero-at : {A : Type 0} (n k : ℕ) (z : A) → getD (replicate n z) k z ≡ z
-zero-at zero k z = refl
-zero-at (suc n) zero z = refl
-zero-at (suc n) (suc k) z = zero-at n k z
 
 pub empty-certified : (d : ℕ → ℕ → ℕ) (vs : List ℕ) → Certified d vs empty
 unfolding empty
@@ -43,18 +39,13 @@ unfolding empty sumOver occurrences sent received
 empty-counted vs = record {
   number = refl;
   balanced = λ i m. (
-      let a = sum-ext vs (λ j. amount (replicate 4096 0) i j) (λ j. 0) (λ j n. zero-at {A = ℕ} 4096 (i * 64 + j) 0) ∙ sum-zero vs in
-      let b = sum-ext vs (λ j. amount (replicate 4096 0) j i) (λ j. 0) (λ j n. zero-at {A = ℕ} 4096 (j * 64 + i) 0) ∙ sum-zero vs in
+      let a = sum-none vs (λ j. amount (replicate 4096 0) i j) (λ j n. zero-at {A = ℕ} 4096 (i * 64 + j) 0) in
+      let b = sum-none vs (λ j. amount (replicate 4096 0) j i) (λ j n. zero-at {A = ℕ} 4096 (j * 64 + i) 0) in
       omega arith);
   priced = refl;
 }
 
 -- ---- one arc more, at the end
-
-sum-append : (xs ys : List ℕ) (u : ℕ → ℕ) → sumOver (xs ++ ys) u ≡ sumOver xs u + sumOver ys u
-unfolding sumOver
-sum-append [] ys u = omega arith
-sum-append (x ∷ xs) ys u = let h = sum-append xs ys u in omega arith
 
 last-counted : (vs : List ℕ) (s : State) (h t : ℕ) (hs ts : List ℕ) → Counted vs s (h ∷ hs) (t ∷ ts) → Counted vs s (hs ++ h ∷ []) (ts ++ t ∷ [])
 unfolding sumOver occurrences
@@ -71,13 +62,7 @@ within-last vs us v m w = record {
 }
 
 module _ (d : ℕ → ℕ → ℕ) (vs : List ℕ) (metric : Metric d vs) where
-  -- ---- all arcs
-
-  -- the arcs join vertices of vs
-  abbrev pub Inside : List Link → Type 0
-  Inside arcs = (a : Link) → List·Memᴰ a arcs → List·Memᴰ (a .tail) vs × List·Memᴰ (a .head) vs
-
-  pub all-counted : (arcs : List Link) (s : State) (hs ts : List ℕ) → Inside arcs → Within vs hs → Within vs ts → Certified d vs s → Counted vs s hs ts
+  pub all-counted : (arcs : List Link) (s : State) (hs ts : List ℕ) → Joining vs arcs → Within vs hs → Within vs ts → Certified d vs s → Counted vs s hs ts
       → length hs + length arcs ≤ limit
       → Certified d vs (addAll d vs s arcs) × Counted vs (addAll d vs s arcs) (hs ++ map (λ a. a .head) arcs) (ts ++ map (λ a. a .tail) arcs)
   unfolding addAll

@@ -1,10 +1,11 @@
 -- One unit more along a path. Each step adds one to what its first vertex sends on, and takes one from what its second does, so that along the path only the ends
 -- are left. The path visits a vertex once, so a step finds the amounts of its pair as they were.
-use mathlib.Core.Path.{_≡_, refl, ap, _∙_, subst⁻¹}
+use mathlib.Core.Path.{_≡_, ap, ap₂, _∙_, subst⁻¹}
 use mathlib.Core.Logic.{_⊎_, inl, inr, _≢_}
 use mathlib.Core.Bool.{Bool, cond}
 use mathlib.Core.List.{List, List·Memᴰ}
 use Prim.Native.Nat.{ℕ, zero, suc, _+_, _*_, _-_, _≤_, _<_}
+use native.Mathlib.Nat.{mul-zero, mul-one}
 use native.Mathlib.Decide.{ℕ-discrete, decLe}
 use native.Mathlib.Omega.{arith}
 use lib.ListN.{length, getD, set, length-set}
@@ -14,10 +15,10 @@ use borrow.Author.Tests.{lt-ltb, le-ltb}
 use Rattle.postman.specs.Lists.{delta, occurrences}
 use Rattle.postman.specs.Laws.Tests.{cond-ind, eqb-other}
 use Rattle.postman.specs.Laws.Occurrences.{delta-yes, delta-no}
+use Rattle.postman.specs.Laws.Sum.{sum-cong-mem, sum-change-once, once}
 use Rattle.balance.specs.Optimality.{Tight, sent, received}
 use Rattle.balance.specs.Step.{amount, push, augment}
 use Rattle.balance.specs.Invariant.{Loopless}
-use Rattle.balance.specs.Laws.Sum.{sum-ext, sum-change-once, once}
 
 module _ (vs : List ℕ) (unique : (i : ℕ) → occurrences i vs ≤ 1) (small : (i : ℕ) → List·Memᴰ i vs → i < 64) where
   -- ---- one amount stored
@@ -31,13 +32,23 @@ module _ (vs : List ℕ) (unique : (i : ℕ) → occurrences i vs ≤ 1) (small 
         getD-set-other f (a * 64 + b) (i * 64 + j) x 0
         (λ e. let h = small i mi in let g = small j mj in let p = small a ma in let q = small b mb in n (omega arith) (omega arith))
 
+    -- no amount rises where what is stored is no more than what stood there
+    pub lowered : x ≤ amount f a b → (i j : ℕ) → List·Memᴰ i vs → List·Memᴰ j vs → amount (set f (a * 64 + b) x) i j ≤ amount f i j
+    lowered l i j mi mj = elim (ℕ-discrete i a) [
+      | yes p ↦ elim (ℕ-discrete j b) [
+        | yes q ↦ let s = stored in let g = ap₂ (amount (set f (a * 64 + b) x)) p q in let h = ap₂ (amount f) p q in omega arith
+        | no q ↦ let s = kept i j mi mj (λ e g. q g) in omega arith
+      ]
+      | no p ↦ let s = kept i j mi mj (λ e g. p e) in omega arith
+    ]
+
     pub sent-other : (i : ℕ) → List·Memᴰ i vs → i ≢ a → sent vs (amount (set f (a * 64 + b) x)) i ≡ sent vs (amount f) i
     unfolding sent
-    sent-other i mi n = sum-ext vs _ _ (λ j mj. kept i j mi mj (λ e g. n e))
+    sent-other i mi n = sum-cong-mem vs _ _ (λ j mj. kept i j mi mj (λ e g. n e))
 
     pub received-other : (j : ℕ) → List·Memᴰ j vs → j ≢ b → received vs (amount (set f (a * 64 + b) x)) j ≡ received vs (amount f) j
     unfolding received
-    received-other j mj n = sum-ext vs _ _ (λ i mi. kept i j mi mj (λ e g. n g))
+    received-other j mj n = sum-cong-mem vs _ _ (λ i mi. kept i j mi mj (λ e g. n g))
 
     pub sent-here : sent vs (amount (set f (a * 64 + b) x)) a + amount f a b ≡ sent vs (amount f) a + x
     unfolding sent
@@ -53,31 +64,30 @@ module _ (vs : List ℕ) (unique : (i : ℕ) → occurrences i vs ≤ 1) (small 
         let s = stored in
         omega arith
 
-    -- one unit more, or less, from a to b
-    more : x ≡ amount f a b + 1 → (i : ℕ) → List·Memᴰ i vs
-        → (sent vs (amount (set f (a * 64 + b) x)) i ≡ sent vs (amount f) i + delta i a) × (received vs (amount (set f (a * 64 + b) x)) i ≡ received vs (amount f) i + delta i b)
-    more e i m = (
-      elim (ℕ-discrete i a) [
-        | yes q ↦ let s = sent-here in let d = delta-yes q in let g = ap (sent vs (amount (set f (a * 64 + b) x))) q in let h = ap (sent vs (amount f)) q in omega arith
-        | no q ↦ let s = sent-other i m q in let d = delta-no i a q in omega arith
-      ],
-      elim (ℕ-discrete i b) [
-        | yes q ↦ let s = received-here in let d = delta-yes q in let g = ap (received vs (amount (set f (a * 64 + b) x))) q in let h = ap (received vs (amount f)) q in omega arith
-        | no q ↦ let s = received-other i m q in let d = delta-no i b q in omega arith
-      ],
-    )
+    -- p units more from a to b, or q less
+    change : (p q : ℕ) → x + q ≡ amount f a b + p → (F G : ℕ → ℕ) (c i : ℕ) → G c + amount f a b ≡ F c + x → (i ≢ c → G i ≡ F i) → G i + q * delta i c ≡ F i + p * delta i c
+    change p q e F G c i here other = elim (ℕ-discrete i c) [
+      | yes k ↦
+          let d = delta-yes k in
+          let g = ap G k in
+          let h = ap F k in
+          let u = ap (λ z. p * z) d ∙ mul-one p in
+          let v = ap (λ z. q * z) d ∙ mul-one q in
+          omega arith
+      | no k ↦
+          let d = delta-no i c k in
+          let g = other k in
+          let u = ap (λ z. p * z) d ∙ mul-zero p in
+          let v = ap (λ z. q * z) d ∙ mul-zero q in
+          omega arith
+    ]
 
-    less : x + 1 ≡ amount f a b → (i : ℕ) → List·Memᴰ i vs
-        → (sent vs (amount (set f (a * 64 + b) x)) i + delta i a ≡ sent vs (amount f) i) × (received vs (amount (set f (a * 64 + b) x)) i + delta i b ≡ received vs (amount f) i)
-    less e i m = (
-      elim (ℕ-discrete i a) [
-        | yes q ↦ let s = sent-here in let d = delta-yes q in let g = ap (sent vs (amount (set f (a * 64 + b) x))) q in let h = ap (sent vs (amount f)) q in omega arith
-        | no q ↦ let s = sent-other i m q in let d = delta-no i a q in omega arith
-      ],
-      elim (ℕ-discrete i b) [
-        | yes q ↦ let s = received-here in let d = delta-yes q in let g = ap (received vs (amount (set f (a * 64 + b) x))) q in let h = ap (received vs (amount f)) q in omega arith
-        | no q ↦ let s = received-other i m q in let d = delta-no i b q in omega arith
-      ],
+    changed : (p q : ℕ) → x + q ≡ amount f a b + p → (i : ℕ) → List·Memᴰ i vs
+        → (sent vs (amount (set f (a * 64 + b) x)) i + q * delta i a ≡ sent vs (amount f) i + p * delta i a)
+        × (received vs (amount (set f (a * 64 + b) x)) i + q * delta i b ≡ received vs (amount f) i + p * delta i b)
+    changed p q e i m = (
+      change p q e (sent vs (amount f)) (sent vs (amount (set f (a * 64 + b) x))) a i sent-here (sent-other i m),
+      change p q e (received vs (amount f)) (received vs (amount (set f (a * 64 + b) x))) b i received-here (received-other i m),
     )
 
   -- ---- one step
@@ -97,12 +107,12 @@ module _ (vs : List ℕ) (unique : (i : ℕ) → occurrences i vs ≤ 1) (small 
     push-net : (i : ℕ) → List·Memᴰ i vs → sent vs (amount (push f v w)) i + received vs (amount f) i + delta i w ≡ sent vs (amount f) i + received vs (amount (push f v w)) i + delta i v
     push-net i m = elim (decLe 1 (amount f w v)) [
       | yes h ↦
-          let r = less f long w v mw mv (amount f w v - 1) (omega arith) i m in
+          let r = changed f long w v mw mv (amount f w v - 1) 0 1 (omega arith) i m in
           let s = r .0 in
           let q = r .1 in
           subst⁻¹ (λ (g : List ℕ). sent vs (amount g) i + received vs (amount f) i + delta i w ≡ sent vs (amount f) i + received vs (amount g) i + delta i v) (push-back h) (omega arith)
       | no h ↦
-          let r = more f long v w mv mw (amount f v w + 1) refl i m in
+          let r = changed f long v w mv mw (amount f v w + 1) 1 0 (omega arith) i m in
           let s = r .0 in
           let q = r .1 in
           subst⁻¹ (λ (g : List ℕ). sent vs (amount g) i + received vs (amount f) i + delta i w ≡ sent vs (amount f) i + received vs (amount g) i + delta i v) (push-ahead (omega arith)) (omega arith)

@@ -14,14 +14,13 @@ use lib.Dec.{eqb}
 use borrow.Author.Tests.{eq-eqb, ne-eqb}
 use Rattle.postman.specs.Lists.{delta, occurrences}
 use Rattle.postman.specs.Laws.Occurrences.{delta-yes, delta-no}
-use Rattle.postman.specs.Balancing.{sumOver}
 use Rattle.balance.specs.Optimality.{sent, received}
 use Rattle.balance.specs.Step.{amount}
 use Rattle.balance.specs.Invariant.{Loopless}
 use Rattle.balance.specs.Direct.{passed, gained, bypass, bypassFrom, bypassVertex, direct}
 use Rattle.balance.specs.Laws.Fold.{fold-all, fold-each}
-use Rattle.balance.specs.Laws.Sum.{sum-ext, sum-zero}
-use Rattle.balance.specs.Laws.Augment.{stored, kept, sent-other, received-other, sent-here, received-here}
+use Rattle.postman.specs.Laws.Sum.{sum-none}
+use Rattle.balance.specs.Laws.Augment.{stored, kept, sent-other, received-other, sent-here, received-here, lowered}
 
 module _ (vs : List ℕ) (unique : (i : ℕ) → occurrences i vs ≤ 1) (small : (i : ℕ) → List·Memᴰ i vs → i < 64) where
   -- what g keeps of f
@@ -141,24 +140,14 @@ module _ (vs : List ℕ) (unique : (i : ℕ) → occurrences i vs ≤ 1) (small 
 
       -- an entry of each
       one : (i j : ℕ) → List·Memᴰ i vs → List·Memᴰ j vs → amount f₁ i j ≤ amount f i j
-      one i j mi mj = elim (ℕ-discrete i a) [
-        | yes p ↦ elim (ℕ-discrete j b) [
-          | yes q ↦ let s = stored vs unique small f long a b ma mb (amount f a b - m) in let g = ap₂ (amount f₁) p q in let h = ap₂ (amount f) p q in omega arith
-          | no q ↦ let s = kept vs unique small f long a b ma mb (amount f a b - m) i j mi mj (λ e g. q g) in omega arith
-        ]
-        | no p ↦ let s = kept vs unique small f long a b ma mb (amount f a b - m) i j mi mj (λ e g. p e) in omega arith
-      ]
+      one = lowered vs unique small f long a b ma mb (amount f a b - m) (omega arith)
 
       two : (i j : ℕ) → List·Memᴰ i vs → List·Memᴰ j vs → amount f₂ i j ≤ amount f i j
       two i j mi mj =
           let o = one i j mi mj in
-          elim (ℕ-discrete i b) [
-            | yes p ↦ elim (ℕ-discrete j c) [
-              | yes q ↦ let s = stored vs unique small f₁ l₁ b c mb mc (amount f b c - m) in let g = ap₂ (amount f₂) p q in let h = ap₂ (amount f) p q in omega arith
-              | no q ↦ let s = kept vs unique small f₁ l₁ b c mb mc (amount f b c - m) i j mi mj (λ e g. q g) in omega arith
-            ]
-            | no p ↦ let s = kept vs unique small f₁ l₁ b c mb mc (amount f b c - m) i j mi mj (λ e g. p e) in omega arith
-          ]
+          let y = y₁ in
+          let s = lowered vs unique small f₁ l₁ b c mb mc (amount f b c - m) (omega arith) i j mi mj in
+          omega arith
 
       three : (i j : ℕ) → List·Memᴰ i vs → List·Memᴰ j vs → ((i ≡ a) → (j ≡ c) → ⊥) → amount f₃ i j ≤ amount f i j
       three i j mi mj n =
@@ -260,9 +249,6 @@ module _ (vs : List ℕ) (unique : (i : ℕ) → occurrences i vs ≤ 1) (small 
 
   -- ---- all ways
 
-  sum-empty : (us : List ℕ) (h : ℕ → ℕ) → ((i : ℕ) → List·Memᴰ i us → h i ≡ 0) → sumOver us h ≡ 0
-  sum-empty us h e = sum-ext us h (λ i. 0) e ∙ sum-zero us
-
   -- a property of amounts that passing by a vertex keeps
   module _ (Keep : List ℕ → Type 0)
       (keeps : (f : List ℕ) (a b c : ℕ) → List·Memᴰ a vs → List·Memᴰ b vs → List·Memᴰ c vs → length f ≡ 4096 → Loopless vs f → Keep f → Keep (bypass f a b c)) where
@@ -315,7 +301,7 @@ module _ (vs : List ℕ) (unique : (i : ℕ) → occurrences i vs ≤ 1) (small 
         unfolding sent
         from-over f l o k = elim (decLe 1 (amount (bypassFrom vs b f a) a b)) [
           | no h ↦ inl (omega arith)
-          | yes h ↦ inr (sum-empty vs (λ c. amount (bypassFrom vs b f a) b c) (λ c mc. elim (from-gone f l o k c mc) [ inl e ↦ absurd (omega arith) | inr e ↦ e ]))
+          | yes h ↦ inr (sum-none vs (λ c. amount (bypassFrom vs b f a) b c) (λ c mc. elim (from-gone f l o k c mc) [ inl e ↦ absurd (omega arith) | inr e ↦ e ]))
         ]
 
       -- ---- from all
@@ -345,7 +331,7 @@ module _ (vs : List ℕ) (unique : (i : ℕ) → occurrences i vs ≤ 1) (small 
       unfolding received
       vertex-over f l o k = elim (decLe 1 (sent vs (amount (bypassVertex vs f b)) b)) [
         | no h ↦ inr (omega arith)
-        | yes h ↦ inl (sum-empty vs (λ a. amount (bypassVertex vs f b) a b) (λ a ma. elim (vertex-gone f l o k a ma) [ inl e ↦ e | inr e ↦ absurd (omega arith) ]))
+        | yes h ↦ inl (sum-none vs (λ a. amount (bypassVertex vs f b) a b) (λ a ma. elim (vertex-gone f l o k a ma) [ inl e ↦ e | inr e ↦ absurd (omega arith) ]))
       ]
 
     -- ---- by all

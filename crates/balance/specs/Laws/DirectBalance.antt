@@ -9,13 +9,13 @@ use native.Mathlib.Omega.{arith}
 use lib.ListN.{length}
 use Rattle.postman.specs.Lists.{occurrences}
 use Rattle.postman.specs.Balancing.{sumOver}
-use Rattle.postman.specs.Laws.Amounts.{Within}
+use Rattle.postman.specs.Laws.Sum.{sum-le, term-le, sum-occurrences}
+use Rattle.postman.specs.Laws.Amounts.{Within, within-once}
 use Rattle.balance.specs.Optimality.{Tight, Balances, sent, received}
 use Rattle.balance.specs.Step.{State, amount, potential}
 use Rattle.balance.specs.Direct.{passed, bypass, bypassFrom, bypassVertex, direct}
 use Rattle.balance.specs.Invariant.{Metric, limit, Sparse, Certified, Counted}
 use Rattle.balance.specs.Laws.Fold.{fold-all}
-use Rattle.balance.specs.Laws.Sum.{sum-le, sum-none, sum-occurrences}
 use Rattle.balance.specs.Laws.Direct.{bypass-passes, Kept, direct-kept, direct-one-way}
 
 -- ---- what fits
@@ -33,8 +33,8 @@ sum-ones (u ∷ us) = let e = sum-ones us in omega arith
 sum-two : {vs : List ℕ} (g : ℕ → ℕ) {i j : ℕ} → i ≢ j → List·Memᴰ i vs → List·Memᴰ j vs → g i + g j ≤ sumOver vs g
 unfolding sumOver
 sum-two g n (List·Memᴰ·head e) (List·Memᴰ·head f) = absurd (n (e ∙ sym f))
-sum-two g n (List·Memᴰ·head e) (List·Memᴰ·tail m) = let a = ap g e in let b = sum-none g m in omega arith
-sum-two g n (List·Memᴰ·tail m) (List·Memᴰ·head e) = let a = ap g e in let b = sum-none g m in omega arith
+sum-two g n (List·Memᴰ·head e) (List·Memᴰ·tail m) = let a = ap g e in let b = term-le g m in omega arith
+sum-two g n (List·Memᴰ·tail m) (List·Memᴰ·head e) = let a = ap g e in let b = term-le g m in omega arith
 sum-two g n (List·Memᴰ·tail m) (List·Memᴰ·tail k) = let a = sum-two g n m k in omega arith
 
 pub certified-sparse : (d : ℕ → ℕ → ℕ) (vs : List ℕ) → Metric d vs → (s : State) → Certified d vs s → s .count ≤ limit → Sparse vs (s .amounts)
@@ -69,7 +69,7 @@ unfolding sent
 bypass-room vs f a b c ma mb mc s =
     let r = s .rows a ma in
     elim (ℕ-discrete b c) [
-      | yes e ↦ let l = s .loopless b mb in let q = ap (amount f b) e in let x = sum-none (λ j. amount f a j) mc in omega arith
+      | yes e ↦ let l = s .loopless b mb in let q = ap (amount f b) e in let x = term-le (λ j. amount f a j) mc in omega arith
       | no n ↦ let x = sum-two (λ j. amount f a j) n mb mc in omega arith
     ]
 
@@ -116,6 +116,6 @@ module _ (d : ℕ → ℕ → ℕ) (vs : List ℕ) (metric : Metric d vs) (s : S
     pub direct-units : Within vs hs → sumOver vs (sent vs (amount g)) ≤ length hs
     direct-units wh =
         let a = sum-le vs (sent vs (amount g)) (λ i. 1 * occurrences i hs) (λ i m. let b = direct-balanced i m in let e = mul-comm 1 (occurrences i hs) ∙ mul-one (occurrences i hs) in elim (one-way i m) [ inl z ↦ omega arith | inr z ↦ omega arith ]) in
-        let b = sum-occurrences (λ i. 1) vs hs wh in
+        let b = sum-occurrences (λ i. 1) vs hs (within-once wh) in
         let e = sum-ones hs in
         omega arith

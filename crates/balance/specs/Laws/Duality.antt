@@ -12,11 +12,11 @@ use lib.Signed.{_≤ℤ_}
 use Rattle.integers.specs.Linear.{z, zl}
 use Rattle.postman.specs.Lists.{occurrences, sumOf, sumOfℤ}
 use Rattle.postman.specs.Balancing.{sumOver, IsBalancing, balancingCost, assignment}
-use Rattle.postman.specs.Laws.Amounts.{Within, difference, assignment-le}
+use Rattle.postman.specs.Laws.Sum.{sum-cong-mem, sum-none, sum-add, sum-mul, sum-swap, term-le, sum-occurrences}
+use Rattle.postman.specs.Laws.Amounts.{Within, within-once, difference, assignment-le}
 use Rattle.postman.specs.Laws.SignedSum.{sum-pos}
 use Rattle.postman.specs.Laws.LagrangianBound.{weak-duality}
 use Rattle.balance.specs.Optimality.{Feasible, Tight, Balances, sent, received, reduced}
-use Rattle.balance.specs.Laws.Sum.{sum-ext, sum-add, sum-mul, sum-swap, sum-none, sum-zero, sum-occurrences}
 
 -- the reduced costs of what is sent
 unfoldable pub slack : (ℕ → ℕ → ℕ) → List ℕ → (ℕ → ℕ → ℕ) → (ℕ → ℕ) → ℕ
@@ -28,10 +28,10 @@ module _ (d f : ℕ → ℕ → ℕ) (vs : List ℕ) (u : ℕ → ℕ) where
   pairs g = sumOver vs (λ i. sumOver vs (λ j. g i j))
 
   pairs-ext : (g h : ℕ → ℕ → ℕ) → ((i j : ℕ) → List·Memᴰ i vs → List·Memᴰ j vs → g i j ≡ h i j) → pairs g ≡ pairs h
-  pairs-ext g h e = sum-ext vs _ _ (λ i m. sum-ext vs _ _ (λ j n. e i j m n))
+  pairs-ext g h e = sum-cong-mem vs _ _ (λ i m. sum-cong-mem vs _ _ (λ j n. e i j m n))
 
   pairs-add : (g h : ℕ → ℕ → ℕ) → pairs (λ i j. g i j + h i j) ≡ pairs g + pairs h
-  pairs-add g h = sum-ext vs _ _ (λ i m. sum-add vs (g i) (h i)) ∙ sum-add vs (λ i. sumOver vs (g i)) (λ i. sumOver vs (h i))
+  pairs-add g h = sum-cong-mem vs _ _ (λ i m. sum-add vs (g i) (h i)) ∙ sum-add vs (λ i. sumOver vs (g i)) (λ i. sumOver vs (h i))
 
   by-pairs : Feasible d vs u → balancingCost vs d f + pairs (λ i j. f i j * u j) ≡ pairs (λ i j. f i j * u i) + slack d vs f u
   unfolding balancingCost slack
@@ -42,20 +42,20 @@ module _ (d f : ℕ → ℕ → ℕ) (vs : List ℕ) (u : ℕ → ℕ) where
 
   by-sent : pairs (λ i j. f i j * u i) ≡ sumOver vs (λ i. u i * sent vs f i)
   unfolding sent
-  by-sent = sum-ext vs _ _ (λ i m. sum-mul vs (λ j. f i j) (u i) ∙ mul-comm (sumOver vs (λ j. f i j)) (u i))
+  by-sent = sum-cong-mem vs _ _ (λ i m. sum-mul vs (λ j. f i j) (u i) ∙ mul-comm (sumOver vs (λ j. f i j)) (u i))
 
   by-received : pairs (λ i j. f i j * u j) ≡ sumOver vs (λ i. u i * received vs f i)
   unfolding received
-  by-received = sum-swap vs vs (λ i j. f i j * u j) ∙ sum-ext vs _ _ (λ j m. sum-mul vs (λ i. f i j) (u j) ∙ mul-comm (sumOver vs (λ i. f i j)) (u j))
+  by-received = sum-swap vs vs (λ i j. f i j * u j) ∙ sum-cong-mem vs _ _ (λ j m. sum-mul vs (λ i. f i j) (u j) ∙ mul-comm (sumOver vs (λ i. f i j)) (u j))
 
   module _ (hs ts : List ℕ) (wh : Within vs hs) (wt : Within vs ts) (balanced : Balances vs f hs ts) where
     weighted : sumOver vs (λ i. u i * sent vs f i) + sumOver ts u ≡ sumOver vs (λ i. u i * received vs f i) + sumOver hs u
     weighted =
-        ap (λ x. sumOver vs (λ i. u i * sent vs f i) + x) (sym (sum-occurrences u vs ts wt))
+        ap (λ x. sumOver vs (λ i. u i * sent vs f i) + x) (sym (sum-occurrences u vs ts (within-once wt)))
         ∙ sym (sum-add vs (λ i. u i * sent vs f i) (λ i. u i * occurrences i ts))
-        ∙ sum-ext vs _ _ (λ i m. sym (mul-add (u i) (sent vs f i) (occurrences i ts)) ∙ ap (λ x. u i * x) (balanced i m) ∙ mul-add (u i) (received vs f i) (occurrences i hs))
+        ∙ sum-cong-mem vs _ _ (λ i m. sym (mul-add (u i) (sent vs f i) (occurrences i ts)) ∙ ap (λ x. u i * x) (balanced i m) ∙ mul-add (u i) (received vs f i) (occurrences i hs))
         ∙ sum-add vs (λ i. u i * received vs f i) (λ i. u i * occurrences i hs)
-        ∙ ap (λ x. sumOver vs (λ i. u i * received vs f i) + x) (sum-occurrences u vs hs wh)
+        ∙ ap (λ x. sumOver vs (λ i. u i * received vs f i) + x) (sum-occurrences u vs hs (within-once wh))
 
     -- DUALITY
     pub cost-price : Feasible d vs u → balancingCost vs d f + sumOver ts u ≡ sumOver hs u + slack d vs f u
@@ -69,7 +69,7 @@ module _ (d f : ℕ → ℕ → ℕ) (vs : List ℕ) (u : ℕ → ℕ) where
     -- under tight potentials nothing sent has a reduced cost
     pub tight-slack : Tight d vs f u → slack d vs f u ≡ 0
     unfolding slack
-    tight-slack tight = sum-ext vs _ (λ i. 0) (λ i m. sum-ext vs _ (λ j. 0) (λ j n. at i j m n) ∙ sum-zero vs) ∙ sum-zero vs
+    tight-slack tight = sum-none vs _ (λ i m. sum-none vs _ (λ j n. at i j m n))
       where
         at : (i j : ℕ) → List·Memᴰ i vs → List·Memᴰ j vs → f i j * reduced d u i j ≡ 0
         at i j m n = elim (decLe 1 (f i j)) [
@@ -81,8 +81,8 @@ module _ (d f : ℕ → ℕ → ℕ) (vs : List ℕ) (u : ℕ → ℕ) where
     pub slack-tight : Feasible d vs u → slack d vs f u ≡ 0 → Tight d vs f u
     unfolding slack
     slack-tight feasible z i j m n h =
-        let a = sum-none (λ i. sumOver vs (λ j. f i j * reduced d u i j)) m in
-        let b = sum-none (λ j. f i j * reduced d u i j) n in
+        let a = term-le (λ i. sumOver vs (λ j. f i j * reduced d u i j)) m in
+        let b = term-le (λ j. f i j * reduced d u i j) n in
         let p : f i j * reduced d u i j ≡ 0 = omega arith in
         let r = no-product (f i j) (reduced d u i j) h p in
         let g = feasible i j m n in

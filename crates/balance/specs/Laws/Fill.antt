@@ -1,13 +1,18 @@
--- A loop that stores at each vertex of a list what a function says. By induction on the list.
+-- Lists that hold one value everywhere, and a loop that stores at each vertex of a list what a function says. By induction on the list.
 use mathlib.Core.Path.{_≡_, refl, sym, ap, _∙_}
 use mathlib.Core.Logic.{inl, inr}
 use mathlib.Core.List.{List, [], _∷_, List·Memᴰ, List·Memᴰ·head, List·Memᴰ·tail, List·Memᴰ·cases-cons, List·Memᴰ·not-nil}
-use Prim.Native.Nat.{ℕ, _<_}
+use Prim.Native.Nat.{ℕ, zero, suc, _<_}
 use native.Mathlib.Omega.{arith}
-use lib.ListN.{length, getD, set, length-set}
+use lib.ListN.{length, getD, set, replicate, length-set}
 use lib.Seq.{getD-set-same, getD-set-other}
 use Rattle.postman.specs.Laws.Occurrences.{mem?}
 use Rattle.balance.specs.Fold.{fold}
+
+pub zero-at : {A : Type 0} (n k : ℕ) (z : A) → getD (replicate n z) k z ≡ z
+zero-at zero k z = refl
+zero-at (suc n) zero z = refl
+zero-at (suc n) (suc k) z = zero-at n k z
 
 module _ {A : Type 0} (g : ℕ → A) (z : A) where
   abbrev store : List A → ℕ → List A

@@ -14,9 +14,8 @@ use Rattle.balance.specs.Step.{State, amount, potential, residualLength}
 use Rattle.balance.specs.Multipliers.{fromRoot, ways, multipliers}
 use Rattle.balance.specs.Invariant.{Metric, limit, Certified}
 use Rattle.balance.specs.Laws.Search.{Ground, Searching, searched, whole-settled}
-use Rattle.balance.specs.Laws.Step.{residual-back, residual-ahead, residual-le, residual-ground}
-use Rattle.balance.specs.Laws.Fill.{fill-other, fill-here}
-use Rattle.balance.specs.Laws.Arcs.{zero-at}
+use Rattle.balance.specs.Laws.Step.{residual-ahead, residual-ground, raised-feasible, raised-tight}
+use Rattle.balance.specs.Laws.Fill.{zero-at, fill-other, fill-here}
 
 module _ (d : ℕ → ℕ → ℕ) (vs : List ℕ) (metric : Metric d vs) (s : State) (certified : Certified d vs s) (room : s .count < limit) (root : ℕ) (mr : List·Memᴰ root vs) where
   abbrev f : ℕ → ℕ → ℕ
@@ -58,20 +57,10 @@ module _ (d : ℕ → ℕ → ℕ) (vs : List ℕ) (metric : Metric d vs) (s : S
   w v = x v + u v
 
   pub w-feasible : Feasible d vs w
-  w-feasible i j mi mj =
-      let c = x-near i j mi mj in
-      let e = residual-le (d i j) (u i) (u j) (f j i) in
-      let g = certified .feasible i j mi mj in
-      omega arith
+  w-feasible i j mi mj = let c = raised-feasible d vs metric s certified room x x-near i j mi mj in omega arith
 
   pub w-tight : Tight d vs f w
-  w-tight i j mi mj p =
-      let c = x-near i j mi mj in
-      let c′ = x-near j i mj mi in
-      let e = residual-le (d i j) (u i) (u j) (f j i) in
-      let e′ = residual-back (d j i) (u j) (u i) (f i j) p in
-      let g = certified .tight i j mi mj p in
-      omega arith
+  w-tight i j mi mj p = let c = raised-tight d vs metric s certified room x x-near i j mi mj p in omega arith
 
   module _ (q : ℕ → ℕ) (feasible : Feasible d vs q) (tight : Tight d vs f q) where
     -- along a residual pair q falls by at most its length

@@ -34,9 +34,9 @@ use Rattle.balance.specs.Step.{State, amount, potential, empty, add, add
 use Rattle.balance.specs.Multipliers.{multipliers}
 use Rattle.balance.specs.Balance.{requiredEnds, balance}
 use Rattle.balance.specs.Direct.{direct}
-use Rattle.balance.specs.Invariant.{Metric, limit, Certified, Counted}
+use Rattle.balance.specs.Invariant.{Metric, Joining, limit, Certified, Counted}
 use Rattle.balance.specs.Laws.Duality.{is-balancing, cost-price, slack-tight, cost-least, price-least}
-use Rattle.balance.specs.Laws.Arcs.{Inside, all-counted, empty-certified, empty-counted}
+use Rattle.balance.specs.Laws.Arcs.{all-counted, empty-certified, empty-counted}
 use Rattle.balance.specs.Laws.DirectBalance.{direct-tight, one-way, direct-balanced, direct-units}
 use Rattle.balance.specs.Laws.Multipliers.{x-root, w, w-feasible, w-tight, below-greatest, M-here, M-other}
 
@@ -135,7 +135,7 @@ module _ (p : Plan) (ok : WellFormed p) (connected : T (not (isCutOff p))) where
     tight-distance f u h i j mi mj q = let a = h i j mi mj q in let e = agrees i j mi mj in omega arith
 
     module _ (t : List Link) (joins : Joins p t) (short : length t ≤ 100) where
-      pub inside : Inside d (required p) table-metric (requiredEnds p ++ t)
+      pub inside : Joining (required p) (requiredEnds p ++ t)
       unfolding requiredEnds
       inside a m = elim (List·Memᴰ·append-cases (map (λ a. record { tail = a .tail; head = a .head }) (requiredArcs p)) m) [
         | inl n ↦

@@ -15,10 +15,11 @@ use Rattle.postman.specs.Lists.{occurrences}
 use Rattle.postman.specs.Balancing.{sumOver}
 use Rattle.postman.specs.Laws.Tests.{cond-ind, and-parts}
 use Rattle.postman.specs.Laws.Membership.{mem-getD}
+use Rattle.postman.specs.Laws.Sum.{sum-change-once, term-le, once}
 use Rattle.balance.specs.Bounds.{AtMost}
 use Rattle.balance.specs.Fold.{fold}
 use Rattle.balance.specs.Search.{Found, beyond, relaxed, relax, openDistance, nearer, nearest, start, settle, round, rounds, search}
-use Rattle.balance.specs.Laws.Sum.{sum-change-once, sum-none, once}
+use Rattle.balance.specs.Laws.Fill.{zero-at}
 
 abbrev at : List ℕ → ℕ → ℕ
 at l v = getD l v 0
@@ -376,17 +377,6 @@ module _ (ℓ : ℕ → ℕ → ℕ) (vs : List ℕ) (t : ℕ) (ground : Ground 
   all-open [] r h = refl
   all-open (u ∷ us) r h = let a = all-open us r h in let b = h u in omega arith
 
-  zeros : (v : ℕ) → at (replicate 64 0) v ≡ 0
-  zeros v = elim (decLe (v + 1) 64) [
-    | yes l ↦ getD-replicate 64 v 0 0 (omega arith)
-    | no l ↦ past 64 v (omega arith)
-  ]
-    where
-      past : (n v : ℕ) → n ≤ v → at (replicate n 0) v ≡ 0
-      past zero v h = refl
-      past (suc n) zero h = absurd (omega arith)
-      past (suc n) (suc v) h = past n v (omega arith)
-
   start-change : Relaxed (λ v. ℓ v t) t 0 vs (replicate 64 beyond, replicate 64 t) (start ℓ vs t .distance, start ℓ vs t .next)
   unfolding start relax
   start-change = relaxed-all (λ v. ℓ v t) t 0 vs (replicate 64 beyond, replicate 64 t)
@@ -409,7 +399,7 @@ module _ (ℓ : ℕ → ℕ → ℕ) (vs : List ℕ) (t : ℕ) (ground : Ground 
 
   start-other : (v : ℕ) → v ≢ t → at (start ℓ vs t .rank) v ≡ 0
   unfolding start
-  start-other v n = getD-set-other (replicate 64 0) t v 1 0 n ∙ zeros v
+  start-other v n = getD-set-other (replicate 64 0) t v 1 0 n ∙ zero-at 64 v 0
 
   only : (v : ℕ) → 0 < at (start ℓ vs t .rank) v → v ≡ t
   only v h = elim (ℕ-discrete v t) [ yes e ↦ e | no n ↦ let a = start-other v n in absurd (omega arith) ]
@@ -456,11 +446,11 @@ module _ (ℓ : ℕ → ℕ → ℕ) (vs : List ℕ) (t : ℕ) (ground : Ground 
     ];
     low = λ v m. (let a = start-at v m .0 in let b = ground .short v t m (ground .target) in omega arith);
     left =
-        let a = all-open vs (at (replicate 64 0)) zeros in
+        let a = all-open vs (at (replicate 64 0)) (λ v. zero-at 64 v 0) in
         let c = sum-change-once vs (λ v. 1 - at (replicate 64 0) v) (λ v. 1 - at (start ℓ vs t .rank) v) t (once (ground .once) (ground .target))
-        (λ i m n. ap (λ r. 1 - r) (start-other i n ∙ sym (zeros i))) in
+        (λ i m n. ap (λ r. 1 - r) (start-other i n ∙ sym (zero-at 64 i 0))) in
         let h = start-here in
-        let z = zeros t in
+        let z = zero-at {A = ℕ} 64 t 0 in
         omega arith;
   }
 
@@ -495,7 +485,7 @@ module _ (ℓ : ℕ → ℕ → ℕ) (vs : List ℕ) (t : ℕ) (ground : Ground 
     all-settled : search-rounds .0 ≡ length vs → (v : ℕ) → List·Memᴰ v vs → 0 < at (result .rank) v
     all-settled e v m =
         let l = search-rounds .1 .left in
-        let a = sum-none (λ v. 1 - at (result .rank) v) m in
+        let a = term-le (λ v. 1 - at (result .rank) v) m in
         omega arith
 
     -- the goal is settled

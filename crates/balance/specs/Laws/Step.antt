@@ -1,13 +1,13 @@
 -- Adding an arc keeps a state certified. Distances to t obey the residual lengths, so raising the potentials by them, by no more than h's, keeps every reduced
 -- cost and makes it 0 along the path from h to t.
-use mathlib.Core.Path.{_≡_, refl, ap, ap₂, _∙_}
+use mathlib.Core.Path.{_≡_, ap, ap₂, _∙_}
 use mathlib.Core.Logic.{_⊎_, inl, inr}
 use mathlib.Core.Bool.{Bool, false, cond}
-use mathlib.Core.List.{List, [], _∷_, List·Memᴰ, List·Memᴰ·cases-cons, Memᴰ·cast}
-use Prim.Native.Nat.{ℕ, zero, suc, _+_, _*_, _-_, _≤_, _<_, min}
+use mathlib.Core.List.{List, _∷_, List·Memᴰ, List·Memᴰ·cases-cons, Memᴰ·cast}
+use Prim.Native.Nat.{ℕ, zero, _+_, _*_, _-_, _≤_, _<_, min}
 use native.Mathlib.Decide.{decLe}
 use native.Mathlib.Omega.{arith}
-use lib.ListN.{length, getD}
+use lib.ListN.{length, getD, List·getD-eq-default}
 use borrow.Author.Tests.{lt-ltb, le-ltb}
 use Rattle.postman.specs.Lists.{occurrences}
 use Rattle.postman.specs.Balancing.{sumOver}
@@ -42,13 +42,8 @@ residual-le d ui uj back = elim (decLe 1 back) [
 pub vertices-small : (d : ℕ → ℕ → ℕ) (vs : List ℕ) → Metric d vs → AtMost 63 vs
 vertices-small d vs metric k = elim (decLe (k + 1) (length vs)) [
   | yes h ↦ let a = metric .small (getD vs k 0) (getD-mem vs 0 k (omega arith)) in omega arith
-  | no h ↦ let a = past vs k (omega arith) in omega arith
+  | no h ↦ let a = List·getD-eq-default vs 0 {n = k} (omega arith) in omega arith
 ]
-  where
-    past : (xs : List ℕ) (k : ℕ) → length xs ≤ k → getD xs k 0 ≡ 0
-    past [] k h = refl
-    past (x ∷ xs) zero h = absurd (omega arith)
-    past (x ∷ xs) (suc k) h = past xs k (omega arith)
 
 module _ (d : ℕ → ℕ → ℕ) (vs : List ℕ) (metric : Metric d vs) (s : State) (certified : Certified d vs s) (room : s .count < limit) where
   abbrev f : ℕ → ℕ → ℕ
@@ -73,6 +68,24 @@ module _ (d : ℕ → ℕ → ℕ) (vs : List ℕ) (metric : Metric d vs) (s : S
         omega arith);
     still = let a = residual-le (d t t) (u t) (u t) (f t t) in let b = metric .self t mt in omega arith;
   }
+
+  -- raises that fall along a pair by at most its residual length keep the potentials feasible and tight
+  module _ (y : ℕ → ℕ) (near : (i j : ℕ) → List·Memᴰ i vs → List·Memᴰ j vs → y i ≤ y j + ℓ i j) where
+    pub raised-feasible : Feasible d vs (λ v. u v + y v)
+    raised-feasible i j mi mj =
+        let c = near i j mi mj in
+        let e = residual-le (d i j) (u i) (u j) (f j i) in
+        let g = certified .feasible i j mi mj in
+        omega arith
+
+    pub raised-tight : Tight d vs f (λ v. u v + y v)
+    raised-tight i j mi mj p =
+        let c = near i j mi mj in
+        let c′ = near j i mj mi in
+        let e = residual-le (d i j) (u i) (u j) (f j i) in
+        let e′ = residual-back (d j i) (u j) (u i) (f i j) p in
+        let g = certified .tight i j mi mj p in
+        omega arith
 
   module _ (t h : ℕ) (mt : List·Memᴰ t vs) (mh : List·Memᴰ h vs) where
     abbrev found : Found
@@ -156,24 +169,10 @@ module _ (d : ℕ → ℕ → ℕ) (vs : List ℕ) (metric : Metric d vs) (s : S
         ]
 
     raise-feasible : Feasible d vs u′
-    raise-feasible i j mi mj =
-        let a = raise-here i mi in
-        let b = raise-here j mj in
-        let c = y-near i j mi mj in
-        let e = residual-le (d i j) (u i) (u j) (f j i) in
-        let g = certified .feasible i j mi mj in
-        omega arith
+    raise-feasible i j mi mj = let a = raise-here i mi in let b = raise-here j mj in let c = raised-feasible y y-near i j mi mj in omega arith
 
     raise-tight : Tight d vs f u′
-    raise-tight i j mi mj p =
-        let a = raise-here i mi in
-        let b = raise-here j mj in
-        let c = y-near i j mi mj in
-        let c′ = y-near j i mj mi in
-        let e = residual-le (d i j) (u i) (u j) (f j i) in
-        let e′ = residual-back (d j i) (u j) (u i) (f i j) p in
-        let g = certified .tight i j mi mj p in
-        omega arith
+    raise-tight i j mi mj p = let a = raise-here i mi in let b = raise-here j mj in let c = raised-tight y y-near i j mi mj p in omega arith
 
     -- a step of the path takes back what is sent, or has no reduced cost
     raise-step : (z : ℕ) → List·Memᴰ z vs → 0 < rank z → rank z ≤ rank h

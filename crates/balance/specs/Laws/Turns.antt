@@ -1,7 +1,7 @@
 -- One turn of each loop, as its model has it.
 use mathlib.Core.Path.{_≡_, refl, sym, ap, ap₂, _∙_}
 use mathlib.Core.Bool.{Bool, true, false, not, cond, _&&_}
-use mathlib.Core.List.{List, [], _∷_}
+use mathlib.Core.List.{List, _∷_}
 use Prim.Native.Nat.{ℕ, zero, suc, _+_, _*_, _-_, _≤_, _<_, min}
 use mathlib.Core.Logic.{_≢_}
 use native.Mathlib.Decide.{ℕ-discrete, decLe}
@@ -11,13 +11,8 @@ use lib.Seq.{getD-set-same, getD-set-other, set-out, drop-cons}
 use native.Mathlib.Numerals.{add-one}
 use Rattle.postman.specs.Laws.Tests.{cond-ind}
 use Rattle.balance.specs.Bounds.{AtMost}
-use lib.ListN.{length, getD, set, take, drop, replicate}
-use lib.IntN.{ℤ, pos, _-ℤ_}
+use lib.ListN.{length, getD, set, take, drop, replicate, drop-of-length-le}
 use lib.Dec.{eqb, ltb}
-use mir.Syntax.{w64}
-use mir.Val.{SFits, toZ, ofZ}
-use mir.Facts.{toZ-ofZ}
-use Rattle.integers.specs.Linear.{zz}
 use Rattle.balance.specs.Fold.{fold}
 use Rattle.balance.specs.Search.{Found, beyond, relaxed, relax, nearer, nearest, openDistance, start, settle, round, rounds, search}
 use Rattle.balance.specs.Step.{residual, residualLength, place, moved, push, augment, State, add, addAll, arcsOf}
@@ -35,12 +30,6 @@ relax-more d f u vs w base s {x} {next} a {v} {uw} {len} {lo} {ch} inv l ev eu e
     turn ∙ ap (λ (q : List ℕ × List ℕ). relaxed (λ v. residualLength d f u v w) w base q v) inv
     ∙ ap (λ n. relaxed (λ v. residualLength d f u v w) w base (fold (relaxed (λ v. residualLength d f u v w) w base) s (take a vs)) n) ev
     ∙ sym (fold-more (relaxed (λ v. residualLength d f u v w) w base) s vs a l)
-
-pub take-all : {A : Type 0} (xs : List A) (a : ℕ) → length xs ≤ a → take a xs ≡ xs
-take-all [] zero h = refl
-take-all [] (suc a) h = refl
-take-all (x ∷ xs) zero h = absurd (omega arith)
-take-all (x ∷ xs) (suc a) h = ap (λ (l : List _). x ∷ l) (take-all xs a (omega arith))
 
 pub nearest-more : (x rank vs : List ℕ) (s : ℕ × ℕ) {best low : ℕ} (a : ℕ) {v i key best′ low′ : ℕ}
     → (best, low) ≡ fold (nearer x rank) s (take a vs) → a < length vs
@@ -170,12 +159,6 @@ unfolding search start
 search-low ℓ vs t whole goal =
     rounds-low ℓ vs t whole goal (length vs - 1) 1 (start ℓ vs t) (relax-low ℓ vs t 0 (replicate 64 beyond, replicate 64 t) beyond (replicate-low 64 beyond))
 
--- a small difference, stored and read back
-pub read-back : (a b : ℕ) → a ≤ 4398046511104 → b ≤ 4398046511104 → {r : ℤ} → r ≡ pos a -ℤ pos b → toZ w64 (ofZ w64 r) ≡ pos a -ℤ pos b
-read-back a b h g {r} e =
-    let f : SFits w64 (pos a -ℤ pos b) = simp zz (omega arith) in
-    ap (λ (q : ℤ). toZ w64 (ofZ w64 q)) e ∙ toZ-ofZ f
-
 -- ---- arcs added one by one
 
 module _ (d : ℕ → ℕ → ℕ) (vs : List ℕ) where
@@ -192,13 +175,7 @@ module _ (d : ℕ → ℕ → ℕ) (vs : List ℕ) where
 
   pub all-end : (k : ℕ) (ts hs : List ℕ) (s : State) → length ts ≤ k → addAll d vs s (arcsOf (drop k ts) (drop k hs)) ≡ s
   unfolding addAll arcsOf
-  all-end k ts hs s l = ap (λ (x : List ℕ). addAll d vs s (arcsOf x (drop k hs))) (drop-all ts k l)
-    where
-      drop-all : (xs : List ℕ) (k : ℕ) → length xs ≤ k → drop k xs ≡ []
-      drop-all [] zero h = refl
-      drop-all [] (suc k) h = refl
-      drop-all (x ∷ xs) zero h = absurd (omega arith)
-      drop-all (x ∷ xs) (suc k) h = drop-all xs k (omega arith)
+  all-end k ts hs s l = ap (λ (x : List ℕ). addAll d vs s (arcsOf x (drop k hs))) (drop-of-length-le ts l)
 
   pub counted : (s : State) (t h n k : ℕ) {m : ℕ} → m ≡ add d vs s t h .count → s .count ≡ n + k → m ≡ n + (k + 1)
   unfolding add

@@ -3,7 +3,8 @@ use mathlib.Core.Path.{sym, _∙_}
 use native.Mathlib.Omega.{arith}
 use lib.ListN.{length}
 use borrow.Author.Tests.{not-false, ltb-true}
-use Rattle.balance_test.specs.Laws.{as-T, small-numbers, metric, vertices-in}
+use Rattle.postman.specs.Laws.Tests.{of-true}
+use Rattle.balance_test.specs.Laws.{small-numbers, metric, vertices-in}
 use borrow.Author.Needs.{needs}
 use Rattle.balance_test.proofs.admits.Statement.{statement}
 use Rattle.balance_test.proofs.admits.Tie as tie
@@ -12,31 +13,31 @@ is-ascending-requires : tie.Need-is-ascending-requires
 is-ascending-requires c κs = search needs
 
 returns : tie.Need-returns
-returns c e = absurd (as-T e)
+returns c e = absurd (of-true e)
 
 is-table-requires : tie.Need-is-table-requires
 is-table-requires c κs = small-numbers _ (sym (c .before .is-ascending .ensures) ∙ not-false _ (c .if1 .left))
 
 returns-2 : tie.Need-returns-2
-returns-2 c e = absurd (as-T e)
+returns-2 c e = absurd (of-true e)
 
 are-vertices-requires : tie.Need-are-vertices-requires
 are-vertices-requires c κs = search needs
 
 returns-3 : tie.Need-returns-3
-returns-3 c e = absurd (as-T e)
+returns-3 c e = absurd (of-true e)
 
 are-vertices-requires-2 : tie.Need-are-vertices-requires-2
 are-vertices-requires-2 c κs = search needs
 
 returns-4 : tie.Need-returns-4
-returns-4 c e = absurd (as-T e)
+returns-4 c e = absurd (of-true e)
 
 returns-5 : tie.Need-returns-5
-returns-5 c e = absurd (as-T e)
+returns-5 c e = absurd (of-true e)
 
 returns-6 : tie.Need-returns-6
-returns-6 c e = absurd (as-T e)
+returns-6 c e = absurd (of-true e)
 
 returns-7 : tie.Need-returns-7
 returns-7 c e =

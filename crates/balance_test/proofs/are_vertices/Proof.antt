@@ -6,7 +6,7 @@ use native.Mathlib.Omega.{arith}
 use lib.ListN.{length, take}
 use borrow.Author.Tests.{not-true, not-false}
 use Rattle.postman.specs.Lists.{allOf}
-use Rattle.balance.specs.Laws.Turns.{take-all}
+use lib.Seq.{take-all}
 use Rattle.balance_test.specs.Laws.{all-more, all-fails}
 use Rattle.balance_test.specs.Checks.{isVertex, areVertices}
 use borrow.Author.Needs.{needs}
@@ -58,7 +58,7 @@ returns-2 : tie.Need-returns-2 Inv-loop μ-loop
 unfolding areVertices
 returns-2 c =
     let start = c .before .before .before .before in
-    sym (c .before .loop .inv .1) ∙ ap (allOf (isVertex (start .args .vs .now))) (take-all (start .args .us .now) (c .before .loop .a) (c .loop-test .left))
+    sym (c .before .loop .inv .1) ∙ ap (allOf (isVertex (start .args .vs .now))) (take-all (c .before .loop .a) (start .args .us .now) (c .loop-test .left))
 
 pub are-vertices-spec : {M : Type 1} → statement M
 are-vertices-spec =

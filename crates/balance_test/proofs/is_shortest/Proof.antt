@@ -8,7 +8,7 @@ use lib.Dec.{leb}
 use borrow.Author.Tests.{not-true, not-false}
 use Rattle.postman.specs.Lists.{allOf}
 use Rattle.balance.specs.Step.{cell}
-use Rattle.balance.specs.Laws.Turns.{take-all}
+use lib.Seq.{take-all}
 use Rattle.balance_test.specs.Laws.{all-more, all-fails}
 use Rattle.balance_test.specs.Checks.{isShortest}
 use borrow.Author.Needs.{needs}
@@ -93,7 +93,7 @@ returns-2 : tie.Need-returns-2 Inv-loop μ-loop
 unfolding isShortest
 returns-2 c =
     let start = c .before .before .before in
-    sym (c .before .loop .inv .1) ∙ ap (allOf (λ k. leb (cell (start .args .d .now) (start .args .i) (start .args .j)) (cell (start .args .d .now) (start .args .i) k + cell (start .args .d .now) k (start .args .j)))) (take-all (start .args .vs .now) (c .before .loop .a) (c .loop-test .left))
+    sym (c .before .loop .inv .1) ∙ ap (allOf (λ k. leb (cell (start .args .d .now) (start .args .i) (start .args .j)) (cell (start .args .d .now) (start .args .i) k + cell (start .args .d .now) k (start .args .j)))) (take-all (c .before .loop .a) (start .args .vs .now) (c .loop-test .left))
 
 pub is-shortest-spec : {M : Type 1} → statement M
 is-shortest-spec =

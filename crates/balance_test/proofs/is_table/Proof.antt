@@ -8,7 +8,7 @@ use lib.Dec.{eqb}
 use borrow.Author.Tests.{not-true, not-false}
 use Rattle.postman.specs.Lists.{allOf}
 use Rattle.balance.specs.Step.{cell}
-use Rattle.balance.specs.Laws.Turns.{take-all}
+use lib.Seq.{take-all}
 use Rattle.balance_test.specs.Laws.{all-more, all-fails}
 use Rattle.balance_test.specs.Checks.{isRow, isTable}
 use borrow.Author.Needs.{needs}
@@ -57,7 +57,7 @@ returns-2 : tie.Need-returns-2 Inv-loop μ-loop
 unfolding isTable
 returns-2 c =
     let start = c .before .before .before in
-    sym (c .before .loop .inv .1) ∙ ap (allOf (λ i. eqb (cell (start .args .d .now) i i) 0 && isRow (start .args .d .now) (start .args .vs .now) i)) (take-all (start .args .vs .now) (c .before .loop .a) (c .loop-test .left))
+    sym (c .before .loop .inv .1) ∙ ap (allOf (λ i. eqb (cell (start .args .d .now) i i) 0 && isRow (start .args .d .now) (start .args .vs .now) i)) (take-all (c .before .loop .a) (start .args .vs .now) (c .loop-test .left))
 
 pub is-table-spec : {M : Type 1} → statement M
 is-table-spec =

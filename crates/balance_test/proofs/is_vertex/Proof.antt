@@ -7,7 +7,7 @@ use lib.ListN.{length, take}
 use lib.Dec.{eqb}
 use borrow.Author.Tests.{eq-eqb, ne-eqb}
 use Rattle.postman.specs.Lists.{anyOf}
-use Rattle.balance.specs.Laws.Turns.{take-all}
+use lib.Seq.{take-all}
 use Rattle.balance_test.specs.Checks.{isVertex}
 use Rattle.balance_test.specs.Laws.{any-more, any-found}
 use borrow.Author.Needs.{needs}
@@ -56,7 +56,7 @@ returns-2 : tie.Need-returns-2 Inv-loop μ-loop
 unfolding isVertex
 returns-2 c =
     let start = c .before .before .before in
-    sym (c .before .loop .inv .1) ∙ ap (anyOf (λ w. eqb w (start .args .v))) (take-all (start .args .vs .now) (c .before .loop .a) (c .loop-test .left))
+    sym (c .before .loop .inv .1) ∙ ap (anyOf (λ w. eqb w (start .args .v))) (take-all (c .before .loop .a) (start .args .vs .now) (c .loop-test .left))
 
 pub is-vertex-spec : {M : Type 1} → statement M
 is-vertex-spec =

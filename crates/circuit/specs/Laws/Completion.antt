@@ -4,7 +4,7 @@ use mathlib.Core.Bool.{not}
 use mathlib.Core.List.{List, List·Memᴰ}
 use Prim.Native.Nat.{ℕ, _+_, _≤_, _<_}
 use native.Mathlib.Omega.{arith}
-use lib.ListN.{length, length-append}
+use lib.ListN.{length, take, length-append}
 use lib.Dec.{T, ltb→lt}
 use Rattle.postman.specs.Lists.{anyOf}
 use Rattle.postman.specs.Plan.{Plan, requiredNumbers, WellFormed}
@@ -23,7 +23,9 @@ use Rattle.circuit.specs.Legs.{amount, units, legTails, legHeads, Comple
 use Rattle.circuit.specs.Tour.{placesOf, tourBy, tour, ArePaths, HavePaths, IsCompletion}
 use Rattle.circuit.specs.Circuit.{circuit}
 use Rattle.circuit.specs.Eulerian.{Eulerian}
-use Rattle.circuit.specs.Laws.Legs.{leg-at, leg-ends, eulerian}
+use Rattle.circuit.specs.Filled.{Laid}
+use Rattle.circuit.specs.Laws.Legs.{leg-at, leg-ends, legs-length, eulerian}
+use Rattle.circuit.specs.Laws.Laid.{prefix-length}
 use Rattle.circuit.specs.Laws.Few.{few-others, few-numbers}
 use Rattle.circuit.specs.Laws.Tour.{legs-count, is-tour, tour-cost, tour-length, tour-first}
 
@@ -90,3 +92,17 @@ module _ (p : Plan) (ok : WellFormed p) (t : List Link) (amounts : List ℕ) (h 
         have-paths = have-paths;
         written = refl;
       }
+
+  -- the parts of the arrays that hold the legs
+  module _ {numbers tails heads : List ℕ} {c n : ℕ} (l : Laid p t amounts numbers tails heads c n) where
+    pub heads-number : n ≡ length (legHeads p t amounts)
+    heads-number = l .number ∙ sym (legs-length p ok t amounts h)
+
+    pub laid-ready : Ready (take c numbers) (take n tails) (take n heads)
+    laid-ready = ready _ _ _ (l .numbers-are) (l .tails-are) (l .heads-are)
+
+    pub tails-number : n ≡ length (take n tails)
+    tails-number = prefix-length n tails _ (l .tails-are) (l .number)
+
+    pub laid-few : n ≤ 526
+    laid-few = let a = laid-ready .few in let b = tails-number in omega arith

@@ -1,12 +1,13 @@
 -- There are few legs: where amounts go from surplus to deficit only, a vertex sends no more than its surplus, and all surpluses together are no more than the required
 -- arcs and links.
 use mathlib.Core.Path.{_≡_, refl, sym, ap, ap₂, _∙_}
-use mathlib.Core.List.{List, [], _∷_, map, List·Memᴰ, List·Memᴰ·head, List·Memᴰ·tail}
+use mathlib.Core.List.{List, [], _∷_, map, List·Memᴰ}
 use Prim.Native.Nat.{ℕ, _+_, _≤_, _<_}
 use native.Mathlib.Nat.{mul-one}
 use native.Mathlib.Decide.{decLe}
 use native.Mathlib.Omega.{arith}
 use lib.ListN.{length, length-map, length-append}
+use Rattle.integers.specs.Linear.{minus-eq}
 use Rattle.postman.specs.Lists.{below, delta, occurrences}
 use Rattle.postman.specs.Plan.{Plan, isRequiredArc, arcAt, requiredArcs, requiredNumbers, WellFormed}
 use Rattle.postman.specs.Required.{required}
@@ -14,34 +15,18 @@ use Rattle.postman.specs.Link.{Link}
 use Rattle.postman.specs.Balancing.{heads, tails, imbalance, sumOver, IsBalancing}
 use Rattle.postman.specs.Laws.Membership.{length-below}
 use Rattle.postman.specs.Laws.Occurrences.{delta-sym}
+use Rattle.postman.specs.Laws.Sum.{sum-cong, sum-le, sum-zero, sum-some, sum-add}
 use Rattle.postman.specs.Laws.Required.{required-once, required-lt, numbers-arcs}
 use Rattle.postman.specs.Laws.Assignment.{weight}
 use Rattle.postman.specs.Laws.LinkLegs.{ends}
 use Rattle.circuit.specs.Legs.{amount, units, Completes}
 use Rattle.circuit.specs.Laws.Lists.{select-length}
-use Rattle.circuit.specs.Laws.Sum.{sum-cong}
 use Rattle.circuit.specs.Laws.Units.{units-weight}
-use Rattle.circuit.specs.Laws.Legs.{minus-eq}
 
 weight-length : (ls : List Link) → weight (λ i j. 1) (ends ls) ≡ length ls
 unfolding weight ends
 weight-length [] = refl
 weight-length (l ∷ ls) = let h = weight-length ls in omega arith
-
-sum-le : (vs : List ℕ) (g h : ℕ → ℕ) → ((i : ℕ) → List·Memᴰ i vs → g i ≤ h i) → sumOver vs g ≤ sumOver vs h
-unfolding sumOver
-sum-le [] g h l = omega arith
-sum-le (v ∷ vs) g h l = let a = l v (List·Memᴰ·head refl) in let r = sum-le vs g h (λ i m. l i (List·Memᴰ·tail m)) in omega arith
-
-sum-add : (vs : List ℕ) (g h : ℕ → ℕ) → sumOver vs (λ i. g i + h i) ≡ sumOver vs g + sumOver vs h
-unfolding sumOver
-sum-add [] g h = refl
-sum-add (v ∷ vs) g h = let e = sum-add vs g h in omega arith
-
-sum-zero : (vs : List ℕ) → sumOver vs (λ i. 0) ≡ 0
-unfolding sumOver
-sum-zero [] = refl
-sum-zero (v ∷ vs) = let e = sum-zero vs in omega arith
 
 sum-deltas : (vs : List ℕ) (x : ℕ) → sumOver vs (λ i. delta i x) ≡ occurrences x vs
 unfolding sumOver occurrences
@@ -58,15 +43,6 @@ sum-occurrences-le vs (x ∷ xs) o =
     let b = sum-deltas vs x in
     let c = o x in
     omega arith
-
--- a positive sum has a positive term
-sum-term : (vs : List ℕ) (g : ℕ → ℕ) → 0 < sumOver vs g → (i : ℕ) × List·Memᴰ i vs × (0 < g i)
-unfolding sumOver
-sum-term [] g h = absurd (omega arith)
-sum-term (v ∷ vs) g h = elim (decLe 1 (g v)) [
-  | yes x ↦ (v, List·Memᴰ·head refl, x)
-  | no x ↦ (let r = sum-term vs g (omega arith) in (r .0, List·Memᴰ·tail (r .1), r .2))
-]
 
 pub few-numbers : (p : Plan) → length (requiredNumbers p) ≤ length (p .arcs)
 unfolding requiredNumbers
@@ -89,8 +65,8 @@ module _ (p : Plan) (ok : WellFormed p) (t : List Link) (amounts : List ℕ) (h 
       elim (decLe 1 (sumOver vs (λ j. f i j))) [
         | yes x ↦ elim (decLe 1 (sumOver vs (λ j. f j i))) [
           | yes y ↦ (
-              let a = sum-term vs (λ j. f i j) x in
-              let b = sum-term vs (λ j. f j i) y in
+              let a = sum-some vs (λ j. f i j) x in
+              let b = sum-some vs (λ j. f j i) y in
               absurd (h .direct (b .0) i (a .0) (required-small (b .1)) (required-small m) (required-small (a .1)) (b .2) (a .2)))
           | no y ↦ omega arith
         ]

@@ -168,37 +168,36 @@ module _ (tails heads order used : List ℕ) (d start : ℕ) (h : Held tails ord
 abbrev pub topOf : List ℕ → ℕ → ℕ
 topOf order depth = getD order (depth - 1) 0
 
-abbrev pub Found : List ℕ → List ℕ → List ℕ → List ℕ → ℕ → ℕ → Type 0
-Found tails heads order used depth e = e ≡ firstUnused tails used (getD heads (topOf order depth) 0)
+-- i is the walk's last leg, and e the first unused leg out of its head
+module _ {tails order used : List ℕ} (heads : List ℕ) where
+  pub top-below : {depth start : ℕ} → 0 < depth → Held tails order used depth start → topOf order depth < length tails
+  top-below {depth = zero} p h = absurd (omega arith)
+  top-below {depth = suc d} {start} p h = let i : d ≡ suc d - 1 = omega arith in subst (λ z. getD order z 0 < length tails) i (top-lt tails heads order used d start h)
 
-module _ (tails heads order used : List ℕ) where
-  pub top-below : (depth start : ℕ) → 0 < depth → Held tails order used depth start → topOf order depth < length tails
-  top-below zero start p h = absurd (omega arith)
-  top-below (suc d) start p h = let i : d ≡ suc d - 1 = omega arith in subst (λ z. getD order z 0 < length tails) i (top-lt tails heads order used d start h)
-
-  search-at : (d start e : ℕ) (h : Held tails order used (suc d) start) → Found tails heads order used (suc d) e
+  search-at : {d start e i : ℕ} (h : Held tails order used (suc d) start) → i ≡ topOf order (suc d) → e ≡ firstUnused tails used (getD heads i 0)
       → e ≡ nextLeg tails (walkOf order (suc d)) (drop start order) (getD heads (getD order d 0) 0)
-  search-at d start e h f =
-      let i : suc d - 1 ≡ d = omega arith in
-      f ∙ ap (λ z. firstUnused tails used (getD heads (getD order z 0) 0)) i ∙ same-search tails heads order used d start h (getD heads (getD order d 0) 0)
+  search-at {d} {start} h w f =
+      let j : suc d - 1 ≡ d = omega arith in
+      f ∙ ap (λ z. firstUnused tails used (getD heads z 0)) (w ∙ ap (λ z. getD order z 0) j) ∙ same-search tails heads order used d start h (getD heads (getD order d 0) 0)
 
-  pub has-room : (depth start e : ℕ) → 0 < depth → Held tails order used depth start → Found tails heads order used depth e → e < length tails → depth < start
-  has-room zero start e p h f l = absurd (omega arith)
-  has-room (suc d) start e p h f l = room tails heads order used d start h e (search-at d start e h f) l
+  pub has-room : {depth start e i : ℕ} → 0 < depth → Held tails order used depth start → i ≡ topOf order depth → e ≡ firstUnused tails used (getD heads i 0) → e < length tails
+      → depth < start
+  has-room {depth = zero} p h w f l = absurd (omega arith)
+  has-room {depth = suc d} {start} {e} p h w f l = room tails heads order used d start h e (search-at h w f) l
 
-  pub walked-at : (depth start e : ℕ) → 0 < depth → Held tails order used depth start → Found tails heads order used depth e → e < length tails
+  pub walked-at : {depth start e i : ℕ} → 0 < depth → Held tails order used depth start → i ≡ topOf order depth → e ≡ firstUnused tails used (getD heads i 0) → e < length tails
       → Stepped tails heads order depth start (set order depth e) (set used e 1) (depth + 1) start
-  walked-at zero start e p h f l = absurd (omega arith)
-  walked-at (suc d) start e p h f l =
+  walked-at {depth = zero} p h w f l = absurd (omega arith)
+  walked-at {depth = suc d} {start} {e} p h w f l =
       let j : suc (suc d) ≡ suc d + 1 = omega arith in
-      subst (λ z. Stepped tails heads order (suc d) start (set order (suc d) e) (set used e 1) z start) j (walked tails heads order used d start h e (search-at d start e h f) l)
+      subst (λ z. Stepped tails heads order (suc d) start (set order (suc d) e) (set used e 1) z start) j (walked tails heads order used d start h e (search-at h w f) l)
 
-  pub placed-at : (depth start e : ℕ) → 0 < depth → Held tails order used depth start → Found tails heads order used depth e → length tails ≤ e
+  pub placed-at : {depth start e i : ℕ} → 0 < depth → Held tails order used depth start → i ≡ topOf order depth → e ≡ firstUnused tails used (getD heads i 0) → length tails ≤ e
       → Stepped tails heads order depth start (set order (start - 1) (topOf order depth)) used (depth - 1) (start - 1)
-  placed-at zero start e p h f l = absurd (omega arith)
-  placed-at (suc d) start e p h f l =
-      let i : d ≡ suc d - 1 = omega arith in
-      subst (λ z. Stepped tails heads order (suc d) start (set order (start - 1) (getD order z 0)) used z (start - 1)) i (placed tails heads order used d start h e (search-at d start e h f) l)
+  placed-at {depth = zero} p h w f l = absurd (omega arith)
+  placed-at {depth = suc d} {start} {e} p h w f l =
+      let j : d ≡ suc d - 1 = omega arith in
+      subst (λ z. Stepped tails heads order (suc d) start (set order (start - 1) (getD order z 0)) used z (start - 1)) j (placed tails heads order used d start h e (search-at h w f) l)
 
 -- ---- from the first leg to the last
 

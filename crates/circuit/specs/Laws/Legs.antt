@@ -1,30 +1,29 @@
 -- The legs of a plan, an arborescence and amounts that balance them are Eulerian. Balanced: the amounts make up for the imbalance of the rest. Connected: a set that
 -- no leg leaves is one that no leg enters; so it holds a component with each of its vertices, and with a component the one before it and those after it.
 use mathlib.Core.Path.{_≡_, refl, sym, ap, ap₂, _∙_, subst, subst⁻¹}
-use mathlib.Core.Logic.{_⊎_, inl, inr}
+use mathlib.Core.Logic.{inl, inr}
 use mathlib.Core.Bool.{Bool}
-use mathlib.Core.List.{List, [], _∷_, _++_, map, List·Memᴰ, List·Memᴰ·head, List·Memᴰ·tail, List·Memᴰ·cases-cons, List·Memᴰ·append-cases, Memᴰ·append-left, Memᴰ·append-right}
+use mathlib.Core.List.{List, [], _∷_, _++_, map, List·Memᴰ, List·Memᴰ·append-cases, Memᴰ·append-left, Memᴰ·append-right}
 use Prim.Native.Nat.{ℕ, zero, suc, _+_, _*_, _/_, _%_, _<_}
 use native.Mathlib.Nat.{mul-one, mul-zero}
 use native.Mathlib.Decide.{decLe}
 use native.Mathlib.Omega.{arith}
 use lib.ListN.{length, getD, replicate, length-map, length-append, List·getD-map}
-use lib.IntN.{pos, _-ℤ_}
 use lib.Dec.{T}
-use Rattle.integers.specs.Linear.{zz}
+use Rattle.integers.specs.Linear.{minus-eq}
 use Rattle.postman.specs.Lists.{below, iterate, occurrences}
 use Rattle.postman.specs.Plan.{Arc, Plan, arcAt, requiredArcs, WellFormed}
 use Rattle.postman.specs.Tour.{IsWalk}
 use Rattle.postman.specs.Required.{required}
 use Rattle.postman.specs.Link.{Link}
-use Rattle.postman.specs.Component.{bothWays, component, componentCount}
+use Rattle.postman.specs.Component.{component, componentCount}
 use Rattle.postman.specs.Arborescence.{linkAt, parent}
 use Rattle.postman.specs.Balancing.{heads, tails, imbalance, sumOver, IsBalancing}
 use Rattle.postman.specs.Laws.Membership.{getD-mem, mem-getD, mem-map, map-mem, flatMap-mem, below-mem}
 use Rattle.postman.specs.Laws.Occurrences.{mem-of-occurrences, occurrences-of-mem, occurrences-append}
 use Rattle.postman.specs.Laws.Distance.{InPlan, bounded}
 use Rattle.postman.specs.Laws.Required.{required-once, required-ends}
-use Rattle.postman.specs.Laws.Component.{undirected, component-lt, component-walk}
+use Rattle.postman.specs.Laws.Component.{both-of, undirected, component-lt, component-walk}
 use Rattle.postman.specs.Laws.Link.{link-ends}
 use Rattle.postman.specs.Laws.Arborescence.{joins}
 use Rattle.postman.specs.Laws.Balancing.{within-heads, within-tails}
@@ -35,54 +34,32 @@ use Rattle.circuit.specs.Laws.Lists.{map-append, map-map, replicate-mem}
 use Rattle.circuit.specs.Laws.Units.{units-out, units-into}
 use Rattle.circuit.specs.Laws.Cut.{entered-too}
 
--- a - b = c - e
-pub minus-eq : (a b c e : ℕ) → pos a -ℤ pos b ≡ pos c -ℤ pos e → a + e ≡ c + b
-minus-eq a b c e = simp zz (omega arith)
-
--- an arc of the undirected graph is a required arc, one way or the other
-either-way : {x : Arc} (arcs : List Arc) → List·Memᴰ x (bothWays arcs)
-    → (a : Arc) × List·Memᴰ a arcs × (((x .tail ≡ a .tail) × (x .head ≡ a .head)) ⊎ ((x .tail ≡ a .head) × (x .head ≡ a .tail)))
-unfolding bothWays
-either-way [] m = elim m [ ]
-either-way (a ∷ arcs) m = elim (List·Memᴰ·cases-cons m) [
-  | inl e ↦ (a, List·Memᴰ·head refl, inl (ap (λ (b : Arc). b .tail) e, ap (λ (b : Arc). b .head) e))
-  | inr m₁ ↦ elim (List·Memᴰ·cases-cons m₁) [
-    | inl e ↦ (a, List·Memᴰ·head refl, inr (ap (λ (b : Arc). b .tail) e, ap (λ (b : Arc). b .head) e))
-    | inr m₂ ↦ (let r = either-way arcs m₂ in (r .0, List·Memᴰ·tail (r .1), r .2))
-  ]
-]
-
 module _ (p : Plan) (ok : WellFormed p) (t : List Link) (amounts : List ℕ) (h : Completes p t amounts) where
   abbrev within-plan : InPlan p
   within-plan = bounded ok .ends
 
   -- ---- balanced
 
-  legs-tails : (v : ℕ) → occurrences v (legTails p t amounts) ≡ occurrences v (tails p t) + occurrences v (map (λ l. l .tail) (units amounts))
-  unfolding legTails legs tails
-  legs-tails v =
-      let rs = requiredArcs p in
+  legs-ends : (v : ℕ) (f : Link → ℕ)
+      → occurrences v (map f (legs p t amounts)) ≡ occurrences v (map (λ a. f (arcLeg a)) (requiredArcs p) ++ map f t) + occurrences v (map f (units amounts))
+  unfolding legs
+  legs-ends v f =
+      let rs = map (λ a. f (arcLeg a)) (requiredArcs p) in
       let us = units amounts in
-      let f : Link → ℕ = λ l. l .tail in
-      let a : occurrences v (tails p t) ≡ occurrences v (map (λ b. b .tail) rs) + occurrences v (map f t) = occurrences-append v (map (λ b. b .tail) rs) (map f t) in
-      let b : occurrences v (legTails p t amounts) ≡ occurrences v (map (λ b. b .tail) rs ++ (map f t ++ map f us))
-      = ap (occurrences v) (map-append f (map arcLeg rs) (t ++ us) ∙ ap₂ _++_ (map-map arcLeg f rs) (map-append f t us)) in
-      let c = occurrences-append v (map (λ b. b .tail) rs) (map f t ++ map f us) in
+      let a = occurrences-append v rs (map f t) in
+      let b : occurrences v (map f (legs p t amounts)) ≡ occurrences v (rs ++ (map f t ++ map f us))
+      = ap (occurrences v) (map-append f (map arcLeg (requiredArcs p)) (t ++ us) ∙ ap₂ _++_ (map-map arcLeg f (requiredArcs p)) (map-append f t us)) in
+      let c = occurrences-append v rs (map f t ++ map f us) in
       let d = occurrences-append v (map f t) (map f us) in
       omega arith
 
+  legs-tails : (v : ℕ) → occurrences v (legTails p t amounts) ≡ occurrences v (tails p t) + occurrences v (map (λ l. l .tail) (units amounts))
+  unfolding legTails tails
+  legs-tails v = legs-ends v (λ l. l .tail)
+
   legs-heads : (v : ℕ) → occurrences v (legHeads p t amounts) ≡ occurrences v (heads p t) + occurrences v (map (λ l. l .head) (units amounts))
-  unfolding legHeads legs heads
-  legs-heads v =
-      let rs = requiredArcs p in
-      let us = units amounts in
-      let f : Link → ℕ = λ l. l .head in
-      let a : occurrences v (heads p t) ≡ occurrences v (map (λ b. b .head) rs) + occurrences v (map f t) = occurrences-append v (map (λ b. b .head) rs) (map f t) in
-      let b : occurrences v (legHeads p t amounts) ≡ occurrences v (map (λ b. b .head) rs ++ (map f t ++ map f us))
-      = ap (occurrences v) (map-append f (map arcLeg rs) (t ++ us) ∙ ap₂ _++_ (map-map arcLeg f rs) (map-append f t us)) in
-      let c = occurrences-append v (map (λ b. b .head) rs) (map f t ++ map f us) in
-      let d = occurrences-append v (map f t) (map f us) in
-      omega arith
+  unfolding legHeads heads
+  legs-heads v = legs-ends v (λ l. l .head)
 
   none-in : {vs : List ℕ} (v : ℕ) → ((i : ℕ) → List·Memᴰ i vs → List·Memᴰ i (required p)) → occurrences v (required p) ≡ 0 → occurrences v vs ≡ 0
   none-in {vs} v m z = elim (decLe 1 (occurrences v vs)) [
@@ -174,11 +151,11 @@ module _ (p : Plan) (ok : WellFormed p) (t : List Link) (amounts : List ℕ) (h 
     walk-in u v [] g x = subst (λ z. T (X z)) g x
     walk-in u v (k ∷ w) g x =
         let a = arcAt (undirected p within-plan) k in
-        let r = either-way {x = a} (requiredArcs p) (getD-mem (undirected p within-plan) _ k (g .0)) in
+        let r = both-of {x = a} (requiredArcs p) (getD-mem (undirected p within-plan) _ k (g .0)) in
         let y : T (X (a .tail)) = subst⁻¹ (λ z. T (X z)) (g .2) x in
         walk-in (a .head) v w (g .3) (elim (r .2) [
-          | inl e ↦ subst⁻¹ (λ z. T (X z)) (e .1) (forward (arcLeg (r .0)) (arc-mem (r .1)) (subst (λ z. T (X z)) (e .0) y))
-          | inr e ↦ subst⁻¹ (λ z. T (X z)) (e .1) (back (arcLeg (r .0)) (arc-mem (r .1)) (subst (λ z. T (X z)) (e .0) y))
+          | inl e ↦ subst⁻¹ (λ (b : Arc). T (X (b .head))) e (forward (arcLeg (r .0)) (arc-mem (r .1)) (subst (λ (b : Arc). T (X (b .tail))) e y))
+          | inr e ↦ subst⁻¹ (λ (b : Arc). T (X (b .head))) e (back (arcLeg (r .0)) (arc-mem (r .1)) (subst (λ (b : Arc). T (X (b .tail))) e y))
         ])
 
     -- component q lies in the set

@@ -1,72 +1,25 @@
--- Sums over vertices: of products, of terms that one vertex alone has, of terms that are 0 outside a list; and sums over lists in another order.
-use mathlib.Core.Path.{_≡_, refl, sym, ap, ap₂, _∙_, fun-ext}
+-- Sums over vertices of terms that are 0 outside a list, and over 64 rows of 64; and sums over lists in another order.
+use mathlib.Core.Path.{_≡_, refl, sym, ap, ap₂, _∙_}
 use mathlib.Core.Bool.{Bool, not}
-use mathlib.Core.List.{List, [], _∷_, _++_, map, List·Memᴰ, List·Memᴰ·head, List·Memᴰ·tail}
-use Prim.Native.Nat.{ℕ, zero, suc, _+_, _*_, _/_, _%_, _≤_, _<_}
-use native.Mathlib.Nat.{zero-mul, mul-zero, add-mul, mul-add}
-use native.Mathlib.Decide.{decLe}
+use mathlib.Core.List.{List, [], _∷_, map, List·Memᴰ, List·Memᴰ·head, List·Memᴰ·tail}
+use Prim.Native.Nat.{ℕ, zero, suc, _+_, _*_, _/_, _%_, _≤_}
 use native.Mathlib.Omega.{arith}
-use lib.Dec.{T, eqb, eqb→eq}
-use Rattle.postman.specs.Lists.{select, upFrom, below, sumOf, delta, occurrences}
+use lib.Dec.{T}
+use Rattle.postman.specs.Lists.{select, upFrom, below, sumOf}
 use Rattle.postman.specs.Balancing.{sumOver}
 use Rattle.postman.specs.Laws.Tests.{cond-ind}
-use Rattle.circuit.specs.Laws.Lists.{upFrom-append}
+use Rattle.postman.specs.Laws.Sum.{sum-append}
 use Rattle.postman.specs.Laws.Pick.{Pick, here, there, Permutation, none, more}
-
-pub sum-cong : (vs : List ℕ) (g h : ℕ → ℕ) → ((i : ℕ) → g i ≡ h i) → sumOver vs g ≡ sumOver vs h
-sum-cong vs g h e = ap (sumOver vs) (fun-ext e)
-
-pub sum-mul : (vs : List ℕ) (g : ℕ → ℕ) (c : ℕ) → sumOver vs (λ i. g i * c) ≡ sumOver vs g * c
-unfolding sumOver
-sum-mul [] g c = sym (zero-mul c)
-sum-mul (v ∷ vs) g c = ap (λ x. g v * c + x) (sum-mul vs g c) ∙ sym (add-mul (g v) (sumOver vs g) c)
-
-times-delta : (g : ℕ → ℕ) (i v : ℕ) → g v * delta i v ≡ g i * delta i v
-unfolding delta
-times-delta g i v = cond-ind (eqb i v) 1 0 (λ x. g v * x ≡ g i * x) (λ t. ap (λ z. g z * 1) (sym (eqb→eq i v t))) (λ t. mul-zero (g v) ∙ sym (mul-zero (g i)))
-
--- a sum that only i's term enters
-pub sum-delta : (vs : List ℕ) (g : ℕ → ℕ) (i : ℕ) → sumOver vs (λ v. g v * delta i v) ≡ g i * occurrences i vs
-unfolding sumOver occurrences
-sum-delta [] g i = sym (mul-zero (g i))
-sum-delta (v ∷ vs) g i = ap₂ _+_ (times-delta g i v) (sum-delta vs g i) ∙ sym (mul-add (g i) (delta i v) (occurrences i vs))
-
-pub sum-append : (xs ys : List ℕ) (g : ℕ → ℕ) → sumOver (xs ++ ys) g ≡ sumOver xs g + sumOver ys g
-unfolding sumOver
-sum-append [] ys g = omega arith
-sum-append (x ∷ xs) ys g = let h = sum-append xs ys g in omega arith
+use Rattle.circuit.specs.Laws.Lists.{upFrom-append}
 
 -- terms that fail the test are 0
-pub sum-select-in : (f : ℕ → Bool) (a n : ℕ) (g : ℕ → ℕ) → ((i : ℕ) → a ≤ i → i < a + n → T (not (f i)) → g i ≡ 0) → sumOver (select f (upFrom a n)) g ≡ sumOver (upFrom a n) g
-unfolding sumOver select upFrom
-sum-select-in f a zero g z = refl
-sum-select-in f a (suc n) g z =
-    let r = sum-select-in f (suc a) n g (λ i l m. z i (omega arith) (omega arith)) in
-    cond-ind (f a) (a ∷ select f (upFrom (suc a) n)) (select f (upFrom (suc a) n)) (λ l. sumOver l g ≡ g a + sumOver (upFrom (suc a) n) g)
-    (λ t. omega arith) (λ t. let e = z a (omega arith) (omega arith) t in omega arith)
-
--- a positive sum has a positive term
-from-some : (a n : ℕ) (g : ℕ → ℕ) → 0 < sumOver (upFrom a n) g → (i : ℕ) × (a ≤ i) × (i < a + n) × (0 < g i)
-unfolding sumOver upFrom
-from-some a zero g h = absurd (omega arith)
-from-some a (suc n) g h = elim (decLe 1 (g a)) [
-  | yes x ↦ (a, omega arith, omega arith, x)
-  | no x ↦ (let r = from-some (suc a) n g (omega arith) in let b = r .1 in let c = r .2 in (r .0, omega arith, omega arith, r .3))
-]
-
-pub sum-some : (n : ℕ) (g : ℕ → ℕ) → 0 < sumOver (below n) g → (i : ℕ) × (i < n) × (0 < g i)
-unfolding below
-sum-some n g h = let r = from-some 0 n g h in let l = r .2 in (r .0, omega arith, r .3)
-
-pub sum-cong-mem : (vs : List ℕ) (g h : ℕ → ℕ) → ((i : ℕ) → List·Memᴰ i vs → g i ≡ h i) → sumOver vs g ≡ sumOver vs h
-unfolding sumOver
-sum-cong-mem [] g h e = refl
-sum-cong-mem (v ∷ vs) g h e = ap₂ _+_ (e v (List·Memᴰ·head refl)) (sum-cong-mem vs g h (λ i m. e i (List·Memᴰ·tail m)))
-
-pub sum-none : (a n : ℕ) (g : ℕ → ℕ) → ((i : ℕ) → a ≤ i → i < a + n → g i ≡ 0) → sumOver (upFrom a n) g ≡ 0
-unfolding sumOver upFrom
-sum-none a zero g z = refl
-sum-none a (suc n) g z = let r = sum-none (suc a) n g (λ i l m. z i (omega arith) (omega arith)) in let e = z a (omega arith) (omega arith) in omega arith
+pub sum-select : (f : ℕ → Bool) (vs : List ℕ) (g : ℕ → ℕ) → ((i : ℕ) → List·Memᴰ i vs → T (not (f i)) → g i ≡ 0) → sumOver (select f vs) g ≡ sumOver vs g
+unfolding sumOver select
+sum-select f [] g z = refl
+sum-select f (v ∷ vs) g z =
+    let r = sum-select f vs g (λ i m. z i (List·Memᴰ·tail m)) in
+    cond-ind (f v) (v ∷ select f vs) (select f vs) (λ l. sumOver l g ≡ g v + sumOver vs g)
+    (λ t. omega arith) (λ t. let e = z v (List·Memᴰ·head refl) t in omega arith)
 
 -- ---- 64 rows of 64, one after the other
 

@@ -12,12 +12,13 @@ use Rattle.postman.specs.Plan.{Plan}
 use Rattle.postman.specs.Required.{isRequired, required}
 use Rattle.postman.specs.Link.{Link}
 use Rattle.postman.specs.Balancing.{sumOver}
-use Rattle.postman.specs.Laws.Membership.{select-mem}
+use Rattle.postman.specs.Laws.Membership.{select-mem, upFrom-mem, below-mem}
+use Rattle.postman.specs.Laws.Sum.{sum-cong, sum-cong-mem, sum-none, sum-some, sum-append, out-sum, in-sum}
 use Rattle.postman.specs.Laws.Required.{required-lt}
 use Rattle.postman.specs.Laws.Assignment.{weight}
 use Rattle.postman.specs.Laws.LinkLegs.{ends}
 use Rattle.circuit.specs.Legs.{amount, pairAt, unitsBelow, units}
-use Rattle.circuit.specs.Laws.Sum.{sum-cong, sum-mul, sum-delta, sum-append, sum-none, sum-some, sum-select-in, sum-cong-mem, flat-sum}
+use Rattle.circuit.specs.Laws.Sum.{sum-select, flat-sum}
 use Rattle.circuit.specs.Laws.Lists.{upFrom-append}
 
 pub weight-append : (w : ℕ → ℕ → ℕ) (ls ms : List Link) → weight w (ends (ls ++ ms)) ≡ weight w (ends ls) + weight w (ends ms)
@@ -55,9 +56,9 @@ module _ (p : Plan) (small : p .n ≤ 64) where
       ap (λ z. sumOver (upFrom 0 z) g) (sym i)
       ∙ ap (λ l. sumOver l g) (upFrom-append 0 (p .n) (64 - p .n))
       ∙ sum-append (upFrom 0 (p .n)) (upFrom (0 + p .n) (64 - p .n)) g
-      ∙ ap (λ z. sumOver (upFrom 0 (p .n)) g + z) (sum-none (0 + p .n) (64 - p .n) g (λ k l m. zeros k (omega arith) (λ r. let b = required-lt p r in omega arith)))
+      ∙ ap (λ z. sumOver (upFrom 0 (p .n)) g + z) (sum-none (upFrom (0 + p .n) (64 - p .n)) g (λ k m. let l = upFrom-mem (0 + p .n) (64 - p .n) m in zeros k (omega arith) (λ r. let b = required-lt p r in omega arith)))
       ∙ add-zero (sumOver (upFrom 0 (p .n)) g)
-      ∙ sym (sum-select-in (isRequired p) 0 (p .n) g (λ k l m t. zeros k (omega arith) (λ r. T-not (isRequired p k) t (select-mem (isRequired p) (below (p .n)) r .1))))
+      ∙ sym (sum-select (isRequired p) (upFrom 0 (p .n)) g (λ k m t. let l = upFrom-mem 0 (p .n) m in zeros k (omega arith) (λ r. T-not (isRequired p k) t (select-mem (isRequired p) (below (p .n)) r .1))))
 
   module _ (amounts : List ℕ) (between : (i j : ℕ) → i < 64 → j < 64 → 0 < amount amounts i j → List·Memᴰ i (required p) × List·Memᴰ j (required p)) where
     pub units-weight : (w : ℕ → ℕ → ℕ) → weight w (ends (units amounts)) ≡ sumOver (required p) (λ i. sumOver (required p) (λ j. amount amounts i j * w i j))
@@ -71,22 +72,12 @@ module _ (p : Plan) (small : p .n ≤ 64) where
         ∙ sum-cong (below 4096) (λ x. getD amounts x 0 * w (x / 64) (x % 64)) (λ x. g (x / 64) (x % 64)) (λ x.
         let e : x ≡ x / 64 * 64 + x % 64 = omega arith in ap (λ z. getD amounts z 0 * w (x / 64) (x % 64)) e)
         ∙ rows g
-        ∙ over-required (λ i. sumOver (below 64) (g i)) (λ i l h. let r = sum-some 64 (g i) h in pos i (r .0) l (r .1) (r .2) .0)
+        ∙ over-required (λ i. sumOver (below 64) (g i)) (λ i l h. let r = sum-some (below 64) (g i) h in pos i (r .0) l (below-mem (r .1)) (r .2) .0)
         ∙ sum-cong-mem (required p) (λ i. sumOver (below 64) (g i)) (λ i. sumOver (required p) (g i)) (λ i m. let l = required-lt p m in over-required (g i) (λ j k h. pos i j (omega arith) k h .1))
 
     -- what leaves a, and what enters it
     pub units-out : (a : ℕ) → weight (λ i j. delta a i) (ends (units amounts)) ≡ sumOver (required p) (λ j. amount amounts a j) * occurrences a (required p)
-    units-out a =
-        let vs = required p in
-        let f = amount amounts in
-        units-weight (λ i j. delta a i)
-        ∙ sum-cong vs (λ i. sumOver vs (λ j. f i j * delta a i)) (λ i. sumOver vs (λ j. f i j) * delta a i) (λ i. sum-mul vs (λ j. f i j) (delta a i))
-        ∙ sum-delta vs (λ i. sumOver vs (λ j. f i j)) a
+    units-out a = units-weight (λ i j. delta a i) ∙ out-sum (amount amounts) (required p) a
 
     pub units-into : (a : ℕ) → weight (λ i j. delta a j) (ends (units amounts)) ≡ sumOver (required p) (λ i. amount amounts i a) * occurrences a (required p)
-    units-into a =
-        let vs = required p in
-        let f = amount amounts in
-        units-weight (λ i j. delta a j)
-        ∙ sum-cong vs (λ i. sumOver vs (λ j. f i j * delta a j)) (λ i. f i a * occurrences a vs) (λ i. sum-delta vs (λ j. f i j) a)
-        ∙ sum-mul vs (λ i. f i a) (occurrences a vs)
+    units-into a = units-weight (λ i j. delta a j) ∙ in-sum (amount amounts) (required p) a

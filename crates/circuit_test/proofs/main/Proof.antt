@@ -2,17 +2,21 @@
 use mathlib.Core.Path.{subst⁻¹}
 use mathlib.Core.List.{[], _∷_}
 use native.Mathlib.Omega.{arith}
+use Rattle.postman.specs.Lists.{below}
 use Rattle.circuit_test.specs.Single.{Runs, single}
-use Rattle.circuit_test.specs.Cases.{runs-a, runs-b, runs-c, runs-loops, runs-long}
+use Rattle.circuit_test.specs.Cases.{planIn, caseA, caseB, caseC, runs-a, runs-b, runs-c, runs-loops, runs-long}
 use borrow.Author.Needs.{needs}
 use Rattle.circuit_test.proofs.main.Statement.{statement}
 use Rattle.circuit_test.proofs.main.Tie as tie
 
+slice-aggregate-plan-of : tie.Need-slice-aggregate-plan-of
+slice-aggregate-plan-of c = search needs
+
+plan-of-requires : tie.Need-plan-of-requires
+plan-of-requires c κs = search needs
+
 slice-aggregate-run : tie.Need-slice-aggregate-run
 slice-aggregate-run c = search needs
-
-plan-a-requires : tie.Need-plan-a-requires
-plan-a-requires c κs = search needs
 
 slice-aggregate-run-2 : tie.Need-slice-aggregate-run-2
 slice-aggregate-run-2 c = search needs
@@ -21,13 +25,17 @@ slice-aggregate-run-3 : tie.Need-slice-aggregate-run-3
 slice-aggregate-run-3 c = search needs
 
 run-requires : tie.Need-run-requires
-run-requires c κs = (omega arith, subst⁻¹ (λ q. Runs q [] [] (single 64 1)) (c .before .before .plan-a .ensures) runs-a)
+unfolding planIn below caseA
+run-requires c κs = (omega arith, subst⁻¹ (λ q. Runs q [] [] (single 64 1)) (c .before .before .before .plan-of .ensures) runs-a)
+
+slice-aggregate-plan-of-2 : tie.Need-slice-aggregate-plan-of-2
+slice-aggregate-plan-of-2 c = search needs
+
+plan-of-requires-2 : tie.Need-plan-of-requires-2
+plan-of-requires-2 c κs = search needs
 
 slice-aggregate-run-4 : tie.Need-slice-aggregate-run-4
 slice-aggregate-run-4 c = search needs
-
-plan-b-requires : tie.Need-plan-b-requires
-plan-b-requires c κs = search needs
 
 slice-aggregate-run-5 : tie.Need-slice-aggregate-run-5
 slice-aggregate-run-5 c = search needs
@@ -36,13 +44,17 @@ slice-aggregate-run-6 : tie.Need-slice-aggregate-run-6
 slice-aggregate-run-6 c = search needs
 
 run-requires-2 : tie.Need-run-requires-2
-run-requires-2 c κs = (omega arith, subst⁻¹ (λ q. Runs q (1 ∷ []) (2 ∷ []) (single 192 1)) (c .before .before .plan-b .ensures) runs-b)
+unfolding planIn below caseB
+run-requires-2 c κs = (omega arith, subst⁻¹ (λ q. Runs q (1 ∷ []) (2 ∷ []) (single 192 1)) (c .before .before .before .plan-of2 .ensures) runs-b)
+
+slice-aggregate-plan-of-3 : tie.Need-slice-aggregate-plan-of-3
+slice-aggregate-plan-of-3 c = search needs
+
+plan-of-requires-3 : tie.Need-plan-of-requires-3
+plan-of-requires-3 c κs = search needs
 
 slice-aggregate-run-7 : tie.Need-slice-aggregate-run-7
 slice-aggregate-run-7 c = search needs
-
-plan-c-requires : tie.Need-plan-c-requires
-plan-c-requires c κs = search needs
 
 slice-aggregate-run-8 : tie.Need-slice-aggregate-run-8
 slice-aggregate-run-8 c = search needs
@@ -51,7 +63,8 @@ slice-aggregate-run-9 : tie.Need-slice-aggregate-run-9
 slice-aggregate-run-9 c = search needs
 
 run-requires-3 : tie.Need-run-requires-3
-run-requires-3 c κs = (omega arith, subst⁻¹ (λ q. Runs q (0 ∷ 1 ∷ []) (1 ∷ 2 ∷ []) (single 128 1)) (c .before .before .plan-c .ensures) runs-c)
+unfolding planIn below caseC
+run-requires-3 c κs = (omega arith, subst⁻¹ (λ q. Runs q (0 ∷ 1 ∷ []) (1 ∷ 2 ∷ []) (single 128 1)) (c .before .before .before .plan-of3 .ensures) runs-c)
 
 slice-aggregate-run-10 : tie.Need-slice-aggregate-run-10
 slice-aggregate-run-10 c = search needs
@@ -90,18 +103,21 @@ pub main-spec : {M : Type 1} → statement M
 main-spec =
     tie.close
     (tie.spec
+    slice-aggregate-plan-of
+    plan-of-requires
     slice-aggregate-run
-    plan-a-requires
     slice-aggregate-run-2
     slice-aggregate-run-3
     run-requires
+    slice-aggregate-plan-of-2
+    plan-of-requires-2
     slice-aggregate-run-4
-    plan-b-requires
     slice-aggregate-run-5
     slice-aggregate-run-6
     run-requires-2
+    slice-aggregate-plan-of-3
+    plan-of-requires-3
     slice-aggregate-run-7
-    plan-c-requires
     slice-aggregate-run-8
     slice-aggregate-run-9
     run-requires-3

@@ -15,7 +15,7 @@ use lib.Seq.{paste, paste-zero, paste-suc}
 use Rattle.records.specs.Writing.{atMost}
 use Rattle.postman.specs.Refusal.{unless}
 use Rattle.planner.specs.declared.Planned.{Planned}
-use Rattle.planner.specs.Refusals.{verdictNumber}
+use Rattle.refusal.specs.Verdict.{verdictNumber}
 use Rattle.exports.specs.Answer.{wordsOf, putFirst, callNumber, IsHandedOver}
 
 at-most-le : (a b : ℕ) → (atMost a b ≤ a) × (atMost a b ≤ b)

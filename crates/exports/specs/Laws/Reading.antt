@@ -9,12 +9,13 @@ use Rattle.postman.specs.Lists.{below, upFrom}
 use Rattle.postman.specs.Plan.{Arc}
 use Rattle.postman.specs.Refusal.{answer, unless}
 use Rattle.postman.specs.PlanFile.{arcOf, vertexCount, arcCount, planOf, readRefusal, readAnswer, recordsAfter}
+use Rattle.postman.specs.Laws.Refusal.{was-given, was-refused}
 use Rattle.plan.specs.Records.{recordOf}
-use Rattle.plan_file.specs.Verdicts.{refusalNumber}
+use Rattle.refusal.specs.Verdict.{refusalNumber}
 use Rattle.records.specs.declared.reader.Read.{Read}
 use Rattle.records.specs.declared.reader.Read.the-variants.{Given, Refused}
 use Rattle.records.specs.Reading.{readNumbers, arcsRead}
-use Rattle.records.specs.ReadingLaws.{was-given, was-refused, room-for}
+use Rattle.records.specs.Laws.Reading.{room-for}
 use Rattle.exports.specs.RecordBytes.{arcBytes, arcsIn}
 use Rattle.exports.specs.Codec.{oneNumber, packed, lentAfter}
 use Rattle.exports.specs.Laws.RecordBytes.{length-lent, length-records, arcs-left, arcs-back}

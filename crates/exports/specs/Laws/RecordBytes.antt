@@ -10,10 +10,10 @@ use Rattle.postman.specs.Lists.{below}
 use Rattle.postman.specs.Plan.{Arc}
 use Rattle.plan.specs.declared.Arc.{Arc as ArcRecord}
 use Rattle.plan.specs.Records.{arcValue, recordOf, zeroRecord}
-use Rattle.plan_file.specs.Counting.{length-counted, counted-more, counted-at}
+use Rattle.postman.specs.Laws.Below.{length-map-below, map-below-more, getD-map-below}
 use Rattle.records.specs.Stored.{storedTo}
 use Rattle.records.specs.Writing.{atMost, loaded}
-use Rattle.records.specs.WritingLaws.{at-most-fits}
+use Rattle.records.specs.Laws.Writing.{at-most-fits}
 use Rattle.exports.specs.RecordBytes.{arcBytes, arcIn, arcsIn, withArc}
 
 -- ---- a record
@@ -47,11 +47,11 @@ module _ (f : ℕ → Arc) (l : List ℕ) (k : ℕ) where
   done = flatMap arcBytes (map f (below k))
 
   length-done : length done ≡ 5 * k
-  length-done = length-arcs (map f (below k)) ∙ ap (λ (n : ℕ). 5 * n) (length-counted f k)
+  length-done = length-arcs (map f (below k)) ∙ ap (λ (n : ℕ). 5 * n) (length-map-below f k)
 
   more : flatMap arcBytes (map f (below (k + 1))) ≡ done ++ arcBytes (f k)
   unfolding flatMap
-  more = ap (flatMap arcBytes) (counted-more f k) ∙ arcs-append (map f (below k)) (f k ∷ []) ∙ ap (λ (l : List ℕ). done ++ l) (append-nil (arcBytes (f k)))
+  more = ap (flatMap arcBytes) (map-below-more f k) ∙ arcs-append (map f (below k)) (f k ∷ []) ∙ ap (λ (l : List ℕ). done ++ l) (append-nil (arcBytes (f k)))
 
   rest : drop (5 * k + 5) (done ++ drop (5 * k) l) ≡ drop (5 * (k + 1)) l
   rest =
@@ -70,11 +70,11 @@ module _ (f : ℕ → Arc) (l : List ℕ) (k : ℕ) where
 
 pub length-lent : (lent : List ℕ) → length (arcsIn lent) ≡ length lent / 5
 unfolding arcsIn
-length-lent lent = length-counted (λ k. arcIn lent (5 * k)) (length lent / 5)
+length-lent lent = length-map-below (λ k. arcIn lent (5 * k)) (length lent / 5)
 
 pub lent-at : (lent : List ℕ) (k : ℕ) (d : Arc) → k < length lent / 5 → getD (arcsIn lent) k d ≡ arcIn lent (5 * k)
 unfolding arcsIn
-lent-at lent k d h = counted-at (λ j. arcIn lent (5 * j)) (length lent / 5) k d h
+lent-at lent k d h = getD-map-below (λ j. arcIn lent (5 * j)) (length lent / 5) k d h
 
 stored-same : (f g : ℕ → ArcRecord) (l : List ArcRecord) (n : ℕ) → ((k : ℕ) → k < n → f k ≡ g k) → storedTo f l n ≡ storedTo g l n
 stored-same f g l zero e = refl

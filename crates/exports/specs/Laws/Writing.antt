@@ -1,35 +1,26 @@
 -- Writing from lent bytes is writing the records that they hold; and n above 64 is refused whatever it is, so that 65 can stand for it.
-use mathlib.Core.Path.{_≡_, refl, sym, ap, _∙_}
-use mathlib.Core.Bool.{true}
+use mathlib.Core.Path.{_≡_, sym, ap, _∙_}
 use mathlib.Core.List.{List, map, map-id, map-map}
 use mathlib.Core.Option.{some}
 use Prim.Native.Nat.{ℕ, _/_, _<_, _≤_}
 use native.Mathlib.Decide.{decLt}
 use native.Mathlib.Omega.{arith}
 use lib.ListN.{length}
-use borrow.Author.Tests.{lt-ltb, le-ltb}
 use Rattle.postman.specs.Plan.{Plan as Graph}
-use Rattle.postman.specs.Refusal.{firstRefusal, given}
-use Rattle.postman.specs.PlanFile.{isOutside, extentConditions, fileBits, fileLength, writeRefusal, writeAnswer, bytesAfter}
+use Rattle.postman.specs.Refusal.{given}
+use Rattle.postman.specs.PlanFile.{writeRefusal, writeAnswer, bytesAfter}
 use Rattle.plan.specs.declared.Arc.{Arc as ArcRecord}
 use Rattle.plan.specs.Records.{arcValue, recordOf, planValue}
-use Rattle.plan_file.specs.Acceptance.{is-writable}
-use Rattle.plan_file.specs.Writing.{refused-answer, refused-bytes, was-given}
+use Rattle.postman.specs.Laws.Acceptance.{few-arcs}
+use Rattle.postman.specs.Laws.PlanFile.{fileLength-le}
+use Rattle.plan_file.specs.Laws.Writing.{too-many-vertices, refused-answer, refused-bytes, length-given}
 use Rattle.records.specs.Writing.{atMost, countedPlan, listPlan, loaded}
-use Rattle.records.specs.WritingLaws.{at-most-same, at-most-limit, same-answer, same-bytes}
+use Rattle.records.specs.Laws.Writing.{at-most-same, at-most-limit, same-answer, same-bytes}
 use Rattle.exports.specs.RecordBytes.{arcsIn}
 use Rattle.exports.specs.Codec.{lentPlan}
 use Rattle.exports.specs.Laws.RecordBytes.{length-records}
 
 -- ---- n
-
-too-many : (n : ℕ) → 64 < n → isOutside n 1 64 ≡ true
-unfolding isOutside
-too-many n h = simp (le-ltb n 1 (omega arith), lt-ltb 64 n h)
-
-extent : (p : Graph) (room : ℕ) → 64 < p .n → writeRefusal p room ≡ some 3
-unfolding writeRefusal extentConditions firstRefusal
-extent p room h = rw (too-many (p .n) h) refl
 
 module _ (n : ℕ) (lent bytes : List ℕ) where
   abbrev cut : Graph
@@ -40,11 +31,11 @@ module _ (n : ℕ) (lent bytes : List ℕ) where
 
   cut-refused : 65 ≤ n → writeRefusal cut (length bytes) ≡ some 3
   unfolding lentPlan
-  cut-refused h = extent cut (length bytes) (omega (arith, at-most-limit n 65 h))
+  cut-refused h = too-many-vertices cut (length bytes) (omega (arith, at-most-limit n 65 h))
 
   whole-refused : 65 ≤ n → writeRefusal whole (length bytes) ≡ some 3
   unfolding lentPlan
-  whole-refused h = extent whole (length bytes) (omega arith)
+  whole-refused h = too-many-vertices whole (length bytes) (omega arith)
 
   cut-answer : writeAnswer cut bytes ≡ writeAnswer whole bytes
   cut-answer = at (decLt n 65)
@@ -90,8 +81,6 @@ module _ (n : ℕ) (lent bytes : List ℕ) (k : ℕ) (arcs : List ArcRecord) (fe
 
 -- "at most 963 bytes"
 pub length-small : (p : Graph) (bytes : List ℕ) (k : ℕ) → given k ≡ writeAnswer p bytes → k ≤ 963
-unfolding fileLength fileBits
 length-small p bytes k e =
-    let w = was-given p bytes k e in
-    let ok = is-writable p (length bytes) (w .0) in
-    omega (arith, w .1, ok .limits .arc-count)
+    let w = length-given p bytes k e in
+    omega (arith, w .1, fileLength-le (length (p .arcs)) (few-arcs p (length bytes) (w .0)))

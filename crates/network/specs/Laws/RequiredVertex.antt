@@ -15,7 +15,7 @@ use Rattle.postman.specs.Laws.Distance.{bounded}
 use Rattle.postman.specs.Laws.Required.{required-ends, required-lt}
 use Rattle.plan.specs.declared.Plan.{Plan as PlanRecord}
 use Rattle.plan.specs.Records.{planValue, recordAt}
-use Rattle.shortest.specs.Laws.Records.{plan-arc, plan-length}
+use Rattle.plan.specs.Laws.Records.{plan-arc, plan-length}
 use Rattle.network.specs.Laws.Search.{is-true, any-some, any-none}
 
 -- the arc is required, and v one of its ends

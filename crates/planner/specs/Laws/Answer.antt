@@ -26,7 +26,7 @@ use Rattle.circuit.specs.Filled.{linksOf}
 use Rattle.circuit.specs.Tour.{tour, written}
 use Rattle.search.specs.Links.{linksIn}
 use Rattle.planner.specs.declared.Planned.{Planned}
-use Rattle.planner.specs.Refusals.{verdictNumber}
+use Rattle.refusal.specs.Verdict.{verdictNumber}
 use Rattle.planner.specs.Tour.{tourOf, amountsOf}
 use Rattle.planner.specs.Prepared.{IsTree}
 use Rattle.planner.specs.Contract.{summaryOf, multipliersOf, countUnless, IsPlanned}

@@ -1,16 +1,13 @@
 -- What a caller reads off an answer: the floor is at least 0, being at least R + Z, and the places written lie within the sheet.
-use mathlib.Core.Path.{_≡_, sym, ap, _∙_, subst⁻¹}
+use mathlib.Core.Path.{_≡_, sym, ap, _∙_}
 use mathlib.Core.List.{List}
 use mathlib.Core.Option.{Option, none}
-use Prim.Native.Nat.{ℕ, _^_, _≤_, _<_}
+use Prim.Native.Nat.{ℕ, _≤_}
 use native.Mathlib.Omega.{arith}
 use lib.ListN.{length, take, length-take}
-use lib.Dec.{T}
-use lib.IntN.{ℤ, pos, negsuc, natAbs}
-use lib.Signed.{_≤ℤ_, nonNeg, mag}
-use mir.Syntax.{w64}
-use mir.Val.{Fits, toZ, ofZ}
-use Rattle.integers.specs.Linear.{z, back64}
+use lib.IntN.{pos}
+use lib.Signed.{_≤ℤ_}
+use Rattle.integers.specs.Linear.{z}
 use Rattle.postman.specs.Plan.{Plan}
 use Rattle.postman.specs.Refusal.{answer, unless}
 use Rattle.postman.specs.PlanFile.{planOf}
@@ -19,7 +16,7 @@ use Rattle.postman.specs.Laws.Acceptance.{call-accepted}
 use Rattle.circuit.specs.Tour.{written}
 use Rattle.circuit.specs.Laws.Written.{written-length}
 use Rattle.planner.specs.declared.Planned.{Planned}
-use Rattle.planner.specs.Refusals.{verdictNumber}
+use Rattle.refusal.specs.Verdict.{verdictNumber}
 use Rattle.planner.specs.Tour.{tourOf}
 use Rattle.planner.specs.Contract.{multipliersOf, countUnless, IsPlanCall}
 
@@ -53,11 +50,3 @@ module _ (bytes : List ℕ) (budget : ℕ) (old new : List ℕ) (r : Planned) (i
 
   pub places-count : r .places ≡ length (take (r .places) new)
   places-count = let a = places-fit in let b = length-take (r .places) new in omega arith
-
--- what a cast of the floor to a u64 asks
-pub floor-cast : (x : ℤ) → mag x < 2 ^ 63 → pos 0 ≤ℤ x → T (nonNeg (toZ w64 (ofZ w64 x))) × Fits w64 (natAbs (toZ w64 (ofZ w64 x)))
-floor-cast x s l = subst⁻¹ (λ (x : ℤ). T (nonNeg x) × Fits w64 (natAbs x)) (back64 x s) (at x s l)
-  where
-    at : (x : ℤ) → mag x < 2 ^ 63 → pos 0 ≤ℤ x → T (nonNeg x) × Fits w64 (natAbs x)
-    at (pos n) s l = (tt, record { fits = omega arith })
-    at (negsuc n) s l = absurd (l .le)

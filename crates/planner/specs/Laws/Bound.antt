@@ -21,7 +21,7 @@ use Rattle.postman.specs.Link.{Link}
 use Rattle.postman.specs.Arborescence.{arborescenceCount}
 use Rattle.postman.specs.Balancing.{imbalance}
 use Rattle.postman.specs.LagrangianBound.{reducedCost, reducedSum, cheapestArborescence, priceOfImbalance, lagrangianBound}
-use Rattle.postman.specs.Laws.Tests.{cond-ind}
+use Rattle.postman.specs.Laws.Tests.{cond-ind, is-true}
 use Rattle.postman.specs.Laws.Membership.{select-mem, mem-select, mem-below}
 use Rattle.postman.specs.Laws.Occurrences.{mem?}
 use Rattle.postman.specs.Laws.Distance.{bounded}
@@ -32,7 +32,7 @@ use Rattle.postman.specs.Laws.Arborescence.{arborescences-mem, joins}
 use Rattle.postman.specs.Laws.LagrangianBound.{Feasible, cheapest-at, cheapest-nonneg, zero-feasible}
 use Rattle.postman.specs.Laws.Optimality.{some-arborescence}
 use Rattle.balance.specs.Invariant.{Metric}
-use Rattle.balance.specs.Laws.Arcs.{zero-at}
+use Rattle.balance.specs.Laws.Fill.{zero-at}
 use Rattle.balance.specs.Laws.Plan.{plan-metric}
 use Rattle.arborescence.specs.Picture.{highest}
 use Rattle.arborescence.specs.PairCosts.{AreCosts, IsNetwork, multipliersOf}
@@ -47,11 +47,7 @@ module _ (p : Plan) (flags : List Bool) (h : (v : ℕ) → v < 64 → getD flags
       let l = required-lt p m in
       let b = ok .vertices in
       let t = select-mem (isRequired p) (below (p .n)) m .1 in
-      h v (omega arith) ∙ at (isRequired p v) t
-    where
-      at : (b : Bool) → T b → b ≡ true
-      at true t = refl
-      at false t = absurd t
+      h v (omega arith) ∙ is-true t
 
 -- R is at most 256 arcs of the highest cost
 sum-costs : (n : ℕ) (arcs : List Arc) → ((a : Arc) → List·Memᴰ a arcs → a .cost ≤ n) → sumOf (map (λ a. a .cost) (select isRequiredArc arcs)) ≤ length arcs * n

@@ -2,12 +2,13 @@
 use mathlib.Core.Path.{_≡_, refl, sym, ap, _∙_, subst, subst⁻¹}
 use mathlib.Core.Bool.{Bool, true, false, not, cond}
 use mathlib.Core.List.{List, [], _∷_, _++_, append-assoc}
+use mathlib.Core.Logic.{_≢_}
 use mathlib.Core.Option.{Option, none, some}
 use Prim.Native.Nat.{ℕ, _≤_, _<_}
 use native.Mathlib.Omega.{arith}
-use borrow.Author.Tests.{ltb-false, eqb-false, lt-ltb, le-ltb}
+use borrow.Author.Tests.{lt-ltb, le-ltb}
 use lib.ListN.{length}
-use lib.Dec.{T, eqb, ltb}
+use lib.Dec.{T, eqb, ltb, nltb→le}
 use Rattle.postman.specs.Plan.{Plan, requiredArcs, WellFormed}
 use Rattle.postman.specs.Required.{required}
 use Rattle.postman.specs.Refusal.{Conditions, firstRefusal}
@@ -15,31 +16,29 @@ use Rattle.postman.specs.PlanFile.{fileConditions, isOutside, planOf}
 use Rattle.postman.specs.Component.{componentCount}
 use Rattle.postman.specs.PlanCall.{sheetPlaces, highestBudget, isCutOff, earlierConditions, callRefusal}
 use Rattle.postman.specs.Theorem.{cut-off}
+use Rattle.postman.specs.Laws.Tests.{eqb-other}
 use Rattle.postman.specs.Laws.Acceptance.{file-accepted, call-conditions}
-use Rattle.plan.specs.Records.{planValue, planRecord}
+use Rattle.plan.specs.Records.{planValue}
+use Rattle.refusal.specs.declared.Refusal.{Refusal}
+use Rattle.refusal.specs.Verdict.{refusalNumber}
 use Rattle.plan_file.specs.declared.Reading.{Reading}
-use Rattle.plan_file.specs.Reading.{planUnless, IsReading}
-use Rattle.plan_file.specs.RecordLaws.{value-record}
-use Rattle.plan_file.specs.FirstRefusal.{first-on, first-stop, none-cons}
+use Rattle.plan_file.specs.Reading.{IsReading}
+use Rattle.plan_file.specs.Laws.Reading.{accepted-value}
+use Rattle.postman.specs.Laws.Refusal.{first-on, first-stop, accepted-cons}
 use Rattle.budget.specs.declared.Budget.{Budget}
 use Rattle.budget.specs.declared.Checked.the-variants.{Good, Refused}
 use Rattle.budget.specs.Checks.{checkedOf}
 use Rattle.budget.specs.Laws.{let-through}
-use Rattle.network.specs.declared.Network.{Network}
+use Rattle.network.specs.declared.network.Network.{Network}
 use Rattle.network.specs.Contracts.{IsNetwork}
 use Rattle.planner.specs.declared.Planned.{Planned}
-use Rattle.planner.specs.declared.Refusal.{Refusal}
-use Rattle.planner.specs.Refusals.{refusalNumber, networkRefusal, planRefusal, budgetRefusal, sheetRefusal}
+use Rattle.planner.specs.Refusals.{networkRefusal, planRefusal, budgetRefusal, sheetRefusal}
 use Rattle.planner.specs.Prepared.{IsMeasured, IsKnown}
 use Rattle.planner.specs.Contract.{IsPlanned, IsPlanCall}
 use Rattle.planner.specs.Laws.Idle.{idle}
 use Rattle.planner.specs.Laws.Refused.{refusedWith, is-refused}
 
 -- ---- 10, 11 and 12
-
-test-false : (b : Bool) → b ≡ false → T (not b)
-test-false true e = let z : _≡_ {A = ℕ} 0 1 = cc in absurd (omega arith)
-test-false false e = tt
 
 pub measured-refusal : (p : Plan) (net : Network) → IsNetwork p net → networkRefusal (net .components) (net .«cut_off») ≡ planRefusal p
 unfolding planRefusal
@@ -50,18 +49,18 @@ pub is-known : (p : Plan) (table : List (List ℕ)) (net : Network) → IsMeasur
 unfolding networkRefusal
 is-known p table net m e vs v =
     let last : Conditions = (net .«cut_off», 12) ∷ [] in
-    let ten = none-cons (eqb (net .components) 0) 10 ((ltb 8 (net .components), 11) ∷ last) e in
-    let eleven = none-cons (ltb 8 (net .components)) 11 last (ten .1) in
-    let twelve = none-cons (net .«cut_off») 12 [] (eleven .1) in
+    let ten = accepted-cons (eqb (net .components) 0) 10 ((ltb 8 (net .components), 11) ∷ last) e in
+    let eleven = accepted-cons (ltb 8 (net .components)) 11 last (ten .1) in
+    let twelve = accepted-cons (net .«cut_off») 12 [] (eleven .1) in
     let all = m .network .components .all in
-    let arcs : eqb (length (requiredArcs p)) 0 ≡ false = idle p (m .well-formed) ∙ ap (λ (n : ℕ). eqb n 0) (sym all) ∙ ten .0 in
-    let few = ltb-false 8 (net .components) (eleven .0) in
-    let some = eqb-false (length (requiredArcs p)) 0 arcs in
+    let arcs : T (not (eqb (length (requiredArcs p)) 0)) = rw (idle p (m .well-formed), sym all) (ten .0) in
+    let few = nltb→le 8 (net .components) (eleven .0) in
+    let some : length (requiredArcs p) ≢ 0 = eqb-other arcs in
     record {
       plannable = record {
         well-formed = m .well-formed;
         some-arc = omega arith;
-        connected = test-false (isCutOff p) (sym (m .network .cut-off) ∙ twelve .0);
+        connected = rw (m .network .cut-off) at (twelve .0);
       };
       few = omega arith;
       distances = m .distances;
@@ -145,14 +144,10 @@ good-planned p n b old new x e i =
     subst (λ (m : ℕ). IsPlanned p m (budgetRefusal p n) old new x) (let-through n b e .1) (subst⁻¹ (λ (o : Option ℕ). IsPlanned p (b .trees) o old new x) (budget-good p n b e) i)
 
 -- the plan of a file that is not refused
-pub read-value : (bytes : List ℕ) (r : Reading) → IsReading bytes r → firstRefusal (fileConditions bytes) ≡ none → planValue (r .plan) ≡ planOf bytes
-unfolding planUnless
-read-value bytes r h e = ap planValue (h .plan ∙ ap (λ (o : Option ℕ). planRecord (planUnless o (planOf bytes))) e) ∙ value-record (planOf bytes)
-
 pub read-planned : (bytes : List ℕ) (budget : ℕ) (old new : List ℕ) (x : Planned) (r : Reading) → IsReading bytes r → firstRefusal (fileConditions bytes) ≡ none
     → IsPlanned (planValue (r .plan)) budget (sheetRefusal (planValue (r .plan)) budget (length old)) old new x → IsPlanned (planOf bytes) budget (callRefusal bytes budget (length old)) old new x
 read-planned bytes budget old new x r h e i =
-    let v = read-value bytes r h e in
+    let v = accepted-value bytes r h e in
     planned-as _ _ _ _ _ _ _ _ v (ap (λ (p : Plan). sheetRefusal p budget (length old)) v ∙ sym (file-good bytes budget (length old) (file-accepted bytes e) e)) i
 
 pub is-call : (bytes : List ℕ) (budget : ℕ) (old new : List ℕ) (r : Planned) → IsPlanned (planOf bytes) budget (callRefusal bytes budget (length old)) old new r → IsPlanCall bytes budget old new r

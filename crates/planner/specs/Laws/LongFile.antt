@@ -12,11 +12,13 @@ use lib.Seq.{length-take-le, getD-take}
 use lib.Dec.{eqb}
 use Rattle.postman.specs.BitField.{bitAt, fieldAt}
 use Rattle.postman.specs.Refusal.{firstRefusal}
-use Rattle.postman.specs.PlanFile.{isOutside, fileBits, fileLength, fileConditions}
+use Rattle.postman.specs.PlanFile.{isOutside, fileLength, fileConditions}
 use Rattle.postman.specs.PlanCall.{callRefusal}
 use Rattle.postman.specs.Laws.BitField.{number-same}
-use Rattle.plan_file.specs.Reading.{bodyConditions, file-refusal}
-use Rattle.plan_file.specs.Acceptance.{within-limits}
+use Rattle.plan_file.specs.Reading.{bodyConditions}
+use Rattle.plan_file.specs.Laws.Reading.{file-refusal}
+use Rattle.postman.specs.Laws.Acceptance.{inside}
+use Rattle.postman.specs.Laws.PlanFile.{fileLength-le}
 use Rattle.planner.specs.Laws.Call.{file-refused}
 
 -- ---- the fields of the first bytes
@@ -35,27 +37,24 @@ field-take bytes k i w l = number-same (bitAt (take k bytes)) (bitAt bytes) i i 
 longRefusal : ℕ → ℕ → ℕ → ℕ
 longRefusal edition n m = cond (not (eqb edition 1)) 2 (cond (isOutside n 1 64 || isOutside m 1 256) 3 4)
 
-longest-plan : (m : ℕ) → m ≤ 256 → fileLength m ≤ 963
-unfolding fileLength fileBits
-longest-plan m h = omega arith
-
 module _ (bytes : List ℕ) (long : 964 ≤ length bytes) where
   margin : (n m : ℕ) → m ≤ 256 → firstRefusal (bodyConditions bytes n m) ≡ some 4
   unfolding firstRefusal bodyConditions
   margin n m h =
-      let l = longest-plan m h in
+      let l = fileLength-le m h in
       rw (le-ltb (length bytes) (fileLength m) (omega arith), lt-ltb (fileLength m) (length bytes) (omega arith))
 
   by-header : (edition n m : ℕ)
       → cond (not (eqb edition 1)) (some 2) (cond (isOutside n 1 64 || isOutside m 1 256) (some 3) (firstRefusal (bodyConditions bytes n m)))
       ≡ some (longRefusal edition n m)
   unfolding longRefusal
-  by-header edition n m = at (not (eqb edition 1)) (isOutside n 1 64 || isOutside m 1 256) (λ e. margin n m (within-limits n m e .arc-count))
+  by-header edition n m = at (not (eqb edition 1)) (isOutside n 1 64) (isOutside m 1 256) (λ e. margin n m (inside m 1 256 e .1))
     where
-      at : (x y : Bool) {o : Option ℕ} → (y ≡ false → o ≡ some 4) → cond x (some 2) (cond y (some 3) o) ≡ some (cond x 2 (cond y 3 4))
-      at true y f = refl
-      at false true f = refl
-      at false false f = f refl
+      at : (x y z : Bool) {o : Option ℕ} → (z ≡ false → o ≡ some 4) → cond x (some 2) (cond (y || z) (some 3) o) ≡ some (cond x 2 (cond (y || z) 3 4))
+      at true y z f = refl
+      at false true z f = refl
+      at false false true f = refl
+      at false false false f = f refl
 
   file-long : firstRefusal (fileConditions bytes) ≡ some (longRefusal (fieldAt bytes 0 4) (fieldAt bytes 4 7) (fieldAt bytes 11 9))
   file-long = file-refusal bytes ∙ rw (le-ltb (length bytes) 3 (omega arith)) (by-header (fieldAt bytes 0 4) (fieldAt bytes 4 7) (fieldAt bytes 11 9))

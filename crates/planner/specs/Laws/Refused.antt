@@ -9,10 +9,10 @@ use lib.IntN.{pos}
 use Rattle.postman.specs.Plan.{Plan}
 use Rattle.postman.specs.Refusal.{answer, unless}
 use Rattle.postman.specs.PlanCall.{fields}
+use Rattle.refusal.specs.declared.Refusal.{Refusal}
+use Rattle.refusal.specs.declared.Verdict.the-variants.{Refused}
+use Rattle.refusal.specs.Verdict.{refusalNumber}
 use Rattle.planner.specs.declared.Planned.{Planned}
-use Rattle.planner.specs.declared.Refusal.{Refusal}
-use Rattle.planner.specs.declared.Verdict.the-variants.{Refused}
-use Rattle.planner.specs.Refusals.{refusalNumber}
 use Rattle.planner.specs.Contract.{countUnless, IsPlanned}
 
 abbrev pub refusedWith : Refusal → Planned

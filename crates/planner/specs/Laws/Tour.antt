@@ -28,7 +28,7 @@ use Rattle.balance.specs.Optimality.{sent, received}
 use Rattle.balance.specs.Laws.Arcs.{empty-certified}
 use Rattle.balance.specs.Laws.Among.{Among, among-direct, among-all, among-empty}
 use Rattle.balance.specs.Laws.Plan.{table-metric, inside, few-arcs, direct-balances, direct-least, direct-way}
-use Rattle.balance.specs.Laws.Sum.{sum-none}
+use Rattle.postman.specs.Laws.Sum.{term-le}
 use Rattle.circuit.specs.Legs.{Completes}
 use Rattle.circuit.specs.Tour.{tour, IsCompletion}
 use Rattle.circuit.specs.Laws.Completion.{completion}
@@ -84,8 +84,8 @@ module _ (p : Plan) (ok : Plannable p) (few : componentCount p ≤ 8) where
         let mij = among i j li lj a in
         let mjk = among j k lj lk b in
         elim (direct-way p (ok .well-formed) (ok .connected) d agrees t joined short j (mij .1)) [
-          | inl z ↦ let x = sum-none (λ i. amount f i j) (mij .0) in omega arith
-          | inr z ↦ let x = sum-none (λ k. amount f j k) (mjk .1) in omega arith
+          | inl z ↦ let x = term-le (λ i. amount f i j) (mij .0) in omega arith
+          | inr z ↦ let x = term-le (λ k. amount f j k) (mjk .1) in omega arith
         ]
 
     pub completes : Completes p t f

@@ -1,65 +1,27 @@
--- What it says that a call is not refused. Conditions are accepted together exactly when each of them is, so a list of conditions is taken apart, or put
+-- What it says that a call is not refused. Conditions are accepted together exactly when each of them is (`Refusal`), so a list of conditions is taken apart, or put
 -- together, condition by condition.
-use mathlib.Core.Path.{_≡_, refl, ap, _∙_, subst⁻¹}
+use mathlib.Core.Path.{_≡_, refl, ap}
 use mathlib.Core.Logic.{_≢_}
 use mathlib.Core.Bool.{Bool, true, false, not, _||_}
-use mathlib.Core.List.{List, [], _∷_, _++_, flatMap, List·Memᴰ, List·Memᴰ·head, List·Memᴰ·tail}
-use mathlib.Core.Option.{none, some, Option·some-ne-none}
+use mathlib.Core.List.{List, [], _∷_, _++_, List·Memᴰ}
+use mathlib.Core.Option.{none}
 use Prim.Native.Nat.{ℕ, _+_, _*_, _≤_, _<_}
 use native.Mathlib.Omega.{arith}
-use lib.ListN.{length, length-map}
+use lib.ListN.{length}
 use lib.Dec.{T, eqb, ltb, leb, eqb→eq, not-T, nleb→lt, nltb→le}
 use lib.Arith.{lt→nleb, le→nltb}
 use Rattle.postman.specs.Lists.{below}
 use Rattle.postman.specs.Plan.{Arc, Plan, WellFormed, requiredArcs}
 use Rattle.postman.specs.Refusal.{Conditions, firstRefusal}
-use Rattle.postman.specs.PlanFile.{edition, vertexCount, arcCount, arcOf, planOf, fileLength, fillBits, isOutside, extentConditions, arcConditions, planConditions, fileConditions, readRefusal, IsRecord, writeRefusal}
+use Rattle.postman.specs.PlanFile.{edition, vertexCount, arcCount, arcOf, planOf, fileLength, fillBits, isOutside, extentConditions, arcConditions, arcsConditions, hasRepeated, planConditions, fileConditions, readRefusal, IsRecord, writeRefusal}
 use Rattle.postman.specs.Component.{componentCount}
 use Rattle.postman.specs.PlanCall.{sheetPlaces, highestBudget, isCutOff, earlierConditions, callRefusal}
 use Rattle.postman.specs.Laws.Tests.{not-or, not-not, eqb-same, eqb-other}
-use Rattle.postman.specs.Laws.Membership.{map-mem, below-mem, length-below}
+use Rattle.postman.specs.Laws.Membership.{map-mem, below-mem}
+use Rattle.postman.specs.Laws.Below.{length-map-below}
 use Rattle.postman.specs.Laws.BitField.{field-lt}
-
--- ---- lists of conditions
-
-nothing-refused : firstRefusal [] ≡ none
-unfolding firstRefusal
-nothing-refused = refl
-
-pub accepted-cons : (b : Bool) (r : ℕ) (cs : Conditions) → firstRefusal ((b, r) ∷ cs) ≡ none → T (not b) × (firstRefusal cs ≡ none)
-unfolding firstRefusal
-accepted-cons true r cs e = absurd (Option·some-ne-none r e)
-accepted-cons false r cs e = (tt, e)
-
-pub cons-accepted : (b : Bool) (r : ℕ) (cs : Conditions) → T (not b) → firstRefusal cs ≡ none → firstRefusal ((b, r) ∷ cs) ≡ none
-unfolding firstRefusal
-cons-accepted true r cs t e = absurd t
-cons-accepted false r cs t e = e
-
-pub accepted-append : (cs ds : Conditions) → firstRefusal (cs ++ ds) ≡ none → (firstRefusal cs ≡ none) × (firstRefusal ds ≡ none)
-accepted-append [] ds e = (nothing-refused, e)
-accepted-append (c ∷ cs) ds e =
-    let h = accepted-cons (c .0) (c .1) (cs ++ ds) e in
-    let r = accepted-append cs ds (h .1) in
-    (cons-accepted (c .0) (c .1) cs (h .0) (r .0), r .1)
-
-pub append-accepted : (cs ds : Conditions) → firstRefusal cs ≡ none → firstRefusal ds ≡ none → firstRefusal (cs ++ ds) ≡ none
-append-accepted [] ds e f = f
-append-accepted (c ∷ cs) ds e f =
-    let h = accepted-cons (c .0) (c .1) cs e in
-    cons-accepted (c .0) (c .1) (cs ++ ds) (h .0) (append-accepted cs ds (h .1) f)
-
-module _ {A : Type 0} (f : A → Conditions) where
-  accepted-flatMap : {x : A} {xs : List A} → List·Memᴰ x xs → firstRefusal (flatMap f xs) ≡ none → firstRefusal (f x) ≡ none
-  unfolding flatMap
-  accepted-flatMap (List·Memᴰ·head {x = y} {xs = ys} e) h = subst⁻¹ (λ z. firstRefusal (f z) ≡ none) e (accepted-append (f y) (flatMap f ys) h .0)
-  accepted-flatMap (List·Memᴰ·tail {x = y} {xs = ys} m) h = accepted-flatMap m (accepted-append (f y) (flatMap f ys) h .1)
-
-  flatMap-accepted : (xs : List A) → ((x : A) → List·Memᴰ x xs → firstRefusal (f x) ≡ none) → firstRefusal (flatMap f xs) ≡ none
-  unfolding flatMap
-  flatMap-accepted [] h = nothing-refused
-  flatMap-accepted (x ∷ xs) h =
-      append-accepted (f x) (flatMap f xs) (h x (List·Memᴰ·head refl)) (flatMap-accepted xs (λ y m. h y (List·Memᴰ·tail m)))
+use Rattle.postman.specs.Laws.Refusal.{nothing-refused, accepted-cons, cons-accepted, accepted-append, append-accepted, accepted-flatMap, flatMap-accepted}
+use Rattle.postman.specs.Laws.Repeated.{Distinct, not-repeated}
 
 -- ---- limits
 
@@ -74,6 +36,9 @@ neither false c s t = t
 outside-accepted : (x low high : ℕ) → T (not (isOutside x low high)) → (low ≤ x) × (x ≤ high)
 unfolding isOutside
 outside-accepted x low high t = let h = not-or (ltb x low) (ltb high x) t in (nltb→le x low (h .0), nltb→le high x (h .1))
+
+pub inside : (x low high : ℕ) → isOutside x low high ≡ false → (low ≤ x) × (x ≤ high)
+inside x low high e = outside-accepted x low high (rw e tt)
 
 accepted-outside : (x low high : ℕ) → low ≤ x → x ≤ high → T (not (isOutside x low high))
 unfolding isOutside
@@ -115,16 +80,21 @@ module _ (n : ℕ) (a : Arc) where
       (cons-accepted _ _ _ (le→nltb 2 (a .standing) s) nothing-refused))
 
 module _ (p : Plan) where
-  pub plan-accepted : firstRefusal (planConditions p) ≡ none → (a : Arc) → List·Memᴰ a (p .arcs) → (a .tail < p .n) × (a .head < p .n) × (1 ≤ a .cost) × (a .standing ≤ 2)
-  unfolding planConditions
-  plan-accepted e a m = arc-accepted (p .n) a (accepted-flatMap (arcConditions (p .n)) m e)
+  arcs-accepted : firstRefusal (arcsConditions p) ≡ none → (a : Arc) → List·Memᴰ a (p .arcs) → (a .tail < p .n) × (a .head < p .n) × (1 ≤ a .cost) × (a .standing ≤ 2)
+  unfolding arcsConditions
+  arcs-accepted e a m = arc-accepted (p .n) a (accepted-flatMap (arcConditions (p .n)) m e)
 
-  pub accepted-plan : ((a : Arc) → List·Memᴰ a (p .arcs) → (a .tail < p .n) × (a .head < p .n) × (1 ≤ a .cost) × (a .standing ≤ 2)) → firstRefusal (planConditions p) ≡ none
-  unfolding planConditions
-  accepted-plan h = flatMap-accepted (arcConditions (p .n)) (p .arcs) (λ a m. (let r = h a m in accepted-arc (p .n) a (r .0) (r .1) (r .2) (r .3)))
+  accepted-arcs : ((a : Arc) → List·Memᴰ a (p .arcs) → (a .tail < p .n) × (a .head < p .n) × (1 ≤ a .cost) × (a .standing ≤ 2)) → firstRefusal (arcsConditions p) ≡ none
+  unfolding arcsConditions
+  accepted-arcs h = flatMap-accepted (arcConditions (p .n)) (p .arcs) (λ a m. (let r = h a m in accepted-arc (p .n) a (r .0) (r .1) (r .2) (r .3)))
 
-  pub well-formed-plan : WellFormed p → firstRefusal (planConditions p) ≡ none
-  well-formed-plan w = accepted-plan (λ a m. (let r = w .each a m in (r .tail-in, r .head-in, r .priced, r .standing-in)))
+  -- the arcs one by one, then all of them: "after all arcs passed 5 to 7"
+  pub plan-accepted : firstRefusal (planConditions p) ≡ none → (firstRefusal (arcsConditions p) ≡ none) × T (not (hasRepeated (p .arcs)))
+  unfolding planConditions
+  plan-accepted e = let r = accepted-append (arcsConditions p) _ e in (r .0, accepted-cons _ _ _ (r .1) .0)
+
+  pub plan-distinct : firstRefusal (planConditions p) ≡ none → Distinct (p .arcs)
+  plan-distinct e = not-repeated (p .arcs) (plan-accepted e .1)
 
   plan-well-formed : firstRefusal (extentConditions (p .n) (length (p .arcs))) ≡ none → firstRefusal (planConditions p) ≡ none
       → ((a : Arc) → List·Memᴰ a (p .arcs) → a .cost ≤ 65535) → WellFormed p
@@ -135,7 +105,7 @@ module _ (p : Plan) where
         vertices = limits .1;
         some-arc = limits .2;
         arc-count = limits .3;
-        each = λ a m. let r = plan-accepted f a m in record { tail-in = r .0; head-in = r .1; standing-in = r .3; priced = r .2; cost-in = costs a m };
+        each = λ a m. let r = arcs-accepted (plan-accepted f .0) a m in record { tail-in = r .0; head-in = r .1; standing-in = r .3; priced = r .2; cost-in = costs a m };
       }
 
 -- ---- the file
@@ -193,9 +163,12 @@ module _ (bytes : List ℕ) where
         arcs-in = fill .1;
       }
 
+  pub has-header : IsFile bytes → 3 ≤ length bytes
+  has-header f = let h = counted m (f .some-arc) in let e = f .exact in omega arith
+
   pub file-is-accepted : IsFile bytes → firstRefusal (fileConditions bytes) ≡ none
   file-is-accepted f =
-      let long = counted m (f .some-arc) in
+      let long = has-header f in
       rw conditions
       (cons-accepted _ _ _ (le→nltb (length bytes) 3 (omega arith))
       (cons-accepted _ _ _ (not-not-T (eqb (edition bytes) 1) (eqb-same (f .edition-one)))
@@ -210,7 +183,7 @@ module _ (bytes : List ℕ) where
 
   pub arcs-read : length (planOf bytes .arcs) ≡ arcCount bytes
   unfolding planOf
-  arcs-read = length-map (below m) (arcOf bytes) ∙ length-below m
+  arcs-read = length-map-below (arcOf bytes) m
 
   cost-lt : (k : ℕ) → arcOf bytes k .cost < 65536
   unfolding arcOf
@@ -239,6 +212,10 @@ module _ (bytes : List ℕ) where
   pub file-accepted : firstRefusal (fileConditions bytes) ≡ none → WellFormed (planOf bytes)
   file-accepted e = is-file-well-formed (accepted-is-file e)
 
+  -- a plan that was read has no two equal arcs
+  pub file-distinct : firstRefusal (fileConditions bytes) ≡ none → Distinct (planOf bytes .arcs)
+  file-distinct e = plan-distinct (planOf bytes) (accepted-is-file e .arcs-in)
+
   -- ---- reading
 
   read-conditions : (room : ℕ) → readRefusal bytes room ≡ firstRefusal (fileConditions bytes ++ (ltb room m, 8) ∷ [])
@@ -258,6 +235,12 @@ module _ (bytes : List ℕ) where
 
 -- ---- writing
 
+-- what the conditions say of a plan that is written where there is room for `room` bytes
+pub record IsWritable (p : Plan) (room : ℕ) : Type 0 where
+  pub extent-in : firstRefusal (extentConditions (p .n) (length (p .arcs))) ≡ none
+  pub arcs-in : firstRefusal (planConditions p) ≡ none
+  pub enough : fileLength (length (p .arcs)) ≤ room
+
 module _ (p : Plan) (room : ℕ) where
   abbrev extent : Conditions
   extent = extentConditions (p .n) (length (p .arcs))
@@ -269,18 +252,26 @@ module _ (p : Plan) (room : ℕ) where
   unfolding writeRefusal
   write-conditions = refl
 
-  pub write-accepted : ((a : Arc) → List·Memᴰ a (p .arcs) → IsRecord a) → writeRefusal p room ≡ none → WellFormed p × (fileLength (length (p .arcs)) ≤ room)
-  write-accepted records e =
+  pub accepted-is-writable : writeRefusal p room ≡ none → IsWritable p room
+  accepted-is-writable e =
       let all = accepted-append (extent ++ planConditions p) _ (rw write-conditions at e) in
       let both = accepted-append extent (planConditions p) (all .0) in
-      let costs : (a : Arc) → List·Memᴰ a (p .arcs) → a .cost ≤ 65535 = λ a m. (let l = records a m .cost in omega arith) in
-      (plan-well-formed p (both .0) (both .1) costs, nltb→le room bytes-needed (accepted-cons _ _ _ (all .1) .0))
+      record { extent-in = both .0; arcs-in = both .1; enough = nltb→le room bytes-needed (accepted-cons _ _ _ (all .1) .0) }
 
-  pub well-formed-write : WellFormed p → fileLength (length (p .arcs)) ≤ room → writeRefusal p room ≡ none
-  well-formed-write w h =
+  pub few-arcs : writeRefusal p room ≡ none → length (p .arcs) ≤ 256
+  few-arcs e = extent-accepted (p .n) (length (p .arcs)) (accepted-is-writable e .extent-in) .3
+
+  pub writable-well-formed : ((a : Arc) → List·Memᴰ a (p .arcs) → a .cost ≤ 65535) → writeRefusal p room ≡ none → WellFormed p
+  writable-well-formed costs e = let w = accepted-is-writable e in plan-well-formed p (w .extent-in) (w .arcs-in) costs
+
+  pub write-accepted : ((a : Arc) → List·Memᴰ a (p .arcs) → IsRecord a) → writeRefusal p room ≡ none → WellFormed p × (fileLength (length (p .arcs)) ≤ room)
+  write-accepted records e = (writable-well-formed (λ a m. (let l = records a m .cost in omega arith)) e, accepted-is-writable e .enough)
+
+  pub accepted-write : WellFormed p → firstRefusal (planConditions p) ≡ none → fileLength (length (p .arcs)) ≤ room → writeRefusal p room ≡ none
+  accepted-write w a h =
       let limits = accepted-extent (p .n) (length (p .arcs)) (w .some-vertex) (w .vertices) (w .some-arc) (w .arc-count) in
       rw write-conditions
-      (append-accepted (extent ++ planConditions p) _ (append-accepted extent (planConditions p) limits (well-formed-plan p w))
+      (append-accepted (extent ++ planConditions p) _ (append-accepted extent (planConditions p) limits a)
       (cons-accepted _ _ _ (le→nltb room bytes-needed h) nothing-refused))
 
 -- ---- the plan call

@@ -1,42 +1,24 @@
 -- Amounts and legs are two ways to say the same: amounts f(i,j) are f(i,j) legs from i to j each, and legs are counted into amounts. So the least assignment
 -- is the least cost of all amounts that balance.
-use mathlib.Core.Path.{_≡_, refl, sym, ap, ap₂, _∙_, subst, fun-ext}
+use mathlib.Core.Path.{_≡_, refl, sym, ap, ap₂, _∙_, subst}
 use mathlib.Core.List.{List, [], _∷_, _++_, List·Memᴰ, List·Memᴰ·head, List·Memᴰ·tail}
 use Prim.Native.Nat.{ℕ, zero, suc, _+_, _*_, _≤_, _<_}
-use native.Mathlib.Nat.{zero-mul, mul-zero, add-mul, mul-add, suc-mul, mul-one, mul-comm, mul-right-comm}
+use native.Mathlib.Nat.{zero-mul, mul-zero, add-mul, suc-mul, mul-one, mul-comm, mul-right-comm}
 use native.Mathlib.Decide.{decLe}
 use native.Mathlib.Omega.{arith}
 use lib.ListN.{length, replicate}
-use lib.IntN.{ℤ, pos, _+ℤ_, _-ℤ_, natAbs, +ℤ-assoc, +ℤ-comm, -ℤ-+ℤ-cancel}
-use lib.Dec.{eqb, eqb→eq}
+use lib.IntN.{ℤ, pos, _-ℤ_}
+use Rattle.integers.specs.Linear.{minus-eq}
 use Rattle.postman.specs.Lists.{delta, occurrences}
 use Rattle.postman.specs.Balancing.{sumOver, IsBalancing, balancingCost, assignment}
-use Rattle.postman.specs.Laws.Tests.{cond-ind}
 use Rattle.postman.specs.Laws.Occurrences.{delta-yes, delta-sym, mem-of-occurrences, occurrences-of-mem}
+use Rattle.postman.specs.Laws.Sum.{sum-cong, sum-add, sum-zero, sum-delta, out-sum, in-sum, once}
 use Rattle.postman.specs.Laws.Assignment.{Legs, weight, legs-le, pairing}
 
 -- units that arrive at ss and are lacking at ts, vertex by vertex
 unfoldable pub difference : List ℕ → List ℕ → ℕ → ℤ
 unfolding occurrences
 difference ss ts i = pos (occurrences i ss) -ℤ pos (occurrences i ts)
-
-sum-cong : (vs : List ℕ) (g h : ℕ → ℕ) → ((i : ℕ) → g i ≡ h i) → sumOver vs g ≡ sumOver vs h
-sum-cong vs g h e = ap (sumOver vs) (fun-ext e)
-
-sum-mul : (vs : List ℕ) (g : ℕ → ℕ) (c : ℕ) → sumOver vs (λ i. g i * c) ≡ sumOver vs g * c
-unfolding sumOver
-sum-mul [] g c = sym (zero-mul c)
-sum-mul (v ∷ vs) g c = ap (λ x. g v * c + x) (sum-mul vs g c) ∙ sym (add-mul (g v) (sumOver vs g) c)
-
-times-delta : (g : ℕ → ℕ) (i v : ℕ) → g v * delta i v ≡ g i * delta i v
-unfolding delta
-times-delta g i v = cond-ind (eqb i v) 1 0 (λ x. g v * x ≡ g i * x) (λ t. ap (λ z. g z * 1) (sym (eqb→eq i v t))) (λ t. mul-zero (g v) ∙ sym (mul-zero (g i)))
-
--- a sum that only i's term enters
-sum-delta : (vs : List ℕ) (g : ℕ → ℕ) (i : ℕ) → sumOver vs (λ v. g v * delta i v) ≡ g i * occurrences i vs
-unfolding sumOver occurrences
-sum-delta [] g i = sym (mul-zero (g i))
-sum-delta (v ∷ vs) g i = ap₂ _+_ (times-delta g i v) (sum-delta vs g i) ∙ sym (mul-add (g i) (delta i v) (occurrences i vs))
 
 row : ℕ → List ℕ → (ℕ → ℕ → ℕ) → Legs
 row i [] f = []
@@ -67,32 +49,13 @@ unfolding legsOf weight sumOver
 weight-legs w f [] ws = refl
 weight-legs w f (i ∷ vs) ws = weight-append w (row i ws f) (legsOf vs ws f) ∙ ap₂ _+_ (weight-row w f i ws) (weight-legs w f vs ws)
 
--- a - b = c - e
-minus-eq : (a b c e : ℕ) → pos a -ℤ pos b ≡ pos c -ℤ pos e → a + e ≡ c + b
-minus-eq a b c e h =
-    ap natAbs
-    (ap (λ z. z +ℤ pos e) (sym (-ℤ-+ℤ-cancel (pos a) (pos b)))
-    ∙ ap (λ z. z +ℤ pos b +ℤ pos e) h
-    ∙ +ℤ-assoc (pos c -ℤ pos e) (pos b) (pos e)
-    ∙ ap (λ z. pos c -ℤ pos e +ℤ z) (+ℤ-comm (pos b) (pos e))
-    ∙ sym (+ℤ-assoc (pos c -ℤ pos e) (pos e) (pos b))
-    ∙ ap (λ z. z +ℤ pos b) (-ℤ-+ℤ-cancel (pos c) (pos e)))
-
--- the double sum of f counts what leaves a, or what enters it
-out-sumOf : (f : ℕ → ℕ → ℕ) (vs : List ℕ) (a : ℕ) → sumOver vs (λ i. sumOver vs (λ j. f i j * delta a i)) ≡ sumOver vs (λ j. f a j) * occurrences a vs
-out-sumOf f vs a =
-    sum-cong vs (λ i. sumOver vs (λ j. f i j * delta a i)) (λ i. sumOver vs (λ j. f i j) * delta a i) (λ i. sum-mul vs (λ j. f i j) (delta a i))
-    ∙ sum-delta vs (λ i. sumOver vs (λ j. f i j)) a
-
-in-sumOf : (f : ℕ → ℕ → ℕ) (vs : List ℕ) (a : ℕ) → sumOver vs (λ i. sumOver vs (λ j. f i j * delta a j)) ≡ sumOver vs (λ i. f i a) * occurrences a vs
-in-sumOf f vs a =
-    sum-cong vs (λ i. sumOver vs (λ j. f i j * delta a j)) (λ i. f i a * occurrences a vs) (λ i. sum-delta vs (λ j. f i j) a)
-    ∙ sum-mul vs (λ i. f i a) (occurrences a vs)
-
 -- vs has each vertex at most once, and those of us among them
 pub record Within (vs us : List ℕ) : Type 0 where
   pub once : (i : ℕ) → occurrences i vs ≤ 1
   pub among : (i : ℕ) → List·Memᴰ i us → List·Memᴰ i vs
+
+pub within-once : {vs us : List ℕ} → Within vs us → (i : ℕ) → List·Memᴰ i us → occurrences i vs ≡ 1
+within-once h i m = once (h .once) (h .among i m)
 
 within-none : {vs us : List ℕ} → Within vs us → (i : ℕ) → occurrences i vs ≤ 0 → occurrences i us ≡ 0
 within-none {us = us} h i z = elim (decLe 1 (occurrences i us)) [
@@ -113,30 +76,20 @@ module _ (d : ℕ → ℕ → ℕ) (triangle : (i k j : ℕ) → d i j ≤ d i k
         | yes g ↦
             let o = ws .once i in
             let c : occurrences i vs ≡ 1 = omega arith in
-            let e₁ = weight-legs (λ a b. delta i b) f vs vs ∙ in-sumOf f vs i ∙ ap (λ z. sumOver vs (λ j. f j i) * z) c ∙ mul-one (sumOver vs (λ j. f j i)) in
-            let e₂ = weight-legs (λ a b. delta i a) f vs vs ∙ out-sumOf f vs i ∙ ap (λ z. sumOver vs (λ j. f i j) * z) c ∙ mul-one (sumOver vs (λ j. f i j)) in
+            let e₁ = weight-legs (λ a b. delta i b) f vs vs ∙ in-sum f vs i ∙ ap (λ z. sumOver vs (λ j. f j i) * z) c ∙ mul-one (sumOver vs (λ j. f j i)) in
+            let e₂ = weight-legs (λ a b. delta i a) f vs vs ∙ out-sum f vs i ∙ ap (λ z. sumOver vs (λ j. f i j) * z) c ∙ mul-one (sumOver vs (λ j. f i j)) in
             let h = minus-eq (sumOver vs (λ j. f i j)) (sumOver vs (λ j. f j i)) (occurrences i ss) (occurrences i ts) (b i (mem-of-occurrences i vs g)) in
             omega arith
         | no g ↦
             let c : occurrences i vs ≡ 0 = omega arith in
-            let e₁ = weight-legs (λ a b. delta i b) f vs vs ∙ in-sumOf f vs i ∙ ap (λ z. sumOver vs (λ j. f j i) * z) c ∙ mul-zero (sumOver vs (λ j. f j i)) in
-            let e₂ = weight-legs (λ a b. delta i a) f vs vs ∙ out-sumOf f vs i ∙ ap (λ z. sumOver vs (λ j. f i j) * z) c ∙ mul-zero (sumOver vs (λ j. f i j)) in
+            let e₁ = weight-legs (λ a b. delta i b) f vs vs ∙ in-sum f vs i ∙ ap (λ z. sumOver vs (λ j. f j i) * z) c ∙ mul-zero (sumOver vs (λ j. f j i)) in
+            let e₂ = weight-legs (λ a b. delta i a) f vs vs ∙ out-sum f vs i ∙ ap (λ z. sumOver vs (λ j. f i j) * z) c ∙ mul-zero (sumOver vs (λ j. f i j)) in
             let s = within-none ws i (omega arith) in
             let t = within-none wt i (omega arith) in
             omega arith
       ]
 
 -- ---- a cheapest assignment as amounts
-
-sum-add : (vs : List ℕ) (g h : ℕ → ℕ) → sumOver vs (λ i. g i + h i) ≡ sumOver vs g + sumOver vs h
-unfolding sumOver
-sum-add [] g h = refl
-sum-add (v ∷ vs) g h = let e = sum-add vs g h in omega arith
-
-sum-zero : (vs : List ℕ) → sumOver vs (λ i. 0) ≡ 0
-unfolding sumOver
-sum-zero [] = refl
-sum-zero (v ∷ vs) = let e = sum-zero vs in omega arith
 
 -- how many of the legs go from i to j
 unfoldable pub amounts : Legs → ℕ → ℕ → ℕ
@@ -187,16 +140,16 @@ module _ (d : ℕ → ℕ → ℕ) where
   assignment-at vs ss ts l ws wt =
       let p = pairing d ss ts l in
       let f = amounts (p .legs) in
-      let once : (i : ℕ) → List·Memᴰ i vs → occurrences i vs ≡ 1 = λ i m. (let o = ws .once i in let g = occurrences-of-mem m in omega arith) in
+      let single : (i : ℕ) → List·Memᴰ i vs → occurrences i vs ≡ 1 = λ i m. once (ws .once) m in
       let inside : Inside vs (p .legs) = λ l m. (
       let e = ends-of (p .legs) l m in
       let x = p .from (l .0) in
       let y = p .to (l .1) in
-      (once (l .0) (ws .among (l .0) (mem-of-occurrences (l .0) ss (omega arith))), once (l .1) (wt .among (l .1) (mem-of-occurrences (l .1) ts (omega arith))))) in
+      (within-once ws (l .0) (mem-of-occurrences (l .0) ss (omega arith)), within-once wt (l .1) (mem-of-occurrences (l .1) ts (omega arith)))) in
       let out : (i : ℕ) → List·Memᴰ i vs → sumOver vs (λ j. f i j) ≡ occurrences i ss = λ i m.
-      sym (out-sumOf f vs i ∙ ap (λ z. sumOver vs (λ j. f i j) * z) (once i m) ∙ mul-one (sumOver vs (λ j. f i j)))
+      sym (out-sum f vs i ∙ ap (λ z. sumOver vs (λ j. f i j) * z) (single i m) ∙ mul-one (sumOver vs (λ j. f i j)))
       ∙ amounts-weight vs (p .legs) inside (λ a b. delta i a) ∙ p .from i in
       let into : (i : ℕ) → List·Memᴰ i vs → sumOver vs (λ j. f j i) ≡ occurrences i ts = λ i m.
-      sym (in-sumOf f vs i ∙ ap (λ z. sumOver vs (λ j. f j i) * z) (once i m) ∙ mul-one (sumOver vs (λ j. f j i)))
+      sym (in-sum f vs i ∙ ap (λ z. sumOver vs (λ j. f j i) * z) (single i m) ∙ mul-one (sumOver vs (λ j. f j i)))
       ∙ amounts-weight vs (p .legs) inside (λ a b. delta i b) ∙ p .to i in
       (f, (λ i m. ap₂ (λ (x y : ℕ). pos x -ℤ pos y) (out i m) (into i m)), amounts-weight vs (p .legs) inside d ∙ p .costs)

@@ -4,6 +4,7 @@ use mathlib.Core.List.{List, [], _∷_, _++_, map}
 use Prim.Native.Nat.{ℕ, zero, suc, _+_, _*_, _-_, _/_, _%_, _^_, _<_, _≤_}
 use native.Mathlib.Nat.{pow-suc, add-zero, zero-add, zero-div}
 use native.Mathlib.Decide.{ℕ-discrete}
+use native.Mathlib.Numerals.{add-one}
 use native.Mathlib.Omega.{arith}
 use lib.Dec.{lit<}
 use lib.Pow.{shr-shr}
@@ -12,6 +13,7 @@ use lib.Seq.{getD-append-add, ext-getD}
 use Rattle.postman.specs.Lists.{upFrom, below}
 use Rattle.postman.specs.BitField.{bitAt, number, fieldAt, bitsOf}
 use Rattle.postman.specs.Laws.Membership.{length-upFrom, getD-map-upFrom}
+use Rattle.postman.specs.Laws.Below.{getD-map-below}
 
 -- ---- numbers
 
@@ -79,6 +81,11 @@ pub field-lt : (bytes : List ℕ) (i w : ℕ) → fieldAt bytes i w < 2 ^ w
 unfolding fieldAt
 field-lt bytes i w = number-lt (bitAt bytes) i w (λ j l. bit-lt bytes (i + j))
 
+-- one bit more, as a loop counts
+pub field-more : (bytes : List ℕ) (i w : ℕ) → fieldAt bytes i (w + 1) ≡ fieldAt bytes i w * 2 + bitAt bytes (i + w)
+unfolding fieldAt number
+field-more bytes i w = rw add-one
+
 pub field-zero : (bytes : List ℕ) (i w : ℕ) → fieldAt bytes i w ≡ 0 → (j : ℕ) → j < w → bitAt bytes (i + j) ≡ 0
 unfolding fieldAt
 field-zero bytes i w = number-zero (bitAt bytes) i w
@@ -101,10 +108,6 @@ bit-of-byte bytes k j l =
 pub byte-of-bits : (bytes : List ℕ) (k : ℕ) → getD bytes k 0 < 256 → number (bitAt bytes) (8 * k) 8 ≡ getD bytes k 0
 byte-of-bits bytes k h = number-of-bits (bitAt bytes) (8 * k) 8 (getD bytes k 0) h (bit-of-byte bytes k)
 
-pub getD-map-below : {A : Type 0} (f : ℕ → A) (n k : ℕ) (d : A) → k < n → getD (map f (below n)) k d ≡ f k
-unfolding below
-getD-map-below f n k d l = getD-map-upFrom f 0 n k d l ∙ ap f (zero-add k)
-
 -- bits packed into n bytes
 pub packed-bit : (b : ℕ → ℕ) (n : ℕ) → ((k : ℕ) → b k < 2) → (i : ℕ) → i < 8 * n → bitAt (map (λ q. number b (8 * q) 8) (below n)) i ≡ b i
 packed-bit b n small i l =
@@ -123,7 +126,7 @@ unfolding bitsOf
 length-bitsOf zero x = refl
 length-bitsOf (suc w) x = ap suc (length-bitsOf w x)
 
-getD-bitsOf : (w x j : ℕ) → j < w → getD (bitsOf w x) j 0 ≡ x / 2 ^ (w - 1 - j) % 2
+pub getD-bitsOf : (w x j : ℕ) → j < w → getD (bitsOf w x) j 0 ≡ x / 2 ^ (w - 1 - j) % 2
 unfolding bitsOf
 getD-bitsOf zero x j l = absurd (omega arith)
 getD-bitsOf (suc w) x zero l = let e : suc w - 1 - 0 ≡ w = omega arith in rw e

@@ -8,15 +8,17 @@ use native.Mathlib.Nat.{add-zero, zero-add}
 use native.Mathlib.Decide.{decLt}
 use native.Mathlib.Omega.{arith}
 use lib.Dec.{lit<}
-use lib.ListN.{length, getD, length-map, length-append, List·getD-eq-default}
+use lib.ListN.{length, getD, length-append, List·getD-eq-default}
 use lib.Seq.{ext-getD}
 use Rattle.postman.specs.Lists.{upFrom, below}
 use Rattle.postman.specs.Plan.{Arc, Plan, WellFormed, IsArc, arcAt}
 use Rattle.postman.specs.BitField.{bitAt, number, fieldAt, bitsOf}
-use Rattle.postman.specs.PlanFile.{edition, vertexCount, arcCount, arcOf, planOf, fileBits, fileLength, fillBits, IsRecord, arcBits, planBits, fileOf, readRefusal, writeRefusal}
-use Rattle.postman.specs.Laws.Membership.{length-below, getD-mem}
-use Rattle.postman.specs.Laws.BitField.{number-lt, number-same, zero-number, bit-lt, field-zero, bit-out, byte-of-bits, getD-map-below, packed-bit, length-bitsOf, bitsOf-lt, run, run-zero, length-run, getD-run, bitsOf-number, run-append, bitIn, append-lt, read-left, read-right, read-last, three, length-three, three-lt, read-first, read-second, read-third, read-after}
-use Rattle.postman.specs.Laws.Acceptance.{IsFile, read-is-file, file-is-read, read-accepted, vertices-read, arcs-read, well-formed-plan, write-accepted, well-formed-write}
+use Rattle.postman.specs.PlanFile.{edition, vertexCount, arcCount, arcOf, planOf, fileBits, fileLength, fillBits, IsRecord, arcBits, planBits, fileOf, planConditions, readRefusal, writeRefusal}
+use Rattle.postman.specs.Refusal.{firstRefusal}
+use Rattle.postman.specs.Laws.Membership.{getD-mem}
+use Rattle.postman.specs.Laws.Below.{length-map-below, getD-map-below}
+use Rattle.postman.specs.Laws.BitField.{number-lt, number-same, zero-number, bit-lt, field-zero, bit-out, byte-of-bits, packed-bit, length-bitsOf, bitsOf-lt, run, run-zero, length-run, getD-run, bitsOf-number, run-append, bitIn, append-lt, read-left, read-right, read-last, three, length-three, three-lt, read-first, read-second, read-third, read-after}
+use Rattle.postman.specs.Laws.Acceptance.{IsFile, read-is-file, file-is-read, read-accepted, vertices-read, arcs-read, accepted-is-writable, write-accepted, accepted-write}
 
 -- ---- definitions, as equations
 
@@ -51,20 +53,25 @@ unfolding fileLength
 fileLength-le m h = omega arith
 
 -- the bytes hold the bits
-bits-fit : (m : ℕ) → fileBits m ≤ 8 * fileLength m
+pub bits-fit : (m : ℕ) → fileBits m ≤ 8 * fileLength m
 unfolding fileLength
 bits-fit m = omega arith
 
 pub length-fileOf : (p : Plan) → length (fileOf p) ≡ fileLength (length (p .arcs))
 unfolding fileOf
-length-fileOf p = length-map (below (fileLength (length (p .arcs)))) _ ∙ length-below (fileLength (length (p .arcs)))
+length-fileOf p = length-map-below _ (fileLength (length (p .arcs)))
+
+-- byte k of the file
+pub file-byte : (p : Plan) (k : ℕ) → k < fileLength (length (p .arcs)) → getD (fileOf p) k 0 ≡ number (bitIn (planBits p)) (8 * k) 8
+unfolding fileOf
+file-byte p k l = getD-map-below (λ q. number (bitIn (planBits p)) (8 * q) 8) (fileLength (length (p .arcs))) k 0 l
 
 -- ---- the bits of an arc, and of arcs in a row
 
-length-arcBits : (a : Arc) → length (arcBits a) ≡ 30
+pub length-arcBits : (a : Arc) → length (arcBits a) ≡ 30
 length-arcBits a = simp (arc-bits, length-append, length-bitsOf)
 
-length-arcs : (arcs : List Arc) → length (flatMap arcBits arcs) ≡ 30 * length arcs
+pub length-arcs : (arcs : List Arc) → length (flatMap arcBits arcs) ≡ 30 * length arcs
 unfolding flatMap
 length-arcs [] = refl
 length-arcs (a ∷ arcs) = let e = length-append (arcBits a) (flatMap arcBits arcs) in let f = length-arcBits a in let g = length-arcs arcs in omega arith
@@ -193,15 +200,15 @@ module _ (p : Plan) where
     arcs-same : map (arcOf (fileOf p)) (below (arcCount (fileOf p))) ≡ p .arcs
     arcs-same =
         let m = length (p .arcs) in
-        let e = length-map (below m) (arcOf (fileOf p)) ∙ length-below m in
+        let e = length-map-below (arcOf (fileOf p)) m in
         rw count-same (ext-getD (arcAt [] 0) (map (arcOf (fileOf p)) (below m)) (p .arcs) e (λ k l. getD-map-below (arcOf (fileOf p)) m k _ (omega arith) ∙ arc-same k (omega arith)))
 
-    plan-same : planOf (fileOf p) ≡ p
+    pub plan-same : planOf (fileOf p) ≡ p
     unfolding planOf
     plan-same = λ i. record { n = vertices-same i; arcs = arcs-same i }
 
-    is-file : IsFile (fileOf p)
-    is-file =
+    pub is-file : firstRefusal (planConditions p) ≡ none → IsFile (fileOf p)
+    is-file accepted =
         record {
           edition-one = edition-same;
           some-vertex = rw vertices-same (w .some-vertex);
@@ -210,18 +217,18 @@ module _ (p : Plan) where
           arc-count = rw count-same (w .arc-count);
           exact = rw count-same (length-fileOf p);
           filled = fill-same;
-          arcs-in = rw plan-same (well-formed-plan p w);
+          arcs-in = rw plan-same accepted;
         }
 
 pub read-written : (p : Plan) (room : ℕ) → ((a : Arc) → List·Memᴰ a (p .arcs) → IsRecord a) → writeRefusal p room ≡ none
     → (planOf (fileOf p) ≡ p) × ((records : ℕ) → length (p .arcs) ≤ records → readRefusal (fileOf p) records ≡ none)
 read-written p room small e =
     let w = write-accepted p room small e .0 in
-    (plan-same p w, λ records h. file-is-read (fileOf p) records (is-file p w) (rw (count-same p w) h))
+    (plan-same p w, λ records h. file-is-read (fileOf p) records (is-file p w (accepted-is-writable p room e .arcs-in)) (rw (count-same p w) h))
 
 pub fileOf-lt : (p : Plan) (k : ℕ) → getD (fileOf p) k 0 < 256
 fileOf-lt p k = elim (decLt k (fileLength (length (p .arcs)))) [
-  | yes l ↦ rw (file-of, getD-map-below (λ q. number (bitIn (planBits p)) (8 * q) 8) (fileLength (length (p .arcs))) k 0 l)
+  | yes l ↦ rw (file-byte p k l)
       (number-lt (bitIn (planBits p)) (8 * k) 8 (λ j g. plan-bits-lt p (8 * k + j)))
   | no l ↦ let e = length-fileOf p in
       let h : length (fileOf p) ≤ k = omega arith in
@@ -289,10 +296,11 @@ module _ (bytes : List ℕ) where
     same-byte : (k : ℕ) → getD bytes k 0 < 256 → k < fileLength (arcCount bytes) → getD (fileOf (planOf bytes)) k 0 ≡ getD bytes k 0
     same-byte k h l =
         let p = planOf bytes in
-        rw (file-of, arcs-read)
-        (getD-map-below (λ q. number (bitIn (planBits p)) (8 * q) 8) (fileLength (arcCount bytes)) k 0 l
+        let g = arcs-read bytes in
+        let long : k < fileLength (length (p .arcs)) = rw g l in
+        file-byte p k long
         ∙ number-same (bitIn (planBits p)) (bitAt bytes) (8 * k) (8 * k) 8 (λ j g. same-bit (8 * k + j) (omega arith))
-        ∙ byte-of-bits bytes k h)
+        ∙ byte-of-bits bytes k h
 
 pub written-read : (bytes : List ℕ) (room : ℕ) → ((k : ℕ) → getD bytes k 0 < 256) → readRefusal bytes room ≡ none
     → (fileOf (planOf bytes) ≡ bytes) × ((space : ℕ) → length bytes ≤ space → writeRefusal (planOf bytes) space ≡ none)
@@ -302,5 +310,5 @@ written-read bytes room small e =
     let a : length (fileOf (planOf bytes)) ≡ fileLength (arcCount bytes) = length-fileOf (planOf bytes) ∙ ap fileLength (arcs-read bytes) in
     let b = f .exact in (
       ext-getD 0 (fileOf (planOf bytes)) bytes (a ∙ sym b) (λ k l. same-byte bytes f k (small k) (omega arith)),
-      λ space h. well-formed-write (planOf bytes) space w (rw arcs-read (omega arith)),
+      λ space h. accepted-write (planOf bytes) space w (f .arcs-in) (rw arcs-read (omega arith)),
     )

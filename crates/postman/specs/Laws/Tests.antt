@@ -1,5 +1,5 @@
 -- Boolean tests: a test by cases, and what a test of a conjunction, a disjunction or a negation says. Each by running through the values.
-use mathlib.Core.Path.{_≡_, refl, subst}
+use mathlib.Core.Path.{_≡_, refl, subst, subst⁻¹}
 use mathlib.Core.Logic.{_⊎_, inl, inr, _≢_}
 use mathlib.Core.Bool.{Bool, true, false, not, cond, _&&_, _||_}
 use Prim.Native.Nat.{ℕ}
@@ -52,6 +52,16 @@ same-test true true f g = refl
 same-test true false f g = absurd (f tt)
 same-test false true f g = absurd (g tt)
 same-test false false f g = refl
+
+-- tests as equations
+pub is-true : {b : Bool} → T b → b ≡ true
+is-true {b} t = same-test b true (λ x. tt) (λ x. t)
+
+pub is-false : {b : Bool} → (T b → ⊥) → b ≡ false
+is-false {b} n = same-test b false (λ x. n x) (λ x. absurd x)
+
+pub of-true : {b : Bool} → b ≡ true → T b
+of-true e = subst⁻¹ T e tt
 
 pub eqb-same : {i j : ℕ} → i ≡ j → T (eqb i j)
 eqb-same {i} {j} e = subst (λ z. T (eqb i z)) e (eqb-refl i)

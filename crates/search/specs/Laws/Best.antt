@@ -23,8 +23,8 @@ use Rattle.postman.specs.Laws.Optimality.{some-arborescence}
 use Rattle.balance.specs.Step.{State}
 use Rattle.arborescence.specs.Order.{firstChoice, choiceAt, entryAt}
 use Rattle.arborescence.specs.Layout.{laidOut, stepOf}
-use Rattle.search.specs.declared.Best.{Best}
-use Rattle.search.specs.declared.Searched.{Searched}
+use Rattle.search.specs.declared.best.Best.{Best}
+use Rattle.search.specs.declared.tried.Searched.{Searched}
 use Rattle.search.specs.Links.{linksIn, chosenLinks}
 use Rattle.search.specs.Costs.{completionIn}
 use Rattle.search.specs.Best.{bestOf, IsBest}

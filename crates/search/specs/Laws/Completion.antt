@@ -8,9 +8,9 @@ use lib.ListN.{length, getD, take, length-take}
 use lib.Seq.{getD-take}
 use Rattle.postman.specs.Link.{Link}
 use Rattle.balance.specs.Step.{State, cell, addAll, arcsOf}
-use Rattle.balance.specs.Invariant.{AllIn}
+use Rattle.balance.specs.Invariant.{AllIn, Joining}
 use Rattle.search.specs.Links.{linksIn, Inside, placeOf, Choosable}
-use Rattle.search.specs.Costs.{tableCost, completionIn, Joining, Ready}
+use Rattle.search.specs.Costs.{tableCost, completionIn, Ready}
 use Rattle.search.specs.Laws.Links.{links-length}
 use Rattle.search.specs.Laws.Costs.{all-certified}
 

@@ -1,6 +1,6 @@
 -- The potentials of a certified state price its own arcs at its cost, and any other arcs at no more than theirs: so they bound the cost of other links from below.
 use mathlib.Core.Path.{_≡_, refl, ap, _∙_}
-use mathlib.Core.List.{List, [], _∷_, _++_, map, List·Memᴰ}
+use mathlib.Core.List.{List, [], _∷_, map, List·Memᴰ}
 use Prim.Native.Nat.{ℕ, zero, suc, _+_, _≤_, _<_}
 use native.Mathlib.Omega.{arith}
 use native.Mathlib.Numerals.{add-one}
@@ -11,6 +11,7 @@ use Rattle.postman.specs.Required.{required}
 use Rattle.postman.specs.Distance.{distance}
 use Rattle.postman.specs.Link.{Link}
 use Rattle.postman.specs.Balancing.{heads, tails, sumOver, leastBalancing}
+use Rattle.postman.specs.Laws.Sum.{sum-append}
 use Rattle.postman.specs.Laws.Distance.{InPlan}
 use Rattle.postman.specs.Laws.Balancing.{Joins, within-heads, within-tails, same-length}
 use Rattle.balance.specs.Step.{potential, arcsOf}
@@ -21,11 +22,6 @@ use Rattle.search.specs.Links.{linksIn}
 use Rattle.search.specs.Pass.{endSum}
 
 -- ---- sums
-
-sum-append : (xs ys : List ℕ) (g : ℕ → ℕ) → sumOver (xs ++ ys) g ≡ sumOver xs g + sumOver ys g
-unfolding sumOver
-sum-append [] ys g = omega arith
-sum-append (x ∷ xs) ys g = let h = sum-append xs ys g in omega arith
 
 pub ends-none : (p ends : List ℕ) → 0 ≡ endSum p (take 0 ends)
 unfolding sumOver

@@ -1,15 +1,14 @@
 -- What the test of the code says: its sums are those of the bound, and links that it passes over cost no less than the best so far.
-use mathlib.Core.Path.{_≡_, sym, ap, _∙_, subst⁻¹}
+use mathlib.Core.Path.{_≡_, sym, ap, subst⁻¹}
 use mathlib.Core.Bool.{true, false}
-use mathlib.Core.Logic.{inl, inr}
 use mathlib.Core.List.{List, [], map}
 use Prim.Native.Nat.{ℕ, _+_, _-_, _≤_, _<_}
 use native.Mathlib.Omega.{arith}
-use borrow.Author.Tests.{le-leb, lt-leb, leb-true}
+use borrow.Author.Tests.{lt-leb, leb-true}
 use lib.ListN.{length, getD, take}
-use lib.Dec.{leb, leb→le, nleb→lt}
+use lib.Dec.{leb, leb→le, le→leb}
 use Rattle.postman.specs.Link.{Link}
-use Rattle.postman.specs.Laws.Tests.{test}
+use Rattle.postman.specs.Laws.Tests.{same-test}
 use Rattle.balance.specs.Step.{State, cell, addAll}
 use Rattle.search.specs.Links.{linksIn, Inside}
 use Rattle.search.specs.Costs.{tableCost, completionIn, Ready}
@@ -21,21 +20,6 @@ use Rattle.search.specs.Laws.Costs.{all-certified}
 use Rattle.search.specs.Laws.Completion.{inside-joins}
 use Rattle.search.specs.Laws.Pass.{tails-in, heads-in}
 
-same-test : (a b c d : ℕ) → (a ≤ b → c ≤ d) → (c ≤ d → a ≤ b) → leb a b ≡ leb c d
-same-test a b c d f g = elim (test (leb a b)) [
-  | inl t ↦ le-leb→ a b (leb→le a b t) ∙ sym (le-leb→ c d (f (leb→le a b t)))
-  | inr t ↦ lt-leb→ a b (nleb→lt a b t) ∙ sym (lt-leb→ c d (over (nleb→lt a b t)))
-]
-  where
-    le-leb→ : (x y : ℕ) → x ≤ y → leb x y ≡ true
-    le-leb→ x y l = le-leb x y l
-
-    lt-leb→ : (x y : ℕ) → y < x → leb x y ≡ false
-    lt-leb→ x y l = lt-leb x y l
-
-    over : b < a → d < c
-    over l = elim (test (leb c d)) [ inl t ↦ absurd (let h = g (leb→le c d t) in omega arith) | inr t ↦ nleb→lt c d t ]
-
 module _ (old : ℕ) (p : List ℕ) (last fixed : ℕ) (kt kh ts hs : List ℕ) (a b c e : ℕ) (ea : a ≡ endSum p kt) (eb : b ≡ endSum p hs) (ec : c ≡ endSum p kh) (ee : e ≡ endSum p ts) where
   pub not-passed : fixed + last + a + b < c + e → false ≡ isPassed old p last fixed kt kh ts hs
   unfolding isPassed
@@ -43,7 +27,9 @@ module _ (old : ℕ) (p : List ℕ) (last fixed : ℕ) (kt kh ts hs : List ℕ) 
 
   pub is-passed : c + e ≤ fixed + last + a + b → leb old (fixed + last + a + b - (c + e)) ≡ isPassed old p last fixed kt kh ts hs
   unfolding isPassed
-  is-passed l = same-test old (fixed + last + a + b - (c + e)) (old + (endSum p kh + endSum p ts)) (fixed + last + endSum p kt + endSum p hs) (λ h. omega arith) (λ h. omega arith)
+  is-passed l =
+      same-test _ _ (λ t. let h = leb→le old (fixed + last + a + b - (c + e)) t in le→leb (old + (endSum p kh + endSum p ts)) (fixed + last + endSum p kt + endSum p hs) (omega arith))
+      (λ t. let h = leb→le (old + (endSum p kh + endSum p ts)) (fixed + last + endSum p kt + endSum p hs) t in le→leb old (fixed + last + a + b - (c + e)) (omega arith))
 
 -- links that are passed over cost no less than the best so far
 pub passed-over : {table : List (List ℕ)} {vs : List ℕ} {base : State} {r : ℕ} → Ready table vs base r → (n : ℕ) → n ≤ 7 → (old : ℕ) (kt kh ts hs : List ℕ)

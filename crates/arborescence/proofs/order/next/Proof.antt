@@ -1,11 +1,10 @@
 -- The components from q on have been tried: what is left is the successor that keeps their choices.
-use Rattle.arborescence.specs.Laws.Layout.{chosen-fewer, found-more, advanced-turn}
+use Rattle.arborescence.specs.Laws.Layout.{chosen-fewer, stepped, not-stepped}
 use Rattle.arborescence.specs.Layout.{laidOut}
 use Rattle.arborescence.specs.Order.{advanced, nextChoice}
-use borrow.Author.Tests.{lt-ltb, le-ltb}
-use lib.ListN.{length, getD, take}
+use lib.ListN.{length, take}
 use native.Mathlib.Omega.{arith}
-use Prim.Native.Nat.{ℕ, _+_, _-_, _≤_, _<_}
+use Prim.Native.Nat.{ℕ, _-_, _≤_}
 use mathlib.Core.Path.{_≡_, refl, sym, ap, _∙_}
 use borrow.Author.Needs.{needs}
 use Rattle.arborescence.proofs.order.next.Statement.{statement}
@@ -61,50 +60,34 @@ add-fill : tie.Need-add-fill Inv-loop μ-loop
 add-fill c = search needs
 
 fill-requires : tie.Need-fill-requires Inv-loop μ-loop
-fill-requires c κs = let s = c .before .before .before .before .before in
+fill-requires c κs =
+    let s = c .before .before .before .before .before in
     let v = c .before .before .before .before .loop in
-    let few = s .pre .0 .few in
-    let l : length (s .args .t5) ≡ 8 = search needs in
-    let g = laidOut (s .args .k) (s .args .start .now) (s .args .source .now) in
-    let ok = s .pre .0 .sources in
     let t = c .before .before .before .loop-test .taken in
-    let j = v .q - 1 in
-    let i = c .before .before .find .result in
-    let a = s .pre .2 .each j (omega arith) (omega arith) in
-    let n : i < g .count j = (let x = c .if1 .taken in let y = c .before .count .ensures .0 in omega arith) in
-    let r = found-more g ok (s .args .t5) j i (omega arith) (omega arith) (omega arith) (chosen-fewer g (s .args .t5) (s .args .k) j (omega arith) (s .pre .2)) (getD (s .args .t5) j 0 + 1) (omega arith) (c .before .before .find .ensures) n in
+    let l : length (s .args .t5) ≡ 8 = search needs in
+    let r = stepped (s .pre .0) (s .pre .2) l (v .q) t (v .inv .1) (c .before .before .find .ensures) (c .before .count .ensures .0) (c .if1 .taken) in
     (s .pre .0, s .pre .1, r .0, omega arith, omega arith, r .1)
 
 returns : tie.Need-returns Inv-loop μ-loop
-returns c = let s = c .before .before .before .before .before .before in
+returns c =
+    let s = c .before .before .before .before .before .before in
     let v = c .before .before .before .before .before .loop in
-    let few = s .pre .0 .few in
-    let l : length (s .args .t5) ≡ 8 = search needs in
-    let g = laidOut (s .args .k) (s .args .start .now) (s .args .source .now) in
-    let ok = s .pre .0 .sources in
     let t = c .before .before .before .before .loop-test .taken in
-    let j = v .q - 1 in
-    let i = c .before .before .before .find .result in
-    let n : i < g .count j = (let x = c .before .if1 .taken in let y = c .before .before .count .ensures .0 in omega arith) in
-    let e = advanced-turn g ok (s .args .t5) (v .q) i (omega arith) t (v .inv .1) (c .before .before .before .find .ensures) in
-    (rw (c .fill .ensures .0) (sym (rw (lt-ltb i (g .count j) n) at e) ∙ v .inv .2), λ t. c .fill .ensures .1)
+    let l : length (s .args .t5) ≡ 8 = search needs in
+    let r = stepped (s .pre .0) (s .pre .2) l (v .q) t (v .inv .1) (c .before .before .before .find .ensures) (c .before .before .count .ensures .0) (c .before .if1 .taken) in
+    (rw (c .fill .ensures .0) (sym (r .2) ∙ v .inv .2), λ t. c .fill .ensures .1)
 
 loop-less : tie.Need-loop-less Inv-loop μ-loop
 loop-less c = search needs
 
 loop-again : tie.Need-loop-again Inv-loop μ-loop
-loop-again c = let s = c .before .before .before .before .before in
+loop-again c =
+    let s = c .before .before .before .before .before in
     let v = c .before .before .before .before .loop in
-    let few = s .pre .0 .few in
-    let l : length (s .args .t5) ≡ 8 = search needs in
-    let g = laidOut (s .args .k) (s .args .start .now) (s .args .source .now) in
-    let ok = s .pre .0 .sources in
     let t = c .before .before .before .loop-test .taken in
-    let j = v .q - 1 in
-    let i = c .before .before .find .result in
-    let n : g .count j ≤ i = (let x = c .if1 .left in let y = c .before .count .ensures .0 in omega arith) in
-    let e = advanced-turn g ok (s .args .t5) (v .q) i (omega arith) t (v .inv .1) (c .before .before .find .ensures) in
-    (omega arith, omega arith, sym (rw (le-ltb i (g .count j) n) at e) ∙ v .inv .2)
+    let l : length (s .args .t5) ≡ 8 = search needs in
+    let e = not-stepped (s .pre .0) (s .pre .2) l (v .q) t (v .inv .1) (c .before .before .find .ensures) (c .before .count .ensures .0) (c .if1 .left) in
+    (omega arith, omega arith, sym e ∙ v .inv .2)
 
 returns-2 : tie.Need-returns-2 Inv-loop μ-loop
 unfolding advanced

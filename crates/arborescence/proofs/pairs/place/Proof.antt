@@ -29,15 +29,6 @@ element-copy-out-wide-2 c = search needs
 wide-requires-2 : tie.Need-wide-requires-2
 wide-requires-2 c κs = search needs
 
-add-result : tie.Need-add-result
-add-result c =
-    let s = c .before .before .before .before .before .before .before .before in
-    let a = s .pre .2 (s .args .i) (s .pre .0) (c .before .before .before .before .before .before .if1 .taken) in
-    let x = c .before .before .wide .ensures in
-    let b = s .pre .2 (s .args .j) (s .pre .1) (c .before .before .before .before .if2 .taken) in
-    let y = c .wide2 .ensures in
-    search needs
-
 returns : tie.Need-returns
 returns c =
     let s = c .before .before .before .before .before .before .before .before in
@@ -46,6 +37,9 @@ returns c =
     let b = s .pre .2 (s .args .j) (s .pre .1) (c .before .before .before .before .if2 .taken) in
     let y = c .wide2 .ensures in
     (omega arith, rw (c .before .before .before .before .before .before .if1 .taken, c .before .before .before .before .if2 .taken, x, y))
+
+add-result : tie.Need-add-result
+add-result c = let h = returns c .0 in search needs
 
 returns-2 : tie.Need-returns-2
 returns-2 c = (omega arith, rw (c .before .before .if1 .taken, c .if2 .left))

@@ -1,13 +1,12 @@
 -- A floor that is at least 0 fits the cast, and is its own magnitude.
 use mathlib.Core.Path.{ap}
 use lib.IntN.{natAbs}
-use Rattle.integers.specs.Linear.{back64}
-use Rattle.planner.specs.Laws.Answered.{floor-cast}
+use Rattle.integers.specs.Linear.{back64, nonneg-cast}
 use Rattle.exports.proofs.call.floor_word.Statement.{statement}
 use Rattle.exports.proofs.call.floor_word.Tie as tie
 
 cast-result : tie.Need-cast-result
-cast-result c = floor-cast _ (c .fits .floor .sfits) (c .pre)
+cast-result c = nonneg-cast _ (c .fits .floor .sfits) (c .pre)
 
 returns : tie.Need-returns
 returns c = ap natAbs (back64 (c .args .floor) (c .fits .floor .sfits))

@@ -1,6 +1,6 @@
 -- An answer's words and multipliers are put; a refusal leaves what is lent.
 use mathlib.Core.Path.{ap}
-use Rattle.planner.specs.Refusals.{verdictNumber}
+use Rattle.refusal.specs.Verdict.{verdictNumber}
 use Rattle.exports.specs.Laws.Answer.{handed, kept}
 use borrow.Author.Needs.{needs}
 use Rattle.exports.proofs.call.hand_over.Statement.{statement}

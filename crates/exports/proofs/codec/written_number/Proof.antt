@@ -2,7 +2,7 @@
 use mathlib.Core.Path.{_∙_, ap}
 use native.Mathlib.Omega.{arith}
 use Rattle.integers.specs.Linear.{plain64, back64}
-use Rattle.plan_file.specs.Verdicts.{writtenAnswer}
+use Rattle.plan_file.specs.Writing.{writtenAnswer}
 use borrow.Author.Needs.{needs}
 use Rattle.exports.proofs.codec.written_number.Statement.{statement}
 use Rattle.exports.proofs.codec.written_number.Tie as tie

@@ -6,7 +6,7 @@ use native.Mathlib.Omega.{arith}
 use lib.ListN.{length, set}
 use Rattle.records.specs.Stored.{storedTo}
 use Rattle.records.specs.Writing.{atMost}
-use Rattle.records.specs.WritingLaws.{at-most-le, at-most-fits}
+use Rattle.records.specs.Laws.Writing.{at-most-le, at-most-fits}
 use Rattle.exports.specs.Laws.RecordBytes.{lentRecord, loaded-is}
 use borrow.Author.Needs.{needs}
 use Rattle.exports.proofs.record_bytes.load_records.Statement.{statement}

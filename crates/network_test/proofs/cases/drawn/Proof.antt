@@ -1,5 +1,5 @@
 -- The loop stays below its end.
-use Prim.Native.Nat.{_<_, _-_}
+use Prim.Native.Nat.{_-_}
 use Rattle.postman.specs.Plan.{WellFormed}
 use Rattle.plan.specs.Records.{planValue}
 use borrow.Author.Needs.{needs}
@@ -7,7 +7,7 @@ use Rattle.network_test.proofs.cases.drawn.Statement.{statement}
 use Rattle.network_test.proofs.cases.drawn.Tie as tie
 
 abbrev Inv-loop : tie.InvT-loop
-Inv-loop n m seed p₀ s₀ k₀ p s k = WellFormed (planValue p) × (s < 65536)
+Inv-loop n m seed p₀ s₀ k₀ p s k = WellFormed (planValue p)
 
 abbrev μ-loop : tie.MeasureT-loop
 μ-loop n m seed p₀ s₀ k₀ p s k = m - k
@@ -18,23 +18,14 @@ plan-of-requires c κs = search needs
 loop-holds : tie.Need-loop-holds Inv-loop μ-loop
 loop-holds c = search needs
 
-mul-s : tie.Need-mul-s Inv-loop μ-loop
-mul-s c = search needs
+next-requires : tie.Need-next-requires Inv-loop μ-loop
+next-requires c κs = search needs
 
-add-s : tie.Need-add-s Inv-loop μ-loop
-add-s c = search needs
+next-requires-2 : tie.Need-next-requires-2 Inv-loop μ-loop
+next-requires-2 c κs = search needs
 
-mul-s-2 : tie.Need-mul-s-2 Inv-loop μ-loop
-mul-s-2 c = search needs
-
-add-s-2 : tie.Need-add-s-2 Inv-loop μ-loop
-add-s-2 c = search needs
-
-mul-s-3 : tie.Need-mul-s-3 Inv-loop μ-loop
-mul-s-3 c = search needs
-
-add-s-3 : tie.Need-add-s-3 Inv-loop μ-loop
-add-s-3 c = search needs
+next-requires-3 : tie.Need-next-requires-3 Inv-loop μ-loop
+next-requires-3 c κs = search needs
 
 cast-with-arc : tie.Need-cast-with-arc Inv-loop μ-loop
 cast-with-arc c = search needs
@@ -74,12 +65,9 @@ drawn-spec =
     μ-loop
     plan-of-requires
     loop-holds
-    mul-s
-    add-s
-    mul-s-2
-    add-s-2
-    mul-s-3
-    add-s-3
+    next-requires
+    next-requires-2
+    next-requires-3
     cast-with-arc
     cast-with-arc-2
     cast-with-arc-3

@@ -11,7 +11,7 @@ use Rattle.plan.specs.declared.Plan.{Plan as PlanRecord}
 use Rattle.plan.specs.Records.{planValue}
 use Rattle.shortest.specs.Contracts.{IsTable}
 use Rattle.shortest.specs.ShortestPath.{shortestPath}
-use Rattle.shortest.specs.Laws.Records.{plan-vertices}
+use Rattle.plan.specs.Laws.Records.{plan-vertices}
 use Rattle.shortest.specs.Laws.ShortestPath.{shortest-path}
 use borrow.Author.Needs.{needs}
 use Rattle.network_test.proofs.digest.fold_path.Statement.{statement}

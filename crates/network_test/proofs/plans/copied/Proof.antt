@@ -4,7 +4,7 @@ use Prim.Native.Nat.{_-_, _≤_}
 use native.Mathlib.Omega.{arith}
 use lib.ListN.{getD}
 use Rattle.plan.specs.Records.{zeroRecord}
-use Rattle.shortest.specs.Laws.Records.{record-arcs}
+use Rattle.plan.specs.Laws.Records.{record-arcs}
 use Rattle.network_test.specs.Copied.{Copied, copied-none, copied-more}
 use borrow.Author.Needs.{needs}
 use Rattle.network_test.proofs.plans.copied.Statement.{statement}

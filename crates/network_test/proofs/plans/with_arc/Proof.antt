@@ -1,5 +1,5 @@
 -- The arcs of the plan, and one more that is in range.
-use Rattle.shortest.specs.Laws.Records.{record-vertices}
+use Rattle.plan.specs.Laws.Records.{record-vertices}
 use Rattle.network_test.specs.Copied.{one-more}
 use borrow.Author.Needs.{needs}
 use Rattle.network_test.proofs.plans.with_arc.Statement.{statement}

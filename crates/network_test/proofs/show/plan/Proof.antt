@@ -1,5 +1,5 @@
 -- A plan has at most 64 vertices.
-use Rattle.shortest.specs.Laws.Records.{record-vertices}
+use Rattle.plan.specs.Laws.Records.{record-vertices}
 use borrow.Author.Needs.{needs}
 use Rattle.network_test.proofs.show.plan.Statement.{statement}
 use Rattle.network_test.proofs.show.plan.Tie as tie

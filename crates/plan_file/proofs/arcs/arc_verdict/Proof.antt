@@ -3,7 +3,8 @@ use mathlib.Core.Path.{_∙_, ap₂}
 use mathlib.Core.Bool.{_||_}
 use lib.Dec.{leb, eqb}
 use Rattle.postman.specs.Refusal.{firstRefusal}
-use Rattle.plan_file.specs.Verdicts.{orElse, or-else-cond}
+use Rattle.refusal.specs.Verdict.{orElse}
+use Rattle.refusal.specs.Laws.{or-else-cond}
 use borrow.Author.Needs.{needs}
 use Rattle.plan_file.proofs.arcs.arc_verdict.Statement.{statement}
 use Rattle.plan_file.proofs.arcs.arc_verdict.Tie as tie

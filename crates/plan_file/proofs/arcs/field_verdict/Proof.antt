@@ -1,7 +1,7 @@
 -- `field_verdict` meets its contract: the four fields are those of the arc, so its conditions are the arc's (`arc-parts`).
 use mathlib.Core.Path.{_∙_, ap}
 use Rattle.postman.specs.PlanFile.{arcOf}
-use Rattle.plan_file.specs.Verdicts.{arc-parts}
+use Rattle.plan_file.specs.Laws.Arcs.{arc-parts}
 use Rattle.plan.specs.Standings.{standingOf}
 use borrow.Author.Needs.{needs}
 use Rattle.plan_file.proofs.arcs.field_verdict.Statement.{statement}

@@ -1,7 +1,7 @@
 -- `record_verdict` meets its contract: the record's parts are those of the arc (`arc-parts`).
 use mathlib.Core.Path.{refl, _∙_}
 use Rattle.plan.specs.Records.{arcValue}
-use Rattle.plan_file.specs.Verdicts.{arc-parts}
+use Rattle.plan_file.specs.Laws.Arcs.{arc-parts}
 use borrow.Author.Needs.{needs}
 use Rattle.plan_file.proofs.arcs.record_verdict.Statement.{statement}
 use Rattle.plan_file.proofs.arcs.record_verdict.Tie as tie

@@ -3,8 +3,8 @@ use mathlib.Core.Path.{_∙_, sym, ap}
 use Prim.Native.Nat.{_≤_, _-_}
 use native.Mathlib.Omega.{arith}
 use Rattle.postman.specs.PlanFile.{arcOf, arcConditions}
-use Rattle.plan_file.specs.Verdicts.{verdictNumber}
-use Rattle.plan_file.specs.FirstRefusal.{NoneBefore, none-before-first, none-before-next, refused-here, none-refused}
+use Rattle.refusal.specs.Verdict.{verdictNumber}
+use Rattle.postman.specs.Laws.Refusal.{NoneBefore, none-before-first, none-before-next, refused-here, none-refused}
 use borrow.Author.Needs.{needs}
 use Rattle.plan_file.proofs.reader.arcs_verdict.Statement.{statement}
 use Rattle.plan_file.proofs.reader.arcs_verdict.Tie as tie

@@ -1,4 +1,4 @@
--- `body_verdict` meets its contract: at each return the tests on the way say which conditions apply, and the arcs are left to `arcs_verdict`.
+-- `body_verdict` meets its contract: at each return the tests on the way say which conditions apply, and the arcs are left to `all_arcs_verdict`.
 use mathlib.Core.Path.{_∙_, sym}
 use Prim.Native.Nat.{_<_, _≤_, _*_, _-_}
 use native.Mathlib.Omega.{arith}
@@ -43,9 +43,9 @@ returns-3 c =
     let fill = ne-eqb (fieldAt (a .s .now) (fileBits (a .m)) (8 * fileLength (a .m) - fileBits (a .m))) 0 (λ z. c .if3 .taken (c .before .fill-bits .ensures ∙ z)) in
     simp (le-ltb _ _ low, le-ltb _ _ high, fill)
 
-arcs-verdict-requires : tie.Need-arcs-verdict-requires
+all-arcs-verdict-requires : tie.Need-all-arcs-verdict-requires
 unfolding fileBits fileLength
-arcs-verdict-requires c κs =
+all-arcs-verdict-requires c κs =
     let e = c .before .before .before .before .file-length .ensures in
     (omega arith, omega arith)
 
@@ -57,7 +57,7 @@ returns-4 c =
     let low : fileLength (a .m) ≤ length (a .s .now) = omega arith in
     let high : length (a .s .now) ≤ fileLength (a .m) = omega arith in
     let fill = eq-eqb (fieldAt (a .s .now) (fileBits (a .m)) (8 * fileLength (a .m) - fileBits (a .m))) 0 (sym (c .before .before .fill-bits .ensures) ∙ c .before .if3 .left) in
-    simp (le-ltb _ _ low, le-ltb _ _ high, fill) (c .arcs-verdict .ensures)
+    simp (le-ltb _ _ low, le-ltb _ _ high, fill) (c .all-arcs-verdict .ensures)
 
 pub body-verdict-spec : {M : Type 1} → statement M
 body-verdict-spec =
@@ -68,5 +68,5 @@ body-verdict-spec =
     returns-2
     fill-bits-requires
     returns-3
-    arcs-verdict-requires
+    all-arcs-verdict-requires
     returns-4)

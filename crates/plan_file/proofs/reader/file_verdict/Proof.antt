@@ -7,8 +7,9 @@ use borrow.Author.Tests.{lt-ltb, le-ltb, eq-eqb, ne-eqb}
 use Rattle.postman.specs.BitField.{fieldAt}
 use Rattle.postman.specs.Refusal.{firstRefusal}
 use Rattle.postman.specs.PlanFile.{isOutside}
-use Rattle.plan_file.specs.Acceptance.{inside}
-use Rattle.plan_file.specs.Reading.{bodyConditions, file-refusal}
+use Rattle.postman.specs.Laws.Acceptance.{inside}
+use Rattle.plan_file.specs.Reading.{bodyConditions}
+use Rattle.plan_file.specs.Laws.Reading.{file-refusal}
 use borrow.Author.Needs.{needs}
 use Rattle.plan_file.proofs.reader.file_verdict.Statement.{statement}
 use Rattle.plan_file.proofs.reader.file_verdict.Tie as tie

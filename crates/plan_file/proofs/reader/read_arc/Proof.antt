@@ -3,7 +3,7 @@ use native.Mathlib.Omega.{arith}
 use mathlib.Core.Path.{_≡_}
 use Prim.Native.Nat.{_+_, _*_}
 use Rattle.postman.specs.PlanFile.{arcOf}
-use Rattle.plan_file.specs.FieldLaws.{field-lt}
+use Rattle.postman.specs.Laws.BitField.{field-lt}
 use borrow.Author.Needs.{needs}
 use Rattle.plan_file.proofs.reader.read_arc.Statement.{statement}
 use Rattle.plan_file.proofs.reader.read_arc.Tie as tie

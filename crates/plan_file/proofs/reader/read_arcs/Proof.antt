@@ -7,7 +7,7 @@ use lib.ListN.{set}
 use Rattle.postman.specs.Lists.{below, upFrom}
 use Rattle.postman.specs.PlanFile.{arcOf}
 use Rattle.plan.specs.Records.{recordsOf}
-use Rattle.plan_file.specs.RecordLaws.{records-more}
+use Rattle.plan_file.specs.Laws.Records.{records-more}
 use borrow.Author.Needs.{needs}
 use Rattle.plan_file.proofs.reader.read_arcs.Statement.{statement}
 use Rattle.plan_file.proofs.reader.read_arcs.Tie as tie

@@ -1,7 +1,7 @@
 -- `read_plan` meets its contract: the verdict is the file's, and the plan goes by it.
 use mathlib.Core.Path.{_∙_, sym, ap}
 use Rattle.plan_file.specs.Reading.{planUnless}
-use Rattle.plan_file.specs.Verdicts.{verdictNumber}
+use Rattle.refusal.specs.Verdict.{verdictNumber}
 use borrow.Author.Needs.{needs}
 use Rattle.plan_file.proofs.reader.read_plan.Statement.{statement}
 use Rattle.plan_file.proofs.reader.read_plan.Tie as tie

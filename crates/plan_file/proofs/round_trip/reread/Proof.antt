@@ -2,8 +2,8 @@
 use mathlib.Core.Path.{refl, _∙_, sym, ap}
 use lib.Seq.{length-take-le}
 use Rattle.plan.specs.Records.{planValue}
-use Rattle.plan_file.specs.RereadLaws.{written-file, reread-file, reread-refused}
-use Rattle.plan_file.specs.Verdicts.{writtenAnswer}
+use Rattle.plan_file.specs.Laws.Reread.{written-file, reread-file, reread-refused}
+use Rattle.plan_file.specs.Writing.{writtenAnswer}
 use Rattle.plan_file.proofs.Owned.{owned-cost}
 use borrow.Author.Needs.{needs}
 use Rattle.plan_file.proofs.round_trip.reread.Statement.{statement}

@@ -1,7 +1,7 @@
 -- `clear` meets its contract. The loop's invariant: the first i bytes are zero, and the later ones are as they were.
 use Prim.Native.Nat.{_<_, _≤_, _-_}
 use lib.ListN.{length-set, length, replicate, drop}
-use Rattle.plan_file.specs.FileLaws.{clear-more}
+use Rattle.plan_file.specs.Laws.PlanUpdate.{clear-more}
 use mathlib.Core.Path.{_≡_, refl, _∙_}
 use mathlib.Core.List.{_++_}
 use native.Mathlib.Omega.{arith}

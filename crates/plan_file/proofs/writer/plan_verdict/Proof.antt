@@ -4,9 +4,9 @@ use Prim.Native.Nat.{_<_, _≤_}
 use native.Mathlib.Omega.{arith}
 use borrow.Author.Tests.{lt-ltb, le-ltb}
 use Rattle.postman.specs.PlanFile.{fileLength}
-use Rattle.plan_file.specs.Acceptance.{inside}
-use Rattle.plan_file.specs.Verdicts.{verdictNumber}
-use Rattle.plan_file.specs.Writing.{extent-n, extent-m, of-record, of-room}
+use Rattle.postman.specs.Laws.Acceptance.{inside}
+use Rattle.refusal.specs.Verdict.{verdictNumber}
+use Rattle.plan_file.specs.Laws.Writing.{extent-n, extent-m, of-record, of-room}
 use borrow.Author.Needs.{needs}
 use Rattle.plan_file.proofs.writer.plan_verdict.Statement.{statement}
 use Rattle.plan_file.proofs.writer.plan_verdict.Tie as tie
@@ -33,11 +33,11 @@ returns-2 c =
     let a = c .before .before .before .before .args in
     sym (extent-m (a .p) (a .room) (sym (c .before .before .before .is-outside .ensures) ∙ c .before .before .if1 .left) (sym (c .before .is-outside2 .ensures) ∙ c .if2 .taken))
 
-cast-records-verdict : tie.Need-cast-records-verdict
-cast-records-verdict c = search needs
+cast-all-records-verdict : tie.Need-cast-all-records-verdict
+cast-all-records-verdict c = search needs
 
-records-verdict-requires : tie.Need-records-verdict-requires
-records-verdict-requires c κs = inside (c .before .before .before .before .before .args .p .m) 1 256 (sym (c .before .before .is-outside2 .ensures) ∙ c .before .if2 .left) .1
+all-records-verdict-requires : tie.Need-all-records-verdict-requires
+all-records-verdict-requires c κs = inside (c .before .before .before .before .before .args .p .m) 1 256 (sym (c .before .before .is-outside2 .ensures) ∙ c .before .if2 .left) .1
 
 enum-told : tie.Need-enum-told
 enum-told c = search needs
@@ -51,7 +51,7 @@ file-length-requires c κs = inside (c .before .before .before .before .before .
 returns-3 : tie.Need-returns-3
 returns-3 c =
     let a = c .before .before .before .before .before .before .before .before .before .before .args in
-    let records = sym (c .before .before .before .before .records-verdict .ensures) ∙ ap verdictNumber (c .before .before .enum-told .given .1) in
+    let records = sym (c .before .before .before .before .all-records-verdict .ensures) ∙ ap verdictNumber (c .before .before .enum-told .given .1) in
     let short : a .room < fileLength (a .p .m) = omega (arith, c .before .file-length .ensures) in
     sym
     (of-room (a .p) (a .room) (sym (c .before .before .before .before .before .before .before .before .before .is-outside .ensures) ∙ c .before .before .before .before .before .before .before .before .if1 .left) (sym (c .before .before .before .before .before .before .before .is-outside2 .ensures) ∙ c .before .before .before .before .before .before .if2 .left) records
@@ -63,7 +63,7 @@ enum-known-r c = search needs
 returns-4 : tie.Need-returns-4
 returns-4 c =
     let a = c .before .before .before .before .before .before .before .before .before .before .args in
-    let records = sym (c .before .before .before .before .records-verdict .ensures) ∙ ap verdictNumber (c .before .before .enum-told .given .1) in
+    let records = sym (c .before .before .before .before .all-records-verdict .ensures) ∙ ap verdictNumber (c .before .before .enum-told .given .1) in
     let room : fileLength (a .p .m) ≤ a .room = omega (arith, c .before .file-length .ensures) in
     sym
     (of-room (a .p) (a .room) (sym (c .before .before .before .before .before .before .before .before .before .is-outside .ensures) ∙ c .before .before .before .before .before .before .before .before .if1 .left) (sym (c .before .before .before .before .before .before .before .is-outside2 .ensures) ∙ c .before .before .before .before .before .before .if2 .left) records
@@ -72,7 +72,7 @@ returns-4 c =
 returns-5 : tie.Need-returns-5
 returns-5 c =
     let a = c .before .before .before .before .before .before .before .before .before .args in
-    let record-refused = sym (c .before .before .before .records-verdict .ensures) ∙ ap verdictNumber (c .before .r .given .1) in
+    let record-refused = sym (c .before .before .before .all-records-verdict .ensures) ∙ ap verdictNumber (c .before .r .given .1) in
     sym (of-record (a .p) (a .room) (sym (c .before .before .before .before .before .before .before .before .is-outside .ensures) ∙ c .before .before .before .before .before .before .before .if1 .left) (sym (c .before .before .before .before .before .before .is-outside2 .ensures) ∙ c .before .before .before .before .before .if2 .left) _ record-refused)
 
 pub plan-verdict-spec : {M : Type 1} → statement M
@@ -85,8 +85,8 @@ plan-verdict-spec =
     cast-is-outside-2
     is-outside-requires-2
     returns-2
-    cast-records-verdict
-    records-verdict-requires
+    cast-all-records-verdict
+    all-records-verdict-requires
     enum-told
     cast-file-length
     file-length-requires

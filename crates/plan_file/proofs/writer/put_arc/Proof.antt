@@ -2,7 +2,7 @@
 use mathlib.Core.Path.{_∙_, ap}
 use mathlib.Core.List.{List}
 use Prim.Native.Nat.{ℕ, _+_}
-use Rattle.plan_file.specs.FieldUpdate.{putField}
+use Rattle.bits.specs.FieldUpdate.{putField}
 use Rattle.plan_file.specs.PlanUpdate.{putArc}
 use borrow.Author.Needs.{needs}
 use Rattle.plan_file.proofs.writer.put_arc.Statement.{statement}

@@ -4,7 +4,9 @@ use mathlib.Core.List.{List, _++_}
 use Prim.Native.Nat.{ℕ}
 use native.Mathlib.Omega.{arith}
 use lib.ListN.{replicate, drop}
-use Rattle.plan_file.specs.FileLaws.{bits-fit, put-plan-file}
+use Rattle.postman.specs.PlanFile.{fileBits}
+use Rattle.postman.specs.Laws.PlanFile.{bits-fit}
+use Rattle.plan_file.specs.Laws.PlanUpdate.{put-plan-file}
 use Rattle.plan_file.specs.PlanUpdate.{putHeader, putArcs}
 use Rattle.plan.specs.Records.{recordAt, planValue}
 use borrow.Author.Needs.{needs}
@@ -27,12 +29,14 @@ cast-put-header-2 : tie.Need-cast-put-header-2
 cast-put-header-2 c = search needs
 
 put-header-requires : tie.Need-put-header-requires
+unfolding fileBits
 put-header-requires c κs = omega (arith, c .before .before .before .clear .kept .0, c .before .before .before .before .before .before .before .before .pre, bits-fit (c .before .before .before .before .before .before .before .before .args .p .m))
 
 cast-put-arcs : tie.Need-cast-put-arcs
 cast-put-arcs c = search needs
 
 put-arcs-requires : tie.Need-put-arcs-requires
+unfolding fileBits
 put-arcs-requires c κs =
     let a = c .before .before .before .before .before .before .before .before .before .before .before .before in (
       a .pre .0,

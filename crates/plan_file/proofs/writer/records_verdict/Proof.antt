@@ -4,8 +4,8 @@ use Prim.Native.Nat.{_≤_, _-_}
 use native.Mathlib.Omega.{arith}
 use Rattle.postman.specs.PlanFile.{arcConditions}
 use Rattle.plan.specs.Records.{recordAt}
-use Rattle.plan_file.specs.Verdicts.{verdictNumber}
-use Rattle.plan_file.specs.FirstRefusal.{NoneBefore, none-before-first, none-before-next, refused-here, none-refused}
+use Rattle.refusal.specs.Verdict.{verdictNumber}
+use Rattle.postman.specs.Laws.Refusal.{NoneBefore, none-before-first, none-before-next, refused-here, none-refused}
 use borrow.Author.Needs.{needs}
 use Rattle.plan_file.proofs.writer.records_verdict.Statement.{statement}
 use Rattle.plan_file.proofs.writer.records_verdict.Tie as tie

@@ -6,10 +6,10 @@ use native.Mathlib.Omega.{arith}
 use lib.ListN.{drop}
 use Rattle.postman.specs.Refusal.{given}
 use Rattle.postman.specs.PlanFile.{fileLength, fileOf}
-use Rattle.plan_file.specs.Acceptance.{is-writable}
+use Rattle.postman.specs.Laws.Acceptance.{accepted-is-writable, few-arcs}
 use Rattle.plan.specs.Records.{planValue}
-use Rattle.plan_file.specs.Verdicts.{verdictNumber}
-use Rattle.plan_file.specs.Writing.{length-value, given-answer, given-bytes, refused-answer, refused-bytes}
+use Rattle.refusal.specs.Verdict.{verdictNumber}
+use Rattle.plan_file.specs.Laws.Writing.{length-value, given-answer, given-bytes, refused-answer, refused-bytes}
 use borrow.Author.Needs.{needs}
 use Rattle.plan_file.proofs.writer.write_plan.Statement.{statement}
 use Rattle.plan_file.proofs.writer.write_plan.Tie as tie
@@ -23,9 +23,9 @@ enum-told c = search needs
 put-plan-requires : tie.Need-put-plan-requires
 put-plan-requires c κs =
     let a = c .before .before .before .before .before .args in
-    let ok = is-writable (planValue (a .p)) _ (sym (c .before .before .before .plan-verdict .ensures) ∙ ap verdictNumber (c .before .enum-told .given .1)) in
+    let accepted = sym (c .before .before .before .plan-verdict .ensures) ∙ ap verdictNumber (c .before .enum-told .given .1) in
     let count = length-value (a .p) in
-    (omega (arith, ok .limits .arc-count), rw count at (ok .enough))
+    (omega (arith, few-arcs (planValue (a .p)) _ accepted), rw count at (accepted-is-writable (planValue (a .p)) _ accepted .enough))
 
 cast-file-length : tie.Need-cast-file-length
 cast-file-length c = search needs
@@ -33,8 +33,8 @@ cast-file-length c = search needs
 file-length-requires : tie.Need-file-length-requires
 file-length-requires c κs =
     let a = c .before .before .before .before .before .before .before .before .args in
-    let ok = is-writable (planValue (a .p)) _ (sym (c .before .before .before .before .before .before .plan-verdict .ensures) ∙ ap verdictNumber (c .before .before .before .before .enum-told .given .1)) in
-    omega (arith, ok .limits .arc-count, length-value (a .p))
+    let accepted = sym (c .before .before .before .before .before .before .plan-verdict .ensures) ∙ ap verdictNumber (c .before .before .before .before .enum-told .given .1) in
+    omega (arith, few-arcs (planValue (a .p)) _ accepted, length-value (a .p))
 
 enum-known-r : tie.Need-enum-known-r
 enum-known-r c = search needs

@@ -1,10 +1,10 @@
 -- A file that is refused refuses the call; one that is not gives its plan, and the rest of the conditions are looked at in their order.
 use mathlib.Core.Path.{sym, ap, _∙_, subst⁻¹}
-use mathlib.Core.Option.{some}
 use Rattle.postman.specs.Plan.{WellFormed}
 use Rattle.postman.specs.Laws.Acceptance.{file-accepted}
-use Rattle.plan_file.specs.Verdicts.{verdictNumber}
-use Rattle.planner.specs.Laws.Call.{refused-planned, file-refused, read-value, read-planned, is-call}
+use Rattle.refusal.specs.Verdict.{verdictNumber}
+use Rattle.plan_file.specs.Laws.Reading.{accepted-value}
+use Rattle.planner.specs.Laws.Call.{refused-planned, file-refused, read-planned, is-call}
 use borrow.Author.Needs.{needs}
 use Rattle.planner.proofs.call.plan_call.Statement.{statement}
 use Rattle.planner.proofs.call.plan_call.Tie as tie
@@ -14,9 +14,6 @@ read-plan-requires c κs = search needs
 
 enum-known-verdict : tie.Need-enum-known-verdict
 enum-known-verdict c = search needs
-
-file-refusal-requires : tie.Need-file-refusal-requires
-file-refusal-requires c κs = search needs
 
 refused-requires : tie.Need-refused-requires
 refused-requires c κs = search needs
@@ -28,13 +25,13 @@ plan-onto-requires : tie.Need-plan-onto-requires
 plan-onto-requires c κs =
     let r = c .before .before .before .before .read-plan in
     let e = sym (r .ensures .verdict) ∙ ap verdictNumber (c .before .enum-told .given .1) in
-    subst⁻¹ WellFormed (read-value _ (r .result) (r .ensures) e) (file-accepted _ e)
+    subst⁻¹ WellFormed (accepted-value _ (r .result) (r .ensures) e) (file-accepted _ e)
 
 returns : tie.Need-returns
 returns c =
-    let r = c .before .before .before .before .before .before .read-plan in
-    let v = sym (r .ensures .verdict) ∙ ap verdictNumber (c .before .before .before .verdict .given .1) in
-    is-call _ _ _ _ _ (refused-planned _ _ _ _ _ _ (c .refused .ensures) (file-refused _ _ _ _ v ∙ ap some (sym (c .before .file-refusal .ensures))))
+    let r = c .before .before .before .before .before .read-plan in
+    let v = sym (r .ensures .verdict) ∙ ap verdictNumber (c .before .before .verdict .given .1) in
+    is-call _ _ _ _ _ (refused-planned _ _ _ _ _ _ (c .refused .ensures) (file-refused _ _ _ _ v))
 
 same-length : tie.Need-same-length
 same-length c = search needs
@@ -51,7 +48,6 @@ plan-call-spec =
     (tie.spec
     read-plan-requires
     enum-known-verdict
-    file-refusal-requires
     refused-requires
     enum-told
     plan-onto-requires

@@ -1,6 +1,6 @@
 -- Where the network refuses, the answer is the refusal's; where it does not, it is `answer`'s.
 use mathlib.Core.Path.{refl, sym, ap, _∙_}
-use Rattle.planner.specs.Refusals.{verdictNumber}
+use Rattle.refusal.specs.Verdict.{verdictNumber}
 use Rattle.planner.specs.Laws.Call.{refused-planned, planned-as}
 use borrow.Author.Needs.{needs}
 use Rattle.planner.proofs.call.plan_measured.Statement.{statement}

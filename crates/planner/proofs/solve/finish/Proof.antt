@@ -15,7 +15,7 @@ use Rattle.postman.specs.PlanCall.{summary, root}
 use Rattle.plan.specs.Records.{planValue}
 use Rattle.planner.specs.Contract.{summaryOf, multipliersOf}
 use Rattle.planner.specs.declared.Planned.{Planned}
-use Rattle.planner.specs.declared.Verdict.the-variants.{Accepted}
+use Rattle.refusal.specs.declared.Verdict.the-variants.{Accepted}
 use borrow.Author.Needs.{needs, length-unmapped}
 use Rattle.planner.proofs.solve.finish.Statement.{statement}
 use Rattle.planner.proofs.solve.finish.Tie as tie

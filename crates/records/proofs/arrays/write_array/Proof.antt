@@ -50,7 +50,7 @@ use Rattle.postman.specs.PlanFile.{writeAnswer, bytesAfter}
 use Rattle.plan.specs.declared.Arc.{Arc}
 use Rattle.plan.proofs.Arc as T
 use Rattle.plan_file.specs.declared.Written.{Written}
-use Rattle.plan_file.specs.Verdicts.{writtenAnswer}
+use Rattle.plan_file.specs.Writing.{writtenAnswer}
 use Rattle.plan_file.proofs.Written as S
 use Rattle.plan_file.proofs.Written.Laws as S′
 use Rattle.records.specs.Writing.{listPlan}

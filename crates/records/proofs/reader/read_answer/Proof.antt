@@ -4,12 +4,13 @@ use mathlib.Core.List.{List}
 use Prim.Native.Nat.{ℕ}
 use native.Mathlib.Omega.{arith}
 use Rattle.postman.specs.BitField.{fieldAt}
+use Rattle.postman.specs.Refusal.{given}
 use Rattle.postman.specs.PlanFile.{vertexCount, arcCount, readRefusal}
-use Rattle.plan_file.specs.Acceptance.{is-accepted}
-use Rattle.plan_file.specs.FieldLaws.{field-lt}
-use Rattle.plan_file.specs.Verdicts.{verdictNumber}
-use Rattle.records.specs.ReadingLaws.{too-short, long-enough, answer-refused, answer-given}
-use Rattle.plan_file.specs.ReadLaws.{refusal-of-file}
+use Rattle.postman.specs.Laws.Acceptance.{accepted-is-file, has-header}
+use Rattle.postman.specs.Laws.BitField.{field-lt}
+use Rattle.postman.specs.Laws.Refusal.{answer-refused, answer-given}
+use Rattle.refusal.specs.Verdict.{verdictNumber}
+use Rattle.records.specs.Laws.Reading.{refusal-of-file, too-short, long-enough}
 use borrow.Author.Needs.{needs}
 use Rattle.records.proofs.reader.read_answer.Statement.{statement}
 use Rattle.records.proofs.reader.read_answer.Tie as tie
@@ -31,13 +32,13 @@ enum-told c = search needs
 
 take-at-requires : tie.Need-take-at-requires
 take-at-requires c κs =
-    let ok = is-accepted (c .before .before .before .before .args .bytes .now) (sym (c .before .before .file-verdict .ensures) ∙ ap verdictNumber (c .enum-told .given .1)) in
-    (omega arith, omega (arith, ok .header), omega arith)
+    let ok = accepted-is-file (c .before .before .before .before .args .bytes .now) (sym (c .before .before .file-verdict .ensures) ∙ ap verdictNumber (c .enum-told .given .1)) in
+    (omega arith, omega (arith, has-header _ ok), omega arith)
 
 take-at-requires-2 : tie.Need-take-at-requires-2
 take-at-requires-2 c κs =
-    let ok = is-accepted (c .before .before .before .before .before .args .bytes .now) (sym (c .before .before .before .file-verdict .ensures) ∙ ap verdictNumber (c .before .enum-told .given .1)) in
-    (omega arith, omega (arith, ok .header), omega arith)
+    let ok = accepted-is-file (c .before .before .before .before .before .args .bytes .now) (sym (c .before .before .before .file-verdict .ensures) ∙ ap verdictNumber (c .before .enum-told .given .1)) in
+    (omega arith, omega (arith, has-header _ ok), omega arith)
 
 cast-if1 : tie.Need-cast-if1
 cast-if1 c = search needs
@@ -46,8 +47,8 @@ returns : tie.Need-returns
 returns c =
     let a = c .before .before .before .before .before .before .before .args in
     let m = arc-count (a .bytes .now) (c .before .before .take-at .result .at) (c .before .take-at2 .result .field) (c .before .before .take-at .ensures .1) (c .before .take-at2 .ensures .0) in
-    answer-refused (readRefusal (a .bytes .now) (a .room)) (vertexCount (a .bytes .now), arcCount (a .bytes .now)) 8
-    (too-short (a .bytes .now) (a .room) (sym (c .before .before .before .before .before .file-verdict .ensures) ∙ ap verdictNumber (c .before .before .before .enum-told .given .1)) (omega (arith, m, c .if1 .taken)))
+    sym (answer-refused (readRefusal (a .bytes .now) (a .room)) (vertexCount (a .bytes .now), arcCount (a .bytes .now)) 8
+    (too-short (a .bytes .now) (a .room) (sym (c .before .before .before .before .before .file-verdict .ensures) ∙ ap verdictNumber (c .before .before .before .enum-told .given .1)) (omega (arith, m, c .if1 .taken))))
 
 cast-t13 : tie.Need-cast-t13
 cast-t13 c = omega (arith, field-lt (c .before .before .before .before .before .before .before .args .bytes .now) 4 7)
@@ -63,14 +64,14 @@ returns-2 c =
     let a = c .before .before .before .before .before .before .before .args in
     let n = vertex-count (a .bytes .now) (c .before .before .take-at .result .field) (c .before .before .take-at .ensures .0) in
     let m = arc-count (a .bytes .now) (c .before .before .take-at .result .at) (c .before .take-at2 .result .field) (c .before .before .take-at .ensures .1) (c .before .take-at2 .ensures .0) in
-    answer-given (readRefusal (a .bytes .now) (a .room)) (vertexCount (a .bytes .now), arcCount (a .bytes .now)) _
-    (long-enough (a .bytes .now) (a .room) (sym (c .before .before .before .before .before .file-verdict .ensures) ∙ ap verdictNumber (c .before .before .before .enum-told .given .1)) (omega (arith, m, c .if1 .left))) (λ i. (n i, m i))
+    ap given (λ i. (n i, m i)) ∙ sym (answer-given (readRefusal (a .bytes .now) (a .room)) (vertexCount (a .bytes .now), arcCount (a .bytes .now))
+    (long-enough (a .bytes .now) (a .room) (sym (c .before .before .before .before .before .file-verdict .ensures) ∙ ap verdictNumber (c .before .before .before .enum-told .given .1)) (omega (arith, m, c .if1 .left))))
 
 returns-3 : tie.Need-returns-3
 returns-3 c =
     let a = c .before .before .before .before .before .args in
-    answer-refused (readRefusal (a .bytes .now) (a .room)) (vertexCount (a .bytes .now), arcCount (a .bytes .now)) _
-    (refusal-of-file (a .bytes .now) (a .room) _ (sym (c .before .before .before .file-verdict .ensures) ∙ ap verdictNumber (c .before .r .given .1)))
+    sym (answer-refused (readRefusal (a .bytes .now) (a .room)) (vertexCount (a .bytes .now), arcCount (a .bytes .now)) _
+    (refusal-of-file (a .bytes .now) (a .room) _ (sym (c .before .before .before .file-verdict .ensures) ∙ ap verdictNumber (c .before .r .given .1))))
 
 pub read-answer-spec : {M : Type 1} → statement M
 read-answer-spec =

@@ -45,7 +45,7 @@ use Rattle.plan.proofs.Arc as T
 use Rattle.records.specs.declared.reader.Read.{Read}
 use Rattle.records.specs.Stored.{storedTo}
 use Rattle.records.specs.Reading.{arcsRead}
-use Rattle.records.specs.ReadingLaws.{Answers, Room as Enough, room-for, answers, after}
+use Rattle.records.specs.Laws.Reading.{Answers, Room as Enough, room-for, answers, after}
 use Rattle.records.proofs.reader.Read as S
 use Rattle.records.proofs.reader.Read.Laws as S′
 use Rattle.records.proofs.reader.read_answer as ask

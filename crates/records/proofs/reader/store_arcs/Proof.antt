@@ -2,6 +2,7 @@
 -- which the proof knows only the contract, takes one record out of the row and stores to it. The loop ends since fewer records are left after each turn.
 use mathlib.Core.Path.{_≡_, refl, sym, ap, subst}
 use Prim.Native.Nat.{ℕ, suc, _+_, _-_, _*_, _<_, _≤_, _^_}
+use native.Mathlib.Numerals.{add-one}
 use native.Mathlib.Omega.{arith}
 use mathlib.Core.Bool.{Bool}
 use mathlib.Core.List.{[], _∷_, List}
@@ -49,7 +50,8 @@ use Rattle.plan.specs.declared.Arc.{Arc}
 use Rattle.plan.specs.Records.{recordOf, zeroRecord}
 use Rattle.plan.proofs.Arc as T
 use Rattle.plan.proofs.Arc.Laws as T′
-use Rattle.records.specs.Stored.{storedTo, length-stored}
+use Rattle.records.specs.Stored.{storedTo}
+use Rattle.records.specs.Laws.Stored.{length-stored}
 use Rattle.records.proofs.Counts.{counts}
 use Rattle.records.proofs.Rows.{arc-vals, arc-tells, arc-typed}
 use Rattle.plan_file.proofs.reader.read_arc as callee
@@ -211,7 +213,7 @@ module _ {M : Type 1} (𝓤 : URA M) (H : Heap 𝓤) (A : Atoms 𝓤) (W : Given
         move ! (1 ∷ []) $ drop ! $ move ! (0 ∷ 2 ∷ 1 ∷ []) $ elem-put ! T.the-row fullShare (at k) k (new k) (u ∷ []) b o inside $
         -- [the row; the token; what the file owns; _4; _5; _6; _7; _8; …]
         assigns-last ! (bin ! (load ! (from ! (stop !)) (look ! 3 refl)) (lit ! tt) (record { fits = next-fits })) (from ! (stop !)) (store ! 3 refl (tt, record { fits = next-fits })) $
-        forget ! 4 refl $ forget ! 5 refl $ forget ! 6 refl $ forget ! 7 refl $ rewrite ! 3 (λ (j : ℕ). ‵ (fat fullShare word l₄ 0 (vint w64 j))) one-more refl $
+        forget ! 4 refl $ forget ! 5 refl $ forget ! 6 refl $ forget ! 7 refl $ rewrite ! 3 (λ (j : ℕ). ‵ (fat fullShare word l₄ 0 (vint w64 j))) (add-one k) refl $
         move ! (1 ∷ []) $ split ! $
         keep ! (2 ∷ 4 ∷ 5 ∷ 6 ∷ 7 ∷ 8 ∷ 9 ∷ 10 ∷ 11 ∷ 12 ∷ 13 ∷ 14 ∷ 15 ∷ 0 ∷ 3 ∷ 16 ∷ 17 ∷ 18 ∷ 19 ∷ 20 ∷ 21 ∷ 22 ∷ 23 ∷ 24 ∷ []) $ by ! next)))))
       where
@@ -223,9 +225,6 @@ module _ {M : Type 1} (𝓤 : URA M) (H : Heap 𝓤) (A : Atoms 𝓤) (W : Given
 
         next-fits : k + 1 < 2 ^ 64
         next-fits = omega (arith, small, m-fits)
-
-        one-more : k + 1 ≡ suc k
-        one-more = omega arith
 
     -- the turn that leaves the loop, and the rest of the body
     ends : (X : SProp 𝓤) → ent 𝓤 (⋆ 𝓤 H A (At m)) (Wp 𝓤 H C Λ En Mir.turn-1 (afterTurn 𝓤 H X Left))

@@ -1,4 +1,4 @@
--- `reread_array` meets its contract: the bytes that were written are the list's file, and reading that gives the list back (`specs/RoundTrip`).
+-- `reread_array` meets its contract: the bytes that were written are the list's file, and reading that gives the list back (`Laws.Reread`).
 use mathlib.Core.Path.{_≡_, refl, sym, ap, _∙_}
 use Prim.Native.Nat.{ℕ, _<_}
 use native.Mathlib.Omega.{arith}
@@ -6,10 +6,10 @@ use mathlib.Core.List.{List}
 use lib.ListN.{length, getD, take, length-take}
 use lib.Seq.{length-take-le, getD-take}
 use Rattle.plan.specs.declared.Arc.{Arc}
-use Rattle.plan_file.specs.Verdicts.{writtenAnswer}
-use Rattle.plan_file.specs.RereadLaws.{written-file}
+use Rattle.plan_file.specs.Writing.{writtenAnswer}
+use Rattle.plan_file.specs.Laws.Reread.{written-file}
 use Rattle.records.specs.Writing.{listPlan}
-use Rattle.records.specs.RoundTrip.{reread-file, reread-refused}
+use Rattle.records.specs.Laws.Reread.{reread-file, reread-refused}
 use Rattle.records.proofs.Rows.{arcs-cost}
 use borrow.Author.Needs.{needs}
 use Rattle.records.proofs.round_trip.reread_array.Statement.{statement}

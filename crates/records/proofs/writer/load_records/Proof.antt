@@ -2,6 +2,7 @@
 -- one record of the list and stores it in the array. After the loop the row is the array again, and the list is shut.
 use mathlib.Core.Path.{_≡_, refl, sym, ap, subst, _∙_}
 use Prim.Native.Nat.{ℕ, suc, _+_, _*_, _<_, _≤_, _^_}
+use native.Mathlib.Numerals.{add-one}
 use native.Mathlib.Omega.{arith}
 use mathlib.Core.Bool.{Bool}
 use mathlib.Core.List.{[], _∷_, List}
@@ -47,9 +48,10 @@ use Rattle.plan.specs.declared.Arc.{Arc}
 use Rattle.plan.specs.Records.{zeroRecord}
 use Rattle.plan.proofs.Arc as T
 use Rattle.plan.proofs.Arc.Laws as T′
-use Rattle.records.specs.Stored.{storedTo, length-stored}
+use Rattle.records.specs.Stored.{storedTo}
+use Rattle.records.specs.Laws.Stored.{length-stored}
 use Rattle.records.specs.Writing.{atMost, loaded}
-use Rattle.records.specs.WritingLaws.{at-most-le, at-most-fits}
+use Rattle.records.specs.Laws.Writing.{at-most-le, at-most-fits}
 use Rattle.records.proofs.Counts.{counts}
 use Rattle.records.proofs.Rows.{arc-vals, arc-tells, arc-typed, arc-makes, arc-copy, Arcs, arcs-ty, arcs-val, arcs-typed, to-row, of-row}
 use Rattle.records.proofs.writer.at_most as least
@@ -191,7 +193,7 @@ module _ {M : Type 1} (𝓤 : URA M) (H : Heap 𝓤) (A : Atoms 𝓤) (W : Given
           move ! (1 ∷ []) $ drop ! $ owned ! T.the-row (Is T.the-row) (arc-makes 𝓤 H A W) (new k) _ g $ move ! (1 ∷ 0 ∷ []) $ elem-put ! T.the-row fullShare (at k) k (new k) (arc-vals (new k)) l₃ 0 in-array $
           assigns-last ! (bin ! (load ! (from ! (stop !)) (look ! 2 refl)) (lit ! tt) (record { fits = next-fits })) (from ! (stop !)) (store ! 2 refl (tt, record { fits = next-fits })) $
           forget ! 3 refl $ forget ! 4 refl $ forget ! 5 refl $ forget ! 6 refl $ forget ! 7 refl $ forget ! 8 refl $ forget ! 9 refl $
-          rewrite ! 2 (λ (j : ℕ). ‵ (fat fullShare word l₄ 0 (vint w64 j))) one-more refl $
+          rewrite ! 2 (λ (j : ℕ). ‵ (fat fullShare word l₄ 0 (vint w64 j))) (add-one k) refl $
           move ! (0 ∷ 2 ∷ 3 ∷ 4 ∷ 5 ∷ 6 ∷ 7 ∷ 8 ∷ 9 ∷ 1 ∷ []) $ by ! next))
         where
           in-list : k < length ys
@@ -205,9 +207,6 @@ module _ {M : Type 1} (𝓤 : URA M) (H : Heap 𝓤) (A : Atoms 𝓤) (W : Given
 
           next-fits : k + 1 < 2 ^ 64
           next-fits = omega (arith, small, m-fits)
-
-          one-more : k + 1 ≡ suc k
-          one-more = omega arith
 
       -- the turn that leaves the loop, and the rest of the body
       ends : (X : SProp 𝓤) → ent 𝓤 (⋆ 𝓤 H A (At m)) (Wp 𝓤 H C Λ En Mir.turn-1 (afterTurn 𝓤 H X Left))

@@ -1,7 +1,7 @@
 -- `write_arcs` meets its contract: the plan by value is made, and `write_plan` writes it.
 use mathlib.Core.Path.{sym}
 use native.Mathlib.Omega.{arith}
-use Rattle.records.specs.WritingLaws.{at-most-le}
+use Rattle.records.specs.Laws.Writing.{at-most-le}
 use borrow.Author.Needs.{needs}
 use Rattle.records.proofs.writer.write_arcs.Statement.{statement}
 use Rattle.records.proofs.writer.write_arcs.Tie as tie

@@ -42,11 +42,11 @@ use Rattle.plan.specs.declared.Arc.{Arc}
 use Rattle.plan.specs.Records.{planValue}
 use Rattle.plan.proofs.Arc as T
 use Rattle.plan_file.specs.declared.Written.{Written}
-use Rattle.plan_file.specs.Verdicts.{writtenAnswer}
+use Rattle.plan_file.specs.Writing.{writtenAnswer}
 use Rattle.plan_file.proofs.Written as S
 use Rattle.plan_file.proofs.Written.Laws as S′
 use Rattle.records.specs.Writing.{loaded, countedPlan}
-use Rattle.records.specs.WritingLaws.{same-answer, same-bytes}
+use Rattle.records.specs.Laws.Writing.{same-answer, same-bytes}
 use Rattle.records.proofs.Rows.{Arcs, arcs-typed}
 use Rattle.records.proofs.writer.load_records as load-records
 use Rattle.records.proofs.writer.load_records.Symbol as load-def

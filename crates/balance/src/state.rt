@@ -1,0 +1,74 @@
+// The state of a balancing, and arcs added to it.
+use crate::augment::augment_along;
+use crate::augment::raise_by;
+use crate::entries::monus;
+use crate::search::search_towards;
+use integers::wide;
+ghost use mathlib.Core.Path.{_≡_};
+ghost use mathlib.Core.List.{List·Memᴰ};
+ghost use Prim.Native.Nat.{_+_, _<_, _≤_};
+ghost use lib.ListN.{length};
+ghost use Rattle.balance.specs.Step.{cell, empty as emptyState, add as addState, addAll as addAllStates, arcsOf};
+ghost use Rattle.balance.specs.Invariant.{Metric, Certified, AllIn, limit};
+ghost use Rattle.balance.specs.Records.{stateOf};
+
+// The amounts, at i * 64 + j what is sent from vertex i to vertex j, and the potentials that certify them, the amounts' cost, and how many arcs were counted.
+pub struct Balance {
+    pub amounts: [u16; 4096],
+    pub potentials: [u64; 64],
+    pub cost: u64,
+    pub count: u16,
+}
+
+// The state in which no arc is counted.
+pub fn empty() -> Balance
+    ensures { λ r. ⌜ stateOf r ≡ emptyState ⌝ }
+{
+    Balance {
+        amounts: [0; 4096],
+        potentials: [0; 64],
+        cost: 0,
+        count: 0,
+    }
+}
+
+// One arc more: one unit more is sent from its head to its tail, along a cheapest residual path.
+pub fn add(s: Balance, d: &[[u32; 64]; 64], vs: &[u8], tail: u8, head: u8) -> Balance
+    requires { ⌜ Metric (cell (now d)) (now vs) × Certified (cell (now d)) (now vs) (stateOf s) × (s .count < limit) × List·Memᴰ tail (now vs) × List·Memᴰ head (now vs) ⌝ }
+    ensures { λ r. ⌜ stateOf r ≡ addState (cell (now (d .entry))) (now (vs .entry)) (stateOf s) tail head ⌝ }
+{
+    let found = search_towards(d, &s.amounts, &s.potentials, vs, tail, head, false);
+    let x = found.distance;
+    let h = wide(head);
+    let t = wide(tail);
+    let most = x[h];
+    let u = raise_by(&x, most, &s.potentials, vs);
+    let next = found.next;
+    let before = s.amounts;
+    let f = augment_along(before, &next, head, tail);
+    let sum = s.cost + u[h];
+    let cost = monus(sum, u[t]);
+    Balance {
+        amounts: f,
+        potentials: u,
+        cost: cost,
+        count: s.count + 1,
+    }
+}
+
+// Arcs added one by one, in their order.
+pub fn add_all(s: Balance, d: &[[u32; 64]; 64], vs: &[u8], tails: &[u8], heads: &[u8]) -> Balance
+    requires { ⌜ Metric (cell (now d)) (now vs) × Certified (cell (now d)) (now vs) (stateOf s) × (length (now tails) ≡ length (now heads)) × (s .count + length (now tails) ≤ limit) × AllIn (now vs) (now tails) × AllIn (now vs) (now heads) ⌝ }
+    ensures { λ r. ⌜ (stateOf r ≡ addAllStates (cell (now (d .entry))) (now (vs .entry)) (stateOf s) (arcsOf (now (tails .entry)) (now (heads .entry)))) × Certified (cell (now (d .entry))) (now (vs .entry)) (stateOf r) × (r .count ≡ s .count + length (now (tails .entry))) ⌝ }
+{
+    let mut b = s;
+    let mut k: usize = 0;
+    while k < tails.len() {
+        let t = tails[k];
+        let h = heads[k];
+        let more = add(b, d, vs, t, h);
+        b = more;
+        k += 1;
+    }
+    b
+}

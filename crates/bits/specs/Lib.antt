@@ -1,0 +1,4 @@
+-- What the contracts cite.
+pub mod FieldUpdate
+-- What is proved about it.
+pub mod Laws

@@ -1,0 +1,76 @@
+// The places of the legs: a required arc has its number, another leg the arcs of a shortest path.
+use crate::widen::wide;
+use crate::widen::wide8;
+use shortest::path::column_to;
+use shortest::path::path;
+ghost use mathlib.Core.Path.{_≡_};
+ghost use Prim.Native.Nat.{ℕ, _+_, _<_, _≤_};
+ghost use lib.ListN.{length, getD};
+ghost use Rattle.postman.specs.Plan.{WellFormed};
+ghost use Rattle.plan.specs.Rows.{planIn};
+ghost use Rattle.shortest.specs.ShortestPath.{shortestPath};
+ghost use Rattle.shortest.specs.Contracts.{AreRows, overwrite};
+ghost use Rattle.circuit.specs.Tour.{legPlaces, placesOf, written, HavePaths};
+
+// Writes leg e into the places from `at` on, and answers the place after it.
+fn write_leg(
+    arcs: &[[u16; 4]],
+    table: &[[u32; 64]],
+    numbers: &[u16],
+    tails: &[u8],
+    heads: &[u8],
+    e: usize,
+    places: &mut [u16],
+    at: usize,
+) -> usize
+    requires { ⌜ WellFormed (planIn (length (now table)) (now arcs)) × AreRows (planIn (length (now table)) (now arcs)) (now table) ⌝ }
+    requires { ⌜ (e < length (now tails)) × (length (now heads) ≡ length (now tails)) × HavePaths (planIn (length (now table)) (now arcs)) (now numbers) (now tails) (now heads) ⌝ }
+    requires { ⌜ at + length (legPlaces (shortestPath (planIn (length (now table)) (now arcs))) (now numbers) (now tails) (now heads) e) ≤ length (now places) ⌝ }
+    ensures { λ r. ⌜ now (places .exit) ≡ overwrite (now (places .entry)) at (legPlaces (shortestPath (planIn (length (now (table .entry))) (now (arcs .entry)))) (now (numbers .entry)) (now (tails .entry)) (now (heads .entry)) e) ⌝ }
+    ensures { λ r. ⌜ r ≡ at + length (legPlaces (shortestPath (planIn (length (now (table .entry))) (now (arcs .entry)))) (now (numbers .entry)) (now (tails .entry)) (now (heads .entry)) e) ⌝ }
+{
+    if e < numbers.len() {
+        places[at] = numbers[e];
+        return at + 1;
+    }
+    let i = wide8(tails[e]);
+    let j = wide8(heads[e]);
+    let column = column_to(table, j);
+    let n = table.len();
+    path(arcs, &column[..n], i, j, places, at)
+}
+
+// Writes the legs in their order from the start of the places on, and answers how many places that are.
+pub(crate) fn write(
+    arcs: &[[u16; 4]],
+    table: &[[u32; 64]],
+    numbers: &[u16],
+    tails: &[u8],
+    heads: &[u8],
+    order: &[u16],
+    places: &mut [u16],
+) -> usize
+    requires { ⌜ WellFormed (planIn (length (now table)) (now arcs)) × AreRows (planIn (length (now table)) (now arcs)) (now table) ⌝ }
+    requires { ⌜ ((x : ℕ) → x < length (now order) → getD (now order) x 0 < length (now tails)) ⌝ }
+    requires { ⌜ (length (now heads) ≡ length (now tails)) × HavePaths (planIn (length (now table)) (now arcs)) (now numbers) (now tails) (now heads) ⌝ }
+    requires { ⌜ length (placesOf (shortestPath (planIn (length (now table)) (now arcs))) (now numbers) (now tails) (now heads) (now order)) ≤ length (now places) ⌝ }
+    ensures { λ r. ⌜ now (places .exit) ≡ written (placesOf (shortestPath (planIn (length (now (table .entry))) (now (arcs .entry)))) (now (numbers .entry)) (now (tails .entry)) (now (heads .entry)) (now (order .entry))) (now (places .entry)) ⌝ }
+    ensures { λ r. ⌜ r ≡ length (placesOf (shortestPath (planIn (length (now (table .entry))) (now (arcs .entry)))) (now (numbers .entry)) (now (tails .entry)) (now (heads .entry)) (now (order .entry))) ⌝ }
+{
+    let mut at: usize = 0;
+    let mut x: usize = 0;
+    while x < order.len() {
+        at = write_leg(
+            arcs,
+            table,
+            numbers,
+            tails,
+            heads,
+            wide(order[x]),
+            places,
+            at,
+        );
+        x += 1;
+    }
+    at
+}

@@ -1,0 +1,52 @@
+-- Each part by what its function ensures, and by the laws that carry thinning and "cut off" from the table to the plan.
+use mathlib.Core.Path.{_∙_}
+use Rattle.plan.specs.Records.{planValue}
+use Rattle.network.specs.Laws.CutOff.{cut-off}
+use Rattle.network.specs.Laws.LinkPair.{keeps-pair}
+use borrow.Author.Needs.{needs}
+use Rattle.network.proofs.network.network_of.Statement.{statement}
+use Rattle.network.proofs.network.network_of.Tie as tie
+
+required-requires : tie.Need-required-requires
+required-requires c κs = search needs
+
+components-of-requires : tie.Need-components-of-requires
+components-of-requires c κs = search needs
+
+thin-requires : tie.Need-thin-requires
+thin-requires c κs = search needs
+
+imbalance-requires : tie.Need-imbalance-requires
+imbalance-requires c κs = search needs
+
+required-cost-requires : tie.Need-required-cost-requires
+required-cost-requires c κs = search needs
+
+is-cut-off-requires : tie.Need-is-cut-off-requires
+is-cut-off-requires c κs = search needs
+
+returns : tie.Need-returns
+returns c =
+    let s = c .before .before .before .before .before .before .before in
+    let p = planValue (s .args .plan) in
+    let r = c .before .before .before .before .before .before .required .ensures in
+    record {
+      required = r;
+      components = c .before .before .before .before .before .components-of .ensures;
+      links = λ i j hi hj. c .before .before .before .thin .ensures i j hi hj ∙ keeps-pair p (s .pre .0) (s .args .table .now) _ (s .pre .1) r i j hi hj;
+      imbalance = c .before .before .imbalance .ensures;
+      required-cost = c .before .required-cost .ensures;
+      cut-off = c .is-cut-off .ensures ∙ cut-off p (s .pre .0) (s .args .table .now) _ (s .pre .1) r;
+    }
+
+pub network-of-spec : {M : Type 1} → statement M
+network-of-spec =
+    tie.close
+    (tie.spec
+    required-requires
+    components-of-requires
+    thin-requires
+    imbalance-requires
+    required-cost-requires
+    is-cut-off-requires
+    returns)

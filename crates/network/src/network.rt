@@ -1,0 +1,48 @@
+// The network of a plan.
+use crate::components::components_of;
+use crate::cut_off::is_cut_off;
+use crate::required_sum::imbalance;
+use crate::required_sum::required_cost;
+use crate::required_vertex::required;
+use crate::thinning::thin;
+use plan::Plan;
+ghost use Rattle.postman.specs.Plan.{WellFormed};
+ghost use Rattle.plan.specs.Records.{planValue};
+ghost use Rattle.shortest.specs.Contracts.{IsTable};
+ghost use Rattle.network.specs.Contracts.{IsNetwork};
+
+pub struct Network {
+    // whether each vertex is required
+    pub required: [bool; 64],
+    // the component of each vertex, and the number of components
+    pub component: [u8; 64],
+    pub components: u8,
+    // whether the pair (i, j), at 64 i + j, is a link
+    pub links: [bool; 4096],
+    // D
+    pub imbalance: [i64; 64],
+    // R
+    pub required_cost: u64,
+    // whether some required vertex has no path to another
+    pub cut_off: bool,
+}
+
+pub fn network_of(plan: Plan, table: &[[u32; 64]; 64]) -> Network
+    requires { ⌜ WellFormed (planValue plan) × IsTable (planValue plan) (now table) ⌝ }
+    ensures { λ r. ⌜ IsNetwork (planValue plan) r ⌝ }
+{
+    let required = required(plan);
+    let parts = components_of(plan, required);
+    let component = parts.of;
+    let links = thin(table, required);
+    let imbalance = imbalance(plan);
+    Network {
+        required: required,
+        component: component,
+        components: parts.count,
+        links: links,
+        imbalance: imbalance,
+        required_cost: required_cost(plan),
+        cut_off: is_cut_off(table, required),
+    }
+}

@@ -1,0 +1,4 @@
+-- What is proved about the definitions.
+pub mod Prefix
+pub mod Records
+pub mod Rows

@@ -1,0 +1,8 @@
+-- What is proved about the definitions.
+pub mod Packed
+pub mod PlanUpdate
+pub mod Arcs
+pub mod Records
+pub mod Reading
+pub mod Writing
+pub mod Reread

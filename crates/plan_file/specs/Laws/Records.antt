@@ -1,0 +1,69 @@
+-- Records filled one by one, and read back as arcs.
+use mathlib.Core.Path.{_≡_, sym, ap, _∙_}
+use mathlib.Core.List.{List, [], _∷_, _++_, map, map-append}
+use Prim.Native.Nat.{ℕ, suc, _+_, _-_, _<_, _≤_}
+use native.Mathlib.Omega.{arith}
+use lib.ListN.{length, getD, set, replicate, length-map, length-append, length-replicate, List·getD-append, List·getD-map}
+use lib.Seq.{set-at, append-snoc, ext-getD}
+use Rattle.postman.specs.Lists.{below}
+use Rattle.postman.specs.Plan.{Arc, Plan}
+use Rattle.plan.specs.declared.Arc.{Arc as ArcRecord}
+use Rattle.plan.specs.Records.{arcValue, recordOf, recordAt, recordsOf, zeroRecord, planValue, planRecord}
+use Rattle.postman.specs.Laws.Below.{length-map-below, map-below-more, getD-map-below}
+
+-- One record more, in the place of the first zeros.
+pub records-more
+    : (f : ℕ → Arc) (k : ℕ) → k < 256 → set (recordsOf (map f (below k))) k (recordOf (f k)) ≡ recordsOf (map f (below (k + 1)))
+unfolding recordsOf
+records-more f k h =
+    let done = map recordOf (map f (below k)) in
+    let n : length (map f (below k)) ≡ k = length-map-below f k in
+    let n′ : length (map f (below (k + 1))) ≡ k + 1 = length-map-below f (k + 1) in
+    let e : 256 - length (map f (below k)) ≡ suc (256 - (k + 1)) = omega arith in
+    let long : length done ≡ k = length-map (map f (below k)) recordOf ∙ n in
+    ap (λ (z : ℕ). set (done ++ replicate z zeroRecord) k (recordOf (f k))) e
+    ∙ set-at done zeroRecord (replicate (256 - (k + 1)) zeroRecord) (recordOf (f k)) k long
+    ∙ sym
+    (ap (λ (z : ℕ). map recordOf (map f (below (k + 1))) ++ replicate (256 - z) zeroRecord) n′
+    ∙ ap (λ (l : List Arc). map recordOf l ++ replicate (256 - (k + 1)) zeroRecord) (map-below-more f k)
+    ∙ ap (λ (l : List ArcRecord). l ++ replicate (256 - (k + 1)) zeroRecord) (map-append recordOf (map f (below k)) (f k ∷ []))
+    ∙ append-snoc done (recordOf (f k)) (replicate (256 - (k + 1)) zeroRecord))
+
+-- There are 256 records.
+pub length-records : (arcs : List Arc) → length arcs ≤ 256 → length (recordsOf arcs) ≡ 256
+unfolding recordsOf
+length-records arcs h =
+    length-append (map recordOf arcs) (replicate (256 - length arcs) zeroRecord)
+    ∙ omega (arith, length-map arcs recordOf, length-replicate (256 - length arcs) zeroRecord)
+
+-- Record k of the arcs is arc k.
+record-at : (arcs : List Arc) (k : ℕ) → k < length arcs → recordAt (recordsOf arcs) k ≡ getD arcs k (arcValue zeroRecord)
+unfolding recordsOf
+record-at arcs k h =
+    let l : k < length (map recordOf arcs) = rw (length-map arcs recordOf) h in
+    ap arcValue (List·getD-append (map recordOf arcs) (replicate (256 - length arcs) zeroRecord) zeroRecord k l ∙ List·getD-map recordOf arcs k (arcValue zeroRecord))
+
+-- A plan by value stands for the plan that it was made from.
+pub value-record : (p : Plan) → planValue (planRecord p) ≡ p
+unfolding planValue planRecord
+value-record p = rw same
+  where
+    f : ℕ → Arc
+    f = recordAt (recordsOf (p .arcs))
+
+    same : map (recordAt (recordsOf (p .arcs))) (below (length (p .arcs))) ≡ p .arcs
+    same =
+        ext-getD (arcValue zeroRecord) (map f (below (length (p .arcs)))) (p .arcs) (length-map-below f (length (p .arcs)))
+        (λ k h.
+        let l : k < length (p .arcs) = rw (length-map-below f (length (p .arcs))) at h in
+        getD-map-below f (length (p .arcs)) k (arcValue zeroRecord) l ∙ record-at (p .arcs) k l)
+
+-- Records that hold m arcs, read as m arcs again.
+arcs-back : (f : ℕ → Arc) (m : ℕ) → map (recordAt (recordsOf (map f (below m)))) (below m) ≡ map f (below m)
+unfolding planValue planRecord
+arcs-back f m =
+    let g : List ℕ → List Arc = map (recordAt (recordsOf (map f (below m)))) in
+    ap (λ k. g (below k)) (sym (length-map-below f m)) ∙ ap (λ (p : Plan). p .arcs) (value-record (record { n = 0; arcs = map f (below m) }))
+
+pub arcs-read : (f : ℕ → Arc) (m : ℕ) (records : List ArcRecord) → records ≡ recordsOf (map f (below m)) → map (recordAt records) (below m) ≡ map f (below m)
+arcs-read f m records e = ap (λ (r : List ArcRecord). map (recordAt r) (below m)) e ∙ arcs-back f m

@@ -1,0 +1,5 @@
+-- What is proved about the definitions.
+pub mod Stored
+pub mod Reading
+pub mod Writing
+pub mod Reread

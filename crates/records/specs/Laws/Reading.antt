@@ -1,0 +1,89 @@
+-- Reading into a lent list: its refusal, by the file's refusal and the room; and what the stored records are.
+use mathlib.Core.Path.{_≡_, refl, ap, _∙_}
+use mathlib.Core.List.{List, [], _∷_, _++_, map, map-append, map-map}
+use mathlib.Core.Option.{none, some}
+use Prim.Native.Nat.{ℕ, zero, suc, _-_, _*_, _<_, _≤_}
+use native.Mathlib.Omega.{arith}
+use lib.ListN.{length, drop, length-map}
+use lib.Dec.{ltb}
+use borrow.Author.Tests.{lt-ltb}
+use Rattle.postman.specs.Lists.{below}
+use Rattle.postman.specs.Plan.{Arc}
+use Rattle.postman.specs.Refusal.{firstRefusal, answer, unless}
+use Rattle.postman.specs.PlanFile.{arcOf, vertexCount, arcCount, planOf, fileBits, fileLength, fileConditions, readRefusal, readAnswer, recordsAfter}
+use Rattle.plan.specs.declared.Arc.{Arc as ArcRecord}
+use Rattle.plan.specs.Records.{arcValue, recordOf}
+use Rattle.refusal.specs.Verdict.{refusalNumber}
+use Rattle.postman.specs.Laws.Refusal.{first-stop, given-last, was-given, was-refused}
+use Rattle.postman.specs.Laws.Acceptance.{accepted-is-file, read-is-file, file-is-read}
+use Rattle.records.specs.declared.reader.Read.{Read}
+use Rattle.records.specs.declared.reader.Read.the-variants.{Given, Refused}
+use Rattle.records.specs.Stored.{storedTo}
+use Rattle.records.specs.Laws.Stored.{stored-is}
+use Rattle.records.specs.Reading.{readNumbers, arcsRead}
+
+-- ---- lists
+
+pub map-drop : {A B : Type 0} (f : A → B) (xs : List A) (k : ℕ) → map f (drop k xs) ≡ drop k (map f xs)
+map-drop f xs zero = refl
+map-drop f [] (suc k) = refl
+map-drop f (x ∷ xs) (suc k) = map-drop f xs k
+
+-- ---- the refusal: the file's, or else 8 by the list's room
+
+module _ (bytes : List ℕ) (room : ℕ) where
+  pub refusal-of-file : (r : ℕ) → firstRefusal (fileConditions bytes) ≡ some r → readRefusal bytes room ≡ some r
+  unfolding readRefusal
+  refusal-of-file r e = first-stop (fileConditions bytes) _ r e
+
+  pub too-short : firstRefusal (fileConditions bytes) ≡ none → room < arcCount bytes → readRefusal bytes room ≡ some 8
+  unfolding readRefusal
+  too-short e h = given-last (fileConditions bytes) (ltb room (arcCount bytes)) 8 e (rw (lt-ltb room (arcCount bytes) h) tt)
+
+  pub long-enough : firstRefusal (fileConditions bytes) ≡ none → arcCount bytes ≤ room → readRefusal bytes room ≡ none
+  long-enough e h = file-is-read bytes room (accepted-is-file bytes e) h
+
+-- ---- the stored records
+
+module _ (bytes : List ℕ) (records : List ArcRecord) where
+  abbrev pub Answers : Read → Type 0
+  Answers r = readNumbers r ≡ answer (readRefusal bytes (length records)) (vertexCount bytes, arcCount bytes)
+
+  abbrev stored : ℕ → List ArcRecord
+  stored m = storedTo (λ k. recordOf (arcOf bytes k)) records m
+
+  -- There is room for the arcs in the file and in the list.
+  abbrev pub Room : ℕ → Type 0
+  Room m = (m ≤ 256) × (30 * m ≤ 8 * length bytes - 20) × (m ≤ length records)
+
+  pub room-for : (r : Read) → Answers r → Room (arcsRead r)
+  unfolding fileLength fileBits
+  room-for (Given n m) e =
+      let w = was-given (readRefusal bytes (length records)) (vertexCount bytes, arcCount bytes) (n, m) e in
+      let same : m ≡ arcCount bytes = ap (λ (p : ℕ × ℕ). p .1) (w .1) in
+      let ok = read-is-file bytes (length records) (w .0) in
+      (omega (arith, ok .0 .arc-count), omega (arith, ok .0 .exact), omega (arith, ok .1))
+  room-for (Refused q) e = (omega arith, omega arith, omega arith)
+
+  values : (m : ℕ) → m ≤ length records → map arcValue (stored m) ≡ map (arcOf bytes) (below m) ++ drop m (map arcValue records)
+  values m h =
+      let new : ℕ → ArcRecord = λ k. recordOf (arcOf bytes k) in
+      ap (map arcValue) (stored-is new records m h)
+      ∙ map-append arcValue (map new (below m)) (drop m records)
+      ∙ ap (λ (l : List Arc). l ++ map arcValue (drop m records)) (map-map arcValue new (below m))
+      ∙ ap (λ (l : List Arc). map (arcOf bytes) (below m) ++ l) (map-drop arcValue records m)
+
+  pub answers : (r : Read) → Answers r → readNumbers r ≡ readAnswer bytes (map arcValue records)
+  unfolding readAnswer
+  answers r e = rw (length-map records arcValue) e
+
+  pub after : (r : Read) → Answers r → map arcValue (stored (arcsRead r)) ≡ recordsAfter bytes (map arcValue records)
+  unfolding recordsAfter unless planOf
+  after (Given n m) e =
+      let w = was-given (readRefusal bytes (length records)) (vertexCount bytes, arcCount bytes) (n, m) e in
+      let same : m ≡ arcCount bytes = ap (λ (p : ℕ × ℕ). p .1) (w .1) in
+      let ok = read-is-file bytes (length records) (w .0) in
+      rw (length-map records arcValue, w .0, same) (values (arcCount bytes) (ok .1))
+  after (Refused q) e =
+      let w = was-refused (readRefusal bytes (length records)) (vertexCount bytes, arcCount bytes) (refusalNumber q) e in
+      rw (length-map records arcValue, w) refl

@@ -1,0 +1,77 @@
+// The arcs of a shortest path, looked up among lent rows: those of the arcs, and one column of distances, to the vertex that the path leads to.
+ghost use mathlib.Core.Path.{_≡_};
+ghost use mathlib.Core.Bool.{_&&_};
+ghost use mathlib.Core.List.{[]};
+ghost use Prim.Native.Nat.{ℕ, _+_, _<_, _≤_};
+ghost use lib.Dec.{eqb, ltb};
+ghost use lib.ListN.{length, getD};
+ghost use Rattle.postman.specs.Plan.{WellFormed};
+ghost use Rattle.postman.specs.Distance.{noPath, distance};
+ghost use Rattle.plan.specs.Rows.{planIn};
+ghost use Rattle.shortest.specs.ShortestPath.{nextIn, shortestPath};
+ghost use Rattle.shortest.specs.Contracts.{IsColumn, overwrite};
+
+// Whether an arc is open, leaves v, and leads on at just the cost that is left.
+fn leads(tail: u16, standing: u16, cost: u16, v: usize, after: u32, left: u32) -> bool
+    ensures { λ r. ⌜ r ≡ (ltb standing 2 && eqb tail v && eqb (cost + after) left) ⌝ }
+{
+    standing < 2 && tail as usize == v && cost as u64 + after as u64 == left as u64
+}
+
+fn wide(x: u16) -> usize
+    ensures { λ r. ⌜ r ≡ x ⌝ }
+{
+    x as usize
+}
+
+// The lowest numbered arc with which a cheapest path from v begins, to the vertex of the column.
+fn next_arc(arcs: &[[u16; 4]], column: &[u32], v: usize) -> usize
+    requires { ⌜ WellFormed (planIn (length (now column)) (now arcs)) × (v < length (now column)) ⌝ }
+    ensures { λ r. ⌜ r ≡ nextIn (now (arcs .entry)) (now (column .entry)) v ⌝ }
+{
+    for k in 0..arcs.len() {
+        let h = wide(arcs[k][1]);
+        if leads(arcs[k][0], arcs[k][2], arcs[k][3], v, column[h], column[v]) {
+            return k;
+        }
+    }
+    arcs.len()
+}
+
+// Writes the arcs of the cheapest path from i to j into the places from `at` on, and answers the place after them.
+pub fn path(
+    arcs: &[[u16; 4]],
+    column: &[u32],
+    i: usize,
+    j: usize,
+    places: &mut [u16],
+    at: usize,
+) -> usize
+    requires { ⌜ WellFormed (planIn (length (now column)) (now arcs)) × IsColumn (planIn (length (now column)) (now arcs)) j (now column) ⌝ }
+    requires { ⌜ (i < length (now column)) × (j < length (now column)) × (distance (planIn (length (now column)) (now arcs)) i j < noPath) ⌝ }
+    requires { ⌜ at + length (shortestPath (planIn (length (now column)) (now arcs)) i j) ≤ length (now places) ⌝ }
+    ensures { λ r. ⌜ now (places .exit) ≡ overwrite (now (places .entry)) at (shortestPath (planIn (length (now (column .entry))) (now (arcs .entry))) i j) ⌝ }
+    ensures { λ r. ⌜ r ≡ at + length (shortestPath (planIn (length (now (column .entry))) (now (arcs .entry))) i j) ⌝ }
+{
+    let mut v = i;
+    let mut to = at;
+    while v != j {
+        let k = next_arc(arcs, column, v);
+        places[to] = k as u16;
+        v = wide(arcs[k][1]);
+        to += 1;
+    }
+    to
+}
+
+// The column of the distances to j, out of lent rows of the table.
+pub fn column_to(table: &[[u32; 64]], j: usize) -> [u32; 64]
+    requires { ⌜ (length (now table) ≤ 64) × (j < 64) ⌝ }
+    ensures { λ r. ⌜ (length r ≡ 64) × ((i : ℕ) → i < length (now (table .entry)) → getD r i 0 ≡ getD (getD (now (table .entry)) i []) j 0) ⌝ }
+{
+    let mut column = [0u32; 64];
+    for i in 0..table.len() {
+        column[i] = table[i][j];
+    }
+    column
+}
