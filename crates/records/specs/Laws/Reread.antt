@@ -12,7 +12,7 @@ use Rattle.postman.specs.PlanFile.{vertexCount, arcCount, planOf, fileOf, fileC
 use Rattle.plan.specs.declared.Arc.{Arc as ArcRecord}
 use Rattle.plan.specs.Records.{arcValue, zeroRecord}
 use Rattle.postman.specs.Laws.Membership.{map-mem, mem-getD}
-use Rattle.postman.specs.Laws.Acceptance.{file-is-accepted, arcs-read, vertices-read, writable-well-formed}
+use Rattle.postman.specs.Laws.Acceptance.{file-is-accepted, arcs-read, vertices-read, accepted-is-writable, writable-well-formed}
 use Rattle.postman.specs.Laws.PlanFile.{plan-same, is-file}
 use Rattle.plan_file.specs.Laws.Reread.{written-file}
 use Rattle.plan_file.specs.Laws.Writing.{length-given, refusal-given}
@@ -62,7 +62,7 @@ read-back n records into bytes after k small e f enough =
     let long : length (map arcValue records) ≡ length records = length-map records arcValue in
     let room : length (map arcValue records) ≤ length (map arcValue into) = omega (arith, long, length-map into arcValue, enough) in
     let back = plan-same p ok in
-    let accepted = file-is-accepted (fileOf p) (is-file p ok) in
+    let accepted = file-is-accepted (fileOf p) (is-file p ok (accepted-is-writable p (length bytes) (length-given p bytes k e .0) .arcs-in)) in
     rw (written-file p bytes after k e f .1) (record {
       answer = rw long at (reads-answer p (fileOf p) (map arcValue into) back accepted room);
       records-after = rw long at (reads-records p (fileOf p) (map arcValue into) back accepted room);
