@@ -31,8 +31,9 @@ pub const LONGEST_FILE: usize = 963;
 /// The places that a sheet for the drive must have at least.
 pub const SHEET_PLACES: usize = 17_266;
 
-/// The short call's budget, and the highest that the plan call takes.
-pub const DEFAULT_BUDGET: u64 = 10_000;
+/// The short call's budget, the one that the program `drive` names, and the highest that the plan call takes.
+pub const DEFAULT_BUDGET: u64 = 100_000;
+pub const PROGRAM_BUDGET: u64 = 10_000;
 pub const HIGHEST_BUDGET: u64 = 1_000_000;
 
 /// The most components ("parts") of a plan.

@@ -55,7 +55,7 @@ pub enum Property {
     Greatest,
     /// The same input gives the same answer, whatever the sheet held.
     Repeatable,
-    /// The short call is the plan call with 10,000.
+    /// The short call is the plan call with 100,000.
     ShortCall,
     /// A case or a limit that document 01 states in numbers.
     Stated,

@@ -1,7 +1,7 @@
 //! The plans in `examples/`, with what the program `drive` prints for them.
 
 use postman_tests::oracle::{judge, parse};
-use postman_tests::plan::SHEET_PLACES;
+use postman_tests::plan::{PROGRAM_BUDGET, SHEET_PLACES};
 use postman_tests::planner::{Answer, Planner, Refusal};
 use postman_tests::yardstick::Yardstick;
 use std::path::{Path, PathBuf};
@@ -38,7 +38,7 @@ fn first_lines(answer: &Result<Answer, Refusal>) -> String {
 fn examples_are_right() {
     for (name, file, text) in examples() {
         let mut sheet = vec![0; SHEET_PLACES];
-        let answer = Yardstick.short_call(&file, &mut sheet);
+        let answer = Yardstick.plan_call(&file, PROGRAM_BUDGET, &mut sheet);
         let rest = text.strip_prefix(&first_lines(&answer)).unwrap_or_else(|| panic!("{name}: other fields"));
         let places: Vec<u16> =
             rest.lines().map(|line| line.strip_prefix("arc ").expect("an arc").parse().expect("a number")).collect();

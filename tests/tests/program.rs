@@ -3,7 +3,7 @@
 
 use postman_tests::instances::{fullest, longest};
 use postman_tests::oracle::file_of;
-use postman_tests::plan::SHEET_PLACES;
+use postman_tests::plan::{PROGRAM_BUDGET, SHEET_PLACES};
 use postman_tests::planner::{Planner, Proved};
 use std::io::Write;
 use std::os::fd::OwnedFd;
@@ -46,7 +46,7 @@ fn run(plan: &[u8]) -> (Vec<u8>, usize) {
 /// The lines of document 01's program for what the library answers.
 fn lines(plan: &[u8]) -> (String, usize) {
     let mut sheet = vec![0; SHEET_PLACES];
-    let a = Proved.short_call(plan, &mut sheet).expect("a good plan");
+    let a = Proved.plan_call(plan, PROGRAM_BUDGET, &mut sheet).expect("a good plan");
     let whole = if a.whole { "yes" } else { "no" };
     let mut text = format!("cost {}\nfloor {}\ntrees {}\nwhole {whole}\nparts {}\n", a.cost, a.floor, a.trees, a.parts);
     for place in &sheet[..a.places] {

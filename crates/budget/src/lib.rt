@@ -14,8 +14,8 @@ pub enum Checked {
 }
 
 impl Budget {
-    // "The short call leaves B out and uses 10,000, a constant belonging to the budget type."
-    pub const DEFAULT: u32 = 10_000;
+    // "a constant belonging to the budget type": "The short call's budget becomes 100,000."
+    pub const DEFAULT: u32 = 100_000;
 
     // "budget B from 1 to 1,000,000"
     pub const HIGHEST: u32 = 1_000_000;

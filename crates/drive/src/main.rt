@@ -6,11 +6,14 @@ use crate::output::put;
 use crate::output::put_line;
 use libc::STDIN_FILENO;
 use planner::Planned;
-use planner::call::short_call;
+use planner::call::plan_call;
 use refusal::Verdict;
 ghost use Prim.Native.Nat.{_<_};
 ghost use lib.IntN.{pos};
 ghost use lib.Signed.{_≤ℤ_};
+
+// The budget of the call, whatever the short call's is: what is printed for a plan stays the same.
+const BUDGET: u64 = 10_000;
 
 // ---- printing
 
@@ -98,7 +101,7 @@ fn main() {
     let n = io::read_full(STDIN_FILENO, &mut file);
     pass_all();
     let mut sheet = [0u16; 17266];
-    let r = short_call(&file[..n], &mut sheet);
+    let r = plan_call(&file[..n], BUDGET, &mut sheet);
     let verdict = r.verdict;
     let count = r.places;
     match verdict {

@@ -133,7 +133,7 @@ pub fn plan_call(bytes: &[u8], budget: u64, sheet: &mut [u16]) -> Planned
     }
 }
 
-// THE SHORT CALL: "leaves B out and uses 10,000".
+// THE SHORT CALL: "leaves B out" and uses the budget type's default.
 pub fn short_call(bytes: &[u8], sheet: &mut [u16]) -> Planned
     ensures { λ r. ⌜ IsPlanCall (now (bytes .entry)) defaultBudget (now (sheet .entry)) (now (sheet .exit)) r ⌝ }
 {

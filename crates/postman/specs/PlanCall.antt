@@ -22,12 +22,12 @@ use Rattle.postman.specs.LagrangianBound.{Multipliers, lagrangianBound}
 
 -- ---- the refusals
 
--- "budget B from 1 to 1,000,000"; "The short call leaves B out and uses 10,000."
+-- "budget B from 1 to 1,000,000"; The short call "leaves B out"; its budget "becomes 100,000".
 unfoldable pub highestBudget : ℕ
 highestBudget = 1000000
 
 unfoldable pub defaultBudget : ℕ
-defaultBudget = 10000
+defaultBudget = 100000
 
 -- 8 short sheet, for the plan call: "drive sheet below 17,266 places"
 unfoldable pub sheetPlaces : ℕ

@@ -2,7 +2,7 @@
 
 use super::Mutant;
 use crate::oracle::{parse, Graph, INFINITE};
-use crate::plan::{DEFAULT_BUDGET, HIGHEST_BUDGET, MOST_PARTS, SHEET_PLACES};
+use crate::plan::{DEFAULT_BUDGET, HIGHEST_BUDGET, MOST_PARTS, PROGRAM_BUDGET, SHEET_PLACES};
 use crate::planner::{refusal, Answer, Planner, Refusal};
 use crate::properties::Property::*;
 use crate::yardstick::Yardstick;
@@ -171,7 +171,7 @@ pub fn mutants() -> Vec<Mutant<dyn Planner>> {
         Ok(a)
     });
 
-    let deeper = Altered(right, 100_000);
-    all.push(Mutant { name: "short call deepened", violates: &[ShortCall], wrong: Box::new(deeper) });
+    let shallow = Altered(right, PROGRAM_BUDGET);
+    all.push(Mutant { name: "short call not deepened", violates: &[ShortCall], wrong: Box::new(shallow) });
     all
 }

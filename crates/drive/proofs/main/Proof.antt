@@ -21,31 +21,31 @@ pass-all-requires c κs = search needs
 array-share-prefix-file : tie.Need-array-share-prefix-file
 array-share-prefix-file c = search needs
 
-slice-aggregate-short-call : tie.Need-slice-aggregate-short-call
-slice-aggregate-short-call c = search needs
+slice-aggregate-plan-call : tie.Need-slice-aggregate-plan-call
+slice-aggregate-plan-call c = search needs
 
-slice-aggregate-short-call-2 : tie.Need-slice-aggregate-short-call-2
-slice-aggregate-short-call-2 c = search needs
+slice-aggregate-plan-call-2 : tie.Need-slice-aggregate-plan-call-2
+slice-aggregate-plan-call-2 c = search needs
 
-short-call-requires : tie.Need-short-call-requires
-short-call-requires c κs = search needs
+plan-call-requires : tie.Need-plan-call-requires
+plan-call-requires c κs = search needs
 
 enum-told : tie.Need-enum-told
 enum-told c = search needs
 
 array-share-prefix-sheet : tie.Need-array-share-prefix-sheet
 array-share-prefix-sheet c =
-    let r = c .before .before .before .short-call in
+    let r = c .before .before .before .plan-call in
     places-fit _ _ _ _ _ (r .ensures) (ap verdictNumber (c .enum-told .given .1))
 
 slice-aggregate-print-answer : tie.Need-slice-aggregate-print-answer
 slice-aggregate-print-answer c =
-    let r = c .before .before .before .before .short-call in
+    let r = c .before .before .before .before .plan-call in
     places-count _ _ _ _ _ (r .ensures) (ap verdictNumber (c .before .enum-told .given .1))
 
 print-answer-requires : tie.Need-print-answer-requires
 print-answer-requires c κs =
-    let r = c .before .before .before .before .short-call in
+    let r = c .before .before .before .before .plan-call in
     floor-above _ _ _ _ _ (r .ensures) (ap verdictNumber (c .before .enum-told .given .1))
 
 enum-known-verdict : tie.Need-enum-known-verdict
@@ -72,9 +72,9 @@ main-spec =
     read-full-requires
     pass-all-requires
     array-share-prefix-file
-    slice-aggregate-short-call
-    slice-aggregate-short-call-2
-    short-call-requires
+    slice-aggregate-plan-call
+    slice-aggregate-plan-call-2
+    plan-call-requires
     enum-told
     array-share-prefix-sheet
     slice-aggregate-print-answer
