@@ -19,7 +19,7 @@
  */
 #define MOST_READ 4096
 
-/* Too large for every stack. */
+/* Static, to spare the stack. */
 static uint16_t sheet[POSTMAN_SHEET_PLACES];
 
 static int complain(const char *name) {
