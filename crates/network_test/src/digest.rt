@@ -1,10 +1,13 @@
 // A sum over all that a plan's table, paths and network hold.
 use network::network::Network;
 use plan::Plan;
-ghost use Prim.Native.Nat.{_<_};
+ghost use Prim.Native.Nat.{_+_, _<_, _≤_};
+ghost use lib.ListN.{length};
 ghost use Rattle.postman.specs.Plan.{WellFormed};
 ghost use Rattle.plan.specs.Records.{planValue};
+ghost use Rattle.postman.specs.Distance.{noPath, distance};
 ghost use Rattle.shortest.specs.Contracts.{IsTable};
+ghost use Rattle.shortest.specs.ShortestPath.{shortestPath};
 
 fn fold(sum: u64, x: u64) -> u64 {
     (sum % 65521 * 31 + x % 4294967296) % 65521
@@ -40,6 +43,20 @@ fn fold_places(sum: u64, places: &[u16], n: usize) -> u64 {
     s
 }
 
+// One path alone: its rows and its column are made for it.
+fn one_path(p: Plan, t: &[[u32; 64]; 64], i: usize, j: usize, places: &mut [u16]) -> usize
+    requires { ⌜ WellFormed (planValue p) × IsTable (planValue p) (now t) ⌝ }
+    requires { ⌜ (i < planValue p .n) × (j < planValue p .n) × (distance (planValue p) i j < noPath) ⌝ }
+    requires { ⌜ 0 + length (shortestPath (planValue p) i j) ≤ length (now places) ⌝ }
+{
+    let arcs = plan::rows::rows_of(p);
+    let m = p.m as usize;
+    let n = p.n as usize;
+    let rows: &[[u32; 64]] = t;
+    let column = shortest::path::column_to(rows, j);
+    shortest::path::path(&arcs[..m], &column[..n], i, j, places, 0)
+}
+
 // The path from i to j, where there is one.
 fn fold_path(sum: u64, p: Plan, t: &[[u32; 64]; 64], i: usize, j: usize) -> u64
     requires { ⌜ WellFormed (planValue p) × IsTable (planValue p) (now t) × (i < 64) × (j < 64) ⌝ }
@@ -55,7 +72,7 @@ fn fold_path(sum: u64, p: Plan, t: &[[u32; 64]; 64], i: usize, j: usize) -> u64
         return sum;
     }
     let mut places = [0u16; 64];
-    let end = shortest::path::path(p, t, i, j, &mut places, 0);
+    let end = one_path(p, t, i, j, &mut places);
     fold_places(sum, &places, end)
 }
 

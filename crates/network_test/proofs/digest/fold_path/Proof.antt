@@ -57,11 +57,11 @@ index-2-if3 c = search needs
 returns-3 : tie.Need-returns-3
 returns-3 c = search needs
 
-slice-aggregate-path : tie.Need-slice-aggregate-path
-slice-aggregate-path c = search needs
+slice-aggregate-one-path : tie.Need-slice-aggregate-one-path
+slice-aggregate-one-path c = search needs
 
-path-requires : tie.Need-path-requires
-path-requires c κs =
+one-path-requires : tie.Need-one-path-requires
+one-path-requires c κs =
     let s = c .before .before .before .before .before .before in
     ((s .pre .0, s .pre .1), (inside (s .args .p) (s .pre .0) (s .args .t .now) (s .pre .1) (s .args .i) (s .args .j) (s .pre .2) (s .pre .3) (c .before .before .before .before .if1 .left) (c .before .before .before .if2 .left) (c .before .if3 .left), room (s .args .p) (s .pre .0) (s .args .t .now) (s .pre .1) (s .args .i) (s .args .j) (s .pre .2) (s .pre .3) (c .before .before .before .before .if1 .left) (c .before .before .before .if2 .left) (c .before .if3 .left) (replicate {A = ℕ} 64 0) (length-replicate {A = ℕ} 64 0)))
 
@@ -86,8 +86,8 @@ fold-path-spec =
     index-1-if3
     index-2-if3
     returns-3
-    slice-aggregate-path
-    path-requires
+    slice-aggregate-one-path
+    one-path-requires
     slice-aggregate-fold-places
     fold-places-requires
     returns-4)
