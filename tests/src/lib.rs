@@ -1,6 +1,6 @@
 //! Tests and benchmarks of the survey drive's planner, from Rust.
 //!
-//! [`planner`] is how any Rust program calls a planner; [`yardstick`] is one, [`oracle`] knows what every planner has to answer,
+//! [`planner`] says what a planner is; [`yardstick`] is one, [`oracle`] knows what every planner has to answer,
 //! [`properties`] compares the two on [`instances`].
 
 // Loops over vertices read best with the vertex as index.

@@ -1,4 +1,4 @@
-//! What a planner is, for any Rust program: two traits over slices, the answer, and the refusals by number.
+//! What a planner is, for the tests: two traits over slices, the answer, and the refusals by number.
 //!
 //! With the feature `proved`, `Proved` is the proved library behind these traits, and can stand for `Yardstick` here:
 //!

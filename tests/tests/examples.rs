@@ -1,4 +1,4 @@
-//! The plans in `examples/`, with what the program `drive` prints for them.
+//! The plans in `examples/`, with what the program `drive` prints for them, and the program in C that prints the same.
 
 use postman_tests::oracle::{judge, parse};
 use postman_tests::plan::{PROGRAM_BUDGET, SHEET_PLACES};
@@ -60,5 +60,91 @@ fn drive_prints_the_examples() {
         let output = Command::new(&program).stdin(Stdio::from(plan)).output().expect("the program that `rt` has built");
         assert!(output.status.success(), "{name}: {:?}", output.status);
         assert_eq!(String::from_utf8_lossy(&output.stdout), text, "{name}");
+    }
+}
+
+/// The example in C, built by the system's compiler with the header and the library.
+#[cfg(feature = "proved")]
+mod in_c {
+    use super::*;
+    use postman_tests::plan::LONGEST_FILE;
+    use postman_tests::planner::Proved;
+    use std::process::{Command, Output};
+    use std::sync::OnceLock;
+
+    fn root() -> PathBuf {
+        Path::new(env!("CARGO_MANIFEST_DIR")).join("..")
+    }
+
+    /// Where built programs and made-up plans go.
+    fn scratch(name: &str) -> PathBuf {
+        Path::new(env!("CARGO_TARGET_TMPDIR")).join(name)
+    }
+
+    /// The library that the Rust package links too.
+    fn library() -> PathBuf {
+        let folder = std::env::var_os("POSTMAN_LIB_DIR").map(PathBuf::from);
+        folder.unwrap_or_else(|| root().join("target/staticlib")).join("libexports.a")
+    }
+
+    fn compile(command: &mut Command) {
+        let output = command.output().unwrap_or_else(|error| panic!("{command:?}: {error}"));
+        assert!(output.status.success(), "{command:?}: {}", String::from_utf8_lossy(&output.stderr));
+    }
+
+    /// Runs the example on a file.
+    fn run(plan: &Path) -> Output {
+        static PROGRAM: OnceLock<PathBuf> = OnceLock::new();
+        let program = PROGRAM.get_or_init(|| {
+            let program = scratch("plan");
+            let mut command = Command::new("cc");
+            command.args(["-std=c99", "-Wall", "-Wextra", "-Werror", "-pedantic"]);
+            command.arg("-I").arg(root().join("include"));
+            compile(command.arg(folder().join("plan.c")).arg(library()).arg("-o").arg(&program));
+            program
+        });
+        Command::new(program).arg(plan).output().expect("the program that was built")
+    }
+
+    #[test]
+    fn prints_the_examples() {
+        for (name, _, text) in examples() {
+            let output = run(Path::new(&name));
+            assert!(output.status.success(), "{name}: {:?}", output.status);
+            assert_eq!(String::from_utf8_lossy(&output.stdout), text, "{name}");
+        }
+    }
+
+    /// Files that are cut short, or longer than any plan and than what the program reads of them.
+    #[test]
+    fn refuses_what_the_library_refuses() {
+        let (_, town, _) = examples().pop().expect("an example");
+        for length in [0, 2, 3, town.len() - 1, town.len() + 1, LONGEST_FILE, LONGEST_FILE + 1, 4_096, 4_097, 100_000] {
+            let mut file = town.clone();
+            file.resize(length, 0);
+            let refused = first_lines(&Proved.plan_call(&file, PROGRAM_BUDGET, &mut vec![0; SHEET_PLACES]));
+            assert!(refused.starts_with("refused"), "{length} bytes");
+            let path = scratch("refused.plan");
+            std::fs::write(&path, &file).expect("a file that can be written");
+            let output = run(&path);
+            assert!(output.status.success(), "{length} bytes: {:?}", output.status);
+            assert_eq!(String::from_utf8_lossy(&output.stdout), refused, "{length} bytes");
+        }
+    }
+
+    #[test]
+    fn says_what_it_cannot_read() {
+        for name in ["no such file", "."] {
+            let output = run(&scratch(name));
+            assert_eq!(output.status.code(), Some(1), "{name}");
+            assert!(output.stdout.is_empty() && !output.stderr.is_empty(), "{name}");
+        }
+    }
+
+    #[test]
+    fn header_is_good_c_plus_plus() {
+        let mut command = Command::new("c++");
+        command.args(["-x", "c++", "-fsyntax-only", "-Wall", "-Wextra", "-Werror", "-pedantic"]);
+        compile(command.arg(root().join("include/postman.h")));
     }
 }

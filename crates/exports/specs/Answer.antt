@@ -2,16 +2,16 @@
 use mathlib.Core.Path.{_≡_}
 use mathlib.Core.Bool.{cond}
 use mathlib.Core.List.{List, [], _∷_}
-use mathlib.Core.Option.{Option, none, some}
 use Prim.Native.Nat.{ℕ}
 use lib.IntN.{ℤ, natAbs}
 use lib.ListN.{length}
 use lib.Seq.{paste}
-use Rattle.postman.specs.Refusal.{unless}
+use Rattle.postman.specs.Refusal.{answer, unless}
 use Rattle.records.specs.Writing.{atMost}
 use Rattle.planner.specs.declared.Planned.{Planned}
 use Rattle.refusal.specs.Verdict.{verdictNumber}
 use Rattle.planner.specs.Contract.{IsPlanCall}
+use Rattle.exports.specs.Number.{oneNumber}
 
 -- The words of an answer: places, cost, floor (which is at least 0), trees, whole as 0 or 1, parts.
 abbrev pub wordsOf : Planned → List ℕ
@@ -21,19 +21,14 @@ wordsOf r = r .places ∷ r .cost ∷ natAbs (r .floor) ∷ r .trees ∷ cond (r
 abbrev pub putFirst : {A : Type 0} → List A → List A → List A
 putFirst new old = paste old 0 new (atMost (length old) (length new))
 
--- 0, or the refusal's number.
-abbrev pub callNumber : Option ℕ → ℕ
-callNumber none = 0
-callNumber (some r) = r
-
 -- The plan call's answer r in a number and two lent slices, which a refusal does not change.
-pub record IsHandedOver (r : Planned) (words words′ : List ℕ) (u u′ : List ℤ) (number : ℕ) : Type 0 where
-  pub number-is : number ≡ callNumber (verdictNumber (r .verdict))
+pub record IsHandedOver (r : Planned) (words words′ : List ℕ) (u u′ : List ℤ) (number : ℤ) : Type 0 where
+  pub number-is : number ≡ oneNumber (answer (verdictNumber (r .verdict)) 0)
   pub words-are : words′ ≡ unless (verdictNumber (r .verdict)) (putFirst (wordsOf r) words) words
   pub multipliers-are : u′ ≡ unless (verdictNumber (r .verdict)) (putFirst (r .multipliers) u) u
 
 -- The exported call: it hands over an answer that the plan call gives.
-pub record IsExportedCall (bytes : List ℕ) (budget : ℕ) (sheet sheet′ words words′ : List ℕ) (u u′ : List ℤ) (number : ℕ) : Type 0 where
+pub record IsExportedCall (bytes : List ℕ) (budget : ℕ) (sheet sheet′ words words′ : List ℕ) (u u′ : List ℤ) (number : ℤ) : Type 0 where
   pub answer : Planned
   pub called : IsPlanCall bytes budget sheet sheet′ answer
   pub handed-over : IsHandedOver answer words words′ u u′ number

@@ -1,17 +1,11 @@
 -- What reading and writing answer to a caller in another language.
 use mathlib.Core.List.{List, _++_, flatMap}
 use Prim.Native.Nat.{ℕ, _+_, _*_, _/_}
-use lib.IntN.{ℤ, pos, negℤ}
 use lib.ListN.{length, drop}
 use Rattle.postman.specs.Plan.{Plan}
 use Rattle.postman.specs.Refusal.{Answer, refused, given, unless}
 use Rattle.postman.specs.PlanFile.{planOf, arcCount, readRefusal}
 use Rattle.exports.specs.RecordBytes.{arcBytes, arcsIn}
-
--- An answer is one number: what was asked for, or minus the refusal's number. No refusal has the number 0.
-abbrev pub oneNumber : Answer ℕ → ℤ
-oneNumber (given x) = pos x
-oneNumber (refused r) = negℤ (pos r)
 
 -- "It answers n and m": 512 n + m, m being at most 256.
 abbrev pub packed : Answer (ℕ × ℕ) → Answer ℕ

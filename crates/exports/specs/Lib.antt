@@ -1,4 +1,5 @@
 -- How plan files and records cross the border to other languages.
+pub mod Number
 pub mod RecordBytes
 pub mod Codec
 pub mod Answer

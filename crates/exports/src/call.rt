@@ -1,4 +1,4 @@
-// The plan call and the short call, for callers in other languages. The number is 0, or the refusal's; an answer goes into two lent slices.
+// The plan call and the short call, for callers in other languages. The number is 0, or minus the refusal's; an answer goes into two lent slices.
 ghost use mathlib.Core.Path.{_≡_};
 ghost use mathlib.Core.Option.{none};
 ghost use lib.IntN.{pos, natAbs};
@@ -6,10 +6,10 @@ ghost use lib.Signed.{_≤ℤ_};
 ghost use Rattle.postman.specs.PlanCall.{defaultBudget};
 ghost use Rattle.refusal.specs.Verdict.{verdictNumber};
 ghost use Rattle.exports.specs.Answer.{wordsOf, putFirst, IsHandedOver, IsExportedCall};
+use crate::number::refused_number;
 use planner::Planned;
 use records::writer::at_most;
 use refusal::Verdict;
-use refusal::refusal_number;
 
 // The floor as a word. It is at least 0, since R + Z is.
 fn floor_word(floor: i64) -> u64
@@ -56,7 +56,7 @@ fn put_multipliers(u: [i64; 64], lent: &mut [i64])
 }
 
 // An answer that is no refusal goes into the lent slices.
-fn hand_over(r: Planned, words_lent: &mut [u64], u_lent: &mut [i64]) -> u32
+fn hand_over(r: Planned, words_lent: &mut [u64], u_lent: &mut [i64]) -> i64
     requires { ⌜ (verdictNumber (r .verdict) ≡ none → pos 0 ≤ℤ r .floor) ⌝ }
     ensures { λ k. ⌜ IsHandedOver r (now («words_lent» .entry)) (now («words_lent» .exit)) (now («u_lent» .entry)) (now («u_lent» .exit)) k ⌝ }
 {
@@ -68,19 +68,19 @@ fn hand_over(r: Planned, words_lent: &mut [u64], u_lent: &mut [i64]) -> u32
             put_multipliers(u, u_lent);
             0
         }
-        Verdict::Refused(q) => refusal_number(q) as u32,
+        Verdict::Refused(q) => refused_number(q),
     }
 }
 
 // THE PLAN CALL. `answer` takes places, cost, floor, trees, whole and parts, `multipliers` takes u; a refusal changes no lent slice.
 #[no_mangle]
-pub extern "C" fn plan_call(
+pub extern "C" fn postman_plan_call(
     plan: &[u8],
     budget: u64,
     sheet: &mut [u16],
     answer: &mut [u64],
     multipliers: &mut [i64],
-) -> u32
+) -> i64
     ensures { λ k. ⌜ IsExportedCall (now (plan .entry)) budget (now (sheet .entry)) (now (sheet .exit)) (now (answer .entry)) (now (answer .exit))
         (now (multipliers .entry)) (now (multipliers .exit)) k ⌝ }
 {
@@ -90,12 +90,12 @@ pub extern "C" fn plan_call(
 
 // THE SHORT CALL.
 #[no_mangle]
-pub extern "C" fn short_call(
+pub extern "C" fn postman_short_call(
     plan: &[u8],
     sheet: &mut [u16],
     answer: &mut [u64],
     multipliers: &mut [i64],
-) -> u32
+) -> i64
     ensures { λ k. ⌜ IsExportedCall (now (plan .entry)) defaultBudget (now (sheet .entry)) (now (sheet .exit)) (now (answer .entry)) (now (answer .exit))
         (now (multipliers .entry)) (now (multipliers .exit)) k ⌝ }
 {

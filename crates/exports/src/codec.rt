@@ -1,15 +1,15 @@
 // Reading and writing plan files, for callers in other languages. An answer is one number: minus the refusal's number, or what was asked for.
 ghost use mathlib.Core.Path.{_≡_};
 ghost use Prim.Native.Nat.{ℕ, _≤_};
-ghost use lib.IntN.{pos, negℤ};
 ghost use Rattle.postman.specs.Refusal.{given};
 ghost use Rattle.postman.specs.PlanFile.{readAnswer, writeAnswer, bytesAfter};
-ghost use Rattle.refusal.specs.Verdict.{refusalNumber};
 ghost use Rattle.plan_file.specs.Writing.{writtenAnswer};
 ghost use Rattle.records.specs.Reading.{readNumbers};
 ghost use Rattle.records.specs.Writing.{atMost};
 ghost use Rattle.exports.specs.RecordBytes.{arcsIn};
-ghost use Rattle.exports.specs.Codec.{oneNumber, packed, lentAfter, lentPlan};
+ghost use Rattle.exports.specs.Number.{oneNumber};
+ghost use Rattle.exports.specs.Codec.{packed, lentAfter, lentPlan};
+use crate::number::refused_number;
 use crate::record_bytes::load_records;
 use crate::record_bytes::store_arcs;
 use plan_file::Written;
@@ -17,15 +17,6 @@ use records::reader::Read;
 use records::reader::arcs_read;
 use records::reader::read_answer;
 use records::writer::write_arcs;
-use refusal::Refusal;
-use refusal::refusal_number;
-
-// Minus the refusal's number.
-fn refused_number(r: Refusal) -> i64
-    ensures { λ k. ⌜ k ≡ negℤ (pos (refusalNumber r)) ⌝ }
-{
-    0 - refusal_number(r) as i64
-}
 
 // What reading answers, as one number.
 fn read_number(r: Read) -> i64
@@ -64,23 +55,23 @@ fn vertices_of(n: u32) -> u8
 // Reading, from any bytes into any list of records, five bytes each: 512 n + m, with the file's arcs in the list from its start and the bytes after them untouched; or
 // minus the number of the first refusal by document 01's order, with every byte untouched.
 #[no_mangle]
-pub extern "C" fn read_plan(file: &[u8], lent: &mut [u8]) -> i64
-    ensures { λ r. ⌜ (r ≡ oneNumber (packed (readAnswer (now (file .entry)) (arcsIn (now (lent .entry))))))
-        × (now (lent .exit) ≡ lentAfter (now (file .entry)) (now (lent .entry))) ⌝ }
+pub extern "C" fn postman_read_plan(plan: &[u8], records: &mut [u8]) -> i64
+    ensures { λ r. ⌜ (r ≡ oneNumber (packed (readAnswer (now (plan .entry)) (arcsIn (now (records .entry))))))
+        × (now (records .exit) ≡ lentAfter (now (plan .entry)) (now (records .entry))) ⌝ }
 {
-    let read = read_answer(file, lent.len() / 5);
-    store_arcs(file, arcs_read(read), lent);
+    let read = read_answer(plan, records.len() / 5);
+    store_arcs(plan, arcs_read(read), records);
     read_number(read)
 }
 
 // Writing, from any n and any list of records, five bytes each, into any slice: the file's length, with the file in the slice from its start and the bytes after it
 // untouched; or minus the number of the first refusal by document 01's order, with every byte untouched.
 #[no_mangle]
-pub extern "C" fn write_plan(n: u32, lent: &[u8], bytes: &mut [u8]) -> i64
-    ensures { λ r. ⌜ (r ≡ oneNumber (writeAnswer (lentPlan n (now (lent .entry))) (now (bytes .entry))))
-        × (now (bytes .exit) ≡ bytesAfter (lentPlan n (now (lent .entry))) (now (bytes .entry))) ⌝ }
+pub extern "C" fn postman_write_plan(n: u32, records: &[u8], bytes: &mut [u8]) -> i64
+    ensures { λ r. ⌜ (r ≡ oneNumber (writeAnswer (lentPlan n (now (records .entry))) (now (bytes .entry))))
+        × (now (bytes .exit) ≡ bytesAfter (lentPlan n (now (records .entry))) (now (bytes .entry))) ⌝ }
 {
-    let arcs = load_records(lent);
-    let written = write_arcs(vertices_of(n), lent.len() / 5, arcs, bytes);
+    let arcs = load_records(records);
+    let written = write_arcs(vertices_of(n), records.len() / 5, arcs, bytes);
     written_number(written)
 }

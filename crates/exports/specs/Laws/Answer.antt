@@ -3,20 +3,24 @@ use mathlib.Core.Path.{_≡_, refl, sym, ap, _∙_, subst⁻¹}
 use mathlib.Core.Bool.{Bool, true, false, cond}
 use mathlib.Core.List.{List, [], _∷_}
 use mathlib.Core.Option.{Option, none, some}
-use Prim.Native.Nat.{ℕ, _+_, _≤_, _<_}
+use Prim.Native.Nat.{ℕ, _+_, _^_, _≤_, _<_}
 use native.Mathlib.Omega.{arith}
 use native.Mathlib.Numerals.{add-one}
 use borrow.Author.Tests.{ltb-true, ltb-false}
-use mir.Val.{boolByte}
+use mir.Val.{boolByte, toZ, ofZ}
+use mir.Syntax.{w64}
+use lib.Signed.{mag}
+use Rattle.integers.specs.Linear.{back64}
 use lib.Dec.{ltb}
-use lib.IntN.{ℤ, natAbs}
+use lib.IntN.{ℤ, pos, negℤ, natAbs}
 use lib.ListN.{length, getD, set, length-set}
 use lib.Seq.{paste, paste-zero, paste-suc}
 use Rattle.records.specs.Writing.{atMost}
-use Rattle.postman.specs.Refusal.{unless}
+use Rattle.postman.specs.Refusal.{answer, unless}
 use Rattle.planner.specs.declared.Planned.{Planned}
 use Rattle.refusal.specs.Verdict.{verdictNumber}
-use Rattle.exports.specs.Answer.{wordsOf, putFirst, callNumber, IsHandedOver}
+use Rattle.exports.specs.Answer.{wordsOf, putFirst, IsHandedOver}
+use Rattle.exports.specs.Number.{oneNumber}
 
 at-most-le : (a b : ℕ) → (atMost a b ≤ a) × (atMost a b ≤ b)
 at-most-le a b = at (ltb a b) refl
@@ -79,18 +83,22 @@ words-are r f e = let b = byte (r .whole) in rw (e, b)
     byte false = refl
 
 pub handed : (r : Planned) (words words′ w : List ℕ) (u u′ : List ℤ) → verdictNumber (r .verdict) ≡ none → w ≡ wordsOf r
-    → words′ ≡ putFirst w words → u′ ≡ putFirst (r .multipliers) u → IsHandedOver r words words′ u u′ 0
-unfolding unless
+    → words′ ≡ putFirst w words → u′ ≡ putFirst (r .multipliers) u → IsHandedOver r words words′ u u′ (pos 0)
+unfolding unless answer
 handed r words words′ w u u′ e f g h = record {
-  number-is = ap callNumber (sym e);
+  number-is = ap (λ (o : Option ℕ). oneNumber (answer o 0)) (sym e);
   words-are = g ∙ ap (λ (w : List ℕ). putFirst w words) f ∙ ap (λ (o : Option ℕ). unless o (putFirst (wordsOf r) words) words) (sym e);
   multipliers-are = h ∙ ap (λ (o : Option ℕ). unless o (putFirst (r .multipliers) u) u) (sym e);
 }
 
-pub kept : (r : Planned) (words : List ℕ) (u : List ℤ) (k n : ℕ) → verdictNumber (r .verdict) ≡ some k → n ≡ k → IsHandedOver r words words u u n
-unfolding unless
+pub kept : (r : Planned) (words : List ℕ) (u : List ℤ) (k : ℕ) (n : ℤ) → verdictNumber (r .verdict) ≡ some k → n ≡ negℤ (pos k) → IsHandedOver r words words u u n
+unfolding unless answer
 kept r words u k n e f = record {
-  number-is = f ∙ ap callNumber (sym e);
+  number-is = f ∙ ap (λ (o : Option ℕ). oneNumber (answer o 0)) (sym e);
   words-are = ap (λ (o : Option ℕ). unless o (putFirst (wordsOf r) words) words) (sym e);
   multipliers-are = ap (λ (o : Option ℕ). unless o (putFirst (r .multipliers) u) u) (sym e);
 }
+
+-- The number is the same once it has been a word of 64 bits.
+pub handed-back : {r : Planned} {words words′ : List ℕ} {u u′ : List ℤ} {n : ℤ} → mag n < 2 ^ 63 → IsHandedOver r words words′ u u′ n → IsHandedOver r words words′ u u′ (toZ w64 (ofZ w64 n))
+handed-back {r} {words} {words′} {u} {u′} {n} small h = subst⁻¹ (IsHandedOver r words words′ u u′) (back64 n small) h

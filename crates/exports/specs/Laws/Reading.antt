@@ -17,7 +17,8 @@ use Rattle.records.specs.declared.reader.Read.the-variants.{Given, Refused}
 use Rattle.records.specs.Reading.{readNumbers, arcsRead}
 use Rattle.records.specs.Laws.Reading.{room-for}
 use Rattle.exports.specs.RecordBytes.{arcBytes, arcsIn}
-use Rattle.exports.specs.Codec.{oneNumber, packed, lentAfter}
+use Rattle.exports.specs.Number.{oneNumber}
+use Rattle.exports.specs.Codec.{packed, lentAfter}
 use Rattle.exports.specs.Laws.RecordBytes.{length-lent, length-records, arcs-left, arcs-back}
 
 module _ (file lent : List ℕ) where

@@ -1,5 +1,6 @@
 -- An answer's words and multipliers are put; a refusal leaves what is lent.
-use mathlib.Core.Path.{ap}
+use mathlib.Core.Path.{ap, _∙_}
+use Rattle.integers.specs.Linear.{back64}
 use Rattle.refusal.specs.Verdict.{verdictNumber}
 use Rattle.exports.specs.Laws.Answer.{handed, kept}
 use borrow.Author.Needs.{needs}
@@ -21,11 +22,8 @@ put-multipliers-requires c κs = search needs
 enum-known-verdict : tie.Need-enum-known-verdict
 enum-known-verdict c = search needs
 
-refusal-number-requires : tie.Need-refusal-number-requires
-refusal-number-requires c κs = search needs
-
-cast-result : tie.Need-cast-result
-cast-result c = search needs
+refused-number-requires : tie.Need-refused-number-requires
+refused-number-requires c κs = search needs
 
 same-length : tie.Need-same-length
 same-length c = search needs
@@ -38,7 +36,7 @@ returns c =
     handed _ _ _ _ _ _ (ap verdictNumber (c .before .before .before .before .before .before .before .before .before .enum-told .given .1)) (c .before .before .before .before .before .before .before .before .words .ensures) (c .before .before .before .before .before .before .put-words .ensures) (c .before .put-multipliers .ensures)
 
 returns-2 : tie.Need-returns-2
-returns-2 c = kept _ _ _ _ _ (ap verdictNumber (c .before .before .verdict .given .1)) (c .refusal-number .ensures)
+returns-2 c = kept _ _ _ _ _ (ap verdictNumber (c .before .before .verdict .given .1)) (back64 _ (c .refused-number .ok) ∙ c .refused-number .ensures)
 
 pub hand-over-spec : {M : Type 1} → statement M
 hand-over-spec =
@@ -49,8 +47,7 @@ hand-over-spec =
     put-words-requires
     put-multipliers-requires
     enum-known-verdict
-    refusal-number-requires
-    cast-result
+    refused-number-requires
     same-length
     same-length-2
     returns

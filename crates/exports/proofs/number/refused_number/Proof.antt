@@ -6,8 +6,8 @@ use lib.IntN.{pos, negℤ, +ℤ-idl}
 use mir.Facts.{toZ-ofZ}
 use Rattle.integers.specs.Linear.{z, zz, plain64}
 use borrow.Author.Needs.{needs}
-use Rattle.exports.proofs.codec.refused_number.Statement.{statement}
-use Rattle.exports.proofs.codec.refused_number.Tie as tie
+use Rattle.exports.proofs.number.refused_number.Statement.{statement}
+use Rattle.exports.proofs.number.refused_number.Tie as tie
 
 refusal-number-requires : tie.Need-refusal-number-requires
 refusal-number-requires c κs = search needs

@@ -1,11 +1,11 @@
 -- The plan by value is refused as the lent records are, and is the same plan where it is not.
 use mathlib.Core.Path.{_∙_, sym, ap}
 use Rattle.integers.specs.Linear.{back64}
-use Rattle.exports.specs.Codec.{oneNumber}
+use Rattle.exports.specs.Number.{oneNumber}
 use Rattle.exports.specs.Laws.Writing.{value-answer, value-bytes, length-small}
 use borrow.Author.Needs.{needs}
-use Rattle.exports.proofs.codec.write_plan.Statement.{statement}
-use Rattle.exports.proofs.codec.write_plan.Tie as tie
+use Rattle.exports.proofs.codec.postman_write_plan.Statement.{statement}
+use Rattle.exports.proofs.codec.postman_write_plan.Tie as tie
 
 load-records-requires : tie.Need-load-records-requires
 load-records-requires c κs = search needs
@@ -28,12 +28,12 @@ returns c =
     let arcs = c .before .before .before .before .before .before .load-records .ensures in
     let n = c .before .before .before .before .before .vertices-of .ensures in
     let w = c .before .before .before .write-arcs .ensures in (
-      back64 _ (c .written-number .ok) ∙ c .written-number .ensures ∙ ap oneNumber (w .0 ∙ value-answer (a .n) (a .lent .now) (a .bytes .now) _ _ n arcs),
-      w .1 ∙ value-bytes (a .n) (a .lent .now) (a .bytes .now) _ _ n arcs,
+      back64 _ (c .written-number .ok) ∙ c .written-number .ensures ∙ ap oneNumber (w .0 ∙ value-answer (a .n) (a .records .now) (a .bytes .now) _ _ n arcs),
+      w .1 ∙ value-bytes (a .n) (a .records .now) (a .bytes .now) _ _ n arcs,
     )
 
-pub write-plan-spec : {M : Type 1} → statement M
-write-plan-spec =
+pub postman-write-plan-spec : {M : Type 1} → statement M
+postman-write-plan-spec =
     tie.close
     (tie.spec
     load-records-requires

@@ -9,8 +9,8 @@ use Rattle.postman.specs.PlanFile.{arcOf}
 use Rattle.exports.specs.RecordBytes.{arcBytes}
 use Rattle.exports.specs.Laws.Reading.{lent-room, lent-answer, lent-after}
 use borrow.Author.Needs.{needs}
-use Rattle.exports.proofs.codec.read_plan.Statement.{statement}
-use Rattle.exports.proofs.codec.read_plan.Tie as tie
+use Rattle.exports.proofs.codec.postman_read_plan.Statement.{statement}
+use Rattle.exports.proofs.codec.postman_read_plan.Tie as tie
 
 read-answer-requires : tie.Need-read-answer-requires
 read-answer-requires c κs = search needs
@@ -22,7 +22,7 @@ store-arcs-requires : tie.Need-store-arcs-requires
 store-arcs-requires c κs =
     let a = c .before .before .before .before .before .args in
     let r = c .before .before .read-answer in
-    rw (c .before .arcs-read .ensures) (lent-room (a .file .now) (a .lent .now) (r .result) (r .ensures))
+    rw (c .before .arcs-read .ensures) (lent-room (a .plan .now) (a .records .now) (r .result) (r .ensures))
 
 read-number-requires : tie.Need-read-number-requires
 read-number-requires c κs = search needs
@@ -35,13 +35,13 @@ returns c =
     let a = c .before .before .before .before .before .before .before .before .before .args in
     let r = c .before .before .before .before .before .before .read-answer in
     let count = c .before .before .before .before .before .arcs-read in
-    let new : ℕ → _ = λ m. flatMap arcBytes (map (arcOf (a .file .now)) (below m)) ++ drop (5 * m) (a .lent .now) in (
-      back64 _ (c .read-number .ok) ∙ c .read-number .ensures ∙ lent-answer (a .file .now) (a .lent .now) (r .result) (r .ensures),
-      c .before .before .before .store-arcs .ensures ∙ ap new (count .ensures) ∙ lent-after (a .file .now) (a .lent .now) (r .result) (r .ensures),
+    let new : ℕ → _ = λ m. flatMap arcBytes (map (arcOf (a .plan .now)) (below m)) ++ drop (5 * m) (a .records .now) in (
+      back64 _ (c .read-number .ok) ∙ c .read-number .ensures ∙ lent-answer (a .plan .now) (a .records .now) (r .result) (r .ensures),
+      c .before .before .before .store-arcs .ensures ∙ ap new (count .ensures) ∙ lent-after (a .plan .now) (a .records .now) (r .result) (r .ensures),
     )
 
-pub read-plan-spec : {M : Type 1} → statement M
-read-plan-spec =
+pub postman-read-plan-spec : {M : Type 1} → statement M
+postman-read-plan-spec =
     tie.close
     (tie.spec
     read-answer-requires

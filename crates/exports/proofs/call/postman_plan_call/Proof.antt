@@ -1,8 +1,9 @@
 -- The answer of the call is handed over; the floor of one that is no refusal is at least 0.
 use Rattle.planner.specs.Laws.Answered.{floor-above}
+use Rattle.exports.specs.Laws.Answer.{handed-back}
 use borrow.Author.Needs.{needs}
-use Rattle.exports.proofs.call.plan_call.Statement.{statement}
-use Rattle.exports.proofs.call.plan_call.Tie as tie
+use Rattle.exports.proofs.call.postman_plan_call.Statement.{statement}
+use Rattle.exports.proofs.call.postman_plan_call.Tie as tie
 
 plan-call-requires : tie.Need-plan-call-requires
 plan-call-requires c κs = search needs
@@ -22,10 +23,10 @@ same-length-3 c = search needs
 returns : tie.Need-returns
 returns c =
     let r = c .before .before .before .before .before .before .before .before .plan-call in
-    record { answer = r .result; called = r .ensures; handed-over = c .before .before .before .hand-over .ensures }
+    record { answer = r .result; called = r .ensures; handed-over = handed-back (c .before .before .before .hand-over .ok) (c .before .before .before .hand-over .ensures) }
 
-pub plan-call-spec : {M : Type 1} → statement M
-plan-call-spec =
+pub postman-plan-call-spec : {M : Type 1} → statement M
+postman-plan-call-spec =
     tie.close
     (tie.spec
     plan-call-requires

@@ -1,0 +1,112 @@
+//! The plan call and the short call.
+
+use crate::limits::{ANSWER_WORDS, COST, FLOOR, MULTIPLIERS, PARTS, PLACES, SHEET_PLACES, TREES, WHOLE};
+use crate::{raw, Refusal};
+
+/// What a call answers for a plan that is not refused.
+#[derive(Clone, PartialEq, Eq, Debug)]
+pub struct Answer {
+    /// The drive: numbers of arcs, the lowest required one first. Each arc begins where the one before it ends, and the first where the last ends.
+    pub drive: Vec<u16>,
+    /// What the drive costs: the least of the trees tried.
+    pub cost: u64,
+    /// No drive costs less.
+    pub floor: u64,
+    /// Trees tried.
+    pub trees: u64,
+    /// Whether these are all trees. Then the floor is the cost, and no drive is cheaper.
+    pub whole: bool,
+    /// The plan's parts: the vertices of required arcs, joined by these.
+    pub parts: u64,
+    /// One multiplier for each vertex, 0 where no required arc begins or ends.
+    pub multipliers: [i64; MULTIPLIERS],
+}
+
+/// Lends a sheet and an answer to a call, and takes them apart.
+fn answered(call: impl FnOnce(&mut [u16], &mut [u64], &mut [i64]) -> Result<(), Refusal>) -> Result<Answer, Refusal> {
+    let mut drive = vec![0; SHEET_PLACES];
+    let mut words = [0; ANSWER_WORDS];
+    let mut multipliers = [0; MULTIPLIERS];
+    call(&mut drive, &mut words, &mut multipliers)?;
+    drive.truncate(usize::try_from(words[PLACES]).expect("places of the sheet"));
+    Ok(Answer {
+        drive,
+        cost: words[COST],
+        floor: words[FLOOR],
+        trees: words[TREES],
+        whole: words[WHOLE] != 0,
+        parts: words[PARTS],
+        multipliers,
+    })
+}
+
+/// Lays a drive for a plan file, trying at most `budget` trees, from 1 to 1,000,000. Refuses with 1 to 7 and 9 to 13.
+///
+/// ```
+/// use postman::{plan_call, Arc, Plan, Refusal, Standing};
+///
+/// // Three loops that must be driven, and four streets between them.
+/// let must = |v| Arc { tail: v, head: v, standing: Standing::Required, cost: 1 };
+/// let may = |tail, head, cost| Arc { tail, head, standing: Standing::Optional, cost };
+/// let arcs = vec![must(0), must(1), must(2), may(0, 1, 2), may(1, 2, 2), may(2, 0, 2), may(0, 2, 3)];
+/// let file = Plan { vertices: 3, arcs }.write()?;
+///
+/// let first = plan_call(&file, 1)?;
+/// assert_eq!((first.cost, first.floor, first.whole), (14, 9, false));
+/// let all = plan_call(&file, 2)?;
+/// assert_eq!((all.cost, all.floor, all.whole), (9, 9, true));
+/// assert_eq!(plan_call(&file, 0), Err(Refusal::Budget));
+/// # Ok::<(), Refusal>(())
+/// ```
+pub fn plan_call(file: &[u8], budget: u64) -> Result<Answer, Refusal> {
+    answered(|sheet, answer, multipliers| raw::plan_call(file, budget, sheet, answer, multipliers))
+}
+
+/// Lays a drive for a plan file, trying at most 100,000 trees. Refuses with 1 to 7 and 10 to 13.
+///
+/// ```
+/// use postman::{short_call, Refusal};
+///
+/// let answer = short_call(&[0x10, 0x40, 0x20, 0x01, 0x40, 0x01, 0x41, 0x00, 0x00, 0x03])?;
+/// assert_eq!(answer.drive, [0, 1]);
+/// assert_eq!((answer.cost, answer.parts), (8, 1));
+/// # Ok::<(), Refusal>(())
+/// ```
+pub fn short_call(file: &[u8]) -> Result<Answer, Refusal> {
+    answered(|sheet, answer, multipliers| raw::short_call(file, sheet, answer, multipliers))
+}
+
+#[cfg(test)]
+mod tests {
+    use super::*;
+    use crate::{Arc, Plan, Standing};
+
+    fn arc(tail: u8, head: u8, standing: Standing, cost: u16) -> Arc {
+        Arc { tail, head, standing, cost }
+    }
+
+    fn refusal_of(vertices: u32, arcs: Vec<Arc>) -> Option<Refusal> {
+        short_call(&Plan { vertices, arcs }.write().unwrap()).err()
+    }
+
+    #[test]
+    fn plans_without_a_drive_are_refused() {
+        use Standing::{Closed, Optional, Required};
+        assert_eq!(refusal_of(2, vec![arc(0, 1, Required, 5)]), Some(Refusal::CutOff));
+        assert_eq!(refusal_of(2, vec![arc(0, 1, Required, 5), arc(1, 0, Closed, 3)]), Some(Refusal::CutOff));
+        assert_eq!(refusal_of(2, vec![arc(0, 1, Optional, 5), arc(1, 0, Optional, 3)]), Some(Refusal::Idle));
+        assert_eq!(refusal_of(9, (0..9).map(|v| arc(v, v, Required, 1)).collect()), Some(Refusal::Scattered));
+        assert_eq!(refusal_of(2, vec![arc(0, 1, Required, 5), arc(1, 0, Optional, 3)]), None);
+    }
+
+    #[test]
+    fn budgets_beyond_the_limits_are_refused() {
+        let file = [0x10, 0x40, 0x20, 0x01, 0x40, 0x01, 0x41, 0x00, 0x00, 0x03];
+        for budget in [0, 1_000_001, u64::MAX] {
+            assert_eq!(plan_call(&file, budget), Err(Refusal::Budget));
+        }
+        for budget in [1, 1_000_000] {
+            assert_eq!(plan_call(&file, budget), short_call(&file));
+        }
+    }
+}

@@ -1,0 +1,31 @@
+//! The library's C functions, as `include/postman.h` declares them. A test of `tests/` holds these declarations to the header's and to the
+//! library's source.
+
+extern "C" {
+    pub fn postman_read_plan(plan: *const u8, plan_len: usize, records: *mut u8, records_len: usize) -> i64;
+
+    pub fn postman_write_plan(n: u32, records: *const u8, records_len: usize, bytes: *mut u8, bytes_len: usize) -> i64;
+
+    pub fn postman_plan_call(
+        plan: *const u8,
+        plan_len: usize,
+        budget: u64,
+        sheet: *mut u16,
+        sheet_len: usize,
+        answer: *mut u64,
+        answer_len: usize,
+        multipliers: *mut i64,
+        multipliers_len: usize,
+    ) -> i64;
+
+    pub fn postman_short_call(
+        plan: *const u8,
+        plan_len: usize,
+        sheet: *mut u16,
+        sheet_len: usize,
+        answer: *mut u64,
+        answer_len: usize,
+        multipliers: *mut i64,
+        multipliers_len: usize,
+    ) -> i64;
+}

@@ -1,0 +1,39 @@
+//! The survey drive's planner, proved by machine, from Rust.
+//!
+//! Given a plan of streets, the planner lays a closed drive that passes every street that must be driven, and gives a floor: a number
+//! that no drive can undercut. In the field's words: the directed rural postman problem, with a certified lower bound.
+//!
+//! ```
+//! use postman::{plan_call, Arc, Plan, Standing};
+//!
+//! // A street that must be driven, and one that leads back.
+//! let plan = Plan {
+//!     vertices: 2,
+//!     arcs: vec![
+//!         Arc { tail: 0, head: 1, standing: Standing::Required, cost: 5 },
+//!         Arc { tail: 1, head: 0, standing: Standing::Optional, cost: 3 },
+//!     ],
+//! };
+//! let answer = plan_call(&plan.write()?, 10_000)?;
+//! assert_eq!(answer.drive, [0, 1]);
+//! assert_eq!((answer.cost, answer.floor), (8, 8));
+//! # Ok::<(), postman::Refusal>(())
+//! ```
+//!
+//! What is proved is the library behind this package, which `rt staticlib exports` builds; `include/postman.h` describes its C functions.
+//! This package lends it slices and takes its answers apart. [`raw`] has the calls that lend slices of the caller's.
+//!
+//! The build script links `target/staticlib/libexports.a` of the repository, or the library in the folder that the environment variable
+//! `POSTMAN_LIB_DIR` names.
+#![deny(missing_docs)]
+
+mod answer;
+mod ffi;
+pub mod limits;
+mod plan;
+pub mod raw;
+mod refusal;
+
+pub use answer::{plan_call, short_call, Answer};
+pub use plan::{Arc, Plan, Standing};
+pub use refusal::Refusal;

@@ -1,0 +1,56 @@
+//! The numbers that bound plans, sheets and answers.
+
+/// The most vertices of a plan.
+pub const MOST_VERTICES: usize = 64;
+/// The most arcs of a plan.
+pub const MOST_ARCS: usize = 256;
+/// The most bytes of a plan file.
+pub const LONGEST_FILE: usize = 963;
+
+/// The most parts of a plan that is not refused.
+pub const MOST_PARTS: usize = 8;
+
+/// The places that a sheet must have at least. No drive takes more.
+pub const SHEET_PLACES: usize = 17_266;
+
+/// The budget of the short call.
+pub const DEFAULT_BUDGET: u64 = 100_000;
+/// The highest budget of the plan call. The lowest is 1.
+pub const HIGHEST_BUDGET: u64 = 1_000_000;
+
+/// The distance that stands for "no path".
+pub const NO_PATH: u32 = 4_294_967_295;
+
+/// The bytes of a record, which is an arc: tail, head, standing, the cost's high byte, its low byte.
+pub const RECORD_BYTES: usize = 5;
+/// The index of a record's tail.
+pub const RECORD_TAIL: usize = 0;
+/// The index of a record's head.
+pub const RECORD_HEAD: usize = 1;
+/// The index of a record's standing.
+pub const RECORD_STANDING: usize = 2;
+/// The index of the high byte of a record's cost.
+pub const RECORD_COST_HIGH: usize = 3;
+/// The index of the low byte of a record's cost.
+pub const RECORD_COST_LOW: usize = 4;
+
+/// The words of an answer.
+pub const ANSWER_WORDS: usize = 6;
+/// The index of the number of places that the drive takes.
+pub const PLACES: usize = 0;
+/// The index of the drive's cost.
+pub const COST: usize = 1;
+/// The index of the floor.
+pub const FLOOR: usize = 2;
+/// The index of the number of trees tried.
+pub const TREES: usize = 3;
+/// The index of the word that is 1 if all trees were tried, else 0.
+pub const WHOLE: usize = 4;
+/// The index of the number of parts.
+pub const PARTS: usize = 5;
+
+/// The multipliers of an answer.
+pub const MULTIPLIERS: usize = 64;
+
+/// A file that was read answers this many times its vertices, plus its arcs.
+pub const COUNTS: usize = 512;

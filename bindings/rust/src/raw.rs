@@ -1,0 +1,183 @@
+//! The library's functions over slices of the caller's, just as `include/postman.h` has them.
+//!
+//! The functions ask nothing but what C does: a pointer and the length behind it belong together, and lent slices do not overlap. Rust's
+//! references give both, so these calls are safe. A refusal changes no lent slice.
+
+use crate::ffi;
+use crate::limits::COUNTS;
+use crate::Refusal;
+
+/// What was asked for, or the refusal: minus its number.
+fn unless_refused(number: i64) -> Result<usize, Refusal> {
+    usize::try_from(number).map_err(|_| {
+        let refusal = u32::try_from(number.unsigned_abs()).ok().and_then(Refusal::from_number);
+        refusal.unwrap_or_else(|| panic!("the library answers {number}, which is no refusal"))
+    })
+}
+
+/// Reads the file `plan`: its numbers of vertices and arcs, n and m. Refuses with 1 to 8 and 13.
+///
+/// `records` has room for a fifth of its bytes, and bytes left over are no record. The file's arcs are put into its first m records; later
+/// bytes are untouched. With fewer than m records it is refused with 8.
+///
+/// ```
+/// let file = [0x10, 0x40, 0x20, 0x01, 0x40, 0x01, 0x41, 0x00, 0x00, 0x03];
+/// let mut records = [0xFF; 12];
+/// assert_eq!(postman::raw::read_plan(&file, &mut records), Ok((2, 2)));
+/// assert_eq!(records, [0, 1, 1, 0, 5, 1, 0, 0, 0, 3, 0xFF, 0xFF]);
+/// ```
+pub fn read_plan(plan: &[u8], records: &mut [u8]) -> Result<(usize, usize), Refusal> {
+    // SAFETY: each pointer comes with the length of its own slice, and the slices do not overlap.
+    let number = unsafe { ffi::postman_read_plan(plan.as_ptr(), plan.len(), records.as_mut_ptr(), records.len()) };
+    unless_refused(number).map(|counts| (counts / COUNTS, counts % COUNTS))
+}
+
+/// Writes the file of `n` vertices and the arcs `records`: the file's length in bytes. Refuses with 3, 5 to 8 and 13.
+///
+/// m is a fifth of the bytes of `records`, and bytes left over are no record. The file is put into `bytes` from its start; later bytes are
+/// untouched. With fewer bytes than the file has it is refused with 8;
+/// [`LONGEST_FILE`](crate::limits::LONGEST_FILE) always suffice.
+///
+/// ```
+/// let mut bytes = [0xFF; 12];
+/// assert_eq!(postman::raw::write_plan(2, &[0, 1, 1, 0, 5, 1, 0, 0, 0, 3], &mut bytes), Ok(10));
+/// assert_eq!(bytes, [0x10, 0x40, 0x20, 0x01, 0x40, 0x01, 0x41, 0x00, 0x00, 0x03, 0xFF, 0xFF]);
+/// ```
+pub fn write_plan(n: u32, records: &[u8], bytes: &mut [u8]) -> Result<usize, Refusal> {
+    // SAFETY: as in `read_plan`.
+    unless_refused(unsafe {
+        ffi::postman_write_plan(n, records.as_ptr(), records.len(), bytes.as_mut_ptr(), bytes.len())
+    })
+}
+
+/// The plan call on lent slices: lays a closed drive for the file `plan`, trying at most `budget` trees. Refuses with 1 to 13.
+///
+/// `sheet` takes the drive's arc numbers from its start, the lowest required arc first; the answer's word
+/// [`PLACES`](crate::limits::PLACES) says how many. Later places are untouched. With fewer than
+/// [`SHEET_PLACES`](crate::limits::SHEET_PLACES) places it is refused with 8. `answer` takes the
+/// [`ANSWER_WORDS`](crate::limits::ANSWER_WORDS) words, and `multipliers` the [`MULTIPLIERS`](crate::limits::MULTIPLIERS) multipliers: as
+/// many as fit, from the start, and later elements are untouched.
+///
+/// ```
+/// use postman::limits::{ANSWER_WORDS, COST, FLOOR, MULTIPLIERS, PLACES, SHEET_PLACES};
+///
+/// let file = [0x10, 0x40, 0x20, 0x01, 0x40, 0x01, 0x41, 0x00, 0x00, 0x03];
+/// let mut sheet = vec![0; SHEET_PLACES];
+/// let (mut answer, mut multipliers) = ([0; ANSWER_WORDS], [0; MULTIPLIERS]);
+/// postman::raw::plan_call(&file, 10_000, &mut sheet, &mut answer, &mut multipliers)?;
+/// assert_eq!((answer[PLACES], answer[COST], answer[FLOOR]), (2, 8, 8));
+/// assert_eq!(sheet[..2], [0, 1]);
+/// # Ok::<(), postman::Refusal>(())
+/// ```
+pub fn plan_call(
+    plan: &[u8],
+    budget: u64,
+    sheet: &mut [u16],
+    answer: &mut [u64],
+    multipliers: &mut [i64],
+) -> Result<(), Refusal> {
+    // SAFETY: as in `read_plan`.
+    unless_refused(unsafe {
+        ffi::postman_plan_call(
+            plan.as_ptr(),
+            plan.len(),
+            budget,
+            sheet.as_mut_ptr(),
+            sheet.len(),
+            answer.as_mut_ptr(),
+            answer.len(),
+            multipliers.as_mut_ptr(),
+            multipliers.len(),
+        )
+    })
+    .map(|_| ())
+}
+
+/// The short call on lent slices: [`plan_call`] with a budget of [`DEFAULT_BUDGET`](crate::limits::DEFAULT_BUDGET). It never refuses with 9.
+///
+/// ```
+/// let refused = postman::raw::short_call(&[0x10, 0x40], &mut [], &mut [], &mut []);
+/// assert_eq!(refused, Err(postman::Refusal::Torn));
+/// ```
+pub fn short_call(plan: &[u8], sheet: &mut [u16], answer: &mut [u64], multipliers: &mut [i64]) -> Result<(), Refusal> {
+    // SAFETY: as in `read_plan`.
+    unless_refused(unsafe {
+        ffi::postman_short_call(
+            plan.as_ptr(),
+            plan.len(),
+            sheet.as_mut_ptr(),
+            sheet.len(),
+            answer.as_mut_ptr(),
+            answer.len(),
+            multipliers.as_mut_ptr(),
+            multipliers.len(),
+        )
+    })
+    .map(|_| ())
+}
+
+#[cfg(test)]
+mod tests {
+    use super::*;
+    use crate::limits::{ANSWER_WORDS, DEFAULT_BUDGET, MULTIPLIERS, SHEET_PLACES};
+
+    const CASE_A: [u8; 10] = [0x10, 0x40, 0x20, 0x01, 0x40, 0x01, 0x41, 0x00, 0x00, 0x03];
+
+    #[test]
+    fn numbers_below_zero_are_refusals() {
+        assert_eq!(unless_refused(0), Ok(0));
+        assert_eq!(unless_refused(1026), Ok(1026));
+        for refusal in Refusal::ALL {
+            assert_eq!(unless_refused(-i64::from(refusal.number())), Err(refusal));
+        }
+    }
+
+    #[test]
+    #[should_panic(expected = "no refusal")]
+    fn other_numbers_are_not_taken_for_refusals() {
+        let _ = unless_refused(i64::MIN);
+    }
+
+    /// An answer or multipliers slice that is too short takes as many as fit; what is left of one that is longer is untouched.
+    #[test]
+    fn answers_take_what_fits() {
+        let mut whole = ([0; ANSWER_WORDS], [0; MULTIPLIERS]);
+        let mut sheet = vec![0; SHEET_PLACES];
+        assert_eq!(plan_call(&CASE_A, 1, &mut sheet, &mut whole.0, &mut whole.1), Ok(()));
+        assert_eq!(whole.0, [2, 8, 8, 1, 1, 1]);
+        for words in 0..=ANSWER_WORDS + 2 {
+            for count in [0, 1, 2, 63, 64, 65] {
+                let (mut answer, mut multipliers) = (vec![77; words], vec![-77; count]);
+                assert_eq!(short_call(&CASE_A, &mut sheet, &mut answer, &mut multipliers), Ok(()));
+                let (fit, fit_u) = (words.min(ANSWER_WORDS), count.min(MULTIPLIERS));
+                assert_eq!(answer[..fit], whole.0[..fit]);
+                assert_eq!(multipliers[..fit_u], whole.1[..fit_u]);
+                assert!(answer[fit..].iter().all(|&word| word == 77));
+                assert!(multipliers[fit_u..].iter().all(|&u| u == -77));
+            }
+        }
+    }
+
+    /// The short call is the plan call at the default budget, on a plan whose trees are more than that.
+    #[test]
+    fn short_call_has_the_default_budget() {
+        let file = std::fs::read(concat!(env!("CARGO_MANIFEST_DIR"), "/../../examples/large_town.plan")).unwrap();
+        let lend = || (vec![0; SHEET_PLACES], [0; ANSWER_WORDS], [0; MULTIPLIERS]);
+        let (mut short, mut full) = (lend(), lend());
+        assert_eq!(short_call(&file, &mut short.0, &mut short.1, &mut short.2), Ok(()));
+        assert_eq!(plan_call(&file, DEFAULT_BUDGET, &mut full.0, &mut full.1, &mut full.2), Ok(()));
+        assert!(short == full);
+        assert_eq!(short.1[crate::limits::TREES], DEFAULT_BUDGET);
+    }
+
+    /// Five bytes are a record, and up to four left over are none.
+    #[test]
+    fn bytes_left_over_are_no_record() {
+        let mut records = [0xA5; 9];
+        assert_eq!(read_plan(&CASE_A, &mut records), Err(Refusal::ShortSheet));
+        assert_eq!(records, [0xA5; 9]);
+        let mut bytes = [0; 10];
+        assert_eq!(write_plan(2, &[0, 1, 1, 0, 5, 1, 0, 0, 0, 3, 9, 9, 9, 9], &mut bytes), Ok(10));
+        assert_eq!(bytes, CASE_A);
+    }
+}

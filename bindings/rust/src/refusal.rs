@@ -1,0 +1,140 @@
+//! The refusals.
+
+use std::error::Error;
+use std::fmt;
+
+/// Why a call was refused. Of several refusals that apply, the calls give the first in this order: 1 (under three bytes), 2, 3, 1 (length),
+/// 4, then arc by arc 5, 6, 7, then 13, then 8 to 12.
+///
+/// ```
+/// use postman::{short_call, Refusal};
+///
+/// let refusal = short_call(&[0x20, 0x40, 0x20]).unwrap_err();
+/// assert_eq!(refusal, Refusal::Edition);
+/// assert_eq!((refusal.number(), refusal.word()), (2, "edition"));
+/// assert_eq!(refusal.to_string(), "refusal 2, edition: the file's edition is not 1");
+/// ```
+#[derive(Clone, Copy, PartialEq, Eq, PartialOrd, Ord, Hash, Debug)]
+pub enum Refusal {
+    /// The file has under 3 bytes, or fewer than its arcs need.
+    Torn = 1,
+    /// The file's edition is not 1.
+    Edition = 2,
+    /// No vertex or more than 64, or no arc or more than 256.
+    Extent = 3,
+    /// The file has more bytes than its arcs need, or a fill bit is 1.
+    Margin = 4,
+    /// An arc's tail or head is no vertex.
+    OffSheet = 5,
+    /// An arc's cost is 0.
+    Unpriced = 6,
+    /// An arc's standing is above 2.
+    Standing = 7,
+    /// Too few records, bytes or places are lent.
+    ShortSheet = 8,
+    /// The budget is 0 or above 1,000,000.
+    Budget = 9,
+    /// No arc must be driven.
+    Idle = 10,
+    /// The plan has more than 8 parts.
+    Scattered = 11,
+    /// No drive exists: some required vertex has no path to another.
+    CutOff = 12,
+    /// Two arcs agree in tail, head, standing and cost.
+    Repeated = 13,
+}
+
+impl Refusal {
+    /// All refusals, by their numbers.
+    pub const ALL: [Refusal; 13] = [
+        Refusal::Torn,
+        Refusal::Edition,
+        Refusal::Extent,
+        Refusal::Margin,
+        Refusal::OffSheet,
+        Refusal::Unpriced,
+        Refusal::Standing,
+        Refusal::ShortSheet,
+        Refusal::Budget,
+        Refusal::Idle,
+        Refusal::Scattered,
+        Refusal::CutOff,
+        Refusal::Repeated,
+    ];
+
+    /// The refusal's number, from 1 to 13.
+    pub fn number(self) -> u32 {
+        self as u32
+    }
+
+    /// The refusal of a number.
+    ///
+    /// ```
+    /// use postman::Refusal;
+    ///
+    /// assert_eq!(Refusal::from_number(12), Some(Refusal::CutOff));
+    /// assert_eq!(Refusal::from_number(0), None);
+    /// ```
+    pub fn from_number(number: u32) -> Option<Refusal> {
+        Refusal::ALL.into_iter().find(|refusal| refusal.number() == number)
+    }
+
+    /// The refusal's trade word.
+    pub fn word(self) -> &'static str {
+        self.words().0
+    }
+
+    /// The trade word, and what it means.
+    fn words(self) -> (&'static str, &'static str) {
+        match self {
+            Refusal::Torn => ("torn", "the file has under 3 bytes, or fewer than its arcs need"),
+            Refusal::Edition => ("edition", "the file's edition is not 1"),
+            Refusal::Extent => ("extent", "no vertex or more than 64, or no arc or more than 256"),
+            Refusal::Margin => ("margin", "the file has more bytes than its arcs need, or a fill bit is 1"),
+            Refusal::OffSheet => ("off sheet", "an arc's tail or head is no vertex"),
+            Refusal::Unpriced => ("unpriced", "an arc's cost is 0"),
+            Refusal::Standing => ("standing", "an arc's standing is above 2"),
+            Refusal::ShortSheet => ("short sheet", "too few records, bytes or places are lent"),
+            Refusal::Budget => ("budget", "the budget is 0 or above 1,000,000"),
+            Refusal::Idle => ("idle", "no arc must be driven"),
+            Refusal::Scattered => ("scattered", "the plan has more than 8 parts"),
+            Refusal::CutOff => ("cut off", "no drive exists: some required vertex has no path to another"),
+            Refusal::Repeated => ("repeated", "two arcs agree in tail, head, standing and cost"),
+        }
+    }
+}
+
+impl fmt::Display for Refusal {
+    fn fmt(&self, f: &mut fmt::Formatter<'_>) -> fmt::Result {
+        let (word, meaning) = self.words();
+        write!(f, "refusal {}, {word}: {meaning}", self.number())
+    }
+}
+
+impl Error for Refusal {}
+
+#[cfg(test)]
+mod tests {
+    use super::*;
+
+    #[test]
+    fn numbers_are_one_to_thirteen() {
+        let numbers: Vec<u32> = Refusal::ALL.iter().map(|refusal| refusal.number()).collect();
+        assert_eq!(numbers, (1..=13).collect::<Vec<u32>>());
+        for refusal in Refusal::ALL {
+            assert_eq!(Refusal::from_number(refusal.number()), Some(refusal));
+        }
+        for number in [0, 14, u32::MAX] {
+            assert_eq!(Refusal::from_number(number), None);
+        }
+    }
+
+    #[test]
+    fn trade_words_differ() {
+        for a in Refusal::ALL {
+            for b in Refusal::ALL {
+                assert_eq!(a.word() == b.word(), a == b);
+            }
+        }
+    }
+}

@@ -1,0 +1,128 @@
+/*
+ * The survey drive's planner: reading and writing plan files, the plan call and the short call.
+ *
+ * A slice is lent as a pointer and a length. The length counts elements, not bytes. Pointers are not null, not even with
+ * a length of 0, and the slices of one call do not overlap. That is all that is asked of a caller: any bytes, numbers and
+ * lengths will do.
+ *
+ * Every function answers what was asked for, 0 or more, or minus a refusal's number. Of several refusals that apply the
+ * first in this order is given: 1 (under three bytes), 2, 3, 1 (length), 4, then arc by arc 5, 6, 7, then 13, then 8 to 12.
+ * A refusal changes no lent slice. The functions keep nothing and share nothing, so that threads may call them at once.
+ *
+ * Link with target/staticlib/libexports.a, which `rt staticlib exports` builds. examples/plan.c shows a plan call.
+ */
+#ifndef POSTMAN_H
+#define POSTMAN_H
+
+#include <stddef.h>
+#include <stdint.h>
+
+#ifdef __cplusplus
+extern "C" {
+#endif
+
+/* The most vertices and arcs of a plan, and the most bytes of its file. */
+#define POSTMAN_MOST_VERTICES 64
+#define POSTMAN_MOST_ARCS 256
+#define POSTMAN_LONGEST_FILE 963
+
+/* The most parts of a plan that is not refused. */
+#define POSTMAN_MOST_PARTS 8
+
+/* The places that a sheet must have at least. No drive takes more. */
+#define POSTMAN_SHEET_PLACES 17266
+
+/* The budget of the short call, and the highest one of the plan call. The lowest is 1. */
+#define POSTMAN_DEFAULT_BUDGET 100000
+#define POSTMAN_HIGHEST_BUDGET 1000000
+
+/* The distance that stands for "no path". A plan with such a distance between required vertices is refused with 12. */
+#define POSTMAN_NO_PATH 4294967295u
+
+/* A record is an arc in five bytes: tail, head, standing, the cost's high byte, its low byte. */
+#define POSTMAN_RECORD_BYTES 5
+#define POSTMAN_RECORD_TAIL 0
+#define POSTMAN_RECORD_HEAD 1
+#define POSTMAN_RECORD_STANDING 2
+#define POSTMAN_RECORD_COST_HIGH 3
+#define POSTMAN_RECORD_COST_LOW 4
+
+/* An arc's standing. */
+enum postman_standing {
+    POSTMAN_OPTIONAL = 0, /* may be driven */
+    POSTMAN_REQUIRED = 1, /* must be driven */
+    POSTMAN_CLOSED = 2    /* is held in the file and never driven */
+};
+
+/* The words of an answer, by their index. */
+#define POSTMAN_ANSWER_WORDS 6
+#define POSTMAN_PLACES 0 /* how many places the drive takes */
+#define POSTMAN_COST 1   /* what the drive costs */
+#define POSTMAN_FLOOR 2  /* no drive costs less */
+#define POSTMAN_TREES 3  /* trees tried */
+#define POSTMAN_WHOLE 4  /* 1 if these are all trees, and then the cost is the least of all drives; else 0 */
+#define POSTMAN_PARTS 5  /* the plan's parts */
+
+/* The multipliers of an answer: one for each vertex, 0 where no required arc begins or ends. */
+#define POSTMAN_MULTIPLIERS 64
+
+/* A file that was read answers this many times its vertices, plus its arcs. */
+#define POSTMAN_COUNTS 512
+
+/* The refusals. */
+enum postman_refusal {
+    POSTMAN_TORN = 1,        /* the file has under 3 bytes, or fewer than its arcs need */
+    POSTMAN_EDITION = 2,     /* the file's edition is not 1 */
+    POSTMAN_EXTENT = 3,      /* no vertex or more than 64, or no arc or more than 256 */
+    POSTMAN_MARGIN = 4,      /* the file has more bytes than its arcs need, or a fill bit is 1 */
+    POSTMAN_OFF_SHEET = 5,   /* an arc's tail or head is no vertex */
+    POSTMAN_UNPRICED = 6,    /* an arc's cost is 0 */
+    POSTMAN_STANDING = 7,    /* an arc's standing is above 2 */
+    POSTMAN_SHORT_SHEET = 8, /* too few records, bytes or places are lent */
+    POSTMAN_BUDGET = 9,      /* the budget is 0 or above 1,000,000 */
+    POSTMAN_IDLE = 10,       /* no arc must be driven */
+    POSTMAN_SCATTERED = 11,  /* the plan has more than 8 parts */
+    POSTMAN_CUT_OFF = 12,    /* no drive exists: some required vertex has no path to another */
+    POSTMAN_REPEATED = 13    /* two arcs agree in tail, head, standing and cost */
+};
+
+/*
+ * Reads the file `plan`. Answers 512 n + m, for n vertices and m arcs, or minus a refusal from 1 to 8 or 13.
+ *
+ * `records` has room for a fifth of its bytes; bytes left over are no record. The file's arcs are put into its first m
+ * records, in the file's order. Later bytes are untouched. With fewer than m records it is refused with 8.
+ */
+int64_t postman_read_plan(const uint8_t *plan, size_t plan_len, uint8_t *records, size_t records_len);
+
+/*
+ * Writes the file of n vertices and the arcs `records`. Answers the file's length in bytes, or minus a refusal: 3, 5 to 8
+ * or 13.
+ *
+ * m is a fifth of the bytes of `records`; bytes left over are no record. The file is put into `bytes` from its start.
+ * Later bytes are untouched. With fewer bytes than the file has it is refused with 8; POSTMAN_LONGEST_FILE always suffice.
+ */
+int64_t postman_write_plan(uint32_t n, const uint8_t *records, size_t records_len, uint8_t *bytes, size_t bytes_len);
+
+/*
+ * The plan call: lays a closed drive for the file `plan`, trying at most `budget` trees. Answers 0, or minus a refusal from
+ * 1 to 13.
+ *
+ * `sheet` takes the drive's arc numbers from its start, the lowest required arc first; the answer's word POSTMAN_PLACES
+ * says how many. Later places are untouched. With fewer than POSTMAN_SHEET_PLACES places it is refused with 8.
+ * `answer` takes the POSTMAN_ANSWER_WORDS words above, and `multipliers` the POSTMAN_MULTIPLIERS multipliers: as many as
+ * fit, from the start. Later elements are untouched. Neither is refused for its length.
+ */
+int64_t postman_plan_call(const uint8_t *plan, size_t plan_len, uint64_t budget, uint16_t *sheet, size_t sheet_len,
+                          uint64_t *answer, size_t answer_len, int64_t *multipliers, size_t multipliers_len);
+
+/*
+ * The short call: the plan call with a budget of POSTMAN_DEFAULT_BUDGET. It never refuses with 9.
+ */
+int64_t postman_short_call(const uint8_t *plan, size_t plan_len, uint16_t *sheet, size_t sheet_len, uint64_t *answer,
+                           size_t answer_len, int64_t *multipliers, size_t multipliers_len);
+
+#ifdef __cplusplus
+}
+#endif
+
+#endif

@@ -1,0 +1,425 @@
+//! The library's C functions are declared in three places: its source, the C header and the Rust package. No compiler compares them, so this
+//! test does; and the constants of the header with those of the package.
+
+use postman_tests::plan;
+use postman_tests::planner::refusal;
+use std::collections::BTreeMap;
+use std::path::{Path, PathBuf};
+
+// ---- declarations
+
+/// A function as C sees it. Types are in Rust's words.
+#[derive(Clone, PartialEq, Eq, Debug)]
+struct Function {
+    name: String,
+    parameters: Vec<(String, String)>,
+    result: String,
+}
+
+fn without_line_comments(text: &str) -> String {
+    text.lines().map(|line| line.split("//").next().expect("the part before a comment").to_string() + "\n").collect()
+}
+
+fn without_block_comments(text: &str) -> String {
+    let mut parts = text.split("/*");
+    let before = parts.next().expect("the part before a comment").to_string();
+    parts.fold(before, |kept, part| kept + " " + part.split_once("*/").expect("the end of a comment").1)
+}
+
+/// Name, parameters and what follows them, of `name(parameters) …`.
+fn parts(text: &str) -> (&str, Vec<&str>, &str) {
+    let (name, rest) = text.split_once('(').unwrap_or_else(|| panic!("no parameters: {text}"));
+    let (parameters, rest) = rest.split_once(')').unwrap_or_else(|| panic!("no end of the parameters: {text}"));
+    let parameters = parameters.split(',').map(str::trim).filter(|parameter| !parameter.is_empty());
+    (name.trim(), parameters.collect(), rest.trim_start())
+}
+
+/// The type after an arrow.
+fn result(text: &str) -> String {
+    let rest = text.strip_prefix("->").unwrap_or_else(|| panic!("no result: {text}")).trim_start();
+    rest.split([' ', '\n', ';', '{']).next().expect("a type").to_string()
+}
+
+/// Name and type of `name: type`.
+fn annotated(parameter: &str) -> (String, &str) {
+    let (name, of) = parameter.split_once(':').unwrap_or_else(|| panic!("no type: {parameter}"));
+    (name.trim().to_string(), of.trim())
+}
+
+/// The exported functions of a Rattle source. A slice is a pointer and a length.
+fn of_rattle(source: &str) -> Vec<Function> {
+    let source = without_line_comments(source);
+    let exported: Vec<&str> = source.split("pub extern \"C\" fn ").collect();
+    let functions = exported.windows(2).map(|pair| {
+        let (name, parameters, rest) = parts(pair[1]);
+        assert!(pair[0].trim_end().ends_with("#[no_mangle]"), "{name} is not exported by its name");
+        let parameters = parameters.into_iter().flat_map(|parameter| {
+            let (name, of) = annotated(parameter);
+            let slice = |prefix| of.strip_prefix(prefix).and_then(|of: &str| of.strip_suffix(']'));
+            let pointer = |pointer: String| vec![(name.clone(), pointer), (format!("{name}_len"), "usize".to_string())];
+            match (slice("&["), slice("&mut [")) {
+                (Some(of), _) => pointer(format!("*const {of}")),
+                (_, Some(of)) => pointer(format!("*mut {of}")),
+                _ => vec![(name, of.to_string())],
+            }
+        });
+        Function { name: name.to_string(), parameters: parameters.collect(), result: result(rest) }
+    });
+    let functions: Vec<Function> = functions.collect();
+    for word in ["no_mangle", "extern"] {
+        assert_eq!(source.matches(word).count(), functions.len(), "`{word}` without an exported function");
+    }
+    functions
+}
+
+/// The functions of the `extern` blocks of a Rust source.
+fn of_rust(source: &str) -> Vec<Function> {
+    let source = without_line_comments(source);
+    let blocks = source.split("extern \"C\" {").skip(1).map(|rest| rest.split_once('}').expect("the block's end").0);
+    let functions = blocks.flat_map(|block| block.split(';')).filter(|declaration| !declaration.trim().is_empty());
+    functions
+        .map(|declaration| {
+            let declaration = declaration.trim().strip_prefix("pub fn ").expect("a function");
+            let (name, parameters, rest) = parts(declaration);
+            let parameters = parameters.into_iter().map(annotated).map(|(name, of)| (name, of.to_string()));
+            Function { name: name.to_string(), parameters: parameters.collect(), result: result(rest) }
+        })
+        .collect()
+}
+
+/// Name and type of a C declarator: `const uint8_t *plan`.
+fn of_c_declarator(text: &str) -> (String, String) {
+    let spaced = text.replace('*', " * ");
+    let (prefix, of, name) = match spaced.split_whitespace().collect::<Vec<&str>>()[..] {
+        ["const", of, "*", name] => ("*const ", of, name),
+        [of, "*", name] => ("*mut ", of, name),
+        [of, name] => ("", of, name),
+        _ => panic!("no declarator that is known here: {text}"),
+    };
+    let of = match of {
+        "uint8_t" => "u8",
+        "uint16_t" => "u16",
+        "uint32_t" => "u32",
+        "uint64_t" => "u64",
+        "int64_t" => "i64",
+        "size_t" => "usize",
+        _ => panic!("no type that is known here: {of}"),
+    };
+    (name.to_string(), format!("{prefix}{of}"))
+}
+
+/// The functions of a C header.
+fn of_c(header: &str) -> Vec<Function> {
+    let text = without_block_comments(header);
+    let text: Vec<&str> = text.lines().filter(|line| !line.starts_with('#')).collect();
+    let text = text.join("\n").replace("extern \"C\" {", "");
+    let declarations = text.split(';').filter(|declaration| declaration.contains('('));
+    declarations
+        .map(|declaration| {
+            let (declarator, parameters, rest) = parts(declaration);
+            assert!(rest.is_empty(), "something after the parameters: {declaration}");
+            let (name, result) = of_c_declarator(declarator);
+            Function { name, parameters: parameters.into_iter().map(of_c_declarator).collect(), result }
+        })
+        .collect()
+}
+
+/// What is declared otherwise in the second list than in the first. The order of functions does not matter.
+fn differences(first: &[Function], second: &[Function]) -> Vec<String> {
+    let by_name = |list: &[Function]| -> BTreeMap<String, Function> {
+        list.iter().map(|function| (function.name.clone(), function.clone())).collect()
+    };
+    let (a, b) = (by_name(first), by_name(second));
+    let mut found = Vec::new();
+    if a.len() != first.len() || b.len() != second.len() {
+        found.push("a function is declared twice".to_string());
+    }
+    found.extend(b.keys().filter(|name| !a.contains_key(*name)).map(|name| format!("{name} is not in the first")));
+    for (name, function) in &a {
+        match b.get(name) {
+            None => found.push(format!("{name} is not in the second")),
+            Some(other) if other != function => found.push(format!("{function:?}\n{other:?}")),
+            Some(_) => {}
+        }
+    }
+    found
+}
+
+// ---- constants
+
+type Constants = BTreeMap<String, u64>;
+
+/// A number of C or Rust, and nothing else.
+fn number(text: &str) -> Option<u64> {
+    text.trim().trim_end_matches('u').replace('_', "").parse().ok()
+}
+
+/// The constants of a C header, macros and enumerators, without their prefix.
+fn constants_of_c(header: &str) -> Constants {
+    let text = without_block_comments(header);
+    let constant = |line: &str| {
+        let line = line.trim().trim_end_matches(',');
+        let (name, value) = match line.strip_prefix("#define ") {
+            Some(line) => line.split_once(' ')?,
+            None => line.split_once(" = ")?,
+        };
+        let name = name.strip_prefix("POSTMAN_").unwrap_or_else(|| panic!("{name} has no prefix"));
+        Some((name.to_string(), number(value).unwrap_or_else(|| panic!("{name} is no number: {value}"))))
+    };
+    text.lines().filter_map(constant).collect()
+}
+
+/// The public constants of a Rust source.
+fn constants_of_rust(source: &str) -> Constants {
+    let constant = |line: &str| {
+        let (name, rest) = line.strip_prefix("pub const ")?.split_once(':').expect("a type");
+        let value = rest.split_once('=').expect("a value").1.trim().trim_end_matches(';');
+        Some((name.to_string(), number(value).unwrap_or_else(|| panic!("{name} is no number: {value}"))))
+    };
+    without_line_comments(source).lines().filter_map(constant).collect()
+}
+
+/// The cases of the enums of a Rust source that have a number, in capitals.
+fn cases_of_rust(source: &str) -> Constants {
+    let capitals = |name: &str| {
+        let word = |(i, c): (usize, char)| if i > 0 && c.is_uppercase() { format!("_{c}") } else { c.to_string() };
+        name.char_indices().map(word).collect::<String>().to_uppercase()
+    };
+    let case = |line: &str| {
+        let (name, value) = line.trim().strip_suffix(',')?.split_once(" = ")?;
+        name.chars().all(char::is_alphanumeric).then_some((capitals(name), number(value)?))
+    };
+    without_line_comments(source).lines().filter_map(case).collect()
+}
+
+// ---- the repository's files
+
+fn root() -> PathBuf {
+    Path::new(env!("CARGO_MANIFEST_DIR")).join("..")
+}
+
+fn read(path: &Path) -> String {
+    std::fs::read_to_string(path).unwrap_or_else(|error| panic!("{}: {error}", path.display()))
+}
+
+/// The functions of all files of a folder that end so.
+fn of_folder(folder: &str, extension: &str, of: fn(&str) -> Vec<Function>) -> Vec<Function> {
+    let entries = std::fs::read_dir(root().join(folder)).expect("a folder of sources");
+    let paths = entries.map(|entry| entry.expect("a file").path());
+    paths.filter(|path| path.extension().is_some_and(|e| e == extension)).flat_map(|path| of(&read(&path))).collect()
+}
+
+#[test]
+fn declarations_agree() {
+    let library = of_folder("crates/exports/src", "rt", of_rattle);
+    assert!(!library.is_empty(), "the library exports no function");
+    let header = of_c(&read(&root().join("include/postman.h")));
+    assert_eq!(differences(&library, &header), [""; 0], "library and header");
+    let package = of_folder("bindings/rust/src", "rs", of_rust);
+    assert_eq!(differences(&library, &package), [""; 0], "library and package");
+}
+
+#[test]
+fn constants_agree() {
+    let header = constants_of_c(&read(&root().join("include/postman.h")));
+    let package = |file: &str| read(&root().join("bindings/rust/src").join(file));
+    let mut all = constants_of_rust(&package("limits.rs"));
+    all.extend(cases_of_rust(&package("plan.rs")));
+    all.extend(cases_of_rust(&package("refusal.rs")));
+    assert_eq!(header, all);
+    // These are the numbers that the planners are held to.
+    for (name, value) in [
+        ("MOST_VERTICES", plan::MOST_VERTICES as u64),
+        ("MULTIPLIERS", plan::MOST_VERTICES as u64),
+        ("MOST_ARCS", plan::MOST_ARCS as u64),
+        ("MOST_PARTS", plan::MOST_PARTS as u64),
+        ("LONGEST_FILE", plan::LONGEST_FILE as u64),
+        ("SHEET_PLACES", plan::SHEET_PLACES as u64),
+        ("DEFAULT_BUDGET", plan::DEFAULT_BUDGET),
+        ("HIGHEST_BUDGET", plan::HIGHEST_BUDGET),
+        ("OPTIONAL", u64::from(plan::OPTIONAL)),
+        ("REQUIRED", u64::from(plan::REQUIRED)),
+        ("CLOSED", u64::from(plan::CLOSED)),
+        ("TORN", u64::from(refusal::TORN)),
+        ("EDITION", u64::from(refusal::EDITION)),
+        ("EXTENT", u64::from(refusal::EXTENT)),
+        ("MARGIN", u64::from(refusal::MARGIN)),
+        ("OFF_SHEET", u64::from(refusal::OFF_SHEET)),
+        ("UNPRICED", u64::from(refusal::UNPRICED)),
+        ("STANDING", u64::from(refusal::STANDING)),
+        ("SHORT_SHEET", u64::from(refusal::SHORT_SHEET)),
+        ("BUDGET", u64::from(refusal::BUDGET)),
+        ("IDLE", u64::from(refusal::IDLE)),
+        ("SCATTERED", u64::from(refusal::SCATTERED)),
+        ("CUT_OFF", u64::from(refusal::CUT_OFF)),
+        ("REPEATED", u64::from(refusal::REPEATED)),
+    ] {
+        assert_eq!(header.get(name), Some(&value), "{name}");
+    }
+}
+
+// ---- the test can fail
+
+const RATTLE: &str = r#"
+// A call. #[no_mangle] and extern "C" of a comment do not count.
+#[no_mangle]
+pub extern "C" fn call(
+    plan: &[u8],
+    budget: u64,
+    sheet: &mut [u16],
+) -> i64
+    ensures { λ k. ⌜ k ≡ f (now plan) ⌝ }
+{
+    other(plan)
+}
+
+fn other(plan: &[u8]) -> u32 {
+    0
+}
+
+#[no_mangle]
+pub extern "C" fn write(n: u32, words: &[i64]) -> u64 {
+    0
+}
+"#;
+
+const C: &str = r#"
+/* int64_t none(uint8_t x); */
+#ifdef __cplusplus
+extern "C" {
+#endif
+#define POSTMAN_MOST 4294967295u /* most */
+enum postman_kind {
+    POSTMAN_OFF_SHEET = 5, /* a kind */
+    POSTMAN_TORN = 1
+};
+
+/* A call. */
+int64_t call(const uint8_t *plan, size_t plan_len, uint64_t budget, uint16_t *sheet,
+             size_t sheet_len);
+uint64_t write(uint32_t n, const int64_t *words, size_t words_len);
+
+#ifdef __cplusplus
+}
+#endif
+"#;
+
+const RUST: &str = r#"
+/// fn none(x: u8);
+extern "C" {
+    /// A call.
+    pub fn call(
+        plan: *const u8,
+        plan_len: usize,
+        budget: u64,
+        sheet: *mut u16,
+        sheet_len: usize,
+    ) -> i64;
+    pub fn write(n: u32, words: *const i64, words_len: usize) -> u64;
+}
+pub const MOST: u32 = 4_294_967_295; // most
+enum Kind {
+    OffSheet = 5,
+    Torn = 1,
+}
+"#;
+
+/// The text with one thing changed.
+fn changed(text: &str, old: &str, new: &str) -> String {
+    assert_eq!(text.matches(old).count(), 1, "{old}");
+    text.replace(old, new)
+}
+
+#[test]
+fn equal_declarations_do_not_differ() {
+    let functions = of_rattle(RATTLE);
+    assert_eq!(functions.len(), 2);
+    assert_eq!(differences(&functions, &of_c(C)), [""; 0]);
+    assert_eq!(differences(&functions, &of_rust(RUST)), [""; 0]);
+}
+
+/// Name, number, order, parameter's name, width, sign, constness and result: each is seen in the header.
+#[test]
+fn a_change_of_the_header_is_seen() {
+    for (old, new) in [
+        ("int64_t call(", "int64_t cal("),
+        ("uint64_t write(uint32_t n, const int64_t *words, size_t words_len);", ""),
+        ("uint64_t write(", "uint64_t more(uint8_t x);\nuint64_t write("),
+        ("uint64_t budget, uint16_t *sheet,", "uint16_t *sheet, uint64_t budget,"),
+        ("size_t plan_len, uint64_t budget", "uint64_t budget, size_t plan_len"),
+        ("uint64_t budget, ", ""),
+        ("uint32_t n", "uint32_t m"),
+        ("size_t sheet_len", "size_t sheet_length"),
+        ("uint32_t n", "uint64_t n"),
+        ("uint64_t budget", "int64_t budget"),
+        ("uint16_t *sheet", "uint8_t *sheet"),
+        ("uint16_t *sheet", "uint16_t sheet"),
+        ("uint16_t *sheet", "const uint16_t *sheet"),
+        ("const uint8_t *plan", "uint8_t *plan"),
+        ("size_t words_len", "uint32_t words_len"),
+        ("int64_t call(", "uint64_t call("),
+        ("int64_t call(", "uint32_t call("),
+    ] {
+        let text = changed(C, old, new);
+        assert!(!differences(&of_rattle(RATTLE), &of_c(&text)).is_empty(), "{old} became {new}");
+    }
+}
+
+/// The same in the package.
+#[test]
+fn a_change_of_the_package_is_seen() {
+    for (old, new) in [
+        ("fn call(", "fn cal("),
+        ("pub fn write(n: u32, words: *const i64, words_len: usize) -> u64;", ""),
+        ("pub fn write(", "pub fn more(x: u8) -> i64;\n    pub fn write("),
+        ("budget: u64,\n        sheet: *mut u16,", "sheet: *mut u16,\n        budget: u64,"),
+        ("budget: u64,", ""),
+        ("n: u32", "m: u32"),
+        ("n: u32", "n: u64"),
+        ("sheet: *mut u16", "sheet: *mut u8"),
+        ("sheet: *mut u16", "sheet: *const u16"),
+        ("plan: *const u8", "plan: *mut u8"),
+        ("words_len: usize", "words_len: u32"),
+        (") -> i64", ") -> u32"),
+    ] {
+        let text = changed(RUST, old, new);
+        assert!(!differences(&of_rattle(RATTLE), &of_rust(&text)).is_empty(), "{old} became {new}");
+    }
+}
+
+/// The same in the library.
+#[test]
+fn a_change_of_the_library_is_seen() {
+    for (old, new) in [
+        ("fn call(", "fn cal("),
+        ("budget: u64,\n    sheet: &mut [u16],", "sheet: &mut [u16],\n    budget: u64,"),
+        ("budget: u64,", ""),
+        ("n: u32", "m: u32"),
+        ("n: u32", "n: u64"),
+        ("&mut [u16]", "&mut [u8]"),
+        ("&mut [u16]", "&[u16]"),
+        ("words: &[i64]", "words: &mut [i64]"),
+        ("words: &[i64]", "words: &[u64]"),
+        (") -> i64", ") -> u32"),
+    ] {
+        let functions = of_rattle(&changed(RATTLE, old, new));
+        assert!(!differences(&functions, &of_c(C)).is_empty(), "{old} became {new}");
+        assert!(!differences(&functions, &of_rust(RUST)).is_empty(), "{old} became {new}");
+    }
+}
+
+#[test]
+#[should_panic(expected = "write is not exported by its name")]
+fn a_mangled_name_is_seen() {
+    of_rattle(&changed(RATTLE, "#[no_mangle]\npub extern \"C\" fn write", "pub extern \"C\" fn write"));
+}
+
+#[test]
+fn constants_are_found() {
+    let expected = [("MOST", 4_294_967_295), ("OFF_SHEET", 5), ("TORN", 1)];
+    let expected: Constants = expected.into_iter().map(|(name, value)| (name.to_string(), value)).collect();
+    assert_eq!(constants_of_c(C), expected);
+    let mut rust = constants_of_rust(RUST);
+    rust.extend(cases_of_rust(RUST));
+    assert_eq!(rust, expected);
+}
