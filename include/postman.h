@@ -1,12 +1,13 @@
 /*
- * The survey drive's planner: reading and writing plan files, the plan call and the short call.
+ * The survey drive's planner: reading and writing plan files, the plan call and the short call, and distances.
  *
  * A slice is lent as a pointer and a length. The length counts elements, not bytes. Pointers are not null, not even with
  * a length of 0, and the slices of one call do not overlap. That is all that is asked of a caller: any bytes, numbers and
  * lengths will do.
  *
  * Every function answers what was asked for, 0 or more, or minus a refusal's number. Of several refusals that apply the
- * first in this order is given: 1 (under three bytes), 2, 3, 1 (length), 4, then arc by arc 5, 6, 7, then 13, then 8 to 12.
+ * first in this order is given: 1 (under three bytes), 2, 3, 1 (length), 4, then arc by arc 5, 6, 7, then 13, then 17,
+ * then 8 to 12.
  * A refusal changes no lent slice. The functions keep nothing and share nothing, so that threads may call them at once.
  *
  * Link with target/staticlib/libexports.a, which `rt staticlib exports` builds. examples/plan.c shows a plan call.
@@ -38,6 +39,10 @@ extern "C" {
 
 /* The distance that stands for "no path". A plan with such a distance between required vertices is refused with 12. */
 #define POSTMAN_NO_PATH 4294967295u
+
+/* The most pairs of one page, and what the first vertex of a pair is multiplied by: a pair is 256 first + second. */
+#define POSTMAN_MOST_PAIRS 256
+#define POSTMAN_PAIR 256
 
 /* A record is an arc in five bytes: tail, head, standing, the cost's high byte, its low byte. */
 #define POSTMAN_RECORD_BYTES 5
@@ -78,12 +83,13 @@ enum postman_refusal {
     POSTMAN_OFF_SHEET = 5,   /* an arc's tail or head is no vertex */
     POSTMAN_UNPRICED = 6,    /* an arc's cost is 0 */
     POSTMAN_STANDING = 7,    /* an arc's standing is above 2 */
-    POSTMAN_SHORT_SHEET = 8, /* too few records, bytes or places are lent */
+    POSTMAN_SHORT_SHEET = 8, /* too few records, bytes, places or distances are lent */
     POSTMAN_BUDGET = 9,      /* the budget is 0 or above 1,000,000 */
     POSTMAN_IDLE = 10,       /* no arc must be driven */
     POSTMAN_SCATTERED = 11,  /* the plan has more than 8 parts */
     POSTMAN_CUT_OFF = 12,    /* no drive exists: some required vertex has no path to another */
-    POSTMAN_REPEATED = 13    /* two arcs agree in tail, head, standing and cost */
+    POSTMAN_REPEATED = 13,   /* two arcs agree in tail, head, standing and cost */
+    POSTMAN_STRAY_PAIR = 17  /* more than 256 pairs, or one of what is no vertex */
 };
 
 /*
@@ -120,6 +126,18 @@ int64_t postman_plan_call(const uint8_t *plan, size_t plan_len, uint64_t budget,
  */
 int64_t postman_short_call(const uint8_t *plan, size_t plan_len, uint16_t *sheet, size_t sheet_len, uint64_t *answer,
                            size_t answer_len, int64_t *multipliers, size_t multipliers_len);
+
+/*
+ * Distances for a page of pairs of vertices of the file `plan`. Answers the number of searches run, which is the number of
+ * distinct first vertices, or minus a refusal: 1 to 7, 13, 17 or 8. Plans without an arc that must be driven have
+ * distances too.
+ *
+ * `distances` takes the pairs' distances from its start: the least cost of a path from the first vertex to the second, 0
+ * from a vertex to itself, and POSTMAN_NO_PATH for no path. Later entries are untouched. With fewer entries than pairs it
+ * is refused with 8.
+ */
+int64_t postman_distances(const uint8_t *plan, size_t plan_len, const uint16_t *pairs, size_t pairs_len,
+                          uint32_t *distances, size_t distances_len);
 
 #ifdef __cplusplus
 }

@@ -224,3 +224,12 @@ pub fn longest() -> Plan {
     let required = (0..MOST_ARCS - last).map(|k| Arc::new(0, 1, REQUIRED, 65_535 - k as u16));
     Plan { n: MOST_VERTICES, arcs: ring.chain(required).collect() }
 }
+
+/// A ring whose arcs stand in the file against its direction, four for each step: from any vertex a round of relaxation finds one vertex more.
+pub fn adverse_ring() -> Plan {
+    let arc = |k: usize| {
+        let tail = MOST_VERTICES - 1 - k % MOST_VERTICES;
+        Arc::new(tail, (tail + 1) % MOST_VERTICES, OPTIONAL, 1 + (k / MOST_VERTICES) as u16)
+    };
+    Plan { n: MOST_VERTICES, arcs: (0..MOST_ARCS).map(arc).collect() }
+}

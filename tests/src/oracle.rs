@@ -4,6 +4,7 @@
 //! |---|---|---|
 //! | file | a string of bits | a window of bits |
 //! | d | Floyd and Warshall | relaxation, row by row |
+//! | searches of a page | first vertices sorted | a flag for each vertex |
 //! | parts | transitive closure | labels that sink |
 //! | least balancing | assignment by the Hungarian method | units added along shortest paths |
 //! | N | plain enumeration; the matrix tree theorem | a successor with a completion test |
@@ -16,6 +17,7 @@ mod bound;
 mod file;
 mod graph;
 mod optimum;
+mod page;
 mod trees;
 
 pub use balancing::{assignment, greatest_multipliers, Assignment};
@@ -23,6 +25,7 @@ pub use bound::{cheapest_tree, lagrangian_bound};
 pub use file::{file_of, parse, read_refusal, write_refusal};
 pub use graph::{judge, Graph, INFINITE};
 pub use optimum::{optimum, MOST_REQUIRED_ARCS};
+pub use page::{page, page_refusal};
 pub use trees::{count_trees, first_trees, Enumerated};
 
 use crate::plan::{Plan, DEFAULT_BUDGET, HIGHEST_BUDGET, MOST_PARTS, MOST_VERTICES, SHEET_PLACES};

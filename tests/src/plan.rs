@@ -36,6 +36,9 @@ pub const DEFAULT_BUDGET: u64 = 100_000;
 pub const PROGRAM_BUDGET: u64 = 10_000;
 pub const HIGHEST_BUDGET: u64 = 1_000_000;
 
+/// The most pairs of a page of distances.
+pub const MOST_PAIRS: usize = 256;
+
 /// The most components ("parts") of a plan.
 pub const MOST_PARTS: usize = 8;
 

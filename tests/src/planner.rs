@@ -1,4 +1,4 @@
-//! What a planner is, for the tests: two traits over slices, the answer, and the refusals by number.
+//! What a planner is, for the tests: three traits over slices, the answer, and the refusals by number.
 //!
 //! With the feature `proved`, `Proved` is the proved library behind these traits, and can stand for `Yardstick` here:
 //!
@@ -39,6 +39,7 @@ pub mod refusal {
     pub const SCATTERED: Refusal = 11;
     pub const CUT_OFF: Refusal = 12;
     pub const REPEATED: Refusal = 13;
+    pub const STRAY_PAIR: Refusal = 17;
 }
 
 /// What the plan call answers beside the drive.
@@ -77,4 +78,11 @@ pub trait Codec {
     /// Writes the file of `n` vertices and the arcs `records` into `bytes` from the start: the file's length. Later bytes are untouched; a
     /// refusal changes none.
     fn write(&self, n: u32, records: &[Arc], bytes: &mut [u8]) -> Result<usize, Refusal>;
+}
+
+/// Distances for a page of pairs of vertices.
+pub trait DistanceCall {
+    /// The distances of pairs of vertices of the plan file `plan`, into `distances` from the start: the number of searches run. A pair is
+    /// 256 × first + second. Later entries are untouched; a refusal changes none.
+    fn distances(&self, plan: &[u8], pairs: &[u16], distances: &mut [u32]) -> Result<usize, Refusal>;
 }

@@ -2,9 +2,11 @@
 
 mod call;
 mod codec;
+mod page;
 
 pub use call::{examine_answer, examine_refusal, Case};
 pub use codec::{examine_codec, examine_writing};
+pub use page::examine_page;
 
 use std::collections::BTreeSet;
 
@@ -67,10 +69,20 @@ pub enum Property {
     Writing,
     /// Bytes after the file, and all in a refusal, are kept.
     BytesKept,
+    /// The distance call gives the first refusal that applies, and none otherwise.
+    PageRefusal,
+    /// Each entry of a page is d.
+    Entries,
+    /// Entries after the pairs, and all in a refusal, are kept.
+    EntriesKept,
+    /// The searches are as many as the distinct first vertices.
+    Searches,
+    /// Each entry is what the page of that pair alone gives.
+    SingleQuery,
 }
 
 /// All of them.
-pub const PROPERTIES: [Property; 28] = {
+pub const PROPERTIES: [Property; 33] = {
     use Property::*;
     [
         Returns,
@@ -101,6 +113,11 @@ pub const PROPERTIES: [Property; 28] = {
         RecordsKept,
         Writing,
         BytesKept,
+        PageRefusal,
+        Entries,
+        EntriesKept,
+        Searches,
+        SingleQuery,
     ]
 };
 

@@ -1,7 +1,9 @@
 //! The suite: what every planner is put through.
 
+mod pages;
 mod stated;
 
+pub use pages::run_pages;
 pub use stated::{case_a, case_b, case_c, run_stated, FILE_A};
 
 use crate::instances::{damaged, dead_ends, fullest, longest, random_bytes, random_plan, towns, Shape};

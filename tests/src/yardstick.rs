@@ -8,14 +8,16 @@ mod circuit;
 mod distance;
 mod file;
 mod network;
+mod page;
 
 pub use arborescence::{Candidate, Trees};
 pub use balance::{Balance, Lengths};
 pub use bound::{cheapest_arborescence, Entries};
 pub use circuit::shortest_path;
-pub use distance::{distances, Distances, NO_PATH};
+pub use distance::{distances, open_arcs, row, Distances, Row, NO_PATH};
 pub use file::{read, write};
 pub use network::{components, Components, Network};
+pub use page::vertices;
 
 use crate::plan::{
     Arc, Plan, CLOSED, DEFAULT_BUDGET, HIGHEST_BUDGET, MOST_PARTS, MOST_VERTICES, REQUIRED, SHEET_PLACES,

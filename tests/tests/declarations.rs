@@ -233,6 +233,7 @@ fn constants_agree() {
         ("MULTIPLIERS", plan::MOST_VERTICES as u64),
         ("MOST_ARCS", plan::MOST_ARCS as u64),
         ("MOST_PARTS", plan::MOST_PARTS as u64),
+        ("MOST_PAIRS", plan::MOST_PAIRS as u64),
         ("LONGEST_FILE", plan::LONGEST_FILE as u64),
         ("SHEET_PLACES", plan::SHEET_PLACES as u64),
         ("DEFAULT_BUDGET", plan::DEFAULT_BUDGET),
@@ -253,6 +254,7 @@ fn constants_agree() {
         ("SCATTERED", u64::from(refusal::SCATTERED)),
         ("CUT_OFF", u64::from(refusal::CUT_OFF)),
         ("REPEATED", u64::from(refusal::REPEATED)),
+        ("STRAY_PAIR", u64::from(refusal::STRAY_PAIR)),
     ] {
         assert_eq!(header.get(name), Some(&value), "{name}");
     }

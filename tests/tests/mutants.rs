@@ -2,7 +2,7 @@
 //! catches some wrong planner.
 
 use postman_tests::instances::Shape;
-use postman_tests::mutants::{codecs, planners};
+use postman_tests::mutants::{codecs, pages, planners};
 use postman_tests::oracle::Effort;
 use postman_tests::properties::{Case, Findings, Property, PROPERTIES};
 use postman_tests::suite;
@@ -60,9 +60,20 @@ fn wrong_readers_and_writers_are_caught() {
 }
 
 #[test]
+fn wrong_distance_calls_are_caught() {
+    for mutant in pages() {
+        let mut found = Findings::default();
+        suite::run_pages(&mut found, &*mutant.wrong, SEED, 1);
+        println!("{}: {:?}", mutant.name, found.violated);
+        assert_eq!(missed(mutant.violates, &found), [], "{}", mutant.name);
+    }
+}
+
+#[test]
 fn every_property_catches_some_mutant() {
     let mut caught: Vec<Property> = planners().iter().flat_map(|m| m.violates.to_vec()).collect();
     caught.extend(codecs().iter().flat_map(|m| m.violates.to_vec()));
+    caught.extend(pages().iter().flat_map(|m| m.violates.to_vec()));
     let idle: Vec<Property> = PROPERTIES.into_iter().filter(|p| !caught.contains(p)).collect();
     assert_eq!(idle, []);
 }

@@ -5,7 +5,7 @@
 
 use postman_tests::instances::Shape;
 use postman_tests::oracle::Effort;
-use postman_tests::planner::{Codec, Planner};
+use postman_tests::planner::{Codec, DistanceCall, Planner};
 use postman_tests::properties::Findings;
 use postman_tests::random::{setting, Random};
 use postman_tests::{suite, yardstick::Yardstick};
@@ -67,6 +67,12 @@ fn reading_and_writing(name: &str, codec: &dyn Codec) {
     found.assert_none(name, seed());
 }
 
+fn pages(name: &str, call: &dyn DistanceCall) {
+    let mut found = Findings::default();
+    suite::run_pages(&mut found, call, seed(), rounds(4));
+    found.assert_none(name, seed());
+}
+
 macro_rules! held_to_all {
     ($name:ident, $planner:expr) => {
         mod $name {
@@ -100,6 +106,11 @@ macro_rules! held_to_all {
             #[test]
             fn reading_and_writing() {
                 super::reading_and_writing(stringify!($name), &$planner);
+            }
+
+            #[test]
+            fn pages_of_distances() {
+                pages(stringify!($name), &$planner);
             }
         }
     };

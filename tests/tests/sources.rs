@@ -80,6 +80,15 @@ fn a_leg_copies_neither_the_table_nor_the_plan() {
     assert!(copying.is_empty(), "made for each leg, with a copy: {copying:?}");
 }
 
+/// The distance call searches from one vertex at a time.
+#[test]
+fn a_page_computes_no_table() {
+    let all = functions(&sources(&["distances", "shortest"]));
+    let way = reached(&all, "distance_call");
+    assert!(way.iter().any(|name| name == "row"), "no row is computed: {way:?}");
+    assert!(way.iter().all(|name| name != "table"), "the table is computed: {way:?}");
+}
+
 /// The test of the test: sources in which a leg does copy.
 #[test]
 fn a_copy_is_seen() {

@@ -28,4 +28,13 @@ extern "C" {
         multipliers: *mut i64,
         multipliers_len: usize,
     ) -> i64;
+
+    pub fn postman_distances(
+        plan: *const u8,
+        plan_len: usize,
+        pairs: *const u16,
+        pairs_len: usize,
+        distances: *mut u32,
+        distances_len: usize,
+    ) -> i64;
 }

@@ -28,6 +28,7 @@
 #![deny(missing_docs)]
 
 mod answer;
+mod distances;
 mod ffi;
 pub mod limits;
 mod plan;
@@ -35,5 +36,6 @@ pub mod raw;
 mod refusal;
 
 pub use answer::{plan_call, short_call, Answer};
+pub use distances::{distances, Distances};
 pub use plan::{Arc, Plan, Standing};
 pub use refusal::Refusal;

@@ -21,6 +21,11 @@ pub const HIGHEST_BUDGET: u64 = 1_000_000;
 /// The distance that stands for "no path".
 pub const NO_PATH: u32 = 4_294_967_295;
 
+/// The most pairs of a page.
+pub const MOST_PAIRS: usize = 256;
+/// What the first vertex of a pair is multiplied by: a pair is 256 first + second.
+pub const PAIR: u16 = 256;
+
 /// The bytes of a record, which is an arc: tail, head, standing, the cost's high byte, its low byte.
 pub const RECORD_BYTES: usize = 5;
 /// The index of a record's tail.

@@ -116,6 +116,34 @@ pub fn short_call(plan: &[u8], sheet: &mut [u16], answer: &mut [u64], multiplier
     .map(|_| ())
 }
 
+/// Distances for a page of pairs of vertices of the file `plan`, on lent slices: the number of searches run, one for each first vertex. Refuses
+/// with 1 to 8, 13 and 17.
+///
+/// A pair is [`PAIR`](crate::limits::PAIR) × first + second. `distances` takes the pairs' distances from its start, and later entries are
+/// untouched; [`NO_PATH`](crate::limits::NO_PATH) stands for no path. With fewer entries than pairs it is refused with 8.
+///
+/// ```
+/// use postman::limits::PAIR;
+///
+/// let file = [0x10, 0x40, 0x20, 0x01, 0x40, 0x01, 0x41, 0x00, 0x00, 0x03];
+/// let mut distances = [7; 4];
+/// assert_eq!(postman::raw::distances(&file, &[1, PAIR, 0], &mut distances), Ok(2));
+/// assert_eq!(distances, [5, 3, 0, 7]);
+/// ```
+pub fn distances(plan: &[u8], pairs: &[u16], distances: &mut [u32]) -> Result<usize, Refusal> {
+    // SAFETY: as in `read_plan`.
+    unless_refused(unsafe {
+        ffi::postman_distances(
+            plan.as_ptr(),
+            plan.len(),
+            pairs.as_ptr(),
+            pairs.len(),
+            distances.as_mut_ptr(),
+            distances.len(),
+        )
+    })
+}
+
 #[cfg(test)]
 mod tests {
     use super::*;

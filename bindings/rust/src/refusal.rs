@@ -4,7 +4,7 @@ use std::error::Error;
 use std::fmt;
 
 /// Why a call was refused. Of several refusals that apply, the calls give the first in this order: 1 (under three bytes), 2, 3, 1 (length),
-/// 4, then arc by arc 5, 6, 7, then 13, then 8 to 12.
+/// 4, then arc by arc 5, 6, 7, then 13, then 17, then 8 to 12.
 ///
 /// ```
 /// use postman::{short_call, Refusal};
@@ -30,7 +30,7 @@ pub enum Refusal {
     Unpriced = 6,
     /// An arc's standing is above 2.
     Standing = 7,
-    /// Too few records, bytes or places are lent.
+    /// Too few records, bytes, places or distances are lent.
     ShortSheet = 8,
     /// The budget is 0 or above 1,000,000.
     Budget = 9,
@@ -42,11 +42,13 @@ pub enum Refusal {
     CutOff = 12,
     /// Two arcs agree in tail, head, standing and cost.
     Repeated = 13,
+    /// More than 256 pairs, or one of what is no vertex.
+    StrayPair = 17,
 }
 
 impl Refusal {
     /// All refusals, by their numbers.
-    pub const ALL: [Refusal; 13] = [
+    pub const ALL: [Refusal; 14] = [
         Refusal::Torn,
         Refusal::Edition,
         Refusal::Extent,
@@ -60,9 +62,10 @@ impl Refusal {
         Refusal::Scattered,
         Refusal::CutOff,
         Refusal::Repeated,
+        Refusal::StrayPair,
     ];
 
-    /// The refusal's number, from 1 to 13.
+    /// The refusal's number.
     pub fn number(self) -> u32 {
         self as u32
     }
@@ -94,12 +97,13 @@ impl Refusal {
             Refusal::OffSheet => ("off sheet", "an arc's tail or head is no vertex"),
             Refusal::Unpriced => ("unpriced", "an arc's cost is 0"),
             Refusal::Standing => ("standing", "an arc's standing is above 2"),
-            Refusal::ShortSheet => ("short sheet", "too few records, bytes or places are lent"),
+            Refusal::ShortSheet => ("short sheet", "too few records, bytes, places or distances are lent"),
             Refusal::Budget => ("budget", "the budget is 0 or above 1,000,000"),
             Refusal::Idle => ("idle", "no arc must be driven"),
             Refusal::Scattered => ("scattered", "the plan has more than 8 parts"),
             Refusal::CutOff => ("cut off", "no drive exists: some required vertex has no path to another"),
             Refusal::Repeated => ("repeated", "two arcs agree in tail, head, standing and cost"),
+            Refusal::StrayPair => ("stray pair", "more than 256 pairs, or one of what is no vertex"),
         }
     }
 }
@@ -118,9 +122,9 @@ mod tests {
     use super::*;
 
     #[test]
-    fn numbers_are_one_to_thirteen() {
+    fn numbers_are_those_of_the_trade() {
         let numbers: Vec<u32> = Refusal::ALL.iter().map(|refusal| refusal.number()).collect();
-        assert_eq!(numbers, (1..=13).collect::<Vec<u32>>());
+        assert_eq!(numbers, (1..=13).chain([17]).collect::<Vec<u32>>());
         for refusal in Refusal::ALL {
             assert_eq!(Refusal::from_number(refusal.number()), Some(refusal));
         }

@@ -5,6 +5,7 @@ pub mod Below
 pub mod Minimum
 pub mod Pick
 pub mod Occurrences
+pub mod Distinct
 pub mod Sum
 pub mod Distance
 pub mod Assignment
@@ -29,6 +30,7 @@ pub mod BitField
 pub mod Refusal
 pub mod Repeated
 pub mod Acceptance
+pub mod DistanceCall
 pub mod PlanFile
 pub mod Optimality
 pub mod Search

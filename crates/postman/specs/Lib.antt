@@ -1,4 +1,4 @@
--- The definitions, in document 01's order: what a reader has to believe.
+-- The definitions, in document 01's order, then the calls that came later: what a reader has to believe.
 pub mod Lists
 pub mod Plan
 pub mod BitField
@@ -14,6 +14,7 @@ pub mod Balancing
 pub mod LagrangianBound
 pub mod PlanCall
 pub mod Guarantee
+pub mod DistanceCall
 -- What is proved about them.
 pub mod Laws
 pub mod Theorem

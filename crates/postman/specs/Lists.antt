@@ -86,6 +86,16 @@ unfolding delta
 occurrences i [] = 0
 occurrences i (x ∷ xs) = delta i x + occurrences i xs
 
+-- Whether a number occurs in a list; the numbers of a list, each once.
+unfoldable pub occurs : ℕ → List ℕ → Bool
+unfolding anyOf
+occurs x xs = anyOf (eqb x) xs
+
+unfoldable pub distinct : List ℕ → List ℕ
+unfolding occurs
+distinct [] = []
+distinct (x ∷ xs) = cond (occurs x xs) (distinct xs) (x ∷ distinct xs)
+
 -- One element of each list, in every way, ascending by the choice from the first list, then from the second, and so on.
 unfoldable pub choices {ℓ} : {A : Type ℓ} → List (List A) → List (List A)
 unfolding flatMap

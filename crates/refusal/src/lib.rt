@@ -18,6 +18,7 @@ pub enum Refusal {
     Scattered,
     CutOff,
     Repeated,
+    StrayPair,
 }
 
 // The number of a refusal.
@@ -38,6 +39,7 @@ pub fn refusal_number(r: Refusal) -> u8
         Refusal::Scattered => 11,
         Refusal::CutOff => 12,
         Refusal::Repeated => 13,
+        Refusal::StrayPair => 17,
     }
 }
 

@@ -3,10 +3,10 @@
 //! The planners take turns. A time is the processor's, not the clock's, so that other work on the machine counts little, and it is the least of several
 //! runs; beside it stands how far the slowest run was above it, which is the machine's noise. The sheet is cleared before each run, outside the time.
 
-use postman_tests::instances::{fullest, longest, towns};
+use postman_tests::instances::{adverse_ring, fullest, longest, towns};
 use postman_tests::oracle::{count_trees, file_of, Graph};
-use postman_tests::plan::{Plan, SHEET_PLACES};
-use postman_tests::planner::{Answer, Codec, Planner};
+use postman_tests::plan::{Plan, MOST_PAIRS, SHEET_PLACES};
+use postman_tests::planner::{Answer, Codec, DistanceCall, Planner};
 use postman_tests::yardstick::{Balance, Steps, Yardstick};
 use std::cell::Cell;
 use std::time::{Duration, Instant};
@@ -126,8 +126,33 @@ fn longest_drive(planners: &[(&str, Box<dyn Planner>)]) {
     }
 }
 
+/// Pages of distances, by the number of their first vertices: what is left of an empty one is reading. On the first town, and on a plan whose searches take
+/// every round.
+fn pages() {
+    let calls: Vec<(&str, Box<dyn DistanceCall>)> = vec![
+        ("yardstick", Box::new(Yardstick)),
+        #[cfg(feature = "proved")]
+        ("proved", Box::new(postman_tests::planner::Proved)),
+    ];
+    let (name, town) = towns().swap_remove(0);
+    for (name, plan) in [(name, town), ("a ring, every round", adverse_ring())] {
+        let file = file_of(&plan);
+        for (count, firsts) in [(0, 1), (1, 1), (MOST_PAIRS, 1), (MOST_PAIRS, 8), (MOST_PAIRS, 64)] {
+            let pairs: Vec<u16> = (0..count).map(|k| (256 * (k % firsts) + k / 4 % plan.n) as u16).collect();
+            let mut distances = vec![0; count];
+            for (call, by) in &calls {
+                let mut searches = 0;
+                let time =
+                    microseconds(|| searches = by.distances(&file, &pairs, &mut distances).expect("a good page"));
+                println!("{name}: {count} pairs, {searches} searches: {call:<10} {time:>6.1} µs");
+            }
+        }
+    }
+}
+
 fn main() {
     codecs();
+    pages();
     let planners = planners();
     longest_drive(&planners);
     let mut totals = vec![0.0; planners.len()];

@@ -1,6 +1,6 @@
 //! The proved library behind the traits, through the package `postman` (`bindings/rust`).
 
-use super::{Answer, Codec, Planner, Refusal};
+use super::{Answer, Codec, DistanceCall, Planner, Refusal};
 use crate::plan::{Arc, MOST_VERTICES};
 use postman::limits::{ANSWER_WORDS, RECORD_BYTES};
 use postman::raw;
@@ -51,6 +51,12 @@ impl Codec for Proved {
     fn write(&self, n: u32, records: &[Arc], bytes: &mut [u8]) -> Result<usize, Refusal> {
         let lent: Vec<u8> = records.iter().flat_map(to_bytes).collect();
         raw::write_plan(n, &lent, bytes).map_err(postman::Refusal::number)
+    }
+}
+
+impl DistanceCall for Proved {
+    fn distances(&self, plan: &[u8], pairs: &[u16], distances: &mut [u32]) -> Result<usize, Refusal> {
+        raw::distances(plan, pairs, distances).map_err(postman::Refusal::number)
     }
 }
 

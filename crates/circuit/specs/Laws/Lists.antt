@@ -68,11 +68,6 @@ by-numbers xs =
     let l : length (map (λ e. getD xs e 0) (upFrom 0 n)) ≡ n = length-map (upFrom 0 n) (λ e. getD xs e 0) ∙ length-upFrom 0 n in
     ext-getD 0 (map (λ e. getD xs e 0) (upFrom 0 n)) xs l (λ i m. getD-map-upFrom (λ e. getD xs e 0) 0 n i 0 (omega arith) ∙ ap (λ z. getD xs z 0) (zero-add i))
 
-pub getD-map-in : {A : Type 0} (f : A → ℕ) (xs : List A) (k : ℕ) (d : A) → k < length xs → getD (map f xs) k 0 ≡ f (getD xs k d)
-getD-map-in f [] k d l = absurd (omega arith)
-getD-map-in f (x ∷ xs) zero d l = refl
-getD-map-in f (x ∷ xs) (suc k) d l = getD-map-in f xs k d (omega arith)
-
 pub take-one : (xs : List ℕ) (i : ℕ) → i < length xs → take i xs ++ getD xs i 0 ∷ [] ≡ take (i + 1) xs
 take-one xs i l = let e : suc i ≡ i + 1 = omega arith in sym (take-suc xs i 0 l) ∙ ap (λ z. take z xs) e
 

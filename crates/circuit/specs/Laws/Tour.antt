@@ -18,7 +18,7 @@ use Rattle.postman.specs.Required.{required, requiredCost}
 use Rattle.postman.specs.Distance.{distance}
 use Rattle.postman.specs.Link.{Link}
 use Rattle.postman.specs.Balancing.{linkCost, balancingCost}
-use Rattle.postman.specs.Laws.Membership.{mem-getD, mem-flatMap, getD-mem, mem-below, below-mem}
+use Rattle.postman.specs.Laws.Membership.{mem-getD, mem-flatMap, getD-mem, getD-map-in, mem-below, below-mem}
 use Rattle.postman.specs.Laws.Pick.{Permutation, permutation-mem}
 use Rattle.postman.specs.Laws.Distance.{walk-append, cost-append}
 use Rattle.postman.specs.Laws.Required.{required-open, numbers-mem, mem-numbers, numbers-arcs, numbers-field}
@@ -28,7 +28,7 @@ use Rattle.circuit.specs.Eulerian.{Joined, IsCircuit}
 use Rattle.circuit.specs.Legs.{amount, units, arcLeg, legs, legTails, legHeads, Completes}
 use Rattle.circuit.specs.Tour.{legPlaces, placesOf, tourBy, IsPath, ArePaths}
 use Rattle.circuit.specs.Laws.Sum.{permutation-sum}
-use Rattle.circuit.specs.Laws.Lists.{map-append, map-map, upFrom-append, getD-map-in}
+use Rattle.circuit.specs.Laws.Lists.{map-append, map-map, upFrom-append}
 use Rattle.circuit.specs.Laws.Counting.{mem-of-permutation}
 use Rattle.circuit.specs.Laws.Units.{weight-append, units-weight}
 use Rattle.circuit.specs.Laws.Few.{few-numbers, few-others}

@@ -92,6 +92,11 @@ module _ {A B : Type 0} where
     | inr n ↦ let r = flatMap-mem f xs n in (r .0, List·Memᴰ·tail (r .1), r .2)
   ]
 
+pub getD-map-in : {A : Type 0} (f : A → ℕ) (xs : List A) (k : ℕ) (d : A) → k < length xs → getD (map f xs) k 0 ≡ f (getD xs k d)
+getD-map-in f [] k d l = absurd (omega arith)
+getD-map-in f (x ∷ xs) zero d l = refl
+getD-map-in f (x ∷ xs) (suc k) d l = getD-map-in f xs k d (omega arith)
+
 -- ---- numbers in a row
 
 pub upFrom-mem : (a n : ℕ) {k : ℕ} → List·Memᴰ k (upFrom a n) → (a ≤ k) × (k < a + n)

@@ -1,0 +1,4 @@
+-- What is proved about the definitions.
+pub mod Pairs
+pub mod Filling
+pub mod Answer

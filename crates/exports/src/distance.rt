@@ -1,0 +1,28 @@
+// The distance call, for callers in other languages. An answer is one number: the number of searches run, or minus the refusal's.
+ghost use mathlib.Core.Path.{_≡_};
+ghost use lib.ListN.{length};
+ghost use Rattle.postman.specs.DistanceCall.{distanceAnswer, distancesAfter};
+ghost use Rattle.distances.specs.Answer.{searchedAnswer};
+ghost use Rattle.exports.specs.Number.{oneNumber};
+use crate::number::refused_number;
+use distances::Searched;
+
+// What the distance call answers, as one number.
+fn searched_number(s: Searched) -> i64
+    ensures { λ k. ⌜ k ≡ oneNumber (searchedAnswer s) ⌝ }
+{
+    match s {
+        Searched::Searches(k) => k as i64,
+        Searched::Refused(q) => refused_number(q),
+    }
+}
+
+// THE DISTANCE CALL. A pair is 256 × first + second. `distances` takes the pairs' distances from its start, and later entries are untouched; a refusal changes none.
+#[no_mangle]
+pub extern "C" fn postman_distances(plan: &[u8], pairs: &[u16], distances: &mut [u32]) -> i64
+    ensures { λ r. ⌜ (r ≡ oneNumber (distanceAnswer (now (plan .entry)) (now (pairs .entry)) (length (now (distances .entry)))))
+        × (now (distances .exit) ≡ distancesAfter (now (plan .entry)) (now (pairs .entry)) (now (distances .entry))) ⌝ }
+{
+    let searched = distances::call::distance_call(plan, pairs, distances);
+    searched_number(searched)
+}
