@@ -8,6 +8,7 @@ use mathlib.Core.Option.{none, some}
 use Prim.Native.Nat.{ℕ, zero, suc, _≤_, _<_}
 use native.Mathlib.Omega.{arith}
 use lib.ListN.{length, getD, drop, length-map, List·getD-append}
+use lib.Arith.{le→nltb}
 use lib.Dec.{T, T-not, not-T, leb, ltb, nleb→lt, nltb→le, leb→le, ltb→lt}
 use Rattle.postman.specs.Lists.{anyOf}
 use Rattle.postman.specs.Plan.{WellFormed}
@@ -76,9 +77,7 @@ module _ (n : ℕ) (pairs : List ℕ) where
 
   pub accepted-pairs : (room : ℕ) → ArePairs n pairs → length pairs ≤ room → firstRefusal (pairsConditions n pairs room) ≡ none
   unfolding pairsConditions
-  accepted-pairs room h l =
-      let enough = not-T (ltb room (length pairs)) (λ t. (let g = ltb→lt room (length pairs) t in omega arith)) in
-      cons-accepted _ _ _ (pairs-are h) (cons-accepted _ _ _ enough nothing-refused)
+  accepted-pairs room h l = cons-accepted _ _ _ (pairs-are h) (cons-accepted _ _ _ (le→nltb room (length pairs) l) nothing-refused)
 
 -- ---- a call that is not refused
 
