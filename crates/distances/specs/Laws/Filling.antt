@@ -3,7 +3,7 @@
 -- first vertex occurs.
 use mathlib.Core.Path.{_≡_, refl, sym, ap, _∙_, subst⁻¹}
 use mathlib.Core.Logic.{_≢_}
-use mathlib.Core.Bool.{Bool, true, false, cond, _||_}
+use mathlib.Core.Bool.{Bool, true, false, cond, _||_, or-true, or-false}
 use mathlib.Core.List.{List, [], _∷_, _++_, map}
 use Prim.Native.Nat.{ℕ, _+_, _-_, _≤_, _<_}
 use native.Mathlib.Decide.{ℕ-discrete, decLe}
@@ -106,14 +106,6 @@ seen-all pairs k l = let m = length-map pairs first in take-all k (map first pai
 occurs-again : (xs : List ℕ) (s : ℕ) → occurs s xs ≡ true → (v : ℕ) → occurs v (xs ++ s ∷ []) ≡ occurs v xs
 occurs-again xs s e v = occurs-more v xs s ∙ at (eqb v s) refl
   where
-    or-true : (b : Bool) → (b || true) ≡ true
-    or-true true = refl
-    or-true false = refl
-
-    or-false : (b : Bool) → (b || false) ≡ b
-    or-false true = refl
-    or-false false = refl
-
     at : (b : Bool) → eqb v s ≡ b → (occurs v xs || b) ≡ occurs v xs
     at true t = let i = eqb-true v s t in or-true (occurs v xs) ∙ sym (ap (λ z. occurs z xs) i ∙ e)
     at false t = or-false (occurs v xs)
@@ -204,18 +196,10 @@ module _ (p : Plan) (pairs old : List ℕ) where
           at false true = refl
           at false false = refl
 
-      or-true : (b : Bool) → true ≡ (b || true)
-      or-true true = refl
-      or-true false = refl
-
-      or-false : (b : Bool) → b ≡ (b || false)
-      or-false true = refl
-      or-false false = refl
-
       flag-set : (v : ℕ) → v < 64 → getD (set searched source true) v false ≡ (occurs v (seen pairs k) || eqb v source)
       flag-set v g = elim (ℕ-discrete v source) [
-        | yes i ↦ rw (eq-eqb v source i) (rw (i, getD-set-same searched source true false (let f = h .flags in omega arith)) (or-true (occurs source (seen pairs k))))
-        | no n ↦ rw (ne-eqb v source n) (getD-set-other searched source v true false n ∙ h .flag v g ∙ or-false (occurs v (seen pairs k)))
+        | yes i ↦ rw (eq-eqb v source i) (rw (i, getD-set-same searched source true false (let f = h .flags in omega arith)) (sym (or-true (occurs source (seen pairs k)))))
+        | no n ↦ rw (ne-eqb v source n) (getD-set-other searched source v true false n ∙ h .flag v g ∙ sym (or-false (occurs v (seen pairs k))))
       ]
 
   pub filled-as : {now now′ : List ℕ} {searched searched′ : List Bool} {searches searches′ k : ℕ} → now′ ≡ now → searched′ ≡ searched → searches′ ≡ searches

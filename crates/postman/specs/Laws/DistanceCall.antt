@@ -8,6 +8,7 @@ use mathlib.Core.Option.{none, some}
 use Prim.Native.Nat.{ℕ, zero, suc, _≤_, _<_}
 use native.Mathlib.Omega.{arith}
 use lib.ListN.{length, getD, drop, length-map, List·getD-append}
+use lib.Arith.{le→nltb}
 use lib.Dec.{T, T-not, not-T, leb, ltb, nleb→lt, nltb→le, leb→le, ltb→lt}
 use Rattle.postman.specs.Lists.{anyOf}
 use Rattle.postman.specs.Plan.{WellFormed}
@@ -76,7 +77,7 @@ module _ (n : ℕ) (pairs : List ℕ) where
 
   pub accepted-pairs : (room : ℕ) → ArePairs n pairs → length pairs ≤ room → firstRefusal (pairsConditions n pairs room) ≡ none
   unfolding pairsConditions
-  accepted-pairs room h l = cons-accepted _ _ _ (pairs-are h) (cons-accepted _ _ _ (not-T (ltb room (length pairs)) (λ t. (let g = ltb→lt room (length pairs) t in omega arith))) nothing-refused)
+  accepted-pairs room h l = cons-accepted _ _ _ (pairs-are h) (cons-accepted _ _ _ (le→nltb room (length pairs) l) nothing-refused)
 
 -- ---- a call that is not refused
 
@@ -93,7 +94,8 @@ distance-accepted bytes pairs room e =
     let b = pairs-accepted (planOf bytes .n) pairs room (a .1) in
     record { file = a .0; well-formed = file-accepted bytes (a .0); pairs-in = b .0; enough = b .1 }
 
-pub accepted-distance : (bytes pairs : List ℕ) (room : ℕ) → firstRefusal (fileConditions bytes) ≡ none → ArePairs (planOf bytes .n) pairs → length pairs ≤ room → distanceRefusal bytes pairs room ≡ none
+pub accepted-distance : (bytes pairs : List ℕ) (room : ℕ) → firstRefusal (fileConditions bytes) ≡ none → ArePairs (planOf bytes .n) pairs → length pairs ≤ room
+    → distanceRefusal bytes pairs room ≡ none
 unfolding distanceRefusal
 accepted-distance bytes pairs room e h l = append-accepted (fileConditions bytes) _ e (accepted-pairs (planOf bytes .n) pairs room h l)
 

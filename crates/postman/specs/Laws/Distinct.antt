@@ -2,7 +2,7 @@
 -- induction on the list.
 use mathlib.Core.Path.{_≡_, refl, sym, subst, subst⁻¹}
 use mathlib.Core.Logic.{inl, inr}
-use mathlib.Core.Bool.{Bool, true, false, not, cond, _||_}
+use mathlib.Core.Bool.{Bool, true, false, not, cond, _||_, or-false, or-assoc}
 use mathlib.Core.List.{List, [], _∷_, _++_, List·Memᴰ, List·Memᴰ·head, List·Memᴰ·tail, List·Memᴰ·cases-cons}
 use Prim.Native.Nat.{ℕ, _+_, _≤_, _<_}
 use native.Mathlib.Decide.{ℕ-discrete, decLe}
@@ -33,17 +33,9 @@ occurs-cons : (v x : ℕ) (xs : List ℕ) → occurs v (x ∷ xs) ≡ (eqb v x |
 unfolding occurs anyOf
 occurs-cons v x xs = refl
 
-or-false : (b : Bool) → (b || false) ≡ b
-or-false true = refl
-or-false false = refl
-
-or-assoc : (a b c : Bool) → (a || (b || c)) ≡ ((a || b) || c)
-or-assoc true b c = refl
-or-assoc false b c = refl
-
 pub occurs-more : (v : ℕ) (xs : List ℕ) (x : ℕ) → occurs v (xs ++ x ∷ []) ≡ (occurs v xs || eqb v x)
 occurs-more v [] x = simp (occurs-cons, occurs-none, or-false)
-occurs-more v (y ∷ xs) x = let h = occurs-more v xs x in simp (occurs-cons, h) (or-assoc (eqb v y) (occurs v xs) (eqb v x))
+occurs-more v (y ∷ xs) x = let h = occurs-more v xs x in simp (occurs-cons, h) (sym (or-assoc (eqb v y) (occurs v xs) (eqb v x)))
 
 -- ---- each once
 
