@@ -21,6 +21,7 @@ pub mod Route
 pub mod Entries
 pub mod Arborescence
 pub mod LinkLegs
+pub mod TourCost
 pub mod TourBound
 pub mod SignedSum
 pub mod LagrangianBound
@@ -28,6 +29,7 @@ pub mod Multiplier
 pub mod BitField
 pub mod Refusal
 pub mod Repeated
+pub mod FileLength
 pub mod Acceptance
 pub mod PlanFile
 pub mod Optimality
