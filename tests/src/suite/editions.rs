@@ -1,9 +1,10 @@
 //! Both editions and the checking cost, in document 02's numbers.
 
+use super::faults;
 use super::stated::{case_a, case_c, Row, Stated, FILE_A};
 use crate::instances::{checked, fullest};
 use crate::oracle::file_of;
-use crate::plan::{Arc, Plan, CLOSED, OPTIONAL, REQUIRED};
+use crate::plan::{Arc, Plan, CLOSED, OPTIONAL};
 use crate::planner::{Codec, Refusal};
 use crate::properties::{Findings, Property};
 
@@ -91,56 +92,65 @@ pub(super) fn rows() -> Vec<Row> {
     files.into_iter().map(|(what, file, budget, stated)| Row { what, file, budget, places: 17_266, stated }).collect()
 }
 
-/// Files, what reading them answers, and the arcs that are then in the list.
-type Readings = Vec<(&'static [u8], (u8, usize, usize), Vec<Arc>)>;
-
 /// Holds reading and writing to both editions of case A and to the longest files, and to the order of refusals.
 pub fn run_stated_codec(found: &mut Findings, codec: &dyn Codec) {
-    let (a, checked_a) = (case_a().arcs, case_a_checked(9, &[]).arcs);
-    let readings: Readings = vec![(&FILE_A, (1, 2, 2), a.clone()), (&FILE_A_CHECKED, (2, 2, 2), checked_a.clone())];
-    for (file, counts, arcs) in readings {
+    let readings = [(&FILE_A[..], 1, case_a().arcs), (&FILE_A_CHECKED, 2, case_a_checked(9, &[]).arcs)];
+    for (file, edition, arcs) in readings {
         let mut records = vec![Arc::default(); 2];
         let told = codec.read(file, &mut records);
         let about = || format!("reading {file:02x?}: {told:?}, {records:?}");
-        found.expect(Property::Stated, told == Ok(counts) && records == arcs, about);
+        found.expect(Property::Stated, told == Ok((edition, 2, 2)) && records == arcs, about);
     }
-
-    let without = [Arc::new(0, 1, REQUIRED, 5), Arc { service: 1, ..a[1] }];
-    let writings: Vec<(&str, u8, &[Arc], usize, Result<&[u8], Refusal>)> = vec![
-        ("A", 1, &a, 10, Ok(&FILE_A)),
-        ("A in 20 bytes", 1, &a, 20, Ok(&FILE_A)),
-        ("A in 9 bytes", 1, &a, 9, Err(8)),
-        ("A checked at 9", 2, &checked_a, 14, Ok(&FILE_A_CHECKED)),
-        ("A checked at 9 in 13 bytes", 2, &checked_a, 13, Err(8)),
-        ("A checked at 9 in edition 1", 1, &checked_a, 14, Err(6)),
-        ("A checked at 9 in edition 1, in 9 bytes", 1, &checked_a, 9, Err(6)),
-        ("an optional arc's checking cost in edition 1", 1, &without, 14, Err(6)),
-        ("an optional arc's checking cost in edition 2", 2, &without, 14, Err(6)),
-        ("edition 0", 0, &a, 14, Err(2)),
-        ("edition 3", 3, &a, 14, Err(2)),
-        ("edition 15", 15, &a, 14, Err(2)),
-        ("edition 17, which is 1 in four bits", 17, &a, 14, Err(2)),
-        ("edition 18, which is 2 in four bits", 18, &checked_a, 14, Err(2)),
-        ("edition 255", 255, &a, 14, Err(2)),
-        ("edition 0, no arc", 0, &[], 14, Err(2)),
-        ("edition 3 in 0 bytes", 3, &checked_a, 0, Err(2)),
-        ("edition 1, no arc", 1, &[], 14, Err(3)),
-    ];
-    for (what, edition, arcs, room, stated) in writings {
+    for Writing { what, edition, arcs, room, stated } in writings() {
         let mut bytes = vec![0; room];
-        let told = codec.write(edition, 2, arcs, &mut bytes);
+        let told = codec.write(edition, 2, &arcs, &mut bytes);
         let good = match stated {
             Ok(file) => told == Ok(file.len()) && bytes.starts_with(file),
             Err(number) => told == Err(number),
         };
         found.expect(Property::Stated, good, || format!("writing, {what}: {told:?}, {bytes:02x?}"));
     }
-
     for (plan, length) in [(fullest(), 963), (fullest_checked(), 1_475)] {
         for (room, stated) in [(length - 1, Err(8)), (length, Ok(length)), (length + 1, Ok(length))] {
             let told = codec.write(plan.edition, 64, &plan.arcs, &mut vec![0; room]);
             found.expect(Property::Stated, told == stated, || format!("256 arcs into {room} bytes: {told:?}"));
         }
     }
-    super::faults::run_codec(found, codec);
+    faults::run_codec(found, codec);
+}
+
+/// Arcs between two vertices, and the file that they are written to in an edition and so many bytes, or the refusal.
+struct Writing {
+    what: &'static str,
+    edition: u8,
+    arcs: Vec<Arc>,
+    room: usize,
+    stated: Result<&'static [u8], Refusal>,
+}
+
+fn writings() -> Vec<Writing> {
+    let a = || case_a().arcs;
+    let a_checked = || case_a_checked(9, &[]).arcs;
+    let way_checked = || case_a_with(OPTIONAL, 3, 1).arcs;
+    let rows = [
+        ("A", 1, a(), 10, Ok(&FILE_A[..])),
+        ("A in 20 bytes", 1, a(), 20, Ok(&FILE_A)),
+        ("A in 9 bytes", 1, a(), 9, Err(8)),
+        ("A checked at 9", 2, a_checked(), 14, Ok(&FILE_A_CHECKED)),
+        ("A checked at 9 in 13 bytes", 2, a_checked(), 13, Err(8)),
+        ("A checked at 9 in edition 1", 1, a_checked(), 14, Err(6)),
+        ("A checked at 9 in edition 1, in 9 bytes", 1, a_checked(), 9, Err(6)),
+        ("an optional arc's checking cost in edition 1", 1, way_checked(), 14, Err(6)),
+        ("an optional arc's checking cost in edition 2", 2, way_checked(), 14, Err(6)),
+        ("edition 0", 0, a(), 14, Err(2)),
+        ("edition 3", 3, a(), 14, Err(2)),
+        ("edition 15", 15, a(), 14, Err(2)),
+        ("edition 17, which is 1 in four bits", 17, a(), 14, Err(2)),
+        ("edition 18, which is 2 in four bits", 18, a_checked(), 14, Err(2)),
+        ("edition 255", 255, a(), 14, Err(2)),
+        ("edition 0, no arc", 0, vec![], 14, Err(2)),
+        ("edition 3 in 0 bytes", 3, a_checked(), 0, Err(2)),
+        ("edition 1, no arc", 1, vec![], 14, Err(3)),
+    ];
+    rows.map(|(what, edition, arcs, room, stated)| Writing { what, edition, arcs, room, stated }).into()
 }
