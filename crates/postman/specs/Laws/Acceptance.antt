@@ -144,6 +144,26 @@ pub record IsFile (bytes : List ℕ) : Type 0 where
   pub filled : fillBits bytes (edition bytes) (arcCount bytes) ≡ 0
   pub arcs-in : firstRefusal (planConditions (edition bytes) (planOf bytes)) ≡ none
 
+-- the fields of an arc fit a record
+pub arc-record : (bytes : List ℕ) (e k : ℕ) → IsRecord (arcOf bytes e k)
+unfolding arcOf arcFrom impliedService
+arc-record bytes e k =
+    let i = fileBits e k in
+    let tail = field-lt bytes i 6 in
+    let head = field-lt bytes (i + 6) 6 in
+    let standing = field-lt bytes (i + 12) 2 in
+    let cost = field-lt bytes (i + 14) 16 in
+    let service = field-lt bytes (i + 30) 16 in
+    record {
+      tail = omega arith;
+      head = omega arith;
+      standing = omega arith;
+      cost = cost;
+      service =
+          cond-ind (isSecond e) _ _ (λ x. x < 65536) (λ t. service)
+          (λ t. cond-ind (eqb (fieldAt bytes (i + 12) 2) 1) _ 0 (λ x. x < 65536) (λ u. cost) (λ u. omega arith));
+    }
+
 module _ (bytes : List ℕ) where
   abbrev n : ℕ
   n = vertexCount bytes
@@ -211,22 +231,14 @@ module _ (bytes : List ℕ) where
   unfolding planOf
   arc-read a h = let r = map-mem (arcOf bytes e) (below m) h in (r .0, below-mem (r .1), r .2)
 
-  costs-lt : (k : ℕ) → (arcOf bytes e k .cost < 65536) × (arcOf bytes e k .service < 65536)
-  unfolding arcOf arcFrom impliedService
-  costs-lt k =
-      let i = fileBits e k in
-      let c = field-lt bytes (i + 14) 16 in
-      let s = field-lt bytes (i + 30) 16 in
-      (c, cond-ind (isSecond e) _ _ (λ x. x < 65536) (λ t. s) (λ t. cond-ind (eqb (fieldAt bytes (i + 12) 2) 1) _ 0 (λ x. x < 65536) (λ u. c) (λ u. omega arith)))
-
   costs-read : (a : Arc) → List·Memᴰ a (planOf bytes .arcs) → (a .cost ≤ 65535) × (a .service ≤ 65535)
   costs-read a h =
       let r = arc-read a h in
       let c = ap (λ (b : Arc). b .cost) (r .2) in
       let s = ap (λ (b : Arc). b .service) (r .2) in
-      let l = costs-lt (r .0) in
-      let l₀ = l .0 in
-      let l₁ = l .1 in
+      let l = arc-record bytes e (r .0) in
+      let l₀ = l .cost in
+      let l₁ = l .service in
       (omega arith, omega arith)
 
   pub vertices-read : planOf bytes .n ≡ vertexCount bytes
