@@ -118,7 +118,7 @@ int64_t postman_read_plan(const uint8_t *plan, size_t plan_len, uint8_t *records
  * m is a seventh of the bytes of `records`; bytes left over are no record. The file is put into `bytes` from its start.
  * Later bytes are untouched. With fewer bytes than the file has it is refused with 8; POSTMAN_LONGEST_FILE always suffice.
  */
-int64_t postman_write_plan(uint8_t edition, uint32_t n, const uint8_t *records, size_t records_len, uint8_t *bytes,
+int64_t postman_write_plan(uint32_t edition, uint32_t n, const uint8_t *records, size_t records_len, uint8_t *bytes,
                            size_t bytes_len);
 
 /*

@@ -5,7 +5,7 @@ extern "C" {
     pub fn postman_read_plan(plan: *const u8, plan_len: usize, records: *mut u8, records_len: usize) -> i64;
 
     pub fn postman_write_plan(
-        edition: u8,
+        edition: u32,
         n: u32,
         records: *const u8,
         records_len: usize,

@@ -137,7 +137,7 @@ impl Plan {
     pub fn write(&self) -> Result<Vec<u8>, Refusal> {
         let records: Vec<u8> = self.arcs.iter().flat_map(|arc| arc.to_record()).collect();
         let mut bytes = vec![0; LONGEST_FILE];
-        let length = raw::write_plan(self.edition.number(), self.vertices, &records, &mut bytes)?;
+        let length = raw::write_plan(self.edition.number().into(), self.vertices, &records, &mut bytes)?;
         bytes.truncate(length);
         Ok(bytes)
     }

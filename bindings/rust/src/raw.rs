@@ -46,7 +46,7 @@ pub fn read_plan(plan: &[u8], records: &mut [u8]) -> Result<(u8, usize, usize), 
 /// assert_eq!(postman::raw::write_plan(1, 2, &records, &mut bytes), Ok(10));
 /// assert_eq!(bytes, [0x10, 0x40, 0x20, 0x01, 0x40, 0x01, 0x41, 0x00, 0x00, 0x03, 0xFF, 0xFF]);
 /// ```
-pub fn write_plan(edition: u8, n: u32, records: &[u8], bytes: &mut [u8]) -> Result<usize, Refusal> {
+pub fn write_plan(edition: u32, n: u32, records: &[u8], bytes: &mut [u8]) -> Result<usize, Refusal> {
     // SAFETY: as in `read_plan`.
     unless_refused(unsafe {
         ffi::postman_write_plan(edition, n, records.as_ptr(), records.len(), bytes.as_mut_ptr(), bytes.len())
@@ -197,13 +197,13 @@ mod tests {
         assert_eq!(write_plan(2, 2, &records, &mut bytes), Ok(14));
         assert_eq!(bytes, CHECKED);
         assert_eq!(write_plan(1, 2, &records, &mut bytes), Err(Refusal::Unpriced));
-        for edition in (0..=255).filter(|edition| ![1, 2].contains(edition)) {
+        for edition in [0, 3, 15, 16, 255, 256, 257, 258, 65_537, u32::MAX] {
             assert_eq!(write_plan(edition, 0, &records, &mut bytes), Err(Refusal::Edition));
+        }
+        for edition in (0..16).filter(|edition| ![1, 2].contains(edition)) {
             let mut file = CHECKED;
             file[0] = edition << 4;
-            if ![1, 2].contains(&(edition & 15)) {
-                assert_eq!(read_plan(&file, &mut records), Err(Refusal::Edition));
-            }
+            assert_eq!(read_plan(&file, &mut records), Err(Refusal::Edition));
         }
         assert_eq!(bytes, CHECKED);
     }

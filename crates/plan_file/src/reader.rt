@@ -153,6 +153,15 @@ pub fn read_arc(s: &[u8], edition: u8, k: usize) -> Arc
     }
 }
 
+// The record of arc k, in the file's own edition.
+pub fn file_arc(s: &[u8], k: usize) -> Arc
+    requires { ⌜ (k < 256) × (3 ≤ length (now s)) × (fileBits (edition (now s)) k + arcWidth (edition (now s)) ≤ 8 * length (now s)) ⌝ }
+    ensures { λ r. ⌜ r ≡ recordOf (arcOf (now (s .entry)) (edition (now (s .entry))) k) ⌝ }
+{
+    let e = file_edition(s);
+    read_arc(s, e, k)
+}
+
 // The records of the m arcs of the file, and zeros after them.
 fn read_arcs(s: &[u8], edition: u8, m: usize) -> [Arc; 256]
     requires { ⌜ (m ≤ 256) × (fileBits edition m ≤ 8 * length (now s)) ⌝ }

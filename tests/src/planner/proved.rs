@@ -51,7 +51,7 @@ impl Codec for Proved {
 
     fn write(&self, edition: u8, n: u32, records: &[Arc], bytes: &mut [u8]) -> Result<usize, Refusal> {
         let lent: Vec<u8> = records.iter().flat_map(to_bytes).collect();
-        raw::write_plan(edition, n, &lent, bytes).map_err(postman::Refusal::number)
+        raw::write_plan(edition.into(), n, &lent, bytes).map_err(postman::Refusal::number)
     }
 }
 

@@ -1,8 +1,8 @@
 -- The refusal of writing, by the parts of a plan by value; and what a refusal, or none, answers and leaves.
-use mathlib.Core.Path.{_≡_}
-use mathlib.Core.Bool.{true, false, cond, not, _||_, or-true}
+use mathlib.Core.Path.{_≡_, refl}
+use mathlib.Core.Bool.{Bool, true, false, cond, not, _||_, or-true}
 use mathlib.Core.List.{List, [], _∷_, _++_}
-use mathlib.Core.Option.{none, some}
+use mathlib.Core.Option.{Option, none, some}
 use Prim.Native.Nat.{ℕ, _<_}
 use borrow.Author.Tests.{lt-ltb}
 use lib.Dec.{ltb}
@@ -60,14 +60,26 @@ above : (x low high : ℕ) → high < x → isOutside x low high ≡ true
 unfolding isOutside
 above x low high h = rw (lt-ltb high x h) (or-true (ltb x low))
 
-module _ (e : ℕ) (p : Graph) (room : ℕ) where
-  pub too-many-vertices : 64 < p .n → writeRefusal e p room ≡ cond (not (isEdition e)) (some 2) (some 3)
-  unfolding writeRefusal editionConditions extentConditions firstRefusal
-  too-many-vertices h = rw (above (p .n) 1 64 h)
+-- Then the refusal is 3, unless the edition is refused before.
+abbrev pub headerRefusal : ℕ → ℕ
+headerRefusal e = cond (isEdition e) 3 2
 
-  pub too-many-arcs : 256 < length (p .arcs) → writeRefusal e p room ≡ cond (not (isEdition e)) (some 2) (some 3)
+either : (b : Bool) → cond {A = Option ℕ} (not b) (some 2) (some 3) ≡ some (cond b 3 2)
+either true = refl
+either false = refl
+
+module _ (e : ℕ) (p : Graph) (room : ℕ) where
+  pub too-many-vertices : 64 < p .n → writeRefusal e p room ≡ some (headerRefusal e)
   unfolding writeRefusal editionConditions extentConditions firstRefusal
-  too-many-arcs h = rw (above (length (p .arcs)) 1 256 h, or-true (isOutside (p .n) 1 64))
+  too-many-vertices h = rw (above (p .n) 1 64 h) (either (isEdition e))
+
+  pub too-many-arcs : 256 < length (p .arcs) → writeRefusal e p room ≡ some (headerRefusal e)
+  unfolding writeRefusal editionConditions extentConditions firstRefusal
+  too-many-arcs h = rw (above (length (p .arcs)) 1 256 h, or-true (isOutside (p .n) 1 64)) (either (isEdition e))
+
+  pub no-edition : isEdition e ≡ false → writeRefusal e p room ≡ some 2
+  unfolding writeRefusal editionConditions firstRefusal
+  no-edition h = rw h
 
 -- The answer and the slice, of a refusal and of a file; and from the answer back to the refusal.
 module _ (e : ℕ) (p : Graph) (bytes : List ℕ) where
