@@ -15,10 +15,10 @@ pub struct Distances {
 /// The distances of up to 256 pairs of vertices of a plan file, each from the first vertex to the second. Refuses with 1 to 7, 13 and 17.
 ///
 /// ```
-/// use postman::{distances, Arc, Plan, Refusal, Standing};
+/// use postman::{distances, Arc, Edition, Plan, Refusal, Standing};
 ///
-/// let may = |tail, head, cost| Arc { tail, head, standing: Standing::Optional, cost };
-/// let file = Plan { vertices: 4, arcs: vec![may(0, 1, 2), may(1, 2, 2), may(0, 2, 5)] }.write()?;
+/// let may = |tail, head, cost| Arc::new(tail, head, Standing::Optional, cost);
+/// let file = Plan { edition: Edition::First, vertices: 4, arcs: vec![may(0, 1, 2), may(1, 2, 2), may(0, 2, 5)] }.write()?;
 /// let page = distances(&file, &[(0, 1), (0, 2), (2, 0), (3, 3)])?;
 /// assert_eq!(page.entries, [Some(2), Some(4), None, Some(0)]);
 /// assert_eq!(page.searches, 3);

@@ -16,9 +16,9 @@ fn bit(s: &[u8], n: usize) -> u32
     (x >> (7 - n % 8)) % 2
 }
 
-// The field of `width` bits from bit `at` on. A plan file has fewer than 8,000 bits.
+// The field of `width` bits from bit `at` on. A plan file has fewer than 12,000 bits.
 pub fn field(s: &[u8], at: usize, width: usize) -> u32
-    requires { ⌜ (width ≤ 16) × (at + width ≤ 8 * length (now s)) × (at ≤ 8000) ⌝ }
+    requires { ⌜ (width ≤ 16) × (at + width ≤ 8 * length (now s)) × (at ≤ 12000) ⌝ }
     ensures { λ r. ⌜ r ≡ fieldAt (now (s .entry)) at width ⌝ }
 {
     let mut r: u32 = 0;
@@ -58,7 +58,7 @@ fn put_bit(s: &mut [u8], n: usize, b: u32)
 
 // The bits from `at` on become the `width` bits of v, and every other bit stays.
 pub fn put_field(s: &mut [u8], at: usize, width: usize, v: u32)
-    requires { ⌜ (width ≤ 16) × (at + width ≤ 8 * length (now s)) × (at ≤ 8000) ⌝ }
+    requires { ⌜ (width ≤ 16) × (at + width ≤ 8 * length (now s)) × (at ≤ 12000) ⌝ }
     ensures { λ _. ⌜ now (s .exit) ≡ putField (now (s .entry)) at width v ⌝ }
 {
     for i in 0..width {

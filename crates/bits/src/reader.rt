@@ -18,7 +18,7 @@ pub struct Taken {
 
 // The work: the field of `width` bits from bit `at` on, and the position after it.
 pub fn field_from(file: &[u8], at: usize, width: usize) -> Taken
-    requires { ⌜ (width ≤ 16) × (at + width ≤ 8 * length (now file)) × (at ≤ 8000) ⌝ }
+    requires { ⌜ (width ≤ 16) × (at + width ≤ 8 * length (now file)) × (at ≤ 12000) ⌝ }
     ensures { λ r. ⌜ (r .field ≡ fieldAt (now (file .entry)) at width) × (r .at ≡ at + width) ⌝ }
 {
     let value = field(file, at, width);
@@ -37,7 +37,7 @@ impl<'a> BitReader<'a> {
 
     // The field of `width` bits at the position, and the moved position.
     pub fn take(self, width: usize) -> Taken
-        requires { ⌜ (width ≤ 16) × (self .at + width ≤ 8 * length (now (self .file))) × (self .at ≤ 8000) ⌝ }
+        requires { ⌜ (width ≤ 16) × (self .at + width ≤ 8 * length (now (self .file))) × (self .at ≤ 12000) ⌝ }
         ensures { λ r. ⌜ (r .field ≡ fieldAt (now (self .entry .file)) (self .entry .at) width) × (r .at ≡ self .entry .at + width) ⌝ }
     {
         field_from(self.file, self.at, width)
@@ -46,7 +46,7 @@ impl<'a> BitReader<'a> {
 
 // From a slice to a reader and back: its contract says nothing of a reader, so its callers need no walk by hand.
 pub fn take_at(file: &[u8], at: usize, width: usize) -> Taken
-    requires { ⌜ (width ≤ 16) × (at + width ≤ 8 * length (now file)) × (at ≤ 8000) ⌝ }
+    requires { ⌜ (width ≤ 16) × (at + width ≤ 8 * length (now file)) × (at ≤ 12000) ⌝ }
     ensures { λ r. ⌜ (r .field ≡ fieldAt (now (file .entry)) at width) × (r .at ≡ at + width) ⌝ }
 {
     BitReader::new(file, at).take(width)

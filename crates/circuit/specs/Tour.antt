@@ -6,7 +6,7 @@ use Prim.Native.Nat.{ℕ, _+_, _≤_, _<_}
 use lib.ListN.{length, getD, drop}
 use lib.Dec.{ltb}
 use Rattle.postman.specs.Plan.{Plan, requiredNumbers}
-use Rattle.postman.specs.Tour.{IsWalk, walkCost, IsTour}
+use Rattle.postman.specs.Tour.{IsWalk, walkCost, IsTour, tourCost}
 use Rattle.postman.specs.Required.{required, requiredCost}
 use Rattle.postman.specs.Distance.{noPath, distance}
 use Rattle.postman.specs.Link.{Link}
@@ -56,7 +56,7 @@ HavePaths p numbers tails heads = (e : ℕ) → length numbers ≤ e → e < len
 -- What a tour that completes an arborescence is.
 pub record IsCompletion (p : Plan) (t : List Link) (amounts w : List ℕ) : Type 0 where
   pub tour : IsTour p w
-  pub costs : walkCost (p .arcs) w ≡ requiredCost p + linkCost p t + balancingCost (required p) (distance p) (amount amounts)
+  pub costs : tourCost p w ≡ requiredCost p + linkCost p t + balancingCost (required p) (distance p) (amount amounts)
   pub nonempty : 0 < length w
   pub first : getD w 0 0 ≡ getD (requiredNumbers p) 0 0
   pub short : length w ≤ sheetPlaces

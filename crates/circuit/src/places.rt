@@ -14,7 +14,7 @@ ghost use Rattle.circuit.specs.Tour.{legPlaces, placesOf, written, HaveP
 
 // Writes leg e into the places from `at` on, and answers the place after it.
 fn write_leg(
-    arcs: &[[u16; 4]],
+    arcs: &[[u16; 5]],
     table: &[[u32; 64]],
     numbers: &[u16],
     tails: &[u8],
@@ -42,7 +42,7 @@ fn write_leg(
 
 // Writes the legs in their order from the start of the places on, and answers how many places that are.
 pub(crate) fn write(
-    arcs: &[[u16; 4]],
+    arcs: &[[u16; 5]],
     table: &[[u32; 64]],
     numbers: &[u16],
     tails: &[u8],

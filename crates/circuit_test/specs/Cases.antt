@@ -18,17 +18,23 @@ use Rattle.circuit.specs.Filled.{linksOf}
 use Rattle.circuit_test.specs.Single.{Runs, single, planTest, completionTest, runs}
 
 abbrev may : ℕ → ℕ → ℕ → Arc
-may i j c = record { tail = i; head = j; standing = 0; cost = c }
+may i j c = record { tail = i; head = j; standing = 0; cost = c; service = 0 }
 
 abbrev must : ℕ → ℕ → ℕ → Arc
-must i j c = record { tail = i; head = j; standing = 1; cost = c }
+must i j c = record { tail = i; head = j; standing = 1; cost = c; service = c }
 
--- Four numbers for each arc: tail, head, standing, cost.
+-- Five numbers for each arc: tail, head, standing, cost, service cost.
 abbrev pub arcIn : List ℕ → ℕ → Arc
-arcIn rows k = record { tail = getD rows (k * 4) 0; head = getD rows (k * 4 + 1) 0; standing = getD rows (k * 4 + 2) 0; cost = getD rows (k * 4 + 3) 0 }
+arcIn rows k = record {
+  tail = getD rows (k * 5) 0;
+  head = getD rows (k * 5 + 1) 0;
+  standing = getD rows (k * 5 + 2) 0;
+  cost = getD rows (k * 5 + 3) 0;
+  service = getD rows (k * 5 + 4) 0;
+}
 
 unfoldable pub planIn : ℕ → List ℕ → Plan
-planIn n rows = record { n = n; arcs = map (arcIn rows) (below (length rows / 4)) }
+planIn n rows = record { n = n; arcs = map (arcIn rows) (below (length rows / 5)) }
 
 -- "A: n 2; 0→1 5 M; 1→0 3."
 unfoldable pub caseA : Plan

@@ -47,6 +47,7 @@ fn arc_of(plan: Plan, k: u16) -> Arc {
         head: 65,
         standing: 2,
         cost: 0,
+        service: 0,
     }
 }
 
@@ -156,26 +157,28 @@ fn report(plan: Plan, places: &[u16], n: usize)
 
 // ---- the plans
 
-// Four numbers for each arc: tail, head, standing, cost.
+// Five numbers for each arc: tail, head, standing, cost, service cost.
 fn plan_of(n: u8, rows: &[u8]) -> Plan
-    requires { ⌜ length (now rows) ≤ 1024 ⌝ }
+    requires { ⌜ length (now rows) ≤ 1280 ⌝ }
     ensures { λ r. ⌜ planValue r ≡ planIn n (now (rows .entry)) ⌝ }
 {
-    let m = rows.len() / 4;
+    let m = rows.len() / 5;
     let mut arcs = [Arc {
         tail: 0,
         head: 0,
         standing: 0,
         cost: 0,
+        service: 0,
     }; 256];
     let mut k: usize = 0;
     while k < m {
-        let at = k * 4;
+        let at = k * 5;
         arcs[k] = Arc {
             tail: rows[at],
             head: rows[at + 1],
             standing: rows[at + 2],
             cost: rows[at + 3] as u16,
+            service: rows[at + 4] as u16,
         };
         k += 1;
     }
@@ -194,6 +197,7 @@ fn plan_loops() -> Plan
         head: 0,
         standing: 1,
         cost: 1,
+        service: 1,
     }; 256];
     Plan { n: 1, m: 256, arcs }
 }
@@ -206,6 +210,7 @@ fn plan_long() -> Plan
         head: 1,
         standing: 1,
         cost: 7,
+        service: 7,
     }; 256];
     let mut k: usize = 190;
     while k < 253 {
@@ -214,6 +219,7 @@ fn plan_long() -> Plan
             head: ((k - 188) % 64) as u8,
             standing: 0,
             cost: 65535,
+            service: 0,
         };
         k += 1;
     }
@@ -253,16 +259,16 @@ fn run(label: &[u8], plan: Plan, link_tails: &[u8], link_heads: &[u8], y: usize,
 }
 
 fn main() {
-    let a = plan_of(2, b"\x00\x01\x01\x05\x01\x00\x00\x03");
+    let a = plan_of(2, b"\x00\x01\x01\x05\x05\x01\x00\x00\x03\x00");
     run(b"A", a, b"", b"", 64, 1);
     let b = plan_of(
         4,
-        b"\x00\x01\x01\x01\x01\x00\x00\x01\x02\x03\x01\x01\x03\x02\x00\x01\x01\x02\x00\x0a\x03\x00\x00\x0a",
+        b"\x00\x01\x01\x01\x01\x01\x00\x00\x01\x00\x02\x03\x01\x01\x01\x03\x02\x00\x01\x00\x01\x02\x00\x0a\x00\x03\x00\x00\x0a\x00",
     );
     run(b"B", b, b"\x01", b"\x02", 192, 1);
     let c = plan_of(
         3,
-        b"\x00\x00\x01\x01\x01\x01\x01\x01\x02\x02\x01\x01\x00\x01\x00\x02\x01\x02\x00\x02\x02\x00\x00\x02\x00\x02\x00\x03",
+        b"\x00\x00\x01\x01\x01\x01\x01\x01\x01\x01\x02\x02\x01\x01\x01\x00\x01\x00\x02\x00\x01\x02\x00\x02\x00\x02\x00\x00\x02\x00\x00\x02\x00\x03\x00",
     );
     run(b"C", c, b"\x00\x01", b"\x01\x02", 128, 1);
     run(b"loops", plan_loops(), b"", b"", 0, 0);

@@ -95,7 +95,7 @@ fn pass_all() {
     }
 }
 
-// The longest plan has 963 bytes. A file longer than the buffer is refused for what its first 4,096 bytes hold, as the whole would be (`planner`'s `Laws.LongFile`).
+// The longest plan has 1,475 bytes. A file longer than the buffer is refused for what its first 4,096 bytes hold, as the whole would be (`planner`'s `Laws.LongFile`).
 fn main() {
     let mut file = io::buffer();
     let n = io::read_full(STDIN_FILENO, &mut file);

@@ -7,15 +7,15 @@ use Rattle.postman.specs.Refusal.{Answer, refused, given, unless}
 use Rattle.postman.specs.PlanFile.{planOf, arcCount, readRefusal}
 use Rattle.exports.specs.RecordBytes.{arcBytes, arcsIn}
 
--- "It answers n and m": 512 n + m, m being at most 256.
-abbrev pub packed : Answer (ℕ × ℕ) → Answer ℕ
-packed (given x) = given (x .0 * 512 + x .1)
+-- "It answers n and m", and "the edition too": 65,536 times the edition, and 512 n + m; n is at most 64, m at most 256.
+abbrev pub packed : Answer (ℕ × ℕ × ℕ) → Answer ℕ
+packed (given x) = given (x .0 * 65536 + x .1 * 512 + x .2)
 packed (refused r) = refused r
 
 -- "The arcs go into a lent list of arc records; records from m on are untouched." So are bytes that are left over.
 unfoldable pub lentAfter : List ℕ → List ℕ → List ℕ
 unfolding unless readRefusal planOf arcCount arcBytes flatMap
-lentAfter file lent = unless (readRefusal file (length lent / 5)) (flatMap arcBytes (planOf file .arcs) ++ drop (5 * arcCount file) lent) lent
+lentAfter file lent = unless (readRefusal file (length lent / 7)) (flatMap arcBytes (planOf file .arcs) ++ drop (7 * arcCount file) lent) lent
 
 -- "Writing takes n and a list of records (m is its length)."
 unfoldable pub lentPlan : ℕ → List ℕ → Plan

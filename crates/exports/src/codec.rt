@@ -23,17 +23,17 @@ fn read_number(r: Read) -> i64
     ensures { λ k. ⌜ k ≡ oneNumber (packed (readNumbers r)) ⌝ }
 {
     match r {
-        Read::Given(n, m) => {
-            let both = n as u32 * 512 + m as u32;
-            both as i64
+        Read::Given(edition, n, m) => {
+            let all = edition as u32 * 65_536 + n as u32 * 512 + m as u32;
+            all as i64
         }
         Read::Refused(q) => refused_number(q),
     }
 }
 
-// What writing answers, as one number. No file is longer than 963 bytes.
+// What writing answers, as one number. No file is longer than 1,475 bytes.
 fn written_number(w: Written) -> i64
-    requires { ⌜ ((k : ℕ) → writtenAnswer w ≡ given k → k ≤ 963) ⌝ }
+    requires { ⌜ ((k : ℕ) → writtenAnswer w ≡ given k → k ≤ 1475) ⌝ }
     ensures { λ k. ⌜ k ≡ oneNumber (writtenAnswer w) ⌝ }
 {
     match w {
@@ -52,26 +52,37 @@ fn vertices_of(n: u32) -> u8
     65
 }
 
-// Reading, from any bytes into any list of records, five bytes each: 512 n + m, with the file's arcs in the list from its start and the bytes after them untouched; or
+// The edition as a byte. Any above 2 is refused, so 3 stands for it.
+fn edition_of(e: u32) -> u8
+    ensures { λ r. ⌜ r ≡ atMost e 3 ⌝ }
+{
+    if e < 3 {
+        return e as u8;
+    }
+    3
+}
+
+// Reading, from any bytes into any list of records, seven bytes each: 65,536 times the edition, and 512 n + m, with the file's arcs in the list from its start and the bytes after them untouched; or
 // minus the number of the first refusal by document 01's order, with every byte untouched.
 #[no_mangle]
 pub extern "C" fn postman_read_plan(plan: &[u8], records: &mut [u8]) -> i64
     ensures { λ r. ⌜ (r ≡ oneNumber (packed (readAnswer (now (plan .entry)) (arcsIn (now (records .entry))))))
         × (now (records .exit) ≡ lentAfter (now (plan .entry)) (now (records .entry))) ⌝ }
 {
-    let read = read_answer(plan, records.len() / 5);
+    let read = read_answer(plan, records.len() / 7);
     store_arcs(plan, arcs_read(read), records);
     read_number(read)
 }
 
-// Writing, from any n and any list of records, five bytes each, into any slice: the file's length, with the file in the slice from its start and the bytes after it
+// Writing in any edition, from any n and any list of records, seven bytes each, into any slice: the file's length, with the file in the slice from its start and the bytes after it
 // untouched; or minus the number of the first refusal by document 01's order, with every byte untouched.
 #[no_mangle]
-pub extern "C" fn postman_write_plan(n: u32, records: &[u8], bytes: &mut [u8]) -> i64
-    ensures { λ r. ⌜ (r ≡ oneNumber (writeAnswer (lentPlan n (now (records .entry))) (now (bytes .entry))))
-        × (now (bytes .exit) ≡ bytesAfter (lentPlan n (now (records .entry))) (now (bytes .entry))) ⌝ }
+pub extern "C" fn postman_write_plan(edition: u32, n: u32, records: &[u8], bytes: &mut [u8]) -> i64
+    ensures { λ r. ⌜ (r ≡ oneNumber (writeAnswer edition (lentPlan n (now (records .entry))) (now (bytes .entry))))
+        × (now (bytes .exit) ≡ bytesAfter edition (lentPlan n (now (records .entry))) (now (bytes .entry))) ⌝ }
 {
     let arcs = load_records(records);
-    let written = write_arcs(vertices_of(n), records.len() / 5, arcs, bytes);
+    let e = edition_of(edition);
+    let written = write_arcs(e, vertices_of(n), records.len() / 7, arcs, bytes);
     written_number(written)
 }

@@ -13,17 +13,17 @@ ghost use Rattle.plan.specs.Records.{planValue, arcValue};
 ghost use Rattle.network.specs.RequiredSum.{endOf};
 ghost use Rattle.network.specs.Contracts.{IsImbalance};
 
-// What a required arc costs; other arcs count nothing.
+// What a required arc costs on the pass that checks it; other arcs count nothing.
 fn charge(a: Arc) -> u64
-    ensures { λ r. ⌜ r ≡ cond (isRequiredArc (arcValue a)) (a .cost) 0 ⌝ }
+    ensures { λ r. ⌜ r ≡ cond (isRequiredArc (arcValue a)) (a .service) 0 ⌝ }
 {
     if plan::is_required(a) {
-        return a.cost as u64;
+        return a.service as u64;
     }
     0
 }
 
-// "R: sum of the must arcs' costs."
+// "R is the sum of checking costs."
 pub fn required_cost(plan: Plan) -> u64
     requires { ⌜ WellFormed (planValue plan) ⌝ }
     ensures { λ r. ⌜ r ≡ requiredCost (planValue plan) ⌝ }

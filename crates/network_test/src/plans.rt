@@ -17,15 +17,28 @@ fn priced(cost: u16) -> u16
     cost
 }
 
+// A required arc is checked at its plain cost; no other arc has a service cost.
+fn implied_service(standing: u8, cost: u16) -> u16
+    ensures { λ r. ⌜ r ≤ 65535 ⌝ }
+{
+    if standing == 1 {
+        return cost;
+    }
+    0
+}
+
 fn in_range(n: u8, tail: u8, head: u8, standing: u8, cost: u16) -> Arc
     requires { ⌜ (1 ≤ n) × (n ≤ 64) ⌝ }
     ensures { λ r. ⌜ IsArc n (arcValue r) ⌝ }
 {
+    let s = standing % 3;
+    let c = priced(cost);
     Arc {
         tail: tail % n,
         head: head % n,
-        standing: standing % 3,
-        cost: priced(cost),
+        standing: s,
+        cost: c,
+        service: implied_service(s, c),
     }
 }
 

@@ -9,13 +9,13 @@ use Rattle.plan.specs.declared.Plan.{Plan as PlanRecord}
 
 -- The arc of a record, and the record of an arc.
 abbrev pub arcValue : ArcRecord → Arc
-arcValue a = record { tail = a .tail; head = a .head; standing = a .standing; cost = a .cost }
+arcValue a = record { tail = a .tail; head = a .head; standing = a .standing; cost = a .cost; service = a .service }
 
 abbrev pub recordOf : Arc → ArcRecord
-recordOf a = record { tail = a .tail; head = a .head; standing = a .standing; cost = a .cost }
+recordOf a = record { tail = a .tail; head = a .head; standing = a .standing; cost = a .cost; service = a .service }
 
 abbrev pub zeroRecord : ArcRecord
-zeroRecord = record { tail = 0; head = 0; standing = 0; cost = 0 }
+zeroRecord = record { tail = 0; head = 0; standing = 0; cost = 0; service = 0 }
 
 -- Arc k of the records. There are 256; a number above reads as zeros, and such a plan is refused for its arc count.
 abbrev pub recordAt : List ArcRecord → ℕ → Arc

@@ -26,7 +26,7 @@ isOpenStanding Must = true
 isOpenStanding Closed = false
 isOpenStanding Refused = false
 
-abbrev isMustStanding : Standing → Bool
+abbrev pub isMustStanding : Standing → Bool
 isMustStanding May = false
 isMustStanding Must = true
 isMustStanding Closed = false

@@ -6,12 +6,13 @@ ghost use Rattle.postman.specs.Plan.{isOpen, isRequiredArc};
 ghost use Rattle.plan.specs.Standings.{standingOf};
 ghost use Rattle.plan.specs.Records.{arcValue};
 
-// "A record has tail, head and standing of 8 bits each and a cost of 16."
+// "A record has tail, head and standing of 8 bits each and a cost of 16"; and so has a service cost (document 02: the checking cost).
 pub struct Arc {
     pub tail: u8,
     pub head: u8,
     pub standing: u8,
     pub cost: u16,
+    pub service: u16,
 }
 
 // n vertices, and m arcs in the records before the mth.

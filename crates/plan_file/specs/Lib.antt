@@ -1,4 +1,5 @@
 -- What the contracts cite.
+pub mod Fields
 pub mod Packed
 pub mod PlanUpdate
 pub mod Reading

@@ -1,6 +1,6 @@
 // Plan files: the reader and the writer, by the bit layout that the crate `postman` defines.
 
-pub mod arcs; // what is refused of an arc
+pub mod arcs; // the fields of an arc, and what is refused of them
 mod repeated; // whether two arcs agree
 pub mod reader; // from bytes to a plan
 pub mod writer; // from a plan to bytes
@@ -10,9 +10,10 @@ use plan::Plan;
 use refusal::Refusal;
 use refusal::Verdict;
 
-// What reading answers. In a refusal the plan has no vertex and no arc.
+// What reading answers. In a refusal the edition is 0, and the plan has no vertex and no arc.
 pub struct Reading {
     pub verdict: Verdict,
+    pub edition: u8,
     pub plan: Plan,
 }
 

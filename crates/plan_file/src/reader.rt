@@ -2,17 +2,18 @@
 ghost use mathlib.Core.Path.{_≡_};
 ghost use mathlib.Core.List.{map, flatMap};
 ghost use mathlib.Core.Option.{none};
-ghost use Prim.Native.Nat.{_+_, _-_, _*_, _<_, _≤_};
+ghost use Prim.Native.Nat.{_+_, _*_, _<_, _≤_};
 ghost use lib.ListN.{length};
 ghost use Rattle.postman.specs.Lists.{below};
-ghost use Rattle.postman.specs.BitField.{fieldAt};
 ghost use Rattle.postman.specs.Refusal.{firstRefusal};
-ghost use Rattle.postman.specs.PlanFile.{arcOf, arcConditions, planConditions, fileBits, fileLength, fileConditions, planOf};
+ghost use Rattle.postman.specs.PlanFile.{edition, isEdition, arcWidth, fileBits, fileLength, fillBits, arcOf, arcConditions, planConditions, bodyConditions, fileConditions, planOf};
 ghost use Rattle.refusal.specs.Verdict.{verdictNumber};
 ghost use Rattle.plan.specs.Records.{recordOf, recordsOf, planRecord, noPlan};
-ghost use Rattle.plan_file.specs.Reading.{planFrom, bodyConditions, IsReading};
+ghost use Rattle.plan_file.specs.Reading.{planFrom, extentOn, IsReading};
 use crate::Reading;
+use crate::arcs::arc_fields;
 use crate::arcs::field_verdict;
+use crate::arcs::file_bits;
 use crate::arcs::is_outside;
 use crate::repeated::repeated_verdict;
 use bits::reader::take_at;
@@ -22,30 +23,49 @@ use refusal::Refusal;
 use refusal::Verdict;
 
 // The bytes of a file of m arcs.
-pub(crate) fn file_length(m: usize) -> usize
+pub(crate) fn file_length(edition: u8, m: usize) -> usize
     requires { ⌜ m ≤ 256 ⌝ }
-    ensures { λ r. ⌜ r ≡ fileLength m ⌝ }
+    ensures { λ r. ⌜ r ≡ fileLength edition m ⌝ }
 {
-    (20 + 30 * m + 7) / 8
+    (file_bits(edition, m) + 7) / 8
+}
+
+// The file's edition, whatever it is.
+pub fn file_edition(s: &[u8]) -> u8
+    requires { ⌜ 3 ≤ length (now s) ⌝ }
+    ensures { λ r. ⌜ r ≡ edition (now (s .entry)) ⌝ }
+{
+    let e = take_at(s, 0, 4).field;
+    e as u8
+}
+
+// Whether it is one of the two that are read and written.
+pub(crate) fn is_edition(e: u8) -> bool
+    ensures { λ r. ⌜ r ≡ isEdition e ⌝ }
+{
+    if e == 1 {
+        return true;
+    }
+    e == 2
 }
 
 // The bits after the last arc, as a number.
-fn fill_bits(s: &[u8], m: usize) -> u32
-    requires { ⌜ (m ≤ 256) × (fileLength m ≤ length (now s)) ⌝ }
-    ensures { λ r. ⌜ r ≡ fieldAt (now (s .entry)) (fileBits m) (8 * fileLength m - fileBits m) ⌝ }
+fn fill_bits(s: &[u8], edition: u8, m: usize) -> u32
+    requires { ⌜ (m ≤ 256) × (fileLength edition m ≤ length (now s)) ⌝ }
+    ensures { λ r. ⌜ r ≡ fillBits (now (s .entry)) edition m ⌝ }
 {
-    let at = 20 + 30 * m;
-    let end = 8 * file_length(m);
+    let at = file_bits(edition, m);
+    let end = 8 * file_length(edition, m);
     take_at(s, at, end - at).field
 }
 
 // The first refusal of the m arcs, arc by arc.
-fn arcs_verdict(s: &[u8], n: u32, m: usize) -> Verdict
-    requires { ⌜ (m ≤ 256) × (20 + 30 * m ≤ 8 * length (now s)) ⌝ }
-    ensures { λ r. ⌜ verdictNumber r ≡ firstRefusal (flatMap (arcConditions n) (map (arcOf (now (s .entry))) (below m))) ⌝ }
+fn arcs_verdict(s: &[u8], edition: u8, n: u32, m: usize) -> Verdict
+    requires { ⌜ (m ≤ 256) × (fileBits edition m ≤ 8 * length (now s)) ⌝ }
+    ensures { λ r. ⌜ verdictNumber r ≡ firstRefusal (flatMap (arcConditions edition n) (map (arcOf (now (s .entry)) edition) (below m))) ⌝ }
 {
     for k in 0..m {
-        match field_verdict(s, n, k) {
+        match field_verdict(s, edition, n, k) {
             Verdict::Accepted => {}
             Verdict::Refused(r) => {
                 return Verdict::Refused(r);
@@ -56,13 +76,13 @@ fn arcs_verdict(s: &[u8], n: u32, m: usize) -> Verdict
 }
 
 // The first refusal of the arcs: arc by arc, then of all together.
-fn all_arcs_verdict(s: &[u8], n: u32, m: usize) -> Verdict
-    requires { ⌜ (m ≤ 256) × (20 + 30 * m ≤ 8 * length (now s)) ⌝ }
-    ensures { λ r. ⌜ verdictNumber r ≡ firstRefusal (planConditions (planFrom n (arcOf (now (s .entry))) m)) ⌝ }
+fn all_arcs_verdict(s: &[u8], edition: u8, n: u32, m: usize) -> Verdict
+    requires { ⌜ (m ≤ 256) × (fileBits edition m ≤ 8 * length (now s)) ⌝ }
+    ensures { λ r. ⌜ verdictNumber r ≡ firstRefusal (planConditions edition (planFrom n (arcOf (now (s .entry)) edition) m)) ⌝ }
 {
-    match arcs_verdict(s, n, m) {
+    match arcs_verdict(s, edition, n, m) {
         Verdict::Accepted => {
-            let arcs = read_arcs(s, m);
+            let arcs = read_arcs(s, edition, m);
             repeated_verdict(arcs, m)
         }
         Verdict::Refused(r) => Verdict::Refused(r),
@@ -70,22 +90,38 @@ fn all_arcs_verdict(s: &[u8], n: u32, m: usize) -> Verdict
 }
 
 // The first refusal once n and m are within their limits: the length, the margin, the arcs.
-fn body_verdict(s: &[u8], n: u32, m: usize) -> Verdict
+fn body_verdict(s: &[u8], edition: u8, n: u32, m: usize) -> Verdict
     requires { ⌜ m ≤ 256 ⌝ }
-    ensures { λ r. ⌜ verdictNumber r ≡ firstRefusal (bodyConditions (now (s .entry)) n m) ⌝ }
+    ensures { λ r. ⌜ verdictNumber r ≡ firstRefusal (bodyConditions (now (s .entry)) edition m (planFrom n (arcOf (now (s .entry)) edition) m)) ⌝ }
 {
-    let needed = file_length(m);
+    let needed = file_length(edition, m);
     if s.len() < needed {
         return Verdict::Refused(Refusal::Torn);
     }
     if needed < s.len() {
         return Verdict::Refused(Refusal::Margin);
     }
-    let fill = fill_bits(s, m);
+    let fill = fill_bits(s, edition, m);
     if fill != 0 {
         return Verdict::Refused(Refusal::Margin);
     }
-    all_arcs_verdict(s, n, m)
+    all_arcs_verdict(s, edition, n, m)
+}
+
+// "1 to 64", "1 to 256": the first refusal from n and m on.
+fn extent_verdict(s: &[u8], edition: u8) -> Verdict
+    requires { ⌜ 3 ≤ length (now s) ⌝ }
+    ensures { λ r. ⌜ verdictNumber r ≡ firstRefusal (extentOn (now (s .entry)) edition) ⌝ }
+{
+    let n = take_at(s, 4, 7).field;
+    if is_outside(n, 1, 64) {
+        return Verdict::Refused(Refusal::Extent);
+    }
+    let m = take_at(s, 11, 9).field;
+    if is_outside(m, 1, 256) {
+        return Verdict::Refused(Refusal::Extent);
+    }
+    body_verdict(s, edition, n, m as usize)
 }
 
 // The first refusal of a file, in document 01's order.
@@ -95,52 +131,52 @@ pub fn file_verdict(s: &[u8]) -> Verdict
     if s.len() < 3 {
         return Verdict::Refused(Refusal::Torn);
     }
-    let edition = take_at(s, 0, 4).field;
-    if edition != 1 {
-        return Verdict::Refused(Refusal::Edition);
+    let edition = file_edition(s);
+    if is_edition(edition) {
+        return extent_verdict(s, edition);
     }
-    let n = take_at(s, 4, 7).field;
-    if is_outside(n, 1, 64) {
-        return Verdict::Refused(Refusal::Extent);
-    }
-    let m = take_at(s, 11, 9).field;
-    if is_outside(m, 1, 256) {
-        return Verdict::Refused(Refusal::Extent);
-    }
-    body_verdict(s, n, m as usize)
+    Verdict::Refused(Refusal::Edition)
 }
 
 // The record of arc k of the file.
-pub fn read_arc(s: &[u8], k: usize) -> Arc
-    requires { ⌜ (k < 256) × (50 + 30 * k ≤ 8 * length (now s)) ⌝ }
-    ensures { λ r. ⌜ r ≡ recordOf (arcOf (now (s .entry)) k) ⌝ }
+pub fn read_arc(s: &[u8], edition: u8, k: usize) -> Arc
+    requires { ⌜ (k < 256) × (fileBits edition k + arcWidth edition ≤ 8 * length (now s)) ⌝ }
+    ensures { λ r. ⌜ r ≡ recordOf (arcOf (now (s .entry)) edition k) ⌝ }
 {
-    let tail = take_at(s, 20 + 30 * k, 6);
-    let head = take_at(s, tail.at, 6);
-    let standing = take_at(s, head.at, 2);
-    let cost = take_at(s, standing.at, 16);
+    let f = arc_fields(s, edition, k);
     Arc {
-        tail: tail.field as u8,
-        head: head.field as u8,
-        standing: standing.field as u8,
-        cost: cost.field as u16,
+        tail: f.tail as u8,
+        head: f.head as u8,
+        standing: f.standing as u8,
+        cost: f.cost as u16,
+        service: f.service as u16,
     }
 }
 
+// The record of arc k, in the file's own edition.
+pub fn file_arc(s: &[u8], k: usize) -> Arc
+    requires { ⌜ (k < 256) × (3 ≤ length (now s)) × (fileBits (edition (now s)) k + arcWidth (edition (now s)) ≤ 8 * length (now s)) ⌝ }
+    ensures { λ r. ⌜ r ≡ recordOf (arcOf (now (s .entry)) (edition (now (s .entry))) k) ⌝ }
+{
+    let e = file_edition(s);
+    read_arc(s, e, k)
+}
+
 // The records of the m arcs of the file, and zeros after them.
-fn read_arcs(s: &[u8], m: usize) -> [Arc; 256]
-    requires { ⌜ (m ≤ 256) × (20 + 30 * m ≤ 8 * length (now s)) ⌝ }
-    ensures { λ r. ⌜ r ≡ recordsOf (map (arcOf (now (s .entry))) (below m)) ⌝ }
+fn read_arcs(s: &[u8], edition: u8, m: usize) -> [Arc; 256]
+    requires { ⌜ (m ≤ 256) × (fileBits edition m ≤ 8 * length (now s)) ⌝ }
+    ensures { λ r. ⌜ r ≡ recordsOf (map (arcOf (now (s .entry)) edition) (below m)) ⌝ }
 {
     let zero = Arc {
         tail: 0,
         head: 0,
         standing: 0,
         cost: 0,
+        service: 0,
     };
     let mut arcs = [zero; 256];
     for k in 0..m {
-        arcs[k] = read_arc(s, k);
+        arcs[k] = read_arc(s, edition, k);
     }
     arcs
 }
@@ -150,9 +186,10 @@ fn accepted_plan(s: &[u8]) -> Plan
     requires { ⌜ firstRefusal (fileConditions (now s)) ≡ none ⌝ }
     ensures { λ r. ⌜ r ≡ planRecord (planOf (now (s .entry))) ⌝ }
 {
+    let edition = file_edition(s);
     let n = take_at(s, 4, 7).field;
     let m = take_at(s, 11, 9).field;
-    let arcs = read_arcs(s, m as usize);
+    let arcs = read_arcs(s, edition, m as usize);
     Plan {
         n: n as u8,
         m: m as u16,
@@ -169,6 +206,7 @@ pub(crate) fn no_plan() -> Plan
         head: 0,
         standing: 0,
         cost: 0,
+        service: 0,
     };
     Plan {
         n: 0,
@@ -177,15 +215,17 @@ pub(crate) fn no_plan() -> Plan
     }
 }
 
-// Reading, from any bytes: the first refusal by document 01's order, or the plan.
+// Reading, from any bytes: the first refusal by document 01's order, or the edition and the plan.
 pub fn read_plan(s: &[u8]) -> Reading
     ensures { λ r. ⌜ IsReading (now (s .entry)) r ⌝ }
 {
     match file_verdict(s) {
         Verdict::Accepted => {
+            let edition = file_edition(s);
             let plan = accepted_plan(s);
             Reading {
                 verdict: Verdict::Accepted,
+                edition: edition,
                 plan: plan,
             }
         }
@@ -193,6 +233,7 @@ pub fn read_plan(s: &[u8]) -> Reading
             let plan = no_plan();
             Reading {
                 verdict: Verdict::Refused(r),
+                edition: 0,
                 plan: plan,
             }
         }

@@ -18,10 +18,11 @@ ghost use Rattle.plan_file.specs.Packed.{packedArc};
 fn packed(a: Arc) -> u64
     ensures { λ r. ⌜ (r ≡ packedArc (arcValue a)) × IsRecord (arcValue a) ⌝ }
 {
-    a.tail as u64 * 4_294_967_296
-        + a.head as u64 * 16_777_216
-        + a.standing as u64 * 65_536
-        + a.cost as u64
+    a.tail as u64 * 281_474_976_710_656
+        + a.head as u64 * 1_099_511_627_776
+        + a.standing as u64 * 4_294_967_296
+        + a.cost as u64 * 65_536
+        + a.service as u64
 }
 
 // The first m arcs as numbers.

@@ -8,17 +8,18 @@ use crate::writer::write_plan;
 use plan::Plan;
 use refusal::Verdict;
 
-// The plan that is read from the file of p: p itself, or the refusal of writing it. Every file has room in 963 bytes.
-pub fn reread(p: Plan) -> Reading
-    ensures { λ r. ⌜ IsReread p r ⌝ }
+// What is read from the file of p in an edition: that edition and p itself, or the refusal of writing it. Every file has room in 1,475 bytes.
+pub fn reread(edition: u8, p: Plan) -> Reading
+    ensures { λ r. ⌜ IsReread edition p r ⌝ }
 {
-    let mut bytes = [0u8; 963];
-    match write_plan(p, &mut bytes) {
+    let mut bytes = [0u8; 1475];
+    match write_plan(edition, p, &mut bytes) {
         Written::Length(n) => read_plan(&bytes[..n]),
         Written::Refused(r) => {
             let plan = no_plan();
             Reading {
                 verdict: Verdict::Refused(r),
+                edition: 0,
                 plan: plan,
             }
         }

@@ -147,6 +147,27 @@ fn cases() {
     short(b"G, both: ", b"\x10\x40\x20\x01\x40\x01\x41\x03\x00\x00");
 }
 
+// ---- edition 2: case A with another checking cost, and a drive that passes a must arc twice
+
+fn checking() {
+    short(
+        b"A, checked at 9: ",
+        b"\x20\x40\x20\x01\x40\x01\x40\x02\x41\x00\x00\x03\x00\x00",
+    );
+    short(
+        b"A, checked at 1: ",
+        b"\x20\x40\x20\x01\x40\x01\x40\x00\x41\x00\x00\x03\x00\x00",
+    );
+    short(
+        b"A, checked at 0: ",
+        b"\x20\x40\x20\x01\x40\x01\x40\x00\x01\x00\x00\x03\x00\x00",
+    );
+    short(
+        b"0 to 1 at 2, checked at 7, and back twice: ",
+        b"\x20\x40\x30\x01\x40\x00\x80\x01\xc1\x01\x00\x01\x00\x01\x04\x04\x00\x0c\x00\x0c",
+    );
+}
+
 // ---- limits
 
 // Case C at a budget.
@@ -187,6 +208,7 @@ fn large_arc(k: u16) -> Arc
             head: (v + 1) % 64,
             standing: if v % 8 == 3 { 1 } else { 0 },
             cost: c,
+            service: if v % 8 == 3 { c } else { 0 },
         };
     }
     if round == 1 {
@@ -195,6 +217,7 @@ fn large_arc(k: u16) -> Arc
             head: v,
             standing: 0,
             cost: c,
+            service: 0,
         };
     }
     Arc {
@@ -202,6 +225,7 @@ fn large_arc(k: u16) -> Arc
         head: ((k % 64 * 5 + 7) % 64) as u8,
         standing: if v % 16 == 15 { 2 } else { 0 },
         cost: c + 20,
+        service: 0,
     }
 }
 
@@ -211,6 +235,7 @@ fn large_plan(m: u16) -> Plan {
         head: 0,
         standing: 0,
         cost: 1,
+        service: 0,
     };
     let mut arcs = [zero; 256];
     for k in 0..256u16 {
@@ -225,7 +250,7 @@ fn large_plan(m: u16) -> Plan {
 
 fn large(label: &[u8], budget: u64) {
     let mut file = [0u8; 963];
-    let w = write_plan(large_plan(256), &mut file);
+    let w = write_plan(1, large_plan(256), &mut file);
     call(label, &file, budget);
 }
 
@@ -284,6 +309,7 @@ fn order() {
 
 fn main() {
     cases();
+    checking();
     budgets();
     sheets();
     extents();

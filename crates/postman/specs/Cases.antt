@@ -9,7 +9,7 @@ use lib.Dec.{T, eqb, eqb→eq}
 use lib.IntN.{ℤ, pos, negsuc}
 use Rattle.postman.specs.Lists.{allOf, below}
 use Rattle.postman.specs.Plan.{Arc, Plan}
-use Rattle.postman.specs.PlanFile.{agree, planOf, fileOf}
+use Rattle.postman.specs.PlanFile.{impliedService, agree, edition, planOf, fileLength, fileOf, writeRefusal}
 use Rattle.postman.specs.Link.{links}
 use Rattle.postman.specs.Component.{componentCount}
 use Rattle.postman.specs.Arborescence.{arborescenceCount}
@@ -23,8 +23,10 @@ use Rattle.postman.specs.Laws.Repeated.{agree-equal}
 -- ---- what a case says of its plan
 
 pub data Claim : Type 0 where
-  file : List ℕ → Claim
+  file : ℕ → List ℕ → Claim
   refusal : ℕ → Claim
+  refusal2 : ℕ → Claim
+  writing : ℕ → ℕ → Claim
   parts : ℕ → Claim
   linkCount : ℕ → Claim
   trees : ℕ → Claim
@@ -33,18 +35,24 @@ pub data Claim : Type 0 where
   costAt : ℕ → ℕ → Claim
   wholeAt : ℕ → Bool → Claim
 
--- The short call's refusal of a plan's file, 0 for none.
-abbrev refusalOf : Plan → ℕ
-refusalOf p = number (callRefusal (fileOf p) defaultBudget sheetPlaces)
-  where
-    number : Option ℕ → ℕ
-    number none = 0
-    number (some r) = r
+-- The short call's refusal of a plan's file in edition e, 0 for none.
+abbrev orZero : Option ℕ → ℕ
+orZero none = 0
+orZero (some r) = r
 
--- The file, both ways; the refusal; k; the number of links; N; Z; L(0); the cost, and whole, at a budget.
+abbrev refusalOf : ℕ → Plan → ℕ
+refusalOf e p = orZero (callRefusal (fileOf e p) defaultBudget sheetPlaces)
+
+-- The writer's, where there is room.
+abbrev writingOf : ℕ → Plan → ℕ
+writingOf e p = orZero (writeRefusal e p (fileLength e (length (p .arcs))))
+
+-- The file of an edition, both ways; the refusal in edition 1, and in edition 2; the writer's in an edition; k; the number of links; N; Z; L(0); the cost, and whole, at a budget.
 abbrev pub Means : Plan → Claim → Type 0
-Means p (file bytes) = (fileOf p ≡ bytes) × (planOf bytes ≡ p)
-Means p (refusal r) = refusalOf p ≡ r
+Means p (file e bytes) = (fileOf e p ≡ bytes) × (edition bytes ≡ e) × (planOf bytes ≡ p)
+Means p (refusal r) = refusalOf 1 p ≡ r
+Means p (refusal2 r) = refusalOf 2 p ≡ r
+Means p (writing e r) = writingOf e p ≡ r
 Means p (parts k) = componentCount p ≡ k
 Means p (linkCount k) = length (links p) ≡ k
 Means p (trees k) = arborescenceCount p ≡ k
@@ -59,8 +67,13 @@ pub record Row : Type 0 where
   pub plan : Plan
   pub claims : List Claim
 
+-- an arc of edition 1, and one of edition 2
 abbrev arc : ℕ → ℕ → ℕ → ℕ → Arc
-arc tail head standing cost = record { tail = tail; head = head; standing = standing; cost = cost }
+unfolding impliedService
+arc tail head standing cost = record { tail = tail; head = head; standing = standing; cost = cost; service = impliedService standing cost }
+
+abbrev arc2 : ℕ → ℕ → ℕ → ℕ → ℕ → Arc
+arc2 tail head standing cost service = record { tail = tail; head = head; standing = standing; cost = cost; service = service }
 
 abbrev row : ℕ → List Arc → List Claim → Row
 row n arcs cs = record { plan = record { n = n; arcs = arcs }; claims = cs }
@@ -71,11 +84,11 @@ unfolding below
 loops n = map (λ v. arc v v 1 1) (below n)
 
 unfoldable pub table : List Row
-unfolding below
+unfolding below arc
 table =
     -- A
     row 2 (arc 0 1 1 5 ∷ arc 1 0 0 3 ∷ [])
-    (file (0x10 ∷ 0x40 ∷ 0x20 ∷ 0x01 ∷ 0x40 ∷ 0x01 ∷ 0x41 ∷ 0x00 ∷ 0x00 ∷ 0x03 ∷ []) ∷ refusal 0 ∷ costAt 10000 8 ∷ trees 1 ∷ balancing 3 ∷ [])
+    (file 1 (0x10 ∷ 0x40 ∷ 0x20 ∷ 0x01 ∷ 0x40 ∷ 0x01 ∷ 0x41 ∷ 0x00 ∷ 0x00 ∷ 0x03 ∷ []) ∷ refusal 0 ∷ costAt 10000 8 ∷ trees 1 ∷ balancing 3 ∷ [])
     -- B
     ∷ row 4 (arc 0 1 1 1 ∷ arc 1 0 0 1 ∷ arc 2 3 1 1 ∷ arc 3 2 0 1 ∷ arc 1 2 0 10 ∷ arc 3 0 0 10 ∷ [])
     (refusal 0 ∷ parts 2 ∷ trees 1 ∷ costAt 10000 22 ∷ balancing 2 ∷ boundAtZero 12 ∷ [])
@@ -95,6 +108,18 @@ table =
     -- A with its first arc typed in twice, and with one that differs from it in cost
     ∷ row 2 (arc 0 1 1 5 ∷ arc 1 0 0 3 ∷ arc 0 1 1 5 ∷ []) (refusal 13 ∷ [])
     ∷ row 2 (arc 0 1 1 5 ∷ arc 1 0 0 3 ∷ arc 0 1 1 6 ∷ []) (refusal 0 ∷ costAt 10000 17 ∷ [])
+    -- A in edition 2, its first arc checked at 9: one slow pass
+    ∷ row 2 (arc2 0 1 1 5 9 ∷ arc2 1 0 0 3 0 ∷ [])
+    (file 2 (0x20 ∷ 0x40 ∷ 0x20 ∷ 0x01 ∷ 0x40 ∷ 0x01 ∷ 0x40 ∷ 0x02 ∷ 0x41 ∷ 0x00 ∷ 0x00 ∷ 0x03 ∷ 0x00 ∷ 0x00 ∷ [])
+    ∷ refusal2 0 ∷ costAt 10000 12 ∷ trees 1 ∷ balancing 3 ∷ writing 2 0 ∷ writing 1 6 ∷ writing 3 2 ∷ [])
+    -- a must arc without a checking cost, another arc with one, and standing 3 with one: 6 stands before 7
+    ∷ row 2 (arc2 0 1 1 5 0 ∷ arc2 1 0 0 3 0 ∷ []) (refusal2 6 ∷ [])
+    ∷ row 2 (arc2 0 1 1 5 5 ∷ arc2 1 0 0 3 1 ∷ []) (refusal2 6 ∷ [])
+    ∷ row 2 (arc2 0 1 1 5 5 ∷ arc2 1 0 3 3 1 ∷ []) (refusal2 6 ∷ [])
+    ∷ row 2 (arc2 0 1 1 5 5 ∷ arc2 1 0 3 3 0 ∷ []) (refusal2 7 ∷ [])
+    -- two arcs that agree but for their checking costs, and two that agree in all
+    ∷ row 2 (arc2 0 1 1 5 9 ∷ arc2 1 0 0 3 0 ∷ arc2 0 1 1 5 8 ∷ []) (refusal2 0 ∷ costAt 10000 23 ∷ [])
+    ∷ row 2 (arc2 0 1 1 5 9 ∷ arc2 1 0 0 3 0 ∷ arc2 0 1 1 5 9 ∷ []) (refusal2 13 ∷ [])
     ∷ []
 
 -- ---- the same claims, as tests that compute
@@ -114,9 +139,11 @@ isPos (pos a) b = eqb a b
 isPos (negsuc a) b = false
 
 holds : Plan → Claim → Bool
-unfolding sameList samePlan isPos fileOf planOf callRefusal sheetPlaces defaultBudget componentCount links arborescenceCount leastBalancing lagrangianBound bestCost isWhole
-holds p (file bytes) = sameList eqb (fileOf p) bytes && samePlan (planOf bytes) p
-holds p (refusal r) = eqb (refusalOf p) r
+unfolding sameList samePlan isPos fileOf edition planOf fileLength writeRefusal callRefusal sheetPlaces defaultBudget componentCount links arborescenceCount leastBalancing lagrangianBound bestCost isWhole
+holds p (file e bytes) = sameList eqb (fileOf e p) bytes && (eqb (edition bytes) e && samePlan (planOf bytes) p)
+holds p (refusal r) = eqb (refusalOf 1 p) r
+holds p (refusal2 r) = eqb (refusalOf 2 p) r
+holds p (writing e r) = eqb (writingOf e p) r
 holds p (parts k) = eqb (componentCount p) k
 holds p (linkCount k) = eqb (length (links p)) k
 holds p (trees k) = eqb (arborescenceCount p) k
@@ -168,10 +195,13 @@ same-truth false false t = refl
 
 sound : (p : Plan) (c : Claim) → T (holds p c) → Means p c
 unfolding holds
-sound p (file bytes) t =
-    let b = and-parts (sameList eqb (fileOf p) bytes) (samePlan (planOf bytes) p) t in
-    (same-list eqb eqb→eq (fileOf p) bytes (b .0), same-plan (planOf bytes) p (b .1))
-sound p (refusal r) t = eqb→eq (refusalOf p) r t
+sound p (file e bytes) t =
+    let b = and-parts (sameList eqb (fileOf e p) bytes) _ t in
+    let c = and-parts (eqb (edition bytes) e) (samePlan (planOf bytes) p) (b .1) in
+    (same-list eqb eqb→eq (fileOf e p) bytes (b .0), eqb→eq (edition bytes) e (c .0), same-plan (planOf bytes) p (c .1))
+sound p (refusal r) t = eqb→eq (refusalOf 1 p) r t
+sound p (refusal2 r) t = eqb→eq (refusalOf 2 p) r t
+sound p (writing e r) t = eqb→eq (writingOf e p) r t
 sound p (parts k) t = eqb→eq (componentCount p) k t
 sound p (linkCount k) t = eqb→eq (length (links p)) k t
 sound p (trees k) t = eqb→eq (arborescenceCount p) k t

@@ -13,8 +13,8 @@ use Rattle.postman.specs.Distance.{hasPath}
 unfoldable pub bothWays : List Arc → List Arc
 bothWays [] = []
 bothWays (a ∷ arcs) =
-    record { tail = a .tail; head = a .head; standing = 0; cost = 0 }
-    ∷ record { tail = a .head; head = a .tail; standing = 0; cost = 0 }
+    record { tail = a .tail; head = a .head; standing = 0; cost = 0; service = 0 }
+    ∷ record { tail = a .head; head = a .tail; standing = 0; cost = 0; service = 0 }
     ∷ bothWays arcs
 
 -- The graph of the required arcs, direction ignored.

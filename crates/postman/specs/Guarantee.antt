@@ -8,7 +8,7 @@ use lib.Signed.{_≤ℤ_}
 use lib.Dec.{T}
 use Rattle.postman.specs.Lists.{maxℤ}
 use Rattle.postman.specs.Plan.{Plan}
-use Rattle.postman.specs.Tour.{walkCost, IsTour}
+use Rattle.postman.specs.Tour.{tourCost, IsTour}
 use Rattle.postman.specs.Required.{requiredCost}
 use Rattle.postman.specs.Balancing.{leastBalancing}
 use Rattle.postman.specs.LagrangianBound.{Multipliers, lagrangianBound}
@@ -16,10 +16,10 @@ use Rattle.postman.specs.PlanCall.{isWhole, bestCost, lowerBound}
 
 pub record Guarantee (p : Plan) (budget : ℕ) (u : Multipliers) : Type 0 where
   -- every list of arcs, of any length, that is a tour by the first definition costs at least the lower bound
-  pub below-every-tour : (w : List ℕ) → IsTour p w → lowerBound p budget u ≤ℤ pos (walkCost (p .arcs) w)
+  pub below-every-tour : (w : List ℕ) → IsTour p w → lowerBound p budget u ≤ℤ pos (tourCost p w)
   -- where all trees were tried, the lower bound is the cost, and no tour is cheaper
   pub whole-equal : T (isWhole p budget) → lowerBound p budget u ≡ pos (bestCost p budget)
-  pub whole-least : T (isWhole p budget) → (w : List ℕ) → IsTour p w → bestCost p budget ≤ walkCost (p .arcs) w
+  pub whole-least : T (isWhole p budget) → (w : List ℕ) → IsTour p w → bestCost p budget ≤ tourCost p w
   -- otherwise it is the larger of L(0) and L(u)
   pub partial-equal : T (not (isWhole p budget)) → lowerBound p budget u ≡ maxℤ (lagrangianBound p (λ i. pos 0)) (lagrangianBound p u)
   -- always it is at least R + Z

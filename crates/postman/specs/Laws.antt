@@ -22,6 +22,7 @@ pub mod Route
 pub mod Entries
 pub mod Arborescence
 pub mod LinkLegs
+pub mod TourCost
 pub mod TourBound
 pub mod SignedSum
 pub mod LagrangianBound
@@ -29,6 +30,7 @@ pub mod Multiplier
 pub mod BitField
 pub mod Refusal
 pub mod Repeated
+pub mod FileLength
 pub mod Acceptance
 pub mod DistanceCall
 pub mod PlanFile

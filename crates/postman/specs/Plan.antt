@@ -1,4 +1,4 @@
--- The plan: a directed graph whose arcs have a standing and a cost.
+-- The plan: a directed graph whose arcs have a standing, a cost and a service cost.
 use mathlib.Core.Bool.{Bool}
 use mathlib.Core.List.{List, List·Memᴰ}
 use Prim.Native.Nat.{ℕ, _≤_, _<_}
@@ -6,12 +6,14 @@ use lib.ListN.{length, getD}
 use lib.Dec.{eqb, ltb}
 use Rattle.postman.specs.Lists.{select, below}
 
--- "tail 6, head 6, standing 2, cost 16. […] Standing 0: may be driven; 1: must be driven; 2: closed, held in the file and never driven."
+-- "tail 6, head 6, standing 2, cost 16. […] Standing 0: may be driven; 1: must be driven; 2: closed, held in the file and never driven." The service cost (document
+-- 02: the checking cost) is that of the pass on which a must arc is checked: "our drivers crawl the first time along a must arc to read signs".
 pub record Arc : Type 0 where
   pub tail : ℕ
   pub head : ℕ
   pub standing : ℕ
   pub cost : ℕ
+  pub service : ℕ
 
 -- "Vertices are 0 to n−1, arcs 0 to m−1 in file order." The arc count m is the list's length.
 pub record Plan : Type 0 where
@@ -27,7 +29,7 @@ isRequiredArc a = eqb (a .standing) 1
 
 -- Arc number k. A number that no arc has reads as a closed arc.
 abbrev pub arcAt : List Arc → ℕ → Arc
-arcAt arcs k = getD arcs k (record { tail = 0; head = 0; standing = 2; cost = 0 })
+arcAt arcs k = getD arcs k (record { tail = 0; head = 0; standing = 2; cost = 0; service = 0 })
 
 -- The required arcs, in file order, and their numbers.
 unfoldable pub requiredArcs : Plan → List Arc
@@ -38,13 +40,15 @@ unfoldable pub requiredNumbers : Plan → List ℕ
 unfolding select below
 requiredNumbers p = select (λ k. isRequiredArc (arcAt (p .arcs) k)) (below (length (p .arcs)))
 
--- What the plan file's limits say of an arc, and of a plan. `Laws.Acceptance`: a plan that was read, or that is written, is well formed.
+-- What the layers above the plan file ask of an arc, and of a plan. `Laws.Acceptance`: a plan that was read, or that is written, is well formed. A plan that is made from
+-- another may be well formed and yet refused as a file: nothing is asked of which arcs have a service cost.
 pub record IsArc (n : ℕ) (a : Arc) : Type 0 where
   pub tail-in : a .tail < n
   pub head-in : a .head < n
   pub standing-in : a .standing ≤ 2
   pub priced : 1 ≤ a .cost
   pub cost-in : a .cost ≤ 65535
+  pub service-in : a .service ≤ 65535
 
 pub record WellFormed (p : Plan) : Type 0 where
   pub some-vertex : 1 ≤ p .n

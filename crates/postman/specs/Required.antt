@@ -15,7 +15,7 @@ unfoldable pub required : Plan → List ℕ
 unfolding select below isRequired
 required p = select (isRequired p) (below (p .n))
 
--- "R: sum of the must arcs' costs."
+-- "R is the sum of checking costs." Of the must arcs, that is.
 unfoldable pub requiredCost : Plan → ℕ
 unfolding sumOf requiredArcs
-requiredCost p = sumOf (map (λ a. a .cost) (requiredArcs p))
+requiredCost p = sumOf (map (λ a. a .service) (requiredArcs p))

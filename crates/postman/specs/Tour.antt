@@ -1,17 +1,19 @@
--- Walks and tours.
+-- Walks and tours, and what they cost.
 use mathlib.Core.Path.{_≡_}
+use mathlib.Core.Bool.{not, cond}
 use mathlib.Core.List.{List, [], _∷_, List·Memᴰ}
 use Prim.Native.Nat.{ℕ, _+_, _<_}
 use lib.ListN.{length}
-use lib.Dec.{T}
-use Rattle.postman.specs.Plan.{Arc, Plan, isOpen, isRequiredArc, arcAt}
+use lib.Dec.{T, eqb}
+use Rattle.postman.specs.Lists.{select, anyOf}
+use Rattle.postman.specs.Plan.{Arc, Plan, isOpen, isRequiredArc, arcAt, requiredNumbers}
 
 -- `IsWalk arcs i w j`: the arc numbers w lead from vertex i to vertex j, each arc's head the next one's tail, none closed (document 01: a path).
 abbrev pub IsWalk : List Arc → ℕ → List ℕ → ℕ → Type 0
 IsWalk arcs i [] j = i ≡ j
 IsWalk arcs i (k ∷ w) j = (k < length arcs) × T (isOpen (arcAt arcs k)) × (arcAt arcs k .tail ≡ i) × IsWalk arcs (arcAt arcs k .head) w j
 
--- "Its cost is the sum of its arcs' costs, repeats counted."
+-- The plain cost of a list of arcs: "the sum of its arcs' costs, repeats counted".
 abbrev pub walkCost : List Arc → List ℕ → ℕ
 walkCost arcs [] = 0
 walkCost arcs (k ∷ w) = arcAt arcs k .cost + walkCost arcs w
@@ -22,3 +24,17 @@ pub record IsTour (p : Plan) (w : List ℕ) : Type 0 where
   pub start : ℕ
   pub closed : IsWalk (p .arcs) start w start
   pub covers : (k : ℕ) → k < length (p .arcs) → T (isRequiredArc (arcAt (p .arcs) k)) → List·Memᴰ k w
+
+-- "A drive costs one checking pass of each must arc plus plain cost for every other pass." The first pass of a must arc is the one that checks it. Of any list of
+-- arcs, with the must arcs `due` not passed before it:
+unfoldable pub tourCostDue : List Arc → List ℕ → List ℕ → ℕ
+unfolding anyOf select
+tourCostDue arcs due [] = 0
+tourCostDue arcs due (k ∷ w) =
+    cond (anyOf (eqb k) due)
+    (arcAt arcs k .service + tourCostDue arcs (select (λ j. not (eqb k j)) due) w)
+    (arcAt arcs k .cost + tourCostDue arcs due w)
+
+unfoldable pub tourCost : Plan → List ℕ → ℕ
+unfolding tourCostDue requiredNumbers
+tourCost p w = tourCostDue (p .arcs) (requiredNumbers p) w

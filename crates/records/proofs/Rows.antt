@@ -28,6 +28,7 @@ use denote.Struct.Steps.{spelt}
 use Rattle.plan.specs.declared.Arc.{Arc}
 use Rattle.plan.proofs.Arc as T
 use Rattle.plan.proofs.Arc.Laws as T′
+use Rattle.records.specs.Laws.Reread.{Priced}
 
 -- a record's machine values, and that its type's relation tells them
 abbrev pub arc-vals : Arc → List Val
@@ -81,23 +82,23 @@ module _ {M : Type 1} (𝓤 : URA M) (H : Heap 𝓤) (A : Atoms 𝓤) (W : Given
       use1 W (‵ (fat fullShare (arcs-ty n) l 0 (arcs-val xs))) (W .laws .raw-at fullShare (arcs-ty n) l 0 (arcs-val xs)) $ frame ! $ done !)
 
   -- ---- a row is its first records and the others, which lie after them
-  pub row-apart : (q : Share) (k : ℕ) (xs : List Arc) (b o : ℕ) → ent 𝓤 (sem 𝓤 H A (row T.the-row q xs b o)) (sep 𝓤 (sem 𝓤 H A (row T.the-row q (take k xs) b o)) (sem 𝓤 H A (row T.the-row q (drop k xs) b (place 6 o k))))
+  pub row-apart : (q : Share) (k : ℕ) (xs : List Arc) (b o : ℕ) → ent 𝓤 (sem 𝓤 H A (row T.the-row q xs b o)) (sep 𝓤 (sem 𝓤 H A (row T.the-row q (take k xs) b o)) (sem 𝓤 H A (row T.the-row q (drop k xs) b (place 8 o k))))
   row-apart q zero xs b o = qed W (‵ (row T.the-row q xs b o) ∷ []) ∵ nothing ! $ done !
   row-apart q (suc k) [] b o = qed W (‵ (row T.the-row q [] b o) ∷ []) ∵ nothing ! $ done !
   row-apart q (suc k) (x ∷ xs) b o =
       qed W (‵ (row T.the-row q (x ∷ xs) b o) ∷ []) ∵ fsplit ! $ move ! (1 ∷ []) $
-      use1 W (‵ (row T.the-row q (take k xs) b (o + 6)) ⊛ ‵ (row T.the-row q (drop k xs) b (place 6 (o + 6) k))) (row-apart q k xs b (o + 6)) $ split ! $
+      use1 W (‵ (row T.the-row q (take k xs) b (o + 8)) ⊛ ‵ (row T.the-row q (drop k xs) b (place 8 (o + 8) k))) (row-apart q k xs b (o + 8)) $ split ! $
       move ! (2 ∷ 0 ∷ []) $ fjoin ! $ done !
 
-  pub row-whole : (q : Share) (ys zs : List Arc) (b o : ℕ) → ent 𝓤 (sep 𝓤 (sem 𝓤 H A (row T.the-row q ys b o)) (sem 𝓤 H A (row T.the-row q zs b (place 6 o (length ys))))) (sem 𝓤 H A (row T.the-row q (ys ++ zs) b o))
+  pub row-whole : (q : Share) (ys zs : List Arc) (b o : ℕ) → ent 𝓤 (sep 𝓤 (sem 𝓤 H A (row T.the-row q ys b o)) (sem 𝓤 H A (row T.the-row q zs b (place 8 o (length ys))))) (sem 𝓤 H A (row T.the-row q (ys ++ zs) b o))
   row-whole q [] zs b o = qed W (‵ (row T.the-row q [] b o) ∷ ‵ (row T.the-row q zs b o) ∷ []) ∵ drop-item ! $ done !
   row-whole q (y ∷ ys) zs b o =
-      qed W (‵ (row T.the-row q (y ∷ ys) b o) ∷ ‵ (row T.the-row q zs b (place 6 (o + 6) (length ys))) ∷ []) ∵ fsplit ! $ move ! (1 ∷ 2 ∷ []) $
-      use2 W (‵ (row T.the-row q (ys ++ zs) b (o + 6))) (row-whole q ys zs b (o + 6)) $ move ! (1 ∷ 0 ∷ []) $ done !
+      qed W (‵ (row T.the-row q (y ∷ ys) b o) ∷ ‵ (row T.the-row q zs b (place 8 (o + 8) (length ys))) ∷ []) ∵ fsplit ! $ move ! (1 ∷ 2 ∷ []) $
+      use2 W (‵ (row T.the-row q (ys ++ zs) b (o + 8))) (row-whole q ys zs b (o + 8)) $ move ! (1 ∷ 0 ∷ []) $ done !
 
 -- ---- the array as a field of a struct, whose records are tuples
 abbrev tuple : Arc → T.Data
-tuple a = (a .tail, (a .head, (a .standing, (a .cost, tt))))
+tuple a = (a .tail, (a .head, (a .standing, (a .cost, (a .service, tt)))))
 
 abbrev Field : RattleType
 Field = T.the-field .row
@@ -111,9 +112,9 @@ each-field (x ∷ xs) (u ∷ us) p = (p .0, each-field xs us (p .1))
 pub arcs-field : (n : ℕ) (xs : List Arc) (u : Val) → Is (Arcs n) xs (u ∷ []) → Is (Array Field n) (map tuple xs) (u ∷ [])
 arcs-field n xs u p = (p .0, ((p .1 .0 .0, length-map xs tuple ∙ p .1 .0 .1), each-field xs (p .0) (p .1 .1)))
 
--- what owning an array of records tells: each record's cost is in its type's range
-pub arcs-cost : (xs : List Arc) (us : List Val) → shadow (each Arc (T.the-row .own) xs us) → (k : ℕ) (d : Arc) → k < length xs → getD xs k d .cost < 65536
-arcs-cost [] us p k d h = absurd (omega arith)
-arcs-cost (x ∷ xs) [] p k d h = absurd p
-arcs-cost (x ∷ xs) (u ∷ us) p zero d h = p .0 .1 .1 .1 .1 .1 .0 .1
-arcs-cost (x ∷ xs) (u ∷ us) p (suc k) d h = arcs-cost xs us (p .1) k d (omega arith)
+-- what owning an array of records tells: each record's costs are in their type's range
+pub arcs-priced : (xs : List Arc) (us : List Val) → shadow (each Arc (T.the-row .own) xs us) → Priced xs
+arcs-priced [] us p k d h = absurd (omega arith)
+arcs-priced (x ∷ xs) [] p k d h = absurd p
+arcs-priced (x ∷ xs) (u ∷ us) p zero d h = (p .0 .1 .1 .1 .1 .1 .0 .1, p .0 .1 .1 .1 .1 .1 .1 .0 .1)
+arcs-priced (x ∷ xs) (u ∷ us) p (suc k) d h = arcs-priced xs us (p .1) k d (omega arith)

@@ -1,16 +1,23 @@
 -- What reading into a lent list answers.
-use Prim.Native.Nat.{ℕ}
+use mathlib.Core.List.{List}
+use Prim.Native.Nat.{ℕ, _*_, _≤_}
+use lib.ListN.{length}
 use Rattle.postman.specs.Refusal.{Answer, refused, given}
+use Rattle.postman.specs.PlanFile.{edition, fileBits}
 use Rattle.refusal.specs.Verdict.{refusalNumber}
 use Rattle.records.specs.declared.reader.Read.{Read}
 use Rattle.records.specs.declared.reader.Read.the-variants.{Given, Refused}
 
--- n and m, or document 01's number for the refusal.
-abbrev pub readNumbers : Read → Answer (ℕ × ℕ)
-readNumbers (Given n m) = given (n, m)
+-- The edition, n and m, or document 01's number for the refusal.
+abbrev pub readNumbers : Read → Answer (ℕ × ℕ × ℕ)
+readNumbers (Given e n m) = given (e, n, m)
 readNumbers (Refused r) = refused (refusalNumber r)
 
 -- How many records are stored.
 abbrev pub arcsRead : Read → ℕ
-arcsRead (Given n m) = m
+arcsRead (Given e n m) = m
 arcsRead (Refused r) = 0
+
+-- There is room for m arcs: in the file, and in a list of `room` records.
+abbrev pub Room : List ℕ → ℕ → ℕ → Type 0
+Room bytes room m = (m ≤ 256) × (1 ≤ m → 3 ≤ length bytes) × (1 ≤ m → fileBits (edition bytes) m ≤ 8 * length bytes) × (m ≤ room)

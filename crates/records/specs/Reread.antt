@@ -11,9 +11,9 @@ use Rattle.records.specs.declared.arrays.Filled.{Filled}
 use Rattle.records.specs.Reading.{readNumbers}
 use Rattle.records.specs.Writing.{listPlan}
 
--- The refusal of writing, with the list untouched; or the same n, the same m and the same records, with the list's own from m on untouched.
-pub record IsReread (n : ℕ) (records : List Arc) (m : ℕ) (list : List Arc) (r : Filled) : Type 0 where
-  pub answer-is : readNumbers (r .read) ≡ answer (writeRefusal (listPlan n (take m records)) 963) (n, m)
+-- The refusal of writing, with the list untouched; or the same edition, the same n, the same m and the same records, with the list's own from m on untouched.
+pub record IsReread (e n : ℕ) (records : List Arc) (m : ℕ) (list : List Arc) (r : Filled) : Type 0 where
+  pub answer-is : readNumbers (r .read) ≡ answer (writeRefusal e (listPlan n (take m records)) 1475) (e, n, m)
   pub records-are
       : map arcValue (r .arcs)
-      ≡ unless (writeRefusal (listPlan n (take m records)) 963) (map arcValue (take m records) ++ map arcValue (drop m list)) (map arcValue list)
+      ≡ unless (writeRefusal e (listPlan n (take m records)) 1475) (map arcValue (take m records) ++ map arcValue (drop m list)) (map arcValue list)

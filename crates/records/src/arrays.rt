@@ -35,10 +35,10 @@ pub fn read_array(bytes: &[u8], arcs: [Arc; 257], room: usize) -> Filled
 }
 
 // Writing the first m records of the array.
-pub fn write_array(n: u8, arcs: [Arc; 257], m: usize, bytes: &mut [u8]) -> Written
+pub fn write_array(edition: u8, n: u8, arcs: [Arc; 257], m: usize, bytes: &mut [u8]) -> Written
     requires { ⌜ m ≤ 257 ⌝ }
-    ensures { λ r. ⌜ (writtenAnswer r ≡ writeAnswer (listPlan n (take m arcs)) (now (bytes .entry)))
-        × (now (bytes .exit) ≡ bytesAfter (listPlan n (take m arcs)) (now (bytes .entry))) ⌝ }
+    ensures { λ r. ⌜ (writtenAnswer r ≡ writeAnswer edition (listPlan n (take m arcs)) (now (bytes .entry)))
+        × (now (bytes .exit) ≡ bytesAfter edition (listPlan n (take m arcs)) (now (bytes .entry))) ⌝ }
 {
-    write_records(n, &arcs[..m], bytes)
+    write_records(edition, n, &arcs[..m], bytes)
 }

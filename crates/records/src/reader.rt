@@ -1,32 +1,33 @@
 // From bytes to a lent list of arc records.
 ghost use mathlib.Core.Path.{_≡_};
 ghost use mathlib.Core.List.{map};
-ghost use Prim.Native.Nat.{_-_, _*_, _≤_};
 ghost use lib.ListN.{length};
 ghost use Rattle.postman.specs.Refusal.{answer};
-ghost use Rattle.postman.specs.PlanFile.{arcOf, vertexCount, arcCount, readRefusal, readAnswer, recordsAfter};
+ghost use Rattle.postman.specs.PlanFile.{edition, arcOf, vertexCount, arcCount, readRefusal, readAnswer, recordsAfter};
 ghost use Rattle.plan.specs.Records.{arcValue, recordOf};
 ghost use Rattle.records.specs.Stored.{storedTo};
-ghost use Rattle.records.specs.Reading.{readNumbers, arcsRead};
+ghost use Rattle.records.specs.Reading.{readNumbers, arcsRead, Room};
 use bits::reader::take_at;
 use plan::Arc;
+use plan_file::reader::file_arc;
+use plan_file::reader::file_edition;
 use plan_file::reader::file_verdict;
-use plan_file::reader::read_arc;
 use refusal::Refusal;
 use refusal::Verdict;
 
-// "It answers n and m", or the refusal.
+// "It answers n and m", and "the edition too"; or the refusal.
 pub enum Read {
-    Given(u8, u16),
+    Given(u8, u8, u16),
     Refused(Refusal),
 }
 
 // What reading answers where there is room for `room` records.
 pub fn read_answer(bytes: &[u8], room: usize) -> Read
-    ensures { λ r. ⌜ readNumbers r ≡ answer (readRefusal (now (bytes .entry)) room) (vertexCount (now (bytes .entry)), arcCount (now (bytes .entry))) ⌝ }
+    ensures { λ r. ⌜ readNumbers r ≡ answer (readRefusal (now (bytes .entry)) room) (edition (now (bytes .entry)), vertexCount (now (bytes .entry)), arcCount (now (bytes .entry))) ⌝ }
 {
     match file_verdict(bytes) {
         Verdict::Accepted => {
+            let edition = file_edition(bytes);
             let n = take_at(bytes, 4, 7);
             let m = take_at(bytes, n.at, 9);
             let count = m.field;
@@ -34,7 +35,7 @@ pub fn read_answer(bytes: &[u8], room: usize) -> Read
                 return Read::Refused(Refusal::ShortSheet);
             }
             let vertices = n.field;
-            Read::Given(vertices as u8, count as u16)
+            Read::Given(edition, vertices as u8, count as u16)
         }
         Verdict::Refused(r) => Read::Refused(r),
     }
@@ -45,24 +46,24 @@ pub fn arcs_read(r: Read) -> usize
     ensures { λ k. ⌜ k ≡ arcsRead r ⌝ }
 {
     match r {
-        Read::Given(_, m) => m as usize,
+        Read::Given(_, _, m) => m as usize,
         Read::Refused(_) => 0,
     }
 }
 
 // The first m records become those of the file's first m arcs.
 pub fn store_arcs(bytes: &[u8], m: usize, records: &mut [Arc])
-    requires { ⌜ (m ≤ 256) × (30 * m ≤ 8 * length (now bytes) - 20) × (m ≤ length (now records)) ⌝ }
-    ensures { λ _. ⌜ now (records .exit) ≡ storedTo (λ k. recordOf (arcOf (now (bytes .entry)) k)) (now (records .entry)) m ⌝ }
+    requires { ⌜ Room (now bytes) (length (now records)) m ⌝ }
+    ensures { λ _. ⌜ now (records .exit) ≡ storedTo (λ k. recordOf (arcOf (now (bytes .entry)) (edition (now (bytes .entry))) k)) (now (records .entry)) m ⌝ }
 {
     let mut k = 0;
     while k < m {
-        records[k] = read_arc(bytes, k);
+        records[k] = file_arc(bytes, k);
         k = k + 1;
     }
 }
 
-// Reading, from any bytes into any list: the first refusal by document 01's order, with every record untouched; or n and m, with the file's arcs in the list from its
+// Reading, from any bytes into any list: the first refusal by document 01's order, with every record untouched; or the edition, n and m, with the file's arcs in the list from its
 // start and the records from m on untouched.
 pub fn read_records(bytes: &[u8], records: &mut [Arc]) -> Read
     ensures { λ r. ⌜ (readNumbers r ≡ readAnswer (now (bytes .entry)) (map arcValue (now (records .entry))))

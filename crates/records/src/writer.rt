@@ -29,6 +29,7 @@ pub fn no_records() -> [Arc; 256]
         head: 0,
         standing: 0,
         cost: 0,
+        service: 0,
     };
     [zero; 256]
 }
@@ -48,9 +49,9 @@ pub fn load_records(records: &[Arc]) -> [Arc; 256]
 }
 
 // Writing a plan of m records. There are 256: a longer list is refused for its length, whatever it holds.
-pub fn write_arcs(n: u8, m: usize, arcs: [Arc; 256], bytes: &mut [u8]) -> Written
-    ensures { λ r. ⌜ (writtenAnswer r ≡ writeAnswer (planValue (countedPlan n m arcs)) (now (bytes .entry)))
-        × (now (bytes .exit) ≡ bytesAfter (planValue (countedPlan n m arcs)) (now (bytes .entry))) ⌝ }
+pub fn write_arcs(edition: u8, n: u8, m: usize, arcs: [Arc; 256], bytes: &mut [u8]) -> Written
+    ensures { λ r. ⌜ (writtenAnswer r ≡ writeAnswer edition (planValue (countedPlan n m arcs)) (now (bytes .entry)))
+        × (now (bytes .exit) ≡ bytesAfter edition (planValue (countedPlan n m arcs)) (now (bytes .entry))) ⌝ }
 {
     let count = at_most(m, 257);
     let plan = Plan {
@@ -58,15 +59,15 @@ pub fn write_arcs(n: u8, m: usize, arcs: [Arc; 256], bytes: &mut [u8]) -> Writte
         m: count as u16,
         arcs: arcs,
     };
-    write_plan(plan, bytes)
+    write_plan(edition, plan, bytes)
 }
 
-// Writing, from any list into any slice: the first refusal by document 01's order, with the slice untouched; or the file's length, with the file in the slice from its
+// Writing in an edition, from any list into any slice: the first refusal by document 01's order, with the slice untouched; or the file's length, with the file in the slice from its
 // start and the bytes after it untouched.
-pub fn write_records(n: u8, records: &[Arc], bytes: &mut [u8]) -> Written
-    ensures { λ r. ⌜ (writtenAnswer r ≡ writeAnswer (listPlan n (now (records .entry))) (now (bytes .entry)))
-        × (now (bytes .exit) ≡ bytesAfter (listPlan n (now (records .entry))) (now (bytes .entry))) ⌝ }
+pub fn write_records(edition: u8, n: u8, records: &[Arc], bytes: &mut [u8]) -> Written
+    ensures { λ r. ⌜ (writtenAnswer r ≡ writeAnswer edition (listPlan n (now (records .entry))) (now (bytes .entry)))
+        × (now (bytes .exit) ≡ bytesAfter edition (listPlan n (now (records .entry))) (now (bytes .entry))) ⌝ }
 {
     let arcs = load_records(records);
-    write_arcs(n, records.len(), arcs, bytes)
+    write_arcs(edition, n, records.len(), arcs, bytes)
 }

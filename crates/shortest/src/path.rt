@@ -25,7 +25,7 @@ fn wide(x: u16) -> usize
 }
 
 // The lowest numbered arc with which a cheapest path from v begins, to the vertex of the column.
-fn next_arc(arcs: &[[u16; 4]], column: &[u32], v: usize) -> usize
+fn next_arc(arcs: &[[u16; 5]], column: &[u32], v: usize) -> usize
     requires { ⌜ WellFormed (planIn (length (now column)) (now arcs)) × (v < length (now column)) ⌝ }
     ensures { λ r. ⌜ r ≡ nextIn (now (arcs .entry)) (now (column .entry)) v ⌝ }
 {
@@ -40,7 +40,7 @@ fn next_arc(arcs: &[[u16; 4]], column: &[u32], v: usize) -> usize
 
 // Writes the arcs of the cheapest path from i to j into the places from `at` on, and answers the place after them.
 pub fn path(
-    arcs: &[[u16; 4]],
+    arcs: &[[u16; 5]],
     column: &[u32],
     i: usize,
     j: usize,

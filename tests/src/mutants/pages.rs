@@ -71,11 +71,11 @@ const MUTANTS: [(&str, &[Property], Call); 22] = [
         right(p, x, &mut vec![0; x.len()])
     }),
     ("closed arcs driven", &[Entries], |p, x, d| {
-        let table = distances(&read(p)?, |_| true);
+        let table = distances(&read(p)?, |a| Some(a.cost.into()));
         entries(p, x, d, |[i, j], _| table[i][j] as u32)
     }),
     ("must arcs in no path", &[Entries], |p, x, d| {
-        let table = distances(&read(p)?, |a| a.standing == OPTIONAL);
+        let table = distances(&read(p)?, |a| (a.standing == OPTIONAL).then_some(a.cost.into()));
         entries(p, x, d, |[i, j], _| table[i][j] as u32)
     }),
     ("no path is 0", &[Entries], |p, x, d| entries(p, x, d, |_, e| if e == u32::MAX { 0 } else { e })),

@@ -27,13 +27,13 @@ fn town() -> Plan {
         (2, 3, OPTIONAL, 65_535),
         (1, 1, OPTIONAL, 4),
     ];
-    Plan { n: 5, arcs: arcs.iter().map(|&(t, h, standing, cost)| Arc::new(t, h, standing, cost)).collect() }
+    Plan::new(5, arcs.iter().map(|&(t, h, standing, cost)| Arc::new(t, h, standing, cost)).collect())
 }
 
 /// The town's arcs, all of one standing.
 fn all(standing: u8) -> Plan {
     let plan = town();
-    Plan { arcs: plan.arcs.into_iter().map(|a| Arc { standing, ..a }).collect(), ..plan }
+    Plan { arcs: plan.arcs.into_iter().map(|a| Arc::new(a.tail.into(), a.head.into(), standing, a.cost)).collect(), ..plan }
 }
 
 /// Each pair of the town's vertices, as many times as there is room for.

@@ -9,12 +9,12 @@ pub type Distances = [Row; MOST_VERTICES];
 /// Stands for no path.
 pub const NO_PATH: u64 = 4_294_967_295;
 
-/// Tail, head and cost of the open arcs.
-pub fn open_arcs(plan: &Plan, is_open: impl Fn(&Arc) -> bool) -> Vec<(usize, usize, u64)> {
-    plan.arcs.iter().filter(|a| is_open(a)).map(|a| (a.tail.into(), a.head.into(), a.cost.into())).collect()
+/// Tail, head and length of the arcs that have one.
+pub fn measured_arcs(plan: &Plan, length: impl Fn(&Arc) -> Option<u64>) -> Vec<(usize, usize, u64)> {
+    plan.arcs.iter().filter_map(|a| Some((a.tail.into(), a.head.into(), length(a)?))).collect()
 }
 
-/// The row of a vertex: rounds of relaxation over the open arcs, until nothing changes.
+/// The row of a vertex: rounds of relaxation over the arcs, until nothing changes.
 pub fn row(arcs: &[(usize, usize, u64)], source: usize) -> Row {
     let mut row = [NO_PATH; MOST_VERTICES];
     row[source] = 0;
@@ -32,8 +32,8 @@ pub fn row(arcs: &[(usize, usize, u64)], source: usize) -> Row {
 }
 
 /// A row for each vertex.
-pub fn distances(plan: &Plan, is_open: impl Fn(&Arc) -> bool) -> Box<Distances> {
-    let arcs = open_arcs(plan, is_open);
+pub fn distances(plan: &Plan, length: impl Fn(&Arc) -> Option<u64>) -> Box<Distances> {
+    let arcs = measured_arcs(plan, length);
     let mut d = Box::new([[NO_PATH; MOST_VERTICES]; MOST_VERTICES]);
     for (source, entry) in d.iter_mut().enumerate() {
         *entry = row(&arcs, source);

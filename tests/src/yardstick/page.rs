@@ -1,6 +1,6 @@
 //! Distances for a page of pairs of vertices.
 
-use super::{open_arcs, read, row, Row, Yardstick};
+use super::{measured_arcs, read, row, Row, Yardstick};
 use crate::plan::{CLOSED, MOST_PAIRS};
 use crate::planner::{refusal, DistanceCall, Refusal};
 
@@ -17,7 +17,7 @@ impl DistanceCall for Yardstick {
             return Err(refusal::STRAY_PAIR);
         }
         let room = distances.get_mut(..pairs.len()).ok_or(refusal::SHORT_SHEET)?;
-        let arcs = open_arcs(&plan, |a| a.standing != CLOSED);
+        let arcs = measured_arcs(&plan, |a| (a.standing != CLOSED).then_some(a.cost.into()));
         let mut rows: Vec<Option<Row>> = vec![None; plan.n];
         let mut searches = 0;
         for (entry, &pair) in room.iter_mut().zip(pairs) {

@@ -1,4 +1,5 @@
--- The tour that is written completes the arborescence: its paths are cheapest paths, of at most n − 1 arcs, and there is one for each leg.
+-- The tour that is written completes the arborescence: its paths are cheapest paths, of at most n − 1 arcs, and there is one for each leg. One pass of each required arc is
+-- exchanged for the one that checks it.
 use mathlib.Core.Path.{_≡_, refl, sym, ap, _∙_, subst⁻¹, subst₃}
 use mathlib.Core.Bool.{not}
 use mathlib.Core.List.{List, List·Memᴰ}
@@ -8,7 +9,7 @@ use lib.ListN.{length, take, length-append}
 use lib.Dec.{T, ltb→lt}
 use Rattle.postman.specs.Lists.{anyOf}
 use Rattle.postman.specs.Plan.{Plan, requiredNumbers, WellFormed}
-use Rattle.postman.specs.Tour.{walkCost}
+use Rattle.postman.specs.Tour.{tourCost}
 use Rattle.postman.specs.Required.{required, requiredCost}
 use Rattle.postman.specs.Distance.{noPath, distance, hasPath}
 use Rattle.postman.specs.Link.{Link}
@@ -17,6 +18,7 @@ use Rattle.postman.specs.PlanCall.{isCutOff, sheetPlaces}
 use Rattle.postman.specs.Laws.Tests.{not-not}
 use Rattle.postman.specs.Laws.Membership.{anyOf-not}
 use Rattle.postman.specs.Laws.Required.{required-lt}
+use Rattle.postman.specs.Laws.TourCost.{tour-cost}
 use Rattle.shortest.specs.ShortestPath.{shortestPath}
 use Rattle.shortest.specs.Laws.ShortestPath.{shortest-path}
 use Rattle.circuit.specs.Legs.{amount, units, legTails, legHeads, Completes}
@@ -27,7 +29,7 @@ use Rattle.circuit.specs.Filled.{Laid}
 use Rattle.circuit.specs.Laws.Legs.{leg-at, leg-ends, legs-length, eulerian}
 use Rattle.circuit.specs.Laws.Laid.{prefix-length}
 use Rattle.circuit.specs.Laws.Few.{few-others, few-numbers}
-use Rattle.circuit.specs.Laws.Tour.{legs-count, is-tour, tour-cost, tour-length, tour-first}
+use Rattle.circuit.specs.Laws.Tour.{legs-count, is-tour, plain-cost, tour-length, tour-first}
 
 module _ (p : Plan) (ok : WellFormed p) (linked : T (not (isCutOff p))) where
   pub has-path : {i j : ℕ} → List·Memᴰ i (required p) → List·Memᴰ j (required p) → distance p i j < noPath
@@ -49,16 +51,17 @@ module _ (p : Plan) (ok : WellFormed p) (t : List Link) (amounts : List ℕ) (h 
   completion =
       let paths = are-paths p ok (h .linked) in
       let f = tour-first p ok t amounts h (shortestPath p) paths in
+      let w = is-tour p ok t amounts h (shortestPath p) paths in
       record {
-        tour = is-tour p ok t amounts h (shortestPath p) paths;
-        costs = tour-cost p ok t amounts h (shortestPath p) paths;
+        tour = w;
+        costs = omega (arith, plain-cost p ok t amounts h (shortestPath p) paths, tour-cost p w);
         nonempty = f .0;
         first = f .1;
         short = tour-length p ok t amounts h (shortestPath p) paths;
       }
 
   -- least amounts give the cost of the arborescence's completion
-  pub completes-at-least-cost : balancingCost (required p) (distance p) (amount amounts) ≡ leastBalancing p t → walkCost (p .arcs) (tour p t amounts) ≡ completionCost p t
+  pub completes-at-least-cost : balancingCost (required p) (distance p) (amount amounts) ≡ leastBalancing p t → tourCost p (tour p t amounts) ≡ completionCost p t
   unfolding completionCost
   completes-at-least-cost e = completion .costs ∙ ap (λ z. requiredCost p + linkCost p t + z) e
 

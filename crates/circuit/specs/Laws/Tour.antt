@@ -1,5 +1,5 @@
--- The tour is one: closed, since the circuit is and each leg's places lead from its tail to its head; with every required arc, since each is a leg. Its cost and its
--- length are those of the legs, which the circuit only puts in another order.
+-- The tour is one: closed, since the circuit is and each leg's places lead from its tail to its head; with every required arc, since each is a leg. Its plain cost and
+-- its length are those of the legs, which the circuit only puts in another order.
 use mathlib.Core.Path.{_≡_, refl, sym, ap, ap₂, _∙_, subst, subst⁻¹}
 use mathlib.Core.Bool.{Bool, true, false, cond}
 use mathlib.Core.List.{List, [], _∷_, _++_, map, flatMap, List·Memᴰ, List·Memᴰ·head, List·Memᴰ·tail, List·Memᴰ·not-nil}
@@ -14,14 +14,14 @@ use borrow.Author.Tests.{lt-ltb, le-ltb}
 use Rattle.postman.specs.Lists.{below, upFrom, sumOf}
 use Rattle.postman.specs.Plan.{Arc, Plan, arcAt, requiredArcs, requiredNumbers, WellFormed}
 use Rattle.postman.specs.Tour.{IsWalk, walkCost, IsTour}
-use Rattle.postman.specs.Required.{required, requiredCost}
+use Rattle.postman.specs.Required.{required}
 use Rattle.postman.specs.Distance.{distance}
 use Rattle.postman.specs.Link.{Link}
 use Rattle.postman.specs.Balancing.{linkCost, balancingCost}
 use Rattle.postman.specs.Laws.Membership.{mem-getD, mem-flatMap, getD-mem, getD-map-in, mem-below, below-mem}
 use Rattle.postman.specs.Laws.Pick.{Permutation, permutation-mem}
 use Rattle.postman.specs.Laws.Distance.{walk-append, cost-append}
-use Rattle.postman.specs.Laws.Required.{required-open, numbers-mem, mem-numbers, numbers-arcs, numbers-field}
+use Rattle.postman.specs.Laws.Required.{required-open, numbers-mem, mem-numbers, numbers-arcs, numbers-field, sum-cost}
 use Rattle.postman.specs.Laws.LinkLegs.{link-weight}
 use Rattle.circuit.specs.Circuit.{circuit}
 use Rattle.circuit.specs.Eulerian.{Joined, IsCircuit}
@@ -209,14 +209,13 @@ module _ (p : Plan) (ok : WellFormed p) (t : List Link) (amounts : List ℕ) (h 
         (subst⁻¹ (List·Memᴰ k) (places-arc p t amounts path (r .0) (r .1)) (List·Memᴰ·head (sym (r .2)))));
   }
 
-  -- ---- its cost
+  -- ---- its plain cost
 
-  cost-arcs : sumOf (map (λ e. walkCost (p .arcs) (places p t amounts path e)) (upFrom 0 (length (numbers p t amounts)))) ≡ requiredCost p
-  unfolding requiredCost
+  cost-arcs : sumOf (map (λ e. walkCost (p .arcs) (places p t amounts path e)) (upFrom 0 (length (numbers p t amounts)))) ≡ walkCost (p .arcs) (numbers p t amounts)
   cost-arcs =
       sum-by (λ e. walkCost (p .arcs) (places p t amounts path e)) (λ k. arcAt (p .arcs) k .cost) 0 (numbers p t amounts) 0
       (λ k l. ap (λ z. walkCost (p .arcs) (places p t amounts path z)) (zero-add k) ∙ ap (walkCost (p .arcs)) (places-arc p t amounts path k l) ∙ add-zero (arcAt (p .arcs) (getD (numbers p t amounts) k 0) .cost))
-      ∙ ap sumOf (numbers-field p (λ a. a .cost))
+      ∙ sum-cost (p .arcs) (numbers p t amounts)
 
   cost-others : sumOf (map (λ e. walkCost (p .arcs) (places p t amounts path e)) (upFrom (length (numbers p t amounts)) (length (others p t amounts)))) ≡ linkCost p (others p t amounts)
   unfolding linkCost legTails legHeads
@@ -228,10 +227,10 @@ module _ (p : Plan) (ok : WellFormed p) (t : List Link) (amounts : List ℕ) (h 
       ap (walkCost (p .arcs)) (places-other p t amounts path (n + k) (omega arith)) ∙ leg-path (n + k) (omega arith) .costs
       ∙ ap₂ (distance p) (at-other p t amounts (λ l. l .tail) k l) (at-other p t amounts (λ l. l .head) k l))
 
-  pub tour-cost : walkCost (p .arcs) (tourBy path p t amounts) ≡ requiredCost p + linkCost p t + balancingCost (required p) (distance p) (amount amounts)
+  pub plain-cost : walkCost (p .arcs) (tourBy path p t amounts) ≡ walkCost (p .arcs) (requiredNumbers p) + linkCost p t + balancingCost (required p) (distance p) (amount amounts)
   unfolding tourBy placesOf balancingCost
-  tour-cost =
-      let a : walkCost (p .arcs) (tourBy path p t amounts) ≡ requiredCost p + linkCost p (others p t amounts)
+  plain-cost =
+      let a : walkCost (p .arcs) (tourBy path p t amounts) ≡ walkCost (p .arcs) (requiredNumbers p) + linkCost p (others p t amounts)
       = cost-flat (p .arcs) (places p t amounts path) order ∙ legs-sum p t amounts path (λ e. walkCost (p .arcs) (places p t amounts path e)) (order-circuit .each-once) ∙ ap₂ _+_ cost-arcs cost-others in
       let b : linkCost p (others p t amounts) ≡ linkCost p t + balancingCost (required p) (distance p) (amount amounts)
       = link-weight p (others p t amounts) ∙ weight-append (distance p) t (units amounts) ∙ ap₂ _+_ (sym (link-weight p t)) (units-weight p (ok .vertices) amounts (h .between) (distance p)) in

@@ -42,7 +42,16 @@ shared-slice-read-t20 : tie.Need-shared-slice-read-t20 Inv-loop μ-loop
 shared-slice-read-t20 c = search needs
 
 cast-t21 : tie.Need-cast-t21 Inv-loop μ-loop
-cast-t21 c = omega (arith, c .shared-slice-known4 .given (c .before .before .before .before .before .loop .k * 4 + 3))
+cast-t21 c = omega (arith, c .shared-slice-known4 .given (c .before .before .before .before .before .loop .k * 5 + 3))
+
+add-t22 : tie.Need-add-t22 Inv-loop μ-loop
+add-t22 c = search needs
+
+shared-slice-read-t24 : tie.Need-shared-slice-read-t24 Inv-loop μ-loop
+shared-slice-read-t24 c = search needs
+
+cast-t25 : tie.Need-cast-t25 Inv-loop μ-loop
+cast-t25 c = omega (arith, c .shared-slice-known5 .given (c .before .before .before .before .before .before .loop .k * 5 + 4))
 
 mul-arcs : tie.Need-mul-arcs Inv-loop μ-loop
 mul-arcs c = search needs
@@ -58,13 +67,13 @@ loop-less c = search needs
 
 loop-again : tie.Need-loop-again Inv-loop μ-loop
 loop-again c =
-    let at = c .before .before .before .before .before in
+    let at = c .before .before .before .before .before .before in
     let rows = at .before .args .rows .now in
     let k = at .loop .k in
     (omega arith, filled-more (arcIn rows) (at .loop .arcs) k (arcIn rows k) (omega arith) refl (at .loop .inv .1))
 
-cast-t26 : tie.Need-cast-t26 Inv-loop μ-loop
-cast-t26 c = search needs
+cast-t30 : tie.Need-cast-t30 Inv-loop μ-loop
+cast-t30 c = search needs
 
 returns : tie.Need-returns Inv-loop μ-loop
 unfolding planIn
@@ -88,10 +97,13 @@ plan-of-spec =
     add-t18
     shared-slice-read-t20
     cast-t21
+    add-t22
+    shared-slice-read-t24
+    cast-t25
     mul-arcs
     array-set-from-arcs
     add-k
     loop-less
     loop-again
-    cast-t26
+    cast-t30
     returns)

@@ -92,9 +92,9 @@ module _ (r : PlanRecord) (ok : WellFormed (planValue r)) {b m k sum : ℕ} (l :
       let e : k ≡ r .m = omega arith in
       h .is ∙ ap (requiredSum g (planValue r)) e ∙ sum-all g r ok
 
-  pub sum-cost : Summed (λ a. a .cost) b r m k sum → sum ≡ requiredCost (planValue r)
+  pub sum-service : Summed (λ a. a .service) b r m k sum → sum ≡ requiredCost (planValue r)
   unfolding requiredCost
-  sum-cost h = whole h
+  sum-service h = whole h
 
   pub sum-ends : (f : Arc → ℕ) (v : ℕ) → Summed (λ a. delta v (f a)) b r m k sum → sum ≡ occurrences v (map f (requiredArcs (planValue r)))
   sum-ends f v h = whole h ∙ sum-occurrences f v (requiredArcs (planValue r))

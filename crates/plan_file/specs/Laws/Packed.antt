@@ -16,13 +16,14 @@ use Rattle.plan_file.specs.Packed.{packedArc}
 
 pub packed-equal : (a b : Arc) → IsRecord a → IsRecord b → packedArc a ≡ packedArc b → a ≡ b
 packed-equal a b ra rb e =
-    let h = ra .head in let s = ra .standing in let c = ra .cost in
-    let h′ = rb .head in let s′ = rb .standing in let c′ = rb .cost in
+    let h = ra .head in let s = ra .standing in let c = ra .cost in let v = ra .service in
+    let h′ = rb .head in let s′ = rb .standing in let c′ = rb .cost in let v′ = rb .service in
     let e₁ : a .tail ≡ b .tail = omega arith in
     let e₂ : a .head ≡ b .head = omega arith in
     let e₃ : a .standing ≡ b .standing = omega arith in
     let e₄ : a .cost ≡ b .cost = omega arith in
-    λ i. record { tail = e₁ i; head = e₂ i; standing = e₃ i; cost = e₄ i }
+    let e₅ : a .service ≡ b .service = omega arith in
+    λ i. record { tail = e₁ i; head = e₂ i; standing = e₃ i; cost = e₄ i; service = e₅ i }
 
 -- Numbers of which the first m are those of arcs.
 module _ (arc : ℕ → Arc) (m : ℕ) (numbers : List ℕ) (fields : (k : ℕ) → k < m → IsRecord (arc k)) (packed : (k : ℕ) → k < m → getD numbers k 0 ≡ packedArc (arc k)) where

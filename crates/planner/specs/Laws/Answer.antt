@@ -1,22 +1,24 @@
 -- The answer put together: its fields are those of the definition, its drive is the written one, and the guarantee is the theorem of the floor.
 use mathlib.Core.Path.{_≡_, sym, ap, _∙_, subst, subst⁻¹}
-use mathlib.Core.Bool.{Bool, cond}
+use mathlib.Core.Bool.{Bool, not, cond}
 use mathlib.Core.List.{List, [], _∷_, List·Memᴰ, Memᴰ·append-left}
 use mathlib.Core.Option.{none, some, Option·some-ne-none}
-use Prim.Native.Nat.{ℕ, _*_, _-_, _≤_}
+use Prim.Native.Nat.{ℕ, suc, _*_, _-_, _≤_}
 use native.Mathlib.Nat.{suc-mul, mul-le-mul-right}
 use native.Mathlib.Omega.{arith}
 use lib.ListN.{length, take, drop, take-append-drop, length-take}
 use lib.IntN.{ℤ, pos}
-use Rattle.postman.specs.Lists.{maxℤ}
-use Rattle.postman.specs.Plan.{Arc, Plan, arcAt}
+use lib.Dec.{eqb}
+use Rattle.postman.specs.Lists.{select, anyOf, maxℤ}
+use Rattle.postman.specs.Plan.{Arc, Plan, arcAt, requiredNumbers, IsArc}
 use Rattle.postman.specs.Refusal.{answer, unless}
-use Rattle.postman.specs.Tour.{IsWalk, walkCost}
+use Rattle.postman.specs.Tour.{IsWalk, tourCostDue, tourCost}
 use Rattle.postman.specs.Link.{Link}
 use Rattle.postman.specs.Component.{componentCount}
 use Rattle.postman.specs.Arborescence.{IsArborescence, arborescences}
 use Rattle.postman.specs.LagrangianBound.{AreGreatest, lagrangianBound}
 use Rattle.postman.specs.PlanCall.{Summary, summary, fields, root, triedCount, isWhole, bestCost, bestArborescence, lowerBound, sheetPlaces, IsAnswerTour}
+use Rattle.postman.specs.Laws.Tests.{cond-ind}
 use Rattle.postman.specs.Laws.Membership.{getD-mem}
 use Rattle.postman.specs.Laws.Arborescence.{arborescences-mem}
 use Rattle.postman.specs.Laws.Optimality.{Plannable, some-arborescence, guaranteed}
@@ -35,23 +37,26 @@ use Rattle.planner.specs.Laws.Lay.{arcs-links}
 
 -- ---- the cost is small
 
-walk-small : (arcs : List Arc) → ((a : Arc) → List·Memᴰ a arcs → a .cost ≤ 65535) → (i j : ℕ) (w : List ℕ) → IsWalk arcs i w j → walkCost arcs w ≤ length w * 65535
-walk-small arcs h i j [] g = omega arith
-walk-small arcs h i j (k ∷ w) g =
-    let r = walk-small arcs h (arcAt arcs k .head) j w (g .3) in
-    let c = h (arcAt arcs k) (getD-mem arcs _ k (g .0)) in
+-- each pass costs at most 65,535, whether it is one that checks or not
+passes-small : (n : ℕ) (arcs : List Arc) → ((a : Arc) → List·Memᴰ a arcs → IsArc n a) → (i j : ℕ) (w due : List ℕ) → IsWalk arcs i w j → tourCostDue arcs due w ≤ length w * 65535
+unfolding tourCostDue
+passes-small n arcs h i j [] due g = omega arith
+passes-small n arcs h i j (k ∷ w) due g =
+    let a = h (arcAt arcs k) (getD-mem arcs _ k (g .0)) in
     let e = suc-mul (length w) 65535 in
-    omega arith
+    cond-ind (anyOf (eqb k) due) _ _ (λ x. x ≤ suc (length w) * 65535)
+    (λ t. omega (arith, e, a .service-in, passes-small n arcs h (arcAt arcs k .head) j w (select (λ l. not (eqb k l)) due) (g .3)))
+    (λ t. omega (arith, e, a .cost-in, passes-small n arcs h (arcAt arcs k .head) j w due (g .3)))
 
 module _ (p : Plan) (ok : Plannable p) (few : componentCount p ≤ 8) (budget : ℕ) (some : 1 ≤ budget) where
   drive : IsAnswerTour p budget (tourOf p budget)
   drive = answer-tour p ok few budget some
 
   pub cost-small : bestCost p budget ≤ 1131527310
-  unfolding sheetPlaces
+  unfolding sheetPlaces tourCost
   cost-small =
       let t = drive in
-      let a = walk-small (p .arcs) (λ a m. ok .well-formed .each a m .cost-in) (t .tour .start) (t .tour .start) (tourOf p budget) (t .tour .closed) in
+      let a = passes-small (p .n) (p .arcs) (ok .well-formed .each) (t .tour .start) (t .tour .start) (tourOf p budget) (requiredNumbers p) (t .tour .closed) in
       let b = mul-le-mul-right {m = length (tourOf p budget)} {n = 17266} 65535 (t .short) in
       let c = t .costs in
       omega arith

@@ -4,8 +4,7 @@ use mathlib.Core.Path.{_≡_, refl, sym, ap, ap₂, _∙_, subst, subst⁻¹, fu
 use mathlib.Core.Logic.{inl, inr}
 use mathlib.Core.Bool.{Bool, true, false}
 use mathlib.Core.List.{List, [], _∷_, map, List·Memᴰ, List·Memᴰ·head, List·Memᴰ·tail}
-use Prim.Native.Nat.{ℕ, suc, _+_, _*_, _≤_, _<_}
-use native.Mathlib.Nat.{suc-mul, mul-le-mul-right}
+use Prim.Native.Nat.{ℕ, _+_, _*_, _≤_, _<_}
 use native.Mathlib.Decide.{decLe}
 use native.Mathlib.Omega.{arith}
 use lib.ListN.{length, getD, replicate, List·getD-eq-default}
@@ -13,15 +12,15 @@ use lib.Dec.{T}
 use lib.IntN.{ℤ, pos, _+ℤ_, _-ℤ_, _*ℤ_, zero-*ℤ}
 use lib.Signed.{_≤ℤ_}
 use Rattle.integers.specs.Linear.{z, zl, Within}
-use Rattle.postman.specs.Lists.{select, sumOf, sumOfℤ, below}
-use Rattle.postman.specs.Plan.{Arc, Plan, isRequiredArc, requiredArcs, WellFormed}
+use Rattle.postman.specs.Lists.{sumOfℤ, below}
+use Rattle.postman.specs.Plan.{Plan, WellFormed}
 use Rattle.postman.specs.Required.{required, isRequired, requiredCost}
 use Rattle.postman.specs.Distance.{distance}
 use Rattle.postman.specs.Link.{Link}
 use Rattle.postman.specs.Arborescence.{arborescenceCount}
 use Rattle.postman.specs.Balancing.{imbalance}
 use Rattle.postman.specs.LagrangianBound.{reducedCost, reducedSum, cheapestArborescence, priceOfImbalance, lagrangianBound}
-use Rattle.postman.specs.Laws.Tests.{cond-ind, is-true}
+use Rattle.postman.specs.Laws.Tests.{is-true}
 use Rattle.postman.specs.Laws.Membership.{select-mem, mem-select, mem-below}
 use Rattle.postman.specs.Laws.Occurrences.{mem?}
 use Rattle.postman.specs.Laws.Distance.{bounded}
@@ -37,6 +36,7 @@ use Rattle.balance.specs.Laws.Plan.{plan-metric}
 use Rattle.arborescence.specs.Picture.{highest}
 use Rattle.arborescence.specs.PairCosts.{AreCosts, IsNetwork, multipliersOf}
 use Rattle.candidates.specs.Laws.Vertices.{required-of-64}
+use Rattle.search.specs.Laws.Costs.{required-small}
 use Rattle.planner.specs.Priced.{IsPriced}
 
 -- a required vertex's flag is set, and only theirs
@@ -48,24 +48,6 @@ module _ (p : Plan) (flags : List Bool) (h : (v : ℕ) → v < 64 → getD flags
       let b = ok .vertices in
       let t = select-mem (isRequired p) (below (p .n)) m .1 in
       h v (omega arith) ∙ is-true t
-
--- R is at most 256 arcs of the highest cost
-sum-costs : (n : ℕ) (arcs : List Arc) → ((a : Arc) → List·Memᴰ a arcs → a .cost ≤ n) → sumOf (map (λ a. a .cost) (select isRequiredArc arcs)) ≤ length arcs * n
-unfolding sumOf select
-sum-costs n [] h = omega arith
-sum-costs n (a ∷ arcs) h =
-    let r = sum-costs n arcs (λ b m. h b (List·Memᴰ·tail m)) in
-    let c = h a (List·Memᴰ·head refl) in
-    let e = suc-mul (length arcs) n in
-    cond-ind (isRequiredArc a) (a ∷ select isRequiredArc arcs) (select isRequiredArc arcs) (λ l. sumOf (map (λ a. a .cost) l) ≤ suc (length arcs) * n) (λ t. omega arith) (λ t. omega arith)
-
-required-cost-small : (p : Plan) → WellFormed p → requiredCost p ≤ 16776960
-unfolding requiredCost requiredArcs
-required-cost-small p ok =
-    let a = sum-costs 65535 (p .arcs) (λ a m. ok .each a m .cost-in) in
-    let b = ok .arc-count in
-    let c = mul-le-mul-right {m = length (p .arcs)} {n = 256} 65535 b in
-    omega arith
 
 module _ (p : Plan) (table : List (List ℕ)) (u : List ℤ) (c : List ℕ) (flags : List Bool) (k r price : ℕ) (h : IsPriced p table u c flags k r price) where
   abbrev U : ℕ → ℤ
@@ -167,7 +149,7 @@ module _ (p : Plan) (table : List (List ℕ)) (u : List ℤ) (c : List ℕ) (fla
 
   -- R is small
   pub cost-small : r ≤ 4398046511104
-  cost-small = let a = h .cost in let b = required-cost-small p (h .plannable .well-formed) in omega arith
+  cost-small = let a = h .cost in let b = required-small p (h .plannable .well-formed) in omega arith
 
 -- ---- u = 0
 

@@ -9,16 +9,15 @@ use native.Mathlib.Omega.{arith}
 use borrow.Author.Tests.{lt-ltb, le-ltb}
 use lib.ListN.{length, take}
 use lib.Seq.{length-take-le, getD-take}
-use lib.Dec.{eqb}
 use Rattle.postman.specs.BitField.{bitAt, fieldAt}
 use Rattle.postman.specs.Refusal.{firstRefusal}
-use Rattle.postman.specs.PlanFile.{isOutside, fileLength, fileConditions}
+use Rattle.postman.specs.Plan.{Plan}
+use Rattle.postman.specs.PlanFile.{edition, isEdition, isOutside, fileLength, bodyConditions, fileConditions}
 use Rattle.postman.specs.PlanCall.{callRefusal}
 use Rattle.postman.specs.Laws.BitField.{number-same}
-use Rattle.plan_file.specs.Reading.{bodyConditions}
-use Rattle.plan_file.specs.Laws.Reading.{file-refusal}
+use Rattle.plan_file.specs.Laws.Reading.{file-refusal, extent-refusal}
 use Rattle.postman.specs.Laws.Acceptance.{inside}
-use Rattle.postman.specs.Laws.PlanFile.{fileLength-le}
+use Rattle.postman.specs.Laws.FileLength.{fileLength-le}
 use Rattle.planner.specs.Laws.Call.{file-refused}
 
 -- ---- the fields of the first bytes
@@ -31,24 +30,28 @@ field-take : (bytes : List ℕ) (k i w : ℕ) → i + w ≤ 8 * k → fieldAt (t
 unfolding fieldAt
 field-take bytes k i w l = number-same (bitAt (take k bytes)) (bitAt bytes) i i w (λ j h. bit-take bytes k (i + j) (omega arith))
 
+edition-take : (bytes : List ℕ) (k : ℕ) → 1 ≤ k → edition (take k bytes) ≡ edition bytes
+unfolding edition
+edition-take bytes k l = field-take bytes k 0 4 (omega arith)
+
 -- ---- the refusal of a long file
 
 -- 2, 3 or 4, by the edition, n and m
 longRefusal : ℕ → ℕ → ℕ → ℕ
-longRefusal edition n m = cond (not (eqb edition 1)) 2 (cond (isOutside n 1 64 || isOutside m 1 256) 3 4)
+longRefusal e n m = cond (not (isEdition e)) 2 (cond (isOutside n 1 64 || isOutside m 1 256) 3 4)
 
-module _ (bytes : List ℕ) (long : 964 ≤ length bytes) where
-  margin : (n m : ℕ) → m ≤ 256 → firstRefusal (bodyConditions bytes n m) ≡ some 4
+module _ (bytes : List ℕ) (long : 1476 ≤ length bytes) where
+  margin : (e m : ℕ) (p : Plan) → m ≤ 256 → firstRefusal (bodyConditions bytes e m p) ≡ some 4
   unfolding firstRefusal bodyConditions
-  margin n m h =
-      let l = fileLength-le m h in
-      rw (le-ltb (length bytes) (fileLength m) (omega arith), lt-ltb (fileLength m) (length bytes) (omega arith))
+  margin e m p h =
+      let l = fileLength-le e m h in
+      rw (le-ltb (length bytes) (fileLength e m) (omega arith), lt-ltb (fileLength e m) (length bytes) (omega arith))
 
-  by-header : (edition n m : ℕ)
-      → cond (not (eqb edition 1)) (some 2) (cond (isOutside n 1 64 || isOutside m 1 256) (some 3) (firstRefusal (bodyConditions bytes n m)))
-      ≡ some (longRefusal edition n m)
+  by-header : (e n m : ℕ) (p : Plan)
+      → cond (not (isEdition e)) (some 2) (cond (isOutside n 1 64 || isOutside m 1 256) (some 3) (firstRefusal (bodyConditions bytes e m p)))
+      ≡ some (longRefusal e n m)
   unfolding longRefusal
-  by-header edition n m = at (not (eqb edition 1)) (isOutside n 1 64) (isOutside m 1 256) (λ e. margin n m (inside m 1 256 e .1))
+  by-header e n m p = at (not (isEdition e)) (isOutside n 1 64) (isOutside m 1 256) (λ h. margin e m p (inside m 1 256 h .1))
     where
       at : (x y z : Bool) {o : Option ℕ} → (z ≡ false → o ≡ some 4) → cond x (some 2) (cond (y || z) (some 3) o) ≡ some (cond x 2 (cond (y || z) 3 4))
       at true y z f = refl
@@ -56,20 +59,22 @@ module _ (bytes : List ℕ) (long : 964 ≤ length bytes) where
       at false false true f = refl
       at false false false f = f refl
 
-  file-long : firstRefusal (fileConditions bytes) ≡ some (longRefusal (fieldAt bytes 0 4) (fieldAt bytes 4 7) (fieldAt bytes 11 9))
-  file-long = file-refusal bytes ∙ rw (le-ltb (length bytes) 3 (omega arith)) (by-header (fieldAt bytes 0 4) (fieldAt bytes 4 7) (fieldAt bytes 11 9))
+  file-long : firstRefusal (fileConditions bytes) ≡ some (longRefusal (edition bytes) (fieldAt bytes 4 7) (fieldAt bytes 11 9))
+  file-long =
+      file-refusal bytes
+      ∙ rw (le-ltb (length bytes) 3 (omega arith), extent-refusal bytes (edition bytes)) (by-header (edition bytes) (fieldAt bytes 4 7) (fieldAt bytes 11 9) _)
 
-  call-long : (budget places : ℕ) → callRefusal bytes budget places ≡ some (longRefusal (fieldAt bytes 0 4) (fieldAt bytes 4 7) (fieldAt bytes 11 9))
+  call-long : (budget places : ℕ) → callRefusal bytes budget places ≡ some (longRefusal (edition bytes) (fieldAt bytes 4 7) (fieldAt bytes 11 9))
   call-long budget places = file-refused bytes budget places _ file-long
 
   -- A file longer than the longest plan is refused.
   pub long-refused : (budget places : ℕ) → (r : ℕ) × (callRefusal bytes budget places ≡ some r)
   long-refused budget places = (_, call-long budget places)
 
--- A file longer than the longest plan is refused for what its first 964 bytes hold, whatever follows them.
-pub long-file : (bytes : List ℕ) (budget places k : ℕ) → 964 ≤ k → k ≤ length bytes → callRefusal (take k bytes) budget places ≡ callRefusal bytes budget places
+-- A file longer than the longest plan is refused for what its first 1,476 bytes hold, whatever follows them.
+pub long-file : (bytes : List ℕ) (budget places k : ℕ) → 1476 ≤ k → k ≤ length bytes → callRefusal (take k bytes) budget places ≡ callRefusal bytes budget places
 long-file bytes budget places k h l =
     let e = length-take-le k bytes l in
     call-long (take k bytes) (omega arith) budget places
-    ∙ rw (field-take bytes k 0 4 (omega arith), field-take bytes k 4 7 (omega arith), field-take bytes k 11 9 (omega arith))
+    ∙ rw (edition-take bytes k (omega arith), field-take bytes k 4 7 (omega arith), field-take bytes k 11 9 (omega arith))
     (sym (call-long bytes (omega arith) budget places))

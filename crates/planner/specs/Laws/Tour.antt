@@ -8,12 +8,13 @@ use native.Mathlib.Omega.{arith}
 use lib.ListN.{length, getD, drop, take-append-drop}
 use Rattle.postman.specs.Lists.{below}
 use Rattle.postman.specs.Plan.{Plan}
-use Rattle.postman.specs.Required.{required, requiredCost}
+use Rattle.postman.specs.Tour.{tourCost}
+use Rattle.postman.specs.Required.{required}
 use Rattle.postman.specs.Distance.{distance}
 use Rattle.postman.specs.Link.{Link}
 use Rattle.postman.specs.Component.{componentCount}
 use Rattle.postman.specs.Arborescence.{IsArborescence, arborescences}
-use Rattle.postman.specs.Balancing.{balancingCost, linkCost, completionCost}
+use Rattle.postman.specs.Balancing.{completionCost}
 use Rattle.postman.specs.PlanCall.{triedCount, bestArborescence, IsAnswerTour}
 use Rattle.postman.specs.Laws.Membership.{getD-map-upFrom}
 use Rattle.postman.specs.Laws.Required.{required-lt}
@@ -31,7 +32,7 @@ use Rattle.balance.specs.Laws.Plan.{table-metric, inside, few-arcs, direct-bala
 use Rattle.postman.specs.Laws.Sum.{term-le}
 use Rattle.circuit.specs.Legs.{Completes}
 use Rattle.circuit.specs.Tour.{tour, IsCompletion}
-use Rattle.circuit.specs.Laws.Completion.{completion}
+use Rattle.circuit.specs.Laws.Completion.{completion, completes-at-least-cost}
 use Rattle.planner.specs.Tour.{tableOf, amountsOf, tourOf}
 
 -- the table holds d
@@ -101,11 +102,11 @@ module _ (p : Plan) (ok : Plannable p) (few : componentCount p ≤ 8) where
     }
 
     -- a drive that completes the tree, at its completion cost
-    pub tree-tour : IsCompletion p t f (tour p t f) × (requiredCost p + linkCost p t + balancingCost (required p) (distance p) (amount f) ≡ completionCost p t)
-    unfolding completionCost amountsOf
+    pub tree-tour : IsCompletion p t f (tour p t f) × (tourCost p (tour p t f) ≡ completionCost p t)
+    unfolding amountsOf
     tree-tour = (
       completion p (ok .well-formed) t f completes,
-      ap (λ n. requiredCost p + linkCost p t + n) (direct-least p (ok .well-formed) (ok .connected) d agrees t joined short),
+      completes-at-least-cost p (ok .well-formed) t f completes (direct-least p (ok .well-formed) (ok .connected) d agrees t joined short),
     )
 
   -- THE DRIVE: of the answer's cost, its first arc the lowest required arc, short enough
@@ -119,7 +120,7 @@ module _ (p : Plan) (ok : Plannable p) (few : componentCount p ≤ 8) where
       let c = r .0 in
       record {
         tour = c .tour;
-        costs = c .costs ∙ r .1 ∙ best-value p budget l n;
+        costs = r .1 ∙ best-value p budget l n;
         nonempty = c .nonempty;
         first = c .first;
         short = c .short;

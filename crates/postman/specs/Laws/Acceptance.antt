@@ -2,7 +2,7 @@
 -- together, condition by condition.
 use mathlib.Core.Path.{_≡_, refl, ap}
 use mathlib.Core.Logic.{_≢_}
-use mathlib.Core.Bool.{Bool, true, false, not, _||_}
+use mathlib.Core.Bool.{Bool, true, false, not, cond, _||_}
 use mathlib.Core.List.{List, [], _∷_, _++_, List·Memᴰ}
 use mathlib.Core.Option.{none}
 use Prim.Native.Nat.{ℕ, _+_, _*_, _≤_, _<_}
@@ -11,15 +11,17 @@ use lib.ListN.{length}
 use lib.Dec.{T, eqb, ltb, leb, eqb→eq, not-T, nleb→lt, nltb→le}
 use lib.Arith.{lt→nleb, le→nltb}
 use Rattle.postman.specs.Lists.{below}
-use Rattle.postman.specs.Plan.{Arc, Plan, WellFormed, requiredArcs}
+use Rattle.postman.specs.Plan.{Arc, Plan, WellFormed, isRequiredArc, requiredArcs}
+use Rattle.postman.specs.BitField.{fieldAt}
 use Rattle.postman.specs.Refusal.{Conditions, firstRefusal}
-use Rattle.postman.specs.PlanFile.{edition, vertexCount, arcCount, arcOf, planOf, fileLength, fillBits, isOutside, extentConditions, arcConditions, arcsConditions, hasRepeated, planConditions, fileConditions, readRefusal, IsRecord, writeRefusal}
+use Rattle.postman.specs.PlanFile.{edition, vertexCount, arcCount, isEdition, isSecond, impliedService, arcFrom, arcOf, planOf, fileBits, fileLength, fillBits, isOutside, extentConditions, isMispriced, arcConditions, arcsConditions, hasRepeated, planConditions, editionConditions, bodyConditions, fileConditions, readRefusal, IsRecord, writeRefusal}
 use Rattle.postman.specs.Component.{componentCount}
 use Rattle.postman.specs.PlanCall.{sheetPlaces, highestBudget, isCutOff, earlierConditions, callRefusal}
-use Rattle.postman.specs.Laws.Tests.{not-or, not-not, eqb-same, eqb-other}
+use Rattle.postman.specs.Laws.Tests.{cond-ind, not-or, not-not, eqb-same, eqb-other}
 use Rattle.postman.specs.Laws.Membership.{map-mem, below-mem}
 use Rattle.postman.specs.Laws.Below.{length-map-below}
 use Rattle.postman.specs.Laws.BitField.{field-lt}
+use Rattle.postman.specs.Laws.FileLength.{counted}
 use Rattle.postman.specs.Laws.Refusal.{nothing-refused, accepted-cons, cons-accepted, accepted-append, append-accepted, accepted-flatMap, flatMap-accepted}
 use Rattle.postman.specs.Laws.Repeated.{Distinct, not-repeated}
 
@@ -61,70 +63,106 @@ accepted-extent n m a b c d =
 
 -- ---- the arcs
 
-module _ (n : ℕ) (a : Arc) where
-  arc-accepted : firstRefusal (arcConditions n a) ≡ none → (a .tail < n) × (a .head < n) × (1 ≤ a .cost) × (a .standing ≤ 2)
+-- what an accepted arc of edition e is
+pub record IsFileArc (e n : ℕ) (a : Arc) : Type 0 where
+  pub tail : a .tail < n
+  pub head : a .head < n
+  pub cost : 1 ≤ a .cost
+  pub priced : T (not (isMispriced e a))
+  pub standing : a .standing ≤ 2
+
+module _ (e n : ℕ) (a : Arc) where
+  arc-accepted : firstRefusal (arcConditions e n a) ≡ none → IsFileArc e n a
   unfolding arcConditions
-  arc-accepted e =
-      let s = accepted-cons _ _ _ e in
+  arc-accepted h =
+      let s = accepted-cons _ _ _ h in
       let c = accepted-cons _ _ _ (s .1) in
       let t = accepted-cons _ _ _ (c .1) in
       let v = not-or (leb n (a .tail)) (leb n (a .head)) (s .0) in
-      let z : a .cost ≢ 0 = eqb-other (c .0) in
-      (nleb→lt n (a .tail) (v .0), nleb→lt n (a .head) (v .1), omega arith, nltb→le 2 (a .standing) (t .0))
+      let x = not-or (eqb (a .cost) 0) (isMispriced e a) (c .0) in
+      let z : a .cost ≢ 0 = eqb-other (x .0) in
+      record { tail = nleb→lt n (a .tail) (v .0); head = nleb→lt n (a .head) (v .1); cost = omega arith; priced = x .1; standing = nltb→le 2 (a .standing) (t .0) }
 
-  accepted-arc : a .tail < n → a .head < n → 1 ≤ a .cost → a .standing ≤ 2 → firstRefusal (arcConditions n a) ≡ none
+  accepted-arc : IsFileArc e n a → firstRefusal (arcConditions e n a) ≡ none
   unfolding arcConditions
-  accepted-arc t h c s =
-      cons-accepted _ _ _ (neither (leb n (a .tail)) (leb n (a .head)) (lt→nleb n (a .tail) t) (lt→nleb n (a .head) h))
-      (cons-accepted _ _ _ (not-T (eqb (a .cost) 0) (λ u. (let e = eqb→eq (a .cost) 0 u in omega arith)))
-      (cons-accepted _ _ _ (le→nltb 2 (a .standing) s) nothing-refused))
+  accepted-arc h =
+      let l = h .cost in
+      cons-accepted _ _ _ (neither (leb n (a .tail)) (leb n (a .head)) (lt→nleb n (a .tail) (h .tail)) (lt→nleb n (a .head) (h .head)))
+      (cons-accepted _ _ _ (neither (eqb (a .cost) 0) (isMispriced e a) (not-T (eqb (a .cost) 0) (λ u. (let q = eqb→eq (a .cost) 0 u in omega arith))) (h .priced))
+      (cons-accepted _ _ _ (le→nltb 2 (a .standing) (h .standing)) nothing-refused))
 
-module _ (p : Plan) where
-  arcs-accepted : firstRefusal (arcsConditions p) ≡ none → (a : Arc) → List·Memᴰ a (p .arcs) → (a .tail < p .n) × (a .head < p .n) × (1 ≤ a .cost) × (a .standing ≤ 2)
-  unfolding arcsConditions
-  arcs-accepted e a m = arc-accepted (p .n) a (accepted-flatMap (arcConditions (p .n)) m e)
+  -- in edition 1 the service cost is the implied one
+  pub implied : isSecond e ≡ false → T (not (isMispriced e a)) → a .service ≡ impliedService (a .standing) (a .cost)
+  unfolding isMispriced
+  implied q t =
+      let r = not-or (cond (isRequiredArc a) (eqb (a .service) 0) (not (eqb (a .service) 0))) _ t .1 in
+      let s : T (not (not (eqb (a .service) (impliedService (a .standing) (a .cost))))) = rw q at r in
+      eqb→eq (a .service) _ (not-not (eqb (a .service) _) s)
 
-  accepted-arcs : ((a : Arc) → List·Memᴰ a (p .arcs) → (a .tail < p .n) × (a .head < p .n) × (1 ≤ a .cost) × (a .standing ≤ 2)) → firstRefusal (arcsConditions p) ≡ none
+module _ (e : ℕ) (p : Plan) where
+  pub arcs-accepted : firstRefusal (arcsConditions e p) ≡ none → (a : Arc) → List·Memᴰ a (p .arcs) → IsFileArc e (p .n) a
   unfolding arcsConditions
-  accepted-arcs h = flatMap-accepted (arcConditions (p .n)) (p .arcs) (λ a m. (let r = h a m in accepted-arc (p .n) a (r .0) (r .1) (r .2) (r .3)))
+  arcs-accepted h a m = arc-accepted e (p .n) a (accepted-flatMap (arcConditions e (p .n)) m h)
+
+  accepted-arcs : ((a : Arc) → List·Memᴰ a (p .arcs) → IsFileArc e (p .n) a) → firstRefusal (arcsConditions e p) ≡ none
+  unfolding arcsConditions
+  accepted-arcs h = flatMap-accepted (arcConditions e (p .n)) (p .arcs) (λ a m. accepted-arc e (p .n) a (h a m))
 
   -- the arcs one by one, then all of them: "after all arcs passed 5 to 7"
-  pub plan-accepted : firstRefusal (planConditions p) ≡ none → (firstRefusal (arcsConditions p) ≡ none) × T (not (hasRepeated (p .arcs)))
+  pub plan-accepted : firstRefusal (planConditions e p) ≡ none → (firstRefusal (arcsConditions e p) ≡ none) × T (not (hasRepeated (p .arcs)))
   unfolding planConditions
-  plan-accepted e = let r = accepted-append (arcsConditions p) _ e in (r .0, accepted-cons _ _ _ (r .1) .0)
+  plan-accepted h = let r = accepted-append (arcsConditions e p) _ h in (r .0, accepted-cons _ _ _ (r .1) .0)
 
-  pub plan-distinct : firstRefusal (planConditions p) ≡ none → Distinct (p .arcs)
-  plan-distinct e = not-repeated (p .arcs) (plan-accepted e .1)
+  pub plan-distinct : firstRefusal (planConditions e p) ≡ none → Distinct (p .arcs)
+  plan-distinct h = not-repeated (p .arcs) (plan-accepted h .1)
 
-  plan-well-formed : firstRefusal (extentConditions (p .n) (length (p .arcs))) ≡ none → firstRefusal (planConditions p) ≡ none
-      → ((a : Arc) → List·Memᴰ a (p .arcs) → a .cost ≤ 65535) → WellFormed p
-  plan-well-formed e f costs =
-      let limits = extent-accepted (p .n) (length (p .arcs)) e in
+  plan-well-formed : firstRefusal (extentConditions (p .n) (length (p .arcs))) ≡ none → firstRefusal (planConditions e p) ≡ none
+      → ((a : Arc) → List·Memᴰ a (p .arcs) → (a .cost ≤ 65535) × (a .service ≤ 65535)) → WellFormed p
+  plan-well-formed h f costs =
+      let limits = extent-accepted (p .n) (length (p .arcs)) h in
       record {
         some-vertex = limits .0;
         vertices = limits .1;
         some-arc = limits .2;
         arc-count = limits .3;
-        each = λ a m. let r = arcs-accepted (plan-accepted f .0) a m in record { tail-in = r .0; head-in = r .1; standing-in = r .3; priced = r .2; cost-in = costs a m };
+        each = λ a m.
+            let r = arcs-accepted (plan-accepted f .0) a m in
+            let c = costs a m in
+            record { tail-in = r .tail; head-in = r .head; standing-in = r .standing; priced = r .cost; cost-in = c .0; service-in = c .1 };
       }
 
 -- ---- the file
 
 -- what the conditions say of a file that is not refused
 pub record IsFile (bytes : List ℕ) : Type 0 where
-  pub edition-one : edition bytes ≡ 1
+  pub edition-in : T (isEdition (edition bytes))
   pub some-vertex : 1 ≤ vertexCount bytes
   pub vertices : vertexCount bytes ≤ 64
   pub some-arc : 1 ≤ arcCount bytes
   pub arc-count : arcCount bytes ≤ 256
-  pub exact : length bytes ≡ fileLength (arcCount bytes)
-  pub filled : fillBits bytes ≡ 0
-  pub arcs-in : firstRefusal (planConditions (planOf bytes)) ≡ none
+  pub exact : length bytes ≡ fileLength (edition bytes) (arcCount bytes)
+  pub filled : fillBits bytes (edition bytes) (arcCount bytes) ≡ 0
+  pub arcs-in : firstRefusal (planConditions (edition bytes) (planOf bytes)) ≡ none
 
--- a file of some arc has the three bytes that say how long it is
-counted : (m : ℕ) → 1 ≤ m → 3 ≤ fileLength m
-unfolding fileLength
-counted m h = omega arith
+-- the fields of an arc fit a record
+pub arc-record : (bytes : List ℕ) (e k : ℕ) → IsRecord (arcOf bytes e k)
+unfolding arcOf arcFrom impliedService
+arc-record bytes e k =
+    let i = fileBits e k in
+    let tail = field-lt bytes i 6 in
+    let head = field-lt bytes (i + 6) 6 in
+    let standing = field-lt bytes (i + 12) 2 in
+    let cost = field-lt bytes (i + 14) 16 in
+    let service = field-lt bytes (i + 30) 16 in
+    record {
+      tail = omega arith;
+      head = omega arith;
+      standing = omega arith;
+      cost = cost;
+      service =
+          cond-ind (isSecond e) _ _ (λ x. x < 65536) (λ t. service)
+          (λ t. cond-ind (eqb (fieldAt bytes (i + 12) 2) 1) _ 0 (λ x. x < 65536) (λ u. cost) (λ u. omega arith));
+    }
 
 module _ (bytes : List ℕ) where
   abbrev n : ℕ
@@ -133,72 +171,75 @@ module _ (bytes : List ℕ) where
   abbrev m : ℕ
   m = arcCount bytes
 
+  abbrev e : ℕ
+  e = edition bytes
+
   conditions : fileConditions bytes
       ≡ (ltb (length bytes) 3, 1)
-      ∷ (not (eqb (edition bytes) 1), 2)
+      ∷ (not (isEdition e), 2)
       ∷ (extentConditions n m
-      ++ ((ltb (length bytes) (fileLength m), 1) ∷ (ltb (fileLength m) (length bytes) || not (eqb (fillBits bytes) 0), 4) ∷ planConditions (planOf bytes)))
-  unfolding fileConditions
+      ++ ((ltb (length bytes) (fileLength e m), 1) ∷ (ltb (fileLength e m) (length bytes) || not (eqb (fillBits bytes e m) 0), 4) ∷ planConditions e (planOf bytes)))
+  unfolding fileConditions editionConditions bodyConditions
   conditions = refl
 
   pub accepted-is-file : firstRefusal (fileConditions bytes) ≡ none → IsFile bytes
-  accepted-is-file e =
-      let three = accepted-cons _ _ _ (rw conditions at e) in
+  accepted-is-file h =
+      let three = accepted-cons _ _ _ (rw conditions at h) in
       let first = accepted-cons _ _ _ (three .1) in
       let both = accepted-append (extentConditions n m) _ (first .1) in
       let limits = extent-accepted n m (both .0) in
       let short = accepted-cons _ _ _ (both .1) in
       let fill = accepted-cons _ _ _ (short .1) in
-      let rest = not-or (ltb (fileLength m) (length bytes)) (not (eqb (fillBits bytes) 0)) (fill .0) in
-      let low = nltb→le (length bytes) (fileLength m) (short .0) in
-      let high = nltb→le (fileLength m) (length bytes) (rest .0) in
+      let rest = not-or (ltb (fileLength e m) (length bytes)) (not (eqb (fillBits bytes e m) 0)) (fill .0) in
+      let low = nltb→le (length bytes) (fileLength e m) (short .0) in
+      let high = nltb→le (fileLength e m) (length bytes) (rest .0) in
       record {
-        edition-one = eqb→eq (edition bytes) 1 (not-not (eqb (edition bytes) 1) (first .0));
+        edition-in = not-not (isEdition e) (first .0);
         some-vertex = limits .0;
         vertices = limits .1;
         some-arc = limits .2;
         arc-count = limits .3;
         exact = omega arith;
-        filled = eqb→eq (fillBits bytes) 0 (not-not (eqb (fillBits bytes) 0) (rest .1));
+        filled = eqb→eq (fillBits bytes e m) 0 (not-not (eqb (fillBits bytes e m) 0) (rest .1));
         arcs-in = fill .1;
       }
 
   pub has-header : IsFile bytes → 3 ≤ length bytes
-  has-header f = let h = counted m (f .some-arc) in let e = f .exact in omega arith
+  has-header f = let h = counted e m (f .some-arc) in let x = f .exact in omega arith
 
   pub file-is-accepted : IsFile bytes → firstRefusal (fileConditions bytes) ≡ none
   file-is-accepted f =
       let long = has-header f in
+      let x = f .exact in
       rw conditions
       (cons-accepted _ _ _ (le→nltb (length bytes) 3 (omega arith))
-      (cons-accepted _ _ _ (not-not-T (eqb (edition bytes) 1) (eqb-same (f .edition-one)))
+      (cons-accepted _ _ _ (not-not-T (isEdition e) (f .edition-in))
       (append-accepted _ _ (accepted-extent n m (f .some-vertex) (f .vertices) (f .some-arc) (f .arc-count))
-      (cons-accepted _ _ _ (le→nltb (length bytes) (fileLength m) (omega arith))
+      (cons-accepted _ _ _ (le→nltb (length bytes) (fileLength e m) (omega arith))
       (cons-accepted _ _ _
-      (neither (ltb (fileLength m) (length bytes)) (not (eqb (fillBits bytes) 0)) (le→nltb (fileLength m) (length bytes) (omega arith))
-      (not-not-T (eqb (fillBits bytes) 0) (eqb-same (f .filled))))
+      (neither (ltb (fileLength e m) (length bytes)) (not (eqb (fillBits bytes e m) 0)) (le→nltb (fileLength e m) (length bytes) (omega arith))
+      (not-not-T (eqb (fillBits bytes e m) 0) (eqb-same (f .filled))))
       (f .arcs-in))))))
 
   -- ---- the plan that a file holds
 
   pub arcs-read : length (planOf bytes .arcs) ≡ arcCount bytes
   unfolding planOf
-  arcs-read = length-map-below (arcOf bytes) m
+  arcs-read = length-map-below (arcOf bytes e) m
 
-  cost-lt : (k : ℕ) → arcOf bytes k .cost < 65536
-  unfolding arcOf
-  cost-lt k = field-lt bytes (20 + 30 * k + 14) 16
-
-  arc-read : (a : Arc) → List·Memᴰ a (planOf bytes .arcs) → (k : ℕ) × (k < arcCount bytes) × (a ≡ arcOf bytes k)
+  pub arc-read : (a : Arc) → List·Memᴰ a (planOf bytes .arcs) → (k : ℕ) × (k < arcCount bytes) × (a ≡ arcOf bytes e k)
   unfolding planOf
-  arc-read a h = let r = map-mem (arcOf bytes) (below m) h in (r .0, below-mem (r .1), r .2)
+  arc-read a h = let r = map-mem (arcOf bytes e) (below m) h in (r .0, below-mem (r .1), r .2)
 
-  cost-read : (a : Arc) → List·Memᴰ a (planOf bytes .arcs) → a .cost ≤ 65535
-  cost-read a h =
+  costs-read : (a : Arc) → List·Memᴰ a (planOf bytes .arcs) → (a .cost ≤ 65535) × (a .service ≤ 65535)
+  costs-read a h =
       let r = arc-read a h in
-      let e = ap (λ b. b .cost) (r .2) in
-      let l = cost-lt (r .0) in
-      omega arith
+      let c = ap (λ (b : Arc). b .cost) (r .2) in
+      let s = ap (λ (b : Arc). b .service) (r .2) in
+      let l = arc-record bytes e (r .0) in
+      let l₀ = l .cost in
+      let l₁ = l .service in
+      (omega arith, omega arith)
 
   pub vertices-read : planOf bytes .n ≡ vertexCount bytes
   unfolding planOf
@@ -206,15 +247,15 @@ module _ (bytes : List ℕ) where
 
   is-file-well-formed : IsFile bytes → WellFormed (planOf bytes)
   is-file-well-formed f =
-      plan-well-formed (planOf bytes) (rw (vertices-read, arcs-read) (accepted-extent n m (f .some-vertex) (f .vertices) (f .some-arc) (f .arc-count))) (f .arcs-in)
-      cost-read
+      plan-well-formed e (planOf bytes) (rw (vertices-read, arcs-read) (accepted-extent n m (f .some-vertex) (f .vertices) (f .some-arc) (f .arc-count))) (f .arcs-in)
+      costs-read
 
   pub file-accepted : firstRefusal (fileConditions bytes) ≡ none → WellFormed (planOf bytes)
-  file-accepted e = is-file-well-formed (accepted-is-file e)
+  file-accepted h = is-file-well-formed (accepted-is-file h)
 
   -- a plan that was read has no two equal arcs
   pub file-distinct : firstRefusal (fileConditions bytes) ≡ none → Distinct (planOf bytes .arcs)
-  file-distinct e = plan-distinct (planOf bytes) (accepted-is-file e .arcs-in)
+  file-distinct h = plan-distinct e (planOf bytes) (accepted-is-file h .arcs-in)
 
   -- ---- reading
 
@@ -223,56 +264,65 @@ module _ (bytes : List ℕ) where
   read-conditions room = refl
 
   pub read-is-file : (room : ℕ) → readRefusal bytes room ≡ none → IsFile bytes × (arcCount bytes ≤ room)
-  read-is-file room e =
-      let both = accepted-append (fileConditions bytes) _ (rw read-conditions at e) in
+  read-is-file room h =
+      let both = accepted-append (fileConditions bytes) _ (rw read-conditions at h) in
       (accepted-is-file (both .0), nltb→le room m (accepted-cons _ _ _ (both .1) .0))
 
   pub file-is-read : (room : ℕ) → IsFile bytes → arcCount bytes ≤ room → readRefusal bytes room ≡ none
   file-is-read room f h = rw read-conditions (append-accepted (fileConditions bytes) _ (file-is-accepted f) (cons-accepted _ _ _ (le→nltb room m h) nothing-refused))
 
   pub read-accepted : (room : ℕ) → readRefusal bytes room ≡ none → WellFormed (planOf bytes) × (arcCount bytes ≤ room)
-  read-accepted room e = let h = read-is-file room e in (is-file-well-formed (h .0), h .1)
+  read-accepted room h = let r = read-is-file room h in (is-file-well-formed (r .0), r .1)
 
 -- ---- writing
 
--- what the conditions say of a plan that is written where there is room for `room` bytes
-pub record IsWritable (p : Plan) (room : ℕ) : Type 0 where
+-- what the conditions say of a plan that is written in edition e where there is room for `room` bytes
+pub record IsWritable (e : ℕ) (p : Plan) (room : ℕ) : Type 0 where
+  pub edition-in : T (isEdition e)
   pub extent-in : firstRefusal (extentConditions (p .n) (length (p .arcs))) ≡ none
-  pub arcs-in : firstRefusal (planConditions p) ≡ none
-  pub enough : fileLength (length (p .arcs)) ≤ room
+  pub arcs-in : firstRefusal (planConditions e p) ≡ none
+  pub enough : fileLength e (length (p .arcs)) ≤ room
 
-module _ (p : Plan) (room : ℕ) where
+module _ (e : ℕ) (p : Plan) (room : ℕ) where
   abbrev extent : Conditions
   extent = extentConditions (p .n) (length (p .arcs))
 
   abbrev bytes-needed : ℕ
-  bytes-needed = fileLength (length (p .arcs))
+  bytes-needed = fileLength e (length (p .arcs))
 
-  write-conditions : writeRefusal p room ≡ firstRefusal (extent ++ planConditions p ++ (ltb room bytes-needed, 8) ∷ [])
-  unfolding writeRefusal
+  write-conditions : writeRefusal e p room ≡ firstRefusal ((not (isEdition e), 2) ∷ (extent ++ planConditions e p ++ (ltb room bytes-needed, 8) ∷ []))
+  unfolding writeRefusal editionConditions
   write-conditions = refl
 
-  pub accepted-is-writable : writeRefusal p room ≡ none → IsWritable p room
-  accepted-is-writable e =
-      let all = accepted-append (extent ++ planConditions p) _ (rw write-conditions at e) in
-      let both = accepted-append extent (planConditions p) (all .0) in
-      record { extent-in = both .0; arcs-in = both .1; enough = nltb→le room bytes-needed (accepted-cons _ _ _ (all .1) .0) }
+  pub accepted-is-writable : writeRefusal e p room ≡ none → IsWritable e p room
+  accepted-is-writable h =
+      let first = accepted-cons _ _ _ (rw write-conditions at h) in
+      let all = accepted-append (extent ++ planConditions e p) _ (first .1) in
+      let both = accepted-append extent (planConditions e p) (all .0) in
+      record {
+        edition-in = not-not (isEdition e) (first .0);
+        extent-in = both .0;
+        arcs-in = both .1;
+        enough = nltb→le room bytes-needed (accepted-cons _ _ _ (all .1) .0);
+      }
 
-  pub few-arcs : writeRefusal p room ≡ none → length (p .arcs) ≤ 256
-  few-arcs e = extent-accepted (p .n) (length (p .arcs)) (accepted-is-writable e .extent-in) .3
+  pub few-arcs : writeRefusal e p room ≡ none → length (p .arcs) ≤ 256
+  few-arcs h = extent-accepted (p .n) (length (p .arcs)) (accepted-is-writable h .extent-in) .3
 
-  pub writable-well-formed : ((a : Arc) → List·Memᴰ a (p .arcs) → a .cost ≤ 65535) → writeRefusal p room ≡ none → WellFormed p
-  writable-well-formed costs e = let w = accepted-is-writable e in plan-well-formed p (w .extent-in) (w .arcs-in) costs
+  pub writable-well-formed : ((a : Arc) → List·Memᴰ a (p .arcs) → (a .cost ≤ 65535) × (a .service ≤ 65535)) → writeRefusal e p room ≡ none → WellFormed p
+  writable-well-formed costs h = let w = accepted-is-writable h in plan-well-formed e p (w .extent-in) (w .arcs-in) costs
 
-  pub write-accepted : ((a : Arc) → List·Memᴰ a (p .arcs) → IsRecord a) → writeRefusal p room ≡ none → WellFormed p × (fileLength (length (p .arcs)) ≤ room)
-  write-accepted records e = (writable-well-formed (λ a m. (let l = records a m .cost in omega arith)) e, accepted-is-writable e .enough)
+  pub write-accepted : ((a : Arc) → List·Memᴰ a (p .arcs) → IsRecord a) → writeRefusal e p room ≡ none → WellFormed p × (fileLength e (length (p .arcs)) ≤ room)
+  write-accepted records h =
+      (writable-well-formed (λ a m. (let c = records a m .cost in let s = records a m .service in (omega arith, omega arith))) h, accepted-is-writable h .enough)
 
-  pub accepted-write : WellFormed p → firstRefusal (planConditions p) ≡ none → fileLength (length (p .arcs)) ≤ room → writeRefusal p room ≡ none
-  accepted-write w a h =
+  pub accepted-write : T (isEdition e) → WellFormed p → firstRefusal (planConditions e p) ≡ none → fileLength e (length (p .arcs)) ≤ room → writeRefusal e p room ≡ none
+  accepted-write i w a h =
       let limits = accepted-extent (p .n) (length (p .arcs)) (w .some-vertex) (w .vertices) (w .some-arc) (w .arc-count) in
       rw write-conditions
-      (append-accepted (extent ++ planConditions p) _ (append-accepted extent (planConditions p) limits a)
-      (cons-accepted _ _ _ (le→nltb room bytes-needed h) nothing-refused))
+      (cons-accepted _ _ _ (not-not-T (isEdition e) i)
+      (append-accepted (extent ++ planConditions e p) _ (append-accepted extent (planConditions e p) limits a)
+      (cons-accepted _ _ _ (le→nltb room bytes-needed h) nothing-refused)))
 
 -- ---- the plan call
 

@@ -26,7 +26,7 @@ use Rattle.postman.specs.Laws.Required.{required-lt}
 -- ---- the graph of the required arcs: each of its arcs is a required arc one way or the other
 
 abbrev pub flat : ℕ → ℕ → Arc
-flat i j = record { tail = i; head = j; standing = 0; cost = 0 }
+flat i j = record { tail = i; head = j; standing = 0; cost = 0; service = 0 }
 
 pub both-of : {x : Arc} (arcs : List Arc) → List·Memᴰ x (bothWays arcs)
     → (a : Arc) × List·Memᴰ a arcs × ((x ≡ flat (a .tail) (a .head)) ⊎ (x ≡ flat (a .head) (a .tail)))

@@ -33,7 +33,7 @@ reach p h {v} m =
 pub some-required : (p : Plan) → 0 < length (requiredArcs p) → (k : ℕ) × IsRequiredNumber p k
 unfolding requiredArcs
 some-required p h =
-    let a : Arc = record { tail = 0; head = 0; standing = 0; cost = 0 } in
+    let a : Arc = record { tail = 0; head = 0; standing = 0; cost = 0; service = 0 } in
     let s = select-mem isRequiredArc (p .arcs) (getD-mem (requiredArcs p) a 0 h) in
     let x = mem-getD _ (s .0) in
     (x .0, record { number = x .1; must = subst⁻¹ (λ (b : Arc). T (isRequiredArc b)) (x .2) (s .1) })

@@ -25,7 +25,7 @@ iterate-fixed (suc n) f h = ap (iterate n f) h ∙ iterate-fixed n f h
 
 module _ (K : ℕ) (f : ℕ → ℕ) (inside : (q : ℕ) → q < K → f q < K) where
   abbrev arrow : ℕ → Arc
-  arrow q = record { tail = q; head = f q; standing = 0; cost = 0 }
+  arrow q = record { tail = q; head = f q; standing = 0; cost = 0; service = 0 }
 
   arrows : List Arc
   arrows = map arrow (below K)

@@ -15,7 +15,7 @@ use lib.Dec.{T, leb, leb→le, le→leb, T-not}
 use Rattle.integers.specs.Linear.{z}
 use Rattle.postman.specs.Lists.{minimum, maxℤ}
 use Rattle.postman.specs.Plan.{Plan, requiredArcs, WellFormed}
-use Rattle.postman.specs.Tour.{walkCost, IsTour}
+use Rattle.postman.specs.Tour.{tourCost, IsTour}
 use Rattle.postman.specs.Required.{requiredCost}
 use Rattle.postman.specs.Link.{Link}
 use Rattle.postman.specs.Arborescence.{arborescences, arborescenceCount}
@@ -65,7 +65,7 @@ pub record Plannable (p : Plan) : Type 0 where
   pub connected : T (not (isCutOff p))
 
 module _ (p : Plan) (ok : Plannable p) where
-  pub tour-arborescence : (w : List ℕ) → IsTour p w → (t : List Link) × List·Memᴰ t (arborescences p) × (completionCost p t ≤ walkCost (p .arcs) w)
+  pub tour-arborescence : (w : List ℕ) → IsTour p w → (t : List Link) × List·Memᴰ t (arborescences p) × (completionCost p t ≤ tourCost p w)
   tour-arborescence w h = let k = some-required p (ok .some-arc) in arborescence-of-tour p (ok .well-formed) (k .0) (k .1) w h
 
   -- N ≥ 1
@@ -80,13 +80,13 @@ module _ (p : Plan) (ok : Plannable p) where
       nonempty (List·Memᴰ·tail m) = omega arith
 
   -- all arborescences tried: no tour is cheaper
-  pub whole-le : (budget : ℕ) → T (isWhole p budget) → (w : List ℕ) → IsTour p w → bestCost p budget ≤ walkCost (p .arcs) w
+  pub whole-le : (budget : ℕ) → T (isWhole p budget) → (w : List ℕ) → IsTour p w → bestCost p budget ≤ tourCost p w
   whole-le budget t w h =
       let r = tour-arborescence w h in
       le-trans (best-le p budget (subst⁻¹ (λ (ts : List (List Link)). List·Memᴰ (r .0) ts) (whole-all p budget t) (r .1))) (r .2)
 
   module _ (u : Multipliers) (feasible : Feasible p u) where
-    bound-tour : (w : List ℕ) → IsTour p w → lagrangianBound p u ≤ℤ pos (walkCost (p .arcs) w)
+    bound-tour : (w : List ℕ) → IsTour p w → lagrangianBound p u ≤ℤ pos (tourCost p w)
     bound-tour w h =
         let r = tour-arborescence w h in
         let a = bound-le p u (bounded (ok .well-formed) .ends) feasible (r .0) (r .1) in
@@ -109,9 +109,9 @@ module _ (p : Plan) (ok : Plannable p) where
       let best = bestCost p budget in
       let ge = bound-ge p u (bounded (ok .well-formed) .ends) h some-arborescence in
       record {
-        below-every-tour = λ w g. cond-ind (isWhole p budget) (pos best) (maxℤ L0 Lu) (λ x. x ≤ℤ pos (walkCost (p .arcs) w))
+        below-every-tour = λ w g. cond-ind (isWhole p budget) (pos best) (maxℤ L0 Lu) (λ x. x ≤ℤ pos (tourCost p w))
             (λ t. (let a = whole-le budget t w g in omega (arith, z)))
-            (λ t. max-least L0 Lu (pos (walkCost (p .arcs) w)) (bound-tour (λ i. pos 0) (zero-feasible p) w g) (bound-tour u (h .feasible) w g));
+            (λ t. max-least L0 Lu (pos (tourCost p w)) (bound-tour (λ i. pos 0) (zero-feasible p) w g) (bound-tour u (h .feasible) w g));
         whole-equal = λ t. pick-yes (isWhole p budget) (pos best) (maxℤ L0 Lu) t;
         whole-least = λ t w g. whole-le budget t w g;
         partial-equal = λ t. pick-no (isWhole p budget) (pos best) (maxℤ L0 Lu) t;

@@ -13,7 +13,7 @@ use lib.Dec.{T}
 use Rattle.postman.specs.Lists.{upFrom, below}
 use Rattle.postman.specs.Plan.{Arc, Plan}
 use Rattle.postman.specs.Refusal.{Conditions, firstRefusal, refused, given, answer}
-use Rattle.postman.specs.PlanFile.{fileConditions, extentConditions, planConditions, arcsConditions, arcConditions, planOf}
+use Rattle.postman.specs.PlanFile.{edition, editionConditions, bodyConditions, fileConditions, extentConditions, planConditions, arcsConditions, arcConditions, planOf}
 use Rattle.postman.specs.PlanCall.{earlierConditions}
 
 -- ---- one condition more
@@ -176,17 +176,18 @@ unfolding flatMap
 other-flatMap r f h [] = tt
 other-flatMap r f h (x ∷ xs) = other-append r (f x) (flatMap f xs) (h x) (other-flatMap r f h xs)
 
-arc-other : (n : ℕ) (a : Arc) → Other 12 (arcConditions n a)
+arc-other : (e n : ℕ) (a : Arc) → Other 12 (arcConditions e n a)
 unfolding arcConditions
-arc-other n a = (omega arith, (omega arith, (omega arith, tt)))
+arc-other e n a = (omega arith, (omega arith, (omega arith, tt)))
 
-plan-other : (p : Plan) → Other 12 (planConditions p)
+plan-other : (e : ℕ) (p : Plan) → Other 12 (planConditions e p)
 unfolding planConditions arcsConditions
-plan-other p = other-append 12 (flatMap (arcConditions (p .n)) (p .arcs)) _ (other-flatMap 12 (arcConditions (p .n)) (arc-other (p .n)) (p .arcs)) (omega arith, tt)
+plan-other e p =
+    other-append 12 (flatMap (arcConditions e (p .n)) (p .arcs)) _ (other-flatMap 12 (arcConditions e (p .n)) (arc-other e (p .n)) (p .arcs)) (omega arith, tt)
 
 file-other : (bytes : List ℕ) → Other 12 (fileConditions bytes)
-unfolding fileConditions extentConditions
-file-other bytes = (omega arith, (omega arith, (omega arith, (omega arith, (omega arith, plan-other (planOf bytes))))))
+unfolding fileConditions editionConditions extentConditions bodyConditions
+file-other bytes = (omega arith, (omega arith, (omega arith, (omega arith, (omega arith, plan-other (edition bytes) (planOf bytes))))))
 
 pub earlier-other : (bytes : List ℕ) (budget places : ℕ) → Other 12 (earlierConditions bytes budget places)
 unfolding earlierConditions

@@ -1,7 +1,7 @@
--- Two arcs of a list agree exactly when two of different numbers are equal: an arc is its four fields. By induction on the list.
+-- Two arcs of a list agree exactly when two of different numbers are equal: an arc is its fields. By induction on the list.
 use mathlib.Core.Path.{_≡_, sym, ap, _∙_}
 use mathlib.Core.Logic.{inl, inr}
-use mathlib.Core.Bool.{not, _&&_}
+use mathlib.Core.Bool.{not}
 use mathlib.Core.List.{List, [], _∷_}
 use Prim.Native.Nat.{ℕ, zero, suc, _<_, suc-le-suc}
 use native.Mathlib.Omega.{arith}
@@ -22,19 +22,19 @@ agree-equal a b t =
     let e₁ = eqb→eq (a .tail) (b .tail) (x .0) in
     let e₂ = eqb→eq (a .head) (b .head) (y .0) in
     let e₃ = eqb→eq (a .standing) (b .standing) (w .0) in
-    let e₄ = eqb→eq (a .cost) (b .cost) (w .1) in
-    λ i. record { tail = e₁ i; head = e₂ i; standing = e₃ i; cost = e₄ i }
+    let v = and-parts (eqb (a .cost) (b .cost)) _ (w .1) in
+    let e₄ = eqb→eq (a .cost) (b .cost) (v .0) in
+    let e₅ = eqb→eq (a .service) (b .service) (v .1) in
+    λ i. record { tail = e₁ i; head = e₂ i; standing = e₃ i; cost = e₄ i; service = e₅ i }
 
 pub equal-agree : (a b : Arc) → a ≡ b → T (agree a b)
 unfolding agree
 equal-agree a b e =
-    let x = eqb-same (ap (λ (c : Arc). c .tail) e) in
-    let y = eqb-same (ap (λ (c : Arc). c .head) e) in
-    let w = eqb-same (ap (λ (c : Arc). c .standing) e) in
-    let z = eqb-same (ap (λ (c : Arc). c .cost) e) in
-    let wz = and-both (eqb (a .standing) (b .standing)) (eqb (a .cost) (b .cost)) w z in
-    let yz = and-both (eqb (a .head) (b .head)) (eqb (a .standing) (b .standing) && eqb (a .cost) (b .cost)) y wz in
-    and-both (eqb (a .tail) (b .tail)) (eqb (a .head) (b .head) && (eqb (a .standing) (b .standing) && eqb (a .cost) (b .cost))) x yz
+    let same : (f : Arc → ℕ) → T (eqb (f a) (f b)) = λ f. eqb-same (ap f e) in
+    and-both (eqb (a .tail) (b .tail)) _ (same (λ c. c .tail))
+    (and-both (eqb (a .head) (b .head)) _ (same (λ c. c .head))
+    (and-both (eqb (a .standing) (b .standing)) _ (same (λ c. c .standing))
+    (and-both (eqb (a .cost) (b .cost)) _ (same (λ c. c .cost)) (same (λ c. c .service)))))
 
 -- No two arcs of different numbers are equal.
 abbrev pub Distinct : List Arc → Type 0

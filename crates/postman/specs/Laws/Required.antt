@@ -107,7 +107,7 @@ map-map : {A B C : Type 0} (f : A → B) (g : B → C) (xs : List A) → map g (
 map-map f g [] = refl
 map-map f g (x ∷ xs) = ap₂ _∷_ refl (map-map f g xs)
 
-sum-cost : (arcs : List Arc) (ks : List ℕ) → sumOf (map (λ k. arcAt arcs k .cost) ks) ≡ walkCost arcs ks
+pub sum-cost : (arcs : List Arc) (ks : List ℕ) → sumOf (map (λ k. arcAt arcs k .cost) ks) ≡ walkCost arcs ks
 unfolding sumOf
 sum-cost arcs [] = refl
 sum-cost arcs (k ∷ ks) = let h = sum-cost arcs ks in omega arith
@@ -119,6 +119,6 @@ numbers-arcs p = by-number isRequiredArc _ [] (p .arcs)
 pub numbers-field : (p : Plan) {B : Type 0} (g : Arc → B) → map (λ k. g (arcAt (p .arcs) k)) (requiredNumbers p) ≡ map g (requiredArcs p)
 numbers-field p g = sym (map-map (λ k. arcAt (p .arcs) k) g (requiredNumbers p)) ∙ ap (map g) (numbers-arcs p)
 
-pub numbers-cost : (p : Plan) → walkCost (p .arcs) (requiredNumbers p) ≡ requiredCost p
+pub numbers-service : (p : Plan) → sumOf (map (λ k. arcAt (p .arcs) k .service) (requiredNumbers p)) ≡ requiredCost p
 unfolding requiredCost
-numbers-cost p = sym (sum-cost (p .arcs) (requiredNumbers p)) ∙ ap sumOf (numbers-field p (λ a. a .cost))
+numbers-service p = ap sumOf (numbers-field p (λ a. a .service))

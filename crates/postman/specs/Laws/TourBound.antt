@@ -10,17 +10,17 @@ use native.Mathlib.Omega.{arith}
 use lib.ListN.{length, length-map}
 use Rattle.postman.specs.Lists.{upFrom, iterate, delta, occurrences}
 use Rattle.postman.specs.Plan.{Arc, Plan, arcAt, requiredArcs, requiredNumbers, WellFormed}
-use Rattle.postman.specs.Tour.{walkCost, IsTour}
+use Rattle.postman.specs.Tour.{walkCost, tourCost, IsTour}
 use Rattle.postman.specs.Distance.{distance}
 use Rattle.postman.specs.Link.{Link, links}
 use Rattle.postman.specs.Component.{component, componentCount}
 use Rattle.postman.specs.Arborescence.{linkAt, Enters, IsArborescence, arborescences}
-use Rattle.postman.specs.Balancing.{heads, tails, leastBalancing, completionCost}
+use Rattle.postman.specs.Balancing.{heads, tails, linkCost, leastBalancing, completionCost}
 use Rattle.postman.specs.Laws.Membership.{upFrom-mem, length-upFrom, getD-map-upFrom}
 use Rattle.postman.specs.Laws.Pick.{Pick, here, there, Permutation, none, more, permutation-mem}
 use Rattle.postman.specs.Laws.Occurrences.{occurrences-append, occurrences-upFrom, occurrences-map-permutation}
 use Rattle.postman.specs.Laws.Distance.{InPlan, bounded, triangle, distance-self}
-use Rattle.postman.specs.Laws.Required.{IsRequiredNumber, required-arc-of, required-mem, number-ends, mem-numbers, numbers-field, numbers-cost}
+use Rattle.postman.specs.Laws.Required.{IsRequiredNumber, required-arc-of, required-mem, number-ends, mem-numbers, numbers-field}
 use Rattle.postman.specs.Laws.Component.{component-lt, component-at, arc-component}
 use Rattle.postman.specs.Laws.Assignment.{weight, legs-le}
 use Rattle.postman.specs.Laws.Balancing.{same-length}
@@ -28,6 +28,7 @@ use Rattle.postman.specs.Laws.Arborescence.{mem-arborescences, joins}
 use Rattle.postman.specs.Laws.LinkLegs.{ends, Without, without-weight, extract, ends-heads, ends-tails, chain-weight, link-weight}
 use Rattle.postman.specs.Laws.Route.{Move, link, arc, linksOf, arcsOf, IsRoute, routeCost, tour-route}
 use Rattle.postman.specs.Laws.Entries.{entry, entries, Good, follow}
+use Rattle.postman.specs.Laws.TourCost.{tour-cost}
 
 pick-cost : (arcs : List Arc) {x : ℕ} {xs ys : List ℕ} → Pick x xs ys → walkCost arcs xs ≡ arcAt arcs x .cost + walkCost arcs ys
 pick-cost arcs (here e) = let h = ap (λ z. arcAt arcs z .cost) e in omega arith
@@ -106,8 +107,8 @@ module _ (p : Plan) (ok : InPlan p) (ms : List Move) (x : ℕ) (route : IsRoute 
       (λ q m. (let b = upFrom-mem 1 (k - 1) m in let f = good q (omega arith) .found (λ e. (omega arith)) in (f .0, f .2)))
       (λ q. occurrences-upFrom q 1 (k - 1))
 
-  pub completion-le : completionCost p t ≤ routeCost p ms
-  unfolding completionCost leastBalancing heads tails
+  pub completion-le : linkCost p t + leastBalancing p t + walkCost (p .arcs) (requiredNumbers p) ≤ routeCost p ms
+  unfolding leastBalancing heads tails
   completion-le =
       let s = rest in
       let b = legs-le (distance p) (triangle p ok) (distance-self p ok) (ends (s .0)) (heads p t) (tails p t) (same-length p ok t (joins p is-arborescence)) (λ i.
@@ -124,19 +125,23 @@ module _ (p : Plan) (ok : InPlan p) (ms : List Move) (x : ℕ) (route : IsRoute 
       let c₁ = without-weight (distance p) (s .1) in
       let c₂ = link-weight p t in
       let c₃ = chain-weight p whole in
-      let c₄ = permutation-cost (p .arcs) perm ∙ numbers-cost p in
+      let c₄ = permutation-cost (p .arcs) perm in
       omega arith
 
 -- for any tour there is an arborescence whose completion costs no more
 pub arborescence-of-tour : (p : Plan) → WellFormed p → (j : ℕ) → IsRequiredNumber p j → (w : List ℕ) → IsTour p w
-    → (t : List Link) × List·Memᴰ t (arborescences p) × (completionCost p t ≤ walkCost (p .arcs) w)
+    → (t : List Link) × List·Memᴰ t (arborescences p) × (completionCost p t ≤ tourCost p w)
+unfolding completionCost
 arborescence-of-tour p ok j some w h =
     let i = bounded ok .ends in
     let l = component-lt p i (number-ends p i some .0) in
     let a = arc-in p i 0 (omega arith) in
     let r = tour-route p ok h (a .0) (a .1) in
-    let x = arcAt (p .arcs) (a .0) .tail in (
+    let x = arcAt (p .arcs) (a .0) .tail in
+    let b = completion-le p i (r .0) x (r .1) (r .3) (a .2) in
+    let c = r .2 in
+    let d = tour-cost p h in (
       entries p (linksOf (r .0)),
       mem-arborescences p i (is-arborescence p i (r .0) x (r .1) (r .3) (a .2)),
-      le-trans (completion-le p i (r .0) x (r .1) (r .3) (a .2)) (r .2),
+      omega arith,
     )

@@ -2,7 +2,7 @@
 use mathlib.Core.Path.{_≡_, refl, ap, _∙_}
 use mathlib.Core.List.{List, [], _∷_, _++_, map, map-append, map-map}
 use mathlib.Core.Option.{none, some}
-use Prim.Native.Nat.{ℕ, zero, suc, _-_, _*_, _<_, _≤_}
+use Prim.Native.Nat.{ℕ, zero, suc, _*_, _<_, _≤_}
 use native.Mathlib.Omega.{arith}
 use lib.ListN.{length, drop, length-map}
 use lib.Dec.{ltb}
@@ -10,17 +10,18 @@ use borrow.Author.Tests.{lt-ltb}
 use Rattle.postman.specs.Lists.{below}
 use Rattle.postman.specs.Plan.{Arc}
 use Rattle.postman.specs.Refusal.{firstRefusal, answer, unless}
-use Rattle.postman.specs.PlanFile.{arcOf, vertexCount, arcCount, planOf, fileBits, fileLength, fileConditions, readRefusal, readAnswer, recordsAfter}
+use Rattle.postman.specs.PlanFile.{edition, arcOf, vertexCount, arcCount, planOf, fileBits, fileConditions, readRefusal, readAnswer, recordsAfter}
 use Rattle.plan.specs.declared.Arc.{Arc as ArcRecord}
 use Rattle.plan.specs.Records.{arcValue, recordOf}
 use Rattle.refusal.specs.Verdict.{refusalNumber}
 use Rattle.postman.specs.Laws.Refusal.{first-stop, given-last, was-given, was-refused}
-use Rattle.postman.specs.Laws.Acceptance.{accepted-is-file, read-is-file, file-is-read}
+use Rattle.postman.specs.Laws.FileLength.{bits-fit}
+use Rattle.postman.specs.Laws.Acceptance.{accepted-is-file, has-header, read-is-file, file-is-read}
 use Rattle.records.specs.declared.reader.Read.{Read}
 use Rattle.records.specs.declared.reader.Read.the-variants.{Given, Refused}
 use Rattle.records.specs.Stored.{storedTo}
 use Rattle.records.specs.Laws.Stored.{stored-is}
-use Rattle.records.specs.Reading.{readNumbers, arcsRead}
+use Rattle.records.specs.Reading.{readNumbers, arcsRead, Room}
 
 -- ---- lists
 
@@ -47,31 +48,27 @@ module _ (bytes : List ℕ) (room : ℕ) where
 
 module _ (bytes : List ℕ) (records : List ArcRecord) where
   abbrev pub Answers : Read → Type 0
-  Answers r = readNumbers r ≡ answer (readRefusal bytes (length records)) (vertexCount bytes, arcCount bytes)
+  Answers r = readNumbers r ≡ answer (readRefusal bytes (length records)) (edition bytes, vertexCount bytes, arcCount bytes)
 
   abbrev stored : ℕ → List ArcRecord
-  stored m = storedTo (λ k. recordOf (arcOf bytes k)) records m
+  stored m = storedTo (λ k. recordOf (arcOf bytes (edition bytes) k)) records m
 
-  -- There is room for the arcs in the file and in the list.
-  abbrev pub Room : ℕ → Type 0
-  Room m = (m ≤ 256) × (30 * m ≤ 8 * length bytes - 20) × (m ≤ length records)
-
-  pub room-for : (r : Read) → Answers r → Room (arcsRead r)
-  unfolding fileLength fileBits
-  room-for (Given n m) e =
-      let w = was-given (readRefusal bytes (length records)) (vertexCount bytes, arcCount bytes) (n, m) e in
-      let same : m ≡ arcCount bytes = ap (λ (p : ℕ × ℕ). p .1) (w .1) in
+  pub room-for : (r : Read) → Answers r → Room bytes (length records) (arcsRead r)
+  room-for (Given e n m) h =
+      let w = was-given (readRefusal bytes (length records)) (edition bytes, vertexCount bytes, arcCount bytes) (e, n, m) h in
+      let same : m ≡ arcCount bytes = ap (λ (p : ℕ × ℕ × ℕ). p .2) (w .1) in
       let ok = read-is-file bytes (length records) (w .0) in
-      (omega (arith, ok .0 .arc-count), omega (arith, ok .0 .exact), omega (arith, ok .1))
-  room-for (Refused q) e = (omega arith, omega arith, omega arith)
+      let fit : fileBits (edition bytes) m ≤ 8 * length bytes = rw same (omega (arith, ok .0 .exact, bits-fit (edition bytes) (arcCount bytes))) in
+      (omega (arith, ok .0 .arc-count), λ some. has-header bytes (ok .0), λ some. fit, omega (arith, ok .1))
+  room-for (Refused q) h = (omega arith, λ some. absurd (omega arith), λ some. absurd (omega arith), omega arith)
 
-  values : (m : ℕ) → m ≤ length records → map arcValue (stored m) ≡ map (arcOf bytes) (below m) ++ drop m (map arcValue records)
+  values : (m : ℕ) → m ≤ length records → map arcValue (stored m) ≡ map (arcOf bytes (edition bytes)) (below m) ++ drop m (map arcValue records)
   values m h =
-      let new : ℕ → ArcRecord = λ k. recordOf (arcOf bytes k) in
+      let new : ℕ → ArcRecord = λ k. recordOf (arcOf bytes (edition bytes) k) in
       ap (map arcValue) (stored-is new records m h)
       ∙ map-append arcValue (map new (below m)) (drop m records)
       ∙ ap (λ (l : List Arc). l ++ map arcValue (drop m records)) (map-map arcValue new (below m))
-      ∙ ap (λ (l : List Arc). map (arcOf bytes) (below m) ++ l) (map-drop arcValue records m)
+      ∙ ap (λ (l : List Arc). map (arcOf bytes (edition bytes)) (below m) ++ l) (map-drop arcValue records m)
 
   pub answers : (r : Read) → Answers r → readNumbers r ≡ readAnswer bytes (map arcValue records)
   unfolding readAnswer
@@ -79,11 +76,11 @@ module _ (bytes : List ℕ) (records : List ArcRecord) where
 
   pub after : (r : Read) → Answers r → map arcValue (stored (arcsRead r)) ≡ recordsAfter bytes (map arcValue records)
   unfolding recordsAfter unless planOf
-  after (Given n m) e =
-      let w = was-given (readRefusal bytes (length records)) (vertexCount bytes, arcCount bytes) (n, m) e in
-      let same : m ≡ arcCount bytes = ap (λ (p : ℕ × ℕ). p .1) (w .1) in
+  after (Given e n m) h =
+      let w = was-given (readRefusal bytes (length records)) (edition bytes, vertexCount bytes, arcCount bytes) (e, n, m) h in
+      let same : m ≡ arcCount bytes = ap (λ (p : ℕ × ℕ × ℕ). p .2) (w .1) in
       let ok = read-is-file bytes (length records) (w .0) in
       rw (length-map records arcValue, w .0, same) (values (arcCount bytes) (ok .1))
   after (Refused q) e =
-      let w = was-refused (readRefusal bytes (length records)) (vertexCount bytes, arcCount bytes) (refusalNumber q) e in
+      let w = was-refused (readRefusal bytes (length records)) (edition bytes, vertexCount bytes, arcCount bytes) (refusalNumber q) e in
       rw (length-map records arcValue, w) refl

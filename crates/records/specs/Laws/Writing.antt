@@ -14,7 +14,7 @@ use Rattle.postman.specs.PlanFile.{writeRefusal, writeAnswer, bytesAfter}
 use Rattle.plan.specs.declared.Arc.{Arc as ArcRecord}
 use Rattle.plan.specs.Records.{arcValue, zeroRecord, recordAt, planValue}
 use Rattle.postman.specs.Laws.Below.{length-map-below, getD-map-below}
-use Rattle.plan_file.specs.Laws.Writing.{too-many-arcs, refused-answer, refused-bytes}
+use Rattle.plan_file.specs.Laws.Writing.{headerRefusal, too-many-arcs, refused-answer, refused-bytes}
 use Rattle.records.specs.Laws.Stored.{stored-is}
 use Rattle.records.specs.Writing.{listPlan, atMost, loaded, countOf, countedPlan}
 
@@ -70,34 +70,34 @@ module _ (n : ℕ) (records : List ArcRecord) where
 
 -- ---- a longer list
 
-module _ (n : ℕ) (records : List ArcRecord) (bytes : List ℕ) where
+module _ (e n : ℕ) (records : List ArcRecord) (bytes : List ℕ) where
   abbrev plan : Graph
   plan = written n records
 
   abbrev list : Graph
   list = listPlan n records
 
-  plan-refused : 256 < length records → writeRefusal plan (length bytes) ≡ some 3
+  plan-refused : 256 < length records → writeRefusal e plan (length bytes) ≡ some (headerRefusal e)
   unfolding planValue
   plan-refused h =
       let m = countOf (length records) in
       let count : length (map (recordAt (loaded records)) (below m)) ≡ m = length-map-below (recordAt (loaded records)) m in
-      too-many-arcs plan (length bytes) (omega (arith, count, at-most-limit (length records) _ h))
+      too-many-arcs e plan (length bytes) (omega (arith, count, at-most-limit (length records) _ h))
 
-  list-refused : 256 < length records → writeRefusal list (length bytes) ≡ some 3
-  list-refused h = too-many-arcs list (length bytes) (omega (arith, length-map records arcValue, h))
+  list-refused : 256 < length records → writeRefusal e list (length bytes) ≡ some (headerRefusal e)
+  list-refused h = too-many-arcs e list (length bytes) (omega (arith, length-map records arcValue, h))
 
   -- Writing the plan by value is writing the list.
-  pub same-answer : writeAnswer plan bytes ≡ writeAnswer list bytes
+  pub same-answer : writeAnswer e plan bytes ≡ writeAnswer e list bytes
   same-answer = at (decLt 256 (length records))
     where
-      at : Dec (256 < length records) → writeAnswer plan bytes ≡ writeAnswer list bytes
-      at (yes h) = refused-answer plan bytes 3 (plan-refused h) ∙ sym (refused-answer list bytes 3 (list-refused h))
-      at (no h) = ap (λ (p : Graph). writeAnswer p bytes) (same-plan n records (omega arith))
+      at : Dec (256 < length records) → writeAnswer e plan bytes ≡ writeAnswer e list bytes
+      at (yes h) = refused-answer e plan bytes (headerRefusal e) (plan-refused h) ∙ sym (refused-answer e list bytes (headerRefusal e) (list-refused h))
+      at (no h) = ap (λ (p : Graph). writeAnswer e p bytes) (same-plan n records (omega arith))
 
-  pub same-bytes : bytesAfter plan bytes ≡ bytesAfter list bytes
+  pub same-bytes : bytesAfter e plan bytes ≡ bytesAfter e list bytes
   same-bytes = at (decLt 256 (length records))
     where
-      at : Dec (256 < length records) → bytesAfter plan bytes ≡ bytesAfter list bytes
-      at (yes h) = refused-bytes plan bytes 3 (plan-refused h) ∙ sym (refused-bytes list bytes 3 (list-refused h))
-      at (no h) = ap (λ (p : Graph). bytesAfter p bytes) (same-plan n records (omega arith))
+      at : Dec (256 < length records) → bytesAfter e plan bytes ≡ bytesAfter e list bytes
+      at (yes h) = refused-bytes e plan bytes (headerRefusal e) (plan-refused h) ∙ sym (refused-bytes e list bytes (headerRefusal e) (list-refused h))
+      at (no h) = ap (λ (p : Graph). bytesAfter e p bytes) (same-plan n records (omega arith))

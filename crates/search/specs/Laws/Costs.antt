@@ -46,20 +46,20 @@ all-certified d vs m s (a ∷ t) c j l =
 
 -- ---- R is small
 
-sum-select : (xs : List Arc) → ((a : Arc) → List·Memᴰ a xs → a .cost ≤ 65535) → sumOf (map (λ a. a .cost) (select isRequiredArc xs)) ≤ length xs * 65535
+sum-select : (xs : List Arc) → ((a : Arc) → List·Memᴰ a xs → a .service ≤ 65535) → sumOf (map (λ a. a .service) (select isRequiredArc xs)) ≤ length xs * 65535
 unfolding sumOf select
 sum-select [] h = omega arith
 sum-select (x ∷ xs) h =
     let i = sum-select xs (λ a m. h a (List·Memᴰ·tail m)) in
     let b = h x (List·Memᴰ·head refl) in
     let e = suc-mul (length xs) 65535 in
-    cond-ind (isRequiredArc x) (x ∷ select isRequiredArc xs) (select isRequiredArc xs) (λ l. sumOf (map (λ a. a .cost) l) ≤ suc (length xs) * 65535)
+    cond-ind (isRequiredArc x) (x ∷ select isRequiredArc xs) (select isRequiredArc xs) (λ l. sumOf (map (λ a. a .service) l) ≤ suc (length xs) * 65535)
     (λ t. omega arith) (λ t. omega arith)
 
-required-small : (p : Plan) → WellFormed p → requiredCost p ≤ 16777216
+pub required-small : (p : Plan) → WellFormed p → requiredCost p ≤ 16776960
 unfolding requiredCost requiredArcs
 required-small p ok =
-    let a = sum-select (p .arcs) (λ a m. ok .each a m .cost-in) in
+    let a = sum-select (p .arcs) (λ a m. ok .each a m .service-in) in
     let b = mul-le-mul-right {m = length (p .arcs)} {n = 256} 65535 (ok .arc-count) in
     omega arith
 

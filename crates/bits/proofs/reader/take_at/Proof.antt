@@ -65,7 +65,7 @@ stayed = (stay-none-slice (0 ∷ []) tt (plain (λ _. u8)) yes, (stay-none (λ _
 
 -- what the contract asks
 abbrev Within : List ℕ → ℕ → ℕ → Type 0
-Within bytes n w = (w ≤ 16) × (n + w ≤ 8 * length bytes) × (n ≤ 8000)
+Within bytes n w = (w ≤ 16) × (n + w ≤ 8 * length bytes) × (n ≤ 12000)
 
 module _ {M : Type 1} (𝓤 : URA M) (H : Heap 𝓤) (A : Atoms 𝓤) (mem : Memory → SProp 𝓤) (run : Routine → Fun 𝓤) where
   -- the contracts that the proof cites

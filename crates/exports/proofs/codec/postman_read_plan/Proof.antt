@@ -5,7 +5,7 @@ use Prim.Native.Nat.{ℕ, _*_}
 use lib.ListN.{drop}
 use Rattle.integers.specs.Linear.{back64}
 use Rattle.postman.specs.Lists.{below}
-use Rattle.postman.specs.PlanFile.{arcOf}
+use Rattle.postman.specs.PlanFile.{edition, arcOf}
 use Rattle.exports.specs.RecordBytes.{arcBytes}
 use Rattle.exports.specs.Laws.Reading.{lent-room, lent-answer, lent-after}
 use borrow.Author.Needs.{needs}
@@ -35,7 +35,7 @@ returns c =
     let a = c .before .before .before .before .before .before .before .before .before .args in
     let r = c .before .before .before .before .before .before .read-answer in
     let count = c .before .before .before .before .before .arcs-read in
-    let new : ℕ → _ = λ m. flatMap arcBytes (map (arcOf (a .plan .now)) (below m)) ++ drop (5 * m) (a .records .now) in (
+    let new : ℕ → _ = λ m. flatMap arcBytes (map (arcOf (a .plan .now) (edition (a .plan .now))) (below m)) ++ drop (7 * m) (a .records .now) in (
       back64 _ (c .read-number .ok) ∙ c .read-number .ensures ∙ lent-answer (a .plan .now) (a .records .now) (r .result) (r .ensures),
       c .before .before .before .store-arcs .ensures ∙ ap new (count .ensures) ∙ lent-after (a .plan .now) (a .records .now) (r .result) (r .ensures),
     )

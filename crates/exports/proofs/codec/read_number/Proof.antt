@@ -1,4 +1,4 @@
--- n and m are a byte and two bytes, so that 512 n + m is in range.
+-- The edition and n are a byte and m two bytes, so that their number is in range.
 use mathlib.Core.Path.{_∙_}
 use native.Mathlib.Omega.{arith}
 use Rattle.integers.specs.Linear.{plain64, back64}
@@ -9,17 +9,26 @@ use Rattle.exports.proofs.codec.read_number.Tie as tie
 enum-known-r : tie.Need-enum-known-r
 enum-known-r c = search needs
 
-cast-both : tie.Need-cast-both
-cast-both c = search needs
+cast-all : tie.Need-cast-all
+cast-all c = search needs
 
-mul-both : tie.Need-mul-both
-mul-both c = search needs
+mul-all : tie.Need-mul-all
+mul-all c = search needs
 
-cast-both-2 : tie.Need-cast-both-2
-cast-both-2 c = search needs
+cast-all-2 : tie.Need-cast-all-2
+cast-all-2 c = search needs
 
-add-both : tie.Need-add-both
-add-both c = search needs
+mul-all-2 : tie.Need-mul-all-2
+mul-all-2 c = search needs
+
+add-all : tie.Need-add-all
+add-all c = search needs
+
+cast-all-3 : tie.Need-cast-all-3
+cast-all-3 c = search needs
+
+add-all-2 : tie.Need-add-all-2
+add-all-2 c = search needs
 
 cast-result : tie.Need-cast-result
 cast-result c = search needs
@@ -41,10 +50,13 @@ read-number-spec =
     tie.close
     (tie.spec
     enum-known-r
-    cast-both
-    mul-both
-    cast-both-2
-    add-both
+    cast-all
+    mul-all
+    cast-all-2
+    mul-all-2
+    add-all
+    cast-all-3
+    add-all-2
     cast-result
     enum-known-r-2
     refused-number-requires

@@ -1,4 +1,4 @@
--- The length is at most 963, so that it is in range.
+-- The length is at most 1,475, so that it is in range.
 use mathlib.Core.Path.{_∙_, ap}
 use native.Mathlib.Omega.{arith}
 use Rattle.integers.specs.Linear.{plain64, back64}

@@ -13,7 +13,7 @@ use Rattle.exports.proofs.record_bytes.load_records.Statement.{statemen
 use Rattle.exports.proofs.record_bytes.load_records.Tie as tie
 
 abbrev Inv-loop : tie.InvT-loop
-Inv-loop lent count arcs₀ k₀ arcs k = (k ≤ count) × (count ≤ 256) × (count ≤ length lent / 5) × (arcs ≡ storedTo (lentRecord lent) arcs₀ k)
+Inv-loop lent count arcs₀ k₀ arcs k = (k ≤ count) × (count ≤ 256) × (count ≤ length lent / 7) × (arcs ≡ storedTo (lentRecord lent) arcs₀ k)
 
 abbrev μ-loop : tie.MeasureT-loop
 μ-loop lent count arcs₀ k₀ arcs k = count - k
@@ -26,7 +26,7 @@ no-records-requires c κs = search needs
 
 loop-holds : tie.Need-loop-holds Inv-loop μ-loop
 loop-holds c =
-    let n = length (c .before .before .before .args .lent .now) / 5 in
+    let n = length (c .before .before .before .args .lent .now) / 7 in
     let e = c .before .at-most .ensures in
     (omega arith, omega (arith, e, at-most-le n 256), omega (arith, e, at-most-fits n 256), refl)
 
@@ -61,7 +61,7 @@ loop-again c =
 returns : tie.Need-returns Inv-loop μ-loop
 returns c =
     let lent = c .before .before .before .before .before .args .lent .now in
-    let n = length lent / 5 in
+    let n = length lent / 7 in
     let all : c .before .loop .k ≡ atMost n 256 = omega (arith, c .before .before .before .at-most .ensures) in
     c .before .loop .inv .3
     ∙ ap (storedTo (lentRecord lent) (c .before .before .no-records .result)) all

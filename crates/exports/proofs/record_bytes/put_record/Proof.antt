@@ -1,7 +1,7 @@
--- Five stores, one after the other, keep the length and make a record.
+-- Seven stores, one after the other, keep the length and make a record.
 use lib.ListN.{length-set}
 use native.Mathlib.Omega.{arith}
-use Rattle.exports.specs.Laws.RecordBytes.{five-stores}
+use Rattle.exports.specs.Laws.RecordBytes.{seven-stores}
 use borrow.Author.Needs.{needs}
 use Rattle.exports.proofs.record_bytes.put_record.Statement.{statement}
 use Rattle.exports.proofs.record_bytes.put_record.Tie as tie
@@ -39,11 +39,29 @@ add-lent-4 c = search needs
 slice-write-lent-5 : tie.Need-slice-write-lent-5
 slice-write-lent-5 c = simp length-set (omega arith)
 
+cast-lent-3 : tie.Need-cast-lent-3
+cast-lent-3 c = search needs
+
+add-lent-5 : tie.Need-add-lent-5
+add-lent-5 c = search needs
+
+slice-write-lent-6 : tie.Need-slice-write-lent-6
+slice-write-lent-6 c = simp length-set (omega arith)
+
+cast-lent-4 : tie.Need-cast-lent-4
+cast-lent-4 c = search needs
+
+add-lent-6 : tie.Need-add-lent-6
+add-lent-6 c = search needs
+
+slice-write-lent-7 : tie.Need-slice-write-lent-7
+slice-write-lent-7 c = simp length-set (omega arith)
+
 same-length : tie.Need-same-length
 same-length c = search needs
 
 returns : tie.Need-returns
-returns c = five-stores (c .args .lent .now) (c .args .at) _ (c .pre)
+returns c = seven-stores (c .args .lent .now) (c .args .at) _ (c .pre)
 
 pub put-record-spec : {M : Type 1} → statement M
 put-record-spec =
@@ -60,5 +78,11 @@ put-record-spec =
     cast-lent-2
     add-lent-4
     slice-write-lent-5
+    cast-lent-3
+    add-lent-5
+    slice-write-lent-6
+    cast-lent-4
+    add-lent-6
+    slice-write-lent-7
     same-length
     returns)

@@ -5,7 +5,8 @@ use Prim.Native.Nat.{ℕ, _*_, _≤_, _-_}
 use native.Mathlib.Omega.{arith}
 use lib.ListN.{length, drop}
 use Rattle.postman.specs.Lists.{below, upFrom}
-use Rattle.postman.specs.PlanFile.{arcOf}
+use Rattle.postman.specs.PlanFile.{edition, arcOf}
+use Rattle.postman.specs.Laws.FileLength.{bits-within}
 use Rattle.plan.specs.Records.{arcValue}
 use Rattle.exports.specs.RecordBytes.{arcBytes, withArc}
 use Rattle.exports.specs.Laws.RecordBytes.{stored-more}
@@ -14,7 +15,7 @@ use Rattle.exports.proofs.record_bytes.store_arcs.Statement.{statement}
 use Rattle.exports.proofs.record_bytes.store_arcs.Tie as tie
 
 abbrev Inv-loop : tie.InvT-loop
-Inv-loop file m lent₀ k₀ lent k = (k ≤ m) × (length lent ≡ length lent₀) × (lent ≡ flatMap arcBytes (map (arcOf file) (below k)) ++ drop (5 * k) lent₀)
+Inv-loop file m lent₀ k₀ lent k = (k ≤ m) × (length lent ≡ length lent₀) × (lent ≡ flatMap arcBytes (map (arcOf file (edition file)) (below k)) ++ drop (7 * k) lent₀)
 
 abbrev μ-loop : tie.MeasureT-loop
 μ-loop file m lent₀ k₀ lent k = m - k
@@ -23,8 +24,13 @@ loop-holds : tie.Need-loop-holds Inv-loop μ-loop
 unfolding below upFrom flatMap
 loop-holds c = (omega arith, refl, refl)
 
-read-arc-requires : tie.Need-read-arc-requires Inv-loop μ-loop
-read-arc-requires c κs = search needs
+file-arc-requires : tie.Need-file-arc-requires Inv-loop μ-loop
+file-arc-requires c κs =
+    let start = c .before .before .before .before in
+    let file = start .args .file .now in
+    let l = c .before .loop in
+    let some : 1 ≤ start .args .m = omega arith in
+    (omega (arith, start .pre .0), start .pre .1 some, omega (arith, start .pre .2 some, bits-within (edition file) (l .k) (start .args .m) (omega arith)))
 
 mul-put-record : tie.Need-mul-put-record Inv-loop μ-loop
 mul-put-record c = search needs
@@ -42,14 +48,14 @@ loop-again : tie.Need-loop-again Inv-loop μ-loop
 loop-again c =
     let start = c .before .before .before .before .before .before .before .before .before .args in
     let l = c .before .before .before .before .before .before .loop in
-    let a = c .before .before .before .before .read-arc in
+    let a = c .before .before .before .before .file-arc in
     let call = c .before .before .put-record in (
       omega arith,
       call .kept .0 ∙ l .inv .1,
       call .ensures
-          ∙ ap (λ a. withArc (l .lent) (5 * l .k) (arcValue a)) (a .ensures)
-          ∙ ap (λ (s : List ℕ). withArc s (5 * l .k) (arcOf (start .file .now) (l .k))) (l .inv .2)
-          ∙ stored-more (arcOf (start .file .now)) (start .lent .now) (l .k),
+          ∙ ap (λ a. withArc (l .lent) (7 * l .k) (arcValue a)) (a .ensures)
+          ∙ ap (λ (s : List ℕ). withArc s (7 * l .k) (arcOf (start .file .now) (edition (start .file .now)) (l .k))) (l .inv .2)
+          ∙ stored-more (arcOf (start .file .now) (edition (start .file .now))) (start .lent .now) (l .k),
     )
 
 same-length : tie.Need-same-length Inv-loop μ-loop
@@ -65,7 +71,7 @@ store-arcs-spec =
     Inv-loop
     μ-loop
     loop-holds
-    read-arc-requires
+    file-arc-requires
     mul-put-record
     put-record-requires
     add-k

@@ -3,16 +3,16 @@ use Prim.Native.Nat.{ℕ, _-_, _≤_}
 use native.Mathlib.Omega.{arith}
 use Rattle.postman.specs.Plan.{Arc, IsArc}
 use Rattle.plan.specs.Laws.Records.{record-arcs}
-use Rattle.network.specs.Laws.RequiredSum.{Summed, summed-none, term-le, summed-more, sum-cost}
+use Rattle.network.specs.Laws.RequiredSum.{Summed, summed-none, term-le, summed-more, sum-service}
 use borrow.Author.Needs.{needs}
 use Rattle.network.proofs.required_sum.required_cost.Statement.{statement}
 use Rattle.network.proofs.required_sum.required_cost.Tie as tie
 
-dear : (n : ℕ) (a : Arc) → IsArc n a → a .cost ≤ 65535
-dear n a h = h .cost-in
+dear : (n : ℕ) (a : Arc) → IsArc n a → a .service ≤ 65535
+dear n a h = h .service-in
 
 abbrev Inv-loop : tie.InvT-loop
-Inv-loop plan sum₀ m k₀ sum k = Summed (λ a. a .cost) 65535 plan m k sum
+Inv-loop plan sum₀ m k₀ sum k = Summed (λ a. a .service) 65535 plan m k sum
 
 abbrev μ-loop : tie.MeasureT-loop
 μ-loop plan sum₀ m k₀ sum k = m - k
@@ -21,7 +21,7 @@ cast-m : tie.Need-cast-m Inv-loop μ-loop
 cast-m c = search needs
 
 loop-holds : tie.Need-loop-holds Inv-loop μ-loop
-loop-holds c = summed-none (λ a. a .cost) 65535 (c .args .t1)
+loop-holds c = summed-none (λ a. a .service) 65535 (c .args .t1)
 
 mul-charge : tie.Need-mul-charge Inv-loop μ-loop
 mul-charge c = search needs
@@ -53,7 +53,7 @@ loop-again c =
     summed-more (s .args .t1) (s .pre) (dear _) (v .loop .inv) (omega arith) (c .charge .ensures)
 
 returns : tie.Need-returns Inv-loop μ-loop
-returns c = sum-cost (c .before .before .args .t1) (c .before .before .pre) (omega arith) (c .before .loop .inv)
+returns c = sum-service (c .before .before .args .t1) (c .before .before .pre) (omega arith) (c .before .loop .inv)
 
 pub required-cost-spec : {M : Type 1} → statement M
 required-cost-spec =

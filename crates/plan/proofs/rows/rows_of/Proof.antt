@@ -20,7 +20,7 @@ cast-m : tie.Need-cast-m Inv-loop μ-loop
 cast-m c = search needs
 
 loop-holds : tie.Need-loop-holds Inv-loop μ-loop
-loop-holds c = (refl, omega arith, prefix-none 256 [] _ (replicate {A = ℕ} 4 0))
+loop-holds c = (refl, omega arith, prefix-none 256 [] _ (replicate {A = ℕ} 5 0))
 
 mul-row-of : tie.Need-mul-row-of Inv-loop μ-loop
 mul-row-of c = search needs

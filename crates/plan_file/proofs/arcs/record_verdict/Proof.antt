@@ -1,6 +1,5 @@
--- `record_verdict` meets its contract: the record's parts are those of the arc (`arc-parts`).
-use mathlib.Core.Path.{refl, _∙_}
-use Rattle.plan.specs.Records.{arcValue}
+-- `record_verdict` meets its contract: the record's fields are those of the arc (`arc-parts`).
+use mathlib.Core.Path.{_∙_}
 use Rattle.plan_file.specs.Laws.Arcs.{arc-parts}
 use borrow.Author.Needs.{needs}
 use Rattle.plan_file.proofs.arcs.record_verdict.Statement.{statement}
@@ -12,19 +11,25 @@ record-standing-requires c κs = search needs
 cast-arc-verdict : tie.Need-cast-arc-verdict
 cast-arc-verdict c = search needs
 
-cast-arc-verdict-2 : tie.Need-cast-arc-verdict-2
-cast-arc-verdict-2 c = search needs
+cast-t7 : tie.Need-cast-t7
+cast-t7 c = search needs
 
-cast-arc-verdict-3 : tie.Need-cast-arc-verdict-3
-cast-arc-verdict-3 c = search needs
+cast-t8 : tie.Need-cast-t8
+cast-t8 c = search needs
+
+cast-t9 : tie.Need-cast-t9
+cast-t9 c = search needs
+
+cast-t10 : tie.Need-cast-t10
+cast-t10 c = search needs
 
 arc-verdict-requires : tie.Need-arc-verdict-requires
 arc-verdict-requires c κs = search needs
 
 returns : tie.Need-returns
 returns c =
-    let a = c .before .before .before .before .before .args in
-    c .arc-verdict .ensures ∙ arc-parts (a .n) (arcValue (a .a)) _ _ _ _ refl refl refl (c .before .before .before .before .record-standing .ensures)
+    let a = c .before .before .before .before .before .before .before .args in
+    c .arc-verdict .ensures ∙ arc-parts (a .edition) (a .n) _ _ (c .before .before .before .before .before .before .record-standing .ensures)
 
 pub record-verdict-spec : {M : Type 1} → statement M
 record-verdict-spec =
@@ -32,7 +37,9 @@ record-verdict-spec =
     (tie.spec
     record-standing-requires
     cast-arc-verdict
-    cast-arc-verdict-2
-    cast-arc-verdict-3
+    cast-t7
+    cast-t8
+    cast-t9
+    cast-t10
     arc-verdict-requires
     returns)

@@ -34,14 +34,14 @@ returns : tie.Need-returns
 returns c =
     let a = c .before .before .before .before .before .before .args in
     let passed = sym (c .before .before .before .before .arcs-verdict .ensures) ∙ ap verdictNumber (c .before .before .enum-told .given .1) in
-    let same = arcs-read (arcOf (a .s .now)) (a .m) (c .before .read-arcs .result) (c .before .read-arcs .ensures) in
-    c .repeated-verdict .ensures ∙ ap (λ (l : List Arc). cond (hasRepeated l) (some 13) none) same ∙ sym (passed-arcs (planFrom (a .n) (arcOf (a .s .now)) (a .m)) passed)
+    let same = arcs-read (arcOf (a .s .now) (a .edition)) (a .m) (c .before .read-arcs .result) (c .before .read-arcs .ensures) in
+    c .repeated-verdict .ensures ∙ ap (λ (l : List Arc). cond (hasRepeated l) (some 13) none) same ∙ sym (passed-arcs (a .edition) (planFrom (a .n) (arcOf (a .s .now) (a .edition)) (a .m)) passed)
 
 returns-2 : tie.Need-returns-2
 returns-2 c =
     let a = c .before .before .before .before .before .args in
     let refused = sym (c .before .before .before .arcs-verdict .ensures) ∙ ap verdictNumber (c .before .r .given .1) in
-    sym (refused-arc (planFrom (a .n) (arcOf (a .s .now)) (a .m)) _ refused)
+    sym (refused-arc (a .edition) (planFrom (a .n) (arcOf (a .s .now) (a .edition)) (a .m)) _ refused)
 
 pub all-arcs-verdict-spec : {M : Type 1} → statement M
 all-arcs-verdict-spec =

@@ -1,13 +1,12 @@
 -- `body_verdict` meets its contract: at each return the tests on the way say which conditions apply, and the arcs are left to `all_arcs_verdict`.
 use mathlib.Core.Path.{_∙_, sym}
-use Prim.Native.Nat.{_<_, _≤_, _*_, _-_}
+use Prim.Native.Nat.{_<_, _≤_}
 use native.Mathlib.Omega.{arith}
 use lib.ListN.{length}
 use borrow.Author.Tests.{lt-ltb, le-ltb, eq-eqb, ne-eqb}
-use Rattle.postman.specs.BitField.{fieldAt}
 use Rattle.postman.specs.Refusal.{firstRefusal}
-use Rattle.postman.specs.PlanFile.{fileBits, fileLength}
-use Rattle.plan_file.specs.Reading.{bodyConditions}
+use Rattle.postman.specs.PlanFile.{fileLength, fillBits, bodyConditions}
+use Rattle.postman.specs.Laws.FileLength.{bits-fit}
 use borrow.Author.Needs.{needs}
 use Rattle.plan_file.proofs.reader.body_verdict.Statement.{statement}
 use Rattle.plan_file.proofs.reader.body_verdict.Tie as tie
@@ -19,15 +18,15 @@ returns : tie.Need-returns
 unfolding bodyConditions firstRefusal
 returns c =
     let a = c .before .before .before .args in
-    let torn : length (a .s .now) < fileLength (a .m) = omega (arith, c .before .file-length .ensures) in
+    let torn : length (a .s .now) < fileLength (a .edition) (a .m) = omega (arith, c .before .file-length .ensures) in
     simp (lt-ltb _ _ torn)
 
 returns-2 : tie.Need-returns-2
 unfolding bodyConditions firstRefusal
 returns-2 c =
     let a = c .before .before .before .before .args in
-    let long : fileLength (a .m) ≤ length (a .s .now) = omega (arith, c .before .before .file-length .ensures) in
-    let over : fileLength (a .m) < length (a .s .now) = omega (arith, c .before .before .file-length .ensures) in
+    let long : fileLength (a .edition) (a .m) ≤ length (a .s .now) = omega (arith, c .before .before .file-length .ensures) in
+    let over : fileLength (a .edition) (a .m) < length (a .s .now) = omega (arith, c .before .before .file-length .ensures) in
     simp (le-ltb _ _ long, lt-ltb _ _ over)
 
 fill-bits-requires : tie.Need-fill-bits-requires
@@ -38,25 +37,25 @@ unfolding bodyConditions firstRefusal
 returns-3 c =
     let a = c .before .before .before .before .before .before .args in
     let e = c .before .before .before .before .file-length .ensures in
-    let low : fileLength (a .m) ≤ length (a .s .now) = omega arith in
-    let high : length (a .s .now) ≤ fileLength (a .m) = omega arith in
-    let fill = ne-eqb (fieldAt (a .s .now) (fileBits (a .m)) (8 * fileLength (a .m) - fileBits (a .m))) 0 (λ z. c .if3 .taken (c .before .fill-bits .ensures ∙ z)) in
+    let low : fileLength (a .edition) (a .m) ≤ length (a .s .now) = omega arith in
+    let high : length (a .s .now) ≤ fileLength (a .edition) (a .m) = omega arith in
+    let fill = ne-eqb (fillBits (a .s .now) (a .edition) (a .m)) 0 (λ z. c .if3 .taken (c .before .fill-bits .ensures ∙ z)) in
     simp (le-ltb _ _ low, le-ltb _ _ high, fill)
 
 all-arcs-verdict-requires : tie.Need-all-arcs-verdict-requires
-unfolding fileBits fileLength
 all-arcs-verdict-requires c κs =
+    let a = c .before .before .before .before .before .before .args in
     let e = c .before .before .before .before .file-length .ensures in
-    (omega arith, omega arith)
+    (omega arith, omega (arith, bits-fit (a .edition) (a .m)))
 
 returns-4 : tie.Need-returns-4
 unfolding bodyConditions firstRefusal
 returns-4 c =
     let a = c .before .before .before .before .before .before .before .args in
     let e = c .before .before .before .before .before .file-length .ensures in
-    let low : fileLength (a .m) ≤ length (a .s .now) = omega arith in
-    let high : length (a .s .now) ≤ fileLength (a .m) = omega arith in
-    let fill = eq-eqb (fieldAt (a .s .now) (fileBits (a .m)) (8 * fileLength (a .m) - fileBits (a .m))) 0 (sym (c .before .before .fill-bits .ensures) ∙ c .before .if3 .left) in
+    let low : fileLength (a .edition) (a .m) ≤ length (a .s .now) = omega arith in
+    let high : length (a .s .now) ≤ fileLength (a .edition) (a .m) = omega arith in
+    let fill = eq-eqb (fillBits (a .s .now) (a .edition) (a .m)) 0 (sym (c .before .before .fill-bits .ensures) ∙ c .before .if3 .left) in
     simp (le-ltb _ _ low, le-ltb _ _ high, fill) (c .all-arcs-verdict .ensures)
 
 pub body-verdict-spec : {M : Type 1} → statement M

@@ -1,22 +1,22 @@
--- `file_length` meets its contract: it is the definition.
-use mathlib.Core.Path.{refl}
-use Rattle.postman.specs.PlanFile.{fileBits, fileLength}
+-- `file_length` meets its contract: the bits, in bytes.
+use mathlib.Core.Path.{ap}
+use Prim.Native.Nat.{ℕ, _+_, _/_}
+use native.Mathlib.Omega.{arith}
+use Rattle.postman.specs.PlanFile.{fileLength}
+use Rattle.postman.specs.Laws.FileLength.{bits-limit}
 use borrow.Author.Needs.{needs}
 use Rattle.plan_file.proofs.reader.file_length.Statement.{statement}
 use Rattle.plan_file.proofs.reader.file_length.Tie as tie
 
-mul-result : tie.Need-mul-result
-mul-result c = search needs
+file-bits-requires : tie.Need-file-bits-requires
+file-bits-requires c κs = search needs
 
 add-result : tie.Need-add-result
-add-result c = search needs
-
-add-result-2 : tie.Need-add-result-2
-add-result-2 c = search needs
+add-result c = omega (arith, c .file-bits .ensures, bits-limit (c .before .args .edition) (c .before .args .m) (c .before .pre) .1)
 
 returns : tie.Need-returns
-unfolding fileBits fileLength
-returns c = refl
+unfolding fileLength
+returns c = ap (λ (b : ℕ). (b + 7) / 8) (c .file-bits .ensures)
 
 pub file-length-spec : {M : Type 1} → statement M
-file-length-spec = tie.close (tie.spec mul-result add-result add-result-2 returns)
+file-length-spec = tie.close (tie.spec file-bits-requires add-result returns)

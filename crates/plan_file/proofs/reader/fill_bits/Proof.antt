@@ -1,37 +1,37 @@
 -- `fill_bits` meets its contract: the field from the last arc's end to the last byte's end, at most seven bits.
 use mathlib.Core.Path.{_∙_}
 use native.Mathlib.Omega.{arith}
-use Rattle.postman.specs.PlanFile.{fileBits, fileLength}
+use Rattle.postman.specs.PlanFile.{fileLength, fillBits}
+use Rattle.postman.specs.Laws.FileLength.{bits-limit, fileLength-le}
 use borrow.Author.Needs.{needs}
 use Rattle.plan_file.proofs.reader.fill_bits.Statement.{statement}
 use Rattle.plan_file.proofs.reader.fill_bits.Tie as tie
 
-mul-at : tie.Need-mul-at
-mul-at c = search needs
-
-add-at : tie.Need-add-at
-add-at c = search needs
+file-bits-requires : tie.Need-file-bits-requires
+file-bits-requires c κs = search needs
 
 file-length-requires : tie.Need-file-length-requires
 file-length-requires c κs = search needs
 
 mul-end : tie.Need-mul-end
-unfolding fileBits fileLength
-mul-end c = omega arith
+mul-end c = omega (arith, c .file-length .ensures, fileLength-le (c .before .before .before .args .edition) (c .before .before .before .args .m) (c .before .before .before .pre .0))
 
 sub-take-at : tie.Need-sub-take-at
-unfolding fileBits fileLength
-sub-take-at c = omega arith
+unfolding fileLength
+sub-take-at c = omega (arith, c .file-length .ensures, c .before .file-bits .ensures)
 
 take-at-requires : tie.Need-take-at-requires
-unfolding fileBits fileLength
-take-at-requires c κs = (omega arith, omega arith, omega arith)
+unfolding fileLength
+take-at-requires c κs =
+    let n = c .file-length .ensures in
+    let b = c .before .file-bits .ensures in
+    (omega (arith, n, b), omega (arith, n, b, c .before .before .before .pre .1), omega (arith, b, bits-limit (c .before .before .before .args .edition) (c .before .before .before .args .m) (c .before .before .before .pre .0) .1))
 
 returns : tie.Need-returns
-unfolding fileBits fileLength
-returns c = c .take-at .ensures .0 ∙ rw (c .before .file-length .ensures)
+unfolding fillBits
+returns c = c .take-at .ensures .0 ∙ rw (c .before .file-length .ensures, c .before .before .file-bits .ensures)
 
 pub fill-bits-spec : {M : Type 1} → statement M
 fill-bits-spec =
     tie.close
-    (tie.spec mul-at add-at file-length-requires mul-end sub-take-at take-at-requires returns)
+    (tie.spec file-bits-requires file-length-requires mul-end sub-take-at take-at-requires returns)

@@ -6,6 +6,7 @@ use native.Mathlib.Omega.{arith}
 use lib.ListN.{set}
 use Rattle.postman.specs.Lists.{below, upFrom}
 use Rattle.postman.specs.PlanFile.{arcOf}
+use Rattle.postman.specs.Laws.FileLength.{bits-within}
 use Rattle.plan.specs.Records.{recordsOf}
 use Rattle.plan_file.specs.Laws.Records.{records-more}
 use borrow.Author.Needs.{needs}
@@ -13,17 +14,20 @@ use Rattle.plan_file.proofs.reader.read_arcs.Statement.{statement}
 use Rattle.plan_file.proofs.reader.read_arcs.Tie as tie
 
 abbrev Inv-loop : tie.InvT-loop
-Inv-loop s m arcs₀ k₀ arcs k = (k ≤ m) × (arcs ≡ recordsOf (map (arcOf s) (below k)))
+Inv-loop s e m arcs₀ k₀ arcs k = (k ≤ m) × (arcs ≡ recordsOf (map (arcOf s e) (below k)))
 
 abbrev μ-loop : tie.MeasureT-loop
-μ-loop s m arcs₀ k₀ arcs k = m - k
+μ-loop s e m arcs₀ k₀ arcs k = m - k
 
 loop-holds : tie.Need-loop-holds Inv-loop μ-loop
 unfolding recordsOf below upFrom
 loop-holds c = (omega arith, refl)
 
 read-arc-requires : tie.Need-read-arc-requires Inv-loop μ-loop
-read-arc-requires c κs = search needs
+read-arc-requires c κs =
+    let a = c .before .before .before .args in
+    let l = c .before .loop in
+    (omega arith, omega (arith, bits-within (a .edition) (l .k) (a .m) (omega arith)))
 
 mul-arcs : tie.Need-mul-arcs Inv-loop μ-loop
 mul-arcs c = search needs
@@ -39,7 +43,7 @@ loop-less c = search needs
 
 loop-again : tie.Need-loop-again Inv-loop μ-loop
 loop-again c =
-    let f = arcOf (c .before .before .before .before .args .s .now) in
+    let f = arcOf (c .before .before .before .before .args .s .now) (c .before .before .before .before .args .edition) in
     let l = c .before .before .loop in
     (omega arith, ap (set (l .arcs) (l .k)) (c .read-arc .ensures) ∙ rw (l .inv .1) (records-more f (l .k) (omega arith)))
 

@@ -24,13 +24,13 @@ returns : tie.Need-returns
 returns c =
     let a = c .before .before .before .before .args in
     let passed = sym (c .before .before .before .records-verdict .ensures) ∙ ap verdictNumber (c .before .enum-told .given .1) in
-    c .repeated-verdict .ensures ∙ sym (passed-arcs (planFrom (a .n) (recordAt (a .arcs)) (a .m)) passed)
+    c .repeated-verdict .ensures ∙ sym (passed-arcs (a .edition) (planFrom (a .n) (recordAt (a .arcs)) (a .m)) passed)
 
 returns-2 : tie.Need-returns-2
 returns-2 c =
     let a = c .before .before .before .before .args in
     let refused = sym (c .before .before .before .records-verdict .ensures) ∙ ap verdictNumber (c .before .r .given .1) in
-    sym (refused-arc (planFrom (a .n) (recordAt (a .arcs)) (a .m)) _ refused)
+    sym (refused-arc (a .edition) (planFrom (a .n) (recordAt (a .arcs)) (a .m)) _ refused)
 
 pub all-records-verdict-spec : {M : Type 1} → statement M
 all-records-verdict-spec =

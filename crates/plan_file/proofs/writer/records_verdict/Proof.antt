@@ -11,15 +11,15 @@ use Rattle.plan_file.proofs.writer.records_verdict.Statement.{statement
 use Rattle.plan_file.proofs.writer.records_verdict.Tie as tie
 
 abbrev Inv-loop : tie.InvT-loop
-Inv-loop n m arcs k₀ k = (k ≤ m) × NoneBefore (arcConditions n) (recordAt arcs) m k
+Inv-loop e n m arcs k₀ k = (k ≤ m) × NoneBefore (arcConditions e n) (recordAt arcs) m k
 
 abbrev μ-loop : tie.MeasureT-loop
-μ-loop n m arcs k₀ k = m - k
+μ-loop e n m arcs k₀ k = m - k
 
 loop-holds : tie.Need-loop-holds Inv-loop μ-loop
 loop-holds c =
     let a = c .args in
-    (omega arith, none-before-first (arcConditions (a .n)) (recordAt (a .t3)) (a .m))
+    (omega arith, none-before-first (arcConditions (a .edition) (a .n)) (recordAt (a .t4)) (a .m))
 
 mul-a : tie.Need-mul-a Inv-loop μ-loop
 mul-a c = search needs
@@ -41,7 +41,7 @@ returns c =
     let a = c .before .before .before .before .before .before .before .args in
     let l = c .before .before .before .before .before .before .loop in
     let call = c .before .before .before .record-verdict in
-    refused-here (arcConditions (a .n)) (recordAt (a .t3)) (a .m) (l .k) _ (omega arith) (l .inv .1) (sym (call .ensures) ∙ ap verdictNumber (c .before .r .given .1))
+    refused-here (arcConditions (a .edition) (a .n)) (recordAt (a .t4)) (a .m) (l .k) _ (omega arith) (l .inv .1) (sym (call .ensures) ∙ ap verdictNumber (c .before .r .given .1))
 
 add-k : tie.Need-add-k Inv-loop μ-loop
 add-k c = search needs
@@ -55,14 +55,14 @@ loop-again c =
     let l = c .before .before .before .before .before .loop in
     let call = c .before .before .record-verdict in (
       omega arith,
-      none-before-next (arcConditions (a .n)) (recordAt (a .t3)) (a .m) (l .k) (omega arith) (l .inv .1) (sym (call .ensures) ∙ ap verdictNumber (c .enum-told .given .1)),
+      none-before-next (arcConditions (a .edition) (a .n)) (recordAt (a .t4)) (a .m) (l .k) (omega arith) (l .inv .1) (sym (call .ensures) ∙ ap verdictNumber (c .enum-told .given .1)),
     )
 
 returns-2 : tie.Need-returns-2 Inv-loop μ-loop
 returns-2 c =
     let a = c .before .before .args in
     let l = c .before .loop in
-    none-refused (arcConditions (a .n)) (recordAt (a .t3)) (a .m) (l .k) (omega arith) (l .inv .1)
+    none-refused (arcConditions (a .edition) (a .n)) (recordAt (a .t4)) (a .m) (l .k) (omega arith) (l .inv .1)
 
 pub records-verdict-spec : {M : Type 1} → statement M
 records-verdict-spec =

@@ -25,7 +25,7 @@ put-plan-requires c κs =
     let a = c .before .before .before .before .before .args in
     let accepted = sym (c .before .before .before .plan-verdict .ensures) ∙ ap verdictNumber (c .before .enum-told .given .1) in
     let count = length-value (a .p) in
-    (omega (arith, few-arcs (planValue (a .p)) _ accepted), rw count at (accepted-is-writable (planValue (a .p)) _ accepted .enough))
+    (omega (arith, few-arcs (a .edition) (planValue (a .p)) _ accepted), rw count at (accepted-is-writable (a .edition) (planValue (a .p)) _ accepted .enough))
 
 cast-file-length : tie.Need-cast-file-length
 cast-file-length c = search needs
@@ -34,7 +34,7 @@ file-length-requires : tie.Need-file-length-requires
 file-length-requires c κs =
     let a = c .before .before .before .before .before .before .before .before .args in
     let accepted = sym (c .before .before .before .before .before .before .plan-verdict .ensures) ∙ ap verdictNumber (c .before .before .before .before .enum-told .given .1) in
-    omega (arith, few-arcs (planValue (a .p)) _ accepted, length-value (a .p))
+    omega (arith, few-arcs (a .edition) (planValue (a .p)) _ accepted, length-value (a .p))
 
 enum-known-r : tie.Need-enum-known-r
 enum-known-r c = search needs
@@ -49,10 +49,10 @@ returns c =
     let p = planValue (a .p) in
     let accepted = sym (c .before .before .before .before .before .before .before .plan-verdict .ensures) ∙ ap verdictNumber (c .before .before .before .before .before .enum-told .given .1) in
     let count = length-value (a .p) in (
-      ap given (c .file-length .ensures ∙ ap fileLength (sym count)) ∙ sym (given-answer p s accepted),
+      ap given (c .file-length .ensures ∙ ap (fileLength (a .edition)) (sym count)) ∙ sym (given-answer (a .edition) p s accepted),
       c .before .before .before .put-plan .ensures
-          ∙ ap (λ (m : ℕ). fileOf p ++ drop (fileLength m) s) (sym count)
-          ∙ sym (given-bytes p s accepted),
+          ∙ ap (λ (m : ℕ). fileOf (a .edition) p ++ drop (fileLength (a .edition) m) s) (sym count)
+          ∙ sym (given-bytes (a .edition) p s accepted),
     )
 
 returns-2 : tie.Need-returns-2
@@ -61,7 +61,7 @@ returns-2 c =
     let s = a .s .now in
     let p = planValue (a .p) in
     let refusal = sym (c .before .before .before .plan-verdict .ensures) ∙ ap verdictNumber (c .before .r .given .1) in
-    (sym (refused-answer p s _ refusal), sym (refused-bytes p s _ refusal))
+    (sym (refused-answer (a .edition) p s _ refusal), sym (refused-bytes (a .edition) p s _ refusal))
 
 pub write-plan-spec : {M : Type 1} → statement M
 write-plan-spec =

@@ -175,7 +175,7 @@ module _ {M : Type 1} (𝓤 : URA M) (H : Heap 𝓤) (A : Atoms 𝓤) (W : Given
         -- [_8; …; _7; …; _6; …; _5; …; _4; …; _3; …; _2; …; _1; …; room for _0; …; the token; what the parameters own]: the array's first records are lent
         move ! (18 ∷ 19 ∷ []) $ split ! $ move ! (2 ∷ []) $ fsplit ! $ move ! (1 ∷ []) $ fsplit ! $ move ! (13 ∷ 0 ∷ []) $
         use2 W (‵ (row T.the-row fullShare xs l₄ 0)) (to-row 𝓤 H A W 257 xs (arcs-val xs) l₄) $
-        use1 W (‵ (row T.the-row fullShare ys l₄ 0) ⊛ ‵ (row T.the-row fullShare (drop m xs) l₄ (place 6 0 m))) (row-apart 𝓤 H A W fullShare m xs l₄ 0) $ split ! $
+        use1 W (‵ (row T.the-row fullShare ys l₄ 0) ⊛ ‵ (row T.the-row fullShare (drop m xs) l₄ (place 8 0 m))) (row-apart 𝓤 H A W fullShare m xs l₄ 0) $ split ! $
         use1 W (‵ (cells (mem T.the-row) ys l₄ 0)) (whole-in 𝓤 H A W T.the-row ys l₄ 0) $ lft-new ! tt (λ α. move ! (1 ∷ []) $
         use1 W (later (some (λ (γ : GName). ‵ (MutSlice (named 1) (α ∷ []) T.the-row .own (x l₄ γ) (sliceVal (l₄, 0) (length ys) ∷ [])) ⊛ ‵ (flent (α ∷ []) (Held T.the-row (length ys) l₄ 0 γ)))))
         (lends-slice 𝓤 H A W T.the-row (named 1) (α ∷ []) ys l₄ 0 room) $ await ! tt $ pick ! (λ γ. split ! $
@@ -193,7 +193,7 @@ module _ {M : Type 1} (𝓤 : URA M) (H : Heap 𝓤) (A : Atoms 𝓤) (W : Given
         drop-item ! $ split ! $ move ! (1 ∷ []) $ split ! $ lft-end ! tt $ move ! (0 ∷ 6 ∷ 3 ∷ []) $
         use3 W (later (‵ (Arr (mem T.the-row) (length ys) .lies (ls .1 .0) l₄ 0))) (slice-back 𝓤 H A W T.the-row (α ∷ []) γ (ls .1 .0) (length ys) l₄ 0) $ await ! tt $ fsplit ! $ drop-item ! $
         use1 W (‵ (row T.the-row fullShare (ls .1 .0) l₄ 0)) (whole-out 𝓤 H A W T.the-row (ls .1 .0) l₄ 0) $
-        rewrite ! 5 (λ (k : ℕ). ‵ (row T.the-row fullShare (drop m xs) l₄ (place 6 0 k))) (sym (long ∙ ys-long)) refl $
+        rewrite ! 5 (λ (k : ℕ). ‵ (row T.the-row fullShare (drop m xs) l₄ (place 8 0 k))) (sym (long ∙ ys-long)) refl $
         move ! (0 ∷ 5 ∷ []) $ use2 W (‵ (row T.the-row fullShare (filled (ls .1 .0)) l₄ 0)) (row-whole 𝓤 H A W fullShare (ls .1 .0) (drop m xs) l₄ 0) $
         use1 W (‵ (fat fullShare (arcs-ty 257) l₄ 0 (arcs-val (filled (ls .1 .0)))) ⊛ ‵ (Arcs 257 .own (filled (ls .1 .0)) (arcs-val (filled (ls .1 .0)) ∷ []))) (of-row 𝓤 H A W 257 (filled (ls .1 .0)) l₄ (filled-long (ls .1 .0) long)) $ split ! $ move ! (1 ∷ []) $
         peeks ! (Arcs 257) (Is (Arcs 257)) (shows 𝓤 H A (Arcs 257)) (filled (ls .1 .0)) (arcs-val (filled (ls .1 .0)) ∷ []) (λ all.

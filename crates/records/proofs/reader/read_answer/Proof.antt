@@ -1,11 +1,11 @@
--- `read_answer` meets its contract, by document 01's order: the file's refusal, then the room; n and m are the fields that `take_at` answers.
+-- `read_answer` meets its contract, by document 01's order: the file's refusal, then the room; the edition, n and m are the fields that `take_at` answers.
 use mathlib.Core.Path.{_≡_, _∙_, sym, ap}
 use mathlib.Core.List.{List}
 use Prim.Native.Nat.{ℕ}
 use native.Mathlib.Omega.{arith}
 use Rattle.postman.specs.BitField.{fieldAt}
 use Rattle.postman.specs.Refusal.{given}
-use Rattle.postman.specs.PlanFile.{vertexCount, arcCount, readRefusal}
+use Rattle.postman.specs.PlanFile.{edition, vertexCount, arcCount, readRefusal}
 use Rattle.postman.specs.Laws.Acceptance.{accepted-is-file, has-header}
 use Rattle.postman.specs.Laws.BitField.{field-lt}
 use Rattle.postman.specs.Laws.Refusal.{answer-refused, answer-given}
@@ -30,14 +30,17 @@ file-verdict-requires c κs = search needs
 enum-told : tie.Need-enum-told
 enum-told c = search needs
 
+file-edition-requires : tie.Need-file-edition-requires
+file-edition-requires c κs = has-header _ (accepted-is-file (c .before .before .before .before .args .bytes .now) (sym (c .before .before .file-verdict .ensures) ∙ ap verdictNumber (c .enum-told .given .1)))
+
 take-at-requires : tie.Need-take-at-requires
 take-at-requires c κs =
-    let ok = accepted-is-file (c .before .before .before .before .args .bytes .now) (sym (c .before .before .file-verdict .ensures) ∙ ap verdictNumber (c .enum-told .given .1)) in
+    let ok = accepted-is-file (c .before .before .before .before .before .args .bytes .now) (sym (c .before .before .before .file-verdict .ensures) ∙ ap verdictNumber (c .before .enum-told .given .1)) in
     (omega arith, omega (arith, has-header _ ok), omega arith)
 
 take-at-requires-2 : tie.Need-take-at-requires-2
 take-at-requires-2 c κs =
-    let ok = accepted-is-file (c .before .before .before .before .before .args .bytes .now) (sym (c .before .before .before .file-verdict .ensures) ∙ ap verdictNumber (c .before .enum-told .given .1)) in
+    let ok = accepted-is-file (c .before .before .before .before .before .before .args .bytes .now) (sym (c .before .before .before .before .file-verdict .ensures) ∙ ap verdictNumber (c .before .before .enum-told .given .1)) in
     (omega arith, omega (arith, has-header _ ok), omega arith)
 
 cast-if1 : tie.Need-cast-if1
@@ -45,33 +48,35 @@ cast-if1 c = search needs
 
 returns : tie.Need-returns
 returns c =
-    let a = c .before .before .before .before .before .before .before .args in
-    let m = arc-count (a .bytes .now) (c .before .before .take-at .result .at) (c .before .take-at2 .result .field) (c .before .before .take-at .ensures .1) (c .before .take-at2 .ensures .0) in
-    sym (answer-refused (readRefusal (a .bytes .now) (a .room)) (vertexCount (a .bytes .now), arcCount (a .bytes .now)) 8
-    (too-short (a .bytes .now) (a .room) (sym (c .before .before .before .before .before .file-verdict .ensures) ∙ ap verdictNumber (c .before .before .before .enum-told .given .1)) (omega (arith, m, c .if1 .taken))))
-
-cast-t13 : tie.Need-cast-t13
-cast-t13 c = omega (arith, field-lt (c .before .before .before .before .before .before .before .args .bytes .now) 4 7)
+    let a = c .before .before .before .before .before .before .before .before .args in
+    let s = a .bytes .now in
+    let m = arc-count s (c .before .before .take-at .result .at) (c .before .take-at2 .result .field) (c .before .before .take-at .ensures .1) (c .before .take-at2 .ensures .0) in
+    sym (answer-refused (readRefusal s (a .room)) (edition s, vertexCount s, arcCount s) 8 (too-short s (a .room) (sym (c .before .before .before .before .before .before .file-verdict .ensures) ∙ ap verdictNumber (c .before .before .before .before .enum-told .given .1)) (omega (arith, m, c .if1 .taken))))
 
 cast-t14 : tie.Need-cast-t14
-cast-t14 c = omega (arith, field-lt (c .before .before .before .before .before .before .before .args .bytes .now) (c .before .before .take-at .result .at) 9)
+cast-t14 c = omega (arith, field-lt (c .before .before .before .before .before .before .before .before .args .bytes .now) 4 7)
+
+cast-t15 : tie.Need-cast-t15
+cast-t15 c = omega (arith, field-lt (c .before .before .before .before .before .before .before .before .args .bytes .now) (c .before .before .take-at .result .at) 9)
 
 enum-known-r : tie.Need-enum-known-r
 enum-known-r c = search needs
 
 returns-2 : tie.Need-returns-2
 returns-2 c =
-    let a = c .before .before .before .before .before .before .before .args in
-    let n = vertex-count (a .bytes .now) (c .before .before .take-at .result .field) (c .before .before .take-at .ensures .0) in
-    let m = arc-count (a .bytes .now) (c .before .before .take-at .result .at) (c .before .take-at2 .result .field) (c .before .before .take-at .ensures .1) (c .before .take-at2 .ensures .0) in
-    ap given (λ i. (n i, m i)) ∙ sym (answer-given (readRefusal (a .bytes .now) (a .room)) (vertexCount (a .bytes .now), arcCount (a .bytes .now))
-    (long-enough (a .bytes .now) (a .room) (sym (c .before .before .before .before .before .file-verdict .ensures) ∙ ap verdictNumber (c .before .before .before .enum-told .given .1)) (omega (arith, m, c .if1 .left))))
+    let a = c .before .before .before .before .before .before .before .before .args in
+    let s = a .bytes .now in
+    let e = c .before .before .before .file-edition .ensures in
+    let n = vertex-count s (c .before .before .take-at .result .field) (c .before .before .take-at .ensures .0) in
+    let m = arc-count s (c .before .before .take-at .result .at) (c .before .take-at2 .result .field) (c .before .before .take-at .ensures .1) (c .before .take-at2 .ensures .0) in
+    ap given (λ i. (e i, n i, m i)) ∙ sym (answer-given (readRefusal s (a .room)) (edition s, vertexCount s, arcCount s) (long-enough s (a .room) (sym (c .before .before .before .before .before .before .file-verdict .ensures) ∙ ap verdictNumber (c .before .before .before .before .enum-told .given .1)) (omega (arith, m, c .if1 .left))))
 
 returns-3 : tie.Need-returns-3
 returns-3 c =
     let a = c .before .before .before .before .before .args in
-    sym (answer-refused (readRefusal (a .bytes .now) (a .room)) (vertexCount (a .bytes .now), arcCount (a .bytes .now)) _
-    (refusal-of-file (a .bytes .now) (a .room) _ (sym (c .before .before .before .file-verdict .ensures) ∙ ap verdictNumber (c .before .r .given .1))))
+    let s = a .bytes .now in
+    sym (answer-refused (readRefusal s (a .room)) (edition s, vertexCount s, arcCount s) _
+    (refusal-of-file s (a .room) _ (sym (c .before .before .before .file-verdict .ensures) ∙ ap verdictNumber (c .before .r .given .1))))
 
 pub read-answer-spec : {M : Type 1} → statement M
 read-answer-spec =
@@ -79,12 +84,13 @@ read-answer-spec =
     (tie.spec
     file-verdict-requires
     enum-told
+    file-edition-requires
     take-at-requires
     take-at-requires-2
     cast-if1
     returns
-    cast-t13
     cast-t14
+    cast-t15
     enum-known-r
     returns-2
     returns-3)

@@ -38,14 +38,15 @@ use denote.Triple.Spec.{Meets, tripleOf}
 use denote.Triple.Table.{entered, cited}
 use denote.Triple.Walked.{says, Stays, gave-slice, stay-none-slice, walkOf, goes-gave-slice, goes-none-slice, Walks, ends-at, walked, walk-meets}
 use denote.Exit.{yes}
-use Rattle.postman.specs.PlanFile.{arcOf}
+use Rattle.postman.specs.PlanFile.{edition, arcOf}
 use Rattle.plan.specs.declared.Arc.{Arc}
 use Rattle.plan.specs.Records.{arcValue, recordOf}
 use Rattle.plan.proofs.Arc as T
 use Rattle.records.specs.declared.reader.Read.{Read}
 use Rattle.records.specs.Stored.{storedTo}
 use Rattle.records.specs.Reading.{arcsRead}
-use Rattle.records.specs.Laws.Reading.{Answers, Room as Enough, room-for, answers, after}
+use Rattle.records.specs.Reading.{Room as Enough}
+use Rattle.records.specs.Laws.Reading.{Answers, room-for, answers, after}
 use Rattle.records.proofs.reader.Read as S
 use Rattle.records.proofs.reader.Read.Laws as S′
 use Rattle.records.proofs.reader.read_answer as ask
@@ -101,7 +102,7 @@ module _ {M : Type 1} (𝓤 : URA M) (H : Heap 𝓤) (A : Atoms 𝓤) (W : Given
 
   -- the list with the first m arcs of the file
   abbrev stored : ℕ → List Arc
-  stored m = storedTo (λ k. recordOf (arcOf (now bytes) k)) ys m
+  stored m = storedTo (λ k. recordOf (arcOf (now bytes) (edition (now bytes)) k)) ys m
 
   abbrev Post : Val → SProp 𝓤
   Post = walkOf 𝓤 H A f.ended stayed (f.clauses 𝓤 H A mem run) .post (((κ, (κ′, tt)), (q, (q′, tt)), tt, args, vals), tt)
@@ -147,7 +148,7 @@ module _ {M : Type 1} (𝓤 : URA M) (H : Heap 𝓤) (A : Atoms 𝓤) (W : Given
   abbrev to-store : ℕ → Store 𝓤 H A mem run .Ghost
   to-store n = (((κ, (κ′, tt)), (q, (q′, tt)), tt, (bytes, (n, (x, tt))), (v ∷ [], (vint w64 n ∷ [], (s ∷ [], tt)))), tt)
 
-  goes-store : (n : ℕ) → n < 2 ^ 64 → Enough (now bytes) ys n
+  goes-store : (n : ℕ) → n < 2 ^ 64 → Enough (now bytes) (length ys) n
       → ent 𝓤 (⋆ 𝓤 H A ((‵ (flft κ q) ⊛ ‵ ftrue) ∷ ‵ Own ∷ ‵ Mut ∷ ‵ (flft κ′ q′) ∷ [])) (sep 𝓤 (Store 𝓤 H A mem run .pre (to-store n)) (sem 𝓤 H A Own))
   goes-store n n-fits enough =
       qed W ((‵ (flft κ q) ⊛ ‵ ftrue) ∷ ‵ Own ∷ ‵ Mut ∷ ‵ (flft κ′ q′) ∷ []) ∵ split ! $
@@ -198,7 +199,7 @@ module _ {M : Type 1} (𝓤 : URA M) (H : Heap 𝓤) (A : Atoms 𝓤) (W : Given
         assigns ! (addr ! (from ! (fld ! refl (hop ! (look-in ! 19 (sub ! 0 refl (whole !))) (stop !))))) (from ! (stop !)) (init ! 11 refl (tt, tt)) $
         assigns ! (agg ! (and-then ! (load ! (from ! (stop !)) (look ! 11 refl)) (and-then ! (load ! (from ! (fld ! refl (stop !))) (look-in ! 19 (sub ! 1 refl (whole !)))) (no-more !)))) (from ! (stop !)) (init ! 9 refl (tt, (tt, (record { fits = room .0 }, tt)))) $
         move ! (5 ∷ 7 ∷ []) $ join ! $ move ! (4 ∷ 5 ∷ 0 ∷ []) $
-        use3 W (raw (Store 𝓤 H A mem run .pre (to-store n)) ⊛ ‵ Own) (goes-store n (nat .1) (subst (Enough (now bytes) ys) (sym c) (room-for (now bytes) ys r e))) $ split ! $
+        use3 W (raw (Store 𝓤 H A mem run .pre (to-store n)) ⊛ ‵ Own) (goes-store n (nat .1) (subst (Enough (now bytes) (length ys)) (sym c) (room-for (now bytes) ys r e))) $ split ! $
         calls-at ! fm (Store 𝓤 H A mem run) known-store (to-store n) (and-then ! (load ! (from ! (stop !)) (look ! 19 refl)) (and-then ! (load ! (from ! (stop !)) (look ! 13 refl)) (and-then ! (load ! (from ! (stop !)) (look ! 7 refl)) (no-more !)))) (λ t.
         use1 W (later (some (λ (d : Unit {0}). ((‵ (flft κ q) ⊛ ‵ (flft κ′ q′) ⊛ ‵ ftrue) ⊛ ‵ (unit .own d (t ∷ []))) ⊛ raw (ensured 𝓤 H A store-arcs.ended (store-arcs.clauses 𝓤 H A mem run) (κ, (κ′, tt)) (bytes, (n, (x, tt))) tt d)))) (id⊢ 𝓤 _) $ await ! tt $ pick ! (λ d.
         split ! $ move ! (1 ∷ []) $ use1 W (some (λ (zs : Unit {0} × (Unit {0} × (List Arc × Unit {0}))). ‵ (lasts store-arcs.ended (κ, (κ′, tt)) (bytes, (n, (x, tt))) zs) ⊛ raw (fact 𝓤 (zs .1 .1 .0 ≡ stored n)))) (id⊢ 𝓤 _) $ pick ! (λ zs.

@@ -1,4 +1,4 @@
--- `store_arcs` meets its contract: a walk of its MIR, by hand. The borrow of the list is opened once, before the loop, and closed once, after it; a turn calls `read_arc`, of
+-- `store_arcs` meets its contract: a walk of its MIR, by hand. The borrow of the list is opened once, before the loop, and closed once, after it; a turn calls `file_arc`, of
 -- which the proof knows only the contract, takes one record out of the row and stores to it. The loop ends since fewer records are left after each turn.
 use mathlib.Core.Path.{_≡_, refl, sym, ap, subst}
 use Prim.Native.Nat.{ℕ, suc, _+_, _-_, _*_, _<_, _≤_, _^_}
@@ -45,19 +45,21 @@ use denote.Triple.Spec.{Meets, tripleOf}
 use denote.Triple.Table.{entered, cited}
 use denote.Triple.Walked.{says, needs, Stays, stay-slice, stay-none, stay-none-slice, walkOf, goes-slice, goes-none, goes-none-slice, Walks, ends-at, walked, walk-meets}
 use denote.Exit.{yes}
-use Rattle.postman.specs.PlanFile.{arcOf}
+use Rattle.postman.specs.PlanFile.{edition, arcOf, arcWidth, fileBits}
+use Rattle.postman.specs.Laws.FileLength.{bits-within}
 use Rattle.plan.specs.declared.Arc.{Arc}
 use Rattle.plan.specs.Records.{recordOf, zeroRecord}
 use Rattle.plan.proofs.Arc as T
 use Rattle.plan.proofs.Arc.Laws as T′
+use Rattle.records.specs.Reading.{Room as RoomFor}
 use Rattle.records.specs.Stored.{storedTo}
 use Rattle.records.specs.Laws.Stored.{length-stored}
 use Rattle.records.proofs.Counts.{counts}
 use Rattle.records.proofs.Rows.{arc-vals, arc-tells, arc-typed}
-use Rattle.plan_file.proofs.reader.read_arc as callee
-use Rattle.plan_file.proofs.reader.read_arc.Symbol as callee-def
-use Rattle.plan_file.proofs.reader.read_arc.Symbol.{name as #read-arc}
-use Rattle.plan_file.proofs.reader.read_arc.Met as callee-thm
+use Rattle.plan_file.proofs.reader.file_arc as callee
+use Rattle.plan_file.proofs.reader.file_arc.Symbol as callee-def
+use Rattle.plan_file.proofs.reader.file_arc.Symbol.{name as #file-arc}
+use Rattle.plan_file.proofs.reader.file_arc.Met as callee-thm
 use Rattle.records.proofs.reader.store_arcs.Key.{name as #store-arcs}
 use Rattle.records.proofs.reader.store_arcs as f
 use Rattle.records.proofs.reader.store_arcs.Statement as stated
@@ -79,12 +81,12 @@ list = sliceTy (tyRef (named 1) mut (pointee (T.the-row .written)))
 
 -- what the contract asks
 abbrev Within : List ℕ → ℕ → List Arc → Type 0
-Within bytes m ys = (m ≤ 256) × (30 * m ≤ 8 * length bytes - 20) × (m ≤ length ys)
+Within bytes m ys = RoomFor bytes (length ys) m
 
 module _ {M : Type 1} (𝓤 : URA M) (H : Heap 𝓤) (A : Atoms 𝓤) (mem : Memory → SProp 𝓤) (run : Routine → Fun 𝓤) where
   -- the contract that the proof cites
-  abbrev ReadArc : Contract 𝓤
-  ReadArc = tripleOf 𝓤 H A callee.signature (callee.spec 𝓤 H A mem run)
+  abbrev FileArc : Contract 𝓤
+  FileArc = tripleOf 𝓤 H A callee.signature (callee.spec 𝓤 H A mem run)
 
 module _ {M : Type 1} (𝓤 : URA M) (H : Heap 𝓤) (A : Atoms 𝓤) (W : Given 𝓤 H A) (mem : Memory → SProp 𝓤) (run : Routine → Fun 𝓤) (κ κ′ : Lft) (q q′ : Share) (bytes : RefT (List ℕ)) (m b o : ℕ) (γ : GName) (ys : List Arc)
     (m-fits : m < 2 ^ 64) (room : Room T.the-row (length ys)) (within : Within (now bytes) m ys) where
@@ -109,7 +111,7 @@ module _ {M : Type 1} (𝓤 : URA M) (H : Heap 𝓤) (A : Atoms 𝓤) (W : Given
 
   -- the record of arc k, and the list after k turns
   abbrev new : ℕ → Arc
-  new k = recordOf (arcOf (now bytes) k)
+  new k = recordOf (arcOf (now bytes) (edition (now bytes)) k)
 
   abbrev at : ℕ → List Arc
   at k = storedTo new ys k
@@ -135,31 +137,35 @@ module _ {M : Type 1} (𝓤 : URA M) (H : Heap 𝓤) (A : Atoms 𝓤) (W : Given
       nothing ! $ move ! (1 ∷ 0 ∷ []) $ fjoin ! $ owned ! usize (Is usize) (uint-makes 𝓤 H A W w64) m _ (refl, m-fits) $ fjoin ! $ move ! (1 ∷ 0 ∷ []) $ fjoin ! $ frame ! $
       feqI ! (List Val) (vunit ∷ []) (vunit ∷ []) refl $ done !
 
-  -- the call of `read_arc`: what it is passed, what it asks, and what is known of its result
+  -- the call of `file_arc`: what it is passed, what it asks, and what is known of its result
   abbrev Passed : Type 0
   Passed = RefT (List ℕ) × (ℕ × Unit {0})
 
-  abbrev to : ℕ → ReadArc 𝓤 H A mem run .Ghost
+  abbrev to : ℕ → FileArc 𝓤 H A mem run .Ghost
   to k = (((κ, tt), (q, tt), tt, (bytes, (k, tt)), (v ∷ [], (vint w64 k ∷ [], tt))), tt)
 
-  goes : (k : ℕ) → k < m → ent 𝓤 (sep 𝓤 (A .lft κ q) (sem 𝓤 H A Own)) (sep 𝓤 (ReadArc 𝓤 H A mem run .pre (to k)) (sem 𝓤 H A Own))
+  goes : (k : ℕ) → k < m → ent 𝓤 (sep 𝓤 (A .lft κ q) (sem 𝓤 H A Own)) (sep 𝓤 (FileArc 𝓤 H A mem run .pre (to k)) (sem 𝓤 H A Own))
   goes k small =
       qed W (‵ (flft κ q) ∷ ‵ Own ∷ []) ∵ move ! (1 ∷ []) $ use1 W (‵ Own ⊛ ‵ Own) (shr-slice-copy 𝓤 H A W (named 0) κ u8 .twice bytes (v ∷ [])) $ split ! $
       nothing ! $ owned ! usize (Is usize) (uint-makes 𝓤 H A W w64) k _ (refl, k-fits) $ fjoin ! $ move ! (1 ∷ 0 ∷ []) $ fjoin ! $
       -- [what the callee's parameters own; what the file owns; the token]
       nothing ! $ move ! (3 ∷ 0 ∷ []) $ join ! $ move ! (0 ∷ 1 ∷ []) $
-      use2 W (raw (ReadArc 𝓤 H A mem run .pre (to k))) (qed W ((‵ (flft κ q) ⊛ ‵ ftrue) ∷ ‵ (owns (ShrSlice (named 0) κ u8 ∷ usize ∷ []) (bytes, (k, tt)) (v ∷ [], (vint w64 k ∷ [], tt))) ∷ []) ∵ says ! inside $ frame ! $ done !) $ frame ! $ done !
+      use2 W (raw (FileArc 𝓤 H A mem run .pre (to k))) (qed W ((‵ (flft κ q) ⊛ ‵ ftrue) ∷ ‵ (owns (ShrSlice (named 0) κ u8 ∷ usize ∷ []) (bytes, (k, tt)) (v ∷ [], (vint w64 k ∷ [], tt))) ∷ []) ∵ says ! inside $ frame ! $ done !) $ frame ! $ done !
     where
       k-fits : k < 2 ^ 64
       k-fits = omega (arith, small, m-fits)
 
-      inside : (k < 256) × (50 + 30 * k ≤ 8 * length (now bytes))
-      inside = (omega (arith, small, within .0), omega (arith, small, within .1))
+      inside : (k < 256) × (3 ≤ length (now bytes)) × (fileBits (edition (now bytes)) k + arcWidth (edition (now bytes)) ≤ 8 * length (now bytes))
+      inside = (
+        omega (arith, small, within .0),
+        within .1 (omega (arith, small)),
+        omega (arith, within .2 (omega (arith, small)), bits-within (edition (now bytes)) k m small),
+      )
 
   said : (k : ℕ) (r : Arc) → ent 𝓤 (ensured 𝓤 H A callee.ended (callee.clauses 𝓤 H A mem run) (κ, tt) (bytes, (k, tt)) tt r) (fact 𝓤 (r ≡ new k))
   said k r = exE 𝓤 _ (λ ws. snd∗ 𝓤 (sem 𝓤 H A (lasts callee.ended (κ, tt) (bytes, (k, tt)) ws)) (fact 𝓤 (r ≡ new k)))
 
-  module _ (𝓣 : Tables 𝓤 H) (known : Triple 𝓤 (𝓣 .C #read-arc) (ReadArc 𝓤 H A mem run)) (l₀ l₁ l₂ l₃ l₄ l₅ l₆ l₇ l₈ : ℕ) where
+  module _ (𝓣 : Tables 𝓤 H) (known : Triple 𝓤 (𝓣 .C #file-arc) (FileArc 𝓤 H A mem run)) (l₀ l₁ l₂ l₃ l₄ l₅ l₆ l₇ l₈ : ℕ) where
     abbrev C : Calls 𝓤 H
     C = 𝓣 .C
 
@@ -195,18 +201,18 @@ module _ {M : Type 1} (𝓤 : URA M) (H : Heap 𝓤) (A : Atoms 𝓤) (W : Given
         assigns ! (bin ! (load ! (from ! (stop !)) (look ! 1 refl)) (load ! (from ! (stop !)) (look ! 7 refl)) tt) (from ! (stop !)) (init ! 2 refl (tt, tt)) $
         rewrite ! 2 (λ (t : Bool). ‵ (fat fullShare tyBool l₅ 0 (vbool t))) (lt-ltb k m small) refl $
         stays ! (load ! (from ! (stop !)) (look ! 2 refl)) $
-        -- `read_arc`
-        move ! (13 ∷ 14 ∷ []) $ use2 W (raw (ReadArc 𝓤 H A mem run .pre (to k)) ⊛ ‵ Own) (goes k small) $ split ! $
-        calls-at ! (fmOf 𝓤 H (W .laws) 𝓣) (ReadArc 𝓤 H A mem run) known (to k) (and-then ! (load ! (from ! (stop !)) (look ! 8 refl)) (and-then ! (load ! (from ! (stop !)) (look ! 3 refl)) (no-more !))) (λ u.
+        -- `file_arc`
+        move ! (13 ∷ 14 ∷ []) $ use2 W (raw (FileArc 𝓤 H A mem run .pre (to k)) ⊛ ‵ Own) (goes k small) $ split ! $
+        calls-at ! (fmOf 𝓤 H (W .laws) 𝓣) (FileArc 𝓤 H A mem run) known (to k) (and-then ! (load ! (from ! (stop !)) (look ! 8 refl)) (and-then ! (load ! (from ! (stop !)) (look ! 3 refl)) (no-more !))) (λ u.
         use1 W (later (some (λ (r : Arc). ((‵ (flft κ q) ⊛ ‵ ftrue) ⊛ ‵ (T.the-row .own r (u ∷ []))) ⊛ raw (ensured 𝓤 H A callee.ended (callee.clauses 𝓤 H A mem run) (κ, tt) (bytes, (k, tt)) tt r)))) (id⊢ 𝓤 _) $ await ! tt $ pick ! (λ r.
         split ! $ move ! (1 ∷ []) $ use1 W (raw (fact 𝓤 (r ≡ new k))) (said k r) $ heard ! (r ≡ new k) (λ e. split ! $
         rewrite ! 1 (λ (h : Arc). ‵ (T.the-row .own h (u ∷ []))) e refl $ move ! (1 ∷ []) $
         peeks ! T.the-row (Is T.the-row) (shows 𝓤 H A T.the-row) (new k) (u ∷ []) (λ is.
         -- [what the record owns; the token; what the file owns; the row; _4; _5; room for _6; _7; _8; _1; _2; _3; …]
         land ! (from ! (stop !)) (init ! 6 refl (arc-typed 𝓤 H A W (new k) u is)) $
-        assigns ! (bin ! (load ! (from ! (stop !)) (look ! 4 refl)) (lit ! tt) (record { fits = six })) (from ! (stop !)) (init ! 7 refl (tt, record { fits = six })) $
+        assigns ! (bin ! (load ! (from ! (stop !)) (look ! 4 refl)) (lit ! tt) (record { fits = eight })) (from ! (stop !)) (init ! 7 refl (tt, record { fits = eight })) $
         assigns ! (bin ! (load ! (from ! (fld ! refl (stop !))) (look-in ! 11 (sub ! 0 refl (whole !)))) (load ! (from ! (stop !)) (look ! 7 refl)) tt) (from ! (stop !)) (init ! 8 refl (tt, tt)) $
-        rewrite ! 8 (λ (p : ℕ). ‵ (fat fullShare tyPtr l₈ 0 (vptr b p))) (sym (place-is 6 o k)) refl $
+        rewrite ! 8 (λ (p : ℕ). ‵ (fat fullShare tyPtr l₈ 0 (vptr b p))) (sym (place-is 8 o k)) refl $
         move ! (3 ∷ []) $ elem-out ! T.the-row (Is T.the-row) (shows 𝓤 H A T.the-row) arc-vals arc-tells fullShare (at k) k zeroRecord b o inside (λ _.
         -- [records[k]; what it owns; the others; what the new record owns; the token; what the file owns; _4; _5; _6; _7; _8; …]
         assigns ! (of-opd ! (load ! (from ! (stop !)) (look ! 8 refl))) (from ! (hop ! (look ! 10 refl) (stop !))) (store-raw ! 0 refl (arc-typed 𝓤 H A W (new k) u is)) $
@@ -218,10 +224,10 @@ module _ {M : Type 1} (𝓤 : URA M) (H : Heap 𝓤) (A : Atoms 𝓤) (W : Given
         keep ! (2 ∷ 4 ∷ 5 ∷ 6 ∷ 7 ∷ 8 ∷ 9 ∷ 10 ∷ 11 ∷ 12 ∷ 13 ∷ 14 ∷ 15 ∷ 0 ∷ 3 ∷ 16 ∷ 17 ∷ 18 ∷ 19 ∷ 20 ∷ 21 ∷ 22 ∷ 23 ∷ 24 ∷ []) $ by ! next)))))
       where
         inside : k < length (at k)
-        inside = omega (arith, long k, small, within .2)
+        inside = omega (arith, long k, small, within .3)
 
-        six : k * 6 < 2 ^ 64
-        six = omega (arith, room .1, small, within .2)
+        eight : k * 8 < 2 ^ 64
+        eight = omega (arith, room .1, small, within .3)
 
         next-fits : k + 1 < 2 ^ 64
         next-fits = omega (arith, small, m-fits)
@@ -245,7 +251,7 @@ module _ {M : Type 1} (𝓤 : URA M) (H : Heap 𝓤) (A : Atoms 𝓤) (W : Given
     loops = counts 𝓤 H A W 𝓣 En Mir.turn-1 Left At m more ends
 
   -- the MIR, up to the loop: the borrow is opened once, before it
-  walk : (𝓣 : Tables 𝓤 H) → Triple 𝓤 (𝓣 .C #read-arc) (ReadArc 𝓤 H A mem run) → Is (ShrSlice (named 0) κ u8) bytes (v ∷ [])
+  walk : (𝓣 : Tables 𝓤 H) → Triple 𝓤 (𝓣 .C #file-arc) (FileArc 𝓤 H A mem run) → Is (ShrSlice (named 0) κ u8) bytes (v ∷ [])
       → ent 𝓤 (onEntry 𝓤 H A f.signature (κ, (κ′, tt)) (q, (q′, tt)) args vals) (WpFn 𝓤 H (𝓣 .C) (𝓣 .Λ) code.function (v ∷ vint w64 m ∷ s ∷ []) Post)
   walk 𝓣 known p =
       qed W ((‵ (flft κ q) ⊛ ‵ (flft κ′ q′) ⊛ ‵ ftrue) ∷ ‵ (owns (ShrSlice (named 0) κ u8 ∷ usize ∷ MutSlice (named 1) κ′ T.the-row ∷ []) args vals) ∷ []) ∵ enter ! (𝓣 .C) (𝓣 .Λ) code.function (v ∷ vint w64 m ∷ s ∷ []) _ $
@@ -259,13 +265,13 @@ module _ {M : Type 1} (𝓤 : URA M) (H : Heap 𝓤) (A : Atoms 𝓤) (W : Given
       keep ! (0 ∷ 16 ∷ 14 ∷ 12 ∷ 10 ∷ 8 ∷ 22 ∷ 20 ∷ 18 ∷ 24 ∷ 1 ∷ 2 ∷ 3 ∷ 7 ∷ 5 ∷ 25 ∷ 23 ∷ 21 ∷ 19 ∷ 17 ∷ 15 ∷ 13 ∷ 11 ∷ 9 ∷ []) $ by ! (loops 𝓣 known l₀ l₁ l₂ l₃ l₄ l₅ l₆ l₇ l₈))))))))))
 
 module _ {M : Type 1} (𝓤 : URA M) (H : Heap 𝓤) (A : Atoms 𝓤) (W : Given 𝓤 H A) (mem : Memory → SProp 𝓤) (run : Routine → Fun 𝓤) where
-  store-arcs-walks : (𝓣 : Tables 𝓤 H) → Triple 𝓤 (𝓣 .C #read-arc) (ReadArc 𝓤 H A mem run) → Walks 𝓤 H A f.ended stayed (WpFn 𝓤 H (𝓣 .C) (𝓣 .Λ) code.function) (f.clauses 𝓤 H A mem run)
+  store-arcs-walks : (𝓣 : Tables 𝓤 H) → Triple 𝓤 (𝓣 .C #file-arc) (FileArc 𝓤 H A mem run) → Walks 𝓤 H A f.ended stayed (WpFn 𝓤 H (𝓣 .C) (𝓣 .Λ) code.function) (f.clauses 𝓤 H A mem run)
   store-arcs-walks 𝓣 known = walked 𝓤 H A f.ended stayed (f.clauses 𝓤 H A mem run) (WpFn 𝓤 H (𝓣 .C) (𝓣 .Λ) code.function)
       (λ κs. (slice-vals, (uint-vals w64, (slice-vals, tt)))) (λ κs. (shr-slice-tells (named 0) (κs .0) u8, (uint-tells w64, (mut-slice-tells (named 1) (κs .1 .0) T.the-row, tt))))
       (λ κs qs bounds a g are. needs 𝓤 (Within (now (a .0)) (a .1 .0) (now (a .1 .1 .0))) _ (λ within.
       walk 𝓤 H A W mem run (κs .0) (κs .1 .0) (qs .0) (qs .1 .0) (a .0) (a .1 .0) (a .1 .1 .0 .ptr .0) (a .1 .1 .0 .ptr .1) (a .1 .1 .0 .name) (a .1 .1 .0 .now) (are .1 .0 .1) (are .1 .1 .0 .0 .1) within 𝓣 known (are .0)))
 
-store-arcs-meets : {M : Type 1} (𝓤 : URA M) (H : Heap 𝓤) (A : Atoms 𝓤) → Given 𝓤 H A → (mem : Memory → SProp 𝓤) (run : Routine → Fun 𝓤) (𝓣 : Tables 𝓤 H) → Triple 𝓤 (𝓣 .C #read-arc) (ReadArc 𝓤 H A mem run)
+store-arcs-meets : {M : Type 1} (𝓤 : URA M) (H : Heap 𝓤) (A : Atoms 𝓤) → Given 𝓤 H A → (mem : Memory → SProp 𝓤) (run : Routine → Fun 𝓤) (𝓣 : Tables 𝓤 H) → Triple 𝓤 (𝓣 .C #file-arc) (FileArc 𝓤 H A mem run)
     → Meets 𝓤 H A f.signature (WpFn 𝓤 H (𝓣 .C) (𝓣 .Λ) code.function) (f.spec 𝓤 H A mem run)
 store-arcs-meets 𝓤 H A W mem run 𝓣 known =
     walk-meets 𝓤 H A f.ended stayed W
@@ -278,4 +284,4 @@ store-arcs-spec 𝓤 H 𝓜 𝓖 𝓡 =
     entered 𝓤 H (tripleOf 𝓤 H (𝓖 .A) f.signature (f.spec 𝓤 H (𝓖 .A) (𝓜 .mem) (𝓡 .run)))
     (tables 𝓤 H 𝓜 𝓡 code.env .C) (tables 𝓤 H 𝓜 𝓡 code.env .Λ) #store-arcs code.function (code.unfolded 𝓤 H 𝓜 𝓡)
     (store-arcs-meets 𝓤 H (𝓖 .A) (givenOf 𝓤 H 𝓜 𝓖) (𝓜 .mem) (𝓡 .run) (tablesOf 𝓤 H 𝓜 (tables 𝓤 H 𝓜 𝓡 code.env))
-    (cited 𝓤 H (ReadArc 𝓤 H (𝓖 .A) (𝓜 .mem) (𝓡 .run)) 𝓜 𝓡 code.env #read-arc callee-def.routine code.calls-plan-file·reader·read-arc (callee-thm.met 𝓤 H 𝓜 𝓖 𝓡)))
+    (cited 𝓤 H (FileArc 𝓤 H (𝓖 .A) (𝓜 .mem) (𝓡 .run)) 𝓜 𝓡 code.env #file-arc callee-def.routine code.calls-plan-file·reader·file-arc (callee-thm.met 𝓤 H 𝓜 𝓖 𝓡)))

@@ -175,18 +175,18 @@ module _ {M : Type 1} (𝓤 : URA M) (H : Heap 𝓤) (A : Atoms 𝓤) (W : Given
           rewrite ! 2 (λ (t : Bool). ‵ (fat fullShare tyBool l₇ 0 (vbool t))) (lt-ltb k m small) refl $
           stays ! (load ! (from ! (stop !)) (look ! 2 refl)) $
           -- the record of the list
-          assigns ! (bin ! (load ! (from ! (stop !)) (look ! 1 refl)) (lit ! tt) (record { fits = six })) (from ! (stop !)) (init ! 3 refl (tt, record { fits = six })) $
+          assigns ! (bin ! (load ! (from ! (stop !)) (look ! 1 refl)) (lit ! tt) (record { fits = eight })) (from ! (stop !)) (init ! 3 refl (tt, record { fits = eight })) $
           assigns ! (bin ! (load ! (from ! (fld ! refl (stop !))) (look-in ! 10 (sub ! 0 refl (whole !)))) (load ! (from ! (stop !)) (look ! 3 refl)) tt) (from ! (stop !)) (init ! 4 refl (tt, tt)) $
-          rewrite ! 4 (λ (p : ℕ). ‵ (fat fullShare tyPtr l₉ 0 (vptr b p))) (sym (place-is 6 o k)) refl $
+          rewrite ! 4 (λ (p : ℕ). ‵ (fat fullShare tyPtr l₉ 0 (vptr b p))) (sym (place-is 8 o k)) refl $
           move ! (9 ∷ []) $ elem-out ! T.the-row (Is T.the-row) (shows 𝓤 H A T.the-row) arc-vals arc-tells q″ ys k zeroRecord b o in-list (λ g.
           -- [records[k]; what it owns; the others; the array; _4; _7; _8; _9; _10; _11; _12; _13; _1; _2; …]
           assigns ! (of-opd ! (load ! (from ! (hop ! (look ! 7 refl) (stop !))) (look-raw ! 0 refl))) (from ! (stop !)) (init ! 8 refl (arc-typed 𝓤 H A W (new k) _ g)) $
           elem-back ! T.the-row q″ ys k zeroRecord (arc-vals (new k)) b o in-list $
           -- [the list; the array; _4; _7; _8; _9; _10; _11; _12; _13; _1; _2; …]: its place in the array
-          assigns ! (bin ! (load ! (from ! (stop !)) (look ! 2 refl)) (lit ! tt) (record { fits = six })) (from ! (stop !)) (init ! 7 refl (tt, record { fits = six })) $
+          assigns ! (bin ! (load ! (from ! (stop !)) (look ! 2 refl)) (lit ! tt) (record { fits = eight })) (from ! (stop !)) (init ! 7 refl (tt, record { fits = eight })) $
           assigns ! (addr ! (from ! (stop !))) (from ! (stop !)) (init ! 8 refl (tt, tt)) $
           assigns ! (bin ! (load ! (from ! (stop !)) (look ! 8 refl)) (load ! (from ! (stop !)) (look ! 7 refl)) tt) (from ! (stop !)) (init ! 9 refl (tt, tt)) $
-          rewrite ! 9 (λ (p : ℕ). ‵ (fat fullShare tyPtr l₁₃ 0 (vptr l₃ p))) (sym (place-is 6 0 k)) refl $
+          rewrite ! 9 (λ (p : ℕ). ‵ (fat fullShare tyPtr l₁₃ 0 (vptr l₃ p))) (sym (place-is 8 0 k)) refl $
           move ! (1 ∷ []) $ elem-out ! T.the-row (Is T.the-row) (shows 𝓤 H A T.the-row) arc-vals arc-tells fullShare (at k) k zeroRecord l₃ 0 in-array (λ _.
           -- [arcs[k]; what it owns; the others; the list; _4; _7; _8; _9; _10; _11; _12; _13; …]
           assigns ! (of-opd ! (load ! (from ! (stop !)) (look ! 8 refl))) (from ! (hop ! (look ! 11 refl) (stop !))) (store-raw ! 0 refl (arc-typed 𝓤 H A W (new k) _ g)) $
@@ -202,8 +202,8 @@ module _ {M : Type 1} (𝓤 : URA M) (H : Heap 𝓤) (A : Atoms 𝓤) (W : Given
           in-array : k < length (at k)
           in-array = omega (arith, small, m-least, long k)
 
-          six : k * 6 < 2 ^ 64
-          six = omega (arith, small, m-least)
+          eight : k * 8 < 2 ^ 64
+          eight = omega (arith, small, m-least)
 
           next-fits : k + 1 < 2 ^ 64
           next-fits = omega (arith, small, m-fits)

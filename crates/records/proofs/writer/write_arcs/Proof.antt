@@ -9,8 +9,8 @@ use Rattle.records.proofs.writer.write_arcs.Tie as tie
 at-most-requires : tie.Need-at-most-requires
 at-most-requires c κs = search needs
 
-cast-t7 : tie.Need-cast-t7
-cast-t7 c = omega (arith, c .at-most .ensures, at-most-le (c .before .before .args .m) 257)
+cast-t8 : tie.Need-cast-t8
+cast-t8 c = omega (arith, c .at-most .ensures, at-most-le (c .before .before .args .m) 257)
 
 write-plan-requires : tie.Need-write-plan-requires
 write-plan-requires c κs = search needs
@@ -23,4 +23,4 @@ returns c = let count = c .before .before .before .before .at-most .ensures in r
 
 pub write-arcs-spec : {M : Type 1} → statement M
 write-arcs-spec =
-    tie.close (tie.spec at-most-requires cast-t7 write-plan-requires same-length returns)
+    tie.close (tie.spec at-most-requires cast-t8 write-plan-requires same-length returns)

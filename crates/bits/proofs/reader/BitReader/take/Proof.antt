@@ -67,7 +67,7 @@ stayed = (stay-none B yes, (stay-none (λ _. usize) yes, tt))
 
 -- what the contract asks
 abbrev Within : BitReader → ℕ → Type 0
-Within d w = (w ≤ 16) × (d .at + w ≤ 8 * length (now (d .file))) × (d .at ≤ 8000)
+Within d w = (w ≤ 16) × (d .at + w ≤ 8 * length (now (d .file))) × (d .at ≤ 12000)
 
 module _ {M : Type 1} (𝓤 : URA M) (H : Heap 𝓤) (A : Atoms 𝓤) (mem : Memory → SProp 𝓤) (run : Routine → Fun 𝓤) where
   -- the contract that the proof cites

@@ -1,0 +1,75 @@
+-- `extent_verdict` meets its contract: `extent-refusal` gives the order of the conditions, and the tests on the way say which apply.
+use mathlib.Core.Path.{_≡_, _∙_, sym, ap, ap₂}
+use mathlib.Core.Bool.{true, false}
+use Prim.Native.Nat.{ℕ}
+use Rattle.postman.specs.BitField.{fieldAt}
+use Rattle.postman.specs.Refusal.{firstRefusal}
+use Rattle.postman.specs.PlanFile.{isOutside, arcOf, bodyConditions}
+use Rattle.postman.specs.Laws.Acceptance.{inside}
+use Rattle.plan_file.specs.Reading.{planFrom}
+use Rattle.plan_file.specs.Laws.Reading.{extent-refusal}
+use borrow.Author.Needs.{needs}
+use Rattle.plan_file.proofs.reader.extent_verdict.Statement.{statement}
+use Rattle.plan_file.proofs.reader.extent_verdict.Tie as tie
+
+take-at-requires : tie.Need-take-at-requires
+take-at-requires c κs = search needs
+
+is-outside-requires : tie.Need-is-outside-requires
+is-outside-requires c κs = search needs
+
+returns : tie.Need-returns
+returns c =
+    let a = c .before .before .before .before .args in
+    let extent : isOutside (fieldAt (a .s .now) 4 7) 1 64 ≡ true =
+    ap (λ (n : ℕ). isOutside n 1 64) (sym (c .before .before .take-at .ensures .0)) ∙ sym (c .before .is-outside .ensures) ∙ c .if1 .taken in
+    rw (extent-refusal (a .s .now) (a .edition)) (simp extent)
+
+take-at-requires-2 : tie.Need-take-at-requires-2
+take-at-requires-2 c κs = search needs
+
+is-outside-requires-2 : tie.Need-is-outside-requires-2
+is-outside-requires-2 c κs = search needs
+
+returns-2 : tie.Need-returns-2
+returns-2 c =
+    let a = c .before .before .before .before .before .before .before .args in
+    let vertices : isOutside (fieldAt (a .s .now) 4 7) 1 64 ≡ false =
+    ap (λ (n : ℕ). isOutside n 1 64) (sym (c .before .before .before .before .before .take-at .ensures .0)) ∙ sym (c .before .before .before .before .is-outside .ensures) ∙ c .before .before .before .if1 .left in
+    let extent : isOutside (fieldAt (a .s .now) 11 9) 1 256 ≡ true =
+    ap (λ (m : ℕ). isOutside m 1 256) (sym (c .before .before .take-at2 .ensures .0)) ∙ sym (c .before .is-outside2 .ensures) ∙ c .if2 .taken in
+    rw (extent-refusal (a .s .now) (a .edition)) (simp (vertices, extent))
+
+cast-body-verdict : tie.Need-cast-body-verdict
+cast-body-verdict c = search needs
+
+body-verdict-requires : tie.Need-body-verdict-requires
+body-verdict-requires c κs = inside (c .before .before .take-at2 .result .field) 1 256 (sym (c .before .is-outside2 .ensures) ∙ c .if2 .left) .1
+
+returns-3 : tie.Need-returns-3
+returns-3 c =
+    let a = c .before .before .before .before .before .before .before .before .args in
+    let s = a .s .now in
+    let n = c .before .before .before .before .before .before .take-at .ensures .0 in
+    let m = c .before .before .before .take-at2 .ensures .0 in
+    let vertices : isOutside (fieldAt s 4 7) 1 64 ≡ false =
+    ap (λ (n : ℕ). isOutside n 1 64) (sym n) ∙ sym (c .before .before .before .before .before .is-outside .ensures) ∙ c .before .before .before .before .if1 .left in
+    let extent : isOutside (fieldAt s 11 9) 1 256 ≡ false =
+    ap (λ (m : ℕ). isOutside m 1 256) (sym m) ∙ sym (c .before .before .is-outside2 .ensures) ∙ c .before .if2 .left in
+    rw (extent-refusal s (a .edition))
+    (simp (vertices, extent)
+    (c .body-verdict .ensures ∙ ap₂ (λ (x y : ℕ). firstRefusal (bodyConditions s (a .edition) y (planFrom x (arcOf s (a .edition)) y))) n m))
+
+pub extent-verdict-spec : {M : Type 1} → statement M
+extent-verdict-spec =
+    tie.close
+    (tie.spec
+    take-at-requires
+    is-outside-requires
+    returns
+    take-at-requires-2
+    is-outside-requires-2
+    returns-2
+    cast-body-verdict
+    body-verdict-requires
+    returns-3)

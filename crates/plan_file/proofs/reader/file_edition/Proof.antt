@@ -1,0 +1,20 @@
+-- `file_edition` meets its contract: a field of four bits fits its type.
+use native.Mathlib.Omega.{arith}
+use Rattle.postman.specs.PlanFile.{edition}
+use Rattle.postman.specs.Laws.BitField.{field-lt}
+use borrow.Author.Needs.{needs}
+use Rattle.plan_file.proofs.reader.file_edition.Statement.{statement}
+use Rattle.plan_file.proofs.reader.file_edition.Tie as tie
+
+take-at-requires : tie.Need-take-at-requires
+take-at-requires c κs = search needs
+
+cast-result : tie.Need-cast-result
+cast-result c = omega (arith, c .take-at .ensures .0, field-lt (c .before .before .args .s .now) 0 4)
+
+returns : tie.Need-returns
+unfolding edition
+returns c = c .take-at .ensures .0
+
+pub file-edition-spec : {M : Type 1} → statement M
+file-edition-spec = tie.close (tie.spec take-at-requires cast-result returns)
