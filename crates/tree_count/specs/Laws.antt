@@ -1,0 +1,3 @@
+pub mod Arrival
+pub mod Choices
+pub mod Recursion
