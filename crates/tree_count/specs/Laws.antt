@@ -1,3 +1,4 @@
 pub mod Arrival
 pub mod Choices
 pub mod Recursion
+pub mod Plan
