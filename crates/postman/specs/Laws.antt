@@ -32,3 +32,4 @@ pub mod Acceptance
 pub mod PlanFile
 pub mod Optimality
 pub mod Search
+pub mod TreeCount

@@ -2,3 +2,4 @@ pub mod Arrival
 pub mod Choices
 pub mod Recursion
 pub mod Plan
+pub mod Matrix

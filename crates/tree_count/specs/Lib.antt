@@ -1,4 +1,5 @@
 -- What the functions compute.
 pub mod Recursion
+pub mod Matrix
 -- What is proved about it.
 pub mod Laws
