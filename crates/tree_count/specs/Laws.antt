@@ -3,3 +3,4 @@ pub mod Choices
 pub mod Recursion
 pub mod Plan
 pub mod Matrix
+pub mod Entries
