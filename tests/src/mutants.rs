@@ -2,9 +2,10 @@
 
 mod answers;
 mod codecs;
+mod counters;
 mod steps;
 
-use crate::planner::{Codec, Planner};
+use crate::planner::{Codec, Counter, Planner};
 use crate::properties::Property;
 
 pub struct Mutant<T: ?Sized> {
@@ -24,4 +25,9 @@ pub fn planners() -> Vec<Mutant<dyn Planner>> {
 /// Wrong in reading or writing.
 pub fn codecs() -> Vec<Mutant<dyn Codec>> {
     codecs::mutants()
+}
+
+/// Wrong in counting trees.
+pub fn counters() -> Vec<Mutant<dyn Counter>> {
+    counters::mutants()
 }

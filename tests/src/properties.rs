@@ -2,9 +2,11 @@
 
 mod call;
 mod codec;
+mod count;
 
 pub use call::{examine_answer, examine_refusal, Case};
 pub use codec::{examine_codec, examine_writing};
+pub use count::{examine_count, examine_whole};
 
 use std::collections::BTreeSet;
 
@@ -67,10 +69,14 @@ pub enum Property {
     Writing,
     /// Bytes after the file, and all in a refusal, are kept.
     BytesKept,
+    /// The count answers N, or that it is above 4,294,967,295, or the first refusal that applies.
+    TreeCount,
+    /// Whole exactly when that number is known and no larger than the budget.
+    WholeTold,
 }
 
 /// All of them.
-pub const PROPERTIES: [Property; 28] = {
+pub const PROPERTIES: [Property; 30] = {
     use Property::*;
     [
         Returns,
@@ -101,6 +107,8 @@ pub const PROPERTIES: [Property; 28] = {
         RecordsKept,
         Writing,
         BytesKept,
+        TreeCount,
+        WholeTold,
     ]
 };
 

@@ -1,7 +1,9 @@
 //! The suite: what every planner is put through.
 
+mod counts;
 mod stated;
 
+pub use counts::{run_count, run_counts};
 pub use stated::{case_a, case_b, case_c, run_stated, FILE_A};
 
 use crate::instances::{damaged, dead_ends, fullest, longest, random_bytes, random_plan, towns, Shape};

@@ -28,4 +28,6 @@ extern "C" {
         multipliers: *mut i64,
         multipliers_len: usize,
     ) -> i64;
+
+    pub fn postman_tree_count(plan: *const u8, plan_len: usize) -> i64;
 }

@@ -1,6 +1,6 @@
 //! The proved library behind the traits, through the package `postman` (`bindings/rust`).
 
-use super::{Answer, Codec, Planner, Refusal};
+use super::{Answer, Codec, Counter, Planner, Refusal, TreeCount};
 use crate::plan::{Arc, MOST_VERTICES};
 use postman::limits::{ANSWER_WORDS, RECORD_BYTES};
 use postman::raw;
@@ -51,6 +51,12 @@ impl Codec for Proved {
     fn write(&self, n: u32, records: &[Arc], bytes: &mut [u8]) -> Result<usize, Refusal> {
         let lent: Vec<u8> = records.iter().flat_map(to_bytes).collect();
         raw::write_plan(n, &lent, bytes).map_err(postman::Refusal::number)
+    }
+}
+
+impl Counter for Proved {
+    fn tree_count(&self, plan: &[u8]) -> Result<TreeCount, Refusal> {
+        raw::tree_count(plan).map(|count| TreeCount::of(count.into())).map_err(postman::Refusal::number)
     }
 }
 
