@@ -1,14 +1,14 @@
 -- The count's refusals: the file's, then 10 to 12 as the network tells them. And a number is counted the same once it is capped.
-use mathlib.Core.Path.{_≡_, refl, sym, ap, _∙_, subst, subst⁻¹}
+use mathlib.Core.Path.{_≡_, refl, sym, ap, _∙_}
 use mathlib.Core.Logic.{_≢_}
 use mathlib.Core.Bool.{Bool}
 use mathlib.Core.List.{List, [], _∷_, _++_}
 use mathlib.Core.Option.{Option, none, some}
-use Prim.Native.Nat.{ℕ, _≤_, _<_, min}
+use Prim.Native.Nat.{ℕ, _≤_, min}
 use native.Mathlib.Decide.{decLe}
 use native.Mathlib.Omega.{arith}
 use lib.ListN.{length}
-use lib.Dec.{T, eqb, ltb, nltb→le}
+use lib.Dec.{eqb, ltb, nltb→le}
 use Rattle.postman.specs.Plan.{Plan, WellFormed, requiredArcs}
 use Rattle.postman.specs.Component.{componentCount}
 use Rattle.postman.specs.Arborescence.{arborescenceCount}
@@ -16,10 +16,10 @@ use Rattle.postman.specs.Refusal.{Conditions, firstRefusal, refused, given, ans
 use Rattle.postman.specs.PlanFile.{fileConditions, planOf}
 use Rattle.postman.specs.PlanCall.{isCutOff, earlierConditions, callRefusal}
 use Rattle.postman.specs.Laws.Acceptance.{call-conditions}
-use Rattle.postman.specs.TreeCount.{TreeCount, counted, treeCount, countConditions, countRefusal, countCall}
+use Rattle.postman.specs.TreeCount.{counted, treeCount, countConditions, countRefusal, countCall}
 use Rattle.postman.specs.Laws.Tests.{eqb-other}
 use Rattle.postman.specs.Laws.Refusal.{first-on, first-stop, accepted-cons, cons-accepted, accepted-append, append-accepted}
-use Rattle.postman.specs.Laws.TreeCount.{counted-known, counted-above}
+use Rattle.postman.specs.Laws.TreeCount.{counted-above}
 use Rattle.planner.specs.Refusals.{networkRefusal, planRefusal}
 use Rattle.planner.specs.Laws.Idle.{idle}
 

@@ -13,7 +13,7 @@ use Rattle.postman.specs.Plan.{Plan}
 use Rattle.postman.specs.Component.{componentCount}
 use Rattle.postman.specs.Arborescence.{parent, candidates, arrives, arborescences, arborescenceCount}
 use Rattle.postman.specs.PlanCall.{highestBudget, isWhole}
-use Rattle.postman.specs.TreeCount.{TreeCount, known, above, counted, treeCount, isKnownWithin}
+use Rattle.postman.specs.TreeCount.{known, above, counted, treeCount, isKnownWithin}
 
 module _ (n : ℕ) where
   pub counted-known : n ≤ 4294967295 → counted n ≡ known n
