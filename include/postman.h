@@ -1,5 +1,6 @@
 /*
- * The survey drive's planner: reading and writing plan files, the plan call and the short call, and distances.
+ * The survey drive's planner: reading and writing plan files, the plan call and the short call, the number of trees,
+ * and distances.
  *
  * A slice is lent as a pointer and a length. The length counts elements, not bytes. Pointers are not null, not even with
  * a length of 0, and the slices of one call do not overlap. That is all that is asked of a caller: any bytes, numbers and
@@ -36,6 +37,9 @@ extern "C" {
 /* The budget of the short call, and the highest one of the plan call. The lowest is 1. */
 #define POSTMAN_DEFAULT_BUDGET 100000
 #define POSTMAN_HIGHEST_BUDGET 1000000
+
+/* The highest number of trees that is answered. */
+#define POSTMAN_HIGHEST_COUNT 4294967295u
 
 /* The distance that stands for "no path". A plan with such a distance between required vertices is refused with 12. */
 #define POSTMAN_NO_PATH 4294967295u
@@ -156,6 +160,14 @@ int64_t postman_short_call(const uint8_t *plan, size_t plan_len, uint16_t *sheet
  */
 int64_t postman_distances(const uint8_t *plan, size_t plan_len, const uint16_t *pairs, size_t pairs_len,
                           uint32_t *distances, size_t distances_len);
+
+/*
+ * Answers the number of trees of the file `plan`, exactly, or 4294967296, one more than POSTMAN_HIGHEST_COUNT, for every
+ * number above that; or minus a refusal: 1 to 7 or 10 to 13.
+ *
+ * The plan call answers POSTMAN_WHOLE 1 exactly when this number is at most its budget.
+ */
+int64_t postman_tree_count(const uint8_t *plan, size_t plan_len);
 
 #ifdef __cplusplus
 }

@@ -1,7 +1,9 @@
 //! Plans to try a planner on: random ones, and those of the benchmark.
 
+mod joined;
 mod towns;
 
+pub use joined::{crossing, even, joined, one_above, star, Entries, HIGHEST_COUNT};
 pub use towns::{dead_ends, towns};
 
 use crate::oracle::file_of;

@@ -2,10 +2,11 @@
 
 mod answers;
 mod codecs;
+mod counters;
 mod pages;
 mod steps;
 
-use crate::planner::{Codec, DistanceCall, Planner};
+use crate::planner::{Codec, Counter, DistanceCall, Planner};
 use crate::properties::Property;
 
 pub struct Mutant<T: ?Sized> {
@@ -30,4 +31,9 @@ pub fn codecs() -> Vec<Mutant<dyn Codec>> {
 /// Wrong in distances.
 pub fn pages() -> Vec<Mutant<dyn DistanceCall>> {
     pages::mutants()
+}
+
+/// Wrong in counting trees.
+pub fn counters() -> Vec<Mutant<dyn Counter>> {
+    counters::mutants()
 }

@@ -14,8 +14,10 @@
 
 use crate::plan::{Arc, MOST_VERTICES};
 
+mod counter;
 #[cfg(feature = "proved")]
 mod proved;
+pub use counter::{Counter, TreeCount};
 #[cfg(feature = "proved")]
 pub use proved::Proved;
 

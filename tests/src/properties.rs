@@ -3,11 +3,13 @@
 mod call;
 mod checking;
 mod codec;
+mod count;
 mod page;
 
 pub use call::{examine_answer, examine_refusal, Case};
 pub use checking::examine_checking;
 pub use codec::{examine_codec, examine_writing};
+pub use count::{examine_count, examine_whole};
 pub use page::examine_page;
 
 use std::collections::BTreeSet;
@@ -85,10 +87,14 @@ pub enum Property {
     Searches,
     /// Each entry is what the page of that pair alone gives.
     SingleQuery,
+    /// The count answers N, or that it is above 4,294,967,295, or the first refusal that applies.
+    TreeCount,
+    /// Whole exactly when that number is known and no larger than the budget.
+    WholeTold,
 }
 
 /// All of them.
-pub const PROPERTIES: [Property; 35] = {
+pub const PROPERTIES: [Property; 37] = {
     use Property::*;
     [
         Returns,
@@ -126,6 +132,8 @@ pub const PROPERTIES: [Property; 35] = {
         EntriesKept,
         Searches,
         SingleQuery,
+        TreeCount,
+        WholeTold,
     ]
 };
 

@@ -1,10 +1,12 @@
 //! The suite: what every planner is put through.
 
+mod counts;
 mod editions;
 mod faults;
 mod pages;
 mod stated;
 
+pub use counts::{run_count, run_counts};
 pub use editions::{run_stated_codec, FILE_A_CHECKED};
 pub use pages::run_pages;
 pub use stated::{case_a, case_b, case_c, run_stated, FILE_A};

@@ -2,10 +2,11 @@
 //! catches some wrong planner.
 
 use postman_tests::instances::Shape;
-use postman_tests::mutants::{codecs, pages, planners};
+use postman_tests::mutants::{codecs, counters, pages, planners};
 use postman_tests::oracle::Effort;
 use postman_tests::properties::{Case, Findings, Property, PROPERTIES};
 use postman_tests::suite;
+use postman_tests::yardstick::Yardstick;
 
 const SEED: u64 = 50_000;
 
@@ -72,10 +73,23 @@ fn wrong_distance_calls_are_caught() {
 }
 
 #[test]
+fn wrong_counts_are_caught() {
+    for mutant in counters() {
+        let mut found = Findings::default();
+        suite::run_counts(&mut found, &*mutant.wrong, SEED, 1);
+        (SEED..SEED + 200)
+            .for_each(|seed| suite::run_count(&mut found, &*mutant.wrong, &Yardstick, seed, Shape::small));
+        println!("{}: {:?}", mutant.name, found.violated);
+        assert_eq!(missed(mutant.violates, &found), [], "{}", mutant.name);
+    }
+}
+
+#[test]
 fn every_property_catches_some_mutant() {
     let mut caught: Vec<Property> = planners().iter().flat_map(|m| m.violates.to_vec()).collect();
     caught.extend(codecs().iter().flat_map(|m| m.violates.to_vec()));
     caught.extend(pages().iter().flat_map(|m| m.violates.to_vec()));
+    caught.extend(counters().iter().flat_map(|m| m.violates.to_vec()));
     let idle: Vec<Property> = PROPERTIES.into_iter().filter(|p| !caught.contains(p)).collect();
     assert_eq!(idle, []);
 }

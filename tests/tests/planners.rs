@@ -5,7 +5,7 @@
 
 use postman_tests::instances::Shape;
 use postman_tests::oracle::Effort;
-use postman_tests::planner::{Codec, DistanceCall, Planner};
+use postman_tests::planner::{Codec, Counter, DistanceCall, Planner};
 use postman_tests::properties::Findings;
 use postman_tests::random::{setting, Random};
 use postman_tests::{suite, yardstick::Yardstick};
@@ -79,6 +79,20 @@ fn pages(name: &str, call: &dyn DistanceCall) {
     found.assert_none(name, seed());
 }
 
+/// The stated numbers and files of every length; then random plans, small and large, with the plan call beside the count.
+fn numbers_of_trees<T: Counter + Planner>(name: &str, planner: &T) {
+    let mut found = Findings::default();
+    suite::run_counts(&mut found, planner, seed(), rounds(2));
+    found.assert_none(name, seed());
+    for (count, shape) in [(3_000, Shape::small as fn(&mut Random) -> Shape), (200, Shape::large)] {
+        for seed in seed()..seed() + rounds(count) {
+            let mut found = Findings::default();
+            suite::run_count(&mut found, planner, planner, seed, shape);
+            found.assert_none(name, seed);
+        }
+    }
+}
+
 macro_rules! held_to_all {
     ($name:ident, $planner:expr) => {
         mod $name {
@@ -112,6 +126,11 @@ macro_rules! held_to_all {
             #[test]
             fn files_of_every_length() {
                 files(stringify!($name), &$planner);
+            }
+
+            #[test]
+            fn numbers_of_trees() {
+                super::numbers_of_trees(stringify!($name), &$planner);
             }
 
             #[test]

@@ -44,4 +44,6 @@ extern "C" {
         distances: *mut u32,
         distances_len: usize,
     ) -> i64;
+
+    pub fn postman_tree_count(plan: *const u8, plan_len: usize) -> i64;
 }

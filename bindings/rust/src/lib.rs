@@ -37,9 +37,11 @@ pub mod limits;
 mod plan;
 pub mod raw;
 mod refusal;
+mod tree_count;
 
 pub use answer::{plan_call, short_call, Answer};
 pub use distances::{distances, Distances};
 pub use edition::Edition;
 pub use plan::{Arc, Plan, Standing};
 pub use refusal::Refusal;
+pub use tree_count::{tree_count, TreeCount};

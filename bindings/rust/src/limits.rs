@@ -18,6 +18,9 @@ pub const DEFAULT_BUDGET: u64 = 100_000;
 /// The highest budget of the plan call. The lowest is 1.
 pub const HIGHEST_BUDGET: u64 = 1_000_000;
 
+/// The highest number of trees that is answered.
+pub const HIGHEST_COUNT: u32 = 4_294_967_295;
+
 /// The distance that stands for "no path".
 pub const NO_PATH: u32 = 4_294_967_295;
 

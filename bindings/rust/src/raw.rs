@@ -147,6 +147,18 @@ pub fn distances(plan: &[u8], pairs: &[u16], distances: &mut [u32]) -> Result<us
     })
 }
 
+/// The number of trees of the file `plan`, exactly, or 4,294,967,296, one more than [`HIGHEST_COUNT`](crate::limits::HIGHEST_COUNT), for every
+/// number above that. Refuses with 1 to 7 and 10 to 13.
+///
+/// ```
+/// let file = [0x10, 0x40, 0x20, 0x01, 0x40, 0x01, 0x41, 0x00, 0x00, 0x03];
+/// assert_eq!(postman::raw::tree_count(&file), Ok(1));
+/// ```
+pub fn tree_count(plan: &[u8]) -> Result<u64, Refusal> {
+    // SAFETY: as in `read_plan`.
+    unless_refused(unsafe { ffi::postman_tree_count(plan.as_ptr(), plan.len()) }).map(|count| count as u64)
+}
+
 #[cfg(test)]
 mod tests {
     use super::*;

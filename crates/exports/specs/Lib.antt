@@ -3,5 +3,6 @@ pub mod Number
 pub mod RecordBytes
 pub mod Codec
 pub mod Answer
+pub mod Count
 -- What is proved about them.
 pub mod Laws

@@ -4,3 +4,4 @@ pub mod record_bytes; // a record as seven bytes
 pub mod codec; // reading and writing plan files
 pub mod call; // the plan call and the short call
 pub mod distance; // the distance call
+pub mod count; // the number of trees

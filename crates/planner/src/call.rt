@@ -37,7 +37,7 @@ fn refused(r: Refusal) -> Planned
 }
 
 // 10, 11 and 12, by what the network holds.
-fn network_verdict(components: u8, cut_off: bool) -> Verdict
+pub fn network_verdict(components: u8, cut_off: bool) -> Verdict
     ensures { λ r. ⌜ verdictNumber r ≡ networkRefusal components «cut_off» ⌝ }
 {
     if components == 0 {

@@ -36,3 +36,4 @@ pub mod DistanceCall
 pub mod PlanFile
 pub mod Optimality
 pub mod Search
+pub mod TreeCount

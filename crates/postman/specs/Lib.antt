@@ -13,6 +13,7 @@ pub mod Arborescence
 pub mod Balancing
 pub mod LagrangianBound
 pub mod PlanCall
+pub mod TreeCount
 pub mod Guarantee
 pub mod DistanceCall
 -- What is proved about them.

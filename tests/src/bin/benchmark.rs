@@ -3,10 +3,10 @@
 //! The planners take turns. A time is the processor's, not the clock's, so that other work on the machine counts little, and it is the least of several
 //! runs; beside it stands how far the slowest run was above it, which is the machine's noise. The sheet is cleared before each run, outside the time.
 
-use postman_tests::instances::{adverse_ring, fullest, longest, towns};
+use postman_tests::instances::{adverse_ring, crossing, even, fullest, joined, longest, towns};
 use postman_tests::oracle::{count_trees, file_of, Graph};
 use postman_tests::plan::{Plan, MOST_PAIRS, SHEET_PLACES};
-use postman_tests::planner::{Answer, Codec, DistanceCall, Planner};
+use postman_tests::planner::{Answer, Codec, Counter, DistanceCall, Planner};
 use postman_tests::yardstick::{Balance, Steps, Yardstick};
 use std::cell::Cell;
 use std::time::{Duration, Instant};
@@ -115,6 +115,25 @@ fn codecs() {
     }
 }
 
+/// The number of trees: of the towns, of a plan in which each part has entries from each other, and of the plan that has the most.
+fn counts() {
+    let counters: Vec<(&str, Box<dyn Counter>)> = vec![
+        ("yardstick", Box::new(Yardstick)),
+        #[cfg(feature = "proved")]
+        ("proved", Box::new(postman_tests::planner::Proved)),
+    ];
+    let mut plans = towns();
+    plans.extend([("entries each way", joined(&even(3))), ("crossing", crossing())]);
+    for (plan_name, plan) in plans {
+        let file = file_of(&plan);
+        println!("trees of {plan_name}: {:.3e}", count_trees(&Graph::new(&plan)) as f64);
+        for (name, counter) in &counters {
+            let time = microseconds(|| assert!(counter.tree_count(&file).is_ok()));
+            println!("  {name:<10} {time:>7.1} µs");
+        }
+    }
+}
+
 /// The whole plan call on the plan of the longest drive: one tree, so that what is not fixed is the writing.
 fn longest_drive(planners: &[(&str, Box<dyn Planner>)]) {
     let file = file_of(&longest());
@@ -153,6 +172,7 @@ fn pages() {
 fn main() {
     codecs();
     pages();
+    counts();
     let planners = planners();
     longest_drive(&planners);
     let mut totals = vec![0.0; planners.len()];

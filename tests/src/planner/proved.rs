@@ -1,6 +1,6 @@
 //! The proved library behind the traits, through the package `postman` (`bindings/rust`).
 
-use super::{Answer, Codec, DistanceCall, Planner, Refusal};
+use super::{Answer, Codec, Counter, DistanceCall, Planner, Refusal, TreeCount};
 use crate::plan::{Arc, MOST_VERTICES};
 use postman::limits::{ANSWER_WORDS, RECORD_BYTES};
 use postman::raw;
@@ -58,6 +58,12 @@ impl Codec for Proved {
 impl DistanceCall for Proved {
     fn distances(&self, plan: &[u8], pairs: &[u16], distances: &mut [u32]) -> Result<usize, Refusal> {
         raw::distances(plan, pairs, distances).map_err(postman::Refusal::number)
+    }
+}
+
+impl Counter for Proved {
+    fn tree_count(&self, plan: &[u8]) -> Result<TreeCount, Refusal> {
+        raw::tree_count(plan).map(|count| TreeCount::of(count.into())).map_err(postman::Refusal::number)
     }
 }
 

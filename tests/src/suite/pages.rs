@@ -33,7 +33,10 @@ fn town() -> Plan {
 /// The town's arcs, all of one standing.
 fn all(standing: u8) -> Plan {
     let plan = town();
-    Plan { arcs: plan.arcs.into_iter().map(|a| Arc::new(a.tail.into(), a.head.into(), standing, a.cost)).collect(), ..plan }
+    Plan {
+        arcs: plan.arcs.into_iter().map(|a| Arc::new(a.tail.into(), a.head.into(), standing, a.cost)).collect(),
+        ..plan
+    }
 }
 
 /// Each pair of the town's vertices, as many times as there is room for.

@@ -78,7 +78,7 @@ module _ {A : Type 0} (d : A) (g : ℕ → List A) where
 
 -- ---- the plan's candidates
 
-allOf-cong : {A : Type 0} (f f′ : A → Bool) (xs : List A) → ((x : A) → List·Memᴰ x xs → f x ≡ f′ x) → allOf f xs ≡ allOf f′ xs
+pub allOf-cong : {A : Type 0} (f f′ : A → Bool) (xs : List A) → ((x : A) → List·Memᴰ x xs → f x ≡ f′ x) → allOf f xs ≡ allOf f′ xs
 unfolding allOf
 allOf-cong f f′ [] h = refl
 allOf-cong f f′ (x ∷ xs) h = ap₂ _&&_ (h x (List·Memᴰ·head refl)) (allOf-cong f f′ xs (λ y m. h y (List·Memᴰ·tail m)))

@@ -10,7 +10,7 @@ use Rattle.postman.specs.Lists.{below, upFrom, firstIndex}
 use Rattle.postman.specs.Laws.Membership.{mem-below, below-mem, length-below}
 use Rattle.postman.specs.Laws.Ascending.{index-lt, index-at, index-test}
 
-at-upFrom : (a n k : ℕ) → k < n → getD (upFrom a n) k 0 ≡ a + k
+pub at-upFrom : (a n k : ℕ) → k < n → getD (upFrom a n) k 0 ≡ a + k
 unfolding upFrom
 at-upFrom a zero k l = absurd (omega arith)
 at-upFrom a (suc n) zero l = omega arith

@@ -1,0 +1,5 @@
+-- What the call answers.
+pub mod Contract
+-- What is proved about it.
+pub mod Laws
+pub mod Theorem

@@ -1,0 +1,6 @@
+pub mod Arrival
+pub mod Choices
+pub mod Recursion
+pub mod Plan
+pub mod Matrix
+pub mod Entries

@@ -1,0 +1,6 @@
+-- What the functions compute.
+pub mod Recursion
+pub mod Matrix
+pub mod Entries
+-- What is proved about it.
+pub mod Laws
