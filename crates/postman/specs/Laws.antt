@@ -34,3 +34,4 @@ pub mod Acceptance
 pub mod PlanFile
 pub mod Optimality
 pub mod Search
+pub mod Judge

@@ -14,6 +14,7 @@ pub mod Balancing
 pub mod LagrangianBound
 pub mod PlanCall
 pub mod Guarantee
+pub mod Judge
 -- What is proved about them.
 pub mod Laws
 pub mod Theorem

@@ -18,6 +18,9 @@ pub enum Refusal {
     Scattered,
     CutOff,
     Repeated,
+    Foreign,
+    Unjoined,
+    Missed,
 }
 
 // The number of a refusal.
@@ -38,6 +41,9 @@ pub fn refusal_number(r: Refusal) -> u8
         Refusal::Scattered => 11,
         Refusal::CutOff => 12,
         Refusal::Repeated => 13,
+        Refusal::Foreign => 14,
+        Refusal::Unjoined => 15,
+        Refusal::Missed => 16,
     }
 }
 
