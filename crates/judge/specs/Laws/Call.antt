@@ -1,7 +1,7 @@
 -- Each test of the code is a condition of the definition. Rows that hold the arcs of a plan are judged as the plan is, and the contract follows from the answer.
 use mathlib.Core.Path.{_≡_, refl, sym, ap, _∙_, subst}
-use mathlib.Core.Bool.{Bool, true, false, not, cond}
-use mathlib.Core.List.{List, [], _∷_, _++_}
+use mathlib.Core.Bool.{Bool, true, false, cond}
+use mathlib.Core.List.{List, [], _∷_}
 use mathlib.Core.Option.{Option, none, some}
 use Prim.Native.Nat.{ℕ, _^_, _≤_, _<_}
 use native.Mathlib.Decide.{decLe}
@@ -10,10 +10,10 @@ use borrow.Author.Tests.{lt-ltb, le-ltb}
 use lib.ListN.{length, List·getD-eq-default}
 use lib.Dec.{eqb}
 use Rattle.postman.specs.Plan.{Arc, Plan, arcAt, requiredArcs, requiredNumbers, WellFormed}
-use Rattle.postman.specs.Refusal.{firstRefusal, Answer, refused, given, answer}
+use Rattle.postman.specs.Refusal.{firstRefusal, refused, given, answer}
 use Rattle.postman.specs.PlanFile.{edition, isEdition, fileConditions, planOf}
-use Rattle.postman.specs.Tour.{IsTour, tourCost}
-use Rattle.postman.specs.Judge.{isForeign, hasForeign, isUnjoined, isMissed, faultConditions, highestPlaces, lentConditions, unjudgedConditions, judgeRefusal, judgeAnswer}
+use Rattle.postman.specs.Tour.{tourCost}
+use Rattle.postman.specs.Judge.{isForeign, hasForeign, isUnjoined, isMissed, faultConditions, highestPlaces, lentConditions, judgeRefusal, judgeAnswer}
 use Rattle.postman.specs.Laws.Membership.{getD-mem}
 use Rattle.postman.specs.Laws.Refusal.{first-on, first-stop, answer-refused}
 use Rattle.postman.specs.Laws.Judge.{lent-short, lent-long, judge-conditions, judged-cost, tour-judged, tour-cost-small}
@@ -53,9 +53,11 @@ module _ (p : Plan) (w : List ℕ) where
 
 -- ---- the rows of a plan
 
+-- nothing goes by the number of vertices
 by-arcs : (p : Plan) (w : List ℕ) → planAnswer p w ≡ planAnswer (record { n = 0; arcs = p .arcs }) w
 unfolding planAnswer listAnswer requiredArcs requiredNumbers faultConditions hasForeign isForeign isUnjoined isMissed tourCost
-by-arcs p w = refl
+by-arcs p [] = refl
+by-arcs p (k ∷ w) = refl
 
 module _ (n : ℕ) (rows : List (List ℕ)) (p : Plan) (e : planIn n rows ≡ p) where
   arcs-same : planOver rows .arcs ≡ p .arcs
@@ -92,13 +94,12 @@ module _ (bytes w : List ℕ) where
 
   -- one that is not
   pub good-answer : length w ≤ highestPlaces → firstRefusal (fileConditions bytes) ≡ none → planAnswer (planOf bytes) w ≡ judgeAnswer bytes w
-  unfolding planAnswer listAnswer judgeAnswer firstRefusal
+  unfolding planAnswer listAnswer judgeAnswer firstRefusal answer
   good-answer l e =
       at (eqb (length (requiredArcs (planOf bytes))) 0) (firstRefusal (faultConditions (planOf bytes) w)) (tourCost (planOf bytes) w)
       ∙ ap (λ (o : Option ℕ). answer o (tourCost (planOf bytes) w)) (sym (judge-conditions bytes w ∙ first-on (lentConditions bytes (length w)) _ (lent-short bytes (length w) l ∙ e)))
     where
       at : (b : Bool) (o : Option ℕ) (c : ℕ) → cond b (refused 10) (answer o c) ≡ answer (cond b (some 10) o) c
-      unfolding answer
       at true o c = refl
       at false o c = refl
 

@@ -47,10 +47,10 @@ module _ (p : Plan) (w : List ℕ) where
       at (k ∷ w) e = absurd (omega arith)
 
   pub no-gap-start : 0 < length w → NoGapBefore (arc 0 .head) 1
+  unfolding isUnjoined
   no-gap-start = at w
     where
       at : (w : List ℕ) → 0 < length w → isUnjoined p w ≡ isBroken (p .arcs) (arcAt (p .arcs) (getD w 0 0) .head) (drop 1 w) (arcAt (p .arcs) (getD w 0 0) .tail)
-      unfolding isUnjoined
       at [] l = absurd (omega arith)
       at (k ∷ w) l = refl
 

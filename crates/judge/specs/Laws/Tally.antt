@@ -116,8 +116,8 @@ has-required p flags h =
 abbrev without : ℕ → List ℕ → List ℕ
 without k = select (λ j. not (eqb k j))
 
-other : {k j : ℕ} → T (not (eqb k j)) → T (not (eqb j k))
-other {k} {j} t = not-T (eqb j k) (λ u. eqb-other t (sym (eqb→eq j k u)))
+other : (k j : ℕ) → T (not (eqb k j)) → T (not (eqb j k))
+other k j t = not-T (eqb j k) (λ u. eqb-other t (sym (eqb→eq j k u)))
 
 module _ (k : ℕ) where
   without-self : (due : List ℕ) → anyOf (eqb k) (without k due) ≡ false
@@ -142,23 +142,22 @@ module _ (k : ℕ) where
 
   -- what is missed of the arcs that are due
   missed-without : (w due : List ℕ) → anyOf (λ j. not (anyOf (eqb j) (k ∷ w))) due ≡ anyOf (λ j. not (anyOf (eqb j) w)) (without k due)
+  unfolding anyOf
   missed-without w due =
       same-test _ _
       (λ t.
       let r = anyOf-at (λ j. not (anyOf (eqb j) (k ∷ w))) due t in
       let u = missed-parts (r .0) (r .2) in
-      anyOf-mem (λ j. not (anyOf (eqb j) w)) (mem-select (λ j. not (eqb k j)) (r .1) (other (u .0))) (u .1))
+      anyOf-mem (λ j. not (anyOf (eqb j) w)) (mem-select (λ j. not (eqb k j)) (r .1) (other (r .0) k (u .0))) (u .1))
       (λ t.
       let r = anyOf-at (λ j. not (anyOf (eqb j) w)) (without k due) t in
       let s = select-mem (λ j. not (eqb k j)) due (r .1) in
-      anyOf-mem (λ j. not (anyOf (eqb j) (k ∷ w))) (s .0) (parts-missed (r .0) (other (s .1)) (r .2)))
+      anyOf-mem (λ j. not (anyOf (eqb j) (k ∷ w))) (s .0) (parts-missed (r .0) (other k (r .0) (s .1)) (r .2)))
     where
       missed-parts : (j : ℕ) → T (not (anyOf (eqb j) (k ∷ w))) → T (not (eqb j k)) × T (not (anyOf (eqb j) w))
-      unfolding anyOf
       missed-parts j t = not-or (eqb j k) (anyOf (eqb j) w) t
 
       parts-missed : (j : ℕ) → T (not (eqb j k)) → T (not (anyOf (eqb j) w)) → T (not (anyOf (eqb j) (k ∷ w)))
-      unfolding anyOf
       parts-missed j t u = neither (eqb j k) (anyOf (eqb j) w) t u
 
   -- what a pass costs, and the rest
@@ -220,6 +219,7 @@ module _ (p : Plan) (w : List ℕ) where
     }
 
   pub tallied-end : (r : Tally) (i : ℕ) → length w ≤ i → IsTallied (r .due) (r .cost) i → IsTally p w r
+  unfolding tourCostDue anyOf
   tallied-end r i l h =
       let e = no-places w i l in
       let c = nothing-left (h .due) in
@@ -229,10 +229,8 @@ module _ (p : Plan) (w : List ℕ) where
       }
     where
       nothing-due : (arcs : List Arc) (due : List ℕ) (c : ℕ) → c + tourCostDue arcs due [] ≡ c
-      unfolding tourCostDue
       nothing-due arcs due c = omega arith
 
       nothing-left : (due : List ℕ) → anyOf (λ k. not (anyOf (eqb k) [])) due ≡ not (eqb (length due) 0)
-      unfolding anyOf
       nothing-left [] = refl
       nothing-left (x ∷ due) = ap not (sym (ne-eqb (length (x ∷ due)) 0 (λ e. omega arith)))
