@@ -13,16 +13,16 @@ use lib.Dec.{T, T-not, not-T, eqb, eqb→eq, eqb-refl}
 use Rattle.postman.specs.Lists.{select, anyOf, below}
 use Rattle.postman.specs.Plan.{Arc, Plan, arcAt, requiredArcs, requiredNumbers}
 use Rattle.postman.specs.Tour.{tourCostDue, tourCost}
-use Rattle.postman.specs.Judge.{isMissed}
-use Rattle.postman.specs.Laws.Tests.{same-test, not-or, is-false, is-true, eqb-other}
-use Rattle.postman.specs.Laws.Membership.{mem-select, select-mem, anyOf-mem, anyOf-at, mem-below}
+use Rattle.postman.specs.Judge.{hasForeign, isMissed}
+use Rattle.postman.specs.Laws.Tests.{same-test, not-or, is-false, is-true, of-true, eqb-other}
+use Rattle.postman.specs.Laws.Membership.{mem-select, select-mem, anyOf-mem, anyOf-at, mem-below, below-mem}
 use Rattle.postman.specs.Laws.Required.{numbers-mem, mem-numbers, numbers-arcs}
 use Rattle.postman.specs.Laws.Acceptance.{neither}
 use Rattle.plan.specs.Laws.Rows.{rows-length, row-arc}
 use Rattle.judge.specs.declared.tally.Tally.{Tally}
 use Rattle.judge.specs.Rows.{planOver}
 use Rattle.judge.specs.Tally.{AreDue, hasFlag, IsTally}
-use Rattle.judge.specs.Laws.Places.{places-from, no-places}
+use Rattle.judge.specs.Laws.Places.{places-from, no-places, place-arc}
 
 -- ---- the flags of the must arcs
 
@@ -100,6 +100,16 @@ module _ (flags : List Bool) where
   has-due (x ∷ due) h =
       is-true (some-flag x (h .long) (subst⁻¹ T (h .flag x) (anyOf-mem (eqb x) {x = x} {xs = x ∷ due} (List·Memᴰ·head refl) (eqb-refl x))))
       ∙ ap not (sym (ne-eqb (length (x ∷ due)) 0 (λ e. omega arith)))
+
+-- as a scan of the flags finds it
+module _ (flags : List Bool) where
+  pub flag-found : (k : ℕ) → k < 256 → getD flags k false ≡ true → true ≡ hasFlag flags
+  unfolding hasFlag
+  flag-found k l e = sym (is-true (anyOf-mem (λ k. getD flags k false) (mem-below {n = 256} {k = k} l) (of-true e)))
+
+  pub no-flag : ((k : ℕ) → k < 256 → getD flags k false ≡ false) → false ≡ hasFlag flags
+  unfolding hasFlag
+  no-flag h = sym (is-false {b = anyOf (λ k. getD flags k false) (below 256)} (λ t. (let r = anyOf-at (λ k. getD flags k false) (below 256) t in rw (h (r .0) (below-mem (r .1))) at (r .2))))
 
 -- no must arc is there exactly when no flag is set
 pub has-required : (p : Plan) (flags : List Bool) → AreDue flags (requiredNumbers p) → eqb (length (requiredArcs p)) 0 ≡ not (hasFlag flags)
@@ -207,10 +217,10 @@ module _ (p : Plan) (w : List ℕ) where
         ∙ ap (λ c. cost + c) (sym (pass-due k (p .arcs) (drop (i + 1) w) (h .due)) ∙ ap (tourCostDue (p .arcs) (h .due)) (sym (places-from w i l)))
         ∙ h .costs
 
-    pub tallied-room : cost + passCost ≤ tourCost p w
+    tallied-room : cost + passCost ≤ tourCost p w
     tallied-room = let e = spent in omega arith
 
-    pub tallied-next : k < 256 → IsTallied (set flags k false) (cost + passCost) (i + 1)
+    tallied-next : k < 256 → IsTallied (set flags k false) (cost + passCost) (i + 1)
     tallied-next m = record {
       due = without k (h .due);
       flags-are = cleared k flags (h .due) m (h .flags-are);
@@ -234,3 +244,19 @@ module _ (p : Plan) (w : List ℕ) where
       nothing-left : (due : List ℕ) → anyOf (λ k. not (anyOf (eqb k) [])) due ≡ not (eqb (length due) 0)
       nothing-left [] = refl
       nothing-left (x ∷ due) = ap not (sym (ne-eqb (length (x ∷ due)) 0 (λ e. omega arith)))
+
+-- one place more, where x is what the row's numbers say that the pass costs
+module _ (rows : List (List ℕ)) (w : List ℕ) (known : hasForeign (planOver rows) w ≡ false) (flags : List Bool) (cost i : ℕ) (l : i < length w)
+    (h : IsTallied (planOver rows) w flags cost i) (x : ℕ)
+    (e : x ≡ cond (getD flags (getD w i 0) false) (getD (getD rows (getD w i 0) []) 4 0) (getD (getD rows (getD w i 0) []) 3 0)) where
+  abbrev at : ℕ
+  at = getD w i 0
+
+  paid : cond (getD flags at false) (arcAt (planOver rows .arcs) at .service) (arcAt (planOver rows .arcs) at .cost) ≡ x
+  paid = ap (λ (a : Arc). cond (getD flags at false) (a .service) (a .cost)) (place-arc rows w known i l) ∙ sym e
+
+  pub tally-room : cost + x ≤ tourCost (planOver rows) w
+  tally-room = subst (λ x. cost + x ≤ tourCost (planOver rows) w) paid (tallied-room (planOver rows) w flags cost i l h)
+
+  pub tally-more : at < 256 → IsTallied (planOver rows) w (set flags at false) (cost + x) (i + 1)
+  tally-more m = subst (λ x. IsTallied (planOver rows) w (set flags at false) (cost + x) (i + 1)) paid (tallied-next (planOver rows) w flags cost i l h m)

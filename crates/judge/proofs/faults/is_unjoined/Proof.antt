@@ -1,110 +1,147 @@
+-- The invariant: there is no gap before place i, and v is the head of the arc before it.
+use mathlib.Core.Path.{_≡_, refl, sym, ap, _∙_}
+use Prim.Native.Nat.{ℕ, _+_, _-_, _≤_, _<_}
+use native.Mathlib.Omega.{arith}
+use lib.ListN.{length, getD}
+use mathlib.Core.Path.{subst}
+use mathlib.Core.Bool.{not}
+use lib.Dec.{eqb}
+use Rattle.postman.specs.Plan.{Arc}
+use Rattle.judge.specs.Rows.{planOver}
+use Rattle.judge.specs.Laws.Places.{place-row, place-arc}
+use Rattle.judge.specs.Laws.Faults.{NoGapBefore, no-gap-none, no-gap-start, no-gap-next, gap-here, last-joint}
 use borrow.Author.Needs.{needs}
 use Rattle.judge.proofs.faults.is_unjoined.Statement.{statement}
 use Rattle.judge.proofs.faults.is_unjoined.Tie as tie
-use Rattle.judge.proofs.faults.is_unjoined.Reads as reads
-use Rattle.judge.proofs.faults.is_unjoined.Lts as lts
 
 abbrev Inv-loop : tie.InvT-loop
-Inv-loop arcs places first v₀ i₀ i-end v i = ?
+Inv-loop arcs places first v₀ i₀ i-end v i = (i-end ≡ length places) × (1 ≤ i) × (i ≤ i-end) × NoGapBefore (planOver arcs) places v i
 
 abbrev μ-loop : tie.MeasureT-loop
-μ-loop arcs places first v₀ i₀ i-end v i = ?
+μ-loop arcs places first v₀ i₀ i-end v i = i-end - i
 
--- src/faults.rt:35:9
 returns : tie.Need-returns Inv-loop μ-loop
-returns c = search needs
+returns c = no-gap-none (planOver (c .before .args .arcs .now)) (c .before .args .places .now) (c .if1 .taken)
 
--- src/faults.rt:37:17
 shared-slice-read-first : tie.Need-shared-slice-read-first Inv-loop μ-loop
 shared-slice-read-first c = search needs
 
--- src/faults.rt:37:17
 cast-first : tie.Need-cast-first Inv-loop μ-loop
-cast-first c = search needs
+cast-first c = omega (arith, c .shared-slice-known .given 0)
 
--- src/faults.rt:38:17
 mul-v : tie.Need-mul-v Inv-loop μ-loop
-mul-v c = search needs
+mul-v c =
+    let s = c .before .before in
+    omega (arith, place-row (s .args .arcs .now) (s .args .places .now) (s .pre) 0 (omega arith))
 
--- src/faults.rt:38:17
 index-1-v : tie.Need-index-1-v Inv-loop μ-loop
-index-1-v c = search needs
+index-1-v c =
+    let s = c .before .before in
+    omega (arith, place-row (s .args .arcs .now) (s .args .places .now) (s .pre) 0 (omega arith))
 
--- src/faults.rt:38:17
 index-2-v : tie.Need-index-2-v Inv-loop μ-loop
 index-2-v c = search needs
 
--- src/faults.rt:39:5
 loop-holds : tie.Need-loop-holds Inv-loop μ-loop
-loop-holds c = search needs
+loop-holds c =
+    let s = c .before .before .before in
+    let p = planOver (s .args .arcs .now) in
+    let w = s .args .places .now in
+    let l : 0 < length w = omega arith in
+    (refl, omega arith, omega arith, subst (λ v. NoGapBefore p w v 1) (ap (λ (a : Arc). a .head) (place-arc (s .args .arcs .now) w (s .pre) 0 l)) (no-gap-start p w l))
 
--- src/faults.rt:40:17
 mul-k : tie.Need-mul-k Inv-loop μ-loop
 mul-k c = search needs
 
--- src/faults.rt:40:17
 shared-slice-read-k : tie.Need-shared-slice-read-k Inv-loop μ-loop
 shared-slice-read-k c = search needs
 
--- src/faults.rt:40:17
 cast-k : tie.Need-cast-k Inv-loop μ-loop
-cast-k c = search needs
+cast-k c = omega (arith, c .shared-slice-known2 .given (c .before .before .loop .i))
 
--- src/faults.rt:41:17
 mul-if2 : tie.Need-mul-if2 Inv-loop μ-loop
-mul-if2 c = search needs
+mul-if2 c =
+    let v = c .before .before in
+    let s = c .before .before .before .before .before .before in
+    let e = v .loop .inv .0 in
+    omega (arith, place-row (s .args .arcs .now) (s .args .places .now) (s .pre) (v .loop .i) (omega arith))
 
--- src/faults.rt:41:17
 index-1-if2 : tie.Need-index-1-if2 Inv-loop μ-loop
-index-1-if2 c = search needs
+index-1-if2 c =
+    let v = c .before .before in
+    let s = c .before .before .before .before .before .before in
+    let e = v .loop .inv .0 in
+    omega (arith, place-row (s .args .arcs .now) (s .args .places .now) (s .pre) (v .loop .i) (omega arith))
 
--- src/faults.rt:41:17
 index-2-if2 : tie.Need-index-2-if2 Inv-loop μ-loop
 index-2-if2 c = search needs
 
--- src/faults.rt:42:13
 returns-2 : tie.Need-returns-2 Inv-loop μ-loop
-returns-2 c = search needs
+returns-2 c =
+    let v = c .before .before .before .before .loop in
+    let s = c .before .before .before .before .before .before .before .before in
+    let w = s .args .places .now in
+    let e = v .inv .0 in
+    let l : v .i < length w = omega arith in
+    gap-here (planOver (s .args .arcs .now)) w (v .v) (v .i) l (v .inv .3) (λ h. c .if2 .taken (h ∙ ap (λ (a : Arc). a .tail) (place-arc (s .args .arcs .now) w (s .pre) (v .i) l)))
 
--- src/faults.rt:44:13
 mul-v-2 : tie.Need-mul-v-2 Inv-loop μ-loop
-mul-v-2 c = search needs
+mul-v-2 c =
+    let v = c .before .before .before .before in
+    let s = c .before .before .before .before .before .before .before .before in
+    let e = v .loop .inv .0 in
+    omega (arith, place-row (s .args .arcs .now) (s .args .places .now) (s .pre) (v .loop .i) (omega arith))
 
--- src/faults.rt:44:13
 index-1-v-2 : tie.Need-index-1-v-2 Inv-loop μ-loop
-index-1-v-2 c = search needs
+index-1-v-2 c =
+    let v = c .before .before .before .before in
+    let s = c .before .before .before .before .before .before .before .before in
+    let e = v .loop .inv .0 in
+    omega (arith, place-row (s .args .arcs .now) (s .args .places .now) (s .pre) (v .loop .i) (omega arith))
 
--- src/faults.rt:44:13
 index-2-v-2 : tie.Need-index-2-v-2 Inv-loop μ-loop
 index-2-v-2 c = search needs
 
--- src/faults.rt:39:9
 add-i : tie.Need-add-i Inv-loop μ-loop
 add-i c = search needs
 
--- src/faults.rt:39:5
 loop-less : tie.Need-loop-less Inv-loop μ-loop
 loop-less c = search needs
 
--- src/faults.rt:39:5
 loop-again : tie.Need-loop-again Inv-loop μ-loop
-loop-again c = search needs
+loop-again c =
+    let v = c .before .before .before .before .before .loop in
+    let s = c .before .before .before .before .before .before .before .before .before in
+    let p = planOver (s .args .arcs .now) in
+    let w = s .args .places .now in
+    let e = v .inv .0 in
+    let l : v .i < length w = omega arith in
+    let a = place-arc (s .args .arcs .now) w (s .pre) (v .i) l in
+    let j = no-gap-next p w (v .v) (v .i) l (v .inv .3) (c .before .if2 .left ∙ ap (λ (a : Arc). a .tail) (sym a)) in
+    (v .inv .0, omega arith, omega arith, subst (λ h. NoGapBefore p w h (v .i + 1)) (ap (λ (a : Arc). a .head) a) j)
 
--- src/faults.rt:46:10
 mul-result : tie.Need-mul-result Inv-loop μ-loop
-mul-result c = search needs
+mul-result c =
+    let s = c .before .before .before .before .before in
+    omega (arith, place-row (s .args .arcs .now) (s .args .places .now) (s .pre) 0 (omega arith))
 
--- src/faults.rt:46:10
 index-1-result : tie.Need-index-1-result Inv-loop μ-loop
-index-1-result c = search needs
+index-1-result c =
+    let s = c .before .before .before .before .before in
+    omega (arith, place-row (s .args .arcs .now) (s .args .places .now) (s .pre) 0 (omega arith))
 
--- src/faults.rt:46:10
 index-2-result : tie.Need-index-2-result Inv-loop μ-loop
 index-2-result c = search needs
 
--- src/faults.rt:30:1
 returns-3 : tie.Need-returns-3 Inv-loop μ-loop
-returns-3 c = search needs
+returns-3 c =
+    let v = c .before .before .loop in
+    let s = c .before .before .before .before .before .before in
+    let rows = s .args .arcs .now in
+    let w = s .args .places .now in
+    let e = v .inv .0 in
+    let l : 0 < length w = omega arith in
+    ap (λ (a : Arc). not (eqb (v .v) (a .tail))) (sym (place-arc rows w (s .pre) 0 l)) ∙ last-joint (planOver rows) w (v .v) (v .i) (omega arith) (v .inv .3)
 
 pub is-unjoined-spec : {M : Type 1} → statement M
 is-unjoined-spec =

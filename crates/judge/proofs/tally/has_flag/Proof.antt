@@ -1,42 +1,47 @@
+-- The invariant: no flag before the kth is set.
+use mathlib.Core.Path.{_≡_, refl, sym, ap, _∙_}
+use Prim.Native.Nat.{ℕ, _+_, _-_, _≤_, _<_}
+use native.Mathlib.Omega.{arith}
+use lib.ListN.{length, getD}
+use mathlib.Core.Bool.{false}
+use borrow.Author.Count.{below-more}
+use Rattle.judge.specs.Laws.Tally.{flag-found, no-flag}
 use borrow.Author.Needs.{needs}
 use Rattle.judge.proofs.tally.has_flag.Statement.{statement}
 use Rattle.judge.proofs.tally.has_flag.Tie as tie
-use Rattle.judge.proofs.tally.has_flag.Reads as reads
-use Rattle.judge.proofs.tally.has_flag.Lts as lts
 
 abbrev Inv-loop : tie.InvT-loop
-Inv-loop due k₀ k = ?
+Inv-loop due k₀ k = (k ≤ 256) × ((j : ℕ) → j < k → getD due j false ≡ false)
 
 abbrev μ-loop : tie.MeasureT-loop
-μ-loop due k₀ k = ?
+μ-loop due k₀ k = 256 - k
 
--- src/tally.rt:34:5
 loop-holds : tie.Need-loop-holds Inv-loop μ-loop
-loop-holds c = search needs
+loop-holds c = (omega arith, λ j l. absurd (omega arith))
 
--- src/tally.rt:35:12
 array-read-if1 : tie.Need-array-read-if1 Inv-loop μ-loop
 array-read-if1 c = search needs
 
--- src/tally.rt:36:13
 returns : tie.Need-returns Inv-loop μ-loop
-returns c = search needs
+returns c =
+    let v = c .before .before .loop in
+    flag-found (c .before .before .before .args .t1) (v .k) (omega arith) (c .if1 .taken)
 
--- src/tally.rt:34:9
 add-k : tie.Need-add-k Inv-loop μ-loop
 add-k c = search needs
 
--- src/tally.rt:34:5
 loop-less : tie.Need-loop-less Inv-loop μ-loop
 loop-less c = search needs
 
--- src/tally.rt:34:5
 loop-again : tie.Need-loop-again Inv-loop μ-loop
-loop-again c = search needs
+loop-again c =
+    let v = c .before .before .loop in
+    (omega arith, below-more _ (v .k) (v .inv .1) (c .if1 .left))
 
--- src/tally.rt:31:1
 returns-2 : tie.Need-returns-2 Inv-loop μ-loop
-returns-2 c = search needs
+returns-2 c =
+    let v = c .before .loop in
+    no-flag (c .before .before .args .t1) (λ j l. v .inv .1 j (omega arith))
 
 pub has-flag-spec : {M : Type 1} → statement M
 has-flag-spec =
