@@ -2,11 +2,10 @@
 ghost use mathlib.Core.Path.{_≡_};
 ghost use mathlib.Core.Bool.{false, cond};
 ghost use Prim.Native.Nat.{_≤_, _<_, _^_};
-ghost use lib.ListN.{length, getD};
-ghost use Rattle.postman.specs.Lists.{anyOf, below};
+ghost use lib.ListN.{length};
 ghost use Rattle.postman.specs.Plan.{requiredNumbers};
 ghost use Rattle.postman.specs.Tour.{tourCost};
-ghost use Rattle.postman.specs.Judge.{hasForeign, isMissed};
+ghost use Rattle.postman.specs.Judge.{hasForeign};
 ghost use Rattle.judge.specs.Rows.{planOver};
 ghost use Rattle.judge.specs.Tally.{AreDue, hasFlag, IsTally};
 

@@ -1,30 +1,25 @@
+-- The tests on the way say which of the first conditions applies.
+use mathlib.Core.Path.{sym, ap, _∙_}
+use Rattle.postman.specs.PlanFile.{isEdition}
+use Rattle.judge.specs.Laws.Call.{torn-first, edition-next, extent-then}
 use borrow.Author.Needs.{needs}
 use Rattle.judge.proofs.call.long_list.Statement.{statement}
 use Rattle.judge.proofs.call.long_list.Tie as tie
-use Rattle.judge.proofs.call.long_list.Reads as reads
-use Rattle.judge.proofs.call.long_list.Lts as lts
-use Rattle.plan_file.proofs.reader.file_edition.Reads as file-edition-reads
-use Rattle.plan_file.proofs.reader.is_edition.Reads as is-edition-reads
 
--- src/call.rt:76:9
 returns : tie.Need-returns
-returns c = search needs
+returns c = torn-first _ _ (c .before .before .pre) (c .if1 .taken)
 
--- src/call.rt:78:9
 file-edition-requires : tie.Need-file-edition-requires
 file-edition-requires c κs = search needs
 
--- src/call.rt:79:8
 is-edition-requires : tie.Need-is-edition-requires
 is-edition-requires c κs = search needs
 
--- src/call.rt:80:9
 returns-2 : tie.Need-returns-2
-returns-2 c = search needs
+returns-2 c = extent-then _ _ (c .before .before .before .before .before .pre) (c .before .before .before .if1 .left) (ap isEdition (sym (c .before .before .file-edition .ensures)) ∙ sym (c .before .is-edition .ensures) ∙ c .if2 .taken)
 
--- src/call.rt:71:1
 returns-3 : tie.Need-returns-3
-returns-3 c = search needs
+returns-3 c = edition-next _ _ (c .before .before .before .before .before .pre) (c .before .before .before .if1 .left) (ap isEdition (sym (c .before .before .file-edition .ensures)) ∙ sym (c .before .is-edition .ensures) ∙ c .if2 .left)
 
 pub long-list-spec : {M : Type 1} → statement M
 long-list-spec =

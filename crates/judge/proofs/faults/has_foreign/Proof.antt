@@ -1,8 +1,8 @@
 -- The invariant: no place before the ith is foreign.
-use mathlib.Core.Path.{_≡_, refl, sym, ap, _∙_}
-use Prim.Native.Nat.{ℕ, _+_, _-_, _≤_, _<_}
+use mathlib.Core.Path.{_≡_, refl, sym, _∙_}
+use Prim.Native.Nat.{_-_, _≤_}
 use native.Mathlib.Omega.{arith}
-use lib.ListN.{length, getD}
+use lib.ListN.{length}
 use Rattle.postman.specs.Judge.{isForeign, hasForeign}
 use Rattle.judge.specs.Rows.{planOver}
 use Rattle.judge.specs.Laws.Places.{NoneBefore, none-more, one-found, none-found}
@@ -26,7 +26,7 @@ shared-slice-read-is-foreign : tie.Need-shared-slice-read-is-foreign Inv-loop μ
 shared-slice-read-is-foreign c = search needs
 
 cast-is-foreign : tie.Need-cast-is-foreign Inv-loop μ-loop
-cast-is-foreign c = search needs
+cast-is-foreign c = omega (arith, c .shared-slice-known2 .given (c .before .before .loop .i))
 
 is-foreign-requires : tie.Need-is-foreign-requires Inv-loop μ-loop
 is-foreign-requires c κs = search needs

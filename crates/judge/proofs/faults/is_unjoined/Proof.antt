@@ -1,9 +1,8 @@
 -- The invariant: there is no gap before place i, and v is the head of the arc before it.
-use mathlib.Core.Path.{_≡_, refl, sym, ap, _∙_}
-use Prim.Native.Nat.{ℕ, _+_, _-_, _≤_, _<_}
+use mathlib.Core.Path.{_≡_, refl, sym, ap, _∙_, subst}
+use Prim.Native.Nat.{_+_, _-_, _≤_, _<_}
 use native.Mathlib.Omega.{arith}
-use lib.ListN.{length, getD}
-use mathlib.Core.Path.{subst}
+use lib.ListN.{length}
 use mathlib.Core.Bool.{not}
 use lib.Dec.{eqb}
 use Rattle.postman.specs.Plan.{Arc}

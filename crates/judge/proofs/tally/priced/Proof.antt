@@ -1,8 +1,8 @@
 -- The invariant: what was spent, what is due and the places from the ith on are the tally of the whole list, whose cost leaves room for the sum.
-use mathlib.Core.Path.{_≡_, refl, sym, ap, _∙_}
-use Prim.Native.Nat.{ℕ, _+_, _-_, _≤_, _<_}
+use mathlib.Core.Path.{_≡_, refl}
+use Prim.Native.Nat.{_-_, _≤_, _<_}
 use native.Mathlib.Omega.{arith}
-use lib.ListN.{length, getD}
+use lib.ListN.{length}
 use Rattle.judge.specs.Rows.{planOver}
 use Rattle.judge.specs.Laws.Places.{place-row}
 use Rattle.judge.specs.Laws.Tally.{IsTallied, tallied-start, tally-room, tally-more, tallied-end}

@@ -1,8 +1,8 @@
 -- The invariant: the flags of the rows before the kth say which are those of must arcs, and no other flag is set.
-use mathlib.Core.Path.{_≡_, refl, sym, ap, _∙_}
-use Prim.Native.Nat.{ℕ, _+_, _-_, _≤_, _<_}
+use mathlib.Core.Path.{_≡_, refl}
+use Prim.Native.Nat.{_-_, _≤_}
 use native.Mathlib.Omega.{arith}
-use lib.ListN.{length, getD}
+use lib.ListN.{length}
 use Rattle.judge.specs.Laws.Tally.{AreFlagged, none-flagged, more-flagged, all-flagged}
 use borrow.Author.Needs.{needs}
 use Rattle.judge.proofs.tally.required_flags.Statement.{statement}
