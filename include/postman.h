@@ -24,7 +24,7 @@ extern "C" {
 /* The most vertices and arcs of a plan, and the most bytes of its file. */
 #define POSTMAN_MOST_VERTICES 64
 #define POSTMAN_MOST_ARCS 256
-#define POSTMAN_LONGEST_FILE 963
+#define POSTMAN_LONGEST_FILE 1475
 
 /* The most parts of a plan that is not refused. */
 #define POSTMAN_MOST_PARTS 8
@@ -39,13 +39,25 @@ extern "C" {
 /* The distance that stands for "no path". A plan with such a distance between required vertices is refused with 12. */
 #define POSTMAN_NO_PATH 4294967295u
 
-/* A record is an arc in five bytes: tail, head, standing, the cost's high byte, its low byte. */
-#define POSTMAN_RECORD_BYTES 5
+/* The editions of the plan file. */
+enum postman_edition {
+    POSTMAN_FIRST_EDITION = 1, /* a required arc is checked at its cost */
+    POSTMAN_SECOND_EDITION = 2 /* a required arc has a service cost beside its cost */
+};
+
+/*
+ * A record is an arc in seven bytes: tail, head, standing, the high byte and the low byte of its cost, and those of its
+ * service cost. The cost is that of a pass. The service cost is that of the one pass on which a required arc is checked;
+ * in all other arcs it is 0.
+ */
+#define POSTMAN_RECORD_BYTES 7
 #define POSTMAN_RECORD_TAIL 0
 #define POSTMAN_RECORD_HEAD 1
 #define POSTMAN_RECORD_STANDING 2
 #define POSTMAN_RECORD_COST_HIGH 3
 #define POSTMAN_RECORD_COST_LOW 4
+#define POSTMAN_RECORD_SERVICE_HIGH 5
+#define POSTMAN_RECORD_SERVICE_LOW 6
 
 /* An arc's standing. */
 enum postman_standing {
@@ -57,7 +69,7 @@ enum postman_standing {
 /* The words of an answer, by their index. */
 #define POSTMAN_ANSWER_WORDS 6
 #define POSTMAN_PLACES 0 /* how many places the drive takes */
-#define POSTMAN_COST 1   /* what the drive costs */
+#define POSTMAN_COST 1   /* what the drive costs: a required arc's service cost once, the cost for every other pass */
 #define POSTMAN_FLOOR 2  /* no drive costs less */
 #define POSTMAN_TREES 3  /* trees tried */
 #define POSTMAN_WHOLE 4  /* 1 if these are all trees, and then the cost is the least of all drives; else 0 */
@@ -66,42 +78,48 @@ enum postman_standing {
 /* The multipliers of an answer: one for each vertex, 0 where no required arc begins or ends. */
 #define POSTMAN_MULTIPLIERS 64
 
-/* A file that was read answers this many times its vertices, plus its arcs. */
+/* A file that was read answers the first times its edition, plus the second times its vertices, plus its arcs. */
+#define POSTMAN_EDITIONS 65536
 #define POSTMAN_COUNTS 512
 
-/* The refusals. */
+/*
+ * The refusals. Wrong are a cost of 0, a service cost of 0 in a required arc, and another in any other arc; and, where
+ * edition 1 is written, a required arc's service cost that is not its cost.
+ */
 enum postman_refusal {
     POSTMAN_TORN = 1,        /* the file has under 3 bytes, or fewer than its arcs need */
-    POSTMAN_EDITION = 2,     /* the file's edition is not 1 */
+    POSTMAN_EDITION = 2,     /* the edition is neither 1 nor 2 */
     POSTMAN_EXTENT = 3,      /* no vertex or more than 64, or no arc or more than 256 */
     POSTMAN_MARGIN = 4,      /* the file has more bytes than its arcs need, or a fill bit is 1 */
     POSTMAN_OFF_SHEET = 5,   /* an arc's tail or head is no vertex */
-    POSTMAN_UNPRICED = 6,    /* an arc's cost is 0 */
+    POSTMAN_UNPRICED = 6,    /* an arc's cost or service cost is wrong, as said below */
     POSTMAN_STANDING = 7,    /* an arc's standing is above 2 */
     POSTMAN_SHORT_SHEET = 8, /* too few records, bytes or places are lent */
     POSTMAN_BUDGET = 9,      /* the budget is 0 or above 1,000,000 */
     POSTMAN_IDLE = 10,       /* no arc must be driven */
     POSTMAN_SCATTERED = 11,  /* the plan has more than 8 parts */
     POSTMAN_CUT_OFF = 12,    /* no drive exists: some required vertex has no path to another */
-    POSTMAN_REPEATED = 13    /* two arcs agree in tail, head, standing and cost */
+    POSTMAN_REPEATED = 13    /* two arcs agree in all their fields */
 };
 
 /*
- * Reads the file `plan`. Answers 512 n + m, for n vertices and m arcs, or minus a refusal from 1 to 8 or 13.
+ * Reads the file `plan`. Answers 65536 e + 512 n + m, for edition e, n vertices and m arcs, or minus a refusal from 1 to 8
+ * or 13.
  *
- * `records` has room for a fifth of its bytes; bytes left over are no record. The file's arcs are put into its first m
+ * `records` has room for a seventh of its bytes; bytes left over are no record. The file's arcs are put into its first m
  * records, in the file's order. Later bytes are untouched. With fewer than m records it is refused with 8.
  */
 int64_t postman_read_plan(const uint8_t *plan, size_t plan_len, uint8_t *records, size_t records_len);
 
 /*
- * Writes the file of n vertices and the arcs `records`. Answers the file's length in bytes, or minus a refusal: 3, 5 to 8
- * or 13.
+ * Writes the file of an edition, of n vertices and the arcs `records`. Answers the file's length in bytes, or minus a
+ * refusal: 2, 3, 5 to 8 or 13.
  *
- * m is a fifth of the bytes of `records`; bytes left over are no record. The file is put into `bytes` from its start.
+ * m is a seventh of the bytes of `records`; bytes left over are no record. The file is put into `bytes` from its start.
  * Later bytes are untouched. With fewer bytes than the file has it is refused with 8; POSTMAN_LONGEST_FILE always suffice.
  */
-int64_t postman_write_plan(uint32_t n, const uint8_t *records, size_t records_len, uint8_t *bytes, size_t bytes_len);
+int64_t postman_write_plan(uint32_t edition, uint32_t n, const uint8_t *records, size_t records_len, uint8_t *bytes,
+                           size_t bytes_len);
 
 /*
  * The plan call: lays a closed drive for the file `plan`, trying at most `budget` trees. Answers 0, or minus a refusal from

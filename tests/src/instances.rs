@@ -89,6 +89,20 @@ fn cost_law(random: &mut Random) -> impl Fn(&mut Random) -> u16 {
     }
 }
 
+/// Ways to draw the service cost of a required arc from its cost: below, at and above it.
+const SERVICE_LAWS: usize = 6;
+
+fn service(random: &mut Random, law: usize, cost: u16) -> u16 {
+    match law {
+        0 => cost,
+        1 => random.within(1..=cost.into()) as u16,
+        2 => random.within(cost.into()..=65_535) as u16,
+        3 => random.pick(&[cost.max(2) - 1, cost, cost.min(65_534) + 1]),
+        4 => random.pick(&[1, cost, 65_535]),
+        _ => random.within(1..=65_535) as u16,
+    }
+}
+
 /// A random plan. Its vertices are mixed, so that the parts' numbers follow no pattern.
 pub fn random_plan(random: &mut Random, shape: &Shape) -> Plan {
     let n = random.within(shape.vertices.clone());
@@ -125,20 +139,48 @@ pub fn random_plan(random: &mut Random, shape: &Shape) -> Plan {
     }
     if random.once_in(3) {
         let twin = random.pick(&arcs);
-        arcs.push(Arc { cost: cost(random), ..twin });
+        arcs.push(Arc::new(twin.tail.into(), twin.head.into(), twin.standing, cost(random)));
     }
     random.shuffle(&mut arcs);
     arcs.truncate(MOST_ARCS);
     part_twins(&mut arcs);
-    Plan { n, arcs }
+    let plan = Plan::new(n, arcs);
+    match random.below(10) {
+        law if law < SERVICE_LAWS => check_by(random, plan, law),
+        _ => plan,
+    }
 }
 
-/// Gives another cost to each arc that agrees with one before it in all fields: such a plan is refused.
+/// The plan in edition 2, its required arcs checked by a law; at times one of them stands there twice, at two service costs.
+fn check_by(random: &mut Random, plan: Plan, law: usize) -> Plan {
+    let mut plan = checked(plan, |_, cost| service(random, law, cost));
+    let required: Vec<Arc> = plan.arcs.iter().filter(|a| a.standing == REQUIRED).copied().collect();
+    if !required.is_empty() && plan.arcs.len() < MOST_ARCS && random.once_in(3) {
+        let twin = random.pick(&required);
+        let slower = Arc { service: twin.service % 65_535 + 1, ..twin };
+        if !plan.arcs.contains(&slower) {
+            plan.arcs.insert(random.below(plan.arcs.len() + 1), slower);
+        }
+    }
+    plan
+}
+
+/// The plan in edition 2, its required arcs checked at what is said for their number and cost.
+pub fn checked(mut plan: Plan, mut service: impl FnMut(usize, u16) -> u16) -> Plan {
+    plan.edition = 2;
+    for (k, arc) in plan.arcs.iter_mut().enumerate().filter(|(_, arc)| arc.standing == REQUIRED) {
+        arc.service = service(k, arc.cost);
+    }
+    plan
+}
+
+/// Gives another cost to each arc of edition 1 that agrees with one before it in all fields: such a plan is refused.
 pub fn part_twins(arcs: &mut [Arc]) {
     for k in 0..arcs.len() {
         let (before, rest) = arcs.split_at_mut(k);
         while before.contains(&rest[0]) {
-            rest[0].cost = rest[0].cost % 65_535 + 1;
+            let Arc { tail, head, standing, cost, .. } = rest[0];
+            rest[0] = Arc::new(tail.into(), head.into(), standing, cost % 65_535 + 1);
         }
     }
 }
@@ -172,18 +214,22 @@ pub fn damaged(random: &mut Random, plan: &Plan) -> Vec<u8> {
         if random.once_in(3) {
             k = random.below(plan.arcs.len());
         }
-        match random.below(24) {
+        match random.below(30) {
             0 | 1 => plan.arcs[k].cost = 0,
-            2 | 3 => plan.arcs[k].standing = 3,
+            2 => plan.arcs[k].standing = 3,
+            3 => plan.arcs[k] = Arc { standing: 3, service: 0, ..plan.arcs[k] },
             4 => plan.arcs[k].tail = random.within(0..=63) as u8,
             5 => plan.arcs[k].head = random.within(0..=63) as u8,
             6 => plan.n = random.within(0..=127),
             7 | 8 => plan.arcs[k] = random.pick(&plan.arcs),
+            9 => plan.arcs[k].service = 0,
+            10 | 11 => plan.arcs[k].service = random.pick(&[1, plan.arcs[k].cost, 65_535]),
+            12 => plan.edition = random.pick(&[0, 1, 2, 3, 15]),
             _ => {}
         }
     }
     let mut file = file_of(&plan);
-    match random.below(12) {
+    match random.below(13) {
         0 => file.truncate(random.below(file.len() + 1)),
         1 => file.extend((0..random.within(1..=3)).map(|_| random.bits() as u8)),
         2 => {
@@ -193,6 +239,8 @@ pub fn damaged(random: &mut Random, plan: &Plan) -> Vec<u8> {
         3 => *file.last_mut().expect("a file has bytes") |= 1 << random.below(5),
         4 => file[1] = random.bits() as u8,
         5 => file[2] = random.bits() as u8,
+        // the other edition, over the same arcs
+        6 => file[0] ^= 0x30,
         _ => {}
     }
     file
@@ -202,10 +250,11 @@ pub fn damaged(random: &mut Random, plan: &Plan) -> Vec<u8> {
 pub fn random_bytes(random: &mut Random, length: usize) -> Vec<u8> {
     let mut bytes: Vec<u8> = (0..length).map(|_| random.bits() as u8).collect();
     if length >= 3 && !random.once_in(4) {
-        // edition 1, n from 1 to 64, and as many arcs as the length asks for, or nearly
+        // n from 1 to 64, and as many arcs as the edition and the length ask for, or nearly
+        let (edition, width) = random.pick(&[(1, 30), (2, 46)]);
         let n = random.within(1..=64);
-        let m = (length * 8).saturating_sub(20) / 30 + random.pick(&[0, 0, 0, 1]);
-        let start = 1 << 20 | n << 13 | (m % 512) << 4 | random.below(16);
+        let m = (length * 8).saturating_sub(20) / width + random.pick(&[0, 0, 0, 1]);
+        let start = edition << 20 | n << 13 | (m % 512) << 4 | random.below(16);
         bytes[..3].copy_from_slice(&(start as u32).to_be_bytes()[1..]);
     }
     bytes
@@ -214,7 +263,7 @@ pub fn random_bytes(random: &mut Random, length: usize) -> Vec<u8> {
 /// The most vertices and arcs, all required, and balanced as they stand.
 pub fn fullest() -> Plan {
     let arc = |k: usize| Arc::new(k % MOST_VERTICES, (k + 1 + k / MOST_VERTICES) % MOST_VERTICES, REQUIRED, 65_535);
-    Plan { n: MOST_VERTICES, arcs: (0..MOST_ARCS).map(arc).collect() }
+    Plan::new(MOST_VERTICES, (0..MOST_ARCS).map(arc).collect())
 }
 
 /// A ring with as many required arcs as there is room for beside its first: each calls for a way all round, at the highest costs.
@@ -222,5 +271,27 @@ pub fn longest() -> Plan {
     let last = MOST_VERTICES - 1;
     let ring = (1..=last).map(|v| Arc::new(v, (v + 1) % MOST_VERTICES, OPTIONAL, 65_535));
     let required = (0..MOST_ARCS - last).map(|k| Arc::new(0, 1, REQUIRED, 65_535 - k as u16));
-    Plan { n: MOST_VERTICES, arcs: ring.chain(required).collect() }
+    Plan::new(MOST_VERTICES, ring.chain(required).collect())
+}
+
+/// In each part one required arc leads into a vertex that others leave, and nearly always it is the cheapest way there: it is passed again for each of
+/// them, and checked once.
+pub fn funnel(random: &mut Random) -> Plan {
+    let (parts, leaves) = random.pick(&[(1, 2), (1, 4), (2, 2), (2, 3), (3, 2)]);
+    let cost = |random: &mut Random| random.within(1..=20) as u16;
+    let mut arcs = Vec::new();
+    for part in 0..parts {
+        let gate = part * (2 + leaves);
+        arcs.push(Arc::new(gate, gate + 1, REQUIRED, cost(random)));
+        arcs.push(Arc::new(gate, gate + 1, OPTIONAL, random.within(15..=60) as u16));
+        for leaf in gate + 2..gate + 2 + leaves {
+            arcs.push(Arc::new(gate + 1, leaf, REQUIRED, cost(random)));
+            arcs.push(Arc::new(leaf, gate, OPTIONAL, cost(random)));
+        }
+        let next = (part + 1) % parts * (2 + leaves);
+        arcs.push(Arc::new(gate, next, OPTIONAL, cost(random)));
+    }
+    random.shuffle(&mut arcs);
+    let law = random.below(SERVICE_LAWS);
+    check_by(random, Plan::new(parts * (2 + leaves), arcs), law)
 }

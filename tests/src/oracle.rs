@@ -20,7 +20,7 @@ mod trees;
 
 pub use balancing::{assignment, greatest_multipliers, Assignment};
 pub use bound::{cheapest_tree, lagrangian_bound};
-pub use file::{file_of, parse, read_refusal, write_refusal};
+pub use file::{file_of, is_long_enough, parse, read_refusal, write_refusal};
 pub use graph::{judge, Graph, INFINITE};
 pub use optimum::{optimum, MOST_REQUIRED_ARCS};
 pub use trees::{count_trees, first_trees, Enumerated};

@@ -1,5 +1,5 @@
-//! The plan as data, and the numbers that bound it. No rule of the planner stands here: the yardstick and the oracle share
-//! these types and nothing else.
+//! The plan as data, and the numbers that bound it. The yardstick and the oracle share these types and nothing else: no rule of the planner
+//! stands here, but for [`Arc::new`], which neither of them uses.
 
 /// An arc as the plan file's reader and writer hold it: fields wider than those of the file.
 #[derive(Clone, Copy, PartialEq, Eq, Debug, Default)]
@@ -8,7 +8,10 @@ pub struct Arc {
     pub head: u8,
     /// 0: may be driven; 1: must be driven; 2: closed.
     pub standing: u8,
+    /// What a pass costs.
     pub cost: u16,
+    /// What the pass costs on which a required arc is checked (document 02: the checking cost); 0 in other arcs.
+    pub service: u16,
 }
 
 /// Standings.
@@ -19,6 +22,8 @@ pub const CLOSED: u8 = 2;
 /// A directed graph with vertices 0 to n − 1 and numbered arcs.
 #[derive(Clone, PartialEq, Eq, Debug, Default)]
 pub struct Plan {
+    /// The edition of its file: 1, or 2, whose arcs have a service cost of their own.
+    pub edition: u8,
     pub n: usize,
     pub arcs: Vec<Arc>,
 }
@@ -26,7 +31,7 @@ pub struct Plan {
 /// The most vertices and arcs of a plan, and the most bytes of its file.
 pub const MOST_VERTICES: usize = 64;
 pub const MOST_ARCS: usize = 256;
-pub const LONGEST_FILE: usize = 963;
+pub const LONGEST_FILE: usize = 1_475;
 
 /// The places that a sheet for the drive must have at least.
 pub const SHEET_PLACES: usize = 17_266;
@@ -40,7 +45,21 @@ pub const HIGHEST_BUDGET: u64 = 1_000_000;
 pub const MOST_PARTS: usize = 8;
 
 impl Arc {
+    /// An arc as edition 1 has it: a required arc is checked at its cost.
     pub fn new(tail: usize, head: usize, standing: u8, cost: u16) -> Arc {
-        Arc { tail: tail as u8, head: head as u8, standing, cost }
+        let service = if standing == REQUIRED { cost } else { 0 };
+        Arc { tail: tail as u8, head: head as u8, standing, cost, service }
+    }
+
+    /// A required arc that is checked at another cost.
+    pub fn checked(tail: usize, head: usize, cost: u16, service: u16) -> Arc {
+        Arc { service, ..Arc::new(tail, head, REQUIRED, cost) }
+    }
+}
+
+impl Plan {
+    /// A plan of edition 1.
+    pub fn new(n: usize, arcs: Vec<Arc>) -> Plan {
+        Plan { edition: 1, n, arcs }
     }
 }

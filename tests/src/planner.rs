@@ -71,10 +71,10 @@ pub trait Planner {
 
 /// Reading and writing of plan files.
 pub trait Codec {
-    /// Reads a file: n and m; the arcs are put into `records` from the start. Later records are untouched; a refusal changes none.
-    fn read(&self, bytes: &[u8], records: &mut [Arc]) -> Result<(usize, usize), Refusal>;
+    /// Reads a file: its edition, n and m; the arcs are put into `records` from the start. Later records are untouched; a refusal changes none.
+    fn read(&self, bytes: &[u8], records: &mut [Arc]) -> Result<(u8, usize, usize), Refusal>;
 
-    /// Writes the file of `n` vertices and the arcs `records` into `bytes` from the start: the file's length. Later bytes are untouched; a
-    /// refusal changes none.
-    fn write(&self, n: u32, records: &[Arc], bytes: &mut [u8]) -> Result<usize, Refusal>;
+    /// Writes the file of an edition, of `n` vertices and the arcs `records`, into `bytes` from the start: the file's length. Later bytes are
+    /// untouched; a refusal changes none.
+    fn write(&self, edition: u8, n: u32, records: &[Arc], bytes: &mut [u8]) -> Result<usize, Refusal>;
 }

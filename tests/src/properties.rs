@@ -1,9 +1,11 @@
 //! What document 01 promises, as properties that any planner can be held to.
 
 mod call;
+mod checking;
 mod codec;
 
 pub use call::{examine_answer, examine_refusal, Case};
+pub use checking::examine_checking;
 pub use codec::{examine_codec, examine_writing};
 
 use std::collections::BTreeSet;
@@ -57,9 +59,13 @@ pub enum Property {
     Repeatable,
     /// The short call is the plan call with 100,000.
     ShortCall,
+    /// The same plan in both editions gives the same answer, where the checking costs agree.
+    Editions,
+    /// Other checking costs move cost and floor by as much as they move R, and nothing else.
+    CheckingCosts,
     /// A case or a limit that document 01 states in numbers.
     Stated,
-    /// Reading answers n, m and the arcs, or the first refusal that applies.
+    /// Reading answers the edition, n, m and the arcs, or the first refusal that applies.
     Reading,
     /// Records from m on, and all in a refusal, are kept.
     RecordsKept,
@@ -70,7 +76,7 @@ pub enum Property {
 }
 
 /// All of them.
-pub const PROPERTIES: [Property; 28] = {
+pub const PROPERTIES: [Property; 30] = {
     use Property::*;
     [
         Returns,
@@ -96,6 +102,8 @@ pub const PROPERTIES: [Property; 28] = {
         Greatest,
         Repeatable,
         ShortCall,
+        Editions,
+        CheckingCosts,
         Stated,
         Reading,
         RecordsKept,

@@ -1,14 +1,21 @@
 //! The suite: what every planner is put through.
 
+mod editions;
+mod faults;
 mod stated;
 
+pub use editions::{run_stated_codec, FILE_A_CHECKED};
 pub use stated::{case_a, case_b, case_c, run_stated, FILE_A};
 
-use crate::instances::{damaged, dead_ends, fullest, longest, random_bytes, random_plan, towns, Shape};
+use crate::instances::{
+    checked, damaged, dead_ends, fullest, funnel, longest, random_bytes, random_plan, towns, Shape,
+};
 use crate::oracle::{file_of, Effort};
-use crate::plan::{Arc, DEFAULT_BUDGET, HIGHEST_BUDGET, SHEET_PLACES};
+use crate::plan::{Arc, Plan, DEFAULT_BUDGET, HIGHEST_BUDGET, LONGEST_FILE, SHEET_PLACES};
 use crate::planner::{Codec, Planner};
-use crate::properties::{examine_answer, examine_codec, examine_refusal, examine_writing, Case, Findings};
+use crate::properties::{
+    examine_answer, examine_checking, examine_codec, examine_refusal, examine_writing, Case, Findings,
+};
 use crate::random::Random;
 
 /// Random plans, each from a seed of its own.
@@ -29,22 +36,38 @@ pub fn run_case(found: &mut Findings, planner: &dyn Planner, case: &Case, few: u
     }
     // Where there are many more trees than were enumerated, this is also the long run.
     examine_answer(found, planner, case, DEFAULT_BUDGET);
+    for budget in [1, few] {
+        examine_checking(found, planner, case, budget);
+    }
 }
 
-/// Plans that no chance would make, near the limits.
+/// Plans whose required arcs are passed again.
+pub fn funnels(count: u64) -> impl Iterator<Item = Case> {
+    (1..=count).map(|seed| Case::new(&funnel(&mut Random::new(seed)), &Effort::BRUTE_FORCE))
+}
+
+/// Plans that chance would hardly make.
 pub fn fixed_cases() -> Vec<Case> {
-    let mut cases = vec![Case::new(&fullest(), &Effort::LIGHT), Case::new(&longest(), &Effort::LIGHT)];
+    let mut cases = Vec::new();
+    for plan in [fullest(), longest()] {
+        cases.push(Case::new(&plan, &Effort::LIGHT));
+        // below the costs, and above them where there is room for that
+        cases.push(Case::new(&checked(plan.clone(), |k, _| 1 + k as u16), &Effort::LIGHT));
+        cases.push(Case::new(&checked(plan, |_, _| 65_535), &Effort::LIGHT));
+    }
     cases.extend((1..=20).map(|seed| Case::new(&dead_ends(&mut Random::new(seed), 3, 2), &Effort::BRUTE_FORCE)));
+    cases.extend(funnels(300));
     cases.extend(towns().iter().map(|(_, plan)| Case::new(plan, &Effort::LIGHT)));
     cases
 }
 
-/// Files of every length from 0 to 1,000: random bytes, a good file cut or lengthened, and damaged ones; with good and bad sheets and budgets.
+/// Files of every length up to more than the longest: random bytes, a good file of each edition cut or lengthened, and damaged ones; with good and
+/// bad sheets and budgets.
 pub fn run_files(found: &mut Findings, planner: &dyn Planner, seed: u64, rounds: u64) {
     let random = &mut Random::new(seed);
-    let good = file_of(&fullest());
+    let good = fullest_files();
     for _ in 0..rounds {
-        for length in 0..=1_000 {
+        for length in 0..=LONGEST_FILE + 25 {
             for file in files_around(random, &good, length) {
                 let budget = random.pick(&[1, 1, 1, 1, 1, 2, HIGHEST_BUDGET, 0, HIGHEST_BUDGET + 1, u64::MAX]);
                 let places = SHEET_PLACES - random.pick(&[0, 0, 0, 0, 0, 0, 0, 1, 2, SHEET_PLACES]);
@@ -56,9 +79,14 @@ pub fn run_files(found: &mut Findings, planner: &dyn Planner, seed: u64, rounds:
     }
 }
 
+/// The longest files of both editions.
+fn fullest_files() -> [Vec<u8>; 2] {
+    [file_of(&fullest()), file_of(&checked(fullest(), |k, cost| cost - k as u16))]
+}
+
 /// Random bytes and a good file, both of this length, and a damaged file of any.
-fn files_around(random: &mut Random, good: &[u8], length: usize) -> [Vec<u8>; 3] {
-    let mut cut = good.to_vec();
+fn files_around(random: &mut Random, good: &[Vec<u8>; 2], length: usize) -> [Vec<u8>; 3] {
+    let mut cut = good[random.below(2)].clone();
     cut.resize(length, 0);
     [random_bytes(random, length), cut, damaged_file(random)]
 }
@@ -70,48 +98,65 @@ fn damaged_file(random: &mut Random) -> Vec<u8> {
     damaged(random, &plan)
 }
 
-/// Reading and writing: files of every length, damaged ones, every room, and records that no file can hold.
+/// Reading and writing: files of every length, damaged ones, every room, and records and editions that no file can hold.
 pub fn run_codec(found: &mut Findings, codec: &dyn Codec, seed: u64, rounds: u64) {
     let random = &mut Random::new(seed);
-    let good = file_of(&fullest());
+    let good = fullest_files();
     for _ in 0..rounds {
-        for length in 0..=1_000 {
+        for length in 0..=LONGEST_FILE + 25 {
             for file in files_around(random, &good, length) {
-                let m = file.len() * 8 / 30;
+                let m = file.len() * 8 / random.pick(&[30, 46]);
                 let room = random.pick(&[256, 300, m, m.saturating_sub(1), m.saturating_sub(2), 0]);
-                let bytes = random.pick(&[963, 1_000, file.len() + 2, file.len(), file.len().saturating_sub(1), 0]);
+                let near = [file.len() + 2, file.len(), file.len().saturating_sub(1)];
+                let bytes = random.pick(&[LONGEST_FILE, 1_500, near[0], near[1], near[2], 0]);
                 examine_codec(found, codec, &file, room, bytes);
             }
-            let bytes = random.pick(&[963, 1_000, 962, 20, 7, 6]);
-            let n = random.pick(&[1, 2, 63, 64, 65, 0, 127, 128, 256, u32::MAX]);
-            let m = random.pick(&[0, 1, 2, 3, 4, 5, 255, 256, 257, 300]);
-            let arcs = random_records(random, n, m);
-            examine_writing(found, codec, n, &arcs, bytes);
+            let bytes = random.pick(&[LONGEST_FILE, 1_500, LONGEST_FILE - 1, 963, 962, 20, 9, 7, 6]);
+            let plan = random_records(random);
+            examine_writing(found, codec, &plan, bytes);
         }
     }
 }
 
-/// Records that are good for n vertices, but for one field of one, at times, or for two that agree, or differ in standing alone.
-fn random_records(random: &mut Random, n: u32, m: usize) -> Vec<Arc> {
-    let n = (n as usize).clamp(1, 64);
-    let cost = |random: &mut Random| random.within(1..=65_535) as u16;
-    let mut arcs: Vec<Arc> =
-        (0..m).map(|_| Arc::new(random.below(n), random.below(n), random.below(3) as u8, cost(random))).collect();
-    if m > 0 {
-        let byte = random.bits() as u8;
-        let arc = &mut arcs[random.below(m)];
-        match random.below(8) {
-            0 => arc.tail = byte,
-            1 => arc.head = byte,
-            2 => arc.standing = byte,
-            3 => arc.cost = 0,
-            4 | 5 => {
-                let twin = arcs[random.below(m)];
-                let standing = random.pick(&[twin.standing, (twin.standing + 1) % 3]);
-                arcs[random.below(m)] = Arc { standing, ..twin };
-            }
-            _ => {}
-        }
+/// Records that are good for an edition and n, if these are, but for one field of one record, at times, or for two that agree, or differ in one
+/// field alone.
+fn random_records(random: &mut Random) -> Plan {
+    let edition = random.pick(&[1, 1, 1, 2, 2, 2, 0, 3, 15, 18, 255]);
+    let n: usize = random.pick(&[1, 2, 63, 64, 64, 64, 65, 0, 127, 128, 256, u32::MAX as usize]);
+    let m = random.pick(&[0, 1, 2, 3, 4, 5, 255, 256, 257, 300]);
+    let any_cost = |random: &mut Random| random.within(1..=65_535) as u16;
+    let vertex = |random: &mut Random| random.below(n.clamp(1, 64));
+    let record =
+        |random: &mut Random| Arc::new(vertex(random), vertex(random), random.below(3) as u8, any_cost(random));
+    let mut plan = Plan { edition, n, arcs: (0..m).map(|_| record(random)).collect() };
+    if edition == 2 {
+        plan = checked(plan, |_, _| any_cost(random));
     }
-    arcs
+    if m > 0 {
+        spoil(random, &mut plan.arcs);
+    }
+    plan
+}
+
+/// Puts one wrong thing, or nothing, into a list of records.
+fn spoil(random: &mut Random, arcs: &mut [Arc]) {
+    let byte = random.bits() as u8;
+    let (k, twin) = (random.below(arcs.len()), random.pick(arcs));
+    let arc = &mut arcs[k];
+    match random.below(14) {
+        0 => arc.tail = byte,
+        1 => arc.head = byte,
+        2 => arc.standing = byte,
+        3 => *arc = Arc { standing: byte, service: 0, ..*arc },
+        4 => arc.cost = 0,
+        5 => arc.service = 0,
+        6 => arc.service = random.pick(&[1, arc.cost, arc.cost ^ 1, 65_535]),
+        7 | 8 => *arc = twin,
+        9 => {
+            let standing = (twin.standing + 1) % 3;
+            *arc = Arc::new(twin.tail.into(), twin.head.into(), standing, twin.cost);
+        }
+        10 => *arc = Arc { service: twin.service ^ 1, ..twin },
+        _ => {}
+    }
 }

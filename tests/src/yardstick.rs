@@ -24,9 +24,14 @@ use crate::planner::{refusal, Answer, Codec, Planner, Refusal};
 
 /// The decisions that planners of this trade get wrong, each with its right answer. A wrong planner overrides one.
 pub trait Steps {
-    /// Whether an arc may serve in paths.
-    fn is_open(&self, arc: &Arc) -> bool {
-        arc.standing != CLOSED
+    /// What an arc adds to a path, if it may serve in one.
+    fn length(&self, arc: &Arc) -> Option<u64> {
+        (arc.standing != CLOSED).then_some(arc.cost.into())
+    }
+
+    /// What a required arc adds to R: the pass on which it is checked.
+    fn service(&self, arc: &Arc) -> u16 {
+        arc.service
     }
 
     /// The components of the required vertices.
@@ -86,7 +91,7 @@ pub trait Steps {
 
     /// The arcs that a leg from i to j is driven by.
     fn path(&self, plan: &Plan, d: &Distances, i: usize, j: usize) -> Vec<u16> {
-        shortest_path(plan, d, |a| self.is_open(a), i, j)
+        shortest_path(plan, d, |a| self.length(a), i, j)
     }
 }
 
@@ -107,16 +112,16 @@ impl<S: Steps> Planner for S {
 }
 
 impl Codec for Yardstick {
-    fn read(&self, bytes: &[u8], records: &mut [Arc]) -> Result<(usize, usize), Refusal> {
+    fn read(&self, bytes: &[u8], records: &mut [Arc]) -> Result<(u8, usize, usize), Refusal> {
         let plan = read(bytes)?;
         let m = plan.arcs.len();
         let room = records.get_mut(..m).ok_or(refusal::SHORT_SHEET)?;
         room.copy_from_slice(&plan.arcs);
-        Ok((plan.n, m))
+        Ok((plan.edition, plan.n, m))
     }
 
-    fn write(&self, n: u32, records: &[Arc], bytes: &mut [u8]) -> Result<usize, Refusal> {
-        let file = write(n, records)?;
+    fn write(&self, edition: u8, n: u32, records: &[Arc], bytes: &mut [u8]) -> Result<usize, Refusal> {
+        let file = write(edition, n, records)?;
         let room = bytes.get_mut(..file.len()).ok_or(refusal::SHORT_SHEET)?;
         room.copy_from_slice(&file);
         Ok(file.len())
@@ -153,7 +158,7 @@ fn plan_call<S: Steps>(steps: &S, file: &[u8], budget: u64, sheet: &mut [u16]) -
     if components.count > MOST_PARTS {
         return Err(refusal::SCATTERED);
     }
-    let d = distances(&plan, |a| steps.is_open(a));
+    let d = distances(&plan, |a| steps.length(a));
     let network = Network::new(steps, &plan, &d, components);
     if network.is_cut_off() {
         return Err(refusal::CUT_OFF);

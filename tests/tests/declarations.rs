@@ -225,6 +225,8 @@ fn constants_agree() {
     let package = |file: &str| read(&root().join("bindings/rust/src").join(file));
     let mut all = constants_of_rust(&package("limits.rs"));
     all.extend(cases_of_rust(&package("plan.rs")));
+    // An edition's name says what it is in C.
+    all.extend(cases_of_rust(&package("edition.rs")).into_iter().map(|(name, number)| (name + "_EDITION", number)));
     all.extend(cases_of_rust(&package("refusal.rs")));
     assert_eq!(header, all);
     // These are the numbers that the planners are held to.
@@ -237,6 +239,8 @@ fn constants_agree() {
         ("SHEET_PLACES", plan::SHEET_PLACES as u64),
         ("DEFAULT_BUDGET", plan::DEFAULT_BUDGET),
         ("HIGHEST_BUDGET", plan::HIGHEST_BUDGET),
+        ("FIRST_EDITION", 1),
+        ("SECOND_EDITION", 2),
         ("OPTIONAL", u64::from(plan::OPTIONAL)),
         ("REQUIRED", u64::from(plan::REQUIRED)),
         ("CLOSED", u64::from(plan::CLOSED)),

@@ -22,6 +22,13 @@ fn examples() -> Vec<(String, Vec<u8>, String)> {
     plans.iter().map(|path| (path.display().to_string(), read(path), text(path))).collect()
 }
 
+#[test]
+fn examples_are_of_both_editions() {
+    for edition in [1, 2] {
+        assert!(examples().iter().any(|(_, file, _)| parse(file).edition == edition), "none of edition {edition}");
+    }
+}
+
 /// The lines of document 01's program, but for the places.
 fn first_lines(answer: &Result<Answer, Refusal>) -> String {
     match answer {

@@ -15,7 +15,8 @@ fn missed(violates: &[Property], found: &Findings) -> Vec<Property> {
 }
 
 fn cases() -> Vec<Case> {
-    let mut cases = suite::random_cases(SEED, 500, Shape::small, &Effort::BRUTE_FORCE);
+    let mut cases: Vec<Case> = suite::funnels(20).collect();
+    cases.extend(suite::random_cases(SEED, 500, Shape::small, &Effort::BRUTE_FORCE));
     cases.extend(suite::random_cases(SEED, 40, Shape::large, &Effort::LIGHT));
     cases
 }
@@ -53,6 +54,7 @@ fn wrong_planners_are_caught() {
 fn wrong_readers_and_writers_are_caught() {
     for mutant in codecs() {
         let mut found = Findings::default();
+        suite::run_stated_codec(&mut found, &*mutant.wrong);
         suite::run_codec(&mut found, &*mutant.wrong, SEED, 1);
         println!("{}: {:?}", mutant.name, found.violated);
         assert_eq!(missed(mutant.violates, &found), [], "{}", mutant.name);

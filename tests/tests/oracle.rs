@@ -1,10 +1,12 @@
 //! The oracle is held to document 01's numbers, and its algorithms to plainer ones.
 
-use postman_tests::instances::{random_plan, Shape};
+use postman_tests::instances::{checked, random_plan, Shape};
 use postman_tests::oracle::*;
-use postman_tests::plan::{Arc, Plan, CLOSED, MOST_VERTICES, OPTIONAL, REQUIRED, SHEET_PLACES};
+use postman_tests::plan::{Arc, Plan, CLOSED, LONGEST_FILE, MOST_VERTICES, OPTIONAL, REQUIRED, SHEET_PLACES};
+use postman_tests::planner::Planner;
 use postman_tests::random::Random;
-use postman_tests::suite::{case_a, case_b, case_c, FILE_A};
+use postman_tests::suite::{case_a, case_b, case_c, funnels, FILE_A, FILE_A_CHECKED};
+use postman_tests::yardstick::Yardstick;
 
 const SEED: u64 = 70_000;
 
@@ -17,6 +19,11 @@ fn some_facts(count: u64) -> impl Iterator<Item = Facts> {
         let good = call_refusal(&file_of(&plan), 1, SHEET_PLACES) == 0;
         good.then(|| Facts::of(&plan, &Effort::BRUTE_FORCE))
     })
+}
+
+/// The facts of plans whose required arcs are passed again.
+fn some_funnels(count: u64) -> impl Iterator<Item = Facts> {
+    funnels(count).filter_map(|case| case.facts.ok())
 }
 
 #[test]
@@ -36,13 +43,28 @@ fn stated_numbers() {
     assert_eq!((c.bound_at_zero, c.optimum), (7, Some(9)));
 }
 
+/// Case A in edition 2: "A drive costs one checking pass of each must arc plus plain cost for every other pass, R is the sum of checking costs".
+#[test]
+fn stated_numbers_of_edition_2() {
+    let plan = checked(case_a(), |_, _| 9);
+    assert_eq!(file_of(&plan), FILE_A_CHECKED);
+    assert_eq!(parse(&FILE_A_CHECKED), plan);
+    let a = Facts::of(&plan, &Effort::BRUTE_FORCE);
+    assert_eq!((a.graph.required_cost, a.least_balancing), (9, 3));
+    assert_eq!((a.tree_costs, a.tree_count, a.bound_at_zero, a.optimum), (vec![12], 1, 9, Some(12)));
+    assert_eq!(judge(&plan, &[0, 1]), Ok(12));
+    assert_eq!(judge(&plan, &[0, 1, 0, 1, 1, 0]).map_err(|_| ()), Err(()));
+    assert_eq!(judge(&plan, &[1, 0, 1, 0]), Ok(20));
+}
+
 #[test]
 fn files_read_back() {
     for facts in some_facts(300) {
         assert_eq!(parse(&file_of(&facts.graph.plan)), facts.graph.plan);
     }
-    let longest = Plan { n: 64, arcs: vec![Arc::new(63, 63, CLOSED, 65_535); 256] };
+    let longest = Plan::new(64, vec![Arc::new(63, 63, CLOSED, 65_535); 256]);
     assert_eq!(file_of(&longest).len(), 963);
+    assert_eq!(file_of(&Plan { edition: 2, ..longest }).len(), LONGEST_FILE);
 }
 
 #[test]
@@ -125,10 +147,64 @@ fn greatest_multipliers_cannot_be_raised() {
     }
 }
 
+/// The judge takes all passes at their plain costs and then corrects that; here each pass is priced as it comes, the first of a must arc at its
+/// checking cost.
+fn pass_by_pass(plan: &Plan, drive: &[u16]) -> u64 {
+    let mut passed = vec![false; plan.arcs.len()];
+    let pass = |&k: &u16| {
+        let arc = &plan.arcs[usize::from(k)];
+        let again = std::mem::replace(&mut passed[usize::from(k)], true);
+        u64::from(if arc.standing == REQUIRED && !again { arc.service } else { arc.cost })
+    };
+    drive.iter().map(pass).sum()
+}
+
+/// Drives of any beginning, driven once and three times.
+#[test]
+fn drives_are_priced_alike() {
+    let mut again = 0;
+    for facts in some_facts(300).chain(some_funnels(300)) {
+        let plan = &facts.graph.plan;
+        let mut sheet = vec![0; SHEET_PLACES];
+        let answer = Yardstick.plan_call(&file_of(plan), 10, &mut sheet).expect("a good plan");
+        let drive = &mut sheet[..answer.places];
+        again += usize::from(
+            (0..drive.len())
+                .any(|i| plan.arcs[usize::from(drive[i])].standing == REQUIRED && drive[..i].contains(&drive[i])),
+        );
+        for turn in [0, 1, drive.len() / 2] {
+            drive.rotate_left(turn);
+            for drive in [drive.to_vec(), drive.repeat(3)] {
+                assert_eq!(judge(plan, &drive), Ok(pass_by_pass(plan, &drive)), "{plan:?}");
+            }
+        }
+    }
+    assert!(again > 100, "{again} drives pass a required arc again");
+}
+
+/// Every drive passes each must arc, so that checking costs move all drives by the same: the search that prices each pass as it comes finds just that.
+/// Costs are met below, at and above.
+#[test]
+fn checking_costs_move_the_optimum_with_r() {
+    let (mut searched, mut met) = (0, [0; 3]);
+    for facts in some_facts(1_200).chain(some_funnels(300)) {
+        let plan = &facts.graph.plan;
+        let musts = || plan.arcs.iter().filter(|a| a.standing == REQUIRED);
+        musts().for_each(|a| met[(a.service.cmp(&a.cost) as i8 + 1) as usize] += 1);
+        let plain = checked(plan.clone(), |_, cost| cost);
+        if let Some(cheapest) = facts.optimum {
+            searched += 1;
+            let beyond: i64 = musts().map(|a| i64::from(a.service) - i64::from(a.cost)).sum();
+            assert_eq!(Some(cheapest), optimum(&plain).and_then(|x| x.checked_add_signed(beyond)), "{plan:?}");
+        }
+    }
+    assert!(searched > 1_000 && met.iter().all(|&count| count > 300), "{searched} searched, {met:?}");
+}
+
 #[test]
 fn judge_finds_every_fault() {
     let arcs = [(0, 1, REQUIRED), (1, 0, OPTIONAL), (1, 2, REQUIRED), (2, 0, OPTIONAL), (0, 1, CLOSED)];
-    let plan = Plan { n: 3, arcs: arcs.iter().map(|&(t, h, s)| Arc::new(t, h, s, 10)).collect() };
+    let plan = Plan::new(3, arcs.iter().map(|&(t, h, s)| Arc::new(t, h, s, 10)).collect());
     assert_eq!(judge(&plan, &[0, 2, 3]), Ok(30));
     assert_eq!(judge(&plan, &[0, 1, 0, 2, 3]), Ok(50));
     assert_eq!(judge(&plan, &[3, 0, 2]), Ok(30));

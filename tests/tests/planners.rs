@@ -25,6 +25,12 @@ fn stated(name: &str, planner: &dyn Planner) {
     found.assert_none(name, 0);
 }
 
+fn stated_files(name: &str, codec: &dyn Codec) {
+    let mut found = Findings::default();
+    suite::run_stated_codec(&mut found, codec);
+    found.assert_none(name, 0);
+}
+
 fn random_plans(
     name: &str,
     planner: &dyn Planner,
@@ -75,6 +81,11 @@ macro_rules! held_to_all {
             #[test]
             fn stated_cases_and_limits() {
                 stated(stringify!($name), &$planner);
+            }
+
+            #[test]
+            fn stated_files_of_both_editions() {
+                stated_files(stringify!($name), &$planner);
             }
 
             #[test]

@@ -1,7 +1,7 @@
 //! The program `drive` on plans at the limits: what it prints, and in how many writes.
 #![cfg(feature = "proved")]
 
-use postman_tests::instances::{fullest, longest};
+use postman_tests::instances::{checked, fullest, longest};
 use postman_tests::oracle::file_of;
 use postman_tests::plan::{PROGRAM_BUDGET, SHEET_PLACES};
 use postman_tests::planner::{Planner, Proved};
@@ -58,7 +58,8 @@ fn lines(plan: &[u8]) -> (String, usize) {
 /// The output comes in blocks, however long the drive: at most 50 writes for a full sheet, so in proportion for a shorter drive.
 #[test]
 fn drive_writes_in_blocks() {
-    for (plan, least) in [(longest(), 12_000), (fullest(), 256)] {
+    let longest_file = checked(fullest(), |k, _| 1 + k as u16);
+    for (plan, least) in [(longest(), 12_000), (fullest(), 256), (longest_file, 256)] {
         let file = file_of(&plan);
         let (text, places) = lines(&file);
         assert!(places >= least, "{places} places");

@@ -8,7 +8,8 @@ use crate::{raw, Refusal};
 pub struct Answer {
     /// The drive: numbers of arcs, the lowest required one first. Each arc begins where the one before it ends, and the first where the last ends.
     pub drive: Vec<u16>,
-    /// What the drive costs: the least of the trees tried.
+    /// What the drive costs: the least of the trees tried. One pass of each required arc costs what it costs to check it, and every other pass
+    /// what it costs to drive.
     pub cost: u64,
     /// No drive costs less.
     pub floor: u64,
@@ -43,13 +44,13 @@ fn answered(call: impl FnOnce(&mut [u16], &mut [u64], &mut [i64]) -> Result<(), 
 /// Lays a drive for a plan file, trying at most `budget` trees, from 1 to 1,000,000. Refuses with 1 to 7 and 9 to 13.
 ///
 /// ```
-/// use postman::{plan_call, Arc, Plan, Refusal, Standing};
+/// use postman::{plan_call, Arc, Edition, Plan, Refusal, Standing};
 ///
 /// // Three loops that must be driven, and four streets between them.
-/// let must = |v| Arc { tail: v, head: v, standing: Standing::Required, cost: 1 };
-/// let may = |tail, head, cost| Arc { tail, head, standing: Standing::Optional, cost };
+/// let must = |v| Arc::new(v, v, Standing::Required, 1);
+/// let may = |tail, head, cost| Arc::new(tail, head, Standing::Optional, cost);
 /// let arcs = vec![must(0), must(1), must(2), may(0, 1, 2), may(1, 2, 2), may(2, 0, 2), may(0, 2, 3)];
-/// let file = Plan { vertices: 3, arcs }.write()?;
+/// let file = Plan { edition: Edition::First, vertices: 3, arcs }.write()?;
 ///
 /// let first = plan_call(&file, 1)?;
 /// assert_eq!((first.cost, first.floor, first.whole), (14, 9, false));
@@ -79,24 +80,47 @@ pub fn short_call(file: &[u8]) -> Result<Answer, Refusal> {
 #[cfg(test)]
 mod tests {
     use super::*;
-    use crate::{Arc, Plan, Standing};
+    use crate::{Arc, Edition, Plan, Standing};
 
-    fn arc(tail: u8, head: u8, standing: Standing, cost: u16) -> Arc {
-        Arc { tail, head, standing, cost }
+    fn call(edition: Edition, vertices: u32, arcs: Vec<Arc>) -> Result<Answer, Refusal> {
+        short_call(&Plan { edition, vertices, arcs }.write().unwrap())
     }
 
     fn refusal_of(vertices: u32, arcs: Vec<Arc>) -> Option<Refusal> {
-        short_call(&Plan { vertices, arcs }.write().unwrap()).err()
+        call(Edition::First, vertices, arcs).err()
+    }
+
+    /// The only way into vertex 1 must be driven, and twice: one pass of it is slow, and the other is not.
+    #[test]
+    fn one_pass_is_checked() {
+        let optional = |tail, head| Arc::new(tail, head, Standing::Optional, 1);
+        for (service, cost) in [(1, 15), (5, 19), (9, 23)] {
+            let checked = [Arc::checked(0, 1, 5, service), Arc::checked(1, 2, 2, 4), Arc::checked(1, 3, 2, 3)];
+            let arcs = [&checked[..], &[optional(2, 0), optional(3, 0)]].concat();
+            let answer = call(Edition::Second, 4, arcs).unwrap();
+            assert_eq!((answer.cost, answer.floor, answer.whole), (cost, cost, true));
+            assert_eq!(answer.drive.iter().filter(|&&k| k == 0).count(), 2);
+        }
+    }
+
+    /// Where the service costs agree the editions do.
+    #[test]
+    fn both_editions_answer_alike() {
+        let file = std::fs::read(concat!(env!("CARGO_MANIFEST_DIR"), "/../../examples/town.plan")).unwrap();
+        let first = Plan::read(&file).unwrap();
+        let second = Plan { edition: Edition::Second, ..first.clone() };
+        assert_eq!(first.edition, Edition::First);
+        assert_eq!(short_call(&second.write().unwrap()), short_call(&file));
     }
 
     #[test]
     fn plans_without_a_drive_are_refused() {
         use Standing::{Closed, Optional, Required};
-        assert_eq!(refusal_of(2, vec![arc(0, 1, Required, 5)]), Some(Refusal::CutOff));
-        assert_eq!(refusal_of(2, vec![arc(0, 1, Required, 5), arc(1, 0, Closed, 3)]), Some(Refusal::CutOff));
-        assert_eq!(refusal_of(2, vec![arc(0, 1, Optional, 5), arc(1, 0, Optional, 3)]), Some(Refusal::Idle));
-        assert_eq!(refusal_of(9, (0..9).map(|v| arc(v, v, Required, 1)).collect()), Some(Refusal::Scattered));
-        assert_eq!(refusal_of(2, vec![arc(0, 1, Required, 5), arc(1, 0, Optional, 3)]), None);
+        assert_eq!(refusal_of(2, vec![Arc::new(0, 1, Required, 5)]), Some(Refusal::CutOff));
+        assert_eq!(refusal_of(2, vec![Arc::new(0, 1, Required, 5), Arc::new(1, 0, Closed, 3)]), Some(Refusal::CutOff));
+        assert_eq!(refusal_of(2, vec![Arc::new(0, 1, Optional, 5), Arc::new(1, 0, Optional, 3)]), Some(Refusal::Idle));
+        assert_eq!(refusal_of(9, (0..9).map(|v| Arc::new(v, v, Required, 1)).collect()), Some(Refusal::Scattered));
+        assert_eq!(refusal_of(2, vec![Arc::new(0, 1, Required, 5), Arc::new(1, 0, Optional, 3)]), None);
     }
 
     #[test]

@@ -4,7 +4,14 @@
 extern "C" {
     pub fn postman_read_plan(plan: *const u8, plan_len: usize, records: *mut u8, records_len: usize) -> i64;
 
-    pub fn postman_write_plan(n: u32, records: *const u8, records_len: usize, bytes: *mut u8, bytes_len: usize) -> i64;
+    pub fn postman_write_plan(
+        edition: u32,
+        n: u32,
+        records: *const u8,
+        records_len: usize,
+        bytes: *mut u8,
+        bytes_len: usize,
+    ) -> i64;
 
     pub fn postman_plan_call(
         plan: *const u8,

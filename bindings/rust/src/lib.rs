@@ -4,19 +4,21 @@
 //! that no drive can undercut. In the field's words: the directed rural postman problem, with a certified lower bound.
 //!
 //! ```
-//! use postman::{plan_call, Arc, Plan, Standing};
+//! use postman::{plan_call, Arc, Edition, Plan, Standing};
 //!
 //! // A street that must be driven, and one that leads back.
 //! let plan = Plan {
+//!     edition: Edition::First,
 //!     vertices: 2,
-//!     arcs: vec![
-//!         Arc { tail: 0, head: 1, standing: Standing::Required, cost: 5 },
-//!         Arc { tail: 1, head: 0, standing: Standing::Optional, cost: 3 },
-//!     ],
+//!     arcs: vec![Arc::new(0, 1, Standing::Required, 5), Arc::new(1, 0, Standing::Optional, 3)],
 //! };
 //! let answer = plan_call(&plan.write()?, 10_000)?;
 //! assert_eq!(answer.drive, [0, 1]);
 //! assert_eq!((answer.cost, answer.floor), (8, 8));
+//!
+//! // The same, where the first pass of the street is slow: there its signs are read. This takes the second edition of the file.
+//! let slow = Plan { edition: Edition::Second, arcs: vec![Arc::checked(0, 1, 5, 9), plan.arcs[1]], ..plan };
+//! assert_eq!(plan_call(&slow.write()?, 10_000)?.cost, 12);
 //! # Ok::<(), postman::Refusal>(())
 //! ```
 //!
@@ -28,6 +30,7 @@
 #![deny(missing_docs)]
 
 mod answer;
+mod edition;
 mod ffi;
 pub mod limits;
 mod plan;
@@ -35,5 +38,6 @@ pub mod raw;
 mod refusal;
 
 pub use answer::{plan_call, short_call, Answer};
+pub use edition::Edition;
 pub use plan::{Arc, Plan, Standing};
 pub use refusal::Refusal;

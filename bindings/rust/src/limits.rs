@@ -5,7 +5,7 @@ pub const MOST_VERTICES: usize = 64;
 /// The most arcs of a plan.
 pub const MOST_ARCS: usize = 256;
 /// The most bytes of a plan file.
-pub const LONGEST_FILE: usize = 963;
+pub const LONGEST_FILE: usize = 1_475;
 
 /// The most parts of a plan that is not refused.
 pub const MOST_PARTS: usize = 8;
@@ -21,8 +21,8 @@ pub const HIGHEST_BUDGET: u64 = 1_000_000;
 /// The distance that stands for "no path".
 pub const NO_PATH: u32 = 4_294_967_295;
 
-/// The bytes of a record, which is an arc: tail, head, standing, the cost's high byte, its low byte.
-pub const RECORD_BYTES: usize = 5;
+/// The bytes of a record, which is an arc: tail, head, standing, the high byte and the low byte of its cost, and those of its service cost.
+pub const RECORD_BYTES: usize = 7;
 /// The index of a record's tail.
 pub const RECORD_TAIL: usize = 0;
 /// The index of a record's head.
@@ -33,6 +33,10 @@ pub const RECORD_STANDING: usize = 2;
 pub const RECORD_COST_HIGH: usize = 3;
 /// The index of the low byte of a record's cost.
 pub const RECORD_COST_LOW: usize = 4;
+/// The index of the high byte of a record's service cost.
+pub const RECORD_SERVICE_HIGH: usize = 5;
+/// The index of the low byte of a record's service cost.
+pub const RECORD_SERVICE_LOW: usize = 6;
 
 /// The words of an answer.
 pub const ANSWER_WORDS: usize = 6;
@@ -52,5 +56,7 @@ pub const PARTS: usize = 5;
 /// The multipliers of an answer.
 pub const MULTIPLIERS: usize = 64;
 
-/// A file that was read answers this many times its vertices, plus its arcs.
+/// A file that was read answers this many times its edition, plus [`COUNTS`] times its vertices, plus its arcs.
+pub const EDITIONS: usize = 65_536;
+/// A file that was read answers [`EDITIONS`] times its edition, plus this many times its vertices, plus its arcs.
 pub const COUNTS: usize = 512;

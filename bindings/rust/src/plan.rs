@@ -1,7 +1,7 @@
 //! The plan as data, read from a file and written to one.
 
 use crate::limits::{LONGEST_FILE, MOST_ARCS, RECORD_BYTES};
-use crate::{raw, Refusal};
+use crate::{raw, Edition, Refusal};
 
 /// What may be done with an arc.
 #[derive(Clone, Copy, PartialEq, Eq, PartialOrd, Ord, Hash, Debug, Default)]
@@ -48,25 +48,49 @@ pub struct Arc {
     pub head: u8,
     /// What may be done with it.
     pub standing: Standing,
-    /// What it costs to drive it once, 1 or more.
+    /// What it costs to drive it, 1 or more.
     pub cost: u16,
+    /// What the one pass costs on which a required arc is checked, 1 or more; it may be below the cost or above it. 0 in all other arcs.
+    pub service: u16,
 }
 
 impl Arc {
+    /// An arc that is checked, if it is required, at what it costs to drive. The first edition has no others.
+    ///
+    /// ```
+    /// use postman::{Arc, Standing};
+    ///
+    /// assert_eq!(Arc::new(0, 1, Standing::Required, 5).service, 5);
+    /// assert_eq!(Arc::new(0, 1, Standing::Optional, 5).service, 0);
+    /// ```
+    pub fn new(tail: u8, head: u8, standing: Standing, cost: u16) -> Arc {
+        let service = if standing == Standing::Required { cost } else { 0 };
+        Arc { tail, head, standing, cost, service }
+    }
+
+    /// A required arc whose checking pass costs `service`. It takes the second edition.
+    pub fn checked(tail: u8, head: u8, cost: u16, service: u16) -> Arc {
+        Arc { tail, head, standing: Standing::Required, cost, service }
+    }
+
     fn to_record(self) -> [u8; RECORD_BYTES] {
-        let [high, low] = self.cost.to_be_bytes();
-        [self.tail, self.head, self.standing.number(), high, low]
+        let ([cost_high, cost_low], [service_high, service_low]) =
+            (self.cost.to_be_bytes(), self.service.to_be_bytes());
+        [self.tail, self.head, self.standing.number(), cost_high, cost_low, service_high, service_low]
     }
 
     fn from_record(record: &[u8]) -> Arc {
         let standing = Standing::from_number(record[2]).expect("a file with another standing is refused");
-        Arc { tail: record[0], head: record[1], standing, cost: u16::from_be_bytes([record[3], record[4]]) }
+        let number = |high, low| u16::from_be_bytes([record[high], record[low]]);
+        Arc { tail: record[0], head: record[1], standing, cost: number(3, 4), service: number(5, 6) }
     }
 }
 
 /// A directed graph. Arcs go by their index.
 #[derive(Clone, PartialEq, Eq, Hash, Debug)]
 pub struct Plan {
+    /// The edition of its file.
+    pub edition: Edition,
     /// The number of vertices, from 1 to 64. They are 0 to this minus 1.
     pub vertices: u32,
     /// The arcs, from 1 to 256.
@@ -77,40 +101,43 @@ impl Plan {
     /// Reads a plan file. Refuses with 1 to 7 and 13.
     ///
     /// ```
-    /// use postman::{Arc, Plan, Refusal, Standing};
+    /// use postman::{Arc, Edition, Plan, Refusal, Standing};
     ///
     /// let file = [0x10, 0x40, 0x20, 0x01, 0x40, 0x01, 0x41, 0x00, 0x00, 0x03];
     /// let plan = Plan::read(&file)?;
-    /// assert_eq!(plan.vertices, 2);
-    /// assert_eq!(plan.arcs[0], Arc { tail: 0, head: 1, standing: Standing::Required, cost: 5 });
+    /// assert_eq!((plan.edition, plan.vertices), (Edition::First, 2));
+    /// assert_eq!(plan.arcs, [Arc::new(0, 1, Standing::Required, 5), Arc::new(1, 0, Standing::Optional, 3)]);
     /// assert_eq!(plan.write()?, file);
     /// assert_eq!(Plan::read(&file[..9]), Err(Refusal::Torn));
     /// # Ok::<(), Refusal>(())
     /// ```
     pub fn read(file: &[u8]) -> Result<Plan, Refusal> {
         let mut records = [0; MOST_ARCS * RECORD_BYTES];
-        let (n, m) = raw::read_plan(file, &mut records)?;
+        let (edition, n, m) = raw::read_plan(file, &mut records)?;
+        let edition = Edition::from_number(edition).expect("a file of another edition is refused");
         let vertices = u32::try_from(n).expect("a plan has at most 64 vertices");
         let arcs = records.chunks_exact(RECORD_BYTES).take(m).map(Arc::from_record).collect();
-        Ok(Plan { vertices, arcs })
+        Ok(Plan { edition, vertices, arcs })
     }
 
-    /// Writes the plan's file, which reads back to the plan. Refuses with 3, 5, 6 and 13.
+    /// Writes the plan's file, in its edition, which reads back to the plan. Refuses with 3, 5, 6 and 13.
     ///
     /// ```
-    /// use postman::{Arc, Plan, Refusal, Standing};
+    /// use postman::{Arc, Edition, Plan, Refusal};
     ///
-    /// let mut plan = Plan { vertices: 1, arcs: vec![Arc { tail: 0, head: 0, standing: Standing::Required, cost: 7 }] };
+    /// let mut plan = Plan { edition: Edition::Second, vertices: 1, arcs: vec![Arc::checked(0, 0, 7, 20)] };
     /// let file = plan.write()?;
     /// assert_eq!(Plan::read(&file)?, plan);
-    /// plan.arcs.push(plan.arcs[0]);
+    /// plan.edition = Edition::First;
+    /// assert_eq!(plan.write(), Err(Refusal::Unpriced));
+    /// plan.arcs = vec![Arc::checked(0, 0, 7, 7); 2];
     /// assert_eq!(plan.write(), Err(Refusal::Repeated));
     /// # Ok::<(), Refusal>(())
     /// ```
     pub fn write(&self) -> Result<Vec<u8>, Refusal> {
         let records: Vec<u8> = self.arcs.iter().flat_map(|arc| arc.to_record()).collect();
         let mut bytes = vec![0; LONGEST_FILE];
-        let length = raw::write_plan(self.vertices, &records, &mut bytes)?;
+        let length = raw::write_plan(self.edition.number().into(), self.vertices, &records, &mut bytes)?;
         bytes.truncate(length);
         Ok(bytes)
     }
@@ -121,7 +148,11 @@ mod tests {
     use super::*;
 
     fn arc(tail: u8, head: u8, cost: u16) -> Arc {
-        Arc { tail, head, standing: Standing::Optional, cost }
+        Arc::new(tail, head, Standing::Optional, cost)
+    }
+
+    fn plan(vertices: u32, arcs: Vec<Arc>) -> Plan {
+        Plan { edition: Edition::First, vertices, arcs }
     }
 
     #[test]
@@ -134,20 +165,52 @@ mod tests {
 
     #[test]
     fn the_largest_plan_reads_back() {
-        let arcs: Vec<Arc> = (0..256).map(|k| arc((k % 64) as u8, 63, 65_280 + k)).collect();
-        let plan = Plan { vertices: 64, arcs };
-        let file = plan.write().unwrap();
-        assert_eq!(file.len(), LONGEST_FILE);
-        assert_eq!(Plan::read(&file), Ok(plan));
+        let arcs = |arc: fn(u16) -> Arc| -> Vec<Arc> { (0..256).map(arc).collect() };
+        let first = plan(64, arcs(|k| arc((k % 64) as u8, 63, 65_280 + k)));
+        let second = arcs(|k| Arc::checked((k % 64) as u8, 63, 65_280 + k, 65_535 - k));
+        for (plan, length) in [(first, 963), (Plan { edition: Edition::Second, ..plan(64, second) }, LONGEST_FILE)] {
+            let file = plan.write().unwrap();
+            assert_eq!(file.len(), length);
+            assert_eq!(Plan::read(&file[..length - 1]), Err(Refusal::Torn));
+            assert_eq!(Plan::read(&[&file[..], &[0]].concat()), Err(Refusal::Margin));
+            assert_eq!(Plan::read(&file), Ok(plan));
+        }
     }
 
     #[test]
     fn plans_beyond_the_limits_are_refused() {
         let arcs = |m: u16| -> Vec<Arc> { (1..=m).map(|cost| arc(0, 0, cost)).collect() };
         for (vertices, m) in [(0, 1), (65, 1), (u32::MAX, 1), (1, 0), (1, 257)] {
-            assert_eq!(Plan { vertices, arcs: arcs(m) }.write(), Err(Refusal::Extent), "{vertices} vertices, {m} arcs");
+            assert_eq!(plan(vertices, arcs(m)).write(), Err(Refusal::Extent), "{vertices} vertices, {m} arcs");
         }
-        assert_eq!(Plan { vertices: 2, arcs: vec![arc(0, 2, 1)] }.write(), Err(Refusal::OffSheet));
-        assert_eq!(Plan { vertices: 2, arcs: vec![arc(0, 1, 0)] }.write(), Err(Refusal::Unpriced));
+        assert_eq!(plan(2, vec![arc(0, 2, 1)]).write(), Err(Refusal::OffSheet));
+        assert_eq!(plan(2, vec![arc(0, 1, 0)]).write(), Err(Refusal::Unpriced));
+    }
+
+    /// A service cost of 0 in a required arc, or another in any other arc; and in the first edition any but the cost.
+    #[test]
+    fn wrong_service_costs_are_refused() {
+        let of = |edition, arc| Plan { edition, ..plan(2, vec![arc]) }.write().err();
+        for edition in [Edition::First, Edition::Second] {
+            for arc in
+                [Arc::checked(0, 1, 5, 0), Arc { service: 5, ..arc(0, 1, 5) }, Arc { service: 1, ..arc(0, 1, 5) }]
+            {
+                assert_eq!(of(edition, arc), Some(Refusal::Unpriced));
+            }
+            assert_eq!(of(edition, Arc::checked(0, 1, 5, 5)), None);
+            assert_eq!(of(edition, arc(0, 1, 5)), None);
+        }
+        for service in [1, 4, 6, 65_535] {
+            assert_eq!(of(Edition::First, Arc::checked(0, 1, 5, service)), Some(Refusal::Unpriced));
+            assert_eq!(of(Edition::Second, Arc::checked(0, 1, 5, service)), None);
+        }
+    }
+
+    /// Two arcs that agree but for their service costs are two arcs.
+    #[test]
+    fn arcs_may_differ_in_their_service_costs() {
+        let of = |second| Plan { edition: Edition::Second, ..plan(2, vec![Arc::checked(0, 1, 5, 9), second]) }.write();
+        assert_eq!(of(Arc::checked(0, 1, 5, 8)).map(|file| file.len()), Ok(14));
+        assert_eq!(of(Arc::checked(0, 1, 5, 9)), Err(Refusal::Repeated));
     }
 }

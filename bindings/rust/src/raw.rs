@@ -4,7 +4,7 @@
 //! references give both, so these calls are safe. A refusal changes no lent slice.
 
 use crate::ffi;
-use crate::limits::COUNTS;
+use crate::limits::{COUNTS, EDITIONS};
 use crate::Refusal;
 
 /// What was asked for, or the refusal: minus its number.
@@ -15,38 +15,41 @@ fn unless_refused(number: i64) -> Result<usize, Refusal> {
     })
 }
 
-/// Reads the file `plan`: its numbers of vertices and arcs, n and m. Refuses with 1 to 8 and 13.
+/// Reads the file `plan`: its edition, and its numbers of vertices and arcs, n and m. Refuses with 1 to 8 and 13.
 ///
-/// `records` has room for a fifth of its bytes, and bytes left over are no record. The file's arcs are put into its first m records; later
+/// `records` has room for a seventh of its bytes, and bytes left over are no record. The file's arcs are put into its first m records; later
 /// bytes are untouched. With fewer than m records it is refused with 8.
 ///
 /// ```
 /// let file = [0x10, 0x40, 0x20, 0x01, 0x40, 0x01, 0x41, 0x00, 0x00, 0x03];
-/// let mut records = [0xFF; 12];
-/// assert_eq!(postman::raw::read_plan(&file, &mut records), Ok((2, 2)));
-/// assert_eq!(records, [0, 1, 1, 0, 5, 1, 0, 0, 0, 3, 0xFF, 0xFF]);
+/// let mut records = [0xFF; 16];
+/// assert_eq!(postman::raw::read_plan(&file, &mut records), Ok((1, 2, 2)));
+/// assert_eq!(records, [0, 1, 1, 0, 5, 0, 5, 1, 0, 0, 0, 3, 0, 0, 0xFF, 0xFF]);
 /// ```
-pub fn read_plan(plan: &[u8], records: &mut [u8]) -> Result<(usize, usize), Refusal> {
+pub fn read_plan(plan: &[u8], records: &mut [u8]) -> Result<(u8, usize, usize), Refusal> {
     // SAFETY: each pointer comes with the length of its own slice, and the slices do not overlap.
     let number = unsafe { ffi::postman_read_plan(plan.as_ptr(), plan.len(), records.as_mut_ptr(), records.len()) };
-    unless_refused(number).map(|counts| (counts / COUNTS, counts % COUNTS))
+    let told = unless_refused(number)?;
+    let edition = u8::try_from(told / EDITIONS).expect("an edition is 1 or 2");
+    Ok((edition, told % EDITIONS / COUNTS, told % COUNTS))
 }
 
-/// Writes the file of `n` vertices and the arcs `records`: the file's length in bytes. Refuses with 3, 5 to 8 and 13.
+/// Writes the file of an edition, of `n` vertices and the arcs `records`: the file's length in bytes. Refuses with 2, 3, 5 to 8 and 13.
 ///
-/// m is a fifth of the bytes of `records`, and bytes left over are no record. The file is put into `bytes` from its start; later bytes are
+/// m is a seventh of the bytes of `records`, and bytes left over are no record. The file is put into `bytes` from its start; later bytes are
 /// untouched. With fewer bytes than the file has it is refused with 8;
 /// [`LONGEST_FILE`](crate::limits::LONGEST_FILE) always suffice.
 ///
 /// ```
 /// let mut bytes = [0xFF; 12];
-/// assert_eq!(postman::raw::write_plan(2, &[0, 1, 1, 0, 5, 1, 0, 0, 0, 3], &mut bytes), Ok(10));
+/// let records = [0, 1, 1, 0, 5, 0, 5, 1, 0, 0, 0, 3, 0, 0];
+/// assert_eq!(postman::raw::write_plan(1, 2, &records, &mut bytes), Ok(10));
 /// assert_eq!(bytes, [0x10, 0x40, 0x20, 0x01, 0x40, 0x01, 0x41, 0x00, 0x00, 0x03, 0xFF, 0xFF]);
 /// ```
-pub fn write_plan(n: u32, records: &[u8], bytes: &mut [u8]) -> Result<usize, Refusal> {
+pub fn write_plan(edition: u32, n: u32, records: &[u8], bytes: &mut [u8]) -> Result<usize, Refusal> {
     // SAFETY: as in `read_plan`.
     unless_refused(unsafe {
-        ffi::postman_write_plan(n, records.as_ptr(), records.len(), bytes.as_mut_ptr(), bytes.len())
+        ffi::postman_write_plan(edition, n, records.as_ptr(), records.len(), bytes.as_mut_ptr(), bytes.len())
     })
 }
 
@@ -122,6 +125,8 @@ mod tests {
     use crate::limits::{ANSWER_WORDS, DEFAULT_BUDGET, MULTIPLIERS, SHEET_PLACES};
 
     const CASE_A: [u8; 10] = [0x10, 0x40, 0x20, 0x01, 0x40, 0x01, 0x41, 0x00, 0x00, 0x03];
+    /// The same in edition 2, its first arc checked at 9.
+    const CHECKED: [u8; 14] = [0x20, 0x40, 0x20, 0x01, 0x40, 0x01, 0x40, 0x02, 0x41, 0x00, 0x00, 0x03, 0x00, 0x00];
 
     #[test]
     fn numbers_below_zero_are_refusals() {
@@ -170,14 +175,36 @@ mod tests {
         assert_eq!(short.1[crate::limits::TREES], DEFAULT_BUDGET);
     }
 
-    /// Five bytes are a record, and up to four left over are none.
+    /// Seven bytes are a record, and up to six left over are none.
     #[test]
     fn bytes_left_over_are_no_record() {
-        let mut records = [0xA5; 9];
+        let mut records = [0xA5; 13];
         assert_eq!(read_plan(&CASE_A, &mut records), Err(Refusal::ShortSheet));
-        assert_eq!(records, [0xA5; 9]);
+        assert_eq!(records, [0xA5; 13]);
         let mut bytes = [0; 10];
-        assert_eq!(write_plan(2, &[0, 1, 1, 0, 5, 1, 0, 0, 0, 3, 9, 9, 9, 9], &mut bytes), Ok(10));
+        let records = [0, 1, 1, 0, 5, 0, 5, 1, 0, 0, 0, 3, 0, 0, 9, 9, 9, 9, 9, 9];
+        assert_eq!(write_plan(1, 2, &records, &mut bytes), Ok(10));
         assert_eq!(bytes, CASE_A);
+    }
+
+    /// The second edition both ways, and editions that there are not.
+    #[test]
+    fn editions_are_told() {
+        let mut records = [0; 14];
+        assert_eq!(read_plan(&CHECKED, &mut records), Ok((2, 2, 2)));
+        assert_eq!(records, [0, 1, 1, 0, 5, 0, 9, 1, 0, 0, 0, 3, 0, 0]);
+        let mut bytes = [0; 14];
+        assert_eq!(write_plan(2, 2, &records, &mut bytes), Ok(14));
+        assert_eq!(bytes, CHECKED);
+        assert_eq!(write_plan(1, 2, &records, &mut bytes), Err(Refusal::Unpriced));
+        for edition in [0, 3, 15, 16, 255, 256, 257, 258, 65_537, u32::MAX] {
+            assert_eq!(write_plan(edition, 0, &records, &mut bytes), Err(Refusal::Edition));
+        }
+        for edition in (0..16).filter(|edition| ![1, 2].contains(edition)) {
+            let mut file = CHECKED;
+            file[0] = edition << 4;
+            assert_eq!(read_plan(&file, &mut records), Err(Refusal::Edition));
+        }
+        assert_eq!(bytes, CHECKED);
     }
 }

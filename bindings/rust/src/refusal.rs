@@ -9,16 +9,16 @@ use std::fmt;
 /// ```
 /// use postman::{short_call, Refusal};
 ///
-/// let refusal = short_call(&[0x20, 0x40, 0x20]).unwrap_err();
+/// let refusal = short_call(&[0x30, 0x40, 0x20]).unwrap_err();
 /// assert_eq!(refusal, Refusal::Edition);
 /// assert_eq!((refusal.number(), refusal.word()), (2, "edition"));
-/// assert_eq!(refusal.to_string(), "refusal 2, edition: the file's edition is not 1");
+/// assert_eq!(refusal.to_string(), "refusal 2, edition: the edition is neither 1 nor 2");
 /// ```
 #[derive(Clone, Copy, PartialEq, Eq, PartialOrd, Ord, Hash, Debug)]
 pub enum Refusal {
     /// The file has under 3 bytes, or fewer than its arcs need.
     Torn = 1,
-    /// The file's edition is not 1.
+    /// The edition is neither 1 nor 2.
     Edition = 2,
     /// No vertex or more than 64, or no arc or more than 256.
     Extent = 3,
@@ -26,7 +26,7 @@ pub enum Refusal {
     Margin = 4,
     /// An arc's tail or head is no vertex.
     OffSheet = 5,
-    /// An arc's cost is 0.
+    /// An arc's cost is 0, a required arc's service cost is 0, or another arc's is not; or one cannot be written in edition 1.
     Unpriced = 6,
     /// An arc's standing is above 2.
     Standing = 7,
@@ -40,7 +40,7 @@ pub enum Refusal {
     Scattered = 11,
     /// No drive exists: some required vertex has no path to another.
     CutOff = 12,
-    /// Two arcs agree in tail, head, standing and cost.
+    /// Two arcs agree in all their fields.
     Repeated = 13,
 }
 
@@ -88,18 +88,18 @@ impl Refusal {
     fn words(self) -> (&'static str, &'static str) {
         match self {
             Refusal::Torn => ("torn", "the file has under 3 bytes, or fewer than its arcs need"),
-            Refusal::Edition => ("edition", "the file's edition is not 1"),
+            Refusal::Edition => ("edition", "the edition is neither 1 nor 2"),
             Refusal::Extent => ("extent", "no vertex or more than 64, or no arc or more than 256"),
             Refusal::Margin => ("margin", "the file has more bytes than its arcs need, or a fill bit is 1"),
             Refusal::OffSheet => ("off sheet", "an arc's tail or head is no vertex"),
-            Refusal::Unpriced => ("unpriced", "an arc's cost is 0"),
+            Refusal::Unpriced => ("unpriced", "an arc's cost or service cost is wrong"),
             Refusal::Standing => ("standing", "an arc's standing is above 2"),
             Refusal::ShortSheet => ("short sheet", "too few records, bytes or places are lent"),
             Refusal::Budget => ("budget", "the budget is 0 or above 1,000,000"),
             Refusal::Idle => ("idle", "no arc must be driven"),
             Refusal::Scattered => ("scattered", "the plan has more than 8 parts"),
             Refusal::CutOff => ("cut off", "no drive exists: some required vertex has no path to another"),
-            Refusal::Repeated => ("repeated", "two arcs agree in tail, head, standing and cost"),
+            Refusal::Repeated => ("repeated", "two arcs agree in all their fields"),
         }
     }
 }

@@ -110,7 +110,7 @@ fn codecs() {
     for (name, codec) in codecs {
         let (mut records, mut bytes) = (plan.arcs.clone(), file.clone());
         let read = microseconds(|| assert!(codec.read(&file, &mut records).is_ok()));
-        let write = microseconds(|| assert!(codec.write(plan.n as u32, &plan.arcs, &mut bytes).is_ok()));
+        let write = microseconds(|| assert!(codec.write(plan.edition, plan.n as u32, &plan.arcs, &mut bytes).is_ok()));
         println!("  {name:<10} {read:>6.1} µs, {write:>6.1} µs");
     }
 }

@@ -61,7 +61,7 @@ pub fn town(random: &mut Random) -> Plan {
     arcs.truncate(MOST_ARCS - 6);
     arcs.extend((0..6).map(|_| Arc::new(random.below(64), random.below(64), CLOSED, 9)));
     random.shuffle(&mut arcs);
-    Plan { n: SIDE * SIDE, arcs }
+    Plan::new(SIDE * SIDE, arcs)
 }
 
 /// Required circles, one for each part: balanced as they stand.
@@ -92,7 +92,7 @@ pub fn many_trees(random: &mut Random) -> Plan {
         arcs.push(Arc::new(crossing(random), crossing(random), OPTIONAL, cost(random)));
     }
     random.shuffle(&mut arcs);
-    Plan { n: parts * size + crossings, arcs }
+    Plan::new(parts * size + crossings, arcs)
 }
 
 /// In each part many required arcs from a few vertices to a few others, and none back: nearly every one calls for a leg.
@@ -113,7 +113,7 @@ pub fn large_imbalance(random: &mut Random) -> Plan {
         arcs.push(Arc::new(random.below(n), random.below(n), OPTIONAL, cost(random)));
     }
     random.shuffle(&mut arcs);
-    Plan { n, arcs }
+    Plan::new(n, arcs)
 }
 
 /// So many parts beside part 0. Part 1 can be entered from part 2 by size² links and then, by its last candidate, from part 0; part 2 from part 3 only,
@@ -135,5 +135,5 @@ pub fn dead_ends(random: &mut Random, parts: usize, size: usize) -> Plan {
     arcs.push(Arc::new(last, 1, OPTIONAL, 300));
     arcs.push(Arc::new(size, 0, OPTIONAL, 300));
     random.shuffle(&mut arcs);
-    Plan { n: last + 1, arcs }
+    Plan::new(last + 1, arcs)
 }

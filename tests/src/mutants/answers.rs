@@ -1,8 +1,8 @@
 //! Planners that answer wrong what they have found, or refuse wrong.
 
 use super::Mutant;
-use crate::oracle::{parse, Graph, INFINITE};
-use crate::plan::{DEFAULT_BUDGET, HIGHEST_BUDGET, MOST_PARTS, PROGRAM_BUDGET, SHEET_PLACES};
+use crate::oracle::{file_of, parse, Graph, INFINITE};
+use crate::plan::{Arc, DEFAULT_BUDGET, HIGHEST_BUDGET, MOST_PARTS, PROGRAM_BUDGET, REQUIRED, SHEET_PLACES};
 use crate::planner::{refusal, Answer, Planner, Refusal};
 use crate::properties::Property::*;
 use crate::yardstick::Yardstick;
@@ -36,6 +36,24 @@ fn also_standing(plan: &[u8]) -> bool {
     parse(plan).arcs.iter().any(|a| a.standing == 3)
 }
 
+/// Whether two arcs agree but for their checking costs.
+fn has_twins(plan: &[u8]) -> bool {
+    let arcs: Vec<Arc> = parse(plan).arcs.iter().map(|a| Arc { service: 0, ..*a }).collect();
+    (0..arcs.len()).any(|k| arcs[..k].contains(&arcs[k]))
+}
+
+/// What the plan call answers for a plan that is refused by its prices, once these are changed in its arcs.
+fn repriced(p: &[u8], b: u64, s: &mut [u16], price: fn(&mut Arc)) -> Result<Answer, Refusal> {
+    match right(p, b, s) {
+        Err(refusal::UNPRICED) => {
+            let mut plan = parse(p);
+            plan.arcs.iter_mut().for_each(price);
+            right(&file_of(&plan), b, s)
+        }
+        result => result,
+    }
+}
+
 pub fn mutants() -> Vec<Mutant<dyn Planner>> {
     let mut all = Vec::new();
     let mut add = |name, violates, call: Call| {
@@ -56,6 +74,21 @@ pub fn mutants() -> Vec<Mutant<dyn Planner>> {
     add("floor is the cost", &[FloorHolds, FloorEquation], |p, b, s| {
         right(p, b, s).map(|a| Answer { floor: a.cost, ..a })
     });
+
+    // the cost
+    add(
+        "each pass of a must arc at its checking cost",
+        &[LeastCost, DriveCost, Optimum, CheckingCosts, Stated],
+        |p, b, s| {
+            let a = right(p, b, s)?;
+            let arcs = parse(p).arcs;
+            let pass = |&k: &u16| match arcs[usize::from(k)] {
+                Arc { standing: REQUIRED, service, .. } => u64::from(service),
+                Arc { cost, .. } => u64::from(cost),
+            };
+            Ok(Answer { cost: s[..a.places].iter().map(pass).sum(), ..a })
+        },
+    );
 
     // trees, whole, parts
     add("whole off by one", &[Whole], |p, b, s| right(p, b, s).map(|a| Answer { whole: a.trees < b, ..a }));
@@ -126,6 +159,42 @@ pub fn mutants() -> Vec<Mutant<dyn Planner>> {
         Err(refusal::UNPRICED) if also_standing(p) => Err(refusal::STANDING),
         result => result,
     });
+    add("standing before checking cost", &[Refusal, Stated], |p, b, s| match right(p, b, s) {
+        Err(refusal::UNPRICED) if parse(p).arcs.iter().all(|a| a.cost > 0) && also_standing(p) => {
+            Err(refusal::STANDING)
+        }
+        result => result,
+    });
+    add("checking cost of other arcs untested", &[Refusal, Stated], |p, b, s| {
+        repriced(p, b, s, |a| {
+            if a.standing != REQUIRED {
+                a.service = 0;
+            }
+        })
+    });
+    add("checking cost of must arcs untested", &[Refusal, Stated], |p, b, s| {
+        repriced(p, b, s, |a| {
+            if a.standing == REQUIRED && a.service == 0 {
+                a.service = a.cost;
+            }
+        })
+    });
+    add("repeated whatever the checking cost", &[Refusal, Stated], |p, b, s| match right(p, b, s) {
+        Ok(_) | Err(8..=12) if has_twins(p) => Err(refusal::REPEATED),
+        result => result,
+    });
+    add("edition 2 read with arcs of 30 bits", &[Refusal, Editions, Stated], |p, b, s| match p {
+        [first, rest @ ..] if first >> 4 == 2 => right(&[&[first ^ 0x30], rest].concat(), b, s),
+        _ => right(p, b, s),
+    });
+    add("edition 2 refused", &[Refusal, Editions, Stated], |p, b, s| match p {
+        [first, _, _, ..] if first >> 4 == 2 => Err(refusal::EDITION),
+        _ => right(p, b, s),
+    });
+    add("edition 3 read like edition 1", &[Refusal, Stated], |p, b, s| match p {
+        [first, rest @ ..] if first >> 4 == 3 => right(&[&[first ^ 0x20], rest].concat(), b, s),
+        _ => right(p, b, s),
+    });
     add("cut off before scattered", &[Refusal, Stated], |p, b, s| match right(p, b, s) {
         Err(refusal::SCATTERED) => {
             let graph = Graph::new(&parse(p));
@@ -141,7 +210,8 @@ pub fn mutants() -> Vec<Mutant<dyn Planner>> {
     add("fill bits not looked at", &[Refusal], |p, b, s| match right(p, b, s) {
         Err(refusal::MARGIN) => {
             let mut clean = p.to_vec();
-            let fill = 8 * p.len() - 20 - 30 * ((8 * p.len() - 20) / 30);
+            let width = if p[0] >> 4 == 2 { 46 } else { 30 };
+            let fill = (8 * p.len() - 20) % width;
             *clean.last_mut().expect("not torn") &= 0xFFu8.checked_shl(fill as u32).unwrap_or(0xFF);
             right(&clean, b, s)
         }

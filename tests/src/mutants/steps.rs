@@ -1,7 +1,7 @@
 //! Planners that take one step of the method wrong.
 
 use super::Mutant;
-use crate::plan::{Arc, Plan, MOST_VERTICES, OPTIONAL, REQUIRED};
+use crate::plan::{Arc, Plan, CLOSED, MOST_VERTICES, OPTIONAL, REQUIRED};
 use crate::planner::Planner;
 use crate::properties::Property::{self, *};
 use crate::yardstick::{distances, shortest_path, Balance, Components, Distances, Entries, Steps, NO_PATH};
@@ -33,7 +33,7 @@ wrong_steps! {
 
     StronglyConnectedParts violates [Parts, Trees, Stated] {
         fn components(&self, plan: &Plan) -> Components {
-            let d = distances(plan, |a| a.standing == REQUIRED);
+            let d = distances(plan, |a| (a.standing == REQUIRED).then_some(1));
             let mutual = |v: usize, w: usize| d[v][w] < NO_PATH && d[w][v] < NO_PATH;
             let lowest = |v: usize| (0..=v).find(|&w| mutual(v, w)).expect("v itself");
             Components::from_labels(plan, &std::array::from_fn(lowest))
@@ -89,21 +89,46 @@ wrong_steps! {
 
     OneArcForALeg violates [Drive] {
         fn path(&self, plan: &Plan, d: &Distances, i: usize, j: usize) -> Vec<u16> {
-            let mut path = shortest_path(plan, d, |a| self.is_open(a), i, j);
+            let mut path = shortest_path(plan, d, |a| self.length(a), i, j);
             path.truncate(1);
             path
         }
     }
 
     ClosedArcsDriven violates [Drive, Refusal] {
-        fn is_open(&self, _arc: &Arc) -> bool {
-            true
+        fn length(&self, arc: &Arc) -> Option<u64> {
+            Some(arc.cost.into())
         }
     }
 
     RequiredArcsServeInNoPath violates [Refusal, LeastCost] {
-        fn is_open(&self, arc: &Arc) -> bool {
-            arc.standing == OPTIONAL
+        fn length(&self, arc: &Arc) -> Option<u64> {
+            (arc.standing == OPTIONAL).then_some(arc.cost.into())
+        }
+    }
+
+    EveryPassChecked violates [LeastCost, DriveCost, Optimum, CheckingCosts, Stated] {
+        fn length(&self, arc: &Arc) -> Option<u64> {
+            let pass = if arc.standing == REQUIRED { arc.service } else { arc.cost };
+            (arc.standing != CLOSED).then_some(pass.into())
+        }
+    }
+
+    RequiredCostPlain violates [LeastCost, DriveCost, Optimum, FloorHolds, FloorEquation, CheckingCosts, Stated] {
+        fn service(&self, arc: &Arc) -> u16 {
+            arc.cost
+        }
+    }
+
+    CheckedAndPassed violates [LeastCost, DriveCost, Optimum, FloorHolds, Stated] {
+        fn service(&self, arc: &Arc) -> u16 {
+            arc.service.saturating_add(arc.cost)
+        }
+    }
+
+    CheckedAtNoLessThanItsCost violates [LeastCost, DriveCost, Stated] {
+        fn service(&self, arc: &Arc) -> u16 {
+            arc.service.max(arc.cost)
         }
     }
 

@@ -16,36 +16,65 @@ fn unpack(bytes: &[u8]) -> String {
     bytes.iter().map(|&byte| bits_of(byte.into(), 8)).collect()
 }
 
-/// The bits of a file of m arcs, before the fill, and its bytes.
-fn bit_length(m: usize) -> usize {
-    4 + 7 + 9 + m * (6 + 6 + 2 + 16)
+/// The bits of an arc, by edition.
+fn arc_bits(edition: u8) -> usize {
+    let fields = [6, 6, 2, 16, 16];
+    fields[..if edition == 2 { 5 } else { 4 }].iter().sum()
 }
 
-fn byte_length(m: usize) -> usize {
-    let bits = bit_length(m);
+/// The bits of a file of m arcs, before the fill, and its bytes.
+fn bit_length(edition: u8, m: usize) -> usize {
+    4 + 7 + 9 + m * arc_bits(edition)
+}
+
+fn byte_length(edition: u8, m: usize) -> usize {
+    let bits = bit_length(edition, m);
     bits / 8 + usize::from(!bits.is_multiple_of(8))
 }
 
 /// The fields of a file that is long enough for its arc count, whatever they hold.
 pub fn parse(bytes: &[u8]) -> Plan {
     let bits = unpack(bytes);
+    let edition = number(&bits[..4]) as u8;
     let arcs = (0..number(&bits[11..20])).map(|k| {
-        let arc = &bits[20 + 30 * k..50 + 30 * k];
+        let arc = &bits[bit_length(edition, k)..bit_length(edition, k + 1)];
         let byte = |from: usize, to: usize| number(&arc[from..to]) as u8;
-        Arc { tail: byte(0, 6), head: byte(6, 12), standing: byte(12, 14), cost: number(&arc[14..]) as u16 }
+        let cost = number(&arc[14..30]) as u16;
+        // "In edition 1 a must arc's checking cost is its cost, any other arc's is 0."
+        let service = match (edition, &arc[12..14]) {
+            (2, _) => number(&arc[30..]) as u16,
+            (_, "01") => cost,
+            _ => 0,
+        };
+        Arc { tail: byte(0, 6), head: byte(6, 12), standing: byte(12, 14), cost, service }
     });
-    Plan { n: number(&bits[4..11]), arcs: arcs.collect() }
+    Plan { edition, n: number(&bits[4..11]), arcs: arcs.collect() }
+}
+
+/// Whether a file has a header, and as many bytes as its arcs need.
+pub fn is_long_enough(bytes: &[u8]) -> bool {
+    let bits = unpack(bytes);
+    bits.len() >= 24 && bits.len() >= bit_length(number(&bits[..4]) as u8, number(&bits[11..20]))
+}
+
+/// Whether cost and checking cost are good ones: the first in any arc, the second in a must arc and in no other, and in edition 1 no other than the first.
+fn is_priced(edition: u8, a: &Arc) -> bool {
+    match (edition, a.standing == 1) {
+        (_, false) => a.cost > 0 && a.service == 0,
+        (1, true) => a.cost > 0 && a.service == a.cost,
+        (_, true) => a.cost > 0 && a.service > 0,
+    }
 }
 
 /// The first arc that breaks a limit gives its first number; where none does, 13 if two arcs are the same once all are sorted; 0 for none.
-fn arcs_refusal(n: usize, arcs: &[Arc]) -> Refusal {
+fn arcs_refusal(edition: u8, n: usize, arcs: &[Arc]) -> Refusal {
     let of_arc = |a: &Arc| match a {
         a if usize::from(a.tail) >= n || usize::from(a.head) >= n => 5,
-        a if a.cost == 0 => 6,
+        a if !is_priced(edition, a) => 6,
         a if a.standing > 2 => 7,
         _ => 0,
     };
-    let mut sorted: Vec<_> = arcs.iter().map(|a| (a.tail, a.head, a.standing, a.cost)).collect();
+    let mut sorted: Vec<_> = arcs.iter().map(|a| (a.tail, a.head, a.standing, a.cost, a.service)).collect();
     sorted.sort();
     let repeated = if sorted.windows(2).any(|pair| pair[0] == pair[1]) { 13 } else { 0 };
     arcs.iter().map(of_arc).find(|&number| number != 0).unwrap_or(repeated)
@@ -61,44 +90,53 @@ pub fn read_refusal(bytes: &[u8], room: usize) -> Refusal {
     if bits.len() < 24 {
         return 1;
     }
-    if &bits[..4] != "0001" {
-        return 2;
-    }
+    let edition = match &bits[..4] {
+        "0001" => 1,
+        "0010" => 2,
+        _ => return 2,
+    };
     let (n, m) = (number(&bits[4..11]), number(&bits[11..20]));
     if is_off_limits(n, m) {
         return 3;
     }
-    if bytes.len() < byte_length(m) {
+    if bytes.len() < byte_length(edition, m) {
         return 1;
     }
-    if bytes.len() > byte_length(m) || bits[bit_length(m)..].contains('1') {
+    if bytes.len() > byte_length(edition, m) || bits[bit_length(edition, m)..].contains('1') {
         return 4;
     }
-    match arcs_refusal(n, &parse(bytes).arcs) {
+    match arcs_refusal(edition, n, &parse(bytes).arcs) {
         0 if room < m => 8,
         number => number,
     }
 }
 
 /// Writing's refusal, 0 for none, where the slice has room for so many bytes.
-pub fn write_refusal(n: usize, arcs: &[Arc], room: usize) -> Refusal {
+pub fn write_refusal(plan: &Plan, room: usize) -> Refusal {
+    let &Plan { edition, n, ref arcs } = plan;
+    if ![1, 2].contains(&edition) {
+        return 2;
+    }
     if is_off_limits(n, arcs.len()) {
         return 3;
     }
-    match arcs_refusal(n, arcs) {
-        0 if room < byte_length(arcs.len()) => 8,
+    match arcs_refusal(edition, n, arcs) {
+        0 if room < byte_length(edition, arcs.len()) => 8,
         number => number,
     }
 }
 
-/// The file of a plan; fields that are too wide are cut, so that bad files can be made too.
+/// The file of a plan; fields that are too wide are cut, so that bad files can be made too. An edition that is none has arcs like those of edition 1.
 pub fn file_of(plan: &Plan) -> Vec<u8> {
-    let mut bits = bits_of(1, 4) + &bits_of(plan.n as u64, 7) + &bits_of(plan.arcs.len() as u64, 9);
+    let mut bits = bits_of(plan.edition.into(), 4) + &bits_of(plan.n as u64, 7) + &bits_of(plan.arcs.len() as u64, 9);
     for a in &plan.arcs {
         bits += &bits_of(a.tail.into(), 6);
         bits += &bits_of(a.head.into(), 6);
         bits += &bits_of(a.standing.into(), 2);
         bits += &bits_of(a.cost.into(), 16);
+        if plan.edition == 2 {
+            bits += &bits_of(a.service.into(), 16);
+        }
     }
     while !bits.len().is_multiple_of(8) {
         bits.push('0');

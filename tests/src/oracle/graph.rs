@@ -39,7 +39,7 @@ impl Graph {
             pairs(&required).filter(|&(i, j)| i != j && !required.iter().any(|&k| is_between(i, j, k))).collect();
         let count = |v: usize, f: fn(&(usize, usize)) -> usize| ends.iter().filter(|e| f(e) == v).count() as i64;
         let imbalance = (0..n).map(|v| count(v, |e| e.1) - count(v, |e| e.0)).collect();
-        let required_cost = required_arcs.iter().map(|&k| u64::from(plan.arcs[k].cost)).sum();
+        let required_cost = required_arcs.iter().map(|&k| u64::from(plan.arcs[k].service)).sum();
         Graph { plan: plan.clone(), required_arcs, required, d, part, parts, links, imbalance, required_cost }
     }
 
@@ -109,9 +109,10 @@ fn parts(n: usize, required: &[usize], ends: &[(usize, usize)]) -> (Vec<Option<u
 }
 
 /// "A drive: a list of arc numbers, none closed; each arc's head is the next one's tail, the last one's head the first one's tail; every must
-/// arc occurs." Its cost, or what is wrong with it.
+/// arc occurs." Its cost, or what is wrong with it: every pass at its plain cost, and then for each must arc one pass less at that cost and one
+/// more at its checking cost. Which pass it is does not matter.
 pub fn judge(plan: &Plan, drive: &[u16]) -> Result<u64, String> {
-    let mut cost = 0;
+    let mut plain = 0;
     for (place, &k) in drive.iter().enumerate() {
         let arc = plan.arcs.get(usize::from(k)).ok_or(format!("place {place}: no arc has number {k}"))?;
         if arc.standing == CLOSED {
@@ -121,10 +122,13 @@ pub fn judge(plan: &Plan, drive: &[u16]) -> Result<u64, String> {
         if plan.arcs.get(usize::from(next)).is_some_and(|a| a.tail != arc.head) {
             return Err(format!("place {place}: arc {k} does not lead to arc {next}"));
         }
-        cost += u64::from(arc.cost);
+        plain += u64::from(arc.cost);
     }
-    match (0..plan.arcs.len()).find(|&k| plan.arcs[k].standing == REQUIRED && !drive.contains(&(k as u16))) {
+    let required = || (0..plan.arcs.len()).filter(|&k| plan.arcs[k].standing == REQUIRED);
+    match required().find(|&k| !drive.contains(&(k as u16))) {
         Some(k) => Err(format!("required arc {k} does not occur")),
-        None => Ok(cost),
+        None => {
+            Ok(required().map(|k| &plan.arcs[k]).fold(plain, |sum, a| sum - u64::from(a.cost) + u64::from(a.service)))
+        }
     }
 }

@@ -8,7 +8,7 @@ use std::collections::BinaryHeap;
 pub const MOST_REQUIRED_ARCS: usize = 12;
 
 /// The cost of the cheapest drive, if there is one: the least cost from (v, none passed) to (v, all passed), where v is the tail of a required arc,
-/// which every drive visits, so that it can be read from there on.
+/// which every drive visits, so that it can be read from there on. A required arc that is not yet among those passed is checked.
 pub fn optimum(plan: &Plan) -> Option<u64> {
     let required: Vec<usize> = (0..plan.arcs.len()).filter(|&k| plan.arcs[k].standing == REQUIRED).collect();
     assert!((1..=MOST_REQUIRED_ARCS).contains(&required.len()), "too many sets");
@@ -25,7 +25,8 @@ pub fn optimum(plan: &Plan) -> Option<u64> {
         }
         for (k, a) in plan.arcs.iter().enumerate().filter(|(_, a)| usize::from(a.tail) == v && a.standing != CLOSED) {
             let mark = required.iter().position(|&r| r == k).map_or(0, |bit| 1 << bit);
-            queue.push(Reverse((cost + u64::from(a.cost), a.head.into(), passed | mark)));
+            let pass = if passed | mark != passed { a.service } else { a.cost };
+            queue.push(Reverse((cost + u64::from(pass), a.head.into(), passed | mark)));
         }
     }
     None

@@ -29,16 +29,17 @@ impl Planner for Proved {
 }
 
 fn to_bytes(a: &Arc) -> [u8; RECORD_BYTES] {
-    let [high, low] = a.cost.to_be_bytes();
-    [a.tail, a.head, a.standing, high, low]
+    let ([cost_high, cost_low], [service_high, service_low]) = (a.cost.to_be_bytes(), a.service.to_be_bytes());
+    [a.tail, a.head, a.standing, cost_high, cost_low, service_high, service_low]
 }
 
 fn from_bytes(b: &[u8]) -> Arc {
-    Arc { tail: b[0], head: b[1], standing: b[2], cost: u16::from_be_bytes([b[3], b[4]]) }
+    let number = |high, low| u16::from_be_bytes([b[high], b[low]]);
+    Arc { tail: b[0], head: b[1], standing: b[2], cost: number(3, 4), service: number(5, 6) }
 }
 
 impl Codec for Proved {
-    fn read(&self, bytes: &[u8], records: &mut [Arc]) -> Result<(usize, usize), Refusal> {
+    fn read(&self, bytes: &[u8], records: &mut [Arc]) -> Result<(u8, usize, usize), Refusal> {
         let mut lent: Vec<u8> = records.iter().flat_map(to_bytes).collect();
         let counts = raw::read_plan(bytes, &mut lent);
         // All records are taken back, not only the m that were asked for: what the library did to the others is seen by the caller.
@@ -48,9 +49,9 @@ impl Codec for Proved {
         counts.map_err(postman::Refusal::number)
     }
 
-    fn write(&self, n: u32, records: &[Arc], bytes: &mut [u8]) -> Result<usize, Refusal> {
+    fn write(&self, edition: u8, n: u32, records: &[Arc], bytes: &mut [u8]) -> Result<usize, Refusal> {
         let lent: Vec<u8> = records.iter().flat_map(to_bytes).collect();
-        raw::write_plan(n, &lent, bytes).map_err(postman::Refusal::number)
+        raw::write_plan(edition.into(), n, &lent, bytes).map_err(postman::Refusal::number)
     }
 }
 
@@ -67,12 +68,14 @@ mod tests {
         let mut multipliers = [-0x5A5A_5A5A; MOST_VERTICES];
         let mut record = [0xA5; RECORD_BYTES];
         let mut bytes = [0xA5; LONGEST_FILE];
-        let file = [0x20, 0x40, 0x20]; // edition 2
+        let file = [0x30, 0x40, 0x20]; // edition 3
         let edition = postman::Refusal::Edition;
         assert_eq!(raw::plan_call(&file, 1, &mut sheet, &mut answer, &mut multipliers), Err(edition));
         assert_eq!(raw::short_call(&file, &mut sheet, &mut answer, &mut multipliers), Err(edition));
         assert_eq!(raw::read_plan(&file, &mut record), Err(edition));
-        assert_eq!(raw::write_plan(65, &[0, 0, 0, 0, 1], &mut bytes), Err(postman::Refusal::Extent));
+        let records = [0, 0, 0, 0, 1, 0, 0];
+        assert_eq!(raw::write_plan(3, 1, &records, &mut bytes), Err(edition));
+        assert_eq!(raw::write_plan(1, 65, &records, &mut bytes), Err(postman::Refusal::Extent));
         assert_eq!(sheet, [0xA5A5; 9]);
         assert_eq!(answer, [0xA5A5_A5A5_A5A5_A5A5; ANSWER_WORDS]);
         assert_eq!(multipliers, [-0x5A5A_5A5A; MOST_VERTICES]);

@@ -1,25 +1,21 @@
 //! Reading and writing.
 
 use super::{Findings, Property};
-use crate::oracle::{file_of, parse, read_refusal, write_refusal};
+use crate::oracle::{file_of, is_long_enough, parse, read_refusal, write_refusal};
 use crate::plan::{Arc, Plan};
 use crate::planner::Codec;
 
-const FILL: Arc = Arc { tail: 0xA5, head: 0x5A, standing: 0xC3, cost: 0xA5C3 };
+const FILL: Arc = Arc { tail: 0xA5, head: 0x5A, standing: 0xC3, cost: 0xA5C3, service: 0x3C5A };
 const BYTE_FILL: u8 = 0xA5;
 
-/// Holds reading of a file into so many records, and writing of what it holds into so many bytes, to the oracle.
+/// Holds reading of a file into so many records, and writing of what it holds into so many bytes, in its edition and in the other, to the oracle.
 pub fn examine_codec(found: &mut Findings, codec: &dyn Codec, file: &[u8], room: usize, bytes: usize) {
     examine_reading(found, codec, file, room);
-    let long_enough = file.len() >= 3 && file.len() * 8 >= 20 + 30 * arc_count(file);
-    if long_enough {
+    if is_long_enough(file) {
         let plan = parse(file);
-        examine_writing(found, codec, plan.n as u32, &plan.arcs, bytes);
+        examine_writing(found, codec, &Plan { edition: 3 - plan.edition.clamp(1, 2), ..plan.clone() }, bytes);
+        examine_writing(found, codec, &plan, bytes);
     }
-}
-
-fn arc_count(file: &[u8]) -> usize {
-    usize::from(file[1] & 31) << 4 | usize::from(file[2] >> 4)
 }
 
 fn examine_reading(found: &mut Findings, codec: &dyn Codec, file: &[u8], room: usize) {
@@ -30,7 +26,11 @@ fn examine_reading(found: &mut Findings, codec: &dyn Codec, file: &[u8], room: u
         0 => {
             let plan = parse(file);
             let m = plan.arcs.len();
-            found.expect(Property::Reading, result == Ok((plan.n, m)) && records[..m] == plan.arcs, about);
+            found.expect(
+                Property::Reading,
+                result == Ok((plan.edition, plan.n, m)) && records[..m] == plan.arcs,
+                about,
+            );
             found.expect(Property::RecordsKept, records[m..].iter().all(|a| *a == FILL), about);
         }
         number => {
@@ -40,14 +40,14 @@ fn examine_reading(found: &mut Findings, codec: &dyn Codec, file: &[u8], room: u
     }
 }
 
-/// Records may hold what no file can.
-pub fn examine_writing(found: &mut Findings, codec: &dyn Codec, n: u32, arcs: &[Arc], room: usize) {
+/// The plan may hold what no file can.
+pub fn examine_writing(found: &mut Findings, codec: &dyn Codec, plan: &Plan, room: usize) {
     let mut bytes = vec![BYTE_FILL; room];
-    let result = codec.write(n, arcs, &mut bytes);
-    let about = || format!("{result:?} with room for {room} for n {n} and {arcs:?}");
-    let kept = match write_refusal(n as usize, arcs, room) {
+    let result = codec.write(plan.edition, plan.n as u32, &plan.arcs, &mut bytes);
+    let about = || format!("{result:?} with room for {room} for {plan:?}");
+    let kept = match write_refusal(plan, room) {
         0 => {
-            let file = file_of(&Plan { n: n as usize, arcs: arcs.to_vec() });
+            let file = file_of(plan);
             found.expect(Property::Writing, result == Ok(file.len()) && bytes[..file.len()] == file, about);
             &bytes[file.len()..]
         }

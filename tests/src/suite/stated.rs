@@ -1,5 +1,6 @@
 //! Document 01's cases and limits, in its own numbers.
 
+use super::{editions, faults};
 use crate::instances::fullest;
 use crate::oracle::file_of;
 use crate::plan::{Arc, Plan, CLOSED, OPTIONAL, REQUIRED};
@@ -8,7 +9,7 @@ use crate::properties::{Findings, Property};
 
 /// A plan as document 01 writes it: arcs are (tail, head, standing, cost).
 fn plan(n: usize, arcs: &[(usize, usize, u8, u16)]) -> Plan {
-    Plan { n, arcs: arcs.iter().map(|&(t, h, standing, cost)| Arc::new(t, h, standing, cost)).collect() }
+    Plan::new(n, arcs.iter().map(|&(t, h, standing, cost)| Arc::new(t, h, standing, cost)).collect())
 }
 
 /// Case A's file, as document 01 prints it.
@@ -37,24 +38,31 @@ pub fn case_c() -> Plan {
 
 /// A required loop of cost 1 at each vertex.
 fn loops(n: usize) -> Plan {
-    Plan { n, arcs: (0..n).map(|v| Arc::new(v, v, REQUIRED, 1)).collect() }
+    Plan::new(n, (0..n).map(|v| Arc::new(v, v, REQUIRED, 1)).collect())
 }
 
 /// Cost, trees tried, whole and parts; or the refusal.
-type Stated = Result<(u64, u64, bool, u64), Refusal>;
+pub(super) type Stated = Result<(u64, u64, bool, u64), Refusal>;
 
-struct Row {
-    what: &'static str,
-    file: Vec<u8>,
-    budget: u64,
-    places: usize,
-    stated: Stated,
+/// A call, and what is stated of it.
+pub(super) struct Row {
+    pub what: String,
+    pub file: Vec<u8>,
+    pub budget: u64,
+    pub places: usize,
+    pub stated: Stated,
+}
+
+impl Row {
+    fn new(what: &str, plan: &Plan, budget: u64, places: usize, stated: Stated) -> Row {
+        Row { what: what.to_string(), file: file_of(plan), budget, places, stated }
+    }
 }
 
 /// The cases, on a sheet that is just long enough.
 fn cases() -> Vec<Row> {
     let idle = plan(2, &[(0, 1, OPTIONAL, 5), (1, 0, OPTIONAL, 3)]);
-    let circle = Plan { n: 64, arcs: (0..64).map(|v| Arc::new(v, (v + 1) % 64, REQUIRED, 1)).collect() };
+    let circle = Plan::new(64, (0..64).map(|v| Arc::new(v, (v + 1) % 64, REQUIRED, 1)).collect());
     let mut wider = fullest();
     wider.arcs.push(Arc::new(0, 0, CLOSED, 1));
     let rows = [
@@ -75,9 +83,9 @@ fn cases() -> Vec<Row> {
         ("n 0", Plan { n: 0, ..case_a() }, 10_000, Err(3)),
         ("m 256", fullest(), 10_000, Ok((256 * 65_535, 1, true, 1))),
         ("m 257", wider, 10_000, Err(3)),
-        ("m 0", Plan { n: 2, arcs: vec![] }, 10_000, Err(3)),
+        ("m 0", Plan::new(2, vec![]), 10_000, Err(3)),
     ];
-    rows.map(|(what, plan, budget, stated)| Row { what, file: file_of(&plan), budget, places: 17_266, stated }).into()
+    rows.map(|(what, plan, budget, stated)| Row::new(what, &plan, budget, 17_266, stated)).into()
 }
 
 /// Budgets and sheets, on case A: what is refused, 0 for nothing.
@@ -89,11 +97,10 @@ fn limits() -> Vec<Row> {
     rows.extend(sheets.map(|(places, refused)| (10_000, places, refused)));
     let row = |(budget, places, refused)| {
         let stated = if refused == 0 { Ok((8, 1, true, 1)) } else { Err(refused) };
-        Row { what: "budget and sheet on A", file: FILE_A.to_vec(), budget, places, stated }
+        Row::new("budget and sheet on A", &case_a(), budget, places, stated)
     };
     let mut rows: Vec<Row> = rows.into_iter().map(row).collect();
-    let file = file_of(&case_a_with(3, 3));
-    rows.push(Row { what: "standing before short sheet", file, budget: 10_000, places: 0, stated: Err(7) });
+    rows.push(Row::new("standing before short sheet", &case_a_with(3, 3), 10_000, 0, Err(7)));
     rows
 }
 
@@ -109,7 +116,7 @@ fn repeated_at(m: usize, again: &[usize]) -> Plan {
 
 /// 13 repeated: where the two arcs stand, what they differ in, and which refusals come before it and after it.
 fn repeats() -> Vec<Row> {
-    let twins = |a: Arc, b: Arc| Plan { n: 3, arcs: [case_a().arcs, vec![a, b]].concat() };
+    let twins = |a: Arc, b: Arc| Plan::new(3, [case_a().arcs, vec![a, b]].concat());
     let arc = Arc::new(0, 1, CLOSED, 7);
     let (other_tail, other_head) = (Arc { tail: 2, ..arc }, Arc { head: 2, ..arc });
     let (other_standing, other_cost) = (Arc { standing: OPTIONAL, ..arc }, Arc { cost: 8, ..arc });
@@ -134,13 +141,13 @@ fn repeats() -> Vec<Row> {
         ("repeated before budget", repeated_at(9, &[4]), 0, 17_266, Err(13)),
         ("repeated before idle", idle, 1, 17_266, Err(13)),
     ];
-    let row = |(what, plan, budget, places, stated)| Row { what, file: file_of(&plan), budget, places, stated };
-    rows.map(row).into()
+    rows.map(|(what, plan, budget, places, stated)| Row::new(what, &plan, budget, places, stated)).into()
 }
 
 /// Holds a planner to all of them.
 pub fn run_stated(found: &mut Findings, planner: &dyn Planner) {
-    for Row { what, file, budget, places, stated } in cases().into_iter().chain(limits()).chain(repeats()) {
+    let rows = [cases(), limits(), repeats(), editions::rows(), faults::rows()];
+    for Row { what, file, budget, places, stated } in rows.into_iter().flatten() {
         let told = planner.plan_call(&file, budget, &mut vec![0; places]).map(|a| (a.cost, a.trees, a.whole, a.parts));
         let about = || format!("{what}, budget {budget}, {places} places: {told:?} instead of {stated:?}");
         found.expect(Property::Stated, told == stated, about);

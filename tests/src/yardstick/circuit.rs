@@ -68,14 +68,19 @@ fn circuit(legs: &[Leg]) -> Vec<usize> {
 }
 
 /// A cheapest path as arc numbers, at each vertex by the lowest arc that lies on one.
-pub fn shortest_path(plan: &Plan, d: &Distances, is_open: impl Fn(&Arc) -> bool, from: usize, to: usize) -> Vec<u16> {
+pub fn shortest_path(
+    plan: &Plan,
+    d: &Distances,
+    length: impl Fn(&Arc) -> Option<u64>,
+    from: usize,
+    to: usize,
+) -> Vec<u16> {
     let mut path = Vec::new();
     let mut v = from;
     while v != to {
-        let is_next = |a: &&Arc| {
-            usize::from(a.tail) == v && is_open(a) && u64::from(a.cost) + d[usize::from(a.head)][to] == d[v][to]
-        };
-        let k = plan.arcs.iter().position(|a| is_next(&a)).expect("a finite distance is a path's");
+        let is_next =
+            |a: &Arc| usize::from(a.tail) == v && length(a).is_some_and(|x| x + d[usize::from(a.head)][to] == d[v][to]);
+        let k = plan.arcs.iter().position(is_next).expect("a finite distance is a path's");
         path.push(k as u16);
         v = plan.arcs[k].head.into();
     }

@@ -8,10 +8,10 @@ pub type Distances = [[u64; MOST_VERTICES]; MOST_VERTICES];
 /// Stands for no path.
 pub const NO_PATH: u64 = 4_294_967_295;
 
-/// A row for each vertex: rounds of relaxation over the open arcs, until nothing changes.
-pub fn distances(plan: &Plan, is_open: impl Fn(&Arc) -> bool) -> Box<Distances> {
+/// A row for each vertex: rounds of relaxation over the arcs that have a length, until nothing changes.
+pub fn distances(plan: &Plan, length: impl Fn(&Arc) -> Option<u64>) -> Box<Distances> {
     let arcs: Vec<(usize, usize, u64)> =
-        plan.arcs.iter().filter(|a| is_open(a)).map(|a| (a.tail.into(), a.head.into(), a.cost.into())).collect();
+        plan.arcs.iter().filter_map(|a| Some((a.tail.into(), a.head.into(), length(a)?))).collect();
     let mut d = Box::new([[NO_PATH; MOST_VERTICES]; MOST_VERTICES]);
     for (source, row) in d.iter_mut().enumerate() {
         row[source] = 0;

@@ -1,11 +1,12 @@
 //! The plan file, by shifting through a window of bits.
 
-use crate::plan::{Arc, Plan, MOST_ARCS, MOST_VERTICES};
+use crate::plan::{Arc, Plan, MOST_ARCS, MOST_VERTICES, REQUIRED};
 use crate::planner::{refusal, Refusal};
 
-/// Bytes of a file of m arcs: 20 bits and 30 for each arc.
-fn file_length(m: usize) -> usize {
-    (20 + 30 * m).div_ceil(8)
+/// Bytes of a file of m arcs: 20 bits, and 30 for each arc or, in edition 2, 46.
+fn file_length(edition: u8, m: usize) -> usize {
+    let width = if edition == 2 { 46 } else { 30 };
+    (20 + width * m).div_ceil(8)
 }
 
 /// Takes bit fields from the front of a file.
@@ -29,16 +30,30 @@ impl BitReader<'_> {
     }
 }
 
+fn check_edition(edition: u8) -> Result<(), Refusal> {
+    (edition == 1 || edition == 2).then_some(()).ok_or(refusal::EDITION)
+}
+
 fn check_extent(n: usize, m: usize) -> Result<(), Refusal> {
     let good = (1..=MOST_VERTICES).contains(&n) && (1..=MOST_ARCS).contains(&m);
     good.then_some(()).ok_or(refusal::EXTENT)
 }
 
-fn check_arc(n: usize, a: &Arc) -> Result<(), Refusal> {
+/// The service cost of an arc in edition 1.
+fn implied_service(standing: u8, cost: u16) -> u16 {
+    if standing == REQUIRED {
+        cost
+    } else {
+        0
+    }
+}
+
+fn check_arc(edition: u8, n: usize, a: &Arc) -> Result<(), Refusal> {
     if usize::from(a.tail.max(a.head)) >= n {
         return Err(refusal::OFF_SHEET);
     }
-    if a.cost == 0 {
+    let is_implied = a.service == implied_service(a.standing, a.cost);
+    if a.cost == 0 || (a.service == 0) == (a.standing == REQUIRED) || edition == 1 && !is_implied {
         return Err(refusal::UNPRICED);
     }
     if a.standing > 2 {
@@ -48,10 +63,17 @@ fn check_arc(n: usize, a: &Arc) -> Result<(), Refusal> {
 }
 
 /// 5 to 7, arc by arc, then 13.
-fn check_arcs(n: usize, arcs: &[Arc]) -> Result<(), Refusal> {
-    arcs.iter().try_for_each(|a| check_arc(n, a))?;
+fn check_arcs(edition: u8, n: usize, arcs: &[Arc]) -> Result<(), Refusal> {
+    arcs.iter().try_for_each(|a| check_arc(edition, n, a))?;
     let repeated = arcs.iter().enumerate().any(|(k, a)| arcs[..k].contains(a));
     (!repeated).then_some(()).ok_or(refusal::REPEATED)
+}
+
+fn take_arc(bits: &mut BitReader, edition: u8) -> Arc {
+    let (tail, head) = (bits.take(6) as u8, bits.take(6) as u8);
+    let (standing, cost) = (bits.take(2) as u8, bits.take(16) as u16);
+    let service = if edition == 2 { bits.take(16) as u16 } else { implied_service(standing, cost) };
+    Arc { tail, head, standing, cost, service }
 }
 
 /// The plan of a file, or refusals 1 to 7 and 13.
@@ -60,37 +82,30 @@ pub fn read(bytes: &[u8]) -> Result<Plan, Refusal> {
         return Err(refusal::TORN);
     }
     let mut bits = BitReader { rest: bytes, window: 0, held: 0 };
-    if bits.take(4) != 1 {
-        return Err(refusal::EDITION);
-    }
+    let edition = bits.take(4) as u8;
+    check_edition(edition)?;
     let n = bits.take(7) as usize;
     let m = bits.take(9) as usize;
     check_extent(n, m)?;
-    if bytes.len() < file_length(m) {
+    if bytes.len() < file_length(edition, m) {
         return Err(refusal::TORN);
     }
-    let arcs: Vec<Arc> = (0..m)
-        .map(|_| Arc {
-            tail: bits.take(6) as u8,
-            head: bits.take(6) as u8,
-            standing: bits.take(2) as u8,
-            cost: bits.take(16) as u16,
-        })
-        .collect();
+    let arcs: Vec<Arc> = (0..m).map(|_| take_arc(&mut bits, edition)).collect();
     let fill = bits.held;
-    if bytes.len() > file_length(m) || bits.take(fill) != 0 {
+    if bytes.len() > file_length(edition, m) || bits.take(fill) != 0 {
         return Err(refusal::MARGIN);
     }
-    check_arcs(n, &arcs)?;
-    Ok(Plan { n, arcs })
+    check_arcs(edition, n, &arcs)?;
+    Ok(Plan { edition, n, arcs })
 }
 
-/// The file of a plan, or refusals 3, 5 to 7 and 13.
-pub fn write(n: u32, arcs: &[Arc]) -> Result<Vec<u8>, Refusal> {
+/// The file of a plan, or refusals 2, 3, 5 to 7 and 13.
+pub fn write(edition: u8, n: u32, arcs: &[Arc]) -> Result<Vec<u8>, Refusal> {
     let n = n as usize;
+    check_edition(edition)?;
     check_extent(n, arcs.len())?;
-    check_arcs(n, arcs)?;
-    let mut bytes = Vec::with_capacity(file_length(arcs.len()));
+    check_arcs(edition, n, arcs)?;
+    let mut bytes = Vec::with_capacity(file_length(edition, arcs.len()));
     let (mut window, mut held) = (0, 0);
     let mut put = |field: u64, width: u32| {
         window = window << width | field;
@@ -100,7 +115,7 @@ pub fn write(n: u32, arcs: &[Arc]) -> Result<Vec<u8>, Refusal> {
             bytes.push((window >> held) as u8);
         }
     };
-    put(1, 4);
+    put(edition.into(), 4);
     put(n as u64, 7);
     put(arcs.len() as u64, 9);
     for a in arcs {
@@ -108,6 +123,9 @@ pub fn write(n: u32, arcs: &[Arc]) -> Result<Vec<u8>, Refusal> {
         put(a.head.into(), 6);
         put(a.standing.into(), 2);
         put(a.cost.into(), 16);
+        if edition == 2 {
+            put(a.service.into(), 16);
+        }
     }
     // Seven bits complete any byte that was begun, and begin none that stays.
     put(0, 7);

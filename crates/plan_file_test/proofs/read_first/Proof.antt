@@ -1,0 +1,18 @@
+-- The part that is lent has n bytes, as there are so many.
+use mathlib.Core.Path.{sym}
+use lib.Seq.{length-take-le}
+use borrow.Author.Needs.{needs}
+use Rattle.plan_file_test.proofs.read_first.Statement.{statement}
+use Rattle.plan_file_test.proofs.read_first.Tie as tie
+
+slice-aggregate-read : tie.Need-slice-aggregate-read
+slice-aggregate-read c = sym (length-take-le _ _ (search needs))
+
+read-requires : tie.Need-read-requires
+read-requires c κs = search needs
+
+returns : tie.Need-returns
+returns c = search needs
+
+pub read-first-spec : {M : Type 1} → statement M
+read-first-spec = tie.close (tie.spec slice-aggregate-read read-requires returns)
