@@ -2,9 +2,10 @@
 
 mod answers;
 mod codecs;
+mod judges;
 mod steps;
 
-use crate::planner::{Codec, Planner};
+use crate::planner::{Codec, Judge, Planner};
 use crate::properties::Property;
 
 pub struct Mutant<T: ?Sized> {
@@ -24,4 +25,9 @@ pub fn planners() -> Vec<Mutant<dyn Planner>> {
 /// Wrong in reading or writing.
 pub fn codecs() -> Vec<Mutant<dyn Codec>> {
     codecs::mutants()
+}
+
+/// Wrong in judging a list of arcs.
+pub fn judges() -> Vec<Mutant<dyn Judge>> {
+    judges::mutants()
 }

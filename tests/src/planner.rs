@@ -1,4 +1,4 @@
-//! What a planner is, for the tests: two traits over slices, the answer, and the refusals by number.
+//! What a planner is, for the tests: three traits over slices, the answer, and the refusals by number.
 //!
 //! With the feature `proved`, `Proved` is the proved library behind these traits, and can stand for `Yardstick` here:
 //!
@@ -39,6 +39,9 @@ pub mod refusal {
     pub const SCATTERED: Refusal = 11;
     pub const CUT_OFF: Refusal = 12;
     pub const REPEATED: Refusal = 13;
+    pub const FOREIGN: Refusal = 14;
+    pub const UNJOINED: Refusal = 15;
+    pub const MISSED: Refusal = 16;
 }
 
 /// What the plan call answers beside the drive.
@@ -77,4 +80,10 @@ pub trait Codec {
     /// Writes the file of an edition, of `n` vertices and the arcs `records`, into `bytes` from the start: the file's length. Later bytes are
     /// untouched; a refusal changes none.
     fn write(&self, edition: u8, n: u32, records: &[Arc], bytes: &mut [u8]) -> Result<usize, Refusal>;
+}
+
+/// Judging a drive that someone else laid.
+pub trait Judge {
+    /// What the drive of the arc numbers `places` costs.
+    fn judge(&self, plan: &[u8], places: &[u16]) -> Result<u64, Refusal>;
 }

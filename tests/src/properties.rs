@@ -3,10 +3,12 @@
 mod call;
 mod checking;
 mod codec;
+mod judging;
 
 pub use call::{examine_answer, examine_refusal, Case};
 pub use checking::examine_checking;
 pub use codec::{examine_codec, examine_writing};
+pub use judging::{examine_judgement, examine_written};
 
 use std::collections::BTreeSet;
 
@@ -73,10 +75,16 @@ pub enum Property {
     Writing,
     /// Bytes after the file, and all in a refusal, are kept.
     BytesKept,
+    /// A list of arcs is judged to cost what it costs as a drive, or for the first refusal that applies.
+    Judgement,
+    /// A drive that the planner writes passes with the cost that it answers.
+    WrittenPasses,
+    /// No list of arcs is judged to cost less than the floor of its plan.
+    FloorBelowJudged,
 }
 
 /// All of them.
-pub const PROPERTIES: [Property; 30] = {
+pub const PROPERTIES: [Property; 33] = {
     use Property::*;
     [
         Returns,
@@ -109,6 +117,9 @@ pub const PROPERTIES: [Property; 30] = {
         RecordsKept,
         Writing,
         BytesKept,
+        Judgement,
+        WrittenPasses,
+        FloorBelowJudged,
     ]
 };
 

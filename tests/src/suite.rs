@@ -2,9 +2,11 @@
 
 mod editions;
 mod faults;
+mod judging;
 mod stated;
 
 pub use editions::{run_stated_codec, FILE_A_CHECKED};
+pub use judging::{run_lists, run_stated_lists};
 pub use stated::{case_a, case_b, case_c, run_stated, FILE_A};
 
 use crate::instances::{

@@ -7,6 +7,7 @@ mod bound;
 mod circuit;
 mod distance;
 mod file;
+mod judging;
 mod network;
 
 pub use arborescence::{Candidate, Trees};
@@ -15,12 +16,13 @@ pub use bound::{cheapest_arborescence, Entries};
 pub use circuit::shortest_path;
 pub use distance::{distances, Distances, NO_PATH};
 pub use file::{read, write};
+pub use judging::judge;
 pub use network::{components, Components, Network};
 
 use crate::plan::{
     Arc, Plan, CLOSED, DEFAULT_BUDGET, HIGHEST_BUDGET, MOST_PARTS, MOST_VERTICES, REQUIRED, SHEET_PLACES,
 };
-use crate::planner::{refusal, Answer, Codec, Planner, Refusal};
+use crate::planner::{refusal, Answer, Codec, Judge, Planner, Refusal};
 
 /// The decisions that planners of this trade get wrong, each with its right answer. A wrong planner overrides one.
 pub trait Steps {
@@ -108,6 +110,12 @@ impl<S: Steps> Planner for S {
 
     fn short_call(&self, plan: &[u8], sheet: &mut [u16]) -> Result<Answer, Refusal> {
         plan_call(self, plan, DEFAULT_BUDGET, sheet)
+    }
+}
+
+impl Judge for Yardstick {
+    fn judge(&self, plan: &[u8], places: &[u16]) -> Result<u64, Refusal> {
+        judge(plan, places)
     }
 }
 

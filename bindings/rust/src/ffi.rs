@@ -35,4 +35,6 @@ extern "C" {
         multipliers: *mut i64,
         multipliers_len: usize,
     ) -> i64;
+
+    pub fn postman_judge(plan: *const u8, plan_len: usize, places: *const u16, places_len: usize) -> i64;
 }

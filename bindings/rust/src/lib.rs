@@ -37,7 +37,7 @@ mod plan;
 pub mod raw;
 mod refusal;
 
-pub use answer::{plan_call, short_call, Answer};
+pub use answer::{judge, plan_call, short_call, Answer};
 pub use edition::Edition;
 pub use plan::{Arc, Plan, Standing};
 pub use refusal::Refusal;

@@ -1,6 +1,6 @@
 //! The proved library behind the traits, through the package `postman` (`bindings/rust`).
 
-use super::{Answer, Codec, Planner, Refusal};
+use super::{Answer, Codec, Judge, Planner, Refusal};
 use crate::plan::{Arc, MOST_VERTICES};
 use postman::limits::{ANSWER_WORDS, RECORD_BYTES};
 use postman::raw;
@@ -52,6 +52,12 @@ impl Codec for Proved {
     fn write(&self, edition: u8, n: u32, records: &[Arc], bytes: &mut [u8]) -> Result<usize, Refusal> {
         let lent: Vec<u8> = records.iter().flat_map(to_bytes).collect();
         raw::write_plan(edition.into(), n, &lent, bytes).map_err(postman::Refusal::number)
+    }
+}
+
+impl Judge for Proved {
+    fn judge(&self, plan: &[u8], places: &[u16]) -> Result<u64, Refusal> {
+        raw::judge(plan, places).map_err(postman::Refusal::number)
     }
 }
 
