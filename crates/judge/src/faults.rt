@@ -35,6 +35,7 @@ pub(crate) fn is_unjoined(arcs: &[[u16; 5]], places: &[u16]) -> bool
         return false;
     }
     let first = places[0] as usize;
+    let start = arcs[first][0];
     let mut v = arcs[first][1];
     for i in 1..places.len() {
         let k = places[i] as usize;
@@ -43,5 +44,5 @@ pub(crate) fn is_unjoined(arcs: &[[u16; 5]], places: &[u16]) -> bool
         }
         v = arcs[k][1];
     }
-    v != arcs[first][0]
+    v != start
 }

@@ -14,10 +14,10 @@ use Rattle.judge.proofs.faults.is_unjoined.Statement.{statement}
 use Rattle.judge.proofs.faults.is_unjoined.Tie as tie
 
 abbrev Inv-loop : tie.InvT-loop
-Inv-loop arcs places first v₀ i₀ i-end v i = (i-end ≡ length places) × (1 ≤ i) × (i ≤ i-end) × NoGapBefore (planOver arcs) places v i
+Inv-loop arcs places first start v₀ i₀ i-end v i = (i-end ≡ length places) × (1 ≤ i) × (i ≤ i-end) × NoGapBefore (planOver arcs) places v i
 
 abbrev μ-loop : tie.MeasureT-loop
-μ-loop arcs places first v₀ i₀ i-end v i = i-end - i
+μ-loop arcs places first start v₀ i₀ i-end v i = i-end - i
 
 returns : tie.Need-returns Inv-loop μ-loop
 returns c = no-gap-none (planOver (c .before .args .arcs .now)) (c .before .args .places .now) (c .if1 .taken)
@@ -28,14 +28,27 @@ shared-slice-read-first c = search needs
 cast-first : tie.Need-cast-first Inv-loop μ-loop
 cast-first c = omega (arith, c .shared-slice-known .given 0)
 
+mul-start : tie.Need-mul-start Inv-loop μ-loop
+mul-start c =
+    let s = c .before .before in
+    omega (arith, place-row (s .args .arcs .now) (s .args .places .now) (s .pre) 0 (omega arith))
+
+index-1-start : tie.Need-index-1-start Inv-loop μ-loop
+index-1-start c =
+    let s = c .before .before in
+    omega (arith, place-row (s .args .arcs .now) (s .args .places .now) (s .pre) 0 (omega arith))
+
+index-2-start : tie.Need-index-2-start Inv-loop μ-loop
+index-2-start c = search needs
+
 mul-v : tie.Need-mul-v Inv-loop μ-loop
 mul-v c =
-    let s = c .before .before in
+    let s = c .before .before .before in
     omega (arith, place-row (s .args .arcs .now) (s .args .places .now) (s .pre) 0 (omega arith))
 
 index-1-v : tie.Need-index-1-v Inv-loop μ-loop
 index-1-v c =
-    let s = c .before .before in
+    let s = c .before .before .before in
     omega (arith, place-row (s .args .arcs .now) (s .args .places .now) (s .pre) 0 (omega arith))
 
 index-2-v : tie.Need-index-2-v Inv-loop μ-loop
@@ -43,7 +56,7 @@ index-2-v c = search needs
 
 loop-holds : tie.Need-loop-holds Inv-loop μ-loop
 loop-holds c =
-    let s = c .before .before .before in
+    let s = c .before .before .before .before in
     let p = planOver (s .args .arcs .now) in
     let w = s .args .places .now in
     let l : 0 < length w = omega arith in
@@ -61,14 +74,14 @@ cast-k c = omega (arith, c .shared-slice-known2 .given (c .before .before .loop 
 mul-if2 : tie.Need-mul-if2 Inv-loop μ-loop
 mul-if2 c =
     let v = c .before .before in
-    let s = c .before .before .before .before .before .before in
+    let s = c .before .before .before .before .before .before .before in
     let e = v .loop .inv .0 in
     omega (arith, place-row (s .args .arcs .now) (s .args .places .now) (s .pre) (v .loop .i) (omega arith))
 
 index-1-if2 : tie.Need-index-1-if2 Inv-loop μ-loop
 index-1-if2 c =
     let v = c .before .before in
-    let s = c .before .before .before .before .before .before in
+    let s = c .before .before .before .before .before .before .before in
     let e = v .loop .inv .0 in
     omega (arith, place-row (s .args .arcs .now) (s .args .places .now) (s .pre) (v .loop .i) (omega arith))
 
@@ -78,7 +91,7 @@ index-2-if2 c = search needs
 returns-2 : tie.Need-returns-2 Inv-loop μ-loop
 returns-2 c =
     let v = c .before .before .before .before .loop in
-    let s = c .before .before .before .before .before .before .before .before in
+    let s = c .before .before .before .before .before .before .before .before .before in
     let w = s .args .places .now in
     let e = v .inv .0 in
     let l : v .i < length w = omega arith in
@@ -87,14 +100,14 @@ returns-2 c =
 mul-v-2 : tie.Need-mul-v-2 Inv-loop μ-loop
 mul-v-2 c =
     let v = c .before .before .before .before in
-    let s = c .before .before .before .before .before .before .before .before in
+    let s = c .before .before .before .before .before .before .before .before .before in
     let e = v .loop .inv .0 in
     omega (arith, place-row (s .args .arcs .now) (s .args .places .now) (s .pre) (v .loop .i) (omega arith))
 
 index-1-v-2 : tie.Need-index-1-v-2 Inv-loop μ-loop
 index-1-v-2 c =
     let v = c .before .before .before .before in
-    let s = c .before .before .before .before .before .before .before .before in
+    let s = c .before .before .before .before .before .before .before .before .before in
     let e = v .loop .inv .0 in
     omega (arith, place-row (s .args .arcs .now) (s .args .places .now) (s .pre) (v .loop .i) (omega arith))
 
@@ -110,7 +123,7 @@ loop-less c = search needs
 loop-again : tie.Need-loop-again Inv-loop μ-loop
 loop-again c =
     let v = c .before .before .before .before .before .loop in
-    let s = c .before .before .before .before .before .before .before .before .before in
+    let s = c .before .before .before .before .before .before .before .before .before .before in
     let p = planOver (s .args .arcs .now) in
     let w = s .args .places .now in
     let e = v .inv .0 in
@@ -119,22 +132,9 @@ loop-again c =
     let j = no-gap-next p w (v .v) (v .i) l (v .inv .3) (c .before .if2 .left ∙ ap (λ (a : Arc). a .tail) (sym a)) in
     (v .inv .0, omega arith, omega arith, subst (λ h. NoGapBefore p w h (v .i + 1)) (ap (λ (a : Arc). a .head) a) j)
 
-mul-result : tie.Need-mul-result Inv-loop μ-loop
-mul-result c =
-    let s = c .before .before .before .before .before in
-    omega (arith, place-row (s .args .arcs .now) (s .args .places .now) (s .pre) 0 (omega arith))
-
-index-1-result : tie.Need-index-1-result Inv-loop μ-loop
-index-1-result c =
-    let s = c .before .before .before .before .before in
-    omega (arith, place-row (s .args .arcs .now) (s .args .places .now) (s .pre) 0 (omega arith))
-
-index-2-result : tie.Need-index-2-result Inv-loop μ-loop
-index-2-result c = search needs
-
 returns-3 : tie.Need-returns-3 Inv-loop μ-loop
 returns-3 c =
-    let v = c .before .before .loop in
+    let v = c .before .loop in
     let s = c .before .before .before .before .before .before in
     let rows = s .args .arcs .now in
     let w = s .args .places .now in
@@ -151,6 +151,9 @@ is-unjoined-spec =
     returns
     shared-slice-read-first
     cast-first
+    mul-start
+    index-1-start
+    index-2-start
     mul-v
     index-1-v
     index-2-v
@@ -168,7 +171,4 @@ is-unjoined-spec =
     add-i
     loop-less
     loop-again
-    mul-result
-    index-1-result
-    index-2-result
     returns-3)
