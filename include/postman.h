@@ -1,6 +1,6 @@
 /*
  * The survey drive's planner: reading and writing plan files, the plan call and the short call, the number of trees,
- * and distances.
+ * distances, and judging a drive.
  *
  * A slice is lent as a pointer and a length. The length counts elements, not bytes. Pointers are not null, not even with
  * a length of 0, and the slices of one call do not overlap. That is all that is asked of a caller: any bytes, numbers and
@@ -8,7 +8,7 @@
  *
  * Every function answers what was asked for, 0 or more, or minus a refusal's number. Of several refusals that apply the
  * first in this order is given: 1 (under three bytes), 2, 3, 1 (length), 4, then arc by arc 5, 6, 7, then 13, then 17,
- * then 8 to 12.
+ * then 8 to 12, then 14 to 16.
  * A refusal changes no lent slice. The functions keep nothing and share nothing, so that threads may call them at once.
  *
  * Link with target/staticlib/libexports.a, which `rt staticlib exports` builds. examples/plan.c shows a plan call.
@@ -33,6 +33,9 @@ extern "C" {
 
 /* The places that a sheet must have at least. No drive takes more. */
 #define POSTMAN_SHEET_PLACES 17266
+
+/* The most places of a list that is judged. */
+#define POSTMAN_MOST_PLACES 65535
 
 /* The budget of the short call, and the highest one of the plan call. The lowest is 1. */
 #define POSTMAN_DEFAULT_BUDGET 100000
@@ -98,7 +101,7 @@ enum postman_standing {
 enum postman_refusal {
     POSTMAN_TORN = 1,        /* the file has under 3 bytes, or fewer than its arcs need */
     POSTMAN_EDITION = 2,     /* the edition is neither 1 nor 2 */
-    POSTMAN_EXTENT = 3,      /* no vertex or more than 64, or no arc or more than 256 */
+    POSTMAN_EXTENT = 3,      /* no vertex or more than 64, no arc or more than 256, or a list of more than 65,535 places */
     POSTMAN_MARGIN = 4,      /* the file has more bytes than its arcs need, or a fill bit is 1 */
     POSTMAN_OFF_SHEET = 5,   /* an arc's tail or head is no vertex */
     POSTMAN_UNPRICED = 6,    /* an arc's cost or service cost is wrong, as said below */
@@ -109,6 +112,9 @@ enum postman_refusal {
     POSTMAN_SCATTERED = 11,  /* the plan has more than 8 parts */
     POSTMAN_CUT_OFF = 12,    /* no drive exists: some required vertex has no path to another */
     POSTMAN_REPEATED = 13,   /* two arcs agree in all their fields */
+    POSTMAN_FOREIGN = 14,    /* a judged list has a number that no arc has, or that of a closed arc */
+    POSTMAN_UNJOINED = 15,   /* an arc of a judged list does not lead to the next one, or the last one to the first */
+    POSTMAN_MISSED = 16,     /* an arc that must be driven is not in a judged list */
     POSTMAN_STRAY_PAIR = 17  /* more than 256 pairs, or one of what is no vertex */
 };
 
@@ -168,6 +174,13 @@ int64_t postman_distances(const uint8_t *plan, size_t plan_len, const uint16_t *
  * The plan call answers POSTMAN_WHOLE 1 exactly when this number is at most its budget.
  */
 int64_t postman_tree_count(const uint8_t *plan, size_t plan_len);
+
+/*
+ * Judges a drive that someone else laid for the file `plan`: `places` holds its arc numbers, in the order in which they are
+ * driven. Answers what the drive costs, or minus a refusal: 1 to 7, 10 or 13 to 16. The refusals of the list are looked at
+ * last, by number: 14 anywhere in it comes before 15, and that before 16. It changes nothing.
+ */
+int64_t postman_judge(const uint8_t *plan, size_t plan_len, const uint16_t *places, size_t places_len);
 
 #ifdef __cplusplus
 }

@@ -3,10 +3,11 @@
 mod answers;
 mod codecs;
 mod counters;
+mod judges;
 mod pages;
 mod steps;
 
-use crate::planner::{Codec, Counter, DistanceCall, Planner};
+use crate::planner::{Codec, Counter, DistanceCall, Judge, Planner};
 use crate::properties::Property;
 
 pub struct Mutant<T: ?Sized> {
@@ -36,4 +37,9 @@ pub fn pages() -> Vec<Mutant<dyn DistanceCall>> {
 /// Wrong in counting trees.
 pub fn counters() -> Vec<Mutant<dyn Counter>> {
     counters::mutants()
+}
+
+/// Wrong in judging a list of arcs.
+pub fn judges() -> Vec<Mutant<dyn Judge>> {
+    judges::mutants()
 }

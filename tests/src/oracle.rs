@@ -11,11 +11,13 @@
 //! | A(u) | sets of parts, links only | Edmonds' recursion, all pairs |
 //! | greatest u | Bellman and Ford from a least assignment | Dijkstra over reduced costs |
 //! | best drive | search over (vertex, set of required arcs passed) | trees |
+//! | judging | sets of arcs, and how often each occurs | passes along the list |
 
 mod balancing;
 mod bound;
 mod file;
 mod graph;
+mod judging;
 mod optimum;
 mod page;
 mod trees;
@@ -24,6 +26,7 @@ pub use balancing::{assignment, greatest_multipliers, Assignment};
 pub use bound::{cheapest_tree, lagrangian_bound};
 pub use file::{file_of, is_long_enough, parse, read_refusal, write_refusal};
 pub use graph::{judge, Graph, INFINITE};
+pub use judging::judge_answer;
 pub use optimum::{optimum, MOST_REQUIRED_ARCS};
 pub use page::{page, page_refusal};
 pub use trees::{count_trees, first_trees, Enumerated};

@@ -36,6 +36,9 @@ pub const LONGEST_FILE: usize = 1_475;
 /// The places that a sheet for the drive must have at least.
 pub const SHEET_PLACES: usize = 17_266;
 
+/// The most places of a list that is judged.
+pub const MOST_PLACES: usize = 65_535;
+
 /// The short call's budget, the one that the program `drive` names, and the highest that the plan call takes.
 pub const DEFAULT_BUDGET: u64 = 100_000;
 pub const PROGRAM_BUDGET: u64 = 10_000;

@@ -41,6 +41,9 @@ pub mod refusal {
     pub const SCATTERED: Refusal = 11;
     pub const CUT_OFF: Refusal = 12;
     pub const REPEATED: Refusal = 13;
+    pub const FOREIGN: Refusal = 14;
+    pub const UNJOINED: Refusal = 15;
+    pub const MISSED: Refusal = 16;
     pub const STRAY_PAIR: Refusal = 17;
 }
 
@@ -87,4 +90,10 @@ pub trait DistanceCall {
     /// The distances of pairs of vertices of the plan file `plan`, into `distances` from the start: the number of searches run. A pair is
     /// 256 × first + second. Later entries are untouched; a refusal changes none.
     fn distances(&self, plan: &[u8], pairs: &[u16], distances: &mut [u32]) -> Result<usize, Refusal>;
+}
+
+/// Judging a drive that someone else laid.
+pub trait Judge {
+    /// What the drive of the arc numbers `places` costs.
+    fn judge(&self, plan: &[u8], places: &[u16]) -> Result<u64, Refusal>;
 }

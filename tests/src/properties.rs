@@ -4,12 +4,14 @@ mod call;
 mod checking;
 mod codec;
 mod count;
+mod judging;
 mod page;
 
 pub use call::{examine_answer, examine_refusal, Case};
 pub use checking::examine_checking;
 pub use codec::{examine_codec, examine_writing};
 pub use count::{examine_count, examine_whole};
+pub use judging::{examine_judgement, examine_written};
 pub use page::examine_page;
 
 use std::collections::BTreeSet;
@@ -91,10 +93,16 @@ pub enum Property {
     TreeCount,
     /// Whole exactly when that number is known and no larger than the budget.
     WholeTold,
+    /// A list of arcs is judged to cost what it costs as a drive, or for the first refusal that applies.
+    Judgement,
+    /// A drive that the planner writes passes with the cost that it answers.
+    WrittenPasses,
+    /// No list of arcs is judged to cost less than the floor of its plan.
+    FloorBelowJudged,
 }
 
 /// All of them.
-pub const PROPERTIES: [Property; 37] = {
+pub const PROPERTIES: [Property; 40] = {
     use Property::*;
     [
         Returns,
@@ -134,6 +142,9 @@ pub const PROPERTIES: [Property; 37] = {
         SingleQuery,
         TreeCount,
         WholeTold,
+        Judgement,
+        WrittenPasses,
+        FloorBelowJudged,
     ]
 };
 

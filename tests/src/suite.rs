@@ -3,11 +3,13 @@
 mod counts;
 mod editions;
 mod faults;
+mod judging;
 mod pages;
 mod stated;
 
 pub use counts::{run_count, run_counts};
 pub use editions::{run_stated_codec, FILE_A_CHECKED};
+pub use judging::{run_lists, run_stated_lists};
 pub use pages::run_pages;
 pub use stated::{case_a, case_b, case_c, run_stated, FILE_A};
 

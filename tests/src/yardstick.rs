@@ -8,6 +8,7 @@ mod circuit;
 mod count;
 mod distance;
 mod file;
+mod judging;
 mod network;
 mod page;
 
@@ -18,13 +19,14 @@ pub use circuit::shortest_path;
 pub use count::{count_by_layers, entry_counts, EntryCounts};
 pub use distance::{distances, measured_arcs, row, Distances, Row, NO_PATH};
 pub use file::{read, write};
+pub use judging::judge;
 pub use network::{components, Components, Network};
 pub use page::vertices;
 
 use crate::plan::{
     Arc, Plan, CLOSED, DEFAULT_BUDGET, HIGHEST_BUDGET, MOST_PARTS, MOST_VERTICES, REQUIRED, SHEET_PLACES,
 };
-use crate::planner::{refusal, Answer, Codec, Planner, Refusal};
+use crate::planner::{refusal, Answer, Codec, Judge, Planner, Refusal};
 
 /// The decisions that planners of this trade get wrong, each with its right answer. A wrong planner overrides one.
 pub trait Steps {
@@ -112,6 +114,12 @@ impl<S: Steps> Planner for S {
 
     fn short_call(&self, plan: &[u8], sheet: &mut [u16]) -> Result<Answer, Refusal> {
         plan_call(self, plan, DEFAULT_BUDGET, sheet)
+    }
+}
+
+impl Judge for Yardstick {
+    fn judge(&self, plan: &[u8], places: &[u16]) -> Result<u64, Refusal> {
+        judge(plan, places)
     }
 }
 

@@ -238,6 +238,7 @@ fn constants_agree() {
         ("MOST_PAIRS", plan::MOST_PAIRS as u64),
         ("LONGEST_FILE", plan::LONGEST_FILE as u64),
         ("SHEET_PLACES", plan::SHEET_PLACES as u64),
+        ("MOST_PLACES", plan::MOST_PLACES as u64),
         ("DEFAULT_BUDGET", plan::DEFAULT_BUDGET),
         ("HIGHEST_BUDGET", plan::HIGHEST_BUDGET),
         ("FIRST_EDITION", 1),
@@ -258,6 +259,9 @@ fn constants_agree() {
         ("SCATTERED", u64::from(refusal::SCATTERED)),
         ("CUT_OFF", u64::from(refusal::CUT_OFF)),
         ("REPEATED", u64::from(refusal::REPEATED)),
+        ("FOREIGN", u64::from(refusal::FOREIGN)),
+        ("UNJOINED", u64::from(refusal::UNJOINED)),
+        ("MISSED", u64::from(refusal::MISSED)),
         ("STRAY_PAIR", u64::from(refusal::STRAY_PAIR)),
     ] {
         assert_eq!(header.get(name), Some(&value), "{name}");

@@ -2,7 +2,7 @@
 //! catches some wrong planner.
 
 use postman_tests::instances::Shape;
-use postman_tests::mutants::{codecs, counters, pages, planners};
+use postman_tests::mutants::{codecs, counters, judges, pages, planners};
 use postman_tests::oracle::Effort;
 use postman_tests::properties::{Case, Findings, Property, PROPERTIES};
 use postman_tests::suite;
@@ -85,11 +85,23 @@ fn wrong_counts_are_caught() {
 }
 
 #[test]
+fn wrong_judges_are_caught() {
+    for mutant in judges() {
+        let mut found = Findings::default();
+        suite::run_stated_lists(&mut found, &*mutant.wrong);
+        suite::run_lists(&mut found, &*mutant.wrong, &Yardstick, SEED, 200);
+        println!("{}: {:?}", mutant.name, found.violated);
+        assert_eq!(missed(mutant.violates, &found), [], "{}", mutant.name);
+    }
+}
+
+#[test]
 fn every_property_catches_some_mutant() {
     let mut caught: Vec<Property> = planners().iter().flat_map(|m| m.violates.to_vec()).collect();
     caught.extend(codecs().iter().flat_map(|m| m.violates.to_vec()));
     caught.extend(pages().iter().flat_map(|m| m.violates.to_vec()));
     caught.extend(counters().iter().flat_map(|m| m.violates.to_vec()));
+    caught.extend(judges().iter().flat_map(|m| m.violates.to_vec()));
     let idle: Vec<Property> = PROPERTIES.into_iter().filter(|p| !caught.contains(p)).collect();
     assert_eq!(idle, []);
 }

@@ -1,4 +1,4 @@
-//! The plan call and the short call.
+//! The plan call, the short call, and judging a drive.
 
 use crate::limits::{ANSWER_WORDS, COST, FLOOR, MULTIPLIERS, PARTS, PLACES, SHEET_PLACES, TREES, WHOLE};
 use crate::{raw, Refusal};
@@ -75,6 +75,25 @@ pub fn plan_call(file: &[u8], budget: u64) -> Result<Answer, Refusal> {
 /// ```
 pub fn short_call(file: &[u8]) -> Result<Answer, Refusal> {
     answered(|sheet, answer, multipliers| raw::short_call(file, sheet, answer, multipliers))
+}
+
+/// Judges a drive that someone else laid for a plan file: what it costs, if it is a drive. It is refused with 14 if it has an arc that may not be
+/// driven, else with 15 if it has a gap, else with 16 if a required arc is missed; before that with 1 to 7, 13 and 10, and with 3 above 65,535
+/// places.
+///
+/// ```
+/// use postman::{judge, plan_call, Refusal};
+///
+/// let file = [0x10, 0x40, 0x20, 0x01, 0x40, 0x01, 0x41, 0x00, 0x00, 0x03];
+/// let answer = plan_call(&file, 10_000)?;
+/// assert_eq!(judge(&file, &answer.drive)?, answer.cost);
+/// let sent = judge(&file, &[0, 1, 0, 1])?;
+/// assert!(answer.floor <= sent);
+/// assert_eq!(judge(&file, &[0, 1, 1]), Err(Refusal::Unjoined));
+/// # Ok::<(), Refusal>(())
+/// ```
+pub fn judge(file: &[u8], drive: &[u16]) -> Result<u64, Refusal> {
+    raw::judge(file, drive)
 }
 
 #[cfg(test)]

@@ -46,4 +46,6 @@ extern "C" {
     ) -> i64;
 
     pub fn postman_tree_count(plan: *const u8, plan_len: usize) -> i64;
+
+    pub fn postman_judge(plan: *const u8, plan_len: usize, places: *const u16, places_len: usize) -> i64;
 }

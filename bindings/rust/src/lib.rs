@@ -39,7 +39,7 @@ pub mod raw;
 mod refusal;
 mod tree_count;
 
-pub use answer::{plan_call, short_call, Answer};
+pub use answer::{judge, plan_call, short_call, Answer};
 pub use distances::{distances, Distances};
 pub use edition::Edition;
 pub use plan::{Arc, Plan, Standing};

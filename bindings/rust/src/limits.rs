@@ -13,6 +13,9 @@ pub const MOST_PARTS: usize = 8;
 /// The places that a sheet must have at least. No drive takes more.
 pub const SHEET_PLACES: usize = 17_266;
 
+/// The most places of a list that is judged.
+pub const MOST_PLACES: usize = 65_535;
+
 /// The budget of the short call.
 pub const DEFAULT_BUDGET: u64 = 100_000;
 /// The highest budget of the plan call. The lowest is 1.

@@ -159,6 +159,24 @@ pub fn tree_count(plan: &[u8]) -> Result<u64, Refusal> {
     unless_refused(unsafe { ffi::postman_tree_count(plan.as_ptr(), plan.len()) }).map(|count| count as u64)
 }
 
+/// Judges a drive that someone else laid for the file `plan`: what the drive of the arc numbers `places` costs. Refuses with 1 to 7, 10 and 13
+/// to 16, those of the list last and by number, wherever they stand.
+///
+/// ```
+/// use postman::Refusal;
+///
+/// let file = [0x10, 0x40, 0x20, 0x01, 0x40, 0x01, 0x41, 0x00, 0x00, 0x03];
+/// assert_eq!(postman::raw::judge(&file, &[1, 0]), Ok(8));
+/// assert_eq!(postman::raw::judge(&file, &[0, 0, 2]), Err(Refusal::Foreign));
+/// assert_eq!(postman::raw::judge(&file, &[0]), Err(Refusal::Unjoined));
+/// assert_eq!(postman::raw::judge(&file, &[]), Err(Refusal::Missed));
+/// ```
+pub fn judge(plan: &[u8], places: &[u16]) -> Result<u64, Refusal> {
+    // SAFETY: as in `read_plan`.
+    let number = unsafe { ffi::postman_judge(plan.as_ptr(), plan.len(), places.as_ptr(), places.len()) };
+    unless_refused(number).map(|cost| cost as u64)
+}
+
 #[cfg(test)]
 mod tests {
     use super::*;

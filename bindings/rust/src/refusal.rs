@@ -4,7 +4,7 @@ use std::error::Error;
 use std::fmt;
 
 /// Why a call was refused. Of several refusals that apply, the calls give the first in this order: 1 (under three bytes), 2, 3, 1 (length),
-/// 4, then arc by arc 5, 6, 7, then 13, then 17, then 8 to 12.
+/// 4, then arc by arc 5, 6, 7, then 13, then 17, then 8 to 12, then 14 to 16.
 ///
 /// ```
 /// use postman::{short_call, Refusal};
@@ -20,7 +20,7 @@ pub enum Refusal {
     Torn = 1,
     /// The edition is neither 1 nor 2.
     Edition = 2,
-    /// No vertex or more than 64, or no arc or more than 256.
+    /// No vertex or more than 64, no arc or more than 256, or a list of more than 65,535 places.
     Extent = 3,
     /// The file has more bytes than its arcs need, or a fill bit is 1.
     Margin = 4,
@@ -42,13 +42,19 @@ pub enum Refusal {
     CutOff = 12,
     /// Two arcs agree in all their fields.
     Repeated = 13,
+    /// A judged list has a number that no arc has, or that of a closed arc.
+    Foreign = 14,
+    /// An arc of a judged list does not lead to the next one, or the last one to the first.
+    Unjoined = 15,
+    /// An arc that must be driven is not in a judged list.
+    Missed = 16,
     /// More than 256 pairs, or one of what is no vertex.
     StrayPair = 17,
 }
 
 impl Refusal {
     /// All refusals, by their numbers.
-    pub const ALL: [Refusal; 14] = [
+    pub const ALL: [Refusal; 17] = [
         Refusal::Torn,
         Refusal::Edition,
         Refusal::Extent,
@@ -62,6 +68,9 @@ impl Refusal {
         Refusal::Scattered,
         Refusal::CutOff,
         Refusal::Repeated,
+        Refusal::Foreign,
+        Refusal::Unjoined,
+        Refusal::Missed,
         Refusal::StrayPair,
     ];
 
@@ -92,7 +101,9 @@ impl Refusal {
         match self {
             Refusal::Torn => ("torn", "the file has under 3 bytes, or fewer than its arcs need"),
             Refusal::Edition => ("edition", "the edition is neither 1 nor 2"),
-            Refusal::Extent => ("extent", "no vertex or more than 64, or no arc or more than 256"),
+            Refusal::Extent => {
+                ("extent", "no vertex or more than 64, no arc or more than 256, or a list of more than 65,535 places")
+            }
             Refusal::Margin => ("margin", "the file has more bytes than its arcs need, or a fill bit is 1"),
             Refusal::OffSheet => ("off sheet", "an arc's tail or head is no vertex"),
             Refusal::Unpriced => ("unpriced", "an arc's cost or service cost is wrong"),
@@ -103,6 +114,11 @@ impl Refusal {
             Refusal::Scattered => ("scattered", "the plan has more than 8 parts"),
             Refusal::CutOff => ("cut off", "no drive exists: some required vertex has no path to another"),
             Refusal::Repeated => ("repeated", "two arcs agree in all their fields"),
+            Refusal::Foreign => ("foreign", "a judged list has a number that no arc has, or that of a closed arc"),
+            Refusal::Unjoined => {
+                ("unjoined", "an arc of a judged list does not lead to the next one, or the last one to the first")
+            }
+            Refusal::Missed => ("missed", "an arc that must be driven is not in a judged list"),
             Refusal::StrayPair => ("stray pair", "more than 256 pairs, or one of what is no vertex"),
         }
     }
@@ -122,13 +138,13 @@ mod tests {
     use super::*;
 
     #[test]
-    fn numbers_are_those_of_the_trade() {
+    fn numbers_are_one_to_seventeen() {
         let numbers: Vec<u32> = Refusal::ALL.iter().map(|refusal| refusal.number()).collect();
-        assert_eq!(numbers, (1..=13).chain([17]).collect::<Vec<u32>>());
+        assert_eq!(numbers, (1..=17).collect::<Vec<u32>>());
         for refusal in Refusal::ALL {
             assert_eq!(Refusal::from_number(refusal.number()), Some(refusal));
         }
-        for number in [0, 14, u32::MAX] {
+        for number in [0, 18, u32::MAX] {
             assert_eq!(Refusal::from_number(number), None);
         }
     }

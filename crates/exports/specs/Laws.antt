@@ -3,3 +3,4 @@ pub mod RecordBytes
 pub mod Reading
 pub mod Writing
 pub mod Answer
+pub mod Judged

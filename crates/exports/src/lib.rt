@@ -5,3 +5,4 @@ pub mod codec; // reading and writing plan files
 pub mod call; // the plan call and the short call
 pub mod distance; // the distance call
 pub mod count; // the number of trees
+pub mod judging; // the judging call

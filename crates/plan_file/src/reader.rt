@@ -40,7 +40,7 @@ pub fn file_edition(s: &[u8]) -> u8
 }
 
 // Whether it is one of the two that are read and written.
-pub(crate) fn is_edition(e: u8) -> bool
+pub fn is_edition(e: u8) -> bool
     ensures { λ r. ⌜ r ≡ isEdition e ⌝ }
 {
     if e == 1 {

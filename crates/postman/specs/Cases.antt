@@ -1,4 +1,4 @@
--- Document 01's starred cases, and the refusal 13, as rows of one table under one lemma, `cases`. The checker computes each claim from the definitions.
+-- Document 01's starred cases, the refusal 13, edition 2, and lists that are judged, as rows of one table under one lemma, `cases`. The checker computes each claim from the definitions.
 use mathlib.Core.Path.{_≡_, refl, ap}
 use mathlib.Core.Bool.{Bool, true, false, _&&_, Bool·beq}
 use mathlib.Core.List.{List, [], _∷_, map, List·Memᴰ}
@@ -9,6 +9,7 @@ use lib.Dec.{T, eqb, eqb→eq}
 use lib.IntN.{ℤ, pos, negsuc}
 use Rattle.postman.specs.Lists.{allOf, below}
 use Rattle.postman.specs.Plan.{Arc, Plan}
+use Rattle.postman.specs.Refusal.{Answer, given, refused}
 use Rattle.postman.specs.PlanFile.{impliedService, agree, edition, planOf, fileLength, fileOf, writeRefusal}
 use Rattle.postman.specs.Link.{links}
 use Rattle.postman.specs.Component.{componentCount}
@@ -16,6 +17,7 @@ use Rattle.postman.specs.Arborescence.{arborescenceCount}
 use Rattle.postman.specs.Balancing.{leastBalancing}
 use Rattle.postman.specs.LagrangianBound.{lagrangianBound}
 use Rattle.postman.specs.PlanCall.{sheetPlaces, defaultBudget, callRefusal, isWhole, bestCost}
+use Rattle.postman.specs.Judge.{judgeAnswer}
 use Rattle.postman.specs.Laws.Tests.{and-parts}
 use Rattle.postman.specs.Laws.Membership.{allOf-at}
 use Rattle.postman.specs.Laws.Repeated.{agree-equal}
@@ -34,6 +36,8 @@ pub data Claim : Type 0 where
   boundAtZero : ℕ → Claim
   costAt : ℕ → ℕ → Claim
   wholeAt : ℕ → Bool → Claim
+  judged : List ℕ → ℕ → Claim
+  fault : List ℕ → ℕ → Claim
 
 -- The short call's refusal of a plan's file in edition e, 0 for none.
 abbrev orZero : Option ℕ → ℕ
@@ -47,7 +51,8 @@ refusalOf e p = orZero (callRefusal (fileOf e p) defaultBudget sheetPlaces)
 abbrev writingOf : ℕ → Plan → ℕ
 writingOf e p = orZero (writeRefusal e p (fileLength e (length (p .arcs))))
 
--- The file of an edition, both ways; the refusal in edition 1, and in edition 2; the writer's in an edition; k; the number of links; N; Z; L(0); the cost, and whole, at a budget.
+-- The file of an edition, both ways; the refusal in edition 1, and in edition 2; the writer's in an edition; k; the number of links; N; Z; L(0); the cost, and whole, at a
+-- budget; the cost that a list of arcs is judged to have in edition 2, and the fault of one.
 abbrev pub Means : Plan → Claim → Type 0
 Means p (file e bytes) = (fileOf e p ≡ bytes) × (edition bytes ≡ e) × (planOf bytes ≡ p)
 Means p (refusal r) = refusalOf 1 p ≡ r
@@ -60,6 +65,8 @@ Means p (balancing c) = leastBalancing p [] ≡ c
 Means p (boundAtZero l) = lagrangianBound p (λ i. pos 0) ≡ pos l
 Means p (costAt b c) = bestCost p b ≡ c
 Means p (wholeAt b w) = isWhole p b ≡ w
+Means p (judged w c) = judgeAnswer (fileOf 2 p) w ≡ given c
+Means p (fault w r) = judgeAnswer (fileOf 2 p) w ≡ refused r
 
 -- ---- the table
 
@@ -120,6 +127,12 @@ table =
     -- two arcs that agree but for their checking costs, and two that agree in all
     ∷ row 2 (arc2 0 1 1 5 9 ∷ arc2 1 0 0 3 0 ∷ arc2 0 1 1 5 8 ∷ []) (refusal2 0 ∷ costAt 10000 23 ∷ [])
     ∷ row 2 (arc2 0 1 1 5 9 ∷ arc2 1 0 0 3 0 ∷ arc2 0 1 1 5 9 ∷ []) (refusal2 13 ∷ [])
+    -- lists of arcs, judged: A with a closed arc, its must arc driven once and twice, from either arc on; a foreign arc at the end before a gap at the start, a gap before a missed arc
+    ∷ row 2 (arc2 0 1 1 5 9 ∷ arc2 1 0 0 3 0 ∷ arc2 0 0 2 1 0 ∷ arc2 0 0 0 1 0 ∷ [])
+    (judged (0 ∷ 1 ∷ []) 12 ∷ judged (1 ∷ 0 ∷ []) 12 ∷ judged (0 ∷ 1 ∷ 3 ∷ 0 ∷ 1 ∷ []) 21 ∷ fault (0 ∷ 0 ∷ 2 ∷ []) 14 ∷ fault (4 ∷ []) 14 ∷ fault (0 ∷ []) 15
+    ∷ fault (1 ∷ 3 ∷ []) 15 ∷ fault (3 ∷ []) 16 ∷ fault [] 16 ∷ [])
+    -- without a must arc there is nothing to judge
+    ∷ row 1 (arc2 0 0 0 1 0 ∷ []) (fault (7 ∷ []) 10 ∷ [])
     ∷ []
 
 -- ---- the same claims, as tests that compute
@@ -138,8 +151,14 @@ isPos : ℤ → ℕ → Bool
 isPos (pos a) b = eqb a b
 isPos (negsuc a) b = false
 
+sameAnswer : Answer ℕ → Answer ℕ → Bool
+sameAnswer (given x) (given y) = eqb x y
+sameAnswer (given x) (refused r) = false
+sameAnswer (refused r) (given y) = false
+sameAnswer (refused r) (refused q) = eqb r q
+
 holds : Plan → Claim → Bool
-unfolding sameList samePlan isPos fileOf edition planOf fileLength writeRefusal callRefusal sheetPlaces defaultBudget componentCount links arborescenceCount leastBalancing lagrangianBound bestCost isWhole
+unfolding sameList samePlan isPos sameAnswer judgeAnswer fileOf edition planOf fileLength writeRefusal callRefusal sheetPlaces defaultBudget componentCount links arborescenceCount leastBalancing lagrangianBound bestCost isWhole
 holds p (file e bytes) = sameList eqb (fileOf e p) bytes && (eqb (edition bytes) e && samePlan (planOf bytes) p)
 holds p (refusal r) = eqb (refusalOf 1 p) r
 holds p (refusal2 r) = eqb (refusalOf 2 p) r
@@ -151,6 +170,8 @@ holds p (balancing c) = eqb (leastBalancing p []) c
 holds p (boundAtZero l) = isPos (lagrangianBound p (λ i. pos 0)) l
 holds p (costAt b c) = eqb (bestCost p b) c
 holds p (wholeAt b w) = Bool·beq (isWhole p b) w
+holds p (judged w c) = sameAnswer (judgeAnswer (fileOf 2 p) w) (given c)
+holds p (fault w r) = sameAnswer (judgeAnswer (fileOf 2 p) w) (refused r)
 
 rowHolds : Row → Bool
 unfolding holds allOf
@@ -193,6 +214,13 @@ same-truth true false t = absurd t
 same-truth false true t = absurd t
 same-truth false false t = refl
 
+same-answer : (a b : Answer ℕ) → T (sameAnswer a b) → a ≡ b
+unfolding sameAnswer
+same-answer (given x) (given y) t = ap given (eqb→eq x y t)
+same-answer (given x) (refused r) t = absurd t
+same-answer (refused r) (given y) t = absurd t
+same-answer (refused r) (refused q) t = ap refused (eqb→eq r q t)
+
 sound : (p : Plan) (c : Claim) → T (holds p c) → Means p c
 unfolding holds
 sound p (file e bytes) t =
@@ -209,6 +237,8 @@ sound p (balancing c) t = eqb→eq (leastBalancing p []) c t
 sound p (boundAtZero l) t = is-pos (lagrangianBound p (λ i. pos 0)) l t
 sound p (costAt b c) t = eqb→eq (bestCost p b) c t
 sound p (wholeAt b w) t = same-truth (isWhole p b) w t
+sound p (judged w c) t = same-answer (judgeAnswer (fileOf 2 p) w) (given c) t
+sound p (fault w r) t = same-answer (judgeAnswer (fileOf 2 p) w) (refused r) t
 
 -- THE LEMMA
 pub cases : (r : Row) → List·Memᴰ r table → (c : Claim) → List·Memᴰ c (r .claims) → Means (r .plan) c

@@ -37,3 +37,4 @@ pub mod PlanFile
 pub mod Optimality
 pub mod Search
 pub mod TreeCount
+pub mod Judge

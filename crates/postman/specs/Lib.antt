@@ -16,6 +16,7 @@ pub mod PlanCall
 pub mod TreeCount
 pub mod Guarantee
 pub mod DistanceCall
+pub mod Judge
 -- What is proved about them.
 pub mod Laws
 pub mod Theorem

@@ -2,7 +2,7 @@
 use mathlib.Core.Option.{Option, none, some}
 use Prim.Native.Nat.{ℕ}
 use Rattle.refusal.specs.declared.Refusal.{Refusal}
-use Rattle.refusal.specs.declared.Refusal.the-variants.{Torn, Edition, Extent, Margin, OffSheet, Unpriced, Standing, ShortSheet, Budget, Idle, Scattered, CutOff, Repeated, StrayPair}
+use Rattle.refusal.specs.declared.Refusal.the-variants.{Torn, Edition, Extent, Margin, OffSheet, Unpriced, Standing, ShortSheet, Budget, Idle, Scattered, CutOff, Repeated, Foreign, Unjoined, Missed, StrayPair}
 use Rattle.refusal.specs.declared.Verdict.{Verdict}
 use Rattle.refusal.specs.declared.Verdict.the-variants.{Accepted, Refused}
 
@@ -21,6 +21,9 @@ refusalNumber Idle = 10
 refusalNumber Scattered = 11
 refusalNumber CutOff = 12
 refusalNumber Repeated = 13
+refusalNumber Foreign = 14
+refusalNumber Unjoined = 15
+refusalNumber Missed = 16
 refusalNumber StrayPair = 17
 
 -- The number that a verdict gives, or none.

@@ -1,5 +1,5 @@
-// The refusals of every call. A new one is a line in `Refusal`, in `refusal_number` and in `refusalNumber` of `specs/Verdict.antt`; which of them a call can give is said by its
-// contract.
+// The refusals of every call. A new one is a line in `Refusal`, in `refusal_number` and in `refusalNumber` of `specs/Verdict.antt`, and two cases in the proof of `refusal_number`; which
+// of them a call can give is said by its contract.
 ghost use mathlib.Core.Path.{_≡_};
 ghost use Rattle.refusal.specs.Verdict.{refusalNumber, verdictNumber, orElse};
 
@@ -18,6 +18,9 @@ pub enum Refusal {
     Scattered,
     CutOff,
     Repeated,
+    Foreign,
+    Unjoined,
+    Missed,
     StrayPair,
 }
 
@@ -39,6 +42,9 @@ pub fn refusal_number(r: Refusal) -> u8
         Refusal::Scattered => 11,
         Refusal::CutOff => 12,
         Refusal::Repeated => 13,
+        Refusal::Foreign => 14,
+        Refusal::Unjoined => 15,
+        Refusal::Missed => 16,
         Refusal::StrayPair => 17,
     }
 }

@@ -5,8 +5,8 @@
 
 use postman_tests::instances::{adverse_ring, crossing, even, fullest, joined, longest, towns};
 use postman_tests::oracle::{count_trees, file_of, Graph};
-use postman_tests::plan::{Plan, MOST_PAIRS, SHEET_PLACES};
-use postman_tests::planner::{Answer, Codec, Counter, DistanceCall, Planner};
+use postman_tests::plan::{Arc, Plan, MOST_PAIRS, MOST_PLACES, REQUIRED, SHEET_PLACES};
+use postman_tests::planner::{Answer, Codec, Counter, DistanceCall, Judge, Planner};
 use postman_tests::yardstick::{Balance, Steps, Yardstick};
 use std::cell::Cell;
 use std::time::{Duration, Instant};
@@ -169,10 +169,29 @@ fn pages() {
     }
 }
 
+/// Judging a list of as many places as there may be: 255 arcs, five times round a ring, driven 257 times.
+fn judging() {
+    let judges: Vec<(&str, Box<dyn Judge>)> = vec![
+        ("yardstick", Box::new(Yardstick)),
+        #[cfg(feature = "proved")]
+        ("proved", Box::new(postman_tests::planner::Proved)),
+    ];
+    const RING: usize = 51;
+    let arc = |k: usize| Arc::new(k % RING, (k + 1) % RING, REQUIRED, 65_535 - (k / RING) as u16);
+    let file = file_of(&Plan::new(RING, (0..5 * RING).map(arc).collect()));
+    let round: Vec<u16> = (0..5 * RING as u16).collect();
+    let list = round.repeat(MOST_PLACES / round.len());
+    for (name, judge) in judges {
+        let time = microseconds(|| assert!(judge.judge(&file, &list).is_ok()));
+        println!("a list of {} places, judged: {name:<10} {time:>6.1} µs", list.len());
+    }
+}
+
 fn main() {
     codecs();
     pages();
     counts();
+    judging();
     let planners = planners();
     longest_drive(&planners);
     let mut totals = vec![0.0; planners.len()];

@@ -1,6 +1,6 @@
 //! The proved library behind the traits, through the package `postman` (`bindings/rust`).
 
-use super::{Answer, Codec, Counter, DistanceCall, Planner, Refusal, TreeCount};
+use super::{Answer, Codec, Counter, DistanceCall, Judge, Planner, Refusal, TreeCount};
 use crate::plan::{Arc, MOST_VERTICES};
 use postman::limits::{ANSWER_WORDS, RECORD_BYTES};
 use postman::raw;
@@ -64,6 +64,12 @@ impl DistanceCall for Proved {
 impl Counter for Proved {
     fn tree_count(&self, plan: &[u8]) -> Result<TreeCount, Refusal> {
         raw::tree_count(plan).map(|count| TreeCount::of(count.into())).map_err(postman::Refusal::number)
+    }
+}
+
+impl Judge for Proved {
+    fn judge(&self, plan: &[u8], places: &[u16]) -> Result<u64, Refusal> {
+        raw::judge(plan, places).map_err(postman::Refusal::number)
     }
 }
 

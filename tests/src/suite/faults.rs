@@ -8,8 +8,8 @@ use crate::properties::{Findings, Property};
 
 /// What a call is made with.
 #[derive(Clone)]
-struct Draft {
-    plan: Plan,
+pub(super) struct Draft {
+    pub plan: Plan,
     /// Whether the file's last bit is set, which is a fill bit, and what is cut from its end.
     fill_bit: bool,
     cut: fn(usize) -> usize,
@@ -19,12 +19,12 @@ struct Draft {
 }
 
 /// The required arc, an optional one and a closed one; the ten arcs before them are a ring.
-const MUST: usize = 10;
-const MAY: usize = 11;
-const SHUT: usize = 12;
+pub(super) const MUST: usize = 10;
+pub(super) const MAY: usize = 11;
+pub(super) const SHUT: usize = 12;
 
 /// A call without a fault.
-fn good(edition: u8) -> Draft {
+pub(super) fn good(edition: u8) -> Draft {
     let mut arcs: Vec<Arc> = (0..10).map(|v| Arc::new(v, (v + 1) % 10, OPTIONAL, 20 + v as u16)).collect();
     arcs.extend([Arc::new(0, 1, REQUIRED, 5), Arc::new(1, 0, OPTIONAL, 3), Arc::new(3, 3, CLOSED, 9)]);
     if edition == 2 {
@@ -34,7 +34,7 @@ fn good(edition: u8) -> Draft {
 }
 
 impl Draft {
-    fn file(&self) -> Vec<u8> {
+    pub fn file(&self) -> Vec<u8> {
         let mut file = file_of(&self.plan);
         *file.last_mut().expect("a file has bytes") |= u8::from(self.fill_bit);
         file.truncate((self.cut)(file.len()));
@@ -119,6 +119,17 @@ fn spoiled(edition: u8, numbers: &[Refusal]) -> Vec<(String, Draft, Refusal)> {
         }
     }
     drafts
+}
+
+/// Each fault among these numbers alone.
+pub(super) fn spoiled_once(edition: u8, numbers: &[Refusal]) -> Vec<(&'static str, Draft, Refusal)> {
+    let of = faults(edition).into_iter().filter(|fault| numbers.contains(&fault.number));
+    of.map(|Fault { what, number, spoil, .. }| {
+        let mut draft = good(edition);
+        spoil(&mut draft);
+        (what, draft, number)
+    })
+    .collect()
 }
 
 /// The plan call's rows. With the budget of 10 the good call is whole.

@@ -27,11 +27,11 @@ use Rattle.postman.specs.Laws.Repeated.{Distinct, not-repeated}
 
 -- ---- limits
 
-not-not-T : (b : Bool) → T b → T (not (not b))
+pub not-not-T : (b : Bool) → T b → T (not (not b))
 not-not-T true t = tt
 not-not-T false t = t
 
-neither : (b c : Bool) → T (not b) → T (not c) → T (not (b || c))
+pub neither : (b c : Bool) → T (not b) → T (not c) → T (not (b || c))
 neither true c s t = s
 neither false c s t = t
 
@@ -372,3 +372,8 @@ module _ (bytes : List ℕ) (budget places : ℕ) where
   call-accepted e =
       let r = accepted-append (earlierConditions bytes budget places) _ (rw call-conditions at e) in
       record { earlier = earlier-accepted (r .0); connected = accepted-cons _ _ _ (r .1) .0 }
+
+  pub call-file : callRefusal bytes budget places ≡ none → firstRefusal (fileConditions bytes) ≡ none
+  call-file e =
+      let r = accepted-append (earlierConditions bytes budget places) _ (rw call-conditions at e) in
+      accepted-append (fileConditions bytes) _ (rw earlier-conditions at (r .0)) .0
