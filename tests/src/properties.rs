@@ -1,5 +1,6 @@
 //! What document 01 promises, as properties that any planner can be held to.
 
+mod budgets;
 mod call;
 mod checking;
 mod codec;
@@ -7,6 +8,7 @@ mod count;
 mod judging;
 mod page;
 
+pub use budgets::examine_raised;
 pub use call::{examine_answer, examine_refusal, Case};
 pub use checking::examine_checking;
 pub use codec::{examine_codec, examine_writing};
@@ -69,6 +71,8 @@ pub enum Property {
     Editions,
     /// Other checking costs move cost and floor by as much as they move R, and nothing else.
     CheckingCosts,
+    /// A larger budget gives a drive no dearer and a floor no lower, at the same u; once all trees are reached, nothing else.
+    RaisedBudget,
     /// A case or a limit that document 01 states in numbers.
     Stated,
     /// Reading answers the edition, n, m and the arcs, or the first refusal that applies.
@@ -102,7 +106,7 @@ pub enum Property {
 }
 
 /// All of them.
-pub const PROPERTIES: [Property; 40] = {
+pub const PROPERTIES: [Property; 41] = {
     use Property::*;
     [
         Returns,
@@ -130,6 +134,7 @@ pub const PROPERTIES: [Property; 40] = {
         ShortCall,
         Editions,
         CheckingCosts,
+        RaisedBudget,
         Stated,
         Reading,
         RecordsKept,

@@ -20,7 +20,7 @@ use crate::oracle::{file_of, Effort};
 use crate::plan::{Arc, Plan, DEFAULT_BUDGET, HIGHEST_BUDGET, LONGEST_FILE, SHEET_PLACES};
 use crate::planner::{Codec, Planner};
 use crate::properties::{
-    examine_answer, examine_checking, examine_codec, examine_refusal, examine_writing, Case, Findings,
+    examine_answer, examine_checking, examine_codec, examine_raised, examine_refusal, examine_writing, Case, Findings,
 };
 use crate::random::Random;
 
@@ -35,10 +35,16 @@ pub fn random_case(seed: u64, shape: fn(&mut Random) -> Shape, effort: &Effort) 
     Case::new(&random_plan(random, &shape), effort)
 }
 
-/// The plan call on a case: the budgets that its N suggests, and the short call's.
+/// The plan call on a case: the budgets that its N suggests, and the short call's; then pairs of budgets.
 pub fn run_case(found: &mut Findings, planner: &dyn Planner, case: &Case, few: u64) {
-    for budget in case.budgets(few) {
+    let mut budgets = case.budgets(few);
+    for &budget in &budgets {
         examine_answer(found, planner, case, budget);
+    }
+    budgets.sort_unstable();
+    let (middle, last) = (budgets.len() / 2, budgets.len() - 1);
+    for (low, high) in [(0, middle), (middle, last), (0, last)] {
+        examine_raised(found, planner, case, budgets[low], budgets[high]);
     }
     // Where there are many more trees than were enumerated, this is also the long run.
     examine_answer(found, planner, case, DEFAULT_BUDGET);

@@ -1,7 +1,10 @@
 pub mod Refusals
 pub mod Tour
+pub mod Multipliers
 pub mod Prepared
 pub mod Priced
 pub mod Contract
+pub mod RaisedBudget
 -- What is proved about them.
 pub mod Laws
+pub mod Theorem
