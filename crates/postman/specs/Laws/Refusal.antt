@@ -14,7 +14,7 @@ use Rattle.postman.specs.Lists.{upFrom, below}
 use Rattle.postman.specs.Plan.{Arc, Plan}
 use Rattle.postman.specs.Refusal.{Conditions, firstRefusal, refused, given, answer}
 use Rattle.postman.specs.PlanFile.{edition, editionConditions, bodyConditions, fileConditions, extentConditions, planConditions, arcsConditions, arcConditions, planOf}
-use Rattle.postman.specs.PlanCall.{earlierConditions}
+use Rattle.postman.specs.PlanCall.{conditionsBefore, earlierConditions}
 
 -- ---- one condition more
 
@@ -189,9 +189,14 @@ file-other : (bytes : List ℕ) → Other 12 (fileConditions bytes)
 unfolding fileConditions editionConditions extentConditions bodyConditions
 file-other bytes = (omega arith, (omega arith, (omega arith, (omega arith, (omega arith, plan-other (edition bytes) (planOf bytes))))))
 
+pub before-other : (bytes : List ℕ) (budget places : ℕ) (own : Conditions) (p : Plan) → Other 12 own → Other 12 (conditionsBefore bytes budget places own p)
+unfolding conditionsBefore
+before-other bytes budget places own p h =
+    other-append 12 (fileConditions bytes) _ (file-other bytes) (omega arith, (omega arith, other-append 12 own _ h (omega arith, (omega arith, tt))))
+
 pub earlier-other : (bytes : List ℕ) (budget places : ℕ) → Other 12 (earlierConditions bytes budget places)
 unfolding earlierConditions
-earlier-other bytes budget places = other-append 12 (fileConditions bytes) _ (file-other bytes) (omega arith, (omega arith, (omega arith, (omega arith, tt))))
+earlier-other bytes budget places = before-other bytes budget places [] (planOf bytes) tt
 
 pub last-given : (cs : Conditions) (b : Bool) (r : ℕ) → Other r cs → firstRefusal (cs ++ (b, r) ∷ []) ≡ some r → (firstRefusal cs ≡ none) × T b
 unfolding firstRefusal
