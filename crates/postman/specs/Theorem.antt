@@ -16,8 +16,10 @@ use Rattle.postman.specs.Arborescence.{arborescenceCount}
 use Rattle.postman.specs.LagrangianBound.{Multipliers, AreMultipliers}
 use Rattle.postman.specs.PlanCall.{isCutOff, earlierConditions, callRefusal, bestCost, lowerBound}
 use Rattle.postman.specs.Guarantee.{Guarantee}
+use Rattle.postman.specs.Windows.{Departure, windowsIn, planAt, Avoids, earlierConditionsAt, callRefusalAt}
 use Rattle.postman.specs.Laws.Acceptance.{call-conditions, earlier-accepted, call-accepted}
 use Rattle.postman.specs.Laws.Refusal.{Other, earlier-other, last-given, given-last}
+use Rattle.postman.specs.Laws.Windows.{AcceptedAt, tours, at-conditions, at-other, earlier-accepted-at}
 use Rattle.postman.specs.Laws.Tests.{test}
 use Rattle.postman.specs.Laws.Existence.{no-tour, a-tour}
 use Rattle.postman.specs.Laws.Optimality.{Plannable, some-arborescence, guaranteed, larger-cost, larger-bound}
@@ -59,6 +61,22 @@ cut-off bytes budget places =
     let r = last-cut-off (earlierConditions bytes budget places) (planOf bytes) (earlier-other bytes budget places) (λ e.
     (let a = earlier-accepted bytes budget places e in (a .well-formed, a .some-required))) in
     ((λ e. r .0 (sym (call-conditions bytes budget places) ∙ e)), (λ h. call-conditions bytes budget places ∙ r .1 h))
+
+-- and of the call at a departure: no drive exists that avoids the arcs shut
+pub cut-off-at : (bytes : List ℕ) (budget places : ℕ) (numbers : List ℕ) (d : Departure)
+    → (callRefusalAt bytes budget places numbers d ≡ some 12)
+    ↔ ((firstRefusal (earlierConditionsAt bytes budget places numbers d) ≡ none)
+    × ((w : List ℕ) → IsTour (planOf bytes) w → Avoids (windowsIn numbers) d w → ⊥))
+cut-off-at bytes budget places numbers d =
+    let p = planOf bytes in
+    let ws = windowsIn numbers in
+    let sure : firstRefusal (earlierConditionsAt bytes budget places numbers d) ≡ none → AcceptedAt bytes budget places numbers d = earlier-accepted-at bytes budget places numbers d in
+    let r = last-cut-off (earlierConditionsAt bytes budget places numbers d) (planAt p ws d) (at-other bytes budget places numbers d) (λ e.
+    (sure e .well-formed, sure e .before .some-required)) in
+    let c = at-conditions bytes budget places numbers d in (
+      λ e. let h = r .0 (sym c ∙ e) in (h .0, λ w t a. h .1 w (tours p ws d (sure (h .0) .none-shut) w .1 (t, a))),
+      λ h. c ∙ r .1 (h .0, λ w t. let g = tours p ws d (sure (h .0) .none-shut) w .0 t in h .1 w (g .0) (g .1)),
+    )
 
 -- a larger budget never gives a dearer cost, nor, at the same u, a lower bound that is lower
 pub larger-budget : (bytes : List ℕ) (b c places : ℕ) → callRefusal bytes b places ≡ none → b ≤ c → (u : Multipliers) → AreMultipliers (planOf bytes) u

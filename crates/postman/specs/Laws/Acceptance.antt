@@ -16,7 +16,7 @@ use Rattle.postman.specs.BitField.{fieldAt}
 use Rattle.postman.specs.Refusal.{Conditions, firstRefusal}
 use Rattle.postman.specs.PlanFile.{edition, vertexCount, arcCount, isEdition, isSecond, impliedService, arcFrom, arcOf, planOf, fileBits, fileLength, fillBits, isOutside, extentConditions, isMispriced, arcConditions, arcsConditions, hasRepeated, planConditions, editionConditions, bodyConditions, fileConditions, readRefusal, IsRecord, writeRefusal}
 use Rattle.postman.specs.Component.{componentCount}
-use Rattle.postman.specs.PlanCall.{sheetPlaces, highestBudget, isCutOff, conditionsBefore, earlierConditions, callRefusal}
+use Rattle.postman.specs.PlanCall.{sheetPlaces, highestBudget, isCutOff, callConditions, partsConditions, conditionsBefore, earlierConditions, callRefusal}
 use Rattle.postman.specs.Laws.Tests.{cond-ind, not-or, not-not, eqb-same, eqb-other}
 use Rattle.postman.specs.Laws.Membership.{map-mem, below-mem}
 use Rattle.postman.specs.Laws.Below.{length-map-below}
@@ -335,23 +335,29 @@ pub record BeforeAccepted (bytes : List ℕ) (b places : ℕ) (own : Conditions)
   pub some-required : 0 < length (requiredArcs p)
   pub components : componentCount p ≤ 8
 
+pub call-limits : (b places : ℕ) → firstRefusal (callConditions b places) ≡ none → (sheetPlaces ≤ places) × (1 ≤ b) × (b ≤ highestBudget)
+unfolding callConditions
+call-limits b places h =
+    let eight = accepted-cons _ _ _ h in
+    let limits = outside-accepted b 1 highestBudget (accepted-cons _ _ _ (eight .1) .0) in
+    (nltb→le places sheetPlaces (eight .0), limits .0, limits .1)
+
 pub before-accepted : (bytes : List ℕ) (b places : ℕ) (own : Conditions) (p : Plan) → firstRefusal (conditionsBefore bytes b places own p) ≡ none
     → BeforeAccepted bytes b places own p
-unfolding conditionsBefore
-before-accepted bytes b places own p e =
-    let both = accepted-append (fileConditions bytes) _ e in
-    let eight = accepted-cons _ _ _ (both .1) in
-    let nine = accepted-cons _ _ _ (eight .1) in
-    let rest = accepted-append own _ (nine .1) in
+unfolding conditionsBefore partsConditions
+before-accepted bytes b places own p h =
+    let both = accepted-append (fileConditions bytes) _ h in
+    let two = accepted-append (callConditions b places) _ (both .1) in
+    let lent = call-limits b places (two .0) in
+    let rest = accepted-append own _ (two .1) in
     let ten = accepted-cons _ _ _ (rest .1) in
     let eleven = accepted-cons _ _ _ (ten .1) in
-    let limits = outside-accepted b 1 highestBudget (nine .0) in
     let some : length (requiredArcs p) ≢ 0 = eqb-other (ten .0) in
     record {
       file = both .0;
-      sheet = nltb→le places sheetPlaces (eight .0);
-      some-budget = limits .0;
-      budget = limits .1;
+      sheet = lent .0;
+      some-budget = lent .1;
+      budget = lent .2;
       own-accepted = rest .0;
       some-required = omega arith;
       components = nltb→le 8 (componentCount p) (eleven .0);

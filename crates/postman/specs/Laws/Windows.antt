@@ -12,20 +12,19 @@ use native.Mathlib.Omega.{arith}
 use lib.ListN.{length, getD, List·getD-eq-default}
 use lib.Seq.{ext-getD}
 use lib.Dec.{T, T-not, eqb, ltb}
-use Rattle.postman.specs.Lists.{select, anyOf, below}
+use Rattle.postman.specs.Lists.{select, anyOf, upFrom, below}
 use Rattle.postman.specs.Plan.{Arc, Plan, isOpen, isRequiredArc, arcAt, requiredArcs, requiredNumbers, IsArc, WellFormed}
 use Rattle.postman.specs.Refusal.{Conditions, firstRefusal}
 use Rattle.postman.specs.PlanFile.{fileConditions, planOf}
-use Rattle.postman.specs.PlanCall.{conditionsBefore, earlierConditions, callRefusal, isCutOff}
+use Rattle.postman.specs.PlanCall.{callConditions, partsConditions, conditionsBefore, earlierConditions, callRefusal, isCutOff}
 use Rattle.postman.specs.Tour.{IsWalk, IsTour, tourCostDue, tourCost}
 use Rattle.postman.specs.Windows.{Window, Departure, windowsIn, isShut, closedIf, planAt, Avoids, isBadDeparture, isBadLength, hasBadWindow, isMustShut, windowConditions, earlierConditionsAt, callRefusalAt}
 use Rattle.postman.specs.Laws.Tests.{cond-ind, test, and-both, and-parts, not-or, same-test, is-false}
-use Rattle.postman.specs.Laws.Membership.{select-cong, anyOf-not, getD-mem, map-mem, below-mem}
+use Rattle.postman.specs.Laws.Membership.{select-cong, anyOf-at, anyOf-not, getD-mem, map-mem, below-mem}
 use Rattle.postman.specs.Laws.Below.{length-map-below, getD-map-below}
 use Rattle.postman.specs.Laws.Required.{mem-numbers}
-use Rattle.postman.specs.Laws.Refusal.{Other, accepted-cons, before-other}
+use Rattle.postman.specs.Laws.Refusal.{Other, nothing-refused, accepted-cons, cons-accepted, accepted-append, own-passed, before-order, before-other}
 use Rattle.postman.specs.Laws.Acceptance.{BeforeAccepted, before-accepted, file-accepted}
-use Rattle.postman.specs.Theorem.{last-cut-off}
 
 -- ---- one arc
 
@@ -217,3 +216,87 @@ no-windows-arcs p d =
 pub no-windows-plan : (p : Plan) (d : Departure) → planAt p [] d ≡ p
 unfolding planAt
 no-windows-plan p d = λ i. record { n = p .n; arcs = no-windows-arcs p d i }
+
+no-windows-in : windowsIn [] ≡ []
+unfolding windowsIn below upFrom
+no-windows-in = refl
+
+none-bad : (m : ℕ) (d : Departure) → T (not (isBadDeparture d)) → hasBadWindow m [] d ≡ false
+unfolding hasBadWindow isBadLength windowsIn below upFrom anyOf
+none-bad m d t = let e : isBadDeparture d ≡ false = is-false (T-not (isBadDeparture d) t) in rw e refl
+
+none-shut : (p : Plan) (d : Departure) → isMustShut p [] d ≡ false
+unfolding isMustShut isShut anyOf
+none-shut p d = is-false (λ t. anyOf-at (isShut [] d) (requiredNumbers p) t .2)
+
+module _ (bytes : List ℕ) (budget places : ℕ) (d : Departure) (good : T (not (isBadDeparture d))) where
+  abbrev p : Plan
+  p = planOf bytes
+
+  pub no-windows-same : planAt p (windowsIn []) d ≡ p
+  no-windows-same = ap (λ (ws : List Window). planAt p ws d) no-windows-in ∙ no-windows-plan p d
+
+  none-own : firstRefusal (windowConditions p [] d) ≡ none
+  unfolding windowConditions
+  none-own =
+      let bad : T (not (hasBadWindow (length (p .arcs)) [] d)) = rw (none-bad (length (p .arcs)) d good) tt in
+      let must : T (not (isMustShut p (windowsIn []) d)) = rw (no-windows-in, none-shut p d) tt in
+      cons-accepted _ _ _ bad (cons-accepted _ _ _ must nothing-refused)
+
+  pub no-windows-refusal : callRefusalAt bytes budget places [] d ≡ callRefusal bytes budget places
+  unfolding callRefusalAt earlierConditionsAt callRefusal earlierConditions
+  no-windows-refusal =
+      own-passed bytes budget places (windowConditions p [] d) (planAt p (windowsIn []) d) _ none-own
+      ∙ ap (λ (q : Plan). firstRefusal (conditionsBefore bytes budget places [] q ++ (isCutOff q, 12) ∷ [])) no-windows-same
+
+-- ---- the call
+
+-- what it says that none of the conditions before 12 applies
+pub record AcceptedAt (bytes : List ℕ) (b places : ℕ) (numbers : List ℕ) (d : Departure) : Type 0 where
+  pub before : BeforeAccepted bytes b places (windowConditions (planOf bytes) numbers d) (planAt (planOf bytes) (windowsIn numbers) d)
+  pub well-formed : WellFormed (planAt (planOf bytes) (windowsIn numbers) d)
+  pub good : T (not (hasBadWindow (length (planOf bytes .arcs)) numbers d))
+  pub none-shut : T (not (isMustShut (planOf bytes) (windowsIn numbers) d))
+
+module _ (p : Plan) (numbers : List ℕ) (d : Departure) where
+  pub windows-accepted : firstRefusal (windowConditions p numbers d) ≡ none
+      → T (not (hasBadWindow (length (p .arcs)) numbers d)) × T (not (isMustShut p (windowsIn numbers) d))
+  unfolding windowConditions
+  windows-accepted e = let a = accepted-cons _ _ _ e in (a .0, accepted-cons _ _ _ (a .1) .0)
+
+  pub windows-other : Other 12 (windowConditions p numbers d)
+  unfolding windowConditions
+  windows-other = (omega arith, (omega arith, tt))
+
+module _ (bytes : List ℕ) (budget places : ℕ) (numbers : List ℕ) (d : Departure) where
+  -- the plan of the call, and its own conditions
+  abbrev at : Plan
+  at = planAt (planOf bytes) (windowsIn numbers) d
+
+  abbrev own : Conditions
+  own = windowConditions (planOf bytes) numbers d
+
+  pub at-conditions : callRefusalAt bytes budget places numbers d
+      ≡ firstRefusal (earlierConditionsAt bytes budget places numbers d ++ (isCutOff at, 12) ∷ [])
+  unfolding callRefusalAt
+  at-conditions = refl
+
+  pub at-other : Other 12 (earlierConditionsAt bytes budget places numbers d)
+  unfolding earlierConditionsAt
+  at-other = before-other bytes budget places own at (windows-other (planOf bytes) numbers d)
+
+  pub earlier-accepted-at : firstRefusal (earlierConditionsAt bytes budget places numbers d) ≡ none → AcceptedAt bytes budget places numbers d
+  unfolding earlierConditionsAt
+  earlier-accepted-at e =
+      let b = before-accepted bytes budget places own at e in
+      let w = windows-accepted (planOf bytes) numbers d (b .own-accepted) in
+      record { before = b; well-formed = at-well-formed (planOf bytes) (windowsIn numbers) d (file-accepted bytes (b .file)); good = w .0; none-shut = w .1 }
+
+  pub call-accepted-at : callRefusalAt bytes budget places numbers d ≡ none → AcceptedAt bytes budget places numbers d
+  call-accepted-at e = earlier-accepted-at (accepted-append (earlierConditionsAt bytes budget places numbers d) _ (rw at-conditions at e) .0)
+
+  -- the order, from the file on
+  pub at-order : callRefusalAt bytes budget places numbers d
+      ≡ firstRefusal (fileConditions bytes ++ (callConditions budget places ++ (own ++ (partsConditions at ++ (isCutOff at, 12) ∷ []))))
+  unfolding callRefusalAt earlierConditionsAt
+  at-order = ap firstRefusal (before-order bytes budget places own at ((isCutOff at, 12) ∷ []))
