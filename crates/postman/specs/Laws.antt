@@ -38,3 +38,4 @@ pub mod Optimality
 pub mod Search
 pub mod TreeCount
 pub mod Judge
+pub mod Windows
