@@ -11,3 +11,4 @@ pub mod Refused
 pub mod Call
 pub mod LongFile
 pub mod Answered
+pub mod SameAnswer

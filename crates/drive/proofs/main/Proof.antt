@@ -1,7 +1,7 @@
 -- Of an answer the contract gives the floor's sign and the count of places, which lie within the sheet.
 use mathlib.Core.Path.{ap}
 use Rattle.refusal.specs.Verdict.{verdictNumber}
-use Rattle.planner.specs.Laws.Answered.{floor-above, places-fit, places-count}
+use Rattle.planner.specs.Laws.Answered.{floor-above, places-fit, places-count, room-for}
 use borrow.Author.Needs.{needs}
 use Rattle.drive.proofs.main.Statement.{statement}
 use Rattle.drive.proofs.main.Tie as tie
@@ -36,17 +36,19 @@ enum-told c = search needs
 array-share-prefix-sheet : tie.Need-array-share-prefix-sheet
 array-share-prefix-sheet c =
     let r = c .before .before .before .plan-call in
-    places-fit _ _ _ _ _ (r .ensures) (ap verdictNumber (c .enum-told .given .1))
+    let e = ap verdictNumber (c .enum-told .given .1) in
+    places-fit _ _ _ _ _ _ (r .ensures .planned) e (room-for _ _ _ _ _ (r .ensures) e)
 
 slice-aggregate-print-answer : tie.Need-slice-aggregate-print-answer
 slice-aggregate-print-answer c =
     let r = c .before .before .before .before .plan-call in
-    places-count _ _ _ _ _ (r .ensures) (ap verdictNumber (c .before .enum-told .given .1))
+    let e = ap verdictNumber (c .before .enum-told .given .1) in
+    places-count _ _ _ _ _ _ (r .ensures .planned) e (room-for _ _ _ _ _ (r .ensures) e)
 
 print-answer-requires : tie.Need-print-answer-requires
 print-answer-requires c κs =
     let r = c .before .before .before .before .plan-call in
-    floor-above _ _ _ _ _ (r .ensures) (ap verdictNumber (c .before .enum-told .given .1))
+    floor-above _ _ _ _ _ _ (r .ensures .planned) (ap verdictNumber (c .before .enum-told .given .1))
 
 enum-known-verdict : tie.Need-enum-known-verdict
 enum-known-verdict c = search needs
