@@ -17,11 +17,11 @@ use Rattle.postman.specs.Laws.Membership.{below-mem}
 use Rattle.postman.specs.Laws.Link.{link}
 use Rattle.network.specs.Contracts.{IsLinks, IsComponents}
 use Rattle.network.specs.LinkPair.{isLinkPair}
-use Rattle.network.specs.Laws.Selection.{select-select}
-use Rattle.arborescence.specs.Laws.Lists.{select-map}
-use Rattle.candidates.specs.Places.{linkOf, isCandidate, placesOf}
-use Rattle.candidates.specs.Laws.Rows.{pairs-are, bothPass, pairs-select}
-use Rattle.candidates.specs.Laws.Vertices.{required-of-64}
+use Rattle.postman.specs.Laws.Selection.{select-select}
+use Rattle.postman.specs.Laws.Lists.{select-map}
+use Rattle.candidates.specs.Places.{isCandidate, placesOf}
+use Rattle.postman.specs.Laws.Pairs.{linkOf, pairs-are, bothPass, pairs-select}
+use Rattle.network.specs.Laws.Vertices.{required-of-64}
 
 module _ (p : Plan) (ok : WellFormed p) where
   abbrev crosses : ℕ → Link → Bool
