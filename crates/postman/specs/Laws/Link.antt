@@ -117,6 +117,13 @@ module _ (p : Plan) where
         (λ t. mem-select (λ m. not (joins (l .tail) (l .head) m)) h (not-T (joins (l .tail) (l .head) m) (λ u. n (joined u))))
         (λ t. h)
 
+    pub turn-gone : T goes → List·Memᴰ l (turn p held l) → ⊥
+    unfolding turn
+    turn-gone g =
+        cond-ind goes others held (λ h. List·Memᴰ l h → ⊥)
+        (λ t h. T-not (joins (l .tail) (l .head) l) (select-mem (λ m. not (joins (l .tail) (l .head) m)) held h .1) (joins-same {i = l .tail} {j = l .head} {l = l} refl))
+        (λ t h. T-not goes t g)
+
     pub turn-stays : T (not goes) → turn p held l ≡ held
     unfolding turn
     turn-stays n = cond-ind goes others held (λ h. h ≡ held) (λ t. absurd (T-not goes n t)) (λ t. refl)
@@ -207,6 +214,11 @@ module _ (p : Plan) where
 
   pub thinned-proper : (held ls : List Link) → AreProper held → AreProper (thinned p held ls)
   thinned-proper held ls h l m = let s = thinned-select held ls in h l (select-mem (s .0) held (subst (List·Memᴰ l) (s .1) m) .0)
+
+  pub thinned-append : (held ls ms : List Link) → thinned p held (ls ++ ms) ≡ thinned p (thinned p held ls) ms
+  unfolding thinned
+  thinned-append held [] ms = refl
+  thinned-append held (l ∷ ls) ms = thinned-append (turn p held l) ls ms
 
   -- pairs that are not held need no turn
   pub thinned-skip : (f : Link → Bool) (held ls : List Link) → ((l : Link) → List·Memᴰ l held → T (f l)) → thinned p held (select f ls) ≡ thinned p held ls
