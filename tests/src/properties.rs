@@ -33,6 +33,8 @@ pub enum Property {
     DriveCost,
     /// It begins with the lowest required arc.
     FirstArc,
+    /// It is made of must arcs and paths of fewest arcs.
+    FewestArcs,
     /// The cost is the least of the first T trees.
     LeastCost,
     /// T is the smaller of budget and N.
@@ -102,7 +104,7 @@ pub enum Property {
 }
 
 /// All of them.
-pub const PROPERTIES: [Property; 40] = {
+pub const PROPERTIES: [Property; 41] = {
     use Property::*;
     [
         Returns,
@@ -112,6 +114,7 @@ pub const PROPERTIES: [Property; 40] = {
         Drive,
         DriveCost,
         FirstArc,
+        FewestArcs,
         LeastCost,
         Trees,
         Whole,

@@ -14,8 +14,8 @@ pub use pages::run_pages;
 pub use stated::{case_a, case_b, case_c, run_stated, FILE_A};
 
 use crate::instances::{
-    checked, damaged, dead_ends, free_circles, free_ring, fullest, funnel, longest, random_bytes, random_plan, towns,
-    Shape,
+    checked, damaged, dead_ends, free_circles, free_ring, fullest, funnel, longest, many_paths, random_bytes, random_plan,
+    towns, Shape,
 };
 use crate::oracle::{file_of, Effort};
 use crate::plan::{Arc, Plan, DEFAULT_BUDGET, HIGHEST_BUDGET, LONGEST_FILE, REQUIRED, SHEET_PLACES};
@@ -53,6 +53,11 @@ pub fn funnels(count: u64) -> impl Iterator<Item = Case> {
     (1..=count).map(|seed| Case::new(&funnel(&mut Random::new(seed)), &Effort::BRUTE_FORCE))
 }
 
+/// Plans of many equal paths.
+pub fn equal_paths(count: u64) -> impl Iterator<Item = Case> {
+    (1..=count).map(|seed| Case::new(&many_paths(&mut Random::new(seed)), &Effort::LIGHT))
+}
+
 /// Plans that chance would hardly make.
 pub fn fixed_cases() -> Vec<Case> {
     let mut cases = Vec::new();
@@ -66,6 +71,7 @@ pub fn fixed_cases() -> Vec<Case> {
     cases.extend(funnels(300));
     cases.extend((1..=8).map(|n| Case::new(&free_circles(n), &Effort::BRUTE_FORCE)));
     cases.extend([2, 3, 5, 8, 12].map(|n| Case::new(&free_ring(n), &Effort::BRUTE_FORCE)));
+    cases.extend(equal_paths(300));
     cases.extend(towns().iter().map(|(_, plan)| Case::new(plan, &Effort::LIGHT)));
     cases
 }
