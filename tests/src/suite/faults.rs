@@ -91,7 +91,9 @@ fn faults(edition: u8) -> Vec<Fault> {
     ];
     for fault in &mut all {
         fault.excludes = match fault.what {
-            "service in the required arc" => &["standing of the required arc", "no required arc"],
+            "cost in the required arc" | "service in the required arc" => {
+                &["standing of the required arc", "no required arc"]
+            }
             "no required arc" => &["nine parts"],
             _ => &[],
         };
