@@ -5,11 +5,11 @@ use borrow.Author.Needs.{needs}
 use Rattle.network_test.proofs.plans.in_range.Statement.{statement}
 use Rattle.network_test.proofs.plans.in_range.Tie as tie
 
+rem-t7 : tie.Need-rem-t7
+rem-t7 c = search needs
+
 rem-t8 : tie.Need-rem-t8
 rem-t8 c = search needs
-
-rem-t9 : tie.Need-rem-t9
-rem-t9 c = search needs
 
 implied-service-requires : tie.Need-implied-service-requires
 implied-service-requires c κs = search needs
@@ -20,9 +20,9 @@ returns c =
       tail-in = mod-lt (s .args .tail) (s .pre .0);
       head-in = mod-lt (s .args .head) (s .pre .0);
       standing-in = omega (arith, mod-lt (s .args .standing) {m = 3} (omega arith));
-      cost-in = ?;
+      cost-in = search needs;
       service-in = c .implied-service .ensures;
     }
 
 pub in-range-spec : {M : Type 1} → statement M
-in-range-spec = tie.close (tie.spec rem-t8 rem-t9 implied-service-requires returns)
+in-range-spec = tie.close (tie.spec rem-t7 rem-t8 implied-service-requires returns)
