@@ -53,7 +53,6 @@ module _ (mark : ℕ) (a : Arc) where
     head-in = h .head-in;
     standing-in = cond-ind (isOpen a) (cond (eqb mark 1) 1 0) (a .standing) (λ s. s ≤ 2)
         (λ t. cond-ind (eqb mark 1) 1 0 (λ s. s ≤ 2) (λ t. omega arith) (λ t. omega arith)) (λ t. h .standing-in);
-    priced = h .priced;
     cost-in = h .cost-in;
     service-in = cond-ind (isOpen a) (markedService mark a) (a .service) (λ s. s ≤ 65535) (λ t. service-small (h .cost-in) (h .service-in)) (λ t. h .service-in);
   }
