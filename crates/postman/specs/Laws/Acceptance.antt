@@ -1,6 +1,6 @@
 -- What it says that a call is not refused. Conditions are accepted together exactly when each of them is (`Refusal`), so a list of conditions is taken apart, or put
 -- together, condition by condition.
-use mathlib.Core.Path.{_≡_, refl, ap}
+use mathlib.Core.Path.{_≡_, refl, ap, subst}
 use mathlib.Core.Logic.{_≢_}
 use mathlib.Core.Bool.{Bool, true, false, not, cond, _||_}
 use mathlib.Core.List.{List, [], _∷_, _++_, List·Memᴰ}
@@ -8,7 +8,7 @@ use mathlib.Core.Option.{none}
 use Prim.Native.Nat.{ℕ, _+_, _*_, _≤_, _<_}
 use native.Mathlib.Omega.{arith}
 use lib.ListN.{length}
-use lib.Dec.{T, eqb, ltb, leb, eqb→eq, not-T, nleb→lt, nltb→le}
+use lib.Dec.{T, eqb, ltb, leb, eqb→eq, T-not, not-T, nleb→lt, nltb→le}
 use lib.Arith.{lt→nleb, le→nltb}
 use Rattle.postman.specs.Lists.{below}
 use Rattle.postman.specs.Plan.{Arc, Plan, WellFormed, isRequiredArc, requiredArcs}
@@ -17,7 +17,7 @@ use Rattle.postman.specs.Refusal.{Conditions, firstRefusal}
 use Rattle.postman.specs.PlanFile.{edition, vertexCount, arcCount, isEdition, isSecond, impliedService, arcFrom, arcOf, planOf, fileBits, fileLength, fillBits, isOutside, extentConditions, isMispriced, arcConditions, arcsConditions, hasRepeated, planConditions, editionConditions, bodyConditions, fileConditions, readRefusal, IsRecord, writeRefusal}
 use Rattle.postman.specs.Component.{componentCount}
 use Rattle.postman.specs.PlanCall.{sheetPlaces, highestBudget, isCutOff, callConditions, partsConditions, conditionsBefore, earlierConditions, callRefusal}
-use Rattle.postman.specs.Laws.Tests.{cond-ind, not-or, not-not, eqb-same, eqb-other}
+use Rattle.postman.specs.Laws.Tests.{cond-ind, not-or, not-not, is-true, is-false, eqb-same, eqb-other}
 use Rattle.postman.specs.Laws.Membership.{map-mem, below-mem}
 use Rattle.postman.specs.Laws.Below.{length-map-below}
 use Rattle.postman.specs.Laws.BitField.{field-lt}
@@ -88,6 +88,20 @@ module _ (e n : ℕ) (a : Arc) where
       (cons-accepted _ _ _ (le→nltb 2 (a .standing) (h .standing)) nothing-refused))
 
   -- in edition 1 the service cost is the implied one
+  -- just the must arcs have checking costs
+  pub required-priced : T (not (isMispriced e a)) → T (isRequiredArc a) → T (not (eqb (a .service) 0))
+  unfolding isMispriced
+  required-priced t r =
+      let s = not-or (cond (isRequiredArc a) (eqb (a .service) 0) (not (eqb (a .service) 0))) _ t .0 in
+      subst (λ (b : Bool). T (not b)) (ap (λ (b : Bool). cond b (eqb (a .service) 0) (not (eqb (a .service) 0))) (is-true r)) s
+
+  pub others-unpriced : T (not (isMispriced e a)) → T (not (isRequiredArc a)) → a .service ≡ 0
+  unfolding isMispriced
+  others-unpriced t r =
+      let s = not-or (cond (isRequiredArc a) (eqb (a .service) 0) (not (eqb (a .service) 0))) _ t .0 in
+      let u = subst (λ (b : Bool). T (not b)) (ap (λ (b : Bool). cond b (eqb (a .service) 0) (not (eqb (a .service) 0))) (is-false (T-not (isRequiredArc a) r))) s in
+      eqb→eq (a .service) 0 (not-not (eqb (a .service) 0) u)
+
   pub implied : isSecond e ≡ false → T (not (isMispriced e a)) → a .service ≡ impliedService (a .standing) (a .cost)
   unfolding isMispriced
   implied q t =
@@ -252,6 +266,10 @@ module _ (bytes : List ℕ) where
   -- a plan that was read has no two equal arcs
   pub file-distinct : firstRefusal (fileConditions bytes) ≡ none → Distinct (planOf bytes .arcs)
   file-distinct h = plan-distinct e (planOf bytes) (accepted-is-file h .arcs-in)
+
+  -- and each of its arcs passed 5 to 7
+  pub file-arcs : firstRefusal (fileConditions bytes) ≡ none → (a : Arc) → List·Memᴰ a (planOf bytes .arcs) → IsFileArc e (planOf bytes .n) a
+  file-arcs h = arcs-accepted e (planOf bytes) (plan-accepted e (planOf bytes) (accepted-is-file h .arcs-in) .0)
 
   -- ---- reading
 

@@ -14,7 +14,7 @@ use lib.Dec.{T, T-not, not-T, eqb, ltb}
 use Rattle.postman.specs.Lists.{anyOf, upFrom, below}
 use Rattle.postman.specs.Plan.{Arc, Plan, isOpen, isRequiredArc, arcAt, IsArc, WellFormed}
 use Rattle.postman.specs.Refusal.{Conditions, firstRefusal}
-use Rattle.postman.specs.PlanFile.{fileConditions, planOf}
+use Rattle.postman.specs.PlanFile.{edition, fileConditions, planOf}
 use Rattle.postman.specs.PlanCall.{callConditions, partsConditions, conditionsBefore, earlierConditions, callRefusal, isCutOff}
 use Rattle.postman.specs.Distance.{distance}
 use Rattle.postman.specs.Marks.{markedService, marked, carPlan, ownMarks, isBadMark, hasBadMark, markConditions, earlierConditionsFor, carRefusal}
@@ -22,7 +22,7 @@ use Rattle.postman.specs.Laws.Tests.{cond-ind, or-cases, eqb-other}
 use Rattle.postman.specs.Laws.Membership.{getD-mem, getD-map-in, map-mem, below-mem, anyOf-at}
 use Rattle.postman.specs.Laws.Below.{length-map-below, getD-map-below}
 use Rattle.postman.specs.Laws.Refusal.{Other, nothing-refused, accepted-cons, cons-accepted, accepted-append, own-passed, before-order, before-other}
-use Rattle.postman.specs.Laws.Acceptance.{BeforeAccepted, before-accepted, file-accepted}
+use Rattle.postman.specs.Laws.Acceptance.{BeforeAccepted, before-accepted, file-accepted, file-arcs, required-priced, others-unpriced}
 use Rattle.postman.specs.Laws.Roads.{SameRoad, SameRoads, distance-same}
 
 -- ---- one arc
@@ -222,11 +222,19 @@ module _ (bytes : List ℕ) (budget places : ℕ) (marks : List ℕ) where
   unfolding carRefusal earlierConditionsFor
   car-order = ap firstRefusal (before-order bytes budget places own car ((isCutOff car, 12) ∷ []))
 
--- THE PLAN'S OWN MARKS: the car's refusal is the plan call's
-module _ (bytes : List ℕ) (budget places : ℕ) (priced : (a : Arc) → List·Memᴰ a (planOf bytes .arcs) → IsPriced a) where
-  pub own-refusal : carRefusal bytes budget places (ownMarks (planOf bytes)) ≡ callRefusal bytes budget places
+-- THE PLAN'S OWN MARKS, of a file that is not refused: the plan is the file's, and the car's refusal is the plan call's
+module _ (bytes : List ℕ) (read : firstRefusal (fileConditions bytes) ≡ none) where
+  file-priced : (a : Arc) → List·Memᴰ a (planOf bytes .arcs) → IsPriced a
+  file-priced a m =
+      let t = file-arcs bytes read a m .priced in
+      record { required-priced = required-priced (edition bytes) (planOf bytes .n) a t; others-not = others-unpriced (edition bytes) (planOf bytes .n) a t }
+
+  pub own-file-plan : carPlan (planOf bytes) (ownMarks (planOf bytes)) ≡ planOf bytes
+  own-file-plan = own-plan (planOf bytes) file-priced
+
+  pub own-refusal : (budget places : ℕ) → carRefusal bytes budget places (ownMarks (planOf bytes)) ≡ callRefusal bytes budget places
   unfolding carRefusal earlierConditionsFor callRefusal earlierConditions markConditions
-  own-refusal =
+  own-refusal budget places =
       let p = planOf bytes in
       own-passed bytes budget places (markConditions p (ownMarks p)) (carPlan p (ownMarks p)) _ (cons-accepted _ _ _ (none-bad p) nothing-refused)
-      ∙ ap (λ (q : Plan). firstRefusal (conditionsBefore bytes budget places [] q ++ (isCutOff q, 12) ∷ [])) (own-plan p priced)
+      ∙ ap (λ (q : Plan). firstRefusal (conditionsBefore bytes budget places [] q ++ (isCutOff q, 12) ∷ [])) own-file-plan
