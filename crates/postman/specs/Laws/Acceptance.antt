@@ -1,6 +1,6 @@
 -- What it says that a call is not refused. Conditions are accepted together exactly when each of them is (`Refusal`), so a list of conditions is taken apart, or put
 -- together, condition by condition.
-use mathlib.Core.Path.{_≡_, refl, ap, subst}
+use mathlib.Core.Path.{_≡_, refl, ap}
 use mathlib.Core.Logic.{_≢_}
 use mathlib.Core.Bool.{Bool, true, false, not, cond, _||_}
 use mathlib.Core.List.{List, [], _∷_, _++_, List·Memᴰ}
@@ -8,7 +8,7 @@ use mathlib.Core.Option.{none}
 use Prim.Native.Nat.{ℕ, _+_, _*_, _≤_, _<_}
 use native.Mathlib.Omega.{arith}
 use lib.ListN.{length}
-use lib.Dec.{T, eqb, ltb, leb, eqb→eq, T-not, not-T, nleb→lt, nltb→le}
+use lib.Dec.{T, eqb, ltb, leb, eqb→eq, not-T, nleb→lt, nltb→le}
 use lib.Arith.{lt→nleb, le→nltb}
 use Rattle.postman.specs.Lists.{below}
 use Rattle.postman.specs.Plan.{Arc, Plan, WellFormed, isRequiredArc, requiredArcs}
@@ -17,7 +17,7 @@ use Rattle.postman.specs.Refusal.{Conditions, firstRefusal}
 use Rattle.postman.specs.PlanFile.{edition, vertexCount, arcCount, isEdition, isSecond, impliedService, arcFrom, arcOf, planOf, fileBits, fileLength, fillBits, isOutside, extentConditions, isMispriced, arcConditions, arcsConditions, hasRepeated, planConditions, editionConditions, bodyConditions, fileConditions, readRefusal, IsRecord, writeRefusal}
 use Rattle.postman.specs.Component.{componentCount}
 use Rattle.postman.specs.PlanCall.{sheetPlaces, highestBudget, isCutOff, callConditions, partsConditions, conditionsBefore, earlierConditions, callRefusal}
-use Rattle.postman.specs.Laws.Tests.{cond-ind, not-or, not-not, is-true, is-false, eqb-same, eqb-other}
+use Rattle.postman.specs.Laws.Tests.{cond-ind, not-or, not-not, eqb-same, eqb-other}
 use Rattle.postman.specs.Laws.Membership.{map-mem, below-mem}
 use Rattle.postman.specs.Laws.Below.{length-map-below}
 use Rattle.postman.specs.Laws.BitField.{field-lt}
@@ -91,16 +91,20 @@ module _ (e n : ℕ) (a : Arc) where
   -- just the must arcs have checking costs
   pub required-priced : T (not (isMispriced e a)) → T (isRequiredArc a) → T (not (eqb (a .service) 0))
   unfolding isMispriced
-  required-priced t r =
-      let s = not-or (cond (isRequiredArc a) (eqb (a .service) 0) (not (eqb (a .service) 0))) _ t .0 in
-      subst (λ (b : Bool). T (not b)) (ap (λ (b : Bool). cond b (eqb (a .service) 0) (not (eqb (a .service) 0))) (is-true r)) s
+  required-priced t r = at (isRequiredArc a) (eqb (a .service) 0) (not-or (cond (isRequiredArc a) (eqb (a .service) 0) (not (eqb (a .service) 0))) _ t .0) r
+    where
+      at : (b x : Bool) → T (not (cond b x (not x))) → T b → T (not x)
+      at true x t r = t
+      at false x t r = absurd r
 
   pub others-unpriced : T (not (isMispriced e a)) → T (not (isRequiredArc a)) → a .service ≡ 0
   unfolding isMispriced
   others-unpriced t r =
-      let s = not-or (cond (isRequiredArc a) (eqb (a .service) 0) (not (eqb (a .service) 0))) _ t .0 in
-      let u = subst (λ (b : Bool). T (not b)) (ap (λ (b : Bool). cond b (eqb (a .service) 0) (not (eqb (a .service) 0))) (is-false (T-not (isRequiredArc a) r))) s in
-      eqb→eq (a .service) 0 (not-not (eqb (a .service) 0) u)
+      eqb→eq (a .service) 0 (at (isRequiredArc a) (eqb (a .service) 0) (not-or (cond (isRequiredArc a) (eqb (a .service) 0) (not (eqb (a .service) 0))) _ t .0) r)
+    where
+      at : (b x : Bool) → T (not (cond b x (not x))) → T (not b) → T x
+      at true x t r = absurd r
+      at false x t r = not-not x t
 
   pub implied : isSecond e ≡ false → T (not (isMispriced e a)) → a .service ≡ impliedService (a .standing) (a .cost)
   unfolding isMispriced

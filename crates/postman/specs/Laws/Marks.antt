@@ -185,6 +185,10 @@ module _ (p : Plan) (marks : List ℕ) where
   unfolding markConditions
   marks-accepted e = accepted-cons _ _ _ e .0
 
+  accepted-marks : T (not (hasBadMark p marks)) → firstRefusal (markConditions p marks) ≡ none
+  unfolding markConditions
+  accepted-marks t = cons-accepted (hasBadMark p marks) 18 [] t nothing-refused
+
   pub marks-other : Other 12 (markConditions p marks)
   unfolding markConditions
   marks-other = (omega arith, tt)
@@ -233,8 +237,8 @@ module _ (bytes : List ℕ) (read : firstRefusal (fileConditions bytes) ≡ none
   own-file-plan = own-plan (planOf bytes) file-priced
 
   pub own-refusal : (budget places : ℕ) → carRefusal bytes budget places (ownMarks (planOf bytes)) ≡ callRefusal bytes budget places
-  unfolding carRefusal earlierConditionsFor callRefusal earlierConditions markConditions
+  unfolding carRefusal earlierConditionsFor callRefusal earlierConditions
   own-refusal budget places =
       let p = planOf bytes in
-      own-passed bytes budget places (markConditions p (ownMarks p)) (carPlan p (ownMarks p)) _ (cons-accepted _ _ _ (none-bad p) nothing-refused)
+      own-passed bytes budget places (markConditions p (ownMarks p)) (carPlan p (ownMarks p)) _ (accepted-marks p (ownMarks p) (none-bad p))
       ∙ ap (λ (q : Plan). firstRefusal (conditionsBefore bytes budget places [] q ++ (isCutOff q, 12) ∷ [])) own-file-plan
