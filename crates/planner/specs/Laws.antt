@@ -9,6 +9,7 @@ pub mod Idle
 pub mod Table
 pub mod Refused
 pub mod Call
+pub mod Chain
 pub mod LongFile
 pub mod Answered
 pub mod RaisedBudget

@@ -12,7 +12,8 @@ ghost use mathlib.Core.Option.{none};
 ghost use Prim.Native.Nat.{_≤_};
 ghost use lib.ListN.{length};
 ghost use Rattle.postman.specs.Plan.{WellFormed};
-ghost use Rattle.postman.specs.PlanCall.{sheetPlaces, defaultBudget};
+ghost use Rattle.postman.specs.Refusal.{firstRefusal};
+ghost use Rattle.postman.specs.PlanCall.{sheetPlaces, defaultBudget, callConditions};
 ghost use Rattle.plan.specs.Records.{planValue};
 ghost use Rattle.shortest.specs.Contracts.{AreWeights};
 ghost use Rattle.refusal.specs.Verdict.{verdictNumber};
@@ -100,6 +101,19 @@ pub fn plan_read(plan: Plan, budget: u32, sheet: &mut [u16]) -> Planned
     let table = shortest::distance::table_of(&weights);
     let net = network::network::network_of(plan, &table);
     plan_measured(plan, &table, &weights, net, budget, sheet)
+}
+
+// 8, then 9, for a call whose own conditions stand between 9 and 10.
+pub fn lent_verdict(budget: u64, places: usize) -> Verdict
+    ensures { λ r. ⌜ verdictNumber r ≡ firstRefusal (callConditions budget places) ⌝ }
+{
+    if places < 17_266 {
+        return Verdict::Refused(Refusal::ShortSheet);
+    }
+    match Budget::new(budget) {
+        Checked::Refused => Verdict::Refused(Refusal::Budget),
+        Checked::Good(b) => Verdict::Accepted,
+    }
 }
 
 // 9, then the rest.
