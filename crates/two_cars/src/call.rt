@@ -5,7 +5,7 @@ use crate::marks::has_bad_mark;
 use plan::Plan;
 use planner::Planned;
 use planner::call::lent_verdict;
-use planner::call::plan_measured;
+use planner::call::plan_tabled;
 use planner::call::refused;
 use refusal::Refusal;
 use refusal::Verdict;
@@ -18,7 +18,8 @@ ghost use Rattle.postman.specs.Refusal.{firstRefusal};
 ghost use Rattle.postman.specs.PlanCall.{sheetPlaces, callConditions, lastConditions};
 ghost use Rattle.postman.specs.Marks.{carPlan, markConditions};
 ghost use Rattle.plan.specs.Records.{planValue};
-ghost use Rattle.shortest.specs.Contracts.{IsTable, AreWeights};
+ghost use Rattle.shortest.specs.Contracts.{AreWeights};
+ghost use Rattle.planner.specs.Tour.{tableOf};
 ghost use Rattle.planner.specs.Contract.{IsPlanned};
 ghost use Rattle.two_cars.specs.Contract.{IsTwoCars};
 
@@ -31,7 +32,7 @@ fn plan_marked(
     budget: u32,
     sheet: &mut [u16],
 ) -> Planned
-    requires { ⌜ WellFormed (planValue plan) × IsTable (planValue plan) (now table) × AreWeights (planValue plan) (now weights) ⌝ }
+    requires { ⌜ WellFormed (planValue plan) × (now table ≡ tableOf (planValue plan)) × AreWeights (planValue plan) (now weights) ⌝ }
     requires { ⌜ (1 ≤ budget) × (sheetPlaces ≤ length (now sheet)) ⌝ }
     ensures { λ r. ⌜ IsPlanned (carPlan (planValue plan) (now (marks .entry))) budget
         (firstRefusal (markConditions (planValue plan) (now (marks .entry)) ++ lastConditions (carPlan (planValue plan) (now (marks .entry)))))
@@ -41,8 +42,7 @@ fn plan_marked(
         return refused(Refusal::BadMarks);
     }
     let car = car_plan(plan, marks);
-    let net = network::network::network_of(car, table);
-    plan_measured(car, table, weights, net, budget, sheet)
+    plan_tabled(car, table, weights, budget, sheet)
 }
 
 // One car, from 8 on.
@@ -54,7 +54,7 @@ fn plan_car(
     budget: u64,
     sheet: &mut [u16],
 ) -> Planned
-    requires { ⌜ WellFormed (planValue plan) × IsTable (planValue plan) (now table) × AreWeights (planValue plan) (now weights) ⌝ }
+    requires { ⌜ WellFormed (planValue plan) × (now table ≡ tableOf (planValue plan)) × AreWeights (planValue plan) (now weights) ⌝ }
     ensures { λ r. ⌜ IsPlanned (carPlan (planValue plan) (now (marks .entry))) budget
         (firstRefusal (callConditions budget (length (now (sheet .entry)))
         ++ (markConditions (planValue plan) (now (marks .entry)) ++ lastConditions (carPlan (planValue plan) (now (marks .entry))))))

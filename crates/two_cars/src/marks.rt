@@ -2,7 +2,9 @@
 use plan::Arc;
 use plan::Plan;
 ghost use mathlib.Core.Path.{_≡_};
+ghost use mathlib.Core.Bool.{cond};
 ghost use Prim.Native.Nat.{_≤_};
+ghost use lib.Dec.{eqb};
 ghost use lib.ListN.{length};
 ghost use Rattle.postman.specs.Marks.{isBadMark, hasBadMark, markedService, marked as «marked-arc», carPlan};
 ghost use Rattle.plan.specs.Records.{arcValue, recordOf, planValue};
@@ -47,18 +49,25 @@ fn marked_service(mark: u8, a: Arc) -> u16
     if a.service == 0 { a.cost } else { a.service }
 }
 
+fn marked_standing(mark: u8) -> u8
+    ensures { λ r. ⌜ r ≡ cond (eqb mark 1) 1 0 ⌝ }
+{
+    if mark == 1 { 1 } else { 0 }
+}
+
 // The arc with a mark; a closed arc stays as it is.
 fn marked(mark: u8, a: Arc) -> Arc
     ensures { λ r. ⌜ r ≡ recordOf («marked-arc» mark (arcValue a)) ⌝ }
 {
     if plan::is_open(a) {
-        let standing: u8 = if mark == 1 { 1 } else { 0 };
+        let standing = marked_standing(mark);
+        let service = marked_service(mark, a);
         return Arc {
             tail: a.tail,
             head: a.head,
             standing: standing,
             cost: a.cost,
-            service: marked_service(mark, a),
+            service: service,
         };
     }
     a

@@ -1,6 +1,6 @@
 -- The plan of a car. It has the arcs of the plan that it is made from, with the same ends and costs, and the same arcs may be driven: so it is well formed, and its distances are
 -- those of the plan, whatever the marks are. By the plan's own marks, where just its must arcs have checking costs, it is the plan itself, and the car's refusal is the plan call's.
-use mathlib.Core.Path.{_≡_, refl, sym, ap, _∙_, subst, subst⁻¹}
+use mathlib.Core.Path.{_≡_, refl, sym, ap, fun-ext, _∙_, subst, subst⁻¹}
 use mathlib.Core.Logic.{inl, inr}
 use mathlib.Core.Bool.{Bool, true, false, not, cond, _&&_, _||_}
 use mathlib.Core.List.{List, [], _∷_, _++_, map, List·Memᴰ}
@@ -107,6 +107,9 @@ car-roads p marks =
 pub car-distance : (p : Plan) (marks : List ℕ) (i j : ℕ) → distance (carPlan p marks) i j ≡ distance p i j
 unfolding carPlan
 car-distance p marks i j = sym (distance-same p (carPlan p marks) refl (car-roads p marks) i j)
+
+pub car-table : (p : Plan) (marks : List ℕ) → distance (carPlan p marks) ≡ distance p
+car-table p marks = fun-ext (λ i. fun-ext (λ j. car-distance p marks i j))
 
 -- ---- the plan's own marks
 
