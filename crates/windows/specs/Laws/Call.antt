@@ -1,7 +1,7 @@
 -- The chain of the call: where a verdict refuses, the first condition that applies is among those it looked at; where it does not, it is among the rest. From the contract over the plan at the
 -- departure, what is said of the file's plan: its tours are those that avoid the arcs shut, at equal costs.
-use mathlib.Core.Path.{_≡_, refl, sym, ap, _∙_, subst, subst⁻¹}
-use mathlib.Core.List.{List, [], _∷_, _++_}
+use mathlib.Core.Path.{_≡_, refl, sym, ap, _∙_, subst}
+use mathlib.Core.List.{List, _++_}
 use mathlib.Core.Bool.{Bool, true, false, not, cond}
 use mathlib.Core.Option.{Option, none, some}
 use Prim.Native.Nat.{ℕ, _<_, _≤_}
@@ -14,7 +14,7 @@ use borrow.Author.Tests.{lt-ltb, le-ltb}
 use Rattle.postman.specs.Plan.{Plan, WellFormed}
 use Rattle.postman.specs.Refusal.{Conditions, firstRefusal}
 use Rattle.postman.specs.PlanFile.{fileConditions, isOutside, planOf}
-use Rattle.postman.specs.PlanCall.{sheetPlaces, highestBudget, callConditions, IsAnswerTour}
+use Rattle.postman.specs.PlanCall.{sheetPlaces, highestBudget, callConditions}
 use Rattle.postman.specs.Tour.{IsTour, tourCost}
 use Rattle.postman.specs.Windows.{Window, Departure, windowsIn, planAt, Avoids, hasBadWindow, isMustShut, windowConditions, callRefusalAt}
 use Rattle.postman.specs.Theorem.{cut-off-at}
