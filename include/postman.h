@@ -142,7 +142,8 @@ int64_t postman_write_plan(uint32_t edition, uint32_t n, const uint8_t *records,
  * 1 to 13.
  *
  * `sheet` takes the drive's arc numbers from its start, the lowest required arc first; the answer's word POSTMAN_PLACES
- * says how many. Later places are untouched. With fewer than POSTMAN_SHEET_PLACES places it is refused with 8.
+ * says how many. It is made of the required arcs, each once, and of paths between their ends: each a cheapest one, of the
+ * fewest arcs, and of those the lowest list of arc numbers. Later places are untouched. With fewer than POSTMAN_SHEET_PLACES places it is refused with 8.
  * `answer` takes the POSTMAN_ANSWER_WORDS words above, and `multipliers` the POSTMAN_MULTIPLIERS multipliers: as many as
  * fit, from the start. Later elements are untouched. Neither is refused for its length.
  */

@@ -1,8 +1,10 @@
 //! Plans to try a planner on: random ones, and those of the benchmark.
 
+mod equal;
 mod joined;
 mod towns;
 
+pub use equal::many_paths;
 pub use joined::{crossing, even, joined, one_above, star, Entries, HIGHEST_COUNT};
 pub use towns::{dead_ends, towns};
 

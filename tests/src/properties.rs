@@ -35,6 +35,8 @@ pub enum Property {
     DriveCost,
     /// It begins with the lowest required arc.
     FirstArc,
+    /// It is made of must arcs and paths of fewest arcs.
+    FewestArcs,
     /// The cost is the least of the first T trees.
     LeastCost,
     /// T is the smaller of budget and N.
@@ -106,7 +108,7 @@ pub enum Property {
 }
 
 /// All of them.
-pub const PROPERTIES: [Property; 41] = {
+pub const PROPERTIES: [Property; 42] = {
     use Property::*;
     [
         Returns,
@@ -116,6 +118,7 @@ pub const PROPERTIES: [Property; 41] = {
         Drive,
         DriveCost,
         FirstArc,
+        FewestArcs,
         LeastCost,
         Trees,
         Whole,

@@ -14,7 +14,7 @@ pub use pages::run_pages;
 pub use stated::{case_a, case_b, case_c, run_stated, FILE_A};
 
 use crate::instances::{
-    checked, damaged, dead_ends, fullest, funnel, longest, random_bytes, random_plan, towns, Shape,
+    checked, damaged, dead_ends, fullest, funnel, longest, many_paths, random_bytes, random_plan, towns, Shape,
 };
 use crate::oracle::{file_of, Effort};
 use crate::plan::{Arc, Plan, DEFAULT_BUDGET, HIGHEST_BUDGET, LONGEST_FILE, SHEET_PLACES};
@@ -58,6 +58,11 @@ pub fn funnels(count: u64) -> impl Iterator<Item = Case> {
     (1..=count).map(|seed| Case::new(&funnel(&mut Random::new(seed)), &Effort::BRUTE_FORCE))
 }
 
+/// Plans of many equal paths.
+pub fn equal_paths(count: u64) -> impl Iterator<Item = Case> {
+    (1..=count).map(|seed| Case::new(&many_paths(&mut Random::new(seed)), &Effort::LIGHT))
+}
+
 /// Plans that chance would hardly make.
 pub fn fixed_cases() -> Vec<Case> {
     let mut cases = Vec::new();
@@ -69,6 +74,7 @@ pub fn fixed_cases() -> Vec<Case> {
     }
     cases.extend((1..=20).map(|seed| Case::new(&dead_ends(&mut Random::new(seed), 3, 2), &Effort::BRUTE_FORCE)));
     cases.extend(funnels(300));
+    cases.extend(equal_paths(300));
     cases.extend(towns().iter().map(|(_, plan)| Case::new(plan, &Effort::LIGHT)));
     cases
 }

@@ -8,6 +8,7 @@ pub mod Occurrences
 pub mod Distinct
 pub mod Sum
 pub mod Distance
+pub mod FewestPath
 pub mod Assignment
 pub mod Amounts
 pub mod Required

@@ -3,7 +3,7 @@
 use super::{Balance, Distances, Network, Steps};
 use crate::plan::{Arc, Plan, MOST_VERTICES, REQUIRED};
 
-/// A stretch of the drive: a required arc by its number, or a shortest path.
+/// A stretch of the drive: a required arc by its number, or a path of fewest arcs.
 struct Leg {
     from: usize,
     to: usize,
@@ -11,7 +11,13 @@ struct Leg {
 }
 
 /// The drive of a tree, as arc numbers; its first arc is the lowest required one.
-pub fn lay<S: Steps>(steps: &S, network: &Network, mut balance: Balance, tree: &[(usize, usize)]) -> Vec<u16> {
+pub fn lay<S: Steps>(
+    steps: &S,
+    network: &Network,
+    weights: &Distances,
+    mut balance: Balance,
+    tree: &[(usize, usize)],
+) -> Vec<u16> {
     for &(tail, head) in tree {
         let (from, to) = steps.unit(tail, head);
         balance.add(network.place[from], network.place[to]);
@@ -27,7 +33,7 @@ pub fn lay<S: Steps>(steps: &S, network: &Network, mut balance: Balance, tree: &
     for &k in &circuit(&legs) {
         match legs[k].arc {
             Some(number) => drive.push(number),
-            None => drive.extend(steps.path(network.plan, network.d, legs[k].from, legs[k].to)),
+            None => drive.extend(steps.path(network.plan, weights, legs[k].from, legs[k].to)),
         }
     }
     drive
@@ -67,7 +73,7 @@ fn circuit(legs: &[Leg]) -> Vec<usize> {
     order
 }
 
-/// A cheapest path as arc numbers, at each vertex by the lowest arc that lies on one.
+/// A shortest path as arc numbers, at each vertex by the lowest arc that lies on one.
 pub fn shortest_path(
     plan: &Plan,
     d: &Distances,
