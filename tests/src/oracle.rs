@@ -4,6 +4,7 @@
 //! |---|---|---|
 //! | file | a string of bits | a window of bits |
 //! | d | Floyd and Warshall | relaxation, row by row |
+//! | paths of fewest arcs | layers away from the first vertex, whole lists compared | weights, arc by arc towards the last |
 //! | searches of a page | first vertices sorted | a flag for each vertex |
 //! | parts | transitive closure | labels that sink |
 //! | least balancing | assignment by the Hungarian method | units added along shortest paths |
@@ -21,6 +22,7 @@ mod graph;
 mod judging;
 mod optimum;
 mod page;
+mod paths;
 mod trees;
 mod windows;
 
@@ -31,6 +33,7 @@ pub use graph::{judge, Graph, INFINITE};
 pub use judging::judge_answer;
 pub use optimum::{optimum, MOST_REQUIRED_ARCS};
 pub use page::{page, page_refusal};
+pub use paths::{fewest_paths, follows_fewest_paths};
 pub use trees::{count_trees, first_trees, Enumerated};
 pub use windows::{departure_refusal, plan_at};
 

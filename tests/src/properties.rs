@@ -1,5 +1,6 @@
 //! What document 01 promises, as properties that any planner can be held to.
 
+mod budgets;
 mod call;
 mod checking;
 mod codec;
@@ -8,6 +9,7 @@ mod departure;
 mod judging;
 mod page;
 
+pub use budgets::examine_raised;
 pub use call::{examine_answer, examine_refusal, Case};
 pub use checking::examine_checking;
 pub use codec::{examine_codec, examine_writing};
@@ -35,6 +37,8 @@ pub enum Property {
     DriveCost,
     /// It begins with the lowest required arc.
     FirstArc,
+    /// It is made of must arcs and paths of fewest arcs.
+    FewestArcs,
     /// The cost is the least of the first T trees.
     LeastCost,
     /// T is the smaller of budget and N.
@@ -71,6 +75,8 @@ pub enum Property {
     Editions,
     /// Other checking costs move cost and floor by as much as they move R, and nothing else.
     CheckingCosts,
+    /// A larger budget gives a drive no dearer and a floor no lower, at the same u; once all trees are reached, nothing else.
+    RaisedBudget,
     /// A case or a limit that document 01 states in numbers.
     Stated,
     /// Reading answers the edition, n, m and the arcs, or the first refusal that applies.
@@ -108,7 +114,7 @@ pub enum Property {
 }
 
 /// All of them.
-pub const PROPERTIES: [Property; 42] = {
+pub const PROPERTIES: [Property; 44] = {
     use Property::*;
     [
         Returns,
@@ -118,6 +124,7 @@ pub const PROPERTIES: [Property; 42] = {
         Drive,
         DriveCost,
         FirstArc,
+        FewestArcs,
         LeastCost,
         Trees,
         Whole,
@@ -136,6 +143,7 @@ pub const PROPERTIES: [Property; 42] = {
         ShortCall,
         Editions,
         CheckingCosts,
+        RaisedBudget,
         Stated,
         Reading,
         RecordsKept,

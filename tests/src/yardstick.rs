@@ -18,7 +18,7 @@ pub use balance::{Balance, Lengths};
 pub use bound::{cheapest_arborescence, Entries};
 pub use circuit::shortest_path;
 pub use count::{count_by_layers, entry_counts, EntryCounts};
-pub use distance::{distances, measured_arcs, row, Distances, Row, NO_PATH};
+pub use distance::{cost_of, costs, distances, measured_arcs, row, Distances, Row, NO_PATH};
 pub use file::{read, write};
 pub use judging::judge;
 pub use network::{components, Components, Network};
@@ -50,6 +50,11 @@ pub trait Steps {
     /// Whether the path from i to j may go through k, so that the pair (i, j) is dropped.
     fn is_via(&self, d: &Distances, i: usize, k: usize, j: usize) -> bool {
         d[i][j] == d[i][k] + d[k][j]
+    }
+
+    /// Whether a pair serves as a half of another, by whether it is still held.
+    fn serves(&self, held: bool) -> bool {
+        held
     }
 
     /// By what the candidate links of a component ascend.
@@ -97,9 +102,14 @@ pub trait Steps {
         balance.cost_with(units)
     }
 
-    /// The arcs that a leg from i to j is driven by.
-    fn path(&self, plan: &Plan, d: &Distances, i: usize, j: usize) -> Vec<u16> {
-        shortest_path(plan, d, |a| self.length(a), i, j)
+    /// What an arc adds to a path in weight: cost first, and then the number of arcs.
+    fn weight(&self, arc: &Arc) -> Option<u64> {
+        Some(64 * self.length(arc)? + 1)
+    }
+
+    /// The arcs that a leg from i to j is driven by, from the least weights.
+    fn path(&self, plan: &Plan, weights: &Distances, i: usize, j: usize) -> Vec<u16> {
+        shortest_path(plan, weights, |a| self.weight(a), i, j)
     }
 }
 
@@ -191,7 +201,8 @@ fn answer<S: Steps>(steps: &S, plan: Plan, budget: u64, sheet: &mut [u16]) -> Re
     if components.count > MOST_PARTS {
         return Err(refusal::SCATTERED);
     }
-    let d = distances(&plan, |a| steps.length(a));
+    let weights = distances(&plan, |a| steps.weight(a));
+    let d = costs(&weights);
     let network = Network::new(steps, &plan, &d, components);
     if network.is_cut_off() {
         return Err(refusal::CUT_OFF);
@@ -215,7 +226,7 @@ fn answer<S: Steps>(steps: &S, plan: Plan, budget: u64, sheet: &mut [u16]) -> Re
         lower_bound(steps, &network, &[0; MOST_VERTICES]).max(lower_bound(steps, &network, &u))
     };
 
-    let drive = circuit::lay(steps, &network, balance, &found.links);
+    let drive = circuit::lay(steps, &network, &weights, balance, &found.links);
     let places = drive.len().min(sheet.len());
     sheet[..places].copy_from_slice(&drive[..places]);
     Ok(Answer {

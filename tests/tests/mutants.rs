@@ -16,7 +16,7 @@ fn missed(violates: &[Property], found: &Findings) -> Vec<Property> {
 }
 
 fn cases() -> Vec<Case> {
-    let mut cases: Vec<Case> = suite::funnels(20).collect();
+    let mut cases: Vec<Case> = suite::funnels(20).chain(suite::equal_paths(30)).collect();
     cases.extend(suite::random_cases(SEED, 500, Shape::small, &Effort::BRUTE_FORCE));
     cases.extend(suite::random_cases(SEED, 40, Shape::large, &Effort::LIGHT));
     cases

@@ -7,6 +7,8 @@ use crate::{raw, Refusal};
 #[derive(Clone, PartialEq, Eq, Debug)]
 pub struct Answer {
     /// The drive: numbers of arcs, the lowest required one first. Each arc begins where the one before it ends, and the first where the last ends.
+    /// It is made of the required arcs, each once, and of paths between their ends: each a cheapest one, of the fewest arcs, and of those the lowest list
+    /// of arc numbers.
     pub drive: Vec<u16>,
     /// What the drive costs: the least of the trees tried. One pass of each required arc costs what it costs to check it, and every other pass
     /// what it costs to drive.

@@ -3,7 +3,7 @@ use mathlib.Core.Path.{_≡_}
 use mathlib.Core.List.{List}
 use mathlib.Core.Logic.{_↔_}
 use mathlib.Core.Option.{Option, none, some}
-use Prim.Native.Nat.{ℕ}
+use Prim.Native.Nat.{ℕ, _≤_}
 use lib.ListN.{length, getD, replicate}
 use lib.IntN.{pos}
 use Rattle.postman.specs.Plan.{Plan}
@@ -13,10 +13,12 @@ use Rattle.postman.specs.LagrangianBound.{Multipliers, AreGreatest}
 use Rattle.postman.specs.PlanFile.{planOf}
 use Rattle.postman.specs.PlanCall.{Summary, summary, fields, root, IsAnswerTour, callRefusal, earlierConditions}
 use Rattle.postman.specs.Guarantee.{Guarantee}
+use Rattle.postman.specs.Laws.Optimality.{Plannable}
 use Rattle.circuit.specs.Tour.{written}
 use Rattle.planner.specs.declared.Planned.{Planned}
 use Rattle.refusal.specs.Verdict.{verdictNumber}
 use Rattle.planner.specs.Tour.{tourOf}
+use Rattle.planner.specs.Multipliers.{multipliersFor}
 
 -- The fields of the answer, as document 01's.
 abbrev pub summaryOf : Planned → Summary
@@ -30,8 +32,12 @@ unfoldable pub countUnless : Option ℕ → ℕ → ℕ
 countUnless none n = n
 countUnless (some r) n = 0
 
--- What an answer that is no refusal is: u is the unique greatest one, the written places are a drive of the cost, and DEMAND 3 HOLDS.
+-- What an answer that is no refusal is: some arc is required, every two required vertices are joined, and some tree may be tried; u is the unique greatest one, which depends
+-- on the plan alone; the written places are a drive of the cost; and DEMAND 3 HOLDS.
 pub record IsAnswer (p : Plan) (budget : ℕ) (r : Planned) : Type 0 where
+  pub plannable : Plannable p
+  pub some-budget : 1 ≤ budget
+  pub multipliers-are : r .multipliers ≡ multipliersFor p
   pub multipliers : AreGreatest p (root p) (multipliersOf r)
   pub tour : IsAnswerTour p budget (tourOf p budget)
   pub guarantee : Guarantee p budget (multipliersOf r)

@@ -1,8 +1,11 @@
 pub mod Refusals
 pub mod Tour
+pub mod Multipliers
 pub mod Prepared
 pub mod Priced
 pub mod Contract
+pub mod RaisedBudget
 pub mod SameAnswer
 -- What is proved about them.
 pub mod Laws
+pub mod Theorem

@@ -7,6 +7,7 @@ pub mod PlanFile
 pub mod Tour
 pub mod Required
 pub mod Distance
+pub mod FewestPath
 pub mod Link
 pub mod Component
 pub mod Arborescence

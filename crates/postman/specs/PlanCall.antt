@@ -14,6 +14,7 @@ use Rattle.postman.specs.PlanFile.{fileConditions, isOutside, planOf}
 use Rattle.postman.specs.Tour.{tourCost, IsTour}
 use Rattle.postman.specs.Required.{required}
 use Rattle.postman.specs.Distance.{hasPath}
+use Rattle.postman.specs.FewestPath.{IsLaid}
 use Rattle.postman.specs.Link.{Link}
 use Rattle.postman.specs.Component.{componentCount}
 use Rattle.postman.specs.Arborescence.{arborescences, arborescenceCount}
@@ -118,10 +119,12 @@ unfoldable pub root : Plan → ℕ
 unfolding required
 root p = getD (required p) 0 0
 
--- "The written places are a drive of that cost whose first arc is the lowest must arc; which such drive, of at most 17,266 places, is free."
+-- "The written places are a drive of that cost whose first arc is the lowest must arc; which such drive, of at most 17,266 places, is free." Its legs follow the paths of
+-- fewest arcs.
 pub record IsAnswerTour (p : Plan) (budget : ℕ) (w : List ℕ) : Type 0 where
   pub tour : IsTour p w
   pub costs : tourCost p w ≡ bestCost p budget
   pub nonempty : 0 < length w
   pub first : getD w 0 0 ≡ getD (requiredNumbers p) 0 0
   pub short : length w ≤ sheetPlaces
+  pub laid : IsLaid p w

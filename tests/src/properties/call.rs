@@ -1,7 +1,9 @@
 //! The plan call and the short call.
 
 use super::{Findings, Property};
-use crate::oracle::{call_refusal, file_of, judge, lagrangian_bound, parse, short_refusal, Effort, Facts};
+use crate::oracle::{
+    call_refusal, file_of, follows_fewest_paths, judge, lagrangian_bound, parse, short_refusal, Effort, Facts,
+};
 use crate::plan::{Plan, DEFAULT_BUDGET, SHEET_PLACES};
 use crate::planner::{Answer, Planner, Refusal};
 use std::panic::{catch_unwind, AssertUnwindSafe};
@@ -128,6 +130,8 @@ fn examine_drive(found: &mut Findings, facts: &Facts, answer: &Answer, sheet: &[
     found.expect(Property::Drive, answer.places <= SHEET_PLACES, about);
     let first = facts.graph.required_arcs[0] as u16;
     found.expect(Property::FirstArc, drive.first() == Some(&first), about);
+    let followed = follows_fewest_paths(&facts.graph, drive);
+    found.expect(Property::FewestArcs, followed.is_ok(), || format!("{followed:?}: {}", about()));
 }
 
 fn examine_trees(found: &mut Findings, facts: &Facts, answer: &Answer, budget: u64, about: &dyn Fn() -> String) {

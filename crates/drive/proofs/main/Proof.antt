@@ -1,7 +1,7 @@
 -- Of an answer the contract gives the floor's sign and the count of places, which lie within the sheet.
 use mathlib.Core.Path.{ap}
 use Rattle.refusal.specs.Verdict.{verdictNumber}
-use Rattle.planner.specs.Laws.Answered.{floor-above, places-fit, places-count, room-for}
+use Rattle.planner.specs.Laws.Answered.{floor-above, places-fit, places-count}
 use borrow.Author.Needs.{needs}
 use Rattle.drive.proofs.main.Statement.{statement}
 use Rattle.drive.proofs.main.Tie as tie
@@ -36,14 +36,12 @@ enum-told c = search needs
 array-share-prefix-sheet : tie.Need-array-share-prefix-sheet
 array-share-prefix-sheet c =
     let r = c .before .before .before .plan-call in
-    let e = ap verdictNumber (c .enum-told .given .1) in
-    places-fit _ _ _ _ _ _ (r .ensures .planned) e (room-for _ _ _ _ _ (r .ensures) e)
+    places-fit _ _ _ _ _ _ (r .ensures .planned) (ap verdictNumber (c .enum-told .given .1))
 
 slice-aggregate-print-answer : tie.Need-slice-aggregate-print-answer
 slice-aggregate-print-answer c =
     let r = c .before .before .before .before .plan-call in
-    let e = ap verdictNumber (c .before .enum-told .given .1) in
-    places-count _ _ _ _ _ _ (r .ensures .planned) e (room-for _ _ _ _ _ (r .ensures) e)
+    places-count _ _ _ _ _ _ (r .ensures .planned) (ap verdictNumber (c .before .enum-told .given .1))
 
 print-answer-requires : tie.Need-print-answer-requires
 print-answer-requires c κs =

@@ -15,7 +15,7 @@ use Rattle.postman.specs.Laws.Judge.{call-judged}
 use Rattle.refusal.specs.Verdict.{verdictNumber}
 use Rattle.planner.specs.declared.Planned.{Planned}
 use Rattle.planner.specs.Contract.{IsPlanCall}
-use Rattle.planner.specs.Laws.Answered.{accepted, cost-is, floor-is, tour-written}
+use Rattle.planner.specs.Laws.Answered.{accepted, is-answer, cost-is, floor-is, tour-written}
 use Rattle.judge.specs.declared.Judged.{Judged}
 use Rattle.judge.specs.Contract.{judgedAnswer, IsJudged}
 
@@ -35,4 +35,4 @@ module _ (bytes : List ℕ) (budget : ℕ) (old new : List ℕ) (r : Planned) (c
   floor-below w j h c e =
       let t = h .costs c e in
       let f = floor-is _ _ _ _ _ _ (call .planned) good in
-      rw (f, t .1) (call .planned .answered (accepted _ _ _ _ _ _ (call .planned) good) .guarantee .below-every-tour w (t .0))
+      rw (f, t .1) (is-answer _ _ _ _ _ _ (call .planned) good .guarantee .below-every-tour w (t .0))

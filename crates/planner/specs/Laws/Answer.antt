@@ -30,6 +30,7 @@ use Rattle.search.specs.Links.{linksIn}
 use Rattle.planner.specs.declared.Planned.{Planned}
 use Rattle.refusal.specs.Verdict.{verdictNumber}
 use Rattle.planner.specs.Tour.{tourOf, amountsOf}
+use Rattle.planner.specs.Multipliers.{multipliersFor}
 use Rattle.planner.specs.Prepared.{IsTree}
 use Rattle.planner.specs.Contract.{summaryOf, multipliersOf, countUnless, IsPlanned}
 use Rattle.planner.specs.Laws.Tour.{answer-tour}
@@ -80,16 +81,23 @@ module _ (p : Plan) (ok : Plannable p) (few : componentCount p ≤ 8) (budget : 
 
   -- ---- the answer
 
-  pub is-planned : (old new : List ℕ) (r : Planned) → verdictNumber (r .verdict) ≡ none → AreGreatest p (root p) (multipliersOf r) → summaryOf r ≡ summary p budget (multipliersOf r)
-      → new ≡ written (tourOf p budget) old → r .places ≡ length (tourOf p budget) → IsPlanned p budget none old new r
+  pub is-planned : (old new : List ℕ) (r : Planned) → verdictNumber (r .verdict) ≡ none → r .multipliers ≡ multipliersFor p → AreGreatest p (root p) (multipliersOf r)
+      → summaryOf r ≡ summary p budget (multipliersOf r) → new ≡ written (tourOf p budget) old → r .places ≡ length (tourOf p budget) → IsPlanned p budget none old new r
   unfolding answer fields unless countUnless
-  is-planned old new r v g s w n = record {
+  is-planned old new r v u g s w n = record {
     verdict = v;
     summary-is = s;
     sheet = w;
     places-are = n;
     no-multipliers = λ k e. absurd (Option·some-ne-none k (sym e));
-    answered = λ e. record { multipliers = g; tour = drive; guarantee = guaranteed p ok budget some (multipliersOf r) (g .multipliers) };
+    answered = λ e. record {
+      plannable = ok;
+      some-budget = some;
+      multipliers-are = u;
+      multipliers = g;
+      tour = drive;
+      guarantee = guaranteed p ok budget some (multipliersOf r) (g .multipliers);
+    };
   }
 
   -- ---- the arrays are long enough
@@ -138,9 +146,9 @@ module _ (p : Plan) (ok : Plannable p) (few : componentCount p ≤ 8) (budget : 
   unfolding tourOf
   laid-best t e = ap laid e
 
-  pub finished : (old new : List ℕ) (r : Planned) → verdictNumber (r .verdict) ≡ none → AreGreatest p (root p) (multipliersOf r) → summaryOf r ≡ summary p budget (multipliersOf r)
-      → (n : ℕ) (ts hs : List ℕ) → linksIn n ts hs ≡ bestArborescence p budget → new ≡ written (laid (linksOf (take n ts) (take n hs))) old
+  pub finished : (old new : List ℕ) (r : Planned) → verdictNumber (r .verdict) ≡ none → r .multipliers ≡ multipliersFor p → AreGreatest p (root p) (multipliersOf r)
+      → summaryOf r ≡ summary p budget (multipliersOf r) → (n : ℕ) (ts hs : List ℕ) → linksIn n ts hs ≡ bestArborescence p budget → new ≡ written (laid (linksOf (take n ts) (take n hs))) old
       → r .places ≡ length (laid (linksOf (take n ts) (take n hs))) → IsPlanned p budget none old new r
-  finished old new r v g s n ts hs e w m =
+  finished old new r v u g s n ts hs e w m =
       let l = laid-best (linksOf (take n ts) (take n hs)) (kept-links n ts hs e) in
-      is-planned old new r v g s (w ∙ ap (λ (t : List ℕ). written t old) l) (m ∙ ap length l)
+      is-planned old new r v u g s (w ∙ ap (λ (t : List ℕ). written t old) l) (m ∙ ap length l)

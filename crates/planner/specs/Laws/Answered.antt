@@ -1,30 +1,32 @@
--- What a caller reads off an answer, of the plan call or of another call on a plan: cost and floor by their definitions, the floor is at least 0, being at least R + Z, and the places written lie within the sheet and are the tour.
+-- What a caller reads off an answer, whatever plan it is for: cost, floor and the other fields by their definitions, the floor is at least 0, being at least R + Z, and the places
+-- written lie within the sheet and are the tour.
 use mathlib.Core.Path.{_≡_, sym, ap, ap₂, _∙_, subst⁻¹}
 use mathlib.Core.List.{List}
 use mathlib.Core.Option.{Option, none}
 use Prim.Native.Nat.{ℕ, _≤_}
 use native.Mathlib.Omega.{arith}
-use lib.ListN.{length, take, drop, length-take}
+use lib.ListN.{length, take, drop, length-take, length-append}
 use lib.Seq.{take-append-seam}
 use lib.IntN.{pos}
 use lib.Signed.{_≤ℤ_}
 use Rattle.integers.specs.Linear.{z}
 use Rattle.postman.specs.Plan.{Plan}
 use Rattle.postman.specs.Refusal.{answer, unless}
-use Rattle.postman.specs.PlanCall.{Summary, summary, fields, bestCost, lowerBound, IsAnswerTour, sheetPlaces}
-use Rattle.postman.specs.Laws.Acceptance.{call-accepted}
+use Rattle.postman.specs.PlanCall.{Summary, summary, fields, bestCost, lowerBound, IsAnswerTour}
 use Rattle.circuit.specs.Tour.{written}
-use Rattle.circuit.specs.Laws.Written.{written-length}
 use Rattle.planner.specs.declared.Planned.{Planned}
 use Rattle.refusal.specs.Verdict.{verdictNumber}
 use Rattle.planner.specs.Tour.{tourOf}
-use Rattle.planner.specs.Contract.{summaryOf, multipliersOf, countUnless, IsPlanned, IsPlanCall}
+use Rattle.planner.specs.Contract.{summaryOf, multipliersOf, countUnless, IsAnswer, IsPlanned}
 
-module _ (p : Plan) (budget : ℕ) (o : Option ℕ) (old new : List ℕ) (r : Planned) (i : IsPlanned p budget o old new r) (e : verdictNumber (r .verdict) ≡ none) where
-  pub accepted : o ≡ none
+module _ (p : Plan) (budget : ℕ) (refusal : Option ℕ) (old new : List ℕ) (r : Planned) (i : IsPlanned p budget refusal old new r) (e : verdictNumber (r .verdict) ≡ none) where
+  pub accepted : refusal ≡ none
   accepted = sym (i .verdict) ∙ e
 
-  summary-given : summaryOf r ≡ summary p budget (multipliersOf r)
+  pub is-answer : IsAnswer p budget r
+  is-answer = i .answered accepted
+
+  pub summary-given : summaryOf r ≡ summary p budget (multipliersOf r)
   unfolding answer fields
   summary-given = i .summary-is ∙ ap (λ (o : Option ℕ). fields (answer o (summary p budget (multipliersOf r)))) accepted
 
@@ -37,34 +39,30 @@ module _ (p : Plan) (budget : ℕ) (o : Option ℕ) (old new : List ℕ) (r : Pl
   floor-is = ap (λ (s : Summary). s .floor) summary-given
 
   pub floor-above : pos 0 ≤ℤ r .floor
-  floor-above = let l = i .answered accepted .guarantee .above-balancing in let f = floor-is in omega (arith, z)
+  floor-above = let l = is-answer .guarantee .above-balancing in let f = floor-is in omega (arith, z)
 
   sheet-is : new ≡ written (tourOf p budget) old
   unfolding unless
   sheet-is = i .sheet ∙ ap (λ (o : Option ℕ). unless o (written (tourOf p budget) old) old) accepted
 
-  count-is : r .places ≡ length (tourOf p budget)
+  pub count-is : r .places ≡ length (tourOf p budget)
   unfolding countUnless
   count-is = i .places-are ∙ ap (λ (o : Option ℕ). countUnless o (length (tourOf p budget))) accepted
 
-  pub tour-written : IsAnswerTour p budget (take (r .places) new)
+  pub places-fit : r .places ≤ length new
   unfolding written
-  tour-written =
-      let same : take (r .places) new ≡ tourOf p budget = ap₂ take count-is sheet-is ∙ take-append-seam (tourOf p budget) (drop (length (tourOf p budget)) old) in
-      subst⁻¹ (IsAnswerTour p budget) same (i .answered accepted .tour)
+  places-fit =
+      let c = count-is in
+      let w = ap length sheet-is in
+      let n = length-append (tourOf p budget) (drop (length (tourOf p budget)) old) in
+      omega arith
 
-  module _ (room : sheetPlaces ≤ length old) where
-    pub places-fit : r .places ≤ length new
-    places-fit =
-        let c = count-is in
-        let l = i .answered accepted .tour .short in
-        let w = ap length sheet-is in
-        let n = written-length (tourOf p budget) old (omega arith) in
-        omega arith
+  pub places-count : r .places ≡ length (take (r .places) new)
+  places-count = let a = places-fit in let b = length-take (r .places) new in omega arith
 
-    pub places-count : r .places ≡ length (take (r .places) new)
-    places-count = let a = places-fit in let b = length-take (r .places) new in omega arith
+  pub drive-is : take (r .places) new ≡ tourOf p budget
+  unfolding written
+  drive-is = ap₂ take count-is sheet-is ∙ take-append-seam (tourOf p budget) (drop (length (tourOf p budget)) old)
 
--- the sheet of a plan call that is not refused is long enough
-pub room-for : (bytes : List ℕ) (budget : ℕ) (old new : List ℕ) (r : Planned) → IsPlanCall bytes budget old new r → verdictNumber (r .verdict) ≡ none → sheetPlaces ≤ length old
-room-for bytes budget old new r i e = call-accepted bytes budget (length old) (accepted _ _ _ _ _ _ (i .planned) e) .earlier .sheet
+  pub tour-written : IsAnswerTour p budget (take (r .places) new)
+  tour-written = subst⁻¹ (IsAnswerTour p budget) drive-is (is-answer .tour)

@@ -31,6 +31,7 @@ use Rattle.candidates.specs.declared.Candidates.{Candidates}
 use Rattle.candidates.specs.LaidOut.{AreLaidOut}
 use Rattle.search.specs.Prepared.{Prepared}
 use Rattle.planner.specs.Tour.{tableOf}
+use Rattle.planner.specs.Multipliers.{multipliersFor}
 use Rattle.planner.specs.Prepared.{IsBase}
 use Rattle.planner.specs.Priced.{IsPriced}
 use Rattle.planner.specs.Laws.Tour.{agrees}
@@ -81,21 +82,21 @@ module _ (p : Plan) (table : List (List ℕ)) (vs : List ℕ) (base : State) (b 
   abbrev few : componentCount p ≤ 8
   few = b .known .few
 
-  abbrev model : List ℤ
-  model = multipliers (cell (tableOf p)) (required p) (balance (cell (tableOf p)) p []) (root p)
-
-  u-is : u ≡ model
-  u-is =
+  pub multipliers-are : u ≡ multipliersFor p
+  unfolding multipliersFor
+  multipliers-are =
       e ∙ ap (λ (x : List (List ℕ)). multipliers (cell x) vs base (root p)) (b .known .distances) ∙ ap (λ (v : List ℕ). multipliers (cell (tableOf p)) v base (root p)) (b .known .vertices)
       ∙ ap (λ (s : State). multipliers (cell (tableOf p)) (required p) s (root p)) (b .base-is)
 
   pub greatest-are : AreGreatest p (root p) (multipliersOf u)
-  greatest-are = subst⁻¹ (λ (x : List ℤ). AreGreatest p (root p) (multipliersOf x)) u-is (greatest p ok few)
+  unfolding multipliersFor
+  greatest-are = subst⁻¹ (λ (x : List ℤ). AreGreatest p (root p) (multipliersOf x)) multipliers-are (greatest p ok few)
 
   cost-is : base .cost ≡ balance (cell (tableOf p)) p [] .cost
   cost-is = ap (λ (s : State). s .cost) (b .base-is)
 
   pub priced : (c : List ℕ) (flags : List Bool) (k r : ℕ) → length flags ≡ 64 → IsRequiredFlags p flags → IsComponents p c k → r ≡ requiredCost p → IsPriced p table u c flags k r (base .cost)
+  unfolding multipliersFor
   priced c flags k r long hf hc hr = record {
     plannable = ok;
     few = (let a = hc .all in let f = few in omega arith);
@@ -110,7 +111,7 @@ module _ (p : Plan) (table : List (List ℕ)) (vs : List ℕ) (base : State) (b 
     root = root p;
     root-required = root-required p ok few;
     at-root = greatest-are .at-root;
-    price-is = subst⁻¹ (λ (x : List ℤ). priceOfImbalance p (multipliersOf x) ≡ pos (base .cost)) u-is (price p ok few ∙ ap pos (sym cost-is));
+    price-is = subst⁻¹ (λ (x : List ℤ). priceOfImbalance p (multipliersOf x) ≡ pos (base .cost)) multipliers-are (price p ok few ∙ ap pos (sym cost-is));
     price-small = (let a = price-small p ok few in let f = cost-is in omega arith);
   }
 

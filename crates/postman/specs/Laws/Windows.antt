@@ -51,7 +51,6 @@ module _ (b : Bool) (a : Arc) where
     tail-in = h .tail-in;
     head-in = h .head-in;
     standing-in = cond-ind b 2 (a .standing) (λ s. s ≤ 2) (λ t. omega arith) (λ t. h .standing-in);
-    priced = h .priced;
     cost-in = h .cost-in;
     service-in = h .service-in;
   }

@@ -5,8 +5,8 @@ use native.Mathlib.Omega.{arith}
 use borrow.Author.Count.{below-more}
 use lib.ListN.{getD}
 use borrow.Author.Needs.{needs}
-use Rattle.shortest.proofs.distance.same.Statement.{statement}
-use Rattle.shortest.proofs.distance.same.Tie as tie
+use Rattle.shortest.proofs.weights.same.Statement.{statement}
+use Rattle.shortest.proofs.weights.same.Tie as tie
 
 abbrev Inv-loop : tie.InvT-loop
 Inv-loop a b j₀ j = (j ≤ 64) × ((i : ℕ) → i < j → getD a i 0 ≡ getD b i 0)

@@ -3,8 +3,8 @@ use borrow.Author.Needs.{needs}
 use native.Mathlib.Omega.{arith}
 use Rattle.postman.specs.Distance.{noPath}
 use Rattle.shortest.specs.Relaxation.{shorter}
-use Rattle.shortest.proofs.distance.shorter.Statement.{statement}
-use Rattle.shortest.proofs.distance.shorter.Tie as tie
+use Rattle.shortest.proofs.weights.shorter.Statement.{statement}
+use Rattle.shortest.proofs.weights.shorter.Tie as tie
 
 sub-if1 : tie.Need-sub-if1
 sub-if1 c = search needs
