@@ -95,8 +95,8 @@ enum postman_standing {
 #define POSTMAN_COUNTS 512
 
 /*
- * The refusals. Wrong are a cost of 0, a service cost of 0 in a required arc, and another in any other arc; and, where
- * edition 1 is written, a required arc's service cost that is not its cost.
+ * The refusals. Wrong are a service cost of 0 in a required arc, and another in any other arc; and, where edition 1 is
+ * written, a required arc's service cost that is not its cost. A cost of 0 is good, but in a required arc of edition 1.
  */
 enum postman_refusal {
     POSTMAN_TORN = 1,        /* the file has under 3 bytes, or fewer than its arcs need */
@@ -104,7 +104,7 @@ enum postman_refusal {
     POSTMAN_EXTENT = 3,      /* no vertex or more than 64, no arc or more than 256, or a list of more than 65,535 places */
     POSTMAN_MARGIN = 4,      /* the file has more bytes than its arcs need, or a fill bit is 1 */
     POSTMAN_OFF_SHEET = 5,   /* an arc's tail or head is no vertex */
-    POSTMAN_UNPRICED = 6,    /* an arc's cost or service cost is wrong, as said below */
+    POSTMAN_UNPRICED = 6,    /* an arc's service cost is wrong, as said above */
     POSTMAN_STANDING = 7,    /* an arc's standing is above 2 */
     POSTMAN_SHORT_SHEET = 8, /* too few records, bytes, places or distances are lent */
     POSTMAN_BUDGET = 9,      /* the budget is 0 or above 1,000,000 */

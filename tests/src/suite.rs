@@ -14,10 +14,11 @@ pub use pages::run_pages;
 pub use stated::{case_a, case_b, case_c, run_stated, FILE_A};
 
 use crate::instances::{
-    checked, damaged, dead_ends, fullest, funnel, longest, many_paths, random_bytes, random_plan, towns, Shape,
+    checked, damaged, dead_ends, free_circles, free_ring, fullest, funnel, longest, many_paths, random_bytes, random_plan,
+    towns, Shape,
 };
 use crate::oracle::{file_of, Effort};
-use crate::plan::{Arc, Plan, DEFAULT_BUDGET, HIGHEST_BUDGET, LONGEST_FILE, SHEET_PLACES};
+use crate::plan::{Arc, Plan, DEFAULT_BUDGET, HIGHEST_BUDGET, LONGEST_FILE, REQUIRED, SHEET_PLACES};
 use crate::planner::{Codec, Planner};
 use crate::properties::{
     examine_answer, examine_checking, examine_codec, examine_raised, examine_refusal, examine_writing, Case, Findings,
@@ -74,6 +75,8 @@ pub fn fixed_cases() -> Vec<Case> {
     }
     cases.extend((1..=20).map(|seed| Case::new(&dead_ends(&mut Random::new(seed), 3, 2), &Effort::BRUTE_FORCE)));
     cases.extend(funnels(300));
+    cases.extend((1..=8).map(|n| Case::new(&free_circles(n), &Effort::BRUTE_FORCE)));
+    cases.extend([2, 3, 5, 8, 12].map(|n| Case::new(&free_ring(n), &Effort::BRUTE_FORCE)));
     cases.extend(equal_paths(300));
     cases.extend(towns().iter().map(|(_, plan)| Case::new(plan, &Effort::LIGHT)));
     cases
@@ -144,8 +147,11 @@ fn random_records(random: &mut Random) -> Plan {
     let m = random.pick(&[0, 1, 2, 3, 4, 5, 255, 256, 257, 300]);
     let any_cost = |random: &mut Random| random.within(1..=65_535) as u16;
     let vertex = |random: &mut Random| random.below(n.clamp(1, 64));
-    let record =
-        |random: &mut Random| Arc::new(vertex(random), vertex(random), random.below(3) as u8, any_cost(random));
+    let record = |random: &mut Random| {
+        let standing = random.below(3) as u8;
+        let cost = if standing != REQUIRED && random.once_in(3) { 0 } else { any_cost(random) };
+        Arc::new(vertex(random), vertex(random), standing, cost)
+    };
     let mut plan = Plan { edition, n, arcs: (0..m).map(|_| record(random)).collect() };
     if edition == 2 {
         plan = checked(plan, |_, _| any_cost(random));

@@ -50,6 +50,11 @@ pub trait Steps {
         d[i][j] == d[i][k] + d[k][j]
     }
 
+    /// Whether a pair serves as a half of another, by whether it is still held.
+    fn serves(&self, held: bool) -> bool {
+        held
+    }
+
     /// By what the candidate links of a component ascend.
     fn link_order(&self, tail: usize, head: usize) -> (usize, usize) {
         (tail, head)

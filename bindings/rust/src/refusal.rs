@@ -26,7 +26,7 @@ pub enum Refusal {
     Margin = 4,
     /// An arc's tail or head is no vertex.
     OffSheet = 5,
-    /// An arc's cost is 0, a required arc's service cost is 0, or another arc's is not; or one cannot be written in edition 1.
+    /// A required arc's service cost is 0, or another arc's is not; or one cannot be written in edition 1. A required arc of edition 1 that costs 0 has none.
     Unpriced = 6,
     /// An arc's standing is above 2.
     Standing = 7,
@@ -106,7 +106,7 @@ impl Refusal {
             }
             Refusal::Margin => ("margin", "the file has more bytes than its arcs need, or a fill bit is 1"),
             Refusal::OffSheet => ("off sheet", "an arc's tail or head is no vertex"),
-            Refusal::Unpriced => ("unpriced", "an arc's cost or service cost is wrong"),
+            Refusal::Unpriced => ("unpriced", "an arc's service cost is wrong"),
             Refusal::Standing => ("standing", "an arc's standing is above 2"),
             Refusal::ShortSheet => ("short sheet", "too few records, bytes, places or distances are lent"),
             Refusal::Budget => ("budget", "the budget is 0 or above 1,000,000"),

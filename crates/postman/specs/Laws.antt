@@ -2,6 +2,8 @@
 pub mod Tests
 pub mod Membership
 pub mod Below
+pub mod Selection
+pub mod Lists
 pub mod Minimum
 pub mod Pick
 pub mod Occurrences
@@ -17,6 +19,7 @@ pub mod Walk
 pub mod Ascending
 pub mod Component
 pub mod Link
+pub mod Pairs
 pub mod Existence
 pub mod Iteration
 pub mod Route

@@ -63,6 +63,13 @@ wrong_steps! {
         }
     }
 
+    // Document 01's thinning: where free arcs make a circle, all links go.
+    DroppedByDroppedPairs violates [Trees, Whole, Stated] {
+        fn serves(&self, _held: bool) -> bool {
+            true
+        }
+    }
+
     LinksByHeadThenTail violates [LeastCost] {
         fn link_order(&self, tail: usize, head: usize) -> (usize, usize) {
             (head, tail)

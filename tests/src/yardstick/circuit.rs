@@ -83,7 +83,8 @@ pub fn shortest_path(
 ) -> Vec<u16> {
     let mut path = Vec::new();
     let mut v = from;
-    while v != to {
+    // By lengths of 0 a wrong planner would go in a circle.
+    while v != to && path.len() < MOST_VERTICES {
         let is_next =
             |a: &Arc| usize::from(a.tail) == v && length(a).is_some_and(|x| x + d[usize::from(a.head)][to] == d[v][to]);
         let k = plan.arcs.iter().position(is_next).expect("a finite distance is a path's");

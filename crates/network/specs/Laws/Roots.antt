@@ -24,7 +24,7 @@ use Rattle.network.specs.Contracts.{IsRequiredFlags}
 use Rattle.network.specs.Labels.{Labelled, isRoot, rootsBelow, numberOf}
 use Rattle.network.specs.Laws.Search.{is-true, is-false}
 use Rattle.network.specs.Laws.RequiredVertex.{required-of, of-required, required-below}
-use Rattle.network.specs.Laws.Selection.{select-cong, select-select, select-past, select-place}
+use Rattle.postman.specs.Laws.Selection.{select-cong, select-select, select-past, select-place}
 use Rattle.network.specs.Laws.Labels.{both-ways, component-label}
 
 and-cong : (b : Bool) {x y : Bool} → (T b → x ≡ y) → (b && x) ≡ (b && y)

@@ -67,7 +67,6 @@ accepted-extent n m a b c d =
 pub record IsFileArc (e n : ℕ) (a : Arc) : Type 0 where
   pub tail : a .tail < n
   pub head : a .head < n
-  pub cost : 1 ≤ a .cost
   pub priced : T (not (isMispriced e a))
   pub standing : a .standing ≤ 2
 
@@ -79,16 +78,13 @@ module _ (e n : ℕ) (a : Arc) where
       let c = accepted-cons _ _ _ (s .1) in
       let t = accepted-cons _ _ _ (c .1) in
       let v = not-or (leb n (a .tail)) (leb n (a .head)) (s .0) in
-      let x = not-or (eqb (a .cost) 0) (isMispriced e a) (c .0) in
-      let z : a .cost ≢ 0 = eqb-other (x .0) in
-      record { tail = nleb→lt n (a .tail) (v .0); head = nleb→lt n (a .head) (v .1); cost = omega arith; priced = x .1; standing = nltb→le 2 (a .standing) (t .0) }
+      record { tail = nleb→lt n (a .tail) (v .0); head = nleb→lt n (a .head) (v .1); priced = c .0; standing = nltb→le 2 (a .standing) (t .0) }
 
   accepted-arc : IsFileArc e n a → firstRefusal (arcConditions e n a) ≡ none
   unfolding arcConditions
   accepted-arc h =
-      let l = h .cost in
       cons-accepted _ _ _ (neither (leb n (a .tail)) (leb n (a .head)) (lt→nleb n (a .tail) (h .tail)) (lt→nleb n (a .head) (h .head)))
-      (cons-accepted _ _ _ (neither (eqb (a .cost) 0) (isMispriced e a) (not-T (eqb (a .cost) 0) (λ u. (let q = eqb→eq (a .cost) 0 u in omega arith))) (h .priced))
+      (cons-accepted _ _ _ (h .priced)
       (cons-accepted _ _ _ (le→nltb 2 (a .standing) (h .standing)) nothing-refused))
 
   -- in edition 1 the service cost is the implied one
@@ -128,7 +124,7 @@ module _ (e : ℕ) (p : Plan) where
         each = λ a m.
             let r = arcs-accepted (plan-accepted f .0) a m in
             let c = costs a m in
-            record { tail-in = r .tail; head-in = r .head; standing-in = r .standing; priced = r .cost; cost-in = c .0; service-in = c .1 };
+            record { tail-in = r .tail; head-in = r .head; standing-in = r .standing; cost-in = c .0; service-in = c .1 };
       }
 
 -- ---- the file

@@ -2,7 +2,7 @@
 use mathlib.Core.Path.{_∙_}
 use native.Mathlib.Omega.{arith}
 use lib.ListN.{length-take}
-use Rattle.candidates.specs.Laws.Vertices.{vertices-required}
+use Rattle.network.specs.Laws.Vertices.{vertices-required}
 use Rattle.planner.specs.Laws.Call.{is-known}
 use borrow.Author.Needs.{needs}
 use Rattle.planner.proofs.call.answer.Statement.{statement}

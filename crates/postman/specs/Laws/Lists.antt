@@ -7,7 +7,8 @@ use native.Mathlib.Decide.{ℕ-discrete}
 use native.Mathlib.Omega.{arith}
 use lib.ListN.{length, getD, set, length-append}
 use lib.Seq.{getD-append-seam, getD-set-same, getD-set-other}
 use Rattle.postman.specs.Lists.{select, below, upFrom}
+use Rattle.postman.specs.Laws.Selection.{select-append}
 
 module _ {A B : Type 0} where
   pub map-cong : (f g : A → B) (xs : List A) → ((x : A) → List·Memᴰ x xs → f x ≡ g x) → map f xs ≡ map g xs
@@ -38,15 +39,6 @@ module _ {A B : Type 0} where
       picked : (b : Bool) → select f (map g xs) ≡ map g (select f′ xs) → cond b (g x ∷ select f (map g xs)) (select f (map g xs)) ≡ map g (cond b (x ∷ select f′ xs) (select f′ xs))
       picked Bool.true r = ap (λ (l : List B). g x ∷ l) r
       picked Bool.false r = r
-
-pub select-append : {A : Type 0} (f : A → Bool) (xs ys : List A) → select f (xs ++ ys) ≡ select f xs ++ select f ys
-unfolding select
-select-append f [] ys = refl
-select-append {A} f (x ∷ xs) ys = picked (f x) (select-append f xs ys)
-  where
-    picked : (b : Bool) → select f (xs ++ ys) ≡ select f xs ++ select f ys → cond b (x ∷ select f (xs ++ ys)) (select f (xs ++ ys)) ≡ cond b (x ∷ select f xs) (select f xs) ++ select f ys
-    picked Bool.true r = ap (λ (l : List A). x ∷ l) r
-    picked Bool.false r = r
 
 module _ {A B : Type 0} (h : A → List B) where
   pub select-flatMap : (f : B → Bool) (l : List A) → select f (flatMap h l) ≡ flatMap (λ x. select f (h x)) l

@@ -4,12 +4,15 @@ use mathlib.Core.Bool.{Bool, true, false, cond, _&&_}
 use mathlib.Core.List.{List, [], _∷_, _++_, map, flatMap, append-nil, append-assoc}
 use Prim.Native.Nat.{ℕ, zero, suc, _+_, _*_, _-_, _/_, _%_, _≤_}
 use native.Mathlib.Omega.{arith}
 use Rattle.postman.specs.Lists.{select, below, upFrom}
 use Rattle.postman.specs.Link.{Link, pairs}
 use Rattle.postman.specs.Laws.Link.{link}
-use Rattle.network.specs.Laws.Selection.{select-none, below-split}
-use Rattle.arborescence.specs.Laws.Lists.{map-append, select-map, select-flatMap, flatMap-cong}
-use Rattle.candidates.specs.Places.{linkOf}
+use Rattle.postman.specs.Laws.Selection.{select-none, below-split}
+use Rattle.postman.specs.Laws.Lists.{map-append, select-map, select-flatMap, flatMap-cong}
+
+-- the pair at place x, which ascends as (tail, head) does
+abbrev pub linkOf : ℕ → Link
+linkOf x = record { tail = x / 64; head = x % 64 }
 
 row : (a b n : ℕ) → b + n ≤ 64 → map linkOf (upFrom (a * 64 + b) n) ≡ map (link a) (upFrom b n)
 unfolding upFrom

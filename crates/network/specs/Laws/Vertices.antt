@@ -10,9 +10,9 @@ use Rattle.postman.specs.Required.{isRequired, required}
 use Rattle.postman.specs.Laws.Tests.{same-test}
 use Rattle.postman.specs.Laws.Membership.{below-mem}
 use Rattle.postman.specs.Laws.Required.{required-lt}
 use Rattle.network.specs.Contracts.{IsRequiredFlags}
-use Rattle.network.specs.Laws.Selection.{select-cong, select-past}
+use Rattle.postman.specs.Laws.Selection.{select-cong, select-past}
 use Rattle.network.specs.Laws.RequiredVertex.{required-of}
 
 module _ (p : Plan) (ok : WellFormed p) where
   pub required-of-64 : select (isRequired p) (below 64) ≡ required p

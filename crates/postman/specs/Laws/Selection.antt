@@ -38,6 +38,11 @@ module _ {A : Type 0} where
   unfolding select
   select-none f [] h = refl
   select-none f (x ∷ xs) h = rw (h x (List·Memᴰ·head refl)) (select-none f xs (λ y m. h y (List·Memᴰ·tail m)))
+
+  pub select-all : (f : A → Bool) (xs : List A) → ((x : A) → List·Memᴰ x xs → f x ≡ true) → select f xs ≡ xs
+  unfolding select
+  select-all f [] h = refl
+  select-all f (x ∷ xs) h = rw (h x (List·Memᴰ·head refl), select-all f xs (λ y m. h y (List·Memᴰ·tail m)))
 
 upFrom-append : (a m n : ℕ) → upFrom a (m + n) ≡ upFrom a m ++ upFrom (a + m) n
 unfolding upFrom
