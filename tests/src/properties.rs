@@ -5,6 +5,7 @@ mod call;
 mod checking;
 mod codec;
 mod count;
+mod departure;
 mod judging;
 mod page;
 
@@ -13,6 +14,7 @@ pub use call::{examine_answer, examine_refusal, Case};
 pub use checking::examine_checking;
 pub use codec::{examine_codec, examine_writing};
 pub use count::{examine_count, examine_whole};
+pub use departure::{examine_departure, examine_departure_refusal, examine_no_windows};
 pub use judging::{examine_judgement, examine_written};
 pub use page::examine_page;
 
@@ -105,10 +107,14 @@ pub enum Property {
     WrittenPasses,
     /// No list of arcs is judged to cost less than the floor of its plan.
     FloorBelowJudged,
+    /// With no window the call at a departure is the plan call.
+    NoWindows,
+    /// With windows it is the plan call on the plan with the shut arcs closed by hand, where that is a good file.
+    ClosedByHand,
 }
 
 /// All of them.
-pub const PROPERTIES: [Property; 42] = {
+pub const PROPERTIES: [Property; 44] = {
     use Property::*;
     [
         Returns,
@@ -153,6 +159,8 @@ pub const PROPERTIES: [Property; 42] = {
         Judgement,
         WrittenPasses,
         FloorBelowJudged,
+        NoWindows,
+        ClosedByHand,
     ]
 };
 

@@ -1,6 +1,7 @@
 //! The suite: what every planner is put through.
 
 mod counts;
+mod departures;
 mod editions;
 mod faults;
 mod judging;
@@ -8,6 +9,7 @@ mod pages;
 mod stated;
 
 pub use counts::{run_count, run_counts};
+pub use departures::run_departures;
 pub use editions::{run_stated_codec, FILE_A_CHECKED};
 pub use judging::{run_lists, run_stated_lists};
 pub use pages::run_pages;

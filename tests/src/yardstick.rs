@@ -11,6 +11,7 @@ mod file;
 mod judging;
 mod network;
 mod page;
+mod windows;
 
 pub use arborescence::{Candidate, Trees};
 pub use balance::{Balance, Lengths};
@@ -22,11 +23,12 @@ pub use file::{read, write};
 pub use judging::judge;
 pub use network::{components, Components, Network};
 pub use page::vertices;
+pub use windows::{check_windows, plan_at};
 
 use crate::plan::{
-    Arc, Plan, CLOSED, DEFAULT_BUDGET, HIGHEST_BUDGET, MOST_PARTS, MOST_VERTICES, REQUIRED, SHEET_PLACES,
+    Arc, Departure, Plan, CLOSED, DEFAULT_BUDGET, HIGHEST_BUDGET, MOST_PARTS, MOST_VERTICES, REQUIRED, SHEET_PLACES,
 };
-use crate::planner::{refusal, Answer, Codec, Judge, Planner, Refusal};
+use crate::planner::{refusal, Answer, Codec, DepartureCall, Judge, Planner, Refusal};
 
 /// The decisions that planners of this trade get wrong, each with its right answer. A wrong planner overrides one.
 pub trait Steps {
@@ -127,6 +129,21 @@ impl<S: Steps> Planner for S {
     }
 }
 
+impl DepartureCall for Yardstick {
+    fn plan_call_at(
+        &self,
+        plan: &[u8],
+        budget: u64,
+        windows: &[u16],
+        departure: Departure,
+        sheet: &mut [u16],
+    ) -> Result<Answer, Refusal> {
+        let plan = accept(plan, budget, sheet.len())?;
+        check_windows(&plan, windows, departure)?;
+        answer(self, plan_at(plan, windows, departure), budget, sheet)
+    }
+}
+
 impl Judge for Yardstick {
     fn judge(&self, plan: &[u8], places: &[u16]) -> Result<u64, Refusal> {
         judge(plan, places)
@@ -150,7 +167,7 @@ impl Codec for Yardstick {
     }
 }
 
-/// The plan call's refusals 1 to 10, in their order.
+/// The plan call's refusals 1 to 9 and 13, in their order.
 fn accept(file: &[u8], budget: u64, places: usize) -> Result<Plan, Refusal> {
     let plan = read(file)?;
     if places < SHEET_PLACES {
@@ -158,9 +175,6 @@ fn accept(file: &[u8], budget: u64, places: usize) -> Result<Plan, Refusal> {
     }
     if budget == 0 || budget > HIGHEST_BUDGET {
         return Err(refusal::BUDGET);
-    }
-    if !plan.arcs.iter().any(|a| a.standing == REQUIRED) {
-        return Err(refusal::IDLE);
     }
     Ok(plan)
 }
@@ -175,7 +189,14 @@ struct Found {
 }
 
 fn plan_call<S: Steps>(steps: &S, file: &[u8], budget: u64, sheet: &mut [u16]) -> Result<Answer, Refusal> {
-    let plan = accept(file, budget, sheet.len())?;
+    answer(steps, accept(file, budget, sheet.len())?, budget, sheet)
+}
+
+/// 10 to 12, then the answer.
+fn answer<S: Steps>(steps: &S, plan: Plan, budget: u64, sheet: &mut [u16]) -> Result<Answer, Refusal> {
+    if !plan.arcs.iter().any(|a| a.standing == REQUIRED) {
+        return Err(refusal::IDLE);
+    }
     let components = steps.components(&plan);
     if components.count > MOST_PARTS {
         return Err(refusal::SCATTERED);

@@ -26,7 +26,9 @@ pub struct Answer {
 }
 
 /// Lends a sheet and an answer to a call, and takes them apart.
-fn answered(call: impl FnOnce(&mut [u16], &mut [u64], &mut [i64]) -> Result<(), Refusal>) -> Result<Answer, Refusal> {
+pub(crate) fn answered(
+    call: impl FnOnce(&mut [u16], &mut [u64], &mut [i64]) -> Result<(), Refusal>,
+) -> Result<Answer, Refusal> {
     let mut drive = vec![0; SHEET_PLACES];
     let mut words = [0; ANSWER_WORDS];
     let mut multipliers = [0; MULTIPLIERS];

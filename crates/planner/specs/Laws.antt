@@ -12,3 +12,4 @@ pub mod Call
 pub mod LongFile
 pub mod Answered
 pub mod RaisedBudget
+pub mod SameAnswer

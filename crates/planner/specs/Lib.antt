@@ -5,6 +5,7 @@ pub mod Prepared
 pub mod Priced
 pub mod Contract
 pub mod RaisedBudget
+pub mod SameAnswer
 -- What is proved about them.
 pub mod Laws
 pub mod Theorem

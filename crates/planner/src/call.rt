@@ -22,7 +22,7 @@ ghost use Rattle.planner.specs.Contract.{IsPlanned, IsPlanCall};
 ghost use Rattle.planner.specs.Laws.Refused.{refusedWith};
 
 // A refusal "returns its number only".
-fn refused(r: Refusal) -> Planned
+pub fn refused(r: Refusal) -> Planned
     ensures { λ a. ⌜ a ≡ refusedWith r ⌝ }
 {
     Planned {
@@ -91,8 +91,8 @@ fn plan_measured(
     }
 }
 
-// The weights, the distances and the network of a plan that the file's rules let through.
-fn plan_read(plan: Plan, budget: u32, sheet: &mut [u16]) -> Planned
+// The weights, the distances and the network of a plan that is well formed: the file's, or one that is made from it.
+pub fn plan_read(plan: Plan, budget: u32, sheet: &mut [u16]) -> Planned
     requires { ⌜ WellFormed (planValue plan) × (1 ≤ budget) × (sheetPlaces ≤ length (now sheet)) ⌝ }
     ensures { λ r. ⌜ IsPlanned (planValue plan) budget (planRefusal (planValue plan)) (now (sheet .entry)) (now (sheet .exit)) r ⌝ }
 {

@@ -42,3 +42,4 @@ pub mod Optimality
 pub mod Search
 pub mod TreeCount
 pub mod Judge
+pub mod Windows

@@ -18,6 +18,7 @@ pub mod TreeCount
 pub mod Guarantee
 pub mod DistanceCall
 pub mod Judge
+pub mod Windows
 -- What is proved about them.
 pub mod Laws
 pub mod Theorem

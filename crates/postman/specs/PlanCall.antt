@@ -39,15 +39,24 @@ unfoldable pub isCutOff : Plan → Bool
 unfolding anyOf required hasPath
 isCutOff p = anyOf (λ i. anyOf (λ j. not (hasPath p i j)) (required p)) (required p)
 
--- "then 8 to 12". 9 budget: "0 or above 1,000,000"; 10 idle: "no must arc"; 11 scattered: "more than 8 parts". The conditions but for the last:
+-- "then 8 to 12". 9 budget: "0 or above 1,000,000"; 10 idle: "no must arc"; 11 scattered: "more than 8 parts". Of the budget and the sheet, and of a plan:
+unfoldable pub callConditions : ℕ → ℕ → Conditions
+unfolding sheetPlaces isOutside highestBudget
+callConditions budget places = (ltb places sheetPlaces, 8) ∷ (isOutside budget 1 highestBudget, 9) ∷ []
+
+unfoldable pub partsConditions : Plan → Conditions
+unfolding requiredArcs componentCount
+partsConditions p = (eqb (length (requiredArcs p)) 0, 10) ∷ (ltb 8 (componentCount p), 11) ∷ []
+
+-- The conditions of a call but for the last, where the call has conditions of its own between 9 and 10, and p is the plan that it speaks of:
+unfoldable pub conditionsBefore : List ℕ → ℕ → ℕ → Conditions → Plan → Conditions
+unfolding fileConditions callConditions partsConditions
+conditionsBefore bytes budget places own p = fileConditions bytes ++ (callConditions budget places ++ (own ++ partsConditions p))
+
+-- The plan call has none, and speaks of the file's plan.
 unfoldable pub earlierConditions : List ℕ → ℕ → ℕ → Conditions
-unfolding fileConditions sheetPlaces isOutside highestBudget requiredArcs componentCount planOf
-earlierConditions bytes budget places =
-    fileConditions bytes
-    ++ (ltb places sheetPlaces, 8)
-    ∷ (isOutside budget 1 highestBudget, 9)
-    ∷ (eqb (length (requiredArcs (planOf bytes))) 0, 10)
-    ∷ (ltb 8 (componentCount (planOf bytes)), 11) ∷ []
+unfolding conditionsBefore planOf
+earlierConditions bytes budget places = conditionsBefore bytes budget places [] (planOf bytes)
 
 unfoldable pub callRefusal : List ℕ → ℕ → ℕ → Option ℕ
 unfolding firstRefusal earlierConditions isCutOff planOf

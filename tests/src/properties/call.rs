@@ -45,7 +45,7 @@ impl Case {
 }
 
 /// Makes a call on a sheet filled with one number; the sheet comes back too.
-fn call(
+pub(super) fn call(
     found: &mut Findings,
     places: usize,
     fill: u16,
@@ -58,7 +58,7 @@ fn call(
 }
 
 /// No arc has these numbers.
-const FILL: u16 = 0xA5A5;
+pub(super) const FILL: u16 = 0xA5A5;
 const OTHER_FILL: u16 = 0x5A5A;
 
 /// Holds calls that may be refused to the oracle's refusal, and a refusal to the sheet.
@@ -72,7 +72,7 @@ pub fn examine_refusal(found: &mut Findings, planner: &dyn Planner, file: &[u8],
 }
 
 /// Whether the call was refused as expected, and not otherwise.
-fn expect_refusal(
+pub(super) fn expect_refusal(
     found: &mut Findings,
     expected: Refusal,
     result: &Result<Answer, Refusal>,

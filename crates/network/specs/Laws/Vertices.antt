@@ -8,10 +8,10 @@ use Rattle.postman.specs.Lists.{select, below}
 use Rattle.postman.specs.Plan.{Plan, WellFormed}
 use Rattle.postman.specs.Required.{isRequired, required}
 use Rattle.postman.specs.Laws.Tests.{same-test}
-use Rattle.postman.specs.Laws.Membership.{below-mem}
+use Rattle.postman.specs.Laws.Membership.{select-cong, below-mem}
 use Rattle.postman.specs.Laws.Required.{required-lt}
+use Rattle.postman.specs.Laws.Selection.{select-past}
 use Rattle.network.specs.Contracts.{IsRequiredFlags}
-use Rattle.postman.specs.Laws.Selection.{select-cong, select-past}
 use Rattle.network.specs.Laws.RequiredVertex.{required-of}
 
 module _ (p : Plan) (ok : WellFormed p) where

@@ -15,8 +15,8 @@ use Rattle.postman.specs.Required.{required}
 use Rattle.postman.specs.Distance.{distance}
 use Rattle.postman.specs.Link.{Link, pairs, properPairs, joins, isHeld, isVia, turn, thinned, links}
 use Rattle.postman.specs.Laws.Tests.{cond-ind, test, same-test, is-true, and-both, and-parts, eqb-same, eqb-other}
-use Rattle.postman.specs.Laws.Membership.{mem-select, select-mem, anyOf-mem, anyOf-at, mem-map, map-mem, mem-flatMap, flatMap-mem}
-use Rattle.postman.specs.Laws.Selection.{select-cong, select-select, select-all}
+use Rattle.postman.specs.Laws.Membership.{mem-select, select-mem, select-cong, anyOf-mem, anyOf-at, mem-map, map-mem, mem-flatMap, flatMap-mem}
+use Rattle.postman.specs.Laws.Selection.{select-select, select-all}
 use Rattle.postman.specs.Laws.Distance.{InPlan, bounded, distance-self}
 
 abbrev pub link : ℕ → ℕ → Link

@@ -20,11 +20,6 @@ module _ {A : Type 0} where
       chosen true x l m n e = ap (λ (k : List A). x ∷ k) e
       chosen false x l m n e = e
 
-  pub select-cong : (f g : A → Bool) (xs : List A) → ((x : A) → List·Memᴰ x xs → f x ≡ g x) → select f xs ≡ select g xs
-  unfolding select
-  select-cong f g [] h = refl
-  select-cong f g (x ∷ xs) h = rw (h x (List·Memᴰ·head refl), select-cong f g xs (λ y m. h y (List·Memᴰ·tail m)))
-
   pub select-select : (f g : A → Bool) (xs : List A) → select f (select g xs) ≡ select (λ x. g x && f x) xs
   unfolding select
   select-select f g [] = refl
