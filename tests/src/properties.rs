@@ -114,7 +114,7 @@ pub enum Property {
 }
 
 /// All of them.
-pub const PROPERTIES: [Property; 42] = {
+pub const PROPERTIES: [Property; 44] = {
     use Property::*;
     [
         Returns,

@@ -52,7 +52,7 @@ pub(crate) fn thin(d: &[[u32; 64]; 64], pairs: [bool; 4096]) -> [bool; 4096]
                     break 'pair;
                 }
                 for k in 0..64 {
-                    if held[i * 64 + k] && held[k * 64 + j] && splits(d[i][j], d[i][k], d[k][j]) {
+                    if splits(d[i][j], d[i][k], d[k][j]) && held[i * 64 + k] && held[k * 64 + j] {
                         held[i * 64 + j] = false;
                         break 'pair;
                     }

@@ -95,9 +95,7 @@ const MUTANTS: [(&str, &[Property], Call); 27] = [
         let firsts = (0..all.len()).filter(|&k| all[..k].iter().all(|v| v[0] != all[k][0]));
         in_place_of(p, b, w, t, s, &firsts.flat_map(|k| all[k].to_vec()).collect::<Vec<u16>>())
     }),
-    ("windows play no part", &[Refusal, Stated, Drive, ClosedByHand], |p, b, w, t, s| {
-        in_place_of(p, b, w, t, s, &[])
-    }),
+    ("windows play no part", &[Refusal, Stated, Drive, ClosedByHand], |p, b, w, t, s| in_place_of(p, b, w, t, s, &[])),
     ("shut at any later minute", &[Refusal, Stated], |p, b, w, t, s| {
         right(p, b, &altered(w, |w| Some(if w[2] < w[3] { [w[0], w[1], 0, w[3]] } else { w })), t, s)
     }),
@@ -187,6 +185,10 @@ const MUTANTS: [(&str, &[Property], Call); 27] = [
 
 pub fn mutants() -> Vec<Mutant<dyn DepartureCall>> {
     let all = MUTANTS.iter();
-    all.map(|&(name, violates, call)| Mutant { name, violates, wrong: Box::new(Altered(call)) as Box<dyn DepartureCall> })
-        .collect()
+    all.map(|&(name, violates, call)| Mutant {
+        name,
+        violates,
+        wrong: Box::new(Altered(call)) as Box<dyn DepartureCall>,
+    })
+    .collect()
 }

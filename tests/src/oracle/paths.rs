@@ -32,7 +32,8 @@ pub fn fewest_paths(plan: &Plan, d: &[Vec<u64>], from: usize) -> Vec<Option<Vec<
 /// arc that is passed again has to be a path as well.
 pub fn follows_fewest_paths(graph: &Graph, drive: &[u16]) -> Result<(), String> {
     let plan = &graph.plan;
-    let paths: Vec<_> = (0..plan.n).map(|v| graph.required.contains(&v).then(|| fewest_paths(plan, &graph.d, v))).collect();
+    let paths: Vec<_> =
+        (0..plan.n).map(|v| graph.required.contains(&v).then(|| fewest_paths(plan, &graph.d, v))).collect();
     let is_path = |stretch: &[u16]| {
         let first = plan.arcs[usize::from(stretch[0])].tail;
         let last = plan.arcs[usize::from(stretch[stretch.len() - 1])].head;
@@ -46,7 +47,8 @@ pub fn follows_fewest_paths(graph: &Graph, drive: &[u16]) -> Result<(), String> 
         if !graph.required.contains(&arc.head.into()) {
             continue;
         }
-        let first_pass = stretch.len() == 1 && arc.standing == REQUIRED && !std::mem::replace(&mut own[usize::from(k)], true);
+        let first_pass =
+            stretch.len() == 1 && arc.standing == REQUIRED && !std::mem::replace(&mut own[usize::from(k)], true);
         if !first_pass && !is_path(&stretch) {
             return Err(format!("{stretch:?} is no path of fewest arcs"));
         }

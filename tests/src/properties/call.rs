@@ -1,7 +1,9 @@
 //! The plan call and the short call.
 
 use super::{Findings, Property};
-use crate::oracle::{call_refusal, file_of, follows_fewest_paths, judge, lagrangian_bound, parse, short_refusal, Effort, Facts};
+use crate::oracle::{
+    call_refusal, file_of, follows_fewest_paths, judge, lagrangian_bound, parse, short_refusal, Effort, Facts,
+};
 use crate::plan::{Plan, DEFAULT_BUDGET, SHEET_PLACES};
 use crate::planner::{Answer, Planner, Refusal};
 use std::panic::{catch_unwind, AssertUnwindSafe};

@@ -169,13 +169,7 @@ fn random_departure(random: &mut Random) -> Departure {
 }
 
 /// Holds a call at a departure to all of them, and with no windows to the plan call of a planner.
-pub fn run_departures(
-    found: &mut Findings,
-    call: &dyn DepartureCall,
-    planner: &dyn Planner,
-    seed: u64,
-    rounds: u64,
-) {
+pub fn run_departures(found: &mut Findings, call: &dyn DepartureCall, planner: &dyn Planner, seed: u64, rounds: u64) {
     for Row { what, file, budget, places, windows, departure, stated } in stated() {
         let told = call.plan_call_at(&file, budget, &windows, departure, &mut vec![0; places]);
         let told = told.map(|a| (a.cost, a.trees, a.whole, a.parts));

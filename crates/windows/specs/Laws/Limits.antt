@@ -1,13 +1,12 @@
 -- A test over all windows of a list of numbers: window by window, one was found, or each was looked at. And the tests of one window, of the list's length and of the departure, one after the other.
-use mathlib.Core.Path.{_≡_, refl, sym, ap, _∙_, subst}
-use mathlib.Core.Bool.{Bool, true, false, not, _||_}
+use mathlib.Core.Path.{_≡_, refl, ap, _∙_, subst}
+use mathlib.Core.Bool.{Bool, true, false}
 use mathlib.Core.Logic.{_≢_}
 use mathlib.Core.List.{List}
-use Prim.Native.Nat.{ℕ, _+_, _*_, _/_, _%_, _<_, _≤_}
-use native.Mathlib.Omega.{arith}
+use Prim.Native.Nat.{ℕ, _/_, _%_, _<_, _≤_}
 use borrow.Author.Tests.{lt-ltb, le-ltb, le-leb, lt-leb, eq-eqb, ne-eqb}
 use lib.ListN.{length}
-use lib.Dec.{T, ltb, leb}
+use lib.Dec.{T, ltb}
 use Rattle.postman.specs.Lists.{anyOf, below}
 use Rattle.postman.specs.Windows.{Window, Departure, windowIn, windowsIn, isBadWindow, isBadDeparture, isBadLength, hasBadWindow}
 use Rattle.postman.specs.Laws.Tests.{same-test, of-true}

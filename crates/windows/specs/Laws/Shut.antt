@@ -5,13 +5,13 @@ use mathlib.Core.Logic.{_≢_}
 use mathlib.Core.List.{List, []}
 use Prim.Native.Nat.{ℕ, _<_, _≤_}
 use native.Mathlib.Omega.{arith}
-use borrow.Author.Tests.{lt-ltb, le-leb, lt-leb, eq-eqb, ne-eqb}
+use borrow.Author.Tests.{le-leb, lt-leb, eq-eqb, ne-eqb}
 use lib.ListN.{length}
 use lib.Dec.{T, ltb}
 use Rattle.postman.specs.Lists.{anyOf}
 use Rattle.postman.specs.Plan.{Arc, isRequiredArc, requiredNumbers}
 use Rattle.postman.specs.Windows.{Window, Departure, shuts, isShut, closedIf, planAt, isMustShut}
-use Rattle.postman.specs.Laws.Tests.{same-test, of-true, and-both, and-parts, is-true}
+use Rattle.postman.specs.Laws.Tests.{same-test, of-true, and-both, and-parts}
 use Rattle.postman.specs.Laws.Membership.{anyOf-mem, anyOf-at}
 use Rattle.postman.specs.Laws.Required.{numbers-mem, mem-numbers}
 use Rattle.postman.specs.Laws.Windows.{at-length, at-arc}

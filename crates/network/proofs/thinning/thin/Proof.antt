@@ -60,24 +60,6 @@ array-read-pair c = search needs
 loop3-holds : tie.Need-loop3-holds Inv-loop3 μ-loop3 Inv-pair μ-pair Inv-loop2 μ-loop2 Inv-loop μ-loop
 loop3-holds c = (omega arith, c .before .pair .inv .0, refl, λ m l. absurd (omega arith))
 
-mul-if1 : tie.Need-mul-if1 Inv-loop3 μ-loop3 Inv-pair μ-pair Inv-loop2 μ-loop2 Inv-loop μ-loop
-mul-if1 c = search needs
-
-add-if1 : tie.Need-add-if1 Inv-loop3 μ-loop3 Inv-pair μ-pair Inv-loop2 μ-loop2 Inv-loop μ-loop
-add-if1 c = search needs
-
-array-read-if1 : tie.Need-array-read-if1 Inv-loop3 μ-loop3 Inv-pair μ-pair Inv-loop2 μ-loop2 Inv-loop μ-loop
-array-read-if1 c = search needs
-
-mul-if2 : tie.Need-mul-if2 Inv-loop3 μ-loop3 Inv-pair μ-pair Inv-loop2 μ-loop2 Inv-loop μ-loop
-mul-if2 c = search needs
-
-add-if2 : tie.Need-add-if2 Inv-loop3 μ-loop3 Inv-pair μ-pair Inv-loop2 μ-loop2 Inv-loop μ-loop
-add-if2 c = search needs
-
-array-read-if2 : tie.Need-array-read-if2 Inv-loop3 μ-loop3 Inv-pair μ-pair Inv-loop2 μ-loop2 Inv-loop μ-loop
-array-read-if2 c = search needs
-
 mul-splits : tie.Need-mul-splits Inv-loop3 μ-loop3 Inv-pair μ-pair Inv-loop2 μ-loop2 Inv-loop μ-loop
 mul-splits c = search needs
 
@@ -117,6 +99,24 @@ index-2-splits-3 c = search needs
 splits-requires : tie.Need-splits-requires Inv-loop3 μ-loop3 Inv-pair μ-pair Inv-loop2 μ-loop2 Inv-loop μ-loop
 splits-requires c κs = search needs
 
+mul-if2 : tie.Need-mul-if2 Inv-loop3 μ-loop3 Inv-pair μ-pair Inv-loop2 μ-loop2 Inv-loop μ-loop
+mul-if2 c = search needs
+
+add-if2 : tie.Need-add-if2 Inv-loop3 μ-loop3 Inv-pair μ-pair Inv-loop2 μ-loop2 Inv-loop μ-loop
+add-if2 c = search needs
+
+array-read-if2 : tie.Need-array-read-if2 Inv-loop3 μ-loop3 Inv-pair μ-pair Inv-loop2 μ-loop2 Inv-loop μ-loop
+array-read-if2 c = search needs
+
+mul-if3 : tie.Need-mul-if3 Inv-loop3 μ-loop3 Inv-pair μ-pair Inv-loop2 μ-loop2 Inv-loop μ-loop
+mul-if3 c = search needs
+
+add-if3 : tie.Need-add-if3 Inv-loop3 μ-loop3 Inv-pair μ-pair Inv-loop2 μ-loop2 Inv-loop μ-loop
+add-if3 c = search needs
+
+array-read-if3 : tie.Need-array-read-if3 Inv-loop3 μ-loop3 Inv-pair μ-pair Inv-loop2 μ-loop2 Inv-loop μ-loop
+array-read-if3 c = search needs
+
 mul-held : tie.Need-mul-held Inv-loop3 μ-loop3 Inv-pair μ-pair Inv-loop2 μ-loop2 Inv-loop μ-loop
 mul-held c = search needs
 
@@ -134,8 +134,9 @@ loop3-less c = search needs
 
 loop3-again : tie.Need-loop3-again Inv-loop3 μ-loop3 Inv-pair μ-pair Inv-loop2 μ-loop2 Inv-loop μ-loop
 loop3-again c =
-    let v = c .before .before .loop3 in
-    let b = c .before .before .before .before in
+    let a = c .before .before .before .before in
+    let v = a .before .before .loop3 in
+    let b = a .before .before .before .before in
     let j = b .before .before .loop2 .j in
     let i = b .before .before .before .before .loop .i in
     let d = b .before .before .before .before .before .args .d .now in
@@ -143,10 +144,10 @@ loop3-again c =
     λ e. (omega arith, v .inv .1, v .inv .2, below-more (λ m. between d (v .held) i j m ≡ false) (v .k) (v .inv .3) e)
     in
     ⊎-elim
-    (λ w. more (via-long d (v .held) i j (v .k) (sym (w .5 .ensures) ∙ w .6 .left)))
+    (λ w. more (via-second d (v .held) i j (v .k) (w .2 .left)))
     (⊎-elim
-    (λ w. more (via-second d (v .held) i j (v .k) (w .1 .left)))
-    (λ w. more (via-first d (v .held) i j (v .k) (w .left))))
+    (λ w. more (via-first d (v .held) i j (v .k) (w .1 .left)))
+    (λ w. more (via-long d (v .held) i j (v .k) (sym (c .before .splits .ensures) ∙ w .left))))
     (c .if1 .came)
 
 add-j : tie.Need-add-j Inv-loop3 μ-loop3 Inv-pair μ-pair Inv-loop2 μ-loop2 Inv-loop μ-loop
@@ -175,7 +176,7 @@ loop2-again c =
     let l = w .1 in
     let held : flag (l .held) i j ≡ true = ap (λ (h : List Bool). flag h i j) (l .inv .2) ∙ not-false _ (w .0 .left) in
     done (l .held) _ (l .inv .2)
-    (turn-drops d (l .held) i j held (l .k) (w .2 .taken) (via-found d (l .held) i j (l .k) (w .3 .taken) (w .4 .taken) (sym (w .8 .ensures) ∙ w .9 .taken)))
+    (turn-drops d (l .held) i j held (l .k) (w .2 .taken) (via-found d (l .held) i j (l .k) (w .8 .taken) (w .9 .taken) (sym (w .6 .ensures) ∙ w .7 .taken)))
     (length-set (l .held) (i * 64 + j) false ∙ l .inv .1)
     (w .10))
     (λ w.
@@ -218,12 +219,6 @@ thin-spec =
     add-pair
     array-read-pair
     loop3-holds
-    mul-if1
-    add-if1
-    array-read-if1
-    mul-if2
-    add-if2
-    array-read-if2
     mul-splits
     mul-splits-2
     index-1-splits
@@ -237,6 +232,12 @@ thin-spec =
     index-1-splits-3
     index-2-splits-3
     splits-requires
+    mul-if2
+    add-if2
+    array-read-if2
+    mul-if3
+    add-if3
+    array-read-if3
     mul-held
     add-held
     array-write-held
