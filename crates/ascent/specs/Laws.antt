@@ -1,0 +1,4 @@
+-- What is proved: loops, turn by turn, and what the test of heights says.
+pub mod Turns
+pub mod Bodies
+pub mod Lawful
