@@ -2,3 +2,4 @@
 pub mod Turns
 pub mod Bodies
 pub mod Lawful
+pub mod Heights
