@@ -10,9 +10,9 @@ use Rattle.ascent.specs.Turns.{turns}
 abbrev pub capped : List ℕ → ℕ → ℕ
 capped x v = min (getD x v 0) beyond
 
--- The heights of multipliers: each is 2 to the 24 higher, more than any is below 0.
+-- The heights of multipliers: each is 2 to the 32 higher, more than any is below 0.
 abbrev pub lifted : ℤ → ℕ
-lifted u = natAbs (u +ℤ pos 16777216)
+lifted u = natAbs (u +ℤ pos 4294967296)
 
 unfoldable pub start : List ℤ → List ℕ → List ℕ
 unfolding turns

@@ -27,7 +27,7 @@ fn lift(u: i64) -> u64
     requires { ⌜ Within 1099511627776 u ⌝ }
     ensures { λ r. ⌜ r ≡ lifted u ⌝ }
 {
-    magnitude(u + 16777216)
+    magnitude(u + 4294967296)
 }
 
 // The heights of multipliers.

@@ -18,7 +18,7 @@ magnitude-requires : tie.Need-magnitude-requires
 magnitude-requires c κs = search needs
 
 returns : tie.Need-returns
-returns c = c .magnitude .ensures ∙ ap natAbs (toZ-ofZ (add-magnitude (c .before)) ∙ ap (λ (q : ℤ). q +ℤ pos 16777216) (toZ-ofZ (c .before .fits .u)))
+returns c = c .magnitude .ensures ∙ ap natAbs (toZ-ofZ (add-magnitude (c .before)) ∙ ap (λ (q : ℤ). q +ℤ pos 4294967296) (toZ-ofZ (c .before .fits .u)))
 
 pub lift-spec : {M : Type 1} → statement M
 lift-spec = tie.close (tie.spec add-magnitude magnitude-requires returns)
