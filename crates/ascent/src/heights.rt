@@ -71,12 +71,7 @@ fn carry(y: u64, x: u64, before: u64) -> u64
 }
 
 // The heights y, with half of the change from `before` to x once more.
-pub(crate) fn carry_on(
-    y: [u64; 64],
-    x: &[u64; 64],
-    before: &[u64; 64],
-    vs: &[u8],
-) -> [u64; 64]
+pub(crate) fn carry_on(y: [u64; 64], x: &[u64; 64], before: &[u64; 64], vs: &[u8]) -> [u64; 64]
     requires { ⌜ AtMost 63 (now vs) ⌝ }
     ensures { λ r. ⌜ r ≡ carried (now (vs .entry)) y (now (x .entry)) (now (before .entry)) ⌝ }
 {

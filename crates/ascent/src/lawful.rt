@@ -40,13 +40,7 @@ fn pair_lawful(
 }
 
 // Whether b, and all pairs from i pass.
-fn vertex_lawful(
-    d: &[[u32; 64]; 64],
-    f: &[u16; 4096],
-    vs: &[u8],
-    x: &[u64; 64],
-    i: usize,
-) -> bool
+fn vertex_lawful(d: &[[u32; 64]; 64], f: &[u16; 4096], vs: &[u8], x: &[u64; 64], i: usize) -> bool
     requires { ⌜ (i < 64) × AtMost 63 (now vs) ⌝ }
     ensures { λ r. ⌜ r ≡ isVertexLawful (now (d .entry)) (now (f .entry)) (now (x .entry)) (now (vs .entry)) i ⌝ }
 {

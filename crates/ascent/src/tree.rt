@@ -150,13 +150,7 @@ fn walk_back(from: &[u8; 256], at: &[u16; 64], s: u64, x: &mut [u64; 64], t: usi
 }
 
 // The heights after the links of the tree that reaches the set at place t.
-pub(crate) fn follow(
-    from: &[u8; 256],
-    at: &[u16; 64],
-    s: u64,
-    x: &[u64; 64],
-    t: usize,
-) -> [u64; 64]
+pub(crate) fn follow(from: &[u8; 256], at: &[u16; 64], s: u64, x: &[u64; 64], t: usize) -> [u64; 64]
     requires { ⌜ (t < 256) × (s ≤ beyond) ⌝ }
     ensures { λ r. ⌜ r ≡ along (now (from .entry)) (now (at .entry)) s (now (x .entry)) t ⌝ }
 {

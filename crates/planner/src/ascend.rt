@@ -100,7 +100,17 @@ fn attempt_above(
     ensures { λ r. ⌜ climbOf r ≡ cond (ltb (c .value) value) (attemptOf (planValue plan) (now (table .entry)) (base .amounts) (now (vs .entry)) (now (component .entry)) k (climbOf c)) (climbOf c) ⌝ }
 {
     if c.value < value {
-        return attempt(plan, table, vs, component, required, k, required_cost, base, c);
+        return attempt(
+            plan,
+            table,
+            vs,
+            component,
+            required,
+            k,
+            required_cost,
+            base,
+            c,
+        );
     }
     c
 }
@@ -135,17 +145,7 @@ fn climb(
     let before = c.before;
     let f = base.amounts;
     let up = i % 2 == 1;
-    let s = ascent::step::step(
-        table,
-        &f,
-        vs,
-        component,
-        k,
-        up,
-        c.stride,
-        &x,
-        &before,
-    );
+    let s = ascent::step::step(table, &f, vs, component, k, up, c.stride, &x, &before);
     let b = attempt_above(
         plan,
         table,
@@ -226,9 +226,30 @@ pub(crate) fn ascend(
     requires { ⌜ IsPrepared (planValue plan) (now table) (now vs) (stateOf base) (now component) (now required) k «required_cost» × (u ≡ multipliers (cell (now table)) (now vs) (stateOf base) (root (planValue plan))) ⌝ }
     ensures { λ r. ⌜ r ≡ ascentOf (planValue plan) (now (table .entry)) (base .amounts) (now (vs .entry)) (now (component .entry)) k u ⌝ }
 {
-    let mut c = begun(plan, table, vs, component, required, k, required_cost, base, u);
+    let mut c = begun(
+        plan,
+        table,
+        vs,
+        component,
+        required,
+        k,
+        required_cost,
+        base,
+        u,
+    );
     for i in 0..24usize {
-        let next = climb(plan, table, vs, component, required, k, required_cost, base, c, i);
+        let next = climb(
+            plan,
+            table,
+            vs,
+            component,
+            required,
+            k,
+            required_cost,
+            base,
+            c,
+            i,
+        );
         c = next;
     }
     let best = c.best;

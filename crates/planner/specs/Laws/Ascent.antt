@@ -57,8 +57,8 @@ module _ (p : Plan) (ok : Plannable p) (few : componentCount p ≤ 8) where
     attempt-kept c h =
         cond-ind (areLawful d f (c .heights) (required p) && ltZ (c .bound) (boundOf p (multipliersAt (c .heights) (required p)))) _ c Kept
         (λ t.
-          let s = and-parts (areLawful d f (c .heights) (required p)) (ltZ (c .bound) (boundOf p (multipliersAt (c .heights) (required p)))) t in
-          record { rooted = heights-rooted p ok few (c .heights) (s .0); bound-is = refl; above = (let a = h .above in let b = ltZ-yes {a = c .bound} {b = boundOf p (multipliersAt (c .heights) (required p))} (s .1) in omega (arith, z)) })
+        let s = and-parts (areLawful d f (c .heights) (required p)) (ltZ (c .bound) (boundOf p (multipliersAt (c .heights) (required p)))) t in
+        record { rooted = heights-rooted p ok few (c .heights) (s .0); bound-is = refl; above = (let a = h .above in let b = ltZ-yes {a = c .bound} {b = boundOf p (multipliersAt (c .heights) (required p))} (s .1) in omega (arith, z)) })
         (λ t. h)
 
     climb-kept : (c : Climb) (i : ℕ) → Kept c → Kept (climb p d f (required p) components k c i)
@@ -66,8 +66,8 @@ module _ (p : Plan) (ok : Plannable p) (few : componentCount p ≤ 8) where
     climb-kept c i h =
         cond-ind (c .done) c _ Kept (λ t. h)
         (λ t.
-          let b = cond-ind (ltb (c .value) _) (attempt p d f (required p) components k c) c Kept (λ t. attempt-kept c h) (λ t. h) in
-          record { rooted = b .rooted; bound-is = b .bound-is; above = b .above })
+        let b = cond-ind (ltb (c .value) _) (attempt p d f (required p) components k c) c Kept (λ t. attempt-kept c h) (λ t. h) in
+        record { rooted = b .rooted; bound-is = b .bound-is; above = b .above })
 
     begin-kept : Kept (begin p d f (required p) components k (greatestOf p))
     unfolding begin greatestOf

@@ -41,7 +41,7 @@ module _ (p : Plan) (d : List (List ℕ)) (f vs components : List ℕ) (k : ℕ)
   pub climb-more : (c : Climb) (i : ℕ) {s : Step} {b : Climb} {v : ℕ} {l : ℤ} → c .done ≡ false → s ≡ step d f vs components k (eqb (i % 2) 1) (c .stride) (c .heights) (c .before)
       → b ≡ cond (ltb (c .value) (s .value)) (attempt p d f vs components k c) c → v ≡ max (c .value) (s .value)
       → l ≡ b .bound → record { heights = s .heights; before = c .heights; best = b .best; bound = l; value = v; stride = c .stride - c .stride / 10; done = s .balanced }
-          ≡ climb p d f vs components k c i
+      ≡ climb p d f vs components k c i
   unfolding climb
   climb-more c i {s} {b} {v} {l} n es eb ev el =
       ap (λ (l : ℤ). record { heights = s .heights; before = c .heights; best = b .best; bound = l; value = v; stride = c .stride - c .stride / 10; done = s .balanced }) el
