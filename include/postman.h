@@ -1,6 +1,6 @@
 /*
- * The survey drive's planner: reading and writing plan files, the plan call and the short call, the number of trees,
- * distances, and judging a drive.
+ * The survey drive's planner: reading and writing plan files, the plan call, at a departure too, and the short call, the number
+ * of trees, distances, and judging a drive.
  *
  * A slice is lent as a pointer and a length. The length counts elements, not bytes. Pointers are not null, not even with
  * a length of 0, and the slices of one call do not overlap. That is all that is asked of a caller: any bytes, numbers and
@@ -8,7 +8,7 @@
  *
  * Every function answers what was asked for, 0 or more, or minus a refusal's number. Of several refusals that apply the
  * first in this order is given: 1 (under three bytes), 2, 3, 1 (length), 4, then arc by arc 5, 6, 7, then 13, then 17,
- * then 8 to 12, then 14 to 16.
+ * then 8 and 9, then 19 and 20, then 10 to 12, then 14 to 16.
  * A refusal changes no lent slice. The functions keep nothing and share nothing, so that threads may call them at once.
  *
  * Link with target/staticlib/libexports.a, which `rt staticlib exports` builds. examples/plan.c shows a plan call.
@@ -50,6 +50,16 @@ extern "C" {
 /* The most pairs of one page, and what the first vertex of a pair is multiplied by: a pair is 256 first + second. */
 #define POSTMAN_MOST_PAIRS 256
 #define POSTMAN_PAIR 256
+
+/*
+ * The most windows of a plan call at a departure, and the numbers of one: its arc, its weekday, and the minutes from which
+ * and to which it shuts the arc. The last weekday, where Monday is 0; and the minutes of a day: a window ends at this
+ * minute at the latest, and a departure is before it.
+ */
+#define POSTMAN_MOST_WINDOWS 128
+#define POSTMAN_WINDOW_NUMBERS 4
+#define POSTMAN_LAST_WEEKDAY 6
+#define POSTMAN_DAY_MINUTES 1440
 
 /* The editions of the plan file. */
 enum postman_edition {
@@ -95,8 +105,8 @@ enum postman_standing {
 #define POSTMAN_COUNTS 512
 
 /*
- * The refusals. Wrong are a cost of 0, a service cost of 0 in a required arc, and another in any other arc; and, where
- * edition 1 is written, a required arc's service cost that is not its cost.
+ * The refusals. Wrong are a service cost of 0 in a required arc, and another in any other arc; and, where edition 1 is
+ * written, a required arc's service cost that is not its cost. A cost of 0 is good, but in a required arc of edition 1.
  */
 enum postman_refusal {
     POSTMAN_TORN = 1,        /* the file has under 3 bytes, or fewer than its arcs need */
@@ -104,7 +114,7 @@ enum postman_refusal {
     POSTMAN_EXTENT = 3,      /* no vertex or more than 64, no arc or more than 256, or a list of more than 65,535 places */
     POSTMAN_MARGIN = 4,      /* the file has more bytes than its arcs need, or a fill bit is 1 */
     POSTMAN_OFF_SHEET = 5,   /* an arc's tail or head is no vertex */
-    POSTMAN_UNPRICED = 6,    /* an arc's cost or service cost is wrong, as said below */
+    POSTMAN_UNPRICED = 6,    /* an arc's service cost is wrong, as said above */
     POSTMAN_STANDING = 7,    /* an arc's standing is above 2 */
     POSTMAN_SHORT_SHEET = 8, /* too few records, bytes, places or distances are lent */
     POSTMAN_BUDGET = 9,      /* the budget is 0 or above 1,000,000 */
@@ -115,7 +125,9 @@ enum postman_refusal {
     POSTMAN_FOREIGN = 14,    /* a judged list has a number that no arc has, or that of a closed arc */
     POSTMAN_UNJOINED = 15,   /* an arc of a judged list does not lead to the next one, or the last one to the first */
     POSTMAN_MISSED = 16,     /* an arc that must be driven is not in a judged list */
-    POSTMAN_STRAY_PAIR = 17  /* more than 256 pairs, or one of what is no vertex */
+    POSTMAN_STRAY_PAIR = 17, /* more than 256 pairs, or one of what is no vertex */
+    POSTMAN_BAD_WINDOW = 19, /* a window, the number of windows or the departure is beyond its limits */
+    POSTMAN_MUST_SHUT = 20   /* an arc that must be driven is shut at departure */
 };
 
 /*
@@ -142,12 +154,26 @@ int64_t postman_write_plan(uint32_t edition, uint32_t n, const uint8_t *records,
  * 1 to 13.
  *
  * `sheet` takes the drive's arc numbers from its start, the lowest required arc first; the answer's word POSTMAN_PLACES
- * says how many. Later places are untouched. With fewer than POSTMAN_SHEET_PLACES places it is refused with 8.
+ * says how many. It is made of the required arcs, each once, and of paths between their ends: each a cheapest one, of the
+ * fewest arcs, and of those the lowest list of arc numbers. Later places are untouched. With fewer than POSTMAN_SHEET_PLACES places it is refused with 8.
  * `answer` takes the POSTMAN_ANSWER_WORDS words above, and `multipliers` the POSTMAN_MULTIPLIERS multipliers: as many as
  * fit, from the start. Later elements are untouched. Neither is refused for its length.
  */
 int64_t postman_plan_call(const uint8_t *plan, size_t plan_len, uint64_t budget, uint16_t *sheet, size_t sheet_len,
                           uint64_t *answer, size_t answer_len, int64_t *multipliers, size_t multipliers_len);
+
+/*
+ * The plan call at a departure: the plan call with the arcs closed that are shut at that minute of that weekday. Later
+ * minutes play no part. Answers 0, or minus a refusal: 1 to 13, 19 or 20. With no window it answers what the plan call
+ * answers.
+ *
+ * `windows` has POSTMAN_WINDOW_NUMBERS numbers a window: arc, weekday, from, to, with from < to. A window of the departure's
+ * weekday shuts its arc if from <= minute < to. Windows may overlap, and all are tested, of whatever weekday. A length that
+ * is no multiple of four is refused with 19.
+ */
+int64_t postman_plan_call_at(const uint8_t *plan, size_t plan_len, uint64_t budget, const uint16_t *windows,
+                             size_t windows_len, uint32_t weekday, uint32_t minute, uint16_t *sheet, size_t sheet_len,
+                             uint64_t *answer, size_t answer_len, int64_t *multipliers, size_t multipliers_len);
 
 /*
  * The short call: the plan call with a budget of POSTMAN_DEFAULT_BUDGET. It never refuses with 9.

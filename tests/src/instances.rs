@@ -1,10 +1,12 @@
 //! Plans to try a planner on: random ones, and those of the benchmark.
 
 mod drawn;
+mod equal;
 mod joined;
 mod towns;
 
 pub use drawn::{drawn_town, joined_loops};
+pub use equal::many_paths;
 pub use joined::{crossing, even, joined, one_above, star, Entries, HIGHEST_COUNT};
 pub use towns::{dead_ends, towns};
 
@@ -78,9 +80,9 @@ impl Shape {
     }
 }
 
-/// A way to draw costs: many ties, the extremes, or anything.
+/// A way to draw costs: many ties, the extremes, free arcs, or anything.
 fn cost_law(random: &mut Random) -> impl Fn(&mut Random) -> u16 {
-    let kind = random.below(9);
+    let kind = random.below(14);
     move |random| match kind {
         0 => 1,
         1 => 65_535,
@@ -89,14 +91,20 @@ fn cost_law(random: &mut Random) -> impl Fn(&mut Random) -> u16 {
         4 | 5 => random.within(1..=9) as u16,
         // No arc is as long as two: what is an arc stays a link.
         6 | 7 => random.within(51..=99) as u16,
+        // Free arcs, and circles of them: all, most, and some.
+        8 => 0,
+        9 | 10 => random.pick(&[0, 0, 0, 1, 5]),
+        11 => random.within(0..=3) as u16,
+        12 => random.pick(&[0, 65_535]),
         _ => random.within(1..=65_535) as u16,
     }
 }
 
-/// Ways to draw the service cost of a required arc from its cost: below, at and above it.
+/// Ways to draw the service cost of a required arc from its cost: below, at and above it. It is never 0.
 const SERVICE_LAWS: usize = 6;
 
 fn service(random: &mut Random, law: usize, cost: u16) -> u16 {
+    let cost = cost.max(1);
     match law {
         0 => cost,
         1 => random.within(1..=cost.into()) as u16,
@@ -147,11 +155,23 @@ pub fn random_plan(random: &mut Random, shape: &Shape) -> Plan {
     }
     random.shuffle(&mut arcs);
     arcs.truncate(MOST_ARCS);
+    let law = random.below(10);
+    if law >= SERVICE_LAWS {
+        price_required(&mut arcs);
+    }
     part_twins(&mut arcs);
     let plan = Plan::new(n, arcs);
-    match random.below(10) {
-        law if law < SERVICE_LAWS => check_by(random, plan, law),
-        _ => plan,
+    if law < SERVICE_LAWS {
+        check_by(random, plan, law)
+    } else {
+        plan
+    }
+}
+
+/// Gives a cost of 1 to each required arc that is free: edition 1 has none.
+fn price_required(arcs: &mut [Arc]) {
+    for arc in arcs.iter_mut().filter(|arc| arc.standing == REQUIRED) {
+        *arc = Arc::new(arc.tail.into(), arc.head.into(), REQUIRED, arc.cost.max(1));
     }
 }
 
@@ -270,6 +290,20 @@ pub fn fullest() -> Plan {
     Plan::new(MOST_VERTICES, (0..MOST_ARCS).map(arc).collect())
 }
 
+/// A required loop of cost 1 at each vertex, and free arcs that join all pairs both ways: every pair lies on circles of free arcs.
+pub fn free_circles(n: usize) -> Plan {
+    let loops = (0..n).map(|v| Arc::new(v, v, REQUIRED, 1));
+    let pairs = (0..n * n).map(|k| (k / n, k % n)).filter(|(v, w)| v != w);
+    Plan::new(n, loops.chain(pairs.map(|(v, w)| Arc::new(v, w, OPTIONAL, 0))).collect())
+}
+
+/// A ring of free arcs, with a required loop at each vertex but one in three.
+pub fn free_ring(n: usize) -> Plan {
+    let loops = (0..n).filter(|v| v % 3 != 2).map(|v| Arc::new(v, v, REQUIRED, 1));
+    let ring = (0..n).map(|v| Arc::new(v, (v + 1) % n, OPTIONAL, 0));
+    Plan::new(n, ring.chain(loops).collect())
+}
+
 /// A ring with as many required arcs as there is room for beside its first: each calls for a way all round, at the highest costs.
 pub fn longest() -> Plan {
     let last = MOST_VERTICES - 1;
@@ -290,7 +324,7 @@ pub fn funnel(random: &mut Random) -> Plan {
         arcs.push(Arc::new(gate, gate + 1, OPTIONAL, random.within(15..=60) as u16));
         for leaf in gate + 2..gate + 2 + leaves {
             arcs.push(Arc::new(gate + 1, leaf, REQUIRED, cost(random)));
-            arcs.push(Arc::new(leaf, gate, OPTIONAL, cost(random)));
+            arcs.push(Arc::new(leaf, gate, OPTIONAL, random.pick(&[0, 1, 7, 20])));
         }
         let next = (part + 1) % parts * (2 + leaves);
         arcs.push(Arc::new(gate, next, OPTIONAL, cost(random)));

@@ -3,11 +3,12 @@
 mod answers;
 mod codecs;
 mod counters;
+mod departures;
 mod judges;
 mod pages;
 mod steps;
 
-use crate::planner::{Codec, Counter, DistanceCall, Judge, Planner};
+use crate::planner::{Codec, Counter, DepartureCall, DistanceCall, Judge, Planner};
 use crate::properties::Property;
 
 pub struct Mutant<T: ?Sized> {
@@ -37,6 +38,11 @@ pub fn pages() -> Vec<Mutant<dyn DistanceCall>> {
 /// Wrong in counting trees.
 pub fn counters() -> Vec<Mutant<dyn Counter>> {
     counters::mutants()
+}
+
+/// Wrong in windows and departures.
+pub fn departures() -> Vec<Mutant<dyn DepartureCall>> {
+    departures::mutants()
 }
 
 /// Wrong in judging a list of arcs.

@@ -4,6 +4,7 @@
 //! |---|---|---|
 //! | file | a string of bits | a window of bits |
 //! | d | Floyd and Warshall | relaxation, row by row |
+//! | paths of fewest arcs | layers away from the first vertex, whole lists compared | weights, arc by arc towards the last |
 //! | searches of a page | first vertices sorted | a flag for each vertex |
 //! | parts | transitive closure | labels that sink |
 //! | least balancing | assignment by the Hungarian method | units added along shortest paths |
@@ -11,6 +12,7 @@
 //! | A(u) | sets of parts, links only | Edmonds' recursion, all pairs |
 //! | greatest u | Bellman and Ford from a least assignment | Dijkstra over reduced costs |
 //! | best drive | search over (vertex, set of required arcs passed) | trees |
+//! | shut arcs | the minutes of a week, for each arc | window by window |
 //! | judging | sets of arcs, and how often each occurs | passes along the list |
 
 mod balancing;
@@ -20,7 +22,9 @@ mod graph;
 mod judging;
 mod optimum;
 mod page;
+mod paths;
 mod trees;
+mod windows;
 
 pub use balancing::{assignment, greatest_multipliers, Assignment};
 pub use bound::{cheapest_tree, lagrangian_bound};
@@ -29,7 +33,9 @@ pub use graph::{judge, Graph, INFINITE};
 pub use judging::judge_answer;
 pub use optimum::{optimum, MOST_REQUIRED_ARCS};
 pub use page::{page, page_refusal};
+pub use paths::{fewest_paths, follows_fewest_paths};
 pub use trees::{count_trees, first_trees, Enumerated};
+pub use windows::{departure_refusal, plan_at};
 
 use crate::plan::{Plan, DEFAULT_BUDGET, HIGHEST_BUDGET, MOST_PARTS, MOST_VERTICES, SHEET_PLACES};
 use crate::planner::Refusal;
@@ -103,14 +109,29 @@ pub fn call_refusal(bytes: &[u8], budget: u64, places: usize) -> Refusal {
     if number != 0 {
         return number;
     }
-    let graph = Graph::new(&parse(bytes));
-    let conditions = [
-        (places < SHEET_PLACES, 8),
-        (!(1..=HIGHEST_BUDGET).contains(&budget), 9),
+    match lent_refusal(budget, places) {
+        0 => plan_refusal(&parse(bytes)),
+        number => number,
+    }
+}
+
+/// 8 and 9, 0 for none.
+fn lent_refusal(budget: u64, places: usize) -> Refusal {
+    first(&[(places < SHEET_PLACES, 8), (!(1..=HIGHEST_BUDGET).contains(&budget), 9)])
+}
+
+/// 10 to 12, 0 for none.
+fn plan_refusal(plan: &Plan) -> Refusal {
+    let graph = Graph::new(plan);
+    first(&[
         (graph.required_arcs.is_empty(), 10),
         (graph.parts > MOST_PARTS, 11),
         (graph.required.iter().any(|&i| graph.required.iter().any(|&j| graph.d[i][j] == INFINITE)), 12),
-    ];
+    ])
+}
+
+/// The number of the first condition that applies, 0 for none.
+fn first(conditions: &[(bool, Refusal)]) -> Refusal {
     conditions.iter().find(|(applies, _)| *applies).map_or(0, |(_, number)| *number)
 }
 

@@ -47,6 +47,16 @@ pub const HIGHEST_BUDGET: u64 = 1_000_000;
 /// The most pairs of a page of distances.
 pub const MOST_PAIRS: usize = 256;
 
+/// The most windows of a plan call at a departure.
+pub const MOST_WINDOWS: usize = 128;
+
+/// When a drive begins: a weekday from 0, Monday, to 6, and a minute of the day.
+#[derive(Clone, Copy, PartialEq, Eq, Debug)]
+pub struct Departure {
+    pub weekday: u32,
+    pub minute: u32,
+}
+
 /// The most components ("parts") of a plan.
 pub const MOST_PARTS: usize = 8;
 

@@ -12,7 +12,7 @@
 //! assert_eq!(sheet[..answer.places], [0, 1]);
 //! ```
 
-use crate::plan::{Arc, MOST_VERTICES};
+use crate::plan::{Arc, Departure, MOST_VERTICES};
 
 mod counter;
 #[cfg(feature = "proved")]
@@ -45,6 +45,8 @@ pub mod refusal {
     pub const UNJOINED: Refusal = 15;
     pub const MISSED: Refusal = 16;
     pub const STRAY_PAIR: Refusal = 17;
+    pub const BAD_WINDOW: Refusal = 19;
+    pub const MUST_SHUT: Refusal = 20;
 }
 
 /// What the plan call answers beside the drive.
@@ -73,6 +75,19 @@ pub trait Planner {
 
     /// The plan call with the default budget.
     fn short_call(&self, plan: &[u8], sheet: &mut [u16]) -> Result<Answer, Refusal>;
+}
+
+/// The plan call at a departure.
+pub trait DepartureCall {
+    /// The plan call with the arcs closed that are shut at departure. A window is four numbers: arc, weekday, from, to.
+    fn plan_call_at(
+        &self,
+        plan: &[u8],
+        budget: u64,
+        windows: &[u16],
+        departure: Departure,
+        sheet: &mut [u16],
+    ) -> Result<Answer, Refusal>;
 }
 
 /// Reading and writing of plan files.

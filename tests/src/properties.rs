@@ -1,16 +1,20 @@
 //! What document 01 promises, as properties that any planner can be held to.
 
+mod budgets;
 mod call;
 mod checking;
 mod codec;
 mod count;
+mod departure;
 mod judging;
 mod page;
 
+pub use budgets::examine_raised;
 pub use call::{examine_answer, examine_refusal, Case};
 pub use checking::examine_checking;
 pub use codec::{examine_codec, examine_writing};
 pub use count::{examine_count, examine_whole};
+pub use departure::{examine_departure, examine_departure_refusal, examine_no_windows};
 pub use judging::{examine_judgement, examine_written};
 pub use page::examine_page;
 
@@ -33,6 +37,8 @@ pub enum Property {
     DriveCost,
     /// It begins with the lowest required arc.
     FirstArc,
+    /// It is made of must arcs and paths of fewest arcs.
+    FewestArcs,
     /// The cost is the least of the first T trees.
     LeastCost,
     /// T is the smaller of budget and N.
@@ -69,6 +75,8 @@ pub enum Property {
     Editions,
     /// Other checking costs move cost and floor by as much as they move R, and nothing else.
     CheckingCosts,
+    /// A larger budget gives a drive no dearer and a floor no lower, at the same u; once all trees are reached, nothing else.
+    RaisedBudget,
     /// A case or a limit that document 01 states in numbers.
     Stated,
     /// Reading answers the edition, n, m and the arcs, or the first refusal that applies.
@@ -99,10 +107,14 @@ pub enum Property {
     WrittenPasses,
     /// No list of arcs is judged to cost less than the floor of its plan.
     FloorBelowJudged,
+    /// With no window the call at a departure is the plan call.
+    NoWindows,
+    /// With windows it is the plan call on the plan with the shut arcs closed by hand, where that is a good file.
+    ClosedByHand,
 }
 
 /// All of them.
-pub const PROPERTIES: [Property; 40] = {
+pub const PROPERTIES: [Property; 44] = {
     use Property::*;
     [
         Returns,
@@ -112,6 +124,7 @@ pub const PROPERTIES: [Property; 40] = {
         Drive,
         DriveCost,
         FirstArc,
+        FewestArcs,
         LeastCost,
         Trees,
         Whole,
@@ -130,6 +143,7 @@ pub const PROPERTIES: [Property; 40] = {
         ShortCall,
         Editions,
         CheckingCosts,
+        RaisedBudget,
         Stated,
         Reading,
         RecordsKept,
@@ -145,6 +159,8 @@ pub const PROPERTIES: [Property; 40] = {
         Judgement,
         WrittenPasses,
         FloorBelowJudged,
+        NoWindows,
+        ClosedByHand,
     ]
 };
 

@@ -1,6 +1,7 @@
 //! The suite: what every planner is put through.
 
 mod counts;
+mod departures;
 mod editions;
 mod faults;
 mod judging;
@@ -8,19 +9,21 @@ mod pages;
 mod stated;
 
 pub use counts::{run_count, run_counts};
+pub use departures::run_departures;
 pub use editions::{run_stated_codec, FILE_A_CHECKED};
 pub use judging::{run_lists, run_stated_lists};
 pub use pages::run_pages;
 pub use stated::{case_a, case_b, case_c, run_stated, FILE_A};
 
 use crate::instances::{
-    checked, damaged, dead_ends, fullest, funnel, longest, random_bytes, random_plan, towns, Shape,
+    checked, damaged, dead_ends, free_circles, free_ring, fullest, funnel, longest, many_paths, random_bytes, random_plan,
+    towns, Shape,
 };
 use crate::oracle::{file_of, Effort};
-use crate::plan::{Arc, Plan, DEFAULT_BUDGET, HIGHEST_BUDGET, LONGEST_FILE, SHEET_PLACES};
+use crate::plan::{Arc, Plan, DEFAULT_BUDGET, HIGHEST_BUDGET, LONGEST_FILE, REQUIRED, SHEET_PLACES};
 use crate::planner::{Codec, Planner};
 use crate::properties::{
-    examine_answer, examine_checking, examine_codec, examine_refusal, examine_writing, Case, Findings,
+    examine_answer, examine_checking, examine_codec, examine_raised, examine_refusal, examine_writing, Case, Findings,
 };
 use crate::random::Random;
 
@@ -35,10 +38,16 @@ pub fn random_case(seed: u64, shape: fn(&mut Random) -> Shape, effort: &Effort) 
     Case::new(&random_plan(random, &shape), effort)
 }
 
-/// The plan call on a case: the budgets that its N suggests, and the short call's.
+/// The plan call on a case: the budgets that its N suggests, and the short call's; then pairs of budgets.
 pub fn run_case(found: &mut Findings, planner: &dyn Planner, case: &Case, few: u64) {
-    for budget in case.budgets(few) {
+    let mut budgets = case.budgets(few);
+    for &budget in &budgets {
         examine_answer(found, planner, case, budget);
+    }
+    budgets.sort_unstable();
+    let (middle, last) = (budgets.len() / 2, budgets.len() - 1);
+    for (low, high) in [(0, middle), (middle, last), (0, last)] {
+        examine_raised(found, planner, case, budgets[low], budgets[high]);
     }
     // Where there are many more trees than were enumerated, this is also the long run.
     examine_answer(found, planner, case, DEFAULT_BUDGET);
@@ -52,6 +61,11 @@ pub fn funnels(count: u64) -> impl Iterator<Item = Case> {
     (1..=count).map(|seed| Case::new(&funnel(&mut Random::new(seed)), &Effort::BRUTE_FORCE))
 }
 
+/// Plans of many equal paths.
+pub fn equal_paths(count: u64) -> impl Iterator<Item = Case> {
+    (1..=count).map(|seed| Case::new(&many_paths(&mut Random::new(seed)), &Effort::LIGHT))
+}
+
 /// Plans that chance would hardly make.
 pub fn fixed_cases() -> Vec<Case> {
     let mut cases = Vec::new();
@@ -63,6 +77,9 @@ pub fn fixed_cases() -> Vec<Case> {
     }
     cases.extend((1..=20).map(|seed| Case::new(&dead_ends(&mut Random::new(seed), 3, 2), &Effort::BRUTE_FORCE)));
     cases.extend(funnels(300));
+    cases.extend((1..=8).map(|n| Case::new(&free_circles(n), &Effort::BRUTE_FORCE)));
+    cases.extend([2, 3, 5, 8, 12].map(|n| Case::new(&free_ring(n), &Effort::BRUTE_FORCE)));
+    cases.extend(equal_paths(300));
     cases.extend(towns().iter().map(|(_, plan)| Case::new(plan, &Effort::LIGHT)));
     cases
 }
@@ -132,8 +149,11 @@ fn random_records(random: &mut Random) -> Plan {
     let m = random.pick(&[0, 1, 2, 3, 4, 5, 255, 256, 257, 300]);
     let any_cost = |random: &mut Random| random.within(1..=65_535) as u16;
     let vertex = |random: &mut Random| random.below(n.clamp(1, 64));
-    let record =
-        |random: &mut Random| Arc::new(vertex(random), vertex(random), random.below(3) as u8, any_cost(random));
+    let record = |random: &mut Random| {
+        let standing = random.below(3) as u8;
+        let cost = if standing != REQUIRED && random.once_in(3) { 0 } else { any_cost(random) };
+        Arc::new(vertex(random), vertex(random), standing, cost)
+    };
     let mut plan = Plan { edition, n, arcs: (0..m).map(|_| record(random)).collect() };
     if edition == 2 {
         plan = checked(plan, |_, _| any_cost(random));

@@ -12,22 +12,24 @@ mod file;
 mod judging;
 mod network;
 mod page;
+mod windows;
 
 pub use arborescence::{Candidate, Trees};
 pub use balance::{Balance, Lengths};
 pub use bound::{cheapest_arborescence, Entries};
 pub use circuit::shortest_path;
 pub use count::{count_by_layers, entry_counts, EntryCounts};
-pub use distance::{distances, measured_arcs, row, Distances, Row, NO_PATH};
+pub use distance::{cost_of, costs, distances, measured_arcs, row, Distances, Row, NO_PATH};
 pub use file::{read, write};
 pub use judging::judge;
 pub use network::{components, Components, Network};
 pub use page::vertices;
+pub use windows::{check_windows, plan_at};
 
 use crate::plan::{
-    Arc, Plan, CLOSED, DEFAULT_BUDGET, HIGHEST_BUDGET, MOST_PARTS, MOST_VERTICES, REQUIRED, SHEET_PLACES,
+    Arc, Departure, Plan, CLOSED, DEFAULT_BUDGET, HIGHEST_BUDGET, MOST_PARTS, MOST_VERTICES, REQUIRED, SHEET_PLACES,
 };
-use crate::planner::{refusal, Answer, Codec, Judge, Planner, Refusal};
+use crate::planner::{refusal, Answer, Codec, DepartureCall, Judge, Planner, Refusal};
 
 /// The decisions that planners of this trade get wrong, each with its right answer. A wrong planner overrides one.
 pub trait Steps {
@@ -49,6 +51,11 @@ pub trait Steps {
     /// Whether the path from i to j may go through k, so that the pair (i, j) is dropped.
     fn is_via(&self, d: &Distances, i: usize, k: usize, j: usize) -> bool {
         d[i][j] == d[i][k] + d[k][j]
+    }
+
+    /// Whether a pair serves as a half of another, by whether it is still held.
+    fn serves(&self, held: bool) -> bool {
+        held
     }
 
     /// By what the candidate links of a component ascend.
@@ -101,9 +108,14 @@ pub trait Steps {
         balance.cost_with(units)
     }
 
-    /// The arcs that a leg from i to j is driven by.
-    fn path(&self, plan: &Plan, d: &Distances, i: usize, j: usize) -> Vec<u16> {
-        shortest_path(plan, d, |a| self.length(a), i, j)
+    /// What an arc adds to a path in weight: cost first, and then the number of arcs.
+    fn weight(&self, arc: &Arc) -> Option<u64> {
+        Some(64 * self.length(arc)? + 1)
+    }
+
+    /// The arcs that a leg from i to j is driven by, from the least weights.
+    fn path(&self, plan: &Plan, weights: &Distances, i: usize, j: usize) -> Vec<u16> {
+        shortest_path(plan, weights, |a| self.weight(a), i, j)
     }
 }
 
@@ -120,6 +132,21 @@ impl<S: Steps> Planner for S {
 
     fn short_call(&self, plan: &[u8], sheet: &mut [u16]) -> Result<Answer, Refusal> {
         plan_call(self, plan, DEFAULT_BUDGET, sheet)
+    }
+}
+
+impl DepartureCall for Yardstick {
+    fn plan_call_at(
+        &self,
+        plan: &[u8],
+        budget: u64,
+        windows: &[u16],
+        departure: Departure,
+        sheet: &mut [u16],
+    ) -> Result<Answer, Refusal> {
+        let plan = accept(plan, budget, sheet.len())?;
+        check_windows(&plan, windows, departure)?;
+        answer(self, plan_at(plan, windows, departure), budget, sheet)
     }
 }
 
@@ -146,7 +173,7 @@ impl Codec for Yardstick {
     }
 }
 
-/// The plan call's refusals 1 to 10, in their order.
+/// The plan call's refusals 1 to 9 and 13, in their order.
 fn accept(file: &[u8], budget: u64, places: usize) -> Result<Plan, Refusal> {
     let plan = read(file)?;
     if places < SHEET_PLACES {
@@ -154,9 +181,6 @@ fn accept(file: &[u8], budget: u64, places: usize) -> Result<Plan, Refusal> {
     }
     if budget == 0 || budget > HIGHEST_BUDGET {
         return Err(refusal::BUDGET);
-    }
-    if !plan.arcs.iter().any(|a| a.standing == REQUIRED) {
-        return Err(refusal::IDLE);
     }
     Ok(plan)
 }
@@ -171,12 +195,20 @@ struct Found {
 }
 
 fn plan_call<S: Steps>(steps: &S, file: &[u8], budget: u64, sheet: &mut [u16]) -> Result<Answer, Refusal> {
-    let plan = accept(file, budget, sheet.len())?;
+    answer(steps, accept(file, budget, sheet.len())?, budget, sheet)
+}
+
+/// 10 to 12, then the answer.
+fn answer<S: Steps>(steps: &S, plan: Plan, budget: u64, sheet: &mut [u16]) -> Result<Answer, Refusal> {
+    if !plan.arcs.iter().any(|a| a.standing == REQUIRED) {
+        return Err(refusal::IDLE);
+    }
     let components = steps.components(&plan);
     if components.count > MOST_PARTS {
         return Err(refusal::SCATTERED);
     }
-    let d = distances(&plan, |a| steps.length(a));
+    let weights = distances(&plan, |a| steps.weight(a));
+    let d = costs(&weights);
     let network = Network::new(steps, &plan, &d, components);
     if network.is_cut_off() {
         return Err(refusal::CUT_OFF);
@@ -203,7 +235,7 @@ fn plan_call<S: Steps>(steps: &S, file: &[u8], budget: u64, sheet: &mut [u16]) -
         lower_bound(steps, &network, &[0; MOST_VERTICES]).max(lower_bound(steps, &network, &u))
     };
 
-    let drive = circuit::lay(steps, &network, balance, &found.links);
+    let drive = circuit::lay(steps, &network, &weights, balance, &found.links);
     let places = drive.len().min(sheet.len());
     sheet[..places].copy_from_slice(&drive[..places]);
     Ok(Answer {

@@ -236,6 +236,7 @@ fn constants_agree() {
         ("MOST_ARCS", plan::MOST_ARCS as u64),
         ("MOST_PARTS", plan::MOST_PARTS as u64),
         ("MOST_PAIRS", plan::MOST_PAIRS as u64),
+        ("MOST_WINDOWS", plan::MOST_WINDOWS as u64),
         ("LONGEST_FILE", plan::LONGEST_FILE as u64),
         ("SHEET_PLACES", plan::SHEET_PLACES as u64),
         ("MOST_PLACES", plan::MOST_PLACES as u64),
@@ -263,6 +264,8 @@ fn constants_agree() {
         ("UNJOINED", u64::from(refusal::UNJOINED)),
         ("MISSED", u64::from(refusal::MISSED)),
         ("STRAY_PAIR", u64::from(refusal::STRAY_PAIR)),
+        ("BAD_WINDOW", u64::from(refusal::BAD_WINDOW)),
+        ("MUST_SHUT", u64::from(refusal::MUST_SHUT)),
     ] {
         assert_eq!(header.get(name), Some(&value), "{name}");
     }

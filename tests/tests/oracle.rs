@@ -1,6 +1,6 @@
 //! The oracle is held to document 01's numbers, and its algorithms to plainer ones.
 
-use postman_tests::instances::{checked, random_plan, Shape};
+use postman_tests::instances::{checked, many_paths, random_plan, Shape};
 use postman_tests::oracle::*;
 use postman_tests::plan::{Arc, Plan, CLOSED, LONGEST_FILE, MOST_VERTICES, OPTIONAL, REQUIRED, SHEET_PLACES};
 use postman_tests::planner::Planner;
@@ -212,4 +212,44 @@ fn judge_finds_every_fault() {
     for drive in faults {
         assert!(judge(&plan, drive).is_err(), "{drive:?}");
     }
+}
+
+/// Every walk of open arcs from a vertex that costs no more than d at any vertex, and has fewer arcs than there are vertices, with its last vertex.
+fn cheap_walks(graph: &Graph, from: usize) -> Vec<(usize, Vec<u16>)> {
+    let plan = &graph.plan;
+    let mut walks = vec![(from, Vec::new(), 0)];
+    let mut at = 0;
+    while at < walks.len() && walks.len() < 200_000 {
+        let (v, walk, cost): (usize, Vec<u16>, u64) = walks[at].clone();
+        for (k, a) in plan.arcs.iter().enumerate() {
+            let (head, sum) = (usize::from(a.head), cost + u64::from(a.cost));
+            let goes_on = usize::from(a.tail) == v && a.standing != CLOSED && walk.len() + 1 < plan.n;
+            if goes_on && sum <= graph.d[from][head] {
+                walks.push((head, walk.iter().copied().chain([k as u16]).collect(), sum));
+            }
+        }
+        at += 1;
+    }
+    walks.into_iter().map(|(v, walk, _)| (v, walk)).collect()
+}
+
+/// The path of fewest arcs is the first of all cheapest walks, by their number of arcs and then as lists.
+#[test]
+fn fewest_paths_are_the_first_of_all() {
+    let random_plans = some_facts(300).map(|facts| facts.graph.plan);
+    let equal = (0..200).map(|seed| many_paths(&mut Random::new(seed))).filter(|plan| plan.n <= 20);
+    let (mut looked, mut tied) = (0, 0);
+    for plan in random_plans.chain(equal) {
+        let graph = Graph::new(&plan);
+        for from in 0..plan.n {
+            let walks = cheap_walks(&graph, from);
+            for (to, path) in fewest_paths(&plan, &graph.d, from).into_iter().enumerate() {
+                let all = walks.iter().filter(|(v, _)| *v == to).map(|(_, walk)| (walk.len(), walk));
+                tied += usize::from(all.clone().count() > 1);
+                assert_eq!(all.min().map(|(_, walk)| walk), path.as_ref(), "{from} to {to} of {plan:?}");
+                looked += 1;
+            }
+        }
+    }
+    assert!(looked > 10_000 && tied > 2_000, "{tied} of {looked} have several");
 }

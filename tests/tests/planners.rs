@@ -5,7 +5,7 @@
 
 use postman_tests::instances::Shape;
 use postman_tests::oracle::Effort;
-use postman_tests::planner::{Codec, Counter, DistanceCall, Planner};
+use postman_tests::planner::{Codec, Counter, DepartureCall, DistanceCall, Planner};
 use postman_tests::properties::Findings;
 use postman_tests::random::{setting, Random};
 use postman_tests::{suite, yardstick::Yardstick};
@@ -79,6 +79,13 @@ fn pages(name: &str, call: &dyn DistanceCall) {
     found.assert_none(name, seed());
 }
 
+/// Windows, and with none of them the plan call.
+fn windows<T: DepartureCall + Planner>(name: &str, planner: &T) {
+    let mut found = Findings::default();
+    suite::run_departures(&mut found, planner, planner, seed(), rounds(4));
+    found.assert_none(name, seed());
+}
+
 /// The stated numbers and files of every length; then random plans, small and large, with the plan call beside the count.
 fn numbers_of_trees<T: Counter + Planner>(name: &str, planner: &T) {
     let mut found = Findings::default();
@@ -141,6 +148,11 @@ macro_rules! held_to_all {
             #[test]
             fn pages_of_distances() {
                 pages(stringify!($name), &$planner);
+            }
+
+            #[test]
+            fn windows_and_departures() {
+                windows(stringify!($name), &$planner);
             }
         }
     };

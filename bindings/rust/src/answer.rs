@@ -7,6 +7,8 @@ use crate::{raw, Refusal};
 #[derive(Clone, PartialEq, Eq, Debug)]
 pub struct Answer {
     /// The drive: numbers of arcs, the lowest required one first. Each arc begins where the one before it ends, and the first where the last ends.
+    /// It is made of the required arcs, each once, and of paths between their ends: each a cheapest one, of the fewest arcs, and of those the lowest list
+    /// of arc numbers.
     pub drive: Vec<u16>,
     /// What the drive costs: the least of the trees tried. One pass of each required arc costs what it costs to check it, and every other pass
     /// what it costs to drive.
@@ -24,7 +26,9 @@ pub struct Answer {
 }
 
 /// Lends a sheet and an answer to a call, and takes them apart.
-fn answered(call: impl FnOnce(&mut [u16], &mut [u64], &mut [i64]) -> Result<(), Refusal>) -> Result<Answer, Refusal> {
+pub(crate) fn answered(
+    call: impl FnOnce(&mut [u16], &mut [u64], &mut [i64]) -> Result<(), Refusal>,
+) -> Result<Answer, Refusal> {
     let mut drive = vec![0; SHEET_PLACES];
     let mut words = [0; ANSWER_WORDS];
     let mut multipliers = [0; MULTIPLIERS];

@@ -38,6 +38,7 @@ mod plan;
 pub mod raw;
 mod refusal;
 mod tree_count;
+mod windows;
 
 pub use answer::{judge, plan_call, short_call, Answer};
 pub use distances::{distances, Distances};
@@ -45,3 +46,4 @@ pub use edition::Edition;
 pub use plan::{Arc, Plan, Standing};
 pub use refusal::Refusal;
 pub use tree_count::{tree_count, TreeCount};
+pub use windows::{plan_call_at, Departure, Window};

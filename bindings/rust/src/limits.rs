@@ -32,6 +32,15 @@ pub const MOST_PAIRS: usize = 256;
 /// What the first vertex of a pair is multiplied by: a pair is 256 first + second.
 pub const PAIR: u16 = 256;
 
+/// The most windows of a plan call at a departure.
+pub const MOST_WINDOWS: usize = 128;
+/// The numbers of a window: its arc, its weekday, and the minutes from which and to which it shuts the arc.
+pub const WINDOW_NUMBERS: usize = 4;
+/// The last weekday. Monday is 0.
+pub const LAST_WEEKDAY: u32 = 6;
+/// The minutes of a day: a window ends at this minute at the latest, and a departure is before it.
+pub const DAY_MINUTES: u32 = 1_440;
+
 /// The bytes of a record, which is an arc: tail, head, standing, the high byte and the low byte of its cost, and those of its service cost.
 pub const RECORD_BYTES: usize = 7;
 /// The index of a record's tail.

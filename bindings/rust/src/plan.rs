@@ -48,7 +48,7 @@ pub struct Arc {
     pub head: u8,
     /// What may be done with it.
     pub standing: Standing,
-    /// What it costs to drive it, 1 or more.
+    /// What it costs to drive it. It may be 0, but not in a required arc of the first edition.
     pub cost: u16,
     /// What the one pass costs on which a required arc is checked, 1 or more; it may be below the cost or above it. 0 in all other arcs.
     pub service: u16,
@@ -184,7 +184,18 @@ mod tests {
             assert_eq!(plan(vertices, arcs(m)).write(), Err(Refusal::Extent), "{vertices} vertices, {m} arcs");
         }
         assert_eq!(plan(2, vec![arc(0, 2, 1)]).write(), Err(Refusal::OffSheet));
-        assert_eq!(plan(2, vec![arc(0, 1, 0)]).write(), Err(Refusal::Unpriced));
+        assert_eq!(plan(2, vec![Arc::checked(0, 1, 0, 0)]).write(), Err(Refusal::Unpriced));
+    }
+
+    /// A cost of 0 in any arc, but for required ones of the first edition.
+    #[test]
+    fn free_arcs_read_back() {
+        let closed = Arc::new(1, 1, Standing::Closed, 0);
+        let first = plan(2, vec![arc(0, 1, 0), closed, Arc::checked(1, 0, 7, 7)]);
+        let second = Plan { edition: Edition::Second, ..plan(2, vec![arc(0, 1, 0), closed, Arc::checked(1, 0, 0, 7)]) };
+        for plan in [first, second] {
+            assert_eq!(Plan::read(&plan.write().unwrap()), Ok(plan));
+        }
     }
 
     /// A service cost of 0 in a required arc, or another in any other arc; and in the first edition any but the cost.

@@ -119,6 +119,56 @@ pub fn short_call(plan: &[u8], sheet: &mut [u16], answer: &mut [u64], multiplier
     .map(|_| ())
 }
 
+/// The plan call at a departure, on lent slices: [`plan_call`] with the arcs closed that are shut at that minute of that weekday. Refuses with 1 to
+/// 13, 19 and 20.
+///
+/// `windows` has [`WINDOW_NUMBERS`](crate::limits::WINDOW_NUMBERS) numbers a window: arc, weekday, from, to. A window of the departure's weekday
+/// shuts its arc if from ≤ minute < to. A length that is no multiple of four is refused with 19.
+///
+/// ```
+/// use postman::limits::SHEET_PLACES;
+///
+/// let file = [0x10, 0x40, 0x20, 0x01, 0x40, 0x01, 0x41, 0x00, 0x00, 0x03];
+/// let mut sheet = vec![0; SHEET_PLACES];
+/// let mut call = |windows: &[u16]| postman::raw::plan_call_at(&file, 1, windows, 2, 540, &mut sheet, &mut [], &mut []);
+/// assert_eq!(call(&[]), Ok(()));
+/// assert_eq!(call(&[1, 2, 480, 720]), Err(postman::Refusal::CutOff));
+/// assert_eq!(call(&[1, 3, 480, 720]), Ok(()));
+/// assert_eq!(call(&[0, 2, 480, 720]), Err(postman::Refusal::MustShut));
+/// assert_eq!(call(&[1, 2, 480]), Err(postman::Refusal::BadWindow));
+/// ```
+#[allow(clippy::too_many_arguments)]
+pub fn plan_call_at(
+    plan: &[u8],
+    budget: u64,
+    windows: &[u16],
+    weekday: u32,
+    minute: u32,
+    sheet: &mut [u16],
+    answer: &mut [u64],
+    multipliers: &mut [i64],
+) -> Result<(), Refusal> {
+    // SAFETY: as in `read_plan`.
+    unless_refused(unsafe {
+        ffi::postman_plan_call_at(
+            plan.as_ptr(),
+            plan.len(),
+            budget,
+            windows.as_ptr(),
+            windows.len(),
+            weekday,
+            minute,
+            sheet.as_mut_ptr(),
+            sheet.len(),
+            answer.as_mut_ptr(),
+            answer.len(),
+            multipliers.as_mut_ptr(),
+            multipliers.len(),
+        )
+    })
+    .map(|_| ())
+}
+
 /// Distances for a page of pairs of vertices of the file `plan`, on lent slices: the number of searches run, one for each first vertex. Refuses
 /// with 1 to 8, 13 and 17.
 ///

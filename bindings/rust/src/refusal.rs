@@ -4,7 +4,7 @@ use std::error::Error;
 use std::fmt;
 
 /// Why a call was refused. Of several refusals that apply, the calls give the first in this order: 1 (under three bytes), 2, 3, 1 (length),
-/// 4, then arc by arc 5, 6, 7, then 13, then 17, then 8 to 12, then 14 to 16.
+/// 4, then arc by arc 5, 6, 7, then 13, then 17, then 8 and 9, then 19 and 20, then 10 to 12, then 14 to 16.
 ///
 /// ```
 /// use postman::{short_call, Refusal};
@@ -26,7 +26,7 @@ pub enum Refusal {
     Margin = 4,
     /// An arc's tail or head is no vertex.
     OffSheet = 5,
-    /// An arc's cost is 0, a required arc's service cost is 0, or another arc's is not; or one cannot be written in edition 1.
+    /// A required arc's service cost is 0, or another arc's is not; or one cannot be written in edition 1. A required arc of edition 1 that costs 0 has none.
     Unpriced = 6,
     /// An arc's standing is above 2.
     Standing = 7,
@@ -50,11 +50,15 @@ pub enum Refusal {
     Missed = 16,
     /// More than 256 pairs, or one of what is no vertex.
     StrayPair = 17,
+    /// A window, the number of windows or the departure is beyond its limits.
+    BadWindow = 19,
+    /// An arc that must be driven is shut at departure.
+    MustShut = 20,
 }
 
 impl Refusal {
     /// All refusals, by their numbers.
-    pub const ALL: [Refusal; 17] = [
+    pub const ALL: [Refusal; 19] = [
         Refusal::Torn,
         Refusal::Edition,
         Refusal::Extent,
@@ -72,6 +76,8 @@ impl Refusal {
         Refusal::Unjoined,
         Refusal::Missed,
         Refusal::StrayPair,
+        Refusal::BadWindow,
+        Refusal::MustShut,
     ];
 
     /// The refusal's number.
@@ -106,7 +112,7 @@ impl Refusal {
             }
             Refusal::Margin => ("margin", "the file has more bytes than its arcs need, or a fill bit is 1"),
             Refusal::OffSheet => ("off sheet", "an arc's tail or head is no vertex"),
-            Refusal::Unpriced => ("unpriced", "an arc's cost or service cost is wrong"),
+            Refusal::Unpriced => ("unpriced", "an arc's service cost is wrong"),
             Refusal::Standing => ("standing", "an arc's standing is above 2"),
             Refusal::ShortSheet => ("short sheet", "too few records, bytes, places or distances are lent"),
             Refusal::Budget => ("budget", "the budget is 0 or above 1,000,000"),
@@ -120,6 +126,10 @@ impl Refusal {
             }
             Refusal::Missed => ("missed", "an arc that must be driven is not in a judged list"),
             Refusal::StrayPair => ("stray pair", "more than 256 pairs, or one of what is no vertex"),
+            Refusal::BadWindow => {
+                ("bad window", "a window, the number of windows or the departure is beyond its limits")
+            }
+            Refusal::MustShut => ("must shut", "an arc that must be driven is shut at departure"),
         }
     }
 }
@@ -138,13 +148,13 @@ mod tests {
     use super::*;
 
     #[test]
-    fn numbers_are_one_to_seventeen() {
+    fn numbers_ascend() {
         let numbers: Vec<u32> = Refusal::ALL.iter().map(|refusal| refusal.number()).collect();
-        assert_eq!(numbers, (1..=17).collect::<Vec<u32>>());
+        assert_eq!(numbers, (1..=17).chain(19..=20).collect::<Vec<u32>>());
         for refusal in Refusal::ALL {
             assert_eq!(Refusal::from_number(refusal.number()), Some(refusal));
         }
-        for number in [0, 18, u32::MAX] {
+        for number in [0, 18, 21, u32::MAX] {
             assert_eq!(Refusal::from_number(number), None);
         }
     }

@@ -1,5 +1,4 @@
 -- What is proved about the definitions.
-pub mod Lists
 pub mod Reach
 pub mod Stop
 pub mod Completion

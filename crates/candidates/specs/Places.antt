@@ -7,11 +7,7 @@ use Prim.Native.Nat.{ℕ, zero, suc, _/_, _%_, _≤_, _<_}
 use lib.ListN.{length, getD}
 use lib.Dec.{eqb}
 use Rattle.postman.specs.Lists.{select, below}
-use Rattle.postman.specs.Link.{Link}
 use Rattle.candidates.specs.Holds.{Holds}
-
-abbrev pub linkOf : ℕ → Link
-linkOf x = record { tail = x / 64; head = x % 64 }
 
 -- a link whose head is in component q and whose tail is in another
 abbrev pub enters : Bool → ℕ → ℕ → ℕ → Bool

@@ -11,6 +11,7 @@ pub mod Cut
 pub mod Legs
 pub mod Few
 pub mod Tour
+pub mod Description
 pub mod Completion
 pub mod Filled
 pub mod Noted

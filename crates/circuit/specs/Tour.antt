@@ -6,9 +6,10 @@ use Prim.Native.Nat.{ℕ, _+_, _≤_, _<_}
 use lib.ListN.{length, getD, drop}
 use lib.Dec.{ltb}
 use Rattle.postman.specs.Plan.{Plan, requiredNumbers}
-use Rattle.postman.specs.Tour.{IsWalk, walkCost, IsTour, tourCost}
+use Rattle.postman.specs.Tour.{walkCost, IsTour, tourCost}
 use Rattle.postman.specs.Required.{required, requiredCost}
 use Rattle.postman.specs.Distance.{noPath, distance}
+use Rattle.postman.specs.FewestPath.{IsFewestPath, IsLaid}
 use Rattle.postman.specs.Link.{Link}
 use Rattle.postman.specs.Balancing.{linkCost, balancingCost}
 use Rattle.postman.specs.PlanCall.{sheetPlaces}
@@ -30,9 +31,9 @@ tourBy path p t amounts = placesOf path (requiredNumbers p) (legTails p t amount
 unfoldable pub tour : Plan → List Link → List ℕ → List ℕ
 tour p t amounts = tourBy (shortestPath p) p t amounts
 
--- Cheapest paths between required vertices, of at most 63 arcs.
+-- Paths of fewest arcs between required vertices, of at most 63 arcs.
 pub record IsPath (p : Plan) (i j : ℕ) (w : List ℕ) : Type 0 where
-  pub walk : IsWalk (p .arcs) i w j
+  pub fewest-path : IsFewestPath p i j w
   pub costs : walkCost (p .arcs) w ≡ distance p i j
   pub short : length w ≤ 63
 
@@ -60,3 +61,4 @@ pub record IsCompletion (p : Plan) (t : List Link) (amounts w : List ℕ) : Type
   pub nonempty : 0 < length w
   pub first : getD w 0 0 ≡ getD (requiredNumbers p) 0 0
   pub short : length w ≤ sheetPlaces
+  pub laid : IsLaid p w

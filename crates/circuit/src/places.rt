@@ -1,4 +1,4 @@
-// The places of the legs: a required arc has its number, another leg the arcs of a shortest path.
+// The places of the legs: a required arc has its number, another leg the arcs of the path of fewest arcs.
 use crate::widen::wide;
 use crate::widen::wide8;
 use shortest::path::column_to;
@@ -15,7 +15,7 @@ ghost use Rattle.circuit.specs.Tour.{legPlaces, placesOf, written, HaveP
 // Writes leg e into the places from `at` on, and answers the place after it.
 fn write_leg(
     arcs: &[[u16; 5]],
-    table: &[[u32; 64]],
+    weights: &[[u32; 64]],
     numbers: &[u16],
     tails: &[u8],
     heads: &[u8],
@@ -23,11 +23,11 @@ fn write_leg(
     places: &mut [u16],
     at: usize,
 ) -> usize
-    requires { ⌜ WellFormed (planIn (length (now table)) (now arcs)) × AreRows (planIn (length (now table)) (now arcs)) (now table) ⌝ }
-    requires { ⌜ (e < length (now tails)) × (length (now heads) ≡ length (now tails)) × HavePaths (planIn (length (now table)) (now arcs)) (now numbers) (now tails) (now heads) ⌝ }
-    requires { ⌜ at + length (legPlaces (shortestPath (planIn (length (now table)) (now arcs))) (now numbers) (now tails) (now heads) e) ≤ length (now places) ⌝ }
-    ensures { λ r. ⌜ now (places .exit) ≡ overwrite (now (places .entry)) at (legPlaces (shortestPath (planIn (length (now (table .entry))) (now (arcs .entry)))) (now (numbers .entry)) (now (tails .entry)) (now (heads .entry)) e) ⌝ }
-    ensures { λ r. ⌜ r ≡ at + length (legPlaces (shortestPath (planIn (length (now (table .entry))) (now (arcs .entry)))) (now (numbers .entry)) (now (tails .entry)) (now (heads .entry)) e) ⌝ }
+    requires { ⌜ WellFormed (planIn (length (now weights)) (now arcs)) × AreRows (planIn (length (now weights)) (now arcs)) (now weights) ⌝ }
+    requires { ⌜ (e < length (now tails)) × (length (now heads) ≡ length (now tails)) × HavePaths (planIn (length (now weights)) (now arcs)) (now numbers) (now tails) (now heads) ⌝ }
+    requires { ⌜ at + length (legPlaces (shortestPath (planIn (length (now weights)) (now arcs))) (now numbers) (now tails) (now heads) e) ≤ length (now places) ⌝ }
+    ensures { λ r. ⌜ now (places .exit) ≡ overwrite (now (places .entry)) at (legPlaces (shortestPath (planIn (length (now (weights .entry))) (now (arcs .entry)))) (now (numbers .entry)) (now (tails .entry)) (now (heads .entry)) e) ⌝ }
+    ensures { λ r. ⌜ r ≡ at + length (legPlaces (shortestPath (planIn (length (now (weights .entry))) (now (arcs .entry)))) (now (numbers .entry)) (now (tails .entry)) (now (heads .entry)) e) ⌝ }
 {
     if e < numbers.len() {
         places[at] = numbers[e];
@@ -35,34 +35,34 @@ fn write_leg(
     }
     let i = wide8(tails[e]);
     let j = wide8(heads[e]);
-    let column = column_to(table, j);
-    let n = table.len();
+    let column = column_to(weights, j);
+    let n = weights.len();
     path(arcs, &column[..n], i, j, places, at)
 }
 
 // Writes the legs in their order from the start of the places on, and answers how many places that are.
 pub(crate) fn write(
     arcs: &[[u16; 5]],
-    table: &[[u32; 64]],
+    weights: &[[u32; 64]],
     numbers: &[u16],
     tails: &[u8],
     heads: &[u8],
     order: &[u16],
     places: &mut [u16],
 ) -> usize
-    requires { ⌜ WellFormed (planIn (length (now table)) (now arcs)) × AreRows (planIn (length (now table)) (now arcs)) (now table) ⌝ }
+    requires { ⌜ WellFormed (planIn (length (now weights)) (now arcs)) × AreRows (planIn (length (now weights)) (now arcs)) (now weights) ⌝ }
     requires { ⌜ ((x : ℕ) → x < length (now order) → getD (now order) x 0 < length (now tails)) ⌝ }
-    requires { ⌜ (length (now heads) ≡ length (now tails)) × HavePaths (planIn (length (now table)) (now arcs)) (now numbers) (now tails) (now heads) ⌝ }
-    requires { ⌜ length (placesOf (shortestPath (planIn (length (now table)) (now arcs))) (now numbers) (now tails) (now heads) (now order)) ≤ length (now places) ⌝ }
-    ensures { λ r. ⌜ now (places .exit) ≡ written (placesOf (shortestPath (planIn (length (now (table .entry))) (now (arcs .entry)))) (now (numbers .entry)) (now (tails .entry)) (now (heads .entry)) (now (order .entry))) (now (places .entry)) ⌝ }
-    ensures { λ r. ⌜ r ≡ length (placesOf (shortestPath (planIn (length (now (table .entry))) (now (arcs .entry)))) (now (numbers .entry)) (now (tails .entry)) (now (heads .entry)) (now (order .entry))) ⌝ }
+    requires { ⌜ (length (now heads) ≡ length (now tails)) × HavePaths (planIn (length (now weights)) (now arcs)) (now numbers) (now tails) (now heads) ⌝ }
+    requires { ⌜ length (placesOf (shortestPath (planIn (length (now weights)) (now arcs))) (now numbers) (now tails) (now heads) (now order)) ≤ length (now places) ⌝ }
+    ensures { λ r. ⌜ now (places .exit) ≡ written (placesOf (shortestPath (planIn (length (now (weights .entry))) (now (arcs .entry)))) (now (numbers .entry)) (now (tails .entry)) (now (heads .entry)) (now (order .entry))) (now (places .entry)) ⌝ }
+    ensures { λ r. ⌜ r ≡ length (placesOf (shortestPath (planIn (length (now (weights .entry))) (now (arcs .entry)))) (now (numbers .entry)) (now (tails .entry)) (now (heads .entry)) (now (order .entry))) ⌝ }
 {
     let mut at: usize = 0;
     let mut x: usize = 0;
     while x < order.len() {
         at = write_leg(
             arcs,
-            table,
+            weights,
             numbers,
             tails,
             heads,

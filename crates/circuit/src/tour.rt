@@ -10,24 +10,24 @@ ghost use Rattle.postman.specs.Plan.{WellFormed};
 ghost use Rattle.postman.specs.PlanCall.{sheetPlaces};
 ghost use Rattle.plan.specs.Records.{planValue};
 ghost use Rattle.shortest.specs.ShortestPath.{shortestPath};
-ghost use Rattle.shortest.specs.Contracts.{IsTable};
+ghost use Rattle.shortest.specs.Contracts.{AreWeights};
 ghost use Rattle.circuit.specs.Circuit.{circuit};
 ghost use Rattle.circuit.specs.Eulerian.{Eulerian};
 ghost use Rattle.circuit.specs.Legs.{Completes};
 ghost use Rattle.circuit.specs.Tour.{placesOf, tour, written, HavePaths};
 ghost use Rattle.circuit.specs.Filled.{linksOf};
 
-// Writes the legs in the order of their circuit. What a leg needs of the plan and of the table is lent to it.
+// Writes the legs in the order of their circuit. What a leg needs of the plan and of the table of weights is lent to it.
 fn write_circuit(
     plan: Plan,
-    table: &[[u32; 64]; 64],
+    weights: &[[u32; 64]; 64],
     numbers: &[u16],
     tails: &[u8],
     heads: &[u8],
     order: &mut [u16],
     places: &mut [u16],
 ) -> usize
-    requires { ⌜ WellFormed (planValue plan) × IsTable (planValue plan) (now table) ⌝ }
+    requires { ⌜ WellFormed (planValue plan) × AreWeights (planValue plan) (now weights) ⌝ }
     requires { ⌜ (length (now tails) ≤ 526) × (length (now order) ≡ length (now tails)) × Eulerian (now tails) (now heads) ⌝ }
     requires { ⌜ HavePaths (planValue plan) (now numbers) (now tails) (now heads) ⌝ }
     requires { ⌜ length (placesOf (shortestPath (planValue plan)) (now numbers) (now tails) (now heads) (circuit (now tails) (now heads))) ≤ length (now places) ⌝ }
@@ -38,20 +38,20 @@ fn write_circuit(
     let arcs = plan::rows::rows_of(plan);
     let m = plan.m as usize;
     let n = plan.n as usize;
-    let rows: &[[u32; 64]] = table;
+    let rows: &[[u32; 64]] = weights;
     write(&arcs[..m], &rows[..n], numbers, tails, heads, order, places)
 }
 
-// Writes the tour that the required arcs, the links of an arborescence and the amounts that balance them make, and answers how many places it has.
+// Writes the tour that the required arcs, the links of an arborescence and the amounts that balance them make, by the table of weights, and answers how many places it has.
 pub fn write_tour(
     plan: Plan,
-    table: &[[u32; 64]; 64],
+    weights: &[[u32; 64]; 64],
     link_tails: &[u8],
     link_heads: &[u8],
     amounts: &[u16; 4096],
     places: &mut [u16],
 ) -> usize
-    requires { ⌜ WellFormed (planValue plan) × IsTable (planValue plan) (now table) ⌝ }
+    requires { ⌜ WellFormed (planValue plan) × AreWeights (planValue plan) (now weights) ⌝ }
     requires { ⌜ (length (now «link_heads») ≡ length (now «link_tails»)) × Completes (planValue plan) (linksOf (now «link_tails») (now «link_heads»)) (now amounts) ⌝ }
     requires { ⌜ sheetPlaces ≤ length (now places) ⌝ }
     ensures { λ r. ⌜ now (places .exit) ≡ written (tour (planValue plan) (linksOf (now («link_tails» .entry)) (now («link_heads» .entry))) (now (amounts .entry))) (now (places .entry)) ⌝ }
@@ -74,7 +74,7 @@ pub fn write_tour(
     let n = counts.legs;
     write_circuit(
         plan,
-        table,
+        weights,
         &numbers[..c],
         &tails[..n],
         &heads[..n],

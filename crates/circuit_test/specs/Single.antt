@@ -39,7 +39,7 @@ pub record Runs (p : Plan) (ts hs amounts : List ℕ) : Type 0 where
 -- ---- the tests
 
 unfoldable pub arcTest : ℕ → Arc → Bool
-arcTest n a = ltb (a .tail) n && (ltb (a .head) n && (leb (a .standing) 2 && (leb 1 (a .cost) && (leb (a .cost) 65535 && leb (a .service) 65535))))
+arcTest n a = ltb (a .tail) n && (ltb (a .head) n && (leb (a .standing) 2 && (leb (a .cost) 65535 && leb (a .service) 65535)))
 
 unfoldable pub planTest : Plan → Bool
 unfolding arcTest allOf
@@ -81,13 +81,11 @@ well-formed p t =
         let a = and-parts (ltb (x .tail) (p .n)) _ u in
         let b = and-parts (ltb (x .head) (p .n)) _ (a .1) in
         let c = and-parts (leb (x .standing) 2) _ (b .1) in
-        let d = and-parts (leb 1 (x .cost)) _ (c .1) in
-        let e = and-parts (leb (x .cost) 65535) _ (d .1) in
+        let e = and-parts (leb (x .cost) 65535) _ (c .1) in
         record {
           tail-in = ltb→lt (x .tail) (p .n) (a .0);
           head-in = ltb→lt (x .head) (p .n) (b .0);
           standing-in = leb→le (x .standing) 2 (c .0);
-          priced = leb→le 1 (x .cost) (d .0);
           cost-in = leb→le (x .cost) 65535 (e .0);
           service-in = leb→le (x .service) 65535 (e .1);
         }

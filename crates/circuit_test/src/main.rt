@@ -242,8 +242,8 @@ fn run_in(
 )
     requires { ⌜ Runs (planValue plan) (now «link_tails») (now «link_heads») (now amounts) × (17266 ≤ length (now places)) ⌝ }
 {
-    let table = shortest::distance::table(plan);
-    let n = circuit::tour::write_tour(plan, &table, link_tails, link_heads, amounts, places);
+    let weights = shortest::weights::table(plan);
+    let n = circuit::tour::write_tour(plan, &weights, link_tails, link_heads, amounts, places);
     text(label);
     report(plan, places, n);
 }

@@ -1,11 +1,12 @@
-// The plan call and the short call, for callers in other languages. The number is 0, or minus the refusal's; an answer goes into two lent slices.
+// The plan call, the short call and the plan call at a departure, for callers in other languages. The number is 0, or minus the refusal's; an answer goes into two lent slices.
 ghost use mathlib.Core.Path.{_≡_};
 ghost use mathlib.Core.Option.{none};
 ghost use lib.IntN.{pos, natAbs};
 ghost use lib.Signed.{_≤ℤ_};
 ghost use Rattle.postman.specs.PlanCall.{defaultBudget};
 ghost use Rattle.refusal.specs.Verdict.{verdictNumber};
-ghost use Rattle.exports.specs.Answer.{wordsOf, putFirst, IsHandedOver, IsExportedCall};
+ghost use Rattle.windows.specs.Contract.{departure};
+ghost use Rattle.exports.specs.Answer.{wordsOf, putFirst, IsHandedOver, IsExportedCall, IsExportedCallAt};
 use crate::number::refused_number;
 use planner::Planned;
 use records::writer::at_most;
@@ -100,5 +101,24 @@ pub extern "C" fn postman_short_call(
         (now (multipliers .entry)) (now (multipliers .exit)) k ⌝ }
 {
     let r = planner::call::short_call(plan, sheet);
+    hand_over(r, answer, multipliers)
+}
+
+// THE PLAN CALL AT A DEPARTURE. A window is four numbers: arc, weekday, from, to; a list whose length is no multiple of four is refused as 19.
+#[no_mangle]
+pub extern "C" fn postman_plan_call_at(
+    plan: &[u8],
+    budget: u64,
+    windows: &[u16],
+    weekday: u32,
+    minute: u32,
+    sheet: &mut [u16],
+    answer: &mut [u64],
+    multipliers: &mut [i64],
+) -> i64
+    ensures { λ k. ⌜ IsExportedCallAt (now (plan .entry)) budget (now (windows .entry)) (departure weekday minute) (now (sheet .entry)) (now (sheet .exit))
+        (now (answer .entry)) (now (answer .exit)) (now (multipliers .entry)) (now (multipliers .exit)) k ⌝ }
+{
+    let r = windows::call::plan_call_at(plan, budget, windows, weekday, minute, sheet);
     hand_over(r, answer, multipliers)
 }

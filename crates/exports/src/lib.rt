@@ -2,7 +2,7 @@
 mod number; // the number that a call answers
 pub mod record_bytes; // a record as seven bytes
 pub mod codec; // reading and writing plan files
-pub mod call; // the plan call and the short call
+pub mod call; // the plan call, the short call and the plan call at a departure
 pub mod distance; // the distance call
 pub mod count; // the number of trees
 pub mod judging; // the judging call

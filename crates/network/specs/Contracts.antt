@@ -10,7 +10,7 @@ use Rattle.postman.specs.Required.{isRequired, requiredCost}
 use Rattle.postman.specs.Component.{component, componentCount}
 use Rattle.postman.specs.Balancing.{imbalance}
 use Rattle.postman.specs.PlanCall.{isCutOff}
-use Rattle.network.specs.LinkPair.{isLinkPair}
+use Rattle.postman.specs.Link.{isHeld, links}
 use Rattle.network.specs.declared.network.Network.{Network}
 
 -- D(v), for every vertex v.
@@ -28,7 +28,7 @@ pub record IsComponents (p : Plan) (of : List ℕ) (count : ℕ) : Type 0 where
 
 -- Whether the pair (i, j), at 64 i + j, is a link.
 abbrev pub IsLinks : Plan → List Bool → Type 0
-IsLinks p l = (i j : ℕ) → i < 64 → j < 64 → getD l (i * 64 + j) false ≡ isLinkPair p i j
+IsLinks p l = (i j : ℕ) → i < 64 → j < 64 → getD l (i * 64 + j) false ≡ isHeld (links p) i j
 
 -- The network of a plan.
 pub record IsNetwork (p : Plan) (r : Network) : Type 0 where

@@ -4,8 +4,8 @@ pub mod Search
 pub mod Flat
 pub mod Thinning
 pub mod RequiredVertex
+pub mod Vertices
 pub mod CutOff
 pub mod LinkPair
-pub mod Selection
 pub mod Labels
 pub mod Roots

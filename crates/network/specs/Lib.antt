@@ -3,7 +3,6 @@ pub mod Contracts
 pub mod RequiredSum
 pub mod Thinning
 pub mod CutOff
-pub mod LinkPair
 pub mod Labels
 -- What is proved about them.
 pub mod Laws

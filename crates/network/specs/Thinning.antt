@@ -1,19 +1,36 @@
--- Thinning over a table of distances and flags of required vertices: what the loops over pairs compute.
-use mathlib.Core.Bool.{Bool, false, not, _&&_}
+-- Thinning over a table of distances and flags, that of the pair (i, j) at 64 i + j: what the loops over pairs compute.
+use mathlib.Core.Bool.{Bool, false, not, cond, _&&_}
 use mathlib.Core.List.{List, []}
-use Prim.Native.Nat.{ℕ, _+_}
-use lib.ListN.{getD}
+use Prim.Native.Nat.{ℕ, zero, suc, _+_, _*_}
+use lib.ListN.{getD, set}
 use lib.Dec.{eqb}
 use Rattle.postman.specs.Lists.{anyOf, below}
 
 abbrev pub cell : List (List ℕ) → ℕ → ℕ → ℕ
 cell d i j = getD (getD d i []) j 0
 
--- k is required, other than i and j, and on a cheapest way from i to j.
-abbrev pub between : List (List ℕ) → List Bool → ℕ → ℕ → ℕ → Bool
-between d r i j k = not (eqb k i) && not (eqb k j) && getD r k false && eqb (cell d i j) (cell d i k + cell d k j)
+abbrev pub flag : List Bool → ℕ → ℕ → Bool
+flag held i j = getD held (i * 64 + j) false
 
--- The pair (i, j) of required vertices stays.
-unfoldable pub keeps : List (List ℕ) → List Bool → ℕ → ℕ → Bool
+-- The pairs that thinning starts from: two required vertices, not the same.
+abbrev pub isPair : ℕ → ℕ → Bool → Bool → Bool
+isPair i j a b = not (eqb i j) && a && b
+
+-- (i, k) and (k, j) are held, and k is on a cheapest way from i to j.
+abbrev pub between : List (List ℕ) → List Bool → ℕ → ℕ → ℕ → Bool
+between d held i j k = flag held i k && flag held k j && eqb (cell d i j) (cell d i k + cell d k j)
+
+-- The flags once (i, j) has had its turn; once the first j pairs of row i have had theirs; and once the first i rows have.
+unfoldable pub turnAt : List (List ℕ) → List Bool → ℕ → ℕ → List Bool
 unfolding anyOf below
-keeps d r i j = not (eqb i j) && getD r i false && getD r j false && not (anyOf (between d r i j) (below 64))
+turnAt d held i j = cond (flag held i j && anyOf (between d held i j) (below 64)) (set held (i * 64 + j) false) held
+
+unfoldable pub rowThinned : List (List ℕ) → List Bool → ℕ → ℕ → List Bool
+unfolding turnAt
+rowThinned d held i zero = held
+rowThinned d held i (suc j) = turnAt d (rowThinned d held i j) i j
+
+unfoldable pub rowsThinned : List (List ℕ) → List Bool → ℕ → List Bool
+unfolding rowThinned
+rowsThinned d held zero = held
+rowsThinned d held (suc i) = rowThinned d (rowsThinned d held i) i 64

@@ -4,6 +4,7 @@ use crate::cut_off::is_cut_off;
 use crate::required_sum::imbalance;
 use crate::required_sum::required_cost;
 use crate::required_vertex::required;
+use crate::thinning::pairs;
 use crate::thinning::thin;
 use plan::Plan;
 ghost use Rattle.postman.specs.Plan.{WellFormed};
@@ -34,7 +35,7 @@ pub fn network_of(plan: Plan, table: &[[u32; 64]; 64]) -> Network
     let required = required(plan);
     let parts = components_of(plan, required);
     let component = parts.of;
-    let links = thin(table, required);
+    let links = thin(table, pairs(required));
     let imbalance = imbalance(plan);
     Network {
         required: required,

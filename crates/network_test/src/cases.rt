@@ -50,6 +50,12 @@ pub fn named() {
     rows(b"E\n", 2, b"\x00\x01\x00\x05\x01\x00\x00\x03");
     shown(b"F\n", case_f(8));
     shown(b"F with nine\n", case_f(9));
+    // "n 3, a must loop of cost 1 at each vertex, six arcs of cost 0 joining all pairs both ways"
+    rows(
+        b"free arcs\n",
+        3,
+        b"\x00\x00\x01\x01\x01\x01\x01\x01\x02\x02\x01\x01\x00\x01\x00\x00\x00\x02\x00\x00\x01\x00\x00\x00\x01\x02\x00\x00\x02\x00\x00\x00\x02\x01\x00\x00",
+    );
     // Parallel arcs, the cheapest of them closed; a closed arc that would join; a vertex that no arc reaches.
     rows(
         b"parallel\n",

@@ -6,7 +6,7 @@ ghost use lib.ListN.{length};
 ghost use Rattle.postman.specs.Plan.{WellFormed};
 ghost use Rattle.plan.specs.Records.{planValue};
 ghost use Rattle.postman.specs.Distance.{noPath, distance};
-ghost use Rattle.shortest.specs.Contracts.{IsTable};
+ghost use Rattle.shortest.specs.Contracts.{AreWeights};
 ghost use Rattle.shortest.specs.ShortestPath.{shortestPath};
 
 fn fold(sum: u64, x: u64) -> u64 {
@@ -43,9 +43,9 @@ fn fold_places(sum: u64, places: &[u16], n: usize) -> u64 {
     s
 }
 
-// One path alone: its rows and its column are made for it.
+// One path alone, by the table of weights: its rows and its column are made for it.
 fn one_path(p: Plan, t: &[[u32; 64]; 64], i: usize, j: usize, places: &mut [u16]) -> usize
-    requires { ⌜ WellFormed (planValue p) × IsTable (planValue p) (now t) ⌝ }
+    requires { ⌜ WellFormed (planValue p) × AreWeights (planValue p) (now t) ⌝ }
     requires { ⌜ (i < planValue p .n) × (j < planValue p .n) × (distance (planValue p) i j < noPath) ⌝ }
     requires { ⌜ 0 + length (shortestPath (planValue p) i j) ≤ length (now places) ⌝ }
 {
@@ -59,7 +59,7 @@ fn one_path(p: Plan, t: &[[u32; 64]; 64], i: usize, j: usize, places: &mut [u16]
 
 // The path from i to j, where there is one.
 fn fold_path(sum: u64, p: Plan, t: &[[u32; 64]; 64], i: usize, j: usize) -> u64
-    requires { ⌜ WellFormed (planValue p) × IsTable (planValue p) (now t) × (i < 64) × (j < 64) ⌝ }
+    requires { ⌜ WellFormed (planValue p) × AreWeights (planValue p) (now t) × (i < 64) × (j < 64) ⌝ }
 {
     let n = p.n as usize;
     if i >= n {
@@ -77,7 +77,7 @@ fn fold_path(sum: u64, p: Plan, t: &[[u32; 64]; 64], i: usize, j: usize) -> u64
 }
 
 fn fold_paths_from(sum: u64, p: Plan, t: &[[u32; 64]; 64], i: usize) -> u64
-    requires { ⌜ WellFormed (planValue p) × IsTable (planValue p) (now t) × (i < 64) ⌝ }
+    requires { ⌜ WellFormed (planValue p) × AreWeights (planValue p) (now t) × (i < 64) ⌝ }
 {
     let mut s = sum;
     for j in 0..64 {
@@ -87,7 +87,7 @@ fn fold_paths_from(sum: u64, p: Plan, t: &[[u32; 64]; 64], i: usize) -> u64
 }
 
 fn fold_paths(sum: u64, p: Plan, t: &[[u32; 64]; 64]) -> u64
-    requires { ⌜ WellFormed (planValue p) × IsTable (planValue p) (now t) ⌝ }
+    requires { ⌜ WellFormed (planValue p) × AreWeights (planValue p) (now t) ⌝ }
 {
     let mut s = sum;
     for i in 0..64 {
@@ -137,6 +137,7 @@ pub fn of(p: Plan) -> u64
     let t = shortest::distance::table(p);
     let net = network::network::network_of(p, &t);
     let a = fold_table(0, &t);
-    let b = fold_paths(a, p, &t);
+    let w = shortest::weights::table(p);
+    let b = fold_paths(a, p, &w);
     fold_network(b, net)
 }

@@ -7,16 +7,6 @@ ghost use Rattle.postman.specs.Plan.{IsArc, WellFormed};
 ghost use Rattle.plan.specs.Records.{planValue, arcValue};
 ghost use Rattle.network_test.specs.Copied.{Copied};
 
-// A cost of at least 1.
-fn priced(cost: u16) -> u16
-    ensures { λ r. ⌜ (1 ≤ r) × (r ≤ 65535) ⌝ }
-{
-    if cost == 0 {
-        return 1;
-    }
-    cost
-}
-
 // A required arc is checked at its plain cost; no other arc has a service cost.
 fn implied_service(standing: u8, cost: u16) -> u16
     ensures { λ r. ⌜ r ≤ 65535 ⌝ }
@@ -32,13 +22,12 @@ fn in_range(n: u8, tail: u8, head: u8, standing: u8, cost: u16) -> Arc
     ensures { λ r. ⌜ IsArc n (arcValue r) ⌝ }
 {
     let s = standing % 3;
-    let c = priced(cost);
     Arc {
         tail: tail % n,
         head: head % n,
         standing: s,
-        cost: c,
-        service: implied_service(s, c),
+        cost: cost,
+        service: implied_service(s, cost),
     }
 }
 

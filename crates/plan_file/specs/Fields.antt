@@ -22,6 +22,6 @@ mispriced e must cost service = cond must (eqb service 0) (not (eqb service 0)) 
 abbrev pub fieldConditions : ℕ → ℕ → Fields → Standing → Conditions
 fieldConditions e n f standing =
     (leb n (f .tail) || leb n (f .head), 5)
-    ∷ (eqb (f .cost) 0 || mispriced e (isMustStanding standing) (f .cost) (f .service), 6)
+    ∷ (mispriced e (isMustStanding standing) (f .cost) (f .service), 6)
     ∷ (isRefusedStanding standing, 7)
     ∷ []

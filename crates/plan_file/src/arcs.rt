@@ -100,13 +100,10 @@ fn is_mispriced(edition: u8, must: bool, cost: u32, service: u32) -> bool
     service != implied
 }
 
-// 6 unpriced: "cost 0", or a wrong checking cost
+// 6 unpriced: a wrong checking cost. A plain cost of 0 is good.
 fn price_verdict(edition: u8, must: bool, cost: u32, service: u32) -> Verdict
-    ensures { λ r. ⌜ verdictNumber r ≡ cond (eqb cost 0 || mispriced edition must cost service) (some 6) none ⌝ }
+    ensures { λ r. ⌜ verdictNumber r ≡ cond (mispriced edition must cost service) (some 6) none ⌝ }
 {
-    if cost == 0 {
-        return Verdict::Refused(Refusal::Unpriced);
-    }
     if is_mispriced(edition, must, cost, service) {
         return Verdict::Refused(Refusal::Unpriced);
     }

@@ -166,6 +166,10 @@ fn read_arcs() {
     read(b"tail 2: ", b"\x10\x40\x20\x81\x40\x01\x41\x00\x00\x03");
     read(b"head 2: ", b"\x10\x40\x20\x02\x40\x01\x41\x00\x00\x03");
     read(b"cost 0: ", b"\x10\x40\x20\x01\x40\x01\x41\x00\x00\x00");
+    read(
+        b"cost 0 in the must arc: ",
+        b"\x10\x40\x20\x01\x40\x00\x01\x00\x00\x03",
+    );
     read(b"cost 1: ", b"\x10\x40\x20\x01\x40\x01\x41\x00\x00\x01");
     read(b"cost 65535: ", b"\x10\x40\x20\x01\x40\x01\x41\x00\xff\xff");
     read(b"standing 2: ", b"\x10\x40\x20\x01\x40\x01\x41\x02\x00\x03");
@@ -442,7 +446,14 @@ fn write_arcs() {
         plan_of(2, 2, a, arc_of(0, 1, 3, 0)),
     );
     write_12(b"n 65, cost 0: ", plan_of(65, 2, a, arc_of(0, 1, 0, 0)));
-    write_9(b"cost 0 in 9 bytes: ", plan_of(2, 2, a, arc_of(0, 1, 0, 0)));
+    write_12(
+        b"cost 0 in a must arc: ",
+        plan_of(2, 2, a, arc_of(0, 1, 1, 0)),
+    );
+    write_9(
+        b"cost 0 in a must arc, in 9 bytes: ",
+        plan_of(2, 2, a, arc_of(0, 1, 1, 0)),
+    );
 }
 
 // ---- writing an edition

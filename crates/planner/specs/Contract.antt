@@ -3,7 +3,7 @@ use mathlib.Core.Path.{_≡_}
 use mathlib.Core.List.{List}
 use mathlib.Core.Logic.{_↔_}
 use mathlib.Core.Option.{Option, none, some}
-use Prim.Native.Nat.{ℕ}
+use Prim.Native.Nat.{ℕ, _≤_}
 use lib.ListN.{length, getD, replicate}
 use lib.IntN.{pos}
 use lib.Signed.{_≤ℤ_}
@@ -14,6 +14,7 @@ use Rattle.postman.specs.LagrangianBound.{Multipliers, AreMultipliers, AreGreat
 use Rattle.postman.specs.PlanFile.{planOf}
 use Rattle.postman.specs.PlanCall.{Summary, summary, fields, root, IsAnswerTour, callRefusal, earlierConditions}
 use Rattle.postman.specs.Guarantee.{Guarantee}
+use Rattle.postman.specs.Laws.Optimality.{Plannable}
 use Rattle.circuit.specs.Tour.{written}
 use Rattle.planner.specs.declared.Planned.{Planned}
 use Rattle.refusal.specs.Verdict.{verdictNumber}
@@ -32,9 +33,11 @@ unfoldable pub countUnless : Option ℕ → ℕ → ℕ
 countUnless none n = n
 countUnless (some r) n = 0
 
--- What an answer that is no refusal is: u meets the two conditions, is a function of the plan alone, and gives a bound no lower than the greatest multipliers that are 0 at the lowest required vertex; the
--- written places are a drive of the cost, and DEMAND 3 HOLDS.
+-- What an answer that is no refusal is: some arc is required, every two required vertices are joined, and some tree may be tried; u meets the two conditions, is a function of the plan alone, and gives a
+-- bound no lower than the greatest multipliers that are 0 at the lowest required vertex; the written places are a drive of the cost, and DEMAND 3 HOLDS.
 pub record IsAnswer (p : Plan) (budget : ℕ) (r : Planned) : Type 0 where
+  pub plannable : Plannable p
+  pub some-budget : 1 ≤ budget
   pub multipliers : AreMultipliers p (multipliersOf r)
   pub multipliers-are : r .multipliers ≡ multipliersFor p
   pub above-greatest : (v : Multipliers) → AreGreatest p (root p) v → lagrangianBound p v ≤ℤ lagrangianBound p (multipliersOf r)

@@ -13,3 +13,5 @@ pub mod Refused
 pub mod Call
 pub mod LongFile
 pub mod Answered
+pub mod RaisedBudget
+pub mod SameAnswer

@@ -5,5 +5,8 @@ pub mod Priced
 pub mod Ascent
 pub mod Climbs
 pub mod Contract
+pub mod RaisedBudget
+pub mod SameAnswer
 -- What is proved about them.
 pub mod Laws
+pub mod Theorem

@@ -14,6 +14,7 @@ ghost use lib.ListN.{length};
 ghost use Rattle.postman.specs.Plan.{WellFormed};
 ghost use Rattle.postman.specs.PlanCall.{sheetPlaces, defaultBudget};
 ghost use Rattle.plan.specs.Records.{planValue};
+ghost use Rattle.shortest.specs.Contracts.{AreWeights};
 ghost use Rattle.refusal.specs.Verdict.{verdictNumber};
 ghost use Rattle.planner.specs.Refusals.{networkRefusal, planRefusal, budgetRefusal, sheetRefusal};
 ghost use Rattle.planner.specs.Prepared.{IsMeasured};
@@ -21,7 +22,7 @@ ghost use Rattle.planner.specs.Contract.{IsPlanned, IsPlanCall};
 ghost use Rattle.planner.specs.Laws.Refused.{refusedWith};
 
 // A refusal "returns its number only".
-fn refused(r: Refusal) -> Planned
+pub fn refused(r: Refusal) -> Planned
     ensures { λ a. ⌜ a ≡ refusedWith r ⌝ }
 {
     Planned {
@@ -56,46 +57,49 @@ pub fn network_verdict(components: u8, cut_off: bool) -> Verdict
 fn answer(
     plan: Plan,
     table: &[[u32; 64]; 64],
+    weights: &[[u32; 64]; 64],
     net: Network,
     budget: u32,
     sheet: &mut [u16],
 ) -> Planned
     requires { ⌜ IsMeasured (planValue plan) (now table) net × (networkRefusal (net .components) (net .«cut_off») ≡ none) ⌝ }
-    requires { ⌜ (1 ≤ budget) × (sheetPlaces ≤ length (now sheet)) ⌝ }
+    requires { ⌜ (1 ≤ budget) × (sheetPlaces ≤ length (now sheet)) × AreWeights (planValue plan) (now weights) ⌝ }
     ensures { λ r. ⌜ IsPlanned (planValue plan) budget none (now (sheet .entry)) (now (sheet .exit)) r ⌝ }
 {
     let flags = net.required;
     let v = candidates::vertices_of(flags);
     let list = v.list;
     let n = v.count;
-    solve(plan, table, &list[..n], net, budget, sheet)
+    solve(plan, table, weights, &list[..n], net, budget, sheet)
 }
 
 // 10, 11 and 12, then the answer.
 fn plan_measured(
     plan: Plan,
     table: &[[u32; 64]; 64],
+    weights: &[[u32; 64]; 64],
     net: Network,
     budget: u32,
     sheet: &mut [u16],
 ) -> Planned
-    requires { ⌜ IsMeasured (planValue plan) (now table) net × (1 ≤ budget) × (sheetPlaces ≤ length (now sheet)) ⌝ }
+    requires { ⌜ IsMeasured (planValue plan) (now table) net × (1 ≤ budget) × (sheetPlaces ≤ length (now sheet)) × AreWeights (planValue plan) (now weights) ⌝ }
     ensures { λ r. ⌜ IsPlanned (planValue plan) budget (networkRefusal (net .components) (net .«cut_off»)) (now (sheet .entry)) (now (sheet .exit)) r ⌝ }
 {
     match network_verdict(net.components, net.cut_off) {
         Verdict::Refused(r) => refused(r),
-        Verdict::Accepted => answer(plan, table, net, budget, sheet),
+        Verdict::Accepted => answer(plan, table, weights, net, budget, sheet),
     }
 }
 
-// The distances and the network of a plan that the file's rules let through.
-fn plan_read(plan: Plan, budget: u32, sheet: &mut [u16]) -> Planned
+// The weights, the distances and the network of a plan that is well formed: the file's, or one that is made from it.
+pub fn plan_read(plan: Plan, budget: u32, sheet: &mut [u16]) -> Planned
     requires { ⌜ WellFormed (planValue plan) × (1 ≤ budget) × (sheetPlaces ≤ length (now sheet)) ⌝ }
     ensures { λ r. ⌜ IsPlanned (planValue plan) budget (planRefusal (planValue plan)) (now (sheet .entry)) (now (sheet .exit)) r ⌝ }
 {
-    let table = shortest::distance::table(plan);
+    let weights = shortest::weights::table(plan);
+    let table = shortest::distance::table_of(&weights);
     let net = network::network::network_of(plan, &table);
-    plan_measured(plan, &table, net, budget, sheet)
+    plan_measured(plan, &table, &weights, net, budget, sheet)
 }
 
 // 9, then the rest.

@@ -15,6 +15,7 @@ ghost use Prim.Native.Nat.{_≤_};
 ghost use lib.ListN.{length};
 ghost use Rattle.postman.specs.PlanCall.{sheetPlaces, root};
 ghost use Rattle.plan.specs.Records.{planValue};
+ghost use Rattle.shortest.specs.Contracts.{AreWeights};
 ghost use Rattle.balance.specs.Step.{cell};
 ghost use Rattle.balance.specs.Records.{stateOf};
 ghost use Rattle.balance.specs.Multipliers.{multipliers};
@@ -27,6 +28,7 @@ ghost use Rattle.planner.specs.Contract.{IsPlanned};
 pub(crate) fn finish(
     plan: Plan,
     table: &[[u32; 64]; 64],
+    weights: &[[u32; 64]; 64],
     vs: &[u8],
     net: Network,
     base: Balance,
@@ -36,7 +38,7 @@ pub(crate) fn finish(
     sheet: &mut [u16],
 ) -> Planned
     requires { ⌜ IsBase (planValue plan) (now table) (now vs) (stateOf base) × (greatest ≡ multipliers (cell (now table)) (now vs) (stateOf base) (root (planValue plan))) × (u ≡ multipliersFor (planValue plan)) ⌝ }
-    requires { ⌜ IsNetwork (planValue plan) net × (1 ≤ budget) × (sheetPlaces ≤ length (now sheet)) ⌝ }
+    requires { ⌜ IsNetwork (planValue plan) net × (1 ≤ budget) × (sheetPlaces ≤ length (now sheet)) × AreWeights (planValue plan) (now weights) ⌝ }
     ensures { λ r. ⌜ IsPlanned (planValue plan) budget none (now (sheet .entry)) (now (sheet .exit)) r ⌝ }
 {
     let c = candidates::of_network(net);
@@ -64,7 +66,7 @@ pub(crate) fn finish(
     let ts = s.tails;
     let hs = s.heads;
     let n = k - 1;
-    let places = lay(plan, table, vs, base, &ts[..n], &hs[..n], sheet);
+    let places = lay(plan, table, weights, vs, base, &ts[..n], &hs[..n], sheet);
     let component = net.component;
     let flags = net.required;
     let floor = floor_of(
@@ -95,17 +97,18 @@ pub(crate) fn finish(
 pub(crate) fn solve(
     plan: Plan,
     table: &[[u32; 64]; 64],
+    weights: &[[u32; 64]; 64],
     vs: &[u8],
     net: Network,
     budget: u32,
     sheet: &mut [u16],
 ) -> Planned
     requires { ⌜ IsKnown (planValue plan) (now table) (now vs) ⌝ }
-    requires { ⌜ IsNetwork (planValue plan) net × (1 ≤ budget) × (sheetPlaces ≤ length (now sheet)) ⌝ }
+    requires { ⌜ IsNetwork (planValue plan) net × (1 ≤ budget) × (sheetPlaces ≤ length (now sheet)) × AreWeights (planValue plan) (now weights) ⌝ }
     ensures { λ r. ⌜ IsPlanned (planValue plan) budget none (now (sheet .entry)) (now (sheet .exit)) r ⌝ }
 {
     let base = base_state(plan, table, vs);
     let greatest = multipliers_of(plan, table, vs, base);
     let u = multipliers_for(plan, table, vs, net, base, greatest);
-    finish(plan, table, vs, net, base, greatest, u, budget, sheet)
+    finish(plan, table, weights, vs, net, base, greatest, u, budget, sheet)
 }

@@ -145,6 +145,11 @@ fn cases() {
         b"\x10\x40\x20\x01\x40\x01\x41\x03\x00\x03",
     );
     short(b"G, both: ", b"\x10\x40\x20\x01\x40\x01\x41\x03\x00\x00");
+    // "n 3, a must loop of cost 1 at each vertex, six arcs of cost 0 joining all pairs both ways"
+    short(
+        b"free arcs: ",
+        b"\x10\x60\x90\x00\x40\x00\x41\x05\x00\x01\x08\x24\x00\x04\x00\x40\x00\x00\x02\x00\x00\x01\x00\x00\x00\x04\x20\x00\x00\x20\x00\x00\x00\x81\x00\x00\x00",
+    );
 }
 
 // ---- edition 2: case A with another checking cost, and a drive that passes a must arc twice
@@ -269,8 +274,8 @@ fn extents() {
 fn order() {
     call_short(b"torn, short sheet, budget 0: ", b"\x10\x40", 0);
     call_short(
-        b"cost 0, short sheet: ",
-        b"\x10\x40\x20\x01\x40\x01\x41\x00\x00\x00",
+        b"cost 0 in the must arc, short sheet: ",
+        b"\x10\x40\x20\x01\x40\x00\x01\x00\x00\x03",
         1,
     );
     call_short(

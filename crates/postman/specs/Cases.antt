@@ -1,7 +1,8 @@
--- Document 01's starred cases, the refusal 13, edition 2, and lists that are judged, as rows of one table under one lemma, `cases`. The checker computes each claim from the definitions.
-use mathlib.Core.Path.{_≡_, refl, ap}
+-- Document 01's starred cases, document 02's with free arcs, the refusal 13, edition 2, and lists that are judged, as rows of one table under one lemma, `cases`. The checker computes
+-- each claim from the definitions.
+use mathlib.Core.Path.{_≡_, refl, ap, _∙_}
 use mathlib.Core.Bool.{Bool, true, false, _&&_, Bool·beq}
-use mathlib.Core.List.{List, [], _∷_, map, List·Memᴰ}
+use mathlib.Core.List.{List, [], _∷_, _++_, map, List·Memᴰ}
 use mathlib.Core.Option.{Option, none, some}
 use Prim.Native.Nat.{ℕ}
 use lib.ListN.{length}
@@ -15,10 +16,10 @@ use Rattle.postman.specs.Link.{links}
 use Rattle.postman.specs.Component.{componentCount}
 use Rattle.postman.specs.Arborescence.{arborescenceCount}
 use Rattle.postman.specs.Balancing.{leastBalancing}
-use Rattle.postman.specs.LagrangianBound.{lagrangianBound}
-use Rattle.postman.specs.PlanCall.{sheetPlaces, defaultBudget, callRefusal, isWhole, bestCost}
+use Rattle.postman.specs.LagrangianBound.{Multipliers, lagrangianBound}
+use Rattle.postman.specs.PlanCall.{sheetPlaces, defaultBudget, callRefusal, isWhole, bestCost, lowerBound}
 use Rattle.postman.specs.Judge.{judgeAnswer}
-use Rattle.postman.specs.Laws.Tests.{and-parts}
+use Rattle.postman.specs.Laws.Tests.{and-parts, is-true}
 use Rattle.postman.specs.Laws.Membership.{allOf-at}
 use Rattle.postman.specs.Laws.Repeated.{agree-equal}
 
@@ -36,6 +37,7 @@ pub data Claim : Type 0 where
   boundAtZero : ℕ → Claim
   costAt : ℕ → ℕ → Claim
   wholeAt : ℕ → Bool → Claim
+  floorAt : ℕ → ℕ → Claim
   judged : List ℕ → ℕ → Claim
   fault : List ℕ → ℕ → Claim
 
@@ -51,8 +53,8 @@ refusalOf e p = orZero (callRefusal (fileOf e p) defaultBudget sheetPlaces)
 abbrev writingOf : ℕ → Plan → ℕ
 writingOf e p = orZero (writeRefusal e p (fileLength e (length (p .arcs))))
 
--- The file of an edition, both ways; the refusal in edition 1, and in edition 2; the writer's in an edition; k; the number of links; N; Z; L(0); the cost, and whole, at a
--- budget; the cost that a list of arcs is judged to have in edition 2, and the fault of one.
+-- The file of an edition, both ways; the refusal in edition 1, and in edition 2; the writer's in an edition; k; the number of links; N; Z; L(0); the cost, whole, and the
+-- floor, whatever u is, at a budget; the cost that a list of arcs is judged to have in edition 2, and the fault of one.
 abbrev pub Means : Plan → Claim → Type 0
 Means p (file e bytes) = (fileOf e p ≡ bytes) × (edition bytes ≡ e) × (planOf bytes ≡ p)
 Means p (refusal r) = refusalOf 1 p ≡ r
@@ -65,6 +67,7 @@ Means p (balancing c) = leastBalancing p [] ≡ c
 Means p (boundAtZero l) = lagrangianBound p (λ i. pos 0) ≡ pos l
 Means p (costAt b c) = bestCost p b ≡ c
 Means p (wholeAt b w) = isWhole p b ≡ w
+Means p (floorAt b l) = (u : Multipliers) → lowerBound p b u ≡ pos l
 Means p (judged w c) = judgeAnswer (fileOf 2 p) w ≡ given c
 Means p (fault w r) = judgeAnswer (fileOf 2 p) w ≡ refused r
 
@@ -109,9 +112,15 @@ table =
     ∷ row 8 (loops 8) (refusal 12 ∷ [])
     ∷ row 9 (loops 9) (refusal 11 ∷ [])
     -- G
-    ∷ row 2 (arc 0 1 1 5 ∷ arc 1 0 0 0 ∷ []) (refusal 6 ∷ [])
+    ∷ row 2 (arc 0 1 1 5 ∷ arc 1 0 0 0 ∷ []) (refusal 0 ∷ costAt 10000 5 ∷ [])
     ∷ row 2 (arc 0 1 1 5 ∷ arc 1 0 3 3 ∷ []) (refusal 7 ∷ [])
-    ∷ row 2 (arc 0 1 1 5 ∷ arc 1 0 3 0 ∷ []) (refusal 6 ∷ [])
+    ∷ row 2 (arc 0 1 1 5 ∷ arc 1 0 3 0 ∷ []) (refusal 7 ∷ [])
+    -- free arcs join all pairs of three vertices both ways
+    ∷ row 3 (loops 3 ++ arc 0 1 0 0 ∷ arc 0 2 0 0 ∷ arc 1 0 0 0 ∷ arc 1 2 0 0 ∷ arc 2 0 0 0 ∷ arc 2 1 0 0 ∷ [])
+    (refusal 0 ∷ linkCount 4 ∷ trees 1 ∷ costAt 10000 3 ∷ floorAt 10000 3 ∷ [])
+    -- a must arc of cost 0, in edition 1; in edition 2 its first pass has a price, and a closed arc may be free
+    ∷ row 2 (arc 0 1 1 0 ∷ arc 1 0 0 3 ∷ []) (refusal 6 ∷ [])
+    ∷ row 2 (arc2 0 1 1 0 4 ∷ arc2 1 0 0 0 0 ∷ arc2 0 0 2 0 0 ∷ []) (refusal2 0 ∷ writing 1 6 ∷ costAt 10000 4 ∷ [])
     -- A with its first arc typed in twice, and with one that differs from it in cost
     ∷ row 2 (arc 0 1 1 5 ∷ arc 1 0 0 3 ∷ arc 0 1 1 5 ∷ []) (refusal 13 ∷ [])
     ∷ row 2 (arc 0 1 1 5 ∷ arc 1 0 0 3 ∷ arc 0 1 1 6 ∷ []) (refusal 0 ∷ costAt 10000 17 ∷ [])
@@ -170,6 +179,7 @@ holds p (balancing c) = eqb (leastBalancing p []) c
 holds p (boundAtZero l) = isPos (lagrangianBound p (λ i. pos 0)) l
 holds p (costAt b c) = eqb (bestCost p b) c
 holds p (wholeAt b w) = Bool·beq (isWhole p b) w
+holds p (floorAt b l) = isWhole p b && eqb (bestCost p b) l
 holds p (judged w c) = sameAnswer (judgeAnswer (fileOf 2 p) w) (given c)
 holds p (fault w r) = sameAnswer (judgeAnswer (fileOf 2 p) w) (refused r)
 
@@ -221,6 +231,10 @@ same-answer (given x) (refused r) t = absurd t
 same-answer (refused r) (given y) t = absurd t
 same-answer (refused r) (refused q) t = ap refused (eqb→eq r q t)
 
+whole-floor : (p : Plan) (b : ℕ) (u : Multipliers) → isWhole p b ≡ true → lowerBound p b u ≡ pos (bestCost p b)
+unfolding lowerBound
+whole-floor p b u e = rw e
+
 sound : (p : Plan) (c : Claim) → T (holds p c) → Means p c
 unfolding holds
 sound p (file e bytes) t =
@@ -237,6 +251,7 @@ sound p (balancing c) t = eqb→eq (leastBalancing p []) c t
 sound p (boundAtZero l) t = is-pos (lagrangianBound p (λ i. pos 0)) l t
 sound p (costAt b c) t = eqb→eq (bestCost p b) c t
 sound p (wholeAt b w) t = same-truth (isWhole p b) w t
+sound p (floorAt b l) t = λ u. (let h = and-parts (isWhole p b) (eqb (bestCost p b) l) t in whole-floor p b u (is-true (h .0)) ∙ ap pos (eqb→eq (bestCost p b) l (h .1)))
 sound p (judged w c) t = same-answer (judgeAnswer (fileOf 2 p) w) (given c) t
 sound p (fault w r) t = same-answer (judgeAnswer (fileOf 2 p) w) (refused r) t
 

@@ -2,12 +2,15 @@
 pub mod Tests
 pub mod Membership
 pub mod Below
+pub mod Selection
+pub mod Lists
 pub mod Minimum
 pub mod Pick
 pub mod Occurrences
 pub mod Distinct
 pub mod Sum
 pub mod Distance
+pub mod FewestPath
 pub mod Assignment
 pub mod Amounts
 pub mod Required
@@ -16,6 +19,7 @@ pub mod Walk
 pub mod Ascending
 pub mod Component
 pub mod Link
+pub mod Pairs
 pub mod Existence
 pub mod Iteration
 pub mod Route
@@ -38,3 +42,4 @@ pub mod Optimality
 pub mod Search
 pub mod TreeCount
 pub mod Judge
+pub mod Windows

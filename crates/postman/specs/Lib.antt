@@ -7,6 +7,7 @@ pub mod PlanFile
 pub mod Tour
 pub mod Required
 pub mod Distance
+pub mod FewestPath
 pub mod Link
 pub mod Component
 pub mod Arborescence
@@ -17,6 +18,7 @@ pub mod TreeCount
 pub mod Guarantee
 pub mod DistanceCall
 pub mod Judge
+pub mod Windows
 -- What is proved about them.
 pub mod Laws
 pub mod Theorem

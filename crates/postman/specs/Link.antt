@@ -1,6 +1,7 @@
--- "Thinning: a pair i≠j of required vertices is dropped when some required k, other than both, has d(i,j) = d(i,k) + d(k,j). […] The pairs left are links."
-use mathlib.Core.Bool.{Bool, not, _&&_}
-use mathlib.Core.List.{List, map, flatMap}
+-- Thinning, in document 02's words: it "goes through the pairs by (tail, head), one at a time. A pair is dropped exactly if, for some k, both pairs that add up to it are still
+-- held." Document 01: the pairs are those i≠j of required vertices, and "the pairs left are links".
+use mathlib.Core.Bool.{Bool, not, cond, _&&_}
+use mathlib.Core.List.{List, [], _∷_, map, flatMap}
 use Prim.Native.Nat.{ℕ, _+_}
 use lib.Dec.{eqb}
 use Rattle.postman.specs.Lists.{select, anyOf}
@@ -12,20 +13,39 @@ pub record Link : Type 0 where
   pub tail : ℕ
   pub head : ℕ
 
--- All pairs of the vertices vs, ascending by (tail, head) where vs ascends.
+-- All pairs of the vertices vs, ascending by (tail, head) where vs ascends; and the pairs i≠j of required vertices.
 unfoldable pub pairs : List ℕ → List Link
 unfolding flatMap
 pairs vs = flatMap (λ i. map (λ j. record { tail = i; head = j }) vs) vs
 
-unfoldable pub isVia : Plan → Link → ℕ → Bool
-unfolding distance
-isVia p l k =
-    not (eqb k (l .tail)) && not (eqb k (l .head)) && eqb (distance p (l .tail) (l .head)) (distance p (l .tail) k + distance p k (l .head))
+unfoldable pub properPairs : Plan → List Link
+unfolding select pairs required
+properPairs p = select (λ l. not (eqb (l .tail) (l .head))) (pairs (required p))
 
-unfoldable pub isLink : Plan → Link → Bool
-unfolding isVia anyOf required
-isLink p l = not (eqb (l .tail) (l .head)) && not (anyOf (isVia p l) (required p))
+-- Whether l is the pair (i, j); whether (i, j) is one of the pairs held.
+abbrev pub joins : ℕ → ℕ → Link → Bool
+joins i j l = eqb (l .tail) i && eqb (l .head) j
+
+unfoldable pub isHeld : List Link → ℕ → ℕ → Bool
+unfolding anyOf
+isHeld held i j = anyOf (joins i j) held
+
+-- The pairs (i, k) and (k, j) are held, and d(i,j) = d(i,k) + d(k,j). Only pairs of distinct required vertices are ever held, so k is required, and other than both ends.
+unfoldable pub isVia : Plan → List Link → Link → ℕ → Bool
+unfolding isHeld distance
+isVia p held l k =
+    isHeld held (l .tail) k && isHeld held k (l .head) && eqb (distance p (l .tail) (l .head)) (distance p (l .tail) k + distance p k (l .head))
+
+-- The pairs held once l has had its turn; and once the pairs ls have had theirs, one after the other.
+unfoldable pub turn : Plan → List Link → Link → List Link
+unfolding anyOf isVia required select
+turn p held l = cond (anyOf (isVia p held l) (required p)) (select (λ m. not (joins (l .tail) (l .head) m)) held) held
+
+unfoldable pub thinned : Plan → List Link → List Link → List Link
+unfolding turn
+thinned p held [] = held
+thinned p held (l ∷ ls) = thinned p (turn p held l) ls
 
 unfoldable pub links : Plan → List Link
-unfolding select isLink pairs required
-links p = select (isLink p) (pairs (required p))
+unfolding thinned properPairs
+links p = thinned p (properPairs p) (properPairs p)

@@ -41,12 +41,11 @@ unfolding select below
 requiredNumbers p = select (λ k. isRequiredArc (arcAt (p .arcs) k)) (below (length (p .arcs)))
 
 -- What the layers above the plan file ask of an arc, and of a plan. `Laws.Acceptance`: a plan that was read, or that is written, is well formed. A plan that is made from
--- another may be well formed and yet refused as a file: nothing is asked of which arcs have a service cost.
+-- another may be well formed and yet refused as a file: nothing is asked of which arcs have a service cost. An arc of any standing may be free.
 pub record IsArc (n : ℕ) (a : Arc) : Type 0 where
   pub tail-in : a .tail < n
   pub head-in : a .head < n
   pub standing-in : a .standing ≤ 2
-  pub priced : 1 ≤ a .cost
   pub cost-in : a .cost ≤ 65535
   pub service-in : a .service ≤ 65535
 

@@ -14,6 +14,7 @@ use Rattle.postman.specs.PlanFile.{fileConditions, isOutside, planOf}
 use Rattle.postman.specs.Tour.{tourCost, IsTour}
 use Rattle.postman.specs.Required.{required}
 use Rattle.postman.specs.Distance.{hasPath}
+use Rattle.postman.specs.FewestPath.{IsLaid}
 use Rattle.postman.specs.Link.{Link}
 use Rattle.postman.specs.Component.{componentCount}
 use Rattle.postman.specs.Arborescence.{arborescences, arborescenceCount}
@@ -38,15 +39,24 @@ unfoldable pub isCutOff : Plan → Bool
 unfolding anyOf required hasPath
 isCutOff p = anyOf (λ i. anyOf (λ j. not (hasPath p i j)) (required p)) (required p)
 
--- "then 8 to 12". 9 budget: "0 or above 1,000,000"; 10 idle: "no must arc"; 11 scattered: "more than 8 parts". The conditions but for the last:
+-- "then 8 to 12". 9 budget: "0 or above 1,000,000"; 10 idle: "no must arc"; 11 scattered: "more than 8 parts". Of the budget and the sheet, and of a plan:
+unfoldable pub callConditions : ℕ → ℕ → Conditions
+unfolding sheetPlaces isOutside highestBudget
+callConditions budget places = (ltb places sheetPlaces, 8) ∷ (isOutside budget 1 highestBudget, 9) ∷ []
+
+unfoldable pub partsConditions : Plan → Conditions
+unfolding requiredArcs componentCount
+partsConditions p = (eqb (length (requiredArcs p)) 0, 10) ∷ (ltb 8 (componentCount p), 11) ∷ []
+
+-- The conditions of a call but for the last, where the call has conditions of its own between 9 and 10, and p is the plan that it speaks of:
+unfoldable pub conditionsBefore : List ℕ → ℕ → ℕ → Conditions → Plan → Conditions
+unfolding fileConditions callConditions partsConditions
+conditionsBefore bytes budget places own p = fileConditions bytes ++ (callConditions budget places ++ (own ++ partsConditions p))
+
+-- The plan call has none, and speaks of the file's plan.
 unfoldable pub earlierConditions : List ℕ → ℕ → ℕ → Conditions
-unfolding fileConditions sheetPlaces isOutside highestBudget requiredArcs componentCount planOf
-earlierConditions bytes budget places =
-    fileConditions bytes
-    ++ (ltb places sheetPlaces, 8)
-    ∷ (isOutside budget 1 highestBudget, 9)
-    ∷ (eqb (length (requiredArcs (planOf bytes))) 0, 10)
-    ∷ (ltb 8 (componentCount (planOf bytes)), 11) ∷ []
+unfolding conditionsBefore planOf
+earlierConditions bytes budget places = conditionsBefore bytes budget places [] (planOf bytes)
 
 unfoldable pub callRefusal : List ℕ → ℕ → ℕ → Option ℕ
 unfolding firstRefusal earlierConditions isCutOff planOf
@@ -109,10 +119,12 @@ unfoldable pub root : Plan → ℕ
 unfolding required
 root p = getD (required p) 0 0
 
--- "The written places are a drive of that cost whose first arc is the lowest must arc; which such drive, of at most 17,266 places, is free."
+-- "The written places are a drive of that cost whose first arc is the lowest must arc; which such drive, of at most 17,266 places, is free." Its legs follow the paths of
+-- fewest arcs.
 pub record IsAnswerTour (p : Plan) (budget : ℕ) (w : List ℕ) : Type 0 where
   pub tour : IsTour p w
   pub costs : tourCost p w ≡ bestCost p budget
   pub nonempty : 0 < length w
   pub first : getD w 0 0 ≡ getD (requiredNumbers p) 0 0
   pub short : length w ≤ sheetPlaces
+  pub laid : IsLaid p w

@@ -86,17 +86,17 @@ unfoldable pub extentConditions : ℕ → ℕ → Conditions
 unfolding isOutside
 extentConditions n m = (isOutside n 1 64 || isOutside m 1 256, 3) ∷ []
 
--- A checking cost "is 1 to 65,535 for must arcs and 0 for others"; and in edition 1 it is the implied one.
+-- A checking cost "is 1 to 65,535 for must arcs and 0 for others"; and in edition 1 it is the implied one, so that there a must arc of cost 0 has none.
 unfoldable pub isMispriced : ℕ → Arc → Bool
 unfolding impliedService
 isMispriced e a =
     cond (isRequiredArc a) (eqb (a .service) 0) (not (eqb (a .service) 0))
     || (not (isSecond e) && not (eqb (a .service) (impliedService (a .standing) (a .cost))))
 
--- 5 off sheet: "tail or head is n or more"; 6 unpriced: "cost 0", or a checking cost as above; 7 standing: "standing above 2"
+-- 5 off sheet: "tail or head is n or more"; 6 unpriced: a checking cost as above ("plain cost 0 becomes good in both editions"); 7 standing: "standing above 2"
 unfoldable pub arcConditions : ℕ → ℕ → Arc → Conditions
 unfolding isMispriced
-arcConditions e n a = (leb n (a .tail) || leb n (a .head), 5) ∷ (eqb (a .cost) 0 || isMispriced e a, 6) ∷ (ltb 2 (a .standing), 7) ∷ []
+arcConditions e n a = (leb n (a .tail) || leb n (a .head), 5) ∷ (isMispriced e a, 6) ∷ (ltb 2 (a .standing), 7) ∷ []
 
 -- "then arc by arc 5, 6, 7"
 unfoldable pub arcsConditions : ℕ → Plan → Conditions

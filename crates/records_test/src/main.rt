@@ -188,8 +188,8 @@ fn read_cases() {
         4,
     );
     read(
-        b"cost 0 in arc 1, into 1: ",
-        b"\x10\x40\x20\x01\x40\x01\x41\x00\x00\x00",
+        b"cost 0 in the must arc, into 1: ",
+        b"\x10\x40\x20\x01\x40\x00\x01\x00\x00\x03",
         1,
     );
     read(
@@ -311,7 +311,12 @@ fn write_cases() {
         list_of(arc_of(0, 1, 3, 1), arc_of(2, 0, 0, 1)),
         2,
     );
-    write_9(b"cost 0 in 9 bytes: ", 2, list_of(a, arc_of(1, 0, 0, 0)), 2);
+    write_9(
+        b"cost 0 in a must arc, in 9 bytes: ",
+        2,
+        list_of(a, arc_of(1, 0, 1, 0)),
+        2,
+    );
     write_12(
         b"a fault in a record from m on: ",
         2,

@@ -22,6 +22,8 @@ pub enum Refusal {
     Unjoined,
     Missed,
     StrayPair,
+    BadWindow,
+    MustShut,
 }
 
 // The number of a refusal.
@@ -46,6 +48,8 @@ pub fn refusal_number(r: Refusal) -> u8
         Refusal::Unjoined => 15,
         Refusal::Missed => 16,
         Refusal::StrayPair => 17,
+        Refusal::BadWindow => 19,
+        Refusal::MustShut => 20,
     }
 }
 

@@ -1,9 +1,11 @@
 -- What is proved about the definitions.
 pub mod LastArc
+pub mod Weight
 pub mod Outside
 pub mod Relaxation
 pub mod Rank
 pub mod FirstNumber
+pub mod CheapestPath
 pub mod ShortestPath
 pub mod PathWriting
 pub mod Lookup

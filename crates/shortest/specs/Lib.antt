@@ -1,4 +1,5 @@
--- Rows of distances by relaxing arcs, and the path that a table of distances gives.
+-- Weights of arcs, rows of least weights by relaxing arcs, and the path that a column of them gives.
+pub mod Weight
 pub mod Relaxation
 pub mod ShortestPath
 pub mod Contracts

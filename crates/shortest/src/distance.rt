@@ -1,97 +1,65 @@
-// Distances of a plan: rows by rounds of relaxing, and the table of all rows.
-use plan::Arc;
+// Distances of a plan: a 64th of the least weights, rounded down.
+use crate::weights;
 use plan::Plan;
 ghost use mathlib.Core.Path.{_≡_};
-ghost use mathlib.Core.Bool.{true};
-ghost use Prim.Native.Nat.{ℕ, _<_};
-ghost use lib.ListN.{getD};
+ghost use Prim.Native.Nat.{_<_};
 ghost use Rattle.postman.specs.Plan.{WellFormed};
-ghost use Rattle.plan.specs.Records.{planValue, arcValue};
-ghost use Rattle.shortest.specs.Relaxation.{weight as «arc-weight», shorter as «capped-sum», relaxArcs};
-ghost use Rattle.shortest.specs.Contracts.{IsRow, IsTable};
+ghost use Rattle.plan.specs.Records.{planValue};
+ghost use Rattle.shortest.specs.Weight.{unweighted};
+ghost use Rattle.shortest.specs.Contracts.{IsRow, IsTable, AreCosts, AreTableCosts};
 
 // "4,294,967,295 stands for no path".
 const NO_PATH: u32 = 4294967295;
 
-// What an arc adds to a path: a closed arc leads nowhere.
-fn weight(a: Arc) -> u32
-    ensures { λ r. ⌜ r ≡ «arc-weight» (arcValue a) ⌝ }
+// The cost of a lightest path, by its weight.
+fn cost_of(weight: u32) -> u32
+    ensures { λ r. ⌜ r ≡ unweighted weight ⌝ }
 {
-    if plan::is_open(a) {
-        a.cost as u32
+    if weight < NO_PATH {
+        weight / 64
     } else {
         NO_PATH
     }
 }
 
-// The least of c and a + b. The sum is formed only where it stays below "no path".
-fn shorter(a: u32, b: u32, c: u32) -> u32
-    ensures { λ r. ⌜ r ≡ «capped-sum» a b c ⌝ }
+// The costs by a row of weights.
+fn row_of(weights: [u32; 64]) -> [u32; 64]
+    ensures { λ r. ⌜ AreCosts weights r ⌝ }
 {
-    if a < NO_PATH - b {
-        if a + b < c {
-            return a + b;
-        }
-    }
-    c
-}
-
-// Each arc of the plan relaxed once.
-fn round(plan: Plan, row: [u32; 64]) -> [u32; 64]
-    requires { ⌜ WellFormed (planValue plan) ⌝ }
-    ensures { λ r. ⌜ r ≡ relaxArcs (planValue plan .arcs) row ⌝ }
-{
-    let mut next = row;
-    let m = plan.m as usize;
-    for k in 0..m {
-        let a = plan.arcs[k];
-        let t = a.tail as usize;
-        let h = a.head as usize;
-        next[h] = shorter(next[t], weight(a), next[h]);
-    }
-    next
-}
-
-// Whether two rows are equal.
-fn same(a: &[u32; 64], b: &[u32; 64]) -> bool
-    ensures { λ r. ⌜ (r ≡ true → (j : ℕ) → j < 64 → getD (now (a .entry)) j 0 ≡ getD (now (b .entry)) j 0) ⌝ }
-    ensures { λ r. ⌜ (((j : ℕ) → j < 64 → getD (now (a .entry)) j 0 ≡ getD (now (b .entry)) j 0) → r ≡ true) ⌝ }
-{
+    let mut costs = [0u32; 64];
     for j in 0..64 {
-        if a[j] != b[j] {
-            return false;
-        }
+        costs[j] = cost_of(weights[j]);
     }
-    true
+    costs
 }
 
-// The distances from one vertex. Rounds of relaxing every arc, until one changes nothing; n − 1 are enough.
+// The distances from one vertex.
 pub fn row(plan: Plan, source: usize) -> [u32; 64]
     requires { ⌜ WellFormed (planValue plan) × (source < 64) ⌝ }
     ensures { λ r. ⌜ IsRow (planValue plan) source r ⌝ }
 {
-    let mut now = [NO_PATH; 64];
-    now[source] = 0;
-    let n = plan.n;
-    for k in 1..n {
-        let next = round(plan, now);
-        if same(&next, &now) {
-            return now;
-        }
-        now = next;
-    }
-    now
+    let found = weights::row(plan, source);
+    row_of(found)
 }
 
-// "The table is 64 rows of 64."
+// "The table is 64 rows of 64", by the table of weights.
+pub fn table_of(weights: &[[u32; 64]; 64]) -> [[u32; 64]; 64]
+    ensures { λ r. ⌜ AreTableCosts (now (weights .entry)) r ⌝ }
+{
+    let mut t = [[0u32; 64]; 64];
+    for i in 0..64 {
+        let found = weights[i];
+        let r = row_of(found);
+        t[i] = r;
+    }
+    t
+}
+
+// The same, of a plan.
 pub fn table(plan: Plan) -> [[u32; 64]; 64]
     requires { ⌜ WellFormed (planValue plan) ⌝ }
     ensures { λ r. ⌜ IsTable (planValue plan) r ⌝ }
 {
-    let mut t = [[0u32; 64]; 64];
-    for i in 0..64 {
-        let r = row(plan, i);
-        t[i] = r;
-    }
-    t
+    let found = weights::table(plan);
+    table_of(&found)
 }

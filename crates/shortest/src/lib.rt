@@ -1,3 +1,4 @@
 // Distances and shortest paths of a plan.
+pub mod weights; // the table of least weights: cost first, then the number of arcs
 pub mod distance; // the table of distances
 pub mod path; // the arcs of a shortest path

@@ -1,8 +1,8 @@
-// The arcs of a shortest path, looked up among lent rows: those of the arcs, and one column of distances, to the vertex that the path leads to.
+// The arcs of a shortest path, looked up among lent rows: those of the arcs, and one column of weights, to the vertex that the path leads to.
 ghost use mathlib.Core.Path.{_≡_};
 ghost use mathlib.Core.Bool.{_&&_};
 ghost use mathlib.Core.List.{[]};
-ghost use Prim.Native.Nat.{ℕ, _+_, _<_, _≤_};
+ghost use Prim.Native.Nat.{ℕ, _+_, _*_, _<_, _≤_};
 ghost use lib.Dec.{eqb, ltb};
 ghost use lib.ListN.{length, getD};
 ghost use Rattle.postman.specs.Plan.{WellFormed};
@@ -11,11 +11,11 @@ ghost use Rattle.plan.specs.Rows.{planIn};
 ghost use Rattle.shortest.specs.ShortestPath.{nextIn, shortestPath};
 ghost use Rattle.shortest.specs.Contracts.{IsColumn, overwrite};
 
-// Whether an arc is open, leaves v, and leads on at just the cost that is left.
+// Whether an arc is open, leaves v, and leads on at just the weight that is left.
 fn leads(tail: u16, standing: u16, cost: u16, v: usize, after: u32, left: u32) -> bool
-    ensures { λ r. ⌜ r ≡ (ltb standing 2 && eqb tail v && eqb (cost + after) left) ⌝ }
+    ensures { λ r. ⌜ r ≡ (ltb standing 2 && eqb tail v && eqb (64 * cost + 1 + after) left) ⌝ }
 {
-    standing < 2 && tail as usize == v && cost as u64 + after as u64 == left as u64
+    standing < 2 && tail as usize == v && 64 * cost as u64 + 1 + after as u64 == left as u64
 }
 
 fn wide(x: u16) -> usize
@@ -24,7 +24,7 @@ fn wide(x: u16) -> usize
     x as usize
 }
 
-// The lowest numbered arc with which a cheapest path from v begins, to the vertex of the column.
+// The lowest numbered arc with which a lightest path from v begins, to the vertex of the column.
 fn next_arc(arcs: &[[u16; 5]], column: &[u32], v: usize) -> usize
     requires { ⌜ WellFormed (planIn (length (now column)) (now arcs)) × (v < length (now column)) ⌝ }
     ensures { λ r. ⌜ r ≡ nextIn (now (arcs .entry)) (now (column .entry)) v ⌝ }
@@ -38,7 +38,7 @@ fn next_arc(arcs: &[[u16; 5]], column: &[u32], v: usize) -> usize
     arcs.len()
 }
 
-// Writes the arcs of the cheapest path from i to j into the places from `at` on, and answers the place after them.
+// Writes the arcs of the path of fewest arcs from i to j into the places from `at` on, and answers the place after them.
 pub fn path(
     arcs: &[[u16; 5]],
     column: &[u32],
@@ -64,7 +64,7 @@ pub fn path(
     to
 }
 
-// The column of the distances to j, out of lent rows of the table.
+// The column of the weights to j, out of lent rows of their table.
 pub fn column_to(table: &[[u32; 64]], j: usize) -> [u32; 64]
     requires { ⌜ (length (now table) ≤ 64) × (j < 64) ⌝ }
     ensures { λ r. ⌜ (length r ≡ 64) × ((i : ℕ) → i < length (now (table .entry)) → getD r i 0 ≡ getD (getD (now (table .entry)) i []) j 0) ⌝ }

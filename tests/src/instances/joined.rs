@@ -5,21 +5,41 @@ use crate::plan::{Arc, Plan, MOST_PARTS, MOST_VERTICES, OPTIONAL, REQUIRED};
 /// How many links lead from part p into part q, at \[q\]\[p\].
 pub type Entries = [[usize; MOST_PARTS]; MOST_PARTS];
 
-/// Vertices of a part.
-const SIZE: usize = 6;
+/// Vertices of part 0 that entries leave.
+const TAILS: usize = 8;
 
-/// A plan with these entries, at most 36 from one part into another, and none into part 0 but one from each other. Each part is a ring of six required arcs. All arcs cost 1 and all
-/// vertices are required, so that the pairs with an arc are the links: any other way has a required vertex on it.
+/// The vertices of part q that entries reach and leave: two at least, so that two rows of heads serve any two parts.
+fn size(entries: &Entries, q: usize) -> usize {
+    match q {
+        0 => TAILS,
+        _ => entries[q].iter().enumerate().map(|(p, e)| e.div_ceil(if p == 0 { TAILS } else { 2 })).max().unwrap_or(0).max(2),
+    }
+}
+
+/// A plan with these entries, at least one from part 0 into each other. Each part is a gate and vertices around it, an arc of cost 1 each way between them; and so is the highest vertex,
+/// which is in part 0, joined to all gates. An entry leads from a vertex that is no gate to another and costs 2, where the way over the highest vertex costs 4, and no other way costs less. The
+/// pairs with that vertex are the last of their row and of all, so that every pair between parts that is no arc is dropped by it: the arcs between parts are the links.
 pub fn joined(entries: &Entries) -> Plan {
-    let ring = |p: usize| (0..SIZE).map(move |i| Arc::new(p * SIZE + i, p * SIZE + (i + 1) % SIZE, REQUIRED, 1));
-    let mut arcs: Vec<Arc> = (0..MOST_PARTS).flat_map(ring).collect();
-    arcs.extend((1..MOST_PARTS).map(|p| Arc::new(p * SIZE, 0, OPTIONAL, 1)));
+    let sizes: [usize; MOST_PARTS] = std::array::from_fn(|q| size(entries, q));
+    let gate = |q: usize| sizes[..q].iter().sum::<usize>() + q;
+    let hub = gate(MOST_PARTS);
+    let mut arcs = vec![Arc::new(0, hub, REQUIRED, 1), Arc::new(hub, 0, OPTIONAL, 1)];
     for (q, row) in entries.iter().enumerate() {
+        for v in gate(q) + 1..gate(q + 1) {
+            arcs.extend([Arc::new(gate(q), v, REQUIRED, 1), Arc::new(v, gate(q), OPTIONAL, 1)]);
+        }
+        if q > 0 {
+            arcs.extend([Arc::new(gate(q), hub, OPTIONAL, 1), Arc::new(hub, gate(q), OPTIONAL, 1)]);
+        }
         for (p, &count) in row.iter().enumerate() {
-            arcs.extend((0..count).map(|i| Arc::new(p * SIZE + i % SIZE, q * SIZE + i / SIZE, OPTIONAL, 1)));
+            // One entry from part 0 is the highest vertex's.
+            let count = if p == 0 && q > 0 { count - 1 } else { count };
+            arcs.extend((0..count).map(|i| {
+                Arc::new(gate(p) + 1 + i % sizes[p], gate(q) + 1 + i / sizes[p], OPTIONAL, 2)
+            }));
         }
     }
-    Plan::new(MOST_PARTS * SIZE, arcs)
+    Plan::new(hub + 1, arcs)
 }
 
 /// All parts are entered from part 0 alone: the product of the entries is the number of trees.

@@ -117,6 +117,19 @@ pub fn mutants() -> Vec<Mutant<dyn Planner>> {
         Ok(a)
     });
 
+    // what a raised budget buys
+    add("multipliers by the budget", &[RaisedBudget], |p, b, s| {
+        let mut a = right(p, b, s)?;
+        Graph::new(&parse(p)).required.iter().for_each(|&v| a.multipliers[v] += (b % 7) as i64);
+        Ok(a)
+    });
+    add("a floor that falls", &[RaisedBudget], |p, b, s| {
+        right(p, b, s).map(|a| Answer { floor: a.floor - (b / 2).min(a.floor), ..a })
+    });
+    add("another drive where the budget is not used up", &[RaisedBudget], |p, b, s| {
+        right(p, b, s).inspect(|a| s[..a.places].rotate_left((b - a.trees) as usize % a.places))
+    });
+
     // the drive
     add("drive turned by one place", &[FirstArc], |p, b, s| right(p, b, s).inspect(|a| s[..a.places].rotate_left(1)));
     add("last arc forgotten", &[Drive], |p, b, s| {

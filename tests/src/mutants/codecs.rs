@@ -152,6 +152,21 @@ pub fn mutants() -> Vec<Mutant<dyn Codec>> {
             result => result,
         }),
         mutant(
+            "free arcs not read",
+            &[Reading, Stated],
+            |b, r| match Yardstick.read(b, &mut r.to_vec()) {
+                Ok(_) if parse(b).arcs.iter().any(|a| a.cost == 0) => Err(refusal::UNPRICED),
+                _ => Yardstick.read(b, r),
+            },
+            write,
+        ),
+        mutant("free arcs not written", &[Writing, Stated], read, |e, n, r, b| {
+            match Yardstick.write(e, n, r, &mut b.to_vec()) {
+                Ok(_) if r.iter().any(|a| a.cost == 0) => Err(refusal::UNPRICED),
+                _ => Yardstick.write(e, n, r, b),
+            }
+        }),
+        mutant(
             "edition 2 read with arcs of 30 bits",
             &[Reading, Stated],
             |b, r| match b {

@@ -4,7 +4,7 @@ use super::Mutant;
 use crate::plan::{Arc, Plan, CLOSED, MOST_VERTICES, OPTIONAL, REQUIRED};
 use crate::planner::Planner;
 use crate::properties::Property::{self, *};
-use crate::yardstick::{distances, shortest_path, Balance, Components, Distances, Entries, Lengths, Steps, NO_PATH};
+use crate::yardstick::{costs, distances, shortest_path, Balance, Components, Distances, Entries, Lengths, Steps, NO_PATH};
 
 /// Defines wrong planners, and lists them with their names and the properties that they violate.
 macro_rules! wrong_steps {
@@ -63,6 +63,13 @@ wrong_steps! {
         }
     }
 
+    // Document 01's thinning: where free arcs make a circle, all links go.
+    DroppedByDroppedPairs violates [Trees, Whole, Stated] {
+        fn serves(&self, _held: bool) -> bool {
+            true
+        }
+    }
+
     LinksByHeadThenTail violates [LeastCost] {
         fn link_order(&self, tail: usize, head: usize) -> (usize, usize) {
             (head, tail)
@@ -88,10 +95,24 @@ wrong_steps! {
     }
 
     OneArcForALeg violates [Drive] {
-        fn path(&self, plan: &Plan, d: &Distances, i: usize, j: usize) -> Vec<u16> {
-            let mut path = shortest_path(plan, d, |a| self.length(a), i, j);
+        fn path(&self, plan: &Plan, weights: &Distances, i: usize, j: usize) -> Vec<u16> {
+            let mut path = shortest_path(plan, weights, |a| self.weight(a), i, j);
             path.truncate(1);
             path
+        }
+    }
+
+    LowestFirstArcOfAnyCheapestPath violates [FewestArcs] {
+        fn path(&self, plan: &Plan, weights: &Distances, i: usize, j: usize) -> Vec<u16> {
+            shortest_path(plan, &costs(weights), |a| self.length(a), i, j)
+        }
+    }
+
+    HighestNumberAmongEquals violates [FewestArcs] {
+        fn path(&self, plan: &Plan, weights: &Distances, i: usize, j: usize) -> Vec<u16> {
+            let last = plan.arcs.len() - 1;
+            let turned = Plan { arcs: plan.arcs.iter().rev().copied().collect(), ..plan.clone() };
+            shortest_path(&turned, weights, |a| self.weight(a), i, j).iter().map(|k| last as u16 - k).collect()
         }
     }
 

@@ -57,12 +57,12 @@ pub fn is_long_enough(bytes: &[u8]) -> bool {
     bits.len() >= 24 && bits.len() >= bit_length(number(&bits[..4]) as u8, number(&bits[11..20]))
 }
 
-/// Whether cost and checking cost are good ones: the first in any arc, the second in a must arc and in no other, and in edition 1 no other than the first.
+/// Whether the checking cost is a good one: there is one in a must arc and in no other, and in edition 1 it is the cost. A plain cost of 0 is good.
 fn is_priced(edition: u8, a: &Arc) -> bool {
     match (edition, a.standing == 1) {
-        (_, false) => a.cost > 0 && a.service == 0,
-        (1, true) => a.cost > 0 && a.service == a.cost,
-        (_, true) => a.cost > 0 && a.service > 0,
+        (_, false) => a.service == 0,
+        (1, true) => a.service > 0 && a.service == a.cost,
+        (_, true) => a.service > 0,
     }
 }
 

@@ -1,6 +1,7 @@
 //! d, parts, links and D, from their definitions; and the judge of a drive.
 
 use crate::plan::{Plan, CLOSED, REQUIRED};
+use std::collections::BTreeSet;
 
 /// No path. A sum of two is still a number, and no sum of costs comes near.
 pub const INFINITE: u64 = 1 << 40;
@@ -34,9 +35,7 @@ impl Graph {
 
         let d = distances(plan);
         let (part, parts) = parts(n, &required, &ends);
-        let is_between = |i: usize, j: usize, k: usize| k != i && k != j && d[i][j] == d[i][k] + d[k][j];
-        let links =
-            pairs(&required).filter(|&(i, j)| i != j && !required.iter().any(|&k| is_between(i, j, k))).collect();
+        let links = thinned(&d, &required);
         let count = |v: usize, f: fn(&(usize, usize)) -> usize| ends.iter().filter(|e| f(e) == v).count() as i64;
         let imbalance = (0..n).map(|v| count(v, |e| e.1) - count(v, |e| e.0)).collect();
         let required_cost = required_arcs.iter().map(|&k| u64::from(plan.arcs[k].service)).sum();
@@ -63,6 +62,19 @@ impl Graph {
 /// All pairs, ascending.
 pub fn pairs(vertices: &[usize]) -> impl Iterator<Item = (usize, usize)> + '_ {
     vertices.iter().flat_map(move |&i| vertices.iter().map(move |&j| (i, j)))
+}
+
+/// "Thinning now goes through the pairs by (tail, head), one at a time. A pair is dropped exactly if, for some k, both pairs that add up to it are still held."
+fn thinned(d: &[Vec<u64>], required: &[usize]) -> Vec<(usize, usize)> {
+    let turns: Vec<(usize, usize)> = pairs(required).filter(|(i, j)| i != j).collect();
+    let mut held: BTreeSet<(usize, usize)> = turns.iter().copied().collect();
+    for (i, j) in turns {
+        let adds_up = |k: usize| d[i][j] == d[i][k] + d[k][j];
+        if required.iter().any(|&k| held.contains(&(i, k)) && held.contains(&(k, j)) && adds_up(k)) {
+            held.remove(&(i, j));
+        }
+    }
+    held.into_iter().collect()
 }
 
 /// Floyd and Warshall.

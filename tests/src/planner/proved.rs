@@ -1,7 +1,7 @@
 //! The proved library behind the traits, through the package `postman` (`bindings/rust`).
 
-use super::{Answer, Codec, Counter, DistanceCall, Judge, Planner, Refusal, TreeCount};
-use crate::plan::{Arc, MOST_VERTICES};
+use super::{Answer, Codec, Counter, DepartureCall, DistanceCall, Judge, Planner, Refusal, TreeCount};
+use crate::plan::{Arc, Departure, MOST_VERTICES};
 use postman::limits::{ANSWER_WORDS, RECORD_BYTES};
 use postman::raw;
 
@@ -25,6 +25,22 @@ impl Planner for Proved {
 
     fn short_call(&self, plan: &[u8], sheet: &mut [u16]) -> Result<Answer, Refusal> {
         answered(|answer, multipliers| raw::short_call(plan, sheet, answer, multipliers))
+    }
+}
+
+impl DepartureCall for Proved {
+    fn plan_call_at(
+        &self,
+        plan: &[u8],
+        budget: u64,
+        windows: &[u16],
+        departure: Departure,
+        sheet: &mut [u16],
+    ) -> Result<Answer, Refusal> {
+        let Departure { weekday, minute } = departure;
+        answered(|answer, multipliers| {
+            raw::plan_call_at(plan, budget, windows, weekday, minute, sheet, answer, multipliers)
+        })
     }
 }
 

@@ -1,7 +1,9 @@
 //! The plan call and the short call.
 
 use super::{Findings, Property};
-use crate::oracle::{call_refusal, file_of, judge, lagrangian_bound, parse, short_refusal, Effort, Facts};
+use crate::oracle::{
+    call_refusal, file_of, follows_fewest_paths, judge, lagrangian_bound, parse, short_refusal, Effort, Facts,
+};
 use crate::plan::{Plan, DEFAULT_BUDGET, SHEET_PLACES};
 use crate::planner::{Answer, Planner, Refusal};
 use std::panic::{catch_unwind, AssertUnwindSafe};
@@ -43,7 +45,7 @@ impl Case {
 }
 
 /// Makes a call on a sheet filled with one number; the sheet comes back too.
-fn call(
+pub(super) fn call(
     found: &mut Findings,
     places: usize,
     fill: u16,
@@ -56,7 +58,7 @@ fn call(
 }
 
 /// No arc has these numbers.
-const FILL: u16 = 0xA5A5;
+pub(super) const FILL: u16 = 0xA5A5;
 const OTHER_FILL: u16 = 0x5A5A;
 
 /// Holds calls that may be refused to the oracle's refusal, and a refusal to the sheet.
@@ -70,7 +72,7 @@ pub fn examine_refusal(found: &mut Findings, planner: &dyn Planner, file: &[u8],
 }
 
 /// Whether the call was refused as expected, and not otherwise.
-fn expect_refusal(
+pub(super) fn expect_refusal(
     found: &mut Findings,
     expected: Refusal,
     result: &Result<Answer, Refusal>,
@@ -128,6 +130,8 @@ fn examine_drive(found: &mut Findings, facts: &Facts, answer: &Answer, sheet: &[
     found.expect(Property::Drive, answer.places <= SHEET_PLACES, about);
     let first = facts.graph.required_arcs[0] as u16;
     found.expect(Property::FirstArc, drive.first() == Some(&first), about);
+    let followed = follows_fewest_paths(&facts.graph, drive);
+    found.expect(Property::FewestArcs, followed.is_ok(), || format!("{followed:?}: {}", about()));
 }
 
 fn examine_trees(found: &mut Findings, facts: &Facts, answer: &Answer, budget: u64, about: &dyn Fn() -> String) {

@@ -16,17 +16,20 @@ fn answer(planner: &dyn Planner, plan: &Plan, budget: u64) -> Option<(Result<Ans
     Some((result, sheet))
 }
 
-/// Holds the plan call on a case to what it answers for the same plan without checking costs of its own, in either edition.
+/// Holds the plan call on a case to what it answers for the same plan without checking costs of its own, in either edition; but for must arcs that are free, which edition 1 does
+/// not have and which are checked at 1.
 pub fn examine_checking(found: &mut Findings, planner: &dyn Planner, case: &Case, budget: u64) {
     let plan = parse(&case.file);
-    let second = checked(plan.clone(), |_, cost| cost);
-    let first = Plan { edition: 1, ..second.clone() };
-    let plain = answer(planner, &first, budget);
-    let about = || format!("budget {budget}, {first:?}, {plain:?}");
-    found.expect(Property::Editions, answer(planner, &second, budget) == plain, about);
+    let second = checked(plan.clone(), |_, cost| cost.max(1));
+    let plain = answer(planner, &second, budget);
+    let about = || format!("budget {budget}, {second:?}, {plain:?}");
+    if second.arcs.iter().all(|a| a.standing != REQUIRED || a.cost > 0) {
+        let first = Plan { edition: 1, ..second.clone() };
+        found.expect(Property::Editions, answer(planner, &first, budget) == plain, about);
+    }
 
     // What each must arc is checked at beyond its cost.
-    let beyond = |a: &Arc| i64::from(a.service) - i64::from(a.cost);
+    let beyond = |a: &Arc| i64::from(a.service) - i64::from(a.cost.max(1));
     let beyond: i64 = plan.arcs.iter().filter(|a| a.standing == REQUIRED).map(beyond).sum();
     let (Some((Ok(plain), _)), Some((Ok(told), _))) = (&plain, &answer(planner, &plan, budget)) else { return };
     let moved = |number: u64| number.wrapping_add_signed(beyond);

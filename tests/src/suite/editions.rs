@@ -12,6 +12,13 @@ use crate::properties::{Findings, Property};
 pub const FILE_A_CHECKED: [u8; 14] =
     [0x20, 0x40, 0x20, 0x01, 0x40, 0x01, 0x40, 0x02, 0x41, 0x00, 0x00, 0x03, 0x00, 0x00];
 
+/// Case A with a free way back.
+const FILE_A_FREE: [u8; 10] = [0x10, 0x40, 0x20, 0x01, 0x40, 0x01, 0x41, 0x00, 0x00, 0x00];
+
+fn case_a_free() -> Vec<Arc> {
+    vec![case_a().arcs[0], Arc::new(1, 0, OPTIONAL, 0)]
+}
+
 /// Case A in edition 2, with more arcs.
 fn case_a_checked(service: u16, more: &[Arc]) -> Plan {
     let mut plan = checked(case_a(), |_, _| service);
@@ -31,6 +38,11 @@ fn passed_twice(service: u16) -> Plan {
     let musts = [Arc::checked(0, 1, 5, service), Arc::checked(1, 2, 2, 4), Arc::checked(1, 3, 2, 3)];
     let mays = [Arc::new(2, 0, OPTIONAL, 1), Arc::new(3, 0, OPTIONAL, 1)];
     Plan { edition: 2, n: 4, arcs: [&musts[..], &mays].concat() }
+}
+
+/// A must arc that costs nothing once it is checked, and a free way back.
+fn free_must(service: u16) -> Plan {
+    Plan { edition: 2, n: 2, arcs: vec![Arc::checked(0, 1, 0, service), Arc::new(1, 0, OPTIONAL, 0)] }
 }
 
 /// The most arcs in edition 2, checked at 1, 2, and so on.
@@ -65,7 +77,12 @@ pub(super) fn rows() -> Vec<Row> {
         ("a closed arc's checking cost", case_a_with(CLOSED, 3, 1), 1, Err(6)),
         ("standing 3 with a checking cost", case_a_with(3, 3, 1), 1, Err(6)),
         ("standing 3", case_a_with(3, 3, 0), 1, Err(7)),
-        ("standing 3 and cost 0", case_a_with(3, 0, 0), 1, Err(6)),
+        ("standing 3 and cost 0", case_a_with(3, 0, 0), 1, Err(7)),
+        ("cost 0", case_a_with(OPTIONAL, 0, 0), 1, one(5)),
+        ("cost 0 and a checking cost", case_a_with(OPTIONAL, 0, 1), 1, Err(6)),
+        ("a closed arc at cost 0", case_a_checked(5, &[Arc::new(0, 0, CLOSED, 0)]), 1, one(8)),
+        ("a free must arc checked at 4, with a free way back", free_must(4), 1, one(4)),
+        ("a free must arc without a checking cost", free_must(0), 1, Err(6)),
         ("twice, checked at 9 and 8", case_a_checked(9, &[Arc::checked(0, 1, 5, 8)]), 1, one(23)),
         ("twice, checked at 9", case_a_checked(9, &[Arc::checked(0, 1, 5, 9)]), 1, Err(13)),
         ("twice, of two standings", case_a_checked(9, &[Arc::new(0, 1, OPTIONAL, 5)]), 1, one(12)),
@@ -94,7 +111,11 @@ pub(super) fn rows() -> Vec<Row> {
 
 /// Holds reading and writing to both editions of case A and to the longest files, and to the order of refusals.
 pub fn run_stated_codec(found: &mut Findings, codec: &dyn Codec) {
-    let readings = [(&FILE_A[..], 1, case_a().arcs), (&FILE_A_CHECKED, 2, case_a_checked(9, &[]).arcs)];
+    let readings = [
+        (&FILE_A[..], 1, case_a().arcs),
+        (&FILE_A_CHECKED, 2, case_a_checked(9, &[]).arcs),
+        (&FILE_A_FREE, 1, case_a_free()),
+    ];
     for (file, edition, arcs) in readings {
         let mut records = vec![Arc::default(); 2];
         let told = codec.read(file, &mut records);
@@ -142,6 +163,9 @@ fn writings() -> Vec<Writing> {
         ("A checked at 9 in edition 1, in 9 bytes", 1, a_checked(), 9, Err(6)),
         ("an optional arc's checking cost in edition 1", 1, way_checked(), 14, Err(6)),
         ("an optional arc's checking cost in edition 2", 2, way_checked(), 14, Err(6)),
+        ("a free must arc in edition 1", 1, free_must(0).arcs, 14, Err(6)),
+        ("a free must arc with a checking cost in edition 1", 1, free_must(4).arcs, 14, Err(6)),
+        ("a free way in edition 1", 1, case_a_free(), 14, Ok(&FILE_A_FREE)),
         ("edition 0", 0, a(), 14, Err(2)),
         ("edition 3", 3, a(), 14, Err(2)),
         ("edition 15", 15, a(), 14, Err(2)),

@@ -75,11 +75,9 @@ fn faults(edition: u8) -> Vec<Fault> {
             draft.plan.arcs[MUST] = Arc { standing: 3, service: 0, ..draft.plan.arcs[MUST] }
         }),
         fault("head in the optional arc", 5, |draft| draft.plan.arcs[MAY].head = 63),
-        fault("cost in the optional arc", 6, |draft| draft.plan.arcs[MAY].cost = 0),
         fault("service in the optional arc", 6, |draft| draft.plan.arcs[MAY].service = 1),
         fault("standing of the optional arc", 7, |draft| draft.plan.arcs[MAY].standing = 3),
         fault("head in the closed arc", 5, |draft| draft.plan.arcs[SHUT].head = 11),
-        fault("cost in the closed arc", 6, |draft| draft.plan.arcs[SHUT].cost = 0),
         fault("service in the closed arc", 6, |draft| draft.plan.arcs[SHUT].service = 65_535),
         fault("standing of the closed arc", 7, |draft| draft.plan.arcs[SHUT].standing = 3),
         fault("the same arc twice", 13, |draft| draft.plan.arcs[9] = draft.plan.arcs[0]),
@@ -93,13 +91,16 @@ fn faults(edition: u8) -> Vec<Fault> {
     ];
     for fault in &mut all {
         fault.excludes = match fault.what {
-            "service in the required arc" => &["standing of the required arc", "no required arc"],
+            "cost in the required arc" | "service in the required arc" => {
+                &["standing of the required arc", "no required arc"]
+            }
             "no required arc" => &["nine parts"],
             _ => &[],
         };
     }
-    // The file of edition 1 has no place for these.
+    // The file of edition 1 has no place for these, and in edition 2 a must arc may be free.
     all.retain(|fault| edition == 2 || !fault.what.starts_with("service"));
+    all.retain(|fault| edition == 1 || fault.what != "cost in the required arc");
     all
 }
 

@@ -1,7 +1,7 @@
 //! Document 01's cases and limits, in its own numbers.
 
 use super::{editions, faults};
-use crate::instances::fullest;
+use crate::instances::{free_circles, fullest};
 use crate::oracle::file_of;
 use crate::plan::{Arc, Plan, CLOSED, OPTIONAL, REQUIRED};
 use crate::planner::{Planner, Refusal};
@@ -75,9 +75,12 @@ fn cases() -> Vec<Row> {
         ("E, budget first", idle, 0, Err(9)),
         ("F, eight", loops(8), 10_000, Err(12)),
         ("F, nine", loops(9), 10_000, Err(11)),
-        ("G, cost 0", case_a_with(OPTIONAL, 0), 10_000, Err(6)),
+        ("G, cost 0", case_a_with(OPTIONAL, 0), 10_000, Ok((5, 1, true, 1))),
         ("G, standing 3", case_a_with(3, 3), 10_000, Err(7)),
-        ("G, both", case_a_with(3, 0), 10_000, Err(6)),
+        ("G, both", case_a_with(3, 0), 10_000, Err(7)),
+        ("free arcs between all", free_circles(3), 10_000, Ok((3, 1, true, 3))),
+        ("a free must arc", plan(2, &[(0, 1, REQUIRED, 0), (1, 0, OPTIONAL, 3)]), 10_000, Err(6)),
+        ("a free closed arc", plan(2, &[(0, 1, REQUIRED, 5), (1, 0, OPTIONAL, 3), (1, 0, CLOSED, 0)]), 1, Ok((8, 1, true, 1))),
         ("n 64", circle, 10_000, Ok((64, 1, true, 1))),
         ("n 65", Plan { n: 65, ..case_a() }, 10_000, Err(3)),
         ("n 0", Plan { n: 0, ..case_a() }, 10_000, Err(3)),

@@ -3,7 +3,7 @@
 use super::{Balance, Distances, Network, Steps};
 use crate::plan::{Arc, Plan, MOST_VERTICES, REQUIRED};
 
-/// A stretch of the drive: a required arc by its number, or a shortest path.
+/// A stretch of the drive: a required arc by its number, or a path of fewest arcs.
 struct Leg {
     from: usize,
     to: usize,
@@ -11,7 +11,13 @@ struct Leg {
 }
 
 /// The drive of a tree, as arc numbers; its first arc is the lowest required one.
-pub fn lay<S: Steps>(steps: &S, network: &Network, mut balance: Balance, tree: &[(usize, usize)]) -> Vec<u16> {
+pub fn lay<S: Steps>(
+    steps: &S,
+    network: &Network,
+    weights: &Distances,
+    mut balance: Balance,
+    tree: &[(usize, usize)],
+) -> Vec<u16> {
     for &(tail, head) in tree {
         let (from, to) = steps.unit(tail, head);
         balance.add(network.place[from], network.place[to]);
@@ -27,7 +33,7 @@ pub fn lay<S: Steps>(steps: &S, network: &Network, mut balance: Balance, tree: &
     for &k in &circuit(&legs) {
         match legs[k].arc {
             Some(number) => drive.push(number),
-            None => drive.extend(steps.path(network.plan, network.d, legs[k].from, legs[k].to)),
+            None => drive.extend(steps.path(network.plan, weights, legs[k].from, legs[k].to)),
         }
     }
     drive
@@ -67,7 +73,7 @@ fn circuit(legs: &[Leg]) -> Vec<usize> {
     order
 }
 
-/// A cheapest path as arc numbers, at each vertex by the lowest arc that lies on one.
+/// A shortest path as arc numbers, at each vertex by the lowest arc that lies on one.
 pub fn shortest_path(
     plan: &Plan,
     d: &Distances,
@@ -77,7 +83,8 @@ pub fn shortest_path(
 ) -> Vec<u16> {
     let mut path = Vec::new();
     let mut v = from;
-    while v != to {
+    // By lengths of 0 a wrong planner would go in a circle.
+    while v != to && path.len() < MOST_VERTICES {
         let is_next =
             |a: &Arc| usize::from(a.tail) == v && length(a).is_some_and(|x| x + d[usize::from(a.head)][to] == d[v][to]);
         let k = plan.arcs.iter().position(is_next).expect("a finite distance is a path's");

@@ -31,6 +31,20 @@ pub fn row(arcs: &[(usize, usize, u64)], source: usize) -> Row {
     row
 }
 
+/// The cost of a lightest path, by its weight: 64 for each unit of cost, and 1 for each arc, of which there are at most 63.
+pub fn cost_of(weight: u64) -> u64 {
+    if weight == NO_PATH {
+        NO_PATH
+    } else {
+        weight / 64
+    }
+}
+
+/// d, by the least weights.
+pub fn costs(weights: &Distances) -> Box<Distances> {
+    Box::new(weights.map(|row| row.map(cost_of)))
+}
+
 /// A row for each vertex.
 pub fn distances(plan: &Plan, length: impl Fn(&Arc) -> Option<u64>) -> Box<Distances> {
     let arcs = measured_arcs(plan, length);

@@ -53,7 +53,7 @@ fn check_arc(edition: u8, n: usize, a: &Arc) -> Result<(), Refusal> {
         return Err(refusal::OFF_SHEET);
     }
     let is_implied = a.service == implied_service(a.standing, a.cost);
-    if a.cost == 0 || (a.service == 0) == (a.standing == REQUIRED) || edition == 1 && !is_implied {
+    if (a.service == 0) == (a.standing == REQUIRED) || edition == 1 && !is_implied {
         return Err(refusal::UNPRICED);
     }
     if a.standing > 2 {

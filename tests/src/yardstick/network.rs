@@ -140,8 +140,9 @@ impl<'a> Network<'a> {
     }
 }
 
-/// The pairs of required vertices that no third one lies between, ascending.
+/// The pairs of required vertices that are held once each had its turn, ascending: one is dropped if a third vertex lies between, by pairs that are still held.
 fn thin<S: Steps>(steps: &S, d: &Distances, required: &[usize]) -> Vec<(usize, usize)> {
+    let mut held = [[true; MOST_VERTICES]; MOST_VERTICES];
     let mut links = Vec::new();
     for &i in required {
         'pair: for &j in required {
@@ -149,7 +150,9 @@ fn thin<S: Steps>(steps: &S, d: &Distances, required: &[usize]) -> Vec<(usize, u
                 continue;
             }
             for &k in required {
-                if k != i && k != j && steps.is_via(d, i, k, j) {
+                let serve = k != i && k != j && steps.serves(held[i][k]) && steps.serves(held[k][j]);
+                if serve && steps.is_via(d, i, k, j) {
+                    held[i][j] = false;
                     continue 'pair;
                 }
             }

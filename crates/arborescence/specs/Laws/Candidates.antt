@@ -22,7 +22,7 @@ use Rattle.postman.specs.Laws.Link.{link-ends}
 use Rattle.postman.specs.Laws.Arborescence.{candidates-mem}
 use Rattle.arborescence.specs.Order.{Sources, AreSources, parentOf, arrivesBy, extensions, none-chosen, inOrder, choiceAt, entryAt}
 use Rattle.arborescence.specs.Candidates.{AreCandidates, linksOf}
-use Rattle.arborescence.specs.Laws.Lists.{map-cong, map-map, map-flatMap, flatMap-map, flatMap-cong, select-map, by-place}
+use Rattle.postman.specs.Laws.Lists.{map-cong, map-map, map-flatMap, flatMap-map, flatMap-cong, select-map, by-place}
 use Rattle.arborescence.specs.Laws.Reach.{same-steps}
 use Rattle.arborescence.specs.Laws.Completion.{Chooses, extension-of}
 use Rattle.arborescence.specs.Laws.Order.{choice-at}

@@ -20,7 +20,7 @@ use Rattle.postman.specs.Laws.Pick.{pick-of-mem, left-mem}
 use Rattle.postman.specs.Laws.Occurrences.{mem?, delta-yes, occurrences-pick, occurrences-of-mem}
 use Rattle.postman.specs.Laws.SignedSum.{≤ℤ-trans, sum-add, sum-pick}
 use Rattle.arborescence.specs.Cheapest.{Matrix, AreOthers, IsTree, treeCost, IsCheapest, AreEntries, IsReduced, IsCircle, isAmong, shrunk, IsLeast, IsContraction}
-use Rattle.arborescence.specs.Laws.Lists.{map-cong}
+use Rattle.postman.specs.Laws.Lists.{map-cong}
 use Rattle.arborescence.specs.Laws.Iterates.{stepsTo, steps-le, steps-fall}
 
 -- ---- tests and sums

@@ -14,7 +14,7 @@ use borrow.Author.Tests.{lt-ltb, le-ltb}
 use Rattle.postman.specs.Lists.{select, below, upFrom, choices}
 use Rattle.postman.specs.Laws.Tests.{cond-ind}
 use Rattle.arborescence.specs.Order.{Sources, AreSources, arrivesBy, extensions, none-chosen, inOrder, completable, search-from, found, filled, advanced, firstChoice, nextChoice, after, choiceAt, entryAt}
-use Rattle.arborescence.specs.Laws.Lists.{select-flatMap, map-flatMap}
+use Rattle.postman.specs.Laws.Lists.{select-flatMap, map-flatMap}
 use Rattle.arborescence.specs.Laws.Completion.{Chooses, chooses-more, extension-of, extension-passes, passes-extension}
 
 -- ---- lists: the first element, and what stands after an element

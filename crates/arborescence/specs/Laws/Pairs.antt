@@ -36,7 +36,7 @@ use Rattle.postman.specs.Laws.SignedSum.{≤ℤ-trans, ≤ℤ-antisym, sum-appe
 use Rattle.postman.specs.Laws.LagrangianBound.{Feasible, cheapest-le, cheapest-at}
 use Rattle.arborescence.specs.Cheapest.{Matrix, AreOthers, IsTree, treeCost, IsCheapest}
 use Rattle.arborescence.specs.Pairs.{IsPairMatrix, othersOf}
-use Rattle.arborescence.specs.Laws.Lists.{map-map, by-place}
+use Rattle.postman.specs.Laws.Lists.{map-map, by-place}
 use Rattle.arborescence.specs.Laws.Iterates.{stepsTo, steps-fall}
 use Rattle.arborescence.specs.Laws.Edmonds.{sum-mono, parent-other}
 

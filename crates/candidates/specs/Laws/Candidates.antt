@@ -10,37 +10,45 @@ use lib.Dec.{eqb}
 use Rattle.postman.specs.Lists.{select, below}
 use Rattle.postman.specs.Plan.{Plan, WellFormed}
 use Rattle.postman.specs.Required.{isRequired}
-use Rattle.postman.specs.Link.{Link, pairs, isLink, links}
+use Rattle.postman.specs.Link.{Link, pairs, isHeld, links}
 use Rattle.postman.specs.Component.{component}
 use Rattle.postman.specs.Arborescence.{candidates}
+use Rattle.postman.specs.Laws.Tests.{same-test, and-both, and-parts}
 use Rattle.postman.specs.Laws.Membership.{below-mem}
-use Rattle.postman.specs.Laws.Link.{link}
+use Rattle.postman.specs.Laws.Link.{link, held-mem, links-select, link-ends}
 use Rattle.network.specs.Contracts.{IsLinks, IsComponents}
-use Rattle.network.specs.LinkPair.{isLinkPair}
-use Rattle.network.specs.Laws.Selection.{select-select}
-use Rattle.arborescence.specs.Laws.Lists.{select-map}
-use Rattle.candidates.specs.Places.{linkOf, isCandidate, placesOf}
-use Rattle.candidates.specs.Laws.Rows.{pairs-are, bothPass, pairs-select}
-use Rattle.candidates.specs.Laws.Vertices.{required-of-64}
+use Rattle.postman.specs.Laws.Selection.{select-select}
+use Rattle.postman.specs.Laws.Lists.{select-map}
+use Rattle.candidates.specs.Places.{isCandidate, placesOf}
+use Rattle.postman.specs.Laws.Pairs.{linkOf, pairs-are, bothPass, pairs-select}
+use Rattle.network.specs.Laws.RequiredVertex.{of-required}
+use Rattle.network.specs.Laws.Vertices.{required-of-64}
 
 module _ (p : Plan) (ok : WellFormed p) where
   abbrev crosses : ℕ → Link → Bool
   crosses q l = eqb (component p (l .head)) q && not (eqb (component p (l .tail)) q)
 
+  abbrev isLink : Link → Bool
+  isLink l = isHeld (links p) (l .tail) (l .head)
+
   abbrev isPair : Link → Bool
-  isPair l = bothPass (isRequired p) l && isLink p l
+  isPair l = bothPass (isRequired p) l && isLink l
 
   from-pairs : (q : ℕ) → candidates p q ≡ select (λ l. isPair l && crosses q l) (pairs (below 64))
-  unfolding candidates links
+  unfolding candidates
   from-pairs q =
-      ap (λ (vs : List ℕ). select (crosses q) (select (isLink p) (pairs vs))) (sym (required-of-64 p ok))
-      ∙ ap (λ (ls : List Link). select (crosses q) (select (isLink p) ls)) (pairs-select (isRequired p) (below 64))
-      ∙ ap (select (crosses q)) (select-select (isLink p) (bothPass (isRequired p)) (pairs (below 64)))
+      ap (select (crosses q)) (links-select p)
+      ∙ ap (λ (vs : List ℕ). select (crosses q) (select isLink (pairs vs))) (sym (required-of-64 p ok))
+      ∙ ap (λ (ls : List Link). select (crosses q) (select isLink ls)) (pairs-select (isRequired p) (below 64))
+      ∙ ap (select (crosses q)) (select-select isLink (bothPass (isRequired p)) (pairs (below 64)))
       ∙ select-select (crosses q) isPair (pairs (below 64))
 
-  is-pair : (i j : ℕ) → isPair (link i j) ≡ isLinkPair p i j
-  unfolding isLinkPair
-  is-pair i j = refl
+  -- the ends of a link are required
+  is-pair : (i j : ℕ) → isPair (link i j) ≡ isHeld (links p) i j
+  is-pair i j =
+      same-test (isPair (link i j)) (isHeld (links p) i j) (λ t. and-parts (isRequired p i && isRequired p j) (isHeld (links p) i j) t .1) (λ t.
+      let e = link-ends p (held-mem (links p) i j t) in
+      and-both (isRequired p i && isRequired p j) (isHeld (links p) i j) (and-both (isRequired p i) (isRequired p j) (of-required p ok (e .0)) (of-required p ok (e .1))) t)
 
   module _ (flags : List Bool) (of : List ℕ) (count : ℕ) (are : IsLinks p flags) (known : IsComponents p of count) where
     at-place : (q x : ℕ) → x < 4096 → (isPair (linkOf x) && crosses q (linkOf x)) ≡ isCandidate flags of q x

@@ -15,7 +15,8 @@ use Rattle.arborescence.specs.Layout.{laidOut, IsLayout}
 use Rattle.arborescence.specs.Candidates.{AreCandidates}
 use Rattle.arborescence.specs.Laws.Candidates.{are-sources}
 use Rattle.candidates.specs.declared.Candidates.{Candidates}
-use Rattle.candidates.specs.Places.{linkOf, placesOf, placesBefore, HaveEnds}
+use Rattle.postman.specs.Laws.Pairs.{linkOf}
+use Rattle.candidates.specs.Places.{placesOf, placesBefore, HaveEnds}
 use Rattle.candidates.specs.LaidOut.{AreLaidOut}
 use Rattle.candidates.specs.Laws.Places.{before-fits, before-length, before-at, before-place}
 use Rattle.candidates.specs.Laws.Candidates.{candidates-are}

@@ -1,4 +1,4 @@
--- The tour that is written completes the arborescence: its paths are cheapest paths, of at most n − 1 arcs, and there is one for each leg. One pass of each required arc is
+-- The tour that is written completes the arborescence: its paths are those of fewest arcs, at most n − 1, and there is one for each leg. One pass of each required arc is
 -- exchanged for the one that checks it.
 use mathlib.Core.Path.{_≡_, refl, sym, ap, _∙_, subst⁻¹, subst₃}
 use mathlib.Core.Bool.{not}
@@ -29,6 +29,7 @@ use Rattle.circuit.specs.Filled.{Laid}
 use Rattle.circuit.specs.Laws.Legs.{leg-at, leg-ends, legs-length, eulerian}
 use Rattle.circuit.specs.Laws.Laid.{prefix-length}
 use Rattle.circuit.specs.Laws.Few.{few-others, few-numbers}
+use Rattle.circuit.specs.Laws.Description.{is-laid}
 use Rattle.circuit.specs.Laws.Tour.{legs-count, is-tour, plain-cost, tour-length, tour-first}
 
 module _ (p : Plan) (ok : WellFormed p) (linked : T (not (isCutOff p))) where
@@ -43,7 +44,7 @@ module _ (p : Plan) (ok : WellFormed p) (linked : T (not (isCutOff p))) where
       let s = shortest-path p ok i j (required-lt p m) (has-path m n) in
       let a = s .short in
       let b = ok .vertices in
-      record { walk = s .walk; costs = s .costs; short = omega arith }
+      record { fewest-path = s .fewest-path; costs = s .costs; short = omega arith }
 
 module _ (p : Plan) (ok : WellFormed p) (t : List Link) (amounts : List ℕ) (h : Completes p t amounts) where
   pub completion : IsCompletion p t amounts (tour p t amounts)
@@ -58,6 +59,7 @@ module _ (p : Plan) (ok : WellFormed p) (t : List Link) (amounts : List ℕ) (h 
         nonempty = f .0;
         first = f .1;
         short = tour-length p ok t amounts h (shortestPath p) paths;
+        laid = is-laid p ok t amounts h (shortestPath p) paths;
       }
 
   -- least amounts give the cost of the arborescence's completion

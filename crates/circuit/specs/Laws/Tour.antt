@@ -80,7 +80,7 @@ sum-map-append f [] ys = omega arith
 sum-map-append f (x ∷ xs) ys = let h = sum-map-append f xs ys in omega arith
 
 -- over numbers in a row, by what stands there
-sum-by : {A : Type 0} (f : ℕ → ℕ) (g : A → ℕ) (a : ℕ) (xs : List A) (d : A) → ((k : ℕ) → k < length xs → f (a + k) ≡ g (getD xs k d)) → sumOf (map f (upFrom a (length xs))) ≡ sumOf (map g xs)
+pub sum-by : {A : Type 0} (f : ℕ → ℕ) (g : A → ℕ) (a : ℕ) (xs : List A) (d : A) → ((k : ℕ) → k < length xs → f (a + k) ≡ g (getD xs k d)) → sumOf (map f (upFrom a (length xs))) ≡ sumOf (map g xs)
 unfolding sumOf upFrom
 sum-by f g a [] d h = refl
 sum-by f g a (x ∷ xs) d h =
@@ -88,7 +88,7 @@ sum-by f g a (x ∷ xs) d h =
     ap₂ _+_ (ap f e ∙ h 0 (omega arith))
     (sum-by f g (suc a) xs d (λ k l. let i : suc a + k ≡ a + suc k = omega arith in ap f i ∙ h (suc k) (omega arith)))
 
-sum-le : (f : ℕ → ℕ) (c a n : ℕ) → ((k : ℕ) → a ≤ k → k < a + n → f k ≤ c) → sumOf (map f (upFrom a n)) ≤ n * c
+pub sum-le : (f : ℕ → ℕ) (c a n : ℕ) → ((k : ℕ) → a ≤ k → k < a + n → f k ≤ c) → sumOf (map f (upFrom a n)) ≤ n * c
 unfolding sumOf upFrom
 sum-le f c a zero h = let e = zero-mul c in omega arith
 sum-le f c a (suc n) h =
@@ -101,11 +101,11 @@ abbrev noLink : Link
 noLink = record { tail = 0; head = 0 }
 
 module _ (p : Plan) (t : List Link) (amounts : List ℕ) where
-  abbrev numbers : List ℕ
+  abbrev pub numbers : List ℕ
   numbers = requiredNumbers p
 
   -- the legs that are no required arcs
-  abbrev others : List Link
+  abbrev pub others : List Link
   others = t ++ units amounts
 
   -- ---- the legs by their numbers: first the required arcs, then the others
@@ -141,17 +141,17 @@ module _ (p : Plan) (t : List Link) (amounts : List ℕ) where
       ∙ ap₂ _+_ (length-map numbers (λ k. arcAt (p .arcs) k .tail)) (length-map others (λ l. l .tail))
 
   module _ (path : ℕ → ℕ → List ℕ) where
-    abbrev places : ℕ → List ℕ
+    abbrev pub places : ℕ → List ℕ
     places e = legPlaces path numbers (legTails p t amounts) (legHeads p t amounts) e
 
-    places-arc : (e : ℕ) → e < length numbers → places e ≡ getD numbers e 0 ∷ []
+    pub places-arc : (e : ℕ) → e < length numbers → places e ≡ getD numbers e 0 ∷ []
     places-arc = places-number path numbers (legTails p t amounts) (legHeads p t amounts)
 
-    places-other : (e : ℕ) → length numbers ≤ e → places e ≡ path (getD (legTails p t amounts) e 0) (getD (legHeads p t amounts) e 0)
+    pub places-other : (e : ℕ) → length numbers ≤ e → places e ≡ path (getD (legTails p t amounts) e 0) (getD (legHeads p t amounts) e 0)
     places-other = places-path path numbers (legTails p t amounts) (legHeads p t amounts)
 
     -- a sum over all legs, in the order of the circuit
-    legs-sum : (c : ℕ → ℕ) → Permutation (circuit (legTails p t amounts) (legHeads p t amounts)) (below (length (legTails p t amounts)))
+    pub legs-sum : (c : ℕ → ℕ) → Permutation (circuit (legTails p t amounts) (legHeads p t amounts)) (below (length (legTails p t amounts)))
         → sumOf (map c (circuit (legTails p t amounts) (legHeads p t amounts))) ≡ sumOf (map c (upFrom 0 (length numbers))) + sumOf (map c (upFrom (length numbers) (length others)))
     unfolding below
     legs-sum c q =
@@ -162,13 +162,13 @@ module _ (p : Plan) (t : List Link) (amounts : List ℕ) where
         ∙ ap (λ z. sumOf (map c (upFrom 0 (length numbers))) + sumOf (map c (upFrom z (length others)))) (zero-add (length numbers))
 
 module _ (p : Plan) (ok : WellFormed p) (t : List Link) (amounts : List ℕ) (h : Completes p t amounts) (path : ℕ → ℕ → List ℕ) (paths : ArePaths p path) where
-  abbrev order : List ℕ
+  abbrev pub order : List ℕ
   order = circuit (legTails p t amounts) (legHeads p t amounts)
 
-  order-circuit : IsCircuit (legTails p t amounts) (legHeads p t amounts) order
+  pub order-circuit : IsCircuit (legTails p t amounts) (legHeads p t amounts) order
   order-circuit = is-circuit (legTails p t amounts) (legHeads p t amounts) (eulerian p ok t amounts h)
 
-  order-lt : {e : ℕ} → List·Memᴰ e order → e < length (legTails p t amounts)
+  pub order-lt : {e : ℕ} → List·Memᴰ e order → e < length (legTails p t amounts)
   order-lt m = below-mem (mem-of-permutation (order-circuit .each-once) m)
 
   order-mem : {e : ℕ} → e < length (legTails p t amounts) → List·Memᴰ e order
@@ -178,7 +178,7 @@ module _ (p : Plan) (ok : WellFormed p) (t : List Link) (amounts : List ℕ) (h 
   number-lt e l = let n = legs-count p t amounts in omega arith
 
   -- the path of a leg
-  leg-path : (e : ℕ) → e < length (legTails p t amounts) → IsPath p (getD (legTails p t amounts) e 0) (getD (legHeads p t amounts) e 0) (path (getD (legTails p t amounts) e 0) (getD (legHeads p t amounts) e 0))
+  pub leg-path : (e : ℕ) → e < length (legTails p t amounts) → IsPath p (getD (legTails p t amounts) e 0) (getD (legHeads p t amounts) e 0) (path (getD (legTails p t amounts) e 0) (getD (legHeads p t amounts) e 0))
   leg-path e l =
       let r = leg-at p ok t amounts h e l in
       let s = leg-ends p ok t amounts h (r .1) in
@@ -187,7 +187,7 @@ module _ (p : Plan) (ok : WellFormed p) (t : List Link) (amounts : List ℕ) (h 
   places-walk : (e : ℕ) → e < length (legTails p t amounts) → IsWalk (p .arcs) (getD (legTails p t amounts) e 0) (places p t amounts path e) (getD (legHeads p t amounts) e 0)
   unfolding legTails legHeads
   places-walk e l = elim (decLe (length (numbers p t amounts)) e) [
-    | yes g ↦ subst⁻¹ (λ z. IsWalk (p .arcs) (getD (legTails p t amounts) e 0) z (getD (legHeads p t amounts) e 0)) (places-other p t amounts path e g) (leg-path e l .walk)
+    | yes g ↦ subst⁻¹ (λ z. IsWalk (p .arcs) (getD (legTails p t amounts) e 0) z (getD (legHeads p t amounts) e 0)) (places-other p t amounts path e g) (leg-path e l .fewest-path .walk)
     | no g ↦ (
         let k : e < length (numbers p t amounts) = omega arith in
         let r = numbers-mem p (getD-mem (numbers p t amounts) 0 e k) in

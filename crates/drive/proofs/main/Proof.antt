@@ -36,17 +36,17 @@ enum-told c = search needs
 array-share-prefix-sheet : tie.Need-array-share-prefix-sheet
 array-share-prefix-sheet c =
     let r = c .before .before .before .plan-call in
-    places-fit _ _ _ _ _ (r .ensures) (ap verdictNumber (c .enum-told .given .1))
+    places-fit _ _ _ _ _ _ (r .ensures .planned) (ap verdictNumber (c .enum-told .given .1))
 
 slice-aggregate-print-answer : tie.Need-slice-aggregate-print-answer
 slice-aggregate-print-answer c =
     let r = c .before .before .before .before .plan-call in
-    places-count _ _ _ _ _ (r .ensures) (ap verdictNumber (c .before .enum-told .given .1))
+    places-count _ _ _ _ _ _ (r .ensures .planned) (ap verdictNumber (c .before .enum-told .given .1))
 
 print-answer-requires : tie.Need-print-answer-requires
 print-answer-requires c κs =
     let r = c .before .before .before .before .plan-call in
-    floor-above _ _ _ _ _ (r .ensures) (ap verdictNumber (c .before .enum-told .given .1))
+    floor-above _ _ _ _ _ _ (r .ensures .planned) (ap verdictNumber (c .before .enum-told .given .1))
 
 enum-known-verdict : tie.Need-enum-known-verdict
 enum-known-verdict c = search needs

@@ -15,7 +15,7 @@ use Rattle.postman.specs.Laws.Judge.{call-judged}
 use Rattle.refusal.specs.Verdict.{verdictNumber}
 use Rattle.planner.specs.declared.Planned.{Planned}
 use Rattle.planner.specs.Contract.{IsPlanCall}
-use Rattle.planner.specs.Laws.Answered.{accepted, cost-is, floor-is, tour-written}
+use Rattle.planner.specs.Laws.Answered.{accepted, is-answer, cost-is, floor-is, tour-written}
 use Rattle.judge.specs.declared.Judged.{Judged}
 use Rattle.judge.specs.Contract.{judgedAnswer, IsJudged}
 
@@ -24,15 +24,15 @@ module _ (bytes : List ℕ) (budget : ℕ) (old new : List ℕ) (r : Planned) (c
   pub written-passes : (j : Judged) → IsJudged bytes (take (r .places) new) j → judgedAnswer j ≡ given (r .cost)
   unfolding highestPlaces sheetPlaces
   written-passes j h =
-      let t = tour-written bytes budget old new r call good in
+      let t = tour-written _ _ _ _ _ _ (call .planned) good in
       let l = t .short in
       h .answer-is
-      ∙ call-judged bytes (take (r .places) new) budget (length old) (accepted bytes budget old new r call good) (omega arith) (t .tour)
-      ∙ ap given (t .costs ∙ sym (cost-is bytes budget old new r call good))
+      ∙ call-judged bytes (take (r .places) new) budget (length old) (accepted _ _ _ _ _ _ (call .planned) good) (omega arith) (t .tour)
+      ∙ ap given (t .costs ∙ sym (cost-is _ _ _ _ _ _ (call .planned) good))
 
   -- NO DRIVE THAT ANOTHER HOUSE SENT IS JUDGED TO COST LESS THAN THE FLOOR
   pub floor-below : (w : List ℕ) (j : Judged) → IsJudged bytes w j → (c : ℕ) → judgedAnswer j ≡ given c → r .floor ≤ℤ pos c
   floor-below w j h c e =
       let t = h .costs c e in
-      let f = floor-is bytes budget old new r call good in
-      rw (f, t .1) (call .planned .answered (accepted bytes budget old new r call good) .guarantee .below-every-tour w (t .0))
+      let f = floor-is _ _ _ _ _ _ (call .planned) good in
+      rw (f, t .1) (is-answer _ _ _ _ _ _ (call .planned) good .guarantee .below-every-tour w (t .0))

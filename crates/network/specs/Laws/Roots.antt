@@ -15,7 +15,7 @@ use Rattle.postman.specs.Tour.{IsWalk}
 use Rattle.postman.specs.Required.{isRequired, required}
 use Rattle.postman.specs.Component.{joined, lowest, component, componentCount}
 use Rattle.postman.specs.Laws.Tests.{test, same-test, and-both, and-parts, eqb-same}
-use Rattle.postman.specs.Laws.Membership.{select-mem, getD-mem, anyOf-mem, anyOf-at, below-mem}
+use Rattle.postman.specs.Laws.Membership.{select-mem, select-cong, getD-mem, anyOf-mem, anyOf-at, below-mem}
 use Rattle.postman.specs.Laws.Distance.{InPlan, bounded}
 use Rattle.postman.specs.Laws.Required.{required-ends, required-lt}
 use Rattle.postman.specs.Laws.Component.{undirected, joined-walk, walk-joined, walk-component, component-walk, component-at}
@@ -24,7 +24,7 @@ use Rattle.network.specs.Contracts.{IsRequiredFlags}
 use Rattle.network.specs.Labels.{Labelled, isRoot, rootsBelow, numberOf}
 use Rattle.network.specs.Laws.Search.{is-true, is-false}
 use Rattle.network.specs.Laws.RequiredVertex.{required-of, of-required, required-below}
-use Rattle.network.specs.Laws.Selection.{select-cong, select-select, select-past, select-place}
+use Rattle.postman.specs.Laws.Selection.{select-select, select-past, select-place}
 use Rattle.network.specs.Laws.Labels.{both-ways, component-label}
 
 and-cong : (b : Bool) {x y : Bool} → (T b → x ≡ y) → (b && x) ≡ (b && y)

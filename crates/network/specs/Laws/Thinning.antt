@@ -1,13 +1,15 @@
--- What each turn of thinning tells of its pair, and each step of the search of its via vertex.
-use mathlib.Core.Path.{_≡_, sym, ap}
-use mathlib.Core.Logic.{_≢_}
+-- What each turn of thinning does to the flags, by what its search has found; and a turn more.
+use mathlib.Core.Path.{_≡_, refl, sym, ap, ap₂, _∙_}
 use mathlib.Core.List.{List}
-use mathlib.Core.Bool.{Bool, true, false, not, _&&_, and-false}
-use Prim.Native.Nat.{ℕ, _+_, _<_}
+use mathlib.Core.Bool.{Bool, true, false, not, cond, _&&_, and-false}
+use Prim.Native.Nat.{ℕ, zero, suc, _+_, _*_, _/_, _%_, _<_, _≤_}
+use native.Mathlib.Numerals.{add-one}
+use native.Mathlib.Omega.{arith}
+use lib.ListN.{set}
 use lib.Dec.{eqb}
-use lib.ListN.{getD}
-use borrow.Author.Tests.{eq-eqb, ne-eqb, not-true, not-false}
-use Rattle.network.specs.Thinning.{cell, between, keeps}
+use borrow.Author.Tests.{not-true}
+use Rattle.postman.specs.Lists.{anyOf, below}
+use Rattle.network.specs.Thinning.{cell, flag, between, turnAt, rowThinned, rowsThinned}
 use Rattle.network.specs.Laws.Search.{some-below, none-below}
 
 -- a conjunction that fails by a part, and one that holds by both
@@ -20,42 +22,77 @@ no-right a e = rw e (and-false a)
 pub both : {a b : Bool} → a ≡ true → b ≡ true → (a && b) ≡ true
 both e f = rw (e, f)
 
-module _ (d : List (List ℕ)) (r : List Bool) (i j : ℕ) where
-  pub dropped-same : i ≡ j → false ≡ keeps d r i j
-  unfolding keeps
-  dropped-same e = sym (no-left _ (no-left _ (no-left _ (ap not (eq-eqb i j e)))))
+module _ (d : List (List ℕ)) (held : List Bool) (i j : ℕ) where
+  turn-by : {b : Bool} → (flag held i j && anyOf (between d held i j) (below 64)) ≡ b → turnAt d held i j ≡ cond b (set held (i * 64 + j) false) held
+  unfolding turnAt
+  turn-by e = ap (λ b. cond b (set held (i * 64 + j) false) held) e
 
-  pub dropped-tail : not (getD r i false) ≡ true → false ≡ keeps d r i j
-  unfolding keeps
-  dropped-tail e = sym (no-left _ (no-left _ (no-right (not (eqb i j)) (not-true (getD r i false) e))))
+  -- it was not held; it goes by k; or no k was found
+  pub turn-not-held : not (flag held i j) ≡ true → turnAt d held i j ≡ held
+  turn-not-held e = turn-by (no-left _ (not-true (flag held i j) e))
 
-  pub dropped-head : not (getD r j false) ≡ true → false ≡ keeps d r i j
-  unfolding keeps
-  dropped-head e = sym (no-left _ (no-right (not (eqb i j) && getD r i false) (not-true (getD r j false) e)))
+  pub turn-drops : flag held i j ≡ true → (k : ℕ) → k < 64 → between d held i j k ≡ true → turnAt d held i j ≡ set held (i * 64 + j) false
+  turn-drops e k l f = turn-by (both e (some-below (between d held i j) 64 k l f))
 
-  pub dropped-via : (k : ℕ) → k < 64 → between d r i j k ≡ true → false ≡ keeps d r i j
-  unfolding keeps
-  dropped-via k l e = sym (no-right (not (eqb i j) && getD r i false && getD r j false) (ap not (some-below (between d r i j) 64 k l e)))
+  pub turn-keeps : ((k : ℕ) → k < 64 → between d held i j k ≡ false) → turnAt d held i j ≡ held
+  turn-keeps h = turn-by (no-right (flag held i j) (none-below (between d held i j) 64 h))
 
-  pub kept : i ≢ j → not (getD r i false) ≡ false → not (getD r j false) ≡ false → ((k : ℕ) → k < 64 → between d r i j k ≡ false) → true ≡ keeps d r i j
-  unfolding keeps
-  kept n t h a =
-      sym
-      (both (both (both (ap not (ne-eqb i j n)) (not-false (getD r i false) t)) (not-false (getD r j false) h))
-      (ap not (none-below (between d r i j) 64 a)))
+  -- a step of the search
+  module _ (k : ℕ) where
+    pub via-first : flag held i k ≡ false → between d held i j k ≡ false
+    via-first e = no-left _ (no-left _ e)
 
-module _ (d : List (List ℕ)) (r : List Bool) (i j k : ℕ) where
-  pub via-tail : k ≡ i → between d r i j k ≡ false
-  via-tail e = no-left _ (no-left _ (no-left _ (ap not (eq-eqb k i e))))
+    pub via-second : flag held k j ≡ false → between d held i j k ≡ false
+    via-second e = no-left _ (no-right (flag held i k) e)
 
-  pub via-head : not (eqb k j) ≡ false → between d r i j k ≡ false
-  via-head e = no-left _ (no-left _ (no-right (not (eqb k i)) e))
+    pub via-long : eqb (cell d i j) (cell d i k + cell d k j) ≡ false → between d held i j k ≡ false
+    via-long e = no-right (flag held i k && flag held k j) e
 
-  pub via-free : getD r k false ≡ false → between d r i j k ≡ false
-  via-free e = no-left _ (no-right (not (eqb k i) && not (eqb k j)) e)
+    pub via-found : flag held i k ≡ true → flag held k j ≡ true → eqb (cell d i j) (cell d i k + cell d k j) ≡ true → between d held i j k ≡ true
+    via-found a b e = both (both a b) e
 
-  pub via-long : eqb (cell d i j) (cell d i k + cell d k j) ≡ false → between d r i j k ≡ false
-  via-long e = no-right (not (eqb k i) && not (eqb k j) && getD r k false) e
+-- ---- a turn more, and a row more
 
-  pub via-found : k ≢ i → not (eqb k j) ≡ true → getD r k false ≡ true → eqb (cell d i j) (cell d i k + cell d k j) ≡ true → between d r i j k ≡ true
-  via-found a b c e = both (both (both (ap not (ne-eqb k i a)) b) c) e
+module _ (d : List (List ℕ)) (held : List Bool) where
+  pub row-none : (i : ℕ) → rowThinned d held i 0 ≡ held
+  unfolding rowThinned
+  row-none i = refl
+
+  row-more : (i j : ℕ) → rowThinned d held i (j + 1) ≡ turnAt d (rowThinned d held i j) i j
+  unfolding rowThinned
+  row-more i j = ap (rowThinned d held i) (add-one j)
+
+  -- after the turn of (i, j), by what it did
+  pub row-turn : (i j : ℕ) (before after : List Bool) → before ≡ rowThinned d held i j → turnAt d before i j ≡ after → after ≡ rowThinned d held i (j + 1)
+  row-turn i j before after e f = sym f ∙ ap (λ (h : List Bool). turnAt d h i j) e ∙ sym (row-more i j)
+
+  pub rows-none : rowsThinned d held 0 ≡ held
+  unfolding rowsThinned
+  rows-none = refl
+
+  -- after row i
+  pub rows-turn : (i j : ℕ) (before after : List Bool) → before ≡ rowsThinned d held i → after ≡ rowThinned d before i j → j ≡ 64 → after ≡ rowsThinned d held (i + 1)
+  unfolding rowsThinned
+  rows-turn i j before after e f g = f ∙ ap₂ (λ (h : List Bool) (k : ℕ). rowThinned d h i k) e g ∙ sym (ap (rowsThinned d held) (add-one i))
+
+  -- by places, as the pair (i, j) has the place 64 i + j
+  unfoldable pub placesThinned : ℕ → List Bool
+  unfolding turnAt
+  placesThinned zero = held
+  placesThinned (suc n) = turnAt d (placesThinned n) (n / 64) (n % 64)
+
+  row-places : (i j : ℕ) → j ≤ 64 → rowThinned d (placesThinned (i * 64)) i j ≡ placesThinned (i * 64 + j)
+  unfolding rowThinned placesThinned
+  row-places i zero l = let e : i * 64 ≡ i * 64 + 0 = omega arith in ap placesThinned e
+  row-places i (suc j) l =
+      let s : suc (i * 64 + j) ≡ i * 64 + suc j = omega arith in
+      let a : i ≡ (i * 64 + j) / 64 = omega arith in
+      let b : j ≡ (i * 64 + j) % 64 = omega arith in
+      ap (λ (h : List Bool). turnAt d h i j) (row-places i j (omega arith)) ∙ ap₂ (turnAt d (placesThinned (i * 64 + j))) a b ∙ ap placesThinned s
+
+  pub rows-places : (i : ℕ) → rowsThinned d held i ≡ placesThinned (i * 64)
+  unfolding rowsThinned placesThinned
+  rows-places zero = refl
+  rows-places (suc i) =
+      let e : i * 64 + 64 ≡ suc i * 64 = omega arith in
+      ap (λ (h : List Bool). rowThinned d h i 64) (rows-places i) ∙ row-places i 64 (omega arith) ∙ ap placesThinned e

@@ -24,7 +24,7 @@ unfolding arcConditions
 arc-parts e n f standing s =
     let price = price-parts e (fieldsArc f) (isMustStanding standing) (must-test (f .standing) standing s) in
     let kind = ap isRefusedStanding s ∙ refused-above (f .standing) in
-    ap₂ (λ (x y : Bool). firstRefusal ((leb n (f .tail) || leb n (f .head), 5) ∷ (eqb (f .cost) 0 || x, 6) ∷ (y, 7) ∷ [])) price kind
+    ap₂ (λ (x y : Bool). firstRefusal ((leb n (f .tail) || leb n (f .head), 5) ∷ (x, 6) ∷ (y, 7) ∷ [])) price kind
 
 -- All arcs together, once each of them has passed; or the first that has not.
 module _ (e : ℕ) (p : Plan) where

@@ -96,6 +96,8 @@ module _ (p : Plan) (ok : Plannable p) (few : componentCount p ≤ 8) (budget : 
     places-are = n;
     no-multipliers = λ k e. absurd (Option·some-ne-none k (sym e));
     answered = λ e. record {
+      plannable = ok;
+      some-budget = some;
       multipliers = lawful r g;
       multipliers-are = g;
       above-greatest = λ v h. subst⁻¹ (λ (u : List ℤ). lagrangianBound p v ≤ℤ lagrangianBound p (λ i. getD u i (pos 0))) g (answered-above p ok few v h);

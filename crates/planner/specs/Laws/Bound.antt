@@ -35,7 +35,7 @@ use Rattle.balance.specs.Laws.Fill.{zero-at}
 use Rattle.balance.specs.Laws.Plan.{plan-metric}
 use Rattle.arborescence.specs.Picture.{highest}
 use Rattle.arborescence.specs.PairCosts.{AreCosts, IsNetwork, multipliersOf}
-use Rattle.candidates.specs.Laws.Vertices.{required-of-64}
+use Rattle.network.specs.Laws.Vertices.{required-of-64}
 use Rattle.search.specs.Laws.Costs.{required-small}
 use Rattle.planner.specs.Priced.{IsPriced}
 

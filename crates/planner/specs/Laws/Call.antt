@@ -14,17 +14,17 @@ use Rattle.postman.specs.Required.{required}
 use Rattle.postman.specs.Refusal.{Conditions, firstRefusal}
 use Rattle.postman.specs.PlanFile.{fileConditions, isOutside, planOf}
 use Rattle.postman.specs.Component.{componentCount}
-use Rattle.postman.specs.PlanCall.{sheetPlaces, highestBudget, isCutOff, earlierConditions, callRefusal}
+use Rattle.postman.specs.PlanCall.{sheetPlaces, highestBudget, isCutOff, callConditions, partsConditions, earlierConditions, callRefusal}
 use Rattle.postman.specs.Theorem.{cut-off}
 use Rattle.postman.specs.Laws.Tests.{eqb-other}
-use Rattle.postman.specs.Laws.Acceptance.{file-accepted, call-conditions}
+use Rattle.postman.specs.Laws.Acceptance.{file-accepted}
 use Rattle.plan.specs.Records.{planValue}
 use Rattle.refusal.specs.declared.Refusal.{Refusal}
 use Rattle.refusal.specs.Verdict.{refusalNumber}
 use Rattle.plan_file.specs.declared.Reading.{Reading}
 use Rattle.plan_file.specs.Reading.{IsReading}
 use Rattle.plan_file.specs.Laws.Reading.{accepted-value}
-use Rattle.postman.specs.Laws.Refusal.{first-on, first-stop, accepted-cons}
+use Rattle.postman.specs.Laws.Refusal.{first-on, first-stop, accepted-cons, before-order}
 use Rattle.budget.specs.declared.Budget.{Budget}
 use Rattle.budget.specs.declared.Checked.the-variants.{Good, Refused}
 use Rattle.budget.specs.Checks.{checkedOf}
@@ -43,6 +43,11 @@ use Rattle.planner.specs.Laws.Refused.{refusedWith, is-refused}
 pub measured-refusal : (p : Plan) (net : Network) → IsNetwork p net → networkRefusal (net .components) (net .«cut_off») ≡ planRefusal p
 unfolding planRefusal
 measured-refusal p net h = ap (λ (n : ℕ). networkRefusal n (net .«cut_off»)) (h .components .all) ∙ ap (networkRefusal (componentCount p)) (h .cut-off)
+
+-- 10, 11 and 12 of any plan, from the number of its components
+pub parts-refusal : (p : Plan) → WellFormed p → firstRefusal (partsConditions p ++ (isCutOff p, 12) ∷ []) ≡ planRefusal p
+unfolding firstRefusal partsConditions planRefusal networkRefusal
+parts-refusal p w = rw (idle p w)
 
 pub is-known : (p : Plan) (table : List (List ℕ)) (net : Network) → IsMeasured p table net → networkRefusal (net .components) (net .«cut_off») ≡ none
     → (vs : List ℕ) → vs ≡ required p → IsKnown p table vs
@@ -101,33 +106,25 @@ module _ (bytes : List ℕ) (budget places : ℕ) where
   abbrev p : Plan
   p = planOf bytes
 
-  abbrev later : Conditions
-  later =
-      (ltb places sheetPlaces, 8)
-      ∷ (isOutside budget 1 highestBudget, 9)
-      ∷ (eqb (length (requiredArcs p)) 0, 10)
-      ∷ (ltb 8 (componentCount p), 11) ∷ []
-
   abbrev last : Conditions
   last = (isCutOff p, 12) ∷ []
 
-  earlier : earlierConditions bytes budget places ≡ fileConditions bytes ++ later
-  unfolding earlierConditions
-  earlier = refl
+  abbrev later : Conditions
+  later = callConditions budget places ++ (partsConditions p ++ last)
 
-  all-conditions : callRefusal bytes budget places ≡ firstRefusal (fileConditions bytes ++ (later ++ last))
-  all-conditions =
-      call-conditions bytes budget places ∙ ap (λ (cs : Conditions). firstRefusal (cs ++ last)) earlier ∙ ap firstRefusal (append-assoc (fileConditions bytes) later last)
+  all-conditions : callRefusal bytes budget places ≡ firstRefusal (fileConditions bytes ++ later)
+  unfolding callRefusal earlierConditions
+  all-conditions = ap firstRefusal (before-order bytes budget places [] p last)
 
   pub file-refused : (r : ℕ) → firstRefusal (fileConditions bytes) ≡ some r → callRefusal bytes budget places ≡ some r
-  file-refused r e = all-conditions ∙ first-stop (fileConditions bytes) (later ++ last) r e
+  file-refused r e = all-conditions ∙ first-stop (fileConditions bytes) later r e
 
-  later-refusal : WellFormed p → firstRefusal (later ++ last) ≡ sheetRefusal p budget places
-  unfolding firstRefusal sheetRefusal budgetRefusal planRefusal networkRefusal
-  later-refusal w = rw (idle p w)
+  later-refusal : WellFormed p → firstRefusal later ≡ sheetRefusal p budget places
+  unfolding firstRefusal callConditions sheetRefusal budgetRefusal
+  later-refusal w = rw (parts-refusal p w)
 
   pub file-good : WellFormed p → firstRefusal (fileConditions bytes) ≡ none → callRefusal bytes budget places ≡ sheetRefusal p budget places
-  file-good w e = all-conditions ∙ first-on (fileConditions bytes) (later ++ last) e ∙ later-refusal w
+  file-good w e = all-conditions ∙ first-on (fileConditions bytes) later e ∙ later-refusal w
 
 -- ---- the answer of a refusal, and of the whole call
 

@@ -124,4 +124,5 @@ module _ (p : Plan) (ok : Plannable p) (few : componentCount p ≤ 8) where
         nonempty = c .nonempty;
         first = c .first;
         short = c .short;
+        laid = c .laid;
       }

@@ -16,7 +16,7 @@ use Rattle.postman.specs.BitField.{fieldAt}
 use Rattle.postman.specs.Refusal.{Conditions, firstRefusal}
 use Rattle.postman.specs.PlanFile.{edition, vertexCount, arcCount, isEdition, isSecond, impliedService, arcFrom, arcOf, planOf, fileBits, fileLength, fillBits, isOutside, extentConditions, isMispriced, arcConditions, arcsConditions, hasRepeated, planConditions, editionConditions, bodyConditions, fileConditions, readRefusal, IsRecord, writeRefusal}
 use Rattle.postman.specs.Component.{componentCount}
-use Rattle.postman.specs.PlanCall.{sheetPlaces, highestBudget, isCutOff, earlierConditions, callRefusal}
+use Rattle.postman.specs.PlanCall.{sheetPlaces, highestBudget, isCutOff, callConditions, partsConditions, conditionsBefore, earlierConditions, callRefusal}
 use Rattle.postman.specs.Laws.Tests.{cond-ind, not-or, not-not, eqb-same, eqb-other}
 use Rattle.postman.specs.Laws.Membership.{map-mem, below-mem}
 use Rattle.postman.specs.Laws.Below.{length-map-below}
@@ -67,7 +67,6 @@ accepted-extent n m a b c d =
 pub record IsFileArc (e n : ℕ) (a : Arc) : Type 0 where
   pub tail : a .tail < n
   pub head : a .head < n
-  pub cost : 1 ≤ a .cost
   pub priced : T (not (isMispriced e a))
   pub standing : a .standing ≤ 2
 
@@ -79,16 +78,13 @@ module _ (e n : ℕ) (a : Arc) where
       let c = accepted-cons _ _ _ (s .1) in
       let t = accepted-cons _ _ _ (c .1) in
       let v = not-or (leb n (a .tail)) (leb n (a .head)) (s .0) in
-      let x = not-or (eqb (a .cost) 0) (isMispriced e a) (c .0) in
-      let z : a .cost ≢ 0 = eqb-other (x .0) in
-      record { tail = nleb→lt n (a .tail) (v .0); head = nleb→lt n (a .head) (v .1); cost = omega arith; priced = x .1; standing = nltb→le 2 (a .standing) (t .0) }
+      record { tail = nleb→lt n (a .tail) (v .0); head = nleb→lt n (a .head) (v .1); priced = c .0; standing = nltb→le 2 (a .standing) (t .0) }
 
   accepted-arc : IsFileArc e n a → firstRefusal (arcConditions e n a) ≡ none
   unfolding arcConditions
   accepted-arc h =
-      let l = h .cost in
       cons-accepted _ _ _ (neither (leb n (a .tail)) (leb n (a .head)) (lt→nleb n (a .tail) (h .tail)) (lt→nleb n (a .head) (h .head)))
-      (cons-accepted _ _ _ (neither (eqb (a .cost) 0) (isMispriced e a) (not-T (eqb (a .cost) 0) (λ u. (let q = eqb→eq (a .cost) 0 u in omega arith))) (h .priced))
+      (cons-accepted _ _ _ (h .priced)
       (cons-accepted _ _ _ (le→nltb 2 (a .standing) (h .standing)) nothing-refused))
 
   -- in edition 1 the service cost is the implied one
@@ -128,7 +124,7 @@ module _ (e : ℕ) (p : Plan) where
         each = λ a m.
             let r = arcs-accepted (plan-accepted f .0) a m in
             let c = costs a m in
-            record { tail-in = r .tail; head-in = r .head; standing-in = r .standing; priced = r .cost; cost-in = c .0; service-in = c .1 };
+            record { tail-in = r .tail; head-in = r .head; standing-in = r .standing; cost-in = c .0; service-in = c .1 };
       }
 
 -- ---- the file
@@ -324,6 +320,45 @@ module _ (e : ℕ) (p : Plan) (room : ℕ) where
       (append-accepted (extent ++ planConditions e p) _ (append-accepted extent (planConditions e p) limits a)
       (cons-accepted _ _ _ (le→nltb room bytes-needed h) nothing-refused)))
 
+-- ---- a call whose own conditions stand between 9 and 10, on a plan p
+
+pub record BeforeAccepted (bytes : List ℕ) (b places : ℕ) (own : Conditions) (p : Plan) : Type 0 where
+  pub file : firstRefusal (fileConditions bytes) ≡ none
+  pub sheet : sheetPlaces ≤ places
+  pub some-budget : 1 ≤ b
+  pub budget : b ≤ highestBudget
+  pub own-accepted : firstRefusal own ≡ none
+  pub some-required : 0 < length (requiredArcs p)
+  pub components : componentCount p ≤ 8
+
+pub call-limits : (b places : ℕ) → firstRefusal (callConditions b places) ≡ none → (sheetPlaces ≤ places) × (1 ≤ b) × (b ≤ highestBudget)
+unfolding callConditions
+call-limits b places h =
+    let eight = accepted-cons _ _ _ h in
+    let limits = outside-accepted b 1 highestBudget (accepted-cons _ _ _ (eight .1) .0) in
+    (nltb→le places sheetPlaces (eight .0), limits .0, limits .1)
+
+pub before-accepted : (bytes : List ℕ) (b places : ℕ) (own : Conditions) (p : Plan) → firstRefusal (conditionsBefore bytes b places own p) ≡ none
+    → BeforeAccepted bytes b places own p
+unfolding conditionsBefore partsConditions
+before-accepted bytes b places own p h =
+    let both = accepted-append (fileConditions bytes) _ h in
+    let two = accepted-append (callConditions b places) _ (both .1) in
+    let lent = call-limits b places (two .0) in
+    let rest = accepted-append own _ (two .1) in
+    let ten = accepted-cons _ _ _ (rest .1) in
+    let eleven = accepted-cons _ _ _ (ten .1) in
+    let some : length (requiredArcs p) ≢ 0 = eqb-other (ten .0) in
+    record {
+      file = both .0;
+      sheet = lent .0;
+      some-budget = lent .1;
+      budget = lent .2;
+      own-accepted = rest .0;
+      some-required = omega arith;
+      components = nltb→le 8 (componentCount p) (eleven .0);
+    }
+
 -- ---- the plan call
 
 pub record EarlierAccepted (bytes : List ℕ) (b places : ℕ) : Type 0 where
@@ -339,33 +374,24 @@ pub record CallAccepted (bytes : List ℕ) (budget places : ℕ) : Type 0 where
   pub connected : T (not (isCutOff (planOf bytes)))
 
 module _ (bytes : List ℕ) (budget places : ℕ) where
-  earlier-conditions : earlierConditions bytes budget places
-      ≡ fileConditions bytes
-      ++ (ltb places sheetPlaces, 8) ∷ (isOutside budget 1 highestBudget, 9) ∷ (eqb (length (requiredArcs (planOf bytes))) 0, 10) ∷ (ltb 8 (componentCount (planOf bytes)), 11) ∷ []
-  unfolding earlierConditions
-  earlier-conditions = refl
-
   pub call-conditions : callRefusal bytes budget places ≡ firstRefusal (earlierConditions bytes budget places ++ (isCutOff (planOf bytes), 12) ∷ [])
   unfolding callRefusal
   call-conditions = refl
 
+  accepted-before : firstRefusal (earlierConditions bytes budget places) ≡ none → BeforeAccepted bytes budget places [] (planOf bytes)
+  unfolding earlierConditions
+  accepted-before e = before-accepted bytes budget places [] (planOf bytes) e
+
   pub earlier-accepted : firstRefusal (earlierConditions bytes budget places) ≡ none → EarlierAccepted bytes budget places
   earlier-accepted e =
-      let p = planOf bytes in
-      let both = accepted-append (fileConditions bytes) _ (rw earlier-conditions at e) in
-      let eight = accepted-cons _ _ _ (both .1) in
-      let nine = accepted-cons _ _ _ (eight .1) in
-      let ten = accepted-cons _ _ _ (nine .1) in
-      let eleven = accepted-cons _ _ _ (ten .1) in
-      let limits = outside-accepted budget 1 highestBudget (nine .0) in
-      let some : length (requiredArcs p) ≢ 0 = eqb-other (ten .0) in
+      let a = accepted-before e in
       record {
-        well-formed = file-accepted bytes (both .0);
-        sheet = nltb→le places sheetPlaces (eight .0);
-        some-budget = limits .0;
-        budget = limits .1;
-        some-required = omega arith;
-        components = nltb→le 8 (componentCount p) (eleven .0);
+        well-formed = file-accepted bytes (a .file);
+        sheet = a .sheet;
+        some-budget = a .some-budget;
+        budget = a .budget;
+        some-required = a .some-required;
+        components = a .components;
       }
 
   pub call-accepted : callRefusal bytes budget places ≡ none → CallAccepted bytes budget places
@@ -374,6 +400,4 @@ module _ (bytes : List ℕ) (budget places : ℕ) where
       record { earlier = earlier-accepted (r .0); connected = accepted-cons _ _ _ (r .1) .0 }
 
   pub call-file : callRefusal bytes budget places ≡ none → firstRefusal (fileConditions bytes) ≡ none
-  call-file e =
-      let r = accepted-append (earlierConditions bytes budget places) _ (rw call-conditions at e) in
-      accepted-append (fileConditions bytes) _ (rw earlier-conditions at (r .0)) .0
+  call-file e = accepted-before (accepted-append (earlierConditions bytes budget places) _ (rw call-conditions at e) .0) .file

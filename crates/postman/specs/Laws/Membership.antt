@@ -32,6 +32,12 @@ module _ {A : Type 0} where
       ])
       (λ t m. let r = select-mem p ys m in (List·Memᴰ·tail (r .0), r .1))
 
+  -- tests that agree on the list select the same
+  pub select-cong : (f g : A → Bool) (xs : List A) → ((x : A) → List·Memᴰ x xs → f x ≡ g x) → select f xs ≡ select g xs
+  unfolding select
+  select-cong f g [] h = refl
+  select-cong f g (x ∷ xs) h = rw (h x (List·Memᴰ·head refl), select-cong f g xs (λ y m. h y (List·Memᴰ·tail m)))
+
   pub getD-mem : (xs : List A) (d : A) (k : ℕ) → k < length xs → List·Memᴰ (getD xs k d) xs
   getD-mem [] d k h = absurd (not-suc-le-zero h)
   getD-mem (x ∷ xs) d zero h = List·Memᴰ·head refl

@@ -141,23 +141,28 @@ module _ (p : Plan) (ok : Plannable p) where
         let e = r .2 in
         omega arith
 
-    whole-same : T (leb (arborescenceCount p) b) → bestCost p b ≡ bestCost p c
-    unfolding bestCost triedCount
-    whole-same t =
-        let l = leb→le (arborescenceCount p) b t in
-        let e : min b (arborescenceCount p) ≡ min c (arborescenceCount p) = omega arith in
-        ap (λ k. minimum (map (completionCost p) (take k (arborescences p)))) e
+    -- where all trees were tried, tries the same and is whole too
+    pub whole-tried : T (isWhole p b) → triedCount p b ≡ triedCount p c
+    unfolding isWhole triedCount
+    whole-tried t = let l = leb→le (arborescenceCount p) b t in omega arith
+
+    pub whole-stays : T (isWhole p b) → T (isWhole p c)
+    unfolding isWhole
+    whole-stays t = let l = leb→le (arborescenceCount p) b t in le→leb (arborescenceCount p) c (omega arith)
+
+    whole-cost : T (isWhole p b) → bestCost p b ≡ bestCost p c
+    unfolding bestCost
+    whole-cost t = ap (λ k. minimum (map (completionCost p) (take k (arborescences p)))) (whole-tried t)
 
     -- nor, at the same u, a lower bound that is lower
     pub larger-bound : (u : Multipliers) → AreMultipliers p u → lowerBound p b u ≤ℤ lowerBound p c u
-    unfolding lowerBound isWhole
+    unfolding lowerBound
     larger-bound u h =
         let Lu = lagrangianBound p u in
-        let n = arborescenceCount p in
-        cond-ind (leb n b) (pos (bestCost p b)) (maxℤ L0 Lu) (λ x. x ≤ℤ cond (leb n c) (pos (bestCost p c)) (maxℤ L0 Lu))
-        (λ t. cond-ind (leb n c) (pos (bestCost p c)) (maxℤ L0 Lu) (λ x. pos (bestCost p b) ≤ℤ x)
-        (λ s. (let e = whole-same t in omega (arith, z)))
-        (λ s. absurd (T-not (leb n c) s (le→leb n c (let l = leb→le n b t in omega arith)))))
-        (λ t. cond-ind (leb n c) (pos (bestCost p c)) (maxℤ L0 Lu) (λ x. maxℤ L0 Lu ≤ℤ x)
+        cond-ind (isWhole p b) (pos (bestCost p b)) (maxℤ L0 Lu) (λ x. x ≤ℤ cond (isWhole p c) (pos (bestCost p c)) (maxℤ L0 Lu))
+        (λ t. cond-ind (isWhole p c) (pos (bestCost p c)) (maxℤ L0 Lu) (λ x. pos (bestCost p b) ≤ℤ x)
+        (λ s. (let e = whole-cost t in omega (arith, z)))
+        (λ s. absurd (T-not (isWhole p c) s (whole-stays t))))
+        (λ t. cond-ind (isWhole p c) (pos (bestCost p c)) (maxℤ L0 Lu) (λ x. maxℤ L0 Lu ≤ℤ x)
         (λ s. max-least L0 Lu (pos (bestCost p c)) (bound-best (λ i. pos 0) (zero-feasible p) c (omega arith)) (bound-best u (h .feasible) c (omega arith)))
         (λ s. ≤ℤ-refl (maxℤ L0 Lu)))

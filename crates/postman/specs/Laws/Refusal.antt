@@ -4,7 +4,7 @@
 use mathlib.Core.Path.{_≡_, refl, sym, ap, _∙_, subst⁻¹}
 use mathlib.Core.Logic.{_≢_}
 use mathlib.Core.Bool.{Bool, true, false, not, cond}
-use mathlib.Core.List.{List, [], _∷_, _++_, map, flatMap, List·Memᴰ, List·Memᴰ·head, List·Memᴰ·tail}
+use mathlib.Core.List.{List, [], _∷_, _++_, map, flatMap, append-assoc, List·Memᴰ, List·Memᴰ·head, List·Memᴰ·tail}
 use mathlib.Core.Option.{Option, none, some, Option·some-ne-none}
 use Prim.Native.Nat.{ℕ, suc, _+_, _-_, _<_, _≤_}
 use native.Mathlib.Numerals.{add-one}
@@ -14,7 +14,7 @@ use Rattle.postman.specs.Lists.{upFrom, below}
 use Rattle.postman.specs.Plan.{Arc, Plan}
 use Rattle.postman.specs.Refusal.{Conditions, firstRefusal, refused, given, answer}
 use Rattle.postman.specs.PlanFile.{edition, editionConditions, bodyConditions, fileConditions, extentConditions, planConditions, arcsConditions, arcConditions, planOf}
-use Rattle.postman.specs.PlanCall.{earlierConditions}
+use Rattle.postman.specs.PlanCall.{callConditions, partsConditions, conditionsBefore, earlierConditions}
 
 -- ---- one condition more
 
@@ -160,6 +160,32 @@ module _ {A : Type 0} where
   was-refused none x r e = let z : _≡_ {A = ℕ} 0 1 = cc in absurd (omega arith)
   was-refused (some q) x r e = cc
 
+-- ---- the order of a call's conditions
+
+-- the file's, 8 and 9, the call's own, then 10 and 11, and what comes after these
+pub before-order : (bytes : List ℕ) (budget places : ℕ) (own : Conditions) (p : Plan) (ds : Conditions)
+    → conditionsBefore bytes budget places own p ++ ds ≡ fileConditions bytes ++ (callConditions budget places ++ (own ++ (partsConditions p ++ ds)))
+unfolding conditionsBefore
+before-order bytes budget places own p ds =
+    let c = callConditions budget places in
+    append-assoc (fileConditions bytes) (c ++ (own ++ partsConditions p)) ds
+    ∙ ap (λ (l : Conditions). fileConditions bytes ++ l)
+    (append-assoc c (own ++ partsConditions p) ds ∙ ap (λ (l : Conditions). c ++ l) (append-assoc own (partsConditions p) ds))
+
+-- the first of joined lists, by the first of what is joined on
+pub first-same : (cs ds es : Conditions) → firstRefusal ds ≡ firstRefusal es → firstRefusal (cs ++ ds) ≡ firstRefusal (cs ++ es)
+unfolding firstRefusal
+first-same [] ds es e = e
+first-same (c ∷ cs) ds es e = rw (first-same cs ds es e)
+
+-- conditions of its own that do not apply change nothing
+pub own-passed : (bytes : List ℕ) (budget places : ℕ) (own : Conditions) (p : Plan) (ds : Conditions) → firstRefusal own ≡ none
+    → firstRefusal (conditionsBefore bytes budget places own p ++ ds) ≡ firstRefusal (conditionsBefore bytes budget places [] p ++ ds)
+own-passed bytes budget places own p ds e =
+    ap firstRefusal (before-order bytes budget places own p ds)
+    ∙ first-same (fileConditions bytes) _ _ (first-same (callConditions budget places) _ _ (first-on own (partsConditions p ++ ds) e))
+    ∙ sym (ap firstRefusal (before-order bytes budget places [] p ds))
+
 -- ---- the last condition
 
 -- the conditions' numbers are others than r
@@ -189,9 +215,14 @@ file-other : (bytes : List ℕ) → Other 12 (fileConditions bytes)
 unfolding fileConditions editionConditions extentConditions bodyConditions
 file-other bytes = (omega arith, (omega arith, (omega arith, (omega arith, (omega arith, plan-other (edition bytes) (planOf bytes))))))
 
+pub before-other : (bytes : List ℕ) (budget places : ℕ) (own : Conditions) (p : Plan) → Other 12 own → Other 12 (conditionsBefore bytes budget places own p)
+unfolding conditionsBefore callConditions partsConditions
+before-other bytes budget places own p h =
+    other-append 12 (fileConditions bytes) _ (file-other bytes) (omega arith, (omega arith, other-append 12 own _ h (omega arith, (omega arith, tt))))
+
 pub earlier-other : (bytes : List ℕ) (budget places : ℕ) → Other 12 (earlierConditions bytes budget places)
 unfolding earlierConditions
-earlier-other bytes budget places = other-append 12 (fileConditions bytes) _ (file-other bytes) (omega arith, (omega arith, (omega arith, (omega arith, tt))))
+earlier-other bytes budget places = before-other bytes budget places [] (planOf bytes) tt
 
 pub last-given : (cs : Conditions) (b : Bool) (r : ℕ) → Other r cs → firstRefusal (cs ++ (b, r) ∷ []) ≡ some r → (firstRefusal cs ≡ none) × T b
 unfolding firstRefusal

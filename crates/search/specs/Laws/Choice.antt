@@ -21,7 +21,7 @@ use Rattle.balance.specs.Step.{State}
 use Rattle.arborescence.specs.Order.{Sources, arrivesBy, extensions, none-chosen, inOrder, choiceAt, entryAt}
 use Rattle.arborescence.specs.Layout.{laidOut, HasChosen}
 use Rattle.arborescence.specs.Candidates.{linksOf}
-use Rattle.arborescence.specs.Laws.Lists.{map-cong}
+use Rattle.postman.specs.Laws.Lists.{map-cong}
 use Rattle.arborescence.specs.Laws.Order.{choice-at}
 use Rattle.arborescence.specs.Laws.Candidates.{in-order}
 use Rattle.arborescence.specs.Laws.Layout.{place-lt}

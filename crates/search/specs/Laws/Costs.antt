@@ -25,7 +25,7 @@ use Rattle.balance.specs.Balance.{balance}
 use Rattle.balance.specs.Invariant.{Metric, Joining, Certified, limit}
 use Rattle.balance.specs.Laws.Step.{add-certified}
 use Rattle.balance.specs.Laws.Plan.{table-metric, balance-links, balance-certified, balance-counted, balance-least, balance-room}
-use Rattle.arborescence.specs.Laws.Lists.{map-cong}
+use Rattle.postman.specs.Laws.Lists.{map-cong}
 use Rattle.search.specs.Links.{Inside}
 use Rattle.search.specs.Costs.{tableCost, reducedAt, reducedIn, completionIn, Ready, Feasible, Short, AllReducible}
 use Rattle.search.specs.Prepared.{Prepared}

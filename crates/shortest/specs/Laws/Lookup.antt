@@ -1,10 +1,10 @@
--- What is looked up among lent rows and a column is the next arc of their plan: arc k is row k, and the column holds the distances to j.
+-- What is looked up among lent rows and a column is the next arc of their weighted plan: arc k is row k, and the column holds the weights to j.
 use mathlib.Core.Path.{_≡_, refl, sym, ap, _∙_, subst⁻¹}
 use mathlib.Core.Bool.{Bool, _&&_}
 use mathlib.Core.List.{List, [], _∷_}
 use Prim.Native.Nat.{ℕ, zero, suc, _+_, _<_, _≤_}
 use native.Mathlib.Omega.{arith}
-use lib.ListN.{length, getD, take}
+use lib.ListN.{length, getD, take, length-map}
 use lib.Seq.{length-take-le, getD-take}
 use lib.Dec.{eqb}
 use Rattle.postman.specs.Lists.{firstIndex, upFrom, below}
@@ -17,7 +17,9 @@ use Rattle.plan.specs.Rows.{arcIn, planIn}
 use Rattle.plan.specs.Laws.Records.{plan-vertices, record-vertices}
 use Rattle.plan.specs.Laws.Rows.{rows-length, rows-vertices, row-arc}
 use Rattle.shortest.specs.ShortestPath.{begins, nextArc, beginsIn, nextIn, shortestPath}
-use Rattle.shortest.specs.Contracts.{IsColumn, AreRows, IsTable}
+use Rattle.shortest.specs.Contracts.{IsColumn, AreRows, AreWeights}
+use Rattle.shortest.specs.Weight.{heavy, weighted}
+use Rattle.shortest.specs.Laws.Weight.{heavy-at}
 
 -- the first index of two tests that agree
 first-same : (f g : ℕ → Bool) (a n : ℕ) → ((k : ℕ) → a ≤ k → k < a + n → f k ≡ g k) → firstIndex f (upFrom a n) ≡ firstIndex g (upFrom a n)
@@ -40,20 +42,21 @@ module _ (n : ℕ) (rows : List (List ℕ)) (ok : WellFormed (planIn n rows)) wh
       (omega arith, omega arith)
 
   module _ (j : ℕ) (column : List ℕ) (c : IsColumn (planIn n rows) j column) where
-    begins-same : (v k : ℕ) → v < n → k < length rows → beginsIn rows column v k ≡ begins (planIn n rows) v j k
+    begins-same : (v k : ℕ) → v < n → k < length rows → beginsIn rows column v k ≡ begins (weighted (planIn n rows)) v j k
     unfolding beginsIn begins
     begins-same v k h l =
         let w = rows-vertices n rows in
         let g = row-ends k l .1 in
-        rw (row-arc n rows k l, c v (omega arith), c (arcIn (getD rows k []) .head) (omega arith))
+        let m = rows-length n rows in
+        rw (heavy-at (planIn n rows .arcs) k (omega arith), row-arc n rows k l, c v (omega arith), c (arcIn (getD rows k []) .head) (omega arith))
 
-    pub next-same : (v : ℕ) → v < n → nextIn rows column v ≡ nextArc (planIn n rows) v j
+    pub next-same : (v : ℕ) → v < n → nextIn rows column v ≡ nextArc (weighted (planIn n rows)) v j
     unfolding nextIn nextArc below
     next-same v h =
-        first-same (beginsIn rows column v) (begins (planIn n rows) v j) 0 (length rows) (λ k a b. begins-same v k h (omega arith))
-        ∙ ap (λ m. firstIndex (begins (planIn n rows) v j) (upFrom 0 m)) (sym (rows-length n rows))
+        first-same (beginsIn rows column v) (begins (weighted (planIn n rows)) v j) 0 (length rows) (λ k a b. begins-same v k h (omega arith))
+        ∙ ap (λ m. firstIndex (begins (weighted (planIn n rows)) v j) (upFrom 0 m)) (sym (length-map (planIn n rows .arcs) heavy ∙ rows-length n rows))
 
--- A column that was taken out of the rows of a table: of as many entries as there are rows, it is the column of the distances to j.
+-- A column that was taken out of the rows of a table: of as many entries as there are rows, it is the column of the weights to j.
 pub few-rows : (arcs table : List (List ℕ)) → WellFormed (planIn (length table) arcs) → length table ≤ 64
 few-rows arcs table ok = let v = rows-vertices (length table) arcs in let n = ok .vertices in omega arith
 
@@ -94,7 +97,7 @@ module _ (r : PlanRecord) (ok : WellFormed (planValue r)) where
   pub lent-plan : (rows : List (List ℕ)) → planIn (r .n) rows ≡ planValue r → (table : List (List ℕ)) → length table ≡ 64 → planIn (length (take (r .n) table)) rows ≡ planValue r
   lent-plan rows e table l = let n = record-vertices r ok .1 in ap (λ n. planIn n rows) (length-take-le (r .n) table (omega arith)) ∙ e
 
-  pub lent-rows : (table : List (List ℕ)) → IsTable (planValue r) table → AreRows (planValue r) (take (r .n) table)
+  pub lent-rows : (table : List (List ℕ)) → AreWeights (planValue r) table → AreRows (planValue r) (take (r .n) table)
   lent-rows table t i j h l =
       let e = plan-vertices r in
       let n = record-vertices r ok .1 in

@@ -9,21 +9,21 @@ use native.Mathlib.Omega.{arith}
 use lib.ListN.{length, set, take, drop, length-set, length-append, take-append-drop}
 use lib.Seq.{take-suc-set, drop-set-lt, drop-drop}
 use lib.Dec.{eqb, eqb→eq}
-use Rattle.postman.specs.Plan.{Plan, arcAt, WellFormed}
+use Rattle.postman.specs.Plan.{Plan, arcAt}
 use Rattle.postman.specs.Tour.{IsWalk}
 use Rattle.postman.specs.Distance.{noPath, distance}
 use Rattle.postman.specs.Laws.Tests.{cond-ind, eqb-other}
 use Rattle.postman.specs.Laws.Membership.{getD-mem}
-use Rattle.postman.specs.Laws.Distance.{bounded}
-use Rattle.shortest.specs.ShortestPath.{nextArc, pathWithin, shortestPath}
+use Rattle.shortest.specs.ShortestPath.{nextArc, pathWithin, cheapestPath}
 use Rattle.shortest.specs.Contracts.{overwrite}
-use Rattle.shortest.specs.Laws.ShortestPath.{shortest-path, next-begins}
+use Rattle.shortest.specs.Laws.Weight.{IsWeighted}
+use Rattle.shortest.specs.Laws.CheapestPath.{cheapest-path, next-begins}
 
 -- the places, once the path from i to j is written up to vertex v and place `to`
 pub record Writing (p : Plan) (i j : ℕ) (old : List ℕ) (at : ℕ) (places : List ℕ) (v to : ℕ) : Type 0 where
   pub fuel : ℕ
   pub done : List ℕ
-  pub split : done ++ pathWithin p fuel v j ≡ shortestPath p i j
+  pub split : done ++ pathWithin p fuel v j ≡ cheapestPath p i j
   pub walk : IsWalk (p .arcs) v (pathWithin p fuel v j) j
   pub inside : v < p .n
   pub finite : distance p v j < noPath
@@ -32,14 +32,14 @@ pub record Writing (p : Plan) (i j : ℕ) (old : List ℕ) (at : ℕ) (places : 
   pub written : take to places ≡ take at old ++ done
   pub kept : drop to places ≡ drop to old
 
-module _ (p : Plan) (ok : WellFormed p) (i j : ℕ) (old : List ℕ) (at : ℕ) where
+module _ (p : Plan) (ok : IsWeighted p) (i j : ℕ) (old : List ℕ) (at : ℕ) where
   pub writing-none : i < p .n → distance p i j < noPath → Writing p i j old at old i at
-  unfolding shortestPath
+  unfolding cheapestPath
   writing-none l h = record {
     fuel = p .n;
     done = [];
     split = refl;
-    walk = shortest-path p ok i j l h .walk;
+    walk = cheapest-path p ok i j l h .walk;
     inside = l;
     finite = h;
     place = sym (add-zero at);
@@ -69,7 +69,7 @@ module _ (p : Plan) (ok : WellFormed p) (i j : ℕ) (old : List ℕ) (at : ℕ) 
 
   module _ (places : List ℕ) (v to : ℕ) (h : Writing p i j old at places v to) where
     -- before the end there is room for another arc
-    pub writing-room : v ≢ j → to < at + length (shortestPath p i j)
+    pub writing-room : v ≢ j → to < at + length (cheapestPath p i j)
     writing-room n =
         let r = left (h .fuel) v n (h .walk) in
         let a = length-append (h .done) (pathWithin p (h .fuel) v j) in
@@ -78,7 +78,7 @@ module _ (p : Plan) (ok : WellFormed p) (i j : ℕ) (old : List ℕ) (at : ℕ) 
         let e = h .place in
         omega arith
 
-    pub writing-more : v ≢ j → at + length (shortestPath p i j) ≤ length old
+    pub writing-more : v ≢ j → at + length (cheapestPath p i j) ≤ length old
         → Writing p i j old at (set places to (nextArc p v j)) (arcAt (p .arcs) (nextArc p v j) .head) (to + 1)
     writing-more n room =
         let r = left (h .fuel) v n (h .walk) in
@@ -96,7 +96,7 @@ module _ (p : Plan) (ok : WellFormed p) (i j : ℕ) (old : List ℕ) (at : ℕ) 
           done = h .done ++ k ∷ [];
           split = append-assoc (h .done) (k ∷ []) _ ∙ ap (λ (xs : List ℕ). h .done ++ xs) (sym (r .1)) ∙ h .split;
           walk = w .3;
-          inside = bounded ok .ends (arcAt (p .arcs) k) (getD-mem (p .arcs) _ k (b .number)) .1;
+          inside = ok .ends (arcAt (p .arcs) k) (getD-mem (p .arcs) _ k (b .number)) .1;
           finite = omega arith;
           place = omega arith;
           size = length-set places to k ∙ h .size;
@@ -105,9 +105,9 @@ module _ (p : Plan) (ok : WellFormed p) (i j : ℕ) (old : List ℕ) (at : ℕ) 
           kept = drop-set-lt (to + 1) places to k (omega arith) ∙ sym (drop-drop 1 to places) ∙ ap (drop 1) (h .kept) ∙ drop-drop 1 to old;
         }
 
-    pub writing-all : v ≡ j → (places ≡ overwrite old at (shortestPath p i j)) × (to ≡ at + length (shortestPath p i j))
+    pub writing-all : v ≡ j → (places ≡ overwrite old at (cheapestPath p i j)) × (to ≡ at + length (cheapestPath p i j))
     unfolding overwrite
     writing-all e =
-        let z : h .done ≡ shortestPath p i j = sym (append-nil (h .done)) ∙ ap (λ (xs : List ℕ). h .done ++ xs) (sym (none-left (h .fuel) v e)) ∙ h .split in
-        let q : to ≡ at + length (shortestPath p i j) = h .place ∙ ap (λ (xs : List ℕ). at + length xs) z in
+        let z : h .done ≡ cheapestPath p i j = sym (append-nil (h .done)) ∙ ap (λ (xs : List ℕ). h .done ++ xs) (sym (none-left (h .fuel) v e)) ∙ h .split in
+        let q : to ≡ at + length (cheapestPath p i j) = h .place ∙ ap (λ (xs : List ℕ). at + length xs) z in
         (sym (take-append-drop to places) ∙ ap₂ (λ (xs ys : List ℕ). xs ++ ys) (h .written ∙ ap (λ (xs : List ℕ). take at old ++ xs) z) (h .kept ∙ ap (λ n. drop n old) q), q)

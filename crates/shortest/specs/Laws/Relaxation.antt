@@ -9,15 +9,16 @@ use native.Mathlib.Omega.{arith}
 use lib.ListN.{length, getD, set, replicate, length-set, length-replicate, getD-replicate}
 use lib.Seq.{getD-set-same, getD-set-other, ext-getD}
 use lib.Dec.{T, T-not}
-use Rattle.postman.specs.Plan.{Arc, Plan, isOpen, arcAt, WellFormed}
+use Rattle.postman.specs.Plan.{Arc, Plan, isOpen, arcAt}
 use Rattle.postman.specs.Tour.{IsWalk, walkCost}
 use Rattle.postman.specs.Distance.{noPath, distance}
 use Rattle.postman.specs.Laws.Tests.{cond-ind}
 use Rattle.postman.specs.Laws.Membership.{getD-mem, mem-getD}
-use Rattle.postman.specs.Laws.Distance.{InPlan, bounded, distance-self, distance-le, distance-walk, distance-le-noPath, triangle}
+use Rattle.postman.specs.Laws.Distance.{InPlan, distance-self, distance-le, distance-walk, distance-le-noPath, triangle}
 use Rattle.shortest.specs.Relaxation.{weight, shorter, relaxArc, relaxArcs, startRow}
 use Rattle.shortest.specs.Contracts.{IsRow}
 use Rattle.shortest.specs.Laws.LastArc.{last-arc}
+use Rattle.shortest.specs.Laws.Weight.{IsWeighted}
 
 -- ---- one arc
 
@@ -100,7 +101,7 @@ pub record Rounds (p : Plan) (source k : ℕ) (row : List ℕ) : Type 0 where
   pub at-least : (j : ℕ) → j < 64 → distance p source j ≤ getD row j 0
   pub reaches : (j : ℕ) (w : List ℕ) → IsWalk (p .arcs) source w j → length w ≤ k → getD row j 0 ≤ walkCost (p .arcs) w
 
-pub rounds-none : (p : Plan) → WellFormed p → (source : ℕ) → source < 64 → Rounds p source 0 (startRow source)
+pub rounds-none : (p : Plan) → IsWeighted p → (source : ℕ) → source < 64 → Rounds p source 0 (startRow source)
 unfolding startRow
 rounds-none p wf source l = record {
   size = size;
@@ -119,7 +120,7 @@ rounds-none p wf source l = record {
 }
   where
     ok : InPlan p
-    ok = bounded wf .ends
+    ok = wf .ends
 
     size : length (set (replicate 64 noPath) source 0) ≡ 64
     size = length-set (replicate 64 noPath) source 0 ∙ length-replicate 64 noPath
@@ -141,9 +142,9 @@ rounds-none p wf source l = record {
     none j [] h g = let z = same j (sym h) in omega arith
     none j (k ∷ w) h g = absurd (omega arith)
 
-module _ (p : Plan) (wf : WellFormed p) (source : ℕ) where
+module _ (p : Plan) (wf : IsWeighted p) (source : ℕ) where
   ok : InPlan p
-  ok = bounded wf .ends
+  ok = wf .ends
 
   abbrev AtLeast : List ℕ → Type 0
   AtLeast row = (j : ℕ) → j < 64 → distance p source j ≤ getD row j 0

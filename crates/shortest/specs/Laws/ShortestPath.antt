@@ -1,194 +1,71 @@
--- The path is a walk that costs d: at each vertex some cheapest path begins with an open arc, and d falls along it because every arc costs at least 1. So no
--- vertex is entered twice, and fewer vertices than there are lie nearer to the end: n arcs are enough.
-use mathlib.Core.Path.{_≡_, ap}
-use mathlib.Core.Logic.{inl, inr, _≢_}
-use mathlib.Core.Bool.{true, _&&_}
-use mathlib.Core.List.{List, [], _∷_, List·Memᴰ, List·Memᴰ·cases-cons}
-use Prim.Native.Nat.{ℕ, zero, suc, _+_, _-_, _≤_, _<_, zero-le}
-use native.Mathlib.Decide.{decLe, ℕ-discrete}
+-- The path of a leg is the path of fewest arcs: a lightest one costs d, has no more arcs than any that costs as much, and none of its weight comes before it.
+use mathlib.Core.Path.{_≡_, _∙_, subst}
+use mathlib.Core.List.{List}
+use Prim.Native.Nat.{ℕ, _+_, _-_, _*_, _≤_, _<_}
 use native.Mathlib.Omega.{arith}
 use lib.ListN.{length}
-use lib.Dec.{T, eqb, ltb, eqb→eq, lt→ltb, ltb→lt, not-T}
-use Rattle.postman.specs.Lists.{select, below, occurrences}
-use Rattle.postman.specs.Plan.{Plan, isOpen, arcAt, WellFormed}
+use Rattle.postman.specs.Lists.{occurrences}
+use Rattle.postman.specs.Plan.{Plan, WellFormed}
 use Rattle.postman.specs.Tour.{IsWalk, walkCost}
 use Rattle.postman.specs.Distance.{noPath, distance}
-use Rattle.postman.specs.Laws.Tests.{cond-ind, and-both, and-parts, eqb-same, eqb-other}
-use Rattle.postman.specs.Laws.Membership.{getD-mem, mem-below, length-below}
-use Rattle.postman.specs.Laws.Occurrences.{delta-yes, delta-no, mem-of-occurrences}
-use Rattle.postman.specs.Laws.Distance.{InPlan, bounded, distance-self, distance-le, distance-walk, distance-arc}
-use Rattle.shortest.specs.ShortestPath.{begins, nextArc, pathWithin, shortestPath, entered}
-use Rattle.shortest.specs.Laws.FirstNumber.{first-lt, first-test}
-use Rattle.shortest.specs.Laws.Rank.{select-lt, select-all}
+use Rattle.postman.specs.FewestPath.{IsFewestPath}
+use Rattle.postman.specs.Laws.Distance.{bounded, distance-le}
+use Rattle.shortest.specs.Weight.{weighted}
+use Rattle.shortest.specs.ShortestPath.{cheapestPath, shortestPath, entered}
+use Rattle.shortest.specs.Laws.CheapestPath.{IsCheapestPath, cheapest-path}
+use Rattle.shortest.specs.Laws.Weight.{is-weighted, to-weighted, of-weighted, walk-weight, same-entered, weight-path, least-cost}
 
--- what a number that begins a cheapest path says
-pub record Begins (p : Plan) (v j k : ℕ) : Type 0 where
-  pub number : k < length (p .arcs)
-  pub opens : T (isOpen (arcAt (p .arcs) k))
-  pub tail : arcAt (p .arcs) k .tail ≡ v
-  pub costs : arcAt (p .arcs) k .cost + distance p (arcAt (p .arcs) k .head) j ≡ distance p v j
-
-begins-parts : (p : Plan) (v j k : ℕ) → k < length (p .arcs) → T (begins p v j k) → Begins p v j k
-unfolding begins
-begins-parts p v j k l t =
-    let o = isOpen (arcAt (p .arcs) k) in
-    let e = eqb (arcAt (p .arcs) k .tail) v in
-    let c = eqb (arcAt (p .arcs) k .cost + distance p (arcAt (p .arcs) k .head) j) (distance p v j) in
-    let a = and-parts (o && e) c t in
-    let b = and-parts o e (a .0) in
-    record { number = l; opens = b .0; tail = eqb→eq _ v (b .1); costs = eqb→eq _ (distance p v j) (a .1) }
-
-begins-whole : (p : Plan) (v j k : ℕ) → Begins p v j k → T (begins p v j k)
-unfolding begins
-begins-whole p v j k h =
-    let o = isOpen (arcAt (p .arcs) k) in
-    let e = eqb (arcAt (p .arcs) k .tail) v in
-    let c = eqb (arcAt (p .arcs) k .cost + distance p (arcAt (p .arcs) k .head) j) (distance p v j) in
-    and-both (o && e) c (and-both o e (h .opens) (eqb-same (h .tail))) (eqb-same (h .costs))
-
-module _ (p : Plan) (ok : WellFormed p) where
-  ends : InPlan p
-  ends = bounded ok .ends
-
-  -- ---- the next arc
-
-  -- at a vertex other than the end, some arc begins a cheapest path
-  some-begins : (v j : ℕ) → v ≢ j → distance p v j < noPath → (k : ℕ) × Begins p v j k
-  some-begins v j n h = let r = distance-walk p ends v j h in go (r .0) (r .1) (r .3)
-    where
-      go : (w : List ℕ) → IsWalk (p .arcs) v w j → walkCost (p .arcs) w ≡ distance p v j → (k : ℕ) × Begins p v j k
-      go [] q c = absurd (n q)
-      go (k ∷ w) q c =
-          let o = ends (arcAt (p .arcs) k) (getD-mem (p .arcs) _ k (q .0)) .1 in
-          let a = distance-le p ends (arcAt (p .arcs) k .head) j w o (q .3) in
-          let b = distance-arc p ends k j (q .0) (q .1) in
-          let e = ap (λ z. distance p z j) (q .2) in
-          (k, record { number = q .0; opens = q .1; tail = q .2; costs = omega arith })
-
-  pub next-begins : (v j : ℕ) → v ≢ j → distance p v j < noPath → Begins p v j (nextArc p v j)
-  unfolding nextArc
-  next-begins v j n h =
-      let r = some-begins v j n h in
-      let l = first-lt (begins p v j) (length (p .arcs)) (r .1 .number) (begins-whole p v j (r .0) (r .1)) in
-      begins-parts p v j (nextArc p v j) l (first-test (begins p v j) (length (p .arcs)) l)
-
-  -- its head is nearer to the end
-  nearer : (v j k : ℕ) → Begins p v j k → distance p (arcAt (p .arcs) k .head) j < distance p v j
-  nearer v j k h = let c = ok .each (arcAt (p .arcs) k) (getD-mem (p .arcs) _ k (h .number)) .priced in let e = h .costs in omega arith
-
-  -- how many vertices are nearer to j than v
-  rank : ℕ → ℕ → ℕ
-  rank j v = length (select (λ u. ltb (distance p u j) (distance p v j)) (below (p .n)))
-
-  rank-falls : (j u v : ℕ) → u < p .n → distance p u j < distance p v j → rank j u < rank j v
-  unfolding rank
-  rank-falls j u v l h =
-      select-lt (λ x. ltb (distance p x j) (distance p u j)) (λ x. ltb (distance p x j) (distance p v j))
-      (λ x t. let g = ltb→lt (distance p x j) (distance p u j) t in lt→ltb (distance p x j) (distance p v j) (omega arith))
-      (mem-below l) (lt→ltb (distance p u j) (distance p v j) h)
-      (not-T (ltb (distance p u j) (distance p u j)) (λ t. let g = ltb→lt (distance p u j) (distance p u j) t in omega arith))
-
-  rank-lt : (j v : ℕ) → v < p .n → rank j v < p .n
-  unfolding rank
-  rank-lt j v l =
-      let a = select-lt (λ x. ltb (distance p x j) (distance p v j)) (λ x. true) (λ x t. tt) (mem-below l) tt
-      (not-T (ltb (distance p v j) (distance p v j)) (λ t. let g = ltb→lt (distance p v j) (distance p v j) t in omega arith)) in
-      let b = select-all (λ x. true) (below (p .n)) in
-      let e = length-below (p .n) in
-      omega arith
-
-  -- ---- the path
-
-  -- every vertex that the walk enters is nearer to j than c
-  abbrev Nearer : ℕ → ℕ → List ℕ → Type 0
-  Nearer j c w = (x : ℕ) → List·Memᴰ x (entered (p .arcs) w) → distance p x j < c
-
-  record IsPath (v j k : ℕ) (w : List ℕ) : Type 0 where
-    walk : IsWalk (p .arcs) v w j
-    costs : walkCost (p .arcs) w ≡ distance p v j
-    short : length w ≤ k
-    near : Nearer j (distance p v j) w
-    once : (x : ℕ) → occurrences x (entered (p .arcs) w) ≤ 1
-
-  empty-path : (v j k : ℕ) → v ≡ j → IsPath v j k []
-  unfolding occurrences
-  empty-path v j k e = record {
-    walk = e;
-    costs = let z = distance-self p ends v in let a = ap (distance p v) e in omega arith;
-    short = zero-le;
-    near = λ x m. elim m [ ];
-    once = λ x. zero-le;
-  }
-
-  cons-path : (v j k r s : ℕ) (w : List ℕ) → Begins p v j k → r < s → IsPath (arcAt (p .arcs) k .head) j r w → IsPath v j s (k ∷ w)
-  unfolding occurrences
-  cons-path v j k r s w b l h =
-      let u = arcAt (p .arcs) k .head in
-      let g = nearer v j k b in
-      let e = b .costs in
-      let c = h .costs in
-      let n = h .short in
-      record {
-        walk = (b .number, b .opens, b .tail, h .walk);
-        costs = omega arith;
-        short = omega arith;
-        near = λ x m. elim (List·Memᴰ·cases-cons m) [
-          | inl q ↦ let d = ap (λ z. distance p z j) q in omega arith
-          | inr m′ ↦ let d = h .near x m′ in omega arith
-        ];
-        once = λ x. elim (ℕ-discrete x u) [
-          | yes q ↦
-              let a = delta-yes q in
-              let z = none x (entered (p .arcs) w) (λ m. let d = h .near x m in let i = ap (λ z. distance p z j) q in omega arith) in
-              omega arith
-          | no q ↦ let a = delta-no x u q in let z = h .once x in omega arith
-        ];
-      }
-    where
-      none : (x : ℕ) (xs : List ℕ) → (List·Memᴰ x xs → ⊥) → occurrences x xs ≡ 0
-      none x xs h = elim (decLe 1 (occurrences x xs)) [ yes g ↦ absurd (h (mem-of-occurrences x xs g)) | no g ↦ omega arith ]
-
-  path-within : (f v j : ℕ) → v < p .n → distance p v j < noPath → rank j v ≤ f → IsPath v j (rank j v) (pathWithin p f v j)
-  unfolding pathWithin
-  path-within zero v j l h g = elim (ℕ-discrete v j) [
-    | yes e ↦ empty-path v j (rank j v) e
-    | no n ↦
-        let b = next-begins v j n h in
-        let o = ends (arcAt (p .arcs) (nextArc p v j)) (getD-mem (p .arcs) _ (nextArc p v j) (b .number)) .1 in
-        let r = rank-falls j (arcAt (p .arcs) (nextArc p v j) .head) v o (nearer v j (nextArc p v j) b) in
-        absurd (omega arith)
-  ]
-  path-within (suc f) v j l h g =
-      let k = nextArc p v j in
-      cond-ind (eqb v j) [] (k ∷ pathWithin p f (arcAt (p .arcs) k .head) j) (IsPath v j (rank j v)) (λ t. empty-path v j (rank j v) (eqb→eq v j t)) (λ t.
-      let b = next-begins v j (eqb-other t) h in
-      let o = ends (arcAt (p .arcs) k) (getD-mem (p .arcs) _ k (b .number)) .1 in
-      let d = nearer v j k b in
-      let r = rank-falls j (arcAt (p .arcs) k .head) v o d in
-      cons-path v j k (rank j (arcAt (p .arcs) k .head)) (rank j v) (pathWithin p f (arcAt (p .arcs) k .head) j) b r
-      (path-within f (arcAt (p .arcs) k .head) j o (omega arith) (omega arith)))
-
--- The path from i to j: where there is one, a walk of open arcs that costs d(i,j), of at most n − 1 arcs, which enters no vertex twice and not i again.
+-- The path from i to j: where there is one, the path of fewest arcs; it costs d(i,j), has at most n − 1 arcs, and enters no vertex twice and not i again.
 pub record IsShortestPath (p : Plan) (i j : ℕ) (w : List ℕ) : Type 0 where
-  pub walk : IsWalk (p .arcs) i w j
+  pub fewest-path : IsFewestPath p i j w
   pub costs : walkCost (p .arcs) w ≡ distance p i j
   pub short : length w ≤ p .n - 1
   pub once : (x : ℕ) → occurrences x (entered (p .arcs) w) ≤ 1
   pub leaves : occurrences i (entered (p .arcs) w) ≡ 0
 
+module _ (p : Plan) (ok : WellFormed p) (i j : ℕ) (l : i < p .n) (w : List ℕ) (h : IsCheapestPath (weighted p) i j w) where
+  walk : IsWalk (p .arcs) i w j
+  walk = of-weighted (p .arcs) i j w (h .walk)
+
+  costs : walkCost (p .arcs) w ≡ distance p i j
+  costs = let s = h .short in let v = ok .vertices in least-cost p ok i j w l walk (h .costs) (omega arith)
+
+  -- a walk of the path's cost
+  module _ (v : List ℕ) (q : IsWalk (p .arcs) i v j) (e : walkCost (p .arcs) v ≡ walkCost (p .arcs) w) where
+    fewest : length w ≤ length v
+    fewest =
+        let a = distance-le (weighted p) (is-weighted p ok .ends) i j v l (to-weighted (p .arcs) i j v q) in
+        let b = walk-weight (p .arcs) i j v q in
+        let c = walk-weight (p .arcs) i j w walk in
+        let d = h .costs in
+        omega arith
+
+    same-weight : length v ≡ length w → walkCost (weighted p .arcs) v ≡ distance (weighted p) i j
+    same-weight f =
+        let b = walk-weight (p .arcs) i j v q in
+        let c = walk-weight (p .arcs) i j w walk in
+        let d = h .costs in
+        omega arith
+
+  fewest-path : IsFewestPath p i j w
+  fewest-path = record {
+    walk = walk;
+    cheapest = λ v q. (let a = distance-le p (bounded ok .ends) i j v l q in let c = costs in omega arith);
+    fewest = fewest;
+    lowest = λ v q e f. h .lowest v (to-weighted (p .arcs) i j v q) (same-weight v q e f);
+  }
+
+  is-shortest : IsShortestPath p i j w
+  is-shortest =
+      let e = same-entered (p .arcs) i j w walk in
+      record {
+        fewest-path = fewest-path;
+        costs = costs;
+        short = h .short;
+        once = λ x. subst (λ vs. occurrences x vs ≤ 1) e (h .once x);
+        leaves = subst (λ vs. occurrences i vs ≡ 0) e (h .leaves);
+      }
+
 pub shortest-path : (p : Plan) → WellFormed p → (i j : ℕ) → i < p .n → distance p i j < noPath → IsShortestPath p i j (shortestPath p i j)
 unfolding shortestPath
-shortest-path p ok i j l h =
-    let g = rank-lt p ok j i l in
-    let r = path-within p ok (p .n) i j l h (omega arith) in
-    let s = r .short in
-    record {
-      walk = r .walk;
-      costs = r .costs;
-      short = omega arith;
-      once = r .once;
-      leaves = elim (decLe 1 (occurrences i (entered (p .arcs) (pathWithin p (p .n) i j)))) [
-        | yes g ↦ let d = r .near i (mem-of-occurrences i _ g) in omega arith
-        | no g ↦ omega arith
-      ];
-    }
+shortest-path p ok i j l h = is-shortest p ok i j l (cheapestPath (weighted p) i j) (cheapest-path (weighted p) (is-weighted p ok) i j l (weight-path p ok i j l h))

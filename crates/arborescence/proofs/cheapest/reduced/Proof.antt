@@ -1,5 +1,5 @@
 -- After i turns the first i costs are reduced.
-use Rattle.arborescence.specs.Laws.Lists.{filled-more}
+use Rattle.postman.specs.Laws.Lists.{filled-more}
 use Rattle.arborescence.specs.Laws.Picture.{pay-within}
 use Rattle.arborescence.specs.Picture.{payOf, less}
 use Rattle.integers.specs.Linear.{back64}

@@ -1,5 +1,5 @@
 -- After x turns the first x places are filled.
-use Rattle.arborescence.specs.Laws.Lists.{filled-more}
+use Rattle.postman.specs.Laws.Lists.{filled-more}
 use Rattle.arborescence.specs.Picture.{keptOf}
 use mathlib.Core.Bool.{false}
 use lib.ListN.{length, getD}

@@ -9,7 +9,7 @@ plan-call-requires : tie.Need-plan-call-requires
 plan-call-requires c κs = search needs
 
 hand-over-requires : tie.Need-hand-over-requires
-hand-over-requires c κs = let r = c .before .before .before .before .plan-call in floor-above _ _ _ _ _ (r .ensures)
+hand-over-requires c κs = let r = c .before .before .before .before .plan-call in floor-above _ _ _ _ _ _ (r .ensures .planned)
 
 same-length : tie.Need-same-length
 same-length c = search needs

@@ -9,7 +9,7 @@ short-call-requires : tie.Need-short-call-requires
 short-call-requires c κs = search needs
 
 hand-over-requires : tie.Need-hand-over-requires
-hand-over-requires c κs = let r = c .before .before .before .before .short-call in floor-above _ _ _ _ _ (r .ensures)
+hand-over-requires c κs = let r = c .before .before .before .before .short-call in floor-above _ _ _ _ _ _ (r .ensures .planned)
 
 same-length : tie.Need-same-length
 same-length c = search needs

@@ -1,8 +1,11 @@
 -- Each part by what its function ensures, and by the laws that carry thinning and "cut off" from the table to the plan.
-use mathlib.Core.Path.{_∙_}
+use mathlib.Core.Path.{ap, _∙_}
+use mathlib.Core.Bool.{Bool}
+use mathlib.Core.List.{List}
 use Rattle.plan.specs.Records.{planValue}
+use Rattle.network.specs.Thinning.{flag}
 use Rattle.network.specs.Laws.CutOff.{cut-off}
-use Rattle.network.specs.Laws.LinkPair.{keeps-pair}
+use Rattle.network.specs.Laws.LinkPair.{held-links}
 use borrow.Author.Needs.{needs}
 use Rattle.network.proofs.network.network_of.Statement.{statement}
 use Rattle.network.proofs.network.network_of.Tie as tie
@@ -13,8 +16,11 @@ required-requires c κs = search needs
 components-of-requires : tie.Need-components-of-requires
 components-of-requires c κs = search needs
 
+pairs-requires : tie.Need-pairs-requires
+pairs-requires c κs = search needs
+
 thin-requires : tie.Need-thin-requires
-thin-requires c κs = search needs
+thin-requires c κs = c .pairs .ensures .0
 
 imbalance-requires : tie.Need-imbalance-requires
 imbalance-requires c κs = search needs
@@ -27,13 +33,15 @@ is-cut-off-requires c κs = search needs
 
 returns : tie.Need-returns
 returns c =
-    let s = c .before .before .before .before .before .before .before in
+    let s = c .before .before .before .before .before .before .before .before in
     let p = planValue (s .args .plan) in
-    let r = c .before .before .before .before .before .before .required .ensures in
+    let r = c .before .before .before .before .before .before .before .required .ensures in
+    let flags = c .before .before .before .before .before .before .before .required .result in
+    let h = c .before .before .before .before .pairs .ensures in
     record {
       required = r;
-      components = c .before .before .before .before .before .components-of .ensures;
-      links = λ i j hi hj. c .before .before .before .thin .ensures i j hi hj ∙ keeps-pair p (s .pre .0) (s .args .table .now) _ (s .pre .1) r i j hi hj;
+      components = c .before .before .before .before .before .before .components-of .ensures;
+      links = λ i j hi hj. ap (λ (h : List Bool). flag h i j) (c .before .before .before .thin .ensures) ∙ held-links p (s .pre .0) (s .args .table .now) flags (s .pre .1) r _ (h .0) (h .1) i j hi hj;
       imbalance = c .before .before .imbalance .ensures;
       required-cost = c .before .required-cost .ensures;
       cut-off = c .is-cut-off .ensures ∙ cut-off p (s .pre .0) (s .args .table .now) _ (s .pre .1) r;
@@ -45,6 +53,7 @@ network-of-spec =
     (tie.spec
     required-requires
     components-of-requires
+    pairs-requires
     thin-requires
     imbalance-requires
     required-cost-requires

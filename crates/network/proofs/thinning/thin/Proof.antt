@@ -1,72 +1,64 @@
--- The search's invariant: no via vertex before the kth. That of the loops over the pairs: the pairs before (i, j) are decided, and the others are not kept yet. The turn of a pair
--- ends at a `break` that drops it, by its ends or by a via vertex, or at the one that keeps it.
+-- The search's invariant: nothing is dropped yet, and no via vertex stands before the kth. That of the loops over the pairs: what is held is what the model holds. The turn of a
+-- pair ends at a `break`: it is not held, it is dropped by a via vertex, or there is none.
 use mathlib.Core.Logic.{⊎-elim}
-use mathlib.Core.Path.{_≡_, refl, sym, _∙_}
-use mathlib.Core.Bool.{true, false}
+use mathlib.Core.Path.{_≡_, refl, sym, ap, _∙_}
+use mathlib.Core.Bool.{Bool, true, false}
+use mathlib.Core.List.{List}
 use Prim.Native.Nat.{ℕ, _+_, _*_, _-_, _≤_, _<_}
 use native.Mathlib.Omega.{arith}
 use borrow.Author.Count.{below-more}
-use lib.ListN.{length-replicate, getD-replicate}
-use Rattle.network.specs.Thinning.{between, keeps}
-use Rattle.network.specs.Laws.Flat.{Filled, filled-at, filled-store, filled-skip}
-use Rattle.network.specs.Laws.Thinning.{dropped-same, dropped-tail, dropped-head, dropped-via, kept, via-tail, via-head, via-free, via-long, via-found}
+use borrow.Author.Tests.{not-false}
+use lib.ListN.{length, length-set}
+use Rattle.network.specs.Thinning.{flag, between, turnAt, rowThinned, rowsThinned}
+use Rattle.network.specs.Laws.Thinning.{turn-not-held, turn-drops, turn-keeps, via-first, via-second, via-long, via-found, row-none, row-turn, rows-none, rows-turn}
 use borrow.Author.Needs.{needs}
 use Rattle.network.proofs.thinning.thin.Statement.{statement}
 use Rattle.network.proofs.thinning.thin.Tie as tie
 
 abbrev Inv-loop3 : tie.InvT-loop3
-Inv-loop3 d required keep i j k₀ k = (k ≤ 64) × ((m : ℕ) → m < k → between d required i j m ≡ false)
+Inv-loop3 d held₀ i j k₀ held k = (k ≤ 64) × (length held ≡ 4096) × (held ≡ held₀) × ((m : ℕ) → m < k → between d held i j m ≡ false)
 
 abbrev μ-loop3 : tie.MeasureT-loop3
-μ-loop3 d required keep i j k₀ k = 64 - k
+μ-loop3 d held₀ i j k₀ held k = 64 - k
 
 abbrev Inv-pair : tie.InvT-pair
-Inv-pair d required keep₀ i j keep = Filled false (keeps d required) keep (i * 64 + j)
+Inv-pair d held₀ i j held = (length held ≡ 4096) × (held ≡ held₀)
 
 abbrev μ-pair : tie.MeasureT-pair
-μ-pair d required keep₀ i j keep = 0
+μ-pair d held₀ i j held = 0
 
 abbrev Inv-loop2 : tie.InvT-loop2
-Inv-loop2 d required keep₀ i j₀ keep j = (i < 64) × (j ≤ 64) × Filled false (keeps d required) keep (i * 64 + j)
+Inv-loop2 d held₀ i j₀ held j = (i < 64) × (j ≤ 64) × (length held ≡ 4096) × (held ≡ rowThinned d held₀ i j)
 
 abbrev μ-loop2 : tie.MeasureT-loop2
-μ-loop2 d required keep₀ i j₀ keep j = 64 - j
+μ-loop2 d held₀ i j₀ held j = 64 - j
 
 abbrev Inv-loop : tie.InvT-loop
-Inv-loop d required keep₀ i₀ keep i = (i ≤ 64) × Filled false (keeps d required) keep (i * 64)
+Inv-loop d held₀ i₀ held i = (i ≤ 64) × (length held ≡ 4096) × (held ≡ rowsThinned d held₀ i)
 
 abbrev μ-loop : tie.MeasureT-loop
-μ-loop d required keep₀ i₀ keep i = 64 - i
+μ-loop d held₀ i₀ held i = 64 - i
 
 loop-holds : tie.Need-loop-holds Inv-loop3 μ-loop3 Inv-pair μ-pair Inv-loop2 μ-loop2 Inv-loop μ-loop
-loop-holds c = (
-  omega arith,
-  record {
-    size = length-replicate 4096 false;
-    before = λ a b ha hb l. absurd (omega arith);
-    after = λ a b ha hb l. getD-replicate 4096 (a * 64 + b) false false (omega arith);
-  },
-)
+loop-holds c = (omega arith, c .pre, sym (rows-none _ _))
 
 loop2-holds : tie.Need-loop2-holds Inv-loop3 μ-loop3 Inv-pair μ-pair Inv-loop2 μ-loop2 Inv-loop μ-loop
-loop2-holds c =
-    let v = c .before .loop in
-    (omega arith, omega arith, filled-at false _ (v .keep) _ (omega arith) (v .inv .1))
+loop2-holds c = let v = c .before .loop in (omega arith, omega arith, v .inv .1, sym (row-none _ _ _))
 
 pair-holds : tie.Need-pair-holds Inv-loop3 μ-loop3 Inv-pair μ-pair Inv-loop2 μ-loop2 Inv-loop μ-loop
-pair-holds c = c .before .loop2 .inv .2
+pair-holds c = (c .before .loop2 .inv .2, refl)
 
-array-read-if2 : tie.Need-array-read-if2 Inv-loop3 μ-loop3 Inv-pair μ-pair Inv-loop2 μ-loop2 Inv-loop μ-loop
-array-read-if2 c = search needs
+mul-pair : tie.Need-mul-pair Inv-loop3 μ-loop3 Inv-pair μ-pair Inv-loop2 μ-loop2 Inv-loop μ-loop
+mul-pair c = search needs
 
-array-read-if3 : tie.Need-array-read-if3 Inv-loop3 μ-loop3 Inv-pair μ-pair Inv-loop2 μ-loop2 Inv-loop μ-loop
-array-read-if3 c = search needs
+add-pair : tie.Need-add-pair Inv-loop3 μ-loop3 Inv-pair μ-pair Inv-loop2 μ-loop2 Inv-loop μ-loop
+add-pair c = search needs
+
+array-read-pair : tie.Need-array-read-pair Inv-loop3 μ-loop3 Inv-pair μ-pair Inv-loop2 μ-loop2 Inv-loop μ-loop
+array-read-pair c = search needs
 
 loop3-holds : tie.Need-loop3-holds Inv-loop3 μ-loop3 Inv-pair μ-pair Inv-loop2 μ-loop2 Inv-loop μ-loop
-loop3-holds c = (omega arith, λ m l. absurd (omega arith))
-
-array-read-if6 : tie.Need-array-read-if6 Inv-loop3 μ-loop3 Inv-pair μ-pair Inv-loop2 μ-loop2 Inv-loop μ-loop
-array-read-if6 c = search needs
+loop3-holds c = (omega arith, c .before .pair .inv .0, refl, λ m l. absurd (omega arith))
 
 mul-splits : tie.Need-mul-splits Inv-loop3 μ-loop3 Inv-pair μ-pair Inv-loop2 μ-loop2 Inv-loop μ-loop
 mul-splits c = search needs
@@ -107,6 +99,33 @@ index-2-splits-3 c = search needs
 splits-requires : tie.Need-splits-requires Inv-loop3 μ-loop3 Inv-pair μ-pair Inv-loop2 μ-loop2 Inv-loop μ-loop
 splits-requires c κs = search needs
 
+mul-if2 : tie.Need-mul-if2 Inv-loop3 μ-loop3 Inv-pair μ-pair Inv-loop2 μ-loop2 Inv-loop μ-loop
+mul-if2 c = search needs
+
+add-if2 : tie.Need-add-if2 Inv-loop3 μ-loop3 Inv-pair μ-pair Inv-loop2 μ-loop2 Inv-loop μ-loop
+add-if2 c = search needs
+
+array-read-if2 : tie.Need-array-read-if2 Inv-loop3 μ-loop3 Inv-pair μ-pair Inv-loop2 μ-loop2 Inv-loop μ-loop
+array-read-if2 c = search needs
+
+mul-if3 : tie.Need-mul-if3 Inv-loop3 μ-loop3 Inv-pair μ-pair Inv-loop2 μ-loop2 Inv-loop μ-loop
+mul-if3 c = search needs
+
+add-if3 : tie.Need-add-if3 Inv-loop3 μ-loop3 Inv-pair μ-pair Inv-loop2 μ-loop2 Inv-loop μ-loop
+add-if3 c = search needs
+
+array-read-if3 : tie.Need-array-read-if3 Inv-loop3 μ-loop3 Inv-pair μ-pair Inv-loop2 μ-loop2 Inv-loop μ-loop
+array-read-if3 c = search needs
+
+mul-held : tie.Need-mul-held Inv-loop3 μ-loop3 Inv-pair μ-pair Inv-loop2 μ-loop2 Inv-loop μ-loop
+mul-held c = search needs
+
+add-held : tie.Need-add-held Inv-loop3 μ-loop3 Inv-pair μ-pair Inv-loop2 μ-loop2 Inv-loop μ-loop
+add-held c = search needs
+
+array-write-held : tie.Need-array-write-held Inv-loop3 μ-loop3 Inv-pair μ-pair Inv-loop2 μ-loop2 Inv-loop μ-loop
+array-write-held c = search needs
+
 add-k : tie.Need-add-k Inv-loop3 μ-loop3 Inv-pair μ-pair Inv-loop2 μ-loop2 Inv-loop μ-loop
 add-k c = search needs
 
@@ -115,31 +134,21 @@ loop3-less c = search needs
 
 loop3-again : tie.Need-loop3-again Inv-loop3 μ-loop3 Inv-pair μ-pair Inv-loop2 μ-loop2 Inv-loop μ-loop
 loop3-again c =
-    let v = c .before .before .loop3 in
-    let b = c .before .before .before .before .before .before in
+    let a = c .before .before .before .before in
+    let v = a .before .before .loop3 in
+    let b = a .before .before .before .before in
     let j = b .before .before .loop2 .j in
     let i = b .before .before .before .before .loop .i in
-    let s = b .before .before .before .before .before .args in
-    let more : between (s .d .now) (s .t2) i j (v .k) ≡ false → Inv-loop3 (s .d .now) (s .t2) (b .pair .keep) i j 0 (v .k + 1) =
-    λ h. (omega arith, below-more (λ m. between (s .d .now) (s .t2) i j m ≡ false) (v .k) (v .inv .1) h)
+    let d = b .before .before .before .before .before .args .d .now in
+    let more : between d (v .held) i j (v .k) ≡ false → Inv-loop3 d (b .pair .held) i j 0 (v .held) (v .k + 1) =
+    λ e. (omega arith, v .inv .1, v .inv .2, below-more (λ m. between d (v .held) i j m ≡ false) (v .k) (v .inv .3) e)
     in
     ⊎-elim
-    (λ w. more (via-long (s .d .now) (s .t2) i j (v .k) (sym (w .6 .ensures) ∙ w .7 .left)))
+    (λ w. more (via-second d (v .held) i j (v .k) (w .2 .left)))
     (⊎-elim
-    (λ w. more (via-free (s .d .now) (s .t2) i j (v .k) (w .2 .left)))
-    (⊎-elim
-    (λ w. more (via-head (s .d .now) (s .t2) i j (v .k) (w .1 .left)))
-    (λ w. more (via-tail (s .d .now) (s .t2) i j (v .k) (w .left)))))
-    (c .if4 .came)
-
-mul-keep : tie.Need-mul-keep Inv-loop3 μ-loop3 Inv-pair μ-pair Inv-loop2 μ-loop2 Inv-loop μ-loop
-mul-keep c = search needs
-
-add-keep : tie.Need-add-keep Inv-loop3 μ-loop3 Inv-pair μ-pair Inv-loop2 μ-loop2 Inv-loop μ-loop
-add-keep c = search needs
-
-array-write-keep : tie.Need-array-write-keep Inv-loop3 μ-loop3 Inv-pair μ-pair Inv-loop2 μ-loop2 Inv-loop μ-loop
-array-write-keep c = search needs
+    (λ w. more (via-first d (v .held) i j (v .k) (w .1 .left)))
+    (λ w. more (via-long d (v .held) i j (v .k) (sym (c .before .splits .ensures) ∙ w .left))))
+    (c .if1 .came)
 
 add-j : tie.Need-add-j Inv-loop3 μ-loop3 Inv-pair μ-pair Inv-loop2 μ-loop2 Inv-loop μ-loop
 add-j c = search needs
@@ -150,30 +159,31 @@ loop2-less c = search needs
 loop2-again : tie.Need-loop2-again Inv-loop3 μ-loop3 Inv-pair μ-pair Inv-loop2 μ-loop2 Inv-loop μ-loop
 loop2-again c =
     let q = c .before .pair in
-    let j = c .before .before .before .loop2 .j in
-    let i = c .before .before .before .before .before .loop .i in
-    let s = c .before .before .before .before .before .before .args in
-    let hi : i < 64 = omega arith in
-    let hj : j < 64 = omega arith in
-    let skip : c .if1 .keep ≡ q .keep → false ≡ keeps (s .d .now) (s .t2) i j → Inv-loop2 (s .d .now) (s .t2) (q .keep) i j (c .if1 .keep) (j + 1) =
-    λ k e. (hi, omega arith, rw k (filled-skip false _ (q .keep) i j hi hj (q .inv) e))
+    let r = c .before .before .before .loop2 in
+    let o = c .before .before .before .before .before in
+    let j = r .j in
+    let i = o .loop .i in
+    let d = o .before .args .d .now in
+    let e : q .held ≡ rowThinned d (o .loop .held) i j = q .inv .1 ∙ r .inv .3 in
+    let done : (before after : List Bool) → before ≡ q .held → turnAt d before i j ≡ after → length after ≡ 4096 → c .pair-test .held ≡ after
+    → Inv-loop2 d (o .loop .held) i 0 (c .pair-test .held) (j + 1) =
+    λ before after g t n h. (r .inv .0, omega arith, ap length h ∙ n, h ∙ row-turn d (o .loop .held) i j before after (g ∙ e) t)
     in
     ⊎-elim
-    (λ w. skip (w .1)
+    (λ w. done (q .held) (q .held) refl (turn-not-held d (q .held) i j (w .0 .taken)) (q .inv .0) (w .1))
     (⊎-elim
-    (λ x. dropped-same (s .d .now) (s .t2) i j (x .taken))
-    (⊎-elim
-    (λ x. dropped-tail (s .d .now) (s .t2) i j (x .1 .taken))
-    (λ x. dropped-head (s .d .now) (s .t2) i j (x .2 .taken)))
-    (w .0 .came)))
-    (⊎-elim
-    (λ w. skip (w .13)
-    (dropped-via (s .d .now) (s .t2) i j (w .3 .k) (w .4 .taken)
-    (via-found (s .d .now) (s .t2) i j (w .3 .k) (w .5 .taken) (w .6 .taken) (w .7 .taken) (sym (w .11 .ensures) ∙ w .12 .taken))))
     (λ w.
-    let all : (k : ℕ) → k < 64 → between (s .d .now) (s .t2) i j k ≡ false = λ k l. w .3 .inv .1 k (let e = w .4 .left in omega arith) in
-    (hi, omega arith, rw (w .5) (filled-store false _ (q .keep) i j hi hj (q .inv) true (kept (s .d .now) (s .t2) i j (w .0 .left) (w .1 .left) (w .2 .left) all)))))
-    (c .if1 .came)
+    let l = w .1 in
+    let held : flag (l .held) i j ≡ true = ap (λ (h : List Bool). flag h i j) (l .inv .2) ∙ not-false _ (w .0 .left) in
+    done (l .held) _ (l .inv .2)
+    (turn-drops d (l .held) i j held (l .k) (w .2 .taken) (via-found d (l .held) i j (l .k) (w .8 .taken) (w .9 .taken) (sym (w .6 .ensures) ∙ w .7 .taken)))
+    (length-set (l .held) (i * 64 + j) false ∙ l .inv .1)
+    (w .10))
+    (λ w.
+    let l = w .1 in
+    let none : (k : ℕ) → k < 64 → between d (l .held) i j k ≡ false = λ k b. l .inv .3 k (let e = w .2 .left in omega arith) in
+    done (l .held) (l .held) (l .inv .2) (turn-keeps d (l .held) i j none) (l .inv .1) (w .3)))
+    (c .pair-test .came)
 
 add-i : tie.Need-add-i Inv-loop3 μ-loop3 Inv-pair μ-pair Inv-loop2 μ-loop2 Inv-loop μ-loop
 add-i c = search needs
@@ -184,10 +194,11 @@ loop-less c = search needs
 loop-again : tie.Need-loop-again Inv-loop3 μ-loop3 Inv-pair μ-pair Inv-loop2 μ-loop2 Inv-loop μ-loop
 loop-again c =
     let v = c .before .loop2 in
-    (omega arith, filled-at false _ (v .keep) _ (omega arith) (v .inv .2))
+    let o = c .before .before .before in
+    (omega arith, v .inv .2, rows-turn _ _ _ (v .j) (o .loop .held) (v .held) (o .loop .inv .2) (v .inv .3) (omega arith))
 
 returns : tie.Need-returns Inv-loop3 μ-loop3 Inv-pair μ-pair Inv-loop2 μ-loop2 Inv-loop μ-loop
-returns c = λ i j hi hj. c .before .loop .inv .1 .before i j hi hj (omega arith)
+returns c = let v = c .before .loop in (let e : v .i ≡ 64 = omega arith in v .inv .2 ∙ ap (rowsThinned _ _) e)
 
 pub thin-spec : {M : Type 1} → statement M
 thin-spec =
@@ -204,10 +215,10 @@ thin-spec =
     loop-holds
     loop2-holds
     pair-holds
-    array-read-if2
-    array-read-if3
+    mul-pair
+    add-pair
+    array-read-pair
     loop3-holds
-    array-read-if6
     mul-splits
     mul-splits-2
     index-1-splits
@@ -221,12 +232,18 @@ thin-spec =
     index-1-splits-3
     index-2-splits-3
     splits-requires
+    mul-if2
+    add-if2
+    array-read-if2
+    mul-if3
+    add-if3
+    array-read-if3
+    mul-held
+    add-held
+    array-write-held
     add-k
     loop3-less
     loop3-again
-    mul-keep
-    add-keep
-    array-write-keep
     add-j
     loop2-less
     loop2-again

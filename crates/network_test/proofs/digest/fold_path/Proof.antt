@@ -1,30 +1,41 @@
 -- The table says that there is a path, and a path has fewer arcs than there are vertices.
 use mathlib.Core.Path.{_≡_}
 use mathlib.Core.List.{List, []}
-use Prim.Native.Nat.{ℕ, _+_, _≤_, _<_}
+use Prim.Native.Nat.{ℕ, _+_, _/_, _≤_, _<_}
 use native.Mathlib.Omega.{arith}
+use lib.Dec.{ltb, nltb→le}
 use lib.ListN.{length, getD, replicate, length-replicate}
 use Rattle.postman.specs.Plan.{WellFormed}
 use Rattle.postman.specs.Distance.{noPath, distance}
-use Rattle.postman.specs.Laws.Distance.{bounded, distance-le-noPath}
+use Rattle.postman.specs.Laws.Tests.{cond-ind}
+use Rattle.postman.specs.Laws.Distance.{distance-le-noPath}
 use Rattle.plan.specs.declared.Plan.{Plan as PlanRecord}
 use Rattle.plan.specs.Records.{planValue}
-use Rattle.shortest.specs.Contracts.{IsTable}
+use Rattle.shortest.specs.Contracts.{AreWeights}
+use Rattle.shortest.specs.Weight.{weighted, unweighted}
 use Rattle.shortest.specs.ShortestPath.{shortestPath}
 use Rattle.plan.specs.Laws.Records.{plan-vertices}
+use Rattle.shortest.specs.Laws.Weight.{is-weighted, distance-weight}
 use Rattle.shortest.specs.Laws.ShortestPath.{shortest-path}
 use borrow.Author.Needs.{needs}
 use Rattle.network_test.proofs.digest.fold_path.Statement.{statement}
 use Rattle.network_test.proofs.digest.fold_path.Tie as tie
 
-module _ (r : PlanRecord) (ok : WellFormed (planValue r)) (t : List (List ℕ)) (known : IsTable (planValue r) t) (i j : ℕ) (hi : i < 64) (hj : j < 64) (li : i < r .n) (lj : j < r .n)
+module _ (r : PlanRecord) (ok : WellFormed (planValue r)) (t : List (List ℕ)) (known : AreWeights (planValue r) t) (i j : ℕ) (hi : i < 64) (hj : j < 64) (li : i < r .n) (lj : j < r .n)
     (n : getD (getD t i []) j 0 ≡ 4294967295 → ⊥) where
+  -- where there is a weight there is a distance
+  lighter : (w : ℕ) → w < noPath → unweighted w < noPath
+  unfolding unweighted noPath
+  lighter w l = cond-ind (ltb w noPath) (w / 64) noPath (λ x. x < noPath) (λ b. omega arith) (λ b. let g = nltb→le w noPath b in omega arith)
+
   inside : (i < planValue r .n) × (j < planValue r .n) × (distance (planValue r) i j < noPath)
   unfolding noPath
   inside =
       let e = plan-vertices r in
       let k = known i j hi hj in
-      let b = distance-le-noPath (planValue r) (bounded ok .ends) i j in
+      let b = distance-le-noPath (weighted (planValue r)) (is-weighted (planValue r) ok .ends) i j in
+      let f = lighter (distance (weighted (planValue r)) i j) (omega arith) in
+      let d = distance-weight (planValue r) ok i j in
       (omega arith, omega arith, omega arith)
 
   room : (places : List ℕ) → length places ≡ 64 → 0 + length (shortestPath (planValue r) i j) ≤ length places

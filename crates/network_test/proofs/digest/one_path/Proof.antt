@@ -1,4 +1,4 @@
--- What is lent stands for the plan, and the column holds the distances to j.
+-- What is lent stands for the plan, and the column holds the weights to j.
 use mathlib.Core.Path.{_≡_, sym, ap, _∙_, subst⁻¹}
 use mathlib.Core.List.{List, []}
 use Prim.Native.Nat.{ℕ, _+_, _≤_, _<_}
@@ -11,13 +11,13 @@ use Rattle.plan.specs.declared.Plan.{Plan as PlanRecord}
 use Rattle.plan.specs.Records.{planValue}
 use Rattle.plan.specs.Rows.{planIn}
 use Rattle.plan.specs.Laws.Records.{record-arcs, record-vertices, plan-vertices}
-use Rattle.shortest.specs.Contracts.{IsTable, IsColumn}
+use Rattle.shortest.specs.Contracts.{AreWeights, IsColumn}
 use Rattle.shortest.specs.ShortestPath.{shortestPath}
 use borrow.Author.Needs.{needs}
 use Rattle.network_test.proofs.digest.one_path.Statement.{statement}
 use Rattle.network_test.proofs.digest.one_path.Tie as tie
 
-ready : (r : PlanRecord) (ok : WellFormed (planValue r)) (t : List (List ℕ)) → length t ≡ 64 → IsTable (planValue r) t → (arcs : List (List ℕ)) → planIn (r .n) arcs ≡ planValue r
+ready : (r : PlanRecord) (ok : WellFormed (planValue r)) (t : List (List ℕ)) → length t ≡ 64 → AreWeights (planValue r) t → (arcs : List (List ℕ)) → planIn (r .n) arcs ≡ planValue r
     → (column : List ℕ) → length column ≡ 64 → (i j room : ℕ) → ((k : ℕ) → k < length t → getD column k 0 ≡ getD (getD t k []) j 0)
     → i < planValue r .n → j < planValue r .n → distance (planValue r) i j < noPath → 0 + length (shortestPath (planValue r) i j) ≤ room
     → let n = length (take (r .n) column) in

@@ -2,7 +2,7 @@
 use mathlib.Core.Path.{_∙_, ap, ap₂}
 use mathlib.Core.Bool.{Bool, cond, _||_}
 use mathlib.Core.Option.{none, some}
-use lib.Dec.{leb, eqb}
+use lib.Dec.{leb}
 use Rattle.postman.specs.Refusal.{firstRefusal}
 use Rattle.refusal.specs.Verdict.{orElse}
 use Rattle.refusal.specs.Laws.{or-else-cond}
@@ -36,7 +36,7 @@ returns c =
     let a = c .before .before .before .before .before .before .args in
     let f = a .f in
     let ends = c .before .before .before .before .before .ends-verdict .ensures in
-    let wrong : Bool → Bool = λ must. eqb (f .cost) 0 || mispriced (a .edition) must (f .cost) (f .service) in
+    let wrong : Bool → Bool = λ must. mispriced (a .edition) must (f .cost) (f .service) in
     let price = c .before .before .before .price-verdict .ensures ∙ ap (λ (must : Bool). cond (wrong must) (some 6) none) (c .before .before .before .before .is-must .ensures) in
     let kind = c .before .before .standing-verdict .ensures in
     let rest = c .before .first-refused .ensures ∙ ap₂ orElse price kind ∙ or-else-cond (wrong (isMustStanding (a .standing))) 6 _ in

@@ -2,7 +2,7 @@
 use mathlib.Core.Path.{_∙_}
 use native.Mathlib.Omega.{arith}
 use lib.ListN.{length-take}
-use Rattle.candidates.specs.Laws.Vertices.{vertices-required}
+use Rattle.network.specs.Laws.Vertices.{vertices-required}
 use Rattle.planner.specs.Laws.Call.{is-known}
 use borrow.Author.Needs.{needs}
 use Rattle.planner.proofs.call.answer.Statement.{statement}
@@ -27,7 +27,7 @@ solve-requires c κs =
     let s = c .before .before .before .before .before .before in
     let m = s .pre .0 .0 in
     let v = c .before .before .before .vertices-of .ensures .content ∙ vertices-required _ (m .well-formed) (s .args .net .required) (m .network .required) in
-    (is-known _ _ _ m (s .pre .0 .1) _ v, (m .network, s .pre .1 .0, s .pre .1 .1))
+    (is-known _ _ _ m (s .pre .0 .1) _ v, (m .network, s .pre .1 .0, s .pre .1 .1, s .pre .1 .2))
 
 same-length : tie.Need-same-length
 same-length c = search needs

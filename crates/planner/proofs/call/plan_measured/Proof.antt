@@ -22,7 +22,7 @@ answer-requires : tie.Need-answer-requires
 answer-requires c κs =
     let s = c .before .before .before .before .before in
     let e = sym (c .before .before .before .network-verdict .ensures) ∙ ap verdictNumber (c .before .enum-told .given .1) in
-    ((s .pre .0, e), (s .pre .1, s .pre .2))
+    ((s .pre .0, e), (s .pre .1, s .pre .2, s .pre .3))
 
 returns : tie.Need-returns
 returns c =

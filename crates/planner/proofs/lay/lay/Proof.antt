@@ -4,7 +4,7 @@ use mathlib.Core.List.{[]}
 use native.Mathlib.Omega.{arith}
 use borrow.Author.Needs.{needs}
 use Rattle.balance.specs.Records.{stateOf}
-use Rattle.planner.specs.Laws.Lay.{base-metric, base-table, state-certified, state-room, tree-joined, tree-short, tree-length, tails-in, heads-in, full-is, amounts-are, amounts-complete}
+use Rattle.planner.specs.Laws.Lay.{base-metric, state-certified, state-room, tree-joined, tree-short, tree-length, tails-in, heads-in, full-is, amounts-are, amounts-complete}
 use Rattle.planner.proofs.lay.lay.Statement.{statement}
 use Rattle.planner.proofs.lay.lay.Tie as tie
 
@@ -37,7 +37,7 @@ write-tour-requires c κs =
     let laid = c .before .before .direct-amounts in
     let e = full-is _ _ _ _ b _ _ t (stateOf (full .result)) (full .ensures .0) in
     let a = amounts-are _ _ _ _ b _ _ t _ e (laid .result) (laid .ensures) in
-    ((b .known .plannable .well-formed, base-table _ _ _ (b .known)), ((t .same, amounts-complete _ _ _ _ b _ _ t _ a), s .pre .2))
+    ((b .known .plannable .well-formed, s .pre .3), ((t .same, amounts-complete _ _ _ _ b _ _ t _ a), s .pre .2))
 
 same-length : tie.Need-same-length
 same-length c = search needs

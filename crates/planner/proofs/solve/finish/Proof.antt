@@ -88,7 +88,7 @@ lay-requires c κs =
     let r = c .before .before .before .before .before .search in
     let m = ap (λ n. n - 1) (s .pre .1 .0 .components .all) in
     let f = kept-fits _ (b .plannable) (b .few) _ (s .pre .1 .1) _ (r .result .tails) (r .result .heads) m (r .ensures .links) in
-    (s .pre .0 .0, kept-tree _ (b .plannable) (b .few) _ (s .pre .1 .1) _ _ _ (f .tails-le) (f .heads-le) (r .ensures .links), s .pre .1 .2)
+    (s .pre .0 .0, kept-tree _ (b .plannable) (b .few) _ (s .pre .1 .1) _ _ _ (f .tails-le) (f .heads-le) (r .ensures .links), s .pre .1 .2, s .pre .1 .3)
 
 floor-of-requires : tie.Need-floor-of-requires
 floor-of-requires c κs =
@@ -96,7 +96,7 @@ floor-of-requires c κs =
     let b = s .pre .0 .0 in
     let n = s .pre .1 .0 in
     let r = c .before .before .before .before .before .before .before .before .before .before .before .before .before .search in
-    let long : length (s .args .net .required) ≡ 64 = length-unmapped Bool (s .args .net .required) 64 (s .good .1 .1 .1 .0 .1 .1 .0 .1 .0 .1) in
+    let long : length (s .args .net .required) ≡ 64 = length-unmapped Bool (s .args .net .required) 64 (s .good .1 .1 .1 .1 .0 .1 .1 .0 .1 .0 .1) in
     let l = cost-small _ (b .known .plannable) (b .known .few) _ (s .pre .1 .1) in
     let e = r .ensures .cost in
     (priced _ _ _ _ b _ (subst⁻¹ (Rooted _) (s .pre .0 .2) (answered-rooted _ (b .known .plannable) (b .known .few))) _ _ _ _ long (n .required) (n .components) (n .required-cost), omega arith)
@@ -112,11 +112,11 @@ returns c =
     let r = c .before .before .before .before .before .before .before .before .before .before .before .before .before .before .search in
     let l = c .before .before .before .before .before .before .before .before .lay in
     let k = b .known in
-    let x : Planned = record { verdict = Accepted; places = l .result; cost = r .result .cost; floor = toZ w64 (ofZ w64 (c .floor-of .result)); trees = r .result .tried; whole = r .result .whole; parts = s .args .net .components; multipliers = s .args .t7 } in
-    let g : s .args .t7 ≡ multipliersFor (planValue (s .args .plan)) = s .pre .0 .2 in
+    let x : Planned = record { verdict = Accepted; places = l .result; cost = r .result .cost; floor = toZ w64 (ofZ w64 (c .floor-of .result)); trees = r .result .tried; whole = r .result .whole; parts = s .args .net .components; multipliers = s .args .t8 } in
+    let g : s .args .t8 ≡ multipliersFor (planValue (s .args .plan)) = s .pre .0 .2 in
     let f : summaryOf x ≡ summary (planValue (s .args .plan)) (s .args .budget) (multipliersOf x) =
     found-summary (planValue (s .args .plan)) (k .plannable) (k .few) (s .args .budget) (s .pre .1 .1) x (r .ensures .cost) (r .ensures .tried) (r .ensures .whole) (n .components .all) (back64 _ (c .floor-of .ok) ∙ c .floor-of .ensures) in
-    finished (planValue (s .args .plan)) (k .plannable) (k .few) (s .args .budget) (s .pre .1 .1) (now (s .args .sheet)) (l .last .1 .1 .1 .1 .1 .1 .0) x refl g f (s .args .net .components - 1) (r .result .tails) (r .result .heads) (r .ensures .links) (l .ensures .0) (l .ensures .1)
+    finished (planValue (s .args .plan)) (k .plannable) (k .few) (s .args .budget) (s .pre .1 .1) (now (s .args .sheet)) (l .last .1 .1 .1 .1 .1 .1 .1 .0) x refl g f (s .args .net .components - 1) (r .result .tails) (r .result .heads) (r .ensures .links) (l .ensures .0) (l .ensures .1)
 
 pub finish-spec : {M : Type 1} → statement M
 finish-spec =

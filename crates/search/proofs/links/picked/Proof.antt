@@ -3,7 +3,7 @@ use mathlib.Core.Path.{_≡_, refl}
 use Prim.Native.Nat.{ℕ, _+_, _-_, _≤_, _<_}
 use native.Mathlib.Omega.{arith}
 use lib.ListN.{length, getD}
-use Rattle.arborescence.specs.Laws.Lists.{filled-more}
+use Rattle.postman.specs.Laws.Lists.{filled-more}
 use Rattle.search.specs.Links.{placeOf}
 use borrow.Author.Needs.{needs}
 use Rattle.search.proofs.links.picked.Statement.{statement}

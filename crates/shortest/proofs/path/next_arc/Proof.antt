@@ -1,8 +1,8 @@
--- The invariant: no arc before the kth begins a cheapest path.
+-- The invariant: no arc before the kth begins a lightest path.
 use mathlib.Core.Path.{_≡_, refl, sym, _∙_}
 use mathlib.Core.Bool.{Bool, true, false, _&&_}
 use mathlib.Core.List.{List, []}
-use Prim.Native.Nat.{ℕ, _+_, _-_, _≤_, _<_}
+use Prim.Native.Nat.{ℕ, _+_, _-_, _*_, _≤_, _<_}
 use native.Mathlib.Omega.{arith}
 use borrow.Author.Count.{below-more}
 use lib.ListN.{length, getD}
@@ -20,7 +20,7 @@ use Rattle.shortest.proofs.path.next_arc.Tie as tie
 module _ (arcs : List (List ℕ)) (column : List ℕ) (v : ℕ) where
   -- what the code tests is the definition's test
   tested : (k : ℕ) {h : ℕ} {b : Bool} → h ≡ arcIn (getD arcs k []) .head
-      → b ≡ (isOpen (arcIn (getD arcs k [])) && eqb (arcIn (getD arcs k []) .tail) v && eqb (arcIn (getD arcs k []) .cost + getD column h 0) (getD column v 0)) → beginsIn arcs column v k ≡ b
+      → b ≡ (isOpen (arcIn (getD arcs k [])) && eqb (arcIn (getD arcs k []) .tail) v && eqb (64 * arcIn (getD arcs k []) .cost + 1 + getD column h 0) (getD column v 0)) → beginsIn arcs column v k ≡ b
   unfolding beginsIn
   tested k e t = sym (rw e at t)
 

@@ -3,13 +3,15 @@ use mathlib.Core.Path.{_≡_, ap, sym, _∙_, subst, subst₂}
 use mathlib.Core.List.{List, []}
 use Prim.Native.Nat.{ℕ, _+_, _-_, _≤_, _<_}
 use native.Mathlib.Omega.{arith}
-use lib.ListN.{length, getD, set}
+use lib.ListN.{length, getD, set, length-map}
 use Rattle.postman.specs.Plan.{Arc, Plan, WellFormed, arcAt}
 use Rattle.plan.specs.Rows.{arcIn, planIn}
 use Rattle.plan.specs.Laws.Rows.{rows-length, rows-vertices, row-arc}
 use Rattle.shortest.specs.Contracts.{IsColumn}
-use Rattle.shortest.specs.ShortestPath.{nextArc, nextIn, shortestPath}
-use Rattle.shortest.specs.Laws.ShortestPath.{next-begins}
+use Rattle.shortest.specs.Weight.{heavy, weighted}
+use Rattle.shortest.specs.ShortestPath.{nextArc, nextIn, cheapestPath, shortestPath}
+use Rattle.shortest.specs.Laws.Weight.{heavy-at, is-weighted, weight-path}
+use Rattle.shortest.specs.Laws.CheapestPath.{next-begins}
 use Rattle.shortest.specs.Laws.Lookup.{next-same}
 use Rattle.shortest.specs.Laws.PathWriting.{Writing, writing-none, writing-room, writing-more, writing-all}
 use borrow.Author.Needs.{needs}
@@ -17,47 +19,57 @@ use Rattle.shortest.proofs.path.path.Statement.{statement}
 use Rattle.shortest.proofs.path.path.Tie as tie
 
 -- the arc that the code looks up is the next arc of the plan, and there is a place for it
-module _ (column : List ℕ) (rows : List (List ℕ)) (ok : WellFormed (planIn (length column) rows)) {i j at : ℕ} {old places : List ℕ} {v to : ℕ} (h : Writing (planIn (length column) rows) i j old at places v to) where
+module _ (column : List ℕ) (rows : List (List ℕ)) (ok : WellFormed (planIn (length column) rows)) {i j at : ℕ} {old places : List ℕ} {v to : ℕ} (h : Writing (weighted (planIn (length column) rows)) i j old at places v to) where
   abbrev p : Plan
   p = planIn (length column) rows
+
+  -- the path is a cheapest one of the weighted plan
+  abbrev q : Plan
+  q = weighted p
 
   inside : v < length column
   inside = let a = h .inside in let e = rows-vertices (length column) rows in omega arith
 
   module _ (n : v ≡ j → ⊥) where
-    room : at + length (shortestPath p i j) ≤ length old → (to < at + length (shortestPath p i j)) × (to < length places)
-    room l = let a = writing-room p ok i j old at places v to h n in let b = h .size in (a, omega arith)
+    room : at + length (cheapestPath q i j) ≤ length old → (to < at + length (cheapestPath q i j)) × (to < length places)
+    room l = let a = writing-room q (is-weighted p ok) i j old at places v to h n in let b = h .size in (a, omega arith)
 
     module _ (c : IsColumn p j column) {k : ℕ} (e : k ≡ nextIn rows column v) where
-      is-next : k ≡ nextArc p v j
+      is-next : k ≡ nextArc q v j
       is-next = e ∙ next-same (length column) rows ok j column c v inside
 
       number : k < length rows
       number =
-          let b = next-begins p ok v j n (h .finite) .number in
+          let b = next-begins q (is-weighted p ok) v j n (h .finite) .number in
           let l = rows-length (length column) rows in
-          let q = is-next in
+          let m = length-map (p .arcs) heavy in
+          let e = is-next in
           omega arith
 
       small : k < 256
       small = let a = number in let b = ok .arc-count in let l = rows-length (length column) rows in omega arith
 
-      written : at + length (shortestPath p i j) ≤ length old → {w : ℕ} → w ≡ arcIn (getD rows k []) .head → Writing p i j old at (set places to k) w (to + 1)
+      written : at + length (cheapestPath q i j) ≤ length old → {w : ℕ} → w ≡ arcIn (getD rows k []) .head → Writing q i j old at (set places to k) w (to + 1)
       written l {w} g =
-          let a : arcAt (p .arcs) (nextArc p v j) .head ≡ w = ap (λ x. arcAt (p .arcs) x .head) (sym is-next) ∙ ap (λ (a : Arc). a .head) (row-arc (length column) rows k number) ∙ sym g in
-          subst₂ (λ x y. Writing p i j old at (set places to x) y (to + 1)) (sym is-next) a (writing-more p ok i j old at places v to h n l)
+          let m = rows-length (length column) rows in
+          let n′ = number in
+          let a : arcAt (q .arcs) (nextArc q v j) .head ≡ w
+          = ap (λ x. arcAt (q .arcs) x .head) (sym is-next) ∙ ap (λ (a : Arc). a .head) (heavy-at (p .arcs) k (omega arith)) ∙ ap (λ (a : Arc). a .head) (row-arc (length column) rows k number) ∙ sym g in
+          subst₂ (λ x y. Writing q i j old at (set places to x) y (to + 1)) (sym is-next) a (writing-more q (is-weighted p ok) i j old at places v to h n l)
 
 abbrev Inv-loop : tie.InvT-loop
-Inv-loop arcs column i j places₀ at v₀ to₀ places v to = Writing (planIn (length column) arcs) i j places₀ at places v to
+Inv-loop arcs column i j places₀ at v₀ to₀ places v to = Writing (weighted (planIn (length column) arcs)) i j places₀ at places v to
 
 abbrev μ-loop : tie.MeasureT-loop
-μ-loop arcs column i j places₀ at v₀ to₀ places v to = at + length (shortestPath (planIn (length column) arcs) i j) - to
+μ-loop arcs column i j places₀ at v₀ to₀ places v to = at + length (cheapestPath (weighted (planIn (length column) arcs)) i j) - to
 
 loop-holds : tie.Need-loop-holds Inv-loop μ-loop
 loop-holds c =
     let s = c .before .before in
     let e = rows-vertices (length (s .args .column .now)) (s .args .arcs .now) in
-    writing-none (planIn (length (s .args .column .now)) (s .args .arcs .now)) (s .pre .0 .0) (s .args .i) (s .args .j) _ (s .args .at) (let l = s .pre .1 .0 .0 in omega arith) (s .pre .1 .0 .2)
+    let p = planIn (length (s .args .column .now)) (s .args .arcs .now) in
+    let l : s .args .i < p .n = (let l = s .pre .1 .0 .0 in omega arith) in
+    writing-none (weighted p) (is-weighted p (s .pre .0 .0)) (s .args .i) (s .args .j) _ (s .args .at) l (weight-path p (s .pre .0 .0) (s .args .i) (s .args .j) l (s .pre .1 .0 .2))
 
 next-arc-requires : tie.Need-next-arc-requires Inv-loop μ-loop
 next-arc-requires c κs =
@@ -72,12 +84,14 @@ cast-places c =
     omega (arith, small (s .args .column .now) (s .args .arcs .now) (s .pre .0 .0) (v .loop .inv) (c .before .loop-test .taken) (s .pre .0 .1) (c .next-arc .ensures))
 
 mul-places : tie.Need-mul-places Inv-loop μ-loop
+unfolding shortestPath
 mul-places c =
     let v = c .before .before in
     let s = v .before .before .before in
     omega (arith, room (s .args .column .now) (s .args .arcs .now) (s .pre .0 .0) (v .loop .inv) (c .before .loop-test .taken) (s .pre .1 .1))
 
 slice-write-places : tie.Need-slice-write-places Inv-loop μ-loop
+unfolding shortestPath
 slice-write-places c =
     let v = c .before .before in
     let s = v .before .before .before in
@@ -102,18 +116,21 @@ wide-requires : tie.Need-wide-requires Inv-loop μ-loop
 wide-requires c κs = search needs
 
 add-to : tie.Need-add-to Inv-loop μ-loop
+unfolding shortestPath
 add-to c =
     let v = c .before .before .before .before in
     let s = v .before .before .before in
     omega (arith, room (s .args .column .now) (s .args .arcs .now) (s .pre .0 .0) (v .loop .inv) (c .before .before .before .loop-test .taken) (s .pre .1 .1))
 
 loop-less : tie.Need-loop-less Inv-loop μ-loop
+unfolding shortestPath
 loop-less c =
     let v = c .before .before .before .before in
     let s = v .before .before .before in
     omega (arith, room (s .args .column .now) (s .args .arcs .now) (s .pre .0 .0) (v .loop .inv) (c .before .before .before .loop-test .taken) (s .pre .1 .1))
 
 loop-again : tie.Need-loop-again Inv-loop μ-loop
+unfolding shortestPath
 loop-again c =
     let v = c .before .before .before .before in
     let s = v .before .before .before in
@@ -123,10 +140,11 @@ same-length : tie.Need-same-length Inv-loop μ-loop
 same-length c = c .before .loop .inv .size
 
 returns : tie.Need-returns Inv-loop μ-loop
+unfolding shortestPath
 returns c =
     let v = c .before in
     let s = v .before .before .before in
-    writing-all (planIn (length (s .args .column .now)) (s .args .arcs .now)) (s .pre .0 .0) (s .args .i) (s .args .j) _ (s .args .at) (v .loop .places) (v .loop .v) (v .loop .to) (v .loop .inv) (c .loop-test .left)
+    writing-all (weighted (planIn (length (s .args .column .now)) (s .args .arcs .now))) (is-weighted (planIn (length (s .args .column .now)) (s .args .arcs .now)) (s .pre .0 .0)) (s .args .i) (s .args .j) _ (s .args .at) (v .loop .places) (v .loop .v) (v .loop .to) (v .loop .inv) (c .loop-test .left)
 
 pub path-spec : {M : Type 1} → statement M
 path-spec =

@@ -1,0 +1,37 @@
+-- The answer of the call is handed over; the floor of one that is no refusal is at least 0.
+use Rattle.planner.specs.Laws.Answered.{floor-above}
+use Rattle.exports.specs.Laws.Answer.{handed-back}
+use borrow.Author.Needs.{needs}
+use Rattle.exports.proofs.call.postman_plan_call_at.Statement.{statement}
+use Rattle.exports.proofs.call.postman_plan_call_at.Tie as tie
+
+plan-call-at-requires : tie.Need-plan-call-at-requires
+plan-call-at-requires c κs = search needs
+
+hand-over-requires : tie.Need-hand-over-requires
+hand-over-requires c κs = let r = c .before .before .before .before .plan-call-at in floor-above _ _ _ _ _ _ (r .ensures .planned)
+
+same-length : tie.Need-same-length
+same-length c = search needs
+
+same-length-2 : tie.Need-same-length-2
+same-length-2 c = search needs
+
+same-length-3 : tie.Need-same-length-3
+same-length-3 c = search needs
+
+returns : tie.Need-returns
+returns c =
+    let r = c .before .before .before .before .before .before .before .before .plan-call-at in
+    record { answer = r .result; called = r .ensures; handed-over = handed-back (c .before .before .before .hand-over .ok) (c .before .before .before .hand-over .ensures) }
+
+pub postman-plan-call-at-spec : {M : Type 1} → statement M
+postman-plan-call-at-spec =
+    tie.close
+    (tie.spec
+    plan-call-at-requires
+    hand-over-requires
+    same-length
+    same-length-2
+    same-length-3
+    returns)

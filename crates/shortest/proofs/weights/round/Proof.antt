@@ -1,0 +1,132 @@
+-- After k turns the row is relaxed by the first k arcs.
+use mathlib.Core.Path.{_≡_, refl, ap, _∙_}
+use Prim.Native.Nat.{ℕ, _+_, _-_, _≤_, _<_}
+use native.Mathlib.Omega.{arith}
+use mathlib.Core.List.{List, [], _∷_, _++_, map}
+use lib.ListN.{getD, set, take}
+use Rattle.postman.specs.Plan.{Arc, WellFormed}
+use Rattle.plan.specs.declared.Plan.{Plan as PlanRecord}
+use Rattle.plan.specs.Records.{planValue, recordAt}
+use Rattle.shortest.specs.Weight.{heavy}
+use Rattle.shortest.specs.Relaxation.{weight, shorter, relaxArcs, relaxArc}
+use Rattle.plan.specs.Laws.Records.{record-arcs, record-ends, arcs-more, arcs-all}
+use Rattle.shortest.specs.Laws.Relaxation.{relaxArcs-snoc}
+use borrow.Author.Needs.{needs}
+use Rattle.shortest.proofs.weights.round.Statement.{statement}
+use Rattle.shortest.proofs.weights.round.Tie as tie
+
+heavy-snoc : (xs : List Arc) (a : Arc) → map heavy (xs ++ a ∷ []) ≡ map heavy xs ++ heavy a ∷ []
+heavy-snoc [] a = refl
+heavy-snoc (x ∷ xs) a = ap (λ (ys : List Arc). heavy x ∷ ys) (heavy-snoc xs a)
+
+step : (r : PlanRecord) (ok : WellFormed (planValue r)) (k : ℕ) → k < r .m → (row next : List ℕ) (w x : ℕ) → next ≡ relaxArcs (map heavy (take k (planValue r .arcs))) row
+    → w ≡ weight (heavy (recordAt (r .arcs) k)) → x ≡ shorter (getD next (recordAt (r .arcs) k .tail) 0) w (getD next (recordAt (r .arcs) k .head) 0)
+    → set next (recordAt (r .arcs) k .head) x ≡ relaxArcs (map heavy (take (k + 1) (planValue r .arcs))) row
+unfolding relaxArc
+step r ok k l row next w x e f g =
+    rw (arcs-more r ok k l, heavy-snoc, relaxArcs-snoc, ← e) (ap (set next (recordAt (r .arcs) k .head)) (rw f at g))
+
+abbrev Inv-loop : tie.InvT-loop
+Inv-loop plan next₀ m k₀ next k = (m ≡ plan .m) × (k ≤ m) × (next ≡ relaxArcs (map heavy (take k (planValue plan .arcs))) next₀)
+
+abbrev μ-loop : tie.MeasureT-loop
+μ-loop plan next₀ m k₀ next k = m - k
+
+cast-m : tie.Need-cast-m Inv-loop μ-loop
+cast-m c = search needs
+
+loop-holds : tie.Need-loop-holds Inv-loop μ-loop
+unfolding relaxArcs
+loop-holds c = (refl, omega arith, refl)
+
+mul-a : tie.Need-mul-a Inv-loop μ-loop
+mul-a c = search needs
+
+element-copy-out-a : tie.Need-element-copy-out-a Inv-loop μ-loop
+element-copy-out-a c =
+    let s = c .before .before in
+    omega (arith, record-arcs (s .args .t1) (s .pre))
+
+cast-t : tie.Need-cast-t Inv-loop μ-loop
+cast-t c = search needs
+
+cast-h : tie.Need-cast-h Inv-loop μ-loop
+cast-h c = search needs
+
+mul-shorter : tie.Need-mul-shorter Inv-loop μ-loop
+mul-shorter c = search needs
+
+array-read-shorter : tie.Need-array-read-shorter Inv-loop μ-loop
+array-read-shorter c =
+    let v = c .before .before .before .before in
+    let e = record-ends (v .before .args .t1) (v .before .pre) (v .loop .k) (omega arith) in
+    omega arith
+
+arc-weight-requires : tie.Need-arc-weight-requires Inv-loop μ-loop
+arc-weight-requires c κs = search needs
+
+mul-shorter-2 : tie.Need-mul-shorter-2 Inv-loop μ-loop
+mul-shorter-2 c = search needs
+
+array-read-shorter-2 : tie.Need-array-read-shorter-2 Inv-loop μ-loop
+array-read-shorter-2 c =
+    let v = c .before .before .before .before .before in
+    let e = record-ends (v .before .args .t1) (v .before .pre) (v .loop .k) (omega arith) in
+    omega arith
+
+shorter-requires : tie.Need-shorter-requires Inv-loop μ-loop
+shorter-requires c κs = search needs
+
+mul-next : tie.Need-mul-next Inv-loop μ-loop
+mul-next c = search needs
+
+array-write-next : tie.Need-array-write-next Inv-loop μ-loop
+array-write-next c =
+    let v = c .before .before .before .before .before .before in
+    let e = record-ends (v .before .args .t1) (v .before .pre) (v .loop .k) (omega arith) in
+    omega arith
+
+add-k : tie.Need-add-k Inv-loop μ-loop
+add-k c = search needs
+
+loop-less : tie.Need-loop-less Inv-loop μ-loop
+loop-less c = search needs
+
+loop-again : tie.Need-loop-again Inv-loop μ-loop
+loop-again c =
+    let v = c .before .before .before .before .before .before in (
+      v .loop .inv .0,
+      omega arith,
+      step (v .before .args .t1) (v .before .pre) (v .loop .k) (omega arith) _ (v .loop .next) _ _ (v .loop .inv .2) (c .before .arc-weight .ensures) (c .shorter .ensures),
+    )
+
+returns : tie.Need-returns Inv-loop μ-loop
+returns c =
+    let v = c .before in
+    let e : v .loop .k ≡ v .before .args .t1 .m = omega arith in
+    v .loop .inv .2 ∙ ap (λ (xs : List Arc). relaxArcs (map heavy xs) (v .before .args .row)) (ap (λ k. take k (planValue (v .before .args .t1) .arcs)) e ∙ arcs-all (v .before .args .t1) (v .before .pre))
+
+pub round-spec : {M : Type 1} → statement M
+round-spec =
+    tie.close
+    (tie.spec
+    Inv-loop
+    μ-loop
+    cast-m
+    loop-holds
+    mul-a
+    element-copy-out-a
+    cast-t
+    cast-h
+    mul-shorter
+    array-read-shorter
+    arc-weight-requires
+    mul-shorter-2
+    array-read-shorter-2
+    shorter-requires
+    mul-next
+    array-write-next
+    add-k
+    loop-less
+    loop-again
+    returns)

@@ -1,0 +1,4 @@
+-- What is proved about the definitions.
+pub mod Limits
+pub mod Shut
+pub mod Call

@@ -1,0 +1,170 @@
+-- The chain of the call: where a verdict refuses, the first condition that applies is among those it looked at; where it does not, it is among the rest. From the contract over the plan at the
+-- departure, what is said of the file's plan: its tours are those that avoid the arcs shut, at equal costs.
+use mathlib.Core.Path.{_≡_, refl, sym, ap, _∙_, subst}
+use mathlib.Core.List.{List, _++_}
+use mathlib.Core.Bool.{Bool, true, false, not, cond}
+use mathlib.Core.Option.{Option, none, some}
+use Prim.Native.Nat.{ℕ, _<_, _≤_}
+use native.Mathlib.Omega.{arith}
+use lib.ListN.{length, take}
+use lib.IntN.{pos}
+use lib.Signed.{_≤ℤ_}
+use lib.Dec.{T}
+use borrow.Author.Tests.{lt-ltb, le-ltb}
+use Rattle.postman.specs.Plan.{Plan, WellFormed}
+use Rattle.postman.specs.Refusal.{Conditions, firstRefusal}
+use Rattle.postman.specs.PlanFile.{fileConditions, isOutside, planOf}
+use Rattle.postman.specs.PlanCall.{sheetPlaces, highestBudget, callConditions}
+use Rattle.postman.specs.Tour.{IsTour, tourCost}
+use Rattle.postman.specs.Windows.{Window, Departure, windowsIn, planAt, Avoids, hasBadWindow, isMustShut, windowConditions, callRefusalAt}
+use Rattle.postman.specs.Theorem.{cut-off-at}
+use Rattle.postman.specs.Laws.Refusal.{first-on, first-stop}
+use Rattle.postman.specs.Laws.Acceptance.{call-limits}
+use Rattle.postman.specs.Laws.Windows.{at-well-formed, tours, same-tour-cost, call-accepted-at, at-order}
+use Rattle.plan.specs.Records.{planValue}
+use Rattle.plan.specs.declared.Plan.{Plan as PlanRecord}
+use Rattle.plan.specs.Laws.Records.{plan-length}
+use Rattle.refusal.specs.declared.Refusal.{Refusal}
+use Rattle.refusal.specs.Verdict.{refusalNumber, verdictNumber}
+use Rattle.plan_file.specs.declared.Reading.{Reading}
+use Rattle.plan_file.specs.Reading.{IsReading}
+use Rattle.plan_file.specs.Laws.Reading.{accepted-value}
+use Rattle.budget.specs.declared.Budget.{Budget}
+use Rattle.budget.specs.declared.Checked.the-variants.{Good, Refused}
+use Rattle.budget.specs.Checks.{checkedOf}
+use Rattle.planner.specs.declared.Planned.{Planned}
+use Rattle.planner.specs.Contract.{IsPlanned}
+use Rattle.planner.specs.Refusals.{planRefusal}
+use Rattle.planner.specs.Laws.Refused.{refusedWith}
+use Rattle.planner.specs.Laws.Call.{parts-refusal, refused-planned, planned-as}
+use Rattle.planner.specs.Laws.Answered.{accepted, cost-is, floor-is, tour-written}
+use Rattle.windows.specs.Contract.{lastConditions, IsPlanCallAt}
+
+-- ---- one step of the chain
+
+pub step-refused : (q : Plan) (budget : ℕ) (cs ds : Conditions) (old : List ℕ) (r : Refusal) (x : Planned) → x ≡ refusedWith r → firstRefusal cs ≡ some (refusalNumber r)
+    → IsPlanned q budget (firstRefusal (cs ++ ds)) old old x
+step-refused q budget cs ds old r x e h = refused-planned q budget _ old r x e (first-stop cs ds _ h)
+
+pub step-on : (q : Plan) (budget : ℕ) (cs ds : Conditions) (old new : List ℕ) (x : Planned) → firstRefusal cs ≡ none → IsPlanned q budget (firstRefusal ds) old new x
+    → IsPlanned q budget (firstRefusal (cs ++ ds)) old new x
+step-on q budget cs ds old new x h i = planned-as q q budget _ _ old new x refl (sym (first-on cs ds h)) i
+
+-- ---- 8 and 9
+
+pub sheet-refused : (budget places : ℕ) → places < sheetPlaces → some 8 ≡ firstRefusal (callConditions budget places)
+unfolding firstRefusal callConditions
+sheet-refused budget places l = let e = lt-ltb places sheetPlaces l in rw e refl
+
+pub budget-refused : (budget places : ℕ) → sheetPlaces ≤ places → checkedOf budget ≡ Refused → some 9 ≡ firstRefusal (callConditions budget places)
+unfolding firstRefusal callConditions checkedOf
+budget-refused budget places l h = let e = le-ltb places sheetPlaces l in rw e (at (isOutside budget 1 highestBudget) h)
+  where
+    at : (b : Bool) → cond b Refused (Good (record { trees = budget })) ≡ Refused → _≡_ {A = Option ℕ} (some 9) (cond b (some 9) none)
+    at true h = refl
+    at false h = let z : _≡_ {A = ℕ} 0 1 = cc in absurd (omega arith)
+
+pub lent-good : (budget places : ℕ) (b : Budget) → sheetPlaces ≤ places → checkedOf budget ≡ Good b → none ≡ firstRefusal (callConditions budget places)
+unfolding firstRefusal callConditions checkedOf
+lent-good budget places b l h = let e = le-ltb places sheetPlaces l in rw e (at (isOutside budget 1 highestBudget) h)
+  where
+    at : (x : Bool) → cond x Refused (Good (record { trees = budget })) ≡ Good b → _≡_ {A = Option ℕ} none (cond x (some 9) none)
+    at true h = let z : _≡_ {A = ℕ} 0 1 = cc in absurd (omega arith)
+    at false h = refl
+
+pub small-budget : (budget places : ℕ) → firstRefusal (callConditions budget places) ≡ none → budget ≤ 1000000
+unfolding highestBudget
+small-budget budget places e = call-limits budget places e .2
+
+-- ---- 19 and 20
+
+module _ (r : PlanRecord) (numbers : List ℕ) (d : Departure) where
+  abbrev isBad : Bool
+  isBad = hasBadWindow (r .m) numbers d
+
+  abbrev isShutMust : Bool
+  isShutMust = isMustShut (planValue r) (windowsIn numbers) d
+
+  by-record : firstRefusal (windowConditions (planValue r) numbers d) ≡ cond isBad (some 19) (cond isShutMust (some 20) none)
+  unfolding firstRefusal windowConditions
+  by-record = let l = plan-length r in rw l refl
+
+  pub bad-refused : isBad ≡ true → some 19 ≡ firstRefusal (windowConditions (planValue r) numbers d)
+  bad-refused h = rw (by-record, h) refl
+
+  pub must-refused : isBad ≡ false → isShutMust ≡ true → some 20 ≡ firstRefusal (windowConditions (planValue r) numbers d)
+  must-refused h s = rw (by-record, h, s) refl
+
+  pub windows-good : isBad ≡ false → isShutMust ≡ false → none ≡ firstRefusal (windowConditions (planValue r) numbers d)
+  windows-good h s = rw (by-record, h, s) refl
+
+-- ---- from 10 on
+
+-- the plan at the departure is answered
+pub departing-planned : (s : PlanRecord) (p : Plan) (windows : List Window) (d : Departure) (budget : ℕ) (cs : Conditions) (old new : List ℕ) (x : Planned)
+    → planValue s ≡ planAt p windows d → WellFormed p → firstRefusal cs ≡ none → IsPlanned (planValue s) budget (planRefusal (planValue s)) old new x
+    → IsPlanned (planAt p windows d) budget (firstRefusal (cs ++ lastConditions (planAt p windows d))) old new x
+departing-planned s p windows d budget cs old new x v w e i =
+    step-on (planAt p windows d) budget cs (lastConditions (planAt p windows d)) old new x e
+    (planned-as (planValue s) (planAt p windows d) budget _ _ old new x v (ap planRefusal v ∙ sym (parts-refusal (planAt p windows d) (at-well-formed p windows d w))) i)
+
+-- ---- the whole call
+
+module _ (bytes : List ℕ) (budget : ℕ) (numbers : List ℕ) (d : Departure) (old new : List ℕ) (r : Planned) where
+  abbrev p : Plan
+  p = planOf bytes
+
+  abbrev q : Plan
+  q = planAt p (windowsIn numbers) d
+
+  abbrev Called : Type 0
+  Called = IsPlanned q budget (callRefusalAt bytes budget (length old) numbers d) old new r
+
+  module _ (i : Called) (e : verdictNumber (r .verdict) ≡ none) where
+    open-must : T (not (isMustShut p (windowsIn numbers) d))
+    open-must = call-accepted-at bytes budget (length old) numbers d (accepted _ _ _ _ _ _ i e) .none-shut
+
+    floor-below : (w : List ℕ) → IsTour p w → Avoids (windowsIn numbers) d w → r .floor ≤ℤ pos (tourCost p w)
+    floor-below w t a =
+        let l = i .answered (accepted _ _ _ _ _ _ i e) .guarantee .below-every-tour w (tours p (windowsIn numbers) d open-must w .1 (t, a)) in
+        subst (λ c. r .floor ≤ℤ pos c) (same-tour-cost p (windowsIn numbers) d open-must w) (rw (floor-is _ _ _ _ _ _ i e) l)
+
+    written-is : IsTour p (take (r .places) new) × Avoids (windowsIn numbers) d (take (r .places) new)
+    written-is = tours p (windowsIn numbers) d open-must (take (r .places) new) .0 (tour-written _ _ _ _ _ _ i e .tour)
+
+    written-costs : tourCost p (take (r .places) new) ≡ r .cost
+    written-costs = sym (same-tour-cost p (windowsIn numbers) d open-must (take (r .places) new)) ∙ tour-written _ _ _ _ _ _ i e .costs ∙ sym (cost-is _ _ _ _ _ _ i e)
+
+  pub is-call-at : Called → IsPlanCallAt bytes budget numbers d old new r
+  is-call-at i =
+      let c = cut-off-at bytes budget (length old) numbers d in
+      record {
+        planned = i;
+        cut-off = ((λ e. c .0 (sym (i .verdict) ∙ e)), (λ h. i .verdict ∙ c .1 h));
+        below-every-tour = floor-below i;
+        written-tour = λ e. written-is i e .0;
+        written-avoids = λ e. written-is i e .1;
+        written-cost = written-costs i;
+      }
+
+  -- a file that is refused refuses the call
+  pub file-refused-at : (x : Refusal) → r ≡ refusedWith x → old ≡ new → firstRefusal (fileConditions bytes) ≡ some (refusalNumber x) → Called
+  file-refused-at x h s e =
+      subst (λ (new : List ℕ). IsPlanned q budget (callRefusalAt bytes budget (length old) numbers d) old new r) s
+      (refused-planned q budget _ old x r h (at-order bytes budget (length old) numbers d ∙ first-stop (fileConditions bytes) _ _ e))
+
+  -- one that is not gives its plan
+  pub read-planned-at : (x : Reading) → IsReading bytes x → firstRefusal (fileConditions bytes) ≡ none
+      → IsPlanned (planAt (planValue (x .plan)) (windowsIn numbers) d) budget
+      (firstRefusal
+      (callConditions budget (length old)
+      ++ (windowConditions (planValue (x .plan)) numbers d ++ lastConditions (planAt (planValue (x .plan)) (windowsIn numbers) d))))
+      old new r
+      → Called
+  read-planned-at x h e i =
+      let v = accepted-value bytes x h e in
+      planned-as _ q budget _ _ old new r (ap (λ (p : Plan). planAt p (windowsIn numbers) d) v)
+      (ap
+      (λ (p : Plan). firstRefusal (callConditions budget (length old) ++ (windowConditions p numbers d ++ lastConditions (planAt p (windowsIn numbers) d)))) v
+      ∙ sym (at-order bytes budget (length old) numbers d ∙ first-on (fileConditions bytes) _ e))
+      i

@@ -1,0 +1,5 @@
+-- The plan call at a departure.
+pub mod Contract
+-- What is proved about it.
+pub mod Laws
+pub mod Theorem
