@@ -71,15 +71,7 @@ pub extern "C" fn postman_two_cars(
         (record { marks = now («marks_2» .entry); budget = «budget_2»; sheet = now («sheet_2» .entry); sheet′ = now («sheet_2» .exit); words = now («answer_2» .entry); words′ = now («answer_2» .exit); u = now («multipliers_2» .entry); u′ = now («multipliers_2» .exit) })
         k ⌝ }
 {
-    let r = two_cars::call::two_cars(
-        plan,
-        marks_1,
-        budget_1,
-        sheet_1,
-        marks_2,
-        budget_2,
-        sheet_2,
-    );
+    let r = two_cars::call::two_cars(plan, marks_1, budget_1, sheet_1, marks_2, budget_2, sheet_2);
     let first = r.first;
     let second = r.second;
     let a = hand_over(first, answer_1, multipliers_1);
