@@ -49,6 +49,12 @@ module _ (mark : ℕ) (a : Arc) where
   unfolding markedService
   service-charged o z = let f = eq-eqb mark 1 o in let e = ne-eqb (a .service) 0 z in rw (f, e) refl
 
+pub one-standing : (mark : ℕ) → mark ≡ 1 → _≡_ {A = ℕ} 1 (cond (eqb mark 1) 1 0)
+one-standing mark o = let f = eq-eqb mark 1 o in rw f refl
+
+pub other-standing : (mark : ℕ) → mark ≢ 1 → _≡_ {A = ℕ} 0 (cond (eqb mark 1) 1 0)
+other-standing mark o = let f = ne-eqb mark 1 o in rw f refl
+
 pub open-marked : (mark : ℕ) (a : ArcRecord) (s v : ℕ) → isOpen (arcValue a) ≡ true → s ≡ cond (eqb mark 1) 1 0 → v ≡ markedService mark (arcValue a)
     → _≡_ {A = ArcRecord} (record { tail = a .tail; head = a .head; standing = s; cost = a .cost; service = v }) (recordOf (marked mark (arcValue a)))
 unfolding marked
@@ -95,17 +101,16 @@ module _ (r : PlanRecord) (marks : List ℕ) where
         | inr a ↦
             let f = anyOf-at bad (below (length (planValue r .arcs))) a in
             let n = plan-length r in
-            let g = below-mem (f .1) in
+            let g : f .0 < length (planValue r .arcs) = below-mem (f .1) in
             let l : f .0 < r .m = omega arith in
             subst T (ap (isBadMark (getD marks (f .0) 0)) (plan-arc r (f .0) l) ∙ h (f .0) l) (f .2)
       ])
 
   pub good-length : hasBadMark (planValue r) marks ≡ false → length marks ≡ r .m
   unfolding hasBadMark
-  good-length e = at (length marks) (length (planValue r .arcs)) e ∙ plan-length r
-    where
-      at : (x y : ℕ) → (not (eqb x y) || any) ≡ false → x ≡ y
-      at x y e = eqb→eq x y (not-not (eqb x y) (not-or (not (eqb x y)) any (not-T _ (λ t. subst T e t)) .0))
+  good-length e =
+      let t : T (not (hasBadMark (planValue r) marks)) = not-T (hasBadMark (planValue r) marks) (λ t. subst T e t) in
+      eqb→eq (length marks) (length (planValue r .arcs)) (not-not (eqb (length marks) (length (planValue r .arcs))) (not-or other any t .0)) ∙ plan-length r
 
   -- ---- the plan of the car
 

@@ -16,9 +16,9 @@ table-of-requires c κs = search needs
 
 plan-tabled-requires : tie.Need-plan-tabled-requires
 plan-tabled-requires c κs =
-    let s = c .before .before .before .before .before .before in
-    let w = c .before .before .before .before .table in
-    let t = c .before .before .table-of in
+    let s = c .before .before .before .before .before .before .before in
+    let w = c .before .before .before .before .before .table in
+    let t = c .before .before .before .table-of in
     let d = table-costs _ (s .pre .0) (w .result) (t .result) (w .ensures) (t .ensures) in
     let long : length (t .result) ≡ 64 = t .ok .1 .0 .1 in
     ((s .pre .0, table-is _ (t .result) long (λ i l. rows (t .result) (t .ok .0) (t .ok .1 .1) i (omega arith)) d, w .ensures), (s .pre .1, s .pre .2))

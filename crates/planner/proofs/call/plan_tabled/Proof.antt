@@ -11,15 +11,15 @@ network-of-requires c κs = let s = c .before in (s .pre .0 .0, is-table _ _ (s 
 
 plan-measured-requires : tie.Need-plan-measured-requires
 plan-measured-requires c κs =
-    let s = c .before .before .before .before in
-    (record { well-formed = s .pre .0 .0; distances = s .pre .0 .1; network = c .before .before .network-of .ensures }, s .pre .1 .0, s .pre .1 .1, s .pre .0 .2)
+    let s = c .before .before .before in
+    (record { well-formed = s .pre .0 .0; distances = s .pre .0 .1; network = c .before .network-of .ensures }, s .pre .1 .0, s .pre .1 .1, s .pre .0 .2)
 
 same-length : tie.Need-same-length
 same-length c = search needs
 
 returns : tie.Need-returns
 returns c =
-    let n = c .before .before .before .before .before .network-of in
+    let n = c .before .before .before .before .network-of in
     planned-as _ _ _ _ _ _ _ _ refl (measured-refusal _ (n .result) (n .ensures)) (c .before .before .plan-measured .ensures)
 
 pub plan-tabled-spec : {M : Type 1} → statement M

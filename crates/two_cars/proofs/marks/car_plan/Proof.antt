@@ -21,10 +21,10 @@ cast-m : tie.Need-cast-m Inv-loop μ-loop
 cast-m c = search needs
 
 loop-holds : tie.Need-loop-holds Inv-loop μ-loop
-loop-holds c = (refl, c .before .before .before .pre .1, omega arith, prefix-none 256 zeroRecord _ zeroRecord)
+loop-holds c = (refl, c .before .pre .1, omega arith, prefix-none 256 zeroRecord _ zeroRecord)
 
-index-marked : tie.Need-index-marked Inv-loop μ-loop
-index-marked c = search needs
+shared-slice-read-marked : tie.Need-shared-slice-read-marked Inv-loop μ-loop
+shared-slice-read-marked c = search needs
 
 mul-marked : tie.Need-mul-marked Inv-loop μ-loop
 mul-marked c = search needs
@@ -49,7 +49,7 @@ loop-less c = search needs
 
 loop-again : tie.Need-loop-again Inv-loop μ-loop
 loop-again c =
-    let v = c .before .before .before in
+    let v = c .before .before .before .before in
     let i = v .loop .inv in
     (i .0, i .1, omega arith, prefix-more 256 zeroRecord _ (v .loop .arcs) (v .loop .k) _ (i .3) (omega arith) (c .marked .ensures))
 
@@ -59,4 +59,4 @@ returns c = let v = c .before in plan-marked _ _ (v .loop .arcs) (v .loop .k) (v
 pub car-plan-spec : {M : Type 1} → statement M
 car-plan-spec =
     tie.close
-    (tie.spec Inv-loop μ-loop cast-m loop-holds index-marked mul-marked element-copy-out-marked marked-requires mul-arcs array-set-from-arcs add-k loop-less loop-again returns)
+    (tie.spec Inv-loop μ-loop cast-m loop-holds shared-slice-read-marked mul-marked element-copy-out-marked marked-requires mul-arcs array-set-from-arcs add-k loop-less loop-again returns)

@@ -25,8 +25,8 @@ returns c = wrong-length _ _ (c .if1 .taken)
 loop-holds : tie.Need-loop-holds Inv-loop μ-loop
 loop-holds c = (refl, c .if1 .left, omega arith, λ i l. absurd (omega arith))
 
-index-is-bad-mark : tie.Need-index-is-bad-mark Inv-loop μ-loop
-index-is-bad-mark c = search needs
+shared-slice-read-is-bad-mark : tie.Need-shared-slice-read-is-bad-mark Inv-loop μ-loop
+shared-slice-read-is-bad-mark c = search needs
 
 mul-is-bad-mark : tie.Need-mul-is-bad-mark Inv-loop μ-loop
 mul-is-bad-mark c = search needs
@@ -60,4 +60,4 @@ returns-3 c = let v = c .before in none-found _ _ (v .loop .inv .1 ∙ v .loop .
 pub has-bad-mark-spec : {M : Type 1} → statement M
 has-bad-mark-spec =
     tie.close
-    (tie.spec Inv-loop μ-loop cast-m returns loop-holds index-is-bad-mark mul-is-bad-mark element-copy-out-is-bad-mark is-bad-mark-requires returns-2 add-k loop-less loop-again returns-3)
+    (tie.spec Inv-loop μ-loop cast-m returns loop-holds shared-slice-read-is-bad-mark mul-is-bad-mark element-copy-out-is-bad-mark is-bad-mark-requires returns-2 add-k loop-less loop-again returns-3)

@@ -13,7 +13,7 @@ is-open-requires : tie.Need-is-open-requires
 is-open-requires c κs = search needs
 
 returns-2 : tie.Need-returns-2
-returns-2 c = ap not (c .is-open .ensures) ∙ one-by-closed _ _ (c .before .before .before .if1 .left) (c .before .before .if2 .taken)
+returns-2 c = ap not (c .is-open .ensures) ∙ one-by-closed _ _ (c .before .before .if1 .left) (c .before .if2 .taken)
 
 returns-3 : tie.Need-returns-3
 returns-3 c = zero-good _ _ (c .before .if1 .left) (c .if2 .left)

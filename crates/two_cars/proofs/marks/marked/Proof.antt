@@ -16,8 +16,8 @@ marked-service-requires c κs = search needs
 
 returns : tie.Need-returns
 returns c =
-    open-marked _ _ _ _ (sym (c .before .before .before .before .before .before .is-open .ensures) ∙ c .before .before .before .before .if1 .taken)
-    (c .before .before .marked-standing .ensures) (c .marked-service .ensures)
+    open-marked _ _ _ _ (sym (c .before .before .before .is-open .ensures) ∙ c .before .before .if1 .taken)
+    (c .before .marked-standing .ensures) (c .marked-service .ensures)
 
 returns-2 : tie.Need-returns-2
 returns-2 c = closed-marked _ _ (sym (c .before .is-open .ensures) ∙ c .if1 .left)
