@@ -99,7 +99,8 @@ mod tests {
         let plan = Plan::read(&file).unwrap();
         let marks: Vec<bool> = plan.arcs.iter().map(|arc| arc.standing == Standing::Required).collect();
         for budget in [0, 1, 10] {
-            let [first, second] = two_cars(&file, Car { marks: &marks, budget }, Car { marks: &marks, budget: 3 }).unwrap();
+            let [first, second] =
+                two_cars(&file, Car { marks: &marks, budget }, Car { marks: &marks, budget: 3 }).unwrap();
             assert_eq!(first, plan_call(&file, budget));
             assert_eq!(second, plan_call(&file, 3));
         }

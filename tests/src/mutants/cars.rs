@@ -260,7 +260,7 @@ const MUTANTS: [(&str, &[Property], Call); 38] = [
     ("the floor of the plan's own marks", &[FloorOfWhole, MarkedByHand], |p, a, b| {
         beside_own(p, a, b, |told, own| Answer { floor: own.floor, ..told })
     }),
-    ("multipliers of the plan's own marks", &[Greatest, MarkedByHand], |p, a, b| {
+    ("multipliers of the plan's own marks", &[Feasible, Tight, MarkedByHand], |p, a, b| {
         beside_own(p, a, b, |told, own| Answer { multipliers: own.multipliers, ..told })
     }),
     ("the floor is the cost", &[FloorHolds, FloorEquation, RaisedBudget], |p, a, b| {
