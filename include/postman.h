@@ -1,10 +1,10 @@
 /*
- * The survey drive's planner: reading and writing plan files, the plan call, at a departure too, the short call, and the call for
- * two cars, the number of trees, distances, and judging a drive.
+ * The survey drive's planner: reading and writing plan files, the plan call, at a departure too, the short call, the call
+ * for two cars, the number of trees, distances, and judging a drive.
  *
  * A slice is lent as a pointer and a length. The length counts elements, not bytes. Pointers are not null, not even with
- * a length of 0, and the slices of one call do not overlap. That is all that is asked of a caller: any bytes, numbers and
- * lengths will do.
+ * a length of 0, and a slice that is not const overlaps no other of the same call. That is all that is asked of a caller:
+ * any bytes, numbers and lengths will do.
  *
  * Every function answers what was asked for, 0 or more, or minus a refusal's number. Of several refusals that apply the
  * first in this order is given: 1 (under three bytes), 2, 3, 1 (length), 4, then arc by arc 5, 6, 7, then 13, then 17,

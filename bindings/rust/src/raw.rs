@@ -1,7 +1,7 @@
 //! The library's functions over slices of the caller's, just as `include/postman.h` has them.
 //!
-//! The functions ask nothing but what C does: a pointer and the length behind it belong together, and lent slices do not overlap. Rust's
-//! references give both, so these calls are safe. A refusal changes no lent slice; one of a car alone changes none of that car's.
+//! The functions ask nothing but what C does: a pointer and the length behind it belong together, and a slice that may be changed overlaps no
+//! other. Rust's references give both, so these calls are safe. A refusal changes no lent slice; one of a car alone changes none of that car's.
 
 use crate::ffi;
 use crate::limits::{COUNTS, EDITIONS, FIRST_CAR};
@@ -27,7 +27,7 @@ fn unless_refused(number: i64) -> Result<usize, Refusal> {
 /// assert_eq!(records, [0, 1, 1, 0, 5, 0, 5, 1, 0, 0, 0, 3, 0, 0, 0xFF, 0xFF]);
 /// ```
 pub fn read_plan(plan: &[u8], records: &mut [u8]) -> Result<(u8, usize, usize), Refusal> {
-    // SAFETY: each pointer comes with the length of its own slice, and the slices do not overlap.
+    // SAFETY: each pointer comes with the length of its own slice, and those that may be changed overlap no other.
     let number = unsafe { ffi::postman_read_plan(plan.as_ptr(), plan.len(), records.as_mut_ptr(), records.len()) };
     let told = unless_refused(number)?;
     let edition = u8::try_from(told / EDITIONS).expect("an edition is 1 or 2");
