@@ -1,5 +1,6 @@
 //! The suite: what every planner is put through.
 
+mod cars;
 mod counts;
 mod departures;
 mod editions;
@@ -8,6 +9,7 @@ mod judging;
 mod pages;
 mod stated;
 
+pub use cars::run_cars;
 pub use counts::{run_count, run_counts};
 pub use departures::run_departures;
 pub use editions::{run_stated_codec, FILE_A_CHECKED};
