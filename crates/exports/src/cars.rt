@@ -76,5 +76,7 @@ pub extern "C" fn postman_two_cars(
     let second = r.second;
     let a = hand_over(first, answer_1, multipliers_1);
     let b = hand_over(second, answer_2, multipliers_2);
-    cars_number(first.verdict, second.verdict)
+    let v = first.verdict;
+    let w = second.verdict;
+    cars_number(v, w)
 }
