@@ -75,8 +75,8 @@ module _ (p : Plan) (ok : Plannable p) (few : componentCount p ≤ 8) where
         let g = greatest p ok few in
         record { rooted = record { multipliers = g .multipliers; at-root = g .at-root }; bound-is = refl; above = omega (arith, z) }
 
-    ascent-kept : Kept (turns (climb p d f (required p) components k) (begin p d f (required p) components k (greatestOf p)) 24)
-    ascent-kept = turns-keep (climb p d f (required p) components k) Kept climb-kept (begin p d f (required p) components k (greatestOf p)) begin-kept 24
+    ascent-kept : Kept (turns (climb p d f (required p) components k) (begin p d f (required p) components k (greatestOf p)) 20)
+    ascent-kept = turns-keep (climb p d f (required p) components k) Kept climb-kept (begin p d f (required p) components k (greatestOf p)) begin-kept 20
 
   -- THEY ARE LAWFUL, AND 0 AT THE ROOT
   pub answered-rooted : Rooted p (multipliersFor p)

@@ -22,10 +22,10 @@ use Rattle.planner.proofs.ascend.climb.Reads as climb-reads
 
 abbrev Inv-loop : tie.InvT-loop
 Inv-loop plan table vs component required k required-cost base c₀ i₀ c i =
-    (i ≤ 24) × (c .stride ≤ beyond) × (climbOf c ≡ turns (climb (planValue plan) table (base .amounts) vs component k) (climbOf c₀) i)
+    (i ≤ 20) × (c .stride ≤ beyond) × (climbOf c ≡ turns (climb (planValue plan) table (base .amounts) vs component k) (climbOf c₀) i)
 
 abbrev μ-loop : tie.MeasureT-loop
-μ-loop plan table vs component required k required-cost base c₀ i₀ c i = 24 - i
+μ-loop plan table vs component required k required-cost base c₀ i₀ c i = 20 - i
 
 begun-requires : tie.Need-begun-requires Inv-loop μ-loop
 begun-requires c κs = search needs
