@@ -1,11 +1,11 @@
 -- The multipliers that are answered are lawful, 0 at the root, and give a bound no lower than that of the greatest ones: each step of an ascent keeps that of the best it has met, whatever heights it goes to.
-use mathlib.Core.Path.{_≡_, refl, sym, ap, _∙_, subst, subst⁻¹}
-use mathlib.Core.Bool.{Bool, cond, _&&_}
+use mathlib.Core.Path.{_≡_, refl, ap, _∙_, subst, subst⁻¹}
+use mathlib.Core.Bool.{Bool, _&&_}
 use mathlib.Core.List.{List, []}
 use Prim.Native.Nat.{ℕ, _≤_, _<_}
 use native.Mathlib.Omega.{arith}
 use lib.ListN.{length, getD}
-use lib.Dec.{T, eqb, ltb}
+use lib.Dec.{ltb}
 use lib.IntN.{ℤ, pos}
 use lib.Signed.{ltZ, _≤ℤ_, ltZ-yes}
 use Rattle.integers.specs.Linear.{z, Within}
