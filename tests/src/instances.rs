@@ -1,9 +1,11 @@
 //! Plans to try a planner on: random ones, and those of the benchmark.
 
+mod drawn;
 mod equal;
 mod joined;
 mod towns;
 
+pub use drawn::{drawn_town, joined_loops};
 pub use equal::many_paths;
 pub use joined::{crossing, even, joined, one_above, star, Entries, HIGHEST_COUNT};
 pub use towns::{dead_ends, towns};

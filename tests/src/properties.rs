@@ -65,8 +65,8 @@ pub enum Property {
     Elsewhere,
     /// u is 0 at the lowest required vertex: our choice too.
     Root,
-    /// No u that meets all this is larger anywhere: our choice, where document 01 leaves one.
-    Greatest,
+    /// L(u) is at least what the greatest u gives that meets all this: our choice, where document 01 leaves one.
+    NoLower,
     /// The same input gives the same answer, whatever the sheet held.
     Repeatable,
     /// The short call is the plan call with 100,000.
@@ -138,7 +138,7 @@ pub const PROPERTIES: [Property; 44] = {
         Tight,
         Elsewhere,
         Root,
-        Greatest,
+        NoLower,
         Repeatable,
         ShortCall,
         Editions,

@@ -2,6 +2,7 @@
 //! speed is measured against, and the stock from which the wrong planners are made.
 
 mod arborescence;
+mod ascent;
 mod balance;
 mod bound;
 mod circuit;
@@ -67,9 +68,14 @@ pub trait Steps {
         (head, tail)
     }
 
-    /// The multipliers of the required vertices, 0 at the first.
-    fn multipliers(&self, balance: &Balance) -> Vec<i64> {
+    /// The multipliers by which trees are passed over, by the places of the required vertices.
+    fn passing_multipliers(&self, balance: &Balance) -> Vec<i64> {
         balance.greatest_potentials(0)
+    }
+
+    /// The multipliers that are answered, 0 at the first required vertex.
+    fn multipliers(&self, balance: &Balance, lengths: &Lengths, component: &[usize], parts: usize) -> Vec<i64> {
+        ascent::ascend(balance, lengths, component, parts)
     }
 
     /// The sum of u(i) × D(i).
@@ -214,12 +220,15 @@ fn answer<S: Steps>(steps: &S, plan: Plan, budget: u64, sheet: &mut [u16]) -> Re
         let (from, to) = steps.unit(a.tail.into(), a.head.into());
         balance.add(network.place[from], network.place[to]);
     }
-    let mut u = [0; MOST_VERTICES];
-    for (&v, x) in network.required.iter().zip(steps.multipliers(&balance)) {
-        u[v] = x;
-    }
+    let spread = |of_places: Vec<i64>| {
+        let mut u = [0; MOST_VERTICES];
+        network.required.iter().zip(of_places).for_each(|(&v, x)| u[v] = x);
+        u
+    };
+    let component: Vec<usize> = network.required.iter().map(|&v| network.components.of[v]).collect();
+    let u = spread(steps.multipliers(&balance, &lengths, &component, network.components.count));
 
-    let found = try_trees(steps, &network, &balance, &u, budget);
+    let found = try_trees(steps, &network, &balance, &spread(steps.passing_multipliers(&balance)), budget);
     let floor = if found.whole {
         found.cost
     } else {

@@ -162,7 +162,7 @@ held_to_all!(yardstick, Yardstick);
 #[cfg(feature = "proved")]
 held_to_all!(proved, postman_tests::planner::Proved);
 
-/// Beyond what the oracle can reach: many trees, on large plans and on the benchmark's.
+/// Beyond what the oracle can reach: many trees, on large plans and on the benchmark's; and u, which the oracle holds to its conditions only, on small ones too.
 #[cfg(feature = "proved")]
 #[test]
 fn proved_and_yardstick_agree() {
@@ -173,8 +173,10 @@ fn proved_and_yardstick_agree() {
 
     let random = (0..rounds(60))
         .map(|i| suite::random_case(seed() + i, Shape::large, &Effort { trees: 1, ..Effort::LIGHT }).file);
+    let small = (0..rounds(1_000))
+        .map(|i| suite::random_case(seed() + i, Shape::small, &Effort { trees: 1, ..Effort::LIGHT }).file);
     let towns = towns().into_iter().map(|(_, plan)| file_of(&plan));
-    for file in random.chain(towns) {
+    for file in random.chain(small).chain(towns) {
         for budget in [1_000, 30_000, 100_000] {
             let mut sheets = [vec![0; SHEET_PLACES], vec![0; SHEET_PLACES]];
             let proved = Proved.plan_call(&file, budget, &mut sheets[0]);

@@ -8,7 +8,7 @@ ghost use Rattle.balance.specs.Bounds.{AtMost};
 ghost use Rattle.balance.specs.Search.{beyond};
 
 // A vertex of the list.
-pub(crate) fn vertex(vs: &[u8], a: usize) -> u8
+pub fn vertex(vs: &[u8], a: usize) -> u8
     requires { do ⌜ (a < (← ⟦vs.len()⟧)) × AtMost 63 (now vs) ⌝ }
     ensures { λ r. ⌜ (r ≡ getD (now (vs .entry)) a 0) × (r < 64) ⌝ }
 {
@@ -16,7 +16,7 @@ pub(crate) fn vertex(vs: &[u8], a: usize) -> u8
 }
 
 // The next vertex on the way.
-pub(crate) fn following(next: &[u8; 64], v: usize) -> u8
+pub fn following(next: &[u8; 64], v: usize) -> u8
     requires { ⌜ (v < 64) × AtMost 63 (now next) ⌝ }
     ensures { λ r. ⌜ (r ≡ getD (now (next .entry)) v 0) × (r < 64) ⌝ }
 {
@@ -24,7 +24,7 @@ pub(crate) fn following(next: &[u8; 64], v: usize) -> u8
 }
 
 // The potential of a vertex.
-pub(crate) fn level(u: &[u64; 64], v: usize) -> u64
+pub fn level(u: &[u64; 64], v: usize) -> u64
     requires { ⌜ (v < 64) × AtMost beyond (now u) ⌝ }
     ensures { λ r. ⌜ (r ≡ getD (now (u .entry)) v 0) × (r ≤ beyond) ⌝ }
 {
@@ -32,21 +32,21 @@ pub(crate) fn level(u: &[u64; 64], v: usize) -> u64
 }
 
 // The lesser of two.
-pub(crate) fn lesser(a: u64, b: u64) -> u64
+pub fn lesser(a: u64, b: u64) -> u64
     ensures { λ r. ⌜ r ≡ min a b ⌝ }
 {
     if a < b { a } else { b }
 }
 
 // v where a is below b, else w.
-pub(crate) fn chosen(a: u64, b: u64, v: u8, w: u8) -> u8
+pub fn chosen(a: u64, b: u64, v: u8, w: u8) -> u8
     ensures { λ r. ⌜ r ≡ cond (ltb a b) v w ⌝ }
 {
     if a < b { v } else { w }
 }
 
 // a less b, and 0 where b is greater.
-pub(crate) fn monus(a: u64, b: u64) -> u64
+pub fn monus(a: u64, b: u64) -> u64
     ensures { λ r. ⌜ r ≡ a - b ⌝ }
 {
     if a < b { 0 } else { a - b }

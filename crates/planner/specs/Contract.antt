@@ -6,10 +6,11 @@ use mathlib.Core.Option.{Option, none, some}
 use Prim.Native.Nat.{ℕ, _≤_}
 use lib.ListN.{length, getD, replicate}
 use lib.IntN.{pos}
+use lib.Signed.{_≤ℤ_}
 use Rattle.postman.specs.Plan.{Plan}
 use Rattle.postman.specs.Refusal.{answer, unless, firstRefusal}
 use Rattle.postman.specs.Tour.{IsTour}
-use Rattle.postman.specs.LagrangianBound.{Multipliers, AreGreatest}
+use Rattle.postman.specs.LagrangianBound.{Multipliers, AreMultipliers, AreGreatest, lagrangianBound}
 use Rattle.postman.specs.PlanFile.{planOf}
 use Rattle.postman.specs.PlanCall.{Summary, summary, fields, root, IsAnswerTour, callRefusal, earlierConditions}
 use Rattle.postman.specs.Guarantee.{Guarantee}
@@ -18,7 +19,7 @@ use Rattle.circuit.specs.Tour.{written}
 use Rattle.planner.specs.declared.Planned.{Planned}
 use Rattle.refusal.specs.Verdict.{verdictNumber}
 use Rattle.planner.specs.Tour.{tourOf}
-use Rattle.planner.specs.Multipliers.{multipliersFor}
+use Rattle.planner.specs.Ascent.{multipliersFor}
 
 -- The fields of the answer, as document 01's.
 abbrev pub summaryOf : Planned → Summary
@@ -32,13 +33,14 @@ unfoldable pub countUnless : Option ℕ → ℕ → ℕ
 countUnless none n = n
 countUnless (some r) n = 0
 
--- What an answer that is no refusal is: some arc is required, every two required vertices are joined, and some tree may be tried; u is the unique greatest one, which depends
--- on the plan alone; the written places are a drive of the cost; and DEMAND 3 HOLDS.
+-- What an answer that is no refusal is: some arc is required, every two required vertices are joined, and some tree may be tried; u meets the two conditions, is a function of the plan alone, and gives a
+-- bound no lower than the greatest multipliers that are 0 at the lowest required vertex; the written places are a drive of the cost, and DEMAND 3 HOLDS.
 pub record IsAnswer (p : Plan) (budget : ℕ) (r : Planned) : Type 0 where
   pub plannable : Plannable p
   pub some-budget : 1 ≤ budget
+  pub multipliers : AreMultipliers p (multipliersOf r)
   pub multipliers-are : r .multipliers ≡ multipliersFor p
-  pub multipliers : AreGreatest p (root p) (multipliersOf r)
+  pub above-greatest : (v : Multipliers) → AreGreatest p (root p) v → lagrangianBound p v ≤ℤ lagrangianBound p (multipliersOf r)
   pub tour : IsAnswerTour p budget (tourOf p budget)
   pub guarantee : Guarantee p budget (multipliersOf r)
 

@@ -2,11 +2,13 @@
 pub mod Tour
 pub mod Lay
 pub mod Bound
-pub mod Solve
-pub mod Answer
-pub mod Root
-pub mod Idle
 pub mod Table
+pub mod Solve
+pub mod Root
+pub mod Ascent
+pub mod Climb
+pub mod Answer
+pub mod Idle
 pub mod Refused
 pub mod Call
 pub mod LongFile

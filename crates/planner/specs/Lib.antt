@@ -1,8 +1,9 @@
 pub mod Refusals
 pub mod Tour
-pub mod Multipliers
 pub mod Prepared
 pub mod Priced
+pub mod Ascent
+pub mod Climbs
 pub mod Contract
 pub mod RaisedBudget
 pub mod SameAnswer

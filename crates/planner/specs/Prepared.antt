@@ -1,10 +1,11 @@
 -- What is known of a plan once it is prepared.
 use mathlib.Core.Path.{_≡_}
+use mathlib.Core.Bool.{Bool}
 use mathlib.Core.List.{List, []}
 use Prim.Native.Nat.{ℕ, _≤_}
 use lib.ListN.{length}
 use Rattle.postman.specs.Plan.{Plan, WellFormed}
-use Rattle.postman.specs.Required.{required}
+use Rattle.postman.specs.Required.{required, requiredCost}
 use Rattle.postman.specs.Component.{componentCount}
 use Rattle.postman.specs.Arborescence.{IsArborescence}
 use Rattle.postman.specs.Laws.Optimality.{Plannable}
@@ -12,7 +13,7 @@ use Rattle.balance.specs.Step.{State, cell}
 use Rattle.balance.specs.Balance.{balance}
 use Rattle.circuit.specs.Filled.{linksOf}
 use Rattle.network.specs.declared.network.Network.{Network}
-use Rattle.network.specs.Contracts.{IsNetwork}
+use Rattle.network.specs.Contracts.{IsNetwork, IsRequiredFlags, IsComponents}
 use Rattle.planner.specs.Tour.{tableOf}
 
 -- The table of the distances of a plan that was read, and its network.
@@ -32,6 +33,14 @@ pub record IsKnown (p : Plan) (table : List (List ℕ)) (vs : List ℕ) : Type 0
 pub record IsBase (p : Plan) (table : List (List ℕ)) (vs : List ℕ) (base : State) : Type 0 where
   pub known : IsKnown p table vs
   pub base-is : base ≡ balance (cell (tableOf p)) p []
+
+-- With its network in arrays, and R.
+pub record IsPrepared (p : Plan) (table : List (List ℕ)) (vs : List ℕ) (base : State) (component : List ℕ) (flags : List Bool) (k r : ℕ) : Type 0 where
+  pub state : IsBase p table vs base
+  pub long : length flags ≡ 64
+  pub required-flags : IsRequiredFlags p flags
+  pub components : IsComponents p component k
+  pub cost : r ≡ requiredCost p
 
 -- Tails and heads of the links of an arborescence.
 pub record IsTree (p : Plan) (tails heads : List ℕ) : Type 0 where

@@ -1,5 +1,6 @@
 // The plan call.
 pub mod call; // the plan call and the short call
+mod ascend; // the multipliers that are answered
 mod bound; // L(u)
 mod lay; // the drive of a tree
 mod prepare; // the state of the required arcs

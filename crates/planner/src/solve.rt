@@ -1,5 +1,6 @@
 // The answer of a plan that is not refused.
 use crate::Planned;
+use crate::ascend::multipliers_for;
 use crate::bound::floor_of;
 use crate::lay::lay;
 use crate::prepare::base_state;
@@ -20,9 +21,10 @@ ghost use Rattle.balance.specs.Records.{stateOf};
 ghost use Rattle.balance.specs.Multipliers.{multipliers};
 ghost use Rattle.network.specs.Contracts.{IsNetwork};
 ghost use Rattle.planner.specs.Prepared.{IsKnown, IsBase};
+ghost use Rattle.planner.specs.Ascent.{multipliersFor};
 ghost use Rattle.planner.specs.Contract.{IsPlanned};
 
-// The trees are tried, the drive of the best is written, and the floor is computed, from the state of the required arcs and the multipliers.
+// The trees are tried, the drive of the best is written, and the floor is computed, from the state of the required arcs. Trees are passed over by the greatest multipliers; those that are answered give the floor.
 pub(crate) fn finish(
     plan: Plan,
     table: &[[u32; 64]; 64],
@@ -30,11 +32,12 @@ pub(crate) fn finish(
     vs: &[u8],
     net: Network,
     base: Balance,
+    greatest: [i64; 64],
     u: [i64; 64],
     budget: u32,
     sheet: &mut [u16],
 ) -> Planned
-    requires { ⌜ IsBase (planValue plan) (now table) (now vs) (stateOf base) × (u ≡ multipliers (cell (now table)) (now vs) (stateOf base) (root (planValue plan))) ⌝ }
+    requires { ⌜ IsBase (planValue plan) (now table) (now vs) (stateOf base) × (greatest ≡ multipliers (cell (now table)) (now vs) (stateOf base) (root (planValue plan))) × (u ≡ multipliersFor (planValue plan)) ⌝ }
     requires { ⌜ IsNetwork (planValue plan) net × (1 ≤ budget) × (sheetPlaces ≤ length (now sheet)) × AreWeights (planValue plan) (now weights) ⌝ }
     ensures { λ r. ⌜ IsPlanned (planValue plan) budget none (now (sheet .entry)) (now (sheet .exit)) r ⌝ }
 {
@@ -56,7 +59,7 @@ pub(crate) fn finish(
         &heads,
         k,
         base,
-        &u,
+        &greatest,
         required_cost,
         budget,
     );
@@ -105,6 +108,7 @@ pub(crate) fn solve(
     ensures { λ r. ⌜ IsPlanned (planValue plan) budget none (now (sheet .entry)) (now (sheet .exit)) r ⌝ }
 {
     let base = base_state(plan, table, vs);
-    let u = multipliers_of(plan, table, vs, base);
-    finish(plan, table, weights, vs, net, base, u, budget, sheet)
+    let greatest = multipliers_of(plan, table, vs, base);
+    let u = multipliers_for(plan, table, vs, net, base, greatest);
+    finish(plan, table, weights, vs, net, base, greatest, u, budget, sheet)
 }

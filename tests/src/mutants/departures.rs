@@ -117,7 +117,7 @@ const MUTANTS: [(&str, &[Property], Call); 27] = [
         let floor = Yardstick.plan_call(p, b, &mut s.to_vec()).map_or(a.floor, |open| open.floor);
         Ok(Answer { floor, ..a })
     }),
-    ("multipliers of the open plan", &[Greatest], |p, b, w, t, s| {
+    ("multipliers of the open plan", &[Tight], |p, b, w, t, s| {
         let a = right(p, b, w, t, s)?;
         let open = Yardstick.plan_call(p, b, &mut s.to_vec()).map_or(a.multipliers, |open| open.multipliers);
         Ok(Answer { multipliers: open, ..a })

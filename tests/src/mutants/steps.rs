@@ -4,7 +4,7 @@ use super::Mutant;
 use crate::plan::{Arc, Plan, CLOSED, MOST_VERTICES, OPTIONAL, REQUIRED};
 use crate::planner::Planner;
 use crate::properties::Property::{self, *};
-use crate::yardstick::{costs, distances, shortest_path, Balance, Components, Distances, Entries, Steps, NO_PATH};
+use crate::yardstick::{costs, distances, shortest_path, Balance, Components, Distances, Entries, Lengths, Steps, NO_PATH};
 
 /// Defines wrong planners, and lists them with their names and the properties that they violate.
 macro_rules! wrong_steps {
@@ -173,33 +173,33 @@ wrong_steps! {
     }
 
     // Lawful by document 01's conditions, and worthless as a bound.
-    MultipliersOfTheWrongDirection violates [Greatest] {
-        fn multipliers(&self, balance: &Balance) -> Vec<i64> {
+    MultipliersOfTheWrongDirection violates [NoLower] {
+        fn multipliers(&self, balance: &Balance, _: &Lengths, _: &[usize], _: usize) -> Vec<i64> {
             balance.least_potentials(0)
         }
     }
 
-    MultipliersOfAnotherRoot violates [Greatest] {
-        fn multipliers(&self, balance: &Balance) -> Vec<i64> {
+    MultipliersOfAnotherRoot violates [NoLower] {
+        fn multipliers(&self, balance: &Balance, _: &Lengths, _: &[usize], _: usize) -> Vec<i64> {
             let u = balance.greatest_potentials(balance.vertices() - 1);
             u.iter().map(|x| x - u[0]).collect()
         }
     }
 
     MultipliersNotRooted violates [Root] {
-        fn multipliers(&self, balance: &Balance) -> Vec<i64> {
+        fn multipliers(&self, balance: &Balance, _: &Lengths, _: &[usize], _: usize) -> Vec<i64> {
             balance.greatest_potentials(balance.vertices() - 1)
         }
     }
 
     MultipliersZero violates [Tight] {
-        fn multipliers(&self, balance: &Balance) -> Vec<i64> {
+        fn multipliers(&self, balance: &Balance, _: &Lengths, _: &[usize], _: usize) -> Vec<i64> {
             vec![0; balance.vertices()]
         }
     }
 
     MultipliersTurned violates [Tight, Feasible] {
-        fn multipliers(&self, balance: &Balance) -> Vec<i64> {
+        fn multipliers(&self, balance: &Balance, _: &Lengths, _: &[usize], _: usize) -> Vec<i64> {
             balance.greatest_potentials(0).iter().map(|x| -x).collect()
         }
     }

@@ -169,5 +169,6 @@ fn examine_multipliers(found: &mut Findings, facts: &Facts, answer: &Answer, abo
     let elsewhere = (0..u.len()).all(|v| graph.required.contains(&v) || u[v] == 0);
     found.expect(Property::Elsewhere, elsewhere, about);
     found.expect(Property::Root, u[graph.required[0]] == 0, about);
-    found.expect(Property::Greatest, *u == facts.greatest, || format!("greatest {:?}: {}", facts.greatest, about()));
+    let (bound, greatest) = (lagrangian_bound(graph, u), lagrangian_bound(graph, &facts.greatest));
+    found.expect(Property::NoLower, bound >= greatest, || format!("{greatest} at the greatest, {bound}: {}", about()));
 }

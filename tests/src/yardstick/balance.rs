@@ -114,6 +114,31 @@ impl<'a> Balance<'a> {
         (0..n).map(|v| x[v] + self.u[v] - self.u[root]).collect()
     }
 
+    /// The greatest difference of two lawful multipliers, u(v) − u(w), for all v and w: the distance from v to w over the residual arcs, unreduced.
+    pub fn residual_distances(&self) -> Lengths {
+        let n = self.n;
+        let mut x = [[0; MOST_VERTICES]; MOST_VERTICES];
+        for v in 0..n {
+            for w in 0..n {
+                let is_back = self.into[v][w] > 0;
+                x[v][w] = if is_back || v == w { 0 } else { self.lengths[v][w] - self.u[v] + self.u[w] };
+            }
+        }
+        for k in 0..n {
+            for v in 0..n {
+                for w in 0..n {
+                    x[v][w] = x[v][w].min(x[v][k] + x[k][w]);
+                }
+            }
+        }
+        for v in 0..n {
+            for w in 0..n {
+                x[v][w] += self.u[v] - self.u[w];
+            }
+        }
+        x
+    }
+
     /// The least potentials that are 0 at a root: minus the distance from it. Lawful, but they bound no better than the balancing itself.
     pub fn least_potentials(&self, root: usize) -> Vec<i64> {
         let others =

@@ -263,6 +263,35 @@ module _ (p : Plan) (ok : WellFormed p) (connected : T (not (isCutOff p))) where
     none : Joins p []
     none l m = absurd (List·Memᴰ·not-nil m)
 
+    -- what a sum over the heads less that over the tails comes to
+    price-from : (v : Multipliers) (q : ℕ → ℕ) (c : ℕ) → ((i : ℕ) → List·Memᴰ i (required p) → v i +ℤ pos c ≡ pos (q i))
+        → priceOfImbalance p v +ℤ pos (sumOver (tails p []) q) ≡ pos (sumOver (heads p []) q)
+    unfolding priceOfImbalance
+    price-from v q c h =
+        let e = price-ends p ends [] none v in
+        let a = signed-shift (heads p []) v q c (λ i m. h i (within-heads p ends [] none .among i m)) in
+        let b = signed-shift (tails p []) v q c (λ i m. h i (within-tails p ends [] none .among i m)) in
+        let l = ap (λ n. n * c) (same-length p ends [] none) in
+        rw e (simp zl (omega (arith, z, simp zl at a, simp zl at b)))
+
+    -- HEIGHTS THAT ARE FEASIBLE, AND TIGHT FOR THE AMOUNTS, ARE MULTIPLIERS, once a constant is taken off
+    pub heights-multipliers : (q : ℕ → ℕ) → Feasible d (required p) q → Tight d (required p) (amount (balance d p [] .amounts)) q
+        → (v : Multipliers) (c : ℕ) → ((i : ℕ) → List·Memᴰ i (required p) → v i +ℤ pos c ≡ pos (q i)) → ((i : ℕ) → (List·Memᴰ i (required p) → ⊥) → v i ≡ pos 0) → AreMultipliers p v
+    unfolding reducedCost
+    heights-multipliers q feasible tight v c here other = record {
+      elsewhere = other;
+      feasible = λ i j mi mj. (
+          let a = here i mi in
+          let b = here j mj in
+          let g = feasible i j mi mj in
+          let e = agrees i j mi mj in
+          simp zl (omega (arith, simp zl at a, simp zl at b)));
+      tight =
+          let a = price-from v q c here in
+          let b = price-at [] none (omega arith) q (feasible-distance q feasible) (tight-distance (amount (balance d p [] .amounts)) q tight) in
+          simp zl (omega (arith, simp zl at a));
+    }
+
     module _ (root : ℕ) (mr : List·Memᴰ root (required p)) where
       abbrev s : State
       s = balance d p []
@@ -285,33 +314,10 @@ module _ (p : Plan) (ok : WellFormed p) (connected : T (not (isCutOff p))) where
       U-here : (i : ℕ) → List·Memᴰ i (required p) → U i +ℤ pos c ≡ pos (W i)
       U-here i m = let e = M-here d (required p) table-metric s certified room root mr i m in simp zl (omega (arith, simp zl at e))
 
-      -- what a sum over the heads less that over the tails comes to
-      price-from : (v : Multipliers) (q : ℕ → ℕ) (c : ℕ) → ((i : ℕ) → List·Memᴰ i (required p) → v i +ℤ pos c ≡ pos (q i))
-          → priceOfImbalance p v +ℤ pos (sumOver (tails p []) q) ≡ pos (sumOver (heads p []) q)
-      unfolding priceOfImbalance
-      price-from v q c h =
-          let e = price-ends p ends [] none v in
-          let a = signed-shift (heads p []) v q c (λ i m. h i (within-heads p ends [] none .among i m)) in
-          let b = signed-shift (tails p []) v q c (λ i m. h i (within-tails p ends [] none .among i m)) in
-          let l = ap (λ n. n * c) (same-length p ends [] none) in
-          rw e (simp zl (omega (arith, z, simp zl at a, simp zl at b)))
-
       are-multipliers : AreMultipliers p U
-      unfolding reducedCost
-      are-multipliers = record {
-        elsewhere = λ i n. M-other d (required p) table-metric s certified room root mr i n;
-        feasible = λ i j mi mj. (
-            let a = U-here i mi in
-            let b = U-here j mj in
-            let g = w-feasible d (required p) table-metric s certified room root mr i j mi mj in
-            let e = agrees i j mi mj in
-            simp zl (omega (arith, simp zl at a, simp zl at b)));
-        tight =
-            let a = price-from U W c U-here in
-            let b = price-at [] none (omega arith) W (feasible-distance W (w-feasible d (required p) table-metric s certified room root mr))
-            (tight-distance (amount (s .amounts)) W (w-tight d (required p) table-metric s certified room root mr)) in
-            simp zl (omega (arith, simp zl at a));
-      }
+      are-multipliers =
+          heights-multipliers W (w-feasible d (required p) table-metric s certified room root mr) (w-tight d (required p) table-metric s certified room root mr) U c U-here
+          (λ i n. M-other d (required p) table-metric s certified room root mr i n)
 
       -- other multipliers, as naturals: none is less than minus the distance from the root
       module _ (v : Multipliers) (others : AreMultipliers p v) (zero-there : v root ≡ pos 0) where

@@ -6,8 +6,9 @@ use mathlib.Core.Option.{none, some, Option·some-ne-none}
 use Prim.Native.Nat.{ℕ, suc, _*_, _-_, _≤_}
 use native.Mathlib.Nat.{suc-mul, mul-le-mul-right}
 use native.Mathlib.Omega.{arith}
-use lib.ListN.{length, take, drop, take-append-drop, length-take}
+use lib.ListN.{length, getD, take, drop, take-append-drop, length-take}
 use lib.IntN.{ℤ, pos}
+use lib.Signed.{_≤ℤ_}
 use lib.Dec.{eqb}
 use Rattle.postman.specs.Lists.{select, anyOf, maxℤ}
 use Rattle.postman.specs.Plan.{Arc, Plan, arcAt, requiredNumbers, IsArc}
@@ -16,8 +17,8 @@ use Rattle.postman.specs.Tour.{IsWalk, tourCostDue, tourCost}
 use Rattle.postman.specs.Link.{Link}
 use Rattle.postman.specs.Component.{componentCount}
 use Rattle.postman.specs.Arborescence.{IsArborescence, arborescences}
-use Rattle.postman.specs.LagrangianBound.{AreGreatest, lagrangianBound}
-use Rattle.postman.specs.PlanCall.{Summary, summary, fields, root, triedCount, isWhole, bestCost, bestArborescence, lowerBound, sheetPlaces, IsAnswerTour}
+use Rattle.postman.specs.LagrangianBound.{AreMultipliers, lagrangianBound}
+use Rattle.postman.specs.PlanCall.{Summary, summary, fields, triedCount, isWhole, bestCost, bestArborescence, lowerBound, sheetPlaces, IsAnswerTour}
 use Rattle.postman.specs.Laws.Tests.{cond-ind}
 use Rattle.postman.specs.Laws.Membership.{getD-mem}
 use Rattle.postman.specs.Laws.Arborescence.{arborescences-mem}
@@ -30,9 +31,10 @@ use Rattle.search.specs.Links.{linksIn}
 use Rattle.planner.specs.declared.Planned.{Planned}
 use Rattle.refusal.specs.Verdict.{verdictNumber}
 use Rattle.planner.specs.Tour.{tourOf, amountsOf}
-use Rattle.planner.specs.Multipliers.{multipliersFor}
 use Rattle.planner.specs.Prepared.{IsTree}
 use Rattle.planner.specs.Contract.{summaryOf, multipliersOf, countUnless, IsPlanned}
+use Rattle.planner.specs.Ascent.{multipliersFor}
+use Rattle.planner.specs.Laws.Ascent.{answered-rooted, answered-above}
 use Rattle.planner.specs.Laws.Tour.{answer-tour}
 use Rattle.planner.specs.Laws.Lay.{arcs-links}
 
@@ -81,10 +83,13 @@ module _ (p : Plan) (ok : Plannable p) (few : componentCount p ≤ 8) (budget : 
 
   -- ---- the answer
 
-  pub is-planned : (old new : List ℕ) (r : Planned) → verdictNumber (r .verdict) ≡ none → r .multipliers ≡ multipliersFor p → AreGreatest p (root p) (multipliersOf r)
-      → summaryOf r ≡ summary p budget (multipliersOf r) → new ≡ written (tourOf p budget) old → r .places ≡ length (tourOf p budget) → IsPlanned p budget none old new r
+  lawful : (r : Planned) → r .multipliers ≡ multipliersFor p → AreMultipliers p (multipliersOf r)
+  lawful r g = subst⁻¹ (λ (u : List ℤ). AreMultipliers p (λ i. getD u i (pos 0))) g (answered-rooted p ok few .multipliers)
+
+  pub is-planned : (old new : List ℕ) (r : Planned) → verdictNumber (r .verdict) ≡ none → r .multipliers ≡ multipliersFor p → summaryOf r ≡ summary p budget (multipliersOf r)
+      → new ≡ written (tourOf p budget) old → r .places ≡ length (tourOf p budget) → IsPlanned p budget none old new r
   unfolding answer fields unless countUnless
-  is-planned old new r v u g s w n = record {
+  is-planned old new r v g s w n = record {
     verdict = v;
     summary-is = s;
     sheet = w;
@@ -93,10 +98,11 @@ module _ (p : Plan) (ok : Plannable p) (few : componentCount p ≤ 8) (budget : 
     answered = λ e. record {
       plannable = ok;
       some-budget = some;
-      multipliers-are = u;
-      multipliers = g;
+      multipliers = lawful r g;
+      multipliers-are = g;
+      above-greatest = λ v h. subst⁻¹ (λ (u : List ℤ). lagrangianBound p v ≤ℤ lagrangianBound p (λ i. getD u i (pos 0))) g (answered-above p ok few v h);
       tour = drive;
-      guarantee = guaranteed p ok budget some (multipliersOf r) (g .multipliers);
+      guarantee = guaranteed p ok budget some (multipliersOf r) (lawful r g);
     };
   }
 
@@ -146,9 +152,9 @@ module _ (p : Plan) (ok : Plannable p) (few : componentCount p ≤ 8) (budget : 
   unfolding tourOf
   laid-best t e = ap laid e
 
-  pub finished : (old new : List ℕ) (r : Planned) → verdictNumber (r .verdict) ≡ none → r .multipliers ≡ multipliersFor p → AreGreatest p (root p) (multipliersOf r)
-      → summaryOf r ≡ summary p budget (multipliersOf r) → (n : ℕ) (ts hs : List ℕ) → linksIn n ts hs ≡ bestArborescence p budget → new ≡ written (laid (linksOf (take n ts) (take n hs))) old
+  pub finished : (old new : List ℕ) (r : Planned) → verdictNumber (r .verdict) ≡ none → r .multipliers ≡ multipliersFor p → summaryOf r ≡ summary p budget (multipliersOf r)
+      → (n : ℕ) (ts hs : List ℕ) → linksIn n ts hs ≡ bestArborescence p budget → new ≡ written (laid (linksOf (take n ts) (take n hs))) old
       → r .places ≡ length (laid (linksOf (take n ts) (take n hs))) → IsPlanned p budget none old new r
-  finished old new r v u g s n ts hs e w m =
+  finished old new r v g s n ts hs e w m =
       let l = laid-best (linksOf (take n ts) (take n hs)) (kept-links n ts hs e) in
-      is-planned old new r v u g s (w ∙ ap (λ (t : List ℕ). written t old) l) (m ∙ ap length l)
+      is-planned old new r v g s (w ∙ ap (λ (t : List ℕ). written t old) l) (m ∙ ap length l)

@@ -106,7 +106,7 @@ module _ (p : Plan) (b c : ℕ) (more : b ≤ c) (f g : Option ℕ) (old new old
   buys = record {
     no-dearer = (let l = larger-cost p ok b c some more in let x = cost-is p b f old new r at-b good-b in let y = cost-is p c g old′ new′ s at-c good-c in omega arith);
     no-lower =
-        (let l = larger-bound p ok b c some more u (is-answer p b f old new r at-b good-b .multipliers .multipliers) in
+        (let l = larger-bound p ok b c some more u (is-answer p b f old new r at-b good-b .multipliers) in
         subst₂⁻¹ floor-b floor-c l);
     same-multipliers = same-u;
     partial-floors = λ eb ec. floor-c ∙ partial c (sym whole-c ∙ ec) ∙ sym (partial b (sym whole-b ∙ eb)) ∙ sym floor-b;

@@ -8,22 +8,20 @@ use lib.IntN.{ℤ, pos}
 use Rattle.postman.specs.Plan.{Plan}
 use Rattle.postman.specs.Refusal.{answer}
 use Rattle.postman.specs.LagrangianBound.{Multipliers}
-use Rattle.postman.specs.PlanCall.{Summary, summary, fields, root}
-use Rattle.postman.specs.Laws.Multiplier.{greatest-unique}
+use Rattle.postman.specs.PlanCall.{Summary, summary, fields}
 use Rattle.planner.specs.declared.Planned.{Planned}
 use Rattle.planner.specs.Contract.{summaryOf, multipliersOf, IsPlanned}
 use Rattle.planner.specs.SameAnswer.{SameAnswer}
 
 module _ (p : Plan) (budget : ℕ) (old new new′ : List ℕ) (r s : Planned) where
-  same-multipliers : (o : Option ℕ) → IsPlanned p budget o old new r → IsPlanned p budget o old new′ s → multipliersOf r ≡ multipliersOf s
-  same-multipliers none i j = greatest-unique p (root p) (multipliersOf r) (multipliersOf s) (i .answered refl .multipliers) (j .answered refl .multipliers)
-  same-multipliers (some k) i j =
-      let read : List ℤ → Multipliers = λ us v. getD us v (pos 0) in
-      ap read (i .no-multipliers k refl ∙ sym (j .no-multipliers k refl))
+  same-multipliers : (o : Option ℕ) → IsPlanned p budget o old new r → IsPlanned p budget o old new′ s → r .multipliers ≡ s .multipliers
+  same-multipliers none i j = i .answered refl .multipliers-are ∙ sym (j .answered refl .multipliers-are)
+  same-multipliers (some k) i j = i .no-multipliers k refl ∙ sym (j .no-multipliers k refl)
 
   pub same-answer : (o : Option ℕ) → IsPlanned p budget o old new r → IsPlanned p budget o old new′ s → SameAnswer r s × (new ≡ new′)
   same-answer o i j =
-      let u = same-multipliers o i j in
+      let read : List ℤ → Multipliers = λ us v. getD us v (pos 0) in
+      let u = ap read (same-multipliers o i j) in
       let e : summaryOf r ≡ summaryOf s = i .summary-is ∙ ap (λ (u : Multipliers). fields (answer o (summary p budget u))) u ∙ sym (j .summary-is) in (
         record {
           refusal = i .verdict ∙ sym (j .verdict);

@@ -1,5 +1,5 @@
--- From a prepared plan to what the search and the bounds ask: the multipliers are the greatest, and they price the imbalance at the cost of the state.
-use mathlib.Core.Path.{_≡_, sym, ap, _∙_, subst⁻¹}
+-- From a prepared plan to what the search and the bounds ask: the greatest multipliers are lawful, and so are those of heights that pass the test; lawful ones price the imbalance at the cost of the state.
+use mathlib.Core.Path.{_≡_, sym, ap, _∙_, subst, subst⁻¹}
 use mathlib.Core.Bool.{Bool}
 use mathlib.Core.List.{List, [], List·Memᴰ, List·Memᴰ·head, List·Memᴰ·tail}
 use Prim.Native.Nat.{ℕ, _≤_, _<_}
@@ -7,10 +7,12 @@ use native.Mathlib.Nat.{mul-le-mul-right}
 use native.Mathlib.Omega.{arith}
 use lib.ListN.{length}
 use lib.IntN.{ℤ, pos}
+use lib.Dec.{T}
 use Rattle.postman.specs.Plan.{Plan}
 use Rattle.postman.specs.Required.{required, requiredCost}
 use Rattle.postman.specs.Component.{componentCount}
-use Rattle.postman.specs.LagrangianBound.{AreGreatest, priceOfImbalance}
+use Rattle.postman.specs.LagrangianBound.{AreMultipliers, AreGreatest}
+use Rattle.postman.specs.Balancing.{leastBalancing}
 use Rattle.postman.specs.PlanCall.{root}
 use Rattle.postman.specs.Laws.Membership.{getD-mem}
 use Rattle.postman.specs.Laws.Distance.{bounded}
@@ -22,24 +24,33 @@ use Rattle.postman.specs.Laws.Optimality.{Plannable}
 use Rattle.balance.specs.Step.{State, cell}
 use Rattle.balance.specs.Balance.{balance}
 use Rattle.balance.specs.Multipliers.{multipliers}
-use Rattle.balance.specs.Laws.Plan.{balance-least, balance-certified, balance-room, multipliers-greatest}
+use Rattle.balance.specs.Laws.Plan.{balance-least, balance-certified, balance-room, plan-metric, heights-multipliers, multipliers-greatest}
 use Rattle.network.specs.Contracts.{IsRequiredFlags, IsComponents}
 use Rattle.arborescence.specs.Layout.{laidOut, IsLayout}
 use Rattle.arborescence.specs.Candidates.{AreCandidates}
 use Rattle.arborescence.specs.PairCosts.{multipliersOf}
+use Rattle.ascent.specs.Heights.{capped, multipliersAt}
+use Rattle.ascent.specs.Lawful.{areLawful}
+use Rattle.ascent.specs.Laws.Lawful.{lawful-feasible, lawful-tight}
+use Rattle.ascent.specs.Laws.Heights.{level, multipliers-here, multipliers-other, multipliers-first}
 use Rattle.candidates.specs.declared.Candidates.{Candidates}
 use Rattle.candidates.specs.LaidOut.{AreLaidOut}
 use Rattle.search.specs.Prepared.{Prepared}
 use Rattle.planner.specs.Tour.{tableOf}
-use Rattle.planner.specs.Multipliers.{multipliersFor}
 use Rattle.planner.specs.Prepared.{IsBase}
 use Rattle.planner.specs.Priced.{IsPriced}
+use Rattle.planner.specs.Ascent.{greatestOf}
 use Rattle.planner.specs.Laws.Tour.{agrees}
 use Rattle.planner.specs.Laws.Lay.{base-table}
 
 nonempty : {x : ℕ} {xs : List ℕ} → List·Memᴰ x xs → 0 < length xs
 nonempty (List·Memᴰ·head e) = omega arith
 nonempty (List·Memᴰ·tail m) = omega arith
+
+-- Multipliers that are 0 at the root.
+pub record Rooted (p : Plan) (u : List ℤ) : Type 0 where
+  pub multipliers : AreMultipliers p (multipliersOf u)
+  pub at-root : multipliersOf u (root p) ≡ pos 0
 
 module _ (p : Plan) (ok : Plannable p) (few : componentCount p ≤ 8) where
   abbrev d : ℕ → ℕ → ℕ
@@ -65,8 +76,8 @@ module _ (p : Plan) (ok : Plannable p) (few : componentCount p ≤ 8) where
   pub greatest : AreGreatest p (root p) (multipliersOf (multipliers d (required p) s (root p)))
   greatest = multipliers-greatest p (ok .well-formed) (ok .connected) d (agrees p ok few) (root p) root-required
 
-  price : priceOfImbalance p (multipliersOf (multipliers d (required p) s (root p))) ≡ pos (s .cost)
-  price = greatest .multipliers .tight ∙ ap pos (sym (balance-least p (ok .well-formed) (ok .connected) d (agrees p ok few) [] none-joined (omega arith)))
+  cost-least : s .cost ≡ leastBalancing p []
+  cost-least = balance-least p (ok .well-formed) (ok .connected) d (agrees p ok few) [] none-joined (omega arith)
 
   price-small : s .cost ≤ 4398046511104
   price-small =
@@ -75,28 +86,52 @@ module _ (p : Plan) (ok : Plannable p) (few : componentCount p ≤ 8) where
       let m = mul-le-mul-right {m = s .count} {n = 356} 8257410000 r in
       omega arith
 
-module _ (p : Plan) (table : List (List ℕ)) (vs : List ℕ) (base : State) (b : IsBase p table vs base) (u : List ℤ) (e : u ≡ multipliers (cell table) vs base (root p)) where
+  -- heights that pass the test stand for multipliers that are 0 at the root
+  pub heights-rooted : (x : List ℕ) → T (areLawful (tableOf p) (s .amounts) x (required p)) → Rooted p (multipliersAt x (required p))
+  unfolding root
+  heights-rooted x h =
+      let small = plan-metric p (ok .well-formed) (ok .connected) .small in
+      record {
+        multipliers =
+            heights-multipliers p (ok .well-formed) (ok .connected) d (agrees p ok few) (capped x) (lawful-feasible (tableOf p) (s .amounts) (required p) x h) (lawful-tight (tableOf p) (s .amounts) (required p) x h)
+            (multipliersOf (multipliersAt x (required p))) (level x (required p) small) (multipliers-here x (required p) small) (multipliers-other x (required p) small);
+        at-root = multipliers-first x (required p) small some-vertex;
+      }
+
+module _ (p : Plan) (table : List (List ℕ)) (vs : List ℕ) (base : State) (b : IsBase p table vs base) where
+  -- over the definition's own lists
+  pub greatest-is : (u : List ℤ) → u ≡ multipliers (cell table) vs base (root p) → u ≡ greatestOf p
+  unfolding greatestOf
+  greatest-is u e =
+      e ∙ ap (λ (x : List (List ℕ)). multipliers (cell x) vs base (root p)) (b .known .distances) ∙ ap (λ (v : List ℕ). multipliers (cell (tableOf p)) v base (root p)) (b .known .vertices)
+      ∙ ap (λ (s : State). multipliers (cell (tableOf p)) (required p) s (root p)) (b .base-is)
+
+  -- the greatest multipliers are lawful, and 0 at the root
+  pub greatest-rooted : (u : List ℤ) → u ≡ multipliers (cell table) vs base (root p) → Rooted p u
+  unfolding greatestOf
+  greatest-rooted u e =
+      let g = greatest p (b .known .plannable) (b .known .few) in
+      subst⁻¹ (Rooted p) (greatest-is u e) (record { multipliers = g .multipliers; at-root = g .at-root })
+
+  -- so are those of heights that pass the test
+  pub lawful-rooted : (x : List ℕ) → T (areLawful table (base .amounts) x vs) → Rooted p (multipliersAt x vs)
+  lawful-rooted x h =
+      let d : T (areLawful (tableOf p) (base .amounts) x vs) = subst (λ (t : List (List ℕ)). T (areLawful t (base .amounts) x vs)) (b .known .distances) h in
+      let v : T (areLawful (tableOf p) (base .amounts) x (required p)) = subst (λ (vs : List ℕ). T (areLawful (tableOf p) (base .amounts) x vs)) (b .known .vertices) d in
+      let s = subst (λ (s : State). T (areLawful (tableOf p) (s .amounts) x (required p))) (b .base-is) v in
+      subst⁻¹ (λ (vs : List ℕ). Rooted p (multipliersAt x vs)) (b .known .vertices) (heights-rooted p (b .known .plannable) (b .known .few) x s)
+
+module _ (p : Plan) (table : List (List ℕ)) (vs : List ℕ) (base : State) (b : IsBase p table vs base) (u : List ℤ) (e : Rooted p u) where
   abbrev ok : Plannable p
   ok = b .known .plannable
 
   abbrev few : componentCount p ≤ 8
   few = b .known .few
 
-  pub multipliers-are : u ≡ multipliersFor p
-  unfolding multipliersFor
-  multipliers-are =
-      e ∙ ap (λ (x : List (List ℕ)). multipliers (cell x) vs base (root p)) (b .known .distances) ∙ ap (λ (v : List ℕ). multipliers (cell (tableOf p)) v base (root p)) (b .known .vertices)
-      ∙ ap (λ (s : State). multipliers (cell (tableOf p)) (required p) s (root p)) (b .base-is)
-
-  pub greatest-are : AreGreatest p (root p) (multipliersOf u)
-  unfolding multipliersFor
-  greatest-are = subst⁻¹ (λ (x : List ℤ). AreGreatest p (root p) (multipliersOf x)) multipliers-are (greatest p ok few)
-
   cost-is : base .cost ≡ balance (cell (tableOf p)) p [] .cost
   cost-is = ap (λ (s : State). s .cost) (b .base-is)
 
   pub priced : (c : List ℕ) (flags : List Bool) (k r : ℕ) → length flags ≡ 64 → IsRequiredFlags p flags → IsComponents p c k → r ≡ requiredCost p → IsPriced p table u c flags k r (base .cost)
-  unfolding multipliersFor
   priced c flags k r long hf hc hr = record {
     plannable = ok;
     few = (let a = hc .all in let f = few in omega arith);
@@ -106,12 +141,12 @@ module _ (p : Plan) (table : List (List ℕ)) (vs : List ℕ) (base : State) (b 
     required-flags = hf;
     components = hc;
     cost = hr;
-    feasible = greatest-are .multipliers .feasible;
-    elsewhere = greatest-are .multipliers .elsewhere;
+    feasible = e .multipliers .feasible;
+    elsewhere = e .multipliers .elsewhere;
     root = root p;
     root-required = root-required p ok few;
-    at-root = greatest-are .at-root;
-    price-is = subst⁻¹ (λ (x : List ℤ). priceOfImbalance p (multipliersOf x) ≡ pos (base .cost)) multipliers-are (price p ok few ∙ ap pos (sym cost-is));
+    at-root = e .at-root;
+    price-is = e .multipliers .tight ∙ ap pos (sym (cost-is ∙ cost-least p ok few));
     price-small = (let a = price-small p ok few in let f = cost-is in omega arith);
   }
 
@@ -126,6 +161,6 @@ module _ (p : Plan) (table : List (List ℕ)) (vs : List ℕ) (base : State) (b 
     candidates = subst⁻¹ (λ (n : ℕ). AreCandidates p (laidOut n (c .start) (c .source))) hk (h .are-candidates);
     ends = λ q i l m g. (let m′ : q < componentCount p = omega arith in (h .tail q i l m′ g, h .head q i l m′ g));
     base-is = b .base-is ∙ ap (λ (x : List (List ℕ)). balance (cell x) p []) (sym (b .known .distances));
-    multipliers = greatest-are .multipliers;
+    multipliers = e .multipliers;
     required-cost = hr;
   }

@@ -11,7 +11,7 @@ use Rattle.shortest.specs.Contracts.{IsTable}
 use Rattle.planner.specs.Tour.{tableOf}
 
 module _ {A : Type 0} (f : ℕ → A) (z : A) where
-  filled : (xs : List A) (b n : ℕ) → length xs ≡ n → ((j : ℕ) → j < n → getD xs j z ≡ f (b + j)) → xs ≡ map f (upFrom b n)
+  pub filled : (xs : List A) (b n : ℕ) → length xs ≡ n → ((j : ℕ) → j < n → getD xs j z ≡ f (b + j)) → xs ≡ map f (upFrom b n)
   unfolding upFrom
   filled [] b zero e h = refl
   filled [] b (suc n) e h = absurd (omega arith)

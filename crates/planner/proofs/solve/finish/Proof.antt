@@ -1,19 +1,19 @@
 -- The candidates, the state and the multipliers are what the search asks; what it keeps is the best tree, whose drive is laid; and the bounds price the same state.
-use mathlib.Core.Path.{_≡_, refl, ap, _∙_}
+use mathlib.Core.Path.{_≡_, refl, ap, _∙_, subst⁻¹}
 use mathlib.Core.Bool.{Bool}
 use Prim.Native.Nat.{_-_}
 use native.Mathlib.Omega.{arith}
 use lib.ListN.{length}
-use Rattle.planner.specs.Laws.Solve.{some-component, multipliers-are, greatest-are, priced, prepared}
+use Rattle.planner.specs.Laws.Solve.{Rooted, some-component, greatest-rooted, priced, prepared}
+use Rattle.planner.specs.Laws.Ascent.{answered-rooted}
+use Rattle.planner.specs.Ascent.{multipliersFor}
 use Rattle.planner.specs.Laws.Answer.{cost-small, kept-tree, kept-fits, found-summary, finished}
 use denote.Ref.{now}
 use mir.Val.{toZ, ofZ}
 use mir.Syntax.{w64}
 use Rattle.integers.specs.Linear.{back64}
-use Rattle.postman.specs.LagrangianBound.{AreGreatest}
-use Rattle.postman.specs.PlanCall.{summary, root}
+use Rattle.postman.specs.PlanCall.{summary}
 use Rattle.plan.specs.Records.{planValue}
-use Rattle.planner.specs.Multipliers.{multipliersFor}
 use Rattle.planner.specs.Contract.{summaryOf, multipliersOf}
 use Rattle.planner.specs.declared.Planned.{Planned}
 use Rattle.refusal.specs.declared.Verdict.the-variants.{Accepted}
@@ -39,7 +39,7 @@ search-requires c κs =
     let b = s .pre .0 .0 in
     let n = s .pre .1 .0 in
     let o = c .before .before .before .before .before .before .before .before .before .of-network in
-    (prepared _ _ _ _ b _ (s .pre .0 .1) _ _ (o .result) (n .components .all) (n .required-cost) (o .ensures _ (b .known .plannable .well-formed) n), s .pre .1 .1)
+    (prepared _ _ _ _ b _ (greatest-rooted _ _ _ _ b _ (s .pre .0 .1)) _ _ (o .result) (n .components .all) (n .required-cost) (o .ensures _ (b .known .plannable .well-formed) n), s .pre .1 .1)
 
 sub-n : tie.Need-sub-n
 sub-n c =
@@ -99,7 +99,7 @@ floor-of-requires c κs =
     let long : length (s .args .net .required) ≡ 64 = length-unmapped Bool (s .args .net .required) 64 (s .good .1 .1 .1 .1 .0 .1 .1 .0 .1 .0 .1) in
     let l = cost-small _ (b .known .plannable) (b .known .few) _ (s .pre .1 .1) in
     let e = r .ensures .cost in
-    (priced _ _ _ _ b _ (s .pre .0 .1) _ _ _ _ long (n .required) (n .components) (n .required-cost), omega arith)
+    (priced _ _ _ _ b _ (subst⁻¹ (Rooted _) (s .pre .0 .2) (answered-rooted _ (b .known .plannable) (b .known .few))) _ _ _ _ long (n .required) (n .components) (n .required-cost), omega arith)
 
 same-length : tie.Need-same-length
 same-length c = search needs
@@ -112,12 +112,11 @@ returns c =
     let r = c .before .before .before .before .before .before .before .before .before .before .before .before .before .before .search in
     let l = c .before .before .before .before .before .before .before .before .lay in
     let k = b .known in
-    let x : Planned = record { verdict = Accepted; places = l .result; cost = r .result .cost; floor = toZ w64 (ofZ w64 (c .floor-of .result)); trees = r .result .tried; whole = r .result .whole; parts = s .args .net .components; multipliers = s .args .t7 } in
-    let u : x .multipliers ≡ multipliersFor (planValue (s .args .plan)) = multipliers-are _ _ _ _ b _ (s .pre .0 .1) in
-    let g : AreGreatest (planValue (s .args .plan)) (root (planValue (s .args .plan))) (multipliersOf x) = greatest-are _ _ _ _ b _ (s .pre .0 .1) in
+    let x : Planned = record { verdict = Accepted; places = l .result; cost = r .result .cost; floor = toZ w64 (ofZ w64 (c .floor-of .result)); trees = r .result .tried; whole = r .result .whole; parts = s .args .net .components; multipliers = s .args .t8 } in
+    let g : s .args .t8 ≡ multipliersFor (planValue (s .args .plan)) = s .pre .0 .2 in
     let f : summaryOf x ≡ summary (planValue (s .args .plan)) (s .args .budget) (multipliersOf x) =
     found-summary (planValue (s .args .plan)) (k .plannable) (k .few) (s .args .budget) (s .pre .1 .1) x (r .ensures .cost) (r .ensures .tried) (r .ensures .whole) (n .components .all) (back64 _ (c .floor-of .ok) ∙ c .floor-of .ensures) in
-    finished (planValue (s .args .plan)) (k .plannable) (k .few) (s .args .budget) (s .pre .1 .1) (now (s .args .sheet)) (l .last .1 .1 .1 .1 .1 .1 .1 .0) x refl u g f (s .args .net .components - 1) (r .result .tails) (r .result .heads) (r .ensures .links) (l .ensures .0) (l .ensures .1)
+    finished (planValue (s .args .plan)) (k .plannable) (k .few) (s .args .budget) (s .pre .1 .1) (now (s .args .sheet)) (l .last .1 .1 .1 .1 .1 .1 .1 .0) x refl g f (s .args .net .components - 1) (r .result .tails) (r .result .heads) (r .ensures .links) (l .ensures .0) (l .ensures .1)
 
 pub finish-spec : {M : Type 1} → statement M
 finish-spec =

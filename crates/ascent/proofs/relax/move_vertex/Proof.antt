@@ -1,0 +1,94 @@
+-- What the parts answer is the turn of the model. Assumes nothing.
+use Rattle.ascent.specs.Laws.Bodies.{move-is}
+use borrow.Author.Needs.{needs}
+use Rattle.ascent.proofs.relax.move_vertex.Statement.{statement}
+use Rattle.ascent.proofs.relax.move_vertex.Tie as tie
+
+place-requires : tie.Need-place-requires
+place-requires c κs = search needs
+
+mul-back : tie.Need-mul-back
+mul-back c = search needs
+
+element-copy-out-back : tie.Need-element-copy-out-back
+element-copy-out-back c = search needs
+
+mul-asked : tie.Need-mul-asked
+mul-asked c = search needs
+
+mul-asked-2 : tie.Need-mul-asked-2
+mul-asked-2 c = search needs
+
+index-1-asked : tie.Need-index-1-asked
+index-1-asked c = search needs
+
+index-2-asked : tie.Need-index-2-asked
+index-2-asked c = search needs
+
+mul-asked-3 : tie.Need-mul-asked-3
+mul-asked-3 c = search needs
+
+mul-asked-4 : tie.Need-mul-asked-4
+mul-asked-4 c = search needs
+
+index-1-asked-2 : tie.Need-index-1-asked-2
+index-1-asked-2 c = search needs
+
+index-2-asked-2 : tie.Need-index-2-asked-2
+index-2-asked-2 c = search needs
+
+asked-requires : tie.Need-asked-requires
+asked-requires c κs = search needs
+
+mul-old : tie.Need-mul-old
+mul-old c = search needs
+
+element-copy-out-old : tie.Need-element-copy-out-old
+element-copy-out-old c = search needs
+
+moved-requires : tie.Need-moved-requires
+moved-requires c κs = search needs
+
+element-copy-out-marked : tie.Need-element-copy-out-marked
+element-copy-out-marked c = search needs
+
+marked-requires : tie.Need-marked-requires
+marked-requires c κs = search needs
+
+mul-x : tie.Need-mul-x
+mul-x c = search needs
+
+element-write-x : tie.Need-element-write-x
+element-write-x c = search needs
+
+element-write-marks : tie.Need-element-write-marks
+element-write-marks c = search needs
+
+returns : tie.Need-returns
+returns c = move-is (c .before .before .before .before .before .before .before .before .before .args .d .now) (c .before .before .before .before .before .before .before .before .before .args .f .now) (c .before .before .before .before .before .before .before .before .before .args .up) (c .before .before .before .before .before .before .before .before .before .args .w) (c .before .before .before .before .before .before .before .before .before .args .base) (c .before .before .before .before .before .before .before .before .before .args .x .now) (c .before .before .before .before .before .before .before .before .before .args .marks .now) (c .before .before .before .before .before .before .before .before .before .args .v) (c .before .before .before .before .before .before .before .before .place .ensures .0) (c .before .before .before .before .asked .ensures) (c .before .before .moved .ensures) (c .marked .ensures)
+
+pub move-vertex-spec : {M : Type 1} → statement M
+move-vertex-spec =
+    tie.close
+    (tie.spec
+    place-requires
+    mul-back
+    element-copy-out-back
+    mul-asked
+    mul-asked-2
+    index-1-asked
+    index-2-asked
+    mul-asked-3
+    mul-asked-4
+    index-1-asked-2
+    index-2-asked-2
+    asked-requires
+    mul-old
+    element-copy-out-old
+    moved-requires
+    element-copy-out-marked
+    marked-requires
+    mul-x
+    element-write-x
+    element-write-marks
+    returns)

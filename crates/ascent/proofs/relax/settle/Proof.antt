@@ -1,0 +1,57 @@
+-- What is left of the sweeps, from what the loop holds, is what the heights come to. Assumes nothing.
+use mathlib.Core.Path.{_≡_, sym, _∙_}
+use Prim.Native.Nat.{_-_, _≤_}
+use native.Mathlib.Omega.{arith}
+use Rattle.ascent.specs.Laws.Bodies.{sweeps-start, sweeps-end, sweeps-none, sweeps-more}
+use Rattle.ascent.specs.Relax.{sweeps, settled}
+use borrow.Author.Needs.{needs}
+use Rattle.ascent.proofs.relax.settle.Statement.{statement}
+use Rattle.ascent.proofs.relax.settle.Tie as tie
+
+abbrev Inv-loop : tie.InvT-loop
+Inv-loop d f up vs y₀ marks₀ k₀ y marks k =
+    (k ≤ 64) × (sweeps d f up vs (64 - k) (y, marks) .0 ≡ settled d f up vs y₀)
+
+abbrev μ-loop : tie.MeasureT-loop
+μ-loop d f up vs y₀ marks₀ k₀ y marks k = 64 - k
+
+loop-holds : tie.Need-loop-holds Inv-loop μ-loop
+loop-holds c = (omega arith, sweeps-start _ _ _ _ _)
+
+all-closed-requires : tie.Need-all-closed-requires Inv-loop μ-loop
+all-closed-requires c κs = search needs
+
+returns : tie.Need-returns Inv-loop μ-loop
+returns c = let at = c .before .before .before .before in sym (sweeps-end _ _ _ _ _ _ _ (sym (c .before .all-closed .ensures) ∙ c .if1 .taken)) ∙ at .loop .inv .1
+
+sweep-requires : tie.Need-sweep-requires Inv-loop μ-loop
+sweep-requires c κs = search needs
+
+add-k : tie.Need-add-k Inv-loop μ-loop
+add-k c = search needs
+
+loop-less : tie.Need-loop-less Inv-loop μ-loop
+loop-less c = search needs
+
+loop-again : tie.Need-loop-again Inv-loop μ-loop
+loop-again c =
+    let at = c .before .before .before .before .before .before .before in
+    (omega arith, sweeps-more _ _ _ _ (at .loop .k) _ _ (at .loop .inv .1) (c .before .before .before .before .before .before .loop-test .taken) (sym (c .before .before .before .before .all-closed .ensures) ∙ c .before .before .before .if1 .left) (c .sweep .ensures))
+
+returns-2 : tie.Need-returns-2 Inv-loop μ-loop
+returns-2 c = sym (sweeps-none _ _ _ _ (c .before .loop .k) _ _ (c .loop-test .left)) ∙ c .before .loop .inv .1
+
+pub settle-spec : {M : Type 1} → statement M
+settle-spec =
+    tie.close
+    (tie.spec
+    Inv-loop
+    μ-loop
+    loop-holds
+    all-closed-requires
+    returns
+    sweep-requires
+    add-k
+    loop-less
+    loop-again
+    returns-2)

@@ -1,0 +1,83 @@
+-- The loop's state after so many turns is the model's. Assumes nothing.
+use mathlib.Core.Bool.{true, _&&_}
+use mathlib.Core.Path.{_≡_, refl, _∙_}
+use Prim.Native.Nat.{_-_, _≤_}
+use native.Mathlib.Omega.{arith}
+use lib.Dec.{eqb}
+use lib.ListN.{length, getD}
+use Rattle.ascent.specs.Laws.Turns.{turn-at, end}
+use Rattle.ascent.specs.Step.{areSame}
+use Rattle.ascent.specs.Turns.{turns}
+use borrow.Author.Needs.{needs}
+use Rattle.ascent.proofs.step.same.Statement.{statement}
+use Rattle.ascent.proofs.step.same.Tie as tie
+
+abbrev Inv-loop : tie.InvT-loop
+Inv-loop vs x y b₀ a₀ b a =
+    (a ≤ length vs) × (b ≡ turns (λ r a. r && eqb (getD x (getD vs a 0) 0) (getD y (getD vs a 0) 0)) true a)
+
+abbrev μ-loop : tie.MeasureT-loop
+μ-loop vs x y b₀ a₀ b a = length vs - a
+
+loop-holds : tie.Need-loop-holds Inv-loop μ-loop
+unfolding turns
+loop-holds c = (omega arith, refl)
+
+vertex-requires : tie.Need-vertex-requires Inv-loop μ-loop
+vertex-requires c κs = search needs
+
+wide-requires : tie.Need-wide-requires Inv-loop μ-loop
+wide-requires c κs = search needs
+
+mul-both : tie.Need-mul-both Inv-loop μ-loop
+mul-both c = search needs
+
+element-copy-out-both : tie.Need-element-copy-out-both Inv-loop μ-loop
+element-copy-out-both c = search needs
+
+mul-both-2 : tie.Need-mul-both-2 Inv-loop μ-loop
+mul-both-2 c = search needs
+
+element-copy-out-both-2 : tie.Need-element-copy-out-both-2 Inv-loop μ-loop
+element-copy-out-both-2 c = search needs
+
+both-requires : tie.Need-both-requires Inv-loop μ-loop
+both-requires c κs = search needs
+
+add-a : tie.Need-add-a Inv-loop μ-loop
+add-a c = search needs
+
+loop-less : tie.Need-loop-less Inv-loop μ-loop
+loop-less c = search needs
+
+loop-again : tie.Need-loop-again Inv-loop μ-loop
+loop-again c =
+    let at = c .before .before .before .before .before .before in
+    let start = at .before .before in (
+      omega arith,
+      turn-at (λ r v. r && eqb (getD (start .args .x .now) v 0) (getD (start .args .y .now) v 0)) (start .args .vs .now) true (at .loop .a) (at .loop .inv .1) (c .before .before .before .wide .ensures ∙ c .before .before .before .before .vertex .ensures .0)
+          (c .both .ensures),
+    )
+
+returns : tie.Need-returns Inv-loop μ-loop
+unfolding areSame
+returns c = end _ _ (c .before .loop .a) (c .before .loop .inv .1) (c .before .loop .inv .0) (c .loop-test .left)
+
+pub same-spec : {M : Type 1} → statement M
+same-spec =
+    tie.close
+    (tie.spec
+    Inv-loop
+    μ-loop
+    loop-holds
+    vertex-requires
+    wide-requires
+    mul-both
+    element-copy-out-both
+    mul-both-2
+    element-copy-out-both-2
+    both-requires
+    add-a
+    loop-less
+    loop-again
+    returns)

@@ -1,0 +1,105 @@
+-- One turn of each loop, put together from what its parts answer. Each by the equations of the parts, one after the other.
+use mathlib.Core.Path.{_≡_, refl, sym, ap, ap₂, _∙_}
+use mathlib.Core.Bool.{Bool, true, false, cond}
+use mathlib.Core.List.{List}
+use Prim.Native.Nat.{ℕ, zero, suc, _+_, _*_, _-_, _/_, _%_, _^_, _≤_, _<_, min}
+use native.Mathlib.Omega.{arith}
+use borrow.Author.Tests.{lt-ltb, le-ltb, ne-eqb}
+use lib.Dec.{ltb}
+use lib.ListN.{getD, set, replicate}
+use Rattle.balance.specs.Search.{beyond}
+use Rattle.balance.specs.Step.{cell}
+use Rattle.ascent.specs.Heights.{capped, carried}
+use Rattle.ascent.specs.Relax.{backPlace, asks, follows, opened, demand, moveVertex, moveAll, ask, sweep, areClosed, sweeps, settled}
+use Rattle.ascent.specs.Offers.{Offers, part, reduced, costOf, offer, offers}
+use Rattle.ascent.specs.Tree.{Sets, isBetter, entry, enter, grown, shifted, walkBack, along}
+use Rattle.ascent.specs.Step.{areSame, step}
+
+pub move-is : (d : List (List ℕ)) (f : List ℕ) (up : Bool) (w base : ℕ) (x marks : List ℕ) (v : ℕ) {p c new mark : ℕ} → p ≡ backPlace up v w
+    → c ≡ asks up (getD f p 0) (cell d v w) (cell d w v) base → new ≡ follows up c (getD x v 0) → mark ≡ opened (getD x v 0) new (getD marks v 0)
+    → (set x v new, set marks v mark) ≡ moveVertex d f up w base (x, marks) v
+move-is d f up w base x marks v {p} {c} {new} {mark} ep ec en em =
+    let e : c ≡ demand d f up w base v = ec ∙ ap (λ q. asks up (getD f q 0) (cell d v w) (cell d w v) base) ep in
+    let n : new ≡ follows up (demand d f up w base v) (getD x v 0) = en ∙ ap (λ q. follows up q (getD x v 0)) e in
+    ap₂ (λ (p q : ℕ). (set x v p, set marks v q)) n (em ∙ ap (λ q. opened (getD x v 0) q (getD marks v 0)) n)
+
+pub ask-none : (d : List (List ℕ)) (f : List ℕ) (up : Bool) (vs x marks : List ℕ) (w : ℕ) → getD marks w 0 ≤ 0 → (x, marks) ≡ ask d f up vs (x, marks) w
+unfolding ask
+ask-none d f up vs x marks w l = rw (le-ltb 0 (getD marks w 0) l)
+
+pub ask-some : (d : List (List ℕ)) (f : List ℕ) (up : Bool) (vs x marks : List ℕ) (w : ℕ) {base : ℕ} {r : List ℕ × List ℕ} → 0 < getD marks w 0 → base ≡ capped x w
+    → r ≡ moveAll d f up vs w base (x, set marks w 0) → r ≡ ask d f up vs (x, marks) w
+unfolding ask
+ask-some d f up vs x marks w l eb er = er ∙ ap (λ q. moveAll d f up vs w q (x, set marks w 0)) eb ∙ rw (lt-ltb 0 (getD marks w 0) l)
+
+pub offer-is : (d : List (List ℕ)) (x component : List ℕ) (i : ℕ) (m at : List ℕ) (j : ℕ) {pi pj hi hj c low best : ℕ} → pi ≡ part component i → pj ≡ part component j
+    → hi ≡ capped x i → hj ≡ capped x j → c ≡ reduced (cell d i j) hi hj → best ≡ cond (ltb c (getD m (pi * 8 + pj) 0)) (i * 64 + j) (getD at (pi * 8 + pj) 0)
+    → low ≡ min c (getD m (pi * 8 + pj) 0) → (set m (pi * 8 + pj) low, set at (pi * 8 + pj) best) ≡ offer d x component i (m, at) j
+offer-is d x component i m at j {pi} {pj} {hi} {hj} {c} {low} {best} ei ej ehi ehj ec eb el =
+    let e : c ≡ costOf d x component i j = ec ∙ ap₂ (λ (p q : ℕ). reduced (cell d i j) p q) ehi ehj in
+    let l : pi * 8 + pj ≡ part component i * 8 + part component j = ap₂ (λ (p q : ℕ). p * 8 + q) ei ej in
+    ap₂ (λ (p q : ℕ). (set m (pi * 8 + pj) p, set at (pi * 8 + pj) q)) (el ∙ ap (λ q. min q (getD m (pi * 8 + pj) 0)) e)
+    (eb ∙ ap (λ q. cond (ltb q (getD m (pi * 8 + pj) 0)) (i * 64 + j) (getD at (pi * 8 + pj) 0)) e)
+    ∙ ap (λ n. (set m n (min (costOf d x component i j) (getD m n 0)), set at n (cond (ltb (costOf d x component i j) (getD m n 0)) (i * 64 + j) (getD at n 0)))) l
+
+pub enter-is : (m : List ℕ) (s : ℕ) (cost from : List ℕ) (q : ℕ) {p g lc lm e nc : ℕ} {b : Bool} → p ≡ entry m s q → g ≡ 2 ^ q
+    → lc ≡ min (getD cost (s / 2) 0) beyond → lm ≡ min (getD m (p * 8 + q) 0) beyond → b ≡ isBetter s q (lc + lm) (getD cost ((s + g) / 2) 0)
+    → e ≡ cond b (p * 8 + q) (getD from ((s + g) / 2) 0) → nc ≡ cond b (lc + lm) (getD cost ((s + g) / 2) 0)
+    → (set cost ((s + g) / 2) nc, set from ((s + g) / 2) e) ≡ enter m s (cost, from) q
+unfolding enter
+enter-is m s cost from q {p} {g} {lc} {lm} {e} {nc} {b} ep eg elc elm eb ee en = rw (en, ee, eb, elc, elm, ep, eg)
+
+pub shift-is : (x : List ℕ) (pair s : ℕ) {a b t : ℕ} → a ≡ min (getD x (pair % 64) 0) beyond → b ≡ min (getD (set x (pair % 64) (a + s)) (pair / 64 % 64) 0) beyond → t ≡ b - s
+    → set (set x (pair % 64) (a + s)) (pair / 64 % 64) t ≡ shifted x pair s
+shift-is x pair s ea eb et = rw (et, eb, ea)
+
+pub walk-end : (from at : List ℕ) (s : ℕ) (x : List ℕ) (t : ℕ) → t ≡ 0 → (x, 0) ≡ walkBack from at s (x, t)
+unfolding walkBack
+walk-end from at s x t e = rw e
+
+pub walk-is : (from at : List ℕ) (s : ℕ) (x : List ℕ) (t : ℕ) {e g r : ℕ} {y : List ℕ} → (t ≡ 0 → ⊥) → e ≡ getD from t 0 → y ≡ shifted x (getD at (e % 64) 0) s → g ≡ 2 ^ (e % 8) → r ≡ t - g / 2
+    → (y, r) ≡ walkBack from at s (x, t)
+unfolding walkBack
+walk-is from at s x t n ee ey eg er = rw (ne-eqb t 0 n, er, eg, ey, ee)
+
+-- ---- until none is open
+
+module _ (d : List (List ℕ)) (f : List ℕ) (up : Bool) (vs : List ℕ) where
+  pub sweeps-start : (x : List ℕ) → sweeps d f up vs 64 (x, replicate 64 1) .0 ≡ settled d f up vs x
+  unfolding settled
+  sweeps-start x = refl
+
+  pub sweeps-end : (n : ℕ) (x marks : List ℕ) → areClosed vs marks ≡ true → sweeps d f up vs n (x, marks) .0 ≡ x
+  unfolding sweeps
+  sweeps-end zero x marks e = refl
+  sweeps-end (suc n) x marks e = rw e
+
+  pub sweeps-none : (k : ℕ) (x marks : List ℕ) → 64 ≤ k → sweeps d f up vs (64 - k) (x, marks) .0 ≡ x
+  unfolding sweeps
+  sweeps-none k x marks l = let e : 64 - k ≡ 0 = omega arith in ap (λ n. sweeps d f up vs n (x, marks) .0) e
+
+  sweeps-step : (n : ℕ) (s : List ℕ × List ℕ) → areClosed vs (s .1) ≡ false → sweeps d f up vs (suc n) s ≡ sweeps d f up vs n (sweep d f up vs s)
+  unfolding sweeps
+  sweeps-step n s e = rw e
+
+  pub sweeps-more : (k : ℕ) (x marks : List ℕ) {x′ marks′ r : List ℕ} → sweeps d f up vs (64 - k) (x, marks) .0 ≡ r → k < 64 → areClosed vs marks ≡ false
+      → (x′, marks′) ≡ sweep d f up vs (x, marks) → sweeps d f up vs (64 - (k + 1)) (x′, marks′) .0 ≡ r
+  sweeps-more k x marks inv l any e =
+      let m : 64 - k ≡ suc (64 - (k + 1)) = omega arith in
+      ap (λ (s : List ℕ × List ℕ). sweeps d f up vs (64 - (k + 1)) s .0) e
+      ∙ ap (λ (s : List ℕ × List ℕ). s .0) (sym (sweeps-step (64 - (k + 1)) (x, marks) any))
+      ∙ ap (λ n. sweeps d f up vs n (x, marks) .0) (sym m)
+      ∙ inv
+
+-- ---- the step
+
+pub step-is : (d : List (List ℕ)) (f vs component : List ℕ) (k : ℕ) (up : Bool) (s : ℕ) (x before : List ℕ) {costs pairs cost from y z heights : List ℕ} {n : ℕ} {b : Bool}
+    → (costs, pairs) ≡ offers d x component vs → n ≡ 2 ^ (k - 1) → (cost, from) ≡ grown costs n → y ≡ along from pairs s x (n - 1) → b ≡ areSame vs y x → z ≡ carried vs y x before
+    → heights ≡ settled d f up vs z → record { heights = heights; value = getD cost (n - 1) 0; balanced = b } ≡ step d f vs component k up s x before
+unfolding step
+step-is d f vs component k up s x before {costs} {pairs} {cost} {from} {y} {z} {heights} {n} {b} eo en eg ey eb ez eh =
+    let ec : costs ≡ offers d x component vs .0 = ap (λ (q : Offers). q .0) eo in
+    let ep : pairs ≡ offers d x component vs .1 = ap (λ (q : Offers). q .1) eo in
+    let ek : cost ≡ grown costs n .0 = ap (λ (q : Sets). q .0) eg in
+    let ef : from ≡ grown costs n .1 = ap (λ (q : Sets). q .1) eg in
+    rw (eh, ez, eb, ey, ek, ef, en, ec, ep)

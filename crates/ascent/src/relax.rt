@@ -1,0 +1,196 @@
+// Heights brought back under document 01's two conditions: every vertex whose height changed asks of all others, until none is open.
+use crate::heights::larger;
+use balance::entries::lesser;
+use balance::entries::monus;
+use balance::entries::vertex;
+use integers::wide;
+ghost use mathlib.Core.Path.{_≡_};
+ghost use mathlib.Core.Bool.{_&&_};
+ghost use Prim.Native.Nat.{_<_, _≤_};
+ghost use lib.Dec.{eqb};
+ghost use Rattle.balance.specs.Bounds.{AtMost};
+ghost use Rattle.balance.specs.Search.{beyond};
+ghost use Rattle.ascent.specs.Relax.{backPlace, isAhead, asks, follows, opened, moveVertex, moveAll, ask as askAll, sweep as sweepAll, areClosed, settled};
+
+// Where the amount stands that decides what w asks of v.
+fn place(up: bool, v: usize, w: usize) -> usize
+    requires { ⌜ (v < 64) × (w < 64) ⌝ }
+    ensures { λ r. ⌜ (r ≡ backPlace up v w) × (r < 4096) ⌝ }
+{
+    if up {
+        return v * 64 + w;
+    }
+    w * 64 + v
+}
+
+// Whether it asks for more than its own height.
+fn ahead(up: bool, back: u16) -> bool
+    ensures { λ r. ⌜ r ≡ isAhead up back ⌝ }
+{
+    if back > 0 {
+        return up;
+    }
+    !up
+}
+
+// What a vertex at the height `base` asks.
+fn asked(up: bool, back: u16, near: u32, far: u32, base: u64) -> u64
+    requires { ⌜ base ≤ beyond ⌝ }
+    ensures { λ r. ⌜ r ≡ asks up back near far base ⌝ }
+{
+    if ahead(up, back) {
+        return base + near as u64;
+    }
+    monus(base, far as u64)
+}
+
+// What becomes of a height.
+fn moved(up: bool, c: u64, old: u64) -> u64
+    ensures { λ r. ⌜ r ≡ follows up c old ⌝ }
+{
+    if up {
+        return larger(c, old);
+    }
+    lesser(c, old)
+}
+
+// 1 where the height changed.
+fn marked(old: u64, new: u64, mark: u8) -> u8
+    ensures { λ r. ⌜ r ≡ opened old new mark ⌝ }
+{
+    if old == new { mark } else { 1 }
+}
+
+// v follows what w asks.
+fn move_vertex(
+    d: &[[u32; 64]; 64],
+    f: &[u16; 4096],
+    up: bool,
+    v: usize,
+    w: usize,
+    base: u64,
+    x: &mut [u64; 64],
+    marks: &mut [u8; 64],
+)
+    requires { ⌜ (v < 64) × (w < 64) × (base ≤ beyond) ⌝ }
+    ensures { λ r. ⌜ (now (x .exit), now (marks .exit)) ≡ moveVertex (now (d .entry)) (now (f .entry)) up w base (now (x .entry), now (marks .entry)) v ⌝ }
+{
+    let back = f[place(up, v, w)];
+    let c = asked(up, back, d[v][w], d[w][v], base);
+    let old = x[v];
+    let new = moved(up, c, old);
+    let mark = marked(old, new, marks[v]);
+    x[v] = new;
+    marks[v] = mark;
+}
+
+// All follow what w asks.
+fn move_all(
+    d: &[[u32; 64]; 64],
+    f: &[u16; 4096],
+    up: bool,
+    vs: &[u8],
+    w: usize,
+    base: u64,
+    x: &mut [u64; 64],
+    marks: &mut [u8; 64],
+)
+    requires { ⌜ (w < 64) × (base ≤ beyond) × AtMost 63 (now vs) ⌝ }
+    ensures { λ r. ⌜ (now (x .exit), now (marks .exit)) ≡ moveAll (now (d .entry)) (now (f .entry)) up (now (vs .entry)) w base (now (x .entry), now (marks .entry)) ⌝ }
+{
+    let mut a: usize = 0;
+    while a < vs.len() {
+        let v = wide(vertex(vs, a));
+        move_vertex(d, f, up, v, w, base, x, marks);
+        a += 1;
+    }
+}
+
+// w asks, if it is open.
+fn ask(
+    d: &[[u32; 64]; 64],
+    f: &[u16; 4096],
+    up: bool,
+    vs: &[u8],
+    w: usize,
+    x: &mut [u64; 64],
+    marks: &mut [u8; 64],
+)
+    requires { ⌜ (w < 64) × AtMost 63 (now vs) ⌝ }
+    ensures { λ r. ⌜ (now (x .exit), now (marks .exit)) ≡ askAll (now (d .entry)) (now (f .entry)) up (now (vs .entry)) (now (x .entry), now (marks .entry)) w ⌝ }
+{
+    if marks[w] > 0 {
+        marks[w] = 0;
+        let base = lesser(x[w], 1099511627776);
+        move_all(d, f, up, vs, w, base, x, marks);
+    }
+}
+
+// Each open vertex asks once.
+fn sweep(
+    d: &[[u32; 64]; 64],
+    f: &[u16; 4096],
+    up: bool,
+    vs: &[u8],
+    x: &mut [u64; 64],
+    marks: &mut [u8; 64],
+)
+    requires { ⌜ AtMost 63 (now vs) ⌝ }
+    ensures { λ r. ⌜ (now (x .exit), now (marks .exit)) ≡ sweepAll (now (d .entry)) (now (f .entry)) up (now (vs .entry)) (now (x .entry), now (marks .entry)) ⌝ }
+{
+    let mut a: usize = 0;
+    while a < vs.len() {
+        let w = wide(vertex(vs, a));
+        ask(d, f, up, vs, w, x, marks);
+        a += 1;
+    }
+}
+
+// Whether b, and a vertex is not open.
+fn still(b: bool, mark: u8) -> bool
+    ensures { λ r. ⌜ r ≡ (b && eqb mark 0) ⌝ }
+{
+    if b {
+        return mark == 0;
+    }
+    false
+}
+
+// Whether no vertex is open.
+fn all_closed(marks: &[u8; 64], vs: &[u8]) -> bool
+    requires { ⌜ AtMost 63 (now vs) ⌝ }
+    ensures { λ r. ⌜ r ≡ areClosed (now (vs .entry)) (now (marks .entry)) ⌝ }
+{
+    let mut b = true;
+    let mut a: usize = 0;
+    while a < vs.len() {
+        let v = wide(vertex(vs, a));
+        b = still(b, marks[v]);
+        a += 1;
+    }
+    b
+}
+
+// The heights under the two conditions: the largest that each allows the others, or, up, the least.
+pub(crate) fn settle(
+    d: &[[u32; 64]; 64],
+    f: &[u16; 4096],
+    up: bool,
+    vs: &[u8],
+    x: [u64; 64],
+) -> [u64; 64]
+    requires { ⌜ AtMost 63 (now vs) ⌝ }
+    ensures { λ r. ⌜ r ≡ settled (now (d .entry)) (now (f .entry)) up (now (vs .entry)) x ⌝ }
+{
+    let mut y = x;
+    let mut marks: [u8; 64] = [1; 64];
+    let mut k: usize = 0;
+    while k < 64 {
+        if all_closed(&marks, vs) {
+            return y;
+        }
+        sweep(d, f, up, vs, &mut y, &mut marks);
+        k += 1;
+    }
+    y
+}

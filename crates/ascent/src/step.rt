@@ -1,0 +1,81 @@
+// One step of the ascent.
+use crate::heights::carry_on;
+use crate::offers::offers;
+use crate::relax::settle;
+use crate::tree::bit;
+use crate::tree::follow;
+use crate::tree::grow;
+use balance::entries::vertex;
+use integers::wide;
+ghost use mathlib.Core.Path.{_≡_};
+ghost use mathlib.Core.Bool.{_&&_};
+ghost use Prim.Native.Nat.{_<_, _≤_};
+ghost use lib.Dec.{eqb};
+ghost use Rattle.balance.specs.Bounds.{AtMost};
+ghost use Rattle.balance.specs.Search.{beyond};
+ghost use Rattle.ascent.specs.Step.{areSame, step as stepFrom};
+ghost use Rattle.ascent.specs.Records.{stepOf};
+
+// The heights after a step, the cost of the tree at those before it, and whether that tree is balanced.
+pub struct Stepped {
+    pub heights: [u64; 64],
+    pub value: u64,
+    pub balanced: bool,
+}
+
+// Whether b, and two heights are the same.
+fn both(b: bool, x: u64, y: u64) -> bool
+    ensures { λ r. ⌜ r ≡ (b && eqb x y) ⌝ }
+{
+    if b {
+        return x == y;
+    }
+    false
+}
+
+// Whether two lists of heights are the same.
+fn same(vs: &[u8], x: &[u64; 64], y: &[u64; 64]) -> bool
+    requires { ⌜ AtMost 63 (now vs) ⌝ }
+    ensures { λ r. ⌜ r ≡ areSame (now (vs .entry)) (now (x .entry)) (now (y .entry)) ⌝ }
+{
+    let mut b = true;
+    let mut a: usize = 0;
+    while a < vs.len() {
+        let v = wide(vertex(vs, a));
+        b = both(b, x[v], y[v]);
+        a += 1;
+    }
+    b
+}
+
+// One step of length s, brought back from above, or from below where `up`.
+pub fn step(
+    d: &[[u32; 64]; 64],
+    f: &[u16; 4096],
+    vs: &[u8],
+    component: &[u8; 64],
+    k: usize,
+    up: bool,
+    s: u64,
+    x: &[u64; 64],
+    before: &[u64; 64],
+) -> Stepped
+    requires { ⌜ AtMost 63 (now vs) × (1 ≤ k) × (k ≤ 8) × (s ≤ beyond) ⌝ }
+    ensures { λ r. ⌜ stepOf r ≡ stepFrom (now (d .entry)) (now (f .entry)) (now (vs .entry)) (now (component .entry)) k up s (now (x .entry)) (now (before .entry)) ⌝ }
+{
+    let o = offers(d, x, component, vs);
+    let costs = o.costs;
+    let pairs = o.pairs;
+    let n = bit(k - 1) as usize;
+    let t = grow(&costs, n);
+    let from = t.from;
+    let all = t.cost;
+    let y = follow(&from, &pairs, s, x, n - 1);
+    let b = same(vs, &y, x);
+    let z = carry_on(y, x, before, vs);
+    Stepped {
+        heights: settle(d, f, up, vs, z),
+        value: all[n - 1],
+        balanced: b,
+    }
+}

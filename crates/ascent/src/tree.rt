@@ -1,0 +1,163 @@
+// A cheapest tree, by sets of components, and a step along its links.
+use crate::heights::height;
+use arborescence::reach::single;
+use balance::entries::lesser;
+use balance::entries::monus;
+use integers::wide;
+ghost use mathlib.Core.Path.{_≡_};
+ghost use mathlib.Core.Bool.{cond};
+ghost use Prim.Native.Nat.{_^_, _<_, _≤_};
+ghost use Rattle.balance.specs.Search.{beyond};
+ghost use Rattle.ascent.specs.Tree.{holds, cheaper as cheaperOf, entry as entryOf, isBetter, enter as enterBy, extend as extendBy, grown, shifted, walkBack, along};
+
+// The set of component q alone.
+pub(crate) fn bit(q: usize) -> u64
+    requires { ⌜ q < 8 ⌝ }
+    ensures { λ r. ⌜ (r ≡ 2 ^ q) × (1 ≤ r) × (r ≤ 128) ⌝ }
+{
+    single(q)
+}
+
+// Whether component q is in the set s.
+fn is_in(s: u64, q: usize) -> bool
+    requires { ⌜ q < 8 ⌝ }
+    ensures { λ r. ⌜ r ≡ holds s q ⌝ }
+{
+    s & bit(q) != 0
+}
+
+// The cheaper of the offers to q from r and from p.
+fn cheaper(m: &[u64; 64], s: u64, q: usize, r: usize, p: usize) -> usize
+    requires { ⌜ (q < 8) × (r < 8) × (p < 8) ⌝ }
+    ensures { λ e. ⌜ (e ≡ cheaperOf (now (m .entry)) s q r p) × (e < 8) ⌝ }
+{
+    if is_in(s, p) {
+        if m[p * 8 + q] < m[r * 8 + q] {
+            return p;
+        }
+    }
+    r
+}
+
+// Where q is entered from, out of the set s.
+fn entry(m: &[u64; 64], s: u64, q: usize) -> usize
+    requires { ⌜ q < 8 ⌝ }
+    ensures { λ r. ⌜ (r ≡ entryOf (now (m .entry)) s q) × (r < 8) ⌝ }
+{
+    let mut r: usize = 0;
+    for p in 0..8 {
+        r = cheaper(m, s, q, r, p);
+    }
+    r
+}
+
+// Whether to enter q from the set s at cost c is better.
+fn better(s: u64, q: usize, c: u64, old: u64) -> bool
+    requires { ⌜ q < 8 ⌝ }
+    ensures { λ r. ⌜ r ≡ isBetter s q c old ⌝ }
+{
+    if is_in(s, q) {
+        return false;
+    }
+    c < old
+}
+
+fn pick(b: bool, new: u64, old: u64) -> u64
+    ensures { λ r. ⌜ r ≡ cond b new old ⌝ }
+{
+    if b { new } else { old }
+}
+
+fn pick_entry(b: bool, new: u8, old: u8) -> u8
+    ensures { λ r. ⌜ r ≡ cond b new old ⌝ }
+{
+    if b { new } else { old }
+}
+
+// q is entered from the set s, unless it is in it.
+fn enter(m: &[u64; 64], s: u64, q: usize, cost: &mut [u64; 256], from: &mut [u8; 256])
+    requires { ⌜ (s < 256) × (q < 8) ⌝ }
+    ensures { λ r. ⌜ (now (cost .exit), now (from .exit)) ≡ enterBy (now (m .entry)) s (now (cost .entry), now (from .entry)) q ⌝ }
+{
+    let p = entry(m, s, q);
+    let here = (s / 2) as usize;
+    let there = ((s + bit(q)) / 2) as usize;
+    let c = lesser(cost[here], 1099511627776) + lesser(m[p * 8 + q], 1099511627776);
+    let old = cost[there];
+    let b = better(s, q, c, old);
+    let e = pick_entry(b, (p * 8 + q) as u8, from[there]);
+    cost[there] = pick(b, c, old);
+    from[there] = e;
+}
+
+// Each component that is not in set number i is entered from it.
+fn extend(m: &[u64; 64], i: usize, cost: &mut [u64; 256], from: &mut [u8; 256])
+    requires { ⌜ i < 128 ⌝ }
+    ensures { λ r. ⌜ (now (cost .exit), now (from .exit)) ≡ extendBy (now (m .entry)) (now (cost .entry), now (from .entry)) i ⌝ }
+{
+    let s = (2 * i + 1) as u64;
+    for a in 0..7usize {
+        enter(m, s, a + 1, cost, from);
+    }
+}
+
+// For each set the least cost, and the last entry.
+pub struct Sets {
+    pub cost: [u64; 256],
+    pub from: [u8; 256],
+}
+
+// The first n sets, from component 0 alone.
+pub(crate) fn grow(m: &[u64; 64], n: usize) -> Sets
+    requires { ⌜ n ≤ 128 ⌝ }
+    ensures { λ r. ⌜ (r .cost, r .from) ≡ grown (now (m .entry)) n ⌝ }
+{
+    let mut cost: [u64; 256] = [1099511627776; 256];
+    let mut from: [u8; 256] = [0; 256];
+    cost[0] = 0;
+    for i in 0..n {
+        extend(m, i, &mut cost, &mut from);
+    }
+    Sets {
+        cost: cost,
+        from: from,
+    }
+}
+
+// The heights after a link: that of its head rises, that of its tail falls.
+fn shift(x: &mut [u64; 64], pair: u16, s: u64)
+    requires { ⌜ s ≤ beyond ⌝ }
+    ensures { λ r. ⌜ now (x .exit) ≡ shifted (now (x .entry)) pair s ⌝ }
+{
+    let head = (pair % 64) as usize;
+    let tail = (pair / 64 % 64) as usize;
+    x[head] = lesser(x[head], 1099511627776) + s;
+    x[tail] = monus(lesser(x[tail], 1099511627776), s);
+}
+
+// One link back from the set at place t.
+fn walk_back(from: &[u8; 256], at: &[u16; 64], s: u64, x: &mut [u64; 64], t: usize) -> usize
+    requires { ⌜ (t < 256) × (s ≤ beyond) ⌝ }
+    ensures { λ r. ⌜ ((now (x .exit), r) ≡ walkBack (now (from .entry)) (now (at .entry)) s (now (x .entry), t)) × (r < 256) ⌝ }
+{
+    if t == 0 {
+        return 0;
+    }
+    let e = wide(from[t]);
+    shift(x, at[e % 64], s);
+    let half = bit(e % 8) / 2;
+    monus(t as u64, half) as usize
+}
+
+// The heights after the links of the tree that reaches the set at place t.
+pub(crate) fn follow(from: &[u8; 256], at: &[u16; 64], s: u64, x: &[u64; 64], t: usize) -> [u64; 64]
+    requires { ⌜ (t < 256) × (s ≤ beyond) ⌝ }
+    ensures { λ r. ⌜ r ≡ along (now (from .entry)) (now (at .entry)) s (now (x .entry)) t ⌝ }
+{
+    let mut y = *x;
+    let mut left = t;
+    for a in 0..7usize {
+        left = walk_back(from, at, s, &mut y, left);
+    }
+    y
+}
