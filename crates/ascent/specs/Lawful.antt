@@ -1,7 +1,7 @@
 -- The test of heights: document 01's first condition for every pair of vs, and that it is met exactly where something is sent, which gives the second.
 use mathlib.Core.Bool.{Bool, true, cond, _&&_}
 use mathlib.Core.List.{List}
-use Prim.Native.Nat.{ℕ, _+_, _*_}
+use Prim.Native.Nat.{ℕ, _+_}
 use lib.Dec.{eqb, ltb, leb}
 use lib.ListN.{length, getD}
 use Rattle.balance.specs.Step.{cell, amount}

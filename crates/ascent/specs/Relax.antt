@@ -5,7 +5,6 @@ use mathlib.Core.List.{List}
 use Prim.Native.Nat.{ℕ, zero, suc, _+_, _*_, _-_, min, max}
 use lib.Dec.{eqb, ltb}
 use lib.ListN.{length, getD, set, replicate}
-use Rattle.balance.specs.Search.{beyond}
 use Rattle.balance.specs.Step.{cell}
 use Rattle.ascent.specs.Turns.{turns}
 use Rattle.ascent.specs.Heights.{capped}

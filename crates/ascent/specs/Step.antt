@@ -8,8 +8,8 @@ use lib.ListN.{length, getD}
 use Rattle.ascent.specs.Turns.{turns}
 use Rattle.ascent.specs.Heights.{carried}
 use Rattle.ascent.specs.Relax.{settled}
-use Rattle.ascent.specs.Offers.{Offers, offers}
-use Rattle.ascent.specs.Tree.{Sets, grown, along}
+use Rattle.ascent.specs.Offers.{offers}
+use Rattle.ascent.specs.Tree.{grown, along}
 
 pub record Step : Type 0 where
   -- the heights after it

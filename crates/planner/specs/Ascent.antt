@@ -1,4 +1,4 @@
--- The multipliers that are answered, as a function of the plan: of those that 24 steps meet, from the greatest that are 0 at the lowest required vertex on, the first that gives the largest L(u).
+-- The multipliers that are answered, as a function of the plan: of those that 20 steps meet, from the greatest that are 0 at the lowest required vertex on, the first that gives the largest L(u).
 use mathlib.Core.Bool.{Bool, false, cond, _&&_}
 use mathlib.Core.List.{List, [], map}
 use Prim.Native.Nat.{ℕ, _+_, _-_, _/_, _%_, min, max}
@@ -47,10 +47,10 @@ module _ (p : Plan) where
     attempt c =
         cond (areLawful d f (c .heights) vs && ltZ (c .bound) (boundOf (multipliersAt (c .heights) vs))) (taken c (multipliersAt (c .heights) vs) (boundOf (multipliersAt (c .heights) vs))) c
 
-    -- A step from c to heights, at which the tree costs `value`. A tenth of the step's length is lost.
+    -- A step from c to heights, at which the tree costs `value`. A ninth of the step's length is lost.
     abbrev pub moved : Climb → Climb → Step → Climb
     moved c b s =
-        record { heights = s .heights; before = c .heights; best = b .best; bound = b .bound; value = max (c .value) (s .value); stride = c .stride - c .stride / 10; done = s .balanced }
+        record { heights = s .heights; before = c .heights; best = b .best; bound = b .bound; value = max (c .value) (s .value); stride = c .stride - c .stride / 9; done = s .balanced }
 
     -- Step i, unless a tree was balanced. Brought back from above and from below by turns.
     unfoldable pub climb : Climb → ℕ → Climb
@@ -66,7 +66,7 @@ module _ (p : Plan) where
     -- Of all multipliers met, the first with the largest L(u).
     unfoldable pub ascent : List ℤ → List ℤ
     unfolding turns climb begin
-    ascent u = turns climb (begin u) 24 .best
+    ascent u = turns climb (begin u) 20 .best
 
 -- The component of each vertex.
 unfoldable pub componentsOf : Plan → List ℕ

@@ -167,7 +167,7 @@ fn climb(
         best: best,
         bound: b.bound,
         value: value,
-        stride: c.stride - c.stride / 10,
+        stride: c.stride - c.stride / 9,
         done: s.balanced,
     }
 }
@@ -237,7 +237,7 @@ pub(crate) fn ascend(
         base,
         u,
     );
-    for i in 0..24usize {
+    for i in 0..20usize {
         let next = climb(
             plan,
             table,

@@ -4,9 +4,9 @@ use super::balance::{Balance, Lengths};
 use crate::plan::{MOST_PARTS, MOST_VERTICES};
 
 /// Steps, what the length of the first is of the largest distance to the first vertex, and what of it a step loses.
-const STEPS: usize = 24;
+const STEPS: usize = 20;
 const FIRST: i64 = 24;
-const LOSS: i64 = 10;
+const LOSS: i64 = 9;
 
 type Heights = [i64; MOST_VERTICES];
 

@@ -4,8 +4,8 @@ use mathlib.Core.Bool.{Bool, true, false, cond}
 use mathlib.Core.List.{List}
 use Prim.Native.Nat.{ℕ, zero, suc, _+_, _*_, _-_, _/_, _%_, _^_, _≤_, _<_, min}
 use native.Mathlib.Omega.{arith}
-use borrow.Author.Tests.{lt-ltb, le-ltb, eq-eqb, ne-eqb}
-use lib.Dec.{ltb, eqb}
+use borrow.Author.Tests.{lt-ltb, le-ltb, ne-eqb}
+use lib.Dec.{ltb}
 use lib.ListN.{getD, set, replicate}
 use Rattle.balance.specs.Search.{beyond}
 use Rattle.balance.specs.Step.{cell}
@@ -13,7 +13,7 @@ use Rattle.ascent.specs.Heights.{capped, carried}
 use Rattle.ascent.specs.Relax.{backPlace, asks, follows, opened, demand, moveVertex, moveAll, ask, sweep, areClosed, sweeps, settled}
 use Rattle.ascent.specs.Offers.{Offers, part, reduced, costOf, offer, offers}
 use Rattle.ascent.specs.Tree.{Sets, isBetter, entry, enter, grown, shifted, walkBack, along}
-use Rattle.ascent.specs.Step.{Step, areSame, step}
+use Rattle.ascent.specs.Step.{areSame, step}
 
 pub move-is : (d : List (List ℕ)) (f : List ℕ) (up : Bool) (w base : ℕ) (x marks : List ℕ) (v : ℕ) {p c new mark : ℕ} → p ≡ backPlace up v w
     → c ≡ asks up (getD f p 0) (cell d v w) (cell d w v) base → new ≡ follows up c (getD x v 0) → mark ≡ opened (getD x v 0) new (getD marks v 0)

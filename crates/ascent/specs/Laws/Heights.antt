@@ -1,14 +1,13 @@
 -- The multipliers of heights: at each vertex of vs its height less that of the first, elsewhere 0.
-use mathlib.Core.Path.{_≡_, refl, sym, ap, _∙_, subst}
+use mathlib.Core.Path.{_≡_, sym, _∙_, subst}
 use mathlib.Core.List.{List, List·Memᴰ}
-use Prim.Native.Nat.{ℕ, _≤_, _<_}
+use Prim.Native.Nat.{ℕ, _<_}
 use native.Mathlib.Omega.{arith}
-use lib.ListN.{length, getD, set, replicate, length-replicate}
+use lib.ListN.{length, getD, replicate, length-replicate}
 use lib.IntN.{ℤ, pos, _+ℤ_, _-ℤ_}
 use Rattle.integers.specs.Linear.{z, zl}
 use Rattle.postman.specs.Laws.Membership.{getD-mem, mem-getD}
 use Rattle.balance.specs.Laws.Fill.{zero-at}
-use Rattle.ascent.specs.Turns.{turns}
 use Rattle.ascent.specs.Heights.{capped, multipliersAt}
 use Rattle.ascent.specs.Laws.Turns.{stored-here, stored-other}
 

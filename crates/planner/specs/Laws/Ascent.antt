@@ -1,11 +1,11 @@
 -- The multipliers that are answered are lawful, 0 at the root, and give a bound no lower than that of the greatest ones: each step of an ascent keeps that of the best it has met, whatever heights it goes to.
-use mathlib.Core.Path.{_≡_, refl, sym, ap, _∙_, subst, subst⁻¹}
-use mathlib.Core.Bool.{Bool, cond, _&&_}
+use mathlib.Core.Path.{_≡_, refl, ap, _∙_, subst, subst⁻¹}
+use mathlib.Core.Bool.{Bool, _&&_}
 use mathlib.Core.List.{List, []}
 use Prim.Native.Nat.{ℕ, _≤_, _<_}
 use native.Mathlib.Omega.{arith}
 use lib.ListN.{length, getD}
-use lib.Dec.{T, eqb, ltb}
+use lib.Dec.{ltb}
 use lib.IntN.{ℤ, pos}
 use lib.Signed.{ltZ, _≤ℤ_, ltZ-yes}
 use Rattle.integers.specs.Linear.{z, Within}
@@ -75,8 +75,8 @@ module _ (p : Plan) (ok : Plannable p) (few : componentCount p ≤ 8) where
         let g = greatest p ok few in
         record { rooted = record { multipliers = g .multipliers; at-root = g .at-root }; bound-is = refl; above = omega (arith, z) }
 
-    ascent-kept : Kept (turns (climb p d f (required p) components k) (begin p d f (required p) components k (greatestOf p)) 24)
-    ascent-kept = turns-keep (climb p d f (required p) components k) Kept climb-kept (begin p d f (required p) components k (greatestOf p)) begin-kept 24
+    ascent-kept : Kept (turns (climb p d f (required p) components k) (begin p d f (required p) components k (greatestOf p)) 20)
+    ascent-kept = turns-keep (climb p d f (required p) components k) Kept climb-kept (begin p d f (required p) components k (greatestOf p)) begin-kept 20
 
   -- THEY ARE LAWFUL, AND 0 AT THE ROOT
   pub answered-rooted : Rooted p (multipliersFor p)

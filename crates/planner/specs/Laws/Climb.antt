@@ -1,6 +1,6 @@
 -- The parts of a step of the ascent, put together. Each by the equations of the parts, one after the other.
-use mathlib.Core.Path.{_≡_, refl, sym, ap, _∙_}
-use mathlib.Core.Bool.{Bool, true, false, cond, _&&_}
+use mathlib.Core.Path.{_≡_, sym, ap, _∙_}
+use mathlib.Core.Bool.{Bool, true, false, cond}
 use mathlib.Core.List.{List}
 use Prim.Native.Nat.{ℕ, _+_, _-_, _/_, _%_, _≤_, min, max}
 use native.Mathlib.Omega.{arith}
@@ -40,12 +40,12 @@ module _ (p : Plan) (d : List (List ℕ)) (f vs components : List ℕ) (k : ℕ)
 
   pub climb-more : (c : Climb) (i : ℕ) {s : Step} {b : Climb} {v : ℕ} {l : ℤ} → c .done ≡ false → s ≡ step d f vs components k (eqb (i % 2) 1) (c .stride) (c .heights) (c .before)
       → b ≡ cond (ltb (c .value) (s .value)) (attempt p d f vs components k c) c → v ≡ max (c .value) (s .value)
-      → l ≡ b .bound → record { heights = s .heights; before = c .heights; best = b .best; bound = l; value = v; stride = c .stride - c .stride / 10; done = s .balanced }
+      → l ≡ b .bound → record { heights = s .heights; before = c .heights; best = b .best; bound = l; value = v; stride = c .stride - c .stride / 9; done = s .balanced }
       ≡ climb p d f vs components k c i
   unfolding climb
   climb-more c i {s} {b} {v} {l} n es eb ev el =
-      ap (λ (l : ℤ). record { heights = s .heights; before = c .heights; best = b .best; bound = l; value = v; stride = c .stride - c .stride / 10; done = s .balanced }) el
-      ∙ ap (λ (v : ℕ). record { heights = s .heights; before = c .heights; best = b .best; bound = b .bound; value = v; stride = c .stride - c .stride / 10; done = s .balanced }) ev
+      ap (λ (l : ℤ). record { heights = s .heights; before = c .heights; best = b .best; bound = l; value = v; stride = c .stride - c .stride / 9; done = s .balanced }) el
+      ∙ ap (λ (v : ℕ). record { heights = s .heights; before = c .heights; best = b .best; bound = b .bound; value = v; stride = c .stride - c .stride / 9; done = s .balanced }) ev
       ∙ ap (λ (b : Climb). moved p d f vs components k c b s) eb
       ∙ ap (λ (s : Step). moved p d f vs components k c (cond (ltb (c .value) (s .value)) (attempt p d f vs components k c) c) s) es
       ∙ rw n
@@ -55,8 +55,8 @@ module _ (p : Plan) (d : List (List ℕ)) (f vs components : List ℕ) (k : ℕ)
   unfolding begin
   begin-is u el ex ef es = rw (es, ef, ex, el)
 
-  pub ascent-is : (u : List ℤ) {c₀ c : Climb} (i : ℕ) → c₀ ≡ begin p d f vs components k u → c ≡ turns (climb p d f vs components k) c₀ i → i ≤ 24 → 24 ≤ i → c .best ≡ ascent p d f vs components k u
+  pub ascent-is : (u : List ℤ) {c₀ c : Climb} (i : ℕ) → c₀ ≡ begin p d f vs components k u → c ≡ turns (climb p d f vs components k) c₀ i → i ≤ 20 → 20 ≤ i → c .best ≡ ascent p d f vs components k u
   unfolding ascent
   ascent-is u i e inv a b =
-      let n : i ≡ 24 = omega arith in
+      let n : i ≡ 20 = omega arith in
       ap (λ (c : Climb). c .best) (inv ∙ ap (λ (c : Climb). turns (climb p d f vs components k) c i) e ∙ ap (turns (climb p d f vs components k) (begin p d f vs components k u)) n)

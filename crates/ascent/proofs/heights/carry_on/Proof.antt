@@ -1,21 +1,14 @@
 -- The loop's state after so many turns is the model's. Assumes nothing.
-use mathlib.Core.Bool.{Bool, true, false, not, cond, _&&_, _||_}
-use mathlib.Core.Path.{_≡_, refl, sym, ap, ap₂, _∙_}
-use Prim.Native.Nat.{ℕ, _+_, _*_, _-_, _/_, _%_, _^_, _≤_, _<_, min, max}
+use mathlib.Core.Path.{_≡_, refl, ap, ap₂, _∙_}
+use Prim.Native.Nat.{ℕ, _-_, _≤_}
 use native.Mathlib.Omega.{arith}
-use lib.ListN.{length, getD, set, replicate}
+use lib.ListN.{length, getD, set}
 use Rattle.ascent.specs.Heights.{capped, carriedTo, carried}
-use Rattle.ascent.specs.Laws.Turns.{turn, turn-at, end}
+use Rattle.ascent.specs.Laws.Turns.{turn-at, end}
 use Rattle.ascent.specs.Turns.{turns}
-use Rattle.balance.proofs.entries.vertex.Reads as vertex-reads
-use Rattle.integers.proofs.wide.Reads as wide-reads
 use borrow.Author.Needs.{needs}
 use Rattle.ascent.proofs.heights.carry_on.Statement.{statement}
 use Rattle.ascent.proofs.heights.carry_on.Tie as tie
-use Rattle.ascent.proofs.heights.carry_on.Reads as reads
-use Rattle.ascent.proofs.heights.carry_on.Lts as lts
-use Rattle.ascent.proofs.heights.carry.Reads as carry-reads
-use Rattle.ascent.proofs.heights.height.Reads as height-reads
 
 abbrev Inv-loop : tie.InvT-loop
 Inv-loop x before vs y z₀ a₀ z a =

@@ -1,15 +1,12 @@
 -- Nothing leaves the range. Assumes nothing.
-use mathlib.Core.Path.{_≡_, refl, sym, ap, ap₂, _∙_}
+use mathlib.Core.Path.{ap, _∙_}
 use native.Mathlib.Omega.{arith}
 use lib.IntN.{ℤ, pos, natAbs, _+ℤ_}
-use Rattle.integers.proofs.magnitude.Reads as magnitude-reads
 use Rattle.integers.specs.Linear.{z, zz}
 use borrow.Author.Needs.{needs}
 use mir.Facts.{toZ-ofZ}
 use Rattle.ascent.proofs.heights.lift.Statement.{statement}
 use Rattle.ascent.proofs.heights.lift.Tie as tie
-use Rattle.ascent.proofs.heights.lift.Reads as reads
-use Rattle.ascent.proofs.heights.lift.Lts as lts
 
 add-magnitude : tie.Need-add-magnitude
 add-magnitude c = simp zz (omega (arith, z))

@@ -1,23 +1,16 @@
 -- The loop's state after so many turns is the model's. Assumes nothing.
-use mathlib.Core.Bool.{Bool, true, false, not, cond, _&&_, _||_}
-use mathlib.Core.Path.{_≡_, refl, sym, ap, ap₂, _∙_}
-use Prim.Native.Nat.{ℕ, _+_, _*_, _-_, _/_, _%_, _^_, _≤_, _<_, min, max}
+use mathlib.Core.Path.{_≡_, refl, ap, ap₂, _∙_}
+use Prim.Native.Nat.{ℕ, _-_, _≤_}
 use native.Mathlib.Omega.{arith}
-use lib.IntN.{ℤ, pos, _-ℤ_}
+use lib.IntN.{pos, _-ℤ_}
 use lib.ListN.{length, getD, set, replicate}
 use Rattle.ascent.specs.Heights.{capped, multipliersAt}
-use Rattle.ascent.specs.Laws.Turns.{turn, turn-at, end}
+use Rattle.ascent.specs.Laws.Turns.{turn-at, end}
 use Rattle.ascent.specs.Turns.{turns}
-use Rattle.balance.proofs.entries.vertex.Reads as vertex-reads
-use Rattle.integers.proofs.difference.Reads as difference-reads
-use Rattle.integers.proofs.wide.Reads as wide-reads
 use Rattle.integers.specs.Linear.{back64}
 use borrow.Author.Needs.{needs}
 use Rattle.ascent.proofs.heights.multipliers_at.Statement.{statement}
 use Rattle.ascent.proofs.heights.multipliers_at.Tie as tie
-use Rattle.ascent.proofs.heights.multipliers_at.Reads as reads
-use Rattle.ascent.proofs.heights.multipliers_at.Lts as lts
-use Rattle.ascent.proofs.heights.height.Reads as height-reads
 
 abbrev Inv-loop : tie.InvT-loop
 Inv-loop x vs root base u₀ a₀ u a =

@@ -1,21 +1,15 @@
 -- The loop's state after so many turns is the model's. Assumes nothing.
-use mathlib.Core.Bool.{Bool, true, false, not, cond, _&&_, _||_}
-use mathlib.Core.Path.{_≡_, refl, sym, ap, ap₂, _∙_}
-use Prim.Native.Nat.{ℕ, _+_, _*_, _-_, _/_, _%_, _^_, _≤_, _<_, min, max}
+use mathlib.Core.Path.{_≡_, refl, ap, _∙_}
+use Prim.Native.Nat.{_-_, _≤_, max}
 use native.Mathlib.Omega.{arith}
-use lib.ListN.{length, getD, set, replicate}
+use lib.ListN.{length, getD}
 use Rattle.ascent.specs.Heights.{span}
-use Rattle.ascent.specs.Laws.Turns.{turn, turn-at, end}
+use Rattle.ascent.specs.Laws.Turns.{turn-at, end}
 use Rattle.ascent.specs.Turns.{turns}
-use Rattle.balance.proofs.entries.vertex.Reads as vertex-reads
 use Rattle.balance.specs.Step.{cell}
-use Rattle.integers.proofs.wide.Reads as wide-reads
 use borrow.Author.Needs.{needs}
 use Rattle.ascent.proofs.heights.span.Statement.{statement}
 use Rattle.ascent.proofs.heights.span.Tie as tie
-use Rattle.ascent.proofs.heights.span.Reads as reads
-use Rattle.ascent.proofs.heights.span.Lts as lts
-use Rattle.ascent.proofs.heights.further.Reads as further-reads
 
 abbrev Inv-loop : tie.InvT-loop
 Inv-loop d vs root most₀ a₀ most a =

@@ -1,22 +1,16 @@
 -- The loop's state after so many turns is the model's. Assumes nothing.
-use mathlib.Core.Bool.{Bool, true, false, not, cond, _&&_, _||_}
-use mathlib.Core.Path.{_≡_, refl, sym, ap, ap₂, _∙_}
-use Prim.Native.Nat.{ℕ, _+_, _*_, _-_, _/_, _%_, _^_, _≤_, _<_, min, max}
+use mathlib.Core.Path.{_≡_, refl, ap, _∙_}
+use Prim.Native.Nat.{_-_, _≤_}
 use native.Mathlib.Omega.{arith}
 use lib.IntN.{pos}
 use lib.ListN.{length, getD, set, replicate}
 use Rattle.ascent.specs.Heights.{lifted, start}
-use Rattle.ascent.specs.Laws.Turns.{turn, turn-at, end}
+use Rattle.ascent.specs.Laws.Turns.{turn-at, end}
 use Rattle.ascent.specs.Turns.{turns}
-use Rattle.balance.proofs.entries.vertex.Reads as vertex-reads
-use Rattle.integers.proofs.wide.Reads as wide-reads
 use Rattle.integers.specs.Linear.{back64}
 use borrow.Author.Needs.{needs}
 use Rattle.ascent.proofs.heights.start.Statement.{statement}
 use Rattle.ascent.proofs.heights.start.Tie as tie
-use Rattle.ascent.proofs.heights.start.Reads as reads
-use Rattle.ascent.proofs.heights.start.Lts as lts
-use Rattle.ascent.proofs.heights.lift.Reads as lift-reads
 
 abbrev Inv-loop : tie.InvT-loop
 Inv-loop u vs x₀ a₀ x a =

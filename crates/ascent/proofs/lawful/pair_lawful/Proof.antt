@@ -1,16 +1,12 @@
 -- By the test. Assumes nothing.
-use mathlib.Core.Bool.{Bool, true, false, not, cond, _&&_, _||_}
-use mathlib.Core.Path.{_≡_, refl, sym, ap, ap₂, _∙_}
-use Prim.Native.Nat.{ℕ, _+_, _*_, _-_, _/_, _%_, _^_, _≤_, _<_, min, max}
+use mathlib.Core.Bool.{true, false}
+use mathlib.Core.Path.{_≡_, ap₂, _∙_}
+use Prim.Native.Nat.{ℕ, _-_}
 use Rattle.ascent.specs.Lawful.{passes}
 use Rattle.balance.specs.Step.{cell, amount}
 use borrow.Author.Needs.{needs}
 use Rattle.ascent.proofs.lawful.pair_lawful.Statement.{statement}
 use Rattle.ascent.proofs.lawful.pair_lawful.Tie as tie
-use Rattle.ascent.proofs.lawful.pair_lawful.Reads as reads
-use Rattle.ascent.proofs.lawful.pair_lawful.Lts as lts
-use Rattle.ascent.proofs.heights.height.Reads as height-reads
-use Rattle.ascent.proofs.lawful.pass.Reads as pass-reads
 
 mul-pass : tie.Need-mul-pass
 mul-pass c = search needs

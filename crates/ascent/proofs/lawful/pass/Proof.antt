@@ -1,11 +1,9 @@
 -- By the test. Assumes nothing.
 use native.Mathlib.Omega.{arith}
 use borrow.Author.Needs.{needs}
-use borrow.Author.Tests.{lt-ltb, le-ltb, eq-eqb, ne-eqb}
+use borrow.Author.Tests.{lt-ltb, le-ltb}
 use Rattle.ascent.proofs.lawful.pass.Statement.{statement}
 use Rattle.ascent.proofs.lawful.pass.Tie as tie
-use Rattle.ascent.proofs.lawful.pass.Reads as reads
-use Rattle.ascent.proofs.lawful.pass.Lts as lts
 
 add-most : tie.Need-add-most
 add-most c = search needs

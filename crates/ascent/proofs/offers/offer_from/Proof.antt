@@ -1,20 +1,14 @@
 -- The loop's state after so many turns is the model's. Assumes nothing.
-use mathlib.Core.Bool.{Bool, true, false, not, cond, _&&_, _||_}
-use mathlib.Core.Path.{_≡_, refl, sym, ap, ap₂, _∙_}
-use Prim.Native.Nat.{ℕ, _+_, _*_, _-_, _/_, _%_, _^_, _≤_, _<_, min, max}
+use mathlib.Core.Path.{_≡_, refl, _∙_}
+use Prim.Native.Nat.{_-_, _≤_}
 use native.Mathlib.Omega.{arith}
-use lib.ListN.{length, getD, set, replicate}
-use Rattle.ascent.specs.Laws.Turns.{turn, turn-at, end}
+use lib.ListN.{length, getD}
+use Rattle.ascent.specs.Laws.Turns.{turn-at, end}
 use Rattle.ascent.specs.Offers.{offer, offersFrom}
 use Rattle.ascent.specs.Turns.{turns}
-use Rattle.balance.proofs.entries.vertex.Reads as vertex-reads
-use Rattle.integers.proofs.wide.Reads as wide-reads
 use borrow.Author.Needs.{needs}
 use Rattle.ascent.proofs.offers.offer_from.Statement.{statement}
 use Rattle.ascent.proofs.offers.offer_from.Tie as tie
-use Rattle.ascent.proofs.offers.offer_from.Reads as reads
-use Rattle.ascent.proofs.offers.offer_from.Lts as lts
-use Rattle.ascent.proofs.offers.offer_pair.Reads as offer-pair-reads
 
 abbrev Inv-loop : tie.InvT-loop
 Inv-loop d x component vs i m₀ at₀ b₀ m at b =

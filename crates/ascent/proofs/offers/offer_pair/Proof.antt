@@ -1,15 +1,8 @@
 -- What the parts answer is the turn of the model. Assumes nothing.
 use Rattle.ascent.specs.Laws.Bodies.{offer-is}
-use Rattle.balance.proofs.entries.lesser.Reads as lesser-reads
 use borrow.Author.Needs.{needs}
 use Rattle.ascent.proofs.offers.offer_pair.Statement.{statement}
 use Rattle.ascent.proofs.offers.offer_pair.Tie as tie
-use Rattle.ascent.proofs.offers.offer_pair.Reads as reads
-use Rattle.ascent.proofs.offers.offer_pair.Lts as lts
-use Rattle.ascent.proofs.heights.height.Reads as height-reads
-use Rattle.ascent.proofs.offers.part_of.Reads as part-of-reads
-use Rattle.ascent.proofs.offers.reduce.Reads as reduce-reads
-use Rattle.ascent.proofs.offers.taken.Reads as taken-reads
 
 part-of-requires : tie.Need-part-of-requires
 part-of-requires c κs = search needs

@@ -1,10 +1,8 @@
 -- By the test. Assumes nothing.
 use native.Mathlib.Omega.{arith}
-use borrow.Author.Tests.{lt-ltb, le-ltb, eq-eqb, ne-eqb}
+use borrow.Author.Tests.{lt-ltb, le-ltb}
 use Rattle.ascent.proofs.offers.taken.Statement.{statement}
 use Rattle.ascent.proofs.offers.taken.Tie as tie
-use Rattle.ascent.proofs.offers.taken.Reads as reads
-use Rattle.ascent.proofs.offers.taken.Lts as lts
 
 returns : tie.Need-returns
 returns c = rw (lt-ltb (c .before .args .a) (c .before .args .b) (omega arith))

@@ -1,10 +1,8 @@
 -- By the test. Assumes nothing.
 use native.Mathlib.Omega.{arith}
-use borrow.Author.Tests.{lt-ltb, le-ltb, eq-eqb, ne-eqb}
+use borrow.Author.Tests.{lt-ltb, le-ltb}
 use Rattle.ascent.proofs.relax.ahead.Statement.{statement}
 use Rattle.ascent.proofs.relax.ahead.Tie as tie
-use Rattle.ascent.proofs.relax.ahead.Reads as reads
-use Rattle.ascent.proofs.relax.ahead.Lts as lts
 
 returns : tie.Need-returns
 returns c = rw (lt-ltb 0 (c .before .args .back) (omega arith))

@@ -1,12 +1,8 @@
 -- By the test. Assumes nothing.
 use Rattle.ascent.specs.Laws.Bodies.{ask-some, ask-none}
-use Rattle.balance.proofs.entries.lesser.Reads as lesser-reads
 use borrow.Author.Needs.{needs}
 use Rattle.ascent.proofs.relax.ask.Statement.{statement}
 use Rattle.ascent.proofs.relax.ask.Tie as tie
-use Rattle.ascent.proofs.relax.ask.Reads as reads
-use Rattle.ascent.proofs.relax.ask.Lts as lts
-use Rattle.ascent.proofs.relax.move_all.Reads as move-all-reads
 
 element-copy-out-if1 : tie.Need-element-copy-out-if1
 element-copy-out-if1 c = search needs

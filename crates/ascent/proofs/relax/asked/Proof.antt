@@ -1,12 +1,8 @@
 -- By the test. Assumes nothing.
-use mathlib.Core.Path.{_≡_, refl, sym, ap, ap₂, _∙_}
-use Rattle.balance.proofs.entries.monus.Reads as monus-reads
+use mathlib.Core.Path.{sym, _∙_}
 use borrow.Author.Needs.{needs}
 use Rattle.ascent.proofs.relax.asked.Statement.{statement}
 use Rattle.ascent.proofs.relax.asked.Tie as tie
-use Rattle.ascent.proofs.relax.asked.Reads as reads
-use Rattle.ascent.proofs.relax.asked.Lts as lts
-use Rattle.ascent.proofs.relax.ahead.Reads as ahead-reads
 
 ahead-requires : tie.Need-ahead-requires
 ahead-requires c κs = search needs

@@ -1,9 +1,7 @@
 -- By the test. Assumes nothing.
-use borrow.Author.Tests.{lt-ltb, le-ltb, eq-eqb, ne-eqb}
+use borrow.Author.Tests.{eq-eqb, ne-eqb}
 use Rattle.ascent.proofs.relax.marked.Statement.{statement}
 use Rattle.ascent.proofs.relax.marked.Tie as tie
-use Rattle.ascent.proofs.relax.marked.Reads as reads
-use Rattle.ascent.proofs.relax.marked.Lts as lts
 
 returns : tie.Need-returns
 returns c = rw (eq-eqb _ _ (c .if1 .taken))

@@ -3,12 +3,6 @@ use Rattle.ascent.specs.Laws.Bodies.{move-is}
 use borrow.Author.Needs.{needs}
 use Rattle.ascent.proofs.relax.move_vertex.Statement.{statement}
 use Rattle.ascent.proofs.relax.move_vertex.Tie as tie
-use Rattle.ascent.proofs.relax.move_vertex.Reads as reads
-use Rattle.ascent.proofs.relax.move_vertex.Lts as lts
-use Rattle.ascent.proofs.relax.asked.Reads as asked-reads
-use Rattle.ascent.proofs.relax.marked.Reads as marked-reads
-use Rattle.ascent.proofs.relax.moved.Reads as moved-reads
-use Rattle.ascent.proofs.relax.place.Reads as place-reads
 
 place-requires : tie.Need-place-requires
 place-requires c κs = search needs

@@ -1,13 +1,9 @@
 -- By the test. Assumes nothing.
-use mathlib.Core.Bool.{Bool, true, false, not, cond, _&&_, _||_}
-use mathlib.Core.Path.{_≡_, refl, sym, ap, ap₂, _∙_}
-use Rattle.balance.proofs.entries.lesser.Reads as lesser-reads
+use mathlib.Core.Bool.{true, false}
+use mathlib.Core.Path.{_≡_}
 use borrow.Author.Needs.{needs}
 use Rattle.ascent.proofs.relax.moved.Statement.{statement}
 use Rattle.ascent.proofs.relax.moved.Tie as tie
-use Rattle.ascent.proofs.relax.moved.Reads as reads
-use Rattle.ascent.proofs.relax.moved.Lts as lts
-use Rattle.ascent.proofs.heights.larger.Reads as larger-reads
 
 larger-requires : tie.Need-larger-requires
 larger-requires c κs = search needs

@@ -1,12 +1,10 @@
 -- By the test. Assumes nothing.
-use mathlib.Core.Bool.{Bool, true, false, not, cond, _&&_, _||_}
-use mathlib.Core.Path.{_≡_, refl, sym, ap, ap₂, _∙_}
+use mathlib.Core.Bool.{true, false}
+use mathlib.Core.Path.{_≡_}
 use native.Mathlib.Omega.{arith}
 use borrow.Author.Needs.{needs}
 use Rattle.ascent.proofs.relax.place.Statement.{statement}
 use Rattle.ascent.proofs.relax.place.Tie as tie
-use Rattle.ascent.proofs.relax.place.Reads as reads
-use Rattle.ascent.proofs.relax.place.Lts as lts
 
 mul-result : tie.Need-mul-result
 mul-result c = search needs

@@ -1,17 +1,12 @@
 -- What is left of the sweeps, from what the loop holds, is what the heights come to. Assumes nothing.
-use mathlib.Core.Path.{_≡_, refl, sym, ap, ap₂, _∙_}
-use Prim.Native.Nat.{ℕ, _+_, _*_, _-_, _/_, _%_, _^_, _≤_, _<_, min, max}
+use mathlib.Core.Path.{_≡_, sym, _∙_}
+use Prim.Native.Nat.{_-_, _≤_}
 use native.Mathlib.Omega.{arith}
-use lib.ListN.{length, getD, set, replicate}
 use Rattle.ascent.specs.Laws.Bodies.{sweeps-start, sweeps-end, sweeps-none, sweeps-more}
 use Rattle.ascent.specs.Relax.{sweeps, settled}
 use borrow.Author.Needs.{needs}
 use Rattle.ascent.proofs.relax.settle.Statement.{statement}
 use Rattle.ascent.proofs.relax.settle.Tie as tie
-use Rattle.ascent.proofs.relax.settle.Reads as reads
-use Rattle.ascent.proofs.relax.settle.Lts as lts
-use Rattle.ascent.proofs.relax.all_closed.Reads as all-closed-reads
-use Rattle.ascent.proofs.relax.sweep.Reads as sweep-reads
 
 abbrev Inv-loop : tie.InvT-loop
 Inv-loop d f up vs y₀ marks₀ k₀ y marks k =

@@ -1,10 +1,8 @@
 -- By the test. Assumes nothing.
-use mathlib.Core.Bool.{Bool, true, false, not, cond, _&&_, _||_}
-use mathlib.Core.Path.{_≡_, refl, sym, ap, ap₂, _∙_}
+use mathlib.Core.Bool.{true, false}
+use mathlib.Core.Path.{_≡_}
 use Rattle.ascent.proofs.relax.still.Statement.{statement}
 use Rattle.ascent.proofs.relax.still.Tie as tie
-use Rattle.ascent.proofs.relax.still.Reads as reads
-use Rattle.ascent.proofs.relax.still.Lts as lts
 
 returns : tie.Need-returns
 returns c = let e : c .before .args .b ≡ true = c .if1 .taken in rw e

@@ -3,15 +3,6 @@ use Rattle.ascent.specs.Laws.Bodies.{step-is}
 use borrow.Author.Needs.{needs}
 use Rattle.ascent.proofs.step.step.Statement.{statement}
 use Rattle.ascent.proofs.step.step.Tie as tie
-use Rattle.ascent.proofs.step.step.Reads as reads
-use Rattle.ascent.proofs.step.step.Lts as lts
-use Rattle.ascent.proofs.heights.carry_on.Reads as carry-on-reads
-use Rattle.ascent.proofs.offers.offers.Reads as offers-reads
-use Rattle.ascent.proofs.relax.settle.Reads as settle-reads
-use Rattle.ascent.proofs.step.same.Reads as same-reads
-use Rattle.ascent.proofs.tree.bit.Reads as bit-reads
-use Rattle.ascent.proofs.tree.follow.Reads as follow-reads
-use Rattle.ascent.proofs.tree.grow.Reads as grow-reads
 
 offers-requires : tie.Need-offers-requires
 offers-requires c κs = search needs

@@ -1,11 +1,8 @@
 -- By the test. Assumes nothing.
-use mathlib.Core.Path.{_≡_, refl, sym, ap, ap₂, _∙_}
+use mathlib.Core.Path.{sym, _∙_}
 use borrow.Author.Needs.{needs}
 use Rattle.ascent.proofs.tree.better.Statement.{statement}
 use Rattle.ascent.proofs.tree.better.Tie as tie
-use Rattle.ascent.proofs.tree.better.Reads as reads
-use Rattle.ascent.proofs.tree.better.Lts as lts
-use Rattle.ascent.proofs.tree.is_in.Reads as is-in-reads
 
 is-in-requires : tie.Need-is-in-requires
 is-in-requires c κs = search needs

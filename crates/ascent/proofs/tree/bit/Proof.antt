@@ -1,12 +1,9 @@
 -- Component 7 has the largest. Assumes nothing.
 use native.Mathlib.Omega.{arith}
 use lib.Pow.{pow-pos, pow-mono}
-use Rattle.arborescence.proofs.reach.single.Reads as single-reads
 use borrow.Author.Needs.{needs}
 use Rattle.ascent.proofs.tree.bit.Statement.{statement}
 use Rattle.ascent.proofs.tree.bit.Tie as tie
-use Rattle.ascent.proofs.tree.bit.Reads as reads
-use Rattle.ascent.proofs.tree.bit.Lts as lts
 
 single-requires : tie.Need-single-requires
 single-requires c κs = search needs

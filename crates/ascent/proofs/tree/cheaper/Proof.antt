@@ -1,13 +1,10 @@
 -- By the two tests. Assumes nothing.
-use mathlib.Core.Path.{_≡_, refl, sym, ap, ap₂, _∙_}
+use mathlib.Core.Path.{sym, _∙_}
 use native.Mathlib.Omega.{arith}
 use borrow.Author.Needs.{needs}
-use borrow.Author.Tests.{lt-ltb, le-ltb, eq-eqb, ne-eqb}
+use borrow.Author.Tests.{lt-ltb, le-ltb}
 use Rattle.ascent.proofs.tree.cheaper.Statement.{statement}
 use Rattle.ascent.proofs.tree.cheaper.Tie as tie
-use Rattle.ascent.proofs.tree.cheaper.Reads as reads
-use Rattle.ascent.proofs.tree.cheaper.Lts as lts
-use Rattle.ascent.proofs.tree.is_in.Reads as is-in-reads
 
 is-in-requires : tie.Need-is-in-requires
 is-in-requires c κs = search needs

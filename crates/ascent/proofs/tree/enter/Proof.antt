@@ -1,16 +1,8 @@
 -- What the parts answer is the turn of the model. Assumes nothing.
 use Rattle.ascent.specs.Laws.Bodies.{enter-is}
-use Rattle.balance.proofs.entries.lesser.Reads as lesser-reads
 use borrow.Author.Needs.{needs}
 use Rattle.ascent.proofs.tree.enter.Statement.{statement}
 use Rattle.ascent.proofs.tree.enter.Tie as tie
-use Rattle.ascent.proofs.tree.enter.Reads as reads
-use Rattle.ascent.proofs.tree.enter.Lts as lts
-use Rattle.ascent.proofs.tree.better.Reads as better-reads
-use Rattle.ascent.proofs.tree.bit.Reads as bit-reads
-use Rattle.ascent.proofs.tree.entry.Reads as entry-reads
-use Rattle.ascent.proofs.tree.pick.Reads as pick-reads
-use Rattle.ascent.proofs.tree.pick_entry.Reads as pick-entry-reads
 
 entry-requires : tie.Need-entry-requires
 entry-requires c κs = search needs

@@ -1,17 +1,13 @@
 -- The loop's state after so many turns is the model's. Assumes nothing.
-use mathlib.Core.Path.{_≡_, refl, sym, ap, ap₂, _∙_}
-use Prim.Native.Nat.{ℕ, _+_, _*_, _-_, _/_, _%_, _^_, _≤_, _<_, min, max}
+use mathlib.Core.Path.{_≡_, refl}
+use Prim.Native.Nat.{_-_, _≤_, _<_}
 use native.Mathlib.Omega.{arith}
-use lib.ListN.{length, getD, set, replicate}
-use Rattle.ascent.specs.Laws.Turns.{turn, turn-at, end}
+use Rattle.ascent.specs.Laws.Turns.{turn, end}
 use Rattle.ascent.specs.Tree.{cheaper, entry}
 use Rattle.ascent.specs.Turns.{turns}
 use borrow.Author.Needs.{needs}
 use Rattle.ascent.proofs.tree.entry.Statement.{statement}
 use Rattle.ascent.proofs.tree.entry.Tie as tie
-use Rattle.ascent.proofs.tree.entry.Reads as reads
-use Rattle.ascent.proofs.tree.entry.Lts as lts
-use Rattle.ascent.proofs.tree.cheaper.Reads as cheaper-reads
 
 abbrev Inv-loop : tie.InvT-loop
 Inv-loop m s q r₀ p₀ r p =

@@ -1,18 +1,14 @@
 -- The loop's state after so many turns is the model's. Assumes nothing.
 use mathlib.Core.List.{List}
-use mathlib.Core.Path.{_≡_, refl, sym, ap, ap₂, _∙_}
-use Prim.Native.Nat.{ℕ, _+_, _*_, _-_, _/_, _%_, _^_, _≤_, _<_, min, max}
+use mathlib.Core.Path.{_≡_, refl, ap}
+use Prim.Native.Nat.{ℕ, _-_, _≤_, _<_}
 use native.Mathlib.Omega.{arith}
-use lib.ListN.{length, getD, set, replicate}
-use Rattle.ascent.specs.Laws.Turns.{turn, turn-at, end}
+use Rattle.ascent.specs.Laws.Turns.{turn, end}
 use Rattle.ascent.specs.Tree.{walkBack, along}
 use Rattle.ascent.specs.Turns.{turns}
 use borrow.Author.Needs.{needs}
 use Rattle.ascent.proofs.tree.follow.Statement.{statement}
 use Rattle.ascent.proofs.tree.follow.Tie as tie
-use Rattle.ascent.proofs.tree.follow.Reads as reads
-use Rattle.ascent.proofs.tree.follow.Lts as lts
-use Rattle.ascent.proofs.tree.walk_back.Reads as walk-back-reads
 
 abbrev Inv-loop : tie.InvT-loop
 Inv-loop from at s x t y₀ left₀ a₀ y left a =

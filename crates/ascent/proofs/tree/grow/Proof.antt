@@ -1,18 +1,15 @@
 -- The loop's state after so many turns is the model's. Assumes nothing.
-use mathlib.Core.Path.{_≡_, refl, sym, ap, ap₂, _∙_}
-use Prim.Native.Nat.{ℕ, _+_, _*_, _-_, _/_, _%_, _^_, _≤_, _<_, min, max}
+use mathlib.Core.Path.{_≡_, refl}
+use Prim.Native.Nat.{_-_, _≤_}
 use native.Mathlib.Omega.{arith}
-use lib.ListN.{length, getD, set, replicate}
-use Rattle.ascent.specs.Laws.Turns.{turn, turn-at, end}
+use lib.ListN.{set, replicate}
+use Rattle.ascent.specs.Laws.Turns.{turn, end}
 use Rattle.ascent.specs.Tree.{extend, grown}
 use Rattle.ascent.specs.Turns.{turns}
 use Rattle.balance.specs.Search.{beyond}
 use borrow.Author.Needs.{needs}
 use Rattle.ascent.proofs.tree.grow.Statement.{statement}
 use Rattle.ascent.proofs.tree.grow.Tie as tie
-use Rattle.ascent.proofs.tree.grow.Reads as reads
-use Rattle.ascent.proofs.tree.grow.Lts as lts
-use Rattle.ascent.proofs.tree.extend.Reads as extend-reads
 
 abbrev Inv-loop : tie.InvT-loop
 Inv-loop m n cost₀ from₀ i₀ cost from i =

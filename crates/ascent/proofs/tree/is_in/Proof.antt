@@ -2,9 +2,6 @@
 use borrow.Author.Needs.{needs}
 use Rattle.ascent.proofs.tree.is_in.Statement.{statement}
 use Rattle.ascent.proofs.tree.is_in.Tie as tie
-use Rattle.ascent.proofs.tree.is_in.Reads as reads
-use Rattle.ascent.proofs.tree.is_in.Lts as lts
-use Rattle.ascent.proofs.tree.bit.Reads as bit-reads
 
 bit-requires : tie.Need-bit-requires
 bit-requires c κs = search needs

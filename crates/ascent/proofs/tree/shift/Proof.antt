@@ -1,12 +1,8 @@
 -- The two stores are those of the model. Assumes nothing.
 use Rattle.ascent.specs.Laws.Bodies.{shift-is}
-use Rattle.balance.proofs.entries.lesser.Reads as lesser-reads
-use Rattle.balance.proofs.entries.monus.Reads as monus-reads
 use borrow.Author.Needs.{needs}
 use Rattle.ascent.proofs.tree.shift.Statement.{statement}
 use Rattle.ascent.proofs.tree.shift.Tie as tie
-use Rattle.ascent.proofs.tree.shift.Reads as reads
-use Rattle.ascent.proofs.tree.shift.Lts as lts
 
 cast-head : tie.Need-cast-head
 cast-head c = search needs

@@ -1,15 +1,9 @@
 -- By the test. Assumes nothing.
 use native.Mathlib.Omega.{arith}
 use Rattle.ascent.specs.Laws.Bodies.{walk-end, walk-is}
-use Rattle.balance.proofs.entries.monus.Reads as monus-reads
-use Rattle.integers.proofs.wide.Reads as wide-reads
 use borrow.Author.Needs.{needs}
 use Rattle.ascent.proofs.tree.walk_back.Statement.{statement}
 use Rattle.ascent.proofs.tree.walk_back.Tie as tie
-use Rattle.ascent.proofs.tree.walk_back.Reads as reads
-use Rattle.ascent.proofs.tree.walk_back.Lts as lts
-use Rattle.ascent.proofs.tree.bit.Reads as bit-reads
-use Rattle.ascent.proofs.tree.shift.Reads as shift-reads
 
 returns : tie.Need-returns
 returns c = (walk-end (c .before .args .from .now) (c .before .args .at .now) (c .before .args .s) (c .before .args .x .now) (c .before .args .t) (c .if1 .taken), omega arith)

@@ -1,31 +1,27 @@
 -- The loop's state after so many turns is the model's.
-use mathlib.Core.Path.{_≡_, refl, sym, ap, ap₂, _∙_}
-use Prim.Native.Nat.{ℕ, _+_, _*_, _-_, _/_, _%_, _^_, _≤_, _<_, min, max}
+use mathlib.Core.Path.{_≡_, refl}
+use Prim.Native.Nat.{_-_, _≤_}
 use native.Mathlib.Omega.{arith}
-use Rattle.ascent.specs.Laws.Turns.{turn, end}
+use Rattle.ascent.specs.Laws.Turns.{turn}
 use Rattle.ascent.specs.Laws.Turns.{turn}
 use Rattle.ascent.specs.Turns.{turns}
 use Rattle.balance.specs.Search.{beyond}
 use Rattle.plan.specs.Records.{planValue}
-use Rattle.planner.specs.Ascent.{Climb, climb, begin, ascent}
-use Rattle.planner.specs.Ascent.{climb, begin, ascent}
+use Rattle.planner.specs.Ascent.{climb}
+use Rattle.planner.specs.Ascent.{climb}
 use Rattle.planner.specs.Ascent.{climb}
 use Rattle.planner.specs.Climbs.{climbOf}
 use Rattle.planner.specs.Laws.Climb.{ascent-is}
 use borrow.Author.Needs.{needs}
 use Rattle.planner.proofs.ascend.ascend.Statement.{statement}
 use Rattle.planner.proofs.ascend.ascend.Tie as tie
-use Rattle.planner.proofs.ascend.ascend.Reads as reads
-use Rattle.planner.proofs.ascend.ascend.Lts as lts
-use Rattle.planner.proofs.ascend.begun.Reads as begun-reads
-use Rattle.planner.proofs.ascend.climb.Reads as climb-reads
 
 abbrev Inv-loop : tie.InvT-loop
 Inv-loop plan table vs component required k required-cost base c₀ i₀ c i =
-    (i ≤ 24) × (c .stride ≤ beyond) × (climbOf c ≡ turns (climb (planValue plan) table (base .amounts) vs component k) (climbOf c₀) i)
+    (i ≤ 20) × (c .stride ≤ beyond) × (climbOf c ≡ turns (climb (planValue plan) table (base .amounts) vs component k) (climbOf c₀) i)
 
 abbrev μ-loop : tie.MeasureT-loop
-μ-loop plan table vs component required k required-cost base c₀ i₀ c i = 24 - i
+μ-loop plan table vs component required k required-cost base c₀ i₀ c i = 20 - i
 
 begun-requires : tie.Need-begun-requires Inv-loop μ-loop
 begun-requires c κs = search needs

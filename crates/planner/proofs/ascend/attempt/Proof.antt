@@ -1,20 +1,14 @@
 -- By the two tests. Heights that pass the first stand for lawful multipliers, whose bound can be asked for.
-use mathlib.Core.Bool.{Bool, true, false, not, cond, _&&_, _||_}
-use mathlib.Core.Path.{_≡_, refl, sym, ap, _∙_, subst⁻¹}
+use mathlib.Core.Bool.{Bool}
+use mathlib.Core.Path.{sym, _∙_, subst⁻¹}
 use lib.Dec.{T}
-use Rattle.ascent.proofs.heights.multipliers_at.Reads as multipliers-at-reads
-use Rattle.ascent.proofs.lawful.are_lawful.Reads as are-lawful-reads
 use Rattle.integers.specs.Linear.{back64}
-use Rattle.planner.specs.Laws.Ascent.{vertices-low, some-vertices, component-range, rooted-priced, rooted-within}
+use Rattle.planner.specs.Laws.Ascent.{vertices-low, some-vertices, rooted-priced}
 use Rattle.planner.specs.Laws.Climb.{attempt-more, attempt-low, attempt-none}
-use Rattle.planner.specs.Laws.Solve.{Rooted, greatest-rooted, lawful-rooted}
+use Rattle.planner.specs.Laws.Solve.{Rooted, lawful-rooted}
 use borrow.Author.Needs.{needs}
 use Rattle.planner.proofs.ascend.attempt.Statement.{statement}
 use Rattle.planner.proofs.ascend.attempt.Tie as tie
-use Rattle.planner.proofs.ascend.attempt.Reads as reads
-use Rattle.planner.proofs.ascend.attempt.Lts as lts
-use Rattle.planner.proofs.ascend.exceeds.Reads as exceeds-reads
-use Rattle.planner.proofs.bound.lagrangian.Reads as lagrangian-reads
 
 are-lawful-requires : tie.Need-are-lawful-requires
 are-lawful-requires c κs = vertices-low _ _ _ _ _ _ _ _ (c .before .before .before .before .before .pre)

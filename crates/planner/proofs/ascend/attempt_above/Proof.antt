@@ -1,11 +1,8 @@
 -- By the test.
 use borrow.Author.Needs.{needs}
-use borrow.Author.Tests.{lt-ltb, le-ltb, eq-eqb, ne-eqb}
+use borrow.Author.Tests.{lt-ltb, le-ltb}
 use Rattle.planner.proofs.ascend.attempt_above.Statement.{statement}
 use Rattle.planner.proofs.ascend.attempt_above.Tie as tie
-use Rattle.planner.proofs.ascend.attempt_above.Reads as reads
-use Rattle.planner.proofs.ascend.attempt_above.Lts as lts
-use Rattle.planner.proofs.ascend.attempt.Reads as attempt-reads
 
 attempt-requires : tie.Need-attempt-requires
 attempt-requires c κs = search needs

@@ -1,19 +1,13 @@
 -- The greatest multipliers are lawful.
-use mathlib.Core.Path.{_≡_, refl, sym, ap, _∙_, subst⁻¹}
+use mathlib.Core.Path.{_∙_}
 use native.Mathlib.Omega.{arith}
-use Rattle.ascent.proofs.heights.span.Reads as span-reads
-use Rattle.ascent.proofs.heights.start.Reads as start-reads
-use Rattle.balance.proofs.entries.lesser.Reads as lesser-reads
 use Rattle.integers.specs.Linear.{back64}
-use Rattle.planner.specs.Laws.Ascent.{vertices-low, some-vertices, component-range, rooted-priced, rooted-within}
+use Rattle.planner.specs.Laws.Ascent.{vertices-low, some-vertices, rooted-priced, rooted-within}
 use Rattle.planner.specs.Laws.Climb.{begin-is}
-use Rattle.planner.specs.Laws.Solve.{Rooted, greatest-rooted, lawful-rooted}
+use Rattle.planner.specs.Laws.Solve.{greatest-rooted}
 use borrow.Author.Needs.{needs}
 use Rattle.planner.proofs.ascend.begun.Statement.{statement}
 use Rattle.planner.proofs.ascend.begun.Tie as tie
-use Rattle.planner.proofs.ascend.begun.Reads as reads
-use Rattle.planner.proofs.ascend.begun.Lts as lts
-use Rattle.planner.proofs.bound.lagrangian.Reads as lagrangian-reads
 
 lagrangian-requires : tie.Need-lagrangian-requires
 lagrangian-requires c κs = let s = c .before .before in rooted-priced _ _ _ _ _ _ _ _ (s .pre .0) _ (greatest-rooted _ _ _ _ (s .pre .0 .state) _ (s .pre .1))

@@ -1,16 +1,11 @@
 -- By the test; what the parts answer is the step of the model.
 use native.Mathlib.Omega.{arith}
-use Rattle.ascent.proofs.step.step.Reads as step-reads
 use Rattle.integers.specs.Linear.{back64}
-use Rattle.planner.specs.Laws.Ascent.{vertices-low, some-vertices, component-range, rooted-priced, rooted-within}
+use Rattle.planner.specs.Laws.Ascent.{vertices-low, component-range}
 use Rattle.planner.specs.Laws.Climb.{climb-done, climb-more}
 use borrow.Author.Needs.{needs}
 use Rattle.planner.proofs.ascend.climb.Statement.{statement}
 use Rattle.planner.proofs.ascend.climb.Tie as tie
-use Rattle.planner.proofs.ascend.climb.Reads as reads
-use Rattle.planner.proofs.ascend.climb.Lts as lts
-use Rattle.planner.proofs.ascend.attempt_above.Reads as attempt-above-reads
-use Rattle.planner.proofs.ascend.more.Reads as more-reads
 
 returns : tie.Need-returns
 returns c = (climb-done _ _ _ _ _ _ _ _ (c .if1 .taken), c .before .before .pre .1)

@@ -1,14 +1,11 @@
 -- The arrays hold the network of the plan, so the ascent is that of the definition.
-use mathlib.Core.Path.{_≡_, refl, sym, ap, _∙_, subst⁻¹}
+use mathlib.Core.Path.{_≡_, _∙_}
 use lib.ListN.{length}
 use Rattle.planner.specs.Laws.Ascent.{ascended-is}
 use Prim.Native.Nat.{ℕ}
 use borrow.Author.Needs.{needs, length-unmapped}
 use Rattle.planner.proofs.ascend.multipliers_for.Statement.{statement}
 use Rattle.planner.proofs.ascend.multipliers_for.Tie as tie
-use Rattle.planner.proofs.ascend.multipliers_for.Reads as reads
-use Rattle.planner.proofs.ascend.multipliers_for.Lts as lts
-use Rattle.planner.proofs.ascend.ascend.Reads as ascend-reads
 
 cast-k : tie.Need-cast-k
 cast-k c = search needs
