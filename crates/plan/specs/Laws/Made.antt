@@ -26,7 +26,7 @@ module _ (r : PlanRecord) (g : ℕ → Arc → Arc) where
       let m = plan-length s in
       let m′ = plan-length r in
       let same : planValue s .arcs ≡ q .arcs = ext-getD (arcAt [] 0) (planValue s .arcs) (q .arcs) long (λ k l.
-        (let b : k < r .m = omega arith in
-        plan-arc s k b ∙ ap arcValue (h .before k (omega arith)) ∙ sym (each k (omega arith) ∙ ap (g k) (plan-arc r k b)))) in
+      (let b : k < r .m = omega arith in
+      plan-arc s k b ∙ ap arcValue (h .before k (omega arith)) ∙ sym (each k (omega arith) ∙ ap (g k) (plan-arc r k b)))) in
       let n : planValue s .n ≡ q .n = plan-vertices s ∙ sym (vertices ∙ plan-vertices r) in
       λ i. record { n = n i; arcs = same i }

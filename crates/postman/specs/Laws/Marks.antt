@@ -178,8 +178,8 @@ module _ (p : Plan) where
         arcs-same : carPlan p (ownMarks p) .arcs ≡ p .arcs
         arcs-same =
             ext-getD (arcAt [] 0) (carPlan p (ownMarks p) .arcs) (p .arcs) (car-length p (ownMarks p)) (λ k l.
-              let m : k < length (p .arcs) = (let e = car-length p (ownMarks p) in omega arith) in
-              car-arc p (ownMarks p) k m ∙ rw (own-at k m) (same-arc (arcAt (p .arcs) k) (priced (arcAt (p .arcs) k) (getD-mem (p .arcs) _ k m))))
+            let m : k < length (p .arcs) = (let e = car-length p (ownMarks p) in omega arith) in
+            car-arc p (ownMarks p) k m ∙ rw (own-at k m) (same-arc (arcAt (p .arcs) k) (priced (arcAt (p .arcs) k) (getD-mem (p .arcs) _ k m))))
 
 -- ---- the call
 
