@@ -1,15 +1,16 @@
 /*
- * The survey drive's planner: reading and writing plan files, the plan call, at a departure too, and the short call, the number
- * of trees, distances, and judging a drive.
+ * The survey drive's planner: reading and writing plan files, the plan call, at a departure too, the short call, the call
+ * for two cars, the number of trees, distances, and judging a drive.
  *
  * A slice is lent as a pointer and a length. The length counts elements, not bytes. Pointers are not null, not even with
- * a length of 0, and the slices of one call do not overlap. That is all that is asked of a caller: any bytes, numbers and
- * lengths will do.
+ * a length of 0, and a slice that is not const overlaps no other of the same call. That is all that is asked of a caller:
+ * any bytes, numbers and lengths will do.
  *
  * Every function answers what was asked for, 0 or more, or minus a refusal's number. Of several refusals that apply the
  * first in this order is given: 1 (under three bytes), 2, 3, 1 (length), 4, then arc by arc 5, 6, 7, then 13, then 17,
- * then 8 and 9, then 19 and 20, then 10 to 12, then 14 to 16.
- * A refusal changes no lent slice. The functions keep nothing and share nothing, so that threads may call them at once.
+ * then 8 and 9, then 18 to 20, then 10 to 12, then 14 to 16.
+ * A refusal changes no lent slice; one of a car alone changes none of that car's. The functions keep nothing and share
+ * nothing, so that threads may call them at once.
  *
  * Link with target/staticlib/libexports.a, which `rt staticlib exports` builds. examples/plan.c shows a plan call.
  */
@@ -60,6 +61,9 @@ extern "C" {
 #define POSTMAN_WINDOW_NUMBERS 4
 #define POSTMAN_LAST_WEEKDAY 6
 #define POSTMAN_DAY_MINUTES 1440
+
+/* What the first car's own refusal is multiplied by in the answer of the call for two cars; the second's is added. */
+#define POSTMAN_FIRST_CAR 256
 
 /* The editions of the plan file. */
 enum postman_edition {
@@ -126,6 +130,7 @@ enum postman_refusal {
     POSTMAN_UNJOINED = 15,   /* an arc of a judged list does not lead to the next one, or the last one to the first */
     POSTMAN_MISSED = 16,     /* an arc that must be driven is not in a judged list */
     POSTMAN_STRAY_PAIR = 17, /* more than 256 pairs, or one of what is no vertex */
+    POSTMAN_BAD_MARKS = 18,  /* a car's marks are not as many as the arcs, one is neither 0 nor 1, or a closed arc is marked */
     POSTMAN_BAD_WINDOW = 19, /* a window, the number of windows or the departure is beyond its limits */
     POSTMAN_MUST_SHUT = 20   /* an arc that must be driven is shut at departure */
 };
@@ -182,6 +187,25 @@ int64_t postman_short_call(const uint8_t *plan, size_t plan_len, uint16_t *sheet
                            size_t answer_len, int64_t *multipliers, size_t multipliers_len);
 
 /*
+ * The call for two cars on the streets of one file `plan`, whose distances are computed once. Each car has its own marks,
+ * budget, sheet, answer and multipliers, and is answered what the plan call answers for a plan of its own, whatever the
+ * other car brings.
+ *
+ * `marks_1` and `marks_2` have a byte for each arc. In the car's plan an arc with the mark 1 must be driven: it is checked at
+ * its service cost if it has one, else at its cost, even 0. An arc with the mark 0 may be driven. Closed arcs stay closed.
+ * With the plan's own required arcs marked, and no others, a car is answered what the plan call answers.
+ *
+ * Answers minus a refusal that reaches both cars: 1 to 7 or 13. Else it answers POSTMAN_FIRST_CAR times the first car's own
+ * refusal plus the second's, each 8 to 12 or 18, or 0 for a car that is answered; 18 comes after 9 and before 10. A car that
+ * is refused keeps its sheet, answer and multipliers as they were, and the other does not feel it.
+ */
+int64_t postman_two_cars(const uint8_t *plan, size_t plan_len, const uint8_t *marks_1, size_t marks_1_len,
+                         uint64_t budget_1, uint16_t *sheet_1, size_t sheet_1_len, uint64_t *answer_1,
+                         size_t answer_1_len, int64_t *multipliers_1, size_t multipliers_1_len, const uint8_t *marks_2,
+                         size_t marks_2_len, uint64_t budget_2, uint16_t *sheet_2, size_t sheet_2_len,
+                         uint64_t *answer_2, size_t answer_2_len, int64_t *multipliers_2, size_t multipliers_2_len);
+
+/*
  * Distances for a page of pairs of vertices of the file `plan`. Answers the number of searches run, which is the number of
  * distinct first vertices, or minus a refusal: 1 to 7, 13, 17 or 8. Plans without an arc that must be driven have
  * distances too.
@@ -205,6 +229,8 @@ int64_t postman_tree_count(const uint8_t *plan, size_t plan_len);
  * Judges a drive that someone else laid for the file `plan`: `places` holds its arc numbers, in the order in which they are
  * driven. Answers what the drive costs, or minus a refusal: 1 to 7, 10 or 13 to 16. The refusals of the list are looked at
  * last, by number: 14 anywhere in it comes before 15, and that before 16. It changes nothing.
+ *
+ * Judging goes by the plan's own required arcs, so that a drive laid for a car with other marks need not pass.
  */
 int64_t postman_judge(const uint8_t *plan, size_t plan_len, const uint16_t *places, size_t places_len);
 

@@ -1,6 +1,7 @@
 //! Wrong planners, each wrong in one way, and what has to catch it.
 
 mod answers;
+mod cars;
 mod codecs;
 mod counters;
 mod departures;
@@ -8,7 +9,7 @@ mod judges;
 mod pages;
 mod steps;
 
-use crate::planner::{Codec, Counter, DepartureCall, DistanceCall, Judge, Planner};
+use crate::planner::{CarsCall, Codec, Counter, DepartureCall, DistanceCall, Judge, Planner};
 use crate::properties::Property;
 
 pub struct Mutant<T: ?Sized> {
@@ -43,6 +44,11 @@ pub fn counters() -> Vec<Mutant<dyn Counter>> {
 /// Wrong in windows and departures.
 pub fn departures() -> Vec<Mutant<dyn DepartureCall>> {
     departures::mutants()
+}
+
+/// Wrong in the call for two cars.
+pub fn cars() -> Vec<Mutant<dyn CarsCall>> {
+    cars::mutants()
 }
 
 /// Wrong in judging a list of arcs.

@@ -13,6 +13,7 @@
 //! | greatest u | Bellman and Ford from a least assignment | Dijkstra over reduced costs |
 //! | best drive | search over (vertex, set of required arcs passed) | trees |
 //! | shut arcs | the minutes of a week, for each arc | window by window |
+//! | a car's plan | the set of its arcs, priced by standing | mark by mark, priced by service cost |
 //! | judging | sets of arcs, and how often each occurs | passes along the list |
 
 mod balancing;
@@ -20,6 +21,7 @@ mod bound;
 mod file;
 mod graph;
 mod judging;
+mod marks;
 mod optimum;
 mod page;
 mod paths;
@@ -31,6 +33,7 @@ pub use bound::{cheapest_tree, lagrangian_bound};
 pub use file::{file_of, is_long_enough, parse, read_refusal, write_refusal};
 pub use graph::{judge, Graph, INFINITE};
 pub use judging::judge_answer;
+pub use marks::{car_plan, car_refusal, own_marks};
 pub use optimum::{optimum, MOST_REQUIRED_ARCS};
 pub use page::{page, page_refusal};
 pub use paths::{fewest_paths, follows_fewest_paths};

@@ -1,4 +1,4 @@
-//! What a planner is, for the tests: three traits over slices, the answer, and the refusals by number.
+//! What a planner is, for the tests: traits over slices, the answer, and the refusals by number.
 //!
 //! With the feature `proved`, `Proved` is the proved library behind these traits, and can stand for `Yardstick` here:
 //!
@@ -14,9 +14,11 @@
 
 use crate::plan::{Arc, Departure, MOST_VERTICES};
 
+mod cars;
 mod counter;
 #[cfg(feature = "proved")]
 mod proved;
+pub use cars::{Car, CarsAnswer, CarsCall};
 pub use counter::{Counter, TreeCount};
 #[cfg(feature = "proved")]
 pub use proved::Proved;
@@ -45,6 +47,7 @@ pub mod refusal {
     pub const UNJOINED: Refusal = 15;
     pub const MISSED: Refusal = 16;
     pub const STRAY_PAIR: Refusal = 17;
+    pub const BAD_MARKS: Refusal = 18;
     pub const BAD_WINDOW: Refusal = 19;
     pub const MUST_SHUT: Refusal = 20;
 }

@@ -2,6 +2,7 @@
 
 mod budgets;
 mod call;
+mod cars;
 mod checking;
 mod codec;
 mod count;
@@ -11,6 +12,7 @@ mod page;
 
 pub use budgets::examine_raised;
 pub use call::{examine_answer, examine_refusal, Case};
+pub use cars::{examine_alone, examine_car, examine_cars, examine_own_marks, Brought};
 pub use checking::examine_checking;
 pub use codec::{examine_codec, examine_writing};
 pub use count::{examine_count, examine_whole};
@@ -111,10 +113,18 @@ pub enum Property {
     NoWindows,
     /// With windows it is the plan call on the plan with the shut arcs closed by hand, where that is a good file.
     ClosedByHand,
+    /// A refusal reaches both cars exactly if it is the file's: 1 to 7 or 13.
+    ReachesBoth,
+    /// Whatever the other car brings, a car's refusal, answer and sheet are the same.
+    Alone,
+    /// A car whose marks are the plan's own is answered what the plan call answers.
+    OwnMarks,
+    /// With any marks it is the plan call on the plan with the arcs marked by hand, where that is a good file.
+    MarkedByHand,
 }
 
 /// All of them.
-pub const PROPERTIES: [Property; 44] = {
+pub const PROPERTIES: [Property; 48] = {
     use Property::*;
     [
         Returns,
@@ -161,6 +171,10 @@ pub const PROPERTIES: [Property; 44] = {
         FloorBelowJudged,
         NoWindows,
         ClosedByHand,
+        ReachesBoth,
+        Alone,
+        OwnMarks,
+        MarkedByHand,
     ]
 };
 

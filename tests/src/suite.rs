@@ -1,5 +1,6 @@
 //! The suite: what every planner is put through.
 
+mod cars;
 mod counts;
 mod departures;
 mod editions;
@@ -8,6 +9,7 @@ mod judging;
 mod pages;
 mod stated;
 
+pub use cars::run_cars;
 pub use counts::{run_count, run_counts};
 pub use departures::run_departures;
 pub use editions::{run_stated_codec, FILE_A_CHECKED};
@@ -16,8 +18,8 @@ pub use pages::run_pages;
 pub use stated::{case_a, case_b, case_c, run_stated, FILE_A};
 
 use crate::instances::{
-    checked, damaged, dead_ends, free_circles, free_ring, fullest, funnel, longest, many_paths, random_bytes, random_plan,
-    towns, Shape,
+    checked, damaged, dead_ends, free_circles, free_ring, fullest, funnel, longest, many_paths, random_bytes,
+    random_plan, towns, Shape,
 };
 use crate::oracle::{file_of, Effort};
 use crate::plan::{Arc, Plan, DEFAULT_BUDGET, HIGHEST_BUDGET, LONGEST_FILE, REQUIRED, SHEET_PLACES};

@@ -10,6 +10,7 @@ mod count;
 mod distance;
 mod file;
 mod judging;
+mod marks;
 mod network;
 mod page;
 mod windows;
@@ -22,6 +23,7 @@ pub use count::{count_by_layers, entry_counts, EntryCounts};
 pub use distance::{cost_of, costs, distances, measured_arcs, row, Distances, Row, NO_PATH};
 pub use file::{read, write};
 pub use judging::judge;
+pub use marks::{car_plan, check_marks};
 pub use network::{components, Components, Network};
 pub use page::vertices;
 pub use windows::{check_windows, plan_at};
@@ -176,13 +178,19 @@ impl Codec for Yardstick {
 /// The plan call's refusals 1 to 9 and 13, in their order.
 fn accept(file: &[u8], budget: u64, places: usize) -> Result<Plan, Refusal> {
     let plan = read(file)?;
+    check_lent(budget, places)?;
+    Ok(plan)
+}
+
+/// 8 and 9.
+pub fn check_lent(budget: u64, places: usize) -> Result<(), Refusal> {
     if places < SHEET_PLACES {
         return Err(refusal::SHORT_SHEET);
     }
     if budget == 0 || budget > HIGHEST_BUDGET {
         return Err(refusal::BUDGET);
     }
-    Ok(plan)
+    Ok(())
 }
 
 /// What trying the trees found.
@@ -199,17 +207,35 @@ fn plan_call<S: Steps>(steps: &S, file: &[u8], budget: u64, sheet: &mut [u16]) -
 }
 
 /// 10 to 12, then the answer.
-fn answer<S: Steps>(steps: &S, plan: Plan, budget: u64, sheet: &mut [u16]) -> Result<Answer, Refusal> {
+pub fn answer<S: Steps>(steps: &S, plan: Plan, budget: u64, sheet: &mut [u16]) -> Result<Answer, Refusal> {
+    let components = accepted_components(steps, &plan)?;
+    let weights = distances(&plan, |a| steps.weight(a));
+    lay(steps, &plan, components, &weights, budget, sheet)
+}
+
+/// 10 and 11, then the components.
+fn accepted_components<S: Steps>(steps: &S, plan: &Plan) -> Result<Components, Refusal> {
     if !plan.arcs.iter().any(|a| a.standing == REQUIRED) {
         return Err(refusal::IDLE);
     }
-    let components = steps.components(&plan);
+    let components = steps.components(plan);
     if components.count > MOST_PARTS {
         return Err(refusal::SCATTERED);
     }
-    let weights = distances(&plan, |a| steps.weight(a));
-    let d = costs(&weights);
-    let network = Network::new(steps, &plan, &d, components);
+    Ok(components)
+}
+
+/// 12, then the answer, from the least weights of the plan's paths.
+fn lay<S: Steps>(
+    steps: &S,
+    plan: &Plan,
+    components: Components,
+    weights: &Distances,
+    budget: u64,
+    sheet: &mut [u16],
+) -> Result<Answer, Refusal> {
+    let d = costs(weights);
+    let network = Network::new(steps, plan, &d, components);
     if network.is_cut_off() {
         return Err(refusal::CUT_OFF);
     }
@@ -235,7 +261,7 @@ fn answer<S: Steps>(steps: &S, plan: Plan, budget: u64, sheet: &mut [u16]) -> Re
         lower_bound(steps, &network, &[0; MOST_VERTICES]).max(lower_bound(steps, &network, &u))
     };
 
-    let drive = circuit::lay(steps, &network, &weights, balance, &found.links);
+    let drive = circuit::lay(steps, &network, weights, balance, &found.links);
     let places = drive.len().min(sheet.len());
     sheet[..places].copy_from_slice(&drive[..places]);
     Ok(Answer {

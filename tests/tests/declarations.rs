@@ -264,6 +264,7 @@ fn constants_agree() {
         ("UNJOINED", u64::from(refusal::UNJOINED)),
         ("MISSED", u64::from(refusal::MISSED)),
         ("STRAY_PAIR", u64::from(refusal::STRAY_PAIR)),
+        ("BAD_MARKS", u64::from(refusal::BAD_MARKS)),
         ("BAD_WINDOW", u64::from(refusal::BAD_WINDOW)),
         ("MUST_SHUT", u64::from(refusal::MUST_SHUT)),
     ] {

@@ -5,7 +5,7 @@
 
 use postman_tests::instances::Shape;
 use postman_tests::oracle::Effort;
-use postman_tests::planner::{Codec, Counter, DepartureCall, DistanceCall, Planner};
+use postman_tests::planner::{CarsCall, Codec, Counter, DepartureCall, DistanceCall, Planner};
 use postman_tests::properties::Findings;
 use postman_tests::random::{setting, Random};
 use postman_tests::{suite, yardstick::Yardstick};
@@ -86,6 +86,13 @@ fn windows<T: DepartureCall + Planner>(name: &str, planner: &T) {
     found.assert_none(name, seed());
 }
 
+/// Two cars, and with the plan's own marks the plan call.
+fn cars<T: CarsCall + Planner>(name: &str, planner: &T) {
+    let mut found = Findings::default();
+    suite::run_cars(&mut found, planner, planner, seed(), rounds(4));
+    found.assert_none(name, seed());
+}
+
 /// The stated numbers and files of every length; then random plans, small and large, with the plan call beside the count.
 fn numbers_of_trees<T: Counter + Planner>(name: &str, planner: &T) {
     let mut found = Findings::default();
@@ -153,6 +160,11 @@ macro_rules! held_to_all {
             #[test]
             fn windows_and_departures() {
                 windows(stringify!($name), &$planner);
+            }
+
+            #[test]
+            fn two_cars() {
+                cars(stringify!($name), &$planner);
             }
         }
     };

@@ -1,5 +1,5 @@
 //! What the sources of the proved crates promise about copies: no call made for one leg of a drive takes or gives the table of distances by value, nor the
-//! plan's records.
+//! plan's records; and about tables: for two cars they are computed once.
 
 use std::collections::BTreeMap;
 use std::path::Path;
@@ -87,6 +87,23 @@ fn a_page_computes_no_table() {
     let way = reached(&all, "distance_call");
     assert!(way.iter().any(|name| name == "row"), "no row is computed: {way:?}");
     assert!(way.iter().all(|name| name != "table"), "the table is computed: {way:?}");
+}
+
+/// The call for two cars computes both tables, each in one place, and nothing that it does for a car computes one.
+#[test]
+fn two_cars_share_the_tables() {
+    let all = functions(&sources(&["two_cars", "planner", "network", "circuit", "shortest"]));
+    let (_, body) = &all["two_cars"];
+    for table in ["weights::table(", "distance::table_of("] {
+        assert_eq!(body.matches(table).count(), 1, "{table}");
+    }
+    let way = reached(&all, "plan_car");
+    for name in ["plan_marked", "plan_tabled", "network_of"] {
+        assert!(way.iter().any(|other| other == name), "`{name}` is not on the way of a car: {way:?}");
+    }
+    for name in ["table", "table_of", "row"] {
+        assert!(way.iter().all(|other| other != name), "`{name}` is computed for each car: {way:?}");
+    }
 }
 
 /// The test of the test: sources in which a leg does copy.

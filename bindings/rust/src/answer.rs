@@ -25,24 +25,41 @@ pub struct Answer {
     pub multipliers: [i64; MULTIPLIERS],
 }
 
+/// What a call is lent for one drive.
+pub(crate) struct Lent {
+    pub(crate) sheet: Vec<u16>,
+    pub(crate) answer: [u64; ANSWER_WORDS],
+    pub(crate) multipliers: [i64; MULTIPLIERS],
+}
+
+impl Lent {
+    pub(crate) fn new() -> Lent {
+        Lent { sheet: vec![0; SHEET_PLACES], answer: [0; ANSWER_WORDS], multipliers: [0; MULTIPLIERS] }
+    }
+
+    /// What a call that is not refused put into it, taken apart.
+    pub(crate) fn taken(self) -> Answer {
+        let Lent { sheet: mut drive, answer: words, multipliers } = self;
+        drive.truncate(usize::try_from(words[PLACES]).expect("places of the sheet"));
+        Answer {
+            drive,
+            cost: words[COST],
+            floor: words[FLOOR],
+            trees: words[TREES],
+            whole: words[WHOLE] != 0,
+            parts: words[PARTS],
+            multipliers,
+        }
+    }
+}
+
 /// Lends a sheet and an answer to a call, and takes them apart.
 pub(crate) fn answered(
     call: impl FnOnce(&mut [u16], &mut [u64], &mut [i64]) -> Result<(), Refusal>,
 ) -> Result<Answer, Refusal> {
-    let mut drive = vec![0; SHEET_PLACES];
-    let mut words = [0; ANSWER_WORDS];
-    let mut multipliers = [0; MULTIPLIERS];
-    call(&mut drive, &mut words, &mut multipliers)?;
-    drive.truncate(usize::try_from(words[PLACES]).expect("places of the sheet"));
-    Ok(Answer {
-        drive,
-        cost: words[COST],
-        floor: words[FLOOR],
-        trees: words[TREES],
-        whole: words[WHOLE] != 0,
-        parts: words[PARTS],
-        multipliers,
-    })
+    let mut lent = Lent::new();
+    call(&mut lent.sheet, &mut lent.answer, &mut lent.multipliers)?;
+    Ok(lent.taken())
 }
 
 /// Lays a drive for a plan file, trying at most `budget` trees, from 1 to 1,000,000. Refuses with 1 to 7 and 9 to 13.
@@ -83,7 +100,7 @@ pub fn short_call(file: &[u8]) -> Result<Answer, Refusal> {
 
 /// Judges a drive that someone else laid for a plan file: what it costs, if it is a drive. It is refused with 14 if it has an arc that may not be
 /// driven, else with 15 if it has a gap, else with 16 if a required arc is missed; before that with 1 to 7, 13 and 10, and with 3 above 65,535
-/// places.
+/// places. It goes by the plan's own required arcs, so that a drive of [`two_cars`](crate::two_cars) need not pass.
 ///
 /// ```
 /// use postman::{judge, plan_call, Refusal};

@@ -52,6 +52,29 @@ extern "C" {
         multipliers_len: usize,
     ) -> i64;
 
+    pub fn postman_two_cars(
+        plan: *const u8,
+        plan_len: usize,
+        marks_1: *const u8,
+        marks_1_len: usize,
+        budget_1: u64,
+        sheet_1: *mut u16,
+        sheet_1_len: usize,
+        answer_1: *mut u64,
+        answer_1_len: usize,
+        multipliers_1: *mut i64,
+        multipliers_1_len: usize,
+        marks_2: *const u8,
+        marks_2_len: usize,
+        budget_2: u64,
+        sheet_2: *mut u16,
+        sheet_2_len: usize,
+        answer_2: *mut u64,
+        answer_2_len: usize,
+        multipliers_2: *mut i64,
+        multipliers_2_len: usize,
+    ) -> i64;
+
     pub fn postman_distances(
         plan: *const u8,
         plan_len: usize,

@@ -38,6 +38,7 @@ mod plan;
 pub mod raw;
 mod refusal;
 mod tree_count;
+mod two_cars;
 mod windows;
 
 pub use answer::{judge, plan_call, short_call, Answer};
@@ -46,4 +47,5 @@ pub use edition::Edition;
 pub use plan::{Arc, Plan, Standing};
 pub use refusal::Refusal;
 pub use tree_count::{tree_count, TreeCount};
+pub use two_cars::{two_cars, Car};
 pub use windows::{plan_call_at, Departure, Window};

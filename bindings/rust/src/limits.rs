@@ -41,6 +41,9 @@ pub const LAST_WEEKDAY: u32 = 6;
 /// The minutes of a day: a window ends at this minute at the latest, and a departure is before it.
 pub const DAY_MINUTES: u32 = 1_440;
 
+/// What the first car's own refusal is multiplied by in the answer of the call for two cars; the second's is added.
+pub const FIRST_CAR: usize = 256;
+
 /// The bytes of a record, which is an arc: tail, head, standing, the high byte and the low byte of its cost, and those of its service cost.
 pub const RECORD_BYTES: usize = 7;
 /// The index of a record's tail.

@@ -1,10 +1,10 @@
 //! The library's functions over slices of the caller's, just as `include/postman.h` has them.
 //!
-//! The functions ask nothing but what C does: a pointer and the length behind it belong together, and lent slices do not overlap. Rust's
-//! references give both, so these calls are safe. A refusal changes no lent slice.
+//! The functions ask nothing but what C does: a pointer and the length behind it belong together, and a slice that may be changed overlaps no
+//! other. Rust's references give both, so these calls are safe. A refusal changes no lent slice; one of a car alone changes none of that car's.
 
 use crate::ffi;
-use crate::limits::{COUNTS, EDITIONS};
+use crate::limits::{COUNTS, EDITIONS, FIRST_CAR};
 use crate::Refusal;
 
 /// What was asked for, or the refusal: minus its number.
@@ -27,7 +27,7 @@ fn unless_refused(number: i64) -> Result<usize, Refusal> {
 /// assert_eq!(records, [0, 1, 1, 0, 5, 0, 5, 1, 0, 0, 0, 3, 0, 0, 0xFF, 0xFF]);
 /// ```
 pub fn read_plan(plan: &[u8], records: &mut [u8]) -> Result<(u8, usize, usize), Refusal> {
-    // SAFETY: each pointer comes with the length of its own slice, and the slices do not overlap.
+    // SAFETY: each pointer comes with the length of its own slice, and those that may be changed overlap no other.
     let number = unsafe { ffi::postman_read_plan(plan.as_ptr(), plan.len(), records.as_mut_ptr(), records.len()) };
     let told = unless_refused(number)?;
     let edition = u8::try_from(told / EDITIONS).expect("an edition is 1 or 2");
@@ -167,6 +167,72 @@ pub fn plan_call_at(
         )
     })
     .map(|_| ())
+}
+
+/// What a car lends to the call for two.
+pub struct Car<'a> {
+    /// A byte for each arc: 1 if the car must drive it, else 0.
+    pub marks: &'a [u8],
+    /// The most trees to try.
+    pub budget: u64,
+    /// Takes the car's drive, as in [`plan_call`].
+    pub sheet: &'a mut [u16],
+    /// Takes the words of its answer.
+    pub answer: &'a mut [u64],
+    /// Takes its multipliers.
+    pub multipliers: &'a mut [i64],
+}
+
+/// A car's own refusal: its number, or 0 for none.
+fn of_car(number: usize) -> Result<(), Refusal> {
+    let number = i64::try_from(number).expect("a number below the first car's factor");
+    unless_refused(-number).map(|_| ())
+}
+
+/// The call for two cars on lent slices: [`plan_call`] for each, on a plan of its own in which the arcs with the mark 1 must be driven, at their
+/// service cost if they have one, else at their cost, and those with the mark 0 may be. Refuses both with 1 to 7 and 13; else each car is answered or
+/// refused by itself, with 8, 9, 18 and 10 to 12, in this order.
+///
+/// ```
+/// use postman::limits::SHEET_PLACES;
+/// use postman::raw::{two_cars, Car};
+/// use postman::Refusal;
+///
+/// let file = [0x10, 0x40, 0x20, 0x01, 0x40, 0x01, 0x41, 0x00, 0x00, 0x03];
+/// let mut sheets = [vec![7; SHEET_PLACES], vec![7; SHEET_PLACES]];
+/// let [first, second] = &mut sheets;
+/// let marked = Car { marks: &[0, 1], budget: 1, sheet: first, answer: &mut [], multipliers: &mut [] };
+/// let bad = Car { marks: &[0, 2], budget: 1, sheet: second, answer: &mut [], multipliers: &mut [] };
+/// assert_eq!(two_cars(&file, marked, bad), Ok([Ok(()), Err(Refusal::BadMarks)]));
+/// assert_eq!((&sheets[0][..3], &sheets[1][..3]), (&[1, 0, 7][..], &[7, 7, 7][..]));
+/// ```
+pub fn two_cars(plan: &[u8], first: Car, second: Car) -> Result<[Result<(), Refusal>; 2], Refusal> {
+    // SAFETY: as in `read_plan`.
+    let told = unless_refused(unsafe {
+        ffi::postman_two_cars(
+            plan.as_ptr(),
+            plan.len(),
+            first.marks.as_ptr(),
+            first.marks.len(),
+            first.budget,
+            first.sheet.as_mut_ptr(),
+            first.sheet.len(),
+            first.answer.as_mut_ptr(),
+            first.answer.len(),
+            first.multipliers.as_mut_ptr(),
+            first.multipliers.len(),
+            second.marks.as_ptr(),
+            second.marks.len(),
+            second.budget,
+            second.sheet.as_mut_ptr(),
+            second.sheet.len(),
+            second.answer.as_mut_ptr(),
+            second.answer.len(),
+            second.multipliers.as_mut_ptr(),
+            second.multipliers.len(),
+        )
+    })?;
+    Ok([told / FIRST_CAR, told % FIRST_CAR].map(of_car))
 }
 
 /// Distances for a page of pairs of vertices of the file `plan`, on lent slices: the number of searches run, one for each first vertex. Refuses

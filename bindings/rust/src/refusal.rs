@@ -4,7 +4,7 @@ use std::error::Error;
 use std::fmt;
 
 /// Why a call was refused. Of several refusals that apply, the calls give the first in this order: 1 (under three bytes), 2, 3, 1 (length),
-/// 4, then arc by arc 5, 6, 7, then 13, then 17, then 8 and 9, then 19 and 20, then 10 to 12, then 14 to 16.
+/// 4, then arc by arc 5, 6, 7, then 13, then 17, then 8 and 9, then 18 to 20, then 10 to 12, then 14 to 16.
 ///
 /// ```
 /// use postman::{short_call, Refusal};
@@ -50,6 +50,8 @@ pub enum Refusal {
     Missed = 16,
     /// More than 256 pairs, or one of what is no vertex.
     StrayPair = 17,
+    /// A car's marks are not as many as the arcs, one is neither 0 nor 1, or a closed arc is marked.
+    BadMarks = 18,
     /// A window, the number of windows or the departure is beyond its limits.
     BadWindow = 19,
     /// An arc that must be driven is shut at departure.
@@ -58,7 +60,7 @@ pub enum Refusal {
 
 impl Refusal {
     /// All refusals, by their numbers.
-    pub const ALL: [Refusal; 19] = [
+    pub const ALL: [Refusal; 20] = [
         Refusal::Torn,
         Refusal::Edition,
         Refusal::Extent,
@@ -76,6 +78,7 @@ impl Refusal {
         Refusal::Unjoined,
         Refusal::Missed,
         Refusal::StrayPair,
+        Refusal::BadMarks,
         Refusal::BadWindow,
         Refusal::MustShut,
     ];
@@ -126,6 +129,10 @@ impl Refusal {
             }
             Refusal::Missed => ("missed", "an arc that must be driven is not in a judged list"),
             Refusal::StrayPair => ("stray pair", "more than 256 pairs, or one of what is no vertex"),
+            Refusal::BadMarks => (
+                "bad marks",
+                "a car's marks are not as many as the arcs, one is neither 0 nor 1, or a closed arc is marked",
+            ),
             Refusal::BadWindow => {
                 ("bad window", "a window, the number of windows or the departure is beyond its limits")
             }
@@ -150,11 +157,11 @@ mod tests {
     #[test]
     fn numbers_ascend() {
         let numbers: Vec<u32> = Refusal::ALL.iter().map(|refusal| refusal.number()).collect();
-        assert_eq!(numbers, (1..=17).chain(19..=20).collect::<Vec<u32>>());
+        assert_eq!(numbers, (1..=20).collect::<Vec<u32>>());
         for refusal in Refusal::ALL {
             assert_eq!(Refusal::from_number(refusal.number()), Some(refusal));
         }
-        for number in [0, 18, 21, u32::MAX] {
+        for number in [0, 21, u32::MAX] {
             assert_eq!(Refusal::from_number(number), None);
         }
     }

@@ -4,3 +4,4 @@ pub mod Reading
 pub mod Writing
 pub mod Answer
 pub mod Judged
+pub mod Cars

@@ -4,5 +4,6 @@ pub mod RecordBytes
 pub mod Codec
 pub mod Answer
 pub mod Count
+pub mod Cars
 -- What is proved about them.
 pub mod Laws

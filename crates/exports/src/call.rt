@@ -57,7 +57,7 @@ fn put_multipliers(u: [i64; 64], lent: &mut [i64])
 }
 
 // An answer that is no refusal goes into the lent slices.
-fn hand_over(r: Planned, words_lent: &mut [u64], u_lent: &mut [i64]) -> i64
+pub(crate) fn hand_over(r: Planned, words_lent: &mut [u64], u_lent: &mut [i64]) -> i64
     requires { ⌜ (verdictNumber (r .verdict) ≡ none → pos 0 ≤ℤ r .floor) ⌝ }
     ensures { λ k. ⌜ IsHandedOver r (now («words_lent» .entry)) (now («words_lent» .exit)) (now («u_lent» .entry)) (now («u_lent» .exit)) k ⌝ }
 {

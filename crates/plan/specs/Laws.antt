@@ -2,3 +2,4 @@
 pub mod Prefix
 pub mod Records
 pub mod Rows
+pub mod Made

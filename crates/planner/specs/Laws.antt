@@ -11,6 +11,7 @@ pub mod Answer
 pub mod Idle
 pub mod Refused
 pub mod Call
+pub mod Chain
 pub mod LongFile
 pub mod Answered
 pub mod RaisedBudget

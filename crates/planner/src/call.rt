@@ -12,11 +12,13 @@ ghost use mathlib.Core.Option.{none};
 ghost use Prim.Native.Nat.{_≤_};
 ghost use lib.ListN.{length};
 ghost use Rattle.postman.specs.Plan.{WellFormed};
-ghost use Rattle.postman.specs.PlanCall.{sheetPlaces, defaultBudget};
+ghost use Rattle.postman.specs.Refusal.{firstRefusal};
+ghost use Rattle.postman.specs.PlanCall.{sheetPlaces, defaultBudget, callConditions};
 ghost use Rattle.plan.specs.Records.{planValue};
 ghost use Rattle.shortest.specs.Contracts.{AreWeights};
 ghost use Rattle.refusal.specs.Verdict.{verdictNumber};
 ghost use Rattle.planner.specs.Refusals.{networkRefusal, planRefusal, budgetRefusal, sheetRefusal};
+ghost use Rattle.planner.specs.Tour.{tableOf};
 ghost use Rattle.planner.specs.Prepared.{IsMeasured};
 ghost use Rattle.planner.specs.Contract.{IsPlanned, IsPlanCall};
 ghost use Rattle.planner.specs.Laws.Refused.{refusedWith};
@@ -91,15 +93,43 @@ fn plan_measured(
     }
 }
 
-// The weights, the distances and the network of a plan that is well formed: the file's, or one that is made from it.
+// The network of a plan that is well formed, from the tables of its distances and weights, which are lent: what several plans share is computed once.
+pub fn plan_tabled(
+    plan: Plan,
+    table: &[[u32; 64]; 64],
+    weights: &[[u32; 64]; 64],
+    budget: u32,
+    sheet: &mut [u16],
+) -> Planned
+    requires { ⌜ WellFormed (planValue plan) × (now table ≡ tableOf (planValue plan)) × AreWeights (planValue plan) (now weights) ⌝ }
+    requires { ⌜ (1 ≤ budget) × (sheetPlaces ≤ length (now sheet)) ⌝ }
+    ensures { λ r. ⌜ IsPlanned (planValue plan) budget (planRefusal (planValue plan)) (now (sheet .entry)) (now (sheet .exit)) r ⌝ }
+{
+    let net = network::network::network_of(plan, table);
+    plan_measured(plan, table, weights, net, budget, sheet)
+}
+
+// The weights and the distances of a plan that is well formed: the file's, or one that is made from it.
 pub fn plan_read(plan: Plan, budget: u32, sheet: &mut [u16]) -> Planned
     requires { ⌜ WellFormed (planValue plan) × (1 ≤ budget) × (sheetPlaces ≤ length (now sheet)) ⌝ }
     ensures { λ r. ⌜ IsPlanned (planValue plan) budget (planRefusal (planValue plan)) (now (sheet .entry)) (now (sheet .exit)) r ⌝ }
 {
     let weights = shortest::weights::table(plan);
     let table = shortest::distance::table_of(&weights);
-    let net = network::network::network_of(plan, &table);
-    plan_measured(plan, &table, &weights, net, budget, sheet)
+    plan_tabled(plan, &table, &weights, budget, sheet)
+}
+
+// 8, then 9, for a call whose own conditions stand between 9 and 10.
+pub fn lent_verdict(budget: u64, places: usize) -> Verdict
+    ensures { λ r. ⌜ verdictNumber r ≡ firstRefusal (callConditions budget places) ⌝ }
+{
+    if places < 17_266 {
+        return Verdict::Refused(Refusal::ShortSheet);
+    }
+    match Budget::new(budget) {
+        Checked::Refused => Verdict::Refused(Refusal::Budget),
+        Checked::Good(b) => Verdict::Accepted,
+    }
 }
 
 // 9, then the rest.

@@ -43,3 +43,5 @@ pub mod Search
 pub mod TreeCount
 pub mod Judge
 pub mod Windows
+pub mod Roads
+pub mod Marks

@@ -19,6 +19,7 @@ pub mod Guarantee
 pub mod DistanceCall
 pub mod Judge
 pub mod Windows
+pub mod Marks
 -- What is proved about them.
 pub mod Laws
 pub mod Theorem

@@ -48,6 +48,10 @@ unfoldable pub partsConditions : Plan → Conditions
 unfolding requiredArcs componentCount
 partsConditions p = (eqb (length (requiredArcs p)) 0, 10) ∷ (ltb 8 (componentCount p), 11) ∷ []
 
+-- And the last one, 12, after them:
+abbrev pub lastConditions : Plan → Conditions
+lastConditions p = partsConditions p ++ (isCutOff p, 12) ∷ []
+
 -- The conditions of a call but for the last, where the call has conditions of its own between 9 and 10, and p is the plan that it speaks of:
 unfoldable pub conditionsBefore : List ℕ → ℕ → ℕ → Conditions → Plan → Conditions
 unfolding fileConditions callConditions partsConditions

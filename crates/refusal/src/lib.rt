@@ -22,6 +22,7 @@ pub enum Refusal {
     Unjoined,
     Missed,
     StrayPair,
+    BadMarks,
     BadWindow,
     MustShut,
 }
@@ -48,6 +49,7 @@ pub fn refusal_number(r: Refusal) -> u8
         Refusal::Unjoined => 15,
         Refusal::Missed => 16,
         Refusal::StrayPair => 17,
+        Refusal::BadMarks => 18,
         Refusal::BadWindow => 19,
         Refusal::MustShut => 20,
     }

@@ -9,3 +9,4 @@ pub mod CheapestPath
 pub mod ShortestPath
 pub mod PathWriting
 pub mod Lookup
+pub mod Roads

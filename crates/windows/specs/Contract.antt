@@ -1,17 +1,15 @@
 -- What the plan call at a departure answers, field by field.
 use mathlib.Core.Path.{_≡_}
-use mathlib.Core.List.{List, [], _∷_, _++_}
+use mathlib.Core.List.{List}
 use mathlib.Core.Logic.{_↔_}
 use mathlib.Core.Option.{none, some}
 use Prim.Native.Nat.{ℕ}
 use lib.ListN.{length, take}
 use lib.IntN.{pos}
 use lib.Signed.{_≤ℤ_}
-use Rattle.postman.specs.Plan.{Plan}
-use Rattle.postman.specs.Refusal.{Conditions, firstRefusal}
+use Rattle.postman.specs.Refusal.{firstRefusal}
 use Rattle.postman.specs.PlanFile.{planOf}
 use Rattle.postman.specs.Tour.{IsTour, tourCost}
-use Rattle.postman.specs.PlanCall.{partsConditions, isCutOff}
 use Rattle.postman.specs.Windows.{Window, Departure, windowsIn, planAt, Avoids, earlierConditionsAt, callRefusalAt}
 use Rattle.refusal.specs.Verdict.{verdictNumber}
 use Rattle.planner.specs.declared.Planned.{Planned}
@@ -23,10 +21,6 @@ window arc weekday from to = record { arc = arc; weekday = weekday; from = from;
 
 abbrev pub departure : ℕ → ℕ → Departure
 departure weekday minute = record { weekday = weekday; minute = minute }
-
--- 10 to 12, of the plan of the call.
-abbrev pub lastConditions : Plan → Conditions
-lastConditions p = partsConditions p ++ (isCutOff p, 12) ∷ []
 
 -- THE PLAN CALL AT A DEPARTURE on any bytes, any budget, any numbers for windows, any departure and any sheet: the plan call on the plan at that departure. What is said of that plan is
 -- said again of the file's, in whose words document 02 has it.

@@ -2,10 +2,9 @@
 use crate::limits::has_bad_window;
 use crate::shut::must_shut;
 use crate::shut::plan_at;
-use budget::Budget;
-use budget::Checked;
 use plan::Plan;
 use planner::Planned;
+use planner::call::lent_verdict;
 use planner::call::plan_read;
 use planner::call::refused;
 use refusal::Refusal;
@@ -16,25 +15,12 @@ ghost use Prim.Native.Nat.{_≤_};
 ghost use lib.ListN.{length};
 ghost use Rattle.postman.specs.Plan.{WellFormed};
 ghost use Rattle.postman.specs.Refusal.{firstRefusal};
-ghost use Rattle.postman.specs.PlanCall.{sheetPlaces, highestBudget, callConditions};
+ghost use Rattle.postman.specs.PlanCall.{sheetPlaces, callConditions, lastConditions};
 ghost use Rattle.postman.specs.Windows.{windowsIn, planAt, windowConditions};
 ghost use Rattle.plan.specs.Records.{planValue};
 ghost use Rattle.refusal.specs.Verdict.{verdictNumber};
 ghost use Rattle.planner.specs.Contract.{IsPlanned};
-ghost use Rattle.windows.specs.Contract.{departure, lastConditions, IsPlanCallAt};
-
-// 8, then 9.
-fn lent_verdict(budget: u64, places: usize) -> Verdict
-    ensures { λ r. ⌜ verdictNumber r ≡ firstRefusal (callConditions budget places) ⌝ }
-{
-    if places < 17_266 {
-        return Verdict::Refused(Refusal::ShortSheet);
-    }
-    match Budget::new(budget) {
-        Checked::Refused => Verdict::Refused(Refusal::Budget),
-        Checked::Good(b) => Verdict::Accepted,
-    }
-}
+ghost use Rattle.windows.specs.Contract.{departure, IsPlanCallAt};
 
 // 19, then 20: all windows are tested before any is used.
 fn windows_verdict(plan: Plan, windows: &[u16], weekday: u32, minute: u32) -> Verdict

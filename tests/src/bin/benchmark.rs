@@ -4,9 +4,9 @@
 //! runs; beside it stands how far the slowest run was above it, which is the machine's noise. The sheet is cleared before each run, outside the time.
 
 use postman_tests::instances::{adverse_ring, crossing, even, fullest, joined, longest, towns};
-use postman_tests::oracle::{count_trees, file_of, Graph};
+use postman_tests::oracle::{count_trees, file_of, own_marks, Graph};
 use postman_tests::plan::{Arc, Plan, MOST_PAIRS, MOST_PLACES, REQUIRED, SHEET_PLACES};
-use postman_tests::planner::{Answer, Codec, Counter, DistanceCall, Judge, Planner};
+use postman_tests::planner::{Answer, Car, CarsCall, Codec, Counter, DistanceCall, Judge, Planner};
 use postman_tests::yardstick::{Balance, Steps, Yardstick};
 use std::cell::Cell;
 use std::time::{Duration, Instant};
@@ -169,6 +169,27 @@ fn pages() {
     }
 }
 
+/// Two cars with the plan's own marks, against two plan calls: at one tree each, so that what is not fixed is the distances.
+fn cars() {
+    let calls: Vec<(&str, Box<dyn CarsCall>)> = vec![
+        ("yardstick", Box::new(Yardstick)),
+        #[cfg(feature = "proved")]
+        ("proved", Box::new(postman_tests::planner::Proved)),
+    ];
+    let (mut sheet, mut other) = (vec![0; SHEET_PLACES], vec![0; SHEET_PLACES]);
+    for (plan_name, plan) in towns() {
+        let (file, marks) = (file_of(&plan), own_marks(&plan));
+        for ((name, call), (_, planner)) in calls.iter().zip(planners()) {
+            let both = microseconds(|| {
+                let lend = |sheet| Car { marks: &marks, budget: 1, sheet };
+                assert!(call.two_cars(&file, lend(&mut sheet), lend(&mut other)).is_ok());
+            });
+            let twice = 2.0 * microseconds(|| assert!(planner.plan_call(&file, 1, &mut sheet).is_ok()));
+            println!("{plan_name}: two cars {both:.1} µs, two plan calls {twice:.1} µs: {name}");
+        }
+    }
+}
+
 /// Judging a list of as many places as there may be: 255 arcs, five times round a ring, driven 257 times.
 fn judging() {
     let judges: Vec<(&str, Box<dyn Judge>)> = vec![
@@ -192,6 +213,7 @@ fn main() {
     pages();
     counts();
     judging();
+    cars();
     let planners = planners();
     longest_drive(&planners);
     let mut totals = vec![0.0; planners.len()];

@@ -57,7 +57,10 @@ fn report(name: &str, cases: &[(Vec<u8>, u64)]) {
     }
     let n = cases.len();
     let [before, after] = sums.map(|sum| sum / n as f64);
-    println!("{name}: {before:.2} % (exact in {} of {n}) with the greatest multipliers, {after:.2} % ({}) as answered", exact[0], exact[1]);
+    println!(
+        "{name}: {before:.2} % (exact in {} of {n}) with the greatest multipliers, {after:.2} % ({}) as answered",
+        exact[0], exact[1]
+    );
 }
 
 fn main() {

@@ -12,7 +12,13 @@ const TAILS: usize = 8;
 fn size(entries: &Entries, q: usize) -> usize {
     match q {
         0 => TAILS,
-        _ => entries[q].iter().enumerate().map(|(p, e)| e.div_ceil(if p == 0 { TAILS } else { 2 })).max().unwrap_or(0).max(2),
+        _ => entries[q]
+            .iter()
+            .enumerate()
+            .map(|(p, e)| e.div_ceil(if p == 0 { TAILS } else { 2 }))
+            .max()
+            .unwrap_or(0)
+            .max(2),
     }
 }
 
@@ -34,9 +40,9 @@ pub fn joined(entries: &Entries) -> Plan {
         for (p, &count) in row.iter().enumerate() {
             // One entry from part 0 is the highest vertex's.
             let count = if p == 0 && q > 0 { count - 1 } else { count };
-            arcs.extend((0..count).map(|i| {
-                Arc::new(gate(p) + 1 + i % sizes[p], gate(q) + 1 + i / sizes[p], OPTIONAL, 2)
-            }));
+            arcs.extend(
+                (0..count).map(|i| Arc::new(gate(p) + 1 + i % sizes[p], gate(q) + 1 + i / sizes[p], OPTIONAL, 2)),
+            );
         }
     }
     Plan::new(hub + 1, arcs)

@@ -4,7 +4,9 @@ use super::Mutant;
 use crate::plan::{Arc, Plan, CLOSED, MOST_VERTICES, OPTIONAL, REQUIRED};
 use crate::planner::Planner;
 use crate::properties::Property::{self, *};
-use crate::yardstick::{costs, distances, shortest_path, Balance, Components, Distances, Entries, Lengths, Steps, NO_PATH};
+use crate::yardstick::{
+    costs, distances, shortest_path, Balance, Components, Distances, Entries, Lengths, Steps, NO_PATH,
+};
 
 /// Defines wrong planners, and lists them with their names and the properties that they violate.
 macro_rules! wrong_steps {

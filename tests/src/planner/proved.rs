@@ -1,6 +1,8 @@
 //! The proved library behind the traits, through the package `postman` (`bindings/rust`).
 
-use super::{Answer, Codec, Counter, DepartureCall, DistanceCall, Judge, Planner, Refusal, TreeCount};
+use super::{
+    Answer, Car, CarsAnswer, CarsCall, Codec, Counter, DepartureCall, DistanceCall, Judge, Planner, Refusal, TreeCount,
+};
 use crate::plan::{Arc, Departure, MOST_VERTICES};
 use postman::limits::{ANSWER_WORDS, RECORD_BYTES};
 use postman::raw;
@@ -9,13 +11,24 @@ use postman::raw;
 #[derive(Clone, Copy, Default, Debug)]
 pub struct Proved;
 
-/// Lends an answer to a call and takes it apart.
-fn answered(call: impl FnOnce(&mut [u64], &mut [i64]) -> Result<(), postman::Refusal>) -> Result<Answer, Refusal> {
-    let (mut words, mut multipliers) = ([0; ANSWER_WORDS], [0; MOST_VERTICES]);
-    call(&mut words, &mut multipliers).map_err(postman::Refusal::number)?;
+/// An answer that is lent to a call: its words and its multipliers.
+type Lent = ([u64; ANSWER_WORDS], [i64; MOST_VERTICES]);
+
+const EMPTY: Lent = ([0; ANSWER_WORDS], [0; MOST_VERTICES]);
+
+/// What a call put into a lent answer, taken apart, unless it refused.
+fn taken(told: Result<(), postman::Refusal>, (words, multipliers): Lent) -> Result<Answer, Refusal> {
+    told.map_err(postman::Refusal::number)?;
     let [places, cost, floor, trees, whole, parts] = words;
     let places = usize::try_from(places).expect("places are counted");
     Ok(Answer { places, cost, floor, trees, whole: whole != 0, parts, multipliers })
+}
+
+/// Lends an answer to a call and takes it apart.
+fn answered(call: impl FnOnce(&mut [u64], &mut [i64]) -> Result<(), postman::Refusal>) -> Result<Answer, Refusal> {
+    let mut lent = EMPTY;
+    let told = call(&mut lent.0, &mut lent.1);
+    taken(told, lent)
 }
 
 impl Planner for Proved {
@@ -41,6 +54,19 @@ impl DepartureCall for Proved {
         answered(|answer, multipliers| {
             raw::plan_call_at(plan, budget, windows, weekday, minute, sheet, answer, multipliers)
         })
+    }
+}
+
+impl CarsCall for Proved {
+    fn two_cars(&self, plan: &[u8], first: Car, second: Car) -> CarsAnswer {
+        fn lend<'a>(car: Car<'a>, (answer, multipliers): &'a mut Lent) -> raw::Car<'a> {
+            let Car { marks, budget, sheet } = car;
+            raw::Car { marks, budget, sheet, answer, multipliers }
+        }
+        let mut lent = [EMPTY; 2];
+        let [one, other] = &mut lent;
+        let told = raw::two_cars(plan, lend(first, one), lend(second, other)).map_err(postman::Refusal::number)?;
+        Ok([taken(told[0], lent[0]), taken(told[1], lent[1])])
     }
 }
 
@@ -107,6 +133,17 @@ mod tests {
         assert_eq!(raw::plan_call(&file, 1, &mut sheet, &mut answer, &mut multipliers), Err(edition));
         assert_eq!(raw::short_call(&file, &mut sheet, &mut answer, &mut multipliers), Err(edition));
         assert_eq!(raw::read_plan(&file, &mut record), Err(edition));
+        let mut others = (sheet, answer, multipliers);
+        let mut cars = |file: &[u8], budget| {
+            let (marks, sheet, answer, multipliers) = (&[1, 0][..], &mut sheet, &mut answer, &mut multipliers);
+            let first = raw::Car { marks, budget, sheet, answer, multipliers };
+            let (sheet, answer, multipliers) = (&mut others.0, &mut others.1, &mut others.2);
+            raw::two_cars(file, first, raw::Car { marks, budget, sheet, answer, multipliers })
+        };
+        assert_eq!(cars(&file, 1), Err(edition));
+        let short = Err(postman::Refusal::ShortSheet);
+        assert_eq!(cars(&[0x10, 0x40, 0x20, 0x01, 0x40, 0x01, 0x41, 0x00, 0x00, 0x03], 1), Ok([short, short]));
+        assert_eq!(others, (sheet, answer, multipliers));
         let records = [0, 0, 0, 0, 1, 0, 0];
         assert_eq!(raw::write_plan(3, 1, &records, &mut bytes), Err(edition));
         assert_eq!(raw::write_plan(1, 65, &records, &mut bytes), Err(postman::Refusal::Extent));

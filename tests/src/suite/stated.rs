@@ -80,7 +80,12 @@ fn cases() -> Vec<Row> {
         ("G, both", case_a_with(3, 0), 10_000, Err(7)),
         ("free arcs between all", free_circles(3), 10_000, Ok((3, 1, true, 3))),
         ("a free must arc", plan(2, &[(0, 1, REQUIRED, 0), (1, 0, OPTIONAL, 3)]), 10_000, Err(6)),
-        ("a free closed arc", plan(2, &[(0, 1, REQUIRED, 5), (1, 0, OPTIONAL, 3), (1, 0, CLOSED, 0)]), 1, Ok((8, 1, true, 1))),
+        (
+            "a free closed arc",
+            plan(2, &[(0, 1, REQUIRED, 5), (1, 0, OPTIONAL, 3), (1, 0, CLOSED, 0)]),
+            1,
+            Ok((8, 1, true, 1)),
+        ),
         ("n 64", circle, 10_000, Ok((64, 1, true, 1))),
         ("n 65", Plan { n: 65, ..case_a() }, 10_000, Err(3)),
         ("n 0", Plan { n: 0, ..case_a() }, 10_000, Err(3)),

@@ -25,7 +25,7 @@ use Rattle.circuit.specs.Laws.Few.{few-numbers}
 use Rattle.circuit.specs.Laws.Laid.{links-tails, links-heads, links-length, prefix-length, prefix-le}
 use Rattle.planner.specs.Tour.{tableOf, amountsOf}
 use Rattle.planner.specs.Prepared.{IsKnown, IsBase, IsTree}
-use Rattle.planner.specs.Laws.Tour.{table-at, agrees, completes}
+use Rattle.planner.specs.Laws.Tour.{is-table, agrees, completes}
 
 -- the two ways to pair tails with heads
 pub arcs-links : (ts hs : List ℕ) → arcsOf ts hs ≡ linksOf ts hs
@@ -60,7 +60,7 @@ module _ (p : Plan) (table : List (List ℕ)) (vs : List ℕ) (b : IsKnown p tab
   base-metric = over Metric (table-metric p (b .plannable .well-formed) (b .plannable .connected) d agree)
 
   pub base-table : IsTable p table
-  base-table i j li lj = ap (λ (x : List (List ℕ)). cell x i j) (b .distances) ∙ table-at p i j li lj
+  base-table = is-table p table (b .distances)
 
   -- a state that counts the required arcs and the links of t
   module _ (t : List Link) (joined : Joins p t) (short : length t ≤ 100) (s : State) (e : s ≡ balance d p t) where

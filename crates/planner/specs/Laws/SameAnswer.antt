@@ -1,16 +1,16 @@
 -- Two answers to calls on one plan, with one budget, one refusal and one sheet, are the same, and so are the places that they leave: u is fixed by the plan, and the rest follows from u.
 use mathlib.Core.Path.{_≡_, refl, sym, ap, _∙_}
 use mathlib.Core.List.{List}
-use mathlib.Core.Option.{Option, none, some}
+use mathlib.Core.Option.{Option, none, some, Option·some-ne-none}
 use Prim.Native.Nat.{ℕ}
 use lib.ListN.{getD}
 use lib.IntN.{ℤ, pos}
 use Rattle.postman.specs.Plan.{Plan}
-use Rattle.postman.specs.Refusal.{answer}
+use Rattle.postman.specs.Refusal.{answer, unless}
 use Rattle.postman.specs.LagrangianBound.{Multipliers}
 use Rattle.postman.specs.PlanCall.{Summary, summary, fields}
 use Rattle.planner.specs.declared.Planned.{Planned}
-use Rattle.planner.specs.Contract.{summaryOf, multipliersOf, IsPlanned}
+use Rattle.planner.specs.Contract.{summaryOf, multipliersOf, countUnless, IsPlanned}
 use Rattle.planner.specs.SameAnswer.{SameAnswer}
 
 module _ (p : Plan) (budget : ℕ) (old new new′ : List ℕ) (r s : Planned) where
@@ -35,3 +35,15 @@ module _ (p : Plan) (budget : ℕ) (old new new′ : List ℕ) (r s : Planned) w
         },
         i .sheet ∙ sym (j .sheet),
       )
+
+-- A refusal says nothing of the plan.
+pub refused-as : (p q : Plan) (budget k : ℕ) (old new : List ℕ) (r : Planned) → IsPlanned p budget (some k) old new r → IsPlanned q budget (some k) old new r
+unfolding answer fields unless countUnless
+refused-as p q budget k old new r i = record {
+  verdict = i .verdict;
+  summary-is = i .summary-is;
+  sheet = i .sheet;
+  places-are = i .places-are;
+  no-multipliers = i .no-multipliers;
+  answered = λ e. absurd (Option·some-ne-none k e);
+}

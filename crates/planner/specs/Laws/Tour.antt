@@ -33,6 +33,7 @@ use Rattle.postman.specs.Laws.Sum.{term-le}
 use Rattle.circuit.specs.Legs.{Completes}
 use Rattle.circuit.specs.Tour.{tour, IsCompletion}
 use Rattle.circuit.specs.Laws.Completion.{completion, completes-at-least-cost}
+use Rattle.shortest.specs.Contracts.{IsTable}
 use Rattle.planner.specs.Tour.{tableOf, amountsOf, tourOf}
 
 -- the table holds d
@@ -45,6 +46,9 @@ unfolding tableOf below
 table-at p i j li lj =
     ap (λ (r : List ℕ). getD r j 0) (getD-map-upFrom (λ i. map (distance p i) (below 64)) 0 64 i [] li ∙ ap (λ i. map (distance p i) (below 64)) (zero-add i))
     ∙ row-at (distance p i) j lj
+
+pub is-table : (p : Plan) (table : List (List ℕ)) → table ≡ tableOf p → IsTable p table
+is-table p table e i j li lj = ap (λ (x : List (List ℕ)). cell x i j) e ∙ table-at p i j li lj
 
 module _ (p : Plan) (ok : Plannable p) (few : componentCount p ≤ 8) where
   abbrev d : ℕ → ℕ → ℕ

@@ -88,6 +88,24 @@ module _ (e n : ℕ) (a : Arc) where
       (cons-accepted _ _ _ (le→nltb 2 (a .standing) (h .standing)) nothing-refused))
 
   -- in edition 1 the service cost is the implied one
+  -- just the must arcs have checking costs
+  pub required-priced : T (not (isMispriced e a)) → T (isRequiredArc a) → T (not (eqb (a .service) 0))
+  unfolding isMispriced
+  required-priced t r = at (isRequiredArc a) (eqb (a .service) 0) (not-or (cond (isRequiredArc a) (eqb (a .service) 0) (not (eqb (a .service) 0))) _ t .0) r
+    where
+      at : (b x : Bool) → T (not (cond b x (not x))) → T b → T (not x)
+      at true x t r = t
+      at false x t r = absurd r
+
+  pub others-unpriced : T (not (isMispriced e a)) → T (not (isRequiredArc a)) → a .service ≡ 0
+  unfolding isMispriced
+  others-unpriced t r =
+      eqb→eq (a .service) 0 (at (isRequiredArc a) (eqb (a .service) 0) (not-or (cond (isRequiredArc a) (eqb (a .service) 0) (not (eqb (a .service) 0))) _ t .0) r)
+    where
+      at : (b x : Bool) → T (not (cond b x (not x))) → T (not b) → T x
+      at true x t r = absurd r
+      at false x t r = not-not x t
+
   pub implied : isSecond e ≡ false → T (not (isMispriced e a)) → a .service ≡ impliedService (a .standing) (a .cost)
   unfolding isMispriced
   implied q t =
@@ -252,6 +270,10 @@ module _ (bytes : List ℕ) where
   -- a plan that was read has no two equal arcs
   pub file-distinct : firstRefusal (fileConditions bytes) ≡ none → Distinct (planOf bytes .arcs)
   file-distinct h = plan-distinct e (planOf bytes) (accepted-is-file h .arcs-in)
+
+  -- and each of its arcs passed 5 to 7
+  pub file-arcs : firstRefusal (fileConditions bytes) ≡ none → (a : Arc) → List·Memᴰ a (planOf bytes .arcs) → IsFileArc e (planOf bytes .n) a
+  file-arcs h = arcs-accepted e (planOf bytes) (plan-accepted e (planOf bytes) (accepted-is-file h .arcs-in) .0)
 
   -- ---- reading
 

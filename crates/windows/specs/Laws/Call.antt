@@ -1,5 +1,4 @@
--- The chain of the call: where a verdict refuses, the first condition that applies is among those it looked at; where it does not, it is among the rest. From the contract over the plan at the
--- departure, what is said of the file's plan: its tours are those that avoid the arcs shut, at equal costs.
+-- The verdict of the windows is the first of their conditions that applies. From the contract over the plan at the departure, what is said of the file's plan: its tours are those that avoid the arcs shut, at equal costs.
 use mathlib.Core.Path.{_≡_, refl, sym, ap, _∙_, subst}
 use mathlib.Core.List.{List, _++_}
 use mathlib.Core.Bool.{Bool, true, false, not, cond}
@@ -10,17 +9,15 @@ use lib.ListN.{length, take}
 use lib.IntN.{pos}
 use lib.Signed.{_≤ℤ_}
 use lib.Dec.{T}
-use borrow.Author.Tests.{lt-ltb, le-ltb}
-use Rattle.postman.specs.Plan.{Plan, WellFormed}
-use Rattle.postman.specs.Refusal.{Conditions, firstRefusal}
-use Rattle.postman.specs.PlanFile.{fileConditions, isOutside, planOf}
-use Rattle.postman.specs.PlanCall.{sheetPlaces, highestBudget, callConditions}
+use Rattle.postman.specs.Plan.{Plan}
+use Rattle.postman.specs.Refusal.{firstRefusal}
+use Rattle.postman.specs.PlanFile.{fileConditions, planOf}
+use Rattle.postman.specs.PlanCall.{callConditions, lastConditions}
 use Rattle.postman.specs.Tour.{IsTour, tourCost}
-use Rattle.postman.specs.Windows.{Window, Departure, windowsIn, planAt, Avoids, hasBadWindow, isMustShut, windowConditions, callRefusalAt}
+use Rattle.postman.specs.Windows.{Departure, windowsIn, planAt, Avoids, hasBadWindow, isMustShut, windowConditions, callRefusalAt}
 use Rattle.postman.specs.Theorem.{cut-off-at}
 use Rattle.postman.specs.Laws.Refusal.{first-on, first-stop}
-use Rattle.postman.specs.Laws.Acceptance.{call-limits}
-use Rattle.postman.specs.Laws.Windows.{at-well-formed, tours, same-tour-cost, call-accepted-at, at-order}
+use Rattle.postman.specs.Laws.Windows.{tours, same-tour-cost, call-accepted-at, at-order}
 use Rattle.plan.specs.Records.{planValue}
 use Rattle.plan.specs.declared.Plan.{Plan as PlanRecord}
 use Rattle.plan.specs.Laws.Records.{plan-length}
@@ -29,52 +26,12 @@ use Rattle.refusal.specs.Verdict.{refusalNumber, verdictNumber}
 use Rattle.plan_file.specs.declared.Reading.{Reading}
 use Rattle.plan_file.specs.Reading.{IsReading}
 use Rattle.plan_file.specs.Laws.Reading.{accepted-value}
-use Rattle.budget.specs.declared.Budget.{Budget}
-use Rattle.budget.specs.declared.Checked.the-variants.{Good, Refused}
-use Rattle.budget.specs.Checks.{checkedOf}
 use Rattle.planner.specs.declared.Planned.{Planned}
 use Rattle.planner.specs.Contract.{IsPlanned}
-use Rattle.planner.specs.Refusals.{planRefusal}
 use Rattle.planner.specs.Laws.Refused.{refusedWith}
-use Rattle.planner.specs.Laws.Call.{parts-refusal, refused-planned, planned-as}
+use Rattle.planner.specs.Laws.Call.{refused-planned, planned-as}
 use Rattle.planner.specs.Laws.Answered.{accepted, cost-is, floor-is, tour-written}
-use Rattle.windows.specs.Contract.{lastConditions, IsPlanCallAt}
-
--- ---- one step of the chain
-
-pub step-refused : (q : Plan) (budget : ℕ) (cs ds : Conditions) (old : List ℕ) (r : Refusal) (x : Planned) → x ≡ refusedWith r → firstRefusal cs ≡ some (refusalNumber r)
-    → IsPlanned q budget (firstRefusal (cs ++ ds)) old old x
-step-refused q budget cs ds old r x e h = refused-planned q budget _ old r x e (first-stop cs ds _ h)
-
-pub step-on : (q : Plan) (budget : ℕ) (cs ds : Conditions) (old new : List ℕ) (x : Planned) → firstRefusal cs ≡ none → IsPlanned q budget (firstRefusal ds) old new x
-    → IsPlanned q budget (firstRefusal (cs ++ ds)) old new x
-step-on q budget cs ds old new x h i = planned-as q q budget _ _ old new x refl (sym (first-on cs ds h)) i
-
--- ---- 8 and 9
-
-pub sheet-refused : (budget places : ℕ) → places < sheetPlaces → some 8 ≡ firstRefusal (callConditions budget places)
-unfolding firstRefusal callConditions
-sheet-refused budget places l = let e = lt-ltb places sheetPlaces l in rw e refl
-
-pub budget-refused : (budget places : ℕ) → sheetPlaces ≤ places → checkedOf budget ≡ Refused → some 9 ≡ firstRefusal (callConditions budget places)
-unfolding firstRefusal callConditions checkedOf
-budget-refused budget places l h = let e = le-ltb places sheetPlaces l in rw e (at (isOutside budget 1 highestBudget) h)
-  where
-    at : (b : Bool) → cond b Refused (Good (record { trees = budget })) ≡ Refused → _≡_ {A = Option ℕ} (some 9) (cond b (some 9) none)
-    at true h = refl
-    at false h = let z : _≡_ {A = ℕ} 0 1 = cc in absurd (omega arith)
-
-pub lent-good : (budget places : ℕ) (b : Budget) → sheetPlaces ≤ places → checkedOf budget ≡ Good b → none ≡ firstRefusal (callConditions budget places)
-unfolding firstRefusal callConditions checkedOf
-lent-good budget places b l h = let e = le-ltb places sheetPlaces l in rw e (at (isOutside budget 1 highestBudget) h)
-  where
-    at : (x : Bool) → cond x Refused (Good (record { trees = budget })) ≡ Good b → _≡_ {A = Option ℕ} none (cond x (some 9) none)
-    at true h = let z : _≡_ {A = ℕ} 0 1 = cc in absurd (omega arith)
-    at false h = refl
-
-pub small-budget : (budget places : ℕ) → firstRefusal (callConditions budget places) ≡ none → budget ≤ 1000000
-unfolding highestBudget
-small-budget budget places e = call-limits budget places e .2
+use Rattle.windows.specs.Contract.{IsPlanCallAt}
 
 -- ---- 19 and 20
 
@@ -97,16 +54,6 @@ module _ (r : PlanRecord) (numbers : List ℕ) (d : Departure) where
 
   pub windows-good : isBad ≡ false → isShutMust ≡ false → none ≡ firstRefusal (windowConditions (planValue r) numbers d)
   windows-good h s = rw (by-record, h, s) refl
-
--- ---- from 10 on
-
--- the plan at the departure is answered
-pub departing-planned : (s : PlanRecord) (p : Plan) (windows : List Window) (d : Departure) (budget : ℕ) (cs : Conditions) (old new : List ℕ) (x : Planned)
-    → planValue s ≡ planAt p windows d → WellFormed p → firstRefusal cs ≡ none → IsPlanned (planValue s) budget (planRefusal (planValue s)) old new x
-    → IsPlanned (planAt p windows d) budget (firstRefusal (cs ++ lastConditions (planAt p windows d))) old new x
-departing-planned s p windows d budget cs old new x v w e i =
-    step-on (planAt p windows d) budget cs (lastConditions (planAt p windows d)) old new x e
-    (planned-as (planValue s) (planAt p windows d) budget _ _ old new x v (ap planRefusal v ∙ sym (parts-refusal (planAt p windows d) (at-well-formed p windows d w))) i)
 
 -- ---- the whole call
 

@@ -7,10 +7,9 @@ use Prim.Native.Nat.{ℕ, _<_, _≤_}
 use native.Mathlib.Omega.{arith}
 use borrow.Author.Tests.{le-leb, lt-leb, eq-eqb, ne-eqb}
 use lib.ListN.{length}
-use lib.Seq.{ext-getD}
 use lib.Dec.{T, ltb}
 use Rattle.postman.specs.Lists.{anyOf}
-use Rattle.postman.specs.Plan.{Arc, isRequiredArc, arcAt, requiredNumbers}
+use Rattle.postman.specs.Plan.{Arc, isRequiredArc, requiredNumbers}
 use Rattle.postman.specs.Windows.{Window, Departure, shuts, isShut, closedIf, planAt, isMustShut}
 use Rattle.postman.specs.Laws.Tests.{same-test, of-true, and-both, and-parts}
 use Rattle.postman.specs.Laws.Membership.{anyOf-mem, anyOf-at}
@@ -18,9 +17,9 @@ use Rattle.postman.specs.Laws.Required.{numbers-mem, mem-numbers}
 use Rattle.postman.specs.Laws.Windows.{at-length, at-arc}
 use Rattle.plan.specs.declared.Arc.{Arc as ArcRecord}
 use Rattle.plan.specs.declared.Plan.{Plan as PlanRecord}
-use Rattle.plan.specs.Records.{arcValue, recordOf, recordAt, zeroRecord, planValue}
-use Rattle.plan.specs.Laws.Prefix.{Prefix}
-use Rattle.plan.specs.Laws.Records.{plan-length, plan-arc, plan-vertices}
+use Rattle.plan.specs.Records.{recordOf, recordAt, planValue}
+use Rattle.plan.specs.Laws.Made.{HoldMade, made-plan}
+use Rattle.plan.specs.Laws.Records.{plan-length, plan-arc}
 
 -- ---- one window
 
@@ -83,24 +82,13 @@ module _ (r : PlanRecord) (windows : List Window) (d : Departure) where
 
   -- ---- the plan at a departure
 
-  -- records whose first k hold the arcs, closed where they are shut
-  abbrev pub HoldShut : List ArcRecord → ℕ → Type 0
-  HoldShut = Prefix 256 zeroRecord (λ k. recordOf (closedIf (isShut windows d k) (recordAt (r .arcs) k)))
+  -- each arc, closed where it is shut
+  abbrev pub shutArc : ℕ → Arc → Arc
+  shutArc k = closedIf (isShut windows d k)
 
   at-vertices : planAt (planValue r) windows d .n ≡ planValue r .n
   unfolding planAt
   at-vertices = refl
 
-  pub plan-shut : (arcs : List ArcRecord) (j : ℕ) → HoldShut arcs j → j ≡ r .m → planValue (record { n = r .n; m = r .m; arcs = arcs }) ≡ planAt (planValue r) windows d
-  plan-shut arcs j h all =
-      let s : PlanRecord = record { n = r .n; m = r .m; arcs = arcs } in
-      let q = planAt (planValue r) windows d in
-      let long : length (planValue s .arcs) ≡ length (q .arcs) = plan-length s ∙ sym (at-length (planValue r) windows d ∙ plan-length r) in
-      let size = plan-length s in
-      let same : planValue s .arcs ≡ q .arcs = ext-getD (arcAt [] 0) (planValue s .arcs) (q .arcs) long (λ k g.
-      (let l : k < r .m = omega arith in
-      plan-arc s k l
-      ∙ ap arcValue (h .before k (omega arith))
-      ∙ sym (at-arc (planValue r) windows d k ∙ ap (closedIf (isShut windows d k)) (plan-arc r k l)))) in
-      let vertices : planValue s .n ≡ q .n = plan-vertices s ∙ sym (at-vertices ∙ plan-vertices r) in
-      λ i. record { n = vertices i; arcs = same i }
+  pub plan-shut : (arcs : List ArcRecord) (j : ℕ) → HoldMade r shutArc arcs j → j ≡ r .m → planValue (record { n = r .n; m = r .m; arcs = arcs }) ≡ planAt (planValue r) windows d
+  plan-shut = made-plan r shutArc (planAt (planValue r) windows d) at-vertices (at-length (planValue r) windows d) (λ k l. at-arc (planValue r) windows d k)

@@ -4,7 +4,7 @@ use Rattle.postman.specs.Plan.{WellFormed}
 use Rattle.postman.specs.Laws.Windows.{at-well-formed}
 use Rattle.plan.specs.Laws.Records.{record-arcs}
 use Rattle.refusal.specs.Verdict.{verdictNumber}
-use Rattle.windows.specs.Laws.Call.{step-refused, departing-planned}
+use Rattle.planner.specs.Laws.Chain.{step-refused, made-planned}
 use borrow.Author.Needs.{needs}
 use Rattle.windows.proofs.call.plan_departing.Statement.{statement}
 use Rattle.windows.proofs.call.plan_departing.Tie as tie
@@ -41,7 +41,7 @@ returns-2 : tie.Need-returns-2
 returns-2 c =
     let w = c .before .before .before .before .before .before .before in
     let none-given = sym (w .windows-verdict .ensures) ∙ ap verdictNumber (c .before .before .before .before .before .enum-told .given .1) in
-    departing-planned _ _ _ _ _ _ _ _ _ (c .before .before .before .before .plan-at .ensures) (w .before .before .before .pre .0) none-given (c .before .before .plan-read .ensures)
+    made-planned _ _ _ _ _ _ _ (c .before .before .before .before .plan-at .ensures) (at-well-formed _ _ _ (w .before .before .before .pre .0)) none-given (c .before .before .plan-read .ensures)
 
 pub plan-departing-spec : {M : Type 1} → statement M
 plan-departing-spec =

@@ -6,13 +6,14 @@ use Rattle.postman.specs.Windows.{windowsIn}
 use Rattle.plan.specs.Records.{zeroRecord}
 use Rattle.plan.specs.Laws.Prefix.{prefix-none, prefix-more}
 use Rattle.windows.specs.Contract.{departure}
-use Rattle.windows.specs.Laws.Shut.{HoldShut, closed-as, plan-shut}
+use Rattle.plan.specs.Laws.Made.{HoldMade}
+use Rattle.windows.specs.Laws.Shut.{shutArc, closed-as, plan-shut}
 use borrow.Author.Needs.{needs}
 use Rattle.windows.proofs.shut.plan_at.Statement.{statement}
 use Rattle.windows.proofs.shut.plan_at.Tie as tie
 
 abbrev Inv-loop : tie.InvT-loop
-Inv-loop windows weekday minute plan arcs₀ m k₀ arcs k = (m ≡ plan .m) × (k ≤ m) × HoldShut plan (windowsIn windows) (departure weekday minute) arcs k
+Inv-loop windows weekday minute plan arcs₀ m k₀ arcs k = (m ≡ plan .m) × (k ≤ m) × HoldMade plan (shutArc plan (windowsIn windows) (departure weekday minute)) arcs k
 
 abbrev μ-loop : tie.MeasureT-loop
 μ-loop windows weekday minute plan arcs₀ m k₀ arcs k = m - k

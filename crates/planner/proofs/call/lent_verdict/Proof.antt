@@ -1,10 +1,10 @@
 -- The tests are the definition's, in its order.
 use mathlib.Core.Path.{sym, _∙_}
 use Rattle.postman.specs.PlanCall.{sheetPlaces}
-use Rattle.windows.specs.Laws.Call.{sheet-refused, budget-refused, lent-good}
+use Rattle.planner.specs.Laws.Chain.{sheet-refused, budget-refused, lent-good}
 use borrow.Author.Needs.{needs}
-use Rattle.windows.proofs.call.lent_verdict.Statement.{statement}
-use Rattle.windows.proofs.call.lent_verdict.Tie as tie
+use Rattle.planner.proofs.call.lent_verdict.Statement.{statement}
+use Rattle.planner.proofs.call.lent_verdict.Tie as tie
 
 returns : tie.Need-returns
 unfolding sheetPlaces

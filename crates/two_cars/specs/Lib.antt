@@ -1,0 +1,4 @@
+pub mod Contract
+-- What is proved about them.
+pub mod Laws
+pub mod Theorem

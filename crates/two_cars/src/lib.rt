@@ -1,0 +1,11 @@
+// Two cars on the streets of one plan, each with its own must arcs.
+pub mod call; // the call for two cars
+mod marks; // a car's marks, and its plan
+
+use planner::Planned;
+
+// What each car is answered.
+pub struct TwoPlanned {
+    pub first: Planned,
+    pub second: Planned,
+}
