@@ -2,13 +2,13 @@
 //!
 //! On plans of which the best drive is known: forty drawn towns, all of whose trees are tried, and loops joined all to all, whose best drive is a shortest
 //! round trip. The floor is that of one tree tried, so that it is never the cost. Beside it stands what the greatest multipliers that are 0 at the lowest
-//! required vertex would give.
+//! required vertex would give. `SEED=…` draws other plans: the constants of the ascent were chosen on those of seed 1.
 
 use postman_tests::instances::{drawn_town, joined_loops};
 use postman_tests::oracle::{call_refusal, count_trees, file_of, lagrangian_bound, parse, Effort, Facts, Graph};
 use postman_tests::plan::{HIGHEST_BUDGET, SHEET_PLACES};
 use postman_tests::planner::Planner;
-use postman_tests::random::Random;
+use postman_tests::random::{setting, Random};
 
 const TOWNS: usize = 40;
 const ROUND_TRIPS: u64 = 10;
@@ -64,7 +64,8 @@ fn report(name: &str, cases: &[(Vec<u8>, u64)]) {
 }
 
 fn main() {
-    let towns = (1..).map(|seed| drawn_town(&mut Random::new(seed))).filter_map(|plan| {
+    let seed = setting("SEED", 1);
+    let towns = (seed..).map(|seed| drawn_town(&mut Random::new(seed))).filter_map(|plan| {
         let file = file_of(&plan);
         let trees = count_trees(&Graph::new(&plan));
         if call_refusal(&file, 1, SHEET_PLACES) != 0 || trees < 2 || trees > u128::from(HIGHEST_BUDGET) {
@@ -76,7 +77,7 @@ fn main() {
     });
     report("drawn towns", &towns.take(TOWNS).collect::<Vec<_>>());
     for n in [7, 8] {
-        let plans = (1..=ROUND_TRIPS).map(|seed| joined_loops(&mut Random::new(seed), n));
+        let plans = (seed..seed + ROUND_TRIPS).map(|seed| joined_loops(&mut Random::new(seed), n));
         let cases: Vec<_> = plans.map(|plan| (file_of(&plan), round_trip(&Graph::new(&plan)))).collect();
         report(&format!("{n} loops, all to all"), &cases);
     }
