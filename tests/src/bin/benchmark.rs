@@ -169,7 +169,7 @@ fn pages() {
     }
 }
 
-/// Two cars with the plan's own marks, against two plan calls: at one tree each, so that what is not fixed is the distances.
+/// Two cars with the plan's own marks, against two plan calls: at one tree each. On the ring of one must arc the tables are nearly all there is to do.
 fn cars() {
     let calls: Vec<(&str, Box<dyn CarsCall>)> = vec![
         ("yardstick", Box::new(Yardstick)),
@@ -177,7 +177,10 @@ fn cars() {
         ("proved", Box::new(postman_tests::planner::Proved)),
     ];
     let (mut sheet, mut other) = (vec![0; SHEET_PLACES], vec![0; SHEET_PLACES]);
-    for (plan_name, plan) in towns() {
+    let mut ring = adverse_ring();
+    let Arc { tail, head, cost, .. } = ring.arcs[0];
+    ring.arcs[0] = Arc::new(tail.into(), head.into(), REQUIRED, cost);
+    for (plan_name, plan) in towns().into_iter().chain([("a ring, one must arc", ring)]) {
         let (file, marks) = (file_of(&plan), own_marks(&plan));
         for ((name, call), (_, planner)) in calls.iter().zip(planners()) {
             let both = microseconds(|| {
