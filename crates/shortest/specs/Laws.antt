@@ -9,4 +9,5 @@ pub mod CheapestPath
 pub mod ShortestPath
 pub mod PathWriting
 pub mod Lookup
+pub mod Leaving
 pub mod Roads

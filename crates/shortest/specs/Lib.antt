@@ -2,6 +2,7 @@
 pub mod Weight
 pub mod Relaxation
 pub mod ShortestPath
+pub mod Leaving
 pub mod Contracts
 -- What is proved about them.
 pub mod Laws
