@@ -3,6 +3,7 @@ pub mod LastArc
 pub mod Weight
 pub mod Outside
 pub mod Relaxation
+pub mod Columns
 pub mod Rank
 pub mod FirstNumber
 pub mod CheapestPath
