@@ -90,6 +90,16 @@ fn enter(m: &[u64; 64], s: u64, q: usize, cost: &mut [u64; 256], from: &mut [u8;
     from[there] = e;
 }
 
+// The same: for a component that is in the set nothing is looked up.
+fn enter_new(m: &[u64; 64], s: u64, q: usize, cost: &mut [u64; 256], from: &mut [u8; 256])
+    requires { ⌜ (s < 256) × (q < 8) ⌝ }
+    ensures { λ r. ⌜ (now (cost .exit), now (from .exit)) ≡ enterBy (now (m .entry)) s (now (cost .entry), now (from .entry)) q ⌝ }
+{
+    if !is_in(s, q) {
+        enter(m, s, q, cost, from);
+    }
+}
+
 // Each component that is not in set number i is entered from it.
 fn extend(m: &[u64; 64], i: usize, cost: &mut [u64; 256], from: &mut [u8; 256])
     requires { ⌜ i < 128 ⌝ }
@@ -97,7 +107,7 @@ fn extend(m: &[u64; 64], i: usize, cost: &mut [u64; 256], from: &mut [u8; 256])
 {
     let s = (2 * i + 1) as u64;
     for a in 0..7usize {
-        enter(m, s, a + 1, cost, from);
+        enter_new(m, s, a + 1, cost, from);
     }
 }
 
