@@ -4,7 +4,7 @@ use mathlib.Core.Bool.{Bool, true, false, cond}
 use mathlib.Core.List.{List}
 use Prim.Native.Nat.{ℕ, zero, suc, _+_, _*_, _-_, _/_, _%_, _^_, _≤_, _<_, min}
 use native.Mathlib.Omega.{arith}
-use borrow.Author.Tests.{lt-ltb, le-ltb, ne-eqb}
+use borrow.Author.Tests.{lt-ltb, le-ltb, eq-eqb, ne-eqb}
 use lib.Seq.{set-getD}
 use lib.Dec.{ltb}
 use lib.ListN.{getD, set, replicate}
@@ -16,13 +16,24 @@ use Rattle.ascent.specs.Offers.{Offers, part, reduced, costOf, offer, of
 use Rattle.ascent.specs.Tree.{Sets, holds, joined, isBetter, entry, enter, grown, shifted, walkBack, along}
 use Rattle.ascent.specs.Step.{areSame, step}
 
-pub move-is : (d : List (List ℕ)) (f : List ℕ) (up : Bool) (w base : ℕ) (x marks : List ℕ) (v : ℕ) {p c new mark : ℕ} → p ≡ backPlace up v w
-    → c ≡ asks up (getD f p 0) (cell d v w) (cell d w v) base → new ≡ follows up c (getD x v 0) → mark ≡ opened (getD x v 0) new (getD marks v 0)
-    → (set x v new, set marks v mark) ≡ moveVertex d f up w base (x, marks) v
-move-is d f up w base x marks v {p} {c} {new} {mark} ep ec en em =
-    let e : c ≡ demand d f up w base v = ec ∙ ap (λ q. asks up (getD f q 0) (cell d v w) (cell d w v) base) ep in
-    let n : new ≡ follows up (demand d f up w base v) (getD x v 0) = en ∙ ap (λ q. follows up q (getD x v 0)) e in
-    ap₂ (λ (p q : ℕ). (set x v p, set marks v q)) n (em ∙ ap (λ q. opened (getD x v 0) q (getD marks v 0)) n)
+-- a height that changes, and one that does not
+module _ (d : List (List ℕ)) (f : List ℕ) (up : Bool) (w base : ℕ) (x marks : List ℕ) (v : ℕ) {p c new : ℕ} (ep : p ≡ backPlace up v w) (ec : c ≡ asks up (getD f p 0) (cell d v w) (cell d w v) base)
+    (en : new ≡ follows up c (getD x v 0)) where
+  moved-is : (set x v new, set marks v (opened (getD x v 0) new (getD marks v 0))) ≡ moveVertex d f up w base (x, marks) v
+  moved-is =
+      let e : c ≡ demand d f up w base v = ec ∙ ap (λ q. asks up (getD f q 0) (cell d v w) (cell d w v) base) ep in
+      let n : new ≡ follows up (demand d f up w base v) (getD x v 0) = en ∙ ap (λ q. follows up q (getD x v 0)) e in
+      ap (λ (p : ℕ). (set x v p, set marks v (opened (getD x v 0) p (getD marks v 0)))) n
+
+  pub move-other : (new ≡ getD x v 0 → ⊥) → (set x v new, set marks v 1) ≡ moveVertex d f up w base (x, marks) v
+  move-other n = ap (λ (b : Bool). (set x v new, set marks v (cond b (getD marks v 0) 1))) (sym (ne-eqb (getD x v 0) new (λ e. n (sym e)))) ∙ moved-is
+
+  pub move-same : new ≡ getD x v 0 → (x, marks) ≡ moveVertex d f up w base (x, marks) v
+  move-same e =
+      ap₂ (λ (p q : List ℕ). (p, q)) (sym (set-getD x v 0)) (sym (set-getD marks v 0))
+      ∙ ap (λ (p : ℕ). (set x v p, set marks v (getD marks v 0))) (sym e)
+      ∙ ap (λ (b : Bool). (set x v new, set marks v (cond b (getD marks v 0) 1))) (sym (eq-eqb (getD x v 0) new (sym e)))
+      ∙ moved-is
 
 pub ask-none : (d : List (List ℕ)) (f : List ℕ) (up : Bool) (vs x marks : List ℕ) (w : ℕ) → getD marks w 0 ≤ 0 → (x, marks) ≡ ask d f up vs (x, marks) w
 unfolding ask
