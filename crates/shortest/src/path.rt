@@ -59,7 +59,11 @@ fn next_arc(arcs: &[[u16; 5]], chain: &[u16; 320], column: &[u32], v: usize) -> 
     let mut k = wide(chain[v]);
     while k < best {
         let h = wide(arcs[k][1]);
-        best = taken(leads(arcs[k][0], arcs[k][2], arcs[k][3], v, column[h], column[v]), k, best);
+        best = taken(
+            leads(arcs[k][0], arcs[k][2], arcs[k][3], v, column[h], column[v]),
+            k,
+            best,
+        );
         k = wide(chain[64 + k]);
     }
     best

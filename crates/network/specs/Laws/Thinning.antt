@@ -75,10 +75,10 @@ module _ (d : List (List ℕ)) (pairs held : List Bool) (i j : ℕ) (row columns
 
   short-between : j < 64 → cell d i j < far → ((k : ℕ) → k < 64 → getD row k 0 + getD columns (j * 64 + k) 0 ≡ cell d i j → ⊥) → (k : ℕ) → k < 64 → between d held i j k ≡ false
   short-between l f h k m = cases (flag held i k) (flag held k j) (eqb (cell d i j) (cell d i k + cell d k j)) (λ a b e.
-    let s : cell d i j ≡ cell d i k + cell d k j = eqb-true (cell d i j) (cell d i k + cell d k j) e in
-    let p : getD row k 0 ≡ cell d i k = row-is k m ∙ as-it-is (fewer (i * 64 + k) a) (omega arith) in
-    let q : getD columns (j * 64 + k) 0 ≡ cell d k j = column-is l k m ∙ as-it-is (fewer (k * 64 + j) b) (omega arith) in
-    h k m (omega arith))
+      let s : cell d i j ≡ cell d i k + cell d k j = eqb-true (cell d i j) (cell d i k + cell d k j) e in
+      let p : getD row k 0 ≡ cell d i k = row-is k m ∙ as-it-is (fewer (i * 64 + k) a) (omega arith) in
+      let q : getD columns (j * 64 + k) 0 ≡ cell d k j = column-is l k m ∙ as-it-is (fewer (k * 64 + j) b) (omega arith) in
+      h k m (omega arith))
     where
       cases : (a b c : Bool) → (a ≡ true → b ≡ true → c ≡ true → ⊥) → (a && b && c) ≡ false
       cases true true true g = absurd (g refl refl refl)

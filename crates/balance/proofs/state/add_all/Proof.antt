@@ -33,8 +33,7 @@ add-in-requires : tie.Need-add-in-requires Inv-loop μ-loop
 add-in-requires c κs =
     let at = c .before .before .before .before .before in
     let s = at .before .before .before .before .before .before in
-    let l = c .before .before .before .before .loop-test .taken in
-    (
+    let l = c .before .before .before .before .loop-test .taken in (
       s .pre .0,
       at .loop .inv .1,
       omega (arith, at .loop .inv .2, s .pre .3),

@@ -154,9 +154,11 @@ loop-again c =
     let s = v .before .before .before .before in
     let a = v .loop .inv .1 .most in
     let e = c .wide3 .ensures ∙ s .pre .1 .next (v .loop .k) (omega arith) in
-    let b = tested (s .args .arcs .now) (s .args .column .now) (s .args .v) (v .loop .k) (c .before .before .before .before .before .before .before .before .before .wide2 .ensures) (c .before .before .before .leads .ensures) in
-    (refl, subst⁻¹ (λ x. Meets (s .args .arcs .now) (s .args .column .now) (s .args .v) x (c .wide3 .result)) (c .before .before .taken .ensures)
-    (meets-more (s .args .arcs .now) (s .args .column .now) (s .args .v) (v .loop .inv .1) (omega arith) e (omega arith) (c .before .before .before .leads .result) b))
+    let b = tested (s .args .arcs .now) (s .args .column .now) (s .args .v) (v .loop .k) (c .before .before .before .before .before .before .before .before .before .wide2 .ensures) (c .before .before .before .leads .ensures) in (
+      refl,
+      subst⁻¹ (λ x. Meets (s .args .arcs .now) (s .args .column .now) (s .args .v) x (c .wide3 .result)) (c .before .before .taken .ensures)
+          (meets-more (s .args .arcs .now) (s .args .column .now) (s .args .v) (v .loop .inv .1) (omega arith) e (omega arith) (c .before .before .before .leads .result) b),
+    )
 
 returns : tie.Need-returns Inv-loop μ-loop
 returns c =
