@@ -1,15 +1,13 @@
 // The cheapest pair for each two components.
 use crate::heights::height;
-use balance::entries::lesser;
 use balance::entries::monus;
 use balance::entries::vertex;
 use integers::wide;
 ghost use mathlib.Core.Path.{_≡_};
-ghost use mathlib.Core.Bool.{cond};
-ghost use Prim.Native.Nat.{_<_, _≤_};
-ghost use lib.Dec.{ltb};
+ghost use Prim.Native.Nat.{_*_, _<_, _≤_};
 ghost use Rattle.balance.specs.Bounds.{AtMost};
 ghost use Rattle.balance.specs.Search.{beyond};
+ghost use Rattle.ascent.specs.Heights.{capped};
 ghost use Rattle.ascent.specs.Offers.{part, reduced, offer, offersFrom, offers as offersOf};
 
 // The component of a vertex.
@@ -28,33 +26,27 @@ fn reduce(d: u32, xi: u64, xj: u64) -> u64
     monus(d as u64 + xj, xi)
 }
 
-// new where a is below b, else old.
-fn taken(a: u64, b: u64, new: u16, old: u16) -> u16
-    ensures { λ r. ⌜ r ≡ cond (ltb a b) new old ⌝ }
-{
-    if a < b { new } else { old }
-}
-
-// The pair from i to j is offered.
+// The pair from i to j is offered. What is the tail's, its component's row and its height, is looked up once for all pairs from it.
 fn offer_pair(
     d: &[[u32; 64]; 64],
     x: &[u64; 64],
     component: &[u8; 64],
     i: usize,
+    row: usize,
+    xi: u64,
     j: usize,
     m: &mut [u64; 64],
     at: &mut [u16; 64],
 )
-    requires { ⌜ (i < 64) × (j < 64) ⌝ }
+    requires { ⌜ (i < 64) × (j < 64) × (row ≡ part (now component) i * 8) × (xi ≡ capped (now x) i) ⌝ }
     ensures { λ r. ⌜ (now (m .exit), now (at .exit)) ≡ offer (now (d .entry)) (now (x .entry)) (now (component .entry)) i (now (m .entry), now (at .entry)) j ⌝ }
 {
-    let l = part_of(component, i) * 8 + part_of(component, j);
-    let c = reduce(d[i][j], height(x, i), height(x, j));
-    let old = m[l];
-    let pair = (i * 64 + j) as u16;
-    let best = taken(c, old, pair, at[l]);
-    m[l] = lesser(c, old);
-    at[l] = best;
+    let l = row + part_of(component, j);
+    let c = reduce(d[i][j], xi, height(x, j));
+    if c < m[l] {
+        m[l] = c;
+        at[l] = (i * 64 + j) as u16;
+    }
 }
 
 // All pairs from i are offered.
@@ -70,10 +62,12 @@ fn offer_from(
     requires { ⌜ (i < 64) × AtMost 63 (now vs) ⌝ }
     ensures { λ r. ⌜ (now (m .exit), now (at .exit)) ≡ offersFrom (now (d .entry)) (now (x .entry)) (now (component .entry)) (now (vs .entry)) (now (m .entry), now (at .entry)) i ⌝ }
 {
+    let row = part_of(component, i) * 8;
+    let xi = height(x, i);
     let mut b: usize = 0;
     while b < vs.len() {
         let j = wide(vertex(vs, b));
-        offer_pair(d, x, component, i, j, m, at);
+        offer_pair(d, x, component, i, row, xi, j, m, at);
         b += 1;
     }
 }

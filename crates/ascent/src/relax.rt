@@ -10,7 +10,7 @@ ghost use Prim.Native.Nat.{_<_, _≤_};
 ghost use lib.Dec.{eqb};
 ghost use Rattle.balance.specs.Bounds.{AtMost};
 ghost use Rattle.balance.specs.Search.{beyond};
-ghost use Rattle.ascent.specs.Relax.{backPlace, isAhead, asks, follows, opened, moveVertex, moveAll, ask as askAll, sweep as sweepAll, areClosed, settled};
+ghost use Rattle.ascent.specs.Relax.{backPlace, isAhead, asks, follows, moveVertex, moveAll, ask as askAll, sweep as sweepAll, areClosed, settled};
 
 // Where the amount stands that decides what w asks of v.
 fn place(up: bool, v: usize, w: usize) -> usize
@@ -54,13 +54,6 @@ fn moved(up: bool, c: u64, old: u64) -> u64
     lesser(c, old)
 }
 
-// 1 where the height changed.
-fn marked(old: u64, new: u64, mark: u8) -> u8
-    ensures { λ r. ⌜ r ≡ opened old new mark ⌝ }
-{
-    if old == new { mark } else { 1 }
-}
-
 // v follows what w asks.
 fn move_vertex(
     d: &[[u32; 64]; 64],
@@ -79,9 +72,10 @@ fn move_vertex(
     let c = asked(up, back, d[v][w], d[w][v], base);
     let old = x[v];
     let new = moved(up, c, old);
-    let mark = marked(old, new, marks[v]);
-    x[v] = new;
-    marks[v] = mark;
+    if new != old {
+        x[v] = new;
+        marks[v] = 1;
+    }
 }
 
 // All follow what w asks.

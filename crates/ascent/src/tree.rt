@@ -5,10 +5,11 @@ use balance::entries::lesser;
 use balance::entries::monus;
 use integers::wide;
 ghost use mathlib.Core.Path.{_≡_};
-ghost use mathlib.Core.Bool.{cond};
+ghost use mathlib.Core.Bool.{cond, _&&_};
 ghost use Prim.Native.Nat.{_^_, _<_, _≤_};
+ghost use lib.Dec.{ltb};
 ghost use Rattle.balance.specs.Search.{beyond};
-ghost use Rattle.ascent.specs.Tree.{holds, cheaper as cheaperOf, entry as entryOf, isBetter, enter as enterBy, extend as extendBy, grown, shifted, walkBack, along};
+ghost use Rattle.ascent.specs.Tree.{holds, entry as entryOf, isBetter, enter as enterBy, extend as extendBy, grown, shifted, walkBack, along};
 
 // The set of component q alone.
 pub(crate) fn bit(q: usize) -> u64
@@ -26,27 +27,35 @@ fn is_in(s: u64, q: usize) -> bool
     s & bit(q) != 0
 }
 
-// The cheaper of the offers to q from r and from p.
-fn cheaper(m: &[u64; 64], s: u64, q: usize, r: usize, p: usize) -> usize
-    requires { ⌜ (q < 8) × (r < 8) × (p < 8) ⌝ }
-    ensures { λ e. ⌜ (e ≡ cheaperOf (now (m .entry)) s q r p) × (e < 8) ⌝ }
+// Whether component p is in the set s, and its offer is below the lowest so far.
+fn undercuts(s: u64, p: usize, c: u64, low: u64) -> bool
+    requires { ⌜ p < 8 ⌝ }
+    ensures { λ r. ⌜ r ≡ (holds s p && ltb c low) ⌝ }
 {
     if is_in(s, p) {
-        if m[p * 8 + q] < m[r * 8 + q] {
-            return p;
-        }
+        return c < low;
     }
-    r
+    false
 }
 
-// Where q is entered from, out of the set s.
+fn pick_component(b: bool, new: usize, old: usize) -> usize
+    ensures { λ r. ⌜ r ≡ cond b new old ⌝ }
+{
+    if b { new } else { old }
+}
+
+// Where q is entered from, out of the set s. The lowest offer is held beside the component that makes it.
 fn entry(m: &[u64; 64], s: u64, q: usize) -> usize
     requires { ⌜ q < 8 ⌝ }
     ensures { λ r. ⌜ (r ≡ entryOf (now (m .entry)) s q) × (r < 8) ⌝ }
 {
     let mut r: usize = 0;
-    for p in 0..8 {
-        r = cheaper(m, s, q, r, p);
+    let mut low = m[q];
+    for p in 0..8usize {
+        let c = m[p * 8 + q];
+        let b = undercuts(s, p, c, low);
+        low = pick(b, c, low);
+        r = pick_component(b, p, r);
     }
     r
 }
@@ -90,6 +99,16 @@ fn enter(m: &[u64; 64], s: u64, q: usize, cost: &mut [u64; 256], from: &mut [u8;
     from[there] = e;
 }
 
+// The same: for a component that is in the set nothing is looked up.
+fn enter_new(m: &[u64; 64], s: u64, q: usize, cost: &mut [u64; 256], from: &mut [u8; 256])
+    requires { ⌜ (s < 256) × (q < 8) ⌝ }
+    ensures { λ r. ⌜ (now (cost .exit), now (from .exit)) ≡ enterBy (now (m .entry)) s (now (cost .entry), now (from .entry)) q ⌝ }
+{
+    if !is_in(s, q) {
+        enter(m, s, q, cost, from);
+    }
+}
+
 // Each component that is not in set number i is entered from it.
 fn extend(m: &[u64; 64], i: usize, cost: &mut [u64; 256], from: &mut [u8; 256])
     requires { ⌜ i < 128 ⌝ }
@@ -97,7 +116,7 @@ fn extend(m: &[u64; 64], i: usize, cost: &mut [u64; 256], from: &mut [u8; 256])
 {
     let s = (2 * i + 1) as u64;
     for a in 0..7usize {
-        enter(m, s, a + 1, cost, from);
+        enter_new(m, s, a + 1, cost, from);
     }
 }
 

@@ -9,6 +9,7 @@ pub mod Arcs
 pub mod Multipliers
 pub mod Turns
 pub mod Direct
+pub mod Idle
 pub mod DirectBalance
 pub mod Plan
 pub mod Among

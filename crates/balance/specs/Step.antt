@@ -58,6 +58,9 @@ pub record State : Type 0 where
   pub cost : ℕ
   pub count : ℕ
 
+abbrev pub stateIn : List ℕ → List ℕ → ℕ → ℕ → State
+stateIn f u cost count = record { amounts = f; potentials = u; cost = cost; count = count }
+
 unfoldable pub empty : State
 empty = record { amounts = replicate 4096 0; potentials = replicate 64 0; cost = 0; count = 0 }
 

@@ -35,16 +35,15 @@ fn moved_by(back: u16, ahead: u16) -> u16
 }
 
 // One unit more along the way from h to t.
-pub(crate) fn augment_along(f: [u16; 4096], next: &[u8; 64], h: u8, t: u8) -> [u16; 4096]
-    requires { ⌜ (h < 64) × (t < 64) × AtMost 63 (now next) × AtMost limit f ⌝ }
-    ensures { λ r. ⌜ r ≡ augment (now (next .entry)) t 64 f h ⌝ }
+pub(crate) fn augment_along(g: &mut [u16; 4096], next: &[u8; 64], h: u8, t: u8)
+    requires { ⌜ (h < 64) × (t < 64) × AtMost 63 (now next) × AtMost limit (now g) ⌝ }
+    ensures { λ r. ⌜ now (g .exit) ≡ augment (now (next .entry)) t 64 (now (g .entry)) h ⌝ }
 {
-    let mut g = f;
     let mut v = h;
     let mut k: usize = 0;
     while k < 64 {
         if v == t {
-            return g;
+            return;
         }
         let i = wide(v);
         let w = following(next, i);
@@ -56,7 +55,6 @@ pub(crate) fn augment_along(f: [u16; 4096], next: &[u8; 64], h: u8, t: u8) -> [u
         v = w;
         k += 1;
     }
-    g
 }
 
 // The potentials, raised by the distances, by no more than `most`.

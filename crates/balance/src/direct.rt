@@ -54,6 +54,16 @@ fn bypass_from(f: &mut [u16; 4096], vs: &[u8], b: usize, a: usize)
     }
 }
 
+// The same: where a sends nothing to b, nothing is passed on.
+fn bypass_sent(f: &mut [u16; 4096], vs: &[u8], b: usize, a: usize)
+    requires { ⌜ Sparse (now vs) (now f) × AtMost 63 (now vs) × List·Memᴰ b (now vs) × List·Memᴰ a (now vs) ⌝ }
+    ensures { λ r. ⌜ now (f .exit) ≡ bypassFrom (now (vs .entry)) b (now (f .entry)) a ⌝ }
+{
+    if f[a * 64 + b] > 0 {
+        bypass_from(f, vs, b, a);
+    }
+}
+
 // b passes on nothing.
 fn bypass_vertex(f: &mut [u16; 4096], vs: &[u8], b: usize)
     requires { ⌜ Sparse (now vs) (now f) × AtMost 63 (now vs) × List·Memᴰ b (now vs) ⌝ }
@@ -62,7 +72,7 @@ fn bypass_vertex(f: &mut [u16; 4096], vs: &[u8], b: usize)
     let mut k: usize = 0;
     while k < vs.len() {
         let a = wide(vertex(vs, k));
-        bypass_from(f, vs, b, a);
+        bypass_sent(f, vs, b, a);
         k += 1;
     }
 }

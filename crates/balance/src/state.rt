@@ -8,7 +8,7 @@ ghost use mathlib.Core.Path.{_≡_};
 ghost use mathlib.Core.List.{List·Memᴰ};
 ghost use Prim.Native.Nat.{_+_, _<_, _≤_};
 ghost use lib.ListN.{length};
-ghost use Rattle.balance.specs.Step.{cell, empty as emptyState, add as addState, addAll as addAllStates, arcsOf};
+ghost use Rattle.balance.specs.Step.{cell, stateIn, empty as emptyState, add as addState, addAll as addAllStates, arcsOf};
 ghost use Rattle.balance.specs.Invariant.{Metric, Certified, AllIn, limit};
 ghost use Rattle.balance.specs.Records.{stateOf};
 
@@ -32,26 +32,55 @@ pub fn empty() -> Balance
     }
 }
 
-// One arc more: one unit more is sent from its head to its tail, along a cheapest residual path.
-pub fn add(s: Balance, d: &[[u32; 64]; 64], vs: &[u8], tail: u8, head: u8) -> Balance
-    requires { ⌜ Metric (cell (now d)) (now vs) × Certified (cell (now d)) (now vs) (stateOf s) × (s .count < limit) × List·Memᴰ tail (now vs) × List·Memᴰ head (now vs) ⌝ }
-    ensures { λ r. ⌜ stateOf r ≡ addState (cell (now (d .entry))) (now (vs .entry)) (stateOf s) tail head ⌝ }
+// The potentials and the cost after an arc.
+struct Added {
+    potentials: [u64; 64],
+    cost: u64,
+}
+
+// One arc more: one unit more is sent from its head to its tail, along a cheapest residual path. The amounts are changed in place.
+fn add_in(
+    f: &mut [u16; 4096],
+    u: &[u64; 64],
+    cost: u64,
+    count: u16,
+    d: &[[u32; 64]; 64],
+    vs: &[u8],
+    tail: u8,
+    head: u8,
+) -> Added
+    requires { ⌜ Metric (cell (now d)) (now vs) × Certified (cell (now d)) (now vs) (stateIn (now f) (now u) cost count) × (count < limit) × List·Memᴰ tail (now vs) × List·Memᴰ head (now vs) ⌝ }
+    ensures { λ r. ⌜ stateIn (now (f .exit)) (r .potentials) (r .cost) (count + 1) ≡ addState (cell (now (d .entry))) (now (vs .entry)) (stateIn (now (f .entry)) (now (u .entry)) cost count) tail head ⌝ }
 {
-    let found = search_towards(d, &s.amounts, &s.potentials, vs, tail, head, false);
+    let found = search_towards(d, f, u, vs, tail, head, false);
     let x = found.distance;
     let h = wide(head);
     let t = wide(tail);
     let most = x[h];
-    let u = raise_by(&x, most, &s.potentials, vs);
+    let raised = raise_by(&x, most, u, vs);
     let next = found.next;
-    let before = s.amounts;
-    let f = augment_along(before, &next, head, tail);
-    let sum = s.cost + u[h];
-    let cost = monus(sum, u[t]);
+    augment_along(f, &next, head, tail);
+    let sum = cost + raised[h];
+    let after = monus(sum, raised[t]);
+    Added {
+        potentials: raised,
+        cost: after,
+    }
+}
+
+// The same, of a state.
+pub fn add(s: Balance, d: &[[u32; 64]; 64], vs: &[u8], tail: u8, head: u8) -> Balance
+    requires { ⌜ Metric (cell (now d)) (now vs) × Certified (cell (now d)) (now vs) (stateOf s) × (s .count < limit) × List·Memᴰ tail (now vs) × List·Memᴰ head (now vs) ⌝ }
+    ensures { λ r. ⌜ stateOf r ≡ addState (cell (now (d .entry))) (now (vs .entry)) (stateOf s) tail head ⌝ }
+{
+    let mut f = s.amounts;
+    let u = s.potentials;
+    let more = add_in(&mut f, &u, s.cost, s.count, d, vs, tail, head);
+    let raised = more.potentials;
     Balance {
         amounts: f,
-        potentials: u,
-        cost: cost,
+        potentials: raised,
+        cost: more.cost,
         count: s.count + 1,
     }
 }
@@ -61,14 +90,22 @@ pub fn add_all(s: Balance, d: &[[u32; 64]; 64], vs: &[u8], tails: &[u8], heads: 
     requires { ⌜ Metric (cell (now d)) (now vs) × Certified (cell (now d)) (now vs) (stateOf s) × (length (now tails) ≡ length (now heads)) × (s .count + length (now tails) ≤ limit) × AllIn (now vs) (now tails) × AllIn (now vs) (now heads) ⌝ }
     ensures { λ r. ⌜ (stateOf r ≡ addAllStates (cell (now (d .entry))) (now (vs .entry)) (stateOf s) (arcsOf (now (tails .entry)) (now (heads .entry)))) × Certified (cell (now (d .entry))) (now (vs .entry)) (stateOf r) × (r .count ≡ s .count + length (now (tails .entry))) ⌝ }
 {
-    let mut b = s;
+    let mut f = s.amounts;
+    let mut u = s.potentials;
+    let mut cost = s.cost;
+    let mut count = s.count;
     let mut k: usize = 0;
     while k < tails.len() {
-        let t = tails[k];
-        let h = heads[k];
-        let more = add(b, d, vs, t, h);
-        b = more;
+        let more = add_in(&mut f, &u, cost, count, d, vs, tails[k], heads[k]);
+        u = more.potentials;
+        cost = more.cost;
+        count += 1;
         k += 1;
     }
-    b
+    Balance {
+        amounts: f,
+        potentials: u,
+        cost: cost,
+        count: count,
+    }
 }

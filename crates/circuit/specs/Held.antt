@@ -1,10 +1,10 @@
 -- How the code holds the circuit's state: one list of places for both lists, the walk from its start on, what is placed at its end; and a flag for each leg.
 use mathlib.Core.Path.{_≡_}
-use mathlib.Core.Bool.{Bool, _&&_}
+use mathlib.Core.Bool.{Bool, not, _&&_}
 use mathlib.Core.List.{List, [], _∷_}
 use Prim.Native.Nat.{ℕ, zero, suc, _+_, _*_, _≤_, _<_}
 use lib.ListN.{length, getD, drop}
-use lib.Dec.{eqb}
+use lib.Dec.{T, eqb}
 use Rattle.postman.specs.Lists.{below, firstIndex, occurrences}
 use Rattle.circuit.specs.Circuit.{step}
 
@@ -35,3 +35,9 @@ isUnused tails used v e = eqb (getD tails e 0) v && eqb (getD used e 0) 0
 unfoldable pub firstUnused : List ℕ → List ℕ → ℕ → ℕ
 unfolding firstIndex isUnused below
 firstUnused tails used v = firstIndex (isUnused tails used v) (below (length tails))
+
+-- A hint for each vertex: no leg out of it before its hint is unused.
+pub record Hints (tails used hints : List ℕ) : Type 0 where
+  pub long : length hints ≡ 256
+  pub within : (v : ℕ) → getD hints v 0 ≤ length tails
+  pub spent : (v k : ℕ) → k < getD hints v 0 → T (not (isUnused tails used v k))

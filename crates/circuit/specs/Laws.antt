@@ -5,6 +5,7 @@ pub mod Search
 pub mod Unused
 pub mod Circuit
 pub mod Held
+pub mod Hints
 pub mod Sum
 pub mod Units
 pub mod Cut

@@ -3,7 +3,7 @@ use mathlib.Core.Bool.{Bool, false, not, cond, _&&_}
 use mathlib.Core.List.{List, []}
 use Prim.Native.Nat.{ℕ, zero, suc, _+_, _*_}
 use lib.ListN.{getD, set}
-use lib.Dec.{eqb}
+use lib.Dec.{eqb, ltb}
 use Rattle.postman.specs.Lists.{anyOf, below}
 
 abbrev pub cell : List (List ℕ) → ℕ → ℕ → ℕ
@@ -15,6 +15,13 @@ flag held i j = getD held (i * 64 + j) false
 -- The pairs that thinning starts from: two required vertices, not the same.
 abbrev pub isPair : ℕ → ℕ → Bool → Bool → Bool
 isPair i j a b = not (eqb i j) && a && b
+
+-- The distance of a pair, for sums of 32 bits: 2 to the 30, which no path costs, of what is no pair or is at least as far.
+abbrev pub far : ℕ
+far = 1073741824
+
+abbrev pub nearby : Bool → ℕ → ℕ
+nearby pair d = cond (pair && ltb d far) d far
 
 -- (i, k) and (k, j) are held, and k is on a cheapest way from i to j.
 abbrev pub between : List (List ℕ) → List Bool → ℕ → ℕ → ℕ → Bool

@@ -4,9 +4,10 @@ use plan::Plan;
 ghost use mathlib.Core.Path.{_≡_};
 ghost use mathlib.Core.Bool.{cond};
 ghost use mathlib.Core.List.{map};
-ghost use Prim.Native.Nat.{_≤_};
+ghost use Prim.Native.Nat.{ℕ, _<_, _≤_};
 ghost use lib.IntN.{pos, _-ℤ_};
-ghost use Rattle.postman.specs.Lists.{delta, occurrences};
+ghost use lib.ListN.{getD};
+ghost use Rattle.postman.specs.Lists.{occurrences};
 ghost use Rattle.postman.specs.Plan.{WellFormed, isRequiredArc, requiredArcs};
 ghost use Rattle.postman.specs.Required.{requiredCost};
 ghost use Rattle.plan.specs.Records.{planValue, arcValue};
@@ -46,29 +47,29 @@ fn end_of(a: Arc, heads: bool) -> usize
     a.tail as usize
 }
 
-// 1 for a required arc with that end at v, else 0.
-fn ends_at(a: Arc, heads: bool, v: usize) -> u64
-    ensures { λ r. ⌜ r ≡ cond (isRequiredArc (arcValue a)) (delta v (endOf heads (arcValue a))) 0 ⌝ }
+// 1 for a required arc, else 0.
+fn counted(a: Arc) -> u64
+    ensures { λ r. ⌜ (r ≡ cond (isRequiredArc (arcValue a)) 1 0) × (r ≤ 1) ⌝ }
 {
     if plan::is_required(a) {
-        if v == end_of(a, heads) {
-            return 1;
-        }
+        return 1;
     }
     0
 }
 
-// How many required arcs have that end at v: the in-degree or the out-degree.
-fn degree(plan: Plan, heads: bool, v: usize) -> u64
+// How many required arcs have that end at each vertex: the in-degrees or the out-degrees.
+fn degrees(plan: Plan, heads: bool) -> [u64; 64]
     requires { ⌜ WellFormed (planValue plan) ⌝ }
-    ensures { λ r. ⌜ (r ≡ occurrences v (map (endOf heads) (requiredArcs (planValue plan)))) × (r ≤ 256) ⌝ }
+    ensures { λ r. ⌜ ((v : ℕ) → v < 64 → (getD r v 0 ≡ occurrences v (map (endOf heads) (requiredArcs (planValue plan)))) × (getD r v 0 ≤ 256)) ⌝ }
 {
-    let mut count: u64 = 0;
+    let mut counts = [0u64; 64];
     let m = plan.m as usize;
     for k in 0..m {
-        count += ends_at(plan.arcs[k], heads, v);
+        let a = plan.arcs[k];
+        let e = end_of(a, heads);
+        counts[e] = counts[e] + counted(a);
     }
-    count
+    counts
 }
 
 fn difference(into: u64, out: u64) -> i64
@@ -83,9 +84,11 @@ pub fn imbalance(plan: Plan) -> [i64; 64]
     requires { ⌜ WellFormed (planValue plan) ⌝ }
     ensures { λ r. ⌜ IsImbalance (planValue plan) r ⌝ }
 {
+    let into = degrees(plan, true);
+    let out = degrees(plan, false);
     let mut d = [0i64; 64];
     for v in 0..64 {
-        let x = difference(degree(plan, true, v), degree(plan, false, v));
+        let x = difference(into[v], out[v]);
         d[v] = x;
     }
     d

@@ -54,7 +54,8 @@ fn one_path(p: Plan, t: &[[u32; 64]; 64], i: usize, j: usize, places: &mut [u16]
     let n = p.n as usize;
     let rows: &[[u32; 64]] = t;
     let column = shortest::path::column_to(rows, j);
-    shortest::path::path(&arcs[..m], &column[..n], i, j, places, 0)
+    let chain = shortest::path::chain_of(&arcs[..m]);
+    shortest::path::path(&arcs[..m], &chain, &column[..n], i, j, places, 0)
 }
 
 // The path from i to j, where there is one.

@@ -1,5 +1,7 @@
 // Least weights of a plan's paths: rows by rounds of relaxing, and the table of all rows. An arc weighs 64 × its cost + 1, so that a lightest path is a cheapest one, of the
 // fewest arcs.
+use crate::columns::row_from;
+use crate::columns::settled;
 use plan::Arc;
 use plan::Plan;
 ghost use mathlib.Core.Path.{_≡_};
@@ -16,7 +18,7 @@ ghost use Rattle.shortest.specs.Contracts.{IsRow, AreWeights};
 const NO_PATH: u32 = 4294967295;
 
 // What an arc adds to a path: a closed arc leads nowhere.
-fn arc_weight(a: Arc) -> u32
+pub(crate) fn arc_weight(a: Arc) -> u32
     ensures { λ r. ⌜ r ≡ weight (heavy (arcValue a)) ⌝ }
 {
     if plan::is_open(a) {
@@ -27,7 +29,7 @@ fn arc_weight(a: Arc) -> u32
 }
 
 // The least of c and a + b. The sum is formed only where it stays below "no path".
-fn shorter(a: u32, b: u32, c: u32) -> u32
+pub(crate) fn shorter(a: u32, b: u32, c: u32) -> u32
     ensures { λ r. ⌜ r ≡ «capped-sum» a b c ⌝ }
 {
     if a < NO_PATH - b {
@@ -90,9 +92,10 @@ pub fn table(plan: Plan) -> [[u32; 64]; 64]
     requires { ⌜ WellFormed (planValue plan) ⌝ }
     ensures { λ r. ⌜ AreWeights (planValue plan) r ⌝ }
 {
+    let c = settled(plan);
     let mut t = [[0u32; 64]; 64];
     for i in 0..64 {
-        let r = row(plan, i);
+        let r = row_from(&c, i);
         t[i] = r;
     }
     t

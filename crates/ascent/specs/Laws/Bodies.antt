@@ -4,7 +4,8 @@ use mathlib.Core.Bool.{Bool, true, false, cond}
 use mathlib.Core.List.{List}
 use Prim.Native.Nat.{ℕ, zero, suc, _+_, _*_, _-_, _/_, _%_, _^_, _≤_, _<_, min}
 use native.Mathlib.Omega.{arith}
-use borrow.Author.Tests.{lt-ltb, le-ltb, ne-eqb}
+use borrow.Author.Tests.{lt-ltb, le-ltb, eq-eqb, ne-eqb}
+use lib.Seq.{set-getD}
 use lib.Dec.{ltb}
 use lib.ListN.{getD, set, replicate}
 use Rattle.balance.specs.Search.{beyond}
@@ -12,16 +13,27 @@ use Rattle.balance.specs.Step.{cell}
 use Rattle.ascent.specs.Heights.{capped, carried}
 use Rattle.ascent.specs.Relax.{backPlace, asks, follows, opened, demand, moveVertex, moveAll, ask, sweep, areClosed, sweeps, settled}
 use Rattle.ascent.specs.Offers.{Offers, part, reduced, costOf, offer, offers}
-use Rattle.ascent.specs.Tree.{Sets, isBetter, entry, enter, grown, shifted, walkBack, along}
+use Rattle.ascent.specs.Tree.{Sets, holds, joined, isBetter, entry, enter, grown, shifted, walkBack, along}
 use Rattle.ascent.specs.Step.{areSame, step}
 
-pub move-is : (d : List (List ℕ)) (f : List ℕ) (up : Bool) (w base : ℕ) (x marks : List ℕ) (v : ℕ) {p c new mark : ℕ} → p ≡ backPlace up v w
-    → c ≡ asks up (getD f p 0) (cell d v w) (cell d w v) base → new ≡ follows up c (getD x v 0) → mark ≡ opened (getD x v 0) new (getD marks v 0)
-    → (set x v new, set marks v mark) ≡ moveVertex d f up w base (x, marks) v
-move-is d f up w base x marks v {p} {c} {new} {mark} ep ec en em =
-    let e : c ≡ demand d f up w base v = ec ∙ ap (λ q. asks up (getD f q 0) (cell d v w) (cell d w v) base) ep in
-    let n : new ≡ follows up (demand d f up w base v) (getD x v 0) = en ∙ ap (λ q. follows up q (getD x v 0)) e in
-    ap₂ (λ (p q : ℕ). (set x v p, set marks v q)) n (em ∙ ap (λ q. opened (getD x v 0) q (getD marks v 0)) n)
+-- a height that changes, and one that does not
+module _ (d : List (List ℕ)) (f : List ℕ) (up : Bool) (w base : ℕ) (x marks : List ℕ) (v : ℕ) {p c new : ℕ} (ep : p ≡ backPlace up v w) (ec : c ≡ asks up (getD f p 0) (cell d v w) (cell d w v) base)
+    (en : new ≡ follows up c (getD x v 0)) where
+  moved-is : (set x v new, set marks v (opened (getD x v 0) new (getD marks v 0))) ≡ moveVertex d f up w base (x, marks) v
+  moved-is =
+      let e : c ≡ demand d f up w base v = ec ∙ ap (λ q. asks up (getD f q 0) (cell d v w) (cell d w v) base) ep in
+      let n : new ≡ follows up (demand d f up w base v) (getD x v 0) = en ∙ ap (λ q. follows up q (getD x v 0)) e in
+      ap (λ (p : ℕ). (set x v p, set marks v (opened (getD x v 0) p (getD marks v 0)))) n
+
+  pub move-other : (new ≡ getD x v 0 → ⊥) → (set x v new, set marks v 1) ≡ moveVertex d f up w base (x, marks) v
+  move-other n = ap (λ (b : Bool). (set x v new, set marks v (cond b (getD marks v 0) 1))) (sym (ne-eqb (getD x v 0) new (λ e. n (sym e)))) ∙ moved-is
+
+  pub move-same : new ≡ getD x v 0 → (x, marks) ≡ moveVertex d f up w base (x, marks) v
+  move-same e =
+      ap₂ (λ (p q : List ℕ). (p, q)) (sym (set-getD x v 0)) (sym (set-getD marks v 0))
+      ∙ ap (λ (p : ℕ). (set x v p, set marks v (getD marks v 0))) (sym e)
+      ∙ ap (λ (b : Bool). (set x v new, set marks v (cond b (getD marks v 0) 1))) (sym (eq-eqb (getD x v 0) new (sym e)))
+      ∙ moved-is
 
 pub ask-none : (d : List (List ℕ)) (f : List ℕ) (up : Bool) (vs x marks : List ℕ) (w : ℕ) → getD marks w 0 ≤ 0 → (x, marks) ≡ ask d f up vs (x, marks) w
 unfolding ask
@@ -32,15 +44,33 @@ pub ask-some : (d : List (List ℕ)) (f : List ℕ) (up : Bool) (vs x marks : Li
 unfolding ask
 ask-some d f up vs x marks w l eb er = er ∙ ap (λ q. moveAll d f up vs w q (x, set marks w 0)) eb ∙ rw (lt-ltb 0 (getD marks w 0) l)
 
-pub offer-is : (d : List (List ℕ)) (x component : List ℕ) (i : ℕ) (m at : List ℕ) (j : ℕ) {pi pj hi hj c low best : ℕ} → pi ≡ part component i → pj ≡ part component j
-    → hi ≡ capped x i → hj ≡ capped x j → c ≡ reduced (cell d i j) hi hj → best ≡ cond (ltb c (getD m (pi * 8 + pj) 0)) (i * 64 + j) (getD at (pi * 8 + pj) 0)
-    → low ≡ min c (getD m (pi * 8 + pj) 0) → (set m (pi * 8 + pj) low, set at (pi * 8 + pj) best) ≡ offer d x component i (m, at) j
-offer-is d x component i m at j {pi} {pj} {hi} {hj} {c} {low} {best} ei ej ehi ehj ec eb el =
-    let e : c ≡ costOf d x component i j = ec ∙ ap₂ (λ (p q : ℕ). reduced (cell d i j) p q) ehi ehj in
-    let l : pi * 8 + pj ≡ part component i * 8 + part component j = ap₂ (λ (p q : ℕ). p * 8 + q) ei ej in
-    ap₂ (λ (p q : ℕ). (set m (pi * 8 + pj) p, set at (pi * 8 + pj) q)) (el ∙ ap (λ q. min q (getD m (pi * 8 + pj) 0)) e)
-    (eb ∙ ap (λ q. cond (ltb q (getD m (pi * 8 + pj) 0)) (i * 64 + j) (getD at (pi * 8 + pj) 0)) e)
-    ∙ ap (λ n. (set m n (min (costOf d x component i j) (getD m n 0)), set at n (cond (ltb (costOf d x component i j) (getD m n 0)) (i * 64 + j) (getD at n 0)))) l
+-- a pair that is cheaper is noted; one that is not leaves all as it stands
+module _ (d : List (List ℕ)) (x component : List ℕ) (i : ℕ) (m at : List ℕ) (j : ℕ) {row pj hi hj c : ℕ} (er : row ≡ part component i * 8) (ej : pj ≡ part component j) (ehi : hi ≡ capped x i)
+    (ehj : hj ≡ capped x j) (ec : c ≡ reduced (cell d i j) hi hj) where
+  place-is : row + pj ≡ part component i * 8 + part component j
+  place-is = ap₂ _+_ er ej
+
+  cost-is : c ≡ costOf d x component i j
+  cost-is = ec ∙ ap₂ (λ (p q : ℕ). reduced (cell d i j) p q) ehi ehj
+
+  written : (set m (row + pj) (min c (getD m (row + pj) 0)), set at (row + pj) (cond (ltb c (getD m (row + pj) 0)) (i * 64 + j) (getD at (row + pj) 0))) ≡ offer d x component i (m, at) j
+  written =
+      ap₂ (λ (n c : ℕ). (set m n (min c (getD m n 0)), set at n (cond (ltb c (getD m n 0)) (i * 64 + j) (getD at n 0)))) place-is cost-is
+
+  pub offer-less : c < getD m (row + pj) 0 → (set m (row + pj) c, set at (row + pj) (i * 64 + j)) ≡ offer d x component i (m, at) j
+  offer-less l =
+      let low : c ≡ min c (getD m (row + pj) 0) = omega arith in
+      ap (λ n. (set m (row + pj) n, set at (row + pj) (i * 64 + j))) low
+      ∙ ap (λ (b : Bool). (set m (row + pj) (min c (getD m (row + pj) 0)), set at (row + pj) (cond b (i * 64 + j) (getD at (row + pj) 0)))) (sym (lt-ltb c (getD m (row + pj) 0) l))
+      ∙ written
+
+  pub offer-not : getD m (row + pj) 0 ≤ c → (m, at) ≡ offer d x component i (m, at) j
+  offer-not l =
+      let low : getD m (row + pj) 0 ≡ min c (getD m (row + pj) 0) = omega arith in
+      ap₂ (λ (p q : List ℕ). (p, q)) (sym (set-getD m (row + pj) 0)) (sym (set-getD at (row + pj) 0))
+      ∙ ap (λ n. (set m (row + pj) n, set at (row + pj) (getD at (row + pj) 0))) low
+      ∙ ap (λ (b : Bool). (set m (row + pj) (min c (getD m (row + pj) 0)), set at (row + pj) (cond b (i * 64 + j) (getD at (row + pj) 0)))) (sym (le-ltb c (getD m (row + pj) 0) l))
+      ∙ written
 
 pub enter-is : (m : List ℕ) (s : ℕ) (cost from : List ℕ) (q : ℕ) {p g lc lm e nc : ℕ} {b : Bool} → p ≡ entry m s q → g ≡ 2 ^ q
     → lc ≡ min (getD cost (s / 2) 0) beyond → lm ≡ min (getD m (p * 8 + q) 0) beyond → b ≡ isBetter s q (lc + lm) (getD cost ((s + g) / 2) 0)
@@ -48,6 +78,12 @@ pub enter-is : (m : List ℕ) (s : ℕ) (cost from : List ℕ) (q : ℕ) {p g lc
     → (set cost ((s + g) / 2) nc, set from ((s + g) / 2) e) ≡ enter m s (cost, from) q
 unfolding enter
 enter-is m s cost from q {p} {g} {lc} {lm} {e} {nc} {b} ep eg elc elm eb ee en = rw (en, ee, eb, elc, elm, ep, eg)
+
+-- a component that is in the set is not entered
+pub enter-in : (m : List ℕ) (s : ℕ) (cost from : List ℕ) (q : ℕ) → holds s q ≡ true → (cost, from) ≡ enter m s (cost, from) q
+unfolding enter
+enter-in m s cost from q e =
+    ap₂ (λ (p q : List ℕ). (p, q)) (sym (set-getD cost (joined s q) 0)) (sym (set-getD from (joined s q) 0)) ∙ rw e
 
 pub shift-is : (x : List ℕ) (pair s : ℕ) {a b t : ℕ} → a ≡ min (getD x (pair % 64) 0) beyond → b ≡ min (getD (set x (pair % 64) (a + s)) (pair / 64 % 64) 0) beyond → t ≡ b - s
     → set (set x (pair % 64) (a + s)) (pair / 64 % 64) t ≡ shifted x pair s

@@ -62,3 +62,9 @@ module _ {S : Type 0} (g : S → ℕ → S) (vs : List ℕ) (Q : S → Type 0) (
 
     pub fold-each : (s : S) → Q s → (w : ℕ) → List·Memᴰ w vs → R w (fold g s vs)
     fold-each s q = turns-bring vs (λ v m. m) s q
+
+-- turns that change nothing
+pub fold-idle : {S : Type 0} (g : S → ℕ → S) (s : S) (vs : List ℕ) → ((v : ℕ) → g s v ≡ s) → fold g s vs ≡ s
+unfolding fold
+fold-idle g s [] h = refl
+fold-idle g s (v ∷ vs) h = ap (λ t. fold g t vs) (h v) ∙ fold-idle g s vs h

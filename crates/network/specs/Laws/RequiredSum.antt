@@ -1,12 +1,15 @@
 -- One more arc adds its term; all of them make R, or the number of required arcs that enter or leave a vertex. By induction on the list.
-use mathlib.Core.Path.{_≡_, refl, sym, ap, ap₂, _∙_}
-use mathlib.Core.Bool.{true, false, cond}
+use mathlib.Core.Path.{_≡_, refl, sym, ap, ap₂, _∙_, subst⁻¹}
+use mathlib.Core.Bool.{Bool, true, false, cond}
 use mathlib.Core.List.{List, [], _∷_, _++_, map, append-nil}
 use Prim.Native.Nat.{ℕ, _+_, _*_, _≤_, _<_}
-use native.Mathlib.Nat.{add-mul}
+use native.Mathlib.Nat.{add-mul, add-zero}
+use native.Mathlib.Decide.{ℕ-discrete}
 use native.Mathlib.Omega.{arith}
-use lib.ListN.{take}
-use lib.Dec.{T-not}
+use lib.ListN.{length, getD, set, take, replicate, length-set, length-replicate, getD-replicate}
+use lib.Seq.{getD-set-same, getD-set-other}
+use borrow.Author.Tests.{eq-eqb, ne-eqb}
+use lib.Dec.{T-not, eqb}
 use lib.IntN.{pos, _-ℤ_}
 use Rattle.postman.specs.Lists.{select, sumOf, delta, occurrences}
 use Rattle.postman.specs.Plan.{Arc, Plan, isRequiredArc, requiredArcs, IsArc, WellFormed}
@@ -98,6 +101,58 @@ module _ (r : PlanRecord) (ok : WellFormed (planValue r)) {b m k sum : ℕ} (l :
 
   pub sum-ends : (f : Arc → ℕ) (v : ℕ) → Summed (λ a. delta v (f a)) b r m k sum → sum ≡ occurrences v (map f (requiredArcs (planValue r)))
   sum-ends f v h = whole h ∙ sum-occurrences f v (requiredArcs (planValue r))
+
+-- ---- the counts of all vertices: an arc adds its term at its end, and nothing elsewhere
+
+pub record Degrees (heads : Bool) (r : PlanRecord) (m k : ℕ) (counts : List ℕ) : Type 0 where
+  pub all : m ≡ r .m
+  pub before : k ≤ m
+  pub long : length counts ≡ 64
+  pub each : (v : ℕ) → v < 64 → Summed (λ a. delta v (endOf heads a)) 1 r m k (getD counts v 0)
+
+pub degrees-none : (heads : Bool) (r : PlanRecord) → Degrees heads r (r .m) 0 (replicate {A = ℕ} 64 0)
+degrees-none heads r = record {
+  all = refl;
+  before = omega arith;
+  long = length-replicate {A = ℕ} 64 0;
+  each = λ v l. subst⁻¹ (Summed (λ a. delta v (endOf heads a)) 1 r (r .m) 0) (getD-replicate {A = ℕ} 64 v 0 0 l) (summed-none (λ a. delta v (endOf heads a)) 1 r);
+}
+
+at-most-one : (heads : Bool) (v n : ℕ) (a : Arc) → IsArc n a → delta v (endOf heads a) ≤ 1
+unfolding delta
+at-most-one heads v n a h = cond-ind (eqb v (endOf heads a)) 1 0 (λ x. x ≤ 1) (λ u. omega arith) (λ u. omega arith)
+
+module _ (heads : Bool) (r : PlanRecord) (ok : WellFormed (planValue r)) {m k : ℕ} {counts : List ℕ} (h : Degrees heads r m k counts) (l : k < m) {e x : ℕ} (ee : e ≡ endOf heads (recordAt (r .arcs) k))
+    (low : e < 64) (ex : x ≡ cond (isRequiredArc (recordAt (r .arcs) k)) 1 0) where
+  -- the term of the end, and of another vertex
+  own : x ≡ cond (isRequiredArc (recordAt (r .arcs) k)) (delta e (endOf heads (recordAt (r .arcs) k))) 0
+  unfolding delta
+  own = ex ∙ ap (λ n. cond (isRequiredArc (recordAt (r .arcs) k)) n 0) (sym (ap (λ (b : Bool). cond b 1 0) (eq-eqb e _ ee)))
+
+  other : (v : ℕ) → (v ≡ e → ⊥) → _≡_ {A = ℕ} 0 (cond (isRequiredArc (recordAt (r .arcs) k)) (delta v (endOf heads (recordAt (r .arcs) k))) 0)
+  unfolding delta
+  other v n = either (isRequiredArc (recordAt (r .arcs) k)) (sym (ap (λ (b : Bool). cond b 1 0) (ne-eqb v _ (λ q. n (q ∙ sym ee)))))
+    where
+      either : (b : Bool) {z : ℕ} → 0 ≡ z → 0 ≡ cond b z 0
+      either true q = q
+      either false q = refl
+
+  pub degrees-more : Degrees heads r m (k + 1) (set counts e (getD counts e 0 + x))
+  degrees-more = record {
+    all = h .all;
+    before = omega arith;
+    long = length-set counts e (getD counts e 0 + x) ∙ h .long;
+    each = λ v g. elim (ℕ-discrete v e) [
+      | yes q ↦ rw q (subst⁻¹ (Summed (λ a. delta e (endOf heads a)) 1 r m (k + 1)) (getD-set-same counts e (getD counts e 0 + x) 0 (let s = h .long in omega arith))
+          (summed-more r ok (at-most-one heads e (r .n)) (h .each e low) l own))
+      | no q ↦ subst⁻¹ (Summed (λ a. delta v (endOf heads a)) 1 r m (k + 1)) (getD-set-other counts e v (getD counts e 0 + x) 0 q ∙ sym (add-zero (getD counts v 0)))
+          (summed-more r ok (at-most-one heads v (r .n)) (h .each v g) l (other v q))
+    ];
+  }
+
+  -- so that the sum is small
+  pub degrees-small : (getD counts e 0 ≤ k) × (k < r .m)
+  degrees-small = let a = h .all in let b = h .each e low .bounded in (omega arith, omega arith)
 
 -- D(v) is the number of required arcs into v, less the number of those out of v
 pub imbalance-degrees : (p : Plan) (v : ℕ)

@@ -1,15 +1,18 @@
 -- What each turn of thinning does to the flags, by what its search has found; and a turn more.
-use mathlib.Core.Path.{_≡_, refl, sym, ap, ap₂, _∙_}
-use mathlib.Core.List.{List}
+use mathlib.Core.Path.{_≡_, refl, sym, ap, ap₂, _∙_, subst, subst⁻¹}
+use mathlib.Core.List.{List, [], _∷_}
 use mathlib.Core.Bool.{Bool, true, false, not, cond, _&&_, and-false}
 use Prim.Native.Nat.{ℕ, zero, suc, _+_, _*_, _/_, _%_, _<_, _≤_}
 use native.Mathlib.Numerals.{add-one}
 use native.Mathlib.Omega.{arith}
-use lib.ListN.{set}
-use lib.Dec.{eqb}
-use borrow.Author.Tests.{not-true}
+use lib.ListN.{getD, set}
+use lib.Seq.{getD-set-other}
+use lib.Dec.{T, eqb, ltb, ltb→lt}
+use borrow.Author.Tests.{not-true, eqb-true, lt-ltb}
+use native.Mathlib.Decide.{ℕ-discrete}
+use Rattle.postman.specs.Laws.Tests.{cond-ind}
 use Rattle.postman.specs.Lists.{anyOf, below}
-use Rattle.network.specs.Thinning.{cell, flag, between, turnAt, rowThinned, rowsThinned}
+use Rattle.network.specs.Thinning.{cell, flag, far, nearby, between, turnAt, rowThinned, rowsThinned}
 use Rattle.network.specs.Laws.Search.{some-below, none-below}
 
 -- a conjunction that fails by a part, and one that holds by both
@@ -50,6 +53,61 @@ module _ (d : List (List ℕ)) (held : List Bool) (i j : ℕ) where
 
     pub via-found : flag held i k ≡ true → flag held k j ≡ true → eqb (cell d i j) (cell d i k + cell d k j) ≡ true → between d held i j k ≡ true
     via-found a b e = both (both a b) e
+
+-- what is held is among the pairs
+abbrev pub Fewer : List Bool → List Bool → Type 0
+Fewer pairs held = (x : ℕ) → getD held x false ≡ true → getD pairs x false ≡ true
+
+-- ---- where no distances add up to that of the pair, it is kept
+
+module _ (d : List (List ℕ)) (pairs held : List Bool) (i j : ℕ) (row columns : List ℕ) (fewer : Fewer pairs held)
+    (row-is : (k : ℕ) → k < 64 → getD row k 0 ≡ nearby (flag pairs i k) (cell d i k))
+    (columns-are : (x : ℕ) → x < 4096 → getD columns x 0 ≡ nearby (flag pairs (x % 64) (x / 64)) (cell d (x % 64) (x / 64))) where
+  -- a distance below 2 to the 30 stands as it is
+  as-it-is : {b : Bool} {n : ℕ} → b ≡ true → n < far → nearby b n ≡ n
+  as-it-is e l = rw (e, lt-ltb _ far l)
+
+  column-is : j < 64 → (k : ℕ) → k < 64 → getD columns (j * 64 + k) 0 ≡ nearby (flag pairs k j) (cell d k j)
+  column-is l k m =
+      let a : (j * 64 + k) % 64 ≡ k = omega arith in
+      let b : (j * 64 + k) / 64 ≡ j = omega arith in
+      columns-are (j * 64 + k) (omega arith) ∙ ap₂ (λ (p q : ℕ). nearby (flag pairs p q) (cell d p q)) a b
+
+  short-between : j < 64 → cell d i j < far → ((k : ℕ) → k < 64 → getD row k 0 + getD columns (j * 64 + k) 0 ≡ cell d i j → ⊥) → (k : ℕ) → k < 64 → between d held i j k ≡ false
+  short-between l f h k m = cases (flag held i k) (flag held k j) (eqb (cell d i j) (cell d i k + cell d k j)) (λ a b e.
+      let s : cell d i j ≡ cell d i k + cell d k j = eqb-true (cell d i j) (cell d i k + cell d k j) e in
+      let p : getD row k 0 ≡ cell d i k = row-is k m ∙ as-it-is (fewer (i * 64 + k) a) (omega arith) in
+      let q : getD columns (j * 64 + k) 0 ≡ cell d k j = column-is l k m ∙ as-it-is (fewer (k * 64 + j) b) (omega arith) in
+      h k m (omega arith))
+    where
+      cases : (a b c : Bool) → (a ≡ true → b ≡ true → c ≡ true → ⊥) → (a && b && c) ≡ false
+      cases true true true g = absurd (g refl refl refl)
+      cases true true false g = refl
+      cases true false c g = refl
+      cases false b c g = refl
+
+  pub turn-short : j < 64 → cell d i j < far → ((k : ℕ) → k < 64 → getD row k 0 + getD columns (j * 64 + k) 0 ≡ cell d i j → ⊥) → turnAt d held i j ≡ held
+  turn-short l f h = turn-keeps d held i j (short-between l f h)
+
+  -- the numbers are small
+  nearby-small : (b : Bool) (n : ℕ) → nearby b n ≤ far
+  nearby-small true n = cond-ind (ltb n far) n far (λ m. m ≤ far) (λ t. let l = ltb→lt n far t in omega arith) (λ t. omega arith)
+  nearby-small false n = omega arith
+
+  pub near-small : j < 64 → (k : ℕ) → k < 64 → (getD row k 0 ≤ far) × (getD columns (j * 64 + k) 0 ≤ far)
+  near-small l k m = (subst⁻¹ (λ n. n ≤ far) (row-is k m) (nearby-small (flag pairs i k) (cell d i k)), subst⁻¹ (λ n. n ≤ far) (column-is l k m) (nearby-small (flag pairs k j) (cell d k j)))
+
+-- whatever is dropped
+pub fewer-dropped : (pairs held : List Bool) (x : ℕ) → Fewer pairs held → Fewer pairs (set held x false)
+fewer-dropped pairs held x h y e = elim (ℕ-discrete y x) [
+  | yes q ↦ absurd (subst (λ (b : Bool). T b) (sym (rw q at e) ∙ dropped held x) tt)
+  | no n ↦ h y (sym (getD-set-other held x y false false n) ∙ e)
+]
+  where
+    dropped : (held : List Bool) (x : ℕ) → getD (set held x false) x false ≡ false
+    dropped [] x = refl
+    dropped (b ∷ held) zero = refl
+    dropped (b ∷ held) (suc x) = dropped held x
 
 -- ---- a turn more, and a row more
 

@@ -17,6 +17,7 @@ use Rattle.plan.specs.Rows.{arcIn, planIn}
 use Rattle.plan.specs.Laws.Records.{plan-vertices, record-vertices}
 use Rattle.plan.specs.Laws.Rows.{rows-length, rows-vertices, row-arc}
 use Rattle.shortest.specs.ShortestPath.{begins, nextArc, beginsIn, nextIn, shortestPath}
+use Rattle.shortest.specs.Leaving.{tailOf, IsChain}
 use Rattle.shortest.specs.Contracts.{IsColumn, AreRows, AreWeights}
 use Rattle.shortest.specs.Weight.{heavy, weighted}
 use Rattle.shortest.specs.Laws.Weight.{heavy-at}
@@ -60,6 +61,15 @@ module _ (n : ℕ) (rows : List (List ℕ)) (ok : WellFormed (planIn n rows)) wh
 pub few-rows : (arcs table : List (List ℕ)) → WellFormed (planIn (length table) arcs) → length table ≤ 64
 few-rows arcs table ok = let v = rows-vertices (length table) arcs in let n = ok .vertices in omega arith
 
+-- what a chain asks
+pub chain-ready : (arcs table : List (List ℕ)) → WellFormed (planIn (length table) arcs) → (length arcs ≤ 256) × ((k : ℕ) → k < length arcs → tailOf arcs k < 64)
+chain-ready arcs table ok =
+    let n = ok .vertices in
+    let m = ok .arc-count in
+    let e = rows-length (length table) arcs in
+    let v = rows-vertices (length table) arcs in
+    (omega arith, λ k l. let t = row-ends (length table) arcs ok k l .0 in omega arith)
+
 module _ (arcs table : List (List ℕ)) (column : List ℕ) (long : length column ≡ 64) (ok : WellFormed (planIn (length table) arcs)) where
   pub taken-length : length (take (length table) column) ≡ length table
   taken-length = let f = few-rows arcs table ok in length-take-le (length table) column (omega arith)
@@ -75,16 +85,18 @@ module _ (arcs table : List (List ℕ)) (column : List ℕ) (long : length colum
       getD-take (length table) column i 0 g ∙ entries i g ∙ rows i j h l
 
   -- what a lookup asks, of a path that the plan of the table has; and what it then writes is that path
-  pub taken-ready : (i j room at : ℕ) → AreRows (planIn (length table) arcs) table → ((i : ℕ) → i < length table → getD column i 0 ≡ getD (getD table i []) j 0)
+  pub taken-ready : (i j room at : ℕ) (chain : List ℕ) → IsChain arcs chain → AreRows (planIn (length table) arcs) table
+      → ((i : ℕ) → i < length table → getD column i 0 ≡ getD (getD table i []) j 0)
       → i < planIn (length table) arcs .n → j < planIn (length table) arcs .n → distance (planIn (length table) arcs) i j < noPath
       → at + length (shortestPath (planIn (length table) arcs) i j) ≤ room
       → let n = length (take (length table) column) in
-      (WellFormed (planIn n arcs) × IsColumn (planIn n arcs) j (take (length table) column)) × (((i < n) × (j < n) × (distance (planIn n arcs) i j < noPath)) × (at + length (shortestPath (planIn n arcs) i j) ≤ room))
-  taken-ready i j room at rows entries from to linked fits =
+      (WellFormed (planIn n arcs) × IsColumn (planIn n arcs) j (take (length table) column) × IsChain arcs chain)
+      × (((i < n) × (j < n) × (distance (planIn n arcs) i j < noPath)) × (at + length (shortestPath (planIn n arcs) i j) ≤ room))
+  taken-ready i j room at chain linked-arcs rows entries from to linked fits =
       let v = rows-vertices (length table) arcs in
       let f = few-rows arcs table ok in
       let l = taken-length in (
-        (subst⁻¹ WellFormed taken-plan ok, subst⁻¹ (λ (p : Plan). IsColumn p j (take (length table) column)) taken-plan (taken-column j (omega arith) rows entries)),
+        (subst⁻¹ WellFormed taken-plan ok, subst⁻¹ (λ (p : Plan). IsColumn p j (take (length table) column)) taken-plan (taken-column j (omega arith) rows entries), linked-arcs),
         ((omega arith, omega arith, subst⁻¹ (λ (p : Plan). distance p i j < noPath) taken-plan linked), subst⁻¹ (λ (p : Plan). at + length (shortestPath p i j) ≤ room) taken-plan fits),
       )
 

@@ -1,25 +1,34 @@
 -- The loop's state after so many turns is the model's. Assumes nothing.
-use mathlib.Core.Path.{_≡_, refl, _∙_}
-use Prim.Native.Nat.{_-_, _≤_}
+use mathlib.Core.Path.{_≡_, refl, ap, _∙_}
+use Prim.Native.Nat.{_*_, _-_, _≤_}
 use native.Mathlib.Omega.{arith}
 use lib.ListN.{length, getD}
 use Rattle.ascent.specs.Laws.Turns.{turn-at, end}
-use Rattle.ascent.specs.Offers.{offer, offersFrom}
+use Rattle.ascent.specs.Heights.{capped}
+use Rattle.ascent.specs.Offers.{part, offer, offersFrom}
 use Rattle.ascent.specs.Turns.{turns}
 use borrow.Author.Needs.{needs}
 use Rattle.ascent.proofs.offers.offer_from.Statement.{statement}
 use Rattle.ascent.proofs.offers.offer_from.Tie as tie
 
 abbrev Inv-loop : tie.InvT-loop
-Inv-loop d x component vs i m₀ at₀ b₀ m at b =
-    (b ≤ length vs) × ((m, at) ≡ turns (λ r a. offer d x component i r (getD vs a 0)) (m₀, at₀) b)
+Inv-loop d x component vs i m₀ at₀ row xi b₀ m at b = (b ≤ length vs) × (row ≡ part component i * 8) × (xi ≡ capped x i) × ((m, at) ≡ turns (λ r a. offer d x component i r (getD vs a 0)) (m₀, at₀) b)
 
 abbrev μ-loop : tie.MeasureT-loop
-μ-loop d x component vs i m₀ at₀ b₀ m at b = length vs - b
+μ-loop d x component vs i m₀ at₀ row xi b₀ m at b = length vs - b
+
+part-of-requires : tie.Need-part-of-requires Inv-loop μ-loop
+part-of-requires c κs = search needs
+
+mul-row : tie.Need-mul-row Inv-loop μ-loop
+mul-row c = search needs
+
+height-requires : tie.Need-height-requires Inv-loop μ-loop
+height-requires c κs = search needs
 
 loop-holds : tie.Need-loop-holds Inv-loop μ-loop
 unfolding turns
-loop-holds c = (omega arith, refl)
+loop-holds c = (omega arith, ap (λ n. n * 8) (c .before .part-of .ensures .0), c .height .ensures .0, refl)
 
 vertex-requires : tie.Need-vertex-requires Inv-loop μ-loop
 vertex-requires c κs = search needs
@@ -39,15 +48,17 @@ loop-less c = search needs
 loop-again : tie.Need-loop-again Inv-loop μ-loop
 loop-again c =
     let at = c .before .before .before .before .before .before in
-    let start = at .before .before in (
+    let start = at .before .before .before .before in (
       omega arith,
-      turn-at (λ r v. offer (start .args .d .now) (start .args .x .now) (start .args .component .now) (start .args .i) r v) (start .args .vs .now) ((start .args .m .now), (start .args .at .now)) (at .loop .b) (at .loop .inv .1) (c .before .before .before .wide .ensures ∙ c .before .before .before .before .vertex .ensures .0)
+      at .loop .inv .1,
+      at .loop .inv .2,
+      turn-at (λ r v. offer (start .args .d .now) (start .args .x .now) (start .args .component .now) (start .args .i) r v) (start .args .vs .now) ((start .args .m .now), (start .args .at .now)) (at .loop .b) (at .loop .inv .3) (c .before .before .before .wide .ensures ∙ c .before .before .before .before .vertex .ensures .0)
           (c .offer-pair .ensures),
     )
 
 returns : tie.Need-returns Inv-loop μ-loop
 unfolding offersFrom
-returns c = end _ _ (c .before .loop .b) (c .before .loop .inv .1) (c .before .loop .inv .0) (c .loop-test .left)
+returns c = end _ _ (c .before .loop .b) (c .before .loop .inv .3) (c .before .loop .inv .0) (c .loop-test .left)
 
 pub offer-from-spec : {M : Type 1} → statement M
 offer-from-spec =
@@ -55,6 +66,9 @@ offer-from-spec =
     (tie.spec
     Inv-loop
     μ-loop
+    part-of-requires
+    mul-row
+    height-requires
     loop-holds
     vertex-requires
     wide-requires

@@ -1,17 +1,11 @@
--- What the parts answer is the turn of the model. Assumes nothing.
-use Rattle.ascent.specs.Laws.Bodies.{offer-is}
+-- A pair that is cheaper is noted, and else nothing changes.
+use Rattle.ascent.specs.Laws.Bodies.{offer-less, offer-not}
 use borrow.Author.Needs.{needs}
 use Rattle.ascent.proofs.offers.offer_pair.Statement.{statement}
 use Rattle.ascent.proofs.offers.offer_pair.Tie as tie
 
 part-of-requires : tie.Need-part-of-requires
 part-of-requires c κs = search needs
-
-mul-l : tie.Need-mul-l
-mul-l c = search needs
-
-part-of-requires-2 : tie.Need-part-of-requires-2
-part-of-requires-2 c κs = search needs
 
 add-l : tie.Need-add-l
 add-l c = search needs
@@ -31,38 +25,14 @@ index-2-reduce c = search needs
 height-requires : tie.Need-height-requires
 height-requires c κs = search needs
 
-height-requires-2 : tie.Need-height-requires-2
-height-requires-2 c κs = search needs
-
 reduce-requires : tie.Need-reduce-requires
 reduce-requires c κs = search needs
 
-mul-old : tie.Need-mul-old
-mul-old c = search needs
+mul-if1 : tie.Need-mul-if1
+mul-if1 c = search needs
 
-element-copy-out-old : tie.Need-element-copy-out-old
-element-copy-out-old c = search needs
-
-mul-pair : tie.Need-mul-pair
-mul-pair c = search needs
-
-add-pair : tie.Need-add-pair
-add-pair c = search needs
-
-cast-pair : tie.Need-cast-pair
-cast-pair c = search needs
-
-mul-taken : tie.Need-mul-taken
-mul-taken c = search needs
-
-element-copy-out-taken : tie.Need-element-copy-out-taken
-element-copy-out-taken c = search needs
-
-taken-requires : tie.Need-taken-requires
-taken-requires c κs = search needs
-
-lesser-requires : tie.Need-lesser-requires
-lesser-requires c κs = search needs
+element-copy-out-if1 : tie.Need-element-copy-out-if1
+element-copy-out-if1 c = search needs
 
 mul-m : tie.Need-mul-m
 mul-m c = search needs
@@ -73,38 +43,50 @@ element-write-m c = search needs
 mul-at : tie.Need-mul-at
 mul-at c = search needs
 
+add-at : tie.Need-add-at
+add-at c = search needs
+
+cast-at : tie.Need-cast-at
+cast-at c = search needs
+
+mul-at-2 : tie.Need-mul-at-2
+mul-at-2 c = search needs
+
 element-write-at : tie.Need-element-write-at
 element-write-at c = search needs
 
 returns : tie.Need-returns
-returns c = offer-is (c .before .before .before .before .before .before .before .before .before .before .args .d .now) (c .before .before .before .before .before .before .before .before .before .before .args .x .now) (c .before .before .before .before .before .before .before .before .before .before .args .component .now) (c .before .before .before .before .before .before .before .before .before .before .args .i) (c .before .before .before .before .before .before .before .before .before .before .args .m .now) (c .before .before .before .before .before .before .before .before .before .before .args .at .now) (c .before .before .before .before .before .before .before .before .before .before .args .j) (c .before .before .before .before .before .before .before .before .before .part-of .ensures .0) (c .before .before .before .before .before .before .before .before .part-of2 .ensures .0) (c .before .before .before .before .before .before .height .ensures .0) (c .before .before .before .before .before .height2 .ensures .0) (c .before .before .before .before .reduce .ensures) (c .before .taken .ensures) (c .lesser .ensures)
+returns c =
+    let s = c .before .before .before .before .before .before in
+    let a = s .args in
+    offer-less (a .d .now) (a .x .now) (a .component .now) (a .i) (a .m .now) (a .at .now) (a .j) (s .pre .2) (c .before .before .before .before .before .part-of .ensures .0) (s .pre .3) (c .before .before .before .height .ensures .0) (c .before .before .reduce .ensures) (c .if1 .taken)
+
+returns-2 : tie.Need-returns-2
+returns-2 c =
+    let s = c .before .before .before .before .before .before in
+    let a = s .args in
+    offer-not (a .d .now) (a .x .now) (a .component .now) (a .i) (a .m .now) (a .at .now) (a .j) (s .pre .2) (c .before .before .before .before .before .part-of .ensures .0) (s .pre .3) (c .before .before .before .height .ensures .0) (c .before .before .reduce .ensures) (c .if1 .left)
 
 pub offer-pair-spec : {M : Type 1} → statement M
 offer-pair-spec =
     tie.close
     (tie.spec
     part-of-requires
-    mul-l
-    part-of-requires-2
     add-l
     mul-reduce
     mul-reduce-2
     index-1-reduce
     index-2-reduce
     height-requires
-    height-requires-2
     reduce-requires
-    mul-old
-    element-copy-out-old
-    mul-pair
-    add-pair
-    cast-pair
-    mul-taken
-    element-copy-out-taken
-    taken-requires
-    lesser-requires
+    mul-if1
+    element-copy-out-if1
     mul-m
     element-write-m
     mul-at
+    add-at
+    cast-at
+    mul-at-2
     element-write-at
-    returns)
+    returns
+    returns-2)

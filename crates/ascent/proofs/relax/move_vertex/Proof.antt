@@ -1,5 +1,5 @@
--- What the parts answer is the turn of the model. Assumes nothing.
-use Rattle.ascent.specs.Laws.Bodies.{move-is}
+-- A height that changes is stored and its vertex opened; else nothing changes.
+use Rattle.ascent.specs.Laws.Bodies.{move-other, move-same}
 use borrow.Author.Needs.{needs}
 use Rattle.ascent.proofs.relax.move_vertex.Statement.{statement}
 use Rattle.ascent.proofs.relax.move_vertex.Tie as tie
@@ -49,12 +49,6 @@ element-copy-out-old c = search needs
 moved-requires : tie.Need-moved-requires
 moved-requires c κs = search needs
 
-element-copy-out-marked : tie.Need-element-copy-out-marked
-element-copy-out-marked c = search needs
-
-marked-requires : tie.Need-marked-requires
-marked-requires c κs = search needs
-
 mul-x : tie.Need-mul-x
 mul-x c = search needs
 
@@ -65,7 +59,16 @@ element-write-marks : tie.Need-element-write-marks
 element-write-marks c = search needs
 
 returns : tie.Need-returns
-returns c = move-is (c .before .before .before .before .before .before .before .before .before .args .d .now) (c .before .before .before .before .before .before .before .before .before .args .f .now) (c .before .before .before .before .before .before .before .before .before .args .up) (c .before .before .before .before .before .before .before .before .before .args .w) (c .before .before .before .before .before .before .before .before .before .args .base) (c .before .before .before .before .before .before .before .before .before .args .x .now) (c .before .before .before .before .before .before .before .before .before .args .marks .now) (c .before .before .before .before .before .before .before .before .before .args .v) (c .before .before .before .before .before .before .before .before .place .ensures .0) (c .before .before .before .before .asked .ensures) (c .before .before .moved .ensures) (c .marked .ensures)
+returns c =
+    let s = c .before .before .before .before .before .before .before .before in
+    let a = s .args in
+    move-other (a .d .now) (a .f .now) (a .up) (a .w) (a .base) (a .x .now) (a .marks .now) (a .v) (c .before .before .before .before .before .before .before .place .ensures .0) (c .before .before .before .asked .ensures) (c .before .moved .ensures) (c .if1 .taken)
+
+returns-2 : tie.Need-returns-2
+returns-2 c =
+    let s = c .before .before .before .before .before .before .before .before in
+    let a = s .args in
+    move-same (a .d .now) (a .f .now) (a .up) (a .w) (a .base) (a .x .now) (a .marks .now) (a .v) (c .before .before .before .before .before .before .before .place .ensures .0) (c .before .before .before .asked .ensures) (c .before .moved .ensures) (c .if1 .left)
 
 pub move-vertex-spec : {M : Type 1} → statement M
 move-vertex-spec =
@@ -86,9 +89,8 @@ move-vertex-spec =
     mul-old
     element-copy-out-old
     moved-requires
-    element-copy-out-marked
-    marked-requires
     mul-x
     element-write-x
     element-write-marks
-    returns)
+    returns
+    returns-2)

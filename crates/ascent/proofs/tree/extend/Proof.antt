@@ -26,11 +26,11 @@ loop-holds : tie.Need-loop-holds Inv-loop μ-loop
 unfolding turns
 loop-holds c = (omega arith, refl, refl)
 
-add-enter : tie.Need-add-enter Inv-loop μ-loop
-add-enter c = search needs
+add-enter-new : tie.Need-add-enter-new Inv-loop μ-loop
+add-enter-new c = search needs
 
-enter-requires : tie.Need-enter-requires Inv-loop μ-loop
-enter-requires c κs = search needs
+enter-new-requires : tie.Need-enter-new-requires Inv-loop μ-loop
+enter-new-requires c κs = search needs
 
 add-a : tie.Need-add-a Inv-loop μ-loop
 add-a c = search needs
@@ -45,7 +45,7 @@ loop-again c =
       omega arith,
       at .loop .inv .1,
       turn (λ t a. enter (start .args .m .now) (2 * start .args .i + 1) t (a + 1)) (start .args .cost .now, start .args .from .now) (at .loop .a) (at .loop .inv .2)
-          (c .enter .ensures ∙ ap (λ s. enter (start .args .m .now) s (at .loop .cost, at .loop .from) (at .loop .a + 1)) (at .loop .inv .1)),
+          (c .enter-new .ensures ∙ ap (λ s. enter (start .args .m .now) s (at .loop .cost, at .loop .from) (at .loop .a + 1)) (at .loop .inv .1)),
     )
 
 returns : tie.Need-returns Inv-loop μ-loop
@@ -61,8 +61,8 @@ extend-spec =
     mul-s
     add-s
     loop-holds
-    add-enter
-    enter-requires
+    add-enter-new
+    enter-new-requires
     add-a
     loop-less
     loop-again

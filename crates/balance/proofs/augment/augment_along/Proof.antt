@@ -12,11 +12,10 @@ use Rattle.balance.proofs.augment.augment_along.Statement.{statement}
 use Rattle.balance.proofs.augment.augment_along.Tie as tie
 
 abbrev Inv-loop : tie.InvT-loop
-Inv-loop next h t g₀ v₀ k₀ g v k =
-    (k ≤ 64) × (v < 64) × AtMost (limit + k) g × (augment next t (64 - k) g v ≡ augment next t 64 g₀ h)
+Inv-loop g₀ next h t v₀ k₀ g v k = (k ≤ 64) × (v < 64) × AtMost (limit + k) g × (augment next t (64 - k) g v ≡ augment next t 64 g₀ h)
 
 abbrev μ-loop : tie.MeasureT-loop
-μ-loop next h t g₀ v₀ k₀ g v k = 64 - k
+μ-loop g₀ next h t v₀ k₀ g v k = 64 - k
 
 loop-holds : tie.Need-loop-holds Inv-loop μ-loop
 loop-holds c = (omega arith, c .pre .0, c .pre .3, refl)
@@ -43,8 +42,8 @@ add-back c = search needs
 mul-back-2 : tie.Need-mul-back-2 Inv-loop μ-loop
 mul-back-2 c = search needs
 
-array-read-back : tie.Need-array-read-back Inv-loop μ-loop
-array-read-back c = search needs
+element-copy-out-back : tie.Need-element-copy-out-back Inv-loop μ-loop
+element-copy-out-back c = search needs
 
 mul-ahead : tie.Need-mul-ahead Inv-loop μ-loop
 mul-ahead c = search needs
@@ -55,20 +54,20 @@ add-ahead c = search needs
 mul-ahead-2 : tie.Need-mul-ahead-2 Inv-loop μ-loop
 mul-ahead-2 c = search needs
 
-array-read-ahead : tie.Need-array-read-ahead Inv-loop μ-loop
-array-read-ahead c = search needs
+element-copy-out-ahead : tie.Need-element-copy-out-ahead Inv-loop μ-loop
+element-copy-out-ahead c = search needs
 
 place-of-requires : tie.Need-place-of-requires Inv-loop μ-loop
 place-of-requires c κs = search needs
 
 moved-by-requires : tie.Need-moved-by-requires Inv-loop μ-loop
-moved-by-requires c κs = omega (arith, c .before .before .before .before .before .before .loop .inv .2 (c .before .before .before .wide .result * 64 + c .before .wide2 .result))
+moved-by-requires c κs = omega (arith, c .before .before .before .before .before .before .before .before .loop .inv .2 (c .before .before .before .before .before .wide .result * 64 + c .before .before .before .wide2 .result))
 
 mul-g : tie.Need-mul-g Inv-loop μ-loop
 mul-g c = search needs
 
-array-write-g : tie.Need-array-write-g Inv-loop μ-loop
-array-write-g c = search needs
+element-write-g : tie.Need-element-write-g Inv-loop μ-loop
+element-write-g c = search needs
 
 add-k : tie.Need-add-k Inv-loop μ-loop
 add-k c = search needs
@@ -78,21 +77,21 @@ loop-less c = search needs
 
 loop-again : tie.Need-loop-again Inv-loop μ-loop
 loop-again c =
-    let l = c .before .before .before .before .before .before in
+    let l = c .before .before .before .before .before .before .before .before in
     let at = l .before in
     let start = at .before in
-    let back = at .loop .inv .2 (c .before .before .wide2 .result * 64 + c .before .before .before .before .wide .result) in
-    let ahead = at .loop .inv .2 (c .before .before .before .before .wide .result * 64 + c .before .before .wide2 .result) in (
+    let back = at .loop .inv .2 (c .before .before .before .before .wide2 .result * 64 + c .before .before .before .before .before .before .wide .result) in
+    let ahead = at .loop .inv .2 (c .before .before .before .before .before .before .wide .result * 64 + c .before .before .before .before .wide2 .result) in (
       omega arith,
-      c .before .before .before .following .ensures .1,
+      c .before .before .before .before .before .following .ensures .1,
       at-most-more (limit + at .loop .k) (limit + (at .loop .k + 1)) (at .loop .g) (c .before .place-of .result) (c .moved-by .result) (at .loop .inv .2) (omega arith) (⊎-elim (λ e. omega arith) (λ e. omega arith) (c .moved-by .ensures .1)),
       augment-more (start .args .next .now) (start .args .t) (at .loop .g) (at .loop .k) (at .loop .v)
           (at .loop .inv .3)
           (l .loop-test .taken)
-          (c .before .before .before .before .before .if1 .left)
-          (c .before .before .before .before .wide .ensures)
-          (c .before .before .before .following .ensures .0)
-          (c .before .before .wide2 .ensures)
+          (c .before .before .before .before .before .before .before .if1 .left)
+          (c .before .before .before .before .before .before .wide .ensures)
+          (c .before .before .before .before .before .following .ensures .0)
+          (c .before .before .before .before .wide2 .ensures)
           (c .before .place-of .ensures .0)
           (c .moved-by .ensures .0),
     )
@@ -117,15 +116,15 @@ augment-along-spec =
     mul-back
     add-back
     mul-back-2
-    array-read-back
+    element-copy-out-back
     mul-ahead
     add-ahead
     mul-ahead-2
-    array-read-ahead
+    element-copy-out-ahead
     place-of-requires
     moved-by-requires
     mul-g
-    array-write-g
+    element-write-g
     add-k
     loop-less
     loop-again

@@ -32,8 +32,8 @@ vertex-requires c κs = search needs
 wide-requires : tie.Need-wide-requires Inv-loop μ-loop
 wide-requires c κs = search needs
 
-bypass-from-requires : tie.Need-bypass-from-requires Inv-loop μ-loop
-bypass-from-requires c κs =
+bypass-sent-requires : tie.Need-bypass-sent-requires Inv-loop μ-loop
+bypass-sent-requires c κs =
     let at = c .before .before .before .before in
     let start = at .before .before in
     let l = c .before .before .before .loop-test .taken in
@@ -54,8 +54,8 @@ loop-again c =
     let e = c .before .before .wide .ensures ∙ c .before .before .before .vertex .ensures .0 in
     let ma : List·Memᴰ (c .before .before .wide .result) (start .args .vs .now) = subst⁻¹ (λ n. List·Memᴰ n (start .args .vs .now)) e (getD-mem (start .args .vs .now) 0 (at .loop .k) l) in (
       omega arith,
-      subst⁻¹ (Sparse (start .args .vs .now)) (c .bypass-from .ensures) (from-sparse (start .args .vs .now) (at .loop .f) (start .args .b) _ (start .pre .2) ma (at .loop .inv .1)),
-      fold-turn (bypassFrom (start .args .vs .now) (start .args .b)) (start .args .f .now) (start .args .vs .now) (at .loop .k) (at .loop .inv .2) l e (c .bypass-from .ensures),
+      subst⁻¹ (Sparse (start .args .vs .now)) (c .bypass-sent .ensures) (from-sparse (start .args .vs .now) (at .loop .f) (start .args .b) _ (start .pre .2) ma (at .loop .inv .1)),
+      fold-turn (bypassFrom (start .args .vs .now) (start .args .b)) (start .args .f .now) (start .args .vs .now) (at .loop .k) (at .loop .inv .2) l e (c .bypass-sent .ensures),
     )
 
 returns : tie.Need-returns Inv-loop μ-loop
@@ -74,7 +74,7 @@ bypass-vertex-spec =
     loop-holds
     vertex-requires
     wide-requires
-    bypass-from-requires
+    bypass-sent-requires
     add-k
     loop-less
     loop-again

@@ -1,6 +1,7 @@
 -- The flags find what the definition's search finds; each of the two ends is then one step of the definition.
 use native.Mathlib.Omega.{arith}
 use Rattle.circuit.specs.Laws.Held.{top-below, has-room, walked-at, placed-at}
+use Rattle.circuit.specs.Laws.Hints.{hints-used}
 use borrow.Author.Needs.{needs}
 use Rattle.circuit.proofs.hierholzer.advance.Statement.{statement}
 use Rattle.circuit.proofs.hierholzer.advance.Tie as tie
@@ -23,8 +24,8 @@ shared-slice-read-v c =
     let e = c .before .wide .ensures in
     omega (arith, top-below (s .args .heads .now) (s .pre .2) (s .pre .3))
 
-next-leg-requires : tie.Need-next-leg-requires
-next-leg-requires c κs = search needs
+find-leg-requires : tie.Need-find-leg-requires
+find-leg-requires c κs = search needs
 
 cast-order : tie.Need-cast-order
 cast-order c = search needs
@@ -34,23 +35,24 @@ mul-order c = search needs
 
 slice-write-order : tie.Need-slice-write-order
 slice-write-order c =
-    let s = c .before .before .before .before .before .before .before .before .before in
+    let s = c .before .before .before .before .before .before .before .before .before .before in
     let w = s .pre .3 .within in
-    omega (arith, has-room (s .args .heads .now) (s .pre .2) (s .pre .3) (c .before .before .before .before .wide .ensures) (c .before .next-leg .ensures) (c .if1 .taken))
+    omega (arith, has-room (s .args .heads .now) (s .pre .2) (s .pre .3) (c .before .before .before .before .before .wide .ensures) (c .before .find-leg .ensures .0) (c .if1 .taken))
 
 element-write-used : tie.Need-element-write-used
 element-write-used c = search needs
 
-add-t21 : tie.Need-add-t21
-add-t21 c = search needs
+add-t23 : tie.Need-add-t23
+add-t23 c = search needs
 
 same-length : tie.Need-same-length
 same-length c = search needs
 
 returns : tie.Need-returns
 returns c =
-    let s = c .before .before .before .before .before .before .before .before .before in
-    walked-at (s .args .heads .now) (s .pre .2) (s .pre .3) (c .before .before .before .before .wide .ensures) (c .before .next-leg .ensures) (c .if1 .taken)
+    let s = c .before .before .before .before .before .before .before .before .before .before in
+    let m = s .pre .3 .marks in
+    (walked-at (s .args .heads .now) (s .pre .2) (s .pre .3) (c .before .before .before .before .before .wide .ensures) (c .before .find-leg .ensures .0) (c .if1 .taken), hints-used (s .args .tails .now) (s .args .used .now) _ (c .before .find-leg .ensures .1) (c .before .find-leg .result) (omega arith))
 
 sub-at : tie.Need-sub-at
 sub-at c = search needs
@@ -66,8 +68,8 @@ same-length-2 c = search needs
 
 returns-2 : tie.Need-returns-2
 returns-2 c =
-    let s = c .before .before .before .before .before .before .before .before .before in
-    placed-at (s .args .heads .now) (s .pre .2) (s .pre .3) (c .before .before .before .before .wide .ensures) (c .before .next-leg .ensures) (c .if1 .left)
+    let s = c .before .before .before .before .before .before .before .before .before .before in
+    (placed-at (s .args .heads .now) (s .pre .2) (s .pre .3) (c .before .before .before .before .before .wide .ensures) (c .before .find-leg .ensures .0) (c .if1 .left), c .before .find-leg .ensures .1)
 
 pub advance-spec : {M : Type 1} → statement M
 advance-spec =
@@ -78,12 +80,12 @@ advance-spec =
     slice-read-k
     wide-requires
     shared-slice-read-v
-    next-leg-requires
+    find-leg-requires
     cast-order
     mul-order
     slice-write-order
     element-write-used
-    add-t21
+    add-t23
     same-length
     returns
     sub-at

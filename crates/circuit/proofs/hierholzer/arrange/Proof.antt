@@ -5,18 +5,18 @@ use mathlib.Core.Path.{_≡_, ap, _∙_, subst}
 use native.Mathlib.Omega.{arith}
 use lib.ListN.{drop, replicate, getD-replicate}
 use Rattle.circuit.specs.Circuit.{run, circuit}
-use Rattle.circuit.specs.Held.{walkOf, Held}
+use Rattle.circuit.specs.Held.{walkOf, Held, Hints}
+use Rattle.circuit.specs.Laws.Hints.{hints-none}
 use Rattle.circuit.specs.Laws.Held.{held-first, run-first, run-step, run-last}
 use borrow.Author.Needs.{needs}
 use Rattle.circuit.proofs.hierholzer.arrange.Statement.{statement}
 use Rattle.circuit.proofs.hierholzer.arrange.Tie as tie
 
 abbrev Inv-loop : tie.InvT-loop
-Inv-loop tails heads order₀ used₀ depth₀ start₀ order used depth start =
-    Held tails order used depth start × (circuit tails heads ≡ run tails heads (2 * start - depth) (walkOf order depth) (drop start order))
+Inv-loop tails heads order₀ used₀ hints₀ depth₀ start₀ order used hints depth start = Held tails order used depth start × (circuit tails heads ≡ run tails heads (2 * start - depth) (walkOf order depth) (drop start order)) × Hints tails used hints
 
 abbrev μ-loop : tie.MeasureT-loop
-μ-loop tails heads order₀ used₀ depth₀ start₀ order used depth start = 2 * start - depth
+μ-loop tails heads order₀ used₀ hints₀ depth₀ start₀ order used hints depth start = 2 * start - depth
 
 array-write-used : tie.Need-array-write-used Inv-loop μ-loop
 array-write-used c = search needs
@@ -31,6 +31,7 @@ loop-holds c =
     let n = s .pre .0 in (
       held-first (a .tails .now) (a .heads .now) (a .order .now) (replicate 526 0) (s .pre .2 .some) (s .pre .1) (omega arith) (λ e k. getD-replicate 526 e 0 0 (omega arith)),
       run-first (a .tails .now) (a .heads .now) (a .order .now) (s .pre .2 .some) (s .pre .1),
+      hints-none (a .tails .now) _,
     )
 
 advance-requires : tie.Need-advance-requires Inv-loop μ-loop
@@ -42,8 +43,8 @@ loop-less c = search needs
 loop-again : tie.Need-loop-again Inv-loop μ-loop
 loop-again c =
     let e = c .before .before .advance .ensures in
-    let l = c .before .before .before .before .before .before .loop in
-    (e .held, l .inv .1 ∙ run-step _ _ _ _ _ _ _ _ _ e)
+    let l = c .before .before .before .before .before .before .before .loop in
+    (e .0 .held, l .inv .1 ∙ run-step _ _ _ _ _ _ _ _ _ (e .0), e .1)
 
 same-length : tie.Need-same-length Inv-loop μ-loop
 same-length c = search needs

@@ -13,13 +13,13 @@ use Rattle.circuit.proofs.hierholzer.next_leg.Statement.{statement}
 use Rattle.circuit.proofs.hierholzer.next_leg.Tie as tie
 
 abbrev Inv-loop : tie.InvT-loop
-Inv-loop tails used v e₀ e = (e ≤ length tails) × ((k : ℕ) → k < e → T (not (isUnused tails used v k)))
+Inv-loop tails used v «from» e₀ e = (e ≤ length tails) × ((k : ℕ) → k < e → T (not (isUnused tails used v k)))
 
 abbrev μ-loop : tie.MeasureT-loop
-μ-loop tails used v e₀ e = length tails - e
+μ-loop tails used v «from» e₀ e = length tails - e
 
 loop-holds : tie.Need-loop-holds Inv-loop μ-loop
-loop-holds c = (search needs, λ k h. absurd (omega arith))
+loop-holds c = let s = c .before in (s .pre .1, s .pre .2)
 
 shared-slice-read-is-unused : tie.Need-shared-slice-read-is-unused Inv-loop μ-loop
 shared-slice-read-is-unused c = search needs

@@ -91,7 +91,7 @@ path-requires c κs =
     let r = s .pre .1 .0 .2 (a .e) l (s .pre .1 .0 .0) in
     let q = path-of (shortestPath p) (a .numbers .now) (a .tails .now) (a .heads .now) (a .e) i j l u v in
     let k = c .before .before .column-to .ensures in
-    taken-ready (a .arcs .now) (a .weights .now) (c .before .before .column-to .result) (k .0) (s .pre .0 .0) i j (length (a .places .now)) (a .at) (s .pre .0 .1) (k .1)
+    taken-ready (a .arcs .now) (a .weights .now) (c .before .before .column-to .result) (k .0) (s .pre .0 .0) i j (length (a .places .now)) (a .at) (a .chain .now) (s .pre .0 .2) (s .pre .0 .1) (k .1)
     (subst⁻¹ (λ z. z < p .n) u (r .from)) (subst⁻¹ (λ z. z < p .n) v (r .to)) (subst₂ (λ x y. distance p x y < noPath) (sym u) (sym v) (r .linked))
     (subst⁻¹ (λ (z : List ℕ). a .at + length z ≤ length (a .places .now)) q (s .pre .1 .1))
 

@@ -1,48 +1,55 @@
--- The invariant: no arc before the kth begins a lightest path.
-use mathlib.Core.Path.{_≡_, refl, sym, _∙_}
-use mathlib.Core.Bool.{Bool, true, false, _&&_}
+-- The invariant: `best` is the lowest of the arcs before the kth that begins a lightest path, and k leaves v.
+use mathlib.Core.Path.{_≡_, refl, sym, _∙_, subst⁻¹}
+use mathlib.Core.Bool.{Bool, _&&_}
 use mathlib.Core.List.{List, []}
-use Prim.Native.Nat.{ℕ, _+_, _-_, _*_, _≤_, _<_}
+use Prim.Native.Nat.{ℕ, _+_, _-_, _*_, _<_}
 use native.Mathlib.Omega.{arith}
-use borrow.Author.Count.{below-more}
 use lib.ListN.{length, getD}
 use lib.Dec.{eqb}
 use Rattle.postman.specs.Plan.{isOpen}
 use Rattle.plan.specs.Rows.{arcIn}
-use Rattle.plan.specs.Laws.Rows.{rows-vertices}
-use Rattle.shortest.specs.ShortestPath.{beginsIn, nextIn}
-use Rattle.shortest.specs.Laws.FirstNumber.{first-at, first-none}
+use Rattle.plan.specs.Laws.Rows.{rows-length, rows-vertices}
+use Rattle.shortest.specs.ShortestPath.{beginsIn}
 use Rattle.shortest.specs.Laws.Lookup.{row-ends}
+use Rattle.shortest.specs.Laws.Leaving.{Meets, meets-none, meets-later, meets-more, meets-all}
 use borrow.Author.Needs.{needs}
 use Rattle.shortest.proofs.path.next_arc.Statement.{statement}
 use Rattle.shortest.proofs.path.next_arc.Tie as tie
 
-module _ (arcs : List (List ℕ)) (column : List ℕ) (v : ℕ) where
-  -- what the code tests is the definition's test
-  tested : (k : ℕ) {h : ℕ} {b : Bool} → h ≡ arcIn (getD arcs k []) .head
-      → b ≡ (isOpen (arcIn (getD arcs k [])) && eqb (arcIn (getD arcs k []) .tail) v && eqb (64 * arcIn (getD arcs k []) .cost + 1 + getD column h 0) (getD column v 0)) → beginsIn arcs column v k ≡ b
-  unfolding beginsIn
-  tested k e t = sym (rw e at t)
-
-  found : (k : ℕ) → k < length arcs → beginsIn arcs column v k ≡ true → ((i : ℕ) → i < k → beginsIn arcs column v i ≡ false) → k ≡ nextIn arcs column v
-  unfolding nextIn
-  found k l e h = sym (first-at (beginsIn arcs column v) (length arcs) k l e h)
-
-  not-found : ((i : ℕ) → i < length arcs → beginsIn arcs column v i ≡ false) → length arcs ≡ nextIn arcs column v
-  unfolding nextIn
-  not-found h = sym (first-none (beginsIn arcs column v) (length arcs) h)
+-- what the code tests is the definition's test
+tested : (arcs : List (List ℕ)) (column : List ℕ) (v k : ℕ) {h : ℕ} {b : Bool} → h ≡ arcIn (getD arcs k []) .head
+    → b ≡ (isOpen (arcIn (getD arcs k [])) && eqb (arcIn (getD arcs k []) .tail) v && eqb (64 * arcIn (getD arcs k []) .cost + 1 + getD column h 0) (getD column v 0)) → beginsIn arcs column v k ≡ b
+unfolding beginsIn
+tested arcs column v k e t = sym (rw e at t)
 
 abbrev Inv-loop : tie.InvT-loop
-Inv-loop arcs column v k₀ k-end k = (k-end ≡ length arcs) × (k ≤ k-end) × ((i : ℕ) → i < k → beginsIn arcs column v i ≡ false)
+Inv-loop arcs chain column v m best₀ k₀ best k = (m ≡ length arcs) × Meets arcs column v best k
 
 abbrev μ-loop : tie.MeasureT-loop
-μ-loop arcs column v k₀ k-end k = k-end - k
-
-loop-holds : tie.Need-loop-holds Inv-loop μ-loop
-loop-holds c = (refl, omega arith, λ i l. absurd (omega arith))
+μ-loop arcs chain column v m best₀ k₀ best k = length arcs - k
 
 mul-wide : tie.Need-mul-wide Inv-loop μ-loop
 mul-wide c = search needs
+
+element-copy-out-wide : tie.Need-element-copy-out-wide Inv-loop μ-loop
+element-copy-out-wide c =
+    let p = c .before .pre in
+    let n = p .0 .vertices in
+    let m = rows-vertices (length (c .before .args .column .now)) (c .before .args .arcs .now) in
+    omega arith
+
+wide-requires : tie.Need-wide-requires Inv-loop μ-loop
+wide-requires c κs = search needs
+
+loop-holds : tie.Need-loop-holds Inv-loop μ-loop
+loop-holds c =
+    let s = c .before .before .before in
+    let n = s .pre .0 .vertices in
+    let m = rows-vertices (length (s .args .column .now)) (s .args .arcs .now) in
+    (refl, meets-none (s .args .arcs .now) (s .args .column .now) (s .args .v) (c .wide .ensures ∙ s .pre .1 .first (s .args .v) (omega arith)))
+
+mul-wide-2 : tie.Need-mul-wide-2 Inv-loop μ-loop
+mul-wide-2 c = search needs
 
 index-1-wide : tie.Need-index-1-wide Inv-loop μ-loop
 index-1-wide c = search needs
@@ -50,8 +57,8 @@ index-1-wide c = search needs
 index-2-wide : tie.Need-index-2-wide Inv-loop μ-loop
 index-2-wide c = search needs
 
-wide-requires : tie.Need-wide-requires Inv-loop μ-loop
-wide-requires c κs = search needs
+wide-requires-2 : tie.Need-wide-requires-2 Inv-loop μ-loop
+wide-requires-2 c κs = search needs
 
 mul-leads : tie.Need-mul-leads Inv-loop μ-loop
 mul-leads c = search needs
@@ -82,24 +89,24 @@ index-2-leads-3 c = search needs
 
 mul-leads-4 : tie.Need-mul-leads-4 Inv-loop μ-loop
 mul-leads-4 c =
-    let w = c .before .before .before in
-    let v = w .before .before .before in
-    let s = v .before .before in
+    let v = c .before .before .before .before .before .before in
+    let s = v .before .before .before .before in
+    let a = v .loop .inv .1 .most in
     let h = row-ends (length (s .args .column .now)) (s .args .arcs .now) (s .pre .0) (v .loop .k) (omega arith) .1 in
     let n = s .pre .0 .vertices in
     let m = rows-vertices (length (s .args .column .now)) (s .args .arcs .now) in
-    let e = w .wide .ensures in
+    let e = c .before .before .before .wide2 .ensures in
     omega arith
 
 shared-slice-read-leads : tie.Need-shared-slice-read-leads Inv-loop μ-loop
 shared-slice-read-leads c =
-    let w = c .before .before .before .before in
-    let v = w .before .before .before in
-    let s = v .before .before in
+    let v = c .before .before .before .before .before .before .before in
+    let s = v .before .before .before .before in
+    let a = v .loop .inv .1 .most in
     let h = row-ends (length (s .args .column .now)) (s .args .arcs .now) (s .pre .0) (v .loop .k) (omega arith) .1 in
     let n = s .pre .0 .vertices in
     let m = rows-vertices (length (s .args .column .now)) (s .args .arcs .now) in
-    let e = w .wide .ensures in
+    let e = c .before .before .before .before .wide2 .ensures in
     omega arith
 
 mul-leads-5 : tie.Need-mul-leads-5 Inv-loop μ-loop
@@ -111,39 +118,53 @@ shared-slice-read-leads-2 c = search needs
 leads-requires : tie.Need-leads-requires Inv-loop μ-loop
 leads-requires c κs = search needs
 
-returns : tie.Need-returns Inv-loop μ-loop
-returns c =
-    let b = c .before in
-    let w = b .before .before .before .before .before .before in
-    let v = w .before .before .before in
-    let s = v .before .before in
-    found (s .args .arcs .now) (s .args .column .now) (s .args .v) (v .loop .k) (omega arith)
-    (tested (s .args .arcs .now) (s .args .column .now) (s .args .v) (v .loop .k) (w .wide .ensures) (sym (c .if1 .taken) ∙ b .leads .ensures)) (v .loop .inv .2)
+taken-requires : tie.Need-taken-requires Inv-loop μ-loop
+taken-requires c κs = search needs
 
-add-k : tie.Need-add-k Inv-loop μ-loop
-add-k c = search needs
+add-wide : tie.Need-add-wide Inv-loop μ-loop
+add-wide c = search needs
+
+mul-wide-3 : tie.Need-mul-wide-3 Inv-loop μ-loop
+mul-wide-3 c = search needs
+
+element-copy-out-wide-2 : tie.Need-element-copy-out-wide-2 Inv-loop μ-loop
+element-copy-out-wide-2 c =
+    let v = c .before .before .before .before .before .before .before .before .before .before in
+    let s = v .before .before .before .before in
+    let a = v .loop .inv .1 .most in
+    let n = s .pre .0 .arc-count in
+    let m = rows-length (length (s .args .column .now)) (s .args .arcs .now) in
+    omega arith
+
+wide-requires-3 : tie.Need-wide-requires-3 Inv-loop μ-loop
+wide-requires-3 c κs = search needs
 
 loop-less : tie.Need-loop-less Inv-loop μ-loop
-loop-less c = search needs
+loop-less c =
+    let v = c .before .before .before .before .before .before .before .before .before .before .before .before in
+    let s = v .before .before .before .before in
+    let a = v .loop .inv .1 .most in
+    let e = c .wide3 .ensures ∙ s .pre .1 .next (v .loop .k) (omega arith) in
+    let l = meets-later (s .args .arcs .now) (s .args .column .now) (s .args .v) (v .loop .inv .1) (omega arith) e in
+    omega arith
 
 loop-again : tie.Need-loop-again Inv-loop μ-loop
 loop-again c =
-    let b = c .before in
-    let w = b .before .before .before .before .before .before in
-    let v = w .before .before .before in
-    let s = v .before .before in (
-      v .loop .inv .0,
-      omega arith,
-      below-more _ (v .loop .k) (v .loop .inv .2)
-          (tested (s .args .arcs .now) (s .args .column .now) (s .args .v) (v .loop .k) (w .wide .ensures) (sym (c .if1 .left) ∙ b .leads .ensures)),
+    let v = c .before .before .before .before .before .before .before .before .before .before .before .before in
+    let s = v .before .before .before .before in
+    let a = v .loop .inv .1 .most in
+    let e = c .wide3 .ensures ∙ s .pre .1 .next (v .loop .k) (omega arith) in
+    let b = tested (s .args .arcs .now) (s .args .column .now) (s .args .v) (v .loop .k) (c .before .before .before .before .before .before .before .before .before .wide2 .ensures) (c .before .before .before .leads .ensures) in (
+      refl,
+      subst⁻¹ (λ x. Meets (s .args .arcs .now) (s .args .column .now) (s .args .v) x (c .wide3 .result)) (c .before .before .taken .ensures)
+          (meets-more (s .args .arcs .now) (s .args .column .now) (s .args .v) (v .loop .inv .1) (omega arith) e (omega arith) (c .before .before .before .leads .result) b),
     )
 
-returns-2 : tie.Need-returns-2 Inv-loop μ-loop
-returns-2 c =
+returns : tie.Need-returns Inv-loop μ-loop
+returns c =
     let v = c .before in
-    let s = v .before .before in
-    let e = v .loop .inv .0 in
-    not-found (s .args .arcs .now) (s .args .column .now) (s .args .v) (λ i l. v .loop .inv .2 i (omega arith))
+    let s = v .before .before .before .before in
+    meets-all (s .args .arcs .now) (s .args .column .now) (s .args .v) (v .loop .inv .1) (omega arith)
 
 pub next-arc-spec : {M : Type 1} → statement M
 next-arc-spec =
@@ -151,11 +172,14 @@ next-arc-spec =
     (tie.spec
     Inv-loop
     μ-loop
-    loop-holds
     mul-wide
+    element-copy-out-wide
+    wide-requires
+    loop-holds
+    mul-wide-2
     index-1-wide
     index-2-wide
-    wide-requires
+    wide-requires-2
     mul-leads
     index-1-leads
     index-2-leads
@@ -170,8 +194,11 @@ next-arc-spec =
     mul-leads-5
     shared-slice-read-leads-2
     leads-requires
-    returns
-    add-k
+    taken-requires
+    add-wide
+    mul-wide-3
+    element-copy-out-wide-2
+    wide-requires-3
     loop-less
     loop-again
-    returns-2)
+    returns)

@@ -58,10 +58,10 @@ module _ (column : List ℕ) (rows : List (List ℕ)) (ok : WellFormed (planIn (
           subst₂ (λ x y. Writing q i j old at (set places to x) y (to + 1)) (sym is-next) a (writing-more q (is-weighted p ok) i j old at places v to h n l)
 
 abbrev Inv-loop : tie.InvT-loop
-Inv-loop arcs column i j places₀ at v₀ to₀ places v to = Writing (weighted (planIn (length column) arcs)) i j places₀ at places v to
+Inv-loop arcs chain column i j places₀ at v₀ to₀ places v to = Writing (weighted (planIn (length column) arcs)) i j places₀ at places v to
 
 abbrev μ-loop : tie.MeasureT-loop
-μ-loop arcs column i j places₀ at v₀ to₀ places v to = at + length (cheapestPath (weighted (planIn (length column) arcs)) i j) - to
+μ-loop arcs chain column i j places₀ at v₀ to₀ places v to = at + length (cheapestPath (weighted (planIn (length column) arcs)) i j) - to
 
 loop-holds : tie.Need-loop-holds Inv-loop μ-loop
 loop-holds c =
@@ -75,7 +75,7 @@ next-arc-requires : tie.Need-next-arc-requires Inv-loop μ-loop
 next-arc-requires c κs =
     let v = c .before in
     let s = v .before .before .before in
-    (s .pre .0 .0, inside (s .args .column .now) (s .args .arcs .now) (s .pre .0 .0) (v .loop .inv))
+    (s .pre .0 .0, s .pre .0 .2, inside (s .args .column .now) (s .args .arcs .now) (s .pre .0 .0) (v .loop .inv))
 
 cast-places : tie.Need-cast-places Inv-loop μ-loop
 cast-places c =

@@ -1,30 +1,18 @@
 -- After k turns the row is relaxed by the first k arcs.
 use mathlib.Core.Path.{_≡_, refl, ap, _∙_}
-use Prim.Native.Nat.{ℕ, _+_, _-_, _≤_, _<_}
+use Prim.Native.Nat.{_-_, _≤_}
 use native.Mathlib.Omega.{arith}
-use mathlib.Core.List.{List, [], _∷_, _++_, map}
-use lib.ListN.{getD, set, take}
-use Rattle.postman.specs.Plan.{Arc, WellFormed}
-use Rattle.plan.specs.declared.Plan.{Plan as PlanRecord}
-use Rattle.plan.specs.Records.{planValue, recordAt}
+use mathlib.Core.List.{List, map}
+use lib.ListN.{set, take}
+use Rattle.postman.specs.Plan.{Arc}
+use Rattle.plan.specs.Records.{planValue}
 use Rattle.shortest.specs.Weight.{heavy}
-use Rattle.shortest.specs.Relaxation.{weight, shorter, relaxArcs, relaxArc}
-use Rattle.plan.specs.Laws.Records.{record-arcs, record-ends, arcs-more, arcs-all}
-use Rattle.shortest.specs.Laws.Relaxation.{relaxArcs-snoc}
+use Rattle.shortest.specs.Relaxation.{relaxArcs}
+use Rattle.plan.specs.Laws.Records.{record-arcs, record-ends, arcs-all}
+use Rattle.shortest.specs.Laws.Columns.{relaxed-more}
 use borrow.Author.Needs.{needs}
 use Rattle.shortest.proofs.weights.round.Statement.{statement}
 use Rattle.shortest.proofs.weights.round.Tie as tie
-
-heavy-snoc : (xs : List Arc) (a : Arc) → map heavy (xs ++ a ∷ []) ≡ map heavy xs ++ heavy a ∷ []
-heavy-snoc [] a = refl
-heavy-snoc (x ∷ xs) a = ap (λ (ys : List Arc). heavy x ∷ ys) (heavy-snoc xs a)
-
-step : (r : PlanRecord) (ok : WellFormed (planValue r)) (k : ℕ) → k < r .m → (row next : List ℕ) (w x : ℕ) → next ≡ relaxArcs (map heavy (take k (planValue r .arcs))) row
-    → w ≡ weight (heavy (recordAt (r .arcs) k)) → x ≡ shorter (getD next (recordAt (r .arcs) k .tail) 0) w (getD next (recordAt (r .arcs) k .head) 0)
-    → set next (recordAt (r .arcs) k .head) x ≡ relaxArcs (map heavy (take (k + 1) (planValue r .arcs))) row
-unfolding relaxArc
-step r ok k l row next w x e f g =
-    rw (arcs-more r ok k l, heavy-snoc, relaxArcs-snoc, ← e) (ap (set next (recordAt (r .arcs) k .head)) (rw f at g))
 
 abbrev Inv-loop : tie.InvT-loop
 Inv-loop plan next₀ m k₀ next k = (m ≡ plan .m) × (k ≤ m) × (next ≡ relaxArcs (map heavy (take k (planValue plan .arcs))) next₀)
@@ -97,7 +85,7 @@ loop-again c =
     let v = c .before .before .before .before .before .before in (
       v .loop .inv .0,
       omega arith,
-      step (v .before .args .t1) (v .before .pre) (v .loop .k) (omega arith) _ (v .loop .next) _ _ (v .loop .inv .2) (c .before .arc-weight .ensures) (c .shorter .ensures),
+      relaxed-more (v .before .args .t1) (v .before .pre) (v .loop .k) (omega arith) _ (c .before .arc-weight .result) (v .loop .inv .2) (c .before .arc-weight .ensures) (ap (set (v .loop .next) _) (c .shorter .ensures)),
     )
 
 returns : tie.Need-returns Inv-loop μ-loop

@@ -1,0 +1,86 @@
+-- The invariant: the entries before the xth.
+use Prim.Native.Nat.{_-_, _/_, _%_}
+use native.Mathlib.Omega.{arith}
+use Rattle.plan.specs.Laws.Prefix.{Prefix, prefix-none, prefix-more, prefix-all}
+use Rattle.network.specs.Thinning.{cell, flag, nearby}
+use borrow.Author.Needs.{needs}
+use Rattle.network.proofs.thinning.columns_near.Statement.{statement}
+use Rattle.network.proofs.thinning.columns_near.Tie as tie
+
+abbrev Inv-loop : tie.InvT-loop
+Inv-loop d pairs columns₀ x₀ columns x = Prefix 4096 0 (λ y. nearby (flag pairs (y % 64) (y / 64)) (cell d (y % 64) (y / 64))) columns x
+
+abbrev μ-loop : tie.MeasureT-loop
+μ-loop d pairs columns₀ x₀ columns x = 4096 - x
+
+loop-holds : tie.Need-loop-holds Inv-loop μ-loop
+loop-holds c =
+    prefix-none 4096 0 _ 0
+
+mul-near : tie.Need-mul-near Inv-loop μ-loop
+mul-near c = search needs
+
+add-near : tie.Need-add-near Inv-loop μ-loop
+add-near c = search needs
+
+element-copy-out-near : tie.Need-element-copy-out-near Inv-loop μ-loop
+element-copy-out-near c = search needs
+
+mul-near-2 : tie.Need-mul-near-2 Inv-loop μ-loop
+mul-near-2 c = search needs
+
+mul-near-3 : tie.Need-mul-near-3 Inv-loop μ-loop
+mul-near-3 c = search needs
+
+index-1-near : tie.Need-index-1-near Inv-loop μ-loop
+index-1-near c = search needs
+
+index-2-near : tie.Need-index-2-near Inv-loop μ-loop
+index-2-near c = search needs
+
+near-requires : tie.Need-near-requires Inv-loop μ-loop
+near-requires c κs = search needs
+
+mul-columns : tie.Need-mul-columns Inv-loop μ-loop
+mul-columns c = search needs
+
+array-write-columns : tie.Need-array-write-columns Inv-loop μ-loop
+array-write-columns c = search needs
+
+add-x : tie.Need-add-x Inv-loop μ-loop
+add-x c = search needs
+
+loop-less : tie.Need-loop-less Inv-loop μ-loop
+loop-less c = search needs
+
+loop-again : tie.Need-loop-again Inv-loop μ-loop
+loop-again c =
+    let v = c .before .before .before .before in
+    prefix-more 4096 0 _ (v .loop .columns) (v .loop .x) _ (v .loop .inv) (omega arith) (c .near .ensures .0)
+
+returns : tie.Need-returns Inv-loop μ-loop
+returns c =
+    let v = c .before in
+    prefix-all 4096 0 _ (v .loop .columns) (v .loop .x) (v .loop .inv) (omega arith)
+
+pub columns-near-spec : {M : Type 1} → statement M
+columns-near-spec =
+    tie.close
+    (tie.spec
+    Inv-loop
+    μ-loop
+    loop-holds
+    mul-near
+    add-near
+    element-copy-out-near
+    mul-near-2
+    mul-near-3
+    index-1-near
+    index-2-near
+    near-requires
+    mul-columns
+    array-write-columns
+    add-x
+    loop-less
+    loop-again
+    returns)

@@ -1,0 +1,66 @@
+-- The first x entries are the same.
+use mathlib.Core.Path.{_≡_, refl}
+use Prim.Native.Nat.{ℕ, _-_, _≤_, _<_}
+use native.Mathlib.Omega.{arith}
+use borrow.Author.Count.{below-more}
+use lib.ListN.{getD}
+use borrow.Author.Needs.{needs}
+use Rattle.shortest.proofs.columns.same_all.Statement.{statement}
+use Rattle.shortest.proofs.columns.same_all.Tie as tie
+
+abbrev Inv-loop : tie.InvT-loop
+Inv-loop a b x₀ x = (x ≤ 4096) × ((i : ℕ) → i < x → getD a i 0 ≡ getD b i 0)
+
+abbrev μ-loop : tie.MeasureT-loop
+μ-loop a b x₀ x = 4096 - x
+
+loop-holds : tie.Need-loop-holds Inv-loop μ-loop
+loop-holds c = search needs
+
+mul-if1 : tie.Need-mul-if1 Inv-loop μ-loop
+mul-if1 c = search needs
+
+element-copy-out-if1 : tie.Need-element-copy-out-if1 Inv-loop μ-loop
+element-copy-out-if1 c = search needs
+
+mul-if1-2 : tie.Need-mul-if1-2 Inv-loop μ-loop
+mul-if1-2 c = search needs
+
+element-copy-out-if1-2 : tie.Need-element-copy-out-if1-2 Inv-loop μ-loop
+element-copy-out-if1-2 c = search needs
+
+returns : tie.Need-returns Inv-loop μ-loop
+returns c =
+    λ e j l. absurd (let z : _≡_ {A = ℕ} 0 1 = cc in omega arith)
+
+add-x : tie.Need-add-x Inv-loop μ-loop
+add-x c = search needs
+
+loop-less : tie.Need-loop-less Inv-loop μ-loop
+loop-less c = search needs
+
+loop-again : tie.Need-loop-again Inv-loop μ-loop
+loop-again c =
+    let v = c .before .before .before .before .loop in
+    (omega arith, below-more _ (v .x) (v .inv .1) (c .if1 .left))
+
+returns-2 : tie.Need-returns-2 Inv-loop μ-loop
+returns-2 c =
+    λ e j l. c .before .loop .inv .1 j (omega arith)
+
+pub same-all-spec : {M : Type 1} → statement M
+same-all-spec =
+    tie.close
+    (tie.spec
+    Inv-loop
+    μ-loop
+    loop-holds
+    mul-if1
+    element-copy-out-if1
+    mul-if1-2
+    element-copy-out-if1-2
+    returns
+    add-x
+    loop-less
+    loop-again
+    returns-2)

@@ -1,0 +1,66 @@
+-- The invariant: the rows before the ith are begun.
+use mathlib.Core.Path.{refl}
+use Prim.Native.Nat.{_-_}
+use native.Mathlib.Omega.{arith}
+use lib.ListN.{replicate, length-replicate}
+use Rattle.postman.specs.Distance.{noPath}
+use Rattle.shortest.specs.Relaxation.{startRow}
+use Rattle.shortest.specs.Laws.Columns.{Changed, changed-none, changed-more, changed-all, start-none}
+use borrow.Author.Needs.{needs}
+use Rattle.shortest.proofs.columns.start.Statement.{statement}
+use Rattle.shortest.proofs.columns.start.Tie as tie
+
+abbrev Inv-loop : tie.InvT-loop
+Inv-loop c₀ i₀ c i = Changed (λ j. replicate 64 noPath) startRow c i
+
+abbrev μ-loop : tie.MeasureT-loop
+μ-loop c₀ i₀ c i = 64 - i
+
+loop-holds : tie.Need-loop-holds Inv-loop μ-loop
+unfolding noPath
+loop-holds c = changed-none (λ j. replicate 64 noPath) startRow _ (length-replicate 4096 noPath) start-none
+
+mul-c : tie.Need-mul-c Inv-loop μ-loop
+mul-c c = search needs
+
+add-c : tie.Need-add-c Inv-loop μ-loop
+add-c c = search needs
+
+mul-c-2 : tie.Need-mul-c-2 Inv-loop μ-loop
+mul-c-2 c = search needs
+
+array-write-c : tie.Need-array-write-c Inv-loop μ-loop
+array-write-c c = search needs
+
+add-i : tie.Need-add-i Inv-loop μ-loop
+add-i c = search needs
+
+loop-less : tie.Need-loop-less Inv-loop μ-loop
+loop-less c = search needs
+
+loop-again : tie.Need-loop-again Inv-loop μ-loop
+unfolding startRow
+loop-again c =
+    let v = c .before in
+    changed-more (λ j. replicate 64 noPath) startRow (v .loop .c) (v .loop .i) (v .loop .i) 0 (omega arith) (omega arith) refl (v .loop .inv)
+
+returns : tie.Need-returns Inv-loop μ-loop
+returns c =
+    let v = c .before in
+    (v .loop .inv .long, changed-all _ _ (v .loop .c) (v .loop .i) (omega arith) (v .loop .inv))
+
+pub start-spec : {M : Type 1} → statement M
+start-spec =
+    tie.close
+    (tie.spec
+    Inv-loop
+    μ-loop
+    loop-holds
+    mul-c
+    add-c
+    mul-c-2
+    array-write-c
+    add-i
+    loop-less
+    loop-again
+    returns)
