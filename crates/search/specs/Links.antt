@@ -1,0 +1,10 @@
+-- Links in arrays.
+use mathlib.Core.List.{List, List·Memᴰ}
+use Prim.Native.Nat.{ℕ, _<_}
+use lib.ListN.{getD, take}
+use Rattle.postman.specs.Link.{Link}
+use Rattle.balance.specs.Step.{arcsOf}
+
+-- The links whose tails and heads are the first n of two arrays.
+abbrev pub linksIn : ℕ → List ℕ → List ℕ → List Link
+linksIn n tails heads = arcsOf (take n tails) (take n heads)
