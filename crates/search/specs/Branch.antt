@@ -1,7 +1,9 @@
 -- A branch: the trees that begin with the same choices for components 1 to a − 1. Each of these components is one with the component that it is entered from, and what
 -- is left to choose depends on the choices by these new names alone.
-use mathlib.Core.List.{List, map}
-use Prim.Native.Nat.{ℕ, _-_}
+use mathlib.Core.Bool.{cond}
+use mathlib.Core.List.{List, [], _∷_, map, List·Memᴰ}
+use Prim.Native.Nat.{ℕ, suc, _-_, _<_}
+use lib.Dec.{eqb}
 use Rattle.postman.specs.Lists.{select, upFrom, choices}
 use Rattle.postman.specs.Plan.{Plan}
 use Rattle.postman.specs.Link.{Link}
@@ -18,6 +20,14 @@ sourceBy p names l = names (component p (l .tail))
 abbrev pub renamedBy : (ℕ → ℕ) → ℕ → ℕ → ℕ → ℕ
 renamedBy names a x c = renamed a x (names c)
 
+-- every name is a component from a on, which are left, or the root
+abbrev pub Named : Plan → (ℕ → ℕ) → ℕ → Type 0
+Named p names a = (c : ℕ) → c < componentCount p → List·Memᴰ (names c) (0 ∷ upFrom a (componentCount p - a))
+
+-- the sources of the candidates of component q, by their new names
+abbrev pub sourcesBy : Plan → (ℕ → ℕ) → ℕ → List ℕ
+sourcesBy p names q = map (sourceBy p names) (candidates p q)
+
 -- one candidate of each component from a on, in every way
 unfoldable pub leftChoices : Plan → ℕ → List (List Link)
 unfolding choices candidates upFrom componentCount
@@ -27,3 +37,7 @@ leftChoices p a = choices (map (candidates p) (upFrom a (componentCount p - a)))
 unfoldable pub completions : Plan → (ℕ → ℕ) → ℕ → List (List Link)
 unfolding select leftChoices
 completions p names a = select (λ t. isTree (componentCount p) a (map (sourceBy p names) t)) (leftChoices p a)
+
+-- those in which component a takes the candidate l: none if it would close a circle, else those of the branch below, behind l
+abbrev pub entered : Plan → (ℕ → ℕ) → ℕ → Link → List (List Link)
+entered p names a l = cond (eqb (sourceBy p names l) a) [] (map (λ t. l ∷ t) (completions p (renamedBy names a (sourceBy p names l)) (suc a)))

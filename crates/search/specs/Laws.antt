@@ -3,3 +3,7 @@ pub mod Branch
 pub mod Progress
 pub mod Prepared
 pub mod Bound
+pub mod Names
+pub mod Reduced
+pub mod Rest
+pub mod Counts

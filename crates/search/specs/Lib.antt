@@ -4,5 +4,6 @@ pub mod Branch
 pub mod Progress
 pub mod Bound
 pub mod Prepared
+pub mod Contracts
 -- What is proved about them.
 pub mod Laws

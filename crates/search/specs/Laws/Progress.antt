@@ -38,7 +38,7 @@ module _ (f : List Link → ℕ) where
   advance-append h (t ∷ ts) us = advance-append (tryTree f h t) ts us
 
   module _ (h : Held) (t : List Link) where
-    try-skipped : 0 < h .skip → tryTree f h t ≡ passOver h 1
+    pub try-skipped : 0 < h .skip → tryTree f h t ≡ passOver h 1
     unfolding tryTree
     try-skipped l = ap (λ b. cond b (passOver h 1) (cond (ltb 0 (h .left)) (passOver (keep h (f t) t) 1) h)) (lt-ltb 0 (h .skip) l)
 
@@ -49,7 +49,7 @@ module _ (f : List Link → ℕ) where
     pub try-left : h .skip ≡ 0 → 0 < h .left → tryTree f h t ≡ passOver (keep h (f t) t) 1
     try-left e l = none-skipped e ∙ ap (λ b. cond b (passOver (keep h (f t) t) 1) h) (lt-ltb 0 (h .left) l)
 
-    try-none : h .left ≡ 0 → tryTree f h t ≡ passOver h 1
+    pub try-none : h .left ≡ 0 → tryTree f h t ≡ passOver h 1
     try-none e = elim (decLt 0 (h .skip)) [
       | yes l ↦ try-skipped l
       | no l ↦
