@@ -119,7 +119,7 @@ pub record IsBranch (p : Plan) (table : List (List ℕ)) (b : Branch) : Type 0 w
   pub rests : AreRests p table (b .multipliers) (b .a) (componentCount p) (b .rests)
   pub rests-small : (q : ℕ) → getD (b .rests) q 0 ≤ 32000000000
   pub named : Named p (namesIn b) (b .a)
-  pub entries : (q x : ℕ) → b .a ≤ q → q < componentCount p → x < 8 → entriesOf (b .entries) q x ≡ occurrences x (sourcesBy p (namesIn b) q)
+  pub entries : (q x : ℕ) → b .a ≤ q → q < componentCount p → List·Memᴰ x (0 ∷ upFrom (b .a) (componentCount p - b .a)) → entriesOf (b .entries) q x ≡ occurrences x (sourcesBy p (namesIn b) q)
   pub few : AreFew (b .entries) (b .a) (componentCount p)
 
 -- The branch that has no choice yet: all trees.

@@ -7,3 +7,4 @@ pub mod Names
 pub mod Reduced
 pub mod Rest
 pub mod Counts
+pub mod Below

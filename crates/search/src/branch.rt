@@ -122,7 +122,7 @@ pub fn root(
     required_cost: u64,
     entries: [u32; 64],
 ) -> Branch
-    requires { ⌜ (p : Plan) × (source : List ℕ) × Prepared p (now d) (now vs) (now start) source (now tails) (now heads) k × AreGiven p (now d) (stateOf base) (now u) «required_cost» entries ⌝ }
+    requires { ⌜ ((p : Plan) × (source : List ℕ) × Prepared p (now d) (now vs) (now start) source (now tails) (now heads) k × AreGiven p (now d) (stateOf base) (now u) «required_cost» entries) ⌝ }
     ensures { λ r. ⌜ ((p : Plan) (source : List ℕ) → Prepared p (now (d .entry)) (now (vs .entry)) (now (start .entry)) source (now (tails .entry)) (now (heads .entry)) k → AreGiven p (now (d .entry)) (stateOf base) (now (u .entry)) «required_cost» entries → IsRoot p (now (d .entry)) r) ⌝ }
 {
     let w = shifted(u, vs);

@@ -38,7 +38,7 @@ module _ (p : Plan) (ok : InPlan p) (some : 1 ≤ componentCount p) where
   abbrev left : ℕ → List ℕ
   left a = upFrom a (k - a)
 
-  source-lt : (q : ℕ) (l : Link) → List·Memᴰ l (candidates p q) → component p (l .tail) < k
+  pub source-lt : (q : ℕ) (l : Link) → List·Memᴰ l (candidates p q) → component p (l .tail) < k
   unfolding plan.sources
   source-lt q l m = plan.source-lt p ok some q (component p (l .tail)) (mem-map (λ (l : Link). component p (l .tail)) m)
 
