@@ -8,3 +8,4 @@ pub mod Reduced
 pub mod Rest
 pub mod Counts
 pub mod Below
+pub mod Root
