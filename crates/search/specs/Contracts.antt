@@ -23,6 +23,7 @@ use Rattle.tree_count.specs.Recursion.{merged, countTrees}
 use Rattle.tree_count.specs.Matrix.{entriesOf, cap, AreFew, IsMerged}
 use Rattle.tree_count.specs.Laws.Arrival.{renamed}
 use Rattle.search.specs.declared.branch.Branch.{Branch}
+use Rattle.search.specs.declared.explore.Candidate.{Candidate}
 use Rattle.search.specs.declared.progress.Progress.{Progress}
 use Rattle.search.specs.declared.tried.Searched.{Searched}
 use Rattle.search.specs.Links.{linksIn}
@@ -84,6 +85,13 @@ pub record AreCounts (entries : List ℕ) (a k : ℕ) (counts : List ℕ) : Type
 -- What is held, with trees of m links.
 abbrev pub heldOf : ℕ → Progress → Held
 heldOf m g = held (g .cost) (linksIn m (g .tails) (g .heads)) (g .skip) (g .left)
+
+-- A candidate of the component that is chosen for next: its link, its source by its new name, and how many trees the branch below has.
+pub record IsCandidate (source tails heads names counts : List ℕ) (x : ℕ) (c : Candidate) : Type 0 where
+  pub tail-is : c .tail ≡ getD tails x 0
+  pub head-is : c .head ≡ getD heads x 0
+  pub name-is : c .name ≡ getD names (getD source x 0) 0
+  pub trees-are : c .trees ≡ getD counts (getD names (getD source x 0) 0) 0
 
 -- Whether a branch of n trees is gone into: some of them are tried, and neither bound is as much as the best so far.
 abbrev pub isEntered : Progress → ℕ → ℕ → ℕ → Bool
@@ -177,10 +185,8 @@ treesIn p b = map (λ t. chosenIn b ++ t) (completions p (namesIn b) (b .a))
 -- ---- THE ANSWERS
 
 -- The trees ts were gone through.
-pub record IsExplored (p : Plan) (ts : List (List Link)) (before after : Progress) : Type 0 where
-  pub held-is : heldOf (componentCount p - 1) after ≡ advance (completionCost p) (heldOf (componentCount p - 1) before) ts
-  pub skipped : after .skip ≤ before .skip
-  pub fewer : after .left ≤ before .left
+abbrev pub IsExplored : Plan → List (List Link) → Progress → Progress → Type 0
+IsExplored p ts before after = heldOf (componentCount p - 1) after ≡ advance (completionCost p) (heldOf (componentCount p - 1) before) ts
 
 pub record IsSearched (p : Plan) (budget : ℕ) (r : Searched) : Type 0 where
   pub cost : r .cost ≡ bestCost p budget

@@ -9,3 +9,4 @@ pub mod Rest
 pub mod Counts
 pub mod Below
 pub mod Root
+pub mod Explore

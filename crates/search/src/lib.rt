@@ -5,4 +5,5 @@ mod reduced; // reduced costs
 mod rest; // what the components that are not chosen for yet cost at least
 pub mod progress; // the best so far, and the trees that are left
 pub mod branch; // the trees that begin with the same choices
+pub mod explore; // the trees of a branch, in order
 pub mod tried; // all trees, at most as many as the budget
