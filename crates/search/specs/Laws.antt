@@ -10,3 +10,4 @@ pub mod Counts
 pub mod Below
 pub mod Root
 pub mod Explore
+pub mod Tried

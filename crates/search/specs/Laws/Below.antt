@@ -73,7 +73,7 @@ module _ {p : Plan} {table : List (List ℕ)} {vs start source tails heads : Lis
   pub chosen-short : length (chosenIn b) ≤ 8
   chosen-short = let e = chosen-length in let m = is .most in let f = h .few in omega arith
 
-  link-cost-small : (t : List Link) → Joins p t → linkCost p t ≤ length t * 4128705
+  pub link-cost-small : (t : List Link) → Joins p t → linkCost p t ≤ length t * 4128705
   unfolding linkCost sumOf
   link-cost-small [] j = omega arith
   link-cost-small (l ∷ t) j =

@@ -43,6 +43,9 @@ none [] hs = refl
 none (t ∷ ts) [] = refl
 none (t ∷ ts) (h ∷ hs) = refl
 
+pub no-chosen : (b : Branch) → b .a ≡ 1 → chosenIn b ≡ []
+no-chosen b e = ap (λ n. linksIn (n - 1) (b .tails) (b .heads)) e ∙ none (b .tails) (b .heads)
+
 module _ {p : Plan} {table : List (List ℕ)} {vs start source tails heads : List ℕ} {k : ℕ} (h : Prepared p table vs start source tails heads k) where
   -- the candidates have reduced costs, by any potentials
   pub can-rest : (pot : List ℕ) → ArePotentials table (required p) pot → (a : ℕ) → 1 ≤ a → a ≤ k → CanRest table pot start tails heads a k
@@ -148,7 +151,7 @@ module _ {p : Plan} {table : List (List ℕ)} {vs start source tails heads : Lis
 
       module _ (b : Branch) (f : AreFields b) where
         no-links : chosenIn b ≡ []
-        no-links = ap (λ n. linksIn (n - 1) (b .tails) (b .heads)) (f .nothing-chosen) ∙ none (b .tails) (b .heads)
+        no-links = no-chosen b (f .nothing-chosen)
 
         named : Named p (namesIn b) (b .a)
         named c l =
