@@ -47,7 +47,8 @@ fn candidate_at(
     }
 }
 
-// The trees of a branch. One candidate of component a after the other: the branch below is passed over, with all its trees counted at once, or gone into.
+// The trees of a branch. One candidate of component a after the other: the branch below is passed over, with all its trees counted at once, or gone into. Its trees are priced by the potentials of the
+// branch below that was gone into last, which were raised for a link of the same component.
 pub fn explore(
     g: Progress,
     b: Branch,
@@ -72,10 +73,11 @@ pub fn explore(
     let names = b.names;
     let rests = b.rests;
     let u = b.multipliers;
-    let p = b.potentials;
     let counts = counts(entries, a, k);
     let given = b.bound + rests[a];
-    let own = b.fixed + b.balancing + rest(d, &p, start, tails, heads, a + 1, k);
+    let known = b.fixed + b.balancing;
+    let mut p = b.potentials;
+    let mut own = known + rest(d, &p, start, tails, heads, a + 1, k);
     let end = start[a + 1];
     let mut x = start[a];
     let mut r = g;
@@ -85,6 +87,9 @@ pub fn explore(
         let other = own + reduced(d, &p, c.tail, c.head);
         if entered(r, c.trees, one, other) {
             let next = below(b, d, vs, c.tail, c.head, c.name, k);
+            let raised = next.potentials;
+            p = raised;
+            own = known + rest(d, &p, start, tails, heads, a + 1, k);
             let after = explore(r, next, d, vs, start, source, tails, heads, k);
             r = after;
         } else {

@@ -20,9 +20,10 @@ use Rattle.postman.specs.Link.{Link}
 use Rattle.postman.specs.Component.{component, componentCount}
 use Rattle.postman.specs.Arborescence.{linkAt, candidates}
 use Rattle.postman.specs.Balancing.{linkCost, leastBalancing, completionCost}
+use Rattle.postman.specs.Laws.Balancing.{Joins}
 use Rattle.postman.specs.Laws.Membership.{map-mem, select-mem, upFrom-mem, mem-upFrom}
 use Rattle.postman.specs.Laws.Lists.{map-cong, map-append, map-map}
-use Rattle.balance.specs.Step.{State, cell}
+use Rattle.balance.specs.Step.{State, cell, add}
 use Rattle.balance.specs.Balance.{balance}
 use Rattle.balance.specs.Laws.Plan.{balance-least}
 use Rattle.tree_count.specs.Recursion.{merged, countTrees}
@@ -40,7 +41,7 @@ use Rattle.search.specs.Contracts.{heldOf, isEntered, IsShort, chosenIn,
 use Rattle.search.specs.Laws.Prepared.{in-plan, some-component, agrees, places, places-fit, here-mem, here-source}
 use Rattle.search.specs.Laws.Branch.{source-lt, completions-step, completions-last, completions-cong, entered-none, entered-some, entered-count}
 use Rattle.search.specs.Laws.Progress.{pass-none, held-same, advance-append, passed-over, Idle}
-use Rattle.search.specs.Laws.Bound.{too-dear, own-potentials, own-bounds}
+use Rattle.search.specs.Laws.Bound.{too-dear, own-potentials, own-bounds, below-bounds}
 use Rattle.search.specs.Laws.Below.{chosen-short, can-reduce, can-go-below, chosen-more, below-branch}
 
 -- ---- lists
@@ -296,15 +297,54 @@ module _ {p : Plan} {table : List (List ℕ)} {vs start source tails heads : Lis
           ]
         ]
 
-  -- ---- its own potentials
+  -- ---- the potentials that price it
 
-  own-bound : Bounds p table (b .potentials) (b .fixed + b .balancing) (chosenIn b) (b .a)
-  own-bound =
-      subst⁻¹ (λ (s : State). Bounds p table (s .potentials) (b .fixed + s .cost) (chosenIn b) (b .a)) (is .state)
-      (subst⁻¹ (λ n. Bounds p table (balance (cell table) p (chosenIn b) .potentials) (n + balance (cell table) p (chosenIn b) .cost) (chosenIn b) (b .a)) (is .fixed) (own-bounds h (chosenIn b) (is .joins) (chosen-short h b is) (b .a)))
+  -- potentials by which its trees cost at least what is known of it, and what they price the components behind a at
+  pub record IsPricing (pot : List ℕ) (own : ℕ) : Type 0 where
+    pub potentials : ArePotentials table (required p) pot
+    pub bounds : Bounds p table pot (b .fixed + b .balancing) (chosenIn b) (b .a)
+    pub rest : ℕ
+    pub low : Low p table pot rest (b .a + 1)
+    pub sum : own ≡ b .fixed + b .balancing + rest
 
+  -- its own
   pub own-feasible : ArePotentials table (required p) (b .potentials)
   own-feasible = subst⁻¹ (λ (s : State). ArePotentials table (required p) (s .potentials)) (is .state) (own-potentials h (chosenIn b) (is .joins) (chosen-short h b is))
+
+  pub own-pricing : (rest : ℕ) → Low p table (b .potentials) rest (b .a + 1) → IsPricing (b .potentials) (b .fixed + b .balancing + rest)
+  own-pricing rest low = record {
+    potentials = own-feasible;
+    bounds = subst⁻¹ (λ (s : State). Bounds p table (s .potentials) (b .fixed + s .cost) (chosenIn b) (b .a)) (is .state)
+        (subst⁻¹ (λ n. Bounds p table (balance (cell table) p (chosenIn b) .potentials) (n + balance (cell table) p (chosenIn b) .cost) (chosenIn b) (b .a)) (is .fixed) (own-bounds h (chosenIn b) (is .joins) (chosen-short h b is) (b .a)));
+    rest = rest;
+    low = low;
+    sum = refl;
+  }
+
+  -- those of a branch below
+  module _ (more : b .a < k) (l : Link) (m : List·Memᴰ l (candidates p (b .a))) (other : sourceBy p (namesIn b) l ≢ b .a) (n : Branch) (at : IsBelow table vs b (l .tail) (l .head) (sourceBy p (namesIn b) l) k n) where
+    pub below-feasible : ArePotentials table (required p) (n .potentials)
+    below-feasible =
+        let br = below-branch h b is more l m other n at in
+        subst⁻¹ (λ (s : State). ArePotentials table (required p) (s .potentials)) (br .state) (own-potentials h (chosenIn n) (br .joins) (chosen-short h n br))
+
+    pub below-pricing : (rest : ℕ) → Low p table (n .potentials) rest (b .a + 1) → IsPricing (n .potentials) (b .fixed + b .balancing + rest)
+    unfolding add
+    below-pricing rest low =
+        let br = below-branch h b is more l m other n at in
+        let c = chosen-more h b is more l m other n at in
+        let s : stateIn n ≡ balance (cell table) p (chosenIn b ++ l ∷ []) = br .state ∙ ap (balance (cell table) p) c in
+        let cost : balance (cell table) p (chosenIn b ++ l ∷ []) .cost ≡ b .balancing + getD (n .potentials) (l .head) 0 - getD (n .potentials) (l .tail) 0 =
+        sym (ap (λ (s : State). s .cost) s) ∙ ap (λ (s : State). s .cost) (at .state-is)
+        ∙ sym (ap (λ (s : State). b .balancing + getD (s .potentials) (l .head) 0 - getD (s .potentials) (l .tail) 0) (at .state-is))
+        in record {
+          potentials = below-feasible;
+          bounds = subst⁻¹ (λ v. Bounds p table (n .potentials) (v + b .balancing) (chosenIn b) (b .a)) (is .fixed)
+              (below-bounds h (chosenIn b) l (is .joins) (subst (Joins p) c (br .joins)) (let e = ap length c in let f = chosen-short h n br in omega arith) (b .balancing) (n .potentials) (ap (λ (s : State). s .potentials) s) cost (b .a));
+          rest = rest;
+          low = low;
+          sum = refl;
+        }
 
   -- ---- the candidate at a place
 
@@ -377,20 +417,25 @@ module _ {p : Plan} {table : List (List ℕ)} {vs start source tails heads : Lis
         pub next-branch : IsBranch p table n
         next-branch = below-branch h b is more there mem apart n below-there
 
+        pub next-feasible : ArePotentials table (required p) (n .potentials)
+        next-feasible = below-feasible more there mem apart n below-there
+
+        pub next-pricing : (rest : ℕ) → Low p table (n .potentials) rest (b .a + 1) → IsPricing (n .potentials) (b .fixed + b .balancing + rest)
+        next-pricing = below-pricing more there mem apart n below-there
+
         pub next-explored : (g s : Progress) → IsExplored p (branches (take i (candidates p (b .a)))) g r → IsExplored p (treesIn p n) r s → IsExplored p (branches (take (i + 1) (candidates p (b .a)))) g s
         next-explored g s before e = one-more more i less g r s before (gone-into more there mem apart n below-there r s e)
 
       -- it is passed over
-      pub next-passed : (g r s : Progress) → IsShort r → IsExplored p (branches (take i (candidates p (b .a)))) g r → ((i : ℕ) → heldOf i s ≡ passOver (heldOf i r) (c .trees)) → (given own : ℕ)
-          → Low p table (b .multipliers) given (b .a + 1) → Low p table (b .potentials) own (b .a + 1)
-          → isEntered r (c .trees) (b .bound + given + reducedBy table (b .multipliers) (c .tail) (c .head)) (b .fixed + b .balancing + own + reducedBy table (b .potentials) (c .tail) (c .head)) ≡ false
+      pub next-passed : (g r s : Progress) → IsShort r → IsExplored p (branches (take i (candidates p (b .a)))) g r → ((i : ℕ) → heldOf i s ≡ passOver (heldOf i r) (c .trees)) → (given : ℕ)
+          → Low p table (b .multipliers) given (b .a + 1) → (pot : List ℕ) (own : ℕ) → IsPricing pot own
+          → isEntered r (c .trees) (b .bound + given + reducedBy table (b .multipliers) (c .tail) (c .head)) (own + reducedBy table pot (c .tail) (c .head)) ≡ false
           → IsExplored p (branches (take (i + 1) (candidates p (b .a)))) g s
-      next-passed g r s short before e given own low-given low-own out =
+      next-passed g r s short before e given low-given pot own price out =
           let one = b .bound + given + reducedBy table (b .multipliers) (c .tail) (c .head) in
-          let other = b .fixed + b .balancing + own + reducedBy table (b .potentials) (c .tail) (c .head) in
-          let x = sourceBy p (namesIn b) there in
+          let other = own + reducedBy table pot (c .tail) (c .head) in
           let next : suc (b .a) ≡ b .a + 1 = omega arith in
           one-more more i less g r s before
           (passed more there mem counts are r s short (λ m. e m ∙ ap (passOver (heldOf m r)) trees-are) one other (subst (λ n. isEntered r n one other ≡ false) trees-are out)
           (λ o t m. dear more there mem (b .multipliers) (b .bound) given one (is .bounded) (subst⁻¹ (Low p table (b .multipliers) given) next low-given) (let q = reduced-same (b .multipliers) in omega arith) o t m)
-          (λ o t m. dear more there mem (b .potentials) (b .fixed + b .balancing) own other own-bound (subst⁻¹ (Low p table (b .potentials) own) next low-own) (let q = reduced-same (b .potentials) in omega arith) o t m))
+          (λ o t m. dear more there mem pot (b .fixed + b .balancing) (price .rest) other (price .bounds) (subst⁻¹ (Low p table pot (price .rest)) next (price .low)) (let q = reduced-same pot in let f = price .sum in omega arith) o t m))

@@ -1,4 +1,4 @@
--- After each turn the trees behind the candidates so far were gone through. The call is for a component fewer.
+-- After each turn the trees behind the candidates so far were gone through, and the potentials price the branch. The call is for a component fewer.
 use mathlib.Core.Path.{_≡_, refl, sym, ap, ap₂, _∙_, subst, subst⁻¹}
 use mathlib.Core.Logic.{⊎-elim}
 use mathlib.Core.List.{List}
@@ -15,7 +15,7 @@ use Rattle.search.specs.Contracts.{IsShort, isEntered, IsBranch, IsExplo
 use Rattle.search.specs.Laws.Prepared.{places}
 use Rattle.search.specs.Laws.Root.{can-rest}
 use Rattle.search.specs.Laws.Below.{fixed-small, balancing-small}
-use Rattle.search.specs.Laws.Explore.{branches, more-left, one-tree, explored-start, explored-end, explored-short, own-feasible, can-look, can-reduce-here, can-go, next-branch, next-explored, next-passed}
+use Rattle.search.specs.Laws.Explore.{branches, more-left, one-tree, explored-start, explored-end, explored-short, IsPricing, own-feasible, own-pricing, can-look, can-reduce-here, can-go, next-branch, next-feasible, next-pricing, next-explored, next-passed}
 use borrow.Author.Needs.{needs}
 use borrow.Fn.Kinds.{In}
 use borrow.Fn.PlainCycle.{Measures, is, falls, and}
@@ -66,12 +66,12 @@ claims t = (
 )
 
 abbrev Inv-loop : explore-lts.InvT-loop
-Inv-loop b d vs start source tails heads k a names u p counts given own end x₀ r₀ x r =
-    (getD start (b .a) 0 ≤ x) × (x ≤ end) × IsShort r
-    × ((q : Plan) (h : Prepared q d vs start source tails heads k) (br : IsBranch q d b) → IsExplored q (branches h b br (take (x - getD start (b .a) 0) (candidates q (b .a)))) r₀ r)
+Inv-loop b d vs start source tails heads k a names u counts given known p₀ own₀ end x₀ r₀ p own x r =
+    (getD start (b .a) 0 ≤ x) × (x ≤ end) × IsShort r × (own ≤ 3050000000000)
+    × ((q : Plan) (h : Prepared q d vs start source tails heads k) (br : IsBranch q d b) → IsExplored q (branches h b br (take (x - getD start (b .a) 0) (candidates q (b .a)))) r₀ r × IsPricing h b br p own)
 
 abbrev μ-loop : explore-lts.MeasureT-loop
-μ-loop b d vs start source tails heads k a names u p counts given own end x₀ r₀ x r = end - x
+μ-loop b d vs start source tails heads k a names u counts given known p₀ own₀ end x₀ r₀ p own x r = end - x
 
 explore-add-completed : (t : ℕ) → explore-lts.Need-add-completed (claims t) (explore-at t) explore.Post Inv-loop μ-loop
 explore-add-completed t c =
@@ -94,36 +94,36 @@ explore-returns t c =
 
 explore-counts-requires : (t : ℕ) → explore-lts.Need-counts-requires (claims t) (explore-at t) explore.Post Inv-loop μ-loop
 explore-counts-requires t c κs =
-    let s = c .before .before .before .before .before .before .before .before .before in
+    let s = c .before .before .before .before .before .before .before .before in
     let b = s .args .b in
     let h = s .pre .1 .0 .1 in
     let br = s .pre .1 .0 .2 in
-    let more = more-left h b br (c .before .before .before .before .before .if1 .left) in
+    let more = more-left h b br (c .before .before .before .before .if1 .left) in
     let few = h .few in
     let n = h .count in
     (br .one, more, omega arith, subst⁻¹ (AreFew (b .entries) (b .a)) n (br .few))
 
 explore-mul-given : (t : ℕ) → explore-lts.Need-mul-given (claims t) (explore-at t) explore.Post Inv-loop μ-loop
 explore-mul-given t c =
-    let s = c .before .before .before .before .before .before .before .before .before .before in
+    let s = c .before .before .before .before .before .before .before .before .before in
     let b = s .args .b in
     let h = s .pre .1 .0 .1 in
     let br = s .pre .1 .0 .2 in
-    let more = more-left h b br (c .before .before .before .before .before .before .if1 .left) in
+    let more = more-left h b br (c .before .before .before .before .before .if1 .left) in
     let few = h .few in let n = h .count in let l : b .a < 8 = omega arith in search needs
 
 explore-array-read-given : (t : ℕ) → explore-lts.Need-array-read-given (claims t) (explore-at t) explore.Post Inv-loop μ-loop
 explore-array-read-given t c =
-    let s = c .before .before .before .before .before .before .before .before .before .before in
+    let s = c .before .before .before .before .before .before .before .before .before in
     let b = s .args .b in
     let h = s .pre .1 .0 .1 in
     let br = s .pre .1 .0 .2 in
-    let more = more-left h b br (c .before .before .before .before .before .before .if1 .left) in
+    let more = more-left h b br (c .before .before .before .before .before .if1 .left) in
     let few = h .few in let n = h .count in omega arith
 
 explore-add-given : (t : ℕ) → explore-lts.Need-add-given (claims t) (explore-at t) explore.Post Inv-loop μ-loop
 explore-add-given t c =
-    let s = c .before .before .before .before .before .before .before .before .before .before .before in
+    let s = c .before .before .before .before .before .before .before .before .before .before in
     let b = s .args .b in
     let h = s .pre .1 .0 .1 in
     let br = s .pre .1 .0 .2 in
@@ -132,9 +132,9 @@ explore-add-given t c =
     let l : b .bound + getD (b .rests) (b .a) 0 ≤ 3100000000000 = omega (arith, br .bound-small, br .rests-small (b .a)) in
     search needs
 
-explore-add-own : (t : ℕ) → explore-lts.Need-add-own (claims t) (explore-at t) explore.Post Inv-loop μ-loop
-explore-add-own t c =
-    let s = c .before .before .before .before .before .before .before .before .before .before .before .before in
+explore-add-known : (t : ℕ) → explore-lts.Need-add-known (claims t) (explore-at t) explore.Post Inv-loop μ-loop
+explore-add-known t c =
+    let s = c .before .before .before .before .before .before .before .before .before .before .before in
     let b = s .args .b in
     let h = s .pre .1 .0 .1 in
     let br = s .pre .1 .0 .2 in
@@ -161,8 +161,8 @@ explore-rest-requires t c κs =
     let more = more-left h b br (c .before .before .before .before .before .before .before .before .before .if1 .left) in
     can-rest h (b .potentials) (own-feasible h b br) (b .a + 1) (omega arith) (omega arith)
 
-explore-add-own-2 : (t : ℕ) → explore-lts.Need-add-own-2 (claims t) (explore-at t) explore.Post Inv-loop μ-loop
-explore-add-own-2 t c =
+explore-add-own : (t : ℕ) → explore-lts.Need-add-own (claims t) (explore-at t) explore.Post Inv-loop μ-loop
+explore-add-own t c =
     let s = c .before .before .before .before .before .before .before .before .before .before .before .before .before .before in
     let b = s .args .b in
     let h = s .pre .1 .0 .1 in
@@ -224,11 +224,14 @@ explore-loop-holds t c =
     let h = s .pre .1 .0 .1 in
     let br = s .pre .1 .0 .2 in
     let more = more-left h b br (c .before .before .before .before .before .before .before .before .before .before .before .before .if1 .left) in
+    let f = fixed-small h b br in
+    let g = balancing-small h b br in
     (
       omega arith,
       h .layout .ascending (b .a) more,
       s .pre .1 .1,
-      λ p h br. explored-start h b br (getD (s .args .start .now) (b .a) 0 - getD (s .args .start .now) (b .a) 0) (omega arith) (s .args .g),
+      omega (arith, c .before .before .rest .ensures .1),
+      λ p h br. (explored-start h b br (getD (s .args .start .now) (b .a) 0 - getD (s .args .start .now) (b .a) 0) (omega arith) (s .args .g), own-pricing h b br (c .before .before .rest .result) (c .before .before .rest .ensures .0 p _ _ h)),
     )
 
 explore-candidate-at-requires : (t : ℕ) → explore-lts.Need-candidate-at-requires (claims t) (explore-at t) explore.Post Inv-loop μ-loop
@@ -251,7 +254,7 @@ explore-reduced-requires t c κs =
     let more = more-left h b br (c .before .before .before .before .before .before .before .before .before .before .before .before .before .before .before .before .if1 .left) in
     let v = c .before .before .before .loop in
     let t = c .before .before .loop-test .taken in
-    can-reduce-here h b br more (v .x) (v .inv .0) t (c .before .before .before .before .before .before .before .before .before .before .counts .result) (c .before .before .before .before .before .before .before .before .before .before .counts .ensures) (c .before .candidate-at .result) (c .before .candidate-at .ensures) (b .multipliers) (br .potentials)
+    can-reduce-here h b br more (v .x) (v .inv .0) t (c .before .before .before .before .before .before .before .before .before .before .before .counts .result) (c .before .before .before .before .before .before .before .before .before .before .before .counts .ensures) (c .before .candidate-at .result) (c .before .candidate-at .ensures) (b .multipliers) (br .potentials)
 
 explore-add-one : (t : ℕ) → explore-lts.Need-add-one (claims t) (explore-at t) explore.Post Inv-loop μ-loop
 explore-add-one t c =
@@ -276,17 +279,12 @@ explore-reduced-requires-2 t c κs =
     let more = more-left h b br (c .before .before .before .before .before .before .before .before .before .before .before .before .before .before .before .before .before .before .if1 .left) in
     let v = c .before .before .before .before .before .loop in
     let t = c .before .before .before .before .loop-test .taken in
-    can-reduce-here h b br more (v .x) (v .inv .0) t (c .before .before .before .before .before .before .before .before .before .before .before .before .counts .result) (c .before .before .before .before .before .before .before .before .before .before .before .before .counts .ensures) (c .before .before .before .candidate-at .result) (c .before .before .before .candidate-at .ensures) (b .potentials) (own-feasible h b br)
+    can-reduce-here h b br more (v .x) (v .inv .0) t (c .before .before .before .before .before .before .before .before .before .before .before .before .before .counts .result) (c .before .before .before .before .before .before .before .before .before .before .before .before .before .counts .ensures) (c .before .before .before .candidate-at .result) (c .before .before .before .candidate-at .ensures) (v .p) (v .inv .4 _ h br .1 .potentials)
 
 explore-add-other : (t : ℕ) → explore-lts.Need-add-other (claims t) (explore-at t) explore.Post Inv-loop μ-loop
 explore-add-other t c =
-    let s = c .before .before .before .before .before .before .before .before .before .before .before .before .before .before .before .before .before .before .before .before .before .before .before in
-    let b = s .args .b in
-    let h = s .pre .1 .0 .1 in
-    let br = s .pre .1 .0 .2 in
-    let f = fixed-small h b br in
-    let g = balancing-small h b br in
-    let l : b .fixed + b .balancing + c .before .before .before .before .before .before .before .before .before .rest .result + c .reduced2 .result ≤ 3100000000000 = omega (arith, c .before .before .before .before .before .before .before .before .before .rest .ensures .1, c .reduced2 .ensures .1) in
+    let v = c .before .before .before .before .before .before .loop in
+    let l : v .own + c .reduced2 .result ≤ 3100000000000 = omega (arith, v .inv .3, c .reduced2 .ensures .1) in
     search needs
 
 explore-entered-requires : (t : ℕ) → explore-lts.Need-entered-requires (claims t) (explore-at t) explore.Post Inv-loop μ-loop
@@ -301,22 +299,55 @@ explore-below-requires t c κs =
     let more = more-left h b br (c .before .before .before .before .before .before .before .before .before .before .before .before .before .before .before .before .before .before .before .before .before .if1 .left) in
     let v = c .before .before .before .before .before .before .before .before .loop in
     let t = c .before .before .before .before .before .before .before .loop-test .taken in
-    can-go h b br more (v .x) (v .inv .0) t (c .before .before .before .before .before .before .before .before .before .before .before .before .before .before .before .counts .result) (c .before .before .before .before .before .before .before .before .before .before .before .before .before .before .before .counts .ensures) (c .before .before .before .before .before .before .candidate-at .result) (c .before .before .before .before .before .before .candidate-at .ensures)
+    can-go h b br more (v .x) (v .inv .0) t (c .before .before .before .before .before .before .before .before .before .before .before .before .before .before .before .before .counts .result) (c .before .before .before .before .before .before .before .before .before .before .before .before .before .before .before .before .counts .ensures) (c .before .before .before .before .before .before .candidate-at .result) (c .before .before .before .before .before .before .candidate-at .ensures)
 
-explore-explore-requires : (t : ℕ) → explore-lts.Need-explore-requires (claims t) (explore-at t) explore.Post Inv-loop μ-loop
-explore-explore-requires t c κs =
-    let s = c .before .before .before .before .before .before .before .before .before .before .before .before .before .before .before .before .before .before .before .before .before .before .before .before .before .before in
+explore-add-rest-2 : (t : ℕ) → explore-lts.Need-add-rest-2 (claims t) (explore-at t) explore.Post Inv-loop μ-loop
+explore-add-rest-2 t c =
+    let s = c .before .before .before .before .before .before .before .before .before .before .before .before .before .before .before .before .before .before .before .before .before .before .before .before .before .before .before .before in
     let b = s .args .b in
     let h = s .pre .1 .0 .1 in
     let br = s .pre .1 .0 .2 in
-    let more = more-left h b br (c .before .before .before .before .before .before .before .before .before .before .before .before .before .before .before .before .before .before .before .before .before .before .if1 .left) in
-    let v = c .before .before .before .before .before .before .before .before .before .loop in
-    let t = c .before .before .before .before .before .before .before .before .loop-test .taken in
+    let more = more-left h b br (c .before .before .before .before .before .before .before .before .before .before .before .before .before .before .before .before .before .before .before .before .before .before .before .before .if1 .left) in
+    let few = h .few in let n = h .count in let l : b .a < 8 = omega arith in search needs
+
+explore-rest-requires-2 : (t : ℕ) → explore-lts.Need-rest-requires-2 (claims t) (explore-at t) explore.Post Inv-loop μ-loop
+explore-rest-requires-2 t c κs =
+    let s = c .before .before .before .before .before .before .before .before .before .before .before .before .before .before .before .before .before .before .before .before .before .before .before .before .before .before .before .before in
+    let b = s .args .b in
+    let h = s .pre .1 .0 .1 in
+    let br = s .pre .1 .0 .2 in
+    let more = more-left h b br (c .before .before .before .before .before .before .before .before .before .before .before .before .before .before .before .before .before .before .before .before .before .before .before .before .if1 .left) in
+    let v = c .before .before .before .before .before .before .before .before .before .before .before .loop in
+    let t = c .before .before .before .before .before .before .before .before .before .before .loop-test .taken in
+    let yes = sym (c .before .before .before .before .entered .ensures) ∙ c .before .before .before .if2 .taken in
+    can-rest h (c .before .before .below .result .potentials) (next-feasible h b br more (v .x) (v .inv .0) t (c .before .before .before .before .before .before .before .before .before .before .before .before .before .before .before .before .before .before .before .counts .result) (c .before .before .before .before .before .before .before .before .before .before .before .before .before .before .before .before .before .before .before .counts .ensures) (c .before .before .before .before .before .before .before .before .before .candidate-at .result) (c .before .before .before .before .before .before .before .before .before .candidate-at .ensures) (v .r) _ _ yes (c .before .before .below .result) (c .before .before .below .ensures)) (b .a + 1) (omega arith) (omega arith)
+
+explore-add-own-2 : (t : ℕ) → explore-lts.Need-add-own-2 (claims t) (explore-at t) explore.Post Inv-loop μ-loop
+explore-add-own-2 t c =
+    let s = c .before .before .before .before .before .before .before .before .before .before .before .before .before .before .before .before .before .before .before .before .before .before .before .before .before .before .before .before .before in
+    let b = s .args .b in
+    let h = s .pre .1 .0 .1 in
+    let br = s .pre .1 .0 .2 in
+    let f = fixed-small h b br in
+    let g = balancing-small h b br in
+    let l : b .fixed + b .balancing + c .rest2 .result ≤ 3050000000000 = omega (arith, c .rest2 .ensures .1) in
+    search needs
+
+explore-explore-requires : (t : ℕ) → explore-lts.Need-explore-requires (claims t) (explore-at t) explore.Post Inv-loop μ-loop
+explore-explore-requires t c κs =
+    let s = c .before .before .before .before .before .before .before .before .before .before .before .before .before .before .before .before .before .before .before .before .before .before .before .before .before .before .before .before .before in
+    let b = s .args .b in
+    let h = s .pre .1 .0 .1 in
+    let br = s .pre .1 .0 .2 in
+    let more = more-left h b br (c .before .before .before .before .before .before .before .before .before .before .before .before .before .before .before .before .before .before .before .before .before .before .before .before .before .if1 .left) in
+    let v = c .before .before .before .before .before .before .before .before .before .before .before .before .loop in
+    let t = c .before .before .before .before .before .before .before .before .before .before .before .loop-test .taken in
     let m = s .pre .0 in
-    let e = c .below .ensures .next in
-    let yes = sym (c .before .before .entered .ensures) ∙ c .before .if2 .taken in (
+    let e = c .before .before .before .below .ensures .next in
+    let yes = sym (c .before .before .before .before .before .entered .ensures) ∙ c .before .before .before .before .if2 .taken in
+    (
       omega arith,
-      ((s .pre .1 .0 .0, h, next-branch h b br more (v .x) (v .inv .0) t (c .before .before .before .before .before .before .before .before .before .before .before .before .before .before .before .before .counts .result) (c .before .before .before .before .before .before .before .before .before .before .before .before .before .before .before .before .counts .ensures) (c .before .before .before .before .before .before .before .candidate-at .result) (c .before .before .before .before .before .before .before .candidate-at .ensures) (v .r) _ _ yes (c .below .result) (c .below .ensures)), v .inv .2),
+      ((s .pre .1 .0 .0, h, next-branch h b br more (v .x) (v .inv .0) t (c .before .before .before .before .before .before .before .before .before .before .before .before .before .before .before .before .before .before .before .before .counts .result) (c .before .before .before .before .before .before .before .before .before .before .before .before .before .before .before .before .before .before .before .before .counts .ensures) (c .before .before .before .before .before .before .before .before .before .before .candidate-at .result) (c .before .before .before .before .before .before .before .before .before .before .candidate-at .ensures) (v .r) _ _ yes (c .before .before .before .below .result) (c .before .before .before .below .ensures)), v .inv .2),
     )
 
 explore-passed-requires : (t : ℕ) → explore-lts.Need-passed-requires (claims t) (explore-at t) explore.Post Inv-loop μ-loop
@@ -346,32 +377,42 @@ explore-loop-again t c =
     let more = more-left h b br (c .before .before .before .before .before .before .before .before .before .before .before .before .before .before .before .before .before .before .before .before .before .if1 .left) in
     let v = c .before .before .before .before .before .before .before .before .loop in
     let t = c .before .before .before .before .before .before .before .loop-test .taken in
-    let counts = c .before .before .before .before .before .before .before .before .before .before .before .before .before .before .before .counts in
+    let f = fixed-small h b br in
+    let g = balancing-small h b br in
+    let counts = c .before .before .before .before .before .before .before .before .before .before .before .before .before .before .before .before .counts in
     let at = c .before .before .before .before .before .before .candidate-at in
-    let rest = c .before .before .before .before .before .before .before .before .before .before .before .rest in
     let one = c .before .before .before .before .reduced in
     let other = c .before .before .reduced2 in
+    let small : c .if2 .own ≤ 3050000000000 =
+    ⊎-elim (λ w. let e = w .7 in let l = w .4 .ensures .1 in omega arith) (λ w. let e = w .3 in let l = v .inv .3 in omega arith) (c .if2 .came) in
     let explored : (p : Plan) → (h : Prepared p (s .args .d .now) (s .args .vs .now) (s .args .start .now) (s .args .source .now) (s .args .tails .now) (s .args .heads .now) (s .args .k)) → (br : IsBranch p (s .args .d .now) b)
-    → IsExplored p (branches h b br (take (v .x - getD (s .args .start .now) (b .a) 0 + 1) (candidates p (b .a)))) (s .args .g) (c .if2 .r) =
+    → IsExplored p (branches h b br (take (v .x - getD (s .args .start .now) (b .a) 0 + 1) (candidates p (b .a)))) (s .args .g) (c .if2 .r) × IsPricing h b br (c .if2 .p) (c .if2 .own) =
     (λ p h br.
     let more = more-left h b br (c .before .before .before .before .before .before .before .before .before .before .before .before .before .before .before .before .before .before .before .before .before .if1 .left) in
+    let before = v .inv .4 p h br in
     ⊎-elim
         (λ w.
             let yes = sym (c .before .entered .ensures) ∙ w .0 .taken in
             let next = next-branch h b br more (v .x) (v .inv .0) t (counts .result) (counts .ensures) (at .result) (at .ensures) (v .r) _ _ yes (w .1 .result) (w .1 .ensures) in
-            subst⁻¹ (IsExplored p (branches h b br (take (v .x - getD (s .args .start .now) (b .a) 0 + 1) (candidates p (b .a)))) (s .args .g)) (w .3)
-            (next-explored h b br more (v .x) (v .inv .0) t (counts .result) (counts .ensures) (at .result) (at .ensures) (v .r) _ _ yes (w .1 .result) (w .1 .ensures) (s .args .g) (w .2 .result) (v .inv .3 p h br) (w .2 .ensures p h next)))
-        (λ w.
-            subst⁻¹ (IsExplored p (branches h b br (take (v .x - getD (s .args .start .now) (b .a) 0 + 1) (candidates p (b .a)))) (s .args .g)) (w .2)
-            (next-passed h b br more (v .x) (v .inv .0) t (counts .result) (counts .ensures) (at .result) (at .ensures) (s .args .g) (v .r) (w .1 .result) (v .inv .2) (v .inv .3 p h br) (w .1 .ensures)
-            (getD (b .rests) (b .a) 0) (rest .result) (subst (Low p (s .args .d .now) (b .multipliers) (getD (b .rests) (b .a) 0)) (sym (add-one (b .a))) (br .rests (b .a) (omega arith) (let n = h .count in omega arith))) (rest .ensures .0 p _ _ h)
-            (ap₂ (λ x y. isEntered (v .r) (at .result .trees) (b .bound + getD (b .rests) (b .a) 0 + x) (b .fixed + b .balancing + rest .result + y)) (sym (one .ensures .0)) (sym (other .ensures .0)) ∙ sym (c .before .entered .ensures) ∙ w .0 .left)))
+            let price = next-pricing h b br more (v .x) (v .inv .0) t (counts .result) (counts .ensures) (at .result) (at .ensures) (v .r) _ _ yes (w .1 .result) (w .1 .ensures) (w .4 .result) (w .4 .ensures .0 p _ _ h) in (
+              subst⁻¹ (IsExplored p (branches h b br (take (v .x - getD (s .args .start .now) (b .a) 0 + 1) (candidates p (b .a)))) (s .args .g)) (w .8)
+              (next-explored h b br more (v .x) (v .inv .0) t (counts .result) (counts .ensures) (at .result) (at .ensures) (v .r) _ _ yes (w .1 .result) (w .1 .ensures) (s .args .g) (w .5 .result) (before .0) (w .5 .ensures p h next)),
+              subst⁻¹ (λ (x : List ℕ). IsPricing h b br x (c .if2 .own)) (w .6) (subst⁻¹ (IsPricing h b br (w .1 .result .potentials)) (w .7) price),
+            ))
+        (λ w. (
+          subst⁻¹ (IsExplored p (branches h b br (take (v .x - getD (s .args .start .now) (b .a) 0 + 1) (candidates p (b .a)))) (s .args .g)) (w .4)
+          (next-passed h b br more (v .x) (v .inv .0) t (counts .result) (counts .ensures) (at .result) (at .ensures) (s .args .g) (v .r) (w .1 .result) (v .inv .2) (before .0) (w .1 .ensures)
+          (getD (b .rests) (b .a) 0) (subst (Low p (s .args .d .now) (b .multipliers) (getD (b .rests) (b .a) 0)) (sym (add-one (b .a))) (br .rests (b .a) (omega arith) (let n = h .count in omega arith))) (v .p) (v .own) (before .1)
+          (ap₂ (λ x y. isEntered (v .r) (at .result .trees) (b .bound + getD (b .rests) (b .a) 0 + x) (v .own + y)) (sym (one .ensures .0)) (sym (other .ensures .0)) ∙ sym (c .before .entered .ensures) ∙ w .0 .left)),
+          subst⁻¹ (λ (x : List ℕ). IsPricing h b br x (c .if2 .own)) (w .2) (subst⁻¹ (IsPricing h b br (v .p)) (w .3) (before .1)),
+        ))
         (c .if2 .came)) in
     let e : v .x - getD (s .args .start .now) (b .a) 0 + 1 ≡ v .x + 1 - getD (s .args .start .now) (b .a) 0 = omega (arith, v .inv .0) in (
       omega (arith, v .inv .0),
       omega arith,
-      explored-short (s .pre .1 .0 .0) _ (s .args .g) (c .if2 .r) (explored (s .pre .1 .0 .0) h br) (s .pre .1 .1),
-      λ p h br. subst (λ n. IsExplored p (branches h b br (take n (candidates p (b .a)))) (s .args .g) (c .if2 .r)) e (explored p h br),
+      explored-short (s .pre .1 .0 .0) _ (s .args .g) (c .if2 .r) (explored (s .pre .1 .0 .0) h br .0) (s .pre .1 .1),
+      small,
+      λ p h br. (subst (λ n. IsExplored p (branches h b br (take n (candidates p (b .a)))) (s .args .g) (c .if2 .r)) e (explored p h br .0), explored p h br .1),
     )
 
 explore-returns-2 : (t : ℕ) → explore-lts.Need-returns-2 (claims t) (explore-at t) explore.Post Inv-loop μ-loop
@@ -382,7 +423,7 @@ explore-returns-2 t c =
     λ p h br.
     let more = more-left h b br (c .before .before .before .before .before .before .before .before .before .before .before .before .before .before .if1 .left) in
     let e : v .x - getD (s .args .start .now) (b .a) 0 ≡ length (candidates p (b .a)) = (let q = places h (b .a) (br .one) more in omega (arith, v .inv .0, v .inv .1, c .loop-test .left)) in
-    explored-end h b br more (v .x - getD (s .args .start .now) (b .a) 0) e (s .args .g) (v .r) (v .inv .3 p h br)
+    explored-end h b br more (v .x - getD (s .args .start .now) (b .a) 0) e (s .args .g) (v .r) (v .inv .4 p h br .0)
 
 pub +explore-spec : {M : Type 1} → statement M
 +explore-spec = close μ-explore λ t. explore-lts.spec (claims t)
@@ -397,10 +438,10 @@ pub +explore-spec : {M : Type 1} → statement M
     (explore-mul-given t)
     (explore-array-read-given t)
     (explore-add-given t)
-    (explore-add-own t)
+    (explore-add-known t)
     (explore-add-rest t)
     (explore-rest-requires t)
-    (explore-add-own-2 t)
+    (explore-add-own t)
     (explore-add-end t)
     (explore-mul-end t)
     (explore-element-copy-out-end t)
@@ -414,6 +455,9 @@ pub +explore-spec : {M : Type 1} → statement M
     (explore-add-other t)
     (explore-entered-requires t)
     (explore-below-requires t)
+    (explore-add-rest-2 t)
+    (explore-rest-requires-2 t)
+    (explore-add-own-2 t)
     (explore-explore-requires t)
     (explore-passed-requires t)
     (explore-add-x t)
