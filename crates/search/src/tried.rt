@@ -51,7 +51,7 @@ pub fn search(
         tails: [0; 8],
         heads: [0; 8],
         skip: 0,
-        left: budget as u64 + 1,
+        left: budget as u64,
     };
     let r = explore(none, b, d, vs, start, source, tails, heads, k);
     let ts = r.tails;
