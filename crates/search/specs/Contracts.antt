@@ -1,5 +1,6 @@
 -- What the functions ask and answer.
 use mathlib.Core.Path.{_≡_}
+use mathlib.Core.Logic.{_⊎_}
 use mathlib.Core.Bool.{Bool, false, cond}
 use mathlib.Core.List.{List, [], _∷_, _++_, map, List·Memᴰ}
 use Prim.Native.Nat.{ℕ, suc, _+_, _*_, _-_, _≤_, _<_, min}
@@ -12,7 +13,7 @@ use Rattle.postman.specs.Plan.{Plan}
 use Rattle.postman.specs.Required.{required, requiredCost}
 use Rattle.postman.specs.Link.{Link}
 use Rattle.postman.specs.Component.{componentCount}
-use Rattle.postman.specs.Balancing.{linkCost, completionCost}
+use Rattle.postman.specs.Balancing.{heads, tails, sumOver, linkCost, completionCost}
 use Rattle.postman.specs.LagrangianBound.{AreMultipliers}
 use Rattle.postman.specs.PlanCall.{triedCount, isWhole, bestCost, bestArborescence}
 use Rattle.postman.specs.Laws.Balancing.{Joins}
@@ -24,6 +25,7 @@ use Rattle.tree_count.specs.Matrix.{entriesOf, cap, AreFew, IsMerged}
 use Rattle.tree_count.specs.Laws.Arrival.{renamed}
 use Rattle.search.specs.declared.branch.Branch.{Branch}
 use Rattle.search.specs.declared.explore.Candidate.{Candidate}
+use Rattle.search.specs.declared.pricing.Pricing.{Pricing}
 use Rattle.search.specs.declared.progress.Progress.{Progress}
 use Rattle.search.specs.declared.tried.Searched.{Searched}
 use Rattle.search.specs.Links.{linksIn}
@@ -176,6 +178,16 @@ pub record IsBelow (table : List (List ℕ)) (vs : List ℕ) (b : Branch) (tail 
   pub rests-are : r .rests ≡ b .rests
   pub names-are : (c : ℕ) → c < 8 → getD (r .names) c 0 ≡ renamed (b .a) x (getD (b .names) c 0)
   pub entries-are : IsMerged (b .entries) (b .a) x k (r .entries)
+
+-- Potentials, and what they price the required arcs and the links chosen at, or less.
+pub record Prices (p : Plan) (table : List (List ℕ)) (b : Branch) (r : Pricing) : Type 0 where
+  pub potentials : ArePotentials table (required p) (r .potentials)
+  pub priced : r .value + sumOver (tails p (chosenIn b)) (λ v. getD (r .potentials) v 0) ≤ sumOver (heads p (chosenIn b)) (λ v. getD (r .potentials) v 0)
+  pub small : r .value + b .a * 3005697240 ≤ 2963683537920
+
+-- The prices of a branch without its last link, from tail to head; the old ones where they would be negative.
+abbrev pub IsLifted : Pricing → Pricing → ℕ → ℕ → Pricing → Type 0
+IsLifted old new tail head r = (r ≡ old) ⊎ ((r .potentials ≡ new .potentials) × (r .value + getD (new .potentials) head 0 ≡ new .value + getD (new .potentials) tail 0))
 
 -- The trees of a branch, in order.
 unfoldable pub treesIn : Plan → Branch → List (List Link)

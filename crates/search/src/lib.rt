@@ -4,6 +4,7 @@ mod counts; // how many trees each branch below has
 mod reduced; // reduced costs
 mod rest; // what the components that are not chosen for yet cost at least
 pub mod progress; // the best so far, and the trees that are left
+pub mod pricing; // potentials that price a branch
 pub mod branch; // the trees that begin with the same choices
 pub mod explore; // the trees of a branch, in order
 pub mod tried; // all trees, at most as many as the budget

@@ -53,7 +53,8 @@ pub fn search(
         skip: 0,
         left: budget as u64,
     };
-    let r = explore(none, b, d, vs, start, source, tails, heads, k);
+    let e = explore(none, b, d, vs, start, source, tails, heads, k);
+    let r = e.progress;
     let ts = r.tails;
     let hs = r.heads;
     Searched {

@@ -1,4 +1,4 @@
--- The bounds of a branch. Its own potentials price the links that are to come at no more than they add to the cost, by duality; so do the multipliers from the root on. A link
+-- The bounds of a branch. Potentials price the links that are to come at no more than they add to the cost, by duality; so do the multipliers from the root on. A link
 -- that is chosen moves from what is to come to what is known. The least reduced cost of each component is at most that of what is chosen for it.
 use mathlib.Core.Path.{_≡_, refl, sym, ap, ap₂, _∙_, subst, subst⁻¹}
 use mathlib.Core.Logic.{inl, inr}
@@ -146,32 +146,8 @@ module _ {p : Plan} {table : List (List ℕ)} {vs start source tails′ heads′
         let e6 = link-cost-append t in
         omega arith
 
-    own-priced : balance (cell table) p chosen .cost + sumOver (tails p chosen) (potential pot) ≡ sumOver (heads p chosen) (potential pot)
+    pub own-priced : balance (cell table) p chosen .cost + sumOver (tails p chosen) (potential pot) ≡ sumOver (heads p chosen) (potential pot)
     own-priced = balance-counted p (h .plannable .well-formed) (h .plannable .connected) (cell table) (agrees h) chosen joins (omega arith) .priced
-
-    -- BY THE BRANCH'S OWN POTENTIALS
-    pub own-bounds : (a : ℕ) → Bounds p table pot (requiredCost p + linkCost p chosen + balance (cell table) p chosen .cost) chosen a
-    own-bounds a = priced-bounds pot own-potentials (balance (cell table) p chosen .cost) (let e = own-priced in omega arith) a
-
-  -- BY THOSE OF A BRANCH BELOW: its state has one link more, and costs what the potentials price that link at
-  pub below-bounds : (chosen : List Link) (l : Link) → Joins p chosen → Joins p (chosen ++ l ∷ []) → length (chosen ++ l ∷ []) ≤ 8 → (v : ℕ) (w : List ℕ)
-      → w ≡ balance (cell table) p (chosen ++ l ∷ []) .potentials → balance (cell table) p (chosen ++ l ∷ []) .cost ≡ v + getD w (l .head) 0 - getD w (l .tail) 0
-      → (a : ℕ) → Bounds p table w (requiredCost p + linkCost p chosen + v) chosen a
-  unfolding heads tails sumOver
-  below-bounds chosen l j joins short v w ew ev a =
-      let c = chosen ++ l ∷ [] in
-      let u = potential w in
-      let e = subst⁻¹ (λ (w : List ℕ). balance (cell table) p c .cost + sumOver (tails p c) (potential w) ≡ sumOver (heads p c) (potential w)) ew (own-priced c joins short) in
-      let h0 = map (λ a. a .head) (requiredArcs p) in
-      let t0 = map (λ a. a .tail) (requiredArcs p) in
-      let hc = map (λ (l : Link). l .head) chosen in
-      let tc = map (λ (l : Link). l .tail) chosen in
-      let e1 = ap (λ (l : List ℕ). sumOver (h0 ++ l) u) (map-append (λ (l : Link). l .head) chosen (l ∷ [])) ∙ sum-append h0 (hc ++ l .head ∷ []) u ∙ ap (λ n. sumOver h0 u + n) (sum-append hc (l .head ∷ []) u) in
-      let e2 = ap (λ (l : List ℕ). sumOver (t0 ++ l) u) (map-append (λ (l : Link). l .tail) chosen (l ∷ [])) ∙ sum-append t0 (tc ++ l .tail ∷ []) u ∙ ap (λ n. sumOver t0 u + n) (sum-append tc (l .tail ∷ []) u) in
-      let e3 = sum-append h0 hc u in
-      let e4 = sum-append t0 tc u in
-      let n = length-append chosen (l ∷ []) in
-      priced-bounds chosen j (omega arith) w (subst⁻¹ (ArePotentials table (required p)) ew (own-potentials c joins short)) v (omega arith) a
 
   -- ---- by the multipliers
 

@@ -14,13 +14,13 @@ use lib.ListN.{length, getD, take, length-map}
 use lib.Seq.{take-suc, take-all}
 use lib.Dec.{eqb, leb, ltb}
 use Rattle.postman.specs.Lists.{upFrom, delta}
-use Rattle.postman.specs.Plan.{Plan}
+use Rattle.postman.specs.Plan.{Plan, requiredArcs}
 use Rattle.postman.specs.Required.{required, requiredCost}
 use Rattle.postman.specs.Link.{Link}
 use Rattle.postman.specs.Component.{component, componentCount}
 use Rattle.postman.specs.Arborescence.{linkAt, candidates}
-use Rattle.postman.specs.Balancing.{linkCost, leastBalancing, completionCost}
-use Rattle.postman.specs.Laws.Balancing.{Joins}
+use Rattle.postman.specs.Balancing.{heads as heads-of, tails as tails-of, sumOver, linkCost, leastBalancing, completionCost}
+use Rattle.postman.specs.Laws.Sum.{sum-append}
 use Rattle.postman.specs.Laws.Membership.{map-mem, select-mem, upFrom-mem, mem-upFrom}
 use Rattle.postman.specs.Laws.Lists.{map-cong, map-append, map-map}
 use Rattle.balance.specs.Step.{State, cell, add}
@@ -31,18 +31,19 @@ use Rattle.tree_count.specs.Matrix.{entriesOf, cap}
 use Rattle.tree_count.specs.Laws.Recursion.{entriesIn, count-cong}
 use Rattle.search.specs.declared.branch.Branch.{Branch}
 use Rattle.search.specs.declared.explore.Candidate.{Candidate}
+use Rattle.search.specs.declared.pricing.Pricing.{Pricing}
 use Rattle.search.specs.declared.progress.Progress.{Progress}
 use Rattle.search.specs.Links.{linksIn}
 use Rattle.search.specs.Branch.{sourceBy, renamedBy, sourcesBy, leftChoices, completions, entered}
 use Rattle.search.specs.Progress.{Held, passOver, tryTree, advance, keep}
 use Rattle.search.specs.Bound.{ArePotentials, Bounds, Low, reducedBy}
 use Rattle.search.specs.Prepared.{Prepared}
-use Rattle.search.specs.Contracts.{heldOf, isEntered, IsShort, chosenIn, namesIn, stateIn, CanReduce, CanGoBelow, IsBranch, IsBelow, AreCounts, IsCandidate, treesIn, IsExplored}
+use Rattle.search.specs.Contracts.{heldOf, isEntered, IsShort, chosenIn, namesIn, stateIn, CanReduce, CanGoBelow, IsBranch, IsBelow, AreCounts, IsCandidate, Prices, IsLifted, treesIn, IsExplored}
 use Rattle.search.specs.Laws.Prepared.{in-plan, some-component, agrees, places, places-fit, here-mem, here-source}
 use Rattle.search.specs.Laws.Branch.{source-lt, completions-step, completions-last, completions-cong, entered-none, entered-some, entered-count}
 use Rattle.search.specs.Laws.Progress.{pass-none, held-same, advance-append, passed-over, Idle}
-use Rattle.search.specs.Laws.Bound.{too-dear, own-potentials, own-bounds, below-bounds}
-use Rattle.search.specs.Laws.Below.{chosen-short, can-reduce, can-go-below, chosen-more, below-branch}
+use Rattle.search.specs.Laws.Bound.{too-dear, own-potentials, own-priced, priced-bounds}
+use Rattle.search.specs.Laws.Below.{chosen-short, balancing-small, can-reduce, can-go-below, chosen-more, below-branch}
 
 -- ---- lists
 
@@ -299,52 +300,63 @@ module _ {p : Plan} {table : List (List ℕ)} {vs start source tails heads : Lis
 
   -- ---- the potentials that price it
 
-  -- potentials by which its trees cost at least what is known of it, and what they price the components behind a at
-  pub record IsPricing (pot : List ℕ) (own : ℕ) : Type 0 where
-    pub potentials : ArePotentials table (required p) pot
-    pub bounds : Bounds p table pot (b .fixed + b .balancing) (chosenIn b) (b .a)
-    pub rest : ℕ
-    pub low : Low p table pot rest (b .a + 1)
-    pub sum : own ≡ b .fixed + b .balancing + rest
-
-  -- its own
-  pub own-feasible : ArePotentials table (required p) (b .potentials)
+  own-feasible : ArePotentials table (required p) (b .potentials)
   own-feasible = subst⁻¹ (λ (s : State). ArePotentials table (required p) (s .potentials)) (is .state) (own-potentials h (chosenIn b) (is .joins) (chosen-short h b is))
 
-  pub own-pricing : (rest : ℕ) → Low p table (b .potentials) rest (b .a + 1) → IsPricing (b .potentials) (b .fixed + b .balancing + rest)
-  own-pricing rest low = record {
-    potentials = own-feasible;
-    bounds = subst⁻¹ (λ (s : State). Bounds p table (s .potentials) (b .fixed + s .cost) (chosenIn b) (b .a)) (is .state)
-        (subst⁻¹ (λ n. Bounds p table (balance (cell table) p (chosenIn b) .potentials) (n + balance (cell table) p (chosenIn b) .cost) (chosenIn b) (b .a)) (is .fixed) (own-bounds h (chosenIn b) (is .joins) (chosen-short h b is) (b .a)));
-    rest = rest;
-    low = low;
-    sum = refl;
-  }
+  -- its own
+  pub own-prices : (r : Pricing) → r .potentials ≡ b .potentials → r .value ≡ b .balancing → Prices p table b r
+  own-prices r e f =
+      let s = ap (λ (s : State). s .potentials) (is .state) in
+      let c = ap (λ (s : State). s .cost) (is .state) in
+      let o = own-priced h (chosenIn b) (is .joins) (chosen-short h b is) in
+      let m = is .most in
+      let few = h .few in
+      record {
+        potentials = subst⁻¹ (ArePotentials table (required p)) e own-feasible;
+        priced = subst⁻¹ (λ (w : List ℕ). r .value + sumOver (tails-of p (chosenIn b)) (λ v. getD w v 0) ≤ sumOver (heads-of p (chosenIn b)) (λ v. getD w v 0)) (e ∙ s) (omega arith);
+        small = (let g = balancing-small h b is in omega arith);
+      }
 
-  -- those of a branch below
+  -- the bound that they give
+  pub priced-branch : (r : Pricing) → Prices p table b r → Bounds p table (r .potentials) (b .fixed + r .value) (chosenIn b) (b .a)
+  priced-branch r q =
+      subst⁻¹ (λ v. Bounds p table (r .potentials) (v + r .value) (chosenIn b) (b .a)) (is .fixed)
+      (priced-bounds h (chosenIn b) (is .joins) (chosen-short h b is) (r .potentials) (q .potentials) (r .value) (q .priced) (b .a))
+
+  -- those of a branch below, without its last link
   module _ (more : b .a < k) (l : Link) (m : List·Memᴰ l (candidates p (b .a))) (other : sourceBy p (namesIn b) l ≢ b .a) (n : Branch) (at : IsBelow table vs b (l .tail) (l .head) (sourceBy p (namesIn b) l) k n) where
-    pub below-feasible : ArePotentials table (required p) (n .potentials)
-    below-feasible =
-        let br = below-branch h b is more l m other n at in
-        subst⁻¹ (λ (s : State). ArePotentials table (required p) (s .potentials)) (br .state) (own-potentials h (chosenIn n) (br .joins) (chosen-short h n br))
+    pub lifted-prices : (old new r : Pricing) → Prices p table b old → Prices p table n new → IsLifted old new (l .tail) (l .head) r → Prices p table b r
+    unfolding heads-of tails-of sumOver
+    lifted-prices old new r qo qn i = elim i [
+      | inl e ↦ subst⁻¹ (Prices p table b) e qo
+      | inr e ↦
+          let w = new .potentials in
+          let u : ℕ → ℕ = λ v. getD w v 0 in
+          let c = chosen-more h b is more l m other n at in
+          let x = subst (λ (t : List Link). new .value + sumOver (tails-of p t) u ≤ sumOver (heads-of p t) u) c (qn .priced) in
+          let h0 = map (λ a. a .head) (requiredArcs p) in
+          let t0 = map (λ a. a .tail) (requiredArcs p) in
+          let hc = map (λ (l : Link). l .head) (chosenIn b) in
+          let tc = map (λ (l : Link). l .tail) (chosenIn b) in
+          let e1 = ap (λ (l : List ℕ). sumOver (h0 ++ l) u) (map-append (λ (l : Link). l .head) (chosenIn b) (l ∷ [])) ∙ sum-append h0 (hc ++ l .head ∷ []) u ∙ ap (λ n. sumOver h0 u + n) (sum-append hc (l .head ∷ []) u) in
+          let e2 = ap (λ (l : List ℕ). sumOver (t0 ++ l) u) (map-append (λ (l : Link). l .tail) (chosenIn b) (l ∷ [])) ∙ sum-append t0 (tc ++ l .tail ∷ []) u ∙ ap (λ n. sumOver t0 u + n) (sum-append tc (l .tail ∷ []) u) in
+          let e3 = sum-append h0 hc u in
+          let e4 = sum-append t0 tc u in
+          let f = e .1 in
+          let next = at .next in
+          record {
+            potentials = subst⁻¹ (ArePotentials table (required p)) (e .0) (qn .potentials);
+            priced = subst⁻¹ (λ (w : List ℕ). r .value + sumOver (tails-of p (chosenIn b)) (λ v. getD w v 0) ≤ sumOver (heads-of p (chosenIn b)) (λ v. getD w v 0)) (e .0) (omega arith);
+            small = (let s = qn .small in let t = qn .potentials .low (l .tail) in omega arith);
+          }
+    ]
 
-    pub below-pricing : (rest : ℕ) → Low p table (n .potentials) rest (b .a + 1) → IsPricing (n .potentials) (b .fixed + b .balancing + rest)
-    unfolding add
-    below-pricing rest low =
-        let br = below-branch h b is more l m other n at in
-        let c = chosen-more h b is more l m other n at in
-        let s : stateIn n ≡ balance (cell table) p (chosenIn b ++ l ∷ []) = br .state ∙ ap (balance (cell table) p) c in
-        let cost : balance (cell table) p (chosenIn b ++ l ∷ []) .cost ≡ b .balancing + getD (n .potentials) (l .head) 0 - getD (n .potentials) (l .tail) 0 =
-        sym (ap (λ (s : State). s .cost) s) ∙ ap (λ (s : State). s .cost) (at .state-is)
-        ∙ sym (ap (λ (s : State). b .balancing + getD (s .potentials) (l .head) 0 - getD (s .potentials) (l .tail) 0) (at .state-is))
-        in record {
-          potentials = below-feasible;
-          bounds = subst⁻¹ (λ v. Bounds p table (n .potentials) (v + b .balancing) (chosenIn b) (b .a)) (is .fixed)
-              (below-bounds h (chosenIn b) l (is .joins) (subst (Joins p) c (br .joins)) (let e = ap length c in let f = chosen-short h n br in omega arith) (b .balancing) (n .potentials) (ap (λ (s : State). s .potentials) s) cost (b .a));
-          rest = rest;
-          low = low;
-          sum = refl;
-        }
+  -- the prices, and the bound of the branches below by them but for the link
+  pub record IsPriced (r : Pricing) (bound : ℕ) : Type 0 where
+    pub prices : Prices p table b r
+    pub rest : ℕ
+    pub low : Low p table (r .potentials) rest (b .a + 1)
+    pub sum : bound ≡ b .fixed + r .value + rest
 
   -- ---- the candidate at a place
 
@@ -417,25 +429,23 @@ module _ {p : Plan} {table : List (List ℕ)} {vs start source tails heads : Lis
         pub next-branch : IsBranch p table n
         next-branch = below-branch h b is more there mem apart n below-there
 
-        pub next-feasible : ArePotentials table (required p) (n .potentials)
-        next-feasible = below-feasible more there mem apart n below-there
-
-        pub next-pricing : (rest : ℕ) → Low p table (n .potentials) rest (b .a + 1) → IsPricing (n .potentials) (b .fixed + b .balancing + rest)
-        next-pricing = below-pricing more there mem apart n below-there
+        pub next-prices : (old new r : Pricing) → Prices p table b old → Prices p table n new → IsLifted old new (c .tail) (c .head) r → Prices p table b r
+        next-prices old new r qo qn i = lifted-prices more there mem apart n below-there old new r qo qn (subst (λ t. IsLifted old new t (there .head) r) tail-is (subst (λ z. IsLifted old new (c .tail) z r) head-is i))
 
         pub next-explored : (g s : Progress) → IsExplored p (branches (take i (candidates p (b .a)))) g r → IsExplored p (treesIn p n) r s → IsExplored p (branches (take (i + 1) (candidates p (b .a)))) g s
         next-explored g s before e = one-more more i less g r s before (gone-into more there mem apart n below-there r s e)
 
       -- it is passed over
       pub next-passed : (g r s : Progress) → IsShort r → IsExplored p (branches (take i (candidates p (b .a)))) g r → ((i : ℕ) → heldOf i s ≡ passOver (heldOf i r) (c .trees)) → (given : ℕ)
-          → Low p table (b .multipliers) given (b .a + 1) → (pot : List ℕ) (own : ℕ) → IsPricing pot own
-          → isEntered r (c .trees) (b .bound + given + reducedBy table (b .multipliers) (c .tail) (c .head)) (own + reducedBy table pot (c .tail) (c .head)) ≡ false
+          → Low p table (b .multipliers) given (b .a + 1) → (pr : Pricing) (own : ℕ) → IsPriced pr own
+          → isEntered r (c .trees) (b .bound + given + reducedBy table (b .multipliers) (c .tail) (c .head)) (own + reducedBy table (pr .potentials) (c .tail) (c .head)) ≡ false
           → IsExplored p (branches (take (i + 1) (candidates p (b .a)))) g s
-      next-passed g r s short before e given low-given pot own price out =
+      next-passed g r s short before e given low-given pr own price out =
+          let pot = pr .potentials in
           let one = b .bound + given + reducedBy table (b .multipliers) (c .tail) (c .head) in
           let other = own + reducedBy table pot (c .tail) (c .head) in
           let next : suc (b .a) ≡ b .a + 1 = omega arith in
           one-more more i less g r s before
           (passed more there mem counts are r s short (λ m. e m ∙ ap (passOver (heldOf m r)) trees-are) one other (subst (λ n. isEntered r n one other ≡ false) trees-are out)
           (λ o t m. dear more there mem (b .multipliers) (b .bound) given one (is .bounded) (subst⁻¹ (Low p table (b .multipliers) given) next low-given) (let q = reduced-same (b .multipliers) in omega arith) o t m)
-          (λ o t m. dear more there mem pot (b .fixed + b .balancing) (price .rest) other (price .bounds) (subst⁻¹ (Low p table pot (price .rest)) next (price .low)) (let q = reduced-same pot in let f = price .sum in omega arith) o t m))
+          (λ o t m. dear more there mem pot (b .fixed + pr .value) (price .rest) other (priced-branch pr (price .prices)) (subst⁻¹ (Low p table pot (price .rest)) next (price .low)) (let q = reduced-same pot in let f = price .sum in omega arith) o t m))

@@ -35,10 +35,10 @@ lesser-requires c κs = search needs
 
 returns : tie.Need-returns
 returns c =
-    let e = c .before .before .before in
+    let e = c .before .before .before .before in
     let s = e .before .before .before .before in
     let small : s .args .budget < cap = (let l = s .fits .budget in omega (arith, l .fits)) in
-    λ p h is. searched h (s .args .b) is (s .args .budget) (s .pre .1) small _ (e .explore .result) (e .before .count .result) _ refl refl refl (e .explore .ensures p h (is .branch)) (e .before .count .ensures) refl refl refl (c .lesser .ensures) refl
+    λ p h is. searched h (s .args .b) is (s .args .budget) (s .pre .1) small _ (e .explore .result .progress) (e .before .count .result) _ refl refl refl (e .explore .ensures p h (is .branch) .0) (e .before .count .ensures) refl refl refl (c .lesser .ensures) refl
 
 pub search-spec : {M : Type 1} → statement M
 search-spec = tie.close (tie.spec count-requires explore-requires lesser-requires returns)
