@@ -90,15 +90,5 @@ pub(crate) fn solve(
     let base = base_state(plan, table, vs);
     let greatest = multipliers_of(plan, table, vs, base);
     let u = multipliers_for(plan, table, vs, net, base, greatest);
-    finish(
-        plan,
-        table,
-        weights,
-        vs,
-        net,
-        base,
-        u,
-        budget,
-        sheet,
-    )
+    finish(plan, table, weights, vs, net, base, u, budget, sheet)
 }

@@ -36,8 +36,17 @@ pub(crate) fn best(
     let entries = entries_of(&links, &component);
     let k = net.components as usize;
     let cost = net.required_cost;
-    let b = search::branch::root(table, vs, &start, &tails, &heads, k, base, &u, cost, entries);
-    search::tried::search(
-        b, table, vs, &start, &source, &tails, &heads, k, budget,
-    )
+    let b = search::branch::root(
+        table,
+        vs,
+        &start,
+        &tails,
+        &heads,
+        k,
+        base,
+        &u,
+        cost,
+        entries,
+    );
+    search::tried::search(b, table, vs, &start, &source, &tails, &heads, k, budget)
 }

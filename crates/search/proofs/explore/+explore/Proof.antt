@@ -232,8 +232,7 @@ explore-loop-holds t c =
     let br = s .pre .1 .0 .2 in
     let more = more-left h b br (c .before .before .before .before .before .before .before .before .before .before .before .if1 .left) in
     let f = fixed-small h b br in
-    let g = balancing-small h b br in
-    (
+    let g = balancing-small h b br in (
       omega arith,
       h .layout .ascending (b .a) more,
       s .pre .1 .1,
@@ -323,8 +322,7 @@ explore-explore-requires t c κs =
     let t = c .before .before .before .before .before .before .before .before .loop-test .taken in
     let m = s .pre .0 in
     let e = c .below .ensures .next in
-    let yes = sym (c .before .before .entered .ensures) ∙ c .before .if2 .taken in
-    (
+    let yes = sym (c .before .before .entered .ensures) ∙ c .before .if2 .taken in (
       omega arith,
       ((s .pre .1 .0 .0, h, next-branch h b br more (v .x) (v .inv .0) t (c .before .before .before .before .before .before .before .before .before .before .before .before .before .before .before .before .counts .result) (c .before .before .before .before .before .before .before .before .before .before .before .before .before .before .before .before .counts .ensures) (c .before .before .before .before .before .before .before .candidate-at .result) (c .before .before .before .before .before .before .before .candidate-at .ensures) (v .r) _ _ yes (c .below .result) (c .below .ensures)), v .inv .2),
     )
@@ -443,23 +441,23 @@ explore-loop-again t c =
     let more = more-left h b br (c .before .before .before .before .before .before .before .before .before .before .before .before .before .before .before .before .before .before .before .before .if1 .left) in
     let before = v .inv .5 p h br in
     ⊎-elim
-        (λ w.
-            let yes = sym (c .before .entered .ensures) ∙ w .0 .taken in
-            let next = next-branch h b br more (v .x) (v .inv .0) t (counts .result) (counts .ensures) (at .result) (at .ensures) (v .r) _ _ yes (w .1 .result) (w .1 .ensures) in
-            let after = w .2 .ensures p h next in
-            let lift = next-prices h b br more (v .x) (v .inv .0) t (counts .result) (counts .ensures) (at .result) (at .ensures) (v .r) _ _ yes (w .1 .result) (w .1 .ensures) (v .prices) (w .2 .result .pricing) (w .5 .result) (before .1 .prices) (after .1) (w .5 .ensures) in (
-              subst⁻¹ (IsExplored p (branches h b br (take (v .x - getD (s .args .start .now) (b .a) 0 + 1) (candidates p (b .a)))) (s .args .g)) (w .14)
-              (next-explored h b br more (v .x) (v .inv .0) t (counts .result) (counts .ensures) (at .result) (at .ensures) (v .r) _ _ yes (w .1 .result) (w .1 .ensures) (s .args .g) (w .2 .result .progress) (before .0) (after .0)),
-              subst⁻¹ (λ (x : Pricing). IsPriced h b br x (c .if2 .bound)) (w .12) (subst⁻¹ (IsPriced h b br (w .5 .result)) (w .13) (record { prices = lift; rest = w .10 .result; low = w .10 .ensures .0 p _ _ h; sum = refl })),
-            ))
-        (λ w. (
-          subst⁻¹ (IsExplored p (branches h b br (take (v .x - getD (s .args .start .now) (b .a) 0 + 1) (candidates p (b .a)))) (s .args .g)) (w .5)
+    (λ w.
+    let yes = sym (c .before .entered .ensures) ∙ w .0 .taken in
+    let next = next-branch h b br more (v .x) (v .inv .0) t (counts .result) (counts .ensures) (at .result) (at .ensures) (v .r) _ _ yes (w .1 .result) (w .1 .ensures) in
+    let after = w .2 .ensures p h next in
+    let lift = next-prices h b br more (v .x) (v .inv .0) t (counts .result) (counts .ensures) (at .result) (at .ensures) (v .r) _ _ yes (w .1 .result) (w .1 .ensures) (v .prices) (w .2 .result .pricing) (w .5 .result) (before .1 .prices) (after .1) (w .5 .ensures) in (
+      subst⁻¹ (IsExplored p (branches h b br (take (v .x - getD (s .args .start .now) (b .a) 0 + 1) (candidates p (b .a)))) (s .args .g)) (w .14)
+          (next-explored h b br more (v .x) (v .inv .0) t (counts .result) (counts .ensures) (at .result) (at .ensures) (v .r) _ _ yes (w .1 .result) (w .1 .ensures) (s .args .g) (w .2 .result .progress) (before .0) (after .0)),
+      subst⁻¹ (λ (x : Pricing). IsPriced h b br x (c .if2 .bound)) (w .12) (subst⁻¹ (IsPriced h b br (w .5 .result)) (w .13) (record { prices = lift; rest = w .10 .result; low = w .10 .ensures .0 p _ _ h; sum = refl })),
+    ))
+    (λ w. (
+      subst⁻¹ (IsExplored p (branches h b br (take (v .x - getD (s .args .start .now) (b .a) 0 + 1) (candidates p (b .a)))) (s .args .g)) (w .5)
           (next-passed h b br more (v .x) (v .inv .0) t (counts .result) (counts .ensures) (at .result) (at .ensures) (s .args .g) (v .r) (w .1 .result) (v .inv .2) (before .0) (w .1 .ensures)
           (getD (b .rests) (b .a) 0) (subst (Low p (s .args .d .now) (b .multipliers) (getD (b .rests) (b .a) 0)) (sym (add-one (b .a))) (br .rests (b .a) (omega arith) (let n = h .count in omega arith))) (v .prices) (v .bound) (before .1)
           (ap₂ (λ x y. isEntered (v .r) (at .result .trees) (b .bound + getD (b .rests) (b .a) 0 + x) (v .bound + y)) (sym (one .ensures .0)) (sym (other .ensures .0 ∙ ap (λ (w : List ℕ). reducedBy (s .args .d .now) w (at .result .tail) (at .result .head)) (v .inv .4))) ∙ sym (c .before .entered .ensures) ∙ w .0 .left)),
-          subst⁻¹ (λ (x : Pricing). IsPriced h b br x (c .if2 .bound)) (w .3) (subst⁻¹ (IsPriced h b br (v .prices)) (w .4) (before .1)),
-        ))
-        (c .if2 .came)) in
+      subst⁻¹ (λ (x : Pricing). IsPriced h b br x (c .if2 .bound)) (w .3) (subst⁻¹ (IsPriced h b br (v .prices)) (w .4) (before .1)),
+    ))
+    (c .if2 .came)) in
     let small : c .if2 .bound ≤ 3060000000000 =
     ⊎-elim (λ w. let e = w .13 in let l = w .10 .ensures .1 in let q = ap (λ (x : Pricing). x .value) (w .12) in omega (arith, explored _ h br .1 .prices .small)) (λ w. let e = w .4 in let l = v .inv .3 in omega arith) (c .if2 .came) in
     let same : c .if2 .p ≡ c .if2 .prices .potentials =

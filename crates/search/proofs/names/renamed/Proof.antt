@@ -41,9 +41,9 @@ loop-again c =
     let e = c .before .wide .ensures in
     let b = c .before .before .loop-test .taken in
     ⊎-elim
-        (λ w. subst⁻¹ (AreRenamed (s .args .a) (s .args .x) (s .args .t1) (v .loop .c + 1)) (w .1) (renamed-next (s .args .a) (s .args .x) (s .args .t1) (v .loop .c) (v .loop .r) (v .loop .inv) b (sym e ∙ w .0 .taken)))
-        (λ w. subst⁻¹ (AreRenamed (s .args .a) (s .args .x) (s .args .t1) (v .loop .c + 1)) (w .1) (renamed-stays (s .args .a) (s .args .x) (s .args .t1) (v .loop .c) (v .loop .r) (v .loop .inv) b (λ h. w .0 .left (e ∙ h))))
-        (c .if1 .came)
+    (λ w. subst⁻¹ (AreRenamed (s .args .a) (s .args .x) (s .args .t1) (v .loop .c + 1)) (w .1) (renamed-next (s .args .a) (s .args .x) (s .args .t1) (v .loop .c) (v .loop .r) (v .loop .inv) b (sym e ∙ w .0 .taken)))
+    (λ w. subst⁻¹ (AreRenamed (s .args .a) (s .args .x) (s .args .t1) (v .loop .c + 1)) (w .1) (renamed-stays (s .args .a) (s .args .x) (s .args .t1) (v .loop .c) (v .loop .r) (v .loop .inv) b (λ h. w .0 .left (e ∙ h))))
+    (c .if1 .came)
 
 returns : tie.Need-returns Inv-loop μ-loop
 returns c = λ x l. c .before .loop .inv .done x (omega arith)

@@ -13,17 +13,17 @@ returns : tie.Need-returns
 returns c =
     let s = c .before .before .before .before .before .before .args in
     λ m.
-        let h = heldOf m (s .g) in
-        let t = linksIn m (s .tails) (s .heads) in
-        sym (try-left (λ t. s .cost) h t (c .before .before .before .before .if1 .taken) (c .before .before .if2 .taken) ∙ ap (λ (x : Held). passOver x 1) (keep-yes (λ t. s .cost) h t (c .if3 .taken)))
+    let h = heldOf m (s .g) in
+    let t = linksIn m (s .tails) (s .heads) in
+    sym (try-left (λ t. s .cost) h t (c .before .before .before .before .if1 .taken) (c .before .before .if2 .taken) ∙ ap (λ (x : Held). passOver x 1) (keep-yes (λ t. s .cost) h t (c .if3 .taken)))
 
 returns-2 : tie.Need-returns-2
 returns-2 c =
     let s = c .before .before .before .before .before .before .args in
     λ m.
-        let h = heldOf m (s .g) in
-        let t = linksIn m (s .tails) (s .heads) in
-        sym (try-left (λ t. s .cost) h t (c .before .before .before .before .if1 .taken) (c .before .before .if2 .taken) ∙ ap (λ (x : Held). passOver x 1) (keep-no (λ t. s .cost) h t (let l = c .if3 .left in omega arith)))
+    let h = heldOf m (s .g) in
+    let t = linksIn m (s .tails) (s .heads) in
+    sym (try-left (λ t. s .cost) h t (c .before .before .before .before .if1 .taken) (c .before .before .if2 .taken) ∙ ap (λ (x : Held). passOver x 1) (keep-no (λ t. s .cost) h t (let l = c .if3 .left in omega arith)))
 
 returns-3 : tie.Need-returns-3
 returns-3 c =
