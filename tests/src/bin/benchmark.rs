@@ -7,7 +7,7 @@ use postman_tests::instances::{adverse_ring, crossing, even, fullest, joined, lo
 use postman_tests::oracle::{count_trees, file_of, own_marks, Graph};
 use postman_tests::plan::{Arc, Plan, MOST_PAIRS, MOST_PLACES, REQUIRED, SHEET_PLACES};
 use postman_tests::planner::{Answer, Car, CarsCall, Codec, Counter, DistanceCall, Judge, Planner};
-use postman_tests::yardstick::{Balance, Steps, Yardstick};
+use postman_tests::yardstick::{Balance, Candidate, Steps, Yardstick};
 use std::cell::Cell;
 use std::time::{Duration, Instant};
 
@@ -26,14 +26,14 @@ fn planners() -> Vec<(&'static str, Box<dyn Planner>)> {
     ]
 }
 
-/// The yardstick, counting the trees that it has to balance.
+/// The yardstick, counting the links that it adds to a state.
 #[derive(Default)]
 struct Counting(Cell<u64>);
 
 impl Steps for Counting {
-    fn balancing_with(&self, balance: &Balance, units: &[(usize, usize)]) -> i64 {
+    fn balanced_with<'a>(&self, state: &Balance<'a>, link: &Candidate) -> Balance<'a> {
         self.0.set(self.0.get() + 1);
-        balance.cost_with(units)
+        Yardstick.balanced_with(state, link)
     }
 }
 
