@@ -32,6 +32,7 @@ use crate::plan::{
     Arc, Departure, Plan, CLOSED, DEFAULT_BUDGET, HIGHEST_BUDGET, MOST_PARTS, MOST_VERTICES, REQUIRED, SHEET_PLACES,
 };
 use crate::planner::{refusal, Answer, Codec, DepartureCall, Judge, Planner, Refusal};
+use std::cell::Cell;
 
 /// The decisions that planners of this trade get wrong, each with its right answer. A wrong planner overrides one.
 pub trait Steps {
@@ -123,6 +124,23 @@ pub trait Steps {
 pub struct Yardstick;
 
 impl Steps for Yardstick {}
+
+/// The right planner, counting the links that it adds to a state.
+#[derive(Default)]
+pub struct Counting(Cell<u64>);
+
+impl Counting {
+    pub fn added(&self) -> u64 {
+        self.0.get()
+    }
+}
+
+impl Steps for Counting {
+    fn balanced_with<'a>(&self, state: &Balance<'a>, link: &Candidate) -> Balance<'a> {
+        self.0.set(self.0.get() + 1);
+        Yardstick.balanced_with(state, link)
+    }
+}
 
 impl<S: Steps> Planner for S {
     fn plan_call(&self, plan: &[u8], budget: u64, sheet: &mut [u16]) -> Result<Answer, Refusal> {
@@ -240,7 +258,8 @@ fn lay<S: Steps>(
     network.required.iter().zip(&of_places).for_each(|(&v, &x)| u[v] = x);
 
     // The multipliers that are answered are potentials of the state, and better ones than it came with.
-    let state = balance.with_potentials(&of_places);
+    let mut state = balance.clone();
+    state.set_potentials(&of_places);
     let found = search::try_trees(steps, &network.candidates(steps), network.required_cost, state, budget);
     let floor = if found.whole {
         found.cost

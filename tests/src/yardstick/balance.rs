@@ -29,11 +29,13 @@ impl<'a> Balance<'a> {
         Balance { lengths, n, from, u: [0; MOST_VERTICES], cost: 0 }
     }
 
-    /// The same amounts with other potentials, which have to show the same of them.
-    pub fn with_potentials(&self, u: &[i64]) -> Balance<'a> {
-        let mut state = self.clone();
-        state.u[..self.n].copy_from_slice(u);
-        state
+    /// Takes other potentials, which have to show the same of the amounts.
+    pub fn set_potentials(&mut self, u: &[i64]) {
+        self.u[..self.n].copy_from_slice(u);
+    }
+
+    pub fn potentials(&self) -> &[i64] {
+        &self.u[..self.n]
     }
 
     /// Dijkstra towards a vertex until the start is reached, which is taken first among the nearest.
@@ -65,7 +67,7 @@ impl<'a> Balance<'a> {
         Search { x, after }
     }
 
-    /// Sends one unit more.
+    /// Sends one unit more. The potentials that come of it show the same of the amounts before.
     pub fn add(&mut self, start: usize, goal: usize) {
         if start == goal {
             return;

@@ -89,13 +89,13 @@ struct Search<'a, S> {
 
 impl<S: Steps> Search<'_, S> {
     /// Goes through the trees of a branch, in which the components below a have chosen.
-    fn branch(&mut self, a: usize, branch: &Branch) {
+    fn branch(&mut self, a: usize, mut branch: Branch) {
         let candidates = self.candidates;
         let parts = candidates.len();
         if a == parts {
             return self.tree(branch.fixed + branch.state.cost);
         }
-        let beside = branch.bound_beside(candidates, a);
+        let mut beside = branch.bound_beside(candidates, a);
         let counts = branch.counts(a, parts);
         for link in &candidates[a] {
             if self.left == 0 {
@@ -108,8 +108,12 @@ impl<S: Steps> Search<'_, S> {
             if self.steps.is_hopeless(beside + branch.bound_of(link), self.best) {
                 self.left -= trees.min(self.left);
             } else {
+                let below = branch.enter(self.steps, a, parts, link);
+                // Potentials that came of adding a link are good ones for the links that are like it.
+                branch.state.set_potentials(below.state.potentials());
+                beside = branch.bound_beside(candidates, a);
                 self.chosen.push((link.tail, link.head));
-                self.branch(a + 1, &branch.enter(self.steps, a, parts, link));
+                self.branch(a + 1, below);
                 self.chosen.pop();
             }
         }
@@ -143,6 +147,6 @@ pub fn try_trees<S: Steps>(
     let (links, chosen) = (Vec::new(), Vec::new());
     let mut search = Search { steps, candidates, tried, left: tried, best: i64::MAX, links, chosen };
     let names = std::array::from_fn(|q| q);
-    search.branch(1, &Branch { fixed: required_cost, state, names, entries });
+    search.branch(1, Branch { fixed: required_cost, state, names, entries });
     Found { links: search.links, cost: search.best, tried, whole: all <= budget }
 }
