@@ -259,7 +259,9 @@ fn lay<S: Steps>(
 
     // The multipliers that are answered are potentials of the state, and better ones than it came with.
     let mut state = balance.clone();
-    state.set_potentials(&of_places);
+    let mut potentials = *state.potentials();
+    potentials[..of_places.len()].copy_from_slice(&of_places);
+    state.set_potentials(&potentials);
     let found = search::try_trees(steps, &network.candidates(steps), network.required_cost, state, budget);
     let floor = if found.whole {
         found.cost

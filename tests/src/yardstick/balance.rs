@@ -5,6 +5,9 @@ use crate::plan::MOST_VERTICES;
 /// d between the vertices, from i to j at \[j\]\[i\]: what leads into a vertex is a row.
 pub type Lengths = [[i64; MOST_VERTICES]; MOST_VERTICES];
 
+/// A number for each vertex.
+pub type Potentials = [i64; MOST_VERTICES];
+
 /// Amounts that balance the arcs added so far at least cost, and potentials that show it: the reduced cost d(i,j) − u(i) + u(j) is at least
 /// 0 for every pair, and 0 where an amount goes.
 #[derive(Clone)]
@@ -13,7 +16,7 @@ pub struct Balance<'a> {
     n: usize,
     /// `from[i][j]` is the amount from i to j: the residual arcs into i that take it back are a row.
     from: [[u16; MOST_VERTICES]; MOST_VERTICES],
-    u: [i64; MOST_VERTICES],
+    u: Potentials,
     pub cost: i64,
 }
 
@@ -30,12 +33,12 @@ impl<'a> Balance<'a> {
     }
 
     /// Takes other potentials, which have to show the same of the amounts.
-    pub fn set_potentials(&mut self, u: &[i64]) {
-        self.u[..self.n].copy_from_slice(u);
+    pub fn set_potentials(&mut self, u: &Potentials) {
+        self.u = *u;
     }
 
-    pub fn potentials(&self) -> &[i64] {
-        &self.u[..self.n]
+    pub fn potentials(&self) -> &Potentials {
+        &self.u
     }
 
     /// Dijkstra towards a vertex until the start is reached, which is taken first among the nearest.
@@ -74,7 +77,7 @@ impl<'a> Balance<'a> {
         }
         let Search { x, after } = self.search(start, goal);
         let far = x[start];
-        self.cost += far + self.least_cost(start, goal);
+        self.cost += far + self.u[start] - self.u[goal];
         let mut v = start;
         while v != goal {
             let w = usize::from(after[v]);
@@ -88,11 +91,6 @@ impl<'a> Balance<'a> {
         for v in 0..self.n {
             self.u[v] += x[v].min(far);
         }
-    }
-
-    /// What one unit more costs at least.
-    pub fn least_cost(&self, start: usize, goal: usize) -> i64 {
-        self.u[start] - self.u[goal]
     }
 
     /// The greatest potentials that are 0 at a root: the distance of each vertex to the root over the residual arcs, unreduced.
@@ -139,7 +137,7 @@ impl<'a> Balance<'a> {
     /// The least potentials that are 0 at a root: minus the distance from it. Lawful, but they bound no better than the balancing itself.
     pub fn least_potentials(&self, root: usize) -> Vec<i64> {
         let others =
-            (0..self.n).map(|v| if v == root { 0 } else { self.search(root, v).x[root] + self.least_cost(root, v) });
+            (0..self.n).map(|v| if v == root { 0 } else { self.search(root, v).x[root] + self.u[root] - self.u[v] });
         others.map(|distance| -distance).collect()
     }
 

@@ -3,7 +3,7 @@
 //! The trees are gone through in their order, component by component. All trees that begin with the same links are a branch. How many they are is counted, and what they
 //! cost at least is bounded, so that a branch that cannot have the first tree of least cost is passed over as a whole.
 
-use super::balance::Balance;
+use super::balance::{Balance, Potentials};
 use super::count::{completions, merged, sources, EntryCounts};
 use super::Steps;
 use crate::plan::MOST_PARTS;
@@ -30,6 +30,37 @@ pub struct Found {
     pub whole: bool,
 }
 
+/// Potentials without a negative reduced cost, and what they say that balancing a state costs: no more than it does.
+struct Prices {
+    u: Potentials,
+    value: i64,
+}
+
+impl Prices {
+    /// What they say of the state without a link.
+    fn without(self, link: &Candidate) -> Prices {
+        Prices { value: self.value - (self.u[link.from] - self.u[link.to]), ..self }
+    }
+}
+
+/// What prices say of the trees of a branch.
+struct Bound {
+    prices: Prices,
+    /// What a tree costs at least, but for the link of the next component.
+    beside: i64,
+}
+
+impl Bound {
+    fn of(&self, link: &Candidate) -> i64 {
+        self.beside + reduced(&self.prices.u, link)
+    }
+}
+
+/// What a link costs at least, with the unit that evens it out.
+fn reduced(u: &Potentials, link: &Candidate) -> i64 {
+    link.length + u[link.from] - u[link.to]
+}
+
 /// What the trees of a branch share: the components below some component have chosen their links.
 struct Branch<'a> {
     /// R and the d of the links that are chosen.
@@ -43,15 +74,16 @@ struct Branch<'a> {
 }
 
 impl<'a> Branch<'a> {
-    /// What a link more costs at least, by the state's potentials.
-    fn bound_of(&self, link: &Candidate) -> i64 {
-        link.length + self.state.least_cost(link.from, link.to)
+    /// What the state's own potentials say.
+    fn own_prices(&self) -> Prices {
+        Prices { u: *self.state.potentials(), value: self.state.cost }
     }
 
-    /// What a tree of the branch costs at least, without the links of component a.
-    fn bound_beside(&self, candidates: &[Vec<Candidate>], a: usize) -> i64 {
-        let least = |links: &Vec<Candidate>| links.iter().map(|link| self.bound_of(link)).min();
-        self.fixed + self.state.cost + candidates[a + 1..].iter().filter_map(least).sum::<i64>()
+    /// What prices say of the trees, by the least link of each component behind the next.
+    fn bound(&self, prices: Prices, behind: &[Vec<Candidate>]) -> Bound {
+        let least = |links: &Vec<Candidate>| links.iter().map(|link| reduced(&prices.u, link)).min();
+        let beside = self.fixed + prices.value + behind.iter().filter_map(least).sum::<i64>();
+        Bound { prices, beside }
     }
 
     /// How many trees of the branch enter component a from each other.
@@ -63,12 +95,14 @@ impl<'a> Branch<'a> {
         counts
     }
 
-    /// The trees of the branch in which component a is entered by a link.
-    fn enter<S: Steps>(&self, steps: &S, a: usize, parts: usize, link: &Candidate) -> Branch<'a> {
+    /// The trees of the branch in which component a is entered by a link. The potentials that come of adding the link are good ones for links that are like it, so the state takes them over.
+    fn enter<S: Steps>(&mut self, steps: &S, a: usize, parts: usize, link: &Candidate) -> Branch<'a> {
         let p = self.names[link.parent];
+        let state = steps.balanced_with(&self.state, link);
+        self.state.set_potentials(state.potentials());
         Branch {
             fixed: self.fixed + link.length,
-            state: steps.balanced_with(&self.state, link),
+            state,
             names: self.names.map(|name| if name == a { p } else { name }),
             entries: merged(&self.entries, a, p, parts),
         }
@@ -88,35 +122,40 @@ struct Search<'a, S> {
 }
 
 impl<S: Steps> Search<'_, S> {
-    /// Goes through the trees of a branch, in which the components below a have chosen.
-    fn branch(&mut self, a: usize, mut branch: Branch) {
+    /// Goes through the trees of a branch, in which the components below a have chosen. It is left with the prices of the deepest branch that was entered last, if any was: they were
+    /// brought up for the links of the last components, and bound the branches beside it well.
+    fn branch(&mut self, a: usize, mut branch: Branch) -> Option<Prices> {
         let candidates = self.candidates;
         let parts = candidates.len();
         if a == parts {
-            return self.tree(branch.fixed + branch.state.cost);
+            self.tree(branch.fixed + branch.state.cost);
+            return None;
         }
-        let mut beside = branch.bound_beside(candidates, a);
+        let behind = &candidates[a + 1..];
         let counts = branch.counts(a, parts);
+        let mut own = branch.bound(branch.own_prices(), behind);
+        let mut last: Option<Bound> = None;
         for link in &candidates[a] {
             if self.left == 0 {
-                return;
+                return None;
             }
             let trees = counts[branch.names[link.parent]];
             if trees == 0 {
                 continue;
             }
-            if self.steps.is_hopeless(beside + branch.bound_of(link), self.best) {
+            let bound = last.iter().map(|last| last.of(link)).fold(own.of(link), i64::max);
+            if self.steps.is_hopeless(bound, self.best) {
                 self.left -= trees.min(self.left);
             } else {
                 let below = branch.enter(self.steps, a, parts, link);
-                // Potentials that came of adding a link are good ones for the links that are like it.
-                branch.state.set_potentials(below.state.potentials());
-                beside = branch.bound_beside(candidates, a);
+                own = branch.bound(branch.own_prices(), behind);
                 self.chosen.push((link.tail, link.head));
-                self.branch(a + 1, below);
+                let prices = self.branch(a + 1, below);
                 self.chosen.pop();
+                last = prices.map(|prices| branch.bound(prices.without(link), behind));
             }
         }
+        Some(last.unwrap_or(own).prices)
     }
 
     /// A tree is complete.
