@@ -95,14 +95,12 @@ impl<'a> Branch<'a> {
         counts
     }
 
-    /// The trees of the branch in which component a is entered by a link. The potentials that come of adding the link are good ones for links that are like it, so the state takes them over.
-    fn enter<S: Steps>(&mut self, steps: &S, a: usize, parts: usize, link: &Candidate) -> Branch<'a> {
+    /// The trees of the branch in which component a is entered by a link.
+    fn enter<S: Steps>(&self, steps: &S, a: usize, parts: usize, link: &Candidate) -> Branch<'a> {
         let p = self.names[link.parent];
-        let state = steps.balanced_with(&self.state, link);
-        self.state.set_potentials(state.potentials());
         Branch {
             fixed: self.fixed + link.length,
-            state,
+            state: steps.balanced_with(&self.state, link),
             names: self.names.map(|name| if name == a { p } else { name }),
             entries: merged(&self.entries, a, p, parts),
         }
@@ -122,8 +120,8 @@ struct Search<'a, S> {
 }
 
 impl<S: Steps> Search<'_, S> {
-    /// Goes through the trees of a branch, in which the components below a have chosen. It is left with the prices of the deepest branch that was entered last, if any was: they were
-    /// brought up for the links of the last components, and bound the branches beside it well.
+    /// Goes through the trees of a branch, in which the components below a have chosen. It leaves the prices of the last branch in it that has one component left: each link that was tried
+    /// there has brought them up, and they bound the branches beside it well.
     fn branch(&mut self, a: usize, mut branch: Branch) -> Option<Prices> {
         let candidates = self.candidates;
         let parts = candidates.len();
@@ -148,7 +146,11 @@ impl<S: Steps> Search<'_, S> {
                 self.left -= trees.min(self.left);
             } else {
                 let below = branch.enter(self.steps, a, parts, link);
-                own = branch.bound(branch.own_prices(), behind);
+                if behind.is_empty() {
+                    // The potentials that come of adding a link are good ones for the links beside it.
+                    branch.state.set_potentials(below.state.potentials());
+                    own = branch.bound(branch.own_prices(), behind);
+                }
                 self.chosen.push((link.tail, link.head));
                 let prices = self.branch(a + 1, below);
                 self.chosen.pop();
