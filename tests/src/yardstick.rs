@@ -1,7 +1,6 @@
 //! The yardstick: the planner written plainly in Rust, for speed, by the same method as the proved one. It is what the proved library's
 //! speed is measured against, and the stock from which the wrong planners are made.
 
-mod arborescence;
 mod ascent;
 mod balance;
 mod bound;
@@ -13,9 +12,9 @@ mod judging;
 mod marks;
 mod network;
 mod page;
+mod search;
 mod windows;
 
-pub use arborescence::{Candidate, Trees};
 pub use balance::{Balance, Lengths};
 pub use bound::{cheapest_arborescence, Entries};
 pub use circuit::shortest_path;
@@ -26,12 +25,14 @@ pub use judging::judge;
 pub use marks::{car_plan, check_marks};
 pub use network::{components, Components, Network};
 pub use page::vertices;
+pub use search::Candidate;
 pub use windows::{check_windows, plan_at};
 
 use crate::plan::{
     Arc, Departure, Plan, CLOSED, DEFAULT_BUDGET, HIGHEST_BUDGET, MOST_PARTS, MOST_VERTICES, REQUIRED, SHEET_PLACES,
 };
 use crate::planner::{refusal, Answer, Codec, DepartureCall, Judge, Planner, Refusal};
+use std::cell::Cell;
 
 /// The decisions that planners of this trade get wrong, each with its right answer. A wrong planner overrides one.
 pub trait Steps {
@@ -70,11 +71,6 @@ pub trait Steps {
         (head, tail)
     }
 
-    /// The multipliers by which trees are passed over, by the places of the required vertices.
-    fn passing_multipliers(&self, balance: &Balance) -> Vec<i64> {
-        balance.greatest_potentials(0)
-    }
-
     /// The multipliers that are answered, 0 at the first required vertex.
     fn multipliers(&self, balance: &Balance, lengths: &Lengths, component: &[usize], parts: usize) -> Vec<i64> {
         ascent::ascend(balance, lengths, component, parts)
@@ -100,14 +96,16 @@ pub trait Steps {
         true
     }
 
-    /// Whether a tree with this bound need not be balanced.
+    /// Whether a branch with this bound is passed over.
     fn is_hopeless(&self, bound: i64, best: i64) -> bool {
         bound >= best
     }
 
-    /// The least balancing once the units of a tree's links are added.
-    fn balancing_with(&self, balance: &Balance, units: &[(usize, usize)]) -> i64 {
-        balance.cost_with(units)
+    /// The state once the unit of a link is added.
+    fn balanced_with<'a>(&self, state: &Balance<'a>, link: &Candidate) -> Balance<'a> {
+        let mut state = state.clone();
+        state.add(link.from, link.to);
+        state
     }
 
     /// What an arc adds to a path in weight: cost first, and then the number of arcs.
@@ -126,6 +124,23 @@ pub trait Steps {
 pub struct Yardstick;
 
 impl Steps for Yardstick {}
+
+/// The right planner, counting the links that it adds to a state.
+#[derive(Default)]
+pub struct Counting(Cell<u64>);
+
+impl Counting {
+    pub fn added(&self) -> u64 {
+        self.0.get()
+    }
+}
+
+impl Steps for Counting {
+    fn balanced_with<'a>(&self, state: &Balance<'a>, link: &Candidate) -> Balance<'a> {
+        self.0.set(self.0.get() + 1);
+        Yardstick.balanced_with(state, link)
+    }
+}
 
 impl<S: Steps> Planner for S {
     fn plan_call(&self, plan: &[u8], budget: u64, sheet: &mut [u16]) -> Result<Answer, Refusal> {
@@ -193,15 +208,6 @@ pub fn check_lent(budget: u64, places: usize) -> Result<(), Refusal> {
     Ok(())
 }
 
-/// What trying the trees found.
-struct Found {
-    /// The first tree of least cost among those tried, as pairs of (tail, head), and its cost.
-    links: Vec<(usize, usize)>,
-    cost: i64,
-    tried: u64,
-    whole: bool,
-}
-
 fn plan_call<S: Steps>(steps: &S, file: &[u8], budget: u64, sheet: &mut [u16]) -> Result<Answer, Refusal> {
     answer(steps, accept(file, budget, sheet.len())?, budget, sheet)
 }
@@ -246,15 +252,17 @@ fn lay<S: Steps>(
         let (from, to) = steps.unit(a.tail.into(), a.head.into());
         balance.add(network.place[from], network.place[to]);
     }
-    let spread = |of_places: Vec<i64>| {
-        let mut u = [0; MOST_VERTICES];
-        network.required.iter().zip(of_places).for_each(|(&v, x)| u[v] = x);
-        u
-    };
     let component: Vec<usize> = network.required.iter().map(|&v| network.components.of[v]).collect();
-    let u = spread(steps.multipliers(&balance, &lengths, &component, network.components.count));
+    let of_places = steps.multipliers(&balance, &lengths, &component, network.components.count);
+    let mut u = [0; MOST_VERTICES];
+    network.required.iter().zip(&of_places).for_each(|(&v, &x)| u[v] = x);
 
-    let found = try_trees(steps, &network, &balance, &spread(steps.passing_multipliers(&balance)), budget);
+    // The multipliers that are answered are potentials of the state, and better ones than it came with.
+    let mut state = balance.clone();
+    let mut potentials = *state.potentials();
+    potentials[..of_places.len()].copy_from_slice(&of_places);
+    state.set_potentials(&potentials);
+    let found = search::try_trees(steps, &network.candidates(steps), network.required_cost, state, budget);
     let floor = if found.whole {
         found.cost
     } else {
@@ -280,42 +288,4 @@ fn lower_bound<S: Steps>(steps: &S, network: &Network, u: &[i64; MOST_VERTICES])
     let entries = network.cheapest_entries(u);
     let arborescence = steps.cheapest_arborescence(&entries, network.components.count);
     steps.lagrangian_bound(network.required_cost, steps.price(u, &network.imbalance), arborescence)
-}
-
-/// Tries trees in order up to the budget, and looks whether there is one more.
-fn try_trees<S: Steps>(
-    steps: &S,
-    network: &Network,
-    balance: &Balance,
-    u: &[i64; MOST_VERTICES],
-    budget: u64,
-) -> Found {
-    let candidates = network.candidates(steps, u);
-    let fixed = network.required_cost;
-    let mut best = i64::MAX;
-    let mut links = Vec::new();
-    let mut tried = 0;
-    let mut trees = Trees::first(&candidates);
-    let mut units = Vec::with_capacity(MOST_PARTS);
-    while let Some(tree) = &mut trees {
-        if tried == budget {
-            return Found { links, cost: best, tried, whole: false };
-        }
-        // Weak duality: no balancing with the tree's links costs less than what the multipliers say.
-        let bound = fixed + balance.cost + tree.reduced_sum();
-        if steps.considers(tried) && !steps.is_hopeless(bound, best) {
-            units.clear();
-            units.extend(tree.links().map(|c| (network.place[c.from], network.place[c.to])));
-            let cost = fixed + tree.length_sum() + steps.balancing_with(balance, &units);
-            if cost < best {
-                best = cost;
-                links = tree.links().map(|c| (c.tail, c.head)).collect();
-            }
-        }
-        tried += 1;
-        if !tree.advance() {
-            trees = None;
-        }
-    }
-    Found { links, cost: best, tried, whole: true }
 }

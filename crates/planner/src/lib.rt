@@ -4,6 +4,7 @@ mod ascend; // the multipliers that are answered
 mod bound; // L(u)
 mod lay; // the drive of a tree
 mod prepare; // the state of the required arcs
+mod trees; // the trees, at most as many as the budget
 mod solve; // the answer of a plan that is not refused
 
 use refusal::Verdict;

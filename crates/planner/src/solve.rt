@@ -5,6 +5,7 @@ use crate::bound::floor_of;
 use crate::lay::lay;
 use crate::prepare::base_state;
 use crate::prepare::multipliers_of;
+use crate::trees::best;
 use balance::state::Balance;
 use network::network::Network;
 use plan::Plan;
@@ -13,18 +14,16 @@ ghost use mathlib.Core.Path.{_≡_};
 ghost use mathlib.Core.Option.{none};
 ghost use Prim.Native.Nat.{_≤_};
 ghost use lib.ListN.{length};
-ghost use Rattle.postman.specs.PlanCall.{sheetPlaces, root};
+ghost use Rattle.postman.specs.PlanCall.{sheetPlaces};
 ghost use Rattle.plan.specs.Records.{planValue};
 ghost use Rattle.shortest.specs.Contracts.{AreWeights};
-ghost use Rattle.balance.specs.Step.{cell};
 ghost use Rattle.balance.specs.Records.{stateOf};
-ghost use Rattle.balance.specs.Multipliers.{multipliers};
 ghost use Rattle.network.specs.Contracts.{IsNetwork};
 ghost use Rattle.planner.specs.Prepared.{IsKnown, IsBase};
 ghost use Rattle.planner.specs.Ascent.{multipliersFor};
 ghost use Rattle.planner.specs.Contract.{IsPlanned};
 
-// The trees are tried, the drive of the best is written, and the floor is computed, from the state of the required arcs. Trees are passed over by the greatest multipliers; those that are answered give the floor.
+// The trees are tried, the drive of the best is written, and the floor is computed, from the state of the required arcs. The multipliers that are answered give the floor.
 pub(crate) fn finish(
     plan: Plan,
     table: &[[u32; 64]; 64],
@@ -32,37 +31,18 @@ pub(crate) fn finish(
     vs: &[u8],
     net: Network,
     base: Balance,
-    greatest: [i64; 64],
     u: [i64; 64],
     budget: u32,
     sheet: &mut [u16],
 ) -> Planned
-    requires { ⌜ IsBase (planValue plan) (now table) (now vs) (stateOf base) × (greatest ≡ multipliers (cell (now table)) (now vs) (stateOf base) (root (planValue plan))) × (u ≡ multipliersFor (planValue plan)) ⌝ }
+    requires { ⌜ IsBase (planValue plan) (now table) (now vs) (stateOf base) × (u ≡ multipliersFor (planValue plan)) ⌝ }
     requires { ⌜ IsNetwork (planValue plan) net × (1 ≤ budget) × (sheetPlaces ≤ length (now sheet)) × AreWeights (planValue plan) (now weights) ⌝ }
     ensures { λ r. ⌜ IsPlanned (planValue plan) budget none (now (sheet .entry)) (now (sheet .exit)) r ⌝ }
 {
-    let c = candidates::of_network(net);
-    let start = c.start;
-    let source = c.source;
-    let tails = c.tails;
-    let heads = c.heads;
     let parts = net.components;
     let k = parts as usize;
     let required_cost = net.required_cost;
-    let s = search::tried::search(
-        plan,
-        table,
-        vs,
-        &start,
-        &source,
-        &tails,
-        &heads,
-        k,
-        base,
-        &greatest,
-        required_cost,
-        budget,
-    );
+    let s = best(plan, table, vs, net, base, u, budget);
     let ts = s.tails;
     let hs = s.heads;
     let n = k - 1;
@@ -110,16 +90,5 @@ pub(crate) fn solve(
     let base = base_state(plan, table, vs);
     let greatest = multipliers_of(plan, table, vs, base);
     let u = multipliers_for(plan, table, vs, net, base, greatest);
-    finish(
-        plan,
-        table,
-        weights,
-        vs,
-        net,
-        base,
-        greatest,
-        u,
-        budget,
-        sheet,
-    )
+    finish(plan, table, weights, vs, net, base, u, budget, sheet)
 }

@@ -1,32 +1,207 @@
--- What the functions answer.
+-- What the functions ask and answer.
 use mathlib.Core.Path.{_≡_}
 use mathlib.Core.Logic.{_⊎_}
-use mathlib.Core.List.{List}
-use Prim.Native.Nat.{ℕ, _+_, _-_, _≤_, _<_}
-use lib.IntN.{ℤ, pos}
+use mathlib.Core.Bool.{Bool, false, cond}
+use mathlib.Core.List.{List, [], _∷_, _++_, map, List·Memᴰ}
+use Prim.Native.Nat.{ℕ, suc, _+_, _*_, _-_, _≤_, _<_, min}
+use lib.Dec.{eqb, leb, ltb}
+use lib.ListN.{length, getD, set}
+use lib.IntN.{ℤ, pos, _+ℤ_, _-ℤ_}
+use lib.Signed.{_≤ℤ_}
+use Rattle.postman.specs.Lists.{upFrom, occurrences}
 use Rattle.postman.specs.Plan.{Plan}
+use Rattle.postman.specs.Required.{required, requiredCost}
 use Rattle.postman.specs.Link.{Link}
+use Rattle.postman.specs.Component.{componentCount}
+use Rattle.postman.specs.Balancing.{heads, tails, sumOver, linkCost, completionCost}
+use Rattle.postman.specs.LagrangianBound.{AreMultipliers}
 use Rattle.postman.specs.PlanCall.{triedCount, isWhole, bestCost, bestArborescence}
-use Rattle.balance.specs.Step.{State}
-use Rattle.search.specs.declared.best.Best.{Best}
+use Rattle.postman.specs.Laws.Balancing.{Joins}
+use Rattle.balance.specs.Step.{State, cell, add}
+use Rattle.balance.specs.Invariant.{Metric, Certified}
+use Rattle.balance.specs.Balance.{balance}
+use Rattle.tree_count.specs.Recursion.{merged, countTrees}
+use Rattle.tree_count.specs.Matrix.{entriesOf, cap, AreFew, IsMerged}
+use Rattle.tree_count.specs.Laws.Arrival.{renamed}
+use Rattle.search.specs.declared.branch.Branch.{Branch}
+use Rattle.search.specs.declared.explore.Candidate.{Candidate}
+use Rattle.search.specs.declared.pricing.Pricing.{Pricing}
+use Rattle.search.specs.declared.progress.Progress.{Progress}
 use Rattle.search.specs.declared.tried.Searched.{Searched}
 use Rattle.search.specs.Links.{linksIn}
-use Rattle.search.specs.Costs.{reducedIn, completionIn}
+use Rattle.search.specs.Branch.{Named, sourcesBy, completions}
+use Rattle.search.specs.Progress.{Held, held, advance}
+use Rattle.search.specs.Bound.{reducedBy, ArePotentials, Bounds, Low}
 
--- The state by its parts.
-abbrev pub stateFrom : List ℕ → List ℕ → ℕ → ℕ → State
-stateFrom amounts potentials cost count = record { amounts = amounts; potentials = potentials; cost = cost; count = count }
+-- ---- reduced costs
 
--- The links of t are passed over by their bound, or by their cost, or they are kept.
-abbrev pub Kept : List (List ℕ) → List ℕ → State → List ℤ → ℕ → ℕ → List Link → Best → Best → Type 0
-Kept table vs base u r n t before after =
-    ((after ≡ before) × (rs : ℕ) × (pos rs ≡ reducedIn table u t) × (before .cost ≤ r + base .cost + rs))
-    ⊎ (((after ≡ before) × (before .cost ≤ completionIn table vs base r t))
-    ⊎ ((after .cost ≡ completionIn table vs base r t) × (completionIn table vs base r t < before .cost) × (linksIn n (after .tails) (after .heads) ≡ t)))
+-- The reduced cost of the way from t to h is not negative, and small.
+pub record CanReduce (table : List (List ℕ)) (pot : List ℕ) (t h : ℕ) : Type 0 where
+  pub tail : t < 64
+  pub head : h < 64
+  pub short : cell table t h ≤ 4128705
+  pub feasible : getD pot t 0 ≤ cell table t h + getD pot h 0
+  pub low : getD pot h 0 ≤ 3005697240
 
--- THE ANSWER
-pub record IsSearched (p : Plan) (budget k : ℕ) (r : Searched) : Type 0 where
+-- Two multipliers are no further apart than 63 arcs of cost 65,535.
+pub record Spread (u low : ℤ) : Type 0 where
+  pub above : pos 0 ≤ℤ (u -ℤ low +ℤ pos 4128705)
+  pub below : pos 0 ≤ℤ (low -ℤ u +ℤ pos 4128705)
+
+-- The multipliers of the first n of vs, from that of the first on, and raised so that none is negative.
+pub record AreShifted (u : List ℤ) (vs : List ℕ) (n : ℕ) (w : List ℕ) : Type 0 where
+  pub size : length w ≡ 64
+  pub each : (k : ℕ) → k < n → pos (getD w (getD vs k 0) 0) ≡ getD u (getD vs k 0) (pos 0) -ℤ getD u (getD vs 0 0) (pos 0) +ℤ pos 4128705
+  pub low : (v : ℕ) → getD w v 0 ≤ 8257410
+
+-- The candidates at the places from `from` to `to` have reduced costs, and r is at most each of them.
+abbrev pub AreReducible : List (List ℕ) → List ℕ → List ℕ → List ℕ → ℕ → ℕ → Type 0
+AreReducible table pot tails heads from to = (x : ℕ) → from ≤ x → x < to → CanReduce table pot (getD tails x 0) (getD heads x 0)
+
+pub record IsLeast (table : List (List ℕ)) (pot tails heads : List ℕ) (from to r : ℕ) : Type 0 where
+  pub low : (x : ℕ) → from ≤ x → x < to → r ≤ reducedBy table pot (getD tails x 0) (getD heads x 0)
+  pub most : r ≤ 4000000000
+
+-- The candidates of the components from a on have reduced costs.
+pub record CanRest (table : List (List ℕ)) (pot start tails heads : List ℕ) (a k : ℕ) : Type 0 where
+  pub few : k ≤ 8
+  pub one : 1 ≤ a
+  pub within : a ≤ k
+  pub ascending : (q : ℕ) → a ≤ q → q < k → getD start q 0 ≤ getD start (q + 1) 0
+  pub fits : (q : ℕ) → a ≤ q → q < k → getD start (q + 1) 0 ≤ 4096
+  pub each : (q : ℕ) → a ≤ q → q < k → AreReducible table pot tails heads (getD start q 0) (getD start (q + 1) 0)
+
+-- For each component from a on, what those behind it cost at least.
+abbrev pub AreRests : Plan → List (List ℕ) → List ℕ → ℕ → ℕ → List ℕ → Type 0
+AreRests p table pot a k rests = (q : ℕ) → a ≤ q → q < k → Low p table pot (getD rests q 0) (suc q)
+
+-- ---- counts
+
+-- How many trees are left once component a is one with x, for each x that it can be entered from; none for a itself.
+pub record AreCounts (entries : List ℕ) (a k : ℕ) (counts : List ℕ) : Type 0 where
+  pub each : (x : ℕ) → List·Memᴰ x (0 ∷ upFrom (suc a) (k - suc a)) → getD counts x 0 ≡ min (countTrees (merged (entriesOf entries) a x) (upFrom (suc a) (k - suc a))) cap
+  pub circle : getD counts a 0 ≡ 0
+
+-- ---- progress
+
+-- What is held, with trees of m links.
+abbrev pub heldOf : ℕ → Progress → Held
+heldOf m g = held (g .cost) (linksIn m (g .tails) (g .heads)) (g .skip) (g .left)
+
+-- A candidate of the component that is chosen for next: its link, its source by its new name, and how many trees the branch below has.
+pub record IsCandidate (source tails heads names counts : List ℕ) (x : ℕ) (c : Candidate) : Type 0 where
+  pub tail-is : c .tail ≡ getD tails x 0
+  pub head-is : c .head ≡ getD heads x 0
+  pub name-is : c .name ≡ getD names (getD source x 0) 0
+  pub trees-are : c .trees ≡ getD counts (getD names (getD source x 0) 0) 0
+
+-- Whether a branch of n trees is gone into: some of them are tried, and neither bound is as much as the best so far.
+abbrev pub isEntered : Progress → ℕ → ℕ → ℕ → Bool
+isEntered g n one other = cond (leb n (g .skip)) false (cond (eqb (g .left) 0) false (cond (leb (g .cost) one) false (ltb other (g .cost))))
+
+-- Fewer trees are left than a count can say.
+abbrev pub IsShort : Progress → Type 0
+IsShort g = g .skip + g .left ≤ cap
+
+-- ---- branches
+
+-- The links chosen, for components 1 to a − 1.
+abbrev pub chosenIn : Branch → List Link
+chosenIn b = linksIn (b .a - 1) (b .tails) (b .heads)
+
+abbrev pub namesIn : Branch → ℕ → ℕ
+namesIn b c = getD (b .names) c 0
+
+abbrev pub stateIn : Branch → State
+stateIn b = record { amounts = b .amounts; potentials = b .potentials; cost = b .balancing; count = b .count }
+
+pub record IsBranch (p : Plan) (table : List (List ℕ)) (b : Branch) : Type 0 where
+  pub one : 1 ≤ b .a
+  pub most : b .a ≤ componentCount p
+  pub tails-size : length (b .tails) ≡ 8
+  pub heads-size : length (b .heads) ≡ 8
+  pub joins : Joins p (chosenIn b)
+  pub state : stateIn b ≡ balance (cell table) p (chosenIn b)
+  pub fixed : b .fixed ≡ requiredCost p + linkCost p (chosenIn b)
+  pub potentials : ArePotentials table (required p) (b .multipliers)
+  pub bounded : Bounds p table (b .multipliers) (b .bound) (chosenIn b) (b .a)
+  pub bound-small : b .bound ≤ 3000000000000 + b .a * 3009825945
+  pub rests : AreRests p table (b .multipliers) (b .a) (componentCount p) (b .rests)
+  pub rests-small : (q : ℕ) → getD (b .rests) q 0 ≤ 32000000000
+  pub named : Named p (namesIn b) (b .a)
+  pub entries : (q x : ℕ) → b .a ≤ q → q < componentCount p → List·Memᴰ x (0 ∷ upFrom (b .a) (componentCount p - b .a)) → entriesOf (b .entries) q x ≡ occurrences x (sourcesBy p (namesIn b) q)
+  pub few : AreFew (b .entries) (b .a) (componentCount p)
+
+-- The branch that has no choice yet: all trees.
+pub record IsRoot (p : Plan) (table : List (List ℕ)) (b : Branch) : Type 0 where
+  pub branch : IsBranch p table b
+  pub nothing : b .a ≡ 1
+  pub names-are : (c : ℕ) → c < 8 → namesIn b c ≡ c
+
+-- What the root is made from: the state of the required arcs, multipliers, R, and the entries of the components.
+pub record AreGiven (p : Plan) (table : List (List ℕ)) (base : State) (u : List ℤ) (r : ℕ) (entries : List ℕ) : Type 0 where
+  pub base-is : base ≡ balance (cell table) p []
+  pub multipliers : AreMultipliers p (λ i. getD u i (pos 0))
+  pub required-cost : r ≡ requiredCost p
+  pub entries-are : (q x : ℕ) → 1 ≤ q → q < componentCount p → x < 8 → entriesOf entries q x ≡ occurrences x (sourcesBy p (λ c. c) q)
+  pub few : AreFew entries 1 (componentCount p)
+
+-- One link more can be added to a state.
+pub record CanLink (table : List (List ℕ)) (vs : List ℕ) (s : State) (tail head : ℕ) : Type 0 where
+  pub metric : Metric (cell table) vs
+  pub certified : Certified (cell table) vs s
+  pub room : s .count ≤ 370
+  pub tail-in : List·Memᴰ tail vs
+  pub head-in : List·Memᴰ head vs
+
+-- Component a can take the link from tail to head, which comes from component x by its new name.
+pub record CanGoBelow (table : List (List ℕ)) (vs : List ℕ) (b : Branch) (tail head x k : ℕ) : Type 0 where
+  pub one : 1 ≤ b .a
+  pub more : b .a < k
+  pub few : k ≤ 8
+  pub link : CanLink table vs (stateIn b) tail head
+  pub reducible : CanReduce table (b .multipliers) tail head
+  pub name : x < 8
+  pub fixed-small : b .fixed ≤ 100000000
+  pub bound-small : b .bound ≤ 4000000000000
+  pub entries-few : AreFew (b .entries) (b .a) k
+
+-- The branch below, in which it has taken it.
+pub record IsBelow (table : List (List ℕ)) (vs : List ℕ) (b : Branch) (tail head x k : ℕ) (r : Branch) : Type 0 where
+  pub next : r .a ≡ b .a + 1
+  pub tails-are : r .tails ≡ set (b .tails) (b .a - 1) tail
+  pub heads-are : r .heads ≡ set (b .heads) (b .a - 1) head
+  pub state-is : stateIn r ≡ add (cell table) vs (stateIn b) tail head
+  pub fixed-is : r .fixed ≡ b .fixed + cell table tail head
+  pub multipliers-are : r .multipliers ≡ b .multipliers
+  pub bound-is : r .bound ≡ b .bound + reducedBy table (b .multipliers) tail head
+  pub rests-are : r .rests ≡ b .rests
+  pub names-are : (c : ℕ) → c < 8 → getD (r .names) c 0 ≡ renamed (b .a) x (getD (b .names) c 0)
+  pub entries-are : IsMerged (b .entries) (b .a) x k (r .entries)
+
+-- Potentials, and what they price the required arcs and the links chosen at, or less.
+pub record Prices (p : Plan) (table : List (List ℕ)) (b : Branch) (r : Pricing) : Type 0 where
+  pub potentials : ArePotentials table (required p) (r .potentials)
+  pub priced : r .value + sumOver (tails p (chosenIn b)) (λ v. getD (r .potentials) v 0) ≤ sumOver (heads p (chosenIn b)) (λ v. getD (r .potentials) v 0)
+  pub small : r .value + b .a * 3005697240 ≤ 2963683537920
+
+-- The prices of a branch without its last link, from tail to head; the old ones where they would be negative.
+abbrev pub IsLifted : Pricing → Pricing → ℕ → ℕ → Pricing → Type 0
+IsLifted old new tail head r = (r ≡ old) ⊎ ((r .potentials ≡ new .potentials) × (r .value + getD (new .potentials) head 0 ≡ new .value + getD (new .potentials) tail 0))
+
+-- The trees of a branch, in order.
+unfoldable pub treesIn : Plan → Branch → List (List Link)
+unfolding completions
+treesIn p b = map (λ t. chosenIn b ++ t) (completions p (namesIn b) (b .a))
+
+-- ---- THE ANSWERS
+
+-- The trees ts were gone through.
+abbrev pub IsExplored : Plan → List (List Link) → Progress → Progress → Type 0
+IsExplored p ts before after = heldOf (componentCount p - 1) after ≡ advance (completionCost p) (heldOf (componentCount p - 1) before) ts
+
+pub record IsSearched (p : Plan) (budget : ℕ) (r : Searched) : Type 0 where
   pub cost : r .cost ≡ bestCost p budget
   pub tried : r .tried ≡ triedCount p budget
   pub whole : r .whole ≡ isWhole p budget
-  pub links : linksIn (k - 1) (r .tails) (r .heads) ≡ bestArborescence p budget
+  pub links : linksIn (componentCount p - 1) (r .tails) (r .heads) ≡ bestArborescence p budget

@@ -1,15 +1,13 @@
 -- What is proved about the definitions.
-pub mod Links
-pub mod Entries
-pub mod Costs
-pub mod Choice
-pub mod Steps
-pub mod Best
-pub mod Turns
+pub mod Branch
+pub mod Progress
+pub mod Prepared
+pub mod Bound
+pub mod Names
 pub mod Reduced
-pub mod Completion
-pub mod States
-pub mod Orderless
-pub mod Trail
-pub mod Pass
-pub mod PassedOver
+pub mod Rest
+pub mod Counts
+pub mod Below
+pub mod Root
+pub mod Explore
+pub mod Tried

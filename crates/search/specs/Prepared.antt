@@ -1,22 +1,18 @@
--- What is known once a plan is prepared: its distances, its required vertices, its candidates in arrays, the state of its required arcs, multipliers, and R.
+-- What is known once a plan is prepared: its distances, its required vertices, and its candidates in arrays.
 use mathlib.Core.Path.{_≡_}
 use mathlib.Core.List.{List, []}
 use Prim.Native.Nat.{ℕ, _+_, _≤_, _<_}
 use lib.ListN.{length, getD}
-use lib.IntN.{ℤ, pos}
 use Rattle.postman.specs.Plan.{Plan}
-use Rattle.postman.specs.Required.{required, requiredCost}
+use Rattle.postman.specs.Required.{required}
 use Rattle.postman.specs.Distance.{distance}
 use Rattle.postman.specs.Component.{componentCount}
 use Rattle.postman.specs.Arborescence.{linkAt, candidates as candidatesOf}
-use Rattle.postman.specs.LagrangianBound.{AreMultipliers}
 use Rattle.postman.specs.Laws.Optimality.{Plannable}
-use Rattle.balance.specs.Step.{State, cell}
-use Rattle.balance.specs.Balance.{balance}
 use Rattle.arborescence.specs.Layout.{laidOut, IsLayout}
 use Rattle.arborescence.specs.Candidates.{AreCandidates}
 
-pub record Prepared (p : Plan) (table : List (List ℕ)) (vs start source tails heads : List ℕ) (k : ℕ) (base : State) (u : List ℤ) (r : ℕ) : Type 0 where
+pub record Prepared (p : Plan) (table : List (List ℕ)) (vs start source tails heads : List ℕ) (k : ℕ) : Type 0 where
   pub plannable : Plannable p
   pub few : componentCount p ≤ 8
   pub count : k ≡ componentCount p
@@ -26,6 +22,3 @@ pub record Prepared (p : Plan) (table : List (List ℕ)) (vs start source tails 
   pub candidates : AreCandidates p (laidOut k start source)
   pub ends : (q i : ℕ) → 1 ≤ q → q < k → i < length (candidatesOf p q)
       → (getD tails (getD start q 0 + i) 0 ≡ linkAt (candidatesOf p q) i .tail) × (getD heads (getD start q 0 + i) 0 ≡ linkAt (candidatesOf p q) i .head)
-  pub base-is : base ≡ balance (cell table) p []
-  pub multipliers : AreMultipliers p (λ i. getD u i (pos 0))
-  pub required-cost : r ≡ requiredCost p

@@ -1,14 +1,13 @@
-//! Times the planners on the same plans in one process: `cargo run --release --bin benchmark [--features proved]`.
+//! Times the planners on the same plans in one process: `cargo run --release --bin benchmark [--features proved] [plans]`. With `plans` only the plan call is timed.
 //!
 //! The planners take turns. A time is the processor's, not the clock's, so that other work on the machine counts little, and it is the least of several
 //! runs; beside it stands how far the slowest run was above it, which is the machine's noise. The sheet is cleared before each run, outside the time.
 
 use postman_tests::instances::{adverse_ring, crossing, even, fullest, joined, longest, towns};
-use postman_tests::oracle::{count_trees, file_of, own_marks, Graph};
+use postman_tests::oracle::{count_trees, file_of, own_marks, parse, Graph};
 use postman_tests::plan::{Arc, Plan, MOST_PAIRS, MOST_PLACES, REQUIRED, SHEET_PLACES};
 use postman_tests::planner::{Answer, Car, CarsCall, Codec, Counter, DistanceCall, Judge, Planner};
-use postman_tests::yardstick::{Balance, Steps, Yardstick};
-use std::cell::Cell;
+use postman_tests::yardstick::{Counting, Yardstick};
 use std::time::{Duration, Instant};
 
 const BUDGETS: [u64; 3] = [10_000, 100_000, 1_000_000];
@@ -24,17 +23,6 @@ fn planners() -> Vec<(&'static str, Box<dyn Planner>)> {
         #[cfg(feature = "proved")]
         ("proved", Box::new(postman_tests::planner::Proved)),
     ]
-}
-
-/// The yardstick, counting the trees that it has to balance.
-#[derive(Default)]
-struct Counting(Cell<u64>);
-
-impl Steps for Counting {
-    fn balancing_with(&self, balance: &Balance, units: &[(usize, usize)]) -> i64 {
-        self.0.set(self.0.get() + 1);
-        balance.cost_with(units)
-    }
 }
 
 /// The processor time of this thread so far (Linux).
@@ -211,40 +199,68 @@ fn judging() {
     }
 }
 
-fn main() {
-    codecs();
-    pages();
-    counts();
-    judging();
-    cars();
+/// The plans that are kept because they are slow, by name.
+fn slow_plans() -> Vec<(String, Plan)> {
+    let folder = concat!(env!("CARGO_MANIFEST_DIR"), "/plans");
+    let files = std::fs::read_dir(folder).expect("a folder of plans").map(|entry| entry.expect("an entry").path());
+    let mut plans: Vec<_> = files
+        .map(|path| {
+            let name = path.file_stem().expect("a name").to_string_lossy().into_owned();
+            (name, parse(&std::fs::read(&path).expect("a plan file")))
+        })
+        .collect();
+    plans.sort_by(|(one, _), (other, _)| one.cmp(other));
+    plans
+}
+
+/// The plan call on one plan at each budget: the least time of each planner, in seconds.
+fn plan_calls(planners: &[(&str, Box<dyn Planner>)], name: &str, plan: &Plan) -> Vec<Vec<f64>> {
+    describe(name, plan);
+    let file = file_of(plan);
+    let at = |budget| {
+        let counting = Counting::default();
+        let answer = counting.plan_call(&file, budget, &mut vec![0; SHEET_PLACES]).expect("a good plan");
+        let (tried, added) = (answer.trees, counting.added());
+        println!("  budget {budget}: {tried} trees, {added} links added, cost {}, floor {}", answer.cost, answer.floor);
+        let times = times(planners, &file, budget, &answer);
+        let yardstick = times[0][0].as_secs_f64();
+        let each = planners.iter().zip(&times).map(|((planner, _), times)| {
+            let (least, most) = (times[0].as_secs_f64(), times[times.len() - 1].as_secs_f64());
+            let noise = (most / least - 1.0) * 100.0;
+            let (runs, ms, ratio) = (times.len(), least * 1e3, least / yardstick);
+            println!("    {planner:<10} {ms:>10.3} ms, ratio {ratio:.2} ({runs} runs, the slowest {noise:.0} % above)");
+            least
+        });
+        each.collect()
+    };
+    BUDGETS.map(at).to_vec()
+}
+
+/// The plan call on some plans, with the sums for each budget and for all.
+fn plan_call_table(what: &str, plans: &[(String, Plan)]) {
     let planners = planners();
-    longest_drive(&planners);
-    let mut totals = vec![0.0; planners.len()];
-    for (name, plan) in towns() {
-        describe(name, &plan);
-        let file = file_of(&plan);
-        for budget in BUDGETS {
-            let counting = Counting::default();
-            let answer = counting.plan_call(&file, budget, &mut vec![0; SHEET_PLACES]).expect("a good plan");
-            let (tried, balanced) = (answer.trees, counting.0.get());
-            println!(
-                "  budget {budget}: {tried} trees, {balanced} balanced, cost {}, floor {}",
-                answer.cost, answer.floor
-            );
-            let times = times(&planners, &file, budget, &answer);
-            let yardstick = times[0][0].as_secs_f64();
-            for (((planner, _), times), total) in planners.iter().zip(&times).zip(&mut totals) {
-                let (least, most) = (times[0].as_secs_f64(), times[times.len() - 1].as_secs_f64());
-                let noise = (most / least - 1.0) * 100.0;
-                let (runs, ms, ratio) = (times.len(), least * 1e3, least / yardstick);
-                println!(
-                    "    {planner:<10} {ms:>10.3} ms, ratio {ratio:.2} ({runs} runs, the slowest {noise:.0} % above)"
-                );
-                *total += least;
-            }
+    let times: Vec<_> = plans.iter().map(|(name, plan)| plan_calls(&planners, name, plan)).collect();
+    let sum = |at: usize, by: usize| times.iter().map(|plan| plan[at][by]).sum::<f64>();
+    for (by, (planner, _)) in planners.iter().enumerate() {
+        for (at, budget) in BUDGETS.iter().enumerate() {
+            let (total, ratio) = (sum(at, by), sum(at, by) / sum(at, 0));
+            println!("{what} at {budget}: {planner:<10} {:>10.1} ms, ratio {ratio:.2}", total * 1e3);
         }
+        let all = |by| (0..BUDGETS.len()).map(|at| sum(at, by)).sum::<f64>();
+        println!("{what} in total: {planner:<10} {:>10.1} ms, ratio {:.2}", all(by) * 1e3, all(by) / all(0));
     }
-    for ((planner, _), total) in planners.iter().zip(&totals) {
-        println!("total: {planner:<10} {:>10.1} ms, ratio {:.2}", total * 1e3, total / totals[0]);
+}
+
+fn main() {
+    if !std::env::args().any(|argument| argument == "plans") {
+        codecs();
+        pages();
+        counts();
+        judging();
+        cars();
+        longest_drive(&planners());
     }
+    let towns: Vec<_> = towns().into_iter().map(|(name, plan)| (name.to_string(), plan)).collect();
+    plan_call_table("towns", &towns);
+    plan_call_table("slow plans", &slow_plans());
 }

@@ -5,7 +5,7 @@ use crate::plan::{Arc, Plan, CLOSED, MOST_VERTICES, OPTIONAL, REQUIRED};
 use crate::planner::Planner;
 use crate::properties::Property::{self, *};
 use crate::yardstick::{
-    costs, distances, shortest_path, Balance, Components, Distances, Entries, Lengths, Steps, NO_PATH,
+    costs, distances, shortest_path, Balance, Candidate, Components, Distances, Entries, Lengths, Steps, NO_PATH,
 };
 
 /// Defines wrong planners, and lists them with their names and the properties that they violate.
@@ -91,8 +91,8 @@ wrong_steps! {
     }
 
     BalancedWithoutTheLinks violates [DriveCost, LeastCost, FloorHolds] {
-        fn balancing_with(&self, balance: &Balance, _units: &[(usize, usize)]) -> i64 {
-            balance.cost_with(&[])
+        fn balanced_with<'a>(&self, state: &Balance<'a>, _link: &Candidate) -> Balance<'a> {
+            state.clone()
         }
     }
 

@@ -22,7 +22,7 @@ fn cheapest_tree(lengths: &Lengths, component: &[usize], parts: usize, u: &Heigh
     let mut cheapest = [[(i64::MAX, (0, 0)); MOST_PARTS]; MOST_PARTS];
     for i in 0..n {
         for j in 0..n {
-            let cost = lengths[i][j] - u[i] + u[j];
+            let cost = lengths[j][i] - u[i] + u[j];
             let entry = &mut cheapest[component[i]][component[j]];
             if cost < entry.0 {
                 *entry = (cost, (i, j));
@@ -61,7 +61,7 @@ pub fn ascend(balance: &Balance, lengths: &Lengths, component: &[usize], parts: 
     let mut x: Heights = std::array::from_fn(|v| greatest.get(v).copied().unwrap_or(0));
     let mut before = x;
     let mut best = (i64::MIN, x);
-    let mut stride = (0..n).map(|v| lengths[v][0]).max().unwrap_or(0) / FIRST + 1;
+    let mut stride = lengths[0][..n].iter().max().copied().unwrap_or(0) / FIRST + 1;
     for step in 0..STEPS {
         let tree = cheapest_tree(lengths, component, parts, &x);
         if tree.value > best.0 {

@@ -2,8 +2,11 @@
 
 use crate::plan::MOST_VERTICES;
 
-/// d between the vertices.
+/// d between the vertices, from i to j at \[j\]\[i\]: what leads into a vertex is a row.
 pub type Lengths = [[i64; MOST_VERTICES]; MOST_VERTICES];
+
+/// A number for each vertex.
+pub type Potentials = [i64; MOST_VERTICES];
 
 /// Amounts that balance the arcs added so far at least cost, and potentials that show it: the reduced cost d(i,j) − u(i) + u(j) is at least
 /// 0 for every pair, and 0 where an amount goes.
@@ -11,91 +14,83 @@ pub type Lengths = [[i64; MOST_VERTICES]; MOST_VERTICES];
 pub struct Balance<'a> {
     lengths: &'a Lengths,
     n: usize,
-    /// `into[j][i]` is the amount from i to j: the residual arcs out of j are a row.
-    into: [[u16; MOST_VERTICES]; MOST_VERTICES],
-    u: [i64; MOST_VERTICES],
+    /// `from[i][j]` is the amount from i to j: the residual arcs into i that take it back are a row.
+    from: [[u16; MOST_VERTICES]; MOST_VERTICES],
+    u: Potentials,
     pub cost: i64,
 }
 
-/// Distances over the residual arcs, exact for settled vertices and at least `x[goal]` for the others; and the vertex before each.
+/// Distances to a vertex over the residual arcs, exact for settled vertices and at least `x[start]` for the others; and the vertex after each.
 struct Search {
     x: [i64; MOST_VERTICES],
-    before: [u8; MOST_VERTICES],
+    after: [u8; MOST_VERTICES],
 }
 
 impl<'a> Balance<'a> {
     pub fn new(lengths: &'a Lengths, n: usize) -> Balance<'a> {
-        let into = [[0; MOST_VERTICES]; MOST_VERTICES];
-        Balance { lengths, n, into, u: [0; MOST_VERTICES], cost: 0 }
+        let from = [[0; MOST_VERTICES]; MOST_VERTICES];
+        Balance { lengths, n, from, u: [0; MOST_VERTICES], cost: 0 }
     }
 
-    /// Dijkstra from a vertex until the goal is reached.
+    /// Takes other potentials, which have to show the same of the amounts.
+    pub fn set_potentials(&mut self, u: &Potentials) {
+        self.u = *u;
+    }
+
+    pub fn potentials(&self) -> &Potentials {
+        &self.u
+    }
+
+    /// Dijkstra towards a vertex until the start is reached, which is taken first among the nearest.
     fn search(&self, start: usize, goal: usize) -> Search {
         let n = self.n;
         let mut x = [i64::MAX; MOST_VERTICES];
-        let mut before = [0; MOST_VERTICES];
+        let mut after = [0; MOST_VERTICES];
         let mut is_open = [true; MOST_VERTICES];
-        x[start] = 0;
-        let mut v = start;
-        while v != goal {
-            is_open[v] = false;
-            let (lengths, back, far) = (&self.lengths[v], &self.into[v], x[v]);
-            let (mut next, mut nearest) = (goal, i64::MAX);
-            for w in 0..n {
-                if is_open[w] {
-                    let length = if back[w] > 0 { 0 } else { lengths[w] - self.u[v] + self.u[w] };
-                    if far + length < x[w] {
-                        x[w] = far + length;
-                        before[w] = v as u8;
+        x[goal] = 0;
+        let mut w = goal;
+        while w != start {
+            is_open[w] = false;
+            let (lengths, back, far) = (&self.lengths[w], &self.from[w], x[w]);
+            let (mut next, mut nearest) = (start, i64::MAX);
+            for v in 0..n {
+                if is_open[v] {
+                    let length = if back[v] > 0 { 0 } else { lengths[v] - self.u[v] + self.u[w] };
+                    if far + length < x[v] {
+                        x[v] = far + length;
+                        after[v] = w as u8;
                     }
-                    if x[w] < nearest {
-                        (next, nearest) = (w, x[w]);
+                    if x[v] < nearest {
+                        (next, nearest) = (v, x[v]);
                     }
                 }
             }
-            v = next;
+            w = if x[start] == nearest { start } else { next };
         }
-        Search { x, before }
+        Search { x, after }
     }
 
-    /// Sends one unit more.
-    pub fn add(&mut self, from: usize, to: usize) {
-        if from == to {
+    /// Sends one unit more. The potentials that come of it show the same of the amounts before.
+    pub fn add(&mut self, start: usize, goal: usize) {
+        if start == goal {
             return;
         }
-        let Search { x, before } = self.search(from, to);
-        let far = x[to];
-        self.cost += far + self.u[from] - self.u[to];
-        let mut w = to;
-        while w != from {
-            let v = usize::from(before[w]);
-            if self.into[v][w] > 0 {
-                self.into[v][w] -= 1;
+        let Search { x, after } = self.search(start, goal);
+        let far = x[start];
+        self.cost += far + self.u[start] - self.u[goal];
+        let mut v = start;
+        while v != goal {
+            let w = usize::from(after[v]);
+            if self.from[w][v] > 0 {
+                self.from[w][v] -= 1;
             } else {
-                self.into[w][v] += 1;
+                self.from[v][w] += 1;
             }
-            w = v;
+            v = w;
         }
         for v in 0..self.n {
-            self.u[v] -= x[v].min(far);
+            self.u[v] += x[v].min(far);
         }
-    }
-
-    /// The cost with some units more. Of the last only the way's length is wanted.
-    pub fn cost_with(&self, units: &[(usize, usize)]) -> i64 {
-        let Some((&(from, to), others)) = units.split_last() else { return self.cost };
-        let last = |state: &Balance| match from == to {
-            true => state.cost,
-            false => state.cost + state.search(from, to).x[to] + state.u[from] - state.u[to],
-        };
-        if others.is_empty() {
-            return last(self);
-        }
-        let mut state = self.clone();
-        for &(from, to) in others {
-            state.add(from, to);
-        }
-        last(&state)
     }
 
     /// The greatest potentials that are 0 at a root: the distance of each vertex to the root over the residual arcs, unreduced.
@@ -107,7 +102,7 @@ impl<'a> Balance<'a> {
         while let Some(next) = (0..open.len()).min_by_key(|&i| x[open[i]]) {
             let w = open.swap_remove(next);
             for &v in &open {
-                let length = if self.into[v][w] > 0 { 0 } else { self.lengths[v][w] - self.u[v] + self.u[w] };
+                let length = if self.from[w][v] > 0 { 0 } else { self.lengths[w][v] - self.u[v] + self.u[w] };
                 x[v] = x[v].min(x[w] + length);
             }
         }
@@ -120,8 +115,8 @@ impl<'a> Balance<'a> {
         let mut x = [[0; MOST_VERTICES]; MOST_VERTICES];
         for v in 0..n {
             for w in 0..n {
-                let is_back = self.into[v][w] > 0;
-                x[v][w] = if is_back || v == w { 0 } else { self.lengths[v][w] - self.u[v] + self.u[w] };
+                let is_back = self.from[w][v] > 0;
+                x[v][w] = if is_back || v == w { 0 } else { self.lengths[w][v] - self.u[v] + self.u[w] };
             }
         }
         for k in 0..n {
@@ -142,7 +137,7 @@ impl<'a> Balance<'a> {
     /// The least potentials that are 0 at a root: minus the distance from it. Lawful, but they bound no better than the balancing itself.
     pub fn least_potentials(&self, root: usize) -> Vec<i64> {
         let others =
-            (0..self.n).map(|v| if v == root { 0 } else { self.search(root, v).x[v] + self.u[root] - self.u[v] });
+            (0..self.n).map(|v| if v == root { 0 } else { self.search(root, v).x[root] + self.u[root] - self.u[v] });
         others.map(|distance| -distance).collect()
     }
 
@@ -156,16 +151,16 @@ impl<'a> Balance<'a> {
         for b in 0..n {
             for a in 0..n {
                 for c in 0..n {
-                    let through = self.into[b][a].min(self.into[c][b]);
-                    self.into[b][a] -= through;
-                    self.into[c][b] -= through;
+                    let through = self.from[a][b].min(self.from[b][c]);
+                    self.from[a][b] -= through;
+                    self.from[b][c] -= through;
                     if a != c {
-                        self.into[c][a] += through;
+                        self.from[a][c] += through;
                     }
                 }
             }
         }
         let pairs = (0..n).flat_map(|i| (0..n).map(move |j| (i, j)));
-        pairs.flat_map(|(i, j)| std::iter::repeat_n((i, j), self.into[j][i].into())).collect()
+        pairs.flat_map(|(i, j)| std::iter::repeat_n((i, j), self.from[i][j].into())).collect()
     }
 }

@@ -94,11 +94,11 @@ impl<'a> Network<'a> {
         self.required.iter().any(|&i| self.required.iter().any(|&j| self.d[i][j] == NO_PATH))
     }
 
-    /// d between required vertices, by their places.
+    /// d between required vertices, by their places: from i to j at \[j\]\[i\].
     pub fn lengths(&self) -> Lengths {
         let mut lengths = [[0; MOST_VERTICES]; MOST_VERTICES];
-        for (row, &i) in lengths.iter_mut().zip(&self.required) {
-            for (entry, &j) in row.iter_mut().zip(&self.required) {
+        for (row, &j) in lengths.iter_mut().zip(&self.required) {
+            for (entry, &i) in row.iter_mut().zip(&self.required) {
                 *entry = self.d[i][j] as i64;
             }
         }
@@ -110,14 +110,14 @@ impl<'a> Network<'a> {
     }
 
     /// For each component the links that enter it from another, in order. Component 0 has none.
-    pub fn candidates<S: Steps>(&self, steps: &S, u: &[i64; MOST_VERTICES]) -> Vec<Vec<Candidate>> {
+    pub fn candidates<S: Steps>(&self, steps: &S) -> Vec<Vec<Candidate>> {
         let mut candidates = vec![Vec::new(); self.components.count];
         for &(tail, head) in &self.links {
             let (parent, child) = (self.components.of[tail], self.components.of[head]);
             if child != 0 && parent != child {
                 let (from, to) = steps.unit(tail, head);
-                let (length, reduced) = (self.d[tail][head] as i64, self.reduced(u, tail, head));
-                candidates[child].push(Candidate { tail, head, from, to, parent, length, reduced });
+                let (from, to, length) = (self.place[from], self.place[to], self.d[tail][head] as i64);
+                candidates[child].push(Candidate { tail, head, from, to, parent, length });
             }
         }
         for links in &mut candidates {

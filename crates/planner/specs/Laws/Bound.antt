@@ -36,7 +36,7 @@ use Rattle.balance.specs.Laws.Plan.{plan-metric}
 use Rattle.arborescence.specs.Picture.{highest}
 use Rattle.arborescence.specs.PairCosts.{AreCosts, IsNetwork, multipliersOf}
 use Rattle.network.specs.Laws.Vertices.{required-of-64}
-use Rattle.search.specs.Laws.Costs.{required-small}
+use Rattle.search.specs.Laws.Prepared.{required-small}
 use Rattle.planner.specs.Priced.{IsPriced}
 
 -- a required vertex's flag is set, and only theirs

@@ -25,7 +25,7 @@ use Rattle.balance.specs.Step.{State, cell}
 use Rattle.balance.specs.Balance.{balance}
 use Rattle.balance.specs.Multipliers.{multipliers}
 use Rattle.balance.specs.Laws.Plan.{balance-least, balance-certified, balance-room, plan-metric, heights-multipliers, multipliers-greatest}
-use Rattle.network.specs.Contracts.{IsRequiredFlags, IsComponents}
+use Rattle.network.specs.Contracts.{IsLinks, IsRequiredFlags, IsComponents}
 use Rattle.arborescence.specs.Layout.{laidOut, IsLayout}
 use Rattle.arborescence.specs.Candidates.{AreCandidates}
 use Rattle.arborescence.specs.PairCosts.{multipliersOf}
@@ -35,7 +35,12 @@ use Rattle.ascent.specs.Laws.Lawful.{lawful-feasible, lawful-tight}
 use Rattle.ascent.specs.Laws.Heights.{level, multipliers-here, multipliers-other, multipliers-first}
 use Rattle.candidates.specs.declared.Candidates.{Candidates}
 use Rattle.candidates.specs.LaidOut.{AreLaidOut}
+use Rattle.tree_count.specs.Entries.{AreCounted}
+use Rattle.tree_count.specs.Laws.Recursion.{entriesIn}
+use Rattle.tree_count.specs.Laws.Plan.{sources}
+use Rattle.tree_count.specs.Laws.Entries.{all-few, entry-is}
 use Rattle.search.specs.Prepared.{Prepared}
+use Rattle.search.specs.Contracts.{AreGiven}
 use Rattle.planner.specs.Tour.{tableOf}
 use Rattle.planner.specs.Prepared.{IsBase}
 use Rattle.planner.specs.Priced.{IsPriced}
@@ -150,8 +155,8 @@ module _ (p : Plan) (table : List (List ℕ)) (vs : List ℕ) (base : State) (b 
     price-small = (let a = price-small p ok few in let f = cost-is in omega arith);
   }
 
-  pub prepared : (k r : ℕ) (c : Candidates) → k ≡ componentCount p → r ≡ requiredCost p → AreLaidOut p c → Prepared p table vs (c .start) (c .source) (c .tails) (c .heads) k base u r
-  prepared k r c hk hr h = record {
+  pub prepared : (k : ℕ) (c : Candidates) → k ≡ componentCount p → AreLaidOut p c → Prepared p table vs (c .start) (c .source) (c .tails) (c .heads) k
+  prepared k c hk h = record {
     plannable = ok;
     few = few;
     count = hk;
@@ -160,7 +165,19 @@ module _ (p : Plan) (table : List (List ℕ)) (vs : List ℕ) (base : State) (b 
     layout = subst⁻¹ (λ (n : ℕ). IsLayout n (c .start) (c .source)) hk (h .layout);
     candidates = subst⁻¹ (λ (n : ℕ). AreCandidates p (laidOut n (c .start) (c .source))) hk (h .are-candidates);
     ends = λ q i l m g. (let m′ : q < componentCount p = omega arith in (h .tail q i l m′ g, h .head q i l m′ g));
+  }
+
+  -- what the search begins with: the state, the multipliers, R, and the entries counted from the network
+  pub given : (r : ℕ) (links : List Bool) (of : List ℕ) (k : ℕ) (entries : List ℕ) → r ≡ requiredCost p → IsLinks p links → IsComponents p of k → AreCounted links of 4096 entries → AreGiven p table base u r entries
+  unfolding entriesIn sources
+  given r links of k entries hr hl hc h = record {
     base-is = b .base-is ∙ ap (λ (x : List (List ℕ)). balance (cell x) p []) (sym (b .known .distances));
     multipliers = e .multipliers;
     required-cost = hr;
+    entries-are = λ q x l m c.
+        let n = hc .all in
+        let f = few in
+        let o = some-component p ok few in
+        sym (entry-is p (ok .well-formed) links of k hl hc (omega arith) (omega arith) entries h q x (omega arith) c);
+    few = all-few links of entries (componentCount p) few h;
   }

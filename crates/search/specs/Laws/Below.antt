@@ -1,0 +1,255 @@
+-- The branch below a branch is a branch: a link moves from what is to come to what is known, in the state, in the costs, in the bound and in the names.
+use mathlib.Core.Path.{_≡_, refl, sym, ap, ap₂, _∙_, subst, subst⁻¹}
+use mathlib.Core.Logic.{_≢_, inl, inr}
+use mathlib.Core.List.{List, [], _∷_, _++_, map, List·Memᴰ, List·Memᴰ·head, List·Memᴰ·tail, List·Memᴰ·cases-cons, List·Memᴰ·append-cases, List·Memᴰ·eq-of-singleton, append-nil}
+use Prim.Native.Nat.{ℕ, zero, suc, _+_, _*_, _-_, _≤_, _<_}
+use native.Mathlib.Decide.{ℕ-discrete}
+use native.Mathlib.Numerals.{add-one}
+use native.Mathlib.Omega.{arith}
+use lib.ListN.{length, getD, set, length-set}
+use Rattle.postman.specs.Lists.{sumOf, upFrom, occurrences, delta}
+use Rattle.postman.specs.Plan.{Plan}
+use Rattle.postman.specs.Required.{required, requiredCost}
+use Rattle.postman.specs.Distance.{distance}
+use Rattle.postman.specs.Link.{Link}
+use Rattle.postman.specs.Component.{component, componentCount}
+use Rattle.postman.specs.Arborescence.{candidates}
+use Rattle.postman.specs.Balancing.{linkCost}
+use Rattle.postman.specs.Laws.Balancing.{Joins}
+use Rattle.postman.specs.Laws.Membership.{map-mem, upFrom-mem, mem-upFrom}
+use Rattle.postman.specs.Laws.Lists.{map-cong, map-map}
+use Rattle.balance.specs.Step.{State, cell, add, addAll, arcsOf}
+use Rattle.balance.specs.Invariant.{Metric, Certified}
+use Rattle.balance.specs.Balance.{balance}
+use Rattle.balance.specs.Laws.Plan.{balance-links, balance-certified, balance-room}
+use Rattle.tree_count.specs.Recursion.{merged}
+use Rattle.tree_count.specs.Matrix.{entriesOf, AreFew}
+use Rattle.tree_count.specs.Laws.Arrival.{renamed}
+use Rattle.tree_count.specs.Laws.Matrix.{few-merged}
+use Rattle.tree_count.specs.Laws.Recursion.{occurrences-renamed}
+use Rattle.search.specs.declared.branch.Branch.{Branch}
+use Rattle.search.specs.Links.{linksIn}
+use Rattle.search.specs.Branch.{sourceBy, renamedBy, sourcesBy, Named}
+use Rattle.search.specs.Bound.{Bounds, ArePotentials, reducedBy}
+use Rattle.search.specs.Prepared.{Prepared}
+use Rattle.search.specs.Contracts.{chosenIn, namesIn, stateIn, IsBranch, CanReduce, CanLink, CanGoBelow, IsBelow, AreRests}
+use Rattle.search.specs.Laws.Prepared.{candidate-ends, in-plan, some-component, agrees, metric, required-small}
+use Rattle.search.specs.Laws.Branch.{still-named, source-lt}
+use Rattle.search.specs.Laws.Bound.{bounds-step}
+
+-- ---- links in arrays
+
+links-length : (n : ℕ) (ts hs : List ℕ) → n ≤ length ts → n ≤ length hs → length (linksIn n ts hs) ≡ n
+unfolding arcsOf
+links-length zero ts hs lt lh = refl
+links-length (suc n) [] hs lt lh = absurd (omega arith)
+links-length (suc n) (t ∷ ts) [] lt lh = absurd (omega arith)
+links-length (suc n) (t ∷ ts) (h ∷ hs) lt lh = ap suc (links-length n ts hs (omega arith) (omega arith))
+
+-- one link more, written behind the first n
+links-set : (n t h : ℕ) (ts hs : List ℕ) → n < length ts → n < length hs → linksIn (suc n) (set ts n t) (set hs n h) ≡ linksIn n ts hs ++ record { tail = t; head = h } ∷ []
+unfolding arcsOf
+links-set n t h [] hs lt lh = absurd (omega arith)
+links-set n t h (x ∷ ts) [] lt lh = absurd (omega arith)
+links-set zero t h (x ∷ ts) (y ∷ hs) lt lh = refl
+links-set (suc n) t h (x ∷ ts) (y ∷ hs) lt lh = ap (λ (l : List Link). record { tail = x; head = y } ∷ l) (links-set n t h ts hs (omega arith) (omega arith))
+
+add-last : (d : ℕ → ℕ → ℕ) (vs : List ℕ) (s : State) (t : List Link) (l : Link) → addAll d vs s (t ++ l ∷ []) ≡ add d vs (addAll d vs s t) (l .tail) (l .head)
+unfolding addAll
+add-last d vs s [] l = refl
+add-last d vs s (a ∷ t) l = add-last d vs (add d vs s (a .tail) (a .head)) t l
+
+cost-last : (p : Plan) (t : List Link) (l : Link) → linkCost p (t ++ l ∷ []) ≡ linkCost p t + distance p (l .tail) (l .head)
+unfolding linkCost sumOf
+cost-last p [] l = omega arith
+cost-last p (x ∷ t) l = let h = cost-last p t l in omega arith
+
+-- ---- the branch below
+
+module _ {p : Plan} {table : List (List ℕ)} {vs start source tails heads : List ℕ} {k : ℕ} (h : Prepared p table vs start source tails heads k) (b : Branch) (is : IsBranch p table b) where
+  pub chosen-length : length (chosenIn b) ≡ b .a - 1
+  chosen-length = let s = is .tails-size in let t = is .heads-size in let m = is .most in let f = h .few in links-length (b .a - 1) (b .tails) (b .heads) (omega arith) (omega arith)
+
+  pub chosen-short : length (chosenIn b) ≤ 8
+  chosen-short = let e = chosen-length in let m = is .most in let f = h .few in omega arith
+
+  pub link-cost-small : (t : List Link) → Joins p t → linkCost p t ≤ length t * 4128705
+  unfolding linkCost sumOf
+  link-cost-small [] j = omega arith
+  link-cost-small (l ∷ t) j =
+      let i = j l (List·Memᴰ·head refl) in
+      let a = metric h .bound _ _ (i .0) (i .1) in
+      let e = agrees h _ _ (i .0) (i .1) in
+      let r = link-cost-small t (λ x m. j x (List·Memᴰ·tail m)) in
+      omega arith
+
+  pub fixed-small : b .fixed ≤ 60000000
+  fixed-small =
+      let e = is .fixed in
+      let r = required-small p (h .plannable .well-formed) in
+      let c = link-cost-small (chosenIn b) (is .joins) in
+      let l = chosen-short in
+      omega arith
+
+  -- the state is certified, and small
+  certified : Certified (cell table) (required p) (stateIn b)
+  certified = subst⁻¹ (Certified (cell table) (required p)) (is .state) (balance-certified p (h .plannable .well-formed) (h .plannable .connected) (cell table) (agrees h) (chosenIn b) (is .joins) (let l = chosen-short in omega arith))
+
+  pub room : b .count ≤ 356
+  room =
+      let e = ap (λ (s : State). s .count) (is .state) in
+      let r = balance-room p (h .plannable .well-formed) (h .plannable .connected) (cell table) (agrees h) (chosenIn b) (is .joins) (let l = chosen-short in omega arith) in
+      omega arith
+
+  pub balancing-small : b .balancing ≤ 2939637960000
+  balancing-small = let c = certified .numbers .cheap in let r = room in omega arith
+
+  module _ (more : b .a < k) (l : Link) (m : List·Memᴰ l (candidates p (b .a))) where
+    ends : List·Memᴰ (l .tail) (required p) × List·Memᴰ (l .head) (required p)
+    ends = candidate-ends p (b .a) l m
+
+    -- the reduced cost of a candidate, by any potentials
+    pub can-reduce : (pot : List ℕ) → ArePotentials table (required p) pot → CanReduce table pot (l .tail) (l .head)
+    can-reduce pot f =
+        let t = metric h in
+        record {
+          tail = t .small _ (ends .0);
+          head = t .small _ (ends .1);
+          short = t .bound _ _ (ends .0) (ends .1);
+          feasible = f .feasible _ _ (ends .0) (ends .1);
+          low = f .low (l .head);
+        }
+
+    pub can-go-below : (x : ℕ) → x < 8 → CanGoBelow table vs b (l .tail) (l .head) x k
+    can-go-below x small = record {
+      one = is .one;
+      more = more;
+      few = (let e = h .count in let f = h .few in omega arith);
+      link = record {
+        metric = subst⁻¹ (Metric (cell table)) (h .vertices) (metric h);
+        certified = subst⁻¹ (λ (v : List ℕ). Certified (cell table) v (stateIn b)) (h .vertices) certified;
+        room = (let r = room in omega arith);
+        tail-in = subst⁻¹ (λ (v : List ℕ). List·Memᴰ (l .tail) v) (h .vertices) (ends .0);
+        head-in = subst⁻¹ (λ (v : List ℕ). List·Memᴰ (l .head) v) (h .vertices) (ends .1);
+      };
+      reducible = can-reduce (b .multipliers) (is .potentials);
+      name = small;
+      fixed-small = (let f = fixed-small in omega arith);
+      bound-small = (let f = is .bound-small in let g = is .most in let e = h .few in omega arith);
+      entries-few = subst⁻¹ (λ n. AreFew (b .entries) (b .a) n) (h .count) (is .few);
+    }
+
+    module _ (other : sourceBy p (namesIn b) l ≢ b .a) (r : Branch) (at : IsBelow table vs b (l .tail) (l .head) (sourceBy p (namesIn b) l) k r) where
+      abbrev x : ℕ
+      x = sourceBy p (namesIn b) l
+
+      before : b .a ≡ suc (b .a - 1)
+      before = let o = is .one in omega arith
+
+      -- THE LINKS CHOSEN
+      pub chosen-more : chosenIn r ≡ chosenIn b ++ l ∷ []
+      chosen-more =
+          let n = b .a - 1 in
+          let o = is .one in
+          let mo = is .most in
+          let fe = h .few in
+          let st = is .tails-size in
+          let sh = is .heads-size in
+          let e : r .a - 1 ≡ suc n = (let g = at .next in omega arith) in
+          ap (λ i. linksIn i (r .tails) (r .heads)) e ∙ ap₂ (λ (ts hs : List ℕ). linksIn (suc n) ts hs) (at .tails-are) (at .heads-are)
+          ∙ links-set n (l .tail) (l .head) (b .tails) (b .heads) (omega arith) (omega arith)
+
+      joins-more : Joins p (chosenIn b ++ l ∷ [])
+      joins-more y g = elim (List·Memᴰ·append-cases (chosenIn b) g) [
+        | inl i ↦ is .joins y i
+        | inr i ↦ subst⁻¹ (λ (y : Link). List·Memᴰ (y .tail) (required p) × List·Memᴰ (y .head) (required p)) (List·Memᴰ·eq-of-singleton i) ends
+      ]
+
+      state-more : stateIn r ≡ balance (cell table) p (chosenIn r)
+      state-more =
+          at .state-is ∙ ap₂ (λ (v : List ℕ) (s : State). add (cell table) v s (l .tail) (l .head)) (h .vertices) (is .state ∙ balance-links (cell table) p (chosenIn b))
+          ∙ sym (ap (balance (cell table) p) chosen-more ∙ balance-links (cell table) p (chosenIn b ++ l ∷ []) ∙ add-last (cell table) (required p) (balance (cell table) p []) (chosenIn b) l)
+
+      fixed-more : r .fixed ≡ requiredCost p + linkCost p (chosenIn r)
+      fixed-more =
+          let a = at .fixed-is in
+          let c = is .fixed in
+          let d = ap (linkCost p) chosen-more ∙ cost-last p (chosenIn b) l in
+          let e = agrees h (l .tail) (l .head) (ends .0) (ends .1) in
+          omega arith
+
+      bounded-more : Bounds p table (r .multipliers) (r .bound) (chosenIn r) (r .a)
+      bounded-more =
+          let e : r .a ≡ suc (b .a) = (let g = at .next in omega arith) in
+          let step = bounds-step p table (b .multipliers) (b .bound) (chosenIn b) (b .a) (let c = h .count in omega arith) (is .bounded) l m in
+          subst⁻¹ (λ (w : List ℕ). Bounds p table w (r .bound) (chosenIn r) (r .a)) (at .multipliers-are)
+          (subst⁻¹ (λ v. Bounds p table (b .multipliers) v (chosenIn r) (r .a)) (at .bound-is)
+          (subst⁻¹ (λ (c : List Link). Bounds p table (b .multipliers) (b .bound + reducedBy table (b .multipliers) (l .tail) (l .head)) c (r .a)) chosen-more
+          (subst⁻¹ (Bounds p table (b .multipliers) (b .bound + reducedBy table (b .multipliers) (l .tail) (l .head)) (chosenIn b ++ l ∷ [])) e step)))
+
+      -- the new names
+      names-new : (c : ℕ) → c < componentCount p → namesIn r c ≡ renamedBy (namesIn b) (b .a) x c
+      names-new c g = at .names-are c (let f = h .few in omega arith)
+
+      a-is : r .a ≡ suc (b .a)
+      a-is = let g = at .next in omega arith
+
+      named-more : Named p (namesIn r) (r .a)
+      named-more c g =
+          subst⁻¹ (λ n. List·Memᴰ (namesIn r c) (0 ∷ upFrom n (componentCount p - n))) a-is
+          (subst⁻¹ (λ z. List·Memᴰ z (0 ∷ upFrom (suc (b .a)) (componentCount p - suc (b .a)))) (names-new c g)
+          (still-named p (in-plan h) (some-component h) (namesIn b) (b .a) (is .one) (let e = h .count in omega arith) (is .named) l m other c g))
+
+      sources-new : (q : ℕ) → sourcesBy p (namesIn r) q ≡ map (renamed (b .a) x) (sourcesBy p (namesIn b) q)
+      sources-new q =
+          map-cong (sourceBy p (namesIn r)) (λ y. renamed (b .a) x (sourceBy p (namesIn b) y)) (candidates p q) (λ y g. names-new (component p (y .tail)) (source-lt p (in-plan h) (some-component h) q y g))
+          ∙ sym (map-map (renamed (b .a) x) (sourceBy p (namesIn b)) (candidates p q))
+
+      entries-more : (q y : ℕ) → r .a ≤ q → q < componentCount p → List·Memᴰ y (0 ∷ upFrom (r .a) (componentCount p - r .a)) → entriesOf (r .entries) q y ≡ occurrences y (sourcesBy p (namesIn r) q)
+      unfolding merged
+      entries-more q y g c s =
+          let few = h .few in
+          let e = a-is in
+          let n = h .count in
+          let o = is .one in
+          let i : (y ≢ b .a) × (y < 8) × List·Memᴰ y (0 ∷ upFrom (b .a) (componentCount p - b .a)) = elim (List·Memᴰ·cases-cons s) [
+            | inl z ↦ ((λ f. omega arith), omega arith, List·Memᴰ·head z)
+            | inr t ↦ (let u = upFrom-mem (r .a) (componentCount p - r .a) t in ((λ f. omega arith), omega arith, List·Memᴰ·tail (mem-upFrom (b .a) (componentCount p - b .a) (omega arith) (omega arith))))
+          ] in
+          let z = is .entries q (b .a) (omega arith) c (List·Memᴰ·tail (mem-upFrom (b .a) (componentCount p - b .a) (omega arith) (omega arith))) in
+          let w = is .entries q y (omega arith) c (i .2) in
+          at .entries-are .done q y (omega arith) (omega arith) (i .1) ∙ ap₂ (λ u v. u + delta y x * v) w z
+          ∙ sym (ap (occurrences y) (sources-new q) ∙ occurrences-renamed (b .a) x y other (i .0) (sourcesBy p (namesIn b) q))
+
+      -- IT IS A BRANCH
+      pub below-branch : IsBranch p table r
+      below-branch = record {
+        one = (let e = a-is in omega arith);
+        most = (let e = a-is in let n = h .count in omega arith);
+        tails-size = ap length (at .tails-are) ∙ length-set (b .tails) (b .a - 1) (l .tail) ∙ is .tails-size;
+        heads-size = ap length (at .heads-are) ∙ length-set (b .heads) (b .a - 1) (l .head) ∙ is .heads-size;
+        joins = subst⁻¹ (Joins p) chosen-more joins-more;
+        state = state-more;
+        fixed = fixed-more;
+        potentials = subst⁻¹ (ArePotentials table (required p)) (at .multipliers-are) (is .potentials);
+        bounded = bounded-more;
+        bound-small = bound-small;
+        rests = subst⁻¹ (λ (w : List ℕ). AreRests p table w (r .a) (componentCount p) (r .rests)) (at .multipliers-are) (subst⁻¹ (λ (w : List ℕ). AreRests p table (b .multipliers) (r .a) (componentCount p) w) (at .rests-are) (λ q g c. is .rests q (let e = a-is in omega arith) c));
+        rests-small = λ q. (let e = ap (λ (w : List ℕ). getD w q 0) (at .rests-are) in let f = is .rests-small q in omega arith);
+        named = named-more;
+        entries = entries-more;
+        few = subst⁻¹ (λ n. AreFew (r .entries) n (componentCount p)) (at .next) (subst (λ n. AreFew (r .entries) (b .a + 1) n) (h .count) few-more);
+      }
+        where
+          bound-small : r .bound ≤ 3000000000000 + r .a * 3009825945
+          bound-small =
+              let e = at .bound-is in
+              let f = is .bound-small in
+              let g = at .next in
+              let c = can-reduce (b .multipliers) (is .potentials) in
+              let i = c .short in
+              let j = c .low in
+              omega arith
+
+          few-more : AreFew (r .entries) (b .a + 1) k
+          few-more = few-merged (b .entries) (r .entries) (b .a) x k (let n = h .count in let f = h .few in omega arith) (let n = h .count in let f = h .few in omega arith) (subst⁻¹ (λ n. AreFew (b .entries) (b .a) n) (h .count) (is .few)) (at .entries-are)
