@@ -1,0 +1,5 @@
+-- The open plan by value.
+pub mod State
+pub mod Contract
+-- What is proved about it.
+pub mod Laws

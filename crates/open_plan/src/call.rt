@@ -1,0 +1,121 @@
+// The calls of an open plan. None of them asks anything: whatever the state holds, reading decides.
+use crate::Held;
+use crate::Moved;
+use crate::OpenPlan;
+use crate::change::changed_file;
+use crate::file::hold;
+use crate::file::no_file;
+use plan_file::reader::file_verdict;
+use refusal::Refusal;
+use refusal::Verdict;
+ghost use mathlib.Core.Path.{_≡_};
+ghost use Rattle.postman.specs.OpenPlan.{change as «a-change», mark as «a-mark», return as «a-return»};
+ghost use Rattle.open_plan.specs.State.{changeOf, fileIn, opened as «opened-at»};
+ghost use Rattle.open_plan.specs.Contract.{IsOpened, IsMoved};
+
+// A file with no mark set.
+fn opened(file: Held) -> OpenPlan
+    ensures { λ r. ⌜ r ≡ «opened-at» file ⌝ }
+{
+    let none = no_file();
+    OpenPlan {
+        plan: file,
+        marks: [none; 4],
+    }
+}
+
+// OPENING, from any bytes: 1 to 7 and 13, or the plan, with no mark set. In a refusal no plan is open.
+pub fn open(bytes: &[u8]) -> Moved
+    ensures { λ r. ⌜ IsOpened (now (bytes .entry)) r ⌝ }
+{
+    match file_verdict(bytes) {
+        Verdict::Accepted => {
+            let file = hold(bytes);
+            let state = opened(file);
+            Moved {
+                verdict: Verdict::Accepted,
+                state: state,
+            }
+        }
+        Verdict::Refused(r) => {
+            let none = no_file();
+            let state = opened(none);
+            Moved {
+                verdict: Verdict::Refused(r),
+                state: state,
+            }
+        }
+    }
+}
+
+// A CHANGE of one arc's costs and standing.
+pub fn change(state: OpenPlan, arc: u32, cost: u16, service: u16, standing: u8) -> Moved
+    ensures { λ r. ⌜ IsMoved state («a-change» (changeOf arc cost service standing)) r ⌝ }
+{
+    let held = state.plan;
+    let w = changed_file(held, arc, cost, service, standing);
+    let file = w.held;
+    let marks = state.marks;
+    let verdict = w.verdict;
+    match verdict {
+        Verdict::Accepted => Moved {
+            verdict: Verdict::Accepted,
+            state: OpenPlan {
+                plan: file,
+                marks: marks,
+            },
+        },
+        Verdict::Refused(r) => Moved {
+            verdict: Verdict::Refused(r),
+            state: state,
+        },
+    }
+}
+
+// MARK k holds the plan as it is now.
+pub fn mark(state: OpenPlan, k: u32) -> Moved
+    ensures { λ r. ⌜ IsMoved state («a-mark» k) r ⌝ }
+{
+    if 3 < k {
+        return Moved {
+            verdict: Verdict::Refused(Refusal::NoMark),
+            state: state,
+        };
+    }
+    let i = k as usize;
+    let held = state.plan;
+    let mut next = state;
+    next.marks[i] = held;
+    Moved {
+        verdict: Verdict::Accepted,
+        state: next,
+    }
+}
+
+// RETURNING brings back the plan of mark k, and keeps all marks.
+pub fn return_to(state: OpenPlan, k: u32) -> Moved
+    ensures { λ r. ⌜ IsMoved state («a-return» k) r ⌝ }
+{
+    if 3 < k {
+        return Moved {
+            verdict: Verdict::Refused(Refusal::NoMark),
+            state: state,
+        };
+    }
+    let i = k as usize;
+    let held = state.marks[i];
+    if held.length == 0 {
+        return Moved {
+            verdict: Verdict::Refused(Refusal::NoMark),
+            state: state,
+        };
+    }
+    let marks = state.marks;
+    Moved {
+        verdict: Verdict::Accepted,
+        state: OpenPlan {
+            plan: held,
+            marks: marks,
+        },
+    }
+}
