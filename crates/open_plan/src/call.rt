@@ -4,13 +4,17 @@ use crate::Moved;
 use crate::OpenPlan;
 use crate::change::changed_file;
 use crate::file::hold;
+use crate::file::held_length;
 use crate::file::no_file;
 use plan_file::reader::file_verdict;
+use planner::Planned;
 use refusal::Refusal;
 use refusal::Verdict;
+use windows::call::plan_call_at;
 ghost use mathlib.Core.Path.{_≡_};
 ghost use Rattle.postman.specs.OpenPlan.{change as «a-change», mark as «a-mark», return as «a-return»};
 ghost use Rattle.open_plan.specs.State.{changeOf, fileIn, opened as «opened-at»};
+ghost use Rattle.windows.specs.Contract.{departure, IsPlanCallAt};
 ghost use Rattle.open_plan.specs.Contract.{IsOpened, IsMoved};
 
 // A file with no mark set.
@@ -118,4 +122,21 @@ pub fn return_to(state: OpenPlan, k: u32) -> Moved
             marks: marks,
         },
     }
+}
+
+// ASKING: what the plan call at a departure gives for the file of the open plan.
+pub fn ask(
+    state: OpenPlan,
+    budget: u64,
+    windows: &[u16],
+    weekday: u32,
+    minute: u32,
+    sheet: &mut [u16],
+) -> Planned
+    ensures { λ r. ⌜ IsPlanCallAt (fileIn (state .plan)) budget (now (windows .entry)) (departure weekday minute) (now (sheet .entry)) (now (sheet .exit)) r ⌝ }
+{
+    let held = state.plan;
+    let n = held_length(held);
+    let file = held.file;
+    plan_call_at(&file[..n], budget, windows, weekday, minute, sheet)
 }
