@@ -2,3 +2,4 @@
 pub mod Held
 pub mod Change
 pub mod Call
+pub mod History
