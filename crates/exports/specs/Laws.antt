@@ -5,3 +5,4 @@ pub mod Writing
 pub mod Answer
 pub mod Judged
 pub mod Cars
+pub mod Editing

@@ -1,4 +1,5 @@
 -- What is proved about the definitions.
+pub mod Copy
 pub mod Held
 pub mod Change
 pub mod Call

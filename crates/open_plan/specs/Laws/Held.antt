@@ -1,12 +1,11 @@
--- Files by value. A loop copies a file over zeros, byte by byte; the writer writes one over zeros at once.
-use mathlib.Core.Path.{_≡_, refl, sym, ap, ap₂, _∙_}
+-- Files by value: copied over zeros, or written over zeros.
+use mathlib.Core.Path.{_≡_, refl, sym, ap, _∙_}
 use mathlib.Core.List.{List, [], _++_}
 use mathlib.Core.Option.{Option, none, some}
 use Prim.Native.Nat.{ℕ, _+_, _≤_, _<_}
-use native.Mathlib.Numerals.{add-one}
 use native.Mathlib.Omega.{arith}
-use lib.ListN.{length, getD, set, take, drop, replicate, length-replicate, length-set}
-use lib.Seq.{paste, paste-zero, paste-suc, take-all, take-at}
+use lib.ListN.{length, take, drop, replicate, length-replicate}
+use lib.Seq.{paste, take-all, take-at}
 use Rattle.postman.specs.Plan.{Plan}
 use Rattle.postman.specs.Refusal.{firstRefusal, unless, given, refused}
 use Rattle.postman.specs.PlanFile.{edition, arcCount, fileOf, fileLength, fileConditions, writeRefusal, writeAnswer, bytesAfter}
@@ -28,44 +27,19 @@ zeros = replicate longestFile 0
 
 -- ---- copying
 
--- after i turns the first i of n bytes are the file's
-pub record IsCopied (file bytes : List ℕ) (n i : ℕ) : Type 0 where
-  pub turns : i ≤ n
-  pub size : n ≡ length file
-  pub room : n ≤ 1475
-  pub long : length bytes ≡ 1475
-  pub content : bytes ≡ paste zeros 0 file i
+-- what a copy over zeros is, where there is room
+pub over-zeros : (file : List ℕ) (n : ℕ) → paste zeros 0 file n ≡ take n file ++ drop n zeros
+over-zeros file n = let z : 0 + n ≡ n = omega arith in ap (λ (k : ℕ). take n file ++ drop k zeros) z
 
-module _ (file : List ℕ) (n : ℕ) where
-  pub copy-start : n ≡ length file → length file ≤ longestFile → IsCopied file zeros n 0
-  copy-start e h = record { turns = omega arith; size = e; room = omega arith; long = length-replicate {A = ℕ} 1475 0; content = paste-zero zeros 0 file }
-
-  pub copy-more : (bytes : List ℕ) (i : ℕ) → IsCopied file bytes n i → i < n → IsCopied file (set bytes i (getD file i 0)) n (i + 1)
-  copy-more bytes i h l =
-      let e = h .size in
-      let r = h .room in
-      let z : length zeros ≡ 1475 = length-replicate {A = ℕ} 1475 0 in
-      let at : 0 + i ≡ i = omega arith in
-      record {
-        turns = omega arith;
-        size = e;
-        room = r;
-        long = length-set bytes i (getD file i 0) ∙ h .long;
-        content = ap (λ (x : List ℕ). set x i (getD file i 0)) (h .content) ∙ ap (λ (k : ℕ). set (paste zeros 0 file i) k (getD file i 0)) (sym at)
-            ∙ paste-suc zeros 0 file i 0 (omega arith) (omega arith) ∙ ap (paste zeros 0 file) (sym (add-one i));
-      }
-
-  pub copy-end : (bytes : List ℕ) (i : ℕ) → IsCopied file bytes n i → n ≤ i → _≡_ {A = Held} (record { length = n; file = bytes }) (heldOf file)
-  unfolding heldOf
-  copy-end bytes i h l =
-      let t = h .turns in
-      let e : i ≡ length file = omega (arith, h .size) in
-      let z : 0 + length file ≡ length file = omega arith in
-      let all : take (length file) file ≡ file = take-all (length file) file (omega arith) in
-      let content : bytes ≡ file ++ drop (length file) zeros =
-      h .content ∙ ap (paste zeros 0 file) e ∙ ap₂ (λ (x : List ℕ) (k : ℕ). x ++ drop k zeros) all z
-      in
-      λ j. record { length = h .size j; file = content j }
+-- a file that was copied whole
+pub copied-held : (file bytes : List ℕ) (n : ℕ) → n ≡ length file → bytes ≡ paste zeros 0 file n → _≡_ {A = Held} (record { length = n; file = bytes }) (heldOf file)
+unfolding heldOf
+copied-held file bytes n e h =
+    let all : take (length file) file ≡ file = take-all (length file) file (omega arith) in
+    let content : bytes ≡ file ++ drop (length file) zeros =
+    h ∙ over-zeros file n ∙ ap (λ (k : ℕ). take k file ++ drop k zeros) e ∙ ap (λ (l : List ℕ). l ++ drop (length file) zeros) all
+    in
+    λ j. record { length = e j; file = content j }
 
 -- ---- what is held
 

@@ -1,0 +1,2 @@
+-- A state that is lent.
+use mathlib.Core.Path.{_≡_, refl}
