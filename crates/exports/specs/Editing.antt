@@ -37,11 +37,11 @@ heldBytes h = h .length / 256 ∷ h .length % 256 ∷ h .file
 abbrev pub openIn : List ℕ → OpenPlan
 openIn bytes = record { plan = heldIn bytes 0; marks = heldIn bytes 1477 ∷ heldIn bytes 2954 ∷ heldIn bytes 4431 ∷ heldIn bytes 5908 ∷ [] }
 
-abbrev pub stateBytes : OpenPlan → List ℕ
+unfoldable pub stateBytes : OpenPlan → List ℕ
 stateBytes s = heldBytes (s .plan) ++ heldBytes (markIn s 0) ++ heldBytes (markIn s 1) ++ heldBytes (markIn s 2) ++ heldBytes (markIn s 3)
 
 -- The bytes from byte i on become those of a file.
-abbrev pub putHeld : List ℕ → ℕ → Held → List ℕ
+unfoldable pub putHeld : List ℕ → ℕ → Held → List ℕ
 putHeld bytes i h = take i bytes ++ heldBytes h ++ drop (i + 1477) bytes
 
 -- ---- the calls

@@ -143,7 +143,13 @@ pub extern "C" fn postman_open(plan: &[u8], state: &mut [u8]) -> i64
 
 // A CHANGE of one arc's costs and standing. A slice that is too short for the state is refused as 8 first, here and in what follows.
 #[no_mangle]
-pub extern "C" fn postman_change(state: &mut [u8], arc: u32, cost: u16, checking: u16, standing: u8) -> i64
+pub extern "C" fn postman_change(
+    state: &mut [u8],
+    arc: u32,
+    cost: u16,
+    checking: u16,
+    standing: u8,
+) -> i64
     ensures { λ k. ⌜ IsExportedMove («a-change» (changeOf arc cost checking standing)) (now (state .entry)) (now (state .exit)) k ⌝ }
 {
     if state.len() < 7_385 {

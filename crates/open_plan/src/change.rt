@@ -35,7 +35,14 @@ fn changed_plan(plan: Plan, k: usize, cost: u16, service: u16, standing: u8) -> 
 }
 
 // 14 for an arc that the plan does not have, else what writing the changed plan answers.
-fn change_plan(edition: u8, plan: Plan, arc: u32, cost: u16, service: u16, standing: u8) -> Rewritten
+fn change_plan(
+    edition: u8,
+    plan: Plan,
+    arc: u32,
+    cost: u16,
+    service: u16,
+    standing: u8,
+) -> Rewritten
     requires { ⌜ plan .m ≤ 256 ⌝ }
     ensures { λ w. ⌜ IsHeld (changeRefusal edition (planValue plan) (changeOf arc cost service standing))
         (fileOf edition («changed-plan» (planValue plan) (changeOf arc cost service standing))) w ⌝ }
