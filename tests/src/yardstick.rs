@@ -12,6 +12,7 @@ mod file;
 mod judging;
 mod marks;
 mod network;
+mod open_plan;
 mod page;
 mod windows;
 
@@ -25,6 +26,7 @@ pub use file::{read, write};
 pub use judging::judge;
 pub use marks::{car_plan, check_marks};
 pub use network::{components, Components, Network};
+pub use open_plan::{changed, check_change};
 pub use page::vertices;
 pub use windows::{check_windows, plan_at};
 
