@@ -96,7 +96,7 @@ fn cars<T: CarsCall + Planner>(name: &str, planner: &T) {
 /// Plans that are open for changes, and asking beside the plan call at a departure.
 fn sessions<T: Editor + DepartureCall>(name: &str, planner: &T) {
     let mut found = Findings::default();
-    suite::run_editing(&mut found, planner, planner, seed(), rounds(4));
+    suite::run_editing(&mut found, planner, planner, seed(), rounds(20));
     found.assert_none(name, seed());
 }
 

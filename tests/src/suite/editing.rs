@@ -73,7 +73,11 @@ fn sessions() -> Vec<Session> {
                 (change(u32::MAX, 3, 0, 0), 14),
             ],
         ),
-        ("14 before 6 and 7", streets(2), vec![(change(4, 3, 1, 3), 14), (change(4, 0, 0, REQUIRED), 14)]),
+        (
+            "14 before 6 and 7",
+            streets(2),
+            vec![(change(4, 3, 1, 3), 14), (change(4, 3, 0, 3), 14), (change(4, 0, 0, REQUIRED), 14)],
+        ),
         (
             "standings above 2",
             streets(2),
