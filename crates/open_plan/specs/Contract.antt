@@ -1,6 +1,7 @@
 -- What the calls of an open plan answer.
 use mathlib.Core.Path.{_≡_}
 use mathlib.Core.List.{List, []}
+use mathlib.Core.Option.{Option}
 use Prim.Native.Nat.{ℕ}
 use Rattle.postman.specs.Refusal.{firstRefusal, unless}
 use Rattle.postman.specs.PlanFile.{fileConditions}
@@ -9,6 +10,11 @@ use Rattle.refusal.specs.Verdict.{verdictNumber}
 use Rattle.open_plan.specs.declared.OpenPlan.{OpenPlan}
 use Rattle.open_plan.specs.declared.Moved.{Moved}
 use Rattle.open_plan.specs.State.{heldOf, opened, refusalOf, next}
+
+-- An answer, by its refusal and the open plan then.
+pub record IsAnswer (refusal : Option ℕ) (s : OpenPlan) (r : Moved) : Type 0 where
+  pub verdict : verdictNumber (r .verdict) ≡ refusal
+  pub state : r .state ≡ s
 
 -- "Opening takes plan bytes, can give 1 to 7 and 13, and sets no mark." In a refusal no plan is open.
 pub record IsOpened (bytes : List ℕ) (r : Moved) : Type 0 where

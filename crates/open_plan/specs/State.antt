@@ -53,7 +53,11 @@ unfoldable pub opened : Held → OpenPlan
 unfolding heldOf
 opened file = record { plan = file; marks = replicate 4 (heldOf []) }
 
--- The file of mark k.
+-- The open plan with another file, and the same marks.
+abbrev pub withPlan : OpenPlan → Held → OpenPlan
+withPlan s file = record { plan = file; marks = s .marks }
+
+-- The file of mark k; none where there is no such mark.
 abbrev pub markIn : OpenPlan → ℕ → Held
 markIn s k = getD (s .marks) k (record { length = 0; file = [] })
 
@@ -65,6 +69,6 @@ refusalOf s (return k) = cond (ltb 3 k) (some 21) (cond (eqb (markIn s k .length
 
 -- The open plan after a call that is not refused.
 abbrev pub next : OpenPlan → Call → OpenPlan
-next s (change c) = record { plan = heldOf (changedFile (fileIn (s .plan)) c); marks = s .marks }
+next s (change c) = withPlan s (heldOf (changedFile (fileIn (s .plan)) c))
 next s (mark k) = record { plan = s .plan; marks = set (s .marks) k (s .plan) }
-next s (return k) = record { plan = markIn s k; marks = s .marks }
+next s (return k) = withPlan s (markIn s k)

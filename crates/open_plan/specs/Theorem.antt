@@ -2,14 +2,11 @@
 -- after every list of calls the state stands for what the history of the accepted ones gives, and each call was refused as that history says.
 use mathlib.Core.Path.{_≡_, refl, sym, ap, ap₂, _∙_, subst}
 use mathlib.Core.Logic.{_≢_}
-use mathlib.Core.Bool.{false}
 use mathlib.Core.List.{List, [], _∷_, List·Memᴰ, List·Memᴰ·head, List·Memᴰ·tail}
 use mathlib.Core.Option.{Option, none, some}
 use Prim.Native.Nat.{ℕ, _<_}
 use native.Mathlib.Decide.{ℕ-discrete}
 use native.Mathlib.Omega.{arith}
-use borrow.Author.Tests.{ne-eqb}
-use lib.Dec.{ltb}
 use lib.ListN.{length, getD, replicate, length-replicate, getD-replicate}
 use lib.Seq.{getD-set-same, getD-set-other}
 use Rattle.postman.specs.Plan.{Arc}
@@ -32,6 +29,7 @@ use Rattle.open_plan.specs.State as state
 use Rattle.open_plan.specs.Contract.{IsOpened, IsMoved}
 use Rattle.open_plan.specs.Run.{Ran, ended, called, StandsFor}
 use Rattle.open_plan.specs.Laws.Held.{file-short}
+use Rattle.open_plan.specs.Laws.Call.{return-set}
 use Rattle.open_plan.specs.Laws.History.{Keeps, KeepsMark, keeps-some, below-four, Stands, stands-for, step}
 
 -- ---- the history
@@ -127,22 +125,22 @@ module _ (bytes : List ℕ) (small : (k : ℕ) → getD bytes k 0 < 256) (r : Mo
     was-set : refusalOf s (mark k) ≡ none
     was-set = sym (set-at .verdict) ∙ accepted
 
-    good-number : (k < 4) × (ltb 3 k ≡ false)
-    good-number = let b = below-four k none was-set in (b .0, b .1)
+    good-number : k < 4
+    good-number = below-four k none was-set .0
 
     marked-state : r₁ .state ≡ next s (mark k)
     marked-state = set-at .state ∙ ap (λ (q : Option ℕ). unlessRefused q (next s (mark k)) s) was-set
 
     holds : markIn t k ≡ s .plan
     holds =
-        let l = good-number .0 in
+        let l = good-number in
         let f = stood .four in
         marks-stay k gone not-again ∙ ap (λ (x : OpenPlan). markIn x k) marked-state ∙ getD-set-same (s .marks) k (s .plan) _ (omega arith)
 
     pub never-refused : verdictNumber (r₂ .verdict) ≡ none
     never-refused =
         let some-file : markIn t k .length ≢ 0 = subst (λ (h : Held). h .length ≢ 0) (sym holds) (keeps-some _ _ (s .plan) (stood .plan-is)) in
-        back .verdict ∙ rw (good-number .1, ne-eqb _ _ some-file) refl
+        let l = good-number in back .verdict ∙ return-set t k (omega arith) some-file
 
     pub same-plan : r₂ .state .plan ≡ r₁ .state .plan
     same-plan =

@@ -12,10 +12,12 @@ use refusal::Refusal;
 use refusal::Verdict;
 use windows::call::plan_call_at;
 ghost use mathlib.Core.Path.{_≡_};
+ghost use mathlib.Core.Option.{none, some};
 ghost use Rattle.postman.specs.OpenPlan.{change as «a-change», mark as «a-mark», return as «a-return»};
-ghost use Rattle.open_plan.specs.State.{changeOf, fileIn, opened as «opened-at»};
+ghost use Rattle.refusal.specs.Verdict.{refusalNumber};
+ghost use Rattle.open_plan.specs.State.{changeOf, fileIn, opened as «opened-at», withPlan as «with-plan-of»};
 ghost use Rattle.windows.specs.Contract.{departure, IsPlanCallAt};
-ghost use Rattle.open_plan.specs.Contract.{IsOpened, IsMoved};
+ghost use Rattle.open_plan.specs.Contract.{IsAnswer, IsOpened, IsMoved};
 
 // A file with no mark set.
 fn opened(file: Held) -> OpenPlan
@@ -28,6 +30,35 @@ fn opened(file: Held) -> OpenPlan
     }
 }
 
+// The open plan goes on with another file, and keeps its marks.
+fn with_plan(state: OpenPlan, file: Held) -> OpenPlan
+    ensures { λ r. ⌜ r ≡ «with-plan-of» state file ⌝ }
+{
+    let marks = state.marks;
+    OpenPlan {
+        plan: file,
+        marks: marks,
+    }
+}
+
+fn accepted(state: OpenPlan) -> Moved
+    ensures { λ r. ⌜ IsAnswer none state r ⌝ }
+{
+    Moved {
+        verdict: Verdict::Accepted,
+        state: state,
+    }
+}
+
+fn refused(state: OpenPlan, r: Refusal) -> Moved
+    ensures { λ m. ⌜ IsAnswer (some (refusalNumber r)) state m ⌝ }
+{
+    Moved {
+        verdict: Verdict::Refused(r),
+        state: state,
+    }
+}
+
 // OPENING, from any bytes: 1 to 7 and 13, or the plan, with no mark set. In a refusal no plan is open.
 pub fn open(bytes: &[u8]) -> Moved
     ensures { λ r. ⌜ IsOpened (now (bytes .entry)) r ⌝ }
@@ -35,19 +66,11 @@ pub fn open(bytes: &[u8]) -> Moved
     match file_verdict(bytes) {
         Verdict::Accepted => {
             let file = hold(bytes);
-            let state = opened(file);
-            Moved {
-                verdict: Verdict::Accepted,
-                state: state,
-            }
+            accepted(opened(file))
         }
         Verdict::Refused(r) => {
             let none = no_file();
-            let state = opened(none);
-            Moved {
-                verdict: Verdict::Refused(r),
-                state: state,
-            }
+            refused(opened(none), r)
         }
     }
 }
@@ -59,20 +82,11 @@ pub fn change(state: OpenPlan, arc: u32, cost: u16, service: u16, standing: u8) 
     let held = state.plan;
     let w = changed_file(held, arc, cost, service, standing);
     let file = w.held;
-    let marks = state.marks;
+    let next = with_plan(state, file);
     let verdict = w.verdict;
     match verdict {
-        Verdict::Accepted => Moved {
-            verdict: Verdict::Accepted,
-            state: OpenPlan {
-                plan: file,
-                marks: marks,
-            },
-        },
-        Verdict::Refused(r) => Moved {
-            verdict: Verdict::Refused(r),
-            state: state,
-        },
+        Verdict::Accepted => accepted(next),
+        Verdict::Refused(r) => refused(state, r),
     }
 }
 
@@ -81,19 +95,13 @@ pub fn mark(state: OpenPlan, k: u32) -> Moved
     ensures { λ r. ⌜ IsMoved state («a-mark» k) r ⌝ }
 {
     if 3 < k {
-        return Moved {
-            verdict: Verdict::Refused(Refusal::NoMark),
-            state: state,
-        };
+        return refused(state, Refusal::NoMark);
     }
     let i = k as usize;
     let held = state.plan;
     let mut next = state;
     next.marks[i] = held;
-    Moved {
-        verdict: Verdict::Accepted,
-        state: next,
-    }
+    accepted(next)
 }
 
 // RETURNING brings back the plan of mark k, and keeps all marks.
@@ -101,27 +109,14 @@ pub fn return_to(state: OpenPlan, k: u32) -> Moved
     ensures { λ r. ⌜ IsMoved state («a-return» k) r ⌝ }
 {
     if 3 < k {
-        return Moved {
-            verdict: Verdict::Refused(Refusal::NoMark),
-            state: state,
-        };
+        return refused(state, Refusal::NoMark);
     }
     let i = k as usize;
     let held = state.marks[i];
     if held.length == 0 {
-        return Moved {
-            verdict: Verdict::Refused(Refusal::NoMark),
-            state: state,
-        };
+        return refused(state, Refusal::NoMark);
     }
-    let marks = state.marks;
-    Moved {
-        verdict: Verdict::Accepted,
-        state: OpenPlan {
-            plan: held,
-            marks: marks,
-        },
-    }
+    accepted(with_plan(state, held))
 }
 
 // ASKING: what the plan call at a departure gives for the file of the open plan.

@@ -134,12 +134,12 @@ module _ (e : ℕ) (p : Plan) (c : Change) where
 -- ---- each call
 
 -- a mark whose number is good
-pub below-four : (k : ℕ) (r : Option ℕ) → cond (ltb 3 k) (some 21) r ≡ none → (k < 4) × (ltb 3 k ≡ false) × (r ≡ none)
+pub below-four : (k : ℕ) (r : Option ℕ) → cond (ltb 3 k) (some 21) r ≡ none → (k < 4) × (r ≡ none)
 below-four k r q = at (ltb 3 k) refl q
   where
-    at : (b : Bool) → ltb 3 k ≡ b → cond b (some 21) r ≡ none → (k < 4) × (ltb 3 k ≡ false) × (r ≡ none)
+    at : (b : Bool) → ltb 3 k ≡ b → cond b (some 21) r ≡ none → (k < 4) × (r ≡ none)
     at true i q = absurd (Option·some-ne-none 21 q)
-    at false i q = let l = ltb-false 3 k i in (omega arith, i, q)
+    at false i q = let l = ltb-false 3 k i in (omega arith, q)
 
 module _ (e : ℕ) (o : Open) (s : OpenPlan) (h : Stands e o s) where
   -- a mark's own test
@@ -182,7 +182,7 @@ module _ (e : ℕ) (o : Open) (s : OpenPlan) (h : Stands e o s) where
       record { plan-is = h .plan-is; four = length-set (s .marks) k (s .plan) ∙ h .four; marks-are = λ j g. set-mark k j l g }
   accepted-stands (return k) fits q =
       let b = below-four k (unlessHeld (o .marks k)) q in
-      record { plan-is = back k (o .marks k) (h .marks-are k (b .0)) (b .2); four = h .four; marks-are = h .marks-are }
+      record { plan-is = back k (o .marks k) (h .marks-are k (b .0)) (b .1); four = h .four; marks-are = h .marks-are }
 
   -- THE STEP
   after-stands : (c : Call) → Fits c → (r : Option ℕ) → callRefusalIn e o c ≡ r → Stands e (unlessRefused r (taken o c) o) (unlessRefused r (next s c) s)

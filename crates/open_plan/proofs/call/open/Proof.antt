@@ -1,5 +1,5 @@
 -- A file that is refused opens nothing; one that is not is held, and no mark is set.
-use mathlib.Core.Path.{refl, sym, ap, _∙_}
+use mathlib.Core.Path.{sym, ap, _∙_}
 use Rattle.refusal.specs.Verdict.{verdictNumber}
 use Rattle.open_plan.specs.State.{opened}
 use Rattle.open_plan.specs.Laws.Held.{file-short}
@@ -20,6 +20,9 @@ hold-requires c κs = file-short _ (sym (c .before .before .file-verdict .ensure
 opened-requires : tie.Need-opened-requires
 opened-requires c κs = search needs
 
+accepted-requires : tie.Need-accepted-requires
+accepted-requires c κs = search needs
+
 enum-known-r : tie.Need-enum-known-r
 enum-known-r c = search needs
 
@@ -29,15 +32,18 @@ no-file-requires c κs = search needs
 opened-requires-2 : tie.Need-opened-requires-2
 opened-requires-2 c κs = search needs
 
+refused-requires : tie.Need-refused-requires
+refused-requires c κs = search needs
+
 returns : tie.Need-returns
-returns c =
-    let v = sym (c .before .before .before .before .file-verdict .ensures) ∙ ap verdictNumber (c .before .before .enum-told .given .1) in
-    open-accepted _ _ v (c .opened .ensures ∙ ap opened (c .before .hold .ensures))
+returns c = 
+    let v = sym (c .before .before .before .before .before .file-verdict .ensures) ∙ ap verdictNumber (c .before .before .before .enum-told .given .1) in
+    open-accepted _ _ _ v (c .before .opened .ensures ∙ ap opened (c .before .before .hold .ensures)) (c .accepted .ensures)
 
 returns-2 : tie.Need-returns-2
-returns-2 c =
-    let v = sym (c .before .before .before .before .before .file-verdict .ensures) ∙ ap verdictNumber (c .before .before .before .r .given .1) in
-    open-refused _ _ _ _ refl v (c .opened2 .ensures ∙ ap opened (c .before .no-file .ensures))
+returns-2 c = 
+    let v = sym (c .before .before .before .before .before .before .file-verdict .ensures) ∙ ap verdictNumber (c .before .before .before .before .r .given .1) in
+    open-refused _ _ _ _ v (c .before .opened2 .ensures ∙ ap opened (c .before .before .no-file .ensures)) (c .refused .ensures)
 
 pub open-spec : {M : Type 1} → statement M
 open-spec =
@@ -47,8 +53,10 @@ open-spec =
     enum-told
     hold-requires
     opened-requires
+    accepted-requires
     enum-known-r
     no-file-requires
     opened-requires-2
+    refused-requires
     returns
     returns-2)
