@@ -6,3 +6,4 @@ pub mod Answer
 pub mod Judged
 pub mod Cars
 pub mod Editing
+pub mod Lent

@@ -8,3 +8,4 @@ pub mod Cars
 pub mod Editing
 -- What is proved about them.
 pub mod Laws
+pub mod Theorem

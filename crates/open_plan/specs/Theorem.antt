@@ -30,12 +30,12 @@ use Rattle.open_plan.specs.Contract.{IsOpened, IsMoved}
 use Rattle.open_plan.specs.Run.{Ran, ended, called, StandsFor}
 use Rattle.open_plan.specs.Laws.Held.{file-short}
 use Rattle.open_plan.specs.Laws.Call.{return-set}
-use Rattle.open_plan.specs.Laws.History.{Keeps, KeepsMark, keeps-some, below-four, Stands, stands-for, step}
+use Rattle.open_plan.specs.Laws.History.{Keeps, KeepsMark, keeps-some, below-four, Stands, stands-for, step, opening-stands}
 
 -- ---- the history
 
 -- One call more at the front.
-history-more : (e : ℕ) (o : Open) (c : Call) (cs : List Call) → given o (history e o (c ∷ cs)) ≡ given (afterCall e o c) (history e (afterCall e o c) cs)
+pub history-more : (e : ℕ) (o : Open) (c : Call) (cs : List Call) → given o (history e o (c ∷ cs)) ≡ given (afterCall e o c) (history e (afterCall e o c) cs)
 unfolding given history
 history-more e o c cs = at (callRefusalIn e o c)
   where
@@ -71,7 +71,7 @@ marks-stay k (called s t c cs numbers r fits m rest) none-of =
 
 -- ---- from an opening on
 
--- Opening stands for the plan of the bytes, with no mark set. Bytes are numbers below 256; what was read is what is written from its plan.
+-- Bytes are numbers below 256.
 module _ (bytes : List ℕ) (small : (k : ℕ) → getD bytes k 0 < 256) (r : Moved) (begun : IsOpened bytes r) (good : verdictNumber (r .verdict) ≡ none) where
   read : firstRefusal (fileConditions bytes) ≡ none
   read = sym (begun .verdict) ∙ good
@@ -80,23 +80,8 @@ module _ (bytes : List ℕ) (small : (k : ℕ) → getD bytes k 0 < 256) (r : Mo
   unfolding unless
   opened-state = rw read at (begun .state)
 
-  no-mark : (k : ℕ) → k < 4 → getD (replicate 4 (heldOf [])) k (record { length = 0; file = [] }) ≡ heldOf []
-  no-mark k l = getD-replicate 4 k (heldOf []) _ l
-
-  open-stands : Stands (edition bytes) (opened (planOf bytes)) (r .state)
-  unfolding state.opened
-  open-stands =
-      let f = accepted-is-file bytes read in
-      let w = written-read bytes (arcCount bytes) small (file-is-read bytes (arcCount bytes) f (omega arith)) in
-      subst (Stands (edition bytes) (opened (planOf bytes))) (sym opened-state)
-      (record {
-        plan-is = record {
-          writable = record { accepted = w .1 longestFile (file-short bytes read); costs = λ a m. (let i = file-accepted bytes read .each a m in (i .cost-in, i .service-in)) };
-          held = ap heldOf (sym (w .0));
-        };
-        four = length-replicate 4 (heldOf []);
-        marks-are = λ k l. no-mark k l;
-      })
+  begun-stands : Stands (edition bytes) (opened (planOf bytes)) (r .state)
+  begun-stands = subst (Stands (edition bytes) (opened (planOf bytes))) (sym opened-state) (opening-stands bytes small read)
 
   -- AFTER EVERY LIST OF CALLS from an opening on, "the open plan equals what the history of accepted changes, marks and returns gives", its edition and its marks too, and each call's refusal is
   -- the one that the history says. The file that is held is the one written from the open plan, and it reads back.
@@ -104,7 +89,7 @@ module _ (bytes : List ℕ) (small : (k : ℕ) → getD bytes k 0 < 256) (r : Mo
       → (numbers ≡ refusals (edition bytes) (opened (planOf bytes)) cs)
       × StandsFor (edition bytes) (given (opened (planOf bytes)) (history (edition bytes) (opened (planOf bytes)) cs)) t
   history-gives cs t numbers run =
-      let x = run-stands (edition bytes) run (opened (planOf bytes)) open-stands in
+      let x = run-stands (edition bytes) run (opened (planOf bytes)) begun-stands in
       (x .0, stands-for (edition bytes) _ t (x .1))
 
   -- "Asking gives what the plan call gives for the file written from it."
@@ -120,7 +105,7 @@ module _ (bytes : List ℕ) (small : (k : ℕ) → getD bytes k 0 < 256) (r : Mo
       (between : List Call) (t : OpenPlan) (then : List (Option ℕ)) (gone : Ran (r₁ .state) between t then) (not-again : List·Memᴰ (mark k) between → ⊥)
       (r₂ : Moved) (back : IsMoved t (return k) r₂) where
     stood : Stands (edition bytes) (given (opened (planOf bytes)) (history (edition bytes) (opened (planOf bytes)) earlier)) s
-    stood = run-stands (edition bytes) come (opened (planOf bytes)) open-stands .1
+    stood = run-stands (edition bytes) come (opened (planOf bytes)) begun-stands .1
 
     was-set : refusalOf s (mark k) ≡ none
     was-set = sym (set-at .verdict) ∙ accepted

@@ -4,7 +4,7 @@ use mathlib.Core.List.{List, [], _++_}
 use mathlib.Core.Option.{Option, none, some}
 use Prim.Native.Nat.{ℕ, _+_, _≤_, _<_}
 use native.Mathlib.Omega.{arith}
-use lib.ListN.{length, take, drop, replicate, length-replicate}
+use lib.ListN.{length, take, drop, replicate, length-append, length-drop, length-replicate}
 use lib.Seq.{paste, take-all, take-at}
 use Rattle.postman.specs.Plan.{Plan}
 use Rattle.postman.specs.Refusal.{firstRefusal, unless, given, refused}
@@ -71,6 +71,14 @@ module _ (e : ℕ) (p : Plan) (k : ℕ) (h : given k ≡ writeAnswer e p zeros) 
 pub held-file : (file : List ℕ) → length file ≤ longestFile → fileIn (heldOf file) ≡ file
 unfolding heldOf
 held-file file h = rw (at-most-same (length file) longestFile h) (take-at file (drop (length file) zeros) (length file) refl)
+
+pub held-size : (file : List ℕ) → length file ≤ longestFile → length (heldOf file .file) ≡ longestFile
+unfolding heldOf
+held-size file h =
+    let a = length-append file (drop (length file) zeros) in
+    let b = length-drop (length file) zeros in
+    let z = length-replicate {A = ℕ} 1475 0 in
+    omega arith
 
 -- A file that is read has no more.
 pub file-short : (bytes : List ℕ) → firstRefusal (fileConditions bytes) ≡ none → length bytes ≤ longestFile

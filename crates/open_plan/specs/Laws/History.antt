@@ -9,17 +9,17 @@ use Prim.Native.Nat.{ℕ, _≤_, _<_}
 use native.Mathlib.Decide.{ℕ-discrete}
 use native.Mathlib.Omega.{arith}
 use borrow.Author.Tests.{eq-eqb, ne-eqb, ltb-false, leb-false}
-use lib.ListN.{length, getD, set, replicate, length-set, length-replicate}
+use lib.ListN.{length, getD, set, replicate, length-set, length-replicate, getD-replicate}
 use lib.Seq.{getD-set-same, getD-set-other, take-at}
 use lib.Dec.{ltb, eqb, leb}
 use Rattle.postman.specs.Plan.{Arc, Plan, arcAt, WellFormed}
 use Rattle.postman.specs.Refusal.{firstRefusal, unless}
-use Rattle.postman.specs.PlanFile.{edition, planOf, fileOf, fileLength, fileConditions, writeRefusal}
-use Rattle.postman.specs.OpenPlan.{Change, changedArc, changedPlan, changeRefusal, longestFile, Open, Call, change, mark, return, taken, heldOr, unlessHeld, callRefusalIn, unlessRefused, afterCall}
+use Rattle.postman.specs.PlanFile.{edition, arcCount, planOf, fileOf, fileConditions, writeRefusal}
+use Rattle.postman.specs.OpenPlan.{Change, changedArc, changedPlan, changeRefusal, longestFile, Open, opened as blank, Call, change, mark, return, taken, heldOr, unlessHeld, callRefusalIn, unlessRefused, afterCall}
 use Rattle.postman.specs.Laws.Membership.{getD-mem, mem-getD}
 use Rattle.postman.specs.Laws.FileLength.{counted}
-use Rattle.postman.specs.Laws.Acceptance.{accepted-is-writable, writable-well-formed, file-is-accepted}
-use Rattle.postman.specs.Laws.PlanFile.{length-fileOf, edition-same, plan-same, is-file}
+use Rattle.postman.specs.Laws.Acceptance.{accepted-is-file, accepted-is-writable, writable-well-formed, file-is-accepted, file-is-read, file-accepted}
+use Rattle.postman.specs.Laws.PlanFile.{length-fileOf, edition-same, plan-same, is-file, written-read}
 use Rattle.refusal.specs.Verdict.{verdictNumber}
 use Rattle.open_plan.specs.declared.Held.{Held}
 use Rattle.open_plan.specs.declared.OpenPlan.{OpenPlan}
@@ -27,7 +27,7 @@ use Rattle.open_plan.specs.declared.Moved.{Moved}
 use Rattle.open_plan.specs.State.{fileIn, heldOf, opened, changedFile, fileChangeRefusal, markIn, refusalOf, next}
 use Rattle.open_plan.specs.Contract.{IsMoved}
 use Rattle.open_plan.specs.Run.{Fits, IsFileOf, IsMarkOf, StandsFor}
-use Rattle.open_plan.specs.Laws.Held.{held-file}
+use Rattle.open_plan.specs.Laws.Held.{held-file, held-size, file-short}
 use Rattle.open_plan.specs.Laws.Change.{read-on, changed-file}
 
 -- ---- a plan that can be written, and the file that is held for it
@@ -72,6 +72,9 @@ module _ (e : ℕ) (p : Plan) (h : Held) (k : Keeps e p h) where
   pub keeps-some : h .length ≢ 0
   keeps-some z = held-length e p (k .writable) (ap (λ (x : Held). x .length) (sym (k .held)) ∙ z)
 
+  pub keeps-size : length (h .file) ≡ longestFile
+  keeps-size = ap (λ (x : Held). length (x .file)) (k .held) ∙ held-size (fileOf e p) (file-fits e p (k .writable))
+
 -- ---- marks
 
 abbrev pub KeepsMark : ℕ → Option Plan → Held → Type 0
@@ -85,6 +88,10 @@ no-length h q = ap (λ (x : Held). x .length) q
 pub keeps-mark : (e : ℕ) (o : Option Plan) (h : Held) → KeepsMark e o h → IsMarkOf e o h
 keeps-mark e none h q = ap fileIn q ∙ held-file [] (omega arith)
 keeps-mark e (some p) h k = keeps-file e p h k
+
+pub mark-size : (e : ℕ) (o : Option Plan) (h : Held) → KeepsMark e o h → length (h .file) ≡ longestFile
+mark-size e none h q = ap (λ (x : Held). length (x .file)) q ∙ held-size [] (omega arith)
+mark-size e (some p) h k = keeps-size e p h k
 
 pub record Stands (e : ℕ) (o : Open) (s : OpenPlan) : Type 0 where
   pub plan-is : Keeps e (o .plan) (s .plan)
@@ -185,7 +192,7 @@ module _ (e : ℕ) (o : Open) (s : OpenPlan) (h : Stands e o s) where
       record { plan-is = back k (o .marks k) (h .marks-are k (b .0)) (b .1); four = h .four; marks-are = h .marks-are }
 
   -- THE STEP
-  after-stands : (c : Call) → Fits c → (r : Option ℕ) → callRefusalIn e o c ≡ r → Stands e (unlessRefused r (taken o c) o) (unlessRefused r (next s c) s)
+  pub after-stands : (c : Call) → Fits c → (r : Option ℕ) → callRefusalIn e o c ≡ r → Stands e (unlessRefused r (taken o c) o) (unlessRefused r (next s c) s)
   after-stands c fits none q = accepted-stands c fits q
   after-stands c fits (some k) q = h
 
@@ -193,3 +200,21 @@ module _ (e : ℕ) (o : Open) (s : OpenPlan) (h : Stands e o s) where
   step c r fits m =
       let q = refused-alike c in
       (m .verdict ∙ q, subst (Stands e (afterCall e o c)) (sym (m .state ∙ ap (λ (x : Option ℕ). unlessRefused x (next s c) s) q)) (after-stands c fits (callRefusalIn e o c) refl))
+
+-- ---- opening
+
+-- A file that is read stands for its plan, with no mark set: what was read is what is written from its plan. Bytes are numbers below 256.
+pub opening-stands : (bytes : List ℕ) → ((k : ℕ) → getD bytes k 0 < 256) → firstRefusal (fileConditions bytes) ≡ none
+    → Stands (edition bytes) (blank (planOf bytes)) (opened (heldOf bytes))
+unfolding opened
+opening-stands bytes small read =
+    let f = accepted-is-file bytes read in
+    let w = written-read bytes (arcCount bytes) small (file-is-read bytes (arcCount bytes) f (omega arith)) in
+    record {
+      plan-is = record {
+        writable = record { accepted = w .1 longestFile (file-short bytes read); costs = λ a m. (let i = file-accepted bytes read .each a m in (i .cost-in, i .service-in)) };
+        held = ap heldOf (sym (w .0));
+      };
+      four = length-replicate 4 (heldOf []);
+      marks-are = λ k l. getD-replicate 4 k (heldOf []) _ l;
+    }
