@@ -15,7 +15,7 @@ use Rattle.refusal.specs.Verdict.{verdictNumber, orElse}
 use Rattle.open_plan.specs.declared.Held.{Held}
 use Rattle.open_plan.specs.declared.OpenPlan.{OpenPlan}
 use Rattle.open_plan.specs.declared.Moved.{Moved}
-use Rattle.open_plan.specs.State.{fileIn, heldOf, opened, markIn, refusalOf, next}
+use Rattle.open_plan.specs.State.{fileIn, heldOf, freshState, markIn, refusalOf, next}
 use Rattle.exports.specs.Number.{oneNumber}
 use Rattle.exports.specs.RecordBytes.{numberIn}
 use Rattle.exports.specs.Answer.{IsExportedCallAt}
@@ -61,7 +61,7 @@ openRefusal file bytes = orElse (firstRefusal (fileConditions file)) (shortState
 
 pub record IsExportedOpen (file bytes bytes′ : List ℕ) (number : ℤ) : Type 0 where
   pub number-is : number ≡ oneNumber (answer (openRefusal file bytes) 0)
-  pub state-is : bytes′ ≡ unless (openRefusal file bytes) (stateBytes (opened (heldOf file)) ++ drop openBytes bytes) bytes
+  pub state-is : bytes′ ≡ unless (openRefusal file bytes) (stateBytes (freshState (heldOf file)) ++ drop openBytes bytes) bytes
 
 -- A change, a mark or a return.
 abbrev pub moveRefusal : Call → List ℕ → Option ℕ

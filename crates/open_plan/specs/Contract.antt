@@ -9,7 +9,7 @@ use Rattle.postman.specs.OpenPlan.{Call, unlessRefused}
 use Rattle.refusal.specs.Verdict.{verdictNumber}
 use Rattle.open_plan.specs.declared.OpenPlan.{OpenPlan}
 use Rattle.open_plan.specs.declared.Moved.{Moved}
-use Rattle.open_plan.specs.State.{heldOf, opened, refusalOf, next}
+use Rattle.open_plan.specs.State.{heldOf, freshState, refusalOf, next}
 
 -- An answer, by its refusal and the open plan then.
 pub record IsAnswer (refusal : Option ℕ) (s : OpenPlan) (r : Moved) : Type 0 where
@@ -19,7 +19,7 @@ pub record IsAnswer (refusal : Option ℕ) (s : OpenPlan) (r : Moved) : Type 0 w
 -- "Opening takes plan bytes, can give 1 to 7 and 13, and sets no mark." In a refusal no plan is open.
 pub record IsOpened (bytes : List ℕ) (r : Moved) : Type 0 where
   pub verdict : verdictNumber (r .verdict) ≡ firstRefusal (fileConditions bytes)
-  pub state : r .state ≡ opened (heldOf (unless (firstRefusal (fileConditions bytes)) bytes []))
+  pub state : r .state ≡ freshState (heldOf (unless (firstRefusal (fileConditions bytes)) bytes []))
 
 -- A change, a mark or a return, on any state: a refusal "alters nothing".
 pub record IsMoved (s : OpenPlan) (c : Call) (r : Moved) : Type 0 where

@@ -49,9 +49,9 @@ fileChangeRefusal bytes c = orElse (firstRefusal (fileConditions bytes)) (change
 -- ---- the open plan
 
 -- "Sets no mark."
-unfoldable pub opened : Held → OpenPlan
+unfoldable pub freshState : Held → OpenPlan
 unfolding heldOf
-opened file = record { plan = file; marks = replicate 4 (heldOf []) }
+freshState file = record { plan = file; marks = replicate 4 (heldOf []) }
 
 -- The open plan with another file, and the same marks.
 abbrev pub withPlan : OpenPlan → Held → OpenPlan

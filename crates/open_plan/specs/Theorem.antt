@@ -2,20 +2,16 @@
 -- after every list of calls the state stands for what the history of the accepted ones gives, and each call was refused as that history says.
 use mathlib.Core.Path.{_≡_, refl, sym, ap, ap₂, _∙_, subst}
 use mathlib.Core.Logic.{_≢_}
-use mathlib.Core.List.{List, [], _∷_, List·Memᴰ, List·Memᴰ·head, List·Memᴰ·tail}
+use mathlib.Core.List.{List, _∷_, List·Memᴰ, List·Memᴰ·head, List·Memᴰ·tail}
 use mathlib.Core.Option.{Option, none, some}
 use Prim.Native.Nat.{ℕ, _<_}
-use native.Mathlib.Decide.{ℕ-discrete}
 use native.Mathlib.Omega.{arith}
-use lib.ListN.{length, getD, replicate, length-replicate, getD-replicate}
+use lib.ListN.{length, getD}
 use lib.Seq.{getD-set-same, getD-set-other}
-use Rattle.postman.specs.Plan.{Arc}
 use Rattle.postman.specs.Refusal.{firstRefusal, unless}
-use Rattle.postman.specs.PlanFile.{edition, planOf, fileOf, fileConditions, arcCount}
-use Rattle.postman.specs.OpenPlan.{Open, Call, change, mark, return, taken, opened, given, history, refusals, callRefusalIn, unlessRefused, afterCall, longestFile}
+use Rattle.postman.specs.PlanFile.{edition, planOf, fileOf, fileConditions}
+use Rattle.postman.specs.OpenPlan.{Open, Call, change, mark, return, taken, opened, outcome, history, refusals, refusalIn, unlessRefused, afterCall}
 use Rattle.postman.specs.Windows.{Departure}
-use Rattle.postman.specs.Laws.Acceptance.{accepted-is-file, file-is-read, file-accepted}
-use Rattle.postman.specs.Laws.PlanFile.{written-read}
 use Rattle.refusal.specs.Verdict.{verdictNumber}
 use Rattle.planner.specs.declared.Planned.{Planned}
 use Rattle.planner.specs.SameAnswer.{SameAnswer}
@@ -24,29 +20,27 @@ use Rattle.windows.specs.Contract.{IsPlanCallAt}
 use Rattle.open_plan.specs.declared.Held.{Held}
 use Rattle.open_plan.specs.declared.OpenPlan.{OpenPlan}
 use Rattle.open_plan.specs.declared.Moved.{Moved}
-use Rattle.open_plan.specs.State.{fileIn, heldOf, markIn, refusalOf, next}
-use Rattle.open_plan.specs.State as state
+use Rattle.open_plan.specs.State.{fileIn, heldOf, freshState, markIn, refusalOf, next}
 use Rattle.open_plan.specs.Contract.{IsOpened, IsMoved}
 use Rattle.open_plan.specs.Run.{Ran, ended, called, StandsFor}
-use Rattle.open_plan.specs.Laws.Held.{file-short}
 use Rattle.open_plan.specs.Laws.Call.{return-set}
-use Rattle.open_plan.specs.Laws.History.{Keeps, KeepsMark, keeps-some, below-four, Stands, stands-for, step, opening-stands}
+use Rattle.open_plan.specs.Laws.History.{keeps-some, below-four, Stands, stands-for, step, opening-stands}
 
 -- ---- the history
 
 -- One call more at the front.
-pub history-more : (e : ℕ) (o : Open) (c : Call) (cs : List Call) → given o (history e o (c ∷ cs)) ≡ given (afterCall e o c) (history e (afterCall e o c) cs)
-unfolding given history
-history-more e o c cs = at (callRefusalIn e o c)
+pub history-more : (e : ℕ) (o : Open) (c : Call) (cs : List Call) → outcome o (history e o (c ∷ cs)) ≡ outcome (afterCall e o c) (history e (afterCall e o c) cs)
+unfolding outcome history
+history-more e o c cs = at (refusalIn e o c)
   where
-    at : (r : Option ℕ) → given o (unlessRefused r (c ∷ history e (unlessRefused r (taken o c) o) cs) (history e (unlessRefused r (taken o c) o) cs))
-        ≡ given (unlessRefused r (taken o c) o) (history e (unlessRefused r (taken o c) o) cs)
+    at : (r : Option ℕ) → outcome o (unlessRefused r (c ∷ history e (unlessRefused r (taken o c) o) cs) (history e (unlessRefused r (taken o c) o) cs))
+        ≡ outcome (unlessRefused r (taken o c) o) (history e (unlessRefused r (taken o c) o) cs)
     at none = refl
     at (some k) = refl
 
 run-stands : (e : ℕ) {s t : OpenPlan} {cs : List Call} {numbers : List (Option ℕ)} → Ran s cs t numbers → (o : Open) → Stands e o s
-    → (numbers ≡ refusals e o cs) × Stands e (given o (history e o cs)) t
-unfolding refusals given history
+    → (numbers ≡ refusals e o cs) × Stands e (outcome o (history e o cs)) t
+unfolding refusals outcome history
 run-stands e (ended s) o h = (refl, h)
 run-stands e (called s t c cs numbers r fits m rest) o h =
     let one = step e o s h c r fits m in
@@ -76,7 +70,7 @@ module _ (bytes : List ℕ) (small : (k : ℕ) → getD bytes k 0 < 256) (r : Mo
   read : firstRefusal (fileConditions bytes) ≡ none
   read = sym (begun .verdict) ∙ good
 
-  opened-state : r .state ≡ state.opened (heldOf bytes)
+  opened-state : r .state ≡ freshState (heldOf bytes)
   unfolding unless
   opened-state = rw read at (begun .state)
 
@@ -87,7 +81,7 @@ module _ (bytes : List ℕ) (small : (k : ℕ) → getD bytes k 0 < 256) (r : Mo
   -- the one that the history says. The file that is held is the one written from the open plan, and it reads back.
   pub history-gives : (cs : List Call) (t : OpenPlan) (numbers : List (Option ℕ)) → Ran (r .state) cs t numbers
       → (numbers ≡ refusals (edition bytes) (opened (planOf bytes)) cs)
-      × StandsFor (edition bytes) (given (opened (planOf bytes)) (history (edition bytes) (opened (planOf bytes)) cs)) t
+      × StandsFor (edition bytes) (outcome (opened (planOf bytes)) (history (edition bytes) (opened (planOf bytes)) cs)) t
   history-gives cs t numbers run =
       let x = run-stands (edition bytes) run (opened (planOf bytes)) begun-stands in
       (x .0, stands-for (edition bytes) _ t (x .1))
@@ -95,7 +89,7 @@ module _ (bytes : List ℕ) (small : (k : ℕ) → getD bytes k 0 < 256) (r : Mo
   -- "Asking gives what the plan call gives for the file written from it."
   pub asking : (cs : List Call) (t : OpenPlan) (numbers : List (Option ℕ)) → Ran (r .state) cs t numbers
       → (budget : ℕ) (windows : List ℕ) (d : Departure) (old new : List ℕ) (a : Planned) → IsPlanCallAt (fileIn (t .plan)) budget windows d old new a
-      → IsPlanCallAt (fileOf (edition bytes) (given (opened (planOf bytes)) (history (edition bytes) (opened (planOf bytes)) cs) .plan)) budget windows d old new a
+      → IsPlanCallAt (fileOf (edition bytes) (outcome (opened (planOf bytes)) (history (edition bytes) (opened (planOf bytes)) cs) .plan)) budget windows d old new a
   asking cs t numbers run budget windows d old new a h =
       subst (λ (l : List ℕ). IsPlanCallAt l budget windows d old new a) (history-gives cs t numbers run .1 .plan-is .file) h
 
@@ -104,7 +98,7 @@ module _ (bytes : List ℕ) (small : (k : ℕ) → getD bytes k 0 < 256) (r : Mo
       (k : ℕ) (r₁ : Moved) (set-at : IsMoved s (mark k) r₁) (accepted : verdictNumber (r₁ .verdict) ≡ none)
       (between : List Call) (t : OpenPlan) (then : List (Option ℕ)) (gone : Ran (r₁ .state) between t then) (not-again : List·Memᴰ (mark k) between → ⊥)
       (r₂ : Moved) (back : IsMoved t (return k) r₂) where
-    stood : Stands (edition bytes) (given (opened (planOf bytes)) (history (edition bytes) (opened (planOf bytes)) earlier)) s
+    stood : Stands (edition bytes) (outcome (opened (planOf bytes)) (history (edition bytes) (opened (planOf bytes)) earlier)) s
     stood = run-stands (edition bytes) come (opened (planOf bytes)) begun-stands .1
 
     was-set : refusalOf s (mark k) ≡ none

@@ -15,13 +15,13 @@ ghost use mathlib.Core.Path.{_≡_};
 ghost use mathlib.Core.Option.{none, some};
 ghost use Rattle.postman.specs.OpenPlan.{change as «a-change», mark as «a-mark», return as «a-return»};
 ghost use Rattle.refusal.specs.Verdict.{refusalNumber};
-ghost use Rattle.open_plan.specs.State.{changeOf, fileIn, opened as «opened-at», withPlan as «with-plan-of»};
+ghost use Rattle.open_plan.specs.State.{changeOf, fileIn, freshState, withPlan as «with-plan-of»};
 ghost use Rattle.windows.specs.Contract.{departure, IsPlanCallAt};
 ghost use Rattle.open_plan.specs.Contract.{IsAnswer, IsOpened, IsMoved};
 
 // A file with no mark set.
-fn opened(file: Held) -> OpenPlan
-    ensures { λ r. ⌜ r ≡ «opened-at» file ⌝ }
+fn fresh(file: Held) -> OpenPlan
+    ensures { λ r. ⌜ r ≡ freshState file ⌝ }
 {
     let none = no_file();
     OpenPlan {
@@ -66,11 +66,11 @@ pub fn open(bytes: &[u8]) -> Moved
     match file_verdict(bytes) {
         Verdict::Accepted => {
             let file = hold(bytes);
-            accepted(opened(file))
+            accepted(fresh(file))
         }
         Verdict::Refused(r) => {
             let none = no_file();
-            refused(opened(none), r)
+            refused(fresh(none), r)
         }
     }
 }

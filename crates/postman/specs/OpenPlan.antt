@@ -61,10 +61,10 @@ taken s (change c) = record { plan = changedPlan (s .plan) c; marks = s .marks }
 taken s (mark k) = record { plan = s .plan; marks = λ j. cond (eqb j k) (some (s .plan)) (s .marks j) }
 taken s (return k) = record { plan = heldOr (s .plan) (s .marks k); marks = s .marks }
 
--- WHAT A HISTORY GIVES: its calls one after the other.
-unfoldable pub given : Open → List Call → Open
-given s [] = s
-given s (c ∷ h) = given (taken s c) h
+-- WHAT A HISTORY GIVES, from an open plan on: its calls are taken one after the other.
+unfoldable pub outcome : Open → List Call → Open
+outcome s [] = s
+outcome s (c ∷ h) = outcome (taken s c) h
 
 -- ---- the refusals
 
@@ -73,10 +73,10 @@ abbrev pub unlessHeld : Option Plan → Option ℕ
 unlessHeld none = some 21
 unlessHeld (some q) = none
 
-abbrev pub callRefusalIn : ℕ → Open → Call → Option ℕ
-callRefusalIn e s (change c) = changeRefusal e (s .plan) c
-callRefusalIn e s (mark k) = cond (ltb 3 k) (some 21) none
-callRefusalIn e s (return k) = cond (ltb 3 k) (some 21) (unlessHeld (s .marks k))
+abbrev pub refusalIn : ℕ → Open → Call → Option ℕ
+refusalIn e s (change c) = changeRefusal e (s .plan) c
+refusalIn e s (mark k) = cond (ltb 3 k) (some 21) none
+refusalIn e s (return k) = cond (ltb 3 k) (some 21) (unlessHeld (s .marks k))
 
 -- A refused call alters nothing.
 abbrev pub unlessRefused : {A : Type 0} → Option ℕ → A → A → A
@@ -84,13 +84,13 @@ unlessRefused none new old = new
 unlessRefused (some r) new old = old
 
 abbrev pub afterCall : ℕ → Open → Call → Open
-afterCall e s c = unlessRefused (callRefusalIn e s c) (taken s c) s
+afterCall e s c = unlessRefused (refusalIn e s c) (taken s c) s
 
 -- THE HISTORY of a list of calls to a plan of edition e: "accepted changes, marks and returns". And the refusal, or none, of each call.
 unfoldable pub history : ℕ → Open → List Call → List Call
 history e s [] = []
-history e s (c ∷ cs) = unlessRefused (callRefusalIn e s c) (c ∷ history e (afterCall e s c) cs) (history e (afterCall e s c) cs)
+history e s (c ∷ cs) = unlessRefused (refusalIn e s c) (c ∷ history e (afterCall e s c) cs) (history e (afterCall e s c) cs)
 
 unfoldable pub refusals : ℕ → Open → List Call → List (Option ℕ)
 refusals e s [] = []
-refusals e s (c ∷ cs) = callRefusalIn e s c ∷ refusals e (afterCall e s c) cs
+refusals e s (c ∷ cs) = refusalIn e s c ∷ refusals e (afterCall e s c) cs

@@ -1,6 +1,5 @@
 -- A state that is lent. A file is stored as two bytes and the 1,475 after them; five files one after the other are the state, since each is stored where the one before it ended.
 use mathlib.Core.Path.{_≡_, refl, sym, ap, ap₂, _∙_, subst, subst⁻¹}
-use mathlib.Core.Bool.{cond}
 use mathlib.Core.List.{List, [], _∷_, _++_, append-assoc, append-nil}
 use mathlib.Core.Option.{Option, none, some}
 use Prim.Native.Nat.{ℕ, suc, _+_, _/_, _%_, _^_, _≤_, _<_}
@@ -11,7 +10,7 @@ use mir.Syntax.{w64}
 use lib.Signed.{mag}
 use Rattle.integers.specs.Linear.{back64}
 use lib.IntN.{ℤ, pos, negℤ}
-use lib.ListN.{length, take, drop, set, replicate, length-append, length-drop, length-replicate, drop-of-length-le}
+use lib.ListN.{length, take, drop, set, length-append, length-drop, length-replicate, drop-of-length-le}
 use lib.Seq.{paste, sets-eq, take-at, take-all, drop-append-add, drop-drop, length-take-le}
 use Rattle.postman.specs.Refusal.{firstRefusal, answer, unless}
 use Rattle.postman.specs.PlanFile.{fileConditions}
@@ -23,7 +22,7 @@ use Rattle.open_plan.specs.declared.Moved.{Moved}
 use Rattle.postman.specs.Windows.{Departure}
 use Rattle.planner.specs.declared.Planned.{Planned}
 use Rattle.windows.specs.Contract.{IsPlanCallAt}
-use Rattle.open_plan.specs.State.{fileIn, heldOf, opened, markIn, refusalOf, next}
+use Rattle.open_plan.specs.State.{fileIn, heldOf, freshState, markIn, refusalOf, next}
 use Rattle.open_plan.specs.Contract.{IsOpened, IsMoved}
 use Rattle.open_plan.specs.Laws.Held.{zeros, over-zeros}
 use Rattle.exports.specs.Number.{oneNumber}
@@ -164,7 +163,7 @@ module _ (file bytes : List ℕ) (n : ℤ) (r : Moved) (i : IsOpened file r) whe
   abbrev first : Option ℕ
   first = firstRefusal (fileConditions file)
 
-  always : (o : Option ℕ) → unless (orElse o (some 8)) (stateBytes (opened (heldOf file)) ++ drop openBytes bytes) bytes ≡ bytes
+  always : (o : Option ℕ) → unless (orElse o (some 8)) (stateBytes (freshState (heldOf file)) ++ drop openBytes bytes) bytes ≡ bytes
   unfolding unless
   always none = refl
   always (some k) = refl
@@ -174,14 +173,14 @@ module _ (file bytes : List ℕ) (n : ℤ) (r : Moved) (i : IsOpened file r) whe
       let q : openRefusal file bytes ≡ orElse first (some 8) = ap (orElse first) (no-room bytes none h) in
       record {
         number-is = e ∙ ap (λ (o : Option ℕ). oneNumber (answer (orElse o (some 8)) 0)) (i .verdict) ∙ ap (λ (o : Option ℕ). oneNumber (answer o 0)) (sym q);
-        state-is = sym (ap (λ (o : Option ℕ). unless o (stateBytes (opened (heldOf file)) ++ drop openBytes bytes) bytes) q ∙ always first);
+        state-is = sym (ap (λ (o : Option ℕ). unless o (stateBytes (freshState (heldOf file)) ++ drop openBytes bytes) bytes) q ∙ always first);
       }
 
   or-none : (o : Option ℕ) → orElse o none ≡ o
   or-none none = refl
   or-none (some k) = refl
 
-  stored : (o : Option ℕ) → r .state ≡ opened (heldOf (unless o file [])) → unless o (stateBytes (r .state) ++ drop openBytes bytes) bytes ≡ unless o (stateBytes (opened (heldOf file)) ++ drop openBytes bytes) bytes
+  stored : (o : Option ℕ) → r .state ≡ freshState (heldOf (unless o file [])) → unless o (stateBytes (r .state) ++ drop openBytes bytes) bytes ≡ unless o (stateBytes (freshState (heldOf file)) ++ drop openBytes bytes) bytes
   unfolding unless
   stored none e = ap (λ (s : OpenPlan). stateBytes s ++ drop openBytes bytes) e
   stored (some k) e = refl
@@ -193,7 +192,7 @@ module _ (file bytes : List ℕ) (n : ℤ) (r : Moved) (i : IsOpened file r) whe
       record {
         number-is = s .number-is ∙ ap (λ (o : Option ℕ). oneNumber (answer o 0)) v;
         state-is = s .state-is ∙ ap (λ (o : Option ℕ). unless o (stateBytes (r .state) ++ drop openBytes bytes) bytes) v
-            ∙ stored (openRefusal file bytes) (i .state ∙ ap (λ (o : Option ℕ). opened (heldOf (unless o file []))) (sym q));
+            ∙ stored (openRefusal file bytes) (i .state ∙ ap (λ (o : Option ℕ). freshState (heldOf (unless o file []))) (sym q));
       }
 
 -- ---- asking

@@ -1,5 +1,5 @@
 -- What each call answers, by the verdict that it came to.
-use mathlib.Core.Path.{_≡_, refl, sym, ap, _∙_, subst}
+use mathlib.Core.Path.{_≡_, refl, sym, _∙_, subst}
 use mathlib.Core.Logic.{_≢_}
 use mathlib.Core.List.{List, []}
 use mathlib.Core.Option.{Option, none, some}
@@ -8,8 +8,8 @@ use borrow.Author.Tests.{lt-ltb, le-ltb, eq-eqb, ne-eqb}
 use lib.ListN.{take}
 use Rattle.postman.specs.Plan.{WellFormed}
 use Rattle.postman.specs.Refusal.{firstRefusal, unless}
-use Rattle.postman.specs.PlanFile.{edition, planOf, fileOf, fileConditions}
-use Rattle.postman.specs.OpenPlan.{Change, Call, change, mark, return, changedPlan, changeRefusal, longestFile}
+use Rattle.postman.specs.PlanFile.{edition, fileOf, fileConditions}
+use Rattle.postman.specs.OpenPlan.{Change, Call, mark, return, changedPlan, changeRefusal, longestFile}
 use Rattle.plan.specs.Records.{planValue}
 use Rattle.plan.specs.Laws.Records.{record-arcs}
 use Rattle.postman.specs.Laws.Acceptance.{file-accepted}
@@ -22,7 +22,7 @@ use Rattle.open_plan.specs.declared.Held.{Held}
 use Rattle.open_plan.specs.declared.OpenPlan.{OpenPlan}
 use Rattle.open_plan.specs.declared.Moved.{Moved}
 use Rattle.open_plan.specs.declared.Rewritten.{Rewritten}
-use Rattle.open_plan.specs.State.{fileIn, heldOf, opened, IsHeld, changedFile, fileChangeRefusal, markIn, refusalOf, next}
+use Rattle.open_plan.specs.State.{fileIn, heldOf, freshState, IsHeld, changedFile, fileChangeRefusal, markIn, refusalOf, next}
 use Rattle.open_plan.specs.Contract.{IsAnswer, IsOpened, IsMoved}
 use Rattle.open_plan.specs.Laws.Held.{refused-held}
 use Rattle.open_plan.specs.Laws.Change.{unread, read-on, changed-file}
@@ -90,10 +90,10 @@ module _ (s : OpenPlan) (c : Change) (w : Rewritten) (h : IsHeld (fileChangeRefu
 -- ---- opening
 
 module _ (bytes : List ℕ) (s : OpenPlan) (r : Moved) where
-  pub open-accepted : firstRefusal (fileConditions bytes) ≡ none → s ≡ opened (heldOf bytes) → IsAnswer none s r → IsOpened bytes r
+  pub open-accepted : firstRefusal (fileConditions bytes) ≡ none → s ≡ freshState (heldOf bytes) → IsAnswer none s r → IsOpened bytes r
   unfolding unless
   open-accepted e f a = record { verdict = a .verdict ∙ sym e; state = rw e (a .state ∙ f) }
 
-  pub open-refused : (k : ℕ) → firstRefusal (fileConditions bytes) ≡ some k → s ≡ opened (heldOf []) → IsAnswer (some k) s r → IsOpened bytes r
+  pub open-refused : (k : ℕ) → firstRefusal (fileConditions bytes) ≡ some k → s ≡ freshState (heldOf []) → IsAnswer (some k) s r → IsOpened bytes r
   unfolding unless
   open-refused k e f a = record { verdict = a .verdict ∙ sym e; state = rw e (a .state ∙ f) }

@@ -2,21 +2,19 @@
 use mathlib.Core.Path.{_≡_, refl, sym, ap, _∙_}
 use mathlib.Core.List.{List, [], _++_}
 use mathlib.Core.Option.{Option, none, some}
-use Prim.Native.Nat.{ℕ, _+_, _≤_, _<_}
+use Prim.Native.Nat.{ℕ, _+_, _≤_}
 use native.Mathlib.Omega.{arith}
 use lib.ListN.{length, take, drop, replicate, length-append, length-drop, length-replicate}
 use lib.Seq.{paste, take-all, take-at}
 use Rattle.postman.specs.Plan.{Plan}
-use Rattle.postman.specs.Refusal.{firstRefusal, unless, given, refused}
+use Rattle.postman.specs.Refusal.{firstRefusal, unless, given}
 use Rattle.postman.specs.PlanFile.{edition, arcCount, fileOf, fileLength, fileConditions, writeRefusal, writeAnswer, bytesAfter}
 use Rattle.postman.specs.OpenPlan.{longestFile}
 use Rattle.postman.specs.Laws.FileLength.{fileLength-le}
 use Rattle.postman.specs.Laws.Acceptance.{accepted-is-file, accepted-is-writable}
 use Rattle.postman.specs.Laws.PlanFile.{length-fileOf}
-use Rattle.plan_file.specs.Laws.Writing.{length-given, refusal-given, given-bytes}
-use Rattle.records.specs.Writing.{atMost}
+use Rattle.plan_file.specs.Laws.Writing.{length-given, given-bytes}
 use Rattle.records.specs.Laws.Writing.{at-most-same}
-use Rattle.refusal.specs.Verdict.{verdictNumber}
 use Rattle.refusal.specs.declared.Verdict.the-variants.{Accepted}
 use Rattle.open_plan.specs.declared.Held.{Held}
 use Rattle.open_plan.specs.declared.Rewritten.{Rewritten}

@@ -3,19 +3,19 @@
 use mathlib.Core.Path.{_≡_, refl, sym, ap, _∙_, subst}
 use mathlib.Core.Logic.{_≢_}
 use mathlib.Core.Bool.{Bool, true, false, cond}
-use mathlib.Core.List.{List, [], _∷_, List·Memᴰ}
+use mathlib.Core.List.{List, [], List·Memᴰ}
 use mathlib.Core.Option.{Option, none, some, Option·some-ne-none}
 use Prim.Native.Nat.{ℕ, _≤_, _<_}
 use native.Mathlib.Decide.{ℕ-discrete}
 use native.Mathlib.Omega.{arith}
 use borrow.Author.Tests.{eq-eqb, ne-eqb, ltb-false, leb-false}
-use lib.ListN.{length, getD, set, replicate, length-set, length-replicate, getD-replicate}
-use lib.Seq.{getD-set-same, getD-set-other, take-at}
+use lib.ListN.{length, getD, set, length-set, length-replicate, getD-replicate}
+use lib.Seq.{getD-set-same, getD-set-other}
 use lib.Dec.{ltb, eqb, leb}
 use Rattle.postman.specs.Plan.{Arc, Plan, arcAt, WellFormed}
-use Rattle.postman.specs.Refusal.{firstRefusal, unless}
+use Rattle.postman.specs.Refusal.{firstRefusal}
 use Rattle.postman.specs.PlanFile.{edition, arcCount, planOf, fileOf, fileConditions, writeRefusal}
-use Rattle.postman.specs.OpenPlan.{Change, changedArc, changedPlan, changeRefusal, longestFile, Open, opened as blank, Call, change, mark, return, taken, heldOr, unlessHeld, callRefusalIn, unlessRefused, afterCall}
+use Rattle.postman.specs.OpenPlan.{Change, changedArc, changedPlan, changeRefusal, longestFile, Open, opened, Call, change, mark, return, taken, heldOr, unlessHeld, refusalIn, unlessRefused, afterCall}
 use Rattle.postman.specs.Laws.Membership.{getD-mem, mem-getD}
 use Rattle.postman.specs.Laws.FileLength.{counted}
 use Rattle.postman.specs.Laws.Acceptance.{accepted-is-file, accepted-is-writable, writable-well-formed, file-is-accepted, file-is-read, file-accepted}
@@ -24,7 +24,7 @@ use Rattle.refusal.specs.Verdict.{verdictNumber}
 use Rattle.open_plan.specs.declared.Held.{Held}
 use Rattle.open_plan.specs.declared.OpenPlan.{OpenPlan}
 use Rattle.open_plan.specs.declared.Moved.{Moved}
-use Rattle.open_plan.specs.State.{fileIn, heldOf, opened, changedFile, fileChangeRefusal, markIn, refusalOf, next}
+use Rattle.open_plan.specs.State.{fileIn, heldOf, freshState, changedFile, fileChangeRefusal, markIn, refusalOf, next}
 use Rattle.open_plan.specs.Contract.{IsMoved}
 use Rattle.open_plan.specs.Run.{Fits, IsFileOf, IsMarkOf, StandsFor}
 use Rattle.open_plan.specs.Laws.Held.{held-file, held-size, file-short}
@@ -154,7 +154,7 @@ module _ (e : ℕ) (o : Open) (s : OpenPlan) (h : Stands e o s) where
   held-test k none m = rw (eq-eqb _ _ (no-length (markIn s k) m)) refl
   held-test k (some p) m = rw (ne-eqb _ _ (keeps-some e p (markIn s k) m)) refl
 
-  pub refused-alike : (c : Call) → refusalOf s c ≡ callRefusalIn e o c
+  pub refused-alike : (c : Call) → refusalOf s c ≡ refusalIn e o c
   refused-alike (change c) = same-refusal e (o .plan) c (s .plan) (keeps-file e (o .plan) (s .plan) (h .plan-is))
   refused-alike (mark k) = refl
   refused-alike (return k) = at (ltb 3 k) refl
@@ -176,7 +176,7 @@ module _ (e : ℕ) (o : Open) (s : OpenPlan) (h : Stands e o s) where
   back k none m r = absurd (Option·some-ne-none 21 r)
   back k (some p) m r = m
 
-  accepted-stands : (c : Call) → Fits c → callRefusalIn e o c ≡ none → Stands e (taken o c) (next s c)
+  accepted-stands : (c : Call) → Fits c → refusalIn e o c ≡ none → Stands e (taken o c) (next s c)
   accepted-stands (change c) fits q =
       let f = keeps-file e (o .plan) (s .plan) (h .plan-is) in
       record {
@@ -192,21 +192,21 @@ module _ (e : ℕ) (o : Open) (s : OpenPlan) (h : Stands e o s) where
       record { plan-is = back k (o .marks k) (h .marks-are k (b .0)) (b .1); four = h .four; marks-are = h .marks-are }
 
   -- THE STEP
-  pub after-stands : (c : Call) → Fits c → (r : Option ℕ) → callRefusalIn e o c ≡ r → Stands e (unlessRefused r (taken o c) o) (unlessRefused r (next s c) s)
+  pub after-stands : (c : Call) → Fits c → (r : Option ℕ) → refusalIn e o c ≡ r → Stands e (unlessRefused r (taken o c) o) (unlessRefused r (next s c) s)
   after-stands c fits none q = accepted-stands c fits q
   after-stands c fits (some k) q = h
 
-  pub step : (c : Call) (r : Moved) → Fits c → IsMoved s c r → (verdictNumber (r .verdict) ≡ callRefusalIn e o c) × Stands e (afterCall e o c) (r .state)
+  pub step : (c : Call) (r : Moved) → Fits c → IsMoved s c r → (verdictNumber (r .verdict) ≡ refusalIn e o c) × Stands e (afterCall e o c) (r .state)
   step c r fits m =
       let q = refused-alike c in
-      (m .verdict ∙ q, subst (Stands e (afterCall e o c)) (sym (m .state ∙ ap (λ (x : Option ℕ). unlessRefused x (next s c) s) q)) (after-stands c fits (callRefusalIn e o c) refl))
+      (m .verdict ∙ q, subst (Stands e (afterCall e o c)) (sym (m .state ∙ ap (λ (x : Option ℕ). unlessRefused x (next s c) s) q)) (after-stands c fits (refusalIn e o c) refl))
 
 -- ---- opening
 
 -- A file that is read stands for its plan, with no mark set: what was read is what is written from its plan. Bytes are numbers below 256.
 pub opening-stands : (bytes : List ℕ) → ((k : ℕ) → getD bytes k 0 < 256) → firstRefusal (fileConditions bytes) ≡ none
-    → Stands (edition bytes) (blank (planOf bytes)) (opened (heldOf bytes))
-unfolding opened
+    → Stands (edition bytes) (opened (planOf bytes)) (freshState (heldOf bytes))
+unfolding freshState
 opening-stands bytes small read =
     let f = accepted-is-file bytes read in
     let w = written-read bytes (arcCount bytes) small (file-is-read bytes (arcCount bytes) f (omega arith)) in

@@ -1,11 +1,10 @@
 -- The bytes that are lent to the plan call are the file that is held.
-use mathlib.Core.Path.{_≡_, sym, subst}
+use mathlib.Core.Path.{_≡_, sym}
 use Prim.Native.Nat.{ℕ}
 use native.Mathlib.Omega.{arith}
-use lib.ListN.{length, take}
+use lib.ListN.{length}
 use lib.Seq.{length-take-le}
 use Rattle.records.specs.Laws.Writing.{at-most-le}
-use Rattle.windows.specs.Contract.{IsPlanCallAt}
 use borrow.Author.Needs.{needs, length-unmapped}
 use Rattle.open_plan.proofs.call.ask.Statement.{statement}
 use Rattle.open_plan.proofs.call.ask.Tie as tie

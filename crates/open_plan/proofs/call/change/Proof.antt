@@ -1,7 +1,6 @@
 -- The open plan has the changed file, or is as it was.
 use mathlib.Core.Path.{sym, ap, _∙_}
 use Rattle.refusal.specs.Verdict.{verdictNumber}
-use Rattle.open_plan.specs.declared.Held.{Held}
 use Rattle.open_plan.specs.State.{withPlan, changeOf}
 use Rattle.open_plan.specs.Laws.Call.{moved-on, moved-not, answer-of, change-file}
 use borrow.Author.Needs.{needs}
@@ -27,7 +26,7 @@ refused-requires : tie.Need-refused-requires
 refused-requires c κs = search needs
 
 returns : tie.Need-returns
-returns c = 
+returns c =
     let w = c .before .before .before .before .before .changed-file in
     let a = c .before .before .before .before .before .before .before .args in
     let v = ap verdictNumber (c .before .enum-told .given .1) in
@@ -35,7 +34,7 @@ returns c =
     moved-on _ _ _ (sym (w .ensures .verdict) ∙ v) (answer-of _ _ _ _ (c .before .before .before .with-plan .ensures ∙ ap (withPlan (a .state)) file) (c .accepted .ensures))
 
 returns-2 : tie.Need-returns-2
-returns-2 c = 
+returns-2 c =
     let w = c .before .before .before .before .before .before .changed-file in
     moved-not _ _ _ _ (sym (w .ensures .verdict) ∙ ap verdictNumber (c .before .before .verdict .given .1)) (c .refused .ensures)
 

@@ -29,7 +29,7 @@ accepted-requires : tie.Need-accepted-requires
 accepted-requires c κs = search needs
 
 returns-3 : tie.Need-returns-3
-returns-3 c = 
+returns-3 c =
     let a = c .before .before .before .before .before .before .args in
     moved-on _ _ _ (return-set (a .t1) (a .k) (c .before .before .before .before .before .if1 .left) (c .before .before .if2 .left)) (answer-of _ _ _ _ (c .before .with-plan .ensures) (c .accepted .ensures))
 

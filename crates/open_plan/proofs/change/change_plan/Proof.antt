@@ -1,12 +1,9 @@
 -- 14, or what writing the changed plan answers.
-use mathlib.Core.Path.{sym, ap, subst}
+use mathlib.Core.Path.{sym}
 use native.Mathlib.Omega.{arith}
-use Prim.Native.Nat.{ℕ}
-use mathlib.Core.Option.{Option}
-use mathlib.Core.List.{List}
 use Rattle.plan.specs.Records.{planValue}
 use Rattle.plan.specs.Laws.Records.{plan-length}
-use Rattle.open_plan.specs.State.{changeOf, IsHeld}
+use Rattle.open_plan.specs.State.{changeOf}
 use Rattle.open_plan.specs.Laws.Held.{refused-held}
 use Rattle.open_plan.specs.Laws.Change.{foreign-arc, own-arc}
 use borrow.Author.Needs.{needs}

@@ -1,5 +1,5 @@
 -- The writer's bytes over zeros are the file, held (`written-held`).
-use mathlib.Core.Path.{refl, _∙_, sym, ap}
+use mathlib.Core.Path.{_∙_, sym, ap}
 use lib.ListN.{length-replicate}
 use Prim.Native.Nat.{ℕ}
 use Rattle.plan.specs.Records.{planValue}
