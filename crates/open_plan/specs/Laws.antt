@@ -3,4 +3,5 @@ pub mod Copy
 pub mod Held
 pub mod Change
 pub mod Call
+pub mod Asked
 pub mod History

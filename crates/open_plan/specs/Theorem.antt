@@ -6,7 +6,7 @@ use mathlib.Core.List.{List, _∷_, List·Memᴰ, List·Memᴰ·head, List·Mem�
 use mathlib.Core.Option.{Option, none, some}
 use Prim.Native.Nat.{ℕ, _<_}
 use native.Mathlib.Omega.{arith}
-use lib.ListN.{length, getD}
+use lib.ListN.{length, getD, take}
 use lib.Seq.{getD-set-same, getD-set-other}
 use Rattle.postman.specs.Refusal.{firstRefusal, unless}
 use Rattle.postman.specs.PlanFile.{edition, planOf, fileOf, fileConditions}
@@ -15,7 +15,6 @@ use Rattle.postman.specs.Windows.{Departure}
 use Rattle.refusal.specs.Verdict.{verdictNumber}
 use Rattle.planner.specs.declared.Planned.{Planned}
 use Rattle.planner.specs.SameAnswer.{SameAnswer}
-use Rattle.planner.specs.Laws.SameAnswer.{same-answer}
 use Rattle.windows.specs.Contract.{IsPlanCallAt}
 use Rattle.open_plan.specs.declared.Held.{Held}
 use Rattle.open_plan.specs.declared.OpenPlan.{OpenPlan}
@@ -24,6 +23,7 @@ use Rattle.open_plan.specs.State.{fileIn, heldOf, freshState, markIn, re
 use Rattle.open_plan.specs.Contract.{IsOpened, IsMoved}
 use Rattle.open_plan.specs.Run.{Ran, ended, called, StandsFor}
 use Rattle.open_plan.specs.Laws.Call.{return-set}
+use Rattle.open_plan.specs.Laws.Asked.{same-asked}
 use Rattle.open_plan.specs.Laws.History.{keeps-some, below-four, Stands, stands-for, step, opening-stands}
 
 -- ---- the history
@@ -128,11 +128,12 @@ module _ (bytes : List ℕ) (small : (k : ℕ) → getD bytes k 0 < 256) (r : Mo
         ∙ holds
         ∙ sym (ap (λ (x : OpenPlan). x .plan) marked-state)
 
-    -- "ASKING AFTER A RETURN GIVES WHAT ASKING AT THE MARK GAVE, with equal budget, windows, departure and sheet": every field and place.
-    pub asked-again : (budget : ℕ) (windows : List ℕ) (d : Departure) (old new new′ : List ℕ) (a b : Planned)
+    -- "ASKING AFTER A RETURN GIVES WHAT ASKING AT THE MARK GAVE, with equal budget, windows, departure and sheet length": every field, and the places written; and every place where the sheet was
+    -- the same before.
+    pub asked-again : (budget : ℕ) (windows : List ℕ) (d : Departure) (old new old′ new′ : List ℕ) (a b : Planned) → length old ≡ length old′
         → IsPlanCallAt (fileIn (r₁ .state .plan)) budget windows d old new a
-        → IsPlanCallAt (fileIn (r₂ .state .plan)) budget windows d old new′ b
-        → SameAnswer a b × (new ≡ new′)
-    asked-again budget windows d old new new′ a b at-mark later =
-        let same : IsPlanCallAt (fileIn (r₁ .state .plan)) budget windows d old new′ b = subst (λ (h : Held). IsPlanCallAt (fileIn h) budget windows d old new′ b) same-plan later in
-        same-answer _ budget old new new′ a b _ (at-mark .planned) (same .planned)
+        → IsPlanCallAt (fileIn (r₂ .state .plan)) budget windows d old′ new′ b
+        → SameAnswer a b × (take (a .places) new ≡ take (b .places) new′) × (old ≡ old′ → new ≡ new′)
+    asked-again budget windows d old new old′ new′ a b e at-mark later =
+        let same : IsPlanCallAt (fileIn (r₁ .state .plan)) budget windows d old′ new′ b = subst (λ (h : Held). IsPlanCallAt (fileIn h) budget windows d old′ new′ b) same-plan later in
+        same-asked (fileIn (r₁ .state .plan)) budget windows d old new old′ new′ a b e at-mark same
