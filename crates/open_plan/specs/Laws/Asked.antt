@@ -37,8 +37,7 @@ pub same-asked : (bytes : List ℕ) (budget : ℕ) (windows : List ℕ) (d : Dep
 same-asked bytes budget windows d old new old′ new′ a b e i j =
     let p = planAt (planOf bytes) (windowsIn windows) d in
     let o = callRefusalAt bytes budget (length old) windows d in
-    let j′ : IsPlanned p budget o old′ new′ b = subst (λ (n : ℕ). IsPlanned p budget (callRefusalAt bytes budget n windows d) old′ new′ b) (sym e) (j .planned) in
-    (
+    let j′ : IsPlanned p budget o old′ new′ b = subst (λ (n : ℕ). IsPlanned p budget (callRefusalAt bytes budget n windows d) old′ new′ b) (sym e) (j .planned) in (
       same-answer p budget old new _ a b o (i .planned) (on-sheet p budget old new old′ new′ a b o j′ .1) .0,
       same-places p budget old new old′ new′ a b o (i .planned) j′,
       same-sheet p budget old new old′ new′ a b o (i .planned) j′,
