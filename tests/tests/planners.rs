@@ -94,7 +94,7 @@ fn cars<T: CarsCall + Planner>(name: &str, planner: &T) {
 }
 
 /// Plans that are open for changes, and asking beside the plan call at a departure.
-fn sessions<T: Editor + DepartureCall>(name: &str, planner: &T) {
+fn histories<T: Editor + DepartureCall>(name: &str, planner: &T) {
     let mut found = Findings::default();
     suite::run_editing(&mut found, planner, planner, seed(), rounds(20));
     found.assert_none(name, seed());
@@ -176,7 +176,7 @@ macro_rules! held_to_all {
 
             #[test]
             fn open_plans() {
-                sessions(stringify!($name), &$planner);
+                histories(stringify!($name), &$planner);
             }
         }
     };

@@ -14,7 +14,7 @@ pub struct Question {
     pub departure: Departure,
 }
 
-/// A step of a session: a call, or asking.
+/// A step of a history: a call, or asking.
 #[derive(Clone, Debug)]
 pub enum Step {
     Call(Call),

@@ -1,4 +1,4 @@
-//! Plans that are open for changes: stated sessions, and random ones of some hundred calls on random plans of both editions.
+//! Plans that are open for changes: stated histories, and random ones of some hundred calls on random plans of both editions.
 
 use super::{case_a, damaged_file, Shape};
 use crate::instances::random_plan;
@@ -21,15 +21,15 @@ fn streets(edition: u8) -> Plan {
     }
 }
 
-/// A session: the plan that is opened, and each call with its refusal, 0 for none.
-type Session = (&'static str, Plan, Vec<(Call, Refusal)>);
+/// A history: the plan that is opened, and each call with its refusal, 0 for none.
+type Edits = (&'static str, Plan, Vec<(Call, Refusal)>);
 
-fn sessions() -> Vec<Session> {
+fn histories() -> Vec<Edits> {
     use Call::{Mark, Return};
     let dearer = change(1, 4, 0, OPTIONAL);
     let marks = |range: std::ops::RangeInclusive<u32>| range.map(Mark).collect::<Vec<Call>>();
     let all = |calls: Vec<Call>| calls.into_iter().map(|call| (call, 0)).collect::<Vec<(Call, Refusal)>>();
-    let mut sessions = vec![
+    let mut histories = vec![
         ("no call", streets(1), vec![]),
         ("no mark is set", streets(1), (0..4).map(|k| (Return(k), 21)).collect()),
         (
@@ -138,16 +138,16 @@ fn sessions() -> Vec<Session> {
         ];
         for (call, number) in refused {
             let steps = vec![(Mark(0), 0), (call, number), (dearer, 0), (call, number), (Return(0), 0), (call, number)];
-            sessions.push(("refused calls alter nothing", streets(edition), steps));
+            histories.push(("refused calls alter nothing", streets(edition), steps));
         }
     }
-    sessions
+    histories
 }
 
-fn run_stated_sessions(found: &mut Findings, editor: &dyn Editor, callee: &dyn DepartureCall) {
+fn run_stated_histories(found: &mut Findings, editor: &dyn Editor, callee: &dyn DepartureCall) {
     let noon =
         || Question { budget: 1, windows: vec![2, 3, 600, 840], departure: Departure { weekday: 3, minute: 720 } };
-    for (what, plan, calls) in sessions() {
+    for (what, plan, calls) in histories() {
         let steps: Vec<Step> = calls.iter().flat_map(|&(call, _)| [Step::Call(call), Step::Ask(noon())]).collect();
         let told = examine_editing(found, editor, callee, &file_of(&plan), &steps);
         let stated: Vec<Refusal> = std::iter::once(0).chain(calls.iter().map(|&(_, number)| number)).collect();
@@ -202,7 +202,7 @@ fn random_steps(random: &mut Random, plan: &Plan, count: usize) -> Vec<Step> {
 
 /// Holds an editor to the history, and asking to the plan call at a departure of a callee that is right.
 pub fn run_editing(found: &mut Findings, editor: &dyn Editor, callee: &dyn DepartureCall, seed: u64, rounds: u64) {
-    run_stated_sessions(found, editor, callee);
+    run_stated_histories(found, editor, callee);
     let random = &mut Random::new(seed);
     for round in 0..12 * rounds {
         let shape = if round % 6 == 5 { Shape::large(random) } else { Shape::small(random) };
