@@ -1,6 +1,6 @@
 /*
  * The survey drive's planner: reading and writing plan files, the plan call, at a departure too, the short call, the call
- * for two cars, the number of trees, distances, and judging a drive.
+ * for two cars, an open plan with marks to come back to, the number of trees, distances, and judging a drive.
  *
  * A slice is lent as a pointer and a length. The length counts elements, not bytes. Pointers are not null, not even with
  * a length of 0, and a slice that is not const overlaps no other of the same call. That is all that is asked of a caller:
@@ -8,7 +8,7 @@
  *
  * Every function answers what was asked for, 0 or more, or minus a refusal's number. Of several refusals that apply the
  * first in this order is given: 1 (under three bytes), 2, 3, 1 (length), 4, then arc by arc 5, 6, 7, then 13, then 17,
- * then 8 and 9, then 18 to 20, then 10 to 12, then 14 to 16.
+ * then 8 and 9, then 18 to 20, then 10 to 12, then 14 to 16. The calls of an open plan have an order of their own.
  * A refusal changes no lent slice; one of a car alone changes none of that car's. The functions keep nothing and share
  * nothing, so that threads may call them at once.
  *
@@ -64,6 +64,14 @@ extern "C" {
 
 /* What the first car's own refusal is multiplied by in the answer of the call for two cars; the second's is added. */
 #define POSTMAN_FIRST_CAR 256
+
+/*
+ * The bytes of an open plan, and its marks, which are 0 to 3. The bytes are five files one after the other: that of the
+ * open plan, and those of the marks. Each takes two bytes for its length, the high one first, and POSTMAN_LONGEST_FILE
+ * bytes from whose start the file stands. A mark of length 0 was never set.
+ */
+#define POSTMAN_OPEN_BYTES 7385
+#define POSTMAN_MARKS 4
 
 /* The editions of the plan file. */
 enum postman_edition {
@@ -126,13 +134,14 @@ enum postman_refusal {
     POSTMAN_SCATTERED = 11,  /* the plan has more than 8 parts */
     POSTMAN_CUT_OFF = 12,    /* no drive exists: some required vertex has no path to another */
     POSTMAN_REPEATED = 13,   /* two arcs agree in all their fields */
-    POSTMAN_FOREIGN = 14,    /* a judged list has a number that no arc has, or that of a closed arc */
+    POSTMAN_FOREIGN = 14,    /* a judged list has a number that no arc has, or that of a closed arc; a changed arc is none */
     POSTMAN_UNJOINED = 15,   /* an arc of a judged list does not lead to the next one, or the last one to the first */
     POSTMAN_MISSED = 16,     /* an arc that must be driven is not in a judged list */
     POSTMAN_STRAY_PAIR = 17, /* more than 256 pairs, or one of what is no vertex */
     POSTMAN_BAD_MARKS = 18,  /* a car's marks are not as many as the arcs, one is neither 0 nor 1, or a closed arc is marked */
     POSTMAN_BAD_WINDOW = 19, /* a window, the number of windows or the departure is beyond its limits */
-    POSTMAN_MUST_SHUT = 20   /* an arc that must be driven is shut at departure */
+    POSTMAN_MUST_SHUT = 20,  /* an arc that must be driven is shut at departure */
+    POSTMAN_NO_MARK = 21     /* a mark's number is above 3, or the mark was never set */
 };
 
 /*
@@ -204,6 +213,47 @@ int64_t postman_two_cars(const uint8_t *plan, size_t plan_len, const uint8_t *ma
                          size_t answer_1_len, int64_t *multipliers_1, size_t multipliers_1_len, const uint8_t *marks_2,
                          size_t marks_2_len, uint64_t budget_2, uint16_t *sheet_2, size_t sheet_2_len,
                          uint64_t *answer_2, size_t answer_2_len, int64_t *multipliers_2, size_t multipliers_2_len);
+
+/*
+ * Opens the file `plan` for changes: `state` takes the open plan, with no mark set. Answers 0, or minus a refusal: 1 to 7,
+ * 13 or 8.
+ *
+ * With fewer than POSTMAN_OPEN_BYTES bytes `state` is refused with 8. Later bytes are untouched, here and in the calls
+ * below. The caller may copy the state, and keep it for as long as it likes.
+ */
+int64_t postman_open(const uint8_t *plan, size_t plan_len, uint8_t *state, size_t state_len);
+
+/*
+ * Changes one arc of an open plan, of whatever standing: its cost, its checking cost and its standing become these, and
+ * its ends stay. Answers 0, or minus a refusal, which alters nothing: 14 for an arc that the plan does not have, else what
+ * writing the changed plan in its edition is refused for, 6, 7 or 13.
+ *
+ * Any bytes are a state. In these calls one with fewer than POSTMAN_OPEN_BYTES bytes is refused with 8, before all else;
+ * and where the file of the open plan does not read, because something else than these calls made it, changes and asking
+ * give what reading refuses: 1 to 7 or 13.
+ */
+int64_t postman_change(uint8_t *state, size_t state_len, uint32_t arc, uint16_t cost, uint16_t checking,
+                       uint8_t standing);
+
+/*
+ * Sets a mark of an open plan: it holds the plan as it is now, in place of what it held before. Answers 0, or minus 21 for
+ * a mark above 3.
+ */
+int64_t postman_mark(uint8_t *state, size_t state_len, uint32_t mark);
+
+/*
+ * Returns to a mark of an open plan: the plan becomes what the mark holds. All marks stay. Answers 0, or minus 21 for a
+ * mark above 3 or one that was never set.
+ */
+int64_t postman_return(uint8_t *state, size_t state_len, uint32_t mark);
+
+/*
+ * The plan call at a departure for the open plan: it answers what postman_plan_call_at answers for its file. After a
+ * return that is what it answered at the mark.
+ */
+int64_t postman_ask(const uint8_t *state, size_t state_len, uint64_t budget, const uint16_t *windows, size_t windows_len,
+                    uint32_t weekday, uint32_t minute, uint16_t *sheet, size_t sheet_len, uint64_t *answer,
+                    size_t answer_len, int64_t *multipliers, size_t multipliers_len);
 
 /*
  * Distances for a page of pairs of vertices of the file `plan`. Answers the number of searches run, which is the number of

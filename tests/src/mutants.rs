@@ -5,11 +5,12 @@ mod cars;
 mod codecs;
 mod counters;
 mod departures;
+mod editors;
 mod judges;
 mod pages;
 mod steps;
 
-use crate::planner::{CarsCall, Codec, Counter, DepartureCall, DistanceCall, Judge, Planner};
+use crate::planner::{CarsCall, Codec, Counter, DepartureCall, DistanceCall, Editor, Judge, Planner};
 use crate::properties::Property;
 
 pub struct Mutant<T: ?Sized> {
@@ -49,6 +50,11 @@ pub fn departures() -> Vec<Mutant<dyn DepartureCall>> {
 /// Wrong in the call for two cars.
 pub fn cars() -> Vec<Mutant<dyn CarsCall>> {
     cars::mutants()
+}
+
+/// Wrong in changes, marks, returns or asking.
+pub fn editors() -> Vec<Mutant<dyn Editor>> {
+    editors::mutants()
 }
 
 /// Wrong in judging a list of arcs.

@@ -14,12 +14,14 @@
 //! | best drive | search over (vertex, set of required arcs passed) | trees |
 //! | shut arcs | the minutes of a week, for each arc | window by window |
 //! | a car's plan | the set of its arcs, priced by standing | mark by mark, priced by service cost |
+//! | an open plan | the accepted calls, looked up from the end | the plan and the marks as they are now |
 //! | judging | sets of arcs, and how often each occurs | passes along the list |
 
 mod balancing;
 mod bound;
 mod file;
 mod graph;
+mod history;
 mod judging;
 mod marks;
 mod optimum;
@@ -32,6 +34,7 @@ pub use balancing::{assignment, greatest_multipliers, Assignment};
 pub use bound::{cheapest_tree, lagrangian_bound};
 pub use file::{file_of, is_long_enough, parse, read_refusal, write_refusal};
 pub use graph::{judge, Graph, INFINITE};
+pub use history::History;
 pub use judging::judge_answer;
 pub use marks::{car_plan, car_refusal, own_marks};
 pub use optimum::{optimum, MOST_REQUIRED_ARCS};

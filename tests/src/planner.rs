@@ -16,10 +16,12 @@ use crate::plan::{Arc, Departure, MOST_VERTICES};
 
 mod cars;
 mod counter;
+mod editor;
 #[cfg(feature = "proved")]
 mod proved;
 pub use cars::{Car, CarsAnswer, CarsCall};
 pub use counter::{Counter, TreeCount};
+pub use editor::{Call, Change, Editor, OpenPlan};
 #[cfg(feature = "proved")]
 pub use proved::Proved;
 
@@ -50,6 +52,7 @@ pub mod refusal {
     pub const BAD_MARKS: Refusal = 18;
     pub const BAD_WINDOW: Refusal = 19;
     pub const MUST_SHUT: Refusal = 20;
+    pub const NO_MARK: Refusal = 21;
 }
 
 /// What the plan call answers beside the drive.

@@ -7,6 +7,7 @@ mod checking;
 mod codec;
 mod count;
 mod departure;
+mod editing;
 mod judging;
 mod page;
 
@@ -17,6 +18,7 @@ pub use checking::examine_checking;
 pub use codec::{examine_codec, examine_writing};
 pub use count::{examine_count, examine_whole};
 pub use departure::{examine_departure, examine_departure_refusal, examine_no_windows};
+pub use editing::{examine_editing, Question, Step};
 pub use judging::{examine_judgement, examine_written};
 pub use page::examine_page;
 
@@ -121,10 +123,20 @@ pub enum Property {
     OwnMarks,
     /// With any marks it is the plan call on the plan with the arcs marked by hand, where that is a good file.
     MarkedByHand,
+    /// Each call of an open plan is refused as its history says, and so is opening.
+    CallRefusal,
+    /// The file of an open plan is that of the plan that its history gives.
+    OpenFile,
+    /// It is accepted by reading.
+    OpenReads,
+    /// Asking gives what the plan call at a departure gives for that file.
+    Asking,
+    /// Asking after a return gives what asking at the mark gave.
+    AskedAgain,
 }
 
 /// All of them.
-pub const PROPERTIES: [Property; 48] = {
+pub const PROPERTIES: [Property; 53] = {
     use Property::*;
     [
         Returns,
@@ -175,6 +187,11 @@ pub const PROPERTIES: [Property; 48] = {
         Alone,
         OwnMarks,
         MarkedByHand,
+        CallRefusal,
+        OpenFile,
+        OpenReads,
+        Asking,
+        AskedAgain,
     ]
 };
 

@@ -3,6 +3,7 @@
 mod cars;
 mod counts;
 mod departures;
+mod editing;
 mod editions;
 mod faults;
 mod judging;
@@ -12,6 +13,7 @@ mod stated;
 pub use cars::run_cars;
 pub use counts::{run_count, run_counts};
 pub use departures::run_departures;
+pub use editing::run_editing;
 pub use editions::{run_stated_codec, FILE_A_CHECKED};
 pub use judging::{run_lists, run_stated_lists};
 pub use pages::run_pages;

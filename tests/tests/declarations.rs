@@ -267,6 +267,7 @@ fn constants_agree() {
         ("BAD_MARKS", u64::from(refusal::BAD_MARKS)),
         ("BAD_WINDOW", u64::from(refusal::BAD_WINDOW)),
         ("MUST_SHUT", u64::from(refusal::MUST_SHUT)),
+        ("NO_MARK", u64::from(refusal::NO_MARK)),
     ] {
         assert_eq!(header.get(name), Some(&value), "{name}");
     }

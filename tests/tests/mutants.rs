@@ -2,7 +2,7 @@
 //! catches some wrong planner.
 
 use postman_tests::instances::Shape;
-use postman_tests::mutants::{cars, codecs, counters, departures, judges, pages, planners};
+use postman_tests::mutants::{cars, codecs, counters, departures, editors, judges, pages, planners};
 use postman_tests::oracle::Effort;
 use postman_tests::properties::{Case, Findings, Property, PROPERTIES};
 use postman_tests::suite;
@@ -115,6 +115,21 @@ fn wrong_calls_for_two_cars_are_caught() {
 }
 
 #[test]
+fn wrong_editors_are_caught() {
+    let mut escaped = Vec::new();
+    for mutant in editors() {
+        let mut found = Findings::default();
+        suite::run_editing(&mut found, &*mutant.wrong, &Yardstick, SEED, 1);
+        println!("{}: {:?}", mutant.name, found.violated);
+        let missed = missed(mutant.violates, &found);
+        if !missed.is_empty() {
+            escaped.push((mutant.name, missed));
+        }
+    }
+    assert!(escaped.is_empty(), "{escaped:?}");
+}
+
+#[test]
 fn wrong_judges_are_caught() {
     for mutant in judges() {
         let mut found = Findings::default();
@@ -133,6 +148,7 @@ fn every_property_catches_some_mutant() {
     caught.extend(counters().iter().flat_map(|m| m.violates.to_vec()));
     caught.extend(departures().iter().flat_map(|m| m.violates.to_vec()));
     caught.extend(cars().iter().flat_map(|m| m.violates.to_vec()));
+    caught.extend(editors().iter().flat_map(|m| m.violates.to_vec()));
     caught.extend(judges().iter().flat_map(|m| m.violates.to_vec()));
     let idle: Vec<Property> = PROPERTIES.into_iter().filter(|p| !caught.contains(p)).collect();
     assert_eq!(idle, []);

@@ -5,7 +5,7 @@
 
 use postman_tests::instances::Shape;
 use postman_tests::oracle::Effort;
-use postman_tests::planner::{CarsCall, Codec, Counter, DepartureCall, DistanceCall, Planner};
+use postman_tests::planner::{CarsCall, Codec, Counter, DepartureCall, DistanceCall, Editor, Planner};
 use postman_tests::properties::Findings;
 use postman_tests::random::{setting, Random};
 use postman_tests::{suite, yardstick::Yardstick};
@@ -93,6 +93,13 @@ fn cars<T: CarsCall + Planner>(name: &str, planner: &T) {
     found.assert_none(name, seed());
 }
 
+/// Plans that are open for changes, and asking beside the plan call at a departure.
+fn histories<T: Editor + DepartureCall>(name: &str, planner: &T) {
+    let mut found = Findings::default();
+    suite::run_editing(&mut found, planner, planner, seed(), rounds(20));
+    found.assert_none(name, seed());
+}
+
 /// The stated numbers and files of every length; then random plans, small and large, with the plan call beside the count.
 fn numbers_of_trees<T: Counter + Planner>(name: &str, planner: &T) {
     let mut found = Findings::default();
@@ -165,6 +172,11 @@ macro_rules! held_to_all {
             #[test]
             fn two_cars() {
                 cars(stringify!($name), &$planner);
+            }
+
+            #[test]
+            fn open_plans() {
+                histories(stringify!($name), &$planner);
             }
         }
     };

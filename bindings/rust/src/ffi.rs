@@ -75,6 +75,30 @@ extern "C" {
         multipliers_2_len: usize,
     ) -> i64;
 
+    pub fn postman_open(plan: *const u8, plan_len: usize, state: *mut u8, state_len: usize) -> i64;
+
+    pub fn postman_change(state: *mut u8, state_len: usize, arc: u32, cost: u16, checking: u16, standing: u8) -> i64;
+
+    pub fn postman_mark(state: *mut u8, state_len: usize, mark: u32) -> i64;
+
+    pub fn postman_return(state: *mut u8, state_len: usize, mark: u32) -> i64;
+
+    pub fn postman_ask(
+        state: *const u8,
+        state_len: usize,
+        budget: u64,
+        windows: *const u16,
+        windows_len: usize,
+        weekday: u32,
+        minute: u32,
+        sheet: *mut u16,
+        sheet_len: usize,
+        answer: *mut u64,
+        answer_len: usize,
+        multipliers: *mut i64,
+        multipliers_len: usize,
+    ) -> i64;
+
     pub fn postman_distances(
         plan: *const u8,
         plan_len: usize,

@@ -44,6 +44,11 @@ pub const DAY_MINUTES: u32 = 1_440;
 /// What the first car's own refusal is multiplied by in the answer of the call for two cars; the second's is added.
 pub const FIRST_CAR: usize = 256;
 
+/// The bytes of an open plan: five files, that of the plan and those of its marks, each with two bytes for its length before it.
+pub const OPEN_BYTES: usize = 7_385;
+/// The marks of an open plan, which are 0 to 3.
+pub const MARKS: usize = 4;
+
 /// The bytes of a record, which is an arc: tail, head, standing, the high byte and the low byte of its cost, and those of its service cost.
 pub const RECORD_BYTES: usize = 7;
 /// The index of a record's tail.

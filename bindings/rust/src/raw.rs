@@ -235,6 +235,87 @@ pub fn two_cars(plan: &[u8], first: Car, second: Car) -> Result<[Result<(), Refu
     Ok([told / FIRST_CAR, told % FIRST_CAR].map(of_car))
 }
 
+/// Opens the file `plan` for changes: `state` takes the open plan, with no mark set. Refuses with 1 to 7 and 13, and with 8 if `state` has fewer than
+/// [`OPEN_BYTES`](crate::limits::OPEN_BYTES) bytes. Later bytes are untouched, here and in [`change`], [`mark`] and [`return_to`].
+///
+/// ```
+/// use postman::limits::OPEN_BYTES;
+/// use postman::raw::{change, mark, open, return_to};
+/// use postman::Refusal;
+///
+/// let file = [0x10, 0x40, 0x20, 0x01, 0x40, 0x01, 0x41, 0x00, 0x00, 0x03];
+/// let mut state = vec![0; OPEN_BYTES];
+/// open(&file, &mut state)?;
+/// assert_eq!((state[..2].to_vec(), &state[2..12]), (vec![0, 10], &file[..]));
+///
+/// mark(&mut state, 0)?;
+/// change(&mut state, 1, 9, 0, 0)?;
+/// assert_eq!(state[11], 0x09);
+/// assert_eq!(change(&mut state, 2, 9, 0, 0), Err(Refusal::Foreign));
+/// return_to(&mut state, 0)?;
+/// assert_eq!(&state[2..12], &file[..]);
+/// assert_eq!(return_to(&mut state, 1), Err(Refusal::NoMark));
+/// # Ok::<(), Refusal>(())
+/// ```
+pub fn open(plan: &[u8], state: &mut [u8]) -> Result<(), Refusal> {
+    // SAFETY: as in `read_plan`.
+    unless_refused(unsafe { ffi::postman_open(plan.as_ptr(), plan.len(), state.as_mut_ptr(), state.len()) }).map(|_| ())
+}
+
+/// Changes one arc of an open plan: its cost, its checking cost and its standing. Refuses with 14 for an arc that the plan does not have, else with
+/// what writing the changed plan in its edition is refused for: 6, 7 or 13. Any bytes are a state; one that is too short is refused with 8 first, and
+/// one whose plan does not read for what reading refuses.
+pub fn change(state: &mut [u8], arc: u32, cost: u16, checking: u16, standing: u8) -> Result<(), Refusal> {
+    // SAFETY: as in `read_plan`.
+    unless_refused(unsafe { ffi::postman_change(state.as_mut_ptr(), state.len(), arc, cost, checking, standing) })
+        .map(|_| ())
+}
+
+/// Sets a mark of an open plan: it holds the plan as it is now. Refuses with 21 above 3, and with 8 as [`change`] does.
+pub fn mark(state: &mut [u8], mark: u32) -> Result<(), Refusal> {
+    // SAFETY: as in `read_plan`.
+    unless_refused(unsafe { ffi::postman_mark(state.as_mut_ptr(), state.len(), mark) }).map(|_| ())
+}
+
+/// Returns to a mark of an open plan, and keeps all marks. Refuses with 21 above 3 and for a mark that was never set, and with 8 as [`change`] does.
+pub fn return_to(state: &mut [u8], mark: u32) -> Result<(), Refusal> {
+    // SAFETY: as in `read_plan`.
+    unless_refused(unsafe { ffi::postman_return(state.as_mut_ptr(), state.len(), mark) }).map(|_| ())
+}
+
+/// The plan call at a departure for an open plan: what [`plan_call_at`] answers for its file. Refuses with 8 first if `state` is too short.
+#[allow(clippy::too_many_arguments)]
+pub fn ask(
+    state: &[u8],
+    budget: u64,
+    windows: &[u16],
+    weekday: u32,
+    minute: u32,
+    sheet: &mut [u16],
+    answer: &mut [u64],
+    multipliers: &mut [i64],
+) -> Result<(), Refusal> {
+    // SAFETY: as in `read_plan`.
+    unless_refused(unsafe {
+        ffi::postman_ask(
+            state.as_ptr(),
+            state.len(),
+            budget,
+            windows.as_ptr(),
+            windows.len(),
+            weekday,
+            minute,
+            sheet.as_mut_ptr(),
+            sheet.len(),
+            answer.as_mut_ptr(),
+            answer.len(),
+            multipliers.as_mut_ptr(),
+            multipliers.len(),
+        )
+    })
+    .map(|_| ())
+}
+
 /// Distances for a page of pairs of vertices of the file `plan`, on lent slices: the number of searches run, one for each first vertex. Refuses
 /// with 1 to 8, 13 and 17.
 ///

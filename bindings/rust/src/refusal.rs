@@ -4,7 +4,8 @@ use std::error::Error;
 use std::fmt;
 
 /// Why a call was refused. Of several refusals that apply, the calls give the first in this order: 1 (under three bytes), 2, 3, 1 (length),
-/// 4, then arc by arc 5, 6, 7, then 13, then 17, then 8 and 9, then 18 to 20, then 10 to 12, then 14 to 16.
+/// 4, then arc by arc 5, 6, 7, then 13, then 17, then 8 and 9, then 18 to 20, then 10 to 12, then 14 to 16. The calls of
+/// an open plan have an order of their own.
 ///
 /// ```
 /// use postman::{short_call, Refusal};
@@ -42,7 +43,7 @@ pub enum Refusal {
     CutOff = 12,
     /// Two arcs agree in all their fields.
     Repeated = 13,
-    /// A judged list has a number that no arc has, or that of a closed arc.
+    /// A judged list has a number that no arc has, or that of a closed arc; or an arc that is to be changed is none.
     Foreign = 14,
     /// An arc of a judged list does not lead to the next one, or the last one to the first.
     Unjoined = 15,
@@ -56,11 +57,13 @@ pub enum Refusal {
     BadWindow = 19,
     /// An arc that must be driven is shut at departure.
     MustShut = 20,
+    /// A mark's number is above 3, or the mark was never set.
+    NoMark = 21,
 }
 
 impl Refusal {
     /// All refusals, by their numbers.
-    pub const ALL: [Refusal; 20] = [
+    pub const ALL: [Refusal; 21] = [
         Refusal::Torn,
         Refusal::Edition,
         Refusal::Extent,
@@ -81,6 +84,7 @@ impl Refusal {
         Refusal::BadMarks,
         Refusal::BadWindow,
         Refusal::MustShut,
+        Refusal::NoMark,
     ];
 
     /// The refusal's number.
@@ -123,7 +127,10 @@ impl Refusal {
             Refusal::Scattered => ("scattered", "the plan has more than 8 parts"),
             Refusal::CutOff => ("cut off", "no drive exists: some required vertex has no path to another"),
             Refusal::Repeated => ("repeated", "two arcs agree in all their fields"),
-            Refusal::Foreign => ("foreign", "a judged list has a number that no arc has, or that of a closed arc"),
+            Refusal::Foreign => (
+                "foreign",
+                "a judged list has a number that no arc has, or that of a closed arc; or a changed arc is none",
+            ),
             Refusal::Unjoined => {
                 ("unjoined", "an arc of a judged list does not lead to the next one, or the last one to the first")
             }
@@ -137,6 +144,7 @@ impl Refusal {
                 ("bad window", "a window, the number of windows or the departure is beyond its limits")
             }
             Refusal::MustShut => ("must shut", "an arc that must be driven is shut at departure"),
+            Refusal::NoMark => ("no mark", "a mark's number is above 3, or the mark was never set"),
         }
     }
 }
@@ -157,11 +165,11 @@ mod tests {
     #[test]
     fn numbers_ascend() {
         let numbers: Vec<u32> = Refusal::ALL.iter().map(|refusal| refusal.number()).collect();
-        assert_eq!(numbers, (1..=20).collect::<Vec<u32>>());
+        assert_eq!(numbers, (1..=21).collect::<Vec<u32>>());
         for refusal in Refusal::ALL {
             assert_eq!(Refusal::from_number(refusal.number()), Some(refusal));
         }
-        for number in [0, 21, u32::MAX] {
+        for number in [0, 22, u32::MAX] {
             assert_eq!(Refusal::from_number(number), None);
         }
     }

@@ -25,6 +25,11 @@ pub struct Departure {
     pub minute: u32,
 }
 
+/// Windows as they are lent.
+pub(crate) fn numbers_of(windows: &[Window]) -> Vec<u16> {
+    windows.iter().flat_map(|w| [w.arc, w.weekday, w.from, w.to]).collect()
+}
+
 /// Lays a drive for a plan file, trying at most `budget` trees, that avoids the arcs shut at departure by up to 128 windows. Its floor is over such
 /// drives. Refuses with 1 to 7, 9 to 13, 19 and 20.
 ///
@@ -46,7 +51,7 @@ pub struct Departure {
 /// # Ok::<(), Refusal>(())
 /// ```
 pub fn plan_call_at(file: &[u8], budget: u64, windows: &[Window], departure: Departure) -> Result<Answer, Refusal> {
-    let numbers: Vec<u16> = windows.iter().flat_map(|w| [w.arc, w.weekday, w.from, w.to]).collect();
+    let numbers = numbers_of(windows);
     let Departure { weekday, minute } = departure;
     answered(|sheet, answer, multipliers| {
         raw::plan_call_at(file, budget, &numbers, weekday, minute, sheet, answer, multipliers)

@@ -5,3 +5,5 @@ pub mod Writing
 pub mod Answer
 pub mod Judged
 pub mod Cars
+pub mod Editing
+pub mod Lent

@@ -5,5 +5,7 @@ pub mod Codec
 pub mod Answer
 pub mod Count
 pub mod Cars
+pub mod Editing
 -- What is proved about them.
 pub mod Laws
+pub mod Theorem

@@ -4,6 +4,7 @@ pub mod record_bytes; // a record as seven bytes
 pub mod codec; // reading and writing plan files
 pub mod call; // the plan call, the short call and the plan call at a departure
 pub mod cars; // the call for two cars
+pub mod editing; // an open plan: changes, marks, returns and asking
 pub mod distance; // the distance call
 pub mod count; // the number of trees
 pub mod judging; // the judging call

@@ -16,7 +16,7 @@ use records::writer::at_most;
 use records::writer::no_records;
 
 // Two bytes as a number, the high one first.
-fn number_at(lent: &[u8], at: usize) -> u16
+pub(crate) fn number_at(lent: &[u8], at: usize) -> u16
     requires { ⌜ at + 2 ≤ length (now lent) ⌝ }
     ensures { λ r. ⌜ r ≡ numberIn (now (lent .entry)) at ⌝ }
 {

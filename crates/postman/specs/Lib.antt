@@ -20,6 +20,7 @@ pub mod DistanceCall
 pub mod Judge
 pub mod Windows
 pub mod Marks
+pub mod OpenPlan
 -- What is proved about them.
 pub mod Laws
 pub mod Theorem

@@ -25,6 +25,7 @@ pub enum Refusal {
     BadMarks,
     BadWindow,
     MustShut,
+    NoMark,
 }
 
 // The number of a refusal.
@@ -52,6 +53,7 @@ pub fn refusal_number(r: Refusal) -> u8
         Refusal::BadMarks => 18,
         Refusal::BadWindow => 19,
         Refusal::MustShut => 20,
+        Refusal::NoMark => 21,
     }
 }
 

@@ -1,10 +1,11 @@
 //! The proved library behind the traits, through the package `postman` (`bindings/rust`).
 
 use super::{
-    Answer, Car, CarsAnswer, CarsCall, Codec, Counter, DepartureCall, DistanceCall, Judge, Planner, Refusal, TreeCount,
+    Answer, Call, Car, CarsAnswer, CarsCall, Change, Codec, Counter, DepartureCall, DistanceCall, Editor, Judge,
+    OpenPlan, Planner, Refusal, TreeCount,
 };
 use crate::plan::{Arc, Departure, MOST_VERTICES};
-use postman::limits::{ANSWER_WORDS, RECORD_BYTES};
+use postman::limits::{ANSWER_WORDS, OPEN_BYTES, RECORD_BYTES};
 use postman::raw;
 
 /// The proved library.
@@ -106,6 +107,40 @@ impl DistanceCall for Proved {
 impl Counter for Proved {
     fn tree_count(&self, plan: &[u8]) -> Result<TreeCount, Refusal> {
         raw::tree_count(plan).map(|count| TreeCount::of(count.into())).map_err(postman::Refusal::number)
+    }
+}
+
+/// An open plan as the library lends it.
+struct Open(Vec<u8>);
+
+impl Editor for Proved {
+    fn open(&self, plan: &[u8]) -> Result<Box<dyn OpenPlan>, Refusal> {
+        // What the state held before the opening must not matter.
+        let mut state = vec![0xA5; OPEN_BYTES];
+        raw::open(plan, &mut state).map_err(postman::Refusal::number)?;
+        Ok(Box::new(Open(state)))
+    }
+}
+
+impl OpenPlan for Open {
+    fn file(&self) -> Vec<u8> {
+        let length = usize::from(u16::from_be_bytes([self.0[0], self.0[1]]));
+        self.0[2..2 + length].to_vec()
+    }
+
+    fn call(&mut self, call: Call) -> Result<(), Refusal> {
+        let state = &mut self.0;
+        match call {
+            Call::Change(Change { arc, cost, service, standing }) => raw::change(state, arc, cost, service, standing),
+            Call::Mark(mark) => raw::mark(state, mark),
+            Call::Return(mark) => raw::return_to(state, mark),
+        }
+        .map_err(postman::Refusal::number)
+    }
+
+    fn ask(&self, budget: u64, windows: &[u16], departure: Departure, sheet: &mut [u16]) -> Result<Answer, Refusal> {
+        let Departure { weekday, minute } = departure;
+        answered(|answer, multipliers| raw::ask(&self.0, budget, windows, weekday, minute, sheet, answer, multipliers))
     }
 }
 

@@ -1,0 +1,7 @@
+-- What is proved about the definitions.
+pub mod Copy
+pub mod Held
+pub mod Change
+pub mod Call
+pub mod Asked
+pub mod History
