@@ -13,3 +13,4 @@ pub mod Idle
 pub mod DirectBalance
 pub mod Plan
 pub mod Among
+pub mod Repriced

@@ -18,7 +18,7 @@ use Rattle.postman.specs.LagrangianBound.{AreMultipliers}
 use Rattle.postman.specs.PlanCall.{triedCount, isWhole, bestCost, bestArborescence}
 use Rattle.postman.specs.Laws.Balancing.{Joins}
 use Rattle.balance.specs.Step.{State, cell, add}
-use Rattle.balance.specs.Invariant.{Metric, Certified}
+use Rattle.balance.specs.Invariant.{Metric, Certified, Counted}
 use Rattle.balance.specs.Balance.{balance}
 use Rattle.tree_count.specs.Recursion.{merged, countTrees}
 use Rattle.tree_count.specs.Matrix.{entriesOf, cap, AreFew, IsMerged}
@@ -121,7 +121,8 @@ pub record IsBranch (p : Plan) (table : List (List ℕ)) (b : Branch) : Type 0 w
   pub tails-size : length (b .tails) ≡ 8
   pub heads-size : length (b .heads) ≡ 8
   pub joins : Joins p (chosenIn b)
-  pub state : stateIn b ≡ balance (cell table) p (chosenIn b)
+  pub certified : Certified (cell table) (required p) (stateIn b)
+  pub counted : Counted (required p) (stateIn b) (heads p (chosenIn b)) (tails p (chosenIn b))
   pub fixed : b .fixed ≡ requiredCost p + linkCost p (chosenIn b)
   pub potentials : ArePotentials table (required p) (b .multipliers)
   pub bounded : Bounds p table (b .multipliers) (b .bound) (chosenIn b) (b .a)
@@ -178,6 +179,36 @@ pub record IsBelow (table : List (List ℕ)) (vs : List ℕ) (b : Branch) (tail 
   pub rests-are : r .rests ≡ b .rests
   pub names-are : (c : ℕ) → c < 8 → getD (r .names) c 0 ≡ renamed (b .a) x (getD (b .names) c 0)
   pub entries-are : IsMerged (b .entries) (b .a) x k (r .entries)
+
+-- The branch with the potentials w.
+abbrev pub repricedBranch : Branch → List ℕ → Branch
+repricedBranch b w = record {
+  a = b .a;
+  tails = b .tails;
+  heads = b .heads;
+  amounts = b .amounts;
+  potentials = w;
+  balancing = b .balancing;
+  count = b .count;
+  fixed = b .fixed;
+  multipliers = b .multipliers;
+  bound = b .bound;
+  rests = b .rests;
+  names = b .names;
+  entries = b .entries;
+}
+
+-- The potentials u of the first n of vs, from that of the first on, and raised so that none is negative.
+pub record AreLevelled (u vs : List ℕ) (n : ℕ) (w : List ℕ) : Type 0 where
+  pub size : length w ≡ 64
+  pub each : (k : ℕ) → k < n → getD w (getD vs k 0) 0 + getD u (getD vs 0 0) 0 ≡ getD u (getD vs k 0) 0 + 4128705
+  pub low : (v : ℕ) → getD w v 0 ≤ 8257410
+
+-- Two potentials are no further apart than 63 arcs of cost 65,535, and small.
+pub record Near (u first : ℕ) : Type 0 where
+  pub above : first ≤ u + 4128705
+  pub below : u ≤ first + 4128705
+  pub low : u ≤ 3005697240
 
 -- Potentials, and what they price the required arcs and the links chosen at, or less.
 pub record Prices (p : Plan) (table : List (List ℕ)) (b : Branch) (r : Pricing) : Type 0 where

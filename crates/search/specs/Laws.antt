@@ -11,3 +11,4 @@ pub mod Below
 pub mod Root
 pub mod Explore
 pub mod Tried
+pub mod Kept

@@ -9,13 +9,13 @@ use integers::wide;
 use tree_count::count::merge;
 ghost use mathlib.Core.Path.{_≡_};
 ghost use mathlib.Core.List.{List};
-ghost use Prim.Native.Nat.{ℕ, _<_};
-ghost use lib.ListN.{set};
+ghost use Prim.Native.Nat.{ℕ, _+_, _<_, _≤_};
+ghost use lib.ListN.{length, getD, set};
 ghost use Rattle.postman.specs.Plan.{Plan};
 ghost use Rattle.balance.specs.Step.{cell, add as «add-state»};
 ghost use Rattle.balance.specs.Records.{stateOf};
 ghost use Rattle.search.specs.Prepared.{Prepared};
-ghost use Rattle.search.specs.Contracts.{CanLink, stateIn, CanGoBelow, IsBelow, AreGiven, IsRoot};
+ghost use Rattle.search.specs.Contracts.{CanLink, stateIn, CanGoBelow, IsBelow, Near, AreLevelled, repricedBranch, AreGiven, IsRoot};
 
 // The links chosen; the state of the required arcs with them; R and the d of the links; what its trees cost at least by the multipliers; for each component what those
 // behind it cost at least by them; which component each has become one with; and how many entries each component has from each other.
@@ -107,6 +107,42 @@ pub(crate) fn below(
         names: new_names,
         entries: new_entries,
     }
+}
+
+// A potential from another one on, so that it is not negative.
+fn level(u: u64, first: u64) -> u64
+    requires { ⌜ Near u first ⌝ }
+    ensures { λ r. ⌜ (r + first ≡ u + 4128705) × (r ≤ 8257410) ⌝ }
+{
+    u + 4_128_705 - first
+}
+
+// The potentials of the vertices vs, from that of the first on.
+fn levelled(u: [u64; 64], vs: &[u8]) -> [u64; 64]
+    requires { ⌜ ((k : ℕ) → k < length (now vs) → (getD (now vs) k 0 < 64) × Near (getD u (getD (now vs) k 0) 0) (getD u (getD (now vs) 0 0) 0)) × (1 ≤ length (now vs)) ⌝ }
+    ensures { λ r. ⌜ AreLevelled u (now (vs .entry)) (length (now (vs .entry))) r ⌝ }
+{
+    let mut r = [0u64; 64];
+    let first = wide(vs[0]);
+    let low = u[first];
+    let mut k: usize = 0;
+    while k < vs.len() {
+        let v = wide(vs[k]);
+        r[v] = level(u[v], low);
+        k += 1;
+    }
+    r
+}
+
+// The branch with the potentials u, which certify its amounts too.
+pub(crate) fn repriced(b: Branch, u: [u64; 64], vs: &[u8]) -> Branch
+    requires { ⌜ ((k : ℕ) → k < length (now vs) → (getD (now vs) k 0 < 64) × Near (getD u (getD (now vs) k 0) 0) (getD u (getD (now vs) 0 0) 0)) × (1 ≤ length (now vs)) ⌝ }
+    ensures { λ r. ⌜ AreLevelled u (now (vs .entry)) (length (now (vs .entry))) (r .potentials) × (r ≡ repricedBranch b (r .potentials)) ⌝ }
+{
+    let w = levelled(u, vs);
+    let mut r = b;
+    r.potentials = w;
+    r
 }
 
 // The branch that has no choice yet, from the state of the required arcs, the multipliers u, R, and the number of entries that each component has from each other.

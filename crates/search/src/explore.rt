@@ -1,6 +1,7 @@
 // The trees of a branch, in order.
 use crate::branch::Branch;
 use crate::branch::below;
+use crate::branch::repriced;
 use crate::counts::counts;
 use crate::pricing::Pricing;
 use crate::pricing::lifted;
@@ -56,7 +57,7 @@ fn candidate_at(
 }
 
 // The trees of a branch. One candidate of component a after the other: the branch below is passed over, with all its trees counted at once, or gone into. Its trees are priced by
-// the branch's own potentials, and after a branch below was gone into by those that it was left with.
+// the branch's own potentials, and after a branch below was gone into by those that it was left with; the next link is added from the potentials that the last one left.
 pub fn explore(
     g: Progress,
     b: Branch,
@@ -75,7 +76,7 @@ pub fn explore(
     let ts = b.tails;
     let hs = b.heads;
     let potentials = b.potentials;
-    let own = Pricing {
+    let mut prices = Pricing {
         potentials: potentials,
         value: b.balancing,
     };
@@ -83,7 +84,7 @@ pub fn explore(
         let after = completed(g, b.fixed + b.balancing, ts, hs);
         return Explored {
             progress: after,
-            pricing: own,
+            pricing: prices,
         };
     }
     let entries = b.entries;
@@ -93,8 +94,8 @@ pub fn explore(
     let counts = counts(entries, a, k);
     let given = b.bound + rests[a];
     let end = start[a + 1];
+    let mut own = b;
     let mut p = potentials;
-    let mut prices = own;
     let mut bound = b.fixed + b.balancing + rest(d, &p, start, tails, heads, a + 1, k);
     let mut x = start[a];
     let mut r = g;
@@ -103,7 +104,10 @@ pub fn explore(
         let one = given + reduced(d, &u, c.tail, c.head);
         let other = bound + reduced(d, &p, c.tail, c.head);
         if entered(r, c.trees, one, other) {
-            let next = below(b, d, vs, c.tail, c.head, c.name, k);
+            let next = below(own, d, vs, c.tail, c.head, c.name, k);
+            let raised = next.potentials;
+            let keep = repriced(own, raised, vs);
+            own = keep;
             let e = explore(r, next, d, vs, start, source, tails, heads, k);
             let after = e.progress;
             r = after;

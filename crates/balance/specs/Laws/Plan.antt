@@ -209,12 +209,19 @@ module _ (p : Plan) (ok : WellFormed p) (connected : T (not (isCutOff p))) where
           price-least (distance p) (triangle p ends) (distance-self p ends) (required p) f q (heads p t) (tails p t) (same-length p ends t joins) (within-heads p ends t joins) (within-tails p ends t joins)
           (balance-counted .balanced) feasible tight
 
-      -- WHICH THE STATE HOLDS
-      pub balance-least : balance d p t .cost ≡ leastBalancing p t
-      balance-least =
-          let a = price-at u (feasible-distance u (balance-certified .feasible)) (tight-distance f u (balance-certified .tight)) in
-          let b = balance-counted .priced in
+      -- WHICH ANY STATE HOLDS that is certified and counts these arcs
+      pub certified-least : (s : State) → Certified d (required p) s → Counted (required p) s (heads p t) (tails p t) → s .cost ≡ leastBalancing p t
+      unfolding leastBalancing
+      certified-least s c n =
+          let g = amount (s .amounts) in
+          let q = potential (s .potentials) in
+          let a = price-least (distance p) (triangle p ends) (distance-self p ends) (required p) g q (heads p t) (tails p t) (same-length p ends t joins) (within-heads p ends t joins) (within-tails p ends t joins)
+          (n .balanced) (feasible-distance q (c .feasible)) (tight-distance g q (c .tight)) in
+          let b = n .priced in
           omega arith
+
+      pub balance-least : balance d p t .cost ≡ leastBalancing p t
+      balance-least = certified-least (balance d p t) balance-certified balance-counted
 
       pub balance-room : balance d p t .count ≤ 356
       balance-room =

@@ -225,6 +225,11 @@ module _ (d : ℕ → ℕ → ℕ) (vs : List ℕ) (metric : Metric d vs) (s : S
       loopless = path-sent .loopless;
     }
 
+    -- the potentials after certify the amounts before too
+    pub add-tight : Tight d vs f (potential (add d vs s t h .potentials))
+    unfolding add way
+    add-tight = raise-tight
+
     within-more : (v : ℕ) (us : List ℕ) → List·Memᴰ v vs → Within vs us → Within vs (v ∷ us)
     within-more v us m w = record {
       once = w .once;

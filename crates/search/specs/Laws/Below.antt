@@ -1,27 +1,28 @@
 -- The branch below a branch is a branch: a link moves from what is to come to what is known, in the state, in the costs, in the bound and in the names.
 use mathlib.Core.Path.{_≡_, refl, sym, ap, ap₂, _∙_, subst, subst⁻¹}
 use mathlib.Core.Logic.{_≢_, inl, inr}
-use mathlib.Core.List.{List, [], _∷_, _++_, map, List·Memᴰ, List·Memᴰ·head, List·Memᴰ·tail, List·Memᴰ·cases-cons, List·Memᴰ·append-cases, List·Memᴰ·eq-of-singleton, append-nil}
+use mathlib.Core.List.{List, [], _∷_, _++_, map, List·Memᴰ, List·Memᴰ·head, List·Memᴰ·tail, List·Memᴰ·cases-cons, List·Memᴰ·append-cases, List·Memᴰ·eq-of-singleton, append-assoc}
 use Prim.Native.Nat.{ℕ, zero, suc, _+_, _*_, _-_, _≤_, _<_}
 use native.Mathlib.Decide.{ℕ-discrete}
 use native.Mathlib.Numerals.{add-one}
 use native.Mathlib.Omega.{arith}
 use lib.ListN.{length, getD, set, length-set}
 use Rattle.postman.specs.Lists.{sumOf, upFrom, occurrences, delta}
-use Rattle.postman.specs.Plan.{Plan}
+use Rattle.postman.specs.Plan.{Plan, requiredArcs}
 use Rattle.postman.specs.Required.{required, requiredCost}
 use Rattle.postman.specs.Distance.{distance}
 use Rattle.postman.specs.Link.{Link}
 use Rattle.postman.specs.Component.{component, componentCount}
 use Rattle.postman.specs.Arborescence.{candidates}
-use Rattle.postman.specs.Balancing.{linkCost}
-use Rattle.postman.specs.Laws.Balancing.{Joins}
+use Rattle.postman.specs.Balancing.{heads as heads-of, tails as tails-of, linkCost}
+use Rattle.postman.specs.Laws.Balancing.{Joins, within-heads, within-tails}
 use Rattle.postman.specs.Laws.Membership.{map-mem, upFrom-mem, mem-upFrom}
-use Rattle.postman.specs.Laws.Lists.{map-cong, map-map}
+use Rattle.postman.specs.Laws.Lists.{map-cong, map-map, map-append}
 use Rattle.balance.specs.Step.{State, cell, add, addAll, arcsOf}
-use Rattle.balance.specs.Invariant.{Metric, Certified}
+use Rattle.balance.specs.Invariant.{Metric, Certified, Counted}
 use Rattle.balance.specs.Balance.{balance}
-use Rattle.balance.specs.Laws.Plan.{balance-links, balance-certified, balance-room}
+use Rattle.balance.specs.Laws.Arcs.{all-counted}
+use Rattle.balance.specs.Laws.Plan.{balance-counted, balance-room}
 use Rattle.tree_count.specs.Recursion.{merged}
 use Rattle.tree_count.specs.Matrix.{entriesOf, AreFew}
 use Rattle.tree_count.specs.Laws.Arrival.{renamed}
@@ -53,11 +54,6 @@ links-set n t h [] hs lt lh = absurd (omega arith)
 links-set n t h (x ∷ ts) [] lt lh = absurd (omega arith)
 links-set zero t h (x ∷ ts) (y ∷ hs) lt lh = refl
 links-set (suc n) t h (x ∷ ts) (y ∷ hs) lt lh = ap (λ (l : List Link). record { tail = x; head = y } ∷ l) (links-set n t h ts hs (omega arith) (omega arith))
-
-add-last : (d : ℕ → ℕ → ℕ) (vs : List ℕ) (s : State) (t : List Link) (l : Link) → addAll d vs s (t ++ l ∷ []) ≡ add d vs (addAll d vs s t) (l .tail) (l .head)
-unfolding addAll
-add-last d vs s [] l = refl
-add-last d vs s (a ∷ t) l = add-last d vs (add d vs s (a .tail) (a .head)) t l
 
 cost-last : (p : Plan) (t : List Link) (l : Link) → linkCost p (t ++ l ∷ []) ≡ linkCost p t + distance p (l .tail) (l .head)
 unfolding linkCost sumOf
@@ -91,18 +87,18 @@ module _ {p : Plan} {table : List (List ℕ)} {vs start source tails heads : Lis
       let l = chosen-short in
       omega arith
 
-  -- the state is certified, and small
-  certified : Certified (cell table) (required p) (stateIn b)
-  certified = subst⁻¹ (Certified (cell table) (required p)) (is .state) (balance-certified p (h .plannable .well-formed) (h .plannable .connected) (cell table) (agrees h) (chosenIn b) (is .joins) (let l = chosen-short in omega arith))
-
-  pub room : b .count ≤ 356
-  room =
-      let e = ap (λ (s : State). s .count) (is .state) in
+  -- the state is small
+  heads-few : length (heads-of p (chosenIn b)) ≤ 356
+  heads-few =
+      let n = balance-counted p (h .plannable .well-formed) (h .plannable .connected) (cell table) (agrees h) (chosenIn b) (is .joins) (let l = chosen-short in omega arith) .number in
       let r = balance-room p (h .plannable .well-formed) (h .plannable .connected) (cell table) (agrees h) (chosenIn b) (is .joins) (let l = chosen-short in omega arith) in
       omega arith
 
+  pub room : b .count ≤ 356
+  room = let e = is .counted .number in let l = heads-few in omega arith
+
   pub balancing-small : b .balancing ≤ 2939637960000
-  balancing-small = let c = certified .numbers .cheap in let r = room in omega arith
+  balancing-small = let c = is .certified .numbers .cheap in let r = room in omega arith
 
   module _ (more : b .a < k) (l : Link) (m : List·Memᴰ l (candidates p (b .a))) where
     ends : List·Memᴰ (l .tail) (required p) × List·Memᴰ (l .head) (required p)
@@ -127,7 +123,7 @@ module _ {p : Plan} {table : List (List ℕ)} {vs start source tails heads : Lis
       few = (let e = h .count in let f = h .few in omega arith);
       link = record {
         metric = subst⁻¹ (Metric (cell table)) (h .vertices) (metric h);
-        certified = subst⁻¹ (λ (v : List ℕ). Certified (cell table) v (stateIn b)) (h .vertices) certified;
+        certified = subst⁻¹ (λ (v : List ℕ). Certified (cell table) v (stateIn b)) (h .vertices) (is .certified);
         room = (let r = room in omega arith);
         tail-in = subst⁻¹ (λ (v : List ℕ). List·Memᴰ (l .tail) v) (h .vertices) (ends .0);
         head-in = subst⁻¹ (λ (v : List ℕ). List·Memᴰ (l .head) v) (h .vertices) (ends .1);
@@ -165,10 +161,27 @@ module _ {p : Plan} {table : List (List ℕ)} {vs start source tails heads : Lis
         | inr i ↦ subst⁻¹ (λ (y : Link). List·Memᴰ (y .tail) (required p) × List·Memᴰ (y .head) (required p)) (List·Memᴰ·eq-of-singleton i) ends
       ]
 
-      state-more : stateIn r ≡ balance (cell table) p (chosenIn r)
-      state-more =
-          at .state-is ∙ ap₂ (λ (v : List ℕ) (s : State). add (cell table) v s (l .tail) (l .head)) (h .vertices) (is .state ∙ balance-links (cell table) p (chosenIn b))
-          ∙ sym (ap (balance (cell table) p) chosen-more ∙ balance-links (cell table) p (chosenIn b ++ l ∷ []) ∙ add-last (cell table) (required p) (balance (cell table) p []) (chosenIn b) l)
+      one-link : (Certified (cell table) (required p) (stateIn r)) × Counted (required p) (stateIn r) (heads-of p (chosenIn b) ++ l .head ∷ []) (tails-of p (chosenIn b) ++ l .tail ∷ [])
+      unfolding addAll
+      one-link =
+          let e : stateIn r ≡ add (cell table) (required p) (stateIn b) (l .tail) (l .head) = at .state-is ∙ ap (λ (v : List ℕ). add (cell table) v (stateIn b) (l .tail) (l .head)) (h .vertices) in
+          let m = all-counted (cell table) (required p) (metric h) (l ∷ []) (stateIn b) (heads-of p (chosenIn b)) (tails-of p (chosenIn b)) (λ x i. subst⁻¹ (λ (y : Link). List·Memᴰ (y .tail) (required p) × List·Memᴰ (y .head) (required p)) (List·Memᴰ·eq-of-singleton i) ends)
+          (within-heads p (in-plan h) (chosenIn b) (is .joins)) (within-tails p (in-plan h) (chosenIn b) (is .joins)) (is .certified) (is .counted) (let n = heads-few in omega arith) in
+          (subst⁻¹ (Certified (cell table) (required p)) e (m .0), subst⁻¹ (λ (s : State). Counted (required p) s (heads-of p (chosenIn b) ++ l .head ∷ []) (tails-of p (chosenIn b) ++ l .tail ∷ [])) e (m .1))
+
+      heads-more : heads-of p (chosenIn b) ++ l .head ∷ [] ≡ heads-of p (chosenIn r)
+      unfolding heads-of
+      heads-more =
+          append-assoc (map (λ a. a .head) (requiredArcs p)) (map (λ (x : Link). x .head) (chosenIn b)) (l .head ∷ [])
+          ∙ ap (λ (xs : List ℕ). map (λ a. a .head) (requiredArcs p) ++ xs) (sym (map-append (λ (x : Link). x .head) (chosenIn b) (l ∷ [])))
+          ∙ ap (λ (t : List Link). map (λ a. a .head) (requiredArcs p) ++ map (λ (x : Link). x .head) t) (sym chosen-more)
+
+      tails-more : tails-of p (chosenIn b) ++ l .tail ∷ [] ≡ tails-of p (chosenIn r)
+      unfolding tails-of
+      tails-more =
+          append-assoc (map (λ a. a .tail) (requiredArcs p)) (map (λ (x : Link). x .tail) (chosenIn b)) (l .tail ∷ [])
+          ∙ ap (λ (xs : List ℕ). map (λ a. a .tail) (requiredArcs p) ++ xs) (sym (map-append (λ (x : Link). x .tail) (chosenIn b) (l ∷ [])))
+          ∙ ap (λ (t : List Link). map (λ a. a .tail) (requiredArcs p) ++ map (λ (x : Link). x .tail) t) (sym chosen-more)
 
       fixed-more : r .fixed ≡ requiredCost p + linkCost p (chosenIn r)
       fixed-more =
@@ -229,7 +242,8 @@ module _ {p : Plan} {table : List (List ℕ)} {vs start source tails heads : Lis
         tails-size = ap length (at .tails-are) ∙ length-set (b .tails) (b .a - 1) (l .tail) ∙ is .tails-size;
         heads-size = ap length (at .heads-are) ∙ length-set (b .heads) (b .a - 1) (l .head) ∙ is .heads-size;
         joins = subst⁻¹ (Joins p) chosen-more joins-more;
-        state = state-more;
+        certified = one-link .0;
+        counted = subst (λ (hs : List ℕ). Counted (required p) (stateIn r) hs (tails-of p (chosenIn r))) heads-more (subst (Counted (required p) (stateIn r) (heads-of p (chosenIn b) ++ l .head ∷ [])) tails-more (one-link .1));
         fixed = fixed-more;
         potentials = subst⁻¹ (ArePotentials table (required p)) (at .multipliers-are) (is .potentials);
         bounded = bounded-more;

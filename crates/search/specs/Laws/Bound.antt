@@ -146,9 +146,6 @@ module _ {p : Plan} {table : List (List ℕ)} {vs start source tails′ heads′
         let e6 = link-cost-append t in
         omega arith
 
-    pub own-priced : balance (cell table) p chosen .cost + sumOver (tails p chosen) (potential pot) ≡ sumOver (heads p chosen) (potential pot)
-    own-priced = balance-counted p (h .plannable .well-formed) (h .plannable .connected) (cell table) (agrees h) chosen joins (omega arith) .priced
-
   -- ---- by the multipliers
 
   -- shifted multipliers: the same reduced costs

@@ -25,7 +25,7 @@ use Rattle.postman.specs.Laws.Membership.{map-mem, select-mem, upFrom-mem, mem-
 use Rattle.postman.specs.Laws.Lists.{map-cong, map-append, map-map}
 use Rattle.balance.specs.Step.{State, cell, add}
 use Rattle.balance.specs.Balance.{balance}
-use Rattle.balance.specs.Laws.Plan.{balance-least}
+use Rattle.balance.specs.Laws.Plan.{certified-least}
 use Rattle.tree_count.specs.Recursion.{merged, countTrees}
 use Rattle.tree_count.specs.Matrix.{entriesOf, cap}
 use Rattle.tree_count.specs.Laws.Recursion.{entriesIn, count-cong}
@@ -38,12 +38,13 @@ use Rattle.search.specs.Branch.{sourceBy, renamedBy, sourcesBy, leftChoi
 use Rattle.search.specs.Progress.{Held, passOver, tryTree, advance, keep}
 use Rattle.search.specs.Bound.{ArePotentials, Bounds, Low, reducedBy}
 use Rattle.search.specs.Prepared.{Prepared}
-use Rattle.search.specs.Contracts.{heldOf, isEntered, IsShort, chosenIn, namesIn, stateIn, CanReduce, CanGoBelow, IsBranch, IsBelow, AreCounts, IsCandidate, Prices, IsLifted, treesIn, IsExplored}
+use Rattle.search.specs.Contracts.{heldOf, isEntered, IsShort, chosenIn, namesIn, stateIn, CanReduce, CanGoBelow, IsBranch, IsBelow, AreCounts, IsCandidate, Near, AreLevelled, repricedBranch, Prices, IsLifted, treesIn, IsExplored}
 use Rattle.search.specs.Laws.Prepared.{in-plan, some-component, agrees, places, places-fit, here-mem, here-source}
 use Rattle.search.specs.Laws.Branch.{source-lt, completions-step, completions-last, completions-cong, entered-none, entered-some, entered-count}
 use Rattle.search.specs.Laws.Progress.{pass-none, held-same, advance-append, passed-over, Idle}
-use Rattle.search.specs.Laws.Bound.{too-dear, own-potentials, own-priced, priced-bounds}
-use Rattle.search.specs.Laws.Below.{chosen-short, balancing-small, can-reduce, can-go-below, chosen-more, below-branch}
+use Rattle.search.specs.Laws.Bound.{too-dear, priced-bounds}
+use Rattle.search.specs.Laws.Kept.{can-level, kept-branch}
+use Rattle.search.specs.Laws.Below.{chosen-short, room, balancing-small, can-reduce, can-go-below, chosen-more, below-branch}
 
 -- ---- lists
 
@@ -160,8 +161,7 @@ module _ {p : Plan} {table : List (List ℕ)} {vs start source tails heads : Lis
       let links : chosenIn b ≡ linksIn m (b .tails) (b .heads) = ap (λ i. linksIn i (b .tails) (b .heads)) n in
       let cost : b .fixed + b .balancing ≡ f (chosenIn b) =
       (let a = is .fixed in
-      let s = ap (λ (s : State). s .cost) (is .state) in
-      let l = balance-least p (h .plannable .well-formed) (h .plannable .connected) (cell table) (agrees h) (chosenIn b) (is .joins) (let q = chosen-short h b is in omega arith) in
+      let l = certified-least p (h .plannable .well-formed) (h .plannable .connected) (cell table) (agrees h) (chosenIn b) (is .joins) (let q = chosen-short h b is in omega arith) (stateIn b) (is .certified) (is .counted) in
       omega arith)
       in
       c m ∙ ap (tryTree (λ t. b .fixed + b .balancing) (heldOf m g)) (sym links)
@@ -301,19 +301,17 @@ module _ {p : Plan} {table : List (List ℕ)} {vs start source tails heads : Lis
   -- ---- the potentials that price it
 
   own-feasible : ArePotentials table (required p) (b .potentials)
-  own-feasible = subst⁻¹ (λ (s : State). ArePotentials table (required p) (s .potentials)) (is .state) (own-potentials h (chosenIn b) (is .joins) (chosen-short h b is))
+  own-feasible = record { feasible = λ i j mi mj. is .certified .feasible i j mi mj; low = λ v. (let a = is .certified .numbers .low v in let r = room h b is in omega arith) }
 
   -- its own
   pub own-prices : (r : Pricing) → r .potentials ≡ b .potentials → r .value ≡ b .balancing → Prices p table b r
   own-prices r e f =
-      let s = ap (λ (s : State). s .potentials) (is .state) in
-      let c = ap (λ (s : State). s .cost) (is .state) in
-      let o = own-priced h (chosenIn b) (is .joins) (chosen-short h b is) in
+      let o = is .counted .priced in
       let m = is .most in
       let few = h .few in
       record {
         potentials = subst⁻¹ (ArePotentials table (required p)) e own-feasible;
-        priced = subst⁻¹ (λ (w : List ℕ). r .value + sumOver (tails-of p (chosenIn b)) (λ v. getD w v 0) ≤ sumOver (heads-of p (chosenIn b)) (λ v. getD w v 0)) (e ∙ s) (omega arith);
+        priced = subst⁻¹ (λ (w : List ℕ). r .value + sumOver (tails-of p (chosenIn b)) (λ v. getD w v 0) ≤ sumOver (heads-of p (chosenIn b)) (λ v. getD w v 0)) e (omega arith);
         small = (let g = balancing-small h b is in omega arith);
       }
 
@@ -431,6 +429,13 @@ module _ {p : Plan} {table : List (List ℕ)} {vs start source tails heads : Lis
 
         pub next-prices : (old new r : Pricing) → Prices p table b old → Prices p table n new → IsLifted old new (c .tail) (c .head) r → Prices p table b r
         next-prices old new r qo qn i = lifted-prices more there mem apart n below-there old new r qo qn (subst (λ t. IsLifted old new t (there .head) r) tail-is (subst (λ z. IsLifted old new (c .tail) z r) head-is i))
+
+        -- it goes on with the potentials of the branch below
+        pub next-level : ((i : ℕ) → i < length vs → (getD vs i 0 < 64) × Near (getD (n .potentials) (getD vs i 0) 0) (getD (n .potentials) (getD vs 0 0) 0)) × (1 ≤ length vs)
+        next-level = can-level h b is there mem (sourceBy p (namesIn b) there) n below-there
+
+        pub next-kept : (w : List ℕ) → AreLevelled (n .potentials) vs (length vs) w → IsBranch p table (repricedBranch b w)
+        next-kept = kept-branch h b is there mem (sourceBy p (namesIn b) there) n below-there
 
         pub next-explored : (g s : Progress) → IsExplored p (branches (take i (candidates p (b .a)))) g r → IsExplored p (treesIn p n) r s → IsExplored p (branches (take (i + 1) (candidates p (b .a)))) g s
         next-explored g s before e = one-more more i less g r s before (gone-into more there mem apart n below-there r s e)

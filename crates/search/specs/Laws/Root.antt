@@ -15,7 +15,7 @@ use Rattle.postman.specs.Required.{required, requiredCost}
 use Rattle.postman.specs.Link.{Link}
 use Rattle.postman.specs.Component.{component, componentCount}
 use Rattle.postman.specs.Arborescence.{candidates}
-use Rattle.postman.specs.Balancing.{linkCost}
+use Rattle.postman.specs.Balancing.{heads as heads-of, tails as tails-of, linkCost}
 use Rattle.postman.specs.LagrangianBound.{AreMultipliers, reducedCost}
 use Rattle.postman.specs.Laws.Balancing.{Joins}
 use Rattle.postman.specs.Laws.Existence.{some-required}
@@ -23,8 +23,9 @@ use Rattle.postman.specs.Laws.Required.{number-ends}
 use Rattle.postman.specs.Laws.Membership.{getD-mem, mem-getD, mem-upFrom, upFrom-mem}
 use Rattle.postman.specs.Laws.Lists.{map-cong}
 use Rattle.balance.specs.Step.{State, cell, arcsOf}
+use Rattle.balance.specs.Invariant.{Certified, Counted}
 use Rattle.balance.specs.Balance.{balance}
-use Rattle.balance.specs.Laws.Plan.{balance-certified, balance-room}
+use Rattle.balance.specs.Laws.Plan.{balance-certified, balance-counted, balance-room}
 use Rattle.tree_count.specs.Matrix.{entriesOf, AreFew}
 use Rattle.search.specs.declared.branch.Branch.{Branch}
 use Rattle.search.specs.Links.{linksIn}
@@ -78,7 +79,7 @@ module _ {p : Plan} {table : List (List ℕ)} {vs start source tails heads : Lis
       }
 
   -- there is a required vertex
-  some-vertex : 0 < length (required p)
+  pub some-vertex : 0 < length (required p)
   some-vertex =
       let r = some-required p (h .plannable .some-arc) in
       let x = mem-getD 0 (number-ends p (in-plan h) (r .1) .0) in
@@ -182,7 +183,8 @@ module _ {p : Plan} {table : List (List ℕ)} {vs start source tails heads : Lis
             tails-size = f .tails-size;
             heads-size = f .heads-size;
             joins = subst⁻¹ (Joins p) no-links nothing;
-            state = f .state-is ∙ g .base-is ∙ ap (balance (cell table) p) (sym no-links);
+            certified = subst⁻¹ (Certified (cell table) (required p)) (f .state-is ∙ g .base-is) (balance-certified p (h .plannable .well-formed) (h .plannable .connected) (cell table) (agrees h) [] nothing (omega arith));
+            counted = subst⁻¹ (λ (t : List Link). Counted (required p) (stateIn b) (heads-of p t) (tails-of p t)) no-links (subst⁻¹ (λ (s : State). Counted (required p) s (heads-of p []) (tails-of p [])) (f .state-is ∙ g .base-is) (balance-counted p (h .plannable .well-formed) (h .plannable .connected) (cell table) (agrees h) [] nothing (omega arith)));
             fixed = f .fixed-is ∙ g .required-cost ∙ (let e : requiredCost p ≡ requiredCost p + 0 = omega arith in e) ∙ ap (λ (t : List Link). requiredCost p + linkCost p t) (sym no-links);
             potentials = subst⁻¹ (ArePotentials table (required p)) (f .multipliers-are) root-potentials;
             bounded = subst⁻¹ (λ (v : List ℕ). Bounds p table v (b .bound) (chosenIn b) (b .a)) (f .multipliers-are)
