@@ -299,6 +299,34 @@ module _ (p : Plan) (ok : WellFormed p) (connected : T (not (isCutOff p))) where
           simp zl (omega (arith, simp zl at a));
     }
 
+    -- AND MULTIPLIERS ARE FEASIBLE, AND TIGHT FOR THE AMOUNTS: nothing that is sent has a reduced cost, since they price the imbalance at what the amounts cost
+    module _ (v : Multipliers) (are : AreMultipliers p v) (q : ℕ → ℕ) (c : ℕ) (here : (i : ℕ) → List·Memᴰ i (required p) → v i +ℤ pos c ≡ pos (q i)) where
+      abbrev f₀ : ℕ → ℕ → ℕ
+      f₀ = amount (balance d p [] .amounts)
+
+      q-feasible : Feasible (distance p) (required p) q
+      unfolding reducedCost
+      q-feasible i j mi mj =
+          let a = are .feasible i j mi mj in
+          let b = here i mi in
+          let e = here j mj in
+          omega (arith, simp zl at a, simp zl at b, simp zl at e)
+
+      q-tight : Tight (distance p) (required p) f₀ q
+      q-tight =
+          let balanced = balance-counted [] none (omega arith) .balanced in
+          let a = cost-price (distance p) f₀ (required p) q (heads p []) (tails p []) (within-heads p ends [] none) (within-tails p ends [] none) balanced q-feasible in
+          let b = amounts-least [] none (omega arith) in
+          let g = price-from v q c here in
+          let e = are .tight in
+          slack-tight (distance p) f₀ (required p) q (heads p []) (tails p []) (within-heads p ends [] none) (within-tails p ends [] none) balanced q-feasible (omega (arith, z, simp zl at g))
+
+      pub multipliers-heights : Feasible d (required p) q × Tight d (required p) f₀ q
+      multipliers-heights = (
+        (λ i j mi mj. (let h = q-feasible i j mi mj in let e = agrees i j mi mj in omega arith)),
+        (λ i j mi mj o. (let h = q-tight i j mi mj o in let e = agrees i j mi mj in omega arith)),
+      )
+
     module _ (root : ℕ) (mr : List·Memᴰ root (required p)) where
       abbrev s : State
       s = balance d p []
@@ -339,30 +367,13 @@ module _ (p : Plan) (ok : WellFormed p) (connected : T (not (isCutOff p))) where
             let e = zero-there in
             sym (pos-abs (simp zl (omega (arith, z, simp zl at a))))
 
-        q-feasible : Feasible (distance p) (required p) q
-        unfolding reducedCost
-        q-feasible i j mi mj =
-            let a = others .feasible i j mi mj in
-            let b = q-here i mi in
-            let e = q-here j mj in
-            omega (arith, simp zl at a, simp zl at b, simp zl at e)
-
-        q-tight : Tight (distance p) (required p) (amount (s .amounts)) q
-        q-tight =
-            let f = amount (s .amounts) in
-            let a = cost-price (distance p) (amount (s .amounts)) (required p) q (heads p []) (tails p []) (within-heads p ends [] none) (within-tails p ends [] none)
-            (balance-counted [] none (omega arith) .balanced) q-feasible in
-            let b = amounts-least [] none (omega arith) in
-            let c = price-from v q 4128705 q-here in
-            let e = others .tight in
-            slack-tight (distance p) (amount (s .amounts)) (required p) q (heads p []) (tails p []) (within-heads p ends [] none) (within-tails p ends [] none)
-            (balance-counted [] none (omega arith) .balanced) q-feasible (omega (arith, z, simp zl at c))
+        q-both : Feasible d (required p) q × Tight d (required p) (amount (s .amounts)) q
+        q-both = multipliers-heights v others q 4128705 q-here
 
         no-greater : (i : ℕ) → v i ≤ℤ U i
         no-greater i = elim (mem? i (required p)) [
           | inl m ↦
-              let a = below-greatest d (required p) table-metric s certified room root mr q (λ i j mi mj. (let h = q-feasible i j mi mj in let e = agrees i j mi mj in omega arith))
-              (λ i j mi mj h. (let g = q-tight i j mi mj h in let e = agrees i j mi mj in omega arith)) i m in
+              let a = below-greatest d (required p) table-metric s certified room root mr q (q-both .0) (q-both .1) i m in
               let b = q-here i m in
               let c = q-here root mr in
               let e = U-here i m in
