@@ -1,7 +1,5 @@
--- The branch goes on with the potentials that a branch below was left with by its own link: they certify the amounts before that link too (`add-tight`), and a constant taken off all of them changes
--- neither.
-use mathlib.Core.Path.{_≡_, refl, sym, ap, ap₂, _∙_, subst, subst⁻¹}
-use mathlib.Core.Logic.{_≢_}
+-- The branch goes on with the potentials that a link has raised: they certify the amounts without it too (`add-tight`), and a constant taken off all of them changes neither.
+use mathlib.Core.Path.{_≡_, ap, _∙_, subst, subst⁻¹}
 use mathlib.Core.List.{List, map, List·Memᴰ}
 use Prim.Native.Nat.{ℕ, _+_, _≤_, _<_}
 use native.Mathlib.Decide.{ℕ-discrete}
@@ -17,13 +15,12 @@ use Rattle.postman.specs.Laws.Balancing.{within-heads, within-tails}
 use Rattle.postman.specs.Laws.Membership.{getD-mem, mem-getD}
 use Rattle.balance.specs.Optimality.{Feasible, Tight}
 use Rattle.balance.specs.Step.{State, cell, amount, potential, add}
-use Rattle.balance.specs.Invariant.{Certified, Counted}
+use Rattle.balance.specs.Invariant.{Certified}
 use Rattle.balance.specs.Laws.Step.{add-certified, add-tight}
 use Rattle.balance.specs.Laws.Repriced.{repriced-certified, repriced-counted}
 use Rattle.search.specs.declared.branch.Branch.{Branch}
-use Rattle.search.specs.Branch.{sourceBy}
 use Rattle.search.specs.Prepared.{Prepared}
-use Rattle.search.specs.Contracts.{chosenIn, namesIn, stateIn, IsBranch, IsBelow, Near, AreLevelled, repricedBranch}
+use Rattle.search.specs.Contracts.{chosenIn, stateIn, IsBranch, Near, CanLevel, AreLevelled, repricedBranch}
 use Rattle.search.specs.Laws.Prepared.{candidate-ends, in-plan, metric}
 use Rattle.search.specs.Laws.Root.{some-vertex}
 use Rattle.search.specs.Laws.Below.{room}
@@ -56,25 +53,28 @@ module _ (u vs : List ℕ) where
 
 -- ---- the branch
 
-module _ {p : Plan} {table : List (List ℕ)} {vs start source tails heads : List ℕ} {k : ℕ} (h : Prepared p table vs start source tails heads k) (b : Branch) (is : IsBranch p table b)
-    (l : Link) (m : List·Memᴰ l (candidates p (b .a))) (x : ℕ) (n : Branch) (at : IsBelow table vs b (l .tail) (l .head) x k n) where
+module _ {p : Plan} {table : List (List ℕ)} {vs start source tails heads : List ℕ} {k : ℕ} (h : Prepared p table vs start source tails heads k) {f : List ℕ} (b : Branch) (is : IsBranch p table f b)
+    (l : Link) (m : List·Memᴰ l (candidates p (b .a))) where
+  abbrev n : State
+  n = add (cell table) vs (stateIn f b) (l .tail) (l .head)
+
   abbrev u : List ℕ
   u = n .potentials
 
   ends : List·Memᴰ (l .tail) (required p) × List·Memᴰ (l .head) (required p)
   ends = candidate-ends p (b .a) l m
 
-  state-is : stateIn n ≡ add (cell table) (required p) (stateIn b) (l .tail) (l .head)
-  state-is = at .state-is ∙ ap (λ (v : List ℕ). add (cell table) v (stateIn b) (l .tail) (l .head)) (h .vertices)
+  state-is : n ≡ add (cell table) (required p) (stateIn f b) (l .tail) (l .head)
+  state-is = ap (λ (v : List ℕ). add (cell table) v (stateIn f b) (l .tail) (l .head)) (h .vertices)
 
   small : b .count < 1000
   small = let r = room h b is in omega arith
 
-  after : Certified (cell table) (required p) (stateIn n)
-  after = subst⁻¹ (Certified (cell table) (required p)) state-is (add-certified (cell table) (required p) (metric h) (stateIn b) (is .certified) small (l .tail) (l .head) (ends .0) (ends .1))
+  after : Certified (cell table) (required p) n
+  after = subst⁻¹ (Certified (cell table) (required p)) state-is (add-certified (cell table) (required p) (metric h) (stateIn f b) (is .certified) small (l .tail) (l .head) (ends .0) (ends .1))
 
-  tight : Tight (cell table) (required p) (amount (b .amounts)) (potential u)
-  tight = subst⁻¹ (λ (s : State). Tight (cell table) (required p) (amount (b .amounts)) (potential (s .potentials))) state-is (add-tight (cell table) (required p) (metric h) (stateIn b) (is .certified) small (l .tail) (l .head) (ends .0) (ends .1))
+  tight : Tight (cell table) (required p) (amount f) (potential u)
+  tight = subst⁻¹ (λ (s : State). Tight (cell table) (required p) (amount f) (potential (s .potentials))) state-is (add-tight (cell table) (required p) (metric h) (stateIn f b) (is .certified) small (l .tail) (l .head) (ends .0) (ends .1))
 
   counts : n .count ≡ b .count + 1
   unfolding add
@@ -92,10 +92,13 @@ module _ {p : Plan} {table : List (List ℕ)} {vs start source tails heads : Lis
       let q = room h b is in
       record { above = omega arith; below = omega arith; low = omega arith }
 
+  pub cost-small : n .cost ≤ 3000000000000
+  cost-small = let a = after .numbers .cheap in let c = counts in let r = room h b is in omega arith
+
   first-in : List·Memᴰ (getD vs 0 0) (required p)
   first-in = subst⁻¹ (λ (v : List ℕ). List·Memᴰ (getD v 0 0) (required p)) (h .vertices) (getD-mem (required p) 0 0 (some-vertex h))
 
-  pub can-level : ((i : ℕ) → i < length vs → (getD vs i 0 < 64) × Near (getD u (getD vs i 0) 0) (getD u (getD vs 0 0) 0)) × (1 ≤ length vs)
+  pub can-level : CanLevel u vs
   can-level = (
     (λ i c. let g = subst (λ (v : List ℕ). List·Memᴰ (getD vs i 0) v) (h .vertices) (getD-mem vs 0 i c) in (metric h .small _ g, near _ _ g first-in)),
     subst⁻¹ (λ (v : List ℕ). 1 ≤ length v) (h .vertices) (let s = some-vertex h in omega arith),
@@ -110,7 +113,7 @@ module _ {p : Plan} {table : List (List ℕ)} {vs start source tails heads : Lis
     feasible′ : Feasible (cell table) (required p) (potential w)
     feasible′ i j mi mj = let a = level-at i mi in let c = level-at j mj in let e = after .feasible i j mi mj in omega arith
 
-    tight′ : Tight (cell table) (required p) (amount (b .amounts)) (potential w)
+    tight′ : Tight (cell table) (required p) (amount f) (potential w)
     tight′ i j mi mj q = let a = level-at i mi in let c = level-at j mj in let e = tight i j mi mj q in omega arith
 
     -- some arc is counted
@@ -124,22 +127,18 @@ module _ {p : Plan} {table : List (List ℕ)} {vs start source tails heads : Lis
         omega arith
 
     -- IT IS A BRANCH
-    pub kept-branch : IsBranch p table (repricedBranch b w)
+    pub kept-branch : IsBranch p table f (repricedBranch b w)
     kept-branch = record {
       one = is .one;
       most = is .most;
       tails-size = is .tails-size;
       heads-size = is .heads-size;
       joins = is .joins;
-      certified = repriced-certified (cell table) (required p) (stateIn b) w feasible′ tight′ (is .certified) (v .size) some-arc (v .low);
-      counted = repriced-counted (cell table) (required p) (stateIn b) w feasible′ tight′ (heads-of p (chosenIn b)) (tails-of p (chosenIn b)) (within-heads p (in-plan h) (chosenIn b) (is .joins)) (within-tails p (in-plan h) (chosenIn b) (is .joins)) (is .certified) (is .counted);
+      certified = repriced-certified (cell table) (required p) (stateIn f b) w feasible′ tight′ (is .certified) (v .size) some-arc (v .low);
+      counted = repriced-counted (cell table) (required p) (stateIn f b) w feasible′ tight′ (heads-of p (chosenIn b)) (tails-of p (chosenIn b)) (within-heads p (in-plan h) (chosenIn b) (is .joins)) (within-tails p (in-plan h) (chosenIn b) (is .joins)) (is .certified) (is .counted);
       fixed = is .fixed;
-      potentials = is .potentials;
-      bounded = is .bounded;
-      bound-small = is .bound-small;
-      rests = is .rests;
-      rests-small = is .rests-small;
       named = is .named;
       entries = is .entries;
       few = is .few;
+      counts = is .counts;
     }
