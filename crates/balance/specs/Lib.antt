@@ -4,6 +4,7 @@ pub mod Optimality
 pub mod Bounds
 pub mod Fold
 pub mod Search
+pub mod Until
 pub mod Step
 pub mod Multipliers
 pub mod Balance

@@ -1,10 +1,12 @@
 -- One arc more, from t to h: one unit more is sent from h to t, along a cheapest residual path.
+use mathlib.Core.Path.{_≡_}
 use mathlib.Core.Bool.{false, cond}
 use mathlib.Core.List.{List, [], _∷_}
 use Prim.Native.Nat.{ℕ, zero, suc, _+_, _*_, _-_, min}
 use lib.ListN.{getD, set, replicate}
 use lib.Dec.{eqb, ltb}
 use Rattle.postman.specs.Link.{Link}
+use Rattle.balance.specs.Bounds.{AtMost}
 use Rattle.balance.specs.Fold.{fold}
 use Rattle.balance.specs.Search.{Found, search}
 
@@ -81,6 +83,13 @@ module _ (d : ℕ → ℕ → ℕ) (vs : List ℕ) where
         cost = s .cost + potential u h - potential u t;
         count = s .count + 1;
       }
+
+  -- What adding an arc comes to: the next vertices on a way for its unit, the potentials and the cost.
+  pub record IsAdded (s : State) (t h : ℕ) (next potentials : List ℕ) (cost : ℕ) : Type 0 where
+    pub next-low : AtMost 63 next
+    pub amounts-are : augment next t 64 (s .amounts) h ≡ add s t h .amounts
+    pub potentials-are : potentials ≡ add s t h .potentials
+    pub cost-is : cost ≡ add s t h .cost
 
   -- Arcs added one by one, in their order.
   unfoldable pub addAll : State → List Link → State

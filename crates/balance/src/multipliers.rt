@@ -36,7 +36,7 @@ pub fn multipliers(s: Balance, d: &[[u32; 64]; 64], vs: &[u8], root: u8) -> [i64
     requires { ⌜ Metric (cell (now d)) (now vs) × Certified (cell (now d)) (now vs) (stateOf s) × (s .count < limit) × List·Memᴰ root (now vs) ⌝ }
     ensures { λ r. ⌜ r ≡ greatest (cell (now (d .entry))) (now (vs .entry)) (stateOf s) root ⌝ }
 {
-    let found = search_towards(d, &s.amounts, &s.potentials, vs, root, root, true);
+    let found = search_towards(d, &s.amounts, &s.potentials, vs, root, root, vs.len());
     let x = found.distance;
     let u = s.potentials;
     let r = wide(root);

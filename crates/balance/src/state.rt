@@ -3,12 +3,13 @@ use crate::augment::augment_along;
 use crate::augment::raise_by;
 use crate::entries::monus;
 use crate::search::search_towards;
+use crate::search::settled_by;
 use integers::wide;
 ghost use mathlib.Core.Path.{_≡_};
 ghost use mathlib.Core.List.{List·Memᴰ};
 ghost use Prim.Native.Nat.{_+_, _<_, _≤_};
 ghost use lib.ListN.{length};
-ghost use Rattle.balance.specs.Step.{cell, stateIn, empty as emptyState, add as addState, addAll as addAllStates, arcsOf};
+ghost use Rattle.balance.specs.Step.{cell, stateIn, empty as emptyState, add as addState, addAll as addAllStates, arcsOf, IsAdded};
 ghost use Rattle.balance.specs.Invariant.{Metric, Certified, AllIn, limit};
 ghost use Rattle.balance.specs.Records.{stateOf};
 
@@ -32,14 +33,46 @@ pub fn empty() -> Balance
     }
 }
 
-// The potentials and the cost after an arc.
-struct Added {
-    potentials: [u64; 64],
-    cost: u64,
+// What one arc more comes to: the next vertices on the way of its unit, the potentials raised, and the cost.
+pub struct Added {
+    pub next: [u8; 64],
+    pub potentials: [u64; 64],
+    pub cost: u64,
 }
 
-// One arc more: one unit more is sent from its head to its tail, along a cheapest residual path. The amounts are changed in place.
-fn add_in(
+// One arc more, but for the amounts: the cheapest residual path for one unit more from its head to its tail, and what it does to the potentials and the cost.
+pub fn price<'a>(
+    f: &'a [u16; 4096],
+    u: &'a [u64; 64],
+    cost: u64,
+    count: u16,
+    d: &[[u32; 64]; 64],
+    vs: &[u8],
+    tail: u8,
+    head: u8,
+) -> Added
+    requires { ⌜ Metric (cell (now d)) (now vs) × Certified (cell (now d)) (now vs) (stateIn (now f) (now u) cost count) × (count < limit) × List·Memᴰ tail (now vs) × List·Memᴰ head (now vs) ⌝ }
+    ensures { λ r. ⌜ IsAdded (cell (now (d .entry))) (now (vs .entry)) (stateIn (now (f .entry)) (now (u .entry)) cost count) tail head (r .next) (r .potentials) (r .cost) ⌝ }
+{
+    let last = settled_by(tail, head, vs.len());
+    let found = search_towards(d, f, u, vs, tail, head, last);
+    let x = found.distance;
+    let next = found.next;
+    let h = wide(head);
+    let t = wide(tail);
+    let most = x[h];
+    let raised = raise_by(&x, most, u, vs);
+    let sum = cost + raised[h];
+    let after = monus(sum, raised[t]);
+    Added {
+        next: next,
+        potentials: raised,
+        cost: after,
+    }
+}
+
+// One arc more: one unit more is sent from its head to its tail. The amounts are changed in place.
+pub fn add_in(
     f: &mut [u16; 4096],
     u: &[u64; 64],
     cost: u64,
@@ -52,37 +85,10 @@ fn add_in(
     requires { ⌜ Metric (cell (now d)) (now vs) × Certified (cell (now d)) (now vs) (stateIn (now f) (now u) cost count) × (count < limit) × List·Memᴰ tail (now vs) × List·Memᴰ head (now vs) ⌝ }
     ensures { λ r. ⌜ stateIn (now (f .exit)) (r .potentials) (r .cost) (count + 1) ≡ addState (cell (now (d .entry))) (now (vs .entry)) (stateIn (now (f .entry)) (now (u .entry)) cost count) tail head ⌝ }
 {
-    let found = search_towards(d, f, u, vs, tail, head, false);
-    let x = found.distance;
-    let h = wide(head);
-    let t = wide(tail);
-    let most = x[h];
-    let raised = raise_by(&x, most, u, vs);
-    let next = found.next;
+    let added = price(f, u, cost, count, d, vs, tail, head);
+    let next = added.next;
     augment_along(f, &next, head, tail);
-    let sum = cost + raised[h];
-    let after = monus(sum, raised[t]);
-    Added {
-        potentials: raised,
-        cost: after,
-    }
-}
-
-// The same, of a state.
-pub fn add(s: Balance, d: &[[u32; 64]; 64], vs: &[u8], tail: u8, head: u8) -> Balance
-    requires { ⌜ Metric (cell (now d)) (now vs) × Certified (cell (now d)) (now vs) (stateOf s) × (s .count < limit) × List·Memᴰ tail (now vs) × List·Memᴰ head (now vs) ⌝ }
-    ensures { λ r. ⌜ stateOf r ≡ addState (cell (now (d .entry))) (now (vs .entry)) (stateOf s) tail head ⌝ }
-{
-    let mut f = s.amounts;
-    let u = s.potentials;
-    let more = add_in(&mut f, &u, s.cost, s.count, d, vs, tail, head);
-    let raised = more.potentials;
-    Balance {
-        amounts: f,
-        potentials: raised,
-        cost: more.cost,
-        count: s.count + 1,
-    }
+    added
 }
 
 // Arcs added one by one, in their order.

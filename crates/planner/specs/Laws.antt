@@ -8,6 +8,7 @@ pub mod Root
 pub mod Ascent
 pub mod Climb
 pub mod Answer
+pub mod Resumed
 pub mod Idle
 pub mod Refused
 pub mod Call

@@ -5,6 +5,8 @@ pub mod Priced
 pub mod Ascent
 pub mod Climbs
 pub mod Contract
+pub mod Begun
+pub mod Resumed
 pub mod RaisedBudget
 pub mod SameAnswer
 -- What is proved about them.

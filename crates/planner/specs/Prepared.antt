@@ -34,9 +34,11 @@ pub record IsBase (p : Plan) (table : List (List ℕ)) (vs : List ℕ) (base : S
   pub known : IsKnown p table vs
   pub base-is : base ≡ balance (cell (tableOf p)) p []
 
--- With its network in arrays, and R.
-pub record IsPrepared (p : Plan) (table : List (List ℕ)) (vs : List ℕ) (base : State) (component : List ℕ) (flags : List Bool) (k r : ℕ) : Type 0 where
-  pub state : IsBase p table vs base
+-- With the amounts and the cost of that state, its network in arrays, and R.
+pub record IsPrepared (p : Plan) (table : List (List ℕ)) (amounts vs component : List ℕ) (flags : List Bool) (k r price : ℕ) : Type 0 where
+  pub known : IsKnown p table vs
+  pub amounts-are : amounts ≡ balance (cell (tableOf p)) p [] .amounts
+  pub price-is : price ≡ balance (cell (tableOf p)) p [] .cost
   pub long : length flags ≡ 64
   pub required-flags : IsRequiredFlags p flags
   pub components : IsComponents p component k

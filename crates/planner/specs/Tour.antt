@@ -22,7 +22,10 @@ unfoldable pub amountsOf : Plan → List Link → List ℕ
 unfolding direct balance tableOf
 amountsOf p t = direct (required p) (balance (cell (tableOf p)) p t .amounts)
 
--- The drive of the first tree of least cost.
+-- The drive of a tree; and of the first tree of least cost.
+abbrev pub driveOf : Plan → List Link → List ℕ
+driveOf p t = tour p t (amountsOf p t)
+
 unfoldable pub tourOf : Plan → ℕ → List ℕ
 unfolding bestArborescence amountsOf tour
-tourOf p budget = tour p (bestArborescence p budget) (amountsOf p (bestArborescence p budget))
+tourOf p budget = driveOf p (bestArborescence p budget)

@@ -1,4 +1,5 @@
 // The multipliers that are answered: steps from the greatest ones on, of which the first with the largest bound is kept.
+// What is read at each step is lent: f are the amounts of the state of the required arcs, and price their cost; cost is R.
 use crate::bound::lagrangian;
 use balance::entries::lesser;
 use balance::state::Balance;
@@ -9,16 +10,17 @@ ghost use mathlib.Core.Bool.{cond};
 ghost use Prim.Native.Nat.{_≤_, max};
 ghost use lib.Dec.{ltb};
 ghost use lib.Signed.{ltZ};
+ghost use Rattle.postman.specs.Plan.{Plan as «a-plan»};
+ghost use Rattle.postman.specs.PlanCall.{root};
 ghost use Rattle.plan.specs.Records.{planValue};
 ghost use Rattle.balance.specs.Search.{beyond};
 ghost use Rattle.balance.specs.Step.{cell};
 ghost use Rattle.balance.specs.Multipliers.{multipliers};
 ghost use Rattle.balance.specs.Records.{stateOf};
-ghost use Rattle.postman.specs.PlanCall.{root};
 ghost use Rattle.network.specs.Contracts.{IsNetwork};
 ghost use Rattle.planner.specs.Prepared.{IsBase, IsPrepared};
-ghost use Rattle.planner.specs.Ascent.{attempt as attemptOf, climb as climbOnce, begin, ascent as ascentOf, multipliersFor};
-ghost use Rattle.planner.specs.Climbs.{climbOf};
+ghost use Rattle.planner.specs.Ascent.{attempt as attemptOf, climb as climbOnce, begin, ascent as ascentOf, greatestOf, multipliersFor};
+ghost use Rattle.planner.specs.Climbs.{climbOf, holding};
 
 // Where an ascent stands.
 pub struct Stage {
@@ -31,6 +33,12 @@ pub struct Stage {
     pub done: bool,
 }
 
+// The best multipliers met, and their bound.
+pub struct Best {
+    pub multipliers: [i64; 64],
+    pub bound: i64,
+}
+
 // Whether a bound is larger.
 fn exceeds(a: i64, b: i64) -> bool
     ensures { λ r. ⌜ r ≡ ltZ b a ⌝ }
@@ -40,79 +48,62 @@ fn exceeds(a: i64, b: i64) -> bool
 
 // The multipliers of the heights are the best so far, where they are lawful and their bound is larger.
 fn attempt(
-    plan: Plan,
     table: &[[u32; 64]; 64],
+    f: &[u16; 4096],
     vs: &[u8],
     component: &[u8; 64],
-    required: &[bool; 64],
+    flags: &[bool; 64],
     k: usize,
-    required_cost: u64,
-    base: Balance,
+    cost: u64,
+    price: u64,
     c: Stage,
-) -> Stage
-    requires { ⌜ IsPrepared (planValue plan) (now table) (now vs) (stateOf base) (now component) (now required) k «required_cost» ⌝ }
-    ensures { λ r. ⌜ climbOf r ≡ attemptOf (planValue plan) (now (table .entry)) (base .amounts) (now (vs .entry)) (now (component .entry)) k (climbOf c) ⌝ }
+) -> Best
+    requires { ⌜ ((p : «a-plan») × IsPrepared p (now table) (now f) (now vs) (now component) (now flags) k cost price) ⌝ }
+    ensures { λ r. ⌜ ((p : «a-plan») → IsPrepared p (now (table .entry)) (now (f .entry)) (now (vs .entry)) (now (component .entry)) (now (flags .entry)) k cost price → holding c r ≡ attemptOf p (now (table .entry)) (now (f .entry)) (now (vs .entry)) (now (component .entry)) k (climbOf c)) ⌝ }
 {
     let x = c.heights;
-    let f = base.amounts;
-    if ascent::lawful::are_lawful(table, &f, vs, &x) {
+    let best = c.best;
+    let held = Best {
+        multipliers: best,
+        bound: c.bound,
+    };
+    if ascent::lawful::are_lawful(table, f, vs, &x) {
         let u = ascent::heights::multipliers_at(&x, vs);
-        let l = lagrangian(
-            plan,
-            table,
-            &u,
-            component,
-            required,
-            k,
-            required_cost,
-            base.cost,
-        );
+        let l = lagrangian(table, &u, component, flags, k, cost, price);
         if exceeds(l, c.bound) {
-            let before = c.before;
-            return Stage {
-                heights: x,
-                before: before,
-                best: u,
+            return Best {
+                multipliers: u,
                 bound: l,
-                value: c.value,
-                stride: c.stride,
-                done: c.done,
             };
         }
     }
-    c
+    held
 }
 
 // The same, where a tree costs more than any met before.
 fn attempt_above(
-    plan: Plan,
     table: &[[u32; 64]; 64],
+    f: &[u16; 4096],
     vs: &[u8],
     component: &[u8; 64],
-    required: &[bool; 64],
+    flags: &[bool; 64],
     k: usize,
-    required_cost: u64,
-    base: Balance,
+    cost: u64,
+    price: u64,
     c: Stage,
     value: u64,
-) -> Stage
-    requires { ⌜ IsPrepared (planValue plan) (now table) (now vs) (stateOf base) (now component) (now required) k «required_cost» ⌝ }
-    ensures { λ r. ⌜ climbOf r ≡ cond (ltb (c .value) value) (attemptOf (planValue plan) (now (table .entry)) (base .amounts) (now (vs .entry)) (now (component .entry)) k (climbOf c)) (climbOf c) ⌝ }
+) -> Best
+    requires { ⌜ ((p : «a-plan») × IsPrepared p (now table) (now f) (now vs) (now component) (now flags) k cost price) ⌝ }
+    ensures { λ r. ⌜ ((p : «a-plan») → IsPrepared p (now (table .entry)) (now (f .entry)) (now (vs .entry)) (now (component .entry)) (now (flags .entry)) k cost price → holding c r ≡ cond (ltb (c .value) value) (attemptOf p (now (table .entry)) (now (f .entry)) (now (vs .entry)) (now (component .entry)) k (climbOf c)) (climbOf c)) ⌝ }
 {
     if c.value < value {
-        return attempt(
-            plan,
-            table,
-            vs,
-            component,
-            required,
-            k,
-            required_cost,
-            base,
-            c,
-        );
+        return attempt(table, f, vs, component, flags, k, cost, price, c);
     }
-    c
+    let best = c.best;
+    Best {
+        multipliers: best,
+        bound: c.bound,
+    }
 }
 
 // The larger of two.
@@ -124,42 +115,30 @@ fn more(a: u64, b: u64) -> u64
 
 // Step i, unless a tree was balanced.
 fn climb(
-    plan: Plan,
     table: &[[u32; 64]; 64],
+    f: &[u16; 4096],
     vs: &[u8],
     component: &[u8; 64],
-    required: &[bool; 64],
+    flags: &[bool; 64],
     k: usize,
-    required_cost: u64,
-    base: Balance,
+    cost: u64,
+    price: u64,
     c: Stage,
     i: usize,
 ) -> Stage
-    requires { ⌜ IsPrepared (planValue plan) (now table) (now vs) (stateOf base) (now component) (now required) k «required_cost» × (c .stride ≤ beyond) ⌝ }
-    ensures { λ r. ⌜ (climbOf r ≡ climbOnce (planValue plan) (now (table .entry)) (base .amounts) (now (vs .entry)) (now (component .entry)) k (climbOf c) i) × (r .stride ≤ beyond) ⌝ }
+    requires { ⌜ ((p : «a-plan») × IsPrepared p (now table) (now f) (now vs) (now component) (now flags) k cost price) × (c .stride ≤ beyond) ⌝ }
+    ensures { λ r. ⌜ ((p : «a-plan») → IsPrepared p (now (table .entry)) (now (f .entry)) (now (vs .entry)) (now (component .entry)) (now (flags .entry)) k cost price → climbOf r ≡ climbOnce p (now (table .entry)) (now (f .entry)) (now (vs .entry)) (now (component .entry)) k (climbOf c) i) × (r .stride ≤ beyond) ⌝ }
 {
     if c.done {
         return c;
     }
     let x = c.heights;
     let before = c.before;
-    let f = base.amounts;
     let up = i % 2 == 1;
-    let s = ascent::step::step(table, &f, vs, component, k, up, c.stride, &x, &before);
-    let b = attempt_above(
-        plan,
-        table,
-        vs,
-        component,
-        required,
-        k,
-        required_cost,
-        base,
-        c,
-        s.value,
-    );
+    let s = ascent::step::step(table, f, vs, component, k, up, c.stride, &x, &before);
+    let b = attempt_above(table, f, vs, component, flags, k, cost, price, c, s.value);
     let next = s.heights;
-    let best = b.best;
+    let best = b.multipliers;
     let value = more(c.value, s.value);
     Stage {
         heights: next,
@@ -174,29 +153,20 @@ fn climb(
 
 // Before the first step.
 fn begun(
-    plan: Plan,
     table: &[[u32; 64]; 64],
+    f: &[u16; 4096],
     vs: &[u8],
     component: &[u8; 64],
-    required: &[bool; 64],
+    flags: &[bool; 64],
     k: usize,
-    required_cost: u64,
-    base: Balance,
+    cost: u64,
+    price: u64,
     u: [i64; 64],
 ) -> Stage
-    requires { ⌜ IsPrepared (planValue plan) (now table) (now vs) (stateOf base) (now component) (now required) k «required_cost» × (u ≡ multipliers (cell (now table)) (now vs) (stateOf base) (root (planValue plan))) ⌝ }
-    ensures { λ r. ⌜ (climbOf r ≡ begin (planValue plan) (now (table .entry)) (base .amounts) (now (vs .entry)) (now (component .entry)) k u) × (r .stride ≤ beyond) ⌝ }
+    requires { ⌜ ((p : «a-plan») × IsPrepared p (now table) (now f) (now vs) (now component) (now flags) k cost price × (u ≡ greatestOf p)) ⌝ }
+    ensures { λ r. ⌜ ((p : «a-plan») → IsPrepared p (now (table .entry)) (now (f .entry)) (now (vs .entry)) (now (component .entry)) (now (flags .entry)) k cost price → u ≡ greatestOf p → climbOf r ≡ begin p (now (table .entry)) (now (f .entry)) (now (vs .entry)) (now (component .entry)) k u) × (r .stride ≤ beyond) ⌝ }
 {
-    let l = lagrangian(
-        plan,
-        table,
-        &u,
-        component,
-        required,
-        k,
-        required_cost,
-        base.cost,
-    );
+    let l = lagrangian(table, &u, component, flags, k, cost, price);
     let x = ascent::heights::start(&u, vs);
     let far = ascent::heights::span(table, vs);
     let stride = lesser(far / 24 + 1, 1099511627776);
@@ -213,43 +183,22 @@ fn begun(
 
 // The multipliers that are answered, from the greatest ones on.
 pub(crate) fn ascend(
-    plan: Plan,
     table: &[[u32; 64]; 64],
+    f: &[u16; 4096],
     vs: &[u8],
     component: &[u8; 64],
-    required: &[bool; 64],
+    flags: &[bool; 64],
     k: usize,
-    required_cost: u64,
-    base: Balance,
+    cost: u64,
+    price: u64,
     u: [i64; 64],
 ) -> [i64; 64]
-    requires { ⌜ IsPrepared (planValue plan) (now table) (now vs) (stateOf base) (now component) (now required) k «required_cost» × (u ≡ multipliers (cell (now table)) (now vs) (stateOf base) (root (planValue plan))) ⌝ }
-    ensures { λ r. ⌜ r ≡ ascentOf (planValue plan) (now (table .entry)) (base .amounts) (now (vs .entry)) (now (component .entry)) k u ⌝ }
+    requires { ⌜ ((p : «a-plan») × IsPrepared p (now table) (now f) (now vs) (now component) (now flags) k cost price × (u ≡ greatestOf p)) ⌝ }
+    ensures { λ r. ⌜ ((p : «a-plan») → IsPrepared p (now (table .entry)) (now (f .entry)) (now (vs .entry)) (now (component .entry)) (now (flags .entry)) k cost price → u ≡ greatestOf p → r ≡ ascentOf p (now (table .entry)) (now (f .entry)) (now (vs .entry)) (now (component .entry)) k u) ⌝ }
 {
-    let mut c = begun(
-        plan,
-        table,
-        vs,
-        component,
-        required,
-        k,
-        required_cost,
-        base,
-        u,
-    );
+    let mut c = begun(table, f, vs, component, flags, k, cost, price, u);
     for i in 0..20usize {
-        let next = climb(
-            plan,
-            table,
-            vs,
-            component,
-            required,
-            k,
-            required_cost,
-            base,
-            c,
-            i,
-        );
+        let next = climb(table, f, vs, component, flags, k, cost, price, c, i);
         c = next;
     }
     let best = c.best;
@@ -257,7 +206,7 @@ pub(crate) fn ascend(
 }
 
 // The same, of a network.
-pub(crate) fn multipliers_for(
+pub fn multipliers_for(
     plan: Plan,
     table: &[[u32; 64]; 64],
     vs: &[u8],
@@ -268,19 +217,21 @@ pub(crate) fn multipliers_for(
     requires { ⌜ IsBase (planValue plan) (now table) (now vs) (stateOf base) × IsNetwork (planValue plan) net × (u ≡ multipliers (cell (now table)) (now vs) (stateOf base) (root (planValue plan))) ⌝ }
     ensures { λ r. ⌜ r ≡ multipliersFor (planValue plan) ⌝ }
 {
+    let amounts = base.amounts;
     let component = net.component;
     let flags = net.required;
     let parts = net.components;
     let k = parts as usize;
+    let cost = net.required_cost;
     ascend(
-        plan,
         table,
+        &amounts,
         vs,
         &component,
         &flags,
         k,
-        net.required_cost,
-        base,
+        cost,
+        base.cost,
         u,
     )
 }

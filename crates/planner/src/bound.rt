@@ -1,13 +1,12 @@
 // L(u), and the floor.
-use plan::Plan;
 ghost use mathlib.Core.Path.{_≡_};
 ghost use mathlib.Core.Bool.{cond};
 ghost use Prim.Native.Nat.{_≤_};
 ghost use lib.IntN.{pos, _+ℤ_};
 ghost use Rattle.integers.specs.Linear.{Within};
 ghost use Rattle.postman.specs.Lists.{maxℤ};
+ghost use Rattle.postman.specs.Plan.{Plan};
 ghost use Rattle.postman.specs.LagrangianBound.{lagrangianBound};
-ghost use Rattle.plan.specs.Records.{planValue};
 ghost use Rattle.arborescence.specs.PairCosts.{multipliersOf};
 ghost use Rattle.planner.specs.Priced.{IsPriced};
 
@@ -29,7 +28,6 @@ fn total(required_cost: u64, price: u64, cheapest: i64) -> i64
 
 // "L(u) = R + (sum of u(i) × D(i)) + A(u)."
 pub(crate) fn lagrangian(
-    plan: Plan,
     table: &[[u32; 64]; 64],
     u: &[i64; 64],
     component: &[u8; 64],
@@ -38,8 +36,8 @@ pub(crate) fn lagrangian(
     required_cost: u64,
     price: u64,
 ) -> i64
-    requires { ⌜ IsPriced (planValue plan) (now table) (now u) (now component) (now required) k «required_cost» price ⌝ }
-    ensures { λ r. ⌜ r ≡ lagrangianBound (planValue plan) (multipliersOf (now (u .entry))) ⌝ }
+    requires { ⌜ ((p : Plan) × IsPriced p (now table) (now u) (now component) (now required) k «required_cost» price) ⌝ }
+    ensures { λ r. ⌜ ((p : Plan) → IsPriced p (now (table .entry)) (now (u .entry)) (now (component .entry)) (now (required .entry)) k «required_cost» price → r ≡ lagrangianBound p (multipliersOf (now (u .entry)))) ⌝ }
 {
     let a = arborescence::pairs::cheapest_arborescence(table, u, component, required, k);
     total(required_cost, price, a)
@@ -47,7 +45,6 @@ pub(crate) fn lagrangian(
 
 // The floor: "the cost if whole, else the larger of L(0) and L(u)".
 pub(crate) fn floor_of(
-    plan: Plan,
     table: &[[u32; 64]; 64],
     u: &[i64; 64],
     component: &[u8; 64],
@@ -58,23 +55,14 @@ pub(crate) fn floor_of(
     whole: bool,
     cost: u64,
 ) -> i64
-    requires { ⌜ IsPriced (planValue plan) (now table) (now u) (now component) (now required) k «required_cost» price × (cost ≤ 4398046511104) ⌝ }
-    ensures { λ r. ⌜ r ≡ cond whole (pos cost) (maxℤ (lagrangianBound (planValue plan) (λ i. pos 0)) (lagrangianBound (planValue plan) (multipliersOf (now (u .entry))))) ⌝ }
+    requires { ⌜ ((p : Plan) × IsPriced p (now table) (now u) (now component) (now required) k «required_cost» price) × (cost ≤ 4398046511104) ⌝ }
+    ensures { λ r. ⌜ ((p : Plan) → IsPriced p (now (table .entry)) (now (u .entry)) (now (component .entry)) (now (required .entry)) k «required_cost» price → r ≡ cond whole (pos cost) (maxℤ (lagrangianBound p (λ i. pos 0)) (lagrangianBound p (multipliersOf (now (u .entry)))))) ⌝ }
 {
     if whole {
         return cost as i64;
     }
     let zeros = [0i64; 64];
-    let without = lagrangian(
-        plan,
-        table,
-        &zeros,
-        component,
-        required,
-        k,
-        required_cost,
-        0,
-    );
-    let priced = lagrangian(plan, table, u, component, required, k, required_cost, price);
+    let without = lagrangian(table, &zeros, component, required, k, required_cost, 0);
+    let priced = lagrangian(table, u, component, required, k, required_cost, price);
     larger(without, priced)
 }

@@ -1,11 +1,11 @@
 // The plan call.
 pub mod call; // the plan call and the short call
-mod ascend; // the multipliers that are answered
+pub mod ascend; // the multipliers that are answered
 mod bound; // L(u)
 mod lay; // the drive of a tree
-mod prepare; // the state of the required arcs
-mod trees; // the trees, at most as many as the budget
-mod solve; // the answer of a plan that is not refused
+pub mod prepare; // the state of the required arcs
+pub mod trees; // the trees, at most as many as the budget
+pub mod solve; // the answer of a plan that is not refused
 
 use refusal::Verdict;
 

@@ -13,7 +13,7 @@ ghost use Rattle.postman.specs.PlanCall.{root};
 ghost use Rattle.planner.specs.Prepared.{IsKnown, IsBase};
 
 // The balancing of the required arcs, added one by one in file order.
-pub(crate) fn base_state(plan: Plan, table: &[[u32; 64]; 64], vs: &[u8]) -> Balance
+pub fn base_state(plan: Plan, table: &[[u32; 64]; 64], vs: &[u8]) -> Balance
     requires { ⌜ IsKnown (planValue plan) (now table) (now vs) ⌝ }
     ensures { λ r. ⌜ stateOf r ≡ balanceOf (cell (tableOf (planValue plan))) (planValue plan) [] ⌝ }
 {
@@ -26,12 +26,7 @@ pub(crate) fn base_state(plan: Plan, table: &[[u32; 64]; 64], vs: &[u8]) -> Bala
 }
 
 // The greatest multipliers that are 0 at the lowest required vertex.
-pub(crate) fn multipliers_of(
-    plan: Plan,
-    table: &[[u32; 64]; 64],
-    vs: &[u8],
-    base: Balance,
-) -> [i64; 64]
+pub fn multipliers_of(plan: Plan, table: &[[u32; 64]; 64], vs: &[u8], base: Balance) -> [i64; 64]
     requires { ⌜ IsBase (planValue plan) (now table) (now vs) (stateOf base) ⌝ }
     ensures { λ r. ⌜ r ≡ multipliers (cell (now (table .entry))) (now (vs .entry)) (stateOf base) (root (planValue plan)) ⌝ }
 {

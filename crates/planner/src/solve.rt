@@ -10,9 +10,10 @@ use balance::state::Balance;
 use network::network::Network;
 use plan::Plan;
 use refusal::Verdict;
+use search::tried::Searched;
 ghost use mathlib.Core.Path.{_≡_};
 ghost use mathlib.Core.Option.{none};
-ghost use Prim.Native.Nat.{_≤_};
+ghost use Prim.Native.Nat.{ℕ, _≤_};
 ghost use lib.ListN.{length};
 ghost use Rattle.postman.specs.PlanCall.{sheetPlaces};
 ghost use Rattle.plan.specs.Records.{planValue};
@@ -22,9 +23,11 @@ ghost use Rattle.network.specs.Contracts.{IsNetwork};
 ghost use Rattle.planner.specs.Prepared.{IsKnown, IsBase};
 ghost use Rattle.planner.specs.Ascent.{multipliersFor};
 ghost use Rattle.planner.specs.Contract.{IsPlanned};
+ghost use Rattle.planner.specs.Resumed.{HoldsTree, HoldsDrive};
+ghost use Rattle.search.specs.Contracts.{IsSearched};
 
-// The trees are tried, the drive of the best is written, and the floor is computed, from the state of the required arcs. The multipliers that are answered give the floor.
-pub(crate) fn finish(
+// The drive of the tree that is held is written, and the floor is computed, from the state of the required arcs. The multipliers that are answered give the floor.
+pub fn conclude(
     plan: Plan,
     table: &[[u32; 64]; 64],
     weights: &[[u32; 64]; 64],
@@ -32,17 +35,17 @@ pub(crate) fn finish(
     net: Network,
     base: Balance,
     u: [i64; 64],
-    budget: u32,
+    s: Searched,
     sheet: &mut [u16],
 ) -> Planned
     requires { ⌜ IsBase (planValue plan) (now table) (now vs) (stateOf base) × (u ≡ multipliersFor (planValue plan)) ⌝ }
-    requires { ⌜ IsNetwork (planValue plan) net × (1 ≤ budget) × (sheetPlaces ≤ length (now sheet)) × AreWeights (planValue plan) (now weights) ⌝ }
-    ensures { λ r. ⌜ IsPlanned (planValue plan) budget none (now (sheet .entry)) (now (sheet .exit)) r ⌝ }
+    requires { ⌜ IsNetwork (planValue plan) net × HoldsTree (planValue plan) (s .tails) (s .heads) × (s .cost ≤ 4398046511104) × (sheetPlaces ≤ length (now sheet)) × AreWeights (planValue plan) (now weights) ⌝ }
+    ensures { λ r. ⌜ ((budget : ℕ) → 1 ≤ budget → IsSearched (planValue plan) budget s → IsPlanned (planValue plan) budget none (now (sheet .entry)) (now (sheet .exit)) r) ⌝ }
+    ensures { λ r. ⌜ HoldsDrive (planValue plan) (now (sheet .entry)) (now (sheet .exit)) ⌝ }
 {
     let parts = net.components;
     let k = parts as usize;
     let required_cost = net.required_cost;
-    let s = best(plan, table, vs, net, base, u, budget);
     let ts = s.tails;
     let hs = s.heads;
     let n = k - 1;
@@ -50,7 +53,6 @@ pub(crate) fn finish(
     let component = net.component;
     let flags = net.required;
     let floor = floor_of(
-        plan,
         table,
         &u,
         &component,
@@ -71,6 +73,26 @@ pub(crate) fn finish(
         parts: parts,
         multipliers: u,
     }
+}
+
+// The trees are tried, and the best is what is answered.
+pub(crate) fn finish(
+    plan: Plan,
+    table: &[[u32; 64]; 64],
+    weights: &[[u32; 64]; 64],
+    vs: &[u8],
+    net: Network,
+    base: Balance,
+    u: [i64; 64],
+    budget: u32,
+    sheet: &mut [u16],
+) -> Planned
+    requires { ⌜ IsBase (planValue plan) (now table) (now vs) (stateOf base) × (u ≡ multipliersFor (planValue plan)) ⌝ }
+    requires { ⌜ IsNetwork (planValue plan) net × (1 ≤ budget) × (sheetPlaces ≤ length (now sheet)) × AreWeights (planValue plan) (now weights) ⌝ }
+    ensures { λ r. ⌜ IsPlanned (planValue plan) budget none (now (sheet .entry)) (now (sheet .exit)) r ⌝ }
+{
+    let s = best(plan, table, vs, net, base, u, budget);
+    conclude(plan, table, weights, vs, net, base, u, s, sheet)
 }
 
 // The state and the multipliers first, over the required vertices.

@@ -5,7 +5,6 @@ use Prim.Native.Nat.{ℕ, _+_, _-_, _≤_}
 use lib.ListN.{getD}
 use Rattle.postman.specs.Lists.{sumOf}
 use Rattle.postman.specs.Plan.{Plan}
-use Rattle.postman.specs.Required.{required}
 use Rattle.postman.specs.Link.{Link}
 use Rattle.postman.specs.Balancing.{completionCost}
 use Rattle.balance.specs.Step.{cell}

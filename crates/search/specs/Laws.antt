@@ -6,8 +6,10 @@ pub mod Bound
 pub mod Names
 pub mod Reduced
 pub mod Rest
-pub mod Counts
+pub mod Start
 pub mod Below
 pub mod Root
+pub mod Kept
 pub mod Explore
+pub mod Last
 pub mod Tried

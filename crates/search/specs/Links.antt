@@ -1,7 +1,7 @@
 -- Links in arrays.
-use mathlib.Core.List.{List, List·Memᴰ}
-use Prim.Native.Nat.{ℕ, _<_}
-use lib.ListN.{getD, take}
+use mathlib.Core.List.{List}
+use Prim.Native.Nat.{ℕ}
+use lib.ListN.{take}
 use Rattle.postman.specs.Link.{Link}
 use Rattle.balance.specs.Step.{arcsOf}
 

@@ -1,58 +1,39 @@
 // A branch: the trees that begin with the same choices for components 1 to a - 1.
+use crate::candidate::Candidate;
 use crate::names::renamed;
 use crate::reduced::long;
-use crate::reduced::reduced;
 use crate::reduced::shifted;
-use crate::rest::rests;
 use balance::state::Balance;
 use integers::wide;
+use tree_count::count::counts;
 use tree_count::count::merge;
 ghost use mathlib.Core.Path.{_≡_};
 ghost use mathlib.Core.List.{List};
-ghost use Prim.Native.Nat.{ℕ, _<_};
+ghost use Prim.Native.Nat.{ℕ, _+_, _<_, _≤_};
 ghost use lib.ListN.{set};
 ghost use Rattle.postman.specs.Plan.{Plan};
-ghost use Rattle.balance.specs.Step.{cell, add as «add-state»};
 ghost use Rattle.balance.specs.Records.{stateOf};
+ghost use Rattle.tree_count.specs.Matrix.{AreFew, AreCounts};
 ghost use Rattle.search.specs.Prepared.{Prepared};
-ghost use Rattle.search.specs.Contracts.{CanLink, stateIn, CanGoBelow, IsBelow, AreGiven, IsRoot};
+ghost use Rattle.search.specs.Contracts.{CanGoBelow, IsBelow, AreGiven, IsRoot};
 
-// The links chosen; the state of the required arcs with them; R and the d of the links; what its trees cost at least by the multipliers; for each component what those
-// behind it cost at least by them; which component each has become one with; and how many entries each component has from each other.
+// The links chosen; the potentials, the cost and the number of arcs of the required arcs balanced with them, of which the amounts are lent beside the branch; R and the d of the links;
+// which component each has become one with; how many entries each component has from each other; and how many trees each branch below has.
 pub struct Branch {
     pub a: usize,
     pub tails: [u8; 8],
     pub heads: [u8; 8],
-    pub amounts: [u16; 4096],
     pub potentials: [u64; 64],
     pub balancing: u64,
     pub count: u16,
     pub fixed: u64,
-    pub multipliers: [u64; 64],
-    pub bound: u64,
-    pub rests: [u64; 8],
     pub names: [u8; 8],
     pub entries: [u32; 64],
-}
-
-// The state with one link more.
-fn linked(b: Branch, d: &[[u32; 64]; 64], vs: &[u8], tail: u8, head: u8) -> Balance
-    requires { ⌜ CanLink (now d) (now vs) (stateIn b) tail head ⌝ }
-    ensures { λ r. ⌜ stateOf r ≡ «add-state» (cell (now (d .entry))) (now (vs .entry)) (stateIn b) tail head ⌝ }
-{
-    let f = b.amounts;
-    let p = b.potentials;
-    let s = Balance {
-        amounts: f,
-        potentials: p,
-        cost: b.balancing,
-        count: b.count,
-    };
-    balance::state::add(s, d, vs, tail, head)
+    pub counts: [u64; 8],
 }
 
 // The array with v at place i.
-fn placed(a: [u8; 8], i: usize, v: u8) -> [u8; 8]
+pub(crate) fn placed(a: [u8; 8], i: usize, v: u8) -> [u8; 8]
     requires { ⌜ i < 8 ⌝ }
     ensures { λ r. ⌜ r ≡ set a i v ⌝ }
 {
@@ -61,88 +42,78 @@ fn placed(a: [u8; 8], i: usize, v: u8) -> [u8; 8]
     r
 }
 
-// The branch below: component a takes the link from tail to head, which comes from component x by its new name.
+// The branch below: component a takes the candidate c. The amounts become those with its link.
 pub(crate) fn below(
     b: Branch,
+    f: &mut [u16; 4096],
     d: &[[u32; 64]; 64],
     vs: &[u8],
-    tail: u8,
-    head: u8,
-    x: u8,
+    c: Candidate,
     k: usize,
 ) -> Branch
-    requires { ⌜ CanGoBelow (now d) (now vs) b tail head x k ⌝ }
-    ensures { λ r. ⌜ IsBelow (now (d .entry)) (now (vs .entry)) b tail head x k r ⌝ }
+    requires { ⌜ CanGoBelow (now d) (now vs) (now f) b (c .tail) (c .head) (c .name) k × (b .a + 1 < k) ⌝ }
+    ensures { λ r. ⌜ IsBelow (now (d .entry)) (now (vs .entry)) (now (f .entry)) b (c .tail) (c .head) (c .name) k (now (f .exit)) r × AreCounts (r .entries) (r .a) k (r .counts) ⌝ }
 {
     let a = b.a;
-    let more = linked(b, d, vs, tail, head);
-    let amounts = more.amounts;
-    let potentials = more.potentials;
-    let multipliers = b.multipliers;
+    let u = b.potentials;
     let ts = b.tails;
     let hs = b.heads;
     let names = b.names;
     let entries = b.entries;
-    let rests = b.rests;
-    let t = wide(tail);
-    let h = wide(head);
-    let fixed = b.fixed + long(d[t][h]);
-    let bound = b.bound + reduced(d, &multipliers, tail, head);
-    let tails = placed(ts, a - 1, tail);
-    let heads = placed(hs, a - 1, head);
-    let new_names = renamed(names, a, x);
-    let new_entries = merge(entries, a, wide(x), k);
+    let more = balance::state::add_in(f, &u, b.balancing, b.count, d, vs, c.tail, c.head);
+    let raised = more.potentials;
+    let t = wide(c.tail);
+    let h = wide(c.head);
+    let merged = merge(entries, a, wide(c.name), k);
     Branch {
         a: a + 1,
-        tails: tails,
-        heads: heads,
-        amounts: amounts,
-        potentials: potentials,
+        tails: placed(ts, a - 1, c.tail),
+        heads: placed(hs, a - 1, c.head),
+        potentials: raised,
         balancing: more.cost,
-        count: more.count,
-        fixed: fixed,
-        multipliers: multipliers,
-        bound: bound,
-        rests: rests,
-        names: new_names,
-        entries: new_entries,
+        count: b.count + 1,
+        fixed: b.fixed + long(d[t][h]),
+        names: renamed(names, a, c.name),
+        entries: merged,
+        counts: counts(merged, a + 1, k),
     }
 }
 
-// The branch that has no choice yet, from the state of the required arcs, the multipliers u, R, and the number of entries that each component has from each other.
+// How many trees each branch below the root has; none where no component is to be chosen for.
+fn root_counts(entries: [u32; 64], k: usize) -> [u64; 8]
+    requires { ⌜ (1 ≤ k) × (k ≤ 8) × AreFew entries 1 k ⌝ }
+    ensures { λ r. ⌜ (1 < k → AreCounts entries 1 k r) ⌝ }
+{
+    if k == 1 {
+        return [0; 8];
+    }
+    counts(entries, 1, k)
+}
+
+// The branch that has no choice yet, from the state of the required arcs, the multipliers u, R, and the number of entries that each component has from each other. The multipliers certify
+// the state's amounts, so they are its potentials.
 pub fn root(
-    d: &[[u32; 64]; 64],
     vs: &[u8],
-    start: &[usize; 9],
-    tails: &[u8; 4096],
-    heads: &[u8; 4096],
     k: usize,
     base: Balance,
     u: &[i64; 64],
     required_cost: u64,
     entries: [u32; 64],
 ) -> Branch
-    requires { ⌜ ((p : Plan) × (source : List ℕ) × Prepared p (now d) (now vs) (now start) source (now tails) (now heads) k × AreGiven p (now d) (stateOf base) (now u) «required_cost» entries) ⌝ }
-    ensures { λ r. ⌜ ((p : Plan) (source : List ℕ) → Prepared p (now (d .entry)) (now (vs .entry)) (now (start .entry)) source (now (tails .entry)) (now (heads .entry)) k → AreGiven p (now (d .entry)) (stateOf base) (now (u .entry)) «required_cost» entries → IsRoot p (now (d .entry)) r) ⌝ }
+    requires { ⌜ ((p : Plan) × (table : List (List ℕ)) × (start : List ℕ) × (source : List ℕ) × (tails : List ℕ) × (heads : List ℕ) × Prepared p table (now vs) start source tails heads k × AreGiven p table (stateOf base) (now u) «required_cost» entries) ⌝ }
+    ensures { λ r. ⌜ ((p : Plan) (table : List (List ℕ)) (start source tails heads : List ℕ) → Prepared p table (now (vs .entry)) start source tails heads k → AreGiven p table (stateOf base) (now (u .entry)) «required_cost» entries → IsRoot p table (base .amounts) r) ⌝ }
 {
     let w = shifted(u, vs);
-    let rests = rests(d, &w, start, tails, heads, k);
-    let amounts = base.amounts;
-    let potentials = base.potentials;
-    let cost = base.cost;
     Branch {
         a: 1,
         tails: [0; 8],
         heads: [0; 8],
-        amounts: amounts,
-        potentials: potentials,
-        balancing: cost,
+        potentials: w,
+        balancing: base.cost,
         count: base.count,
         fixed: required_cost,
-        multipliers: w,
-        bound: required_cost + cost,
-        rests: rests,
         names: [0, 1, 2, 3, 4, 5, 6, 7],
         entries: entries,
+        counts: root_counts(entries, k),
     }
 }

@@ -1,65 +1,114 @@
 // The trees of a branch, in order.
 use crate::branch::Branch;
 use crate::branch::below;
-use crate::counts::counts;
+use crate::candidate::Candidate;
+use crate::candidate::candidate_at;
+use crate::last::last;
 use crate::pricing::Pricing;
+use crate::pricing::bounded;
 use crate::pricing::lifted;
 use crate::progress::Progress;
-use crate::progress::completed;
 use crate::progress::entered;
 use crate::progress::passed;
 use crate::reduced::reduced;
-use crate::rest::rest;
-use integers::wide;
-ghost use mathlib.Core.List.{List};
-ghost use Prim.Native.Nat.{ℕ, _<_};
-ghost use lib.ListN.{getD};
+ghost use mathlib.Core.Path.{_≡_};
+ghost use mathlib.Core.List.{List, [], _∷_, _++_};
+ghost use Prim.Native.Nat.{ℕ, _+_, _<_, _≤_};
 ghost use Rattle.postman.specs.Plan.{Plan};
+ghost use Rattle.search.specs.Bound.{reducedBy};
+ghost use Rattle.search.specs.Progress.{passOver};
 ghost use Rattle.search.specs.Prepared.{Prepared};
-ghost use Rattle.search.specs.Contracts.{IsCandidate, IsShort, IsBranch, treesIn, IsExplored, Prices};
+ghost use Rattle.search.specs.Contracts.{CanReduce, heldOf, isEntered, IsShort, IsBranch, chosenIn, linkOf, treesIn, IsExplored, Prices, IsPriced};
 
-// A candidate: its link, its source by its new name, and how many trees the branch below has.
-pub struct Candidate {
-    pub tail: u8,
-    pub head: u8,
-    pub name: u8,
-    pub trees: u64,
-}
-
-// What is held after the trees of a branch, and prices of the branch: those of the tree that was tried last, without the links that are not the branch's.
+// What is held after trees of a branch, and prices of the branch: those of the tree that was tried last, without the links that are not the branch's.
 pub struct Explored {
     pub progress: Progress,
     pub pricing: Pricing,
 }
 
-// The candidate at place x.
-fn candidate_at(
-    source: &[u8; 4096],
+// Before the first candidate: the branch's own prices.
+fn begun(
+    g: Progress,
+    b: Branch,
+    d: &[[u32; 64]; 64],
+    start: &[usize; 9],
     tails: &[u8; 4096],
     heads: &[u8; 4096],
-    names: [u8; 8],
-    counts: [u64; 8],
-    x: usize,
-) -> Candidate
-    requires { ⌜ (x < 4096) × (getD (now source) x 0 < 8) × (getD names (getD (now source) x 0) 0 < 8) ⌝ }
-    ensures { λ r. ⌜ IsCandidate (now (source .entry)) (now (tails .entry)) (now (heads .entry)) names counts x r ⌝ }
+    k: usize,
+) -> Explored
+    requires { ⌜ ((p : Plan) × (vs : List ℕ) × (source : List ℕ) × (f : List ℕ) × Prepared p (now d) vs (now start) source (now tails) (now heads) k × IsBranch p (now d) f b) × (b .a < k) ⌝ }
+    ensures { λ r. ⌜ (r .progress ≡ g) × ((p : Plan) (vs source f : List ℕ) → Prepared p (now (d .entry)) vs (now (start .entry)) source (now (tails .entry)) (now (heads .entry)) k → IsBranch p (now (d .entry)) f b → IsPriced p (now (d .entry)) b (r .pricing)) ⌝ }
 {
-    let s = wide(source[x]);
-    let name = names[s];
-    let n = wide(name);
-    Candidate {
-        tail: tails[x],
-        head: heads[x],
-        name: name,
-        trees: counts[n],
+    let u = b.potentials;
+    let own = Pricing {
+        potentials: u,
+        value: b.balancing,
+        bound: 0,
+    };
+    let prices = bounded(own, b.fixed, d, start, tails, heads, b.a + 1, k);
+    Explored {
+        progress: g,
+        pricing: prices,
     }
 }
 
-// The trees of a branch. One candidate of component a after the other: the branch below is passed over, with all its trees counted at once, or gone into. Its trees are priced by
-// the branch's own potentials, and after a branch below was gone into by those that it was left with.
-pub fn explore(
+// Whether the branch below a candidate is gone into.
+fn goes_into(e: Explored, d: &[[u32; 64]; 64], c: Candidate) -> bool
+    requires { ⌜ CanReduce (now d) (e .pricing .potentials) (c .tail) (c .head) × (e .pricing .bound ≤ 3100000000000) ⌝ }
+    ensures { λ r. ⌜ r ≡ isEntered (e .progress) (c .trees) (e .pricing .bound + reducedBy (now (d .entry)) (e .pricing .potentials) (c .tail) (c .head)) ⌝ }
+{
+    let g = e.progress;
+    let q = e.pricing;
+    let w = q.potentials;
+    let least = q.bound + reduced(d, &w, c.tail, c.head);
+    entered(g, c.trees, least)
+}
+
+// The trees behind a candidate are passed over, and counted at once.
+fn passed_over(e: Explored, c: Candidate) -> Explored
+    ensures { λ r. ⌜ ((m : ℕ) → heldOf m (r .progress) ≡ passOver (heldOf m (e .progress)) (c .trees)) × (r .pricing ≡ e .pricing) ⌝ }
+{
+    let g = e.progress;
+    let prices = e.pricing;
+    let after = passed(g, c.trees);
+    Explored {
+        progress: after,
+        pricing: prices,
+    }
+}
+
+// The trees behind a candidate were gone through: the branch's prices are those that the branch below was left with, without the candidate's link.
+fn backed_up(
+    e: Explored,
+    under: Explored,
+    b: Branch,
+    c: Candidate,
+    d: &[[u32; 64]; 64],
+    start: &[usize; 9],
+    tails: &[u8; 4096],
+    heads: &[u8; 4096],
+    k: usize,
+) -> Explored
+    requires { ⌜ ((p : Plan) × (vs : List ℕ) × (source : List ℕ) × (f : List ℕ) × Prepared p (now d) vs (now start) source (now tails) (now heads) k × IsBranch p (now d) f b × Prices p (now d) (chosenIn b) (b .a) (e .pricing) × Prices p (now d) (chosenIn b ++ linkOf c ∷ []) (b .a + 1) (under .pricing)) × (b .a < k) × (c .tail < 64) × (c .head < 64) ⌝ }
+    ensures { λ r. ⌜ (r .progress ≡ under .progress) × ((p : Plan) (vs source f : List ℕ) → Prepared p (now (d .entry)) vs (now (start .entry)) source (now (tails .entry)) (now (heads .entry)) k → IsBranch p (now (d .entry)) f b → Prices p (now (d .entry)) (chosenIn b) (b .a) (e .pricing) → Prices p (now (d .entry)) (chosenIn b ++ linkOf c ∷ []) (b .a + 1) (under .pricing) → IsPriced p (now (d .entry)) b (r .pricing)) ⌝ }
+{
+    let old = e.pricing;
+    let new = under.pricing;
+    let after = under.progress;
+    let lift = lifted(old, new, c.tail, c.head);
+    let prices = bounded(lift, b.fixed, d, start, tails, heads, b.a + 1, k);
+    Explored {
+        progress: after,
+        pricing: prices,
+    }
+}
+
+// One candidate of component a after the other: the branch below is passed over, or gone into with the amounts copied. Its trees are priced by the branch's own potentials, and after a
+// branch below was gone into by those that it was left with.
+pub(crate) fn explore(
     g: Progress,
     b: Branch,
+    f: &[u16; 4096],
     d: &[[u32; 64]; 64],
     vs: &[u8],
     start: &[usize; 9],
@@ -68,59 +117,30 @@ pub fn explore(
     heads: &[u8; 4096],
     k: usize,
 ) -> Explored
-    requires { ⌜ ((p : Plan) × Prepared p (now d) (now vs) (now start) (now source) (now tails) (now heads) k × IsBranch p (now d) b) × IsShort g ⌝ }
-    ensures { λ r. ⌜ ((p : Plan) → Prepared p (now (d .entry)) (now (vs .entry)) (now (start .entry)) (now (source .entry)) (now (tails .entry)) (now (heads .entry)) k → IsBranch p (now (d .entry)) b → IsExplored p (treesIn p b) g (r .progress) × Prices p (now (d .entry)) b (r .pricing)) ⌝ }
+    requires { ⌜ ((p : Plan) × Prepared p (now d) (now vs) (now start) (now source) (now tails) (now heads) k × IsBranch p (now d) (now f) b) × IsShort g × (b .a < k) ⌝ }
+    ensures { λ r. ⌜ ((p : Plan) → Prepared p (now (d .entry)) (now (vs .entry)) (now (start .entry)) (now (source .entry)) (now (tails .entry)) (now (heads .entry)) k → IsBranch p (now (d .entry)) (now (f .entry)) b → IsExplored p (treesIn p b) g (r .progress) × Prices p (now (d .entry)) (chosenIn b) (b .a) (r .pricing)) ⌝ }
 {
     let a = b.a;
-    let ts = b.tails;
-    let hs = b.heads;
-    let potentials = b.potentials;
-    let own = Pricing {
-        potentials: potentials,
-        value: b.balancing,
-    };
-    if a == k {
-        let after = completed(g, b.fixed + b.balancing, ts, hs);
-        return Explored {
-            progress: after,
-            pricing: own,
-        };
+    if a + 1 == k {
+        return last(g, b, f, d, vs, start, source, tails, heads);
     }
-    let entries = b.entries;
     let names = b.names;
-    let rests = b.rests;
-    let u = b.multipliers;
-    let counts = counts(entries, a, k);
-    let given = b.bound + rests[a];
+    let counts = b.counts;
     let end = start[a + 1];
-    let mut p = potentials;
-    let mut prices = own;
-    let mut bound = b.fixed + b.balancing + rest(d, &p, start, tails, heads, a + 1, k);
+    let mut e = begun(g, b, d, start, tails, heads, k);
     let mut x = start[a];
-    let mut r = g;
     while x < end {
         let c = candidate_at(source, tails, heads, names, counts, x);
-        let one = given + reduced(d, &u, c.tail, c.head);
-        let other = bound + reduced(d, &p, c.tail, c.head);
-        if entered(r, c.trees, one, other) {
-            let next = below(b, d, vs, c.tail, c.head, c.name, k);
-            let e = explore(r, next, d, vs, start, source, tails, heads, k);
-            let after = e.progress;
-            r = after;
-            let new = e.pricing;
-            let lift = lifted(prices, new, c.tail, c.head);
-            prices = lift;
-            let q = lift.potentials;
-            p = q;
-            bound = b.fixed + lift.value + rest(d, &p, start, tails, heads, a + 1, k);
+        if goes_into(e, d, c) {
+            let mut more = *f;
+            let next = below(b, &mut more, d, vs, c, k);
+            let r = e.progress;
+            let under = explore(r, next, &more, d, vs, start, source, tails, heads, k);
+            e = backed_up(e, under, b, c, d, start, tails, heads, k);
         } else {
-            let after = passed(r, c.trees);
-            r = after;
+            e = passed_over(e, c);
         }
         x += 1;
     }
-    Explored {
-        progress: r,
-        pricing: prices,
-    }
+    e
 }

@@ -40,9 +40,9 @@ pub(crate) fn passed(g: Progress, n: u64) -> Progress
     }
 }
 
-// Whether a branch of n trees is gone into, where they cost at least `one`, and at least `other`.
-pub(crate) fn entered(g: Progress, n: u64, one: u64, other: u64) -> bool
-    ensures { λ r. ⌜ r ≡ isEntered g n one other ⌝ }
+// Whether a branch of n trees is gone into, where they cost at least `least`.
+pub(crate) fn entered(g: Progress, n: u64, least: u64) -> bool
+    ensures { λ r. ⌜ r ≡ isEntered g n least ⌝ }
 {
     if n <= g.skip {
         return false;
@@ -50,10 +50,7 @@ pub(crate) fn entered(g: Progress, n: u64, one: u64, other: u64) -> bool
     if g.left == 0 {
         return false;
     }
-    if g.cost <= one {
-        return false;
-    }
-    other < g.cost
+    least < g.cost
 }
 
 // The better of the best so far and a tree, if it is tried.

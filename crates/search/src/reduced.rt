@@ -1,10 +1,9 @@
 // Reduced costs.
 use integers::wide;
 ghost use mathlib.Core.Path.{_≡_};
-ghost use mathlib.Core.List.{List·Memᴰ};
 ghost use Prim.Native.Nat.{ℕ, _<_, _≤_};
 ghost use lib.ListN.{length, getD};
-ghost use lib.IntN.{ℤ, pos, _+ℤ_, _-ℤ_};
+ghost use lib.IntN.{pos, _+ℤ_, _-ℤ_};
 ghost use Rattle.search.specs.Bound.{reducedBy};
 ghost use Rattle.search.specs.Contracts.{CanReduce, Spread, AreShifted};
 

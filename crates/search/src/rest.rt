@@ -1,12 +1,11 @@
 // What the components that are not chosen for yet cost at least.
 use crate::reduced::reduced;
 ghost use mathlib.Core.List.{List};
-ghost use Prim.Native.Nat.{ℕ, _≤_, _<_};
-ghost use lib.ListN.{getD};
+ghost use Prim.Native.Nat.{ℕ, _≤_};
 ghost use Rattle.postman.specs.Plan.{Plan};
 ghost use Rattle.search.specs.Bound.{Low};
 ghost use Rattle.search.specs.Prepared.{Prepared};
-ghost use Rattle.search.specs.Contracts.{AreReducible, IsLeast, CanRest, AreRests};
+ghost use Rattle.search.specs.Contracts.{AreReducible, IsLeast, CanRest};
 
 // The least reduced cost of the candidates from place `from` to place `to`; 4,000,000,000 where there is none.
 fn least(
@@ -52,27 +51,4 @@ pub(crate) fn rest(
         sum = sum + least(d, p, tails, heads, start[q], start[q + 1]);
     }
     sum
-}
-
-// For each component the same of those behind it.
-pub(crate) fn rests(
-    d: &[[u32; 64]; 64],
-    p: &[u64; 64],
-    start: &[usize; 9],
-    tails: &[u8; 4096],
-    heads: &[u8; 4096],
-    k: usize,
-) -> [u64; 8]
-    requires { ⌜ CanRest (now d) (now p) (now start) (now tails) (now heads) 1 k ⌝ }
-    ensures { λ r. ⌜ ((q : Plan) (vs source : List ℕ) → Prepared q (now (d .entry)) vs (now (start .entry)) source (now (tails .entry)) (now (heads .entry)) k → AreRests q (now (d .entry)) (now (p .entry)) 1 k r) × ((q : ℕ) → getD r q 0 ≤ 32000000000) ⌝ }
-{
-    let mut r = [0u64; 8];
-    let mut sum: u64 = 0;
-    let mut q = k;
-    while 1 < q {
-        q -= 1;
-        r[q] = sum;
-        sum = sum + least(d, p, tails, heads, start[q], start[q + 1]);
-    }
-    r
 }

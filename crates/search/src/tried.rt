@@ -2,13 +2,16 @@
 use crate::branch::Branch;
 use crate::explore::explore;
 use crate::progress::Progress;
-use tree_count::count::count;
+use crate::progress::completed;
+use tree_count::total::total;
 ghost use mathlib.Core.Path.{_≡_};
-ghost use mathlib.Core.List.{List};
-ghost use Prim.Native.Nat.{ℕ, _≤_, min};
+ghost use Prim.Native.Nat.{_-_, _<_, _≤_, min};
+ghost use Rattle.postman.specs.Lists.{upFrom};
 ghost use Rattle.postman.specs.Plan.{Plan};
+ghost use Rattle.tree_count.specs.Recursion.{countTrees};
+ghost use Rattle.tree_count.specs.Matrix.{entriesOf, cap, AreFew, AreCounts};
 ghost use Rattle.search.specs.Prepared.{Prepared};
-ghost use Rattle.search.specs.Contracts.{IsRoot, IsSearched};
+ghost use Rattle.search.specs.Contracts.{IsShort, IsBranch, treesIn, IsExplored, IsRoot, IsSearched};
 
 // The first arborescence of least completion cost among those tried, how many were, and whether these are all.
 pub struct Searched {
@@ -17,6 +20,17 @@ pub struct Searched {
     pub heads: [u8; 8],
     pub tried: u32,
     pub whole: bool,
+}
+
+// How many trees there are, from the counts below the root: one where no component is to be chosen for.
+fn number(counts: [u64; 8], entries: [u32; 64], k: usize) -> u64
+    requires { ⌜ (1 ≤ k) × (k ≤ 8) × AreFew entries 1 k × (1 < k → AreCounts entries 1 k counts) ⌝ }
+    ensures { λ r. ⌜ r ≡ min (countTrees (entriesOf entries) (upFrom 1 (k - 1))) cap ⌝ }
+{
+    if k == 1 {
+        return 1;
+    }
+    total(counts, entries, 1, k)
 }
 
 // How many of n trees are tried.
@@ -29,9 +43,35 @@ fn lesser(n: u64, budget: u32) -> u32
     budget
 }
 
+// The trees of a branch are gone through; the branch is one tree where no component is left to be chosen for.
+pub fn advance(
+    g: Progress,
+    b: Branch,
+    f: &[u16; 4096],
+    d: &[[u32; 64]; 64],
+    vs: &[u8],
+    start: &[usize; 9],
+    source: &[u8; 4096],
+    tails: &[u8; 4096],
+    heads: &[u8; 4096],
+    k: usize,
+) -> Progress
+    requires { ⌜ ((p : Plan) × Prepared p (now d) (now vs) (now start) (now source) (now tails) (now heads) k × IsBranch p (now d) (now f) b) × IsShort g ⌝ }
+    ensures { λ r. ⌜ ((p : Plan) → Prepared p (now (d .entry)) (now (vs .entry)) (now (start .entry)) (now (source .entry)) (now (tails .entry)) (now (heads .entry)) k → IsBranch p (now (d .entry)) (now (f .entry)) b → IsExplored p (treesIn p b) g r) ⌝ }
+{
+    if b.a == k {
+        let ts = b.tails;
+        let hs = b.heads;
+        return completed(g, b.fixed + b.balancing, ts, hs);
+    }
+    let e = explore(g, b, f, d, vs, start, source, tails, heads, k);
+    e.progress
+}
+
 // The trees from the root on, at most `budget` of them. No tree costs as much as 4,000,000,000,000.
 pub fn search(
     b: Branch,
+    f: &[u16; 4096],
     d: &[[u32; 64]; 64],
     vs: &[u8],
     start: &[usize; 9],
@@ -41,11 +81,12 @@ pub fn search(
     k: usize,
     budget: u32,
 ) -> Searched
-    requires { ⌜ ((p : Plan) × Prepared p (now d) (now vs) (now start) (now source) (now tails) (now heads) k × IsRoot p (now d) b) × (1 ≤ budget) ⌝ }
-    ensures { λ r. ⌜ ((p : Plan) → Prepared p (now (d .entry)) (now (vs .entry)) (now (start .entry)) (now (source .entry)) (now (tails .entry)) (now (heads .entry)) k → IsRoot p (now (d .entry)) b → IsSearched p budget r) ⌝ }
+    requires { ⌜ ((p : Plan) × Prepared p (now d) (now vs) (now start) (now source) (now tails) (now heads) k × IsRoot p (now d) (now f) b) × (1 ≤ budget) ⌝ }
+    ensures { λ r. ⌜ ((p : Plan) → Prepared p (now (d .entry)) (now (vs .entry)) (now (start .entry)) (now (source .entry)) (now (tails .entry)) (now (heads .entry)) k → IsRoot p (now (d .entry)) (now (f .entry)) b → IsSearched p budget r) ⌝ }
 {
     let entries = b.entries;
-    let n = count(entries, 1, k);
+    let counts = b.counts;
+    let n = number(counts, entries, k);
     let none = Progress {
         cost: 4_000_000_000_000,
         tails: [0; 8],
@@ -53,8 +94,7 @@ pub fn search(
         skip: 0,
         left: budget as u64,
     };
-    let e = explore(none, b, d, vs, start, source, tails, heads, k);
-    let r = e.progress;
+    let r = advance(none, b, f, d, vs, start, source, tails, heads, k);
     let ts = r.tails;
     let hs = r.heads;
     Searched {

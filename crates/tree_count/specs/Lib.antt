@@ -1,6 +1,7 @@
 -- What the functions compute.
 pub mod Recursion
 pub mod Matrix
+pub mod ClosedForm
 pub mod Entries
 -- What is proved about it.
 pub mod Laws

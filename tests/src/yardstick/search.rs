@@ -141,7 +141,7 @@ impl<S: Steps> Search<'_, S> {
             if trees == 0 {
                 continue;
             }
-            let bound = last.iter().map(|last| last.of(link)).fold(own.of(link), i64::max);
+            let bound = last.as_ref().unwrap_or(&own).of(link);
             if self.steps.is_hopeless(bound, self.best) {
                 self.left -= trees.min(self.left);
             } else {

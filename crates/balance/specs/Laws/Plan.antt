@@ -209,12 +209,19 @@ module _ (p : Plan) (ok : WellFormed p) (connected : T (not (isCutOff p))) where
           price-least (distance p) (triangle p ends) (distance-self p ends) (required p) f q (heads p t) (tails p t) (same-length p ends t joins) (within-heads p ends t joins) (within-tails p ends t joins)
           (balance-counted .balanced) feasible tight
 
-      -- WHICH THE STATE HOLDS
-      pub balance-least : balance d p t .cost ≡ leastBalancing p t
-      balance-least =
-          let a = price-at u (feasible-distance u (balance-certified .feasible)) (tight-distance f u (balance-certified .tight)) in
-          let b = balance-counted .priced in
+      -- WHICH ANY STATE HOLDS that is certified and counts these arcs
+      pub certified-least : (s : State) → Certified d (required p) s → Counted (required p) s (heads p t) (tails p t) → s .cost ≡ leastBalancing p t
+      unfolding leastBalancing
+      certified-least s c n =
+          let g = amount (s .amounts) in
+          let q = potential (s .potentials) in
+          let a = price-least (distance p) (triangle p ends) (distance-self p ends) (required p) g q (heads p t) (tails p t) (same-length p ends t joins) (within-heads p ends t joins) (within-tails p ends t joins)
+          (n .balanced) (feasible-distance q (c .feasible)) (tight-distance g q (c .tight)) in
+          let b = n .priced in
           omega arith
+
+      pub balance-least : balance d p t .cost ≡ leastBalancing p t
+      balance-least = certified-least (balance d p t) balance-certified balance-counted
 
       pub balance-room : balance d p t .count ≤ 356
       balance-room =
@@ -292,6 +299,34 @@ module _ (p : Plan) (ok : WellFormed p) (connected : T (not (isCutOff p))) where
           simp zl (omega (arith, simp zl at a));
     }
 
+    -- AND MULTIPLIERS ARE FEASIBLE, AND TIGHT FOR THE AMOUNTS: nothing that is sent has a reduced cost, since they price the imbalance at what the amounts cost
+    module _ (v : Multipliers) (are : AreMultipliers p v) (q : ℕ → ℕ) (c : ℕ) (here : (i : ℕ) → List·Memᴰ i (required p) → v i +ℤ pos c ≡ pos (q i)) where
+      abbrev f₀ : ℕ → ℕ → ℕ
+      f₀ = amount (balance d p [] .amounts)
+
+      q-feasible : Feasible (distance p) (required p) q
+      unfolding reducedCost
+      q-feasible i j mi mj =
+          let a = are .feasible i j mi mj in
+          let b = here i mi in
+          let e = here j mj in
+          omega (arith, simp zl at a, simp zl at b, simp zl at e)
+
+      q-tight : Tight (distance p) (required p) f₀ q
+      q-tight =
+          let balanced = balance-counted [] none (omega arith) .balanced in
+          let a = cost-price (distance p) f₀ (required p) q (heads p []) (tails p []) (within-heads p ends [] none) (within-tails p ends [] none) balanced q-feasible in
+          let b = amounts-least [] none (omega arith) in
+          let g = price-from v q c here in
+          let e = are .tight in
+          slack-tight (distance p) f₀ (required p) q (heads p []) (tails p []) (within-heads p ends [] none) (within-tails p ends [] none) balanced q-feasible (omega (arith, z, simp zl at g))
+
+      pub multipliers-heights : Feasible d (required p) q × Tight d (required p) f₀ q
+      multipliers-heights = (
+        (λ i j mi mj. (let h = q-feasible i j mi mj in let e = agrees i j mi mj in omega arith)),
+        (λ i j mi mj o. (let h = q-tight i j mi mj o in let e = agrees i j mi mj in omega arith)),
+      )
+
     module _ (root : ℕ) (mr : List·Memᴰ root (required p)) where
       abbrev s : State
       s = balance d p []
@@ -332,30 +367,13 @@ module _ (p : Plan) (ok : WellFormed p) (connected : T (not (isCutOff p))) where
             let e = zero-there in
             sym (pos-abs (simp zl (omega (arith, z, simp zl at a))))
 
-        q-feasible : Feasible (distance p) (required p) q
-        unfolding reducedCost
-        q-feasible i j mi mj =
-            let a = others .feasible i j mi mj in
-            let b = q-here i mi in
-            let e = q-here j mj in
-            omega (arith, simp zl at a, simp zl at b, simp zl at e)
-
-        q-tight : Tight (distance p) (required p) (amount (s .amounts)) q
-        q-tight =
-            let f = amount (s .amounts) in
-            let a = cost-price (distance p) (amount (s .amounts)) (required p) q (heads p []) (tails p []) (within-heads p ends [] none) (within-tails p ends [] none)
-            (balance-counted [] none (omega arith) .balanced) q-feasible in
-            let b = amounts-least [] none (omega arith) in
-            let c = price-from v q 4128705 q-here in
-            let e = others .tight in
-            slack-tight (distance p) (amount (s .amounts)) (required p) q (heads p []) (tails p []) (within-heads p ends [] none) (within-tails p ends [] none)
-            (balance-counted [] none (omega arith) .balanced) q-feasible (omega (arith, z, simp zl at c))
+        q-both : Feasible d (required p) q × Tight d (required p) (amount (s .amounts)) q
+        q-both = multipliers-heights v others q 4128705 q-here
 
         no-greater : (i : ℕ) → v i ≤ℤ U i
         no-greater i = elim (mem? i (required p)) [
           | inl m ↦
-              let a = below-greatest d (required p) table-metric s certified room root mr q (λ i j mi mj. (let h = q-feasible i j mi mj in let e = agrees i j mi mj in omega arith))
-              (λ i j mi mj h. (let g = q-tight i j mi mj h in let e = agrees i j mi mj in omega arith)) i m in
+              let a = below-greatest d (required p) table-metric s certified room root mr q (q-both .0) (q-both .1) i m in
               let b = q-here i m in
               let c = q-here root mr in
               let e = U-here i m in

@@ -28,12 +28,12 @@ at l v = getD l v 0
 
 module _ (len : ℕ → ℕ) (w base : ℕ) where
   -- r is s, relaxed at the vertices us
-  record Relaxed (us : List ℕ) (s r : List ℕ × List ℕ) : Type 0 where
-    long-distance : length (r .0) ≡ length (s .0)
-    long-next : length (r .1) ≡ length (s .1)
-    down : (v : ℕ) → at (r .0) v ≤ at (s .0) v
-    near : (v : ℕ) → List·Memᴰ v us → at (r .0) v ≤ base + len v
-    from : (v : ℕ) → ((at (r .0) v ≡ at (s .0) v) × (at (r .1) v ≡ at (s .1) v)) ⊎ ((at (r .0) v ≡ base + len v) × (at (r .1) v ≡ w) × (at (r .0) v < at (s .0) v))
+  pub record Relaxed (us : List ℕ) (s r : List ℕ × List ℕ) : Type 0 where
+    pub long-distance : length (r .0) ≡ length (s .0)
+    pub long-next : length (r .1) ≡ length (s .1)
+    pub down : (v : ℕ) → at (r .0) v ≤ at (s .0) v
+    pub near : (v : ℕ) → List·Memᴰ v us → at (r .0) v ≤ base + len v
+    pub from : (v : ℕ) → ((at (r .0) v ≡ at (s .0) v) × (at (r .1) v ≡ at (s .1) v)) ⊎ ((at (r .0) v ≡ base + len v) × (at (r .1) v ≡ w) × (at (r .0) v < at (s .0) v))
 
   relaxed-one : (s : List ℕ × List ℕ) (v : ℕ) → v < length (s .0) → v < length (s .1) → Relaxed (v ∷ []) s (relaxed len w base s v)
   relaxed-one s v h g =
@@ -174,16 +174,16 @@ module _ (ℓ : ℕ → ℕ → ℕ) (vs : List ℕ) (t : ℕ) (ground : Ground 
     abbrev after : Found
     after = settle ℓ vs t (k + 1) w s
 
-    change : Relaxed (λ v. ℓ v w) w (at (s .distance) w) vs (s .distance, s .next) (after .distance, after .next)
+    pub change : Relaxed (λ v. ℓ v w) w (at (s .distance) w) vs (s .distance, s .next) (after .distance, after .next)
     unfolding settle relax
     change = relaxed-all (λ v. ℓ v w) w (at (s .distance) w) vs (s .distance, s .next)
         (λ v m. let a = ground .small v m in let b = before .long-distance in let c = before .long-next in (omega arith, omega arith))
 
-    rank-here : at (after .rank) w ≡ k + 1
+    pub rank-here : at (after .rank) w ≡ k + 1
     unfolding settle
     rank-here = getD-set-same (s .rank) w (k + 1) 0 (let a = ground .small w member in let b = before .long-rank in omega arith)
 
-    rank-other : (i : ℕ) → i ≢ w → at (after .rank) i ≡ at (s .rank) i
+    pub rank-other : (i : ℕ) → i ≢ w → at (after .rank) i ≡ at (s .rank) i
     unfolding settle
     rank-other i n = getD-set-other (s .rank) w i (k + 1) 0 n
 
@@ -192,7 +192,7 @@ module _ (ℓ : ℕ → ℕ → ℕ) (vs : List ℕ) (t : ℕ) (ground : Ground 
     rank-long = length-set (s .rank) w (k + 1) ∙ before .long-rank
 
     -- what is settled stays as it is
-    keep : (i : ℕ) → List·Memᴰ i vs → 0 < at (after .rank) i → (at (after .distance) i ≡ at (s .distance) i) × (at (after .next) i ≡ at (s .next) i)
+    pub keep : (i : ℕ) → List·Memᴰ i vs → 0 < at (after .rank) i → (at (after .distance) i ≡ at (s .distance) i) × (at (after .next) i ≡ at (s .next) i)
     keep i m h = elim (change .from i) [
       | inl p ↦ p
       | inr p ↦
@@ -234,7 +234,7 @@ module _ (ℓ : ℕ → ℕ → ℕ) (vs : List ℕ) (t : ℕ) (ground : Ground 
           subst⁻¹ (λ n. (List·Memᴰ n vs) × (0 < at (after .rank) n) × (at (after .distance) v ≡ at (after .distance) n + ℓ v n)) (p .1) (member, l, omega arith)
     ]
 
-    settle-step : Searching ℓ vs t (k + 1) after
+    pub settle-step : Searching ℓ vs t (k + 1) after
     settle-step = record {
       long-distance = change .long-distance ∙ before .long-distance;
       long-next = change .long-next ∙ before .long-next;
@@ -338,7 +338,7 @@ module _ (ℓ : ℕ → ℕ → ℕ) (vs : List ℕ) (t : ℕ) (ground : Ground 
   key-shut distance rank v h = ap (λ (b : Bool). cond b (at distance v) beyond) (ne-eqb (at rank v) 0 (λ e. omega arith))
 
   -- the nearest vertex is not settled, and no other such is nearer
-  nearest-holds : (goal k : ℕ) (s : Found) → List·Memᴰ goal vs → Searching ℓ vs t k s → k < length vs
+  pub nearest-holds : (goal k : ℕ) (s : Found) → List·Memᴰ goal vs → Searching ℓ vs t k s → k < length vs
       → List·Memᴰ (nearest vs goal (s .distance) (s .rank)) vs × (at (s .rank) (nearest vs goal (s .distance) (s .rank)) ≡ 0)
       × ((v : ℕ) → List·Memᴰ v vs → at (s .rank) v ≡ 0 → at (s .distance) (nearest vs goal (s .distance) (s .rank)) ≤ at (s .distance) v)
   unfolding nearest
@@ -362,13 +362,13 @@ module _ (ℓ : ℕ → ℕ → ℕ) (vs : List ℕ) (t : ℕ) (ground : Ground 
             )
       ]
 
-  round-step : (goal k : ℕ) (s : Found) → List·Memᴰ goal vs → Searching ℓ vs t k s → k < length vs → Searching ℓ vs t (k + 1) (round ℓ vs t goal k s)
+  pub round-step : (goal k : ℕ) (s : Found) → List·Memᴰ goal vs → Searching ℓ vs t k s → k < length vs → Searching ℓ vs t (k + 1) (round ℓ vs t goal k s)
   unfolding round
   round-step goal k s aim h l = let n = nearest-holds goal k s aim h l in settle-step k (nearest vs goal (s .distance) (s .rank)) s h (n .0) (n .1) (n .2)
 
   -- ---- the start
 
-  some-vertex : {us : List ℕ} → List·Memᴰ t us → 0 < length us
+  pub some-vertex : {us : List ℕ} → List·Memᴰ t us → 0 < length us
   some-vertex (List·Memᴰ·head e) = omega arith
   some-vertex (List·Memᴰ·tail m) = omega arith
 
@@ -393,11 +393,11 @@ module _ (ℓ : ℕ → ℕ → ℕ) (vs : List ℕ) (t : ℕ) (ground : Ground 
     | inr p ↦ let a = p .0 in (omega arith, p .1)
   ]
 
-  start-here : at (start ℓ vs t .rank) t ≡ 1
+  pub start-here : at (start ℓ vs t .rank) t ≡ 1
   unfolding start
   start-here = getD-set-same (replicate 64 0) t 1 0 (let a = ground .small t (ground .target) in let b = length-replicate {A = ℕ} 64 0 in omega arith)
 
-  start-other : (v : ℕ) → v ≢ t → at (start ℓ vs t .rank) v ≡ 0
+  pub start-other : (v : ℕ) → v ≢ t → at (start ℓ vs t .rank) v ≡ 0
   unfolding start
   start-other v n = getD-set-other (replicate 64 0) t v 1 0 n ∙ zero-at 64 v 0
 
@@ -416,7 +416,7 @@ module _ (ℓ : ℕ → ℕ → ℕ) (vs : List ℕ) (t : ℕ) (ground : Ground 
   start-small (suc n) zero = let a = ground .small t (ground .target) in omega arith
   start-small (suc n) (suc v) = start-small n v
 
-  start-holds : Searching ℓ vs t 1 (start ℓ vs t)
+  pub start-holds : Searching ℓ vs t 1 (start ℓ vs t)
   start-holds = record {
     long-distance = start-change .long-distance ∙ length-replicate 64 beyond;
     long-next = start-change .long-next ∙ length-replicate 64 t;

@@ -1,6 +1,6 @@
 -- Adding an arc keeps a state certified. Distances to t obey the residual lengths, so raising the potentials by them, by no more than h's, keeps every reduced
 -- cost and makes it 0 along the path from h to t.
-use mathlib.Core.Path.{_≡_, ap, ap₂, _∙_}
+use mathlib.Core.Path.{_≡_, ap, ap₂, _∙_, subst⁻¹}
 use mathlib.Core.Logic.{_⊎_, inl, inr}
 use mathlib.Core.Bool.{Bool, false, cond}
 use mathlib.Core.List.{List, _∷_, List·Memᴰ, List·Memᴰ·cases-cons, Memᴰ·cast}
@@ -17,10 +17,12 @@ use Rattle.postman.specs.Laws.Membership.{getD-mem}
 use Rattle.balance.specs.Bounds.{AtMost}
 use Rattle.balance.specs.Optimality.{Feasible, Tight, Balances}
 use Rattle.balance.specs.Search.{Found, beyond, search}
-use Rattle.balance.specs.Step.{State, amount, potential, residual, residualLength, augment, raise, way, add}
+use Rattle.balance.specs.Until.{until, settledBy}
+use Rattle.balance.specs.Step.{State, amount, potential, residual, residualLength, augment, raise, way, add, IsAdded}
 use Rattle.balance.specs.Invariant.{Metric, limit, Certified, Counted}
 use Rattle.balance.specs.Laws.Duality.{cost-price, tight-slack}
 use Rattle.balance.specs.Laws.Search.{Ground, Searching, searched, goal-settled}
+use Rattle.balance.specs.Laws.Until.{Agree, until-agrees, raise-same}
 use Rattle.balance.specs.Laws.Augment.{Sent, augment-sent}
 use Rattle.balance.specs.Laws.Fill.{fill-length, fill-other, fill-here}
 
@@ -131,14 +133,15 @@ module _ (d : ℕ → ℕ → ℕ) (vs : List ℕ) (metric : Metric d vs) (s : S
         let g = certified .feasible t h mt mh in
         omega arith
 
-    -- what the code asks of what it finds
-    pub next-small : AtMost 63 (way d vs s t h .next)
+    -- the way found
+    pub way-found : {w : Found} {last : ℕ} → w ≡ until ℓ vs t h last → last ≡ settledBy t h (length vs) → Agree vs t h w (way d vs s t h)
     unfolding way
-    next-small = state .1 .inside
+    way-found ew el = subst⁻¹ (λ (w : Found). Agree vs t h w found) (ew ∙ ap (until ℓ vs t h) el) (until-agrees ℓ vs t (residual-ground t mt) h mh)
 
-    pub most-small : getD (way d vs s t h .distance) h 0 ≤ beyond
+    -- what the code asks of it
+    pub most-small : {w : Found} {k : ℕ} → Agree vs t h w (way d vs s t h) → k ≡ h → getD (w .distance) k 0 ≤ beyond
     unfolding way
-    most-small = let a = x-bound in omega arith
+    most-small {w} agree e = let a = x-bound in let b = agree .goal-same in let c = ap (λ k. getD (w .distance) k 0) e in omega arith
 
     -- ---- the potentials raised
 
@@ -225,6 +228,11 @@ module _ (d : ℕ → ℕ → ℕ) (vs : List ℕ) (metric : Metric d vs) (s : S
       loopless = path-sent .loopless;
     }
 
+    -- the potentials after certify the amounts before too
+    pub add-tight : Tight d vs f (potential (add d vs s t h .potentials))
+    unfolding add way
+    add-tight = raise-tight
+
     within-more : (v : ℕ) (us : List ℕ) → List·Memᴰ v vs → Within vs us → Within vs (v ∷ us)
     within-more v us m w = record {
       once = w .once;
@@ -256,9 +264,13 @@ module _ (d : ℕ → ℕ → ℕ) (vs : List ℕ) (metric : Metric d vs) (s : S
 
     -- ---- what the code asks, and what it puts together
 
-    pub sum-small : {k : ℕ} → k ≡ h → s .cost + getD (raise (way d vs s t h .distance) (getD (way d vs s t h .distance) h 0) (s .potentials) vs) k 0 < 18446744073709551616
+    pub sum-small : {w : Found} {k : ℕ} → Agree vs t h w (way d vs s t h) → k ≡ h → s .cost + getD (raise (w .distance) (getD (w .distance) k 0) (s .potentials) vs) k 0 < 18446744073709551616
     unfolding way
-    sum-small {k} e = let a = raise-low k in let b = certified .numbers .cheap in omega arith
+    sum-small {w} {k} agree e =
+        let a = raise-low k in
+        let b = certified .numbers .cheap in
+        let c = ap (λ (u : List ℕ). getD u k 0) (ap (λ k. raise (w .distance) (getD (w .distance) k 0) (s .potentials) vs) e ∙ raise-same (s .potentials) agree) in
+        omega arith
 
   pub levels-small : AtMost beyond (s .potentials)
   levels-small k = let a = certified .numbers .low k in omega arith
@@ -273,14 +285,22 @@ state-same : (n : ℕ) {f f′ u u′ : List ℕ} {c c′ : ℕ} → f ≡ f′ 
 state-same n {f} {f′} {u} {u′} {c} ef eu ec = ap (λ (q : List ℕ). made n q u c) ef ∙ ap (λ (q : List ℕ). made n f′ q c) eu ∙ ap (made n f′ u′) ec
 
 module _ (d : ℕ → ℕ → ℕ) (vs : List ℕ) (s : State) (t h : ℕ) where
-  pub add-made : {w : Found} {f u : List ℕ} {t′ h′ cost : ℕ} → w ≡ way d vs s t h → h′ ≡ h → t′ ≡ t
-      → u ≡ raise (w .distance) (getD (w .distance) h′ 0) (s .potentials) vs → f ≡ augment (w .next) t 64 (s .amounts) h → cost ≡ s .cost + getD u h′ 0 - getD u t′ 0
+  -- but for the amounts
+  pub price-made : {w : Found} {u : List ℕ} {t′ h′ cost : ℕ} → Agree vs t h w (way d vs s t h) → h′ ≡ h → t′ ≡ t
+      → u ≡ raise (w .distance) (getD (w .distance) h′ 0) (s .potentials) vs → cost ≡ s .cost + getD u h′ 0 - getD u t′ 0 → IsAdded d vs s t h (w .next) u cost
+  unfolding add
+  price-made {w} {u} {t′} {h′} {cost} agree eh et eu ec =
+      let r = way d vs s t h in
+      let eu′ : u ≡ raise (r .distance) (getD (r .distance) h 0) (s .potentials) vs
+      = eu ∙ ap (λ q. raise (w .distance) (getD (w .distance) q 0) (s .potentials) vs) eh ∙ raise-same (s .potentials) agree in
+      record {
+        next-low = agree .inside;
+        amounts-are = agree .way-same 64 (s .amounts);
+        potentials-are = eu′;
+        cost-is = ec ∙ ap₂ (λ (p q : ℕ). s .cost + getD u p 0 - getD u q 0) eh et ∙ ap (λ (u : List ℕ). s .cost + getD u h 0 - getD u t 0) eu′;
+      }
+
+  pub add-made : {f next u : List ℕ} {cost : ℕ} → IsAdded d vs s t h next u cost → f ≡ augment next t 64 (s .amounts) h
       → record { amounts = f; potentials = u; cost = cost; count = s .count + 1 } ≡ add d vs s t h
   unfolding add
-  add-made {w} {f} {u} {t′} {h′} {cost} ew eh et eu ef ec =
-      let g : Found → List ℕ = λ w. raise (w .distance) (getD (w .distance) h 0) (s .potentials) vs in
-      let eu′ : u ≡ g (way d vs s t h) = eu ∙ ap (λ q. raise (w .distance) (getD (w .distance) q 0) (s .potentials) vs) eh ∙ ap g ew in
-      let ef′ : f ≡ augment (way d vs s t h .next) t 64 (s .amounts) h = ef ∙ ap (λ (w : Found). augment (w .next) t 64 (s .amounts) h) ew in
-      let ec′ : cost ≡ s .cost + getD (g (way d vs s t h)) h 0 - getD (g (way d vs s t h)) t 0
-      = ec ∙ ap₂ (λ (p q : ℕ). s .cost + getD u p 0 - getD u q 0) eh et ∙ ap (λ (u : List ℕ). s .cost + getD u h 0 - getD u t 0) eu′ in
-      state-same (s .count + 1) ef′ eu′ ec′
+  add-made a ef = state-same (s .count + 1) (ef ∙ a .amounts-are) (a .potentials-are) (a .cost-is)

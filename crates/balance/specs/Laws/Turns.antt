@@ -1,6 +1,6 @@
 -- One turn of each loop, as its model has it.
 use mathlib.Core.Path.{_≡_, refl, sym, ap, ap₂, _∙_}
-use mathlib.Core.Bool.{Bool, true, false, not, cond, _&&_}
+use mathlib.Core.Bool.{Bool, true, not, cond, _&&_}
 use mathlib.Core.List.{List, _∷_}
 use Prim.Native.Nat.{ℕ, zero, suc, _+_, _*_, _-_, _≤_, _<_, min}
 use mathlib.Core.Logic.{_≢_}
@@ -15,21 +15,16 @@ use lib.ListN.{length, getD, set, take, drop, replicate, drop-of-length-le}
 use lib.Dec.{eqb, ltb}
 use Rattle.balance.specs.Fold.{fold}
 use Rattle.balance.specs.Search.{Found, beyond, relaxed, relax, nearer, nearest, openDistance, start, settle, round, rounds, search}
-use Rattle.balance.specs.Step.{residual, residualLength, place, moved, push, augment, State, add, addAll, arcsOf}
-use Rattle.balance.specs.Laws.Fold.{fold-more, fold-keeps}
+use Rattle.balance.specs.Until.{roundsUntil, until}
+use Rattle.balance.specs.Step.{place, moved, push, augment, State, add, addAll, arcsOf}
+use Rattle.balance.specs.Laws.Fold.{fold-more, fold-turn, fold-keeps}
 
-pub relax-more : (d : ℕ → ℕ → ℕ) (f u vs : List ℕ) (w base : ℕ) (s : List ℕ × List ℕ) {x next : List ℕ} (a : ℕ) {v uw len lo ch : ℕ}
-    → (x, next) ≡ fold (relaxed (λ v. residualLength d f u v w) w base) s (take a vs) → a < length vs
-    → v ≡ getD vs a 0 → uw ≡ getD u w 0 → len ≡ residual (d v w) (getD u v 0) uw (getD f (w * 64 + v) 0)
-    → lo ≡ min (base + len) (getD x v 0) → ch ≡ cond (ltb (base + len) (getD x v 0)) w (getD next v 0)
-    → (set x v lo, set next v ch) ≡ fold (relaxed (λ v. residualLength d f u v w) w base) s (take (a + 1) vs)
-relax-more d f u vs w base s {x} {next} a {v} {uw} {len} {lo} {ch} inv l ev eu el elo ech =
-    let e : len ≡ residualLength d f u v w = el ∙ ap (λ q. residual (d v w) (getD u v 0) q (getD f (w * 64 + v) 0)) eu in
-    let turn : (set x v lo, set next v ch) ≡ relaxed (λ v. residualLength d f u v w) w base (x, next) v
-    = ap₂ (λ (p q : ℕ). (set x v p, set next v q)) (elo ∙ ap (λ q. min (base + q) (getD x v 0)) e) (ech ∙ ap (λ q. cond (ltb (base + q) (getD x v 0)) w (getD next v 0)) e) in
-    turn ∙ ap (λ (q : List ℕ × List ℕ). relaxed (λ v. residualLength d f u v w) w base q v) inv
-    ∙ ap (λ n. relaxed (λ v. residualLength d f u v w) w base (fold (relaxed (λ v. residualLength d f u v w) w base) s (take a vs)) n) ev
-    ∙ sym (fold-more (relaxed (λ v. residualLength d f u v w) w base) s vs a l)
+pub relax-more : (len : ℕ → ℕ) (w base : ℕ) (vs : List ℕ) (s : List ℕ × List ℕ) {x next x′ next′ : List ℕ} (a : ℕ) {v c : ℕ}
+    → (x, next) ≡ fold (relaxed len w base) s (take a vs) → a < length vs → v ≡ getD vs a 0 → c ≡ base + len v
+    → x′ ≡ set x v (min c (getD x v 0)) → next′ ≡ set next v (cond (ltb c (getD x v 0)) w (getD next v 0)) → (x′, next′) ≡ fold (relaxed len w base) s (take (a + 1) vs)
+relax-more len w base vs s {x} {next} {x′} {next′} a {v} inv l ev ec ex en =
+    fold-turn (relaxed len w base) s vs a inv l ev
+    (ap₂ (λ (p q : List ℕ). (p, q)) (ex ∙ ap (λ q. set x v (min q (getD x v 0))) ec) (en ∙ ap (λ q. set next v (cond (ltb q (getD x v 0)) w (getD next v 0))) ec))
 
 pub nearest-more : (x rank vs : List ℕ) (s : ℕ × ℕ) {best low : ℕ} (a : ℕ) {v i key best′ low′ : ℕ}
     → (best, low) ≡ fold (nearer x rank) s (take a vs) → a < length vs
@@ -107,33 +102,42 @@ module _ (ℓ : ℕ → ℕ → ℕ) (vs : List ℕ) (t : ℕ) (whole : Bool) (g
   rounds-end zero k s e = refl
   rounds-end (suc n) k s e = rw e
 
-  pub rounds-none : (k : ℕ) (s : Found) → length vs ≤ k → rounds ℓ vs t whole goal (length vs - k) k s ≡ s
-  unfolding rounds
-  rounds-none k s h = let e : length vs - k ≡ 0 = omega arith in ap (λ n. rounds ℓ vs t whole goal n k s) e
+module _ (ℓ : ℕ → ℕ → ℕ) (vs : List ℕ) (t goal : ℕ) where
+  pub until-end : (n k : ℕ) (s : Found) → nearest vs goal (s .distance) (s .rank) ≡ goal → roundsUntil ℓ vs t goal n k s ≡ s
+  unfolding roundsUntil
+  until-end zero k s e = refl
+  until-end (suc n) k s e = ap (λ (b : Bool). cond b s (roundsUntil ℓ vs t goal n (k + 1) (round ℓ vs t goal k s))) (eq-eqb (nearest vs goal (s .distance) (s .rank)) goal e)
 
-  pub rounds-more : (k : ℕ) (x next rank : List ℕ) {w base k′ : ℕ} {x′ next′ : List ℕ} {r : Found}
-      → rounds ℓ vs t whole goal (length vs - k) k (record { distance = x; next = next; rank = rank }) ≡ r → k < length vs
-      → (not whole && ltb 0 (getD rank goal 0)) ≡ false → w ≡ nearest vs goal x rank → base ≡ getD x w 0
-      → x′ ≡ relax ℓ vs w base (x, next) .0 → next′ ≡ relax ℓ vs w base (x, next) .1 → k′ ≡ k + 1
-      → rounds ℓ vs t whole goal (length vs - (k + 1)) (k + 1) (record { distance = x′; next = next′; rank = set rank w k′ }) ≡ r
-  unfolding rounds round settle
-  rounds-more k x next rank {w} {base} {k′} inv l test ew eb ex en ek =
-      let m : length vs - k ≡ suc (length vs - (k + 1)) = omega arith in
-      let s = made x next rank in
+  pub until-on : (n k : ℕ) (s : Found) → nearest vs goal (s .distance) (s .rank) ≢ goal
+      → roundsUntil ℓ vs t goal (suc n) k s ≡ roundsUntil ℓ vs t goal n (k + 1) (round ℓ vs t goal k s)
+  unfolding roundsUntil
+  until-on n k s q = ap (λ (b : Bool). cond b s (roundsUntil ℓ vs t goal n (k + 1) (round ℓ vs t goal k s))) (ne-eqb (nearest vs goal (s .distance) (s .rank)) goal q)
+
+  pub until-none : (most k : ℕ) (s : Found) → most ≤ k → roundsUntil ℓ vs t goal (most - k) k s ≡ s
+  unfolding roundsUntil
+  until-none most k s h = let e : most - k ≡ 0 = omega arith in ap (λ n. roundsUntil ℓ vs t goal n k s) e
+
+  pub until-more : (most k : ℕ) (x next rank : List ℕ) {w i base k′ : ℕ} {x′ next′ : List ℕ} {r : Found}
+      → roundsUntil ℓ vs t goal (most - k) k (record { distance = x; next = next; rank = rank }) ≡ r → k < most → w ≡ nearest vs goal x rank → w ≢ goal
+      → i ≡ w → base ≡ getD x i 0 → x′ ≡ relax ℓ vs i base (x, next) .0 → next′ ≡ relax ℓ vs i base (x, next) .1 → k′ ≡ k + 1
+      → roundsUntil ℓ vs t goal (most - (k + 1)) (k + 1) (record { distance = x′; next = next′; rank = set rank i k′ }) ≡ r
+  unfolding round settle
+  until-more most k x next rank {w} {i} {base} {k′} inv l ew nw ei eb ex en ek =
+      let m : most - k ≡ suc (most - (k + 1)) = omega arith in
       let turn : made _ _ _ ≡ round ℓ vs t goal k (made x next rank)
-      = found-same (ex ∙ ap (λ q. relax ℓ vs w q (x, next) .0) eb) (en ∙ ap (λ q. relax ℓ vs w q (x, next) .1) eb) (ap (set rank w) ek)
-      ∙ ap (λ q. settle ℓ vs t (k + 1) q (made x next rank)) ew in
-      ap (rounds ℓ vs t whole goal (length vs - (k + 1)) (k + 1)) turn
-      ∙ sym (ap (λ (b : Bool). cond b (made x next rank) (rounds ℓ vs t whole goal (length vs - (k + 1)) (k + 1) (round ℓ vs t goal k (made x next rank)))) test)
-      ∙ ap (λ n. rounds ℓ vs t whole goal n k (made x next rank)) (sym m)
+      = found-same (ex ∙ ap (λ q. relax ℓ vs i q (x, next) .0) eb) (en ∙ ap (λ q. relax ℓ vs i q (x, next) .1) eb) (ap (set rank i) ek)
+      ∙ ap (λ q. settle ℓ vs t (k + 1) q (made x next rank)) (ei ∙ ew) in
+      ap (roundsUntil ℓ vs t goal (most - (k + 1)) (k + 1)) turn
+      ∙ sym (until-on (most - (k + 1)) k (made x next rank) (λ e. nw (ew ∙ e)))
+      ∙ ap (λ n. roundsUntil ℓ vs t goal n k (made x next rank)) (sym m)
       ∙ inv
 
-  pub rounds-start : {target : ℕ} {x next : List ℕ} → target ≡ t
+  pub until-start : (most : ℕ) {target : ℕ} {x next : List ℕ} → target ≡ t
       → x ≡ relax ℓ vs target 0 (replicate 64 beyond, replicate 64 t) .0 → next ≡ relax ℓ vs target 0 (replicate 64 beyond, replicate 64 t) .1
-      → rounds ℓ vs t whole goal (length vs - 1) 1 (record { distance = x; next = next; rank = set (replicate 64 0) target 1 }) ≡ search ℓ vs t whole goal
-  unfolding search start
-  rounds-start et ex en =
-      ap (rounds ℓ vs t whole goal (length vs - 1) 1)
+      → roundsUntil ℓ vs t goal (most - 1) 1 (record { distance = x; next = next; rank = set (replicate 64 0) target 1 }) ≡ until ℓ vs t goal most
+  unfolding until start
+  until-start most et ex en =
+      ap (roundsUntil ℓ vs t goal (most - 1) 1)
       (found-same (ex ∙ ap (λ q. relax ℓ vs q 0 (replicate 64 beyond, replicate 64 t) .0) et) (en ∙ ap (λ q. relax ℓ vs q 0 (replicate 64 beyond, replicate 64 t) .1) et)
       (ap (λ q. set (replicate 64 0) q 1) et))
 

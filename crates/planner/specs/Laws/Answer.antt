@@ -26,11 +26,11 @@ use Rattle.postman.specs.Laws.Optimality.{Plannable, some-arborescence, guarant
 use Rattle.postman.specs.Laws.Search.{best-mem}
 use Rattle.balance.specs.Step.{arcsOf}
 use Rattle.circuit.specs.Filled.{linksOf}
-use Rattle.circuit.specs.Tour.{tour, written}
+use Rattle.circuit.specs.Tour.{written}
 use Rattle.search.specs.Links.{linksIn}
 use Rattle.planner.specs.declared.Planned.{Planned}
 use Rattle.refusal.specs.Verdict.{verdictNumber}
-use Rattle.planner.specs.Tour.{tourOf, amountsOf}
+use Rattle.planner.specs.Tour.{driveOf, tourOf}
 use Rattle.planner.specs.Prepared.{IsTree}
 use Rattle.planner.specs.Contract.{summaryOf, multipliersOf, countUnless, IsPlanned}
 use Rattle.planner.specs.Ascent.{multipliersFor}
@@ -145,16 +145,13 @@ module _ (p : Plan) (ok : Plannable p) (few : componentCount p ≤ 8) (budget : 
       ∙ ap (λ (t : ℕ). fieldsOf (bestCost p budget) (cond (isWhole p budget) (pos (bestCost p budget)) b) t (isWhole p budget) (r .parts)) et
       ∙ ap (λ (k : ℕ). fieldsOf (bestCost p budget) (cond (isWhole p budget) (pos (bestCost p budget)) b) (triedCount p budget) (isWhole p budget) k) ek
 
-  abbrev laid : List Link → List ℕ
-  laid t = tour p t (amountsOf p t)
-
-  laid-best : (t : List Link) → t ≡ bestArborescence p budget → laid t ≡ tourOf p budget
+  laid-best : (t : List Link) → t ≡ bestArborescence p budget → driveOf p t ≡ tourOf p budget
   unfolding tourOf
-  laid-best t e = ap laid e
+  laid-best t e = ap (driveOf p) e
 
   pub finished : (old new : List ℕ) (r : Planned) → verdictNumber (r .verdict) ≡ none → r .multipliers ≡ multipliersFor p → summaryOf r ≡ summary p budget (multipliersOf r)
-      → (n : ℕ) (ts hs : List ℕ) → linksIn n ts hs ≡ bestArborescence p budget → new ≡ written (laid (linksOf (take n ts) (take n hs))) old
-      → r .places ≡ length (laid (linksOf (take n ts) (take n hs))) → IsPlanned p budget none old new r
+      → (n : ℕ) (ts hs : List ℕ) → linksIn n ts hs ≡ bestArborescence p budget → new ≡ written (driveOf p (linksOf (take n ts) (take n hs))) old
+      → r .places ≡ length (driveOf p (linksOf (take n ts) (take n hs))) → IsPlanned p budget none old new r
   finished old new r v g s n ts hs e w m =
       let l = laid-best (linksOf (take n ts) (take n hs)) (kept-links n ts hs e) in
       is-planned old new r v g s (w ∙ ap (λ (t : List ℕ). written t old) l) (m ∙ ap length l)

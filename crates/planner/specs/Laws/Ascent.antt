@@ -1,11 +1,11 @@
 -- The multipliers that are answered are lawful, 0 at the root, and give a bound no lower than that of the greatest ones: each step of an ascent keeps that of the best it has met, whatever heights it goes to.
-use mathlib.Core.Path.{_≡_, refl, ap, _∙_, subst, subst⁻¹}
-use mathlib.Core.Bool.{Bool, _&&_}
+use mathlib.Core.Path.{_≡_, refl, sym, ap, _∙_, subst, subst⁻¹}
+use mathlib.Core.Bool.{Bool, true, _&&_}
 use mathlib.Core.List.{List, []}
 use Prim.Native.Nat.{ℕ, _≤_, _<_}
 use native.Mathlib.Omega.{arith}
 use lib.ListN.{length, getD}
-use lib.Dec.{ltb}
+use lib.Dec.{T, ltb}
 use lib.IntN.{ℤ, pos}
 use lib.Signed.{ltZ, _≤ℤ_, ltZ-yes}
 use Rattle.integers.specs.Linear.{z, Within}
@@ -19,7 +19,6 @@ use Rattle.postman.specs.Laws.Tests.{cond-ind, and-parts}
 use Rattle.postman.specs.Laws.Multiplier.{greatest-unique}
 use Rattle.postman.specs.Laws.Optimality.{Plannable}
 use Rattle.balance.specs.Step.{State, cell}
-use Rattle.balance.specs.Multipliers.{multipliers}
 use Rattle.balance.specs.Balance.{balance}
 use Rattle.balance.specs.Bounds.{AtMost}
 use Rattle.balance.specs.Laws.Step.{vertices-small}
@@ -28,12 +27,14 @@ use Rattle.ascent.specs.Turns.{turns}
 use Rattle.ascent.specs.Heights.{multipliersAt}
 use Rattle.ascent.specs.Lawful.{areLawful}
 use Rattle.ascent.specs.Laws.Turns.{turns-keep}
+use Rattle.network.specs.declared.network.Network.{Network}
+use Rattle.network.specs.Contracts.{IsNetwork}
 use Rattle.planner.specs.Tour.{tableOf}
 use Rattle.planner.specs.Ascent.{Climb, boundOf, attempt, climb, begin, ascent, componentsOf, greatestOf, multipliersFor}
-use Rattle.planner.specs.Prepared.{IsPrepared}
+use Rattle.planner.specs.Prepared.{IsBase, IsPrepared}
 use Rattle.planner.specs.Priced.{IsPriced}
 use Rattle.planner.specs.Laws.Table.{filled}
-use Rattle.planner.specs.Laws.Solve.{Rooted, some-component, greatest, heights-rooted, greatest-is, priced}
+use Rattle.planner.specs.Laws.Solve.{Rooted, some-component, greatest, greatest-rooted, heights-rooted, lawful-rooted, priced}
 use Rattle.planner.specs.Laws.Root.{some-place}
 use Rattle.planner.specs.Laws.Lay.{base-metric}
 use Rattle.planner.specs.Laws.Bound.{are-costs}
@@ -70,10 +71,8 @@ module _ (p : Plan) (ok : Plannable p) (few : componentCount p ≤ 8) where
         record { rooted = b .rooted; bound-is = b .bound-is; above = b .above })
 
     begin-kept : Kept (begin p d f (required p) components k (greatestOf p))
-    unfolding begin greatestOf
-    begin-kept =
-        let g = greatest p ok few in
-        record { rooted = record { multipliers = g .multipliers; at-root = g .at-root }; bound-is = refl; above = omega (arith, z) }
+    unfolding begin
+    begin-kept = record { rooted = greatest-rooted p ok few (greatestOf p) refl; bound-is = refl; above = omega (arith, z) }
 
     ascent-kept : Kept (turns (climb p d f (required p) components k) (begin p d f (required p) components k (greatestOf p)) 20)
     ascent-kept = turns-keep (climb p d f (required p) components k) Kept climb-kept (begin p d f (required p) components k (greatestOf p)) begin-kept 20
@@ -95,37 +94,68 @@ module _ (p : Plan) (ok : Plannable p) (few : componentCount p ≤ 8) where
 
 -- ---- over the lists that the code has
 
-module _ (p : Plan) (table : List (List ℕ)) (vs : List ℕ) (base : State) (c : List ℕ) (flags : List Bool) (k r : ℕ) (h : IsPrepared p table vs base c flags k r) where
+-- a plan's state and its network, taken apart
+pub is-prepared : (p : Plan) (table : List (List ℕ)) (vs : List ℕ) (base : State) → IsBase p table vs base → (net : Network) → IsNetwork p net → length (net .required) ≡ 64
+    → IsPrepared p table (base .amounts) vs (net .component) (net .required) (net .components) (net .«required_cost») (base .cost)
+is-prepared p table vs base b net n l = record {
+  known = b .known;
+  amounts-are = ap (λ (s : State). s .amounts) (b .base-is);
+  price-is = ap (λ (s : State). s .cost) (b .base-is);
+  long = l;
+  required-flags = n .required;
+  components = n .components;
+  cost = n .required-cost;
+}
+
+module _ (p : Plan) (table : List (List ℕ)) (f vs c : List ℕ) (flags : List Bool) (k r price : ℕ) (h : IsPrepared p table f vs c flags k r price) where
+  -- the state that the amounts and the cost are of
+  abbrev base : State
+  base = balance (cell (tableOf p)) p []
+
+  is-base : IsBase p table vs base
+  is-base = record { known = h .known; base-is = refl }
+
   components-are : length c ≡ 64 → c ≡ componentsOf p
   unfolding componentsOf below
   components-are l = filled (component p) 0 c 0 64 l (λ j m. h .components .each j m ∙ ap (component p) (omega arith))
 
-  pub ascended-is : length c ≡ 64 → (u : List ℤ) → u ≡ multipliers (cell table) vs base (root p) → ascent p table (base .amounts) vs c k u ≡ multipliersFor p
+  pub ascended-is : length c ≡ 64 → (u : List ℤ) → u ≡ greatestOf p → ascent p table f vs c k u ≡ multipliersFor p
   unfolding multipliersFor
   ascended-is l u e =
-      ap (ascent p table (base .amounts) vs c k) (greatest-is p table vs base (h .state) u e)
-      ∙ ap (λ (t : List (List ℕ)). ascent p t (base .amounts) vs c k (greatestOf p)) (h .state .known .distances)
-      ∙ ap (λ (s : State). ascent p (tableOf p) (s .amounts) vs c k (greatestOf p)) (h .state .base-is)
-      ∙ ap (λ (v : List ℕ). ascent p (tableOf p) (balance (cell (tableOf p)) p [] .amounts) v c k (greatestOf p)) (h .state .known .vertices)
-      ∙ ap (λ (c : List ℕ). ascent p (tableOf p) (balance (cell (tableOf p)) p [] .amounts) (required p) c k (greatestOf p)) (components-are l)
-      ∙ ap (λ (k : ℕ). ascent p (tableOf p) (balance (cell (tableOf p)) p [] .amounts) (required p) (componentsOf p) k (greatestOf p)) (h .components .all)
+      ap (ascent p table f vs c k) e
+      ∙ ap (λ (t : List (List ℕ)). ascent p t f vs c k (greatestOf p)) (h .known .distances)
+      ∙ ap (λ (f : List ℕ). ascent p (tableOf p) f vs c k (greatestOf p)) (h .amounts-are)
+      ∙ ap (λ (v : List ℕ). ascent p (tableOf p) (base .amounts) v c k (greatestOf p)) (h .known .vertices)
+      ∙ ap (λ (c : List ℕ). ascent p (tableOf p) (base .amounts) (required p) c k (greatestOf p)) (components-are l)
+      ∙ ap (λ (k : ℕ). ascent p (tableOf p) (base .amounts) (required p) (componentsOf p) k (greatestOf p)) (h .components .all)
 
   -- what the functions of the ascent ask
   pub vertices-low : AtMost 63 vs
-  vertices-low = vertices-small (cell table) vs (base-metric p table vs (h .state .known))
+  vertices-low = vertices-small (cell table) vs (base-metric p table vs (h .known))
 
   pub some-vertices : 0 < length vs
-  some-vertices = some-place p table vs base (h .state)
+  some-vertices = some-place p table vs base is-base
 
   pub component-range : (1 ≤ k) × (k ≤ 8)
   component-range =
       let a = h .components .all in
-      let b = some-component p (h .state .known .plannable) (h .state .known .few) in
-      let e = h .state .known .few in
+      let b = some-component p (h .known .plannable) (h .known .few) in
+      let e = h .known .few in
       (omega arith, omega arith)
 
-  pub rooted-priced : (u : List ℤ) → Rooted p u → IsPriced p table u c flags k r (base .cost)
-  rooted-priced u e = priced p table vs base (h .state) u e c flags k r (h .long) (h .required-flags) (h .components) (h .cost)
+  -- the bound of multipliers that are 0 at the root can be asked for
+  rooted-priced : (u : List ℤ) → Rooted p u → IsPriced p table u c flags k r price
+  rooted-priced u e = subst⁻¹ (IsPriced p table u c flags k r) (h .price-is) (priced p table vs base is-base u e c flags k r (h .long) (h .required-flags) (h .components) (h .cost))
 
-  pub rooted-within : (u : List ℤ) → Rooted p u → (v : ℕ) → v < 64 → Within 1099511627776 (getD u v (pos 0))
-  rooted-within u e v l = are-costs p table u c flags k r (base .cost) (rooted-priced u e) (h .long) .small v l
+  -- so can that of the greatest ones
+  pub greatest-priced : (u : List ℤ) → u ≡ greatestOf p → IsPriced p table u c flags k r price
+  greatest-priced u e = rooted-priced u (greatest-rooted p (h .known .plannable) (h .known .few) u e)
+
+  pub greatest-within : (u : List ℤ) → u ≡ greatestOf p → (v : ℕ) → v < 64 → Within 1099511627776 (getD u v (pos 0))
+  greatest-within u e v l = are-costs p table u c flags k r price (greatest-priced u e) (h .long) .small v l
+
+  -- and that of heights that pass the test
+  pub lawful-priced : (x : List ℕ) {b : Bool} → b ≡ areLawful table f x vs → b ≡ true → (u : List ℤ) → u ≡ multipliersAt x vs → IsPriced p table u c flags k r price
+  lawful-priced x e y u eu =
+      let t : T (areLawful table f x vs) = subst⁻¹ (λ (b : Bool). T b) (sym e ∙ y) tt in
+      rooted-priced u (subst⁻¹ (Rooted p) eu (lawful-rooted p table vs base is-base x (subst (λ (f : List ℕ). T (areLawful table f x vs)) (h .amounts-are) t)))

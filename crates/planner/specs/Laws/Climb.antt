@@ -15,17 +15,21 @@ use Rattle.ascent.specs.Step.{Step, step}
 use Rattle.ascent.specs.Lawful.{areLawful}
 use Rattle.planner.specs.Ascent.{Climb, boundOf, taken, moved, attempt, climb, begin, ascent}
 
-module _ (p : Plan) (d : List (List ℕ)) (f vs components : List ℕ) (k : ℕ) where
-  pub attempt-none : (c : Climb) {b : Bool} → b ≡ areLawful d f (c .heights) vs → b ≡ false → c ≡ attempt p d f vs components k c
-  unfolding attempt
-  attempt-none c e n = rw (sym e ∙ n)
+-- its own best in place of its best
+pub held-is : (c : Climb) {m : ℤ} → m ≡ c .bound → record { heights = c .heights; before = c .before; best = c .best; bound = m; value = c .value; stride = c .stride; done = c .done } ≡ c
+held-is c e = ap (λ (l : ℤ). record { heights = c .heights; before = c .before; best = c .best; bound = l; value = c .value; stride = c .stride; done = c .done }) e
 
-  pub attempt-low : (c : Climb) {b t : Bool} {u : List ℤ} {l : ℤ} → b ≡ areLawful d f (c .heights) vs → b ≡ true → u ≡ multipliersAt (c .heights) vs → l ≡ boundOf p u
-      → t ≡ ltZ (c .bound) l → t ≡ false → c ≡ attempt p d f vs components k c
+module _ (p : Plan) (d : List (List ℕ)) (f vs components : List ℕ) (k : ℕ) where
+  pub attempt-none : (c : Climb) {b : Bool} {m : ℤ} → b ≡ areLawful d f (c .heights) vs → b ≡ false → m ≡ c .bound → taken p d f vs components k c (c .best) m ≡ attempt p d f vs components k c
   unfolding attempt
-  attempt-low c {b} {t} {u} {l} e y eu el et n =
+  attempt-none c e n em = held-is c em ∙ rw (sym e ∙ n)
+
+  pub attempt-low : (c : Climb) {b t : Bool} {u : List ℤ} {l m : ℤ} → b ≡ areLawful d f (c .heights) vs → b ≡ true → u ≡ multipliersAt (c .heights) vs → l ≡ boundOf p u
+      → t ≡ ltZ (c .bound) l → t ≡ false → m ≡ c .bound → taken p d f vs components k c (c .best) m ≡ attempt p d f vs components k c
+  unfolding attempt
+  attempt-low c {b} {t} {u} {l} {m} e y eu el et n em =
       let q : ltZ (c .bound) (boundOf p (multipliersAt (c .heights) vs)) ≡ false = ap (λ (u : List ℤ). ltZ (c .bound) (boundOf p u)) (sym eu) ∙ ap (ltZ (c .bound)) (sym el) ∙ sym et ∙ n in
-      rw (sym e ∙ y, q)
+      held-is c em ∙ rw (sym e ∙ y, q)
 
   pub attempt-more : (c : Climb) {b t : Bool} {u : List ℤ} {l m : ℤ} → b ≡ areLawful d f (c .heights) vs → b ≡ true → u ≡ multipliersAt (c .heights) vs → l ≡ boundOf p u
       → t ≡ ltZ (c .bound) l → t ≡ true → m ≡ l → taken p d f vs components k c u m ≡ attempt p d f vs components k c

@@ -81,6 +81,11 @@ module _ (p : Plan) (ok : Plannable p) (few : componentCount p ≤ 8) where
   pub greatest : AreGreatest p (root p) (multipliersOf (multipliers d (required p) s (root p)))
   greatest = multipliers-greatest p (ok .well-formed) (ok .connected) d (agrees p ok few) (root p) root-required
 
+  -- they are lawful, and 0 at the root
+  pub greatest-rooted : (u : List ℤ) → u ≡ greatestOf p → Rooted p u
+  unfolding greatestOf
+  greatest-rooted u e = subst⁻¹ (Rooted p) e (record { multipliers = greatest .multipliers; at-root = greatest .at-root })
+
   cost-least : s .cost ≡ leastBalancing p []
   cost-least = balance-least p (ok .well-formed) (ok .connected) d (agrees p ok few) [] none-joined (omega arith)
 
@@ -111,14 +116,7 @@ module _ (p : Plan) (table : List (List ℕ)) (vs : List ℕ) (base : State) (b 
       e ∙ ap (λ (x : List (List ℕ)). multipliers (cell x) vs base (root p)) (b .known .distances) ∙ ap (λ (v : List ℕ). multipliers (cell (tableOf p)) v base (root p)) (b .known .vertices)
       ∙ ap (λ (s : State). multipliers (cell (tableOf p)) (required p) s (root p)) (b .base-is)
 
-  -- the greatest multipliers are lawful, and 0 at the root
-  pub greatest-rooted : (u : List ℤ) → u ≡ multipliers (cell table) vs base (root p) → Rooted p u
-  unfolding greatestOf
-  greatest-rooted u e =
-      let g = greatest p (b .known .plannable) (b .known .few) in
-      subst⁻¹ (Rooted p) (greatest-is u e) (record { multipliers = g .multipliers; at-root = g .at-root })
-
-  -- so are those of heights that pass the test
+  -- the multipliers of heights that pass the test are lawful, and 0 at the root
   pub lawful-rooted : (x : List ℕ) → T (areLawful table (base .amounts) x vs) → Rooted p (multipliersAt x vs)
   lawful-rooted x h =
       let d : T (areLawful (tableOf p) (base .amounts) x vs) = subst (λ (t : List (List ℕ)). T (areLawful t (base .amounts) x vs)) (b .known .distances) h in

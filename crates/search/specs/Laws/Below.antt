@@ -1,41 +1,38 @@
--- The branch below a branch is a branch: a link moves from what is to come to what is known, in the state, in the costs, in the bound and in the names.
+-- The branch below a branch is a branch: a link moves from what is to come to what is known, in the state, in the costs and in the names.
 use mathlib.Core.Path.{_≡_, refl, sym, ap, ap₂, _∙_, subst, subst⁻¹}
 use mathlib.Core.Logic.{_≢_, inl, inr}
-use mathlib.Core.List.{List, [], _∷_, _++_, map, List·Memᴰ, List·Memᴰ·head, List·Memᴰ·tail, List·Memᴰ·cases-cons, List·Memᴰ·append-cases, List·Memᴰ·eq-of-singleton, append-nil}
-use Prim.Native.Nat.{ℕ, zero, suc, _+_, _*_, _-_, _≤_, _<_}
-use native.Mathlib.Decide.{ℕ-discrete}
-use native.Mathlib.Numerals.{add-one}
+use mathlib.Core.List.{List, [], _∷_, _++_, map, List·Memᴰ, List·Memᴰ·head, List·Memᴰ·tail, List·Memᴰ·cases-cons, List·Memᴰ·append-cases, List·Memᴰ·eq-of-singleton, append-assoc}
+use Prim.Native.Nat.{ℕ, zero, suc, _+_, _*_, _-_, _^_, _≤_, _<_}
 use native.Mathlib.Omega.{arith}
-use lib.ListN.{length, getD, set, length-set}
+use lib.ListN.{length, set, length-set}
 use Rattle.postman.specs.Lists.{sumOf, upFrom, occurrences, delta}
-use Rattle.postman.specs.Plan.{Plan}
+use Rattle.postman.specs.Plan.{Plan, requiredArcs}
 use Rattle.postman.specs.Required.{required, requiredCost}
 use Rattle.postman.specs.Distance.{distance}
 use Rattle.postman.specs.Link.{Link}
 use Rattle.postman.specs.Component.{component, componentCount}
 use Rattle.postman.specs.Arborescence.{candidates}
-use Rattle.postman.specs.Balancing.{linkCost}
-use Rattle.postman.specs.Laws.Balancing.{Joins}
-use Rattle.postman.specs.Laws.Membership.{map-mem, upFrom-mem, mem-upFrom}
-use Rattle.postman.specs.Laws.Lists.{map-cong, map-map}
+use Rattle.postman.specs.Balancing.{heads as heads-of, tails as tails-of, linkCost}
+use Rattle.postman.specs.Laws.Balancing.{Joins, within-heads, within-tails}
+use Rattle.postman.specs.Laws.Membership.{upFrom-mem, mem-upFrom}
+use Rattle.postman.specs.Laws.Lists.{map-cong, map-map, map-append}
 use Rattle.balance.specs.Step.{State, cell, add, addAll, arcsOf}
-use Rattle.balance.specs.Invariant.{Metric, Certified}
-use Rattle.balance.specs.Balance.{balance}
-use Rattle.balance.specs.Laws.Plan.{balance-links, balance-certified, balance-room}
+use Rattle.balance.specs.Invariant.{Metric, Certified, Counted}
+use Rattle.balance.specs.Laws.Arcs.{all-counted}
+use Rattle.balance.specs.Laws.Plan.{balance-counted, balance-room}
 use Rattle.tree_count.specs.Recursion.{merged}
-use Rattle.tree_count.specs.Matrix.{entriesOf, AreFew}
+use Rattle.tree_count.specs.Matrix.{entriesOf, AreFew, AreCounts}
 use Rattle.tree_count.specs.Laws.Arrival.{renamed}
 use Rattle.tree_count.specs.Laws.Matrix.{few-merged}
 use Rattle.tree_count.specs.Laws.Recursion.{occurrences-renamed}
 use Rattle.search.specs.declared.branch.Branch.{Branch}
 use Rattle.search.specs.Links.{linksIn}
 use Rattle.search.specs.Branch.{sourceBy, renamedBy, sourcesBy, Named}
-use Rattle.search.specs.Bound.{Bounds, ArePotentials, reducedBy}
+use Rattle.search.specs.Bound.{ArePotentials}
 use Rattle.search.specs.Prepared.{Prepared}
-use Rattle.search.specs.Contracts.{chosenIn, namesIn, stateIn, IsBranch, CanReduce, CanLink, CanGoBelow, IsBelow, AreRests}
+use Rattle.search.specs.Contracts.{chosenIn, namesIn, stateIn, IsBranch, CanReduce, CanGoBelow, IsBelow}
 use Rattle.search.specs.Laws.Prepared.{candidate-ends, in-plan, some-component, agrees, metric, required-small}
 use Rattle.search.specs.Laws.Branch.{still-named, source-lt}
-use Rattle.search.specs.Laws.Bound.{bounds-step}
 
 -- ---- links in arrays
 
@@ -54,11 +51,6 @@ links-set n t h (x ∷ ts) [] lt lh = absurd (omega arith)
 links-set zero t h (x ∷ ts) (y ∷ hs) lt lh = refl
 links-set (suc n) t h (x ∷ ts) (y ∷ hs) lt lh = ap (λ (l : List Link). record { tail = x; head = y } ∷ l) (links-set n t h ts hs (omega arith) (omega arith))
 
-add-last : (d : ℕ → ℕ → ℕ) (vs : List ℕ) (s : State) (t : List Link) (l : Link) → addAll d vs s (t ++ l ∷ []) ≡ add d vs (addAll d vs s t) (l .tail) (l .head)
-unfolding addAll
-add-last d vs s [] l = refl
-add-last d vs s (a ∷ t) l = add-last d vs (add d vs s (a .tail) (a .head)) t l
-
 cost-last : (p : Plan) (t : List Link) (l : Link) → linkCost p (t ++ l ∷ []) ≡ linkCost p t + distance p (l .tail) (l .head)
 unfolding linkCost sumOf
 cost-last p [] l = omega arith
@@ -66,7 +58,7 @@ cost-last p (x ∷ t) l = let h = cost-last p t l in omega arith
 
 -- ---- the branch below
 
-module _ {p : Plan} {table : List (List ℕ)} {vs start source tails heads : List ℕ} {k : ℕ} (h : Prepared p table vs start source tails heads k) (b : Branch) (is : IsBranch p table b) where
+module _ {p : Plan} {table : List (List ℕ)} {vs start source tails heads : List ℕ} {k : ℕ} (h : Prepared p table vs start source tails heads k) {f : List ℕ} (b : Branch) (is : IsBranch p table f b) where
   pub chosen-length : length (chosenIn b) ≡ b .a - 1
   chosen-length = let s = is .tails-size in let t = is .heads-size in let m = is .most in let f = h .few in links-length (b .a - 1) (b .tails) (b .heads) (omega arith) (omega arith)
 
@@ -91,18 +83,18 @@ module _ {p : Plan} {table : List (List ℕ)} {vs start source tails heads : Lis
       let l = chosen-short in
       omega arith
 
-  -- the state is certified, and small
-  certified : Certified (cell table) (required p) (stateIn b)
-  certified = subst⁻¹ (Certified (cell table) (required p)) (is .state) (balance-certified p (h .plannable .well-formed) (h .plannable .connected) (cell table) (agrees h) (chosenIn b) (is .joins) (let l = chosen-short in omega arith))
-
-  pub room : b .count ≤ 356
-  room =
-      let e = ap (λ (s : State). s .count) (is .state) in
+  -- the state is small
+  heads-few : length (heads-of p (chosenIn b)) ≤ 356
+  heads-few =
+      let n = balance-counted p (h .plannable .well-formed) (h .plannable .connected) (cell table) (agrees h) (chosenIn b) (is .joins) (let l = chosen-short in omega arith) .number in
       let r = balance-room p (h .plannable .well-formed) (h .plannable .connected) (cell table) (agrees h) (chosenIn b) (is .joins) (let l = chosen-short in omega arith) in
       omega arith
 
+  pub room : b .count ≤ 356
+  room = let e = is .counted .number in let l = heads-few in omega arith
+
   pub balancing-small : b .balancing ≤ 2939637960000
-  balancing-small = let c = certified .numbers .cheap in let r = room in omega arith
+  balancing-small = let c = is .certified .numbers .cheap in let r = room in omega arith
 
   module _ (more : b .a < k) (l : Link) (m : List·Memᴰ l (candidates p (b .a))) where
     ends : List·Memᴰ (l .tail) (required p) × List·Memᴰ (l .head) (required p)
@@ -120,26 +112,24 @@ module _ {p : Plan} {table : List (List ℕ)} {vs start source tails heads : Lis
           low = f .low (l .head);
         }
 
-    pub can-go-below : (x : ℕ) → x < 8 → CanGoBelow table vs b (l .tail) (l .head) x k
+    pub can-go-below : (x : ℕ) → x < 8 → CanGoBelow table vs f b (l .tail) (l .head) x k
     can-go-below x small = record {
       one = is .one;
       more = more;
       few = (let e = h .count in let f = h .few in omega arith);
       link = record {
         metric = subst⁻¹ (Metric (cell table)) (h .vertices) (metric h);
-        certified = subst⁻¹ (λ (v : List ℕ). Certified (cell table) v (stateIn b)) (h .vertices) certified;
+        certified = subst⁻¹ (λ (v : List ℕ). Certified (cell table) v (stateIn f b)) (h .vertices) (is .certified);
         room = (let r = room in omega arith);
         tail-in = subst⁻¹ (λ (v : List ℕ). List·Memᴰ (l .tail) v) (h .vertices) (ends .0);
         head-in = subst⁻¹ (λ (v : List ℕ). List·Memᴰ (l .head) v) (h .vertices) (ends .1);
       };
-      reducible = can-reduce (b .multipliers) (is .potentials);
       name = small;
       fixed-small = (let f = fixed-small in omega arith);
-      bound-small = (let f = is .bound-small in let g = is .most in let e = h .few in omega arith);
       entries-few = subst⁻¹ (λ n. AreFew (b .entries) (b .a) n) (h .count) (is .few);
     }
 
-    module _ (other : sourceBy p (namesIn b) l ≢ b .a) (r : Branch) (at : IsBelow table vs b (l .tail) (l .head) (sourceBy p (namesIn b) l) k r) where
+    module _ (other : sourceBy p (namesIn b) l ≢ b .a) (g : List ℕ) (r : Branch) (at : IsBelow table vs f b (l .tail) (l .head) (sourceBy p (namesIn b) l) k g r) where
       abbrev x : ℕ
       x = sourceBy p (namesIn b) l
 
@@ -165,10 +155,27 @@ module _ {p : Plan} {table : List (List ℕ)} {vs start source tails heads : Lis
         | inr i ↦ subst⁻¹ (λ (y : Link). List·Memᴰ (y .tail) (required p) × List·Memᴰ (y .head) (required p)) (List·Memᴰ·eq-of-singleton i) ends
       ]
 
-      state-more : stateIn r ≡ balance (cell table) p (chosenIn r)
-      state-more =
-          at .state-is ∙ ap₂ (λ (v : List ℕ) (s : State). add (cell table) v s (l .tail) (l .head)) (h .vertices) (is .state ∙ balance-links (cell table) p (chosenIn b))
-          ∙ sym (ap (balance (cell table) p) chosen-more ∙ balance-links (cell table) p (chosenIn b ++ l ∷ []) ∙ add-last (cell table) (required p) (balance (cell table) p []) (chosenIn b) l)
+      one-link : (Certified (cell table) (required p) (stateIn g r)) × Counted (required p) (stateIn g r) (heads-of p (chosenIn b) ++ l .head ∷ []) (tails-of p (chosenIn b) ++ l .tail ∷ [])
+      unfolding addAll
+      one-link =
+          let e : stateIn g r ≡ add (cell table) (required p) (stateIn f b) (l .tail) (l .head) = at .state-is ∙ ap (λ (v : List ℕ). add (cell table) v (stateIn f b) (l .tail) (l .head)) (h .vertices) in
+          let m = all-counted (cell table) (required p) (metric h) (l ∷ []) (stateIn f b) (heads-of p (chosenIn b)) (tails-of p (chosenIn b)) (λ x i. subst⁻¹ (λ (y : Link). List·Memᴰ (y .tail) (required p) × List·Memᴰ (y .head) (required p)) (List·Memᴰ·eq-of-singleton i) ends)
+          (within-heads p (in-plan h) (chosenIn b) (is .joins)) (within-tails p (in-plan h) (chosenIn b) (is .joins)) (is .certified) (is .counted) (let n = heads-few in omega arith) in
+          (subst⁻¹ (Certified (cell table) (required p)) e (m .0), subst⁻¹ (λ (s : State). Counted (required p) s (heads-of p (chosenIn b) ++ l .head ∷ []) (tails-of p (chosenIn b) ++ l .tail ∷ [])) e (m .1))
+
+      heads-more : heads-of p (chosenIn b) ++ l .head ∷ [] ≡ heads-of p (chosenIn r)
+      unfolding heads-of
+      heads-more =
+          append-assoc (map (λ a. a .head) (requiredArcs p)) (map (λ (x : Link). x .head) (chosenIn b)) (l .head ∷ [])
+          ∙ ap (λ (xs : List ℕ). map (λ a. a .head) (requiredArcs p) ++ xs) (sym (map-append (λ (x : Link). x .head) (chosenIn b) (l ∷ [])))
+          ∙ ap (λ (t : List Link). map (λ a. a .head) (requiredArcs p) ++ map (λ (x : Link). x .head) t) (sym chosen-more)
+
+      tails-more : tails-of p (chosenIn b) ++ l .tail ∷ [] ≡ tails-of p (chosenIn r)
+      unfolding tails-of
+      tails-more =
+          append-assoc (map (λ a. a .tail) (requiredArcs p)) (map (λ (x : Link). x .tail) (chosenIn b)) (l .tail ∷ [])
+          ∙ ap (λ (xs : List ℕ). map (λ a. a .tail) (requiredArcs p) ++ xs) (sym (map-append (λ (x : Link). x .tail) (chosenIn b) (l ∷ [])))
+          ∙ ap (λ (t : List Link). map (λ a. a .tail) (requiredArcs p) ++ map (λ (x : Link). x .tail) t) (sym chosen-more)
 
       fixed-more : r .fixed ≡ requiredCost p + linkCost p (chosenIn r)
       fixed-more =
@@ -177,15 +184,6 @@ module _ {p : Plan} {table : List (List ℕ)} {vs start source tails heads : Lis
           let d = ap (linkCost p) chosen-more ∙ cost-last p (chosenIn b) l in
           let e = agrees h (l .tail) (l .head) (ends .0) (ends .1) in
           omega arith
-
-      bounded-more : Bounds p table (r .multipliers) (r .bound) (chosenIn r) (r .a)
-      bounded-more =
-          let e : r .a ≡ suc (b .a) = (let g = at .next in omega arith) in
-          let step = bounds-step p table (b .multipliers) (b .bound) (chosenIn b) (b .a) (let c = h .count in omega arith) (is .bounded) l m in
-          subst⁻¹ (λ (w : List ℕ). Bounds p table w (r .bound) (chosenIn r) (r .a)) (at .multipliers-are)
-          (subst⁻¹ (λ v. Bounds p table (b .multipliers) v (chosenIn r) (r .a)) (at .bound-is)
-          (subst⁻¹ (λ (c : List Link). Bounds p table (b .multipliers) (b .bound + reducedBy table (b .multipliers) (l .tail) (l .head)) c (r .a)) chosen-more
-          (subst⁻¹ (Bounds p table (b .multipliers) (b .bound + reducedBy table (b .multipliers) (l .tail) (l .head)) (chosenIn b ++ l ∷ [])) e step)))
 
       -- the new names
       names-new : (c : ℕ) → c < componentCount p → namesIn r c ≡ renamedBy (namesIn b) (b .a) x c
@@ -218,38 +216,30 @@ module _ {p : Plan} {table : List (List ℕ)} {vs start source tails heads : Lis
           ] in
           let z = is .entries q (b .a) (omega arith) c (List·Memᴰ·tail (mem-upFrom (b .a) (componentCount p - b .a) (omega arith) (omega arith))) in
           let w = is .entries q y (omega arith) c (i .2) in
-          at .entries-are .done q y (omega arith) (omega arith) (i .1) ∙ ap₂ (λ u v. u + delta y x * v) w z
+          at .entries-are (omega arith) .done q y (omega arith) (omega arith) (i .1) ∙ ap₂ (λ u v. u + delta y x * v) w z
           ∙ sym (ap (occurrences y) (sources-new q) ∙ occurrences-renamed (b .a) x y other (i .0) (sourcesBy p (namesIn b) q))
 
+      few-more : AreFew (r .entries) (r .a) (componentCount p)
+      few-more q y lo hi c =
+          let e = a-is in
+          let n = h .count in
+          let f = h .few in
+          let m = few-merged (b .entries) (r .entries) (b .a) x k (omega arith) (omega arith) (subst⁻¹ (λ n. AreFew (b .entries) (b .a) n) (h .count) (is .few)) (at .entries-are (omega arith)) in
+          subst⁻¹ (λ a. entriesOf (r .entries) q y ≤ 2048 * 2 ^ a) (at .next) (m q y (omega arith) (omega arith) c)
+
       -- IT IS A BRANCH
-      pub below-branch : IsBranch p table r
-      below-branch = record {
+      pub below-branch : (r .a < componentCount p → AreCounts (r .entries) (r .a) (componentCount p) (r .counts)) → IsBranch p table g r
+      below-branch counts = record {
         one = (let e = a-is in omega arith);
         most = (let e = a-is in let n = h .count in omega arith);
         tails-size = ap length (at .tails-are) ∙ length-set (b .tails) (b .a - 1) (l .tail) ∙ is .tails-size;
         heads-size = ap length (at .heads-are) ∙ length-set (b .heads) (b .a - 1) (l .head) ∙ is .heads-size;
         joins = subst⁻¹ (Joins p) chosen-more joins-more;
-        state = state-more;
+        certified = one-link .0;
+        counted = subst (λ (hs : List ℕ). Counted (required p) (stateIn g r) hs (tails-of p (chosenIn r))) heads-more (subst (Counted (required p) (stateIn g r) (heads-of p (chosenIn b) ++ l .head ∷ [])) tails-more (one-link .1));
         fixed = fixed-more;
-        potentials = subst⁻¹ (ArePotentials table (required p)) (at .multipliers-are) (is .potentials);
-        bounded = bounded-more;
-        bound-small = bound-small;
-        rests = subst⁻¹ (λ (w : List ℕ). AreRests p table w (r .a) (componentCount p) (r .rests)) (at .multipliers-are) (subst⁻¹ (λ (w : List ℕ). AreRests p table (b .multipliers) (r .a) (componentCount p) w) (at .rests-are) (λ q g c. is .rests q (let e = a-is in omega arith) c));
-        rests-small = λ q. (let e = ap (λ (w : List ℕ). getD w q 0) (at .rests-are) in let f = is .rests-small q in omega arith);
         named = named-more;
         entries = entries-more;
-        few = subst⁻¹ (λ n. AreFew (r .entries) n (componentCount p)) (at .next) (subst (λ n. AreFew (r .entries) (b .a + 1) n) (h .count) few-more);
+        few = few-more;
+        counts = counts;
       }
-        where
-          bound-small : r .bound ≤ 3000000000000 + r .a * 3009825945
-          bound-small =
-              let e = at .bound-is in
-              let f = is .bound-small in
-              let g = at .next in
-              let c = can-reduce (b .multipliers) (is .potentials) in
-              let i = c .short in
-              let j = c .low in
-              omega arith
-
-          few-more : AreFew (r .entries) (b .a + 1) k
-          few-more = few-merged (b .entries) (r .entries) (b .a) x k (let n = h .count in let f = h .few in omega arith) (let n = h .count in let f = h .few in omega arith) (subst⁻¹ (λ n. AreFew (b .entries) (b .a) n) (h .count) (is .few)) (at .entries-are)

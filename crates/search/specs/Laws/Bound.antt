@@ -1,15 +1,10 @@
--- The bounds of a branch. Potentials price the links that are to come at no more than they add to the cost, by duality; so do the multipliers from the root on. A link
--- that is chosen moves from what is to come to what is known. The least reduced cost of each component is at most that of what is chosen for it.
-use mathlib.Core.Path.{_≡_, refl, sym, ap, ap₂, _∙_, subst, subst⁻¹}
+-- The bounds of a branch. Potentials price the links that are to come at no more than they add to the cost, by duality. The least reduced cost of each component is at most that of what is chosen for it.
+use mathlib.Core.Path.{_≡_, refl, ap, _∙_, subst, subst⁻¹}
 use mathlib.Core.Logic.{inl, inr}
-use mathlib.Core.List.{List, [], _∷_, _++_, map, flatMap, append-assoc, append-nil, List·Memᴰ, List·Memᴰ·head, List·Memᴰ·tail, List·Memᴰ·append-cases, List·Memᴰ·not-nil}
-use Prim.Native.Nat.{ℕ, zero, suc, _+_, _-_, _≤_, _<_}
+use mathlib.Core.List.{List, [], _∷_, _++_, map, flatMap, List·Memᴰ, List·Memᴰ·head, List·Memᴰ·tail, List·Memᴰ·append-cases}
+use Prim.Native.Nat.{ℕ, suc, _+_, _-_, _≤_, _<_}
 use native.Mathlib.Omega.{arith}
-use lib.ListN.{length, getD, length-append}
-use lib.IntN.{ℤ, pos, _+ℤ_, _-ℤ_}
-use lib.Signed.{_≤ℤ_}
-use Rattle.integers.specs.Linear.{z, zl}
-use Rattle.postman.specs.Lists.{sumOf, sumOfℤ, choices, upFrom}
+use Rattle.postman.specs.Lists.{sumOf, choices, upFrom}
 use Rattle.postman.specs.Plan.{Plan, requiredArcs}
 use Rattle.postman.specs.Required.{required, requiredCost}
 use Rattle.postman.specs.Distance.{distance}
@@ -17,20 +12,16 @@ use Rattle.postman.specs.Link.{Link}
 use Rattle.postman.specs.Component.{componentCount}
 use Rattle.postman.specs.Arborescence.{candidates}
 use Rattle.postman.specs.Balancing.{heads, tails, sumOver, linkCost, leastBalancing, completionCost}
-use Rattle.postman.specs.LagrangianBound.{AreMultipliers, reducedCost, reducedSum}
 use Rattle.postman.specs.Laws.Sum.{sum-append}
 use Rattle.postman.specs.Laws.Membership.{mem-map, mem-flatMap, flatMap-mem, map-mem}
 use Rattle.postman.specs.Laws.Lists.{map-append}
 use Rattle.postman.specs.Laws.Balancing.{Joins, within-heads, within-tails, same-length}
-use Rattle.postman.specs.Laws.LagrangianBound.{reduced-le}
 use Rattle.balance.specs.Step.{cell, potential}
-use Rattle.balance.specs.Balance.{balance}
 use Rattle.balance.specs.Laws.Duality.{price-le}
-use Rattle.balance.specs.Laws.Plan.{balance-certified, balance-counted, balance-least, balance-room}
 use Rattle.search.specs.Branch.{leftChoices}
 use Rattle.search.specs.Bound.{reducedBy, reducedCosts, ArePotentials, Bounds, Low}
 use Rattle.search.specs.Prepared.{Prepared}
-use Rattle.search.specs.Laws.Prepared.{candidate-ends, left-joins, left-length, in-plan, agrees}
+use Rattle.search.specs.Laws.Prepared.{left-joins, in-plan, agrees}
 
 -- ---- choices of links, by the first of them
 
@@ -51,14 +42,6 @@ module _ (p : Plan) (a : ℕ) (more : a < componentCount p) where
 -- ---- a link is chosen
 
 module _ (p : Plan) (table : List (List ℕ)) (pot : List ℕ) where
-  pub bounds-step : (value : ℕ) (chosen : List Link) (a : ℕ) → a < componentCount p → Bounds p table pot value chosen a → (l : Link) → List·Memᴰ l (candidates p a)
-      → Bounds p table pot (value + reducedBy table pot (l .tail) (l .head)) (chosen ++ l ∷ []) (suc a)
-  unfolding reducedCosts sumOf
-  bounds-step value chosen a more b l m t n =
-      let c = b (l ∷ t) (left-cons p a more l t m n) in
-      let e = ap (completionCost p) (append-assoc chosen (l ∷ []) t) in
-      omega arith
-
   -- ---- the least of what is to come
 
   pub low-none : (a : ℕ) → Low p table pot 0 a
@@ -82,7 +65,7 @@ module _ (p : Plan) (table : List (List ℕ)) (pot : List ℕ) where
       let e = low t n in
       omega arith
 
--- ---- by the branch's own potentials
+-- ---- by potentials
 
 -- the reduced costs of links are their d and what the potentials price them at
 priced : (table : List (List ℕ)) (vs pot : List ℕ) → ArePotentials table vs pot → (d : ℕ → ℕ → ℕ) → ((i j : ℕ) → List·Memᴰ i vs → List·Memᴰ j vs → cell table i j ≡ d i j)
@@ -103,18 +86,7 @@ sum-of-append [] ys = omega arith
 sum-of-append (x ∷ xs) ys = let h = sum-of-append xs ys in omega arith
 
 module _ {p : Plan} {table : List (List ℕ)} {vs start source tails′ heads′ : List ℕ} {k : ℕ} (h : Prepared p table vs start source tails′ heads′ k) where
-  module _ (chosen : List Link) (joins : Joins p chosen) (short : length chosen ≤ 8) where
-    abbrev pot : List ℕ
-    pot = balance (cell table) p chosen .potentials
-
-    pub own-potentials : ArePotentials table (required p) pot
-    own-potentials =
-        let c = balance-certified p (h .plannable .well-formed) (h .plannable .connected) (cell table) (agrees h) chosen joins (omega arith) in
-        record { feasible = λ i j mi mj. c .feasible i j mi mj; low = λ v. (let a = c .numbers .low v in let b = room in omega arith) }
-      where
-        room : balance (cell table) p chosen .count ≤ 356
-        room = balance-room p (h .plannable .well-formed) (h .plannable .connected) (cell table) (agrees h) chosen joins (omega arith)
-
+  module _ (chosen : List Link) (joins : Joins p chosen) where
     joins-both : {t : List Link} → Joins p t → Joins p (chosen ++ t)
     joins-both jt l m = elim (List·Memᴰ·append-cases chosen m) [ inl i ↦ joins l i | inr i ↦ jt l i ]
 
@@ -145,52 +117,3 @@ module _ {p : Plan} {table : List (List ℕ)} {vs start source tails′ heads′
         let e5 = priced table (required p) w f (distance p) (agrees h) t jt in
         let e6 = link-cost-append t in
         omega arith
-
-    pub own-priced : balance (cell table) p chosen .cost + sumOver (tails p chosen) (potential pot) ≡ sumOver (heads p chosen) (potential pot)
-    own-priced = balance-counted p (h .plannable .well-formed) (h .plannable .connected) (cell table) (agrees h) chosen joins (omega arith) .priced
-
-  -- ---- by the multipliers
-
-  -- shifted multipliers: the same reduced costs
-  module _ (u : List ℤ) (multipliers : AreMultipliers p (λ i. getD u i (pos 0))) (shift : ℤ) (w : List ℕ) (shifted : (v : ℕ) → List·Memᴰ v (required p) → pos (getD w v 0) ≡ getD u v (pos 0) -ℤ shift +ℤ pos 4128705) where
-    abbrev mu : ℕ → ℤ
-    mu i = getD u i (pos 0)
-
-    shifted-feasible : (i j : ℕ) → List·Memᴰ i (required p) → List·Memᴰ j (required p) → getD w i 0 ≤ cell table i j + getD w j 0
-    unfolding reducedCost
-    shifted-feasible i j mi mj =
-        let f = multipliers .feasible i j mi mj in
-        let a = agrees h i j mi mj in
-        let ei = shifted i mi in
-        let ej = shifted j mj in
-        omega (arith, z, simp zl at ei, simp zl at ej, simp zl at f)
-
-    pub shifted-potentials : ((v : ℕ) → getD w v 0 ≤ 8257410) → ArePotentials table (required p) w
-    shifted-potentials low = record { feasible = shifted-feasible; low = λ v. (let a = low v in omega arith) }
-
-    reduced-one : (l : Link) (n : ℕ) (s : ℤ) → List·Memᴰ (l .tail) (required p) → List·Memᴰ (l .head) (required p) → pos n ≡ s
-        → pos (reducedBy table w (l .tail) (l .head) + n) ≡ reducedCost p mu (l .tail) (l .head) +ℤ s
-    unfolding reducedCost
-    reduced-one l n s mi mj es =
-        let f = shifted-feasible _ _ mi mj in
-        let a = agrees h _ _ mi mj in
-        let ei = shifted _ mi in
-        let ej = shifted _ mj in
-        rw (sym es) (simp zl (omega (arith, z, simp zl at ei, simp zl at ej)))
-
-    reduced-same : (t : List Link) → Joins p t → pos (reducedCosts table w t) ≡ reducedSum p mu t
-    unfolding reducedCosts reducedSum sumOf sumOfℤ
-    reduced-same [] j = refl
-    reduced-same (l ∷ t) j =
-        let i = j l (List·Memᴰ·head refl) in
-        reduced-one l (reducedCosts table w t) (reducedSum p mu t) (i .0) (i .1) (reduced-same t (λ x m. j x (List·Memᴰ·tail m)))
-
-    -- BY THE MULTIPLIERS, FROM THE ROOT ON
-    pub multipliers-bound : Bounds p table w (requiredCost p + balance (cell table) p [] .cost) [] 1
-    multipliers-bound t m =
-        let j = left-joins p 1 t m in
-        let a = reduced-le p mu (in-plan h) (multipliers .feasible) t j in
-        let g = balance-least p (h .plannable .well-formed) (h .plannable .connected) (cell table) (agrees h) [] (λ l m. absurd (List·Memᴰ·not-nil m)) (omega arith) in
-        let x = multipliers .tight in
-        let y = reduced-same t j in
-        omega (arith, z, simp zl at a, simp zl at x, simp zl at y)

@@ -1,36 +1,36 @@
 -- A branch is gone through one candidate of component a after the other. The trees behind a candidate are those of the branch below, which is gone into, or passed over: they
--- are skipped, or none is left to be tried, or one of the two bounds says that none of them costs less than the best so far. A count that is capped stands for more trees than
+-- are skipped, or none is left to be tried, or the bound says that none of them costs less than the best so far. A count that is capped stands for more trees than
 -- are left.
 use mathlib.Core.Path.{_≡_, refl, sym, ap, ap₂, _∙_, subst, subst⁻¹}
 use mathlib.Core.Logic.{_≢_, _⊎_, inl, inr}
 use mathlib.Core.Bool.{Bool, true, false, cond}
 use mathlib.Core.List.{List, [], _∷_, _++_, map, flatMap, append-assoc, append-nil, List·Memᴰ, List·Memᴰ·head, List·Memᴰ·tail, List·Memᴰ·cases-cons}
-use Prim.Native.Nat.{ℕ, zero, suc, _+_, _*_, _-_, _≤_, _<_, min}
+use Prim.Native.Nat.{ℕ, suc, _+_, _*_, _-_, _≤_, _<_, min}
 use native.Mathlib.Decide.{ℕ-discrete, decLe, decLt}
 use native.Mathlib.Numerals.{add-one}
 use native.Mathlib.Omega.{arith}
-use borrow.Author.Tests.{le-leb, lt-leb, eq-eqb, ne-eqb, lt-ltb}
+use borrow.Author.Tests.{le-leb, lt-leb, ne-eqb, lt-ltb}
 use lib.ListN.{length, getD, take, length-map}
 use lib.Seq.{take-suc, take-all}
-use lib.Dec.{eqb, leb, ltb}
+use lib.Dec.{ltb}
 use Rattle.postman.specs.Lists.{upFrom, delta}
 use Rattle.postman.specs.Plan.{Plan, requiredArcs}
-use Rattle.postman.specs.Required.{required, requiredCost}
+use Rattle.postman.specs.Required.{required}
 use Rattle.postman.specs.Link.{Link}
 use Rattle.postman.specs.Component.{component, componentCount}
 use Rattle.postman.specs.Arborescence.{linkAt, candidates}
-use Rattle.postman.specs.Balancing.{heads as heads-of, tails as tails-of, sumOver, linkCost, leastBalancing, completionCost}
+use Rattle.postman.specs.Balancing.{heads as heads-of, tails as tails-of, sumOver, completionCost}
 use Rattle.postman.specs.Laws.Sum.{sum-append}
-use Rattle.postman.specs.Laws.Membership.{map-mem, select-mem, upFrom-mem, mem-upFrom}
+use Rattle.postman.specs.Laws.Membership.{map-mem, mem-map, select-mem, upFrom-mem, mem-upFrom}
+use Rattle.postman.specs.Laws.Occurrences.{occurrences-of-mem}
 use Rattle.postman.specs.Laws.Lists.{map-cong, map-append, map-map}
 use Rattle.balance.specs.Step.{State, cell, add}
-use Rattle.balance.specs.Balance.{balance}
-use Rattle.balance.specs.Laws.Plan.{balance-least}
+use Rattle.balance.specs.Laws.Plan.{certified-least}
 use Rattle.tree_count.specs.Recursion.{merged, countTrees}
-use Rattle.tree_count.specs.Matrix.{entriesOf, cap}
+use Rattle.tree_count.specs.Matrix.{entriesOf, cap, AreCounts}
 use Rattle.tree_count.specs.Laws.Recursion.{entriesIn, count-cong}
 use Rattle.search.specs.declared.branch.Branch.{Branch}
-use Rattle.search.specs.declared.explore.Candidate.{Candidate}
+use Rattle.search.specs.declared.candidate.Candidate.{Candidate}
 use Rattle.search.specs.declared.pricing.Pricing.{Pricing}
 use Rattle.search.specs.declared.progress.Progress.{Progress}
 use Rattle.search.specs.Links.{linksIn}
@@ -38,12 +38,13 @@ use Rattle.search.specs.Branch.{sourceBy, renamedBy, sourcesBy, leftChoi
 use Rattle.search.specs.Progress.{Held, passOver, tryTree, advance, keep}
 use Rattle.search.specs.Bound.{ArePotentials, Bounds, Low, reducedBy}
 use Rattle.search.specs.Prepared.{Prepared}
-use Rattle.search.specs.Contracts.{heldOf, isEntered, IsShort, chosenIn, namesIn, stateIn, CanReduce, CanGoBelow, IsBranch, IsBelow, AreCounts, IsCandidate, Prices, IsLifted, treesIn, IsExplored}
+use Rattle.search.specs.Contracts.{heldOf, isEntered, IsShort, chosenIn, namesIn, stateIn, CanReduce, CanGoBelow, IsBranch, IsBelow, IsCandidate, CanLevel, AreLevelled, repricedBranch, Prices, IsLifted, IsBounded, IsPriced, linkOf, treesIn, IsExplored}
 use Rattle.search.specs.Laws.Prepared.{in-plan, some-component, agrees, places, places-fit, here-mem, here-source}
 use Rattle.search.specs.Laws.Branch.{source-lt, completions-step, completions-last, completions-cong, entered-none, entered-some, entered-count}
 use Rattle.search.specs.Laws.Progress.{pass-none, held-same, advance-append, passed-over, Idle}
-use Rattle.search.specs.Laws.Bound.{too-dear, own-potentials, own-priced, priced-bounds}
-use Rattle.search.specs.Laws.Below.{chosen-short, balancing-small, can-reduce, can-go-below, chosen-more, below-branch}
+use Rattle.search.specs.Laws.Bound.{too-dear, priced-bounds}
+use Rattle.search.specs.Laws.Kept.{can-level, cost-small, kept-branch}
+use Rattle.search.specs.Laws.Below.{chosen-short, fixed-small, room, balancing-small, can-reduce, can-go-below, chosen-more, below-branch}
 
 -- ---- lists
 
@@ -93,18 +94,15 @@ explored-short p ts g r e s =
 
 -- ---- a branch that is not gone into
 
-module _ (g : Progress) (n one other : ℕ) where
-  pub not-entered : isEntered g n one other ≡ false → (n ≤ g .skip) ⊎ ((g .left ≡ 0) ⊎ ((g .cost ≤ one) ⊎ (g .cost ≤ other)))
+module _ (g : Progress) (n least : ℕ) where
+  pub not-entered : isEntered g n least ≡ false → (n ≤ g .skip) ⊎ ((g .left ≡ 0) ⊎ (g .cost ≤ least))
   not-entered e = elim (decLe n (g .skip)) [
     | yes a ↦ inl a
     | no a ↦ elim (ℕ-discrete (g .left) 0) [
       | yes b ↦ inr (inl b)
-      | no b ↦ elim (decLe (g .cost) one) [
-        | yes c ↦ inr (inr (inl c))
-        | no c ↦ elim (decLt other (g .cost)) [
-          | yes d ↦ absurd (different (sym (all (omega arith) b (omega arith) d) ∙ e))
-          | no d ↦ inr (inr (inr (omega arith)))
-        ]
+      | no b ↦ elim (decLt least (g .cost)) [
+        | yes d ↦ absurd (different (sym (all (omega arith) b d) ∙ e))
+        | no d ↦ inr (inr (omega arith))
       ]
     ]
   ]
@@ -112,10 +110,10 @@ module _ (g : Progress) (n one other : ℕ) where
       different : true ≡ false → ⊥
       different e = let x : _≡_ {A = ℕ} 0 1 = cc in omega arith
 
-      all : g .skip < n → g .left ≢ 0 → one < g .cost → other < g .cost → isEntered g n one other ≡ true
-      all a b c d = rw (lt-leb n (g .skip) a, ne-eqb (g .left) 0 b, lt-leb (g .cost) one c) (lt-ltb other (g .cost) d)
+      all : g .skip < n → g .left ≢ 0 → least < g .cost → isEntered g n least ≡ true
+      all a b d = rw (lt-leb n (g .skip) a, ne-eqb (g .left) 0 b) (lt-ltb least (g .cost) d)
 
-  pub is-entered : isEntered g n one other ≡ true → g .skip < n
+  pub is-entered : isEntered g n least ≡ true → g .skip < n
   is-entered e = elim (decLe n (g .skip)) [
     | yes a ↦ absurd (let x : _≡_ {A = Bool} false true = sym (rw (le-leb n (g .skip) a) refl) ∙ e in let y : _≡_ {A = ℕ} 0 1 = cc in omega arith)
     | no a ↦ omega arith
@@ -134,9 +132,36 @@ capped h n s = elim (decLe n cap) [
 above : {a y : ℕ} → a ≤ y → y ≢ a → suc a ≤ y
 above {a} {y} l o = elim (ℕ-discrete y a) [ yes e ↦ absurd (o e) | no d ↦ omega arith ]
 
+-- ---- prices without a link
+
+module _ (p : Plan) (table : List (List ℕ)) (chosen : List Link) (a : ℕ) (l : Link) where
+  pub lifted-prices : (old new r : Pricing) → Prices p table chosen a old → Prices p table (chosen ++ l ∷ []) (a + 1) new → IsLifted old new (l .tail) (l .head) r → Prices p table chosen a r
+  unfolding heads-of tails-of sumOver
+  lifted-prices old new r qo qn i = elim i [
+    | inl e ↦ subst⁻¹ (Prices p table chosen a) e qo
+    | inr e ↦
+        let w = new .potentials in
+        let u : ℕ → ℕ = λ v. getD w v 0 in
+        let x = qn .priced in
+        let h0 = map (λ a. a .head) (requiredArcs p) in
+        let t0 = map (λ a. a .tail) (requiredArcs p) in
+        let hc = map (λ (l : Link). l .head) chosen in
+        let tc = map (λ (l : Link). l .tail) chosen in
+        let e1 = ap (λ (l : List ℕ). sumOver (h0 ++ l) u) (map-append (λ (l : Link). l .head) chosen (l ∷ [])) ∙ sum-append h0 (hc ++ l .head ∷ []) u ∙ ap (λ n. sumOver h0 u + n) (sum-append hc (l .head ∷ []) u) in
+        let e2 = ap (λ (l : List ℕ). sumOver (t0 ++ l) u) (map-append (λ (l : Link). l .tail) chosen (l ∷ [])) ∙ sum-append t0 (tc ++ l .tail ∷ []) u ∙ ap (λ n. sumOver t0 u + n) (sum-append tc (l .tail ∷ []) u) in
+        let e3 = sum-append h0 hc u in
+        let e4 = sum-append t0 tc u in
+        let f = e .1 in
+        record {
+          potentials = subst⁻¹ (ArePotentials table (required p)) (e .0) (qn .potentials);
+          priced = subst⁻¹ (λ (w : List ℕ). r .value + sumOver (tails-of p chosen) (λ v. getD w v 0) ≤ sumOver (heads-of p chosen) (λ v. getD w v 0)) (e .0) (omega arith);
+          small = (let s = qn .small in let t = qn .potentials .low (l .tail) in omega arith);
+        }
+  ]
+
 -- ---- the branch
 
-module _ {p : Plan} {table : List (List ℕ)} {vs start source tails heads : List ℕ} {k : ℕ} (h : Prepared p table vs start source tails heads k) (b : Branch) (is : IsBranch p table b) where
+module _ {p : Plan} {table : List (List ℕ)} {vs start source tails heads : List ℕ} {k : ℕ} (h : Prepared p table vs start source tails heads k) {am : List ℕ} (b : Branch) (is : IsBranch p table am b) where
   abbrev f : List Link → ℕ
   f = completionCost p
 
@@ -160,8 +185,7 @@ module _ {p : Plan} {table : List (List ℕ)} {vs start source tails heads : Lis
       let links : chosenIn b ≡ linksIn m (b .tails) (b .heads) = ap (λ i. linksIn i (b .tails) (b .heads)) n in
       let cost : b .fixed + b .balancing ≡ f (chosenIn b) =
       (let a = is .fixed in
-      let s = ap (λ (s : State). s .cost) (is .state) in
-      let l = balance-least p (h .plannable .well-formed) (h .plannable .connected) (cell table) (agrees h) (chosenIn b) (is .joins) (let q = chosen-short h b is in omega arith) in
+      let l = certified-least p (h .plannable .well-formed) (h .plannable .connected) (cell table) (agrees h) (chosenIn b) (is .joins) (let q = chosen-short h b is in omega arith) (stateIn am b) (is .certified) (is .counted) in
       omega arith)
       in
       c m ∙ ap (tryTree (λ t. b .fixed + b .balancing) (heldOf m g)) (sym links)
@@ -212,16 +236,16 @@ module _ {p : Plan} {table : List (List ℕ)} {vs start source tails heads : Lis
     here = behind (entered p (namesIn b) (b .a) l)
 
     -- IT IS GONE INTO
-    pub gone-into : x ≢ b .a → (n : Branch) → IsBelow table vs b (l .tail) (l .head) x k n → (r s : Progress) → IsExplored p (treesIn p n) r s → IsExplored p here r s
+    pub gone-into : x ≢ b .a → (g : List ℕ) (n : Branch) → IsBelow table vs am b (l .tail) (l .head) x k g n → (r s : Progress) → IsExplored p (treesIn p n) r s → IsExplored p here r s
     unfolding treesIn
-    gone-into o n at r s e = e ∙ ap (advance f (heldOf (componentCount p - 1) r)) same
+    gone-into o a n at r s e = e ∙ ap (advance f (heldOf (componentCount p - 1) r)) same
       where
         next : n .a ≡ suc (b .a)
         next = let g = at .next in omega arith
 
         same : treesIn p n ≡ here
         same =
-            ap₂ (λ (c : List Link) (ts : List (List Link)). map (λ t. c ++ t) ts) (chosen-more h b is more l m o n at)
+            ap₂ (λ (c : List Link) (ts : List (List Link)). map (λ t. c ++ t) ts) (chosen-more h b is more l m o a n at)
             (completions-cong p (in-plan h) (some-component h) (namesIn n) (renamedBy (namesIn b) (b .a) x) (n .a) (λ c g. at .names-are c (let few = h .few in omega arith)) ∙ ap (completions p (renamedBy (namesIn b) (b .a) x)) next)
             ∙ map-cong (λ t. (chosenIn b ++ l ∷ []) ++ t) (λ t. chosenIn b ++ l ∷ t) (completions p (renamedBy (namesIn b) (b .a) x) (suc (b .a))) (λ t g. append-assoc (chosenIn b) (l ∷ []) t)
             ∙ sym (map-map (λ (t : List Link). chosenIn b ++ t) (λ t. l ∷ t) (completions p (renamedBy (namesIn b) (b .a) x) (suc (b .a))))
@@ -257,11 +281,10 @@ module _ {p : Plan} {table : List (List ℕ)} {vs start source tails heads : Lis
         (too-dear p table pot value rest old (chosenIn b) (b .a) (count-is more) bounds low l m d (v .0) (w .0))
 
     -- IT IS PASSED OVER
-    pub passed : (counts : List ℕ) → AreCounts (b .entries) (b .a) k counts → (r s : Progress) → IsShort r → ((i : ℕ) → heldOf i s ≡ passOver (heldOf i r) (getD counts x 0))
-        → (one other : ℕ) → isEntered r (getD counts x 0) one other ≡ false
-        → (x ≢ b .a → (t : List Link) → List·Memᴰ t here → one ≤ f t) → (x ≢ b .a → (t : List Link) → List·Memᴰ t here → other ≤ f t) → IsExplored p here r s
+    pub passed : (r s : Progress) → IsShort r → ((i : ℕ) → heldOf i s ≡ passOver (heldOf i r) (getD (b .counts) x 0))
+        → (least : ℕ) → isEntered r (getD (b .counts) x 0) least ≡ false → (x ≢ b .a → (t : List Link) → List·Memᴰ t here → least ≤ f t) → IsExplored p here r s
     unfolding advance
-    passed counts are r s short e one other out by-one by-other = elim (ℕ-discrete x (b .a)) [
+    passed r s short e least out by-bound = elim (ℕ-discrete x (b .a)) [
       | yes d ↦
           let z : getD counts x 0 ≡ 0 = ap (λ y. getD counts y 0) d ∙ are .circle in
           e i ∙ ap (passOver (heldOf i r)) z ∙ sym (pass-none (heldOf i r))
@@ -274,8 +297,14 @@ module _ {p : Plan} {table : List (List ℕ)} {vs start source tails heads : Lis
         i : ℕ
         i = componentCount p - 1
 
-        source-in : x ≢ b .a → List·Memᴰ x (0 ∷ upFrom (suc (b .a)) (k - suc (b .a)))
-        source-in o = subst⁻¹ (λ n. List·Memᴰ x (0 ∷ upFrom (suc (b .a)) (n - suc (b .a)))) (h .count) (apart (is .named (component p (l .tail)) (source-lt p (in-plan h) (some-component h) (b .a) l m)))
+        counts : List ℕ
+        counts = b .counts
+
+        are : AreCounts (b .entries) (b .a) (componentCount p) counts
+        are = is .counts (count-is more)
+
+        source-in : x ≢ b .a → List·Memᴰ x (0 ∷ upFrom (suc (b .a)) (componentCount p - suc (b .a)))
+        source-in o = apart (is .named (component p (l .tail)) (source-lt p (in-plan h) (some-component h) (b .a) l m))
           where
             apart : List·Memᴰ x (0 ∷ upFrom (b .a) (componentCount p - b .a)) → List·Memᴰ x (0 ∷ upFrom (suc (b .a)) (componentCount p - suc (b .a)))
             apart v = elim (List·Memᴰ·cases-cons v) [
@@ -283,80 +312,63 @@ module _ {p : Plan} {table : List (List ℕ)} {vs start source tails heads : Lis
               | inr t ↦ (let u = upFrom-mem (b .a) (componentCount p - b .a) t in List·Memᴰ·tail (mem-upFrom (suc (b .a)) (componentCount p - suc (b .a)) (above (u .0) o) (omega arith)))
             ]
 
+        -- the candidate is an entry
+        some-entry : 1 ≤ entriesOf (b .entries) (b .a) x
+        some-entry =
+            let e = is .entries (b .a) x (omega arith) (count-is more) (is .named (component p (l .tail)) (source-lt p (in-plan h) (some-component h) (b .a) l m)) in
+            let s = occurrences-of-mem (mem-map (sourceBy p (namesIn b)) m) in
+            omega arith
+
         number : x ≢ b .a → getD counts x 0 ≡ min (length here) cap
-        number o = are .each x (source-in o) ∙ ap (λ k. min (countTrees (merged (entriesOf (b .entries)) (b .a) x) (upFrom (suc (b .a)) (k - suc (b .a)))) cap) (h .count) ∙ ap (λ n. min n cap) (sym (below-count o))
+        number o = are .each x (source-in o) some-entry ∙ ap (λ n. min n cap) (sym (below-count o))
 
         idle : x ≢ b .a → getD counts x 0 ≡ min (length here) cap → Idle f (heldOf i r) here
-        idle o n = elim (not-entered r (getD counts x 0) one other out) [
+        idle o n = elim (not-entered r (getD counts x 0) least out) [
           | inl s ↦ elim (decLe (length here) cap) [ yes c ↦ inr (inl (omega arith)) | no c ↦ inr (inr (omega arith)) ]
-          | inr y ↦ elim y [
-            | inl z ↦ inr (inr z)
-            | inr w ↦ elim w [
-              | inl c ↦ inl (λ t g. (let a = by-one o t g in omega arith))
-              | inr c ↦ inl (λ t g. (let a = by-other o t g in omega arith))
-            ]
-          ]
+          | inr y ↦ elim y [ inl z ↦ inr (inr z) | inr w ↦ inl (λ t g. (let a = by-bound o t g in omega arith)) ]
         ]
 
   -- ---- the potentials that price it
 
   own-feasible : ArePotentials table (required p) (b .potentials)
-  own-feasible = subst⁻¹ (λ (s : State). ArePotentials table (required p) (s .potentials)) (is .state) (own-potentials h (chosenIn b) (is .joins) (chosen-short h b is))
+  own-feasible = record { feasible = λ i j mi mj. is .certified .feasible i j mi mj; low = λ v. (let a = is .certified .numbers .low v in let r = room h b is in omega arith) }
 
   -- its own
-  pub own-prices : (r : Pricing) → r .potentials ≡ b .potentials → r .value ≡ b .balancing → Prices p table b r
+  pub own-prices : (r : Pricing) → r .potentials ≡ b .potentials → r .value ≡ b .balancing → Prices p table (chosenIn b) (b .a) r
   own-prices r e f =
-      let s = ap (λ (s : State). s .potentials) (is .state) in
-      let c = ap (λ (s : State). s .cost) (is .state) in
-      let o = own-priced h (chosenIn b) (is .joins) (chosen-short h b is) in
+      let o = is .counted .priced in
       let m = is .most in
       let few = h .few in
       record {
         potentials = subst⁻¹ (ArePotentials table (required p)) e own-feasible;
-        priced = subst⁻¹ (λ (w : List ℕ). r .value + sumOver (tails-of p (chosenIn b)) (λ v. getD w v 0) ≤ sumOver (heads-of p (chosenIn b)) (λ v. getD w v 0)) (e ∙ s) (omega arith);
+        priced = subst⁻¹ (λ (w : List ℕ). r .value + sumOver (tails-of p (chosenIn b)) (λ v. getD w v 0) ≤ sumOver (heads-of p (chosenIn b)) (λ v. getD w v 0)) e (omega arith);
         small = (let g = balancing-small h b is in omega arith);
       }
 
   -- the bound that they give
-  pub priced-branch : (r : Pricing) → Prices p table b r → Bounds p table (r .potentials) (b .fixed + r .value) (chosenIn b) (b .a)
+  pub priced-branch : (r : Pricing) → Prices p table (chosenIn b) (b .a) r → Bounds p table (r .potentials) (b .fixed + r .value) (chosenIn b) (b .a)
   priced-branch r q =
       subst⁻¹ (λ v. Bounds p table (r .potentials) (v + r .value) (chosenIn b) (b .a)) (is .fixed)
-      (priced-bounds h (chosenIn b) (is .joins) (chosen-short h b is) (r .potentials) (q .potentials) (r .value) (q .priced) (b .a))
+      (priced-bounds h (chosenIn b) (is .joins) (r .potentials) (q .potentials) (r .value) (q .priced) (b .a))
 
-  -- those of a branch below, without its last link
-  module _ (more : b .a < k) (l : Link) (m : List·Memᴰ l (candidates p (b .a))) (other : sourceBy p (namesIn b) l ≢ b .a) (n : Branch) (at : IsBelow table vs b (l .tail) (l .head) (sourceBy p (namesIn b) l) k n) where
-    pub lifted-prices : (old new r : Pricing) → Prices p table b old → Prices p table n new → IsLifted old new (l .tail) (l .head) r → Prices p table b r
-    unfolding heads-of tails-of sumOver
-    lifted-prices old new r qo qn i = elim i [
-      | inl e ↦ subst⁻¹ (Prices p table b) e qo
-      | inr e ↦
-          let w = new .potentials in
-          let u : ℕ → ℕ = λ v. getD w v 0 in
-          let c = chosen-more h b is more l m other n at in
-          let x = subst (λ (t : List Link). new .value + sumOver (tails-of p t) u ≤ sumOver (heads-of p t) u) c (qn .priced) in
-          let h0 = map (λ a. a .head) (requiredArcs p) in
-          let t0 = map (λ a. a .tail) (requiredArcs p) in
-          let hc = map (λ (l : Link). l .head) (chosenIn b) in
-          let tc = map (λ (l : Link). l .tail) (chosenIn b) in
-          let e1 = ap (λ (l : List ℕ). sumOver (h0 ++ l) u) (map-append (λ (l : Link). l .head) (chosenIn b) (l ∷ [])) ∙ sum-append h0 (hc ++ l .head ∷ []) u ∙ ap (λ n. sumOver h0 u + n) (sum-append hc (l .head ∷ []) u) in
-          let e2 = ap (λ (l : List ℕ). sumOver (t0 ++ l) u) (map-append (λ (l : Link). l .tail) (chosenIn b) (l ∷ [])) ∙ sum-append t0 (tc ++ l .tail ∷ []) u ∙ ap (λ n. sumOver t0 u + n) (sum-append tc (l .tail ∷ []) u) in
-          let e3 = sum-append h0 hc u in
-          let e4 = sum-append t0 tc u in
-          let f = e .1 in
-          let next = at .next in
-          record {
-            potentials = subst⁻¹ (ArePotentials table (required p)) (e .0) (qn .potentials);
-            priced = subst⁻¹ (λ (w : List ℕ). r .value + sumOver (tails-of p (chosenIn b)) (λ v. getD w v 0) ≤ sumOver (heads-of p (chosenIn b)) (λ v. getD w v 0)) (e .0) (omega arith);
-            small = (let s = qn .small in let t = qn .potentials .low (l .tail) in omega arith);
-          }
-    ]
+  -- prices with a bound
+  pub bounded-prices : (q r : Pricing) → Prices p table (chosenIn b) (b .a) q → IsBounded table start tails heads k q (b .fixed) (b .a + 1) r → IsPriced p table b r
+  bounded-prices q r x y =
+      let v = y .value-is in
+      record {
+        prices = record {
+          potentials = subst⁻¹ (ArePotentials table (required p)) (y .potentials-are) (x .potentials);
+          priced = subst⁻¹ (λ (w : List ℕ). r .value + sumOver (tails-of p (chosenIn b)) (λ v. getD w v 0) ≤ sumOver (heads-of p (chosenIn b)) (λ v. getD w v 0)) (y .potentials-are) (let a = x .priced in omega arith);
+          small = (let a = x .small in omega arith);
+        };
+        rest = y .rest;
+        low = subst⁻¹ (λ (w : List ℕ). Low p table w (y .rest) (b .a + 1)) (y .potentials-are) (y .low p vs source h);
+        sum = (let a = y .bound-is in omega arith);
+        small = y .small;
+      }
 
-  -- the prices, and the bound of the branches below by them but for the link
-  pub record IsPriced (r : Pricing) (bound : ℕ) : Type 0 where
-    pub prices : Prices p table b r
-    pub rest : ℕ
-    pub low : Low p table (r .potentials) rest (b .a + 1)
-    pub sum : bound ≡ b .fixed + r .value + rest
+  pub bound-small : (r : Pricing) → IsPriced p table b r → r .bound ≤ 3060000000000
+  bound-small r x = let a = x .sum in let c = fixed-small h b is in let s = x .prices .small in let d = x .small in omega arith
 
   -- ---- the candidate at a place
 
@@ -394,7 +406,7 @@ module _ {p : Plan} {table : List (List ℕ)} {vs start source tails heads : Lis
           | inr t ↦ (let u = upFrom-mem (b .a) (componentCount p - b .a) t in let few = h .few in let c = count-is more in omega arith)
         ]
 
-    module _ (counts : List ℕ) (are : AreCounts (b .entries) (b .a) k counts) (c : Candidate) (is-at : IsCandidate source tails heads (b .names) counts y c) where
+    module _ (c : Candidate) (is-at : IsCandidate source tails heads (b .names) (b .counts) y c) where
       tail-is : c .tail ≡ there .tail
       tail-is = is-at .tail-is ∙ ap (λ z. getD tails z 0) (sym at) ∙ h .ends (b .a) i (is .one) more less .0
 
@@ -404,8 +416,8 @@ module _ {p : Plan} {table : List (List ℕ)} {vs start source tails heads : Lis
       name-is : c .name ≡ sourceBy p (namesIn b) there
       name-is = is-at .name-is ∙ ap (λ z. getD (b .names) z 0) source-is
 
-      trees-are : c .trees ≡ getD counts (sourceBy p (namesIn b) there) 0
-      trees-are = is-at .trees-are ∙ ap (λ z. getD counts (getD (b .names) z 0) 0) source-is
+      trees-are : c .trees ≡ getD (b .counts) (sourceBy p (namesIn b) there) 0
+      trees-are = is-at .trees-are ∙ ap (λ z. getD (b .counts) (getD (b .names) z 0) 0) source-is
 
       -- reduced costs, by any potentials
       pub can-reduce-here : (pot : List ℕ) → ArePotentials table (required p) pot → CanReduce table pot (c .tail) (c .head)
@@ -414,38 +426,54 @@ module _ {p : Plan} {table : List (List ℕ)} {vs start source tails heads : Lis
       reduced-same : (pot : List ℕ) → reducedBy table pot (c .tail) (c .head) ≡ reducedBy table pot (there .tail) (there .head)
       reduced-same pot = ap₂ (reducedBy table pot) tail-is head-is
 
-      pub can-go : CanGoBelow table vs b (c .tail) (c .head) (c .name) k
-      can-go = subst⁻¹ (λ t. CanGoBelow table vs b t (c .head) (c .name) k) tail-is (subst⁻¹ (λ z. CanGoBelow table vs b (there .tail) z (c .name) k) head-is
+      pub can-go : CanGoBelow table vs am b (c .tail) (c .head) (c .name) k
+      can-go = subst⁻¹ (λ t. CanGoBelow table vs am b t (c .head) (c .name) k) tail-is (subst⁻¹ (λ z. CanGoBelow table vs am b (there .tail) z (c .name) k) head-is
           (can-go-below h b is more there mem (c .name) (let l = can-look .2 in let e = is-at .name-is in omega arith)))
 
+      -- its potentials, raised
+      abbrev more-state : State
+      more-state = add (cell table) vs (stateIn am b) (c .tail) (c .head)
+
+      raised-same : add (cell table) vs (stateIn am b) (there .tail) (there .head) ≡ more-state
+      raised-same = ap₂ (λ t z. add (cell table) vs (stateIn am b) t z) (sym tail-is) (sym head-is)
+
+      pub raised-level : CanLevel (more-state .potentials) vs
+      raised-level = subst (λ (s : State). CanLevel (s .potentials) vs) raised-same (can-level h b is there mem)
+
+      pub raised-small : more-state .cost ≤ 3000000000000
+      raised-small = subst (λ (s : State). s .cost ≤ 3000000000000) raised-same (cost-small h b is there mem)
+
+      pub raised-kept : (w : List ℕ) → AreLevelled (more-state .potentials) vs (length vs) w → IsBranch p table am (repricedBranch b w)
+      raised-kept w v = kept-branch h b is there mem w (subst⁻¹ (λ (s : State). AreLevelled (s .potentials) vs (length vs) w) raised-same v)
+
       -- it is gone into
-      module _ (r : Progress) (one other : ℕ) (yes : isEntered r (c .trees) one other ≡ true) (n : Branch) (below : IsBelow table vs b (c .tail) (c .head) (c .name) k n) where
+      module _ (r : Progress) (least : ℕ) (yes : isEntered r (c .trees) least ≡ true) (a : List ℕ) (n : Branch) (below : IsBelow table vs am b (c .tail) (c .head) (c .name) k a n) where
         apart : sourceBy p (namesIn b) there ≢ b .a
-        apart e = let l = is-entered r (c .trees) one other yes in let t = trees-are ∙ ap (λ z. getD counts z 0) e ∙ are .circle in omega arith
+        apart e = let l = is-entered r (c .trees) least yes in let t = trees-are ∙ ap (λ z. getD (b .counts) z 0) e ∙ is .counts (count-is more) .circle in omega arith
 
-        below-there : IsBelow table vs b (there .tail) (there .head) (sourceBy p (namesIn b) there) k n
-        below-there = subst (λ t. IsBelow table vs b t (there .head) (sourceBy p (namesIn b) there) k n) tail-is (subst (λ z. IsBelow table vs b (c .tail) z (sourceBy p (namesIn b) there) k n) head-is (subst (λ x. IsBelow table vs b (c .tail) (c .head) x k n) name-is below))
+        below-there : IsBelow table vs am b (there .tail) (there .head) (sourceBy p (namesIn b) there) k a n
+        below-there = subst (λ t. IsBelow table vs am b t (there .head) (sourceBy p (namesIn b) there) k a n) tail-is (subst (λ z. IsBelow table vs am b (c .tail) z (sourceBy p (namesIn b) there) k a n) head-is (subst (λ x. IsBelow table vs am b (c .tail) (c .head) x k a n) name-is below))
 
-        pub next-branch : IsBranch p table n
-        next-branch = below-branch h b is more there mem apart n below-there
+        pub next-branch : (n .a < componentCount p → AreCounts (n .entries) (n .a) (componentCount p) (n .counts)) → IsBranch p table a n
+        next-branch = below-branch h b is more there mem apart a n below-there
 
-        pub next-prices : (old new r : Pricing) → Prices p table b old → Prices p table n new → IsLifted old new (c .tail) (c .head) r → Prices p table b r
-        next-prices old new r qo qn i = lifted-prices more there mem apart n below-there old new r qo qn (subst (λ t. IsLifted old new t (there .head) r) tail-is (subst (λ z. IsLifted old new (c .tail) z r) head-is i))
+        pub next-prices : (q : Pricing) → Prices p table (chosenIn n) (n .a) q → Prices p table (chosenIn b ++ linkOf c ∷ []) (b .a + 1) q
+        next-prices q x =
+            let link : there ≡ linkOf c = ap₂ (λ t z. record { tail = t; head = z }) (sym tail-is) (sym head-is) in
+            subst (λ n. Prices p table (chosenIn b ++ linkOf c ∷ []) n q) (below .next) (subst (λ (l : Link). Prices p table (chosenIn b ++ l ∷ []) (n .a) q) link
+            (subst (λ (t : List Link). Prices p table t (n .a) q) (chosen-more h b is more there mem apart a n below-there) x))
 
         pub next-explored : (g s : Progress) → IsExplored p (branches (take i (candidates p (b .a)))) g r → IsExplored p (treesIn p n) r s → IsExplored p (branches (take (i + 1) (candidates p (b .a)))) g s
-        next-explored g s before e = one-more more i less g r s before (gone-into more there mem apart n below-there r s e)
+        next-explored g s before e = one-more more i less g r s before (gone-into more there mem apart a n below-there r s e)
 
       -- it is passed over
-      pub next-passed : (g r s : Progress) → IsShort r → IsExplored p (branches (take i (candidates p (b .a)))) g r → ((i : ℕ) → heldOf i s ≡ passOver (heldOf i r) (c .trees)) → (given : ℕ)
-          → Low p table (b .multipliers) given (b .a + 1) → (pr : Pricing) (own : ℕ) → IsPriced pr own
-          → isEntered r (c .trees) (b .bound + given + reducedBy table (b .multipliers) (c .tail) (c .head)) (own + reducedBy table (pr .potentials) (c .tail) (c .head)) ≡ false
+      pub next-passed : (g r s : Progress) → IsShort r → IsExplored p (branches (take i (candidates p (b .a)))) g r → ((i : ℕ) → heldOf i s ≡ passOver (heldOf i r) (c .trees))
+          → (q : Pricing) → IsPriced p table b q → isEntered r (c .trees) (q .bound + reducedBy table (q .potentials) (c .tail) (c .head)) ≡ false
           → IsExplored p (branches (take (i + 1) (candidates p (b .a)))) g s
-      next-passed g r s short before e given low-given pr own price out =
-          let pot = pr .potentials in
-          let one = b .bound + given + reducedBy table (b .multipliers) (c .tail) (c .head) in
-          let other = own + reducedBy table pot (c .tail) (c .head) in
+      next-passed g r s short before e q price out =
+          let pot = q .potentials in
+          let least = q .bound + reducedBy table pot (c .tail) (c .head) in
           let next : suc (b .a) ≡ b .a + 1 = omega arith in
           one-more more i less g r s before
-          (passed more there mem counts are r s short (λ m. e m ∙ ap (passOver (heldOf m r)) trees-are) one other (subst (λ n. isEntered r n one other ≡ false) trees-are out)
-          (λ o t m. dear more there mem (b .multipliers) (b .bound) given one (is .bounded) (subst⁻¹ (Low p table (b .multipliers) given) next low-given) (let q = reduced-same (b .multipliers) in omega arith) o t m)
-          (λ o t m. dear more there mem pot (b .fixed + pr .value) (price .rest) other (priced-branch pr (price .prices)) (subst⁻¹ (Low p table pot (price .rest)) next (price .low)) (let q = reduced-same pot in let f = price .sum in omega arith) o t m))
+          (passed more there mem r s short (λ m. e m ∙ ap (passOver (heldOf m r)) trees-are) least (subst (λ n. isEntered r n least ≡ false) trees-are out)
+          (λ o t m. dear more there mem pot (b .fixed + q .value) (price .rest) least (priced-branch q (price .prices)) (subst⁻¹ (Low p table pot (price .rest)) next (price .low)) (let x = reduced-same pot in let y = price .sum in omega arith) o t m))

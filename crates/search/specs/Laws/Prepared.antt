@@ -1,12 +1,12 @@
 -- For a prepared plan: the table's distances are the plan's, the places of a component's candidates in the arrays are those of its links, and links chosen for components join
 -- required vertices.
-use mathlib.Core.Path.{_≡_, refl, sym, ap, ap₂, _∙_, subst, subst⁻¹}
+use mathlib.Core.Path.{_≡_, refl, ap, _∙_, subst}
 use mathlib.Core.List.{List, [], _∷_, map, List·Memᴰ, List·Memᴰ·head, List·Memᴰ·tail}
 use Prim.Native.Nat.{ℕ, suc, _+_, _*_, _-_, _≤_, _<_}
 use native.Mathlib.Nat.{suc-mul, mul-le-mul-right}
 use native.Mathlib.Omega.{arith}
 use lib.ListN.{length, getD}
-use Rattle.postman.specs.Lists.{select, sumOf, choices, upFrom}
+use Rattle.postman.specs.Lists.{select, sumOf}
 use Rattle.postman.specs.Plan.{Arc, Plan, isRequiredArc, requiredArcs, WellFormed}
 use Rattle.postman.specs.Required.{required, requiredCost}
 use Rattle.postman.specs.Distance.{distance}
@@ -23,7 +23,6 @@ use Rattle.postman.specs.Laws.Arborescence.{candidates-mem}
 use Rattle.balance.specs.Step.{cell}
 use Rattle.balance.specs.Invariant.{Metric}
 use Rattle.balance.specs.Laws.Plan.{table-metric}
-use Rattle.arborescence.specs.Layout.{laidOut}
 use Rattle.search.specs.Branch.{leftChoices}
 use Rattle.search.specs.Prepared.{Prepared}
 

@@ -1,5 +1,5 @@
 -- A multiplier that is raised is not negative and small, so that it can be read back from a cast; and the multipliers are raised one after the other.
-use mathlib.Core.Path.{_≡_, refl, sym, ap, ap₂, _∙_, subst⁻¹}
+use mathlib.Core.Path.{_≡_, sym, ap, _∙_, subst⁻¹}
 use mathlib.Core.List.{List}
 use Prim.Native.Nat.{ℕ, _+_, _≤_, _<_}
 use native.Mathlib.Decide.{ℕ-discrete}
@@ -9,7 +9,7 @@ use mir.Val.{Fits}
 use lib.Dec.{T}
 use lib.IntN.{ℤ, pos, natAbs, _+ℤ_, _-ℤ_}
 use lib.Signed.{_≤ℤ_, nonNeg}
-use lib.ListN.{length, getD, set, length-set, replicate}
+use lib.ListN.{length, getD, set, length-set}
 use lib.Seq.{getD-set-same, getD-set-other}
 use Rattle.integers.specs.Linear.{z, zl, abs-pn, pos-abs}
 use Rattle.search.specs.Contracts.{Spread, AreShifted}

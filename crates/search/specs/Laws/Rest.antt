@@ -1,23 +1,18 @@
 -- The least of the candidates, one after the other; and the sum over the components, from the last one back: a component's candidates have places, so its least is at most
 -- the reduced cost of each.
-use mathlib.Core.Path.{_≡_, refl, sym, ap, ap₂, _∙_, subst, subst⁻¹}
-use mathlib.Core.List.{List, List·Memᴰ}
-use Prim.Native.Nat.{ℕ, suc, _+_, _*_, _-_, _≤_, _<_}
+use mathlib.Core.Path.{_≡_, subst, subst⁻¹}
+use mathlib.Core.List.{List}
+use Prim.Native.Nat.{ℕ, _+_, _≤_, _<_}
 use native.Mathlib.Decide.{ℕ-discrete}
 use native.Mathlib.Numerals.{add-one}
 use native.Mathlib.Omega.{arith}
-use lib.ListN.{length, getD, set, length-set}
-use lib.Seq.{getD-set-same, getD-set-other}
+use lib.ListN.{getD}
 use Rattle.postman.specs.Plan.{Plan}
-use Rattle.postman.specs.Link.{Link}
-use Rattle.postman.specs.Component.{componentCount}
-use Rattle.postman.specs.Arborescence.{candidates}
-use Rattle.balance.specs.Step.{cell}
 use Rattle.search.specs.Bound.{reducedBy, Low}
 use Rattle.search.specs.Prepared.{Prepared}
-use Rattle.search.specs.Contracts.{IsLeast, AreRests}
+use Rattle.search.specs.Contracts.{IsLeast}
 use Rattle.search.specs.Laws.Prepared.{place-of}
-use Rattle.search.specs.Laws.Bound.{low-none, low-more}
+use Rattle.search.specs.Laws.Bound.{low-more}
 
 -- ---- the least of the candidates
 
@@ -46,16 +41,3 @@ module _ {p : Plan} {table : List (List ℕ)} {vs start source tails heads : Lis
     where
       subst₂′ : {t t′ b b′ : ℕ} → t ≡ t′ → b ≡ b′ → least ≤ reducedBy table pot t b → least ≤ reducedBy table pot t′ b′
       subst₂′ {t} {t′} {b} {b′} e f l = subst (λ z. least ≤ reducedBy table pot z b′) e (subst (λ z. least ≤ reducedBy table pot t z) f l)
-
-  -- and it is written down
-  pub rests-more : (q : ℕ) (sum : ℕ) (rests : List ℕ) → q < 8 → length rests ≡ 8 → Low p table pot sum (q + 1) → AreRests p table pot (q + 1) k rests → AreRests p table pot q k (set rests q sum)
-  rests-more q sum rests few size low h x l b = elim (ℕ-discrete x q) [
-    | yes e ↦ subst⁻¹ (λ z. Low p table pot z (suc x)) (ap (λ z. getD (set rests q sum) z 0) e ∙ getD-set-same rests q sum 0 (omega arith)) (subst⁻¹ (λ z. Low p table pot sum (suc z)) e (subst (Low p table pot sum) (add-one q) low))
-    | no o ↦ subst⁻¹ (λ z. Low p table pot z (suc x)) (getD-set-other rests q x sum 0 o) (h x (omega arith) b)
-  ]
-
-pub rests-small : (rests : List ℕ) (q sum : ℕ) → q < length rests → sum ≤ 32000000000 → ((x : ℕ) → getD rests x 0 ≤ 32000000000) → (x : ℕ) → getD (set rests q sum) x 0 ≤ 32000000000
-rests-small rests q sum l b h x = elim (ℕ-discrete x q) [
-  | yes e ↦ (let a = ap (λ z. getD (set rests q sum) z 0) e ∙ getD-set-same rests q sum 0 l in omega arith)
-  | no o ↦ (let a = getD-set-other rests q x sum 0 o in let c = h x in omega arith)
-]

@@ -1,40 +1,39 @@
--- The root is a branch: nothing is chosen, its state is that of the required arcs, its bound is that of the multipliers, and every component has its own name.
-use mathlib.Core.Path.{_≡_, refl, sym, ap, ap₂, _∙_, subst, subst⁻¹}
+-- The root is a branch: nothing is chosen, its state is that of the required arcs with the multipliers as potentials, and every component has its own name.
+use mathlib.Core.Path.{_≡_, refl, sym, ap, _∙_, subst, subst⁻¹}
 use mathlib.Core.Logic.{inl, inr}
-use mathlib.Core.List.{List, [], _∷_, map, List·Memᴰ, List·Memᴰ·head, List·Memᴰ·tail, List·Memᴰ·not-nil, List·Memᴰ·cases-cons}
-use Prim.Native.Nat.{ℕ, zero, suc, _+_, _*_, _-_, _≤_, _<_}
+use mathlib.Core.List.{List, [], _∷_, List·Memᴰ, List·Memᴰ·head, List·Memᴰ·tail, List·Memᴰ·not-nil, List·Memᴰ·cases-cons}
+use Prim.Native.Nat.{ℕ, _+_, _-_, _≤_, _<_}
 use native.Mathlib.Decide.{decLt}
 use native.Mathlib.Omega.{arith}
 use lib.ListN.{length, getD}
-use lib.IntN.{ℤ, pos, _+ℤ_, _-ℤ_}
-use lib.Signed.{_≤ℤ_}
+use lib.IntN.{ℤ, pos}
 use Rattle.integers.specs.Linear.{z, zl}
 use Rattle.postman.specs.Lists.{sumOf, upFrom, occurrences}
-use Rattle.postman.specs.Plan.{Plan, requiredArcs}
+use Rattle.postman.specs.Plan.{Plan}
 use Rattle.postman.specs.Required.{required, requiredCost}
 use Rattle.postman.specs.Link.{Link}
 use Rattle.postman.specs.Component.{component, componentCount}
 use Rattle.postman.specs.Arborescence.{candidates}
-use Rattle.postman.specs.Balancing.{linkCost}
-use Rattle.postman.specs.LagrangianBound.{AreMultipliers, reducedCost}
+use Rattle.postman.specs.Balancing.{heads as heads-of, tails as tails-of, linkCost}
+use Rattle.postman.specs.LagrangianBound.{reducedCost}
 use Rattle.postman.specs.Laws.Balancing.{Joins}
 use Rattle.postman.specs.Laws.Existence.{some-required}
 use Rattle.postman.specs.Laws.Required.{number-ends}
 use Rattle.postman.specs.Laws.Membership.{getD-mem, mem-getD, mem-upFrom, upFrom-mem}
 use Rattle.postman.specs.Laws.Lists.{map-cong}
 use Rattle.balance.specs.Step.{State, cell, arcsOf}
-use Rattle.balance.specs.Balance.{balance}
-use Rattle.balance.specs.Laws.Plan.{balance-certified, balance-room}
-use Rattle.tree_count.specs.Matrix.{entriesOf, AreFew}
+use Rattle.balance.specs.Invariant.{Certified, Counted}
+use Rattle.balance.specs.Laws.Repriced.{repriced}
+use Rattle.tree_count.specs.Matrix.{entriesOf, AreFew, AreCounts}
 use Rattle.search.specs.declared.branch.Branch.{Branch}
 use Rattle.search.specs.Links.{linksIn}
 use Rattle.search.specs.Branch.{sourceBy, sourcesBy, Named}
-use Rattle.search.specs.Bound.{Bounds, ArePotentials}
+use Rattle.search.specs.Bound.{ArePotentials}
 use Rattle.search.specs.Prepared.{Prepared}
-use Rattle.search.specs.Contracts.{chosenIn, namesIn, stateIn, IsBranch, IsRoot, AreGiven, Spread, AreShifted, AreRests, CanReduce, CanRest}
-use Rattle.search.specs.Laws.Prepared.{candidate-ends, in-plan, some-component, agrees, metric, required-small, places, places-fit, linkHere, here-mem}
+use Rattle.search.specs.Contracts.{chosenIn, namesIn, stateIn, IsRoot, AreGiven, Spread, AreShifted, CanReduce, CanRest}
+use Rattle.search.specs.Laws.Prepared.{candidate-ends, in-plan, some-component, agrees, metric, places, linkHere, here-mem}
 use Rattle.search.specs.Laws.Branch.{source-lt}
-use Rattle.search.specs.Laws.Bound.{shifted-potentials, multipliers-bound}
+use Rattle.search.specs.Laws.Start.{start-certified, start-counted}
 
 -- no links
 none : (ts hs : List ℕ) → linksIn 0 ts hs ≡ []
@@ -78,7 +77,7 @@ module _ {p : Plan} {table : List (List ℕ)} {vs start source tails heads : Lis
       }
 
   -- there is a required vertex
-  some-vertex : 0 < length (required p)
+  pub some-vertex : 0 < length (required p)
   some-vertex =
       let r = some-required p (h .plannable .some-arc) in
       let x = mem-getD 0 (number-ends p (in-plan h) (r .1) .0) in
@@ -114,40 +113,19 @@ module _ {p : Plan} {table : List (List ℕ)} {vs start source tails heads : Lis
         (metric h .small _ m, spread _ m)
 
     module _ (w : List ℕ) (s : AreShifted u vs (length vs) w) where
-      shifted : (v : ℕ) → List·Memᴰ v (required p) → pos (getD w v 0) ≡ mu v -ℤ mu (getD vs 0 0) +ℤ pos 4128705
-      shifted v m =
-          let x = mem-getD 0 (subst⁻¹ (λ (l : List ℕ). List·Memᴰ v l) (h .vertices) m) in
-          subst (λ v. pos (getD w v 0) ≡ mu v -ℤ mu (getD vs 0 0) +ℤ pos 4128705) (x .2) (s .each (x .0) (x .1))
-
-      pub root-potentials : ArePotentials table (required p) w
-      root-potentials = shifted-potentials h u (g .multipliers) (mu (getD vs 0 0)) w shifted (s .low)
-
       nothing : Joins p []
       nothing l m = absurd (List·Memᴰ·not-nil m)
-
-      base-small : base .cost ≤ 2939637960000
-      base-small =
-          let c = balance-certified p (h .plannable .well-formed) (h .plannable .connected) (cell table) (agrees h) [] nothing (omega arith) .numbers .cheap in
-          let n = balance-room p (h .plannable .well-formed) (h .plannable .connected) (cell table) (agrees h) [] nothing (omega arith) in
-          let e = ap (λ (s : State). s .cost) (g .base-is) in
-          omega arith
-
-      pub sum-small : r + base .cost ≤ 3000000000000
-      sum-small = let b = base-small in let c = required-small p (h .plannable .well-formed) in let e = g .required-cost in omega arith
 
       -- what the root's fields are
       pub record AreFields (b : Branch) : Type 0 where
         pub nothing-chosen : b .a ≡ 1
         pub tails-size : length (b .tails) ≡ 8
         pub heads-size : length (b .heads) ≡ 8
-        pub state-is : stateIn b ≡ base
+        pub state-is : stateIn (base .amounts) b ≡ repriced base w
         pub fixed-is : b .fixed ≡ r
-        pub multipliers-are : b .multipliers ≡ w
-        pub bound-is : b .bound ≡ r + base .cost
-        pub rests-are : AreRests p table w 1 k (b .rests)
-        pub rests-small : (q : ℕ) → getD (b .rests) q 0 ≤ 32000000000
         pub names-are : (c : ℕ) → c < 8 → namesIn b c ≡ c
         pub entries-are : b .entries ≡ entries
+        pub counts-are : 1 < k → AreCounts entries 1 k (b .counts)
 
       module _ (b : Branch) (f : AreFields b) where
         no-links : chosenIn b ≡ []
@@ -169,11 +147,8 @@ module _ {p : Plan} {table : List (List ℕ)} {vs start source tails heads : Lis
             let s = source-lt p (in-plan h) (some-component h) q l m in
             sym (f .names-are (component p (l .tail)) (omega arith)))
 
-        bounded : Bounds p table w (b .bound) [] 1
-        bounded = subst⁻¹ (λ v. Bounds p table w v [] 1) (f .bound-is ∙ ap₂ _+_ (g .required-cost) (ap (λ (s : State). s .cost) (g .base-is))) (multipliers-bound h u (g .multipliers) (mu (getD vs 0 0)) w shifted)
-
         -- IT IS A BRANCH
-        pub root-branch : IsRoot p table b
+        pub root-branch : IsRoot p table (base .amounts) b
         unfolding linkCost sumOf
         root-branch = record {
           branch = record {
@@ -182,21 +157,18 @@ module _ {p : Plan} {table : List (List ℕ)} {vs start source tails heads : Lis
             tails-size = f .tails-size;
             heads-size = f .heads-size;
             joins = subst⁻¹ (Joins p) no-links nothing;
-            state = f .state-is ∙ g .base-is ∙ ap (balance (cell table) p) (sym no-links);
+            certified = subst⁻¹ (Certified (cell table) (required p)) (f .state-is) (start-certified h g w s);
+            counted = subst⁻¹ (λ (t : List Link). Counted (required p) (stateIn (base .amounts) b) (heads-of p t) (tails-of p t)) no-links
+                (subst⁻¹ (λ (s : State). Counted (required p) s (heads-of p []) (tails-of p [])) (f .state-is) (start-counted h g w s));
             fixed = f .fixed-is ∙ g .required-cost ∙ (let e : requiredCost p ≡ requiredCost p + 0 = omega arith in e) ∙ ap (λ (t : List Link). requiredCost p + linkCost p t) (sym no-links);
-            potentials = subst⁻¹ (ArePotentials table (required p)) (f .multipliers-are) root-potentials;
-            bounded = subst⁻¹ (λ (v : List ℕ). Bounds p table v (b .bound) (chosenIn b) (b .a)) (f .multipliers-are)
-                (subst⁻¹ (λ (t : List Link). Bounds p table w (b .bound) t (b .a)) no-links (subst⁻¹ (Bounds p table w (b .bound) []) (f .nothing-chosen) bounded));
-            bound-small = (let e = f .bound-is in let s = sum-small in omega arith);
-            rests = subst⁻¹ (λ (v : List ℕ). AreRests p table v (b .a) (componentCount p) (b .rests)) (f .multipliers-are)
-                (subst⁻¹ (λ n. AreRests p table w n (componentCount p) (b .rests)) (f .nothing-chosen) (subst (λ n. AreRests p table w 1 n (b .rests)) (h .count) (f .rests-are)));
-            rests-small = f .rests-small;
             named = named;
             entries = λ q x l c m.
                 let e = f .nothing-chosen in
                 let few = h .few in
                 ap (λ (v : List ℕ). entriesOf v q x) (f .entries-are) ∙ g .entries-are q x (omega arith) c (small x m) ∙ ap (occurrences x) (sources-same q);
             few = subst⁻¹ (λ (v : List ℕ). AreFew v (b .a) (componentCount p)) (f .entries-are) (subst⁻¹ (λ n. AreFew entries n (componentCount p)) (f .nothing-chosen) (g .few));
+            counts = λ l. subst⁻¹ (λ (v : List ℕ). AreCounts v (b .a) (componentCount p) (b .counts)) (f .entries-are) (subst⁻¹ (λ n. AreCounts entries n (componentCount p) (b .counts)) (f .nothing-chosen)
+                (subst (λ n. AreCounts entries 1 n (b .counts)) (h .count) (f .counts-are (let e = f .nothing-chosen in let n = h .count in omega arith))));
           };
           nothing = f .nothing-chosen;
           names-are = f .names-are;

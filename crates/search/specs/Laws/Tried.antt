@@ -1,30 +1,27 @@
 -- The trees of the root are all trees, in order, and the count of the root's entries is their number; no tree costs as much as the search starts with, so the first tree is kept, and
 -- then the first of least cost.
-use mathlib.Core.Path.{_≡_, refl, sym, ap, ap₂, _∙_, subst, subst⁻¹}
-use mathlib.Core.Bool.{Bool, true, false}
+use mathlib.Core.Path.{_≡_, refl, sym, ap, ap₂, _∙_, subst⁻¹}
 use mathlib.Core.List.{List, [], _∷_, _++_, map, List·Memᴰ}
-use Prim.Native.Nat.{ℕ, zero, suc, _+_, _*_, _-_, _≤_, _<_, min}
+use Prim.Native.Nat.{ℕ, _+_, _-_, _≤_, _<_, min}
 use native.Mathlib.Decide.{decLe}
 use native.Mathlib.Omega.{arith}
 use borrow.Author.Tests.{le-leb, lt-leb}
-use lib.ListN.{length, getD, take}
+use lib.ListN.{length, take}
 use lib.Seq.{take-all}
 use lib.Dec.{leb}
-use Rattle.postman.specs.Lists.{argmin, upFrom, occurrences, sumOf}
+use Rattle.postman.specs.Lists.{argmin, upFrom}
 use Rattle.postman.specs.Plan.{Plan}
-use Rattle.postman.specs.Required.{required, requiredCost}
 use Rattle.postman.specs.Link.{Link}
-use Rattle.postman.specs.Component.{component, componentCount}
+use Rattle.postman.specs.Component.{componentCount}
 use Rattle.postman.specs.Arborescence.{arborescences, arborescenceCount}
-use Rattle.postman.specs.Balancing.{linkCost, leastBalancing, completionCost}
+use Rattle.postman.specs.Balancing.{completionCost}
 use Rattle.postman.specs.PlanCall.{triedCount, isWhole, bestCost, bestArborescence}
 use Rattle.postman.specs.Laws.Balancing.{Joins}
 use Rattle.postman.specs.Laws.Membership.{upFrom-mem}
 use Rattle.postman.specs.Laws.Arborescence.{arborescences-mem, joins}
 use Rattle.postman.specs.Laws.Optimality.{some-arborescence}
 use Rattle.postman.specs.Laws.Search.{best-value}
-use Rattle.balance.specs.Step.{State, cell}
-use Rattle.balance.specs.Balance.{balance}
+use Rattle.balance.specs.Step.{cell}
 use Rattle.balance.specs.Laws.Plan.{balance-certified, balance-room, balance-least}
 use Rattle.tree_count.specs.Recursion.{countTrees}
 use Rattle.tree_count.specs.Matrix.{entriesOf, cap}
@@ -36,7 +33,7 @@ use Rattle.search.specs.Links.{linksIn}
 use Rattle.search.specs.Branch.{sourcesBy, completions}
 use Rattle.search.specs.Progress.{Held, held, advance}
 use Rattle.search.specs.Prepared.{Prepared}
-use Rattle.search.specs.Contracts.{heldOf, chosenIn, namesIn, IsRoot, treesIn, IsExplored, IsSearched}
+use Rattle.search.specs.Contracts.{heldOf, namesIn, IsRoot, treesIn, IsExplored, IsSearched}
 use Rattle.search.specs.Laws.Prepared.{in-plan, some-component, agrees, required-small}
 use Rattle.search.specs.Laws.Branch.{completions-count, completions-cong, completions-first}
 use Rattle.search.specs.Laws.Progress.{tried-first}
@@ -54,7 +51,7 @@ take-min n xs = elim (decLe n (length xs)) [
   | no l ↦ take-all n xs (omega arith) ∙ sym (take-all (min n (length xs)) xs (omega arith))
 ]
 
-module _ {p : Plan} {table : List (List ℕ)} {vs start source tails heads : List ℕ} {k : ℕ} (h : Prepared p table vs start source tails heads k) (b : Branch) (is : IsRoot p table b) where
+module _ {p : Plan} {table : List (List ℕ)} {vs start source tails heads : List ℕ} {k : ℕ} (h : Prepared p table vs start source tails heads k) {f : List ℕ} (b : Branch) (is : IsRoot p table f b) where
   -- ALL TREES
   pub root-trees : treesIn p b ≡ arborescences p
   unfolding treesIn
@@ -101,13 +98,13 @@ module _ {p : Plan} {table : List (List ℕ)} {vs start source tails heads : Lis
     unfolding bestArborescence triedCount arborescenceCount
     best-is none r ec es el e =
         let some = some-arborescence p (h .plannable) in
-        let f = completionCost p in
+        let cost = completionCost p in
         let m = componentCount p - 1 in
         let l0 = linksIn m (none .tails) (none .heads) in
         let start : heldOf m none ≡ held 4000000000000 l0 0 budget = ap (λ x. held x l0 (none .skip) (none .left)) ec ∙ ap (λ x. held 4000000000000 l0 x (none .left)) es ∙ ap (λ x. held 4000000000000 l0 0 x) el in
-        let x = e ∙ ap₂ (λ (g : Held) (ts : List (List Link)). advance f g ts) start root-trees ∙ tried-first f 4000000000000 l0 budget (arborescences p) one some tree-cheap in
-        let links : argmin f [] (take budget (arborescences p)) ≡ bestArborescence p budget = ap (argmin f []) (take-min budget (arborescences p)) in
-        (ap (λ (g : Held). g .cost) x ∙ ap f links ∙ best-value p budget one some, ap (λ (g : Held). g .links) x ∙ links)
+        let x = e ∙ ap₂ (λ (g : Held) (ts : List (List Link)). advance cost g ts) start root-trees ∙ tried-first cost 4000000000000 l0 budget (arborescences p) one some tree-cheap in
+        let links : argmin cost [] (take budget (arborescences p)) ≡ bestArborescence p budget = ap (argmin cost []) (take-min budget (arborescences p)) in
+        (ap (λ (g : Held). g .cost) x ∙ ap cost links ∙ best-value p budget one some, ap (λ (g : Held). g .links) x ∙ links)
 
     -- THE ANSWER
     pub searched : (none r : Progress) (n : ℕ) (s : Searched) → none .cost ≡ 4000000000000 → none .skip ≡ 0 → none .left ≡ budget → IsExplored p (treesIn p b) none r

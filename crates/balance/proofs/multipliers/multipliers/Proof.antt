@@ -5,10 +5,11 @@ use Prim.Native.Nat.{ℕ}
 use native.Mathlib.Omega.{arith}
 use Rattle.balance.specs.Bounds.{AtMost}
 use Rattle.balance.specs.Search.{Found, beyond}
-use Rattle.balance.specs.Step.{cell}
+use Rattle.balance.specs.Step.{cell, residualLength}
 use Rattle.balance.specs.Multipliers.{fromRoot, ways, multipliers as greatest}
 use Rattle.balance.specs.Records.{stateOf}
-use Rattle.balance.specs.Laws.Step.{vertices-small, levels-small}
+use Rattle.balance.specs.Laws.Step.{vertices-small, levels-small, residual-ground}
+use Rattle.balance.specs.Laws.Until.{until-whole}
 use Rattle.balance.specs.Laws.Turns.{search-low}
 use borrow.Author.Needs.{needs}
 use Rattle.balance.proofs.multipliers.multipliers.Statement.{statement}
@@ -18,7 +19,7 @@ search-towards-requires : tie.Need-search-towards-requires
 search-towards-requires c κs =
     let start = c .before .before .before .before in
     let r = start .pre .0 .small (start .args .root) (start .pre .3) in
-    (r, r, levels-small (cell (start .args .d .now)) (start .args .vs .now) (start .pre .0) (stateOf (start .args .t1)) (start .pre .1) (start .pre .2), vertices-small (cell (start .args .d .now)) (start .args .vs .now) (start .pre .0), start .pre .0 .size)
+    (r, r, start .pre .3, levels-small (cell (start .args .d .now)) (start .args .vs .now) (start .pre .0) (stateOf (start .args .t1)) (start .pre .1) (start .pre .2), vertices-small (cell (start .args .d .now)) (start .args .vs .now) (start .pre .0), start .pre .0 .size)
 
 wide-requires : tie.Need-wide-requires
 wide-requires c κs = search needs
@@ -26,7 +27,7 @@ wide-requires c κs = search needs
 true-costs-requires : tie.Need-true-costs-requires
 true-costs-requires c κs =
     let start = c .before .before .before .before .before .before .before .before .before .before in
-    let e = ap (λ (w : Found). w .distance) (c .before .before .before .before .before .search-towards .ensures) in
+    let e = ap (λ (w : Found). w .distance) (c .before .before .before .before .before .search-towards .ensures ∙ until-whole (residualLength (cell (start .args .d .now)) (start .args .t1 .amounts) (start .args .t1 .potentials)) (start .args .vs .now) (start .args .root) (residual-ground (cell (start .args .d .now)) (start .args .vs .now) (start .pre .0) (stateOf (start .args .t1)) (start .pre .1) (start .pre .2) (start .args .root) (start .pre .3))) in
     let r = start .pre .0 .small (start .args .root) (start .pre .3) in (
       omega (arith, c .before .before .wide .ensures),
       subst⁻¹ (AtMost beyond) e (search-low _ _ _ _ _),
@@ -38,7 +39,7 @@ returns : tie.Need-returns
 unfolding greatest ways
 returns c =
     let start = c .before .before .before .before .before .before .before .before .before .before .before in
-    let e = ap (λ (w : Found). w .distance) (c .before .before .before .before .before .before .search-towards .ensures) in
+    let e = ap (λ (w : Found). w .distance) (c .before .before .before .before .before .before .search-towards .ensures ∙ until-whole (residualLength (cell (start .args .d .now)) (start .args .t1 .amounts) (start .args .t1 .potentials)) (start .args .vs .now) (start .args .root) (residual-ground (cell (start .args .d .now)) (start .args .vs .now) (start .pre .0) (stateOf (start .args .t1)) (start .pre .1) (start .pre .2) (start .args .root) (start .pre .3))) in
     c .true-costs .ensures ∙ ap₂ (λ (x : List ℕ) (r : ℕ). fromRoot x (start .args .t1 .potentials) (start .args .vs .now) r) e (c .before .before .before .wide .ensures)
 
 pub multipliers-spec : {M : Type 1} → statement M

@@ -2,21 +2,20 @@
 use mathlib.Core.Path.{_∙_}
 use native.Mathlib.Omega.{arith}
 use Rattle.integers.specs.Linear.{back64}
-use Rattle.planner.specs.Laws.Ascent.{vertices-low, some-vertices, rooted-priced, rooted-within}
+use Rattle.planner.specs.Laws.Ascent.{vertices-low, some-vertices, greatest-priced, greatest-within}
 use Rattle.planner.specs.Laws.Climb.{begin-is}
-use Rattle.planner.specs.Laws.Solve.{greatest-rooted}
 use borrow.Author.Needs.{needs}
 use Rattle.planner.proofs.ascend.begun.Statement.{statement}
 use Rattle.planner.proofs.ascend.begun.Tie as tie
 
 lagrangian-requires : tie.Need-lagrangian-requires
-lagrangian-requires c κs = let s = c .before .before in rooted-priced _ _ _ _ _ _ _ _ (s .pre .0) _ (greatest-rooted _ _ _ _ (s .pre .0 .state) _ (s .pre .1))
+lagrangian-requires c κs = let s = c .before .before in (s .pre .0, greatest-priced _ _ _ _ _ _ _ _ _ (s .pre .1) _ (s .pre .2))
 
 start-requires : tie.Need-start-requires
-start-requires c κs = let s = c .before .before .before .before in (vertices-low _ _ _ _ _ _ _ _ (s .pre .0), rooted-within _ _ _ _ _ _ _ _ (s .pre .0) _ (greatest-rooted _ _ _ _ (s .pre .0 .state) _ (s .pre .1)))
+start-requires c κs = let s = c .before .before .before .before in (vertices-low _ _ _ _ _ _ _ _ _ (s .pre .1), greatest-within _ _ _ _ _ _ _ _ _ (s .pre .1) _ (s .pre .2))
 
 span-requires : tie.Need-span-requires
-span-requires c κs = let s = c .before .before .before .before .before in (vertices-low _ _ _ _ _ _ _ _ (s .pre .0), some-vertices _ _ _ _ _ _ _ _ (s .pre .0))
+span-requires c κs = let s = c .before .before .before .before .before in (vertices-low _ _ _ _ _ _ _ _ _ (s .pre .1), some-vertices _ _ _ _ _ _ _ _ _ (s .pre .1))
 
 add-lesser : tie.Need-add-lesser
 add-lesser c = search needs
@@ -25,7 +24,9 @@ lesser-requires : tie.Need-lesser-requires
 lesser-requires c κs = search needs
 
 returns : tie.Need-returns
-returns c = (begin-is _ _ _ _ _ _ _ (back64 _ (c .before .before .before .before .lagrangian .ok) ∙ c .before .before .before .before .lagrangian .ensures) (c .before .before .start .ensures) (c .before .span .ensures) (c .lesser .ensures), omega (arith, c .lesser .ensures))
+returns c =
+    let l = c .before .before .before .before .lagrangian in
+    (λ p h e. begin-is _ _ _ _ _ _ _ (back64 _ (l .ok) ∙ l .ensures p (greatest-priced _ _ _ _ _ _ _ _ _ h _ e)) (c .before .before .start .ensures) (c .before .span .ensures) (c .lesser .ensures), omega (arith, c .lesser .ensures))
 
 pub begun-spec : {M : Type 1} → statement M
 begun-spec =

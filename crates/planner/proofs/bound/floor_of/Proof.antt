@@ -17,10 +17,10 @@ returns : tie.Need-returns
 returns c =
     let e : c .before .args .whole ≡ true = c .if1 .taken in
     let l : c .before .args .cost < 2 ^ 63 = omega arith in
-    rw e (plain64 (c .before .args .cost) l)
+    λ p h. rw e (plain64 (c .before .args .cost) l)
 
 lagrangian-requires : tie.Need-lagrangian-requires
-lagrangian-requires c κs = zero-priced (c .before .before .pre .0)
+lagrangian-requires c κs = let s = c .before .before in (s .pre .0 .0, zero-priced (s .pre .0 .1))
 
 lagrangian-requires-2 : tie.Need-lagrangian-requires-2
 lagrangian-requires-2 c κs = search needs
@@ -33,7 +33,7 @@ returns-2 c =
     let e : c .before .before .before .before .before .args .whole ≡ false = c .before .before .before .before .if1 .left in
     let l = c .before .before .lagrangian in
     let m = c .before .lagrangian2 in
-    rw e (back64 _ (c .larger .ok) ∙ c .larger .ensures ∙ ap₂ maxℤ (back64 _ (l .ok) ∙ l .ensures ∙ zero-bound _) (back64 _ (m .ok) ∙ m .ensures))
+    λ p h. rw e (back64 _ (c .larger .ok) ∙ c .larger .ensures ∙ ap₂ maxℤ (back64 _ (l .ok) ∙ l .ensures p (zero-priced h) ∙ zero-bound p) (back64 _ (m .ok) ∙ m .ensures p h))
 
 pub floor-of-spec : {M : Type 1} → statement M
 floor-of-spec =

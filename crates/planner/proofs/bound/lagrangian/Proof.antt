@@ -6,18 +6,17 @@ use Rattle.planner.proofs.bound.lagrangian.Statement.{statement}
 use Rattle.planner.proofs.bound.lagrangian.Tie as tie
 
 cheapest-arborescence-requires : tie.Need-cheapest-arborescence-requires
-cheapest-arborescence-requires c κs = let h = c .pre in (h .some, h .few, are-costs _ _ _ _ _ _ _ _ h (h .long))
+cheapest-arborescence-requires c κs = let h = c .pre .1 in (h .some, h .few, are-costs _ _ _ _ _ _ _ _ h (h .long))
 
 total-requires : tie.Need-total-requires
 total-requires c κs =
-    let h = c .before .pre in
+    let h = c .before .pre .1 in
     let e = c .cheapest-arborescence .ensures _ (h .plannable .well-formed) (is-network _ _ _ _ _ _ _ _ h (h .long)) (h .feasible) in
     (cost-small _ _ _ _ _ _ _ _ h, h .price-small, cheapest-within _ _ _ _ _ _ _ _ h _ (back64 _ (c .cheapest-arborescence .ok) ∙ e))
 
 returns : tie.Need-returns
-returns c =
-    let h = c .before .before .pre in
-    let e = c .before .cheapest-arborescence .ensures _ (h .plannable .well-formed) (is-network _ _ _ _ _ _ _ _ h (h .long)) (h .feasible) in
+returns c = λ p h.
+    let e = c .before .cheapest-arborescence .ensures p (h .plannable .well-formed) (is-network _ _ _ _ _ _ _ _ h (h .long)) (h .feasible) in
     back64 _ (c .total .ok) ∙ c .total .ensures ∙ bound-is _ _ _ _ _ _ _ _ h _ (back64 _ (c .before .cheapest-arborescence .ok) ∙ e)
 
 pub lagrangian-spec : {M : Type 1} → statement M

@@ -1,63 +1,23 @@
--- The candidates, the state, the multipliers and the entries are what the search asks.
-use mathlib.Core.Path.{_≡_, subst⁻¹}
-use native.Mathlib.Omega.{arith}
+-- The search begins at the root, with the candidates that it asks for.
 use Rattle.plan.specs.Records.{planValue}
-use Rattle.planner.specs.Laws.Solve.{Rooted, some-component, prepared, given}
-use Rattle.planner.specs.Laws.Ascent.{answered-rooted}
 use borrow.Author.Needs.{needs}
 use Rattle.planner.proofs.trees.best.Statement.{statement}
 use Rattle.planner.proofs.trees.best.Tie as tie
 
-of-network-requires : tie.Need-of-network-requires
-of-network-requires c κs =
-    let s = c .before in
-    let b = s .pre .0 .known in
-    let a = s .pre .2 .components .all in
-    let l = some-component _ (b .plannable) (b .few) in
-    let m = b .few in
-    (omega arith, omega arith)
-
-entries-of-requires : tie.Need-entries-of-requires
-entries-of-requires c κs = search needs
+begin-requires : tie.Need-begin-requires
+begin-requires c κs = let s = c .before in (s .pre .0, s .pre .1, s .pre .2)
 
 cast-k : tie.Need-cast-k
 cast-k c = search needs
 
-root-requires : tie.Need-root-requires
-root-requires c κs =
-    let s = c .before .before .before .before .before .before .before .before .before .before .before .before .before .before .before .before in
-    let b = s .pre .0 in
-    let n = s .pre .2 in
-    let net = s .args .net in
-    let o = c .before .before .before .before .before .before .before .before .before .before .before .before .before .before .of-network in
-    let e : Rooted (planValue (s .args .plan)) (s .args .t6) = subst⁻¹ (Rooted (planValue (s .args .plan))) (s .pre .1) (answered-rooted _ (b .known .plannable) (b .known .few)) in
-    let h = prepared _ _ _ _ b _ e _ (o .result) (n .components .all) (o .ensures _ (b .known .plannable .well-formed) n) in
-    let g = given _ _ _ _ b _ e _ (net .links) (net .component) (net .components) (c .before .before .before .before .before .entries-of .result) (n .required-cost) (n .links) (n .components) (c .before .before .before .before .before .entries-of .ensures) in
-    (planValue (s .args .plan), o .result .source, h, g)
-
 search-requires : tie.Need-search-requires
 search-requires c κs =
-    let s = c .before .before .before .before .before .before .before .before .before .before .before .before .before .before .before .before .before .before .before .before .before in
-    let b = s .pre .0 in
-    let n = s .pre .2 in
-    let net = s .args .net in
-    let o = c .before .before .before .before .before .before .before .before .before .before .before .before .before .before .before .before .before .before .before .of-network in
-    let e : Rooted (planValue (s .args .plan)) (s .args .t6) = subst⁻¹ (Rooted (planValue (s .args .plan))) (s .pre .1) (answered-rooted _ (b .known .plannable) (b .known .few)) in
-    let h = prepared _ _ _ _ b _ e _ (o .result) (n .components .all) (o .ensures _ (b .known .plannable .well-formed) n) in
-    let g = given _ _ _ _ b _ e _ (net .links) (net .component) (net .components) (c .before .before .before .before .before .before .before .before .before .before .entries-of .result) (n .required-cost) (n .links) (n .components) (c .before .before .before .before .before .before .before .before .before .before .entries-of .ensures) in
-    ((planValue (s .args .plan), h, c .before .before .before .before .root .ensures _ (o .result .source) h g), s .pre .3)
+    let b = c .before .before .before .before .before .before .before .before .before .before .before .before .before .begin in
+    let s = c .before .before .before .before .before .before .before .before .before .before .before .before .before .before .before in
+    ((planValue (s .args .plan), b .ensures .prepared, b .ensures .root), s .pre .3)
 
 returns : tie.Need-returns
-returns c =
-    let s = c .before .before .before .before .before .before .before .before .before .before .before .before .before .before .before .before .before .before .before .before .before .before in
-    let b = s .pre .0 in
-    let n = s .pre .2 in
-    let net = s .args .net in
-    let o = c .before .before .before .before .before .before .before .before .before .before .before .before .before .before .before .before .before .before .before .before .of-network in
-    let e : Rooted (planValue (s .args .plan)) (s .args .t6) = subst⁻¹ (Rooted (planValue (s .args .plan))) (s .pre .1) (answered-rooted _ (b .known .plannable) (b .known .few)) in
-    let h = prepared _ _ _ _ b _ e _ (o .result) (n .components .all) (o .ensures _ (b .known .plannable .well-formed) n) in
-    let g = given _ _ _ _ b _ e _ (net .links) (net .component) (net .components) (c .before .before .before .before .before .before .before .before .before .before .before .entries-of .result) (n .required-cost) (n .links) (n .components) (c .before .before .before .before .before .before .before .before .before .before .before .entries-of .ensures) in
-    c .search .ensures _ h (c .before .before .before .before .before .root .ensures _ (o .result .source) h g)
+returns c = let b = c .before .before .before .before .before .before .before .before .before .before .before .before .before .before .begin in c .search .ensures _ (b .ensures .prepared) (b .ensures .root)
 
 pub best-spec : {M : Type 1} → statement M
-best-spec = tie.close (tie.spec of-network-requires entries-of-requires cast-k root-requires search-requires returns)
+best-spec = tie.close (tie.spec begin-requires cast-k search-requires returns)

@@ -1,420 +1,236 @@
 -- After each turn the trees behind the candidates so far were gone through, and the prices are the branch's. The call is for a component fewer.
-use mathlib.Core.Path.{_≡_, refl, sym, ap, ap₂, _∙_, subst, subst⁻¹}
-use mathlib.Core.Logic.{⊎-elim}
-use mathlib.Core.List.{List}
+use mathlib.Core.Path.{_≡_, sym, _∙_, subst, subst⁻¹}
+use mathlib.Core.Logic.{_≢_, ⊎-elim}
 use Prim.Native.Nat.{ℕ, _+_, _-_, _≤_, _<_}
+use native.Mathlib.Decide.{ℕ-discrete}
 use native.Mathlib.Omega.{arith}
-use native.Mathlib.Numerals.{add-one}
 use lib.ListN.{length, getD, take}
 use Rattle.postman.specs.Plan.{Plan}
 use Rattle.postman.specs.Arborescence.{candidates}
-use Rattle.tree_count.specs.Matrix.{AreFew}
-use Rattle.postman.specs.Required.{required}
-use Rattle.search.specs.declared.pricing.Pricing.{Pricing}
-use Rattle.search.specs.Bound.{reducedBy, ArePotentials, Low}
+use Rattle.tree_count.specs.Matrix.{AreCounts}
+use Rattle.search.specs.declared.explore.Explored.{Explored}
+use Rattle.search.specs.declared.progress.Progress.{Progress}
 use Rattle.search.specs.Prepared.{Prepared}
-use Rattle.search.specs.Contracts.{IsShort, isEntered, IsBranch, IsExplored}
+use Rattle.search.specs.Contracts.{IsShort, IsBranch, IsExplored, IsPriced}
 use Rattle.search.specs.Laws.Prepared.{places}
-use Rattle.search.specs.Laws.Root.{can-rest}
-use Rattle.search.specs.Laws.Below.{fixed-small, balancing-small}
-use Rattle.search.specs.Laws.Explore.{branches, more-left, one-tree, explored-start, explored-end, explored-short, IsPriced, own-prices, can-look, can-reduce-here, can-go, next-branch, next-prices, next-explored, next-passed}
+use Rattle.search.specs.Laws.Explore.{branches, explored-start, explored-end, explored-short, bound-small, can-look, can-reduce-here, can-go, next-branch, next-prices, next-explored, next-passed}
 use borrow.Author.Needs.{needs}
 use borrow.Fn.Kinds.{In}
 use borrow.Fn.PlainCycle.{Measures, is, falls, and}
 use Rattle.search.proofs.explore.explore.Reads as explore
 use Rattle.search.proofs.explore.explore.Kinds as explore-kinds
 use Rattle.search.proofs.explore.+explore.Lts-explore as explore-lts
+use Rattle.search.proofs.last.last.Reads as last-reads
+use Rattle.search.proofs.explore.begun.Reads as begun-reads
+use Rattle.search.proofs.candidate.candidate_at.Reads as candidate-at-reads
+use Rattle.search.proofs.explore.goes_into.Reads as goes-into-reads
 use Rattle.search.proofs.branch.below.Reads as below-reads
-use Rattle.search.proofs.counts.counts.Reads as counts-reads
-use Rattle.search.proofs.explore.candidate_at.Reads as candidate-at-reads
-use Rattle.search.proofs.progress.completed.Reads as completed-reads
-use Rattle.search.proofs.progress.entered.Reads as entered-reads
-use Rattle.search.proofs.progress.passed.Reads as passed-reads
-use Rattle.search.proofs.reduced.reduced.Reads as reduced-reads
-use Rattle.search.proofs.rest.rest.Reads as rest-reads
-use Rattle.search.proofs.pricing.lifted.Reads as lifted-reads
+use Rattle.search.proofs.explore.backed_up.Reads as backed-up-reads
+use Rattle.search.proofs.explore.passed_over.Reads as passed-over-reads
 use Rattle.search.proofs.explore.+explore.{statement}
 use Rattle.search.proofs.explore.+explore.Tie.{close}
 
-abbrev μ-explore : Measures 6 explore-kinds.ps ℕ
-μ-explore κs a = a .1 .1 .1 .1 .1 .1 .1 .1 .0 - a .1 .0 .a
+abbrev μ-explore : Measures 7 explore-kinds.ps ℕ
+μ-explore κs a = a .1 .1 .1 .1 .1 .1 .1 .1 .1 .0 - a .1 .0 .a
 
-abbrev explore-at : ℕ → In 6 explore-kinds.ps
-explore-at t = and 6 explore-kinds.ps (is 6 explore-kinds.ps μ-explore t) explore.Pre
+abbrev explore-at : ℕ → In 7 explore-kinds.ps
+explore-at t = and 7 explore-kinds.ps (is 7 explore-kinds.ps μ-explore t) explore.Pre
 
-abbrev explore-below : ℕ → In 6 explore-kinds.ps
-explore-below t = and 6 explore-kinds.ps (falls 6 explore-kinds.ps _<_ μ-explore t) explore.Pre
+abbrev explore-below : ℕ → In 7 explore-kinds.ps
+explore-below t = and 7 explore-kinds.ps (falls 7 explore-kinds.ps _<_ μ-explore t) explore.Pre
 
 -- What each callee asks and tells; the call of explore itself is for a component fewer.
 abbrev claims : ℕ → explore-lts.Claims
 claims t = (
-  completed-reads.Asked,
-  completed-reads.Learnt,
-  counts-reads.Asked,
-  counts-reads.Learnt,
-  rest-reads.Asked,
-  rest-reads.Learnt,
+  last-reads.Asked,
+  last-reads.Learnt,
+  begun-reads.Asked,
+  begun-reads.Learnt,
   candidate-at-reads.Asked,
   candidate-at-reads.Learnt,
-  reduced-reads.Asked,
-  reduced-reads.Learnt,
-  entered-reads.Asked,
-  entered-reads.Learnt,
+  goes-into-reads.Asked,
+  goes-into-reads.Learnt,
   below-reads.Asked,
   below-reads.Learnt,
   explore-below t,
   explore.Post,
-  lifted-reads.Asked,
-  lifted-reads.Learnt,
-  passed-reads.Asked,
-  passed-reads.Learnt,
+  backed-up-reads.Asked,
+  backed-up-reads.Learnt,
+  passed-over-reads.Asked,
+  passed-over-reads.Learnt,
 )
 
 abbrev Inv-loop : explore-lts.InvT-loop
-Inv-loop b d vs start source tails heads k a names u counts given end p₀ prices₀ bound₀ x₀ r₀ p prices bound x r =
-    (getD start (b .a) 0 ≤ x) × (x ≤ end) × IsShort r × (bound ≤ 3060000000000) × (p ≡ prices .potentials)
-    × ((q : Plan) (h : Prepared q d vs start source tails heads k) (br : IsBranch q d b) → IsExplored q (branches h b br (take (x - getD start (b .a) 0) (candidates q (b .a)))) r₀ r × IsPriced h b br prices bound)
+Inv-loop b f d vs start source tails heads k a names counts end e₀ x₀ e x =
+    (getD start (b .a) 0 ≤ x) × (x ≤ end) × IsShort (e .progress)
+    × ((q : Plan) (h : Prepared q d vs start source tails heads k) (br : IsBranch q d f b)
+    → IsExplored q (branches h b br (take (x - getD start (b .a) 0) (candidates q (b .a)))) (e₀ .progress) (e .progress) × IsPriced q d b (e .pricing))
 
 abbrev μ-loop : explore-lts.MeasureT-loop
-μ-loop b d vs start source tails heads k a names u counts given end p₀ prices₀ bound₀ x₀ r₀ p prices bound x r = end - x
+μ-loop b f d vs start source tails heads k a names counts end e₀ x₀ e x = end - x
 
-explore-add-completed : (t : ℕ) → explore-lts.Need-add-completed (claims t) (explore-at t) explore.Post Inv-loop μ-loop
-explore-add-completed t c =
-    let s = c .before .before .before .before .before .before in
-    let b = s .args .b in
+-- two components are left
+two-left : (a k : ℕ) → a < k → a + 1 ≢ k → a + 1 < k
+two-left a k l o = elim (ℕ-discrete (a + 1) k) [ yes e ↦ absurd (o e) | no d ↦ omega arith ]
+
+explore-add-if1 : (t : ℕ) → explore-lts.Need-add-if1 (claims t) (explore-at t) explore.Post Inv-loop μ-loop
+explore-add-if1 t c =
+    let s = c .before in
     let h = s .pre .1 .0 .1 in
-    let br = s .pre .1 .0 .2 in
-    let f = fixed-small h b br in
-    let g = balancing-small h b br in
-    let l : b .fixed + b .balancing ≤ 3000000000000 = omega arith in
+    let few = h .few in
+    let n = h .count in
+    let l : s .args .b .a + 1 ≤ 9 = omega (arith, s .pre .1 .2) in
     search needs
 
-explore-completed-requires : (t : ℕ) → explore-lts.Need-completed-requires (claims t) (explore-at t) explore.Post Inv-loop μ-loop
-explore-completed-requires t c κs = search needs
+explore-last-requires : (t : ℕ) → explore-lts.Need-last-requires (claims t) (explore-at t) explore.Post Inv-loop μ-loop
+explore-last-requires t c κs =
+    let s = c .before .before in
+    let q = s .pre .1 .0 in
+    ((q .0, subst⁻¹ (λ n. Prepared (q .0) (s .args .d .now) (s .args .vs .now) (s .args .start .now) (s .args .source .now) (s .args .tails .now) (s .args .heads .now) n) (c .if1 .taken) (q .1), q .2), s .pre .1 .1)
 
 explore-returns : (t : ℕ) → explore-lts.Need-returns (claims t) (explore-at t) explore.Post Inv-loop μ-loop
 explore-returns t c =
-    let s = c .before .before .before .before .before .before .before in
-    let b = s .args .b in
-    λ p h br. (one-tree h b br (c .before .before .if1 .taken) (s .args .g) (c .completed .result) (c .completed .ensures), own-prices h b br (record { potentials = b .potentials; value = b .balancing }) refl refl)
-
-explore-counts-requires : (t : ℕ) → explore-lts.Need-counts-requires (claims t) (explore-at t) explore.Post Inv-loop μ-loop
-explore-counts-requires t c κs =
-    let s = c .before .before .before .before .before .before .before .before .before in
-    let b = s .args .b in
-    let h = s .pre .1 .0 .1 in
-    let br = s .pre .1 .0 .2 in
-    let more = more-left h b br (c .before .before .before .before .if1 .left) in
-    let few = h .few in
-    let n = h .count in
-    (br .one, more, omega arith, subst⁻¹ (AreFew (b .entries) (b .a)) n (br .few))
-
-explore-mul-given : (t : ℕ) → explore-lts.Need-mul-given (claims t) (explore-at t) explore.Post Inv-loop μ-loop
-explore-mul-given t c =
-    let s = c .before .before .before .before .before .before .before .before .before .before in
-    let b = s .args .b in
-    let h = s .pre .1 .0 .1 in
-    let br = s .pre .1 .0 .2 in
-    let more = more-left h b br (c .before .before .before .before .before .if1 .left) in
-    let few = h .few in let n = h .count in let l : b .a < 8 = omega arith in search needs
-
-explore-array-read-given : (t : ℕ) → explore-lts.Need-array-read-given (claims t) (explore-at t) explore.Post Inv-loop μ-loop
-explore-array-read-given t c =
-    let s = c .before .before .before .before .before .before .before .before .before .before in
-    let b = s .args .b in
-    let h = s .pre .1 .0 .1 in
-    let br = s .pre .1 .0 .2 in
-    let more = more-left h b br (c .before .before .before .before .before .if1 .left) in
-    let few = h .few in let n = h .count in omega arith
-
-explore-add-given : (t : ℕ) → explore-lts.Need-add-given (claims t) (explore-at t) explore.Post Inv-loop μ-loop
-explore-add-given t c =
-    let s = c .before .before .before .before .before .before .before .before .before .before .before in
-    let b = s .args .b in
-    let h = s .pre .1 .0 .1 in
-    let br = s .pre .1 .0 .2 in
-    let few = h .few in
-    let m = br .most in
-    let l : b .bound + getD (b .rests) (b .a) 0 ≤ 3100000000000 = omega (arith, br .bound-small, br .rests-small (b .a)) in
-    search needs
+    let s = c .before .before .before in
+    λ p h br. c .last .ensures p (subst⁻¹ (λ n. Prepared p (s .args .d .now) (s .args .vs .now) (s .args .start .now) (s .args .source .now) (s .args .tails .now) (s .args .heads .now) n) (c .before .if1 .taken) h) br
 
 explore-add-end : (t : ℕ) → explore-lts.Need-add-end (claims t) (explore-at t) explore.Post Inv-loop μ-loop
 explore-add-end t c =
-    let s = c .before .before .before .before .before .before .before .before .before .before .before in
-    let b = s .args .b in
+    let s = c .before .before .before .before in
     let h = s .pre .1 .0 .1 in
-    let br = s .pre .1 .0 .2 in
-    let more = more-left h b br (c .before .before .before .before .before .before .if1 .left) in
-    let few = h .few in let n = h .count in let l : b .a < 8 = omega arith in search needs
+    let few = h .few in
+    let n = h .count in
+    let l : s .args .b .a < 8 = omega (arith, s .pre .1 .2) in
+    search needs
 
 explore-mul-end : (t : ℕ) → explore-lts.Need-mul-end (claims t) (explore-at t) explore.Post Inv-loop μ-loop
 explore-mul-end t c =
-    let s = c .before .before .before .before .before .before .before .before .before .before .before in
-    let b = s .args .b in
+    let s = c .before .before .before .before in
     let h = s .pre .1 .0 .1 in
-    let br = s .pre .1 .0 .2 in
-    let more = more-left h b br (c .before .before .before .before .before .before .if1 .left) in
-    let few = h .few in let n = h .count in let l : b .a < 8 = omega arith in search needs
+    let few = h .few in
+    let n = h .count in
+    let l : s .args .b .a < 8 = omega (arith, s .pre .1 .2) in
+    search needs
 
 explore-element-copy-out-end : (t : ℕ) → explore-lts.Need-element-copy-out-end (claims t) (explore-at t) explore.Post Inv-loop μ-loop
 explore-element-copy-out-end t c =
-    let s = c .before .before .before .before .before .before .before .before .before .before .before in
-    let b = s .args .b in
+    let s = c .before .before .before .before in
     let h = s .pre .1 .0 .1 in
-    let br = s .pre .1 .0 .2 in
-    let more = more-left h b br (c .before .before .before .before .before .before .if1 .left) in
-    let few = h .few in let n = h .count in omega arith
+    let few = h .few in
+    let n = h .count in
+    omega (arith, s .pre .1 .2)
 
-explore-add-bound : (t : ℕ) → explore-lts.Need-add-bound (claims t) (explore-at t) explore.Post Inv-loop μ-loop
-explore-add-bound t c =
-    let s = c .before .before .before .before .before .before .before .before .before .before .before .before .before in
-    let b = s .args .b in
-    let h = s .pre .1 .0 .1 in
-    let br = s .pre .1 .0 .2 in
-    let f = fixed-small h b br in
-    let g = balancing-small h b br in
-    let l : b .fixed + b .balancing ≤ 3000000000000 = omega arith in
-    search needs
-
-explore-add-rest : (t : ℕ) → explore-lts.Need-add-rest (claims t) (explore-at t) explore.Post Inv-loop μ-loop
-explore-add-rest t c =
-    let s = c .before .before .before .before .before .before .before .before .before .before .before .before .before .before in
-    let b = s .args .b in
-    let h = s .pre .1 .0 .1 in
-    let br = s .pre .1 .0 .2 in
-    let more = more-left h b br (c .before .before .before .before .before .before .before .before .before .if1 .left) in
-    let few = h .few in let n = h .count in let l : b .a < 8 = omega arith in search needs
-
-explore-rest-requires : (t : ℕ) → explore-lts.Need-rest-requires (claims t) (explore-at t) explore.Post Inv-loop μ-loop
-explore-rest-requires t c κs =
-    let s = c .before .before .before .before .before .before .before .before .before .before .before .before .before .before in
-    let b = s .args .b in
-    let h = s .pre .1 .0 .1 in
-    let br = s .pre .1 .0 .2 in
-    let more = more-left h b br (c .before .before .before .before .before .before .before .before .before .if1 .left) in
-    let own = own-prices h b br (record { potentials = b .potentials; value = b .balancing }) refl refl in
-    can-rest h (b .potentials) (own .potentials) (b .a + 1) (omega arith) (omega arith)
-
-explore-add-bound-2 : (t : ℕ) → explore-lts.Need-add-bound-2 (claims t) (explore-at t) explore.Post Inv-loop μ-loop
-explore-add-bound-2 t c =
-    let s = c .before .before .before .before .before .before .before .before .before .before .before .before .before .before .before in
-    let b = s .args .b in
-    let h = s .pre .1 .0 .1 in
-    let br = s .pre .1 .0 .2 in
-    let f = fixed-small h b br in
-    let g = balancing-small h b br in
-    let l : b .fixed + b .balancing + c .rest .result ≤ 3050000000000 = omega (arith, c .rest .ensures .1) in
-    search needs
+explore-begun-requires : (t : ℕ) → explore-lts.Need-begun-requires (claims t) (explore-at t) explore.Post Inv-loop μ-loop
+explore-begun-requires t c κs =
+    let s = c .before .before .before .before .before in
+    let q = s .pre .1 .0 in
+    ((q .0, s .args .vs .now, s .args .source .now, s .args .f .now, q .1, q .2), s .pre .1 .2)
 
 explore-mul-x : (t : ℕ) → explore-lts.Need-mul-x (claims t) (explore-at t) explore.Post Inv-loop μ-loop
 explore-mul-x t c =
-    let s = c .before .before .before .before .before .before .before .before .before .before .before .before .before .before .before in
-    let b = s .args .b in
+    let s = c .before .before .before .before .before .before in
     let h = s .pre .1 .0 .1 in
-    let br = s .pre .1 .0 .2 in
-    let more = more-left h b br (c .before .before .before .before .before .before .before .before .before .before .if1 .left) in
-    let few = h .few in let n = h .count in let l : b .a < 8 = omega arith in search needs
+    let few = h .few in
+    let n = h .count in
+    let l : s .args .b .a < 8 = omega (arith, s .pre .1 .2) in
+    search needs
 
 explore-element-copy-out-x : (t : ℕ) → explore-lts.Need-element-copy-out-x (claims t) (explore-at t) explore.Post Inv-loop μ-loop
 explore-element-copy-out-x t c =
-    let s = c .before .before .before .before .before .before .before .before .before .before .before .before .before .before .before in
-    let b = s .args .b in
+    let s = c .before .before .before .before .before .before in
     let h = s .pre .1 .0 .1 in
-    let br = s .pre .1 .0 .2 in
-    let more = more-left h b br (c .before .before .before .before .before .before .before .before .before .before .if1 .left) in
-    let few = h .few in let n = h .count in omega arith
+    let few = h .few in
+    let n = h .count in
+    omega (arith, s .pre .1 .2)
 
 explore-loop-holds : (t : ℕ) → explore-lts.Need-loop-holds (claims t) (explore-at t) explore.Post Inv-loop μ-loop
 explore-loop-holds t c =
-    let s = c .before .before .before .before .before .before .before .before .before .before .before .before .before .before .before .before in
+    let s = c .before .before .before .before .before .before .before in
     let b = s .args .b in
     let h = s .pre .1 .0 .1 in
-    let br = s .pre .1 .0 .2 in
-    let more = more-left h b br (c .before .before .before .before .before .before .before .before .before .before .before .if1 .left) in
-    let f = fixed-small h b br in
-    let g = balancing-small h b br in (
+    let first = c .before .begun in (
       omega arith,
-      h .layout .ascending (b .a) more,
-      s .pre .1 .1,
-      omega (arith, c .before .rest .ensures .1),
-      refl,
-      λ p h br. (
-        explored-start h b br (getD (s .args .start .now) (b .a) 0 - getD (s .args .start .now) (b .a) 0) (omega arith) (s .args .g),
-        record { prices = own-prices h b br (record { potentials = b .potentials; value = b .balancing }) refl refl; rest = c .before .rest .result; low = c .before .rest .ensures .0 p _ _ h; sum = refl },
-      ),
+      h .layout .ascending (b .a) (s .pre .1 .2),
+      subst⁻¹ IsShort (first .ensures .0) (s .pre .1 .1),
+      λ p h br. (explored-start h b br (getD (s .args .start .now) (b .a) 0 - getD (s .args .start .now) (b .a) 0) (omega arith) (first .result .progress), first .ensures .1 p _ _ _ h br),
     )
 
 explore-candidate-at-requires : (t : ℕ) → explore-lts.Need-candidate-at-requires (claims t) (explore-at t) explore.Post Inv-loop μ-loop
 explore-candidate-at-requires t c κs =
+    let s = c .before .before .before .before .before .before .before .before .before in
+    let v = c .before .loop in
+    can-look (s .pre .1 .0 .1) (s .args .b) (s .pre .1 .0 .2) (s .pre .1 .2) (v .x) (v .inv .0) (c .loop-test .taken)
+
+explore-goes-into-requires : (t : ℕ) → explore-lts.Need-goes-into-requires (claims t) (explore-at t) explore.Post Inv-loop μ-loop
+explore-goes-into-requires t c κs =
+    let s = c .before .before .before .before .before .before .before .before .before .before in
+    let b = s .args .b in
+    let h = s .pre .1 .0 .1 in
+    let br = s .pre .1 .0 .2 in
+    let v = c .before .before .loop in
+    let at = c .candidate-at in
+    let q = v .inv .3 _ h br .1 in
+    (can-reduce-here h b br (s .pre .1 .2) (v .x) (v .inv .0) (c .before .loop-test .taken) (at .result) (at .ensures) (v .e .pricing .potentials) (q .prices .potentials), omega (arith, bound-small h b br (v .e .pricing) q))
+
+explore-below-requires : (t : ℕ) → explore-lts.Need-below-requires (claims t) (explore-at t) explore.Post Inv-loop μ-loop
+explore-below-requires t c κs =
+    let s = c .before .before .before .before .before .before .before .before .before .before .before .before .before .before in
+    let b = s .args .b in
+    let v = c .before .before .before .before .before .before .loop in
+    let at = c .before .before .before .before .candidate-at in
+    (can-go (s .pre .1 .0 .1) b (s .pre .1 .0 .2) (s .pre .1 .2) (v .x) (v .inv .0) (c .before .before .before .before .before .loop-test .taken) (at .result) (at .ensures), two-left (b .a) (s .args .k) (s .pre .1 .2) (c .before .before .before .before .before .before .before .before .before .before .before .before .if1 .left))
+
+explore-explore-requires : (t : ℕ) → explore-lts.Need-explore-requires (claims t) (explore-at t) explore.Post Inv-loop μ-loop
+explore-explore-requires t c κs =
+    let s = c .before .before .before .before .before .before .before .before .before .before .before .before .before .before .before .before .before in
+    let b = s .args .b in
+    let h = s .pre .1 .0 .1 in
+    let br = s .pre .1 .0 .2 in
+    let v = c .before .before .before .before .before .before .before .before .before .loop in
+    let at = c .before .before .before .before .before .before .before .candidate-at in
+    let down = c .before .before .below in
+    let m = s .pre .0 in
+    let two = two-left (b .a) (s .args .k) (s .pre .1 .2) (c .before .before .before .before .before .before .before .before .before .before .before .before .before .before .before .if1 .left) in
+    let e = down .ensures .0 .next in
+    let yes = sym (c .before .before .before .before .before .before .goes-into .ensures) ∙ c .before .before .before .before .before .if2 .taken in (
+      omega arith,
+      (
+        (
+          s .pre .1 .0 .0,
+          h,
+          next-branch h b br (s .pre .1 .2) (v .x) (v .inv .0) (c .before .before .before .before .before .before .before .before .loop-test .taken) (at .result) (at .ensures) (v .e .progress) _ yes _ (down .result) (down .ensures .0)
+              (λ l. subst (λ n. AreCounts (down .result .entries) (down .result .a) n (down .result .counts)) (h .count) (down .ensures .1)),
+        ),
+        v .inv .2,
+        omega arith,
+      ),
+    )
+
+explore-backed-up-requires : (t : ℕ) → explore-lts.Need-backed-up-requires (claims t) (explore-at t) explore.Post Inv-loop μ-loop
+explore-backed-up-requires t c κs =
     let s = c .before .before .before .before .before .before .before .before .before .before .before .before .before .before .before .before .before .before in
     let b = s .args .b in
     let h = s .pre .1 .0 .1 in
     let br = s .pre .1 .0 .2 in
-    let more = more-left h b br (c .before .before .before .before .before .before .before .before .before .before .before .before .before .if1 .left) in
-    let v = c .before .loop in
-    let t = c .loop-test .taken in
-    can-look h b br more (v .x) (v .inv .0) t
+    let v = c .before .before .before .before .before .before .before .before .before .before .loop in
+    let t = c .before .before .before .before .before .before .before .before .before .loop-test .taken in
+    let at = c .before .before .before .before .before .before .before .before .candidate-at in
+    let down = c .before .before .before .below in
+    let yes = sym (c .before .before .before .before .before .before .before .goes-into .ensures) ∙ c .before .before .before .before .before .before .if2 .taken in
+    let q = v .inv .3 _ h br .1 in
+    let ends = can-reduce-here h b br (s .pre .1 .2) (v .x) (v .inv .0) t (at .result) (at .ensures) (v .e .pricing .potentials) (q .prices .potentials) in
+    let next = next-branch h b br (s .pre .1 .2) (v .x) (v .inv .0) t (at .result) (at .ensures) (v .e .progress) _ yes _ (down .result) (down .ensures .0)
+    (λ l. subst (λ n. AreCounts (down .result .entries) (down .result .a) n (down .result .counts)) (h .count) (down .ensures .1)) in
+    let new = next-prices h b br (s .pre .1 .2) (v .x) (v .inv .0) t (at .result) (at .ensures) (v .e .progress) _ yes _ (down .result) (down .ensures .0) (c .explore .result .pricing) (c .explore .ensures _ h next .1) in
+    ((s .pre .1 .0 .0, s .args .vs .now, s .args .source .now, s .args .f .now, h, br, q .prices, new), s .pre .1 .2, ends .tail, ends .head)
 
-explore-reduced-requires : (t : ℕ) → explore-lts.Need-reduced-requires (claims t) (explore-at t) explore.Post Inv-loop μ-loop
-explore-reduced-requires t c κs =
-    let s = c .before .before .before .before .before .before .before .before .before .before .before .before .before .before .before .before .before .before .before .before in
-    let b = s .args .b in
-    let h = s .pre .1 .0 .1 in
-    let br = s .pre .1 .0 .2 in
-    let more = more-left h b br (c .before .before .before .before .before .before .before .before .before .before .before .before .before .before .before .if1 .left) in
-    let v = c .before .before .before .loop in
-    let t = c .before .before .loop-test .taken in
-    can-reduce-here h b br more (v .x) (v .inv .0) t (c .before .before .before .before .before .before .before .before .before .before .counts .result) (c .before .before .before .before .before .before .before .before .before .before .counts .ensures) (c .before .candidate-at .result) (c .before .candidate-at .ensures) (b .multipliers) (br .potentials)
-
-explore-add-one : (t : ℕ) → explore-lts.Need-add-one (claims t) (explore-at t) explore.Post Inv-loop μ-loop
-explore-add-one t c =
-    let s = c .before .before .before .before .before .before .before .before .before .before .before .before .before .before .before .before .before .before .before .before .before in
-    let b = s .args .b in
-    let h = s .pre .1 .0 .1 in
-    let br = s .pre .1 .0 .2 in
-    let more = more-left h b br (c .before .before .before .before .before .before .before .before .before .before .before .before .before .before .before .before .if1 .left) in
-    let v = c .before .before .before .before .loop in
-    let t = c .before .before .before .loop-test .taken in
-    let few = h .few in
-    let m = br .most in
-    let l : b .bound + getD (b .rests) (b .a) 0 + c .reduced .result ≤ 3200000000000 = omega (arith, br .bound-small, br .rests-small (b .a), c .reduced .ensures .1) in
-    search needs
-
-explore-reduced-requires-2 : (t : ℕ) → explore-lts.Need-reduced-requires-2 (claims t) (explore-at t) explore.Post Inv-loop μ-loop
-explore-reduced-requires-2 t c κs =
-    let s = c .before .before .before .before .before .before .before .before .before .before .before .before .before .before .before .before .before .before .before .before .before .before in
-    let b = s .args .b in
-    let h = s .pre .1 .0 .1 in
-    let br = s .pre .1 .0 .2 in
-    let more = more-left h b br (c .before .before .before .before .before .before .before .before .before .before .before .before .before .before .before .before .before .if1 .left) in
-    let v = c .before .before .before .before .before .loop in
-    let t = c .before .before .before .before .loop-test .taken in
-    can-reduce-here h b br more (v .x) (v .inv .0) t (c .before .before .before .before .before .before .before .before .before .before .before .before .counts .result) (c .before .before .before .before .before .before .before .before .before .before .before .before .counts .ensures) (c .before .before .before .candidate-at .result) (c .before .before .before .candidate-at .ensures) (v .p) (subst⁻¹ (ArePotentials (s .args .d .now) (required (s .pre .1 .0 .0))) (v .inv .4) (v .inv .5 _ h br .1 .prices .potentials))
-
-explore-add-other : (t : ℕ) → explore-lts.Need-add-other (claims t) (explore-at t) explore.Post Inv-loop μ-loop
-explore-add-other t c =
-    let v = c .before .before .before .before .before .before .loop in
-    let l : v .bound + c .reduced2 .result ≤ 3100000000000 = omega (arith, v .inv .3, c .reduced2 .ensures .1) in
-    search needs
-
-explore-entered-requires : (t : ℕ) → explore-lts.Need-entered-requires (claims t) (explore-at t) explore.Post Inv-loop μ-loop
-explore-entered-requires t c κs = search needs
-
-explore-below-requires : (t : ℕ) → explore-lts.Need-below-requires (claims t) (explore-at t) explore.Post Inv-loop μ-loop
-explore-below-requires t c κs =
-    let s = c .before .before .before .before .before .before .before .before .before .before .before .before .before .before .before .before .before .before .before .before .before .before .before .before .before in
-    let b = s .args .b in
-    let h = s .pre .1 .0 .1 in
-    let br = s .pre .1 .0 .2 in
-    let more = more-left h b br (c .before .before .before .before .before .before .before .before .before .before .before .before .before .before .before .before .before .before .before .before .if1 .left) in
-    let v = c .before .before .before .before .before .before .before .before .loop in
-    let t = c .before .before .before .before .before .before .before .loop-test .taken in
-    can-go h b br more (v .x) (v .inv .0) t (c .before .before .before .before .before .before .before .before .before .before .before .before .before .before .before .counts .result) (c .before .before .before .before .before .before .before .before .before .before .before .before .before .before .before .counts .ensures) (c .before .before .before .before .before .before .candidate-at .result) (c .before .before .before .before .before .before .candidate-at .ensures)
-
-explore-explore-requires : (t : ℕ) → explore-lts.Need-explore-requires (claims t) (explore-at t) explore.Post Inv-loop μ-loop
-explore-explore-requires t c κs =
-    let s = c .before .before .before .before .before .before .before .before .before .before .before .before .before .before .before .before .before .before .before .before .before .before .before .before .before .before in
-    let b = s .args .b in
-    let h = s .pre .1 .0 .1 in
-    let br = s .pre .1 .0 .2 in
-    let more = more-left h b br (c .before .before .before .before .before .before .before .before .before .before .before .before .before .before .before .before .before .before .before .before .before .if1 .left) in
-    let v = c .before .before .before .before .before .before .before .before .before .loop in
-    let t = c .before .before .before .before .before .before .before .before .loop-test .taken in
-    let m = s .pre .0 in
-    let e = c .below .ensures .next in
-    let yes = sym (c .before .before .entered .ensures) ∙ c .before .if2 .taken in (
-      omega arith,
-      ((s .pre .1 .0 .0, h, next-branch h b br more (v .x) (v .inv .0) t (c .before .before .before .before .before .before .before .before .before .before .before .before .before .before .before .before .counts .result) (c .before .before .before .before .before .before .before .before .before .before .before .before .before .before .before .before .counts .ensures) (c .before .before .before .before .before .before .before .candidate-at .result) (c .before .before .before .before .before .before .before .candidate-at .ensures) (v .r) _ _ yes (c .below .result) (c .below .ensures)), v .inv .2),
-    )
-
-explore-lifted-requires : (t : ℕ) → explore-lts.Need-lifted-requires (claims t) (explore-at t) explore.Post Inv-loop μ-loop
-explore-lifted-requires t c κs =
-    let s = c .before .before .before .before .before .before .before .before .before .before .before .before .before .before .before .before .before .before .before .before .before .before .before .before .before .before .before .before .before in
-    let b = s .args .b in
-    let h = s .pre .1 .0 .1 in
-    let br = s .pre .1 .0 .2 in
-    let more = more-left h b br (c .before .before .before .before .before .before .before .before .before .before .before .before .before .before .before .before .before .before .before .before .before .before .before .before .if1 .left) in
-    let v = c .before .before .before .before .before .before .before .before .before .before .before .before .loop in
-    let t = c .before .before .before .before .before .before .before .before .before .before .before .loop-test .taken in
-    let yes = sym (c .before .before .before .before .before .entered .ensures) ∙ c .before .before .before .before .if2 .taken in
-    let next = next-branch h b br more (v .x) (v .inv .0) t (c .before .before .before .before .before .before .before .before .before .before .before .before .before .before .before .before .before .before .before .counts .result) (c .before .before .before .before .before .before .before .before .before .before .before .before .before .before .before .before .before .before .before .counts .ensures) (c .before .before .before .before .before .before .before .before .before .before .candidate-at .result) (c .before .before .before .before .before .before .before .before .before .before .candidate-at .ensures) (v .r) _ _ yes (c .before .before .before .below .result) (c .before .before .before .below .ensures) in
-    let new = c .before .before .explore .ensures _ h next .1 in
-    let q = can-reduce-here h b br more (v .x) (v .inv .0) t (c .before .before .before .before .before .before .before .before .before .before .before .before .before .before .before .before .before .before .before .counts .result) (c .before .before .before .before .before .before .before .before .before .before .before .before .before .before .before .before .before .before .before .counts .ensures) (c .before .before .before .before .before .before .before .before .before .before .candidate-at .result) (c .before .before .before .before .before .before .before .before .before .before .candidate-at .ensures) (b .multipliers) (br .potentials) in
-    (q .tail, q .head, omega (arith, new .small), λ x. new .potentials .low x)
-
-explore-add-bound-3 : (t : ℕ) → explore-lts.Need-add-bound-3 (claims t) (explore-at t) explore.Post Inv-loop μ-loop
-explore-add-bound-3 t c =
-    let s = c .before .before .before .before .before .before .before .before .before .before .before .before .before .before .before .before .before .before .before .before .before .before .before .before .before .before .before .before .before .before .before .before .before in
-    let b = s .args .b in
-    let h = s .pre .1 .0 .1 in
-    let br = s .pre .1 .0 .2 in
-    let more = more-left h b br (c .before .before .before .before .before .before .before .before .before .before .before .before .before .before .before .before .before .before .before .before .before .before .before .before .before .before .before .before .if1 .left) in
-    let v = c .before .before .before .before .before .before .before .before .before .before .before .before .before .before .before .before .loop in
-    let t = c .before .before .before .before .before .before .before .before .before .before .before .before .before .before .before .loop-test .taken in
-    let yes = sym (c .before .before .before .before .before .before .before .before .before .entered .ensures) ∙ c .before .before .before .before .before .before .before .before .if2 .taken in
-    let next = next-branch h b br more (v .x) (v .inv .0) t (c .before .before .before .before .before .before .before .before .before .before .before .before .before .before .before .before .before .before .before .before .before .before .before .counts .result) (c .before .before .before .before .before .before .before .before .before .before .before .before .before .before .before .before .before .before .before .before .before .before .before .counts .ensures) (c .before .before .before .before .before .before .before .before .before .before .before .before .before .before .candidate-at .result) (c .before .before .before .before .before .before .before .before .before .before .before .before .before .before .candidate-at .ensures) (v .r) _ _ yes (c .before .before .before .before .before .before .before .below .result) (c .before .before .before .before .before .before .before .below .ensures) in
-    let new = c .before .before .before .before .before .before .explore .ensures _ h next .1 in
-    let lift = next-prices h b br more (v .x) (v .inv .0) t (c .before .before .before .before .before .before .before .before .before .before .before .before .before .before .before .before .before .before .before .before .before .before .before .counts .result) (c .before .before .before .before .before .before .before .before .before .before .before .before .before .before .before .before .before .before .before .before .before .before .before .counts .ensures) (c .before .before .before .before .before .before .before .before .before .before .before .before .before .before .candidate-at .result) (c .before .before .before .before .before .before .before .before .before .before .before .before .before .before .candidate-at .ensures) (v .r) _ _ yes (c .before .before .before .before .before .before .before .below .result) (c .before .before .before .before .before .before .before .below .ensures) (v .prices) (c .before .before .before .before .before .before .explore .result .pricing) (c .before .before .before .lifted .result) (v .inv .5 _ h br .1 .prices) new (c .before .before .before .lifted .ensures) in
-    let f = fixed-small h b br in
-    let g = balancing-small h b br in
-    let l : b .fixed + c .before .before .before .lifted .result .value ≤ 3030000000000 = omega (arith, lift .small) in
-    search needs
-
-explore-add-rest-2 : (t : ℕ) → explore-lts.Need-add-rest-2 (claims t) (explore-at t) explore.Post Inv-loop μ-loop
-explore-add-rest-2 t c =
-    let s = c .before .before .before .before .before .before .before .before .before .before .before .before .before .before .before .before .before .before .before .before .before .before .before .before .before .before .before .before .before .before .before .before .before .before in
-    let b = s .args .b in
-    let h = s .pre .1 .0 .1 in
-    let br = s .pre .1 .0 .2 in
-    let more = more-left h b br (c .before .before .before .before .before .before .before .before .before .before .before .before .before .before .before .before .before .before .before .before .before .before .before .before .before .before .before .before .before .if1 .left) in
-    let few = h .few in let n = h .count in let l : b .a < 8 = omega arith in search needs
-
-explore-rest-requires-2 : (t : ℕ) → explore-lts.Need-rest-requires-2 (claims t) (explore-at t) explore.Post Inv-loop μ-loop
-explore-rest-requires-2 t c κs =
-    let s = c .before .before .before .before .before .before .before .before .before .before .before .before .before .before .before .before .before .before .before .before .before .before .before .before .before .before .before .before .before .before .before .before .before .before in
-    let b = s .args .b in
-    let h = s .pre .1 .0 .1 in
-    let br = s .pre .1 .0 .2 in
-    let more = more-left h b br (c .before .before .before .before .before .before .before .before .before .before .before .before .before .before .before .before .before .before .before .before .before .before .before .before .before .before .before .before .before .if1 .left) in
-    let v = c .before .before .before .before .before .before .before .before .before .before .before .before .before .before .before .before .before .loop in
-    let t = c .before .before .before .before .before .before .before .before .before .before .before .before .before .before .before .before .loop-test .taken in
-    let yes = sym (c .before .before .before .before .before .before .before .before .before .before .entered .ensures) ∙ c .before .before .before .before .before .before .before .before .before .if2 .taken in
-    let next = next-branch h b br more (v .x) (v .inv .0) t (c .before .before .before .before .before .before .before .before .before .before .before .before .before .before .before .before .before .before .before .before .before .before .before .before .counts .result) (c .before .before .before .before .before .before .before .before .before .before .before .before .before .before .before .before .before .before .before .before .before .before .before .before .counts .ensures) (c .before .before .before .before .before .before .before .before .before .before .before .before .before .before .before .candidate-at .result) (c .before .before .before .before .before .before .before .before .before .before .before .before .before .before .before .candidate-at .ensures) (v .r) _ _ yes (c .before .before .before .before .before .before .before .before .below .result) (c .before .before .before .before .before .before .before .before .below .ensures) in
-    let new = c .before .before .before .before .before .before .before .explore .ensures _ h next .1 in
-    let lift = next-prices h b br more (v .x) (v .inv .0) t (c .before .before .before .before .before .before .before .before .before .before .before .before .before .before .before .before .before .before .before .before .before .before .before .before .counts .result) (c .before .before .before .before .before .before .before .before .before .before .before .before .before .before .before .before .before .before .before .before .before .before .before .before .counts .ensures) (c .before .before .before .before .before .before .before .before .before .before .before .before .before .before .before .candidate-at .result) (c .before .before .before .before .before .before .before .before .before .before .before .before .before .before .before .candidate-at .ensures) (v .r) _ _ yes (c .before .before .before .before .before .before .before .before .below .result) (c .before .before .before .before .before .before .before .before .below .ensures) (v .prices) (c .before .before .before .before .before .before .before .explore .result .pricing) (c .before .before .before .before .lifted .result) (v .inv .5 _ h br .1 .prices) new (c .before .before .before .before .lifted .ensures) in
-    can-rest h (c .before .before .before .before .lifted .result .potentials) (lift .potentials) (b .a + 1) (omega arith) (omega arith)
-
-explore-add-bound-4 : (t : ℕ) → explore-lts.Need-add-bound-4 (claims t) (explore-at t) explore.Post Inv-loop μ-loop
-explore-add-bound-4 t c =
-    let s = c .before .before .before .before .before .before .before .before .before .before .before .before .before .before .before .before .before .before .before .before .before .before .before .before .before .before .before .before .before .before .before .before .before .before .before in
-    let b = s .args .b in
-    let h = s .pre .1 .0 .1 in
-    let br = s .pre .1 .0 .2 in
-    let more = more-left h b br (c .before .before .before .before .before .before .before .before .before .before .before .before .before .before .before .before .before .before .before .before .before .before .before .before .before .before .before .before .before .before .if1 .left) in
-    let v = c .before .before .before .before .before .before .before .before .before .before .before .before .before .before .before .before .before .before .loop in
-    let t = c .before .before .before .before .before .before .before .before .before .before .before .before .before .before .before .before .before .loop-test .taken in
-    let yes = sym (c .before .before .before .before .before .before .before .before .before .before .before .entered .ensures) ∙ c .before .before .before .before .before .before .before .before .before .before .if2 .taken in
-    let next = next-branch h b br more (v .x) (v .inv .0) t (c .before .before .before .before .before .before .before .before .before .before .before .before .before .before .before .before .before .before .before .before .before .before .before .before .before .counts .result) (c .before .before .before .before .before .before .before .before .before .before .before .before .before .before .before .before .before .before .before .before .before .before .before .before .before .counts .ensures) (c .before .before .before .before .before .before .before .before .before .before .before .before .before .before .before .before .candidate-at .result) (c .before .before .before .before .before .before .before .before .before .before .before .before .before .before .before .before .candidate-at .ensures) (v .r) _ _ yes (c .before .before .before .before .before .before .before .before .before .below .result) (c .before .before .before .before .before .before .before .before .before .below .ensures) in
-    let new = c .before .before .before .before .before .before .before .before .explore .ensures _ h next .1 in
-    let lift = next-prices h b br more (v .x) (v .inv .0) t (c .before .before .before .before .before .before .before .before .before .before .before .before .before .before .before .before .before .before .before .before .before .before .before .before .before .counts .result) (c .before .before .before .before .before .before .before .before .before .before .before .before .before .before .before .before .before .before .before .before .before .before .before .before .before .counts .ensures) (c .before .before .before .before .before .before .before .before .before .before .before .before .before .before .before .before .candidate-at .result) (c .before .before .before .before .before .before .before .before .before .before .before .before .before .before .before .before .candidate-at .ensures) (v .r) _ _ yes (c .before .before .before .before .before .before .before .before .before .below .result) (c .before .before .before .before .before .before .before .before .before .below .ensures) (v .prices) (c .before .before .before .before .before .before .before .before .explore .result .pricing) (c .before .before .before .before .before .lifted .result) (v .inv .5 _ h br .1 .prices) new (c .before .before .before .before .before .lifted .ensures) in
-    let f = fixed-small h b br in
-    let g = balancing-small h b br in
-    let l : b .fixed + c .before .before .before .before .before .lifted .result .value + c .rest2 .result ≤ 3060000000000 = omega (arith, lift .small, c .rest2 .ensures .1) in
-    search needs
-
-explore-passed-requires : (t : ℕ) → explore-lts.Need-passed-requires (claims t) (explore-at t) explore.Post Inv-loop μ-loop
-explore-passed-requires t c κs = search needs
+explore-passed-over-requires : (t : ℕ) → explore-lts.Need-passed-over-requires (claims t) (explore-at t) explore.Post Inv-loop μ-loop
+explore-passed-over-requires t c κs = search needs
 
 explore-add-x : (t : ℕ) → explore-lts.Need-add-x (claims t) (explore-at t) explore.Post Inv-loop μ-loop
 explore-add-x t c =
-    let s = c .before .before .before .before .before .before .before .before .before .before .before .before .before .before .before .before .before .before .before .before .before .before .before .before .before in
-    let b = s .args .b in
-    let h = s .pre .1 .0 .1 in
-    let br = s .pre .1 .0 .2 in
-    let more = more-left h b br (c .before .before .before .before .before .before .before .before .before .before .before .before .before .before .before .before .before .before .before .before .if1 .left) in
-    let v = c .before .before .before .before .before .before .before .before .loop in
-    let t = c .before .before .before .before .before .before .before .loop-test .taken in
-    let f = h .layout .fits (b .a) more in
+    let s = c .before .before .before .before .before .before .before .before .before .before .before .before in
+    let f = s .pre .1 .0 .1 .layout .fits (s .args .b .a) (s .pre .1 .2) in
+    let l = c .before .before .before .loop-test .taken in
     search needs
 
 explore-loop-less : (t : ℕ) → explore-lts.Need-loop-less (claims t) (explore-at t) explore.Post Inv-loop μ-loop
@@ -422,65 +238,56 @@ explore-loop-less t c = search needs
 
 explore-loop-again : (t : ℕ) → explore-lts.Need-loop-again (claims t) (explore-at t) explore.Post Inv-loop μ-loop
 explore-loop-again t c =
-    let s = c .before .before .before .before .before .before .before .before .before .before .before .before .before .before .before .before .before .before .before .before .before .before .before .before .before in
+    let s = c .before .before .before .before .before .before .before .before .before .before .before .before in
     let b = s .args .b in
-    let h = s .pre .1 .0 .1 in
-    let br = s .pre .1 .0 .2 in
-    let more = more-left h b br (c .before .before .before .before .before .before .before .before .before .before .before .before .before .before .before .before .before .before .before .before .if1 .left) in
-    let v = c .before .before .before .before .before .before .before .before .loop in
-    let t = c .before .before .before .before .before .before .before .loop-test .taken in
-    let f = fixed-small h b br in
-    let g = balancing-small h b br in
-    let counts = c .before .before .before .before .before .before .before .before .before .before .before .before .before .before .before .counts in
-    let at = c .before .before .before .before .before .before .candidate-at in
-    let one = c .before .before .before .before .reduced in
-    let other = c .before .before .reduced2 in
-    let explored : (p : Plan) → (h : Prepared p (s .args .d .now) (s .args .vs .now) (s .args .start .now) (s .args .source .now) (s .args .tails .now) (s .args .heads .now) (s .args .k)) → (br : IsBranch p (s .args .d .now) b)
-    → IsExplored p (branches h b br (take (v .x - getD (s .args .start .now) (b .a) 0 + 1) (candidates p (b .a)))) (s .args .g) (c .if2 .r) × IsPriced h b br (c .if2 .prices) (c .if2 .bound) =
+    let less = s .pre .1 .2 in
+    let v = c .before .before .before .before .loop in
+    let t = c .before .before .before .loop-test .taken in
+    let at = c .before .before .candidate-at in
+    let start = s .args .start .now in
+    let first = c .before .before .before .before .before .before .begun .result .progress in
+    let both : (p : Plan) → (h : Prepared p (s .args .d .now) (s .args .vs .now) start (s .args .source .now) (s .args .tails .now) (s .args .heads .now) (s .args .k)) → (br : IsBranch p (s .args .d .now) (s .args .f .now) b)
+    → IsExplored p (branches h b br (take (v .x - getD start (b .a) 0 + 1) (candidates p (b .a)))) first (c .if2 .e .progress) × IsPriced p (s .args .d .now) b (c .if2 .e .pricing) =
     (λ p h br.
-    let more = more-left h b br (c .before .before .before .before .before .before .before .before .before .before .before .before .before .before .before .before .before .before .before .before .if1 .left) in
-    let before = v .inv .5 p h br in
+    let i = v .inv .3 p h br in
     ⊎-elim
     (λ w.
-    let yes = sym (c .before .entered .ensures) ∙ w .0 .taken in
-    let next = next-branch h b br more (v .x) (v .inv .0) t (counts .result) (counts .ensures) (at .result) (at .ensures) (v .r) _ _ yes (w .1 .result) (w .1 .ensures) in
-    let after = w .2 .ensures p h next in
-    let lift = next-prices h b br more (v .x) (v .inv .0) t (counts .result) (counts .ensures) (at .result) (at .ensures) (v .r) _ _ yes (w .1 .result) (w .1 .ensures) (v .prices) (w .2 .result .pricing) (w .5 .result) (before .1 .prices) (after .1) (w .5 .ensures) in (
-      subst⁻¹ (IsExplored p (branches h b br (take (v .x - getD (s .args .start .now) (b .a) 0 + 1) (candidates p (b .a)))) (s .args .g)) (w .14)
-          (next-explored h b br more (v .x) (v .inv .0) t (counts .result) (counts .ensures) (at .result) (at .ensures) (v .r) _ _ yes (w .1 .result) (w .1 .ensures) (s .args .g) (w .2 .result .progress) (before .0) (after .0)),
-      subst⁻¹ (λ (x : Pricing). IsPriced h b br x (c .if2 .bound)) (w .12) (subst⁻¹ (IsPriced h b br (w .5 .result)) (w .13) (record { prices = lift; rest = w .10 .result; low = w .10 .ensures .0 p _ _ h; sum = refl })),
+    let yes = sym (c .before .goes-into .ensures) ∙ w .0 .taken in
+    let down = w .3 in
+    let under = w .6 in
+    let up = w .7 in
+    let next = next-branch h b br less (v .x) (v .inv .0) t (at .result) (at .ensures) (v .e .progress) _ yes _ (down .result) (down .ensures .0)
+    (λ l. subst (λ n. AreCounts (down .result .entries) (down .result .a) n (down .result .counts)) (h .count) (down .ensures .1)) in
+    let after = under .ensures p h next in
+    let new = next-prices h b br less (v .x) (v .inv .0) t (at .result) (at .ensures) (v .e .progress) _ yes _ (down .result) (down .ensures .0) (under .result .pricing) (after .1) in (
+      subst⁻¹ (λ (e : Explored). IsExplored p (branches h b br (take (v .x - getD start (b .a) 0 + 1) (candidates p (b .a)))) first (e .progress)) (w .8)
+          (subst⁻¹ (IsExplored p (branches h b br (take (v .x - getD start (b .a) 0 + 1) (candidates p (b .a)))) first) (up .ensures .0)
+          (next-explored h b br less (v .x) (v .inv .0) t (at .result) (at .ensures) (v .e .progress) _ yes _ (down .result) (down .ensures .0) first (under .result .progress) (i .0) (after .0))),
+      subst⁻¹ (λ (e : Explored). IsPriced p (s .args .d .now) b (e .pricing)) (w .8) (up .ensures .1 p _ _ _ h br (i .1 .prices) new),
     ))
     (λ w. (
-      subst⁻¹ (IsExplored p (branches h b br (take (v .x - getD (s .args .start .now) (b .a) 0 + 1) (candidates p (b .a)))) (s .args .g)) (w .5)
-          (next-passed h b br more (v .x) (v .inv .0) t (counts .result) (counts .ensures) (at .result) (at .ensures) (s .args .g) (v .r) (w .1 .result) (v .inv .2) (before .0) (w .1 .ensures)
-          (getD (b .rests) (b .a) 0) (subst (Low p (s .args .d .now) (b .multipliers) (getD (b .rests) (b .a) 0)) (sym (add-one (b .a))) (br .rests (b .a) (omega arith) (let n = h .count in omega arith))) (v .prices) (v .bound) (before .1)
-          (ap₂ (λ x y. isEntered (v .r) (at .result .trees) (b .bound + getD (b .rests) (b .a) 0 + x) (v .bound + y)) (sym (one .ensures .0)) (sym (other .ensures .0 ∙ ap (λ (w : List ℕ). reducedBy (s .args .d .now) w (at .result .tail) (at .result .head)) (v .inv .4))) ∙ sym (c .before .entered .ensures) ∙ w .0 .left)),
-      subst⁻¹ (λ (x : Pricing). IsPriced h b br x (c .if2 .bound)) (w .3) (subst⁻¹ (IsPriced h b br (v .prices)) (w .4) (before .1)),
+      subst⁻¹ (λ (e : Explored). IsExplored p (branches h b br (take (v .x - getD start (b .a) 0 + 1) (candidates p (b .a)))) first (e .progress)) (w .2)
+          (next-passed h b br less (v .x) (v .inv .0) t (at .result) (at .ensures) first (v .e .progress) (w .1 .result .progress) (v .inv .2) (i .0) (w .1 .ensures .0) (v .e .pricing) (i .1) (sym (c .before .goes-into .ensures) ∙ w .0 .left)),
+      subst⁻¹ (λ (e : Explored). IsPriced p (s .args .d .now) b (e .pricing)) (w .2) (subst⁻¹ (IsPriced p (s .args .d .now) b) (w .1 .ensures .1) (i .1)),
     ))
     (c .if2 .came)) in
-    let small : c .if2 .bound ≤ 3060000000000 =
-    ⊎-elim (λ w. let e = w .13 in let l = w .10 .ensures .1 in let q = ap (λ (x : Pricing). x .value) (w .12) in omega (arith, explored _ h br .1 .prices .small)) (λ w. let e = w .4 in let l = v .inv .3 in omega arith) (c .if2 .came) in
-    let same : c .if2 .p ≡ c .if2 .prices .potentials =
-    ⊎-elim (λ w. w .11 ∙ sym (ap (λ (x : Pricing). x .potentials) (w .12))) (λ w. w .2 ∙ v .inv .4 ∙ sym (ap (λ (x : Pricing). x .potentials) (w .3))) (c .if2 .came) in
-    let e : v .x - getD (s .args .start .now) (b .a) 0 + 1 ≡ v .x + 1 - getD (s .args .start .now) (b .a) 0 = omega (arith, v .inv .0) in (
+    let e : v .x - getD start (b .a) 0 + 1 ≡ v .x + 1 - getD start (b .a) 0 = omega (arith, v .inv .0) in (
       omega (arith, v .inv .0),
       omega arith,
-      explored-short (s .pre .1 .0 .0) _ (s .args .g) (c .if2 .r) (explored (s .pre .1 .0 .0) h br .0) (s .pre .1 .1),
-      small,
-      same,
-      λ p h br. (subst (λ n. IsExplored p (branches h b br (take n (candidates p (b .a)))) (s .args .g) (c .if2 .r)) e (explored p h br .0), explored p h br .1),
+      explored-short (s .pre .1 .0 .0) _ first (c .if2 .e .progress) (both (s .pre .1 .0 .0) (s .pre .1 .0 .1) (s .pre .1 .0 .2) .0) (subst⁻¹ IsShort (c .before .before .before .before .before .before .begun .ensures .0) (s .pre .1 .1)),
+      λ p h br. (subst (λ n. IsExplored p (branches h b br (take n (candidates p (b .a)))) first (c .if2 .e .progress)) e (both p h br .0), both p h br .1),
     )
 
 explore-returns-2 : (t : ℕ) → explore-lts.Need-returns-2 (claims t) (explore-at t) explore.Post Inv-loop μ-loop
 explore-returns-2 t c =
-    let s = c .before .before .before .before .before .before .before .before .before .before .before .before .before .before .before .before .before .before in
+    let s = c .before .before .before .before .before .before .before .before .before in
     let b = s .args .b in
     let v = c .before .loop in
+    let start = s .args .start .now in
     λ p h br.
-    let more = more-left h b br (c .before .before .before .before .before .before .before .before .before .before .before .before .before .if1 .left) in
-    let e : v .x - getD (s .args .start .now) (b .a) 0 ≡ length (candidates p (b .a)) = (let q = places h (b .a) (br .one) more in omega (arith, v .inv .0, v .inv .1, c .loop-test .left)) in
-    let i = v .inv .5 p h br in
-    (explored-end h b br more (v .x - getD (s .args .start .now) (b .a) 0) e (s .args .g) (v .r) (i .0), i .1 .prices)
+    let i = v .inv .3 p h br in
+    let e : v .x - getD start (b .a) 0 ≡ length (candidates p (b .a)) = (let q = places h (b .a) (br .one) (s .pre .1 .2) in omega (arith, v .inv .0, v .inv .1, c .loop-test .left)) in
+    (explored-end h b br (s .pre .1 .2) (v .x - getD start (b .a) 0) e (s .args .g) (v .e .progress) (subst (λ (g : Progress). IsExplored p (branches h b br (take (v .x - getD start (b .a) 0) (candidates p (b .a)))) g (v .e .progress)) (c .before .before .before .begun .ensures .0) (i .0)), i .1 .prices)
 
 pub +explore-spec : {M : Type 1} → statement M
 +explore-spec = close μ-explore λ t. explore-lts.spec (claims t)
@@ -488,37 +295,22 @@ pub +explore-spec : {M : Type 1} → statement M
     explore.Post
     Inv-loop
     μ-loop
-    (explore-add-completed t)
-    (explore-completed-requires t)
+    (explore-add-if1 t)
+    (explore-last-requires t)
     (explore-returns t)
-    (explore-counts-requires t)
-    (explore-mul-given t)
-    (explore-array-read-given t)
-    (explore-add-given t)
     (explore-add-end t)
     (explore-mul-end t)
     (explore-element-copy-out-end t)
-    (explore-add-bound t)
-    (explore-add-rest t)
-    (explore-rest-requires t)
-    (explore-add-bound-2 t)
+    (explore-begun-requires t)
     (explore-mul-x t)
     (explore-element-copy-out-x t)
     (explore-loop-holds t)
     (explore-candidate-at-requires t)
-    (explore-reduced-requires t)
-    (explore-add-one t)
-    (explore-reduced-requires-2 t)
-    (explore-add-other t)
-    (explore-entered-requires t)
+    (explore-goes-into-requires t)
     (explore-below-requires t)
     (explore-explore-requires t)
-    (explore-lifted-requires t)
-    (explore-add-bound-3 t)
-    (explore-add-rest-2 t)
-    (explore-rest-requires-2 t)
-    (explore-add-bound-4 t)
-    (explore-passed-requires t)
+    (explore-backed-up-requires t)
+    (explore-passed-over-requires t)
     (explore-add-x t)
     (explore-loop-less t)
     (explore-loop-again t)

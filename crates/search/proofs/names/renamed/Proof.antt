@@ -1,10 +1,8 @@
 -- After c turns the first c names are the new ones.
-use mathlib.Core.Path.{_≡_, refl, sym, ap, _∙_, subst⁻¹}
+use mathlib.Core.Path.{sym, _∙_, subst⁻¹}
 use mathlib.Core.Logic.{⊎-elim}
-use mathlib.Core.List.{List}
-use Prim.Native.Nat.{ℕ, _-_, _+_}
+use Prim.Native.Nat.{_-_, _+_}
 use native.Mathlib.Omega.{arith}
-use lib.ListN.{set}
 use Rattle.search.specs.Laws.Names.{AreRenamed, renamed-start, renamed-next, renamed-stays}
 use borrow.Author.Needs.{needs}
 use Rattle.search.proofs.names.renamed.Statement.{statement}

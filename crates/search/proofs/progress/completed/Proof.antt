@@ -3,10 +3,6 @@ use mathlib.Core.Path.{_∙_}
 use borrow.Author.Needs.{needs}
 use Rattle.search.proofs.progress.completed.Statement.{statement}
 use Rattle.search.proofs.progress.completed.Tie as tie
-use Rattle.search.proofs.progress.completed.Reads as reads
-use Rattle.search.proofs.progress.completed.Lts as lts
-use Rattle.search.proofs.progress.kept.Reads as kept-reads
-use Rattle.search.proofs.progress.passed.Reads as passed-reads
 
 kept-requires : tie.Need-kept-requires
 kept-requires c κs = search needs

@@ -1,11 +1,10 @@
 -- The tree is tried if none is to be skipped and some is left, and kept if it costs less.
-use mathlib.Core.Path.{_≡_, refl, sym, ap, _∙_}
+use mathlib.Core.Path.{sym, ap, _∙_}
 use native.Mathlib.Omega.{arith}
 use Rattle.search.specs.Links.{linksIn}
 use Rattle.search.specs.Progress.{Held, passOver}
 use Rattle.search.specs.Contracts.{heldOf}
-use Rattle.search.specs.Laws.Progress.{try-skipped, try-left, try-none, keep-yes, keep-no, held-same}
-use borrow.Author.Needs.{needs}
+use Rattle.search.specs.Laws.Progress.{try-skipped, try-left, try-none, keep-yes, keep-no}
 use Rattle.search.proofs.progress.kept.Statement.{statement}
 use Rattle.search.proofs.progress.kept.Tie as tie
 

@@ -1,5 +1,5 @@
 -- The three differences are those of the definition.
-use mathlib.Core.Path.{_≡_, refl, ap, _∙_}
+use mathlib.Core.Path.{refl, ap, _∙_}
 use Prim.Native.Nat.{_-_}
 use Rattle.search.specs.Laws.Progress.{held-same}
 use borrow.Author.Needs.{needs}

@@ -4,7 +4,6 @@ use native.Mathlib.Omega.{arith}
 use mir.Facts.{toZ-ofZ}
 use Rattle.integers.specs.Linear.{z, zl, zz}
 use Rattle.search.specs.Laws.Reduced.{risen-back, risen-small, risen-cast}
-use borrow.Author.Needs.{needs}
 use Rattle.search.proofs.reduced.risen.Statement.{statement}
 use Rattle.search.proofs.reduced.risen.Tie as tie
 

@@ -1,9 +1,9 @@
 -- After k turns the first k are raised.
-use mathlib.Core.Path.{_≡_, refl, sym, ap, ap₂, _∙_, subst, subst⁻¹}
-use Prim.Native.Nat.{ℕ, _+_, _-_, _≤_, _<_}
+use mathlib.Core.Path.{_≡_, refl, subst, subst⁻¹}
+use Prim.Native.Nat.{_+_, _-_, _≤_}
 use native.Mathlib.Omega.{arith}
 use lib.ListN.{length, getD, set}
-use lib.IntN.{ℤ, pos, _+ℤ_, _-ℤ_}
+use lib.IntN.{pos}
 use Rattle.search.specs.Contracts.{AreShifted}
 use Rattle.integers.specs.Linear.{back64}
 use Rattle.search.specs.Laws.Reduced.{shifted-start, shifted-more}
@@ -11,10 +11,6 @@ use Rattle.balance.specs.Laws.Fill.{zero-at}
 use borrow.Author.Needs.{needs}
 use Rattle.search.proofs.reduced.shifted.Statement.{statement}
 use Rattle.search.proofs.reduced.shifted.Tie as tie
-use Rattle.search.proofs.reduced.shifted.Reads as reads
-use Rattle.search.proofs.reduced.shifted.Lts as lts
-use Rattle.integers.proofs.wide.Reads as wide-reads
-use Rattle.search.proofs.reduced.risen.Reads as risen-reads
 
 abbrev Inv-loop : tie.InvT-loop
 Inv-loop u vs r₀ first low k₀ r k = AreShifted u vs k r × (k ≤ length vs)

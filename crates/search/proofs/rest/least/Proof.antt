@@ -1,16 +1,13 @@
 -- After each turn it is the least so far.
-use mathlib.Core.Path.{_≡_, refl, sym, ap, _∙_, subst, subst⁻¹}
+use mathlib.Core.Path.{_≡_, refl, subst, subst⁻¹}
 use mathlib.Core.Logic.{⊎-elim}
-use Prim.Native.Nat.{ℕ, _+_, _-_, _≤_, _<_}
+use Prim.Native.Nat.{_+_, _-_, _≤_}
 use native.Mathlib.Omega.{arith}
 use Rattle.search.specs.Contracts.{IsLeast}
 use Rattle.search.specs.Laws.Rest.{least-start, least-more}
 use borrow.Author.Needs.{needs}
 use Rattle.search.proofs.rest.least.Statement.{statement}
 use Rattle.search.proofs.rest.least.Tie as tie
-use Rattle.search.proofs.rest.least.Reads as reads
-use Rattle.search.proofs.rest.least.Lts as lts
-use Rattle.search.proofs.reduced.reduced.Reads as reduced-reads
 
 abbrev Inv-loop : tie.InvT-loop
 Inv-loop d p tails heads from to least₀ x₀ least x = IsLeast d p tails heads from x least × (from ≤ x) × (x ≤ to)

@@ -1,9 +1,8 @@
 -- The components from q on are summed.
-use mathlib.Core.Path.{_≡_, refl, sym, ap, _∙_, subst, subst⁻¹}
+use mathlib.Core.Path.{_≡_, subst}
 use mathlib.Core.List.{List}
 use Prim.Native.Nat.{ℕ, _+_, _*_, _-_, _≤_, _<_}
 use native.Mathlib.Omega.{arith}
-use lib.ListN.{length, getD}
 use Rattle.postman.specs.Plan.{Plan}
 use Rattle.search.specs.Bound.{Low}
 use Rattle.search.specs.Prepared.{Prepared}
@@ -12,9 +11,6 @@ use Rattle.search.specs.Laws.Rest.{rest-more}
 use borrow.Author.Needs.{needs}
 use Rattle.search.proofs.rest.rest.Statement.{statement}
 use Rattle.search.proofs.rest.rest.Tie as tie
-use Rattle.search.proofs.rest.rest.Reads as reads
-use Rattle.search.proofs.rest.rest.Lts as lts
-use Rattle.search.proofs.rest.least.Reads as least-reads
 
 abbrev Inv-loop : tie.InvT-loop
 Inv-loop d p start tails heads a k sum₀ q₀ sum q =

@@ -1,32 +1,32 @@
--- The root's entries are counted, and its trees gone through.
-use mathlib.Core.Path.{_≡_, refl, subst, subst⁻¹}
-use Prim.Native.Nat.{ℕ, _≤_, _<_}
+-- The number of all trees is that of the root, and its trees are gone through.
+use mathlib.Core.Path.{refl, subst, subst⁻¹}
+use Prim.Native.Nat.{_<_}
 use native.Mathlib.Omega.{arith}
 use Rattle.postman.specs.Component.{componentCount}
-use Rattle.tree_count.specs.Matrix.{cap, AreFew}
+use Rattle.tree_count.specs.Matrix.{cap, AreFew, AreCounts}
 use Rattle.search.specs.Laws.Tried.{searched}
 use borrow.Author.Needs.{needs}
 use Rattle.search.proofs.tried.search.Statement.{statement}
 use Rattle.search.proofs.tried.search.Tie as tie
-use Rattle.search.proofs.tried.search.Reads as reads
-use Rattle.search.proofs.tried.search.Lts as lts
-use Rattle.search.proofs.explore.explore.Reads as explore-reads
-use Rattle.search.proofs.tried.lesser.Reads as lesser-reads
-use Rattle.tree_count.proofs.count.count.Reads as count-reads
 
-count-requires : tie.Need-count-requires
-count-requires c κs =
-    let s = c .before .before in
+number-requires : tie.Need-number-requires
+number-requires c κs =
+    let s = c .before .before .before in
     let h = s .pre .0 .1 in
     let b = s .args .b in
+    let is = s .pre .0 .2 in
     let few = h .few in
     let n = h .count in
-    let o = h .layout .sources .some-component in
-    (omega arith, o, omega arith, subst⁻¹ (AreFew (b .entries) 1) n (subst (λ a. AreFew (b .entries) a (componentCount (s .pre .0 .0))) (s .pre .0 .2 .nothing) (s .pre .0 .2 .branch .few)))
+    let p = s .pre .0 .0 in (
+      h .layout .sources .some-component,
+      omega arith,
+      subst⁻¹ (AreFew (b .entries) 1) n (subst (λ a. AreFew (b .entries) a (componentCount p)) (is .nothing) (is .branch .few)),
+      λ l. subst⁻¹ (λ k. AreCounts (b .entries) 1 k (b .counts)) n (subst (λ a. AreCounts (b .entries) a (componentCount p) (b .counts)) (is .nothing) (is .branch .counts (let o = is .nothing in omega arith))),
+    )
 
-explore-requires : tie.Need-explore-requires
-explore-requires c κs =
-    let s = c .before .before .before in
+advance-requires : tie.Need-advance-requires
+advance-requires c κs =
+    let s = c .before .before .before .before in
     let l = s .fits .budget in
     ((s .pre .0 .0, s .pre .0 .1, s .pre .0 .2 .branch), omega (arith, l .fits))
 
@@ -35,10 +35,9 @@ lesser-requires c κs = search needs
 
 returns : tie.Need-returns
 returns c =
-    let e = c .before .before .before .before in
-    let s = e .before .before .before .before in
+    let s = c .before .before .before .before .before .before .before .before in
     let small : s .args .budget < cap = (let l = s .fits .budget in omega (arith, l .fits)) in
-    λ p h is. searched h (s .args .b) is (s .args .budget) (s .pre .1) small _ (e .explore .result .progress) (e .before .count .result) _ refl refl refl (e .explore .ensures p h (is .branch) .0) (e .before .count .ensures) refl refl refl (c .lesser .ensures) refl
+    λ p h is. searched h (s .args .b) is (s .args .budget) (s .pre .1) small _ (c .before .before .before .advance .result) (c .before .before .before .before .number .result) _ refl refl refl (c .before .before .before .advance .ensures p h (is .branch)) (c .before .before .before .before .number .ensures) refl refl refl (c .lesser .ensures) refl
 
 pub search-spec : {M : Type 1} → statement M
-search-spec = tie.close (tie.spec count-requires explore-requires lesser-requires returns)
+search-spec = tie.close (tie.spec number-requires advance-requires lesser-requires returns)
