@@ -1,6 +1,7 @@
 /*
  * The survey drive's planner: reading and writing plan files, the plan call, at a departure too, the short call, the call
- * for two cars, an open plan with marks to come back to, the number of trees, distances, and judging a drive.
+ * for two cars, an open plan with marks to come back to, eight districts in turn, the number of trees, distances, and
+ * judging a drive.
  *
  * A slice is lent as a pointer and a length. The length counts elements, not bytes. Pointers are not null, not even with
  * a length of 0, and a slice that is not const overlaps no other of the same call. That is all that is asked of a caller:
@@ -8,7 +9,8 @@
  *
  * Every function answers what was asked for, 0 or more, or minus a refusal's number. Of several refusals that apply the
  * first in this order is given: 1 (under three bytes), 2, 3, 1 (length), 4, then arc by arc 5, 6, 7, then 13, then 17,
- * then 8 and 9, then 18 to 20, then 10 to 12, then 14 to 16. The calls of an open plan have an order of their own.
+ * then 8 and 9, then 18 to 20, then 10 to 12, then 22, then 14 to 16. The calls of an open plan have an order of their
+ * own, and a slice that is too short for a machine of districts is refused with 8 before all else.
  * A refusal changes no lent slice; one of a car alone changes none of that car's. The functions keep nothing and share
  * nothing, so that threads may call them at once.
  *
@@ -72,6 +74,22 @@ extern "C" {
  */
 #define POSTMAN_OPEN_BYTES 7385
 #define POSTMAN_MARKS 4
+
+/*
+ * The bytes of a machine of districts, the most districts of one, and the trees that a turn takes. A turn answers the
+ * district's place, 0 to 7; in its last turn POSTMAN_FINISHED plus the place; and POSTMAN_NO_DISTRICT with no district
+ * inside.
+ *
+ * The bytes are eight districts one after the other, the front of the line first, and the number of those that wait, in
+ * eight bytes. A district is its place, one byte; the length of its file, eight bytes, and POSTMAN_LONGEST_FILE bytes from
+ * whose start the file stands; its budget, four bytes; the least cost so far, eight bytes; eight tails and eight heads of
+ * its best tree's links, a byte each; and the trees tried so far, four bytes. Numbers have their high byte first.
+ */
+#define POSTMAN_DISTRICTS_BYTES 12136
+#define POSTMAN_MOST_DISTRICTS 8
+#define POSTMAN_TURN_TREES 1000
+#define POSTMAN_FINISHED 8
+#define POSTMAN_NO_DISTRICT 16
 
 /* The editions of the plan file. */
 enum postman_edition {
@@ -141,7 +159,8 @@ enum postman_refusal {
     POSTMAN_BAD_MARKS = 18,  /* a car's marks are not as many as the arcs, one is neither 0 nor 1, or a closed arc is marked */
     POSTMAN_BAD_WINDOW = 19, /* a window, the number of windows or the departure is beyond its limits */
     POSTMAN_MUST_SHUT = 20,  /* an arc that must be driven is shut at departure */
-    POSTMAN_NO_MARK = 21     /* a mark's number is above 3, or the mark was never set */
+    POSTMAN_NO_MARK = 21,    /* a mark's number is above 3, or the mark was never set */
+    POSTMAN_FULL = 22        /* eight districts are unfinished */
 };
 
 /*
@@ -254,6 +273,37 @@ int64_t postman_return(uint8_t *state, size_t state_len, uint32_t mark);
 int64_t postman_ask(const uint8_t *state, size_t state_len, uint64_t budget, const uint16_t *windows, size_t windows_len,
                     uint32_t weekday, uint32_t minute, uint16_t *sheet, size_t sheet_len, uint64_t *answer,
                     size_t answer_len, int64_t *multipliers, size_t multipliers_len);
+
+/*
+ * Makes `machine` a machine of districts with no district inside. Answers 0, or minus 8 where it has fewer than
+ * POSTMAN_DISTRICTS_BYTES bytes. Later bytes are untouched, here and in the two calls below. The caller may copy the
+ * machine, and keep it for as long as it likes.
+ */
+int64_t postman_districts_start(uint8_t *machine, size_t machine_len);
+
+/*
+ * A district enters at the back of the line, with the file `plan` and a budget. Answers its place: the lowest that is
+ * free, 0 to 7; or minus a refusal, and then nothing moves: 1 to 7, 9 to 13, or 22 where eight districts are unfinished.
+ *
+ * A machine with fewer than POSTMAN_DISTRICTS_BYTES bytes is refused with 8, before all else.
+ */
+int64_t postman_enter(uint8_t *machine, size_t machine_len, const uint8_t *plan, size_t plan_len, uint64_t budget);
+
+/*
+ * A turn: the front district tries 1,000 trees, or those that are left of its budget or of its plan.
+ *
+ * Answers its place where it is not finished: it goes to the back of the line. `answer` then takes the least cost so far
+ * and the trees tried so far, and 0 for its other words; sheet and multipliers are untouched. Answers POSTMAN_FINISHED
+ * plus its place in its last turn: it leaves, and its place is free. Sheet, answer and multipliers then take what one plan
+ * call with its file and budget gives, however many turns it took.
+ *
+ * Answers POSTMAN_NO_DISTRICT where no district is inside, whatever the sheet, or else minus 8 for a sheet below
+ * POSTMAN_SHEET_PLACES; then nothing is changed. A machine with fewer than POSTMAN_DISTRICTS_BYTES bytes is refused with 8,
+ * before all else. Any bytes of that length are a machine, and no call fails on them; what is said here is said of those
+ * that these calls lead to from postman_districts_start.
+ */
+int64_t postman_turn(uint8_t *machine, size_t machine_len, uint16_t *sheet, size_t sheet_len, uint64_t *answer,
+                     size_t answer_len, int64_t *multipliers, size_t multipliers_len);
 
 /*
  * Distances for a page of pairs of vertices of the file `plan`. Answers the number of searches run, which is the number of

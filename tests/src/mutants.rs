@@ -5,12 +5,13 @@ mod cars;
 mod codecs;
 mod counters;
 mod departures;
+mod districts;
 mod editors;
 mod judges;
 mod pages;
 mod steps;
 
-use crate::planner::{CarsCall, Codec, Counter, DepartureCall, DistanceCall, Editor, Judge, Planner};
+use crate::planner::{CarsCall, Codec, Counter, DepartureCall, DistanceCall, Districts, Editor, Judge, Planner};
 use crate::properties::Property;
 
 pub struct Mutant<T: ?Sized> {
@@ -55,6 +56,11 @@ pub fn cars() -> Vec<Mutant<dyn CarsCall>> {
 /// Wrong in changes, marks, returns or asking.
 pub fn editors() -> Vec<Mutant<dyn Editor>> {
     editors::mutants()
+}
+
+/// Wrong in entries or turns.
+pub fn districts() -> Vec<Mutant<dyn Districts>> {
+    districts::mutants()
 }
 
 /// Wrong in judging a list of arcs.

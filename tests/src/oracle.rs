@@ -15,6 +15,7 @@
 //! | shut arcs | the minutes of a week, for each arc | window by window |
 //! | a car's plan | the set of its arcs, priced by standing | mark by mark, priced by service cost |
 //! | an open plan | the accepted calls, looked up from the end | the plan and the marks as they are now |
+//! | districts in turn | whose each accepted call was; the front has waited longest since its own | a line, its front first |
 //! | judging | sets of arcs, and how often each occurs | passes along the list |
 
 mod balancing;
@@ -23,6 +24,7 @@ mod file;
 mod graph;
 mod history;
 mod judging;
+mod line;
 mod marks;
 mod optimum;
 mod page;
@@ -36,6 +38,7 @@ pub use file::{file_of, is_long_enough, parse, read_refusal, write_refusal};
 pub use graph::{judge, Graph, INFINITE};
 pub use history::History;
 pub use judging::judge_answer;
+pub use line::{Due, Line};
 pub use marks::{car_plan, car_refusal, own_marks};
 pub use optimum::{optimum, MOST_REQUIRED_ARCS};
 pub use page::{page, page_refusal};

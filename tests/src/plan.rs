@@ -50,6 +50,10 @@ pub const MOST_PAIRS: usize = 256;
 /// The most windows of a plan call at a departure.
 pub const MOST_WINDOWS: usize = 128;
 
+/// The most districts inside a machine, and the trees of a turn.
+pub const MOST_DISTRICTS: usize = 8;
+pub const TURN_TREES: u64 = 1_000;
+
 /// When a drive begins: a weekday from 0, Monday, to 6, and a minute of the day.
 #[derive(Clone, Copy, PartialEq, Eq, Debug)]
 pub struct Departure {

@@ -16,11 +16,13 @@ use crate::plan::{Arc, Departure, MOST_VERTICES};
 
 mod cars;
 mod counter;
+mod districts;
 mod editor;
 #[cfg(feature = "proved")]
 mod proved;
 pub use cars::{Car, CarsAnswer, CarsCall};
 pub use counter::{Counter, TreeCount};
+pub use districts::{Districts, Machine, Turn};
 pub use editor::{Call, Change, Editor, OpenPlan};
 #[cfg(feature = "proved")]
 pub use proved::Proved;
@@ -53,6 +55,7 @@ pub mod refusal {
     pub const BAD_WINDOW: Refusal = 19;
     pub const MUST_SHUT: Refusal = 20;
     pub const NO_MARK: Refusal = 21;
+    pub const FULL: Refusal = 22;
 }
 
 /// What the plan call answers beside the drive.

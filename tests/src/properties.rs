@@ -7,6 +7,7 @@ mod checking;
 mod codec;
 mod count;
 mod departure;
+mod districts;
 mod editing;
 mod judging;
 mod page;
@@ -18,6 +19,7 @@ pub use checking::examine_checking;
 pub use codec::{examine_codec, examine_writing};
 pub use count::{examine_count, examine_whole};
 pub use departure::{examine_departure, examine_departure_refusal, examine_no_windows};
+pub use districts::{examine_districts, Request, Told};
 pub use editing::{examine_editing, Question, Step};
 pub use judging::{examine_judgement, examine_written};
 pub use page::examine_page;
@@ -133,10 +135,32 @@ pub enum Property {
     Asking,
     /// Asking after a return gives what asking at the mark gave.
     AskedAgain,
+    /// An entry is refused for what the plan call refuses, 8 apart, then with 22 where eight districts are inside, and not otherwise.
+    EntryRefusal,
+    /// An entry answers the lowest free place.
+    LowestPlace,
+    /// A turn with a short sheet gets 8, but where no district is inside: that is said.
+    TurnRefusal,
+    /// A turn goes to the front of the line: an entrant, and an unfinished district after its turn, go to the back.
+    FrontServed,
+    /// A district finishes in turn T ÷ 1,000 of its own, rounded up.
+    LastTurn,
+    /// Before that it is told 1,000 trees for each of its turns.
+    TreesSoFar,
+    /// And their least cost, which is that of a plan call with as many for its budget.
+    CostSoFar,
+    /// No turn but a district's last writes to the sheet.
+    SheetBetween,
+    /// A district's answer and sheet are those of one plan call with its budget.
+    AnswerOfTurns,
+    /// No waiting district sees more than seven turns of others before its own.
+    SevenTurns,
+    /// Without the calls that are refused or find no district inside, the others are told the same.
+    NothingMoves,
 }
 
 /// All of them.
-pub const PROPERTIES: [Property; 53] = {
+pub const PROPERTIES: [Property; 64] = {
     use Property::*;
     [
         Returns,
@@ -192,6 +216,17 @@ pub const PROPERTIES: [Property; 53] = {
         OpenReads,
         Asking,
         AskedAgain,
+        EntryRefusal,
+        LowestPlace,
+        TurnRefusal,
+        FrontServed,
+        LastTurn,
+        TreesSoFar,
+        CostSoFar,
+        SheetBetween,
+        AnswerOfTurns,
+        SevenTurns,
+        NothingMoves,
     ]
 };
 

@@ -3,6 +3,7 @@
 mod cars;
 mod counts;
 mod departures;
+mod districts;
 mod editing;
 mod editions;
 mod faults;
@@ -13,6 +14,7 @@ mod stated;
 pub use cars::run_cars;
 pub use counts::{run_count, run_counts};
 pub use departures::run_departures;
+pub use districts::{district_cases, run_districts, run_stated_districts};
 pub use editing::run_editing;
 pub use editions::{run_stated_codec, FILE_A_CHECKED};
 pub use judging::{run_lists, run_stated_lists};

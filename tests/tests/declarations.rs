@@ -237,6 +237,8 @@ fn constants_agree() {
         ("MOST_PARTS", plan::MOST_PARTS as u64),
         ("MOST_PAIRS", plan::MOST_PAIRS as u64),
         ("MOST_WINDOWS", plan::MOST_WINDOWS as u64),
+        ("MOST_DISTRICTS", plan::MOST_DISTRICTS as u64),
+        ("TURN_TREES", plan::TURN_TREES),
         ("LONGEST_FILE", plan::LONGEST_FILE as u64),
         ("SHEET_PLACES", plan::SHEET_PLACES as u64),
         ("MOST_PLACES", plan::MOST_PLACES as u64),
@@ -268,6 +270,7 @@ fn constants_agree() {
         ("BAD_WINDOW", u64::from(refusal::BAD_WINDOW)),
         ("MUST_SHUT", u64::from(refusal::MUST_SHUT)),
         ("NO_MARK", u64::from(refusal::NO_MARK)),
+        ("FULL", u64::from(refusal::FULL)),
     ] {
         assert_eq!(header.get(name), Some(&value), "{name}");
     }

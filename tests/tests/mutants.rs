@@ -2,7 +2,7 @@
 //! catches some wrong planner.
 
 use postman_tests::instances::Shape;
-use postman_tests::mutants::{cars, codecs, counters, departures, editors, judges, pages, planners};
+use postman_tests::mutants::{cars, codecs, counters, departures, districts, editors, judges, pages, planners};
 use postman_tests::oracle::Effort;
 use postman_tests::properties::{Case, Findings, Property, PROPERTIES};
 use postman_tests::suite;
@@ -130,6 +130,31 @@ fn wrong_editors_are_caught() {
 }
 
 #[test]
+fn wrong_machines_of_districts_are_caught() {
+    // A wrong machine may panic, as a wrong planner may.
+    std::panic::set_hook(Box::new(|_| {}));
+    let cases = suite::district_cases(SEED);
+    let mut escaped = Vec::new();
+    for mutant in districts() {
+        let mut found = Findings::default();
+        suite::run_stated_districts(&mut found, &*mutant.wrong, &Yardstick, &cases);
+        for seed in SEED..SEED + 10 {
+            if missed(mutant.violates, &found).is_empty() {
+                break;
+            }
+            suite::run_districts(&mut found, &*mutant.wrong, &Yardstick, &cases, seed, 1);
+        }
+        println!("{}: {:?}", mutant.name, found.violated);
+        let missed = missed(mutant.violates, &found);
+        if !missed.is_empty() {
+            escaped.push((mutant.name, missed));
+        }
+    }
+    let _ = std::panic::take_hook();
+    assert!(escaped.is_empty(), "{escaped:?}");
+}
+
+#[test]
 fn wrong_judges_are_caught() {
     for mutant in judges() {
         let mut found = Findings::default();
@@ -149,6 +174,7 @@ fn every_property_catches_some_mutant() {
     caught.extend(departures().iter().flat_map(|m| m.violates.to_vec()));
     caught.extend(cars().iter().flat_map(|m| m.violates.to_vec()));
     caught.extend(editors().iter().flat_map(|m| m.violates.to_vec()));
+    caught.extend(districts().iter().flat_map(|m| m.violates.to_vec()));
     caught.extend(judges().iter().flat_map(|m| m.violates.to_vec()));
     let idle: Vec<Property> = PROPERTIES.into_iter().filter(|p| !caught.contains(p)).collect();
     assert_eq!(idle, []);

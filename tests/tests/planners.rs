@@ -5,7 +5,7 @@
 
 use postman_tests::instances::Shape;
 use postman_tests::oracle::Effort;
-use postman_tests::planner::{CarsCall, Codec, Counter, DepartureCall, DistanceCall, Editor, Planner};
+use postman_tests::planner::{CarsCall, Codec, Counter, DepartureCall, DistanceCall, Districts, Editor, Planner};
 use postman_tests::properties::Findings;
 use postman_tests::random::{setting, Random};
 use postman_tests::{suite, yardstick::Yardstick};
@@ -100,6 +100,15 @@ fn histories<T: Editor + DepartureCall>(name: &str, planner: &T) {
     found.assert_none(name, seed());
 }
 
+/// Machines of districts, and a district's answer beside the plan call.
+fn districts<T: Districts + Planner>(name: &str, planner: &T) {
+    let mut found = Findings::default();
+    let cases = suite::district_cases(seed());
+    suite::run_stated_districts(&mut found, planner, planner, &cases);
+    suite::run_districts(&mut found, planner, planner, &cases, seed(), rounds(5));
+    found.assert_none(name, seed());
+}
+
 /// The stated numbers and files of every length; then random plans, small and large, with the plan call beside the count.
 fn numbers_of_trees<T: Counter + Planner>(name: &str, planner: &T) {
     let mut found = Findings::default();
@@ -177,6 +186,11 @@ macro_rules! held_to_all {
             #[test]
             fn open_plans() {
                 histories(stringify!($name), &$planner);
+            }
+
+            #[test]
+            fn districts_in_turn() {
+                districts(stringify!($name), &$planner);
             }
         }
     };

@@ -99,6 +99,21 @@ extern "C" {
         multipliers_len: usize,
     ) -> i64;
 
+    pub fn postman_districts_start(machine: *mut u8, machine_len: usize) -> i64;
+
+    pub fn postman_enter(machine: *mut u8, machine_len: usize, plan: *const u8, plan_len: usize, budget: u64) -> i64;
+
+    pub fn postman_turn(
+        machine: *mut u8,
+        machine_len: usize,
+        sheet: *mut u16,
+        sheet_len: usize,
+        answer: *mut u64,
+        answer_len: usize,
+        multipliers: *mut i64,
+        multipliers_len: usize,
+    ) -> i64;
+
     pub fn postman_distances(
         plan: *const u8,
         plan_len: usize,

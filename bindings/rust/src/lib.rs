@@ -31,6 +31,7 @@
 
 mod answer;
 mod distances;
+mod districts;
 mod edition;
 mod ffi;
 pub mod limits;
@@ -44,6 +45,7 @@ mod windows;
 
 pub use answer::{judge, plan_call, short_call, Answer};
 pub use distances::{distances, Distances};
+pub use districts::{Districts, Turn};
 pub use edition::Edition;
 pub use open_plan::OpenPlan;
 pub use plan::{Arc, Plan, Standing};

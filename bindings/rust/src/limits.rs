@@ -49,6 +49,17 @@ pub const OPEN_BYTES: usize = 7_385;
 /// The marks of an open plan, which are 0 to 3.
 pub const MARKS: usize = 4;
 
+/// The bytes of a machine of districts: eight districts, and the number of those that wait.
+pub const DISTRICTS_BYTES: usize = 12_136;
+/// The most districts of a machine.
+pub const MOST_DISTRICTS: usize = 8;
+/// The trees that a turn takes, but for a district's last.
+pub const TURN_TREES: u64 = 1_000;
+/// A district's last turn answers this plus its place.
+pub const FINISHED: usize = 8;
+/// What a turn answers with no district inside.
+pub const NO_DISTRICT: usize = 16;
+
 /// The bytes of a record, which is an arc: tail, head, standing, the high byte and the low byte of its cost, and those of its service cost.
 pub const RECORD_BYTES: usize = 7;
 /// The index of a record's tail.

@@ -316,6 +316,52 @@ pub fn ask(
     .map(|_| ())
 }
 
+/// Makes `machine` a machine of districts with no district inside. It takes [`DISTRICTS_BYTES`](crate::limits::DISTRICTS_BYTES) bytes; later bytes are
+/// untouched, here and in [`enter`] and [`turn`]. A shorter one is refused with 8, before all else.
+pub fn districts_start(machine: &mut [u8]) -> Result<(), Refusal> {
+    // SAFETY: as in `read_plan`.
+    unless_refused(unsafe { ffi::postman_districts_start(machine.as_mut_ptr(), machine.len()) }).map(|_| ())
+}
+
+/// A district enters a machine at the back of the line, with the file `plan` and a budget: its place, the lowest that is free. Refuses with 1 to 7, 9 to
+/// 13, and 22 where eight districts are unfinished; then nothing moves.
+pub fn enter(machine: &mut [u8], plan: &[u8], budget: u64) -> Result<usize, Refusal> {
+    // SAFETY: as in `read_plan`.
+    unless_refused(unsafe {
+        ffi::postman_enter(machine.as_mut_ptr(), machine.len(), plan.as_ptr(), plan.len(), budget)
+    })
+}
+
+/// A turn of a machine's front district: it tries 1,000 trees, or those that are left. Its place, if it is not finished: `answer` has the least cost and the
+/// trees tried so far then, and 0 in its other words; sheet and multipliers are untouched. [`FINISHED`] plus its place in its last turn: sheet, `answer` and
+/// multipliers have what one [`plan_call`] gives, and its place is free. [`NO_DISTRICT`] with no district inside, and then nothing is changed. Refuses with 8
+/// for a short sheet, if a district is inside.
+///
+/// Any bytes are a machine. What is said here is said of those that [`enter`] and [`turn`] lead to from [`districts_start`].
+///
+/// [`FINISHED`]: crate::limits::FINISHED
+/// [`NO_DISTRICT`]: crate::limits::NO_DISTRICT
+pub fn turn(
+    machine: &mut [u8],
+    sheet: &mut [u16],
+    answer: &mut [u64],
+    multipliers: &mut [i64],
+) -> Result<usize, Refusal> {
+    // SAFETY: as in `read_plan`.
+    unless_refused(unsafe {
+        ffi::postman_turn(
+            machine.as_mut_ptr(),
+            machine.len(),
+            sheet.as_mut_ptr(),
+            sheet.len(),
+            answer.as_mut_ptr(),
+            answer.len(),
+            multipliers.as_mut_ptr(),
+            multipliers.len(),
+        )
+    })
+}
+
 /// Distances for a page of pairs of vertices of the file `plan`, on lent slices: the number of searches run, one for each first vertex. Refuses
 /// with 1 to 8, 13 and 17.
 ///

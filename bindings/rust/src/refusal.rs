@@ -4,7 +4,7 @@ use std::error::Error;
 use std::fmt;
 
 /// Why a call was refused. Of several refusals that apply, the calls give the first in this order: 1 (under three bytes), 2, 3, 1 (length),
-/// 4, then arc by arc 5, 6, 7, then 13, then 17, then 8 and 9, then 18 to 20, then 10 to 12, then 14 to 16. The calls of
+/// 4, then arc by arc 5, 6, 7, then 13, then 17, then 8 and 9, then 18 to 20, then 10 to 12, then 22, then 14 to 16. The calls of
 /// an open plan have an order of their own.
 ///
 /// ```
@@ -59,11 +59,13 @@ pub enum Refusal {
     MustShut = 20,
     /// A mark's number is above 3, or the mark was never set.
     NoMark = 21,
+    /// Eight districts are unfinished.
+    Full = 22,
 }
 
 impl Refusal {
     /// All refusals, by their numbers.
-    pub const ALL: [Refusal; 21] = [
+    pub const ALL: [Refusal; 22] = [
         Refusal::Torn,
         Refusal::Edition,
         Refusal::Extent,
@@ -85,6 +87,7 @@ impl Refusal {
         Refusal::BadWindow,
         Refusal::MustShut,
         Refusal::NoMark,
+        Refusal::Full,
     ];
 
     /// The refusal's number.
@@ -145,6 +148,7 @@ impl Refusal {
             }
             Refusal::MustShut => ("must shut", "an arc that must be driven is shut at departure"),
             Refusal::NoMark => ("no mark", "a mark's number is above 3, or the mark was never set"),
+            Refusal::Full => ("full", "eight districts are unfinished"),
         }
     }
 }
@@ -165,11 +169,11 @@ mod tests {
     #[test]
     fn numbers_ascend() {
         let numbers: Vec<u32> = Refusal::ALL.iter().map(|refusal| refusal.number()).collect();
-        assert_eq!(numbers, (1..=21).collect::<Vec<u32>>());
+        assert_eq!(numbers, (1..=22).collect::<Vec<u32>>());
         for refusal in Refusal::ALL {
             assert_eq!(Refusal::from_number(refusal.number()), Some(refusal));
         }
-        for number in [0, 22, u32::MAX] {
+        for number in [0, 23, u32::MAX] {
             assert_eq!(Refusal::from_number(number), None);
         }
     }

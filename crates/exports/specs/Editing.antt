@@ -3,7 +3,7 @@ use mathlib.Core.Path.{_≡_}
 use mathlib.Core.Bool.{cond}
 use mathlib.Core.List.{List, [], _∷_, _++_}
 use mathlib.Core.Option.{Option, none, some}
-use Prim.Native.Nat.{ℕ, _+_, _/_, _%_, _≤_, _<_}
+use Prim.Native.Nat.{ℕ, _+_, _≤_, _<_}
 use lib.IntN.{ℤ, pos, negℤ}
 use lib.ListN.{length, take, drop}
 use lib.Dec.{ltb}
@@ -18,6 +18,7 @@ use Rattle.open_plan.specs.declared.Moved.{Moved}
 use Rattle.open_plan.specs.State.{fileIn, heldOf, freshState, markIn, refusalOf, next}
 use Rattle.exports.specs.Number.{oneNumber}
 use Rattle.exports.specs.RecordBytes.{numberIn}
+use Rattle.exports.specs.NumberBytes.{numberBytes}
 use Rattle.exports.specs.Answer.{IsExportedCallAt}
 
 -- ---- the state, lent
@@ -31,7 +32,7 @@ abbrev pub heldIn : List ℕ → ℕ → Held
 heldIn bytes i = record { length = numberIn bytes i; file = take 1475 (drop (i + 2) bytes) }
 
 abbrev pub heldBytes : Held → List ℕ
-heldBytes h = h .length / 256 ∷ h .length % 256 ∷ h .file
+heldBytes h = numberBytes (h .length) ++ h .file
 
 -- The open plan that is lent: its own file, then those of marks 0 to 3. Whatever the bytes are, they are one.
 abbrev pub openIn : List ℕ → OpenPlan
@@ -39,10 +40,6 @@ openIn bytes = record { plan = heldIn bytes 0; marks = heldIn bytes 1477 ∷ hel
 
 unfoldable pub stateBytes : OpenPlan → List ℕ
 stateBytes s = heldBytes (s .plan) ++ heldBytes (markIn s 0) ++ heldBytes (markIn s 1) ++ heldBytes (markIn s 2) ++ heldBytes (markIn s 3)
-
--- The bytes from byte i on become those of a file.
-unfoldable pub putHeld : List ℕ → ℕ → Held → List ℕ
-putHeld bytes i h = take i bytes ++ heldBytes h ++ drop (i + 1477) bytes
 
 -- ---- the calls
 

@@ -7,3 +7,7 @@ pub mod Judged
 pub mod Cars
 pub mod Editing
 pub mod Lent
+pub mod NumberBytes
+pub mod MachineBytes
+pub mod Turns
+pub mod LentTurns

@@ -1,10 +1,6 @@
 // The plan call, the short call and the plan call at a departure, for callers in other languages. The number is 0, or minus the refusal's; an answer goes into two lent slices.
 ghost use mathlib.Core.Path.{_≡_};
-ghost use mathlib.Core.Option.{none};
-ghost use lib.IntN.{pos, natAbs};
-ghost use lib.Signed.{_≤ℤ_};
 ghost use Rattle.postman.specs.PlanCall.{defaultBudget};
-ghost use Rattle.refusal.specs.Verdict.{verdictNumber};
 ghost use Rattle.windows.specs.Contract.{departure};
 ghost use Rattle.exports.specs.Answer.{wordsOf, putFirst, IsHandedOver, IsExportedCall, IsExportedCallAt};
 use crate::number::refused_number;
@@ -12,20 +8,11 @@ use planner::Planned;
 use records::writer::at_most;
 use refusal::Verdict;
 
-// The floor as a word. It is at least 0, since R + Z is.
-fn floor_word(floor: i64) -> u64
-    requires { ⌜ pos 0 ≤ℤ floor ⌝ }
-    ensures { λ r. ⌜ r ≡ natAbs floor ⌝ }
-{
-    floor as u64
-}
-
-// The words of an answer: places, cost, floor, trees, whole as 0 or 1, parts.
-fn words(r: Planned) -> [u64; 6]
-    requires { ⌜ pos 0 ≤ℤ r .floor ⌝ }
+// The words of an answer: places, cost, floor, trees, whole as 0 or 1, parts. The floor of a plan call's answer is at least 0, since R + Z is.
+pub(crate) fn words(r: Planned) -> [u64; 6]
     ensures { λ w. ⌜ w ≡ wordsOf r ⌝ }
 {
-    let floor = floor_word(r.floor);
+    let floor = integers::magnitude(r.floor);
     [
         r.places as u64,
         r.cost,
@@ -37,7 +24,7 @@ fn words(r: Planned) -> [u64; 6]
 }
 
 // As many words as there is room for.
-fn put_words(words: [u64; 6], lent: &mut [u64])
+pub(crate) fn put_words(words: [u64; 6], lent: &mut [u64])
     ensures { λ _. ⌜ now (lent .exit) ≡ putFirst words (now (lent .entry)) ⌝ }
 {
     let n = at_most(lent.len(), 6);
@@ -47,7 +34,7 @@ fn put_words(words: [u64; 6], lent: &mut [u64])
 }
 
 // As many multipliers as there is room for.
-fn put_multipliers(u: [i64; 64], lent: &mut [i64])
+pub(crate) fn put_multipliers(u: [i64; 64], lent: &mut [i64])
     ensures { λ _. ⌜ now (lent .exit) ≡ putFirst u (now (lent .entry)) ⌝ }
 {
     let n = at_most(lent.len(), 64);
@@ -58,7 +45,6 @@ fn put_multipliers(u: [i64; 64], lent: &mut [i64])
 
 // An answer that is no refusal goes into the lent slices.
 pub(crate) fn hand_over(r: Planned, words_lent: &mut [u64], u_lent: &mut [i64]) -> i64
-    requires { ⌜ (verdictNumber (r .verdict) ≡ none → pos 0 ≤ℤ r .floor) ⌝ }
     ensures { λ k. ⌜ IsHandedOver r (now («words_lent» .entry)) (now («words_lent» .exit)) (now («u_lent» .entry)) (now («u_lent» .exit)) k ⌝ }
 {
     let verdict = r.verdict;

@@ -4,7 +4,6 @@ ghost use mathlib.Core.Path.{_≡_};
 ghost use mathlib.Core.List.{_++_};
 ghost use Prim.Native.Nat.{_+_, _≤_};
 ghost use lib.ListN.{length, take, drop};
-ghost use lib.Seq.{paste};
 ghost use Rattle.postman.specs.OpenPlan.{change as «a-change», mark as «a-mark», return as «a-return»};
 ghost use Rattle.windows.specs.Contract.{departure};
 ghost use Rattle.open_plan.specs.State.{changeOf};
@@ -12,9 +11,12 @@ ghost use mathlib.Core.Option.{some};
 ghost use Rattle.postman.specs.Refusal.{answer};
 ghost use Rattle.refusal.specs.Verdict.{verdictNumber, orElse};
 ghost use Rattle.exports.specs.Number.{oneNumber};
-ghost use Rattle.exports.specs.Editing.{openBytes, heldIn, openIn, putHeld, stateBytes, IsStored, IsExportedOpen, IsExportedMove, IsExportedAsk};
+ghost use Rattle.exports.specs.NumberBytes.{putAt};
+ghost use Rattle.exports.specs.Editing.{openBytes, heldIn, heldBytes, openIn, stateBytes, IsStored, IsExportedOpen, IsExportedMove, IsExportedAsk};
 use crate::call::hand_over;
 use crate::number::refused_number;
+use crate::number_bytes::put_bytes;
+use crate::number_bytes::put_number;
 use crate::record_bytes::number_at;
 use open_plan::Held;
 use open_plan::Moved;
@@ -23,7 +25,7 @@ use refusal::Refusal;
 use refusal::Verdict;
 
 // The 1,475 bytes from `at` on.
-fn load_file(state: &[u8], at: usize) -> [u8; 1475]
+pub(crate) fn load_file(state: &[u8], at: usize) -> [u8; 1475]
     requires { ⌜ at + 1475 ≤ length (now state) ⌝ }
     ensures { λ r. ⌜ r ≡ take 1475 (drop at (now (state .entry))) ⌝ }
 {
@@ -63,26 +65,14 @@ fn load(state: &[u8]) -> OpenPlan
     }
 }
 
-// 1,475 bytes go to where they are held.
-fn store_file(state: &mut [u8], at: usize, file: [u8; 1475])
-    requires { ⌜ at + 1475 ≤ length (now state) ⌝ }
-    ensures { λ _. ⌜ (length file ≡ 1475) × (now (state .exit) ≡ paste (now (state .entry)) at file 1475) ⌝ }
-{
-    for i in 0..1475 {
-        state[at + i] = file[i];
-    }
-}
-
 // A file, with its length before it.
 fn store_held(state: &mut [u8], at: usize, h: Held)
     requires { ⌜ at + 1477 ≤ length (now state) ⌝ }
-    ensures { λ _. ⌜ (length (h .file) ≡ 1475) × (now (state .exit) ≡ putHeld (now (state .entry)) at h) ⌝ }
+    ensures { λ _. ⌜ (length (h .file) ≡ 1475) × (now (state .exit) ≡ putAt (now (state .entry)) at (heldBytes h)) ⌝ }
 {
-    let length = h.length;
     let file = h.file;
-    state[at] = (length / 256) as u8;
-    state[at + 1] = (length % 256) as u8;
-    store_file(state, at + 2, file);
+    put_number(state, at, h.length);
+    put_bytes(state, at + 2, &file);
 }
 
 // The open plan and its marks.

@@ -6,6 +6,7 @@ use plan::Plan;
 use search::branch::Branch;
 use search::progress::Progress;
 use search::tried::Searched;
+use search::tried::lesser;
 use tree_count::entries::entries_of;
 ghost use mathlib.Core.Path.{_≡_};
 ghost use Prim.Native.Nat.{_≤_, _+_, _-_, min};
@@ -116,16 +117,6 @@ fn explored(
     let k = net.components as usize;
     let f = base.amounts;
     search::tried::advance(g, b, &f, table, vs, &start, &source, &tails, &heads, k)
-}
-
-// How many of n trees are tried.
-fn lesser(n: u64, budget: u32) -> u32
-    ensures { λ r. ⌜ r ≡ min budget n ⌝ }
-{
-    if n < budget as u64 {
-        return n as u32;
-    }
-    budget
 }
 
 // "takes 1,000 trees or the rest of T"

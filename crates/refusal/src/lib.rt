@@ -26,6 +26,7 @@ pub enum Refusal {
     BadWindow,
     MustShut,
     NoMark,
+    Full,
 }
 
 // The number of a refusal.
@@ -54,6 +55,7 @@ pub fn refusal_number(r: Refusal) -> u8
         Refusal::BadWindow => 19,
         Refusal::MustShut => 20,
         Refusal::NoMark => 21,
+        Refusal::Full => 22,
     }
 }
 

@@ -34,7 +34,7 @@ fn number(counts: [u64; 8], entries: [u32; 64], k: usize) -> u64
 }
 
 // How many of n trees are tried.
-fn lesser(n: u64, budget: u32) -> u32
+pub fn lesser(n: u64, budget: u32) -> u32
     ensures { λ r. ⌜ r ≡ min budget n ⌝ }
 {
     if n < budget as u64 {

@@ -213,6 +213,34 @@ fn slow_plans() -> Vec<(String, Plan)> {
     plans
 }
 
+/// Turns of a district that tries a million trees, beside a plan call that tries as many as a turn: the first turn, the 100th, the 500th, the last and the slowest. Three districts bring the
+/// same plan, and of their times the least is taken. The yardstick's machine tries all trees again in each turn, so that its times say nothing.
+#[cfg(feature = "proved")]
+fn turns(name: &str, plan: &Plan) {
+    use postman_tests::plan::{HIGHEST_BUDGET, TURN_TREES};
+    use postman_tests::planner::{Districts, Proved, Turn};
+    const DISTRICTS: usize = 3;
+    let file = file_of(plan);
+    let mut sheet = vec![0; SHEET_PLACES];
+    let call = microseconds(|| assert!(Proved.plan_call(&file, TURN_TREES, &mut sheet).is_ok()));
+    let trees = Proved.plan_call(&file, HIGHEST_BUDGET, &mut sheet).expect("a good plan").trees;
+    let mut machine = Proved.start();
+    (0..DISTRICTS).for_each(|_| assert!(machine.enter(&file, HIGHEST_BUDGET).is_ok()));
+    let mut turn = || {
+        let start = processor_time();
+        assert!(machine.turn(&mut sheet).is_ok());
+        (processor_time() - start).as_secs_f64() * 1e3
+    };
+    let mut least = || (0..DISTRICTS).map(|_| turn()).fold(f64::INFINITY, f64::min);
+    let times: Vec<f64> = (0..trees.div_ceil(TURN_TREES)).map(|_| least()).collect();
+    assert_eq!(machine.turn(&mut sheet), Ok(Turn::Empty), "all are finished");
+    println!("{name}: {trees} trees in {} turns; a plan call at {TURN_TREES} takes {:.2} ms", times.len(), call / 1e3);
+    for number in [1, 100, 500, times.len()].into_iter().filter(|&number| number <= times.len()) {
+        println!("  turn {number:>4}: {:>7.2} ms", times[number - 1]);
+    }
+    println!("  the slowest: {:>5.2} ms", times.iter().copied().fold(0.0, f64::max));
+}
+
 /// The plan call on one plan at each budget: the least time of each planner, in seconds.
 fn plan_calls(planners: &[(&str, Box<dyn Planner>)], name: &str, plan: &Plan) -> Vec<Vec<f64>> {
     describe(name, plan);
@@ -252,6 +280,7 @@ fn plan_call_table(what: &str, plans: &[(String, Plan)]) {
 }
 
 fn main() {
+    let towns: Vec<_> = towns().into_iter().map(|(name, plan)| (name.to_string(), plan)).collect();
     if !std::env::args().any(|argument| argument == "plans") {
         codecs();
         pages();
@@ -259,8 +288,9 @@ fn main() {
         judging();
         cars();
         longest_drive(&planners());
+        #[cfg(feature = "proved")]
+        towns.iter().chain(&slow_plans()).for_each(|(name, plan)| turns(name, plan));
     }
-    let towns: Vec<_> = towns().into_iter().map(|(name, plan)| (name.to_string(), plan)).collect();
     plan_call_table("towns", &towns);
     plan_call_table("slow plans", &slow_plans());
 }

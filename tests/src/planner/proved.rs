@@ -1,5 +1,7 @@
 //! The proved library behind the traits, through the package `postman` (`bindings/rust`).
 
+mod districts;
+
 use super::{
     Answer, Call, Car, CarsAnswer, CarsCall, Change, Codec, Counter, DepartureCall, DistanceCall, Editor, Judge,
     OpenPlan, Planner, Refusal, TreeCount,

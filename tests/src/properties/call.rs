@@ -4,7 +4,7 @@ use super::{Findings, Property};
 use crate::oracle::{
     call_refusal, file_of, follows_fewest_paths, judge, lagrangian_bound, parse, short_refusal, Effort, Facts,
 };
-use crate::plan::{Plan, DEFAULT_BUDGET, SHEET_PLACES};
+use crate::plan::{Plan, DEFAULT_BUDGET, HIGHEST_BUDGET, SHEET_PLACES};
 use crate::planner::{Answer, Planner, Refusal};
 use std::panic::{catch_unwind, AssertUnwindSafe};
 
@@ -28,6 +28,14 @@ impl Case {
         Case { file, facts }
     }
 
+    /// T at a budget, or the refusal with a good sheet.
+    pub fn trees(&self, budget: u64) -> Result<u64, Refusal> {
+        if !(1..=HIGHEST_BUDGET).contains(&budget) {
+            return Err(call_refusal(&self.file, budget, SHEET_PLACES));
+        }
+        self.facts.as_ref().map(|facts| facts.tree_count.min(budget.into()) as u64).map_err(|&number| number)
+    }
+
     /// Budgets worth trying: all up to N and one more, if these are few; else the first ones, and those around what is known. What no brute
     /// force was spent on need not be tried far beyond it.
     pub fn budgets(&self, few: u64) -> Vec<u64> {
@@ -45,12 +53,12 @@ impl Case {
 }
 
 /// Makes a call on a sheet filled with one number; the sheet comes back too.
-pub(super) fn call(
+pub(super) fn call<T>(
     found: &mut Findings,
     places: usize,
     fill: u16,
-    f: impl FnOnce(&mut [u16]) -> Result<Answer, Refusal>,
-) -> Option<(Result<Answer, Refusal>, Vec<u16>)> {
+    f: impl FnOnce(&mut [u16]) -> T,
+) -> Option<(T, Vec<u16>)> {
     let mut sheet = vec![fill; places];
     let result = catch_unwind(AssertUnwindSafe(|| f(&mut sheet)));
     found.expect(Property::Returns, result.is_ok(), || "panics".to_string());

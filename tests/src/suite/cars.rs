@@ -114,7 +114,7 @@ fn pairs() -> Vec<(&'static str, Plan, [Brought; 2], [Stated; 2])> {
 }
 
 /// Files that are refused, whatever the cars bring.
-fn bad_files() -> Vec<(&'static str, Vec<u8>, Refusal)> {
+pub(super) fn bad_files() -> Vec<(&'static str, Vec<u8>, Refusal)> {
     let file = file_of(&streets());
     let with = |change: fn(&mut Plan)| {
         let mut plan = streets();

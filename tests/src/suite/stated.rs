@@ -60,7 +60,7 @@ impl Row {
 }
 
 /// The cases, on a sheet that is just long enough.
-fn cases() -> Vec<Row> {
+pub(super) fn cases() -> Vec<Row> {
     let idle = plan(2, &[(0, 1, OPTIONAL, 5), (1, 0, OPTIONAL, 3)]);
     let circle = Plan::new(64, (0..64).map(|v| Arc::new(v, (v + 1) % 64, REQUIRED, 1)).collect());
     let mut wider = fullest();

@@ -1,8 +1,8 @@
--- A state that is lent. A file is stored as two bytes and the 1,475 after them; five files one after the other are the state, since each is stored where the one before it ended.
-use mathlib.Core.Path.{_≡_, refl, sym, ap, ap₂, _∙_, subst, subst⁻¹}
-use mathlib.Core.List.{List, [], _∷_, _++_, append-assoc, append-nil}
+-- A state that is lent: five files one after the other, since each is stored where the one before it ended.
+use mathlib.Core.Path.{_≡_, refl, sym, ap, _∙_, subst, subst⁻¹}
+use mathlib.Core.List.{List, [], _++_, append-nil}
 use mathlib.Core.Option.{Option, none, some}
-use Prim.Native.Nat.{ℕ, suc, _+_, _/_, _%_, _^_, _≤_, _<_}
+use Prim.Native.Nat.{ℕ, _+_, _^_, _≤_, _<_}
 use native.Mathlib.Omega.{arith}
 use borrow.Author.Tests.{lt-ltb, le-ltb}
 use mir.Val.{toZ, ofZ}
@@ -10,8 +10,8 @@ use mir.Syntax.{w64}
 use lib.Signed.{mag}
 use Rattle.integers.specs.Linear.{back64}
 use lib.IntN.{ℤ, pos, negℤ}
-use lib.ListN.{length, take, drop, set, length-append, length-drop, length-replicate, drop-of-length-le}
-use lib.Seq.{paste, sets-eq, take-at, take-all, drop-append-add, drop-drop, length-take-le}
+use lib.ListN.{length, take, drop, length-append, length-replicate, drop-of-length-le}
+use lib.Seq.{paste}
 use Rattle.postman.specs.Refusal.{firstRefusal, answer, unless}
 use Rattle.postman.specs.PlanFile.{fileConditions}
 use Rattle.postman.specs.OpenPlan.{Call, unlessRefused}
@@ -26,7 +26,9 @@ use Rattle.open_plan.specs.State.{fileIn, heldOf, freshState, markIn, refusalOf
 use Rattle.open_plan.specs.Contract.{IsOpened, IsMoved}
 use Rattle.open_plan.specs.Laws.Held.{zeros, over-zeros}
 use Rattle.exports.specs.Number.{oneNumber}
-use Rattle.exports.specs.Editing.{openBytes, heldBytes, openIn, stateBytes, putHeld, IsStored, shortState, openRefusal, IsExportedOpen, moveRefusal, IsExportedMove}
+use Rattle.exports.specs.NumberBytes.{putAt}
+use Rattle.exports.specs.Laws.NumberBytes.{put-next, put-start}
+use Rattle.exports.specs.Editing.{openBytes, heldBytes, openIn, stateBytes, IsStored, shortState, openRefusal, IsExportedOpen, moveRefusal, IsExportedMove}
 
 -- ---- files
 
@@ -37,75 +39,30 @@ loaded-file bytes file l e =
     let none-left : drop 1475 zeros ≡ [] = drop-of-length-le zeros {i = 1475} (omega arith) in
     e ∙ over-zeros bytes 1475 ∙ ap (λ (r : List ℕ). take 1475 bytes ++ r) none-left ∙ append-nil (take 1475 bytes)
 
--- two stores and a copy
-pub stored-held : (l : List ℕ) (at : ℕ) (h : Held) → at + 1477 ≤ length l → length (h .file) ≡ 1475
-    → (l′ : List ℕ) → l′ ≡ paste (set (set l at (h .length / 256)) (at + 1) (h .length % 256)) (at + 2) (h .file) 1475 → l′ ≡ putHeld l at h
-unfolding putHeld
-stored-held l at h room long l′ e =
-    let two : List ℕ = h .length / 256 ∷ h .length % 256 ∷ [] in
-    let head : List ℕ = take at l ++ two in
-    let rest : List ℕ = drop (at + 2) l in
-    let one : at + 1 ≡ suc at = omega arith in
-    let sets : set (set l at (h .length / 256)) (at + 1) (h .length % 256) ≡ head ++ rest = rw one (sets-eq two l at (omega arith)) in
-    let size : length head ≡ at + 2 = length-append (take at l) two ∙ ap (λ (k : ℕ). k + 2) (length-take-le at l (omega arith)) in
-    let first : take (at + 2) (head ++ rest) ≡ head = take-at head rest (at + 2) size in
-    let q : at + 2 + 1475 ≡ length head + 1475 = omega arith in
-    let last : drop (at + 2 + 1475) (head ++ rest) ≡ drop (at + 1477) l =
-    ap (λ (k : ℕ). drop k (head ++ rest)) q ∙ drop-append-add head rest 1475 ∙ drop-drop 1475 (at + 2) l ∙ ap (λ (k : ℕ). drop k l) (let k : at + 2 + 1475 ≡ at + 1477 = omega arith in k)
-    in
-    let whole : take 1475 (h .file) ≡ h .file = take-all 1475 (h .file) (omega arith) in
-    e ∙ ap (λ (x : List ℕ). paste x (at + 2) (h .file) 1475) sets
-    ∙ ap₂ (λ (x y : List ℕ). x ++ take 1475 (h .file) ++ y) first last
-    ∙ ap (λ (x : List ℕ). head ++ x ++ drop (at + 1477) l) whole
-    ∙ ap (λ (x : List ℕ). x ++ drop (at + 1477) l) (append-assoc (take at l) two (h .file))
-
-pub length-put : (l : List ℕ) (at : ℕ) (h : Held) → at + 1477 ≤ length l → length (h .file) ≡ 1475 → (l′ : List ℕ) → l′ ≡ putHeld l at h → length l′ ≡ length l
-unfolding putHeld
-length-put l at h room long l′ e =
-    let a = length-append (take at l ++ heldBytes h) (drop (at + 1477) l) in
-    let b = length-append (take at l) (heldBytes h) in
-    let c = length-take-le at l (omega arith) in
-    let d = length-drop (at + 1477) l in
-    ap length e ∙ omega arith
-
--- one file more, where the files before it are stored
-put-next : (done l : List ℕ) (at : ℕ) (h : Held) → length done ≡ at → putHeld (done ++ drop at l) at h ≡ done ++ heldBytes h ++ drop (at + 1477) l
-unfolding putHeld
-put-next done l at h size =
-    let q : at + 1477 ≡ length done + 1477 = omega arith in
-    let last : drop (at + 1477) (done ++ drop at l) ≡ drop (at + 1477) l =
-    ap (λ (k : ℕ). drop k (done ++ drop at l)) q ∙ drop-append-add done (drop at l) 1477 ∙ drop-drop 1477 at l
-    in
-    ap₂ (λ (x y : List ℕ). x ++ heldBytes h ++ y) (take-at done (drop at l) at size) last
-
-length-more : (done : List ℕ) (at : ℕ) (h : Held) → length (h .file) ≡ 1475 → length done ≡ at → length (done ++ heldBytes h) ≡ at + 1477
-length-more done at h long size = let e = length-append done (heldBytes h) in omega arith
-
-put-file : (done l l′ : List ℕ) (at at′ : ℕ) (h : Held) → length done ≡ at → at′ ≡ at + 1477 → l ≡ done ++ drop at l′ → (new : List ℕ) → new ≡ putHeld l at h → new ≡ done ++ heldBytes h ++ drop at′ l′
-put-file done l l′ at at′ h size q e new f =
-    f ∙ ap (λ (x : List ℕ). putHeld x at h) e ∙ put-next done l′ at h size ∙ ap (λ (k : ℕ). done ++ heldBytes h ++ drop k l′) (sym q)
-
-pub stored-state : (s : OpenPlan) (l l₁ l₂ l₃ l₄ l₅ : List ℕ)
-    → (length (s .plan .file) ≡ 1475) × (l₁ ≡ putHeld l 0 (s .plan))
-    → (length (markIn s 0 .file) ≡ 1475) × (l₂ ≡ putHeld l₁ 1477 (markIn s 0))
-    → (length (markIn s 1 .file) ≡ 1475) × (l₃ ≡ putHeld l₂ 2954 (markIn s 1))
-    → (length (markIn s 2 .file) ≡ 1475) × (l₄ ≡ putHeld l₃ 4431 (markIn s 2))
-    → (length (markIn s 3 .file) ≡ 1475) × (l₅ ≡ putHeld l₄ 5908 (markIn s 3))
+-- five files one after the other
+pub stored-state : (s : OpenPlan) (l l₁ l₂ l₃ l₄ l₅ : List ℕ) → openBytes ≤ length l
+    → (length (s .plan .file) ≡ 1475) × (l₁ ≡ putAt l 0 (heldBytes (s .plan)))
+    → (length (markIn s 0 .file) ≡ 1475) × (l₂ ≡ putAt l₁ 1477 (heldBytes (markIn s 0)))
+    → (length (markIn s 1 .file) ≡ 1475) × (l₃ ≡ putAt l₂ 2954 (heldBytes (markIn s 1)))
+    → (length (markIn s 2 .file) ≡ 1475) × (l₄ ≡ putAt l₃ 4431 (heldBytes (markIn s 2)))
+    → (length (markIn s 3 .file) ≡ 1475) × (l₅ ≡ putAt l₄ 5908 (heldBytes (markIn s 3)))
     → l₅ ≡ stateBytes s ++ drop openBytes l
-unfolding putHeld stateBytes
-stored-state s l l₁ l₂ l₃ l₄ l₅ p a b c d =
+unfolding stateBytes
+stored-state s l l₁ l₂ l₃ l₄ l₅ room p a b c d =
+    let size : (h : Held) → length (h .file) ≡ 1475 → length (heldBytes h) ≡ 1477 = λ h e. omega arith in
+    let sum : (x : List ℕ) (n : ℕ) (h : Held) → length x ≡ n → length (h .file) ≡ 1475 → length (x ++ heldBytes h) ≡ n + 1477 = λ x n h e f. (let k = length-append x (heldBytes h) in omega arith) in
     let d₀ : List ℕ = heldBytes (s .plan) in
     let d₁ : List ℕ = d₀ ++ heldBytes (markIn s 0) in
     let d₂ : List ℕ = d₁ ++ heldBytes (markIn s 1) in
     let d₃ : List ℕ = d₂ ++ heldBytes (markIn s 2) in
-    let long₀ : length d₀ ≡ 1477 = let q = p .0 in omega arith in
-    let long₁ : length d₁ ≡ 2954 = length-more d₀ 1477 (markIn s 0) (a .0) long₀ in
-    let long₂ : length d₂ ≡ 4431 = length-more d₁ 2954 (markIn s 1) (b .0) long₁ in
-    let long₃ : length d₃ ≡ 5908 = length-more d₂ 4431 (markIn s 2) (c .0) long₂ in
-    let e₂ = put-file d₀ l₁ l 1477 2954 (markIn s 0) long₀ refl (p .1) l₂ (a .1) in
-    let e₃ = put-file d₁ l₂ l 2954 4431 (markIn s 1) long₁ refl e₂ l₃ (b .1) in
-    let e₄ = put-file d₂ l₃ l 4431 5908 (markIn s 2) long₂ refl e₃ l₄ (c .1) in
-    put-file d₃ l₄ l 5908 openBytes (markIn s 3) long₃ refl e₄ l₅ (d .1)
+    let n₀ = size (s .plan) (p .0) in
+    let n₁ = sum d₀ 1477 (markIn s 0) n₀ (a .0) in
+    let n₂ = sum d₁ 2954 (markIn s 1) n₁ (b .0) in
+    let n₃ = sum d₂ 4431 (markIn s 2) n₂ (c .0) in
+    let e₁ = put-next l 0 d₀ _ 1477 1477 n₀ (size (markIn s 0) (a .0)) (omega arith) l₁ l₂ (p .1) (a .1) in
+    let e₂ = put-next l 0 d₁ _ 2954 1477 n₁ (size (markIn s 1) (b .0)) (omega arith) l₂ l₃ e₁ (b .1) in
+    let e₃ = put-next l 0 d₂ _ 4431 1477 n₂ (size (markIn s 2) (c .0)) (omega arith) l₃ l₄ e₂ (c .1) in
+    put-next l 0 d₃ _ 5908 1477 n₃ (size (markIn s 3) (d .0)) (omega arith) l₄ l₅ e₃ (d .1) ∙ put-start l (stateBytes s) openBytes (sum d₃ 5908 (markIn s 3) n₃ (d .0))
 
 -- ---- the calls
 

@@ -1,58 +1,23 @@
 -- A state that was stored is lent again as it was. Each file is read from the place where it was put: what stands before it has the length of the files before it.
-use mathlib.Core.Path.{_≡_, refl, sym, ap, ap₂, _∙_}
-use mathlib.Core.List.{List, [], _∷_, _++_, append-assoc}
-use Prim.Native.Nat.{ℕ, _+_, _*_, _/_, _%_, _≤_}
-use native.Mathlib.Nat.{div-add-mod'}
+use mathlib.Core.Path.{_≡_, refl, ap, _∙_}
+use mathlib.Core.List.{List, [], _∷_, _++_}
+use Prim.Native.Nat.{ℕ, _+_, _≤_}
 use native.Mathlib.Omega.{arith}
-use lib.ListN.{length, getD, take, drop, length-append}
-use lib.Seq.{append-snoc, getD-at, drop-at, take-at}
+use lib.ListN.{length, getD, length-append}
 use Rattle.postman.specs.OpenPlan.{Open}
 use Rattle.open_plan.specs.declared.Held.{Held}
 use Rattle.open_plan.specs.declared.OpenPlan.{OpenPlan}
 use Rattle.open_plan.specs.State.{markIn}
 use Rattle.open_plan.specs.Laws.History.{Stands, keeps-size, mark-size}
-use Rattle.exports.specs.RecordBytes.{numberIn}
+use Rattle.exports.specs.NumberBytes.{numberBytes}
+use Rattle.exports.specs.Laws.NumberBytes.{IsAt, first, second, number-back, bytes-back}
 use Rattle.exports.specs.Editing.{openBytes, heldIn, heldBytes, openIn, stateBytes}
 
--- ---- a file
-
-module _ (done rest : List ℕ) (h : Held) (i : ℕ) (size : length done ≡ i) (long : length (h .file) ≡ 1475) where
-  abbrev high : ℕ
-  high = h .length / 256
-
-  abbrev low : ℕ
-  low = h .length % 256
-
-  abbrev all : List ℕ
-  all = done ++ heldBytes h ++ rest
-
-  as-high : all ≡ done ++ high ∷ low ∷ (h .file ++ rest)
-  as-high = append-assoc done (heldBytes h) rest
-
-  as-low : all ≡ done ++ (high ∷ []) ++ low ∷ (h .file ++ rest)
-  as-low = as-high ∙ sym (append-snoc done high (low ∷ (h .file ++ rest)))
-
-  as-file : all ≡ done ++ (high ∷ low ∷ []) ++ (h .file ++ rest)
-  as-file = as-high ∙ sym (append-assoc done (high ∷ low ∷ []) (h .file ++ rest))
-
-  number-back : numberIn all i ≡ h .length
-  number-back =
-      let one : length (done ++ (high ∷ [])) ≡ i + 1 = length-append done (high ∷ []) ∙ ap (λ (k : ℕ). k + 1) size in
-      let a : getD all i 0 ≡ high = ap (λ (l : List ℕ). getD l i 0) as-high ∙ getD-at done high (low ∷ (h .file ++ rest)) 0 i size in
-      let b : getD all (i + 1) 0 ≡ low = ap (λ (l : List ℕ). getD l (i + 1) 0) as-low ∙ getD-at (done ++ (high ∷ [])) low (h .file ++ rest) 0 (i + 1) one in
-      ap₂ (λ (x y : ℕ). x * 256 + y) a b ∙ div-add-mod' (h .length) 256
-
-  file-back : take 1475 (drop (i + 2) all) ≡ h .file
-  file-back =
-      let two : length (done ++ (high ∷ low ∷ [])) ≡ i + 2 = length-append done (high ∷ low ∷ []) ∙ ap (λ (k : ℕ). k + 2) size in
-      ap (λ (l : List ℕ). take 1475 (drop (i + 2) l)) as-file
-      ∙ ap (take 1475) (drop-at (done ++ (high ∷ low ∷ [])) (h .file ++ rest) (i + 2) two)
-      ∙ take-at (h .file) rest 1475 long
-
-  held-back : heldIn all i ≡ h
-  held-back = λ j. record { length = number-back j; file = file-back j }
-
--- ---- the state
+held-back : (h : Held) → length (h .file) ≡ 1475 → {all : List ℕ} {i : ℕ} → IsAt all i (heldBytes h) → heldIn all i ≡ h
+held-back h long {all} {i} s =
+    let number = number-back (h .length) (first (numberBytes (h .length)) (h .file) s) in
+    let file = bytes-back (h .file) 1475 long (second (numberBytes (h .length)) (h .file) (i + 2) refl s) in
+    λ j. record { length = number j; file = file j }
 
 -- what the types say of a state: four marks, and files of 1,475 bytes
 pub record Sized (s : OpenPlan) : Type 0 where
@@ -121,21 +86,21 @@ module _ (s : OpenPlan) (sized : Sized s) (rest : List ℕ) where
   pub state-back : openIn (stateBytes s ++ rest) ≡ s
   unfolding stateBytes
   state-back =
-      let r₃ : List ℕ = m₃ ++ rest in
-      let r₂ : List ℕ = m₂ ++ r₃ in
-      let r₁ : List ℕ = m₁ ++ r₂ in
-      let r₀ : List ℕ = m₀ ++ r₁ in
-      let e₃ : p ++ m₀ ++ m₁ ++ m₂ ++ m₃ ++ rest ≡ p ++ m₀ ++ m₁ ++ m₂ ++ r₃ = append-assoc (p ++ m₀ ++ m₁ ++ m₂) m₃ rest in
-      let e₂ : p ++ m₀ ++ m₁ ++ m₂ ++ m₃ ++ rest ≡ p ++ m₀ ++ m₁ ++ r₂ = e₃ ∙ append-assoc (p ++ m₀ ++ m₁) m₂ r₃ in
-      let e₁ : p ++ m₀ ++ m₁ ++ m₂ ++ m₃ ++ rest ≡ p ++ m₀ ++ r₁ = e₂ ∙ append-assoc (p ++ m₀) m₁ r₂ in
-      let e₀ : p ++ m₀ ++ m₁ ++ m₂ ++ m₃ ++ rest ≡ p ++ r₀ = e₁ ∙ append-assoc p m₀ r₁ in
-      let l = bytes-long in
-      let plan = ap (λ (x : List ℕ). heldIn x 0) e₀ ∙ held-back [] r₀ (s .plan) 0 refl (sized .plan-file) in
-      let first = ap (λ (x : List ℕ). heldIn x 1477) e₁ ∙ held-back p r₁ (markIn s 0) 1477 (l .0) (sized .mark-0) in
-      let second = ap (λ (x : List ℕ). heldIn x 2954) e₂ ∙ held-back (p ++ m₀) r₂ (markIn s 1) 2954 (l .1) (sized .mark-1) in
-      let third = ap (λ (x : List ℕ). heldIn x 4431) e₃ ∙ held-back (p ++ m₀ ++ m₁) r₃ (markIn s 2) 4431 (l .2) (sized .mark-2) in
-      let fourth = held-back (p ++ m₀ ++ m₁ ++ m₂) rest (markIn s 3) 5908 (l .3) (sized .mark-3) in
-      let held : openIn (p ++ m₀ ++ m₁ ++ m₂ ++ m₃ ++ rest) ≡ record { plan = s .plan; marks = markIn s 0 ∷ markIn s 1 ∷ markIn s 2 ∷ markIn s 3 ∷ [] } =
-      λ j. record { plan = plan j; marks = first j ∷ second j ∷ third j ∷ fourth j ∷ [] }
+      let all = p ++ m₀ ++ m₁ ++ m₂ ++ m₃ ++ rest in
+      let l₀ = bytes-long .0 in
+      let l₁ = bytes-long .1 in
+      let l₂ = bytes-long .2 in
+      let l₃ = bytes-long .3 in
+      let s₄ : IsAt all 0 (p ++ m₀ ++ m₁ ++ m₂ ++ m₃) = record { done = []; rest = rest; size = refl; is = refl } in
+      let s₃ = first (p ++ m₀ ++ m₁ ++ m₂) m₃ s₄ in
+      let s₂ = first (p ++ m₀ ++ m₁) m₂ s₃ in
+      let s₁ = first (p ++ m₀) m₁ s₂ in
+      let plan = held-back (s .plan) (sized .plan-file) (first p m₀ s₁) in
+      let mark-0 = held-back (markIn s 0) (sized .mark-0) (second p m₀ 1477 (omega arith) s₁) in
+      let mark-1 = held-back (markIn s 1) (sized .mark-1) (second (p ++ m₀) m₁ 2954 (omega arith) s₂) in
+      let mark-2 = held-back (markIn s 2) (sized .mark-2) (second (p ++ m₀ ++ m₁) m₂ 4431 (omega arith) s₃) in
+      let mark-3 = held-back (markIn s 3) (sized .mark-3) (second (p ++ m₀ ++ m₁ ++ m₂) m₃ 5908 (omega arith) s₄) in
+      let held : openIn all ≡ record { plan = s .plan; marks = markIn s 0 ∷ markIn s 1 ∷ markIn s 2 ∷ markIn s 3 ∷ [] } =
+      λ j. record { plan = plan j; marks = mark-0 j ∷ mark-1 j ∷ mark-2 j ∷ mark-3 j ∷ [] }
       in
       held ∙ ap {B = OpenPlan} (λ (l : List Held). record { plan = s .plan; marks = l }) (four-marks (s .marks) _ (sized .four))

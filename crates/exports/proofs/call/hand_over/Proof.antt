@@ -11,7 +11,7 @@ enum-told : tie.Need-enum-told
 enum-told c = search needs
 
 words-requires : tie.Need-words-requires
-words-requires c κs = c .before .before .before .pre (ap verdictNumber (c .enum-told .given .1))
+words-requires c κs = search needs
 
 put-words-requires : tie.Need-put-words-requires
 put-words-requires c κs = search needs

@@ -1,5 +1,4 @@
--- The answer of the call is handed over; the floor of one that is no refusal is at least 0.
-use Rattle.planner.specs.Laws.Answered.{floor-above}
+-- The answer of the call is handed over.
 use Rattle.exports.specs.Laws.Answer.{handed-back}
 use borrow.Author.Needs.{needs}
 use Rattle.exports.proofs.call.postman_plan_call_at.Statement.{statement}
@@ -9,7 +8,7 @@ plan-call-at-requires : tie.Need-plan-call-at-requires
 plan-call-at-requires c κs = search needs
 
 hand-over-requires : tie.Need-hand-over-requires
-hand-over-requires c κs = let r = c .before .before .before .before .plan-call-at in floor-above _ _ _ _ _ _ (r .ensures .planned)
+hand-over-requires c κs = search needs
 
 same-length : tie.Need-same-length
 same-length c = search needs

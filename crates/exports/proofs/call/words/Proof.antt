@@ -8,8 +8,8 @@ use borrow.Author.Needs.{needs}
 use Rattle.exports.proofs.call.words.Statement.{statement}
 use Rattle.exports.proofs.call.words.Tie as tie
 
-floor-word-requires : tie.Need-floor-word-requires
-floor-word-requires c κs = search needs
+magnitude-requires : tie.Need-magnitude-requires
+magnitude-requires c κs = search needs
 
 cast-t4 : tie.Need-cast-t4
 cast-t4 c = search needs
@@ -24,7 +24,7 @@ returns : tie.Need-returns
 returns c =
     let r = c .before .before .before .before .before .args .r in
     let b : toZ w64 (ofZ w64 (r .floor)) ≡ r .floor = search needs in
-    words-are r _ (c .before .before .before .floor-word .ensures ∙ ap natAbs b)
+    words-are r _ (c .before .before .before .magnitude .ensures ∙ ap natAbs b)
 
 pub words-spec : {M : Type 1} → statement M
-words-spec = tie.close (tie.spec floor-word-requires cast-t4 cast-t5 cast-t6 returns)
+words-spec = tie.close (tie.spec magnitude-requires cast-t4 cast-t5 cast-t6 returns)

@@ -1,7 +1,6 @@
--- Each car's answer is handed over into its own slices; the floor of one that is no refusal is at least 0.
+-- Each car's answer is handed over into its own slices.
 use mathlib.Core.Path.{_∙_}
 use Rattle.integers.specs.Linear.{back64}
-use Rattle.planner.specs.Laws.Answered.{floor-above}
 use Rattle.exports.specs.Laws.Cars.{left}
 use borrow.Author.Needs.{needs}
 use Rattle.exports.proofs.cars.postman_two_cars.Statement.{statement}
@@ -11,15 +10,10 @@ two-cars-requires : tie.Need-two-cars-requires
 two-cars-requires c κs = search needs
 
 hand-over-requires : tie.Need-hand-over-requires
-hand-over-requires c κs =
-    let r = c .before .before .before .before .before .before .before .before .two-cars in
-    floor-above _ _ _ _ _ _ (r .ensures .first .planned)
+hand-over-requires c κs = search needs
 
 hand-over-requires-2 : tie.Need-hand-over-requires-2
-hand-over-requires-2 c κs =
-    let h = c .before .before .before .before .before .before in
-    let r = h .before .before .before .before .before .before .before .before .two-cars in
-    floor-above _ _ _ _ _ _ (r .ensures .second .planned)
+hand-over-requires-2 c κs = search needs
 
 cars-number-requires : tie.Need-cars-number-requires
 cars-number-requires c κs = search needs

@@ -1,8 +1,7 @@
--- The answer of the call is handed over; the floor of one that is no refusal is at least 0.
+-- The answer of the call is handed over.
 use mathlib.Core.Path.{refl, _∙_}
 use native.Mathlib.Omega.{arith}
 use Rattle.integers.specs.Linear.{back64}
-use Rattle.planner.specs.Laws.Answered.{floor-above}
 use Rattle.exports.specs.Laws.Answer.{handed-back}
 use Rattle.exports.specs.Laws.Editing.{asked-lent}
 use borrow.Author.Needs.{needs}
@@ -24,7 +23,7 @@ ask-requires : tie.Need-ask-requires
 ask-requires c κs = search needs
 
 hand-over-requires : tie.Need-hand-over-requires
-hand-over-requires c κs = let r = c .before .before .before .before .ask in floor-above _ _ _ _ _ _ (r .ensures .planned)
+hand-over-requires c κs = search needs
 
 same-length : tie.Need-same-length
 same-length c = search needs

@@ -42,7 +42,7 @@ returns c =
     let a = b .before .before .before .before in
     let p = a .before .before .before .before in
     let s = p .before .before .before .before .before .before .before .before in
-    stored-state (s .args .t2) _ _ _ _ _ _ (p .store-held .ensures) (a .store-held2 .ensures) (b .store-held3 .ensures) (d .store-held4 .ensures) (e .store-held5 .ensures)
+    stored-state (s .args .t2) _ _ _ _ _ _ (s .pre) (p .store-held .ensures) (a .store-held2 .ensures) (b .store-held3 .ensures) (d .store-held4 .ensures) (e .store-held5 .ensures)
 
 pub store-spec : {M : Type 1} → statement M
 store-spec =

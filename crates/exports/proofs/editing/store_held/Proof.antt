@@ -1,55 +1,39 @@
--- Two stores and a copy.
+-- The length, and then the file.
+use mathlib.Core.Path.{_≡_, refl}
+use Prim.Native.Nat.{ℕ}
 use native.Mathlib.Omega.{arith}
-use lib.ListN.{length-set}
-use Rattle.exports.specs.Laws.Editing.{stored-held, length-put}
-use borrow.Author.Needs.{needs}
+use lib.ListN.{length}
+use Rattle.exports.specs.NumberBytes.{numberBytes}
+use Rattle.exports.specs.Laws.NumberBytes.{put-next}
+use borrow.Author.Needs.{needs, length-unmapped}
 use Rattle.exports.proofs.editing.store_held.Statement.{statement}
 use Rattle.exports.proofs.editing.store_held.Tie as tie
 
-cast-state : tie.Need-cast-state
-cast-state c = search needs
+put-number-requires : tie.Need-put-number-requires
+put-number-requires c κs = search needs
 
-slice-write-state : tie.Need-slice-write-state
-slice-write-state c = search needs
+add-put-bytes : tie.Need-add-put-bytes
+add-put-bytes c = search needs
 
-cast-state-2 : tie.Need-cast-state-2
-cast-state-2 c = search needs
+slice-aggregate-put-bytes : tie.Need-slice-aggregate-put-bytes
+slice-aggregate-put-bytes c = search needs
 
-add-state : tie.Need-add-state
-add-state c = search needs
-
-slice-write-state-2 : tie.Need-slice-write-state-2
-slice-write-state-2 c = simp length-set (omega arith)
-
-add-store-file : tie.Need-add-store-file
-add-store-file c = search needs
-
-store-file-requires : tie.Need-store-file-requires
-store-file-requires c κs = simp length-set (omega arith)
+put-bytes-requires : tie.Need-put-bytes-requires
+put-bytes-requires c κs =
+    let s = c .before .before .before .before .before .before .before .before in
+    let f : length (s .args .h .file) ≡ 1475 = length-unmapped ℕ (s .args .h .file) 1475 (s .good .1 .1 .0 .1 .1 .1 .0 .1 .0 .1) in
+    omega arith
 
 same-length : tie.Need-same-length
-same-length c =
-    let f = c .before .before .store-file in
-    let s = c .before .before .before .before .before .before in
-    let e = stored-held (s .args .state .now) (s .args .at) (s .args .h) (s .pre) (f .ensures .0) _ (f .ensures .1) in
-    length-put _ _ (s .args .h) (s .pre) (f .ensures .0) _ e
+same-length c = search needs
 
 returns : tie.Need-returns
 returns c =
-    let f = c .before .before .store-file in
-    let s = c .before .before .before .before .before .before in
-    (f .ensures .0, stored-held (s .args .state .now) (s .args .at) (s .args .h) (s .pre) (f .ensures .0) _ (f .ensures .1))
+    let s = c .before .before .before .before .before .before .before .before .before .before .before in
+    let h = s .args .h in
+    let long : length (h .file) ≡ 1475 = length-unmapped ℕ (s .args .h .file) 1475 (s .good .1 .1 .0 .1 .1 .1 .0 .1 .0 .1) in
+    let p = s .pre in
+    (long, put-next _ _ (numberBytes (h .length)) (h .file) 2 1475 refl long (omega arith) _ _ (c .before .before .before .before .before .before .before .put-number .ensures) (c .before .before .put-bytes .ensures))
 
 pub store-held-spec : {M : Type 1} → statement M
-store-held-spec =
-    tie.close
-    (tie.spec
-    cast-state
-    slice-write-state
-    cast-state-2
-    add-state
-    slice-write-state-2
-    add-store-file
-    store-file-requires
-    same-length
-    returns)
+store-held-spec = tie.close (tie.spec put-number-requires add-put-bytes slice-aggregate-put-bytes put-bytes-requires same-length returns)

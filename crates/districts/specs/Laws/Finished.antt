@@ -1,0 +1,45 @@
+-- A district that finishes. It is under way, so that the plan call on its plan and budget is not refused; and these are what it entered with.
+use mathlib.Core.Path.{_≡_, refl, sym, ap, _∙_, subst⁻¹}
+use mathlib.Core.Bool.{true}
+use mathlib.Core.List.{List, [], _∷_, map, List·Memᴰ, List·Memᴰ·head}
+use mathlib.Core.Option.{none}
+use Prim.Native.Nat.{ℕ, _≤_}
+use native.Mathlib.Omega.{arith}
+use lib.ListN.{length, getD}
+use Rattle.postman.specs.PlanFile.{planOf}
+use Rattle.postman.specs.PlanCall.{sheetPlaces, callRefusal}
+use Rattle.postman.specs.Laws.Acceptance.{file-accepted}
+use Rattle.budget.specs.Laws.{within}
+use Rattle.planner.specs.declared.Planned.{Planned}
+use Rattle.planner.specs.Contract.{IsPlanned, IsPlanCall}
+use Rattle.planner.specs.SameAnswer.{SameAnswer}
+use Rattle.planner.specs.Laws.Call.{file-good, sheet-long, budget-good, planned-as}
+use Rattle.planner.specs.Laws.SameAnswer.{same-answer}
+use Rattle.districts.specs.declared.machine.District.{District as DistrictRecord}
+use Rattle.districts.specs.declared.machine.Machine.{Machine}
+use Rattle.districts.specs.Line.{District, Line}
+use Rattle.districts.specs.Machine.{bytesOf, districtOf, lineOf, IsUnderWay, IsSound}
+
+call-accepted : (x : DistrictRecord) → IsUnderWay x → (places : ℕ) → sheetPlaces ≤ places → callRefusal (bytesOf x) (x .budget) places ≡ none
+call-accepted x u places s =
+    file-good (bytesOf x) (x .budget) places (file-accepted (bytesOf x) (u .file)) (u .file)
+    ∙ sheet-long (planOf (bytesOf x)) (x .budget) places s
+    ∙ budget-good (planOf (bytesOf x)) (x .budget) _ (sym (within (x .budget) (u .some-budget) (u .most-budget)))
+    ∙ u .plan
+
+-- the district at the front, as it is held
+held-front : (xs : List DistrictRecord) (d : District) (l : Line) → map districtOf xs ≡ d ∷ l → (x : DistrictRecord) × List·Memᴰ x xs × (districtOf x ≡ d)
+held-front [] d l e = (let n = ap length e in absurd (omega arith))
+held-front (x ∷ xs) d l e = (x, List·Memᴰ·head refl, ap (λ (y : Line). getD y 0 d) e)
+
+pub front-accepted : (m : Machine) → IsSound m → (d : District) (l : Line) → lineOf m ≡ d ∷ l → (places : ℕ) → sheetPlaces ≤ places → callRefusal (d .bytes) (d .budget) places ≡ none
+front-accepted m h d l e places s =
+    let f = held-front _ d l e in
+    ap (λ (d : District). callRefusal (d .bytes) (d .budget) places) (sym (f .2)) ∙ call-accepted (f .0) (h .each (f .0) (f .1)) places s
+
+-- its answer is the plan call's
+pub as-call : (bytes bytes′ : List ℕ) (budget budget′ : ℕ) (old new new′ : List ℕ) (r s : Planned) → bytes ≡ bytes′ → budget ≡ budget′ → callRefusal bytes budget (length old) ≡ none
+    → IsPlanned (planOf bytes) budget none old new r → IsPlanCall bytes′ budget′ old new′ s → SameAnswer r s × (new ≡ new′)
+as-call bytes bytes′ budget budget′ old new new′ r s eb en good h g =
+    let g′ : IsPlanCall bytes budget old new′ s = subst⁻¹ (λ (b : List ℕ). IsPlanCall b budget old new′ s) eb (subst⁻¹ (λ (n : ℕ). IsPlanCall bytes′ n old new′ s) en g) in
+    same-answer (planOf bytes) budget old new new′ r s none h (planned-as _ _ _ _ _ _ _ _ refl good (g′ .planned))

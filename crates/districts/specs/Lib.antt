@@ -1,0 +1,9 @@
+pub mod Line
+pub mod Places
+pub mod Tree
+pub mod Stint
+pub mod Runs
+pub mod Machine
+-- What is proved about them.
+pub mod Laws
+pub mod Theorem
