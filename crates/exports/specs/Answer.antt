@@ -1,4 +1,4 @@
--- What the plan call answers to a caller in another language.
+-- An answer, handed over to a caller in another language.
 use mathlib.Core.Path.{_≡_}
 use mathlib.Core.Bool.{cond}
 use mathlib.Core.List.{List, [], _∷_}
@@ -7,12 +7,9 @@ use lib.IntN.{ℤ, natAbs}
 use lib.ListN.{length}
 use lib.Seq.{paste}
 use Rattle.postman.specs.Refusal.{answer, unless}
-use Rattle.postman.specs.Windows.{Departure}
 use Rattle.records.specs.Writing.{atMost}
 use Rattle.planner.specs.declared.Planned.{Planned}
 use Rattle.refusal.specs.Verdict.{verdictNumber}
-use Rattle.planner.specs.Contract.{IsPlanCall}
-use Rattle.windows.specs.Contract.{IsPlanCallAt}
 use Rattle.exports.specs.Number.{oneNumber}
 
 -- The words of an answer: places, cost, floor (which is at least 0), trees, whole as 0 or 1, parts.
@@ -28,15 +25,3 @@ pub record IsHandedOver (r : Planned) (words words′ : List ℕ) (u u′ : List
   pub number-is : number ≡ oneNumber (answer (verdictNumber (r .verdict)) 0)
   pub words-are : words′ ≡ unless (verdictNumber (r .verdict)) (putFirst (wordsOf r) words) words
   pub multipliers-are : u′ ≡ unless (verdictNumber (r .verdict)) (putFirst (r .multipliers) u) u
-
--- The exported call: it hands over an answer that the plan call gives.
-pub record IsExportedCall (bytes : List ℕ) (budget : ℕ) (sheet sheet′ words words′ : List ℕ) (u u′ : List ℤ) (number : ℤ) : Type 0 where
-  pub answer : Planned
-  pub called : IsPlanCall bytes budget sheet sheet′ answer
-  pub handed-over : IsHandedOver answer words words′ u u′ number
-
--- And one that the plan call at a departure gives.
-pub record IsExportedCallAt (bytes : List ℕ) (budget : ℕ) (windows : List ℕ) (d : Departure) (sheet sheet′ words words′ : List ℕ) (u u′ : List ℤ) (number : ℤ) : Type 0 where
-  pub answer : Planned
-  pub called : IsPlanCallAt bytes budget windows d sheet sheet′ answer
-  pub handed-over : IsHandedOver answer words words′ u u′ number

@@ -16,7 +16,8 @@ use Rattle.open_plan.specs.Run.{Fits, StandsFor}
 use Rattle.open_plan.specs.Theorem.{history-more}
 use Rattle.open_plan.specs.Laws.History.{Stands, stands-for, refused-alike, after-stands, opening-stands}
 use Rattle.exports.specs.Number.{oneNumber}
-use Rattle.exports.specs.Editing.{openBytes, openIn, stateBytes, openRefusal, moveRefusal, IsExportedOpen, IsExportedMove}
+use Rattle.exports.specs.Editing.{openRefusal, moveRefusal, IsExportedOpen, IsExportedMove}
+use Rattle.exports.specs.StateBytes.{openBytes, openIn, stateBytes}
 use Rattle.exports.specs.Laws.Editing.{has-room}
 use Rattle.exports.specs.Laws.Lent.{stands-sized, state-long, state-back}
 

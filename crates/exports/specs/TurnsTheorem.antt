@@ -24,9 +24,11 @@ use Rattle.districts.specs.Machine.{IsServed}
 use Rattle.districts.specs.Theorem.{as-entered, finished-as-plan-call}
 use Rattle.districts.specs.Laws.Led.{led}
 use Rattle.exports.specs.Number.{oneNumber}
-use Rattle.exports.specs.Answer.{wordsOf, putFirst, IsExportedCall}
+use Rattle.exports.specs.Answer.{wordsOf, putFirst}
+use Rattle.exports.specs.Call.{IsExportedCall}
 use Rattle.exports.specs.MachineBytes.{districtsBytes, machineIn, machineBytes}
-use Rattle.exports.specs.Turns.{IsExportedEntry, outcomeNumber, hadTurn, hadLast, IsTurnHandedOver, IsExportedTurn, LedLent}
+use Rattle.exports.specs.Turns.{IsExportedEntry, IsExportedTurn, LedLent}
+use Rattle.exports.specs.MachineStored.{outcomeNumber, hadTurn, hadLast, IsTurnHandedOver}
 use Rattle.exports.specs.Laws.LentTurns.{lent-led, admitted-is}
 
 -- AN ENTRY answers the lowest free place of the run's line, or minus the refusal.

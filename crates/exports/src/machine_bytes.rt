@@ -7,7 +7,7 @@ ghost use lib.ListN.{length, drop};
 ghost use Rattle.postman.specs.Lists.{below};
 ghost use Rattle.exports.specs.NumberBytes.{putAt};
 ghost use Rattle.exports.specs.MachineBytes.{districtsBytes, reachedIn, reachedBytes, districtIn, districtBytes, machineIn, machineBytes, IsReachedSized, IsDistrictSized, AreSized, IsSized};
-use crate::editing::load_file;
+use crate::state_bytes::load_file;
 use crate::number_bytes::eight_at;
 use crate::number_bytes::long_at;
 use crate::number_bytes::put_bytes;

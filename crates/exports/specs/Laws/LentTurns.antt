@@ -25,7 +25,8 @@ use Rattle.districts.specs.Laws.Led.{Led, led}
 use Rattle.exports.specs.Number.{oneNumber}
 use Rattle.exports.specs.NumberBytes.{longIn}
 use Rattle.exports.specs.MachineBytes.{districtsBytes, machineIn, machineBytes, IsSized}
-use Rattle.exports.specs.Turns.{admitted, IsStarted, IsEntryStored, hadTurn, IsTurnHandedOver, LedLent}
+use Rattle.exports.specs.Turns.{IsStarted, LedLent}
+use Rattle.exports.specs.MachineStored.{admitted, IsEntryStored, hadTurn, IsTurnHandedOver}
 use Rattle.exports.specs.Laws.MachineBytes.{machine-long, machine-back}
 
 -- ---- the start

@@ -18,7 +18,8 @@ use Rattle.records.specs.Reading.{readNumbers, arcsRead, Room}
 use Rattle.records.specs.Laws.Reading.{room-for}
 use Rattle.exports.specs.RecordBytes.{arcBytes, arcsIn}
 use Rattle.exports.specs.Number.{oneNumber}
-use Rattle.exports.specs.Codec.{packed, lentAfter}
+use Rattle.exports.specs.Codec.{lentAfter}
+use Rattle.exports.specs.FileNumber.{packed}
 use Rattle.exports.specs.Laws.RecordBytes.{length-lent, length-records, arcs-left, arcs-back}
 
 module _ (file lent : List ℕ) where
