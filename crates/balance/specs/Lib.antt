@@ -10,6 +10,7 @@ pub mod Multipliers
 pub mod Balance
 pub mod Direct
 pub mod Records
+pub mod Found
 -- What the model keeps.
 pub mod Invariant
 -- What is proved about them.

@@ -15,7 +15,7 @@ ghost use Rattle.balance.specs.Bounds.{AtMost};
 ghost use Rattle.balance.specs.Search.{beyond, relax, nearest};
 ghost use Rattle.balance.specs.Until.{until, settledBy};
 ghost use Rattle.balance.specs.Step.{cell, residual, residualLength};
-ghost use Rattle.balance.specs.Records.{foundOf};
+ghost use Rattle.balance.specs.Found.{foundOf};
 
 // The distances to a vertex, the next vertices on the way, and when each vertex was settled.
 pub struct Found {

@@ -7,6 +7,7 @@ pub mod Tree
 pub mod HeldTree
 pub mod Stint
 pub mod Held
+pub mod Clash
 pub mod Entered
 pub mod Turned
 pub mod Led

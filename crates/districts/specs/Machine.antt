@@ -16,7 +16,7 @@ use Rattle.planner.specs.declared.Planned.{Planned}
 use Rattle.planner.specs.declared.trees.Reached.{Reached}
 use Rattle.planner.specs.Refusals.{planRefusal}
 use Rattle.planner.specs.Resumed.{turnTrees, IsReachedBy, HoldsDrive}
-use Rattle.planner.specs.Contract.{IsPlanned}
+use Rattle.planner.specs.Planned.{IsPlanned}
 use Rattle.districts.specs.declared.machine.District.{District as DistrictRecord}
 use Rattle.districts.specs.declared.machine.Machine.{Machine}
 use Rattle.districts.specs.declared.enter.Admission.{Admission}

@@ -10,7 +10,7 @@ use Rattle.search.specs.declared.tried.Searched.{Searched}
 use Rattle.planner.specs.declared.trees.Reached.{Reached}
 use Rattle.planner.specs.declared.trees.Resumed.{Resumed}
 use Rattle.planner.specs.Resumed.{turnTrees, IsReachedBy, HoldsDrive}
-use Rattle.planner.specs.Contract.{IsPlanned}
+use Rattle.planner.specs.Planned.{IsPlanned}
 use Rattle.districts.specs.declared.stint.Stint.{Stint}
 
 -- What is held after the last tree, as a search's answer.

@@ -10,7 +10,8 @@ use lib.Dec.{T, leb→le}
 use Rattle.postman.specs.PlanFile.{planOf}
 use Rattle.postman.specs.PlanCall.{sheetPlaces}
 use Rattle.planner.specs.declared.Planned.{Planned}
-use Rattle.planner.specs.Contract.{IsPlanned, IsPlanCall}
+use Rattle.planner.specs.Contract.{IsPlanCall}
+use Rattle.planner.specs.Planned.{IsPlanned}
 use Rattle.planner.specs.SameAnswer.{SameAnswer}
 use Rattle.planner.specs.Laws.Call.{planned-as}
 use Rattle.planner.specs.Laws.SameAnswer.{same-answer}

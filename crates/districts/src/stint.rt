@@ -23,7 +23,7 @@ ghost use Rattle.postman.specs.PlanCall.{sheetPlaces, triedCount};
 ghost use Rattle.plan.specs.Records.{planValue};
 ghost use Rattle.shortest.specs.Contracts.{AreWeights};
 ghost use Rattle.balance.specs.Records.{stateOf};
-ghost use Rattle.network.specs.Contracts.{IsNetwork};
+ghost use Rattle.network.specs.Network.{IsNetwork};
 ghost use Rattle.search.specs.Contracts.{IsSearched};
 ghost use Rattle.planner.specs.Prepared.{IsKnown, IsBase, IsMeasured};
 ghost use Rattle.planner.specs.Refusals.{networkRefusal, planRefusal};

@@ -6,12 +6,10 @@ use Prim.Native.Nat.{ℕ, _+_, _*_, _<_}
 use lib.ListN.{getD}
 use lib.IntN.{ℤ, pos}
 use Rattle.postman.specs.Plan.{Plan}
-use Rattle.postman.specs.Required.{isRequired, requiredCost}
+use Rattle.postman.specs.Required.{isRequired}
 use Rattle.postman.specs.Component.{component, componentCount}
 use Rattle.postman.specs.Balancing.{imbalance}
-use Rattle.postman.specs.PlanCall.{isCutOff}
 use Rattle.postman.specs.Link.{isHeld, links}
-use Rattle.network.specs.declared.network.Network.{Network}
 
 -- D(v), for every vertex v.
 abbrev pub IsImbalance : Plan → List ℤ → Type 0
@@ -29,12 +27,3 @@ pub record IsComponents (p : Plan) (of : List ℕ) (count : ℕ) : Type 0 where
 -- Whether the pair (i, j), at 64 i + j, is a link.
 abbrev pub IsLinks : Plan → List Bool → Type 0
 IsLinks p l = (i j : ℕ) → i < 64 → j < 64 → getD l (i * 64 + j) false ≡ isHeld (links p) i j
-
--- The network of a plan.
-pub record IsNetwork (p : Plan) (r : Network) : Type 0 where
-  pub required : IsRequiredFlags p (r .required)
-  pub components : IsComponents p (r .component) (r .components)
-  pub links : IsLinks p (r .links)
-  pub imbalance : IsImbalance p (r .imbalance)
-  pub required-cost : r .«required_cost» ≡ requiredCost p
-  pub cut-off : r .«cut_off» ≡ isCutOff p

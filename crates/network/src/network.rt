@@ -10,7 +10,7 @@ use plan::Plan;
 ghost use Rattle.postman.specs.Plan.{WellFormed};
 ghost use Rattle.plan.specs.Records.{planValue};
 ghost use Rattle.shortest.specs.Contracts.{IsTable};
-ghost use Rattle.network.specs.Contracts.{IsNetwork};
+ghost use Rattle.network.specs.Network.{IsNetwork};
 
 pub struct Network {
     // whether each vertex is required

@@ -3,7 +3,7 @@ use mathlib.Core.List.{List}
 use Prim.Native.Nat.{ℕ}
 use Rattle.postman.specs.Plan.{Plan}
 use Rattle.search.specs.Prepared.{Prepared}
-use Rattle.search.specs.Contracts.{IsRoot}
+use Rattle.search.specs.Branches.{IsRoot}
 use Rattle.planner.specs.declared.trees.Begun.{Begun}
 
 -- The candidates of the k components in order, and the branch that has no choice yet, beside the amounts of the required arcs.

@@ -5,6 +5,7 @@ pub mod Priced
 pub mod Ascent
 pub mod Climbs
 pub mod Contract
+pub mod Planned
 pub mod Begun
 pub mod Resumed
 pub mod RaisedBudget

@@ -13,7 +13,8 @@ use Rattle.balance.specs.Step.{State, cell}
 use Rattle.balance.specs.Balance.{balance}
 use Rattle.circuit.specs.Filled.{linksOf}
 use Rattle.network.specs.declared.network.Network.{Network}
-use Rattle.network.specs.Contracts.{IsNetwork, IsRequiredFlags, IsComponents}
+use Rattle.network.specs.Contracts.{IsRequiredFlags, IsComponents}
+use Rattle.network.specs.Network.{IsNetwork}
 use Rattle.planner.specs.Tour.{tableOf}
 
 -- The table of the distances of a plan that was read, and its network.

@@ -3,7 +3,7 @@ use mathlib.Core.Path.{_≡_}
 use Prim.Native.Nat.{ℕ}
 use Rattle.refusal.specs.Verdict.{verdictNumber}
 use Rattle.planner.specs.declared.Planned.{Planned}
-use Rattle.planner.specs.Contract.{multipliersOf}
+use Rattle.planner.specs.Planned.{multipliersOf}
 
 pub record SameAnswer (r s : Planned) : Type 0 where
   pub refusal : verdictNumber (r .verdict) ≡ verdictNumber (s .verdict)

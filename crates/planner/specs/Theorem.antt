@@ -9,7 +9,8 @@ use Rattle.postman.specs.PlanFile.{planOf}
 use Rattle.postman.specs.PlanCall.{callRefusal}
 use Rattle.refusal.specs.Verdict.{verdictNumber}
 use Rattle.planner.specs.declared.Planned.{Planned}
-use Rattle.planner.specs.Contract.{IsPlanned, IsPlanCall}
+use Rattle.planner.specs.Contract.{IsPlanCall}
+use Rattle.planner.specs.Planned.{IsPlanned}
 use Rattle.planner.specs.RaisedBudget.{Buys}
 use Rattle.planner.specs.Laws.RaisedBudget.{buys}
 

@@ -17,7 +17,7 @@ ghost use Rattle.balance.specs.Search.{beyond};
 ghost use Rattle.balance.specs.Step.{cell};
 ghost use Rattle.balance.specs.Multipliers.{multipliers};
 ghost use Rattle.balance.specs.Records.{stateOf};
-ghost use Rattle.network.specs.Contracts.{IsNetwork};
+ghost use Rattle.network.specs.Network.{IsNetwork};
 ghost use Rattle.planner.specs.Prepared.{IsBase, IsPrepared};
 ghost use Rattle.planner.specs.Ascent.{attempt as attemptOf, climb as climbOnce, begin, ascent as ascentOf, greatestOf, multipliersFor};
 ghost use Rattle.planner.specs.Climbs.{climbOf, holding};

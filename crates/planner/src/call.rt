@@ -20,7 +20,8 @@ ghost use Rattle.refusal.specs.Verdict.{verdictNumber};
 ghost use Rattle.planner.specs.Refusals.{networkRefusal, planRefusal, budgetRefusal, sheetRefusal};
 ghost use Rattle.planner.specs.Tour.{tableOf};
 ghost use Rattle.planner.specs.Prepared.{IsMeasured};
-ghost use Rattle.planner.specs.Contract.{IsPlanned, IsPlanCall};
+ghost use Rattle.planner.specs.Contract.{IsPlanCall};
+ghost use Rattle.planner.specs.Planned.{IsPlanned};
 ghost use Rattle.planner.specs.Laws.Refused.{refusedWith};
 
 // A refusal "returns its number only".

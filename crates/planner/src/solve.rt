@@ -19,10 +19,10 @@ ghost use Rattle.postman.specs.PlanCall.{sheetPlaces};
 ghost use Rattle.plan.specs.Records.{planValue};
 ghost use Rattle.shortest.specs.Contracts.{AreWeights};
 ghost use Rattle.balance.specs.Records.{stateOf};
-ghost use Rattle.network.specs.Contracts.{IsNetwork};
+ghost use Rattle.network.specs.Network.{IsNetwork};
 ghost use Rattle.planner.specs.Prepared.{IsKnown, IsBase};
 ghost use Rattle.planner.specs.Ascent.{multipliersFor};
-ghost use Rattle.planner.specs.Contract.{IsPlanned};
+ghost use Rattle.planner.specs.Planned.{IsPlanned};
 ghost use Rattle.planner.specs.Resumed.{HoldsTree, HoldsDrive};
 ghost use Rattle.search.specs.Contracts.{IsSearched};
 

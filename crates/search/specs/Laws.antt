@@ -10,6 +10,7 @@ pub mod Start
 pub mod Below
 pub mod Root
 pub mod Kept
+pub mod Levelled
 pub mod Explore
 pub mod Last
 pub mod Tried

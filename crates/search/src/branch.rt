@@ -15,7 +15,7 @@ ghost use Rattle.postman.specs.Plan.{Plan};
 ghost use Rattle.balance.specs.Records.{stateOf};
 ghost use Rattle.tree_count.specs.Matrix.{AreFew, AreCounts};
 ghost use Rattle.search.specs.Prepared.{Prepared};
-ghost use Rattle.search.specs.Contracts.{CanGoBelow, IsBelow, AreGiven, IsRoot};
+ghost use Rattle.search.specs.Branches.{CanGoBelow, IsBelow, AreGiven, IsRoot};
 
 // The links chosen; the potentials, the cost and the number of arcs of the required arcs balanced with them, of which the amounts are lent beside the branch; R and the d of the links;
 // which component each has become one with; how many entries each component has from each other; and how many trees each branch below has.

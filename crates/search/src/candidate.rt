@@ -2,7 +2,7 @@
 use integers::wide;
 ghost use Prim.Native.Nat.{_<_};
 ghost use lib.ListN.{getD};
-ghost use Rattle.search.specs.Contracts.{IsCandidate};
+ghost use Rattle.search.specs.Branches.{IsCandidate};
 
 // Its link, its source by its new name, and how many trees the branch below has.
 pub struct Candidate {

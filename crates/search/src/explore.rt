@@ -18,7 +18,11 @@ ghost use Rattle.postman.specs.Plan.{Plan};
 ghost use Rattle.search.specs.Bound.{reducedBy};
 ghost use Rattle.search.specs.Progress.{passOver};
 ghost use Rattle.search.specs.Prepared.{Prepared};
-ghost use Rattle.search.specs.Contracts.{CanReduce, heldOf, isEntered, IsShort, IsBranch, chosenIn, linkOf, treesIn, IsExplored, Prices, IsPriced};
+ghost use Rattle.search.specs.Contracts.{IsExplored, IsPriced};
+ghost use Rattle.search.specs.Branches.{IsBranch, chosenIn, linkOf, treesIn};
+ghost use Rattle.search.specs.Holding.{heldOf, isEntered, IsShort};
+ghost use Rattle.search.specs.Pricing.{Prices};
+ghost use Rattle.search.specs.Reducible.{CanReduce};
 
 // What is held after trees of a branch, and prices of the branch: those of the tree that was tried last, without the links that are not the branch's.
 pub struct Explored {

@@ -16,7 +16,10 @@ ghost use mathlib.Core.Path.{_≡_};
 ghost use Prim.Native.Nat.{_+_};
 ghost use Rattle.postman.specs.Plan.{Plan};
 ghost use Rattle.search.specs.Prepared.{Prepared};
-ghost use Rattle.search.specs.Contracts.{CanComplete, IsCompleted, IsShort, IsBranch, treesIn, IsExplored, Prices, chosenIn};
+ghost use Rattle.search.specs.Contracts.{CanComplete, IsCompleted, IsExplored};
+ghost use Rattle.search.specs.Branches.{IsBranch, treesIn, chosenIn};
+ghost use Rattle.search.specs.Holding.{IsShort};
+ghost use Rattle.search.specs.Pricing.{Prices};
 
 // What is held after a tree, and the potentials that it has raised.
 pub struct Completed {

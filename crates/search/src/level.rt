@@ -3,7 +3,7 @@ use integers::wide;
 ghost use mathlib.Core.Path.{_≡_};
 ghost use Prim.Native.Nat.{_+_, _<_, _≤_};
 ghost use lib.ListN.{length};
-ghost use Rattle.search.specs.Contracts.{Near, CanLevel, AreLevelled};
+ghost use Rattle.search.specs.Reducible.{Near, CanLevel, AreLevelled};
 
 // A potential from another one on, so that it is not negative.
 fn level(u: u64, first: u64) -> u64

@@ -3,7 +3,8 @@ use crate::rest::rest;
 use integers::wide;
 ghost use Prim.Native.Nat.{ℕ, _≤_, _<_, _+_};
 ghost use lib.ListN.{getD};
-ghost use Rattle.search.specs.Contracts.{CanRest, IsLifted, IsBounded};
+ghost use Rattle.search.specs.Pricing.{IsLifted, IsBounded};
+ghost use Rattle.search.specs.Reducible.{CanRest};
 
 // Potentials; what they price the required arcs and the links chosen at, or less; and what the branch's trees cost at least by them, but for the reduced cost of the link that is
 // chosen next.

@@ -3,7 +3,7 @@ ghost use mathlib.Core.Path.{_≡_};
 ghost use Prim.Native.Nat.{ℕ, _-_};
 ghost use Rattle.search.specs.Links.{linksIn};
 ghost use Rattle.search.specs.Progress.{passOver, tryTree};
-ghost use Rattle.search.specs.Contracts.{heldOf, isEntered};
+ghost use Rattle.search.specs.Holding.{heldOf, isEntered};
 
 pub struct Progress {
     pub cost: u64,

@@ -5,7 +5,7 @@ ghost use Prim.Native.Nat.{ℕ, _<_, _≤_};
 ghost use lib.ListN.{length, getD};
 ghost use lib.IntN.{pos, _+ℤ_, _-ℤ_};
 ghost use Rattle.search.specs.Bound.{reducedBy};
-ghost use Rattle.search.specs.Contracts.{CanReduce, Spread, AreShifted};
+ghost use Rattle.search.specs.Reducible.{CanReduce, Spread, AreShifted};
 
 pub(crate) fn long(d: u32) -> u64
     ensures { λ r. ⌜ r ≡ d ⌝ }

@@ -5,7 +5,7 @@ ghost use Prim.Native.Nat.{ℕ, _≤_};
 ghost use Rattle.postman.specs.Plan.{Plan};
 ghost use Rattle.search.specs.Bound.{Low};
 ghost use Rattle.search.specs.Prepared.{Prepared};
-ghost use Rattle.search.specs.Contracts.{AreReducible, IsLeast, CanRest};
+ghost use Rattle.search.specs.Reducible.{AreReducible, IsLeast, CanRest};
 
 // The least reduced cost of the candidates from place `from` to place `to`; 4,000,000,000 where there is none.
 fn least(

@@ -11,7 +11,9 @@ ghost use Rattle.postman.specs.Plan.{Plan};
 ghost use Rattle.tree_count.specs.Recursion.{countTrees};
 ghost use Rattle.tree_count.specs.Matrix.{entriesOf, cap, AreFew, AreCounts};
 ghost use Rattle.search.specs.Prepared.{Prepared};
-ghost use Rattle.search.specs.Contracts.{IsShort, IsBranch, treesIn, IsExplored, IsRoot, IsSearched};
+ghost use Rattle.search.specs.Contracts.{IsExplored, IsSearched};
+ghost use Rattle.search.specs.Branches.{IsBranch, treesIn, IsRoot};
+ghost use Rattle.search.specs.Holding.{IsShort};
 
 // The first arborescence of least completion cost among those tried, how many were, and whether these are all.
 pub struct Searched {

@@ -1,6 +1,6 @@
 -- The path of a leg, as a function of the plan: at each vertex the lowest numbered arc that begins a cheapest path, by weights that count cost first and arcs second.
 use mathlib.Core.Bool.{Bool, cond, _&&_}
-use mathlib.Core.List.{List, [], _∷_, map}
+use mathlib.Core.List.{List, [], _∷_}
 use Prim.Native.Nat.{ℕ, zero, suc, _+_, _*_}
 use lib.ListN.{length, getD}
 use lib.Dec.{eqb}
@@ -46,7 +46,3 @@ cheapestPath p i j = pathWithin p (p .n) i j
 unfoldable pub shortestPath : Plan → ℕ → ℕ → List ℕ
 unfolding cheapestPath
 shortestPath p i j = cheapestPath (weighted p) i j
-
--- The vertices that a walk enters, in their order.
-abbrev pub entered : List Arc → List ℕ → List ℕ
-entered arcs w = map (λ k. arcAt arcs k .head) w

@@ -20,7 +20,7 @@ ghost use Rattle.postman.specs.Marks.{carPlan, markConditions};
 ghost use Rattle.plan.specs.Records.{planValue};
 ghost use Rattle.shortest.specs.Contracts.{AreWeights};
 ghost use Rattle.planner.specs.Tour.{tableOf};
-ghost use Rattle.planner.specs.Contract.{IsPlanned};
+ghost use Rattle.planner.specs.Planned.{IsPlanned};
 ghost use Rattle.two_cars.specs.Contract.{IsTwoCars};
 
 // From 18 on: from 10 on the plan is the car's, over the table of the file's.

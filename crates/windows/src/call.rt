@@ -19,7 +19,7 @@ ghost use Rattle.postman.specs.PlanCall.{sheetPlaces, callConditions, lastCondi
 ghost use Rattle.postman.specs.Windows.{windowsIn, planAt, windowConditions};
 ghost use Rattle.plan.specs.Records.{planValue};
 ghost use Rattle.refusal.specs.Verdict.{verdictNumber};
-ghost use Rattle.planner.specs.Contract.{IsPlanned};
+ghost use Rattle.planner.specs.Planned.{IsPlanned};
 ghost use Rattle.windows.specs.Contract.{departure, IsPlanCallAt};
 
 // 19, then 20: all windows are tested before any is used.

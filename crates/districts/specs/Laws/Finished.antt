@@ -11,7 +11,8 @@ use Rattle.postman.specs.PlanCall.{sheetPlaces, callRefusal}
 use Rattle.postman.specs.Laws.Acceptance.{file-accepted}
 use Rattle.budget.specs.Laws.{within}
 use Rattle.planner.specs.declared.Planned.{Planned}
-use Rattle.planner.specs.Contract.{IsPlanned, IsPlanCall}
+use Rattle.planner.specs.Contract.{IsPlanCall}
+use Rattle.planner.specs.Planned.{IsPlanned}
 use Rattle.planner.specs.SameAnswer.{SameAnswer}
 use Rattle.planner.specs.Laws.Call.{file-good, sheet-long, budget-good, planned-as}
 use Rattle.planner.specs.Laws.SameAnswer.{same-answer}

@@ -17,7 +17,7 @@ use Rattle.network.specs.Contracts.{IsLinks, IsComponents}
 use Rattle.search.specs.declared.tried.Searched.{Searched}
 use Rattle.search.specs.Contracts.{IsSearched}
 use Rattle.planner.specs.declared.Planned.{Planned}
-use Rattle.planner.specs.Contract.{IsPlanned}
+use Rattle.planner.specs.Planned.{IsPlanned}
 use Rattle.planner.specs.declared.trees.Reached.{Reached}
 use Rattle.planner.specs.declared.trees.Resumed.{Resumed}
 use Rattle.planner.specs.Resumed.{IsReached, IsReachedBy, IsResumed, HoldsDrive}
@@ -26,7 +26,7 @@ use Rattle.planner.specs.Laws.Resumed.{holds-kept, some-tried}
 use Rattle.districts.specs.Tree.{IsHeldTree}
 use Rattle.districts.specs.Stint.{searchedOf, IsLast, LeavesSheet}
 use Rattle.districts.specs.declared.stint.Stint.{Stint}
-use Rattle.districts.specs.Laws.Held.{clash}
+use Rattle.districts.specs.Laws.Clash.{clash}
 use Rattle.districts.specs.Laws.HeldTree.{passes}
 
 -- ---- the sheet

@@ -8,7 +8,7 @@ use Rattle.postman.specs.Plan.{Plan}
 use Rattle.postman.specs.PlanFile.{planOf}
 use Rattle.postman.specs.Windows.{Departure, windowsIn, planAt, callRefusalAt}
 use Rattle.planner.specs.declared.Planned.{Planned}
-use Rattle.planner.specs.Contract.{countUnless, IsPlanned}
+use Rattle.planner.specs.Planned.{countUnless, IsPlanned}
 use Rattle.planner.specs.SameAnswer.{SameAnswer}
 use Rattle.planner.specs.Laws.Answered.{drive-is}
 use Rattle.planner.specs.Laws.SameAnswer.{same-answer}

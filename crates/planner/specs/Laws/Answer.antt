@@ -32,7 +32,7 @@ use Rattle.planner.specs.declared.Planned.{Planned}
 use Rattle.refusal.specs.Verdict.{verdictNumber}
 use Rattle.planner.specs.Tour.{driveOf, tourOf}
 use Rattle.planner.specs.Prepared.{IsTree}
-use Rattle.planner.specs.Contract.{summaryOf, multipliersOf, countUnless, IsPlanned}
+use Rattle.planner.specs.Planned.{summaryOf, multipliersOf, countUnless, IsPlanned}
 use Rattle.planner.specs.Ascent.{multipliersFor}
 use Rattle.planner.specs.Laws.Ascent.{answered-rooted, answered-above}
 use Rattle.planner.specs.Laws.Tour.{answer-tour}

@@ -17,7 +17,7 @@ use Rattle.circuit.specs.Tour.{written}
 use Rattle.planner.specs.declared.Planned.{Planned}
 use Rattle.refusal.specs.Verdict.{verdictNumber}
 use Rattle.planner.specs.Tour.{tourOf}
-use Rattle.planner.specs.Contract.{summaryOf, multipliersOf, countUnless, IsAnswer, IsPlanned}
+use Rattle.planner.specs.Planned.{summaryOf, multipliersOf, countUnless, IsAnswer, IsPlanned}
 
 module _ (p : Plan) (budget : ℕ) (refusal : Option ℕ) (old new : List ℕ) (r : Planned) (i : IsPlanned p budget refusal old new r) (e : verdictNumber (r .verdict) ≡ none) where
   pub accepted : refusal ≡ none

@@ -28,7 +28,7 @@ use Rattle.ascent.specs.Heights.{multipliersAt}
 use Rattle.ascent.specs.Lawful.{areLawful}
 use Rattle.ascent.specs.Laws.Turns.{turns-keep}
 use Rattle.network.specs.declared.network.Network.{Network}
-use Rattle.network.specs.Contracts.{IsNetwork}
+use Rattle.network.specs.Network.{IsNetwork}
 use Rattle.planner.specs.Tour.{tableOf}
 use Rattle.planner.specs.Ascent.{Climb, boundOf, attempt, climb, begin, ascent, componentsOf, greatestOf, multipliersFor}
 use Rattle.planner.specs.Prepared.{IsBase, IsPrepared}

@@ -21,7 +21,7 @@ use Rattle.refusal.specs.declared.Verdict.the-variants.{Accepted, Refused}
 use Rattle.refusal.specs.Verdict.{verdictNumber, refusalNumber}
 use Rattle.planner.specs.declared.Planned.{Planned}
 use Rattle.planner.specs.Tour.{tourOf}
-use Rattle.planner.specs.Contract.{summaryOf, multipliersOf, IsPlanned}
+use Rattle.planner.specs.Planned.{summaryOf, multipliersOf, IsPlanned}
 use Rattle.planner.specs.RaisedBudget.{Buys}
 use Rattle.planner.specs.Laws.Answered.{is-answer, summary-given, cost-is, floor-is, count-is, drive-is}
 

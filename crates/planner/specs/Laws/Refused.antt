@@ -13,7 +13,7 @@ use Rattle.refusal.specs.declared.Refusal.{Refusal}
 use Rattle.refusal.specs.declared.Verdict.the-variants.{Refused}
 use Rattle.refusal.specs.Verdict.{refusalNumber}
 use Rattle.planner.specs.declared.Planned.{Planned}
-use Rattle.planner.specs.Contract.{countUnless, IsPlanned}
+use Rattle.planner.specs.Planned.{countUnless, IsPlanned}
 
 abbrev pub refusedWith : Refusal → Planned
 refusedWith r = record { verdict = Refused r; places = 0; cost = 0; floor = pos 0; trees = 0; whole = false; parts = 0; multipliers = replicate 64 (pos 0) }

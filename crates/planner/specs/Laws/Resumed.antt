@@ -22,7 +22,8 @@ use Rattle.search.specs.declared.progress.Progress.{Progress}
 use Rattle.search.specs.declared.tried.Searched.{Searched}
 use Rattle.search.specs.Links.{linksIn}
 use Rattle.search.specs.Progress.{Held, held, advance}
-use Rattle.search.specs.Contracts.{heldOf, IsSearched}
+use Rattle.search.specs.Contracts.{IsSearched}
+use Rattle.search.specs.Holding.{heldOf}
 use Rattle.search.specs.Laws.Progress.{tried-first, goes-on}
 use Rattle.planner.specs.Resumed.{IsReached, HoldsTree}
 use Rattle.planner.specs.Laws.Answer.{kept-tree, kept-fits}

@@ -10,7 +10,7 @@ use Rattle.postman.specs.Refusal.{answer, unless}
 use Rattle.postman.specs.LagrangianBound.{Multipliers}
 use Rattle.postman.specs.PlanCall.{Summary, summary, fields}
 use Rattle.planner.specs.declared.Planned.{Planned}
-use Rattle.planner.specs.Contract.{summaryOf, multipliersOf, countUnless, IsPlanned}
+use Rattle.planner.specs.Planned.{summaryOf, multipliersOf, countUnless, IsPlanned}
 use Rattle.planner.specs.SameAnswer.{SameAnswer}
 
 module _ (p : Plan) (budget : ℕ) (old new new′ : List ℕ) (r s : Planned) where

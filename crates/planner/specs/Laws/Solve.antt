@@ -40,7 +40,7 @@ use Rattle.tree_count.specs.Laws.Recursion.{entriesIn}
 use Rattle.tree_count.specs.Laws.Plan.{sources}
 use Rattle.tree_count.specs.Laws.Entries.{all-few, entry-is}
 use Rattle.search.specs.Prepared.{Prepared}
-use Rattle.search.specs.Contracts.{AreGiven}
+use Rattle.search.specs.Branches.{AreGiven}
 use Rattle.planner.specs.Tour.{tableOf}
 use Rattle.planner.specs.Prepared.{IsBase}
 use Rattle.planner.specs.Priced.{IsPriced}

@@ -30,7 +30,8 @@ use Rattle.search.specs.Links.{linksIn}
 use Rattle.search.specs.Branch.{sourceBy, renamedBy, sourcesBy, Named}
 use Rattle.search.specs.Bound.{ArePotentials}
 use Rattle.search.specs.Prepared.{Prepared}
-use Rattle.search.specs.Contracts.{chosenIn, namesIn, stateIn, IsBranch, CanReduce, CanGoBelow, IsBelow}
+use Rattle.search.specs.Branches.{chosenIn, namesIn, stateIn, IsBranch, CanGoBelow, IsBelow}
+use Rattle.search.specs.Reducible.{CanReduce}
 use Rattle.search.specs.Laws.Prepared.{candidate-ends, in-plan, some-component, agrees, metric, required-small}
 use Rattle.search.specs.Laws.Branch.{still-named, source-lt}
 

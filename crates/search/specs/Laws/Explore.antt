@@ -38,7 +38,11 @@ use Rattle.search.specs.Branch.{sourceBy, renamedBy, sourcesBy, leftChoi
 use Rattle.search.specs.Progress.{Held, passOver, tryTree, advance, keep}
 use Rattle.search.specs.Bound.{ArePotentials, Bounds, Low, reducedBy}
 use Rattle.search.specs.Prepared.{Prepared}
-use Rattle.search.specs.Contracts.{heldOf, isEntered, IsShort, chosenIn, namesIn, stateIn, CanReduce, CanGoBelow, IsBranch, IsBelow, IsCandidate, CanLevel, AreLevelled, repricedBranch, Prices, IsLifted, IsBounded, IsPriced, linkOf, treesIn, IsExplored}
+use Rattle.search.specs.Contracts.{IsPriced, IsExplored}
+use Rattle.search.specs.Branches.{chosenIn, namesIn, stateIn, CanGoBelow, IsBranch, IsBelow, IsCandidate, repricedBranch, linkOf, treesIn}
+use Rattle.search.specs.Holding.{heldOf, isEntered, IsShort}
+use Rattle.search.specs.Pricing.{Prices, IsLifted, IsBounded}
+use Rattle.search.specs.Reducible.{CanReduce, CanLevel, AreLevelled}
 use Rattle.search.specs.Laws.Prepared.{in-plan, some-component, agrees, places, places-fit, here-mem, here-source}
 use Rattle.search.specs.Laws.Branch.{source-lt, completions-step, completions-last, completions-cong, entered-none, entered-some, entered-count}
 use Rattle.search.specs.Laws.Progress.{pass-none, held-same, advance-append, passed-over, Idle}

@@ -18,7 +18,10 @@ use Rattle.search.specs.declared.progress.Progress.{Progress}
 use Rattle.search.specs.Bound.{reducedBy}
 use Rattle.search.specs.Progress.{passOver}
 use Rattle.search.specs.Prepared.{Prepared}
-use Rattle.search.specs.Contracts.{heldOf, isEntered, IsShort, stateIn, IsCandidate, IsBranch, IsBelow, repricedBranch, CanComplete, IsCompleted, chosenIn, Prices, IsPriced, IsExplored}
+use Rattle.search.specs.Contracts.{CanComplete, IsCompleted, IsPriced, IsExplored}
+use Rattle.search.specs.Branches.{stateIn, IsCandidate, IsBranch, IsBelow, repricedBranch, chosenIn}
+use Rattle.search.specs.Holding.{heldOf, isEntered, IsShort}
+use Rattle.search.specs.Pricing.{Prices}
 use Rattle.search.specs.Laws.Bound.{low-none}
 use Rattle.search.specs.Laws.Below.{fixed-small}
 use Rattle.search.specs.Laws.Explore.{branches, one-tree, own-prices, can-go, raised-level, raised-small, raised-kept, next-branch, next-explored, next-passed}

@@ -12,7 +12,7 @@ use lib.Signed.{_≤ℤ_, nonNeg}
 use lib.ListN.{length, getD, set, length-set}
 use lib.Seq.{getD-set-same, getD-set-other}
 use Rattle.integers.specs.Linear.{z, zl, abs-pn, pos-abs}
-use Rattle.search.specs.Contracts.{Spread, AreShifted}
+use Rattle.search.specs.Reducible.{Spread, AreShifted}
 
 module _ {u low : ℤ} (h : Spread u low) {s : ℤ} (e : s ≡ u -ℤ low +ℤ pos 4128705) where
   ahead : pos 0 ≤ℤ s

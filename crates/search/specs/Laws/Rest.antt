@@ -10,7 +10,7 @@ use lib.ListN.{getD}
 use Rattle.postman.specs.Plan.{Plan}
 use Rattle.search.specs.Bound.{reducedBy, Low}
 use Rattle.search.specs.Prepared.{Prepared}
-use Rattle.search.specs.Contracts.{IsLeast}
+use Rattle.search.specs.Reducible.{IsLeast}
 use Rattle.search.specs.Laws.Prepared.{place-of}
 use Rattle.search.specs.Laws.Bound.{low-more}
 

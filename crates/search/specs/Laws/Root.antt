@@ -30,7 +30,8 @@ use Rattle.search.specs.Links.{linksIn}
 use Rattle.search.specs.Branch.{sourceBy, sourcesBy, Named}
 use Rattle.search.specs.Bound.{ArePotentials}
 use Rattle.search.specs.Prepared.{Prepared}
-use Rattle.search.specs.Contracts.{chosenIn, namesIn, stateIn, IsRoot, AreGiven, Spread, AreShifted, CanReduce, CanRest}
+use Rattle.search.specs.Branches.{chosenIn, namesIn, stateIn, IsRoot, AreGiven}
+use Rattle.search.specs.Reducible.{Spread, AreShifted, CanReduce, CanRest}
 use Rattle.search.specs.Laws.Prepared.{candidate-ends, in-plan, some-component, agrees, metric, places, linkHere, here-mem}
 use Rattle.search.specs.Laws.Branch.{source-lt}
 use Rattle.search.specs.Laws.Start.{start-certified, start-counted}

@@ -21,7 +21,8 @@ use Rattle.balance.specs.Balance.{balance}
 use Rattle.balance.specs.Laws.Plan.{balance-certified, balance-counted, multipliers-heights}
 use Rattle.balance.specs.Laws.Repriced.{repriced, repriced-certified, repriced-counted}
 use Rattle.search.specs.Prepared.{Prepared}
-use Rattle.search.specs.Contracts.{AreGiven, AreShifted}
+use Rattle.search.specs.Branches.{AreGiven}
+use Rattle.search.specs.Reducible.{AreShifted}
 use Rattle.search.specs.Laws.Prepared.{in-plan, agrees}
 
 -- a number and its magnitude

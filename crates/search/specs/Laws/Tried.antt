@@ -33,7 +33,9 @@ use Rattle.search.specs.Links.{linksIn}
 use Rattle.search.specs.Branch.{sourcesBy, completions}
 use Rattle.search.specs.Progress.{Held, held, advance}
 use Rattle.search.specs.Prepared.{Prepared}
-use Rattle.search.specs.Contracts.{heldOf, namesIn, IsRoot, treesIn, IsExplored, IsSearched}
+use Rattle.search.specs.Contracts.{IsExplored, IsSearched}
+use Rattle.search.specs.Branches.{namesIn, IsRoot, treesIn}
+use Rattle.search.specs.Holding.{heldOf}
 use Rattle.search.specs.Laws.Prepared.{in-plan, some-component, agrees, required-small}
 use Rattle.search.specs.Laws.Branch.{completions-count, completions-cong, completions-first}
 use Rattle.search.specs.Laws.Progress.{tried-first}

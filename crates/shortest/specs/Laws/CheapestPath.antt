@@ -20,7 +20,8 @@ use Rattle.postman.specs.Laws.Membership.{getD-mem, mem-below, length-below}
 use Rattle.postman.specs.Laws.Occurrences.{delta-yes, delta-no, mem-of-occurrences}
 use Rattle.postman.specs.Laws.FewestPath.{not-before, none-before}
 use Rattle.postman.specs.Laws.Distance.{InPlan, distance-self, distance-le, distance-walk, distance-arc}
-use Rattle.shortest.specs.ShortestPath.{begins, nextArc, pathWithin, cheapestPath, entered}
+use Rattle.shortest.specs.ShortestPath.{begins, nextArc, pathWithin, cheapestPath}
+use Rattle.shortest.specs.Weight.{entered}
 use Rattle.shortest.specs.Laws.FirstNumber.{first-lt, first-le, first-test}
 use Rattle.shortest.specs.Laws.Rank.{select-lt, select-all}
 use Rattle.shortest.specs.Laws.Weight.{IsWeighted}

@@ -11,7 +11,8 @@ use Rattle.postman.specs.Distance.{noPath, distance}
 use Rattle.postman.specs.FewestPath.{IsFewestPath}
 use Rattle.postman.specs.Laws.Distance.{bounded, distance-le}
 use Rattle.shortest.specs.Weight.{weighted}
-use Rattle.shortest.specs.ShortestPath.{cheapestPath, shortestPath, entered}
+use Rattle.shortest.specs.ShortestPath.{cheapestPath, shortestPath}
+use Rattle.shortest.specs.Weight.{entered}
 use Rattle.shortest.specs.Laws.CheapestPath.{IsCheapestPath, cheapest-path}
 use Rattle.shortest.specs.Laws.Weight.{is-weighted, to-weighted, of-weighted, walk-weight, same-entered, weight-path, least-cost}
 

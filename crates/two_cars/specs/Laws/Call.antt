@@ -24,7 +24,7 @@ use Rattle.plan_file.specs.Reading.{IsReading}
 use Rattle.plan_file.specs.Laws.Reading.{accepted-value}
 use Rattle.planner.specs.declared.Planned.{Planned}
 use Rattle.planner.specs.Tour.{tableOf}
-use Rattle.planner.specs.Contract.{IsPlanned}
+use Rattle.planner.specs.Planned.{IsPlanned}
 use Rattle.planner.specs.Laws.Refused.{refusedWith}
 use Rattle.planner.specs.Laws.Call.{refused-planned, planned-as}
 use Rattle.two_cars.specs.Contract.{IsCar}

@@ -13,7 +13,8 @@ use Rattle.postman.specs.Marks.{ownMarks, carRefusal}
 use Rattle.postman.specs.Laws.Refusal.{first-stop}
 use Rattle.postman.specs.Laws.Marks.{car-order, own-file-plan, own-refusal}
 use Rattle.planner.specs.declared.Planned.{Planned}
-use Rattle.planner.specs.Contract.{IsPlanned, IsPlanCall}
+use Rattle.planner.specs.Contract.{IsPlanCall}
+use Rattle.planner.specs.Planned.{IsPlanned}
 use Rattle.planner.specs.Laws.Call.{planned-as, is-call, file-refused}
 use Rattle.planner.specs.Laws.SameAnswer.{refused-as}
 use Rattle.two_cars.specs.Contract.{IsCar}

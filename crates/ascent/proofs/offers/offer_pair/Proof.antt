@@ -1,5 +1,5 @@
 -- A pair that is cheaper is noted, and else nothing changes.
-use Rattle.ascent.specs.Laws.Bodies.{offer-less, offer-not}
+use Rattle.ascent.specs.Laws.Grown.{offer-less, offer-not}
 use borrow.Author.Needs.{needs}
 use Rattle.ascent.proofs.offers.offer_pair.Statement.{statement}
 use Rattle.ascent.proofs.offers.offer_pair.Tie as tie

@@ -1,5 +1,5 @@
 -- What the parts answer is the turn of the model. Assumes nothing.
-use Rattle.ascent.specs.Laws.Bodies.{enter-is}
+use Rattle.ascent.specs.Laws.Grown.{enter-is}
 use borrow.Author.Needs.{needs}
 use Rattle.ascent.proofs.tree.enter.Statement.{statement}
 use Rattle.ascent.proofs.tree.enter.Tie as tie

@@ -1,7 +1,7 @@
 -- A component that is in the set is not entered.
 use mathlib.Core.Path.{sym, _∙_}
 use borrow.Author.Tests.{not-false}
-use Rattle.ascent.specs.Laws.Bodies.{enter-in}
+use Rattle.ascent.specs.Laws.Grown.{enter-in}
 use borrow.Author.Needs.{needs}
 use Rattle.ascent.proofs.tree.enter_new.Statement.{statement}
 use Rattle.ascent.proofs.tree.enter_new.Tie as tie

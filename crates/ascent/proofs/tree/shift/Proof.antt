@@ -1,5 +1,5 @@
 -- The two stores are those of the model. Assumes nothing.
-use Rattle.ascent.specs.Laws.Bodies.{shift-is}
+use Rattle.ascent.specs.Laws.Grown.{shift-is}
 use borrow.Author.Needs.{needs}
 use Rattle.ascent.proofs.tree.shift.Statement.{statement}
 use Rattle.ascent.proofs.tree.shift.Tie as tie

@@ -1,6 +1,6 @@
 -- By the test. Assumes nothing.
 use native.Mathlib.Omega.{arith}
-use Rattle.ascent.specs.Laws.Bodies.{walk-end, walk-is}
+use Rattle.ascent.specs.Laws.Grown.{walk-end, walk-is}
 use borrow.Author.Needs.{needs}
 use Rattle.ascent.proofs.tree.walk_back.Statement.{statement}
 use Rattle.ascent.proofs.tree.walk_back.Tie as tie

@@ -19,7 +19,7 @@ use Rattle.circuit.specs.Tour.{written}
 use Rattle.planner.specs.Tour.{driveOf}
 use Rattle.planner.specs.Prepared.{IsTree}
 use Rattle.plan.specs.Records.{planValue}
-use Rattle.planner.specs.Contract.{summaryOf, multipliersOf}
+use Rattle.planner.specs.Planned.{summaryOf, multipliersOf}
 use Rattle.planner.specs.declared.Planned.{Planned}
 use Rattle.refusal.specs.declared.Verdict.the-variants.{Accepted}
 use Rattle.search.specs.Links.{linksIn}

@@ -5,7 +5,7 @@ use Rattle.postman.specs.Component.{componentCount}
 use Rattle.postman.specs.Balancing.{completionCost}
 use Rattle.plan.specs.Records.{planValue}
 use Rattle.search.specs.Progress.{advance}
-use Rattle.search.specs.Contracts.{heldOf}
+use Rattle.search.specs.Holding.{heldOf}
 use Rattle.search.specs.Laws.Tried.{root-trees}
 use borrow.Author.Needs.{needs}
 use Rattle.planner.proofs.trees.explored.Statement.{statement}

@@ -11,7 +11,9 @@ use Rattle.tree_count.specs.Matrix.{AreCounts}
 use Rattle.search.specs.declared.explore.Explored.{Explored}
 use Rattle.search.specs.declared.progress.Progress.{Progress}
 use Rattle.search.specs.Prepared.{Prepared}
-use Rattle.search.specs.Contracts.{IsShort, IsBranch, IsExplored, IsPriced}
+use Rattle.search.specs.Contracts.{IsExplored, IsPriced}
+use Rattle.search.specs.Branches.{IsBranch}
+use Rattle.search.specs.Holding.{IsShort}
 use Rattle.search.specs.Laws.Prepared.{places}
 use Rattle.search.specs.Laws.Explore.{branches, explored-start, explored-end, explored-short, bound-small, can-look, can-reduce-here, can-go, next-branch, next-prices, next-explored, next-passed}
 use borrow.Author.Needs.{needs}

@@ -2,7 +2,7 @@
 use mathlib.Core.Path.{refl}
 use Prim.Native.Nat.{_+_, _≤_}
 use native.Mathlib.Omega.{arith}
-use Rattle.search.specs.Contracts.{chosenIn, linkOf}
+use Rattle.search.specs.Branches.{chosenIn, linkOf}
 use Rattle.search.specs.Laws.Root.{can-rest}
 use Rattle.search.specs.Laws.Below.{fixed-small}
 use Rattle.search.specs.Laws.Explore.{lifted-prices, bounded-prices}

@@ -7,7 +7,9 @@ use lib.ListN.{length}
 use Rattle.balance.specs.Step.{cell, add}
 use Rattle.search.specs.Links.{linksIn}
 use Rattle.search.specs.Progress.{tryTree}
-use Rattle.search.specs.Contracts.{heldOf, stateIn, CanLevel, AreLevelled, repricedBranch}
+use Rattle.search.specs.Branches.{stateIn, repricedBranch}
+use Rattle.search.specs.Holding.{heldOf}
+use Rattle.search.specs.Reducible.{CanLevel, AreLevelled}
 use borrow.Author.Needs.{needs}
 use Rattle.search.proofs.last.complete.Statement.{statement}
 use Rattle.search.proofs.last.complete.Tie as tie

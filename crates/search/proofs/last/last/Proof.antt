@@ -8,7 +8,9 @@ use lib.ListN.{length, getD, take}
 use Rattle.postman.specs.Plan.{Plan}
 use Rattle.postman.specs.Arborescence.{candidates}
 use Rattle.search.specs.Prepared.{Prepared}
-use Rattle.search.specs.Contracts.{IsShort, isEntered, IsBranch, repricedBranch, IsExplored}
+use Rattle.search.specs.Contracts.{IsExplored}
+use Rattle.search.specs.Branches.{IsBranch, repricedBranch}
+use Rattle.search.specs.Holding.{IsShort, isEntered}
 use Rattle.search.specs.Laws.Prepared.{places}
 use Rattle.search.specs.Laws.Below.{fixed-small, balancing-small}
 use Rattle.search.specs.Laws.Explore.{branches, explored-start, explored-end, explored-short, can-look, can-reduce-here}

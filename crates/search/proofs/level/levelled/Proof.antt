@@ -4,8 +4,8 @@ use Prim.Native.Nat.{ℕ, _+_, _-_, _≤_, _<_}
 use native.Mathlib.Omega.{arith}
 use lib.ListN.{length, getD, set}
 use Rattle.balance.specs.Laws.Fill.{zero-at}
-use Rattle.search.specs.Contracts.{Near, AreLevelled}
-use Rattle.search.specs.Laws.Kept.{levelled-start, levelled-more}
+use Rattle.search.specs.Reducible.{Near, AreLevelled}
+use Rattle.search.specs.Laws.Levelled.{levelled-start, levelled-more}
 use borrow.Author.Needs.{needs}
 use Rattle.search.proofs.level.levelled.Statement.{statement}
 use Rattle.search.proofs.level.levelled.Tie as tie

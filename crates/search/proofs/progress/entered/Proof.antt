@@ -5,7 +5,7 @@ use native.Mathlib.Omega.{arith}
 use lib.Dec.{eqb, ltb}
 use borrow.Author.Tests.{le-leb, lt-leb, eq-eqb, ne-eqb}
 use Rattle.search.specs.declared.progress.Progress.{Progress}
-use Rattle.search.specs.Contracts.{isEntered}
+use Rattle.search.specs.Holding.{isEntered}
 use Prim.Native.Nat.{ℕ, _≤_, _<_}
 use mathlib.Core.Logic.{_≢_}
 use Rattle.search.proofs.progress.entered.Statement.{statement}

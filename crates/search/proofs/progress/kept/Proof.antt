@@ -3,7 +3,7 @@ use mathlib.Core.Path.{sym, ap, _∙_}
 use native.Mathlib.Omega.{arith}
 use Rattle.search.specs.Links.{linksIn}
 use Rattle.search.specs.Progress.{Held, passOver}
-use Rattle.search.specs.Contracts.{heldOf}
+use Rattle.search.specs.Holding.{heldOf}
 use Rattle.search.specs.Laws.Progress.{try-skipped, try-left, try-none, keep-yes, keep-no}
 use Rattle.search.proofs.progress.kept.Statement.{statement}
 use Rattle.search.proofs.progress.kept.Tie as tie

@@ -4,7 +4,7 @@ use Prim.Native.Nat.{_+_, _-_, _≤_}
 use native.Mathlib.Omega.{arith}
 use lib.ListN.{length, getD, set}
 use lib.IntN.{pos}
-use Rattle.search.specs.Contracts.{AreShifted}
+use Rattle.search.specs.Reducible.{AreShifted}
 use Rattle.integers.specs.Linear.{back64}
 use Rattle.search.specs.Laws.Reduced.{shifted-start, shifted-more}
 use Rattle.balance.specs.Laws.Fill.{zero-at}

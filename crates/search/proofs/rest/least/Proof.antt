@@ -3,7 +3,7 @@ use mathlib.Core.Path.{_≡_, refl, subst, subst⁻¹}
 use mathlib.Core.Logic.{⊎-elim}
 use Prim.Native.Nat.{_+_, _-_, _≤_}
 use native.Mathlib.Omega.{arith}
-use Rattle.search.specs.Contracts.{IsLeast}
+use Rattle.search.specs.Reducible.{IsLeast}
 use Rattle.search.specs.Laws.Rest.{least-start, least-more}
 use borrow.Author.Needs.{needs}
 use Rattle.search.proofs.rest.least.Statement.{statement}
