@@ -1,5 +1,5 @@
 // Arborescences in order, and the least cost of one, for small layouts and for matrices made by a formula.
-use arborescence::cheapest;
+use cheapest_tree::cheapest;
 use arborescence::order;
 use libc::STDOUT_FILENO;
 ghost use mathlib.Core.Path.{_≡_};
@@ -9,7 +9,7 @@ ghost use lib.ListN.{getD};
 ghost use lib.IntN.{pos};
 ghost use lib.Signed.{_≤ℤ_};
 ghost use Rattle.arborescence.specs.Layout.{IsLayout};
-ghost use Rattle.arborescence.specs.Picture.{IsPicture, highest};
+ghost use Rattle.cheapest_tree.specs.Picture.{IsPicture, highest};
 
 fn line(n: u64) {
     io::print_decimal(STDOUT_FILENO, n);

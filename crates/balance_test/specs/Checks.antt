@@ -6,7 +6,7 @@ use Prim.Native.Nat.{ℕ, _+_, _≤_, _<_}
 use lib.ListN.{length}
 use lib.Dec.{eqb, leb, ltb}
 use Rattle.postman.specs.Lists.{anyOf, allOf}
-use Rattle.balance.specs.Step.{cell}
+use Rattle.residual_search.specs.Step.{cell}
 use Rattle.balance.specs.Invariant.{Metric, AllIn}
 
 -- The numbers ascend, from `low` on, and are below 64.

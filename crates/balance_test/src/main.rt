@@ -4,8 +4,8 @@ ghost use mathlib.Core.Bool.{true, _&&_};
 ghost use Prim.Native.Nat.{_+_, _<_, _≤_};
 ghost use lib.ListN.{getD};
 ghost use lib.Dec.{eqb, leb, ltb};
-ghost use Rattle.balance.specs.Bounds.{AtMost};
-ghost use Rattle.balance.specs.Step.{cell};
+ghost use Rattle.residual_search.specs.Bounds.{AtMost};
+ghost use Rattle.residual_search.specs.Step.{cell};
 ghost use Rattle.balance_test.specs.Checks.{Admitted, ascending, isShortest, isRow, isTable, isVertex, areVertices};
 
 // A vertex as an index.
@@ -221,7 +221,7 @@ fn report(d: &[[u32; 64]; 64], vs: &[u8], tails: &[u8], heads: &[u8], n: usize)
     let s = balance::state::add_all(none, d, vs, tails, heads);
     io::print_decimal(1, s.cost);
     io::write_all(1, b" ");
-    let f = balance::direct::direct_amounts(s, d, vs);
+    let f = direct_amounts::direct::direct_amounts(s, d, vs);
     io::print_decimal(1, units(&f));
     io::write_all(1, b":");
     let root = vs[0];

@@ -7,7 +7,7 @@ use budget::Budget;
 use budget::Checked;
 use plan::Plan;
 use planner::call::network_verdict;
-use planner::trees::Reached;
+use solution::trees::Reached;
 use refusal::Refusal;
 use refusal::Verdict;
 ghost use mathlib.Core.Path.{_≡_};

@@ -5,7 +5,7 @@ use crate::output::flush;
 use crate::output::put;
 use crate::output::put_line;
 use libc::STDIN_FILENO;
-use planner::Planned;
+use solution::Planned;
 use planner::call::plan_call;
 use refusal::Verdict;
 ghost use Prim.Native.Nat.{_<_};

@@ -4,10 +4,10 @@ use Prim.Native.Nat.{ℕ}
 use lib.IntN.{ℤ}
 use Rattle.postman.specs.Refusal.{answer}
 use Rattle.postman.specs.Windows.{Departure}
-use Rattle.planner.specs.declared.Planned.{Planned}
+use Rattle.solution.specs.declared.Planned.{Planned}
 use Rattle.planner.specs.Contract.{IsPlanCall}
 use Rattle.windows.specs.Contract.{IsPlanCallAt}
-use Rattle.exports.specs.Answer.{IsHandedOver}
+use Rattle.answers.specs.Answer.{IsHandedOver}
 
 -- The exported call: it hands over an answer that the plan call gives.
 pub record IsExportedCall (bytes : List ℕ) (budget : ℕ) (sheet sheet′ words words′ : List ℕ) (u u′ : List ℤ) (number : ℤ) : Type 0 where

@@ -6,11 +6,11 @@ use Prim.Native.Nat.{ℕ}
 use lib.IntN.{ℤ}
 use Rattle.postman.specs.Refusal.{unless}
 use Rattle.refusal.specs.Verdict.{verdictNumber}
-use Rattle.planner.specs.declared.Planned.{Planned}
+use Rattle.solution.specs.declared.Planned.{Planned}
 use Rattle.two_cars.specs.declared.TwoPlanned.{TwoPlanned}
 use Rattle.two_cars.specs.Contract.{IsTwoCars}
-use Rattle.exports.specs.Answer.{wordsOf, putFirst}
-use Rattle.exports.specs.CarsNumber.{carsNumber}
+use Rattle.answers.specs.Answer.{wordsOf, putFirst}
+use Rattle.answers.specs.CarsNumber.{carsNumber}
 
 -- What a car's lent slices hold then; its refusal changes none.
 pub record IsLeft (r : Planned) (words words′ : List ℕ) (u u′ : List ℤ) : Type 0 where

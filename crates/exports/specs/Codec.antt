@@ -5,7 +5,7 @@ use lib.ListN.{length, drop}
 use Rattle.postman.specs.Plan.{Plan}
 use Rattle.postman.specs.Refusal.{unless}
 use Rattle.postman.specs.PlanFile.{planOf, arcCount, readRefusal}
-use Rattle.exports.specs.RecordBytes.{arcBytes, arcsIn}
+use Rattle.encoding.specs.RecordBytes.{arcBytes, arcsIn}
 
 -- "The arcs go into a lent list of arc records; records from m on are untouched." So are bytes that are left over.
 unfoldable pub lentAfter : List ℕ → List ℕ → List ℕ

@@ -13,9 +13,9 @@ use Rattle.postman.specs.OpenPlan.{Call}
 use Rattle.postman.specs.Windows.{Departure}
 use Rattle.refusal.specs.Verdict.{orElse}
 use Rattle.open_plan.specs.State.{fileIn, heldOf, freshState, refusalOf, next}
-use Rattle.exports.specs.Number.{oneNumber}
+use Rattle.answers.specs.Number.{oneNumber}
 use Rattle.exports.specs.Call.{IsExportedCallAt}
-use Rattle.exports.specs.StateBytes.{openBytes, openIn, stateBytes}
+use Rattle.open_plan_bytes.specs.StateBytes.{openBytes, openIn, stateBytes}
 
 -- 8 short sheet: a lent slice below the state.
 abbrev pub shortState : List ℕ → Option ℕ → Option ℕ

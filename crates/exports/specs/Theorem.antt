@@ -15,9 +15,9 @@ use Rattle.open_plan.specs.State.{heldOf, freshState, refusalOf, next}
 use Rattle.open_plan.specs.Run.{Fits, StandsFor}
 use Rattle.open_plan.specs.Theorem.{history-more}
 use Rattle.open_plan.specs.Laws.History.{Stands, stands-for, refused-alike, after-stands, opening-stands}
-use Rattle.exports.specs.Number.{oneNumber}
+use Rattle.answers.specs.Number.{oneNumber}
 use Rattle.exports.specs.Editing.{openRefusal, moveRefusal, IsExportedOpen, IsExportedMove}
-use Rattle.exports.specs.StateBytes.{openBytes, openIn, stateBytes}
+use Rattle.open_plan_bytes.specs.StateBytes.{openBytes, openIn, stateBytes}
 use Rattle.exports.specs.Laws.Editing.{has-room}
 use Rattle.exports.specs.Laws.Lent.{stands-sized, state-long, state-back}
 

@@ -9,8 +9,8 @@ use Rattle.districts.specs.declared.enter.Entered.{Entered}
 use Rattle.districts.specs.declared.turn.Turned.{Turned}
 use Rattle.districts.specs.Runs.{Event, entry, turned}
 use Rattle.districts.specs.Machine.{IsEntered, IsTurned}
-use Rattle.exports.specs.MachineBytes.{districtsBytes, machineIn}
-use Rattle.exports.specs.MachineStored.{IsEntryStored, IsTurnHandedOver}
+use Rattle.machine_bytes.specs.MachineBytes.{districtsBytes, machineIn}
+use Rattle.machine_bytes.specs.MachineStored.{IsEntryStored, IsTurnHandedOver}
 
 -- 8 short sheet: a lent slice below the machine. Nothing is changed.
 abbrev pub IsRefusedShort : List ℕ → List ℕ → ℤ → Type 0

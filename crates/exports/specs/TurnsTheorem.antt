@@ -11,10 +11,10 @@ use Rattle.postman.specs.Refusal.{answer, unless}
 use Rattle.postman.specs.PlanFile.{planOf}
 use Rattle.postman.specs.PlanCall.{sheetPlaces, bestCost}
 use Rattle.refusal.specs.Verdict.{verdictNumber}
-use Rattle.planner.specs.declared.Planned.{Planned}
-use Rattle.planner.specs.SameAnswer.{SameAnswer}
-use Rattle.planner.specs.Ascent.{multipliersFor}
-use Rattle.planner.specs.Resumed.{turnTrees}
+use Rattle.solution.specs.declared.Planned.{Planned}
+use Rattle.solution.specs.SameAnswer.{SameAnswer}
+use Rattle.multipliers.specs.Ascent.{multipliersFor}
+use Rattle.solution.specs.Resumed.{turnTrees}
 use Rattle.districts.specs.declared.turn.Outcome.{Outcome}
 use Rattle.districts.specs.declared.turn.Outcome.the-variants.{Finished}
 use Rattle.districts.specs.declared.turn.Turned.{Turned}
@@ -23,12 +23,12 @@ use Rattle.districts.specs.Runs.{Event, run, lastEntry}
 use Rattle.districts.specs.Machine.{IsServed}
 use Rattle.districts.specs.Theorem.{as-entered, finished-as-plan-call}
 use Rattle.districts.specs.Laws.Led.{led}
-use Rattle.exports.specs.Number.{oneNumber}
-use Rattle.exports.specs.Answer.{wordsOf, putFirst}
+use Rattle.answers.specs.Number.{oneNumber}
+use Rattle.answers.specs.Answer.{wordsOf, putFirst}
 use Rattle.exports.specs.Call.{IsExportedCall}
-use Rattle.exports.specs.MachineBytes.{districtsBytes, machineIn, machineBytes}
+use Rattle.machine_bytes.specs.MachineBytes.{districtsBytes, machineIn, machineBytes}
 use Rattle.exports.specs.Turns.{IsExportedEntry, IsExportedTurn, LedLent}
-use Rattle.exports.specs.MachineStored.{outcomeNumber, hadTurn, hadLast, IsTurnHandedOver}
+use Rattle.machine_bytes.specs.MachineStored.{outcomeNumber, hadTurn, hadLast, IsTurnHandedOver}
 use Rattle.exports.specs.Laws.LentTurns.{lent-led, admitted-is}
 
 -- AN ENTRY answers the lowest free place of the run's line, or minus the refusal.

@@ -2,7 +2,7 @@
 ghost use Rattle.postman.specs.PlanCall.{defaultBudget};
 ghost use Rattle.windows.specs.Contract.{departure};
 ghost use Rattle.exports.specs.Call.{IsExportedCall, IsExportedCallAt};
-use crate::answer::hand_over;
+use answers::answer::hand_over;
 
 // THE PLAN CALL. `answer` takes places, cost, floor, trees, whole and parts, `multipliers` takes u; a refusal changes no lent slice.
 #[no_mangle]

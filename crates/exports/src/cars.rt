@@ -1,7 +1,7 @@
 // The call for two cars, for callers in other languages.
 ghost use Rattle.exports.specs.Cars.{IsExportedCars};
-use crate::answer::hand_over;
-use crate::cars_number::cars_number;
+use answers::answer::hand_over;
+use answers::cars_number::cars_number;
 
 // THE CALL FOR TWO CARS. A mark is a byte. Minus the number of a refusal that reaches both cars, else 256 times the first car's own refusal and the second's, 0 for a car that is answered.
 #[no_mangle]

@@ -1,19 +1,19 @@
 // Reading and writing plan files, for callers in other languages. An answer is one number: minus the refusal's number, or what was asked for.
 ghost use mathlib.Core.Path.{_≡_};
 ghost use Rattle.postman.specs.PlanFile.{readAnswer, writeAnswer, bytesAfter};
-ghost use Rattle.exports.specs.RecordBytes.{arcsIn};
-ghost use Rattle.exports.specs.Number.{oneNumber};
+ghost use Rattle.encoding.specs.RecordBytes.{arcsIn};
+ghost use Rattle.answers.specs.Number.{oneNumber};
 ghost use Rattle.exports.specs.Codec.{lentAfter, lentPlan};
-ghost use Rattle.exports.specs.FileNumber.{packed};
-use crate::record_bytes::load_records;
-use crate::record_bytes::store_arcs;
+ghost use Rattle.answers.specs.FileNumber.{packed};
+use encoding::record_bytes::load_records;
+use encoding::record_bytes::store_arcs;
 use records::reader::arcs_read;
 use records::reader::read_answer;
 use records::writer::write_arcs;
-use crate::file_number::read_number;
-use crate::file_number::written_number;
-use crate::file_number::vertices_of;
-use crate::file_number::edition_of;
+use answers::file_number::read_number;
+use answers::file_number::written_number;
+use answers::file_number::vertices_of;
+use answers::file_number::edition_of;
 
 // Reading, from any bytes into any list of records, seven bytes each: 65,536 times the edition, and 512 n + m, with the file's arcs in the list from its start and the bytes after them untouched; or
 // minus the number of the first refusal by document 01's order, with every byte untouched.

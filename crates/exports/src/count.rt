@@ -1,9 +1,9 @@
 // The number of trees, for callers in other languages.
 ghost use mathlib.Core.Path.{_≡_};
 ghost use Rattle.postman.specs.TreeCount.{countCall};
-ghost use Rattle.exports.specs.Number.{oneNumber};
-ghost use Rattle.exports.specs.Count.{countOf};
-use crate::call_number::count_number;
+ghost use Rattle.answers.specs.Number.{oneNumber};
+ghost use Rattle.answers.specs.Count.{countOf};
+use answers::call_number::count_number;
 
 // THE COUNT.
 #[no_mangle]

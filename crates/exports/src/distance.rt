@@ -2,8 +2,8 @@
 ghost use mathlib.Core.Path.{_≡_};
 ghost use lib.ListN.{length};
 ghost use Rattle.postman.specs.DistanceCall.{distanceAnswer, distancesAfter};
-ghost use Rattle.exports.specs.Number.{oneNumber};
-use crate::call_number::searched_number;
+ghost use Rattle.answers.specs.Number.{oneNumber};
+use answers::call_number::searched_number;
 
 // THE DISTANCE CALL. A pair is 256 × first + second. `distances` takes the pairs' distances from its start, and later entries are untouched; a refusal changes none.
 #[no_mangle]

@@ -6,12 +6,12 @@ ghost use Rattle.windows.specs.Contract.{departure};
 ghost use Rattle.open_plan.specs.State.{changeOf};
 ghost use Rattle.postman.specs.Refusal.{answer};
 ghost use Rattle.exports.specs.Editing.{IsExportedOpen, IsExportedMove, IsExportedAsk};
-use crate::answer::hand_over;
-use crate::number::refused_number;
+use answers::answer::hand_over;
+use answers::number::refused_number;
 use refusal::Refusal;
-use crate::state_bytes::load;
-use crate::state_bytes::store_moved;
-use crate::state_bytes::short_number;
+use open_plan_bytes::state_bytes::load;
+use open_plan_bytes::state_bytes::store_moved;
+use open_plan_bytes::state_bytes::short_number;
 
 // OPENING a plan. A slice that is too short for the state is refused as 8, after 1 to 7 and 13.
 #[no_mangle]

@@ -1,8 +1,8 @@
 // The judging call, for callers in other languages. The number is the cost, or minus the refusal's.
 ghost use mathlib.Core.Path.{_≡_};
 ghost use Rattle.postman.specs.Judge.{judgeAnswer};
-ghost use Rattle.exports.specs.Number.{oneNumber};
-use crate::call_number::judged_number;
+ghost use Rattle.answers.specs.Number.{oneNumber};
+use answers::call_number::judged_number;
 
 // THE JUDGING CALL, on any bytes and any list of arc numbers, which it does not change.
 #[no_mangle]

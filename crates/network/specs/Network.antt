@@ -7,7 +7,7 @@ use Rattle.postman.specs.Balancing.{imbalance}
 use Rattle.postman.specs.PlanCall.{isCutOff}
 use Rattle.postman.specs.Link.{links}
 use Rattle.network.specs.declared.network.Network.{Network}
-use Rattle.network.specs.Contracts.{IsComponents, IsImbalance, IsLinks, IsRequiredFlags}
+use Rattle.required.specs.Contracts.{IsComponents, IsImbalance, IsLinks, IsRequiredFlags}
 
 -- The network of a plan.
 pub record IsNetwork (p : Plan) (r : Network) : Type 0 where

@@ -1,9 +1,9 @@
 // The network of a plan.
-use crate::components::components_of;
+use components::components::components_of;
 use crate::cut_off::is_cut_off;
-use crate::required_sum::imbalance;
-use crate::required_sum::required_cost;
-use crate::required_vertex::required;
+use required::required_sum::imbalance;
+use required::required_sum::required_cost;
+use required::required_vertex::required;
 use crate::thinning::pairs;
 use crate::thinning::thin;
 use plan::Plan;

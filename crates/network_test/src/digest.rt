@@ -7,7 +7,7 @@ ghost use Rattle.postman.specs.Plan.{WellFormed};
 ghost use Rattle.plan.specs.Records.{planValue};
 ghost use Rattle.postman.specs.Distance.{noPath, distance};
 ghost use Rattle.shortest.specs.Contracts.{AreWeights};
-ghost use Rattle.shortest.specs.ShortestPath.{shortestPath};
+ghost use Rattle.paths.specs.ShortestPath.{shortestPath};
 
 fn fold(sum: u64, x: u64) -> u64 {
     (sum % 65521 * 31 + x % 4294967296) % 65521
@@ -53,9 +53,9 @@ fn one_path(p: Plan, t: &[[u32; 64]; 64], i: usize, j: usize, places: &mut [u16]
     let m = p.m as usize;
     let n = p.n as usize;
     let rows: &[[u32; 64]] = t;
-    let column = shortest::path::column_to(rows, j);
-    let chain = shortest::path::chain_of(&arcs[..m]);
-    shortest::path::path(&arcs[..m], &chain, &column[..n], i, j, places, 0)
+    let column = paths::path::column_to(rows, j);
+    let chain = paths::path::chain_of(&arcs[..m]);
+    paths::path::path(&arcs[..m], &chain, &column[..n], i, j, places, 0)
 }
 
 // The path from i to j, where there is one.

@@ -7,7 +7,7 @@ use crate::file::held_length;
 use crate::file::hold;
 use crate::file::no_file;
 use plan_file::reader::file_verdict;
-use planner::Planned;
+use solution::Planned;
 use refusal::Refusal;
 use refusal::Verdict;
 use windows::call::plan_call_at;

@@ -9,9 +9,9 @@ use Rattle.postman.specs.Refusal.{firstRefusal}
 use Rattle.postman.specs.Tour.{IsTour}
 use Rattle.postman.specs.PlanFile.{planOf}
 use Rattle.postman.specs.PlanCall.{callRefusal, earlierConditions}
-use Rattle.planner.specs.declared.Planned.{Planned}
+use Rattle.solution.specs.declared.Planned.{Planned}
 use Rattle.refusal.specs.Verdict.{verdictNumber}
-use Rattle.planner.specs.Planned.{IsPlanned}
+use Rattle.solution.specs.Planned.{IsPlanned}
 
 -- THE PLAN CALL on any bytes, any budget and any sheet. 12 is given exactly when no number before it applies and no drive exists.
 pub record IsPlanCall (bytes : List ℕ) (budget : ℕ) (old new : List ℕ) (r : Planned) : Type 0 where

@@ -1,8 +1,8 @@
 // The plan call on document 01's cases, at the limits, and on files with two faults, which show the order of refusals.
 use plan::Arc;
 use plan::Plan;
-use plan_file::writer::write_plan;
-use planner::Planned;
+use plan_writer::writer::write_plan;
+use solution::Planned;
 use planner::call::plan_call;
 use planner::call::short_call;
 use print::number;

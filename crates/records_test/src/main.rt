@@ -1,7 +1,7 @@
 // Lists of arc records, read and written in both editions: what each call answers, and what it leaves in the list or in the bytes.
 ghost use Prim.Native.Nat.{_≤_};
 use plan::Arc;
-use plan_file::Written;
+use plan_writer::Written;
 use print::bytes;
 use print::number;
 use print::text;

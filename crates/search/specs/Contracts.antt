@@ -8,19 +8,19 @@ use Rattle.postman.specs.Link.{Link}
 use Rattle.postman.specs.Component.{componentCount}
 use Rattle.postman.specs.Balancing.{heads, tails, completionCost}
 use Rattle.postman.specs.PlanCall.{triedCount, isWhole, bestCost, bestArborescence}
-use Rattle.balance.specs.Step.{cell, add}
-use Rattle.search.specs.declared.branch.Branch.{Branch}
+use Rattle.residual_search.specs.Step.{cell, add}
+use Rattle.branches.specs.declared.branch.Branch.{Branch}
 use Rattle.search.specs.declared.last.Completed.{Completed}
-use Rattle.search.specs.declared.pricing.Pricing.{Pricing}
-use Rattle.search.specs.declared.progress.Progress.{Progress}
+use Rattle.tree_bounds.specs.declared.pricing.Pricing.{Pricing}
+use Rattle.branches.specs.declared.progress.Progress.{Progress}
 use Rattle.search.specs.declared.tried.Searched.{Searched}
-use Rattle.search.specs.Links.{linksIn}
-use Rattle.search.specs.Progress.{tryTree, advance}
-use Rattle.search.specs.Bound.{Low}
-use Rattle.search.specs.Reducible.{AreLevelled, CanLevel}
-use Rattle.search.specs.Pricing.{Prices}
-use Rattle.search.specs.Holding.{heldOf}
-use Rattle.search.specs.Branches.{CanLink, chosenIn, repricedBranch, stateIn}
+use Rattle.branches.specs.Links.{linksIn}
+use Rattle.branches.specs.Progress.{tryTree, advance}
+use Rattle.tree_bounds.specs.Bound.{Low}
+use Rattle.tree_bounds.specs.Reducible.{AreLevelled, CanLevel}
+use Rattle.tree_bounds.specs.Pricing.{Prices}
+use Rattle.branches.specs.Holding.{heldOf}
+use Rattle.branches.specs.Branches.{CanLink, chosenIn, repricedBranch, stateIn}
 
 -- The link from tail to head can complete a tree, by the potentials w.
 pub record CanComplete (table : List (List ℕ)) (vs f : List ℕ) (b : Branch) (w : List ℕ) (tail head : ℕ) : Type 0 where

@@ -1,5 +1,5 @@
 -- The costs before i are in range.
-use Rattle.arborescence.specs.Picture.{highest}
+use Rattle.cheapest_tree.specs.Picture.{highest}
 use borrow.Author.Tests.{not-false}
 use native.Mathlib.Decide.{ℕ-discrete}
 use Rattle.integers.specs.Linear.{back64}

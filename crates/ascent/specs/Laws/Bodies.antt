@@ -7,11 +7,11 @@ use native.Mathlib.Omega.{arith}
 use borrow.Author.Tests.{lt-ltb, le-ltb, eq-eqb, ne-eqb}
 use lib.Seq.{set-getD}
 use lib.ListN.{getD, set, replicate}
-use Rattle.balance.specs.Step.{cell}
-use Rattle.ascent.specs.Heights.{capped, carried}
+use Rattle.residual_search.specs.Step.{cell}
+use Rattle.heights.specs.Heights.{capped, carried}
 use Rattle.ascent.specs.Relax.{backPlace, asks, follows, opened, demand, moveVertex, moveAll, ask, sweep, areClosed, sweeps, settled}
-use Rattle.ascent.specs.Offers.{Offers, offers}
-use Rattle.ascent.specs.Tree.{Sets, grown, along}
+use Rattle.ascent_tree.specs.Offers.{Offers, offers}
+use Rattle.ascent_tree.specs.Tree.{Sets, grown, along}
 use Rattle.ascent.specs.Step.{areSame, step}
 
 -- a height that changes, and one that does not

@@ -2,7 +2,7 @@
 use mathlib.Core.Path.{sym, ap, _∙_}
 use mathlib.Core.Bool.{Bool, _&&_}
 use native.Mathlib.Omega.{arith}
-use Rattle.balance.specs.Step.{cell}
+use Rattle.residual_search.specs.Step.{cell}
 use borrow.Author.Tests.{le-leb, lt-leb}
 use Rattle.balance_test.specs.Checks.{isShortest}
 use borrow.Author.Needs.{needs}

@@ -7,7 +7,7 @@ use lib.ListN.{length, take}
 use lib.Dec.{eqb}
 use borrow.Author.Tests.{not-true, not-false}
 use Rattle.postman.specs.Lists.{allOf}
-use Rattle.balance.specs.Step.{cell}
+use Rattle.residual_search.specs.Step.{cell}
 use lib.Seq.{take-all}
 use Rattle.balance_test.specs.Laws.{all-more, all-fails}
 use Rattle.balance_test.specs.Checks.{isRow, isTable}

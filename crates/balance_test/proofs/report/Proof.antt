@@ -3,7 +3,7 @@ use mathlib.Core.Path.{ap, subst⁻¹}
 use native.Mathlib.Omega.{arith}
 use borrow.Author.Tests.{not-false}
 use Rattle.postman.specs.Laws.Membership.{getD-mem}
-use Rattle.balance.specs.Step.{State, empty}
+use Rattle.residual_search.specs.Step.{State, empty}
 use Rattle.balance.specs.Invariant.{Certified}
 use Rattle.balance.specs.Laws.Arcs.{empty-certified}
 use borrow.Author.Needs.{needs}

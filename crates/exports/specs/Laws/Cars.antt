@@ -2,8 +2,8 @@
 use mathlib.Core.List.{List}
 use Prim.Native.Nat.{ℕ}
 use lib.IntN.{ℤ}
-use Rattle.planner.specs.declared.Planned.{Planned}
-use Rattle.exports.specs.Answer.{IsHandedOver}
+use Rattle.solution.specs.declared.Planned.{Planned}
+use Rattle.answers.specs.Answer.{IsHandedOver}
 use Rattle.exports.specs.Cars.{IsLeft}
 
 pub left : {r : Planned} {words words′ : List ℕ} {u u′ : List ℤ} {k : ℤ} → IsHandedOver r words words′ u u′ k → IsLeft r words words′ u u′

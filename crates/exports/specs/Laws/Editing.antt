@@ -13,13 +13,13 @@ use Rattle.refusal.specs.Verdict.{verdictNumber, orElse}
 use Rattle.open_plan.specs.declared.OpenPlan.{OpenPlan}
 use Rattle.open_plan.specs.declared.Moved.{Moved}
 use Rattle.postman.specs.Windows.{Departure}
-use Rattle.planner.specs.declared.Planned.{Planned}
+use Rattle.solution.specs.declared.Planned.{Planned}
 use Rattle.windows.specs.Contract.{IsPlanCallAt}
 use Rattle.open_plan.specs.State.{fileIn, heldOf, freshState, refusalOf, next}
 use Rattle.open_plan.specs.Contract.{IsOpened, IsMoved}
-use Rattle.exports.specs.Number.{oneNumber}
+use Rattle.answers.specs.Number.{oneNumber}
 use Rattle.exports.specs.Editing.{shortState, openRefusal, IsExportedOpen, moveRefusal, IsExportedMove}
-use Rattle.exports.specs.StateBytes.{openBytes, openIn, stateBytes, IsStored}
+use Rattle.open_plan_bytes.specs.StateBytes.{openBytes, openIn, stateBytes, IsStored}
 
 -- ---- files
 

@@ -13,9 +13,9 @@ use Rattle.postman.specs.PlanCall.{sheetPlaces}
 use Rattle.postman.specs.Judge.{highestPlaces}
 use Rattle.postman.specs.Laws.Judge.{call-judged}
 use Rattle.refusal.specs.Verdict.{verdictNumber}
-use Rattle.planner.specs.declared.Planned.{Planned}
+use Rattle.solution.specs.declared.Planned.{Planned}
 use Rattle.planner.specs.Contract.{IsPlanCall}
-use Rattle.planner.specs.Laws.Answered.{accepted, is-answer, cost-is, floor-is, tour-written}
+use Rattle.solution.specs.Laws.Answered.{accepted, is-answer, cost-is, floor-is, tour-written}
 use Rattle.judge.specs.declared.Judged.{Judged}
 use Rattle.judge.specs.Contract.{judgedAnswer, IsJudged}
 

@@ -9,9 +9,9 @@ use Rattle.open_plan.specs.declared.Held.{Held}
 use Rattle.open_plan.specs.declared.OpenPlan.{OpenPlan}
 use Rattle.open_plan.specs.State.{markIn}
 use Rattle.open_plan.specs.Laws.History.{Stands, keeps-size, mark-size}
-use Rattle.exports.specs.NumberBytes.{numberBytes}
-use Rattle.exports.specs.Laws.NumberBytes.{IsAt, first, second, number-back, bytes-back}
-use Rattle.exports.specs.StateBytes.{openBytes, heldIn, heldBytes, openIn, stateBytes}
+use Rattle.encoding.specs.NumberBytes.{numberBytes}
+use Rattle.encoding.specs.Laws.NumberBytes.{IsAt, first, second, number-back, bytes-back}
+use Rattle.open_plan_bytes.specs.StateBytes.{openBytes, heldIn, heldBytes, openIn, stateBytes}
 
 held-back : (h : Held) → length (h .file) ≡ 1475 → {all : List ℕ} {i : ℕ} → IsAt all i (heldBytes h) → heldIn all i ≡ h
 held-back h long {all} {i} s =

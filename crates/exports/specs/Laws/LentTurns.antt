@@ -22,12 +22,12 @@ use Rattle.districts.specs.Line.{District, Line, finishes}
 use Rattle.districts.specs.Runs.{Event, entry, turned}
 use Rattle.districts.specs.Machine.{districtOf, lineOf, admissionNumber, IsSound, IsEntered, IsServed, IsTurned}
 use Rattle.districts.specs.Laws.Led.{Led, led}
-use Rattle.exports.specs.Number.{oneNumber}
-use Rattle.exports.specs.NumberBytes.{longIn}
-use Rattle.exports.specs.MachineBytes.{districtsBytes, machineIn, machineBytes, IsSized}
+use Rattle.answers.specs.Number.{oneNumber}
+use Rattle.encoding.specs.NumberBytes.{longIn}
+use Rattle.machine_bytes.specs.MachineBytes.{districtsBytes, machineIn, machineBytes, IsSized}
 use Rattle.exports.specs.Turns.{IsStarted, LedLent}
-use Rattle.exports.specs.MachineStored.{admitted, IsEntryStored, hadTurn, IsTurnHandedOver}
-use Rattle.exports.specs.Laws.MachineBytes.{machine-long, machine-back}
+use Rattle.machine_bytes.specs.MachineStored.{admitted, IsEntryStored, hadTurn, IsTurnHandedOver}
+use Rattle.machine_bytes.specs.Laws.MachineBytes.{machine-long, machine-back}
 
 -- ---- the start
 

@@ -9,9 +9,9 @@ use Rattle.districts.specs.declared.machine.Machine.{Machine}
 use Rattle.districts.specs.declared.enter.Entered.{Entered}
 use Rattle.districts.specs.declared.turn.Turned.{Turned}
 use Rattle.districts.specs.Machine.{IsEntered, IsTurned}
-use Rattle.exports.specs.MachineBytes.{districtsBytes, machineIn}
+use Rattle.machine_bytes.specs.MachineBytes.{districtsBytes, machineIn}
 use Rattle.exports.specs.Turns.{IsExportedEntry, IsExportedTurn}
-use Rattle.exports.specs.MachineStored.{IsEntryStored, IsTurnHandedOver}
+use Rattle.machine_bytes.specs.MachineStored.{IsEntryStored, IsTurnHandedOver}
 
 -- ---- an entry
 

@@ -12,17 +12,17 @@ use Rattle.postman.specs.Arborescence.{candidates}
 use Rattle.postman.specs.Laws.Balancing.{within-heads, within-tails}
 use Rattle.postman.specs.Laws.Membership.{getD-mem, mem-getD}
 use Rattle.balance.specs.Optimality.{Feasible, Tight}
-use Rattle.balance.specs.Step.{State, cell, amount, potential, add}
+use Rattle.residual_search.specs.Step.{State, cell, amount, potential, add}
 use Rattle.balance.specs.Invariant.{Certified}
 use Rattle.balance.specs.Laws.Step.{add-certified, add-tight}
 use Rattle.balance.specs.Laws.Repriced.{repriced-certified, repriced-counted}
-use Rattle.search.specs.declared.branch.Branch.{Branch}
-use Rattle.search.specs.Prepared.{Prepared}
-use Rattle.search.specs.Branches.{chosenIn, stateIn, IsBranch, repricedBranch}
-use Rattle.search.specs.Reducible.{Near, CanLevel, AreLevelled}
-use Rattle.search.specs.Laws.Prepared.{candidate-ends, in-plan, metric}
-use Rattle.search.specs.Laws.Root.{some-vertex}
-use Rattle.search.specs.Laws.Below.{room}
+use Rattle.branches.specs.declared.branch.Branch.{Branch}
+use Rattle.tree_bounds.specs.Prepared.{Prepared}
+use Rattle.branches.specs.Branches.{chosenIn, stateIn, IsBranch, repricedBranch}
+use Rattle.tree_bounds.specs.Reducible.{Near, CanLevel, AreLevelled}
+use Rattle.tree_bounds.specs.Laws.Prepared.{candidate-ends, in-plan, metric}
+use Rattle.branches.specs.Laws.Root.{some-vertex}
+use Rattle.branches.specs.Laws.Below.{room}
 
 -- ---- one after the other
 

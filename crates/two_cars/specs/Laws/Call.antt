@@ -15,16 +15,16 @@ use Rattle.postman.specs.Theorem.{last-cut-off}
 use Rattle.postman.specs.Laws.Refusal.{first-on, first-stop}
 use Rattle.postman.specs.Laws.Marks.{car-roads, car-table, car-conditions, car-other, earlier-accepted-for, car-order}
 use Rattle.shortest.specs.Contracts.{AreWeights}
-use Rattle.shortest.specs.Laws.Roads.{weights-same}
+use Rattle.paths.specs.Laws.Roads.{weights-same}
 use Rattle.plan.specs.Records.{planValue}
 use Rattle.refusal.specs.declared.Refusal.{Refusal}
 use Rattle.refusal.specs.Verdict.{refusalNumber}
 use Rattle.plan_file.specs.declared.Reading.{Reading}
 use Rattle.plan_file.specs.Reading.{IsReading}
 use Rattle.plan_file.specs.Laws.Reading.{accepted-value}
-use Rattle.planner.specs.declared.Planned.{Planned}
-use Rattle.planner.specs.Tour.{tableOf}
-use Rattle.planner.specs.Planned.{IsPlanned}
+use Rattle.solution.specs.declared.Planned.{Planned}
+use Rattle.multipliers.specs.Tour.{tableOf}
+use Rattle.solution.specs.Planned.{IsPlanned}
 use Rattle.planner.specs.Laws.Refused.{refusedWith}
 use Rattle.planner.specs.Laws.Call.{refused-planned, planned-as}
 use Rattle.two_cars.specs.Contract.{IsCar}

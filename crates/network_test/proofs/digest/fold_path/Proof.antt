@@ -13,10 +13,10 @@ use Rattle.plan.specs.declared.Plan.{Plan as PlanRecord}
 use Rattle.plan.specs.Records.{planValue}
 use Rattle.shortest.specs.Contracts.{AreWeights}
 use Rattle.shortest.specs.Weight.{weighted, unweighted}
-use Rattle.shortest.specs.ShortestPath.{shortestPath}
+use Rattle.paths.specs.ShortestPath.{shortestPath}
 use Rattle.plan.specs.Laws.Records.{plan-vertices}
 use Rattle.shortest.specs.Laws.Weight.{is-weighted, distance-weight}
-use Rattle.shortest.specs.Laws.ShortestPath.{shortest-path}
+use Rattle.paths.specs.Laws.ShortestPath.{shortest-path}
 use borrow.Author.Needs.{needs}
 use Rattle.network_test.proofs.digest.fold_path.Statement.{statement}
 use Rattle.network_test.proofs.digest.fold_path.Tie as tie

@@ -13,9 +13,9 @@ use Rattle.plan.specs.Rows.{planIn}
 use Rattle.plan.specs.Laws.Rows.{rows-length, rows-vertices}
 use Rattle.plan.specs.Laws.Records.{record-arcs, record-vertices, plan-vertices}
 use Rattle.shortest.specs.Contracts.{AreWeights, IsColumn}
-use Rattle.shortest.specs.Leaving.{tailOf, IsChain}
-use Rattle.shortest.specs.Laws.Lookup.{row-ends}
-use Rattle.shortest.specs.ShortestPath.{shortestPath}
+use Rattle.paths.specs.Leaving.{tailOf, IsChain}
+use Rattle.paths.specs.Laws.Lookup.{row-ends}
+use Rattle.paths.specs.ShortestPath.{shortestPath}
 use borrow.Author.Needs.{needs}
 use Rattle.network_test.proofs.digest.one_path.Statement.{statement}
 use Rattle.network_test.proofs.digest.one_path.Tie as tie

@@ -1,6 +1,0 @@
--- What a search by value stands for.
-use Rattle.balance.specs.declared.search.Found.{Found as FoundRecord}
-use Rattle.balance.specs.Search.{Found}
-
-abbrev pub foundOf : FoundRecord → Found
-foundOf r = record { distance = r .distance; next = r .next; rank = r .rank }
