@@ -2,9 +2,9 @@
 ghost use mathlib.Core.Path.{_≡_};
 ghost use Rattle.answers.specs.Answer.{wordsOf, putFirst, IsHandedOver};
 use crate::number::refused_number;
-use solution::Planned;
 use records::writer::at_most;
 use refusal::Verdict;
+use solution::Planned;
 
 // The words of an answer: places, cost, floor, trees, whole as 0 or 1, parts. The floor of a plan call's answer is at least 0, since R + Z is.
 pub fn words(r: Planned) -> [u64; 6]

@@ -1,6 +1,6 @@
 // Arborescences in order, and the least cost of one, for small layouts and for matrices made by a formula.
-use cheapest_tree::cheapest;
 use arborescence::order;
+use cheapest_tree::cheapest;
 use libc::STDOUT_FILENO;
 ghost use mathlib.Core.Path.{_≡_};
 ghost use mathlib.Core.Bool.{true};

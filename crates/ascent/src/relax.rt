@@ -1,9 +1,9 @@
 // Heights brought back under document 01's two conditions: every vertex whose height changed asks of all others, until none is open.
 use heights::heights::larger;
+use integers::wide;
 use residual_search::entries::lesser;
 use residual_search::entries::monus;
 use residual_search::entries::vertex;
-use integers::wide;
 ghost use mathlib.Core.Path.{_≡_};
 ghost use mathlib.Core.Bool.{_&&_};
 ghost use Prim.Native.Nat.{_<_, _≤_};

@@ -1,12 +1,12 @@
 // One step of the ascent.
-use heights::heights::carry_on;
-use ascent_tree::offers::offers;
 use crate::relax::settle;
+use ascent_tree::offers::offers;
 use ascent_tree::tree::bit;
 use ascent_tree::tree::follow;
 use ascent_tree::tree::grow;
-use residual_search::entries::vertex;
+use heights::heights::carry_on;
 use integers::wide;
+use residual_search::entries::vertex;
 ghost use mathlib.Core.Path.{_≡_};
 ghost use mathlib.Core.Bool.{_&&_};
 ghost use Prim.Native.Nat.{_<_, _≤_};

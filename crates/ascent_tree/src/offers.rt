@@ -1,8 +1,8 @@
 // The cheapest pair for each two components.
 use heights::heights::height;
+use integers::wide;
 use residual_search::entries::monus;
 use residual_search::entries::vertex;
-use integers::wide;
 ghost use mathlib.Core.Path.{_≡_};
 ghost use Prim.Native.Nat.{_*_, _<_, _≤_};
 ghost use Rattle.residual_search.specs.Bounds.{AtMost};
@@ -79,12 +79,7 @@ pub struct Cheapest {
 }
 
 // All pairs are offered.
-pub fn offers(
-    d: &[[u32; 64]; 64],
-    x: &[u64; 64],
-    component: &[u8; 64],
-    vs: &[u8],
-) -> Cheapest
+pub fn offers(d: &[[u32; 64]; 64], x: &[u64; 64], component: &[u8; 64], vs: &[u8]) -> Cheapest
     requires { ⌜ AtMost 63 (now vs) ⌝ }
     ensures { λ r. ⌜ (r .costs, r .pairs) ≡ offersOf (now (d .entry)) (now (x .entry)) (now (component .entry)) (now (vs .entry)) ⌝ }
 {

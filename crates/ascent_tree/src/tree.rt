@@ -1,9 +1,9 @@
 // A cheapest tree, by sets of components, and a step along its links.
-use heights::heights::height;
 use arborescence::reach::single;
+use heights::heights::height;
+use integers::wide;
 use residual_search::entries::lesser;
 use residual_search::entries::monus;
-use integers::wide;
 ghost use mathlib.Core.Path.{_≡_};
 ghost use mathlib.Core.Bool.{cond, _&&_};
 ghost use Prim.Native.Nat.{_^_, _<_, _≤_};

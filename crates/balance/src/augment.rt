@@ -1,9 +1,9 @@
 // One unit more along a path, and the potentials raised.
+use integers::wide;
 use residual_search::entries::following;
 use residual_search::entries::lesser;
 use residual_search::entries::level;
 use residual_search::entries::vertex;
-use integers::wide;
 ghost use mathlib.Core.Path.{_≡_};
 ghost use mathlib.Core.Logic.{_⊎_};
 ghost use Prim.Native.Nat.{_+_, _<_, _≤_};

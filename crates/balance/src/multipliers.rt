@@ -1,10 +1,10 @@
 // The greatest multipliers that are 0 at a root.
-use residual_search::entries::level;
-use residual_search::entries::vertex;
-use residual_search::search::search_towards;
 use crate::state::Balance;
 use integers::difference;
 use integers::wide;
+use residual_search::entries::level;
+use residual_search::entries::vertex;
+use residual_search::search::search_towards;
 ghost use mathlib.Core.Path.{_≡_};
 ghost use mathlib.Core.List.{List·Memᴰ};
 ghost use Prim.Native.Nat.{_<_};

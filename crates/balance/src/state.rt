@@ -1,10 +1,10 @@
 // The state of a balancing, and arcs added to it.
 use crate::augment::augment_along;
 use crate::augment::raise_by;
+use integers::wide;
 use residual_search::entries::monus;
 use residual_search::search::search_towards;
 use residual_search::search::settled_by;
-use integers::wide;
 ghost use mathlib.Core.Path.{_≡_};
 ghost use mathlib.Core.List.{List·Memᴰ};
 ghost use Prim.Native.Nat.{_+_, _<_, _≤_};

@@ -1,2 +1,3 @@
 -- Tests of a table and of lists of vertices, and what they tell.
 pub mod Checks
+pub mod Laws

@@ -1,10 +1,10 @@
 // A branch: the trees that begin with the same choices for components 1 to a - 1.
 use crate::candidate::Candidate;
 use crate::names::renamed;
-use tree_bounds::reduced::long;
-use tree_bounds::reduced::shifted;
 use balance::state::Balance;
 use integers::wide;
+use tree_bounds::reduced::long;
+use tree_bounds::reduced::shifted;
 use tree_count::count::counts;
 use tree_count::count::merge;
 ghost use mathlib.Core.Path.{_≡_};

@@ -1,7 +1,7 @@
 // The tour: the legs laid, put in order, and written.
-use hierholzer::hierholzer::arrange;
 use crate::legs::lay;
 use crate::places::write;
+use hierholzer::hierholzer::arrange;
 use plan::Plan;
 ghost use mathlib.Core.Path.{_≡_};
 ghost use Prim.Native.Nat.{_≤_};

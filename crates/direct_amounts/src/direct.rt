@@ -1,7 +1,7 @@
 // Amounts from surplus to deficit only.
-use residual_search::entries::vertex;
 use balance::state::Balance;
 use integers::wide;
+use residual_search::entries::vertex;
 ghost use mathlib.Core.Path.{_≡_};
 ghost use mathlib.Core.List.{List·Memᴰ};
 ghost use Prim.Native.Nat.{_+_, _<_, _≤_, min};

@@ -1,19 +1,19 @@
 // A district's turn, over its plan.
 use crate::tree::is_tree;
 use balance::state::Balance;
-use network::network::Network;
-use plan::Plan;
-use solution::Planned;
 use multipliers::ascend::multipliers_for;
-use planner::call::network_verdict;
 use multipliers::prepare::base_state;
 use multipliers::prepare::multipliers_of;
+use network::network::Network;
+use plan::Plan;
+use planner::call::network_verdict;
+use refusal::Verdict;
+use search::tried::Searched;
+use solution::Planned;
 use solution::solve::conclude;
 use solution::trees::Reached;
 use solution::trees::Resumed;
 use solution::trees::resume;
-use refusal::Verdict;
-use search::tried::Searched;
 ghost use mathlib.Core.Path.{_≡_};
 ghost use mathlib.Core.Bool.{true, false};
 ghost use mathlib.Core.Option.{none};

@@ -5,15 +5,15 @@ ghost use Rattle.encoding.specs.RecordBytes.{arcsIn};
 ghost use Rattle.answers.specs.Number.{oneNumber};
 ghost use Rattle.exports.specs.Codec.{lentAfter, lentPlan};
 ghost use Rattle.answers.specs.FileNumber.{packed};
+use answers::file_number::edition_of;
+use answers::file_number::read_number;
+use answers::file_number::vertices_of;
+use answers::file_number::written_number;
 use encoding::record_bytes::load_records;
 use encoding::record_bytes::store_arcs;
 use records::reader::arcs_read;
 use records::reader::read_answer;
 use records::writer::write_arcs;
-use answers::file_number::read_number;
-use answers::file_number::written_number;
-use answers::file_number::vertices_of;
-use answers::file_number::edition_of;
 
 // Reading, from any bytes into any list of records, seven bytes each: 65,536 times the edition, and 512 n + m, with the file's arcs in the list from its start and the bytes after them untouched; or
 // minus the number of the first refusal by document 01's order, with every byte untouched.

@@ -8,10 +8,10 @@ ghost use Rattle.postman.specs.Refusal.{answer};
 ghost use Rattle.exports.specs.Editing.{IsExportedOpen, IsExportedMove, IsExportedAsk};
 use answers::answer::hand_over;
 use answers::number::refused_number;
-use refusal::Refusal;
 use open_plan_bytes::state_bytes::load;
-use open_plan_bytes::state_bytes::store_moved;
 use open_plan_bytes::state_bytes::short_number;
+use open_plan_bytes::state_bytes::store_moved;
+use refusal::Refusal;
 
 // OPENING a plan. A slice that is too short for the state is refused as 8, after 1 to 7 and 13.
 #[no_mangle]

@@ -1,11 +1,11 @@
 // Eight districts in turn, for callers in other languages. The machine is lent.
 ghost use Rattle.exports.specs.Turns.{IsStarted, IsExportedEntry, IsExportedTurn};
-use machine_bytes::machine_bytes::load_machine;
 use answers::number::refused_number;
 use encoding::number_bytes::put_bytes;
-use refusal::Refusal;
-use machine_bytes::machine_stored::store_entered;
+use machine_bytes::machine_bytes::load_machine;
 use machine_bytes::machine_stored::hand_turn_over;
+use machine_bytes::machine_stored::store_entered;
+use refusal::Refusal;
 
 // THE START: a machine with no district inside, which is zeros. A slice that is too short for the machine is refused as 8, here and in what follows first.
 #[no_mangle]

@@ -1,10 +1,10 @@
 // Heights, which stand for multipliers.
-use residual_search::entries::lesser;
-use residual_search::entries::monus;
-use residual_search::entries::vertex;
 use integers::difference;
 use integers::magnitude;
 use integers::wide;
+use residual_search::entries::lesser;
+use residual_search::entries::monus;
+use residual_search::entries::vertex;
 ghost use mathlib.Core.Path.{_≡_};
 ghost use Prim.Native.Nat.{ℕ, _<_, _≤_, max};
 ghost use lib.IntN.{pos};

@@ -1,7 +1,7 @@
 // The test of heights.
 use crate::heights::height;
-use residual_search::entries::vertex;
 use integers::wide;
+use residual_search::entries::vertex;
 ghost use mathlib.Core.Path.{_≡_};
 ghost use mathlib.Core.Bool.{_&&_};
 ghost use Prim.Native.Nat.{_<_, _≤_};

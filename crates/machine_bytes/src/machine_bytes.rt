@@ -7,15 +7,15 @@ ghost use lib.ListN.{length, drop};
 ghost use Rattle.postman.specs.Lists.{below};
 ghost use Rattle.encoding.specs.NumberBytes.{putAt};
 ghost use Rattle.machine_bytes.specs.MachineBytes.{districtsBytes, reachedIn, reachedBytes, districtIn, districtBytes, machineIn, machineBytes, IsReachedSized, IsDistrictSized, AreSized, IsSized};
-use open_plan_bytes::state_bytes::load_file;
+use districts::machine::District;
+use districts::machine::Machine;
 use encoding::number_bytes::eight_at;
 use encoding::number_bytes::long_at;
 use encoding::number_bytes::put_bytes;
 use encoding::number_bytes::put_long;
 use encoding::number_bytes::put_word;
 use encoding::number_bytes::word_at;
-use districts::machine::District;
-use districts::machine::Machine;
+use open_plan_bytes::state_bytes::load_file;
 use solution::trees::Reached;
 
 // What a district holds of the trees tried, from `at` on.

@@ -3,10 +3,10 @@ ghost use Prim.Native.Nat.{_≤_};
 ghost use lib.ListN.{length};
 ghost use Rattle.machine_bytes.specs.MachineBytes.{districtsBytes};
 ghost use Rattle.machine_bytes.specs.MachineStored.{IsEntryStored, IsTurnHandedOver};
+use crate::machine_bytes::store_machine;
 use answers::answer::put_multipliers;
 use answers::answer::put_words;
 use answers::answer::words;
-use crate::machine_bytes::store_machine;
 use answers::number::refused_number;
 use districts::enter::Admission;
 use districts::enter::Entered;
@@ -31,7 +31,12 @@ pub fn store_entered(machine: &mut [u8], r: Entered) -> i64
 }
 
 // Where a district had its turn, the machine and the words are put, and the multipliers in its last one.
-pub fn hand_turn_over(r: Turned, machine: &mut [u8], words_lent: &mut [u64], u_lent: &mut [i64]) -> i64
+pub fn hand_turn_over(
+    r: Turned,
+    machine: &mut [u8],
+    words_lent: &mut [u64],
+    u_lent: &mut [i64],
+) -> i64
     requires { ⌜ districtsBytes ≤ length (now machine) ⌝ }
     ensures { λ k. ⌜ IsTurnHandedOver r (now (machine .entry)) (now (machine .exit)) (now («words_lent» .entry)) (now («words_lent» .exit)) (now («u_lent» .entry)) (now («u_lent» .exit)) k ⌝ }
 {

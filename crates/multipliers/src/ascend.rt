@@ -1,10 +1,10 @@
 // The multipliers that are answered: steps from the greatest ones on, of which the first with the largest bound is kept.
 // What is read at each step is lent: f are the amounts of the state of the required arcs, and price their cost; cost is R.
 use crate::bound::lagrangian;
-use residual_search::entries::lesser;
 use balance::state::Balance;
 use network::network::Network;
 use plan::Plan;
+use residual_search::entries::lesser;
 ghost use mathlib.Core.Path.{_≡_};
 ghost use mathlib.Core.Bool.{cond};
 ghost use Prim.Native.Nat.{_≤_, max};

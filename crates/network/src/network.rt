@@ -1,12 +1,12 @@
 // The network of a plan.
-use components::components::components_of;
 use crate::cut_off::is_cut_off;
+use crate::thinning::pairs;
+use crate::thinning::thin;
+use components::components::components_of;
+use plan::Plan;
 use required::required_sum::imbalance;
 use required::required_sum::required_cost;
 use required::required_vertex::required;
-use crate::thinning::pairs;
-use crate::thinning::thin;
-use plan::Plan;
 ghost use Rattle.postman.specs.Plan.{WellFormed};
 ghost use Rattle.plan.specs.Records.{planValue};
 ghost use Rattle.shortest.specs.Contracts.{IsTable};

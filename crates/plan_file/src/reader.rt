@@ -11,14 +11,14 @@ ghost use Rattle.refusal.specs.Verdict.{verdictNumber};
 ghost use Rattle.plan.specs.Records.{recordOf, recordsOf, planRecord, noPlan};
 ghost use Rattle.plan_file.specs.Reading.{planFrom, extentOn, IsReading};
 use crate::Reading;
+use bits::reader::take_at;
+use plan::Arc;
+use plan::Plan;
 use plan_arcs::arcs::arc_fields;
 use plan_arcs::arcs::field_verdict;
 use plan_arcs::arcs::file_bits;
 use plan_arcs::arcs::is_outside;
 use plan_arcs::repeated::repeated_verdict;
-use bits::reader::take_at;
-use plan::Arc;
-use plan::Plan;
 use refusal::Refusal;
 use refusal::Verdict;
 

@@ -1,11 +1,11 @@
 // What is written is read back.
 ghost use Rattle.plan_writer.specs.Reread.{IsReread};
-use plan_file::Reading;
 use crate::Written;
-use plan_file::reader::no_plan;
-use plan_file::reader::read_plan;
 use crate::writer::write_plan;
 use plan::Plan;
+use plan_file::Reading;
+use plan_file::reader::no_plan;
+use plan_file::reader::read_plan;
 use refusal::Verdict;
 
 // What is read from the file of p in an edition: that edition and p itself, or the refusal of writing it. Every file has room in 1,475 bytes.

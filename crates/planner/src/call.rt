@@ -1,12 +1,12 @@
 // The plan call: the refusals in document 01's order, and the answer.
-use solution::Planned;
-use solution::solve::solve;
 use budget::Budget;
 use budget::Checked;
 use network::network::Network;
 use plan::Plan;
 use refusal::Refusal;
 use refusal::Verdict;
+use solution::Planned;
+use solution::solve::solve;
 ghost use mathlib.Core.Path.{_≡_};
 ghost use mathlib.Core.Option.{none};
 ghost use Prim.Native.Nat.{_≤_};

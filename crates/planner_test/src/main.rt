@@ -2,12 +2,12 @@
 use plan::Arc;
 use plan::Plan;
 use plan_writer::writer::write_plan;
-use solution::Planned;
 use planner::call::plan_call;
 use planner::call::short_call;
 use print::number;
 use print::text;
 use refusal::Verdict;
+use solution::Planned;
 ghost use Prim.Native.Nat.{_<_};
 
 // ---- what is printed

@@ -1,15 +1,15 @@
 // The trees of a branch, in order.
+use crate::last::last;
 use branches::branch::Branch;
 use branches::branch::below;
 use branches::candidate::Candidate;
 use branches::candidate::candidate_at;
-use crate::last::last;
-use tree_bounds::pricing::Pricing;
-use tree_bounds::pricing::bounded;
-use tree_bounds::pricing::lifted;
 use branches::progress::Progress;
 use branches::progress::entered;
 use branches::progress::passed;
+use tree_bounds::pricing::Pricing;
+use tree_bounds::pricing::bounded;
+use tree_bounds::pricing::lifted;
 use tree_bounds::reduced::reduced;
 ghost use mathlib.Core.Path.{_≡_};
 ghost use mathlib.Core.List.{List, [], _∷_, _++_};

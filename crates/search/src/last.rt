@@ -1,17 +1,17 @@
 // The trees of a branch in which the last component alone is left to be chosen for.
+use crate::explore::Explored;
 use branches::branch::Branch;
 use branches::branch::placed;
 use branches::candidate::candidate_at;
-use crate::explore::Explored;
-use tree_bounds::level::levelled;
-use tree_bounds::pricing::Pricing;
 use branches::progress::Progress;
 use branches::progress::completed;
 use branches::progress::entered;
 use branches::progress::passed;
+use integers::wide;
+use tree_bounds::level::levelled;
+use tree_bounds::pricing::Pricing;
 use tree_bounds::reduced::long;
 use tree_bounds::reduced::reduced;
-use integers::wide;
 ghost use mathlib.Core.Path.{_≡_};
 ghost use Prim.Native.Nat.{_+_};
 ghost use Rattle.postman.specs.Plan.{Plan};

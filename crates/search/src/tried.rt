@@ -1,6 +1,6 @@
 // All trees in document 01's order, at most as many as the budget: the first of least completion cost is kept.
-use branches::branch::Branch;
 use crate::explore::explore;
+use branches::branch::Branch;
 use branches::progress::Progress;
 use branches::progress::completed;
 use tree_count::total::total;

@@ -4,3 +4,4 @@ pub mod Weight
 pub mod Outside
 pub mod Relaxation
 pub mod Columns
+pub mod Roads

@@ -1,12 +1,12 @@
 // The answer of a plan that is not refused.
 use crate::Planned;
-use multipliers::ascend::multipliers_for;
-use multipliers::bound::floor_of;
 use crate::lay::lay;
-use multipliers::prepare::base_state;
-use multipliers::prepare::multipliers_of;
 use crate::trees::best;
 use balance::state::Balance;
+use multipliers::ascend::multipliers_for;
+use multipliers::bound::floor_of;
+use multipliers::prepare::base_state;
+use multipliers::prepare::multipliers_of;
 use network::network::Network;
 use plan::Plan;
 use refusal::Verdict;

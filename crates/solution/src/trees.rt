@@ -1,10 +1,10 @@
 // The trees of a plan that is not refused, in order, at most as many as the budget.
 use balance::state::Balance;
+use branches::branch::Branch;
+use branches::progress::Progress;
 use candidates::Candidates;
 use network::network::Network;
 use plan::Plan;
-use branches::branch::Branch;
-use branches::progress::Progress;
 use search::tried::Searched;
 use search::tried::lesser;
 use tree_count::entries::entries_of;

@@ -19,7 +19,7 @@ use Rattle.postman.specs.Laws.Membership.{select-mem, select-cong, getD-mem, an
 use Rattle.postman.specs.Laws.Distance.{InPlan, bounded}
 use Rattle.postman.specs.Laws.Required.{required-ends, required-lt}
 use Rattle.postman.specs.Laws.Component.{undirected, joined-walk, walk-joined, walk-component, component-walk, component-at}
-use Rattle.paths.specs.Laws.FirstNumber.{index-none}
+use Rattle.postman.specs.Laws.FirstNumber.{index-none}
 use Rattle.required.specs.Contracts.{IsRequiredFlags}
 use Rattle.components.specs.Labels.{Labelled, isRoot, rootsBelow, numberOf}
 use Rattle.required.specs.Laws.Search.{is-true, is-false}

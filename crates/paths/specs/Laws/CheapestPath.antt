@@ -22,7 +22,7 @@ use Rattle.postman.specs.Laws.FewestPath.{not-before, none-before}
 use Rattle.postman.specs.Laws.Distance.{InPlan, distance-self, distance-le, distance-walk, distance-arc}
 use Rattle.paths.specs.ShortestPath.{begins, nextArc, pathWithin, cheapestPath}
 use Rattle.shortest.specs.Weight.{entered}
-use Rattle.paths.specs.Laws.FirstNumber.{first-lt, first-le, first-test}
+use Rattle.postman.specs.Laws.FirstNumber.{first-lt, first-le, first-test}
 use Rattle.paths.specs.Laws.Rank.{select-lt, select-all}
 use Rattle.shortest.specs.Laws.Weight.{IsWeighted}
 

@@ -15,7 +15,7 @@ use Rattle.postman.specs.Theorem.{last-cut-off}
 use Rattle.postman.specs.Laws.Refusal.{first-on, first-stop}
 use Rattle.postman.specs.Laws.Marks.{car-roads, car-table, car-conditions, car-other, earlier-accepted-for, car-order}
 use Rattle.shortest.specs.Contracts.{AreWeights}
-use Rattle.paths.specs.Laws.Roads.{weights-same}
+use Rattle.shortest.specs.Laws.Roads.{weights-same}
 use Rattle.plan.specs.Records.{planValue}
 use Rattle.refusal.specs.declared.Refusal.{Refusal}
 use Rattle.refusal.specs.Verdict.{refusalNumber}

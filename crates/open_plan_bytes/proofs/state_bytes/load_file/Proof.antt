@@ -4,7 +4,7 @@ use Prim.Native.Nat.{ℕ, _+_, _-_, _≤_}
 use native.Mathlib.Omega.{arith}
 use lib.ListN.{length, drop, length-drop, length-replicate}
 use lib.Seq.{getD-drop}
-use Rattle.open_plan.specs.Laws.Copy.{IsPasted, paste-start, paste-more, paste-end}
+use Rattle.postman.specs.Laws.Copy.{IsPasted, paste-start, paste-more, paste-end}
 use Rattle.open_plan.specs.Laws.Held.{zeros}
 use Rattle.open_plan_bytes.specs.Laws.StateBytes.{loaded-file}
 use borrow.Author.Needs.{needs}
