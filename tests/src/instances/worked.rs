@@ -20,6 +20,11 @@ pub fn ties() -> Plan {
     Plan::new(4, musts.into_iter().chain(pairs.map(|(v, w)| Arc::new(v, w, OPTIONAL, 1))).collect())
 }
 
+/// The must arc to 1 is checked once and passed again, as two must arcs lead back.
+pub fn two_ways_back() -> Plan {
+    Plan { edition: 2, n: 2, arcs: vec![Arc::checked(0, 1, 2, 7), Arc::checked(1, 0, 1, 1), Arc::checked(1, 0, 3, 3)] }
+}
+
 /// Parallel arcs, the cheapest of them closed; a closed arc that would join; a vertex that no arc reaches.
 pub fn parallel() -> Plan {
     let arcs = [
@@ -33,8 +38,8 @@ pub fn parallel() -> Plan {
     Plan::new(5, arcs.map(|(t, h, standing, cost)| Arc::new(t, h, standing, cost)).into())
 }
 
-/// Four must loops: part 1 is entered from 2 or 3, part 2 from 1 or 3, and part 3 from 0 alone. Of the four choices for 1 and 2 one leaves a circle. The first of the
-/// other three costs 39, the second 37.
+/// Four must loops: part 1 is entered from 2 or 3, part 2 from 1 or 3, and part 3 from 0 alone. One of the four choices for 1 and 2 leaves a
+/// circle. The first tree of the other three costs 39, the second 37.
 pub fn bound_choices() -> Plan {
     let ways = [(0, 3, 10), (3, 1, 10), (3, 2, 10), (2, 1, 5), (1, 2, 3), (1, 0, 10), (2, 0, 10)];
     let loops = (0..4).map(|v| Arc::new(v, v, REQUIRED, 1));

@@ -1,7 +1,7 @@
 //! Files spelt in bytes, which nothing of this package wrote.
 
 use super::stated::{case_a, case_b, case_c, case_d, case_e, loops, plan};
-use crate::instances::free_circles;
+use crate::instances::{free_circles, two_ways_back};
 use crate::plan::{Arc, Plan, CLOSED, OPTIONAL, REQUIRED};
 use crate::planner::{Codec, Refusal};
 use crate::properties::{examine_codec, Findings, Property};
@@ -9,13 +9,6 @@ use crate::properties::{examine_codec, Findings, Property};
 /// The bytes that pairs of hexadecimal digits spell.
 fn spelt(digits: &str) -> Vec<u8> {
     digits.split_whitespace().map(|pair| u8::from_str_radix(pair, 16).expect("two digits")).collect()
-}
-
-/// Case A with another arc after it.
-fn case_a_and(arc: Arc) -> Plan {
-    let mut plan = case_a();
-    plan.arcs.push(arc);
-    plan
 }
 
 /// A plan of edition 2 between two vertices.
@@ -64,7 +57,7 @@ fn first_edition() -> Vec<(&'static str, &'static str, Plan)> {
         (
             "A and arc 0 at another cost",
             "10 40 30 01 40 01 41 00 00 03 00 14 00 18",
-            case_a_and(Arc::new(0, 1, REQUIRED, 6)),
+            plan(2, &[must, (1, 0, OPTIONAL, 3), (0, 1, REQUIRED, 6)]),
         ),
     ]
 }
@@ -72,7 +65,6 @@ fn first_edition() -> Vec<(&'static str, &'static str, Plan)> {
 fn second_edition() -> Vec<(&'static str, &'static str, Plan)> {
     let must = |service| Arc::checked(0, 1, 5, service);
     let back = Arc::new(1, 0, OPTIONAL, 3);
-    let ways = [Arc::checked(0, 1, 2, 7), Arc::checked(1, 0, 1, 1), Arc::checked(1, 0, 3, 3)];
     vec![
         ("A checked at its cost", "20 40 20 01 40 01 40 01 41 00 00 03 00 00", second(&[must(5), back])),
         ("A checked at 1", "20 40 20 01 40 01 40 00 41 00 00 03 00 00", second(&[must(1), back])),
@@ -99,7 +91,7 @@ fn second_edition() -> Vec<(&'static str, &'static str, Plan)> {
             "20 40 30 01 40 01 40 02 41 00 00 03 00 00 00 14 00 14 00 20",
             second(&[must(9), back, must(8)]),
         ),
-        ("two must arcs back", "20 40 30 01 40 00 80 01 c1 01 00 01 00 01 04 04 00 0c 00 0c", second(&ways)),
+        ("two must arcs back", "20 40 30 01 40 00 80 01 c1 01 00 01 00 01 04 04 00 0c 00 0c", two_ways_back()),
     ]
 }
 
