@@ -54,10 +54,33 @@ fn copies(signature: &str) -> bool {
     by_value("[[u32;64];64]") || by_value("Plan") || by_value("plan::Plan")
 }
 
-fn sources(crates: &[&str]) -> String {
+/// A crate and all crates that it rests on, by crates.txt.
+fn with_what_it_rests_on(name: &str) -> Vec<String> {
+    let list =
+        std::fs::read_to_string(Path::new(env!("CARGO_MANIFEST_DIR")).join("../crates.txt")).expect("crates.txt");
+    let rests_on: BTreeMap<&str, Vec<&str>> = list
+        .lines()
+        .filter_map(|line| line.split('#').next().expect("the part before a comment").split_once(':'))
+        .map(|(name, others)| (name, others.split_whitespace().collect()))
+        .collect();
+    let mut found = vec![name.to_owned()];
+    let mut at = 0;
+    while at < found.len() {
+        for other in rests_on.get(found[at].as_str()).unwrap_or_else(|| panic!("no crate {}", found[at])) {
+            if rests_on.contains_key(other) && !found.iter().any(|name| name == other) {
+                found.push((*other).to_owned());
+            }
+        }
+        at += 1;
+    }
+    found
+}
+
+/// The sources of a crate and of all that it rests on.
+fn sources(name: &str) -> String {
     let folder = Path::new(env!("CARGO_MANIFEST_DIR")).join("../crates");
     let mut text = String::new();
-    for name in crates {
+    for name in with_what_it_rests_on(name) {
         let files = std::fs::read_dir(folder.join(name).join("src")).expect("the sources of a crate");
         let mut files: Vec<_> = files.map(|file| file.expect("a file").path()).collect();
         files.sort();
@@ -71,7 +94,7 @@ fn sources(crates: &[&str]) -> String {
 /// `write` of the circuit writes the legs, one call of `write_leg` each.
 #[test]
 fn a_leg_copies_neither_the_table_nor_the_plan() {
-    let all = functions(&sources(&["circuit", "shortest"]));
+    let all = functions(&sources("circuit"));
     let way = reached(&all, "write");
     for name in ["write_leg", "path", "column_to", "next_arc", "leads"] {
         assert!(way.iter().any(|other| other == name), "`{name}` is not on the way of a leg: {way:?}");
@@ -83,7 +106,7 @@ fn a_leg_copies_neither_the_table_nor_the_plan() {
 /// The distance call searches from one vertex at a time.
 #[test]
 fn a_page_computes_no_table() {
-    let all = functions(&sources(&["distances", "shortest"]));
+    let all = functions(&sources("distances"));
     let way = reached(&all, "distance_call");
     assert!(way.iter().any(|name| name == "row"), "no row is computed: {way:?}");
     assert!(way.iter().all(|name| name != "table"), "the table is computed: {way:?}");
@@ -92,7 +115,7 @@ fn a_page_computes_no_table() {
 /// The call for two cars computes both tables, each in one place, and nothing that it does for a car computes one.
 #[test]
 fn two_cars_share_the_tables() {
-    let all = functions(&sources(&["two_cars", "planner", "network", "circuit", "shortest"]));
+    let all = functions(&sources("two_cars"));
     let (_, body) = &all["two_cars"];
     for table in ["weights::table(", "distance::table_of("] {
         assert_eq!(body.matches(table).count(), 1, "{table}");
