@@ -3,8 +3,8 @@
 use libc::STDOUT_FILENO;
 use plan::Arc;
 use plan::Plan;
-use plan_writer::Written;
 use plan_file::reader::read_plan;
+use plan_writer::Written;
 use plan_writer::round_trip::reread;
 use records::arrays::Filled;
 use records::arrays::read_array;

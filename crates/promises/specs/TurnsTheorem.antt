@@ -25,11 +25,11 @@ use Rattle.districts.specs.Theorem.{as-entered, finished-as-plan-call}
 use Rattle.districts.specs.Laws.Led.{led}
 use Rattle.answers.specs.Number.{oneNumber}
 use Rattle.answers.specs.Answer.{wordsOf, putFirst}
 use Rattle.exports.specs.Call.{IsExportedCall}
 use Rattle.machine_bytes.specs.MachineBytes.{districtsBytes, machineIn, machineBytes}
 use Rattle.exports.specs.Turns.{IsExportedEntry, IsExportedTurn, LedLent}
 use Rattle.machine_bytes.specs.MachineStored.{outcomeNumber, hadTurn, hadLast, IsTurnHandedOver}
-use Rattle.exports.specs.Laws.LentTurns.{lent-led, admitted-is}
+use Rattle.promises.specs.Laws.LentTurns.{lent-led, admitted-is}
 
 -- AN ENTRY answers the lowest free place of the run's line, or minus the refusal.
 pub lent-entry : (es : List Event) (b : List ℕ) → LedLent es b → (plan : List ℕ) (budget : ℕ) (bytes : List ℕ) (n : ℤ) → IsExportedEntry plan budget b bytes n

@@ -16,10 +16,10 @@ use Rattle.open_plan.specs.Run.{Fits, StandsFor}
 use Rattle.open_plan.specs.Theorem.{history-more}
 use Rattle.open_plan.specs.Laws.History.{Stands, stands-for, refused-alike, after-stands, opening-stands}
 use Rattle.answers.specs.Number.{oneNumber}
 use Rattle.exports.specs.Editing.{openRefusal, moveRefusal, IsExportedOpen, IsExportedMove}
 use Rattle.open_plan_bytes.specs.StateBytes.{openBytes, openIn, stateBytes}
 use Rattle.exports.specs.Laws.Editing.{has-room}
-use Rattle.exports.specs.Laws.Lent.{stands-sized, state-long, state-back}
+use Rattle.promises.specs.Laws.Lent.{stands-sized, state-long, state-back}
 
 -- A RUN over lent bytes: each call has the contract of its function, on the bytes that the call before it left. The numbers are what the calls answer.
 pub data RanLent : List ℕ → List Call → List ℕ → List ℤ → Type 0 where
