@@ -5,9 +5,9 @@ use mathlib.Core.List.{List}
 use Prim.Native.Nat.{ℕ, zero, suc, _+_, _*_, _-_, min, max}
 use lib.Dec.{eqb, ltb}
 use lib.ListN.{length, getD, set, replicate}
-use Rattle.balance.specs.Step.{cell}
-use Rattle.ascent.specs.Turns.{turns}
-use Rattle.ascent.specs.Heights.{capped}
+use Rattle.residual_search.specs.Step.{cell}
+use Rattle.heights.specs.Turns.{turns}
+use Rattle.heights.specs.Heights.{capped}
 
 -- Heights, and 1 for the vertices that are open.
 abbrev pub Tide : Type 0

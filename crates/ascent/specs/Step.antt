@@ -5,11 +5,11 @@ use mathlib.Core.List.{List}
 use Prim.Native.Nat.{ℕ, _-_, _^_}
 use lib.Dec.{eqb}
 use lib.ListN.{length, getD}
-use Rattle.ascent.specs.Turns.{turns}
-use Rattle.ascent.specs.Heights.{carried}
+use Rattle.heights.specs.Turns.{turns}
+use Rattle.heights.specs.Heights.{carried}
 use Rattle.ascent.specs.Relax.{settled}
-use Rattle.ascent.specs.Offers.{offers}
-use Rattle.ascent.specs.Tree.{grown, along}
+use Rattle.ascent_tree.specs.Offers.{offers}
+use Rattle.ascent_tree.specs.Tree.{grown, along}
 
 pub record Step : Type 0 where
   -- the heights after it

@@ -1,15 +1,15 @@
 // Heights brought back under document 01's two conditions: every vertex whose height changed asks of all others, until none is open.
-use crate::heights::larger;
-use balance::entries::lesser;
-use balance::entries::monus;
-use balance::entries::vertex;
+use heights::heights::larger;
 use integers::wide;
+use residual_search::entries::lesser;
+use residual_search::entries::monus;
+use residual_search::entries::vertex;
 ghost use mathlib.Core.Path.{_≡_};
 ghost use mathlib.Core.Bool.{_&&_};
 ghost use Prim.Native.Nat.{_<_, _≤_};
 ghost use lib.Dec.{eqb};
-ghost use Rattle.balance.specs.Bounds.{AtMost};
-ghost use Rattle.balance.specs.Search.{beyond};
+ghost use Rattle.residual_search.specs.Bounds.{AtMost};
+ghost use Rattle.residual_search.specs.Search.{beyond};
 ghost use Rattle.ascent.specs.Relax.{backPlace, isAhead, asks, follows, moveVertex, moveAll, ask as askAll, sweep as sweepAll, areClosed, settled};
 
 // Where the amount stands that decides what w asks of v.

@@ -1,18 +1,18 @@
 // One step of the ascent.
-use crate::heights::carry_on;
-use crate::offers::offers;
 use crate::relax::settle;
-use crate::tree::bit;
-use crate::tree::follow;
-use crate::tree::grow;
-use balance::entries::vertex;
+use ascent_tree::offers::offers;
+use ascent_tree::tree::bit;
+use ascent_tree::tree::follow;
+use ascent_tree::tree::grow;
+use heights::heights::carry_on;
 use integers::wide;
+use residual_search::entries::vertex;
 ghost use mathlib.Core.Path.{_≡_};
 ghost use mathlib.Core.Bool.{_&&_};
 ghost use Prim.Native.Nat.{_<_, _≤_};
 ghost use lib.Dec.{eqb};
-ghost use Rattle.balance.specs.Bounds.{AtMost};
-ghost use Rattle.balance.specs.Search.{beyond};
+ghost use Rattle.residual_search.specs.Bounds.{AtMost};
+ghost use Rattle.residual_search.specs.Search.{beyond};
 ghost use Rattle.ascent.specs.Step.{areSame, step as stepFrom};
 ghost use Rattle.ascent.specs.Records.{stepOf};
 

@@ -4,7 +4,7 @@ use Prim.Native.Nat.{ℕ}
 use Rattle.postman.specs.Plan.{Plan, requiredArcs}
 use Rattle.postman.specs.Required.{required}
 use Rattle.postman.specs.Link.{Link}
-use Rattle.balance.specs.Step.{State, empty, addAll}
+use Rattle.residual_search.specs.Step.{State, empty, addAll}
 
 -- The required arcs, from tail to head.
 unfoldable pub requiredEnds : Plan → List Link

@@ -7,7 +7,7 @@ use Rattle.postman.specs.Lists.{occurrences}
 use Rattle.postman.specs.Link.{Link}
 use Rattle.postman.specs.Balancing.{sumOver}
 use Rattle.balance.specs.Optimality.{Feasible, Tight, Balances, sent}
-use Rattle.balance.specs.Step.{State, amount, potential}
+use Rattle.residual_search.specs.Step.{State, amount, potential}
 
 -- What is asked of the distances d between the vertices vs: the vertices are distinct, at most 64 and below 64, no distance exceeds 63 arcs of cost 65,535, a vertex is at no
 -- distance from itself, and a way by a third vertex is no shorter. `Laws.Plan`: the required vertices of a plan that is not cut off are so.

@@ -4,9 +4,9 @@ use mathlib.Core.List.{List}
 use Prim.Native.Nat.{ℕ, _+_}
 use lib.ListN.{getD, set, replicate}
 use lib.IntN.{ℤ, pos, _-ℤ_}
-use Rattle.balance.specs.Fold.{fold}
-use Rattle.balance.specs.Search.{Found, search}
-use Rattle.balance.specs.Step.{State, potential, residualLength}
+use Rattle.residual_search.specs.Fold.{fold}
+use Rattle.residual_search.specs.Search.{Found, search}
+use Rattle.residual_search.specs.Step.{State, potential, residualLength}
 
 -- The distances to the root, in true costs.
 unfoldable pub fromRoot : List ℕ → List ℕ → List ℕ → ℕ → List ℤ

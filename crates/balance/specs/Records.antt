@@ -1,11 +1,6 @@
 -- What a search and a state by value stand for.
-use Rattle.balance.specs.declared.search.Found.{Found as FoundRecord}
 use Rattle.balance.specs.declared.state.Balance.{Balance as BalanceRecord}
-use Rattle.balance.specs.Search.{Found}
-use Rattle.balance.specs.Step.{State}
-
-abbrev pub foundOf : FoundRecord → Found
-foundOf r = record { distance = r .distance; next = r .next; rank = r .rank }
+use Rattle.residual_search.specs.Step.{State}
 
 abbrev pub stateOf : BalanceRecord → State
 stateOf s = record { amounts = s .amounts; potentials = s .potentials; cost = s .cost; count = s .count }

@@ -1,15 +1,15 @@
 // One unit more along a path, and the potentials raised.
-use crate::entries::following;
-use crate::entries::lesser;
-use crate::entries::level;
-use crate::entries::vertex;
 use integers::wide;
+use residual_search::entries::following;
+use residual_search::entries::lesser;
+use residual_search::entries::level;
+use residual_search::entries::vertex;
 ghost use mathlib.Core.Path.{_≡_};
 ghost use mathlib.Core.Logic.{_⊎_};
 ghost use Prim.Native.Nat.{_+_, _<_, _≤_};
-ghost use Rattle.balance.specs.Bounds.{AtMost};
-ghost use Rattle.balance.specs.Search.{beyond};
-ghost use Rattle.balance.specs.Step.{place, moved, augment, raise};
+ghost use Rattle.residual_search.specs.Bounds.{AtMost};
+ghost use Rattle.residual_search.specs.Search.{beyond};
+ghost use Rattle.residual_search.specs.Step.{place, moved, augment, raise};
 ghost use Rattle.balance.specs.Invariant.{limit};
 
 // Where a unit more from v to w is counted.

@@ -1,16 +1,16 @@
 // The greatest multipliers that are 0 at a root.
-use crate::entries::level;
-use crate::entries::vertex;
-use crate::search::search_towards;
 use crate::state::Balance;
 use integers::difference;
 use integers::wide;
+use residual_search::entries::level;
+use residual_search::entries::vertex;
+use residual_search::search::search_towards;
 ghost use mathlib.Core.Path.{_≡_};
 ghost use mathlib.Core.List.{List·Memᴰ};
 ghost use Prim.Native.Nat.{_<_};
-ghost use Rattle.balance.specs.Bounds.{AtMost};
-ghost use Rattle.balance.specs.Search.{beyond};
-ghost use Rattle.balance.specs.Step.{cell};
+ghost use Rattle.residual_search.specs.Bounds.{AtMost};
+ghost use Rattle.residual_search.specs.Search.{beyond};
+ghost use Rattle.residual_search.specs.Step.{cell};
 ghost use Rattle.balance.specs.Multipliers.{fromRoot, multipliers as greatest};
 ghost use Rattle.balance.specs.Invariant.{Metric, Certified, limit};
 ghost use Rattle.balance.specs.Records.{stateOf};

@@ -1,15 +1,15 @@
 // The state of a balancing, and arcs added to it.
 use crate::augment::augment_along;
 use crate::augment::raise_by;
-use crate::entries::monus;
-use crate::search::search_towards;
-use crate::search::settled_by;
 use integers::wide;
+use residual_search::entries::monus;
+use residual_search::search::search_towards;
+use residual_search::search::settled_by;
 ghost use mathlib.Core.Path.{_≡_};
 ghost use mathlib.Core.List.{List·Memᴰ};
 ghost use Prim.Native.Nat.{_+_, _<_, _≤_};
 ghost use lib.ListN.{length};
-ghost use Rattle.balance.specs.Step.{cell, stateIn, empty as emptyState, add as addState, addAll as addAllStates, arcsOf, IsAdded};
+ghost use Rattle.residual_search.specs.Step.{cell, stateIn, empty as emptyState, add as addState, addAll as addAllStates, arcsOf, IsAdded};
 ghost use Rattle.balance.specs.Invariant.{Metric, Certified, AllIn, limit};
 ghost use Rattle.balance.specs.Records.{stateOf};
 

@@ -7,7 +7,7 @@ ghost use Prim.Native.Nat.{_+_, _/_, _%_, _≤_};
 ghost use lib.ListN.{length, getD, take};
 ghost use Rattle.postman.specs.Lists.{select, below};
 ghost use Rattle.postman.specs.Plan.{Plan, WellFormed};
-ghost use Rattle.network.specs.Contracts.{IsNetwork};
+ghost use Rattle.network.specs.Network.{IsNetwork};
 ghost use Rattle.candidates.specs.Holds.{Holds};
 ghost use Rattle.candidates.specs.Places.{enters, placesOf, AreGrouped, AreEnds, HaveEnds};
 ghost use Rattle.candidates.specs.LaidOut.{AreLaidOut};

@@ -1,10 +1,7 @@
 -- The circuit of some legs, the legs of a plan, and the tour that they make.
-pub mod Circuit
-pub mod Eulerian
 pub mod Legs
 pub mod Tour
 -- What the code holds on the way.
-pub mod Held
 pub mod Filled
 -- What is proved about them.
 pub mod Laws

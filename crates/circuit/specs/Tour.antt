@@ -13,8 +13,8 @@ use Rattle.postman.specs.FewestPath.{IsFewestPath, IsLaid}
 use Rattle.postman.specs.Link.{Link}
 use Rattle.postman.specs.Balancing.{linkCost, balancingCost}
 use Rattle.postman.specs.PlanCall.{sheetPlaces}
-use Rattle.shortest.specs.ShortestPath.{shortestPath}
-use Rattle.circuit.specs.Circuit.{circuit}
+use Rattle.paths.specs.ShortestPath.{shortestPath}
+use Rattle.hierholzer.specs.Circuit.{circuit}
 use Rattle.circuit.specs.Legs.{amount, legTails, legHeads}
 
 -- The places of leg e: the required arcs come first, in file order.

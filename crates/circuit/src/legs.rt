@@ -1,5 +1,5 @@
 // The legs of a tour, side by side: required arcs, links of the arborescence, units of the amounts.
-use crate::widen::wide;
+use hierholzer::widen::wide;
 use plan::Arc;
 use plan::Plan;
 ghost use mathlib.Core.Path.{_≡_};

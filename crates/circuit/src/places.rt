@@ -1,16 +1,16 @@
 // The places of the legs: a required arc has its number, another leg the arcs of the path of fewest arcs.
-use crate::widen::wide;
-use crate::widen::wide8;
-use shortest::path::chain_of;
-use shortest::path::column_to;
-use shortest::path::path;
+use hierholzer::widen::wide;
+use hierholzer::widen::wide8;
+use paths::path::chain_of;
+use paths::path::column_to;
+use paths::path::path;
 ghost use mathlib.Core.Path.{_≡_};
 ghost use Prim.Native.Nat.{ℕ, _+_, _<_, _≤_};
 ghost use lib.ListN.{length, getD};
 ghost use Rattle.postman.specs.Plan.{WellFormed};
 ghost use Rattle.plan.specs.Rows.{planIn};
-ghost use Rattle.shortest.specs.ShortestPath.{shortestPath};
-ghost use Rattle.shortest.specs.Leaving.{IsChain};
+ghost use Rattle.paths.specs.ShortestPath.{shortestPath};
+ghost use Rattle.paths.specs.Leaving.{IsChain};
 ghost use Rattle.shortest.specs.Contracts.{AreRows, overwrite};
 ghost use Rattle.circuit.specs.Tour.{legPlaces, placesOf, written, HavePaths};
 

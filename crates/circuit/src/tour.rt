@@ -1,7 +1,7 @@
 // The tour: the legs laid, put in order, and written.
-use crate::hierholzer::arrange;
 use crate::legs::lay;
 use crate::places::write;
+use hierholzer::hierholzer::arrange;
 use plan::Plan;
 ghost use mathlib.Core.Path.{_≡_};
 ghost use Prim.Native.Nat.{_≤_};
@@ -9,10 +9,10 @@ ghost use lib.ListN.{length};
 ghost use Rattle.postman.specs.Plan.{WellFormed};
 ghost use Rattle.postman.specs.PlanCall.{sheetPlaces};
 ghost use Rattle.plan.specs.Records.{planValue};
-ghost use Rattle.shortest.specs.ShortestPath.{shortestPath};
+ghost use Rattle.paths.specs.ShortestPath.{shortestPath};
 ghost use Rattle.shortest.specs.Contracts.{AreWeights};
-ghost use Rattle.circuit.specs.Circuit.{circuit};
-ghost use Rattle.circuit.specs.Eulerian.{Eulerian};
+ghost use Rattle.hierholzer.specs.Circuit.{circuit};
+ghost use Rattle.hierholzer.specs.Eulerian.{Eulerian};
 ghost use Rattle.circuit.specs.Legs.{Completes};
 ghost use Rattle.circuit.specs.Tour.{placesOf, tour, written, HavePaths};
 ghost use Rattle.circuit.specs.Filled.{linksOf};

@@ -16,8 +16,9 @@ use Rattle.postman.specs.Laws.Tests.{of-true}
 use Rattle.postman.specs.Laws.Acceptance.{call-accepted}
 use Rattle.postman.specs.Laws.TreeCount.{whole-known}
 use Rattle.refusal.specs.Verdict.{verdictNumber}
-use Rattle.planner.specs.declared.Planned.{Planned}
-use Rattle.planner.specs.Contract.{multipliersOf, IsPlanCall}
+use Rattle.solution.specs.declared.Planned.{Planned}
+use Rattle.planner.specs.Contract.{IsPlanCall}
+use Rattle.solution.specs.Planned.{multipliersOf}
 use Rattle.count_call.specs.declared.Counted.{Counted}
 use Rattle.count_call.specs.Contract.{answerOf}
 use Rattle.count_call.specs.Laws.Call.{not-refused}

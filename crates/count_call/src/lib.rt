@@ -9,7 +9,7 @@ ghost use Rattle.postman.specs.Plan.{Plan as «a-plan», WellFormed};
 ghost use Rattle.postman.specs.Refusal.{answer, given};
 ghost use Rattle.postman.specs.TreeCount.{counted as «counted-as», treeCount, countCall};
 ghost use Rattle.plan.specs.Records.{planValue};
-ghost use Rattle.network.specs.Contracts.{IsNetwork};
+ghost use Rattle.network.specs.Network.{IsNetwork};
 ghost use Rattle.planner.specs.Refusals.{networkRefusal, planRefusal};
 ghost use Rattle.count_call.specs.Contract.{answerOf};
 

@@ -3,9 +3,6 @@ pub mod Places
 pub mod Line
 pub mod Runs
 pub mod Entry
-pub mod Tree
-pub mod HeldTree
-pub mod Stint
 pub mod Held
 pub mod Entered
 pub mod Turned

@@ -1,7 +1,5 @@
 pub mod Line
 pub mod Places
-pub mod Tree
-pub mod Stint
 pub mod Runs
 pub mod Machine
 -- What is proved about them.

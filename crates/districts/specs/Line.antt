@@ -9,7 +9,7 @@ use Rattle.postman.specs.Lists.{below, firstIndex, occurs}
 use Rattle.postman.specs.Refusal.{Conditions, firstRefusal, unless}
 use Rattle.postman.specs.PlanFile.{fileConditions, isOutside, planOf}
 use Rattle.postman.specs.PlanCall.{highestBudget, sheetPlaces, lastConditions, triedCount}
-use Rattle.planner.specs.Resumed.{turnTrees}
+use Rattle.solution.specs.Resumed.{turnTrees}
 
 -- A district that is not finished: its place, its plan and budget as it entered with them, and how many trees were tried.
 pub record District : Type 0 where

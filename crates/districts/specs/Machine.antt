@@ -12,11 +12,11 @@ use Rattle.postman.specs.PlanFile.{fileConditions, isOutside, planOf}
 use Rattle.postman.specs.PlanCall.{sheetPlaces, highestBudget, lastConditions, bestCost}
 use Rattle.refusal.specs.Verdict.{refusalNumber}
 use Rattle.refusal.specs.declared.Verdict.the-variants.{Accepted}
-use Rattle.planner.specs.declared.Planned.{Planned}
-use Rattle.planner.specs.declared.trees.Reached.{Reached}
+use Rattle.solution.specs.declared.Planned.{Planned}
+use Rattle.solution.specs.declared.trees.Reached.{Reached}
 use Rattle.planner.specs.Refusals.{planRefusal}
-use Rattle.planner.specs.Resumed.{turnTrees, IsReachedBy, HoldsDrive}
-use Rattle.planner.specs.Contract.{IsPlanned}
+use Rattle.solution.specs.Resumed.{turnTrees, IsReachedBy, HoldsDrive}
+use Rattle.solution.specs.Planned.{IsPlanned}
 use Rattle.districts.specs.declared.machine.District.{District as DistrictRecord}
 use Rattle.districts.specs.declared.machine.Machine.{Machine}
 use Rattle.districts.specs.declared.enter.Admission.{Admission}
@@ -25,7 +25,7 @@ use Rattle.districts.specs.declared.enter.Entered.{Entered}
 use Rattle.districts.specs.declared.turn.Outcome.{Outcome}
 use Rattle.districts.specs.declared.turn.Outcome.the-variants.{Empty, ShortSheet, Unfinished, Finished}
 use Rattle.districts.specs.declared.turn.Turned.{Turned}
-use Rattle.districts.specs.declared.stint.Stint.{Stint}
+use Rattle.district_turn.specs.declared.stint.Stint.{Stint}
 use Rattle.districts.specs.Line.{District, district, Line, entryRefusal, lowestFree, enter, total, finishes, turn}
 
 -- ---- the line of a machine

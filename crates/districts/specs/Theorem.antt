@@ -9,11 +9,12 @@ use lib.ListN.{length}
 use lib.Dec.{T, leb→le}
 use Rattle.postman.specs.PlanFile.{planOf}
 use Rattle.postman.specs.PlanCall.{sheetPlaces}
-use Rattle.planner.specs.declared.Planned.{Planned}
-use Rattle.planner.specs.Contract.{IsPlanned, IsPlanCall}
-use Rattle.planner.specs.SameAnswer.{SameAnswer}
+use Rattle.solution.specs.declared.Planned.{Planned}
+use Rattle.planner.specs.Contract.{IsPlanCall}
+use Rattle.solution.specs.Planned.{IsPlanned}
+use Rattle.solution.specs.SameAnswer.{SameAnswer}
 use Rattle.planner.specs.Laws.Call.{planned-as}
-use Rattle.planner.specs.Laws.SameAnswer.{same-answer}
+use Rattle.solution.specs.Laws.SameAnswer.{same-answer}
 use Rattle.districts.specs.Line.{District, Line, entryRefusal, total, finishes}
 use Rattle.districts.specs.Runs.{Event, run, turnsIn, Entry, lastEntry, turnsSince}
 use Rattle.districts.specs.declared.machine.Machine.{Machine}

@@ -1,5 +1,5 @@
 // The machine: up to eight districts, by value. "Empty at first."
-use planner::trees::Reached;
+use solution::trees::Reached;
 ghost use mathlib.Core.Path.{_≡_};
 ghost use mathlib.Core.List.{[]};
 ghost use Rattle.districts.specs.Machine.{lineOf, IsSound};

@@ -2,18 +2,18 @@
 use crate::machine::District;
 use crate::machine::Machine;
 use crate::places::moved_up;
-use crate::stint::Stint;
-use crate::stint::stuck;
-use crate::stint::turn_read;
-use planner::Planned;
-use planner::trees::Reached;
+use district_turn::stint::Stint;
+use district_turn::stint::stuck;
+use district_turn::stint::turn_read;
 use refusal::Verdict;
+use solution::Planned;
+use solution::trees::Reached;
 ghost use mathlib.Core.Path.{_≡_};
 ghost use Prim.Native.Nat.{_≤_};
 ghost use lib.ListN.{length};
 ghost use Rattle.postman.specs.PlanCall.{sheetPlaces};
 ghost use Rattle.postman.specs.PlanFile.{planOf};
-ghost use Rattle.districts.specs.Stint.{IsStint, LeavesSheet};
+ghost use Rattle.district_turn.specs.Stint.{IsStint, LeavesSheet};
 ghost use Rattle.districts.specs.Machine.{IsUnderWay, bytesOf, soFar, IsLeft, IsGoneOn, IsAfter, IsTurned};
 
 // What a turn met, and the place of the district that it went to. A machine that no entries and turns lead to may hold a front district that cannot be gone on with: it is answered as an empty one.

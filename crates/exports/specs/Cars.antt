@@ -1,31 +1,16 @@
 -- What the call for two cars answers to a caller in another language.
 use mathlib.Core.Path.{_≡_}
-use mathlib.Core.Bool.{Bool, cond, _&&_, _||_}
 use mathlib.Core.List.{List}
-use mathlib.Core.Option.{Option, none, some}
-use Prim.Native.Nat.{ℕ, _+_, _*_}
-use lib.IntN.{ℤ, pos, negℤ}
-use lib.Dec.{eqb, leb}
+use mathlib.Core.Option.{none}
+use Prim.Native.Nat.{ℕ}
+use lib.IntN.{ℤ}
 use Rattle.postman.specs.Refusal.{unless}
 use Rattle.refusal.specs.Verdict.{verdictNumber}
-use Rattle.planner.specs.declared.Planned.{Planned}
+use Rattle.solution.specs.declared.Planned.{Planned}
 use Rattle.two_cars.specs.declared.TwoPlanned.{TwoPlanned}
 use Rattle.two_cars.specs.Contract.{IsTwoCars}
-use Rattle.exports.specs.Answer.{wordsOf, putFirst}
-
--- "Only 1 to 7 and 13 reach both": the numbers that only the file is refused for.
-abbrev pub reachesBoth : ℕ → Bool
-reachesBoth k = leb k 7 || eqb k 13
-
--- A car's own refusal, or 0.
-abbrev pub ownNumber : Option ℕ → ℕ
-ownNumber none = 0
-ownNumber (some k) = k
-
--- One number for both cars: minus the number of a refusal that reaches both, else 256 times the first car's own refusal and the second's.
-abbrev pub carsNumber : Option ℕ → Option ℕ → ℤ
-carsNumber none second = pos (ownNumber second)
-carsNumber (some k) second = cond (reachesBoth k) (negℤ (pos k)) (pos (256 * k + ownNumber second))
+use Rattle.answers.specs.Answer.{wordsOf, putFirst}
+use Rattle.answers.specs.CarsNumber.{carsNumber}
 
 -- What a car's lent slices hold then; its refusal changes none.
 pub record IsLeft (r : Planned) (words words′ : List ℕ) (u u′ : List ℤ) : Type 0 where

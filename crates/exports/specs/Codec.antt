@@ -3,14 +3,9 @@ use mathlib.Core.List.{List, _++_, flatMap}
 use Prim.Native.Nat.{ℕ, _+_, _*_, _/_}
 use lib.ListN.{length, drop}
 use Rattle.postman.specs.Plan.{Plan}
-use Rattle.postman.specs.Refusal.{Answer, refused, given, unless}
+use Rattle.postman.specs.Refusal.{unless}
 use Rattle.postman.specs.PlanFile.{planOf, arcCount, readRefusal}
-use Rattle.exports.specs.RecordBytes.{arcBytes, arcsIn}
-
--- "It answers n and m", and "the edition too": 65,536 times the edition, and 512 n + m; n is at most 64, m at most 256.
-abbrev pub packed : Answer (ℕ × ℕ × ℕ) → Answer ℕ
-packed (given x) = given (x .0 * 65536 + x .1 * 512 + x .2)
-packed (refused r) = refused r
+use Rattle.encoding.specs.RecordBytes.{arcBytes, arcsIn}
 
 -- "The arcs go into a lent list of arc records; records from m on are untouched." So are bytes that are left over.
 unfoldable pub lentAfter : List ℕ → List ℕ → List ℕ

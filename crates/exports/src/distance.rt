@@ -2,20 +2,8 @@
 ghost use mathlib.Core.Path.{_≡_};
 ghost use lib.ListN.{length};
 ghost use Rattle.postman.specs.DistanceCall.{distanceAnswer, distancesAfter};
-ghost use Rattle.distances.specs.Answer.{searchedAnswer};
-ghost use Rattle.exports.specs.Number.{oneNumber};
-use crate::number::refused_number;
-use distances::Searched;
-
-// What the distance call answers, as one number.
-fn searched_number(s: Searched) -> i64
-    ensures { λ k. ⌜ k ≡ oneNumber (searchedAnswer s) ⌝ }
-{
-    match s {
-        Searched::Searches(k) => k as i64,
-        Searched::Refused(q) => refused_number(q),
-    }
-}
+ghost use Rattle.answers.specs.Number.{oneNumber};
+use answers::call_number::searched_number;
 
 // THE DISTANCE CALL. A pair is 256 × first + second. `distances` takes the pairs' distances from its start, and later entries are untouched; a refusal changes none.
 #[no_mangle]

@@ -1,20 +1,8 @@
 // The judging call, for callers in other languages. The number is the cost, or minus the refusal's.
 ghost use mathlib.Core.Path.{_≡_};
 ghost use Rattle.postman.specs.Judge.{judgeAnswer};
-ghost use Rattle.judge.specs.Contract.{judgedAnswer};
-ghost use Rattle.exports.specs.Number.{oneNumber};
-use crate::number::refused_number;
-use judge::Judged;
-
-// What judging answers, as one number.
-fn judged_number(j: Judged) -> i64
-    ensures { λ k. ⌜ k ≡ oneNumber (judgedAnswer j) ⌝ }
-{
-    match j {
-        Judged::Cost(c) => c as i64,
-        Judged::Refused(q) => refused_number(q),
-    }
-}
+ghost use Rattle.answers.specs.Number.{oneNumber};
+use answers::call_number::judged_number;
 
 // THE JUDGING CALL, on any bytes and any list of arc numbers, which it does not change.
 #[no_mangle]

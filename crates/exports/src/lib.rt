@@ -1,12 +1,8 @@
 // What other languages call: `extern "C"` functions over numbers and slices, none of which asks anything of its caller.
-mod number; // the number that a call answers
-pub mod record_bytes; // a record as seven bytes
-mod number_bytes; // numbers of two, four and eight bytes
 pub mod codec; // reading and writing plan files
 pub mod call; // the plan call, the short call and the plan call at a departure
 pub mod cars; // the call for two cars
 pub mod editing; // an open plan: changes, marks, returns and asking
-pub mod machine_bytes; // a machine of districts as bytes
 pub mod turns; // eight districts in turn
 pub mod distance; // the distance call
 pub mod count; // the number of trees

@@ -1,8 +1,6 @@
 -- What the functions give back, and the models that they compute.
-pub mod Contracts
-pub mod RequiredSum
+pub mod Network
 pub mod Thinning
 pub mod CutOff
-pub mod Labels
 -- What is proved about them.
 pub mod Laws

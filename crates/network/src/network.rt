@@ -1,16 +1,16 @@
 // The network of a plan.
-use crate::components::components_of;
 use crate::cut_off::is_cut_off;
-use crate::required_sum::imbalance;
-use crate::required_sum::required_cost;
-use crate::required_vertex::required;
 use crate::thinning::pairs;
 use crate::thinning::thin;
+use components::components::components_of;
 use plan::Plan;
+use required::required_sum::imbalance;
+use required::required_sum::required_cost;
+use required::required_vertex::required;
 ghost use Rattle.postman.specs.Plan.{WellFormed};
 ghost use Rattle.plan.specs.Records.{planValue};
 ghost use Rattle.shortest.specs.Contracts.{IsTable};
-ghost use Rattle.network.specs.Contracts.{IsNetwork};
+ghost use Rattle.network.specs.Network.{IsNetwork};
 
 pub struct Network {
     // whether each vertex is required

@@ -1,5 +1,4 @@
 -- What is proved about the definitions.
-pub mod Copy
 pub mod Held
 pub mod Change
 pub mod Call

@@ -13,8 +13,8 @@ use Rattle.postman.specs.PlanFile.{edition, planOf, fileOf, fileConditions}
 use Rattle.postman.specs.OpenPlan.{Open, Call, change, mark, return, taken, opened, outcome, history, refusals, refusalIn, unlessRefused, afterCall}
 use Rattle.postman.specs.Windows.{Departure}
 use Rattle.refusal.specs.Verdict.{verdictNumber}
-use Rattle.planner.specs.declared.Planned.{Planned}
-use Rattle.planner.specs.SameAnswer.{SameAnswer}
+use Rattle.solution.specs.declared.Planned.{Planned}
+use Rattle.solution.specs.SameAnswer.{SameAnswer}
 use Rattle.windows.specs.Contract.{IsPlanCallAt}
 use Rattle.open_plan.specs.declared.Held.{Held}
 use Rattle.open_plan.specs.declared.OpenPlan.{OpenPlan}

@@ -2,8 +2,8 @@
 use crate::Held;
 use crate::Rewritten;
 use plan::Plan;
-use plan_file::Written;
-use plan_file::writer::write_plan;
+use plan_writer::Written;
+use plan_writer::writer::write_plan;
 use records::writer::at_most;
 use refusal::Refusal;
 use refusal::Verdict;

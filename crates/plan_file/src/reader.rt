@@ -11,19 +11,19 @@ ghost use Rattle.refusal.specs.Verdict.{verdictNumber};
 ghost use Rattle.plan.specs.Records.{recordOf, recordsOf, planRecord, noPlan};
 ghost use Rattle.plan_file.specs.Reading.{planFrom, extentOn, IsReading};
 use crate::Reading;
-use crate::arcs::arc_fields;
-use crate::arcs::field_verdict;
-use crate::arcs::file_bits;
-use crate::arcs::is_outside;
-use crate::repeated::repeated_verdict;
 use bits::reader::take_at;
 use plan::Arc;
 use plan::Plan;
+use plan_arcs::arcs::arc_fields;
+use plan_arcs::arcs::field_verdict;
+use plan_arcs::arcs::file_bits;
+use plan_arcs::arcs::is_outside;
+use plan_arcs::repeated::repeated_verdict;
 use refusal::Refusal;
 use refusal::Verdict;
 
 // The bytes of a file of m arcs.
-pub(crate) fn file_length(edition: u8, m: usize) -> usize
+pub fn file_length(edition: u8, m: usize) -> usize
     requires { ⌜ m ≤ 256 ⌝ }
     ensures { λ r. ⌜ r ≡ fileLength edition m ⌝ }
 {
@@ -198,7 +198,7 @@ fn accepted_plan(s: &[u8]) -> Plan
 }
 
 // What a refusal leaves: no vertex, no arc, every record zeros.
-pub(crate) fn no_plan() -> Plan
+pub fn no_plan() -> Plan
     ensures { λ r. ⌜ r ≡ planRecord noPlan ⌝ }
 {
     let zero = Arc {

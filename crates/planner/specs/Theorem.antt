@@ -8,10 +8,11 @@ use Rattle.postman.specs.Plan.{Plan}
 use Rattle.postman.specs.PlanFile.{planOf}
 use Rattle.postman.specs.PlanCall.{callRefusal}
 use Rattle.refusal.specs.Verdict.{verdictNumber}
-use Rattle.planner.specs.declared.Planned.{Planned}
-use Rattle.planner.specs.Contract.{IsPlanned, IsPlanCall}
-use Rattle.planner.specs.RaisedBudget.{Buys}
-use Rattle.planner.specs.Laws.RaisedBudget.{buys}
+use Rattle.solution.specs.declared.Planned.{Planned}
+use Rattle.planner.specs.Contract.{IsPlanCall}
+use Rattle.solution.specs.Planned.{IsPlanned}
+use Rattle.solution.specs.RaisedBudget.{Buys}
+use Rattle.solution.specs.Laws.RaisedBudget.{buys}
 
 -- Of one plan, however it was made: f and g are what the two calls are refused for, by their own order of refusals.
 pub raised-budget : (p : Plan) (b c : ℕ) → b ≤ c

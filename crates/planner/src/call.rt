@@ -1,12 +1,12 @@
 // The plan call: the refusals in document 01's order, and the answer.
-use crate::Planned;
-use crate::solve::solve;
 use budget::Budget;
 use budget::Checked;
 use network::network::Network;
 use plan::Plan;
 use refusal::Refusal;
 use refusal::Verdict;
+use solution::Planned;
+use solution::solve::solve;
 ghost use mathlib.Core.Path.{_≡_};
 ghost use mathlib.Core.Option.{none};
 ghost use Prim.Native.Nat.{_≤_};
@@ -18,9 +18,10 @@ ghost use Rattle.plan.specs.Records.{planValue};
 ghost use Rattle.shortest.specs.Contracts.{AreWeights};
 ghost use Rattle.refusal.specs.Verdict.{verdictNumber};
 ghost use Rattle.planner.specs.Refusals.{networkRefusal, planRefusal, budgetRefusal, sheetRefusal};
-ghost use Rattle.planner.specs.Tour.{tableOf};
-ghost use Rattle.planner.specs.Prepared.{IsMeasured};
-ghost use Rattle.planner.specs.Contract.{IsPlanned, IsPlanCall};
+ghost use Rattle.multipliers.specs.Tour.{tableOf};
+ghost use Rattle.multipliers.specs.Prepared.{IsMeasured};
+ghost use Rattle.planner.specs.Contract.{IsPlanCall};
+ghost use Rattle.solution.specs.Planned.{IsPlanned};
 ghost use Rattle.planner.specs.Laws.Refused.{refusedWith};
 
 // A refusal "returns its number only".

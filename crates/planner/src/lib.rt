@@ -1,22 +1,2 @@
 // The plan call.
 pub mod call; // the plan call and the short call
-pub mod ascend; // the multipliers that are answered
-mod bound; // L(u)
-mod lay; // the drive of a tree
-pub mod prepare; // the state of the required arcs
-pub mod trees; // the trees, at most as many as the budget
-pub mod solve; // the answer of a plan that is not refused
-
-use refusal::Verdict;
-
-// "The answer holds the places written, cost, floor, trees tried T, whole (yes or no), k and u."
-pub struct Planned {
-    pub verdict: Verdict,
-    pub places: usize,
-    pub cost: u64,
-    pub floor: i64,
-    pub trees: u32,
-    pub whole: bool,
-    pub parts: u8,
-    pub multipliers: [i64; 64],
-}

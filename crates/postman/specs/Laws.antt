@@ -45,3 +45,5 @@ pub mod Judge
 pub mod Windows
 pub mod Roads
 pub mod Marks
+pub mod Copy
+pub mod FirstNumber

@@ -5,14 +5,14 @@ ghost use Prim.Native.Nat.{_≤_};
 ghost use lib.ListN.{take, drop};
 ghost use Rattle.postman.specs.PlanFile.{readAnswer, recordsAfter, writeAnswer, bytesAfter};
 ghost use Rattle.plan.specs.Records.{arcValue};
-ghost use Rattle.plan_file.specs.Writing.{writtenAnswer};
+ghost use Rattle.plan_writer.specs.Writing.{writtenAnswer};
 ghost use Rattle.records.specs.Reading.{readNumbers};
 ghost use Rattle.records.specs.Writing.{listPlan};
 use crate::reader::Read;
 use crate::reader::read_records;
 use crate::writer::write_records;
 use plan::Arc;
-use plan_file::Written;
+use plan_writer::Written;
 
 // One record more than a plan may have.
 pub struct Filled {

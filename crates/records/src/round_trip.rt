@@ -6,7 +6,7 @@ use crate::arrays::read_array;
 use crate::arrays::write_array;
 use crate::reader::Read;
 use plan::Arc;
-use plan_file::Written;
+use plan_writer::Written;
 
 // The first m records of `arcs` are written in an edition, and the file is read into `list`. Every file has room in 1,475 bytes, and every plan in 257 records.
 pub fn reread_array(edition: u8, n: u8, arcs: [Arc; 257], m: usize, list: [Arc; 257]) -> Filled

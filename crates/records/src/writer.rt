@@ -2,13 +2,13 @@
 ghost use mathlib.Core.Path.{_≡_};
 ghost use lib.ListN.{replicate};
 ghost use Rattle.postman.specs.PlanFile.{writeAnswer, bytesAfter};
-ghost use Rattle.plan_file.specs.Writing.{writtenAnswer};
+ghost use Rattle.plan_writer.specs.Writing.{writtenAnswer};
 ghost use Rattle.plan.specs.Records.{zeroRecord, planValue};
 ghost use Rattle.records.specs.Writing.{atMost, loaded, countedPlan, listPlan};
 use plan::Arc;
 use plan::Plan;
-use plan_file::Written;
-use plan_file::writer::write_plan;
+use plan_writer::Written;
+use plan_writer::writer::write_plan;
 
 // The lesser of two numbers.
 pub fn at_most(n: usize, limit: usize) -> usize

@@ -1,24 +1,28 @@
 // The trees of a branch, in order.
-use crate::branch::Branch;
-use crate::branch::below;
-use crate::candidate::Candidate;
-use crate::candidate::candidate_at;
 use crate::last::last;
-use crate::pricing::Pricing;
-use crate::pricing::bounded;
-use crate::pricing::lifted;
-use crate::progress::Progress;
-use crate::progress::entered;
-use crate::progress::passed;
-use crate::reduced::reduced;
+use branches::branch::Branch;
+use branches::branch::below;
+use branches::candidate::Candidate;
+use branches::candidate::candidate_at;
+use branches::progress::Progress;
+use branches::progress::entered;
+use branches::progress::passed;
+use tree_bounds::pricing::Pricing;
+use tree_bounds::pricing::bounded;
+use tree_bounds::pricing::lifted;
+use tree_bounds::reduced::reduced;
 ghost use mathlib.Core.Path.{_≡_};
 ghost use mathlib.Core.List.{List, [], _∷_, _++_};
 ghost use Prim.Native.Nat.{ℕ, _+_, _<_, _≤_};
 ghost use Rattle.postman.specs.Plan.{Plan};
-ghost use Rattle.search.specs.Bound.{reducedBy};
-ghost use Rattle.search.specs.Progress.{passOver};
-ghost use Rattle.search.specs.Prepared.{Prepared};
-ghost use Rattle.search.specs.Contracts.{CanReduce, heldOf, isEntered, IsShort, IsBranch, chosenIn, linkOf, treesIn, IsExplored, Prices, IsPriced};
+ghost use Rattle.tree_bounds.specs.Bound.{reducedBy};
+ghost use Rattle.branches.specs.Progress.{passOver};
+ghost use Rattle.tree_bounds.specs.Prepared.{Prepared};
+ghost use Rattle.search.specs.Contracts.{IsExplored, IsPriced};
+ghost use Rattle.branches.specs.Branches.{IsBranch, chosenIn, linkOf, treesIn};
+ghost use Rattle.branches.specs.Holding.{heldOf, isEntered, IsShort};
+ghost use Rattle.tree_bounds.specs.Pricing.{Prices};
+ghost use Rattle.tree_bounds.specs.Reducible.{CanReduce};
 
 // What is held after trees of a branch, and prices of the branch: those of the tree that was tried last, without the links that are not the branch's.
 pub struct Explored {

@@ -1,22 +1,25 @@
 // The trees of a branch in which the last component alone is left to be chosen for.
-use crate::branch::Branch;
-use crate::branch::placed;
-use crate::candidate::candidate_at;
 use crate::explore::Explored;
-use crate::level::levelled;
-use crate::pricing::Pricing;
-use crate::progress::Progress;
-use crate::progress::completed;
-use crate::progress::entered;
-use crate::progress::passed;
-use crate::reduced::long;
-use crate::reduced::reduced;
+use branches::branch::Branch;
+use branches::branch::placed;
+use branches::candidate::candidate_at;
+use branches::progress::Progress;
+use branches::progress::completed;
+use branches::progress::entered;
+use branches::progress::passed;
 use integers::wide;
+use tree_bounds::level::levelled;
+use tree_bounds::pricing::Pricing;
+use tree_bounds::reduced::long;
+use tree_bounds::reduced::reduced;
 ghost use mathlib.Core.Path.{_≡_};
 ghost use Prim.Native.Nat.{_+_};
 ghost use Rattle.postman.specs.Plan.{Plan};
-ghost use Rattle.search.specs.Prepared.{Prepared};
-ghost use Rattle.search.specs.Contracts.{CanComplete, IsCompleted, IsShort, IsBranch, treesIn, IsExplored, Prices, chosenIn};
+ghost use Rattle.tree_bounds.specs.Prepared.{Prepared};
+ghost use Rattle.search.specs.Contracts.{CanComplete, IsCompleted, IsExplored};
+ghost use Rattle.branches.specs.Branches.{IsBranch, treesIn, chosenIn};
+ghost use Rattle.branches.specs.Holding.{IsShort};
+ghost use Rattle.tree_bounds.specs.Pricing.{Prices};
 
 // What is held after a tree, and the potentials that it has raised.
 pub struct Completed {

@@ -1,8 +1,8 @@
 // All trees in document 01's order, at most as many as the budget: the first of least completion cost is kept.
-use crate::branch::Branch;
 use crate::explore::explore;
-use crate::progress::Progress;
-use crate::progress::completed;
+use branches::branch::Branch;
+use branches::progress::Progress;
+use branches::progress::completed;
 use tree_count::total::total;
 ghost use mathlib.Core.Path.{_≡_};
 ghost use Prim.Native.Nat.{_-_, _<_, _≤_, min};
@@ -10,8 +10,10 @@ ghost use Rattle.postman.specs.Lists.{upFrom};
 ghost use Rattle.postman.specs.Plan.{Plan};
 ghost use Rattle.tree_count.specs.Recursion.{countTrees};
 ghost use Rattle.tree_count.specs.Matrix.{entriesOf, cap, AreFew, AreCounts};
-ghost use Rattle.search.specs.Prepared.{Prepared};
-ghost use Rattle.search.specs.Contracts.{IsShort, IsBranch, treesIn, IsExplored, IsRoot, IsSearched};
+ghost use Rattle.tree_bounds.specs.Prepared.{Prepared};
+ghost use Rattle.search.specs.Contracts.{IsExplored, IsSearched};
+ghost use Rattle.branches.specs.Branches.{IsBranch, treesIn, IsRoot};
+ghost use Rattle.branches.specs.Holding.{IsShort};
 
 // The first arborescence of least completion cost among those tried, how many were, and whether these are all.
 pub struct Searched {

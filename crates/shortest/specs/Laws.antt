@@ -4,11 +4,4 @@ pub mod Weight
 pub mod Outside
 pub mod Relaxation
 pub mod Columns
-pub mod Rank
-pub mod FirstNumber
-pub mod CheapestPath
-pub mod ShortestPath
-pub mod PathWriting
-pub mod Lookup
-pub mod Leaving
 pub mod Roads

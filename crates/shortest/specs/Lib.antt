@@ -2,8 +2,6 @@
 pub mod Weight
 pub mod Relaxation
 pub mod Columns
-pub mod ShortestPath
-pub mod Leaving
 pub mod Contracts
 -- What is proved about them.
 pub mod Laws

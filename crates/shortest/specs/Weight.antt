@@ -6,6 +6,8 @@ use Prim.Native.Nat.{ℕ, _+_, _*_, _/_}
 use lib.Dec.{ltb}
 use Rattle.postman.specs.Plan.{Arc, Plan}
 use Rattle.postman.specs.Distance.{noPath}
+use Prim.Native.Nat.{ℕ}
+use Rattle.postman.specs.Plan.{Arc, arcAt}
 
 -- The arc, and the plan, with weights for costs.
 abbrev pub heavy : Arc → Arc
@@ -18,3 +20,7 @@ weighted p = record { n = p .n; arcs = map heavy (p .arcs) }
 unfoldable pub unweighted : ℕ → ℕ
 unfolding noPath
 unweighted w = cond (ltb w noPath) (w / 64) noPath
+
+-- The vertices that a walk enters, in their order.
+abbrev pub entered : List Arc → List ℕ → List ℕ
+entered arcs w = map (λ k. arcAt arcs k .head) w

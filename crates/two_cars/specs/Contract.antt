@@ -10,8 +10,8 @@ use Rattle.postman.specs.PlanFile.{planOf}
 use Rattle.postman.specs.Tour.{IsTour}
 use Rattle.postman.specs.Marks.{carPlan, earlierConditionsFor, carRefusal}
 use Rattle.refusal.specs.Verdict.{verdictNumber}
-use Rattle.planner.specs.declared.Planned.{Planned}
-use Rattle.planner.specs.Contract.{IsPlanned}
+use Rattle.solution.specs.declared.Planned.{Planned}
+use Rattle.solution.specs.Planned.{IsPlanned}
 use Rattle.two_cars.specs.declared.TwoPlanned.{TwoPlanned}
 
 -- One car: the plan call on its plan, demand 3 over its marks. 12 is given exactly when no number before it applies and no drive exists that passes the marked arcs.

@@ -8,12 +8,12 @@ use lib.ListN.{length}
 use Rattle.postman.specs.PlanFile.{planOf}
 use Rattle.postman.specs.Marks.{carPlan, ownMarks, carRefusal}
 use Rattle.refusal.specs.Verdict.{verdictNumber}
-use Rattle.planner.specs.declared.Planned.{Planned}
+use Rattle.solution.specs.declared.Planned.{Planned}
 use Rattle.planner.specs.Contract.{IsPlanCall}
-use Rattle.planner.specs.SameAnswer.{SameAnswer}
-use Rattle.planner.specs.RaisedBudget.{Buys}
+use Rattle.solution.specs.SameAnswer.{SameAnswer}
+use Rattle.solution.specs.RaisedBudget.{Buys}
 use Rattle.planner.specs.Theorem.{raised-budget}
-use Rattle.planner.specs.Laws.SameAnswer.{same-answer}
+use Rattle.solution.specs.Laws.SameAnswer.{same-answer}
 use Rattle.two_cars.specs.declared.TwoPlanned.{TwoPlanned}
 use Rattle.two_cars.specs.Contract.{IsCar, IsTwoCars}
 use Rattle.two_cars.specs.Laws.Own.{as-plan-call}

@@ -3,12 +3,12 @@ use crate::TwoPlanned;
 use crate::marks::car_plan;
 use crate::marks::has_bad_mark;
 use plan::Plan;
-use planner::Planned;
 use planner::call::lent_verdict;
 use planner::call::plan_tabled;
 use planner::call::refused;
 use refusal::Refusal;
 use refusal::Verdict;
+use solution::Planned;
 ghost use mathlib.Core.Path.{_≡_};
 ghost use mathlib.Core.List.{_++_};
 ghost use Prim.Native.Nat.{_≤_};
@@ -19,8 +19,8 @@ ghost use Rattle.postman.specs.PlanCall.{sheetPlaces, callConditions, lastCondi
 ghost use Rattle.postman.specs.Marks.{carPlan, markConditions};
 ghost use Rattle.plan.specs.Records.{planValue};
 ghost use Rattle.shortest.specs.Contracts.{AreWeights};
-ghost use Rattle.planner.specs.Tour.{tableOf};
-ghost use Rattle.planner.specs.Contract.{IsPlanned};
+ghost use Rattle.multipliers.specs.Tour.{tableOf};
+ghost use Rattle.solution.specs.Planned.{IsPlanned};
 ghost use Rattle.two_cars.specs.Contract.{IsTwoCars};
 
 // From 18 on: from 10 on the plan is the car's, over the table of the file's.

@@ -2,7 +2,7 @@
 pub mod call; // the call for two cars
 mod marks; // a car's marks, and its plan
 
-use planner::Planned;
+use solution::Planned;
 
 // What each car is answered.
 pub struct TwoPlanned {

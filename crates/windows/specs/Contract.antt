@@ -12,8 +12,8 @@ use Rattle.postman.specs.PlanFile.{planOf}
 use Rattle.postman.specs.Tour.{IsTour, tourCost}
 use Rattle.postman.specs.Windows.{Window, Departure, windowsIn, planAt, Avoids, earlierConditionsAt, callRefusalAt}
 use Rattle.refusal.specs.Verdict.{verdictNumber}
-use Rattle.planner.specs.declared.Planned.{Planned}
-use Rattle.planner.specs.Contract.{IsPlanned}
+use Rattle.solution.specs.declared.Planned.{Planned}
+use Rattle.solution.specs.Planned.{IsPlanned}
 
 -- A window and a departure, by their fields.
 abbrev pub window : ℕ → ℕ → ℕ → ℕ → Window

@@ -11,13 +11,13 @@ use Rattle.postman.specs.PlanFile.{planOf}
 use Rattle.postman.specs.Windows.{Departure, windowsIn, planAt, isBadDeparture, callRefusalAt}
 use Rattle.postman.specs.Laws.Windows.{no-windows-same, no-windows-refusal}
 use Rattle.refusal.specs.Verdict.{verdictNumber}
-use Rattle.planner.specs.declared.Planned.{Planned}
+use Rattle.solution.specs.declared.Planned.{Planned}
 use Rattle.planner.specs.Contract.{IsPlanCall}
-use Rattle.planner.specs.SameAnswer.{SameAnswer}
-use Rattle.planner.specs.RaisedBudget.{Buys}
+use Rattle.solution.specs.SameAnswer.{SameAnswer}
+use Rattle.solution.specs.RaisedBudget.{Buys}
 use Rattle.planner.specs.Theorem.{raised-budget}
 use Rattle.planner.specs.Laws.Call.{planned-as, is-call}
-use Rattle.planner.specs.Laws.SameAnswer.{same-answer}
+use Rattle.solution.specs.Laws.SameAnswer.{same-answer}
 use Rattle.windows.specs.Contract.{IsPlanCallAt}
 use Rattle.windows.specs.Laws.Call.{is-call-at}
 

@@ -3,12 +3,12 @@ use crate::limits::has_bad_window;
 use crate::shut::must_shut;
 use crate::shut::plan_at;
 use plan::Plan;
-use planner::Planned;
 use planner::call::lent_verdict;
 use planner::call::plan_read;
 use planner::call::refused;
 use refusal::Refusal;
 use refusal::Verdict;
+use solution::Planned;
 ghost use mathlib.Core.Path.{_≡_};
 ghost use mathlib.Core.List.{_++_};
 ghost use Prim.Native.Nat.{_≤_};
@@ -19,7 +19,7 @@ ghost use Rattle.postman.specs.PlanCall.{sheetPlaces, callConditions, lastCondi
 ghost use Rattle.postman.specs.Windows.{windowsIn, planAt, windowConditions};
 ghost use Rattle.plan.specs.Records.{planValue};
 ghost use Rattle.refusal.specs.Verdict.{verdictNumber};
-ghost use Rattle.planner.specs.Contract.{IsPlanned};
+ghost use Rattle.solution.specs.Planned.{IsPlanned};
 ghost use Rattle.windows.specs.Contract.{departure, IsPlanCallAt};
 
 // 19, then 20: all windows are tested before any is used.

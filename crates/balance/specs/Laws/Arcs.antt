@@ -12,9 +12,9 @@ use Rattle.postman.specs.Laws.Occurrences.{occurrences-append}
 use Rattle.postman.specs.Laws.Sum.{sum-none, sum-append}
 use Rattle.postman.specs.Laws.Amounts.{Within}
 use Rattle.balance.specs.Optimality.{sent, received}
-use Rattle.balance.specs.Step.{State, amount, potential, empty, add, addAll}
+use Rattle.residual_search.specs.Step.{State, amount, potential, empty, add, addAll}
 use Rattle.balance.specs.Invariant.{Metric, Joining, limit, Certified, Counted}
-use Rattle.balance.specs.Laws.Fill.{zero-at}
+use Rattle.residual_search.specs.Laws.Fill.{zero-at}
 use Rattle.balance.specs.Laws.Step.{add-certified, add-counted}
 
 -- ---- the empty state

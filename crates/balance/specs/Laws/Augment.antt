@@ -17,7 +17,7 @@ use Rattle.postman.specs.Laws.Tests.{cond-ind, eqb-other}
 use Rattle.postman.specs.Laws.Occurrences.{delta-yes, delta-no}
 use Rattle.postman.specs.Laws.Sum.{sum-cong-mem, sum-change-once, once}
 use Rattle.balance.specs.Optimality.{Tight, sent, received}
-use Rattle.balance.specs.Step.{amount, push, augment}
+use Rattle.residual_search.specs.Step.{amount, push, augment}
 use Rattle.balance.specs.Invariant.{Loopless}
 
 module _ (vs : List ℕ) (unique : (i : ℕ) → occurrences i vs ≤ 1) (small : (i : ℕ) → List·Memᴰ i vs → i < 64) where

@@ -9,13 +9,13 @@ use native.Mathlib.Omega.{arith}
 use lib.ListN.{getD, replicate, length-replicate}
 use lib.IntN.{ℤ, pos, _-ℤ_}
 use Rattle.balance.specs.Optimality.{Feasible, Tight}
-use Rattle.balance.specs.Search.{Found, search}
-use Rattle.balance.specs.Step.{State, amount, potential, residualLength}
+use Rattle.residual_search.specs.Search.{Found, search}
+use Rattle.residual_search.specs.Step.{State, amount, potential, residualLength}
 use Rattle.balance.specs.Multipliers.{fromRoot, ways, multipliers}
 use Rattle.balance.specs.Invariant.{Metric, limit, Certified}
-use Rattle.balance.specs.Laws.Search.{Ground, Searching, searched, whole-settled}
+use Rattle.residual_search.specs.Laws.Search.{Ground, Searching, searched, whole-settled}
 use Rattle.balance.specs.Laws.Step.{residual-ahead, residual-ground, raised-feasible, raised-tight}
-use Rattle.balance.specs.Laws.Fill.{zero-at, fill-other, fill-here}
+use Rattle.residual_search.specs.Laws.Fill.{zero-at, fill-other, fill-here}
 
 module _ (d : ℕ → ℕ → ℕ) (vs : List ℕ) (metric : Metric d vs) (s : State) (certified : Certified d vs s) (room : s .count < limit) (root : ℕ) (mr : List·Memᴰ root vs) where
   abbrev f : ℕ → ℕ → ℕ

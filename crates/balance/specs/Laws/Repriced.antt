@@ -6,7 +6,7 @@ use native.Mathlib.Omega.{arith}
 use lib.ListN.{length, getD}
 use Rattle.postman.specs.Laws.Amounts.{Within}
 use Rattle.balance.specs.Optimality.{Feasible, Tight}
-use Rattle.balance.specs.Step.{State, amount, potential}
+use Rattle.residual_search.specs.Step.{State, amount, potential}
 use Rattle.balance.specs.Invariant.{Certified, Counted}
 use Rattle.balance.specs.Laws.Duality.{cost-price, tight-slack}
 

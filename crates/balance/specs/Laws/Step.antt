@@ -14,17 +14,17 @@ use Rattle.postman.specs.Balancing.{sumOver}
 use Rattle.postman.specs.Laws.Occurrences.{mem?}
 use Rattle.postman.specs.Laws.Amounts.{Within}
 use Rattle.postman.specs.Laws.Membership.{getD-mem}
-use Rattle.balance.specs.Bounds.{AtMost}
+use Rattle.residual_search.specs.Bounds.{AtMost}
 use Rattle.balance.specs.Optimality.{Feasible, Tight, Balances}
-use Rattle.balance.specs.Search.{Found, beyond, search}
-use Rattle.balance.specs.Until.{until, settledBy}
-use Rattle.balance.specs.Step.{State, amount, potential, residual, residualLength, augment, raise, way, add, IsAdded}
+use Rattle.residual_search.specs.Search.{Found, beyond, search}
+use Rattle.residual_search.specs.Until.{until, settledBy}
+use Rattle.residual_search.specs.Step.{State, amount, potential, residual, residualLength, augment, raise, way, add, IsAdded}
 use Rattle.balance.specs.Invariant.{Metric, limit, Certified, Counted}
 use Rattle.balance.specs.Laws.Duality.{cost-price, tight-slack}
-use Rattle.balance.specs.Laws.Search.{Ground, Searching, searched, goal-settled}
-use Rattle.balance.specs.Laws.Until.{Agree, until-agrees, raise-same}
+use Rattle.residual_search.specs.Laws.Search.{Ground, Searching, searched, goal-settled}
+use Rattle.residual_search.specs.Laws.Until.{Agree, until-agrees, raise-same}
 use Rattle.balance.specs.Laws.Augment.{Sent, augment-sent}
-use Rattle.balance.specs.Laws.Fill.{fill-length, fill-other, fill-here}
+use Rattle.residual_search.specs.Laws.Fill.{fill-length, fill-other, fill-here}
 
 -- ---- residual lengths
 

@@ -16,12 +16,12 @@ use Rattle.postman.specs.Arborescence.{candidates}
 use Rattle.postman.specs.Laws.Tests.{same-test, and-both, and-parts}
 use Rattle.postman.specs.Laws.Membership.{below-mem}
 use Rattle.postman.specs.Laws.Link.{link, held-mem, links-select, link-ends}
-use Rattle.network.specs.Contracts.{IsLinks, IsComponents}
+use Rattle.required.specs.Contracts.{IsLinks, IsComponents}
 use Rattle.postman.specs.Laws.Selection.{select-select}
 use Rattle.postman.specs.Laws.Lists.{select-map}
 use Rattle.candidates.specs.Places.{isCandidate, placesOf}
 use Rattle.postman.specs.Laws.Pairs.{linkOf, pairs-are, bothPass, pairs-select}
-use Rattle.network.specs.Laws.RequiredVertex.{of-required}
+use Rattle.required.specs.Laws.RequiredVertex.{of-required}
 use Rattle.network.specs.Laws.Vertices.{required-of-64}
 
 module _ (p : Plan) (ok : WellFormed p) where

@@ -10,7 +10,7 @@ use Rattle.postman.specs.Link.{Link}
 use Rattle.postman.specs.Component.{component, componentCount}
 use Rattle.postman.specs.Arborescence.{linkAt, candidates}
 use Rattle.postman.specs.Laws.Distance.{bounded}
-use Rattle.network.specs.Contracts.{IsLinks, IsComponents}
+use Rattle.required.specs.Contracts.{IsLinks, IsComponents}
 use Rattle.arborescence.specs.Layout.{laidOut, IsLayout}
 use Rattle.arborescence.specs.Candidates.{AreCandidates}
 use Rattle.arborescence.specs.Laws.Candidates.{are-sources}

@@ -19,12 +19,12 @@ use Rattle.postman.specs.Laws.Tests.{not-not}
 use Rattle.postman.specs.Laws.Membership.{anyOf-not}
 use Rattle.postman.specs.Laws.Required.{required-lt}
 use Rattle.postman.specs.Laws.TourCost.{tour-cost}
-use Rattle.shortest.specs.ShortestPath.{shortestPath}
-use Rattle.shortest.specs.Laws.ShortestPath.{shortest-path}
+use Rattle.paths.specs.ShortestPath.{shortestPath}
+use Rattle.paths.specs.Laws.ShortestPath.{shortest-path}
 use Rattle.circuit.specs.Legs.{amount, units, legTails, legHeads, Completes}
 use Rattle.circuit.specs.Tour.{placesOf, tourBy, tour, ArePaths, HavePaths, IsCompletion}
-use Rattle.circuit.specs.Circuit.{circuit}
-use Rattle.circuit.specs.Eulerian.{Eulerian}
+use Rattle.hierholzer.specs.Circuit.{circuit}
+use Rattle.hierholzer.specs.Eulerian.{Eulerian}
 use Rattle.circuit.specs.Filled.{Laid}
 use Rattle.circuit.specs.Laws.Legs.{leg-at, leg-ends, legs-length, eulerian}
 use Rattle.circuit.specs.Laws.Laid.{prefix-length}

@@ -8,7 +8,7 @@ use lib.ListN.{length, getD}
 use lib.Dec.{T}
 use Rattle.postman.specs.Lists.{delta, occurrences}
 use Rattle.postman.specs.Laws.Occurrences.{delta-yes, delta-no}
-use Rattle.circuit.specs.Laws.Counting.{map-le}
+use Rattle.hierholzer.specs.Laws.Counting.{map-le}
 
 module _ (X : ℕ → Bool) where
   -- 1 in the set, 0 outside

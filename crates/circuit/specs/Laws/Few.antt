@@ -20,7 +20,7 @@ use Rattle.postman.specs.Laws.Required.{required-once, required-lt, numbers-arc
 use Rattle.postman.specs.Laws.Assignment.{weight}
 use Rattle.postman.specs.Laws.LinkLegs.{ends}
 use Rattle.circuit.specs.Legs.{amount, units, Completes}
-use Rattle.circuit.specs.Laws.Lists.{select-length}
+use Rattle.hierholzer.specs.Laws.Lists.{select-length}
 use Rattle.circuit.specs.Laws.Units.{units-weight}
 
 weight-length : (ls : List Link) → weight (λ i j. 1) (ends ls) ≡ length ls

@@ -10,7 +10,7 @@ use Rattle.postman.specs.Lists.{below, upFrom}
 use Rattle.postman.specs.Link.{Link}
 use Rattle.circuit.specs.Legs.{pairAt, unitsBelow, units}
 use Rattle.circuit.specs.Filled.{Extends, Added}
-use Rattle.circuit.specs.Laws.Lists.{append-nil, map-append, flat-append, upFrom-append, map-replicate}
+use Rattle.hierholzer.specs.Laws.Lists.{append-nil, map-append, flat-append, upFrom-append, map-replicate}
 
 pub extends-none : (old : List ℕ) (n : ℕ) → take (n + 0) old ≡ take n old ++ []
 extends-none old n = ap (λ z. take z old) (add-zero n) ∙ sym (append-nil (take n old))

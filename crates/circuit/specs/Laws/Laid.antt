@@ -8,7 +8,7 @@ use Rattle.postman.specs.Plan.{Plan, arcAt, requiredNumbers}
 use Rattle.postman.specs.Link.{Link}
 use Rattle.circuit.specs.Legs.{units, arcLeg, legs, legTails, legHeads}
 use Rattle.circuit.specs.Filled.{Extends, Added, linksOf, Noted, Laid}
-use Rattle.circuit.specs.Laws.Lists.{map-append}
+use Rattle.hierholzer.specs.Laws.Lists.{map-append}
 use Rattle.circuit.specs.Laws.Tour.{split, legs-count}
 
 pub links-tails : (ts hs : List ℕ) → length hs ≡ length ts → map (λ l. l .tail) (linksOf ts hs) ≡ ts

@@ -28,9 +28,9 @@ use Rattle.postman.specs.Laws.Link.{link-ends}
 use Rattle.postman.specs.Laws.Arborescence.{joins}
 use Rattle.postman.specs.Laws.Balancing.{within-heads, within-tails}
 use Rattle.postman.specs.Laws.LinkLegs.{ends, ends-heads, ends-tails}
-use Rattle.circuit.specs.Eulerian.{Eulerian}
+use Rattle.hierholzer.specs.Eulerian.{Eulerian}
 use Rattle.circuit.specs.Legs.{amount, pairAt, unitsBelow, units, arcLeg, legs, legTails, legHeads, Completes}
-use Rattle.circuit.specs.Laws.Lists.{map-append, map-map, replicate-mem}
+use Rattle.hierholzer.specs.Laws.Lists.{map-append, map-map, replicate-mem}
 use Rattle.circuit.specs.Laws.Units.{units-out, units-into}
 use Rattle.circuit.specs.Laws.Cut.{entered-too}
 

@@ -12,7 +12,7 @@ use Rattle.postman.specs.Lists.{select, upFrom, below}
 use Rattle.postman.specs.Plan.{Arc, Plan, isRequiredArc, arcAt, requiredNumbers}
 use Rattle.postman.specs.Laws.Membership.{length-below}
 use Rattle.circuit.specs.Filled.{Noted, numbersBelow}
-use Rattle.circuit.specs.Laws.Lists.{append-nil, map-append, select-append, upFrom-append, select-length}
+use Rattle.hierholzer.specs.Laws.Lists.{append-nil, map-append, select-append, upFrom-append, select-length}
 
 abbrev kept : Bool → ℕ → List ℕ
 kept true k = k ∷ []

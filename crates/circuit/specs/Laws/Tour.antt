@@ -23,16 +23,16 @@ use Rattle.postman.specs.Laws.Pick.{Permutation, permutation-mem}
 use Rattle.postman.specs.Laws.Distance.{walk-append, cost-append}
 use Rattle.postman.specs.Laws.Required.{required-open, numbers-mem, mem-numbers, numbers-arcs, numbers-field, sum-cost}
 use Rattle.postman.specs.Laws.LinkLegs.{link-weight}
-use Rattle.circuit.specs.Circuit.{circuit}
-use Rattle.circuit.specs.Eulerian.{Joined, IsCircuit}
+use Rattle.hierholzer.specs.Circuit.{circuit}
+use Rattle.hierholzer.specs.Eulerian.{Joined, IsCircuit}
 use Rattle.circuit.specs.Legs.{amount, units, arcLeg, legs, legTails, legHeads, Completes}
 use Rattle.circuit.specs.Tour.{legPlaces, placesOf, tourBy, IsPath, ArePaths}
 use Rattle.circuit.specs.Laws.Sum.{permutation-sum}
-use Rattle.circuit.specs.Laws.Lists.{map-append, map-map, upFrom-append}
-use Rattle.circuit.specs.Laws.Counting.{mem-of-permutation}
+use Rattle.hierholzer.specs.Laws.Lists.{map-append, map-map, upFrom-append}
+use Rattle.hierholzer.specs.Laws.Counting.{mem-of-permutation}
 use Rattle.circuit.specs.Laws.Units.{weight-append, units-weight}
 use Rattle.circuit.specs.Laws.Few.{few-numbers, few-others}
-use Rattle.circuit.specs.Laws.Circuit.{is-circuit}
+use Rattle.hierholzer.specs.Laws.Circuit.{is-circuit}
 use Rattle.circuit.specs.Laws.Legs.{leg-at, leg-ends, legs-some, eulerian}
 
 -- ---- the places of a leg

@@ -19,7 +19,7 @@ use Rattle.postman.specs.Laws.Assignment.{weight}
 use Rattle.postman.specs.Laws.LinkLegs.{ends}
 use Rattle.circuit.specs.Legs.{amount, pairAt, unitsBelow, units}
 use Rattle.circuit.specs.Laws.Sum.{sum-select, flat-sum}
-use Rattle.circuit.specs.Laws.Lists.{upFrom-append}
+use Rattle.hierholzer.specs.Laws.Lists.{upFrom-append}
 
 pub weight-append : (w : ℕ → ℕ → ℕ) (ls ms : List Link) → weight w (ends (ls ++ ms)) ≡ weight w (ends ls) + weight w (ends ms)
 unfolding weight ends

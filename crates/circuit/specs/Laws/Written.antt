@@ -9,7 +9,7 @@ use lib.Seq.{take-append-seam, drop-append-add, drop-drop, set-split, take-lengt
 use Rattle.shortest.specs.Contracts.{overwrite}
 use Rattle.circuit.specs.Tour.{legPlaces, placesOf, written}
 use Rattle.circuit.specs.Laws.Tour.{places-number, places-path}
-use Rattle.circuit.specs.Laws.Lists.{append-nil, flat-append, take-one}
+use Rattle.hierholzer.specs.Laws.Lists.{append-nil, flat-append, take-one}
 
 module _ (path : ℕ → ℕ → List ℕ) (numbers tails heads : List ℕ) where
   -- ---- one leg more

@@ -10,11 +10,12 @@ use Rattle.postman.specs.PlanFile.{planOf}
 use Rattle.postman.specs.PlanCall.{sheetPlaces, callRefusal}
 use Rattle.postman.specs.Laws.Acceptance.{file-accepted}
 use Rattle.budget.specs.Laws.{within}
-use Rattle.planner.specs.declared.Planned.{Planned}
-use Rattle.planner.specs.Contract.{IsPlanned, IsPlanCall}
-use Rattle.planner.specs.SameAnswer.{SameAnswer}
+use Rattle.solution.specs.declared.Planned.{Planned}
+use Rattle.planner.specs.Contract.{IsPlanCall}
+use Rattle.solution.specs.Planned.{IsPlanned}
+use Rattle.solution.specs.SameAnswer.{SameAnswer}
 use Rattle.planner.specs.Laws.Call.{file-good, sheet-long, budget-good, planned-as}
-use Rattle.planner.specs.Laws.SameAnswer.{same-answer}
+use Rattle.solution.specs.Laws.SameAnswer.{same-answer}
 use Rattle.districts.specs.declared.machine.District.{District as DistrictRecord}
 use Rattle.districts.specs.declared.machine.Machine.{Machine}
 use Rattle.districts.specs.Line.{District, Line}

@@ -21,9 +21,6 @@ pub was-false : (b : Bool) → not b ≡ true → b ≡ false
 was-false true e = absurd (subst T (sym e) tt)
 was-false false e = refl
 
-pub clash : (b : Bool) → b ≡ true → b ≡ false → ⊥
-clash b p q = subst T (sym p ∙ q) tt
-
 -- ---- places
 
 pub none-taken : (q : ℕ) (line : List DistrictRecord) (n : ℕ) → ((j : ℕ) → j < n → getD line j noDistrict .place ≢ q) → n ≤ length line → occurs q (places (districtsIn line n)) ≡ false

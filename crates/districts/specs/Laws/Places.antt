@@ -12,7 +12,7 @@ use Rattle.postman.specs.Laws.Tests.{test, not-not, is-true, is-false, of-true}
 use Rattle.postman.specs.Laws.Membership.{anyOf-at, anyOf-not, mem-below, below-mem, mem-map}
 use Rattle.postman.specs.Laws.Distinct.{mem-occurs, occurs-mem}
 use Rattle.postman.specs.Laws.Pick.{pick-of-mem, pick-length, pick-cases}
-use Rattle.shortest.specs.Laws.FirstNumber.{first-lt, first-le, first-test}
+use Rattle.postman.specs.Laws.FirstNumber.{first-lt, first-le, first-test}
 use Rattle.districts.specs.Line.{District, Line, places, lowestFree}
 use Rattle.districts.specs.Places.{lowestBelow}
 

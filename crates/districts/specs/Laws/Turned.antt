@@ -12,20 +12,21 @@ use Rattle.postman.specs.Plan.{Plan}
 use Rattle.postman.specs.PlanFile.{planOf}
 use Rattle.postman.specs.PlanCall.{sheetPlaces, highestBudget, triedCount, bestCost}
 use Rattle.postman.specs.Laws.Lists.{map-append}
-use Rattle.planner.specs.declared.Planned.{Planned}
+use Rattle.solution.specs.declared.Planned.{Planned}
 use Rattle.planner.specs.Refusals.{planRefusal}
-use Rattle.planner.specs.Resumed.{IsReachedBy}
-use Rattle.planner.specs.Contract.{IsPlanned}
+use Rattle.solution.specs.Resumed.{IsReachedBy}
+use Rattle.solution.specs.Planned.{IsPlanned}
 use Rattle.districts.specs.declared.machine.District.{District as DistrictRecord}
 use Rattle.districts.specs.declared.machine.Machine.{Machine}
-use Rattle.districts.specs.declared.stint.Stint.{Stint}
+use Rattle.district_turn.specs.declared.stint.Stint.{Stint}
 use Rattle.districts.specs.declared.turn.Outcome.{Outcome}
 use Rattle.districts.specs.declared.turn.Outcome.the-variants.{Empty, ShortSheet}
 use Rattle.districts.specs.declared.turn.Turned.{Turned}
 use Rattle.districts.specs.Line.{District, district, Line, total, goneOn, finishes, turn}
-use Rattle.districts.specs.Stint.{IsStint, LeavesSheet}
+use Rattle.district_turn.specs.Stint.{IsStint, LeavesSheet}
 use Rattle.districts.specs.Machine.{bytesOf, districtOf, lineOf, noDistrict, IsUnderWay, IsSound, soFar, behind, heldNow, IsAfter, IsStill, IsServed, Moves, IsTurned}
-use Rattle.districts.specs.Laws.Held.{clash, line-length, front}
+use Rattle.districts.specs.Laws.Held.{line-length, front}
+use Rattle.district_turn.specs.Laws.Clash.{clash}
 
 -- ---- nothing moves
 

@@ -1,7 +1,7 @@
 -- Of an answer the contract gives the floor's sign and the count of places, which lie within the sheet.
 use mathlib.Core.Path.{ap}
 use Rattle.refusal.specs.Verdict.{verdictNumber}
-use Rattle.planner.specs.Laws.Answered.{floor-above, places-fit, places-count}
+use Rattle.solution.specs.Laws.Answered.{floor-above, places-fit, places-count}
 use borrow.Author.Needs.{needs}
 use Rattle.drive.proofs.main.Statement.{statement}
 use Rattle.drive.proofs.main.Tie as tie

@@ -16,10 +16,11 @@ use Rattle.records.specs.declared.reader.Read.{Read}
 use Rattle.records.specs.declared.reader.Read.the-variants.{Given, Refused}
 use Rattle.records.specs.Reading.{readNumbers, arcsRead, Room}
 use Rattle.records.specs.Laws.Reading.{room-for}
-use Rattle.exports.specs.RecordBytes.{arcBytes, arcsIn}
-use Rattle.exports.specs.Number.{oneNumber}
-use Rattle.exports.specs.Codec.{packed, lentAfter}
-use Rattle.exports.specs.Laws.RecordBytes.{length-lent, length-records, arcs-left, arcs-back}
+use Rattle.encoding.specs.RecordBytes.{arcBytes, arcsIn}
+use Rattle.answers.specs.Number.{oneNumber}
+use Rattle.exports.specs.Codec.{lentAfter}
+use Rattle.answers.specs.FileNumber.{packed}
+use Rattle.encoding.specs.Laws.RecordBytes.{length-lent, length-records, arcs-left, arcs-back}
 
 module _ (file lent : List ℕ) where
   abbrev all : ℕ × ℕ × ℕ

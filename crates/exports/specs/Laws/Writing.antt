@@ -15,12 +15,12 @@ use Rattle.plan.specs.declared.Arc.{Arc as ArcRecord}
 use Rattle.plan.specs.Records.{arcValue, recordOf, planValue}
 use Rattle.postman.specs.Laws.Acceptance.{few-arcs}
 use Rattle.postman.specs.Laws.FileLength.{fileLength-le}
-use Rattle.plan_file.specs.Laws.Writing.{headerRefusal, too-many-vertices, no-edition, refused-answer, refused-bytes, length-given}
+use Rattle.plan_writer.specs.Laws.Writing.{headerRefusal, too-many-vertices, no-edition, refused-answer, refused-bytes, length-given}
 use Rattle.records.specs.Writing.{atMost, countedPlan, listPlan, loaded}
 use Rattle.records.specs.Laws.Writing.{at-most-same, at-most-limit, same-answer, same-bytes}
-use Rattle.exports.specs.RecordBytes.{arcsIn}
+use Rattle.encoding.specs.RecordBytes.{arcsIn}
 use Rattle.exports.specs.Codec.{lentPlan}
-use Rattle.exports.specs.Laws.RecordBytes.{length-records}
+use Rattle.encoding.specs.Laws.RecordBytes.{length-records}
 
 -- ---- the edition
 

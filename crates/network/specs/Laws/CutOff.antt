@@ -16,10 +16,10 @@ use Rattle.postman.specs.Laws.Tests.{same-test, and-both, and-parts, not-not, e
 use Rattle.postman.specs.Laws.Membership.{anyOf-mem, anyOf-at, anyOf-not, mem-below, below-mem}
 use Rattle.postman.specs.Laws.Distance.{bounded, distance-le-noPath}
 use Rattle.shortest.specs.Contracts.{IsTable}
-use Rattle.network.specs.Contracts.{IsRequiredFlags}
+use Rattle.required.specs.Contracts.{IsRequiredFlags}
 use Rattle.network.specs.Thinning.{cell}
 use Rattle.network.specs.CutOff.{isMissed, missesSome, isCut, cutsOff}
-use Rattle.network.specs.Laws.RequiredVertex.{required-of, of-required, required-below}
+use Rattle.required.specs.Laws.RequiredVertex.{required-of, of-required, required-below}
 
 module _ (p : Plan) (ok : WellFormed p) (d : List (List ℕ)) (r : List Bool) (known : IsTable p d) (flags : IsRequiredFlags p r) where
   -- a vertex is flagged exactly where it is required

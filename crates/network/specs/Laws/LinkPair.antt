@@ -22,9 +22,9 @@ use Rattle.postman.specs.Laws.Lists.{map-append}
 use Rattle.postman.specs.Laws.Link.{link, joined, joins-same, held-mem, mem-held, AreProper, proper, mem-proper, turn-mem, mem-turn, turn-gone, turn-stays, turn-proper, via, via-other, thinned-append, thinned-skip}
 use Rattle.postman.specs.Laws.Pairs.{linkOf, pairs-are, bothPass, pairs-select}
 use Rattle.shortest.specs.Contracts.{IsTable}
-use Rattle.network.specs.Contracts.{IsRequiredFlags}
+use Rattle.required.specs.Contracts.{IsRequiredFlags}
 use Rattle.network.specs.Thinning.{cell, flag, isPair, between, turnAt, rowsThinned}
-use Rattle.network.specs.Laws.RequiredVertex.{required-of, of-required, required-below}
+use Rattle.required.specs.Laws.RequiredVertex.{required-of, of-required, required-below}
 use Rattle.network.specs.Laws.Vertices.{required-of-64}
 use Rattle.network.specs.Laws.CutOff.{flagged, flag-of}
 use Rattle.network.specs.Laws.Thinning.{placesThinned, rows-places}

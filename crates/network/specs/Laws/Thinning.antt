@@ -13,7 +13,7 @@ use native.Mathlib.Decide.{ℕ-discrete}
 use Rattle.postman.specs.Laws.Tests.{cond-ind}
 use Rattle.postman.specs.Lists.{anyOf, below}
 use Rattle.network.specs.Thinning.{cell, flag, far, nearby, between, turnAt, rowThinned, rowsThinned}
-use Rattle.network.specs.Laws.Search.{some-below, none-below}
+use Rattle.required.specs.Laws.Search.{some-below, none-below}
 
 -- a conjunction that fails by a part, and one that holds by both
 pub no-left : {a : Bool} (b : Bool) → a ≡ false → (a && b) ≡ false

@@ -11,8 +11,8 @@ use Rattle.postman.specs.Laws.Tests.{same-test}
 use Rattle.postman.specs.Laws.Membership.{select-cong, below-mem}
 use Rattle.postman.specs.Laws.Required.{required-lt}
 use Rattle.postman.specs.Laws.Selection.{select-past}
-use Rattle.network.specs.Contracts.{IsRequiredFlags}
-use Rattle.network.specs.Laws.RequiredVertex.{required-of}
+use Rattle.required.specs.Contracts.{IsRequiredFlags}
+use Rattle.required.specs.Laws.RequiredVertex.{required-of}
 
 module _ (p : Plan) (ok : WellFormed p) where
   pub required-of-64 : select (isRequired p) (below 64) ≡ required p

@@ -7,11 +7,11 @@ use lib.ListN.{length, take}
 use Rattle.postman.specs.Plan.{Plan}
 use Rattle.postman.specs.PlanFile.{planOf}
 use Rattle.postman.specs.Windows.{Departure, windowsIn, planAt, callRefusalAt}
-use Rattle.planner.specs.declared.Planned.{Planned}
-use Rattle.planner.specs.Contract.{countUnless, IsPlanned}
-use Rattle.planner.specs.SameAnswer.{SameAnswer}
-use Rattle.planner.specs.Laws.Answered.{drive-is}
-use Rattle.planner.specs.Laws.SameAnswer.{same-answer}
+use Rattle.solution.specs.declared.Planned.{Planned}
+use Rattle.solution.specs.Planned.{countUnless, IsPlanned}
+use Rattle.solution.specs.SameAnswer.{SameAnswer}
+use Rattle.solution.specs.Laws.Answered.{drive-is}
+use Rattle.solution.specs.Laws.SameAnswer.{same-answer}
 use Rattle.windows.specs.Contract.{IsPlanCallAt}
 
 module _ (p : Plan) (budget : ℕ) (old new old′ new′ : List ℕ) (r s : Planned) where

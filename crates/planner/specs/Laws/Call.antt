@@ -30,11 +30,12 @@ use Rattle.budget.specs.declared.Checked.the-variants.{Good, Refused}
 use Rattle.budget.specs.Checks.{checkedOf}
 use Rattle.budget.specs.Laws.{let-through}
 use Rattle.network.specs.declared.network.Network.{Network}
-use Rattle.network.specs.Contracts.{IsNetwork}
-use Rattle.planner.specs.declared.Planned.{Planned}
+use Rattle.network.specs.Network.{IsNetwork}
+use Rattle.solution.specs.declared.Planned.{Planned}
 use Rattle.planner.specs.Refusals.{networkRefusal, planRefusal, budgetRefusal, sheetRefusal}
-use Rattle.planner.specs.Prepared.{IsMeasured, IsKnown}
-use Rattle.planner.specs.Contract.{IsPlanned, IsPlanCall}
+use Rattle.multipliers.specs.Prepared.{IsMeasured, IsKnown}
+use Rattle.planner.specs.Contract.{IsPlanCall}
+use Rattle.solution.specs.Planned.{IsPlanned}
 use Rattle.planner.specs.Laws.Idle.{idle}
 use Rattle.planner.specs.Laws.Refused.{refusedWith, is-refused}
 

@@ -18,8 +18,8 @@ use Rattle.refusal.specs.Verdict.{refusalNumber}
 use Rattle.budget.specs.declared.Budget.{Budget}
 use Rattle.budget.specs.declared.Checked.the-variants.{Good, Refused}
 use Rattle.budget.specs.Checks.{checkedOf}
-use Rattle.planner.specs.declared.Planned.{Planned}
-use Rattle.planner.specs.Contract.{IsPlanned}
+use Rattle.solution.specs.declared.Planned.{Planned}
+use Rattle.solution.specs.Planned.{IsPlanned}
 use Rattle.planner.specs.Refusals.{planRefusal}
 use Rattle.planner.specs.Laws.Refused.{refusedWith}
 use Rattle.planner.specs.Laws.Call.{parts-refusal, refused-planned, planned-as}

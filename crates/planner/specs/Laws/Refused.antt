@@ -12,8 +12,8 @@ use Rattle.postman.specs.PlanCall.{fields}
 use Rattle.refusal.specs.declared.Refusal.{Refusal}
 use Rattle.refusal.specs.declared.Verdict.the-variants.{Refused}
 use Rattle.refusal.specs.Verdict.{refusalNumber}
-use Rattle.planner.specs.declared.Planned.{Planned}
-use Rattle.planner.specs.Contract.{countUnless, IsPlanned}
+use Rattle.solution.specs.declared.Planned.{Planned}
+use Rattle.solution.specs.Planned.{countUnless, IsPlanned}
 
 abbrev pub refusedWith : Refusal → Planned
 refusedWith r = record { verdict = Refused r; places = 0; cost = 0; floor = pos 0; trees = 0; whole = false; parts = 0; multipliers = replicate 64 (pos 0) }

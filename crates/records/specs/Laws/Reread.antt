@@ -14,8 +14,8 @@ use Rattle.plan.specs.Records.{arcValue, zeroRecord}
 use Rattle.postman.specs.Laws.Membership.{map-mem, mem-getD}
 use Rattle.postman.specs.Laws.Acceptance.{file-is-accepted, arcs-read, vertices-read, accepted-is-writable, writable-well-formed}
 use Rattle.postman.specs.Laws.PlanFile.{edition-same, plan-same, is-file}
-use Rattle.plan_file.specs.Laws.Reread.{written-file}
-use Rattle.plan_file.specs.Laws.Writing.{length-given, refusal-given}
+use Rattle.plan_writer.specs.Laws.Reread.{written-file}
+use Rattle.plan_writer.specs.Laws.Writing.{length-given, refusal-given}
 use Rattle.records.specs.declared.arrays.Filled.{Filled}
 use Rattle.records.specs.Reading.{readNumbers}
 use Rattle.records.specs.Laws.Reading.{map-drop, long-enough}

@@ -24,27 +24,31 @@ use Rattle.postman.specs.Laws.Sum.{sum-append}
 use Rattle.postman.specs.Laws.Membership.{map-mem, mem-map, select-mem, upFrom-mem, mem-upFrom}
 use Rattle.postman.specs.Laws.Occurrences.{occurrences-of-mem}
 use Rattle.postman.specs.Laws.Lists.{map-cong, map-append, map-map}
-use Rattle.balance.specs.Step.{State, cell, add}
-use Rattle.balance.specs.Laws.Plan.{certified-least}
+use Rattle.residual_search.specs.Step.{State, cell, add}
+use Rattle.direct_amounts.specs.Laws.Plan.{certified-least}
 use Rattle.tree_count.specs.Recursion.{merged, countTrees}
 use Rattle.tree_count.specs.Matrix.{entriesOf, cap, AreCounts}
 use Rattle.tree_count.specs.Laws.Recursion.{entriesIn, count-cong}
-use Rattle.search.specs.declared.branch.Branch.{Branch}
-use Rattle.search.specs.declared.candidate.Candidate.{Candidate}
-use Rattle.search.specs.declared.pricing.Pricing.{Pricing}
-use Rattle.search.specs.declared.progress.Progress.{Progress}
-use Rattle.search.specs.Links.{linksIn}
-use Rattle.search.specs.Branch.{sourceBy, renamedBy, sourcesBy, leftChoices, completions, entered}
-use Rattle.search.specs.Progress.{Held, passOver, tryTree, advance, keep}
-use Rattle.search.specs.Bound.{ArePotentials, Bounds, Low, reducedBy}
-use Rattle.search.specs.Prepared.{Prepared}
-use Rattle.search.specs.Contracts.{heldOf, isEntered, IsShort, chosenIn, namesIn, stateIn, CanReduce, CanGoBelow, IsBranch, IsBelow, IsCandidate, CanLevel, AreLevelled, repricedBranch, Prices, IsLifted, IsBounded, IsPriced, linkOf, treesIn, IsExplored}
-use Rattle.search.specs.Laws.Prepared.{in-plan, some-component, agrees, places, places-fit, here-mem, here-source}
-use Rattle.search.specs.Laws.Branch.{source-lt, completions-step, completions-last, completions-cong, entered-none, entered-some, entered-count}
-use Rattle.search.specs.Laws.Progress.{pass-none, held-same, advance-append, passed-over, Idle}
-use Rattle.search.specs.Laws.Bound.{too-dear, priced-bounds}
+use Rattle.branches.specs.declared.branch.Branch.{Branch}
+use Rattle.branches.specs.declared.candidate.Candidate.{Candidate}
+use Rattle.tree_bounds.specs.declared.pricing.Pricing.{Pricing}
+use Rattle.branches.specs.declared.progress.Progress.{Progress}
+use Rattle.branches.specs.Links.{linksIn}
+use Rattle.tree_bounds.specs.Branch.{sourceBy, renamedBy, sourcesBy, leftChoices, completions, entered}
+use Rattle.branches.specs.Progress.{Held, passOver, tryTree, advance, keep}
+use Rattle.tree_bounds.specs.Bound.{ArePotentials, Bounds, Low, reducedBy}
+use Rattle.tree_bounds.specs.Prepared.{Prepared}
+use Rattle.search.specs.Contracts.{IsPriced, IsExplored}
+use Rattle.branches.specs.Branches.{chosenIn, namesIn, stateIn, CanGoBelow, IsBranch, IsBelow, IsCandidate, repricedBranch, linkOf, treesIn}
+use Rattle.branches.specs.Holding.{heldOf, isEntered, IsShort}
+use Rattle.tree_bounds.specs.Pricing.{Prices, IsLifted, IsBounded}
+use Rattle.tree_bounds.specs.Reducible.{CanReduce, CanLevel, AreLevelled}
+use Rattle.tree_bounds.specs.Laws.Prepared.{in-plan, some-component, agrees, places, places-fit, here-mem, here-source}
+use Rattle.tree_bounds.specs.Laws.Branch.{source-lt, completions-step, completions-last, completions-cong, entered-none, entered-some, entered-count}
+use Rattle.branches.specs.Laws.Progress.{pass-none, held-same, advance-append, passed-over, Idle}
+use Rattle.tree_bounds.specs.Laws.Bound.{too-dear, priced-bounds}
 use Rattle.search.specs.Laws.Kept.{can-level, cost-small, kept-branch}
-use Rattle.search.specs.Laws.Below.{chosen-short, fixed-small, room, balancing-small, can-reduce, can-go-below, chosen-more, below-branch}
+use Rattle.branches.specs.Laws.Below.{chosen-short, fixed-small, room, balancing-small, can-reduce, can-go-below, chosen-more, below-branch}
 
 -- ---- lists
 

@@ -1,11 +1,9 @@
 -- The branch goes on with the potentials that a link has raised: they certify the amounts without it too (`add-tight`), and a constant taken off all of them changes neither.
-use mathlib.Core.Path.{_≡_, ap, _∙_, subst, subst⁻¹}
+use mathlib.Core.Path.{_≡_, ap, subst, subst⁻¹}
 use mathlib.Core.List.{List, map, List·Memᴰ}
 use Prim.Native.Nat.{ℕ, _+_, _≤_, _<_}
-use native.Mathlib.Decide.{ℕ-discrete}
 use native.Mathlib.Omega.{arith}
-use lib.ListN.{length, getD, set, length-set, length-append, length-map}
-use lib.Seq.{getD-set-same, getD-set-other}
+use lib.ListN.{length, getD, length-append, length-map}
 use Rattle.postman.specs.Plan.{Plan, requiredArcs}
 use Rattle.postman.specs.Required.{required}
 use Rattle.postman.specs.Link.{Link}
@@ -14,42 +12,19 @@ use Rattle.postman.specs.Arborescence.{candidates}
 use Rattle.postman.specs.Laws.Balancing.{within-heads, within-tails}
 use Rattle.postman.specs.Laws.Membership.{getD-mem, mem-getD}
 use Rattle.balance.specs.Optimality.{Feasible, Tight}
-use Rattle.balance.specs.Step.{State, cell, amount, potential, add}
+use Rattle.residual_search.specs.Step.{State, cell, amount, potential, add}
 use Rattle.balance.specs.Invariant.{Certified}
 use Rattle.balance.specs.Laws.Step.{add-certified, add-tight}
 use Rattle.balance.specs.Laws.Repriced.{repriced-certified, repriced-counted}
-use Rattle.search.specs.declared.branch.Branch.{Branch}
-use Rattle.search.specs.Prepared.{Prepared}
-use Rattle.search.specs.Contracts.{chosenIn, stateIn, IsBranch, Near, CanLevel, AreLevelled, repricedBranch}
-use Rattle.search.specs.Laws.Prepared.{candidate-ends, in-plan, metric}
-use Rattle.search.specs.Laws.Root.{some-vertex}
-use Rattle.search.specs.Laws.Below.{room}
+use Rattle.branches.specs.declared.branch.Branch.{Branch}
+use Rattle.tree_bounds.specs.Prepared.{Prepared}
+use Rattle.branches.specs.Branches.{chosenIn, stateIn, IsBranch, repricedBranch}
+use Rattle.tree_bounds.specs.Reducible.{Near, CanLevel, AreLevelled}
+use Rattle.tree_bounds.specs.Laws.Prepared.{candidate-ends, in-plan, metric}
+use Rattle.branches.specs.Laws.Root.{some-vertex}
+use Rattle.branches.specs.Laws.Below.{room}
 
 -- ---- one after the other
-
-module _ (u vs : List ℕ) where
-  pub levelled-start : (w : List ℕ) → length w ≡ 64 → ((v : ℕ) → getD w v 0 ≡ 0) → AreLevelled u vs 0 w
-  levelled-start w l z = record { size = l; each = λ k b. absurd (omega arith); low = λ v. (let e = z v in omega arith) }
-
-  pub levelled-more : (n : ℕ) (w : List ℕ) (r : ℕ) → AreLevelled u vs n w → getD vs n 0 < 64 → r + getD u (getD vs 0 0) 0 ≡ getD u (getD vs n 0) 0 + 4128705 → r ≤ 8257410
-      → AreLevelled u vs (n + 1) (set w (getD vs n 0) r)
-  levelled-more n w r h b e l = record {
-    size = length-set w (getD vs n 0) r ∙ h .size;
-    each = λ k c. elim (ℕ-discrete (getD vs k 0) (getD vs n 0)) [
-      | yes s ↦
-          let g = ap (λ v. getD (set w (getD vs n 0) r) v 0) s ∙ getD-set-same w (getD vs n 0) r 0 (let m = h .size in omega arith) in
-          let i = ap (λ v. getD u v 0) s in
-          omega arith
-      | no o ↦
-          let g = getD-set-other w (getD vs n 0) (getD vs k 0) r 0 o in
-          let i = h .each k (elim (ℕ-discrete k n) [ yes s ↦ absurd (o (ap (λ i. getD vs i 0) s)) | no d ↦ omega arith ]) in
-          omega arith
-    ];
-    low = λ v. elim (ℕ-discrete v (getD vs n 0)) [
-      | yes s ↦ (let g = ap (λ v. getD (set w (getD vs n 0) r) v 0) s ∙ getD-set-same w (getD vs n 0) r 0 (let m = h .size in omega arith) in omega arith)
-      | no o ↦ (let g = getD-set-other w (getD vs n 0) v r 0 o in let a = h .low v in omega arith)
-    ];
-  }
 
 -- ---- the branch
 

@@ -8,19 +8,22 @@ use native.Mathlib.Omega.{arith}
 use lib.ListN.{getD, set, take}
 use Rattle.postman.specs.Plan.{Plan}
 use Rattle.postman.specs.Arborescence.{candidates}
-use Rattle.balance.specs.Step.{State, cell, add}
+use Rattle.residual_search.specs.Step.{State, cell, add}
 use Rattle.tree_count.specs.Laws.Arrival.{renamed}
-use Rattle.search.specs.declared.branch.Branch.{Branch}
-use Rattle.search.specs.declared.candidate.Candidate.{Candidate}
+use Rattle.branches.specs.declared.branch.Branch.{Branch}
+use Rattle.branches.specs.declared.candidate.Candidate.{Candidate}
 use Rattle.search.specs.declared.last.Completed.{Completed}
-use Rattle.search.specs.declared.pricing.Pricing.{Pricing}
-use Rattle.search.specs.declared.progress.Progress.{Progress}
-use Rattle.search.specs.Bound.{reducedBy}
-use Rattle.search.specs.Progress.{passOver}
-use Rattle.search.specs.Prepared.{Prepared}
-use Rattle.search.specs.Contracts.{heldOf, isEntered, IsShort, stateIn, IsCandidate, IsBranch, IsBelow, repricedBranch, CanComplete, IsCompleted, chosenIn, Prices, IsPriced, IsExplored}
-use Rattle.search.specs.Laws.Bound.{low-none}
-use Rattle.search.specs.Laws.Below.{fixed-small}
+use Rattle.tree_bounds.specs.declared.pricing.Pricing.{Pricing}
+use Rattle.branches.specs.declared.progress.Progress.{Progress}
+use Rattle.tree_bounds.specs.Bound.{reducedBy}
+use Rattle.branches.specs.Progress.{passOver}
+use Rattle.tree_bounds.specs.Prepared.{Prepared}
+use Rattle.search.specs.Contracts.{CanComplete, IsCompleted, IsPriced, IsExplored}
+use Rattle.branches.specs.Branches.{stateIn, IsCandidate, IsBranch, IsBelow, repricedBranch, chosenIn}
+use Rattle.branches.specs.Holding.{heldOf, isEntered, IsShort}
+use Rattle.tree_bounds.specs.Pricing.{Prices}
+use Rattle.tree_bounds.specs.Laws.Bound.{low-none}
+use Rattle.branches.specs.Laws.Below.{fixed-small}
 use Rattle.search.specs.Laws.Explore.{branches, one-tree, own-prices, can-go, raised-level, raised-small, raised-kept, next-branch, next-explored, next-passed}
 
 -- the names of the eight components by a function

@@ -21,24 +21,26 @@ use Rattle.postman.specs.Laws.Membership.{upFrom-mem}
 use Rattle.postman.specs.Laws.Arborescence.{arborescences-mem, joins}
 use Rattle.postman.specs.Laws.Optimality.{some-arborescence}
 use Rattle.postman.specs.Laws.Search.{best-value}
-use Rattle.balance.specs.Step.{cell}
-use Rattle.balance.specs.Laws.Plan.{balance-certified, balance-room, balance-least}
+use Rattle.residual_search.specs.Step.{cell}
+use Rattle.direct_amounts.specs.Laws.Plan.{balance-certified, balance-room, balance-least}
 use Rattle.tree_count.specs.Recursion.{countTrees}
 use Rattle.tree_count.specs.Matrix.{entriesOf, cap}
 use Rattle.tree_count.specs.Laws.Recursion.{entriesIn, count-cong}
-use Rattle.search.specs.declared.branch.Branch.{Branch}
-use Rattle.search.specs.declared.progress.Progress.{Progress}
+use Rattle.branches.specs.declared.branch.Branch.{Branch}
+use Rattle.branches.specs.declared.progress.Progress.{Progress}
 use Rattle.search.specs.declared.tried.Searched.{Searched}
-use Rattle.search.specs.Links.{linksIn}
-use Rattle.search.specs.Branch.{sourcesBy, completions}
-use Rattle.search.specs.Progress.{Held, held, advance}
-use Rattle.search.specs.Prepared.{Prepared}
-use Rattle.search.specs.Contracts.{heldOf, namesIn, IsRoot, treesIn, IsExplored, IsSearched}
-use Rattle.search.specs.Laws.Prepared.{in-plan, some-component, agrees, required-small}
-use Rattle.search.specs.Laws.Branch.{completions-count, completions-cong, completions-first}
-use Rattle.search.specs.Laws.Progress.{tried-first}
-use Rattle.search.specs.Laws.Root.{no-chosen}
-use Rattle.search.specs.Laws.Below.{link-cost-small}
+use Rattle.branches.specs.Links.{linksIn}
+use Rattle.tree_bounds.specs.Branch.{sourcesBy, completions}
+use Rattle.branches.specs.Progress.{Held, held, advance}
+use Rattle.tree_bounds.specs.Prepared.{Prepared}
+use Rattle.search.specs.Contracts.{IsExplored, IsSearched}
+use Rattle.branches.specs.Branches.{namesIn, IsRoot, treesIn}
+use Rattle.branches.specs.Holding.{heldOf}
+use Rattle.tree_bounds.specs.Laws.Prepared.{in-plan, some-component, agrees, required-small}
+use Rattle.tree_bounds.specs.Laws.Branch.{completions-count, completions-cong, completions-first}
+use Rattle.branches.specs.Laws.Progress.{tried-first}
+use Rattle.branches.specs.Laws.Root.{no-chosen}
+use Rattle.branches.specs.Laws.Below.{link-cost-small}
 
 map-same : {A : Type 0} (f : A → A) → ((x : A) → f x ≡ x) → (xs : List A) → map f xs ≡ xs
 map-same f h [] = refl

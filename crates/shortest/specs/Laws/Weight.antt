@@ -16,7 +16,7 @@ use Rattle.postman.specs.Laws.Tests.{cond-ind}
 use Rattle.postman.specs.Laws.Membership.{getD-mem, map-mem}
 use Rattle.postman.specs.Laws.Distance.{InPlan, bounded, distance-self, distance-le, distance-walk, distance-bound, distance-le-noPath}
 use Rattle.shortest.specs.Weight.{heavy, weighted, unweighted}
-use Rattle.shortest.specs.ShortestPath.{entered}
+use Rattle.shortest.specs.Weight.{entered}
 use Rattle.shortest.specs.Contracts.{IsRow, IsTable, AreWeights, AreCosts, AreTableCosts}
 
 -- what relaxing, and a path by the arcs that begin a cheapest one, ask of a plan

@@ -22,9 +22,9 @@ use Rattle.refusal.specs.Verdict.{refusalNumber}
 use Rattle.plan_file.specs.declared.Reading.{Reading}
 use Rattle.plan_file.specs.Reading.{IsReading}
 use Rattle.plan_file.specs.Laws.Reading.{accepted-value}
-use Rattle.planner.specs.declared.Planned.{Planned}
-use Rattle.planner.specs.Tour.{tableOf}
-use Rattle.planner.specs.Contract.{IsPlanned}
+use Rattle.solution.specs.declared.Planned.{Planned}
+use Rattle.multipliers.specs.Tour.{tableOf}
+use Rattle.solution.specs.Planned.{IsPlanned}
 use Rattle.planner.specs.Laws.Refused.{refusedWith}
 use Rattle.planner.specs.Laws.Call.{refused-planned, planned-as}
 use Rattle.two_cars.specs.Contract.{IsCar}

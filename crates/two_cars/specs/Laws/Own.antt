@@ -12,10 +12,11 @@ use Rattle.postman.specs.PlanCall.{callRefusal, fields, summary}
 use Rattle.postman.specs.Marks.{ownMarks, carRefusal}
 use Rattle.postman.specs.Laws.Refusal.{first-stop}
 use Rattle.postman.specs.Laws.Marks.{car-order, own-file-plan, own-refusal}
-use Rattle.planner.specs.declared.Planned.{Planned}
-use Rattle.planner.specs.Contract.{IsPlanned, IsPlanCall}
+use Rattle.solution.specs.declared.Planned.{Planned}
+use Rattle.planner.specs.Contract.{IsPlanCall}
+use Rattle.solution.specs.Planned.{IsPlanned}
 use Rattle.planner.specs.Laws.Call.{planned-as, is-call, file-refused}
-use Rattle.planner.specs.Laws.SameAnswer.{refused-as}
+use Rattle.solution.specs.Laws.SameAnswer.{refused-as}
 use Rattle.two_cars.specs.Contract.{IsCar}
 
 pub as-plan-call : (bytes : List ℕ) (budget : ℕ) (old new : List ℕ) (r : Planned) → IsCar bytes (ownMarks (planOf bytes)) budget old new r → IsPlanCall bytes budget old new r

@@ -26,11 +26,11 @@ use Rattle.refusal.specs.Verdict.{refusalNumber, verdictNumber}
 use Rattle.plan_file.specs.declared.Reading.{Reading}
 use Rattle.plan_file.specs.Reading.{IsReading}
 use Rattle.plan_file.specs.Laws.Reading.{accepted-value}
-use Rattle.planner.specs.declared.Planned.{Planned}
-use Rattle.planner.specs.Contract.{IsPlanned}
+use Rattle.solution.specs.declared.Planned.{Planned}
+use Rattle.solution.specs.Planned.{IsPlanned}
 use Rattle.planner.specs.Laws.Refused.{refusedWith}
 use Rattle.planner.specs.Laws.Call.{refused-planned, planned-as}
-use Rattle.planner.specs.Laws.Answered.{accepted, cost-is, floor-is, tour-written}
+use Rattle.solution.specs.Laws.Answered.{accepted, cost-is, floor-is, tour-written}
 use Rattle.windows.specs.Contract.{IsPlanCallAt}
 
 -- ---- 19 and 20

@@ -3,10 +3,10 @@ use mathlib.Core.Path.{_≡_, refl, sym, ap, _∙_}
 use mathlib.Core.Logic.{⊎-elim}
 use Prim.Native.Nat.{_+_, _*_, _≤_, _<_, _-_}
 use native.Mathlib.Omega.{arith}
-use Rattle.balance.specs.Bounds.{AtMost}
+use Rattle.residual_search.specs.Bounds.{AtMost}
 use Rattle.balance.specs.Invariant.{limit}
-use Rattle.balance.specs.Step.{augment}
-use Rattle.balance.specs.Laws.Turns.{augment-end, augment-more, at-most-more}
+use Rattle.residual_search.specs.Step.{augment}
+use Rattle.residual_search.specs.Laws.Turns.{augment-end, augment-more, at-most-more}
 use borrow.Author.Needs.{needs}
 use Rattle.balance.proofs.augment.augment_along.Statement.{statement}
 use Rattle.balance.proofs.augment.augment_along.Tie as tie

@@ -4,9 +4,9 @@ use Prim.Native.Nat.{_+_, _≤_, _-_, min}
 use native.Mathlib.Omega.{arith}
 use lib.ListN.{length, getD, set, take}
 use lib.Seq.{take-all}
-use Rattle.balance.specs.Fold.{fold}
-use Rattle.balance.specs.Step.{raise}
-use Rattle.balance.specs.Laws.Turns.{fill-more}
+use Rattle.residual_search.specs.Fold.{fold}
+use Rattle.residual_search.specs.Step.{raise}
+use Rattle.residual_search.specs.Laws.Turns.{fill-more}
 use borrow.Author.Needs.{needs}
 use Rattle.balance.proofs.augment.raise_by.Statement.{statement}
 use Rattle.balance.proofs.augment.raise_by.Tie as tie

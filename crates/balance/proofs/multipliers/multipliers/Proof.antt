@@ -3,14 +3,14 @@ use mathlib.Core.Path.{ap, ap₂, _∙_, subst⁻¹}
 use mathlib.Core.List.{List}
 use Prim.Native.Nat.{ℕ}
 use native.Mathlib.Omega.{arith}
-use Rattle.balance.specs.Bounds.{AtMost}
-use Rattle.balance.specs.Search.{Found, beyond}
-use Rattle.balance.specs.Step.{cell, residualLength}
+use Rattle.residual_search.specs.Bounds.{AtMost}
+use Rattle.residual_search.specs.Search.{Found, beyond}
+use Rattle.residual_search.specs.Step.{cell, residualLength}
 use Rattle.balance.specs.Multipliers.{fromRoot, ways, multipliers as greatest}
 use Rattle.balance.specs.Records.{stateOf}
 use Rattle.balance.specs.Laws.Step.{vertices-small, levels-small, residual-ground}
-use Rattle.balance.specs.Laws.Until.{until-whole}
-use Rattle.balance.specs.Laws.Turns.{search-low}
+use Rattle.residual_search.specs.Laws.Until.{until-whole}
+use Rattle.residual_search.specs.Laws.Turns.{search-low}
 use borrow.Author.Needs.{needs}
 use Rattle.balance.proofs.multipliers.multipliers.Statement.{statement}
 use Rattle.balance.proofs.multipliers.multipliers.Tie as tie

@@ -6,9 +6,9 @@ use lib.ListN.{length, getD, set, take, replicate}
 use lib.Seq.{take-all}
 use lib.IntN.{pos, _-ℤ_}
 use Rattle.integers.specs.Linear.{back64}
-use Rattle.balance.specs.Fold.{fold}
+use Rattle.residual_search.specs.Fold.{fold}
 use Rattle.balance.specs.Multipliers.{fromRoot}
-use Rattle.balance.specs.Laws.Turns.{fill-more}
+use Rattle.residual_search.specs.Laws.Turns.{fill-more}
 use borrow.Author.Needs.{needs}
 use Rattle.balance.proofs.multipliers.true_costs.Statement.{statement}
 use Rattle.balance.proofs.multipliers.true_costs.Tie as tie

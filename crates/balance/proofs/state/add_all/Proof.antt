@@ -3,10 +3,10 @@ use mathlib.Core.Path.{_≡_, refl, sym, ap, _∙_, subst⁻¹}
 use Prim.Native.Nat.{_+_, _≤_, _-_}
 use native.Mathlib.Omega.{arith}
 use lib.ListN.{length, getD, drop}
-use Rattle.balance.specs.Step.{State, cell, stateIn, addAll, arcsOf}
+use Rattle.residual_search.specs.Step.{State, cell, stateIn, addAll, arcsOf}
 use Rattle.balance.specs.Invariant.{Certified}
 use Rattle.balance.specs.Laws.Step.{add-certified}
-use Rattle.balance.specs.Laws.Turns.{all-more, all-end, counted}
+use Rattle.residual_search.specs.Laws.Turns.{all-more, all-end, counted}
 use borrow.Author.Needs.{needs}
 use Rattle.balance.proofs.state.add_all.Statement.{statement}
 use Rattle.balance.proofs.state.add_all.Tie as tie

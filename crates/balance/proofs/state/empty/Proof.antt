@@ -1,6 +1,6 @@
 -- By computing. Assumes nothing.
 use mathlib.Core.Path.{refl}
-use Rattle.balance.specs.Step.{empty}
+use Rattle.residual_search.specs.Step.{empty}
 use Rattle.balance.proofs.state.empty.Statement.{statement}
 use Rattle.balance.proofs.state.empty.Tie as tie
 

@@ -6,7 +6,7 @@ use native.Mathlib.Omega.{arith}
 use lib.ListN.{length, getD, take, length-set}
 use lib.Seq.{take-length}
 use Rattle.circuit.specs.Laws.Filled.{extends-none, extends-one}
-use Rattle.circuit.specs.Laws.Lists.{take-one}
+use Rattle.hierholzer.specs.Laws.Lists.{take-one}
 use borrow.Author.Needs.{needs}
 use Rattle.circuit.proofs.legs.copy.Statement.{statement}
 use Rattle.circuit.proofs.legs.copy.Tie as tie

@@ -1,5 +1,5 @@
 -- The arcs of a plan that is well formed have a chain.
-use Rattle.shortest.specs.Laws.Lookup.{chain-ready}
+use Rattle.paths.specs.Laws.Lookup.{chain-ready}
 use borrow.Author.Needs.{needs}
 use Rattle.circuit.proofs.places.write.Statement.{statement}
 use Rattle.circuit.proofs.places.write.Tie as tie

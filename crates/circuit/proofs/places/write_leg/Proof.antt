@@ -7,9 +7,9 @@ use lib.ListN.{length}
 use Rattle.postman.specs.Distance.{noPath, distance}
 use Rattle.plan.specs.Rows.{planIn}
 use Rattle.plan.specs.Laws.Rows.{rows-vertices}
-use Rattle.shortest.specs.ShortestPath.{shortestPath}
+use Rattle.paths.specs.ShortestPath.{shortestPath}
 use Rattle.shortest.specs.Contracts.{overwrite}
-use Rattle.shortest.specs.Laws.Lookup.{few-rows, taken-length, taken-ready, taken-path}
+use Rattle.paths.specs.Laws.Lookup.{few-rows, taken-length, taken-ready, taken-path}
 use Rattle.circuit.specs.Laws.Written.{number-room, number-written, path-of}
 use borrow.Author.Needs.{needs}
 use Rattle.circuit.proofs.places.write_leg.Statement.{statement}

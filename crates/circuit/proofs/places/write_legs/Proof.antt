@@ -4,7 +4,7 @@ use mathlib.Core.Path.{_≡_, subst⁻¹}
 use native.Mathlib.Omega.{arith}
 use lib.ListN.{length}
 use Rattle.plan.specs.Rows.{planIn}
-use Rattle.shortest.specs.ShortestPath.{shortestPath}
+use Rattle.paths.specs.ShortestPath.{shortestPath}
 use Rattle.circuit.specs.Laws.Written.{WrittenTo, to-none, to-length, to-room, to-more, to-all}
 use borrow.Author.Needs.{needs}
 use Rattle.circuit.proofs.places.write_legs.Statement.{statement}

@@ -8,12 +8,12 @@ use lib.Seq.{length-take-le}
 use Rattle.postman.specs.Plan.{Plan, WellFormed}
 use Rattle.plan.specs.Rows.{planIn}
 use Rattle.plan.specs.Laws.Records.{record-arcs, record-vertices}
-use Rattle.shortest.specs.ShortestPath.{shortestPath}
+use Rattle.paths.specs.ShortestPath.{shortestPath}
 use Rattle.shortest.specs.Contracts.{AreRows}
-use Rattle.shortest.specs.Laws.Lookup.{lent-plan, lent-rows}
-use Rattle.circuit.specs.Circuit.{circuit}
+use Rattle.paths.specs.Laws.Lookup.{lent-plan, lent-rows}
+use Rattle.hierholzer.specs.Circuit.{circuit}
 use Rattle.circuit.specs.Tour.{placesOf, written, HavePaths}
-use Rattle.circuit.specs.Laws.Circuit.{circuit-below}
+use Rattle.hierholzer.specs.Laws.Circuit.{circuit-below}
 use borrow.Author.Needs.{needs}
 use Rattle.circuit.proofs.tour.write_circuit.Statement.{statement}
 use Rattle.circuit.proofs.tour.write_circuit.Tie as tie

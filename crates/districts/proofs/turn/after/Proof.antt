@@ -1,6 +1,6 @@
 -- By the two cases of the turn.
 use mathlib.Core.Path.{refl}
-use Rattle.districts.specs.Laws.Held.{clash}
+use Rattle.district_turn.specs.Laws.Clash.{clash}
 use borrow.Author.Needs.{needs}
 use Rattle.districts.proofs.turn.after.Statement.{statement}
 use Rattle.districts.proofs.turn.after.Tie as tie

@@ -7,7 +7,7 @@ use Rattle.postman.specs.Plan.{WellFormed}
 use Rattle.postman.specs.Laws.Acceptance.{file-accepted}
 use Rattle.refusal.specs.Verdict.{verdictNumber}
 use Rattle.plan_file.specs.Laws.Reading.{accepted-value}
-use Rattle.districts.specs.Laws.Stint.{as-it-was}
+use Rattle.district_turn.specs.Laws.Stint.{as-it-was}
 use Rattle.districts.specs.Laws.Turned.{tried-small, stint-of, sheet-of}
 use borrow.Author.Needs.{needs}
 use Rattle.districts.proofs.turn.served.Statement.{statement}

@@ -4,7 +4,8 @@ use Prim.Native.Nat.{_≤_}
 use native.Mathlib.Omega.{arith}
 use lib.ListN.{length}
 use Rattle.postman.specs.PlanCall.{sheetPlaces}
-use Rattle.districts.specs.Laws.Held.{array-length, clash, was-false}
+use Rattle.districts.specs.Laws.Held.{array-length, was-false}
+use Rattle.district_turn.specs.Laws.Clash.{clash}
 use Rattle.districts.specs.Laws.Turned.{empty-turned, short-turned, stuck-turned, front-under-way, served-turned, always-good}
 use borrow.Author.Needs.{needs}
 use Rattle.districts.proofs.turn.turn.Statement.{statement}

@@ -1,5 +1,5 @@
 -- The answer of the call is handed over.
-use Rattle.exports.specs.Laws.Answer.{handed-back}
+use Rattle.answers.specs.Laws.Answer.{handed-back}
 use borrow.Author.Needs.{needs}
 use Rattle.exports.proofs.call.postman_short_call.Statement.{statement}
 use Rattle.exports.proofs.call.postman_short_call.Tie as tie

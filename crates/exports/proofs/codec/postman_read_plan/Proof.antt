@@ -6,7 +6,7 @@ use lib.ListN.{drop}
 use Rattle.integers.specs.Linear.{back64}
 use Rattle.postman.specs.Lists.{below}
 use Rattle.postman.specs.PlanFile.{edition, arcOf}
-use Rattle.exports.specs.RecordBytes.{arcBytes}
+use Rattle.encoding.specs.RecordBytes.{arcBytes}
 use Rattle.exports.specs.Laws.Reading.{lent-room, lent-answer, lent-after}
 use borrow.Author.Needs.{needs}
 use Rattle.exports.proofs.codec.postman_read_plan.Statement.{statement}

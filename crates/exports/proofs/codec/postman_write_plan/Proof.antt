@@ -1,7 +1,7 @@
 -- The plan by value is refused as the lent records are, and is the same plan where it is not.
 use mathlib.Core.Path.{_∙_, sym, ap}
 use Rattle.integers.specs.Linear.{back64}
-use Rattle.exports.specs.Number.{oneNumber}
+use Rattle.answers.specs.Number.{oneNumber}
 use Rattle.exports.specs.Laws.Writing.{value-answer, value-bytes, length-small}
 use borrow.Author.Needs.{needs}
 use Rattle.exports.proofs.codec.postman_write_plan.Statement.{statement}

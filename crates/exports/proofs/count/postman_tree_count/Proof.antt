@@ -3,8 +3,8 @@ use mathlib.Core.Path.{ap, _∙_}
 use Rattle.integers.specs.Linear.{back64}
 use Rattle.postman.specs.Refusal.{Answer}
 use Rattle.postman.specs.TreeCount.{TreeCount}
-use Rattle.exports.specs.Number.{oneNumber}
-use Rattle.exports.specs.Count.{countOf}
+use Rattle.answers.specs.Number.{oneNumber}
+use Rattle.answers.specs.Count.{countOf}
 use borrow.Author.Needs.{needs}
 use Rattle.exports.proofs.count.postman_tree_count.Statement.{statement}
 use Rattle.exports.proofs.count.postman_tree_count.Tie as tie

@@ -1,7 +1,7 @@
 -- The distance call's answer is handed over as one number.
 use mathlib.Core.Path.{ap, _∙_}
 use Rattle.integers.specs.Linear.{back64}
-use Rattle.exports.specs.Number.{oneNumber}
+use Rattle.answers.specs.Number.{oneNumber}
 use borrow.Author.Needs.{needs}
 use Rattle.exports.proofs.distance.postman_distances.Statement.{statement}
 use Rattle.exports.proofs.distance.postman_distances.Tie as tie

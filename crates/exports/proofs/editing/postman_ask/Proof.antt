@@ -2,7 +2,7 @@
 use mathlib.Core.Path.{refl, _∙_}
 use native.Mathlib.Omega.{arith}
 use Rattle.integers.specs.Linear.{back64}
-use Rattle.exports.specs.Laws.Answer.{handed-back}
+use Rattle.answers.specs.Laws.Answer.{handed-back}
 use Rattle.exports.specs.Laws.Editing.{asked-lent}
 use borrow.Author.Needs.{needs}
 use Rattle.exports.proofs.editing.postman_ask.Statement.{statement}

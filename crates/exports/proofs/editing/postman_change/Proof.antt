@@ -1,7 +1,8 @@
 -- A slice that is too short, or the state after the call.
 use mathlib.Core.Path.{_∙_}
 use Rattle.integers.specs.Linear.{back64}
-use Rattle.exports.specs.Laws.Editing.{stored-back, moved-short, moved-lent}
+use Rattle.exports.specs.Laws.Editing.{moved-short, moved-lent}
+use Rattle.open_plan_bytes.specs.Laws.StateBytes.{stored-back}
 use borrow.Author.Needs.{needs}
 use Rattle.exports.proofs.editing.postman_change.Statement.{statement}
 use Rattle.exports.proofs.editing.postman_change.Tie as tie

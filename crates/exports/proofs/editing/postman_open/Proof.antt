@@ -1,7 +1,8 @@
 -- A slice that is too short, or the state of the opening.
 use mathlib.Core.Path.{_∙_}
 use Rattle.integers.specs.Linear.{back64}
-use Rattle.exports.specs.Laws.Editing.{stored-back, opened-short, opened-lent}
+use Rattle.exports.specs.Laws.Editing.{opened-short, opened-lent}
+use Rattle.open_plan_bytes.specs.Laws.StateBytes.{stored-back}
 use borrow.Author.Needs.{needs}
 use Rattle.exports.proofs.editing.postman_open.Statement.{statement}
 use Rattle.exports.proofs.editing.postman_open.Tie as tie

@@ -1,7 +1,7 @@
 -- The number is that of the call's answer.
 use mathlib.Core.Path.{_∙_, ap}
 use Rattle.integers.specs.Linear.{back64}
-use Rattle.exports.specs.Number.{oneNumber}
+use Rattle.answers.specs.Number.{oneNumber}
 use borrow.Author.Needs.{needs}
 use Rattle.exports.proofs.judging.postman_judge.Statement.{statement}
 use Rattle.exports.proofs.judging.postman_judge.Tie as tie

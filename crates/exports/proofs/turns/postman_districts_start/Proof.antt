@@ -4,8 +4,8 @@ use Prim.Native.Nat.{ℕ}
 use native.Mathlib.Omega.{arith}
 use lib.ListN.{replicate, length-replicate}
 use Rattle.integers.specs.Linear.{back64}
-use Rattle.exports.specs.MachineBytes.{districtsBytes}
-use Rattle.exports.specs.Laws.NumberBytes.{put-start}
+use Rattle.machine_bytes.specs.MachineBytes.{districtsBytes}
+use Rattle.encoding.specs.Laws.NumberBytes.{put-start}
 use borrow.Author.Needs.{needs}
 use Rattle.exports.proofs.turns.postman_districts_start.Statement.{statement}
 use Rattle.exports.proofs.turns.postman_districts_start.Tie as tie

@@ -1,7 +1,8 @@
 -- A slice that is too short, or the machine after the entry.
 use mathlib.Core.Path.{_∙_}
 use Rattle.integers.specs.Linear.{back64}
-use Rattle.exports.specs.Laws.Turns.{entry-back, entry-short, entry-lent}
+use Rattle.exports.specs.Laws.Turns.{entry-short, entry-lent}
+use Rattle.machine_bytes.specs.Laws.MachineStored.{entry-back}
 use borrow.Author.Needs.{needs}
 use Rattle.exports.proofs.turns.postman_enter.Statement.{statement}
 use Rattle.exports.proofs.turns.postman_enter.Tie as tie

@@ -1,7 +1,8 @@
 -- A slice that is too short, or what is handed over after the turn.
 use mathlib.Core.Path.{_∙_}
 use Rattle.integers.specs.Linear.{back64}
-use Rattle.exports.specs.Laws.Turns.{turn-back, turn-short, turn-lent}
+use Rattle.exports.specs.Laws.Turns.{turn-short, turn-lent}
+use Rattle.machine_bytes.specs.Laws.MachineStored.{turn-back}
 use borrow.Author.Needs.{needs}
 use Rattle.exports.proofs.turns.postman_turn.Statement.{statement}
 use Rattle.exports.proofs.turns.postman_turn.Tie as tie

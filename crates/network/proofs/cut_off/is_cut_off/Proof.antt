@@ -7,7 +7,7 @@ use native.Mathlib.Omega.{arith}
 use borrow.Author.Count.{below-more}
 use lib.ListN.{getD}
 use Rattle.network.specs.CutOff.{isCut, cutsOff}
-use Rattle.network.specs.Laws.Search.{some-below, none-below}
+use Rattle.required.specs.Laws.Search.{some-below, none-below}
 use Rattle.network.specs.Laws.Thinning.{no-left, no-right, both}
 use borrow.Author.Needs.{needs}
 use Rattle.network.proofs.cut_off.is_cut_off.Statement.{statement}

@@ -8,7 +8,7 @@ use borrow.Author.Count.{below-more}
 use borrow.Author.Tests.{eq-eqb, ne-eqb}
 use lib.ListN.{getD}
 use Rattle.network.specs.CutOff.{isMissed, missesSome}
-use Rattle.network.specs.Laws.Search.{some-below, none-below}
+use Rattle.required.specs.Laws.Search.{some-below, none-below}
 use Rattle.network.specs.Laws.Thinning.{no-left, no-right, both}
 use borrow.Author.Needs.{needs}
 use Rattle.network.proofs.cut_off.misses.Statement.{statement}

@@ -3,7 +3,7 @@ use mathlib.Core.Path.{_≡_, refl}
 use Prim.Native.Nat.{ℕ, _-_, _≤_}
 use lib.ListN.{length, length-replicate}
 use native.Mathlib.Omega.{arith}
-use Rattle.open_plan.specs.Laws.Copy.{IsPasted, paste-start, paste-more, paste-end}
+use Rattle.postman.specs.Laws.Copy.{IsPasted, paste-start, paste-more, paste-end}
 use Rattle.open_plan.specs.Laws.Held.{zeros, copied-held}
 use borrow.Author.Needs.{needs}
 use Rattle.open_plan.proofs.file.hold.Statement.{statement}

@@ -3,8 +3,8 @@ use mathlib.Core.Path.{_∙_, sym, ap}
 use lib.ListN.{length-replicate}
 use Prim.Native.Nat.{ℕ}
 use Rattle.plan.specs.Records.{planValue}
-use Rattle.plan_file.specs.Writing.{writtenAnswer}
-use Rattle.plan_file.specs.Laws.Writing.{refusal-given}
+use Rattle.plan_writer.specs.Writing.{writtenAnswer}
+use Rattle.plan_writer.specs.Laws.Writing.{refusal-given}
 use Rattle.open_plan.specs.Laws.Held.{zeros, length-held, written-held, refused-held}
 use borrow.Author.Needs.{needs}
 use Rattle.open_plan.proofs.file.write_held.Statement.{statement}

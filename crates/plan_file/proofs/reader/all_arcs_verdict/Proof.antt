@@ -9,7 +9,7 @@ use Rattle.postman.specs.PlanFile.{arcOf, hasRepeated}
 use Rattle.refusal.specs.Verdict.{verdictNumber}
 use Rattle.plan.specs.declared.Arc.{Arc as ArcRecord}
 use Rattle.plan_file.specs.Reading.{planFrom}
-use Rattle.plan_file.specs.Laws.Arcs.{passed-arcs, refused-arc}
+use Rattle.plan_arcs.specs.Laws.Arcs.{passed-arcs, refused-arc}
 use Rattle.plan_file.specs.Laws.Records.{arcs-read}
 use borrow.Author.Needs.{needs}
 use Rattle.plan_file.proofs.reader.all_arcs_verdict.Statement.{statement}

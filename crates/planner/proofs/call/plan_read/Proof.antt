@@ -3,7 +3,7 @@ use mathlib.Core.Path.{_≡_}
 use native.Mathlib.Omega.{arith}
 use lib.ListN.{length}
 use Rattle.shortest.specs.Laws.Weight.{table-costs}
-use Rattle.planner.specs.Laws.Table.{table-is, rows}
+use Rattle.multipliers.specs.Laws.Table.{table-is, rows}
 use borrow.Author.Needs.{needs}
 use Rattle.planner.proofs.call.plan_read.Statement.{statement}
 use Rattle.planner.proofs.call.plan_read.Tie as tie

@@ -1,6 +1,6 @@
 -- The table is that of the definition, so it holds the distances, and the network's refusal is the plan's.
 use mathlib.Core.Path.{refl}
-use Rattle.planner.specs.Laws.Tour.{is-table}
+use Rattle.multipliers.specs.Laws.Tour.{is-table}
 use Rattle.planner.specs.Laws.Call.{measured-refusal, planned-as}
 use borrow.Author.Needs.{needs}
 use Rattle.planner.proofs.call.plan_tabled.Statement.{statement}

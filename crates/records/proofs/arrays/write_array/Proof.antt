@@ -49,10 +49,10 @@ use denote.Exit.{yes}
 use Rattle.postman.specs.PlanFile.{writeAnswer, bytesAfter}
 use Rattle.plan.specs.declared.Arc.{Arc}
 use Rattle.plan.proofs.Arc as T
-use Rattle.plan_file.specs.declared.Written.{Written}
-use Rattle.plan_file.specs.Writing.{writtenAnswer}
-use Rattle.plan_file.proofs.Written as S
-use Rattle.plan_file.proofs.Written.Laws as S′
+use Rattle.plan_writer.specs.declared.Written.{Written}
+use Rattle.plan_writer.specs.Writing.{writtenAnswer}
+use Rattle.plan_writer.proofs.Written as S
+use Rattle.plan_writer.proofs.Written.Laws as S′
 use Rattle.records.specs.Writing.{listPlan}
 use Rattle.records.proofs.Rows.{arc-vals, arc-tells, Arcs, arcs-ty, arcs-val, arcs-typed, to-row, of-row, row-apart, row-whole}
 use Rattle.records.proofs.writer.write_records as callee

@@ -6,8 +6,8 @@ use mathlib.Core.List.{List}
 use lib.ListN.{length, take, length-take}
 use lib.Seq.{length-take-le, getD-take}
 use Rattle.plan.specs.declared.Arc.{Arc}
-use Rattle.plan_file.specs.Writing.{writtenAnswer}
-use Rattle.plan_file.specs.Laws.Reread.{written-file}
+use Rattle.plan_writer.specs.Writing.{writtenAnswer}
+use Rattle.plan_writer.specs.Laws.Reread.{written-file}
 use Rattle.records.specs.Writing.{listPlan}
 use Rattle.records.specs.Laws.Reread.{Priced, reread-file, reread-refused}
 use Rattle.records.proofs.Rows.{arcs-priced}

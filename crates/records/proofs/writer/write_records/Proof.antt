@@ -41,10 +41,10 @@ use Rattle.postman.specs.PlanFile.{writeAnswer, bytesAfter}
 use Rattle.plan.specs.declared.Arc.{Arc}
 use Rattle.plan.specs.Records.{planValue}
 use Rattle.plan.proofs.Arc as T
-use Rattle.plan_file.specs.declared.Written.{Written}
-use Rattle.plan_file.specs.Writing.{writtenAnswer}
-use Rattle.plan_file.proofs.Written as S
-use Rattle.plan_file.proofs.Written.Laws as S′
+use Rattle.plan_writer.specs.declared.Written.{Written}
+use Rattle.plan_writer.specs.Writing.{writtenAnswer}
+use Rattle.plan_writer.proofs.Written as S
+use Rattle.plan_writer.proofs.Written.Laws as S′
 use Rattle.records.specs.Writing.{loaded, countedPlan}
 use Rattle.records.specs.Laws.Writing.{same-answer, same-bytes}
 use Rattle.records.proofs.Rows.{Arcs, arcs-typed}

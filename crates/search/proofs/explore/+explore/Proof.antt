@@ -9,10 +9,12 @@ use Rattle.postman.specs.Plan.{Plan}
 use Rattle.postman.specs.Arborescence.{candidates}
 use Rattle.tree_count.specs.Matrix.{AreCounts}
 use Rattle.search.specs.declared.explore.Explored.{Explored}
-use Rattle.search.specs.declared.progress.Progress.{Progress}
-use Rattle.search.specs.Prepared.{Prepared}
-use Rattle.search.specs.Contracts.{IsShort, IsBranch, IsExplored, IsPriced}
-use Rattle.search.specs.Laws.Prepared.{places}
+use Rattle.branches.specs.declared.progress.Progress.{Progress}
+use Rattle.tree_bounds.specs.Prepared.{Prepared}
+use Rattle.search.specs.Contracts.{IsExplored, IsPriced}
+use Rattle.branches.specs.Branches.{IsBranch}
+use Rattle.branches.specs.Holding.{IsShort}
+use Rattle.tree_bounds.specs.Laws.Prepared.{places}
 use Rattle.search.specs.Laws.Explore.{branches, explored-start, explored-end, explored-short, bound-small, can-look, can-reduce-here, can-go, next-branch, next-prices, next-explored, next-passed}
 use borrow.Author.Needs.{needs}
 use borrow.Fn.Kinds.{In}
@@ -22,9 +24,9 @@ use Rattle.search.proofs.explore.explore.Kinds as explore-kinds
 use Rattle.search.proofs.explore.+explore.Lts-explore as explore-lts
 use Rattle.search.proofs.last.last.Reads as last-reads
 use Rattle.search.proofs.explore.begun.Reads as begun-reads
-use Rattle.search.proofs.candidate.candidate_at.Reads as candidate-at-reads
+use Rattle.branches.proofs.candidate.candidate_at.Reads as candidate-at-reads
 use Rattle.search.proofs.explore.goes_into.Reads as goes-into-reads
-use Rattle.search.proofs.branch.below.Reads as below-reads
+use Rattle.branches.proofs.branch.below.Reads as below-reads
 use Rattle.search.proofs.explore.backed_up.Reads as backed-up-reads
 use Rattle.search.proofs.explore.passed_over.Reads as passed-over-reads
 use Rattle.search.proofs.explore.+explore.{statement}

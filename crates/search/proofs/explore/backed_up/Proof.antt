@@ -2,9 +2,9 @@
 use mathlib.Core.Path.{refl}
 use Prim.Native.Nat.{_+_, _≤_}
 use native.Mathlib.Omega.{arith}
-use Rattle.search.specs.Contracts.{chosenIn, linkOf}
-use Rattle.search.specs.Laws.Root.{can-rest}
-use Rattle.search.specs.Laws.Below.{fixed-small}
+use Rattle.branches.specs.Branches.{chosenIn, linkOf}
+use Rattle.branches.specs.Laws.Root.{can-rest}
+use Rattle.branches.specs.Laws.Below.{fixed-small}
 use Rattle.search.specs.Laws.Explore.{lifted-prices, bounded-prices}
 use borrow.Author.Needs.{needs}
 use Rattle.search.proofs.explore.backed_up.Statement.{statement}

@@ -2,8 +2,8 @@
 use mathlib.Core.Path.{refl}
 use Prim.Native.Nat.{_+_, _≤_}
 use native.Mathlib.Omega.{arith}
-use Rattle.search.specs.Laws.Root.{can-rest}
-use Rattle.search.specs.Laws.Below.{fixed-small, balancing-small}
+use Rattle.branches.specs.Laws.Root.{can-rest}
+use Rattle.branches.specs.Laws.Below.{fixed-small, balancing-small}
 use Rattle.search.specs.Laws.Explore.{own-prices, bounded-prices}
 use borrow.Author.Needs.{needs}
 use Rattle.search.proofs.explore.begun.Statement.{statement}

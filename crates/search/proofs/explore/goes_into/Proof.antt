@@ -2,7 +2,7 @@
 use mathlib.Core.Path.{ap, _∙_}
 use Prim.Native.Nat.{_+_, _≤_}
 use native.Mathlib.Omega.{arith}
-use Rattle.search.specs.Contracts.{isEntered}
+use Rattle.branches.specs.Holding.{isEntered}
 use borrow.Author.Needs.{needs}
 use Rattle.search.proofs.explore.goes_into.Statement.{statement}
 use Rattle.search.proofs.explore.goes_into.Tie as tie

@@ -4,10 +4,12 @@ use mathlib.Core.List.{List}
 use Prim.Native.Nat.{ℕ, _+_, _≤_, _<_}
 use native.Mathlib.Omega.{arith}
 use lib.ListN.{length}
-use Rattle.balance.specs.Step.{cell, add}
-use Rattle.search.specs.Links.{linksIn}
-use Rattle.search.specs.Progress.{tryTree}
-use Rattle.search.specs.Contracts.{heldOf, stateIn, CanLevel, AreLevelled, repricedBranch}
+use Rattle.residual_search.specs.Step.{cell, add}
+use Rattle.branches.specs.Links.{linksIn}
+use Rattle.branches.specs.Progress.{tryTree}
+use Rattle.branches.specs.Branches.{stateIn, repricedBranch}
+use Rattle.branches.specs.Holding.{heldOf}
+use Rattle.tree_bounds.specs.Reducible.{CanLevel, AreLevelled}
 use borrow.Author.Needs.{needs}
 use Rattle.search.proofs.last.complete.Statement.{statement}
 use Rattle.search.proofs.last.complete.Tie as tie

@@ -7,10 +7,12 @@ use native.Mathlib.Omega.{arith}
 use lib.ListN.{length, getD, take}
 use Rattle.postman.specs.Plan.{Plan}
 use Rattle.postman.specs.Arborescence.{candidates}
-use Rattle.search.specs.Prepared.{Prepared}
-use Rattle.search.specs.Contracts.{IsShort, isEntered, IsBranch, repricedBranch, IsExplored}
-use Rattle.search.specs.Laws.Prepared.{places}
-use Rattle.search.specs.Laws.Below.{fixed-small, balancing-small}
+use Rattle.tree_bounds.specs.Prepared.{Prepared}
+use Rattle.search.specs.Contracts.{IsExplored}
+use Rattle.branches.specs.Branches.{IsBranch, repricedBranch}
+use Rattle.branches.specs.Holding.{IsShort, isEntered}
+use Rattle.tree_bounds.specs.Laws.Prepared.{places}
+use Rattle.branches.specs.Laws.Below.{fixed-small, balancing-small}
 use Rattle.search.specs.Laws.Explore.{branches, explored-start, explored-end, explored-short, can-look, can-reduce-here}
 use Rattle.search.specs.Laws.Last.{last-prices, can-complete, last-explored, last-kept, last-passed}
 use borrow.Author.Needs.{needs}

@@ -1,7 +1,7 @@
 -- A branch with no component left is one tree; any other is explored.
 use Prim.Native.Nat.{_+_, _≤_}
 use native.Mathlib.Omega.{arith}
-use Rattle.search.specs.Laws.Below.{fixed-small, balancing-small}
+use Rattle.branches.specs.Laws.Below.{fixed-small, balancing-small}
 use Rattle.search.specs.Laws.Explore.{one-tree, more-left}
 use borrow.Author.Needs.{needs}
 use Rattle.search.proofs.tried.advance.Statement.{statement}

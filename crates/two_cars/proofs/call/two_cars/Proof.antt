@@ -7,7 +7,7 @@ use Rattle.postman.specs.Laws.Acceptance.{file-accepted}
 use Rattle.refusal.specs.Verdict.{verdictNumber}
 use Rattle.plan_file.specs.Laws.Reading.{accepted-value}
 use Rattle.shortest.specs.Laws.Weight.{table-costs}
-use Rattle.planner.specs.Laws.Table.{table-is, rows}
+use Rattle.multipliers.specs.Laws.Table.{table-is, rows}
 use Rattle.two_cars.specs.Laws.Call.{is-car, file-refused-for, read-planned-for}
 use borrow.Author.Needs.{needs}
 use Rattle.two_cars.proofs.call.two_cars.Statement.{statement}

@@ -1,0 +1,17 @@
+-- By the test. Assumes nothing.
+use mathlib.Core.Path.{sym, _∙_}
+use borrow.Author.Needs.{needs}
+use Rattle.ascent_tree.proofs.tree.better.Statement.{statement}
+use Rattle.ascent_tree.proofs.tree.better.Tie as tie
+
+is-in-requires : tie.Need-is-in-requires
+is-in-requires c κs = search needs
+
+returns : tie.Need-returns
+returns c = rw (sym (c .before .is-in .ensures) ∙ c .if1 .taken)
+
+returns-2 : tie.Need-returns-2
+returns-2 c = rw (sym (c .before .is-in .ensures) ∙ c .if1 .left)
+
+pub better-spec : {M : Type 1} → statement M
+better-spec = tie.close (tie.spec is-in-requires returns returns-2)

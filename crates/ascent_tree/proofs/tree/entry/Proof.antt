@@ -1,0 +1,100 @@
+-- The loop's state after so many turns is the model's, and `low` is the offer of its component.
+use mathlib.Core.Path.{_≡_, refl, ap, _∙_}
+use mathlib.Core.Bool.{Bool, true, false, cond, _&&_}
+use mathlib.Core.List.{List}
+use Prim.Native.Nat.{ℕ, _+_, _*_, _-_, _≤_, _<_}
+use native.Mathlib.Omega.{arith}
+use lib.Dec.{ltb}
+use lib.ListN.{getD}
+use Rattle.heights.specs.Laws.Turns.{turn, end}
+use Rattle.ascent_tree.specs.Tree.{holds, cheaper, entry}
+use Rattle.heights.specs.Turns.{turns}
+use borrow.Author.Needs.{needs}
+use Rattle.ascent_tree.proofs.tree.entry.Statement.{statement}
+use Rattle.ascent_tree.proofs.tree.entry.Tie as tie
+
+picked : (m : List ℕ) (q : ℕ) (b : Bool) (p r : ℕ) {low low′ r′ : ℕ} → low ≡ getD m (r * 8 + q) 0 → low′ ≡ cond b (getD m (p * 8 + q) 0) low → r′ ≡ cond b p r → p < 8 → r < 8
+    → (low′ ≡ getD m (r′ * 8 + q) 0) × (r′ < 8)
+picked m q true p r e f g l k = (rw g f, rw g l)
+picked m q false p r e f g l k = (rw g (f ∙ e), rw g k)
+
+abbrev Inv-loop : tie.InvT-loop
+Inv-loop m s q r₀ low₀ p₀ r low p = (p ≤ 8) × (r < 8) × (low ≡ getD m (r * 8 + q) 0) × (r ≡ turns (cheaper m s q) 0 p)
+
+abbrev μ-loop : tie.MeasureT-loop
+μ-loop m s q r₀ low₀ p₀ r low p = 8 - p
+
+mul-low : tie.Need-mul-low Inv-loop μ-loop
+mul-low c = search needs
+
+element-copy-out-low : tie.Need-element-copy-out-low Inv-loop μ-loop
+element-copy-out-low c = search needs
+
+loop-holds : tie.Need-loop-holds Inv-loop μ-loop
+unfolding turns
+loop-holds c = let s = c .before .args in let e : s .q ≡ 0 * 8 + s .q = omega arith in (omega arith, omega arith, ap (λ n. getD (s .m .now) n 0) e, refl)
+
+mul-c : tie.Need-mul-c Inv-loop μ-loop
+mul-c c = search needs
+
+add-c : tie.Need-add-c Inv-loop μ-loop
+add-c c = search needs
+
+mul-c-2 : tie.Need-mul-c-2 Inv-loop μ-loop
+mul-c-2 c = search needs
+
+element-copy-out-c : tie.Need-element-copy-out-c Inv-loop μ-loop
+element-copy-out-c c = search needs
+
+undercuts-requires : tie.Need-undercuts-requires Inv-loop μ-loop
+undercuts-requires c κs = search needs
+
+pick-requires : tie.Need-pick-requires Inv-loop μ-loop
+pick-requires c κs = search needs
+
+pick-component-requires : tie.Need-pick-component-requires Inv-loop μ-loop
+pick-component-requires c κs = search needs
+
+add-p : tie.Need-add-p Inv-loop μ-loop
+add-p c = search needs
+
+loop-less : tie.Need-loop-less Inv-loop μ-loop
+loop-less c = search needs
+
+loop-again : tie.Need-loop-again Inv-loop μ-loop
+loop-again c =
+    let at = c .before .before .before .before .before in
+    let start = at .before .before in
+    let u = c .before .before .undercuts .ensures in
+    let l = picked (start .args .m .now) (start .args .q) (c .before .before .undercuts .result) (at .loop .p) (at .loop .r) (at .loop .inv .2) (c .before .pick .ensures) (c .pick-component .ensures) (omega arith) (at .loop .inv .1) in (
+      omega arith,
+      l .1,
+      l .0,
+      turn (cheaper (start .args .m .now) (start .args .s) (start .args .q)) 0 (at .loop .p) (at .loop .inv .3)
+          (c .pick-component .ensures ∙ ap (λ (b : Bool). cond b (at .loop .p) (at .loop .r)) (u ∙ ap (λ n. holds (start .args .s) (at .loop .p) && ltb (getD (start .args .m .now) (at .loop .p * 8 + start .args .q) 0) n) (at .loop .inv .2))),
+    )
+
+returns : tie.Need-returns Inv-loop μ-loop
+unfolding entry
+returns c = (end _ _ (c .before .loop .p) (c .before .loop .inv .3) (c .before .loop .inv .0) (omega arith), c .before .loop .inv .1)
+
+pub entry-spec : {M : Type 1} → statement M
+entry-spec =
+    tie.close
+    (tie.spec
+    Inv-loop
+    μ-loop
+    mul-low
+    element-copy-out-low
+    loop-holds
+    mul-c
+    add-c
+    mul-c-2
+    element-copy-out-c
+    undercuts-requires
+    pick-requires
+    pick-component-requires
+    add-p
+    loop-less
+    loop-again
+    returns)

@@ -1,0 +1,19 @@
+-- By the two tests. Assumes nothing.
+use mathlib.Core.Path.{sym, _∙_}
+use borrow.Author.Needs.{needs}
+use Rattle.ascent_tree.proofs.tree.undercuts.Statement.{statement}
+use Rattle.ascent_tree.proofs.tree.undercuts.Tie as tie
+
+is-in-requires : tie.Need-is-in-requires
+is-in-requires c κs = search needs
+
+returns : tie.Need-returns
+returns c =
+    rw (sym (c .before .is-in .ensures) ∙ c .if1 .taken)
+
+returns-2 : tie.Need-returns-2
+returns-2 c =
+    rw (sym (c .before .is-in .ensures) ∙ c .if1 .left)
+
+pub undercuts-spec : {M : Type 1} → statement M
+undercuts-spec = tie.close (tie.spec is-in-requires returns returns-2)

@@ -1,0 +1,4 @@
+pub mod Offers
+pub mod Tree
+-- What is proved about them.
+pub mod Laws

@@ -1,0 +1,3 @@
+pub mod Labels
+-- What is proved about them.
+pub mod Laws

@@ -1,0 +1,3 @@
+pub mod Direct
+-- What is proved about them.
+pub mod Laws

@@ -1,0 +1,5 @@
+pub mod Circuit
+pub mod Eulerian
+pub mod Held
+-- What is proved about them.
+pub mod Laws

@@ -1,0 +1,84 @@
+-- The multipliers that are answered, as a function of the plan: of those that 20 steps meet, from the greatest that are 0 at the lowest required vertex on, the first that gives the largest L(u).
+use mathlib.Core.Bool.{Bool, false, cond, _&&_}
+use mathlib.Core.List.{List, [], map}
+use Prim.Native.Nat.{ℕ, _+_, _-_, _/_, _%_, min, max}
+use lib.Dec.{eqb, ltb}
+use lib.IntN.{ℤ}
+use lib.Signed.{ltZ}
+use Rattle.postman.specs.Lists.{below}
+use Rattle.postman.specs.Plan.{Plan}
+use Rattle.postman.specs.Required.{required}
+use Rattle.postman.specs.Component.{component, componentCount}
+use Rattle.postman.specs.LagrangianBound.{lagrangianBound}
+use Rattle.postman.specs.PlanCall.{root}
+use Rattle.residual_search.specs.Search.{beyond}
+use Rattle.residual_search.specs.Step.{cell}
+use Rattle.balance.specs.Balance.{balance}
+use Rattle.balance.specs.Multipliers.{multipliers}
+use Rattle.pair_costs.specs.PairCosts.{multipliersOf}
+use Rattle.heights.specs.Turns.{turns}
+use Rattle.heights.specs.Heights.{start, multipliersAt, span}
+use Rattle.ascent.specs.Step.{Step, step}
+use Rattle.heights.specs.Lawful.{areLawful}
+use Rattle.multipliers.specs.Tour.{tableOf}
+
+-- Where an ascent stands: the heights and those before the last step, the best multipliers met and their bound, the largest cost of a tree met, the length of the next step, and whether a tree was balanced.
+pub record Climb : Type 0 where
+  pub heights : List ℕ
+  pub before : List ℕ
+  pub best : List ℤ
+  pub bound : ℤ
+  pub value : ℕ
+  pub stride : ℕ
+  pub done : Bool
+
+module _ (p : Plan) where
+  -- L(u)
+  abbrev pub boundOf : List ℤ → ℤ
+  boundOf u = lagrangianBound p (multipliersOf u)
+
+  module _ (d : List (List ℕ)) (f vs components : List ℕ) (k : ℕ) where
+    abbrev pub taken : Climb → List ℤ → ℤ → Climb
+    taken c u l = record { heights = c .heights; before = c .before; best = u; bound = l; value = c .value; stride = c .stride; done = c .done }
+
+    -- The multipliers of the heights are the best so far, where they are lawful and their bound is larger.
+    unfoldable pub attempt : Climb → Climb
+    unfolding areLawful multipliersAt lagrangianBound
+    attempt c =
+        cond (areLawful d f (c .heights) vs && ltZ (c .bound) (boundOf (multipliersAt (c .heights) vs))) (taken c (multipliersAt (c .heights) vs) (boundOf (multipliersAt (c .heights) vs))) c
+
+    -- A step from c to heights, at which the tree costs `value`. A ninth of the step's length is lost.
+    abbrev pub moved : Climb → Climb → Step → Climb
+    moved c b s =
+        record { heights = s .heights; before = c .heights; best = b .best; bound = b .bound; value = max (c .value) (s .value); stride = c .stride - c .stride / 9; done = s .balanced }
+
+    -- Step i, unless a tree was balanced. Brought back from above and from below by turns.
+    unfoldable pub climb : Climb → ℕ → Climb
+    unfolding attempt step
+    climb c i =
+        let s = step d f vs components k (eqb (i % 2) 1) (c .stride) (c .heights) (c .before) in
+        cond (c .done) c (moved c (cond (ltb (c .value) (s .value)) (attempt c) c) s)
+
+    unfoldable pub begin : List ℤ → Climb
+    unfolding lagrangianBound start span
+    begin u = record { heights = start u vs; before = start u vs; best = u; bound = boundOf u; value = 0; stride = min (span d vs / 24 + 1) beyond; done = false }
+
+    -- Of all multipliers met, the first with the largest L(u).
+    unfoldable pub ascent : List ℤ → List ℤ
+    unfolding turns climb begin
+    ascent u = turns climb (begin u) 20 .best
+
+-- The component of each vertex.
+unfoldable pub componentsOf : Plan → List ℕ
+unfolding below component
+componentsOf p = map (component p) (below 64)
+
+-- The greatest multipliers that are 0 at the lowest required vertex.
+unfoldable pub greatestOf : Plan → List ℤ
+unfolding multipliers balance required root tableOf
+greatestOf p = multipliers (cell (tableOf p)) (required p) (balance (cell (tableOf p)) p []) (root p)
+
+-- THE MULTIPLIERS THAT ARE ANSWERED.
+unfoldable pub multipliersFor : Plan → List ℤ
+unfolding ascent tableOf balance required componentsOf componentCount greatestOf
+multipliersFor p = ascent p (tableOf p) (balance (cell (tableOf p)) p [] .amounts) (required p) (componentsOf p) (componentCount p) (greatestOf p)

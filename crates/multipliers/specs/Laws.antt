@@ -1,0 +1,9 @@
+-- What is proved about the definitions.
+pub mod Tour
+pub mod Lay
+pub mod Bound
+pub mod Table
+pub mod Solve
+pub mod Root
+pub mod Ascent
+pub mod Climb

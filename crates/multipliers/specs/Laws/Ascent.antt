@@ -1,0 +1,161 @@
+-- The multipliers that are answered are lawful, 0 at the root, and give a bound no lower than that of the greatest ones: each step of an ascent keeps that of the best it has met, whatever heights it goes to.
+use mathlib.Core.Path.{_≡_, refl, sym, ap, _∙_, subst, subst⁻¹}
+use mathlib.Core.Bool.{Bool, true, _&&_}
+use mathlib.Core.List.{List, []}
+use Prim.Native.Nat.{ℕ, _≤_, _<_}
+use native.Mathlib.Omega.{arith}
+use lib.ListN.{length, getD}
+use lib.Dec.{T, ltb}
+use lib.IntN.{ℤ, pos}
+use lib.Signed.{ltZ, _≤ℤ_, ltZ-yes}
+use Rattle.integers.specs.Linear.{z, Within}
+use Rattle.postman.specs.Lists.{below}
+use Rattle.postman.specs.Plan.{Plan}
+use Rattle.postman.specs.Required.{required}
+use Rattle.postman.specs.Component.{component, componentCount}
+use Rattle.postman.specs.LagrangianBound.{Multipliers, AreGreatest, lagrangianBound}
+use Rattle.postman.specs.PlanCall.{root}
+use Rattle.postman.specs.Laws.Tests.{cond-ind, and-parts}
+use Rattle.postman.specs.Laws.Multiplier.{greatest-unique}
+use Rattle.postman.specs.Laws.Optimality.{Plannable}
+use Rattle.residual_search.specs.Step.{State, cell}
+use Rattle.balance.specs.Balance.{balance}
+use Rattle.residual_search.specs.Bounds.{AtMost}
+use Rattle.balance.specs.Laws.Step.{vertices-small}
+use Rattle.pair_costs.specs.PairCosts.{multipliersOf}
+use Rattle.heights.specs.Turns.{turns}
+use Rattle.heights.specs.Heights.{multipliersAt}
+use Rattle.heights.specs.Lawful.{areLawful}
+use Rattle.heights.specs.Laws.Turns.{turns-keep}
+use Rattle.network.specs.declared.network.Network.{Network}
+use Rattle.network.specs.Network.{IsNetwork}
+use Rattle.multipliers.specs.Tour.{tableOf}
+use Rattle.multipliers.specs.Ascent.{Climb, boundOf, attempt, climb, begin, ascent, componentsOf, greatestOf, multipliersFor}
+use Rattle.multipliers.specs.Prepared.{IsBase, IsPrepared}
+use Rattle.multipliers.specs.Priced.{IsPriced}
+use Rattle.multipliers.specs.Laws.Table.{filled}
+use Rattle.multipliers.specs.Laws.Solve.{Rooted, some-component, greatest, greatest-rooted, heights-rooted, lawful-rooted, priced}
+use Rattle.multipliers.specs.Laws.Root.{some-place}
+use Rattle.multipliers.specs.Laws.Lay.{base-metric}
+use Rattle.multipliers.specs.Laws.Bound.{are-costs}
+
+module _ (p : Plan) (ok : Plannable p) (few : componentCount p ≤ 8) where
+  -- what the best of an ascent keeps
+  record Kept (c : Climb) : Type 0 where
+    pub rooted : Rooted p (c .best)
+    pub bound-is : c .bound ≡ boundOf p (c .best)
+    pub above : boundOf p (greatestOf p) ≤ℤ c .bound
+
+  abbrev d : List (List ℕ)
+  d = tableOf p
+
+  abbrev f : List ℕ
+  f = balance (cell (tableOf p)) p [] .amounts
+
+  module _ (components : List ℕ) (k : ℕ) where
+    attempt-kept : (c : Climb) → Kept c → Kept (attempt p d f (required p) components k c)
+    unfolding attempt
+    attempt-kept c h =
+        cond-ind (areLawful d f (c .heights) (required p) && ltZ (c .bound) (boundOf p (multipliersAt (c .heights) (required p)))) _ c Kept
+        (λ t.
+        let s = and-parts (areLawful d f (c .heights) (required p)) (ltZ (c .bound) (boundOf p (multipliersAt (c .heights) (required p)))) t in
+        record { rooted = heights-rooted p ok few (c .heights) (s .0); bound-is = refl; above = (let a = h .above in let b = ltZ-yes {a = c .bound} {b = boundOf p (multipliersAt (c .heights) (required p))} (s .1) in omega (arith, z)) })
+        (λ t. h)
+
+    climb-kept : (c : Climb) (i : ℕ) → Kept c → Kept (climb p d f (required p) components k c i)
+    unfolding climb
+    climb-kept c i h =
+        cond-ind (c .done) c _ Kept (λ t. h)
+        (λ t.
+        let b = cond-ind (ltb (c .value) _) (attempt p d f (required p) components k c) c Kept (λ t. attempt-kept c h) (λ t. h) in
+        record { rooted = b .rooted; bound-is = b .bound-is; above = b .above })
+
+    begin-kept : Kept (begin p d f (required p) components k (greatestOf p))
+    unfolding begin
+    begin-kept = record { rooted = greatest-rooted p ok few (greatestOf p) refl; bound-is = refl; above = omega (arith, z) }
+
+    ascent-kept : Kept (turns (climb p d f (required p) components k) (begin p d f (required p) components k (greatestOf p)) 20)
+    ascent-kept = turns-keep (climb p d f (required p) components k) Kept climb-kept (begin p d f (required p) components k (greatestOf p)) begin-kept 20
+
+  -- THEY ARE LAWFUL, AND 0 AT THE ROOT
+  pub answered-rooted : Rooted p (multipliersFor p)
+  unfolding multipliersFor ascent
+  answered-rooted = ascent-kept (componentsOf p) (componentCount p) .rooted
+
+  -- AND THEIR BOUND IS NO LOWER THAN THAT OF THE GREATEST
+  pub answered-above : (v : Multipliers) → AreGreatest p (root p) v → lagrangianBound p v ≤ℤ boundOf p (multipliersFor p)
+  unfolding multipliersFor ascent greatestOf
+  answered-above v g =
+      let k = ascent-kept (componentsOf p) (componentCount p) in
+      let e = greatest-unique p (root p) v (multipliersOf (greatestOf p)) g (greatest p ok few) in
+      let a = k .above in
+      let b = k .bound-is in
+      subst⁻¹ (λ (v : Multipliers). lagrangianBound p v ≤ℤ boundOf p (multipliersFor p)) e (subst (λ (x : ℤ). boundOf p (greatestOf p) ≤ℤ x) b a)
+
+-- ---- over the lists that the code has
+
+-- a plan's state and its network, taken apart
+pub is-prepared : (p : Plan) (table : List (List ℕ)) (vs : List ℕ) (base : State) → IsBase p table vs base → (net : Network) → IsNetwork p net → length (net .required) ≡ 64
+    → IsPrepared p table (base .amounts) vs (net .component) (net .required) (net .components) (net .«required_cost») (base .cost)
+is-prepared p table vs base b net n l = record {
+  known = b .known;
+  amounts-are = ap (λ (s : State). s .amounts) (b .base-is);
+  price-is = ap (λ (s : State). s .cost) (b .base-is);
+  long = l;
+  required-flags = n .required;
+  components = n .components;
+  cost = n .required-cost;
+}
+
+module _ (p : Plan) (table : List (List ℕ)) (f vs c : List ℕ) (flags : List Bool) (k r price : ℕ) (h : IsPrepared p table f vs c flags k r price) where
+  -- the state that the amounts and the cost are of
+  abbrev base : State
+  base = balance (cell (tableOf p)) p []
+
+  is-base : IsBase p table vs base
+  is-base = record { known = h .known; base-is = refl }
+
+  components-are : length c ≡ 64 → c ≡ componentsOf p
+  unfolding componentsOf below
+  components-are l = filled (component p) 0 c 0 64 l (λ j m. h .components .each j m ∙ ap (component p) (omega arith))
+
+  pub ascended-is : length c ≡ 64 → (u : List ℤ) → u ≡ greatestOf p → ascent p table f vs c k u ≡ multipliersFor p
+  unfolding multipliersFor
+  ascended-is l u e =
+      ap (ascent p table f vs c k) e
+      ∙ ap (λ (t : List (List ℕ)). ascent p t f vs c k (greatestOf p)) (h .known .distances)
+      ∙ ap (λ (f : List ℕ). ascent p (tableOf p) f vs c k (greatestOf p)) (h .amounts-are)
+      ∙ ap (λ (v : List ℕ). ascent p (tableOf p) (base .amounts) v c k (greatestOf p)) (h .known .vertices)
+      ∙ ap (λ (c : List ℕ). ascent p (tableOf p) (base .amounts) (required p) c k (greatestOf p)) (components-are l)
+      ∙ ap (λ (k : ℕ). ascent p (tableOf p) (base .amounts) (required p) (componentsOf p) k (greatestOf p)) (h .components .all)
+
+  -- what the functions of the ascent ask
+  pub vertices-low : AtMost 63 vs
+  vertices-low = vertices-small (cell table) vs (base-metric p table vs (h .known))
+
+  pub some-vertices : 0 < length vs
+  some-vertices = some-place p table vs base is-base
+
+  pub component-range : (1 ≤ k) × (k ≤ 8)
+  component-range =
+      let a = h .components .all in
+      let b = some-component p (h .known .plannable) (h .known .few) in
+      let e = h .known .few in
+      (omega arith, omega arith)
+
+  -- the bound of multipliers that are 0 at the root can be asked for
+  rooted-priced : (u : List ℤ) → Rooted p u → IsPriced p table u c flags k r price
+  rooted-priced u e = subst⁻¹ (IsPriced p table u c flags k r) (h .price-is) (priced p table vs base is-base u e c flags k r (h .long) (h .required-flags) (h .components) (h .cost))
+
+  -- so can that of the greatest ones
+  pub greatest-priced : (u : List ℤ) → u ≡ greatestOf p → IsPriced p table u c flags k r price
+  greatest-priced u e = rooted-priced u (greatest-rooted p (h .known .plannable) (h .known .few) u e)
+
+  pub greatest-within : (u : List ℤ) → u ≡ greatestOf p → (v : ℕ) → v < 64 → Within 1099511627776 (getD u v (pos 0))
+  greatest-within u e v l = are-costs p table u c flags k r price (greatest-priced u e) (h .long) .small v l
+
+  -- and that of heights that pass the test
+  pub lawful-priced : (x : List ℕ) {b : Bool} → b ≡ areLawful table f x vs → b ≡ true → (u : List ℤ) → u ≡ multipliersAt x vs → IsPriced p table u c flags k r price
+  lawful-priced x e y u eu =
+      let t : T (areLawful table f x vs) = subst⁻¹ (λ (b : Bool). T b) (sym e ∙ y) tt in
+      rooted-priced u (subst⁻¹ (Rooted p) eu (lawful-rooted p table vs base is-base x (subst (λ (f : List ℕ). T (areLawful table f x vs)) (h .amounts-are) t)))

@@ -1,0 +1,181 @@
+-- From a prepared plan to what the search and the bounds ask: the greatest multipliers are lawful, and so are those of heights that pass the test; lawful ones price the imbalance at the cost of the state.
+use mathlib.Core.Path.{_≡_, sym, ap, _∙_, subst, subst⁻¹}
+use mathlib.Core.Bool.{Bool}
+use mathlib.Core.List.{List, [], List·Memᴰ, List·Memᴰ·head, List·Memᴰ·tail}
+use Prim.Native.Nat.{ℕ, _≤_, _<_}
+use native.Mathlib.Nat.{mul-le-mul-right}
+use native.Mathlib.Omega.{arith}
+use lib.ListN.{length}
+use lib.IntN.{ℤ, pos}
+use lib.Dec.{T}
+use Rattle.postman.specs.Plan.{Plan}
+use Rattle.postman.specs.Required.{required, requiredCost}
+use Rattle.postman.specs.Component.{componentCount}
+use Rattle.postman.specs.LagrangianBound.{AreMultipliers, AreGreatest}
+use Rattle.postman.specs.Balancing.{leastBalancing}
+use Rattle.postman.specs.PlanCall.{root}
+use Rattle.postman.specs.Laws.Membership.{getD-mem}
+use Rattle.postman.specs.Laws.Distance.{bounded}
+use Rattle.postman.specs.Laws.Required.{number-ends}
+use Rattle.postman.specs.Laws.Component.{component-lt}
+use Rattle.postman.specs.Laws.Balancing.{Joins}
+use Rattle.postman.specs.Laws.Existence.{some-required}
+use Rattle.postman.specs.Laws.Optimality.{Plannable}
+use Rattle.residual_search.specs.Step.{State, cell}
+use Rattle.balance.specs.Balance.{balance}
+use Rattle.balance.specs.Multipliers.{multipliers}
+use Rattle.direct_amounts.specs.Laws.Plan.{balance-least, balance-certified, balance-room, plan-metric, heights-multipliers, multipliers-greatest}
+use Rattle.required.specs.Contracts.{IsLinks, IsRequiredFlags, IsComponents}
+use Rattle.arborescence.specs.Layout.{laidOut, IsLayout}
+use Rattle.arborescence.specs.Candidates.{AreCandidates}
+use Rattle.pair_costs.specs.PairCosts.{multipliersOf}
+use Rattle.heights.specs.Heights.{capped, multipliersAt}
+use Rattle.heights.specs.Lawful.{areLawful}
+use Rattle.heights.specs.Laws.Lawful.{lawful-feasible, lawful-tight}
+use Rattle.heights.specs.Laws.Heights.{level, multipliers-here, multipliers-other, multipliers-first}
+use Rattle.candidates.specs.declared.Candidates.{Candidates}
+use Rattle.candidates.specs.LaidOut.{AreLaidOut}
+use Rattle.tree_count.specs.Entries.{AreCounted}
+use Rattle.tree_count.specs.Laws.Recursion.{entriesIn}
+use Rattle.tree_count.specs.Laws.Plan.{sources}
+use Rattle.tree_count.specs.Laws.Entries.{all-few, entry-is}
+use Rattle.tree_bounds.specs.Prepared.{Prepared}
+use Rattle.branches.specs.Branches.{AreGiven}
+use Rattle.multipliers.specs.Tour.{tableOf}
+use Rattle.multipliers.specs.Prepared.{IsBase}
+use Rattle.multipliers.specs.Priced.{IsPriced}
+use Rattle.multipliers.specs.Ascent.{greatestOf}
+use Rattle.multipliers.specs.Laws.Tour.{agrees}
+use Rattle.multipliers.specs.Laws.Lay.{base-table}
+
+nonempty : {x : ℕ} {xs : List ℕ} → List·Memᴰ x xs → 0 < length xs
+nonempty (List·Memᴰ·head e) = omega arith
+nonempty (List·Memᴰ·tail m) = omega arith
+
+-- Multipliers that are 0 at the root.
+pub record Rooted (p : Plan) (u : List ℤ) : Type 0 where
+  pub multipliers : AreMultipliers p (multipliersOf u)
+  pub at-root : multipliersOf u (root p) ≡ pos 0
+
+module _ (p : Plan) (ok : Plannable p) (few : componentCount p ≤ 8) where
+  abbrev d : ℕ → ℕ → ℕ
+  d = cell (tableOf p)
+
+  -- some vertex is required, the lowest among them
+  pub some-vertex : 0 < length (required p)
+  some-vertex = nonempty (number-ends p (bounded (ok .well-formed) .ends) (some-required p (ok .some-arc) .1) .0)
+
+  pub root-required : List·Memᴰ (root p) (required p)
+  unfolding root
+  root-required = getD-mem (required p) 0 0 some-vertex
+
+  pub some-component : 1 ≤ componentCount p
+  some-component = let a = component-lt p (bounded (ok .well-formed) .ends) root-required in omega arith
+
+  abbrev s : State
+  s = balance d p []
+
+  none-joined : Joins p []
+  none-joined l m = elim m [ ]
+
+  pub greatest : AreGreatest p (root p) (multipliersOf (multipliers d (required p) s (root p)))
+  greatest = multipliers-greatest p (ok .well-formed) (ok .connected) d (agrees p ok few) (root p) root-required
+
+  -- they are lawful, and 0 at the root
+  pub greatest-rooted : (u : List ℤ) → u ≡ greatestOf p → Rooted p u
+  unfolding greatestOf
+  greatest-rooted u e = subst⁻¹ (Rooted p) e (record { multipliers = greatest .multipliers; at-root = greatest .at-root })
+
+  cost-least : s .cost ≡ leastBalancing p []
+  cost-least = balance-least p (ok .well-formed) (ok .connected) d (agrees p ok few) [] none-joined (omega arith)
+
+  price-small : s .cost ≤ 4398046511104
+  price-small =
+      let c = balance-certified p (ok .well-formed) (ok .connected) d (agrees p ok few) [] none-joined (omega arith) .numbers .cheap in
+      let r = balance-room p (ok .well-formed) (ok .connected) d (agrees p ok few) [] none-joined (omega arith) in
+      let m = mul-le-mul-right {m = s .count} {n = 356} 8257410000 r in
+      omega arith
+
+  -- heights that pass the test stand for multipliers that are 0 at the root
+  pub heights-rooted : (x : List ℕ) → T (areLawful (tableOf p) (s .amounts) x (required p)) → Rooted p (multipliersAt x (required p))
+  unfolding root
+  heights-rooted x h =
+      let small = plan-metric p (ok .well-formed) (ok .connected) .small in
+      record {
+        multipliers =
+            heights-multipliers p (ok .well-formed) (ok .connected) d (agrees p ok few) (capped x) (lawful-feasible (tableOf p) (s .amounts) (required p) x h) (lawful-tight (tableOf p) (s .amounts) (required p) x h)
+            (multipliersOf (multipliersAt x (required p))) (level x (required p) small) (multipliers-here x (required p) small) (multipliers-other x (required p) small);
+        at-root = multipliers-first x (required p) small some-vertex;
+      }
+
+module _ (p : Plan) (table : List (List ℕ)) (vs : List ℕ) (base : State) (b : IsBase p table vs base) where
+  -- over the definition's own lists
+  pub greatest-is : (u : List ℤ) → u ≡ multipliers (cell table) vs base (root p) → u ≡ greatestOf p
+  unfolding greatestOf
+  greatest-is u e =
+      e ∙ ap (λ (x : List (List ℕ)). multipliers (cell x) vs base (root p)) (b .known .distances) ∙ ap (λ (v : List ℕ). multipliers (cell (tableOf p)) v base (root p)) (b .known .vertices)
+      ∙ ap (λ (s : State). multipliers (cell (tableOf p)) (required p) s (root p)) (b .base-is)
+
+  -- the multipliers of heights that pass the test are lawful, and 0 at the root
+  pub lawful-rooted : (x : List ℕ) → T (areLawful table (base .amounts) x vs) → Rooted p (multipliersAt x vs)
+  lawful-rooted x h =
+      let d : T (areLawful (tableOf p) (base .amounts) x vs) = subst (λ (t : List (List ℕ)). T (areLawful t (base .amounts) x vs)) (b .known .distances) h in
+      let v : T (areLawful (tableOf p) (base .amounts) x (required p)) = subst (λ (vs : List ℕ). T (areLawful (tableOf p) (base .amounts) x vs)) (b .known .vertices) d in
+      let s = subst (λ (s : State). T (areLawful (tableOf p) (s .amounts) x (required p))) (b .base-is) v in
+      subst⁻¹ (λ (vs : List ℕ). Rooted p (multipliersAt x vs)) (b .known .vertices) (heights-rooted p (b .known .plannable) (b .known .few) x s)
+
+module _ (p : Plan) (table : List (List ℕ)) (vs : List ℕ) (base : State) (b : IsBase p table vs base) (u : List ℤ) (e : Rooted p u) where
+  abbrev ok : Plannable p
+  ok = b .known .plannable
+
+  abbrev few : componentCount p ≤ 8
+  few = b .known .few
+
+  cost-is : base .cost ≡ balance (cell (tableOf p)) p [] .cost
+  cost-is = ap (λ (s : State). s .cost) (b .base-is)
+
+  pub priced : (c : List ℕ) (flags : List Bool) (k r : ℕ) → length flags ≡ 64 → IsRequiredFlags p flags → IsComponents p c k → r ≡ requiredCost p → IsPriced p table u c flags k r (base .cost)
+  priced c flags k r long hf hc hr = record {
+    plannable = ok;
+    few = (let a = hc .all in let f = few in omega arith);
+    some = (let a = hc .all in let f = some-component p ok few in omega arith);
+    distances = base-table p table vs (b .known);
+    long = long;
+    required-flags = hf;
+    components = hc;
+    cost = hr;
+    feasible = e .multipliers .feasible;
+    elsewhere = e .multipliers .elsewhere;
+    root = root p;
+    root-required = root-required p ok few;
+    at-root = e .at-root;
+    price-is = e .multipliers .tight ∙ ap pos (sym (cost-is ∙ cost-least p ok few));
+    price-small = (let a = price-small p ok few in let f = cost-is in omega arith);
+  }
+
+  pub prepared : (k : ℕ) (c : Candidates) → k ≡ componentCount p → AreLaidOut p c → Prepared p table vs (c .start) (c .source) (c .tails) (c .heads) k
+  prepared k c hk h = record {
+    plannable = ok;
+    few = few;
+    count = hk;
+    distances = base-table p table vs (b .known);
+    vertices = b .known .vertices;
+    layout = subst⁻¹ (λ (n : ℕ). IsLayout n (c .start) (c .source)) hk (h .layout);
+    candidates = subst⁻¹ (λ (n : ℕ). AreCandidates p (laidOut n (c .start) (c .source))) hk (h .are-candidates);
+    ends = λ q i l m g. (let m′ : q < componentCount p = omega arith in (h .tail q i l m′ g, h .head q i l m′ g));
+  }
+
+  -- what the search begins with: the state, the multipliers, R, and the entries counted from the network
+  pub given : (r : ℕ) (links : List Bool) (of : List ℕ) (k : ℕ) (entries : List ℕ) → r ≡ requiredCost p → IsLinks p links → IsComponents p of k → AreCounted links of 4096 entries → AreGiven p table base u r entries
+  unfolding entriesIn sources
+  given r links of k entries hr hl hc h = record {
+    base-is = b .base-is ∙ ap (λ (x : List (List ℕ)). balance (cell x) p []) (sym (b .known .distances));
+    multipliers = e .multipliers;
+    required-cost = hr;
+    entries-are = λ q x l m c.
+        let n = hc .all in
+        let f = few in
+        let o = some-component p ok few in
+        sym (entry-is p (ok .well-formed) links of k hl hc (omega arith) (omega arith) entries h q x (omega arith) c);
+    few = all-few links of entries (componentCount p) few h;
+  }

@@ -1,0 +1,7 @@
+pub mod Tour
+pub mod Prepared
+pub mod Priced
+pub mod Ascent
+pub mod Climbs
+-- What is proved about them.
+pub mod Laws

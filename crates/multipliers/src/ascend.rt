@@ -1,0 +1,237 @@
+// The multipliers that are answered: steps from the greatest ones on, of which the first with the largest bound is kept.
+// What is read at each step is lent: f are the amounts of the state of the required arcs, and price their cost; cost is R.
+use crate::bound::lagrangian;
+use balance::state::Balance;
+use network::network::Network;
+use plan::Plan;
+use residual_search::entries::lesser;
+ghost use mathlib.Core.Path.{_≡_};
+ghost use mathlib.Core.Bool.{cond};
+ghost use Prim.Native.Nat.{_≤_, max};
+ghost use lib.Dec.{ltb};
+ghost use lib.Signed.{ltZ};
+ghost use Rattle.postman.specs.Plan.{Plan as «a-plan»};
+ghost use Rattle.postman.specs.PlanCall.{root};
+ghost use Rattle.plan.specs.Records.{planValue};
+ghost use Rattle.residual_search.specs.Search.{beyond};
+ghost use Rattle.residual_search.specs.Step.{cell};
+ghost use Rattle.balance.specs.Multipliers.{multipliers};
+ghost use Rattle.balance.specs.Records.{stateOf};
+ghost use Rattle.network.specs.Network.{IsNetwork};
+ghost use Rattle.multipliers.specs.Prepared.{IsBase, IsPrepared};
+ghost use Rattle.multipliers.specs.Ascent.{attempt as attemptOf, climb as climbOnce, begin, ascent as ascentOf, greatestOf, multipliersFor};
+ghost use Rattle.multipliers.specs.Climbs.{climbOf, holding};
+
+// Where an ascent stands.
+pub struct Stage {
+    pub heights: [u64; 64],
+    pub before: [u64; 64],
+    pub best: [i64; 64],
+    pub bound: i64,
+    pub value: u64,
+    pub stride: u64,
+    pub done: bool,
+}
+
+// The best multipliers met, and their bound.
+pub struct Best {
+    pub multipliers: [i64; 64],
+    pub bound: i64,
+}
+
+// Whether a bound is larger.
+fn exceeds(a: i64, b: i64) -> bool
+    ensures { λ r. ⌜ r ≡ ltZ b a ⌝ }
+{
+    b < a
+}
+
+// The multipliers of the heights are the best so far, where they are lawful and their bound is larger.
+fn attempt(
+    table: &[[u32; 64]; 64],
+    f: &[u16; 4096],
+    vs: &[u8],
+    component: &[u8; 64],
+    flags: &[bool; 64],
+    k: usize,
+    cost: u64,
+    price: u64,
+    c: Stage,
+) -> Best
+    requires { ⌜ ((p : «a-plan») × IsPrepared p (now table) (now f) (now vs) (now component) (now flags) k cost price) ⌝ }
+    ensures { λ r. ⌜ ((p : «a-plan») → IsPrepared p (now (table .entry)) (now (f .entry)) (now (vs .entry)) (now (component .entry)) (now (flags .entry)) k cost price → holding c r ≡ attemptOf p (now (table .entry)) (now (f .entry)) (now (vs .entry)) (now (component .entry)) k (climbOf c)) ⌝ }
+{
+    let x = c.heights;
+    let best = c.best;
+    let held = Best {
+        multipliers: best,
+        bound: c.bound,
+    };
+    if heights::lawful::are_lawful(table, f, vs, &x) {
+        let u = heights::heights::multipliers_at(&x, vs);
+        let l = lagrangian(table, &u, component, flags, k, cost, price);
+        if exceeds(l, c.bound) {
+            return Best {
+                multipliers: u,
+                bound: l,
+            };
+        }
+    }
+    held
+}
+
+// The same, where a tree costs more than any met before.
+fn attempt_above(
+    table: &[[u32; 64]; 64],
+    f: &[u16; 4096],
+    vs: &[u8],
+    component: &[u8; 64],
+    flags: &[bool; 64],
+    k: usize,
+    cost: u64,
+    price: u64,
+    c: Stage,
+    value: u64,
+) -> Best
+    requires { ⌜ ((p : «a-plan») × IsPrepared p (now table) (now f) (now vs) (now component) (now flags) k cost price) ⌝ }
+    ensures { λ r. ⌜ ((p : «a-plan») → IsPrepared p (now (table .entry)) (now (f .entry)) (now (vs .entry)) (now (component .entry)) (now (flags .entry)) k cost price → holding c r ≡ cond (ltb (c .value) value) (attemptOf p (now (table .entry)) (now (f .entry)) (now (vs .entry)) (now (component .entry)) k (climbOf c)) (climbOf c)) ⌝ }
+{
+    if c.value < value {
+        return attempt(table, f, vs, component, flags, k, cost, price, c);
+    }
+    let best = c.best;
+    Best {
+        multipliers: best,
+        bound: c.bound,
+    }
+}
+
+// The larger of two.
+fn more(a: u64, b: u64) -> u64
+    ensures { λ r. ⌜ r ≡ max a b ⌝ }
+{
+    if a < b { b } else { a }
+}
+
+// Step i, unless a tree was balanced.
+fn climb(
+    table: &[[u32; 64]; 64],
+    f: &[u16; 4096],
+    vs: &[u8],
+    component: &[u8; 64],
+    flags: &[bool; 64],
+    k: usize,
+    cost: u64,
+    price: u64,
+    c: Stage,
+    i: usize,
+) -> Stage
+    requires { ⌜ ((p : «a-plan») × IsPrepared p (now table) (now f) (now vs) (now component) (now flags) k cost price) × (c .stride ≤ beyond) ⌝ }
+    ensures { λ r. ⌜ ((p : «a-plan») → IsPrepared p (now (table .entry)) (now (f .entry)) (now (vs .entry)) (now (component .entry)) (now (flags .entry)) k cost price → climbOf r ≡ climbOnce p (now (table .entry)) (now (f .entry)) (now (vs .entry)) (now (component .entry)) k (climbOf c) i) × (r .stride ≤ beyond) ⌝ }
+{
+    if c.done {
+        return c;
+    }
+    let x = c.heights;
+    let before = c.before;
+    let up = i % 2 == 1;
+    let s = ascent::step::step(table, f, vs, component, k, up, c.stride, &x, &before);
+    let b = attempt_above(table, f, vs, component, flags, k, cost, price, c, s.value);
+    let next = s.heights;
+    let best = b.multipliers;
+    let value = more(c.value, s.value);
+    Stage {
+        heights: next,
+        before: x,
+        best: best,
+        bound: b.bound,
+        value: value,
+        stride: c.stride - c.stride / 9,
+        done: s.balanced,
+    }
+}
+
+// Before the first step.
+fn begun(
+    table: &[[u32; 64]; 64],
+    f: &[u16; 4096],
+    vs: &[u8],
+    component: &[u8; 64],
+    flags: &[bool; 64],
+    k: usize,
+    cost: u64,
+    price: u64,
+    u: [i64; 64],
+) -> Stage
+    requires { ⌜ ((p : «a-plan») × IsPrepared p (now table) (now f) (now vs) (now component) (now flags) k cost price × (u ≡ greatestOf p)) ⌝ }
+    ensures { λ r. ⌜ ((p : «a-plan») → IsPrepared p (now (table .entry)) (now (f .entry)) (now (vs .entry)) (now (component .entry)) (now (flags .entry)) k cost price → u ≡ greatestOf p → climbOf r ≡ begin p (now (table .entry)) (now (f .entry)) (now (vs .entry)) (now (component .entry)) k u) × (r .stride ≤ beyond) ⌝ }
+{
+    let l = lagrangian(table, &u, component, flags, k, cost, price);
+    let x = heights::heights::start(&u, vs);
+    let far = heights::heights::span(table, vs);
+    let stride = lesser(far / 24 + 1, 1099511627776);
+    Stage {
+        heights: x,
+        before: x,
+        best: u,
+        bound: l,
+        value: 0,
+        stride: stride,
+        done: false,
+    }
+}
+
+// The multipliers that are answered, from the greatest ones on.
+pub(crate) fn ascend(
+    table: &[[u32; 64]; 64],
+    f: &[u16; 4096],
+    vs: &[u8],
+    component: &[u8; 64],
+    flags: &[bool; 64],
+    k: usize,
+    cost: u64,
+    price: u64,
+    u: [i64; 64],
+) -> [i64; 64]
+    requires { ⌜ ((p : «a-plan») × IsPrepared p (now table) (now f) (now vs) (now component) (now flags) k cost price × (u ≡ greatestOf p)) ⌝ }
+    ensures { λ r. ⌜ ((p : «a-plan») → IsPrepared p (now (table .entry)) (now (f .entry)) (now (vs .entry)) (now (component .entry)) (now (flags .entry)) k cost price → u ≡ greatestOf p → r ≡ ascentOf p (now (table .entry)) (now (f .entry)) (now (vs .entry)) (now (component .entry)) k u) ⌝ }
+{
+    let mut c = begun(table, f, vs, component, flags, k, cost, price, u);
+    for i in 0..20usize {
+        let next = climb(table, f, vs, component, flags, k, cost, price, c, i);
+        c = next;
+    }
+    let best = c.best;
+    best
+}
+
+// The same, of a network.
+pub fn multipliers_for(
+    plan: Plan,
+    table: &[[u32; 64]; 64],
+    vs: &[u8],
+    net: Network,
+    base: Balance,
+    u: [i64; 64],
+) -> [i64; 64]
+    requires { ⌜ IsBase (planValue plan) (now table) (now vs) (stateOf base) × IsNetwork (planValue plan) net × (u ≡ multipliers (cell (now table)) (now vs) (stateOf base) (root (planValue plan))) ⌝ }
+    ensures { λ r. ⌜ r ≡ multipliersFor (planValue plan) ⌝ }
+{
+    let amounts = base.amounts;
+    let component = net.component;
+    let flags = net.required;
+    let parts = net.components;
+    let k = parts as usize;
+    let cost = net.required_cost;
+    ascend(
+        table,
+        &amounts,
+        vs,
+        &component,
+        &flags,
+        k,
+        cost,
+        base.cost,
+        u,
+    )
+}

@@ -1,0 +1,2 @@
+// A(u): the cheapest arborescence over all pairs between components.
+pub mod pairs;

@@ -1,0 +1,2 @@
+// The arcs of the path of fewest arcs.
+pub mod path; // the arcs of a shortest path

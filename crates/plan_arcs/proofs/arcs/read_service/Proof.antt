@@ -1,0 +1,29 @@
+-- `read_service` meets its contract: edition 2 has its field, which lies within the arc of 46 bits.
+use mathlib.Core.Path.{_∙_}
+use native.Mathlib.Omega.{arith}
+use borrow.Author.Tests.{eq-eqb, ne-eqb}
+use Rattle.postman.specs.Laws.FileLength.{second-width}
+use borrow.Author.Needs.{needs}
+use Rattle.plan_arcs.proofs.arcs.read_service.Statement.{statement}
+use Rattle.plan_arcs.proofs.arcs.read_service.Tie as tie
+
+add-take-at : tie.Need-add-take-at
+add-take-at c = search needs
+
+take-at-requires : tie.Need-take-at-requires
+take-at-requires c κs =
+    let wide = second-width (c .before .before .args .edition) (eq-eqb _ _ (c .if1 .taken)) in
+    (omega arith, omega (arith, wide), omega arith)
+
+returns : tie.Need-returns
+returns c = simp (eq-eqb _ _ (c .before .if1 .taken)) (c .take-at .ensures .0)
+
+implied-service-requires : tie.Need-implied-service-requires
+implied-service-requires c κs = search needs
+
+returns-2 : tie.Need-returns-2
+returns-2 c = simp (ne-eqb _ _ (c .before .if1 .left)) (c .implied-service .ensures)
+
+pub read-service-spec : {M : Type 1} → statement M
+read-service-spec =
+    tie.close (tie.spec add-take-at take-at-requires returns implied-service-requires returns-2)

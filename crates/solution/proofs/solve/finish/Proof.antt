@@ -1,0 +1,34 @@
+-- What the search keeps is the best tree, which is what is answered.
+use native.Mathlib.Omega.{arith}
+use Rattle.solution.specs.Laws.Answer.{cost-small}
+use Rattle.solution.specs.Laws.Resumed.{holds-kept}
+use borrow.Author.Needs.{needs}
+use Rattle.solution.proofs.solve.finish.Statement.{statement}
+use Rattle.solution.proofs.solve.finish.Tie as tie
+
+best-requires : tie.Need-best-requires
+best-requires c κs =
+    let s = c .before .before in
+    (s .pre .0 .0, s .pre .0 .1, s .pre .1 .0, s .pre .1 .1)
+
+conclude-requires : tie.Need-conclude-requires
+conclude-requires c κs =
+    let r = c .before .best in
+    let s = c .before .before .before .before in
+    let b = s .pre .0 .0 .known in
+    let l = cost-small _ (b .plannable) (b .few) _ (s .pre .1 .1) in
+    let e = r .ensures .cost in
+    (s .pre .0, (s .pre .1 .0, holds-kept _ (b .plannable) (b .few) _ (s .pre .1 .1) (r .result) (r .ensures), omega arith, s .pre .1 .2, s .pre .1 .3))
+
+same-length : tie.Need-same-length
+same-length c = search needs
+
+returns : tie.Need-returns
+returns c =
+    let k = c .before .before in
+    let r = k .before .before .best in
+    let s = k .before .before .before .before .before in
+    k .conclude .ensures .0 _ (s .pre .1 .1) (r .ensures)
+
+pub finish-spec : {M : Type 1} → statement M
+finish-spec = tie.close (tie.spec best-requires conclude-requires same-length returns)

@@ -1,0 +1,35 @@
+-- The search begins at the root, with the candidates that it asks for; and the trees of the root are all trees.
+use mathlib.Core.Path.{ap, _∙_}
+use Prim.Native.Nat.{_-_}
+use Rattle.postman.specs.Component.{componentCount}
+use Rattle.postman.specs.Balancing.{completionCost}
+use Rattle.plan.specs.Records.{planValue}
+use Rattle.branches.specs.Progress.{advance}
+use Rattle.branches.specs.Holding.{heldOf}
+use Rattle.search.specs.Laws.Tried.{root-trees}
+use borrow.Author.Needs.{needs}
+use Rattle.solution.proofs.trees.explored.Statement.{statement}
+use Rattle.solution.proofs.trees.explored.Tie as tie
+
+begin-requires : tie.Need-begin-requires
+begin-requires c κs = let s = c .before in (s .pre .0, s .pre .1, s .pre .2)
+
+cast-k : tie.Need-cast-k
+cast-k c = search needs
+
+advance-requires : tie.Need-advance-requires
+advance-requires c κs =
+    let b = c .before .before .before .before .before .before .before .before .before .before .before .before .before .begin in
+    let s = c .before .before .before .before .before .before .before .before .before .before .before .before .before .before .before in
+    ((planValue (s .args .plan), b .ensures .prepared, b .ensures .root .branch), s .pre .3)
+
+returns : tie.Need-returns
+returns c =
+    let b = c .before .before .before .before .before .before .before .before .before .before .before .before .before .before .begin in
+    let s = c .before .before .before .before .before .before .before .before .before .before .before .before .before .before .before .before in
+    let is = b .ensures .root in
+    let m = componentCount (planValue (s .args .plan)) - 1 in
+    c .advance .ensures _ (b .ensures .prepared) (is .branch) ∙ ap (advance (completionCost (planValue (s .args .plan))) (heldOf m (s .args .g))) (root-trees (b .ensures .prepared) (b .result .root) is)
+
+pub explored-spec : {M : Type 1} → statement M
+explored-spec = tie.close (tie.spec begin-requires cast-k advance-requires returns)

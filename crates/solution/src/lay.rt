@@ -1,0 +1,35 @@
+// The drive of an arborescence.
+use balance::state::Balance;
+use plan::Plan;
+ghost use mathlib.Core.Path.{_≡_};
+ghost use Prim.Native.Nat.{_≤_};
+ghost use lib.ListN.{length};
+ghost use Rattle.postman.specs.PlanCall.{sheetPlaces};
+ghost use Rattle.plan.specs.Records.{planValue};
+ghost use Rattle.shortest.specs.Contracts.{AreWeights};
+ghost use Rattle.balance.specs.Records.{stateOf};
+ghost use Rattle.circuit.specs.Filled.{linksOf};
+ghost use Rattle.circuit.specs.Tour.{tour, written};
+ghost use Rattle.multipliers.specs.Tour.{amountsOf};
+ghost use Rattle.multipliers.specs.Prepared.{IsBase, IsTree};
+
+// Writes the drive of the arborescence with these links: they are added to the state of the required arcs, the amounts are made direct, and paths are found by the table of
+// weights.
+pub(crate) fn lay(
+    plan: Plan,
+    table: &[[u32; 64]; 64],
+    weights: &[[u32; 64]; 64],
+    vs: &[u8],
+    base: Balance,
+    tails: &[u8],
+    heads: &[u8],
+    sheet: &mut [u16],
+) -> usize
+    requires { ⌜ IsBase (planValue plan) (now table) (now vs) (stateOf base) × IsTree (planValue plan) (now tails) (now heads) × (sheetPlaces ≤ length (now sheet)) × AreWeights (planValue plan) (now weights) ⌝ }
+    ensures { λ r. ⌜ now (sheet .exit) ≡ written (tour (planValue plan) (linksOf (now (tails .entry)) (now (heads .entry))) (amountsOf (planValue plan) (linksOf (now (tails .entry)) (now (heads .entry))))) (now (sheet .entry)) ⌝ }
+    ensures { λ r. ⌜ r ≡ length (tour (planValue plan) (linksOf (now (tails .entry)) (now (heads .entry))) (amountsOf (planValue plan) (linksOf (now (tails .entry)) (now (heads .entry))))) ⌝ }
+{
+    let full = balance::state::add_all(base, table, vs, tails, heads);
+    let amounts = direct_amounts::direct::direct_amounts(full, table, vs);
+    circuit::tour::write_tour(plan, weights, tails, heads, &amounts, sheet)
+}

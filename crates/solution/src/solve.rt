@@ -1,0 +1,116 @@
+// The answer of a plan that is not refused.
+use crate::Planned;
+use crate::lay::lay;
+use crate::trees::best;
+use balance::state::Balance;
+use multipliers::ascend::multipliers_for;
+use multipliers::bound::floor_of;
+use multipliers::prepare::base_state;
+use multipliers::prepare::multipliers_of;
+use network::network::Network;
+use plan::Plan;
+use refusal::Verdict;
+use search::tried::Searched;
+ghost use mathlib.Core.Path.{_≡_};
+ghost use mathlib.Core.Option.{none};
+ghost use Prim.Native.Nat.{ℕ, _≤_};
+ghost use lib.ListN.{length};
+ghost use Rattle.postman.specs.PlanCall.{sheetPlaces};
+ghost use Rattle.plan.specs.Records.{planValue};
+ghost use Rattle.shortest.specs.Contracts.{AreWeights};
+ghost use Rattle.balance.specs.Records.{stateOf};
+ghost use Rattle.network.specs.Network.{IsNetwork};
+ghost use Rattle.multipliers.specs.Prepared.{IsKnown, IsBase};
+ghost use Rattle.multipliers.specs.Ascent.{multipliersFor};
+ghost use Rattle.solution.specs.Planned.{IsPlanned};
+ghost use Rattle.solution.specs.Resumed.{HoldsTree, HoldsDrive};
+ghost use Rattle.search.specs.Contracts.{IsSearched};
+
+// The drive of the tree that is held is written, and the floor is computed, from the state of the required arcs. The multipliers that are answered give the floor.
+pub fn conclude(
+    plan: Plan,
+    table: &[[u32; 64]; 64],
+    weights: &[[u32; 64]; 64],
+    vs: &[u8],
+    net: Network,
+    base: Balance,
+    u: [i64; 64],
+    s: Searched,
+    sheet: &mut [u16],
+) -> Planned
+    requires { ⌜ IsBase (planValue plan) (now table) (now vs) (stateOf base) × (u ≡ multipliersFor (planValue plan)) ⌝ }
+    requires { ⌜ IsNetwork (planValue plan) net × HoldsTree (planValue plan) (s .tails) (s .heads) × (s .cost ≤ 4398046511104) × (sheetPlaces ≤ length (now sheet)) × AreWeights (planValue plan) (now weights) ⌝ }
+    ensures { λ r. ⌜ ((budget : ℕ) → 1 ≤ budget → IsSearched (planValue plan) budget s → IsPlanned (planValue plan) budget none (now (sheet .entry)) (now (sheet .exit)) r) ⌝ }
+    ensures { λ r. ⌜ HoldsDrive (planValue plan) (now (sheet .entry)) (now (sheet .exit)) ⌝ }
+{
+    let parts = net.components;
+    let k = parts as usize;
+    let required_cost = net.required_cost;
+    let ts = s.tails;
+    let hs = s.heads;
+    let n = k - 1;
+    let places = lay(plan, table, weights, vs, base, &ts[..n], &hs[..n], sheet);
+    let component = net.component;
+    let flags = net.required;
+    let floor = floor_of(
+        table,
+        &u,
+        &component,
+        &flags,
+        k,
+        required_cost,
+        base.cost,
+        s.whole,
+        s.cost,
+    );
+    Planned {
+        verdict: Verdict::Accepted,
+        places: places,
+        cost: s.cost,
+        floor: floor,
+        trees: s.tried,
+        whole: s.whole,
+        parts: parts,
+        multipliers: u,
+    }
+}
+
+// The trees are tried, and the best is what is answered.
+pub(crate) fn finish(
+    plan: Plan,
+    table: &[[u32; 64]; 64],
+    weights: &[[u32; 64]; 64],
+    vs: &[u8],
+    net: Network,
+    base: Balance,
+    u: [i64; 64],
+    budget: u32,
+    sheet: &mut [u16],
+) -> Planned
+    requires { ⌜ IsBase (planValue plan) (now table) (now vs) (stateOf base) × (u ≡ multipliersFor (planValue plan)) ⌝ }
+    requires { ⌜ IsNetwork (planValue plan) net × (1 ≤ budget) × (sheetPlaces ≤ length (now sheet)) × AreWeights (planValue plan) (now weights) ⌝ }
+    ensures { λ r. ⌜ IsPlanned (planValue plan) budget none (now (sheet .entry)) (now (sheet .exit)) r ⌝ }
+{
+    let s = best(plan, table, vs, net, base, u, budget);
+    conclude(plan, table, weights, vs, net, base, u, s, sheet)
+}
+
+// The state and the multipliers first, over the required vertices.
+pub fn solve(
+    plan: Plan,
+    table: &[[u32; 64]; 64],
+    weights: &[[u32; 64]; 64],
+    vs: &[u8],
+    net: Network,
+    budget: u32,
+    sheet: &mut [u16],
+) -> Planned
+    requires { ⌜ IsKnown (planValue plan) (now table) (now vs) ⌝ }
+    requires { ⌜ IsNetwork (planValue plan) net × (1 ≤ budget) × (sheetPlaces ≤ length (now sheet)) × AreWeights (planValue plan) (now weights) ⌝ }
+    ensures { λ r. ⌜ IsPlanned (planValue plan) budget none (now (sheet .entry)) (now (sheet .exit)) r ⌝ }
+{
+    let base = base_state(plan, table, vs);
+    let greatest = multipliers_of(plan, table, vs, base);
+    let u = multipliers_for(plan, table, vs, net, base, greatest);
+    finish(plan, table, weights, vs, net, base, u, budget, sheet)
+}

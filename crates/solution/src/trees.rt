@@ -1,0 +1,225 @@
+// The trees of a plan that is not refused, in order, at most as many as the budget.
+use balance::state::Balance;
+use branches::branch::Branch;
+use branches::progress::Progress;
+use candidates::Candidates;
+use network::network::Network;
+use plan::Plan;
+use search::tried::Searched;
+use search::tried::lesser;
+use tree_count::entries::entries_of;
+ghost use mathlib.Core.Path.{_≡_};
+ghost use Prim.Native.Nat.{_≤_, _+_, _-_, min};
+ghost use Rattle.plan.specs.Records.{planValue};
+ghost use Rattle.balance.specs.Records.{stateOf};
+ghost use Rattle.network.specs.Network.{IsNetwork};
+ghost use Rattle.postman.specs.Arborescence.{arborescences, arborescenceCount};
+ghost use Rattle.search.specs.Contracts.{IsExplored, IsSearched};
+ghost use Rattle.branches.specs.Holding.{IsShort};
+ghost use Rattle.multipliers.specs.Prepared.{IsBase};
+ghost use Rattle.multipliers.specs.Ascent.{multipliersFor};
+ghost use Rattle.solution.specs.Begun.{IsBegun};
+ghost use Rattle.solution.specs.Resumed.{turnTrees, IsReachedBy, IsResumed};
+
+// How far a search is: the best so far, and how many trees were tried.
+pub struct Reached {
+    pub cost: u64,
+    pub tails: [u8; 8],
+    pub heads: [u8; 8],
+    pub tried: u32,
+}
+
+// How far it is after a turn, how many trees are tried in all, and whether these are all there are.
+pub struct Resumed {
+    pub cost: u64,
+    pub tails: [u8; 8],
+    pub heads: [u8; 8],
+    pub tried: u32,
+    pub total: u32,
+    pub whole: bool,
+}
+
+// What a search begins with: the candidates in order, and the branch of all trees.
+struct Begun {
+    candidates: Candidates,
+    root: Branch,
+}
+
+// The root's potentials are the multipliers that are answered.
+fn begin(
+    plan: Plan,
+    table: &[[u32; 64]; 64],
+    vs: &[u8],
+    net: Network,
+    base: Balance,
+    u: [i64; 64],
+) -> Begun
+    requires { ⌜ IsBase (planValue plan) (now table) (now vs) (stateOf base) × (u ≡ multipliersFor (planValue plan)) × IsNetwork (planValue plan) net ⌝ }
+    ensures { λ r. ⌜ IsBegun (planValue plan) (now (table .entry)) (now (vs .entry)) (base .amounts) (net .components) r ⌝ }
+{
+    let c = candidates::of_network(net);
+    let links = net.links;
+    let component = net.component;
+    let entries = entries_of(&links, &component);
+    let k = net.components as usize;
+    let cost = net.required_cost;
+    let b = branches::branch::root(vs, k, base, &u, cost, entries);
+    Begun {
+        candidates: c,
+        root: b,
+    }
+}
+
+// The first tree of least cost among those tried.
+pub(crate) fn best(
+    plan: Plan,
+    table: &[[u32; 64]; 64],
+    vs: &[u8],
+    net: Network,
+    base: Balance,
+    u: [i64; 64],
+    budget: u32,
+) -> Searched
+    requires { ⌜ IsBase (planValue plan) (now table) (now vs) (stateOf base) × (u ≡ multipliersFor (planValue plan)) × IsNetwork (planValue plan) net × (1 ≤ budget) ⌝ }
+    ensures { λ r. ⌜ IsSearched (planValue plan) budget r ⌝ }
+{
+    let s = begin(plan, table, vs, net, base, u);
+    let b = s.root;
+    let c = s.candidates;
+    let start = c.start;
+    let source = c.source;
+    let tails = c.tails;
+    let heads = c.heads;
+    let k = net.components as usize;
+    let f = base.amounts;
+    search::tried::search(b, &f, table, vs, &start, &source, &tails, &heads, k, budget)
+}
+
+// The trees from the root on: those to skip, then those that are left to be tried.
+fn explored(
+    plan: Plan,
+    table: &[[u32; 64]; 64],
+    vs: &[u8],
+    net: Network,
+    base: Balance,
+    u: [i64; 64],
+    g: Progress,
+) -> Progress
+    requires { ⌜ IsBase (planValue plan) (now table) (now vs) (stateOf base) × (u ≡ multipliersFor (planValue plan)) × IsNetwork (planValue plan) net × IsShort g ⌝ }
+    ensures { λ r. ⌜ IsExplored (planValue plan) (arborescences (planValue plan)) g r ⌝ }
+{
+    let s = begin(plan, table, vs, net, base, u);
+    let b = s.root;
+    let c = s.candidates;
+    let start = c.start;
+    let source = c.source;
+    let tails = c.tails;
+    let heads = c.heads;
+    let k = net.components as usize;
+    let f = base.amounts;
+    search::tried::advance(g, b, &f, table, vs, &start, &source, &tails, &heads, k)
+}
+
+// "takes 1,000 trees or the rest of T"
+fn turn_of(total: u32, tried: u32) -> u32
+    ensures { λ r. ⌜ r ≡ min turnTrees (total - tried) ⌝ }
+{
+    if total <= tried {
+        return 0;
+    }
+    let rest = total - tried;
+    if rest < 1_000 { rest } else { 1_000 }
+}
+
+// The first trees.
+fn first_tried(
+    plan: Plan,
+    table: &[[u32; 64]; 64],
+    vs: &[u8],
+    net: Network,
+    base: Balance,
+    u: [i64; 64],
+    n: u32,
+) -> Reached
+    requires { ⌜ IsBase (planValue plan) (now table) (now vs) (stateOf base) × (u ≡ multipliersFor (planValue plan)) × IsNetwork (planValue plan) net × (1 ≤ n) ⌝ }
+    ensures { λ r. ⌜ (r .tried ≡ n) × (n ≤ arborescenceCount (planValue plan) → IsReachedBy (planValue plan) r) ⌝ }
+{
+    let s = best(plan, table, vs, net, base, u, n);
+    let ts = s.tails;
+    let hs = s.heads;
+    Reached {
+        cost: s.cost,
+        tails: ts,
+        heads: hs,
+        tried: n,
+    }
+}
+
+// More trees after those that were tried. None of them is tried again.
+fn tried_on(
+    plan: Plan,
+    table: &[[u32; 64]; 64],
+    vs: &[u8],
+    net: Network,
+    base: Balance,
+    u: [i64; 64],
+    g: Reached,
+    more: u32,
+) -> Reached
+    requires { ⌜ IsBase (planValue plan) (now table) (now vs) (stateOf base) × (u ≡ multipliersFor (planValue plan)) × IsNetwork (planValue plan) net × (1 ≤ g .tried + more) × (g .tried ≤ 1000000) × (more ≤ 1000) ⌝ }
+    ensures { λ r. ⌜ (r .tried ≡ g .tried + more) × (g .tried + more ≤ arborescenceCount (planValue plan) → IsReachedBy (planValue plan) g → IsReachedBy (planValue plan) r) ⌝ }
+{
+    if g.tried == 0 {
+        return first_tried(plan, table, vs, net, base, u, more);
+    }
+    let ts = g.tails;
+    let hs = g.heads;
+    let skip = g.tried as u64;
+    let from = Progress {
+        cost: g.cost,
+        tails: ts,
+        heads: hs,
+        skip: skip,
+        left: more as u64,
+    };
+    let r = explored(plan, table, vs, net, base, u, from);
+    let after_ts = r.tails;
+    let after_hs = r.heads;
+    let tried = g.tried + more;
+    Reached {
+        cost: r.cost,
+        tails: after_ts,
+        heads: after_hs,
+        tried: tried,
+    }
+}
+
+// One turn.
+pub fn resume(
+    plan: Plan,
+    table: &[[u32; 64]; 64],
+    vs: &[u8],
+    net: Network,
+    base: Balance,
+    u: [i64; 64],
+    budget: u32,
+    g: Reached,
+) -> Resumed
+    requires { ⌜ IsBase (planValue plan) (now table) (now vs) (stateOf base) × (u ≡ multipliersFor (planValue plan)) × IsNetwork (planValue plan) net × (1 ≤ budget) × (g .tried ≤ 1000000) ⌝ }
+    ensures { λ r. ⌜ IsResumed (planValue plan) budget g r ⌝ }
+{
+    let n = tree_count::of_network(net);
+    let total = lesser(n, budget);
+    let more = turn_of(total, g.tried);
+    let r = tried_on(plan, table, vs, net, base, u, g, more);
+    let ts = r.tails;
+    let hs = r.heads;
+    Resumed {
+        cost: r.cost,
+        tails: ts,
+        heads: hs,
+        tried: r.tried,
+        total: total,
+        whole: n <= budget as u64,
+    }
+}
