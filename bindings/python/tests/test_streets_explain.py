@@ -5,9 +5,8 @@ import unittest
 import repository  # noqa: F401
 
 from postman import Refusal, plan_call
-from postman.streets import explain
 from postman.streets.csv_file import read_csv
-from postman.streets.explain import parts_of
+from postman.streets.explain import explain, parts_of
 
 
 def listed(*rows: str, checking: bool = False):
