@@ -28,7 +28,7 @@ def _sources() -> list[Path]:
 
 
 def _library() -> Path | None:
-    places = [HERE / "postman" / LIBRARY, *(parent / "build" / LIBRARY for parent in HERE.parents[:2])]
+    places = [HERE / "postman" / LIBRARY, *(root / "build" / LIBRARY for root in HERE.parents[1:2])]
     return next((path for path in places if path.is_file()), None)
 
 

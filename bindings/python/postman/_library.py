@@ -17,11 +17,12 @@ _HERE = Path(__file__).resolve().parent
 
 
 def candidates() -> list[Path]:
-    """Where the library is looked for, in this order. A path in POSTMAN_LIBRARY is the only one if it is given."""
+    """Where the library is looked for: at the path in POSTMAN_LIBRARY if it is given, else beside the package, else in the
+    repository."""
     given = os.environ.get("POSTMAN_LIBRARY")
     if given:
         return [Path(given)]
-    return [_HERE / NAME, *(parent / "build" / NAME for parent in _HERE.parents[1:3])]
+    return [_HERE / NAME, *(root / "build" / NAME for root in _HERE.parents[2:3])]
 
 
 def _load() -> tuple[ctypes.CDLL, Path]:

@@ -110,7 +110,9 @@ def answers(file: bytes) -> dict[str, object]:
 class RustPackage(unittest.TestCase):
     def test_both_packages_answer_alike(self) -> None:
         plans = kept_plans()
-        lines = cargo("run", "--quiet", "--release", "--offline", "--example", "answers", *map(str, plans)).splitlines()
+        printed = cargo("run", "--quiet", "--release", "--offline", "--example", "answers", *map(str, plans))
+        texts, *lines = printed.splitlines()
+        self.assertEqual(json.loads(texts), [str(Refusal(number)) for number in range(1, 23)])
         self.assertEqual(len(lines), len(plans))
         refusals = set()
         for path, line in zip(plans, lines):
@@ -119,7 +121,7 @@ class RustPackage(unittest.TestCase):
             for name in ours:
                 self.assertEqual(of_rust[name], ours[name], f"{path.name}: {name}")
             refusals |= {number for number in range(1, 23) if f'"refused": {number},' in line}
-        # The questions meet refusals too, so that their words are compared.
+        # The questions meet refusals too.
         self.assertLessEqual({9, 12, 14, 15, 16, 19, 20}, refusals)
 
     def test_it_can_be_packed(self) -> None:
