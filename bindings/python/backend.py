@@ -1,7 +1,7 @@
 """Builds the package's wheel with the standard library alone, so that `pip install .` needs no network.
 
-The wheel takes libpostman.so along, from beside the package or from build/ of the repository. Without one it is built all
-the same, and the library is found by POSTMAN_LIBRARY.
+The wheel takes libpostman.so along, from beside the package or from build/ of the repository. Without one it is built
+all the same, and the library is found by POSTMAN_LIBRARY.
 """
 
 from __future__ import annotations

@@ -1,6 +1,7 @@
 """The C library: found, loaded, and declared as include/postman.h declares it.
 
-What is proved is this library. The rest of the package lends it memory and takes its answers apart; nothing else here is proved.
+What is proved is this library, but for postman_version and postman_refusal_word. The rest of the package lends it
+memory and takes its answers apart, and is not proved.
 """
 
 from __future__ import annotations
@@ -17,8 +18,7 @@ _HERE = Path(__file__).resolve().parent
 
 
 def candidates() -> list[Path]:
-    """Where the library is looked for: at the path in POSTMAN_LIBRARY if it is given, else beside the package, else in the
-    repository."""
+    """Where the library is looked for: at POSTMAN_LIBRARY if that is given, else beside the package, then in build/."""
     given = os.environ.get("POSTMAN_LIBRARY")
     if given:
         return [Path(given)]

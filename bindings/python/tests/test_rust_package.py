@@ -88,9 +88,8 @@ def answers(file: bytes) -> dict[str, object]:
         drive = plan_call(file, 10).drive
     except Refusal:
         drive = (0,)
-    even, odd = (
-        [k % 2 == remainder and arc.standing == Standing.MUST for k, arc in enumerate(plan.arcs)] for remainder in (0, 1)
-    )
+    musts = [arc.standing == Standing.MUST for arc in plan.arcs]
+    even, odd = ([must and k % 2 == remainder for k, must in enumerate(musts)] for remainder in (0, 1))
     arcs = [[arc.tail, arc.head, arc.standing, arc.cost, arc.checking] for arc in plan.arcs]
     departures = (Departure(2, 600), Departure(2, 720), Departure(7, 0))
     return {
