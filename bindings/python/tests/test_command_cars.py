@@ -47,7 +47,10 @@ class Cars(Folder):
         done = postman("cars", TOWN, "--first", one, "--second", SECOND, "--budget", "10")
         lines = done.out.splitlines()
         neither = sum(street.must for street in self.town.streets) - 19 - 1
-        self.assertEqual(lines[-2], f"checked by neither car: High Street, Fish Lane, Bakers Row, Exchange Alley and 8 more ({neither} rows)")
+        self.assertEqual(
+            lines[-2],
+            f"checked by neither car: High Street, Fish Lane, Bakers Row, Exchange Alley and 8 more ({neither} rows)",
+        )
         self.assertEqual(lines[-1], "checked by both: Quay (2 rows)")
 
     def test_a_car_that_is_refused_does_not_keep_the_other(self):
@@ -58,7 +61,10 @@ class Cars(Folder):
         self.assertIn("second car", done.out)
         self.assertIn("refusal 10", done.out)
         value = json.loads(postman("cars", TOWN, "--first", none, "--second", SECOND, "--json").out)
-        self.assertEqual((value[0]["refusal"], value[1]["marks"]), ({"number": 10, "word": "idle"}, sorted(read_marks(SECOND, self.town))))
+        self.assertEqual(
+            (value[0]["refusal"], value[1]["marks"]),
+            ({"number": 10, "word": "idle"}, sorted(read_marks(SECOND, self.town))),
+        )
 
     def test_a_proposal(self):
         done = postman("cars", TOWN, "--json")
@@ -97,7 +103,9 @@ class Districts(Folder):
         for value in values:
             with self.subTest(value["district"]):
                 answer = plan_call(streets.open_list(value["list"]).file, 2500)
-                self.assertEqual((value["cost"], value["drive"], value["whole"]), (answer.cost, list(answer.drive), answer.whole))
+                self.assertEqual(
+                    (value["cost"], value["drive"], value["whole"]), (answer.cost, list(answer.drive), answer.whole)
+                )
                 self.assertEqual(value["turns"], -(-answer.trees // 1000))
 
     def test_more_than_eight_wait_for_a_place(self):

@@ -31,7 +31,8 @@ class Status(Folder):
         self.assertEqual(postman("--version").out, f"postman {__version__}\n")
 
     def test_refusals_have_number_word_and_what_to_do(self):
-        way = "there is no way from corner 1 to corner 0, the ends of arc 0, which must be driven: open or add a street on the way"
+        way = "there is no way from corner 1 to corner 0, the ends of arc 0, which must be driven: "
+        way += "open or add a street on the way"
         self.check(1, "drive", CUT_OFF, err=f"postman: {CUT_OFF}: refusal 12, cut off: {way}\n")
         sentence = "the budget is 0 or above 1,000,000. Choose a budget from 1 to 1,000,000 trees."
         self.check(1, "drive", CASE_A, "--budget", "0", err=f"refusal 9, budget: {sentence}\n")
@@ -65,7 +66,13 @@ class Status(Folder):
         self.assertIn(b"refusal 12", err)
 
     def test_a_closed_pipe(self):
-        for argv in (["drive", TOWN], ["--help"], ["drive", "--help"], ["drive", TOWN, "--json"], ["completion", "bash"]):
+        for argv in (
+            ["drive", TOWN],
+            ["--help"],
+            ["drive", "--help"],
+            ["drive", TOWN, "--json"],
+            ["completion", "bash"],
+        ):
             with self.subTest(argv):
                 read, write = os.pipe()
                 os.close(read)
@@ -102,7 +109,11 @@ def on_terminal(*argv: str, stdout: bool = False, stderr: bool = False, **variab
     env = {name: value for name, value in environment(TERM="xterm").items() if name != "NO_COLOR"} | variables
     ends = {name: pty.openpty() if terminal else os.pipe() for name, terminal in (("out", stdout), ("err", stderr))}
     process = subprocess.Popen(
-        ["python3", "-m", "postman", *argv], env=env, stdout=ends["out"][1], stderr=ends["err"][1], stdin=subprocess.DEVNULL
+        ["python3", "-m", "postman", *argv],
+        env=env,
+        stdout=ends["out"][1],
+        stderr=ends["err"][1],
+        stdin=subprocess.DEVNULL,
     )
     found = []
     for name in ("out", "err"):

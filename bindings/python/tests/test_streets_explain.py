@@ -28,7 +28,8 @@ class Explaining(unittest.TestCase):
 
     def test_too_many_streets(self):
         town = listed(*(f"A,B,must,{k + 1},Street {k}" for k in range(257)))
-        wanted = "257 rows, and a plan has at most 256; the first beyond them is row 258 (Street 256): cut the list into sheets"
+        wanted = "257 rows, and a plan has at most 256; the first beyond them is row 258 (Street 256): "
+        wanted += "cut the list into sheets"
         self.told(Refusal.EXTENT, town, wanted)
 
     def test_unpriced(self):
@@ -54,12 +55,14 @@ class Explaining(unittest.TestCase):
         self.told(
             Refusal.CUT_OFF,
             listed("A,B,must,1,Elm", "B,C,may,1,Oak"),
-            "there is no way from B to A, the ends of row 2 (Elm), which must be driven: open or add a street on the way",
+            "there is no way from B to A, the ends of row 2 (Elm), which must be driven: "
+            "open or add a street on the way",
         )
         self.told(
             Refusal.CUT_OFF,
             listed("A,B,must,1,Elm", "B,A,must,1,Elm", "B,C,may,1,Oak", "C,D,must,1,Ash", "D,C,may,1,Ash"),
-            "there is no way from C to A, and row 5 (Ash) and row 2 (Elm) must be driven: open or add a street on the way",
+            "there is no way from C to A, and row 5 (Ash) and row 2 (Elm) must be driven: "
+            "open or add a street on the way",
         )
 
     def test_cut_off_at_a_corner_that_nobody_can_leave_or_come_to(self):

@@ -35,11 +35,12 @@ class Quirks(unittest.TestCase):
             "semicolons": PLAIN.replace(",", ";"),
             "tabs": PLAIN.replace(",", "\t"),
             "quotes": 'from,to,standing,cost,street\n"A","B","must","5","Mill Lane"\n"B","A","may","3","Mill Lane"\n',
-            "blank rows": "\n,,,,\nfrom,to,standing,cost,street\n\nA,B,must,5,Mill Lane\n,,,,\n\nB,A,may,3,Mill Lane\n\n",
+            "blank rows": "\n,,,,\n" + PLAIN.replace("\n", "\n,,,,\n\n"),
             "spaces": "from , to,standing,cost, street\n A ,B, must ,5 ,Mill  Lane\nB,A,may,3,\tMill Lane \n",
             "capitals": "From,TO,Standing,Cost,Street\nA,B,MUST,5,Mill Lane\nB,A,May,3,Mill Lane\n",
             "another order": "street,cost,to,from,standing\nMill Lane,5,B,A,must\nMill Lane,3,A,B,may\n",
-            "other columns": "id,from,to,note,standing,cost,street,note\n7,A,B,x,must,5,Mill Lane,y\n8,B,A,,may,3,Mill Lane,\n",
+            "other columns": "id,from,to,note,standing,cost,street,note\n"
+            "7,A,B,x,must,5,Mill Lane,y\n8,B,A,,may,3,Mill Lane,\n",
             "empty columns": "from,to,standing,cost,street,,\nA,B,must,5,Mill Lane,,\nB,A,may,3,Mill Lane,,\n",
             "no-break space": PLAIN.replace("Mill Lane", "Mill\u00a0Lane"),
             "CRLF with BOM and semicolons": b"\xef\xbb\xbf" + crlf.replace(",", ";").encode(),
@@ -49,8 +50,12 @@ class Quirks(unittest.TestCase):
                 self.assertEqual(rows(data), wanted)
 
     def test_quoted_separators_quotes_and_line_breaks(self):
-        data = 'from,to,standing,cost,street\n"Inn, the","say ""B""",must,5,"Mill\nLane"\n"say ""B""","Inn, the",may,3,\n'
-        self.assertEqual(rows(data), [("Inn, the", 'say "B"', "must", 5, "Mill Lane"), ('say "B"', "Inn, the", "may", 3, "")])
+        data = (
+            'from,to,standing,cost,street\n"Inn, the","say ""B""",must,5,"Mill\nLane"\n"say ""B""","Inn, the",may,3,\n'
+        )
+        self.assertEqual(
+            rows(data), [("Inn, the", 'say "B"', "must", 5, "Mill Lane"), ('say "B"', "Inn, the", "may", 3, "")]
+        )
 
     def test_rows_are_numbered_as_a_spreadsheet_numbers_them(self):
         self.assertEqual(row_numbers(PLAIN), [2, 3])
@@ -97,7 +102,10 @@ class Errors(unittest.TestCase):
                 header + "A,B,must,5,,Elm\n",
                 "list.csv row 2 (Elm): checking is empty, and the street is must: write what the checking pass costs",
             ),
-            (header + "A,B,may,5,6,Elm\n", "list.csv row 2 (Elm): checking is 6, and the street is may: leave it empty"),
+            (
+                header + "A,B,may,5,6,Elm\n",
+                "list.csv row 2 (Elm): checking is 6, and the street is may: leave it empty",
+            ),
             (header + "A,B,closed,5,6,\n", "list.csv row 2: checking is 6, and the street is closed: leave it empty"),
             (
                 header + "A,B,must,5,6,Mill, Lane\n",
@@ -114,7 +122,9 @@ class Errors(unittest.TestCase):
                 self.refused(data, message)
 
     def test_an_error_holds_its_place(self):
-        error = self.refused("from,to,standing,cost,street\nA,B,must,x,Elm\n", "list.csv row 2 (Elm): cost x is not a whole number")
+        error = self.refused(
+            "from,to,standing,cost,street\nA,B,must,x,Elm\n", "list.csv row 2 (Elm): cost x is not a whole number"
+        )
         self.assertEqual((error.file, error.row, error.column, error.street), ("list.csv", 2, "cost", "Elm"))
 
     def test_missing_files(self):
@@ -131,7 +141,9 @@ class Writing(unittest.TestCase):
     def test_what_is_written_reads_back(self):
         text = written(("from", "street"), [("Inn, the", 'say "B"'), ("A", None)])
         table = read_table("x.csv", ("from",), ("street",), text.encode())
-        self.assertEqual([row.cells for row in table.rows], [{"from": "Inn, the", "street": 'say "B"'}, {"from": "A", "street": ""}])
+        self.assertEqual(
+            [row.cells for row in table.rows], [{"from": "Inn, the", "street": 'say "B"'}, {"from": "A", "street": ""}]
+        )
 
     def test_a_mark_for_spreadsheets_where_letters_need_it(self):
         self.assertEqual(encoded("a\n"), b"a\n")

@@ -1,7 +1,7 @@
 """The command `postman`: an editor's day over street lists, without programming.
 
-Each subcommand is a module of this package with an EXAMPLE for its help, `add_arguments(parser)` and `run(args, output)`, which
-answers the exit status. Only the module of the subcommand that was called is imported.
+Each subcommand is a module of this package with an EXAMPLE for its help, `add_arguments(parser)` and `run(args,
+output)`, which answers the exit status. Only the module of the subcommand that was called is imported.
 """
 
 from __future__ import annotations
@@ -9,6 +9,12 @@ from __future__ import annotations
 import os
 import sys
 from importlib import import_module
+from typing import TYPE_CHECKING
+
+if TYPE_CHECKING:
+    from argparse import ArgumentParser
+
+    from _typeshed import SupportsWrite
 
 SUBCOMMANDS = {
     "make": "make a plan file of a street list, or street lists of a map",
@@ -80,7 +86,7 @@ def called(name: str, argv: list[str]) -> int:
         return int(end.code or 0)
     output = Output(quiet=getattr(args, "quiet", False))
     try:
-        return module.run(args, output)
+        return int(module.run(args, output))
     except WrongUsage as wrong:
         return complain(f"{parser.format_usage()}postman {name}: {wrong}")
     except Refused as refused:
@@ -97,20 +103,20 @@ def complain(text: str, status: int = WRONG_USAGE) -> int:
     return status
 
 
-def parser_of(name: str):
+def parser_of(name: str) -> ArgumentParser:
     """The parser of a subcommand's arguments."""
     from argparse import ArgumentParser, RawDescriptionHelpFormatter
 
     class Parser(ArgumentParser):
         """A parser that feels a closed pipe, which argparse passes over."""
 
-        def _print_message(self, message, file=None):
+        def _print_message(self, message: str, file: SupportsWrite[str] | None = None) -> None:
             (file or sys.stderr).write(message or "")
 
     module = import_module(f".{name}", __name__)
     parser = Parser(
         prog=f"postman {name}",
-        description=module.__doc__.strip(),
+        description=(module.__doc__ or "").strip(),
         epilog=f"example:\n{module.EXAMPLE}",
         formatter_class=RawDescriptionHelpFormatter,
         allow_abbrev=False,

@@ -35,7 +35,7 @@ def bash() -> str:
             "_postman() {",
             '    local word="${COMP_WORDS[COMP_CWORD]}" words=',
             "    COMPREPLY=()",
-            "    if [ \"$COMP_CWORD\" -eq 1 ]; then",
+            '    if [ "$COMP_CWORD" -eq 1 ]; then',
             f"        COMPREPLY=($(compgen -W '{' '.join(SUBCOMMANDS)} --help --version' -- \"$word\"))",
             "        return",
             "    fi",

@@ -3,6 +3,7 @@
 from __future__ import annotations
 
 from argparse import Namespace
+from typing import TYPE_CHECKING
 
 from ..answer import Answer
 from ..calls import plan_call, plan_call_at, tree_count
@@ -13,6 +14,10 @@ from ..windows import Departure
 from .options import WrongUsage, opened
 from .refused import explained
 
+if TYPE_CHECKING:
+    from ..streets.table import Row
+    from ..streets.windows_file import TypedWindow
+
 
 class Question:
     """What is asked of the library, and what its refusals mean in the list."""
@@ -22,7 +27,7 @@ class Question:
             raise WrongUsage("--windows and --at go together: when streets are shut, and when the drive begins")
         self.streets = streets
         self.departure = departure
-        self.windows: tuple = ()
+        self.windows: tuple[TypedWindow, ...] = ()
         if windows is not None:
             from ..streets.windows_file import read_windows
 
@@ -48,7 +53,7 @@ class Question:
             return tree_count(Plan(plan.vertices, left, plan.edition))
 
     @property
-    def shut(self) -> dict:
+    def shut(self) -> dict[int, Row]:
         """The arcs that are shut at departure."""
         if self.departure is None:
             return {}
@@ -58,7 +63,7 @@ class Question:
 
     def explain(self, refusal: Refusal) -> str:
         """What a refusal means in the list, at this departure."""
-        if refusal.number == Refusal.MUST_SHUT:
+        if refusal.number == Refusal.MUST_SHUT and self.departure is not None:
             from ..streets.windows_file import must_shut
 
             return must_shut(self.streets, self.windows, self.departure)

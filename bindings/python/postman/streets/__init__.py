@@ -10,7 +10,9 @@
 
 from __future__ import annotations
 
+from collections.abc import Iterable, Mapping
 from pathlib import Path
+from typing import Any
 
 from .errors import ListError
 from .street_list import Corner, Street, StreetList
@@ -46,8 +48,9 @@ def write(streets: StreetList, path: str, corners: str | None = None) -> None:
 def open_list(path: str, corners: str | None = None, data: bytes | None = None) -> StreetList:
     """Opens a street list, a plan file or GeoJSON, whichever the file is ("-" is standard input).
 
-    The corners of a street list come from the file `corners`; where none is named, from the file whose name has "corners"
-    where that of the list has "streets", if there is one. `data` are the file's bytes where they were read already.
+    The corners of a street list come from the file `corners`; where none is named, from the file whose name has
+    "corners" where that of the list has "streets", if there is one. `data` are the file's bytes where they were read
+    already.
     """
     if data is None:
         data = read_bytes(path)
@@ -84,14 +87,14 @@ def kind_of(path: str, data: bytes) -> str:
     return "plan" if any(byte < 9 or 13 < byte < 32 for byte in data) else "csv"
 
 
-def from_geojson(source, **options) -> StreetList:
+def from_geojson(source: str | Mapping[str, Any], **options: Any) -> StreetList:
     """A street list of GeoJSON's lines; see `postman.streets.geojson.from_geojson`."""
     from .geojson import from_geojson
 
     return from_geojson(source, **options)
 
 
-def drive_geojson(streets: StreetList, drive) -> dict:
+def drive_geojson(streets: StreetList, drive: Iterable[int]) -> dict[str, Any]:
     """A drive as GeoJSON; see `postman.streets.geojson.drive_geojson`."""
     from .geojson import drive_geojson
 

@@ -1,8 +1,8 @@
 """Tables with a header row, as spreadsheets write them.
 
 Columns go by their names, in any order; columns that nobody asks for are passed over. Cells are parted by commas, by
-semicolons (as spreadsheets write them where the comma is the decimal sign) or by tabs. Rows are numbered as the spreadsheet
-numbers them: the first is row 1, blank rows count, and a quoted cell may hold line breaks.
+semicolons (as spreadsheets write them where the comma is the decimal sign) or by tabs. Rows are numbered as the
+spreadsheet numbers them: the first is row 1, blank rows count, and a quoted cell may hold line breaks.
 """
 
 from __future__ import annotations
