@@ -174,8 +174,8 @@ _WORDS: dict[int, tuple[str, str, str]] = {
     19: (
         "bad window",
         "a window, the number of windows or the departure is beyond its limits",
-        "Use at most 128 windows, each of an arc of this plan, a weekday from 0 to 6, and minutes that ascend to 1,440 at"
-        " most; and depart before minute 1,440.",
+        "Use at most 128 windows, each of an arc of this plan, a weekday from 0 to 6 and minutes that ascend, the last"
+        " of them 1,440 or less; and depart before minute 1,440.",
     ),
     20: (
         "must shut",
