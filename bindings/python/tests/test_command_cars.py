@@ -111,7 +111,8 @@ class Districts(Folder):
     def test_more_than_eight_wait_for_a_place(self):
         done = postman("districts", *DISTRICTS, *DISTRICTS, "--budget", "1001", "--csv")
         rows = list(csv.DictReader(io.StringIO(done.out)))
-        self.assertEqual([row["district"] for row in rows], DISTRICTS * 2)
+        names = [Path(path).stem for path in DISTRICTS]
+        self.assertEqual([row.pop("district") for row in rows], names + [f"{name}-2" for name in names])
         self.assertEqual(rows[:8], rows[8:])
 
     def test_turn_by_turn(self):

@@ -1,12 +1,16 @@
 """Tables as spreadsheets write them."""
 
+import csv
+import io
 import unittest
+from random import Random
 
 import repository  # noqa: F401
 
-from postman.streets.csv_file import read_csv
-from postman.streets.errors import ListError
-from postman.streets.table import encoded, read_table, written
+from postman import Standing
+from postman.streets import ListError, Street, StreetList
+from postman.streets.csv_file import corners_in_order, read_csv, streets_text
+from postman.streets.table import encoded, name_of, read_table, written
 
 PLAIN = "from,to,standing,cost,street\nA,B,must,5,Mill Lane\nB,A,may,3,Mill Lane\n"
 
@@ -121,6 +125,11 @@ class Errors(unittest.TestCase):
             with self.subTest(message):
                 self.refused(data, message)
 
+    def test_what_is_no_text(self):
+        self.refused(b"from,to\n\0,B\n", "list.csv row 2: is no text; save it as CSV UTF-8")
+        self.refused(b"PK\x03\x04\x14\x00", "list.csv: is a spreadsheet's own file; save it as CSV UTF-8")
+        self.refused(b"\xff\xfe\x00", "list.csv: is not UTF-16 text, as its first bytes say; save it as CSV UTF-8")
+
     def test_an_error_holds_its_place(self):
         error = self.refused(
             "from,to,standing,cost,street\nA,B,must,x,Elm\n", "list.csv row 2 (Elm): cost x is not a whole number"
@@ -138,6 +147,32 @@ class Errors(unittest.TestCase):
 
 
 class Writing(unittest.TestCase):
+    def test_drawn_lists_read_back(self):
+        """Names with all that spreadsheets and separators make trouble with, written with each separator."""
+        draw = Random(45)
+        letters = "ab Z\"',;:\t#=-\u00e4\u03a9\U0001f697"
+
+        def name() -> str:
+            return name_of("x" + "".join(draw.choice(letters) for _ in range(draw.randrange(8))))
+
+        for _ in range(200):
+            corners = [name() for _ in range(draw.randrange(1, 9))]
+            checked = draw.random() < 0.5
+            streets = []
+            for row in range(2, draw.randrange(3, 20)):
+                standing = draw.choice(list(Standing))
+                checking = draw.randrange(65536) if checked and standing is Standing.MUST else None
+                ends = draw.choice(corners), draw.choice(corners)
+                streets.append(Street(row, *ends, standing, draw.randrange(65536), checking, draw.choice(("", name()))))
+            town = StreetList("list.csv", 2 if checked else 1, corners_in_order(tuple(streets)), tuple(streets))
+            text = streets_text(town)
+            self.assertEqual(read_csv("list.csv", None, encoded(text)), town)
+            for separator in ";\t":
+                other = io.StringIO(newline="")
+                writer = csv.writer(other, delimiter=separator, lineterminator="\r\n", quoting=csv.QUOTE_ALL)
+                writer.writerows(csv.reader(io.StringIO(text)))
+                self.assertEqual(read_csv("list.csv", None, other.getvalue().encode("utf-16")), town)
+
     def test_what_is_written_reads_back(self):
         text = written(("from", "street"), [("Inn, the", 'say "B"'), ("A", None)])
         table = read_table("x.csv", ("from",), ("street",), text.encode())

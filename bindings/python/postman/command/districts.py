@@ -77,9 +77,16 @@ def run(args: Namespace, output: Output) -> int:
 
 
 def names_of(paths: list[str]) -> list[str]:
-    """The districts' names: those of their files, or their paths where two agree."""
-    stems = [Path(path).stem for path in paths]
-    return [stem if stems.count(stem) == 1 else path for stem, path in zip(stems, paths)]
+    """The districts' names: those of their files, with a number where one occurred before: hill, hill-2."""
+    names: dict[str, None] = {}
+    for path in paths:
+        stem, count = Path(path).stem, 1
+        name = stem
+        while name in names:
+            count += 1
+            name = f"{stem}-{count}"
+        names[name] = None
+    return list(names)
 
 
 def take_turns(districts: list[District], budget: int, args: Namespace, output: Output, bars: Bars) -> None:

@@ -82,7 +82,7 @@ def kind_of(path: str, data: bytes) -> str:
         return "plan"
     if data.removeprefix(b"\xef\xbb\xbf").lstrip().startswith(b"{"):
         return "geojson"
-    if data[:2] in (b"\xff\xfe", b"\xfe\xff"):
+    if data[:2] in (b"\xff\xfe", b"\xfe\xff", b"PK"):
         return "csv"
     return "plan" if any(byte < 9 or 13 < byte < 32 for byte in data) else "csv"
 

@@ -98,8 +98,13 @@ def decoded(data: bytes, file: str) -> str:
         encoding = "utf-16"
     else:
         encoding = "utf-8-sig"
+    if data.startswith(b"PK\x03\x04"):
+        raise ListError("is a spreadsheet's own file; save it as CSV UTF-8", file)
     try:
-        return data.decode(encoding)
+        text = data.decode(encoding)
+        if "\0" in text:
+            raise ListError("is no text; save it as CSV UTF-8", file, text.count("\n", 0, text.index("\0")) + 1)
+        return text
     except UnicodeDecodeError as error:
         if encoding == "utf-16":
             raise ListError("is not UTF-16 text, as its first bytes say; save it as CSV UTF-8", file) from None
