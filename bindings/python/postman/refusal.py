@@ -149,7 +149,7 @@ _WORDS: dict[int, tuple[str, str, str]] = {
     14: (
         "foreign",
         "a judged list has a number that no arc has, or that of a closed arc; or a changed arc is none",
-        "Use the numbers of arcs of this plan that are not closed.",
+        "Use numbers of arcs that the plan has, and in a drive none of a closed arc.",
     ),
     15: (
         "unjoined",
