@@ -123,6 +123,13 @@ class Editing(Folder):
         self.assertEqual(editor.obey("cost from B to A 1").status, 1)
         self.assertEqual((editor.plan.to_bytes(), editor.before), (before, []))
 
+    def test_a_change_that_fails_for_one_street_changes_none(self):
+        text = "from,to,standing,cost,checking,street\nA,B,must,5,8,Elm\nB,A,may,3,,Elm\n"
+        editor = Editor(streets.read(self.file("list.csv", text)), None, None, Output())
+        before = editor.plan.to_bytes()
+        self.assertEqual(editor.obey("must Elm").status, 2)
+        self.assertEqual((editor.plan.to_bytes(), editor.before), (before, []))
+
     def test_refusals_of_asking(self):
         lines = self.session("close Oak Lane", "close Ash Road", "ask", status=1)
         self.assertIn(

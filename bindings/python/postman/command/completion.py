@@ -1,4 +1,5 @@
-"""Prints the completion of subcommands, options and files for a shell."""
+"""Prints the completion of subcommands, options and files for bash. zsh takes it
+too, after `autoload -U bashcompinit && bashcompinit`."""
 
 from __future__ import annotations
 

@@ -15,15 +15,15 @@ from ..refusal import Refusal
 from ..streets import StreetList
 from ..streets.csv_file import streets_text
 from ..streets.errors import ListError, nearest
-from ..streets.explain import explain
 from ..streets.steps import steps_of
 from ..streets.street_list import HIGHEST_COST, Street
-from ..streets.table import Row, encoded, name_of
+from ..streets.table import encoded, name_of
 from ..windows import Departure
 from .deepening import deepest, no_gap
 from .directions import advice, print_directions
 from .files import write_files
 from .output import Output, counted, per_cent
+from .question import explain_at
 
 if TYPE_CHECKING:
     from ..streets.windows_file import TypedWindow
@@ -97,15 +97,8 @@ class Editor:
 
     def refused(self, streets: StreetList, refusal: Refusal) -> Failed:
         """A refusal in the list's own words."""
-        shut: dict[int, Row] = {}
-        if self.departure is not None:
-            from ..streets.windows_file import must_shut, shut_at
-
-            shut = shut_at(self.windows, self.departure)
-            if refusal.number == Refusal.MUST_SHUT:
-                told = must_shut(streets, self.windows, self.departure)
-                return Failed(f"refusal {refusal.number}, {refusal.word}: {told}", 1)
-        return Failed(f"refusal {refusal.number}, {refusal.word}: {explain(streets, refusal, shut=shut)}", 1)
+        told = explain_at(streets, refusal, self.windows, self.departure)
+        return Failed(f"refusal {refusal.number}, {refusal.word}: {told}", 1)
 
     def now(self) -> StreetList:
         """The list as it is now."""
@@ -151,8 +144,8 @@ class Editor:
         """Changes streets, all of them or, if one is refused, none."""
         state = self.plan.to_bytes()
         now = list(self.now().streets)
-        for number in arcs:
-            now[number] = street = changed(number, now[number])
+        for number, street in [(number, changed(number, now[number])) for number in arcs]:
+            now[number] = street
             try:
                 self.plan.change(number, street.cost, street.checked_at, street.standing)
             except Refusal as refusal:
