@@ -3,6 +3,7 @@
 import os
 import pty
 import subprocess
+import sys
 import unittest
 
 from command import TOWN, TOWN_FOLDER, environment, from_shell, postman
@@ -81,12 +82,23 @@ class Status(Folder):
                 err = done.communicate()[1]
                 self.assertEqual((done.returncode, err), (141, b""))
 
+    def test_writing_that_fails(self):
+        with open("/dev/full", "wb") as full:
+            done = from_shell("drive", TOWN, stdout=full, stderr=subprocess.PIPE)
+            err = done.communicate()[1]
+        self.assertEqual((done.returncode, err), (2, b"postman: writing failed: No space left on device\n"))
+
+    def test_no_standard_output(self):
+        words = [sys.executable, "-m", "postman", "drive", TOWN]
+        done = subprocess.run(["sh", "-c", '"$@" >&-', "sh", *words], env=environment(), capture_output=True)
+        self.assertEqual((done.returncode, done.stderr), (141, b""))
+
     def test_letters_that_the_terminal_does_not_have(self):
         path = self.file("list.csv", "from,to,standing,cost,street\nA,B,must,1,M\u00fchlgasse\nB,A,may,1,\n")
         done = from_shell("drive", path, stdout=subprocess.PIPE, stderr=subprocess.PIPE)
         out, err = done.communicate()
         self.assertIn("M\u00fchlgasse", out.decode())
-        words = ["python3", "-m", "postman", "drive", path]
+        words = [sys.executable, "-m", "postman", "drive", path]
         plain = subprocess.run(words, env=environment(PYTHONIOENCODING="ascii"), capture_output=True)
         self.assertEqual((plain.returncode, plain.stderr), (0, b""))
         self.assertIn(b"M\\xfchlgasse", plain.stdout)
@@ -109,7 +121,7 @@ def on_terminal(*argv: str, stdout: bool = False, stderr: bool = False, **variab
     env = {name: value for name, value in environment(TERM="xterm").items() if name != "NO_COLOR"} | variables
     ends = {name: pty.openpty() if terminal else os.pipe() for name, terminal in (("out", stdout), ("err", stderr))}
     process = subprocess.Popen(
-        ["python3", "-m", "postman", *argv],
+        [sys.executable, "-m", "postman", *argv],
         env=env,
         stdout=ends["out"][1],
         stderr=ends["err"][1],

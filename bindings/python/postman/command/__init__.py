@@ -37,6 +37,8 @@ USAGE = "usage: postman SUBCOMMAND ... [--help]"
 
 def main(argv: list[str] | None = None) -> int:
     """Runs the command and answers its exit status."""
+    if sys.stdout is None:
+        return CLOSED_PIPE
     # A name that the terminal has no letters for is shown by their numbers, and is no failure.
     if hasattr(sys.stdout, "reconfigure"):
         sys.stdout.reconfigure(errors="backslashreplace")
@@ -45,11 +47,19 @@ def main(argv: list[str] | None = None) -> int:
         sys.stdout.flush()
         return status
     except BrokenPipeError:
-        # Whoever read has gone. Python flushes once more at its end, into nothing.
-        os.dup2(os.open(os.devnull, os.O_WRONLY), sys.stdout.fileno())
+        into_nothing()
         return CLOSED_PIPE
+    except OSError as error:
+        into_nothing()
+        print(f"postman: writing failed: {error.strerror}", file=sys.stderr)
+        return WRONG_USAGE
     except KeyboardInterrupt:
         return INTERRUPTED
+
+
+def into_nothing() -> None:
+    """Python writes once more at its end what it could not write before; that goes into nothing."""
+    os.dup2(os.open(os.devnull, os.O_WRONLY), sys.stdout.fileno())
 
 
 def run(argv: list[str]) -> int:
