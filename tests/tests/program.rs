@@ -3,8 +3,9 @@
 
 use postman_tests::instances::{checked, fullest, longest};
 use postman_tests::oracle::file_of;
-use postman_tests::plan::{PROGRAM_BUDGET, SHEET_PLACES};
+use postman_tests::plan::{Arc, Plan, OPTIONAL, PROGRAM_BUDGET, REQUIRED, SHEET_PLACES};
 use postman_tests::planner::{Planner, Proved};
+use std::fs::File;
 use std::io::Write;
 use std::os::fd::OwnedFd;
 use std::os::unix::net::UnixDatagram;
@@ -73,4 +74,62 @@ fn drive_writes_in_blocks() {
 #[test]
 fn drive_writes_a_refusal_at_once() {
     assert_eq!(run(&[0x10, 0x40]), (b"refused 1\n".to_vec(), 1));
+}
+
+/// Runs the program with arguments on a plan file: what it writes on standard output, if that is read, and on standard error.
+fn said(arguments: &[&str], plan: &[u8], out: Stdio) -> (String, String) {
+    let mut child = Command::new(Path::new(env!("CARGO_MANIFEST_DIR")).join("../target/bin/drive"))
+        .args(arguments)
+        .stdin(Stdio::piped())
+        .stdout(out)
+        .stderr(Stdio::piped())
+        .spawn()
+        .expect("the program that `rt` has built");
+    // Where it is given an argument it has ended before it reads, and writing fails.
+    let _ = child.stdin.take().expect("a pipe").write_all(plan);
+    let output = child.wait_with_output().expect("a program that ends");
+    assert!(output.status.success());
+    (String::from_utf8(output.stdout).expect("text"), String::from_utf8(output.stderr).expect("text"))
+}
+
+/// A file for each refusal that the program can meet: its sheet and its budget are good.
+fn refused() -> Vec<(u32, Vec<u8>)> {
+    let file = |n: usize, arcs: Vec<Arc>| file_of(&Plan { edition: 1, n, arcs });
+    let a = |standing, cost| vec![Arc::new(0, 1, REQUIRED, 5), Arc::new(1, 0, standing, cost)];
+    let loops = |n: usize| (0..n).map(|v| Arc::new(v, v, REQUIRED, 1)).collect::<Vec<Arc>>();
+    vec![
+        (1, vec![0x10, 0x40]),
+        (2, vec![0x30, 0x40, 0x20]),
+        (3, vec![0x18, 0x20, 0x10]),
+        (4, [file(2, a(OPTIONAL, 3)), vec![0]].concat()),
+        (5, file(1, a(OPTIONAL, 3))),
+        (6, file(2, a(REQUIRED, 0))),
+        (7, file(2, a(3, 3))),
+        (10, file(2, vec![Arc::new(0, 1, OPTIONAL, 5)])),
+        (11, file(9, loops(9))),
+        (12, file(8, loops(8))),
+        (13, file(2, [a(OPTIONAL, 3), a(OPTIONAL, 3)].concat())),
+    ]
+}
+
+/// On standard error stands the refusal's trade word, as the Rust package has it; on standard output what document 01 asks for.
+#[test]
+fn drive_says_a_refusal_by_its_word() {
+    for (number, plan) in refused() {
+        let refusal = postman::Refusal::ALL.iter().find(|refusal| refusal.number() == number).expect("a refusal");
+        let expected = (format!("refused {number}\n"), format!("drive: {}\n", refusal.word()));
+        assert_eq!(said(&[], &plan, Stdio::piped()), expected);
+    }
+}
+
+/// An argument is not taken, a failed write is told, and otherwise nothing is said.
+#[test]
+fn drive_says_what_went_wrong() {
+    let plan = file_of(&longest());
+    let usage = "drive: no argument is taken\ndrive: usage: drive < FILE\n";
+    assert_eq!(said(&["town.plan"], &plan, Stdio::piped()), (String::new(), usage.to_string()));
+    let full = File::options().write(true).open("/dev/full").expect("a device that is always full");
+    let (_, error) = said(&[], &plan, Stdio::from(full));
+    assert!(error.starts_with("drive: writing failed\n"), "{error}");
+    assert_eq!(said(&[], &plan, Stdio::piped()).1, "");
 }

@@ -1,6 +1,9 @@
-// `drive`: a plan on standard input, the drive and its floor on standard output.
+// `drive`: a plan on standard input, the drive and its floor on standard output, what went wrong on standard error.
+mod message; // what is said on standard error
 mod output; // output in blocks
 
+use crate::message::say;
+use crate::message::say_word;
 use crate::output::flush;
 use crate::output::put;
 use crate::output::put_line;
@@ -77,6 +80,7 @@ fn print_refusal(number: u8) {
     let mut space = io::buffer();
     let all = put_line(&mut space, 0, b"refused ", number as u64);
     flush(space, all);
+    say_word(number);
 }
 
 // ---- reading
@@ -96,7 +100,7 @@ fn pass_all() {
 }
 
 // The longest plan has 1,475 bytes. A file longer than the buffer is refused for what its first 4,096 bytes hold, as the whole would be (`planner`'s `Laws.LongFile`).
-fn main() {
+fn run() {
     let mut file = io::buffer();
     let n = io::read_full(STDIN_FILENO, &mut file);
     pass_all();
@@ -108,4 +112,14 @@ fn main() {
         Verdict::Accepted => print_answer(r, &sheet[..count]),
         Verdict::Refused(q) => print_refusal(refusal::refusal_number(q)),
     }
+}
+
+// Whoever names a file as an argument would wait for a plan that is never read.
+fn main() {
+    if 1 < os::arg_count() {
+        say(b"no argument is taken");
+        say(b"usage: drive < FILE");
+        return;
+    }
+    run();
 }

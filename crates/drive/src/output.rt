@@ -1,6 +1,16 @@
 // Output in blocks: bytes wait in a buffer, which is written when it is full. Each function answers how many bytes wait then.
+use crate::message::say;
 use libc::STDOUT_FILENO;
 ghost use Prim.Native.Nat.{_<_};
+
+// Writes a block, and says so where that fails.
+fn write(block: &[u8]) {
+    let written = io::write_all(STDOUT_FILENO, block);
+    if written {
+        return;
+    }
+    say(b"writing failed");
+}
 
 // One byte more.
 fn put_byte(space: &mut [u8; 4096], waiting: usize, byte: u8) -> usize
@@ -9,7 +19,7 @@ fn put_byte(space: &mut [u8; 4096], waiting: usize, byte: u8) -> usize
 {
     space[waiting] = byte;
     if waiting == 4095 {
-        io::write_all(STDOUT_FILENO, space);
+        write(space);
         return 0;
     }
     waiting + 1
@@ -43,5 +53,5 @@ pub(crate) fn put_line(space: &mut [u8; 4096], waiting: usize, label: &[u8], num
 pub(crate) fn flush(space: [u8; 4096], waiting: usize)
     requires { ⌜ waiting < 4096 ⌝ }
 {
-    io::write_all(STDOUT_FILENO, &space[..waiting]);
+    write(&space[..waiting]);
 }

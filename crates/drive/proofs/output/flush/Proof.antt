@@ -10,15 +10,15 @@ use Rattle.drive.proofs.output.flush.Tie as tie
 array-share-prefix-space : tie.Need-array-share-prefix-space
 array-share-prefix-space c = search needs
 
-slice-aggregate-write-all : tie.Need-slice-aggregate-write-all
-slice-aggregate-write-all c =
+slice-aggregate-write : tie.Need-slice-aggregate-write
+slice-aggregate-write c =
     let s = c .before in
     let long : length (s .args .t1) ≡ 4096 = s .good .0 .1 .0 .1 in
     let few = s .pre in
     sym (length-take-le (s .args .waiting) (s .args .t1) (omega arith))
 
-write-all-requires : tie.Need-write-all-requires
-write-all-requires c κs = search needs
+write-requires : tie.Need-write-requires
+write-requires c κs = search needs
 
 returns : tie.Need-returns
 returns c = search needs
@@ -26,4 +26,4 @@ returns c = search needs
 pub flush-spec : {M : Type 1} → statement M
 flush-spec =
     tie.close
-    (tie.spec array-share-prefix-space slice-aggregate-write-all write-all-requires returns)
+    (tie.spec array-share-prefix-space slice-aggregate-write write-requires returns)

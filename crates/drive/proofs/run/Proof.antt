@@ -3,8 +3,8 @@ use mathlib.Core.Path.{ap}
 use Rattle.refusal.specs.Verdict.{verdictNumber}
 use Rattle.solution.specs.Laws.Answered.{floor-above, places-fit, places-count}
 use borrow.Author.Needs.{needs}
-use Rattle.drive.proofs.main.Statement.{statement}
-use Rattle.drive.proofs.main.Tie as tie
+use Rattle.drive.proofs.run.Statement.{statement}
+use Rattle.drive.proofs.run.Tie as tie
 
 buffer-requires : tie.Need-buffer-requires
 buffer-requires c κs = search needs
@@ -63,8 +63,8 @@ returns c = search needs
 returns-2 : tie.Need-returns-2
 returns-2 c = search needs
 
-pub main-spec : {M : Type 1} → statement M
-main-spec =
+pub run-spec : {M : Type 1} → statement M
+run-spec =
     tie.close
     (tie.spec
     buffer-requires
