@@ -1,0 +1,154 @@
+"""What the pictures of one list share: the ground, the corners, the parts, the room that is left for names."""
+
+from __future__ import annotations
+
+import math
+from collections import defaultdict
+from collections.abc import Collection, Sequence
+
+from ..plan import Standing
+from ..streets.street_list import StreetList
+from . import lanes
+from .corners import Corners
+from .drawing import Box, Group, Label, Line, Point, Shape
+from .ground import Ground, ground
+from .parts import parts
+from .room import Room, body, spine, text_width
+
+
+class Base:
+    """What the pictures of one list share: the ground, the corners, the parts, the room that is left."""
+
+    def __init__(self, streets: StreetList) -> None:
+        self.streets = streets
+        self.plan = streets.plan
+        self.ground: Ground = ground(streets)
+        self.points = self.ground.points
+        self.parts = parts(self.plan)
+        self.room = Room()
+        self.corners = Corners(streets, self.ground, {corner for part in self.parts for corner in part})
+        self.lane_reach: dict[tuple[int, int], float] = defaultdict(float)
+
+    def free_side(self, corner: int) -> float:
+        """The side of a corner where a loop finds room."""
+        near = [self.points[arc.head] for arc in self.plan.arcs if arc.tail == corner != arc.head]
+        near += [self.points[arc.tail] for arc in self.plan.arcs if arc.head == corner != arc.tail]
+        return lanes.free_side(self.points[corner], near)
+
+    def tints(self) -> list[Group]:
+        """A tint under the must streets and the corners of each part."""
+        groups = []
+        for number, part in enumerate(self.parts):
+            shapes: list[Shape] = []
+            for arc in self.plan.arcs:
+                if arc.standing == Standing.MUST and arc.tail in part:
+                    shapes.append(Line((self.points[arc.tail], self.points[arc.head]), "tint"))
+            groups.append(Group(f"part part-{number % 8}", tuple(dict.fromkeys(shapes))))
+        return groups
+
+    def part_names(self) -> list[Group]:
+        """Each part's number, where it finds room near its corners."""
+        groups = []
+        if len(self.parts) < 2:
+            return groups
+        for number, part in enumerate(self.parts):
+            words = f"part {number + 1}"
+            width = text_width(words, 12.0)
+            places = [
+                (self.points[corner][0] + reach * math.cos(turn), self.points[corner][1] + reach * math.sin(turn))
+                for corner in sorted(part)
+                for reach in (24.0, 34.0)
+                for turn in (k * math.pi / 4 for k in range(8))
+            ]
+            best = min(places, key=lambda at: self.room.crowd(spine(at, width, "middle"), 8))
+            self.room.take(body(best, width, "middle"), 6.0)
+            groups.append(Group(f"part part-{number % 8}", (Label(best, words, "halo"),)))
+        return groups
+
+    def street_names(self) -> list[Group]:
+        """The streets' names along them, where they find room; not again within a few blocks."""
+        spans: dict[tuple[str, int, int], float] = {}
+        for street, arc in zip(self.streets.streets, self.plan.arcs):
+            ends = (min(arc.tail, arc.head), max(arc.tail, arc.head))
+            if street.street and arc.tail != arc.head and self.streets.unit != "arc":
+                spans[street.street, *ends] = math.dist(self.points[ends[0]], self.points[ends[1]])
+        placed: dict[str, list[Point]] = defaultdict(list)
+        groups = []
+        for (name, one, other), length in sorted(spans.items(), key=lambda entry: (-entry[1], entry[0])):
+            width = text_width(name, 8.5)
+            if width > length - 12:
+                continue
+            label = self._beside(name, one, other, width)
+            if label is None or any(math.dist(label.at, at) < 220 for at in placed[name]):
+                continue
+            placed[name].append(label.at)
+            self.room.take(body(label.at, width, "middle", math.radians(label.angle)), 4.0)
+            groups.append(Group("name", (label,)))
+        return groups
+
+    def _beside(self, name: str, one: int, other: int, width: float) -> Label | None:
+        """A name beside a street, on the side and at the place where it covers least; None where it covers too much."""
+        (x, y), (end_x, end_y) = sorted((self.points[one], self.points[other]))
+        angle = math.atan2(end_y - y, end_x - x)
+        away = self.lane_reach[one, other] + 9.0
+        best: tuple[float, Point] | None = None
+        for side in (-1.0, 1.0):
+            for share in (0.5, 0.4, 0.6, 0.3, 0.7):
+                at = (
+                    x + (end_x - x) * share - math.sin(angle) * side * away,
+                    y + (end_y - y) * share + math.cos(angle) * side * away,
+                )
+                crowd = self.room.crowd(spine(at, width, "middle", angle), 4.5)
+                if best is None or crowd < best[0]:
+                    best = (crowd, at)
+        if best is None or best[0] > 0.5:
+            return None
+        return Label(best[1], name, "halo", angle=math.degrees(angle))
+
+    def figures(self, shut: Collection[int]) -> str:
+        """The list in one line of figures."""
+        count = {standing: 0 for standing in Standing}
+        for street in self.streets.streets:
+            count[street.standing] += 1
+        words = [
+            _counted(len(self.streets.corners), "corner"),
+            f"{_counted(len(self.streets.streets), 'street')}: {count[Standing.MUST]} must be driven, "
+            f"{count[Standing.MAY]} may be, {count[Standing.CLOSED]} closed",
+        ]
+        if shut:
+            words.append(f"{len(shut)} shut at departure")
+        words.append(_counted(len(self.parts), "part"))
+        return "; ".join(words) + "."
+
+    def part_entries(self) -> list[tuple[str, Sequence[Shape], str]]:
+        """The legend's entry for the parts' tints."""
+        if not self.parts:
+            return []
+        return [("part-0", (Box((4.0, -6.0), 40.0, 12.0, 6.0, "swatch"),), "a part: must streets that hang together")]
+
+    def ways_beside(self, keys: Sequence[tuple[int, int]], gap: float) -> dict[tuple[int, int], tuple[Point, ...]]:
+        """A line for each key, an arc and a number, in this order beside each other where they join the same corners."""
+        between: dict[tuple[int, int], list[tuple[int, int]]] = defaultdict(list)
+        for key in keys:
+            arc = self.plan.arcs[key[0]]
+            between[min(arc.tail, arc.head), max(arc.tail, arc.head)].append(key)
+        drawn = {}
+        for (one, other), together in between.items():
+            if one == other:
+                away = self.free_side(one)
+                for place, key in enumerate(together):
+                    drawn[key] = lanes.loop(self.points[one], away, 13.0 + gap * place, self.corners.rim)
+                continue
+            own_gap = min(gap, 70.0 / len(together))
+            places = lanes.offsets([self.plan.arcs[key[0]].tail == one for key in together], own_gap)
+            self.lane_reach[one, other] = max(abs(place) for place in places)
+            for key, place in zip(together, places):
+                arc = self.plan.arcs[key[0]]
+                drawn[key] = lanes.lane(self.points[arc.tail], self.points[arc.head], place, self.corners.rim)
+        return drawn
+
+
+def _counted(count: int, noun: str) -> str:
+    return f"{count} {noun}" if count == 1 else f"{count} {noun}s"
+
+

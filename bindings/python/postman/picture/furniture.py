@@ -1,0 +1,71 @@
+"""What stands around a picture: title, legend, scale."""
+
+from __future__ import annotations
+
+import math
+from collections.abc import Sequence
+from dataclasses import replace
+
+from .drawing import Box, Group, Label, Line, Shape
+from .ground import FOOTER, Ground
+from .room import text_width
+
+SIDE = 14.0
+_LEGEND_TEXT = 10.0
+_SAMPLE = 44.0
+
+
+def header(title: str, subtitle: str) -> Group:
+    """The title and the line under it."""
+    return Group("header", (Label((SIDE, 20), title, "title", "start"), Label((SIDE, 42), subtitle, "subtitle", "start")))
+
+
+def legend(ground: Ground, entries: Sequence[tuple[str, Sequence[Shape], str]]) -> list[Group]:
+    """Samples with their words, in rows at the foot of the sheet. A sample is drawn at 0, 0 and is 44 wide."""
+    groups = []
+    left, row = SIDE, 0
+    widest = ground.width - SIDE - (190 if ground.per_metre else 0)
+    for classes, sample, words in entries:
+        width = _SAMPLE + 6 + text_width(words, _LEGEND_TEXT) + 16
+        if left + width > widest and left > SIDE:
+            left, row = SIDE, row + 1
+        top = ground.height - FOOTER + 24 + 18 * row
+        shapes = [_moved(shape, left, top) for shape in sample]
+        shapes.append(Label((left + _SAMPLE + 6, top), words, "words", "start"))
+        groups.append(Group(f"legend {classes}", tuple(shapes)))
+        left += width
+    return groups
+
+
+def rule(ground: Ground) -> Group:
+    """The line between the picture and its foot."""
+    top = ground.height - FOOTER + 6
+    return Group("foot", (Line(((SIDE, top), (ground.width - SIDE, top)), "grid"),))
+
+
+def scale_bar(ground: Ground) -> Group:
+    """A bar of round length in metres; or a note where the corners have no coordinates."""
+    top = ground.height - FOOTER + 24
+    right = ground.width - SIDE
+    if ground.per_metre is None:
+        note = "Not to scale: the corners have no coordinates."
+        return Group("note", (Label((right, top + 18), note, anchor="end"),))
+    metres = _round_length(150 / ground.per_metre)
+    width = metres * ground.per_metre
+    left = right - width
+    halves = (Box((left, top), width / 2, 5, classes="block"), Box((left + width / 2, top), width / 2, 5, classes="blank"))
+    words = f"{metres / 1000:g} km" if metres >= 1000 else f"{metres:g} m"
+    labels = (Label((left, top + 15), "0"), Label((right, top + 15), words, anchor="end"))
+    return Group("scale", halves + labels)
+
+
+def _round_length(most: float) -> float:
+    """The longest of 1, 2 and 5 times a power of ten that is at most this."""
+    power = 10.0 ** math.floor(math.log10(most))
+    return max(step * power for step in (1, 2, 5) if step * power <= most)
+
+
+def _moved(shape: Shape, left: float, top: float) -> Shape:
+    if hasattr(shape, "points"):
+        return replace(shape, points=tuple((x + left, y + top) for x, y in shape.points))
+    return replace(shape, at=(shape.at[0] + left, shape.at[1] + top))

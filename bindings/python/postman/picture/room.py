@@ -1,0 +1,68 @@
+"""Where there is room for labels: what stands on the sheet already, as points, and how much of it a label would cover."""
+
+from __future__ import annotations
+
+import math
+from collections import defaultdict
+from collections.abc import Iterable, Sequence
+
+from .drawing import Point
+
+CELL = 16.0
+
+
+def text_width(text: str, size: float) -> float:
+    """About how wide a line of text is. What is drawn depends on the reader's fonts; this is on the wide side."""
+    return size * (0.3 + sum(0.36 if letter in "fijlrtI1.,' -()" else 0.62 for letter in text))
+
+
+class Room:
+    """Points that labels should not cover, each with a weight."""
+
+    def __init__(self) -> None:
+        self._cells: dict[tuple[int, int], list[tuple[float, float, float]]] = defaultdict(list)
+
+    def take(self, points: Iterable[Point], weight: float) -> None:
+        """These points are taken."""
+        for x, y in points:
+            self._cells[int(x // CELL), int(y // CELL)].append((x, y, weight))
+
+    def take_line(self, points: Sequence[Point], weight: float) -> None:
+        """A polyline is taken, every few points of its length."""
+        for one, other in zip(points, points[1:]):
+            count = max(1, int(math.dist(one, other) // 4))
+            self.take(
+                ((one[0] + (other[0] - one[0]) * k / count, one[1] + (other[1] - one[1]) * k / count) for k in range(count + 1)),
+                weight,
+            )
+
+    def crowd(self, points: Iterable[Point], radius: float) -> float:
+        """The weight of what lies within a radius of these points."""
+        total = 0.0
+        reach = math.ceil(radius / CELL)
+        for x, y in points:
+            column, row = int(x // CELL), int(y // CELL)
+            for i in range(column - reach, column + reach + 1):
+                for j in range(row - reach, row + reach + 1):
+                    for other_x, other_y, weight in self._cells.get((i, j), ()):
+                        if abs(other_x - x) <= radius and abs(other_y - y) <= radius:
+                            total += weight
+        return total
+
+
+def spine(at: Point, width: float, anchor: str, angle: float = 0.0) -> list[Point]:
+    """Points along the middle of a line of text."""
+    return _row(at, width, anchor, angle, 0.0)
+
+
+def body(at: Point, width: float, anchor: str, angle: float = 0.0) -> list[Point]:
+    """Points all over a line of text: what it takes."""
+    return [point for down in (-3.5, 0.0, 3.5) for point in _row(at, width, anchor, angle, down)]
+
+
+def _row(at: Point, width: float, anchor: str, angle: float, down: float) -> list[Point]:
+    start = {"start": 0.0, "middle": -width / 2, "end": -width}[anchor]
+    count = max(1, int(width // 5))
+    cos, sin = math.cos(angle), math.sin(angle)
+    across = [start + width * k / count for k in range(count + 1)]
+    return [(at[0] + x * cos - down * sin, at[1] + x * sin + down * cos) for x in across]
