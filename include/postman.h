@@ -4,17 +4,20 @@
  * judging a drive.
  *
  * A slice is lent as a pointer and a length. The length counts elements, not bytes. Pointers are not null, not even with
- * a length of 0, and a slice that is not const overlaps no other of the same call. That is all that is asked of a caller:
- * any bytes, numbers and lengths will do.
+ * a length of 0, and a slice that is not const overlaps no other of the same call. The stack has POSTMAN_STACK_BYTES left.
+ * That is all that is asked of a caller: any bytes, numbers and lengths will do.
  *
- * Every function answers what was asked for, 0 or more, or minus a refusal's number. Of several refusals that apply the
- * first in this order is given: 1 (under three bytes), 2, 3, 1 (length), 4, then arc by arc 5, 6, 7, then 13, then 17,
- * then 8 and 9, then 18 to 20, then 10 to 12, then 22, then 14 to 16. The calls of an open plan have an order of their
- * own, and a slice that is too short for a machine of districts is refused with 8 before all else.
- * A refusal changes no lent slice; one of a car alone changes none of that car's. The functions keep nothing and share
+ * Every function that answers a number answers what was asked for, 0 or more, or minus a refusal's number. What is asked for
+ * in postman_two_cars is each car's own refusal, in one number: there one above 0 says that a car is refused.
+ *
+ * Of several refusals that apply the first in this order is given: 1 (under three bytes), 2, 3, 1 (length), 4, then arc by
+ * arc 5, 6, 7, then 13, then 17, then 8 and 9, then 18 to 20, then 10 to 12, then 22, then 14 to 16. The calls of an open
+ * plan have an order of their own, and a slice that is too short for a machine of districts is refused with 8 before all
+ * else. A refusal changes no lent slice; one of a car alone changes none of that car's. The functions keep nothing and share
  * nothing, so that threads may call them at once.
  *
- * Link with target/staticlib/libexports.a, which `rt staticlib exports` builds. examples/plan.c shows a plan call.
+ * `make install` puts the library in place, and `pkg-config --cflags --libs postman` says how to compile and link with it.
+ * examples/plan.c shows a plan call.
  */
 #ifndef POSTMAN_H
 #define POSTMAN_H
@@ -25,6 +28,16 @@
 #ifdef __cplusplus
 extern "C" {
 #endif
+
+/* The version of this header. postman_version answers the library's. */
+#define POSTMAN_VERSION "0.1.0"
+
+/*
+ * The bytes of stack that a thread needs for any of the calls. Measured on x86-64 as the least stack of a thread on which
+ * the call works, in KiB: postman_turn 236, postman_two_cars 220, postman_ask and postman_plan_call_at 216,
+ * postman_plan_call and postman_short_call 212, postman_enter 172, postman_tree_count 120, and all others at most 20.
+ */
+#define POSTMAN_STACK_BYTES 262144
 
 /* The most vertices and arcs of a plan, and the most bytes of its file. */
 #define POSTMAN_MOST_VERTICES 64
@@ -70,7 +83,8 @@ extern "C" {
 /*
  * The bytes of an open plan, and its marks, which are 0 to 3. The bytes are five files one after the other: that of the
  * open plan, and those of the marks. Each takes two bytes for its length, the high one first, and POSTMAN_LONGEST_FILE
- * bytes from whose start the file stands. A mark of length 0 was never set.
+ * bytes from whose start the file stands. A mark of length 0 was never set. A length above POSTMAN_LONGEST_FILE, which none
+ * of the calls below writes of its own, counts as POSTMAN_LONGEST_FILE.
  */
 #define POSTMAN_OPEN_BYTES 7385
 #define POSTMAN_MARKS 4
@@ -94,12 +108,12 @@ extern "C" {
 /* The editions of the plan file. */
 enum postman_edition {
     POSTMAN_FIRST_EDITION = 1, /* a required arc is checked at its cost */
-    POSTMAN_SECOND_EDITION = 2 /* a required arc has a service cost beside its cost */
+    POSTMAN_SECOND_EDITION = 2 /* a required arc has a checking cost beside its cost */
 };
 
 /*
  * A record is an arc in seven bytes: tail, head, standing, the high byte and the low byte of its cost, and those of its
- * service cost. The cost is that of a pass. The service cost is that of the one pass on which a required arc is checked;
+ * checking cost. The cost is that of a pass. The checking cost is that of the one pass on which a required arc is checked;
  * in all other arcs it is 0.
  */
 #define POSTMAN_RECORD_BYTES 7
@@ -108,8 +122,8 @@ enum postman_edition {
 #define POSTMAN_RECORD_STANDING 2
 #define POSTMAN_RECORD_COST_HIGH 3
 #define POSTMAN_RECORD_COST_LOW 4
-#define POSTMAN_RECORD_SERVICE_HIGH 5
-#define POSTMAN_RECORD_SERVICE_LOW 6
+#define POSTMAN_RECORD_CHECKING_HIGH 5
+#define POSTMAN_RECORD_CHECKING_LOW 6
 
 /* An arc's standing. */
 enum postman_standing {
@@ -121,7 +135,7 @@ enum postman_standing {
 /* The words of an answer, by their index. */
 #define POSTMAN_ANSWER_WORDS 6
 #define POSTMAN_PLACES 0 /* how many places the drive takes */
-#define POSTMAN_COST 1   /* what the drive costs: a required arc's service cost once, the cost for every other pass */
+#define POSTMAN_COST 1   /* what the drive costs: a required arc's checking cost once, the cost for every other pass */
 #define POSTMAN_FLOOR 2  /* no drive costs less */
 #define POSTMAN_TREES 3  /* trees tried */
 #define POSTMAN_WHOLE 4  /* 1 if these are all trees, and then the cost is the least of all drives; else 0 */
@@ -135,33 +149,42 @@ enum postman_standing {
 #define POSTMAN_COUNTS 512
 
 /*
- * The refusals. Wrong are a service cost of 0 in a required arc, and another in any other arc; and, where edition 1 is
- * written, a required arc's service cost that is not its cost. A cost of 0 is good, but in a required arc of edition 1.
+ * The refusals. Wrong are a checking cost of 0 in a required arc, and another in any other arc; and, where edition 1 is
+ * written, a required arc's checking cost that is not its cost. A cost of 0 is good, but in a required arc of edition 1.
  */
 enum postman_refusal {
-    POSTMAN_TORN = 1,        /* the file has under 3 bytes, or fewer than its arcs need */
-    POSTMAN_EDITION = 2,     /* the edition is neither 1 nor 2 */
-    POSTMAN_EXTENT = 3,      /* no vertex or more than 64, no arc or more than 256, or a list of more than 65,535 places */
-    POSTMAN_MARGIN = 4,      /* the file has more bytes than its arcs need, or a fill bit is 1 */
-    POSTMAN_OFF_SHEET = 5,   /* an arc's tail or head is no vertex */
-    POSTMAN_UNPRICED = 6,    /* an arc's service cost is wrong, as said above */
-    POSTMAN_STANDING = 7,    /* an arc's standing is above 2 */
-    POSTMAN_SHORT_SHEET = 8, /* too few records, bytes, places or distances are lent */
-    POSTMAN_BUDGET = 9,      /* the budget is 0 or above 1,000,000 */
-    POSTMAN_IDLE = 10,       /* no arc must be driven */
-    POSTMAN_SCATTERED = 11,  /* the plan has more than 8 parts */
-    POSTMAN_CUT_OFF = 12,    /* no drive exists: some required vertex has no path to another */
-    POSTMAN_REPEATED = 13,   /* two arcs agree in all their fields */
-    POSTMAN_FOREIGN = 14,    /* a judged list has a number that no arc has, or that of a closed arc; a changed arc is none */
-    POSTMAN_UNJOINED = 15,   /* an arc of a judged list does not lead to the next one, or the last one to the first */
-    POSTMAN_MISSED = 16,     /* an arc that must be driven is not in a judged list */
-    POSTMAN_STRAY_PAIR = 17, /* more than 256 pairs, or one of what is no vertex */
-    POSTMAN_BAD_MARKS = 18,  /* a car's marks are not as many as the arcs, one is neither 0 nor 1, or a closed arc is marked */
-    POSTMAN_BAD_WINDOW = 19, /* a window, the number of windows or the departure is beyond its limits */
-    POSTMAN_MUST_SHUT = 20,  /* an arc that must be driven is shut at departure */
-    POSTMAN_NO_MARK = 21,    /* a mark's number is above 3, or the mark was never set */
-    POSTMAN_FULL = 22        /* eight districts are unfinished */
+    POSTMAN_REFUSED_TORN = 1,        /* the file has under 3 bytes, or fewer than its arcs need */
+    POSTMAN_REFUSED_EDITION = 2,     /* the edition is neither 1 nor 2 */
+    POSTMAN_REFUSED_EXTENT = 3,      /* no vertex or over 64, no arc or over 256, or a list of over 65,535 places */
+    POSTMAN_REFUSED_MARGIN = 4,      /* the file has more bytes than its arcs need, or a fill bit is 1 */
+    POSTMAN_REFUSED_OFF_SHEET = 5,   /* an arc's tail or head is no vertex */
+    POSTMAN_REFUSED_UNPRICED = 6,    /* an arc's checking cost is wrong, as said above */
+    POSTMAN_REFUSED_STANDING = 7,    /* an arc's standing is above 2 */
+    POSTMAN_REFUSED_SHORT_SHEET = 8, /* too few records, bytes, places or distances are lent */
+    POSTMAN_REFUSED_BUDGET = 9,      /* the budget is 0 or above 1,000,000 */
+    POSTMAN_REFUSED_IDLE = 10,       /* no arc must be driven */
+    POSTMAN_REFUSED_SCATTERED = 11,  /* the plan has more than 8 parts */
+    POSTMAN_REFUSED_CUT_OFF = 12,    /* no drive exists: some required vertex has no path to another */
+    POSTMAN_REFUSED_REPEATED = 13,   /* two arcs agree in all their fields */
+    POSTMAN_REFUSED_FOREIGN = 14,    /* a judged list has a closed arc, or a number that no arc has; a changed arc is none */
+    POSTMAN_REFUSED_UNJOINED = 15,   /* an arc of a judged list does not lead to the next one, or the last to the first */
+    POSTMAN_REFUSED_MISSED = 16,     /* an arc that must be driven is not in a judged list */
+    POSTMAN_REFUSED_STRAY_PAIR = 17, /* more than 256 pairs, or one of what is no vertex */
+    POSTMAN_REFUSED_BAD_MARKS = 18,  /* not a mark for each arc, one that is neither 0 nor 1, or a marked closed arc */
+    POSTMAN_REFUSED_BAD_WINDOW = 19, /* a window, the number of windows or the departure is beyond its limits */
+    POSTMAN_REFUSED_MUST_SHUT = 20,  /* an arc that must be driven is shut at departure */
+    POSTMAN_REFUSED_NO_MARK = 21,    /* a mark's number is above 3, or the mark was never set */
+    POSTMAN_REFUSED_FULL = 22        /* eight districts are unfinished */
 };
+
+/* The library's version, as POSTMAN_VERSION has it. The text is static. It is not among the proved functions. */
+const char *postman_version(void);
+
+/*
+ * The trade word of a refusal, as "cut off" for 12; empty for a number that is no refusal's. The text is static. It is not
+ * among the proved functions.
+ */
+const char *postman_refusal_word(uint32_t number);
 
 /*
  * Reads the file `plan`. Answers 65536 e + 512 n + m, for edition e, n vertices and m arcs, or minus a refusal from 1 to 8
@@ -188,7 +211,8 @@ int64_t postman_write_plan(uint32_t edition, uint32_t n, const uint8_t *records,
  *
  * `sheet` takes the drive's arc numbers from its start, the lowest required arc first; the answer's word POSTMAN_PLACES
  * says how many. It is made of the required arcs, each once, and of paths between their ends: each a cheapest one, of the
- * fewest arcs, and of those the lowest list of arc numbers. Later places are untouched. With fewer than POSTMAN_SHEET_PLACES places it is refused with 8.
+ * fewest arcs, and of those the lowest list of arc numbers. Later places are untouched. With fewer than
+ * POSTMAN_SHEET_PLACES places it is refused with 8.
  * `answer` takes the POSTMAN_ANSWER_WORDS words above, and `multipliers` the POSTMAN_MULTIPLIERS multipliers: as many as
  * fit, from the start. Later elements are untouched. Neither is refused for its length.
  */
@@ -220,7 +244,7 @@ int64_t postman_short_call(const uint8_t *plan, size_t plan_len, uint16_t *sheet
  * other car brings.
  *
  * `marks_1` and `marks_2` have a byte for each arc. In the car's plan an arc with the mark 1 must be driven: it is checked at
- * its service cost if it has one, else at its cost, even 0. An arc with the mark 0 may be driven. Closed arcs stay closed.
+ * its checking cost if it has one, else at its cost, even 0. An arc with the mark 0 may be driven. Closed arcs stay closed.
  * With the plan's own required arcs marked, and no others, a car is answered what the plan call answers.
  *
  * Answers minus a refusal that reaches both cars: 1 to 7 or 13. Else it answers POSTMAN_FIRST_CAR times the first car's own
@@ -257,6 +281,9 @@ int64_t postman_change(uint8_t *state, size_t state_len, uint32_t arc, uint16_t 
 /*
  * Sets a mark of an open plan: it holds the plan as it is now, in place of what it held before. Answers 0, or minus 21 for
  * a mark above 3.
+ *
+ * It does not read the file. In a state without a plan, whose file has length 0, the mark then holds none either: it
+ * counts as never set, whatever it held before. After postman_open a state has a plan.
  */
 int64_t postman_mark(uint8_t *state, size_t state_len, uint32_t mark);
 

@@ -1,0 +1,286 @@
+"""GeoJSON in and out: streets as lines, a drive as lines in the order in which they are driven.
+
+Coordinates are degrees of longitude and latitude, as GeoJSON has them; where any is beyond 180 they are taken for metres of
+some national grid.
+"""
+
+from __future__ import annotations
+
+import json
+from collections.abc import Iterable, Mapping
+from math import asin, cos, hypot, radians, sin, sqrt
+from typing import Any, NamedTuple
+
+from ..plan import Standing
+from .csv_file import STANDINGS
+from .errors import ListError
+from .street_list import HIGHEST_COST, Corner, Street, StreetList
+from .table import decoded, name_of, read_bytes
+
+EARTH_RADIUS = 6_371_008.8
+"""The earth's mean radius in metres."""
+
+FORWARD = ("yes", "true", "1")
+BACKWARD = ("-1", "reverse")
+BOTH_WAYS = ("", "no", "false", "0")
+
+Point = tuple[float, float]
+
+
+class Line(NamedTuple):
+    """A line of a map: the number of its feature, its properties and its points."""
+
+    feature: int
+    properties: Mapping[str, Any]
+    points: tuple[Point, ...]
+
+
+def from_geojson(
+    source: str | Mapping[str, Any],
+    *,
+    street: str = "name",
+    cost: str | None = None,
+    must: str | None = None,
+    checking: str | None = None,
+    both_ways: bool = False,
+    data: bytes | None = None,
+) -> StreetList:
+    """The street list of a map's LineStrings, whose end points are the corners.
+
+    `source` is a file or what was read from one. The property `street` has a line's name. `cost` names the property with its
+    cost; without it the cost is the length in metres. `must` names the property that says which streets must be driven ("survey",
+    or "survey=2026" for one value of it), `checking` the one with the cost of their checking pass. A property `standing` (may,
+    must, closed) is taken where `must` is not given. `oneway` is read as in OpenStreetMap. A street of two directions is must in the
+    direction of its line and may be driven back; with `both_ways` it is must in both.
+
+    Corners are named by a Point with a name, or after the streets that meet there.
+    """
+    path = source if isinstance(source, str) else "GeoJSON"
+    if isinstance(source, str):
+        features = features_of(path, parsed(path, read_bytes(path) if data is None else data))
+    else:
+        features = features_of(path, source)
+    lines, names = lines_of(path, features)
+    if not lines:
+        raise ListError("has no LineString; each street is one", path)
+    on_earth = not any(abs(x) > 180 or abs(y) > 90 for line in lines for x, y in line.points)
+    key = key_of(on_earth)
+    reader = LineReader(path, street, cost, must, checking, both_ways, on_earth)
+    corners = corners_of(lines, {key(point): name for point, name in names}, key, reader, on_earth)
+    streets = [
+        one
+        for line in lines
+        for one in reader.streets(line, corners[key(line.points[0])].name, corners[key(line.points[-1])].name)
+    ]
+    return StreetList(path, 1 if checking is None else 2, tuple(corners.values()), tuple(streets), None, "feature")
+
+
+def parsed(path: str, data: bytes) -> Any:
+    try:
+        return json.loads(decoded(data, path))
+    except json.JSONDecodeError as error:
+        raise ListError(f"line {error.lineno}, column {error.colno}: {error.msg}; this is no JSON", path) from None
+
+
+def features_of(path: str, value: Any) -> list[Mapping[str, Any]]:
+    """The features of GeoJSON; a lone geometry counts as one."""
+    kind = value.get("type") if isinstance(value, Mapping) else None
+    if kind == "FeatureCollection":
+        return list(value.get("features") or [])
+    if kind == "Feature":
+        return [value]
+    if kind in ("LineString", "MultiLineString"):
+        return [{"type": "Feature", "properties": {}, "geometry": value}]
+    raise ListError("is no GeoJSON: its type is neither FeatureCollection nor Feature", path)
+
+
+def lines_of(path: str, features: list[Mapping[str, Any]]) -> tuple[list[Line], list[tuple[Point, str]]]:
+    """The lines, and the names of points."""
+    lines: list[Line] = []
+    names: list[tuple[Point, str]] = []
+    for number, feature in enumerate(features, 1):
+        try:
+            geometry = feature.get("geometry") or {}
+            properties = feature.get("properties") or {}
+            kind = geometry.get("type")
+            if kind == "Point" and properties.get("name"):
+                x, y = geometry["coordinates"][:2]
+                names.append(((float(x), float(y)), name_of(str(properties["name"]))))
+            parts = {"LineString": [geometry.get("coordinates")], "MultiLineString": geometry.get("coordinates")}
+            for part in parts.get(kind, ()):
+                points = tuple((float(x), float(y)) for x, y, *_ in part)
+                if len(points) < 2:
+                    raise ListError("a line needs two points", path, number, unit="feature")
+                lines.append(Line(number, properties, points))
+        except (AttributeError, KeyError, TypeError, ValueError):
+            raise ListError("its geometry is no GeoJSON", path, number, unit="feature") from None
+    return lines, names
+
+
+def key_of(on_earth: bool):
+    """What makes two end points one corner: that they agree to about a centimetre."""
+    digits = 7 if on_earth else 2
+    return lambda point: (round(point[0], digits), round(point[1], digits))
+
+
+def corners_of(lines, named, key, reader: "LineReader", on_earth: bool) -> dict[Point, Corner]:
+    """The corners in the order in which they first occur, with names that differ."""
+    meeting: dict[Point, dict[str, None]] = {}
+    for line in lines:
+        for end in (line.points[0], line.points[-1]):
+            meeting.setdefault(key(end), {})[reader.name(line)] = None
+    west = min(point[0] for point in meeting)
+    south = min(point[1] for point in meeting)
+    middle = radians(sum(point[1] for point in meeting) / len(meeting))
+    taken: set[str] = set()
+    corners = {}
+    for number, (point, streets) in enumerate(meeting.items(), 1):
+        crossing = [name for name in streets if name]
+        wanted = named.get(point) or " / ".join(crossing[:2]) or f"corner {number}"
+        if point not in named and len(crossing) == 1:
+            wanted = f"{crossing[0]}, end"
+        name, count = wanted, 1
+        while name in taken:
+            count += 1
+            name = f"{wanted} ({count})"
+        taken.add(name)
+        if on_earth:
+            metres = EARTH_RADIUS * radians(1)
+            x, y = (point[0] - west) * metres * cos(middle), (point[1] - south) * metres
+            corners[point] = Corner(name, round(x, 1), round(y, 1), *point)
+        else:
+            corners[point] = Corner(name, *point)
+    return corners
+
+
+class LineReader(NamedTuple):
+    """How the properties of a line are read."""
+
+    path: str
+    street: str
+    cost: str | None
+    must: str | None
+    checking: str | None
+    both_ways: bool
+    on_earth: bool
+
+    def name(self, line: Line) -> str:
+        return name_of(text_of(line.properties.get(self.street)))
+
+    def error(self, line: Line, column: str, message: str) -> ListError:
+        return ListError(message, self.path, line.feature, column, self.name(line), "feature")
+
+    def streets(self, line: Line, first: str, last: str) -> Iterable[Street]:
+        """The one or two streets of a line, from its first point to its last and back."""
+        standing = self.standing(line)
+        cost = self.price(line, self.cost, standing) if self.cost else self.length(line)
+        directions = self.directions(line, first == last)
+        for number, (tail, head) in enumerate([(first, last), (last, first)]):
+            if number not in directions:
+                continue
+            own = standing
+            if standing is Standing.MUST and number == 1 and len(directions) == 2 and not self.both_ways:
+                own = Standing.MAY
+            checking = self.price(line, self.checking, own) if self.checking and own is Standing.MUST else None
+            yield Street(line.feature, tail, head, own, cost, checking, self.name(line))
+
+    def directions(self, line: Line, ring: bool) -> tuple[int, ...]:
+        """0 for the line's direction, 1 for the other. A ring's two directions would be one street typed twice."""
+        oneway = text_of(line.properties.get("oneway")).lower()
+        if not oneway and text_of(line.properties.get("junction")).lower() in ("roundabout", "circular"):
+            oneway = "yes"
+        if not oneway and text_of(line.properties.get("highway")).lower() in ("motorway", "motorway_link"):
+            oneway = "yes"
+        if oneway in FORWARD:
+            return (0,)
+        if oneway in BACKWARD:
+            return (1,)
+        if oneway not in BOTH_WAYS:
+            raise self.error(line, "oneway", f"oneway {oneway} is none of yes, no and -1")
+        return (0,) if ring else (0, 1)
+
+    def standing(self, line: Line) -> Standing:
+        if self.must is not None:
+            name, _, wanted = self.must.partition("=")
+            found = text_of(line.properties.get(name))
+            must = found == wanted if wanted else found.lower() not in BOTH_WAYS
+            return Standing.MUST if must else Standing.MAY
+        word = text_of(line.properties.get("standing")).lower()
+        if word and word not in STANDINGS:
+            raise self.error(line, "standing", f"standing {word} is none of may, must and closed")
+        return STANDINGS[word] if word else Standing.MAY
+
+    def price(self, line: Line, column: str, standing: Standing) -> int:
+        text = text_of(line.properties.get(column))
+        try:
+            number = float(text)
+        except ValueError:
+            raise self.error(line, column, f"{column} is {text or 'empty'}, and no number") from None
+        if number != number or not 0 <= number <= HIGHEST_COST:
+            raise self.error(line, column, f"{column} {text} is not between 0 and {HIGHEST_COST}")
+        if number != int(number):
+            raise self.error(line, column, f"{column} {text} is not a whole number")
+        return int(number)
+
+    def length(self, line: Line) -> int:
+        """The line's length in whole metres, at least 1."""
+        measure = on_earth if self.on_earth else hypot_of
+        metres = max(1, round(sum(measure(a, b) for a, b in zip(line.points, line.points[1:]))))
+        if metres > HIGHEST_COST:
+            raise self.error(line, "length", f"its length of {metres} m is above {HIGHEST_COST}")
+        return metres
+
+
+def text_of(value: Any) -> str:
+    """A property as text; true and false as JSON writes them, whole numbers without a fraction."""
+    if value is None:
+        return ""
+    if isinstance(value, bool):
+        return "true" if value else "false"
+    if isinstance(value, float) and value == int(value):
+        return str(int(value))
+    return str(value).strip()
+
+
+def hypot_of(a: Point, b: Point) -> float:
+    return hypot(b[0] - a[0], b[1] - a[1])
+
+
+def on_earth(a: Point, b: Point) -> float:
+    """The metres between two points of the earth."""
+    (west, south), (east, north) = [tuple(map(radians, point)) for point in (a, b)]
+    half = sin((north - south) / 2) ** 2 + cos(south) * cos(north) * sin((east - west) / 2) ** 2
+    return 2 * EARTH_RADIUS * asin(min(1.0, sqrt(half)))
+
+
+def coordinates(streets: StreetList, name: str) -> Point | None:
+    """A corner's degrees if they are known, else its metres."""
+    corner = streets.corners[streets.numbers[name]]
+    if corner.lon is not None:
+        return corner.lon, corner.lat
+    return None if corner.x is None else (corner.x, corner.y)
+
+
+def drive_geojson(streets: StreetList, drive: Iterable[int]) -> dict[str, Any]:
+    """A drive as GeoJSON: a LineString for each place, in the order driven, with the street's name, its ends and what is done.
+
+    Where a corner has no coordinates, its lines have no geometry.
+    """
+    from .steps import steps_of
+
+    features = []
+    for step in steps_of(streets, drive):
+        street = streets.streets[step.arc]
+        ends = [coordinates(streets, name) for name in (street.from_corner, street.to_corner)]
+        geometry = None if None in ends else {"type": "LineString", "coordinates": [list(end) for end in ends]}
+        properties = {
+            "step": step.number,
+            "arc": step.arc,
+            "street": street.street,
+            "from": street.from_corner,
+            "to": street.to_corner,
+            "checked": step.checked,
+            "cost": step.cost,
+        }
+        features.append({"type": "Feature", "properties": properties, "geometry": geometry})
+    return {"type": "FeatureCollection", "features": features}
