@@ -12,7 +12,7 @@ from . import lanes
 from .corners import Corners
 from .drawing import Box, Group, Label, Line, Point, Shape
 from .ground import Ground, ground
-from .parts import parts
+from .passes import corners_of_parts
 from .room import Room, body, spine, text_width
 
 
@@ -24,7 +24,7 @@ class Base:
         self.plan = streets.plan
         self.ground: Ground = ground(streets)
         self.points = self.ground.points
-        self.parts = parts(self.plan)
+        self.parts = corners_of_parts(streets)
         self.room = Room()
         self.corners = Corners(streets, self.ground, {corner for part in self.parts for corner in part})
         self.lane_reach: dict[tuple[int, int], float] = defaultdict(float)
@@ -52,7 +52,7 @@ class Base:
         if len(self.parts) < 2:
             return groups
         for number, part in enumerate(self.parts):
-            words = f"part {number + 1}"
+            words = f"part {number}"
             width = text_width(words, 12.0)
             places = [
                 (self.points[corner][0] + reach * math.cos(turn), self.points[corner][1] + reach * math.sin(turn))

@@ -2,8 +2,11 @@
 
 from __future__ import annotations
 
+import math
+from typing import NamedTuple
+
 from ..streets.street_list import StreetList
-from .drawing import Dot, Group, Label
+from .drawing import Dot, Group, Label, Point
 from .ground import Ground
 from .room import Room, body, spine, text_width
 
@@ -13,14 +16,28 @@ _SIZE = 9.0
 # Beside the dot, in the order in which a reader expects it: direction, and the end of the text that is near.
 _SIDES = (
     ((1.0, 0.0), "start"),
-    ((0.7, -0.9), "start"),
-    ((0.7, 0.9), "start"),
+    ((0.75, -0.9), "start"),
+    ((0.75, 0.9), "start"),
     ((-1.0, 0.0), "end"),
-    ((-0.7, -0.9), "end"),
-    ((-0.7, 0.9), "end"),
-    ((0.0, -1.35), "middle"),
-    ((0.0, 1.35), "middle"),
+    ((-0.75, -0.9), "end"),
+    ((-0.75, 0.9), "end"),
+    ((0.0, -1.3), "middle"),
+    ((0.0, 1.3), "middle"),
 )
+
+# How far from the dot, and how bad that is; how bad it is to touch another name, and to stand nearer to another dot.
+_REACHES = ((9.0, 0.0), (13.5, 2.0), (19.0, 6.0))
+_TOUCHING = 14.0
+_AMBIGUOUS = 7.0
+_ROUNDS = 6
+
+
+class _Place(NamedTuple):
+    """A place for a name: how bad it is by itself, the label, and the box that it takes."""
+
+    harm: float
+    label: Label
+    box: tuple[float, float, float, float]
 
 
 class Corners:
@@ -38,28 +55,54 @@ class Corners:
         """The dots and the names, which take their room."""
         for x, y in self._points:
             room.take(((x + i * 2, y + j * 2) for i in (-1, 0, 1) for j in (-1, 0, 1)), 2.0)
-        return [self._group(number, room) for number in range(len(self._names))]
+        labels = self._points if self._inside else self._labels(room)
+        return [self._group(number, labels[number]) for number in range(len(self._names))]
 
-    def _group(self, number: int, room: Room) -> Group:
+    def _group(self, number: int, label: Label | Point) -> Group:
         name, at = self._names[number], self._points[number]
         classes = "corner" if number in self._required else "corner plain"
-        if self._inside:
-            shapes = (Dot(at, self.rim, "dot"), Label(at, name))
-            return Group(f"{classes} inside", shapes, f"corner {name}", {"corner": number})
-        return Group(classes, (Dot(at, self.rim - 1.0, "dot"), self._label(name, at, room)), name, {"corner": number})
+        if isinstance(label, Label):
+            return Group(classes, (Dot(at, self.rim - 1.0, "dot"), label), name, {"corner": number})
+        shapes = (Dot(at, self.rim, "dot"), Label(at, name))
+        return Group(f"{classes} inside", shapes, f"corner {name}", {"corner": number})
 
-    def _label(self, name: str, at: tuple[float, float], room: Room) -> Label:
+    def _labels(self, room: Room) -> list[Label]:
+        """A place for each name: the best by itself, then again and again the best beside the others."""
+        places = [self._places(number, room) for number in range(len(self._names))]
+        chosen = [min(own, key=lambda place: place.harm) for own in places]
+        for _ in range(_ROUNDS):
+            before = list(chosen)
+            for number, own in enumerate(places):
+                others = [place.box for other, place in enumerate(chosen) if other != number]
+                chosen[number] = min(own, key=lambda place: place.harm + _TOUCHING * _touched(place.box, others))
+            if chosen == before:
+                break
+        for place in chosen:
+            width = place.box[2] - place.box[0]
+            room.take(body(place.label.at, width, place.label.anchor), 4.0)
+        return [place.label for place in chosen]
+
+    def _places(self, number: int, room: Room) -> list[_Place]:
+        name, (x, y) = self._names[number], self._points[number]
         width = text_width(name, _SIZE)
-        best: tuple[float, Label] | None = None
-        for reach in (8.5, 14.0, 20.0):
+        places = []
+        for reach, far in _REACHES:
             for (across, down), anchor in _SIDES:
-                place = (at[0] + across * reach, at[1] + down * reach)
-                points = spine(place, width, anchor)
-                crowd = room.crowd(points, 5.0) + reach * 0.05
-                if min(x for x, _ in points) < 4 or max(x for x, _ in points) > self._width - 4:
-                    crowd += 100.0
-                if best is None or crowd < best[0]:
-                    best = (crowd, Label(place, name, "halo", anchor))
-        assert best is not None
-        room.take(body(best[1].at, width, best[1].anchor), 4.0)
-        return best[1]
+                at = (x + across * reach, y + down * reach)
+                points = spine(at, width, anchor)
+                harm = room.crowd(points, 5.0) + far
+                left = points[0][0]
+                if left < 4 or left + width > self._width - 4:
+                    harm += 100.0
+                near = points[{"start": 0, "middle": len(points) // 2, "end": -1}[anchor]]
+                own = math.dist(near, (x, y))
+                if any(math.dist(near, other) < own + 3 for k, other in enumerate(self._points) if k != number):
+                    harm += _AMBIGUOUS
+                places.append(_Place(harm, Label(at, name, "halo", anchor), (left, at[1] - 5, left + width, at[1] + 5)))
+        return places
+
+
+def _touched(box: tuple[float, float, float, float], others: list[tuple[float, float, float, float]]) -> int:
+    """How many boxes another one touches, with a letter's width between."""
+    left, top, right, bottom = box
+    return sum(1 for a, b, c, d in others if a < right + 6 and left < c + 6 and b < bottom + 1 and top < d + 1)

@@ -34,7 +34,7 @@ def drive(streets: StreetList, answer: Answer, shut: Collection[int] = (), title
     """An answer's drive on its list. `shut` are the arcs that are shut at the departure."""
     base = Base(streets)
     lane_of: dict[int, list[list[Pass]]] = defaultdict(list)
-    for one in passes(base.plan, answer.drive):
+    for one in passes(streets, answer.drive):
         if len(lane_of[one.arc]) < MOST_LANES:
             lane_of[one.arc].append([one])
         else:
@@ -80,6 +80,9 @@ def _shares(base: Base, keys: Sequence[tuple[int, int]]) -> dict[tuple[int, int]
         between[min(arc.tail, arc.head), max(arc.tail, arc.head)].append(key)
     shares = {}
     for (one, _), together in between.items():
+        # From one side of the street to the other, so that neighbours are apart both along it and across.
+        back = [key for key in together if base.plan.arcs[key[0]].tail != one]
+        together = back[::-1] + [key for key in together if key not in back]
         for place, key in enumerate(together):
             share = (place + 1) / (len(together) + 1)
             share = 0.5 + (share - 0.5) * 0.9
@@ -117,9 +120,9 @@ def _does(one: Pass) -> str:
         case Purpose.CHECK:
             return "checks it"
         case Purpose.JOINING:
-            return f"on the way from part {one.leaves + 1} to part {one.reaches + 1}"
+            return f"on the way from part {one.leaves} to part {one.reaches}"
         case _:
-            return f"on the way back within part {one.leaves + 1}"
+            return f"on the way back into part {one.leaves}"
 
 
 def _start(base: Base, answer: Answer) -> list[Group]:

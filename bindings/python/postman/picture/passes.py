@@ -12,8 +12,9 @@ from collections.abc import Sequence
 from dataclasses import dataclass
 from enum import Enum
 
-from ..plan import Plan, Standing
-from .parts import parts
+from ..streets.explain import parts_of
+from ..streets.steps import steps_of
+from ..streets.street_list import StreetList
 
 
 class Purpose(Enum):
@@ -26,36 +27,40 @@ class Purpose(Enum):
 
 @dataclass(frozen=True)
 class Pass:
-    """One place of a drive: its step, from 1 on, its arc, what it does, and the parts that its run leaves and reaches."""
+    """One place of a drive: its step, from 1 on, its arc, its cost, what it does, and the parts its run leads from and to."""
 
     step: int
     arc: int
+    cost: int
     purpose: Purpose
     leaves: int
     reaches: int
 
 
-def passes(plan: Plan, drive: Sequence[int]) -> tuple[Pass, ...]:
-    """The passes of a drive whose first arc is a must arc, as the planner's are."""
-    part_of = {corner: number for number, part in enumerate(parts(plan)) for corner in part}
-    checked: set[int] = set()
-    checks = []
-    for arc in drive:
-        checks.append(plan.arcs[arc].standing == Standing.MUST and arc not in checked)
-        checked.add(arc)
+def corners_of_parts(streets: StreetList) -> list[frozenset[int]]:
+    """The corners of each part. Their number is the answer's `parts`."""
+    arcs = streets.plan.arcs
+    must = [arc for arc, street in enumerate(streets.streets) if street.must]
+    return [frozenset(end for arc in part for end in (arcs[arc].tail, arcs[arc].head)) for part in parts_of(streets, must)]
+
+
+def passes(streets: StreetList, drive: Sequence[int]) -> tuple[Pass, ...]:
+    """The passes of a drive that begins with a check, as the planner's do."""
+    part_of = {corner: number for number, part in enumerate(corners_of_parts(streets)) for corner in part}
+    arcs = streets.plan.arcs
+    steps = steps_of(streets, drive)
     made: list[Pass] = []
     start = 0
-    while start < len(drive):
+    while start < len(steps):
         end = start + 1
-        if checks[start]:
-            part = part_of[plan.arcs[drive[start]].tail]
-            made.append(Pass(start + 1, drive[start], Purpose.CHECK, part, part))
-        else:
-            while end < len(drive) and not checks[end]:
+        if not steps[start].checked:
+            while end < len(steps) and not steps[end].checked:
                 end += 1
-            leaves = part_of[plan.arcs[drive[start]].tail]
-            reaches = part_of[plan.arcs[drive[end - 1]].head]
+        leaves, reaches = part_of[arcs[steps[start].arc].tail], part_of[arcs[steps[end - 1].arc].head]
+        if steps[start].checked:
+            purpose = Purpose.CHECK
+        else:
             purpose = Purpose.BALANCING if leaves == reaches else Purpose.JOINING
-            made.extend(Pass(place + 1, drive[place], purpose, leaves, reaches) for place in range(start, end))
+        made += [Pass(step.number, step.arc, step.cost, purpose, leaves, reaches) for step in steps[start:end]]
         start = end
     return tuple(made)
