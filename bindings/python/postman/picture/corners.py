@@ -26,9 +26,9 @@ _SIDES = (
 )
 
 # How far from the dot, and how bad that is; how bad it is to touch another name, and to stand nearer to another dot.
-_REACHES = ((9.0, 0.0), (13.5, 2.0), (19.0, 6.0))
-_TOUCHING = 14.0
-_AMBIGUOUS = 7.0
+_REACHES = ((9.0, 0.0), (13.5, 2.0), (19.0, 8.0), (27.0, 20.0))
+_TOUCHING = 40.0
+_AMBIGUOUS = 9.0
 _ROUNDS = 6
 
 
@@ -103,6 +103,6 @@ class Corners:
 
 
 def _touched(box: tuple[float, float, float, float], others: list[tuple[float, float, float, float]]) -> int:
-    """How many boxes another one touches, with a letter's width between."""
+    """How many boxes another one touches, with two letters' width between."""
     left, top, right, bottom = box
-    return sum(1 for a, b, c, d in others if a < right + 6 and left < c + 6 and b < bottom + 1 and top < d + 1)
+    return sum(1 for a, b, c, d in others if a < right + 11 and left < c + 11 and b < bottom + 1 and top < d + 1)

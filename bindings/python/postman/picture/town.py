@@ -22,7 +22,8 @@ def town(streets: StreetList, shut: Collection[int] = (), title: str | None = No
     groups = base.tints()
     for (arc, _), way in sorted(drawn.items(), key=lambda entry: (_rank(streets, entry[0][0], shut), entry[0])):
         groups.append(arc_group(base, arc, way, shut))
-        base.room.take_line(way, 1.0)
+        # A name may cross a thin line rather than stand far from its corner.
+        base.room.take_line(way, 1.0 if streets.streets[arc].must else 0.6)
     groups += base.corners.groups(base.room)
     groups += base.street_names()
     groups += base.part_names()
