@@ -60,10 +60,15 @@ class Base:
                 for reach in (24.0, 34.0)
                 for turn in (k * math.pi / 4 for k in range(8))
             ]
-            best = min(places, key=lambda at: self.room.crowd(spine(at, width, "middle"), 8))
+            best = min(places, key=lambda at: self._harm_of_part(at, width, part))
             self.room.take(body(best, width, "middle"), 6.0)
             groups.append(Group(f"part part-{number % 8}", (Label(best, words, "halo"),)))
         return groups
+
+    def _harm_of_part(self, at: Point, width: float, part: frozenset[int]) -> float:
+        """What a part's name covers there; more if the corner nearest to it is none of the part's."""
+        nearest = min(range(len(self.points)), key=lambda corner: math.dist(self.points[corner], at))
+        return self.room.crowd(spine(at, width, "middle"), 8) + (0 if nearest in part else 12)
 
     def street_names(self) -> list[Group]:
         """The streets' names along them, where they find room; not again within a few blocks."""

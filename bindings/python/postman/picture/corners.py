@@ -79,12 +79,15 @@ class Corners:
                 break
         for place in chosen:
             width = place.box[2] - place.box[0]
-            room.take(body(place.label.at, width, place.label.anchor), 4.0)
+            room.take(body(place.label.at, width, place.label.anchor), 6.0)
         return [place.label for place in chosen]
 
     def _places(self, number: int, room: Room) -> list[_Place]:
         name, (x, y) = self._names[number], self._points[number]
         width = text_width(name, _SIZE)
+        # A name's near end is at most this far away, so that only these can be nearer to it.
+        within = 2 * _REACHES[-1][0] * 1.3 + 3
+        neighbours = [at for at in self._points if at != (x, y) and math.dist(at, (x, y)) < within]
         places = []
         for reach, far in _REACHES:
             for (across, down), anchor in _SIDES:
@@ -96,7 +99,7 @@ class Corners:
                     harm += 100.0
                 near = points[{"start": 0, "middle": len(points) // 2, "end": -1}[anchor]]
                 own = math.dist(near, (x, y))
-                if any(math.dist(near, other) < own + 3 for k, other in enumerate(self._points) if k != number):
+                if any(math.dist(near, other) < own + 3 for other in neighbours):
                     harm += _AMBIGUOUS
                 places.append(_Place(harm, Label(at, name, "halo", anchor), (left, at[1] - 5, left + width, at[1] + 5)))
         return places

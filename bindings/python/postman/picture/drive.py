@@ -51,8 +51,9 @@ def drive(streets: StreetList, answer: Answer, shut: Collection[int] = (), title
     for key in keys:
         base.room.take_line(ways[key], 1.0)
     groups += sorted(drawn, key=lambda group: -int(str(group.data["step"])))
+    start = _start(base, answer)
     groups += base.corners.groups(base.room)
-    groups += _start(base, answer)
+    groups += start
     groups += base.street_names()
     groups += base.part_names()
     name = title or PurePath(streets.path).name
@@ -105,7 +106,7 @@ def _pass_group(base: Base, together: Sequence[Pass], way: tuple[Point, ...], sh
     shapes.append(Area(lanes.arrow(*ahead, *size), "head"))
     shapes.append(Box((at[0] - width / 2, at[1] - _PILL / 2), width, _PILL, _PILL / 2, "pill"))
     shapes.append(Label(at, words, "number"))
-    base.room.take(body(at, width, "middle"), 4.0)
+    base.room.take(body(at, width, "middle"), 7.0)
     if len(together) == 1:
         title = f"step {one.step}: {street.name}, {street.from_corner} to {street.to_corner}, {_does(one)}"
         steps: dict[str, object] = {"arc": one.arc, "step": one.step}

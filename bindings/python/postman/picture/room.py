@@ -8,7 +8,9 @@ from collections.abc import Iterable, Sequence
 
 from .drawing import Point
 
-CELL = 16.0
+# The sheet is counted in cells, in points of the sheet. A row of cells is wider than any sheet.
+CELL = 3.0
+ROW = 4096
 
 
 def text_width(text: str, size: float) -> float:
@@ -20,12 +22,12 @@ class Room:
     """Points that labels should not cover, each with a weight."""
 
     def __init__(self) -> None:
-        self._cells: dict[tuple[int, int], list[tuple[float, float, float]]] = defaultdict(list)
+        self._cells: dict[int, float] = defaultdict(float)
 
     def take(self, points: Iterable[Point], weight: float) -> None:
         """These points are taken."""
         for x, y in points:
-            self._cells[int(x // CELL), int(y // CELL)].append((x, y, weight))
+            self._cells[ROW * int(y // CELL) + int(x // CELL)] += weight
 
     def take_line(self, points: Sequence[Point], weight: float) -> None:
         """A polyline is taken, every few points of its length."""
@@ -37,16 +39,15 @@ class Room:
             )
 
     def crowd(self, points: Iterable[Point], radius: float) -> float:
-        """The weight of what lies within a radius of these points."""
+        """The weight of what lies about within a radius of these points."""
+        reach = max(1, int(radius // CELL))
+        around = [ROW * down + across for down in range(-reach, reach + 1) for across in range(-reach, reach + 1)]
+        weight = self._cells.get
         total = 0.0
-        reach = math.ceil(radius / CELL)
         for x, y in points:
-            column, row = int(x // CELL), int(y // CELL)
-            for i in range(column - reach, column + reach + 1):
-                for j in range(row - reach, row + reach + 1):
-                    for other_x, other_y, weight in self._cells.get((i, j), ()):
-                        if abs(other_x - x) <= radius and abs(other_y - y) <= radius:
-                            total += weight
+            cell = ROW * int(y // CELL) + int(x // CELL)
+            for other in around:
+                total += weight(cell + other, 0.0)
         return total
 
 
