@@ -1,7 +1,9 @@
 /*
- * Plans the file that its argument names and prints what the program `drive` prints for it:
+ * Plans the file that its argument names and prints what the program `drive` prints for it. With the library that
+ * `make install` put in place, or with the one that `make` built here:
  *
- *     cc -std=c99 -Iinclude examples/plan.c target/staticlib/libexports.a -o plan && ./plan examples/town.plan
+ *     cc -std=c99 examples/plan.c $(pkg-config --cflags --libs postman) -o plan && ./plan examples/town.plan
+ *     cc -std=c99 -Iinclude examples/plan.c build/libpostman.a -o plan && ./plan examples/town.plan
  */
 #include <errno.h>
 #include <inttypes.h>
@@ -50,6 +52,7 @@ int main(int argc, char **argv) {
                                        multipliers, POSTMAN_MULTIPLIERS);
     if (number < 0) {
         printf("refused %" PRId64 "\n", -number);
+        fprintf(stderr, "plan: %s\n", postman_refusal_word((uint32_t)-number));
     } else {
         printf("cost %" PRIu64 "\n", answer[POSTMAN_COST]);
         printf("floor %" PRIu64 "\n", answer[POSTMAN_FLOOR]);

@@ -1,4 +1,5 @@
-//! Links the static library that `rt staticlib exports` builds from the proved crates, or the one in the folder that `POSTMAN_LIB_DIR` names.
+//! Links the static library that `rt staticlib exports` builds from the proved crates, or the one in the folder that `POSTMAN_LIB_DIR` names: that archive, or
+//! the `libpostman.a` that `make install` puts into `lib`.
 use std::env;
 use std::path::PathBuf;
 
@@ -8,16 +9,15 @@ fn main() {
     let package = PathBuf::from(env::var_os("CARGO_MANIFEST_DIR").expect("cargo names the package's folder"));
     let root = package.join("../..");
     let folder = env::var_os("POSTMAN_LIB_DIR").map_or_else(|| root.join("target/staticlib"), PathBuf::from);
-    let library = folder.join("libexports.a");
-    if !library.is_file() {
-        let root = root.canonicalize().unwrap_or(root);
+    let found = ["exports", "postman"].into_iter().find(|name| folder.join(format!("lib{name}.a")).is_file());
+    let name = found.unwrap_or_else(|| {
         panic!(
-            "there is no library {}: run `rt staticlib exports` in {}, or set POSTMAN_LIB_DIR to the absolute path of the folder that has libexports.a",
-            library.display(),
-            root.display()
-        );
-    }
-    println!("cargo:rerun-if-changed={}", library.display());
+            "there is no library in {}: run `rt staticlib exports` in the repository, or set POSTMAN_LIB_DIR to the absolute path of the folder that has \
+             libexports.a or libpostman.a",
+            folder.display()
+        )
+    });
+    println!("cargo:rerun-if-changed={}", folder.join(format!("lib{name}.a")).display());
     println!("cargo:rustc-link-search=native={}", folder.display());
-    println!("cargo:rustc-link-lib=static=exports");
+    println!("cargo:rustc-link-lib=static={name}");
 }

@@ -100,10 +100,10 @@ fn cost_law(random: &mut Random) -> impl Fn(&mut Random) -> u16 {
     }
 }
 
-/// Ways to draw the service cost of a required arc from its cost: below, at and above it. It is never 0.
-const SERVICE_LAWS: usize = 6;
+/// Ways to draw the checking cost of a required arc from its cost: below, at and above it. It is never 0.
+const CHECKING_LAWS: usize = 6;
 
-fn service(random: &mut Random, law: usize, cost: u16) -> u16 {
+fn checking(random: &mut Random, law: usize, cost: u16) -> u16 {
     let cost = cost.max(1);
     match law {
         0 => cost,
@@ -156,12 +156,12 @@ pub fn random_plan(random: &mut Random, shape: &Shape) -> Plan {
     random.shuffle(&mut arcs);
     arcs.truncate(MOST_ARCS);
     let law = random.below(10);
-    if law >= SERVICE_LAWS {
+    if law >= CHECKING_LAWS {
         price_required(&mut arcs);
     }
     part_twins(&mut arcs);
     let plan = Plan::new(n, arcs);
-    if law < SERVICE_LAWS {
+    if law < CHECKING_LAWS {
         check_by(random, plan, law)
     } else {
         plan
@@ -175,13 +175,13 @@ fn price_required(arcs: &mut [Arc]) {
     }
 }
 
-/// The plan in edition 2, its required arcs checked by a law; at times one of them stands there twice, at two service costs.
+/// The plan in edition 2, its required arcs checked by a law; at times one of them stands there twice, at two checking costs.
 fn check_by(random: &mut Random, plan: Plan, law: usize) -> Plan {
-    let mut plan = checked(plan, |_, cost| service(random, law, cost));
+    let mut plan = checked(plan, |_, cost| checking(random, law, cost));
     let required: Vec<Arc> = plan.arcs.iter().filter(|a| a.standing == REQUIRED).copied().collect();
     if !required.is_empty() && plan.arcs.len() < MOST_ARCS && random.once_in(3) {
         let twin = random.pick(&required);
-        let slower = Arc { service: twin.service % 65_535 + 1, ..twin };
+        let slower = Arc { checking: twin.checking % 65_535 + 1, ..twin };
         if !plan.arcs.contains(&slower) {
             plan.arcs.insert(random.below(plan.arcs.len() + 1), slower);
         }
@@ -190,10 +190,10 @@ fn check_by(random: &mut Random, plan: Plan, law: usize) -> Plan {
 }
 
 /// The plan in edition 2, its required arcs checked at what is said for their number and cost.
-pub fn checked(mut plan: Plan, mut service: impl FnMut(usize, u16) -> u16) -> Plan {
+pub fn checked(mut plan: Plan, mut checking: impl FnMut(usize, u16) -> u16) -> Plan {
     plan.edition = 2;
     for (k, arc) in plan.arcs.iter_mut().enumerate().filter(|(_, arc)| arc.standing == REQUIRED) {
-        arc.service = service(k, arc.cost);
+        arc.checking = checking(k, arc.cost);
     }
     plan
 }
@@ -241,13 +241,13 @@ pub fn damaged(random: &mut Random, plan: &Plan) -> Vec<u8> {
         match random.below(30) {
             0 | 1 => plan.arcs[k].cost = 0,
             2 => plan.arcs[k].standing = 3,
-            3 => plan.arcs[k] = Arc { standing: 3, service: 0, ..plan.arcs[k] },
+            3 => plan.arcs[k] = Arc { standing: 3, checking: 0, ..plan.arcs[k] },
             4 => plan.arcs[k].tail = random.within(0..=63) as u8,
             5 => plan.arcs[k].head = random.within(0..=63) as u8,
             6 => plan.n = random.within(0..=127),
             7 | 8 => plan.arcs[k] = random.pick(&plan.arcs),
-            9 => plan.arcs[k].service = 0,
-            10 | 11 => plan.arcs[k].service = random.pick(&[1, plan.arcs[k].cost, 65_535]),
+            9 => plan.arcs[k].checking = 0,
+            10 | 11 => plan.arcs[k].checking = random.pick(&[1, plan.arcs[k].cost, 65_535]),
             12 => plan.edition = random.pick(&[0, 1, 2, 3, 15]),
             _ => {}
         }
@@ -330,7 +330,7 @@ pub fn funnel(random: &mut Random) -> Plan {
         arcs.push(Arc::new(gate, next, OPTIONAL, cost(random)));
     }
     random.shuffle(&mut arcs);
-    let law = random.below(SERVICE_LAWS);
+    let law = random.below(CHECKING_LAWS);
     check_by(random, Plan::new(parts * (2 + leaves), arcs), law)
 }
 

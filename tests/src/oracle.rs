@@ -13,7 +13,7 @@
 //! | greatest u | Bellman and Ford from a least assignment | Dijkstra over reduced costs |
 //! | best drive | search over (vertex, set of required arcs passed) | trees |
 //! | shut arcs | the minutes of a week, for each arc | window by window |
-//! | a car's plan | the set of its arcs, priced by standing | mark by mark, priced by service cost |
+//! | a car's plan | the set of its arcs, priced by standing | mark by mark, priced by checking cost |
 //! | an open plan | the accepted calls, looked up from the end | the plan and the marks as they are now |
 //! | districts in turn | whose each accepted call was; the front has waited longest since its own | a line, its front first |
 //! | judging | sets of arcs, and how often each occurs | passes along the list |

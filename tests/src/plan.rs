@@ -11,7 +11,7 @@ pub struct Arc {
     /// What a pass costs.
     pub cost: u16,
     /// What the pass costs on which a required arc is checked (document 02: the checking cost); 0 in other arcs.
-    pub service: u16,
+    pub checking: u16,
 }
 
 /// Standings.
@@ -22,7 +22,7 @@ pub const CLOSED: u8 = 2;
 /// A directed graph with vertices 0 to n − 1 and numbered arcs.
 #[derive(Clone, PartialEq, Eq, Debug, Default)]
 pub struct Plan {
-    /// The edition of its file: 1, or 2, whose arcs have a service cost of their own.
+    /// The edition of its file: 1, or 2, whose arcs have a checking cost of their own.
     pub edition: u8,
     pub n: usize,
     pub arcs: Vec<Arc>,
@@ -67,13 +67,13 @@ pub const MOST_PARTS: usize = 8;
 impl Arc {
     /// An arc as edition 1 has it: a required arc is checked at its cost.
     pub fn new(tail: usize, head: usize, standing: u8, cost: u16) -> Arc {
-        let service = if standing == REQUIRED { cost } else { 0 };
-        Arc { tail: tail as u8, head: head as u8, standing, cost, service }
+        let checking = if standing == REQUIRED { cost } else { 0 };
+        Arc { tail: tail as u8, head: head as u8, standing, cost, checking }
     }
 
     /// A required arc that is checked at another cost.
-    pub fn checked(tail: usize, head: usize, cost: u16, service: u16) -> Arc {
-        Arc { service, ..Arc::new(tail, head, REQUIRED, cost) }
+    pub fn checked(tail: usize, head: usize, cost: u16, checking: u16) -> Arc {
+        Arc { checking, ..Arc::new(tail, head, REQUIRED, cost) }
     }
 }
 

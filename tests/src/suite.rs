@@ -179,16 +179,16 @@ fn spoil(random: &mut Random, arcs: &mut [Arc]) {
         0 => arc.tail = byte,
         1 => arc.head = byte,
         2 => arc.standing = byte,
-        3 => *arc = Arc { standing: byte, service: 0, ..*arc },
+        3 => *arc = Arc { standing: byte, checking: 0, ..*arc },
         4 => arc.cost = 0,
-        5 => arc.service = 0,
-        6 => arc.service = random.pick(&[1, arc.cost, arc.cost ^ 1, 65_535]),
+        5 => arc.checking = 0,
+        6 => arc.checking = random.pick(&[1, arc.cost, arc.cost ^ 1, 65_535]),
         7 | 8 => *arc = twin,
         9 => {
             let standing = (twin.standing + 1) % 3;
             *arc = Arc::new(twin.tail.into(), twin.head.into(), standing, twin.cost);
         }
-        10 => *arc = Arc { service: twin.service ^ 1, ..twin },
+        10 => *arc = Arc { checking: twin.checking ^ 1, ..twin },
         _ => {}
     }
 }

@@ -46,8 +46,8 @@ pub trait Steps {
     }
 
     /// What a required arc adds to R: the pass on which it is checked.
-    fn service(&self, arc: &Arc) -> u16 {
-        arc.service
+    fn checking(&self, arc: &Arc) -> u16 {
+        arc.checking
     }
 
     /// The components of the required vertices.

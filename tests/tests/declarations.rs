@@ -1,5 +1,5 @@
 //! The library's C functions are declared in three places: its source, the C header and the Rust package. No compiler compares them, so this
-//! test does; and the constants of the header with those of the package.
+//! test does; and the constants of the header with those of the package, and the words of the library with the package's.
 
 use postman_tests::plan;
 use postman_tests::planner::refusal;
@@ -113,7 +113,9 @@ fn of_c(header: &str) -> Vec<Function> {
     let text = without_block_comments(header);
     let text: Vec<&str> = text.lines().filter(|line| !line.starts_with('#')).collect();
     let text = text.join("\n").replace("extern \"C\" {", "");
-    let declarations = text.split(';').filter(|declaration| declaration.contains('('));
+    // Functions that answer a text are the words, which are not the proved library's.
+    let declarations =
+        text.split(';').filter(|declaration| declaration.contains('(') && !declaration.contains(" char *"));
     declarations
         .map(|declaration| {
             let (declarator, parameters, rest) = parts(declaration);
@@ -166,7 +168,7 @@ fn constants_of_c(header: &str) -> Constants {
         let name = name.strip_prefix("POSTMAN_").unwrap_or_else(|| panic!("{name} has no prefix"));
         Some((name.to_string(), number(value).unwrap_or_else(|| panic!("{name} is no number: {value}"))))
     };
-    text.lines().filter_map(constant).collect()
+    text.lines().filter(|line| !line.ends_with('"')).filter_map(constant).collect()
 }
 
 /// The public constants of a Rust source.
@@ -227,7 +229,9 @@ fn constants_agree() {
     all.extend(cases_of_rust(&package("plan.rs")));
     // An edition's name says what it is in C.
     all.extend(cases_of_rust(&package("edition.rs")).into_iter().map(|(name, number)| (name + "_EDITION", number)));
-    all.extend(cases_of_rust(&package("refusal.rs")));
+    // And so does a refusal's.
+    let refusals = cases_of_rust(&package("refusal.rs"));
+    all.extend(refusals.into_iter().map(|(name, number)| (format!("REFUSED_{name}"), number)));
     assert_eq!(header, all);
     // These are the numbers that the planners are held to.
     for (name, value) in [
@@ -249,31 +253,73 @@ fn constants_agree() {
         ("OPTIONAL", u64::from(plan::OPTIONAL)),
         ("REQUIRED", u64::from(plan::REQUIRED)),
         ("CLOSED", u64::from(plan::CLOSED)),
-        ("TORN", u64::from(refusal::TORN)),
-        ("EDITION", u64::from(refusal::EDITION)),
-        ("EXTENT", u64::from(refusal::EXTENT)),
-        ("MARGIN", u64::from(refusal::MARGIN)),
-        ("OFF_SHEET", u64::from(refusal::OFF_SHEET)),
-        ("UNPRICED", u64::from(refusal::UNPRICED)),
-        ("STANDING", u64::from(refusal::STANDING)),
-        ("SHORT_SHEET", u64::from(refusal::SHORT_SHEET)),
-        ("BUDGET", u64::from(refusal::BUDGET)),
-        ("IDLE", u64::from(refusal::IDLE)),
-        ("SCATTERED", u64::from(refusal::SCATTERED)),
-        ("CUT_OFF", u64::from(refusal::CUT_OFF)),
-        ("REPEATED", u64::from(refusal::REPEATED)),
-        ("FOREIGN", u64::from(refusal::FOREIGN)),
-        ("UNJOINED", u64::from(refusal::UNJOINED)),
-        ("MISSED", u64::from(refusal::MISSED)),
-        ("STRAY_PAIR", u64::from(refusal::STRAY_PAIR)),
-        ("BAD_MARKS", u64::from(refusal::BAD_MARKS)),
-        ("BAD_WINDOW", u64::from(refusal::BAD_WINDOW)),
-        ("MUST_SHUT", u64::from(refusal::MUST_SHUT)),
-        ("NO_MARK", u64::from(refusal::NO_MARK)),
-        ("FULL", u64::from(refusal::FULL)),
+        ("REFUSED_TORN", u64::from(refusal::TORN)),
+        ("REFUSED_EDITION", u64::from(refusal::EDITION)),
+        ("REFUSED_EXTENT", u64::from(refusal::EXTENT)),
+        ("REFUSED_MARGIN", u64::from(refusal::MARGIN)),
+        ("REFUSED_OFF_SHEET", u64::from(refusal::OFF_SHEET)),
+        ("REFUSED_UNPRICED", u64::from(refusal::UNPRICED)),
+        ("REFUSED_STANDING", u64::from(refusal::STANDING)),
+        ("REFUSED_SHORT_SHEET", u64::from(refusal::SHORT_SHEET)),
+        ("REFUSED_BUDGET", u64::from(refusal::BUDGET)),
+        ("REFUSED_IDLE", u64::from(refusal::IDLE)),
+        ("REFUSED_SCATTERED", u64::from(refusal::SCATTERED)),
+        ("REFUSED_CUT_OFF", u64::from(refusal::CUT_OFF)),
+        ("REFUSED_REPEATED", u64::from(refusal::REPEATED)),
+        ("REFUSED_FOREIGN", u64::from(refusal::FOREIGN)),
+        ("REFUSED_UNJOINED", u64::from(refusal::UNJOINED)),
+        ("REFUSED_MISSED", u64::from(refusal::MISSED)),
+        ("REFUSED_STRAY_PAIR", u64::from(refusal::STRAY_PAIR)),
+        ("REFUSED_BAD_MARKS", u64::from(refusal::BAD_MARKS)),
+        ("REFUSED_BAD_WINDOW", u64::from(refusal::BAD_WINDOW)),
+        ("REFUSED_MUST_SHUT", u64::from(refusal::MUST_SHUT)),
+        ("REFUSED_NO_MARK", u64::from(refusal::NO_MARK)),
+        ("REFUSED_FULL", u64::from(refusal::FULL)),
     ] {
         assert_eq!(header.get(name), Some(&value), "{name}");
     }
+}
+
+/// The text between the first two quotes.
+fn quoted(text: &str) -> &str {
+    text.split('"').nth(1).unwrap_or_else(|| panic!("no text in quotes: {text}"))
+}
+
+/// The line that begins so.
+fn line<'a>(text: &'a str, start: &str) -> &'a str {
+    text.lines().find(|line| line.starts_with(start)).unwrap_or_else(|| panic!("no line {start}"))
+}
+
+/// One version: the header's, with which the C library is built, and those of both packages.
+#[test]
+fn versions_agree() {
+    let header = read(&root().join("include/postman.h"));
+    let version = quoted(line(&header, "#define POSTMAN_VERSION "));
+    for package in ["bindings/rust/Cargo.toml", "bindings/python/pyproject.toml"] {
+        assert_eq!(quoted(line(&read(&root().join(package)), "version = ")), version, "{package}");
+    }
+}
+
+/// The trade words in C by their number, from 0 on, which is no refusal's.
+fn words_of_c(source: &str) -> Vec<String> {
+    let (_, rest) = source.split_once("words[] = {").expect("a list of words");
+    let (list, _) = rest.split_once('}').expect("the list's end");
+    list.split('"').skip(1).step_by(2).map(str::to_string).collect()
+}
+
+/// And in the Rust package: of each case in turn the first of two texts.
+fn words_of_rust(source: &str) -> Vec<String> {
+    let (_, rest) = source.split_once("fn words(self)").expect("the words");
+    let cases = rest.split("Refusal::").skip(1).filter(|case| case.contains("=>"));
+    cases.map(|case| quoted(case).to_string()).collect()
+}
+
+#[test]
+fn words_agree() {
+    let c = words_of_c(&read(&root().join("bindings/c/words.c")));
+    let rust = words_of_rust(&read(&root().join("bindings/rust/src/refusal.rs")));
+    assert_eq!((c[0].as_str(), &c[1..]), ("", &rust[..]));
+    assert_eq!(rust.len(), 22);
 }
 
 // ---- the test can fail
@@ -306,11 +352,15 @@ const C: &str = r#"
 #ifdef __cplusplus
 extern "C" {
 #endif
+#define POSTMAN_NAME "name"
 #define POSTMAN_MOST 4294967295u /* most */
 enum postman_kind {
     POSTMAN_OFF_SHEET = 5, /* a kind */
     POSTMAN_TORN = 1
 };
+
+/* A word. */
+const char *word(void);
 
 /* A call. */
 int64_t call(const uint8_t *plan, size_t plan_len, uint64_t budget, uint16_t *sheet,
@@ -440,4 +490,12 @@ fn constants_are_found() {
     let mut rust = constants_of_rust(RUST);
     rust.extend(cases_of_rust(RUST));
     assert_eq!(rust, expected);
+}
+
+#[test]
+fn words_are_found() {
+    let c = "static const char *const words[] = {\n    \"\", \"torn\",\n    \"cut off\",\n};\nconst char *f(void) { return \"x\"; }\n";
+    assert_eq!(words_of_c(c), ["", "torn", "cut off"]);
+    let rust = "fn words(self) -> X { match self {\nRefusal::Torn => (\"torn\", \"the end\"),\nRefusal::CutOff => {\n(\"cut off\", \"x\")\n}\n";
+    assert_eq!(words_of_rust(rust), ["torn", "cut off"]);
 }

@@ -107,7 +107,8 @@ mod in_c {
             let mut command = Command::new("cc");
             command.args(["-std=c99", "-Wall", "-Wextra", "-Werror", "-pedantic"]);
             command.arg("-I").arg(root().join("include"));
-            compile(command.arg(folder().join("plan.c")).arg(library()).arg("-o").arg(&program));
+            command.arg(folder().join("plan.c")).arg(root().join("bindings/c/words.c"));
+            compile(command.arg(library()).arg("-o").arg(&program));
             program
         });
         Command::new(program).arg(plan).output().expect("the program that was built")
@@ -129,13 +130,16 @@ mod in_c {
         for length in [0, 2, 3, town.len() - 1, town.len() + 1, LONGEST_FILE, LONGEST_FILE + 1, 4_096, 4_097, 100_000] {
             let mut file = town.clone();
             file.resize(length, 0);
-            let refused = first_lines(&Proved.plan_call(&file, PROGRAM_BUDGET, &mut vec![0; SHEET_PLACES]));
+            let told = Proved.plan_call(&file, PROGRAM_BUDGET, &mut vec![0; SHEET_PLACES]);
+            let refused = first_lines(&told);
             assert!(refused.starts_with("refused"), "{length} bytes");
+            let word = told.err().and_then(postman::Refusal::from_number).expect("a refusal").word();
             let path = scratch("refused.plan");
             std::fs::write(&path, &file).expect("a file that can be written");
             let output = run(&path);
             assert!(output.status.success(), "{length} bytes: {:?}", output.status);
             assert_eq!(String::from_utf8_lossy(&output.stdout), refused, "{length} bytes");
+            assert_eq!(String::from_utf8_lossy(&output.stderr), format!("plan: {word}\n"), "{length} bytes");
         }
     }
 

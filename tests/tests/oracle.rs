@@ -154,7 +154,7 @@ fn pass_by_pass(plan: &Plan, drive: &[u16]) -> u64 {
     let pass = |&k: &u16| {
         let arc = &plan.arcs[usize::from(k)];
         let again = std::mem::replace(&mut passed[usize::from(k)], true);
-        u64::from(if arc.standing == REQUIRED && !again { arc.service } else { arc.cost })
+        u64::from(if arc.standing == REQUIRED && !again { arc.checking } else { arc.cost })
     };
     drive.iter().map(pass).sum()
 }
@@ -190,11 +190,11 @@ fn checking_costs_move_the_optimum_with_r() {
     for facts in some_facts(1_200).chain(some_funnels(300)) {
         let plan = &facts.graph.plan;
         let musts = || plan.arcs.iter().filter(|a| a.standing == REQUIRED);
-        musts().for_each(|a| met[(a.service.cmp(&a.cost) as i8 + 1) as usize] += 1);
+        musts().for_each(|a| met[(a.checking.cmp(&a.cost) as i8 + 1) as usize] += 1);
         let plain = checked(plan.clone(), |_, cost| cost);
         if let Some(cheapest) = facts.optimum {
             searched += 1;
-            let beyond: i64 = musts().map(|a| i64::from(a.service) - i64::from(a.cost)).sum();
+            let beyond: i64 = musts().map(|a| i64::from(a.checking) - i64::from(a.cost)).sum();
             assert_eq!(Some(cheapest), optimum(&plain).and_then(|x| x.checked_add_signed(beyond)), "{plan:?}");
         }
     }

@@ -9,7 +9,7 @@ from threading import Lock
 from ._lent import File, borrow, file_bytes, give_back, long, unless_refused, word
 from ._library import library
 from .answer import Answer
-from .limits import LONGEST_FILE, OPEN_BYTES
+from .limits import LONGEST_FILE, MARKS, OPEN_BYTES
 from .plan import Plan, Standing, _price
 from .windows import Departure, Window, numbers_of
 
@@ -87,9 +87,7 @@ class OpenPlan:
     @property
     def file(self) -> bytes:
         """The file of the plan as it is now."""
-        state = self.to_bytes()
-        length = min(int.from_bytes(state[:2], "big"), LONGEST_FILE)
-        return state[2 : 2 + length]
+        return _file_in(self.to_bytes(), 0)
 
     @property
     def plan(self) -> Plan:
@@ -103,14 +101,20 @@ class OpenPlan:
 
     @classmethod
     def from_bytes(cls, state: bytes | bytearray | memoryview) -> OpenPlan:
-        """The open plan that `to_bytes` gave. Its file has to read: refuses with 1 to 7 and 13."""
+        """The open plan that `to_bytes` gave.
+
+        The files of the plan and of all marks that are set have to read: refuses with 1 to 7 and 13.
+        """
         state = bytes(memoryview(state))
         if len(state) != OPEN_BYTES:
             raise ValueError(f"an open plan has {OPEN_BYTES} bytes, and these are {len(state)}")
+        Plan.read(_file_in(state, 0))
+        for mark in range(MARKS):
+            if held := _file_in(state, 1 + mark):
+                Plan.read(held)
         open_plan = cls.__new__(cls)
         open_plan._state = (c_uint8 * OPEN_BYTES).from_buffer_copy(state)
         open_plan._lock = Lock()
-        Plan.read(open_plan.file)
         return open_plan
 
     def __reduce__(self) -> tuple:
@@ -120,3 +124,10 @@ class OpenPlan:
         return isinstance(other, OpenPlan) and other.to_bytes() == self.to_bytes()
 
     __hash__ = None  # type: ignore[assignment]
+
+
+def _file_in(state: bytes, i: int) -> bytes:
+    """The file number i of a state: 0 is that of the plan, and those of the marks follow."""
+    at = i * (2 + LONGEST_FILE)
+    length = min(int.from_bytes(state[at : at + 2], "big"), LONGEST_FILE)
+    return state[at + 2 : at + 2 + length]

@@ -4,6 +4,16 @@ use crate::limits::{ANSWER_WORDS, COST, FLOOR, MULTIPLIERS, PARTS, PLACES, SHEET
 use crate::{raw, Refusal};
 
 /// What a call answers for a plan that is not refused.
+///
+/// ```
+/// use postman::{short_call, Answer, Refusal};
+///
+/// let file = [0x10, 0x40, 0x20, 0x01, 0x40, 0x01, 0x41, 0x00, 0x00, 0x03];
+/// let Answer { drive, cost, floor, trees, whole, parts, multipliers } = short_call(&file)?;
+/// assert_eq!((drive, cost, floor, trees, whole, parts), (vec![0, 1], 8, 8, 1, true, 1));
+/// assert!(multipliers[2..].iter().all(|&u| u == 0));
+/// # Ok::<(), Refusal>(())
+/// ```
 #[derive(Clone, PartialEq, Eq, Debug)]
 pub struct Answer {
     /// The drive: numbers of arcs, the lowest required one first. Each arc begins where the one before it ends, and the first where the last ends.
@@ -134,8 +144,8 @@ mod tests {
     #[test]
     fn one_pass_is_checked() {
         let optional = |tail, head| Arc::new(tail, head, Standing::Optional, 1);
-        for (service, cost) in [(1, 15), (5, 19), (9, 23)] {
-            let checked = [Arc::checked(0, 1, 5, service), Arc::checked(1, 2, 2, 4), Arc::checked(1, 3, 2, 3)];
+        for (checking, cost) in [(1, 15), (5, 19), (9, 23)] {
+            let checked = [Arc::checked(0, 1, 5, checking), Arc::checked(1, 2, 2, 4), Arc::checked(1, 3, 2, 3)];
             let arcs = [&checked[..], &[optional(2, 0), optional(3, 0)]].concat();
             let answer = call(Edition::Second, 4, arcs).unwrap();
             assert_eq!((answer.cost, answer.floor, answer.whole), (cost, cost, true));
@@ -143,7 +153,7 @@ mod tests {
         }
     }
 
-    /// Where the service costs agree the editions do.
+    /// Where the checking costs agree the editions do.
     #[test]
     fn both_editions_answer_alike() {
         let file = std::fs::read(concat!(env!("CARGO_MANIFEST_DIR"), "/../../examples/town.plan")).unwrap();

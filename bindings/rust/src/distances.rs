@@ -4,6 +4,13 @@ use crate::limits::{NO_PATH, PAIR};
 use crate::{raw, Refusal};
 
 /// The distances of a page.
+///
+/// ```
+/// use postman::{distances, Distances};
+///
+/// let file = [0x10, 0x40, 0x20, 0x01, 0x40, 0x01, 0x41, 0x00, 0x00, 0x03];
+/// assert_eq!(distances(&file, &[(1, 0)]), Ok(Distances { entries: vec![Some(3)], searches: 1 }));
+/// ```
 #[derive(Clone, PartialEq, Eq, Debug)]
 pub struct Distances {
     /// The least cost of a path for each pair, in the pairs' order, or none where there is no path.

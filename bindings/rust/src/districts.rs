@@ -28,10 +28,22 @@ use crate::{raw, Answer, Refusal};
 /// ```
 #[derive(Clone, PartialEq, Eq, Debug)]
 pub struct Districts {
-    machine: Vec<u8>,
+    machine: Box<[u8; DISTRICTS_BYTES]>,
 }
 
 /// A district's turn.
+///
+/// ```
+/// use postman::{Districts, Refusal, Turn};
+///
+/// let mut districts = Districts::new();
+/// districts.enter(&[0x10, 0x40, 0x20, 0x01, 0x40, 0x01, 0x41, 0x00, 0x00, 0x03], 10)?;
+/// match districts.turn() {
+///     Some(Turn::Finished { place, answer }) => assert_eq!((place, answer.cost), (0, 8)),
+///     Some(Turn::Unfinished { .. }) | None => panic!("its plan has one tree"),
+/// }
+/// # Ok::<(), Refusal>(())
+/// ```
 #[derive(Clone, PartialEq, Eq, Debug)]
 pub enum Turn {
     /// It is not finished, and goes to the back of the line.
@@ -54,27 +66,83 @@ pub enum Turn {
 
 impl Districts {
     /// A machine with no district inside.
+    ///
+    /// ```
+    /// assert_eq!(postman::Districts::new().turn(), None);
+    /// ```
     pub fn new() -> Districts {
-        let mut machine = vec![0; DISTRICTS_BYTES];
-        raw::districts_start(&mut machine).expect("a machine of the bytes that it takes");
+        let mut machine = Box::new([0; DISTRICTS_BYTES]);
+        raw::districts_start(&mut *machine).expect("a machine of the bytes that it takes");
         Districts { machine }
     }
 
     /// A district enters with its plan file and a budget: its place, the lowest of 0 to 7 that is free. Refuses with 1 to 7 and 9 to 13 as
     /// [`plan_call`](crate::plan_call) does, and with 22 where eight districts are unfinished.
+    ///
+    /// ```
+    /// use postman::{Districts, Refusal};
+    ///
+    /// let file = [0x10, 0x40, 0x20, 0x01, 0x40, 0x01, 0x41, 0x00, 0x00, 0x03];
+    /// let mut districts = Districts::new();
+    /// for place in 0..8 {
+    ///     assert_eq!(districts.enter(&file, 10), Ok(place));
+    /// }
+    /// assert_eq!(districts.enter(&file, 10), Err(Refusal::Full));
+    /// ```
     pub fn enter(&mut self, file: &[u8], budget: u64) -> Result<usize, Refusal> {
-        raw::enter(&mut self.machine, file, budget)
+        raw::enter(&mut *self.machine, file, budget)
     }
 
     /// A turn of the front district, or nothing with no district inside.
+    ///
+    /// ```
+    /// use postman::{Districts, Refusal, Turn};
+    ///
+    /// let file = [0x10, 0x40, 0x20, 0x01, 0x40, 0x01, 0x41, 0x00, 0x00, 0x03];
+    /// let mut districts = Districts::new();
+    /// districts.enter(&file, 10)?;
+    /// assert!(matches!(districts.turn(), Some(Turn::Finished { place: 0, .. })));
+    /// assert_eq!(districts.turn(), None);
+    /// # Ok::<(), Refusal>(())
+    /// ```
     pub fn turn(&mut self) -> Option<Turn> {
         let mut lent = Lent::new();
-        let number = raw::turn(&mut self.machine, &mut lent.sheet, &mut lent.answer, &mut lent.multipliers);
+        let number = raw::turn(&mut *self.machine, &mut lent.sheet, &mut lent.answer, &mut lent.multipliers);
         match number.expect("a sheet that is long enough") {
             NO_DISTRICT => None,
-            place @ ..FINISHED => Some(Turn::Unfinished { place, cost: lent.answer[COST], trees: lent.answer[TREES] }),
+            place if place < FINISHED => {
+                Some(Turn::Unfinished { place, cost: lent.answer[COST], trees: lent.answer[TREES] })
+            }
             last => Some(Turn::Finished { place: last - FINISHED, answer: Box::new(lent.taken()) }),
         }
+    }
+
+    /// The machine as bytes, to be kept; `include/postman.h` says what they are.
+    ///
+    /// ```
+    /// use postman::{Districts, Refusal};
+    ///
+    /// let mut districts = Districts::new();
+    /// districts.enter(&[0x10, 0x40, 0x20, 0x01, 0x40, 0x01, 0x41, 0x00, 0x00, 0x03], 10)?;
+    /// let mut kept = Districts::from_bytes(districts.as_bytes());
+    /// assert_eq!(kept, districts);
+    /// assert_eq!(kept.turn(), districts.turn());
+    /// # Ok::<(), Refusal>(())
+    /// ```
+    pub fn as_bytes(&self) -> &[u8; DISTRICTS_BYTES] {
+        &self.machine
+    }
+
+    /// The machine that [`as_bytes`](Districts::as_bytes) gave. Any bytes are one, and no call fails on them; what is said of turns is said of those.
+    ///
+    /// ```
+    /// use postman::limits::DISTRICTS_BYTES;
+    /// use postman::Districts;
+    ///
+    /// assert_eq!(Districts::from_bytes(&[0; DISTRICTS_BYTES]), Districts::new());
+    /// ```
+    pub fn from_bytes(machine: &[u8; DISTRICTS_BYTES]) -> Districts {
+        Districts { machine: Box::new(*machine) }
     }
 }
 
@@ -144,7 +212,7 @@ mod tests {
 
         let before = districts.clone();
         let (mut sheet, mut answer) = (vec![7; SHEET_PLACES - 1], [7; ANSWER_WORDS]);
-        let refused = raw::turn(&mut districts.machine, &mut sheet, &mut answer, &mut []);
+        let refused = raw::turn(&mut *districts.machine, &mut sheet, &mut answer, &mut []);
         assert_eq!((refused, answer), (Err(Refusal::ShortSheet), [7; ANSWER_WORDS]));
         assert!(districts == before && sheet.iter().all(|&place| place == 7));
 
@@ -162,7 +230,7 @@ mod tests {
                 }
             }
         }
-        assert_eq!(turns, budgets.map(|budget| budget.div_ceil(TURN_TREES)));
+        assert_eq!(turns, budgets.map(|budget| (budget + TURN_TREES - 1) / TURN_TREES));
     }
 
     /// Before the last turn sheet and multipliers are untouched, and of the words only cost and trees are told.
@@ -172,11 +240,11 @@ mod tests {
         let mut districts = Districts::new();
         assert_eq!(districts.enter(&file, TURN_TREES + 1), Ok(0));
         let (mut sheet, mut answer, mut multipliers) = (vec![7; SHEET_PLACES], [7; ANSWER_WORDS], [7; MULTIPLIERS]);
-        let first = raw::turn(&mut districts.machine, &mut sheet, &mut answer, &mut multipliers);
+        let first = raw::turn(&mut *districts.machine, &mut sheet, &mut answer, &mut multipliers);
         assert_eq!(first, Ok(0));
         assert!(sheet.iter().all(|&place| place == 7) && multipliers == [7; MULTIPLIERS]);
         assert_eq!(answer, [0, plan_call(&file, TURN_TREES).unwrap().cost, 0, TURN_TREES, 0, 0]);
-        let last = raw::turn(&mut districts.machine, &mut sheet, &mut answer, &mut multipliers);
+        let last = raw::turn(&mut *districts.machine, &mut sheet, &mut answer, &mut multipliers);
         assert_eq!(last, Ok(FINISHED));
         let whole = plan_call(&file, TURN_TREES + 1).unwrap();
         assert_eq!(answer[COST], whole.cost);

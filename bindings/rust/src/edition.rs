@@ -1,12 +1,23 @@
 //! The editions of the plan file.
 
 /// An edition of the plan file.
+///
+/// ```
+/// use postman::{Edition, Plan, Refusal};
+///
+/// let file = [0x10, 0x40, 0x20, 0x01, 0x40, 0x01, 0x41, 0x00, 0x00, 0x03];
+/// let first = Plan::read(&file)?;
+/// assert_eq!(first.edition, Edition::First);
+/// let second = Plan { edition: Edition::Second, ..first }.write()?;
+/// assert_eq!(Plan::read(&second)?.edition, Edition::Second);
+/// # Ok::<(), Refusal>(())
+/// ```
 #[derive(Clone, Copy, PartialEq, Eq, PartialOrd, Ord, Hash, Debug, Default)]
 pub enum Edition {
-    /// An arc has no service cost of its own: a required arc is checked at its cost.
+    /// An arc has no checking cost of its own: a required arc is checked at its cost.
     #[default]
     First = 1,
-    /// A required arc has a service cost beside its cost.
+    /// A required arc has a checking cost beside its cost.
     Second = 2,
 }
 
@@ -28,6 +39,10 @@ impl Edition {
     }
 
     /// The edition's number, 1 or 2.
+    ///
+    /// ```
+    /// assert_eq!(postman::Edition::Second.number(), 2);
+    /// ```
     pub fn number(self) -> u8 {
         self as u8
     }

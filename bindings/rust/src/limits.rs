@@ -1,4 +1,15 @@
-//! The numbers that bound plans, sheets and answers.
+//! The numbers that bound plans, sheets and answers: the constants of `include/postman.h`, without their prefix.
+//!
+//! ```
+//! use postman::limits::*;
+//!
+//! assert_eq!(OPEN_BYTES, (1 + MARKS) * (2 + LONGEST_FILE));
+//! assert_eq!(LONGEST_FILE, (4 + 7 + 9 + MOST_ARCS * 46 + 7) / 8);
+//! assert!(DEFAULT_BUDGET <= HIGHEST_BUDGET);
+//! ```
+
+/// The bytes of stack that a thread needs for any of the calls; a thread of Rust's has 2 MiB.
+pub const STACK_BYTES: usize = 262_144;
 
 /// The most vertices of a plan.
 pub const MOST_VERTICES: usize = 64;
@@ -60,7 +71,7 @@ pub const FINISHED: usize = 8;
 /// What a turn answers with no district inside.
 pub const NO_DISTRICT: usize = 16;
 
-/// The bytes of a record, which is an arc: tail, head, standing, the high byte and the low byte of its cost, and those of its service cost.
+/// The bytes of a record, which is an arc: tail, head, standing, the high byte and the low byte of its cost, and those of its checking cost.
 pub const RECORD_BYTES: usize = 7;
 /// The index of a record's tail.
 pub const RECORD_TAIL: usize = 0;
@@ -72,10 +83,10 @@ pub const RECORD_STANDING: usize = 2;
 pub const RECORD_COST_HIGH: usize = 3;
 /// The index of the low byte of a record's cost.
 pub const RECORD_COST_LOW: usize = 4;
-/// The index of the high byte of a record's service cost.
-pub const RECORD_SERVICE_HIGH: usize = 5;
-/// The index of the low byte of a record's service cost.
-pub const RECORD_SERVICE_LOW: usize = 6;
+/// The index of the high byte of a record's checking cost.
+pub const RECORD_CHECKING_HIGH: usize = 5;
+/// The index of the low byte of a record's checking cost.
+pub const RECORD_CHECKING_LOW: usize = 6;
 
 /// The words of an answer.
 pub const ANSWER_WORDS: usize = 6;

@@ -1,7 +1,7 @@
 //! A plan that is open for changes, with marks to come back to.
 
 use crate::answer::answered;
-use crate::limits::OPEN_BYTES;
+use crate::limits::{LONGEST_FILE, MARKS, OPEN_BYTES};
 use crate::windows::numbers_of;
 use crate::{raw, Answer, Departure, Plan, Refusal, Standing, Window};
 
@@ -37,59 +37,160 @@ use crate::{raw, Answer, Departure, Plan, Refusal, Standing, Window};
 /// ```
 #[derive(Clone, PartialEq, Eq, Debug)]
 pub struct OpenPlan {
-    state: Vec<u8>,
+    state: Box<[u8; OPEN_BYTES]>,
+}
+
+/// The file number `i` of a state: 0 is that of the plan, and those of the marks follow. A length above the longest file's counts as that.
+fn file_in(state: &[u8; OPEN_BYTES], i: usize) -> &[u8] {
+    let at = i * (2 + LONGEST_FILE);
+    let length = usize::from(u16::from_be_bytes([state[at], state[at + 1]])).min(LONGEST_FILE);
+    &state[at + 2..at + 2 + length]
 }
 
 impl OpenPlan {
     /// Opens a plan file, with no mark set. Refuses with 1 to 7 and 13.
+    ///
+    /// ```
+    /// use postman::{OpenPlan, Refusal};
+    ///
+    /// let file = [0x10, 0x40, 0x20, 0x01, 0x40, 0x01, 0x41, 0x00, 0x00, 0x03];
+    /// assert_eq!(OpenPlan::open(&file)?.return_to(0), Err(Refusal::NoMark));
+    /// assert_eq!(OpenPlan::open(&file[..9]), Err(Refusal::Torn));
+    /// # Ok::<(), Refusal>(())
+    /// ```
     pub fn open(file: &[u8]) -> Result<OpenPlan, Refusal> {
-        let mut state = vec![0; OPEN_BYTES];
-        raw::open(file, &mut state)?;
+        let mut state = Box::new([0; OPEN_BYTES]);
+        raw::open(file, &mut *state)?;
         Ok(OpenPlan { state })
     }
 
     /// Sets an arc's cost, checking cost and standing; a closed arc may be changed too. Refuses with 14 for an arc that the plan does not have, else
     /// with 6 or 13 if the changed plan could not be written in its edition.
-    pub fn change(&mut self, arc: u32, cost: u16, service: u16, standing: Standing) -> Result<(), Refusal> {
-        raw::change(&mut self.state, arc, cost, service, standing.number())
+    ///
+    /// ```
+    /// use postman::{OpenPlan, Refusal, Standing};
+    ///
+    /// let mut open = OpenPlan::open(&[0x10, 0x40, 0x20, 0x01, 0x40, 0x01, 0x41, 0x00, 0x00, 0x03])?;
+    /// open.change(0, 6, 6, Standing::Required)?;
+    /// assert_eq!(open.plan().arcs[0].cost, 6);
+    /// assert_eq!(open.change(0, 6, 7, Standing::Required), Err(Refusal::Unpriced)); // edition 1
+    /// # Ok::<(), Refusal>(())
+    /// ```
+    pub fn change(&mut self, arc: u32, cost: u16, checking: u16, standing: Standing) -> Result<(), Refusal> {
+        raw::change(&mut *self.state, arc, cost, checking, standing.number())
     }
 
     /// Sets a mark, from 0 to 3: it holds the plan as it is now, in place of what it held before. Refuses with 21 above 3.
+    ///
+    /// ```
+    /// use postman::{OpenPlan, Refusal};
+    ///
+    /// let mut open = OpenPlan::open(&[0x10, 0x40, 0x20, 0x01, 0x40, 0x01, 0x41, 0x00, 0x00, 0x03])?;
+    /// assert_eq!((open.mark(3), open.mark(4)), (Ok(()), Err(Refusal::NoMark)));
+    /// # Ok::<(), Refusal>(())
+    /// ```
     pub fn mark(&mut self, mark: u32) -> Result<(), Refusal> {
-        raw::mark(&mut self.state, mark)
+        raw::mark(&mut *self.state, mark)
     }
 
     /// Brings back the plan that a mark holds, and keeps all marks. Refuses with 21 above 3, and for a mark that was never set.
+    ///
+    /// ```
+    /// use postman::{OpenPlan, Refusal, Standing};
+    ///
+    /// let mut open = OpenPlan::open(&[0x10, 0x40, 0x20, 0x01, 0x40, 0x01, 0x41, 0x00, 0x00, 0x03])?;
+    /// open.mark(0)?;
+    /// open.change(1, 9, 0, Standing::Optional)?;
+    /// open.return_to(0)?;
+    /// assert_eq!(open.plan().arcs[1].cost, 3);
+    /// # Ok::<(), Refusal>(())
+    /// ```
     pub fn return_to(&mut self, mark: u32) -> Result<(), Refusal> {
-        raw::return_to(&mut self.state, mark)
+        raw::return_to(&mut *self.state, mark)
     }
 
     /// The file of the plan as it is now.
+    ///
+    /// ```
+    /// use postman::{OpenPlan, Refusal};
+    ///
+    /// let file = [0x10, 0x40, 0x20, 0x01, 0x40, 0x01, 0x41, 0x00, 0x00, 0x03];
+    /// assert_eq!(OpenPlan::open(&file)?.file(), file);
+    /// # Ok::<(), Refusal>(())
+    /// ```
     pub fn file(&self) -> &[u8] {
-        let length = usize::from(u16::from_be_bytes([self.state[0], self.state[1]]));
-        &self.state[2..2 + length]
+        file_in(&self.state, 0)
     }
 
     /// The plan as it is now.
+    ///
+    /// ```
+    /// use postman::{OpenPlan, Plan, Refusal};
+    ///
+    /// let file = [0x10, 0x40, 0x20, 0x01, 0x40, 0x01, 0x41, 0x00, 0x00, 0x03];
+    /// assert_eq!(OpenPlan::open(&file)?.plan(), Plan::read(&file)?);
+    /// # Ok::<(), Refusal>(())
+    /// ```
     pub fn plan(&self) -> Plan {
         Plan::read(self.file()).expect("the file of an open plan reads")
     }
 
     /// What [`plan_call_at`](crate::plan_call_at) answers for the plan as it is now. Refuses with 9 to 12, 19 and 20.
+    ///
+    /// ```
+    /// use postman::{Departure, OpenPlan, Refusal};
+    ///
+    /// let open = OpenPlan::open(&[0x10, 0x40, 0x20, 0x01, 0x40, 0x01, 0x41, 0x00, 0x00, 0x03])?;
+    /// assert_eq!(open.ask(10, &[], Departure { weekday: 0, minute: 480 })?.cost, 8);
+    /// # Ok::<(), Refusal>(())
+    /// ```
     pub fn ask(&self, budget: u64, windows: &[Window], departure: Departure) -> Result<Answer, Refusal> {
         let numbers = numbers_of(windows);
         let Departure { weekday, minute } = departure;
         answered(|sheet, answer, multipliers| {
-            raw::ask(&self.state, budget, &numbers, weekday, minute, sheet, answer, multipliers)
+            raw::ask(&*self.state, budget, &numbers, weekday, minute, sheet, answer, multipliers)
         })
+    }
+
+    /// The plan and its marks as bytes, to be kept; `include/postman.h` says what they are.
+    ///
+    /// ```
+    /// use postman::{OpenPlan, Refusal, Standing};
+    ///
+    /// let mut open = OpenPlan::open(&[0x10, 0x40, 0x20, 0x01, 0x40, 0x01, 0x41, 0x00, 0x00, 0x03])?;
+    /// open.mark(2)?;
+    /// open.change(1, 4, 0, Standing::Optional)?;
+    /// let mut kept = OpenPlan::from_bytes(open.as_bytes())?;
+    /// assert_eq!(kept, open);
+    /// kept.return_to(2)?;
+    /// assert_eq!(kept.plan().arcs[1].cost, 3);
+    /// # Ok::<(), Refusal>(())
+    /// ```
+    pub fn as_bytes(&self) -> &[u8; OPEN_BYTES] {
+        &self.state
+    }
+
+    /// The plan and its marks that [`as_bytes`](OpenPlan::as_bytes) gave. The files of the plan and of all marks that are set have to read: refuses with 1
+    /// to 7 and 13.
+    ///
+    /// ```
+    /// use postman::limits::OPEN_BYTES;
+    /// use postman::{OpenPlan, Refusal};
+    ///
+    /// assert_eq!(OpenPlan::from_bytes(&[0; OPEN_BYTES]), Err(Refusal::Torn));
+    /// ```
+    pub fn from_bytes(state: &[u8; OPEN_BYTES]) -> Result<OpenPlan, Refusal> {
+        Plan::read(file_in(state, 0))?;
+        let marks = (1..=MARKS).map(|i| file_in(state, i)).filter(|file| !file.is_empty());
+        marks.map(Plan::read).collect::<Result<Vec<Plan>, Refusal>>()?;
+        Ok(OpenPlan { state: Box::new(*state) })
     }
 }
 
 #[cfg(test)]
 mod tests {
     use super::*;
-    use crate::limits::{LONGEST_FILE, MARKS};
-    use crate::plan_call_at;
+    use crate::{plan_call_at, Arc, Edition};
 
     const CASE_A: [u8; 10] = [0x10, 0x40, 0x20, 0x01, 0x40, 0x01, 0x41, 0x00, 0x00, 0x03];
     const NOON: Departure = Departure { weekday: 1, minute: 720 };
@@ -134,6 +235,60 @@ mod tests {
             assert_eq!(raw::mark(&mut state, 4), Err(Refusal::NoMark));
             assert_eq!(state, vec![byte; OPEN_BYTES]);
         }
+    }
+
+    /// A mark that is set where there is no plan holds none: it counts as never set, whatever it held before.
+    #[test]
+    fn a_mark_without_a_plan_is_not_set() {
+        let mut open = OpenPlan::open(&CASE_A).unwrap();
+        open.mark(1).unwrap();
+        let mut state = *open.as_bytes();
+        state[..2].fill(0);
+        assert_eq!(raw::mark(&mut state, 1), Ok(()));
+        assert_eq!(raw::return_to(&mut state, 1), Err(Refusal::NoMark));
+        assert_eq!(raw::change(&mut state, 0, 1, 1, 1), Err(Refusal::Torn));
+    }
+
+    /// A file's length above the longest file's counts as that, in the plan and in a mark; a return brings the length back as it is.
+    #[test]
+    fn lengths_above_the_longest_files() {
+        let file: Vec<u8> = longest_plan().write().unwrap();
+        assert_eq!(file.len(), LONGEST_FILE);
+        let open = OpenPlan::open(&file).unwrap();
+        for length in [LONGEST_FILE as u16 + 1, 4_096, u16::MAX] {
+            let mut state = *open.as_bytes();
+            state[..2].copy_from_slice(&length.to_be_bytes());
+            let mut long = OpenPlan::from_bytes(&state).unwrap();
+            assert_eq!((long.file(), long.plan()), (&file[..], open.plan()));
+            assert_eq!(long.ask(1, &[], NOON), open.ask(1, &[], NOON));
+            long.mark(3).unwrap();
+            assert_eq!(long.as_bytes()[4 * (2 + LONGEST_FILE)..][..2], length.to_be_bytes());
+            long.change(0, 9, 9, Standing::Required).unwrap();
+            assert_eq!(long.as_bytes()[..2], (LONGEST_FILE as u16).to_be_bytes());
+            long.return_to(3).unwrap();
+            assert_eq!(long.as_bytes()[..2], length.to_be_bytes());
+            assert_eq!(long.file(), file);
+        }
+    }
+
+    /// A plan of 256 arcs in the second edition, whose file is the longest.
+    fn longest_plan() -> Plan {
+        let arcs = (0..256).map(|k| Arc::checked(k as u8 / 64, k as u8 % 64, k + 1, k + 1));
+        let back = Arc::new(63, 0, Standing::Optional, 1);
+        let arcs = arcs.take(255).chain([back]).collect();
+        Plan { edition: Edition::Second, vertices: 64, arcs }
+    }
+
+    /// Bytes of which a mark does not read are no open plan, since a return would bring that back.
+    #[test]
+    fn kept_marks_have_to_read() {
+        let mut open = OpenPlan::open(&CASE_A).unwrap();
+        open.mark(0).unwrap();
+        let mut state = *open.as_bytes();
+        state[2 + LONGEST_FILE + 2] = 0x30;
+        assert_eq!(OpenPlan::from_bytes(&state), Err(Refusal::Edition));
+        state[2 + LONGEST_FILE..][..2].fill(0);
+        assert!(OpenPlan::from_bytes(&state).is_ok());
     }
 
     #[test]

@@ -4,6 +4,17 @@ use crate::limits::{LONGEST_FILE, MOST_ARCS, RECORD_BYTES};
 use crate::{raw, Edition, Refusal};
 
 /// What may be done with an arc.
+///
+/// ```
+/// use postman::{short_call, Arc, Edition, Plan, Refusal, Standing};
+///
+/// let drive = |back| {
+///     let arcs = vec![Arc::new(0, 1, Standing::Required, 5), Arc::new(1, 0, back, 3)];
+///     short_call(&Plan { edition: Edition::First, vertices: 2, arcs }.write()?).map(|answer| answer.drive)
+/// };
+/// assert_eq!(drive(Standing::Optional), Ok(vec![0, 1]));
+/// assert_eq!(drive(Standing::Closed), Err(Refusal::CutOff));
+/// ```
 #[derive(Clone, Copy, PartialEq, Eq, PartialOrd, Ord, Hash, Debug, Default)]
 pub enum Standing {
     /// It may be driven.
@@ -34,12 +45,23 @@ impl Standing {
     }
 
     /// The standing's number, from 0 to 2.
+    ///
+    /// ```
+    /// assert_eq!(postman::Standing::Closed.number(), 2);
+    /// ```
     pub fn number(self) -> u8 {
         self as u8
     }
 }
 
 /// A street that can be driven in one direction.
+///
+/// ```
+/// use postman::{Arc, Standing};
+///
+/// let arc = Arc { tail: 0, head: 1, standing: Standing::Required, cost: 5, checking: 9 };
+/// assert_eq!(arc, Arc::checked(0, 1, 5, 9));
+/// ```
 #[derive(Clone, Copy, PartialEq, Eq, Hash, Debug)]
 pub struct Arc {
     /// The vertex at which it begins.
@@ -51,7 +73,7 @@ pub struct Arc {
     /// What it costs to drive it. It may be 0, but not in a required arc of the first edition.
     pub cost: u16,
     /// What the one pass costs on which a required arc is checked, 1 or more; it may be below the cost or above it. 0 in all other arcs.
-    pub service: u16,
+    pub checking: u16,
 }
 
 impl Arc {
@@ -60,33 +82,51 @@ impl Arc {
     /// ```
     /// use postman::{Arc, Standing};
     ///
-    /// assert_eq!(Arc::new(0, 1, Standing::Required, 5).service, 5);
-    /// assert_eq!(Arc::new(0, 1, Standing::Optional, 5).service, 0);
+    /// assert_eq!(Arc::new(0, 1, Standing::Required, 5).checking, 5);
+    /// assert_eq!(Arc::new(0, 1, Standing::Optional, 5).checking, 0);
     /// ```
     pub fn new(tail: u8, head: u8, standing: Standing, cost: u16) -> Arc {
-        let service = if standing == Standing::Required { cost } else { 0 };
-        Arc { tail, head, standing, cost, service }
+        let checking = if standing == Standing::Required { cost } else { 0 };
+        Arc { tail, head, standing, cost, checking }
     }
 
-    /// A required arc whose checking pass costs `service`. It takes the second edition.
-    pub fn checked(tail: u8, head: u8, cost: u16, service: u16) -> Arc {
-        Arc { tail, head, standing: Standing::Required, cost, service }
+    /// A required arc whose checking pass costs `checking`. It takes the second edition.
+    ///
+    /// ```
+    /// use postman::{Arc, Edition, Plan, Refusal};
+    ///
+    /// let plan = |edition| Plan { edition, vertices: 1, arcs: vec![Arc::checked(0, 0, 5, 9)] };
+    /// assert!(plan(Edition::Second).write().is_ok());
+    /// assert_eq!(plan(Edition::First).write(), Err(Refusal::Unpriced));
+    /// ```
+    pub fn checked(tail: u8, head: u8, cost: u16, checking: u16) -> Arc {
+        Arc { tail, head, standing: Standing::Required, cost, checking }
     }
 
     fn to_record(self) -> [u8; RECORD_BYTES] {
-        let ([cost_high, cost_low], [service_high, service_low]) =
-            (self.cost.to_be_bytes(), self.service.to_be_bytes());
-        [self.tail, self.head, self.standing.number(), cost_high, cost_low, service_high, service_low]
+        let ([cost_high, cost_low], [checking_high, checking_low]) =
+            (self.cost.to_be_bytes(), self.checking.to_be_bytes());
+        [self.tail, self.head, self.standing.number(), cost_high, cost_low, checking_high, checking_low]
     }
 
     fn from_record(record: &[u8]) -> Arc {
         let standing = Standing::from_number(record[2]).expect("a file with another standing is refused");
         let number = |high, low| u16::from_be_bytes([record[high], record[low]]);
-        Arc { tail: record[0], head: record[1], standing, cost: number(3, 4), service: number(5, 6) }
+        Arc { tail: record[0], head: record[1], standing, cost: number(3, 4), checking: number(5, 6) }
     }
 }
 
 /// A directed graph. Arcs go by their index.
+///
+/// ```
+/// use postman::{judge, Arc, Edition, Plan, Refusal, Standing};
+///
+/// // Two streets between the same two corners: the drive takes the second one back.
+/// let may = |cost| Arc::new(1, 0, Standing::Optional, cost);
+/// let plan = Plan { edition: Edition::First, vertices: 2, arcs: vec![Arc::new(0, 1, Standing::Required, 5), may(9), may(3)] };
+/// assert_eq!(judge(&plan.write()?, &[0, 2]), Ok(8));
+/// # Ok::<(), Refusal>(())
+/// ```
 #[derive(Clone, PartialEq, Eq, Hash, Debug)]
 pub struct Plan {
     /// The edition of its file.
@@ -198,28 +238,28 @@ mod tests {
         }
     }
 
-    /// A service cost of 0 in a required arc, or another in any other arc; and in the first edition any but the cost.
+    /// A checking cost of 0 in a required arc, or another in any other arc; and in the first edition any but the cost.
     #[test]
-    fn wrong_service_costs_are_refused() {
+    fn wrong_checking_costs_are_refused() {
         let of = |edition, arc| Plan { edition, ..plan(2, vec![arc]) }.write().err();
         for edition in [Edition::First, Edition::Second] {
             for arc in
-                [Arc::checked(0, 1, 5, 0), Arc { service: 5, ..arc(0, 1, 5) }, Arc { service: 1, ..arc(0, 1, 5) }]
+                [Arc::checked(0, 1, 5, 0), Arc { checking: 5, ..arc(0, 1, 5) }, Arc { checking: 1, ..arc(0, 1, 5) }]
             {
                 assert_eq!(of(edition, arc), Some(Refusal::Unpriced));
             }
             assert_eq!(of(edition, Arc::checked(0, 1, 5, 5)), None);
             assert_eq!(of(edition, arc(0, 1, 5)), None);
         }
-        for service in [1, 4, 6, 65_535] {
-            assert_eq!(of(Edition::First, Arc::checked(0, 1, 5, service)), Some(Refusal::Unpriced));
-            assert_eq!(of(Edition::Second, Arc::checked(0, 1, 5, service)), None);
+        for checking in [1, 4, 6, 65_535] {
+            assert_eq!(of(Edition::First, Arc::checked(0, 1, 5, checking)), Some(Refusal::Unpriced));
+            assert_eq!(of(Edition::Second, Arc::checked(0, 1, 5, checking)), None);
         }
     }
 
-    /// Two arcs that agree but for their service costs are two arcs.
+    /// Two arcs that agree but for their checking costs are two arcs.
     #[test]
-    fn arcs_may_differ_in_their_service_costs() {
+    fn arcs_may_differ_in_their_checking_costs() {
         let of = |second| Plan { edition: Edition::Second, ..plan(2, vec![Arc::checked(0, 1, 5, 9), second]) }.write();
         assert_eq!(of(Arc::checked(0, 1, 5, 8)).map(|file| file.len()), Ok(14));
         assert_eq!(of(Arc::checked(0, 1, 5, 9)), Err(Refusal::Repeated));

@@ -170,6 +170,16 @@ pub fn plan_call_at(
 }
 
 /// What a car lends to the call for two.
+///
+/// ```
+/// use postman::limits::{ANSWER_WORDS, MULTIPLIERS, SHEET_PLACES};
+/// use postman::raw::Car;
+///
+/// let mut sheet = vec![0; SHEET_PLACES];
+/// let (mut answer, mut multipliers) = ([0; ANSWER_WORDS], [0; MULTIPLIERS]);
+/// let car = Car { marks: &[1, 0], budget: 10, sheet: &mut sheet, answer: &mut answer, multipliers: &mut multipliers };
+/// assert_eq!(car.marks.len(), 2);
+/// ```
 pub struct Car<'a> {
     /// A byte for each arc: 1 if the car must drive it, else 0.
     pub marks: &'a [u8],
@@ -190,7 +200,7 @@ fn of_car(number: usize) -> Result<(), Refusal> {
 }
 
 /// The call for two cars on lent slices: [`plan_call`] for each, on a plan of its own in which the arcs with the mark 1 must be driven, at their
-/// service cost if they have one, else at their cost, and those with the mark 0 may be. Refuses both with 1 to 7 and 13; else each car is answered or
+/// checking cost if they have one, else at their cost, and those with the mark 0 may be. Refuses both with 1 to 7 and 13; else each car is answered or
 /// refused by itself, with 8, 9, 18 and 10 to 12, in this order.
 ///
 /// ```
@@ -265,6 +275,17 @@ pub fn open(plan: &[u8], state: &mut [u8]) -> Result<(), Refusal> {
 /// Changes one arc of an open plan: its cost, its checking cost and its standing. Refuses with 14 for an arc that the plan does not have, else with
 /// what writing the changed plan in its edition is refused for: 6, 7 or 13. Any bytes are a state; one that is too short is refused with 8 first, and
 /// one whose plan does not read for what reading refuses.
+///
+/// ```
+/// use postman::limits::OPEN_BYTES;
+/// use postman::{raw, Refusal};
+///
+/// let mut state = [0; OPEN_BYTES];
+/// raw::open(&[0x10, 0x40, 0x20, 0x01, 0x40, 0x01, 0x41, 0x00, 0x00, 0x03], &mut state)?;
+/// assert_eq!(raw::change(&mut state, 1, 4, 0, 0), Ok(()));
+/// assert_eq!(raw::change(&mut state, 2, 4, 0, 0), Err(Refusal::Foreign));
+/// # Ok::<(), Refusal>(())
+/// ```
 pub fn change(state: &mut [u8], arc: u32, cost: u16, checking: u16, standing: u8) -> Result<(), Refusal> {
     // SAFETY: as in `read_plan`.
     unless_refused(unsafe { ffi::postman_change(state.as_mut_ptr(), state.len(), arc, cost, checking, standing) })
@@ -272,18 +293,53 @@ pub fn change(state: &mut [u8], arc: u32, cost: u16, checking: u16, standing: u8
 }
 
 /// Sets a mark of an open plan: it holds the plan as it is now. Refuses with 21 above 3, and with 8 as [`change`] does.
+///
+/// ```
+/// use postman::limits::OPEN_BYTES;
+/// use postman::{raw, Refusal};
+///
+/// let mut state = [0; OPEN_BYTES];
+/// raw::open(&[0x10, 0x40, 0x20, 0x01, 0x40, 0x01, 0x41, 0x00, 0x00, 0x03], &mut state)?;
+/// assert_eq!(raw::mark(&mut state, 3), Ok(()));
+/// assert_eq!(raw::mark(&mut state, 4), Err(Refusal::NoMark));
+/// # Ok::<(), Refusal>(())
+/// ```
 pub fn mark(state: &mut [u8], mark: u32) -> Result<(), Refusal> {
     // SAFETY: as in `read_plan`.
     unless_refused(unsafe { ffi::postman_mark(state.as_mut_ptr(), state.len(), mark) }).map(|_| ())
 }
 
 /// Returns to a mark of an open plan, and keeps all marks. Refuses with 21 above 3 and for a mark that was never set, and with 8 as [`change`] does.
+///
+/// ```
+/// use postman::limits::OPEN_BYTES;
+/// use postman::{raw, Refusal};
+///
+/// let mut state = [0; OPEN_BYTES];
+/// raw::open(&[0x10, 0x40, 0x20, 0x01, 0x40, 0x01, 0x41, 0x00, 0x00, 0x03], &mut state)?;
+/// assert_eq!(raw::return_to(&mut state, 0), Err(Refusal::NoMark));
+/// raw::mark(&mut state, 0)?;
+/// assert_eq!(raw::return_to(&mut state, 0), Ok(()));
+/// # Ok::<(), Refusal>(())
+/// ```
 pub fn return_to(state: &mut [u8], mark: u32) -> Result<(), Refusal> {
     // SAFETY: as in `read_plan`.
     unless_refused(unsafe { ffi::postman_return(state.as_mut_ptr(), state.len(), mark) }).map(|_| ())
 }
 
 /// The plan call at a departure for an open plan: what [`plan_call_at`] answers for its file. Refuses with 8 first if `state` is too short.
+///
+/// ```
+/// use postman::limits::{ANSWER_WORDS, COST, OPEN_BYTES, SHEET_PLACES};
+/// use postman::{raw, Refusal};
+///
+/// let mut state = [0; OPEN_BYTES];
+/// raw::open(&[0x10, 0x40, 0x20, 0x01, 0x40, 0x01, 0x41, 0x00, 0x00, 0x03], &mut state)?;
+/// let (mut sheet, mut answer) = (vec![0; SHEET_PLACES], [0; ANSWER_WORDS]);
+/// raw::ask(&state, 10, &[], 0, 480, &mut sheet, &mut answer, &mut [])?;
+/// assert_eq!(answer[COST], 8);
+/// # Ok::<(), Refusal>(())
+/// ```
 #[allow(clippy::too_many_arguments)]
 pub fn ask(
     state: &[u8],
@@ -318,6 +374,14 @@ pub fn ask(
 
 /// Makes `machine` a machine of districts with no district inside. It takes [`DISTRICTS_BYTES`](crate::limits::DISTRICTS_BYTES) bytes; later bytes are
 /// untouched, here and in [`enter`] and [`turn`]. A shorter one is refused with 8, before all else.
+///
+/// ```
+/// use postman::limits::DISTRICTS_BYTES;
+/// use postman::{raw, Refusal};
+///
+/// assert_eq!(raw::districts_start(&mut [1; DISTRICTS_BYTES]), Ok(()));
+/// assert_eq!(raw::districts_start(&mut [1; DISTRICTS_BYTES - 1]), Err(Refusal::ShortSheet));
+/// ```
 pub fn districts_start(machine: &mut [u8]) -> Result<(), Refusal> {
     // SAFETY: as in `read_plan`.
     unless_refused(unsafe { ffi::postman_districts_start(machine.as_mut_ptr(), machine.len()) }).map(|_| ())
@@ -325,6 +389,17 @@ pub fn districts_start(machine: &mut [u8]) -> Result<(), Refusal> {
 
 /// A district enters a machine at the back of the line, with the file `plan` and a budget: its place, the lowest that is free. Refuses with 1 to 7, 9 to
 /// 13, and 22 where eight districts are unfinished; then nothing moves.
+///
+/// ```
+/// use postman::limits::DISTRICTS_BYTES;
+/// use postman::{raw, Refusal};
+///
+/// let mut machine = [0; DISTRICTS_BYTES];
+/// raw::districts_start(&mut machine)?;
+/// assert_eq!(raw::enter(&mut machine, &[0x10, 0x40, 0x20, 0x01, 0x40, 0x01, 0x41, 0x00, 0x00, 0x03], 10), Ok(0));
+/// assert_eq!(raw::enter(&mut machine, &[], 10), Err(Refusal::Torn));
+/// # Ok::<(), Refusal>(())
+/// ```
 pub fn enter(machine: &mut [u8], plan: &[u8], budget: u64) -> Result<usize, Refusal> {
     // SAFETY: as in `read_plan`.
     unless_refused(unsafe {
@@ -341,6 +416,20 @@ pub fn enter(machine: &mut [u8], plan: &[u8], budget: u64) -> Result<usize, Refu
 ///
 /// [`FINISHED`]: crate::limits::FINISHED
 /// [`NO_DISTRICT`]: crate::limits::NO_DISTRICT
+///
+/// ```
+/// use postman::limits::{DISTRICTS_BYTES, FINISHED, NO_DISTRICT, SHEET_PLACES};
+/// use postman::{raw, Refusal};
+///
+/// let mut machine = [0; DISTRICTS_BYTES];
+/// raw::districts_start(&mut machine)?;
+/// raw::enter(&mut machine, &[0x10, 0x40, 0x20, 0x01, 0x40, 0x01, 0x41, 0x00, 0x00, 0x03], 10)?;
+/// let mut sheet = vec![0; SHEET_PLACES];
+/// assert_eq!(raw::turn(&mut machine, &mut sheet, &mut [], &mut []), Ok(FINISHED));
+/// assert_eq!(sheet[..2], [0, 1]);
+/// assert_eq!(raw::turn(&mut machine, &mut sheet, &mut [], &mut []), Ok(NO_DISTRICT));
+/// # Ok::<(), Refusal>(())
+/// ```
 pub fn turn(
     machine: &mut [u8],
     sheet: &mut [u16],

@@ -16,6 +16,7 @@ use std::fmt;
 /// assert_eq!(refusal.to_string(), "refusal 2, edition: the edition is neither 1 nor 2");
 /// ```
 #[derive(Clone, Copy, PartialEq, Eq, PartialOrd, Ord, Hash, Debug)]
+#[non_exhaustive]
 pub enum Refusal {
     /// The file has under 3 bytes, or fewer than its arcs need.
     Torn = 1,
@@ -27,7 +28,7 @@ pub enum Refusal {
     Margin = 4,
     /// An arc's tail or head is no vertex.
     OffSheet = 5,
-    /// A required arc's service cost is 0, or another arc's is not; or one cannot be written in edition 1. A required arc of edition 1 that costs 0 has none.
+    /// A required arc's checking cost is 0, or another arc's is not; or one cannot be written in edition 1. A required arc of edition 1 that costs 0 has none.
     Unpriced = 6,
     /// An arc's standing is above 2.
     Standing = 7,
@@ -91,6 +92,10 @@ impl Refusal {
     ];
 
     /// The refusal's number.
+    ///
+    /// ```
+    /// assert_eq!(postman::Refusal::CutOff.number(), 12);
+    /// ```
     pub fn number(self) -> u32 {
         self as u32
     }
@@ -108,6 +113,10 @@ impl Refusal {
     }
 
     /// The refusal's trade word.
+    ///
+    /// ```
+    /// assert_eq!(postman::Refusal::CutOff.word(), "cut off");
+    /// ```
     pub fn word(self) -> &'static str {
         self.words().0
     }
@@ -122,7 +131,7 @@ impl Refusal {
             }
             Refusal::Margin => ("margin", "the file has more bytes than its arcs need, or a fill bit is 1"),
             Refusal::OffSheet => ("off sheet", "an arc's tail or head is no vertex"),
-            Refusal::Unpriced => ("unpriced", "an arc's service cost is wrong"),
+            Refusal::Unpriced => ("unpriced", "an arc's checking cost is wrong"),
             Refusal::Standing => ("standing", "an arc's standing is above 2"),
             Refusal::ShortSheet => ("short sheet", "too few records, bytes, places or distances are lent"),
             Refusal::Budget => ("budget", "the budget is 0 or above 1,000,000"),

@@ -3,6 +3,16 @@
 use crate::{raw, Refusal};
 
 /// The number of trees of a plan that is not refused.
+///
+/// ```
+/// use postman::{tree_count, TreeCount};
+///
+/// match tree_count(&[0x10, 0x40, 0x20, 0x01, 0x40, 0x01, 0x41, 0x00, 0x00, 0x03]) {
+///     Ok(TreeCount::Known(count)) => assert_eq!(count, 1),
+///     Ok(TreeCount::Above) => panic!("too many to be told"),
+///     Err(refusal) => panic!("{refusal}"),
+/// }
+/// ```
 #[derive(Clone, Copy, PartialEq, Eq, Debug)]
 pub enum TreeCount {
     /// The exact number.

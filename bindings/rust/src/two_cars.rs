@@ -4,6 +4,16 @@ use crate::answer::Lent;
 use crate::{raw, Answer, Refusal};
 
 /// One of two cars on the streets of a plan.
+///
+/// ```
+/// use postman::{two_cars, Car, Refusal};
+///
+/// let both = Car { marks: &[true, true], budget: 10 };
+/// let [first, second] = two_cars(&[0x10, 0x40, 0x20, 0x01, 0x40, 0x01, 0x41, 0x00, 0x00, 0x03], both, Car { budget: 0, ..both })?;
+/// assert_eq!(first?.cost, 8);
+/// assert_eq!(second, Err(Refusal::Budget));
+/// # Ok::<(), Refusal>(())
+/// ```
 #[derive(Clone, Copy, PartialEq, Eq, Debug)]
 pub struct Car<'a> {
     /// For each arc of the plan, in its order, whether the car must drive it. The plan's own required arcs play no part, and closed arcs may not be
@@ -14,7 +24,7 @@ pub struct Car<'a> {
 }
 
 /// Lays a drive for each of two cars on the streets of one plan file, whose distances are computed once. A car is answered what
-/// [`plan_call`](crate::plan_call) answers for a plan in which the marked arcs, and no others, must be driven: each is checked at its service cost if it
+/// [`plan_call`](crate::plan_call) answers for a plan in which the marked arcs, and no others, must be driven: each is checked at its checking cost if it
 /// has one, else at its cost, even 0. Neither car feels what the other brings.
 ///
 /// Refuses both with 1 to 7 and 13. Else each is answered, or refused by itself, with 9, 18 and 10 to 12, in this order.

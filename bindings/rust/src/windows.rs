@@ -4,6 +4,16 @@ use crate::answer::answered;
 use crate::{raw, Answer, Refusal};
 
 /// A time in which an arc is shut: on a weekday, from a minute of the day on and before another.
+///
+/// ```
+/// use postman::{plan_call_at, Departure, Refusal, Window};
+///
+/// // The only way back is shut on Wednesday morning.
+/// let file = [0x10, 0x40, 0x20, 0x01, 0x40, 0x01, 0x41, 0x00, 0x00, 0x03];
+/// let window = Window { arc: 1, weekday: 2, from: 480, to: 720 };
+/// let at = |minute| plan_call_at(&file, 10, &[window], Departure { weekday: 2, minute }).err();
+/// assert_eq!((at(479), at(480), at(719), at(720)), (None, Some(Refusal::CutOff), Some(Refusal::CutOff), None));
+/// ```
 #[derive(Clone, Copy, PartialEq, Eq, Hash, Debug)]
 pub struct Window {
     /// The arc's number, of whatever standing it is.
@@ -17,6 +27,15 @@ pub struct Window {
 }
 
 /// When the drive begins. Later minutes play no part.
+///
+/// ```
+/// use postman::{plan_call_at, Departure, Refusal};
+///
+/// let file = [0x10, 0x40, 0x20, 0x01, 0x40, 0x01, 0x41, 0x00, 0x00, 0x03];
+/// let last = Departure { weekday: 6, minute: 1_439 };
+/// assert!(plan_call_at(&file, 10, &[], last).is_ok());
+/// assert_eq!(plan_call_at(&file, 10, &[], Departure { weekday: 7, ..last }), Err(Refusal::BadWindow));
+/// ```
 #[derive(Clone, Copy, PartialEq, Eq, Hash, Debug)]
 pub struct Departure {
     /// 0, Monday, to 6.

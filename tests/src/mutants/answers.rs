@@ -38,7 +38,7 @@ fn also_standing(plan: &[u8]) -> bool {
 
 /// Whether two arcs agree but for their checking costs.
 fn has_twins(plan: &[u8]) -> bool {
-    let arcs: Vec<Arc> = parse(plan).arcs.iter().map(|a| Arc { service: 0, ..*a }).collect();
+    let arcs: Vec<Arc> = parse(plan).arcs.iter().map(|a| Arc { checking: 0, ..*a }).collect();
     (0..arcs.len()).any(|k| arcs[..k].contains(&arcs[k]))
 }
 
@@ -83,7 +83,7 @@ pub fn mutants() -> Vec<Mutant<dyn Planner>> {
             let a = right(p, b, s)?;
             let arcs = parse(p).arcs;
             let pass = |&k: &u16| match arcs[usize::from(k)] {
-                Arc { standing: REQUIRED, service, .. } => u64::from(service),
+                Arc { standing: REQUIRED, checking, .. } => u64::from(checking),
                 Arc { cost, .. } => u64::from(cost),
             };
             Ok(Answer { cost: s[..a.places].iter().map(pass).sum(), ..a })
@@ -181,14 +181,14 @@ pub fn mutants() -> Vec<Mutant<dyn Planner>> {
     add("checking cost of other arcs untested", &[Refusal, Stated], |p, b, s| {
         repriced(p, b, s, |a| {
             if a.standing != REQUIRED {
-                a.service = 0;
+                a.checking = 0;
             }
         })
     });
     add("checking cost of must arcs untested", &[Refusal, Stated], |p, b, s| {
         repriced(p, b, s, |a| {
-            if a.standing == REQUIRED && a.service == 0 {
-                a.service = a.cost;
+            if a.standing == REQUIRED && a.checking == 0 {
+                a.checking = a.cost;
             }
         })
     });

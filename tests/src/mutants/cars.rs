@@ -199,25 +199,25 @@ const MUTANTS: [(&str, &[Property], Call); 38] = [
     ("the plain cost, where there is a checking cost", &[Stated, DriveCost, OwnMarks], |p, a, b| {
         over(p, a, b, |plan, marks| {
             altered(plan, marks, |_, made| match made.standing {
-                REQUIRED => Arc { service: made.cost, ..made },
+                REQUIRED => Arc { checking: made.cost, ..made },
                 _ => made,
             })
         })
     }),
     ("no checking cost where the plan has none", &[Stated, DriveCost, MarkedByHand], |p, a, b| {
-        over(p, a, b, |plan, marks| altered(plan, marks, |arc, made| Arc { service: arc.service, ..made }))
+        over(p, a, b, |plan, marks| altered(plan, marks, |arc, made| Arc { checking: arc.checking, ..made }))
     }),
     ("a free arc is checked at 1", &[Stated, DriveCost], |p, a, b| {
         over(p, a, b, |plan, marks| {
             altered(plan, marks, |_, made| match made.standing {
-                REQUIRED => Arc { service: made.service.max(1), ..made },
+                REQUIRED => Arc { checking: made.checking.max(1), ..made },
                 _ => made,
             })
         })
     }),
     ("a free arc cannot be marked", &[Refusal, Stated, Drive], |p, a, b| {
         over(p, a, b, |plan, marks| {
-            altered(plan, marks, |_, made| match made.service {
+            altered(plan, marks, |_, made| match made.checking {
                 0 if made.standing == REQUIRED => Arc { standing: OPTIONAL, ..made },
                 _ => made,
             })
@@ -234,7 +234,7 @@ const MUTANTS: [(&str, &[Property], Call); 38] = [
     ("an unmarked must arc is passed at its checking cost", &[Stated, LeastCost, MarkedByHand], |p, a, b| {
         over(p, a, b, |plan, marks| {
             altered(plan, marks, |arc, made| match (arc.standing, made.standing) {
-                (REQUIRED, OPTIONAL) => Arc { cost: arc.service, ..made },
+                (REQUIRED, OPTIONAL) => Arc { cost: arc.checking, ..made },
                 _ => made,
             })
         })

@@ -109,14 +109,14 @@ pub fn mutants() -> Vec<Mutant<dyn Codec>> {
             result => result,
         }),
         mutant("repeated whatever the standing", &[Writing], read, |e, n, r, b| {
-            let twins = has_twins(r, |a| Arc { standing: 0, service: 0, ..*a });
+            let twins = has_twins(r, |a| Arc { standing: 0, checking: 0, ..*a });
             match Yardstick.write(e, n, r, b) {
                 Ok(_) if twins => Err(refusal::REPEATED),
                 result => result,
             }
         }),
         mutant("repeated whatever the checking cost", &[Writing], read, |e, n, r, b| {
-            let twins = has_twins(r, |a| Arc { service: 0, ..*a });
+            let twins = has_twins(r, |a| Arc { checking: 0, ..*a });
             match Yardstick.write(e, n, r, b) {
                 Ok(_) if twins => Err(refusal::REPEATED),
                 result => result,
@@ -185,7 +185,7 @@ pub fn mutants() -> Vec<Mutant<dyn Codec>> {
             |b, r| {
                 let (edition, n, m) = Yardstick.read(b, r)?;
                 if edition == 1 {
-                    r[..m].iter_mut().for_each(|a| a.service = 0);
+                    r[..m].iter_mut().for_each(|a| a.checking = 0);
                 }
                 Ok((edition, n, m))
             },
@@ -197,7 +197,7 @@ pub fn mutants() -> Vec<Mutant<dyn Codec>> {
             |b, r| {
                 let (edition, n, m) = Yardstick.read(b, r)?;
                 if edition == 1 {
-                    r[..m].iter_mut().for_each(|a| a.service = a.cost);
+                    r[..m].iter_mut().for_each(|a| a.checking = a.cost);
                 }
                 Ok((edition, n, m))
             },
@@ -233,12 +233,12 @@ pub fn mutants() -> Vec<Mutant<dyn Codec>> {
         }),
         mutant("checking cost of other arcs untested in writing", &[Writing, Stated], read, |e, n, r, b| {
             let tested: Vec<Arc> =
-                r.iter().map(|a| if a.standing == 1 { *a } else { Arc { service: 0, ..*a } }).collect();
+                r.iter().map(|a| if a.standing == 1 { *a } else { Arc { checking: 0, ..*a } }).collect();
             Yardstick.write(e, n, &tested, b)
         }),
         mutant("another checking cost lost in edition 1", &[Writing, Stated], read, |e, n, r, b| {
             let lost =
-                |a: &Arc| Arc { service: if a.standing == 1 && a.service > 0 { a.cost } else { a.service }, ..*a };
+                |a: &Arc| Arc { checking: if a.standing == 1 && a.checking > 0 { a.cost } else { a.checking }, ..*a };
             let lost: Vec<Arc> = r.iter().map(|a| if e == 1 { lost(a) } else { *a }).collect();
             Yardstick.write(e, n, &lost, b)
         }),

@@ -130,7 +130,7 @@ const MUTANTS: [(&str, &[Property], Call); 27] = [
     ("a shut must arc is dropped", &[Refusal, Stated], |p, b, w, t, s| match right(p, b, w, t, s) {
         Err(refusal::MUST_SHUT) => {
             let mut plan = plan_at(read(p)?, w, t);
-            plan.arcs.iter_mut().filter(|a| a.standing == CLOSED).for_each(|a| a.service = 0);
+            plan.arcs.iter_mut().filter(|a| a.standing == CLOSED).for_each(|a| a.checking = 0);
             Yardstick.plan_call(&file_of(&plan), b, s)
         }
         result => result,

@@ -142,7 +142,7 @@ const TAKERS: [(&str, &[Property], Take); 23] = [
         c => right(s, c),
     }),
     ("14 after 7", &[CallRefusal, Stated], |s, c| match c {
-        Call::Change(change) if change.standing > 2 && change.service == 0 => Err(refusal::STANDING),
+        Call::Change(change) if change.standing > 2 && change.checking == 0 => Err(refusal::STANDING),
         c => right(s, c),
     }),
     ("7 before 6", &[CallRefusal, Stated], |s, c| match c {
@@ -165,7 +165,7 @@ const TAKERS: [(&str, &[Property], Take); 23] = [
     }),
     ("a must arc is checked at its cost", &[OpenFile], |s, c| {
         instead(s, c, |_, change| match change.standing {
-            REQUIRED => Change { service: change.cost.max(1), ..change },
+            REQUIRED => Change { checking: change.cost.max(1), ..change },
             _ => change,
         })
     }),
@@ -242,7 +242,7 @@ const TAKERS: [(&str, &[Property], Take); 23] = [
         if let Call::Return(_) = c {
             let mut tried = s.plan.clone();
             for (arc, was) in tried.arcs.iter_mut().zip(before.arcs) {
-                (arc.standing, arc.service) = (was.standing, was.service);
+                (arc.standing, arc.checking) = (was.standing, was.checking);
             }
             s.plan = tried;
         }

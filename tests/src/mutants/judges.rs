@@ -100,11 +100,11 @@ pub fn mutants() -> Vec<Mutant<dyn Judge>> {
         judge_answer(p, w).map(|_| arcs(p, w).iter().map(|a| u64::from(a.cost)).sum())
     });
     add("every pass of a must arc is a checking pass", &[Judgement, Stated, WrittenPasses], |p, w| {
-        let pass = |a: &Arc| u64::from(if a.standing == REQUIRED { a.service } else { a.cost });
+        let pass = |a: &Arc| u64::from(if a.standing == REQUIRED { a.checking } else { a.cost });
         judge_answer(p, w).map(|_| arcs(p, w).iter().map(pass).sum())
     });
     add("an arc is paid once", &[Judgement, Stated, FloorBelowJudged], |p, w| {
-        let pass = |a: &Arc| u64::from(if a.standing == REQUIRED { a.service } else { a.cost });
+        let pass = |a: &Arc| u64::from(if a.standing == REQUIRED { a.checking } else { a.cost });
         let passed = |&k: &u16| w.contains(&k);
         judge_answer(p, w).map(|_| {
             let arcs = parse(p).arcs;

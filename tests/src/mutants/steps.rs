@@ -132,26 +132,26 @@ wrong_steps! {
 
     EveryPassChecked violates [LeastCost, DriveCost, Optimum, CheckingCosts, Stated] {
         fn length(&self, arc: &Arc) -> Option<u64> {
-            let pass = if arc.standing == REQUIRED { arc.service } else { arc.cost };
+            let pass = if arc.standing == REQUIRED { arc.checking } else { arc.cost };
             (arc.standing != CLOSED).then_some(pass.into())
         }
     }
 
     RequiredCostPlain violates [LeastCost, DriveCost, Optimum, FloorHolds, FloorEquation, CheckingCosts, Stated] {
-        fn service(&self, arc: &Arc) -> u16 {
+        fn checking(&self, arc: &Arc) -> u16 {
             arc.cost
         }
     }
 
     CheckedAndPassed violates [LeastCost, DriveCost, Optimum, FloorHolds, Stated] {
-        fn service(&self, arc: &Arc) -> u16 {
-            arc.service.saturating_add(arc.cost)
+        fn checking(&self, arc: &Arc) -> u16 {
+            arc.checking.saturating_add(arc.cost)
         }
     }
 
     CheckedAtNoLessThanItsCost violates [LeastCost, DriveCost, Stated] {
-        fn service(&self, arc: &Arc) -> u16 {
-            arc.service.max(arc.cost)
+        fn checking(&self, arc: &Arc) -> u16 {
+            arc.checking.max(arc.cost)
         }
     }
 

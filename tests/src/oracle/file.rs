@@ -41,12 +41,12 @@ pub fn parse(bytes: &[u8]) -> Plan {
         let byte = |from: usize, to: usize| number(&arc[from..to]) as u8;
         let cost = number(&arc[14..30]) as u16;
         // "In edition 1 a must arc's checking cost is its cost, any other arc's is 0."
-        let service = match (edition, &arc[12..14]) {
+        let checking = match (edition, &arc[12..14]) {
             (2, _) => number(&arc[30..]) as u16,
             (_, "01") => cost,
             _ => 0,
         };
-        Arc { tail: byte(0, 6), head: byte(6, 12), standing: byte(12, 14), cost, service }
+        Arc { tail: byte(0, 6), head: byte(6, 12), standing: byte(12, 14), cost, checking }
     });
     Plan { edition, n: number(&bits[4..11]), arcs: arcs.collect() }
 }
@@ -60,9 +60,9 @@ pub fn is_long_enough(bytes: &[u8]) -> bool {
 /// Whether the checking cost is a good one: there is one in a must arc and in no other, and in edition 1 it is the cost. A plain cost of 0 is good.
 fn is_priced(edition: u8, a: &Arc) -> bool {
     match (edition, a.standing == 1) {
-        (_, false) => a.service == 0,
-        (1, true) => a.service > 0 && a.service == a.cost,
-        (_, true) => a.service > 0,
+        (_, false) => a.checking == 0,
+        (1, true) => a.checking > 0 && a.checking == a.cost,
+        (_, true) => a.checking > 0,
     }
 }
 
@@ -74,7 +74,7 @@ fn arcs_refusal(edition: u8, n: usize, arcs: &[Arc]) -> Refusal {
         a if a.standing > 2 => 7,
         _ => 0,
     };
-    let mut sorted: Vec<_> = arcs.iter().map(|a| (a.tail, a.head, a.standing, a.cost, a.service)).collect();
+    let mut sorted: Vec<_> = arcs.iter().map(|a| (a.tail, a.head, a.standing, a.cost, a.checking)).collect();
     sorted.sort();
     let repeated = if sorted.windows(2).any(|pair| pair[0] == pair[1]) { 13 } else { 0 };
     arcs.iter().map(of_arc).find(|&number| number != 0).unwrap_or(repeated)
@@ -135,7 +135,7 @@ pub fn file_of(plan: &Plan) -> Vec<u8> {
         bits += &bits_of(a.standing.into(), 2);
         bits += &bits_of(a.cost.into(), 16);
         if plan.edition == 2 {
-            bits += &bits_of(a.service.into(), 16);
+            bits += &bits_of(a.checking.into(), 16);
         }
     }
     while !bits.len().is_multiple_of(8) {

@@ -38,7 +38,7 @@ impl Graph {
         let links = thinned(&d, &required);
         let count = |v: usize, f: fn(&(usize, usize)) -> usize| ends.iter().filter(|e| f(e) == v).count() as i64;
         let imbalance = (0..n).map(|v| count(v, |e| e.1) - count(v, |e| e.0)).collect();
-        let required_cost = required_arcs.iter().map(|&k| u64::from(plan.arcs[k].service)).sum();
+        let required_cost = required_arcs.iter().map(|&k| u64::from(plan.arcs[k].checking)).sum();
         Graph { plan: plan.clone(), required_arcs, required, d, part, parts, links, imbalance, required_cost }
     }
 
@@ -140,7 +140,7 @@ pub fn judge(plan: &Plan, drive: &[u16]) -> Result<u64, String> {
     match required().find(|&k| !drive.contains(&(k as u16))) {
         Some(k) => Err(format!("required arc {k} does not occur")),
         None => {
-            Ok(required().map(|k| &plan.arcs[k]).fold(plain, |sum, a| sum - u64::from(a.cost) + u64::from(a.service)))
+            Ok(required().map(|k| &plan.arcs[k]).fold(plain, |sum, a| sum - u64::from(a.cost) + u64::from(a.checking)))
         }
     }
 }

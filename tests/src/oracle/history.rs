@@ -36,8 +36,8 @@ impl History {
                 Call::Change(change) if change.arc as usize == k => Some(*change),
                 _ => None,
             });
-            if let Some(Change { cost, service, standing, .. }) = latest {
-                (arc.cost, arc.service, arc.standing) = (cost, service, standing);
+            if let Some(Change { cost, checking, standing, .. }) = latest {
+                (arc.cost, arc.checking, arc.standing) = (cost, checking, standing);
             }
         }
         plan

@@ -43,5 +43,5 @@ pub fn judge_answer(bytes: &[u8], places: &[u16]) -> Result<u64, Refusal> {
     let plain: u64 = arcs.iter().zip(&passes).map(|(a, passes)| passes * u64::from(a.cost)).sum();
     let of_required =
         |cost: fn(&crate::plan::Arc) -> u16| -> u64 { required.iter().map(|&k| u64::from(cost(&arcs[k]))).sum() };
-    Ok(plain - of_required(|a| a.cost) + of_required(|a| a.service))
+    Ok(plain - of_required(|a| a.cost) + of_required(|a| a.checking))
 }

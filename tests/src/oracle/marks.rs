@@ -14,10 +14,10 @@ pub fn car_plan(plan: &Plan, marks: &[u8]) -> Plan {
     let marked = marked_arcs(marks);
     let of_car = |(k, a): (usize, &Arc)| match (a.standing, marked.contains(&k)) {
         (2, _) => *a,
-        (_, false) => Arc { standing: 0, service: 0, ..*a },
+        (_, false) => Arc { standing: 0, checking: 0, ..*a },
         (1, true) => *a,
         // "A marked arc that has no checking cost uses its plain cost, even 0."
-        (_, true) => Arc { standing: 1, service: a.cost, ..*a },
+        (_, true) => Arc { standing: 1, checking: a.cost, ..*a },
     };
     Plan { arcs: plan.arcs.iter().enumerate().map(of_car).collect(), ..plan.clone() }
 }

@@ -25,7 +25,7 @@ pub fn optimum(plan: &Plan) -> Option<u64> {
         }
         for (k, a) in plan.arcs.iter().enumerate().filter(|(_, a)| usize::from(a.tail) == v && a.standing != CLOSED) {
             let mark = required.iter().position(|&r| r == k).map_or(0, |bit| 1 << bit);
-            let pass = if passed | mark != passed { a.service } else { a.cost };
+            let pass = if passed | mark != passed { a.checking } else { a.cost };
             queue.push(Reverse((cost + u64::from(pass), a.head.into(), passed | mark)));
         }
     }

@@ -8,7 +8,7 @@ use crate::plan::Departure;
 pub struct Change {
     pub arc: u32,
     pub cost: u16,
-    pub service: u16,
+    pub checking: u16,
     pub standing: u8,
 }
 

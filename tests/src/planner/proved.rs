@@ -74,13 +74,13 @@ impl CarsCall for Proved {
 }
 
 fn to_bytes(a: &Arc) -> [u8; RECORD_BYTES] {
-    let ([cost_high, cost_low], [service_high, service_low]) = (a.cost.to_be_bytes(), a.service.to_be_bytes());
-    [a.tail, a.head, a.standing, cost_high, cost_low, service_high, service_low]
+    let ([cost_high, cost_low], [checking_high, checking_low]) = (a.cost.to_be_bytes(), a.checking.to_be_bytes());
+    [a.tail, a.head, a.standing, cost_high, cost_low, checking_high, checking_low]
 }
 
 fn from_bytes(b: &[u8]) -> Arc {
     let number = |high, low| u16::from_be_bytes([b[high], b[low]]);
-    Arc { tail: b[0], head: b[1], standing: b[2], cost: number(3, 4), service: number(5, 6) }
+    Arc { tail: b[0], head: b[1], standing: b[2], cost: number(3, 4), checking: number(5, 6) }
 }
 
 impl Codec for Proved {
@@ -133,7 +133,7 @@ impl OpenPlan for Open {
     fn call(&mut self, call: Call) -> Result<(), Refusal> {
         let state = &mut self.0;
         match call {
-            Call::Change(Change { arc, cost, service, standing }) => raw::change(state, arc, cost, service, standing),
+            Call::Change(Change { arc, cost, checking, standing }) => raw::change(state, arc, cost, checking, standing),
             Call::Mark(mark) => raw::mark(state, mark),
             Call::Return(mark) => raw::return_to(state, mark),
         }

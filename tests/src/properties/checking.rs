@@ -29,7 +29,7 @@ pub fn examine_checking(found: &mut Findings, planner: &dyn Planner, case: &Case
     }
 
     // What each must arc is checked at beyond its cost.
-    let beyond = |a: &Arc| i64::from(a.service) - i64::from(a.cost.max(1));
+    let beyond = |a: &Arc| i64::from(a.checking) - i64::from(a.cost.max(1));
     let beyond: i64 = plan.arcs.iter().filter(|a| a.standing == REQUIRED).map(beyond).sum();
     let (Some((Ok(plain), _)), Some((Ok(told), _))) = (&plain, &answer(planner, &plan, budget)) else { return };
     let moved = |number: u64| number.wrapping_add_signed(beyond);

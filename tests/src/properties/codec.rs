@@ -5,7 +5,7 @@ use crate::oracle::{file_of, is_long_enough, parse, read_refusal, write_refusal}
 use crate::plan::{Arc, Plan};
 use crate::planner::Codec;
 
-const FILL: Arc = Arc { tail: 0xA5, head: 0x5A, standing: 0xC3, cost: 0xA5C3, service: 0x3C5A };
+const FILL: Arc = Arc { tail: 0xA5, head: 0x5A, standing: 0xC3, cost: 0xA5C3, checking: 0x3C5A };
 const BYTE_FILL: u8 = 0xA5;
 
 /// Holds reading of a file into so many records, and writing of what it holds into so many bytes, in its edition and in the other, to the oracle.

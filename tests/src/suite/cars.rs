@@ -128,7 +128,7 @@ pub(super) fn bad_files() -> Vec<(&'static str, Vec<u8>, Refusal)> {
         ("3", with(|plan| plan.n = 0), 3),
         ("4", [&file[..], &[0]].concat(), 4),
         ("5", with(|plan| plan.arcs[BACK].tail = 9), 5),
-        ("6", with(|plan| plan.arcs[BACK].service = 1), 6),
+        ("6", with(|plan| plan.arcs[BACK].checking = 1), 6),
         ("7", with(|plan| plan.arcs[BACK].standing = 3), 7),
         ("13", with(|plan| plan.arcs[BACK] = plan.arcs[FREE]), 13),
     ]

@@ -8,8 +8,8 @@ use crate::planner::{Call, Change, DepartureCall, Editor, Refusal};
 use crate::properties::{examine_editing, Findings, Property, Question, Step};
 use crate::random::Random;
 
-fn change(arc: u32, cost: u16, service: u16, standing: u8) -> Call {
-    Call::Change(Change { arc, cost, service, standing })
+fn change(arc: u32, cost: u16, checking: u16, standing: u8) -> Call {
+    Call::Change(Change { arc, cost, checking, standing })
 }
 
 /// A must arc, two ways back and a closed arc, in an edition.
@@ -164,13 +164,13 @@ fn random_change(random: &mut Random, plan: &Plan) -> Call {
     let cost = if random.once_in(3) { like.cost } else { random.pick(&[0, 1, 2, 5, 9, 65_535]) };
     let standing = random.pick(&[OPTIONAL, OPTIONAL, REQUIRED, REQUIRED, CLOSED, like.standing]);
     let standing = if random.once_in(25) { random.pick(&[3, 4, 255]) } else { standing };
-    let service = match (standing, plan.edition) {
+    let checking = match (standing, plan.edition) {
         (REQUIRED, 1) => cost,
         (REQUIRED, _) => random.pick(&[1, cost.max(1), 7, 65_535]),
         _ => 0,
     };
-    let service = if random.once_in(12) { random.pick(&[0, 1, cost]) } else { service };
-    change(arc as u32, cost, service, standing)
+    let checking = if random.once_in(12) { random.pick(&[0, 1, cost]) } else { checking };
+    change(arc as u32, cost, checking, standing)
 }
 
 fn random_question(random: &mut Random, plan: &Plan) -> Question {

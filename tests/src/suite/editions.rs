@@ -20,29 +20,29 @@ fn case_a_free() -> Vec<Arc> {
 }
 
 /// Case A in edition 2, with more arcs.
-fn case_a_checked(service: u16, more: &[Arc]) -> Plan {
-    let mut plan = checked(case_a(), |_, _| service);
+fn case_a_checked(checking: u16, more: &[Arc]) -> Plan {
+    let mut plan = checked(case_a(), |_, _| checking);
     plan.arcs.extend(more);
     plan
 }
 
 /// Case A in edition 2, with another second arc.
-fn case_a_with(standing: u8, cost: u16, service: u16) -> Plan {
+fn case_a_with(standing: u8, cost: u16, checking: u16) -> Plan {
     let mut plan = case_a_checked(5, &[]);
-    plan.arcs[1] = Arc { standing, cost, service, ..plan.arcs[1] };
+    plan.arcs[1] = Arc { standing, cost, checking, ..plan.arcs[1] };
     plan
 }
 
 /// The only way into vertex 1 is a must arc, and two others leave it: one pass is slow, and the other is not.
-fn passed_twice(service: u16) -> Plan {
-    let musts = [Arc::checked(0, 1, 5, service), Arc::checked(1, 2, 2, 4), Arc::checked(1, 3, 2, 3)];
+fn passed_twice(checking: u16) -> Plan {
+    let musts = [Arc::checked(0, 1, 5, checking), Arc::checked(1, 2, 2, 4), Arc::checked(1, 3, 2, 3)];
     let mays = [Arc::new(2, 0, OPTIONAL, 1), Arc::new(3, 0, OPTIONAL, 1)];
     Plan { edition: 2, n: 4, arcs: [&musts[..], &mays].concat() }
 }
 
 /// A must arc that costs nothing once it is checked, and a free way back.
-fn free_must(service: u16) -> Plan {
-    Plan { edition: 2, n: 2, arcs: vec![Arc::checked(0, 1, 0, service), Arc::new(1, 0, OPTIONAL, 0)] }
+fn free_must(checking: u16) -> Plan {
+    Plan { edition: 2, n: 2, arcs: vec![Arc::checked(0, 1, 0, checking), Arc::new(1, 0, OPTIONAL, 0)] }
 }
 
 /// The most arcs in edition 2, checked at 1, 2, and so on.

@@ -28,7 +28,7 @@ pub(super) fn good(edition: u8) -> Draft {
     let mut arcs: Vec<Arc> = (0..10).map(|v| Arc::new(v, (v + 1) % 10, OPTIONAL, 20 + v as u16)).collect();
     arcs.extend([Arc::new(0, 1, REQUIRED, 5), Arc::new(1, 0, OPTIONAL, 3), Arc::new(3, 3, CLOSED, 9)]);
     if edition == 2 {
-        arcs[MUST].service = 9;
+        arcs[MUST].checking = 9;
     }
     Draft { plan: Plan { edition, n: 10, arcs }, fill_bit: false, cut: |length| length, short: false, budget: 10 }
 }
@@ -70,28 +70,28 @@ fn faults(edition: u8) -> Vec<Fault> {
         fault("a fill bit", 4, |draft| draft.fill_bit = true),
         fault("tail in the required arc", 5, |draft| draft.plan.arcs[MUST].tail = 10),
         fault("cost in the required arc", 6, |draft| draft.plan.arcs[MUST].cost = 0),
-        fault("service in the required arc", 6, |draft| draft.plan.arcs[MUST].service = 0),
+        fault("checking in the required arc", 6, |draft| draft.plan.arcs[MUST].checking = 0),
         fault("standing of the required arc", 7, |draft| {
-            draft.plan.arcs[MUST] = Arc { standing: 3, service: 0, ..draft.plan.arcs[MUST] }
+            draft.plan.arcs[MUST] = Arc { standing: 3, checking: 0, ..draft.plan.arcs[MUST] }
         }),
         fault("head in the optional arc", 5, |draft| draft.plan.arcs[MAY].head = 63),
-        fault("service in the optional arc", 6, |draft| draft.plan.arcs[MAY].service = 1),
+        fault("checking in the optional arc", 6, |draft| draft.plan.arcs[MAY].checking = 1),
         fault("standing of the optional arc", 7, |draft| draft.plan.arcs[MAY].standing = 3),
         fault("head in the closed arc", 5, |draft| draft.plan.arcs[SHUT].head = 11),
-        fault("service in the closed arc", 6, |draft| draft.plan.arcs[SHUT].service = 65_535),
+        fault("checking in the closed arc", 6, |draft| draft.plan.arcs[SHUT].checking = 65_535),
         fault("standing of the closed arc", 7, |draft| draft.plan.arcs[SHUT].standing = 3),
         fault("the same arc twice", 13, |draft| draft.plan.arcs[9] = draft.plan.arcs[0]),
         fault("short", 8, |draft| draft.short = true),
         fault("budget 0", 9, |draft| draft.budget = 0),
         fault("no required arc", 10, |draft| {
-            draft.plan.arcs[MUST] = Arc { standing: OPTIONAL, service: 0, ..draft.plan.arcs[MUST] }
+            draft.plan.arcs[MUST] = Arc { standing: OPTIONAL, checking: 0, ..draft.plan.arcs[MUST] }
         }),
         fault("nine parts", 11, |draft| (0..10).for_each(|v| draft.plan.arcs[v] = Arc::new(v, v, REQUIRED, 7))),
         fault("no way back", 12, |draft| [9, MAY].iter().for_each(|&k| draft.plan.arcs[k].standing = CLOSED)),
     ];
     for fault in &mut all {
         fault.excludes = match fault.what {
-            "cost in the required arc" | "service in the required arc" => {
+            "cost in the required arc" | "checking in the required arc" => {
                 &["standing of the required arc", "no required arc"]
             }
             "no required arc" => &["nine parts"],
@@ -99,7 +99,7 @@ fn faults(edition: u8) -> Vec<Fault> {
         };
     }
     // The file of edition 1 has no place for these, and in edition 2 a must arc may be free.
-    all.retain(|fault| edition == 2 || !fault.what.starts_with("service"));
+    all.retain(|fault| edition == 2 || !fault.what.starts_with("checking"));
     all.retain(|fault| edition == 1 || fault.what != "cost in the required arc");
     all
 }

@@ -44,7 +44,10 @@ fn many(count: usize) -> Vec<u16> {
     (0..count as u16).map(|k| pair(k % 5, k / 5 % 5)).collect()
 }
 
-fn stated() -> Vec<(&'static str, Vec<u8>, Vec<u16>, usize, Stated)> {
+/// A page: what it is, its file, its pairs, how many distances there is room for, and what it answers.
+type Page = (&'static str, Vec<u8>, Vec<u16>, usize, Stated);
+
+fn stated() -> Vec<Page> {
     let file = || file_of(&town());
     let mut repeated = town();
     repeated.arcs.push(repeated.arcs[0]);

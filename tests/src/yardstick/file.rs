@@ -39,8 +39,8 @@ fn check_extent(n: usize, m: usize) -> Result<(), Refusal> {
     good.then_some(()).ok_or(refusal::EXTENT)
 }
 
-/// The service cost of an arc in edition 1.
-fn implied_service(standing: u8, cost: u16) -> u16 {
+/// The checking cost of an arc in edition 1.
+fn implied_checking(standing: u8, cost: u16) -> u16 {
     if standing == REQUIRED {
         cost
     } else {
@@ -52,8 +52,8 @@ fn check_arc(edition: u8, n: usize, a: &Arc) -> Result<(), Refusal> {
     if usize::from(a.tail.max(a.head)) >= n {
         return Err(refusal::OFF_SHEET);
     }
-    let is_implied = a.service == implied_service(a.standing, a.cost);
-    if (a.service == 0) == (a.standing == REQUIRED) || edition == 1 && !is_implied {
+    let is_implied = a.checking == implied_checking(a.standing, a.cost);
+    if (a.checking == 0) == (a.standing == REQUIRED) || edition == 1 && !is_implied {
         return Err(refusal::UNPRICED);
     }
     if a.standing > 2 {
@@ -72,8 +72,8 @@ fn check_arcs(edition: u8, n: usize, arcs: &[Arc]) -> Result<(), Refusal> {
 fn take_arc(bits: &mut BitReader, edition: u8) -> Arc {
     let (tail, head) = (bits.take(6) as u8, bits.take(6) as u8);
     let (standing, cost) = (bits.take(2) as u8, bits.take(16) as u16);
-    let service = if edition == 2 { bits.take(16) as u16 } else { implied_service(standing, cost) };
-    Arc { tail, head, standing, cost, service }
+    let checking = if edition == 2 { bits.take(16) as u16 } else { implied_checking(standing, cost) };
+    Arc { tail, head, standing, cost, checking }
 }
 
 /// The plan of a file, or refusals 1 to 7 and 13.
@@ -124,7 +124,7 @@ pub fn write(edition: u8, n: u32, arcs: &[Arc]) -> Result<Vec<u8>, Refusal> {
         put(a.standing.into(), 2);
         put(a.cost.into(), 16);
         if edition == 2 {
-            put(a.service.into(), 16);
+            put(a.checking.into(), 16);
         }
     }
     // Seven bits complete any byte that was begun, and begin none that stays.

@@ -43,10 +43,10 @@ fn is_unjoined(arcs: &[Arc], drive: &[usize]) -> bool {
     false
 }
 
-/// What the passes cost, the first of each required arc at its service cost; none if one of those is missing.
+/// What the passes cost, the first of each required arc at its checking cost; none if one of those is missing.
 fn cost(arcs: &[Arc], drive: &[usize]) -> Option<u64> {
     let mut due: Vec<bool> = arcs.iter().map(|a| a.standing == REQUIRED).collect();
-    let pass = |&k: &usize| u64::from(if std::mem::take(&mut due[k]) { arcs[k].service } else { arcs[k].cost });
+    let pass = |&k: &usize| u64::from(if std::mem::take(&mut due[k]) { arcs[k].checking } else { arcs[k].cost });
     let sum = drive.iter().map(pass).sum();
     (!due.contains(&true)).then_some(sum)
 }

@@ -16,10 +16,10 @@ pub fn check_marks(plan: &Plan, marks: &[u8]) -> Result<(), Refusal> {
 /// The plan of a car, by marks that are good.
 pub fn car_plan(mut plan: Plan, marks: &[u8]) -> Plan {
     for (arc, &mark) in plan.arcs.iter_mut().zip(marks).filter(|(arc, _)| arc.standing != CLOSED) {
-        (arc.standing, arc.service) = match (mark, arc.service) {
+        (arc.standing, arc.checking) = match (mark, arc.checking) {
             (0, _) => (OPTIONAL, 0),
             (_, 0) => (REQUIRED, arc.cost),
-            (_, service) => (REQUIRED, service),
+            (_, checking) => (REQUIRED, checking),
         };
     }
     plan

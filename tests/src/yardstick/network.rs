@@ -83,7 +83,7 @@ impl<'a> Network<'a> {
         for a in plan.arcs.iter().filter(|a| a.standing == REQUIRED) {
             imbalance[usize::from(a.head)] += 1;
             imbalance[usize::from(a.tail)] -= 1;
-            required_cost += i64::from(steps.service(a));
+            required_cost += i64::from(steps.checking(a));
         }
         let links = thin(steps, d, &required);
         Network { plan, d, components, required, place, links, imbalance, required_cost }

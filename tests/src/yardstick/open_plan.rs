@@ -7,7 +7,7 @@ use crate::planner::{refusal, Answer, Call, Change, DepartureCall, Editor, OpenP
 /// The plan with one arc changed.
 pub fn changed(mut plan: Plan, change: Change) -> Plan {
     let arc = &mut plan.arcs[change.arc as usize];
-    (arc.cost, arc.service, arc.standing) = (change.cost, change.service, change.standing);
+    (arc.cost, arc.checking, arc.standing) = (change.cost, change.checking, change.standing);
     plan
 }
 

@@ -44,13 +44,14 @@ def write(streets: StreetList, path: str, corners: str | None = None) -> None:
     write_csv(streets, path, corners)
 
 
-def open_list(path: str, corners: str | None = None) -> StreetList:
+def open_list(path: str, corners: str | None = None, data: bytes | None = None) -> StreetList:
     """Opens a street list, a plan file or GeoJSON, whichever the file is ("-" is standard input).
 
     The corners of a street list come from the file `corners`; where none is named, from the file whose name has "corners"
-    where that of the list has "streets", if there is one.
+    where that of the list has "streets", if there is one. `data` are the file's bytes where they were read already.
     """
-    data = read_bytes(path)
+    if data is None:
+        data = read_bytes(path)
     kind = kind_of(path, data)
     if kind == "plan":
         from .plan_file import read_plan_file

@@ -117,14 +117,16 @@ def cut_off(streets: StreetList, must: Collection[int], shut: Collection[int]) -
     if pair is None:
         return None
     first, second = pair
-    ends = [corner.name for corner in (streets.corners[first], streets.corners[second])]
     at_first = next(number for number in must if first in ends_of(streets, number))
     at_second = next(number for number in must if second in ends_of(streets, number))
+    word = "corner " if streets.unit == "arc" else ""
+    way = f"from {word}{streets.corners[first].name} to {word}{streets.corners[second].name}"
     when = " at this departure" if shut else ""
-    return (
-        f"there is no way from {ends[0]} to {ends[1]}{when}, and must streets touch both: "
-        f"{streets.place(at_first)} and {streets.place(at_second)}; open or add a street on the way"
-    )
+    if at_first == at_second:
+        why = f"the ends of {streets.place(at_first)}, which must be driven"
+    else:
+        why = f"and both {streets.place(at_first)} and {streets.place(at_second)} must be driven"
+    return f"there is no way {way}{when}, {why}: open or add a street on the way"
 
 
 def ends_of(streets: StreetList, arc: int) -> tuple[int, int]:

@@ -13,12 +13,10 @@ from typing import Any, NamedTuple
 
 from ..plan import Standing
 from .csv_file import STANDINGS
+from .earth import DEGREE, EARTH_RADIUS
 from .errors import ListError
 from .street_list import HIGHEST_COST, Corner, Street, StreetList
 from .table import decoded, name_of, read_bytes
-
-EARTH_RADIUS = 6_371_008.8
-"""The earth's mean radius in metres."""
 
 FORWARD = ("yes", "true", "1")
 BACKWARD = ("-1", "reverse")
@@ -145,8 +143,7 @@ def corners_of(lines, named, key, reader: "LineReader", on_earth: bool) -> dict[
             name = f"{wanted} ({count})"
         taken.add(name)
         if on_earth:
-            metres = EARTH_RADIUS * radians(1)
-            x, y = (point[0] - west) * metres * cos(middle), (point[1] - south) * metres
+            x, y = (point[0] - west) * DEGREE * cos(middle), (point[1] - south) * DEGREE
             corners[point] = Corner(name, round(x, 1), round(y, 1), *point)
         else:
             corners[point] = Corner(name, *point)

@@ -1,0 +1,42 @@
+"""As deep as a time allows: budgets that grow tenfold while the next is expected to fit."""
+
+from __future__ import annotations
+
+from collections.abc import Callable
+from time import perf_counter
+from typing import TypeVar
+
+from ..limits import HIGHEST_BUDGET
+
+SECONDS = 0.5
+FIRST_BUDGET = 10_000
+GROWTH = 10
+
+Answered = TypeVar("Answered")
+
+
+def no_gap(answer) -> bool:
+    """Whether nothing is left to find."""
+    return answer.cost == answer.floor
+
+
+def deepest(
+    ask: Callable[[int], Answered],
+    done: Callable[[Answered], bool] = no_gap,
+    seconds: float = SECONDS,
+    clock: Callable[[], float] = perf_counter,
+) -> Answered:
+    """What `ask` answers for the largest budget that the time allows, or for the first after which it is `done`.
+
+    A larger budget's drive is no dearer, so the last answer is the best one. A call with ten times the budget takes at most about
+    ten times as long.
+    """
+    start = clock()
+    budget = FIRST_BUDGET
+    while True:
+        before = clock()
+        answer = ask(budget)
+        now = clock()
+        if done(answer) or budget == HIGHEST_BUDGET or now - start + GROWTH * (now - before) > seconds:
+            return answer
+        budget = min(GROWTH * budget, HIGHEST_BUDGET)

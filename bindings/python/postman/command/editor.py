@@ -1,0 +1,367 @@
+"""The commands of an editing session over a list. The library's open plan holds the plan and its marks."""
+
+from __future__ import annotations
+
+from collections.abc import Callable
+from dataclasses import replace
+from pathlib import Path
+
+from ..answer import Answer
+from ..limits import MARKS
+from ..open_plan import OpenPlan
+from ..plan import Arc, Standing
+from ..refusal import Refusal
+from ..streets import StreetList, explain
+from ..streets.csv_file import streets_text
+from ..streets.errors import ListError, nearest
+from ..streets.steps import steps_of
+from ..streets.street_list import HIGHEST_COST, Street
+from ..streets.table import encoded, name_of
+from ..windows import Departure
+from .deepening import deepest
+from .directions import advice, print_directions
+from .files import write_files
+from .output import Output, counted, per_cent
+
+HELP = """\
+close STREET           no drive passes it
+open STREET            as it was before it was closed
+must STREET [CHECKING] it must be checked, at this checking cost
+may STREET             it may be driven and need not be
+cost STREET COST       what a pass costs
+checking STREET COST   what the pass costs on which it is checked
+show [STREET]          the streets that were changed, or those of a name
+ask [BUDGET]           cost, floor and gap now, and what changed
+drive                  the directions of the drive that was asked for last
+at WHEN                depart then, such as: at tue 09:30 (with --windows)
+mark [0-3]             keep the plan as it is now
+return [0-3]           go back to a mark; marks stay
+undo                   take back the last change, mark or return
+save FILE [over]       write the list as it is now; over writes over a file
+quit                   end
+
+A STREET is a name, a name from CORNER to CORNER, or row NUMBER."""
+
+
+class Failed(Exception):
+    """A command that was not obeyed, and the exit status that it would end a script with."""
+
+    def __init__(self, message: str, status: int = 2) -> None:
+        self.status = status
+        super().__init__(message)
+
+
+class Editor:
+    """An editing session. A `careful` one does not end at once while changes are not saved."""
+
+    def __init__(self, streets: StreetList, windows: str | None, budget: int | None, output: Output) -> None:
+        self.streets = streets
+        self.output = output
+        self.budget = budget
+        self.plan = OpenPlan.open(streets.file)
+        self.before: list[bytes] = []
+        self.opened_as = [(street.standing, street.checking) for street in streets.streets]
+        self.windows: tuple = ()
+        if windows is not None:
+            from ..streets.windows_file import read_windows
+
+            self.windows = read_windows(windows, streets)
+        self.departure: Departure | None = None
+        self.asked: Answer | None = None
+        self.unsaved = False
+        self.careful = False
+        self.ended = False
+
+    def obey(self, line: str) -> Failed | None:
+        """Obeys one command, and answers what is wrong with it if it fails."""
+        line = line.strip()
+        if not line or line.startswith("#"):
+            return None
+        word, _, rest = line.partition(" ")
+        command = COMMANDS.get(word.lower())
+        try:
+            if command is None:
+                raise Failed(f"{word} is no command{nearest(word.lower(), COMMANDS) or '; help lists them'}")
+            command(self, rest.strip())
+        except Failed as failed:
+            return failed
+        except ListError as error:
+            return Failed(str(error))
+        except Refusal as refusal:
+            return self.refused(self.now(), refusal)
+        return None
+
+    def refused(self, streets: StreetList, refusal: Refusal) -> Failed:
+        """A refusal in the list's own words."""
+        shut: dict = {}
+        if self.departure is not None:
+            from ..streets.windows_file import must_shut, shut_at
+
+            shut = shut_at(self.windows, self.departure)
+            if refusal.number == Refusal.MUST_SHUT:
+                told = must_shut(streets, self.windows, self.departure)
+                return Failed(f"refusal {refusal.number}, {refusal.word}: {told}", 1)
+        return Failed(f"refusal {refusal.number}, {refusal.word}: {explain(streets, refusal, shut=shut)}", 1)
+
+    def now(self) -> StreetList:
+        """The list as it is now."""
+        streets = tuple(map(self.changed, self.streets.streets, self.plan.plan.arcs))
+        return replace(self.streets, streets=streets)
+
+    def changed(self, street: Street, arc: Arc) -> Street:
+        """A street with an arc's standing and costs."""
+        checked = self.streets.edition == 2 and arc.standing is Standing.MUST
+        return replace(street, standing=arc.standing, cost=arc.cost, checking=arc.checking if checked else None)
+
+    # Streets
+
+    def arcs_of(self, text: str) -> list[int]:
+        """The arcs that a text names: "Mill Lane", "Mill Lane from Mill Yard to Weir Steps", "row 12"."""
+        if not text:
+            raise Failed("name a street")
+        found = self.found(text)
+        if not found:
+            names = [saying for street in self.streets.streets for saying in sayings(street)]
+            raise Failed(f"{text} is no street of {self.streets.path}{nearest(name_of(text).lower(), names)}")
+        return found
+
+    def found(self, text: str) -> list[int]:
+        """The arcs that a text names, if any."""
+        unit, _, number = text.partition(" ")
+        if unit.lower() == self.streets.unit and number.strip().isdigit():
+            return [arc for arc, street in enumerate(self.streets.streets) if street.row == int(number)]
+        wanted = name_of(text).lower()
+        return [arc for arc, street in enumerate(self.streets.streets) if wanted in sayings(street)]
+
+    def with_number(self, text: str) -> tuple[list[int], int]:
+        """Streets and a cost behind them."""
+        name, _, number = text.rpartition(" ")
+        if not (number.isascii() and number.isdigit()):
+            raise Failed(f"{number or 'nothing'} is not a whole number: write the street, then the number")
+        if int(number) > HIGHEST_COST:
+            raise Failed(f"{number} is above {HIGHEST_COST}")
+        return self.arcs_of(name.strip()), int(number)
+
+    def change(self, arcs: list[int], changed: Callable[[int, Arc], Arc]) -> None:
+        """Changes arcs, all of them or, if one is refused, none."""
+        state = self.plan.to_bytes()
+        old = self.plan.plan.arcs
+        for number in arcs:
+            arc = changed(number, old[number])
+            try:
+                self.plan.change(number, arc.cost, arc.checking, arc.standing)
+            except Refusal as refusal:
+                now = list(self.now().streets)
+                now[number] = self.changed(now[number], arc)
+                failed = self.refused(replace(self.streets, streets=tuple(now)), refusal)
+                self.plan = OpenPlan.from_bytes(state)
+                raise failed from None
+        self.keep(state)
+        self.unsaved = True
+        for number in arcs:
+            self.output.result(self.said(number))
+
+    def keep(self, state: bytes) -> None:
+        """Keeps the state before a change, for undo."""
+        self.before.append(state)
+
+    def said(self, number: int) -> str:
+        """A street as it is now."""
+        arc = self.plan.plan.arcs[number]
+        checking = f", checking {counted(arc.checking)}" if arc.standing is Standing.MUST and self.streets.edition == 2 else ""
+        return f"{self.streets.leg(number)}: {arc.standing.name.lower()}, cost {counted(arc.cost)}{checking}"
+
+    # Commands
+
+    def close(self, text: str) -> None:
+        self.change(self.arcs_of(text), lambda number, arc: Arc(arc.tail, arc.head, Standing.CLOSED, arc.cost))
+
+    def open(self, text: str) -> None:
+        def opened(number: int, arc: Arc) -> Arc:
+            standing, checking = self.opened_as[number]
+            if standing is Standing.CLOSED:
+                standing, checking = Standing.MAY, None
+            return Arc(arc.tail, arc.head, standing, arc.cost, checking)
+
+        arcs = self.arcs_of(text)
+        closed = [number for number in arcs if self.plan.plan.arcs[number].standing is Standing.CLOSED]
+        if not closed:
+            raise Failed(f"{text} is not closed")
+        self.change(closed, opened)
+
+    def must(self, text: str) -> None:
+        given = None
+        if text.rpartition(" ")[2].isdigit() and not self.found(text):
+            arcs, given = self.with_number(text)
+        else:
+            arcs = self.arcs_of(text)
+
+        def required(number: int, arc: Arc) -> Arc:
+            checking = self.opened_as[number][1] if given is None else given
+            if arc.standing is Standing.MUST and given is None:
+                checking = arc.checking
+            if self.streets.edition == 2 and checking is None:
+                raise Failed(f"what does it cost to check {self.streets.leg(number)}? write: must STREET CHECKING")
+            return Arc(arc.tail, arc.head, Standing.MUST, arc.cost, checking if self.streets.edition == 2 else None)
+
+        if given is not None and self.streets.edition == 1:
+            raise Failed(f"{self.streets.path} has no checking costs: its list has no such column")
+        self.change(arcs, required)
+
+    def may(self, text: str) -> None:
+        self.change(self.arcs_of(text), lambda number, arc: Arc(arc.tail, arc.head, Standing.MAY, arc.cost))
+
+    def cost(self, text: str) -> None:
+        arcs, cost = self.with_number(text)
+
+        def priced(number: int, arc: Arc) -> Arc:
+            checked = arc.standing is Standing.MUST and self.streets.edition == 2
+            return Arc(arc.tail, arc.head, arc.standing, cost, arc.checking if checked else None)
+
+        self.change(arcs, priced)
+
+    def checking(self, text: str) -> None:
+        arcs, cost = self.with_number(text)
+        if self.streets.edition == 1:
+            raise Failed(f"{self.streets.path} has no checking costs: its list has no such column")
+        arcs = [number for number in arcs if self.plan.plan.arcs[number].standing is Standing.MUST]
+        if not arcs:
+            raise Failed("only a must street has a checking cost")
+        self.change(arcs, lambda number, arc: Arc(arc.tail, arc.head, arc.standing, arc.cost, cost))
+
+    def show(self, text: str) -> None:
+        now = self.now().streets
+        if text:
+            arcs = self.arcs_of(text)
+        else:
+            arcs = [number for number, street in enumerate(self.streets.streets) if street != now[number]]
+            if not arcs:
+                self.output.result("nothing was changed")
+        for number in arcs:
+            self.output.result(self.said(number))
+
+    def ask(self, text: str) -> None:
+        budget = self.budget
+        if text:
+            if not (text.isascii() and text.isdigit()):
+                raise Failed(f"{text} is not a whole number: write ask, or ask and a budget")
+            budget = int(text)
+        last = self.asked
+        self.asked = deepest(self.answered) if budget is None else self.answered(budget)
+        answer = self.asked
+        cost = f"cost {counted(answer.cost)}{difference(last, answer, 'cost')}"
+        floor = f"floor {counted(answer.floor)}{difference(last, answer, 'floor')}"
+        self.output.result(f"{cost}, {floor}, gap {per_cent(answer.gap)}")
+        unfinished = f"{counted(answer.trees)} trees were tried, and not all."
+        self.output.result(advice(answer, None) if answer.cost == answer.floor else unfinished)
+
+    def answered(self, budget: int) -> Answer:
+        if self.departure is None:
+            return self.plan.ask(budget)
+        return self.plan.ask(budget, [typed.window for typed in self.windows], self.departure)
+
+    def drive(self, text: str) -> None:
+        if self.asked is None:
+            raise Failed("ask first")
+        print_directions(self.output, self.streets, steps_of(self.now(), self.asked.drive))
+
+    def at(self, text: str) -> None:
+        from ..streets.windows_file import departure_of
+
+        if not self.windows:
+            raise Failed("no market days are known: start with --windows CSV")
+        try:
+            self.departure = departure_of(text) if text else None
+        except ValueError as error:
+            raise Failed(str(error)) from None
+
+    def mark(self, text: str) -> None:
+        state = self.plan.to_bytes()
+        self.plan.mark(mark_of(text))
+        self.keep(state)
+
+    def return_to(self, text: str) -> None:
+        state = self.plan.to_bytes()
+        self.plan.return_to(mark_of(text))
+        self.keep(state)
+
+    def undo(self, text: str) -> None:
+        if not self.before:
+            raise Failed("there is nothing to take back")
+        self.plan = OpenPlan.from_bytes(self.before.pop())
+
+    def save(self, text: str) -> None:
+        path, _, over = text.rpartition(" ")
+        if over != "over":
+            path = text
+        if not path:
+            raise Failed("name the file to be written")
+        now = self.now()
+        if now.file != self.plan.file:
+            raise Failed("the list is not the plan that is open")
+        data = now.file if Path(path).suffix.lower() == ".plan" else encoded(streets_text(now))
+        write_files([(path, data)], over == "over", f"save {path} over writes over it")
+        self.unsaved = False
+        self.output.note(f"{path} is written")
+
+    def help(self, text: str) -> None:
+        self.output.result(HELP)
+
+    def quit(self, text: str) -> None:
+        if self.unsaved and self.careful:
+            self.unsaved = False
+            raise Failed("changes are not saved: save FILE keeps them, and quit once more leaves them")
+        self.ended = True
+
+    def completions(self, text: str) -> list[str]:
+        """What a line that begins with `text` may go on to be."""
+        word, space, rest = text.partition(" ")
+        if not space:
+            return [command for command in COMMANDS if command.startswith(word)]
+        names = dict.fromkeys(street.name for street in self.streets.streets)
+        return [f"{word} {name}" for name in names if name.lower().startswith(rest.lower())]
+
+
+def sayings(street: Street) -> tuple[str, ...]:
+    """The ways in which a street is named, in small letters."""
+    ends = f"from {street.from_corner} to {street.to_corner}"
+    full = (f"{street.street} {ends}", f"{street.street} from {street.from_corner}", f"{street.street} to {street.to_corner}")
+    named = (street.street, *full) if street.street else ()
+    return tuple(saying.lower() for saying in (*named, ends))
+
+
+def difference(last: Answer | None, answer: Answer, word: str) -> str:
+    """By how much a number is another than when it was asked for last."""
+    if last is None:
+        return ""
+    more = getattr(answer, word) - getattr(last, word)
+    return f" ({more:+,})" if more else " (as before)"
+
+
+def mark_of(text: str) -> int:
+    """The number of a mark, 0 where none is said."""
+    if not text:
+        return 0
+    if not (text.isascii() and text.isdigit()):
+        raise Failed(f"{text} is no mark: there are marks 0 to {MARKS - 1}")
+    return int(text)
+
+
+COMMANDS: dict[str, Callable[[Editor, str], None]] = {
+    "close": Editor.close,
+    "open": Editor.open,
+    "must": Editor.must,
+    "may": Editor.may,
+    "cost": Editor.cost,
+    "checking": Editor.checking,
+    "show": Editor.show,
+    "ask": Editor.ask,
+    "drive": Editor.drive,
+    "at": Editor.at,
+    "mark": Editor.mark,
+    "return": Editor.return_to,
+    "undo": Editor.undo,
+    "save": Editor.save,
+    "help": Editor.help,
+    "quit": Editor.quit,
+}

@@ -1,0 +1,77 @@
+"""Arguments that several subcommands take."""
+
+from __future__ import annotations
+
+from argparse import ArgumentParser, ArgumentTypeError, Namespace
+
+from ..streets import StreetList, open_list
+from ..windows import Departure
+
+class WrongUsage(Exception):
+    """Arguments that do not go together."""
+
+
+FORMATS = {
+    "json": "as JSON",
+    "csv": "as CSV",
+    "geojson": "as GeoJSON",
+    "gpx": "as GPX, for navigation",
+}
+
+
+def add_list(parser: ArgumentParser) -> None:
+    """LIST, --corners and --quiet."""
+    parser.add_argument("list", metavar="LIST", help="street list, plan file or map; - for standard input")
+    add_corners(parser)
+    add_quiet(parser)
+
+
+def add_corners(parser: ArgumentParser) -> None:
+    parser.add_argument(
+        "--corners",
+        metavar="CSV",
+        help="corners with their coordinates (default: the file with corners in its name where that of LIST has streets)",
+    )
+
+
+def add_quiet(parser: ArgumentParser) -> None:
+    parser.add_argument("-q", "--quiet", action="store_true", help="no notes and no progress on standard error")
+
+
+def add_budget(parser: ArgumentParser, default: str) -> None:
+    parser.add_argument(
+        "--budget", metavar="B", type=whole_number, help=f"the most trees to try, 1 to 1000000 (default: {default})"
+    )
+
+
+def add_departure(parser: ArgumentParser) -> None:
+    parser.add_argument("--windows", metavar="CSV", help="when streets are shut: street, day, start, end")
+    parser.add_argument("--at", metavar="WHEN", type=departure, help='when the drive begins, such as "tue 09:30"')
+
+
+def add_formats(parser: ArgumentParser, *formats: str) -> None:
+    """One of several formats instead of text."""
+    group = parser.add_mutually_exclusive_group()
+    for name in formats:
+        group.add_argument(f"--{name}", dest="format", action="store_const", const=name, help=FORMATS[name])
+
+
+def whole_number(text: str) -> int:
+    digits = text.replace(",", "").replace("_", "")
+    if not (digits.isascii() and digits.isdigit()):
+        raise ArgumentTypeError(f"{text} is not a whole number")
+    return int(digits)
+
+
+def departure(text: str) -> Departure:
+    from ..streets.windows_file import departure_of
+
+    try:
+        return departure_of(text)
+    except ValueError as error:
+        raise ArgumentTypeError(str(error)) from None
+
+
+def opened(args: Namespace) -> StreetList:
+    """The list that the arguments name."""
+    return open_list(args.list, args.corners)

@@ -1,0 +1,70 @@
+"""A list with its market days and a departure, to be asked with budgets."""
+
+from __future__ import annotations
+
+from argparse import Namespace
+
+from ..answer import Answer
+from ..calls import plan_call, plan_call_at, tree_count
+from ..plan import Plan
+from ..refusal import Refusal
+from ..streets import StreetList, explain
+from ..windows import Departure
+from .options import WrongUsage, opened
+from .refused import explained
+
+
+class Question:
+    """What is asked of the library, and what its refusals mean in the list."""
+
+    def __init__(self, streets: StreetList, windows: str | None = None, departure: Departure | None = None) -> None:
+        if (windows is None) != (departure is None):
+            raise WrongUsage("--windows and --at go together: when streets are shut, and when the drive begins")
+        self.streets = streets
+        self.departure = departure
+        self.windows: tuple = ()
+        if windows is not None:
+            from ..streets.windows_file import read_windows
+
+            self.windows = read_windows(windows, streets)
+        with explained(streets):
+            self.file = streets.file
+
+    def ask(self, budget: int) -> Answer:
+        """The drive at a budget."""
+        with explained(self.streets, self.explain):
+            if self.departure is None:
+                return plan_call(self.file, budget)
+            return plan_call_at(self.file, budget, [typed.window for typed in self.windows], self.departure)
+
+    def trees(self) -> int | None:
+        """The number of trees, or None above what is counted."""
+        with explained(self.streets, self.explain):
+            if not self.shut:
+                return tree_count(self.file)
+            # The call takes no windows. An arc that is left out serves no tree, as one that is shut.
+            plan = self.streets.plan
+            left = tuple(arc for number, arc in enumerate(plan.arcs) if number not in self.shut)
+            return tree_count(Plan(plan.vertices, left, plan.edition))
+
+    @property
+    def shut(self) -> dict:
+        """The arcs that are shut at departure."""
+        if self.departure is None:
+            return {}
+        from ..streets.windows_file import shut_at
+
+        return shut_at(self.windows, self.departure)
+
+    def explain(self, refusal: Refusal) -> str:
+        """What a refusal means in the list, at this departure."""
+        if refusal.number == Refusal.MUST_SHUT:
+            from ..streets.windows_file import must_shut
+
+            return must_shut(self.streets, self.windows, self.departure)
+        return explain(self.streets, refusal, shut=self.shut)
+
+
+def asked(args: Namespace) -> Question:
+    """The question that the arguments put."""
+    return Question(opened(args), args.windows, args.at)
