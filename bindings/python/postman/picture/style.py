@@ -55,6 +55,7 @@ text.halo { paint-order: stroke; stroke-width: 3px; stroke-linejoin: round; }
 .part text { font-size: 11px; font-weight: bold; letter-spacing: 0.5px; }
 .start text { font-size: 10px; font-weight: bold; }
 .line { fill: none; stroke-linecap: round; stroke-linejoin: round; stroke-width: 1.4; }
+text, .tint { pointer-events: none; }
 .tint { fill: none; stroke-linecap: round; stroke-linejoin: round; stroke-width: 30; }
 .hit { fill: none; stroke: #000; stroke-opacity: 0; stroke-width: 11; pointer-events: stroke; }
 .must .line { stroke-width: 3.6; }
