@@ -8,7 +8,7 @@ from __future__ import annotations
 
 import struct
 from collections.abc import Callable, Iterable
-from ctypes import c_int64, c_uint16, c_uint64
+from ctypes import Array, c_int64, c_uint16, c_uint64
 from operator import index
 from typing import TYPE_CHECKING, Union
 
@@ -52,7 +52,7 @@ def long(number: int) -> int:
     return number if 0 <= number <= _LONG else _LONG
 
 
-def shorts(numbers: Iterable[int]) -> "c_uint16.Array":
+def shorts(numbers: Iterable[int]) -> Array[c_uint16]:
     """Numbers of 16 bits, as they are lent."""
     numbers = [short(number) for number in numbers]
     return (c_uint16 * len(numbers))(*numbers)
@@ -83,6 +83,9 @@ class Lent:
     """What a call is lent for one drive: a sheet, the words of an answer, and multipliers."""
 
     __slots__ = ("arguments", "places", "words", "multipliers")
+
+    arguments: tuple[Array[c_uint16], int, Array[c_uint64], int, Array[c_int64], int]
+    """The three slices as they are lent."""
 
     def __init__(self) -> None:
         sheet = (c_uint16 * SHEET_PLACES)()

@@ -42,9 +42,9 @@ class Arc:
     """What may be done with it."""
     cost: int
     """What a pass costs, 0 to 65,535. It may be 0, but not in a must arc of edition 1."""
-    checking: int | None = None
-    """What the one pass costs on which a must arc is checked, 1 or more; 0 in all other arcs. If it is not given, it is the
-    cost in a must arc, and edition 1 has no others. After construction it is a number."""
+    checking: int = None  # type: ignore[assignment]
+    """What the one pass costs on which a must arc is checked, 1 or more; 0 in all other arcs. If it is not given, or None, it
+    is the cost in a must arc and 0 in any other; edition 1 has no others."""
 
     def __post_init__(self) -> None:
         keep = object.__setattr__

@@ -3,10 +3,14 @@
 from __future__ import annotations
 
 from collections.abc import Iterable
+from ctypes import Array, c_uint16
 from dataclasses import dataclass
-from datetime import datetime
+from typing import TYPE_CHECKING
 
 from ._lent import shorts
+
+if TYPE_CHECKING:
+    from datetime import datetime
 
 
 @dataclass(frozen=True, slots=True)
@@ -36,12 +40,13 @@ class Departure:
     def at(cls, when: datetime) -> Departure:
         """The departure at a date's weekday and minute.
 
+        >>> from datetime import datetime
         >>> Departure.at(datetime(2024, 5, 7, 9, 30))
         Departure(weekday=1, minute=570)
         """
         return cls(when.weekday(), 60 * when.hour + when.minute)
 
 
-def numbers_of(windows: Iterable[Window]):
+def numbers_of(windows: Iterable[Window]) -> Array[c_uint16]:
     """Windows as they are lent."""
     return shorts(n for w in windows for n in (w.arc, w.weekday, w.from_minute, w.to_minute))

@@ -31,6 +31,9 @@ USAGE = "usage: postman SUBCOMMAND ... [--help]"
 
 def main(argv: list[str] | None = None) -> int:
     """Runs the command and answers its exit status."""
+    # A name that the terminal has no letters for is shown by their numbers, and is no failure.
+    if hasattr(sys.stdout, "reconfigure"):
+        sys.stdout.reconfigure(errors="backslashreplace")
     try:
         status = run(sys.argv[1:] if argv is None else argv)
         sys.stdout.flush()

@@ -1,5 +1,5 @@
-"""Shows what a larger budget buys: cost and floor at 1, 10, ... 1000000 trees, as a
-table and as a plot. Costs fall with the budget; the floor rises only when all
+"""Shows what a larger budget buys: cost and floor at 1, 10, ... 1000000 trees, as
+a table and as a plot. Costs fall with the budget; the floor rises only when all
 trees were tried."""
 
 from __future__ import annotations

@@ -1,6 +1,7 @@
 """Lays a drive for each of two cars on the same streets and shows how the work is
-shared. MARKS is a CSV that names the streets which a car checks: by street, or by
-from and to. Without marks a split is proposed; --write keeps it, to be edited."""
+shared. MARKS is a CSV that names the streets which a car checks: by street, or
+by from and to. Without marks a split is proposed; --write keeps it, to be
+edited."""
 
 from __future__ import annotations
 

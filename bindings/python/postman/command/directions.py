@@ -3,6 +3,7 @@
 from __future__ import annotations
 
 from collections.abc import Iterable
+from math import inf
 from typing import Any
 
 from ..answer import Answer
@@ -63,7 +64,7 @@ def as_object(streets: StreetList, answer: Answer, trees: int | None, steps: lis
     return {
         "cost": answer.cost,
         "floor": answer.floor,
-        "gap": answer.gap,
+        "gap": finite(answer.gap),
         "trees": answer.trees,
         "tree_count": trees,
         "whole": answer.whole,
@@ -73,6 +74,11 @@ def as_object(streets: StreetList, answer: Answer, trees: int | None, steps: lis
         "multipliers": list(answer.multipliers),
         "corners": [corner.name for corner in streets.corners],
     }
+
+
+def finite(gap: float) -> float | None:
+    """A gap for JSON, which has no infinity: above a floor of 0 there is none."""
+    return None if gap == inf else gap
 
 
 def rows_of(streets: StreetList, steps: Iterable[Step]) -> Iterable[tuple]:

@@ -1,5 +1,5 @@
-"""Looks up the least cost of a way between corners. PAIRS is a CSV with the columns
-from and to; single pairs can be given by --pair."""
+"""Looks up the least cost of a way between corners. PAIRS is a CSV with the
+columns from and to; single pairs can be given by --pair."""
 
 from __future__ import annotations
 

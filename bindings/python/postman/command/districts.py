@@ -1,6 +1,6 @@
-"""Lays drives for districts in turn: 1000 trees a turn, so that no district waits for
-the long search of another. Eight are in line at once; more lists wait until one
-has finished. On a terminal each has a progress bar."""
+"""Lays drives for districts in turn: 1000 trees a turn, so that no district waits
+for the long search of another. Eight are in line at once; more lists wait until
+one has finished. On a terminal each has a progress bar."""
 
 from __future__ import annotations
 

@@ -1,6 +1,6 @@
 """Opens a list for trying closings and costs, at a prompt or with commands from
-standard input. `help` lists the commands. The list itself is not changed; `save`
-writes a new one. Commands from a file end at the first that fails."""
+standard input. `help` lists the commands. The list itself is not changed;
+`save` writes a new one. Commands from a file end at the first that fails."""
 
 from __future__ import annotations
 

@@ -1,6 +1,6 @@
-"""Judges a drive that somebody else laid: says what it costs, or its first fault by
-street name. DRIVE is what `postman drive` writes as CSV or JSON, a CSV with the
-columns from, to and street, or arc numbers, one a line."""
+"""Judges a drive that somebody else laid: says what it costs, or its first fault
+by street name. DRIVE is what `postman drive` writes as CSV or JSON, a CSV with
+the columns from, to and street, or arc numbers, one a line."""
 
 from __future__ import annotations
 

@@ -1,6 +1,6 @@
-"""Makes a plan file of a street list; or street lists, to be edited, of a map or of
-a plan file. What is made goes by the end of the name given by -o: .csv makes a
-street list and the file of its corners, anything else a plan file. The plan
+"""Makes a plan file of a street list; or street lists, to be edited, of a map or
+of a plan file. What is made goes by the end of the name given by -o: .csv makes
+a street list and the file of its corners, anything else a plan file. The plan
 file is read back by the proved reader and compared row by row with the list."""
 
 from __future__ import annotations
@@ -8,7 +8,8 @@ from __future__ import annotations
 from argparse import ArgumentParser, Namespace
 from pathlib import Path
 
-from ..streets import StreetList, kind_of, open_list
+from ..refusal import Refusal
+from ..streets import StreetList, explain, kind_of, open_list
 from ..streets.csv_file import corners_beside, corners_text, streets_text
 from ..streets.table import encoded, read_bytes
 from .files import write_files
@@ -37,13 +38,16 @@ def add_arguments(parser: ArgumentParser) -> None:
 
 def run(args: Namespace, output: Output) -> int:
     kind, streets = read_input(args)
+    for note in streets.notes:
+        output.note(f"{args.list}: {note}")
     target = args.output or default_output(args.list, kind)
+    if Path(target).suffix.lower() == ".csv":
+        write_lists(streets, target, args.force, output)
+        return 0
     with explained(streets):
         file = streets.file
     if target == "-":
         output.data(file)
-    elif Path(target).suffix.lower() == ".csv":
-        write_lists(streets, target, args.force, output)
     else:
         write_files([(target, file)], force=True)
         output.note(f"{target}: {held(streets)}, {len(file)} bytes, read back and compared row by row")
@@ -78,6 +82,11 @@ def write_lists(streets: StreetList, target: str, force: bool, output: Output) -
     corners = corners_beside(target) or str(Path(target).with_name(f"{Path(target).stem}-corners.csv"))
     write_files([(target, encoded(streets_text(streets))), (corners, encoded(corners_text(streets)))], force)
     output.note(f"{target} and {corners}: {held(streets)}")
+    try:
+        streets.file
+    except Refusal as refusal:
+        # It is written to be edited, so this is no failure.
+        output.note(f"{target}: no plan yet: refusal {refusal.number}, {refusal.word}: {explain(streets, refusal)}")
 
 
 def held(streets: StreetList) -> str:

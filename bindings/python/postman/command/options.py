@@ -30,7 +30,7 @@ def add_corners(parser: ArgumentParser) -> None:
     parser.add_argument(
         "--corners",
         metavar="CSV",
-        help="corners with their coordinates (default: the file with corners in its name where that of LIST has streets)",
+        help="corners and their coordinates (default: corners.csv beside streets.csv, A-corners.csv beside A-streets.csv)",
     )
 
 

@@ -5,6 +5,7 @@ from __future__ import annotations
 import os
 import sys
 from collections.abc import Iterable, Sequence
+from math import inf
 
 STYLES = {"bold": "1", "dim": "2", "red": "31", "green": "32", "yellow": "33"}
 
@@ -31,10 +32,22 @@ class Output:
         sys.stdout.buffer.write(data)
 
     def json(self, value: object) -> None:
-        """The result as JSON."""
+        """The result as JSON: a line for each key of an object, and for each object of a list."""
         import json
 
-        print(json.dumps(value, ensure_ascii=False, indent=1))
+        def compact(value: object) -> str:
+            return json.dumps(value, ensure_ascii=False, allow_nan=False)
+
+        def listed(value: object, indent: str) -> str:
+            if isinstance(value, list) and value and isinstance(value[0], dict):
+                return "[\n" + ",\n".join(f"{indent} {compact(item)}" for item in value) + f"\n{indent}]"
+            return compact(value)
+
+        if isinstance(value, dict):
+            lines = [f" {compact(key)}: {listed(item, ' ')}" for key, item in value.items()]
+            print("{\n" + ",\n".join(lines) + "\n}")
+        else:
+            print(listed(value, ""))
 
     def note(self, text: str) -> None:
         """Something worth knowing that is no result."""
@@ -70,9 +83,9 @@ def counted(number: int) -> str:
 
 
 def per_cent(gap: float) -> str:
-    """A gap in per cent: the smallest ones are not said to be nothing."""
-    if gap == 0:
-        return "0 %"
+    """A gap in per cent: the smallest ones are not said to be nothing, and above a floor of 0 there is none."""
+    if gap == 0 or gap == inf:
+        return "0 %" if gap == 0 else "-"
     return "under 0.1 %" if gap < 0.001 else f"{100 * gap:.1f} %"
 
 

@@ -7,6 +7,7 @@ from contextlib import contextmanager
 
 from ..refusal import Refusal
 from ..streets import explain
+from ..streets.errors import shown
 from ..streets.street_list import StreetList
 
 
@@ -15,7 +16,7 @@ class Refused(Exception):
 
     def __init__(self, path: str, refusal: Refusal, sentence: str) -> None:
         self.refusal = refusal
-        super().__init__(f"{path}: refusal {refusal.number}, {refusal.word}: {sentence}")
+        super().__init__(f"{shown(path)}: refusal {refusal.number}, {refusal.word}: {sentence}")
 
 
 @contextmanager

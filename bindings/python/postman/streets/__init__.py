@@ -78,11 +78,11 @@ def kind_of(path: str, data: bytes) -> str:
         return "geojson"
     if suffix == ".plan":
         return "plan"
-    start = data[:512].removeprefix(b"\xef\xbb\xbf").lstrip()
-    if start.startswith(b"{"):
+    if data.removeprefix(b"\xef\xbb\xbf").lstrip().startswith(b"{"):
         return "geojson"
-    text = data[:2] in (b"\xff\xfe", b"\xfe\xff") or (start and not any(byte < 9 or 13 < byte < 32 for byte in data))
-    return "csv" if text else "plan"
+    if data[:2] in (b"\xff\xfe", b"\xfe\xff"):
+        return "csv"
+    return "plan" if any(byte < 9 or 13 < byte < 32 for byte in data) else "csv"
 
 
 def from_geojson(source, **options) -> StreetList:

@@ -3,6 +3,11 @@
 from __future__ import annotations
 
 
+def shown(path: str) -> str:
+    """A file as it is named to a person."""
+    return "standard input" if path == "-" else path
+
+
 class ListError(Exception):
     """Something in a list that cannot be taken as it stands.
 
@@ -29,7 +34,7 @@ class ListError(Exception):
         super().__init__(str(self))
 
     def __str__(self) -> str:
-        place = self.file
+        place = shown(self.file)
         if self.row is not None:
             place += f" {self.unit} {self.row}"
         if self.street is not None:

@@ -70,7 +70,9 @@ def from_geojson(
         for line in lines
         for one in reader.streets(line, corners[key(line.points[0])].name, corners[key(line.points[-1])].name)
     ]
-    return StreetList(path, 1 if checking is None else 2, tuple(corners.values()), tuple(streets), None, "feature")
+    edition = 1 if checking is None else 2
+    notes = passing(lines, corners, key, reader)
+    return StreetList(path, edition, tuple(corners.values()), tuple(streets), None, "feature", notes)
 
 
 def parsed(path: str, data: bytes) -> Any:
@@ -148,6 +150,18 @@ def corners_of(lines, named, key, reader: "LineReader", on_earth: bool) -> dict[
         else:
             corners[point] = Corner(name, *point)
     return corners
+
+
+def passing(lines, corners: dict[Point, Corner], key, reader: "LineReader") -> tuple[str, ...]:
+    """A note on lines that pass through corners of others: a car cannot turn there."""
+    found = [(line, key(point)) for line in lines for point in line.points[1:-1] if key(point) in corners]
+    if not found:
+        return ()
+    line, point = found[0]
+    count = len({id(line) for line, _ in found})
+    many = "1 line passes" if count == 1 else f"{count} lines pass"
+    where = f"feature {line.feature} ({reader.name(line) or 'no name'}) at {corners[point].name}"
+    return (f"{many} through corners without ending there, such as {where}: split them there for turns",)
 
 
 class LineReader(NamedTuple):

@@ -57,7 +57,8 @@ class Street:
 class StreetList:
     """A street list. Its streets are the plan's arcs in this order, and its corners the vertices.
 
-    `path` is the file that it was read from, `corners_path` that of its corners, and `unit` what a row is called there.
+    `path` is the file that it was read from, `corners_path` that of its corners, and `unit` what a row is called there. `notes` are
+    what the reader noticed that may be meant otherwise.
     """
 
     path: str
@@ -66,6 +67,7 @@ class StreetList:
     streets: tuple[Street, ...]
     corners_path: str | None = None
     unit: str = "row"
+    notes: tuple[str, ...] = ()
 
     @cached_property
     def numbers(self) -> dict[str, int]:

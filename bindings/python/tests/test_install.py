@@ -1,0 +1,105 @@
+"""The library as others install it: what `make install` puts in place, and programs built over it."""
+
+import os
+import tempfile
+import unittest
+from pathlib import Path
+
+from repository import BUILD, HEADER, ROOT, kept_plans, make, run
+
+from postman._library import DECLARATIONS
+
+STRICT = ("-Wall", "-Wextra", "-Wpedantic", "-Werror")
+
+
+def exported(*nm: str | Path) -> set[str]:
+    """The names that a library defines for others."""
+    return {line.split()[-1] for line in run("nm", "--defined-only", "--extern-only", *nm).stdout.splitlines() if " " in line}
+
+
+class Install(unittest.TestCase):
+    @classmethod
+    def setUpClass(cls) -> None:
+        folder = tempfile.TemporaryDirectory()
+        cls.addClassCleanup(folder.cleanup)
+        cls.folder = Path(folder.name)
+        cls.prefix = cls.folder / "prefix"
+        make("install", f"PREFIX={cls.prefix}")
+        cls.lib = cls.prefix / "lib"
+
+    def pkg_config(self, *words: str) -> list[str]:
+        environment = {**os.environ, "PKG_CONFIG_PATH": str(self.lib / "pkgconfig")}
+        return run("pkg-config", *words, "postman", env=environment).stdout.split()
+
+    def built(self, name: str, *command: str) -> Path:
+        program = self.folder / name
+        run(*command, "-o", program, cwd=ROOT)
+        return program
+
+    def test_the_example_in_c_and_cpp_static_and_shared(self) -> None:
+        flags = self.pkg_config("--cflags", "--libs")
+        static = [*self.pkg_config("--cflags"), str(self.lib / "libpostman.a")]
+        shared_path = {**os.environ, "LD_LIBRARY_PATH": str(self.lib)}
+        for language, compiler in (
+            ("c99", ["cc", "-std=c99", "examples/plan.c"]),
+            ("c17", ["cc", "-std=c17", "examples/plan.c"]),
+            ("cpp", ["c++", "-std=c++17", "-x", "c++", "examples/plan.c", "-x", "none"]),
+        ):
+            for kind, linked, environment in (
+                ("static", static, os.environ),
+                ("static by pkg-config", ["-Wl,-Bstatic", *flags, "-Wl,-Bdynamic"], os.environ),
+                ("shared", flags, shared_path),
+            ):
+                with self.subTest(language=language, kind=kind):
+                    program = self.built(f"{language} {kind}", *compiler, *STRICT, *linked)
+                    needed = "libpostman.so.0" in run("readelf", "-d", program).stdout
+                    self.assertEqual(needed, kind == "shared")
+                    for path in sorted((ROOT / "examples").glob("*.plan")):
+                        printed = run(program, path, env=environment).stdout
+                        self.assertEqual(printed, path.with_suffix(".txt").read_text(), path)
+
+    def test_the_example_says_a_refusals_word(self) -> None:
+        program = self.built("words", "cc", "-std=c99", "examples/plan.c", "-Iinclude", str(self.lib / "libpostman.a"))
+        self.assertEqual(run(program, ROOT / "examples" / "cut_off.plan").stderr, "plan: cut off\n")
+
+    def test_only_the_headers_functions_are_exported(self) -> None:
+        self.assertEqual(exported("-D", self.lib / "libpostman.so"), set(DECLARATIONS))
+        self.assertEqual(exported(self.lib / "libpostman.a"), set(DECLARATIONS))
+
+    def test_the_archive_is_position_independent(self) -> None:
+        shared = self.folder / "own.so"
+        archive = self.lib / "libpostman.a"
+        run("cc", "-shared", "-Wl,-z,defs,-z,text", "-Wl,--whole-archive", archive, "-Wl,--no-whole-archive", "-o", shared)
+        self.assertLessEqual(set(DECLARATIONS), exported("-D", shared))
+
+    def test_the_shared_library_says_its_version(self) -> None:
+        (version,) = self.pkg_config("--modversion")
+        self.assertIn(f'#define POSTMAN_VERSION "{version}"', HEADER.read_text())
+        library = (self.lib / "libpostman.so").resolve()
+        self.assertEqual(library.name, f"libpostman.so.{version}")
+        dynamic = run("readelf", "-d", library).stdout
+        self.assertIn(f"[libpostman.so.{version.split('.')[0]}]", dynamic)
+        self.assertNotIn("TEXTREL", dynamic)
+
+    def test_another_root_and_uninstalling(self) -> None:
+        stage = self.folder / "stage"
+        words = f"DESTDIR={stage}", "PREFIX=/opt/postman"
+        make("install", *words)
+        files = {path.relative_to(stage / "opt/postman").as_posix() for path in stage.rglob("*") if not path.is_dir()}
+        self.assertLessEqual({"include/postman.h", "lib/libpostman.a", "lib/libpostman.so", "lib/pkgconfig/postman.pc"}, files)
+        pages = {f"share/man/man1/{page.name}" for page in ROOT.glob("bindings/python/man/*.1")}
+        self.assertLessEqual(pages, files)
+        self.assertIn("prefix=/opt/postman\n", (stage / "opt/postman/lib/pkgconfig/postman.pc").read_text())
+        make("uninstall", *words)
+        self.assertEqual([path for path in stage.rglob("*") if not path.is_dir()], [])
+
+    def test_every_call_on_a_thread_of_the_stack_that_the_header_names(self) -> None:
+        program = self.built(
+            "stacks", "cc", "-std=c99", *STRICT, "-O2", "-Iinclude", "bindings/c/stacks.c", str(BUILD / "libpostman.a"), "-pthread"
+        )
+        plans = [path for path in kept_plans() if path.name != "cut_off.plan"]
+        self.assertEqual(run(program, *plans).stdout.split(), list(DECLARATIONS))
+
+
+if __name__ == "__main__":
+    unittest.main()

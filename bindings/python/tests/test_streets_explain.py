@@ -1,0 +1,99 @@
+"""What a refusal means in a street list."""
+
+import unittest
+
+import repository  # noqa: F401
+
+from postman import Refusal, plan_call
+from postman.streets import explain
+from postman.streets.csv_file import read_csv
+from postman.streets.explain import parts_of
+
+
+def listed(*rows: str, checking: bool = False):
+    header = "from,to,standing,cost,checking,street" if checking else "from,to,standing,cost,street"
+    return read_csv("list.csv", None, "\n".join([header, *rows]).encode())
+
+
+class Explaining(unittest.TestCase):
+    def told(self, number: int, town, sentence: str) -> None:
+        with self.assertRaises(Refusal) as caught:
+            plan_call(town.file, 1)
+        self.assertEqual(caught.exception.number, number)
+        self.assertEqual(explain(town, caught.exception), sentence)
+
+    def test_too_many_corners(self):
+        town = listed(*(f"A{k},A{k + 1},must,5," for k in range(64)))
+        wanted = "65 corners, and a plan has at most 64; the first beyond them is A64: cut the list into sheets"
+        self.told(Refusal.EXTENT, town, wanted)
+
+    def test_too_many_streets(self):
+        town = listed(*(f"A,B,must,{k + 1},Street {k}" for k in range(257)))
+        wanted = "257 rows, and a plan has at most 256; the first beyond them is row 258 (Street 256): cut the list into sheets"
+        self.told(Refusal.EXTENT, town, wanted)
+
+    def test_unpriced(self):
+        town = listed("A,B,may,0,Oak", "B,A,must,0,Elm")
+        self.told(Refusal.UNPRICED, town, "row 3 (Elm): cost is 0, and the street is must: write 1 or more")
+        town = listed("A,B,may,0,,Oak", "B,A,must,0,0,Elm", checking=True)
+        self.told(Refusal.UNPRICED, town, "row 3 (Elm): checking is 0, and the street is must: write 1 or more")
+
+    def test_idle(self):
+        wanted = "no street is must: write must in the column standing of each street that is to be checked"
+        self.told(Refusal.IDLE, listed("A,B,may,1,", "B,A,closed,1,"), wanted)
+
+    def test_scattered_names_the_parts_by_their_streets(self):
+        pairs = [(f"A{k},B{k},must,5,Out {k}", f"B{k},A{k},must,6,In {k}") for k in range(8)]
+        more = [f"C{k},C{k + 1},must,7,Long {k}" for k in range(6)]
+        lines = explain(listed(*(row for pair in pairs for row in pair), *more), Refusal(Refusal.SCATTERED)).split("\n")
+        self.assertEqual(lines[0], "the must streets lie in 9 parts, and a plan has at most 8:")
+        self.assertEqual(lines[1], "  part 0: Out 0, In 0")
+        self.assertEqual(lines[9], "  part 8: Long 0, Long 1, Long 2, Long 3 and 2 more")
+        self.assertEqual(lines[10:], ["make streets between two parts must, or cut the list into sheets"])
+
+    def test_cut_off_names_two_corners(self):
+        town = listed("A,B,must,1,Elm", "B,C,may,1,Oak", "C,D,must,1,Ash", "D,C,closed,1,Ash")
+        wanted = (
+            "there is no way from B to A, the ends of row 2 (Elm), which must be driven: open or add a street on the way"
+        )
+        self.told(Refusal.CUT_OFF, town, wanted)
+        town = listed("A,B,must,1,Elm", "B,A,must,1,Elm", "B,C,may,1,Oak", "C,D,must,1,Ash", "D,C,may,1,Ash")
+        wanted = (
+            "there is no way from C to A, and both row 5 (Ash) and row 2 (Elm) must be driven: "
+            "open or add a street on the way"
+        )
+        self.told(Refusal.CUT_OFF, town, wanted)
+
+    def test_cut_off_by_marks_and_by_market_days(self):
+        town = listed("A,B,must,1,Elm", "B,A,may,1,Elm", "B,C,may,1,Oak")
+        self.assertIn("no way from C to B, the ends of row 4 (Oak)", explain(town, Refusal(12), must=[2]))
+        self.assertIn("no way from B to A at this departure, the ends of row 2", explain(town, Refusal(12), shut=[1]))
+
+    def test_distances_past_one_page(self):
+        ring = [f"A{k},A{(k + 1) % 30},must,{k + 1}," for k in range(30)]
+        town = listed(*ring, "A0,Z,must,1,Blind Alley")
+        self.told(Refusal.CUT_OFF, town, explain(town, Refusal(12)))
+        self.assertIn("there is no way from Z to A0", explain(town, Refusal(12)))
+
+    def test_repeated_names_both_rows(self):
+        town = listed("A,B,must,1,Elm", "B,A,may,1,Elm", "A,B,must,1,Oak")
+        self.told(13, town, "row 2 (Elm) and row 4 (Oak) agree in from, to, standing and cost: delete one of them")
+        town = listed("A,B,must,1,2,Elm", "A,B,must,1,3,Elm", "A,B,must,1,3,", checking=True)
+        wanted = "row 3 (Elm) and row 4 (A to B) agree in from, to, standing, cost and checking: delete one of them"
+        self.told(13, town, wanted)
+
+    def test_others_are_told_by_their_sentence_and_advice(self):
+        refusal = Refusal(Refusal.BUDGET)
+        self.assertEqual(explain(listed("A,B,must,1,Elm"), refusal), f"{refusal.sentence}. {refusal.advice}")
+
+
+class Parts(unittest.TestCase):
+    def test_the_library_counts_as_many(self):
+        town = listed("C,D,must,1,", "A,B,must,1,", "D,A,may,1,", "B,C,may,1,", "B,E,must,1,", "E,A,must,2,")
+        parts = parts_of(town, [0, 1, 4, 5])
+        self.assertEqual(parts, [[0], [1, 4, 5]])
+        self.assertEqual(plan_call(town.file, 1).parts, len(parts))
+
+
+if __name__ == "__main__":
+    unittest.main()
