@@ -249,6 +249,9 @@ function choose(view) {
   for (const tab of document.querySelectorAll("[data-view]")) {
     tab.setAttribute("aria-selected", String(tab.dataset.view === view));
   }
+  // Painting is what the picture of two cars is for.
+  if (view === "cars" && !$("tool").value.startsWith("car-")) $("tool").value = "car-0";
+  if (view !== "cars" && $("tool").value.startsWith("car-")) $("tool").value = "select";
   draw();
 }
 
@@ -389,12 +392,7 @@ $("save").addEventListener("submit", async (event) => {
 });
 
 for (const tab of document.querySelectorAll("[data-view]")) {
-  tab.addEventListener("click", () => {
-    choose(tab.dataset.view);
-    // Painting is what the picture of two cars is for.
-    if (tab.dataset.view === "cars" && !$("tool").value.startsWith("car-")) $("tool").value = "car-0";
-    if (tab.dataset.view !== "cars" && $("tool").value.startsWith("car-")) $("tool").value = "select";
-  });
+  tab.addEventListener("click", () => choose(tab.dataset.view));
 }
 
 document.addEventListener("keydown", (event) => {
