@@ -38,7 +38,7 @@ def ground(streets: StreetList) -> Ground:
     places = [(corner.x, -corner.y) for corner in streets.corners if corner.x is not None and corner.y is not None]
     to_scale = len(places) == len(streets.corners) and len(set(places)) > 1
     if not to_scale:
-        places = lay_out(len(streets.corners), [(arc.tail, arc.head) for arc in streets.plan.arcs])
+        places = list(lay_out(len(streets.corners), [(arc.tail, arc.head) for arc in streets.plan.arcs]))
     left, right = min(x for x, _ in places), max(x for x, _ in places)
     top, bottom = min(y for _, y in places), max(y for _, y in places)
     wide, high = right - left, bottom - top

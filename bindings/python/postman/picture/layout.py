@@ -7,7 +7,8 @@ squared, is lowered corner by corner. Nothing is drawn at random, so that a plan
 from __future__ import annotations
 
 import math
-from collections.abc import Sequence
+from collections.abc import Iterable, Sequence
+from functools import lru_cache
 
 Point = tuple[float, float]
 
@@ -19,8 +20,14 @@ SETTLED = 1e-4
 PIECE_GAP = 1.2
 
 
-def lay_out(count: int, pairs: Sequence[tuple[int, int]]) -> list[Point]:
+def lay_out(count: int, pairs: Iterable[tuple[int, int]]) -> tuple[Point, ...]:
     """Points for corners 0 to count - 1, of which `pairs` are joined, in steps; y grows downwards."""
+    return _laid(count, frozenset((min(pair), max(pair)) for pair in pairs))
+
+
+@lru_cache(maxsize=16)
+def _laid(count: int, pairs: frozenset[tuple[int, int]]) -> tuple[Point, ...]:
+    """What was laid out is kept: a list has several pictures, and on the desk its streets stay where they are."""
     near: list[set[int]] = [set() for _ in range(count)]
     for one, other in pairs:
         if one != other:
@@ -141,7 +148,7 @@ def _level(points: list[Point]) -> list[Point]:
     return [(x * flip_x, y * flip_y) for x, y in turned]
 
 
-def _pack(count: int, pieces: Sequence[tuple[list[int], list[Point]]]) -> list[Point]:
+def _pack(count: int, pieces: Sequence[tuple[list[int], list[Point]]]) -> tuple[Point, ...]:
     """All pieces on one sheet: the largest first, the others in rows below it."""
     points: list[Point] = [(0.0, 0.0)] * count
     row_width = 0.0
@@ -157,4 +164,4 @@ def _pack(count: int, pieces: Sequence[tuple[list[int], list[Point]]]) -> list[P
             points[corner] = (left + x - low_x, top + y - low_y)
         left += high_x - low_x + PIECE_GAP
         bottom = max(bottom, top + high_y - low_y)
-    return points
+    return tuple(points)
