@@ -10,17 +10,10 @@ import struct
 from collections.abc import Callable, Iterable
 from ctypes import Array, c_int64, c_uint16, c_uint64
 from operator import index
-from typing import TYPE_CHECKING, Union
 
 from .answer import Answer
 from .limits import ANSWER_WORDS, MULTIPLIERS, SHEET_PLACES
 from .refusal import Refusal
-
-if TYPE_CHECKING:
-    from .plan import Plan
-
-File = Union["Plan", bytes, bytearray, memoryview]
-"""A plan file: bytes, or a plan that is written first."""
 
 _BYTE = 2**8 - 1
 _SHORT = 2**16 - 1
@@ -56,16 +49,6 @@ def shorts(numbers: Iterable[int]) -> Array[c_uint16]:
     """Numbers of 16 bits, as they are lent."""
     numbers = [short(number) for number in numbers]
     return (c_uint16 * len(numbers))(*numbers)
-
-
-def file_bytes(file: File) -> bytes:
-    """The bytes of a plan file, or of a plan's file. A plan that cannot be written is refused here."""
-    if type(file) is bytes:
-        return file
-    write = getattr(file, "write", None)
-    if write is not None:
-        return write()
-    return bytes(memoryview(file))
 
 
 def unless_refused(number: int) -> int:

@@ -9,6 +9,7 @@ import ctypes
 import os
 from ctypes import POINTER, c_char_p, c_int64, c_size_t, c_uint8, c_uint16, c_uint32, c_uint64
 from pathlib import Path
+from typing import Any
 
 NAME = "libpostman.so"
 
@@ -40,13 +41,13 @@ library, path = _load()
 """The loaded library, and where it was found."""
 
 # A lent slice is a pointer and the number of its elements. Bytes that are only read go in as they are, without a copy.
-_READ = [c_char_p, c_size_t]
-_BYTES = [POINTER(c_uint8), c_size_t]
-_SHORTS = [POINTER(c_uint16), c_size_t]
-_DRIVE = [POINTER(c_uint16), c_size_t, POINTER(c_uint64), c_size_t, POINTER(c_int64), c_size_t]
-_DEPARTURE = [*_SHORTS, c_uint32, c_uint32]
+_READ: list[Any] = [c_char_p, c_size_t]
+_BYTES: list[Any] = [POINTER(c_uint8), c_size_t]
+_SHORTS: list[Any] = [POINTER(c_uint16), c_size_t]
+_DRIVE: list[Any] = [POINTER(c_uint16), c_size_t, POINTER(c_uint64), c_size_t, POINTER(c_int64), c_size_t]
+_DEPARTURE: list[Any] = [*_SHORTS, c_uint32, c_uint32]
 
-DECLARATIONS: dict[str, tuple[type, list[type]]] = {
+DECLARATIONS: dict[str, tuple[Any, list[Any]]] = {
     "postman_version": (c_char_p, []),
     "postman_refusal_word": (c_char_p, [c_uint32]),
     "postman_read_plan": (c_int64, [*_READ, *_BYTES]),

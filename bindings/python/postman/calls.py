@@ -9,10 +9,11 @@ from collections.abc import Iterable
 from ctypes import c_uint32
 from dataclasses import dataclass
 
-from ._lent import File, borrow, byte, file_bytes, give_back, long, shorts, unless_refused, word
+from ._lent import borrow, byte, give_back, long, shorts, unless_refused, word
 from ._library import library
 from .answer import Answer
 from .limits import HIGHEST_COUNT, NO_PATH, PAIR
+from .plan import File, file_bytes
 from .windows import Departure, Window, numbers_of
 
 _plan_call = library.postman_plan_call

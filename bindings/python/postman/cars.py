@@ -4,11 +4,13 @@ from __future__ import annotations
 
 from collections.abc import Sequence
 from dataclasses import dataclass
+from typing import Any
 
-from ._lent import File, Lent, borrow, byte, file_bytes, give_back, long, unless_refused
+from ._lent import Lent, borrow, byte, give_back, long, unless_refused
 from ._library import library
 from .answer import Answer
 from .limits import FIRST_CAR
+from .plan import File, file_bytes
 from .refusal import Refusal
 
 
@@ -46,7 +48,7 @@ def two_cars(file: File, first: Car, second: Car) -> tuple[Answer | Refusal, Ans
         give_back(other)
 
 
-def _lend(car: Car, lent: Lent) -> tuple:
+def _lend(car: Car, lent: Lent) -> tuple[Any, ...]:
     marks = bytes(map(byte, car.marks))
     return marks, len(marks), long(car.budget), *lent.arguments
 

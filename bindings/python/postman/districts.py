@@ -6,11 +6,13 @@ from collections.abc import Iterator
 from ctypes import c_uint8
 from dataclasses import dataclass
 from threading import Lock
+from typing import Any
 
-from ._lent import File, borrow, file_bytes, give_back, long, unless_refused
+from ._lent import borrow, give_back, long, unless_refused
 from ._library import library
 from .answer import Answer
 from .limits import COST, DISTRICTS_BYTES, FINISHED, NO_DISTRICT, TREES
+from .plan import File, file_bytes
 
 
 @dataclass(frozen=True, slots=True)
@@ -108,7 +110,7 @@ class Districts:
         districts._lock = Lock()
         return districts
 
-    def __reduce__(self) -> tuple:
+    def __reduce__(self) -> tuple[Any, ...]:
         return Districts.from_bytes, (self.to_bytes(),)
 
     def __eq__(self, other: object) -> bool:

@@ -34,7 +34,7 @@ def from_networkx(
     number = {name: vertex for vertex, name in enumerate(names)}
     edges = list(graph.edges(data=True))
     if {attributes.get("arc") for *_, attributes in edges} == set(range(len(edges))):
-        edges.sort(key=lambda edge: edge[2]["arc"])
+        edges.sort(key=lambda edge: int(edge[2]["arc"]))
     arcs = []
     checked = False
     for tail, head, attributes in edges:

@@ -5,12 +5,13 @@ from __future__ import annotations
 from collections.abc import Iterable
 from ctypes import c_uint8
 from threading import Lock
+from typing import Any
 
-from ._lent import File, borrow, file_bytes, give_back, long, unless_refused, word
+from ._lent import borrow, give_back, long, unless_refused, word
 from ._library import library
 from .answer import Answer
 from .limits import LONGEST_FILE, MARKS, OPEN_BYTES
-from .plan import Plan, Standing, _price
+from .plan import File, Plan, Standing, file_bytes, price
 from .windows import Departure, Window, numbers_of
 
 _MIDNIGHT = Departure(0, 0)
@@ -52,10 +53,10 @@ class OpenPlan:
         not have, else with 6 or 13 if the changed plan could not be written in its edition.
         """
         standing = Standing(standing)
-        cost = _price("cost", cost)
+        cost = price("cost", cost)
         if checking is None:
             checking = cost if standing == Standing.MUST else 0
-        numbers = word(arc), cost, _price("checking cost", checking), standing
+        numbers = word(arc), cost, price("checking cost", checking), standing
         with self._lock:
             unless_refused(library.postman_change(self._state, OPEN_BYTES, *numbers))
 
@@ -117,7 +118,7 @@ class OpenPlan:
         open_plan._lock = Lock()
         return open_plan
 
-    def __reduce__(self) -> tuple:
+    def __reduce__(self) -> tuple[Any, ...]:
         return OpenPlan.from_bytes, (self.to_bytes(),)
 
     def __eq__(self, other: object) -> bool:

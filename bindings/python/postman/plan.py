@@ -7,9 +7,9 @@ from ctypes import c_uint8
 from dataclasses import dataclass, field
 from enum import IntEnum
 from operator import index
-from typing import TYPE_CHECKING, Any
+from typing import TYPE_CHECKING, Any, Union
 
-from ._lent import byte, file_bytes, unless_refused, word
+from ._lent import byte, unless_refused, word
 from ._library import library
 from .limits import COUNTS, EDITIONS, LONGEST_FILE, MOST_ARCS, RECORD_BYTES
 
@@ -51,11 +51,11 @@ class Arc:
         keep(self, "tail", index(self.tail))
         keep(self, "head", index(self.head))
         keep(self, "standing", Standing(self.standing))
-        keep(self, "cost", _price("cost", self.cost))
+        keep(self, "cost", price("cost", self.cost))
         if self.checking is None:
             keep(self, "checking", self.cost if self.standing == Standing.MUST else 0)
         else:
-            keep(self, "checking", _price("checking cost", self.checking))
+            keep(self, "checking", price("checking cost", self.checking))
 
 
 @dataclass(frozen=True, slots=True)
@@ -86,7 +86,7 @@ class Plan:
         Arc(tail=1, head=0, standing=<Standing.MAY: 0>, cost=3, checking=0)
         """
         lent = (c_uint8 * (MOST_ARCS * RECORD_BYTES))()
-        file = file_bytes(file)
+        file = bytes(memoryview(file))
         number = unless_refused(library.postman_read_plan(file, len(file), lent, len(lent)))
         edition, rest = divmod(number, EDITIONS)
         vertices, m = divmod(rest, COUNTS)
@@ -129,7 +129,21 @@ class Plan:
         return to_networkx(self, multigraph=multigraph)
 
 
-def _price(name: str, number: int) -> int:
+File = Union[Plan, bytes, bytearray, memoryview]
+"""A plan file: anything like bytes, or a plan, which is written first."""
+
+
+def file_bytes(file: File) -> bytes:
+    """The bytes of a plan file, or of a plan's file. A plan that cannot be written is refused here."""
+    if type(file) is bytes:
+        return file
+    if isinstance(file, Plan):
+        return file.write()
+    return bytes(memoryview(file))
+
+
+def price(name: str, number: int) -> int:
+    """A cost, if it has room in a file."""
     number = index(number)
     if number < 0:
         raise ValueError(f"{name} {number} is below 0")

@@ -48,7 +48,8 @@ class Refusal(Exception):
     @property
     def number(self) -> int:
         """The number, 1 to 22."""
-        return self.args[0]
+        number: int = self.args[0]
+        return number
 
     @property
     def word(self) -> str:

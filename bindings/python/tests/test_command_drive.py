@@ -191,7 +191,7 @@ class Trees(unittest.TestCase):
         self.assertEqual(postman("trees", plan).out, "above 4294967295\n")
         self.assertEqual(json.loads(postman("trees", plan, "--json").out), {"tree_count": None, "above": 4294967295})
         lines = postman("drive", plan, "--budget", "1").out.splitlines()
-        self.assertEqual(lines[-3], "trees  1 of above 4,294,967,295")
+        self.assertEqual(lines[-3], "trees  1 of more than 4,294,967,295")
 
 
 class Judge(Folder):

@@ -5,9 +5,8 @@ import unittest
 import repository  # noqa: F401
 
 from postman import Refusal, plan_call
-from postman.streets import explain
 from postman.streets.csv_file import read_csv
-from postman.streets.explain import parts_of
+from postman.streets.explain import explain, parts_of
 
 
 def listed(*rows: str, checking: bool = False):
@@ -52,17 +51,31 @@ class Explaining(unittest.TestCase):
         self.assertEqual(lines[10:], ["make streets between two parts must, or cut the list into sheets"])
 
     def test_cut_off_names_two_corners(self):
-        town = listed("A,B,must,1,Elm", "B,C,may,1,Oak", "C,D,must,1,Ash", "D,C,closed,1,Ash")
-        wanted = (
-            "there is no way from B to A, the ends of row 2 (Elm), which must be driven: open or add a street on the way"
+        self.told(
+            Refusal.CUT_OFF,
+            listed("A,B,must,1,Elm", "B,C,may,1,Oak"),
+            "there is no way from B to A, the ends of row 2 (Elm), which must be driven: open or add a street on the way",
         )
-        self.told(Refusal.CUT_OFF, town, wanted)
-        town = listed("A,B,must,1,Elm", "B,A,must,1,Elm", "B,C,may,1,Oak", "C,D,must,1,Ash", "D,C,may,1,Ash")
-        wanted = (
-            "there is no way from C to A, and both row 5 (Ash) and row 2 (Elm) must be driven: "
-            "open or add a street on the way"
+        self.told(
+            Refusal.CUT_OFF,
+            listed("A,B,must,1,Elm", "B,A,must,1,Elm", "B,C,may,1,Oak", "C,D,must,1,Ash", "D,C,may,1,Ash"),
+            "there is no way from C to A, and row 5 (Ash) and row 2 (Elm) must be driven: open or add a street on the way",
         )
-        self.told(Refusal.CUT_OFF, town, wanted)
+
+    def test_cut_off_at_a_corner_that_nobody_can_leave_or_come_to(self):
+        ring = ("A,B,must,1,Elm", "B,A,must,1,Elm", "B,C,must,1,Oak", "C,B,may,1,Oak")
+        self.told(
+            Refusal.CUT_OFF,
+            listed(*ring, "C,D,must,1,Ash", "D,C,closed,1,Ash"),
+            "there is no way from D to A, nor to any other corner of a must street, "
+            "and row 6 (Ash) and row 2 (Elm) must be driven: open or add a street on the way",
+        )
+        self.told(
+            Refusal.CUT_OFF,
+            listed(*ring, "D,C,must,1,Ash", "C,D,closed,1,Ash"),
+            "there is no way from A to D, nor from any other corner of a must street, "
+            "and row 2 (Elm) and row 6 (Ash) must be driven: open or add a street on the way",
+        )
 
     def test_cut_off_by_marks_and_by_market_days(self):
         town = listed("A,B,must,1,Elm", "B,A,may,1,Elm", "B,C,may,1,Oak")

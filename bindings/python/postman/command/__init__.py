@@ -103,8 +103,14 @@ def parser_of(name: str):
     """The parser of a subcommand's arguments."""
     from argparse import ArgumentParser, RawDescriptionHelpFormatter
 
+    class Parser(ArgumentParser):
+        """A parser that feels a closed pipe, which argparse passes over."""
+
+        def _print_message(self, message, file=None):
+            (file or sys.stderr).write(message or "")
+
     module = import_module(f".{name}", __name__)
-    parser = ArgumentParser(
+    parser = Parser(
         prog=f"postman {name}",
         description=module.__doc__.strip(),
         epilog=f"example:\n{module.EXAMPLE}",

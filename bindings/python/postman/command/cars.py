@@ -10,8 +10,8 @@ from argparse import ArgumentParser, Namespace
 from ..answer import Answer
 from ..cars import Car, two_cars
 from ..refusal import Refusal
-from ..streets import StreetList, explain
-from ..streets.explain import named
+from ..streets import StreetList
+from ..streets.explain import explain, named
 from ..streets.marks_file import marks_text, read_marks
 from ..streets.steps import steps_of
 from ..streets.table import encoded, written

@@ -41,7 +41,7 @@ def print_figures(output: Output, answer: Answer, trees: int | None) -> None:
 
 def count_said(trees: int | None) -> str:
     """A number of trees, which may be beyond what is counted."""
-    return f"above {counted(HIGHEST_COUNT)}" if trees is None else counted(trees)
+    return f"more than {counted(HIGHEST_COUNT)}" if trees is None else counted(trees)
 
 
 def advice(answer: Answer, trees: int | None) -> str:

@@ -11,9 +11,10 @@ from ..limits import MARKS
 from ..open_plan import OpenPlan
 from ..plan import Arc, Standing
 from ..refusal import Refusal
-from ..streets import StreetList, explain
+from ..streets import StreetList
 from ..streets.csv_file import streets_text
 from ..streets.errors import ListError, nearest
+from ..streets.explain import explain
 from ..streets.steps import steps_of
 from ..streets.street_list import HIGHEST_COST, Street
 from ..streets.table import encoded, name_of
@@ -122,7 +123,7 @@ class Editor:
         found = self.found(text)
         if not found:
             names = [saying for street in self.streets.streets for saying in sayings(street)]
-            raise Failed(f"{text} is no street of {self.streets.path}{nearest(name_of(text).lower(), names)}")
+            raise Failed(f"{text} is no street of {self.streets.path}{nearest(name_of(text), names)}")
         return found
 
     def found(self, text: str) -> list[int]:
@@ -131,7 +132,8 @@ class Editor:
         if unit.lower() == self.streets.unit and number.strip().isdigit():
             return [arc for arc, street in enumerate(self.streets.streets) if street.row == int(number)]
         wanted = name_of(text).lower()
-        return [arc for arc, street in enumerate(self.streets.streets) if wanted in sayings(street)]
+        streets = enumerate(self.streets.streets)
+        return [arc for arc, street in streets if wanted in map(str.lower, sayings(street))]
 
     def with_number(self, text: str) -> tuple[list[int], int]:
         """Streets and a cost behind them."""
@@ -323,11 +325,10 @@ class Editor:
 
 
 def sayings(street: Street) -> tuple[str, ...]:
-    """The ways in which a street is named, in small letters."""
+    """The ways in which a street is named."""
     ends = f"from {street.from_corner} to {street.to_corner}"
     full = (f"{street.street} {ends}", f"{street.street} from {street.from_corner}", f"{street.street} to {street.to_corner}")
-    named = (street.street, *full) if street.street else ()
-    return tuple(saying.lower() for saying in (*named, ends))
+    return (street.street, *full, ends) if street.street else (ends,)
 
 
 def difference(last: Answer | None, answer: Answer, word: str) -> str:

@@ -9,8 +9,9 @@ from argparse import ArgumentParser, Namespace
 from pathlib import Path
 
 from ..refusal import Refusal
-from ..streets import StreetList, explain, kind_of, open_list
+from ..streets import StreetList, kind_of, open_list
 from ..streets.csv_file import corners_beside, corners_text, streets_text
+from ..streets.explain import explain
 from ..streets.table import encoded, read_bytes
 from .files import write_files
 from .options import WrongUsage, add_list

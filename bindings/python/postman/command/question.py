@@ -8,7 +8,7 @@ from ..answer import Answer
 from ..calls import plan_call, plan_call_at, tree_count
 from ..plan import Plan
 from ..refusal import Refusal
-from ..streets import StreetList, explain
+from ..streets import StreetList
 from ..windows import Departure
 from .options import WrongUsage, opened
 from .refused import explained
@@ -62,6 +62,8 @@ class Question:
             from ..streets.windows_file import must_shut
 
             return must_shut(self.streets, self.windows, self.departure)
+        from ..streets.explain import explain
+
         return explain(self.streets, refusal, shut=self.shut)
 
 

@@ -4,9 +4,9 @@ from __future__ import annotations
 
 from collections.abc import Callable, Iterator
 from contextlib import contextmanager
+from functools import partial
 
 from ..refusal import Refusal
-from ..streets import explain
 from ..streets.errors import shown
 from ..streets.street_list import StreetList
 
@@ -25,5 +25,9 @@ def explained(streets: StreetList, how: Callable[[Refusal], str] | None = None) 
     try:
         yield
     except Refusal as refusal:
-        sentence = how(refusal) if how else explain(streets, refusal)
+        if how is None:
+            from ..streets.explain import explain
+
+            how = partial(explain, streets)
+        sentence = how(refusal)
         raise Refused(streets.path, refusal, sentence) from None

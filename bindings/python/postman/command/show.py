@@ -8,9 +8,9 @@ from argparse import ArgumentParser, Namespace
 from ..calls import tree_count
 from ..plan import Standing
 from ..refusal import Refusal
-from ..streets import StreetList, explain
+from ..streets import StreetList
 from ..streets.csv_file import streets_text
-from ..streets.explain import named, parts_of
+from ..streets.explain import explain, named, parts_of
 from .directions import count_said
 from .options import add_formats, add_list, opened
 from .output import Output, counted, plural

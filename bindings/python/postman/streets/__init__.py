@@ -22,7 +22,6 @@ __all__ = [
     "Street",
     "StreetList",
     "drive_geojson",
-    "explain",
     "from_geojson",
     "open_list",
     "read",
@@ -97,10 +96,3 @@ def drive_geojson(streets: StreetList, drive) -> dict:
     from .geojson import drive_geojson
 
     return drive_geojson(streets, drive)
-
-
-def explain(streets: StreetList, refusal, **asked) -> str:
-    """What a refusal means in a list; see `postman.streets.explain.explain`."""
-    from .explain import explain
-
-    return explain(streets, refusal, **asked)

@@ -2,6 +2,8 @@
 
 from __future__ import annotations
 
+from collections.abc import Iterable
+
 
 def shown(path: str) -> str:
     """A file as it is named to a person."""
@@ -42,9 +44,10 @@ class ListError(Exception):
         return f"{place}: {self.message}"
 
 
-def nearest(name: str, known) -> str:
-    """A hint at the known name that `name` is most like, or nothing."""
+def nearest(name: str, known: Iterable[str]) -> str:
+    """A hint at the known name that `name` is most like, capital or small, or nothing."""
     from difflib import get_close_matches
 
-    close = get_close_matches(name, list(known), n=1, cutoff=0.75)
-    return f"; did you mean {close[0]}?" if close else ""
+    written = {one.lower(): one for one in known}
+    close = get_close_matches(name.lower(), written, n=1, cutoff=0.75)
+    return f"; did you mean {written[close[0]]}?" if close else ""

@@ -6,6 +6,7 @@ corner to another is the library's to say.
 
 from __future__ import annotations
 
+from collections import Counter
 from collections.abc import Collection, Iterator
 from itertools import islice
 
@@ -13,6 +14,8 @@ from ..limits import MOST_ARCS, MOST_PAIRS, MOST_PARTS, MOST_VERTICES
 from ..plan import Plan, Standing
 from ..refusal import Refusal
 from .street_list import StreetList
+
+OPEN_A_WAY = "open or add a street on the way"
 
 MOST_NAMED = 4
 """How many streets are named before the rest is counted."""
@@ -113,28 +116,40 @@ def scattered(streets: StreetList, must: Collection[int]) -> str:
 
 def cut_off(streets: StreetList, must: Collection[int], shut: Collection[int]) -> str | None:
     """Refusal 12."""
-    pair = pair_without_way(streets, must, shut)
-    if pair is None:
+    found = pairs_without_way(streets, must, shut)
+    if not found:
         return None
-    first, second = pair
+    # A corner that nobody can leave, or come to, tells more than two that are far apart.
+    others = len(corners_of(streets, must)) - 1
+    from_here, to_here = Counter(first for first, _ in found), Counter(second for _, second in found)
+    left = [pair for pair in found if from_here[pair[0]] == others]
+    reached = [pair for pair in found if to_here[pair[1]] == others]
+    first, second = (left or reached or found)[0]
+    more = ", nor to any other corner of a must street" if left else ""
+    if reached and not left:
+        more = ", nor from any other corner of a must street"
     at_first = next(number for number in must if first in ends_of(streets, number))
     at_second = next(number for number in must if second in ends_of(streets, number))
     word = "corner " if streets.unit == "arc" else ""
     way = f"from {word}{streets.corners[first].name} to {word}{streets.corners[second].name}"
     when = " at this departure" if shut else ""
     if at_first == at_second:
-        why = f"the ends of {streets.place(at_first)}, which must be driven"
-    else:
-        why = f"and both {streets.place(at_first)} and {streets.place(at_second)} must be driven"
-    return f"there is no way {way}{when}, {why}: open or add a street on the way"
+        return f"there is no way {way}{when}, the ends of {streets.place(at_first)}, which must be driven: {OPEN_A_WAY}"
+    why = f"{streets.place(at_first)} and {streets.place(at_second)} must be driven"
+    return f"there is no way {way}{more}{when}, and {why}: {OPEN_A_WAY}"
+
+
+def corners_of(streets: StreetList, must: Collection[int]) -> list[int]:
+    """The corners at which must streets begin and end."""
+    return sorted({end for number in must for end in ends_of(streets, number)})
 
 
 def ends_of(streets: StreetList, arc: int) -> tuple[int, int]:
     return streets.plan.arcs[arc].tail, streets.plan.arcs[arc].head
 
 
-def pair_without_way(streets: StreetList, must: Collection[int], shut: Collection[int]) -> tuple[int, int] | None:
-    """The first two corners of must streets with no way from one to the other, by the library's distances."""
+def pairs_without_way(streets: StreetList, must: Collection[int], shut: Collection[int]) -> list[tuple[int, int]]:
+    """The pairs of corners of must streets with no way from one to the other, by the library's distances."""
     from ..calls import distances
 
     # Arcs that are shut are left out and not closed: closed they might agree with others, and the file be refused.
@@ -143,13 +158,11 @@ def pair_without_way(streets: StreetList, must: Collection[int], shut: Collectio
         arc for number, arc in enumerate(plan.arcs) if number not in shut and arc.standing is not Standing.CLOSED
     ]
     file = Plan(plan.vertices, tuple(driven), plan.edition).write()
-    required = sorted({end for number in must for end in ends_of(streets, number)})
+    required = corners_of(streets, must)
     pairs = iter([(first, second) for first in required for second in required if first != second])
-    for page in pages(pairs):
-        for pair, value in zip(page, distances(file, page).values):
-            if value is None:
-                return pair
-    return None
+    return [
+        pair for page in pages(pairs) for pair, value in zip(page, distances(file, page).values) if value is None
+    ]
 
 
 def pages(pairs: Iterator) -> Iterator[list]:
