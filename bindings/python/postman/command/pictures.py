@@ -6,13 +6,10 @@ from argparse import ArgumentParser, ArgumentTypeError
 from collections.abc import Callable
 from pathlib import Path
 from types import ModuleType
-from typing import TYPE_CHECKING
+from typing import Any
 
 from .files import write_files
 from .output import Output
-
-if TYPE_CHECKING:
-    from ..picture import Drawing
 
 
 def add_picture(parser: ArgumentParser, what: str) -> None:
@@ -31,7 +28,7 @@ def named(suffix: str) -> Callable[[str], str]:
     return checked
 
 
-def write_picture(output: Output, path: str | None, draw: Callable[[ModuleType], Drawing]) -> None:
+def write_picture(output: Output, path: str | None, draw: Callable[[ModuleType], Any]) -> None:
     """Writes the picture that `draw` draws with the module `picture`, which is imported only if one was asked for."""
     if path is None:
         return

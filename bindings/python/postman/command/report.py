@@ -18,7 +18,7 @@ from .question import Question
 
 EXAMPLE = """\
   postman report town/streets.csv -o report.html
-  postman report town/streets.csv --windows town/windows.csv --title Alderwick -o report.html"""
+  postman report town/streets.csv --windows town/windows.csv -o report.html"""
 
 
 def add_arguments(parser: ArgumentParser) -> None:

@@ -17,7 +17,7 @@ from ..limits import DAY_MINUTES, DEFAULT_BUDGET, HIGHEST_BUDGET, LAST_WEEKDAY, 
 from ..open_plan import OpenPlan
 from ..plan import Arc, Standing
 from ..refusal import Refusal
-from ..streets import explain
+from ..streets.explain import explain
 from ..streets.drive_file import TypedDrive, drive_of, explain_drive
 from ..streets.street_list import Street, StreetList
 from ..streets.windows_file import TypedWindow, must_shut, shut_at
@@ -40,6 +40,8 @@ class Desk:
         departure: Departure | None = None,
         budget: int = DEFAULT_BUDGET,
     ) -> None:
+        if not 1 <= budget <= HIGHEST_BUDGET:
+            raise Refusal(Refusal.BUDGET)
         self.opened = streets
         self._by_ends: dict[tuple[str, str, str], list[int]] = {}
         for arc, street in enumerate(streets.streets):

@@ -48,7 +48,7 @@ class Base:
 
     def part_names(self) -> list[Group]:
         """Each part's number, where it finds room near its corners."""
-        groups = []
+        groups: list[Group] = []
         if len(self.parts) < 2:
             return groups
         for number, part in enumerate(self.parts):
@@ -145,11 +145,11 @@ class Base:
                     drawn[key] = lanes.loop(self.points[one], away, 13.0 + gap * place, self.corners.rim)
                 continue
             own_gap = min(gap, 70.0 / len(together))
-            places = lanes.offsets([self.plan.arcs[key[0]].tail == one for key in together], own_gap)
-            self.lane_reach[one, other] = max(abs(place) for place in places)
-            for key, place in zip(together, places):
+            offsets = lanes.offsets([self.plan.arcs[key[0]].tail == one for key in together], own_gap)
+            self.lane_reach[one, other] = max(map(abs, offsets))
+            for key, offset in zip(together, offsets):
                 arc = self.plan.arcs[key[0]]
-                drawn[key] = lanes.lane(self.points[arc.tail], self.points[arc.head], place, self.corners.rim)
+                drawn[key] = lanes.lane(self.points[arc.tail], self.points[arc.head], offset, self.corners.rim)
         return drawn
 
 

@@ -3,7 +3,7 @@
 from __future__ import annotations
 
 import math
-from collections.abc import Sequence
+from collections.abc import Callable, Sequence
 
 from ..answer import Answer
 from .drawing import Area, Box, Dot, Drawing, Group, Label, Line, Point, Shape
@@ -53,7 +53,7 @@ def budgets(rows: Sequence[tuple[int, Answer]], title: str = "What a raised budg
     return Drawing(WIDTH, HEIGHT, title, _words(rows), tuple(groups))
 
 
-def _axes(rows: Sequence[tuple[int, Answer]], ticks: Sequence[float], at) -> list[Shape]:  # noqa: ANN001
+def _axes(rows: Sequence[tuple[int, Answer]], ticks: Sequence[float], at: Callable[[int, float], Point]) -> list[Shape]:
     shapes: list[Shape] = []
     for tick in ticks:
         start, end = at(rows[0][0], tick), at(rows[-1][0], tick)

@@ -6,7 +6,7 @@ import math
 from typing import NamedTuple
 
 from ..streets.street_list import StreetList
-from .drawing import Dot, Group, Label, Point
+from .drawing import Dot, Group, Label
 from .ground import Ground
 from .room import Room, body, spine, text_width
 
@@ -55,13 +55,13 @@ class Corners:
         """The dots and the names, which take their room."""
         for x, y in self._points:
             room.take(((x + i * 2, y + j * 2) for i in (-1, 0, 1) for j in (-1, 0, 1)), 2.0)
-        labels = self._points if self._inside else self._labels(room)
-        return [self._group(number, labels[number]) for number in range(len(self._names))]
+        labels = None if self._inside else self._labels(room)
+        return [self._group(number, None if labels is None else labels[number]) for number in range(len(self._names))]
 
-    def _group(self, number: int, label: Label | Point) -> Group:
+    def _group(self, number: int, label: Label | None) -> Group:
         name, at = self._names[number], self._points[number]
         classes = "corner" if number in self._required else "corner plain"
-        if isinstance(label, Label):
+        if label is not None:
             return Group(classes, (Dot(at, self.rim - 1.0, "dot"), label), name, {"corner": number})
         shapes = (Dot(at, self.rim, "dot"), Label(at, name))
         return Group(f"{classes} inside", shapes, f"corner {name}", {"corner": number})

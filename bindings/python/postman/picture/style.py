@@ -6,6 +6,8 @@ matters is told by the line's shape too: width, dashes and crosses.
 
 from __future__ import annotations
 
+from collections.abc import Mapping, Sequence
+
 FONT = "'Helvetica Neue', Helvetica, Arial, 'Liberation Sans', 'DejaVu Sans', sans-serif"
 
 LIGHT = {
@@ -22,8 +24,8 @@ LIGHT = {
     "first-car": "#0b4a9e",
     "second-car": "#b4470a",
     "glow": "#ffd84d",
-    "parts": ("#dce9fb", "#fde6cd", "#dcf1dd", "#f3dff0", "#fbf1c4", "#d7eff0", "#e5e0fa", "#fbdedb"),
 }
+LIGHT_PARTS = ("#dce9fb", "#fde6cd", "#dcf1dd", "#f3dff0", "#fbf1c4", "#d7eff0", "#e5e0fa", "#fbdedb")
 
 DARK = {
     "paper": "#12171f",
@@ -39,8 +41,8 @@ DARK = {
     "first-car": "#8dbcff",
     "second-car": "#ffb082",
     "glow": "#8a6d00",
-    "parts": ("#1c304f", "#473220", "#1d3d28", "#42263d", "#413b17", "#193e42", "#312a53", "#4a2727"),
 }
+DARK_PARTS = ("#1c304f", "#473220", "#1d3d28", "#42263d", "#413b17", "#193e42", "#312a53", "#4a2727")
 
 # Widths and dashes, the same in both.
 _SHAPES = """\
@@ -79,7 +81,7 @@ text, .tint { pointer-events: none; }
 """.replace("FONT", FONT)
 
 
-def _colours(palette: dict) -> str:
+def _colours(palette: Mapping[str, str], parts: Sequence[str]) -> str:
     rules = """\
 text { fill: ink; stroke: none; }
 text.halo { stroke: paper; }
@@ -104,9 +106,9 @@ text.halo { stroke: paper; }
 .ring, .rule, .scale .line { stroke: ink; } .scale .block { fill: ink; stroke: ink; } .scale .blank { fill: paper; stroke: ink; }
 .grid { stroke: faint; } .gap { fill: faint; fill-opacity: 0.35; }
 .shown .hit { stroke: glow; stroke-opacity: 0.9; }"""
-    for number, tint in enumerate(palette["parts"]):
+    for number, tint in enumerate(parts):
         rules += f"\n.part-{number} .tint {{ stroke: {tint}; }} .part-{number} .swatch {{ fill: {tint}; }}"
-    for name in sorted((name for name in palette if name != "parts"), key=len, reverse=True):
+    for name in sorted(palette, key=len, reverse=True):
         for mark in (";", " "):
             rules = rules.replace(f": {name}{mark}", f": {palette[name]}{mark}")
     return rules
@@ -126,8 +128,8 @@ def _scoped(rules: str, scope: str) -> str:
 
 def stylesheet(scope: str = ".postman") -> str:
     """The style of all drawings: light, and dark on a screen that asks for it, never in print."""
-    dark = _scoped(_colours(DARK), scope)
+    dark = _scoped(_colours(DARK, DARK_PARTS), scope)
     return (
-        f"{_scoped(_SHAPES, scope)}\n{_scoped(_colours(LIGHT), scope)}\n"
+        f"{_scoped(_SHAPES, scope)}\n{_scoped(_colours(LIGHT, LIGHT_PARTS), scope)}\n"
         f"@media screen and (prefers-color-scheme: dark) {{\n{dark}\n}}\n"
     )
