@@ -1,5 +1,6 @@
-"""Serves a desk for a list: a page in the browser for trying closings and costs, with
-four marks to come back to, market days, two cars, and saving under a new name.
+"""Serves a desk for a list: a page in the browser for trying closings and costs,
+with four marks to come back to, market days, two cars, and saving under a new
+name.
 
 The page is served to this machine alone, and to those who have its address; it
 needs no network. What is saved goes into the list's folder. Ctrl-C ends it."""

@@ -1,7 +1,7 @@
 """Writes a report on a drive: one HTML file to be filed with the job. It has the
 plan's figures, pictures of the town and of the drive, the steps, what is driven
-twice and why, cost, floor and gap, what a larger budget buys, and the market days
-if they are given. It needs no other file, and prints on A4."""
+twice and why, cost, floor and gap, what a larger budget buys, and the market
+days if they are given. It needs no other file, and prints on A4."""
 
 from __future__ import annotations
 
