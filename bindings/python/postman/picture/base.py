@@ -66,9 +66,10 @@ class Base:
         return groups
 
     def _harm_of_part(self, at: Point, width: float, part: frozenset[int]) -> float:
-        """What a part's name covers there; more if the corner nearest to it is none of the part's."""
-        nearest = min(range(len(self.points)), key=lambda corner: math.dist(self.points[corner], at))
-        return self.room.crowd(spine(at, width, "middle"), 8) + (0 if nearest in part else 12)
+        """What a part's name covers there; more where another part is about as near."""
+        own = min(math.dist(self.points[corner], at) for corner in part)
+        others = [math.dist(self.points[corner], at) for other in self.parts if other != part for corner in other]
+        return self.room.crowd(spine(at, width, "middle"), 8) + (12 if min(others) < 1.6 * own else 0)
 
     def street_names(self) -> list[Group]:
         """The streets' names along them, where they find room; not again within a few blocks."""
@@ -131,8 +132,14 @@ class Base:
             return []
         return [("part-0", (Box((4.0, -6.0), 40.0, 12.0, 6.0, "swatch"),), "a part: must streets that hang together")]
 
-    def ways_beside(self, keys: Sequence[tuple[int, int]], gap: float) -> dict[tuple[int, int], tuple[Point, ...]]:
-        """A line for each key, an arc and a number, in this order beside each other where they join the same corners."""
+    def ways_beside(
+        self, keys: Sequence[tuple[int, int]], gap: float, apart: float = 0.0
+    ) -> dict[tuple[int, int], tuple[Point, ...]]:
+        """A line for each key, an arc and a number, in this order beside each other where they join the same corners.
+
+        The gap between them is wider where the street is short: numbers that stand along it one after the other, each on
+        a lane of its own, are then this far `apart`.
+        """
         between: dict[tuple[int, int], list[tuple[int, int]]] = defaultdict(list)
         for key in keys:
             arc = self.plan.arcs[key[0]]
@@ -144,7 +151,9 @@ class Base:
                 for place, key in enumerate(together):
                     drawn[key] = lanes.loop(self.points[one], away, 13.0 + gap * place, self.corners.rim)
                 continue
-            own_gap = min(gap, 70.0 / len(together))
+            step = 0.9 * math.dist(self.points[one], self.points[other]) / (len(together) + 1)
+            wider = math.sqrt(max(0.0, apart * apart - step * step))
+            own_gap = min(max(gap, wider), 84.0 / len(together))
             offsets = lanes.offsets([self.plan.arcs[key[0]].tail == one for key in together], own_gap)
             self.lane_reach[one, other] = max(map(abs, offsets))
             for key, offset in zip(together, offsets):

@@ -17,6 +17,7 @@ from .passes import Pass, Purpose, passes
 from .room import body, spine, text_width
 
 LANE_GAP = 8.0
+NUMBERS_APART = 16.0
 
 # The most lanes of one arc. Passes beyond it share the last lane, and its number says how many they are.
 MOST_LANES = 12
@@ -41,7 +42,7 @@ def drive(streets: StreetList, answer: Answer, shut: Collection[int] = (), title
             lane_of[one.arc][-1].append(one)
     keys = [(arc, lane) for arc in sorted(lane_of) for lane in range(len(lane_of[arc]))]
     idle = [(arc, 0) for arc in range(len(streets.streets)) if arc not in lane_of]
-    ways = base.ways_beside(keys + idle, LANE_GAP)
+    ways = base.ways_beside(keys + idle, LANE_GAP, NUMBERS_APART)
     groups = base.tints()
     for key in idle:
         groups.append(arc_group(base, key[0], ways[key], shut, idle=True))

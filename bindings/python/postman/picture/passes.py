@@ -1,9 +1,8 @@
 """What each pass of a drive does, as far as the drive itself tells.
 
 The library answers the drive and not why each pass is in it. Told from the drive: the first pass of a must street checks
-it; all others are extra. Extra passes come in runs, between one check and the next. A run that leads from one part to
-another joins them. A run that leads back into the part it left balances: where the streets to check lead into a corner
-more often than out of it, the car has to leave it by a pass that checks nothing.
+it; all others are extra. Extra passes come in runs, between one check and the next. Those of a run from one part to
+another are called joining, those of a run back into the part it left balancing.
 """
 
 from __future__ import annotations

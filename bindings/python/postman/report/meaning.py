@@ -38,8 +38,8 @@ def does(one: Pass) -> str:
 
 
 WHY = (
-    "A must street is checked on its first pass. Every other pass is extra, and is told by the drive itself: on the way from "
-    "the end of one check to the begin of the next, passes that lead from one part to another are <em>joining</em>, for a "
-    "single drive has to reach every part; passes that lead back into the same part are <em>balancing</em>, for a car that "
-    "comes into a corner has to leave it, and the must streets alone do not lead out of every corner as often as into it."
+    "A must street is checked on its first pass; every other pass is extra. What extra passes do is told by the drive itself. "
+    "Those on the way from a check in one part to a check in another are called <em>joining</em>: a single drive has to reach "
+    "every part. Those on the way from one check to the next within a part are called <em>balancing</em>: where must streets and "
+    "joining passes come into a corner more often than they leave it, the car leaves it by an extra pass."
 )
