@@ -1,5 +1,5 @@
 /*
- * How many plan calls a second a loop in C makes: `speed CALLS BUDGET PLAN`. It counts the processor's time, not the clock's.
+ * How many plan calls a second a loop in C makes, by the processor's time: `speed CALLS BUDGET PLAN`.
  *
  *     cc -std=c99 -O2 -Iinclude bindings/c/speed.c build/libpostman.a -o speed
  */

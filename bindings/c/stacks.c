@@ -2,10 +2,10 @@
  * The stack that each call needs.
  *
  *     cc -std=c99 -Iinclude bindings/c/stacks.c build/libpostman.a -pthread -o stacks
- *     ./stacks PLAN...            makes every call on a thread of POSTMAN_STACK_BYTES, for each plan; prints their names
+ *     ./stacks PLAN...            makes every call on a thread of POSTMAN_STACK_BYTES for each plan; prints the calls
  *     ./stacks --least PLAN...    prints the least stack in KiB on which each call works for all the plans
  *
- * A call that runs out of stack meets the guard below it and ends the process that makes it, which is a child of this one.
+ * A call that runs out of stack meets the guard below it and ends the process that makes it, a child of this one.
  */
 #define _GNU_SOURCE
 

@@ -1,7 +1,7 @@
 """Builds the package's wheel with the standard library alone, so that `pip install .` needs no network.
 
-The wheel takes libpostman.so along, from beside the package or from build/ of the repository. Without one it is built all
-the same, and the library is found by POSTMAN_LIBRARY.
+The wheel takes libpostman.so along, from beside the package or from build/ of the repository. Without one it is built
+all the same, and the library is found by POSTMAN_LIBRARY.
 """
 
 from __future__ import annotations
@@ -28,7 +28,7 @@ def _sources() -> list[Path]:
 
 
 def _library() -> Path | None:
-    places = [HERE / "postman" / LIBRARY, *(parent / "build" / LIBRARY for parent in HERE.parents[:2])]
+    places = [HERE / "postman" / LIBRARY, *(root / "build" / LIBRARY for root in HERE.parents[1:2])]
     return next((path for path in places if path.is_file()), None)
 
 

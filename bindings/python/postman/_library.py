@@ -1,6 +1,7 @@
 """The C library: found, loaded, and declared as include/postman.h declares it.
 
-What is proved is this library. The rest of the package lends it memory and takes its answers apart; nothing else here is proved.
+What is proved is this library, but for postman_version and postman_refusal_word. The rest of the package lends it
+memory and takes its answers apart, and is not proved.
 """
 
 from __future__ import annotations
@@ -17,11 +18,11 @@ _HERE = Path(__file__).resolve().parent
 
 
 def candidates() -> list[Path]:
-    """Where the library is looked for, in this order. A path in POSTMAN_LIBRARY is the only one if it is given."""
+    """Where the library is looked for: at POSTMAN_LIBRARY if that is given, else beside the package, then in build/."""
     given = os.environ.get("POSTMAN_LIBRARY")
     if given:
         return [Path(given)]
-    return [_HERE / NAME, *(parent / "build" / NAME for parent in _HERE.parents[1:3])]
+    return [_HERE / NAME, *(root / "build" / NAME for root in _HERE.parents[2:3])]
 
 
 def _load() -> tuple[ctypes.CDLL, Path]:

@@ -32,7 +32,7 @@ class Answer:
 
     @property
     def gap(self) -> float:
-        """By how much of the floor the cost lies above it: the drive is at most this much dearer than the cheapest one."""
+        """By how much of the floor the cost lies above it: the drive is at most this much dearer than the cheapest."""
         if self.cost == self.floor:
             return 0.0
         return (self.cost - self.floor) / self.floor if self.floor else inf

@@ -31,8 +31,8 @@ class Car:
 def two_cars(file: File, first: Car, second: Car) -> tuple[Answer | Refusal, Answer | Refusal]:
     """Lays a drive for each of two cars on the streets of one plan.
 
-    A car is answered what `plan_call` answers for a plan in which its marked arcs, and no others, must be driven: each is
-    checked at its checking cost if it has one, else at its cost, even 0. Neither car feels what the other brings.
+    A car is answered what `plan_call` answers for a plan in which its marked arcs, and no others, must be driven: each
+    is checked at its checking cost if it has one, else at its cost, even 0. Neither car feels what the other brings.
 
     Raises a refusal that reaches both cars: 1 to 7 and 13. Else each is answered, or has a refusal of its own in its
     place: 9, 18 and 10 to 12, in this order.

@@ -37,8 +37,8 @@ class Turn:
 class Districts:
     """A machine that lays drives for up to eight districts in turn.
 
-    Each enters at the back of the line; a turn goes to the front one, which tries 1,000 trees, or those that are left of
-    its budget or of its plan. Iterating gives turn after turn, until no district is inside; more may enter meanwhile.
+    Each enters at the back of the line; a turn goes to the front one, which tries 1,000 trees, or those that are left
+    of its budget or of its plan. Iterating gives turn after turn until no district is inside; more may enter meanwhile.
 
     >>> districts = Districts()
     >>> districts.enter(bytes.fromhex("10402001400141000003"), budget=10_000)
@@ -60,8 +60,8 @@ class Districts:
     def enter(self, file: File, budget: int) -> int:
         """A district enters with its plan file and a budget: its place, the lowest of 0 to 7 that is free.
 
-        Refuses with 1 to 7 and 9 to 13 as `plan_call` does, and with 22 where eight districts are unfinished; then nothing
-        moves.
+        Refuses with 1 to 7 and 9 to 13 as `plan_call` does, and with 22 where eight districts are unfinished; then
+        nothing moves.
         """
         file = file_bytes(file)
         with self._lock:

@@ -22,8 +22,8 @@ def from_networkx(
     """The plan of a DiGraph or MultiDiGraph. The three names are those of the edges' attributes.
 
     Vertices are numbered as `graph.nodes` has them, and their names are kept. Arc k is edge k of `graph.edges`, so that
-    `[list(graph.edges)[k] for k in answer.drive]` is the drive in the graph's own edges. Where the edges have an attribute
-    `arc` that numbers them from 0 without gaps, as `to_networkx` gives it, they go by that.
+    `[list(graph.edges)[k] for k in answer.drive]` is the drive in the graph's own edges. Where the edges have an
+    attribute `arc` that numbers them from 0 without gaps, as `to_networkx` gives it, they go by that.
 
     A standing is a `Standing`, its number, or its word: may, must or closed. An edge without one may be driven. An edge
     must have a cost. Where an edge has a checking cost the plan is of edition 2, unless `edition` says another.

@@ -49,8 +49,8 @@ class OpenPlan:
     def change(self, arc: int, cost: int, checking: int | None, standing: Standing) -> None:
         """Sets an arc's cost, checking cost and standing; a closed arc may be changed too.
 
-        A checking cost of None is the cost of a must arc, and 0 of any other. Refuses with 14 for an arc that the plan does
-        not have, else with 6 or 13 if the changed plan could not be written in its edition.
+        A checking cost of None is the cost of a must arc, and 0 of any other. Refuses with 14 for an arc that the plan
+        does not have, else with 6 or 13 if the changed plan could not be written in its edition.
         """
         standing = Standing(standing)
         cost = price("cost", cost)

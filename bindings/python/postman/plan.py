@@ -43,8 +43,8 @@ class Arc:
     cost: int
     """What a pass costs, 0 to 65,535. It may be 0, but not in a must arc of edition 1."""
     checking: int = None  # type: ignore[assignment]
-    """What the one pass costs on which a must arc is checked, 1 or more; 0 in all other arcs. If it is not given, or None, it
-    is the cost in a must arc and 0 in any other; edition 1 has no others."""
+    """What the one pass costs on which a must arc is checked, 1 or more; 0 in all other arcs. If it is not given, or
+    None, it is the cost in a must arc and 0 in any other; edition 1 has no others."""
 
     def __post_init__(self) -> None:
         keep = object.__setattr__

@@ -109,7 +109,7 @@ _WORDS: dict[int, tuple[str, str, str]] = {
     6: (
         "unpriced",
         "an arc's checking cost is wrong",
-        "Give every arc that must be driven a checking cost of 1 or more, equal to its cost in edition 1, and all others 0.",
+        "Give every must arc a checking cost of 1 or more, equal to its cost in edition 1, and all other arcs 0.",
     ),
     7: (
         "standing",
@@ -149,7 +149,7 @@ _WORDS: dict[int, tuple[str, str, str]] = {
     14: (
         "foreign",
         "a judged list has a number that no arc has, or that of a closed arc; or a changed arc is none",
-        "Use the numbers of arcs of this plan that are not closed.",
+        "Use numbers of arcs that the plan has, and in a drive none of a closed arc.",
     ),
     15: (
         "unjoined",
@@ -174,7 +174,8 @@ _WORDS: dict[int, tuple[str, str, str]] = {
     19: (
         "bad window",
         "a window, the number of windows or the departure is beyond its limits",
-        "Use at most 128 windows of arcs of this plan, weekdays 0 to 6, from below to, to at most 1,440, and a departure before minute 1,440.",
+        "Use at most 128 windows, each of an arc of this plan, a weekday from 0 to 6 and minutes that ascend, the last"
+        " of them 1,440 or less; and depart before minute 1,440.",
     ),
     20: (
         "must shut",

@@ -30,7 +30,9 @@ def postman(*argv: str, stdin: str | bytes = "") -> Done:
     """Runs the command in this process. Nothing is a terminal."""
     data = stdin.encode() if isinstance(stdin, str) else stdin
     out, err = io.TextIOWrapper(io.BytesIO(), "utf-8"), io.StringIO()
-    with mock.patch("sys.stdin", io.TextIOWrapper(io.BytesIO(data), "utf-8")), redirect_stdout(out), redirect_stderr(err):
+    with mock.patch("sys.stdin", io.TextIOWrapper(io.BytesIO(data), "utf-8")), redirect_stdout(out), redirect_stderr(
+        err
+    ):
         status = main([str(word) for word in argv])
         out.flush()
     return Done(status, out.buffer.getvalue().decode("utf-8", "surrogateescape"), err.getvalue())

@@ -28,7 +28,10 @@ from postman import (
 MUST, MAY = Standing.MUST, Standing.MAY
 LOOPS = Plan(
     3,
-    [Arc(v, v, MUST, 1) for v in range(3)] + [Arc(0, 1, MAY, 2), Arc(1, 2, MAY, 2), Arc(2, 0, MAY, 2), Arc(0, 2, MAY, 3)],
+    [
+        *(Arc(v, v, MUST, 1) for v in range(3)),
+        *(Arc(0, 1, MAY, 2), Arc(1, 2, MAY, 2), Arc(2, 0, MAY, 2), Arc(0, 2, MAY, 3)),
+    ],
 )
 """Document 01's case C: three loops that must be driven, and four streets between them."""
 

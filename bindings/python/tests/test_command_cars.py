@@ -13,8 +13,10 @@ from repository import ROOT
 from test_streets_list import Folder
 
 from postman import Car, plan_call, streets, two_cars
+from postman.command import split
 from postman.command.progress import Bars
 from postman.streets.marks_file import read_marks
+from postman.streets.steps import steps_of
 
 FIRST, SECOND = str(TOWN_FOLDER / "first.csv"), str(TOWN_FOLDER / "second.csv")
 DISTRICTS = sorted(str(path) for path in (TOWN_FOLDER / "districts").glob("*.csv"))
@@ -47,7 +49,10 @@ class Cars(Folder):
         done = postman("cars", TOWN, "--first", one, "--second", SECOND, "--budget", "10")
         lines = done.out.splitlines()
         neither = sum(street.must for street in self.town.streets) - 19 - 1
-        self.assertEqual(lines[-2], f"checked by neither car: High Street, Fish Lane, Bakers Row, Exchange Alley and 8 more ({neither} rows)")
+        self.assertEqual(
+            lines[-2],
+            f"checked by neither car: High Street, Fish Lane, Bakers Row, Exchange Alley and 8 more ({neither} rows)",
+        )
         self.assertEqual(lines[-1], "checked by both: Quay (2 rows)")
 
     def test_a_car_that_is_refused_does_not_keep_the_other(self):
@@ -58,7 +63,10 @@ class Cars(Folder):
         self.assertIn("second car", done.out)
         self.assertIn("refusal 10", done.out)
         value = json.loads(postman("cars", TOWN, "--first", none, "--second", SECOND, "--json").out)
-        self.assertEqual((value[0]["refusal"], value[1]["marks"]), ({"number": 10, "word": "idle"}, sorted(read_marks(SECOND, self.town))))
+        self.assertEqual(
+            (value[0]["refusal"], value[1]["marks"]),
+            ({"number": 10, "word": "idle"}, sorted(read_marks(SECOND, self.town))),
+        )
 
     def test_a_proposal(self):
         done = postman("cars", TOWN, "--json")
@@ -68,6 +76,20 @@ class Cars(Folder):
         alone = plan_call(self.town.file, 1000).cost
         self.assertLess(max(first["cost"], second["cost"]), 0.7 * alone)
         self.assertEqual(done.out, postman("cars", TOWN, "--json").out)
+
+    def test_the_proposal_is_the_best_of_the_cuts(self):
+        drive = plan_call(self.town.file, split.BUDGET).drive
+        order = [step.arc for step in steps_of(self.town, drive) if step.checked]
+        cuts = split.cuts_of(order)
+        self.assertLessEqual(len(cuts), split.MOST_CUTS)
+
+        def dearer(first, second) -> int:
+            cars = (Car(split.marks_for(self.town, arcs), split.BUDGET) for arcs in (first, second))
+            return max(answer.cost for answer in two_cars(self.town.file, *cars))
+
+        costs = [dearer(*cut) for cut in cuts]
+        self.assertEqual(dearer(*split.propose(self.town)), min(costs))
+        self.assertLess(min(costs), max(costs))
 
     def test_a_proposal_that_is_kept_gives_the_same_drives(self):
         one, other = str(self.folder / "one.csv"), str(self.folder / "other.csv")
@@ -97,13 +119,16 @@ class Districts(Folder):
         for value in values:
             with self.subTest(value["district"]):
                 answer = plan_call(streets.open_list(value["list"]).file, 2500)
-                self.assertEqual((value["cost"], value["drive"], value["whole"]), (answer.cost, list(answer.drive), answer.whole))
+                self.assertEqual(
+                    (value["cost"], value["drive"], value["whole"]), (answer.cost, list(answer.drive), answer.whole)
+                )
                 self.assertEqual(value["turns"], -(-answer.trees // 1000))
 
     def test_more_than_eight_wait_for_a_place(self):
         done = postman("districts", *DISTRICTS, *DISTRICTS, "--budget", "1001", "--csv")
         rows = list(csv.DictReader(io.StringIO(done.out)))
-        self.assertEqual([row["district"] for row in rows], DISTRICTS * 2)
+        names = [Path(path).stem for path in DISTRICTS]
+        self.assertEqual([row.pop("district") for row in rows], names + [f"{name}-2" for name in names])
         self.assertEqual(rows[:8], rows[8:])
 
     def test_turn_by_turn(self):

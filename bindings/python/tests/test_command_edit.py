@@ -53,7 +53,15 @@ class Editing(Folder):
 
     def test_ways_of_naming_a_street(self):
         wanted = ["Oak Lane from B to A: may, cost 7"]
-        for name in ("Oak Lane", "oak lane", "row 3", "Oak Lane from B to A", "Oak Lane from B", "oak lane to A", "  Oak  Lane"):
+        for name in (
+            "Oak Lane",
+            "oak lane",
+            "row 3",
+            "Oak Lane from B to A",
+            "Oak Lane from B",
+            "oak lane to A",
+            "  Oak  Lane",
+        ):
             with self.subTest(name):
                 self.assertEqual(self.session(f"cost {name} 7"), wanted)
         both = self.session("cost from B to A 7", status=1)
@@ -61,20 +69,40 @@ class Editing(Folder):
         self.assertEqual(self.session("must Route 66"), ["Route 66 from A to B: must, cost 2"])
 
     def test_marks_returns_and_undo(self):
-        lines = self.session("mark", "cost Oak Lane 1", "mark 1", "cost Oak Lane 2", "return", "show", "return 1", "show", "undo", "show")
+        lines = self.session(
+            "mark", "cost Oak Lane 1", "mark 1", "cost Oak Lane 2", "return", "show", "return 1", "show", "undo", "show"
+        )
         one = "Oak Lane from B to A: may, cost 1"
-        self.assertEqual(lines, [one, "Oak Lane from B to A: may, cost 2", "nothing was changed", one, "nothing was changed"])
+        self.assertEqual(
+            lines, [one, "Oak Lane from B to A: may, cost 2", "nothing was changed", one, "nothing was changed"]
+        )
         self.assertEqual(self.session("cost Oak Lane 1", "undo", "show"), [one, "nothing was changed"])
         self.assertIn("postman: line 1: there is nothing to take back", self.session("undo", status=2))
 
     def test_undo_takes_back_a_mark_too(self):
         lines = self.session("mark 2", "undo", "return 2", status=1)
-        self.assertEqual(lines, ["postman: line 3: refusal 21, no mark: a mark's number is above 3, or the mark was never set. Use marks 0 to 3, and set a mark before returning to it."])
+        self.assertEqual(
+            lines,
+            [
+                "postman: line 3: refusal 21, no mark: a mark's number is above 3, or the mark was never set. "
+                "Use marks 0 to 3, and set a mark before returning to it."
+            ],
+        )
 
     def test_standings_and_costs(self):
-        self.assertEqual(self.session("must Oak Lane", "may Oak Lane"), ["Oak Lane from B to A: must, cost 3", "Oak Lane from B to A: may, cost 3"])
         self.assertEqual(
-            self.session("must Oak Lane 4", "checking Oak Lane 6", "cost Oak Lane 2", "close Oak Lane", "open Oak Lane", text=CHECKED),
+            self.session("must Oak Lane", "may Oak Lane"),
+            ["Oak Lane from B to A: must, cost 3", "Oak Lane from B to A: may, cost 3"],
+        )
+        self.assertEqual(
+            self.session(
+                "must Oak Lane 4",
+                "checking Oak Lane 6",
+                "cost Oak Lane 2",
+                "close Oak Lane",
+                "open Oak Lane",
+                text=CHECKED,
+            ),
             [
                 "Oak Lane from B to A: must, cost 3, checking 4",
                 "Oak Lane from B to A: must, cost 3, checking 6",
@@ -95,9 +123,18 @@ class Editing(Folder):
         self.assertEqual(editor.obey("cost from B to A 1").status, 1)
         self.assertEqual((editor.plan.to_bytes(), editor.before), (before, []))
 
+    def test_a_change_that_fails_for_one_street_changes_none(self):
+        text = "from,to,standing,cost,checking,street\nA,B,must,5,8,Elm\nB,A,may,3,,Elm\n"
+        editor = Editor(streets.read(self.file("list.csv", text)), None, None, Output())
+        before = editor.plan.to_bytes()
+        self.assertEqual(editor.obey("must Elm").status, 2)
+        self.assertEqual((editor.plan.to_bytes(), editor.before), (before, []))
+
     def test_refusals_of_asking(self):
         lines = self.session("close Oak Lane", "close Ash Road", "ask", status=1)
-        self.assertIn("line 3: refusal 12, cut off: there is no way from B to A, the ends of row 2 (Elm Street)", lines[-1])
+        self.assertIn(
+            "line 3: refusal 12, cut off: there is no way from B to A, the ends of row 2 (Elm Street)", lines[-1]
+        )
         self.assertIn("refusal 9, budget:", self.session("ask 0", status=1)[-1])
 
     def test_faults_end_a_script(self):
@@ -121,7 +158,9 @@ class Editing(Folder):
             with self.subTest(line):
                 self.assertEqual(self.session(line, "ask", status=2), [f"postman: line 1: {wanted}"])
         asked = self.session("must Oak Lane", text=CHECKED, status=2)
-        self.assertEqual(asked, ["postman: line 1: what does it cost to check Oak Lane from B to A? write: must STREET CHECKING"])
+        self.assertEqual(
+            asked, ["postman: line 1: what does it cost to check Oak Lane from B to A? write: must STREET CHECKING"]
+        )
 
     def test_comments_and_blank_lines(self):
         self.assertEqual(self.session("# a comment", "", "  ", "show"), ["nothing was changed"])
@@ -139,7 +178,7 @@ class Editing(Folder):
         self.assertEqual(target.read_text(), LIST.replace("may,3", "closed,3"))
         self.assertEqual(Path(self.folder / "list.csv").read_text(), LIST)
         lines = self.session(f"save {target}", status=2)
-        self.assertEqual(lines[-1], f"postman: line 1: new.csv: is there already; save new.csv over writes over it")
+        self.assertEqual(lines[-1], "postman: line 1: new.csv: is there already; save new.csv over writes over it")
         self.session("cost Ash Road 4", f"save {target} over")
         self.assertEqual(target.read_text(), LIST.replace("may,9", "may,4"))
         plan = self.folder / "new.plan"
@@ -152,7 +191,10 @@ class Editing(Folder):
         self.assertEqual([line.split(",")[0] for line in lines[::2]], ["cost 8", "cost 14 (+6)", "cost 8 (-6)"])
         refused = self.session("at wed 09:30", "ask", argv=("--windows", windows), status=1)
         self.assertIn("refusal 20, must shut: streets that must be checked are shut", refused[0])
-        self.assertEqual(self.session("at noon", argv=("--windows", windows), status=2)[0], "postman: line 1: 'noon' is no departure: write it as \"tue 09:30\"")
+        self.assertEqual(
+            self.session("at noon", argv=("--windows", windows), status=2)[0],
+            "postman: line 1: 'noon' is no departure: write it as \"tue 09:30\"",
+        )
 
     def test_the_town(self):
         done = postman("edit", TOWN, "--budget", "100", stdin="ask\n")

@@ -3,6 +3,7 @@
 import os
 import pty
 import subprocess
+import sys
 import unittest
 
 from command import TOWN, TOWN_FOLDER, environment, from_shell, postman
@@ -31,7 +32,8 @@ class Status(Folder):
         self.assertEqual(postman("--version").out, f"postman {__version__}\n")
 
     def test_refusals_have_number_word_and_what_to_do(self):
-        way = "there is no way from corner 1 to corner 0, the ends of arc 0, which must be driven: open or add a street on the way"
+        way = "there is no way from corner 1 to corner 0, the ends of arc 0, which must be driven: "
+        way += "open or add a street on the way"
         self.check(1, "drive", CUT_OFF, err=f"postman: {CUT_OFF}: refusal 12, cut off: {way}\n")
         sentence = "the budget is 0 or above 1,000,000. Choose a budget from 1 to 1,000,000 trees."
         self.check(1, "drive", CASE_A, "--budget", "0", err=f"refusal 9, budget: {sentence}\n")
@@ -46,6 +48,7 @@ class Status(Folder):
         self.check(2, "drvie", err="postman: drvie is no subcommand; did you mean drive?")
         self.check(2, "drive", err="postman drive: error: the following arguments are required: LIST")
         self.check(2, "drive", CASE_A, "--bugdet", "1", err="unrecognized arguments: --bugdet 1")
+        self.check(2, "drive", CASE_A, "--budg", "1", err="unrecognized arguments: --budg 1")
         self.check(2, "drive", CASE_A, "--budget", "x", err="x is not a whole number")
         self.check(2, "drive", CASE_A, "--json", "--csv", err="not allowed with argument --json")
         self.check(2, "drive", CASE_A, "--at", "noon", err="'noon' is no departure")
@@ -65,7 +68,13 @@ class Status(Folder):
         self.assertIn(b"refusal 12", err)
 
     def test_a_closed_pipe(self):
-        for argv in (["drive", TOWN], ["--help"], ["drive", "--help"], ["drive", TOWN, "--json"], ["completion", "bash"]):
+        for argv in (
+            ["drive", TOWN],
+            ["--help"],
+            ["drive", "--help"],
+            ["drive", TOWN, "--json"],
+            ["completion", "bash"],
+        ):
             with self.subTest(argv):
                 read, write = os.pipe()
                 os.close(read)
@@ -74,12 +83,23 @@ class Status(Folder):
                 err = done.communicate()[1]
                 self.assertEqual((done.returncode, err), (141, b""))
 
+    def test_writing_that_fails(self):
+        with open("/dev/full", "wb") as full:
+            done = from_shell("drive", TOWN, stdout=full, stderr=subprocess.PIPE)
+            err = done.communicate()[1]
+        self.assertEqual((done.returncode, err), (2, b"postman: writing failed: No space left on device\n"))
+
+    def test_no_standard_output(self):
+        words = [sys.executable, "-m", "postman", "drive", TOWN]
+        done = subprocess.run(["sh", "-c", '"$@" >&-', "sh", *words], env=environment(), capture_output=True)
+        self.assertEqual((done.returncode, done.stderr), (141, b""))
+
     def test_letters_that_the_terminal_does_not_have(self):
         path = self.file("list.csv", "from,to,standing,cost,street\nA,B,must,1,M\u00fchlgasse\nB,A,may,1,\n")
         done = from_shell("drive", path, stdout=subprocess.PIPE, stderr=subprocess.PIPE)
         out, err = done.communicate()
         self.assertIn("M\u00fchlgasse", out.decode())
-        words = ["python3", "-m", "postman", "drive", path]
+        words = [sys.executable, "-m", "postman", "drive", path]
         plain = subprocess.run(words, env=environment(PYTHONIOENCODING="ascii"), capture_output=True)
         self.assertEqual((plain.returncode, plain.stderr), (0, b""))
         self.assertIn(b"M\\xfchlgasse", plain.stdout)
@@ -102,7 +122,11 @@ def on_terminal(*argv: str, stdout: bool = False, stderr: bool = False, **variab
     env = {name: value for name, value in environment(TERM="xterm").items() if name != "NO_COLOR"} | variables
     ends = {name: pty.openpty() if terminal else os.pipe() for name, terminal in (("out", stdout), ("err", stderr))}
     process = subprocess.Popen(
-        ["python3", "-m", "postman", *argv], env=env, stdout=ends["out"][1], stderr=ends["err"][1], stdin=subprocess.DEVNULL
+        [sys.executable, "-m", "postman", *argv],
+        env=env,
+        stdout=ends["out"][1],
+        stderr=ends["err"][1],
+        stdin=subprocess.DEVNULL,
     )
     found = []
     for name in ("out", "err"):

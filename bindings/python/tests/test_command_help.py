@@ -14,7 +14,9 @@ MAN = PACKAGE / "man" / "postman.1"
 
 
 def options_of(name: str) -> list[str]:
-    return [option for option in parser_of(name)._option_string_actions if option.startswith("--") and option != "--help"]
+    return [
+        option for option in parser_of(name)._option_string_actions if option.startswith("--") and option != "--help"
+    ]
 
 
 class Help(unittest.TestCase):
@@ -68,7 +70,9 @@ class Completion(unittest.TestCase):
     def complete(self, *words: str) -> list[str]:
         script = postman("completion", "bash").out
         listed = " ".join(f"'{word}'" for word in words)
-        script += f"\nCOMP_WORDS=({listed}); COMP_CWORD={len(words) - 1}; _postman; printf '%s\\n' \"${{COMPREPLY[@]}}\"\n"
+        script += (
+            f"\nCOMP_WORDS=({listed}); COMP_CWORD={len(words) - 1}; _postman; printf '%s\\n' \"${{COMPREPLY[@]}}\"\n"
+        )
         done = subprocess.run(["bash", "-u", "-c", script], capture_output=True, text=True)
         self.assertEqual((done.returncode, done.stderr), (0, ""))
         return done.stdout.split()

@@ -14,7 +14,8 @@ STRICT = ("-Wall", "-Wextra", "-Wpedantic", "-Werror")
 
 def exported(*nm: str | Path) -> set[str]:
     """The names that a library defines for others."""
-    return {line.split()[-1] for line in run("nm", "--defined-only", "--extern-only", *nm).stdout.splitlines() if " " in line}
+    lines = run("nm", "--defined-only", "--extern-only", *nm).stdout.splitlines()
+    return {line.split()[-1] for line in lines if " " in line}
 
 
 class Install(unittest.TestCase):
@@ -68,8 +69,8 @@ class Install(unittest.TestCase):
 
     def test_the_archive_is_position_independent(self) -> None:
         shared = self.folder / "own.so"
-        archive = self.lib / "libpostman.a"
-        run("cc", "-shared", "-Wl,-z,defs,-z,text", "-Wl,--whole-archive", archive, "-Wl,--no-whole-archive", "-o", shared)
+        archive = ("-Wl,--whole-archive", self.lib / "libpostman.a", "-Wl,--no-whole-archive")
+        run("cc", "-shared", "-Wl,-z,defs,-z,text", *archive, "-o", shared)
         self.assertLessEqual(set(DECLARATIONS), exported("-D", shared))
 
     def test_the_shared_library_says_its_version(self) -> None:
@@ -86,17 +87,16 @@ class Install(unittest.TestCase):
         words = f"DESTDIR={stage}", "PREFIX=/opt/postman"
         make("install", *words)
         files = {path.relative_to(stage / "opt/postman").as_posix() for path in stage.rglob("*") if not path.is_dir()}
-        self.assertLessEqual({"include/postman.h", "lib/libpostman.a", "lib/libpostman.so", "lib/pkgconfig/postman.pc"}, files)
-        pages = {f"share/man/man1/{page.name}" for page in ROOT.glob("bindings/python/man/*.1")}
-        self.assertLessEqual(pages, files)
+        libraries = {"lib/libpostman.a", "lib/libpostman.so", "lib/libpostman.so.0", "lib/libpostman.so.0.1.0"}
+        others = {"include/postman.h", "lib/pkgconfig/postman.pc", "share/man/man1/postman.1"}
+        self.assertEqual(files, libraries | others)
         self.assertIn("prefix=/opt/postman\n", (stage / "opt/postman/lib/pkgconfig/postman.pc").read_text())
         make("uninstall", *words)
         self.assertEqual([path for path in stage.rglob("*") if not path.is_dir()], [])
 
     def test_every_call_on_a_thread_of_the_stack_that_the_header_names(self) -> None:
-        program = self.built(
-            "stacks", "cc", "-std=c99", *STRICT, "-O2", "-Iinclude", "bindings/c/stacks.c", str(BUILD / "libpostman.a"), "-pthread"
-        )
+        source = ("-Iinclude", "bindings/c/stacks.c", str(BUILD / "libpostman.a"), "-pthread")
+        program = self.built("stacks", "cc", "-std=c99", *STRICT, "-O2", *source)
         plans = [path for path in kept_plans() if path.name != "cut_off.plan"]
         self.assertEqual(run(program, *plans).stdout.split(), list(DECLARATIONS))
 

@@ -67,7 +67,7 @@ class Package(unittest.TestCase):
         }
         missing = f"{sys.executable} -c 'import postman' 2>&1 | tail -n 1"
         said = run("sh", "-c", missing, env=environment(PYTHONPATH=str(python))).stdout
-        self.assertRegex(said, "^ImportError: there is no libpostman.so .*: run `make` in the repository, or set POSTMAN_LIBRARY")
+        self.assertRegex(said, "^ImportError: there is no libpostman.so .*: run `make` .* or set POSTMAN_LIBRARY")
         for name in reversed(places):
             places[name].parent.mkdir(parents=True, exist_ok=True)
             shutil.copy(BUILD / "libpostman.so", places[name])

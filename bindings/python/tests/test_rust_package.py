@@ -88,9 +88,8 @@ def answers(file: bytes) -> dict[str, object]:
         drive = plan_call(file, 10).drive
     except Refusal:
         drive = (0,)
-    even, odd = (
-        [k % 2 == remainder and arc.standing == Standing.MUST for k, arc in enumerate(plan.arcs)] for remainder in (0, 1)
-    )
+    musts = [arc.standing == Standing.MUST for arc in plan.arcs]
+    even, odd = ([must and k % 2 == remainder for k, must in enumerate(musts)] for remainder in (0, 1))
     arcs = [[arc.tail, arc.head, arc.standing, arc.cost, arc.checking] for arc in plan.arcs]
     departures = (Departure(2, 600), Departure(2, 720), Departure(7, 0))
     return {
@@ -110,7 +109,9 @@ def answers(file: bytes) -> dict[str, object]:
 class RustPackage(unittest.TestCase):
     def test_both_packages_answer_alike(self) -> None:
         plans = kept_plans()
-        lines = cargo("run", "--quiet", "--release", "--offline", "--example", "answers", *map(str, plans)).splitlines()
+        printed = cargo("run", "--quiet", "--release", "--offline", "--example", "answers", *map(str, plans))
+        texts, *lines = printed.splitlines()
+        self.assertEqual(json.loads(texts), [str(Refusal(number)) for number in range(1, 23)])
         self.assertEqual(len(lines), len(plans))
         refusals = set()
         for path, line in zip(plans, lines):
@@ -119,7 +120,7 @@ class RustPackage(unittest.TestCase):
             for name in ours:
                 self.assertEqual(of_rust[name], ours[name], f"{path.name}: {name}")
             refusals |= {number for number in range(1, 23) if f'"refused": {number},' in line}
-        # The questions meet refusals too, so that their words are compared.
+        # The questions meet refusals too.
         self.assertLessEqual({9, 12, 14, 15, 16, 19, 20}, refusals)
 
     def test_it_can_be_packed(self) -> None:

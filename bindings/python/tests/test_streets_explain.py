@@ -1,12 +1,13 @@
 """What a refusal means in a street list."""
 
 import unittest
+from random import Random
 
 import repository  # noqa: F401
 
 from postman import Refusal, plan_call
 from postman.streets.csv_file import read_csv
-from postman.streets.explain import explain, parts_of
+from postman.streets.explain import explain, pairs_without_way, parts_of
 
 
 def listed(*rows: str, checking: bool = False):
@@ -28,7 +29,8 @@ class Explaining(unittest.TestCase):
 
     def test_too_many_streets(self):
         town = listed(*(f"A,B,must,{k + 1},Street {k}" for k in range(257)))
-        wanted = "257 rows, and a plan has at most 256; the first beyond them is row 258 (Street 256): cut the list into sheets"
+        wanted = "257 rows, and a plan has at most 256; the first beyond them is row 258 (Street 256): "
+        wanted += "cut the list into sheets"
         self.told(Refusal.EXTENT, town, wanted)
 
     def test_unpriced(self):
@@ -54,12 +56,14 @@ class Explaining(unittest.TestCase):
         self.told(
             Refusal.CUT_OFF,
             listed("A,B,must,1,Elm", "B,C,may,1,Oak"),
-            "there is no way from B to A, the ends of row 2 (Elm), which must be driven: open or add a street on the way",
+            "there is no way from B to A, the ends of row 2 (Elm), which must be driven: "
+            "open or add a street on the way",
         )
         self.told(
             Refusal.CUT_OFF,
             listed("A,B,must,1,Elm", "B,A,must,1,Elm", "B,C,may,1,Oak", "C,D,must,1,Ash", "D,C,may,1,Ash"),
-            "there is no way from C to A, and row 5 (Ash) and row 2 (Elm) must be driven: open or add a street on the way",
+            "there is no way from C to A, and row 5 (Ash) and row 2 (Elm) must be driven: "
+            "open or add a street on the way",
         )
 
     def test_cut_off_at_a_corner_that_nobody_can_leave_or_come_to(self):
@@ -98,6 +102,53 @@ class Explaining(unittest.TestCase):
     def test_others_are_told_by_their_sentence_and_advice(self):
         refusal = Refusal(Refusal.BUDGET)
         self.assertEqual(explain(listed("A,B,must,1,Elm"), refusal), f"{refusal.sentence}. {refusal.advice}")
+
+
+def reached(town, start: int, shut) -> set[int]:
+    """The corners that can be reached, by a plain walk."""
+    seen, todo = {start}, [start]
+    while todo:
+        here = todo.pop()
+        for number, arc in enumerate(town.plan.arcs):
+            if arc.tail == here and arc.standing != 2 and number not in shut and arc.head not in seen:
+                seen.add(arc.head)
+                todo.append(arc.head)
+    return seen
+
+
+class Drawn(unittest.TestCase):
+    """What is said of drawn lists is true of them."""
+
+    def test_pairs_without_a_way(self):
+        draw = Random(12)
+        found = 0
+        for _ in range(300):
+            count = draw.randrange(2, 9)
+            rows = {
+                (
+                    draw.randrange(count),
+                    draw.randrange(count),
+                    draw.choice(("may", "must", "must", "closed")),
+                    draw.randrange(1, 9),
+                )
+                for _ in range(draw.randrange(1, 14))
+            }
+            town = listed(*(f"{tail},{head},{word},{cost}," for tail, head, word, cost in sorted(rows)))
+            must = [number for number, street in enumerate(town.streets) if street.must]
+            if not must:
+                continue
+            shut = {number for number in range(len(rows)) if draw.random() < 0.1} - set(must)
+            required = {end for number in must for end in (town.plan.arcs[number].tail, town.plan.arcs[number].head)}
+            wanted = {(a, b) for a in required for b in required - reached(town, a, shut)}
+            self.assertEqual(set(pairs_without_way(town, must, shut)), wanted)
+            self.assertEqual(len({part[0] for part in parts_of(town, must)}), len(parts_of(town, must)))
+            try:
+                self.assertEqual(plan_call(town.file, 1).parts, len(parts_of(town, must)))
+            except Refusal as refusal:
+                self.assertEqual(refusal.number, Refusal.CUT_OFF)
+                self.assertRegex(explain(town, refusal), "^there is no way from .* to .* must be driven: open or add")
+                found += 1
+        self.assertGreater(found, 50)
 
 
 class Parts(unittest.TestCase):

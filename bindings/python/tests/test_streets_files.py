@@ -42,7 +42,13 @@ class Windows(Lists):
         self.assertEqual([typed.row.number for typed in found], [2, 2, 3, 3, 3, 3])
 
     def test_days(self):
-        cases = [("mon", [0]), ("Sunday", [6]), ("mon-fri", [0, 1, 2, 3, 4]), ("fri-mon", [0, 4, 5, 6]), ("daily", [*range(7)])]
+        cases = [
+            ("mon", [0]),
+            ("Sunday", [6]),
+            ("mon-fri", [0, 1, 2, 3, 4]),
+            ("fri-mon", [0, 4, 5, 6]),
+            ("daily", [*range(7)]),
+        ]
         cases += [("tue thu", [1, 3]), ("thu-fri tue", [1, 3, 4])]
         for text, wanted in cases:
             with self.subTest(text):
@@ -66,8 +72,12 @@ class Windows(Lists):
         for row, message in cases:
             with self.subTest(message):
                 self.fails(f"windows.csv row 2 ({row.split(',')[0]}): {message}", self.windows, row)
-        self.fails("windows.csv row 2: names no street: write its name, or its ends, or both", self.windows, ",,,tue,1:00,2:00")
-        message = "windows.csv row 11 (Elm Street): 140 windows, one a street and day, and at most 128: this row is beyond"
+        self.fails(
+            "windows.csv row 2: names no street: write its name, or its ends, or both", self.windows, ",,,tue,1:00,2:00"
+        )
+        message = (
+            "windows.csv row 11 (Elm Street): 140 windows, one a street and day, and at most 128: this row is beyond"
+        )
         rows = [f"Elm Street,,,daily,{hour}:00,{hour}:30" for hour in range(10)]
         self.fails(message, self.windows, *rows)
 
@@ -163,7 +173,9 @@ class Drives(Lists):
         self.assertEqual(self.judged("[-1]"), "14: drive.csv place 1: arc -1 is no street of streets.csv")
         wanted = "14: drive.csv row 3: Ash Road from B to C is no street of streets.csv"
         self.assertEqual(self.judged(table + "Ash Road,B,C\n"), wanted)
-        self.assertEqual(self.judged(table + "Old Ash Road,C,A\n"), "14: drive.csv row 3: Old Ash Road from C to A is closed")
+        self.assertEqual(
+            self.judged(table + "Old Ash Road,C,A\n"), "14: drive.csv row 3: Old Ash Road from C to A is closed"
+        )
 
     def test_unjoined(self):
         told = "Elm Street from A to B ends at B, and the next, Ash Road from C to A (line 2), begins at C"
@@ -176,18 +188,27 @@ class Drives(Lists):
         self.assertEqual(self.judged("0\n1\n"), wanted)
         self.assertEqual(
             self.judged("[]"),
-            "16: drive.csv: 2 must streets are missed:\n  Elm Street from A to B (row 2)\n  Oak Lane from B to C (row 4)",
+            "16: drive.csv: 2 must streets are missed:\n"
+            "  Elm Street from A to B (row 2)\n"
+            "  Oak Lane from B to C (row 4)",
         )
 
     def test_wording(self):
         cases = [
-            ("north\n", "drive.csv line 1: north is no arc number: write one a line, or a table with the columns from, to and street"),
+            (
+                "north\n",
+                "drive.csv line 1: north is no arc number: "
+                "write one a line, or a table with the columns from, to and street",
+            ),
             ("{}", "drive.csv: has no drive: a list of arc numbers, or an object in which drive is one"),
             ("[0.5]", "drive.csv: has no drive: a list of arc numbers, or an object in which drive is one"),
             ("{", "drive.csv: line 1, column 2: Expecting property name enclosed in double quotes; this is no JSON"),
             ("arc\nx\n", "drive.csv row 2: arc x is not a whole number"),
             ("from,to\nA,\n", "drive.csv row 2: to is empty"),
-            ("arc,street\n0,Oak Lane\n", "drive.csv row 2 (Oak Lane): arc 0 has street Elm Street in streets.csv, and Oak Lane here"),
+            (
+                "arc,street\n0,Oak Lane\n",
+                "drive.csv row 2 (Oak Lane): arc 0 has street Elm Street in streets.csv, and Oak Lane here",
+            ),
         ]
         for text, message in cases:
             with self.subTest(message):

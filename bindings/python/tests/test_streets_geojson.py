@@ -17,7 +17,11 @@ MUST, MAY, CLOSED = Standing.MUST, Standing.MAY, Standing.CLOSED
 
 
 def line(*points, **properties):
-    return {"type": "Feature", "properties": properties, "geometry": {"type": "LineString", "coordinates": list(points)}}
+    return {
+        "type": "Feature",
+        "properties": properties,
+        "geometry": {"type": "LineString", "coordinates": list(points)},
+    }
 
 
 def point(where, name):
@@ -94,7 +98,9 @@ class Reading(unittest.TestCase):
         self.assertEqual(plan_call(found.file, 1).cost, 430)
 
     def test_names_of_corners(self):
-        found = town(line(A, B, name="Elm"), line(B, C, name="Oak"), line(B, [-2.297, 54.2]), line([-2.297, 54.2], B, name="Elm"))
+        found = town(
+            line(A, B, name="Elm"), line(B, C, name="Oak"), line(B, [-2.297, 54.2]), line([-2.297, 54.2], B, name="Elm")
+        )
         names = [corner.name for corner in found.corners]
         self.assertEqual(names, ["Elm, end", "Elm / Oak", "Oak, end", "Elm, end (2)"])
         self.assertEqual(town(line(A, B)).corners[1].name, "corner 2")
@@ -114,7 +120,8 @@ class Reading(unittest.TestCase):
     def test_lines_through_a_corner_are_noted(self):
         middle = [-2.299, 54.2]
         found = town(line(A, middle, B, name="Elm"), line(middle, C, name="Oak"), *NAMES)
-        wanted = "1 line passes through corners without ending there, such as feature 1 (Elm) at Oak, end: split them there for turns"
+        wanted = "1 line passes through corners without ending there, such as feature 1 (Elm) at Oak, end: "
+        wanted += "split them there for turns"
         self.assertEqual(found.notes, (wanted,))
 
     def test_wording(self):
@@ -124,9 +131,17 @@ class Reading(unittest.TestCase):
             ([], {}, "GeoJSON: is no GeoJSON: its type is neither FeatureCollection nor Feature"),
             (line(A), {}, "GeoJSON feature 1: a line needs two points"),
             (line(A, ["x", 1]), {}, "GeoJSON feature 1: its geometry is no GeoJSON"),
-            (line(A, B, name="Elm", oneway="maybe"), {}, "GeoJSON feature 1 (Elm): oneway maybe is none of yes, no and -1"),
+            (
+                line(A, B, name="Elm", oneway="maybe"),
+                {},
+                "GeoJSON feature 1 (Elm): oneway maybe is none of yes, no and -1",
+            ),
             (line(A, B, name="Elm"), {"cost": "s"}, "GeoJSON feature 1 (Elm): s is empty, and no number"),
-            (line(A, B, name="Elm", s=70000), {"cost": "s"}, "GeoJSON feature 1 (Elm): s 70000 is not between 0 and 65535"),
+            (
+                line(A, B, name="Elm", s=70000),
+                {"cost": "s"},
+                "GeoJSON feature 1 (Elm): s 70000 is not between 0 and 65535",
+            ),
             (line(A, B, name="Elm", s=1.5), {"cost": "s"}, "GeoJSON feature 1 (Elm): s 1.5 is not a whole number"),
             (line([0, 0], [0, 1]), {}, "GeoJSON feature 1: its length of 111195 m is above 65535"),
             (line(A, B, standing="shall"), {}, "GeoJSON feature 1: standing shall is none of may, must and closed"),
@@ -150,17 +165,24 @@ class Writing(unittest.TestCase):
 
     def test_a_drive_as_geojson(self):
         value = json.loads(json.dumps(drive_geojson(self.town, self.drive)))
+        self.assertEqual(drive_geojson(self.town, plan_call(self.town.file, 100)), value)
         features = value["features"]
         self.assertEqual([feature["properties"]["arc"] for feature in features], list(self.drive))
-        self.assertEqual(sum(feature["properties"]["cost"] for feature in features), plan_call(self.town.file, 100).cost)
+        self.assertEqual(
+            sum(feature["properties"]["cost"] for feature in features), plan_call(self.town.file, 100).cost
+        )
         checked = [feature["properties"]["arc"] for feature in features if feature["properties"]["checked"]]
         self.assertEqual(sorted(checked), [arc for arc, street in enumerate(self.town.streets) if street.must])
         for before, after in zip(features, features[1:] + features[:1]):
             self.assertEqual(before["geometry"]["coordinates"][1], after["geometry"]["coordinates"][0])
 
     def test_it_reads_back_as_a_map(self):
-        again = from_geojson(deepcopy(drive_geojson(placed(self.town, 54.2, -2.3), self.drive)), street="street", cost="cost")
-        self.assertLessEqual({street.street for street in again.streets}, {street.street for street in self.town.streets})
+        again = from_geojson(
+            deepcopy(drive_geojson(placed(self.town, 54.2, -2.3), self.drive)), street="street", cost="cost"
+        )
+        self.assertLessEqual(
+            {street.street for street in again.streets}, {street.street for street in self.town.streets}
+        )
 
     def test_without_coordinates_there_is_no_geometry(self):
         bare = streets.open_list(str(ROOT / "examples" / "town.plan"))

@@ -48,7 +48,7 @@ class Plans(Folder):
         self.assertEqual(read_csv("list.csv", None, FIRST).file[0] >> 4, 1)
 
     def test_corners_have_the_order_of_their_file(self):
-        corners = self.file("corners.csv", "corner,x,y\nC,1,2\nA,\"3,5\",-4.25\nB,,\nD,0,0\n")
+        corners = self.file("corners.csv", 'corner,x,y\nC,1,2\nA,"3,5",-4.25\nB,,\nD,0,0\n')
         town = streets.read(self.file("streets.csv", LIST), corners)
         self.assertEqual(town.corners, (Corner("C", 1, 2), Corner("A", 3.5, -4.25), Corner("B"), Corner("D", 0, 0)))
         self.assertEqual(town.plan.arcs[0], Arc(2, 1, Standing.MUST, 5, 9))
@@ -102,7 +102,11 @@ class Comparing(Folder):
         cases = [
             (self.held(tail=2), "from", "from is A in the list and C in the plan's file"),
             (self.held(head=2), "to", "to is B in the list and C in the plan's file"),
-            (self.held(standing=Standing.CLOSED), "standing", "standing is may in the list and closed in the plan's file"),
+            (
+                self.held(standing=Standing.CLOSED),
+                "standing",
+                "standing is may in the list and closed in the plan's file",
+            ),
             (self.held(cost=4), "cost", "cost is 3 in the list and 4 in the plan's file"),
             (self.held(checking=4), "checking", "checking is 0 in the list and 4 in the plan's file"),
         ]

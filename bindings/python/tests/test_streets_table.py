@@ -1,12 +1,16 @@
 """Tables as spreadsheets write them."""
 
+import csv
+import io
 import unittest
+from random import Random
 
 import repository  # noqa: F401
 
-from postman.streets.csv_file import read_csv
-from postman.streets.errors import ListError
-from postman.streets.table import encoded, read_table, written
+from postman import Standing
+from postman.streets import ListError, Street, StreetList
+from postman.streets.csv_file import corners_in_order, read_csv, streets_text
+from postman.streets.table import encoded, name_of, read_table, written
 
 PLAIN = "from,to,standing,cost,street\nA,B,must,5,Mill Lane\nB,A,may,3,Mill Lane\n"
 
@@ -35,11 +39,12 @@ class Quirks(unittest.TestCase):
             "semicolons": PLAIN.replace(",", ";"),
             "tabs": PLAIN.replace(",", "\t"),
             "quotes": 'from,to,standing,cost,street\n"A","B","must","5","Mill Lane"\n"B","A","may","3","Mill Lane"\n',
-            "blank rows": "\n,,,,\nfrom,to,standing,cost,street\n\nA,B,must,5,Mill Lane\n,,,,\n\nB,A,may,3,Mill Lane\n\n",
+            "blank rows": "\n,,,,\n" + PLAIN.replace("\n", "\n,,,,\n\n"),
             "spaces": "from , to,standing,cost, street\n A ,B, must ,5 ,Mill  Lane\nB,A,may,3,\tMill Lane \n",
             "capitals": "From,TO,Standing,Cost,Street\nA,B,MUST,5,Mill Lane\nB,A,May,3,Mill Lane\n",
             "another order": "street,cost,to,from,standing\nMill Lane,5,B,A,must\nMill Lane,3,A,B,may\n",
-            "other columns": "id,from,to,note,standing,cost,street,note\n7,A,B,x,must,5,Mill Lane,y\n8,B,A,,may,3,Mill Lane,\n",
+            "other columns": "id,from,to,note,standing,cost,street,note\n"
+            "7,A,B,x,must,5,Mill Lane,y\n8,B,A,,may,3,Mill Lane,\n",
             "empty columns": "from,to,standing,cost,street,,\nA,B,must,5,Mill Lane,,\nB,A,may,3,Mill Lane,,\n",
             "no-break space": PLAIN.replace("Mill Lane", "Mill\u00a0Lane"),
             "CRLF with BOM and semicolons": b"\xef\xbb\xbf" + crlf.replace(",", ";").encode(),
@@ -49,8 +54,12 @@ class Quirks(unittest.TestCase):
                 self.assertEqual(rows(data), wanted)
 
     def test_quoted_separators_quotes_and_line_breaks(self):
-        data = 'from,to,standing,cost,street\n"Inn, the","say ""B""",must,5,"Mill\nLane"\n"say ""B""","Inn, the",may,3,\n'
-        self.assertEqual(rows(data), [("Inn, the", 'say "B"', "must", 5, "Mill Lane"), ('say "B"', "Inn, the", "may", 3, "")])
+        data = (
+            'from,to,standing,cost,street\n"Inn, the","say ""B""",must,5,"Mill\nLane"\n"say ""B""","Inn, the",may,3,\n'
+        )
+        self.assertEqual(
+            rows(data), [("Inn, the", 'say "B"', "must", 5, "Mill Lane"), ('say "B"', "Inn, the", "may", 3, "")]
+        )
 
     def test_rows_are_numbered_as_a_spreadsheet_numbers_them(self):
         self.assertEqual(row_numbers(PLAIN), [2, 3])
@@ -97,7 +106,10 @@ class Errors(unittest.TestCase):
                 header + "A,B,must,5,,Elm\n",
                 "list.csv row 2 (Elm): checking is empty, and the street is must: write what the checking pass costs",
             ),
-            (header + "A,B,may,5,6,Elm\n", "list.csv row 2 (Elm): checking is 6, and the street is may: leave it empty"),
+            (
+                header + "A,B,may,5,6,Elm\n",
+                "list.csv row 2 (Elm): checking is 6, and the street is may: leave it empty",
+            ),
             (header + "A,B,closed,5,6,\n", "list.csv row 2: checking is 6, and the street is closed: leave it empty"),
             (
                 header + "A,B,must,5,6,Mill, Lane\n",
@@ -113,8 +125,15 @@ class Errors(unittest.TestCase):
             with self.subTest(message):
                 self.refused(data, message)
 
+    def test_what_is_no_text(self):
+        self.refused(b"from,to\n\0,B\n", "list.csv row 2: is no text; save it as CSV UTF-8")
+        self.refused(b"PK\x03\x04\x14\x00", "list.csv: is a spreadsheet's own file; save it as CSV UTF-8")
+        self.refused(b"\xff\xfe\x00", "list.csv: is not UTF-16 text, as its first bytes say; save it as CSV UTF-8")
+
     def test_an_error_holds_its_place(self):
-        error = self.refused("from,to,standing,cost,street\nA,B,must,x,Elm\n", "list.csv row 2 (Elm): cost x is not a whole number")
+        error = self.refused(
+            "from,to,standing,cost,street\nA,B,must,x,Elm\n", "list.csv row 2 (Elm): cost x is not a whole number"
+        )
         self.assertEqual((error.file, error.row, error.column, error.street), ("list.csv", 2, "cost", "Elm"))
 
     def test_missing_files(self):
@@ -128,10 +147,38 @@ class Errors(unittest.TestCase):
 
 
 class Writing(unittest.TestCase):
+    def test_drawn_lists_read_back(self):
+        """Names with all that spreadsheets and separators make trouble with, written with each separator."""
+        draw = Random(45)
+        letters = "ab Z\"',;:\t#=-\u00e4\u03a9\U0001f697"
+
+        def name() -> str:
+            return name_of("x" + "".join(draw.choice(letters) for _ in range(draw.randrange(8))))
+
+        for _ in range(200):
+            corners = [name() for _ in range(draw.randrange(1, 9))]
+            checked = draw.random() < 0.5
+            streets = []
+            for row in range(2, draw.randrange(3, 20)):
+                standing = draw.choice(list(Standing))
+                checking = draw.randrange(65536) if checked and standing is Standing.MUST else None
+                ends = draw.choice(corners), draw.choice(corners)
+                streets.append(Street(row, *ends, standing, draw.randrange(65536), checking, draw.choice(("", name()))))
+            town = StreetList("list.csv", 2 if checked else 1, corners_in_order(tuple(streets)), tuple(streets))
+            text = streets_text(town)
+            self.assertEqual(read_csv("list.csv", None, encoded(text)), town)
+            for separator in ";\t":
+                other = io.StringIO(newline="")
+                writer = csv.writer(other, delimiter=separator, lineterminator="\r\n", quoting=csv.QUOTE_ALL)
+                writer.writerows(csv.reader(io.StringIO(text)))
+                self.assertEqual(read_csv("list.csv", None, other.getvalue().encode("utf-16")), town)
+
     def test_what_is_written_reads_back(self):
         text = written(("from", "street"), [("Inn, the", 'say "B"'), ("A", None)])
         table = read_table("x.csv", ("from",), ("street",), text.encode())
-        self.assertEqual([row.cells for row in table.rows], [{"from": "Inn, the", "street": 'say "B"'}, {"from": "A", "street": ""}])
+        self.assertEqual(
+            [row.cells for row in table.rows], [{"from": "Inn, the", "street": 'say "B"'}, {"from": "A", "street": ""}]
+        )
 
     def test_a_mark_for_spreadsheets_where_letters_need_it(self):
         self.assertEqual(encoded("a\n"), b"a\n")

@@ -33,7 +33,8 @@ def everything(file: bytes) -> list[object]:
     plan = Plan.read(file)
     marks = [arc.standing == Standing.MUST for arc in plan.arcs]
     open_plan = OpenPlan.open(file)
-    told: list[object] = [plan, plan.write(), distances(file, [(0, 1), (1, 0)]), two_cars(file, Car(marks, 9), Car(marks, 0))]
+    told: list[object] = [plan, plan.write(), distances(file, [(0, 1), (1, 0)])]
+    told.append(two_cars(file, Car(marks, 9), Car(marks, 0)))
     for call in (
         lambda: plan_call(file, 50),
         lambda: plan_call_at(file, 5, [Window(0, 1, 0, 9)], Departure(2, 5)),

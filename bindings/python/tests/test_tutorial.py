@@ -71,7 +71,12 @@ class Desk:
     def run(self, command: str) -> str:
         """What a command shows, on standard output and standard error."""
         done = subprocess.run(
-            ["bash", "-c", command], cwd=self.at, env=self.env, stdout=subprocess.PIPE, stderr=subprocess.STDOUT, text=True
+            ["bash", "-c", command],
+            cwd=self.at,
+            env=self.env,
+            stdout=subprocess.PIPE,
+            stderr=subprocess.STDOUT,
+            text=True,
         )
         return done.stdout
 

@@ -1,7 +1,7 @@
-"""How many plan calls a second a loop in Python makes, beside one in C: `python3 bindings/python/tools/speed.py PLAN...`.
+"""How many plan calls a second a loop in Python makes, beside one in C: `python3 tools/speed.py PLAN...`.
 
-The two take turns, over the same library, on the processor's time; each figure is the best of five turns. The benchmark's
-towns are written as plans by `cargo run --release --bin towns FOLDER` in tests/. The last column is Python's share.
+The two take turns, over the same library, on the processor's time; each figure is the best of five turns, and the last
+column is Python's share. `cargo run --release --bin towns FOLDER` in tests/ writes the benchmark's towns as plans.
 """
 
 from __future__ import annotations

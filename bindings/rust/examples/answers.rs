@@ -1,5 +1,5 @@
-//! Prints what every call says of plan files, a line of JSON for each: `cargo run --example answers PLAN...`. The Python package's tests hold its own
-//! answers to these.
+//! Prints the refusals' texts, and then what every call says of plan files, a line of JSON for each: `cargo run --example answers PLAN...`. The Python
+//! package's tests hold its own words and answers to these.
 
 use postman::{
     distances, judge, plan_call, plan_call_at, short_call, tree_count, two_cars, Answer, Car, Departure, Districts,
@@ -103,6 +103,7 @@ fn line(file: &[u8]) -> Result<String, Refusal> {
 }
 
 fn main() {
+    println!("{}", list(Refusal::ALL.iter().map(|refusal| format!("{:?}", refusal.to_string()))));
     for name in std::env::args().skip(1) {
         let file = std::fs::read(&name).unwrap_or_else(|error| panic!("{name}: {error}"));
         println!("{}", line(&file).unwrap_or_else(|refusal| panic!("{name}: {refusal}")));

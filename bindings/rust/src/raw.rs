@@ -522,7 +522,7 @@ mod tests {
     fn numbers_below_zero_are_refusals() {
         assert_eq!(unless_refused(0), Ok(0));
         assert_eq!(unless_refused(1026), Ok(1026));
-        for refusal in Refusal::ALL {
+        for &refusal in Refusal::ALL {
             assert_eq!(unless_refused(-i64::from(refusal.number())), Err(refusal));
         }
     }

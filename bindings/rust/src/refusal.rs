@@ -66,7 +66,13 @@ pub enum Refusal {
 
 impl Refusal {
     /// All refusals, by their numbers.
-    pub const ALL: [Refusal; 22] = [
+    ///
+    /// ```
+    /// use postman::Refusal;
+    ///
+    /// assert_eq!((Refusal::ALL[0], Refusal::ALL.len()), (Refusal::Torn, 22));
+    /// ```
+    pub const ALL: &'static [Refusal] = &[
         Refusal::Torn,
         Refusal::Edition,
         Refusal::Extent,
@@ -109,7 +115,7 @@ impl Refusal {
     /// assert_eq!(Refusal::from_number(0), None);
     /// ```
     pub fn from_number(number: u32) -> Option<Refusal> {
-        Refusal::ALL.into_iter().find(|refusal| refusal.number() == number)
+        Refusal::ALL.iter().copied().find(|refusal| refusal.number() == number)
     }
 
     /// The refusal's trade word.
@@ -179,7 +185,7 @@ mod tests {
     fn numbers_ascend() {
         let numbers: Vec<u32> = Refusal::ALL.iter().map(|refusal| refusal.number()).collect();
         assert_eq!(numbers, (1..=22).collect::<Vec<u32>>());
-        for refusal in Refusal::ALL {
+        for &refusal in Refusal::ALL {
             assert_eq!(Refusal::from_number(refusal.number()), Some(refusal));
         }
         for number in [0, 23, u32::MAX] {

@@ -1,7 +1,7 @@
 """The command `postman`: an editor's day over street lists, without programming.
 
-Each subcommand is a module of this package with an EXAMPLE for its help, `add_arguments(parser)` and `run(args, output)`, which
-answers the exit status. Only the module of the subcommand that was called is imported.
+Each subcommand is a module of this package with an EXAMPLE for its help, `add_arguments(parser)` and `run(args,
+output)`, which answers the exit status. Only the module of the subcommand that was called is imported.
 """
 
 from __future__ import annotations
@@ -9,6 +9,12 @@ from __future__ import annotations
 import os
 import sys
 from importlib import import_module
+from typing import TYPE_CHECKING
+
+if TYPE_CHECKING:
+    from argparse import ArgumentParser
+
+    from _typeshed import SupportsWrite
 
 SUBCOMMANDS = {
     "make": "make a plan file of a street list, or street lists of a map",
@@ -33,6 +39,8 @@ USAGE = "usage: postman SUBCOMMAND ... [--help]"
 
 def main(argv: list[str] | None = None) -> int:
     """Runs the command and answers its exit status."""
+    if sys.stdout is None:
+        return CLOSED_PIPE
     # A name that the terminal has no letters for is shown by their numbers, and is no failure.
     if hasattr(sys.stdout, "reconfigure"):
         sys.stdout.reconfigure(errors="backslashreplace")
@@ -41,11 +49,19 @@ def main(argv: list[str] | None = None) -> int:
         sys.stdout.flush()
         return status
     except BrokenPipeError:
-        # Whoever read has gone. Python flushes once more at its end, into nothing.
-        os.dup2(os.open(os.devnull, os.O_WRONLY), sys.stdout.fileno())
+        into_nothing()
         return CLOSED_PIPE
+    except OSError as error:
+        into_nothing()
+        print(f"postman: writing failed: {error.strerror}", file=sys.stderr)
+        return WRONG_USAGE
     except KeyboardInterrupt:
         return INTERRUPTED
+
+
+def into_nothing() -> None:
+    """Python writes once more at its end what it could not write before; that goes into nothing."""
+    os.dup2(os.open(os.devnull, os.O_WRONLY), sys.stdout.fileno())
 
 
 def run(argv: list[str]) -> int:
@@ -82,7 +98,7 @@ def called(name: str, argv: list[str]) -> int:
         return int(end.code or 0)
     output = Output(quiet=getattr(args, "quiet", False))
     try:
-        return module.run(args, output)
+        return int(module.run(args, output))
     except WrongUsage as wrong:
         return complain(f"{parser.format_usage()}postman {name}: {wrong}")
     except Refused as refused:
@@ -99,20 +115,20 @@ def complain(text: str, status: int = WRONG_USAGE) -> int:
     return status
 
 
-def parser_of(name: str):
+def parser_of(name: str) -> ArgumentParser:
     """The parser of a subcommand's arguments."""
     from argparse import ArgumentParser, RawDescriptionHelpFormatter
 
     class Parser(ArgumentParser):
         """A parser that feels a closed pipe, which argparse passes over."""
 
-        def _print_message(self, message, file=None):
+        def _print_message(self, message: str, file: SupportsWrite[str] | None = None) -> None:
             (file or sys.stderr).write(message or "")
 
     module = import_module(f".{name}", __name__)
     parser = Parser(
         prog=f"postman {name}",
-        description=module.__doc__.strip(),
+        description=(module.__doc__ or "").strip(),
         epilog=f"example:\n{module.EXAMPLE}",
         formatter_class=RawDescriptionHelpFormatter,
         allow_abbrev=False,

@@ -6,6 +6,7 @@ edited."""
 from __future__ import annotations
 
 from argparse import ArgumentParser, Namespace
+from typing import Any
 
 from ..answer import Answer
 from ..cars import Car, two_cars
@@ -28,6 +29,8 @@ EXAMPLE = """\
   postman cars town/streets.csv --write first.csv second.csv"""
 
 NAMES = ("first", "second")
+
+Answers = tuple[Answer | Refusal, ...]
 
 
 def add_arguments(parser: ArgumentParser) -> None:
@@ -79,19 +82,19 @@ def marks_of(args: Namespace, streets: StreetList) -> list[frozenset[int]]:
     return list(proposed)
 
 
-def laid(args: Namespace, streets: StreetList, marks: list[frozenset[int]]) -> tuple[Answer | Refusal, ...]:
+def laid(args: Namespace, streets: StreetList, marks: list[frozenset[int]]) -> Answers:
     """What the library answers for both cars."""
 
-    def ask(budget: int) -> tuple[Answer | Refusal, ...]:
+    def ask(budget: int) -> Answers:
         return two_cars(streets.file, *(Car(marks_for(streets, arcs), budget) for arcs in marks))
 
-    def done(answers: tuple[Answer | Refusal, ...]) -> bool:
+    def done(answers: Answers) -> bool:
         return all(isinstance(answer, Refusal) or no_gap(answer) for answer in answers)
 
     return deepest(ask, done) if args.budget is None else ask(args.budget)
 
 
-def print_cars(output: Output, streets: StreetList, answers, marks: list[frozenset[int]]) -> None:
+def print_cars(output: Output, streets: StreetList, answers: Answers, marks: list[frozenset[int]]) -> None:
     for name, answer, arcs in zip(NAMES, answers, marks):
         if isinstance(answer, Refusal):
             continue
@@ -103,9 +106,14 @@ def print_cars(output: Output, streets: StreetList, answers, marks: list[frozens
         (name, plural(len(arcs), streets.unit), *figures(answer, total))
         for name, answer, arcs in zip(NAMES, answers, marks)
     ]
-    output.table(("car", "checks", "cost", "share", "floor", "gap", "whole"), rows, right=("cost", "share", "floor", "gap"))
-    must = {arc for arc, street in enumerate(streets.streets) if street.must}
-    for arcs, what in ((must - marks[0] - marks[1], "checked by neither car"), (marks[0] & marks[1], "checked by both")):
+    output.table(
+        ("car", "checks", "cost", "share", "floor", "gap", "whole"), rows, right=("cost", "share", "floor", "gap")
+    )
+    must = frozenset(arc for arc, street in enumerate(streets.streets) if street.must)
+    for arcs, what in (
+        (must - marks[0] - marks[1], "checked by neither car"),
+        (marks[0] & marks[1], "checked by both"),
+    ):
         if arcs:
             output.result(f"{what}: {named(streets, sorted(arcs))} ({plural(len(arcs), streets.unit)})")
 
@@ -118,13 +126,13 @@ def figures(answer: Answer | Refusal, total: int) -> tuple[str, ...]:
     return counted(answer.cost), share, counted(answer.floor), per_cent(answer.gap), whole
 
 
-def json_of(streets: StreetList, answer: Answer | Refusal, marks: frozenset[int]) -> dict:
+def json_of(streets: StreetList, answer: Answer | Refusal, marks: frozenset[int]) -> dict[str, Any]:
     if isinstance(answer, Refusal):
         return {"refusal": {"number": answer.number, "word": answer.word}, "marks": sorted(marks)}
     return {**as_object(streets, answer, None, steps_of(streets, answer.drive, marks)), "marks": sorted(marks)}
 
 
-def csv_of(streets: StreetList, answers, marks: list[frozenset[int]]) -> str:
+def csv_of(streets: StreetList, answers: Answers, marks: list[frozenset[int]]) -> str:
     rows = [
         (name, *row[:5], "yes" if row[5] else "", row[6])
         for name, answer, arcs in zip(NAMES, answers, marks)

@@ -1,4 +1,5 @@
-"""Prints the completion of subcommands, options and files for a shell."""
+"""Prints the completion of subcommands, options and files for bash. zsh takes it
+too, after `autoload -U bashcompinit && bashcompinit`."""
 
 from __future__ import annotations
 
@@ -35,7 +36,7 @@ def bash() -> str:
             "_postman() {",
             '    local word="${COMP_WORDS[COMP_CWORD]}" words=',
             "    COMPREPLY=()",
-            "    if [ \"$COMP_CWORD\" -eq 1 ]; then",
+            '    if [ "$COMP_CWORD" -eq 1 ]; then',
             f"        COMPREPLY=($(compgen -W '{' '.join(SUBCOMMANDS)} --help --version' -- \"$word\"))",
             "        return",
             "    fi",

@@ -6,6 +6,7 @@ from collections.abc import Callable
 from time import perf_counter
 from typing import TypeVar
 
+from ..answer import Answer
 from ..limits import HIGHEST_BUDGET
 
 SECONDS = 0.5
@@ -15,21 +16,21 @@ GROWTH = 10
 Answered = TypeVar("Answered")
 
 
-def no_gap(answer) -> bool:
+def no_gap(answer: Answer) -> bool:
     """Whether nothing is left to find."""
     return answer.cost == answer.floor
 
 
 def deepest(
     ask: Callable[[int], Answered],
-    done: Callable[[Answered], bool] = no_gap,
+    done: Callable[[Answered], bool],
     seconds: float = SECONDS,
     clock: Callable[[], float] = perf_counter,
 ) -> Answered:
     """What `ask` answers for the largest budget that the time allows, or for the first after which it is `done`.
 
-    A larger budget's drive is no dearer, so the last answer is the best one. A call with ten times the budget takes at most about
-    ten times as long.
+    A larger budget's drive is no dearer, so the last answer is the best one. A call with ten times the budget takes
+    at most about ten times as long.
     """
     start = clock()
     budget = FIRST_BUDGET

@@ -57,7 +57,9 @@ def advice(answer: Answer, trees: int | None) -> str:
     return f"No budget can make it whole: the highest is {counted(HIGHEST_BUDGET)} trees."
 
 
-def as_object(streets: StreetList, answer: Answer, trees: int | None, steps: list[Step] | None = None) -> dict[str, Any]:
+def as_object(
+    streets: StreetList, answer: Answer, trees: int | None, steps: list[Step] | None = None
+) -> dict[str, Any]:
     """An answer for JSON: its words as keys, with streets and corners by name beside the numbers."""
     if steps is None:
         steps = steps_of(streets, answer.drive)
@@ -81,7 +83,7 @@ def finite(gap: float) -> float | None:
     return None if gap == inf else gap
 
 
-def rows_of(streets: StreetList, steps: Iterable[Step]) -> Iterable[tuple]:
+def rows_of(streets: StreetList, steps: Iterable[Step]) -> Iterable[tuple[int, int, str, str, str, bool, int]]:
     """The steps as rows under COLUMNS."""
     for step in steps:
         street = streets.streets[step.arc]

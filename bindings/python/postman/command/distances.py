@@ -34,7 +34,7 @@ def run(args: Namespace, output: Output) -> int:
         raise WrongUsage("name a CSV of pairs, or a pair by --pair")
     streets = opened(args)
     pairs = read_pairs(args.pairs, streets) if args.pairs is not None else []
-    pairs += [corner_pair(streets, *pair) for pair in args.pair]
+    pairs += [(corner_of(streets, first), corner_of(streets, second)) for first, second in args.pair]
     rows = [(*pair, value) for pair, value in zip(pairs, looked_up(streets, pairs))]
     if args.format == "json":
         output.json([dict(zip(COLUMNS, row)) for row in rows])
@@ -46,17 +46,18 @@ def run(args: Namespace, output: Output) -> int:
     return 0
 
 
-def corner_pair(streets: StreetList, *names: str) -> tuple[str, str]:
-    for name in names:
-        if name not in streets.numbers:
-            raise ListError(f"{name} is no corner{nearest(name, streets.numbers)}", streets.path)
-    return names
+def corner_of(streets: StreetList, name: str) -> str:
+    """A name that must be a corner's."""
+    if name not in streets.numbers:
+        raise ListError(f"{name} is no corner{nearest(name, streets.numbers)}", streets.path)
+    return name
 
 
 def looked_up(streets: StreetList, pairs: list[tuple[str, str]]) -> list[int | None]:
     """The library's distances, page by page."""
     values: list[int | None] = []
     with explained(streets):
-        for page in pages(iter([tuple(streets.numbers[name] for name in pair) for pair in pairs])):
+        numbers = [(streets.numbers[first], streets.numbers[second]) for first, second in pairs]
+        for page in pages(iter(numbers)):
             values += distances(streets.file, page).values
     return values

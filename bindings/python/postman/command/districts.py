@@ -6,7 +6,7 @@ from __future__ import annotations
 
 from argparse import ArgumentParser, Namespace
 from pathlib import Path
-from typing import Any
+from typing import Any, NamedTuple
 
 from ..answer import Answer
 from ..calls import tree_count
@@ -31,16 +31,22 @@ EXAMPLE = """\
 COLUMNS = ("district", "cost", "floor", "gap", "trees", "whole", "turns")
 
 
+class Laid(NamedTuple):
+    """A list and its drive."""
+
+    streets: StreetList
+    answer: Answer
+
+
 class District:
-    """A list on its way through the machine."""
+    """A list on its way through the machine: in the end its drive is laid, or something is wrong."""
 
     def __init__(self, name: str, path: str) -> None:
         self.name = name
         self.path = path
-        self.streets: StreetList | None = None
         self.trees = 1
         self.turns = 0
-        self.answer: Answer | None = None
+        self.laid: Laid | None = None
         self.wrong: Exception | None = None
 
 
@@ -63,38 +69,45 @@ def run(args: Namespace, output: Output) -> int:
     bars.end()
     if args.drives is not None:
         folder = folder_of(args.drives)
-        done = [district for district in districts if district.answer is not None]
-        write_files([(str(folder / f"{district.name}.csv"), drive_of(district)) for district in done], args.force)
-        output.note(f"{args.drives}: {len(done)} drives")
+        drives = [(str(folder / f"{one.name}.csv"), drive_of(one.laid)) for one in districts if one.laid is not None]
+        write_files(drives, args.force)
+        output.note(f"{args.drives}: {len(drives)} drives")
     print_districts(args, output, districts)
     return status_of(districts)
 
 
 def names_of(paths: list[str]) -> list[str]:
-    """The districts' names: those of their files, or their paths where two agree."""
-    stems = [Path(path).stem for path in paths]
-    return [stem if stems.count(stem) == 1 else path for stem, path in zip(stems, paths)]
+    """The districts' names: those of their files, with a number where one occurred before: hill, hill-2."""
+    names: dict[str, None] = {}
+    for path in paths:
+        stem, count = Path(path).stem, 1
+        name = stem
+        while name in names:
+            count += 1
+            name = f"{stem}-{count}"
+        names[name] = None
+    return list(names)
 
 
 def take_turns(districts: list[District], budget: int, args: Namespace, output: Output, bars: Bars) -> None:
     """Turn after turn, until all have finished; who is refused is passed over."""
     machine = Districts()
     waiting = list(enumerate(districts))
-    inside: dict[int, int] = {}
+    inside: dict[int, tuple[int, StreetList]] = {}
     while waiting or inside:
         while waiting and len(inside) < MOST_DISTRICTS:
             number, district = waiting.pop(0)
-            place = enter(machine, district, budget, args.corners)
-            if place is not None:
-                inside[place] = number
+            entered = enter(machine, district, budget, args.corners)
+            if entered is not None:
+                inside[entered[0]] = (number, entered[1])
         turn = machine.turn()
         if turn is None:
             continue
-        number = inside[turn.place]
+        number, streets = inside[turn.place]
         district = districts[number]
         district.turns += 1
-        district.answer = turn.answer
-        if turn.finished:
+        if turn.answer is not None:
+            district.laid = Laid(streets, turn.answer)
             del inside[turn.place]
         bars.set(number, turn.trees / district.trees, f"cost {counted(turn.cost)}")
         if args.turns and args.format is None:
@@ -102,52 +115,51 @@ def take_turns(districts: list[District], budget: int, args: Namespace, output: 
             output.result(f"{district.name}: {counted(turn.trees)} trees, cost {counted(turn.cost)}{ending}")
 
 
-def enter(machine: Districts, district: District, budget: int, corners: str | None) -> int | None:
-    """A district enters: its place, or None where it is refused."""
+def enter(machine: Districts, district: District, budget: int, corners: str | None) -> tuple[int, StreetList] | None:
+    """A district enters: its place and its list, or None where it is refused."""
     try:
-        streets = district.streets = open_list(district.path, corners)
+        streets = open_list(district.path, corners)
         with explained(streets):
             place = machine.enter(streets.file, budget)
             district.trees = min(budget, tree_count(streets.file) or HIGHEST_COUNT)
-        return place
+        return place, streets
     except (Refused, ListError) as wrong:
         district.wrong = wrong
         return None
 
 
-def drive_of(district: District) -> bytes:
-    return encoded(as_csv(district.streets, steps_of(district.streets, district.answer.drive)))
+def drive_of(laid: Laid) -> bytes:
+    return encoded(as_csv(laid.streets, steps_of(laid.streets, laid.answer.drive)))
 
 
 def print_districts(args: Namespace, output: Output, districts: list[District]) -> None:
     if args.format == "json":
         output.json([json_of(district) for district in districts])
         return
-    done = [district for district in districts if district.answer is not None]
+    rows = [row_of(district, district.laid.answer) for district in districts if district.laid is not None]
     if args.format == "csv":
-        output.raw(written(COLUMNS, map(row_of, done)))
-        return
-    rows = [
-        (name, counted(cost), counted(floor), per_cent(gap), counted(trees), whole, turns)
-        for name, cost, floor, gap, trees, whole, turns in map(row_of, done)
-    ]
-    if rows:
-        output.table(COLUMNS, rows, right=("cost", "floor", "gap", "trees", "turns"))
+        output.raw(written(COLUMNS, ((*row[:3], f"{row[3]:.6f}", *row[4:]) for row in rows)))
+    elif rows:
+        texts = [
+            (name, counted(cost), counted(floor), per_cent(gap), counted(trees), whole, turns)
+            for name, cost, floor, gap, trees, whole, turns in rows
+        ]
+        output.table(COLUMNS, texts, right=("cost", "floor", "gap", "trees", "turns"))
 
 
-def row_of(district: District) -> tuple:
-    answer = district.answer
+def row_of(district: District, answer: Answer) -> tuple[str, int, int, float, int, str, int]:
+    """A district under COLUMNS."""
     whole = "yes" if answer.whole else "no"
-    return district.name, answer.cost, answer.floor, round(answer.gap, 6), answer.trees, whole, district.turns
+    return district.name, answer.cost, answer.floor, answer.gap, answer.trees, whole, district.turns
 
 
 def json_of(district: District) -> dict[str, Any]:
     common = {"district": district.name, "list": district.path}
-    if district.answer is None:
+    if district.laid is None:
         refusal: Refusal | None = getattr(district.wrong, "refusal", None)
         told = None if refusal is None else {"number": refusal.number, "word": refusal.word}
         return {**common, "refusal": told, "error": str(district.wrong)}
-    return {**common, "turns": district.turns, **as_object(district.streets, district.answer, None)}
+    return {**common, "turns": district.turns, **as_object(*district.laid, None)}
 
 
 def status_of(districts: list[District]) -> int:

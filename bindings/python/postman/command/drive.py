@@ -9,7 +9,7 @@ from __future__ import annotations
 from argparse import ArgumentParser, ArgumentTypeError, Namespace
 
 from ..streets.steps import steps_of
-from .deepening import deepest
+from .deepening import deepest, no_gap
 from .directions import as_csv, as_object, print_directions, print_figures
 from .options import add_budget, add_departure, add_formats, add_list
 from .output import Output
@@ -47,7 +47,7 @@ def origin(text: str) -> tuple[float, float]:
 def run(args: Namespace, output: Output) -> int:
     question = asked(args)
     if args.budget is None:
-        answer = deepest(question.ask)
+        answer = deepest(question.ask, no_gap)
     else:
         answer = question.ask(args.budget)
     streets = question.streets

@@ -5,6 +5,7 @@ from __future__ import annotations
 from collections.abc import Callable
 from dataclasses import replace
 from pathlib import Path
+from typing import TYPE_CHECKING
 
 from ..answer import Answer
 from ..limits import MARKS
@@ -14,19 +15,22 @@ from ..refusal import Refusal
 from ..streets import StreetList
 from ..streets.csv_file import streets_text
 from ..streets.errors import ListError, nearest
-from ..streets.explain import explain
 from ..streets.steps import steps_of
 from ..streets.street_list import HIGHEST_COST, Street
 from ..streets.table import encoded, name_of
 from ..windows import Departure
-from .deepening import deepest
+from .deepening import deepest, no_gap
 from .directions import advice, print_directions
 from .files import write_files
 from .output import Output, counted, per_cent
+from .question import explain_at
+
+if TYPE_CHECKING:
+    from ..streets.windows_file import TypedWindow
 
 HELP = """\
 close STREET           no drive passes it
-open STREET            as it was before it was closed
+open STREET            as it is in the list, or may where it is closed there
 must STREET [CHECKING] it must be checked, at this checking cost
 may STREET             it may be driven and need not be
 cost STREET COST       what a pass costs
@@ -61,8 +65,7 @@ class Editor:
         self.budget = budget
         self.plan = OpenPlan.open(streets.file)
         self.before: list[bytes] = []
-        self.opened_as = [(street.standing, street.checking) for street in streets.streets]
-        self.windows: tuple = ()
+        self.windows: tuple[TypedWindow, ...] = ()
         if windows is not None:
             from ..streets.windows_file import read_windows
 
@@ -94,15 +97,8 @@ class Editor:
 
     def refused(self, streets: StreetList, refusal: Refusal) -> Failed:
         """A refusal in the list's own words."""
-        shut: dict = {}
-        if self.departure is not None:
-            from ..streets.windows_file import must_shut, shut_at
-
-            shut = shut_at(self.windows, self.departure)
-            if refusal.number == Refusal.MUST_SHUT:
-                told = must_shut(streets, self.windows, self.departure)
-                return Failed(f"refusal {refusal.number}, {refusal.word}: {told}", 1)
-        return Failed(f"refusal {refusal.number}, {refusal.word}: {explain(streets, refusal, shut=shut)}", 1)
+        told = explain_at(streets, refusal, self.windows, self.departure)
+        return Failed(f"refusal {refusal.number}, {refusal.word}: {told}", 1)
 
     def now(self) -> StreetList:
         """The list as it is now."""
@@ -144,49 +140,41 @@ class Editor:
             raise Failed(f"{number} is above {HIGHEST_COST}")
         return self.arcs_of(name.strip()), int(number)
 
-    def change(self, arcs: list[int], changed: Callable[[int, Arc], Arc]) -> None:
-        """Changes arcs, all of them or, if one is refused, none."""
+    def change(self, arcs: list[int], changed: Callable[[int, Street], Street]) -> None:
+        """Changes streets, all of them or, if one is refused, none."""
         state = self.plan.to_bytes()
-        old = self.plan.plan.arcs
-        for number in arcs:
-            arc = changed(number, old[number])
+        now = list(self.now().streets)
+        for number, street in [(number, changed(number, now[number])) for number in arcs]:
+            now[number] = street
             try:
-                self.plan.change(number, arc.cost, arc.checking, arc.standing)
+                self.plan.change(number, street.cost, street.checked_at, street.standing)
             except Refusal as refusal:
-                now = list(self.now().streets)
-                now[number] = self.changed(now[number], arc)
-                failed = self.refused(replace(self.streets, streets=tuple(now)), refusal)
                 self.plan = OpenPlan.from_bytes(state)
-                raise failed from None
-        self.keep(state)
+                raise self.refused(replace(self.streets, streets=tuple(now)), refusal) from None
+        self.before.append(state)
         self.unsaved = True
         for number in arcs:
             self.output.result(self.said(number))
 
-    def keep(self, state: bytes) -> None:
-        """Keeps the state before a change, for undo."""
-        self.before.append(state)
-
     def said(self, number: int) -> str:
         """A street as it is now."""
-        arc = self.plan.plan.arcs[number]
-        checking = f", checking {counted(arc.checking)}" if arc.standing is Standing.MUST and self.streets.edition == 2 else ""
-        return f"{self.streets.leg(number)}: {arc.standing.name.lower()}, cost {counted(arc.cost)}{checking}"
+        street = self.now().streets[number]
+        checking = "" if street.checking is None else f", checking {counted(street.checking)}"
+        return f"{self.streets.leg(number)}: {street.standing.name.lower()}, cost {counted(street.cost)}{checking}"
 
     # Commands
 
     def close(self, text: str) -> None:
-        self.change(self.arcs_of(text), lambda number, arc: Arc(arc.tail, arc.head, Standing.CLOSED, arc.cost))
+        self.change(self.arcs_of(text), lambda _, street: replace(street, standing=Standing.CLOSED, checking=None))
 
     def open(self, text: str) -> None:
-        def opened(number: int, arc: Arc) -> Arc:
-            standing, checking = self.opened_as[number]
-            if standing is Standing.CLOSED:
-                standing, checking = Standing.MAY, None
-            return Arc(arc.tail, arc.head, standing, arc.cost, checking)
+        def opened(number: int, street: Street) -> Street:
+            listed = self.streets.streets[number]
+            standing = Standing.MAY if listed.standing is Standing.CLOSED else listed.standing
+            return replace(street, standing=standing, checking=listed.checking)
 
-        arcs = self.arcs_of(text)
-        closed = [number for number in arcs if self.plan.plan.arcs[number].standing is Standing.CLOSED]
+        now = self.now().streets
+        closed = [number for number in self.arcs_of(text) if now[number].standing is Standing.CLOSED]
         if not closed:
             raise Failed(f"{text} is not closed")
         self.change(closed, opened)
@@ -195,41 +183,38 @@ class Editor:
         given = None
         if text.rpartition(" ")[2].isdigit() and not self.found(text):
             arcs, given = self.with_number(text)
+            self.need_checking_costs()
         else:
             arcs = self.arcs_of(text)
 
-        def required(number: int, arc: Arc) -> Arc:
-            checking = self.opened_as[number][1] if given is None else given
-            if arc.standing is Standing.MUST and given is None:
-                checking = arc.checking
+        def required(number: int, street: Street) -> Street:
+            known = (given, street.checking, self.streets.streets[number].checking)
+            checking = next((cost for cost in known if cost is not None), None)
             if self.streets.edition == 2 and checking is None:
                 raise Failed(f"what does it cost to check {self.streets.leg(number)}? write: must STREET CHECKING")
-            return Arc(arc.tail, arc.head, Standing.MUST, arc.cost, checking if self.streets.edition == 2 else None)
+            return replace(street, standing=Standing.MUST, checking=checking)
 
-        if given is not None and self.streets.edition == 1:
-            raise Failed(f"{self.streets.path} has no checking costs: its list has no such column")
         self.change(arcs, required)
 
+    def need_checking_costs(self) -> None:
+        if self.streets.edition == 1:
+            raise Failed(f"{self.streets.path} has no checking costs: its list has no such column")
+
     def may(self, text: str) -> None:
-        self.change(self.arcs_of(text), lambda number, arc: Arc(arc.tail, arc.head, Standing.MAY, arc.cost))
+        self.change(self.arcs_of(text), lambda _, street: replace(street, standing=Standing.MAY, checking=None))
 
     def cost(self, text: str) -> None:
         arcs, cost = self.with_number(text)
-
-        def priced(number: int, arc: Arc) -> Arc:
-            checked = arc.standing is Standing.MUST and self.streets.edition == 2
-            return Arc(arc.tail, arc.head, arc.standing, cost, arc.checking if checked else None)
-
-        self.change(arcs, priced)
+        self.change(arcs, lambda _, street: replace(street, cost=cost))
 
     def checking(self, text: str) -> None:
         arcs, cost = self.with_number(text)
-        if self.streets.edition == 1:
-            raise Failed(f"{self.streets.path} has no checking costs: its list has no such column")
-        arcs = [number for number in arcs if self.plan.plan.arcs[number].standing is Standing.MUST]
+        self.need_checking_costs()
+        now = self.now().streets
+        arcs = [number for number in arcs if now[number].must]
         if not arcs:
             raise Failed("only a must street has a checking cost")
-        self.change(arcs, lambda number, arc: Arc(arc.tail, arc.head, arc.standing, arc.cost, cost))
+        self.change(arcs, lambda _, street: replace(street, checking=cost))
 
     def show(self, text: str) -> None:
         now = self.now().streets
@@ -249,7 +234,7 @@ class Editor:
                 raise Failed(f"{text} is not a whole number: write ask, or ask and a budget")
             budget = int(text)
         last = self.asked
-        self.asked = deepest(self.answered) if budget is None else self.answered(budget)
+        self.asked = deepest(self.answered, no_gap) if budget is None else self.answered(budget)
         answer = self.asked
         cost = f"cost {counted(answer.cost)}{difference(last, answer, 'cost')}"
         floor = f"floor {counted(answer.floor)}{difference(last, answer, 'floor')}"
@@ -280,12 +265,12 @@ class Editor:
     def mark(self, text: str) -> None:
         state = self.plan.to_bytes()
         self.plan.mark(mark_of(text))
-        self.keep(state)
+        self.before.append(state)
 
     def return_to(self, text: str) -> None:
         state = self.plan.to_bytes()
         self.plan.return_to(mark_of(text))
-        self.keep(state)
+        self.before.append(state)
 
     def undo(self, text: str) -> None:
         if not self.before:
@@ -327,7 +312,11 @@ class Editor:
 def sayings(street: Street) -> tuple[str, ...]:
     """The ways in which a street is named."""
     ends = f"from {street.from_corner} to {street.to_corner}"
-    full = (f"{street.street} {ends}", f"{street.street} from {street.from_corner}", f"{street.street} to {street.to_corner}")
+    full = (
+        f"{street.street} {ends}",
+        f"{street.street} from {street.from_corner}",
+        f"{street.street} to {street.to_corner}",
+    )
     return (street.street, *full, ends) if street.street else (ends,)
 
 

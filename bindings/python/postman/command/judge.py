@@ -37,7 +37,7 @@ def run(args: Namespace, output: Output) -> int:
         output.json({"cost": cost, "floor": floor, "gap": gap})
         return 0
     output.result(f"cost   {output.style(counted(cost), 'bold')}")
-    if floor is not None:
+    if floor is not None and gap is not None:
         output.result(f"floor  {counted(floor)}")
         output.result(f"gap    {per_cent(gap)}")
     return 0

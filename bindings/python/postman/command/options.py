@@ -7,6 +7,7 @@ from argparse import ArgumentParser, ArgumentTypeError, Namespace
 from ..streets import StreetList, open_list
 from ..windows import Departure
 
+
 class WrongUsage(Exception):
     """Arguments that do not go together."""
 
@@ -30,7 +31,7 @@ def add_corners(parser: ArgumentParser) -> None:
     parser.add_argument(
         "--corners",
         metavar="CSV",
-        help="corners and their coordinates (default: corners.csv beside streets.csv, A-corners.csv beside A-streets.csv)",
+        help="corners and coordinates (default: corners.csv beside streets.csv, A-corners.csv beside A-streets.csv)",
     )
 
 

@@ -59,7 +59,7 @@ class Output:
         return f"\033[{STYLES[style]}m{text}\033[0m" if self.coloured else text
 
     def table(self, header: Sequence[str], rows: Iterable[Sequence[object]], right: Iterable[str] = ()) -> None:
-        """A table; the columns of `right` are aligned to the right. A row may end in a style's name beyond the header."""
+        """A table; the columns of `right` are aligned to the right. A row may end in a style, beyond the header."""
         cells = [[str(cell) for cell in row] for row in rows]
         widths = [max(len(row[column]) for row in [list(header), *cells]) for column in range(len(header))]
         right = set(right)

@@ -3,6 +3,7 @@
 from __future__ import annotations
 
 from argparse import Namespace
+from typing import TYPE_CHECKING
 
 from ..answer import Answer
 from ..calls import plan_call, plan_call_at, tree_count
@@ -13,6 +14,10 @@ from ..windows import Departure
 from .options import WrongUsage, opened
 from .refused import explained
 
+if TYPE_CHECKING:
+    from ..streets.table import Row
+    from ..streets.windows_file import TypedWindow
+
 
 class Question:
     """What is asked of the library, and what its refusals mean in the list."""
@@ -22,7 +27,7 @@ class Question:
             raise WrongUsage("--windows and --at go together: when streets are shut, and when the drive begins")
         self.streets = streets
         self.departure = departure
-        self.windows: tuple = ()
+        self.windows: tuple[TypedWindow, ...] = ()
         if windows is not None:
             from ..streets.windows_file import read_windows
 
@@ -48,23 +53,35 @@ class Question:
             return tree_count(Plan(plan.vertices, left, plan.edition))
 
     @property
-    def shut(self) -> dict:
+    def shut(self) -> dict[int, Row]:
         """The arcs that are shut at departure."""
-        if self.departure is None:
-            return {}
-        from ..streets.windows_file import shut_at
-
-        return shut_at(self.windows, self.departure)
+        return shut_arcs(self.windows, self.departure)
 
     def explain(self, refusal: Refusal) -> str:
         """What a refusal means in the list, at this departure."""
-        if refusal.number == Refusal.MUST_SHUT:
-            from ..streets.windows_file import must_shut
+        return explain_at(self.streets, refusal, self.windows, self.departure)
 
-            return must_shut(self.streets, self.windows, self.departure)
-        from ..streets.explain import explain
 
-        return explain(self.streets, refusal, shut=self.shut)
+def shut_arcs(windows: tuple[TypedWindow, ...], departure: Departure | None) -> dict[int, Row]:
+    """The arcs that are shut at a departure, if there is one, each with the row that shuts it."""
+    if departure is None:
+        return {}
+    from ..streets.windows_file import shut_at
+
+    return shut_at(windows, departure)
+
+
+def explain_at(
+    streets: StreetList, refusal: Refusal, windows: tuple[TypedWindow, ...], departure: Departure | None
+) -> str:
+    """What a refusal means in a list, at a departure if there is one."""
+    if refusal.number == Refusal.MUST_SHUT and departure is not None:
+        from ..streets.windows_file import must_shut
+
+        return must_shut(streets, windows, departure)
+    from ..streets.explain import explain
+
+    return explain(streets, refusal, shut=shut_arcs(windows, departure))
 
 
 def asked(args: Namespace) -> Question:

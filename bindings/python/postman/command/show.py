@@ -4,6 +4,7 @@ revision, and how many trees there are, or why no drive can be laid."""
 from __future__ import annotations
 
 from argparse import ArgumentParser, Namespace
+from typing import Any
 
 from ..calls import tree_count
 from ..plan import Standing
@@ -59,7 +60,9 @@ def must_of(streets: StreetList) -> list[int]:
 def counts_of(streets: StreetList) -> dict[str, int]:
     """How many streets there are of each standing."""
     standings = [street.standing for street in streets.streets]
-    return {standing.name.lower(): standings.count(standing) for standing in (Standing.MUST, Standing.MAY, Standing.CLOSED)}
+    return {
+        standing.name.lower(): standings.count(standing) for standing in (Standing.MUST, Standing.MAY, Standing.CLOSED)
+    }
 
 
 def print_list(output: Output, streets: StreetList, trees: int | None, refusal: Refusal | None) -> None:
@@ -99,7 +102,7 @@ def print_rows(output: Output, streets: StreetList) -> None:
     output.table(header, rows, right=(streets.unit, "cost", "checking"))
 
 
-def as_object(streets: StreetList, trees: int | None, refusal: Refusal | None) -> dict:
+def as_object(streets: StreetList, trees: int | None, refusal: Refusal | None) -> dict[str, Any]:
     return {
         "list": streets.path,
         "edition": streets.edition,

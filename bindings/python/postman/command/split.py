@@ -1,10 +1,13 @@
 """A proposal how two cars share the streets of a plan.
 
-One drive for one car is cut in two: the streets that it checks on a stretch of it go to the first car, the others to the second.
-Of many such cuts the one is taken in which the dearer of the two drives is cheapest. What drives cost is the library's to say.
+One drive for one car is cut in two: the streets that it checks on a stretch of it go to the first car, the others to
+the second. Of many such cuts the one is taken in which the dearer of the two drives is cheapest. What drives cost is
+the library's to say.
 """
 
 from __future__ import annotations
+
+from collections.abc import Collection
 
 from ..answer import Answer
 from ..calls import plan_call
@@ -18,7 +21,7 @@ BUDGET = 1000
 MOST_CUTS = 300
 
 
-def marks_for(streets: StreetList, arcs) -> list[bool]:
+def marks_for(streets: StreetList, arcs: Collection[int]) -> list[bool]:
     """A car's marks: one for each arc."""
     return [arc in arcs for arc in range(len(streets.streets))]
 
@@ -28,7 +31,9 @@ def cuts_of(order: list[int]) -> list[tuple[frozenset[int], frozenset[int]]]:
     count = len(order)
     lengths = sorted({max(1, count // 2 - step * count // 16) for step in range(4)})
     cuts = [
-        frozenset(order[(start + place) % count] for place in range(length)) for length in lengths for start in range(count)
+        frozenset(order[(start + place) % count] for place in range(length))
+        for length in lengths
+        for start in range(count)
     ]
     kept = cuts[:: -(-len(cuts) // MOST_CUTS)]
     return [(cut, frozenset(order) - cut) for cut in kept]
@@ -44,9 +49,9 @@ def propose(streets: StreetList) -> tuple[frozenset[int], frozenset[int]] | None
     for first, second in cuts_of(order):
         cars = (Car(marks_for(streets, first), BUDGET), Car(marks_for(streets, second), BUDGET))
         answers = two_cars(streets.file, *cars)
-        if not all(isinstance(answer, Answer) for answer in answers):
+        costs = [answer.cost for answer in answers if isinstance(answer, Answer)]
+        if len(costs) < 2:
             continue
-        costs = [answer.cost for answer in answers]
         if best is None or (max(costs), sum(costs)) < best[0]:
             best = ((max(costs), sum(costs)), first, second)
-    return None if best is None else best[1:]
+    return None if best is None else (best[1], best[2])

@@ -1,17 +1,21 @@
 """Street lists: plans that a person writes, with names for corners and streets.
 
-    >>> from postman import plan_call, streets
-    >>> town = streets.open_list("examples/town/streets.csv")       # doctest: +SKIP
-    >>> answer = plan_call(town.file, 10_000)                       # doctest: +SKIP
-    >>> [town.streets[arc].name for arc in answer.drive]            # doctest: +SKIP
+    from postman import plan_call, streets
+
+    town = streets.open_list("examples/town/streets.csv")
+    answer = plan_call(town.file, 10_000)
+    print([town.streets[arc].name for arc in answer.drive])
 
 `town.file` is what the library takes; it was read back by the proved reader and compared row by row with the list.
 """
 
 from __future__ import annotations
 
+from collections.abc import Iterable, Mapping
 from pathlib import Path
+from typing import Any
 
+from ..answer import Answer
 from .errors import ListError
 from .street_list import Corner, Street, StreetList
 from .table import read_bytes
@@ -46,8 +50,9 @@ def write(streets: StreetList, path: str, corners: str | None = None) -> None:
 def open_list(path: str, corners: str | None = None, data: bytes | None = None) -> StreetList:
     """Opens a street list, a plan file or GeoJSON, whichever the file is ("-" is standard input).
 
-    The corners of a street list come from the file `corners`; where none is named, from the file whose name has "corners"
-    where that of the list has "streets", if there is one. `data` are the file's bytes where they were read already.
+    The corners of a street list come from the file `corners`; where none is named, from the file whose name has
+    "corners" where that of the list has "streets", if there is one. `data` are the file's bytes where they were read
+    already.
     """
     if data is None:
         data = read_bytes(path)
@@ -79,19 +84,19 @@ def kind_of(path: str, data: bytes) -> str:
         return "plan"
     if data.removeprefix(b"\xef\xbb\xbf").lstrip().startswith(b"{"):
         return "geojson"
-    if data[:2] in (b"\xff\xfe", b"\xfe\xff"):
+    if data[:2] in (b"\xff\xfe", b"\xfe\xff", b"PK"):
         return "csv"
     return "plan" if any(byte < 9 or 13 < byte < 32 for byte in data) else "csv"
 
 
-def from_geojson(source, **options) -> StreetList:
+def from_geojson(source: str | Mapping[str, Any], **options: Any) -> StreetList:
     """A street list of GeoJSON's lines; see `postman.streets.geojson.from_geojson`."""
     from .geojson import from_geojson
 
     return from_geojson(source, **options)
 
 
-def drive_geojson(streets: StreetList, drive) -> dict:
+def drive_geojson(streets: StreetList, drive: Answer | Iterable[int]) -> dict[str, Any]:
     """A drive as GeoJSON; see `postman.streets.geojson.drive_geojson`."""
     from .geojson import drive_geojson
 

@@ -1,7 +1,7 @@
 """A drive that somebody laid, as a file, and what is wrong with it.
 
-It is what `postman drive` writes as CSV or JSON, or what the program `drive` prints; a CSV with the columns `arc`, or `from`, `to`
-and `street`, whoever wrote it; or arc numbers, one a line.
+It is what `postman drive` writes as CSV or JSON, or what the program `drive` prints; a CSV with the columns `arc`, or
+`from`, `to` and `street`, whoever wrote it; or arc numbers, one a line.
 """
 
 from __future__ import annotations
@@ -73,7 +73,9 @@ def from_lines(path: str, text: str) -> TypedDrive:
         if words[0] == "arc":
             words = words[1:]
         if len(words) != 1 or not (words[0].isascii() and words[0].isdigit()):
-            message = f"{line.strip()} is no arc number: write one a line, or a table with the columns from, to and street"
+            message = (
+                f"{line.strip()} is no arc number: write one a line, or a table with the columns from, to and street"
+            )
             raise ListError(message, path, number, unit="line")
         arcs.append(clamped(int(words[0])))
         places.append(f"line {number}")
@@ -134,7 +136,9 @@ def arc_named(row: Row, wanted: dict[str, str], streets: StreetList) -> int:
     driven = [arc for arc in found if streets.streets[arc].standing is not Standing.CLOSED]
     if len(driven) > 1:
         rows = " and ".join(streets.place(arc) for arc in driven)
-        raise row.error("street", f"may be {rows} of {streets.path}: add the column arc with the arc's number, from 0 on")
+        raise row.error(
+            "street", f"may be {rows} of {streets.path}: add the column arc with the arc's number, from 0 on"
+        )
     return (driven or found or [NO_ARC])[0]
 
 

@@ -5,7 +5,7 @@ from __future__ import annotations
 from dataclasses import replace
 from math import cos, radians
 
-from .street_list import StreetList
+from .street_list import Corner, StreetList
 
 EARTH_RADIUS = 6_371_008.8
 """The earth's mean radius in metres."""
@@ -17,10 +17,10 @@ DEGREE = EARTH_RADIUS * radians(1)
 def placed(streets: StreetList, lat: float, lon: float) -> StreetList:
     """The list with degrees for its corners, where x 0 and y 0 lie at a place of the earth."""
     across = DEGREE * cos(radians(lat))
-    corners = tuple(
-        corner
-        if corner.x is None
-        else replace(corner, lon=round(lon + corner.x / across, 7), lat=round(lat + corner.y / DEGREE, 7))
-        for corner in streets.corners
-    )
-    return replace(streets, corners=corners)
+
+    def on_earth(corner: Corner) -> Corner:
+        if corner.x is None or corner.y is None:
+            return corner
+        return replace(corner, lon=round(lon + corner.x / across, 7), lat=round(lat + corner.y / DEGREE, 7))
+
+    return replace(streets, corners=tuple(map(on_earth, streets.corners)))

@@ -13,9 +13,9 @@ def shown(path: str) -> str:
 class ListError(Exception):
     """Something in a list that cannot be taken as it stands.
 
-    `file` is the file as it was named, `row` its row as a spreadsheet numbers it (the header is row 1), `column` the column's
-    name, `street` the street of that row; each is None where it is not known. `unit` is what a row is called: in GeoJSON it
-    is a feature, in a plan file an arc.
+    `file` is the file as it was named, `row` its row as a spreadsheet numbers it (the header is row 1), `column` the
+    column's name, `street` the street of that row; each is None where it is not known. `unit` is what a row is
+    called: in GeoJSON it is a feature, in a plan file an arc.
     """
 
     def __init__(

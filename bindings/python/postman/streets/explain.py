@@ -1,7 +1,7 @@
 """What a refusal means in a street list: the rows, streets and corners that it is about, and what to do.
 
-The refusals come from the library. What is looked for here is only the place in the list; whether there is a way from one
-corner to another is the library's to say.
+The refusals come from the library. What is looked for here is only the place in the list; whether there is a way from
+one corner to another is the library's to say.
 """
 
 from __future__ import annotations
@@ -26,7 +26,8 @@ def explain(
 ) -> str:
     """A sentence that says where in the list the refusal is found and what to do.
 
-    `must` are the arcs that must be driven where they are not the list's own, and `shut` those that are shut at departure.
+    `must` are the arcs that must be driven where they are not the list's own, and `shut` those that are shut at
+    departure.
     """
     if must is None:
         must = [arc for arc, street in enumerate(streets.streets) if street.must]
@@ -50,17 +51,13 @@ def too_large(streets: StreetList) -> str | None:
     """Refusal 3."""
     if len(streets.corners) > MOST_VERTICES:
         beyond = streets.corners[MOST_VERTICES].name
-        return (
-            f"{len(streets.corners)} corners, and a plan has at most {MOST_VERTICES}; the first beyond them is {beyond}: "
-            "cut the list into sheets"
-        )
-    if len(streets.streets) > MOST_ARCS:
+        found, most = f"{len(streets.corners)} corners", MOST_VERTICES
+    elif len(streets.streets) > MOST_ARCS:
         beyond = streets.place(MOST_ARCS)
-        return (
-            f"{len(streets.streets)} rows, and a plan has at most {MOST_ARCS}; the first beyond them is {beyond}: "
-            "cut the list into sheets"
-        )
-    return None
+        found, most = f"{len(streets.streets)} {streets.unit}s", MOST_ARCS
+    else:
+        return None
+    return f"{found}, and a plan has at most {most}; the first beyond them is {beyond}: cut the list into sheets"
 
 
 def unpriced(streets: StreetList) -> str | None:
@@ -74,7 +71,7 @@ def unpriced(streets: StreetList) -> str | None:
 
 def repeated(streets: StreetList) -> str | None:
     """Refusal 13."""
-    seen: dict[tuple, int] = {}
+    seen: dict[tuple[int, ...], int] = {}
     for number, arc in enumerate(streets.plan.arcs):
         fields = (arc.tail, arc.head, arc.standing, arc.cost, arc.checking)
         if fields in seen:
@@ -86,7 +83,7 @@ def repeated(streets: StreetList) -> str | None:
 
 
 def parts_of(streets: StreetList, must: Collection[int]) -> list[list[int]]:
-    """The must arcs by parts: those that hang together, whatever their direction; the part of the lowest corner first."""
+    """The must arcs by parts, which hang together whatever their direction; the part of the lowest corner first."""
     arcs = streets.plan.arcs
     part = list(range(len(streets.corners)))
     for number in must:
@@ -154,18 +151,14 @@ def pairs_without_way(streets: StreetList, must: Collection[int], shut: Collecti
 
     # Arcs that are shut are left out and not closed: closed they might agree with others, and the file be refused.
     plan = streets.plan
-    driven = [
-        arc for number, arc in enumerate(plan.arcs) if number not in shut and arc.standing is not Standing.CLOSED
-    ]
+    driven = [arc for number, arc in enumerate(plan.arcs) if number not in shut and arc.standing is not Standing.CLOSED]
     file = Plan(plan.vertices, tuple(driven), plan.edition).write()
     required = corners_of(streets, must)
     pairs = iter([(first, second) for first in required for second in required if first != second])
-    return [
-        pair for page in pages(pairs) for pair, value in zip(page, distances(file, page).values) if value is None
-    ]
+    return [pair for page in pages(pairs) for pair, value in zip(page, distances(file, page).values) if value is None]
 
 
-def pages(pairs: Iterator) -> Iterator[list]:
+def pages(pairs: Iterator[tuple[int, int]]) -> Iterator[list[tuple[int, int]]]:
     """Pairs by pages, each as long as the library takes at once."""
     while page := list(islice(pairs, MOST_PAIRS)):
         yield page

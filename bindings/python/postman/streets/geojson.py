@@ -1,16 +1,17 @@
 """GeoJSON in and out: streets as lines, a drive as lines in the order in which they are driven.
 
-Coordinates are degrees of longitude and latitude, as GeoJSON has them; where any is beyond 180 they are taken for metres of
-some national grid.
+Coordinates are degrees of longitude and latitude, as GeoJSON has them; where any is beyond 180 they are taken for
+metres of some national grid.
 """
 
 from __future__ import annotations
 
 import json
-from collections.abc import Iterable, Mapping
+from collections.abc import Callable, Iterable, Mapping
 from math import asin, cos, hypot, radians, sin, sqrt
 from typing import Any, NamedTuple
 
+from ..answer import Answer
 from ..plan import Standing
 from .csv_file import STANDINGS
 from .earth import DEGREE, EARTH_RADIUS
@@ -23,6 +24,7 @@ BACKWARD = ("-1", "reverse")
 BOTH_WAYS = ("", "no", "false", "0")
 
 Point = tuple[float, float]
+Key = Callable[[Point], Point]
 
 
 class Line(NamedTuple):
@@ -45,11 +47,12 @@ def from_geojson(
 ) -> StreetList:
     """The street list of a map's LineStrings, whose end points are the corners.
 
-    `source` is a file or what was read from one. The property `street` has a line's name. `cost` names the property with its
-    cost; without it the cost is the length in metres. `must` names the property that says which streets must be driven ("survey",
-    or "survey=2026" for one value of it), `checking` the one with the cost of their checking pass. A property `standing` (may,
-    must, closed) is taken where `must` is not given. `oneway` is read as in OpenStreetMap. A street of two directions is must in the
-    direction of its line and may be driven back; with `both_ways` it is must in both.
+    `source` is a file or what was read from one. The property `street` has a line's name. `cost` names the property
+    with its cost; without it the cost is the length in metres. `must` names the property that says which streets must
+    be driven ("survey", or "survey=2026" for one value of it), `checking` the one with the cost of their checking
+    pass. A property `standing` (may, must, closed) is taken where `must` is not given. `oneway` is read as in
+    OpenStreetMap. A street of two directions is must in the direction of its line and may be driven back; with
+    `both_ways` it is must in both.
 
     Corners are named by a Point with a name, or after the streets that meet there.
     """
@@ -102,12 +105,13 @@ def lines_of(path: str, features: list[Mapping[str, Any]]) -> tuple[list[Line], 
         try:
             geometry = feature.get("geometry") or {}
             properties = feature.get("properties") or {}
-            kind = geometry.get("type")
+            kind = str(geometry.get("type"))
             if kind == "Point" and properties.get("name"):
                 x, y = geometry["coordinates"][:2]
                 names.append(((float(x), float(y)), name_of(str(properties["name"]))))
-            parts = {"LineString": [geometry.get("coordinates")], "MultiLineString": geometry.get("coordinates")}
-            for part in parts.get(kind, ()):
+            coordinates: Any = geometry.get("coordinates")
+            parts: Any = {"LineString": [coordinates], "MultiLineString": coordinates}.get(kind, [])
+            for part in parts:
                 points = tuple((float(x), float(y)) for x, y, *_ in part)
                 if len(points) < 2:
                     raise ListError("a line needs two points", path, number, unit="feature")
@@ -117,13 +121,15 @@ def lines_of(path: str, features: list[Mapping[str, Any]]) -> tuple[list[Line], 
     return lines, names
 
 
-def key_of(on_earth: bool):
+def key_of(on_earth: bool) -> Key:
     """What makes two end points one corner: that they agree to about a centimetre."""
     digits = 7 if on_earth else 2
     return lambda point: (round(point[0], digits), round(point[1], digits))
 
 
-def corners_of(lines, named, key, reader: "LineReader", on_earth: bool) -> dict[Point, Corner]:
+def corners_of(
+    lines: list[Line], named: dict[Point, str], key: Key, reader: LineReader, on_earth: bool
+) -> dict[Point, Corner]:
     """The corners in the order in which they first occur, with names that differ."""
     meeting: dict[Point, dict[str, None]] = {}
     for line in lines:
@@ -152,7 +158,7 @@ def corners_of(lines, named, key, reader: "LineReader", on_earth: bool) -> dict[
     return corners
 
 
-def passing(lines, corners: dict[Point, Corner], key, reader: "LineReader") -> tuple[str, ...]:
+def passing(lines: list[Line], corners: dict[Point, Corner], key: Key, reader: LineReader) -> tuple[str, ...]:
     """A note on lines that pass through corners of others: a car cannot turn there."""
     found = [(line, key(point)) for line in lines for point in line.points[1:-1] if key(point) in corners]
     if not found:
@@ -267,23 +273,25 @@ def on_earth(a: Point, b: Point) -> float:
 def coordinates(streets: StreetList, name: str) -> Point | None:
     """A corner's degrees if they are known, else its metres."""
     corner = streets.corners[streets.numbers[name]]
-    if corner.lon is not None:
-        return corner.lon, corner.lat
-    return None if corner.x is None else (corner.x, corner.y)
+    for pair in ((corner.lon, corner.lat), (corner.x, corner.y)):
+        if pair[0] is not None and pair[1] is not None:
+            return pair[0], pair[1]
+    return None
 
 
-def drive_geojson(streets: StreetList, drive: Iterable[int]) -> dict[str, Any]:
-    """A drive as GeoJSON: a LineString for each place, in the order driven, with the street's name, its ends and what is done.
+def drive_geojson(streets: StreetList, drive: Answer | Iterable[int]) -> dict[str, Any]:
+    """A drive, or an answer's, as GeoJSON: a LineString for each place, in the order driven.
 
-    Where a corner has no coordinates, its lines have no geometry.
+    Its properties are the columns of the drive as CSV. Where a corner has no coordinates, its lines have no geometry.
     """
     from .steps import steps_of
 
     features = []
-    for step in steps_of(streets, drive):
+    for step in steps_of(streets, drive.drive if isinstance(drive, Answer) else drive):
         street = streets.streets[step.arc]
         ends = [coordinates(streets, name) for name in (street.from_corner, street.to_corner)]
-        geometry = None if None in ends else {"type": "LineString", "coordinates": [list(end) for end in ends]}
+        known = [list(end) for end in ends if end is not None]
+        geometry = {"type": "LineString", "coordinates": known} if len(known) == 2 else None
         properties = {
             "step": step.number,
             "arc": step.arc,

@@ -45,6 +45,6 @@ def point_of(streets: StreetList, name: str) -> str:
     corner: Corner = streets.corners[streets.numbers[name]]
     if corner.lon is None:
         where = streets.corners_path or streets.path
-        message = f"corner {name} has no lon and lat, which GPX needs: add these columns, or say where x 0 and y 0 lie by --origin"
-        raise ListError(message, where)
+        hint = "add these columns, or say where x 0 and y 0 lie by --origin"
+        raise ListError(f"corner {name} has no lon and lat, which GPX needs: {hint}", where)
     return f'lat="{corner.lat}" lon="{corner.lon}"'

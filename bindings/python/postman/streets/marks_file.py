@@ -1,7 +1,7 @@
 """A car's marks: the streets that it checks, as a CSV file.
 
-A row names streets by its columns `street`, `from` and `to`. A name alone marks the street's must rows; with an end or both it
-marks the rows between them, whatever their standing, but for closed ones.
+A row names streets by its columns `street`, `from` and `to`. A name alone marks the street's must rows; with an end
+or both it marks the rows between them, whatever their standing, but for closed ones.
 """
 
 from __future__ import annotations

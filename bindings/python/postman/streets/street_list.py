@@ -15,8 +15,8 @@ HIGHEST_COST = 65535
 class Corner:
     """A place where streets begin and end.
 
-    `x` and `y` are metres to the east and to the north, for pictures; `lon` and `lat` degrees, for maps of the earth. Each pair
-    is None where it is not known.
+    `x` and `y` are metres to the east and to the north, for pictures; `lon` and `lat` degrees, for maps of the earth.
+    Each pair is None where it is not known.
     """
 
     name: str
@@ -30,8 +30,8 @@ class Corner:
 class Street:
     """A street in one direction: one row of the list, one arc of the plan.
 
-    `row` is its row as a spreadsheet numbers it, `checking` what the pass costs on which a must street is checked (None where
-    the list has no such column, or the street is not must), `street` its name, which may be "".
+    `row` is its row as a spreadsheet numbers it, `checking` what the pass costs on which a must street is checked
+    (None where the list has no such column, or the street is not must), `street` its name, which may be "".
     """
 
     row: int
@@ -52,13 +52,20 @@ class Street:
         """Whether it must be driven."""
         return self.standing is Standing.MUST
 
+    @property
+    def checked_at(self) -> int:
+        """What the pass costs on which it is checked, 0 where it is not must."""
+        if not self.must:
+            return 0
+        return self.cost if self.checking is None else self.checking
+
 
 @dataclass(frozen=True)
 class StreetList:
     """A street list. Its streets are the plan's arcs in this order, and its corners the vertices.
 
-    `path` is the file that it was read from, `corners_path` that of its corners, and `unit` what a row is called there. `notes` are
-    what the reader noticed that may be meant otherwise.
+    `path` is the file that it was read from, `corners_path` that of its corners, and `unit` what a row is called
+    there. `notes` are what the reader noticed that may be meant otherwise.
     """
 
     path: str
@@ -79,7 +86,7 @@ class StreetList:
         """The plan of the list."""
         number = self.numbers
         arcs = tuple(
-            Arc(number[street.from_corner], number[street.to_corner], street.standing, street.cost, street.checking)
+            Arc(number[street.from_corner], number[street.to_corner], street.standing, street.cost, street.checked_at)
             for street in self.streets
         )
         return Plan(len(self.corners), arcs, self.edition)
@@ -99,17 +106,16 @@ class StreetList:
             if typed != found:
                 raise ListError(f"{word}: {typed} in the list, {found} in the plan's file", self.path)
         for street, arc in zip(self.streets, plan.arcs):
-            checking = (street.cost if street.checking is None else street.checking) if street.must else 0
-            columns = (
+            columns: tuple[tuple[str, str | int, str | int], ...] = (
                 ("from", street.from_corner, self.corners[arc.tail].name),
                 ("to", street.to_corner, self.corners[arc.head].name),
                 ("standing", street.standing.name.lower(), arc.standing.name.lower()),
                 ("cost", street.cost, arc.cost),
-                ("checking", checking, arc.checking),
+                ("checking", street.checked_at, arc.checking),
             )
-            for column, typed, found in columns:
-                if typed != found:
-                    raise self.error(street, column, f"{column} is {typed} in the list and {found} in the plan's file")
+            for column, here, there in columns:
+                if here != there:
+                    raise self.error(street, column, f"{column} is {here} in the list and {there} in the plan's file")
 
     def error(self, street: Street, column: str | None, message: str) -> ListError:
         """An error at a street of the list."""

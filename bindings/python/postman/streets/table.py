@@ -1,8 +1,8 @@
 """Tables with a header row, as spreadsheets write them.
 
 Columns go by their names, in any order; columns that nobody asks for are passed over. Cells are parted by commas, by
-semicolons (as spreadsheets write them where the comma is the decimal sign) or by tabs. Rows are numbered as the spreadsheet
-numbers them: the first is row 1, blank rows count, and a quoted cell may hold line breaks.
+semicolons (as spreadsheets write them where the comma is the decimal sign) or by tabs. Rows are numbered as the
+spreadsheet numbers them: the first is row 1, blank rows count, and a quoted cell may hold line breaks.
 """
 
 from __future__ import annotations
@@ -98,8 +98,13 @@ def decoded(data: bytes, file: str) -> str:
         encoding = "utf-16"
     else:
         encoding = "utf-8-sig"
+    if data.startswith(b"PK\x03\x04"):
+        raise ListError("is a spreadsheet's own file; save it as CSV UTF-8", file)
     try:
-        return data.decode(encoding)
+        text = data.decode(encoding)
+        if "\0" in text:
+            raise ListError("is no text; save it as CSV UTF-8", file, text.count("\n", 0, text.index("\0")) + 1)
+        return text
     except UnicodeDecodeError as error:
         if encoding == "utf-16":
             raise ListError("is not UTF-16 text, as its first bytes say; save it as CSV UTF-8", file) from None

@@ -1,7 +1,7 @@
 """Market days: times in which streets are shut, as a CSV file.
 
-Its columns are `street`, `from` and `to` (which streets; one of them will do), `day` (mon, or mon-fri, or "sat sun", or daily),
-`start` and `end` (as 07:30; a window may end at 24:00).
+Its columns are `street`, `from` and `to` (which streets; one of them will do), `day` (mon, or mon-fri, or "sat sun",
+or daily), `start` and `end` (as 07:30; a window may end at 24:00).
 """
 
 from __future__ import annotations
@@ -40,7 +40,9 @@ def read_windows(path: str, streets: StreetList) -> tuple[TypedWindow, ...]:
             found += [TypedWindow(Window(arc, day, start, end), row) for day in days]
     if len(found) > MOST_WINDOWS:
         row = found[MOST_WINDOWS].row
-        raise row.error(None, f"{len(found)} windows, one a street and day, and at most {MOST_WINDOWS}: this row is beyond")
+        raise row.error(
+            None, f"{len(found)} windows, one a street and day, and at most {MOST_WINDOWS}: this row is beyond"
+        )
     return tuple(found)
 
 
@@ -60,12 +62,12 @@ def days_of(row: Row) -> list[int]:
         return list(range(7))
     days: list[int] = []
     for word in text.replace(",", " ").split():
-        first, dash, last = word.partition("-")
-        span = [weekday_of(first), weekday_of(last if dash else first)]
-        if None in span:
+        start, dash, end = word.partition("-")
+        first, last = weekday_of(start), weekday_of(end if dash else start)
+        if first is None or last is None:
             raise row.error("day", f"day {row.text('day')} is no weekday: write mon, mon-fri, sat sun or daily")
         # A range may go over the end of the week: fri-mon.
-        days += [day % 7 for day in range(span[0], span[1] + 1 + 7 * (span[1] < span[0]))]
+        days += [day % 7 for day in range(first, last + 1 + 7 * (last < first))]
     return sorted(set(days))
 
 
