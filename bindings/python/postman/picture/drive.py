@@ -14,7 +14,7 @@ from .arcs import arc_group, cross
 from .base import Base
 from .drawing import Area, Box, Dot, Drawing, Group, Label, Line, Point, Shape
 from .passes import Pass, Purpose, passes
-from .room import body, spine, text_width
+from .room import Room, body, spine, text_width
 
 LANE_GAP = 8.0
 NUMBERS_APART = 16.0
@@ -48,7 +48,8 @@ def drive(streets: StreetList, answer: Answer, shut: Collection[int] = (), title
         groups.append(arc_group(base, key[0], ways[key], shut, idle=True))
         base.room.take_line(ways[key], 0.6)
     shares = _shares(base, keys)
-    drawn = [_pass_group(base, lane_of[arc][lane], ways[arc, lane], shares[arc, lane]) for arc, lane in keys]
+    numbers = Room()
+    drawn = [_pass_group(base, numbers, lane_of[arc][lane], ways[arc, lane], shares[arc, lane]) for arc, lane in keys]
     for key in keys:
         base.room.take_line(ways[key], 1.0)
     groups += sorted(drawn, key=lambda group: -int(str(group.data["step"])))
@@ -92,18 +93,40 @@ def _shares(base: Base, keys: Sequence[tuple[int, int]]) -> dict[tuple[int, int]
     return shares
 
 
-def _pass_group(base: Base, together: Sequence[Pass], way: tuple[Point, ...], share: float) -> Group:
+def _free_place(
+    numbers: Room, way: tuple[Point, ...], wanted: float, stretch: tuple[float, float], width: float
+) -> float:
+    """Where along a lane its number stands: about where it is wanted, on the straight stretch, and off other numbers."""
+    begin, end = stretch
+    inner = (begin + (end - begin) * 0.12, end - (end - begin) * 0.12)
+    best: tuple[float, float] | None = None
+    for aside in (0.0, -0.1, 0.1, -0.2, 0.2, -0.3, 0.3, -0.4, 0.4):
+        # In the bends lanes are near each other.
+        place = min(max(wanted + aside * (end - begin), inner[0]), inner[1])
+        at, _ = lanes.along(way, place)
+        harm = numbers.crowd(spine(at, width, "middle"), 6.0) + abs(aside)
+        if best is None or harm < best[0]:
+            best = (harm, place)
+    assert best is not None
+    return best[1]
+
+
+def _pass_group(base: Base, numbers: Room, together: Sequence[Pass], way: tuple[Point, ...], share: float) -> Group:
     """A pass with its number and its direction; or the last lane of an arc that is passed very often."""
     one = together[0]
     street = base.streets.streets[one.arc]
     words = str(one.step) if len(together) == 1 else f"+{len(together)}"
     shapes: list[Shape] = [Line(way, "hit"), Line(way, "line")]
-    length = lanes.length_of(way)
-    at, angle = lanes.along(way, length * share)
     width = max(_PILL, text_width(words, 8.0) + 3.5)
+    length = lanes.length_of(way)
+    arc = base.plan.arcs[one.arc]
+    begin, end = (0.0, length) if arc.tail == arc.head else lanes.straight(way)
+    place = _free_place(numbers, way, length * share, (begin, end), width)
+    at, angle = lanes.along(way, place)
+    numbers.take(body(at, width, "middle"), 1.0)
     reach = min(width / 2 / max(abs(math.cos(angle)), 1e-6), _PILL / 2 / max(abs(math.sin(angle)), 1e-6))
     size = (10.5, 9.5) if one.purpose is Purpose.CHECK else (9.5, 8.5)
-    ahead = lanes.along(way, min(length * share + reach + size[0] * 0.35, length))
+    ahead = lanes.along(way, min(place + reach + size[0] * 0.35, length))
     shapes.append(Area(lanes.arrow(*ahead, *size), "head"))
     shapes.append(Box((at[0] - width / 2, at[1] - _PILL / 2), width, _PILL, _PILL / 2, "pill"))
     shapes.append(Label(at, words, "number"))

@@ -76,6 +76,14 @@ def length_of(points: Sequence[Point]) -> float:
     return sum(math.dist(one, other) for one, other in zip(points, points[1:]))
 
 
+def straight(points: Sequence[Point]) -> tuple[float, float]:
+    """Where along a lane its straight stretch begins and ends: between the bends, if it has any."""
+    lengths = [math.dist(one, other) for one, other in zip(points, points[1:])]
+    longest = max(range(len(lengths)), key=lengths.__getitem__)
+    begin = sum(lengths[:longest])
+    return begin, begin + lengths[longest]
+
+
 def along(points: Sequence[Point], place: float) -> tuple[Point, float]:
     """The point at a length along a polyline, and the angle of its way there."""
     for one, other in zip(points, points[1:]):
