@@ -10,7 +10,7 @@ from argparse import ArgumentParser, Namespace
 from ..calls import plan_call_at
 from ..limits import DEFAULT_BUDGET
 from .budgets import BUDGETS
-from .deepening import deepest
+from .deepening import deepest, no_gap
 from .options import add_budget, add_departure, add_list, opened
 from .output import Output
 from .pictures import named, write_made
@@ -38,7 +38,7 @@ def run(args: Namespace, output: Output) -> int:
     # Market days without a departure are shown for the whole week.
     question = Question(streets, args.windows, args.at) if args.at else Question(streets)
     windows = read_windows(args.windows, streets) if args.windows else ()
-    answer = deepest(question.ask) if args.budget is None else question.ask(args.budget)
+    answer = deepest(question.ask, no_gap) if args.budget is None else question.ask(args.budget)
     shut = [typed.window for typed in windows]
     budget = args.budget or max(answer.trees, DEFAULT_BUDGET)
     job = Job(
