@@ -159,7 +159,8 @@ class Browser:
 
     def complaints(self) -> list[str]:
         """What the browser's console complained of."""
-        return [entry["message"] for entry in self.call("POST", "/se/log", {"type": "browser"}) if entry["level"] != "INFO"]
+        entries = self.call("POST", "/se/log", {"type": "browser"})
+        return [entry["message"] for entry in entries if entry["level"] != "INFO"]
 
 
 def until(met: Callable[[], Any], seconds: float = SECONDS) -> Any:

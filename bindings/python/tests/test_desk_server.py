@@ -82,7 +82,8 @@ class Admission(Served):
         self.assertNotEqual(other.token, self.server.token)
         self.assertGreaterEqual(len(self.server.token), 32)
         token = self.server.token
-        for path in ("/", "/state", "//state", f"/{token[:-1]}/state", f"/{token}x/state", f"/{token}", f"/{token.swapcase()}/"):
+        near = (f"/{token[:-1]}/state", f"/{token}x/state", f"/{token}", f"/{token.swapcase()}/")
+        for path in ("/", "/state", "//state", *near):
             status, _, body = self.ask("GET", path)
             self.assertEqual(status, 404, path)
             self.assertNotIn(token.encode(), body)
@@ -93,7 +94,8 @@ class Admission(Served):
 
     def test_the_host_is_this_server(self):
         port = self.server.server_port
-        for host in ("evil.example", f"evil.example:{port}", "127.0.0.1", f"127.0.0.1:{port + 1}", f"127.0.0.1:{port}.evil"):
+        near = ("127.0.0.1", f"127.0.0.1:{port + 1}", f"127.0.0.1:{port}.evil")
+        for host in ("evil.example", f"evil.example:{port}", *near):
             self.assertEqual(self.get("state", host=host)[0], 421, host)
         self.assertEqual(self.get("state", host="")[0], 421)
         self.assertEqual(self.get("state", host=f"localhost:{port}")[0], 200)
@@ -102,8 +104,8 @@ class Admission(Served):
         self.untouched()
 
     def test_the_origin_is_this_page(self):
-        foreign = ("http://evil.example", "null", f"https://{self.host}", "http://127.0.0.1", f"http://localhost:{self.server.server_port}")
-        for origin in foreign:
+        near = (f"https://{self.host}", "http://127.0.0.1", f"http://localhost:{self.server.server_port}")
+        for origin in ("http://evil.example", "null", *near):
             self.assertEqual(self.post("mark", {"mark": 0}, Origin=origin)[0], 403, origin)
             self.assertEqual(self.get("state", headers={"Origin": origin})[0], 403, origin)
         self.assertEqual(self.post("mark", {"mark": 0}, Origin=None)[0], 403)
@@ -166,7 +168,8 @@ class Admission(Served):
         self.untouched()
 
     def test_nothing_else_is_there(self):
-        for path in ("../../../../etc/passwd", "..%2f..%2fetc/passwd", "desk.py", "streets.csv", "desk.css/", "STATE", "mark"):
+        above = ("../../../../etc/passwd", "..%2f..%2fetc/passwd")
+        for path in (*above, "desk.py", "streets.csv", "desk.css/", "STATE", "mark"):
             self.assertEqual(self.get(path)[0], 404, path)
         for name in ("state", "", "other", "../mark"):
             self.assertEqual(self.post(name)[0], 404, name)
@@ -215,7 +218,8 @@ class Page_(Served):
         page = Page(self.get("")[2].decode())
         self.assertEqual(page.all("style"), [])
         self.assertTrue(all(text == "" and "src" in attributes for attributes, text in page.all("script")))
-        self.assertFalse([a for _, a, _ in page.elements if any(name.startswith("on") or name == "style" for name in a)])
+        names = {name for _, attributes, _ in page.elements for name in attributes}
+        self.assertFalse([name for name in names if name.startswith("on") or name == "style"])
 
     def test_every_field_has_a_label(self):
         text = self.get("")[2].decode()
@@ -235,7 +239,8 @@ class Doing(Served):
         now = plan_call(self.desk.streets.file, 1000)
         self.assertEqual((changed["result"]["cost"], changed["result"]["floor"]), (now.cost, now.floor))
         self.assertEqual(changed["changed"]["cost"], now.cost - first.cost)
-        self.assertEqual(json.loads(self.get("state")[2])["result"], changed["result"], "the page keeps no state of its own")
+        again = json.loads(self.get("state")[2])
+        self.assertEqual(again["result"], changed["result"], "the page keeps no state of its own")
 
     def test_marks_and_returning(self):
         self.post("mark", {"mark": 1})

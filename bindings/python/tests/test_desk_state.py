@@ -85,7 +85,8 @@ class Changes(OnTheDesk):
         arc = next(arc for arc in self.may if self.desk.way_back(arc))
         back = self.desk.way_back(arc)
         street, other = self.town.streets[arc], self.town.streets[back[0]]
-        self.assertEqual((street.from_corner, street.to_corner, street.street), (other.to_corner, other.from_corner, other.street))
+        self.assertEqual((street.from_corner, street.to_corner), (other.to_corner, other.from_corner))
+        self.assertEqual(street.street, other.street)
         self.desk.change([arc, *back], "closed")
         self.assertTrue(all(self.desk.streets.streets[one].standing is Standing.CLOSED for one in (arc, *back)))
 

@@ -60,7 +60,8 @@ class Chart(unittest.TestCase):
             rows = [(10**k, plan_call(opened.file, 10**k)) for k in range(7)]
             last = rows[-1][1]
             root = self.chart(rows)
-            self.assertEqual(words(root, "cost") + words(root, "floor"), [f"cost {last.cost:,}", f"floor {last.floor:,}"])
+            self.assertEqual(words(root, "cost"), [f"cost {last.cost:,}"])
+            self.assertEqual(words(root, "floor"), [f"floor {last.floor:,}"])
 
 
 if __name__ == "__main__":

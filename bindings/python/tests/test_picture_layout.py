@@ -33,7 +33,8 @@ class Layout(unittest.TestCase):
         self.assertEqual(lay_out(count, pairs), lay_out(count, again + pairs[:3]))
 
     def test_joined_corners_lie_near(self):
-        for count, pairs in (grid(5, 4), grid(8, 8), (9, [(k, k + 1) for k in range(8)]), (7, [(0, k) for k in range(1, 7)])):
+        path, star = [(k, k + 1) for k in range(8)], [(0, k) for k in range(1, 7)]
+        for count, pairs in (grid(5, 4), grid(8, 8), (9, path), (7, star)):
             points = lay_out(count, pairs)
             joined = [apart(points, pair) for pair in pairs]
             others = [apart(points, pair) for pair in itertools.combinations(range(count), 2) if pair not in pairs]

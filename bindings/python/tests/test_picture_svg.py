@@ -83,8 +83,9 @@ class Town(unittest.TestCase):
             self.assertGreater(forward, 0, "the arrow points the way that the street leads")
 
     def test_both_ways_of_a_street_lie_side_by_side(self):
-        lines = Counter(frozenset((way[0], way[-1])) for way in (tuple(points(line(arc))) for arc in groups(self.root, "arc")))
-        self.assertEqual(max(lines.values()), 1, "no two arcs are drawn over each other")
+        ways = [points(line(arc)) for arc in groups(self.root, "arc")]
+        ends = Counter(frozenset((way[0], way[-1])) for way in ways)
+        self.assertEqual(max(ends.values()), 1, "no two arcs are drawn over each other")
 
     def test_corners_at_their_coordinates_to_scale(self):
         dots = {g.find(f"{SVG}title").text: g.find(f"{SVG}circle") for g in groups(self.root, "corner")}
@@ -230,7 +231,7 @@ class Files(unittest.TestCase):
 
     def test_told_apart_without_colour(self):
         style = svg_file(picture.town(streets.open_list(TOWN)))
-        widths = dict(re.findall(r"\.postman \.(must|closed|joining|balancing|check) \.line \{ stroke-width: ([\d.]+);", style))
+        widths = dict(re.findall(r"\.postman \.(\w+) \.line \{ stroke-width: ([\d.]+);", style))
         dashes = dict(re.findall(r"\.postman \.(\S+) \.line \{[^}]*stroke-dasharray: ([\d. ]+);", style))
         self.assertGreater(float(widths["must"]), 2 * 1.4)
         self.assertEqual(len({dashes[kind] for kind in ("joining", "balancing")}), 2)
@@ -260,7 +261,8 @@ class Files(unittest.TestCase):
 
     def test_corners_on_one_spot_and_streets_from_a_corner_to_itself(self):
         corners = (Corner("a", 5, 5), Corner("b", 5, 5), Corner("c", 90, 5))
-        rows = [Street(k + 2, a, b, Standing.MAY, k + 1, None, "x") for k, (a, b) in enumerate(["aa", "ab", "ba", "bc", "ca"])]
+        ends = ["aa", "ab", "ba", "bc", "ca"]
+        rows = [Street(k + 2, a, b, Standing.MAY, k + 1, None, "x") for k, (a, b) in enumerate(ends)]
         root = parsed(picture.town(StreetList("spot.csv", 1, corners, tuple(rows))))
         dots = [(c.get("cx"), c.get("cy")) for g in groups(root, "corner") for c in g.iter(f"{SVG}circle")]
         self.assertEqual(len(set(dots)), 3)

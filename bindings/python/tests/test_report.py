@@ -13,9 +13,10 @@ from test_streets_list import Folder
 
 from postman import Answer, Departure, Refusal, Window, plan_call, plan_call_at, streets, tree_count
 from postman.picture.passes import Purpose, passes
+from postman.picture.percent import percent
 from postman.report import Job, report
 from postman.report.market_days import spells
-from postman.report.meaning import gap, meaning
+from postman.report.meaning import meaning
 from postman.streets.windows_file import departure_of, read_windows, shut_at
 
 WINDOWS = str(TOWN_FOLDER / "windows.csv")
@@ -48,7 +49,7 @@ class Report(unittest.TestCase):
         answer = self.job.answer
         self.assertEqual(self.page.named("cost"), f"{answer.cost:,}")
         self.assertEqual(self.page.named("floor"), f"{answer.floor:,}")
-        self.assertEqual(self.page.named("gap"), gap(answer))
+        self.assertEqual(self.page.named("gap"), percent(answer))
         (_, said), = self.page.all("p", kind="meaning")
         self.assertEqual(said, meaning(answer))
         self.assertEqual(len(re.findall(r"[.](?: |$)", said)), 2, "two sentences")
@@ -65,7 +66,8 @@ class Report(unittest.TestCase):
 
     def test_every_step_has_its_arrow_and_every_arrow_its_step(self):
         steps = [attributes["data-step"] for attributes, _ in self.page.all("tr") if "data-step" in attributes]
-        arrows = [attributes["data-step"] for attributes, _ in self.page.all("g", kind="pass") if "data-step" in attributes]
+        passes_drawn = [attributes for attributes, _ in self.page.all("g", kind="pass")]
+        arrows = [attributes["data-step"] for attributes in passes_drawn if "data-step" in attributes]
         self.assertEqual(sorted(arrows, key=int), steps)
 
     def test_both_pictures_and_the_chart(self):
@@ -82,7 +84,8 @@ class Report(unittest.TestCase):
         extra = {one.arc for one in made if one.purpose is not Purpose.CHECK}
         self.assertEqual(len(rows), len(extra))
         counts = Counter(self.job.answer.drive)
-        self.assertEqual(sorted(int(re.findall(r"class=number>(\d+)<", row)[0]) for row in rows), sorted(counts[a] for a in extra))
+        said = sorted(int(re.findall(r"class=number>(\d+)<", row)[0]) for row in rows)
+        self.assertEqual(said, sorted(counts[arc] for arc in extra))
         linked = Counter(int(step) for row in rows for step in re.findall(r"#step-(\d+)", row))
         self.assertEqual(linked, Counter(one.step for one in made if one.arc in extra))
         for row in rows:
@@ -90,15 +93,16 @@ class Report(unittest.TestCase):
 
     def test_the_cost_is_made_of_checks_and_extra_passes(self):
         section = self.text.split('<section id="figures">')[1].split("</section>")[0]
-        rows = dict(re.findall(r"<tr><td>(checks|extra, \w+)</td><td class=number>[\d,]+</td><td class=number>([\d,]+)", section))
+        number = r"</td><td class=number>([\d,]+)"
+        rows = {name: cost for name, _, cost in re.findall(rf"<tr><td>(checks|extra, \w+){number}{number}", section)}
         self.assertEqual(len(rows), 3)
         self.assertEqual(sum(int(cost.replace(",", "")) for cost in rows.values()), self.job.answer.cost)
 
     def test_budgets(self):
         section = self.text.split('<section id="budgets">')[1].split("</section>")[0]
         for budget, answer in self.job.budgets:
-            row = f"<td class=number>{budget:,}</td><td class=number>{answer.cost:,}</td><td class=number>{answer.floor:,}</td>"
-            self.assertIn(row, section)
+            cells = "".join(f"<td class=number>{number:,}</td>" for number in (budget, answer.cost, answer.floor))
+            self.assertIn(f"<tr>{cells}", section)
 
     def test_print_on_a4(self):
         self.assertIn("@page { size: A4 portrait;", self.text)
@@ -140,11 +144,19 @@ class Meaning(unittest.TestCase):
         self.assertIn("floor of 100", said)
         self.assertIn("at most 10.00 % dearer", said)
 
+    def test_a_floor_of_nothing(self):
+        self.assertIn("a floor of 0 does not tell", meaning(self.answer(7, 0)))
+        self.assertNotIn("%", meaning(self.answer(7, 0)))
+        self.assertEqual(percent(self.answer(7, 0)), "unbounded")
+
     def test_a_gap_is_never_said_to_be_less_than_it_is(self):
-        for cost, floor in ((1_000_001, 1_000_000), (100_006, 100_000), (3, 2), (10_049, 10_000)):
-            said = float(gap(self.answer(cost, floor)).removesuffix(" %"))
-            self.assertGreaterEqual(said + 1e-9, 100 * (cost - floor) / floor)
-        self.assertEqual(gap(self.answer(5, 5)), "0.00 %")
+        for cost, floor in ((1_000_001, 1_000_000), (100_006, 100_000), (3, 2), (2155, 2092), (10_049, 10_000), (90, 1)):
+            said = percent(self.answer(cost, floor)).removesuffix(" %").replace(",", "")
+            whole, hundredths = map(int, said.split("."))
+            self.assertGreaterEqual((100 * whole + hundredths) * floor, 10_000 * (cost - floor))
+            self.assertLess((100 * whole + hundredths - 1) * floor, 10_000 * (cost - floor))
+        self.assertEqual(percent(self.answer(5, 5)), "0 %")
+        self.assertEqual(percent(self.answer(2155, 2092)), "3.02 %")
 
 
 class MarketDays(unittest.TestCase):
@@ -165,10 +177,9 @@ class MarketDays(unittest.TestCase):
 
     def test_what_is_answered(self):
         for spell in spells(self.windows, self.ask):
-            day = next(d for d in range(7) for m in range(0, 1440, 5) if set(shut_at(self.windows, Departure(d, m))) == spell.shut)
-            minute = next(m for m in range(1440) if set(shut_at(self.windows, Departure(day, m))) == spell.shut)
+            minutes = (Departure(day, minute) for day in range(7) for minute in range(1440))
             try:
-                expected = self.ask(Departure(day, minute))
+                expected = self.ask(next(at for at in minutes if set(shut_at(self.windows, at)) == spell.shut))
             except Refusal as refusal:
                 expected = refusal
             self.assertEqual(spell.result, expected)

@@ -25,7 +25,8 @@ def add_arguments(parser: ArgumentParser) -> None:
     add_list(parser)
     add_budget(parser, f"{DEFAULT_BUDGET:,}")
     add_departure(parser)
-    parser.add_argument("--port", metavar="N", type=whole_number, default=0, help="the port (default: one that is free)")
+    free = "the port (default: one that is free)"
+    parser.add_argument("--port", metavar="N", type=whole_number, default=0, help=free)
     parser.add_argument("--open", action="store_true", help="open the page in the browser")
 
 

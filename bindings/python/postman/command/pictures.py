@@ -14,7 +14,8 @@ from .output import Output
 
 def add_picture(parser: ArgumentParser, what: str) -> None:
     """--picture, which writes SVG."""
-    parser.add_argument("--picture", metavar="SVG", type=named(".svg"), help=f"also write a picture of {what} to this file")
+    words = f"also write a picture of {what} to this file"
+    parser.add_argument("--picture", metavar="SVG", type=named(".svg"), help=words)
 
 
 def named(suffix: str) -> Callable[[str], str]:

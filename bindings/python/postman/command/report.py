@@ -25,8 +25,10 @@ def add_arguments(parser: ArgumentParser) -> None:
     add_list(parser)
     add_budget(parser, "as many as half a second allows")
     add_departure(parser)
-    parser.add_argument("--title", metavar="TEXT", default="", help="what the report is called (default: the list's file)")
-    parser.add_argument("-o", "--output", metavar="HTML", type=named(".html"), help="the file (default: standard output)")
+    called = "what the report is called (default: the list's file)"
+    parser.add_argument("--title", metavar="TEXT", default="", help=called)
+    file = "the file (default: standard output)"
+    parser.add_argument("-o", "--output", metavar="HTML", type=named(".html"), help=file)
 
 
 def run(args: Namespace, output: Output) -> int:

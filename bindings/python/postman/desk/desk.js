@@ -9,17 +9,15 @@ let shownView = "drive";
 // Talking to the server: one request after the other.
 
 let line = Promise.resolve();
-let waiting = 0;
 
 function send(action, fields) {
-  waiting += 1;
   const done = line.then(async () => {
     const options = { method: "POST", headers: { "Content-Type": "application/json" }, body: JSON.stringify(fields) };
     const answer = await fetch(action, options);
     const value = await answer.json();
     return { status: answer.status, value };
   });
-  line = done.catch(() => undefined).finally(() => { waiting -= 1; });
+  line = done.catch(() => undefined);
   return done;
 }
 
@@ -45,6 +43,7 @@ function say(words) {
 
 // Pictures: only the last one that was asked for matters.
 
+let drawn = "";
 let drawing = false;
 let again = false;
 
@@ -59,9 +58,11 @@ async function draw() {
     try {
       const answer = await fetch(`picture?view=${shownView}`);
       const { svg } = await answer.json();
-      const parsed = new DOMParser().parseFromString(svg, "image/svg+xml").documentElement;
-      $("stage").replaceChildren(document.importNode(parsed, true));
-      $("stage").dataset.serial = state ? state.serial : "";
+      if (svg !== drawn) {
+        const parsed = new DOMParser().parseFromString(svg, "image/svg+xml").documentElement;
+        $("stage").replaceChildren(document.importNode(parsed, true));
+        drawn = svg;
+      }
     } catch {
       say("The desk does not answer. Is it still running?");
     }
@@ -108,9 +109,11 @@ function showResult() {
   $("gap").textContent = refused ? "–" : result.gap;
   $("cost-moved").textContent = changed ? moved(changed.cost) : "";
   $("floor-moved").textContent = changed ? moved(changed.floor) : "";
-  $("meaning").textContent = refused ? `Refused (${result.refusal}, ${result.word}): ${result.sentence}` : result.meaning;
+  const refusal = `Refused (${result.refusal}, ${result.word}): ${result.sentence}`;
+  $("meaning").textContent = refused ? refusal : result.meaning;
   $("changed").textContent = changed ? driven(changed) : "";
-  $("trees").textContent = refused ? "" : `${numbers(result.trees)} trees were tried${result.whole ? ", and these are all" : ", and not all"}.`;
+  const all = result.whole ? "and these are all" : "and not all";
+  $("trees").textContent = refused ? "" : `${numbers(result.trees)} trees were tried, ${all}.`;
 }
 
 function driven(changed) {
@@ -134,7 +137,8 @@ function showStreets() {
     const name = element("td");
     name.append(element("span", street.name, "street"), element("span", `${street.from} → ${street.to}`, "ends"));
     const standing = element("td", street.shut ? "shut" : street.standing, street.shut ? "shut" : street.standing);
-    const cost = street.checking === null ? numbers(street.cost) : `${numbers(street.cost)} / ${numbers(street.checking)}`;
+    const checking = street.checking === null ? "" : ` / ${numbers(street.checking)}`;
+    const cost = numbers(street.cost) + checking;
     row.append(name, standing, element("td", cost, "number"), element("td", street.passes || "", "number"));
     rows.push(row);
   }
@@ -157,7 +161,8 @@ function showSteps() {
     row.dataset.step = step.step;
     const name = element("td");
     name.append(element("span", step.name, "street"), element("span", `${step.from} → ${step.to}`, "ends"));
-    row.append(element("td", step.step, "number"), name, element("td", step.does, step.purpose), element("td", numbers(step.cost), "number"));
+    const [number, cost] = [element("td", step.step, "number"), element("td", numbers(step.cost), "number")];
+    row.append(number, name, element("td", step.does, step.purpose), cost);
     return row;
   }));
 }
@@ -171,7 +176,8 @@ function showMarks() {
     set.setAttribute("aria-label", `Set mark ${number}`);
     back.setAttribute("aria-label", `Return to mark ${number}`);
     back.disabled = mark === null;
-    const said = mark === null ? "not set" : mark.refusal !== undefined ? `refused, ${mark.word}` : `cost ${numbers(mark.cost)}`;
+    let said = "not set";
+    if (mark !== null) said = mark.refusal !== undefined ? `refused, ${mark.word}` : `cost ${numbers(mark.cost)}`;
     row.append(element("span", `mark ${number}`), set, back, element("span", said));
     return row;
   }));
@@ -192,7 +198,9 @@ function showDay() {
 }
 
 function showCars() {
-  for (const view of ["first-car", "second-car"]) document.querySelector(`[data-view="${view}"]`).hidden = state.cars === null;
+  for (const view of ["first-car", "second-car"]) {
+    document.querySelector(`[data-view="${view}"]`).hidden = state.cars === null;
+  }
   if (state.cars === null) {
     $("cars").replaceChildren(element("p", "Paint streets by clicking, or have the must streets shared out.", "soft"));
     if (shownView.endsWith("-car")) choose("cars");
@@ -201,7 +209,9 @@ function showCars() {
   $("cars").replaceChildren(...state.cars.map((car, number) => {
     const row = element("div", undefined, "car");
     row.append(element("strong", number === 0 ? "First car" : "Second car"), element("span", `${car.marks} marked`));
-    const words = car.refusal !== undefined ? `Refused (${car.refusal}, ${car.word}): ${car.sentence}` : `cost ${numbers(car.cost)}, floor ${numbers(car.floor)}, gap ${car.gap}`;
+    const words = car.refusal !== undefined
+      ? `Refused (${car.refusal}, ${car.word}): ${car.sentence}`
+      : `cost ${numbers(car.cost)}, floor ${numbers(car.floor)}, gap ${car.gap}`;
     row.append(element("span", words, "soft"));
     return row;
   }));
@@ -225,7 +235,8 @@ function showSelected() {
 function highlight() {
   for (const shown of document.querySelectorAll(".shown")) shown.classList.remove("shown");
   if (selected === null) return;
-  for (const found of document.querySelectorAll(`#stage [data-arc="${selected}"], #streets [data-arc="${selected}"], #steps [data-arc="${selected}"]`)) {
+  const places = ["#stage", "#streets", "#steps"].map((place) => `${place} [data-arc="${selected}"]`).join(", ");
+  for (const found of document.querySelectorAll(places)) {
     found.classList.add("shown");
     if (found.closest("#stage")) found.parentNode.appendChild(found);
   }
@@ -396,7 +407,8 @@ for (const tab of document.querySelectorAll("[data-view]")) {
 }
 
 document.addEventListener("keydown", (event) => {
-  if (event.ctrlKey || event.metaKey || event.altKey || event.target.closest("input:not([type=checkbox]):not([type=range]), textarea, select, dialog")) return;
+  const writing = "input:not([type=checkbox]):not([type=range]), textarea, select, dialog";
+  if (event.ctrlKey || event.metaKey || event.altKey || event.target.closest(writing)) return;
   const digit = /^Digit([0-3])$/.exec(event.code);
   if (digit) {
     event.preventDefault();

@@ -12,7 +12,7 @@ from ..streets.street_list import StreetList
 from ..streets.table import encoded
 from .state import Desk, Wrong
 
-# A plain file name of letters, digits and a few signs: no folder, no hidden file, no name that a system keeps for itself.
+# A plain file name of letters, digits and a few signs: no folder, no hidden file, no name that a system keeps.
 _NAME = re.compile(r"[\w][\w .()+,-]{0,95}\.csv", re.IGNORECASE)
 _RESERVED = re.compile(r"(con|prn|aux|nul|com\d|lpt\d)\..*", re.IGNORECASE)
 

@@ -1,7 +1,7 @@
 """The server of a desk: on the loopback interface alone, and for those alone who know the token in its address.
 
-A page of another site may make the browser send requests here. It does not know the token; and a request is refused whose Host
-is not this server, or whose Origin is not this page. Nothing of a request names a file to be read.
+A page of another site may make the browser send requests here. It does not know the token; and a request is refused
+whose Host is not this server, or whose Origin is not this page. Nothing of a request names a file to be read.
 """
 
 from __future__ import annotations
@@ -37,8 +37,8 @@ PAGES = {
 }
 
 HEADERS = {
-    "Content-Security-Policy": "default-src 'none'; script-src 'self'; style-src 'self'; connect-src 'self'; img-src data:; "
-    "base-uri 'none'; form-action 'none'; frame-ancestors 'none'",
+    "Content-Security-Policy": "default-src 'none'; script-src 'self'; style-src 'self'; connect-src 'self'; "
+    "img-src data:; base-uri 'none'; form-action 'none'; frame-ancestors 'none'",
     "X-Content-Type-Options": "nosniff",
     "X-Frame-Options": "DENY",
     "Referrer-Policy": "no-referrer",

@@ -1,7 +1,7 @@
 """The state of a desk: the library's open plan, when the drive begins, the budget, and two cars' marks.
 
-Each method is one thing that an editor does. It is done or, by an exception, not at all; what the library refuses alters
-nothing. The answer is asked for at once.
+Each method is one thing that an editor does. It is done or, by an exception, not at all; what the library refuses
+alters nothing. The answer is asked for at once.
 """
 
 from __future__ import annotations

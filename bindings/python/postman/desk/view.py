@@ -10,8 +10,9 @@ from ..answer import Answer
 from ..picture import Drawing, cars, drive, svg_element, town
 from ..picture.cars import car_list
 from ..picture.passes import passes
+from ..picture.percent import percent
 from ..refusal import Refusal
-from ..report.meaning import does, gap, meaning
+from ..report.meaning import does, meaning
 from ..streets.street_list import StreetList
 from .saving import free_name
 from .state import Desk, Wrong
@@ -117,14 +118,14 @@ def _short(result: Answer | Refusal) -> dict[str, Any]:
     return {
         "cost": result.cost,
         "floor": result.floor,
-        "gap": gap(result),
+        "gap": percent(result),
         "trees": result.trees,
         "whole": result.whole,
     }
 
 
 def _changed(desk: Desk) -> dict[str, Any] | None:
-    """What the last change made of the answer: by how much cost and floor moved, and what is driven more or less often."""
+    """What the last change made of the answer: how cost and floor moved, and what is driven more or less often."""
     if not (isinstance(desk.before, Answer) and isinstance(desk.result, Answer)):
         return None
     more, less = Counter(desk.result.drive), Counter(desk.before.drive)

@@ -1,7 +1,7 @@
 """Pictures of street lists and drives. A drawing is computed first, and written as SVG second.
 
-`town` shows a list, `drive` an answer on it, `cars` two cars' marks, `budgets` what a raised budget buys; `svg_file` and
-`svg_element` write them.
+`town` shows a list, `drive` an answer on it, `cars` two cars' marks, `budgets` what a raised budget buys; `svg_file`
+and `svg_element` write them.
 """
 
 from .cars import cars

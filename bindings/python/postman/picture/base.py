@@ -137,8 +137,8 @@ class Base:
     ) -> dict[tuple[int, int], tuple[Point, ...]]:
         """A line for each key, an arc and a number, in this order beside each other where they join the same corners.
 
-        The gap between them is wider where the street is short: numbers that stand along it one after the other, each on
-        a lane of its own, are then this far `apart`.
+        The gap between them is wider where the street is short: numbers that stand along it one after the other, each
+        on a lane of its own, are then this far `apart`.
         """
         between: dict[tuple[int, int], list[tuple[int, int]]] = defaultdict(list)
         for key in keys:
@@ -155,7 +155,7 @@ class Base:
             wider = math.sqrt(max(0.0, apart * apart - step * step))
             own_gap = min(max(gap, wider), 84.0 / len(together))
             offsets = lanes.offsets([self.plan.arcs[key[0]].tail == one for key in together], own_gap)
-            self.lane_reach[one, other] = max(map(abs, offsets))
+            self.lane_reach[one, other] = max(abs(offset) for offset in offsets)
             for key, offset in zip(together, offsets):
                 arc = self.plan.arcs[key[0]]
                 drawn[key] = lanes.lane(self.points[arc.tail], self.points[arc.head], offset, self.corners.rim)

@@ -7,6 +7,7 @@ from collections.abc import Callable, Sequence
 
 from ..answer import Answer
 from .drawing import Area, Box, Dot, Drawing, Group, Label, Line, Point, Shape
+from .percent import percent
 
 WIDTH, HEIGHT = 760.0, 430.0
 LEFT, RIGHT, TOP, BOTTOM = 84.0, 120.0, 66.0, 62.0
@@ -82,11 +83,12 @@ def _ticks(low: float, high: float) -> list[float]:
 def _words(rows: Sequence[tuple[int, Answer]]) -> str:
     for budget, answer in rows:
         if answer.whole:
-            return f"From a budget of {answer.trees:,} on all trees are tried: no drive is cheaper than {answer.cost:,}."
+            tried = f"From a budget of {answer.trees:,} on all trees are tried"
+            return f"{tried}: no drive is cheaper than {answer.cost:,}."
     last = rows[-1][1]
     if last.cost == last.floor:
         return f"Cost and floor meet: no drive is cheaper than {last.cost:,}."
-    return f"At {rows[-1][0]:,} trees the drive costs {last.cost:,}, at most {100 * last.gap:.2f} % above the cheapest one."
+    return f"At {rows[-1][0]:,} trees the drive costs {last.cost:,}; the gap to the floor is {percent(last)}."
 
 
 def _row(budget: int, answer: Answer) -> str:

@@ -1,7 +1,7 @@
 """A drawing: what a picture shows, as points, lines and labels with classes, before any kind of file.
 
-It is computed first; `svg` writes it. The files, the report and the desk share one drawing. Lengths are in points of the
-sheet, 96 to the inch, y downwards.
+It is computed first; `svg` writes it. The files, the report and the desk share one drawing. Lengths are in points of
+the sheet, 96 to the inch, y downwards.
 """
 
 from __future__ import annotations

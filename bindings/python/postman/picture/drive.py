@@ -14,6 +14,7 @@ from .arcs import arc_group, cross
 from .base import Base
 from .drawing import Area, Box, Dot, Drawing, Group, Label, Line, Point, Shape
 from .passes import Pass, Purpose, passes
+from .percent import percent
 from .room import Room, body, spine, text_width
 
 LANE_GAP = 8.0
@@ -71,7 +72,7 @@ def summary(answer: Answer) -> str:
     if answer.cost == answer.floor:
         end = "no drive is cheaper"
     else:
-        end = f"no drive costs less than the floor of {answer.floor:,}; the gap is {100 * answer.gap:.2f} %"
+        end = f"no drive costs less than the floor of {answer.floor:,}; the gap is {percent(answer)}"
     return f"{answer.places:,} steps, cost {answer.cost:,}; {end}."
 
 
@@ -96,7 +97,7 @@ def _shares(base: Base, keys: Sequence[tuple[int, int]]) -> dict[tuple[int, int]
 def _free_place(
     numbers: Room, way: tuple[Point, ...], wanted: float, stretch: tuple[float, float], width: float
 ) -> float:
-    """Where along a lane its number stands: about where it is wanted, on the straight stretch, and off other numbers."""
+    """Where along a lane its number stands: about where it is wanted, on the straight stretch, off other numbers."""
     begin, end = stretch
     inner = (begin + (end - begin) * 0.12, end - (end - begin) * 0.12)
     best: tuple[float, float] | None = None

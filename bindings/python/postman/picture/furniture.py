@@ -17,7 +17,8 @@ _SAMPLE = 44.0
 
 def header(title: str, subtitle: str) -> Group:
     """The title and the line under it."""
-    return Group("header", (Label((SIDE, 20), title, "title", "start"), Label((SIDE, 42), subtitle, "subtitle", "start")))
+    lines = (Label((SIDE, 20), title, "title", "start"), Label((SIDE, 42), subtitle, "subtitle", "start"))
+    return Group("header", lines)
 
 
 def legend(ground: Ground, entries: Sequence[tuple[str, Sequence[Shape], str]]) -> list[Group]:
@@ -53,7 +54,8 @@ def scale_bar(ground: Ground) -> Group:
     metres = _round_length(150 / ground.per_metre)
     width = metres * ground.per_metre
     left = right - width
-    halves = (Box((left, top), width / 2, 5, classes="block"), Box((left + width / 2, top), width / 2, 5, classes="blank"))
+    half = width / 2
+    halves = (Box((left, top), half, 5, classes="block"), Box((left + half, top), half, 5, classes="blank"))
     words = f"{metres / 1000:g} km" if metres >= 1000 else f"{metres:g} m"
     labels = (Label((left, top + 15), "0"), Label((right, top + 15), words, anchor="end"))
     return Group("scale", halves + labels)

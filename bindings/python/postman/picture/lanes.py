@@ -22,7 +22,7 @@ def offsets(directions: Sequence[bool], gap: float) -> list[float]:
 
 
 def lane(start: Point, end: Point, offset: float, rim: float) -> tuple[Point, ...]:
-    """A line from one corner's rim to the other's, `offset` to the right between; what lies outside the rim bends in."""
+    """A line from one corner's rim to the other's, `offset` to the right between; outside the rim it bends in."""
     length = math.dist(start, end)
     if length < 1e-6:
         return (start, end)

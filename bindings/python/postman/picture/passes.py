@@ -1,8 +1,8 @@
 """What each pass of a drive does, as far as the drive itself tells.
 
-The library answers the drive and not why each pass is in it. Told from the drive: the first pass of a must street checks
-it; all others are extra. Extra passes come in runs, between one check and the next. Those of a run from one part to
-another are called joining, those of a run back into the part it left balancing.
+The library answers the drive and not why each pass is in it. Told from the drive: the first pass of a must street
+checks it; all others are extra. Extra passes come in runs, between one check and the next. Those of a run from one part
+to another are called joining, those of a run back into the part it left balancing.
 """
 
 from __future__ import annotations
@@ -26,7 +26,7 @@ class Purpose(Enum):
 
 @dataclass(frozen=True)
 class Pass:
-    """One place of a drive: its step, from 1 on, its arc, its cost, what it does, and the parts its run leads from and to."""
+    """One place of a drive: its step, from 1 on, its arc, its cost, what it does, and the parts its run is between."""
 
     step: int
     arc: int
@@ -40,7 +40,8 @@ def corners_of_parts(streets: StreetList) -> list[frozenset[int]]:
     """The corners of each part. Their number is the answer's `parts`."""
     arcs = streets.plan.arcs
     must = [arc for arc, street in enumerate(streets.streets) if street.must]
-    return [frozenset(end for arc in part for end in (arcs[arc].tail, arcs[arc].head)) for part in parts_of(streets, must)]
+    parts = parts_of(streets, must)
+    return [frozenset(end for arc in part for end in (arcs[arc].tail, arcs[arc].head)) for part in parts]
 
 
 def passes(streets: StreetList, drive: Sequence[int]) -> tuple[Pass, ...]:

@@ -1,4 +1,4 @@
-"""Where there is room for labels: what stands on the sheet already, as points, and how much of it a label would cover."""
+"""Where there is room for labels: what stands on the sheet already, and how much of it a label would cover."""
 
 from __future__ import annotations
 
@@ -33,10 +33,8 @@ class Room:
         """A polyline is taken, every few points of its length."""
         for one, other in zip(points, points[1:]):
             count = max(1, int(math.dist(one, other) // 4))
-            self.take(
-                ((one[0] + (other[0] - one[0]) * k / count, one[1] + (other[1] - one[1]) * k / count) for k in range(count + 1)),
-                weight,
-            )
+            across, down = (other[0] - one[0]) / count, (other[1] - one[1]) / count
+            self.take(((one[0] + across * k, one[1] + down * k) for k in range(count + 1)), weight)
 
     def crowd(self, points: Iterable[Point], radius: float) -> float:
         """The weight of what lies about within a radius of these points."""

@@ -96,14 +96,16 @@ text.halo { stroke: paper; }
 .idle .line { stroke: faint; } .idle .head { fill: faint; }
 .idle.closed .line, .idle .cross { stroke: closed; }
 .pill { fill: paper; }
-.check .line, .check .pill { stroke: check; } .check .head, .check .pill { fill: check; } .check .number { fill: paper; }
+.check .line, .check .pill { stroke: check; } .check .head, .check .pill { fill: check; }
+.check .number { fill: paper; }
 .joining .line, .joining .pill { stroke: joining; } .joining .head, .joining .number { fill: joining; }
 .balancing .line, .balancing .pill { stroke: balancing; } .balancing .head, .balancing .number { fill: balancing; }
 .first-car .line, .floor .line { stroke: first-car; } .first-car .head { fill: first-car; }
 .second-car .line, .cost .line { stroke: second-car; } .second-car .head { fill: second-car; }
 .floor .bead { fill: paper; stroke: first-car; stroke-width: 2; } .cost .bead { fill: second-car; }
 .chart.floor text { fill: first-car; } .chart.cost text { fill: second-car; }
-.ring, .rule, .scale .line { stroke: ink; } .scale .block { fill: ink; stroke: ink; } .scale .blank { fill: paper; stroke: ink; }
+.ring, .rule { stroke: ink; }
+.scale .block { fill: ink; stroke: ink; } .scale .blank { fill: paper; stroke: ink; }
 .grid { stroke: faint; } .gap { fill: faint; fill-opacity: 0.35; }
 .shown .hit { stroke: glow; stroke-opacity: 0.9; }"""
     for number, tint in enumerate(parts):

@@ -37,7 +37,8 @@ def town(streets: StreetList, shut: Collection[int] = (), title: str | None = No
 
 def _rank(streets: StreetList, arc: int, shut: Collection[int]) -> int:
     """Closed ones behind, must ones in front."""
-    return {Standing.CLOSED: 0, Standing.MAY: 1, Standing.MUST: 2}[streets.streets[arc].standing] if arc not in shut else 0
+    standing = Standing.CLOSED if arc in shut else streets.streets[arc].standing
+    return (Standing.CLOSED, Standing.MAY, Standing.MUST).index(standing)
 
 
 def _entries(base: Base, shut: Collection[int]) -> list[tuple[str, Sequence[Shape], str]]:

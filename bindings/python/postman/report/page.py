@@ -12,7 +12,9 @@ from . import sections
 from .job import Job
 
 # The page may run its own script and style, and load nothing.
-_POLICY = "default-src 'none'; style-src 'unsafe-inline'; script-src 'unsafe-inline'; base-uri 'none'; form-action 'none'"
+_POLICY = (
+    "default-src 'none'; style-src 'unsafe-inline'; script-src 'unsafe-inline'; base-uri 'none'; form-action 'none'"
+)
 
 
 def report(job: Job) -> str:
@@ -55,7 +57,8 @@ def report(job: Job) -> str:
 <header>
 <p class=kind>Survey drive</p>
 <h1>{name}</h1>
-<p class=made>Made on {made} by postman {escape(__version__)}. Cost, floor and drive are the proved planner's answer.</p>
+<p class=made>Made on {made} by postman {escape(__version__)}.
+Cost, floor and drive are the proved planner's answer.</p>
 {sections.headline(job)}
 <nav class=screen aria-label="sections">{links}</nav>
 </header>

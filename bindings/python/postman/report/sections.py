@@ -10,11 +10,12 @@ from ..answer import Answer
 from ..limits import HIGHEST_COUNT
 from ..picture import budgets, drive, svg_element, town
 from ..picture.passes import Pass, Purpose, passes
+from ..picture.percent import percent
 from ..plan import Standing
 from ..streets.windows_file import LONG_DAYS
 from .job import Job
 from .market_days import Spell, clock
-from .meaning import WHY, does, gap, meaning
+from .meaning import WHY, does, meaning
 
 
 def section(name: str, title: str, *parts: str) -> str:
@@ -30,7 +31,8 @@ def table(header: Sequence[str], rows: Iterable[Sequence[str]], numbers: Iterabl
         return f'<{tag}{" class=number" if column in right else ""}>{text}</{tag}>'
 
     head = "".join(cell("th", column, text) for column, text in enumerate(header))
-    body = "\n".join("<tr>" + "".join(cell("td", column, text) for column, text in enumerate(row)) + "</tr>" for row in rows)
+    lines = ("".join(cell("td", column, text) for column, text in enumerate(row)) for row in rows)
+    body = "\n".join(f"<tr>{line}</tr>" for line in lines)
     kind = f' class="{name}"' if name else ""
     return f"<div class=wide><table{kind}><thead><tr>{head}</tr></thead><tbody>\n{body}\n</tbody></table></div>"
 
@@ -38,7 +40,7 @@ def table(header: Sequence[str], rows: Iterable[Sequence[str]], numbers: Iterabl
 def headline(job: Job) -> str:
     """Cost, floor and gap, large, and what they mean."""
     answer = job.answer
-    figures = (("cost", f"{answer.cost:,}"), ("floor", f"{answer.floor:,}"), ("gap", gap(answer)))
+    figures = (("cost", f"{answer.cost:,}"), ("floor", f"{answer.floor:,}"), ("gap", percent(answer)))
     boxes = "".join(f"<div><dt>{name}</dt><dd id={name}>{value}</dd></div>" for name, value in figures)
     return f"<dl class=headline>{boxes}</dl>\n<p class=meaning>{escape(meaning(answer))}</p>"
 
@@ -69,11 +71,11 @@ def figures(job: Job) -> str:
 def _made_of(job: Job) -> str:
     made = passes(job.streets, job.answer.drive)
     words = {Purpose.CHECK: "checks", Purpose.JOINING: "extra, joining", Purpose.BALANCING: "extra, balancing"}
-    rows = []
+    rows: list[Sequence[str]] = []
     for purpose, word in words.items():
         own = [one for one in made if one.purpose is purpose]
         rows.append((word, f"{len(own):,}", f"{sum(one.cost for one in own):,}"))
-    rows.append(("<strong>the drive</strong>", f"<strong>{len(made):,}</strong>", f"<strong>{job.answer.cost:,}</strong>"))
+    rows.append(tuple(f"<strong>{cell}</strong>" for cell in ("the drive", f"{len(made):,}", f"{job.answer.cost:,}")))
     return table(("the drive", "steps", "cost"), rows, (1, 2))
 
 
@@ -104,7 +106,9 @@ def _step_table(job: Job, made: Sequence[Pass]) -> str:
             f"<td class=number>{one.cost:,}</td><td class=number>{so_far:,}</td>"
         )
         rows.append(f'<tr id="step-{one.step}" data-step="{one.step}" data-arc="{one.arc}" tabindex="0">{cells}</tr>')
-    head = "<th class=number>step</th><th>street</th><th>does</th><th class=number>cost</th><th class=number>so far</th>"
+    right = {"step", "cost", "so far"}
+    names = ("step", "street", "does", "cost", "so far")
+    head = "".join(f"<th{' class=number' if name in right else ''}>{name}</th>" for name in names)
     return f"<table><thead><tr>{head}</tr></thead><tbody>\n" + "\n".join(rows) + "\n</tbody></table>"
 
 
@@ -134,10 +138,11 @@ def repeats(job: Job) -> str:
 def budget_section(job: Job) -> str:
     """The chart of budgets, and its numbers."""
     rows = [
-        (f"{budget:,}", f"{a.cost:,}", f"{a.floor:,}", gap(a), f"{a.trees:,}", "yes" if a.whole else "no")
+        (f"{budget:,}", f"{a.cost:,}", f"{a.floor:,}", percent(a), f"{a.trees:,}", "yes" if a.whole else "no")
         for budget, a in job.budgets
     ]
-    chart = f"<figure class=chart>{svg_element(budgets(job.budgets, 'Cost and floor over the budget'), 'budgets-chart')}</figure>"
+    drawing = budgets(job.budgets, "Cost and floor over the budget")
+    chart = f"<figure class=chart>{svg_element(drawing, 'budgets-chart')}</figure>"
     words = "<p>A larger budget never gives a dearer drive, nor a lower floor.</p>"
     numbers = table(("budget", "cost", "floor", "gap", "trees tried", "all trees"), rows, range(5))
     return f"{words}<div class=columns>{chart}{numbers}</div>"
@@ -155,5 +160,5 @@ def market_days(job: Job) -> str:
 
 def _spell_cells(spell: Spell) -> tuple[str, str, str]:
     if isinstance(spell.result, Answer):
-        return f"{spell.result.cost:,}", f"{spell.result.floor:,}", gap(spell.result)
+        return f"{spell.result.cost:,}", f"{spell.result.floor:,}", percent(spell.result)
     return escape(f"refused: {spell.result.word}"), "", ""
