@@ -261,7 +261,11 @@ class Shown(OnTheDesk):
         now = self.desk.result
         self.assertEqual(shown["changed"]["cost"], now.cost - first.cost)
         self.assertEqual(shown["changed"]["floor"], now.floor - first.floor)
-        self.assertIn(self.town.streets[driven].name, shown["changed"]["less"])
+        names = [[self.town.streets[arc].name for arc in answer.drive] for answer in (first, now)]
+        for name in set(names[0] + names[1]):
+            moved = names[1].count(name) - names[0].count(name)
+            self.assertEqual((name in shown["changed"]["more"], name in shown["changed"]["less"]), (moved > 0, moved < 0))
+        self.assertTrue(shown["changed"]["more"])
         self.assertEqual(shown["result"]["cost"], now.cost)
         self.assertEqual([step["arc"] for step in shown["result"]["steps"]], list(now.drive))
         row = shown["streets"][driven]

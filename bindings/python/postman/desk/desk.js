@@ -53,21 +53,24 @@ async function draw() {
     return;
   }
   drawing = true;
+  $("stage").classList.add("stale");
   do {
     again = false;
     try {
       const answer = await fetch(`picture?view=${shownView}`);
-      const { svg } = await answer.json();
+      const { serial, svg } = await answer.json();
       if (svg !== drawn) {
         const parsed = new DOMParser().parseFromString(svg, "image/svg+xml").documentElement;
         $("stage").replaceChildren(document.importNode(parsed, true));
         drawn = svg;
       }
+      $("stage").dataset.serial = serial;
     } catch {
       say("The desk does not answer. Is it still running?");
     }
   } while (again);
   drawing = false;
+  $("stage").classList.remove("stale");
   highlight();
 }
 
@@ -86,6 +89,7 @@ function element(tag, words, ...classes) {
 function show(next) {
   const first = state === null;
   state = next;
+  document.body.dataset.serial = state.serial;
   document.title = `${state.title}: desk`;
   $("title").textContent = state.title;
   showResult();

@@ -128,17 +128,13 @@ def _changed(desk: Desk) -> dict[str, Any] | None:
     """What the last change made of the answer: how cost and floor moved, and what is driven more or less often."""
     if not (isinstance(desk.before, Answer) and isinstance(desk.result, Answer)):
         return None
-    more, less = Counter(desk.result.drive), Counter(desk.before.drive)
+    now, before = (Counter(desk.opened.streets[arc].name for arc in one.drive) for one in (desk.result, desk.before))
     return {
         "cost": desk.result.cost - desk.before.cost,
         "floor": desk.result.floor - desk.before.floor,
-        "more": _named(desk, more - less),
-        "less": _named(desk, less - more),
+        "more": list(now - before),
+        "less": list(before - now),
     }
-
-
-def _named(desk: Desk, counts: Counter[int]) -> list[str]:
-    return list(dict.fromkeys(desk.opened.streets[arc].name for arc in sorted(counts)))
 
 
 def _cars(desk: Desk) -> list[dict[str, Any]] | None:
