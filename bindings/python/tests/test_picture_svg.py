@@ -197,6 +197,8 @@ class Files(unittest.TestCase):
         town = streets.open_list(TOWN)
         yield "town", picture.town(town)
         yield "cars", picture.cars(town, ({7, 8}, {9}))
+        tall = replace(town, corners=tuple(replace(corner, x=corner.y, y=2 * corner.x) for corner in town.corners))
+        yield "tall", picture.drive(tall, plan_call(town.file, 100), {0})
         yield "town", picture.budgets([(10**k, plan_call(town.file, 10**k)) for k in range(7)])
 
     def test_every_picture_fits_on_a4_and_holds_all_its_points(self):
@@ -208,6 +210,8 @@ class Files(unittest.TestCase):
                 self.assertLessEqual(sides[0], 190.5)
                 self.assertLessEqual(sides[1], 277.5)
                 _, _, width, height = map(float, root.get("viewBox").split())
+                way = "landscape" if width > height else "portrait"
+                self.assertIn(f"@page {{ size: A4 {way}; margin: 10mm; }}", root.find(f"{SVG}style").text)
                 for path in root.iter(f"{SVG}path"):
                     for x, y in points(path.get("d")):
                         self.assertTrue(-1 <= x <= width + 1 and -1 <= y <= height + 1, (x, y))

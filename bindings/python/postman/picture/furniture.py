@@ -7,12 +7,13 @@ from collections.abc import Sequence
 from dataclasses import replace
 
 from .drawing import Box, Group, Label, Line, Shape
-from .ground import FOOTER, Ground
+from .ground import ROW, Ground
 from .room import text_width
 
 SIDE = 14.0
 _LEGEND_TEXT = 10.0
 _SAMPLE = 44.0
+_SCALE = 190.0
 
 
 def header(title: str, subtitle: str) -> Group:
@@ -25,12 +26,13 @@ def legend(ground: Ground, entries: Sequence[tuple[str, Sequence[Shape], str]]) 
     """Samples with their words, in rows at the foot of the sheet. A sample is drawn at 0, 0 and is 44 wide."""
     groups = []
     left, row = SIDE, 0
-    widest = ground.width - SIDE - (190 if ground.per_metre else 0)
     for classes, sample, words in entries:
         width = _SAMPLE + 6 + text_width(words, _LEGEND_TEXT) + 16
-        if left + width > widest and left > SIDE:
+        # The scale stands beside the first two rows, the note that there is none beside the second.
+        taken = _SCALE if (row < 2 if ground.per_metre else row == 1) else 0.0
+        if left + width > ground.width - SIDE - taken and left > SIDE:
             left, row = SIDE, row + 1
-        top = ground.height - FOOTER + 24 + 18 * row
+        top = ground.height - ground.footer + 24 + ROW * row
         shapes = [_moved(shape, left, top) for shape in sample]
         shapes.append(Label((left + _SAMPLE + 6, top), words, "words", "start"))
         groups.append(Group(f"legend {classes}", tuple(shapes)))
@@ -40,17 +42,17 @@ def legend(ground: Ground, entries: Sequence[tuple[str, Sequence[Shape], str]]) 
 
 def rule(ground: Ground) -> Group:
     """The line between the picture and its foot."""
-    top = ground.height - FOOTER + 6
+    top = ground.height - ground.footer + 6
     return Group("foot", (Line(((SIDE, top), (ground.width - SIDE, top)), "grid"),))
 
 
 def scale_bar(ground: Ground) -> Group:
     """A bar of round length in metres; or a note where the corners have no coordinates."""
-    top = ground.height - FOOTER + 24
+    top = ground.height - ground.footer + 24
     right = ground.width - SIDE
     if ground.per_metre is None:
         note = "Not to scale: the corners have no coordinates."
-        return Group("note", (Label((right, top + 18), note, anchor="end"),))
+        return Group("note", (Label((right, top + ROW), note, anchor="end"),))
     metres = _round_length(150 / ground.per_metre)
     width = metres * ground.per_metre
     left = right - width

@@ -14,7 +14,7 @@ LONG_SIDE = 1047.0
 SHORT_SIDE = 718.0
 
 HEADER = 56.0
-FOOTER = 52.0
+ROW = 18.0
 SIDE = 60.0
 ABOVE = 34.0
 
@@ -31,6 +31,8 @@ class Ground:
     width: float
     height: float
     per_metre: float | None
+    footer: float
+    """The height of the foot. The legend takes two rows of a wide sheet, and three of a narrow one."""
 
 
 def ground(streets: StreetList) -> Ground:
@@ -43,14 +45,15 @@ def ground(streets: StreetList) -> Ground:
     top, bottom = min(y for _, y in places), max(y for _, y in places)
     wide, high = right - left, bottom - top
     width, tallest = (LONG_SIDE, SHORT_SIDE) if wide >= high else (SHORT_SIDE, LONG_SIDE)
-    room = (width - 2 * SIDE, tallest - HEADER - FOOTER - 2 * ABOVE)
+    footer = ROW * (3 if width == LONG_SIDE else 4)
+    room = (width - 2 * SIDE, tallest - HEADER - footer - 2 * ABOVE)
     scale = min(room[0] / wide if wide > 0 else math.inf, room[1] / high if high > 0 else math.inf)
     if not to_scale:
         scale = min(scale, LONGEST_STEP)
-    height = high * scale + HEADER + FOOTER + 2 * ABOVE
+    height = high * scale + HEADER + footer + 2 * ABOVE
     shift = ((width - wide * scale) / 2 - left * scale, HEADER + ABOVE - top * scale)
     points = [(x * scale + shift[0], y * scale + shift[1]) for x, y in places]
-    return Ground(_apart(points), width, height, scale if to_scale else None)
+    return Ground(_apart(points), width, height, scale if to_scale else None, footer)
 
 
 def _apart(points: list[Point]) -> tuple[Point, ...]:

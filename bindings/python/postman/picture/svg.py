@@ -14,7 +14,8 @@ _POINTS_PER_MM = 96 / 25.4
 def svg_file(drawing: Drawing) -> str:
     """A file of its own, as large as the sheet on paper."""
     size = f'width="{drawing.width / _POINTS_PER_MM:.1f}mm" height="{drawing.height / _POINTS_PER_MM:.1f}mm"'
-    style = f"<style>\n{stylesheet()}</style>\n"
+    page = f"@page {{ size: A4 {'landscape' if drawing.width > drawing.height else 'portrait'}; margin: 10mm; }}\n"
+    style = f"<style>\n{page}{stylesheet()}</style>\n"
     return f'<?xml version="1.0" encoding="UTF-8"?>\n{_element(drawing, size, style)}\n'
 
 
