@@ -16,6 +16,7 @@ from test_streets_list import Folder
 
 from postman import plan_call, streets
 from postman.desk import Desk, DeskServer
+from postman.desk.saving import free_name, save
 from postman.desk.server import ACTIONS, MOST_BYTES, MOST_JUDGED
 from postman.streets.windows_file import read_windows
 
@@ -353,6 +354,17 @@ class Saving(Served):
         self.assertEqual(json.loads(self.get("state")[2])["save"], "streets-2.csv")
         self.post("save", {"name": "streets-2.csv"})
         self.assertEqual(json.loads(self.get("state")[2])["save"], "streets-3.csv")
+
+    def test_coordinates_that_would_not_be_found_again(self):
+        _, answer = self.post("save", {"name": "x.csv"})
+        self.assertIn("their coordinates are not saved", answer["said"])
+        shutil.copy(TOWN_FOLDER / "map.geojson", self.folder / "map.geojson")
+        mapped = streets.open_list(str(self.folder / "map.geojson"))
+        name = free_name(mapped)
+        self.assertEqual(name, "map-2-streets.csv")
+        saved = save(Desk(mapped, budget=10), name, False)
+        self.assertEqual(saved, "map-2-streets.csv and map-2-corners.csv written.")
+        self.assertEqual(streets.open_list(str(self.folder / name)).corners, mapped.corners)
 
     def test_nothing_is_left_beside(self):
         self.post("save", {"name": "x.csv"})

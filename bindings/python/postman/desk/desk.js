@@ -99,6 +99,8 @@ function show(next) {
   showDay();
   showCars();
   showSelected();
+  const budgets = [...$("budget").options].map((option) => Number(option.value));
+  if (!budgets.includes(state.budget)) $("budget").add(new Option(`${numbers(state.budget)} trees`, state.budget));
   $("budget").value = String(state.budget);
   if (first || !$("name").value) $("name").value = state.save;
   draw();

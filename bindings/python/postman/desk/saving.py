@@ -25,8 +25,8 @@ class Exists(Exception):
         super().__init__(f"{' and '.join(names)} {'is' if len(names) == 1 else 'are'} there already")
 
 
-def save(desk: Desk, name: str, over: bool) -> list[str]:
-    """Writes the list, and its corners beside it if they have coordinates. Answers the names of the files."""
+def save(desk: Desk, name: str, over: bool) -> str:
+    """Writes the list, and its corners beside it if they have coordinates. Answers what was written."""
     if not _NAME.fullmatch(name) or _RESERVED.fullmatch(name):
         raise Wrong("write a plain file name that ends in .csv, without a folder")
     folder = Path(desk.opened.path).resolve().parent
@@ -47,19 +47,24 @@ def save(desk: Desk, name: str, over: bool) -> list[str]:
         raise Exists(there)
     for one, data in files.items():
         _write(folder / one, data)
-    return list(files)
+    said = f"{' and '.join(files)} written."
+    if beside is None and _placed(now):
+        said += " A list without streets in its name has no file of corners: their coordinates are not saved."
+    return said
 
 
-def free_name(path: str) -> str:
-    """A name beside a list that no file has."""
-    folder = Path(path).resolve().parent
-    stem = re.sub(r"[^\w .()+,-]", "_", PurePath(path).stem).lstrip(" .()+,-")[:80] or "streets"
+def free_name(streets: StreetList) -> str:
+    """A name beside a list that no file has, and under which its corners' file is found again."""
+    folder = Path(streets.path).resolve().parent
+    stem = re.sub(r"[^\w .()+,-]", "_", PurePath(streets.path).stem).lstrip(" .()+,-")[:80] or "streets"
     stem = re.sub(r"-\d+$", "", stem)
     for number in range(2, 1000):
         name = f"{stem}-{number}.csv"
+        if _placed(streets) and corners_beside(name) is None:
+            name = f"{stem}-{number}-streets.csv"
         if not (folder / name).exists():
-            return name
-    return f"{stem}-1000.csv"
+            break
+    return name
 
 
 def _placed(streets: StreetList) -> bool:

@@ -244,7 +244,7 @@ def _judge(desk: Desk, asked: Fields) -> str:
 
 
 def _save(desk: Desk, asked: Fields) -> str:
-    return f"{' and '.join(save(desk, asked.text('name'), asked.yes('over')))} written."
+    return save(desk, asked.text("name"), asked.yes("over"))
 
 
 ACTIONS: dict[str, Callable[[Desk, Fields], str | None]] = {

@@ -3,11 +3,11 @@
 from __future__ import annotations
 
 from collections import Counter
-from pathlib import PurePath
 from typing import Any
 
 from ..answer import Answer
 from ..picture import Drawing, cars, drive, svg_element, town
+from ..picture.base import name_of
 from ..picture.cars import car_list
 from ..picture.passes import passes
 from ..picture.percent import percent
@@ -25,7 +25,7 @@ def view(desk: Desk) -> dict[str, Any]:
     now = desk.streets
     return {
         "serial": desk.serial,
-        "title": PurePath(desk.opened.path).name,
+        "title": name_of(desk.opened),
         "edition": desk.opened.edition,
         "streets": _streets(desk, now),
         "result": _result(desk, now, desk.result),
@@ -37,7 +37,7 @@ def view(desk: Desk) -> dict[str, Any]:
         if desk.departure is None
         else {"weekday": desk.departure.weekday, "minute": desk.departure.minute},
         "cars": _cars(desk),
-        "save": free_name(desk.opened.path),
+        "save": free_name(desk.opened),
     }
 
 
@@ -59,7 +59,7 @@ def _drawing(desk: Desk, which: str) -> Drawing:
         car = VIEWS.index(which) - VIEWS.index("first-car")
         answer = answers[car]
         if isinstance(answer, Answer):
-            title = f"{PurePath(now.path).name}, {('first', 'second')[car]} car"
+            title = f"{name_of(now)}, {('first', 'second')[car]} car"
             return drive(car_list(now, desk.cars[car]), answer, title=title)
     return cars(now, desk.cars)
 

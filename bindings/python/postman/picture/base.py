@@ -5,6 +5,7 @@ from __future__ import annotations
 import math
 from collections import defaultdict
 from collections.abc import Collection, Sequence
+from pathlib import PurePath
 
 from ..plan import Standing
 from ..streets.street_list import StreetList
@@ -14,6 +15,11 @@ from .drawing import Box, Group, Label, Line, Point, Shape
 from .ground import Ground, ground
 from .passes import corners_of_parts
 from .room import Room, body, spine, text_width
+
+
+def name_of(streets: StreetList) -> str:
+    """What a list is called in titles: its file's name."""
+    return "street list" if streets.path == "-" else PurePath(streets.path).name
 
 
 class Base:

@@ -4,13 +4,12 @@ from __future__ import annotations
 
 from collections.abc import Collection, Sequence
 from dataclasses import replace
-from pathlib import PurePath
 
 from ..plan import Standing
 from ..streets.street_list import StreetList
 from . import furniture, lanes
 from .arcs import arc_group, direction
-from .base import Base
+from .base import Base, name_of
 from .drawing import Area, Drawing, Group, Line, Point, Shape
 from .town import LANE_GAP
 
@@ -41,7 +40,7 @@ def cars(streets: StreetList, marks: Sequence[Collection[int]], title: str | Non
         base.room.take_line(way, 1.0 if _marked(arc, marks) else 0.6)
     groups += base.corners.groups(base.room)
     groups += base.street_names()
-    name = f"{title or PurePath(streets.path).name}: two cars"
+    name = f"{title or name_of(streets)}: two cars"
     words = " ".join(f"The {car} has {len(own)} marks." for car, own in zip(NAMES, marks))
     groups += [furniture.header(name, words), furniture.rule(base.ground)]
     groups += furniture.legend(base.ground, _entries(base, marks))

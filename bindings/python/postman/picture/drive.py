@@ -5,13 +5,12 @@ from __future__ import annotations
 import math
 from collections import defaultdict
 from collections.abc import Collection, Sequence
-from pathlib import PurePath
 
 from ..answer import Answer
 from ..streets.street_list import StreetList
 from . import furniture, lanes
 from .arcs import arc_group, cross
-from .base import Base
+from .base import Base, name_of
 from .drawing import Area, Box, Dot, Drawing, Group, Label, Line, Point, Shape
 from .passes import Pass, Purpose, passes
 from .percent import percent
@@ -59,7 +58,7 @@ def drive(streets: StreetList, answer: Answer, shut: Collection[int] = (), title
     groups += start
     groups += base.street_names()
     groups += base.part_names()
-    name = title or PurePath(streets.path).name
+    name = title or name_of(streets)
     figures = summary(answer)
     groups += [furniture.header(f"{name}: the drive", figures), furniture.rule(base.ground)]
     groups += furniture.legend(base.ground, _entries(base, lane_of, shut))

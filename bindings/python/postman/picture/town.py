@@ -3,13 +3,12 @@
 from __future__ import annotations
 
 from collections.abc import Collection, Sequence
-from pathlib import PurePath
 
 from ..plan import Standing
 from ..streets.street_list import StreetList
 from . import furniture
 from .arcs import WORDS, arc_group, direction
-from .base import Base
+from .base import Base, name_of
 from .drawing import Drawing, Line, Point, Shape
 
 LANE_GAP = 7.5
@@ -27,7 +26,7 @@ def town(streets: StreetList, shut: Collection[int] = (), title: str | None = No
     groups += base.corners.groups(base.room)
     groups += base.street_names()
     groups += base.part_names()
-    name = title or PurePath(streets.path).name
+    name = title or name_of(streets)
     figures = base.figures(shut)
     groups += [furniture.header(name, figures), furniture.rule(base.ground)]
     groups += furniture.legend(base.ground, _entries(base, shut))

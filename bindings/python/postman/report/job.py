@@ -5,9 +5,9 @@ from __future__ import annotations
 from collections.abc import Sequence
 from dataclasses import dataclass
 from datetime import date
-from pathlib import PurePath
 
 from ..answer import Answer
+from ..picture.base import name_of
 from ..streets.street_list import StreetList
 from ..streets.windows_file import TypedWindow, shut_at
 from ..windows import Departure
@@ -31,7 +31,7 @@ class Job:
     @property
     def name(self) -> str:
         """What the report is called."""
-        return self.title or PurePath(self.streets.path).name
+        return self.title or name_of(self.streets)
 
     @property
     def shut(self) -> frozenset[int]:
