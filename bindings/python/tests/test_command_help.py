@@ -79,7 +79,7 @@ class Completion(unittest.TestCase):
 
     def test_subcommands(self):
         self.assertEqual(self.complete("postman", "dr"), ["drive"])
-        self.assertEqual(self.complete("postman", "d"), ["drive", "distances", "districts"])
+        self.assertEqual(self.complete("postman", "d"), ["drive", "distances", "desk", "districts"])
         self.assertEqual(self.complete("postman", ""), [*SUBCOMMANDS, "--help", "--version"])
 
     def test_options_and_files(self):

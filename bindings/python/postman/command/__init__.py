@@ -26,6 +26,8 @@ SUBCOMMANDS = {
     "distances": "look up distances between corners",
     "cars": "lay drives for two cars, or propose how to share the work",
     "edit": "try closings and costs at a prompt",
+    "desk": "try closings and costs on a page in the browser",
+    "report": "write a report on a drive, with pictures, as one HTML file",
     "districts": "lay drives for many districts in turn",
     "completion": "print the completion for a shell",
 }

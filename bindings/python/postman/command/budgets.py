@@ -10,6 +10,7 @@ from ..limits import HIGHEST_BUDGET
 from ..streets.table import written
 from .options import add_departure, add_formats, add_list
 from .output import Output, counted, per_cent
+from .pictures import add_picture, write_picture
 from .plot import plot
 from .question import asked
 
@@ -23,11 +24,13 @@ def add_arguments(parser: ArgumentParser) -> None:
     add_list(parser)
     add_departure(parser)
     add_formats(parser, "json", "csv")
+    add_picture(parser, "the plot")
 
 
 def run(args: Namespace, output: Output) -> int:
     question = asked(args)
     answers = [question.ask(budget) for budget in BUDGETS]
+    write_picture(output, args.picture, lambda picture: picture.budgets(list(zip(BUDGETS, answers))))
     rows = [
         (budget, answer.cost, answer.floor, answer.gap, answer.trees, answer.whole)
         for budget, answer in zip(BUDGETS, answers)

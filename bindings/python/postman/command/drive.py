@@ -13,11 +13,13 @@ from .deepening import deepest, no_gap
 from .directions import as_csv, as_object, print_directions, print_figures
 from .options import add_budget, add_departure, add_formats, add_list
 from .output import Output
+from .pictures import add_picture, write_picture
 from .question import asked
 
 EXAMPLE = """\
   postman drive town/streets.csv
   postman drive town/streets.csv --at "tue 09:30" --windows town/windows.csv
+  postman drive town/streets.csv --picture drive.svg
   postman drive town/streets.csv --gpx --origin 54.21,-2.36 > drive.gpx"""
 
 
@@ -26,6 +28,7 @@ def add_arguments(parser: ArgumentParser) -> None:
     add_budget(parser, "as many as half a second allows")
     add_departure(parser)
     add_formats(parser, "json", "csv", "geojson", "gpx")
+    add_picture(parser, "the drive")
     parser.add_argument(
         "--origin", metavar="LAT,LON", type=origin, help="where x 0 and y 0 lie on the earth, for --geojson and --gpx"
     )
@@ -48,6 +51,7 @@ def run(args: Namespace, output: Output) -> int:
     else:
         answer = question.ask(args.budget)
     streets = question.streets
+    write_picture(output, args.picture, lambda picture: picture.drive(streets, answer, question.shut))
     if args.format in ("geojson", "gpx"):
         from ..streets.earth import placed
 

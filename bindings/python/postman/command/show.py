@@ -15,23 +15,27 @@ from ..streets.explain import explain, named, parts_of
 from .directions import count_said
 from .options import add_formats, add_list, opened
 from .output import Output, counted, plural
+from .pictures import add_picture, write_picture
 from .refused import explained
 
 EXAMPLE = """\
   postman show town/streets.csv
-  postman show town.plan --csv > streets.csv"""
+  postman show town.plan --csv > streets.csv
+  postman show town/streets.csv --picture town.svg"""
 
 
 def add_arguments(parser: ArgumentParser) -> None:
     add_list(parser)
     parser.add_argument("--rows", action="store_true", help="the streets too, one a row")
     add_formats(parser, "json", "csv")
+    add_picture(parser, "the town")
 
 
 def run(args: Namespace, output: Output) -> int:
     streets = opened(args)
     with explained(streets):
         file = streets.file
+    write_picture(output, args.picture, lambda picture: picture.town(streets))
     if args.format == "csv":
         output.raw(streets_text(streets))
         return 0

@@ -34,7 +34,11 @@ class TypedDrive(NamedTuple):
 
 def read_drive(path: str, streets: StreetList) -> TypedDrive:
     """Reads a drive along the streets of a list."""
-    data = read_bytes(path)
+    return drive_of(path, read_bytes(path), streets)
+
+
+def drive_of(path: str, data: bytes, streets: StreetList) -> TypedDrive:
+    """A drive in the bytes of a file; `path` is what errors call it."""
     text = decoded(data, path)
     start = text.lstrip()
     if start[:1] in ("{", "["):
