@@ -27,6 +27,7 @@ SUBCOMMANDS = {
     "cars": "lay drives for two cars, or propose how to share the work",
     "edit": "try closings and costs at a prompt",
     "districts": "lay drives for many districts in turn",
+    "batch": "lay drives for thousands of plans on all cores",
     "completion": "print the completion for a shell",
 }
 

@@ -1,0 +1,58 @@
+"""Plans on many machines, by a Dask cluster (`dask.distributed`): each plan is a task.
+
+Files are read here and their bytes sent along, so that the machines of the cluster need the package and nothing else.
+The scheduler gives a task of a worker that died to another.
+"""
+
+from __future__ import annotations
+
+from collections.abc import Iterable, Iterator
+from itertools import islice
+from typing import Any
+
+from ..streets.errors import ListError
+from .result import Result, Unread
+from .work import call, finished, read
+
+AHEAD = 1000
+"""How many tasks the scheduler holds at once."""
+
+
+def by_cluster(paths: Iterable[str], budget: int, address: str) -> Iterator[Result | Unread]:
+    """What came of each plan, as it ends, by the workers of the scheduler at an address."""
+    try:
+        from distributed import Client, as_completed
+    except ImportError as error:
+        raise ListError(f"a cluster needs dask.distributed (Debian: python3-distributed): {error}", address) from None
+    try:
+        client = Client(address, set_as_default=False)
+    except (OSError, TimeoutError, ValueError) as error:
+        raise ListError(f"no scheduler answers: {error}", address) from None
+    with client:
+        rest = iter(paths)
+        tasks = as_completed()
+        named: dict[str, str] = {}
+
+        def send(most: int) -> Iterator[Result | Unread]:
+            """Sends so many tasks out; what needs none is answered."""
+            for path in islice(rest, most):
+                file = read(path, budget)
+                if isinstance(file, bytes):
+                    task = client.submit(call, file, budget, pure=False)
+                    named[task.key] = path
+                    tasks.add(task)
+                else:
+                    yield file
+
+        yield from send(AHEAD)
+        for task in tasks:
+            yield outcome_of(named.pop(task.key), budget, task)
+            yield from send(1)
+
+
+def outcome_of(path: str, budget: int, task: Any) -> Result | Unread:
+    """What a task came to."""
+    error = task.exception()
+    if error is not None:
+        return Unread(path, f"the cluster failed: {error!r}")
+    return finished(path, budget, task.result())

@@ -1,0 +1,123 @@
+"""Plans on all cores of this machine, by processes.
+
+The process that deals plans out keeps each worker in work: it has one plan in hand and the next one waiting. A worker
+that dies, as by a machine short of memory, is replaced, and what it had is dealt again.
+"""
+
+from __future__ import annotations
+
+import json
+import os
+import selectors
+import subprocess
+import sys
+from collections import Counter, deque
+from collections.abc import Iterable, Iterator
+from pathlib import Path
+
+from .result import Result, Unread, encoded
+
+AHEAD = 2
+"""How many plans a worker has: the one in hand and the next."""
+
+MOST_DEATHS = 3
+"""A plan in whose hands so many workers died is given up for this run."""
+
+
+def cores() -> int:
+    """The cores that this process may use."""
+    return len(os.sched_getaffinity(0))
+
+
+class Worker:
+    """A worker process and the plans that it has, the one in hand first."""
+
+    def __init__(self, budget: int) -> None:
+        root = str(Path(__file__).resolve().parents[2])
+        paths = [root, *filter(None, [os.environ.get("PYTHONPATH")])]
+        self.process = subprocess.Popen(
+            [sys.executable, "-m", f"{__package__}.worker", str(budget)],
+            stdin=subprocess.PIPE,
+            stdout=subprocess.PIPE,
+            bufsize=0,
+            env={**os.environ, "PYTHONPATH": os.pathsep.join(paths)},
+        )
+        assert self.process.stdin is not None and self.process.stdout is not None
+        self.to = self.process.stdin.fileno()
+        self.back = self.process.stdout.fileno()
+        self.plans: deque[str] = deque()
+        self.torn = b""
+
+    def deal(self, path: str) -> None:
+        self.plans.append(path)
+        try:
+            os.write(self.to, encoded(path))
+        except BrokenPipeError:
+            pass  # It has died, which reading from it will tell.
+
+    def outcomes(self) -> list[Result | Unread] | None:
+        """What came back since, or None where the worker has died."""
+        data = os.read(self.back, 65536)
+        if not data:
+            return None
+        *lines, self.torn = (self.torn + data).split(b"\n")
+        for _ in lines:
+            self.plans.popleft()
+        return [outcome_of(line) for line in lines]
+
+    def end(self) -> None:
+        """Lets it end: nobody writes to it any more."""
+        for stream in (self.process.stdin, self.process.stdout):
+            if stream is not None:
+                stream.close()
+        self.process.wait()
+
+
+def outcome_of(line: bytes) -> Result | Unread:
+    """What a worker wrote."""
+    return Unread(*json.loads(line)) if line.startswith(b"[") else Result.read(line)
+
+
+def by_processes(paths: Iterable[str], budget: int, jobs: int | None = None) -> Iterator[Result | Unread]:
+    """What came of each plan, as it ends, by so many processes (as many as there are cores)."""
+    waiting = deque(paths)
+    jobs = max(1, min(cores() if jobs is None else jobs, len(waiting)))
+    deaths: Counter[str] = Counter()
+    with selectors.DefaultSelector() as selector:
+
+        def start() -> None:
+            worker = Worker(budget)
+            selector.register(worker.back, selectors.EVENT_READ, worker)
+            feed(worker)
+
+        def feed(worker: Worker) -> None:
+            # Towards the end nobody keeps one waiting that another could begin.
+            ahead = AHEAD if len(waiting) >= jobs else 1
+            while waiting and len(worker.plans) < ahead:
+                worker.deal(waiting.popleft())
+
+        def workers() -> list[Worker]:
+            return [key.data for key in selector.get_map().values()]
+
+        try:
+            for _ in range(jobs if waiting else 0):
+                start()
+            while waiting or any(worker.plans for worker in workers()):
+                for key, _ in selector.select():
+                    worker: Worker = key.data
+                    outcomes = worker.outcomes()
+                    if outcomes is not None:
+                        feed(worker)
+                        yield from outcomes
+                        continue
+                    selector.unregister(worker.back)
+                    worker.end()
+                    if worker.plans:
+                        deaths[worker.plans[0]] += 1
+                        if deaths[worker.plans[0]] == MOST_DEATHS:
+                            yield Unread(worker.plans.popleft(), f"{MOST_DEATHS} workers died of it")
+                    waiting.extendleft(reversed(worker.plans))
+                    start()
+        finally:
+            for worker in workers():
+                worker.end()
