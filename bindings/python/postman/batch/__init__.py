@@ -13,8 +13,8 @@ from __future__ import annotations
 
 from .cluster import by_cluster
 from .processes import by_processes
-from .result import Result, Unread
+from .result import Result, Undone
 from .results_file import ResultsFile
 from .summary import Summary
 
-__all__ = ["Result", "ResultsFile", "Summary", "Unread", "by_cluster", "by_processes"]
+__all__ = ["Result", "ResultsFile", "Summary", "Undone", "by_cluster", "by_processes"]

@@ -11,14 +11,14 @@ from itertools import islice
 from typing import Any
 
 from ..streets.errors import ListError
-from .result import Result, Unread
+from .result import Result, Undone
 from .work import call, finished, read
 
 AHEAD = 1000
 """How many tasks the scheduler holds at once."""
 
 
-def by_cluster(paths: Iterable[str], budget: int, address: str) -> Iterator[Result | Unread]:
+def by_cluster(paths: Iterable[str], budget: int, address: str) -> Iterator[Result | Undone]:
     """What came of each plan, as it ends, by the workers of the scheduler at an address."""
     try:
         from distributed import Client, as_completed
@@ -33,7 +33,7 @@ def by_cluster(paths: Iterable[str], budget: int, address: str) -> Iterator[Resu
         tasks = as_completed()
         named: dict[str, str] = {}
 
-        def send(most: int) -> Iterator[Result | Unread]:
+        def send(most: int) -> Iterator[Result | Undone]:
             """Sends so many tasks out; what needs none is answered."""
             for path in islice(rest, most):
                 file = read(path, budget)
@@ -50,9 +50,9 @@ def by_cluster(paths: Iterable[str], budget: int, address: str) -> Iterator[Resu
             yield from send(1)
 
 
-def outcome_of(path: str, budget: int, task: Any) -> Result | Unread:
+def outcome_of(path: str, budget: int, task: Any) -> Result | Undone:
     """What a task came to."""
     error = task.exception()
     if error is not None:
-        return Unread(path, f"the cluster failed: {error!r}")
+        return Undone(path, f"the cluster failed: {error!r}")
     return finished(path, budget, task.result())

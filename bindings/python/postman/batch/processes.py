@@ -15,13 +15,17 @@ from collections import Counter, deque
 from collections.abc import Iterable, Iterator
 from pathlib import Path
 
-from .result import Result, Unread, encoded
+from ..streets.errors import ListError
+from .result import Result, Undone, encoded
 
 AHEAD = 2
 """How many plans a worker has: the one in hand and the next."""
 
 MOST_DEATHS = 3
-"""A plan in whose hands so many workers died is given up for this run."""
+"""A plan on which so many workers died is given up for this run."""
+
+MOST_IN_A_ROW = 10
+"""So many deaths for each worker with nothing done between them end the run: it is not the plans."""
 
 
 def cores() -> int:
@@ -55,7 +59,7 @@ class Worker:
         except BrokenPipeError:
             pass  # It has died, which reading from it will tell.
 
-    def outcomes(self) -> list[Result | Unread] | None:
+    def outcomes(self) -> list[Result | Undone] | None:
         """What came back since, or None where the worker has died."""
         data = os.read(self.back, 65536)
         if not data:
@@ -73,16 +77,17 @@ class Worker:
         self.process.wait()
 
 
-def outcome_of(line: bytes) -> Result | Unread:
+def outcome_of(line: bytes) -> Result | Undone:
     """What a worker wrote."""
-    return Unread(*json.loads(line)) if line.startswith(b"[") else Result.read(line)
+    return Undone(*json.loads(line)) if line.startswith(b"[") else Result.read(line)
 
 
-def by_processes(paths: Iterable[str], budget: int, jobs: int | None = None) -> Iterator[Result | Unread]:
+def by_processes(paths: Iterable[str], budget: int, jobs: int | None = None) -> Iterator[Result | Undone]:
     """What came of each plan, as it ends, by so many processes (as many as there are cores)."""
     waiting = deque(paths)
     jobs = max(1, min(cores() if jobs is None else jobs, len(waiting)))
     deaths: Counter[str] = Counter()
+    in_a_row = 0
     with selectors.DefaultSelector() as selector:
 
         def start() -> None:
@@ -107,15 +112,19 @@ def by_processes(paths: Iterable[str], budget: int, jobs: int | None = None) -> 
                     worker: Worker = key.data
                     outcomes = worker.outcomes()
                     if outcomes is not None:
+                        in_a_row = 0
                         feed(worker)
                         yield from outcomes
                         continue
                     selector.unregister(worker.back)
                     worker.end()
+                    in_a_row += 1
+                    if in_a_row == MOST_IN_A_ROW * jobs:
+                        raise ListError(f"{in_a_row} workers died one after the other", sys.executable)
                     if worker.plans:
                         deaths[worker.plans[0]] += 1
                         if deaths[worker.plans[0]] == MOST_DEATHS:
-                            yield Unread(worker.plans.popleft(), f"{MOST_DEATHS} workers died of it")
+                            yield Undone(worker.plans.popleft(), f"{MOST_DEATHS} workers died on it")
                     waiting.extendleft(reversed(worker.plans))
                     start()
         finally:

@@ -63,8 +63,9 @@ class Result:
 
 
 @dataclass(frozen=True, slots=True)
-class Unread:
-    """A plan whose file could not be read just now. It gets no line, so that the next run tries again."""
+class Undone:
+    """A plan of which nothing is known: its file could not be read, or whoever worked on it failed. It gets no line, so
+    that the next run tries again."""
 
     file: str
     reason: str

@@ -12,7 +12,7 @@ from ..refusal import Refusal
 from ..streets import kind_of, open_list
 from ..streets.errors import ListError
 from ..streets.explain import explain
-from .result import Numbers, Result, Unread
+from .result import Numbers, Result, Undone
 
 
 class Called(NamedTuple):
@@ -37,12 +37,12 @@ def call(file: bytes, budget: int) -> Called:
     )
 
 
-def read(path: str, budget: int) -> bytes | Result | Unread:
+def read(path: str, budget: int) -> bytes | Result | Undone:
     """A plan's file as the library takes it, made of a street list or a map where it is one; or why there is none."""
     try:
         data = Path(path).read_bytes()
     except OSError as error:
-        return Unread(path, error.strerror or str(error))
+        return Undone(path, f"cannot be read: {error.strerror or error}")
     if kind_of(path, data) == "plan":
         return data
     try:
@@ -59,7 +59,7 @@ def finished(path: str, budget: int, called: Called) -> Result:
     return Result(path, budget, called.numbers, called.refusal, error, called.seconds)
 
 
-def work(path: str, budget: int) -> Result | Unread:
+def work(path: str, budget: int) -> Result | Undone:
     """All of the work on one plan."""
     file = read(path, budget)
     return finished(path, budget, call(file, budget)) if isinstance(file, bytes) else file

@@ -11,7 +11,7 @@ import os
 import signal
 import sys
 
-from .result import Unread, encoded
+from .result import Undone, encoded
 from .work import work
 
 
@@ -21,7 +21,7 @@ def main(budget: int) -> None:
     out = sys.stdout.fileno()
     for line in sys.stdin.buffer:
         outcome = work(json.loads(line), budget)
-        data = encoded([outcome.file, outcome.reason]) if isinstance(outcome, Unread) else outcome.line()
+        data = encoded([outcome.file, outcome.reason]) if isinstance(outcome, Undone) else outcome.line()
         try:
             while data:
                 data = data[os.write(out, data) :]

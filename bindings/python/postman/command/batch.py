@@ -1,7 +1,8 @@
-"""Lays drives for thousands of plans on all cores, and keeps a line of JSON for each:
-file, budget, cost, floor, gap, trees, whole, parts and seconds, or the refusal.
-Killed and started again it goes on where it stopped: a plan whose path stands in
-the results is passed over. A plan that is refused stops nobody."""
+"""Lays drives for thousands of plans on all cores. A line of JSON is kept for each
+plan: file, budget, cost, floor, gap, trees, whole, parts and the seconds that the
+call took, or why there is no drive. A plan that is refused stops nobody. Killed
+and started again it goes on where it stopped: a plan whose path stands in the
+results is passed over."""
 
 from __future__ import annotations
 
@@ -11,13 +12,13 @@ from time import monotonic
 from typing import Any
 
 from ..batch.inputs import inputs_of
-from ..batch.result import Result, Unread
+from ..batch.result import Result, Undone
 from ..batch.results_file import ResultsFile
 from ..batch.summary import Summary
 from ..limits import HIGHEST_BUDGET
 from ..refusal import Refusal
 from ..streets.errors import ListError
-from .options import WrongUsage, add_budget, add_formats, add_quiet, whole_number
+from .options import WrongUsage, add_budget, add_quiet, whole_number
 from .output import Output, counted, per_cent, plural
 from .progress import Bars
 from .refused import Refused
@@ -28,7 +29,7 @@ EXAMPLE = """\
   postman batch plans -o results.jsonl --scheduler tcp://10.0.0.1:8786"""
 
 MOST_TOLD = 10
-"""How many files that could not be read are named before the rest is counted."""
+"""How many plans that could not be worked on are named before the rest is counted."""
 
 
 def add_arguments(parser: ArgumentParser) -> None:
@@ -41,7 +42,7 @@ def add_arguments(parser: ArgumentParser) -> None:
     add_budget(parser, str(HIGHEST_BUDGET))
     parser.add_argument("--jobs", metavar="J", type=whole_number, help="processes (default: one for each core)")
     parser.add_argument("--scheduler", metavar="ADDRESS", help="work on the Dask cluster of this scheduler instead")
-    add_formats(parser, "json")
+    parser.add_argument("--json", action="store_true", help="the summary as JSON")
     add_quiet(parser)
 
 
@@ -59,7 +60,7 @@ def run(args: Namespace, output: Output) -> int:
         output.note(f"{plural(len(others), 'table')} without the column standing passed over, such as {others[0]}")
     if not plans:
         raise ListError("there is no plan", args.named[0])
-    summary, unread = Summary(), []
+    summary, undone = Summary(), []
     with ResultsFile(args.output) as results:
         rest = not_standing(plans, budget, results, summary)
         if len(rest) < len(plans):
@@ -68,8 +69,8 @@ def run(args: Namespace, output: Output) -> int:
         try:
             with closing(outcomes_of(rest, budget, args)) as outcomes:
                 for outcome in outcomes:
-                    if isinstance(outcome, Unread):
-                        unread.append(outcome)
+                    if isinstance(outcome, Undone):
+                        undone.append(outcome)
                     else:
                         results.append(outcome)
                         summary.add(outcome)
@@ -79,11 +80,11 @@ def run(args: Namespace, output: Output) -> int:
             output.note("stopped; the same command goes on from here")
             raise
         progress.end()
-    if args.format == "json":
+    if args.json:
         output.json(as_object(summary))
     else:
         print_summary(output, summary)
-    return status_of(summary, unread)
+    return status_of(summary, undone)
 
 
 def outcomes_of(rest: list[str], budget: int, args: Namespace) -> Any:
@@ -121,6 +122,8 @@ class Progress:
 
     def step(self) -> None:
         self.done += 1
+        if not self.bars.drawn:
+            return
         rate = (self.done - self.stood) / max(monotonic() - self.begun, 1e-9)
         left = f"{duration((self.plans - self.done) / rate)} left"
         told = f"{counted(self.done)} of {counted(self.plans)}, {said(rate)} a second, {left}"
@@ -180,14 +183,14 @@ def as_object(summary: Summary) -> dict[str, Any]:
     }
 
 
-def status_of(summary: Summary, unread: list[Unread]) -> int:
-    """The exit status. Says which files could not be read."""
+def status_of(summary: Summary, undone: list[Undone]) -> int:
+    """The exit status. Says which plans could not be worked on."""
     from . import ANSWERED, REFUSED, WRONG_USAGE, complain
 
-    for outcome in unread[:MOST_TOLD]:
-        complain(f"postman: {outcome.file}: cannot be read: {outcome.reason}")
-    if len(unread) > MOST_TOLD:
-        complain(f"postman: and {counted(len(unread) - MOST_TOLD)} more")
-    if unread or summary.no_plans.plans:
+    for outcome in undone[:MOST_TOLD]:
+        complain(f"postman: {outcome.file}: {outcome.reason}")
+    if len(undone) > MOST_TOLD:
+        complain(f"postman: and {counted(len(undone) - MOST_TOLD)} more")
+    if undone or summary.no_plans.plans:
         return WRONG_USAGE
     return REFUSED if summary.refusals else ANSWERED
