@@ -294,6 +294,7 @@ class Cluster(Folder):
                 if address != "tcp://here:8786":
                     raise OSError("Timed out")
                 self.tasks = 0
+                self.loop = None
 
             def __enter__(self):
                 return self
@@ -308,6 +309,9 @@ class Cluster(Folder):
         class as_completed(list):
             add = list.append
 
+            def __init__(self, loop):
+                pass
+
             def __iter__(self):
                 while self:
                     yield self.pop()
@@ -317,7 +321,10 @@ class Cluster(Folder):
         return module
 
     def test_results_are_those_of_this_machine(self):
-        paths = [*map(str, write_towns(self.folder, 20)), self.file("x.csv", BAD_LIST), self.file("y.plan", b"\x10")]
+        # More that need no task than there are tasks at once.
+        bad = [self.file(f"{number}.csv", BAD_LIST) for number in range(5)]
+        towns = list(map(str, write_towns(self.folder, 20)))
+        paths = [*towns[:9], *bad, *towns[9:], self.file("y.plan", b"\x10")]
         lost = self.file("lost.plan", drawn_town(Random(99)).write())
         away = str(self.folder / "none.plan")
         with open(lost, "rb") as file:

@@ -7,7 +7,6 @@ The scheduler gives a task of a worker that died to another.
 from __future__ import annotations
 
 from collections.abc import Iterable, Iterator
-from itertools import islice
 from typing import Any
 
 from ..streets.errors import ListError
@@ -30,24 +29,24 @@ def by_cluster(paths: Iterable[str], budget: int, address: str) -> Iterator[Resu
         raise ListError(f"no scheduler answers: {error}", address) from None
     with client:
         rest = iter(paths)
-        tasks = as_completed()
-        named: dict[str, str] = {}
+        tasks = as_completed(loop=client.loop)
+        sent: dict[str, str] = {}
 
-        def send(most: int) -> Iterator[Result | Undone]:
-            """Sends so many tasks out; what needs none is answered."""
-            for path in islice(rest, most):
+        def send() -> Iterator[Result | Undone]:
+            """Sends tasks out until there are enough; what needs none is answered."""
+            while len(sent) < AHEAD and (path := next(rest, None)) is not None:
                 file = read(path, budget)
                 if isinstance(file, bytes):
                     task = client.submit(call, file, budget, pure=False)
-                    named[task.key] = path
+                    sent[task.key] = path
                     tasks.add(task)
                 else:
                     yield file
 
-        yield from send(AHEAD)
+        yield from send()
         for task in tasks:
-            yield outcome_of(named.pop(task.key), budget, task)
-            yield from send(1)
+            yield outcome_of(sent.pop(task.key), budget, task)
+            yield from send()
 
 
 def outcome_of(path: str, budget: int, task: Any) -> Result | Undone:
