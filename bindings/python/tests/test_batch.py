@@ -275,19 +275,15 @@ class Workers(Folder):
 
 
 class Cluster(Folder):
-    """A cluster of one, which does a task as soon as it is given; one task fails."""
+    """A cluster of one, which does a task as soon as it is given, and then dies; one task fails."""
 
     def fake(self, failing: bytes) -> types.ModuleType:
         class Task:
             def __init__(self, key, function, file, budget):
-                self.key, self.work, self.failed = key, (function, file, budget), file == failing
-
-            def exception(self):
-                return RuntimeError("lost") if self.failed else None
-
-            def result(self):
-                function, *arguments = self.work
-                return function(*arguments)
+                self.key = key
+                self.status = "error" if file == failing else "lost"
+                failure = (RuntimeError, RuntimeError("lost"), None)
+                self.came = failure if file == failing else function(file, budget)
 
         class Client:
             def __init__(self, address, **_):
@@ -309,12 +305,13 @@ class Cluster(Folder):
         class as_completed(list):
             add = list.append
 
-            def __init__(self, loop):
+            def __init__(self, loop, with_results, raise_errors):
                 pass
 
             def __iter__(self):
                 while self:
-                    yield self.pop()
+                    task = self.pop()
+                    yield task, task.came
 
         module = types.ModuleType("distributed")
         module.Client, module.as_completed = Client, as_completed

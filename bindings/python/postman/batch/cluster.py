@@ -7,11 +7,10 @@ The scheduler gives a task of a worker that died to another.
 from __future__ import annotations
 
 from collections.abc import Iterable, Iterator
-from typing import Any
 
 from ..streets.errors import ListError
 from .result import Result, Undone
-from .work import call, finished, read
+from .work import Called, call, finished, read
 
 AHEAD = 1000
 """How many tasks the scheduler holds at once."""
@@ -29,7 +28,8 @@ def by_cluster(paths: Iterable[str], budget: int, address: str) -> Iterator[Resu
         raise ListError(f"no scheduler answers: {error}", address) from None
     with client:
         rest = iter(paths)
-        tasks = as_completed(loop=client.loop)
+        # With their results, which so are fetched many at a time.
+        tasks = as_completed(loop=client.loop, with_results=True, raise_errors=False)
         sent: dict[str, str] = {}
 
         def send() -> Iterator[Result | Undone]:
@@ -44,14 +44,11 @@ def by_cluster(paths: Iterable[str], budget: int, address: str) -> Iterator[Resu
                     yield file
 
         yield from send()
-        for task in tasks:
-            yield outcome_of(sent.pop(task.key), budget, task)
+        for task, came in tasks:
+            path = sent.pop(task.key)
+            # Not by the task's status: one that came may be called lost, as its worker died since.
+            if isinstance(came, Called):
+                yield finished(path, budget, came)
+            else:
+                yield Undone(path, f"the cluster failed: {came[1] if task.status == 'error' else came!r}")
             yield from send()
-
-
-def outcome_of(path: str, budget: int, task: Any) -> Result | Undone:
-    """What a task came to."""
-    error = task.exception()
-    if error is not None:
-        return Undone(path, f"the cluster failed: {error!r}")
-    return finished(path, budget, task.result())

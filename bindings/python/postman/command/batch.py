@@ -1,8 +1,8 @@
-"""Lays drives for thousands of plans on all cores. A line of JSON is kept for each
-plan: file, budget, cost, floor, gap, trees, whole, parts and the seconds that the
-call took, or why there is no drive. A plan that is refused stops nobody. Killed
-and started again it goes on where it stopped: a plan whose path stands in the
-results is passed over."""
+"""Lays drives for thousands of plans on all cores. A line of JSON is kept for each:
+file, budget, cost, floor, gap, trees, whole, parts and the seconds that the call
+took, or why there is no drive. A plan that is refused stops nobody. Killed and
+started again it goes on where it stopped: a plan whose path stands in the results
+is passed over."""
 
 from __future__ import annotations
 
@@ -57,7 +57,7 @@ def run(args: Namespace, output: Output) -> int:
         raise WrongUsage("--jobs is for this machine; the cluster has its own workers")
     plans, others = inputs_of(args.named)
     if others:
-        output.note(f"{plural(len(others), 'table')} without the column standing passed over, such as {others[0]}")
+        output.note(f"passed over {plural(len(others), 'table')} without a column standing, such as {others[0]}")
     if not plans:
         raise ListError("there is no plan", args.named[0])
     summary, undone = Summary(), []
@@ -116,17 +116,21 @@ class Progress:
 
     def __init__(self, plans: int, rest: int, output: Output) -> None:
         self.plans = plans
-        self.stood = self.done = plans - rest
-        self.begun = monotonic()
+        self.done = plans - rest
+        self.first: tuple[int, float] | None = None
         self.bars = Bars(["plans"], output.progress)
 
     def step(self) -> None:
         self.done += 1
         if not self.bars.drawn:
             return
-        rate = (self.done - self.stood) / max(monotonic() - self.begun, 1e-9)
-        left = f"{duration((self.plans - self.done) / rate)} left"
-        told = f"{counted(self.done)} of {counted(self.plans)}, {said(rate)} a second, {left}"
+        told = f"{counted(self.done)} of {counted(self.plans)}"
+        # Counted from the first plan that ended, as it takes a while until all workers have begun.
+        if self.first is None:
+            self.first = self.done, monotonic()
+        elif self.done > self.first[0] and (passed := monotonic() - self.first[1]) > 0:
+            rate = (self.done - self.first[0]) / passed
+            told += f", {said(rate)} a second, {duration((self.plans - self.done) / rate)} left"
         self.bars.set(0, self.done / self.plans, told)
 
     def end(self) -> None:
