@@ -1,7 +1,7 @@
 """Plans on all cores of this machine, by processes.
 
-The process that deals plans out keeps each worker in work: it has one plan in hand and the next one waiting. A worker
-that dies, as by a machine short of memory, is replaced, and what it had is dealt again.
+The process that deals plans out keeps each worker in work: it has one plan in hand and others waiting. A worker that
+dies, as on a machine short of memory, is replaced, and what it had is dealt again.
 """
 
 from __future__ import annotations
@@ -18,8 +18,14 @@ from pathlib import Path
 from ..streets.errors import ListError
 from .result import Result, Undone, encoded
 
-AHEAD = 2
-"""How many plans a worker has: the one in hand and the next."""
+BUNCH = 8
+"""So many results a worker writes at once at most, so that short plans do not cost a change of processes each."""
+
+AHEAD = 2 * BUNCH
+"""How many plans a worker has at most: a bunch that it works on, and the next."""
+
+ROOM = 4096
+"""The bytes that a pipe takes whatever happens, so that dealing never waits for a worker that waits itself."""
 
 MOST_DEATHS = 3
 """A plan on which so many workers died is given up for this run."""
@@ -50,12 +56,22 @@ class Worker:
         self.to = self.process.stdin.fileno()
         self.back = self.process.stdout.fileno()
         self.plans: deque[str] = deque()
+        self.asked: deque[int] = deque()
+        """How many bytes each plan's path took."""
         self.torn = b""
 
-    def deal(self, path: str) -> None:
-        self.plans.append(path)
+    def deal(self, waiting: deque[str], most: int) -> None:
+        """Takes plans from those waiting, until it has so many."""
+        lines = []
+        while waiting and len(self.plans) < most:
+            line = encoded(waiting[0])
+            if self.plans and sum(self.asked) + len(line) > ROOM:
+                break
+            self.plans.append(waiting.popleft())
+            self.asked.append(len(line))
+            lines.append(line)
         try:
-            os.write(self.to, encoded(path))
+            os.write(self.to, b"".join(lines))
         except BrokenPipeError:
             pass  # It has died, which reading from it will tell.
 
@@ -67,6 +83,7 @@ class Worker:
         *lines, self.torn = (self.torn + data).split(b"\n")
         for _ in lines:
             self.plans.popleft()
+            self.asked.popleft()
         return [outcome_of(line) for line in lines]
 
     def end(self) -> None:
@@ -96,10 +113,8 @@ def by_processes(paths: Iterable[str], budget: int, jobs: int | None = None) -> 
             feed(worker)
 
         def feed(worker: Worker) -> None:
-            # Towards the end nobody keeps one waiting that another could begin.
-            ahead = AHEAD if len(waiting) >= jobs else 1
-            while waiting and len(worker.plans) < ahead:
-                worker.deal(waiting.popleft())
+            # Fewer towards the end, so that nobody keeps a plan waiting that another could begin.
+            worker.deal(waiting, max(1, min(AHEAD, len(waiting) // jobs)))
 
         def workers() -> list[Worker]:
             return [key.data for key in selector.get_map().values()]

@@ -71,9 +71,13 @@ class Undone:
     reason: str
 
 
+_as_text = json.JSONEncoder(ensure_ascii=False, allow_nan=False).encode
+_as_ascii = json.JSONEncoder(allow_nan=False).encode
+
+
 def encoded(told: object) -> bytes:
     """A line of JSON. Letters stand as they are, but in a name that is no text its bytes go by their numbers."""
     try:
-        return json.dumps(told, ensure_ascii=False, allow_nan=False).encode() + b"\n"
+        return _as_text(told).encode() + b"\n"
     except UnicodeEncodeError:
-        return json.dumps(told, allow_nan=False).encode() + b"\n"
+        return _as_ascii(told).encode() + b"\n"

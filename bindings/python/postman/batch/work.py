@@ -3,7 +3,6 @@
 from __future__ import annotations
 
 from math import inf
-from pathlib import Path
 from time import perf_counter
 from typing import NamedTuple
 
@@ -40,7 +39,8 @@ def call(file: bytes, budget: int) -> Called:
 def read(path: str, budget: int) -> bytes | Result | Undone:
     """A plan's file as the library takes it, made of a street list or a map where it is one; or why there is none."""
     try:
-        data = Path(path).read_bytes()
+        with open(path, "rb", buffering=0) as file:
+            data = file.read()
     except OSError as error:
         return Undone(path, f"cannot be read: {error.strerror or error}")
     if kind_of(path, data) == "plan":

@@ -1,7 +1,8 @@
 """A worker process: `python3 -m postman.batch.worker BUDGET` reads paths, a line each, and writes what came of them.
 
-Paths come as JSON strings. A result goes back as its line; a file that could not be read as a JSON list of its path and
-the reason. The worker ends when nobody writes to it any more, and so with the process that began it, however that ended.
+Paths come as JSON strings. A result goes back as its line; a plan that could not be worked on as a JSON list of its path
+and the reason. The worker ends when nobody writes to it any more, and so with the process that began it, however that
+ended.
 """
 
 from __future__ import annotations
@@ -10,23 +11,43 @@ import json
 import os
 import signal
 import sys
+from time import monotonic
 
+from .processes import BUNCH
 from .result import Undone, encoded
 from .work import work
+
+PAUSE = 0.01
+"""No line waits for others longer than these seconds and the time that a plan takes."""
 
 
 def main(budget: int) -> None:
     # An interrupt at the terminal goes to the whole group. The process that deals the plans says what becomes of it.
     signal.signal(signal.SIGINT, signal.SIG_IGN)
-    out = sys.stdout.fileno()
-    for line in sys.stdin.buffer:
-        outcome = work(json.loads(line), budget)
-        data = encoded([outcome.file, outcome.reason]) if isinstance(outcome, Undone) else outcome.line()
-        try:
-            while data:
-                data = data[os.write(out, data) :]
-        except BrokenPipeError:
-            return
+    torn = b""
+    while data := os.read(sys.stdin.fileno(), 65536):
+        *lines, torn = (torn + data).split(b"\n")
+        ready: list[bytes] = []
+        last = monotonic()
+        for line in lines:
+            outcome = work(json.loads(line), budget)
+            undone = isinstance(outcome, Undone)
+            ready.append(encoded([outcome.file, outcome.reason]) if undone else outcome.line())
+            if len(ready) == BUNCH or monotonic() - last >= PAUSE:
+                write(ready)
+                last = monotonic()
+        write(ready)
+
+
+def write(ready: list[bytes]) -> None:
+    """Writes what is ready."""
+    data = b"".join(ready)
+    ready.clear()
+    try:
+        while data:
+            data = data[os.write(sys.stdout.fileno(), data) :]
+    except BrokenPipeError:
+        sys.exit()
 
 
 if __name__ == "__main__":

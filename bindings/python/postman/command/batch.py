@@ -1,8 +1,8 @@
-"""Lays drives for thousands of plans on all cores. A line of JSON is kept for each:
-file, budget, cost, floor, gap, trees, whole, parts and the seconds that the call
-took, or why there is no drive. A plan that is refused stops nobody. Killed and
-started again it goes on where it stopped: a plan whose path stands in the results
-is passed over."""
+"""Lays drives for thousands of plans on all cores. A line of JSON is kept for
+each: file, budget, cost, floor, gap, trees, whole, parts and the seconds that
+the call took, or why there is no drive. A plan that is refused stops nobody.
+Killed and started again it goes on where it stopped: a plan whose path stands
+in the results is passed over."""
 
 from __future__ import annotations
 
