@@ -8,6 +8,7 @@ import sys
 import types
 import unittest
 from collections import Counter
+from textwrap import dedent
 from unittest import mock
 
 from command import TOWN, environment, from_shell, postman
@@ -252,10 +253,10 @@ class Workers(Folder):
         self.assertEqual(set(children()), before)
 
     def test_a_plan_that_workers_die_on_stops_nobody(self):
-        paths = list(map(str, write_towns(self.folder, 6)))
-        with self.deadly(paths[2]):
+        paths = list(map(str, write_towns(self.folder, 60)))
+        with self.deadly(paths[9]):
             found = list(by_processes(paths, 1000, jobs=2))
-        self.assertEqual([one for one in found if isinstance(one, Undone)], [Undone(paths[2], "3 workers died on it")])
+        self.assertEqual([one for one in found if isinstance(one, Undone)], [Undone(paths[9], "3 workers died on it")])
         self.assertEqual(sorted(one.file for one in found), sorted(paths))
 
     def test_workers_that_all_die_end_the_run(self):
@@ -265,12 +266,15 @@ class Workers(Folder):
 
     def deadly(self, path: str):
         """Workers that die on a plan, or on every one."""
-        self.file(
-            "sitecustomize.py",
-            "import os, pathlib\n"
-            "read = pathlib.Path.read_bytes\n"
-            f"pathlib.Path.read_bytes = lambda self: os._exit(9) if {path!r} in str(self) else read(self)\n",
-        )
+        code = """
+            import builtins, os
+            def deadly(file, *arguments, opened=open, **named):
+                if str(file).endswith(".plan") and PATH in str(file):
+                    os._exit(9)
+                return opened(file, *arguments, **named)
+            builtins.open = deadly
+        """
+        self.file("sitecustomize.py", dedent(code).replace("PATH", repr(path)))
         return mock.patch.dict(os.environ, PYTHONPATH=str(self.folder))
 
 

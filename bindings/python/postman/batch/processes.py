@@ -103,6 +103,7 @@ def by_processes(paths: Iterable[str], budget: int, jobs: int | None = None) -> 
     """What came of each plan, as it ends, by so many processes (as many as there are cores)."""
     waiting = deque(paths)
     jobs = max(1, min(cores() if jobs is None else jobs, len(waiting)))
+    suspects: set[str] = set()
     deaths: Counter[str] = Counter()
     in_a_row = 0
     with selectors.DefaultSelector() as selector:
@@ -113,8 +114,10 @@ def by_processes(paths: Iterable[str], budget: int, jobs: int | None = None) -> 
             feed(worker)
 
         def feed(worker: Worker) -> None:
-            # Fewer towards the end, so that nobody keeps a plan waiting that another could begin.
-            worker.deal(waiting, max(1, min(AHEAD, len(waiting) // jobs)))
+            # Fewer towards the end, so that nobody keeps a plan waiting that another could begin; and one at a time
+            # of those that a worker had when it died, so that the next death tells on which.
+            suspected = waiting and waiting[0] in suspects
+            worker.deal(waiting, 1 if suspected else max(1, min(AHEAD, len(waiting) // jobs)))
 
         def workers() -> list[Worker]:
             return [key.data for key in selector.get_map().values()]
@@ -136,10 +139,11 @@ def by_processes(paths: Iterable[str], budget: int, jobs: int | None = None) -> 
                     in_a_row += 1
                     if in_a_row == MOST_IN_A_ROW * jobs:
                         raise ListError(f"{in_a_row} workers died one after the other", sys.executable)
-                    if worker.plans:
+                    if len(worker.plans) == 1:
                         deaths[worker.plans[0]] += 1
                         if deaths[worker.plans[0]] == MOST_DEATHS:
                             yield Undone(worker.plans.popleft(), f"{MOST_DEATHS} workers died on it")
+                    suspects.update(worker.plans)
                     waiting.extendleft(reversed(worker.plans))
                     start()
         finally:
