@@ -1,9 +1,10 @@
 """How many plans a second `postman batch` does, and how much of that is the library's own time.
 
-`python3 tools/batch_speed.py FOLDER...` runs the command over each folder's plan files, with 1 and 2 processes. All times
-are the processor's, of the command and its workers together, the least of five runs, which take turns; only "on the clock" is wall time,
-of the fastest run, which other work on the machine slows. The start of the processes, as measured on one plan, is taken
-off. The library's own time is that of its calls alone on the same plans, in one process, with nothing read or written.
+`python3 tools/batch_speed.py FOLDER...` runs the command over each folder's plan files, with 1 and 2 processes. All
+times are the processor's, of the command and its workers together, the least of five runs, which take turns; only "on
+the clock" is wall time, of the fastest run, which other work on the machine slows. The start of the processes, as
+measured on the smallest plans, is taken off. The library's own time is that of its calls alone on the same plans, in
+one process, with nothing read or written. `python3 tests/drawn.py FOLDER COUNT` draws towns.
 
 `python3 tools/batch_speed.py --memory FOLDER` runs it once, and shows how much memory the processes hold on the way.
 """
@@ -24,6 +25,7 @@ from postman._lent import Lent  # noqa: E402
 from postman._library import library  # noqa: E402
 from postman.batch.inputs import inputs_of  # noqa: E402
 
+SMALL = bytes.fromhex("10402001400141000003")
 BUDGET = 1_000_000
 TURNS = 5
 STEPS = 10
@@ -58,13 +60,17 @@ def speed(folder: str) -> None:
     plans = len(paths)
     files = [Path(path).read_bytes() for path in paths]
     own, begin, cpu, wall = [], {1: [], 2: []}, {1: [], 2: []}, {1: [], 2: []}
-    for _ in range(TURNS):
-        own.append(of_library(files))
-        for jobs in (1, 2):
-            # As many plans as there are processes, so that all of these begin.
-            begin[jobs].append(measured(paths[:jobs], jobs)[0])
-            for times, seconds in zip((cpu, wall), measured([folder], jobs)):
-                times[jobs].append(seconds)
+    with tempfile.TemporaryDirectory() as name:
+        # As many small plans as there are processes, so that all of these begin.
+        small = [str(Path(name) / f"{number}.plan") for number in range(2)]
+        for path in small:
+            Path(path).write_bytes(SMALL)
+        for _ in range(TURNS):
+            own.append(of_library(files))
+            for jobs in (1, 2):
+                begin[jobs].append(measured(small[:jobs], jobs)[0])
+                for times, seconds in zip((cpu, wall), measured([folder], jobs)):
+                    times[jobs].append(seconds)
     print(f"{folder}: {plans} plans, {1000 * min(own) / plans:.3f} ms of the library's own time each")
     for jobs in (1, 2):
         each = (min(cpu[jobs]) - min(begin[jobs])) / plans
@@ -93,7 +99,8 @@ def memory(folder: str) -> None:
             if done >= step * plans // STEPS - plans // (2 * STEPS):
                 with open(f"/proc/{run.pid}/task/{run.pid}/children") as file:
                     workers = list(map(int, file.read().split()))
-                print(f"{done} plans: the command {held(run.pid)} KiB, workers {[held(worker) for worker in workers]} KiB")
+                sizes = [held(worker) for worker in workers]
+                print(f"{done} plans: the command {held(run.pid)} KiB, workers {sizes} KiB")
                 step += 1
             time.sleep(0.02)
 

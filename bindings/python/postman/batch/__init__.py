@@ -4,9 +4,9 @@
     >>> for outcome in by_processes(["a.plan", "b.plan"], 100_000, jobs=2):     # doctest: +SKIP
     ...     print(outcome)
 
-Which plans there are is in `inputs`, what came of one in `result`, and how one is worked on in `work`. `by_processes` and
-`by_cluster` deal plans out and yield what came of them, in any order. `ResultsFile` keeps the results so that a run that
-was killed goes on where it stopped, and `Summary` adds them up.
+Which plans there are is in `inputs`, what came of one in `result`, and how one is worked on in `work`. `by_processes`
+and `by_cluster` deal plans out and yield what came of them, in any order. `ResultsFile` keeps the results so that a run
+that was killed goes on where it stopped, and `Summary` adds them up.
 """
 
 from __future__ import annotations

@@ -1,7 +1,7 @@
 """Which plans there are: the files that are named, and those of the folders that are named.
 
-Of a folder, and the folders in it, come plan files (.plan), maps (.geojson) and street lists (.csv); a table of something
-else, such as corners, is passed over. A plan goes by its path as it was named.
+Of a folder, and the folders in it, come plan files (.plan), maps (.geojson) and street lists (.csv); a table of
+something else, such as corners, is passed over. A plan goes by its path as it was named.
 """
 
 from __future__ import annotations

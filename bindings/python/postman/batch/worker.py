@@ -1,8 +1,8 @@
 """A worker process: `python3 -m postman.batch.worker BUDGET` reads paths, a line each, and writes what came of them.
 
-Paths come as JSON strings. A result goes back as its line; a plan that could not be worked on as a JSON list of its path
-and the reason. The worker ends when nobody writes to it any more, and so with the process that began it, however that
-ended.
+Paths come as JSON strings. A result goes back as its line; a plan that could not be worked on as a JSON list of its
+path and the reason. The worker ends when nobody writes to it any more, and so with the process that began it, however
+that ended.
 """
 
 from __future__ import annotations
