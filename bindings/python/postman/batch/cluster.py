@@ -7,6 +7,8 @@ The scheduler gives a task of a worker that died to another.
 from __future__ import annotations
 
 from collections.abc import Iterable, Iterator
+from importlib import import_module
+from typing import Any
 
 from ..streets.errors import ListError
 from .result import Result, Undone
@@ -19,17 +21,17 @@ AHEAD = 1000
 def by_cluster(paths: Iterable[str], budget: int, address: str) -> Iterator[Result | Undone]:
     """What came of each plan, as it ends, by the workers of the scheduler at an address."""
     try:
-        from distributed import Client, as_completed
+        distributed: Any = import_module("distributed")
     except ImportError as error:
         raise ListError(f"a cluster needs dask.distributed (Debian: python3-distributed): {error}", address) from None
     try:
-        client = Client(address, set_as_default=False)
+        client = distributed.Client(address, set_as_default=False)
     except (OSError, TimeoutError, ValueError) as error:
         raise ListError(f"no scheduler answers: {error}", address) from None
     with client:
         rest = iter(paths)
         # With their results, which so are fetched many at a time.
-        tasks = as_completed(loop=client.loop, with_results=True, raise_errors=False)
+        tasks = distributed.as_completed(loop=client.loop, with_results=True, raise_errors=False)
         sent: dict[str, str] = {}
 
         def send() -> Iterator[Result | Undone]:

@@ -102,7 +102,7 @@ def outcome_of(line: bytes) -> Result | Undone:
 def by_processes(paths: Iterable[str], budget: int, jobs: int | None = None) -> Iterator[Result | Undone]:
     """What came of each plan, as it ends, by so many processes (as many as there are cores)."""
     waiting = deque(paths)
-    jobs = max(1, min(cores() if jobs is None else jobs, len(waiting)))
+    at_once = max(1, min(cores() if jobs is None else jobs, len(waiting)))
     suspects: set[str] = set()
     deaths: Counter[str] = Counter()
     in_a_row = 0
@@ -117,13 +117,13 @@ def by_processes(paths: Iterable[str], budget: int, jobs: int | None = None) -> 
             # Fewer towards the end, so that nobody keeps a plan waiting that another could begin; and one at a time
             # of those that a worker had when it died, so that the next death tells on which.
             suspected = waiting and waiting[0] in suspects
-            worker.deal(waiting, 1 if suspected else max(1, min(AHEAD, len(waiting) // jobs)))
+            worker.deal(waiting, 1 if suspected else max(1, min(AHEAD, len(waiting) // at_once)))
 
         def workers() -> list[Worker]:
             return [key.data for key in selector.get_map().values()]
 
         try:
-            for _ in range(jobs if waiting else 0):
+            for _ in range(at_once if waiting else 0):
                 start()
             while waiting or any(worker.plans for worker in workers()):
                 for key, _ in selector.select():
@@ -137,7 +137,7 @@ def by_processes(paths: Iterable[str], budget: int, jobs: int | None = None) -> 
                     selector.unregister(worker.back)
                     worker.end()
                     in_a_row += 1
-                    if in_a_row == MOST_IN_A_ROW * jobs:
+                    if in_a_row == MOST_IN_A_ROW * at_once:
                         raise ListError(f"{in_a_row} workers died one after the other", sys.executable)
                     if len(worker.plans) == 1:
                         deaths[worker.plans[0]] += 1

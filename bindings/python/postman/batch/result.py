@@ -3,7 +3,7 @@
 from __future__ import annotations
 
 import json
-from dataclasses import dataclass
+from dataclasses import dataclass, fields
 from typing import Any
 
 from ..refusal import Refusal
@@ -19,6 +19,9 @@ class Numbers:
     trees: int
     whole: bool
     parts: int
+
+
+_NAMES = tuple(one.name for one in fields(Numbers))
 
 
 @dataclass(frozen=True, slots=True)
@@ -40,7 +43,7 @@ class Result:
         told: dict[str, Any] = {"file": self.file, "budget": self.budget}
         numbers = self.numbers
         if numbers is not None:
-            told |= {name: getattr(numbers, name) for name in Numbers.__slots__}
+            told |= {name: getattr(numbers, name) for name in _NAMES}
         else:
             refusal = None if self.refusal is None else Refusal(self.refusal)
             word = None if refusal is None else {"number": refusal.number, "word": refusal.word}
@@ -53,7 +56,7 @@ class Result:
         try:
             told = json.loads(line)
             if "cost" in told:
-                numbers, refusal, error = Numbers(*(told[name] for name in Numbers.__slots__)), None, None
+                numbers, refusal, error = Numbers(*(told[name] for name in _NAMES)), None, None
             else:
                 numbers, refusal, error = None, told["refusal"], told["error"]
             number = None if refusal is None else Refusal(refusal["number"]).number

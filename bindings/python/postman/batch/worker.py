@@ -31,8 +31,10 @@ def main(budget: int) -> None:
         last = monotonic()
         for line in lines:
             outcome = work(json.loads(line), budget)
-            undone = isinstance(outcome, Undone)
-            ready.append(encoded([outcome.file, outcome.reason]) if undone else outcome.line())
+            if isinstance(outcome, Undone):
+                ready.append(encoded([outcome.file, outcome.reason]))
+            else:
+                ready.append(outcome.line())
             if len(ready) == BUNCH or monotonic() - last >= PAUSE:
                 write(ready)
                 last = monotonic()
