@@ -13,8 +13,10 @@ from repository import ROOT
 from test_streets_list import Folder
 
 from postman import Car, plan_call, streets, two_cars
+from postman.command import split
 from postman.command.progress import Bars
 from postman.streets.marks_file import read_marks
+from postman.streets.steps import steps_of
 
 FIRST, SECOND = str(TOWN_FOLDER / "first.csv"), str(TOWN_FOLDER / "second.csv")
 DISTRICTS = sorted(str(path) for path in (TOWN_FOLDER / "districts").glob("*.csv"))
@@ -74,6 +76,20 @@ class Cars(Folder):
         alone = plan_call(self.town.file, 1000).cost
         self.assertLess(max(first["cost"], second["cost"]), 0.7 * alone)
         self.assertEqual(done.out, postman("cars", TOWN, "--json").out)
+
+    def test_the_proposal_is_the_best_of_the_cuts(self):
+        drive = plan_call(self.town.file, split.BUDGET).drive
+        order = [step.arc for step in steps_of(self.town, drive) if step.checked]
+        cuts = split.cuts_of(order)
+        self.assertLessEqual(len(cuts), split.MOST_CUTS)
+
+        def dearer(first, second) -> int:
+            cars = (Car(split.marks_for(self.town, arcs), split.BUDGET) for arcs in (first, second))
+            return max(answer.cost for answer in two_cars(self.town.file, *cars))
+
+        costs = [dearer(*cut) for cut in cuts]
+        self.assertEqual(dearer(*split.propose(self.town)), min(costs))
+        self.assertLess(min(costs), max(costs))
 
     def test_a_proposal_that_is_kept_gives_the_same_drives(self):
         one, other = str(self.folder / "one.csv"), str(self.folder / "other.csv")

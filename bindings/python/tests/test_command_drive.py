@@ -182,8 +182,9 @@ class Budgets(unittest.TestCase):
         self.assertEqual([int(row["cost"]) for row in table], [row["cost"] for row in rows])
 
     def test_a_flat_plot(self):
-        done = postman("budgets", str(ROOT / "examples" / "case_a.plan"))
-        self.assertEqual((done.status, done.out.splitlines()[1].split()[-1]), (0, "yes"))
+        lines = postman("budgets", str(ROOT / "examples" / "case_a.plan")).out.splitlines()
+        self.assertEqual(lines[1].split()[-1], "yes")
+        self.assertEqual(lines[-4].split("|")[1].split(), ["o"] * 7)
 
 
 class Trees(unittest.TestCase):

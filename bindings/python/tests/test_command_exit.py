@@ -48,6 +48,7 @@ class Status(Folder):
         self.check(2, "drvie", err="postman: drvie is no subcommand; did you mean drive?")
         self.check(2, "drive", err="postman drive: error: the following arguments are required: LIST")
         self.check(2, "drive", CASE_A, "--bugdet", "1", err="unrecognized arguments: --bugdet 1")
+        self.check(2, "drive", CASE_A, "--budg", "1", err="unrecognized arguments: --budg 1")
         self.check(2, "drive", CASE_A, "--budget", "x", err="x is not a whole number")
         self.check(2, "drive", CASE_A, "--json", "--csv", err="not allowed with argument --json")
         self.check(2, "drive", CASE_A, "--at", "noon", err="'noon' is no departure")

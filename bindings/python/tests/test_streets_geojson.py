@@ -165,6 +165,7 @@ class Writing(unittest.TestCase):
 
     def test_a_drive_as_geojson(self):
         value = json.loads(json.dumps(drive_geojson(self.town, self.drive)))
+        self.assertEqual(drive_geojson(self.town, plan_call(self.town.file, 100)), value)
         features = value["features"]
         self.assertEqual([feature["properties"]["arc"] for feature in features], list(self.drive))
         self.assertEqual(

@@ -1,9 +1,10 @@
 """Street lists: plans that a person writes, with names for corners and streets.
 
-    >>> from postman import plan_call, streets
-    >>> town = streets.open_list("examples/town/streets.csv")       # doctest: +SKIP
-    >>> answer = plan_call(town.file, 10_000)                       # doctest: +SKIP
-    >>> [town.streets[arc].name for arc in answer.drive]            # doctest: +SKIP
+    from postman import plan_call, streets
+
+    town = streets.open_list("examples/town/streets.csv")
+    answer = plan_call(town.file, 10_000)
+    print([town.streets[arc].name for arc in answer.drive])
 
 `town.file` is what the library takes; it was read back by the proved reader and compared row by row with the list.
 """
@@ -14,6 +15,7 @@ from collections.abc import Iterable, Mapping
 from pathlib import Path
 from typing import Any
 
+from ..answer import Answer
 from .errors import ListError
 from .street_list import Corner, Street, StreetList
 from .table import read_bytes
@@ -94,7 +96,7 @@ def from_geojson(source: str | Mapping[str, Any], **options: Any) -> StreetList:
     return from_geojson(source, **options)
 
 
-def drive_geojson(streets: StreetList, drive: Iterable[int]) -> dict[str, Any]:
+def drive_geojson(streets: StreetList, drive: Answer | Iterable[int]) -> dict[str, Any]:
     """A drive as GeoJSON; see `postman.streets.geojson.drive_geojson`."""
     from .geojson import drive_geojson
 

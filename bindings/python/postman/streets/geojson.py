@@ -11,6 +11,7 @@ from collections.abc import Callable, Iterable, Mapping
 from math import asin, cos, hypot, radians, sin, sqrt
 from typing import Any, NamedTuple
 
+from ..answer import Answer
 from ..plan import Standing
 from .csv_file import STANDINGS
 from .earth import DEGREE, EARTH_RADIUS
@@ -278,15 +279,15 @@ def coordinates(streets: StreetList, name: str) -> Point | None:
     return None
 
 
-def drive_geojson(streets: StreetList, drive: Iterable[int]) -> dict[str, Any]:
-    """A drive as GeoJSON: a LineString for each place, in the order driven.
+def drive_geojson(streets: StreetList, drive: Answer | Iterable[int]) -> dict[str, Any]:
+    """A drive, or an answer's, as GeoJSON: a LineString for each place, in the order driven.
 
     Its properties are the columns of the drive as CSV. Where a corner has no coordinates, its lines have no geometry.
     """
     from .steps import steps_of
 
     features = []
-    for step in steps_of(streets, drive):
+    for step in steps_of(streets, drive.drive if isinstance(drive, Answer) else drive):
         street = streets.streets[step.arc]
         ends = [coordinates(streets, name) for name in (street.from_corner, street.to_corner)]
         known = [list(end) for end in ends if end is not None]
