@@ -7,15 +7,17 @@ import signal
 import subprocess
 import time
 import unittest
+from contextlib import suppress
 from pathlib import Path
 
 from command import from_shell, postman
 from drawn import write_towns
-from repository import example
+from repository import ROOT, example
 from test_streets_list import Folder
 
 SEED = 47
 PLANS = 400
+SLOW = ("z0.plan", "z1.plan")
 SECONDS = 60
 """How long anything may take before it has failed."""
 
@@ -71,8 +73,11 @@ class Killed(Folder):
                 time.sleep(chance.uniform(0, 0.3))
             workers = children_of(run.pid)
             if run.poll() is None:
-                # The process that writes, or its workers with it.
-                (os.kill if chance.random() < 0.5 else os.killpg)(run.pid, signal.SIGKILL)
+                # The process that writes, and its workers before it or not.
+                for process in workers if chance.random() < 0.5 else []:
+                    with suppress(ProcessLookupError):
+                        os.kill(process, signal.SIGKILL)
+                run.kill()
             if run.wait() != -signal.SIGKILL:
                 break
             kills += 1
@@ -83,22 +88,25 @@ class Killed(Folder):
                 last = len(data) - data.rfind(b"\n", 0, -1) - 1
                 os.truncate(self.killed, len(data) - chance.randrange(0, max(last, 1)))
             done = lines_of(self.killed)
-        self.assertGreaterEqual(kills, 4)
+        self.assertGreaterEqual(kills, 2)
         self.assertEqual(run.returncode, 1)
         self.assertEqual(without_seconds(self.killed), without_seconds(self.clean))
         self.assertEqual(lines_of(self.killed), PLANS + 5)
 
     def test_an_interrupt_says_how_to_go_on(self):
+        # Some that take long, so that it has not ended before it is interrupted.
+        for name in SLOW:
+            (self.plans / name).write_bytes((ROOT / "tests" / "plans" / "climbed_many_links.plan").read_bytes())
         argv = ["batch", self.plans, "-o", self.killed, "--jobs", "2"]
         run = from_shell(*argv, stdout=subprocess.PIPE, stderr=subprocess.PIPE, start_new_session=True)
         self.until(lambda: lines_of(self.killed) >= 3 or run.poll() is not None)
-        # At a terminal the workers get it too.
+        # As a terminal does it, to the whole group.
         os.killpg(run.pid, signal.SIGINT)
         out, err = run.communicate(timeout=SECONDS)
         self.assertEqual((run.returncode, out), (130, b""))
         self.assertEqual(err, b"postman: stopped; the same command goes on from here\n")
         self.assertEqual(self.start().wait(SECONDS), 1)
-        self.assertEqual(lines_of(self.killed), PLANS + 5)
+        self.assertEqual(lines_of(self.killed), PLANS + 5 + len(SLOW))
 
 
 def children_of(process: int) -> list[int]:

@@ -51,6 +51,8 @@ class Worker:
             stdout=subprocess.PIPE,
             bufsize=0,
             env={**os.environ, "PYTHONPATH": os.pathsep.join(paths)},
+            # An interrupt at the terminal is for the process that deals; it lets the workers end.
+            process_group=0,
         )
         assert self.process.stdin is not None and self.process.stdout is not None
         self.to = self.process.stdin.fileno()

@@ -9,7 +9,6 @@ from __future__ import annotations
 
 import json
 import os
-import signal
 import sys
 from time import monotonic
 
@@ -22,8 +21,6 @@ PAUSE = 0.01
 
 
 def main(budget: int) -> None:
-    # An interrupt at the terminal goes to the whole group. The process that deals the plans says what becomes of it.
-    signal.signal(signal.SIGINT, signal.SIG_IGN)
     torn = b""
     while data := os.read(sys.stdin.fileno(), 65536):
         *lines, torn = (torn + data).split(b"\n")
