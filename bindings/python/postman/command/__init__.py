@@ -29,6 +29,7 @@ SUBCOMMANDS = {
     "desk": "try closings and costs on a page in the browser",
     "report": "write a report on a drive, with pictures, as one HTML file",
     "districts": "lay drives for many districts in turn",
+    "batch": "lay drives for thousands of plans on all cores",
     "completion": "print the completion for a shell",
 }
 
