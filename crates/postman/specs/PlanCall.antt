@@ -1,7 +1,7 @@
 -- The plan call: its refusals and its answer.
 use mathlib.Core.Path.{_≡_}
 use mathlib.Core.Bool.{Bool, false, not, cond}
-use mathlib.Core.List.{List, [], _∷_, _++_, map}
+use mathlib.Core.List.{List, [], _∷_, _++_, map, List·Memᴰ}
 use mathlib.Core.Option.{Option}
 use Prim.Native.Nat.{ℕ, _≤_, _<_, min}
 use lib.ListN.{length, getD, take}
@@ -13,12 +13,12 @@ use Rattle.postman.specs.Refusal.{Conditions, firstRefusal, Answer, give
 use Rattle.postman.specs.PlanFile.{fileConditions, isOutside, planOf}
 use Rattle.postman.specs.Tour.{tourCost, IsTour}
 use Rattle.postman.specs.Required.{required}
-use Rattle.postman.specs.Distance.{hasPath}
-use Rattle.postman.specs.FewestPath.{IsLaid}
+use Rattle.postman.specs.Distance.{distance, hasPath}
 use Rattle.postman.specs.Link.{Link}
 use Rattle.postman.specs.Component.{componentCount}
 use Rattle.postman.specs.Arborescence.{arborescences, arborescenceCount}
-use Rattle.postman.specs.Balancing.{completionCost}
+use Rattle.postman.specs.Balancing.{imbalance, IsBalancing, balancingCost, leastBalancing, completionCost}
+use Rattle.postman.specs.Description.{IsLaid}
 use Rattle.postman.specs.LagrangianBound.{Multipliers, lagrangianBound}
 
 -- ---- the refusals
@@ -123,12 +123,20 @@ unfoldable pub root : Plan → ℕ
 unfolding required
 root p = getD (required p) 0 0
 
--- "The written places are a drive of that cost whose first arc is the lowest must arc; which such drive, of at most 17,266 places, is free." Its legs follow the paths of
--- fewest arcs.
+-- "The written places are a drive of that cost whose first arc is the lowest must arc; which such drive, of at most 17,266 places, is free." It is laid from one of the trees
+-- tried, of least cost, and from amounts that balance it at the least cost. This is all that has to be believed of the drive.
 pub record IsAnswerTour (p : Plan) (budget : ℕ) (w : List ℕ) : Type 0 where
   pub tour : IsTour p w
   pub costs : tourCost p w ≡ bestCost p budget
   pub nonempty : 0 < length w
   pub first : getD w 0 0 ≡ getD (requiredNumbers p) 0 0
   pub short : length w ≤ sheetPlaces
-  pub laid : IsLaid p w
+  -- the tree that it is laid from, and the amounts
+  pub tree : List Link
+  pub tried : List·Memᴰ tree (take (triedCount p budget) (arborescences p))
+  pub least : completionCost p tree ≡ bestCost p budget
+  pub amounts : ℕ → ℕ → ℕ
+  pub balances : IsBalancing (required p) (imbalance p tree) amounts
+  pub balances-least : balancingCost (required p) (distance p) amounts ≡ leastBalancing p tree
+  -- its legs
+  pub laid : IsLaid p tree amounts w
