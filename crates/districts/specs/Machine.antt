@@ -69,7 +69,7 @@ pub record IsSound (m : Machine) : Type 0 where
 -- The plan call's refusals but 8.
 unfoldable pub callPart : List ℕ → ℕ → Option ℕ
 unfolding firstRefusal fileConditions isOutside highestBudget planOf
-callPart bytes budget = firstRefusal (fileConditions bytes ++ ((isOutside budget 1 highestBudget, 9) ∷ lastConditions (planOf bytes)))
+callPart bytes budget = firstRefusal (fileConditions bytes ++ (budgetConditions budget ++ lastConditions (planOf bytes)))
 
 -- The number of a refused entry.
 abbrev pub admissionNumber : Admission → Option ℕ

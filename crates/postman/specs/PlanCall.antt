@@ -9,7 +9,7 @@ use lib.IntN.{ℤ, pos}
 use lib.Dec.{eqb, ltb, leb}
 use Rattle.postman.specs.Lists.{anyOf, minimum, maxℤ, argmin}
 use Rattle.postman.specs.Plan.{Plan, requiredArcs, requiredNumbers}
-use Rattle.postman.specs.Refusal.{Conditions, firstRefusal, Answer, given, refused, answer}
+use Rattle.postman.specs.Refusal.{Conditions, firstRefusal, Answer, given, refused}
 use Rattle.postman.specs.PlanFile.{fileConditions, isOutside, planOf}
 use Rattle.postman.specs.Tour.{tourCost, IsTour}
 use Rattle.postman.specs.Required.{required}
@@ -39,10 +39,13 @@ unfoldable pub isCutOff : Plan → Bool
 unfolding anyOf required hasPath
 isCutOff p = anyOf (λ i. anyOf (λ j. not (hasPath p i j)) (required p)) (required p)
 
--- "then 8 to 12". 9 budget: "0 or above 1,000,000"; 10 idle: "no must arc"; 11 scattered: "more than 8 parts". Of the budget and the sheet, and of a plan:
+-- "then 8 to 12". 9 budget: "0 or above 1,000,000"; 10 idle: "no must arc"; 11 scattered: "more than 8 parts". Of the budget, with the sheet, and of a plan:
+abbrev pub budgetConditions : ℕ → Conditions
+budgetConditions budget = (isOutside budget 1 highestBudget, 9) ∷ []
+
 unfoldable pub callConditions : ℕ → ℕ → Conditions
 unfolding sheetPlaces isOutside highestBudget
-callConditions budget places = (ltb places sheetPlaces, 8) ∷ (isOutside budget 1 highestBudget, 9) ∷ []
+callConditions budget places = (ltb places sheetPlaces, 8) ∷ budgetConditions budget
 
 unfoldable pub partsConditions : Plan → Conditions
 unfolding requiredArcs componentCount
@@ -105,20 +108,12 @@ unfolding bestCost lowerBound triedCount isWhole componentCount
 summary p budget u =
     record { cost = bestCost p budget; floor = lowerBound p budget u; trees = triedCount p budget; whole = isWhole p budget; parts = componentCount p }
 
-unfoldable pub planCall : List ℕ → ℕ → ℕ → Multipliers → Answer Summary
-unfolding answer callRefusal planOf summary
-planCall bytes budget places u = answer (callRefusal bytes budget places) (summary (planOf bytes) budget u)
-
-unfoldable pub shortCall : List ℕ → ℕ → Multipliers → Answer Summary
-unfolding planCall defaultBudget
-shortCall bytes places u = planCall bytes defaultBudget places u
-
 -- What the fields hold in a refusal, which document 01 leaves open: 0 and no.
 unfoldable pub fields : Answer Summary → Summary
 fields (given s) = s
 fields (refused r) = record { cost = 0; floor = pos 0; trees = 0; whole = false; parts = 0 }
 
--- The root of the multipliers that we answer: the lowest required vertex.
+-- The lowest required vertex, at which the multipliers are 0 that those we answer are found from.
 unfoldable pub root : Plan → ℕ
 unfolding required
 root p = getD (required p) 0 0
