@@ -9,7 +9,7 @@ use lib.ListN.{length, take, drop, replicate}
 use lib.IntN.{pos}
 use Rattle.postman.specs.Refusal.{firstRefusal}
 use Rattle.postman.specs.PlanFile.{fileConditions, isOutside, planOf}
-use Rattle.postman.specs.PlanCall.{sheetPlaces, highestBudget, lastConditions, bestCost}
+use Rattle.postman.specs.PlanCall.{sheetPlaces, highestBudget, budgetConditions, lastConditions, bestCost}
 use Rattle.refusal.specs.Verdict.{refusalNumber}
 use Rattle.refusal.specs.declared.Verdict.the-variants.{Accepted}
 use Rattle.solution.specs.declared.Planned.{Planned}

@@ -1,7 +1,6 @@
 -- What is proved about the definitions.
 pub mod Reading
 pub mod Writing
-pub mod Judged
 pub mod Cars
 pub mod Editing
 pub mod Lent

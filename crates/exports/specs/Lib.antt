@@ -8,3 +8,4 @@ pub mod Turns
 pub mod Laws
 pub mod Theorem
 pub mod TurnsTheorem
+pub mod JudgedTheorem
