@@ -4,11 +4,16 @@ mod drawn;
 mod equal;
 mod joined;
 mod towns;
+mod worked;
 
 pub use drawn::{drawn_town, joined_loops};
 pub use equal::many_paths;
 pub use joined::{crossing, even, joined, one_above, star, Entries, HIGHEST_COUNT};
 pub use towns::{dead_ends, towns};
+pub use worked::{
+    bound_choices, chorded_ring, loops_at_one, matrix, nested_circles, of_matrix, one_way, parallel, ties,
+    two_ways_back, Matrix,
+};
 
 use crate::oracle::file_of;
 use crate::plan::{Arc, Plan, CLOSED, MOST_ARCS, MOST_VERTICES, OPTIONAL, REQUIRED};

@@ -13,6 +13,7 @@ mod judging;
 mod page;
 
 pub use budgets::examine_raised;
+pub(crate) use call::{call, FILL};
 pub use call::{examine_answer, examine_refusal, Case};
 pub use cars::{examine_alone, examine_car, examine_cars, examine_own_marks, Brought};
 pub use checking::examine_checking;

@@ -1,5 +1,6 @@
 //! The suite: what every planner is put through.
 
+mod answers;
 mod cars;
 mod counts;
 mod departures;
@@ -8,8 +9,11 @@ mod editing;
 mod editions;
 mod faults;
 mod judging;
+mod layout;
+mod matrices;
 mod pages;
 mod stated;
+mod tables;
 
 pub use cars::run_cars;
 pub use counts::{run_count, run_counts};
@@ -18,12 +22,15 @@ pub use districts::{district_cases, run_districts, run_stated_districts};
 pub use editing::run_editing;
 pub use editions::{run_stated_codec, FILE_A_CHECKED};
 pub use judging::{run_lists, run_stated_lists};
+pub use layout::{refused_files, spelt_files};
+pub use matrices::matrices;
 pub use pages::run_pages;
 pub use stated::{case_a, case_b, case_c, run_stated, FILE_A};
+pub use tables::tables;
 
 use crate::instances::{
-    checked, damaged, dead_ends, free_circles, free_ring, fullest, funnel, longest, many_paths, random_bytes,
-    random_plan, towns, Shape,
+    bound_choices, checked, chorded_ring, damaged, dead_ends, free_circles, free_ring, fullest, funnel, longest,
+    loops_at_one, many_paths, one_way, random_bytes, random_plan, ties, towns, Shape,
 };
 use crate::oracle::{file_of, Effort};
 use crate::plan::{Arc, Plan, DEFAULT_BUDGET, HIGHEST_BUDGET, LONGEST_FILE, REQUIRED, SHEET_PLACES};
@@ -86,6 +93,9 @@ pub fn fixed_cases() -> Vec<Case> {
     cases.extend((1..=8).map(|n| Case::new(&free_circles(n), &Effort::BRUTE_FORCE)));
     cases.extend([2, 3, 5, 8, 12].map(|n| Case::new(&free_ring(n), &Effort::BRUTE_FORCE)));
     cases.extend(equal_paths(300));
+    let worked = [bound_choices(), chorded_ring(), loops_at_one(), one_way(), ties()];
+    cases.extend(worked.iter().map(|plan| Case::new(plan, &Effort::LIGHT)));
+    cases.extend(matrices().iter().map(|(plan, _)| Case::new(plan, &Effort::LIGHT)));
     cases.extend(towns().iter().map(|(_, plan)| Case::new(plan, &Effort::LIGHT)));
     cases
 }

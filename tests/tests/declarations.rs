@@ -202,11 +202,44 @@ fn read(path: &Path) -> String {
     std::fs::read_to_string(path).unwrap_or_else(|error| panic!("{}: {error}", path.display()))
 }
 
-/// The functions of all files of a folder that end so.
-fn of_folder(folder: &str, extension: &str, of: fn(&str) -> Vec<Function>) -> Vec<Function> {
+/// The files of a folder and of those in it that end so, by their path in the repository.
+fn files(folder: &str, extension: &str) -> Vec<String> {
     let entries = std::fs::read_dir(root().join(folder)).expect("a folder of sources");
-    let paths = entries.map(|entry| entry.expect("a file").path());
-    paths.filter(|path| path.extension().is_some_and(|e| e == extension)).flat_map(|path| of(&read(&path))).collect()
+    let mut found: Vec<String> = Vec::new();
+    for entry in entries.map(|entry| entry.expect("an entry")) {
+        let path = format!("{folder}/{}", entry.file_name().into_string().expect("a name"));
+        if entry.path().is_dir() && entry.file_name() != "target" {
+            found.extend(files(&path, extension));
+        } else if entry.path().extension().is_some_and(|e| e == extension) {
+            found.push(path);
+        }
+    }
+    found.sort();
+    found
+}
+
+/// The functions of all these files.
+fn of_folder(folder: &str, extension: &str, of: fn(&str) -> Vec<Function>) -> Vec<Function> {
+    files(folder, extension).iter().flat_map(|path| of(&read(&root().join(path)))).collect()
+}
+
+/// What the tests below compare is all that is declared: one header, and no function for other languages outside `exports` and the package's sources.
+#[test]
+fn nothing_is_left_uncompared() {
+    assert_eq!(files("include", "h"), ["include/postman.h"]);
+    let declares = |path: &String| {
+        let source = without_line_comments(&read(&root().join(path)));
+        source.contains("extern \"C\"") || source.contains("no_mangle")
+    };
+    let elsewhere = |folder: &str, extension: &str, home: &str| -> Vec<String> {
+        files(folder, extension).into_iter().filter(|path| !path.starts_with(home) && declares(path)).collect()
+    };
+    assert_eq!(elsewhere("crates", "rt", "crates/exports/src/"), [""; 0], "exported from another crate");
+    assert_eq!(
+        elsewhere("bindings/rust", "rs", "bindings/rust/src/"),
+        [""; 0],
+        "declared outside the package's sources"
+    );
 }
 
 #[test]

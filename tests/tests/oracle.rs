@@ -5,8 +5,10 @@ use postman_tests::oracle::*;
 use postman_tests::plan::{Arc, Plan, CLOSED, LONGEST_FILE, MOST_VERTICES, OPTIONAL, REQUIRED, SHEET_PLACES};
 use postman_tests::planner::Planner;
 use postman_tests::random::Random;
-use postman_tests::suite::{case_a, case_b, case_c, funnels, FILE_A, FILE_A_CHECKED};
-use postman_tests::yardstick::Yardstick;
+use postman_tests::suite::{
+    case_a, case_b, case_c, funnels, matrices, refused_files, spelt_files, tables, FILE_A, FILE_A_CHECKED,
+};
+use postman_tests::yardstick::{cheapest_arborescence, Entries, Yardstick};
 
 const SEED: u64 = 70_000;
 
@@ -55,6 +57,43 @@ fn stated_numbers_of_edition_2() {
     assert_eq!(judge(&plan, &[0, 1]), Ok(12));
     assert_eq!(judge(&plan, &[0, 1, 0, 1, 1, 0]).map_err(|_| ()), Err(()));
     assert_eq!(judge(&plan, &[1, 0, 1, 0]), Ok(20));
+}
+
+/// Files that are spelt in bytes, which the oracle did not write.
+#[test]
+fn spelt_files_are_read_and_written() {
+    for (what, file, plan) in spelt_files() {
+        assert_eq!(file_of(&plan), file, "{what}");
+        assert_eq!(parse(&file), plan, "{what}");
+        assert_eq!(read_refusal(&file, plan.arcs.len()), 0, "{what}");
+    }
+    for (what, file, number) in refused_files() {
+        assert_eq!(read_refusal(&file, usize::MAX), number, "{what}");
+    }
+}
+
+#[test]
+fn stated_tables() {
+    for (what, plan, rows) in tables() {
+        let entry = |&d: &u32| if d == u32::MAX { INFINITE } else { d.into() };
+        let stated: Vec<Vec<u64>> = rows.iter().map(|row| row.iter().map(entry).collect()).collect();
+        // a sum of two infinite ones is infinite too
+        let told: Vec<Vec<u64>> =
+            Graph::new(&plan).d.iter().map(|row| row.iter().map(|&d| d.min(INFINITE)).collect()).collect();
+        assert_eq!(told, stated, "{what}");
+    }
+}
+
+/// A(0) of a plan whose parts are its vertices, and the same by the yardstick's recursion.
+#[test]
+fn stated_cheapest_trees() {
+    for (plan, least) in matrices() {
+        let graph = Graph::new(&plan);
+        assert_eq!(cheapest_tree(&graph, &[0; MOST_VERTICES]), least, "{plan:?}");
+        let mut entries = Entries::default();
+        (0..plan.n).for_each(|p| (0..plan.n).for_each(|q| entries[p][q] = graph.d[p][q] as i64));
+        assert_eq!(cheapest_arborescence(&entries, plan.n), least, "{plan:?}");
+    }
 }
 
 #[test]

@@ -41,23 +41,77 @@ fn reached(all: &BTreeMap<String, (String, String)>, name: &str) -> Vec<String> 
     names
 }
 
-/// Whether a signature takes or gives a table, or a plan, by value.
-fn copies(signature: &str) -> bool {
-    let flat: String = signature.chars().filter(|c| !c.is_whitespace()).collect();
-    let by_value = |what: &str| {
-        flat.match_indices(what).any(|(i, _)| {
-            let before = flat[..i].chars().next_back();
-            // a reference has `&` or `&mut` before the type; `:` and `>` are what stands before a value
-            matches!(before, Some(':' | '>' | ',' | '('))
-        })
-    };
-    by_value("[[u32;64];64]") || by_value("Plan") || by_value("plan::Plan")
+/// How many elements a type holds at least, by value: those of arrays, also of arrays; 1 of a number, and of a struct what its fields hold.
+fn elements(of: &str, structs: &BTreeMap<String, usize>) -> usize {
+    if let Some(inner) = of.strip_prefix('[').and_then(|of| of.strip_suffix(']')) {
+        let (inner, length) = inner.rsplit_once(';').unwrap_or((inner, "1"));
+        return elements(inner, structs) * length.replace('_', "").parse::<usize>().unwrap_or(1);
+    }
+    let name = of.rsplit("::").next().expect("the last part of a path");
+    structs.get(name).copied().unwrap_or(1)
 }
 
-fn sources(crates: &[&str]) -> String {
+/// What each struct of a source holds. One that holds another is counted once that one is.
+fn structs(source: &str) -> BTreeMap<String, usize> {
+    let code: String = source.lines().map(|line| line.split("//").next().unwrap_or("").to_owned() + "\n").collect();
+    let mut found: BTreeMap<String, usize> = BTreeMap::new();
+    for _ in 0..4 {
+        for part in code.split("struct ").skip(1) {
+            let name: String = part.chars().take_while(|c| c.is_alphanumeric() || *c == '_').collect();
+            let Some((_, rest)) = part.split_once('{') else { continue };
+            let fields = rest.split_once('}').expect("the end of a struct").0;
+            let flat: String = fields.chars().filter(|c| !c.is_whitespace()).collect();
+            let held =
+                flat.split(',').filter_map(|field| field.split_once(':')).map(|(_, of)| elements(of, &found)).sum();
+            found.insert(name, held);
+        }
+    }
+    found
+}
+
+/// As many elements as the table of distances has.
+const TABLE: usize = 64 * 64;
+
+/// Whether a signature takes or gives as much as a table, or a plan, by value: an array, or a struct that holds one.
+fn copies(signature: &str, structs: &BTreeMap<String, usize>) -> bool {
+    let flat: String = signature.chars().filter(|c| !c.is_whitespace()).collect();
+    let (parameters, result) = flat.rsplit_once("->").unwrap_or((flat.as_str(), ""));
+    let parameters = parameters.split_once('(').map_or("", |(_, rest)| rest).trim_end_matches(')');
+    let mut types: Vec<&str> =
+        parameters.split(',').filter_map(|parameter| parameter.split_once(':')).map(|(_, of)| of).collect();
+    types.push(result);
+    types
+        .iter()
+        .any(|of| !of.starts_with('&') && (of.rsplit("::").next() == Some("Plan") || TABLE <= elements(of, structs)))
+}
+
+/// A crate and all crates that it rests on, by crates.txt.
+fn with_what_it_rests_on(name: &str) -> Vec<String> {
+    let list =
+        std::fs::read_to_string(Path::new(env!("CARGO_MANIFEST_DIR")).join("../crates.txt")).expect("crates.txt");
+    let rests_on: BTreeMap<&str, Vec<&str>> = list
+        .lines()
+        .filter_map(|line| line.split('#').next().expect("the part before a comment").split_once(':'))
+        .map(|(name, others)| (name, others.split_whitespace().collect()))
+        .collect();
+    let mut found = vec![name.to_owned()];
+    let mut at = 0;
+    while at < found.len() {
+        for other in rests_on.get(found[at].as_str()).unwrap_or_else(|| panic!("no crate {}", found[at])) {
+            if rests_on.contains_key(other) && !found.iter().any(|name| name == other) {
+                found.push((*other).to_owned());
+            }
+        }
+        at += 1;
+    }
+    found
+}
+
+/// The sources of a crate and of all that it rests on.
+fn sources(name: &str) -> String {
     let folder = Path::new(env!("CARGO_MANIFEST_DIR")).join("../crates");
     let mut text = String::new();
-    for name in crates {
+    for name in with_what_it_rests_on(name) {
         let files = std::fs::read_dir(folder.join(name).join("src")).expect("the sources of a crate");
         let mut files: Vec<_> = files.map(|file| file.expect("a file").path()).collect();
         files.sort();
@@ -71,19 +125,20 @@ fn sources(crates: &[&str]) -> String {
 /// `write` of the circuit writes the legs, one call of `write_leg` each.
 #[test]
 fn a_leg_copies_neither_the_table_nor_the_plan() {
-    let all = functions(&sources(&["circuit", "shortest"]));
+    let text = sources("circuit");
+    let (all, structs) = (functions(&text), structs(&text));
     let way = reached(&all, "write");
     for name in ["write_leg", "path", "column_to", "next_arc", "leads"] {
         assert!(way.iter().any(|other| other == name), "`{name}` is not on the way of a leg: {way:?}");
     }
-    let copying: Vec<_> = way.iter().filter(|name| copies(&all[*name].0)).collect();
+    let copying: Vec<_> = way.iter().filter(|name| copies(&all[*name].0, &structs)).collect();
     assert!(copying.is_empty(), "made for each leg, with a copy: {copying:?}");
 }
 
 /// The distance call searches from one vertex at a time.
 #[test]
 fn a_page_computes_no_table() {
-    let all = functions(&sources(&["distances", "shortest"]));
+    let all = functions(&sources("distances"));
     let way = reached(&all, "distance_call");
     assert!(way.iter().any(|name| name == "row"), "no row is computed: {way:?}");
     assert!(way.iter().all(|name| name != "table"), "the table is computed: {way:?}");
@@ -92,7 +147,7 @@ fn a_page_computes_no_table() {
 /// The call for two cars computes both tables, each in one place, and nothing that it does for a car computes one.
 #[test]
 fn two_cars_share_the_tables() {
-    let all = functions(&sources(&["two_cars", "planner", "network", "circuit", "shortest"]));
+    let all = functions(&sources("two_cars"));
     let (_, body) = &all["two_cars"];
     for table in ["weights::table(", "distance::table_of("] {
         assert_eq!(body.matches(table).count(), 1, "{table}");
@@ -113,10 +168,16 @@ fn a_copy_is_seen() {
     let taken = "fn write(t: &[[u32; 64]; 64]) { leg(*t) } // a copy\nfn leg(t: [[u32; 64]; 64]) -> u32 { t[0][0] }";
     let given = "fn write() { leg() }\nfn leg() -> [[u32; 64]; 64]\n    requires { ⌜ x ⌝ }\n{ table }";
     let plan = "fn write(p: &Rows) { leg(p) }\nfn leg(\n    plan: Plan,\n    v: usize,\n) -> usize { v }";
-    for (source, expected) in [(lent, false), (taken, true), (given, true), (plan, true)] {
-        let all = functions(source);
+    let flat = "fn write(t: &[u32; 4096]) { leg(*t) }\nfn leg(t: [u32; 4096]) -> u32 { t[0] }";
+    let held = "struct Tables { d: [[u32; 64]; 64], n: usize }\nstruct Both { t: Tables }\nfn write(b: &Rows) { leg(b) }\nfn leg(b: crate::Both) -> u32 { 0 }";
+    let row =
+        "struct Row { d: [u32; 64] }\nfn write(r: &Row) { leg(r) }\nfn leg(r: Row, c: [u16; 320]) -> [u32; 64] { r.d }";
+    for (source, expected) in
+        [(lent, false), (taken, true), (given, true), (plan, true), (flat, true), (held, true), (row, false)]
+    {
+        let (all, structs) = (functions(source), structs(source));
         let way = reached(&all, "write");
         assert_eq!(way, ["write", "leg"]);
-        assert_eq!(way.iter().any(|name| copies(&all[name].0)), expected, "{source}");
+        assert_eq!(way.iter().any(|name| copies(&all[name].0, &structs)), expected, "{source}");
     }
 }

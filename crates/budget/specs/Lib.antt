@@ -1,3 +1,2 @@
 -- The budget type.
 pub mod Checks
-pub mod Laws

@@ -3,6 +3,4 @@ pub mod Reading
 pub mod Writing
 pub mod Cars
 pub mod Editing
-pub mod Lent
 pub mod Turns
-pub mod LentTurns

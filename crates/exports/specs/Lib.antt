@@ -6,6 +6,3 @@ pub mod Editing
 pub mod Turns
 -- What is proved about them.
 pub mod Laws
-pub mod Theorem
-pub mod TurnsTheorem
-pub mod JudgedTheorem

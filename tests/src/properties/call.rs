@@ -53,7 +53,7 @@ impl Case {
 }
 
 /// Makes a call on a sheet filled with one number; the sheet comes back too.
-pub(super) fn call<T>(
+pub(crate) fn call<T>(
     found: &mut Findings,
     places: usize,
     fill: u16,
@@ -66,7 +66,7 @@ pub(super) fn call<T>(
 }
 
 /// No arc has these numbers.
-pub(super) const FILL: u16 = 0xA5A5;
+pub(crate) const FILL: u16 = 0xA5A5;
 const OTHER_FILL: u16 = 0x5A5A;
 
 /// Holds calls that may be refused to the oracle's refusal, and a refusal to the sheet.

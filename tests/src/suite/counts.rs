@@ -1,7 +1,9 @@
 //! Numbers of trees.
 
 use super::{case_a, case_b, case_c, files_around, fullest_files, random_case};
-use crate::instances::{crossing, even, fullest, joined, one_above, star, towns, Entries, Shape, HIGHEST_COUNT};
+use crate::instances::{
+    bound_choices, crossing, even, free_circles, fullest, joined, one_above, star, towns, Entries, Shape, HIGHEST_COUNT,
+};
 use crate::oracle::{file_of, Effort};
 use crate::plan::{Plan, LONGEST_FILE};
 use crate::planner::{Counter, Planner, TreeCount};
@@ -24,6 +26,8 @@ fn stated() -> Vec<(&'static str, Plan, TreeCount)> {
         ("A, one part", case_a(), Known(1)),
         ("B", case_b(), Known(1)),
         ("C", case_c(), Known(2)),
+        ("free arcs between all", free_circles(3), Known(1)),
+        ("low choices bind", bound_choices(), Known(3)),
         ("one part, all arcs", fullest(), Known(1)),
         ("the highest number", joined(&HIGHEST_COUNT), Known(4_294_967_295)),
         ("one above it", joined(&one_above()), Above),

@@ -1,7 +1,7 @@
 //! Both editions and the checking cost, in document 02's numbers.
 
-use super::faults;
 use super::stated::{case_a, case_c, Row, Stated, FILE_A};
+use super::{faults, layout};
 use crate::instances::{checked, fullest};
 use crate::oracle::file_of;
 use crate::plan::{Arc, Plan, CLOSED, OPTIONAL};
@@ -137,6 +137,7 @@ pub fn run_stated_codec(found: &mut Findings, codec: &dyn Codec) {
             found.expect(Property::Stated, told == stated, || format!("256 arcs into {room} bytes: {told:?}"));
         }
     }
+    layout::run(found, codec);
     faults::run_codec(found, codec);
 }
 

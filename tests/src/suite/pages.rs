@@ -1,6 +1,6 @@
 //! Pages of distances: the limits and the stated cases, random plans, and files of every kind.
 
-use super::{damaged_file, Shape, FILE_A};
+use super::{damaged_file, tables, Shape, FILE_A};
 use crate::instances::{fullest, random_plan};
 use crate::oracle::file_of;
 use crate::plan::{Arc, Plan, CLOSED, MOST_PAIRS, OPTIONAL, REQUIRED};
@@ -8,11 +8,11 @@ use crate::planner::DistanceCall;
 use crate::properties::{examine_page, Findings, Property};
 use crate::random::Random;
 
-const fn pair(first: u16, second: u16) -> u16 {
+pub(super) const fn pair(first: u16, second: u16) -> u16 {
     256 * first + second
 }
 
-const NO_PATH: u32 = 4_294_967_295;
+pub(super) const NO_PATH: u32 = 4_294_967_295;
 
 /// What a page answers: its searches and its entries, or the refusal.
 type Stated = Result<(usize, Vec<u32>), u32>;
@@ -109,6 +109,7 @@ pub fn run_pages(found: &mut Findings, call: &dyn DistanceCall, seed: u64, round
         found.expect(Property::Stated, told == stated, || format!("{what}: {told:?} instead of {stated:?}"));
         examine_page(found, call, &file, &pairs, room);
     }
+    tables::run(found, call);
     let random = &mut Random::new(seed);
     let mut plans = vec![fullest(), all(CLOSED)];
     for _ in 0..200 * rounds {

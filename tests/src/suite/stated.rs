@@ -1,14 +1,14 @@
 //! Document 01's cases and limits, in its own numbers.
 
-use super::{editions, faults};
-use crate::instances::{free_circles, fullest};
+use super::{answers, editions, faults};
+use crate::instances::{free_circles, fullest, parallel};
 use crate::oracle::file_of;
 use crate::plan::{Arc, Plan, CLOSED, OPTIONAL, REQUIRED};
 use crate::planner::{Planner, Refusal};
 use crate::properties::{Findings, Property};
 
 /// A plan as document 01 writes it: arcs are (tail, head, standing, cost).
-fn plan(n: usize, arcs: &[(usize, usize, u8, u16)]) -> Plan {
+pub(super) fn plan(n: usize, arcs: &[(usize, usize, u8, u16)]) -> Plan {
     Plan::new(n, arcs.iter().map(|&(t, h, standing, cost)| Arc::new(t, h, standing, cost)).collect())
 }
 
@@ -36,8 +36,18 @@ pub fn case_c() -> Plan {
     plan(3, &[&loops[..], &ways].concat())
 }
 
+/// A's first arc alone.
+pub(super) fn case_d() -> Plan {
+    plan(2, &[(0, 1, REQUIRED, 5)])
+}
+
+/// A without a required arc.
+pub(super) fn case_e() -> Plan {
+    plan(2, &[(0, 1, OPTIONAL, 5), (1, 0, OPTIONAL, 3)])
+}
+
 /// A required loop of cost 1 at each vertex.
-fn loops(n: usize) -> Plan {
+pub(super) fn loops(n: usize) -> Plan {
     Plan::new(n, (0..n).map(|v| Arc::new(v, v, REQUIRED, 1)).collect())
 }
 
@@ -61,7 +71,6 @@ impl Row {
 
 /// The cases, on a sheet that is just long enough.
 pub(super) fn cases() -> Vec<Row> {
-    let idle = plan(2, &[(0, 1, OPTIONAL, 5), (1, 0, OPTIONAL, 3)]);
     let circle = Plan::new(64, (0..64).map(|v| Arc::new(v, (v + 1) % 64, REQUIRED, 1)).collect());
     let mut wider = fullest();
     wider.arcs.push(Arc::new(0, 0, CLOSED, 1));
@@ -70,9 +79,10 @@ pub(super) fn cases() -> Vec<Row> {
         ("B", case_b(), 10_000, Ok((22, 1, true, 2))),
         ("C, one tree", case_c(), 1, Ok((14, 1, false, 3))),
         ("C, two trees", case_c(), 2, Ok((9, 2, true, 3))),
-        ("D", plan(2, &[(0, 1, REQUIRED, 5)]), 10_000, Err(12)),
-        ("E", idle.clone(), 10_000, Err(10)),
-        ("E, budget first", idle, 0, Err(9)),
+        ("D", case_d(), 10_000, Err(12)),
+        ("D, budget first", case_d(), 0, Err(9)),
+        ("E", case_e(), 10_000, Err(10)),
+        ("E, budget first", case_e(), 0, Err(9)),
         ("F, eight", loops(8), 10_000, Err(12)),
         ("F, nine", loops(9), 10_000, Err(11)),
         ("G, cost 0", case_a_with(OPTIONAL, 0), 10_000, Ok((5, 1, true, 1))),
@@ -86,6 +96,7 @@ pub(super) fn cases() -> Vec<Row> {
             1,
             Ok((8, 1, true, 1)),
         ),
+        ("parallel arcs", parallel(), 10_000, Err(12)),
         ("n 64", circle, 10_000, Ok((64, 1, true, 1))),
         ("n 65", Plan { n: 65, ..case_a() }, 10_000, Err(3)),
         ("n 0", Plan { n: 0, ..case_a() }, 10_000, Err(3)),
@@ -165,4 +176,5 @@ pub fn run_stated(found: &mut Findings, planner: &dyn Planner) {
     let drive = short.is_ok_and(|a| (a.cost, a.floor) == (8, 8) && sheet[..a.places] == [0, 1]);
     let refused = planner.short_call(&FILE_A, &mut sheet[..17_265]) == Err(8);
     found.expect(Property::Stated, drive && refused, || "the short call on A".to_string());
+    answers::run(found, planner);
 }

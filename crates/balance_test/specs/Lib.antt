@@ -1,3 +1,0 @@
--- Tests of a table and of lists of vertices, and what they tell.
-pub mod Checks
-pub mod Laws

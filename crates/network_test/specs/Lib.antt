@@ -1,2 +1,0 @@
--- The records of a plan with one arc more.
-pub mod Copied

@@ -1,0 +1,3 @@
+-- What is lent again.
+pub mod Lent
+pub mod LentTurns
