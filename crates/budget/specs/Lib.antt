@@ -1,2 +1,3 @@
 -- The budget type.
 pub mod Checks
+pub mod Laws
