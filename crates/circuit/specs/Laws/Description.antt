@@ -222,7 +222,7 @@ module _ (p : Plan) (ok : WellFormed p) (t : List Link) (amounts : List ℕ) (h 
         let b = sum-le of-units 0 0 n (λ e l g. let z = no-unit e (omega arith) in omega arith) in
         let c = sum-le of-units 0 n m (λ e l g. let z = no-unit e (omega arith) in omega arith) in
         let d = sum-by of-units (λ l. howOften i j (l ∷ [])) (n + m) (units amounts) noLink unit-at ∙ often-sum i j (units amounts)
-            ∙ often-weight i j (units amounts) ∙ units-pair p (ok .vertices) amounts (h .between) i j mi mj in
+        ∙ often-weight i j (units amounts) ∙ units-pair p (ok .vertices) amounts (h .between) i j mi mj in
         omega arith
 
   -- ---- what a leg that is no required arc follows
