@@ -4,6 +4,7 @@ use mathlib.Core.Bool.{Bool, true, false, cond}
 use mathlib.Core.Option.{Option, none, some}
 use Prim.Native.Nat.{ℕ, zero, suc, _+_, _*_, _%_, _≤_, _<_}
 use native.Mathlib.Omega.{arith}
+use lib.Dec.{T}
 use lib.IntN.{ℤ, pos, negsuc, negℤ, natAbs}
 use Rattle.refusal.specs.declared.Verdict.{Verdict}
 use Rattle.refusal.specs.declared.Verdict.the-variants.{Accepted, Refused}
@@ -26,9 +27,14 @@ module _ (first second : Option ℕ) (b : ℕ) (e : b ≡ ownNumber second) wher
 
 -- ---- what the number tells
 
+isNegative : ℤ → Bool
+isNegative (pos n) = false
+isNegative (negsuc n) = true
+
 not-negative : (k x : ℕ) → 1 ≤ k → negℤ (pos k) ≡ pos x → ⊥
+unfolding isNegative
 not-negative zero x l e = absurd (omega arith)
-not-negative (suc k) x l e = subst (λ (i : ℤ). elim i [ pos n ↦ ⊥ | negsuc n ↦ Unit {0} ]) e tt
+not-negative (suc k) x l e = subst T (ap isNegative e) tt
 
 pub first-told : (v w : Verdict) (x : ℕ) → carsNumber (verdictNumber v) (verdictNumber w) ≡ pos x → x < 256 → verdictNumber v ≡ none
 first-told Accepted w x e l = refl
