@@ -9,9 +9,10 @@ use Rattle.postman.specs.Plan.{Plan, requiredNumbers}
 use Rattle.postman.specs.Tour.{walkCost, IsTour, tourCost}
 use Rattle.postman.specs.Required.{required, requiredCost}
 use Rattle.postman.specs.Distance.{noPath, distance}
-use Rattle.postman.specs.FewestPath.{IsFewestPath, IsLaid}
+use Rattle.postman.specs.FewestPath.{IsFewestPath}
 use Rattle.postman.specs.Link.{Link}
 use Rattle.postman.specs.Balancing.{linkCost, balancingCost}
+use Rattle.postman.specs.Description.{IsLaid}
 use Rattle.postman.specs.PlanCall.{sheetPlaces}
 use Rattle.paths.specs.ShortestPath.{shortestPath}
 use Rattle.hierholzer.specs.Circuit.{circuit}
@@ -61,4 +62,4 @@ pub record IsCompletion (p : Plan) (t : List Link) (amounts w : List ℕ) : Type
   pub nonempty : 0 < length w
   pub first : getD w 0 0 ≡ getD (requiredNumbers p) 0 0
   pub short : length w ≤ sheetPlaces
-  pub laid : IsLaid p w
+  pub laid : IsLaid p t (amount amounts) w

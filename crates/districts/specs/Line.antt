@@ -8,7 +8,7 @@ use lib.Dec.{leb, ltb}
 use Rattle.postman.specs.Lists.{below, firstIndex, occurs}
 use Rattle.postman.specs.Refusal.{Conditions, firstRefusal, unless}
 use Rattle.postman.specs.PlanFile.{fileConditions, isOutside, planOf}
-use Rattle.postman.specs.PlanCall.{highestBudget, sheetPlaces, lastConditions, triedCount}
+use Rattle.postman.specs.PlanCall.{highestBudget, budgetConditions, sheetPlaces, lastConditions, triedCount}
 use Rattle.solution.specs.Resumed.{turnTrees}
 
 -- A district that is not finished: its place, its plan and budget as it entered with them, and how many trees were tried.
@@ -33,7 +33,7 @@ places l = map (λ (d : District). d .place) l
 -- "22 full: eight districts are unfinished; at entry, after the plan call's own refusals but 8."
 unfoldable pub entryConditions : Line → List ℕ → ℕ → Conditions
 unfolding fileConditions isOutside highestBudget planOf
-entryConditions l bytes budget = fileConditions bytes ++ ((isOutside budget 1 highestBudget, 9) ∷ (lastConditions (planOf bytes) ++ (leb 8 (length l), 22) ∷ []))
+entryConditions l bytes budget = fileConditions bytes ++ (budgetConditions budget ++ (lastConditions (planOf bytes) ++ (leb 8 (length l), 22) ∷ []))
 
 unfoldable pub entryRefusal : Line → List ℕ → ℕ → Option ℕ
 unfolding firstRefusal entryConditions

@@ -9,7 +9,7 @@ use lib.ListN.{length, take, drop, replicate}
 use lib.IntN.{pos}
 use Rattle.postman.specs.Refusal.{firstRefusal}
 use Rattle.postman.specs.PlanFile.{fileConditions, isOutside, planOf}
-use Rattle.postman.specs.PlanCall.{sheetPlaces, highestBudget, lastConditions, bestCost}
+use Rattle.postman.specs.PlanCall.{sheetPlaces, highestBudget, budgetConditions, lastConditions, bestCost}
 use Rattle.refusal.specs.Verdict.{refusalNumber}
 use Rattle.refusal.specs.declared.Verdict.the-variants.{Accepted}
 use Rattle.solution.specs.declared.Planned.{Planned}
@@ -69,7 +69,7 @@ pub record IsSound (m : Machine) : Type 0 where
 -- The plan call's refusals but 8.
 unfoldable pub callPart : List ℕ → ℕ → Option ℕ
 unfolding firstRefusal fileConditions isOutside highestBudget planOf
-callPart bytes budget = firstRefusal (fileConditions bytes ++ ((isOutside budget 1 highestBudget, 9) ∷ lastConditions (planOf bytes)))
+callPart bytes budget = firstRefusal (fileConditions bytes ++ (budgetConditions budget ++ lastConditions (planOf bytes)))
 
 -- The number of a refused entry.
 abbrev pub admissionNumber : Admission → Option ℕ

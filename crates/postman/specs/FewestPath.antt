@@ -1,15 +1,13 @@
--- "The shortest-path part shall promise the fewest arcs among the cheapest paths. Among those it gives the lowest list of arc numbers, compared from the front. Legs for
--- links and balancing legs then follow such paths, and the drive's description says so."
+-- "The shortest-path part shall promise the fewest arcs among the cheapest paths. Among those it gives the lowest list of arc numbers, compared from the front." The drive
+-- follows such paths (`Description`).
 use mathlib.Core.Path.{_≡_}
 use mathlib.Core.Bool.{Bool, true, false, not, _&&_, _||_}
-use mathlib.Core.List.{List, [], _∷_, flatMap, List·Memᴰ}
+use mathlib.Core.List.{List, [], _∷_, map}
 use Prim.Native.Nat.{ℕ, _≤_}
 use lib.ListN.{length}
 use lib.Dec.{T, eqb, ltb}
-use Rattle.postman.specs.Lists.{occurrences}
-use Rattle.postman.specs.Plan.{Plan, requiredNumbers}
+use Rattle.postman.specs.Plan.{Arc, Plan, arcAt}
 use Rattle.postman.specs.Tour.{IsWalk, walkCost}
-use Rattle.postman.specs.Required.{required}
 
 -- Whether a list comes before another, compared from the front.
 unfoldable pub isBefore : List ℕ → List ℕ → Bool
@@ -25,24 +23,6 @@ pub record IsFewestPath (p : Plan) (i j : ℕ) (w : List ℕ) : Type 0 where
   pub fewest : (v : List ℕ) → IsWalk (p .arcs) i v j → walkCost (p .arcs) v ≡ walkCost (p .arcs) w → length w ≤ length v
   pub lowest : (v : List ℕ) → IsWalk (p .arcs) i v j → walkCost (p .arcs) v ≡ walkCost (p .arcs) w → length v ≡ length w → T (not (isBefore v w))
 
--- A leg of a drive: a must arc, by its number, or a list of arcs from vertex i to vertex j.
-pub data Leg : Type 0 where
-  mustArc : ℕ → Leg
-  between : ℕ → ℕ → List ℕ → Leg
-
--- The places of a leg; and the must arcs that are legs of their own.
-unfoldable pub placesOfLeg : Leg → List ℕ
-placesOfLeg (mustArc k) = k ∷ []
-placesOfLeg (between i j w) = w
-
-unfoldable pub mustArcOf : Leg → List ℕ
-mustArcOf (mustArc k) = k ∷ []
-mustArcOf (between i j w) = []
-
--- The drive's description: its places are those of legs, one after the other; each must arc is a leg of its own, once; every other leg, for a link or for balancing, leads
--- from a required vertex to a required vertex along the path that is defined above.
-pub record IsLaid (p : Plan) (w : List ℕ) : Type 0 where
-  pub legs : List Leg
-  pub places : flatMap placesOfLeg legs ≡ w
-  pub must-arcs : (k : ℕ) → occurrences k (flatMap mustArcOf legs) ≡ occurrences k (requiredNumbers p)
-  pub paths : (i j : ℕ) (v : List ℕ) → List·Memᴰ (between i j v) legs → List·Memᴰ i (required p) × List·Memᴰ j (required p) × IsFewestPath p i j v
+-- The vertices that a walk from i visits, in their order.
+abbrev pub visited : List Arc → ℕ → List ℕ → List ℕ
+visited arcs i w = i ∷ map (λ k. arcAt arcs k .head) w

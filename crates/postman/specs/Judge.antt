@@ -8,7 +8,7 @@ use lib.Dec.{eqb, ltb, leb}
 use Rattle.postman.specs.Lists.{anyOf}
 use Rattle.postman.specs.Plan.{Arc, Plan, isOpen, arcAt, requiredArcs, requiredNumbers}
 use Rattle.postman.specs.Refusal.{Conditions, firstRefusal, Answer, answer}
-use Rattle.postman.specs.PlanFile.{edition, vertexCount, arcCount, planOf, editionConditions, extentConditions, bodyConditions}
+use Rattle.postman.specs.PlanFile.{edition, vertexCount, arcCount, planOf, editionConditions, extentConditions, bodyConditions, fileConditionsWith}
 use Rattle.postman.specs.Tour.{tourCost}
 
 -- ---- the faults of a list
@@ -49,12 +49,7 @@ highestPlaces = 65535
 
 unfoldable pub lentConditions : List ℕ → ℕ → Conditions
 unfolding edition editionConditions extentConditions vertexCount arcCount bodyConditions planOf highestPlaces
-lentConditions bytes places =
-    (ltb (length bytes) 3, 1)
-    ∷ editionConditions (edition bytes)
-    ++ extentConditions (vertexCount bytes) (arcCount bytes)
-    ++ (ltb highestPlaces places, 3) ∷ []
-    ++ bodyConditions bytes (edition bytes) (arcCount bytes) (planOf bytes)
+lentConditions bytes places = fileConditionsWith ((ltb highestPlaces places, 3) ∷ []) bytes
 
 -- "1 to 7, 10 and 13", with "8, 9, 11 and 12 not applied": the conditions under which the list itself is not looked at.
 unfoldable pub unjudgedConditions : List ℕ → ℕ → Conditions

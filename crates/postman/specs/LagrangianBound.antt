@@ -46,7 +46,8 @@ pub record AreMultipliers (p : Plan) (u : Multipliers) : Type 0 where
   pub feasible : (i j : ℕ) → List·Memᴰ i (required p) → List·Memᴰ j (required p) → pos 0 ≤ℤ reducedCost p u i j
   pub tight : priceOfImbalance p u ≡ pos (leastBalancing p [])
 
--- The multipliers that we answer: the greatest that are 0 at a root, which is a required vertex. `Laws.Multiplier`: a root has at most one such u.
+-- The greatest multipliers that are 0 at a root, which is a required vertex. `Laws.Multiplier`: a root has at most one such u. Those that we answer are found from them, and give a
+-- bound no lower.
 pub record AreGreatest (p : Plan) (root : ℕ) (u : Multipliers) : Type 0 where
   pub multipliers : AreMultipliers p u
   pub at-root : u root ≡ pos 0

@@ -12,6 +12,7 @@ pub mod Link
 pub mod Component
 pub mod Arborescence
 pub mod Balancing
+pub mod Description
 pub mod LagrangianBound
 pub mod PlanCall
 pub mod TreeCount

@@ -132,14 +132,18 @@ bodyConditions bytes e m p =
     ∷ (ltb (fileLength e m) (length bytes) || not (eqb (fillBits bytes e m) 0), 4)
     ∷ planConditions e p
 
--- "Order: 1 (three bytes), 2, 3", and from the length on
-unfoldable pub fileConditions : List ℕ → Conditions
-unfolding edition editionConditions extentConditions vertexCount arcCount bodyConditions planOf
-fileConditions bytes =
+-- "Order: 1 (three bytes), 2, 3", and from the length on; `own` are conditions that a call has together with n and m.
+abbrev pub fileConditionsWith : Conditions → List ℕ → Conditions
+fileConditionsWith own bytes =
     (ltb (length bytes) 3, 1)
     ∷ editionConditions (edition bytes)
     ++ extentConditions (vertexCount bytes) (arcCount bytes)
+    ++ own
     ++ bodyConditions bytes (edition bytes) (arcCount bytes) (planOf bytes)
+
+unfoldable pub fileConditions : List ℕ → Conditions
+unfolding edition editionConditions extentConditions vertexCount arcCount bodyConditions planOf
+fileConditions bytes = fileConditionsWith [] bytes
 
 -- ---- reading
 

@@ -77,11 +77,3 @@ cut-off-at bytes budget places numbers d =
       λ e. let h = r .0 (sym c ∙ e) in (h .0, λ w t a. h .1 w (tours p ws d (sure (h .0) .none-shut) w .1 (t, a))),
       λ h. c ∙ r .1 (h .0, λ w t. let g = tours p ws d (sure (h .0) .none-shut) w .0 t in h .1 w (g .0) (g .1)),
     )
-
--- a larger budget never gives a dearer cost, nor, at the same u, a lower bound that is lower
-pub larger-budget : (bytes : List ℕ) (b c places : ℕ) → callRefusal bytes b places ≡ none → b ≤ c → (u : Multipliers) → AreMultipliers (planOf bytes) u
-    → (bestCost (planOf bytes) c ≤ bestCost (planOf bytes) b) × (lowerBound (planOf bytes) b u ≤ℤ lowerBound (planOf bytes) c u)
-larger-budget bytes b c places e l u h =
-    let k = plannable bytes b places e in
-    let s = call-accepted bytes b places e .earlier .some-budget in
-    (larger-cost (planOf bytes) k b c s l, larger-bound (planOf bytes) k b c s l u h)

@@ -1,4 +1,3 @@
--- What is lent again, and the plan call and judging together.
-pub mod Judged
+-- What is lent again.
 pub mod Lent
 pub mod LentTurns

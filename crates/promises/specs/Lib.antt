@@ -1,5 +1,6 @@
--- Over an open plan's bytes, and over a machine's.
+-- Over an open plan's bytes, over a machine's, and of drives that are judged.
 pub mod HistoryTheorem
 pub mod TurnsTheorem
+pub mod JudgedTheorem
 -- How they are proved.
 pub mod Laws

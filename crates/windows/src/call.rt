@@ -22,17 +22,17 @@ ghost use Rattle.refusal.specs.Verdict.{verdictNumber};
 ghost use Rattle.solution.specs.Planned.{IsPlanned};
 ghost use Rattle.windows.specs.Contract.{departure, IsPlanCallAt};
 
-// 19, then 20: all windows are tested before any is used.
+// 19, then 20: the list's length is tested first, then every window, and only good ones are used.
 fn windows_verdict(plan: Plan, windows: &[u16], weekday: u32, minute: u32) -> Verdict
     requires { ⌜ plan .m ≤ 256 ⌝ }
     ensures { λ r. ⌜ verdictNumber r ≡ firstRefusal (windowConditions (planValue plan) (now (windows .entry)) (departure weekday minute)) ⌝ }
 {
     let m = plan.m as usize;
     let bad = has_bad_window(m, windows, weekday, minute);
-    let shut = must_shut(plan, windows, weekday, minute);
     if bad {
         return Verdict::Refused(Refusal::BadWindow);
     }
+    let shut = must_shut(plan, windows, weekday, minute);
     if shut {
         return Verdict::Refused(Refusal::MustShut);
     }

@@ -3,7 +3,7 @@ use mathlib.Core.Path.{_≡_, refl, sym, ap, _∙_, subst⁻¹}
 use mathlib.Core.Bool.{Bool, true, false, cond}
 use mathlib.Core.List.{List, [], _∷_}
 use mathlib.Core.Option.{Option, none, some}
-use Prim.Native.Nat.{ℕ, _+_, _^_, _≤_, _<_}
+use Prim.Native.Nat.{ℕ, zero, suc, _+_, _^_, _≤_, _<_}
 use native.Mathlib.Omega.{arith}
 use native.Mathlib.Numerals.{add-one}
 use borrow.Author.Tests.{ltb-true, ltb-false}
@@ -13,12 +13,15 @@ use lib.Signed.{mag}
 use Rattle.integers.specs.Linear.{back64}
 use lib.Dec.{ltb}
 use lib.IntN.{ℤ, pos, negℤ, natAbs}
-use lib.ListN.{length, getD, set, length-set}
-use lib.Seq.{paste, paste-zero, paste-suc}
+use lib.ListN.{length, getD, set, take, drop, length-set, length-take, List·getD-append}
+use lib.Seq.{paste, paste-zero, paste-suc, getD-take}
 use Rattle.records.specs.Writing.{atMost}
 use Rattle.postman.specs.Refusal.{answer, unless}
 use Rattle.solution.specs.declared.Planned.{Planned}
-use Rattle.refusal.specs.Verdict.{verdictNumber}
+use Rattle.refusal.specs.declared.Verdict.{Verdict}
+use Rattle.refusal.specs.declared.Verdict.the-variants.{Accepted, Refused}
+use Rattle.refusal.specs.Verdict.{refusalNumber, verdictNumber}
+use Rattle.refusal.specs.Laws.{some-number}
 use Rattle.answers.specs.Answer.{wordsOf, putFirst, IsHandedOver}
 use Rattle.answers.specs.Number.{oneNumber}
 
@@ -28,6 +31,13 @@ at-most-le a b = at (ltb a b) refl
     at : (x : Bool) → ltb a b ≡ x → (cond x a b ≤ a) × (cond x a b ≤ b)
     at true e = let l = ltb-true a b e in (omega arith, omega arith)
     at false e = let l = ltb-false a b e in (omega arith, omega arith)
+
+at-most-above : (a b k : ℕ) → k < a → k < b → k < atMost a b
+at-most-above a b k l m = at (ltb a b)
+  where
+    at : (x : Bool) → k < cond x a b
+    at true = l
+    at false = m
 
 -- m elements are new, and n of them have room
 module _ {A : Type 0} (new old : List A) (m : ℕ) where
@@ -74,6 +84,24 @@ module _ {A : Type 0} (new old : List A) (m : ℕ) where
       let t = h .turns in
       let e : i ≡ n = omega arith in
       h .content ∙ ap (paste old 0 new) (e ∙ h .count ∙ ap (atMost (length old)) (sym (h .new-size)))
+
+-- what was put can be read there
+pub put-at : {A : Type 0} (new old : List A) (z : A) (k : ℕ) → k < length old → k < length new → getD (putFirst new old) k z ≡ getD new k z
+put-at new old z k a b =
+    let n = atMost (length old) (length new) in
+    let l = at-most-above (length old) (length new) k a b in
+    let s = length-take n new in
+    List·getD-append (take n new) (drop (0 + n) old) z k (omega arith) ∙ getD-take n new k z l
+
+-- a number that is 0 is that of an answer
+pub answered-zero : (v : Verdict) → oneNumber (answer (verdictNumber v) 0) ≡ pos 0 → verdictNumber v ≡ none
+unfolding answer
+answered-zero Accepted e = refl
+answered-zero (Refused r) e = let a = some-number r .0 in let b = ap natAbs e in let c = abs-neg (refusalNumber r) in absurd (omega arith)
+  where
+    abs-neg : (k : ℕ) → natAbs (negℤ (pos k)) ≡ k
+    abs-neg zero = refl
+    abs-neg (suc k) = refl
 
 pub words-are : (r : Planned) (f : ℕ) → f ≡ natAbs (r .floor) → r .places ∷ r .cost ∷ f ∷ r .trees ∷ boolByte (r .whole) ∷ r .parts ∷ [] ≡ wordsOf r
 words-are r f e = let b = byte (r .whole) in rw (e, b)

@@ -74,7 +74,7 @@ length-flat f (e ∷ w) = let h = length-flat f w in let a = length-append (f e)
 
 -- ---- a sum over numbers below m + n, in two parts
 
-sum-map-append : (f : ℕ → ℕ) (xs ys : List ℕ) → sumOf (map f (xs ++ ys)) ≡ sumOf (map f xs) + sumOf (map f ys)
+pub sum-map-append : (f : ℕ → ℕ) (xs ys : List ℕ) → sumOf (map f (xs ++ ys)) ≡ sumOf (map f xs) + sumOf (map f ys)
 unfolding sumOf
 sum-map-append f [] ys = omega arith
 sum-map-append f (x ∷ xs) ys = let h = sum-map-append f xs ys in omega arith
@@ -97,7 +97,7 @@ sum-le f c a (suc n) h =
     let e = suc-mul n c in
     omega arith
 
-abbrev noLink : Link
+abbrev pub noLink : Link
 noLink = record { tail = 0; head = 0 }
 
 module _ (p : Plan) (t : List Link) (amounts : List ℕ) where
@@ -126,7 +126,7 @@ module _ (p : Plan) (t : List Link) (amounts : List ℕ) where
         ap (λ z. getD z e 0) split ∙ List·getD-append (map (λ k. f (arcLeg (arcAt (p .arcs) k))) numbers) (map f others) 0 e (omega arith)
         ∙ getD-map-in (λ k. f (arcLeg (arcAt (p .arcs) k))) numbers e 0 l
 
-    at-other : (k : ℕ) → k < length others → getD (map f (legs p t amounts)) (length numbers + k) 0 ≡ f (getD others k noLink)
+    pub at-other : (k : ℕ) → k < length others → getD (map f (legs p t amounts)) (length numbers + k) 0 ≡ f (getD others k noLink)
     at-other k l =
         ap (λ z. getD z (length numbers + k) 0) split
         ∙ ap (λ z. getD (map (λ k. f (arcLeg (arcAt (p .arcs) k))) numbers ++ map f others) (z + k) 0) (sym first-length)

@@ -2,7 +2,7 @@
 use mathlib.Core.Path.{_≡_, refl, sym, ap, ap₂, _∙_}
 use mathlib.Core.List.{List, [], _∷_, _++_, flatMap, List·Memᴰ}
 use Prim.Native.Nat.{ℕ, zero, suc, _+_, _*_, _-_, _/_, _%_, _≤_, _<_}
-use native.Mathlib.Nat.{zero-mul, suc-mul, add-zero}
+use native.Mathlib.Nat.{zero-mul, suc-mul, add-zero, mul-one, mul-assoc}
 use native.Mathlib.Decide.{decLe}
 use native.Mathlib.Omega.{arith}
 use lib.ListN.{getD, replicate}
@@ -13,8 +13,8 @@ use Rattle.postman.specs.Required.{isRequired, required}
 use Rattle.postman.specs.Link.{Link}
 use Rattle.postman.specs.Balancing.{sumOver}
 use Rattle.postman.specs.Laws.Membership.{select-mem, upFrom-mem, below-mem}
-use Rattle.postman.specs.Laws.Sum.{sum-cong, sum-cong-mem, sum-none, sum-some, sum-append, out-sum, in-sum}
-use Rattle.postman.specs.Laws.Required.{required-lt}
+use Rattle.postman.specs.Laws.Sum.{sum-cong, sum-cong-mem, sum-none, sum-some, sum-append, sum-mul, sum-delta, out-sum, in-sum, once}
+use Rattle.postman.specs.Laws.Required.{required-lt, required-once}
 use Rattle.postman.specs.Laws.Assignment.{weight}
 use Rattle.postman.specs.Laws.LinkLegs.{ends}
 use Rattle.circuit.specs.Legs.{amount, pairAt, unitsBelow, units}
@@ -81,3 +81,16 @@ module _ (p : Plan) (small : p .n ≤ 64) where
 
     pub units-into : (a : ℕ) → weight (λ i j. delta a j) (ends (units amounts)) ≡ sumOver (required p) (λ i. amount amounts i a) * occurrences a (required p)
     units-into a = units-weight (λ i j. delta a j) ∙ in-sum (amount amounts) (required p) a
+
+    -- one pair of vertices: as often as its amount says
+    pub units-pair : (a b : ℕ) → List·Memᴰ a (required p) → List·Memᴰ b (required p) → weight (λ i j. delta a i * delta b j) (ends (units amounts)) ≡ amount amounts a b
+    units-pair a b ma mb =
+        let vs = required p in
+        let f = amount amounts in
+        units-weight (λ i j. delta a i * delta b j)
+        ∙ sum-cong vs (λ i. sumOver vs (λ j. f i j * (delta a i * delta b j))) (λ i. f i b * delta a i * occurrences b vs) (λ i.
+        sum-cong vs (λ j. f i j * (delta a i * delta b j)) (λ j. f i j * delta a i * delta b j) (λ j. sym (mul-assoc (f i j) (delta a i) (delta b j)))
+        ∙ sum-delta vs (λ j. f i j * delta a i) b)
+        ∙ sum-mul vs (λ i. f i b * delta a i) (occurrences b vs)
+        ∙ ap₂ _*_ (sum-delta vs (λ i. f i b) a ∙ ap (λ z. f a b * z) (once (required-once p) ma) ∙ mul-one (f a b)) (once (required-once p) mb)
+        ∙ mul-one (f a b)

@@ -14,7 +14,7 @@ use Rattle.postman.specs.Distance.{distance}
 use Rattle.postman.specs.Link.{Link}
 use Rattle.postman.specs.Component.{componentCount}
 use Rattle.postman.specs.Arborescence.{IsArborescence, arborescences}
-use Rattle.postman.specs.Balancing.{completionCost}
+use Rattle.postman.specs.Balancing.{balancingCost, leastBalancing, completionCost}
 use Rattle.postman.specs.PlanCall.{triedCount, bestArborescence, IsAnswerTour}
 use Rattle.postman.specs.Laws.Membership.{getD-map-upFrom}
 use Rattle.postman.specs.Laws.Required.{required-lt}
@@ -105,13 +105,13 @@ module _ (p : Plan) (ok : Plannable p) (few : componentCount p ≤ 8) where
       direct = one-way;
     }
 
+    least-amounts : balancingCost (required p) (distance p) (amount f) ≡ leastBalancing p t
+    unfolding amountsOf
+    least-amounts = direct-least p (ok .well-formed) (ok .connected) d agrees t joined short
+
     -- a drive that completes the tree, at its completion cost
     pub tree-tour : IsCompletion p t f (tour p t f) × (tourCost p (tour p t f) ≡ completionCost p t)
-    unfolding amountsOf
-    tree-tour = (
-      completion p (ok .well-formed) t f completes,
-      completes-at-least-cost p (ok .well-formed) t f completes (direct-least p (ok .well-formed) (ok .connected) d agrees t joined short),
-    )
+    tree-tour = (completion p (ok .well-formed) t f completes, completes-at-least-cost p (ok .well-formed) t f completes least-amounts)
 
   -- THE DRIVE: of the answer's cost, its first arc the lowest required arc, short enough
   pub answer-tour : (budget : ℕ) → 1 ≤ budget → IsAnswerTour p budget (tourOf p budget)
@@ -120,7 +120,9 @@ module _ (p : Plan) (ok : Plannable p) (few : componentCount p ≤ 8) where
       let n = some-arborescence p ok in
       let m = subst (λ (ts : List (List Link)). List·Memᴰ (bestArborescence p budget) ts) (take-append-drop (triedCount p budget) (arborescences p))
       (Memᴰ·append-left (drop (triedCount p budget) (arborescences p)) (best-mem p budget l n)) in
-      let r = tree-tour (bestArborescence p budget) (arborescences-mem p m) in
+      let t = bestArborescence p budget in
+      let a = arborescences-mem p m in
+      let r = tree-tour t a in
       let c = r .0 in
       record {
         tour = c .tour;
@@ -128,5 +130,11 @@ module _ (p : Plan) (ok : Plannable p) (few : componentCount p ≤ 8) where
         nonempty = c .nonempty;
         first = c .first;
         short = c .short;
+        tree = t;
+        tried = best-mem p budget l n;
+        least = best-value p budget l n;
+        amounts = amount (amountsOf p t);
+        balances = completes t a .balances;
+        balances-least = least-amounts t a;
         laid = c .laid;
       }

@@ -1,18 +1,20 @@
 -- The path is one at most: of two of them each is no dearer, has no more arcs and does not come after the other. A walk that is cut to n − 1 arcs is no dearer, so the path
--- has no more. Nothing here uses that costs are positive.
-use mathlib.Core.Path.{_≡_, refl, ap₂}
+-- has no more; and it visits no vertex twice, since what lies between two visits could be left out at no more cost. Nothing here uses that costs are positive.
+use mathlib.Core.Path.{_≡_, refl, ap₂, subst, subst⁻¹}
 use mathlib.Core.Logic.{inl, inr}
 use mathlib.Core.Bool.{not, _&&_, _||_}
-use mathlib.Core.List.{List, [], _∷_}
+use mathlib.Core.List.{List, [], _∷_, map}
 use Prim.Native.Nat.{ℕ, _-_, _≤_, _<_}
-use native.Mathlib.Decide.{ℕ-discrete}
+use native.Mathlib.Decide.{ℕ-discrete, decLe}
 use native.Mathlib.Omega.{arith}
 use lib.ListN.{length}
 use lib.Dec.{T, T-not, not-T, eqb, ltb, nltb→le, eqb→eq, ltb→lt}
-use Rattle.postman.specs.Plan.{Plan}
-use Rattle.postman.specs.Tour.{walkCost}
-use Rattle.postman.specs.FewestPath.{isBefore, IsFewestPath}
+use Rattle.postman.specs.Lists.{occurrences}
+use Rattle.postman.specs.Plan.{Arc, Plan, arcAt}
+use Rattle.postman.specs.Tour.{IsWalk, walkCost}
+use Rattle.postman.specs.FewestPath.{isBefore, IsFewestPath, visited}
 use Rattle.postman.specs.Laws.Tests.{and-both, and-parts, or-cases, not-or, eqb-same}
+use Rattle.postman.specs.Laws.Occurrences.{delta-yes, delta-no, delta-le}
 use Rattle.postman.specs.Laws.Distance.{InPlan, cut}
 
 -- ---- compared from the front
@@ -73,3 +75,50 @@ module _ (p : Plan) (i j : ℕ) where
       let d = h .fewest (s .0) (s .1) c in
       let e = s .2 in
       omega arith
+
+-- ---- no vertex twice
+
+module _ (arcs : List Arc) where
+  -- a walk from i to j that is shorter than n arcs and costs at most c
+  abbrev Shorter : ℕ → ℕ → ℕ → ℕ → Type 0
+  Shorter n i j c = (v : List ℕ) × IsWalk arcs i v j × (length v < n) × (walkCost arcs v ≤ c)
+
+  -- from a vertex that is entered on
+  entered-again : (x v j : ℕ) (w : List ℕ) → IsWalk arcs v w j → 1 ≤ occurrences x (map (λ k. arcAt arcs k .head) w) → Shorter (length w) x j (walkCost arcs w)
+  unfolding occurrences
+  entered-again x v j [] h o = absurd (omega arith)
+  entered-again x v j (k ∷ w) h o = elim (ℕ-discrete x (arcAt arcs k .head)) [
+    | yes e ↦ (w, subst⁻¹ (λ z. IsWalk arcs z w j) e (h .3), omega arith, omega arith)
+    | no n ↦
+        let d = delta-no _ _ n in
+        let r = entered-again x (arcAt arcs k .head) j w (h .3) (omega arith) in
+        let a = r .2 in
+        let b = r .3 in
+        (r .0, r .1, omega arith, omega arith)
+  ]
+
+  visited-twice : (x i j : ℕ) (w : List ℕ) → IsWalk arcs i w j → 2 ≤ occurrences x (visited arcs i w) → Shorter (length w) i j (walkCost arcs w)
+  unfolding occurrences
+  visited-twice x i j [] h o = let d = delta-le x i in absurd (omega arith)
+  visited-twice x i j (k ∷ w) h o = elim (ℕ-discrete x i) [
+    | yes e ↦ (let d = delta-yes e in subst (λ z. Shorter (length (k ∷ w)) z j (walkCost arcs (k ∷ w))) e (entered-again x i j (k ∷ w) h (omega arith)))
+    | no n ↦
+        let d = delta-no _ _ n in
+        let r = visited-twice x (arcAt arcs k .head) j w (h .3) (omega arith) in
+        let a = r .2 in
+        let b = r .3 in
+        (k ∷ r .0, (h .0, h .1, h .2, r .1), omega arith, omega arith)
+  ]
+
+-- "Paths written into a drive visit no vertex twice."
+pub fewest-once : (p : Plan) (i j : ℕ) (w : List ℕ) → IsFewestPath p i j w → (v : ℕ) → occurrences v (visited (p .arcs) i w) ≤ 1
+fewest-once p i j w h v = elim (decLe (occurrences v (visited (p .arcs) i w)) 1) [
+  | yes l ↦ l
+  | no l ↦
+      let r = visited-twice (p .arcs) v i j w (h .walk) (omega arith) in
+      let a = h .cheapest (r .0) (r .1) in
+      let b = r .3 in
+      let c = h .fewest (r .0) (r .1) (omega arith) in
+      let d = r .2 in
+      absurd (omega arith)
+]

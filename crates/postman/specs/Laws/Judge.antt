@@ -187,10 +187,12 @@ module _ (bytes w : List ℕ) where
   unfolding judgeAnswer
   tour-judged e h = answer-given (judgeRefusal bytes w) (tourCost p w) (judged e .1 h)
 
-  -- so does every tour of at most 65,535 places of a plan that the plan call does not refuse
+  -- so does every tour of at most 65,535 places of a file that reads, with some required arc; and of one that the plan call does not refuse
+  pub file-judged : firstRefusal (fileConditions bytes) ≡ none → 0 < length (requiredArcs p) → length w ≤ highestPlaces → IsTour p w → judgeAnswer bytes w ≡ given (tourCost p w)
+  file-judged f s l h = tour-judged (accepted-unjudged bytes (length w) (lent-short bytes (length w) l ∙ f) s) h
+
   pub call-judged : (budget places : ℕ) → callRefusal bytes budget places ≡ none → length w ≤ highestPlaces → IsTour p w → judgeAnswer bytes w ≡ given (tourCost p w)
-  call-judged budget places e l h =
-      tour-judged (accepted-unjudged bytes (length w) (lent-short bytes (length w) l ∙ call-file bytes budget places e) (call-accepted bytes budget places e .earlier .some-required)) h
+  call-judged budget places e l h = file-judged (call-file bytes budget places e) (call-accepted bytes budget places e .earlier .some-required) l h
 
 -- ---- what it costs
 

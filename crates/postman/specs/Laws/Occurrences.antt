@@ -24,7 +24,7 @@ pub delta-pos : (i j : ℕ) → 0 < delta i j → i ≡ j
 unfolding delta
 delta-pos i j = cond-ind (eqb i j) 1 0 (λ x. 0 < x → i ≡ j) (λ t h. eqb→eq i j t) (λ t h. absurd (omega arith))
 
-delta-le : (i j : ℕ) → delta i j ≤ 1
+pub delta-le : (i j : ℕ) → delta i j ≤ 1
 unfolding delta
 delta-le i j = cond-ind (eqb i j) 1 0 (λ x. x ≤ 1) (λ t. le-refl 1) (λ t. zero-le)
 

@@ -9,7 +9,7 @@ use mathlib.Core.Option.{none, some}
 use Prim.Native.Nat.{ℕ, _<_, _≤_}
 use native.Mathlib.Decide.{decLe}
 use native.Mathlib.Omega.{arith}
-use lib.ListN.{length, getD, List·getD-eq-default}
+use lib.ListN.{length, getD, length-map, List·getD-eq-default}
 use lib.Seq.{ext-getD}
 use lib.Dec.{T, T-not, eqb, ltb}
 use Rattle.postman.specs.Lists.{select, anyOf, upFrom, below}
@@ -22,7 +22,7 @@ use Rattle.postman.specs.Windows.{Window, Departure, windowsIn, isShut, 
 use Rattle.postman.specs.Laws.Tests.{cond-ind, test, and-both, and-parts, not-or, same-test, is-false}
 use Rattle.postman.specs.Laws.Membership.{select-cong, anyOf-at, anyOf-not, getD-mem, map-mem, below-mem}
 use Rattle.postman.specs.Laws.Below.{length-map-below, getD-map-below}
-use Rattle.postman.specs.Laws.Required.{mem-numbers}
+use Rattle.postman.specs.Laws.Required.{mem-numbers, numbers-arcs}
 use Rattle.postman.specs.Laws.Refusal.{Other, nothing-refused, accepted-cons, cons-accepted, accepted-append, own-passed, before-order, before-other}
 use Rattle.postman.specs.Laws.Acceptance.{BeforeAccepted, before-accepted, file-accepted}
 
@@ -194,6 +194,15 @@ module _ (p : Plan) (windows : List Window) (d : Departure) where
     same-numbers =
         ap (λ m. select (λ k. isRequiredArc (arcAt (q .arcs) k)) (below m)) at-length
         ∙ select-cong (λ k. isRequiredArc (arcAt (q .arcs) k)) (λ k. isRequiredArc (arcAt (p .arcs) k)) (below (length (p .arcs))) (λ k m. same-required k (below-mem m))
+
+    pub same-some : 0 < length (requiredArcs q) → 0 < length (requiredArcs p)
+    same-some l =
+        let a = ap length (numbers-arcs q) in
+        let b = ap length (numbers-arcs p) in
+        let c = length-map (requiredNumbers q) (λ k. arcAt (q .arcs) k) in
+        let e = length-map (requiredNumbers p) (λ k. arcAt (p .arcs) k) in
+        let f = ap length same-numbers in
+        omega arith
 
     same-due : (due w : List ℕ) → tourCostDue (q .arcs) due w ≡ tourCostDue (p .arcs) due w
     unfolding tourCostDue

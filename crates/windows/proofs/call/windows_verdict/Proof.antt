@@ -12,22 +12,22 @@ has-bad-window-requires : tie.Need-has-bad-window-requires
 has-bad-window-requires c κs = search needs
 
 returns : tie.Need-returns
-returns c = bad-refused _ _ _ (sym (c .before .before .has-bad-window .ensures) ∙ c .if1 .taken)
+returns c = bad-refused _ _ _ (sym (c .before .has-bad-window .ensures) ∙ c .if1 .taken)
 
 must-shut-requires : tie.Need-must-shut-requires
 must-shut-requires c κs = search needs
 
 returns-2 : tie.Need-returns-2
 returns-2 c =
-    let m = c .before .before in
-    must-refused _ _ _ (sym (m .before .has-bad-window .ensures) ∙ c .before .if1 .left) (sym (m .must-shut .ensures) ∙ c .if2 .taken)
+    let m = c .before in
+    must-refused _ _ _ (sym (m .before .before .has-bad-window .ensures) ∙ m .before .if1 .left) (sym (m .must-shut .ensures) ∙ c .if2 .taken)
 
 returns-3 : tie.Need-returns-3
 returns-3 c =
-    let m = c .before .before in
-    windows-good _ _ _ (sym (m .before .has-bad-window .ensures) ∙ c .before .if1 .left) (sym (m .must-shut .ensures) ∙ c .if2 .left)
+    let m = c .before in
+    windows-good _ _ _ (sym (m .before .before .has-bad-window .ensures) ∙ m .before .if1 .left) (sym (m .must-shut .ensures) ∙ c .if2 .left)
 
 pub windows-verdict-spec : {M : Type 1} → statement M
 windows-verdict-spec =
     tie.close
-    (tie.spec cast-m has-bad-window-requires must-shut-requires returns returns-2 returns-3)
+    (tie.spec cast-m has-bad-window-requires returns must-shut-requires returns-2 returns-3)
