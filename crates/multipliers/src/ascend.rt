@@ -1,5 +1,5 @@
 // The multipliers that are answered: steps from the greatest ones on, of which the first with the largest bound is kept.
-// What is read at each step is lent: f are the amounts of the state of the required arcs, and price their cost; cost is R.
+// What is read at each step is lent: f are the amounts of the state of the required arcs; cost is R, and imbalance is D.
 use crate::bound::lagrangian;
 use balance::state::Balance;
 use network::network::Network;
@@ -19,7 +19,7 @@ ghost use Rattle.balance.specs.Multipliers.{multipliers};
 ghost use Rattle.balance.specs.Records.{stateOf};
 ghost use Rattle.network.specs.Network.{IsNetwork};
 ghost use Rattle.multipliers.specs.Prepared.{IsBase, IsPrepared};
-ghost use Rattle.multipliers.specs.Ascent.{attempt as attemptOf, climb as climbOnce, begin, ascent as ascentOf, greatestOf, multipliersFor};
+ghost use Rattle.multipliers.specs.Ascent.{attempt as attemptOf, climb as climbOnce, begin, ascent as ascentOf, greatestOf, multipliersFor, boundOf};
 ghost use Rattle.multipliers.specs.Climbs.{climbOf, holding};
 
 // Where an ascent stands.
@@ -55,11 +55,11 @@ fn attempt(
     flags: &[bool; 64],
     k: usize,
     cost: u64,
-    price: u64,
+    imbalance: &[i64; 64],
     c: Stage,
 ) -> Best
-    requires { ⌜ ((p : «a-plan») × IsPrepared p (now table) (now f) (now vs) (now component) (now flags) k cost price) ⌝ }
-    ensures { λ r. ⌜ ((p : «a-plan») → IsPrepared p (now (table .entry)) (now (f .entry)) (now (vs .entry)) (now (component .entry)) (now (flags .entry)) k cost price → holding c r ≡ attemptOf p (now (table .entry)) (now (f .entry)) (now (vs .entry)) (now (component .entry)) k (climbOf c)) ⌝ }
+    requires { ⌜ ((p : «a-plan») × IsPrepared p (now table) (now f) (now vs) (now component) (now flags) k cost (now imbalance)) ⌝ }
+    ensures { λ r. ⌜ ((p : «a-plan») → IsPrepared p (now (table .entry)) (now (f .entry)) (now (vs .entry)) (now (component .entry)) (now (flags .entry)) k cost (now (imbalance .entry)) → holding c r ≡ attemptOf p (now (table .entry)) (now (f .entry)) (now (vs .entry)) (now (component .entry)) k (climbOf c)) ⌝ }
 {
     let x = c.heights;
     let best = c.best;
@@ -69,7 +69,7 @@ fn attempt(
     };
     if heights::lawful::are_lawful(table, f, vs, &x) {
         let u = heights::heights::multipliers_at(&x, vs);
-        let l = lagrangian(table, &u, component, flags, k, cost, price);
+        let l = lagrangian(table, &u, component, flags, k, cost, imbalance);
         if exceeds(l, c.bound) {
             return Best {
                 multipliers: u,
@@ -89,15 +89,15 @@ fn attempt_above(
     flags: &[bool; 64],
     k: usize,
     cost: u64,
-    price: u64,
+    imbalance: &[i64; 64],
     c: Stage,
     value: u64,
 ) -> Best
-    requires { ⌜ ((p : «a-plan») × IsPrepared p (now table) (now f) (now vs) (now component) (now flags) k cost price) ⌝ }
-    ensures { λ r. ⌜ ((p : «a-plan») → IsPrepared p (now (table .entry)) (now (f .entry)) (now (vs .entry)) (now (component .entry)) (now (flags .entry)) k cost price → holding c r ≡ cond (ltb (c .value) value) (attemptOf p (now (table .entry)) (now (f .entry)) (now (vs .entry)) (now (component .entry)) k (climbOf c)) (climbOf c)) ⌝ }
+    requires { ⌜ ((p : «a-plan») × IsPrepared p (now table) (now f) (now vs) (now component) (now flags) k cost (now imbalance)) ⌝ }
+    ensures { λ r. ⌜ ((p : «a-plan») → IsPrepared p (now (table .entry)) (now (f .entry)) (now (vs .entry)) (now (component .entry)) (now (flags .entry)) k cost (now (imbalance .entry)) → holding c r ≡ cond (ltb (c .value) value) (attemptOf p (now (table .entry)) (now (f .entry)) (now (vs .entry)) (now (component .entry)) k (climbOf c)) (climbOf c)) ⌝ }
 {
     if c.value < value {
-        return attempt(table, f, vs, component, flags, k, cost, price, c);
+        return attempt(table, f, vs, component, flags, k, cost, imbalance, c);
     }
     let best = c.best;
     Best {
@@ -122,12 +122,12 @@ fn climb(
     flags: &[bool; 64],
     k: usize,
     cost: u64,
-    price: u64,
+    imbalance: &[i64; 64],
     c: Stage,
     i: usize,
 ) -> Stage
-    requires { ⌜ ((p : «a-plan») × IsPrepared p (now table) (now f) (now vs) (now component) (now flags) k cost price) × (c .stride ≤ beyond) ⌝ }
-    ensures { λ r. ⌜ ((p : «a-plan») → IsPrepared p (now (table .entry)) (now (f .entry)) (now (vs .entry)) (now (component .entry)) (now (flags .entry)) k cost price → climbOf r ≡ climbOnce p (now (table .entry)) (now (f .entry)) (now (vs .entry)) (now (component .entry)) k (climbOf c) i) × (r .stride ≤ beyond) ⌝ }
+    requires { ⌜ ((p : «a-plan») × IsPrepared p (now table) (now f) (now vs) (now component) (now flags) k cost (now imbalance)) × (c .stride ≤ beyond) ⌝ }
+    ensures { λ r. ⌜ ((p : «a-plan») → IsPrepared p (now (table .entry)) (now (f .entry)) (now (vs .entry)) (now (component .entry)) (now (flags .entry)) k cost (now (imbalance .entry)) → climbOf r ≡ climbOnce p (now (table .entry)) (now (f .entry)) (now (vs .entry)) (now (component .entry)) k (climbOf c) i) × (r .stride ≤ beyond) ⌝ }
 {
     if c.done {
         return c;
@@ -136,7 +136,7 @@ fn climb(
     let before = c.before;
     let up = i % 2 == 1;
     let s = ascent::step::step(table, f, vs, component, k, up, c.stride, &x, &before);
-    let b = attempt_above(table, f, vs, component, flags, k, cost, price, c, s.value);
+    let b = attempt_above(table, f, vs, component, flags, k, cost, imbalance, c, s.value);
     let next = s.heights;
     let best = b.multipliers;
     let value = more(c.value, s.value);
@@ -160,13 +160,13 @@ fn begun(
     flags: &[bool; 64],
     k: usize,
     cost: u64,
-    price: u64,
+    imbalance: &[i64; 64],
     u: [i64; 64],
 ) -> Stage
-    requires { ⌜ ((p : «a-plan») × IsPrepared p (now table) (now f) (now vs) (now component) (now flags) k cost price × (u ≡ greatestOf p)) ⌝ }
-    ensures { λ r. ⌜ ((p : «a-plan») → IsPrepared p (now (table .entry)) (now (f .entry)) (now (vs .entry)) (now (component .entry)) (now (flags .entry)) k cost price → u ≡ greatestOf p → climbOf r ≡ begin p (now (table .entry)) (now (f .entry)) (now (vs .entry)) (now (component .entry)) k u) × (r .stride ≤ beyond) ⌝ }
+    requires { ⌜ ((p : «a-plan») × IsPrepared p (now table) (now f) (now vs) (now component) (now flags) k cost (now imbalance) × (u ≡ greatestOf p)) ⌝ }
+    ensures { λ r. ⌜ ((p : «a-plan») → IsPrepared p (now (table .entry)) (now (f .entry)) (now (vs .entry)) (now (component .entry)) (now (flags .entry)) k cost (now (imbalance .entry)) → u ≡ greatestOf p → climbOf r ≡ begin p (now (table .entry)) (now (f .entry)) (now (vs .entry)) (now (component .entry)) k u) × (r .stride ≤ beyond) ⌝ }
 {
-    let l = lagrangian(table, &u, component, flags, k, cost, price);
+    let l = lagrangian(table, &u, component, flags, k, cost, imbalance);
     let x = heights::heights::start(&u, vs);
     let far = heights::heights::span(table, vs);
     let stride = lesser(far / 24 + 1, 1099511627776);
@@ -181,7 +181,7 @@ fn begun(
     }
 }
 
-// The multipliers that are answered, from the greatest ones on.
+// The multipliers that are answered, from the greatest ones on, and their bound.
 pub(crate) fn ascend(
     table: &[[u32; 64]; 64],
     f: &[u16; 4096],
@@ -190,19 +190,22 @@ pub(crate) fn ascend(
     flags: &[bool; 64],
     k: usize,
     cost: u64,
-    price: u64,
+    imbalance: &[i64; 64],
     u: [i64; 64],
-) -> [i64; 64]
-    requires { ⌜ ((p : «a-plan») × IsPrepared p (now table) (now f) (now vs) (now component) (now flags) k cost price × (u ≡ greatestOf p)) ⌝ }
-    ensures { λ r. ⌜ ((p : «a-plan») → IsPrepared p (now (table .entry)) (now (f .entry)) (now (vs .entry)) (now (component .entry)) (now (flags .entry)) k cost price → u ≡ greatestOf p → r ≡ ascentOf p (now (table .entry)) (now (f .entry)) (now (vs .entry)) (now (component .entry)) k u) ⌝ }
+) -> Best
+    requires { ⌜ ((p : «a-plan») × IsPrepared p (now table) (now f) (now vs) (now component) (now flags) k cost (now imbalance) × (u ≡ greatestOf p)) ⌝ }
+    ensures { λ r. ⌜ ((p : «a-plan») → IsPrepared p (now (table .entry)) (now (f .entry)) (now (vs .entry)) (now (component .entry)) (now (flags .entry)) k cost (now (imbalance .entry)) → u ≡ greatestOf p → (r .multipliers ≡ ascentOf p (now (table .entry)) (now (f .entry)) (now (vs .entry)) (now (component .entry)) k u) × (r .bound ≡ boundOf p (r .multipliers))) ⌝ }
 {
-    let mut c = begun(table, f, vs, component, flags, k, cost, price, u);
+    let mut c = begun(table, f, vs, component, flags, k, cost, imbalance, u);
     for i in 0..20usize {
-        let next = climb(table, f, vs, component, flags, k, cost, price, c, i);
+        let next = climb(table, f, vs, component, flags, k, cost, imbalance, c, i);
         c = next;
     }
     let best = c.best;
-    best
+    Best {
+        multipliers: best,
+        bound: c.bound,
+    }
 }
 
 // The same, of a network.
@@ -213,16 +216,16 @@ pub fn multipliers_for(
     net: Network,
     base: Balance,
     u: [i64; 64],
-) -> [i64; 64]
+) -> Best
     requires { ⌜ IsBase (planValue plan) (now table) (now vs) (stateOf base) × IsNetwork (planValue plan) net × (u ≡ multipliers (cell (now table)) (now vs) (stateOf base) (root (planValue plan))) ⌝ }
-    ensures { λ r. ⌜ r ≡ multipliersFor (planValue plan) ⌝ }
+    ensures { λ r. ⌜ (r .multipliers ≡ multipliersFor (planValue plan)) × (r .bound ≡ boundOf (planValue plan) (r .multipliers)) ⌝ }
 {
     let amounts = base.amounts;
     let component = net.component;
     let flags = net.required;
     let parts = net.components;
     let k = parts as usize;
-    let cost = net.required_cost;
+    let imbalance = net.imbalance;
     ascend(
         table,
         &amounts,
@@ -230,8 +233,8 @@ pub fn multipliers_for(
         &component,
         &flags,
         k,
-        cost,
-        base.cost,
+        net.required_cost,
+        &imbalance,
         u,
     )
 }

@@ -39,6 +39,24 @@ use Rattle.multipliers.specs.Laws.Root.{some-place}
 use Rattle.multipliers.specs.Laws.Lay.{base-metric}
 use Rattle.multipliers.specs.Laws.Bound.{are-costs}
 
+-- THE BOUND THAT AN ASCENT HOLDS IS THAT OF ITS BEST MULTIPLIERS
+module _ (p : Plan) (d : List (List ℕ)) (f vs components : List ℕ) (k : ℕ) where
+  abbrev Bounded : Climb → Type 0
+  Bounded c = c .bound ≡ boundOf p (c .best)
+
+  attempt-bounded : (c : Climb) → Bounded c → Bounded (attempt p d f vs components k c)
+  unfolding attempt
+  attempt-bounded c h = cond-ind (areLawful d f (c .heights) vs && ltZ (c .bound) (boundOf p (multipliersAt (c .heights) vs))) _ c Bounded (λ t. refl) (λ t. h)
+
+  climb-bounded : (c : Climb) (i : ℕ) → Bounded c → Bounded (climb p d f vs components k c i)
+  unfolding climb
+  climb-bounded c i h =
+      cond-ind (c .done) c _ Bounded (λ t. h) (λ t. cond-ind (ltb (c .value) _) (attempt p d f vs components k c) c Bounded (λ t. attempt-bounded c h) (λ t. h))
+
+  pub ascent-bounded : (u : List ℤ) (n : ℕ) → Bounded (turns (climb p d f vs components k) (begin p d f vs components k u) n)
+  unfolding begin
+  ascent-bounded u n = turns-keep (climb p d f vs components k) Bounded climb-bounded (begin p d f vs components k u) refl n
+
 module _ (p : Plan) (ok : Plannable p) (few : componentCount p ≤ 8) where
   -- what the best of an ascent keeps
   record Kept (c : Climb) : Type 0 where
@@ -96,19 +114,19 @@ module _ (p : Plan) (ok : Plannable p) (few : componentCount p ≤ 8) where
 
 -- a plan's state and its network, taken apart
 pub is-prepared : (p : Plan) (table : List (List ℕ)) (vs : List ℕ) (base : State) → IsBase p table vs base → (net : Network) → IsNetwork p net → length (net .required) ≡ 64
-    → IsPrepared p table (base .amounts) vs (net .component) (net .required) (net .components) (net .«required_cost») (base .cost)
+    → IsPrepared p table (base .amounts) vs (net .component) (net .required) (net .components) (net .«required_cost») (net .imbalance)
 is-prepared p table vs base b net n l = record {
   known = b .known;
   amounts-are = ap (λ (s : State). s .amounts) (b .base-is);
-  price-is = ap (λ (s : State). s .cost) (b .base-is);
   long = l;
   required-flags = n .required;
   components = n .components;
   cost = n .required-cost;
+  imbalance = n .imbalance;
 }
 
-module _ (p : Plan) (table : List (List ℕ)) (f vs c : List ℕ) (flags : List Bool) (k r price : ℕ) (h : IsPrepared p table f vs c flags k r price) where
-  -- the state that the amounts and the cost are of
+module _ (p : Plan) (table : List (List ℕ)) (f vs c : List ℕ) (flags : List Bool) (k r : ℕ) (d : List ℤ) (h : IsPrepared p table f vs c flags k r d) where
+  -- the state that the amounts are of
   abbrev base : State
   base = balance (cell (tableOf p)) p []
 
@@ -144,18 +162,18 @@ module _ (p : Plan) (table : List (List ℕ)) (f vs c : List ℕ) (flags : List 
       (omega arith, omega arith)
 
   -- the bound of multipliers that are 0 at the root can be asked for
-  rooted-priced : (u : List ℤ) → Rooted p u → IsPriced p table u c flags k r price
-  rooted-priced u e = subst⁻¹ (IsPriced p table u c flags k r) (h .price-is) (priced p table vs base is-base u e c flags k r (h .long) (h .required-flags) (h .components) (h .cost))
+  rooted-priced : (u : List ℤ) → Rooted p u → IsPriced p table u c flags k r d
+  rooted-priced u e = priced p table vs base is-base u e c flags k r d (h .long) (h .required-flags) (h .components) (h .cost) (h .imbalance)
 
   -- so can that of the greatest ones
-  pub greatest-priced : (u : List ℤ) → u ≡ greatestOf p → IsPriced p table u c flags k r price
+  pub greatest-priced : (u : List ℤ) → u ≡ greatestOf p → IsPriced p table u c flags k r d
   greatest-priced u e = rooted-priced u (greatest-rooted p (h .known .plannable) (h .known .few) u e)
 
   pub greatest-within : (u : List ℤ) → u ≡ greatestOf p → (v : ℕ) → v < 64 → Within 1099511627776 (getD u v (pos 0))
-  greatest-within u e v l = are-costs p table u c flags k r price (greatest-priced u e) (h .long) .small v l
+  greatest-within u e v l = are-costs p table u c flags k r d (greatest-priced u e) (h .long) .small v l
 
   -- and that of heights that pass the test
-  pub lawful-priced : (x : List ℕ) {b : Bool} → b ≡ areLawful table f x vs → b ≡ true → (u : List ℤ) → u ≡ multipliersAt x vs → IsPriced p table u c flags k r price
+  pub lawful-priced : (x : List ℕ) {b : Bool} → b ≡ areLawful table f x vs → b ≡ true → (u : List ℤ) → u ≡ multipliersAt x vs → IsPriced p table u c flags k r d
   lawful-priced x e y u eu =
       let t : T (areLawful table f x vs) = subst⁻¹ (λ (b : Bool). T b) (sym e ∙ y) tt in
       rooted-priced u (subst⁻¹ (Rooted p) eu (lawful-rooted p table vs base is-base x (subst (λ (f : List ℕ). T (areLawful table f x vs)) (h .amounts-are) t)))

@@ -1,5 +1,5 @@
 -- The parts of a step of the ascent, put together. Each by the equations of the parts, one after the other.
-use mathlib.Core.Path.{_≡_, sym, ap, _∙_}
+use mathlib.Core.Path.{_≡_, sym, ap, _∙_, subst⁻¹}
 use mathlib.Core.Bool.{Bool, true, false, cond}
 use mathlib.Core.List.{List}
 use Prim.Native.Nat.{ℕ, _+_, _-_, _/_, _%_, _≤_, min, max}
@@ -14,6 +14,7 @@ use Rattle.heights.specs.Heights.{start, multipliersAt, span}
 use Rattle.ascent.specs.Step.{Step, step}
 use Rattle.heights.specs.Lawful.{areLawful}
 use Rattle.multipliers.specs.Ascent.{Climb, boundOf, taken, moved, attempt, climb, begin, ascent}
+use Rattle.multipliers.specs.Laws.Ascent.{ascent-bounded}
 
 -- its own best in place of its best
 pub held-is : (c : Climb) {m : ℤ} → m ≡ c .bound → record { heights = c .heights; before = c .before; best = c .best; bound = m; value = c .value; stride = c .stride; done = c .done } ≡ c
@@ -59,8 +60,10 @@ module _ (p : Plan) (d : List (List ℕ)) (f vs components : List ℕ) (k : ℕ)
   unfolding begin
   begin-is u el ex ef es = rw (es, ef, ex, el)
 
-  pub ascent-is : (u : List ℤ) {c₀ c : Climb} (i : ℕ) → c₀ ≡ begin p d f vs components k u → c ≡ turns (climb p d f vs components k) c₀ i → i ≤ 20 → 20 ≤ i → c .best ≡ ascent p d f vs components k u
+  pub ascent-is : (u : List ℤ) {c₀ c : Climb} (i : ℕ) {l : ℤ} → c₀ ≡ begin p d f vs components k u → c ≡ turns (climb p d f vs components k) c₀ i → i ≤ 20 → 20 ≤ i → l ≡ c .bound
+      → (c .best ≡ ascent p d f vs components k u) × (l ≡ boundOf p (c .best))
   unfolding ascent
-  ascent-is u i e inv a b =
+  ascent-is u {c₀} {c} i e inv a b el =
       let n : i ≡ 20 = omega arith in
-      ap (λ (c : Climb). c .best) (inv ∙ ap (λ (c : Climb). turns (climb p d f vs components k) c i) e ∙ ap (turns (climb p d f vs components k) (begin p d f vs components k u)) n)
+      let g : c ≡ turns (climb p d f vs components k) (begin p d f vs components k u) 20 = inv ∙ ap (λ (c : Climb). turns (climb p d f vs components k) c i) e ∙ ap (turns (climb p d f vs components k) (begin p d f vs components k u)) n in
+      (ap (λ (c : Climb). c .best) g, el ∙ subst⁻¹ (λ (c : Climb). c .bound ≡ boundOf p (c .best)) g (ascent-bounded p d f vs components k u 20))

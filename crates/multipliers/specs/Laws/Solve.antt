@@ -1,9 +1,8 @@
--- From a prepared plan to what the search and the bounds ask: the greatest multipliers are lawful, and so are those of heights that pass the test; lawful ones price the imbalance at the cost of the state.
+-- From a prepared plan to what the search and the bounds ask: the greatest multipliers are lawful, and so are those of heights that pass the test.
 use mathlib.Core.Path.{_≡_, sym, ap, _∙_, subst, subst⁻¹}
 use mathlib.Core.Bool.{Bool}
 use mathlib.Core.List.{List, [], List·Memᴰ, List·Memᴰ·head, List·Memᴰ·tail}
 use Prim.Native.Nat.{ℕ, _≤_, _<_}
-use native.Mathlib.Nat.{mul-le-mul-right}
 use native.Mathlib.Omega.{arith}
 use lib.ListN.{length}
 use lib.IntN.{ℤ, pos}
@@ -12,7 +11,6 @@ use Rattle.postman.specs.Plan.{Plan}
 use Rattle.postman.specs.Required.{required, requiredCost}
 use Rattle.postman.specs.Component.{componentCount}
 use Rattle.postman.specs.LagrangianBound.{AreMultipliers, AreGreatest}
-use Rattle.postman.specs.Balancing.{leastBalancing}
 use Rattle.postman.specs.PlanCall.{root}
 use Rattle.postman.specs.Laws.Membership.{getD-mem}
 use Rattle.postman.specs.Laws.Distance.{bounded}
@@ -24,8 +22,8 @@ use Rattle.postman.specs.Laws.Optimality.{Plannable}
 use Rattle.residual_search.specs.Step.{State, cell}
 use Rattle.balance.specs.Balance.{balance}
 use Rattle.balance.specs.Multipliers.{multipliers}
-use Rattle.direct_amounts.specs.Laws.Plan.{balance-least, balance-certified, balance-room, plan-metric, heights-multipliers, multipliers-greatest}
-use Rattle.required.specs.Contracts.{IsLinks, IsRequiredFlags, IsComponents}
+use Rattle.direct_amounts.specs.Laws.Plan.{plan-metric, heights-multipliers, multipliers-greatest}
+use Rattle.required.specs.Contracts.{IsImbalance, IsLinks, IsRequiredFlags, IsComponents}
 use Rattle.arborescence.specs.Layout.{laidOut, IsLayout}
 use Rattle.arborescence.specs.Candidates.{AreCandidates}
 use Rattle.pair_costs.specs.PairCosts.{multipliersOf}
@@ -86,16 +84,6 @@ module _ (p : Plan) (ok : Plannable p) (few : componentCount p ≤ 8) where
   unfolding greatestOf
   greatest-rooted u e = subst⁻¹ (Rooted p) e (record { multipliers = greatest .multipliers; at-root = greatest .at-root })
 
-  cost-least : s .cost ≡ leastBalancing p []
-  cost-least = balance-least p (ok .well-formed) (ok .connected) d (agrees p ok few) [] none-joined (omega arith)
-
-  price-small : s .cost ≤ 4398046511104
-  price-small =
-      let c = balance-certified p (ok .well-formed) (ok .connected) d (agrees p ok few) [] none-joined (omega arith) .numbers .cheap in
-      let r = balance-room p (ok .well-formed) (ok .connected) d (agrees p ok few) [] none-joined (omega arith) in
-      let m = mul-le-mul-right {m = s .count} {n = 356} 8257410000 r in
-      omega arith
-
   -- heights that pass the test stand for multipliers that are 0 at the root
   pub heights-rooted : (x : List ℕ) → T (areLawful (tableOf p) (s .amounts) x (required p)) → Rooted p (multipliersAt x (required p))
   unfolding root
@@ -131,11 +119,9 @@ module _ (p : Plan) (table : List (List ℕ)) (vs : List ℕ) (base : State) (b 
   abbrev few : componentCount p ≤ 8
   few = b .known .few
 
-  cost-is : base .cost ≡ balance (cell (tableOf p)) p [] .cost
-  cost-is = ap (λ (s : State). s .cost) (b .base-is)
-
-  pub priced : (c : List ℕ) (flags : List Bool) (k r : ℕ) → length flags ≡ 64 → IsRequiredFlags p flags → IsComponents p c k → r ≡ requiredCost p → IsPriced p table u c flags k r (base .cost)
-  priced c flags k r long hf hc hr = record {
+  pub priced : (c : List ℕ) (flags : List Bool) (k r : ℕ) (d : List ℤ) → length flags ≡ 64 → IsRequiredFlags p flags → IsComponents p c k → r ≡ requiredCost p → IsImbalance p d
+      → IsPriced p table u c flags k r d
+  priced c flags k r d long hf hc hr hd = record {
     plannable = ok;
     few = (let a = hc .all in let f = few in omega arith);
     some = (let a = hc .all in let f = some-component p ok few in omega arith);
@@ -144,13 +130,12 @@ module _ (p : Plan) (table : List (List ℕ)) (vs : List ℕ) (base : State) (b 
     required-flags = hf;
     components = hc;
     cost = hr;
+    imbalance = hd;
     feasible = e .multipliers .feasible;
     elsewhere = e .multipliers .elsewhere;
     root = root p;
     root-required = root-required p ok few;
     at-root = e .at-root;
-    price-is = e .multipliers .tight ∙ ap pos (sym (cost-is ∙ cost-least p ok few));
-    price-small = (let a = price-small p ok few in let f = cost-is in omega arith);
   }
 
   pub prepared : (k : ℕ) (c : Candidates) → k ≡ componentCount p → AreLaidOut p c → Prepared p table vs (c .start) (c .source) (c .tails) (c .heads) k
