@@ -6,8 +6,8 @@ use Prim.Native.Nat.{ℕ, zero, suc, _+_, _*_, _-_, min, max}
 use lib.Dec.{eqb, ltb}
 use lib.ListN.{length, getD, set, replicate}
 use Rattle.residual_search.specs.Step.{cell}
-use Rattle.heights.specs.Turns.{turns}
-use Rattle.heights.specs.Heights.{capped}
+use Rattle.multiplier_steps.specs.Turns.{turns}
+use Rattle.multiplier_steps.specs.Steps.{capped}
 
 -- Heights, and 1 for the vertices that are open.
 abbrev pub Tide : Type 0

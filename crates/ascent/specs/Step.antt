@@ -5,8 +5,8 @@ use mathlib.Core.List.{List}
 use Prim.Native.Nat.{ℕ, _-_, _^_}
 use lib.Dec.{eqb}
 use lib.ListN.{length, getD}
-use Rattle.heights.specs.Turns.{turns}
-use Rattle.heights.specs.Heights.{carried}
+use Rattle.multiplier_steps.specs.Turns.{turns}
+use Rattle.multiplier_steps.specs.Steps.{carried}
 use Rattle.ascent.specs.Relax.{settled}
 use Rattle.ascent_tree.specs.Offers.{offers}
 use Rattle.ascent_tree.specs.Tree.{grown, along}

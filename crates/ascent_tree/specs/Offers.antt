@@ -6,8 +6,8 @@ use lib.Dec.{ltb}
 use lib.ListN.{length, getD, set, replicate}
 use Rattle.residual_search.specs.Search.{beyond}
 use Rattle.residual_search.specs.Step.{cell}
-use Rattle.heights.specs.Turns.{turns}
-use Rattle.heights.specs.Heights.{capped}
+use Rattle.multiplier_steps.specs.Turns.{turns}
+use Rattle.multiplier_steps.specs.Steps.{capped}
 
 abbrev pub Offers : Type 0
 Offers = List ℕ × List ℕ

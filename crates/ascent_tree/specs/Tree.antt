@@ -7,8 +7,8 @@ use lib.Bits.{bitAnd}
 use lib.Dec.{eqb, ltb}
 use lib.ListN.{getD, set, replicate}
 use Rattle.residual_search.specs.Search.{beyond}
-use Rattle.heights.specs.Turns.{turns}
-use Rattle.heights.specs.Heights.{capped}
+use Rattle.multiplier_steps.specs.Turns.{turns}
+use Rattle.multiplier_steps.specs.Steps.{capped}
 
 -- For each set the least cost, and the entry, as 8 × tail + head.
 abbrev pub Sets : Type 0

@@ -7,7 +7,7 @@ ghost use mathlib.Core.Path.{_≡_};
 ghost use Prim.Native.Nat.{_*_, _<_, _≤_};
 ghost use Rattle.residual_search.specs.Bounds.{AtMost};
 ghost use Rattle.residual_search.specs.Search.{beyond};
-ghost use Rattle.heights.specs.Heights.{capped};
+ghost use Rattle.multiplier_steps.specs.Heights.{capped};
 ghost use Rattle.ascent_tree.specs.Offers.{part, reduced, offer, offersFrom, offers as offersOf};
 
 // The component of a vertex.

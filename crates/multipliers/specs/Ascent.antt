@@ -16,10 +16,10 @@ use Rattle.residual_search.specs.Step.{cell}
 use Rattle.balance.specs.Balance.{balance}
 use Rattle.balance.specs.Multipliers.{multipliers}
 use Rattle.pair_costs.specs.PairCosts.{multipliersOf}
-use Rattle.heights.specs.Turns.{turns}
-use Rattle.heights.specs.Heights.{start, multipliersAt, span}
+use Rattle.multiplier_steps.specs.Turns.{turns}
+use Rattle.multiplier_steps.specs.Steps.{start, multipliersAt, span}
 use Rattle.ascent.specs.Step.{Step, step}
-use Rattle.heights.specs.Lawful.{areLawful}
+use Rattle.multiplier_steps.specs.Lawful.{areLawful}
 use Rattle.multipliers.specs.Tour.{tableOf}
 
 -- Where an ascent stands: the heights and those before the last step, the best multipliers met and their bound, the largest cost of a tree met, the length of the next step, and whether a tree was balanced.

@@ -8,7 +8,7 @@ use borrow.Author.Tests.{lt-ltb, le-ltb, eq-eqb, ne-eqb}
 use lib.Seq.{set-getD}
 use lib.ListN.{getD, set, replicate}
 use Rattle.residual_search.specs.Step.{cell}
-use Rattle.heights.specs.Heights.{capped, carried}
+use Rattle.multiplier_steps.specs.Steps.{capped, carried}
 use Rattle.ascent.specs.Relax.{backPlace, asks, follows, opened, demand, moveVertex, moveAll, ask, sweep, areClosed, sweeps, settled}
 use Rattle.ascent_tree.specs.Offers.{Offers, offers}
 use Rattle.ascent_tree.specs.Tree.{Sets, grown, along}

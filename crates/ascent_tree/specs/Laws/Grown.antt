@@ -10,7 +10,7 @@ use lib.Dec.{ltb}
 use lib.ListN.{getD, set}
 use Rattle.residual_search.specs.Search.{beyond}
 use Rattle.residual_search.specs.Step.{cell}
-use Rattle.heights.specs.Heights.{capped}
+use Rattle.multiplier_steps.specs.Steps.{capped}
 use Rattle.ascent_tree.specs.Offers.{part, reduced, costOf, offer}
 use Rattle.ascent_tree.specs.Tree.{holds, joined, isBetter, entry, enter, shifted, walkBack}
 

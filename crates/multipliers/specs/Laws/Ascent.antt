@@ -23,10 +23,10 @@ use Rattle.balance.specs.Balance.{balance}
 use Rattle.residual_search.specs.Bounds.{AtMost}
 use Rattle.balance.specs.Laws.Step.{vertices-small}
 use Rattle.pair_costs.specs.PairCosts.{multipliersOf}
-use Rattle.heights.specs.Turns.{turns}
-use Rattle.heights.specs.Heights.{multipliersAt}
-use Rattle.heights.specs.Lawful.{areLawful}
-use Rattle.heights.specs.Laws.Turns.{turns-keep}
+use Rattle.multiplier_steps.specs.Turns.{turns}
+use Rattle.multiplier_steps.specs.Steps.{multipliersAt}
+use Rattle.multiplier_steps.specs.Lawful.{areLawful}
+use Rattle.multiplier_steps.specs.Laws.Turns.{turns-keep}
 use Rattle.network.specs.declared.network.Network.{Network}
 use Rattle.network.specs.Network.{IsNetwork}
 use Rattle.multipliers.specs.Tour.{tableOf}

@@ -9,10 +9,10 @@ use lib.IntN.{ℤ}
 use lib.Signed.{ltZ}
 use Rattle.postman.specs.Plan.{Plan}
 use Rattle.residual_search.specs.Search.{beyond}
-use Rattle.heights.specs.Turns.{turns}
-use Rattle.heights.specs.Heights.{start, multipliersAt, span}
+use Rattle.multiplier_steps.specs.Turns.{turns}
+use Rattle.multiplier_steps.specs.Steps.{start, multipliersAt, span}
 use Rattle.ascent.specs.Step.{Step, step}
-use Rattle.heights.specs.Lawful.{areLawful}
+use Rattle.multiplier_steps.specs.Lawful.{areLawful}
 use Rattle.multipliers.specs.Ascent.{Climb, boundOf, taken, moved, attempt, climb, begin, ascent}
 use Rattle.multipliers.specs.Laws.Ascent.{ascent-bounded}
 

@@ -27,10 +27,10 @@ use Rattle.required.specs.Contracts.{IsImbalance, IsLinks, IsRequiredFlags, IsC
 use Rattle.arborescence.specs.Layout.{laidOut, IsLayout}
 use Rattle.arborescence.specs.Candidates.{AreCandidates}
 use Rattle.pair_costs.specs.PairCosts.{multipliersOf}
-use Rattle.heights.specs.Heights.{capped, multipliersAt}
-use Rattle.heights.specs.Lawful.{areLawful}
-use Rattle.heights.specs.Laws.Lawful.{lawful-feasible, lawful-tight}
-use Rattle.heights.specs.Laws.Heights.{level, multipliers-here, multipliers-other, multipliers-first}
+use Rattle.multiplier_steps.specs.Steps.{capped, multipliersAt}
+use Rattle.multiplier_steps.specs.Lawful.{areLawful}
+use Rattle.multiplier_steps.specs.Laws.Lawful.{lawful-feasible, lawful-tight}
+use Rattle.multiplier_steps.specs.Laws.Heights.{level, multipliers-here, multipliers-other, multipliers-first}
 use Rattle.candidates.specs.declared.Candidates.{Candidates}
 use Rattle.candidates.specs.LaidOut.{AreLaidOut}
 use Rattle.tree_count.specs.Entries.{AreCounted}

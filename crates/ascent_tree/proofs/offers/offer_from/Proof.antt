@@ -3,10 +3,10 @@ use mathlib.Core.Path.{_≡_, refl, ap, _∙_}
 use Prim.Native.Nat.{_*_, _-_, _≤_}
 use native.Mathlib.Omega.{arith}
 use lib.ListN.{length, getD}
-use Rattle.heights.specs.Laws.Turns.{turn-at, end}
-use Rattle.heights.specs.Heights.{capped}
+use Rattle.multiplier_steps.specs.Laws.Turns.{turn-at, end}
+use Rattle.multiplier_steps.specs.Steps.{capped}
 use Rattle.ascent_tree.specs.Offers.{part, offer, offersFrom}
-use Rattle.heights.specs.Turns.{turns}
+use Rattle.multiplier_steps.specs.Turns.{turns}
 use borrow.Author.Needs.{needs}
 use Rattle.ascent_tree.proofs.offers.offer_from.Statement.{statement}
 use Rattle.ascent_tree.proofs.offers.offer_from.Tie as tie

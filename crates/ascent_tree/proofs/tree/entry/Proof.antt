@@ -6,9 +6,9 @@ use Prim.Native.Nat.{ℕ, _+_, _*_, _-_, _≤_, _<_}
 use native.Mathlib.Omega.{arith}
 use lib.Dec.{ltb}
 use lib.ListN.{getD}
-use Rattle.heights.specs.Laws.Turns.{turn, end}
+use Rattle.multiplier_steps.specs.Laws.Turns.{turn, end}
 use Rattle.ascent_tree.specs.Tree.{holds, cheaper, entry}
-use Rattle.heights.specs.Turns.{turns}
+use Rattle.multiplier_steps.specs.Turns.{turns}
 use borrow.Author.Needs.{needs}
 use Rattle.ascent_tree.proofs.tree.entry.Statement.{statement}
 use Rattle.ascent_tree.proofs.tree.entry.Tie as tie

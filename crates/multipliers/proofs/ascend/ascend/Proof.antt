@@ -3,8 +3,8 @@ use mathlib.Core.Path.{_≡_, refl}
 use Prim.Native.Nat.{_-_, _≤_}
 use native.Mathlib.Omega.{arith}
 use Rattle.integers.specs.Linear.{back64}
-use Rattle.heights.specs.Laws.Turns.{turn}
-use Rattle.heights.specs.Turns.{turns}
+use Rattle.multiplier_steps.specs.Laws.Turns.{turn}
+use Rattle.multiplier_steps.specs.Turns.{turns}
 use Rattle.residual_search.specs.Search.{beyond}
 use Rattle.postman.specs.Plan.{Plan}
 use Rattle.multipliers.specs.Ascent.{climb}
