@@ -1,34 +1,34 @@
 // The multipliers that are answered: steps from the greatest ones on, of which the first with the largest bound is kept.
 // What is read at each step is lent: f are the amounts of the state of the required arcs; cost is R, and imbalance is D.
 use crate::bound::lagrangian;
+use crate::bound::larger;
 use balance::state::Balance;
 use network::network::Network;
 use plan::Plan;
 use residual_search::entries::lesser;
 ghost use mathlib.Core.Path.{_≡_};
 ghost use mathlib.Core.Bool.{cond};
-ghost use Prim.Native.Nat.{_≤_, max};
-ghost use lib.Dec.{ltb};
 ghost use lib.Signed.{ltZ};
 ghost use Rattle.postman.specs.Plan.{Plan as «a-plan»};
 ghost use Rattle.postman.specs.PlanCall.{root};
 ghost use Rattle.plan.specs.Records.{planValue};
 ghost use Rattle.residual_search.specs.Search.{beyond};
+ghost use Rattle.multiplier_steps.specs.Steps.{AreSmall};
 ghost use Rattle.residual_search.specs.Step.{cell};
 ghost use Rattle.balance.specs.Multipliers.{multipliers};
 ghost use Rattle.balance.specs.Records.{stateOf};
 ghost use Rattle.network.specs.Network.{IsNetwork};
 ghost use Rattle.multipliers.specs.Prepared.{IsBase, IsPrepared};
 ghost use Rattle.multipliers.specs.Ascent.{attempt as attemptOf, climb as climbOnce, begin, ascent as ascentOf, greatestOf, multipliersFor, boundOf};
-ghost use Rattle.multipliers.specs.Climbs.{climbOf, holding};
+ghost use Rattle.multipliers.specs.Climbs.{climbOf, holding, CanStep};
 
 // Where an ascent stands.
 pub struct Stage {
-    pub heights: [u64; 64],
-    pub before: [u64; 64],
+    pub multipliers: [i64; 64],
+    pub before: [i64; 64],
     pub best: [i64; 64],
     pub bound: i64,
-    pub value: u64,
+    pub value: i64,
     pub stride: u64,
     pub done: bool,
 }
@@ -46,7 +46,7 @@ fn exceeds(a: i64, b: i64) -> bool
     b < a
 }
 
-// The multipliers of the heights are the best so far, where they are lawful and their bound is larger.
+// The multipliers, 0 at the root, are the best so far, where they are lawful and their bound is larger.
 fn attempt(
     table: &[[u32; 64]; 64],
     f: &[u16; 4096],
@@ -58,17 +58,17 @@ fn attempt(
     imbalance: &[i64; 64],
     c: Stage,
 ) -> Best
-    requires { ⌜ ((p : «a-plan») × IsPrepared p (now table) (now f) (now vs) (now component) (now flags) k cost (now imbalance)) ⌝ }
+    requires { ⌜ ((p : «a-plan») × IsPrepared p (now table) (now f) (now vs) (now component) (now flags) k cost (now imbalance)) × AreSmall beyond (c .multipliers) ⌝ }
     ensures { λ r. ⌜ ((p : «a-plan») → IsPrepared p (now (table .entry)) (now (f .entry)) (now (vs .entry)) (now (component .entry)) (now (flags .entry)) k cost (now (imbalance .entry)) → holding c r ≡ attemptOf p (now (table .entry)) (now (f .entry)) (now (vs .entry)) (now (component .entry)) k (climbOf c)) ⌝ }
 {
-    let x = c.heights;
+    let x = c.multipliers;
     let best = c.best;
     let held = Best {
         multipliers: best,
         bound: c.bound,
     };
-    if heights::lawful::are_lawful(table, f, vs, &x) {
-        let u = heights::heights::multipliers_at(&x, vs);
+    if multiplier_steps::lawful::are_lawful(table, f, vs, &x) {
+        let u = multiplier_steps::steps::rooted(&x, vs);
         let l = lagrangian(table, &u, component, flags, k, cost, imbalance);
         if exceeds(l, c.bound) {
             return Best {
@@ -91,10 +91,10 @@ fn attempt_above(
     cost: u64,
     imbalance: &[i64; 64],
     c: Stage,
-    value: u64,
+    value: i64,
 ) -> Best
-    requires { ⌜ ((p : «a-plan») × IsPrepared p (now table) (now f) (now vs) (now component) (now flags) k cost (now imbalance)) ⌝ }
-    ensures { λ r. ⌜ ((p : «a-plan») → IsPrepared p (now (table .entry)) (now (f .entry)) (now (vs .entry)) (now (component .entry)) (now (flags .entry)) k cost (now (imbalance .entry)) → holding c r ≡ cond (ltb (c .value) value) (attemptOf p (now (table .entry)) (now (f .entry)) (now (vs .entry)) (now (component .entry)) k (climbOf c)) (climbOf c)) ⌝ }
+    requires { ⌜ ((p : «a-plan») × IsPrepared p (now table) (now f) (now vs) (now component) (now flags) k cost (now imbalance)) × AreSmall beyond (c .multipliers) ⌝ }
+    ensures { λ r. ⌜ ((p : «a-plan») → IsPrepared p (now (table .entry)) (now (f .entry)) (now (vs .entry)) (now (component .entry)) (now (flags .entry)) k cost (now (imbalance .entry)) → holding c r ≡ cond (ltZ (c .value) value) (attemptOf p (now (table .entry)) (now (f .entry)) (now (vs .entry)) (now (component .entry)) k (climbOf c)) (climbOf c)) ⌝ }
 {
     if c.value < value {
         return attempt(table, f, vs, component, flags, k, cost, imbalance, c);
@@ -104,13 +104,6 @@ fn attempt_above(
         multipliers: best,
         bound: c.bound,
     }
-}
-
-// The larger of two.
-fn more(a: u64, b: u64) -> u64
-    ensures { λ r. ⌜ r ≡ max a b ⌝ }
-{
-    if a < b { b } else { a }
 }
 
 // Step i, unless a tree was balanced.
@@ -126,22 +119,33 @@ fn climb(
     c: Stage,
     i: usize,
 ) -> Stage
-    requires { ⌜ ((p : «a-plan») × IsPrepared p (now table) (now f) (now vs) (now component) (now flags) k cost (now imbalance)) × (c .stride ≤ beyond) ⌝ }
-    ensures { λ r. ⌜ ((p : «a-plan») → IsPrepared p (now (table .entry)) (now (f .entry)) (now (vs .entry)) (now (component .entry)) (now (flags .entry)) k cost (now (imbalance .entry)) → climbOf r ≡ climbOnce p (now (table .entry)) (now (f .entry)) (now (vs .entry)) (now (component .entry)) k (climbOf c) i) × (r .stride ≤ beyond) ⌝ }
+    requires { ⌜ ((p : «a-plan») × IsPrepared p (now table) (now f) (now vs) (now component) (now flags) k cost (now imbalance)) × CanStep c ⌝ }
+    ensures { λ r. ⌜ ((p : «a-plan») → IsPrepared p (now (table .entry)) (now (f .entry)) (now (vs .entry)) (now (component .entry)) (now (flags .entry)) k cost (now (imbalance .entry)) → climbOf r ≡ climbOnce p (now (table .entry)) (now (f .entry)) (now (vs .entry)) (now (component .entry)) k (climbOf c) i) × CanStep r ⌝ }
 {
     if c.done {
         return c;
     }
-    let x = c.heights;
+    let x = c.multipliers;
     let before = c.before;
     let up = i % 2 == 1;
     let s = ascent::step::step(table, f, vs, component, k, up, c.stride, &x, &before);
-    let b = attempt_above(table, f, vs, component, flags, k, cost, imbalance, c, s.value);
-    let next = s.heights;
+    let b = attempt_above(
+        table,
+        f,
+        vs,
+        component,
+        flags,
+        k,
+        cost,
+        imbalance,
+        c,
+        s.value,
+    );
+    let next = s.multipliers;
     let best = b.multipliers;
-    let value = more(c.value, s.value);
+    let value = larger(c.value, s.value);
     Stage {
-        heights: next,
+        multipliers: next,
         before: x,
         best: best,
         bound: b.bound,
@@ -164,15 +168,14 @@ fn begun(
     u: [i64; 64],
 ) -> Stage
     requires { ⌜ ((p : «a-plan») × IsPrepared p (now table) (now f) (now vs) (now component) (now flags) k cost (now imbalance) × (u ≡ greatestOf p)) ⌝ }
-    ensures { λ r. ⌜ ((p : «a-plan») → IsPrepared p (now (table .entry)) (now (f .entry)) (now (vs .entry)) (now (component .entry)) (now (flags .entry)) k cost (now (imbalance .entry)) → u ≡ greatestOf p → climbOf r ≡ begin p (now (table .entry)) (now (f .entry)) (now (vs .entry)) (now (component .entry)) k u) × (r .stride ≤ beyond) ⌝ }
+    ensures { λ r. ⌜ ((p : «a-plan») → IsPrepared p (now (table .entry)) (now (f .entry)) (now (vs .entry)) (now (component .entry)) (now (flags .entry)) k cost (now (imbalance .entry)) → u ≡ greatestOf p → climbOf r ≡ begin p (now (table .entry)) (now (f .entry)) (now (vs .entry)) (now (component .entry)) k u) × CanStep r ⌝ }
 {
     let l = lagrangian(table, &u, component, flags, k, cost, imbalance);
-    let x = heights::heights::start(&u, vs);
-    let far = heights::heights::span(table, vs);
+    let far = multiplier_steps::steps::span(table, vs);
     let stride = lesser(far / 24 + 1, 1099511627776);
     Stage {
-        heights: x,
-        before: x,
+        multipliers: u,
+        before: u,
         best: u,
         bound: l,
         value: 0,

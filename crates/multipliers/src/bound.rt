@@ -9,7 +9,9 @@ ghost use Rattle.postman.specs.Lists.{maxℤ};
 ghost use Rattle.postman.specs.Plan.{Plan};
 ghost use Rattle.postman.specs.LagrangianBound.{lagrangianBound};
 ghost use Rattle.pair_costs.specs.PairCosts.{multipliersOf};
-ghost use Rattle.multipliers.specs.Price.{AreSmall, priceOf};
+ghost use Rattle.multiplier_steps.specs.Steps.{AreSmall};
+ghost use Rattle.multipliers.specs.Price.{priceOf};
+ghost use Rattle.multiplier_steps.specs.Steps.{AreSmall};
 ghost use Rattle.multipliers.specs.Priced.{IsPriced};
 
 // "the larger of L(0) and L(u)"
@@ -83,6 +85,14 @@ pub fn floor_of(
         return cost as i64;
     }
     let zeros = [0i64; 64];
-    let without = lagrangian(table, &zeros, component, required, k, required_cost, imbalance);
+    let without = lagrangian(
+        table,
+        &zeros,
+        component,
+        required,
+        k,
+        required_cost,
+        imbalance,
+    );
     larger(without, bound)
 }

@@ -116,5 +116,16 @@ pub fn solve(
     let greatest = multipliers_of(plan, table, vs, base);
     let m = multipliers_for(plan, table, vs, net, base, greatest);
     let u = m.multipliers;
-    finish(plan, table, weights, vs, net, base, u, m.bound, budget, sheet)
+    finish(
+        plan,
+        table,
+        weights,
+        vs,
+        net,
+        base,
+        u,
+        m.bound,
+        budget,
+        sheet,
+    )
 }

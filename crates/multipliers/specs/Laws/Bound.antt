@@ -18,7 +18,7 @@ use Rattle.postman.specs.Required.{required, isRequired, requiredCost}
 use Rattle.postman.specs.Distance.{distance}
 use Rattle.postman.specs.Link.{Link}
 use Rattle.postman.specs.Arborescence.{arborescenceCount}
-use Rattle.postman.specs.LagrangianBound.{reducedCost, reducedSum, cheapestArborescence, lagrangianBound}
+use Rattle.postman.specs.LagrangianBound.{Multipliers, reducedCost, reducedSum, cheapestArborescence, lagrangianBound}
 use Rattle.postman.specs.Laws.Tests.{is-true}
 use Rattle.postman.specs.Laws.Membership.{select-mem, mem-select, mem-below}
 use Rattle.postman.specs.Laws.Occurrences.{mem?}
@@ -28,7 +28,7 @@ use Rattle.postman.specs.Laws.Component.{component-lt}
 use Rattle.postman.specs.Laws.Balancing.{Joins}
 use Rattle.postman.specs.Laws.Arborescence.{arborescences-mem, joins}
 use Rattle.postman.specs.Laws.LagrangianBound.{Feasible, cheapest-at, cheapest-nonneg, zero-feasible}
-use Rattle.postman.specs.Laws.Optimality.{some-arborescence}
+use Rattle.postman.specs.Laws.Optimality.{Plannable, some-arborescence}
 use Rattle.balance.specs.Invariant.{Metric}
 use Rattle.residual_search.specs.Laws.Fill.{zero-at}
 use Rattle.direct_amounts.specs.Laws.Plan.{plan-metric}
@@ -36,7 +36,8 @@ use Rattle.cheapest_tree.specs.Picture.{highest}
 use Rattle.pair_costs.specs.PairCosts.{AreCosts, IsNetwork, multipliersOf}
 use Rattle.network.specs.Laws.Vertices.{required-of-64}
 use Rattle.tree_bounds.specs.Laws.Prepared.{required-small}
-use Rattle.multipliers.specs.Price.{AreSmall, priceOf}
+use Rattle.multiplier_steps.specs.Steps.{AreSmall}
+use Rattle.multipliers.specs.Price.{priceOf}
 use Rattle.multipliers.specs.Priced.{IsPriced}
 use Rattle.multipliers.specs.Laws.Price.{price-is, imbalance-small}
 
@@ -49,6 +50,21 @@ module _ (p : Plan) (flags : List Bool) (h : (v : ℕ) → v < 64 → getD flags
       let b = ok .vertices in
       let t = select-mem (isRequired p) (below (p .n)) m .1 in
       h v (omega arith) ∙ is-true t
+
+-- |u| is at most a distance, where u is 0 at a required vertex
+pub multipliers-near : (p : Plan) → Plannable p → (u : Multipliers) → Feasible p u → ((i : ℕ) → (List·Memᴰ i (required p) → ⊥) → u i ≡ pos 0) → (root : ℕ) → List·Memᴰ root (required p) → u root ≡ pos 0
+    → (v : ℕ) → Within 4128705 (u v)
+unfolding reducedCost
+multipliers-near p ok u feasible elsewhere root mr at-root v = elim (mem? v (required p)) [
+  | inl m ↦
+      let metric = plan-metric p (ok .well-formed) (ok .connected) in
+      let a = feasible v root m mr in
+      let b = feasible root v mr m in
+      let e = metric .bound v root m mr in
+      let f = metric .bound root v mr m in
+      record { low = simp zl (omega (arith, simp zl at b, z)); high = simp zl (omega (arith, simp zl at a, z)) }
+  | inr n ↦ let e = elsewhere v n in record { low = simp zl (omega (arith, z)); high = simp zl (omega (arith, z)) }
+]
 
 module _ (p : Plan) (table : List (List ℕ)) (u : List ℤ) (c : List ℕ) (flags : List Bool) (k r : ℕ) (d : List ℤ) (h : IsPriced p table u c flags k r d) where
   abbrev U : ℕ → ℤ
@@ -65,19 +81,8 @@ module _ (p : Plan) (table : List (List ℕ)) (u : List ℤ) (c : List ℕ) (fla
       let e = metric .bound j i mj mi in
       simp zl (omega (arith, simp zl at a))
 
-  -- |u| is at most a distance
   multiplier-small : (v : ℕ) → Within 4128705 (U v)
-  unfolding reducedCost
-  multiplier-small v = elim (mem? v (required p)) [
-    | inl m ↦
-        let a = h .feasible v (h .root) m (h .root-required) in
-        let b = h .feasible (h .root) v (h .root-required) m in
-        let e = metric .bound v (h .root) m (h .root-required) in
-        let f = metric .bound (h .root) v (h .root-required) m in
-        let g = h .at-root in
-        record { low = simp zl (omega (arith, simp zl at b, z)); high = simp zl (omega (arith, simp zl at a, z)) }
-    | inr n ↦ let e = h .elsewhere v n in record { low = simp zl (omega (arith, z)); high = simp zl (omega (arith, z)) }
-  ]
+  multiplier-small = multipliers-near p (h .plannable) U (h .feasible) (h .elsewhere) (h .root) (h .root-required) (h .at-root)
 
   module _ (long : length flags ≡ 64) where
     -- only required vertices are flagged

@@ -20,7 +20,8 @@ use Rattle.required.specs.Contracts.{IsImbalance}
 use Rattle.network.specs.Laws.Vertices.{required-of-64}
 use Rattle.candidates.specs.Laws.Selection.{select-length}
 use Rattle.pair_costs.specs.PairCosts.{multipliersOf}
-use Rattle.multipliers.specs.Price.{AreSmall, priceOf}
+use Rattle.multiplier_steps.specs.Steps.{AreSmall}
+use Rattle.multipliers.specs.Price.{priceOf}
 
 -- ---- one vertex more
 

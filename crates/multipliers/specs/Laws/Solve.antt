@@ -1,10 +1,10 @@
--- From a prepared plan to what the search and the bounds ask: the greatest multipliers are lawful, and so are those of heights that pass the test.
+-- From a prepared plan to what the search and the bounds ask: the greatest multipliers are lawful, and so are those that pass the test, once that of the root is taken off.
 use mathlib.Core.Path.{_≡_, sym, ap, _∙_, subst, subst⁻¹}
 use mathlib.Core.Bool.{Bool}
 use mathlib.Core.List.{List, [], List·Memᴰ, List·Memᴰ·head, List·Memᴰ·tail}
 use Prim.Native.Nat.{ℕ, _≤_, _<_}
 use native.Mathlib.Omega.{arith}
-use lib.ListN.{length}
+use lib.ListN.{length, getD}
 use lib.IntN.{ℤ, pos}
 use lib.Dec.{T}
 use Rattle.postman.specs.Plan.{Plan}
@@ -27,10 +27,11 @@ use Rattle.required.specs.Contracts.{IsImbalance, IsLinks, IsRequiredFlags, IsC
 use Rattle.arborescence.specs.Layout.{laidOut, IsLayout}
 use Rattle.arborescence.specs.Candidates.{AreCandidates}
 use Rattle.pair_costs.specs.PairCosts.{multipliersOf}
-use Rattle.multiplier_steps.specs.Steps.{capped, multipliersAt}
+use Rattle.residual_search.specs.Search.{beyond}
+use Rattle.multiplier_steps.specs.Steps.{AreSmall, rooted}
 use Rattle.multiplier_steps.specs.Lawful.{areLawful}
 use Rattle.multiplier_steps.specs.Laws.Lawful.{lawful-feasible, lawful-tight}
-use Rattle.multiplier_steps.specs.Laws.Heights.{level, multipliers-here, multipliers-other, multipliers-first}
+use Rattle.multiplier_steps.specs.Laws.Steps.{raised, rooted-raised, rooted-other, rooted-first}
 use Rattle.candidates.specs.declared.Candidates.{Candidates}
 use Rattle.candidates.specs.LaidOut.{AreLaidOut}
 use Rattle.tree_count.specs.Entries.{AreCounted}
@@ -84,16 +85,17 @@ module _ (p : Plan) (ok : Plannable p) (few : componentCount p ≤ 8) where
   unfolding greatestOf
   greatest-rooted u e = subst⁻¹ (Rooted p) e (record { multipliers = greatest .multipliers; at-root = greatest .at-root })
 
-  -- heights that pass the test stand for multipliers that are 0 at the root
-  pub heights-rooted : (x : List ℕ) → T (areLawful (tableOf p) (s .amounts) x (required p)) → Rooted p (multipliersAt x (required p))
+  -- multipliers that pass the test are lawful, once that of the root is taken off
+  pub lawful-at-root : (x : List ℤ) → AreSmall beyond x → T (areLawful (tableOf p) (s .amounts) x (required p)) → Rooted p (rooted x (required p))
   unfolding root
-  heights-rooted x h =
+  lawful-at-root x h t =
       let small = plan-metric p (ok .well-formed) (ok .connected) .small in
       record {
         multipliers =
-            heights-multipliers p (ok .well-formed) (ok .connected) d (agrees p ok few) (capped x) (lawful-feasible (tableOf p) (s .amounts) (required p) x h) (lawful-tight (tableOf p) (s .amounts) (required p) x h)
-            (multipliersOf (multipliersAt x (required p))) (level x (required p) small) (multipliers-here x (required p) small) (multipliers-other x (required p) small);
-        at-root = multipliers-first x (required p) small some-vertex;
+            heights-multipliers p (ok .well-formed) (ok .connected) d (agrees p ok few) (raised (required p) small x) (lawful-feasible (tableOf p) (s .amounts) (required p) x t small h)
+            (lawful-tight (tableOf p) (s .amounts) (required p) x t small h) (multipliersOf (rooted x (required p))) (raised (required p) small x (getD (required p) 0 0)) (rooted-raised (required p) small x h some-vertex)
+            (rooted-other (required p) small x);
+        at-root = rooted-first (required p) small x some-vertex;
       }
 
 module _ (p : Plan) (table : List (List ℕ)) (vs : List ℕ) (base : State) (b : IsBase p table vs base) where
@@ -104,13 +106,13 @@ module _ (p : Plan) (table : List (List ℕ)) (vs : List ℕ) (base : State) (b 
       e ∙ ap (λ (x : List (List ℕ)). multipliers (cell x) vs base (root p)) (b .known .distances) ∙ ap (λ (v : List ℕ). multipliers (cell (tableOf p)) v base (root p)) (b .known .vertices)
       ∙ ap (λ (s : State). multipliers (cell (tableOf p)) (required p) s (root p)) (b .base-is)
 
-  -- the multipliers of heights that pass the test are lawful, and 0 at the root
-  pub lawful-rooted : (x : List ℕ) → T (areLawful table (base .amounts) x vs) → Rooted p (multipliersAt x vs)
-  lawful-rooted x h =
+  -- multipliers that pass the test are lawful, once that of the root is taken off
+  pub lawful-rooted : (x : List ℤ) → AreSmall beyond x → T (areLawful table (base .amounts) x vs) → Rooted p (rooted x vs)
+  lawful-rooted x small h =
       let d : T (areLawful (tableOf p) (base .amounts) x vs) = subst (λ (t : List (List ℕ)). T (areLawful t (base .amounts) x vs)) (b .known .distances) h in
       let v : T (areLawful (tableOf p) (base .amounts) x (required p)) = subst (λ (vs : List ℕ). T (areLawful (tableOf p) (base .amounts) x vs)) (b .known .vertices) d in
       let s = subst (λ (s : State). T (areLawful (tableOf p) (s .amounts) x (required p))) (b .base-is) v in
-      subst⁻¹ (λ (vs : List ℕ). Rooted p (multipliersAt x vs)) (b .known .vertices) (heights-rooted p (b .known .plannable) (b .known .few) x s)
+      subst⁻¹ (λ (vs : List ℕ). Rooted p (rooted x vs)) (b .known .vertices) (lawful-at-root p (b .known .plannable) (b .known .few) x small s)
 
 module _ (p : Plan) (table : List (List ℕ)) (vs : List ℕ) (base : State) (b : IsBase p table vs base) (u : List ℤ) (e : Rooted p u) where
   abbrev ok : Plannable p

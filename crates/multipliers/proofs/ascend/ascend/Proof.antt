@@ -5,10 +5,9 @@ use native.Mathlib.Omega.{arith}
 use Rattle.integers.specs.Linear.{back64}
 use Rattle.multiplier_steps.specs.Laws.Turns.{turn}
 use Rattle.multiplier_steps.specs.Turns.{turns}
-use Rattle.residual_search.specs.Search.{beyond}
 use Rattle.postman.specs.Plan.{Plan}
 use Rattle.multipliers.specs.Ascent.{climb}
-use Rattle.multipliers.specs.Climbs.{climbOf}
+use Rattle.multipliers.specs.Climbs.{climbOf, CanStep}
 use Rattle.multipliers.specs.Prepared.{IsPrepared}
 use Rattle.multipliers.specs.Laws.Climb.{ascent-is}
 use borrow.Author.Needs.{needs}
@@ -17,7 +16,7 @@ use Rattle.multipliers.proofs.ascend.ascend.Tie as tie
 
 abbrev Inv-loop : tie.InvT-loop
 Inv-loop table f vs component flags k cost imbalance c₀ i₀ c i =
-    (i ≤ 20) × (c .stride ≤ beyond) × ((p : Plan) → IsPrepared p table f vs component flags k cost imbalance → climbOf c ≡ turns (climb p table f vs component k) (climbOf c₀) i)
+    (i ≤ 20) × CanStep c × ((p : Plan) → IsPrepared p table f vs component flags k cost imbalance → climbOf c ≡ turns (climb p table f vs component k) (climbOf c₀) i)
 
 abbrev μ-loop : tie.MeasureT-loop
 μ-loop table f vs component flags k cost imbalance c₀ i₀ c i = 20 - i
