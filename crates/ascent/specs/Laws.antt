@@ -1,2 +1,2 @@
--- What is proved: loops, turn by turn, and what the test of heights says.
+-- What is proved: loops, turn by turn, and that what a step gives is small.
 pub mod Bodies

@@ -3,4 +3,4 @@ use Rattle.ascent.specs.declared.step.Stepped.{Stepped}
 use Rattle.ascent.specs.Step.{Step}
 
 abbrev pub stepOf : Stepped → Step
-stepOf r = record { heights = r .heights; value = r .value; balanced = r .balanced }
+stepOf r = record { multipliers = r .multipliers; value = r .value; balanced = r .balanced }

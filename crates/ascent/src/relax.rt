@@ -1,16 +1,16 @@
-// Heights brought back under document 01's two conditions: every vertex whose height changed asks of all others, until none is open.
-use heights::heights::larger;
+// Multipliers brought back under document 01's two conditions: every vertex whose multiplier changed asks of all others, until none is open.
 use integers::wide;
-use residual_search::entries::lesser;
-use residual_search::entries::monus;
+use multiplier_steps::steps::capped;
+use multiplier_steps::steps::capped_all;
 use residual_search::entries::vertex;
 ghost use mathlib.Core.Path.{_≡_};
 ghost use mathlib.Core.Bool.{_&&_};
-ghost use Prim.Native.Nat.{_<_, _≤_};
+ghost use Prim.Native.Nat.{_<_};
 ghost use lib.Dec.{eqb};
+ghost use Rattle.integers.specs.Linear.{Within};
 ghost use Rattle.residual_search.specs.Bounds.{AtMost};
 ghost use Rattle.residual_search.specs.Search.{beyond};
-ghost use Rattle.ascent.specs.Relax.{backPlace, isAhead, asks, follows, moveVertex, moveAll, ask as askAll, sweep as sweepAll, areClosed, settled};
+ghost use Rattle.ascent.specs.Relax.{backPlace, isAhead, asks, overtakes as overtakesIn, moveVertex, moveAll, ask as askAll, sweep as sweepAll, areClosed, settled};
 
 // Where the amount stands that decides what w asks of v.
 fn place(up: bool, v: usize, w: usize) -> usize
@@ -23,7 +23,7 @@ fn place(up: bool, v: usize, w: usize) -> usize
     w * 64 + v
 }
 
-// Whether it asks for more than its own height.
+// Whether it asks for more than its own multiplier.
 fn ahead(up: bool, back: u16) -> bool
     ensures { λ r. ⌜ r ≡ isAhead up back ⌝ }
 {
@@ -33,25 +33,25 @@ fn ahead(up: bool, back: u16) -> bool
     !up
 }
 
-// What a vertex at the height `base` asks.
-fn asked(up: bool, back: u16, near: u32, far: u32, base: u64) -> u64
-    requires { ⌜ base ≤ beyond ⌝ }
+// What a vertex with the multiplier `base` asks.
+fn asked(up: bool, back: u16, near: u32, far: u32, base: i64) -> i64
+    requires { ⌜ Within beyond base ⌝ }
     ensures { λ r. ⌜ r ≡ asks up back near far base ⌝ }
 {
     if ahead(up, back) {
-        return base + near as u64;
+        return base + near as i64;
     }
-    monus(base, far as u64)
+    base - far as i64
 }
 
-// What becomes of a height.
-fn moved(up: bool, c: u64, old: u64) -> u64
-    ensures { λ r. ⌜ r ≡ follows up c old ⌝ }
+// Whether a multiplier follows what is asked: up, where that is more; else where it is less.
+fn overtakes(up: bool, c: i64, old: i64) -> bool
+    ensures { λ r. ⌜ r ≡ overtakesIn up c old ⌝ }
 {
     if up {
-        return larger(c, old);
+        return old < c;
     }
-    lesser(c, old)
+    c < old
 }
 
 // v follows what w asks.
@@ -61,19 +61,17 @@ fn move_vertex(
     up: bool,
     v: usize,
     w: usize,
-    base: u64,
-    x: &mut [u64; 64],
+    base: i64,
+    x: &mut [i64; 64],
     marks: &mut [u8; 64],
 )
-    requires { ⌜ (v < 64) × (w < 64) × (base ≤ beyond) ⌝ }
+    requires { ⌜ (v < 64) × (w < 64) × Within beyond base ⌝ }
     ensures { λ r. ⌜ (now (x .exit), now (marks .exit)) ≡ moveVertex (now (d .entry)) (now (f .entry)) up w base (now (x .entry), now (marks .entry)) v ⌝ }
 {
     let back = f[place(up, v, w)];
     let c = asked(up, back, d[v][w], d[w][v], base);
-    let old = x[v];
-    let new = moved(up, c, old);
-    if new != old {
-        x[v] = new;
+    if overtakes(up, c, x[v]) {
+        x[v] = c;
         marks[v] = 1;
     }
 }
@@ -85,11 +83,11 @@ fn move_all(
     up: bool,
     vs: &[u8],
     w: usize,
-    base: u64,
-    x: &mut [u64; 64],
+    base: i64,
+    x: &mut [i64; 64],
     marks: &mut [u8; 64],
 )
-    requires { ⌜ (w < 64) × (base ≤ beyond) × AtMost 63 (now vs) ⌝ }
+    requires { ⌜ (w < 64) × Within beyond base × AtMost 63 (now vs) ⌝ }
     ensures { λ r. ⌜ (now (x .exit), now (marks .exit)) ≡ moveAll (now (d .entry)) (now (f .entry)) up (now (vs .entry)) w base (now (x .entry), now (marks .entry)) ⌝ }
 {
     let mut a: usize = 0;
@@ -107,7 +105,7 @@ fn ask(
     up: bool,
     vs: &[u8],
     w: usize,
-    x: &mut [u64; 64],
+    x: &mut [i64; 64],
     marks: &mut [u8; 64],
 )
     requires { ⌜ (w < 64) × AtMost 63 (now vs) ⌝ }
@@ -115,7 +113,7 @@ fn ask(
 {
     if marks[w] > 0 {
         marks[w] = 0;
-        let base = lesser(x[w], 1099511627776);
+        let base = capped(x[w]);
         move_all(d, f, up, vs, w, base, x, marks);
     }
 }
@@ -126,7 +124,7 @@ fn sweep(
     f: &[u16; 4096],
     up: bool,
     vs: &[u8],
-    x: &mut [u64; 64],
+    x: &mut [i64; 64],
     marks: &mut [u8; 64],
 )
     requires { ⌜ AtMost 63 (now vs) ⌝ }
@@ -165,14 +163,14 @@ fn all_closed(marks: &[u8; 64], vs: &[u8]) -> bool
     b
 }
 
-// The heights under the two conditions: the largest that each allows the others, or, up, the least.
+// The multipliers under the two conditions: the largest that each allows the others, or, up, the least. Capped, so that they are small.
 pub(crate) fn settle(
     d: &[[u32; 64]; 64],
     f: &[u16; 4096],
     up: bool,
     vs: &[u8],
-    x: [u64; 64],
-) -> [u64; 64]
+    x: [i64; 64],
+) -> [i64; 64]
     requires { ⌜ AtMost 63 (now vs) ⌝ }
     ensures { λ r. ⌜ r ≡ settled (now (d .entry)) (now (f .entry)) up (now (vs .entry)) x ⌝ }
 {
@@ -181,10 +179,10 @@ pub(crate) fn settle(
     let mut k: usize = 0;
     while k < 64 {
         if all_closed(&marks, vs) {
-            return y;
+            return capped_all(&y, vs);
         }
         sweep(d, f, up, vs, &mut y, &mut marks);
         k += 1;
     }
-    y
+    capped_all(&y, vs)
 }

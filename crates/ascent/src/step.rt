@@ -4,37 +4,40 @@ use ascent_tree::offers::offers;
 use ascent_tree::tree::bit;
 use ascent_tree::tree::follow;
 use ascent_tree::tree::grow;
-use heights::heights::carry_on;
 use integers::wide;
+use multiplier_steps::steps::carry_on;
 use residual_search::entries::vertex;
 ghost use mathlib.Core.Path.{_≡_};
 ghost use mathlib.Core.Bool.{_&&_};
 ghost use Prim.Native.Nat.{_<_, _≤_};
-ghost use lib.Dec.{eqb};
+ghost use lib.Signed.{leZ};
 ghost use Rattle.residual_search.specs.Bounds.{AtMost};
 ghost use Rattle.residual_search.specs.Search.{beyond};
+ghost use Rattle.multiplier_steps.specs.Steps.{AreSmall};
 ghost use Rattle.ascent.specs.Step.{areSame, step as stepFrom};
 ghost use Rattle.ascent.specs.Records.{stepOf};
 
-// The heights after a step, the cost of the tree at those before it, and whether that tree is balanced.
+// The multipliers after a step, the cost of the tree at those before it, and whether that tree is balanced.
 pub struct Stepped {
-    pub heights: [u64; 64],
-    pub value: u64,
+    pub multipliers: [i64; 64],
+    pub value: i64,
     pub balanced: bool,
 }
 
-// Whether b, and two heights are the same.
-fn both(b: bool, x: u64, y: u64) -> bool
-    ensures { λ r. ⌜ r ≡ (b && eqb x y) ⌝ }
+// Whether b, and two multipliers are the same.
+fn both(b: bool, x: i64, y: i64) -> bool
+    ensures { λ r. ⌜ r ≡ (b && (leZ x y && leZ y x)) ⌝ }
 {
     if b {
-        return x == y;
+        if x <= y {
+            return y <= x;
+        }
     }
     false
 }
 
-// Whether two lists of heights are the same.
-fn same(vs: &[u8], x: &[u64; 64], y: &[u64; 64]) -> bool
+// Whether two lists of multipliers are the same.
+fn same(vs: &[u8], x: &[i64; 64], y: &[i64; 64]) -> bool
     requires { ⌜ AtMost 63 (now vs) ⌝ }
     ensures { λ r. ⌜ r ≡ areSame (now (vs .entry)) (now (x .entry)) (now (y .entry)) ⌝ }
 {
@@ -57,10 +60,10 @@ pub fn step(
     k: usize,
     up: bool,
     s: u64,
-    x: &[u64; 64],
-    before: &[u64; 64],
+    x: &[i64; 64],
+    before: &[i64; 64],
 ) -> Stepped
-    requires { ⌜ AtMost 63 (now vs) × (1 ≤ k) × (k ≤ 8) × (s ≤ beyond) ⌝ }
+    requires { ⌜ AtMost 63 (now vs) × (1 ≤ k) × (k ≤ 8) × (s ≤ beyond) × AreSmall beyond (now x) × AreSmall beyond (now before) ⌝ }
     ensures { λ r. ⌜ stepOf r ≡ stepFrom (now (d .entry)) (now (f .entry)) (now (vs .entry)) (now (component .entry)) k up s (now (x .entry)) (now (before .entry)) ⌝ }
 {
     let o = offers(d, x, component, vs);
@@ -74,7 +77,7 @@ pub fn step(
     let b = same(vs, &y, x);
     let z = carry_on(y, x, before, vs);
     Stepped {
-        heights: settle(d, f, up, vs, z),
+        multipliers: settle(d, f, up, vs, z),
         value: all[n - 1],
         balanced: b,
     }

@@ -1,35 +1,34 @@
 -- The cheapest pair for each two components: for each of 8 rows of 8 the least reduced cost of a pair of vertices, and the first pair that has it, as 64 × tail + head.
-use mathlib.Core.Bool.{cond}
+use mathlib.Core.Bool.{Bool, cond}
 use mathlib.Core.List.{List}
-use Prim.Native.Nat.{ℕ, _+_, _*_, _-_, _%_, min}
-use lib.Dec.{ltb}
+use Prim.Native.Nat.{ℕ, _+_, _*_, _%_}
 use lib.ListN.{length, getD, set, replicate}
+use lib.IntN.{ℤ, pos, _+ℤ_, _-ℤ_}
+use lib.Signed.{ltZ}
 use Rattle.residual_search.specs.Search.{beyond}
 use Rattle.residual_search.specs.Step.{cell}
-use Rattle.heights.specs.Turns.{turns}
-use Rattle.heights.specs.Heights.{capped}
+use Rattle.multiplier_steps.specs.Turns.{turns}
 
 abbrev pub Offers : Type 0
-Offers = List ℕ × List ℕ
+Offers = List ℤ × List ℕ
 
 abbrev pub part : List ℕ → ℕ → ℕ
 part component v = getD component v 0 % 8
 
--- d(i,j) − u(i) + u(j), which is not negative where the heights are lawful.
-abbrev pub reduced : ℕ → ℕ → ℕ → ℕ
-reduced d xi xj = d + xj - xi
-
-module _ (d : List (List ℕ)) (x component : List ℕ) where
-  abbrev pub costOf : ℕ → ℕ → ℕ
-  costOf i j = reduced (cell d i j) (capped x i) (capped x j)
+module _ (d : List (List ℕ)) (x : List ℤ) (component : List ℕ) where
+  -- "d(i,j) − u(i) + u(j)"
+  abbrev pub costOf : ℕ → ℕ → ℤ
+  costOf i j = pos (cell d i j) -ℤ getD x i (pos 0) +ℤ getD x j (pos 0)
 
   abbrev pub entryFor : ℕ → ℕ → ℕ
   entryFor i j = part component i * 8 + part component j
 
   -- The pair from i to j is offered.
+  abbrev pub isCheaper : Offers → ℕ → ℕ → Bool
+  isCheaper s i j = ltZ (costOf i j) (getD (s .0) (entryFor i j) (pos 0))
+
   abbrev pub offer : ℕ → Offers → ℕ → Offers
-  offer i s j =
-      (set (s .0) (entryFor i j) (min (costOf i j) (getD (s .0) (entryFor i j) 0)), set (s .1) (entryFor i j) (cond (ltb (costOf i j) (getD (s .0) (entryFor i j) 0)) (i * 64 + j) (getD (s .1) (entryFor i j) 0)))
+  offer i s j = cond (isCheaper s i j) (set (s .0) (entryFor i j) (costOf i j), set (s .1) (entryFor i j) (i * 64 + j)) s
 
   module _ (vs : List ℕ) where
     unfoldable pub offersFrom : Offers → ℕ → Offers
@@ -38,4 +37,4 @@ module _ (d : List (List ℕ)) (x component : List ℕ) where
 
     unfoldable pub offers : Offers
     unfolding turns offersFrom
-    offers = turns (λ s a. offersFrom s (getD vs a 0)) (replicate 64 beyond, replicate 64 0) (length vs)
+    offers = turns (λ s a. offersFrom s (getD vs a 0)) (replicate 64 (pos beyond), replicate 64 0) (length vs)

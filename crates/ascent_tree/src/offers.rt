@@ -1,14 +1,15 @@
 // The cheapest pair for each two components.
-use heights::heights::height;
 use integers::wide;
-use residual_search::entries::monus;
+use pair_costs::pairs::reduced;
 use residual_search::entries::vertex;
 ghost use mathlib.Core.Path.{_≡_};
-ghost use Prim.Native.Nat.{_*_, _<_, _≤_};
+ghost use Prim.Native.Nat.{_*_, _<_};
+ghost use lib.IntN.{pos};
+ghost use lib.ListN.{getD};
 ghost use Rattle.residual_search.specs.Bounds.{AtMost};
 ghost use Rattle.residual_search.specs.Search.{beyond};
-ghost use Rattle.heights.specs.Heights.{capped};
-ghost use Rattle.ascent_tree.specs.Offers.{part, reduced, offer, offersFrom, offers as offersOf};
+ghost use Rattle.multiplier_steps.specs.Steps.{AreSmall};
+ghost use Rattle.ascent_tree.specs.Offers.{part, offer, offersFrom, offers as offersOf};
 
 // The component of a vertex.
 fn part_of(component: &[u8; 64], v: usize) -> usize
@@ -18,31 +19,23 @@ fn part_of(component: &[u8; 64], v: usize) -> usize
     wide(component[v] % 8)
 }
 
-// d less the height of the tail, and that of the head.
-fn reduce(d: u32, xi: u64, xj: u64) -> u64
-    requires { ⌜ xj ≤ beyond ⌝ }
-    ensures { λ r. ⌜ r ≡ reduced d xi xj ⌝ }
-{
-    monus(d as u64 + xj, xi)
-}
-
-// The pair from i to j is offered. What is the tail's, its component's row and its height, is looked up once for all pairs from it.
+// The pair from i to j is offered. What is the tail's, its component's row and its multiplier, is looked up once for all pairs from it.
 fn offer_pair(
     d: &[[u32; 64]; 64],
-    x: &[u64; 64],
+    x: &[i64; 64],
     component: &[u8; 64],
     i: usize,
     row: usize,
-    xi: u64,
+    xi: i64,
     j: usize,
-    m: &mut [u64; 64],
+    m: &mut [i64; 64],
     at: &mut [u16; 64],
 )
-    requires { ⌜ (i < 64) × (j < 64) × (row ≡ part (now component) i * 8) × (xi ≡ capped (now x) i) ⌝ }
+    requires { ⌜ (i < 64) × (j < 64) × (row ≡ part (now component) i * 8) × (xi ≡ getD (now x) i (pos 0)) × AreSmall beyond (now x) ⌝ }
     ensures { λ r. ⌜ (now (m .exit), now (at .exit)) ≡ offer (now (d .entry)) (now (x .entry)) (now (component .entry)) i (now (m .entry), now (at .entry)) j ⌝ }
 {
     let l = row + part_of(component, j);
-    let c = reduce(d[i][j], xi, height(x, j));
+    let c = reduced(d[i][j], xi, x[j]);
     if c < m[l] {
         m[l] = c;
         at[l] = (i * 64 + j) as u16;
@@ -52,18 +45,18 @@ fn offer_pair(
 // All pairs from i are offered.
 fn offer_from(
     d: &[[u32; 64]; 64],
-    x: &[u64; 64],
+    x: &[i64; 64],
     component: &[u8; 64],
     vs: &[u8],
     i: usize,
-    m: &mut [u64; 64],
+    m: &mut [i64; 64],
     at: &mut [u16; 64],
 )
-    requires { ⌜ (i < 64) × AtMost 63 (now vs) ⌝ }
+    requires { ⌜ (i < 64) × AtMost 63 (now vs) × AreSmall beyond (now x) ⌝ }
     ensures { λ r. ⌜ (now (m .exit), now (at .exit)) ≡ offersFrom (now (d .entry)) (now (x .entry)) (now (component .entry)) (now (vs .entry)) (now (m .entry), now (at .entry)) i ⌝ }
 {
     let row = part_of(component, i) * 8;
-    let xi = height(x, i);
+    let xi = x[i];
     let mut b: usize = 0;
     while b < vs.len() {
         let j = wide(vertex(vs, b));
@@ -72,18 +65,18 @@ fn offer_from(
     }
 }
 
-// The offers.
+// The offers: reduced costs, which are signed, and the pairs that make them.
 pub struct Cheapest {
-    pub costs: [u64; 64],
+    pub costs: [i64; 64],
     pub pairs: [u16; 64],
 }
 
 // All pairs are offered.
-pub fn offers(d: &[[u32; 64]; 64], x: &[u64; 64], component: &[u8; 64], vs: &[u8]) -> Cheapest
-    requires { ⌜ AtMost 63 (now vs) ⌝ }
+pub fn offers(d: &[[u32; 64]; 64], x: &[i64; 64], component: &[u8; 64], vs: &[u8]) -> Cheapest
+    requires { ⌜ AtMost 63 (now vs) × AreSmall beyond (now x) ⌝ }
     ensures { λ r. ⌜ (r .costs, r .pairs) ≡ offersOf (now (d .entry)) (now (x .entry)) (now (component .entry)) (now (vs .entry)) ⌝ }
 {
-    let mut m: [u64; 64] = [1099511627776; 64];
+    let mut m: [i64; 64] = [1099511627776; 64];
     let mut at: [u16; 64] = [0; 64];
     let mut a: usize = 0;
     while a < vs.len() {

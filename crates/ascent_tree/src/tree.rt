@@ -1,14 +1,15 @@
 // A cheapest tree, by sets of components, and a step along its links.
 use arborescence::reach::single;
-use heights::heights::height;
 use integers::wide;
-use residual_search::entries::lesser;
+use multiplier_steps::steps::capped;
 use residual_search::entries::monus;
 ghost use mathlib.Core.Path.{_≡_};
 ghost use mathlib.Core.Bool.{cond, _&&_};
 ghost use Prim.Native.Nat.{_^_, _<_, _≤_};
-ghost use lib.Dec.{ltb};
+ghost use lib.IntN.{pos, _+ℤ_, _-ℤ_};
+ghost use lib.Signed.{ltZ};
 ghost use Rattle.residual_search.specs.Search.{beyond};
+ghost use Rattle.multiplier_steps.specs.Steps.{capped as cappedTo};
 ghost use Rattle.ascent_tree.specs.Tree.{holds, entry as entryOf, isBetter, enter as enterBy, extend as extendBy, grown, shifted, walkBack, along};
 
 // The set of component q alone.
@@ -28,9 +29,9 @@ fn is_in(s: u64, q: usize) -> bool
 }
 
 // Whether component p is in the set s, and its offer is below the lowest so far.
-fn undercuts(s: u64, p: usize, c: u64, low: u64) -> bool
+fn undercuts(s: u64, p: usize, c: i64, low: i64) -> bool
     requires { ⌜ p < 8 ⌝ }
-    ensures { λ r. ⌜ r ≡ (holds s p && ltb c low) ⌝ }
+    ensures { λ r. ⌜ r ≡ (holds s p && ltZ c low) ⌝ }
 {
     if is_in(s, p) {
         return c < low;
@@ -45,7 +46,7 @@ fn pick_component(b: bool, new: usize, old: usize) -> usize
 }
 
 // Where q is entered from, out of the set s. The lowest offer is held beside the component that makes it.
-fn entry(m: &[u64; 64], s: u64, q: usize) -> usize
+fn entry(m: &[i64; 64], s: u64, q: usize) -> usize
     requires { ⌜ q < 8 ⌝ }
     ensures { λ r. ⌜ (r ≡ entryOf (now (m .entry)) s q) × (r < 8) ⌝ }
 {
@@ -61,7 +62,7 @@ fn entry(m: &[u64; 64], s: u64, q: usize) -> usize
 }
 
 // Whether to enter q from the set s at cost c is better.
-fn better(s: u64, q: usize, c: u64, old: u64) -> bool
+fn better(s: u64, q: usize, c: i64, old: i64) -> bool
     requires { ⌜ q < 8 ⌝ }
     ensures { λ r. ⌜ r ≡ isBetter s q c old ⌝ }
 {
@@ -71,7 +72,7 @@ fn better(s: u64, q: usize, c: u64, old: u64) -> bool
     c < old
 }
 
-fn pick(b: bool, new: u64, old: u64) -> u64
+fn pick(b: bool, new: i64, old: i64) -> i64
     ensures { λ r. ⌜ r ≡ cond b new old ⌝ }
 {
     if b { new } else { old }
@@ -83,15 +84,22 @@ fn pick_entry(b: bool, new: u8, old: u8) -> u8
     if b { new } else { old }
 }
 
+// The sum of two costs.
+fn sum(a: i64, b: i64) -> i64
+    ensures { λ r. ⌜ r ≡ cappedTo a +ℤ cappedTo b ⌝ }
+{
+    capped(a) + capped(b)
+}
+
 // q is entered from the set s, unless it is in it.
-fn enter(m: &[u64; 64], s: u64, q: usize, cost: &mut [u64; 256], from: &mut [u8; 256])
+fn enter(m: &[i64; 64], s: u64, q: usize, cost: &mut [i64; 256], from: &mut [u8; 256])
     requires { ⌜ (s < 256) × (q < 8) ⌝ }
     ensures { λ r. ⌜ (now (cost .exit), now (from .exit)) ≡ enterBy (now (m .entry)) s (now (cost .entry), now (from .entry)) q ⌝ }
 {
     let p = entry(m, s, q);
     let here = (s / 2) as usize;
     let there = ((s + bit(q)) / 2) as usize;
-    let c = lesser(cost[here], 1099511627776) + lesser(m[p * 8 + q], 1099511627776);
+    let c = sum(cost[here], m[p * 8 + q]);
     let old = cost[there];
     let b = better(s, q, c, old);
     let e = pick_entry(b, (p * 8 + q) as u8, from[there]);
@@ -100,7 +108,7 @@ fn enter(m: &[u64; 64], s: u64, q: usize, cost: &mut [u64; 256], from: &mut [u8;
 }
 
 // The same: for a component that is in the set nothing is looked up.
-fn enter_new(m: &[u64; 64], s: u64, q: usize, cost: &mut [u64; 256], from: &mut [u8; 256])
+fn enter_new(m: &[i64; 64], s: u64, q: usize, cost: &mut [i64; 256], from: &mut [u8; 256])
     requires { ⌜ (s < 256) × (q < 8) ⌝ }
     ensures { λ r. ⌜ (now (cost .exit), now (from .exit)) ≡ enterBy (now (m .entry)) s (now (cost .entry), now (from .entry)) q ⌝ }
 {
@@ -110,7 +118,7 @@ fn enter_new(m: &[u64; 64], s: u64, q: usize, cost: &mut [u64; 256], from: &mut 
 }
 
 // Each component that is not in set number i is entered from it.
-fn extend(m: &[u64; 64], i: usize, cost: &mut [u64; 256], from: &mut [u8; 256])
+fn extend(m: &[i64; 64], i: usize, cost: &mut [i64; 256], from: &mut [u8; 256])
     requires { ⌜ i < 128 ⌝ }
     ensures { λ r. ⌜ (now (cost .exit), now (from .exit)) ≡ extendBy (now (m .entry)) (now (cost .entry), now (from .entry)) i ⌝ }
 {
@@ -122,16 +130,16 @@ fn extend(m: &[u64; 64], i: usize, cost: &mut [u64; 256], from: &mut [u8; 256])
 
 // For each set the least cost, and the last entry.
 pub struct Sets {
-    pub cost: [u64; 256],
+    pub cost: [i64; 256],
     pub from: [u8; 256],
 }
 
 // The first n sets, from component 0 alone.
-pub fn grow(m: &[u64; 64], n: usize) -> Sets
+pub fn grow(m: &[i64; 64], n: usize) -> Sets
     requires { ⌜ n ≤ 128 ⌝ }
     ensures { λ r. ⌜ (r .cost, r .from) ≡ grown (now (m .entry)) n ⌝ }
 {
-    let mut cost: [u64; 256] = [1099511627776; 256];
+    let mut cost: [i64; 256] = [1099511627776; 256];
     let mut from: [u8; 256] = [0; 256];
     cost[0] = 0;
     for i in 0..n {
@@ -143,19 +151,35 @@ pub fn grow(m: &[u64; 64], n: usize) -> Sets
     }
 }
 
-// The heights after a link: that of its head rises, that of its tail falls.
-fn shift(x: &mut [u64; 64], pair: u16, s: u64)
+// A multiplier that rises by s.
+fn rise(a: i64, s: u64) -> i64
+    requires { ⌜ s ≤ beyond ⌝ }
+    ensures { λ r. ⌜ r ≡ cappedTo a +ℤ pos s ⌝ }
+{
+    capped(a) + s as i64
+}
+
+// A multiplier that falls by s.
+fn fall(a: i64, s: u64) -> i64
+    requires { ⌜ s ≤ beyond ⌝ }
+    ensures { λ r. ⌜ r ≡ cappedTo a -ℤ pos s ⌝ }
+{
+    capped(a) - s as i64
+}
+
+// The multipliers after a link: that of its head rises, that of its tail falls.
+fn shift(x: &mut [i64; 64], pair: u16, s: u64)
     requires { ⌜ s ≤ beyond ⌝ }
     ensures { λ r. ⌜ now (x .exit) ≡ shifted (now (x .entry)) pair s ⌝ }
 {
     let head = (pair % 64) as usize;
     let tail = (pair / 64 % 64) as usize;
-    x[head] = lesser(x[head], 1099511627776) + s;
-    x[tail] = monus(lesser(x[tail], 1099511627776), s);
+    x[head] = rise(x[head], s);
+    x[tail] = fall(x[tail], s);
 }
 
 // One link back from the set at place t.
-fn walk_back(from: &[u8; 256], at: &[u16; 64], s: u64, x: &mut [u64; 64], t: usize) -> usize
+fn walk_back(from: &[u8; 256], at: &[u16; 64], s: u64, x: &mut [i64; 64], t: usize) -> usize
     requires { ⌜ (t < 256) × (s ≤ beyond) ⌝ }
     ensures { λ r. ⌜ ((now (x .exit), r) ≡ walkBack (now (from .entry)) (now (at .entry)) s (now (x .entry), t)) × (r < 256) ⌝ }
 {
@@ -168,8 +192,8 @@ fn walk_back(from: &[u8; 256], at: &[u16; 64], s: u64, x: &mut [u64; 64], t: usi
     monus(t as u64, half) as usize
 }
 
-// The heights after the links of the tree that reaches the set at place t.
-pub fn follow(from: &[u8; 256], at: &[u16; 64], s: u64, x: &[u64; 64], t: usize) -> [u64; 64]
+// The multipliers after the links of the tree that reaches the set at place t.
+pub fn follow(from: &[u8; 256], at: &[u16; 64], s: u64, x: &[i64; 64], t: usize) -> [i64; 64]
     requires { ⌜ (t < 256) × (s ≤ beyond) ⌝ }
     ensures { λ r. ⌜ r ≡ along (now (from .entry)) (now (at .entry)) s (now (x .entry)) t ⌝ }
 {

@@ -29,7 +29,7 @@ ghost use Rattle.multipliers.specs.Prepared.{IsKnown, IsBase, IsMeasured};
 ghost use Rattle.planner.specs.Refusals.{networkRefusal, planRefusal};
 ghost use Rattle.multipliers.specs.Tour.{tableOf};
 ghost use Rattle.postman.specs.Plan.{WellFormed};
-ghost use Rattle.multipliers.specs.Ascent.{multipliersFor};
+ghost use Rattle.multipliers.specs.Ascent.{multipliersFor, boundOf};
 ghost use Rattle.solution.specs.Resumed.{IsReachedBy};
 ghost use Rattle.district_turn.specs.Stint.{searchedOf, IsLast, IsStint, LeavesSheet};
 
@@ -99,10 +99,11 @@ fn last(
     net: Network,
     base: Balance,
     u: [i64; 64],
+    bound: i64,
     r: Resumed,
     sheet: &mut [u16],
 ) -> Stint
-    requires { ⌜ IsBase (planValue plan) (now table) (now vs) (stateOf base) × (u ≡ multipliersFor (planValue plan)) ⌝ }
+    requires { ⌜ IsBase (planValue plan) (now table) (now vs) (stateOf base) × (u ≡ multipliersFor (planValue plan)) × (bound ≡ boundOf (planValue plan) u) ⌝ }
     requires { ⌜ IsNetwork (planValue plan) net × (sheetPlaces ≤ length (now sheet)) × AreWeights (planValue plan) (now weights) ⌝ }
     ensures { λ x. ⌜ ((budget : ℕ) → 1 ≤ budget → IsSearched (planValue plan) budget (searchedOf r) → IsLast (planValue plan) budget (now (sheet .entry)) (now (sheet .exit)) x) ⌝ }
     ensures { λ x. ⌜ LeavesSheet (planValue plan) (now (sheet .entry)) (now (sheet .exit)) x ⌝ }
@@ -125,7 +126,7 @@ fn last(
         tried: r.total,
         whole: r.whole,
     };
-    let planned = conclude(plan, table, weights, vs, net, base, u, s, sheet);
+    let planned = conclude(plan, table, weights, vs, net, base, u, bound, s, sheet);
     finished(r, planned)
 }
 
@@ -147,14 +148,15 @@ pub(crate) fn one_turn(
 {
     let base = base_state(plan, table, vs);
     let greatest = multipliers_of(plan, table, vs, base);
-    let u = multipliers_for(plan, table, vs, net, base, greatest);
+    let m = multipliers_for(plan, table, vs, net, base, greatest);
+    let u = m.multipliers;
     let r = resume(plan, table, vs, net, base, u, budget, g);
     if r.tried < r.total {
         let ts = r.tails;
         let hs = r.heads;
         return so_far(true, r.cost, ts, hs, r.tried);
     }
-    last(plan, table, weights, vs, net, base, u, r, sheet)
+    last(plan, table, weights, vs, net, base, u, m.bound, r, sheet)
 }
 
 // The same, over the required vertices.

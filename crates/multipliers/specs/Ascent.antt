@@ -1,11 +1,11 @@
 -- The multipliers that are answered, as a function of the plan: of those that 20 steps meet, from the greatest that are 0 at the lowest required vertex on, the first that gives the largest L(u).
 use mathlib.Core.Bool.{Bool, false, cond, _&&_}
 use mathlib.Core.List.{List, [], map}
-use Prim.Native.Nat.{ℕ, _+_, _-_, _/_, _%_, min, max}
-use lib.Dec.{eqb, ltb}
-use lib.IntN.{ℤ}
+use Prim.Native.Nat.{ℕ, _+_, _-_, _/_, _%_, min}
+use lib.Dec.{eqb}
+use lib.IntN.{ℤ, pos}
 use lib.Signed.{ltZ}
-use Rattle.postman.specs.Lists.{below}
+use Rattle.postman.specs.Lists.{below, maxℤ}
 use Rattle.postman.specs.Plan.{Plan}
 use Rattle.postman.specs.Required.{required}
 use Rattle.postman.specs.Component.{component, componentCount}
@@ -16,19 +16,19 @@ use Rattle.residual_search.specs.Step.{cell}
 use Rattle.balance.specs.Balance.{balance}
 use Rattle.balance.specs.Multipliers.{multipliers}
 use Rattle.pair_costs.specs.PairCosts.{multipliersOf}
-use Rattle.heights.specs.Turns.{turns}
-use Rattle.heights.specs.Heights.{start, multipliersAt, span}
+use Rattle.multiplier_steps.specs.Turns.{turns}
+use Rattle.multiplier_steps.specs.Steps.{rooted, span}
 use Rattle.ascent.specs.Step.{Step, step}
-use Rattle.heights.specs.Lawful.{areLawful}
+use Rattle.multiplier_steps.specs.Lawful.{areLawful}
 use Rattle.multipliers.specs.Tour.{tableOf}
 
--- Where an ascent stands: the heights and those before the last step, the best multipliers met and their bound, the largest cost of a tree met, the length of the next step, and whether a tree was balanced.
+-- Where an ascent stands: the multipliers and those before the last step, the best multipliers met and their bound, the largest cost of a tree met, the length of the next step, and whether a tree was balanced.
 pub record Climb : Type 0 where
-  pub heights : List ℕ
-  pub before : List ℕ
+  pub multipliers : List ℤ
+  pub before : List ℤ
   pub best : List ℤ
   pub bound : ℤ
-  pub value : ℕ
+  pub value : ℤ
   pub stride : ℕ
   pub done : Bool
 
@@ -39,29 +39,29 @@ module _ (p : Plan) where
 
   module _ (d : List (List ℕ)) (f vs components : List ℕ) (k : ℕ) where
     abbrev pub taken : Climb → List ℤ → ℤ → Climb
-    taken c u l = record { heights = c .heights; before = c .before; best = u; bound = l; value = c .value; stride = c .stride; done = c .done }
+    taken c u l = record { multipliers = c .multipliers; before = c .before; best = u; bound = l; value = c .value; stride = c .stride; done = c .done }
 
-    -- The multipliers of the heights are the best so far, where they are lawful and their bound is larger.
+    -- The multipliers, 0 at the root, are the best so far, where they are lawful and their bound is larger.
     unfoldable pub attempt : Climb → Climb
-    unfolding areLawful multipliersAt lagrangianBound
+    unfolding areLawful rooted lagrangianBound
     attempt c =
-        cond (areLawful d f (c .heights) vs && ltZ (c .bound) (boundOf (multipliersAt (c .heights) vs))) (taken c (multipliersAt (c .heights) vs) (boundOf (multipliersAt (c .heights) vs))) c
+        cond (areLawful d f (c .multipliers) vs && ltZ (c .bound) (boundOf (rooted (c .multipliers) vs))) (taken c (rooted (c .multipliers) vs) (boundOf (rooted (c .multipliers) vs))) c
 
-    -- A step from c to heights, at which the tree costs `value`. A ninth of the step's length is lost.
+    -- A step from c, at which the tree costs `value`. A ninth of the step's length is lost.
     abbrev pub moved : Climb → Climb → Step → Climb
     moved c b s =
-        record { heights = s .heights; before = c .heights; best = b .best; bound = b .bound; value = max (c .value) (s .value); stride = c .stride - c .stride / 9; done = s .balanced }
+        record { multipliers = s .multipliers; before = c .multipliers; best = b .best; bound = b .bound; value = maxℤ (c .value) (s .value); stride = c .stride - c .stride / 9; done = s .balanced }
 
     -- Step i, unless a tree was balanced. Brought back from above and from below by turns.
     unfoldable pub climb : Climb → ℕ → Climb
     unfolding attempt step
     climb c i =
-        let s = step d f vs components k (eqb (i % 2) 1) (c .stride) (c .heights) (c .before) in
-        cond (c .done) c (moved c (cond (ltb (c .value) (s .value)) (attempt c) c) s)
+        let s = step d f vs components k (eqb (i % 2) 1) (c .stride) (c .multipliers) (c .before) in
+        cond (c .done) c (moved c (cond (ltZ (c .value) (s .value)) (attempt c) c) s)
 
     unfoldable pub begin : List ℤ → Climb
-    unfolding lagrangianBound start span
-    begin u = record { heights = start u vs; before = start u vs; best = u; bound = boundOf u; value = 0; stride = min (span d vs / 24 + 1) beyond; done = false }
+    unfolding lagrangianBound span
+    begin u = record { multipliers = u; before = u; best = u; bound = boundOf u; value = pos 0; stride = min (span d vs / 24 + 1) beyond; done = false }
 
     -- Of all multipliers met, the first with the largest L(u).
     unfoldable pub ascent : List ℤ → List ℤ

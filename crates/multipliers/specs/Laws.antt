@@ -1,6 +1,7 @@
 -- What is proved about the definitions.
 pub mod Tour
 pub mod Lay
+pub mod Price
 pub mod Bound
 pub mod Table
 pub mod Solve

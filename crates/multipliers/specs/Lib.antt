@@ -1,5 +1,6 @@
 pub mod Tour
 pub mod Prepared
+pub mod Price
 pub mod Priced
 pub mod Ascent
 pub mod Climbs

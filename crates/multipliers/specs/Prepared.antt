@@ -4,6 +4,7 @@ use mathlib.Core.Bool.{Bool}
 use mathlib.Core.List.{List, []}
 use Prim.Native.Nat.{ℕ, _≤_}
 use lib.ListN.{length}
+use lib.IntN.{ℤ}
 use Rattle.postman.specs.Plan.{Plan, WellFormed}
 use Rattle.postman.specs.Required.{required, requiredCost}
 use Rattle.postman.specs.Component.{componentCount}
@@ -13,7 +14,7 @@ use Rattle.residual_search.specs.Step.{State, cell}
 use Rattle.balance.specs.Balance.{balance}
 use Rattle.circuit.specs.Filled.{linksOf}
 use Rattle.network.specs.declared.network.Network.{Network}
-use Rattle.required.specs.Contracts.{IsRequiredFlags, IsComponents}
+use Rattle.required.specs.Contracts.{IsImbalance, IsRequiredFlags, IsComponents}
 use Rattle.network.specs.Network.{IsNetwork}
 use Rattle.multipliers.specs.Tour.{tableOf}
 
@@ -35,15 +36,15 @@ pub record IsBase (p : Plan) (table : List (List ℕ)) (vs : List ℕ) (base : S
   pub known : IsKnown p table vs
   pub base-is : base ≡ balance (cell (tableOf p)) p []
 
--- With the amounts and the cost of that state, its network in arrays, and R.
-pub record IsPrepared (p : Plan) (table : List (List ℕ)) (amounts vs component : List ℕ) (flags : List Bool) (k r price : ℕ) : Type 0 where
+-- With the amounts of that state, its network in arrays, R and D.
+pub record IsPrepared (p : Plan) (table : List (List ℕ)) (amounts vs component : List ℕ) (flags : List Bool) (k r : ℕ) (d : List ℤ) : Type 0 where
   pub known : IsKnown p table vs
   pub amounts-are : amounts ≡ balance (cell (tableOf p)) p [] .amounts
-  pub price-is : price ≡ balance (cell (tableOf p)) p [] .cost
   pub long : length flags ≡ 64
   pub required-flags : IsRequiredFlags p flags
   pub components : IsComponents p component k
   pub cost : r ≡ requiredCost p
+  pub imbalance : IsImbalance p d
 
 -- Tails and heads of the links of an arborescence.
 pub record IsTree (p : Plan) (tails heads : List ℕ) : Type 0 where

@@ -1,4 +1,4 @@
--- What is known of a plan and multipliers when L(u) is computed.
+-- What is known of a plan, its D and multipliers when L(u) is computed.
 use mathlib.Core.Path.{_≡_}
 use mathlib.Core.Bool.{Bool}
 use mathlib.Core.List.{List, List·Memᴰ}
@@ -7,14 +7,13 @@ use lib.ListN.{length}
 use lib.IntN.{ℤ, pos}
 use Rattle.postman.specs.Plan.{Plan}
 use Rattle.postman.specs.Required.{required, requiredCost}
-use Rattle.postman.specs.LagrangianBound.{priceOfImbalance}
 use Rattle.postman.specs.Laws.Optimality.{Plannable}
 use Rattle.postman.specs.Laws.LagrangianBound.{Feasible}
 use Rattle.shortest.specs.Contracts.{IsTable}
-use Rattle.required.specs.Contracts.{IsRequiredFlags, IsComponents}
+use Rattle.required.specs.Contracts.{IsImbalance, IsRequiredFlags, IsComponents}
 use Rattle.pair_costs.specs.PairCosts.{multipliersOf}
 
-pub record IsPriced (p : Plan) (table : List (List ℕ)) (u : List ℤ) (component : List ℕ) (flags : List Bool) (k r price : ℕ) : Type 0 where
+pub record IsPriced (p : Plan) (table : List (List ℕ)) (u : List ℤ) (component : List ℕ) (flags : List Bool) (k r : ℕ) (d : List ℤ) : Type 0 where
   pub plannable : Plannable p
   pub few : k ≤ 8
   pub some : 1 ≤ k
@@ -23,10 +22,9 @@ pub record IsPriced (p : Plan) (table : List (List ℕ)) (u : List ℤ) (compone
   pub required-flags : IsRequiredFlags p flags
   pub components : IsComponents p component k
   pub cost : r ≡ requiredCost p
+  pub imbalance : IsImbalance p d
   pub feasible : Feasible p (multipliersOf u)
   pub elsewhere : (i : ℕ) → (List·Memᴰ i (required p) → ⊥) → multipliersOf u i ≡ pos 0
   pub root : ℕ
   pub root-required : List·Memᴰ root (required p)
   pub at-root : multipliersOf u root ≡ pos 0
-  pub price-is : priceOfImbalance p (multipliersOf u) ≡ pos price
-  pub price-small : price ≤ 4398046511104

@@ -1,34 +1,34 @@
 // The multipliers that are answered: steps from the greatest ones on, of which the first with the largest bound is kept.
-// What is read at each step is lent: f are the amounts of the state of the required arcs, and price their cost; cost is R.
+// What is read at each step is lent: f are the amounts of the state of the required arcs; cost is R, and imbalance is D.
 use crate::bound::lagrangian;
+use crate::bound::larger;
 use balance::state::Balance;
 use network::network::Network;
 use plan::Plan;
 use residual_search::entries::lesser;
 ghost use mathlib.Core.Path.{_≡_};
 ghost use mathlib.Core.Bool.{cond};
-ghost use Prim.Native.Nat.{_≤_, max};
-ghost use lib.Dec.{ltb};
 ghost use lib.Signed.{ltZ};
 ghost use Rattle.postman.specs.Plan.{Plan as «a-plan»};
 ghost use Rattle.postman.specs.PlanCall.{root};
 ghost use Rattle.plan.specs.Records.{planValue};
 ghost use Rattle.residual_search.specs.Search.{beyond};
+ghost use Rattle.multiplier_steps.specs.Steps.{AreSmall};
 ghost use Rattle.residual_search.specs.Step.{cell};
 ghost use Rattle.balance.specs.Multipliers.{multipliers};
 ghost use Rattle.balance.specs.Records.{stateOf};
 ghost use Rattle.network.specs.Network.{IsNetwork};
 ghost use Rattle.multipliers.specs.Prepared.{IsBase, IsPrepared};
-ghost use Rattle.multipliers.specs.Ascent.{attempt as attemptOf, climb as climbOnce, begin, ascent as ascentOf, greatestOf, multipliersFor};
-ghost use Rattle.multipliers.specs.Climbs.{climbOf, holding};
+ghost use Rattle.multipliers.specs.Ascent.{attempt as attemptOf, climb as climbOnce, begin, ascent as ascentOf, greatestOf, multipliersFor, boundOf};
+ghost use Rattle.multipliers.specs.Climbs.{climbOf, holding, CanStep};
 
 // Where an ascent stands.
 pub struct Stage {
-    pub heights: [u64; 64],
-    pub before: [u64; 64],
+    pub multipliers: [i64; 64],
+    pub before: [i64; 64],
     pub best: [i64; 64],
     pub bound: i64,
-    pub value: u64,
+    pub value: i64,
     pub stride: u64,
     pub done: bool,
 }
@@ -46,7 +46,7 @@ fn exceeds(a: i64, b: i64) -> bool
     b < a
 }
 
-// The multipliers of the heights are the best so far, where they are lawful and their bound is larger.
+// The multipliers, 0 at the root, are the best so far, where they are lawful and their bound is larger.
 fn attempt(
     table: &[[u32; 64]; 64],
     f: &[u16; 4096],
@@ -55,21 +55,21 @@ fn attempt(
     flags: &[bool; 64],
     k: usize,
     cost: u64,
-    price: u64,
+    imbalance: &[i64; 64],
     c: Stage,
 ) -> Best
-    requires { ⌜ ((p : «a-plan») × IsPrepared p (now table) (now f) (now vs) (now component) (now flags) k cost price) ⌝ }
-    ensures { λ r. ⌜ ((p : «a-plan») → IsPrepared p (now (table .entry)) (now (f .entry)) (now (vs .entry)) (now (component .entry)) (now (flags .entry)) k cost price → holding c r ≡ attemptOf p (now (table .entry)) (now (f .entry)) (now (vs .entry)) (now (component .entry)) k (climbOf c)) ⌝ }
+    requires { ⌜ ((p : «a-plan») × IsPrepared p (now table) (now f) (now vs) (now component) (now flags) k cost (now imbalance)) × AreSmall beyond (c .multipliers) ⌝ }
+    ensures { λ r. ⌜ ((p : «a-plan») → IsPrepared p (now (table .entry)) (now (f .entry)) (now (vs .entry)) (now (component .entry)) (now (flags .entry)) k cost (now (imbalance .entry)) → holding c r ≡ attemptOf p (now (table .entry)) (now (f .entry)) (now (vs .entry)) (now (component .entry)) k (climbOf c)) ⌝ }
 {
-    let x = c.heights;
+    let x = c.multipliers;
     let best = c.best;
     let held = Best {
         multipliers: best,
         bound: c.bound,
     };
-    if heights::lawful::are_lawful(table, f, vs, &x) {
-        let u = heights::heights::multipliers_at(&x, vs);
-        let l = lagrangian(table, &u, component, flags, k, cost, price);
+    if multiplier_steps::lawful::are_lawful(table, f, vs, &x) {
+        let u = multiplier_steps::steps::rooted(&x, vs);
+        let l = lagrangian(table, &u, component, flags, k, cost, imbalance);
         if exceeds(l, c.bound) {
             return Best {
                 multipliers: u,
@@ -89,28 +89,21 @@ fn attempt_above(
     flags: &[bool; 64],
     k: usize,
     cost: u64,
-    price: u64,
+    imbalance: &[i64; 64],
     c: Stage,
-    value: u64,
+    value: i64,
 ) -> Best
-    requires { ⌜ ((p : «a-plan») × IsPrepared p (now table) (now f) (now vs) (now component) (now flags) k cost price) ⌝ }
-    ensures { λ r. ⌜ ((p : «a-plan») → IsPrepared p (now (table .entry)) (now (f .entry)) (now (vs .entry)) (now (component .entry)) (now (flags .entry)) k cost price → holding c r ≡ cond (ltb (c .value) value) (attemptOf p (now (table .entry)) (now (f .entry)) (now (vs .entry)) (now (component .entry)) k (climbOf c)) (climbOf c)) ⌝ }
+    requires { ⌜ ((p : «a-plan») × IsPrepared p (now table) (now f) (now vs) (now component) (now flags) k cost (now imbalance)) × AreSmall beyond (c .multipliers) ⌝ }
+    ensures { λ r. ⌜ ((p : «a-plan») → IsPrepared p (now (table .entry)) (now (f .entry)) (now (vs .entry)) (now (component .entry)) (now (flags .entry)) k cost (now (imbalance .entry)) → holding c r ≡ cond (ltZ (c .value) value) (attemptOf p (now (table .entry)) (now (f .entry)) (now (vs .entry)) (now (component .entry)) k (climbOf c)) (climbOf c)) ⌝ }
 {
     if c.value < value {
-        return attempt(table, f, vs, component, flags, k, cost, price, c);
+        return attempt(table, f, vs, component, flags, k, cost, imbalance, c);
     }
     let best = c.best;
     Best {
         multipliers: best,
         bound: c.bound,
     }
-}
-
-// The larger of two.
-fn more(a: u64, b: u64) -> u64
-    ensures { λ r. ⌜ r ≡ max a b ⌝ }
-{
-    if a < b { b } else { a }
 }
 
 // Step i, unless a tree was balanced.
@@ -122,26 +115,37 @@ fn climb(
     flags: &[bool; 64],
     k: usize,
     cost: u64,
-    price: u64,
+    imbalance: &[i64; 64],
     c: Stage,
     i: usize,
 ) -> Stage
-    requires { ⌜ ((p : «a-plan») × IsPrepared p (now table) (now f) (now vs) (now component) (now flags) k cost price) × (c .stride ≤ beyond) ⌝ }
-    ensures { λ r. ⌜ ((p : «a-plan») → IsPrepared p (now (table .entry)) (now (f .entry)) (now (vs .entry)) (now (component .entry)) (now (flags .entry)) k cost price → climbOf r ≡ climbOnce p (now (table .entry)) (now (f .entry)) (now (vs .entry)) (now (component .entry)) k (climbOf c) i) × (r .stride ≤ beyond) ⌝ }
+    requires { ⌜ ((p : «a-plan») × IsPrepared p (now table) (now f) (now vs) (now component) (now flags) k cost (now imbalance)) × CanStep c ⌝ }
+    ensures { λ r. ⌜ ((p : «a-plan») → IsPrepared p (now (table .entry)) (now (f .entry)) (now (vs .entry)) (now (component .entry)) (now (flags .entry)) k cost (now (imbalance .entry)) → climbOf r ≡ climbOnce p (now (table .entry)) (now (f .entry)) (now (vs .entry)) (now (component .entry)) k (climbOf c) i) × CanStep r ⌝ }
 {
     if c.done {
         return c;
     }
-    let x = c.heights;
+    let x = c.multipliers;
     let before = c.before;
     let up = i % 2 == 1;
     let s = ascent::step::step(table, f, vs, component, k, up, c.stride, &x, &before);
-    let b = attempt_above(table, f, vs, component, flags, k, cost, price, c, s.value);
-    let next = s.heights;
+    let b = attempt_above(
+        table,
+        f,
+        vs,
+        component,
+        flags,
+        k,
+        cost,
+        imbalance,
+        c,
+        s.value,
+    );
+    let next = s.multipliers;
     let best = b.multipliers;
-    let value = more(c.value, s.value);
+    let value = larger(c.value, s.value);
     Stage {
-        heights: next,
+        multipliers: next,
         before: x,
         best: best,
         bound: b.bound,
@@ -160,19 +164,18 @@ fn begun(
     flags: &[bool; 64],
     k: usize,
     cost: u64,
-    price: u64,
+    imbalance: &[i64; 64],
     u: [i64; 64],
 ) -> Stage
-    requires { ⌜ ((p : «a-plan») × IsPrepared p (now table) (now f) (now vs) (now component) (now flags) k cost price × (u ≡ greatestOf p)) ⌝ }
-    ensures { λ r. ⌜ ((p : «a-plan») → IsPrepared p (now (table .entry)) (now (f .entry)) (now (vs .entry)) (now (component .entry)) (now (flags .entry)) k cost price → u ≡ greatestOf p → climbOf r ≡ begin p (now (table .entry)) (now (f .entry)) (now (vs .entry)) (now (component .entry)) k u) × (r .stride ≤ beyond) ⌝ }
+    requires { ⌜ ((p : «a-plan») × IsPrepared p (now table) (now f) (now vs) (now component) (now flags) k cost (now imbalance) × (u ≡ greatestOf p)) ⌝ }
+    ensures { λ r. ⌜ ((p : «a-plan») → IsPrepared p (now (table .entry)) (now (f .entry)) (now (vs .entry)) (now (component .entry)) (now (flags .entry)) k cost (now (imbalance .entry)) → u ≡ greatestOf p → climbOf r ≡ begin p (now (table .entry)) (now (f .entry)) (now (vs .entry)) (now (component .entry)) k u) × CanStep r ⌝ }
 {
-    let l = lagrangian(table, &u, component, flags, k, cost, price);
-    let x = heights::heights::start(&u, vs);
-    let far = heights::heights::span(table, vs);
+    let l = lagrangian(table, &u, component, flags, k, cost, imbalance);
+    let far = multiplier_steps::steps::span(table, vs);
     let stride = lesser(far / 24 + 1, 1099511627776);
     Stage {
-        heights: x,
-        before: x,
+        multipliers: u,
+        before: u,
         best: u,
         bound: l,
         value: 0,
@@ -181,7 +184,7 @@ fn begun(
     }
 }
 
-// The multipliers that are answered, from the greatest ones on.
+// The multipliers that are answered, from the greatest ones on, and their bound.
 pub(crate) fn ascend(
     table: &[[u32; 64]; 64],
     f: &[u16; 4096],
@@ -190,19 +193,22 @@ pub(crate) fn ascend(
     flags: &[bool; 64],
     k: usize,
     cost: u64,
-    price: u64,
+    imbalance: &[i64; 64],
     u: [i64; 64],
-) -> [i64; 64]
-    requires { ⌜ ((p : «a-plan») × IsPrepared p (now table) (now f) (now vs) (now component) (now flags) k cost price × (u ≡ greatestOf p)) ⌝ }
-    ensures { λ r. ⌜ ((p : «a-plan») → IsPrepared p (now (table .entry)) (now (f .entry)) (now (vs .entry)) (now (component .entry)) (now (flags .entry)) k cost price → u ≡ greatestOf p → r ≡ ascentOf p (now (table .entry)) (now (f .entry)) (now (vs .entry)) (now (component .entry)) k u) ⌝ }
+) -> Best
+    requires { ⌜ ((p : «a-plan») × IsPrepared p (now table) (now f) (now vs) (now component) (now flags) k cost (now imbalance) × (u ≡ greatestOf p)) ⌝ }
+    ensures { λ r. ⌜ ((p : «a-plan») → IsPrepared p (now (table .entry)) (now (f .entry)) (now (vs .entry)) (now (component .entry)) (now (flags .entry)) k cost (now (imbalance .entry)) → u ≡ greatestOf p → (r .multipliers ≡ ascentOf p (now (table .entry)) (now (f .entry)) (now (vs .entry)) (now (component .entry)) k u) × (r .bound ≡ boundOf p (r .multipliers))) ⌝ }
 {
-    let mut c = begun(table, f, vs, component, flags, k, cost, price, u);
+    let mut c = begun(table, f, vs, component, flags, k, cost, imbalance, u);
     for i in 0..20usize {
-        let next = climb(table, f, vs, component, flags, k, cost, price, c, i);
+        let next = climb(table, f, vs, component, flags, k, cost, imbalance, c, i);
         c = next;
     }
     let best = c.best;
-    best
+    Best {
+        multipliers: best,
+        bound: c.bound,
+    }
 }
 
 // The same, of a network.
@@ -213,16 +219,16 @@ pub fn multipliers_for(
     net: Network,
     base: Balance,
     u: [i64; 64],
-) -> [i64; 64]
+) -> Best
     requires { ⌜ IsBase (planValue plan) (now table) (now vs) (stateOf base) × IsNetwork (planValue plan) net × (u ≡ multipliers (cell (now table)) (now vs) (stateOf base) (root (planValue plan))) ⌝ }
-    ensures { λ r. ⌜ r ≡ multipliersFor (planValue plan) ⌝ }
+    ensures { λ r. ⌜ (r .multipliers ≡ multipliersFor (planValue plan)) × (r .bound ≡ boundOf (planValue plan) (r .multipliers)) ⌝ }
 {
     let amounts = base.amounts;
     let component = net.component;
     let flags = net.required;
     let parts = net.components;
     let k = parts as usize;
-    let cost = net.required_cost;
+    let imbalance = net.imbalance;
     ascend(
         table,
         &amounts,
@@ -230,8 +236,8 @@ pub fn multipliers_for(
         &component,
         &flags,
         k,
-        cost,
-        base.cost,
+        net.required_cost,
+        &imbalance,
         u,
     )
 }

@@ -16,8 +16,8 @@ ghost use Rattle.pair_costs.specs.PairCosts.{costOf, offerOf, entryFor, 
 // More than any reduced cost is not.
 const HIGHEST: i64 = 8257410;
 
-// d − u(i) + u(j).
-fn reduced(d: u32, a: i64, b: i64) -> i64
+// "d(i,j) − u(i) + u(j)"
+pub fn reduced(d: u32, a: i64, b: i64) -> i64
     requires { ⌜ Within 1099511627776 a × Within 1099511627776 b ⌝ }
     ensures { λ r. ⌜ r ≡ pos d -ℤ a +ℤ b ⌝ }
 {

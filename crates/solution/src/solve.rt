@@ -21,12 +21,12 @@ ghost use Rattle.shortest.specs.Contracts.{AreWeights};
 ghost use Rattle.balance.specs.Records.{stateOf};
 ghost use Rattle.network.specs.Network.{IsNetwork};
 ghost use Rattle.multipliers.specs.Prepared.{IsKnown, IsBase};
-ghost use Rattle.multipliers.specs.Ascent.{multipliersFor};
+ghost use Rattle.multipliers.specs.Ascent.{multipliersFor, boundOf};
 ghost use Rattle.solution.specs.Planned.{IsPlanned};
 ghost use Rattle.solution.specs.Resumed.{HoldsTree, HoldsDrive};
 ghost use Rattle.search.specs.Contracts.{IsSearched};
 
-// The drive of the tree that is held is written, and the floor is computed, from the state of the required arcs. The multipliers that are answered give the floor.
+// The drive of the tree that is held is written, and the floor is computed, from the state of the required arcs. `bound` is L(u), which the ascent has computed.
 pub fn conclude(
     plan: Plan,
     table: &[[u32; 64]; 64],
@@ -35,10 +35,11 @@ pub fn conclude(
     net: Network,
     base: Balance,
     u: [i64; 64],
+    bound: i64,
     s: Searched,
     sheet: &mut [u16],
 ) -> Planned
-    requires { ⌜ IsBase (planValue plan) (now table) (now vs) (stateOf base) × (u ≡ multipliersFor (planValue plan)) ⌝ }
+    requires { ⌜ IsBase (planValue plan) (now table) (now vs) (stateOf base) × (u ≡ multipliersFor (planValue plan)) × (bound ≡ boundOf (planValue plan) u) ⌝ }
     requires { ⌜ IsNetwork (planValue plan) net × HoldsTree (planValue plan) (s .tails) (s .heads) × (s .cost ≤ 4398046511104) × (sheetPlaces ≤ length (now sheet)) × AreWeights (planValue plan) (now weights) ⌝ }
     ensures { λ r. ⌜ ((budget : ℕ) → 1 ≤ budget → IsSearched (planValue plan) budget s → IsPlanned (planValue plan) budget none (now (sheet .entry)) (now (sheet .exit)) r) ⌝ }
     ensures { λ r. ⌜ HoldsDrive (planValue plan) (now (sheet .entry)) (now (sheet .exit)) ⌝ }
@@ -52,14 +53,15 @@ pub fn conclude(
     let places = lay(plan, table, weights, vs, base, &ts[..n], &hs[..n], sheet);
     let component = net.component;
     let flags = net.required;
+    let imbalance = net.imbalance;
     let floor = floor_of(
         table,
-        &u,
         &component,
         &flags,
         k,
         required_cost,
-        base.cost,
+        &imbalance,
+        bound,
         s.whole,
         s.cost,
     );
@@ -84,15 +86,16 @@ pub(crate) fn finish(
     net: Network,
     base: Balance,
     u: [i64; 64],
+    bound: i64,
     budget: u32,
     sheet: &mut [u16],
 ) -> Planned
-    requires { ⌜ IsBase (planValue plan) (now table) (now vs) (stateOf base) × (u ≡ multipliersFor (planValue plan)) ⌝ }
+    requires { ⌜ IsBase (planValue plan) (now table) (now vs) (stateOf base) × (u ≡ multipliersFor (planValue plan)) × (bound ≡ boundOf (planValue plan) u) ⌝ }
     requires { ⌜ IsNetwork (planValue plan) net × (1 ≤ budget) × (sheetPlaces ≤ length (now sheet)) × AreWeights (planValue plan) (now weights) ⌝ }
     ensures { λ r. ⌜ IsPlanned (planValue plan) budget none (now (sheet .entry)) (now (sheet .exit)) r ⌝ }
 {
     let s = best(plan, table, vs, net, base, u, budget);
-    conclude(plan, table, weights, vs, net, base, u, s, sheet)
+    conclude(plan, table, weights, vs, net, base, u, bound, s, sheet)
 }
 
 // The state and the multipliers first, over the required vertices.
@@ -111,6 +114,18 @@ pub fn solve(
 {
     let base = base_state(plan, table, vs);
     let greatest = multipliers_of(plan, table, vs, base);
-    let u = multipliers_for(plan, table, vs, net, base, greatest);
-    finish(plan, table, weights, vs, net, base, u, budget, sheet)
+    let m = multipliers_for(plan, table, vs, net, base, greatest);
+    let u = m.multipliers;
+    finish(
+        plan,
+        table,
+        weights,
+        vs,
+        net,
+        base,
+        u,
+        m.bound,
+        budget,
+        sheet,
+    )
 }

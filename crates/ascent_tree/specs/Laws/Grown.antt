@@ -1,69 +1,53 @@
 -- The bodies of the loops that find the cheapest pairs and a cheapest tree.
 use mathlib.Core.Path.{_≡_, sym, ap, ap₂, _∙_}
-use mathlib.Core.Bool.{Bool, true, cond}
+use mathlib.Core.Bool.{Bool, true, false, cond}
 use mathlib.Core.List.{List}
-use Prim.Native.Nat.{ℕ, _+_, _*_, _-_, _/_, _%_, _^_, _≤_, _<_, min}
-use native.Mathlib.Omega.{arith}
-use borrow.Author.Tests.{lt-ltb, le-ltb, ne-eqb}
+use Prim.Native.Nat.{ℕ, _+_, _*_, _-_, _/_, _%_, _^_}
+use borrow.Author.Tests.{ne-eqb}
 use lib.Seq.{set-getD}
-use lib.Dec.{ltb}
 use lib.ListN.{getD, set}
-use Rattle.residual_search.specs.Search.{beyond}
-use Rattle.residual_search.specs.Step.{cell}
-use Rattle.heights.specs.Heights.{capped}
-use Rattle.ascent_tree.specs.Offers.{part, reduced, costOf, offer}
+use lib.IntN.{ℤ, pos, _+ℤ_, _-ℤ_}
+use lib.Signed.{ltZ}
+use Rattle.multiplier_steps.specs.Steps.{capped}
+use Rattle.ascent_tree.specs.Offers.{part, costOf, isCheaper, offer}
 use Rattle.ascent_tree.specs.Tree.{holds, joined, isBetter, entry, enter, shifted, walkBack}
 
 -- a pair that is cheaper is noted; one that is not leaves all as it stands
-module _ (d : List (List ℕ)) (x component : List ℕ) (i : ℕ) (m at : List ℕ) (j : ℕ) {row pj hi hj c : ℕ} (er : row ≡ part component i * 8) (ej : pj ≡ part component j) (ehi : hi ≡ capped x i)
-    (ehj : hj ≡ capped x j) (ec : c ≡ reduced (cell d i j) hi hj) where
+module _ (d : List (List ℕ)) (x : List ℤ) (component : List ℕ) (i : ℕ) (m : List ℤ) (at : List ℕ) (j : ℕ) {row pj : ℕ} {c : ℤ} (er : row ≡ part component i * 8) (ej : pj ≡ part component j) (ec : c ≡ costOf d x component i j) where
   place-is : row + pj ≡ part component i * 8 + part component j
   place-is = ap₂ _+_ er ej
 
-  cost-is : c ≡ costOf d x component i j
-  cost-is = ec ∙ ap₂ (λ (p q : ℕ). reduced (cell d i j) p q) ehi ehj
+  test-is : ltZ c (getD m (row + pj) (pos 0)) ≡ isCheaper d x component (m, at) i j
+  test-is = ap₂ (λ (c : ℤ) (n : ℕ). ltZ c (getD m n (pos 0))) ec place-is
 
-  written : (set m (row + pj) (min c (getD m (row + pj) 0)), set at (row + pj) (cond (ltb c (getD m (row + pj) 0)) (i * 64 + j) (getD at (row + pj) 0))) ≡ offer d x component i (m, at) j
-  written =
-      ap₂ (λ (n c : ℕ). (set m n (min c (getD m n 0)), set at n (cond (ltb c (getD m n 0)) (i * 64 + j) (getD at n 0)))) place-is cost-is
+  pub offer-less : ltZ c (getD m (row + pj) (pos 0)) ≡ true → (set m (row + pj) c, set at (row + pj) (i * 64 + j)) ≡ offer d x component i (m, at) j
+  offer-less t = ap₂ (λ (c : ℤ) (n : ℕ). (set m n c, set at n (i * 64 + j))) ec place-is ∙ rw (sym test-is ∙ t)
 
-  pub offer-less : c < getD m (row + pj) 0 → (set m (row + pj) c, set at (row + pj) (i * 64 + j)) ≡ offer d x component i (m, at) j
-  offer-less l =
-      let low : c ≡ min c (getD m (row + pj) 0) = omega arith in
-      ap (λ n. (set m (row + pj) n, set at (row + pj) (i * 64 + j))) low
-      ∙ ap (λ (b : Bool). (set m (row + pj) (min c (getD m (row + pj) 0)), set at (row + pj) (cond b (i * 64 + j) (getD at (row + pj) 0)))) (sym (lt-ltb c (getD m (row + pj) 0) l))
-      ∙ written
+  pub offer-not : ltZ c (getD m (row + pj) (pos 0)) ≡ false → (m, at) ≡ offer d x component i (m, at) j
+  offer-not t = rw (sym test-is ∙ t)
 
-  pub offer-not : getD m (row + pj) 0 ≤ c → (m, at) ≡ offer d x component i (m, at) j
-  offer-not l =
-      let low : getD m (row + pj) 0 ≡ min c (getD m (row + pj) 0) = omega arith in
-      ap₂ (λ (p q : List ℕ). (p, q)) (sym (set-getD m (row + pj) 0)) (sym (set-getD at (row + pj) 0))
-      ∙ ap (λ n. (set m (row + pj) n, set at (row + pj) (getD at (row + pj) 0))) low
-      ∙ ap (λ (b : Bool). (set m (row + pj) (min c (getD m (row + pj) 0)), set at (row + pj) (cond b (i * 64 + j) (getD at (row + pj) 0)))) (sym (le-ltb c (getD m (row + pj) 0) l))
-      ∙ written
-
-pub enter-is : (m : List ℕ) (s : ℕ) (cost from : List ℕ) (q : ℕ) {p g lc lm e nc : ℕ} {b : Bool} → p ≡ entry m s q → g ≡ 2 ^ q
-    → lc ≡ min (getD cost (s / 2) 0) beyond → lm ≡ min (getD m (p * 8 + q) 0) beyond → b ≡ isBetter s q (lc + lm) (getD cost ((s + g) / 2) 0)
-    → e ≡ cond b (p * 8 + q) (getD from ((s + g) / 2) 0) → nc ≡ cond b (lc + lm) (getD cost ((s + g) / 2) 0)
+pub enter-is : (m : List ℤ) (s : ℕ) (cost : List ℤ) (from : List ℕ) (q : ℕ) {p g e : ℕ} {c nc : ℤ} {b : Bool} → p ≡ entry m s q → g ≡ 2 ^ q
+    → c ≡ capped (getD cost (s / 2) (pos 0)) +ℤ capped (getD m (p * 8 + q) (pos 0)) → b ≡ isBetter s q c (getD cost ((s + g) / 2) (pos 0))
+    → e ≡ cond b (p * 8 + q) (getD from ((s + g) / 2) 0) → nc ≡ cond b c (getD cost ((s + g) / 2) (pos 0))
     → (set cost ((s + g) / 2) nc, set from ((s + g) / 2) e) ≡ enter m s (cost, from) q
 unfolding enter
-enter-is m s cost from q {p} {g} {lc} {lm} {e} {nc} {b} ep eg elc elm eb ee en = rw (en, ee, eb, elc, elm, ep, eg)
+enter-is m s cost from q {p} {g} {e} {c} {nc} {b} ep eg ec eb ee en = rw (en, ee, eb, ec, ep, eg)
 
 -- a component that is in the set is not entered
-pub enter-in : (m : List ℕ) (s : ℕ) (cost from : List ℕ) (q : ℕ) → holds s q ≡ true → (cost, from) ≡ enter m s (cost, from) q
+pub enter-in : (m : List ℤ) (s : ℕ) (cost : List ℤ) (from : List ℕ) (q : ℕ) → holds s q ≡ true → (cost, from) ≡ enter m s (cost, from) q
 unfolding enter
 enter-in m s cost from q e =
-    ap₂ (λ (p q : List ℕ). (p, q)) (sym (set-getD cost (joined s q) 0)) (sym (set-getD from (joined s q) 0)) ∙ rw e
+    ap₂ (λ (p : List ℤ) (q : List ℕ). (p, q)) (sym (set-getD cost (joined s q) (pos 0))) (sym (set-getD from (joined s q) 0)) ∙ rw e
 
-pub shift-is : (x : List ℕ) (pair s : ℕ) {a b t : ℕ} → a ≡ min (getD x (pair % 64) 0) beyond → b ≡ min (getD (set x (pair % 64) (a + s)) (pair / 64 % 64) 0) beyond → t ≡ b - s
-    → set (set x (pair % 64) (a + s)) (pair / 64 % 64) t ≡ shifted x pair s
-shift-is x pair s ea eb et = rw (et, eb, ea)
+pub shift-is : (x : List ℤ) (pair s : ℕ) {a b : ℤ} → a ≡ capped (getD x (pair % 64) (pos 0)) +ℤ pos s → b ≡ capped (getD (set x (pair % 64) a) (pair / 64 % 64) (pos 0)) -ℤ pos s
+    → set (set x (pair % 64) a) (pair / 64 % 64) b ≡ shifted x pair s
+shift-is x pair s ea eb = rw (eb, ea)
 
-pub walk-end : (from at : List ℕ) (s : ℕ) (x : List ℕ) (t : ℕ) → t ≡ 0 → (x, 0) ≡ walkBack from at s (x, t)
+pub walk-end : (from at : List ℕ) (s : ℕ) (x : List ℤ) (t : ℕ) → t ≡ 0 → (x, 0) ≡ walkBack from at s (x, t)
 unfolding walkBack
 walk-end from at s x t e = rw e
 
-pub walk-is : (from at : List ℕ) (s : ℕ) (x : List ℕ) (t : ℕ) {e g r : ℕ} {y : List ℕ} → (t ≡ 0 → ⊥) → e ≡ getD from t 0 → y ≡ shifted x (getD at (e % 64) 0) s → g ≡ 2 ^ (e % 8) → r ≡ t - g / 2
+pub walk-is : (from at : List ℕ) (s : ℕ) (x : List ℤ) (t : ℕ) {e g r : ℕ} {y : List ℤ} → (t ≡ 0 → ⊥) → e ≡ getD from t 0 → y ≡ shifted x (getD at (e % 64) 0) s → g ≡ 2 ^ (e % 8) → r ≡ t - g / 2
     → (y, r) ≡ walkBack from at s (x, t)
 unfolding walkBack
 walk-is from at s x t n ee ey eg er = rw (ne-eqb t 0 n, er, eg, ey, ee)

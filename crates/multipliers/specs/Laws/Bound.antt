@@ -9,7 +9,7 @@ use native.Mathlib.Decide.{decLe}
 use native.Mathlib.Omega.{arith}
 use lib.ListN.{length, getD, replicate, List·getD-eq-default}
 use lib.Dec.{T}
-use lib.IntN.{ℤ, pos, _+ℤ_, _-ℤ_, _*ℤ_, zero-*ℤ}
+use lib.IntN.{ℤ, pos, _+ℤ_, _-ℤ_}
 use lib.Signed.{_≤ℤ_}
 use Rattle.integers.specs.Linear.{z, zl, Within}
 use Rattle.postman.specs.Lists.{sumOfℤ, below}
@@ -18,8 +18,7 @@ use Rattle.postman.specs.Required.{required, isRequired, requiredCost}
 use Rattle.postman.specs.Distance.{distance}
 use Rattle.postman.specs.Link.{Link}
 use Rattle.postman.specs.Arborescence.{arborescenceCount}
-use Rattle.postman.specs.Balancing.{imbalance}
-use Rattle.postman.specs.LagrangianBound.{reducedCost, reducedSum, cheapestArborescence, priceOfImbalance, lagrangianBound}
+use Rattle.postman.specs.LagrangianBound.{Multipliers, reducedCost, reducedSum, cheapestArborescence, lagrangianBound}
 use Rattle.postman.specs.Laws.Tests.{is-true}
 use Rattle.postman.specs.Laws.Membership.{select-mem, mem-select, mem-below}
 use Rattle.postman.specs.Laws.Occurrences.{mem?}
@@ -29,7 +28,7 @@ use Rattle.postman.specs.Laws.Component.{component-lt}
 use Rattle.postman.specs.Laws.Balancing.{Joins}
 use Rattle.postman.specs.Laws.Arborescence.{arborescences-mem, joins}
 use Rattle.postman.specs.Laws.LagrangianBound.{Feasible, cheapest-at, cheapest-nonneg, zero-feasible}
-use Rattle.postman.specs.Laws.Optimality.{some-arborescence}
+use Rattle.postman.specs.Laws.Optimality.{Plannable, some-arborescence}
 use Rattle.balance.specs.Invariant.{Metric}
 use Rattle.residual_search.specs.Laws.Fill.{zero-at}
 use Rattle.direct_amounts.specs.Laws.Plan.{plan-metric}
@@ -37,7 +36,10 @@ use Rattle.cheapest_tree.specs.Picture.{highest}
 use Rattle.pair_costs.specs.PairCosts.{AreCosts, IsNetwork, multipliersOf}
 use Rattle.network.specs.Laws.Vertices.{required-of-64}
 use Rattle.tree_bounds.specs.Laws.Prepared.{required-small}
+use Rattle.multiplier_steps.specs.Steps.{AreSmall}
+use Rattle.multipliers.specs.Price.{priceOf}
 use Rattle.multipliers.specs.Priced.{IsPriced}
+use Rattle.multipliers.specs.Laws.Price.{price-is, imbalance-small}
 
 -- a required vertex's flag is set, and only theirs
 module _ (p : Plan) (flags : List Bool) (h : (v : ℕ) → v < 64 → getD flags v false ≡ isRequired p v) (ok : WellFormed p) where
@@ -49,7 +51,22 @@ module _ (p : Plan) (flags : List Bool) (h : (v : ℕ) → v < 64 → getD flags
       let t = select-mem (isRequired p) (below (p .n)) m .1 in
       h v (omega arith) ∙ is-true t
 
-module _ (p : Plan) (table : List (List ℕ)) (u : List ℤ) (c : List ℕ) (flags : List Bool) (k r price : ℕ) (h : IsPriced p table u c flags k r price) where
+-- |u| is at most a distance, where u is 0 at a required vertex
+pub multipliers-near : (p : Plan) → Plannable p → (u : Multipliers) → Feasible p u → ((i : ℕ) → (List·Memᴰ i (required p) → ⊥) → u i ≡ pos 0) → (root : ℕ) → List·Memᴰ root (required p) → u root ≡ pos 0
+    → (v : ℕ) → Within 4128705 (u v)
+unfolding reducedCost
+multipliers-near p ok u feasible elsewhere root mr at-root v = elim (mem? v (required p)) [
+  | inl m ↦
+      let metric = plan-metric p (ok .well-formed) (ok .connected) in
+      let a = feasible v root m mr in
+      let b = feasible root v mr m in
+      let e = metric .bound v root m mr in
+      let f = metric .bound root v mr m in
+      record { low = simp zl (omega (arith, simp zl at b, z)); high = simp zl (omega (arith, simp zl at a, z)) }
+  | inr n ↦ let e = elsewhere v n in record { low = simp zl (omega (arith, z)); high = simp zl (omega (arith, z)) }
+]
+
+module _ (p : Plan) (table : List (List ℕ)) (u : List ℤ) (c : List ℕ) (flags : List Bool) (k r : ℕ) (d : List ℤ) (h : IsPriced p table u c flags k r d) where
   abbrev U : ℕ → ℤ
   U = multipliersOf u
 
@@ -64,19 +81,8 @@ module _ (p : Plan) (table : List (List ℕ)) (u : List ℤ) (c : List ℕ) (fla
       let e = metric .bound j i mj mi in
       simp zl (omega (arith, simp zl at a))
 
-  -- |u| is at most a distance
   multiplier-small : (v : ℕ) → Within 4128705 (U v)
-  unfolding reducedCost
-  multiplier-small v = elim (mem? v (required p)) [
-    | inl m ↦
-        let a = h .feasible v (h .root) m (h .root-required) in
-        let b = h .feasible (h .root) v (h .root-required) m in
-        let e = metric .bound v (h .root) m (h .root-required) in
-        let f = metric .bound (h .root) v (h .root-required) m in
-        let g = h .at-root in
-        record { low = simp zl (omega (arith, simp zl at b, z)); high = simp zl (omega (arith, simp zl at a, z)) }
-    | inr n ↦ let e = h .elsewhere v n in record { low = simp zl (omega (arith, z)); high = simp zl (omega (arith, z)) }
-  ]
+  multiplier-small = multipliers-near p (h .plannable) U (h .feasible) (h .elsewhere) (h .root) (h .root-required) (h .at-root)
 
   module _ (long : length flags ≡ 64) where
     -- only required vertices are flagged
@@ -140,9 +146,18 @@ module _ (p : Plan) (table : List (List ℕ)) (u : List ℤ) (c : List ℕ) (fla
       let e = r .2 in
       (cheapest-nonneg p U (bounded (h .plannable .well-formed) .ends) (h .feasible) n, subst⁻¹ (λ (x : ℤ). x ≤ℤ pos 66059280) e (simp zl (omega (arith, z, simp zl at a))))
 
-  pub bound-is : (a : ℤ) → a ≡ cheapestArborescence p U → pos r +ℤ pos price +ℤ a ≡ lagrangianBound p U
+  -- the sum of u(i) × D(i) is small, and with R and A(u) it is L(u)
+  pub multipliers-small : AreSmall 4128705 u
+  multipliers-small v l = multiplier-small v
+
+  pub imbalances-small : AreSmall 256 d
+  imbalances-small v l = subst⁻¹ (Within 256) (h .imbalance v l) (imbalance-small p (h .plannable .well-formed) v)
+
+  pub bound-is : (s a : ℤ) → s ≡ priceOf u d 64 → a ≡ cheapestArborescence p U → pos r +ℤ s +ℤ a ≡ lagrangianBound p U
   unfolding lagrangianBound
-  bound-is a e = ap (λ (x : ℕ). pos x +ℤ pos price +ℤ a) (h .cost) ∙ ap (λ (x : ℤ). pos (requiredCost p) +ℤ x +ℤ a) (sym (h .price-is)) ∙ ap (λ (x : ℤ). pos (requiredCost p) +ℤ priceOfImbalance p U +ℤ x) e
+  bound-is s a es ea =
+      let e = es ∙ price-is p (h .plannable .well-formed) u d (h .imbalance) (h .elsewhere) in
+      ap (λ (x : ℕ). pos x +ℤ s +ℤ a) (h .cost) ∙ ap₂ (λ (x y : ℤ). pos (requiredCost p) +ℤ x +ℤ y) e ea
 
   pub cheapest-within : (a : ℤ) → a ≡ cheapestArborescence p U → Within 66059280 a
   cheapest-within a e = let s = cheapest-small in record { low = simp zl (omega (arith, z, s .0)); high = simp zl (omega (arith, z, s .1)) }
@@ -159,16 +174,8 @@ zeros-are = fun-ext (λ i. zero-at 64 i (pos 0))
 pub zero-bound : (p : Plan) → lagrangianBound p (multipliersOf (replicate 64 (pos 0))) ≡ lagrangianBound p (λ i. pos 0)
 zero-bound p = ap (lagrangianBound p) zeros-are
 
-zero-price : (p : Plan) → priceOfImbalance p (λ i. pos 0) ≡ pos 0
-unfolding priceOfImbalance
-zero-price p = at (required p)
-  where
-    at : (vs : List ℕ) → sumOfℤ (map (λ i. pos 0 *ℤ imbalance p [] i) vs) ≡ pos 0
-    at [] = refl
-    at (v ∷ vs) = ap₂ _+ℤ_ (zero-*ℤ (imbalance p [] v)) (at vs)
-
 -- what is known of a plan and multipliers is known of it and 0
-pub zero-priced : {p : Plan} {table : List (List ℕ)} {u : List ℤ} {c : List ℕ} {flags : List Bool} {k r price : ℕ} → IsPriced p table u c flags k r price → IsPriced p table (replicate 64 (pos 0)) c flags k r 0
+pub zero-priced : {p : Plan} {table : List (List ℕ)} {u : List ℤ} {c : List ℕ} {flags : List Bool} {k r : ℕ} {d : List ℤ} → IsPriced p table u c flags k r d → IsPriced p table (replicate 64 (pos 0)) c flags k r d
 zero-priced {p} h = record {
   plannable = h .plannable;
   few = h .few;
@@ -178,11 +185,10 @@ zero-priced {p} h = record {
   required-flags = h .required-flags;
   components = h .components;
   cost = h .cost;
+  imbalance = h .imbalance;
   feasible = subst⁻¹ (Feasible p) zeros-are (zero-feasible p);
   elsewhere = λ i n. zero-at 64 i (pos 0);
   root = h .root;
   root-required = h .root-required;
   at-root = zero-at 64 (h .root) (pos 0);
-  price-is = ap (priceOfImbalance p) zeros-are ∙ zero-price p;
-  price-small = omega arith;
 }

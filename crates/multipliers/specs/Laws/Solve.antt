@@ -1,18 +1,16 @@
--- From a prepared plan to what the search and the bounds ask: the greatest multipliers are lawful, and so are those of heights that pass the test; lawful ones price the imbalance at the cost of the state.
+-- From a prepared plan to what the search and the bounds ask: the greatest multipliers are lawful, and so are those that pass the test, once that of the root is taken off.
 use mathlib.Core.Path.{_≡_, sym, ap, _∙_, subst, subst⁻¹}
 use mathlib.Core.Bool.{Bool}
 use mathlib.Core.List.{List, [], List·Memᴰ, List·Memᴰ·head, List·Memᴰ·tail}
 use Prim.Native.Nat.{ℕ, _≤_, _<_}
-use native.Mathlib.Nat.{mul-le-mul-right}
 use native.Mathlib.Omega.{arith}
-use lib.ListN.{length}
+use lib.ListN.{length, getD}
 use lib.IntN.{ℤ, pos}
 use lib.Dec.{T}
 use Rattle.postman.specs.Plan.{Plan}
 use Rattle.postman.specs.Required.{required, requiredCost}
 use Rattle.postman.specs.Component.{componentCount}
 use Rattle.postman.specs.LagrangianBound.{AreMultipliers, AreGreatest}
-use Rattle.postman.specs.Balancing.{leastBalancing}
 use Rattle.postman.specs.PlanCall.{root}
 use Rattle.postman.specs.Laws.Membership.{getD-mem}
 use Rattle.postman.specs.Laws.Distance.{bounded}
@@ -24,15 +22,16 @@ use Rattle.postman.specs.Laws.Optimality.{Plannable}
 use Rattle.residual_search.specs.Step.{State, cell}
 use Rattle.balance.specs.Balance.{balance}
 use Rattle.balance.specs.Multipliers.{multipliers}
-use Rattle.direct_amounts.specs.Laws.Plan.{balance-least, balance-certified, balance-room, plan-metric, heights-multipliers, multipliers-greatest}
-use Rattle.required.specs.Contracts.{IsLinks, IsRequiredFlags, IsComponents}
+use Rattle.direct_amounts.specs.Laws.Plan.{plan-metric, heights-multipliers, multipliers-greatest}
+use Rattle.required.specs.Contracts.{IsImbalance, IsLinks, IsRequiredFlags, IsComponents}
 use Rattle.arborescence.specs.Layout.{laidOut, IsLayout}
 use Rattle.arborescence.specs.Candidates.{AreCandidates}
 use Rattle.pair_costs.specs.PairCosts.{multipliersOf}
-use Rattle.heights.specs.Heights.{capped, multipliersAt}
-use Rattle.heights.specs.Lawful.{areLawful}
-use Rattle.heights.specs.Laws.Lawful.{lawful-feasible, lawful-tight}
-use Rattle.heights.specs.Laws.Heights.{level, multipliers-here, multipliers-other, multipliers-first}
+use Rattle.residual_search.specs.Search.{beyond}
+use Rattle.multiplier_steps.specs.Steps.{AreSmall, rooted}
+use Rattle.multiplier_steps.specs.Lawful.{areLawful}
+use Rattle.multiplier_steps.specs.Laws.Lawful.{lawful-feasible, lawful-tight}
+use Rattle.multiplier_steps.specs.Laws.Steps.{raised, rooted-raised, rooted-other, rooted-first}
 use Rattle.candidates.specs.declared.Candidates.{Candidates}
 use Rattle.candidates.specs.LaidOut.{AreLaidOut}
 use Rattle.tree_count.specs.Entries.{AreCounted}
@@ -86,26 +85,17 @@ module _ (p : Plan) (ok : Plannable p) (few : componentCount p ≤ 8) where
   unfolding greatestOf
   greatest-rooted u e = subst⁻¹ (Rooted p) e (record { multipliers = greatest .multipliers; at-root = greatest .at-root })
 
-  cost-least : s .cost ≡ leastBalancing p []
-  cost-least = balance-least p (ok .well-formed) (ok .connected) d (agrees p ok few) [] none-joined (omega arith)
-
-  price-small : s .cost ≤ 4398046511104
-  price-small =
-      let c = balance-certified p (ok .well-formed) (ok .connected) d (agrees p ok few) [] none-joined (omega arith) .numbers .cheap in
-      let r = balance-room p (ok .well-formed) (ok .connected) d (agrees p ok few) [] none-joined (omega arith) in
-      let m = mul-le-mul-right {m = s .count} {n = 356} 8257410000 r in
-      omega arith
-
-  -- heights that pass the test stand for multipliers that are 0 at the root
-  pub heights-rooted : (x : List ℕ) → T (areLawful (tableOf p) (s .amounts) x (required p)) → Rooted p (multipliersAt x (required p))
+  -- multipliers that pass the test are lawful, once that of the root is taken off
+  pub lawful-at-root : (x : List ℤ) → AreSmall beyond x → T (areLawful (tableOf p) (s .amounts) x (required p)) → Rooted p (rooted x (required p))
   unfolding root
-  heights-rooted x h =
+  lawful-at-root x h t =
       let small = plan-metric p (ok .well-formed) (ok .connected) .small in
       record {
         multipliers =
-            heights-multipliers p (ok .well-formed) (ok .connected) d (agrees p ok few) (capped x) (lawful-feasible (tableOf p) (s .amounts) (required p) x h) (lawful-tight (tableOf p) (s .amounts) (required p) x h)
-            (multipliersOf (multipliersAt x (required p))) (level x (required p) small) (multipliers-here x (required p) small) (multipliers-other x (required p) small);
-        at-root = multipliers-first x (required p) small some-vertex;
+            heights-multipliers p (ok .well-formed) (ok .connected) d (agrees p ok few) (raised (required p) small x) (lawful-feasible (tableOf p) (s .amounts) (required p) x t small h)
+            (lawful-tight (tableOf p) (s .amounts) (required p) x t small h) (multipliersOf (rooted x (required p))) (raised (required p) small x (getD (required p) 0 0)) (rooted-raised (required p) small x h some-vertex)
+            (rooted-other (required p) small x);
+        at-root = rooted-first (required p) small x some-vertex;
       }
 
 module _ (p : Plan) (table : List (List ℕ)) (vs : List ℕ) (base : State) (b : IsBase p table vs base) where
@@ -116,13 +106,13 @@ module _ (p : Plan) (table : List (List ℕ)) (vs : List ℕ) (base : State) (b 
       e ∙ ap (λ (x : List (List ℕ)). multipliers (cell x) vs base (root p)) (b .known .distances) ∙ ap (λ (v : List ℕ). multipliers (cell (tableOf p)) v base (root p)) (b .known .vertices)
       ∙ ap (λ (s : State). multipliers (cell (tableOf p)) (required p) s (root p)) (b .base-is)
 
-  -- the multipliers of heights that pass the test are lawful, and 0 at the root
-  pub lawful-rooted : (x : List ℕ) → T (areLawful table (base .amounts) x vs) → Rooted p (multipliersAt x vs)
-  lawful-rooted x h =
+  -- multipliers that pass the test are lawful, once that of the root is taken off
+  pub lawful-rooted : (x : List ℤ) → AreSmall beyond x → T (areLawful table (base .amounts) x vs) → Rooted p (rooted x vs)
+  lawful-rooted x small h =
       let d : T (areLawful (tableOf p) (base .amounts) x vs) = subst (λ (t : List (List ℕ)). T (areLawful t (base .amounts) x vs)) (b .known .distances) h in
       let v : T (areLawful (tableOf p) (base .amounts) x (required p)) = subst (λ (vs : List ℕ). T (areLawful (tableOf p) (base .amounts) x vs)) (b .known .vertices) d in
       let s = subst (λ (s : State). T (areLawful (tableOf p) (s .amounts) x (required p))) (b .base-is) v in
-      subst⁻¹ (λ (vs : List ℕ). Rooted p (multipliersAt x vs)) (b .known .vertices) (heights-rooted p (b .known .plannable) (b .known .few) x s)
+      subst⁻¹ (λ (vs : List ℕ). Rooted p (rooted x vs)) (b .known .vertices) (lawful-at-root p (b .known .plannable) (b .known .few) x small s)
 
 module _ (p : Plan) (table : List (List ℕ)) (vs : List ℕ) (base : State) (b : IsBase p table vs base) (u : List ℤ) (e : Rooted p u) where
   abbrev ok : Plannable p
@@ -131,11 +121,9 @@ module _ (p : Plan) (table : List (List ℕ)) (vs : List ℕ) (base : State) (b 
   abbrev few : componentCount p ≤ 8
   few = b .known .few
 
-  cost-is : base .cost ≡ balance (cell (tableOf p)) p [] .cost
-  cost-is = ap (λ (s : State). s .cost) (b .base-is)
-
-  pub priced : (c : List ℕ) (flags : List Bool) (k r : ℕ) → length flags ≡ 64 → IsRequiredFlags p flags → IsComponents p c k → r ≡ requiredCost p → IsPriced p table u c flags k r (base .cost)
-  priced c flags k r long hf hc hr = record {
+  pub priced : (c : List ℕ) (flags : List Bool) (k r : ℕ) (d : List ℤ) → length flags ≡ 64 → IsRequiredFlags p flags → IsComponents p c k → r ≡ requiredCost p → IsImbalance p d
+      → IsPriced p table u c flags k r d
+  priced c flags k r d long hf hc hr hd = record {
     plannable = ok;
     few = (let a = hc .all in let f = few in omega arith);
     some = (let a = hc .all in let f = some-component p ok few in omega arith);
@@ -144,13 +132,12 @@ module _ (p : Plan) (table : List (List ℕ)) (vs : List ℕ) (base : State) (b 
     required-flags = hf;
     components = hc;
     cost = hr;
+    imbalance = hd;
     feasible = e .multipliers .feasible;
     elsewhere = e .multipliers .elsewhere;
     root = root p;
     root-required = root-required p ok few;
     at-root = e .at-root;
-    price-is = e .multipliers .tight ∙ ap pos (sym (cost-is ∙ cost-least p ok few));
-    price-small = (let a = price-small p ok few in let f = cost-is in omega arith);
   }
 
   pub prepared : (k : ℕ) (c : Candidates) → k ≡ componentCount p → AreLaidOut p c → Prepared p table vs (c .start) (c .source) (c .tails) (c .heads) k

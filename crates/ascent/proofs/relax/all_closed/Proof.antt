@@ -5,9 +5,9 @@ use Prim.Native.Nat.{_-_, _≤_}
 use native.Mathlib.Omega.{arith}
 use lib.Dec.{eqb}
 use lib.ListN.{length, getD}
-use Rattle.heights.specs.Laws.Turns.{turn-at, end}
+use Rattle.multiplier_steps.specs.Laws.Turns.{turn-at, end}
 use Rattle.ascent.specs.Relax.{areClosed}
-use Rattle.heights.specs.Turns.{turns}
+use Rattle.multiplier_steps.specs.Turns.{turns}
 use borrow.Author.Needs.{needs}
 use Rattle.ascent.proofs.relax.all_closed.Statement.{statement}
 use Rattle.ascent.proofs.relax.all_closed.Tie as tie

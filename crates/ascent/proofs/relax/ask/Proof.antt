@@ -1,4 +1,6 @@
 -- By the test. Assumes nothing.
+use mathlib.Core.Path.{_∙_}
+use Rattle.integers.specs.Linear.{back64}
 use Rattle.ascent.specs.Laws.Bodies.{ask-some, ask-none}
 use borrow.Author.Needs.{needs}
 use Rattle.ascent.proofs.relax.ask.Statement.{statement}
@@ -10,23 +12,32 @@ element-copy-out-if1 c = search needs
 element-write-marks : tie.Need-element-write-marks
 element-write-marks c = search needs
 
-mul-lesser : tie.Need-mul-lesser
-mul-lesser c = search needs
+mul-capped : tie.Need-mul-capped
+mul-capped c = search needs
 
-element-copy-out-lesser : tie.Need-element-copy-out-lesser
-element-copy-out-lesser c = search needs
+element-copy-out-capped : tie.Need-element-copy-out-capped
+element-copy-out-capped c = search needs
 
-lesser-requires : tie.Need-lesser-requires
-lesser-requires c κs = search needs
+capped-requires : tie.Need-capped-requires
+capped-requires c κs = search needs
 
 move-all-requires : tie.Need-move-all-requires
-move-all-requires c κs = search needs
+move-all-requires c κs =
+    let s = c .before .before .before .before .before .before .before in
+    let k = c .before .before .capped in
+    (s .pre .0, simp (back64, k .ok) (k .ensures .1), s .pre .1)
 
 returns : tie.Need-returns
-returns c = ask-some (c .before .before .before .before .before .before .before .before .args .d .now) (c .before .before .before .before .before .before .before .before .args .f .now) (c .before .before .before .before .before .before .before .before .args .up) (c .before .before .before .before .before .before .before .before .args .vs .now) (c .before .before .before .before .before .before .before .before .args .x .now) (c .before .before .before .before .before .before .before .before .args .marks .now) (c .before .before .before .before .before .before .before .before .args .w) (c .before .before .before .before .before .if1 .taken) (c .before .before .before .lesser .ensures) (c .move-all .ensures)
+returns c =
+    let s = c .before .before .before .before .before .before .before .before in
+    let k = c .before .before .before .capped in
+    let e = simp (back64, c .before .before .before .before .capped-arg .given) at (k .ensures .0) in
+    ask-some (s .args .d .now) (s .args .f .now) (s .args .up) (s .args .vs .now) (s .args .x .now) (s .args .marks .now) (s .args .w) (c .before .before .before .before .before .if1 .taken) (back64 _ (k .ok) ∙ e) (c .move-all .ensures)
 
 returns-2 : tie.Need-returns-2
-returns-2 c = ask-none (c .before .before .before .args .d .now) (c .before .before .before .args .f .now) (c .before .before .before .args .up) (c .before .before .before .args .vs .now) (c .before .before .before .args .x .now) (c .before .before .before .args .marks .now) (c .before .before .before .args .w) (c .if1 .left)
+returns-2 c =
+    let s = c .before .before .before in
+    ask-none (s .args .d .now) (s .args .f .now) (s .args .up) (s .args .vs .now) (s .args .x .now) (s .args .marks .now) (s .args .w) (c .if1 .left)
 
 pub ask-spec : {M : Type 1} → statement M
 ask-spec =
@@ -34,9 +45,9 @@ ask-spec =
     (tie.spec
     element-copy-out-if1
     element-write-marks
-    mul-lesser
-    element-copy-out-lesser
-    lesser-requires
+    mul-capped
+    element-copy-out-capped
+    capped-requires
     move-all-requires
     returns
     returns-2)

@@ -1,5 +1,8 @@
--- By the test. Assumes nothing.
+-- By the test; what is asked is small.
 use mathlib.Core.Path.{sym, _∙_}
+use native.Mathlib.Omega.{arith}
+use mir.Facts.{toZ-ofZ}
+use Rattle.integers.specs.Linear.{z, zz}
 use borrow.Author.Needs.{needs}
 use Rattle.ascent.proofs.relax.asked.Statement.{statement}
 use Rattle.ascent.proofs.relax.asked.Tie as tie
@@ -7,17 +10,25 @@ use Rattle.ascent.proofs.relax.asked.Tie as tie
 ahead-requires : tie.Need-ahead-requires
 ahead-requires c κs = search needs
 
+cast-result : tie.Need-cast-result
+cast-result c = search needs
+
 add-result : tie.Need-add-result
-add-result c = search needs
+add-result c = simp zz (omega (arith, z, simp zz at (c .before .before .pre)))
 
 returns : tie.Need-returns
-returns c = rw (sym (c .before .ahead .ensures) ∙ c .if1 .taken)
+returns c = rw (sym (c .before .ahead .ensures) ∙ c .if1 .taken) (toZ-ofZ (add-result c) ∙ simp zz (omega (arith, z)))
 
-monus-requires : tie.Need-monus-requires
-monus-requires c κs = search needs
+cast-result-2 : tie.Need-cast-result-2
+cast-result-2 c = search needs
+
+sub-result : tie.Need-sub-result
+sub-result c = simp zz (omega (arith, z, simp zz at (c .before .before .pre)))
 
 returns-2 : tie.Need-returns-2
-returns-2 c = rw (sym (c .before .before .ahead .ensures) ∙ c .before .if1 .left, c .monus .ensures)
+returns-2 c = rw (sym (c .before .ahead .ensures) ∙ c .if1 .left) (toZ-ofZ (sub-result c) ∙ simp zz (omega (arith, z)))
 
 pub asked-spec : {M : Type 1} → statement M
-asked-spec = tie.close (tie.spec ahead-requires add-result returns monus-requires returns-2)
+asked-spec =
+    tie.close
+    (tie.spec ahead-requires cast-result add-result returns cast-result-2 sub-result returns-2)

@@ -1,18 +1,22 @@
 -- The loop's state after so many turns is the model's. Assumes nothing.
-use mathlib.Core.Path.{_≡_, refl, _∙_}
+use mathlib.Core.Path.{_≡_, refl, ap, _∙_}
 use Prim.Native.Nat.{_-_, _≤_}
 use native.Mathlib.Omega.{arith}
+use lib.IntN.{ℤ}
 use lib.ListN.{length, getD}
-use Rattle.heights.specs.Laws.Turns.{turn-at, end}
+use mir.Syntax.{w64}
+use mir.Val.{toZ, ofZ}
+use Rattle.integers.specs.Linear.{back64}
+use Rattle.multiplier_steps.specs.Laws.Turns.{turn-at, end}
 use Rattle.ascent.specs.Relax.{moveVertex, moveAll}
-use Rattle.heights.specs.Turns.{turns}
+use Rattle.multiplier_steps.specs.Turns.{turns}
 use borrow.Author.Needs.{needs}
 use Rattle.ascent.proofs.relax.move_all.Statement.{statement}
 use Rattle.ascent.proofs.relax.move_all.Tie as tie
 
 abbrev Inv-loop : tie.InvT-loop
 Inv-loop d f up vs w base x₀ marks₀ a₀ x marks a =
-    (a ≤ length vs) × ((x, marks) ≡ turns (λ r a. moveVertex d f up w base r (getD vs a 0)) (x₀, marks₀) a)
+    (a ≤ length vs) × ((x, marks) ≡ turns (λ r a. moveVertex d f up w (toZ w64 base) r (getD vs a 0)) (x₀, marks₀) a)
 
 abbrev μ-loop : tie.MeasureT-loop
 μ-loop d f up vs w base x₀ marks₀ a₀ x marks a = length vs - a
@@ -41,13 +45,16 @@ loop-again c =
     let at = c .before .before .before .before .before .before in
     let start = at .before .before in (
       omega arith,
-      turn-at (λ r v. moveVertex (start .args .d .now) (start .args .f .now) (start .args .up) (start .args .w) (start .args .base) r v) (start .args .vs .now) ((start .args .x .now), (start .args .marks .now)) (at .loop .a) (at .loop .inv .1) (c .before .before .before .wide .ensures ∙ c .before .before .before .before .vertex .ensures .0)
+      turn-at (λ r v. moveVertex (start .args .d .now) (start .args .f .now) (start .args .up) (start .args .w) (toZ w64 (ofZ w64 (start .args .base))) r v) (start .args .vs .now) ((start .args .x .now), (start .args .marks .now)) (at .loop .a) (at .loop .inv .1) (c .before .before .before .wide .ensures ∙ c .before .before .before .before .vertex .ensures .0)
           (c .move-vertex .ensures),
     )
 
 returns : tie.Need-returns Inv-loop μ-loop
 unfolding moveAll
-returns c = end _ _ (c .before .loop .a) (c .before .loop .inv .1) (c .before .loop .inv .0) (c .loop-test .left)
+returns c =
+    let s = c .before .before .before in
+    end _ _ (c .before .loop .a) (c .before .loop .inv .1) (c .before .loop .inv .0) (c .loop-test .left)
+    ∙ ap (λ (q : ℤ). moveAll (s .args .d .now) (s .args .f .now) (s .args .up) (s .args .vs .now) (s .args .w) q (s .args .x .now, s .args .marks .now)) (back64 (s .args .base) (s .fits .base .sfits))
 
 pub move-all-spec : {M : Type 1} → statement M
 move-all-spec =

@@ -1,4 +1,6 @@
--- A height that changes is stored and its vertex opened; else nothing changes.
+-- A multiplier that changes is stored and its vertex opened; else nothing changes.
+use mathlib.Core.Path.{_∙_}
+use Rattle.integers.specs.Linear.{back64}
 use Rattle.ascent.specs.Laws.Bodies.{move-other, move-same}
 use borrow.Author.Needs.{needs}
 use Rattle.ascent.proofs.relax.move_vertex.Statement.{statement}
@@ -38,22 +40,22 @@ index-2-asked-2 : tie.Need-index-2-asked-2
 index-2-asked-2 c = search needs
 
 asked-requires : tie.Need-asked-requires
-asked-requires c κs = search needs
+asked-requires c κs = let s = c .before .before .before .before in simp (back64, s .fits .base .sfits) (s .pre .2)
 
-mul-old : tie.Need-mul-old
-mul-old c = search needs
+mul-overtakes : tie.Need-mul-overtakes
+mul-overtakes c = search needs
 
-element-copy-out-old : tie.Need-element-copy-out-old
-element-copy-out-old c = search needs
+element-copy-out-overtakes : tie.Need-element-copy-out-overtakes
+element-copy-out-overtakes c = search needs
 
-moved-requires : tie.Need-moved-requires
-moved-requires c κs = search needs
+overtakes-requires : tie.Need-overtakes-requires
+overtakes-requires c κs = search needs
 
-mul-x : tie.Need-mul-x
-mul-x c = search needs
+mul-c : tie.Need-mul-c
+mul-c c = search needs
 
-element-write-x : tie.Need-element-write-x
-element-write-x c = search needs
+element-set-from-c : tie.Need-element-set-from-c
+element-set-from-c c = search needs
 
 element-write-marks : tie.Need-element-write-marks
 element-write-marks c = search needs
@@ -62,13 +64,19 @@ returns : tie.Need-returns
 returns c =
     let s = c .before .before .before .before .before .before .before .before in
     let a = s .args in
-    move-other (a .d .now) (a .f .now) (a .up) (a .w) (a .base) (a .x .now) (a .marks .now) (a .v) (c .before .before .before .before .before .before .before .place .ensures .0) (c .before .before .before .asked .ensures) (c .before .moved .ensures) (c .if1 .taken)
+    let q = c .before .before .before .asked in
+    let ec = simp (back64, s .fits .base .sfits) at (q .ensures) in
+    let eb = simp (back64, c .before .before .overtakes-arg .given) at (c .before .overtakes .ensures) in
+    move-other (a .d .now) (a .f .now) (a .up) (a .w) (a .base) (a .x .now) (a .marks .now) (a .v) (c .before .before .before .before .before .before .before .place .ensures .0) (back64 _ (q .ok) ∙ ec) eb (c .if1 .taken)
 
 returns-2 : tie.Need-returns-2
 returns-2 c =
     let s = c .before .before .before .before .before .before .before .before in
     let a = s .args in
-    move-same (a .d .now) (a .f .now) (a .up) (a .w) (a .base) (a .x .now) (a .marks .now) (a .v) (c .before .before .before .before .before .before .before .place .ensures .0) (c .before .before .before .asked .ensures) (c .before .moved .ensures) (c .if1 .left)
+    let q = c .before .before .before .asked in
+    let ec = simp (back64, s .fits .base .sfits) at (q .ensures) in
+    let eb = simp (back64, c .before .before .overtakes-arg .given) at (c .before .overtakes .ensures) in
+    move-same (a .d .now) (a .f .now) (a .up) (a .w) (a .base) (a .x .now) (a .marks .now) (a .v) (c .before .before .before .before .before .before .before .place .ensures .0) (back64 _ (q .ok) ∙ ec) eb (c .if1 .left)
 
 pub move-vertex-spec : {M : Type 1} → statement M
 move-vertex-spec =
@@ -86,11 +94,11 @@ move-vertex-spec =
     index-1-asked-2
     index-2-asked-2
     asked-requires
-    mul-old
-    element-copy-out-old
-    moved-requires
-    mul-x
-    element-write-x
+    mul-overtakes
+    element-copy-out-overtakes
+    overtakes-requires
+    mul-c
+    element-set-from-c
     element-write-marks
     returns
     returns-2)

@@ -1,7 +1,10 @@
--- What is left of the sweeps, from what the loop holds, is what the heights come to. Assumes nothing.
-use mathlib.Core.Path.{_≡_, sym, _∙_}
+-- What is left of the sweeps, from what the loop holds, is what the multipliers come to. Assumes nothing.
+use mathlib.Core.Path.{_≡_, sym, ap, _∙_}
+use mathlib.Core.List.{List}
 use Prim.Native.Nat.{_-_, _≤_}
 use native.Mathlib.Omega.{arith}
+use lib.IntN.{ℤ}
+use Rattle.multiplier_steps.specs.Steps.{cappedAll}
 use Rattle.ascent.specs.Laws.Bodies.{sweeps-start, sweeps-end, sweeps-none, sweeps-more}
 use Rattle.ascent.specs.Relax.{sweeps, settled}
 use borrow.Author.Needs.{needs}
@@ -9,8 +12,7 @@ use Rattle.ascent.proofs.relax.settle.Statement.{statement}
 use Rattle.ascent.proofs.relax.settle.Tie as tie
 
 abbrev Inv-loop : tie.InvT-loop
-Inv-loop d f up vs y₀ marks₀ k₀ y marks k =
-    (k ≤ 64) × (sweeps d f up vs (64 - k) (y, marks) .0 ≡ settled d f up vs y₀)
+Inv-loop d f up vs y₀ marks₀ k₀ y marks k = (k ≤ 64) × (cappedAll (sweeps d f up vs (64 - k) (y, marks) .0) vs ≡ settled d f up vs y₀)
 
 abbrev μ-loop : tie.MeasureT-loop
 μ-loop d f up vs y₀ marks₀ k₀ y marks k = 64 - k
@@ -21,8 +23,14 @@ loop-holds c = (omega arith, sweeps-start _ _ _ _ _)
 all-closed-requires : tie.Need-all-closed-requires Inv-loop μ-loop
 all-closed-requires c κs = search needs
 
+capped-all-requires : tie.Need-capped-all-requires Inv-loop μ-loop
+capped-all-requires c κs = search needs
+
 returns : tie.Need-returns Inv-loop μ-loop
-returns c = let at = c .before .before .before .before in sym (sweeps-end _ _ _ _ _ _ _ (sym (c .before .all-closed .ensures) ∙ c .if1 .taken)) ∙ at .loop .inv .1
+returns c =
+    let at = c .before .before .before .before .before .before in
+    let vs = at .before .before .args .vs .now in
+    c .capped-all .ensures ∙ ap (λ (x : List ℤ). cappedAll x vs) (sym (sweeps-end _ _ _ _ _ _ _ (sym (c .before .before .before .all-closed .ensures) ∙ c .before .before .if1 .taken))) ∙ at .loop .inv .1
 
 sweep-requires : tie.Need-sweep-requires Inv-loop μ-loop
 sweep-requires c κs = search needs
@@ -38,8 +46,14 @@ loop-again c =
     let at = c .before .before .before .before .before .before .before in
     (omega arith, sweeps-more _ _ _ _ (at .loop .k) _ _ (at .loop .inv .1) (c .before .before .before .before .before .before .loop-test .taken) (sym (c .before .before .before .before .all-closed .ensures) ∙ c .before .before .before .if1 .left) (c .sweep .ensures))
 
+capped-all-requires-2 : tie.Need-capped-all-requires-2 Inv-loop μ-loop
+capped-all-requires-2 c κs = search needs
+
 returns-2 : tie.Need-returns-2 Inv-loop μ-loop
-returns-2 c = sym (sweeps-none _ _ _ _ (c .before .loop .k) _ _ (c .loop-test .left)) ∙ c .before .loop .inv .1
+returns-2 c =
+    let at = c .before .before .before in
+    let vs = at .before .before .args .vs .now in
+    c .capped-all2 .ensures ∙ ap (λ (x : List ℤ). cappedAll x vs) (sym (sweeps-none _ _ _ _ (at .loop .k) _ _ (c .before .before .loop-test .left))) ∙ at .loop .inv .1
 
 pub settle-spec : {M : Type 1} → statement M
 settle-spec =
@@ -49,9 +63,11 @@ settle-spec =
     μ-loop
     loop-holds
     all-closed-requires
+    capped-all-requires
     returns
     sweep-requires
     add-k
     loop-less
     loop-again
+    capped-all-requires-2
     returns-2)

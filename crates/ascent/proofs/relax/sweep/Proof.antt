@@ -3,9 +3,9 @@ use mathlib.Core.Path.{_≡_, refl, _∙_}
 use Prim.Native.Nat.{_-_, _≤_}
 use native.Mathlib.Omega.{arith}
 use lib.ListN.{length, getD}
-use Rattle.heights.specs.Laws.Turns.{turn-at, end}
+use Rattle.multiplier_steps.specs.Laws.Turns.{turn-at, end}
 use Rattle.ascent.specs.Relax.{ask, sweep}
-use Rattle.heights.specs.Turns.{turns}
+use Rattle.multiplier_steps.specs.Turns.{turns}
 use borrow.Author.Needs.{needs}
 use Rattle.ascent.proofs.relax.sweep.Statement.{statement}
 use Rattle.ascent.proofs.relax.sweep.Tie as tie

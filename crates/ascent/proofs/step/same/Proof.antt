@@ -3,18 +3,18 @@ use mathlib.Core.Bool.{true, _&&_}
 use mathlib.Core.Path.{_≡_, refl, _∙_}
 use Prim.Native.Nat.{_-_, _≤_}
 use native.Mathlib.Omega.{arith}
-use lib.Dec.{eqb}
+use lib.IntN.{pos}
 use lib.ListN.{length, getD}
-use Rattle.heights.specs.Laws.Turns.{turn-at, end}
-use Rattle.ascent.specs.Step.{areSame}
-use Rattle.heights.specs.Turns.{turns}
+use Rattle.integers.specs.Linear.{back64}
+use Rattle.multiplier_steps.specs.Laws.Turns.{turn-at, end}
+use Rattle.multiplier_steps.specs.Turns.{turns}
+use Rattle.ascent.specs.Step.{isSame, areSame}
 use borrow.Author.Needs.{needs}
 use Rattle.ascent.proofs.step.same.Statement.{statement}
 use Rattle.ascent.proofs.step.same.Tie as tie
 
 abbrev Inv-loop : tie.InvT-loop
-Inv-loop vs x y b₀ a₀ b a =
-    (a ≤ length vs) × (b ≡ turns (λ r a. r && eqb (getD x (getD vs a 0) 0) (getD y (getD vs a 0) 0)) true a)
+Inv-loop vs x y b₀ a₀ b a = (a ≤ length vs) × (b ≡ turns (λ r a. r && isSame (getD x (getD vs a 0) (pos 0)) (getD y (getD vs a 0) (pos 0))) true a)
 
 abbrev μ-loop : tie.MeasureT-loop
 μ-loop vs x y b₀ a₀ b a = length vs - a
@@ -53,10 +53,11 @@ loop-less c = search needs
 loop-again : tie.Need-loop-again Inv-loop μ-loop
 loop-again c =
     let at = c .before .before .before .before .before .before in
-    let start = at .before .before in (
+    let start = at .before .before in
+    let e = simp (back64, c .before .before .both-arg .given, c .before .both-arg2 .given) at (c .both .ensures) in (
       omega arith,
-      turn-at (λ r v. r && eqb (getD (start .args .x .now) v 0) (getD (start .args .y .now) v 0)) (start .args .vs .now) true (at .loop .a) (at .loop .inv .1) (c .before .before .before .wide .ensures ∙ c .before .before .before .before .vertex .ensures .0)
-          (c .both .ensures),
+      turn-at (λ r v. r && isSame (getD (start .args .x .now) v (pos 0)) (getD (start .args .y .now) v (pos 0))) (start .args .vs .now) true (at .loop .a) (at .loop .inv .1) (c .before .before .before .wide .ensures ∙ c .before .before .before .before .vertex .ensures .0)
+          e,
     )
 
 returns : tie.Need-returns Inv-loop μ-loop

@@ -1,4 +1,5 @@
 -- What the parts answer is the step of the model. Assumes nothing.
+use Rattle.integers.specs.Linear.{back64}
 use Rattle.ascent.specs.Laws.Bodies.{step-is}
 use borrow.Author.Needs.{needs}
 use Rattle.ascent.proofs.step.step.Statement.{statement}
@@ -37,11 +38,16 @@ sub-t21 c = search needs
 mul-t27 : tie.Need-mul-t27
 mul-t27 c = search needs
 
-array-read-t20 : tie.Need-array-read-t20
-array-read-t20 c = search needs
+array-copy-out-t30 : tie.Need-array-copy-out-t30
+array-copy-out-t30 c = search needs
 
 returns : tie.Need-returns
-returns c = step-is (c .before .before .before .before .before .before .before .before .before .before .before .before .before .before .before .before .args .d .now) (c .before .before .before .before .before .before .before .before .before .before .before .before .before .before .before .before .args .f .now) (c .before .before .before .before .before .before .before .before .before .before .before .before .before .before .before .before .args .vs .now) (c .before .before .before .before .before .before .before .before .before .before .before .before .before .before .before .before .args .component .now) (c .before .before .before .before .before .before .before .before .before .before .before .before .before .before .before .before .args .k) (c .before .before .before .before .before .before .before .before .before .before .before .before .before .before .before .before .args .up) (c .before .before .before .before .before .before .before .before .before .before .before .before .before .before .before .before .args .s) (c .before .before .before .before .before .before .before .before .before .before .before .before .before .before .before .before .args .x .now) (c .before .before .before .before .before .before .before .before .before .before .before .before .before .before .before .before .args .before .now) (c .before .before .before .before .before .before .before .before .before .before .before .before .before .before .offers .ensures) (c .before .before .before .before .before .before .before .before .before .before .before .bit .ensures .0) (c .before .before .before .before .before .before .before .before .before .grow .ensures) (c .before .before .before .before .follow .ensures) (c .before .before .same .ensures) (c .before .carry-on .ensures) (c .settle .ensures)
+returns c =
+    let e = c .before .before .before in
+    let g = e .before .before .before .before .before .before .before in
+    let o = g .before .before .before .before .before in
+    let a = o .before .before .args in
+    step-is (a .d .now) (a .f .now) (a .vs .now) (a .component .now) (a .k) (a .up) (a .s) (a .x .now) (a .before .now) (o .offers .ensures) (g .before .before .bit .ensures .0) (g .grow .ensures) (e .before .before .follow .ensures) (e .same .ensures) (c .before .before .carry-on .ensures) (c .before .settle .ensures) (back64 _ (c .t30 .given))
 
 pub step-spec : {M : Type 1} → statement M
 step-spec =
@@ -58,5 +64,5 @@ step-spec =
     settle-requires
     sub-t21
     mul-t27
-    array-read-t20
+    array-copy-out-t30
     returns)

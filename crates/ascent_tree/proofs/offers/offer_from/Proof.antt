@@ -2,17 +2,20 @@
 use mathlib.Core.Path.{_≡_, refl, ap, _∙_}
 use Prim.Native.Nat.{_*_, _-_, _≤_}
 use native.Mathlib.Omega.{arith}
+use lib.IntN.{pos}
 use lib.ListN.{length, getD}
-use Rattle.heights.specs.Laws.Turns.{turn-at, end}
-use Rattle.heights.specs.Heights.{capped}
+use mir.Syntax.{w64}
+use mir.Val.{toZ}
+use Rattle.integers.specs.Linear.{back64}
+use Rattle.multiplier_steps.specs.Laws.Turns.{turn-at, end}
+use Rattle.multiplier_steps.specs.Turns.{turns}
 use Rattle.ascent_tree.specs.Offers.{part, offer, offersFrom}
-use Rattle.heights.specs.Turns.{turns}
 use borrow.Author.Needs.{needs}
 use Rattle.ascent_tree.proofs.offers.offer_from.Statement.{statement}
 use Rattle.ascent_tree.proofs.offers.offer_from.Tie as tie
 
 abbrev Inv-loop : tie.InvT-loop
-Inv-loop d x component vs i m₀ at₀ row xi b₀ m at b = (b ≤ length vs) × (row ≡ part component i * 8) × (xi ≡ capped x i) × ((m, at) ≡ turns (λ r a. offer d x component i r (getD vs a 0)) (m₀, at₀) b)
+Inv-loop d x component vs i m₀ at₀ row xi b₀ m at b = (b ≤ length vs) × (row ≡ part component i * 8) × (toZ w64 xi ≡ getD x i (pos 0)) × ((m, at) ≡ turns (λ r a. offer d x component i r (getD vs a 0)) (m₀, at₀) b)
 
 abbrev μ-loop : tie.MeasureT-loop
 μ-loop d x component vs i m₀ at₀ row xi b₀ m at b = length vs - b
@@ -23,12 +26,15 @@ part-of-requires c κs = search needs
 mul-row : tie.Need-mul-row Inv-loop μ-loop
 mul-row c = search needs
 
-height-requires : tie.Need-height-requires Inv-loop μ-loop
-height-requires c κs = search needs
+mul-xi : tie.Need-mul-xi Inv-loop μ-loop
+mul-xi c = search needs
+
+element-copy-out-xi : tie.Need-element-copy-out-xi Inv-loop μ-loop
+element-copy-out-xi c = search needs
 
 loop-holds : tie.Need-loop-holds Inv-loop μ-loop
 unfolding turns
-loop-holds c = (omega arith, ap (λ n. n * 8) (c .before .part-of .ensures .0), c .height .ensures .0, refl)
+loop-holds c = (omega arith, ap (λ n. n * 8) (c .before .part-of .ensures .0), back64 _ (c .xi .given), refl)
 
 vertex-requires : tie.Need-vertex-requires Inv-loop μ-loop
 vertex-requires c κs = search needs
@@ -37,7 +43,12 @@ wide-requires : tie.Need-wide-requires Inv-loop μ-loop
 wide-requires c κs = search needs
 
 offer-pair-requires : tie.Need-offer-pair-requires Inv-loop μ-loop
-offer-pair-requires c κs = search needs
+offer-pair-requires c κs =
+    let at = c .before .before .before .before .before in
+    let s = at .before .before .before .before in
+    let w = c .before .before .wide .ensures in
+    let v = c .before .before .before .vertex .ensures .1 in
+    (s .pre .0, omega arith, at .loop .inv .1, at .loop .inv .2, s .pre .2)
 
 add-b : tie.Need-add-b Inv-loop μ-loop
 add-b c = search needs
@@ -68,7 +79,8 @@ offer-from-spec =
     μ-loop
     part-of-requires
     mul-row
-    height-requires
+    mul-xi
+    element-copy-out-xi
     loop-holds
     vertex-requires
     wide-requires

@@ -1,4 +1,13 @@
 -- A pair that is cheaper is noted, and else nothing changes.
+use mathlib.Core.Path.{_≡_, ap, _∙_, subst⁻¹}
+use lib.IntN.{ℤ, pos, _+ℤ_, _-ℤ_}
+use lib.ListN.{getD}
+use mir.Syntax.{w64}
+use mir.Val.{toZ, ofZ}
+use Rattle.integers.specs.Linear.{back64, Within}
+use Rattle.residual_search.specs.Search.{beyond}
+use Rattle.residual_search.specs.Step.{cell}
+use Rattle.ascent_tree.specs.Offers.{costOf}
 use Rattle.ascent_tree.specs.Laws.Grown.{offer-less, offer-not}
 use borrow.Author.Needs.{needs}
 use Rattle.ascent_tree.proofs.offers.offer_pair.Statement.{statement}
@@ -10,23 +19,29 @@ part-of-requires c κs = search needs
 add-l : tie.Need-add-l
 add-l c = search needs
 
-mul-reduce : tie.Need-mul-reduce
-mul-reduce c = search needs
+mul-reduced : tie.Need-mul-reduced
+mul-reduced c = search needs
 
-mul-reduce-2 : tie.Need-mul-reduce-2
-mul-reduce-2 c = search needs
+mul-reduced-2 : tie.Need-mul-reduced-2
+mul-reduced-2 c = search needs
 
-index-1-reduce : tie.Need-index-1-reduce
-index-1-reduce c = search needs
+index-1-reduced : tie.Need-index-1-reduced
+index-1-reduced c = search needs
 
-index-2-reduce : tie.Need-index-2-reduce
-index-2-reduce c = search needs
+index-2-reduced : tie.Need-index-2-reduced
+index-2-reduced c = search needs
 
-height-requires : tie.Need-height-requires
-height-requires c κs = search needs
+mul-reduced-3 : tie.Need-mul-reduced-3
+mul-reduced-3 c = search needs
 
-reduce-requires : tie.Need-reduce-requires
-reduce-requires c κs = search needs
+element-copy-out-reduced : tie.Need-element-copy-out-reduced
+element-copy-out-reduced c = search needs
+
+reduced-requires : tie.Need-reduced-requires
+reduced-requires c κs =
+    let s = c .before .before .before in
+    let a = subst⁻¹ (Within beyond) (s .pre .3) (s .pre .4 (s .args .i) (s .pre .0)) in
+    (simp (back64, s .fits .xi .sfits) a, simp (back64, c .reduced-arg2 .given) (s .pre .4 (s .args .j) (s .pre .1)))
 
 mul-if1 : tie.Need-mul-if1
 mul-if1 c = search needs
@@ -34,11 +49,11 @@ mul-if1 c = search needs
 element-copy-out-if1 : tie.Need-element-copy-out-if1
 element-copy-out-if1 c = search needs
 
-mul-m : tie.Need-mul-m
-mul-m c = search needs
+mul-c : tie.Need-mul-c
+mul-c c = search needs
 
-element-write-m : tie.Need-element-write-m
-element-write-m c = search needs
+element-set-from-c : tie.Need-element-set-from-c
+element-set-from-c c = search needs
 
 mul-at : tie.Need-mul-at
 mul-at c = search needs
@@ -55,17 +70,26 @@ mul-at-2 c = search needs
 element-write-at : tie.Need-element-write-at
 element-write-at c = search needs
 
+-- the cost is that of the pair
+cost-is : (c : tie.After-reduced) → toZ w64 (ofZ w64 (c .reduced .result)) ≡ costOf (c .before .before .before .before .args .d .now) (c .before .before .before .before .args .x .now) (c .before .before .before .before .args .component .now) (c .before .before .before .before .args .i) (c .before .before .before .before .args .j)
+cost-is c =
+    let s = c .before .before .before .before in
+    let e = simp (back64, s .fits .xi .sfits, c .before .reduced-arg2 .given) at (c .reduced .ensures) in
+    back64 _ (c .reduced .ok) ∙ e ∙ ap (λ (u : ℤ). pos (cell (s .args .d .now) (s .args .i) (s .args .j)) -ℤ u +ℤ getD (s .args .x .now) (s .args .j) (pos 0)) (s .pre .3)
+
 returns : tie.Need-returns
 returns c =
     let s = c .before .before .before .before .before .before in
     let a = s .args in
-    offer-less (a .d .now) (a .x .now) (a .component .now) (a .i) (a .m .now) (a .at .now) (a .j) (s .pre .2) (c .before .before .before .before .before .part-of .ensures .0) (s .pre .3) (c .before .before .before .height .ensures .0) (c .before .before .reduce .ensures) (c .if1 .taken)
+    let t = simp (back64, c .before .if12 .given) at (c .if1 .taken) in
+    offer-less (a .d .now) (a .x .now) (a .component .now) (a .i) (a .m .now) (a .at .now) (a .j) (s .pre .2) (c .before .before .before .before .before .part-of .ensures .0) (cost-is (c .before .before)) t
 
 returns-2 : tie.Need-returns-2
 returns-2 c =
     let s = c .before .before .before .before .before .before in
     let a = s .args in
-    offer-not (a .d .now) (a .x .now) (a .component .now) (a .i) (a .m .now) (a .at .now) (a .j) (s .pre .2) (c .before .before .before .before .before .part-of .ensures .0) (s .pre .3) (c .before .before .before .height .ensures .0) (c .before .before .reduce .ensures) (c .if1 .left)
+    let t = simp (back64, c .before .if12 .given) at (c .if1 .left) in
+    offer-not (a .d .now) (a .x .now) (a .component .now) (a .i) (a .m .now) (a .at .now) (a .j) (s .pre .2) (c .before .before .before .before .before .part-of .ensures .0) (cost-is (c .before .before)) t
 
 pub offer-pair-spec : {M : Type 1} → statement M
 offer-pair-spec =
@@ -73,16 +97,17 @@ offer-pair-spec =
     (tie.spec
     part-of-requires
     add-l
-    mul-reduce
-    mul-reduce-2
-    index-1-reduce
-    index-2-reduce
-    height-requires
-    reduce-requires
+    mul-reduced
+    mul-reduced-2
+    index-1-reduced
+    index-2-reduced
+    mul-reduced-3
+    element-copy-out-reduced
+    reduced-requires
     mul-if1
     element-copy-out-if1
-    mul-m
-    element-write-m
+    mul-c
+    element-set-from-c
     mul-at
     add-at
     cast-at

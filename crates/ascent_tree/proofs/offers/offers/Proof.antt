@@ -2,17 +2,19 @@
 use mathlib.Core.Path.{_≡_, refl, _∙_}
 use Prim.Native.Nat.{_-_, _≤_}
 use native.Mathlib.Omega.{arith}
+use lib.IntN.{pos}
 use lib.ListN.{length, getD, replicate}
-use Rattle.heights.specs.Laws.Turns.{turn-at, end}
+use Rattle.residual_search.specs.Search.{beyond}
+use Rattle.multiplier_steps.specs.Laws.Turns.{turn-at, end}
 use Rattle.ascent_tree.specs.Offers.{offersFrom, offers}
-use Rattle.heights.specs.Turns.{turns}
+use Rattle.multiplier_steps.specs.Turns.{turns}
 use borrow.Author.Needs.{needs}
 use Rattle.ascent_tree.proofs.offers.offers.Statement.{statement}
 use Rattle.ascent_tree.proofs.offers.offers.Tie as tie
 
 abbrev Inv-loop : tie.InvT-loop
 Inv-loop d x component vs m₀ at₀ a₀ m at a =
-    (a ≤ length vs) × ((m, at) ≡ turns (λ r a. offersFrom d x component vs r (getD vs a 0)) (replicate 64 1099511627776, replicate 64 0) a)
+    (a ≤ length vs) × ((m, at) ≡ turns (λ r a. offersFrom d x component vs r (getD vs a 0)) (replicate 64 (pos beyond), replicate 64 0) a)
 
 abbrev μ-loop : tie.MeasureT-loop
 μ-loop d x component vs m₀ at₀ a₀ m at a = length vs - a
@@ -41,7 +43,7 @@ loop-again c =
     let at = c .before .before .before .before .before .before in
     let start = at .before .before in (
       omega arith,
-      turn-at (λ r v. offersFrom (start .args .d .now) (start .args .x .now) (start .args .component .now) (start .args .vs .now) r v) (start .args .vs .now) (replicate 64 1099511627776, replicate 64 0) (at .loop .a) (at .loop .inv .1) (c .before .before .before .wide .ensures ∙ c .before .before .before .before .vertex .ensures .0)
+      turn-at (λ r v. offersFrom (start .args .d .now) (start .args .x .now) (start .args .component .now) (start .args .vs .now) r v) (start .args .vs .now) (replicate 64 (pos beyond), replicate 64 0) (at .loop .a) (at .loop .inv .1) (c .before .before .before .wide .ensures ∙ c .before .before .before .before .vertex .ensures .0)
           (c .offer-from .ensures),
     )
 

@@ -1,4 +1,6 @@
 -- What the parts answer is the turn of the model. Assumes nothing.
+use mathlib.Core.Path.{_∙_}
+use Rattle.integers.specs.Linear.{back64}
 use Rattle.ascent_tree.specs.Laws.Grown.{enter-is}
 use borrow.Author.Needs.{needs}
 use Rattle.ascent_tree.proofs.tree.enter.Statement.{statement}
@@ -13,32 +15,26 @@ bit-requires c κs = search needs
 add-there : tie.Need-add-there
 add-there c = search needs
 
-mul-lesser : tie.Need-mul-lesser
-mul-lesser c = search needs
+mul-sum : tie.Need-mul-sum
+mul-sum c = search needs
 
-element-copy-out-lesser : tie.Need-element-copy-out-lesser
-element-copy-out-lesser c = search needs
+element-copy-out-sum : tie.Need-element-copy-out-sum
+element-copy-out-sum c = search needs
 
-lesser-requires : tie.Need-lesser-requires
-lesser-requires c κs = search needs
+mul-sum-2 : tie.Need-mul-sum-2
+mul-sum-2 c = search needs
 
-mul-lesser-2 : tie.Need-mul-lesser-2
-mul-lesser-2 c = search needs
+add-sum : tie.Need-add-sum
+add-sum c = search needs
 
-add-lesser : tie.Need-add-lesser
-add-lesser c = search needs
+mul-sum-3 : tie.Need-mul-sum-3
+mul-sum-3 c = search needs
 
-mul-lesser-3 : tie.Need-mul-lesser-3
-mul-lesser-3 c = search needs
+element-copy-out-sum-2 : tie.Need-element-copy-out-sum-2
+element-copy-out-sum-2 c = search needs
 
-element-copy-out-lesser-2 : tie.Need-element-copy-out-lesser-2
-element-copy-out-lesser-2 c = search needs
-
-lesser-requires-2 : tie.Need-lesser-requires-2
-lesser-requires-2 c κs = search needs
-
-add-c : tie.Need-add-c
-add-c c = search needs
+sum-requires : tie.Need-sum-requires
+sum-requires c κs = search needs
 
 mul-old : tie.Need-mul-old
 mul-old c = search needs
@@ -67,17 +63,25 @@ pick-entry-requires c κs = search needs
 pick-requires : tie.Need-pick-requires
 pick-requires c κs = search needs
 
-mul-cost : tie.Need-mul-cost
-mul-cost c = search needs
+mul-t16 : tie.Need-mul-t16
+mul-t16 c = search needs
 
-element-write-cost : tie.Need-element-write-cost
-element-write-cost c = search needs
+element-set-from-cost : tie.Need-element-set-from-cost
+element-set-from-cost c = search needs
 
 element-write-from : tie.Need-element-write-from
 element-write-from c = search needs
 
 returns : tie.Need-returns
-returns c = enter-is (c .before .before .before .before .before .before .before .before .before .before .before .args .m .now) (c .before .before .before .before .before .before .before .before .before .before .before .args .s) (c .before .before .before .before .before .before .before .before .before .before .before .args .cost .now) (c .before .before .before .before .before .before .before .before .before .before .before .args .from .now) (c .before .before .before .before .before .before .before .before .before .before .before .args .q) (c .before .before .before .before .before .before .before .before .before .before .entry .ensures .0) (c .before .before .before .before .before .before .before .before .before .bit .ensures .0) (c .before .before .before .before .before .before .before .lesser .ensures) (c .before .before .before .before .before .lesser2 .ensures) (c .before .before .before .better .ensures) (c .before .pick-entry .ensures) (c .pick .ensures)
+returns c =
+    let b = c .before .before .before .better in
+    let o = c .before .before .before .before .old in
+    let m = c .before .before .before .before .before in
+    let s = m .before .before .before .before .before in
+    let ec = simp (back64, m .before .before .sum-arg .given, m .before .sum-arg2 .given) at (m .sum .ensures) in
+    let eb = simp (back64, m .sum .ok, o .given) at (b .ensures) in
+    let en = simp (back64, m .sum .ok, o .given) at (c .pick .ensures) in
+    enter-is (s .args .m .now) (s .args .s) (s .args .cost .now) (s .args .from .now) (s .args .q) (m .before .before .before .before .entry .ensures .0) (m .before .before .before .bit .ensures .0) ec eb (c .before .pick-entry .ensures) (back64 _ (c .pick .ok) ∙ en)
 
 pub enter-spec : {M : Type 1} → statement M
 enter-spec =
@@ -86,15 +90,13 @@ enter-spec =
     entry-requires
     bit-requires
     add-there
-    mul-lesser
-    element-copy-out-lesser
-    lesser-requires
-    mul-lesser-2
-    add-lesser
-    mul-lesser-3
-    element-copy-out-lesser-2
-    lesser-requires-2
-    add-c
+    mul-sum
+    element-copy-out-sum
+    mul-sum-2
+    add-sum
+    mul-sum-3
+    element-copy-out-sum-2
+    sum-requires
     mul-old
     element-copy-out-old
     better-requires
@@ -104,7 +106,7 @@ enter-spec =
     element-copy-out-pick-entry
     pick-entry-requires
     pick-requires
-    mul-cost
-    element-write-cost
+    mul-t16
+    element-set-from-cost
     element-write-from
     returns)

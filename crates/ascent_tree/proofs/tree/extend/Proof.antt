@@ -2,9 +2,9 @@
 use mathlib.Core.Path.{_≡_, refl, ap, _∙_}
 use Prim.Native.Nat.{_+_, _*_, _-_, _≤_}
 use native.Mathlib.Omega.{arith}
-use Rattle.heights.specs.Laws.Turns.{turn, end}
+use Rattle.multiplier_steps.specs.Laws.Turns.{turn, end}
 use Rattle.ascent_tree.specs.Tree.{enter, extend}
-use Rattle.heights.specs.Turns.{turns}
+use Rattle.multiplier_steps.specs.Turns.{turns}
 use borrow.Author.Needs.{needs}
 use Rattle.ascent_tree.proofs.tree.extend.Statement.{statement}
 use Rattle.ascent_tree.proofs.tree.extend.Tie as tie

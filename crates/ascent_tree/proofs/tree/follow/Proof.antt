@@ -1,11 +1,12 @@
 -- The loop's state after so many turns is the model's. Assumes nothing.
 use mathlib.Core.List.{List}
+use lib.IntN.{ℤ}
 use mathlib.Core.Path.{_≡_, refl, ap}
 use Prim.Native.Nat.{ℕ, _-_, _≤_, _<_}
 use native.Mathlib.Omega.{arith}
-use Rattle.heights.specs.Laws.Turns.{turn, end}
+use Rattle.multiplier_steps.specs.Laws.Turns.{turn, end}
 use Rattle.ascent_tree.specs.Tree.{walkBack, along}
-use Rattle.heights.specs.Turns.{turns}
+use Rattle.multiplier_steps.specs.Turns.{turns}
 use borrow.Author.Needs.{needs}
 use Rattle.ascent_tree.proofs.tree.follow.Statement.{statement}
 use Rattle.ascent_tree.proofs.tree.follow.Tie as tie
@@ -41,7 +42,7 @@ loop-again c =
 
 returns : tie.Need-returns Inv-loop μ-loop
 unfolding along
-returns c = ap (λ (w : List ℕ × ℕ). w .0) (end _ _ (c .before .loop .a) (c .before .loop .inv .2) (c .before .loop .inv .0) (omega arith))
+returns c = ap (λ (w : List ℤ × ℕ). w .0) (end _ _ (c .before .loop .a) (c .before .loop .inv .2) (c .before .loop .inv .0) (omega arith))
 
 pub follow-spec : {M : Type 1} → statement M
 follow-spec =

@@ -2,10 +2,11 @@
 use mathlib.Core.Path.{_≡_, refl}
 use Prim.Native.Nat.{_-_, _≤_}
 use native.Mathlib.Omega.{arith}
+use lib.IntN.{pos}
 use lib.ListN.{set, replicate}
-use Rattle.heights.specs.Laws.Turns.{turn, end}
+use Rattle.multiplier_steps.specs.Laws.Turns.{turn, end}
 use Rattle.ascent_tree.specs.Tree.{extend, grown}
-use Rattle.heights.specs.Turns.{turns}
+use Rattle.multiplier_steps.specs.Turns.{turns}
 use Rattle.residual_search.specs.Search.{beyond}
 use borrow.Author.Needs.{needs}
 use Rattle.ascent_tree.proofs.tree.grow.Statement.{statement}
@@ -13,13 +14,13 @@ use Rattle.ascent_tree.proofs.tree.grow.Tie as tie
 
 abbrev Inv-loop : tie.InvT-loop
 Inv-loop m n cost₀ from₀ i₀ cost from i =
-    (i ≤ n) × (n ≤ 128) × ((cost, from) ≡ turns (extend m) (set (replicate 256 beyond) 0 0, replicate 256 0) i)
+    (i ≤ n) × (n ≤ 128) × ((cost, from) ≡ turns (extend m) (set (replicate 256 (pos beyond)) 0 (pos 0), replicate 256 0) i)
 
 abbrev μ-loop : tie.MeasureT-loop
 μ-loop m n cost₀ from₀ i₀ cost from i = n - i
 
-array-write-cost : tie.Need-array-write-cost Inv-loop μ-loop
-array-write-cost c = search needs
+array-set-of-cost : tie.Need-array-set-of-cost Inv-loop μ-loop
+array-set-of-cost c = search needs
 
 loop-holds : tie.Need-loop-holds Inv-loop μ-loop
 unfolding turns
@@ -49,7 +50,7 @@ grow-spec =
     (tie.spec
     Inv-loop
     μ-loop
-    array-write-cost
+    array-set-of-cost
     loop-holds
     extend-requires
     add-i

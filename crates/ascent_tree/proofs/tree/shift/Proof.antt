@@ -1,4 +1,6 @@
 -- The two stores are those of the model. Assumes nothing.
+use mathlib.Core.Path.{_∙_}
+use Rattle.integers.specs.Linear.{back64}
 use Rattle.ascent_tree.specs.Laws.Grown.{shift-is}
 use borrow.Author.Needs.{needs}
 use Rattle.ascent_tree.proofs.tree.shift.Statement.{statement}
@@ -10,44 +12,42 @@ cast-head c = search needs
 cast-tail : tie.Need-cast-tail
 cast-tail c = search needs
 
-mul-lesser : tie.Need-mul-lesser
-mul-lesser c = search needs
+mul-rise : tie.Need-mul-rise
+mul-rise c = search needs
 
-element-copy-out-lesser : tie.Need-element-copy-out-lesser
-element-copy-out-lesser c = search needs
+element-copy-out-rise : tie.Need-element-copy-out-rise
+element-copy-out-rise c = search needs
 
-lesser-requires : tie.Need-lesser-requires
-lesser-requires c κs = search needs
-
-add-x : tie.Need-add-x
-add-x c = search needs
+rise-requires : tie.Need-rise-requires
+rise-requires c κs = search needs
 
 mul-x : tie.Need-mul-x
 mul-x c = search needs
 
-element-write-x : tie.Need-element-write-x
-element-write-x c = search needs
+element-set-from-x : tie.Need-element-set-from-x
+element-set-from-x c = search needs
 
-mul-lesser-2 : tie.Need-mul-lesser-2
-mul-lesser-2 c = search needs
+mul-fall : tie.Need-mul-fall
+mul-fall c = search needs
 
-element-copy-out-lesser-2 : tie.Need-element-copy-out-lesser-2
-element-copy-out-lesser-2 c = search needs
+element-copy-out-fall : tie.Need-element-copy-out-fall
+element-copy-out-fall c = search needs
 
-lesser-requires-2 : tie.Need-lesser-requires-2
-lesser-requires-2 c κs = search needs
+fall-requires : tie.Need-fall-requires
+fall-requires c κs = search needs
 
-monus-requires : tie.Need-monus-requires
-monus-requires c κs = search needs
+mul-t9 : tie.Need-mul-t9
+mul-t9 c = search needs
 
-mul-x-2 : tie.Need-mul-x-2
-mul-x-2 c = search needs
-
-element-write-x-2 : tie.Need-element-write-x-2
-element-write-x-2 c = search needs
+element-set-from-x-2 : tie.Need-element-set-from-x-2
+element-set-from-x-2 c = search needs
 
 returns : tie.Need-returns
-returns c = shift-is (c .before .before .before .before .before .args .x .now) (c .before .before .before .before .before .args .pair) (c .before .before .before .before .before .args .s) (c .before .before .before .lesser .ensures) (c .before .lesser2 .ensures) (c .monus .ensures)
+returns c =
+    let s = c .before .before .before .before in
+    let a = simp (back64, c .before .before .before .rise-arg .given) at (c .before .before .rise .ensures) in
+    let b = simp (back64, c .before .fall-arg .given) at (c .fall .ensures) in
+    shift-is (s .args .x .now) (s .args .pair) (s .args .s) (back64 _ (c .before .before .rise .ok) ∙ a) (back64 _ (c .fall .ok) ∙ b)
 
 pub shift-spec : {M : Type 1} → statement M
 shift-spec =
@@ -55,16 +55,14 @@ shift-spec =
     (tie.spec
     cast-head
     cast-tail
-    mul-lesser
-    element-copy-out-lesser
-    lesser-requires
-    add-x
+    mul-rise
+    element-copy-out-rise
+    rise-requires
     mul-x
-    element-write-x
-    mul-lesser-2
-    element-copy-out-lesser-2
-    lesser-requires-2
-    monus-requires
-    mul-x-2
-    element-write-x-2
+    element-set-from-x
+    mul-fall
+    element-copy-out-fall
+    fall-requires
+    mul-t9
+    element-set-from-x-2
     returns)

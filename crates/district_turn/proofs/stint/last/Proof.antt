@@ -1,8 +1,9 @@
 -- What a search has found is cheap and a tree, so that it is laid out; what is laid out is a tree in any case.
-use mathlib.Core.Path.{_≡_}
+use mathlib.Core.Path.{_≡_, _∙_}
 use Prim.Native.Nat.{ℕ}
 use native.Mathlib.Omega.{arith}
 use lib.ListN.{length}
+use Rattle.integers.specs.Linear.{back64}
 use Rattle.plan.specs.Records.{planValue}
 use Rattle.multipliers.specs.Laws.Solve.{some-component}
 use Rattle.district_turn.specs.Stint.{searchedOf}
@@ -51,8 +52,8 @@ returns-2 c =
     let o = some-component p (b .plannable) (b .few) in
     let f = b .few in
     let t = c .before .before .is-tree in
-    let lt : length (s .args .r .tails) ≡ 8 = length-unmapped ℕ (s .args .r .tails) 8 (s .good .1 .1 .1 .1 .1 .1 .1 .0 .1 .1 .1 .0 .1 .0 .1) in
-    let lh : length (s .args .r .heads) ≡ 8 = length-unmapped ℕ (s .args .r .heads) 8 (s .good .1 .1 .1 .1 .1 .1 .1 .0 .1 .1 .1 .1 .0 .1 .0 .1) in
+    let lt : length (s .args .r .tails) ≡ 8 = length-unmapped ℕ (s .args .r .tails) 8 (s .good .1 .1 .1 .1 .1 .1 .1 .1 .0 .1 .1 .1 .0 .1 .0 .1) in
+    let lh : length (s .args .r .heads) ≡ 8 = length-unmapped ℕ (s .args .r .heads) 8 (s .good .1 .1 .1 .1 .1 .1 .1 .1 .0 .1 .1 .1 .1 .0 .1 .0 .1) in
     (λ budget one found. absurd (both (t .result) (t .ensures .1 (found-passes p (b .plannable) (b .few) (net .links) (net .component) (net .components) (n .links) (n .components) (omega arith) (omega arith) (searchedOf (s .args .r)) lt lh budget one found)) (c .before .if2 .taken)), as-it-was _ _ _ (c .so-far2 .ensures .1))
 
 conclude-requires : tie.Need-conclude-requires
@@ -66,11 +67,11 @@ conclude-requires c κs =
     let o = some-component p (b .plannable) (b .few) in
     let f = b .few in
     let t = c .before .before .is-tree in
-    let lt : length (s .args .r .tails) ≡ 8 = length-unmapped ℕ (s .args .r .tails) 8 (s .good .1 .1 .1 .1 .1 .1 .1 .0 .1 .1 .1 .0 .1 .0 .1) in
-    let lh : length (s .args .r .heads) ≡ 8 = length-unmapped ℕ (s .args .r .heads) 8 (s .good .1 .1 .1 .1 .1 .1 .1 .0 .1 .1 .1 .1 .0 .1 .0 .1) in
+    let lt : length (s .args .r .tails) ≡ 8 = length-unmapped ℕ (s .args .r .tails) 8 (s .good .1 .1 .1 .1 .1 .1 .1 .1 .0 .1 .1 .1 .0 .1 .0 .1) in
+    let lh : length (s .args .r .heads) ≡ 8 = length-unmapped ℕ (s .args .r .heads) 8 (s .good .1 .1 .1 .1 .1 .1 .1 .1 .0 .1 .1 .1 .1 .0 .1 .0 .1) in
     let low = c .before .before .before .before .before .if1 .left in
     let h = holds-tree p (b .plannable .well-formed) (net .links) (net .component) (net .components) (n .links) (n .components) (omega arith) (omega arith) (s .args .r .tails) (s .args .r .heads) lt lh (t .ensures .0 (plain (t .result) (c .before .if2 .left))) in
-    (s .pre .0, (n, h, omega arith, s .pre .1 .1, s .pre .1 .2))
+    ((s .pre .0 .0, s .pre .0 .1, back64 _ (s .fits .bound .sfits) ∙ s .pre .0 .2), (n, h, omega arith, s .pre .1 .1, s .pre .1 .2))
 
 finished-requires : tie.Need-finished-requires
 finished-requires c κs = search needs

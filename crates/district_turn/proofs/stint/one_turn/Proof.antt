@@ -1,6 +1,7 @@
 -- Where trees are left, 1,000 more are tried; where none is, what is held is what one search finds.
 use mathlib.Core.Path.{refl, _∙_}
 use native.Mathlib.Omega.{arith}
+use Rattle.integers.specs.Linear.{back64}
 use Rattle.plan.specs.Records.{planValue}
 use Rattle.district_turn.specs.Laws.Stint.{as-it-was, reached-as, all-searched, last-is, going-is}
 use borrow.Author.Needs.{needs}
@@ -25,7 +26,7 @@ so-far-requires c κs = search needs
 returns : tie.Need-returns
 returns c =
     let x = c .before .before .before .before .before in
-    let s = x .before .before .before .before .before .before in
+    let s = x .before .before .before .before .before .before .before in
     let b = s .pre .0 .0 in
     let p = planValue (s .args .plan) in
     let r = x .resume .result in
@@ -48,20 +49,25 @@ returns c =
     )
 
 last-requires : tie.Need-last-requires
-last-requires c κs = search needs
+last-requires c κs =
+    let m = c .before .before .before .before .before .before in
+    let b = m .before .before in
+    let s = b .before .before .before in
+    let e = m .multipliers-for .ensures in
+    ((record { known = s .pre .0 .0; base-is = b .base-state .ensures }, e .0, back64 _ (c .struct-told .given .1 .0 .1) ∙ e .1), (s .pre .1 .0, s .pre .1 .2, s .pre .1 .3))
 
 same-length : tie.Need-same-length
 same-length c = search needs
 
 returns-2 : tie.Need-returns-2
 returns-2 c =
-    let x = c .before .before .before .before .before .before in
-    let s = x .before .before .before .before .before .before in
+    let x = c .before .before .before .before .before .before .before in
+    let s = x .before .before .before .before .before .before .before in
     let b = s .pre .0 .0 in
     let p = planValue (s .args .plan) in
     let r = x .resume .result in
     let h = x .resume .ensures in
-    let t = c .before .before .before .before .if1 .left in
+    let t = c .before .before .before .before .before .if1 .left in
     let e = c .before .before .last .ensures in (
       λ l g. record {
         last = λ f. e .0 (s .args .budget) (s .pre .1 .1) (all-searched p (b .plannable) (b .few) (s .args .budget) (s .pre .1 .1) (s .args .g) r h l g t);

@@ -1,5 +1,7 @@
 -- What the search keeps is the best tree, which is what is answered.
+use mathlib.Core.Path.{_∙_}
 use native.Mathlib.Omega.{arith}
+use Rattle.integers.specs.Linear.{back64}
 use Rattle.solution.specs.Laws.Answer.{cost-small}
 use Rattle.solution.specs.Laws.Resumed.{holds-kept}
 use borrow.Author.Needs.{needs}
@@ -18,7 +20,7 @@ conclude-requires c κs =
     let b = s .pre .0 .0 .known in
     let l = cost-small _ (b .plannable) (b .few) _ (s .pre .1 .1) in
     let e = r .ensures .cost in
-    (s .pre .0, (s .pre .1 .0, holds-kept _ (b .plannable) (b .few) _ (s .pre .1 .1) (r .result) (r .ensures), omega arith, s .pre .1 .2, s .pre .1 .3))
+    ((s .pre .0 .0, s .pre .0 .1, back64 _ (s .fits .bound .sfits) ∙ s .pre .0 .2), (s .pre .1 .0, holds-kept _ (b .plannable) (b .few) _ (s .pre .1 .1) (r .result) (r .ensures), omega arith, s .pre .1 .2, s .pre .1 .3))
 
 same-length : tie.Need-same-length
 same-length c = search needs

@@ -1,0 +1,36 @@
+-- What is capped is small, and so is the sum.
+use mathlib.Core.Path.{ap₂, _∙_}
+use native.Mathlib.Omega.{arith}
+use lib.IntN.{ℤ, _+ℤ_}
+use mir.Syntax.{w64}
+use mir.Val.{SFits}
+use mir.Facts.{toZ-ofZ}
+use Rattle.integers.specs.Linear.{z, zz, back64, Within}
+use Rattle.residual_search.specs.Search.{beyond}
+use borrow.Author.Needs.{needs}
+use Rattle.ascent_tree.proofs.tree.sum.Statement.{statement}
+use Rattle.ascent_tree.proofs.tree.sum.Tie as tie
+
+fits : (a b : ℤ) → Within beyond a → Within beyond b → SFits w64 (a +ℤ b)
+fits a b h k = simp zz (omega (arith, z))
+
+capped-requires : tie.Need-capped-requires
+capped-requires c κs = search needs
+
+capped-requires-2 : tie.Need-capped-requires-2
+capped-requires-2 c κs = search needs
+
+add-result : tie.Need-add-result
+add-result c = let a = c .before .capped in let b = c .capped2 in simp (back64, a .ok, b .ok) (fits (a .result) (b .result) (a .ensures .1) (b .ensures .1))
+
+returns : tie.Need-returns
+returns c =
+    let a = c .before .capped in
+    let b = c .capped2 in
+    let s = c .before .before in
+    let e = simp (back64, s .fits .a .sfits) at (a .ensures .0) in
+    let f = simp (back64, s .fits .b .sfits) at (b .ensures .0) in
+    toZ-ofZ (add-result c) ∙ simp (back64, a .ok, b .ok) (ap₂ _+ℤ_ e f)
+
+pub sum-spec : {M : Type 1} → statement M
+sum-spec = tie.close (tie.spec capped-requires capped-requires-2 add-result returns)

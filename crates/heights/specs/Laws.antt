@@ -1,4 +1,0 @@
--- What is proved about the definitions.
-pub mod Turns
-pub mod Lawful
-pub mod Heights

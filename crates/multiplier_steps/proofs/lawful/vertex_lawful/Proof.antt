@@ -1,0 +1,66 @@
+-- The loop's state after so many turns is the model's. Assumes nothing.
+use mathlib.Core.Bool.{true, _&&_}
+use mathlib.Core.Path.{_≡_, refl, _∙_}
+use Prim.Native.Nat.{_-_, _≤_}
+use native.Mathlib.Omega.{arith}
+use lib.ListN.{length, getD}
+use Rattle.multiplier_steps.specs.Lawful.{isPairLawful, isVertexLawful}
+use Rattle.multiplier_steps.specs.Laws.Turns.{turn-at, end}
+use Rattle.multiplier_steps.specs.Turns.{turns}
+use borrow.Author.Needs.{needs}
+use Rattle.multiplier_steps.proofs.lawful.vertex_lawful.Statement.{statement}
+use Rattle.multiplier_steps.proofs.lawful.vertex_lawful.Tie as tie
+
+abbrev Inv-loop : tie.InvT-loop
+Inv-loop d f vs x i b₀ a₀ b a =
+    (a ≤ length vs) × (b ≡ turns (λ r a. r && isPairLawful d f x i (getD vs a 0)) true a)
+
+abbrev μ-loop : tie.MeasureT-loop
+μ-loop d f vs x i b₀ a₀ b a = length vs - a
+
+loop-holds : tie.Need-loop-holds Inv-loop μ-loop
+unfolding turns
+loop-holds c = (omega arith, refl)
+
+vertex-requires : tie.Need-vertex-requires Inv-loop μ-loop
+vertex-requires c κs = search needs
+
+wide-requires : tie.Need-wide-requires Inv-loop μ-loop
+wide-requires c κs = search needs
+
+pair-lawful-requires : tie.Need-pair-lawful-requires Inv-loop μ-loop
+pair-lawful-requires c κs = search needs
+
+add-a : tie.Need-add-a Inv-loop μ-loop
+add-a c = search needs
+
+loop-less : tie.Need-loop-less Inv-loop μ-loop
+loop-less c = search needs
+
+loop-again : tie.Need-loop-again Inv-loop μ-loop
+loop-again c =
+    let at = c .before .before .before .before in
+    let start = at .before .before in (
+      omega arith,
+      turn-at (λ r v. r && isPairLawful (start .args .d .now) (start .args .f .now) (start .args .x .now) (start .args .i) v) (start .args .vs .now) true (at .loop .a) (at .loop .inv .1) (c .before .wide .ensures ∙ c .before .before .vertex .ensures .0)
+          (c .pair-lawful .ensures),
+    )
+
+returns : tie.Need-returns Inv-loop μ-loop
+unfolding isVertexLawful
+returns c = end _ _ (c .before .loop .a) (c .before .loop .inv .1) (c .before .loop .inv .0) (c .loop-test .left)
+
+pub vertex-lawful-spec : {M : Type 1} → statement M
+vertex-lawful-spec =
+    tie.close
+    (tie.spec
+    Inv-loop
+    μ-loop
+    loop-holds
+    vertex-requires
+    wide-requires
+    pair-lawful-requires
+    add-a
+    loop-less
+    loop-again
+    returns)
