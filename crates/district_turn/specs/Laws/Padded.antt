@@ -1,6 +1,6 @@
 -- An array that is filled up behind its first i elements, by index: a loop fills it in order, and what it holds then is the list's start with the filling behind it.
 use mathlib.Core.Path.{_≡_, refl, sym, ap, _∙_}
-use mathlib.Core.List.{List, [], _∷_, _++_}
+use mathlib.Core.List.{List, [], _∷_, _++_, append-assoc}
 use Prim.Native.Nat.{ℕ, zero, suc, _+_, _-_, _≤_, _<_}
 use native.Mathlib.Decide.{ℕ-discrete, decLt}
 use native.Mathlib.Omega.{arith}
@@ -46,3 +46,16 @@ module _ {A : Type 0} (d : A) (n : ℕ) (z : A) (f : ℕ → A) where
         | yes s ↦ h .before j s ∙ g j s ∙ sym (List·getD-append xs (replicate (n - length xs) z) d j (omega arith))
         | no s ↦ h .after j (omega arith) (omega arith) ∙ sym (getD-behind xs (replicate (n - length xs) z) j d (omega arith) ∙ getD-replicate (n - length xs) (j - length xs) z d (omega arith))
       ])
+
+-- ---- one more
+
+set-behind : {A : Type 0} (xs : List A) (k : ℕ) (z v : A) → set (xs ++ replicate (suc k) z) (length xs) v ≡ xs ++ v ∷ replicate k z
+set-behind [] k z v = refl
+set-behind {A} (x ∷ xs) k z v = ap (λ (r : List A). x ∷ r) (set-behind xs k z v)
+
+pub padded-set : {A : Type 0} (n : ℕ) (z : A) (xs : List A) (v : A) → length xs < n → set (padded n z xs) (length xs) v ≡ padded n z (xs ++ v ∷ [])
+padded-set {A} n z xs v l =
+    let a = length-append xs (v ∷ []) in
+    let k = n - length (xs ++ v ∷ []) in
+    let e : n - length xs ≡ suc k = omega arith in
+    ap (λ j. set (xs ++ replicate j z) (length xs) v) e ∙ set-behind xs k z v ∙ sym (append-assoc xs (v ∷ []) (replicate k z))

@@ -7,7 +7,9 @@ use mathlib.Core.Option.{Option, none}
 use Prim.Native.Nat.{ℕ, _+_, _-_, _≤_, _<_, min}
 use native.Mathlib.Omega.{arith}
 use borrow.Author.Tests.{eq-eqb, ne-eqb, lt-ltb, le-ltb, le-leb, lt-leb}
-use lib.ListN.{length, take, length-take}
+use lib.ListN.{length, take, replicate, length-take, length-map}
+use lib.Seq.{take-append-seam}
+use Rattle.residual_search.specs.Step.{arcsOf}
 use lib.Dec.{T, eqb, ltb, leb, eqb→eq, eqb-refl}
 use Rattle.postman.specs.Lists.{anyOf}
 use Rattle.postman.specs.Plan.{Plan}
@@ -218,3 +220,18 @@ module _ (p : Plan) (ok : Plannable p) (few : componentCount p ≤ 8) (budget : 
 
   pub written-after : (old : List ℕ) → written (driveOf p (linksIn m (r .tails) (r .heads))) old ≡ lastSheet p budget g old
   written-after old = ap (λ (t : List Link). written (driveOf p t) old) (h .links-are)
+
+-- ---- links that are kept are held
+
+arcs-again : (ls : List Link) → arcsOf (map (λ (l : Link). l .tail) ls) (map (λ (l : Link). l .head) ls) ≡ ls
+unfolding arcsOf
+arcs-again [] = refl
+arcs-again (l ∷ ls) = ap (λ (r : List Link). l ∷ r) (arcs-again ls)
+
+pub padded-links : (ls : List Link) (n : ℕ) → length ls ≡ n → linksIn n (padded 8 0 (map (λ (l : Link). l .tail) ls)) (padded 8 0 (map (λ (l : Link). l .head) ls)) ≡ ls
+padded-links ls n e =
+    let ts = map (λ (l : Link). l .tail) ls in
+    let hs = map (λ (l : Link). l .head) ls in
+    let a : take n (padded 8 0 ts) ≡ ts = ap (λ k. take k (padded 8 0 ts)) (sym (length-map ls (λ (l : Link). l .tail) ∙ e)) ∙ take-append-seam ts (replicate (8 - length ts) 0) in
+    let b : take n (padded 8 0 hs) ≡ hs = ap (λ k. take k (padded 8 0 hs)) (sym (length-map ls (λ (l : Link). l .head) ∙ e)) ∙ take-append-seam hs (replicate (8 - length hs) 0) in
+    ap₂ arcsOf a b ∙ arcs-again ls

@@ -158,9 +158,14 @@ module _ (p : Plan) (ok : Plannable p) (few : componentCount p ≤ 8) (budget : 
   laid-best t e = ap (driveOf p) e
 
   -- WHERE THE TREE THAT IS HELD IS THE BEST, THE ANSWER IS THE DEFINITION'S
+  pub concluded-best : (t : List Link) (cost trees : ℕ) (whole : Bool) (old new : List ℕ) → t ≡ bestArborescence p budget → cost ≡ bestCost p budget → trees ≡ triedCount p budget → whole ≡ isWhole p budget
+      → new ≡ written (driveOf p t) old → IsPlanned p budget none old new (concluded p t cost trees whole)
+  concluded-best t cost trees whole old new et ec en ew h =
+      let x : Planned = concluded p t cost trees whole in
+      let l = laid-best t et in
+      is-planned old new x refl refl (found-summary x ec en ew refl refl) (h ∙ ap (λ (t : List ℕ). written t old) l) (ap length l)
+
   pub concluded-planned : (s : Searched) (old new : List ℕ) (r : Planned) → IsSearched p budget s → IsConcluded p s old new r → IsPlanned p budget none old new r
   concluded-planned s old new r f h =
-      let x : Planned = concluded p (linksFound p s) (s .cost) (s .tried) (s .whole) in
-      let l = laid-best (linksFound p s) (f .links) in
       subst⁻¹ (λ (r : Planned). IsPlanned p budget none old new r) (h .planned)
-      (is-planned old new x refl refl (found-summary x (f .cost) (f .tried) (f .whole) refl refl) (h .sheet ∙ ap (λ (t : List ℕ). written t old) l) (ap length l))
+      (concluded-best (linksFound p s) (s .cost) (s .tried) (s .whole) old new (f .links) (f .cost) (f .tried) (f .whole) (h .sheet))
