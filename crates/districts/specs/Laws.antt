@@ -10,3 +10,4 @@ pub mod Turned
 pub mod Sound
 pub mod Led
 pub mod Finished
+pub mod Drive

@@ -10,6 +10,7 @@ pub mod Entered
 pub mod Turned
 pub mod Led
 pub mod Served
+pub mod Finished
 -- What is proved about them.
 pub mod Laws
 pub mod Theorem

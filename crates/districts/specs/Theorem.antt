@@ -22,14 +22,16 @@ use Rattle.districts.specs.Line.{District, Line, total, finishes}
 use Rattle.districts.specs.Runs.{Event, turned, run, runFrom, isTurn, isTurnOf, turnsIn, Entry, lastEntry, turnsSince}
 use Rattle.districts.specs.Waits.{NoTurnOf}
 use Rattle.districts.specs.Machine.{districtOf, bytesOf, waitingIn, lineOf, machineOf, emptyMachine}
-use Rattle.districts.specs.Number.{outcomeNumber, hadTurn, isOf, HasPlace}
-use Rattle.districts.specs.Turned.{Meeting, meeting, outcomeOf, IsTurned}
+use Rattle.districts.specs.Number.{outcomeNumber, hadTurn, hadLast, isOf, HasPlace}
+use Rattle.districts.specs.Turned.{planBy, IsTurned}
+use Rattle.districts.specs.Finished.{HoldsDrive}
 use Rattle.districts.specs.Led.{Led}
 use Rattle.districts.specs.Served.{IsServed}
 use Rattle.districts.specs.Laws.Line.{waits-short}
 use Rattle.districts.specs.Laws.Runs.{waits-run, waits-in, run-kept}
 use Rattle.districts.specs.Laws.Turned.{placed}
 use Rattle.districts.specs.Laws.Number.{number-apart}
+use Rattle.districts.specs.Laws.Drive.{finished-drive}
 use Rattle.districts.specs.Laws.Led.{led, led-meets, met-answered, met-of}
 use Rattle.districts.specs.Laws.Finished.{front-accepted, front-turn, as-call}
 
@@ -39,6 +41,10 @@ use Rattle.districts.specs.Laws.Finished.{front-accepted, front-turn, as
 pub number-injective : (m m′ : Machine) (old new old′ new′ : List ℕ) (r r′ : Turned) → IsTurned m old new r → IsTurned m′ old′ new′ r′ → outcomeNumber (r .outcome) ≡ outcomeNumber (r′ .outcome) → r .outcome ≡ r′ .outcome
 number-injective m m′ old new old′ new′ r r′ t t′ e =
     number-apart (r .outcome) (r′ .outcome) (subst⁻¹ HasPlace (t .outcome) (placed m (length old))) (subst⁻¹ HasPlace (t′ .outcome) (placed m′ (length old′))) e
+
+-- AFTER A LAST TURN A DRIVE OF THE FRONT DISTRICT'S PLAN STANDS ON THE SHEET: its places are counted, and its cost is answered.
+pub finished-places : (m : Machine) (old new : List ℕ) (r : Turned) → IsTurned m old new r → (d : DistrictRecord) (ds : List DistrictRecord) → waitingIn m ≡ d ∷ ds → hadLast (r .outcome) ≡ true → HoldsDrive (planBy d) new (r .planned)
+finished-places m old new r t d ds w e = finished-drive m old new r t d ds w e
 
 -- ---- machines that calls lead to
 

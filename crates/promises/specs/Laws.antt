@@ -1,3 +1,4 @@
 -- What is lent again.
 pub mod Lent
 pub mod LentTurns
+pub mod ToldTurns

@@ -1,4 +1,5 @@
 -- Over an open plan's bytes, over a machine's, and of drives that are judged.
+pub mod Told
 pub mod HistoryTheorem
 pub mod TurnsTheorem
 pub mod JudgedTheorem

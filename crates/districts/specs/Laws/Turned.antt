@@ -23,8 +23,8 @@ use Rattle.district_turn.specs.Laws.Stint.{and-no, and-first, and-yes}
 use Rattle.districts.specs.declared.machine.District.{District as DistrictRecord}
 use Rattle.districts.specs.declared.machine.Machine.{Machine}
 use Rattle.districts.specs.declared.turn.Turned.{Turned}
-use Rattle.districts.specs.Line.{places}
-use Rattle.districts.specs.Machine.{bytesOf, districtOf, waitingIn, machineOf, noDistrict}
+use Rattle.districts.specs.Line.{District, Line, places}
+use Rattle.districts.specs.Machine.{bytesOf, districtOf, lineOf, waitingIn, machineOf, noDistrict}
 use Rattle.districts.specs.Laws.Held.{front, waiting-are}
 use Rattle.districts.specs.Number.{HasPlace}
 use Rattle.postman.specs.Laws.Tests.{and-parts, of-true}
@@ -208,3 +208,20 @@ in-meeting waiting sheet (d ∷ ds) = at (ltb sheet sheetPlaces) (leb waiting 8 
 
 pub placed : (m : Machine) (sheet : ℕ) → HasPlace (outcomeOf (meeting m sheet))
 placed m sheet = in-meeting (m .waiting) sheet (waitingIn m)
+
+-- ---- by the line
+
+pub empty-met : (m : Machine) (sheet : ℕ) → lineOf m ≡ [] → meeting m sheet ≡ nobody
+unfolding meetingIn
+empty-met m sheet e = at (waitingIn m) e
+  where
+    at : (ws : List DistrictRecord) → map districtOf ws ≡ [] → meetingIn (m .waiting) sheet ws ≡ nobody
+    at [] q = refl
+    at (f ∷ ds) q = (let n = ap length q in absurd (omega arith))
+
+pub line-short-met : (m : Machine) (sheet : ℕ) (d : District) (l : Line) → lineOf m ≡ d ∷ l → sheet < sheetPlaces → meeting m sheet ≡ shortSheet
+line-short-met m sheet d l e s = at (waitingIn m) refl e
+  where
+    at : (ws : List DistrictRecord) → waitingIn m ≡ ws → map districtOf ws ≡ d ∷ l → meeting m sheet ≡ shortSheet
+    at [] w q = (let n = ap length q in absurd (omega arith))
+    at (f ∷ ds) w q = short-met m f ds w sheet s
