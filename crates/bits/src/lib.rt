@@ -17,7 +17,7 @@ fn bit(s: &[u8], n: usize) -> u32
 }
 
 // The field of `width` bits from bit `at` on. A plan file has fewer than 12,000 bits.
-pub fn field(s: &[u8], at: usize, width: usize) -> u32
+pub(crate) fn field(s: &[u8], at: usize, width: usize) -> u32
     requires { ⌜ (width ≤ 16) × (at + width ≤ 8 * length (now s)) × (at ≤ 12000) ⌝ }
     ensures { λ r. ⌜ r ≡ fieldAt (now (s .entry)) at width ⌝ }
 {

@@ -20,7 +20,7 @@ use refusal::Verdict;
 use refusal::first_refused;
 
 // On the file's field of two bits.
-pub fn field_standing(f: u32) -> Standing
+fn field_standing(f: u32) -> Standing
     ensures { λ r. ⌜ r ≡ standingOf f ⌝ }
 {
     match f {
