@@ -1,4 +1,5 @@
 // Bit fields in bytes, the most significant bit first.
+// Steps for other crates, which ask something of their caller.
 ghost use mathlib.Core.Path.{_≡_};
 ghost use Prim.Native.Nat.{_+_, _*_, _^_, _<_, _≤_};
 ghost use lib.ListN.{length};

@@ -1,4 +1,5 @@
 // What is refused of an arc, of its fields in the file and of its record alike.
+// Steps for other crates, which ask something of their caller.
 ghost use mathlib.Core.Path.{_≡_};
 ghost use mathlib.Core.Bool.{cond, not, _||_};
 ghost use mathlib.Core.Option.{none, some};

@@ -1,4 +1,5 @@
 // From bytes to a plan: the first refusal, or the plan.
+// Besides the calls, steps for other crates, which ask something of their caller.
 ghost use mathlib.Core.Path.{_≡_};
 ghost use mathlib.Core.List.{map, flatMap};
 ghost use mathlib.Core.Option.{none};

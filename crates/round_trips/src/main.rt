@@ -95,15 +95,18 @@ fn into(label: &[u8], file: &[u8], room: usize) {
     filled(read_array(file, nines(), room));
 }
 
+// The file of k bytes that a slice starts with, read into a list.
+fn read_back(s: &[u8], k: usize) {
+    if k <= s.len() {
+        into(b"", &s[..k], 257);
+    }
+}
+
 // The first m records, written in an edition into as many bytes as it takes, and read back.
 fn reread(edition: u8, n: u8, arcs: [Arc; 257], m: usize) {
     let mut file = [0u8; 1475];
     match write_array(edition, n, arcs, m, &mut file) {
-        Written::Length(k) => {
-            if k <= 1475 {
-                filled(read_array(&file[..k], nines(), 257));
-            }
-        }
+        Written::Length(k) => read_back(&file, k),
         Written::Refused(r) => filled(Filled {
             read: Read::Refused(r),
             arcs: nines(),
