@@ -185,9 +185,10 @@ fn declared(source: &str) -> Vec<Declared> {
             let of = rest.split_once('>').filter(|_| rest.starts_with('<')).map_or(rest, |(_, of)| of);
             method_of = of.trim().chars().take_while(|c| c.is_alphanumeric() || *c == '_').collect::<String>() + "::";
         }
-        if let Some((before, after)) = text.split_once("fn ").filter(|(before, _)| {
-            ["", "pub ", "pub(crate) ", "pub extern \"C\" "].contains(before)
-        }) {
+        if let Some((before, after)) = text
+            .split_once("fn ")
+            .filter(|(before, _)| ["", "pub ", "pub(crate) ", "pub extern \"C\" "].contains(before))
+        {
             let name: String = after.chars().take_while(|c| c.is_alphanumeric() || *c == '_').collect();
             let name = if line.starts_with(' ') { method_of.clone() + &name } else { name };
             let external = before.contains("extern");
@@ -255,7 +256,9 @@ fn faults(modules: &[(String, String, String)], calls: &[String]) -> Vec<String>
                 faults.push(format!("{path} is not among the calls"));
             }
             if function.public && asks && !comment.contains("steps for other crates") {
-                faults.push(format!("{path} asks something, and {module} does not say that it holds steps for other crates"));
+                faults.push(format!(
+                    "{path} asks something, and {module} does not say that it holds steps for other crates"
+                ));
             }
             if function.public {
                 seen.insert(path, asks);
@@ -290,10 +293,23 @@ fn a_call_that_asks_is_seen() {
     let good = "// Calls.\npub fn f(x: u8) -> u8\n    ensures { λ r. ⌜ r ≡ x ⌝ }\n{\n    x\n}\nimpl<'a> T<'a> {\n    pub fn g() -> u8\n        ensures { λ r. ⌜ r ≡ 0 ⌝ }\n    {\n        0\n    }\n}\n";
     let step = "pub fn h(x: u8) -> u8\n    requires { ⌜ x < 2 ⌝ }\n    ensures { λ r. ⌜ r ≡ x ⌝ }\n{\n    x\n}\n";
     assert_eq!(faults(&source(good), &calls), Vec::<String>::new());
-    assert_eq!(faults(&source(&good.replace("// Calls.", "// Calls, and steps for other crates.").replace("impl", &format!("{step}impl"))), &calls), Vec::<String>::new());
+    assert_eq!(
+        faults(
+            &source(
+                &good
+                    .replace("// Calls.", "// Calls, and steps for other crates.")
+                    .replace("impl", &format!("{step}impl"))
+            ),
+            &calls
+        ),
+        Vec::<String>::new()
+    );
     for wrong in [
         good.replace("    ensures { λ r. ⌜ r ≡ x ⌝ }\n", ""),
-        good.replace("    ensures { λ r. ⌜ r ≡ x ⌝ }\n", "    requires { ⌜ x < 2 ⌝ }\n    ensures { λ r. ⌜ r ≡ x ⌝ }\n"),
+        good.replace(
+            "    ensures { λ r. ⌜ r ≡ x ⌝ }\n",
+            "    requires { ⌜ x < 2 ⌝ }\n    ensures { λ r. ⌜ r ≡ x ⌝ }\n",
+        ),
         good.replace("pub fn f(x: u8) -> u8\n", "fn f(x: u8) -> u8\n"),
         good.replace("impl", &format!("{step}impl")),
         good.replace("impl", &format!("{}impl", step.replace("pub fn h", "pub extern \"C\" fn h"))),
