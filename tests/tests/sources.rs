@@ -1,5 +1,6 @@
 //! What the sources of the proved crates promise about copies: no call made for one leg of a drive takes or gives the table of distances by value, nor the
-//! plan's records; and about tables: for two cars they are computed once.
+//! plan's records; about tables: for two cars they are computed once; and about what is public: which functions are calls, which ask nothing of their caller,
+//! which are steps for other crates, and that every function says what it gives back. And that every must-fail edit says which wrong program it makes.
 
 use std::collections::BTreeMap;
 use std::path::Path;
@@ -153,12 +154,207 @@ fn two_cars_share_the_tables() {
         assert_eq!(body.matches(table).count(), 1, "{table}");
     }
     let way = reached(&all, "plan_car");
-    for name in ["plan_marked", "plan_tabled", "network_of"] {
+    for name in
+        ["plan_marked", "plan_tabled", "network_of", "candidates_of", "add_all", "counts", "explore", "multipliers_for"]
+    {
         assert!(way.iter().any(|other| other == name), "`{name}` is not on the way of a car: {way:?}");
     }
     for name in ["table", "table_of", "row"] {
         assert!(way.iter().all(|other| other != name), "`{name}` is computed for each car: {way:?}");
     }
+}
+
+/// A function as its source declares it.
+struct Declared {
+    /// With the type whose method it is.
+    name: String,
+    public: bool,
+    external: bool,
+    /// All that stands between its parameters and its body.
+    clauses: String,
+}
+
+/// The functions of a source, in order.
+fn declared(source: &str) -> Vec<Declared> {
+    let mut found: Vec<Declared> = Vec::new();
+    let mut method_of = String::new();
+    let mut open = false;
+    for line in source.lines().map(|line| line.split("//").next().unwrap_or("")) {
+        let text = line.trim();
+        if let Some(rest) = text.strip_prefix("impl") {
+            let of = rest.split_once('>').filter(|_| rest.starts_with('<')).map_or(rest, |(_, of)| of);
+            method_of = of.trim().chars().take_while(|c| c.is_alphanumeric() || *c == '_').collect::<String>() + "::";
+        }
+        if let Some((before, after)) = text
+            .split_once("fn ")
+            .filter(|(before, _)| ["", "pub ", "pub(crate) ", "pub extern \"C\" "].contains(before))
+        {
+            let name: String = after.chars().take_while(|c| c.is_alphanumeric() || *c == '_').collect();
+            let name = if line.starts_with(' ') { method_of.clone() + &name } else { name };
+            let external = before.contains("extern");
+            found.push(Declared { name, public: before.starts_with("pub "), external, clauses: String::new() });
+            open = true;
+        }
+        if open {
+            let clause = text.starts_with("requires") || text.starts_with("ensures");
+            open = text != "{" && (clause || !text.ends_with(" {"));
+            found.last_mut().expect("a function").clauses += &(text.to_owned() + "\n");
+        }
+    }
+    found
+}
+
+/// The modules of all library crates: the crate, the module's path, and its source.
+fn modules() -> Vec<(String, String, String)> {
+    let folder = Path::new(env!("CARGO_MANIFEST_DIR")).join("../crates");
+    let mut found = Vec::new();
+    let mut crates: Vec<_> =
+        std::fs::read_dir(folder).expect("the crates").map(|at| at.expect("a crate").path()).collect();
+    crates.sort();
+    for at in crates.into_iter().filter(|at| at.join("src/lib.rt").exists()) {
+        let name = at.file_name().expect("a name").to_string_lossy().into_owned();
+        let files = std::fs::read_dir(at.join("src")).expect("the sources of a crate");
+        let mut files: Vec<_> = files.map(|file| file.expect("a file").path()).collect();
+        files.sort();
+        for file in files {
+            let module = match file.file_stem().expect("a name").to_string_lossy().as_ref() {
+                "lib" => name.clone(),
+                module => format!("{name}::{module}"),
+            };
+            found.push((name.clone(), module, std::fs::read_to_string(&file).expect("a source")));
+        }
+    }
+    found
+}
+
+/// The calls that the guide lists: the code of the first column of the table under "The calls".
+fn calls(guide: &str) -> Vec<String> {
+    let section = guide.split("\n## The calls\n").nth(1).expect("the section of the calls");
+    let section = section.split("\n## ").next().expect("its text");
+    section
+        .lines()
+        .filter_map(|line| line.strip_prefix("| `"))
+        .map(|row| row.split_once('`').expect("the end of a name").0.to_owned())
+        .collect()
+}
+
+/// What is wrong with the public functions: a call that is none, or asks something; a function for other languages that is not listed; one that gives nothing
+/// back by its contract; a step in a module that does not say so.
+fn faults(modules: &[(String, String, String)], calls: &[String]) -> Vec<String> {
+    let mut faults = Vec::new();
+    let mut seen: BTreeMap<String, bool> = BTreeMap::new();
+    for (_, module, source) in modules {
+        let comment: String =
+            source.lines().take_while(|line| line.starts_with("//")).collect::<Vec<_>>().join(" ").to_lowercase();
+        for function in declared(source) {
+            let path = format!("{module}::{}", function.name);
+            let asks = function.clauses.contains("requires");
+            if !function.clauses.contains("ensures") {
+                faults.push(format!("{path} does not say what it gives back"));
+            }
+            if function.external && !calls.contains(&path) {
+                faults.push(format!("{path} is not among the calls"));
+            }
+            if function.public && asks && !comment.contains("steps for other crates") {
+                faults.push(format!(
+                    "{path} asks something, and {module} does not say that it holds steps for other crates"
+                ));
+            }
+            if function.public {
+                seen.insert(path, asks);
+            }
+        }
+    }
+    for call in calls {
+        match seen.get(call) {
+            None => faults.push(format!("{call} is no public function")),
+            Some(true) => faults.push(format!("{call} is a call, and asks something of its caller")),
+            Some(false) => {}
+        }
+    }
+    faults
+}
+
+/// "Every callable function says what it gives back", and the calls ask nothing.
+#[test]
+fn the_calls_ask_nothing_and_every_function_answers() {
+    let guide = std::fs::read_to_string(Path::new(env!("CARGO_MANIFEST_DIR")).join("../docs/GUIDE.md"));
+    let calls = calls(&guide.expect("docs/GUIDE.md"));
+    assert!(35 <= calls.len(), "too few calls are listed: {calls:?}");
+    let faults = faults(&modules(), &calls);
+    assert!(faults.is_empty(), "{}", faults.join("\n"));
+}
+
+/// The test of that test.
+#[test]
+fn a_call_that_asks_is_seen() {
+    let source = |text: &str| vec![("a".to_owned(), "a::call".to_owned(), text.to_owned())];
+    let calls = vec!["a::call::f".to_owned(), "a::call::T::g".to_owned()];
+    let good = "// Calls.\npub fn f(x: u8) -> u8\n    ensures { λ r. ⌜ r ≡ x ⌝ }\n{\n    x\n}\nimpl<'a> T<'a> {\n    pub fn g() -> u8\n        ensures { λ r. ⌜ r ≡ 0 ⌝ }\n    {\n        0\n    }\n}\n";
+    let step = "pub fn h(x: u8) -> u8\n    requires { ⌜ x < 2 ⌝ }\n    ensures { λ r. ⌜ r ≡ x ⌝ }\n{\n    x\n}\n";
+    assert_eq!(faults(&source(good), &calls), Vec::<String>::new());
+    assert_eq!(
+        faults(
+            &source(
+                &good
+                    .replace("// Calls.", "// Calls, and steps for other crates.")
+                    .replace("impl", &format!("{step}impl"))
+            ),
+            &calls
+        ),
+        Vec::<String>::new()
+    );
+    for wrong in [
+        good.replace("    ensures { λ r. ⌜ r ≡ x ⌝ }\n", ""),
+        good.replace(
+            "    ensures { λ r. ⌜ r ≡ x ⌝ }\n",
+            "    requires { ⌜ x < 2 ⌝ }\n    ensures { λ r. ⌜ r ≡ x ⌝ }\n",
+        ),
+        good.replace("pub fn f(x: u8) -> u8\n", "fn f(x: u8) -> u8\n"),
+        good.replace("impl", &format!("{step}impl")),
+        good.replace("impl", &format!("{}impl", step.replace("pub fn h", "pub extern \"C\" fn h"))),
+        good.replace("pub fn g() -> u8\n        ensures { λ r. ⌜ r ≡ 0 ⌝ }\n    {", "pub fn g() -> u8 {"),
+    ] {
+        assert_ne!(faults(&source(&wrong), &calls), Vec::<String>::new(), "{wrong}");
+    }
+}
+
+/// What is wrong with a must-fail edit: it does not open with a line that says which wrong program it makes, or it changes a contract or a model in place of a
+/// program. Those of `postman`, which has none, change definitions.
+fn edit_fault(of: &str, text: &str) -> Option<&'static str> {
+    let first = text.lines().next().unwrap_or("");
+    if ["file:", "old:", "new:"].iter().any(|word| first.starts_with(word)) || first.len() < 12 {
+        return Some("does not open with a line that says which wrong program it makes");
+    }
+    let folder = if of == "postman" { "file: specs/" } else { "file: src/" };
+    if text.lines().any(|line| line.starts_with("file:") && !line.starts_with(folder)) {
+        return Some("makes no wrong program");
+    }
+    let contract = text.lines().any(|line| line.contains("⌜") || line.contains("⌝"));
+    contract.then_some("changes a contract")
+}
+
+#[test]
+fn every_edit_says_which_wrong_program_it_makes() {
+    let folder = Path::new(env!("CARGO_MANIFEST_DIR")).join("../crates");
+    let mut count = 0;
+    for at in std::fs::read_dir(folder).expect("the crates").map(|at| at.expect("a crate").path()) {
+        let name = at.file_name().expect("a name").to_string_lossy().into_owned();
+        let Ok(edits) = std::fs::read_dir(at.join("must-fail")) else { continue };
+        for edit in edits.map(|edit| edit.expect("an edit").path()) {
+            let text = std::fs::read_to_string(&edit).expect("an edit's text");
+            if let Some(fault) = edit_fault(&name, &text) {
+                panic!("{} {fault}", edit.display());
+            }
+            count += 1;
+        }
+    }
+    assert!(150 <= count, "only {count} edits were looked at");
+    let good = "Writes one less.\nfile: src/a.rt\nold: 1\nnew: 0\n";
+    assert_eq!(edit_fault("a", good), None);
+    assert!(edit_fault("a", &good.replace("Writes one less.\n", "")).is_some());
+    assert!(edit_fault("a", &good.replace("src/", "specs/")).is_some());
+    assert!(edit_fault("a", &good.replace("old: 1", "old:     ensures { λ r. ⌜ r ≡ 1 ⌝ }")).is_some());
 }
 
 /// The test of the test: sources in which a leg does copy.

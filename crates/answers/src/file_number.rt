@@ -1,4 +1,5 @@
 // The number that reading and writing a plan file answer, and numbers that are taken for n and the edition.
+// Steps for other crates, which ask something of their caller.
 ghost use mathlib.Core.Path.{_≡_};
 ghost use Prim.Native.Nat.{ℕ, _≤_};
 ghost use Rattle.postman.specs.Refusal.{given};

@@ -1,4 +1,5 @@
 // Arborescences in document 01's order, one after the other. A choice holds, at place q, the number of the candidate that component q takes.
+// Steps for other crates, which ask something of their caller.
 use crate::reach;
 use integers::wide;
 ghost use mathlib.Core.Path.{_≡_};

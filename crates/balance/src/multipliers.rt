@@ -1,4 +1,5 @@
 // The greatest multipliers that are 0 at a root.
+// Steps for other crates, which ask something of their caller.
 use crate::state::Balance;
 use integers::difference;
 use integers::wide;

@@ -1,4 +1,5 @@
 // The state of a balancing, and arcs added to it.
+// Steps for other crates, which ask something of their caller.
 use crate::augment::augment_along;
 use crate::augment::raise_by;
 use integers::wide;

@@ -1,4 +1,5 @@
 -- What the contracts cite.
+pub mod Taking
 pub mod FieldUpdate
--- What is proved about it.
+-- What is proved about them.
 pub mod Laws

@@ -1,4 +1,5 @@
 // Bit fields in bytes, the most significant bit first.
+// Steps for other crates, which ask something of their caller.
 ghost use mathlib.Core.Path.{_≡_};
 ghost use Prim.Native.Nat.{_+_, _*_, _^_, _<_, _≤_};
 ghost use lib.ListN.{length};
@@ -17,7 +18,7 @@ fn bit(s: &[u8], n: usize) -> u32
 }
 
 // The field of `width` bits from bit `at` on. A plan file has fewer than 12,000 bits.
-pub fn field(s: &[u8], at: usize, width: usize) -> u32
+pub(crate) fn field(s: &[u8], at: usize, width: usize) -> u32
     requires { ⌜ (width ≤ 16) × (at + width ≤ 8 * length (now s)) × (at ≤ 12000) ⌝ }
     ensures { λ r. ⌜ r ≡ fieldAt (now (s .entry)) at width ⌝ }
 {

@@ -1,4 +1,5 @@
 // A branch: the trees that begin with the same choices for components 1 to a - 1.
+// Steps for other crates, which ask something of their caller.
 use crate::candidate::Candidate;
 use crate::names::renamed;
 use balance::state::Balance;

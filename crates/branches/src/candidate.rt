@@ -1,4 +1,5 @@
 // A candidate of the component that is chosen for next.
+// Steps for other crates, which ask something of their caller.
 use integers::wide;
 ghost use Prim.Native.Nat.{_<_};
 ghost use lib.ListN.{getD};

@@ -1,4 +1,5 @@
 // The candidate links of a network's components in arrays, one component after the other.
+// Steps for other crates, which ask something of their caller.
 use network::network::Network;
 ghost use mathlib.Core.Path.{_≡_};
 ghost use mathlib.Core.Bool.{false};
@@ -154,7 +155,7 @@ pub struct Candidates {
     pub heads: [u8; 4096],
 }
 
-pub fn candidates_of(links: &[bool; 4096], component: &[u8; 64], k: usize) -> Candidates
+fn candidates_of(links: &[bool; 4096], component: &[u8; 64], k: usize) -> Candidates
     requires { ⌜ (1 ≤ k) × (k ≤ 8) ⌝ }
     ensures { λ r. ⌜ HaveEnds (now (links .entry)) (now (component .entry)) k (r .start) (r .source) (r .tails) (r .heads) ⌝ }
 {

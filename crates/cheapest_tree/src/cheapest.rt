@@ -1,5 +1,6 @@
 // The cheapest arborescence over a matrix of costs, by Edmonds: every component takes its cheapest entry; a circle of them is shrunk to one component, and the
 // smaller picture is solved.
+// Steps for other crates, which ask something of their caller.
 ghost use mathlib.Core.Path.{_≡_};
 ghost use mathlib.Core.Bool.{true, false, not, _&&_, _||_};
 ghost use Prim.Native.Nat.{ℕ, _+_, _*_, _/_, _%_, _<_, _≤_};

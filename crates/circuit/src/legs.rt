@@ -1,4 +1,5 @@
 // The legs of a tour, side by side: required arcs, links of the arborescence, units of the amounts.
+// Steps for other crates, which ask something of their caller.
 use hierholzer::widen::wide;
 use plan::Arc;
 use plan::Plan;

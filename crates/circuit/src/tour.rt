@@ -1,4 +1,5 @@
 // The tour: the legs laid, put in order, and written.
+// Steps for other crates, which ask something of their caller.
 use crate::legs::lay;
 use crate::places::write;
 use hierholzer::hierholzer::arrange;

@@ -1,4 +1,5 @@
 // The components: roots, which are the vertices that bear their own label, numbered from 0.
+// Steps for other crates, which ask something of their caller.
 use crate::labels::labels_of;
 use plan::Plan;
 ghost use mathlib.Core.Path.{_≡_};

@@ -1,4 +1,5 @@
 // Amounts from surplus to deficit only.
+// Steps for other crates, which ask something of their caller.
 use balance::state::Balance;
 use integers::wide;
 use residual_search::entries::vertex;

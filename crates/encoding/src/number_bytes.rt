@@ -1,4 +1,5 @@
 // Numbers of two, four and eight bytes in a lent slice, the high byte first, and bytes that are put into one.
+// Steps for other crates, which ask something of their caller.
 ghost use mathlib.Core.Path.{_≡_};
 ghost use Prim.Native.Nat.{_+_, _≤_};
 ghost use lib.ListN.{length, take, drop};

@@ -1,4 +1,5 @@
 // Hierholzer's walk: the legs in the order of one closed walk.
+// Steps for other crates, which ask something of their caller.
 use crate::widen::wide;
 use crate::widen::wide8;
 ghost use mathlib.Core.Path.{_≡_};

@@ -1,4 +1,5 @@
 // Signed numbers from unsigned ones, and back. The rule sets of `specs/` prove facts about them.
+// Steps for other crates, which ask something of their caller.
 ghost use mathlib.Core.Path.{_≡_};
 ghost use Prim.Native.Nat.{_≤_};
 ghost use lib.IntN.{pos, natAbs, _-ℤ_};

@@ -2,9 +2,9 @@
 use mathlib.Core.Bool.{Bool, false, not, cond, _&&_}
 use mathlib.Core.List.{List, []}
 use Prim.Native.Nat.{ℕ, zero, suc, _+_, _*_}
-use lib.ListN.{getD, set}
+use lib.ListN.{length, getD, set}
 use lib.Dec.{eqb, ltb}
-use Rattle.postman.specs.Lists.{anyOf, below}
+use Rattle.postman.specs.Lists.{select, anyOf, below}
 
 abbrev pub cell : List (List ℕ) → ℕ → ℕ → ℕ
 cell d i j = getD (getD d i []) j 0
@@ -22,6 +22,15 @@ far = 1073741824
 
 abbrev pub nearby : Bool → ℕ → ℕ
 nearby pair d = cond (pair && ltb d far) d far
+
+-- The number of ways by a third vertex to j that cost a, of distances from a row and from the columns; and whether a pair of that distance, not far, has none.
+unfoldable pub waysOf : List ℕ → List ℕ → ℕ → ℕ → ℕ
+unfolding select below
+waysOf row columns j a = length (select (λ k. eqb (getD row k 0 + getD columns (j * 64 + k) 0) a) (below 64))
+
+unfoldable pub hasNoWay : List ℕ → List ℕ → ℕ → ℕ → Bool
+unfolding waysOf
+hasNoWay row columns j a = ltb a far && eqb (waysOf row columns j a) 0
 
 -- (i, k) and (k, j) are held, and k is on a cheapest way from i to j.
 abbrev pub between : List (List ℕ) → List Bool → ℕ → ℕ → ℕ → Bool

@@ -1,4 +1,5 @@
 // The network of a plan.
+// Steps for other crates, which ask something of their caller.
 use crate::cut_off::is_cut_off;
 use crate::thinning::pairs;
 use crate::thinning::thin;

@@ -1,10 +1,10 @@
 // The pairs of required vertices that are links.
 ghost use mathlib.Core.Path.{_≡_};
-ghost use mathlib.Core.Bool.{true, false, cond};
+ghost use mathlib.Core.Bool.{false, cond};
 ghost use Prim.Native.Nat.{ℕ, _+_, _*_, _/_, _%_, _≤_, _<_};
 ghost use lib.Dec.{eqb};
 ghost use lib.ListN.{length, getD};
-ghost use Rattle.network.specs.Thinning.{cell, flag, isPair, far, nearby, rowsThinned};
+ghost use Rattle.network.specs.Thinning.{cell, flag, isPair, far, nearby, waysOf, hasNoWay, rowsThinned};
 
 // Whether i and j, of which a and b say whether they are required, are a pair.
 fn is_pair(i: usize, j: usize, a: bool, b: bool) -> bool
@@ -87,7 +87,7 @@ fn one(a: u32, b: u32) -> u32
 // The number of ways of cost a by a third vertex to j, of distances from a row and from the columns. They are counted side by side, with no end at the first.
 fn ways(row: &[u32; 64], columns: &[u32; 4096], j: usize, a: u32) -> u32
     requires { ⌜ (j < 64) × ((k : ℕ) → k < 64 → (getD (now row) k 0 ≤ far) × (getD (now columns) (j * 64 + k) 0 ≤ far)) ⌝ }
-    ensures { λ r. ⌜ (r ≡ 0 → (k : ℕ) → k < 64 → getD (now (row .entry)) k 0 + getD (now (columns .entry)) (j * 64 + k) 0 ≡ a → ⊥) ⌝ }
+    ensures { λ r. ⌜ r ≡ waysOf (now (row .entry)) (now (columns .entry)) j a ⌝ }
 {
     let mut n: u32 = 0;
     for k in 0..64 {
@@ -99,7 +99,7 @@ fn ways(row: &[u32; 64], columns: &[u32; 4096], j: usize, a: u32) -> u32
 // Whether there is surely no such way.
 fn is_short(row: &[u32; 64], columns: &[u32; 4096], j: usize, a: u32) -> bool
     requires { ⌜ (j < 64) × ((k : ℕ) → k < 64 → (getD (now row) k 0 ≤ far) × (getD (now columns) (j * 64 + k) 0 ≤ far)) ⌝ }
-    ensures { λ r. ⌜ (r ≡ true → (a < far) × ((k : ℕ) → k < 64 → getD (now (row .entry)) k 0 + getD (now (columns .entry)) (j * 64 + k) 0 ≡ a → ⊥)) ⌝ }
+    ensures { λ r. ⌜ r ≡ hasNoWay (now (row .entry)) (now (columns .entry)) j a ⌝ }
 {
     if a < FAR {
         return ways(row, columns, j, a) == 0;

@@ -1,4 +1,5 @@
 // A state of an open plan, lent: five files one after the other, that of the open plan and those of marks 0 to 3.
+// Steps for other crates, which ask something of their caller.
 ghost use mathlib.Core.Path.{_≡_};
 ghost use mathlib.Core.List.{_++_};
 ghost use Prim.Native.Nat.{_+_, _≤_};

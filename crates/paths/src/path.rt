@@ -1,4 +1,5 @@
 // The arcs of a shortest path, looked up among lent rows: those of the arcs, and one column of weights, to the vertex that the path leads to.
+// Steps for other crates, which ask something of their caller.
 ghost use mathlib.Core.Path.{_≡_};
 ghost use mathlib.Core.Bool.{cond, _&&_};
 ghost use mathlib.Core.List.{[]};

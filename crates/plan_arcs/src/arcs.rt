@@ -1,4 +1,5 @@
 // What is refused of an arc, of its fields in the file and of its record alike.
+// Steps for other crates, which ask something of their caller.
 ghost use mathlib.Core.Path.{_≡_};
 ghost use mathlib.Core.Bool.{cond, not, _||_};
 ghost use mathlib.Core.Option.{none, some};
@@ -20,7 +21,7 @@ use refusal::Verdict;
 use refusal::first_refused;
 
 // On the file's field of two bits.
-pub fn field_standing(f: u32) -> Standing
+fn field_standing(f: u32) -> Standing
     ensures { λ r. ⌜ r ≡ standingOf f ⌝ }
 {
     match f {

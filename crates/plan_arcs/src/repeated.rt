@@ -1,4 +1,5 @@
 // 13 repeated: whether two arcs agree in all their fields. Each arc is packed into one number, and every pair of numbers is compared.
+// Steps for other crates, which ask something of their caller.
 use plan::Arc;
 use refusal::Refusal;
 use refusal::Verdict;

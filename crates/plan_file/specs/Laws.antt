@@ -1,3 +1,4 @@
 -- What is proved about the definitions.
 pub mod Records
 pub mod Reading
+pub mod Room

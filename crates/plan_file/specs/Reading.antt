@@ -1,15 +1,19 @@
 -- What reading a plan file into a plan by value answers.
 use mathlib.Core.Path.{_≡_}
+use mathlib.Core.Bool.{Bool, cond, _&&_}
 use mathlib.Core.List.{List, _++_, map}
 use mathlib.Core.Option.{Option, none, some}
-use Prim.Native.Nat.{ℕ}
+use Prim.Native.Nat.{ℕ, _+_, _*_}
+use lib.Dec.{leb}
+use lib.ListN.{length}
 use Rattle.postman.specs.Lists.{below}
 use Rattle.postman.specs.Plan.{Arc, Plan}
 use Rattle.postman.specs.Refusal.{Conditions, firstRefusal}
-use Rattle.postman.specs.PlanFile.{edition, vertexCount, arcCount, arcOf, extentConditions, bodyConditions, fileConditions, planOf}
+use Rattle.postman.specs.PlanFile.{edition, vertexCount, arcCount, fileBits, arcOf, extentConditions, bodyConditions, fileConditions, planOf}
 use Rattle.plan_file.specs.declared.Reading.{Reading}
 use Rattle.refusal.specs.Verdict.{verdictNumber}
-use Rattle.plan.specs.Records.{planRecord, noPlan}
+use Rattle.plan.specs.declared.Arc.{Arc as ArcRecord}
+use Rattle.plan.specs.Records.{recordOf, zeroRecord, planRecord, noPlan}
 
 -- The edition, or 0 where there is a refusal; the plan, or no plan.
 unfoldable pub editionUnless : Option ℕ → ℕ → ℕ
@@ -25,6 +29,15 @@ pub record IsReading (bytes : List ℕ) (r : Reading) : Type 0 where
   pub verdict : verdictNumber (r .verdict) ≡ firstRefusal (fileConditions bytes)
   pub edition-is : r .edition ≡ editionUnless (firstRefusal (fileConditions bytes)) (edition bytes)
   pub plan : r .plan ≡ planRecord (planUnless (firstRefusal (fileConditions bytes)) (planOf bytes))
+
+-- Whether a file has room for arc k in edition e; and the record of arc k, in the file's own edition, zeros where there is no room.
+unfoldable pub hasArc : List ℕ → ℕ → ℕ → Bool
+unfolding fileBits
+hasArc bytes e k = leb k 255 && leb (fileBits e (k + 1)) (8 * length bytes)
+
+unfoldable pub recordIn : List ℕ → ℕ → ArcRecord
+unfolding hasArc edition arcOf
+recordIn bytes k = cond (hasArc bytes (edition bytes) k) (recordOf (arcOf bytes (edition bytes) k)) zeroRecord
 
 -- The plan of n vertices and m arcs.
 abbrev pub planFrom : ℕ → (ℕ → Arc) → ℕ → Plan

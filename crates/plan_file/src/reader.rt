@@ -1,4 +1,5 @@
 // From bytes to a plan: the first refusal, or the plan.
+// Besides the calls, steps for other crates, which ask something of their caller.
 ghost use mathlib.Core.Path.{_≡_};
 ghost use mathlib.Core.List.{map, flatMap};
 ghost use mathlib.Core.Option.{none};
@@ -9,7 +10,7 @@ ghost use Rattle.postman.specs.Refusal.{firstRefusal};
 ghost use Rattle.postman.specs.PlanFile.{edition, isEdition, arcWidth, fileBits, fileLength, fillBits, arcOf, arcConditions, planConditions, bodyConditions, fileConditions, planOf};
 ghost use Rattle.refusal.specs.Verdict.{verdictNumber};
 ghost use Rattle.plan.specs.Records.{recordOf, recordsOf, planRecord, noPlan};
-ghost use Rattle.plan_file.specs.Reading.{planFrom, extentOn, IsReading};
+ghost use Rattle.plan_file.specs.Reading.{planFrom, extentOn, hasArc, recordIn, IsReading};
 use crate::Reading;
 use bits::reader::take_at;
 use plan::Arc;
@@ -32,7 +33,6 @@ pub fn file_length(edition: u8, m: usize) -> usize
 
 // The file's edition, whatever it is.
 pub fn file_edition(s: &[u8]) -> u8
-    requires { ⌜ 3 ≤ length (now s) ⌝ }
     ensures { λ r. ⌜ r ≡ edition (now (s .entry)) ⌝ }
 {
     let e = take_at(s, 0, 4).field;
@@ -139,7 +139,7 @@ pub fn file_verdict(s: &[u8]) -> Verdict
 }
 
 // The record of arc k of the file.
-pub fn read_arc(s: &[u8], edition: u8, k: usize) -> Arc
+fn read_arc(s: &[u8], edition: u8, k: usize) -> Arc
     requires { ⌜ (k < 256) × (fileBits edition k + arcWidth edition ≤ 8 * length (now s)) ⌝ }
     ensures { λ r. ⌜ r ≡ recordOf (arcOf (now (s .entry)) edition k) ⌝ }
 {
@@ -153,13 +153,31 @@ pub fn read_arc(s: &[u8], edition: u8, k: usize) -> Arc
     }
 }
 
-// The record of arc k, in the file's own edition.
+// Whether the file has room for arc k.
+fn has_arc(s: &[u8], edition: u8, k: usize) -> bool
+    ensures { λ r. ⌜ r ≡ hasArc (now (s .entry)) edition k ⌝ }
+{
+    if 255 < k {
+        return false;
+    }
+    (file_bits(edition, k + 1) + 7) / 8 <= s.len()
+}
+
+// The record of arc k, in the file's own edition; zeros where the file has no room for it.
 pub fn file_arc(s: &[u8], k: usize) -> Arc
-    requires { ⌜ (k < 256) × (3 ≤ length (now s)) × (fileBits (edition (now s)) k + arcWidth (edition (now s)) ≤ 8 * length (now s)) ⌝ }
-    ensures { λ r. ⌜ r ≡ recordOf (arcOf (now (s .entry)) (edition (now (s .entry))) k) ⌝ }
+    ensures { λ r. ⌜ r ≡ recordIn (now (s .entry)) k ⌝ }
 {
     let e = file_edition(s);
-    read_arc(s, e, k)
+    if has_arc(s, e, k) {
+        return read_arc(s, e, k);
+    }
+    Arc {
+        tail: 0,
+        head: 0,
+        standing: 0,
+        cost: 0,
+        service: 0,
+    }
 }
 
 // The records of the m arcs of the file, and zeros after them.

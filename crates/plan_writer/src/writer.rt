@@ -79,7 +79,7 @@ fn content_verdict(edition: u8, p: Plan, room: usize) -> Verdict
 }
 
 // The first refusal of a plan that is to be written in an edition where there is room for `room` bytes.
-pub fn plan_verdict(edition: u8, p: Plan, room: usize) -> Verdict
+fn plan_verdict(edition: u8, p: Plan, room: usize) -> Verdict
     ensures { λ r. ⌜ verdictNumber r ≡ writeRefusal edition (planValue p) room ⌝ }
 {
     if is_edition(edition) {

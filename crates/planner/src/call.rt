@@ -1,4 +1,5 @@
 // The plan call: the refusals in document 01's order, and the answer.
+// Besides the calls, steps for other crates, which ask something of their caller.
 use budget::Budget;
 use budget::Checked;
 use network::network::Network;

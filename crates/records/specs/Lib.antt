@@ -2,6 +2,5 @@
 pub mod Stored
 pub mod Reading
 pub mod Writing
-pub mod Reread
 -- What is proved about them.
 pub mod Laws

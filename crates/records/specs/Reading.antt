@@ -20,4 +20,4 @@ arcsRead (Refused r) = 0
 
 -- There is room for m arcs: in the file, and in a list of `room` records.
 abbrev pub Room : List ℕ → ℕ → ℕ → Type 0
-Room bytes room m = (m ≤ 256) × (1 ≤ m → 3 ≤ length bytes) × (1 ≤ m → fileBits (edition bytes) m ≤ 8 * length bytes) × (m ≤ room)
+Room bytes room m = (m ≤ 256) × (1 ≤ m → fileBits (edition bytes) m ≤ 8 * length bytes) × (m ≤ room)

@@ -10,6 +10,7 @@ ghost use Rattle.records.specs.Reading.{readNumbers};
 ghost use Rattle.records.specs.Writing.{listPlan};
 use crate::reader::Read;
 use crate::reader::read_records;
+use crate::writer::at_most;
 use crate::writer::write_records;
 use plan::Arc;
 use plan_writer::Written;
@@ -20,8 +21,7 @@ pub struct Filled {
     pub arcs: [Arc; 257],
 }
 
-// Reading into the first `room` records of the array; the others stay.
-pub fn read_array(bytes: &[u8], arcs: [Arc; 257], room: usize) -> Filled
+fn read_first(bytes: &[u8], arcs: [Arc; 257], room: usize) -> Filled
     requires { ⌜ room ≤ 257 ⌝ }
     ensures { λ r. ⌜ (readNumbers (r .read) ≡ readAnswer (now (bytes .entry)) (map arcValue (take room arcs)))
         × (map arcValue (r .arcs) ≡ recordsAfter (now (bytes .entry)) (map arcValue (take room arcs)) ++ map arcValue (drop room arcs)) ⌝ }
@@ -34,11 +34,26 @@ pub fn read_array(bytes: &[u8], arcs: [Arc; 257], room: usize) -> Filled
     }
 }
 
-// Writing the first m records of the array.
-pub fn write_array(edition: u8, n: u8, arcs: [Arc; 257], m: usize, bytes: &mut [u8]) -> Written
+// Reading into the first `room` records of the array, or into all where there are fewer; the others stay.
+pub fn read_array(bytes: &[u8], arcs: [Arc; 257], room: usize) -> Filled
+    ensures { λ r. ⌜ (readNumbers (r .read) ≡ readAnswer (now (bytes .entry)) (map arcValue (take room arcs)))
+        × (map arcValue (r .arcs) ≡ recordsAfter (now (bytes .entry)) (map arcValue (take room arcs)) ++ map arcValue (drop room arcs)) ⌝ }
+{
+    read_first(bytes, arcs, at_most(room, 257))
+}
+
+fn write_first(edition: u8, n: u8, arcs: [Arc; 257], m: usize, bytes: &mut [u8]) -> Written
     requires { ⌜ m ≤ 257 ⌝ }
     ensures { λ r. ⌜ (writtenAnswer r ≡ writeAnswer edition (listPlan n (take m arcs)) (now (bytes .entry)))
         × (now (bytes .exit) ≡ bytesAfter edition (listPlan n (take m arcs)) (now (bytes .entry))) ⌝ }
 {
     write_records(edition, n, &arcs[..m], bytes)
+}
+
+// Writing the first m records of the array, or all where there are fewer.
+pub fn write_array(edition: u8, n: u8, arcs: [Arc; 257], m: usize, bytes: &mut [u8]) -> Written
+    ensures { λ r. ⌜ (writtenAnswer r ≡ writeAnswer edition (listPlan n (take m arcs)) (now (bytes .entry)))
+        × (now (bytes .exit) ≡ bytesAfter edition (listPlan n (take m arcs)) (now (bytes .entry))) ⌝ }
+{
+    write_first(edition, n, arcs, at_most(m, 257), bytes)
 }

@@ -2,4 +2,3 @@
 pub mod reader; // from bytes to a lent list
 pub mod writer; // from a lent list to bytes
 pub mod arrays; // the same over the first records of an array
-pub mod round_trip; // the two together

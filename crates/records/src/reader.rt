@@ -52,7 +52,7 @@ pub fn arcs_read(r: Read) -> usize
 }
 
 // The first m records become those of the file's first m arcs.
-pub fn store_arcs(bytes: &[u8], m: usize, records: &mut [Arc])
+fn store_arcs(bytes: &[u8], m: usize, records: &mut [Arc])
     requires { ⌜ Room (now bytes) (length (now records)) m ⌝ }
     ensures { λ _. ⌜ now (records .exit) ≡ storedTo (λ k. recordOf (arcOf (now (bytes .entry)) (edition (now (bytes .entry))) k)) (now (records .entry)) m ⌝ }
 {

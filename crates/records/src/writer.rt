@@ -35,7 +35,7 @@ pub fn no_records() -> [Arc; 256]
 }
 
 // The records of the list, at most 256, and zeros after them.
-pub fn load_records(records: &[Arc]) -> [Arc; 256]
+fn load_records(records: &[Arc]) -> [Arc; 256]
     ensures { λ r. ⌜ r ≡ loaded (now (records .entry)) ⌝ }
 {
     let count = at_most(records.len(), 256);

@@ -1,4 +1,5 @@
 // Entries of the lists: vertices, next vertices, potentials; and the lesser of two, and what is left of one without the other.
+// Steps for other crates, which ask something of their caller.
 ghost use mathlib.Core.Path.{_≡_};
 ghost use mathlib.Core.Bool.{cond};
 ghost use Prim.Native.Nat.{_-_, _<_, _≤_, min};
@@ -39,7 +40,7 @@ pub fn lesser(a: u64, b: u64) -> u64
 }
 
 // v where a is below b, else w.
-pub fn chosen(a: u64, b: u64, v: u8, w: u8) -> u8
+pub(crate) fn chosen(a: u64, b: u64, v: u8, w: u8) -> u8
     ensures { λ r. ⌜ r ≡ cond (ltb a b) v w ⌝ }
 {
     if a < b { v } else { w }

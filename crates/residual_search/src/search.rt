@@ -1,4 +1,5 @@
 // Dijkstra's search towards a vertex, over residual lengths.
+// Steps for other crates, which ask something of their caller.
 use crate::entries::chosen;
 use crate::entries::lesser;
 use crate::entries::level;

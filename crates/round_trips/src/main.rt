@@ -5,15 +5,12 @@ use plan::Arc;
 use plan::Plan;
 use plan_file::reader::read_plan;
 use plan_writer::Written;
-use plan_writer::round_trip::reread;
 use records::arrays::Filled;
 use records::arrays::read_array;
 use records::arrays::write_array;
 use records::reader::Read;
-use records::round_trip::reread_array;
 use refusal::Refusal;
 use refusal::Verdict;
-ghost use Prim.Native.Nat.{_≤_};
 
 // ---- what is printed
 
@@ -93,17 +90,32 @@ fn nines() -> [Arc; 257] {
 }
 
 // Reading into a list of so many records.
-fn into(label: &[u8], file: &[u8], room: usize)
-    requires { ⌜ room ≤ 257 ⌝ }
-{
+fn into(label: &[u8], file: &[u8], room: usize) {
     text(label);
     filled(read_array(file, nines(), room));
 }
 
-// The first m records, written in an edition into 15 bytes, and read back from as many as it takes.
-fn rewritten(edition: u8, n: u8, arcs: [Arc; 257], m: usize)
-    requires { ⌜ m ≤ 257 ⌝ }
-{
+// The file of k bytes that a slice starts with, read into a list.
+fn read_back(s: &[u8], k: usize) {
+    if k <= s.len() {
+        into(b"", &s[..k], 257);
+    }
+}
+
+// The first m records, written in an edition into as many bytes as it takes, and read back.
+fn reread(edition: u8, n: u8, arcs: [Arc; 257], m: usize) {
+    let mut file = [0u8; 1475];
+    match write_array(edition, n, arcs, m, &mut file) {
+        Written::Length(k) => read_back(&file, k),
+        Written::Refused(r) => filled(Filled {
+            read: Read::Refused(r),
+            arcs: nines(),
+        }),
+    }
+}
+
+// The first m records, written in an edition into 15 bytes, and read back.
+fn rewritten(edition: u8, n: u8, arcs: [Arc; 257], m: usize) {
     number(b"  written in edition ", edition as u64);
     text(b": ");
     let mut s = [0xeeu8; 15];
@@ -111,7 +123,7 @@ fn rewritten(edition: u8, n: u8, arcs: [Arc; 257], m: usize)
     text(b":");
     bytes(&s);
     text(b"\n  and read back: ");
-    filled(reread_array(edition, n, arcs, m, nines()));
+    reread(edition, n, arcs, m);
 }
 
 // A list that has the file's records and nines after them.
@@ -122,10 +134,8 @@ fn by_list(file: &[u8]) {
     match read {
         Read::Given(_, n, m) => {
             let count = m as usize;
-            if count <= 257 {
-                rewritten(1, n, arcs, count);
-                rewritten(2, n, arcs, count);
-            }
+            rewritten(1, n, arcs, count);
+            rewritten(2, n, arcs, count);
         }
         Read::Refused(_) => {}
     }
@@ -135,7 +145,7 @@ fn by_list(file: &[u8]) {
 fn value(edition: u8, p: Plan) {
     number(b"  by value in edition ", edition as u64);
     text(b": ");
-    let r = reread(edition, p);
+    let r = plan_writer::round_trip::reread(edition, p);
     let v = r.verdict;
     let e = r.edition;
     let q = r.plan;

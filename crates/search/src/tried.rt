@@ -1,4 +1,5 @@
 // All trees in document 01's order, at most as many as the budget: the first of least completion cost is kept.
+// Steps for other crates, which ask something of their caller.
 use crate::explore::explore;
 use branches::branch::Branch;
 use branches::progress::Progress;

@@ -3,14 +3,13 @@ use crate::weights::arc_weight;
 use crate::weights::shorter;
 use plan::Plan;
 ghost use mathlib.Core.Path.{_≡_};
-ghost use mathlib.Core.Bool.{true};
 ghost use Prim.Native.Nat.{ℕ, _<_};
-ghost use lib.ListN.{length, getD};
+ghost use lib.ListN.{length};
 ghost use Rattle.postman.specs.Plan.{WellFormed};
 ghost use Rattle.plan.specs.Records.{planValue};
 ghost use Rattle.shortest.specs.Weight.{weighted};
 ghost use Rattle.shortest.specs.Relaxation.{relaxArcs, startRow};
-ghost use Rattle.shortest.specs.Columns.{rowFrom, relaxBy};
+ghost use Rattle.shortest.specs.Columns.{rowFrom, relaxBy, areSame};
 ghost use Rattle.shortest.specs.Contracts.{IsRow};
 
 // "4,294,967,295 stands for no path".
@@ -52,7 +51,7 @@ fn start() -> [u32; 4096]
 
 // Whether nothing changed.
 fn same_all(a: &[u32; 4096], b: &[u32; 4096]) -> bool
-    ensures { λ r. ⌜ (r ≡ true → (x : ℕ) → x < 4096 → getD (now (a .entry)) x 0 ≡ getD (now (b .entry)) x 0) ⌝ }
+    ensures { λ r. ⌜ r ≡ areSame (now (a .entry)) (now (b .entry)) ⌝ }
 {
     for x in 0..4096usize {
         if a[x] != b[x] {

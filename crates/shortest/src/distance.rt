@@ -1,4 +1,5 @@
 // Distances of a plan: a 64th of the least weights, rounded down.
+// Steps for other crates, which ask something of their caller.
 use crate::weights;
 use plan::Plan;
 ghost use mathlib.Core.Path.{_≡_};

@@ -1,5 +1,6 @@
 // Least weights of a plan's paths: rows by rounds of relaxing, and the table of all rows. An arc weighs 64 × its cost + 1, so that a lightest path is a cheapest one, of the
 // fewest arcs.
+// Steps for other crates, which ask something of their caller.
 use crate::columns::row_from;
 use crate::columns::settled;
 use plan::Arc;
@@ -70,7 +71,7 @@ fn same(a: &[u32; 64], b: &[u32; 64]) -> bool
 }
 
 // The least weights from one vertex. Rounds of relaxing every arc, until one changes nothing; n − 1 are enough.
-pub fn row(plan: Plan, source: usize) -> [u32; 64]
+pub(crate) fn row(plan: Plan, source: usize) -> [u32; 64]
     requires { ⌜ WellFormed (planValue plan) × (source < 64) ⌝ }
     ensures { λ r. ⌜ IsRow (weighted (planValue plan)) source r ⌝ }
 {

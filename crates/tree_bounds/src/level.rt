@@ -1,4 +1,5 @@
 // Potentials from that of the first vertex on.
+// Steps for other crates, which ask something of their caller.
 use integers::wide;
 ghost use mathlib.Core.Path.{_≡_};
 ghost use Prim.Native.Nat.{_+_, _<_, _≤_};

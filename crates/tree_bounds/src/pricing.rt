@@ -1,4 +1,5 @@
 // Potentials that price a branch.
+// Steps for other crates, which ask something of their caller.
 use crate::rest::rest;
 use integers::wide;
 ghost use Prim.Native.Nat.{ℕ, _≤_, _<_, _+_};

@@ -1,4 +1,5 @@
 // Reduced costs.
+// Steps for other crates, which ask something of their caller.
 use integers::wide;
 ghost use mathlib.Core.Path.{_≡_};
 ghost use Prim.Native.Nat.{ℕ, _<_, _≤_};

@@ -16,7 +16,7 @@ use Rattle.plan.specs.Records.{arcValue, recordOf}
 use Rattle.refusal.specs.Verdict.{refusalNumber}
 use Rattle.postman.specs.Laws.Refusal.{first-stop, given-last, was-given, was-refused}
 use Rattle.postman.specs.Laws.FileLength.{bits-fit}
-use Rattle.postman.specs.Laws.Acceptance.{accepted-is-file, has-header, read-is-file, file-is-read}
+use Rattle.postman.specs.Laws.Acceptance.{accepted-is-file, read-is-file, file-is-read}
 use Rattle.records.specs.declared.reader.Read.{Read}
 use Rattle.records.specs.declared.reader.Read.the-variants.{Given, Refused}
 use Rattle.records.specs.Stored.{storedTo}
@@ -59,8 +59,8 @@ module _ (bytes : List ℕ) (records : List ArcRecord) where
       let same : m ≡ arcCount bytes = ap (λ (p : ℕ × ℕ × ℕ). p .2) (w .1) in
       let ok = read-is-file bytes (length records) (w .0) in
       let fit : fileBits (edition bytes) m ≤ 8 * length bytes = rw same (omega (arith, ok .0 .exact, bits-fit (edition bytes) (arcCount bytes))) in
-      (omega (arith, ok .0 .arc-count), λ some. has-header bytes (ok .0), λ some. fit, omega (arith, ok .1))
-  room-for (Refused q) h = (omega arith, λ some. absurd (omega arith), λ some. absurd (omega arith), omega arith)
+      (omega (arith, ok .0 .arc-count), λ some. fit, omega (arith, ok .1))
+  room-for (Refused q) h = (omega arith, λ some. absurd (omega arith), omega arith)
 
   values : (m : ℕ) → m ≤ length records → map arcValue (stored m) ≡ map (arcOf bytes (edition bytes)) (below m) ++ drop m (map arcValue records)
   values m h =

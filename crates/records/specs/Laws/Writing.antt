@@ -5,8 +5,8 @@ use mathlib.Core.Option.{some}
 use Prim.Native.Nat.{ℕ, _<_, _≤_}
 use native.Mathlib.Decide.{decLt}
 use native.Mathlib.Omega.{arith}
-use lib.ListN.{length, getD, drop, replicate, length-map, length-replicate, List·getD-append, List·getD-map}
-use lib.Seq.{ext-getD}
+use lib.ListN.{length, getD, take, drop, drop-of-length-le, replicate, length-map, length-replicate, List·getD-append, List·getD-map}
+use lib.Seq.{ext-getD, take-all}
 use borrow.Author.Tests.{lt-ltb, le-ltb}
 use Rattle.postman.specs.Lists.{below}
 use Rattle.postman.specs.Plan.{Arc, Plan as Graph}
@@ -31,6 +31,20 @@ at-most-same n limit h = elim (decLt n limit) [ yes l ↦ rw (lt-ltb n limit l) 
 
 pub at-most-limit : (n limit : ℕ) → limit ≤ n → atMost n limit ≡ limit
 at-most-limit n limit h = rw (le-ltb n limit h) refl
+
+-- as many of a list's elements as a number says, or all of them
+module _ {A : Type 0} (xs : List A) (n limit : ℕ) (long : length xs ≡ limit) where
+  pub take-at-most : take (atMost n limit) xs ≡ take n xs
+  take-at-most = elim (decLt n limit) [
+    | yes l ↦ ap (λ (k : ℕ). take k xs) (at-most-same n limit (omega arith))
+    | no l ↦ ap (λ (k : ℕ). take k xs) (at-most-limit n limit (omega arith)) ∙ take-all limit xs (omega arith) ∙ sym (take-all n xs (omega arith))
+  ]
+
+  pub drop-at-most : drop (atMost n limit) xs ≡ drop n xs
+  drop-at-most = elim (decLt n limit) [
+    | yes l ↦ ap (λ (k : ℕ). drop k xs) (at-most-same n limit (omega arith))
+    | no l ↦ ap (λ (k : ℕ). drop k xs) (at-most-limit n limit (omega arith)) ∙ drop-of-length-le xs {i = limit} (omega arith) ∙ sym (drop-of-length-le xs {i = n} (omega arith))
+  ]
 
 -- ---- a list of at most 256 records
 

@@ -1,14 +1,18 @@
 -- Rows of costs from all sources side by side: place 64 v + i is in the row from i alone, so that a store changes one row, in one entry.
-use mathlib.Core.Path.{_≡_, refl, sym, ap, ap₂, _∙_}
+use mathlib.Core.Path.{_≡_, refl, sym, ap, ap₂, _∙_, subst⁻¹}
+use mathlib.Core.Bool.{true, false}
 use mathlib.Core.List.{List, [], _∷_, _++_, map}
 use Prim.Native.Nat.{ℕ, _+_, _*_, _≤_, _<_}
 use native.Mathlib.Nat.{zero-add}
 use native.Mathlib.Decide.{ℕ-discrete}
 use native.Mathlib.Omega.{arith}
+use borrow.Author.Tests.{eq-eqb}
+use lib.Dec.{T, eqb, eqb→eq}
 use lib.ListN.{length, getD, set, take, replicate, length-set, length-map, length-replicate, getD-replicate}
 use lib.Seq.{getD-set-same, getD-set-other, ext-getD}
 use Rattle.postman.specs.Lists.{below}
-use Rattle.postman.specs.Laws.Membership.{length-below, getD-map-upFrom}
+use Rattle.postman.specs.Laws.Membership.{length-below, getD-map-upFrom, allOf-mem, allOf-at, mem-below, below-mem}
+use Rattle.postman.specs.Laws.Tests.{is-true, is-false}
 use Rattle.postman.specs.Plan.{Arc, Plan, WellFormed}
 use Rattle.postman.specs.Distance.{noPath}
 use Rattle.plan.specs.declared.Plan.{Plan as PlanRecord}
@@ -16,7 +20,7 @@ use Rattle.plan.specs.Records.{planValue, recordAt}
 use Rattle.plan.specs.Laws.Records.{arcs-more}
 use Rattle.shortest.specs.Weight.{heavy}
 use Rattle.shortest.specs.Relaxation.{weight, shorter, relaxArc, relaxArcs, startRow}
-use Rattle.shortest.specs.Columns.{rowFrom, relaxBy}
+use Rattle.shortest.specs.Columns.{rowFrom, relaxBy, areSame}
 use Rattle.shortest.specs.Laws.Relaxation.{relaxArcs-snoc}
 
 module _ (c : List ℕ) (i : ℕ) where
@@ -89,8 +93,21 @@ unfolding relaxArc
 relaxed-more r ok k l row {next} {new} w e f g = rw (arcs-more r ok k l, heavy-snoc, relaxArcs-snoc, ← e) (rw f at g)
 
 -- rows all of whose entries are the same
-pub same-entries : (a b : List ℕ) → ((x : ℕ) → x < 4096 → getD a x 0 ≡ getD b x 0) → (i : ℕ) → i < 64 → (v : ℕ) → v < 64 → getD (rowFrom a i) v 0 ≡ getD (rowFrom b i) v 0
-same-entries a b h i l v m = row-at a i v m ∙ h (v * 64 + i) (omega arith) ∙ sym (row-at b i v m)
+same-rows : (a b : List ℕ) → ((x : ℕ) → x < 4096 → getD a x 0 ≡ getD b x 0) → (i : ℕ) → i < 64 → (v : ℕ) → v < 64 → getD (rowFrom a i) v 0 ≡ getD (rowFrom b i) v 0
+same-rows a b h i l v m = row-at a i v m ∙ h (v * 64 + i) (omega arith) ∙ sym (row-at b i v m)
+
+-- arrays that are the same, and the first entry that differs
+pub all-same : (a b : List ℕ) → ((x : ℕ) → x < 4096 → getD a x 0 ≡ getD b x 0) → true ≡ areSame a b
+unfolding areSame
+all-same a b h = sym (is-true (allOf-mem (λ x. eqb (getD a x 0) (getD b x 0)) (below 4096) (λ x m. subst⁻¹ T (eq-eqb _ _ (h x (below-mem m))) tt)))
+
+pub one-differs : (a b : List ℕ) (x : ℕ) → x < 4096 → (getD a x 0 ≡ getD b x 0 → ⊥) → false ≡ areSame a b
+unfolding areSame
+one-differs a b x l h = sym (is-false (λ t. h (eqb→eq _ _ (allOf-at (λ x. eqb (getD a x 0) (getD b x 0)) (mem-below l) t))))
+
+pub same-entries : (a b : List ℕ) → areSame a b ≡ true → (i : ℕ) → i < 64 → (v : ℕ) → v < 64 → getD (rowFrom a i) v 0 ≡ getD (rowFrom b i) v 0
+unfolding areSame
+same-entries a b e = same-rows a b (λ x l. eqb→eq _ _ (allOf-at (λ x. eqb (getD a x 0) (getD b x 0)) (mem-below l) (subst⁻¹ T e tt)))
 
 -- ---- the paths of no arc
 pub start-none : (j : ℕ) → j < 64 → rowFrom (replicate 4096 noPath) j ≡ replicate 64 noPath

@@ -14,6 +14,7 @@ use Rattle.paths.specs.Laws.Lookup.{lent-plan, lent-rows}
 use Rattle.hierholzer.specs.Circuit.{circuit}
 use Rattle.circuit.specs.Tour.{placesOf, written, HavePaths}
 use Rattle.hierholzer.specs.Laws.Circuit.{circuit-below}
+use Rattle.plan.specs.Laws.Rows.{made-long, made-value}
 use borrow.Author.Needs.{needs}
 use Rattle.circuit.proofs.tour.write_circuit.Statement.{statement}
 use Rattle.circuit.proofs.tour.write_circuit.Tie as tie
@@ -31,10 +32,10 @@ cast-n : tie.Need-cast-n
 cast-n c = search needs
 
 array-share-prefix-arcs : tie.Need-array-share-prefix-arcs
-array-share-prefix-arcs c = let s = c .before .before .before .before .before .before .before .before .before .before .before .before .before in let m = record-arcs (s .args .plan) (s .pre .0 .0) in let l = c .before .before .before .rows-of .ensures .0 in omega arith
+array-share-prefix-arcs c = let s = c .before .before .before .before .before .before .before .before .before .before .before .before .before in let m = record-arcs (s .args .plan) (s .pre .0 .0) in let l = made-long _ _ (c .before .before .before .rows-of .ensures) in omega arith
 
 slice-aggregate-write : tie.Need-slice-aggregate-write
-slice-aggregate-write c = let s = c .before .before .before .before .before .before .before .before .before .before .before .before .before .before in let l = c .before .before .before .before .rows-of .ensures .0 in let m = record-arcs (s .args .plan) (s .pre .0 .0) in sym (length-take-le _ _ (omega arith))
+slice-aggregate-write c = let s = c .before .before .before .before .before .before .before .before .before .before .before .before .before .before in let l = made-long _ _ (c .before .before .before .before .rows-of .ensures) in let m = record-arcs (s .args .plan) (s .pre .0 .0) in sym (length-take-le _ _ (omega arith))
 
 slice-aggregate-write-2 : tie.Need-slice-aggregate-write-2
 slice-aggregate-write-2 c = let s = c .before .before .before .before .before .before .before .before .before .before .before .before .before .before .before in let l : length (s .args .weights .now) ≡ 64 = c .before .before .rows .given .0 in let n = record-vertices (s .args .plan) (s .pre .0 .0) .1 in sym (length-take-le _ _ (omega arith))
@@ -48,7 +49,7 @@ write-requires c κs =
     let h = a .heads .now in
     let u = s .pre .1 .0 .2 in
     let q = planIn (length (take (a .plan .n) (a .weights .now))) (take (a .plan .m) (c .before .before .before .before .before .before .before .rows-of .result)) in
-    let same = lent-plan (a .plan) (s .pre .0 .0) _ (c .before .before .before .before .before .before .before .rows-of .ensures .1) (a .weights .now) (c .before .before .before .before .rows .given .0) in (
+    let same = lent-plan (a .plan) (s .pre .0 .0) _ (made-value (a .plan) _ (c .before .before .before .before .before .before .before .rows-of .ensures) (record-arcs (a .plan) (s .pre .0 .0))) (a .weights .now) (c .before .before .before .before .rows .given .0) in (
       (subst⁻¹ WellFormed same (s .pre .0 .0), subst⁻¹ (λ (p : Plan). AreRows p (take (a .plan .n) (a .weights .now))) same (lent-rows (a .plan) (s .pre .0 .0) (a .weights .now) (s .pre .0 .1))),
       (
         subst⁻¹ (λ (z : List ℕ). (x : ℕ) → x < length z → getD z x 0 < length t) e (circuit-below t h u),
@@ -73,7 +74,7 @@ returns c =
     let e = c .before .before .before .before .before .before .before .before .before .before .before .before .before .arrange .ensures in
     let w = c .before .before .write .ensures in
     let q = planIn (length (take (a .plan .n) (a .weights .now))) (take (a .plan .m) (c .before .before .before .before .before .before .before .before .before .before .rows-of .result)) in
-    let same = lent-plan (a .plan) (s .pre .0 .0) _ (c .before .before .before .before .before .before .before .before .before .before .rows-of .ensures .1) (a .weights .now) (c .before .before .before .before .before .before .before .rows .given .0) in
+    let same = lent-plan (a .plan) (s .pre .0 .0) _ (made-value (a .plan) _ (c .before .before .before .before .before .before .before .before .before .before .rows-of .ensures) (record-arcs (a .plan) (s .pre .0 .0))) (a .weights .now) (c .before .before .before .before .before .before .before .rows .given .0) in
     let f : Plan → List ℕ → List ℕ = λ p. placesOf (shortestPath p) (a .numbers .now) (a .tails .now) (a .heads .now) in
     let g = ap (f q) e ∙ ap (λ (p : Plan). f p (circuit (a .tails .now) (a .heads .now))) same in
     (w .0 ∙ ap (λ z. written z (a .places .now)) g, w .1 ∙ ap length g)

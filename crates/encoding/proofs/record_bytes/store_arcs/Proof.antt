@@ -8,6 +8,7 @@ use Rattle.postman.specs.Lists.{below, upFrom}
 use Rattle.postman.specs.PlanFile.{edition, arcOf}
 use Rattle.postman.specs.Laws.FileLength.{bits-within}
 use Rattle.plan.specs.Records.{arcValue}
+use Rattle.plan_file.specs.Laws.Room.{record-in}
 use Rattle.encoding.specs.RecordBytes.{arcBytes, withArc}
 use Rattle.encoding.specs.Laws.RecordBytes.{stored-more}
 use borrow.Author.Needs.{needs}
@@ -25,12 +26,7 @@ unfolding below upFrom flatMap
 loop-holds c = (omega arith, refl, refl)
 
 file-arc-requires : tie.Need-file-arc-requires Inv-loop μ-loop
-file-arc-requires c κs =
-    let start = c .before .before .before .before in
-    let file = start .args .file .now in
-    let l = c .before .loop in
-    let some : 1 ≤ start .args .m = omega arith in
-    (omega (arith, start .pre .0), start .pre .1 some, omega (arith, start .pre .2 some, bits-within (edition file) (l .k) (start .args .m) (omega arith)))
+file-arc-requires c κs = search needs
 
 mul-put-record : tie.Need-mul-put-record Inv-loop μ-loop
 mul-put-record c = search needs
@@ -46,14 +42,18 @@ loop-less c = search needs
 
 loop-again : tie.Need-loop-again Inv-loop μ-loop
 loop-again c =
-    let start = c .before .before .before .before .before .before .before .before .before .args in
+    let begun = c .before .before .before .before .before .before .before .before .before in
+    let start = begun .args in
+    let file = start .file .now in
     let l = c .before .before .before .before .before .before .loop in
     let a = c .before .before .before .before .file-arc in
+    let some : 1 ≤ start .m = omega arith in
+    let there = record-in file (l .k) (omega (arith, begun .pre .0)) (omega (arith, begun .pre .1 some, bits-within (edition file) (l .k) (start .m) (omega arith))) in
     let call = c .before .before .put-record in (
       omega arith,
       call .kept .0 ∙ l .inv .1,
       call .ensures
-          ∙ ap (λ a. withArc (l .lent) (7 * l .k) (arcValue a)) (a .ensures)
+          ∙ ap (λ a. withArc (l .lent) (7 * l .k) (arcValue a)) (a .ensures ∙ there)
           ∙ ap (λ (s : List ℕ). withArc s (7 * l .k) (arcOf (start .file .now) (edition (start .file .now)) (l .k))) (l .inv .2)
           ∙ stored-more (arcOf (start .file .now) (edition (start .file .now))) (start .lent .now) (l .k),
     )

@@ -1,8 +1,6 @@
--- A pair that is near and has no way by a third vertex, and one that is far.
-use mathlib.Core.Path.{subst⁻¹}
-use mathlib.Core.Bool.{Bool}
-use borrow.Author.Tests.{eqb-true}
-use lib.Dec.{T}
+-- A pair that is near goes by the count of ways, and one that is far has none that is counted.
+use native.Mathlib.Omega.{arith}
+use Rattle.network.specs.Laws.Ways.{near-test, far-test}
 use borrow.Author.Needs.{needs}
 use Rattle.network.proofs.thinning.is_short.Statement.{statement}
 use Rattle.network.proofs.thinning.is_short.Tie as tie
@@ -12,11 +10,13 @@ ways-requires c κs = search needs
 
 returns : tie.Need-returns
 returns c =
-    λ e. (c .before .if1 .taken, c .ways .ensures (eqb-true _ 0 e))
+    let a = c .before .before .args in
+    near-test (a .row .now) (a .columns .now) (a .j) (a .a) (c .before .if1 .taken) (c .ways .result) (c .ways .ensures)
 
 returns-2 : tie.Need-returns-2
 returns-2 c =
-    λ e. absurd (subst⁻¹ (λ (b : Bool). T b) e tt)
+    let a = c .before .args in
+    far-test (a .row .now) (a .columns .now) (a .j) (a .a) (omega arith)
 
 pub is-short-spec : {M : Type 1} → statement M
 is-short-spec = tie.close (tie.spec ways-requires returns returns-2)

@@ -9,7 +9,8 @@ use native.Mathlib.Omega.{arith}
 use borrow.Author.Count.{below-more}
 use borrow.Author.Tests.{not-false}
 use lib.ListN.{length, length-set}
-use Rattle.network.specs.Thinning.{flag, between, turnAt, rowThinned, rowsThinned}
+use Rattle.network.specs.Thinning.{cell, flag, between, turnAt, rowThinned, rowsThinned}
+use Rattle.network.specs.Laws.Ways.{no-way}
 use Rattle.network.specs.Laws.Thinning.{Fewer, fewer-dropped, turn-short, near-small, turn-not-held, turn-drops, turn-keeps, via-first, via-second, via-long, via-found, row-none, row-turn, rows-none, rows-turn}
 use borrow.Author.Needs.{needs}
 use Rattle.network.proofs.thinning.thin.Statement.{statement}
@@ -249,7 +250,7 @@ loop2-again c =
     (λ w. done (q .held) (q .held) refl (turn-not-held d (q .held) i j (w .0 .taken)) (q .inv .0) few (w .1))
     (⊎-elim
     (λ w.
-    let s = w .4 .ensures (w .5 .taken) in
+    let s = no-way (n .result) (m .result) j (cell d i j) (sym (w .4 .ensures) ∙ w .5 .taken) in
     done (q .held) (q .held) refl (turn-short d (t .args .t2) (q .held) i j (n .result) (m .result) few (n .ensures) (m .ensures) l (s .0) (s .1)) (q .inv .0) few (w .6))
     (⊎-elim
     (λ w.

@@ -1,28 +1,21 @@
--- The invariant: where none is counted, none of the first k is a way of cost a.
-use mathlib.Core.Path.{_≡_, ap, _∙_}
-use mathlib.Core.Bool.{Bool, cond}
-use Prim.Native.Nat.{ℕ, _+_, _*_, _-_, _≤_, _<_}
-use native.Mathlib.Decide.{ℕ-discrete}
+-- The invariant: n is the number of ways of cost a by the first k vertices.
+use mathlib.Core.Path.{_≡_, sym, ap, _∙_}
+use Prim.Native.Nat.{_-_, _≤_}
 use native.Mathlib.Omega.{arith}
-use borrow.Author.Tests.{eq-eqb}
-use lib.Dec.{eqb}
-use lib.ListN.{getD}
+use Rattle.network.specs.Laws.Ways.{waysBy, ways-none, ways-more, ways-all}
 use borrow.Author.Needs.{needs}
 use Rattle.network.proofs.thinning.ways.Statement.{statement}
 use Rattle.network.proofs.thinning.ways.Tie as tie
 
-none : {a b r : ℕ} → a ≡ b → r ≡ cond (eqb a b) 1 0 → r ≡ 0 → ⊥
-none {a} {b} e f g = let h : _≡_ {A = ℕ} (cond (eqb a b) 1 0) 1 = ap (λ (b : Bool). cond b 1 0) (eq-eqb a b e) in omega arith
-
 abbrev Inv-loop : tie.InvT-loop
-Inv-loop row columns j a n₀ k₀ n k = (k ≤ 64) × (n ≤ k) × (n ≡ 0 → (m : ℕ) → m < k → getD row m 0 + getD columns (j * 64 + m) 0 ≡ a → ⊥)
+Inv-loop row columns j a n₀ k₀ n k = (k ≤ 64) × (n ≤ k) × (n ≡ waysBy row columns j a k)
 
 abbrev μ-loop : tie.MeasureT-loop
 μ-loop row columns j a n₀ k₀ n k = 64 - k
 
 loop-holds : tie.Need-loop-holds Inv-loop μ-loop
 loop-holds c =
-    (omega arith, omega arith, λ e m l. absurd (omega arith))
+    let a = c .args in (omega arith, omega arith, sym (ways-none (a .row .now) (a .columns .now) (a .j) (a .a)))
 
 mul-one : tie.Need-mul-one Inv-loop μ-loop
 mul-one c = search needs
@@ -64,19 +57,16 @@ loop-less c = search needs
 loop-again : tie.Need-loop-again Inv-loop μ-loop
 loop-again c =
     let v = c .before .before .before .before in
-    let o = c .one .ensures in (
-      omega arith,
-      omega arith,
-      λ e m l. elim (ℕ-discrete m (v .loop .k)) [
-        | yes q ↦ λ z. none (rw q at z) (o .0) (omega arith)
-        | no q ↦ v .loop .inv .2 (omega arith) m (omega arith)
-      ],
-    )
+    let a = v .before .args in
+    let o = c .one .ensures in
+    (omega arith, omega arith, ways-more (a .row .now) (a .columns .now) (a .j) (a .a) (v .loop .k) (v .loop .n) (c .one .result) (v .loop .inv .2) (o .0))
 
 returns : tie.Need-returns Inv-loop μ-loop
 returns c =
     let v = c .before in
-    λ e k l. v .loop .inv .2 e k (omega arith)
+    let a = v .before .args in
+    let e : v .loop .k ≡ 64 = omega arith in
+    v .loop .inv .2 ∙ ap (waysBy (a .row .now) (a .columns .now) (a .j) (a .a)) e ∙ ways-all (a .row .now) (a .columns .now) (a .j) (a .a)
 
 pub ways-spec : {M : Type 1} → statement M
 ways-spec =

@@ -1,17 +1,14 @@
--- The invariant: the rows before the kth hold the arcs.
+-- The invariant: the rows before the kth hold the arcs, and the others are zeros.
 use mathlib.Core.Path.{_≡_, refl, subst}
-use mathlib.Core.List.{[]}
-use Prim.Native.Nat.{ℕ, _-_, _≤_}
+use Prim.Native.Nat.{_-_, _≤_}
 use native.Mathlib.Omega.{arith}
-use lib.ListN.{replicate}
-use Rattle.plan.specs.Laws.Prefix.{prefix-none, prefix-more}
-use Rattle.plan.specs.Laws.Rows.{HoldArcs, rows-plan}
+use Rattle.plan.specs.Laws.Rows.{FilledTo, filled-none, filled-more, filled-all}
 use borrow.Author.Needs.{needs}
 use Rattle.plan.proofs.rows.rows_of.Statement.{statement}
 use Rattle.plan.proofs.rows.rows_of.Tie as tie
 
 abbrev Inv-loop : tie.InvT-loop
-Inv-loop plan rows₀ m k₀ rows k = (m ≡ plan .m) × (k ≤ m) × HoldArcs plan rows k
+Inv-loop plan rows₀ m k₀ rows k = (m ≡ plan .m) × (k ≤ m) × FilledTo plan rows k
 
 abbrev μ-loop : tie.MeasureT-loop
 μ-loop plan rows₀ m k₀ rows k = m - k
@@ -20,7 +17,7 @@ cast-m : tie.Need-cast-m Inv-loop μ-loop
 cast-m c = search needs
 
 loop-holds : tie.Need-loop-holds Inv-loop μ-loop
-loop-holds c = (refl, omega arith, prefix-none 256 [] _ (replicate {A = ℕ} 5 0))
+loop-holds c = (refl, omega arith, filled-none (c .args .t1))
 
 mul-row-of : tie.Need-mul-row-of Inv-loop μ-loop
 mul-row-of c = search needs
@@ -48,7 +45,7 @@ loop-again c =
     let v = c .before .before .before in
     let i = v .loop .inv in
     let m = v .before .pre in
-    (i .0, omega arith, prefix-more 256 [] _ (v .loop .rows) (v .loop .k) _ (i .2) (omega arith) (c .row-of .ensures))
+    (i .0, omega arith, filled-more (v .before .args .t1) (v .loop .rows) (v .loop .k) _ (i .2) (omega arith) (c .row-of .ensures))
 
 returns : tie.Need-returns Inv-loop μ-loop
 returns c =
@@ -56,7 +53,7 @@ returns c =
     let i = v .loop .inv in
     let p = v .before .args .t1 in
     let e : v .loop .k ≡ p .m = omega arith in
-    (i .2 .long, rows-plan p (v .loop .rows) (subst (HoldArcs p (v .loop .rows)) e (i .2)))
+    filled-all p (v .loop .rows) (subst (FilledTo p (v .loop .rows)) e (i .2))
 
 pub rows-of-spec : {M : Type 1} → statement M
 rows-of-spec =

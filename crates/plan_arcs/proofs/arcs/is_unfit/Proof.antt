@@ -1,5 +1,4 @@
 -- `is_unfit` meets its contract: the test that the code makes is that of the definition.
-use borrow.Author.Needs.{needs}
 use Rattle.plan_arcs.proofs.arcs.is_unfit.Statement.{statement}
 use Rattle.plan_arcs.proofs.arcs.is_unfit.Tie as tie
 

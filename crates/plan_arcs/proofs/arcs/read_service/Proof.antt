@@ -2,7 +2,9 @@
 use mathlib.Core.Path.{_∙_}
 use native.Mathlib.Omega.{arith}
 use borrow.Author.Tests.{eq-eqb, ne-eqb}
+use Prim.Native.Nat.{_+_}
 use Rattle.postman.specs.Laws.FileLength.{second-width}
+use Rattle.bits.specs.Laws.Taking.{taken}
 use borrow.Author.Needs.{needs}
 use Rattle.plan_arcs.proofs.arcs.read_service.Statement.{statement}
 use Rattle.plan_arcs.proofs.arcs.read_service.Tie as tie
@@ -11,12 +13,14 @@ add-take-at : tie.Need-add-take-at
 add-take-at c = search needs
 
 take-at-requires : tie.Need-take-at-requires
-take-at-requires c κs =
-    let wide = second-width (c .before .before .args .edition) (eq-eqb _ _ (c .if1 .taken)) in
-    (omega arith, omega (arith, wide), omega arith)
+take-at-requires c κs = search needs
 
 returns : tie.Need-returns
-returns c = simp (eq-eqb _ _ (c .before .if1 .taken)) (c .take-at .ensures .0)
+returns c =
+    let a = c .before .before .before .args in
+    let second = eq-eqb _ _ (c .before .if1 .taken) in
+    let wide = second-width (a .edition) second in
+    simp second (c .take-at .ensures .0 ∙ taken (a .s .now) (a .at + 30) 16 (omega arith, omega (arith, wide), omega arith) .0)
 
 implied-service-requires : tie.Need-implied-service-requires
 implied-service-requires c κs = search needs

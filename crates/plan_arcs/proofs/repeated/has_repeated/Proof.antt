@@ -1,5 +1,5 @@
 -- The invariant: no number before the kth stands before itself. What is found, or not, of the numbers is so of the arcs.
-use mathlib.Core.Path.{_≡_, sym, _∙_}
+use mathlib.Core.Path.{_≡_}
 use Prim.Native.Nat.{ℕ, _-_, _≤_, _<_}
 use native.Mathlib.Omega.{arith}
 use borrow.Author.Count.{below-more}

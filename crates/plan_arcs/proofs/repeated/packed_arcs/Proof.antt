@@ -1,5 +1,4 @@
 -- The invariant: the numbers before the kth are those of the arcs.
-use mathlib.Core.Path.{_≡_}
 use Prim.Native.Nat.{ℕ, _-_, _≤_, _<_}
 use native.Mathlib.Omega.{arith}
 use borrow.Author.Count.{below-more}

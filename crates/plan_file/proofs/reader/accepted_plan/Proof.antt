@@ -1,6 +1,13 @@
 -- `accepted_plan` meets its contract: a file that is not refused has its header, its limits and its length (`accepted-is-file`).
+use mathlib.Core.Path.{_≡_, _∙_}
+use mathlib.Core.List.{List}
+use mathlib.Core.Option.{none}
+use Prim.Native.Nat.{ℕ}
 use native.Mathlib.Omega.{arith}
-use Rattle.postman.specs.PlanFile.{edition, arcCount, vertexCount}
+use Rattle.bits.specs.Taking.{takenField}
+use Rattle.bits.specs.Laws.Taking.{header-taken}
+use Rattle.postman.specs.Refusal.{firstRefusal}
+use Rattle.postman.specs.PlanFile.{edition, arcCount, vertexCount, fileConditions}
 use Rattle.postman.specs.Laws.Acceptance.{accepted-is-file, has-header}
 use Rattle.postman.specs.Laws.FileLength.{bits-fit}
 use Rattle.plan_file.specs.Laws.Reading.{plan-parts}
@@ -9,46 +16,52 @@ use Rattle.plan_file.proofs.reader.accepted_plan.Statement.{statement}
 use Rattle.plan_file.proofs.reader.accepted_plan.Tie as tie
 
 file-edition-requires : tie.Need-file-edition-requires
-file-edition-requires c κs = has-header _ (accepted-is-file (c .before .args .s .now) (c .before .pre))
+file-edition-requires c κs = search needs
 
 take-at-requires : tie.Need-take-at-requires
-take-at-requires c κs =
-    let ok = accepted-is-file (c .before .before .args .s .now) (c .before .before .pre) in
-    (omega arith, omega (arith, has-header _ ok), omega arith)
+take-at-requires c κs = search needs
 
 take-at-requires-2 : tie.Need-take-at-requires-2
-take-at-requires-2 c κs =
-    let ok = accepted-is-file (c .before .before .before .args .s .now) (c .before .before .before .pre) in
-    (omega arith, omega (arith, has-header _ ok), omega arith)
+take-at-requires-2 c κs = search needs
+
+-- n and m are those of the file
+vertices : (s : List ℕ) (x : ℕ) → firstRefusal (fileConditions s) ≡ none → x ≡ takenField s 4 7 → x ≡ vertexCount s
+unfolding vertexCount
+vertices s x e f = f ∙ header-taken s 4 7 (has-header s (accepted-is-file s e)) (omega arith) (omega arith)
+
+arcs : (s : List ℕ) (x : ℕ) → firstRefusal (fileConditions s) ≡ none → x ≡ takenField s 11 9 → x ≡ arcCount s
+unfolding arcCount
+arcs s x e f = f ∙ header-taken s 11 9 (has-header s (accepted-is-file s e)) (omega arith) (omega arith)
 
 cast-read-arcs : tie.Need-cast-read-arcs
 cast-read-arcs c = search needs
 
 read-arcs-requires : tie.Need-read-arcs-requires
-unfolding arcCount
 read-arcs-requires c κs =
-    let s = c .before .before .before .before .args .s .now in
-    let ok = accepted-is-file (c .before .before .before .before .args .s .now) (c .before .before .before .before .pre) in
-    let m = c .take-at2 .ensures .0 in
+    let start = c .before .before .before .before in
+    let s = start .args .s .now in
+    let ok = accepted-is-file s (start .pre) in
+    let m = arcs s (c .take-at2 .result .field) (start .pre) (c .take-at2 .ensures .0) in
     let e = c .before .before .file-edition .ensures in
     (omega (arith, ok .arc-count, m), rw (e, m) (omega (arith, ok .exact, bits-fit (edition s) (arcCount s))))
 
 cast-t8 : tie.Need-cast-t8
-unfolding vertexCount
 cast-t8 c =
-    let ok = accepted-is-file (c .before .before .before .before .before .args .s .now) (c .before .before .before .before .before .pre) in
-    omega (arith, ok .vertices, c .before .before .take-at .ensures .0)
+    let start = c .before .before .before .before .before in
+    let s = start .args .s .now in
+    omega (arith, accepted-is-file s (start .pre) .vertices, vertices s (c .before .before .take-at .result .field) (start .pre) (c .before .before .take-at .ensures .0))
 
 cast-t9 : tie.Need-cast-t9
-unfolding arcCount
 cast-t9 c =
-    let ok = accepted-is-file (c .before .before .before .before .before .args .s .now) (c .before .before .before .before .before .pre) in
-    omega (arith, ok .arc-count, c .before .take-at2 .ensures .0)
+    let start = c .before .before .before .before .before in
+    let s = start .args .s .now in
+    omega (arith, accepted-is-file s (start .pre) .arc-count, arcs s (c .before .take-at2 .result .field) (start .pre) (c .before .take-at2 .ensures .0))
 
 returns : tie.Need-returns
-unfolding vertexCount arcCount
 returns c =
-    plan-parts (c .before .before .before .before .before .args .s .now) _ _ _ _ (c .before .before .before .file-edition .ensures) (c .before .before .take-at .ensures .0) (c .before .take-at2 .ensures .0) (c .read-arcs .ensures)
+    let start = c .before .before .before .before .before in
+    let s = start .args .s .now in
+    plan-parts s _ _ _ _ (c .before .before .before .file-edition .ensures) (vertices s _ (start .pre) (c .before .before .take-at .ensures .0)) (arcs s _ (start .pre) (c .before .take-at2 .ensures .0)) (c .read-arcs .ensures)
 
 pub accepted-plan-spec : {M : Type 1} → statement M
 accepted-plan-spec =

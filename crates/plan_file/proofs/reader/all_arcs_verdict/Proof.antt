@@ -2,12 +2,10 @@
 use mathlib.Core.Path.{sym, ap, _∙_}
 use mathlib.Core.Bool.{cond}
 use mathlib.Core.List.{List}
-use mathlib.Core.Option.{Option, none, some}
-use Prim.Native.Nat.{ℕ}
+use mathlib.Core.Option.{none, some}
 use Rattle.postman.specs.Plan.{Arc}
 use Rattle.postman.specs.PlanFile.{arcOf, hasRepeated}
 use Rattle.refusal.specs.Verdict.{verdictNumber}
-use Rattle.plan.specs.declared.Arc.{Arc as ArcRecord}
 use Rattle.plan_file.specs.Reading.{planFrom}
 use Rattle.plan_arcs.specs.Laws.Arcs.{passed-arcs, refused-arc}
 use Rattle.plan_file.specs.Laws.Records.{arcs-read}

@@ -2,6 +2,8 @@
 use mathlib.Core.Path.{_≡_, _∙_, sym, ap, ap₂}
 use mathlib.Core.Bool.{true, false}
 use Prim.Native.Nat.{ℕ}
+use native.Mathlib.Omega.{arith}
+use Rattle.bits.specs.Laws.Taking.{header-taken}
 use Rattle.postman.specs.BitField.{fieldAt}
 use Rattle.postman.specs.Refusal.{firstRefusal}
 use Rattle.postman.specs.PlanFile.{isOutside, arcOf, bodyConditions}
@@ -22,7 +24,7 @@ returns : tie.Need-returns
 returns c =
     let a = c .before .before .before .before .args in
     let extent : isOutside (fieldAt (a .s .now) 4 7) 1 64 ≡ true =
-    ap (λ (n : ℕ). isOutside n 1 64) (sym (c .before .before .take-at .ensures .0)) ∙ sym (c .before .is-outside .ensures) ∙ c .if1 .taken in
+    ap (λ (n : ℕ). isOutside n 1 64) (sym (c .before .before .take-at .ensures .0 ∙ header-taken (a .s .now) 4 7 (omega arith) (omega arith) (omega arith))) ∙ sym (c .before .is-outside .ensures) ∙ c .if1 .taken in
     rw (extent-refusal (a .s .now) (a .edition)) (simp extent)
 
 take-at-requires-2 : tie.Need-take-at-requires-2
@@ -35,9 +37,9 @@ returns-2 : tie.Need-returns-2
 returns-2 c =
     let a = c .before .before .before .before .before .before .before .args in
     let vertices : isOutside (fieldAt (a .s .now) 4 7) 1 64 ≡ false =
-    ap (λ (n : ℕ). isOutside n 1 64) (sym (c .before .before .before .before .before .take-at .ensures .0)) ∙ sym (c .before .before .before .before .is-outside .ensures) ∙ c .before .before .before .if1 .left in
+    ap (λ (n : ℕ). isOutside n 1 64) (sym (c .before .before .before .before .before .take-at .ensures .0 ∙ header-taken (a .s .now) 4 7 (omega arith) (omega arith) (omega arith))) ∙ sym (c .before .before .before .before .is-outside .ensures) ∙ c .before .before .before .if1 .left in
     let extent : isOutside (fieldAt (a .s .now) 11 9) 1 256 ≡ true =
-    ap (λ (m : ℕ). isOutside m 1 256) (sym (c .before .before .take-at2 .ensures .0)) ∙ sym (c .before .is-outside2 .ensures) ∙ c .if2 .taken in
+    ap (λ (m : ℕ). isOutside m 1 256) (sym (c .before .before .take-at2 .ensures .0 ∙ header-taken (a .s .now) 11 9 (omega arith) (omega arith) (omega arith))) ∙ sym (c .before .is-outside2 .ensures) ∙ c .if2 .taken in
     rw (extent-refusal (a .s .now) (a .edition)) (simp (vertices, extent))
 
 cast-body-verdict : tie.Need-cast-body-verdict
@@ -50,8 +52,8 @@ returns-3 : tie.Need-returns-3
 returns-3 c =
     let a = c .before .before .before .before .before .before .before .before .args in
     let s = a .s .now in
-    let n = c .before .before .before .before .before .before .take-at .ensures .0 in
-    let m = c .before .before .before .take-at2 .ensures .0 in
+    let n = c .before .before .before .before .before .before .take-at .ensures .0 ∙ header-taken s 4 7 (omega arith) (omega arith) (omega arith) in
+    let m = c .before .before .before .take-at2 .ensures .0 ∙ header-taken s 11 9 (omega arith) (omega arith) (omega arith) in
     let vertices : isOutside (fieldAt s 4 7) 1 64 ≡ false =
     ap (λ (n : ℕ). isOutside n 1 64) (sym n) ∙ sym (c .before .before .before .before .before .is-outside .ensures) ∙ c .before .before .before .before .if1 .left in
     let extent : isOutside (fieldAt s 11 9) 1 256 ≡ false =

@@ -1,5 +1,7 @@
 -- `file_edition` meets its contract: a field of four bits fits its type.
+use mathlib.Core.Path.{_∙_}
 use native.Mathlib.Omega.{arith}
+use Rattle.bits.specs.Laws.Taking.{first-taken}
 use Rattle.postman.specs.PlanFile.{edition}
 use Rattle.postman.specs.Laws.BitField.{field-lt}
 use borrow.Author.Needs.{needs}
@@ -10,11 +12,11 @@ take-at-requires : tie.Need-take-at-requires
 take-at-requires c κs = search needs
 
 cast-result : tie.Need-cast-result
-cast-result c = omega (arith, c .take-at .ensures .0, field-lt (c .before .before .args .s .now) 0 4)
+cast-result c = omega (arith, c .take-at .ensures .0 ∙ first-taken (c .before .before .args .s .now), field-lt (c .before .before .args .s .now) 0 4)
 
 returns : tie.Need-returns
 unfolding edition
-returns c = c .take-at .ensures .0
+returns c = c .take-at .ensures .0 ∙ first-taken (c .before .before .args .s .now)
 
 pub file-edition-spec : {M : Type 1} → statement M
 file-edition-spec = tie.close (tie.spec take-at-requires cast-result returns)

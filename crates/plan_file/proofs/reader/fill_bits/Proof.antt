@@ -1,8 +1,10 @@
 -- `fill_bits` meets its contract: the field from the last arc's end to the last byte's end, at most seven bits.
 use mathlib.Core.Path.{_∙_}
+use Prim.Native.Nat.{_*_, _-_}
 use native.Mathlib.Omega.{arith}
 use Rattle.postman.specs.PlanFile.{fileLength, fillBits}
 use Rattle.postman.specs.Laws.FileLength.{bits-limit, fileLength-le}
+use Rattle.bits.specs.Laws.Taking.{taken}
 use borrow.Author.Needs.{needs}
 use Rattle.plan_file.proofs.reader.fill_bits.Statement.{statement}
 use Rattle.plan_file.proofs.reader.fill_bits.Tie as tie
@@ -21,15 +23,20 @@ unfolding fileLength
 sub-take-at c = omega (arith, c .file-length .ensures, c .before .file-bits .ensures)
 
 take-at-requires : tie.Need-take-at-requires
-unfolding fileLength
-take-at-requires c κs =
-    let n = c .file-length .ensures in
-    let b = c .before .file-bits .ensures in
-    (omega (arith, n, b), omega (arith, n, b, c .before .before .before .pre .1), omega (arith, b, bits-limit (c .before .before .before .args .edition) (c .before .before .before .args .m) (c .before .before .before .pre .0) .1))
+take-at-requires c κs = search needs
 
+-- the bits lie within the file
 returns : tie.Need-returns
-unfolding fillBits
-returns c = c .take-at .ensures .0 ∙ rw (c .before .file-length .ensures, c .before .before .file-bits .ensures)
+unfolding fillBits fileLength
+returns c =
+    let start = c .before .before .before .before in
+    let a = start .args in
+    let n = c .before .file-length .ensures in
+    let b = c .before .before .file-bits .ensures in
+    let begin = c .before .before .file-bits .result in
+    let end = 8 * c .before .file-length .result in
+    let within = taken (a .s .now) begin (end - begin) (omega (arith, n, b), omega (arith, n, b, start .pre .1), omega (arith, b, bits-limit (a .edition) (a .m) (start .pre .0) .1)) in
+    c .take-at .ensures .0 ∙ within .0 ∙ rw (n, b)
 
 pub fill-bits-spec : {M : Type 1} → statement M
 fill-bits-spec =

@@ -1,7 +1,6 @@
 -- `is_edition` meets its contract: the tests that the code makes are those of the definition.
 use borrow.Author.Tests.{eq-eqb, ne-eqb}
 use Rattle.postman.specs.PlanFile.{isEdition}
-use borrow.Author.Needs.{needs}
 use Rattle.plan_file.proofs.reader.is_edition.Statement.{statement}
 use Rattle.plan_file.proofs.reader.is_edition.Tie as tie
 

@@ -1,6 +1,5 @@
 -- `read_plan` meets its contract: the verdict is the file's, and the edition and the plan go by it.
 use mathlib.Core.Path.{refl, _∙_, sym, ap}
-use Rattle.postman.specs.Laws.Acceptance.{accepted-is-file, has-header}
 use Rattle.plan_file.specs.Reading.{editionUnless, planUnless}
 use Rattle.refusal.specs.Verdict.{verdictNumber}
 use borrow.Author.Needs.{needs}
@@ -14,7 +13,7 @@ enum-told : tie.Need-enum-told
 enum-told c = search needs
 
 file-edition-requires : tie.Need-file-edition-requires
-file-edition-requires c κs = has-header _ (accepted-is-file _ (sym (c .before .before .file-verdict .ensures) ∙ ap verdictNumber (c .enum-told .given .1)))
+file-edition-requires c κs = search needs
 
 accepted-plan-requires : tie.Need-accepted-plan-requires
 accepted-plan-requires c κs = sym (c .before .before .before .file-verdict .ensures) ∙ ap verdictNumber (c .before .enum-told .given .1)

@@ -1,7 +1,7 @@
 -- `store_arcs` meets its contract: a walk of its MIR, by hand. The borrow of the list is opened once, before the loop, and closed once, after it; a turn calls `file_arc`, of
 -- which the proof knows only the contract, takes one record out of the row and stores to it. The loop ends since fewer records are left after each turn.
-use mathlib.Core.Path.{_≡_, refl, sym, ap, subst}
-use Prim.Native.Nat.{ℕ, suc, _+_, _-_, _*_, _<_, _≤_, _^_}
+use mathlib.Core.Path.{_≡_, refl, sym, ap, _∙_, subst}
+use Prim.Native.Nat.{ℕ, suc, _+_, _-_, _*_, _<_, _^_}
 use native.Mathlib.Numerals.{add-one}
 use native.Mathlib.Omega.{arith}
 use mathlib.Core.Bool.{Bool}
@@ -45,13 +45,15 @@ use denote.Triple.Spec.{Meets, tripleOf}
 use denote.Triple.Table.{entered, cited}
 use denote.Triple.Walked.{says, needs, Stays, stay-slice, stay-none, stay-none-slice, walkOf, goes-slice, goes-none, goes-none-slice, Walks, ends-at, walked, walk-meets}
 use denote.Exit.{yes}
-use Rattle.postman.specs.PlanFile.{edition, arcOf, arcWidth, fileBits}
+use Rattle.postman.specs.PlanFile.{edition, arcOf}
 use Rattle.postman.specs.Laws.FileLength.{bits-within}
 use Rattle.plan.specs.declared.Arc.{Arc}
 use Rattle.plan.specs.Records.{recordOf, zeroRecord}
 use Rattle.plan.proofs.Arc as T
 use Rattle.plan.proofs.Arc.Laws as T′
 use Rattle.records.specs.Reading.{Room as RoomFor}
+use Rattle.plan_file.specs.Reading.{recordIn}
+use Rattle.plan_file.specs.Laws.Room.{record-in}
 use Rattle.records.specs.Stored.{storedTo}
 use Rattle.records.specs.Laws.Stored.{length-stored}
 use Rattle.records.proofs.Counts.{counts}
@@ -150,20 +152,18 @@ module _ {M : Type 1} (𝓤 : URA M) (H : Heap 𝓤) (A : Atoms 𝓤) (W : Given
       nothing ! $ owned ! usize (Is usize) (uint-makes 𝓤 H A W w64) k _ (refl, k-fits) $ fjoin ! $ move ! (1 ∷ 0 ∷ []) $ fjoin ! $
       -- [what the callee's parameters own; what the file owns; the token]
       nothing ! $ move ! (3 ∷ 0 ∷ []) $ join ! $ move ! (0 ∷ 1 ∷ []) $
-      use2 W (raw (FileArc 𝓤 H A mem run .pre (to k))) (qed W ((‵ (flft κ q) ⊛ ‵ ftrue) ∷ ‵ (owns (ShrSlice (named 0) κ u8 ∷ usize ∷ []) (bytes, (k, tt)) (v ∷ [], (vint w64 k ∷ [], tt))) ∷ []) ∵ says ! inside $ frame ! $ done !) $ frame ! $ done !
+      use2 W (raw (FileArc 𝓤 H A mem run .pre (to k))) (qed W ((‵ (flft κ q) ⊛ ‵ ftrue) ∷ ‵ (owns (ShrSlice (named 0) κ u8 ∷ usize ∷ []) (bytes, (k, tt)) (v ∷ [], (vint w64 k ∷ [], tt))) ∷ []) ∵ join ! $ frame ! $ done !) $ frame ! $ done !
     where
       k-fits : k < 2 ^ 64
       k-fits = omega (arith, small, m-fits)
 
-      inside : (k < 256) × (3 ≤ length (now bytes)) × (fileBits (edition (now bytes)) k + arcWidth (edition (now bytes)) ≤ 8 * length (now bytes))
-      inside = (
-        omega (arith, small, within .0),
-        within .1 (omega (arith, small)),
-        omega (arith, within .2 (omega (arith, small)), bits-within (edition (now bytes)) k m small),
-      )
+  said : (k : ℕ) (r : Arc) → ent 𝓤 (ensured 𝓤 H A callee.ended (callee.clauses 𝓤 H A mem run) (κ, tt) (bytes, (k, tt)) tt r) (fact 𝓤 (r ≡ recordIn (now bytes) k))
+  said k r = exE 𝓤 _ (λ ws. snd∗ 𝓤 (sem 𝓤 H A (lasts callee.ended (κ, tt) (bytes, (k, tt)) ws)) (fact 𝓤 (r ≡ recordIn (now bytes) k)))
 
-  said : (k : ℕ) (r : Arc) → ent 𝓤 (ensured 𝓤 H A callee.ended (callee.clauses 𝓤 H A mem run) (κ, tt) (bytes, (k, tt)) tt r) (fact 𝓤 (r ≡ new k))
-  said k r = exE 𝓤 _ (λ ws. snd∗ 𝓤 (sem 𝓤 H A (lasts callee.ended (κ, tt) (bytes, (k, tt)) ws)) (fact 𝓤 (r ≡ new k)))
+  -- the file has room for it
+  is-new : (k : ℕ) → k < m → recordIn (now bytes) k ≡ new k
+  is-new k small =
+      record-in (now bytes) k (omega (arith, small, within .0)) (omega (arith, within .1 (omega (arith, small)), bits-within (edition (now bytes)) k m small))
 
   module _ (𝓣 : Tables 𝓤 H) (known : Triple 𝓤 (𝓣 .C #file-arc) (FileArc 𝓤 H A mem run)) (l₀ l₁ l₂ l₃ l₄ l₅ l₆ l₇ l₈ : ℕ) where
     abbrev C : Calls 𝓤 H
@@ -205,8 +205,8 @@ module _ {M : Type 1} (𝓤 : URA M) (H : Heap 𝓤) (A : Atoms 𝓤) (W : Given
         move ! (13 ∷ 14 ∷ []) $ use2 W (raw (FileArc 𝓤 H A mem run .pre (to k)) ⊛ ‵ Own) (goes k small) $ split ! $
         calls-at ! (fmOf 𝓤 H (W .laws) 𝓣) (FileArc 𝓤 H A mem run) known (to k) (and-then ! (load ! (from ! (stop !)) (look ! 8 refl)) (and-then ! (load ! (from ! (stop !)) (look ! 3 refl)) (no-more !))) (λ u.
         use1 W (later (some (λ (r : Arc). ((‵ (flft κ q) ⊛ ‵ ftrue) ⊛ ‵ (T.the-row .own r (u ∷ []))) ⊛ raw (ensured 𝓤 H A callee.ended (callee.clauses 𝓤 H A mem run) (κ, tt) (bytes, (k, tt)) tt r)))) (id⊢ 𝓤 _) $ await ! tt $ pick ! (λ r.
-        split ! $ move ! (1 ∷ []) $ use1 W (raw (fact 𝓤 (r ≡ new k))) (said k r) $ heard ! (r ≡ new k) (λ e. split ! $
-        rewrite ! 1 (λ (h : Arc). ‵ (T.the-row .own h (u ∷ []))) e refl $ move ! (1 ∷ []) $
+        split ! $ move ! (1 ∷ []) $ use1 W (raw (fact 𝓤 (r ≡ recordIn (now bytes) k))) (said k r) $ heard ! (r ≡ recordIn (now bytes) k) (λ e. split ! $
+        rewrite ! 1 (λ (h : Arc). ‵ (T.the-row .own h (u ∷ []))) (e ∙ is-new k small) refl $ move ! (1 ∷ []) $
         peeks ! T.the-row (Is T.the-row) (shows 𝓤 H A T.the-row) (new k) (u ∷ []) (λ is.
         -- [what the record owns; the token; what the file owns; the row; _4; _5; room for _6; _7; _8; _1; _2; _3; …]
         land ! (from ! (stop !)) (init ! 6 refl (arc-typed 𝓤 H A W (new k) u is)) $
@@ -224,10 +224,10 @@ module _ {M : Type 1} (𝓤 : URA M) (H : Heap 𝓤) (A : Atoms 𝓤) (W : Given
         keep ! (2 ∷ 4 ∷ 5 ∷ 6 ∷ 7 ∷ 8 ∷ 9 ∷ 10 ∷ 11 ∷ 12 ∷ 13 ∷ 14 ∷ 15 ∷ 0 ∷ 3 ∷ 16 ∷ 17 ∷ 18 ∷ 19 ∷ 20 ∷ 21 ∷ 22 ∷ 23 ∷ 24 ∷ []) $ by ! next)))))
       where
         inside : k < length (at k)
-        inside = omega (arith, long k, small, within .3)
+        inside = omega (arith, long k, small, within .2)
 
         eight : k * 8 < 2 ^ 64
-        eight = omega (arith, room .1, small, within .3)
+        eight = omega (arith, room .1, small, within .2)
 
         next-fits : k + 1 < 2 ^ 64
         next-fits = omega (arith, small, m-fits)

@@ -1,9 +1,10 @@
 -- The first x entries are the same.
-use mathlib.Core.Path.{_≡_, refl}
+use mathlib.Core.Path.{_≡_}
 use Prim.Native.Nat.{ℕ, _-_, _≤_, _<_}
 use native.Mathlib.Omega.{arith}
 use borrow.Author.Count.{below-more}
 use lib.ListN.{getD}
+use Rattle.shortest.specs.Laws.Columns.{all-same, one-differs}
 use borrow.Author.Needs.{needs}
 use Rattle.shortest.proofs.columns.same_all.Statement.{statement}
 use Rattle.shortest.proofs.columns.same_all.Tie as tie
@@ -31,7 +32,9 @@ element-copy-out-if1-2 c = search needs
 
 returns : tie.Need-returns Inv-loop μ-loop
 returns c =
-    λ e j l. absurd (let z : _≡_ {A = ℕ} 0 1 = cc in omega arith)
+    let v = c .before .before .before .before in
+    let a = v .before .args in
+    one-differs (a .a .now) (a .b .now) (v .loop .x) (omega arith) (c .if1 .taken)
 
 add-x : tie.Need-add-x Inv-loop μ-loop
 add-x c = search needs
@@ -45,8 +48,7 @@ loop-again c =
     (omega arith, below-more _ (v .x) (v .inv .1) (c .if1 .left))
 
 returns-2 : tie.Need-returns-2 Inv-loop μ-loop
-returns-2 c =
-    λ e j l. c .before .loop .inv .1 j (omega arith)
+returns-2 c = let a = c .before .before .args in all-same (a .a .now) (a .b .now) (λ j l. c .before .loop .inv .1 j (omega arith))
 
 pub same-all-spec : {M : Type 1} → statement M
 same-all-spec =

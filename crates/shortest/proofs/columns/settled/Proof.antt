@@ -1,5 +1,5 @@
 -- The invariant: k − 1 rounds are done, for every source. A round that changes nothing ends the loop, and so does round n − 1.
-use mathlib.Core.Path.{_≡_, refl, subst⁻¹}
+use mathlib.Core.Path.{_≡_, refl, sym, _∙_, subst⁻¹}
 use mathlib.Core.List.{List}
 use Prim.Native.Nat.{ℕ, _-_, _≤_, _<_}
 use native.Mathlib.Omega.{arith}
@@ -44,7 +44,7 @@ returns c =
     let v = c .before .before .before .before .before .before .before in
     let s = v .before .before in
     λ i l. settled-row (weighted (planValue (s .args .plan))) (is-weighted (planValue (s .args .plan)) (s .pre)) i (v .loop .k - 1) (rowFrom (v .loop .c) i) _ (v .loop .inv .4 i l) (c .before .before .before .before .round-all .ensures .1 i l)
-    (same-entries _ (v .loop .c) (c .before .same-all .ensures (c .if1 .taken)) i l)
+    (same-entries _ (v .loop .c) (sym (c .before .same-all .ensures) ∙ c .if1 .taken) i l)
 
 add-k : tie.Need-add-k Inv-loop μ-loop
 add-k c = search needs
