@@ -47,3 +47,4 @@ pub mod Roads
 pub mod Marks
 pub mod Copy
 pub mod FirstNumber
+pub mod Renumbering
