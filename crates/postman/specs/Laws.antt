@@ -48,3 +48,5 @@ pub mod Marks
 pub mod Copy
 pub mod FirstNumber
 pub mod Renumbering
+pub mod RenumberedTour
+pub mod RenumberedDistance
