@@ -50,3 +50,4 @@ pub mod FirstNumber
 pub mod Renumbering
 pub mod RenumberedTour
 pub mod RenumberedDistance
+pub mod RenumberedComponents
