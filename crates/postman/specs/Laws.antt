@@ -51,3 +51,4 @@ pub mod Renumbering
 pub mod RenumberedTour
 pub mod RenumberedDistance
 pub mod RenumberedComponents
+pub mod RenumberedBalancing
