@@ -52,3 +52,4 @@ pub mod RenumberedTour
 pub mod RenumberedDistance
 pub mod RenumberedComponents
 pub mod RenumberedBalancing
+pub mod RenumberedMultipliers
