@@ -53,3 +53,4 @@ pub mod RenumberedDistance
 pub mod RenumberedComponents
 pub mod RenumberedBalancing
 pub mod RenumberedMultipliers
+pub mod RenumberedDrive

@@ -1,11 +1,18 @@
 -- The plan renumbered: its vertices get other numbers, and everything else stays. Trees are tried in an order that goes by the vertices' numbers, so the same plan call looks elsewhere.
 use mathlib.Core.Path.{_≡_}
-use mathlib.Core.List.{List, map}
+use mathlib.Core.List.{List, map, List·Memᴰ}
 use Prim.Native.Nat.{ℕ, _≤_, _<_}
-use lib.ListN.{getD}
-use Rattle.postman.specs.Plan.{Arc, Plan}
+use lib.ListN.{length, getD, take}
+use Rattle.postman.specs.Plan.{Arc, Plan, requiredNumbers}
+use Rattle.postman.specs.Tour.{tourCost, IsTour}
+use Rattle.postman.specs.Required.{required}
+use Rattle.postman.specs.Distance.{distance}
 use Rattle.postman.specs.Link.{Link}
+use Rattle.postman.specs.Arborescence.{arborescences}
+use Rattle.postman.specs.Balancing.{imbalance, IsBalancing, balancingCost, leastBalancing, completionCost}
+use Rattle.postman.specs.Description.{IsLaid}
 use Rattle.postman.specs.LagrangianBound.{Multipliers}
+use Rattle.postman.specs.PlanCall.{sheetPlaces, triedCount, bestCost}
 
 -- A numbering of the vertices 0 to n − 1: π gives each vertex its new number, one of 0 to n − 1, and σ each new number its vertex. Both leave every other number alone.
 pub record IsNumbering (n : ℕ) (π σ : ℕ → ℕ) : Type 0 where
@@ -34,3 +41,19 @@ renumberedTree π t = map (renumberedLink π) t
 
 abbrev pub carried : (ℕ → ℕ) → Multipliers → Multipliers
 carried π u v = u (π v)
+
+-- The drive that the plan call lays for the plan renumbered, told of the plan itself, as `IsAnswerTour` tells of the plan call's: a tour of the plan, at the cost of the plan renumbered, with tree and amounts
+-- between the plan's own vertices. Its tree has its place among those tried of the plan renumbered: which pairs are links, and which part is part 0, goes by the numbers, so of the plan itself it may be none.
+pub record IsRenumberedTour (p : Plan) (π : ℕ → ℕ) (budget : ℕ) (w : List ℕ) : Type 0 where
+  pub tour : IsTour p w
+  pub costs : tourCost p w ≡ bestCost (renumbered p π) budget
+  pub nonempty : 0 < length w
+  pub first : getD w 0 0 ≡ getD (requiredNumbers p) 0 0
+  pub short : length w ≤ sheetPlaces
+  pub tree : List Link
+  pub tried : List·Memᴰ (renumberedTree π tree) (take (triedCount (renumbered p π) budget) (arborescences (renumbered p π)))
+  pub least : completionCost p tree ≡ bestCost (renumbered p π) budget
+  pub amounts : ℕ → ℕ → ℕ
+  pub balances : IsBalancing (required p) (imbalance p tree) amounts
+  pub balances-least : balancingCost (required p) (distance p) amounts ≡ leastBalancing p tree
+  pub laid : IsLaid p tree amounts w
