@@ -1,14 +1,14 @@
 -- The heads and tails of the plan renumbered are the new numbers of those of the plan, so each new number has its vertex's imbalance, and heads are sent to tails at the same least cost. Amounts between new numbers
 -- balance the plan as amounts between their vertices, since a sum over the required vertices of one plan is one over those of the other: each is there once.
-use mathlib.Core.Path.{_≡_, refl, sym, ap, ap₂, _∙_, fun-ext}
+use mathlib.Core.Path.{_≡_, refl, sym, ap, ap₂, _∙_}
 use mathlib.Core.Bool.{cond}
 use mathlib.Core.List.{List, [], _∷_, _++_, map, List·Memᴰ}
 use Prim.Native.Nat.{ℕ, _+_, _*_}
 use native.Mathlib.Nat.{mul-one}
-use lib.IntN.{ℤ, pos, _-ℤ_}
+use lib.IntN.{pos, _-ℤ_}
 use Rattle.postman.specs.Lists.{sumOf, minimum, delta, occurrences, picks}
 use Rattle.postman.specs.Plan.{Arc, Plan, requiredArcs}
-use Rattle.postman.specs.Required.{required, requiredCost}
+use Rattle.postman.specs.Required.{required}
 use Rattle.postman.specs.Distance.{distance}
 use Rattle.postman.specs.Link.{Link}
 use Rattle.postman.specs.Balancing.{heads, tails, imbalance, sumOver, IsBalancing, balancingCost, assignment, leastBalancing, linkCost, completionCost}

@@ -1,15 +1,14 @@
 -- A drive that is laid for the plan renumbered is laid for the plan, from the same legs between the vertices that had the new numbers: must arcs and paths are lists of arc numbers, which are the same, and a path of fewest arcs
 -- stays one. So tree and amounts are carried back with it.
 use mathlib.Core.Path.{_≡_, refl, sym, ap, ap₂, _∙_, subst, subst⁻¹}
-use mathlib.Core.Bool.{Bool, _&&_}
+use mathlib.Core.Bool.{_&&_}
 use mathlib.Core.List.{List, [], _∷_, map, flatMap, List·Memᴰ}
 use Prim.Native.Nat.{ℕ}
 use lib.ListN.{length, getD, take, length-map}
 use lib.Dec.{eqb}
 use Rattle.postman.specs.Lists.{select, occurrences}
-use Rattle.postman.specs.Plan.{Plan, requiredNumbers}
+use Rattle.postman.specs.Plan.{Plan}
 use Rattle.postman.specs.Required.{required}
-use Rattle.postman.specs.Distance.{distance}
 use Rattle.postman.specs.Link.{Link, joins}
 use Rattle.postman.specs.Arborescence.{arborescences}
 use Rattle.postman.specs.Balancing.{imbalance, IsBalancing, leastBalancing, completionCost}
@@ -17,9 +16,9 @@ use Rattle.postman.specs.Description.{Leg, mustArc, forLink, forUnit, pl
 use Rattle.postman.specs.PlanCall.{triedCount, IsAnswerTour}
 use Rattle.postman.specs.Renumbering.{IsNumbering, renumbered, renumberedLink, renumberedTree, IsRenumberedTour}
 use Rattle.postman.specs.Laws.Membership.{mem-map}
-use Rattle.postman.specs.Laws.Lists.{map-map, map-cong, flatMap-map, flatMap-cong, map-flatMap, select-map}
+use Rattle.postman.specs.Laws.Lists.{flatMap-map, flatMap-cong, map-flatMap, select-map}
 use Rattle.postman.specs.Laws.FewestPath.{fewest-once}
-use Rattle.postman.specs.Laws.Renumbering.{eqb-number, inverse, renumbered-numbers}
+use Rattle.postman.specs.Laws.Renumbering.{eqb-number, renumbered-numbers}
 use Rattle.postman.specs.Laws.RenumberedTour.{tours, tour-cost, fewest-back}
 use Rattle.postman.specs.Laws.RenumberedComponents.{requireds}
 use Rattle.postman.specs.Laws.RenumberedBalancing.{balancing-renumbered, completion-renumbered, amounts-back, amounts-cost}
