@@ -1,5 +1,6 @@
--- A vertex is required exactly when its new number is, and two are in one component exactly when their new numbers are. So the components are as many: the new number of each component's lowest vertex is in
--- a component of its own, which are at least as many then, and the same holds on the way back. And whatever of 10, 11 and 12 applies to one plan applies to the other.
+-- A vertex is required exactly when its new number is, and two are in one component exactly when their new numbers are. So the components
+-- are as many: the new number of each component's lowest vertex is in a component of its own, which are at least as many then, and the same
+-- holds on the way back. And whatever of 10, 11 and 12 applies to one plan applies to the other.
 use mathlib.Core.Path.{_≡_, refl, sym, ap, ap₂, _∙_, subst, subst⁻¹, fun-ext}
 use mathlib.Core.Logic.{_↔_}
 use mathlib.Core.Bool.{Bool, not, _||_}
@@ -66,7 +67,8 @@ module _ (p : Plan) {π σ : ℕ → ℕ} (h : IsNumbering (p .n) π σ) where
 both-renumbered : (π : ℕ → ℕ) (arcs : List Arc) → bothWays (map (renumberedArc π) arcs) ≡ map (renumberedArc π) (bothWays arcs)
 unfolding bothWays
 both-renumbered π [] = refl
-both-renumbered π (a ∷ arcs) = ap (λ (l : List Arc). flat (π (a .tail)) (π (a .head)) ∷ flat (π (a .head)) (π (a .tail)) ∷ l) (both-renumbered π arcs)
+both-renumbered π (a ∷ arcs) =
+    ap (λ (l : List Arc). flat (π (a .tail)) (π (a .head)) ∷ flat (π (a .head)) (π (a .tail)) ∷ l) (both-renumbered π arcs)
 
 module _ (p : Plan) (ok : WellFormed p) {π σ : ℕ → ℕ} (h : IsNumbering (p .n) π σ) where
   abbrev other : Plan
@@ -82,13 +84,16 @@ module _ (p : Plan) (ok : WellFormed p) {π σ : ℕ → ℕ} (h : IsNumbering (
   undirected-renumbered = ap bothWays (renumbered-required p π) ∙ both-renumbered π (requiredArcs p)
 
   leads-back : (u v : ℕ) → Leads (undirected other other-ends) (π u) (π v) → Leads (undirected p ends) u v
-  leads-back u v w = let r = subst (λ (arcs : List Arc). Leads arcs (π u) (π v)) undirected-renumbered w in (r .0, walks (undirected p ends) π h u v (r .0) .0 (r .1))
+  leads-back u v w =
+      let r = subst (λ (arcs : List Arc). Leads arcs (π u) (π v)) undirected-renumbered w in (r .0, walks (undirected p ends) π h u v (r .0) .0 (r .1))
 
   leads-into : (u v : ℕ) → Leads (undirected p ends) u v → Leads (undirected other other-ends) (π u) (π v)
-  leads-into u v w = subst⁻¹ (λ (arcs : List Arc). Leads arcs (π u) (π v)) undirected-renumbered (w .0, walks (undirected p ends) π h u v (w .0) .1 (w .1))
+  leads-into u v w =
+      subst⁻¹ (λ (arcs : List Arc). Leads arcs (π u) (π v)) undirected-renumbered (w .0, walks (undirected p ends) π h u v (w .0) .1 (w .1))
 
   -- in one component of one plan exactly when in one of the other
-  pub components : {u v : ℕ} → List·Memᴰ u (required p) → List·Memᴰ v (required p) → (component other (π u) ≡ component other (π v)) ↔ (component p u ≡ component p v)
+  pub components : {u v : ℕ} → List·Memᴰ u (required p) → List·Memᴰ v (required p)
+      → (component other (π u) ≡ component other (π v)) ↔ (component p u ≡ component p v)
   components {u} {v} m n =
       let mu = requireds p h u .1 m in
       let mv = requireds p h v .1 n in
@@ -104,7 +109,8 @@ module _ (p : Plan) (ok : WellFormed p) {π σ : ℕ → ℕ} (h : IsNumbering (
       omega arith
 
 -- k
-pub count-renumbered : (p : Plan) → WellFormed p → {π σ : ℕ → ℕ} → IsNumbering (p .n) π σ → componentCount (renumbered p π) ≡ componentCount p
+pub count-renumbered : (p : Plan) → WellFormed p → {π σ : ℕ → ℕ} → IsNumbering (p .n) π σ
+    → componentCount (renumbered p π) ≡ componentCount p
 count-renumbered p ok {π} {σ} h =
     let a = count-le p ok h in
     let b = count-le (renumbered p π) (renumbered-well-formed p h ok) (inverse h) in

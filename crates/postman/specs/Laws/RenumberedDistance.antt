@@ -1,5 +1,6 @@
--- The distance between the new numbers of two vertices is that between the vertices. By induction on the arcs allowed: those that leave a vertex's new number are those that leave the vertex, renumbered.
--- For numbers that are no vertices too, so that whole tables of distances are renumbered.
+-- The distance between the new numbers of two vertices is that between the vertices. By induction on the arcs allowed: those that leave a
+-- vertex's new number are those that leave the vertex, renumbered. For numbers that are no vertices too, so that whole tables of distances
+-- are renumbered.
 use mathlib.Core.Path.{_≡_, sym, ap, ap₂, _∙_, fun-ext}
 use mathlib.Core.Bool.{cond, _&&_}
 use mathlib.Core.List.{List, [], map}

@@ -1,5 +1,6 @@
--- Multipliers of the plan renumbered, carried back, are multipliers of the plan: reduced costs are the same, and so is the sum of u(i) × D(i), which is u's sum over the heads less that over the tails. So a
--- lower bound of the plan renumbered is one of the plan: it has the same tours, at the same costs, and the same R and Z.
+-- Multipliers of the plan renumbered, carried back, are multipliers of the plan: reduced costs are the same, and so is the sum of u(i) ×
+-- D(i), which is u's sum over the heads less that over the tails. So a lower bound of the plan renumbered is one of the plan: it has the
+-- same tours, at the same costs, and the same R and Z.
 use mathlib.Core.Path.{_≡_, sym, ap, ap₂, _∙_, subst, fun-ext}
 use mathlib.Core.List.{List, [], map}
 use Prim.Native.Nat.{ℕ, _+_, _≤_}
