@@ -1,4 +1,5 @@
--- The plan renumbered: its vertices get other numbers, and everything else stays. Trees are tried in an order that goes by the vertices' numbers, so the same plan call looks elsewhere.
+-- The plan renumbered: its vertices get other numbers, and everything else stays. Trees are tried in an order that goes by the vertices'
+-- numbers, so the same plan call looks elsewhere.
 use mathlib.Core.Path.{_≡_}
 use mathlib.Core.List.{List, map, List·Memᴰ}
 use Prim.Native.Nat.{ℕ, _≤_, _<_}
@@ -14,7 +15,8 @@ use Rattle.postman.specs.Description.{IsLaid}
 use Rattle.postman.specs.LagrangianBound.{Multipliers}
 use Rattle.postman.specs.PlanCall.{sheetPlaces, triedCount, bestCost}
 
--- A numbering of the vertices 0 to n − 1: π gives each vertex its new number, one of 0 to n − 1, and σ each new number its vertex. Both leave every other number alone.
+-- A numbering of the vertices 0 to n − 1: π gives each vertex its new number, one of 0 to n − 1, and σ each new number its vertex. Both
+-- leave every other number alone.
 pub record IsNumbering (n : ℕ) (π σ : ℕ → ℕ) : Type 0 where
   pub inside : (v : ℕ) → v < n → π v < n
   pub outside : (v : ℕ) → n ≤ v → π v ≡ v
@@ -32,7 +34,8 @@ renumberedArc π a = record { tail = π (a .tail); head = π (a .head); standing
 abbrev pub renumbered : Plan → (ℕ → ℕ) → Plan
 renumbered p π = record { n = p .n; arcs = map (renumberedArc π) (p .arcs) }
 
--- The links of a tree, and multipliers: what u gives to the new number of a vertex. With π they are carried back from the renumbered plan, and with σ into it.
+-- The links of a tree, renumbered. And multipliers: what u gives to the new number of a vertex, so that those of the plan renumbered are
+-- carried back by π, and others into it by σ.
 abbrev pub renumberedLink : (ℕ → ℕ) → Link → Link
 renumberedLink π l = record { tail = π (l .tail); head = π (l .head) }
 
@@ -42,8 +45,9 @@ renumberedTree π t = map (renumberedLink π) t
 abbrev pub carried : (ℕ → ℕ) → Multipliers → Multipliers
 carried π u v = u (π v)
 
--- The drive that the plan call lays for the plan renumbered, told of the plan itself, as `IsAnswerTour` tells of the plan call's: a tour of the plan, at the cost of the plan renumbered, with tree and amounts
--- between the plan's own vertices. Its tree has its place among those tried of the plan renumbered: which pairs are links, and which part is part 0, goes by the numbers, so of the plan itself it may be none.
+-- The drive that the plan call lays for the plan renumbered, told of the plan itself, as `IsAnswerTour` tells of the plan call's: a tour of
+-- the plan, at the cost of the plan renumbered, with tree and amounts between the plan's own vertices. Its tree has its place among those
+-- tried of the plan renumbered: which pairs are links, and which part is part 0, goes by the numbers, so of the plan itself it may be none.
 pub record IsRenumberedTour (p : Plan) (π : ℕ → ℕ) (budget : ℕ) (w : List ℕ) : Type 0 where
   pub tour : IsTour p w
   pub costs : tourCost p w ≡ bestCost (renumbered p π) budget

@@ -1,14 +1,15 @@
--- The heads and tails of the plan renumbered are the new numbers of those of the plan, so each new number has its vertex's imbalance, and heads are sent to tails at the same least cost. Amounts between new numbers
--- balance the plan as amounts between their vertices, since a sum over the required vertices of one plan is one over those of the other: each is there once.
-use mathlib.Core.Path.{_≡_, refl, sym, ap, ap₂, _∙_, fun-ext}
+-- The heads and tails of the plan renumbered are the new numbers of those of the plan, so each new number has its vertex's imbalance, and
+-- heads are sent to tails at the same least cost. Amounts between new numbers balance the plan as amounts between their vertices, since a
+-- sum over the required vertices of one plan is one over those of the other: each is there once.
+use mathlib.Core.Path.{_≡_, refl, sym, ap, ap₂, _∙_}
 use mathlib.Core.Bool.{cond}
 use mathlib.Core.List.{List, [], _∷_, _++_, map, List·Memᴰ}
 use Prim.Native.Nat.{ℕ, _+_, _*_}
 use native.Mathlib.Nat.{mul-one}
-use lib.IntN.{ℤ, pos, _-ℤ_}
+use lib.IntN.{pos, _-ℤ_}
 use Rattle.postman.specs.Lists.{sumOf, minimum, delta, occurrences, picks}
 use Rattle.postman.specs.Plan.{Arc, Plan, requiredArcs}
-use Rattle.postman.specs.Required.{required, requiredCost}
+use Rattle.postman.specs.Required.{required}
 use Rattle.postman.specs.Distance.{distance}
 use Rattle.postman.specs.Link.{Link}
 use Rattle.postman.specs.Balancing.{heads, tails, imbalance, sumOver, IsBalancing, balancingCost, assignment, leastBalancing, linkCost, completionCost}
@@ -24,7 +25,8 @@ use Rattle.postman.specs.Laws.RenumberedComponents.{requireds, required-
 -- ---- the ends of required arcs and links
 
 module _ (p : Plan) (π : ℕ → ℕ) (t : List Link) where
-  ends-renumbered : (f : Arc → ℕ) (g : Link → ℕ) → ((a : Arc) → f (renumberedArc π a) ≡ π (f a)) → ((l : Link) → g (renumberedLink π l) ≡ π (g l))
+  ends-renumbered : (f : Arc → ℕ) (g : Link → ℕ) → ((a : Arc) → f (renumberedArc π a) ≡ π (f a))
+      → ((l : Link) → g (renumberedLink π l) ≡ π (g l))
       → map f (requiredArcs (renumbered p π)) ++ map g (renumberedTree π t) ≡ map π (map f (requiredArcs p) ++ map g t)
   ends-renumbered f g a b =
       ap₂ _++_
@@ -106,7 +108,9 @@ module _ (p : Plan) {π σ : ℕ → ℕ} (h : IsNumbering (p .n) π σ) where
       ∙ sum-occurrences w (required q) (map π (required p)) there ∙ over (required p)
     where
       single : (i : ℕ) → List·Memᴰ i (required q) → occurrences i (map π (required p)) ≡ 1
-      single i m = ap (λ z. occurrences z (map π (required p))) (sym (h .forth i)) ∙ occurrences-renumbered h (σ i) (required p) ∙ once (required-once p) (required-of p h m)
+      single i m =
+          ap (λ z. occurrences z (map π (required p))) (sym (h .forth i)) ∙ occurrences-renumbered h (σ i) (required p)
+          ∙ once (required-once p) (required-of p h m)
 
       there : (i : ℕ) → List·Memᴰ i (map π (required p)) → occurrences i (required q) ≡ 1
       there i m =
@@ -118,10 +122,12 @@ module _ (p : Plan) {π σ : ℕ → ℕ} (h : IsNumbering (p .n) π σ) where
       over (v ∷ vs) = ap (λ x. w (π v) + x) (over vs)
 
   module _ (f : ℕ → ℕ → ℕ) where
-    pub amounts-back : (t : List Link) → IsBalancing (required q) (imbalance q (renumberedTree π t)) f → IsBalancing (required p) (imbalance p t) (λ i j. f (π i) (π j))
+    pub amounts-back : (t : List Link) → IsBalancing (required q) (imbalance q (renumberedTree π t)) f
+        → IsBalancing (required p) (imbalance p t) (λ i j. f (π i) (π j))
     unfolding IsBalancing
     amounts-back t b i m =
-        ap₂ (λ (x y : ℕ). pos x -ℤ pos y) (sym (sum-renumbered (λ j. f (π i) j))) (sym (sum-renumbered (λ j. f j (π i)))) ∙ b (π i) (requireds p h i .1 m) ∙ imbalance-renumbered t i
+        ap₂ (λ (x y : ℕ). pos x -ℤ pos y) (sym (sum-renumbered (λ j. f (π i) j))) (sym (sum-renumbered (λ j. f j (π i))))
+        ∙ b (π i) (requireds p h i .1 m) ∙ imbalance-renumbered t i
 
     pub amounts-cost : balancingCost (required q) (distance q) f ≡ balancingCost (required p) (distance p) (λ i j. f (π i) (π j))
     unfolding balancingCost

@@ -1,12 +1,13 @@
--- A vertex is required exactly when its new number is, and two are in one component exactly when their new numbers are. So the components are as many: the new number of each component's lowest vertex is in
--- a component of its own, which are at least as many then, and the same holds on the way back. And whatever of 10, 11 and 12 applies to one plan applies to the other.
+-- A vertex is required exactly when its new number is, and two are in one component exactly when their new numbers are. So the components
+-- are as many: the new number of each component's lowest vertex is in a component of its own, which are at least as many then, and the same
+-- holds on the way back. And whatever of 10, 11 and 12 applies to one plan applies to the other.
 use mathlib.Core.Path.{_≡_, refl, sym, ap, ap₂, _∙_, subst, subst⁻¹, fun-ext}
-use mathlib.Core.Logic.{_↔_, inl, inr}
+use mathlib.Core.Logic.{_↔_}
 use mathlib.Core.Bool.{Bool, not, _||_}
 use mathlib.Core.List.{List, [], _∷_, _++_, map, List·Memᴰ}
-use Prim.Native.Nat.{ℕ, zero, suc, _≤_, _<_}
+use Prim.Native.Nat.{ℕ, _≤_}
 use native.Mathlib.Omega.{arith}
-use lib.ListN.{length, getD}
+use lib.ListN.{getD}
 use lib.Dec.{T, eqb, ltb}
 use Rattle.postman.specs.Lists.{anyOf, below}
 use Rattle.postman.specs.Plan.{Arc, Plan, requiredArcs, WellFormed}
@@ -18,10 +19,10 @@ use Rattle.postman.specs.PlanCall.{isCutOff, partsConditions, lastCondit
 use Rattle.postman.specs.Renumbering.{IsNumbering, renumberedArc, renumbered}
 use Rattle.postman.specs.Laws.Tests.{same-test}
 use Rattle.postman.specs.Laws.Membership.{mem-select, select-mem, anyOf-mem, anyOf-at, mem-below, below-mem, length-below}
-use Rattle.postman.specs.Laws.Pick.{pick-length, pick-of-mem, pick-cases}
+use Rattle.postman.specs.Laws.Lists.{anyOf-map}
+use Rattle.postman.specs.Laws.Pick.{differ-le}
 use Rattle.postman.specs.Laws.Distance.{InPlan, bounded}
 use Rattle.postman.specs.Laws.Walk.{Leads}
-use Rattle.postman.specs.Laws.Required.{required-lt}
 use Rattle.postman.specs.Laws.Component.{flat, undirected, component-lt, component-at, walk-component, component-walk}
 use Rattle.postman.specs.Laws.Renumbering.{eqb-number, inverse, renumbered-back, renumbered-well-formed, renumbered-required, renumbered-count}
 use Rattle.postman.specs.Laws.RenumberedTour.{walks}
@@ -29,11 +30,6 @@ use Rattle.postman.specs.Laws.RenumberedDistance.{path-renumbered}
 use Rattle.postman.specs.Laws.Optimality.{Plannable}
 
 -- ---- the required vertices
-
-any-map : {A B : Type 0} (f : B → Bool) (g : A → B) (xs : List A) → anyOf f (map g xs) ≡ anyOf (λ x. f (g x)) xs
-unfolding anyOf
-any-map f g [] = refl
-any-map f g (x ∷ xs) = ap (λ b. f (g x) || b) (any-map f g xs)
 
 module _ (p : Plan) {π σ : ℕ → ℕ} (h : IsNumbering (p .n) π σ) where
   abbrev q : Plan
@@ -43,7 +39,7 @@ module _ (p : Plan) {π σ : ℕ → ℕ} (h : IsNumbering (p .n) π σ) where
   unfolding isRequired
   required-same v =
       let f : Arc → Bool = λ a. eqb (a .tail) (π v) || eqb (a .head) (π v) in
-      ap (anyOf f) (renumbered-required p π) ∙ any-map f (renumberedArc π) (requiredArcs p)
+      ap (anyOf f) (renumbered-required p π) ∙ anyOf-map f (renumberedArc π) (requiredArcs p)
       ∙ ap (λ (g : Arc → Bool). anyOf g (requiredArcs p)) (fun-ext (λ a. ap₂ _||_ (eqb-number h (a .tail) v) (eqb-number h (a .head) v)))
 
   pub requireds : (v : ℕ) → List·Memᴰ (π v) (required q) ↔ List·Memᴰ v (required p)
@@ -71,20 +67,8 @@ module _ (p : Plan) {π σ : ℕ → ℕ} (h : IsNumbering (p .n) π σ) where
 both-renumbered : (π : ℕ → ℕ) (arcs : List Arc) → bothWays (map (renumberedArc π) arcs) ≡ map (renumberedArc π) (bothWays arcs)
 unfolding bothWays
 both-renumbered π [] = refl
-both-renumbered π (a ∷ arcs) = ap (λ (l : List Arc). flat (π (a .tail)) (π (a .head)) ∷ flat (π (a .head)) (π (a .tail)) ∷ l) (both-renumbered π arcs)
-
--- values that differ are at most as many as they may be
-differ-le : (f : ℕ → ℕ) (k : ℕ) (ys : List ℕ) → ((q : ℕ) → q < k → List·Memᴰ (f q) ys) → ((q r : ℕ) → q < k → r < k → f q ≡ f r → q ≡ r) → k ≤ length ys
-differ-le f zero ys m d = omega arith
-differ-le f (suc k) ys m d =
-    let r = pick-of-mem (m k (omega arith)) in
-    let e = pick-length (r .1) in
-    let rest : (q : ℕ) → q < k → List·Memᴰ (f q) (r .0) = λ q l. elim (pick-cases (r .1) (m q (omega arith))) [
-      | inl s ↦ (let z = d q k (omega arith) (omega arith) s in absurd (omega arith))
-      | inr n ↦ n
-    ] in
-    let i = differ-le f k (r .0) rest (λ q r a b. d q r (omega arith) (omega arith)) in
-    omega arith
+both-renumbered π (a ∷ arcs) =
+    ap (λ (l : List Arc). flat (π (a .tail)) (π (a .head)) ∷ flat (π (a .head)) (π (a .tail)) ∷ l) (both-renumbered π arcs)
 
 module _ (p : Plan) (ok : WellFormed p) {π σ : ℕ → ℕ} (h : IsNumbering (p .n) π σ) where
   abbrev other : Plan
@@ -100,13 +84,16 @@ module _ (p : Plan) (ok : WellFormed p) {π σ : ℕ → ℕ} (h : IsNumbering (
   undirected-renumbered = ap bothWays (renumbered-required p π) ∙ both-renumbered π (requiredArcs p)
 
   leads-back : (u v : ℕ) → Leads (undirected other other-ends) (π u) (π v) → Leads (undirected p ends) u v
-  leads-back u v w = let r = subst (λ (arcs : List Arc). Leads arcs (π u) (π v)) undirected-renumbered w in (r .0, walks (undirected p ends) π h u v (r .0) .0 (r .1))
+  leads-back u v w =
+      let r = subst (λ (arcs : List Arc). Leads arcs (π u) (π v)) undirected-renumbered w in (r .0, walks (undirected p ends) π h u v (r .0) .0 (r .1))
 
   leads-into : (u v : ℕ) → Leads (undirected p ends) u v → Leads (undirected other other-ends) (π u) (π v)
-  leads-into u v w = subst⁻¹ (λ (arcs : List Arc). Leads arcs (π u) (π v)) undirected-renumbered (w .0, walks (undirected p ends) π h u v (w .0) .1 (w .1))
+  leads-into u v w =
+      subst⁻¹ (λ (arcs : List Arc). Leads arcs (π u) (π v)) undirected-renumbered (w .0, walks (undirected p ends) π h u v (w .0) .1 (w .1))
 
   -- in one component of one plan exactly when in one of the other
-  pub components : {u v : ℕ} → List·Memᴰ u (required p) → List·Memᴰ v (required p) → (component other (π u) ≡ component other (π v)) ↔ (component p u ≡ component p v)
+  pub components : {u v : ℕ} → List·Memᴰ u (required p) → List·Memᴰ v (required p)
+      → (component other (π u) ≡ component other (π v)) ↔ (component p u ≡ component p v)
   components {u} {v} m n =
       let mu = requireds p h u .1 m in
       let mv = requireds p h v .1 n in
@@ -122,7 +109,8 @@ module _ (p : Plan) (ok : WellFormed p) {π σ : ℕ → ℕ} (h : IsNumbering (
       omega arith
 
 -- k
-pub count-renumbered : (p : Plan) → WellFormed p → {π σ : ℕ → ℕ} → IsNumbering (p .n) π σ → componentCount (renumbered p π) ≡ componentCount p
+pub count-renumbered : (p : Plan) → WellFormed p → {π σ : ℕ → ℕ} → IsNumbering (p .n) π σ
+    → componentCount (renumbered p π) ≡ componentCount p
 count-renumbered p ok {π} {σ} h =
     let a = count-le p ok h in
     let b = count-le (renumbered p π) (renumbered-well-formed p h ok) (inverse h) in

@@ -1,9 +1,10 @@
--- The distance between the new numbers of two vertices is that between the vertices. By induction on the arcs allowed: those that leave a vertex's new number are those that leave the vertex, renumbered.
--- For numbers that are no vertices too, so that whole tables of distances are renumbered.
-use mathlib.Core.Path.{_≡_, refl, sym, ap, ap₂, _∙_, fun-ext}
-use mathlib.Core.Bool.{Bool, cond, _&&_}
-use mathlib.Core.List.{List, [], _∷_, map}
-use Prim.Native.Nat.{ℕ, zero, suc, _+_, _-_, _≤_, _<_, min}
+-- The distance between the new numbers of two vertices is that between the vertices. By induction on the arcs allowed: those that leave a
+-- vertex's new number are those that leave the vertex, renumbered. For numbers that are no vertices too, so that whole tables of distances
+-- are renumbered.
+use mathlib.Core.Path.{_≡_, sym, ap, ap₂, _∙_, fun-ext}
+use mathlib.Core.Bool.{cond, _&&_}
+use mathlib.Core.List.{List, [], map}
+use Prim.Native.Nat.{ℕ, zero, suc, _+_, _-_, _≤_, _<_}
 use lib.ListN.{getD}
 use lib.Dec.{eqb, ltb}
 use Rattle.postman.specs.Lists.{least}
@@ -11,12 +12,8 @@ use Rattle.postman.specs.Plan.{Arc, Plan, isOpen}
 use Rattle.postman.specs.Distance.{noPath, arcsFrom, distanceWithin, distance, hasPath}
 use Rattle.postman.specs.Renumbering.{IsNumbering, renumberedArc, renumbered}
 use Rattle.postman.specs.Laws.Lists.{select-map}
+use Rattle.postman.specs.Laws.Minimum.{least-map}
 use Rattle.postman.specs.Laws.Renumbering.{eqb-number, inverse, number-lt}
-
-least-map : {A B : Type 0} (b : ℕ) (f : B → ℕ) (g : A → B) (xs : List A) → least b f (map g xs) ≡ least b (λ x. f (g x)) xs
-unfolding least
-least-map b f g [] = refl
-least-map b f g (x ∷ xs) = ap (min (f (g x))) (least-map b f g xs)
 
 module _ (arcs : List Arc) {n : ℕ} {π σ : ℕ → ℕ} (h : IsNumbering n π σ) where
   abbrev others : List Arc

@@ -1,15 +1,15 @@
--- A drive that is laid for the plan renumbered is laid for the plan, from the same legs between the vertices that had the new numbers: must arcs and paths are lists of arc numbers, which are the same, and a path of fewest arcs
--- stays one. So tree and amounts are carried back with it.
+-- A drive that is laid for the plan renumbered is laid for the plan, from the same legs between the vertices that had the new numbers: must
+-- arcs and paths are lists of arc numbers, which are the same, and a path of fewest arcs stays one. So tree and amounts are carried back
+-- with it.
 use mathlib.Core.Path.{_≡_, refl, sym, ap, ap₂, _∙_, subst, subst⁻¹}
-use mathlib.Core.Bool.{Bool, _&&_}
+use mathlib.Core.Bool.{_&&_}
 use mathlib.Core.List.{List, [], _∷_, map, flatMap, List·Memᴰ}
 use Prim.Native.Nat.{ℕ}
 use lib.ListN.{length, getD, take, length-map}
 use lib.Dec.{eqb}
 use Rattle.postman.specs.Lists.{select, occurrences}
-use Rattle.postman.specs.Plan.{Plan, requiredNumbers}
+use Rattle.postman.specs.Plan.{Plan}
 use Rattle.postman.specs.Required.{required}
-use Rattle.postman.specs.Distance.{distance}
 use Rattle.postman.specs.Link.{Link, joins}
 use Rattle.postman.specs.Arborescence.{arborescences}
 use Rattle.postman.specs.Balancing.{imbalance, IsBalancing, leastBalancing, completionCost}
@@ -17,9 +17,9 @@ use Rattle.postman.specs.Description.{Leg, mustArc, forLink, forUnit, pl
 use Rattle.postman.specs.PlanCall.{triedCount, IsAnswerTour}
 use Rattle.postman.specs.Renumbering.{IsNumbering, renumbered, renumberedLink, renumberedTree, IsRenumberedTour}
 use Rattle.postman.specs.Laws.Membership.{mem-map}
-use Rattle.postman.specs.Laws.Lists.{map-map, map-cong, flatMap-map, flatMap-cong, map-flatMap, select-map}
+use Rattle.postman.specs.Laws.Lists.{flatMap-map, flatMap-cong, map-flatMap, select-map}
 use Rattle.postman.specs.Laws.FewestPath.{fewest-once}
-use Rattle.postman.specs.Laws.Renumbering.{eqb-number, inverse, renumbered-numbers}
+use Rattle.postman.specs.Laws.Renumbering.{eqb-number, renumbered-numbers}
 use Rattle.postman.specs.Laws.RenumberedTour.{tours, tour-cost, fewest-back}
 use Rattle.postman.specs.Laws.RenumberedComponents.{requireds}
 use Rattle.postman.specs.Laws.RenumberedBalancing.{balancing-renumbered, completion-renumbered, amounts-back, amounts-cost}
@@ -33,13 +33,16 @@ renumberedLeg π (forUnit i j w) = forUnit (π i) (π j) w
 
 module _ (π : ℕ → ℕ) (legs : List Leg) where
   -- what a leg has that is no vertex is the same
-  legs-same : {B : Type 0} (f : Leg → List B) → ((l : Leg) → f (renumberedLeg π l) ≡ f l) → flatMap f (map (renumberedLeg π) legs) ≡ flatMap f legs
+  legs-same : {B : Type 0} (f : Leg → List B) → ((l : Leg) → f (renumberedLeg π l) ≡ f l)
+      → flatMap f (map (renumberedLeg π) legs) ≡ flatMap f legs
   legs-same f e = flatMap-map f (renumberedLeg π) legs ∙ flatMap-cong (λ l. f (renumberedLeg π l)) f legs (λ l m. e l)
 
   -- and its pair of vertices is renumbered
-  legs-pairs : (f : Leg → List Link) → ((l : Leg) → f (renumberedLeg π l) ≡ map (renumberedLink π) (f l)) → flatMap f (map (renumberedLeg π) legs) ≡ renumberedTree π (flatMap f legs)
+  legs-pairs : (f : Leg → List Link) → ((l : Leg) → f (renumberedLeg π l) ≡ map (renumberedLink π) (f l))
+      → flatMap f (map (renumberedLeg π) legs) ≡ renumberedTree π (flatMap f legs)
   legs-pairs f e =
-      flatMap-map f (renumberedLeg π) legs ∙ flatMap-cong (λ l. f (renumberedLeg π l)) (λ l. map (renumberedLink π) (f l)) legs (λ l m. e l) ∙ sym (map-flatMap f (renumberedLink π) legs)
+      flatMap-map f (renumberedLeg π) legs ∙ flatMap-cong (λ l. f (renumberedLeg π l)) (λ l. map (renumberedLink π) (f l)) legs (λ l m. e l)
+      ∙ sym (map-flatMap f (renumberedLink π) legs)
 
 places-same : (π : ℕ → ℕ) (l : Leg) → placesOfLeg (renumberedLeg π l) ≡ placesOfLeg l
 unfolding placesOfLeg renumberedLeg
@@ -108,8 +111,10 @@ module _ (p : Plan) {π σ : ℕ → ℕ} (h : IsNumbering (p .n) π σ) where
       let legs = l .legs in record {
         legs = map (renumberedLeg σ) legs;
         places = legs-same σ legs placesOfLeg (places-same σ) ∙ l .places;
-        must-arcs = λ k. ap (occurrences k) (legs-same σ legs mustArcOf (must-same σ)) ∙ l .must-arcs k ∙ ap (occurrences k) (renumbered-numbers p π);
-        links = λ i j. ap (howOften i j) (legs-pairs σ legs linkOf (link-renumbered σ)) ∙ often-back h i j (flatMap linkOf legs) ∙ l .links (π i) (π j) ∙ sym (often-back h i j t);
+        must-arcs = λ k. ap (occurrences k) (legs-same σ legs mustArcOf (must-same σ)) ∙ l .must-arcs k
+            ∙ ap (occurrences k) (renumbered-numbers p π);
+        links = λ i j. ap (howOften i j) (legs-pairs σ legs linkOf (link-renumbered σ)) ∙ often-back h i j (flatMap linkOf legs)
+            ∙ l .links (π i) (π j) ∙ sym (often-back h i j t);
         units = λ i j a b. ap (howOften i j) (legs-pairs σ legs unitOf (unit-renumbered σ)) ∙ often-back h i j (flatMap unitOf legs)
             ∙ l .units (π i) (π j) (requireds p h i .1 a) (requireds p h j .1 b);
         link-paths = λ i j v m. path-back i j v (l .link-paths (π i) (π j) v (leg-back h legs m));
@@ -131,6 +136,7 @@ module _ (p : Plan) {π σ : ℕ → ℕ} (h : IsNumbering (p .n) π σ) where
         least = sym (completion-renumbered p h t) ∙ ap (λ (s : List Link). completionCost q s) e ∙ a .least;
         amounts = λ i j. a .amounts (π i) (π j);
         balances = amounts-back p h (a .amounts) t (subst⁻¹ (λ (s : List Link). IsBalancing (required q) (imbalance q s) (a .amounts)) e (a .balances));
-        balances-least = sym (amounts-cost p h (a .amounts)) ∙ a .balances-least ∙ ap (leastBalancing q) (sym e) ∙ balancing-renumbered p h t;
+        balances-least = sym (amounts-cost p h (a .amounts)) ∙ a .balances-least ∙ ap (leastBalancing q) (sym e)
+            ∙ balancing-renumbered p h t;
         laid = laid-back (a .tree) (a .amounts) w (a .laid);
       }

@@ -1,6 +1,7 @@
--- Multipliers of the plan renumbered, carried back, are multipliers of the plan: reduced costs are the same, and so is the sum of u(i) × D(i), which is u's sum over the heads less that over the tails. So a
--- lower bound of the plan renumbered is one of the plan: it has the same tours, at the same costs, and the same R and Z.
-use mathlib.Core.Path.{_≡_, refl, sym, ap, ap₂, _∙_, subst, fun-ext}
+-- Multipliers of the plan renumbered, carried back, are multipliers of the plan: reduced costs are the same, and so is the sum of u(i) ×
+-- D(i), which is u's sum over the heads less that over the tails. So a lower bound of the plan renumbered is one of the plan: it has the
+-- same tours, at the same costs, and the same R and Z.
+use mathlib.Core.Path.{_≡_, sym, ap, ap₂, _∙_, subst, fun-ext}
 use mathlib.Core.List.{List, [], map}
 use Prim.Native.Nat.{ℕ, _+_, _≤_}
 use lib.IntN.{ℤ, pos, _+ℤ_, _-ℤ_}
@@ -9,8 +10,7 @@ use lib.Dec.{T}
 use Rattle.postman.specs.Lists.{sumOfℤ}
 use Rattle.postman.specs.Plan.{Plan, WellFormed}
 use Rattle.postman.specs.Tour.{IsTour, tourCost}
-use Rattle.postman.specs.Required.{required, requiredCost}
-use Rattle.postman.specs.Distance.{distance}
+use Rattle.postman.specs.Required.{requiredCost}
 use Rattle.postman.specs.Balancing.{heads, tails, leastBalancing}
 use Rattle.postman.specs.LagrangianBound.{Multipliers, reducedCost, priceOfImbalance, AreMultipliers}
 use Rattle.postman.specs.PlanCall.{isWhole, bestCost, lowerBound}

@@ -1,8 +1,8 @@
--- A walk of the plan is one of the plan renumbered, between the new numbers of its ends, and the other way round; so a list of arc numbers is a tour of one exactly when it is one of the other. Its
--- cost goes by the arcs' numbers alone. By induction on the walk.
+-- A walk of the plan is one of the plan renumbered, between the new numbers of its ends, and the other way round; so a list of arc numbers
+-- is a tour of one exactly when it is one of the other. Its cost goes by the arcs' numbers alone. By induction on the walk.
 use mathlib.Core.Path.{_≡_, refl, sym, ap, ap₂, _∙_, subst, subst⁻¹}
 use mathlib.Core.Logic.{_↔_}
-use mathlib.Core.Bool.{Bool, not, cond}
+use mathlib.Core.Bool.{not, cond}
 use mathlib.Core.List.{List, [], _∷_, map}
 use Prim.Native.Nat.{ℕ, _+_, _<_}
 use native.Mathlib.Omega.{arith}
@@ -59,7 +59,9 @@ module _ (arcs : List Arc) (π : ℕ → ℕ) where
 
 pub tour-cost : (p : Plan) (π : ℕ → ℕ) (w : List ℕ) → tourCost (renumbered p π) w ≡ tourCost p w
 unfolding tourCost
-tour-cost p π w = due-renumbered (p .arcs) π (requiredNumbers (renumbered p π)) w ∙ ap (λ (due : List ℕ). tourCostDue (p .arcs) due w) (renumbered-numbers p π)
+tour-cost p π w =
+    due-renumbered (p .arcs) π (requiredNumbers (renumbered p π)) w
+    ∙ ap (λ (due : List ℕ). tourCostDue (p .arcs) due w) (renumbered-numbers p π)
 
 module _ (p : Plan) {π σ : ℕ → ℕ} (h : IsNumbering (p .n) π σ) where
   abbrev q : Plan

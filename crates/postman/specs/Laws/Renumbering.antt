@@ -1,5 +1,6 @@
--- A numbering is one to one, and its inverse is a numbering too. The plan renumbered has the arcs of the plan one by one: so it is well formed, has the same required arcs with the same
--- numbers and the same R, and renumbered back it is the plan. By induction on the list of arcs.
+-- A numbering is one to one, and its inverse is a numbering too. The plan renumbered has the arcs of the plan one by one: so it is well
+-- formed, has the same required arcs with the same numbers and the same R, and renumbered back it is the plan. By induction on the list of
+-- arcs.
 use mathlib.Core.Path.{_≡_, refl, sym, ap, _∙_, subst⁻¹, fun-ext}
 use mathlib.Core.List.{List, [], _∷_, map}
 use Prim.Native.Nat.{ℕ, zero, suc, _+_, _≤_, _<_}
@@ -23,7 +24,8 @@ module _ {n : ℕ} {π σ : ℕ → ℕ} (h : IsNumbering n π σ) where
 
   -- so a test of equality gives the same
   pub eqb-number : (v w : ℕ) → eqb (π v) (π w) ≡ eqb v w
-  eqb-number v w = same-test (eqb (π v) (π w)) (eqb v w) (λ t. eqb-same (one-to-one (eqb→eq (π v) (π w) t))) (λ t. eqb-same (ap π (eqb→eq v w t)))
+  eqb-number v w =
+      same-test (eqb (π v) (π w)) (eqb v w) (λ t. eqb-same (one-to-one (eqb→eq (π v) (π w) t))) (λ t. eqb-same (ap π (eqb→eq v w t)))
 
   pub inverse : IsNumbering n σ π
   inverse = record {
@@ -35,7 +37,8 @@ module _ {n : ℕ} {π σ : ℕ → ℕ} (h : IsNumbering n π σ) where
 
   -- numbers below some bound beyond n stay below it
   pub number-lt : (m v : ℕ) → n ≤ m → v < m → π v < m
-  number-lt m v l k = elim (decLe n v) [ yes g ↦ (let e = h .outside v g in omega arith) | no g ↦ (let e = h .inside v (omega arith) in omega arith) ]
+  number-lt m v l k =
+      elim (decLe n v) [ yes g ↦ (let e = h .outside v g in omega arith) | no g ↦ (let e = h .inside v (omega arith) in omega arith) ]
 
 pub identity : (n : ℕ) → IsNumbering n (λ v. v) (λ v. v)
 identity n = record { inside = λ v l. l; outside = λ v l. refl; back = λ v. refl; forth = λ v. refl }
@@ -62,7 +65,8 @@ module _ (π : ℕ → ℕ) where
   arc-number (a ∷ arcs) (suc k) l = arc-number arcs k (omega arith)
 
   -- what is no vertex is the same for every number, also one that no arc has
-  pub arc-same : {B : Type 0} (g : Arc → B) → ((a : Arc) → g (renumberedArc π a) ≡ g a) → (arcs : List Arc) (k : ℕ) → g (arcAt (map (renumberedArc π) arcs) k) ≡ g (arcAt arcs k)
+  pub arc-same : {B : Type 0} (g : Arc → B) → ((a : Arc) → g (renumberedArc π a) ≡ g a) → (arcs : List Arc) (k : ℕ)
+      → g (arcAt (map (renumberedArc π) arcs) k) ≡ g (arcAt arcs k)
   arc-same g h [] k = refl
   arc-same g h (a ∷ arcs) zero = h a
   arc-same g h (a ∷ arcs) (suc k) = arc-same g h arcs k
@@ -123,4 +127,6 @@ module _ (p : Plan) (π : ℕ → ℕ) where
   -- R
   pub renumbered-cost : requiredCost (renumbered p π) ≡ requiredCost p
   unfolding requiredCost
-  renumbered-cost = ap (λ (arcs : List Arc). sumOf (map (λ a. a .service) arcs)) renumbered-required ∙ ap sumOf (map-map (λ a. a .service) (renumberedArc π) (requiredArcs p))
+  renumbered-cost =
+      ap (λ (arcs : List Arc). sumOf (map (λ a. a .service) arcs)) renumbered-required
+      ∙ ap sumOf (map-map (λ a. a .service) (renumberedArc π) (requiredArcs p))
