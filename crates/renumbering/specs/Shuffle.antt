@@ -1,9 +1,9 @@
--- Numberings drawn at random.
-use Prim.Native.Nat.{ℕ, zero, suc, _+_, _*_, _-_, _%_}
+-- Numbers exchanged at random.
+use Prim.Native.Nat.{ℕ, zero, suc, _*_, _/_, _%_}
 use Rattle.renumbering.specs.Numbering.{exchanged}
 use Rattle.renumbering.specs.declared.shuffle.Drawn.{Drawn}
 
--- The generator of Park and Miller.
+-- The generator of Park and Miller. Its modulus is a prime, so that remainders by a small number are as good as any.
 unfoldable pub modulus : ℕ
 modulus = 2147483647
 
@@ -11,17 +11,15 @@ unfoldable pub following : ℕ → ℕ
 unfolding modulus
 following x = x * 48271 % modulus
 
--- Place i exchanged with one of the places i to n − 1.
-unfoldable pub drawn : ℕ → ℕ → Drawn → Drawn
+-- Two of n numbers exchanged, both drawn by one number of the generator; where they are the same, nothing.
+unfoldable pub drawn : ℕ → Drawn → Drawn
 unfolding following exchanged
-drawn n i d = record { numbering = exchanged i (i + following (d .random) % (n - i)) (d .numbering); random = following (d .random) }
+drawn n d =
+    let random = following (d .random) in
+    record { numbering = exchanged (random % n) (random / n % n) (d .numbering); random = random }
 
--- c places drawn from place k on, one after the other; and all of them.
-unfoldable pub drawnPlaces : ℕ → ℕ → Drawn → ℕ → Drawn
+-- So many exchanges, one after the other.
+unfoldable pub shuffled : ℕ → Drawn → ℕ → Drawn
 unfolding drawn
-drawnPlaces n k d zero = d
-drawnPlaces n k d (suc c) = drawn n (k + c) (drawnPlaces n k d c)
-
-unfoldable pub shuffled : ℕ → ℕ → Drawn → Drawn
-unfolding drawnPlaces
-shuffled n k d = drawnPlaces n k d (n - k)
+shuffled n d zero = d
+shuffled n d (suc times) = drawn n (shuffled n d times)

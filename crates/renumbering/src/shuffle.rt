@@ -1,4 +1,4 @@
-// Numberings drawn at random: a generator, and the exchanges of Fisher and Yates.
+// Numbers exchanged at random.
 use crate::numbering::Numbering;
 use crate::numbering::exchange;
 ghost use mathlib.Core.Path.{_≡_};
@@ -13,20 +13,21 @@ pub struct Drawn {
 }
 
 // The generator's next number: that of Park and Miller.
-pub fn next(random: u64) -> u64
+fn next(random: u64) -> u64
     requires { ⌜ random < modulus ⌝ }
     ensures { λ r. ⌜ (r ≡ following random) × (r < modulus) ⌝ }
 {
     random * 48_271 % 2_147_483_647
 }
 
-// Place i is exchanged with one of those from it on, below n.
-fn draw(d: Drawn, i: usize, n: usize) -> Drawn
-    requires { ⌜ IsNumberingOf n (d .numbering) × (i < n) × (n ≤ 64) × (d .random < modulus) ⌝ }
-    ensures { λ r. ⌜ (r ≡ drawn n i d) × IsNumberingOf n (r .numbering) × (r .random < modulus) ⌝ }
+// Two of the n numbers, both drawn by one number of the generator, are exchanged.
+fn draw(d: Drawn, n: u64) -> Drawn
+    requires { ⌜ IsNumberingOf n (d .numbering) × (1 ≤ n) × (n ≤ 64) × (d .random < modulus) ⌝ }
+    ensures { λ r. ⌜ r ≡ drawn n d ⌝ }
 {
     let random = next(d.random);
-    let j = i + (random % (n - i) as u64) as usize;
+    let i = (random % n) as usize;
+    let j = (random / n % n) as usize;
     let x = d.numbering;
     let numbering = exchange(x, i, j);
     Drawn {
@@ -35,14 +36,14 @@ fn draw(d: Drawn, i: usize, n: usize) -> Drawn
     }
 }
 
-// The places from k on are drawn, one after the other.
-pub fn shuffle(d: Drawn, k: usize, n: usize) -> Drawn
-    requires { ⌜ IsNumberingOf n (d .numbering) × (k ≤ n) × (n ≤ 64) × (d .random < modulus) ⌝ }
-    ensures { λ r. ⌜ (r ≡ shuffled n k d) × IsNumberingOf n (r .numbering) × (r .random < modulus) ⌝ }
+// So many exchanges, one after the other.
+pub fn shuffle(d: Drawn, n: u64, times: u32) -> Drawn
+    requires { ⌜ IsNumberingOf n (d .numbering) × (1 ≤ n) × (n ≤ 64) × (d .random < modulus) ⌝ }
+    ensures { λ r. ⌜ r ≡ shuffled n d times ⌝ }
 {
     let mut r = d;
-    for i in k..n {
-        let s = draw(r, i, n);
+    for i in 0..times {
+        let s = draw(r, n);
         r = s;
     }
     r

@@ -1,9 +1,8 @@
-use Rattle.renumbering.specs.Laws.Shuffle.{none-drawn, one-drawn, all-drawn}
-use mathlib.Core.Path.{_≡_}
-use Prim.Native.Nat.{_-_, _≤_, _<_}
+use mathlib.Core.Path.{ap, _∙_}
+use Prim.Native.Nat.{_-_, _≤_}
+use Rattle.renumbering.specs.Shuffle.{shuffled}
+use Rattle.renumbering.specs.Laws.Shuffle.{IsShuffled, none-shuffled, one-shuffled}
 use native.Mathlib.Omega.{arith}
-use Rattle.renumbering.specs.Numbering.{IsNumberingOf}
-use Rattle.renumbering.specs.Shuffle.{modulus, drawnPlaces}
 use borrow.Author.Needs.{needs}
 use Rattle.renumbering.proofs.shuffle.shuffle.Statement.{statement}
 use Rattle.renumbering.proofs.shuffle.shuffle.Tie as tie
@@ -12,36 +11,34 @@ use Rattle.renumbering.proofs.shuffle.shuffle.Lts as lts
 use Rattle.renumbering.proofs.shuffle.draw.Reads as draw-reads
 
 abbrev Inv-loop : tie.InvT-loop
-Inv-loop k n r₀ i₀ r i = (k ≤ i) × (i ≤ n) × (n ≤ 64) × (r ≡ drawnPlaces n k r₀ (i - k)) × IsNumberingOf n (r .numbering) × (r .random < modulus)
+Inv-loop n times r₀ i₀ r i = (i ≤ times) × IsShuffled n r₀ i r
 
 abbrev μ-loop : tie.MeasureT-loop
-μ-loop k n r₀ i₀ r i = n - i
+μ-loop n times r₀ i₀ r i = times - i
 
--- src/shuffle.rt:44:5
+-- src/shuffle.rt:45:5
 loop-holds : tie.Need-loop-holds Inv-loop μ-loop
-loop-holds c = (omega arith, c .pre .1, c .pre .2, none-drawn _ _ _, c .pre .0, c .pre .3)
+loop-holds c = (omega arith, none-shuffled _ _ (c .pre .0) (c .pre .3))
 
--- src/shuffle.rt:45:13
+-- src/shuffle.rt:46:13
 draw-requires : tie.Need-draw-requires Inv-loop μ-loop
-draw-requires c κs = let i = c .before .loop .inv in (i .4, omega arith, i .2, i .5)
+draw-requires c κs = let s = c .before .before in let i = c .before .loop .inv .1 in (i .numbering, s .pre .1, s .pre .2, i .random-in)
 
--- src/shuffle.rt:44:9
+-- src/shuffle.rt:45:9
 add-i : tie.Need-add-i Inv-loop μ-loop
 add-i c = search needs
 
--- src/shuffle.rt:44:5
+-- src/shuffle.rt:45:5
 loop-less : tie.Need-loop-less Inv-loop μ-loop
 loop-less c = search needs
 
--- src/shuffle.rt:44:5
+-- src/shuffle.rt:45:5
 loop-again : tie.Need-loop-again Inv-loop μ-loop
-loop-again c = let l = c .before .before .loop in
-    let e = c .draw .ensures in
-    (omega arith, omega arith, l .inv .2, one-drawn _ _ _ (l .i) (l .r) _ (l .inv .0) (l .inv .3) (e .0), e .1, e .2)
+loop-again c = let s = c .before .before .before in let l = c .before .before .loop in (omega arith, one-shuffled _ _ (s .pre .1) (s .pre .2) (l .i) (l .r) _ (l .inv .1) (c .draw .ensures))
 
--- src/shuffle.rt:39:1
+-- src/shuffle.rt:40:1
 returns : tie.Need-returns Inv-loop μ-loop
-returns c = let l = c .before .loop in (all-drawn _ _ _ (l .i) (l .r) (omega arith) (l .inv .3), l .inv .4, l .inv .5)
+returns c = let s = c .before .before in let l = c .before .loop in l .inv .1 .shuffled-is ∙ ap (shuffled (s .args .n) (s .args .d)) (omega arith)
 
 pub shuffle-spec : {M : Type 1} → statement M
 shuffle-spec =

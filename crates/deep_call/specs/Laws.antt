@@ -1,0 +1,6 @@
+-- What is proved about the definitions.
+pub mod Tables
+pub mod Kept
+pub mod Answer
+pub mod Call
+pub mod Compared
