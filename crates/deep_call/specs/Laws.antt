@@ -2,5 +2,6 @@
 pub mod Tables
 pub mod Kept
 pub mod Answer
+pub mod Made
 pub mod Call
 pub mod Compared

@@ -61,19 +61,19 @@ pub(crate) fn no_dearer(k: Kept, x: Numbering, cost: u64) -> Kept
 pub(crate) fn tighter(k: Kept, x: Numbering, floor: i64, u: [i64; 64]) -> Kept
     ensures { λ r. ⌜ r ≡ withFloor x floor u k ⌝ }
 {
-    if floor <= k.floor {
-        return k;
+    if k.floor < floor {
+        let drive = k.drive;
+        return Kept {
+            drive: drive,
+            cost: k.cost,
+            bound: x,
+            floor: floor,
+            multipliers: u,
+            trees: k.trees,
+            random: k.random,
+        };
     }
-    let drive = k.drive;
-    Kept {
-        drive: drive,
-        cost: k.cost,
-        bound: x,
-        floor: floor,
-        multipliers: u,
-        trees: k.trees,
-        random: k.random,
-    }
+    k
 }
 
 // The trees of a round are counted, and the generator goes on.

@@ -12,7 +12,7 @@ use lib.IntN.{ℤ, pos}
 use lib.Signed.{_≤ℤ_, _<ℤ_, ltZ, ltZ-yes, ltZ-no, ≤ℤ-refl}
 use Rattle.integers.specs.Linear.{z}
 use Rattle.postman.specs.Lists.{upFrom, below}
-use Rattle.postman.specs.Plan.{Plan}
+use Rattle.postman.specs.Plan.{Plan, WellFormed}
 use Rattle.postman.specs.Required.{required}
 use Rattle.postman.specs.Component.{componentCount}
 use Rattle.postman.specs.LagrangianBound.{Multipliers, AreMultipliers}
@@ -83,11 +83,28 @@ pub record IsKept (p : Plan) (budget r : ℕ) (k : Kept) : Type 0 where
   pub few-trees : k .trees ≤ suc r * 1000000
   pub random-in : k .random < modulus
 
-module _ (p : Plan) (ok : Plannable p) (few : componentCount p ≤ 8) (budget : ℕ) (low : budget ≤ 1000000) where
-  tried-few : (q : Plan) → triedCount q budget ≤ 1000000
-  unfolding triedCount
-  tried-few q = omega arith
+-- a round tries no more trees than the budget
+pub tried-few : (q : Plan) (budget : ℕ) → budget ≤ 1000000 → triedCount q budget ≤ 1000000
+unfolding triedCount
+tried-few q budget low = omega arith
 
+-- neither a drive nor a floor that is kept changes the count
+pub trees-same : (x : Numbering) (cost : ℕ) (floor : ℤ) (u : List ℤ) (k : Kept) → withFloor x floor u (withDrive x cost k) .trees ≡ k .trees
+unfolding withDrive withFloor
+trees-same x cost floor u k =
+    let m = withDrive x cost k in
+    cond-ind (ltZ (m .floor) floor) _ m (λ m. m .trees ≡ withDrive x cost k .trees) (λ t. refl) (λ t. refl)
+    ∙ cond-ind (leb cost (k .cost)) _ k (λ m. m .trees ≡ k .trees) (λ t. refl) (λ t. refl)
+
+-- the numbering of a round
+pub next-numbering : (p : Plan) → WellFormed p → (round : ℕ) (k : Kept) → IsNumberingOf (p .n) (k .drive) → k .random < modulus
+    → IsNumberingOf (p .n) (nextDrawn p round k .numbering) × (nextDrawn p round k .random < modulus)
+unfolding nextDrawn
+next-numbering p ok round k n l =
+    let d : Drawn = record { numbering = k .drive; random = k .random } in
+    (shuffled-numbering (p .n) (ok .some-vertex) (ok .vertices) d (2 + 2 * (round % 8)) n, shuffled-random (p .n) d (2 + 2 * (round % 8)) l)
+
+module _ (p : Plan) (ok : Plannable p) (few : componentCount p ≤ 8) (budget : ℕ) (low : budget ≤ 1000000) where
   -- ---- the first round
 
   begun-kept : IsKept p budget 0 (keptAfter p budget 0)
@@ -95,7 +112,7 @@ module _ (p : Plan) (ok : Plannable p) (few : componentCount p ≤ 8) (budget : 
   begun-kept =
       let same = sym (under-unchanged p) in
       let n = unchanged-numbering (p .n) in
-      let t = tried-few p in
+      let t = tried-few p budget low in
       record {
         drive-numbering = n;
         cost-is = ap (λ (q : Plan). bestCost q budget) same;
@@ -141,10 +158,6 @@ module _ (p : Plan) (ok : Plannable p) (few : componentCount p ≤ 8) (budget : 
     unfolding withDrive
     drive-floor k = cond-ind (leb (bestCost q budget) (k .cost)) _ k (λ m. m .floor ≡ k .floor) (λ t. refl) (λ t. refl)
 
-    drive-trees : (k : Kept) → withDrive x (bestCost q budget) k .trees ≡ k .trees
-    unfolding withDrive
-    drive-trees k = cond-ind (leb (bestCost q budget) (k .cost)) _ k (λ m. m .trees ≡ k .trees) (λ t. refl) (λ t. refl)
-
     abbrev u : List ℤ
     u = carriedIn (x .to) (multipliersFor q)
 
@@ -173,16 +186,12 @@ module _ (p : Plan) (ok : Plannable p) (few : componentCount p ≤ 8) (budget : 
     unfolding withFloor
     floor-cost k = cond-ind (ltZ (k .floor) (floorOf q budget)) _ k (λ m. m .cost ≡ k .cost) (λ t. refl) (λ t. refl)
 
-    floor-trees : (k : Kept) → withFloor x (floorOf q budget) u k .trees ≡ k .trees
-    unfolding withFloor
-    floor-trees k = cond-ind (ltZ (k .floor) (floorOf q budget)) _ k (λ m. m .trees ≡ k .trees) (λ t. refl) (λ t. refl)
-
     round-kept : (k : Kept) → IsKept p budget r k → IsKept p budget (suc r) (roundUnder p budget d k)
     unfolding roundUnder counted
     round-kept k h =
         let m = withDrive x (bestCost q budget) k in
         let g = floor-kept m (drive-least k .0) (drive-kept k h) in
-        let t = tried-few q in
+        let t = tried-few q budget low in
         let e = suc-mul (suc r) 1000000 in
         let f = g .few-trees in
         record {
@@ -207,17 +216,7 @@ module _ (p : Plan) (ok : Plannable p) (few : componentCount p ≤ 8) (budget : 
         let e = drive-floor k in
         (omega arith, subst (λ f. f ≤ℤ withFloor x (floorOf q budget) u m .floor) e c)
 
-    -- the trees that the code counts
-    pub trees-so-far : (k : Kept) → withFloor x (floorOf q budget) u (withDrive x (bestCost q budget) k) .trees ≡ k .trees
-    trees-so-far k = floor-trees (withDrive x (bestCost q budget) k) ∙ drive-trees k
-
   -- ---- all rounds
-
-  next-numbering : (round : ℕ) (k : Kept) → IsNumberingOf (p .n) (k .drive) → k .random < modulus → IsNumberingOf (p .n) (nextDrawn p round k .numbering) × (nextDrawn p round k .random < modulus)
-  unfolding nextDrawn
-  next-numbering round k n l =
-      let d : Drawn = record { numbering = k .drive; random = k .random } in
-      (shuffled-numbering (p .n) (ok .well-formed .some-vertex) (ok .well-formed .vertices) d (2 + 2 * (round % 8)) n, shuffled-random (p .n) d (2 + 2 * (round % 8)) l)
 
   one-more : (k : Kept) (r : ℕ) → IsKept p budget r k → IsKept p budget (suc r) k
   one-more k r h =
@@ -238,7 +237,7 @@ module _ (p : Plan) (ok : Plannable p) (few : componentCount p ≤ 8) (budget : 
   unfolding keptAfter nextKept
   next-kept r h =
       let k = keptAfter p budget r in
-      let d = next-numbering (r + 2) k (h .drive-numbering) (h .random-in) in
+      let d = next-numbering p (ok .well-formed) (r + 2) k (h .drive-numbering) (h .random-in) in
       cond-ind (isClosed k) k _ (IsKept p budget (suc r)) (λ t. one-more k r h) (λ t. round-kept r (nextDrawn p (r + 2) k) (d .0) (d .1) k h)
 
   pub after-kept : (r : ℕ) → IsKept p budget r (keptAfter p budget r)
@@ -254,7 +253,7 @@ module _ (p : Plan) (ok : Plannable p) (few : componentCount p ≤ 8) (budget : 
   after-better r =
       let k = keptAfter p budget r in
       let h = after-kept r in
-      let d = next-numbering (r + 2) k (h .drive-numbering) (h .random-in) in
+      let d = next-numbering p (ok .well-formed) (r + 2) k (h .drive-numbering) (h .random-in) in
       cond-ind (isClosed k) k _ (λ m. (m .cost ≤ k .cost) × (k .floor ≤ℤ m .floor)) (λ t. (omega arith, omega (arith, z))) (λ t. round-better r (nextDrawn p (r + 2) k) (d .0) (d .1) k)
 
   pub more-better : (r more : ℕ) → (keptAfter p budget (more + r) .cost ≤ keptAfter p budget r .cost) × (keptAfter p budget r .floor ≤ℤ keptAfter p budget (more + r) .floor)
