@@ -33,7 +33,7 @@ boundUnder p x u = maxℤ (lagrangianBound (under p x) (λ i. pos 0)) (lagrangia
 -- What an answer that is no refusal is, of the file's plan p; `new` is the sheet at exit.
 pub record IsDeepAnswer (p : Plan) (budget rounds : ℕ) (new : List ℕ) (r : Planned) : Type 0 where
   -- the written places are a drive, the lowest must arc first, of exactly the cost answered, and described as the plan call's drive is
-  pub drive : IsRenumberedTour p (numberIn (kept p budget rounds .drive .to)) budget (take (r .places) new)
+  pub drive : IsRenumberedTour p (numberIn (kept p budget rounds .drive .numbering .to)) (kept p budget rounds .drive .tries) (take (r .places) new)
   pub costs : tourCost p (take (r .places) new) ≡ r .cost
   -- no drive of any length costs less than the floor
   pub below-every-tour : (w : List ℕ) → IsTour p w → r .floor ≤ℤ pos (tourCost p w)
@@ -42,7 +42,7 @@ pub record IsDeepAnswer (p : Plan) (budget rounds : ℕ) (new : List ℕ) (r : P
   -- u meets document 01's two conditions
   pub multipliers : AreMultipliers p (multipliersOf r)
   -- the floor is the cost, or the larger of L(0) and L(u) under the numbering that it was found under
-  pub floor-from : (r .floor ≡ pos (r .cost)) ⊎ (r .floor ≡ boundUnder p (kept p budget rounds .bound) (multipliersOf r))
+  pub floor-from : (r .floor ≡ pos (r .cost)) ⊎ (r .floor ≡ boundUnder p (kept p budget rounds .bound .numbering) (multipliersOf r))
   -- whole says that floor and cost are equal, and then no drive is cheaper
   pub whole-says : T (r .whole) ↔ (r .floor ≡ pos (r .cost))
   pub whole-least : T (r .whole) → (w : List ℕ) → IsTour p w → r .cost ≤ tourCost p w

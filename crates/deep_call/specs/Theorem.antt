@@ -1,11 +1,8 @@
 -- ONE ROUND IS THE PLAN CALL; the deep call is no worse than the plan call with the same budget; MORE ROUNDS ARE NEVER WORSE. For every file, budget and sheet, over the contracts of the calls.
-use mathlib.Core.Path.{_≡_, refl, sym, ap, _∙_, subst, subst⁻¹}
-use mathlib.Core.Bool.{true}
+use mathlib.Core.Path.{_≡_}
 use mathlib.Core.List.{List}
-use mathlib.Core.Option.{Option, none}
+use mathlib.Core.Option.{none}
 use Prim.Native.Nat.{ℕ, _≤_}
-use lib.ListN.{length}
-use Rattle.postman.specs.PlanFile.{planOf}
 use Rattle.refusal.specs.Verdict.{verdictNumber}
 use Rattle.solution.specs.declared.Planned.{Planned}
 use Rattle.planner.specs.Contract.{IsPlanCall}

@@ -27,7 +27,7 @@ ghost use Rattle.deep_call.specs.Tabled.{IsTabled};
 ghost use Rattle.deep_call.specs.Refusals.{highestRounds, roundConditions};
 ghost use Rattle.deep_call.specs.Contract.{IsDeep, IsDeepCall};
 
-// The drive is laid once more, under the numbering that was best.
+// The drive is laid once more, with what it was found with.
 fn lay_best(
     plan: Plan,
     table: &[[u32; 64]; 64],
@@ -37,11 +37,12 @@ fn lay_best(
     k: Kept,
     sheet: &mut [u16],
 ) -> Planned
-    requires { ⌜ IsTabled (planValue plan) (now table) (now weights) budget × (planRefusal (planValue plan) ≡ none) × (k ≡ keptAfter (planValue plan) budget (rounds - 1)) × (sheetPlaces ≤ length (now sheet)) ⌝ }
+    requires { ⌜ IsTabled (planValue plan) (now table) (now weights) × (planRefusal (planValue plan) ≡ none) × (k ≡ keptAfter (planValue plan) budget (rounds - 1)) × (sheetPlaces ≤ length (now sheet)) ⌝ }
+    requires { ⌜ (1 ≤ budget) × (budget ≤ 1000000) × (rounds ≤ 1000) ⌝ }
     ensures { λ r. ⌜ IsDeep (planValue plan) budget rounds none (now (sheet .entry)) (now (sheet .exit)) r ⌝ }
 {
     let x = k.drive;
-    let a = plan_under(plan, table, weights, x, budget, sheet);
+    let a = plan_under(plan, table, weights, x, sheet);
     let u = k.multipliers;
     let whole = closed(k.cost, k.floor);
     Planned {
@@ -65,7 +66,8 @@ fn plan_deep(
     rounds: u32,
     sheet: &mut [u16],
 ) -> Planned
-    requires { ⌜ IsTabled (planValue plan) (now table) (now weights) budget × (1 ≤ rounds) × (rounds ≤ 1000) × (sheetPlaces ≤ length (now sheet)) ⌝ }
+    requires { ⌜ IsTabled (planValue plan) (now table) (now weights) × (sheetPlaces ≤ length (now sheet)) ⌝ }
+    requires { ⌜ (1 ≤ budget) × (budget ≤ 1000000) × (1 ≤ rounds) × (rounds ≤ 1000) ⌝ }
     ensures { λ r. ⌜ IsDeep (planValue plan) budget rounds (planRefusal (planValue plan)) (now (sheet .entry)) (now (sheet .exit)) r ⌝ }
 {
     let mut scratch = [0u16; 17266];
@@ -74,7 +76,7 @@ fn plan_deep(
     match verdict {
         Verdict::Refused(r) => refused(r),
         Verdict::Accepted => {
-            let first = begin(a);
+            let first = begin(a, budget);
             let k = deepen(plan, table, weights, budget, rounds, first);
             lay_best(plan, table, weights, budget, rounds, k, sheet)
         }

@@ -1,44 +1,49 @@
 // What the rounds so far have found.
-use renumbering::numbering::Numbering;
+use crate::trial::Trial;
 use renumbering::numbering::identity;
 use solution::Planned;
 ghost use mathlib.Core.Path.{_≡_};
-ghost use mathlib.Core.Option.{none};
 ghost use Prim.Native.Nat.{_≤_};
 ghost use lib.IntN.{pos};
 ghost use lib.Signed.{leZ};
 ghost use Rattle.deep_call.specs.Rounds.{begun, withDrive, withFloor, counted};
 
-// The least cost with its numbering, the greatest floor with its numbering and its multipliers, which are carried back, the trees of all rounds, and where the generator stands.
+// The least cost with what it was found with, the greatest floor with the same and its multipliers, which are carried back, the trees of all rounds, where the generator stands, and which round doubles next.
 pub struct Kept {
-    pub drive: Numbering,
+    pub drive: Trial,
     pub cost: u64,
-    pub bound: Numbering,
+    pub bound: Trial,
     pub floor: i64,
     pub multipliers: [i64; 64],
     pub trees: u32,
     pub random: u64,
+    pub doubling: u32,
 }
 
 // The first round is the plan call's, and its answer is all there is.
-pub(crate) fn begin(a: Planned) -> Kept
-    ensures { λ r. ⌜ r ≡ begun (a .cost) (a .floor) (a .multipliers) (a .trees) ⌝ }
+pub(crate) fn begin(a: Planned, budget: u32) -> Kept
+    ensures { λ r. ⌜ r ≡ begun budget (a .cost) (a .floor) (a .multipliers) (a .trees) ⌝ }
 {
     let u = a.multipliers;
     let x = identity();
+    let first = Trial {
+        numbering: x,
+        tries: budget,
+    };
     Kept {
-        drive: x,
+        drive: first,
         cost: a.cost,
-        bound: x,
+        bound: first,
         floor: a.floor,
         multipliers: u,
         trees: a.trees,
         random: 1,
+        doubling: 2,
     }
 }
 
-// A drive that is no dearer is kept, with the numbering that it was found under: the next round goes on from there.
-pub(crate) fn no_dearer(k: Kept, x: Numbering, cost: u64) -> Kept
+// A drive that is no dearer is kept, with what it was found with: the next round goes on from there.
+pub(crate) fn no_dearer(k: Kept, x: Trial, cost: u64) -> Kept
     ensures { λ r. ⌜ r ≡ withDrive x cost k ⌝ }
 {
     if k.cost < cost {
@@ -54,11 +59,12 @@ pub(crate) fn no_dearer(k: Kept, x: Numbering, cost: u64) -> Kept
         multipliers: u,
         trees: k.trees,
         random: k.random,
+        doubling: k.doubling,
     }
 }
 
-// A greater floor is kept, with its numbering and its multipliers.
-pub(crate) fn tighter(k: Kept, x: Numbering, floor: i64, u: [i64; 64]) -> Kept
+// A greater floor is kept, with what it was found with and its multipliers.
+pub(crate) fn tighter(k: Kept, x: Trial, floor: i64, u: [i64; 64]) -> Kept
     ensures { λ r. ⌜ r ≡ withFloor x floor u k ⌝ }
 {
     if k.floor < floor {
@@ -71,15 +77,16 @@ pub(crate) fn tighter(k: Kept, x: Numbering, floor: i64, u: [i64; 64]) -> Kept
             multipliers: u,
             trees: k.trees,
             random: k.random,
+            doubling: k.doubling,
         };
     }
     k
 }
 
-// The trees of a round are counted, and the generator goes on.
-pub(crate) fn count(k: Kept, trees: u32, random: u64) -> Kept
-    requires { ⌜ (k .trees ≤ 1000000000) × (trees ≤ 1000000) ⌝ }
-    ensures { λ r. ⌜ r ≡ counted trees random k ⌝ }
+// The trees of a round are counted, and the generator and the doubling go on.
+pub(crate) fn count(k: Kept, trees: u32, random: u64, doubling: u32) -> Kept
+    requires { ⌜ (k .trees ≤ 3000000000) × (trees ≤ 1000000000) ⌝ }
+    ensures { λ r. ⌜ r ≡ counted trees random doubling k ⌝ }
 {
     let drive = k.drive;
     let bound = k.bound;
@@ -92,6 +99,7 @@ pub(crate) fn count(k: Kept, trees: u32, random: u64) -> Kept
         multipliers: u,
         trees: k.trees + trees,
         random: random,
+        doubling: doubling,
     }
 }
 

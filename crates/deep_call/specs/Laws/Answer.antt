@@ -1,13 +1,12 @@
 -- THE PROMISE, from what is kept. The drive is the plan call's under its numbering, told of the plan itself; the floor is that of the plan call under its numbering, and is below every drive of the plan; where all trees
 -- were tried in that round, its cost is the least there is, and so is the cost that is kept.
 use mathlib.Core.Path.{_≡_, refl, sym, ap, _∙_, subst, subst⁻¹}
-use mathlib.Core.Bool.{Bool, true, not}
 use mathlib.Core.Logic.{_↔_, _⊎_, inl, inr}
 use mathlib.Core.List.{List, []}
-use mathlib.Core.Option.{Option, none, some, Option·some-ne-none}
+use mathlib.Core.Option.{Option, none, some}
 use Prim.Native.Nat.{ℕ, _+_, _-_, _≤_}
 use native.Mathlib.Omega.{arith}
-use lib.ListN.{length, getD, take}
+use lib.ListN.{take}
 use lib.Dec.{T}
 use lib.IntN.{ℤ, pos}
 use lib.Signed.{_≤ℤ_, leZ, leZ-yes, ≤ℤ-refl}
@@ -25,42 +24,43 @@ use Rattle.postman.specs.Renumbering.{numberIn, carried, IsRenumberedTour}
 use Rattle.postman.specs.Lists.{maxℤ}
 use Rattle.postman.specs.Laws.Tests.{test}
 use Rattle.postman.specs.Laws.Optimality.{Plannable, guaranteed}
-use Rattle.postman.specs.Laws.RenumberedComponents.{count-renumbered}
 use Rattle.postman.specs.Laws.RenumberedMultipliers.{multipliers-back, carried-again, below-tours, least-cost, above-balancing}
 use Rattle.postman.specs.Laws.RenumberedDrive.{tour-back}
 use Rattle.multipliers.specs.Ascent.{multipliersFor}
 use Rattle.multipliers.specs.Tour.{tourOf}
 use Rattle.multipliers.specs.Laws.Tour.{answer-tour}
-use Rattle.circuit.specs.Tour.{written}
 use Rattle.refusal.specs.Verdict.{verdictNumber}
 use Rattle.solution.specs.declared.Planned.{Planned}
 use Rattle.solution.specs.Planned.{summaryOf, multipliersOf, countUnless, IsPlanned}
 use Rattle.solution.specs.Laws.Answer.{cost-small}
-use Rattle.solution.specs.Laws.Answered.{cost-is, floor-is, is-answer, count-is, drive-is, summary-given}
+use Rattle.solution.specs.Laws.Answered.{cost-is, floor-is, is-answer, drive-is, summary-given}
 use Rattle.deep_call.specs.declared.kept.Kept.{Kept}
-use Rattle.deep_call.specs.Rounds.{under, floorOf, isClosed, keptAfter, kept, deepSummary, deepTour}
+use Rattle.deep_call.specs.Rounds.{under, floorOf, isClosed, kept, deepSummary, deepTour}
 use Rattle.deep_call.specs.Contract.{boundUnder, multipliersUnless, IsDeepAnswer, IsDeep}
 use Rattle.deep_call.specs.Tabled.{IsTried}
 use Rattle.deep_call.specs.Laws.Tables.{under-few, under-plannable}
 use Rattle.deep_call.specs.Laws.Kept.{uOf, IsKept, after-kept, under-multipliers}
 
-module _ (p : Plan) (ok : Plannable p) (few : componentCount p ≤ 8) (budget : ℕ) (some-trees : 1 ≤ budget) (r : ℕ) (k : Kept) (h : IsKept p budget r k) where
+module _ (p : Plan) (ok : Plannable p) (few : componentCount p ≤ 8) (r : ℕ) (k : Kept) (h : IsKept p r k) where
   -- ---- the drive
 
   abbrev π : ℕ → ℕ
-  π = numberIn (k .drive .to)
+  π = numberIn (k .drive .numbering .to)
 
   abbrev driven : Plan
-  driven = under p (k .drive)
+  driven = under p (k .drive .numbering)
+
+  abbrev tries : ℕ
+  tries = k .drive .tries
 
   abbrev w : List ℕ
-  w = tourOf driven budget
+  w = tourOf driven tries
 
-  answer-under : IsAnswerTour driven budget w
-  answer-under = answer-tour driven (under-plannable p ok (k .drive) (h .drive-numbering)) (under-few p (ok .well-formed) (k .drive) (h .drive-numbering) few) budget some-trees
+  answer-under : IsAnswerTour driven tries w
+  answer-under = answer-tour driven (under-plannable p ok (k .drive .numbering) (h .drive-numbering)) (under-few p (ok .well-formed) (k .drive .numbering) (h .drive-numbering) few) tries (h .drive-tries)
 
-  pub told : IsRenumberedTour p π budget w
-  told = tour-back p (h .drive-numbering .numbers) budget w answer-under
+  pub told : IsRenumberedTour p π tries w
+  told = tour-back p (h .drive-numbering .numbers) tries w answer-under
 
   pub told-cost : tourCost p w ≡ k .cost
   told-cost = told .costs ∙ sym (h .cost-is)
@@ -68,32 +68,35 @@ module _ (p : Plan) (ok : Plannable p) (few : componentCount p ≤ 8) (budget : 
   pub cost-low : k .cost ≤ 1131527310
   cost-low =
       let e = h .cost-is in
-      let l = cost-small driven (under-plannable p ok (k .drive) (h .drive-numbering)) (under-few p (ok .well-formed) (k .drive) (h .drive-numbering) few) budget some-trees in
+      let l = cost-small driven (under-plannable p ok (k .drive .numbering) (h .drive-numbering)) (under-few p (ok .well-formed) (k .drive .numbering) (h .drive-numbering) few) tries (h .drive-tries) in
       omega arith
 
   -- ---- the floor
 
   abbrev bounded : Plan
-  bounded = under p (k .bound)
+  bounded = under p (k .bound .numbering)
+
+  abbrev bound-budget : ℕ
+  bound-budget = k .bound .tries
 
   abbrev u : Multipliers
   u = uOf (multipliersFor bounded)
 
   lawful : AreMultipliers bounded u
-  lawful = under-multipliers p ok few (k .bound) (h .bound-numbering)
+  lawful = under-multipliers p ok few (k .bound .numbering) (h .bound-numbering)
 
-  guarantee : Guarantee bounded budget u
-  guarantee = guaranteed bounded (under-plannable p ok (k .bound) (h .bound-numbering)) budget some-trees u lawful
+  guarantee : Guarantee bounded bound-budget u
+  guarantee = guaranteed bounded (under-plannable p ok (k .bound .numbering) (h .bound-numbering)) bound-budget (h .bound-tries) u lawful
 
-  floor-as : k .floor ≡ lowerBound bounded budget u
+  floor-as : k .floor ≡ lowerBound bounded bound-budget u
   unfolding floorOf
   floor-as = h .floor-is
 
   pub below : (v : List ℕ) → IsTour p v → k .floor ≤ℤ pos (tourCost p v)
-  below v t = subst⁻¹ (λ f. f ≤ℤ pos (tourCost p v)) floor-as (below-tours p (h .bound-numbering .numbers) budget u guarantee v t)
+  below v t = subst⁻¹ (λ f. f ≤ℤ pos (tourCost p v)) floor-as (below-tours p (h .bound-numbering .numbers) bound-budget u guarantee v t)
 
   pub above : pos (requiredCost p + leastBalancing p []) ≤ℤ k .floor
-  above = subst⁻¹ (λ f. pos (requiredCost p + leastBalancing p []) ≤ℤ f) floor-as (above-balancing p (h .bound-numbering .numbers) budget u guarantee)
+  above = subst⁻¹ (λ f. pos (requiredCost p + leastBalancing p []) ≤ℤ f) floor-as (above-balancing p (h .bound-numbering .numbers) bound-budget u guarantee)
 
   pub floor-no-higher : k .floor ≤ℤ pos (k .cost)
   floor-no-higher = subst (λ c. k .floor ≤ℤ pos c) told-cost (below w (told .tour))
@@ -101,16 +104,16 @@ module _ (p : Plan) (ok : Plannable p) (few : componentCount p ≤ 8) (budget : 
   pub kept-multipliers : AreMultipliers p (uOf (k .multipliers))
   kept-multipliers = subst⁻¹ (AreMultipliers p) (h .multipliers-are) (multipliers-back p (h .bound-numbering .numbers) u (ok .well-formed) lawful)
 
-  carried-into : carried (numberIn (k .bound .from)) (uOf (k .multipliers)) ≡ u
-  carried-into = ap (carried (numberIn (k .bound .from))) (h .multipliers-are) ∙ carried-again p (h .bound-numbering .numbers) u
+  carried-into : carried (numberIn (k .bound .numbering .from)) (uOf (k .multipliers)) ≡ u
+  carried-into = ap (carried (numberIn (k .bound .numbering .from))) (h .multipliers-are) ∙ carried-again p (h .bound-numbering .numbers) u
 
-  pub floor-found : (k .floor ≡ pos (k .cost)) ⊎ (k .floor ≡ boundUnder p (k .bound) (uOf (k .multipliers)))
-  floor-found = elim (test (isWhole bounded budget)) [
+  pub floor-found : (k .floor ≡ pos (k .cost)) ⊎ (k .floor ≡ boundUnder p (k .bound .numbering) (uOf (k .multipliers)))
+  floor-found = elim (test (isWhole bounded bound-budget)) [
     | inl t ↦
         let a = h .least in
-        let b = least-cost p (h .bound-numbering .numbers) budget u guarantee t w (told .tour) in
+        let b = least-cost p (h .bound-numbering .numbers) bound-budget u guarantee t w (told .tour) in
         let c = told-cost in
-        let e : bestCost bounded budget ≡ k .cost = omega arith in
+        let e : bestCost bounded bound-budget ≡ k .cost = omega arith in
         inl (floor-as ∙ guarantee .whole-equal t ∙ ap pos e)
     | inr t ↦
         inr (floor-as ∙ guarantee .partial-equal t ∙ ap (λ (v : Multipliers). maxℤ (lagrangianBound bounded (λ i. pos 0)) (lagrangianBound bounded v)) (sym carried-into))
@@ -127,10 +130,10 @@ module _ (p : Plan) (ok : Plannable p) (few : componentCount p ≤ 8) (budget : 
 
 -- ---- the answer
 
-module _ (p : Plan) (ok : Plannable p) (few : componentCount p ≤ 8) (budget : ℕ) (some-trees : 1 ≤ budget) (low : budget ≤ 1000000) (rounds : ℕ) where
-  pub is-kept : IsKept p budget (rounds - 1) (kept p budget rounds)
+module _ (p : Plan) (ok : Plannable p) (few : componentCount p ≤ 8) (budget : ℕ) (some-trees : 1 ≤ budget) (low : budget ≤ 1000000) (rounds : ℕ) (few-rounds : rounds ≤ 1000) where
+  pub is-kept : IsKept p (rounds - 1) (kept p budget rounds)
   unfolding kept
-  is-kept = after-kept p ok few budget low (rounds - 1)
+  is-kept = after-kept p ok few budget some-trees low (rounds - 1) (omega arith)
 
   pub is-deep-answer : (new : List ℕ) (r : Planned) → take (r .places) new ≡ deepTour p budget rounds → summaryOf r ≡ deepSummary p budget rounds → r .multipliers ≡ kept p budget rounds .multipliers
       → IsDeepAnswer p budget rounds new r
@@ -142,24 +145,24 @@ module _ (p : Plan) (ok : Plannable p) (few : componentCount p ≤ 8) (budget : 
       let f : r .floor ≡ k .floor = ap (λ (x : Summary). x .floor) s in
       let b : r .whole ≡ isClosed k = ap (λ (x : Summary). x .whole) s in
       let mu : multipliersOf r ≡ uOf (k .multipliers) = ap uOf m in
-      let says = closed-says p ok few budget some-trees (rounds - 1) k h in
-      let t = told p ok few budget some-trees (rounds - 1) k h in
+      let says = closed-says p ok few (rounds - 1) k h in
+      let t = told p ok few (rounds - 1) k h in
       record {
-        drive = subst⁻¹ (IsRenumberedTour p (numberIn (k .drive .to)) budget) d t;
-        costs = ap (tourCost p) d ∙ told-cost p ok few budget some-trees (rounds - 1) k h ∙ sym c;
-        below-every-tour = λ w g. subst⁻¹ (λ f. f ≤ℤ pos (tourCost p w)) f (below p ok few budget some-trees (rounds - 1) k h w g);
-        above-balancing = subst⁻¹ (λ f. pos (requiredCost p + leastBalancing p []) ≤ℤ f) f (above p ok few budget some-trees (rounds - 1) k h);
-        multipliers = subst⁻¹ (AreMultipliers p) mu (kept-multipliers p ok few budget some-trees (rounds - 1) k h);
-        floor-from = elim (floor-found p ok few budget some-trees (rounds - 1) k h) [
+        drive = subst⁻¹ (IsRenumberedTour p (numberIn (k .drive .numbering .to)) (k .drive .tries)) d t;
+        costs = ap (tourCost p) d ∙ told-cost p ok few (rounds - 1) k h ∙ sym c;
+        below-every-tour = λ w g. subst⁻¹ (λ f. f ≤ℤ pos (tourCost p w)) f (below p ok few (rounds - 1) k h w g);
+        above-balancing = subst⁻¹ (λ f. pos (requiredCost p + leastBalancing p []) ≤ℤ f) f (above p ok few (rounds - 1) k h);
+        multipliers = subst⁻¹ (AreMultipliers p) mu (kept-multipliers p ok few (rounds - 1) k h);
+        floor-from = elim (floor-found p ok few (rounds - 1) k h) [
           | inl e ↦ inl (f ∙ e ∙ ap pos (sym c))
-          | inr e ↦ inr (f ∙ e ∙ ap (boundUnder p (k .bound)) (sym mu))
+          | inr e ↦ inr (f ∙ e ∙ ap (boundUnder p (k .bound .numbering)) (sym mu))
         ];
         whole-says = ((λ t. f ∙ says .0 (subst T b t) ∙ ap pos (sym c)), (λ e. subst⁻¹ T b (says .1 (sym f ∙ e ∙ ap pos c))));
-        whole-least = λ t w g. subst⁻¹ (λ c. c ≤ tourCost p w) c (closed-least p ok few budget some-trees (rounds - 1) k h (subst T b t) w g);
+        whole-least = λ t w g. subst⁻¹ (λ c. c ≤ tourCost p w) c (closed-least p ok few (rounds - 1) k h (subst T b t) w g);
       }
 
   -- laid once more under the numbering of the least cost
-  pub is-deep : (old new : List ℕ) (a r : Planned) → verdictNumber (a .verdict) ≡ none → IsPlanned (under p (kept p budget rounds .drive)) budget none old new a
+  pub is-deep : (old new : List ℕ) (a r : Planned) → verdictNumber (a .verdict) ≡ none → IsPlanned (under p (kept p budget rounds .drive .numbering)) (kept p budget rounds .drive .tries) none old new a
       → verdictNumber (r .verdict) ≡ none → r .places ≡ a .places → summaryOf r ≡ deepSummary p budget rounds → r .multipliers ≡ kept p budget rounds .multipliers
       → IsDeep p budget rounds none old new r
   unfolding answer fields unless countUnless multipliersUnless deepTour

@@ -1,21 +1,20 @@
 -- The chain of refusals, and the whole call: as the plan call's, with 23 between 9 and 10.
 use mathlib.Core.Path.{_≡_, refl, sym, ap, _∙_, subst, subst⁻¹}
-use mathlib.Core.Bool.{Bool, true, false}
+use mathlib.Core.Bool.{Bool, true, false, not}
 use mathlib.Core.List.{List, [], _∷_, _++_}
 use mathlib.Core.Option.{Option, none, some, Option·some-ne-none}
 use Prim.Native.Nat.{ℕ, _≤_, _<_}
 use native.Mathlib.Omega.{arith}
 use borrow.Author.Tests.{lt-ltb, le-ltb}
-use lib.ListN.{length, replicate}
-use lib.Dec.{ltb}
-use lib.IntN.{pos}
+use lib.ListN.{length}
+use lib.Dec.{T, ltb}
 use Rattle.postman.specs.Plan.{Plan, WellFormed}
 use Rattle.postman.specs.Refusal.{Conditions, firstRefusal, answer, unless}
 use Rattle.postman.specs.PlanFile.{fileConditions, isOutside, planOf}
-use Rattle.postman.specs.PlanCall.{callConditions, lastConditions, conditionsBefore, callRefusal, earlierConditions, partsConditions, isCutOff, fields}
+use Rattle.postman.specs.PlanCall.{callConditions, lastConditions, callRefusal, earlierConditions, isCutOff, fields}
 use Rattle.postman.specs.Theorem.{last-cut-off}
 use Rattle.postman.specs.Laws.Acceptance.{inside, before-accepted, file-accepted}
-use Rattle.postman.specs.Laws.Refusal.{Other, first-on, first-stop, before-order, before-other, own-passed}
+use Rattle.postman.specs.Laws.Refusal.{Other, accepted-cons, first-on, first-stop, before-order, before-other, own-passed}
 use Rattle.plan.specs.Records.{planValue}
 use Rattle.refusal.specs.declared.Refusal.{Refusal}
 use Rattle.refusal.specs.Verdict.{refusalNumber}
@@ -61,6 +60,9 @@ step-on p budget rounds cs ds old new x h i = deep-as p p budget rounds _ _ old 
 
 -- ---- 23
 
+of-false : (b : Bool) → T (not b) → b ≡ false
+of-false false t = refl
+
 module _ (rounds : ℕ) where
   pub few-rounds : rounds < 1 → true ≡ isOutside rounds 1 highestRounds
   unfolding isOutside
@@ -81,6 +83,10 @@ module _ (rounds : ℕ) where
   pub rounds-in : isOutside rounds 1 highestRounds ≡ false → (1 ≤ rounds) × (rounds ≤ 1000)
   unfolding highestRounds
   rounds-in h = inside rounds 1 1000 h
+
+  pub rounds-accepted : firstRefusal (roundConditions rounds) ≡ none → rounds ≤ 1000
+  unfolding roundConditions highestRounds
+  rounds-accepted e = inside rounds 1 1000 (of-false _ (accepted-cons _ _ _ e .0)) .1
 
   pub rounds-other : Other 12 (roundConditions rounds)
   unfolding roundConditions

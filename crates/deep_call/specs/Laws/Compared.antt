@@ -4,19 +4,17 @@ use mathlib.Core.Bool.{Bool, true}
 use mathlib.Core.List.{List, [], _∷_}
 use mathlib.Core.Option.{Option, none, some}
 use Prim.Native.Nat.{ℕ, _+_, _-_, _≤_}
-use native.Mathlib.Nat.{add-zero}
 use native.Mathlib.Omega.{arith}
 use lib.ListN.{length, take, drop}
 use lib.Seq.{take-append-seam}
 use lib.Dec.{T}
-use lib.IntN.{ℤ, pos}
+use lib.IntN.{ℤ}
 use lib.Signed.{_≤ℤ_}
-use Rattle.postman.specs.Plan.{Plan, WellFormed}
+use Rattle.postman.specs.Plan.{Plan}
 use Rattle.postman.specs.Refusal.{firstRefusal, answer, unless}
 use Rattle.postman.specs.PlanFile.{isOutside, planOf}
 use Rattle.postman.specs.Component.{componentCount}
-use Rattle.postman.specs.PlanCall.{Summary, summary, fields, bestCost, triedCount, highestBudget, isCutOff, callRefusal}
-use Rattle.postman.specs.Laws.Tests.{of-true, test}
+use Rattle.postman.specs.PlanCall.{Summary, summary, fields, bestCost, triedCount, highestBudget, isCutOff}
 use Rattle.postman.specs.Laws.Refusal.{accepted-cons, accepted-append}
 use Rattle.postman.specs.Laws.Acceptance.{before-accepted, file-accepted}
 use Rattle.postman.specs.Laws.Optimality.{Plannable}
@@ -25,8 +23,8 @@ use Rattle.multipliers.specs.Tour.{tourOf}
 use Rattle.circuit.specs.Tour.{written}
 use Rattle.refusal.specs.Verdict.{verdictNumber}
 use Rattle.solution.specs.declared.Planned.{Planned}
-use Rattle.solution.specs.Planned.{summaryOf, multipliersOf, countUnless, IsPlanned}
-use Rattle.solution.specs.Laws.Answered.{cost-is, floor-is, is-answer, summary-given, count-is}
+use Rattle.solution.specs.Planned.{summaryOf, countUnless, IsPlanned}
+use Rattle.solution.specs.Laws.Answered.{cost-is, floor-is}
 use Rattle.planner.specs.Contract.{IsPlanCall}
 use Rattle.deep_call.specs.declared.kept.Kept.{Kept}
 use Rattle.deep_call.specs.Rounds.{under, floorOf, begun, isClosed, keptAfter, kept, deepSummary, deepTour}
@@ -35,7 +33,7 @@ use Rattle.deep_call.specs.Contract.{multipliersUnless, IsDeep, IsDeepCa
 use Rattle.deep_call.specs.Compared.{SameButWhole, NoWorse, Deepens}
 use Rattle.deep_call.specs.Laws.Kept.{under-unchanged, more-better, closed-stays}
 use Rattle.deep_call.specs.Laws.Answer.{is-tried}
-use Rattle.deep_call.specs.Laws.Call.{as-call-refusal, rounds-good}
+use Rattle.deep_call.specs.Laws.Call.{as-call-refusal, rounds-good, rounds-accepted}
 
 -- ---- what is read off an answer that is no refusal
 
@@ -66,11 +64,12 @@ module _ (p : Plan) (budget rounds : ℕ) (old new : List ℕ) (r : Planned) (i 
 
 -- ---- a call that is not refused
 
-pub record DeepAccepted (bytes : List ℕ) (budget : ℕ) : Type 0 where
+pub record DeepAccepted (bytes : List ℕ) (budget rounds : ℕ) : Type 0 where
   pub plannable : Plannable (planOf bytes)
   pub few : componentCount (planOf bytes) ≤ 8
   pub some-budget : 1 ≤ budget
   pub low : budget ≤ 1000000
+  pub few-rounds : rounds ≤ 1000
 
 module _ (bytes : List ℕ) (budget rounds places : ℕ) (e : deepRefusal bytes budget rounds places ≡ none) where
   abbrev p : Plan
@@ -80,7 +79,7 @@ module _ (bytes : List ℕ) (budget rounds places : ℕ) (e : deepRefusal bytes 
   unfolding deepRefusal
   all = accepted-append (earlierConditionsIn bytes budget rounds places) ((isCutOff p, 12) ∷ []) e
 
-  pub deep-accepted : DeepAccepted bytes budget
+  pub deep-accepted : DeepAccepted bytes budget rounds
   unfolding earlierConditionsIn highestBudget
   deep-accepted =
       let b = before-accepted bytes budget places (roundConditions rounds) p (all .0) in
@@ -89,6 +88,7 @@ module _ (bytes : List ℕ) (budget rounds places : ℕ) (e : deepRefusal bytes 
         few = b .components;
         some-budget = b .some-budget;
         low = b .budget;
+        few-rounds = rounds-accepted rounds (b .own-accepted);
       }
 
 -- ---- one round
@@ -158,21 +158,21 @@ first-same bytes budget old new new′ r s d c =
 
 -- ---- more rounds
 
-module _ (bytes : List ℕ) (budget : ℕ) (a : DeepAccepted bytes budget) where
-  kept-better : (x y : ℕ) → x ≤ y → (kept (planOf bytes) budget y .cost ≤ kept (planOf bytes) budget x .cost) × (kept (planOf bytes) budget x .floor ≤ℤ kept (planOf bytes) budget y .floor)
+module _ (bytes : List ℕ) (budget y : ℕ) (a : DeepAccepted bytes budget y) where
+  kept-better : (x : ℕ) → x ≤ y → (kept (planOf bytes) budget y .cost ≤ kept (planOf bytes) budget x .cost) × (kept (planOf bytes) budget x .floor ≤ℤ kept (planOf bytes) budget y .floor)
   unfolding kept
-  kept-better x y l =
+  kept-better x l =
       let e : (y - 1) - (x - 1) + (x - 1) ≡ y - 1 = omega arith in
       subst (λ n. (keptAfter (planOf bytes) budget n .cost ≤ keptAfter (planOf bytes) budget (x - 1) .cost) × (keptAfter (planOf bytes) budget (x - 1) .floor ≤ℤ keptAfter (planOf bytes) budget n .floor)) e
-      (more-better (planOf bytes) (a .plannable) (a .few) budget (a .low) (x - 1) ((y - 1) - (x - 1)))
+      (more-better (planOf bytes) (a .plannable) (a .few) budget (a .some-budget) (a .low) (x - 1) ((y - 1) - (x - 1)) (let f = a .few-rounds in omega arith))
 
   -- from the first round on, which no rounds at all would leave too
-  from-first : (y : ℕ) → (kept (planOf bytes) budget y .cost ≤ kept (planOf bytes) budget 1 .cost) × (kept (planOf bytes) budget 1 .floor ≤ℤ kept (planOf bytes) budget y .floor)
+  from-first : (kept (planOf bytes) budget y .cost ≤ kept (planOf bytes) budget 1 .cost) × (kept (planOf bytes) budget 1 .floor ≤ℤ kept (planOf bytes) budget y .floor)
   unfolding kept
-  from-first y =
+  from-first =
       let e : y - 1 + 0 ≡ y - 1 = omega arith in
       subst (λ n. (keptAfter (planOf bytes) budget n .cost ≤ keptAfter (planOf bytes) budget 0 .cost) × (keptAfter (planOf bytes) budget 0 .floor ≤ℤ keptAfter (planOf bytes) budget n .floor)) e
-      (more-better (planOf bytes) (a .plannable) (a .few) budget (a .low) 0 (y - 1))
+      (more-better (planOf bytes) (a .plannable) (a .few) budget (a .some-budget) (a .low) 0 (y - 1) (let f = a .few-rounds in omega arith))
 
 is-true : (b : Bool) → T b → b ≡ true
 is-true true t = refl
@@ -183,7 +183,7 @@ same-summary p budget x y e = ap (λ (k : Kept). record { cost = k .cost; floor 
 
 same-tour : (p : Plan) (budget x y : ℕ) → kept p budget y ≡ kept p budget x → deepTour p budget y ≡ deepTour p budget x
 unfolding deepTour
-same-tour p budget x y e = ap (λ (k : Kept). tourOf (under p (k .drive)) budget) e
+same-tour p budget x y e = ap (λ (k : Kept). tourOf (under p (k .drive .numbering)) (k .drive .tries)) e
 
 kept-closed : (p : Plan) (budget x y : ℕ) → x ≤ y → isClosed (kept p budget x) ≡ true → kept p budget y ≡ kept p budget x
 unfolding kept
@@ -198,7 +198,7 @@ first-no-worse bytes budget rounds old new old′ new′ r s c d good-c good-d =
     let e = sym (d .deep .verdict) ∙ good-d in
     let i = subst (λ (o : Option ℕ). IsDeep p budget rounds o old′ new′ s) e (d .deep) in
     let t = is-tried p budget _ old new r (c .planned) (sym (c .planned .verdict) ∙ good-c) in
-    let b = from-first bytes budget (deep-accepted bytes budget rounds (length old′) e) rounds in
+    let b = from-first bytes budget rounds (deep-accepted bytes budget rounds (length old′) e) in
     record {
       no-dearer = subst⁻¹ (λ x. s .cost ≤ x) (t .cost-is ∙ sym (first-cost p budget)) (subst⁻¹ (λ x. x ≤ kept p budget 1 .cost) (cost-deep p budget rounds old′ new′ s i) (b .0));
       no-lower = subst⁻¹ (λ x. x ≤ℤ s .floor) (t .floor-is ∙ sym (first-floor p budget)) (subst⁻¹ (λ x. kept p budget 1 .floor ≤ℤ x) (floor-deep p budget rounds old′ new′ s i) (b .1));
@@ -212,7 +212,7 @@ deepens bytes budget a b more old new old′ new′ r s x y good-x good-y =
     let ey = sym (y .deep .verdict) ∙ good-y in
     let i = subst (λ (o : Option ℕ). IsDeep p budget a o old new r) ex (x .deep) in
     let j = subst (λ (o : Option ℕ). IsDeep p budget b o old′ new′ s) ey (y .deep) in
-    let g = kept-better bytes budget (deep-accepted bytes budget a (length old) ex) a b more in
+    let g = kept-better bytes budget b (deep-accepted bytes budget b (length old′) ey) a more in
     let met : T (r .whole) → kept p budget b ≡ kept p budget a = λ t. kept-closed p budget a b more (sym (whole-deep p budget a old new r i) ∙ is-true (r .whole) t) in
     record {
       no-worse = record {

@@ -1,7 +1,7 @@
 -- The plan under a numbering: it is well formed, refused as the plan is, and its tables are the plan's, renumbered.
-use mathlib.Core.Path.{_≡_, refl, sym, ap, _∙_, subst, subst⁻¹}
-use mathlib.Core.List.{List, [], _∷_, _++_, map}
-use mathlib.Core.Option.{Option, none}
+use mathlib.Core.Path.{_≡_, sym, ap, _∙_, subst, subst⁻¹}
+use mathlib.Core.List.{List, [], _∷_, map}
+use mathlib.Core.Option.{none}
 use mathlib.Core.Bool.{not}
 use mathlib.Core.Logic.{_≢_}
 use Prim.Native.Nat.{ℕ, _≤_, _<_}
@@ -11,7 +11,7 @@ use lib.Dec.{T, eqb, ltb, nltb→le}
 use Rattle.postman.specs.Plan.{Arc, Plan, WellFormed, requiredArcs}
 use Rattle.postman.specs.Refusal.{firstRefusal}
 use Rattle.postman.specs.Component.{componentCount}
-use Rattle.postman.specs.PlanCall.{isCutOff, partsConditions, lastConditions}
+use Rattle.postman.specs.PlanCall.{isCutOff, partsConditions}
 use Rattle.postman.specs.Renumbering.{numberIn, renumberedArc, renumbered}
 use Rattle.postman.specs.Laws.Lists.{map-map}
 use Rattle.postman.specs.Laws.Tests.{eqb-other}

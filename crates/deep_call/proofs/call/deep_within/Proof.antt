@@ -1,3 +1,4 @@
+-- Where the rounds refuse, the answer is the refusal's; where they do not, the tables are the plan's.
 use mathlib.Core.Path.{_≡_, sym, _∙_}
 use native.Mathlib.Omega.{arith}
 use lib.ListN.{length}
@@ -7,59 +8,35 @@ use Rattle.deep_call.specs.Laws.Call.{step-refused, step-on, rounds-refu
 use borrow.Author.Needs.{needs}
 use Rattle.deep_call.proofs.call.deep_within.Statement.{statement}
 use Rattle.deep_call.proofs.call.deep_within.Tie as tie
-use Rattle.deep_call.proofs.call.deep_within.Reads as reads
-use Rattle.deep_call.proofs.call.deep_within.Lts as lts
-use Rattle.deep_call.proofs.call.bad_rounds.Reads as bad-rounds-reads
-use Rattle.deep_call.proofs.call.plan_deep.Reads as plan-deep-reads
-use Rattle.planner.proofs.call.refused.Reads as refused-reads
-use Rattle.shortest.proofs.distance.table_of.Reads as table-of-reads
-use Rattle.shortest.proofs.weights.table.Reads as table-reads
 
--- src/call.rt:99:8
 bad-rounds-requires : tie.Need-bad-rounds-requires
 bad-rounds-requires c κs = search needs
 
--- src/call.rt:100:9
 refused-requires : tie.Need-refused-requires
 refused-requires c κs = search needs
 
--- src/call.rt:100:9
 returns : tie.Need-returns
 returns c = step-refused _ _ _ _ _ _ _ _ (c .refused .ensures) (rounds-refused _ (sym (c .before .before .bad-rounds .ensures) ∙ c .before .if1 .taken))
 
--- src/call.rt:102:19
 table-requires : tie.Need-table-requires
 table-requires c κs = search needs
 
--- src/call.rt:103:17
 table-of-requires : tie.Need-table-of-requires
 table-of-requires c κs = search needs
 
--- src/call.rt:104:5
 plan-deep-requires : tie.Need-plan-deep-requires
 plan-deep-requires c κs = let s = c .before .before .before .before .before .before .before .before .before in
     let w = c .before .before .before .before .before .table in
     let t = c .before .before .before .table-of in
     let d = table-costs _ (s .pre .0) (w .result) (t .result) (w .ensures) (t .ensures) in
     let long : length (t .result) ≡ 64 = t .ok .1 .0 .1 in
-    let r = rounds-in _ (sym (c .before .before .before .before .before .before .before .bad-rounds .ensures) ∙ c .before .before .before .before .before .before .if1 .left) in (
-      record {
-        well-formed = s .pre .0;
-        distances = table-is _ (t .result) long (λ i l. rows (t .result) (t .ok .0) (t .ok .1 .1) i (omega arith)) d;
-        weights-are = w .ensures;
-        some-budget = s .pre .1;
-        low-budget = s .pre .2;
-      },
-      r .0,
-      r .1,
-      s .pre .3,
-    )
+    let r = rounds-in _ (sym (c .before .before .before .before .before .before .before .bad-rounds .ensures) ∙ c .before .before .before .before .before .before .if1 .left) in
+    let e = table-is _ (t .result) long (λ i l. rows (t .result) (t .ok .0) (t .ok .1 .1) i (omega arith)) d in
+    ((record { well-formed = s .pre .0; distances = e; weights-are = w .ensures }, s .pre .3), (s .pre .1, s .pre .2, r .0, r .1))
 
--- src/call.rt:95:1
 same-length : tie.Need-same-length
 same-length c = search needs
 
--- src/call.rt:95:1
 returns-2 : tie.Need-returns-2
 returns-2 c = step-on _ _ _ _ _ _ _ _ (rounds-good _ (sym (c .before .before .before .before .before .before .before .before .before .before .bad-rounds .ensures) ∙ c .before .before .before .before .before .before .before .before .before .if1 .left)) (last-deep _ _ _ _ _ _ (c .before .before .before .before .before .before .before .before .before .before .before .before .pre .0) (c .before .before .plan-deep .ensures))
 

@@ -1,18 +1,14 @@
+-- Every vertex keeps its number.
 use Rattle.deep_call.specs.Laws.Made.{begun-as}
 use borrow.Author.Needs.{needs}
 use Rattle.deep_call.proofs.kept.begin.Statement.{statement}
 use Rattle.deep_call.proofs.kept.begin.Tie as tie
-use Rattle.deep_call.proofs.kept.begin.Reads as reads
-use Rattle.deep_call.proofs.kept.begin.Lts as lts
-use Rattle.renumbering.proofs.numbering.identity.Reads as identity-reads
 
--- src/kept.rt:28:9
 identity-requires : tie.Need-identity-requires
 identity-requires c κs = search needs
 
--- src/kept.rt:24:1
 returns : tie.Need-returns
-returns c = begun-as _ _ _ _ _ _ (c .before .identity .ensures) (search needs)
+returns c = begun-as _ _ _ _ _ _ _ (c .before .identity .ensures) (search needs)
 
 pub begin-spec : {M : Type 1} → statement M
 begin-spec = tie.close (tie.spec identity-requires returns)

@@ -1,3 +1,4 @@
+-- A cost fits an i64.
 use Prim.Native.Nat.{_^_, _<_}
 use native.Mathlib.Omega.{arith}
 use mir.Facts.{toZ-ofZ}
@@ -5,14 +6,10 @@ use Rattle.integers.specs.Linear.{plain64}
 use borrow.Author.Needs.{needs}
 use Rattle.deep_call.proofs.kept.closed.Statement.{statement}
 use Rattle.deep_call.proofs.kept.closed.Tie as tie
-use Rattle.deep_call.proofs.kept.closed.Reads as reads
-use Rattle.deep_call.proofs.kept.closed.Lts as lts
 
--- src/kept.rt:103:5
 cast-result : tie.Need-cast-result
 cast-result c = search needs
 
--- src/kept.rt:99:1
 returns : tie.Need-returns
 returns c = let h : c .args .cost < 2 ^ 63 = omega arith in
     let f = toZ-ofZ (c .fits .floor) in

@@ -1,16 +1,13 @@
+-- The two cases of the definition.
 use native.Mathlib.Omega.{arith}
 use Rattle.deep_call.specs.Laws.Made.{drive-left, drive-taken}
 use borrow.Author.Needs.{needs}
 use Rattle.deep_call.proofs.kept.no_dearer.Statement.{statement}
 use Rattle.deep_call.proofs.kept.no_dearer.Tie as tie
-use Rattle.deep_call.proofs.kept.no_dearer.Reads as reads
-use Rattle.deep_call.proofs.kept.no_dearer.Lts as lts
 
--- src/kept.rt:45:9
 returns : tie.Need-returns
 returns c = drive-left _ _ _ (c .if1 .taken)
 
--- src/kept.rt:41:1
 returns-2 : tie.Need-returns-2
 returns-2 c = let s = c .before .before .before .before .before in drive-taken _ (s .args .k) _ _ (omega arith) (search needs)
 

@@ -1,3 +1,4 @@
+-- The two cases of the definition.
 use mathlib.Core.Path.{_≡_}
 use mathlib.Core.Bool.{true, false}
 use lib.Signed.{ltZ}
@@ -7,10 +8,7 @@ use Rattle.deep_call.specs.Laws.Made.{floor-left, floor-taken}
 use borrow.Author.Needs.{needs}
 use Rattle.deep_call.proofs.kept.tighter.Statement.{statement}
 use Rattle.deep_call.proofs.kept.tighter.Tie as tie
-use Rattle.deep_call.proofs.kept.tighter.Reads as reads
-use Rattle.deep_call.proofs.kept.tighter.Lts as lts
 
--- src/kept.rt:65:9
 returns : tie.Need-returns
 returns c = let s = c .before .before .before .before in
     let a : toZ w64 (ofZ w64 (s .args .k .floor)) ≡ s .args .k .floor = search needs in
@@ -18,7 +16,6 @@ returns c = let s = c .before .before .before .before in
     let t : ltZ (s .args .k .floor) (s .args .floor) ≡ true = rw (a, b) at (c .before .if1 .taken) in
     floor-taken _ (s .args .k) _ _ _ t b
 
--- src/kept.rt:61:1
 returns-2 : tie.Need-returns-2
 returns-2 c = let s = c .before .before .before in
     let a : toZ w64 (ofZ w64 (s .args .k .floor)) ≡ s .args .k .floor = search needs in

@@ -1,3 +1,4 @@
+-- The invariant: what is kept is that after the rounds so far. Once closed it stays.
 use mir.Val.{toZ, ofZ}
 use mir.Syntax.{w64}
 use mathlib.Core.Path.{_≡_, ap, _∙_, subst⁻¹}
@@ -12,10 +13,6 @@ use Rattle.deep_call.specs.Rounds.{keptAfter}
 use borrow.Author.Needs.{needs}
 use Rattle.deep_call.proofs.round.deepen.Statement.{statement}
 use Rattle.deep_call.proofs.round.deepen.Tie as tie
-use Rattle.deep_call.proofs.round.deepen.Reads as reads
-use Rattle.deep_call.proofs.round.deepen.Lts as lts
-use Rattle.deep_call.proofs.kept.closed.Reads as closed-reads
-use Rattle.deep_call.proofs.round.next_round.Reads as next-round-reads
 
 abbrev Inv-loop : tie.InvT-loop
 Inv-loop plan table weights budget rounds k₀ i₀ k i = (1 ≤ i) × (i ≤ rounds) × (k ≡ keptAfter (planValue plan) budget (i - 1))
@@ -23,49 +20,42 @@ Inv-loop plan table weights budget rounds k₀ i₀ k i = (1 ≤ i) × (i ≤ ro
 abbrev μ-loop : tie.MeasureT-loop
 μ-loop plan table weights budget rounds k₀ i₀ k i = rounds - i
 
--- src/round.rt:114:5
 loop-holds : tie.Need-loop-holds Inv-loop μ-loop
-loop-holds c = (omega arith, c .pre .0 .2, c .pre .1)
+loop-holds c = (omega arith, c .pre .1 .2, c .pre .0 .2)
 
--- src/round.rt:115:12
 closed-requires : tie.Need-closed-requires Inv-loop μ-loop
 closed-requires c κs = let s = c .before .before .before in
-    let t = s .pre .0 .0 in
-    cost-fits _ (t .well-formed) (s .pre .0 .1) _ (t .some-budget) (t .low-budget) _ _ (c .before .before .loop .inv .2)
+    let b = s .pre .1 in
+    cost-fits _ (s .pre .0 .0 .well-formed) (s .pre .0 .1) _ (b .0) (b .1) _ _ (omega arith) (c .before .before .loop .inv .2)
 
--- src/round.rt:116:13
 returns : tie.Need-returns Inv-loop μ-loop
 returns c = let l = c .before .before .before .before .loop in
     let f : toZ w64 (ofZ w64 (l .k .floor)) ≡ l .k .floor = search needs in
     ended _ _ (l .i) _ (l .k) (l .inv .0) (l .inv .1) (l .inv .2) (closed-as (l .k) _ _ _ f (c .before .closed .ensures) (c .if1 .taken))
 
--- src/round.rt:118:61
 add-next-round : tie.Need-add-next-round Inv-loop μ-loop
 add-next-round c = search needs
 
--- src/round.rt:118:13
 next-round-requires : tie.Need-next-round-requires Inv-loop μ-loop
 next-round-requires c κs = let s = c .before .before .before .before .before in
     let l = c .before .before .before .before .loop in
-    let t = s .pre .0 .0 in
-    let a = plan-accepted _ (t .well-formed) (s .pre .0 .1) in
-    (t, s .pre .0 .1, subst⁻¹ (GoesOn _) (l .inv .2) (goes-on _ (a .0) (a .1) _ (t .low-budget) (l .i - 1) (omega arith)))
+    let b = s .pre .1 in
+    let a = plan-accepted _ (s .pre .0 .0 .well-formed) (s .pre .0 .1) in (
+      (s .pre .0 .0, s .pre .0 .1, subst⁻¹ (GoesOn _) (l .inv .2) (goes-on _ (a .0) (a .1) _ (b .0) (b .1) (l .i - 1) (omega arith))),
+      (b .0, b .1, omega arith, omega arith),
+    )
 
--- src/round.rt:114:9
 add-i : tie.Need-add-i Inv-loop μ-loop
 add-i c = search needs
 
--- src/round.rt:114:5
 loop-less : tie.Need-loop-less Inv-loop μ-loop
 loop-less c = search needs
 
--- src/round.rt:114:5
 loop-again : tie.Need-loop-again Inv-loop μ-loop
 loop-again c = let l = c .before .before .before .before .before .loop in
     let f : toZ w64 (ofZ w64 (l .k .floor)) ≡ l .k .floor = search needs in
     (omega arith, omega arith, deeper _ _ (l .i) (l .k) _ (l .inv .0) (l .inv .2) (closed-as (l .k) _ _ _ f (c .before .before .closed .ensures) (c .before .if1 .left)) (c .next-round .ensures))
 
--- src/round.rt:101:1
 returns-2 : tie.Need-returns-2 Inv-loop μ-loop
 returns-2 c = let s = c .before .before in let l = c .before .loop in l .inv .2 ∙ ap (keptAfter (planValue (s .args .plan)) (s .args .budget)) (omega arith)
 

@@ -1,23 +1,18 @@
+-- What the plan call answers is what the round finds.
 use native.Mathlib.Omega.{arith}
 use Rattle.postman.specs.PlanCall.{sheetPlaces}
 use Rattle.deep_call.specs.Laws.Answer.{is-tried}
 use borrow.Author.Needs.{needs}
 use Rattle.deep_call.proofs.round.tried.Statement.{statement}
 use Rattle.deep_call.proofs.round.tried.Tie as tie
-use Rattle.deep_call.proofs.round.tried.Reads as reads
-use Rattle.deep_call.proofs.round.tried.Lts as lts
-use Rattle.deep_call.proofs.round.plan_under.Reads as plan-under-reads
 
--- src/round.rt:61:49
 slice-aggregate-plan-under : tie.Need-slice-aggregate-plan-under
 slice-aggregate-plan-under c = search needs
 
--- src/round.rt:61:5
 plan-under-requires : tie.Need-plan-under-requires
 unfolding sheetPlaces
 plan-under-requires c κs = let s = c .before in (s .pre .0, s .pre .1, omega arith)
 
--- src/round.rt:50:1
 returns : tie.Need-returns
 returns c = is-tried _ _ _ _ _ _ (c .before .plan-under .ensures) (c .before .before .before .pre .2)
 

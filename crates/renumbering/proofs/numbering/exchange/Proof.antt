@@ -1,3 +1,4 @@
+-- Both vertices are below 64.
 use mathlib.Core.Path.{refl}
 use native.Mathlib.Omega.{arith}
 use Rattle.renumbering.specs.Numbering.{exchanged}
@@ -5,51 +6,37 @@ use Rattle.renumbering.specs.Laws.Numbering.{vertex-in}
 use borrow.Author.Needs.{needs}
 use Rattle.renumbering.proofs.numbering.exchange.Statement.{statement}
 use Rattle.renumbering.proofs.numbering.exchange.Tie as tie
-use Rattle.renumbering.proofs.numbering.exchange.Reads as reads
-use Rattle.renumbering.proofs.numbering.exchange.Lts as lts
-use Rattle.integers.proofs.wide.Reads as wide-reads
 
--- src/numbering.rt:34:13
 array-read-v : tie.Need-array-read-v
 array-read-v c = search needs
 
--- src/numbering.rt:35:13
 array-read-w : tie.Need-array-read-w
 array-read-w c = search needs
 
--- src/numbering.rt:36:5
 array-write-from : tie.Need-array-write-from
 array-write-from c = search needs
 
--- src/numbering.rt:37:5
 array-write-from-2 : tie.Need-array-write-from-2
 array-write-from-2 c = search needs
 
--- src/numbering.rt:38:19
 cast-to : tie.Need-cast-to
 cast-to c = search needs
 
--- src/numbering.rt:38:8
 wide-requires : tie.Need-wide-requires
 wide-requires c κs = search needs
 
--- src/numbering.rt:38:5
 array-write-to : tie.Need-array-write-to
 array-write-to c = let s = c .before .before .before in omega (arith, vertex-in 64 (omega arith) _ (s .pre .0) _ (s .pre .1))
 
--- src/numbering.rt:39:19
 cast-to-2 : tie.Need-cast-to-2
 cast-to-2 c = search needs
 
--- src/numbering.rt:39:8
 wide-requires-2 : tie.Need-wide-requires-2
 wide-requires-2 c κs = search needs
 
--- src/numbering.rt:39:5
 array-write-to-2 : tie.Need-array-write-to-2
 array-write-to-2 c = let s = c .before .before .before .before in omega (arith, vertex-in 64 (omega arith) _ (s .pre .0) _ (s .pre .2))
 
--- src/numbering.rt:28:1
 returns : tie.Need-returns
 unfolding exchanged
 returns c = rw (c .before .wide .ensures, c .wide2 .ensures) refl

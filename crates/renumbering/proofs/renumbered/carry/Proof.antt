@@ -1,3 +1,4 @@
+-- The invariant: the entries before the vth are those of the new numbers.
 use mathlib.Core.Path.{_≡_, ap, _∙_}
 use mir.Val.{toZ, ofZ}
 use mir.Syntax.{w64}
@@ -11,10 +12,6 @@ use Rattle.renumbering.specs.Laws.Renumbered.{carried-by}
 use borrow.Author.Needs.{needs}
 use Rattle.renumbering.proofs.renumbered.carry.Statement.{statement}
 use Rattle.renumbering.proofs.renumbered.carry.Tie as tie
-use Rattle.renumbering.proofs.renumbered.carry.Reads as reads
-use Rattle.renumbering.proofs.renumbered.carry.Lts as lts
-use Rattle.integers.proofs.wide.Reads as wide-reads
-use Rattle.renumbering.proofs.renumbered.entry.Reads as entry-reads
 
 abbrev Inv-loop : tie.InvT-loop
 Inv-loop to u r₀ v₀ r v = (v ≤ 64) × Prefix 64 (pos 0) (λ k. getD u (numberIn to k) (pos 0)) r v
@@ -22,43 +19,33 @@ Inv-loop to u r₀ v₀ r v = (v ≤ 64) × Prefix 64 (pos 0) (λ k. getD u (num
 abbrev μ-loop : tie.MeasureT-loop
 μ-loop to u r₀ v₀ r v = 64 - v
 
--- src/renumbered.rt:96:5
 loop-holds : tie.Need-loop-holds Inv-loop μ-loop
 loop-holds c = (omega arith, prefix-none 64 (pos 0) _ (pos 0))
 
--- src/renumbered.rt:97:22
 entry-requires : tie.Need-entry-requires Inv-loop μ-loop
 entry-requires c κs = search needs
 
--- src/renumbered.rt:97:13
 wide-requires : tie.Need-wide-requires Inv-loop μ-loop
 wide-requires c κs = search needs
 
--- src/renumbered.rt:98:16
 mul-r : tie.Need-mul-r Inv-loop μ-loop
 mul-r c = search needs
 
--- src/renumbered.rt:98:16
 array-copy-out-r : tie.Need-array-copy-out-r Inv-loop μ-loop
 array-copy-out-r c = let s = c .before .before .before in let e = c .before .entry .ensures in let w = c .wide .ensures in omega (arith, s .before .pre .1 (s .loop .v) (omega arith))
 
--- src/renumbered.rt:98:9
 mul-r-2 : tie.Need-mul-r-2 Inv-loop μ-loop
 mul-r-2 c = search needs
 
--- src/renumbered.rt:98:9
 array-set-from-r : tie.Need-array-set-from-r Inv-loop μ-loop
 array-set-from-r c = search needs
 
--- src/renumbered.rt:96:9
 add-v : tie.Need-add-v Inv-loop μ-loop
 add-v c = search needs
 
--- src/renumbered.rt:96:5
 loop-less : tie.Need-loop-less Inv-loop μ-loop
 loop-less c = search needs
 
--- src/renumbered.rt:96:5
 loop-again : tie.Need-loop-again Inv-loop μ-loop
 loop-again c = let l = c .before .before .before .before .loop in
     let s = c .before .before .before .before .before in
@@ -67,7 +54,6 @@ loop-again c = let l = c .before .before .before .before .loop in
     let e = ap (λ i. getD (s .args .t1) i (pos 0)) (c .before .wide .ensures ∙ c .before .before .entry .ensures) in
     (omega arith, prefix-more 64 (pos 0) _ (l .r) (l .v) _ (l .inv .1) (omega arith) (b ∙ e))
 
--- src/renumbered.rt:91:1
 returns : tie.Need-returns Inv-loop μ-loop
 returns c = let l = c .before .loop in carried-by _ _ (l .r) (l .inv .1 .long) (λ v g. l .inv .1 .before v (omega arith))
 

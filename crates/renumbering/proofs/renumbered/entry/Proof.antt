@@ -1,16 +1,13 @@
+-- The array has the place.
 use native.Mathlib.Omega.{arith}
 use Rattle.renumbering.specs.Laws.Numbering.{in-place}
 use borrow.Author.Needs.{needs}
 use Rattle.renumbering.proofs.renumbered.entry.Statement.{statement}
 use Rattle.renumbering.proofs.renumbered.entry.Tie as tie
-use Rattle.renumbering.proofs.renumbered.entry.Reads as reads
-use Rattle.renumbering.proofs.renumbered.entry.Lts as lts
 
--- src/renumbered.rt:18:5
 element-copy-out-result : tie.Need-element-copy-out-result
 element-copy-out-result c = search needs
 
--- src/renumbered.rt:14:1
 returns : tie.Need-returns
 returns c = let s = c .before in in-place (s .args .numbers .now) (s .args .v) 0 _ (omega arith)
 

@@ -1,3 +1,4 @@
+-- The invariant: the records before the kth hold the arcs between the new numbers.
 use mathlib.Core.Path.{_≡_, refl}
 use Prim.Native.Nat.{_-_, _≤_}
 use native.Mathlib.Omega.{arith}
@@ -10,9 +11,6 @@ use Rattle.renumbering.specs.Laws.Renumbered.{plan-renumbered}
 use borrow.Author.Needs.{needs}
 use Rattle.renumbering.proofs.renumbered.renumber.Statement.{statement}
 use Rattle.renumbering.proofs.renumbered.renumber.Tie as tie
-use Rattle.renumbering.proofs.renumbered.renumber.Reads as reads
-use Rattle.renumbering.proofs.renumbered.renumber.Lts as lts
-use Rattle.renumbering.proofs.renumbered.renumber_arc.Reads as renumber-arc-reads
 
 abbrev Inv-loop : tie.InvT-loop
 Inv-loop to plan arcs₀ m k₀ arcs k = (m ≡ plan .m) × (k ≤ m) × HoldMade plan (λ k. renumberedArc (numberIn to)) arcs k
@@ -20,47 +18,36 @@ Inv-loop to plan arcs₀ m k₀ arcs k = (m ≡ plan .m) × (k ≤ m) × HoldMad
 abbrev μ-loop : tie.MeasureT-loop
 μ-loop to plan arcs₀ m k₀ arcs k = m - k
 
--- src/renumbered.rt:50:13
 cast-m : tie.Need-cast-m Inv-loop μ-loop
 cast-m c = search needs
 
--- src/renumbered.rt:51:5
 loop-holds : tie.Need-loop-holds Inv-loop μ-loop
 loop-holds c = (refl, omega arith, prefix-none 256 zeroRecord _ zeroRecord)
 
--- src/renumbered.rt:52:30
 mul-renumber-arc : tie.Need-mul-renumber-arc Inv-loop μ-loop
 mul-renumber-arc c = search needs
 
--- src/renumbered.rt:52:30
 element-copy-out-renumber-arc : tie.Need-element-copy-out-renumber-arc Inv-loop μ-loop
 element-copy-out-renumber-arc c = let h = record-arcs _ (c .before .before .pre .0) in search needs
 
--- src/renumbered.rt:52:13
 renumber-arc-requires : tie.Need-renumber-arc-requires Inv-loop μ-loop
 renumber-arc-requires c κs = let s = c .before .before .before in let e = record-ends _ (s .pre .0) (c .before .before .loop .k) (omega arith) in (e .0, e .1, s .pre .1)
 
--- src/renumbered.rt:53:9
 mul-arcs : tie.Need-mul-arcs Inv-loop μ-loop
 mul-arcs c = search needs
 
--- src/renumbered.rt:53:9
 array-set-from-arcs : tie.Need-array-set-from-arcs Inv-loop μ-loop
 array-set-from-arcs c = let h = record-arcs _ (c .before .before .before .before .pre .0) in omega arith
 
--- src/renumbered.rt:51:9
 add-k : tie.Need-add-k Inv-loop μ-loop
 add-k c = search needs
 
--- src/renumbered.rt:51:5
 loop-less : tie.Need-loop-less Inv-loop μ-loop
 loop-less c = search needs
 
--- src/renumbered.rt:51:5
 loop-again : tie.Need-loop-again Inv-loop μ-loop
 loop-again c = let v = c .before .before .before in (refl, omega arith, prefix-more 256 zeroRecord _ (v .loop .arcs) (v .loop .k) _ (v .loop .inv .2) (let h = record-arcs _ (v .before .pre .0) in omega arith) (c .renumber-arc .ensures))
 
--- src/renumbered.rt:38:1
 returns : tie.Need-returns Inv-loop μ-loop
 returns c = let v = c .before in plan-renumbered _ _ (v .loop .arcs) (v .loop .k) (v .loop .inv .2) (omega arith)
 

@@ -1,3 +1,4 @@
+-- The invariant: the entries before the jth are those of their vertices.
 use mathlib.Core.Path.{ap, _∙_}
 use Prim.Native.Nat.{_-_, _≤_}
 use lib.ListN.{getD}
@@ -7,10 +8,6 @@ use Rattle.postman.specs.Renumbering.{numberIn}
 use borrow.Author.Needs.{needs}
 use Rattle.renumbering.proofs.renumbered.renumber_row.Statement.{statement}
 use Rattle.renumbering.proofs.renumbered.renumber_row.Tie as tie
-use Rattle.renumbering.proofs.renumbered.renumber_row.Reads as reads
-use Rattle.renumbering.proofs.renumbered.renumber_row.Lts as lts
-use Rattle.integers.proofs.wide.Reads as wide-reads
-use Rattle.renumbering.proofs.renumbered.entry.Reads as entry-reads
 
 abbrev Inv-loop : tie.InvT-loop
 Inv-loop from row r₀ j₀ r j = (j ≤ 64) × Prefix 64 0 (λ k. getD row (numberIn from k) 0) r j
@@ -18,47 +15,36 @@ Inv-loop from row r₀ j₀ r j = (j ≤ 64) × Prefix 64 0 (λ k. getD row (num
 abbrev μ-loop : tie.MeasureT-loop
 μ-loop from row r₀ j₀ r j = 64 - j
 
--- src/renumbered.rt:68:5
 loop-holds : tie.Need-loop-holds Inv-loop μ-loop
 loop-holds c = (omega arith, prefix-none 64 0 _ 0)
 
--- src/renumbered.rt:69:22
 entry-requires : tie.Need-entry-requires Inv-loop μ-loop
 entry-requires c κs = search needs
 
--- src/renumbered.rt:69:13
 wide-requires : tie.Need-wide-requires Inv-loop μ-loop
 wide-requires c κs = search needs
 
--- src/renumbered.rt:70:16
 mul-r : tie.Need-mul-r Inv-loop μ-loop
 mul-r c = search needs
 
--- src/renumbered.rt:70:16
 array-read-r : tie.Need-array-read-r Inv-loop μ-loop
 array-read-r c = let s = c .before .before .before in let e = c .before .entry .ensures in let w = c .wide .ensures in omega (arith, s .before .pre .1 (s .loop .j) (omega arith))
 
--- src/renumbered.rt:70:9
 mul-r-2 : tie.Need-mul-r-2 Inv-loop μ-loop
 mul-r-2 c = search needs
 
--- src/renumbered.rt:70:9
 array-write-r : tie.Need-array-write-r Inv-loop μ-loop
 array-write-r c = search needs
 
--- src/renumbered.rt:68:9
 add-j : tie.Need-add-j Inv-loop μ-loop
 add-j c = search needs
 
--- src/renumbered.rt:68:5
 loop-less : tie.Need-loop-less Inv-loop μ-loop
 loop-less c = search needs
 
--- src/renumbered.rt:68:5
 loop-again : tie.Need-loop-again Inv-loop μ-loop
 loop-again c = let l = c .before .before .before .loop in (omega arith, prefix-more 64 0 _ (l .r) (l .j) _ (l .inv .1) (omega arith) (ap (λ i. getD (c .before .before .before .before .args .t1) i 0) (c .wide .ensures ∙ c .before .entry .ensures)))
 
--- src/renumbered.rt:63:1
 returns : tie.Need-returns Inv-loop μ-loop
 returns c = let l = c .before .loop in λ j g. l .inv .1 .before j (omega arith)
 

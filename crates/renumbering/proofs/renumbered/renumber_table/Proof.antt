@@ -1,3 +1,4 @@
+-- The invariant: the rows before the ith are those of their vertices.
 use mathlib.Core.Path.{_≡_, ap, _∙_, subst}
 use lib.ListN.{length, getD, set, replicate, length-set, length-replicate}
 use Rattle.renumbering.specs.Laws.Renumbered.{row-stored}
@@ -9,11 +10,6 @@ use Rattle.renumbering.specs.Renumbered.{IsRenumberedRow}
 use borrow.Author.Needs.{needs}
 use Rattle.renumbering.proofs.renumbered.renumber_table.Statement.{statement}
 use Rattle.renumbering.proofs.renumbered.renumber_table.Tie as tie
-use Rattle.renumbering.proofs.renumbered.renumber_table.Reads as reads
-use Rattle.renumbering.proofs.renumbered.renumber_table.Lts as lts
-use Rattle.integers.proofs.wide.Reads as wide-reads
-use Rattle.renumbering.proofs.renumbered.entry.Reads as entry-reads
-use Rattle.renumbering.proofs.renumbered.renumber_row.Reads as renumber-row-reads
 
 abbrev Inv-loop : tie.InvT-loop
 Inv-loop table from t₀ i₀ t i = (i ≤ 64) × (length t ≡ 64) × ((a : ℕ) → a < i → IsRenumberedRow from (getD table (numberIn from a) []) (getD t a []))
@@ -21,47 +17,36 @@ Inv-loop table from t₀ i₀ t i = (i ≤ 64) × (length t ≡ 64) × ((a : ℕ
 abbrev μ-loop : tie.MeasureT-loop
 μ-loop table from t₀ i₀ t i = 64 - i
 
--- src/renumbered.rt:81:5
 loop-holds : tie.Need-loop-holds Inv-loop μ-loop
 loop-holds c = (omega arith, length-replicate 64 (replicate {A = ℕ} 64 0), λ a l. absurd (omega arith))
 
--- src/renumbered.rt:82:22
 entry-requires : tie.Need-entry-requires Inv-loop μ-loop
 entry-requires c κs = search needs
 
--- src/renumbered.rt:82:13
 wide-requires : tie.Need-wide-requires Inv-loop μ-loop
 wide-requires c κs = search needs
 
--- src/renumbered.rt:83:21
 mul-found : tie.Need-mul-found Inv-loop μ-loop
 mul-found c = search needs
 
--- src/renumbered.rt:83:21
 element-copy-out-found : tie.Need-element-copy-out-found Inv-loop μ-loop
 element-copy-out-found c = let s = c .before .before .before in let e = c .before .entry .ensures in let w = c .wide .ensures in omega (arith, s .before .pre .1 (s .loop .i) (omega arith))
 
--- src/renumbered.rt:84:13
 renumber-row-requires : tie.Need-renumber-row-requires Inv-loop μ-loop
 renumber-row-requires c κs = search needs
 
--- src/renumbered.rt:85:9
 mul-t : tie.Need-mul-t Inv-loop μ-loop
 mul-t c = search needs
 
--- src/renumbered.rt:85:9
 array-set-from-t : tie.Need-array-set-from-t Inv-loop μ-loop
 array-set-from-t c = search needs
 
--- src/renumbered.rt:81:9
 add-i : tie.Need-add-i Inv-loop μ-loop
 add-i c = search needs
 
--- src/renumbered.rt:81:5
 loop-less : tie.Need-loop-less Inv-loop μ-loop
 loop-less c = search needs
 
--- src/renumbered.rt:81:5
 loop-again : tie.Need-loop-again Inv-loop μ-loop
 loop-again c = let s = c .before .before .before .before .before in
     let table = s .before .args .table .now in
@@ -70,7 +55,6 @@ loop-again c = let s = c .before .before .before .before .before in
     let row = subst (λ (old : List ℕ). IsRenumberedRow from old (c .renumber-row .result)) e (c .renumber-row .ensures) in
     (omega arith, length-set (s .loop .t) (s .loop .i) _ ∙ s .loop .inv .1, row-stored table (s .loop .t) from (s .loop .i) _ (omega arith) (s .loop .inv .2) row)
 
--- src/renumbered.rt:76:1
 returns : tie.Need-returns Inv-loop μ-loop
 returns c = let l = c .before .loop in λ i g. l .inv .2 i (omega arith)
 

@@ -1,3 +1,4 @@
+-- Both places are remainders by n.
 use native.Mathlib.Omega.{arith}
 use native.Mathlib.Nat.{mod-lt}
 use Prim.Native.Nat.{_/_}
@@ -6,28 +7,19 @@ use Rattle.renumbering.specs.Laws.Shuffle.{drawn-as}
 use borrow.Author.Needs.{needs}
 use Rattle.renumbering.proofs.shuffle.draw.Statement.{statement}
 use Rattle.renumbering.proofs.shuffle.draw.Tie as tie
-use Rattle.renumbering.proofs.shuffle.draw.Reads as reads
-use Rattle.renumbering.proofs.shuffle.draw.Lts as lts
-use Rattle.renumbering.proofs.numbering.exchange.Reads as exchange-reads
-use Rattle.renumbering.proofs.shuffle.next.Reads as next-reads
 
--- src/shuffle.rt:28:9
 next-requires : tie.Need-next-requires
 next-requires c κs = search needs
 
--- src/shuffle.rt:29:14
 rem-i : tie.Need-rem-i
 rem-i c = search needs
 
--- src/shuffle.rt:30:14
 div-j : tie.Need-div-j
 div-j c = search needs
 
--- src/shuffle.rt:30:14
 rem-j : tie.Need-rem-j
 rem-j c = search needs
 
--- src/shuffle.rt:32:9
 exchange-requires : tie.Need-exchange-requires
 exchange-requires c κs = let s = c .before .before in
     let r = c .before .next .result in
@@ -35,7 +27,6 @@ exchange-requires c κs = let s = c .before .before in
     let b = mod-lt (r / s .args .n) {m = s .args .n} (s .pre .1) in
     (as-all _ (s .pre .2) _ (s .pre .0), omega arith, omega arith)
 
--- src/shuffle.rt:24:1
 returns : tie.Need-returns
 returns c = drawn-as _ _ _ _ (c .before .before .next .ensures .0) (c .exchange .ensures)
 

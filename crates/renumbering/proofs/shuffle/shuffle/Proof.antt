@@ -1,3 +1,4 @@
+-- The invariant: i exchanges are made.
 use mathlib.Core.Path.{ap, _∙_}
 use Prim.Native.Nat.{_-_, _≤_}
 use Rattle.renumbering.specs.Shuffle.{shuffled}
@@ -6,9 +7,6 @@ use native.Mathlib.Omega.{arith}
 use borrow.Author.Needs.{needs}
 use Rattle.renumbering.proofs.shuffle.shuffle.Statement.{statement}
 use Rattle.renumbering.proofs.shuffle.shuffle.Tie as tie
-use Rattle.renumbering.proofs.shuffle.shuffle.Reads as reads
-use Rattle.renumbering.proofs.shuffle.shuffle.Lts as lts
-use Rattle.renumbering.proofs.shuffle.draw.Reads as draw-reads
 
 abbrev Inv-loop : tie.InvT-loop
 Inv-loop n times r₀ i₀ r i = (i ≤ times) × IsShuffled n r₀ i r
@@ -16,27 +14,21 @@ Inv-loop n times r₀ i₀ r i = (i ≤ times) × IsShuffled n r₀ i r
 abbrev μ-loop : tie.MeasureT-loop
 μ-loop n times r₀ i₀ r i = times - i
 
--- src/shuffle.rt:45:5
 loop-holds : tie.Need-loop-holds Inv-loop μ-loop
 loop-holds c = (omega arith, none-shuffled _ _ (c .pre .0) (c .pre .3))
 
--- src/shuffle.rt:46:13
 draw-requires : tie.Need-draw-requires Inv-loop μ-loop
 draw-requires c κs = let s = c .before .before in let i = c .before .loop .inv .1 in (i .numbering, s .pre .1, s .pre .2, i .random-in)
 
--- src/shuffle.rt:45:9
 add-i : tie.Need-add-i Inv-loop μ-loop
 add-i c = search needs
 
--- src/shuffle.rt:45:5
 loop-less : tie.Need-loop-less Inv-loop μ-loop
 loop-less c = search needs
 
--- src/shuffle.rt:45:5
 loop-again : tie.Need-loop-again Inv-loop μ-loop
 loop-again c = let s = c .before .before .before in let l = c .before .before .loop in (omega arith, one-shuffled _ _ (s .pre .1) (s .pre .2) (l .i) (l .r) _ (l .inv .1) (c .draw .ensures))
 
--- src/shuffle.rt:40:1
 returns : tie.Need-returns Inv-loop μ-loop
 returns c = let s = c .before .before in let l = c .before .loop in l .inv .1 .shuffled-is ∙ ap (shuffled (s .args .n) (s .args .d)) (omega arith)
 
