@@ -68,11 +68,11 @@ fn next_round(
     let chosen = choose(plan, budget, round, k);
     let x = chosen.trial;
     let numbering = x.numbering;
-    let to = numbering.to;
+    let numbers = numbering.to;
     let a = tried(plan, table, weights, x);
     let u = a.multipliers;
     let c = no_dearer(k, x, a.cost);
-    let t = tighter(c, x, a.floor, carry(u, &to));
+    let t = tighter(c, x, a.floor, carry(u, &numbers));
     count(t, a.trees, chosen.random, chosen.doubling)
 }
 
