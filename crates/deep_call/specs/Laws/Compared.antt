@@ -11,10 +11,12 @@ use lib.Dec.{T}
 use lib.IntN.{ℤ}
 use lib.Signed.{_≤ℤ_}
 use Rattle.postman.specs.Plan.{Plan}
-use Rattle.postman.specs.Refusal.{firstRefusal, answer, unless}
-use Rattle.postman.specs.PlanFile.{isOutside, planOf}
+use Rattle.postman.specs.Refusal.{given, firstRefusal, answer, unless}
+use Rattle.postman.specs.PlanFile.{fileConditions, isOutside, planOf}
 use Rattle.postman.specs.Component.{componentCount}
-use Rattle.postman.specs.PlanCall.{Summary, summary, fields, bestCost, triedCount, highestBudget, isCutOff}
+use Rattle.postman.specs.Judge.{highestPlaces, judgeAnswer}
+use Rattle.postman.specs.Laws.Judge.{file-judged}
+use Rattle.postman.specs.PlanCall.{Summary, summary, fields, bestCost, triedCount, highestBudget, isCutOff, sheetPlaces}
 use Rattle.postman.specs.Laws.Refusal.{accepted-cons, accepted-append}
 use Rattle.postman.specs.Laws.Acceptance.{before-accepted, file-accepted}
 use Rattle.postman.specs.Laws.Optimality.{Plannable}
@@ -65,6 +67,7 @@ module _ (p : Plan) (budget rounds : ℕ) (old new : List ℕ) (r : Planned) (i 
 -- ---- a call that is not refused
 
 pub record DeepAccepted (bytes : List ℕ) (budget rounds : ℕ) : Type 0 where
+  pub file : firstRefusal (fileConditions bytes) ≡ none
   pub plannable : Plannable (planOf bytes)
   pub few : componentCount (planOf bytes) ≤ 8
   pub some-budget : 1 ≤ budget
@@ -84,6 +87,7 @@ module _ (bytes : List ℕ) (budget rounds places : ℕ) (e : deepRefusal bytes 
   deep-accepted =
       let b = before-accepted bytes budget places (roundConditions rounds) p (all .0) in
       record {
+        file = b .file;
         plannable = record { well-formed = file-accepted bytes (b .file); some-arc = b .some-required; connected = accepted-cons (isCutOff p) 12 [] (all .1) .0 };
         few = b .components;
         some-budget = b .some-budget;
@@ -223,3 +227,15 @@ deepens bytes budget a b more old new old′ new′ r s x y good-x good-y =
       closed-multipliers = λ t. multipliers-deep p budget b old′ new′ s j ∙ ap (λ (k : Kept). k .multipliers) (met t) ∙ sym (multipliers-deep p budget a old new r i);
       closed-drive = λ t. drive-deep p budget b old′ new′ s j ∙ same-tour p budget a b (met t) ∙ sym (drive-deep p budget a old new r i);
     }
+
+-- ---- the judge
+
+pub deep-judged : (bytes : List ℕ) (budget rounds : ℕ) (old new : List ℕ) (r : Planned) → IsDeepCall bytes budget rounds old new r → verdictNumber (r .verdict) ≡ none
+    → judgeAnswer bytes (take (r .places) new) ≡ given (r .cost)
+unfolding highestPlaces sheetPlaces
+deep-judged bytes budget rounds old new r d good =
+    let e = sym (d .deep .verdict) ∙ good in
+    let a = deep-accepted bytes budget rounds (length old) e in
+    let t = d .deep .answered e in
+    let l = t .drive .short in
+    file-judged bytes (take (r .places) new) (a .file) (a .plannable .some-arc) (omega arith) (t .drive .tour) ∙ ap given (t .costs)
