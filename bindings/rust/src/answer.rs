@@ -177,6 +177,30 @@ mod tests {
         }
     }
 
+    /// One round is the plan call but for whole; more are never worse, and change nothing once floor and cost have met.
+    #[test]
+    fn rounds_are_never_worse() {
+        let file = std::fs::read(concat!(env!("CARGO_MANIFEST_DIR"), "/../../examples/town.plan")).unwrap();
+        for budget in [1, 100] {
+            let plain = plan_call(&file, budget).unwrap();
+            let one = deep_call(&file, budget, 1).unwrap();
+            assert_eq!(one.whole, one.cost == one.floor);
+            assert_eq!(Answer { whole: plain.whole, ..one.clone() }, plain);
+            let mut before = one;
+            for rounds in 2..40 {
+                let after = deep_call(&file, budget, rounds).unwrap();
+                assert!(after.cost <= before.cost && before.floor <= after.floor && after.floor <= after.cost);
+                assert!(!before.whole || after == before);
+                assert_eq!(judge(&file, &after.drive), Ok(after.cost));
+                before = after;
+            }
+        }
+        for rounds in [0, 1_001, u32::MAX] {
+            assert_eq!(deep_call(&file, 1, rounds), Err(Refusal::Rounds));
+            assert_eq!(deep_call(&file, 0, rounds), Err(Refusal::Budget));
+        }
+    }
+
     /// Where the checking costs agree the editions do.
     #[test]
     fn both_editions_answer_alike() {
