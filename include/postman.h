@@ -1,7 +1,7 @@
 /*
  * The survey drive's planner: reading and writing plan files, the plan call, at a departure too, the short call, the deep
- * call, the call for two cars, an open plan with marks to come back to, eight districts in turn, the number of trees, distances, and
- * judging a drive.
+ * call, the call for two cars, an open plan with marks to come back to, eight districts in turn, the number of trees,
+ * distances, and judging a drive.
  *
  * A slice is lent as a pointer and a length. The length counts elements, not bytes. Pointers are not null, not even with
  * a length of 0, and a slice that is not const overlaps no other of the same call. The stack has POSTMAN_STACK_BYTES left.
@@ -11,10 +11,10 @@
  * in postman_two_cars is each car's own refusal, in one number: there one above 0 says that a car is refused.
  *
  * Of several refusals that apply the first in this order is given: 1 (under three bytes), 2, 3, 1 (length), 4, then arc by
- * arc 5, 6, 7, then 13, then 17, then 8 and 9, then 18 to 20 or 23, then 10 to 12, then 22, then 14 to 16. The calls of an open
- * plan have an order of their own, and a slice that is too short for a machine of districts is refused with 8 before all
- * else. A refusal changes no lent slice; one of a car alone changes none of that car's. The functions keep nothing and share
- * nothing, so that threads may call them at once.
+ * arc 5, 6, 7, then 13, then 17, then 8 and 9, then 18 to 20 or 23, then 10 to 12, then 22, then 14 to 16. The calls of an
+ * open plan have an order of their own, and a slice that is too short for a machine of districts is refused with 8 before
+ * all else. A refusal changes no lent slice; one of a car alone changes none of that car's. The functions keep nothing and
+ * share nothing, so that threads may call them at once.
  *
  * `make install` puts the library in place, and `pkg-config --cflags --libs postman` says how to compile and link with it.
  * examples/plan.c shows a plan call.
