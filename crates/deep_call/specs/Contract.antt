@@ -23,6 +23,7 @@ use Rattle.refusal.specs.Verdict.{verdictNumber}
 use Rattle.solution.specs.declared.Planned.{Planned}
 use Rattle.solution.specs.Planned.{summaryOf, multipliersOf, countUnless}
 use Rattle.renumbering.specs.declared.numbering.Numbering.{Numbering}
+use Rattle.renumbering.specs.Numbering.{IsNumberingOf}
 use Rattle.deep_call.specs.Rounds.{under, kept, deepSummary, deepTour}
 use Rattle.deep_call.specs.Refusals.{earlierConditionsIn, deepRefusal}
 
@@ -32,6 +33,9 @@ boundUnder p x u = maxℤ (lagrangianBound (under p x) (λ i. pos 0)) (lagrangia
 
 -- What an answer that is no refusal is, of the file's plan p; `new` is the sheet at exit.
 pub record IsDeepAnswer (p : Plan) (budget rounds : ℕ) (new : List ℕ) (r : Planned) : Type 0 where
+  -- drive and floor were found under numberings of the plan's vertices
+  pub drive-numbering : IsNumberingOf (p .n) (kept p budget rounds .drive .numbering)
+  pub bound-numbering : IsNumberingOf (p .n) (kept p budget rounds .bound .numbering)
   -- the written places are a drive, the lowest must arc first, of exactly the cost answered, and described as the plan call's drive is
   pub drive : IsRenumberedTour p (numberIn (kept p budget rounds .drive .numbering .to)) (kept p budget rounds .drive .tries) (take (r .places) new)
   pub costs : tourCost p (take (r .places) new) ≡ r .cost

@@ -148,6 +148,8 @@ module _ (p : Plan) (ok : Plannable p) (few : componentCount p ≤ 8) (budget : 
       let says = closed-says p ok few (rounds - 1) k h in
       let t = told p ok few (rounds - 1) k h in
       record {
+        drive-numbering = h .drive-numbering;
+        bound-numbering = h .bound-numbering;
         drive = subst⁻¹ (IsRenumberedTour p (numberIn (k .drive .numbering .to)) (k .drive .tries)) d t;
         costs = ap (tourCost p) d ∙ told-cost p ok few (rounds - 1) k h ∙ sym c;
         below-every-tour = λ w g. subst⁻¹ (λ f. f ≤ℤ pos (tourCost p w)) f (below p ok few (rounds - 1) k h w g);
