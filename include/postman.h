@@ -1,7 +1,7 @@
 /*
- * The survey drive's planner: reading and writing plan files, the plan call, at a departure too, the short call, the call
- * for two cars, an open plan with marks to come back to, eight districts in turn, the number of trees, distances, and
- * judging a drive.
+ * The survey drive's planner: reading and writing plan files, the plan call, at a departure too, the short call, the deep
+ * call, the call for two cars, an open plan with marks to come back to, eight districts in turn, the number of trees,
+ * distances, and judging a drive.
  *
  * A slice is lent as a pointer and a length. The length counts elements, not bytes. Pointers are not null, not even with
  * a length of 0, and a slice that is not const overlaps no other of the same call. The stack has POSTMAN_STACK_BYTES left.
@@ -11,10 +11,10 @@
  * in postman_two_cars is each car's own refusal, in one number: there one above 0 says that a car is refused.
  *
  * Of several refusals that apply the first in this order is given: 1 (under three bytes), 2, 3, 1 (length), 4, then arc by
- * arc 5, 6, 7, then 13, then 17, then 8 and 9, then 18 to 20, then 10 to 12, then 22, then 14 to 16. The calls of an open
- * plan have an order of their own, and a slice that is too short for a machine of districts is refused with 8 before all
- * else. A refusal changes no lent slice; one of a car alone changes none of that car's. The functions keep nothing and share
- * nothing, so that threads may call them at once.
+ * arc 5, 6, 7, then 13, then 17, then 8 and 9, then 18 to 20 or 23, then 10 to 12, then 22, then 14 to 16. The calls of an
+ * open plan have an order of their own, and a slice that is too short for a machine of districts is refused with 8 before
+ * all else. A refusal changes no lent slice; one of a car alone changes none of that car's. The functions keep nothing and
+ * share nothing, so that threads may call them at once.
  *
  * `make install` puts the library in place, and `pkg-config --cflags --libs postman` says how to compile and link with it.
  * examples/plan.c shows a plan call.
@@ -37,7 +37,7 @@ extern "C" {
  * the call works, in KiB: postman_turn 236, postman_two_cars 220, postman_ask and postman_plan_call_at 216,
  * postman_plan_call and postman_short_call 212, postman_enter 172, postman_tree_count 120, and all others at most 20.
  */
-#define POSTMAN_STACK_BYTES 262144
+#define POSTMAN_STACK_BYTES 524288
 
 /* The most vertices and arcs of a plan, and the most bytes of its file. */
 #define POSTMAN_MOST_VERTICES 64
@@ -56,6 +56,9 @@ extern "C" {
 /* The budget of the short call, and the highest one of the plan call. The lowest is 1. */
 #define POSTMAN_DEFAULT_BUDGET 100000
 #define POSTMAN_HIGHEST_BUDGET 1000000
+
+/* The most rounds of the deep call. The fewest are 1. */
+#define POSTMAN_MOST_ROUNDS 1000
 
 /* The highest number of trees that is answered. */
 #define POSTMAN_HIGHEST_COUNT 4294967295u
@@ -176,7 +179,8 @@ enum postman_refusal {
     POSTMAN_REFUSED_BAD_WINDOW = 19, /* a window, the number of windows or the departure is beyond its limits */
     POSTMAN_REFUSED_MUST_SHUT = 20,  /* an arc that must be driven is shut at departure */
     POSTMAN_REFUSED_NO_MARK = 21,    /* a mark's number is above 3, or the mark was never set */
-    POSTMAN_REFUSED_FULL = 22        /* eight districts are unfinished */
+    POSTMAN_REFUSED_FULL = 22,       /* eight districts are unfinished */
+    POSTMAN_REFUSED_ROUNDS = 23      /* the rounds are 0 or above 1,000 */
 };
 
 /* The library's version, as POSTMAN_VERSION has it. The text is static. It is not among the proved functions. */
@@ -220,6 +224,20 @@ int64_t postman_write_plan(uint32_t edition, uint32_t n, const uint8_t *records,
  */
 int64_t postman_plan_call(const uint8_t *plan, size_t plan_len, uint64_t budget, uint16_t *sheet, size_t sheet_len,
                           uint64_t *answer, size_t answer_len, int64_t *multipliers, size_t multipliers_len);
+
+/*
+ * The deep call: rounds of the plan call, of which the cheapest drive and the highest floor are answered. Answers 0, or
+ * minus a refusal: 1 to 13, or 23.
+ *
+ * The first round is the plan call. Rounds 2, 4, 8 and so on try so many times `budget` trees; every other round numbers
+ * the vertices anew, by a few exchanges of the numbers under which the cheapest drive so far was found, and tries `budget`.
+ * It ends as soon as floor and cost meet. The drive is never dearer and the floor never lower than the plan call's with the
+ * same budget, and more rounds are never worse. The words are as in a plan call, but for two: POSTMAN_WHOLE is 1 if floor
+ * and cost are equal, and then no drive is cheaper; POSTMAN_TREES are the trees of all rounds.
+ */
+int64_t postman_deep_call(const uint8_t *plan, size_t plan_len, uint64_t budget, uint32_t rounds, uint16_t *sheet,
+                          size_t sheet_len, uint64_t *answer, size_t answer_len, int64_t *multipliers,
+                          size_t multipliers_len);
 
 /*
  * The plan call at a departure: the plan call with the arcs closed that are shut at that minute of that weekday. Later

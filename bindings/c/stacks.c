@@ -56,6 +56,7 @@ static int64_t plan_call(void) { return postman_plan_call(plan, plan_len, BUDGET
 static int64_t plan_call_at(void) {
     return postman_plan_call_at(plan, plan_len, BUDGET, windows, POSTMAN_WINDOW_NUMBERS, 0, 480, DRIVE(0));
 }
+static int64_t deep_call(void) { return postman_deep_call(plan, plan_len, BUDGET, 3, DRIVE(0)); }
 static int64_t short_call(void) { return postman_short_call(plan, plan_len, DRIVE(0)); }
 static int64_t two_cars(void) {
     size_t m = records_len / POSTMAN_RECORD_BYTES;
@@ -99,6 +100,7 @@ static const struct {
     {"postman_read_plan", read_plan},
     {"postman_write_plan", write_plan},
     {"postman_plan_call", plan_call},
+    {"postman_deep_call", deep_call},
     {"postman_plan_call_at", plan_call_at},
     {"postman_short_call", short_call},
     {"postman_two_cars", two_cars},

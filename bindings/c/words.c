@@ -29,6 +29,7 @@ static const char *const words[] = {
     [POSTMAN_REFUSED_MUST_SHUT] = "must shut",
     [POSTMAN_REFUSED_NO_MARK] = "no mark",
     [POSTMAN_REFUSED_FULL] = "full",
+    [POSTMAN_REFUSED_ROUNDS] = "rounds",
 };
 
 const char *postman_version(void) { return POSTMAN_VERSION; }

@@ -18,7 +18,7 @@ needs `limits.STACK_BYTES` of stack, which Python's threads have unless `threadi
 from . import limits
 from ._library import __version__
 from .answer import Answer
-from .calls import Distances, distances, judge, plan_call, plan_call_at, short_call, tree_count
+from .calls import Distances, deep_call, distances, judge, plan_call, plan_call_at, short_call, tree_count
 from .cars import Car, two_cars
 from .districts import Districts, Turn
 from .open_plan import OpenPlan
@@ -40,6 +40,7 @@ __all__ = [
     "Turn",
     "Window",
     "__version__",
+    "deep_call",
     "distances",
     "judge",
     "limits",

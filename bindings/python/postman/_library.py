@@ -54,6 +54,7 @@ DECLARATIONS: dict[str, tuple[Any, list[Any]]] = {
     "postman_read_plan": (c_int64, [*_READ, *_BYTES]),
     "postman_write_plan": (c_int64, [c_uint32, c_uint32, *_READ, *_BYTES]),
     "postman_plan_call": (c_int64, [*_READ, c_uint64, *_DRIVE]),
+    "postman_deep_call": (c_int64, [*_READ, c_uint64, c_uint32, *_DRIVE]),
     "postman_plan_call_at": (c_int64, [*_READ, c_uint64, *_DEPARTURE, *_DRIVE]),
     "postman_short_call": (c_int64, [*_READ, *_DRIVE]),
     "postman_two_cars": (c_int64, [*_READ, *_READ, c_uint64, *_DRIVE, *_READ, c_uint64, *_DRIVE]),

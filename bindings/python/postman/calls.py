@@ -1,4 +1,4 @@
-"""The plan call, also at a departure, the short call, the number of trees, distances, and judging a drive.
+"""The plan call, also at a departure, the short and the deep call, the number of trees, distances, and judging a drive.
 
 A `file` is a plan file's bytes, or a `Plan`, which is written first.
 """
@@ -31,6 +31,27 @@ def plan_call(file: File, budget: int) -> Answer:
     lent = borrow()
     try:
         unless_refused(_plan_call(file, len(file), long(budget), *lent.arguments))
+        return lent.answer()
+    finally:
+        give_back(lent)
+
+
+def deep_call(file: File, budget: int, rounds: int) -> Answer:
+    """Lays a drive by rounds of the plan call, from 1 to 1,000: the cheapest drive and the highest floor of them.
+
+    Rounds 2, 4, 8 and so on try so many times `budget` trees, and every other round after the first numbers the
+    vertices anew. It ends as soon as floor and cost meet, which `whole` says; `trees` are those of all rounds. Never
+    dearer, and its floor never lower, than `plan_call` with that budget; more rounds are never worse. Refuses with 1 to
+    7, 9 to 13 and 23.
+
+    >>> answer = deep_call(bytes.fromhex("10402001400141000003"), 10_000, 100)
+    >>> answer.drive, answer.cost, answer.floor, answer.whole
+    ((0, 1), 8, 8, True)
+    """
+    file = file_bytes(file)
+    lent = borrow()
+    try:
+        unless_refused(library.postman_deep_call(file, len(file), long(budget), word(rounds), *lent.arguments))
         return lent.answer()
     finally:
         give_back(lent)

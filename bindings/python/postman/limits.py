@@ -1,6 +1,6 @@
 """The numbers that bound plans, sheets and answers: the constants of include/postman.h, without their prefix."""
 
-STACK_BYTES = 262144
+STACK_BYTES = 524288
 
 MOST_VERTICES = 64
 MOST_ARCS = 256
@@ -12,6 +12,7 @@ MOST_PLACES = 65535
 
 DEFAULT_BUDGET = 100_000
 HIGHEST_BUDGET = 1_000_000
+MOST_ROUNDS = 1000
 
 HIGHEST_COUNT = 4_294_967_295
 NO_PATH = 4_294_967_295

@@ -39,6 +39,7 @@ class Refusal(Exception):
     MUST_SHUT = 20
     NO_MARK = 21
     FULL = 22
+    ROUNDS = 23
 
     def __init__(self, number: int) -> None:
         if number not in _WORDS:
@@ -47,7 +48,7 @@ class Refusal(Exception):
 
     @property
     def number(self) -> int:
-        """The number, 1 to 22."""
+        """The number, 1 to 23."""
         number: int = self.args[0]
         return number
 
@@ -191,5 +192,10 @@ _WORDS: dict[int, tuple[str, str, str]] = {
         "full",
         "eight districts are unfinished",
         "Let turns pass until a district has finished, then enter again.",
+    ),
+    23: (
+        "rounds",
+        "the rounds are 0 or above 1,000",
+        "Ask for 1 to 1,000 rounds.",
     ),
 }

@@ -16,6 +16,7 @@ from postman import (
     Refusal,
     Standing,
     Window,
+    deep_call,
     distances,
     judge,
     limits,
@@ -51,6 +52,19 @@ class Calls(unittest.TestCase):
         self.assertEqual((len(answer.multipliers), answer.multipliers[2:]), (64, (0,) * 62))
         self.assertEqual((answer.places, answer.gap), (2, 0.0))
         self.assertEqual(short_call(CASE_A), answer)
+
+    def test_rounds(self) -> None:
+        for budget in (1, 2):
+            one, plain = deep_call(LOOPS, budget, 1), plan_call(LOOPS, budget)
+            self.assertEqual((one.whole, dataclasses.replace(one, whole=plain.whole)), (one.cost == one.floor, plain))
+        deep = deep_call(LOOPS, 1, 2)
+        self.assertEqual((deep.cost, deep.floor, deep.trees, deep.whole), (9, 9, 3, True))
+        self.assertEqual((deep_call(LOOPS, 1, limits.MOST_ROUNDS), judge(LOOPS, deep.drive)), (deep, 9))
+        for rounds in (0, limits.MOST_ROUNDS + 1):
+            self.refused(Refusal.ROUNDS, deep_call, LOOPS, 1, rounds)
+            self.refused(Refusal.BUDGET, deep_call, LOOPS, 0, rounds)
+            self.refused(Refusal.ROUNDS, deep_call, Plan(1, [Arc(0, 0, MAY, 1)]), 1, rounds)
+        self.refused(Refusal.IDLE, deep_call, Plan(1, [Arc(0, 0, MAY, 1)]), 1, 1)
 
     def test_what_a_raised_budget_buys(self) -> None:
         first, whole = plan_call(LOOPS, 1), plan_call(LOOPS, 2)

@@ -59,6 +59,14 @@ class Drive(Folder):
             with self.subTest(wanted):
                 self.assertEqual(postman("drive", path, "--budget", str(budget)).out.splitlines()[-1], wanted)
 
+    def test_rounds(self):
+        done = postman("drive", TOWN, "--budget", "10", "--rounds", "20", "--json")
+        deep, plain = (json.loads(text) for text in (done.out, postman("drive", TOWN, "--budget", "10", "--json").out))
+        self.assertLessEqual(deep["cost"], plain["cost"])
+        self.assertGreaterEqual(deep["floor"], plain["floor"])
+        self.assertEqual(deep["whole"], deep["cost"] == deep["floor"])
+        self.assertIn(" in all rounds\n", postman("drive", TOWN, "--budget", "10", "--rounds", "2").out)
+
     def test_a_floor_that_is_met_without_all_trees(self):
         met = Answer(8, 8, 10, False, 2, (0, 1), ())
         self.assertEqual(

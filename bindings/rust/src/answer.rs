@@ -94,6 +94,30 @@ pub fn plan_call(file: &[u8], budget: u64) -> Result<Answer, Refusal> {
     answered(|sheet, answer, multipliers| raw::plan_call(file, budget, sheet, answer, multipliers))
 }
 
+/// Lays a drive for a plan file by rounds of the plan call, from 1 to 1,000, of which the cheapest drive and the highest floor are answered: rounds 2, 4,
+/// 8 and so on try so many times `budget` trees, and every other round after the first numbers the vertices anew. It ends as soon as floor and
+/// cost meet, which `whole` says; `trees` are those of all rounds. Never dearer, and its floor never lower, than [`plan_call`] with that budget; more
+/// rounds are never worse. Refuses with 1 to 7, 9 to 13 and 23.
+///
+/// ```
+/// use postman::{deep_call, plan_call, Arc, Edition, Plan, Refusal, Standing};
+///
+/// let must = |v| Arc::new(v, v, Standing::Required, 1);
+/// let may = |tail, head, cost| Arc::new(tail, head, Standing::Optional, cost);
+/// let arcs = vec![must(0), must(1), must(2), may(0, 1, 2), may(1, 2, 2), may(2, 0, 2), may(0, 2, 3)];
+/// let file = Plan { edition: Edition::First, vertices: 3, arcs }.write()?;
+///
+/// let first = deep_call(&file, 1, 1)?;
+/// assert_eq!((first.drive, first.cost, first.whole), (plan_call(&file, 1)?.drive, 14, false));
+/// let deep = deep_call(&file, 1, 2)?;
+/// assert_eq!((deep.cost, deep.floor, deep.whole), (9, 9, true));
+/// assert_eq!(deep_call(&file, 1, 0), Err(Refusal::Rounds));
+/// # Ok::<(), Refusal>(())
+/// ```
+pub fn deep_call(file: &[u8], budget: u64, rounds: u32) -> Result<Answer, Refusal> {
+    answered(|sheet, answer, multipliers| raw::deep_call(file, budget, rounds, sheet, answer, multipliers))
+}
+
 /// Lays a drive for a plan file, trying at most 100,000 trees. Refuses with 1 to 7 and 10 to 13.
 ///
 /// ```
@@ -150,6 +174,30 @@ mod tests {
             let answer = call(Edition::Second, 4, arcs).unwrap();
             assert_eq!((answer.cost, answer.floor, answer.whole), (cost, cost, true));
             assert_eq!(answer.drive.iter().filter(|&&k| k == 0).count(), 2);
+        }
+    }
+
+    /// One round is the plan call but for whole; more are never worse, and change nothing once floor and cost have met.
+    #[test]
+    fn rounds_are_never_worse() {
+        let file = std::fs::read(concat!(env!("CARGO_MANIFEST_DIR"), "/../../examples/town.plan")).unwrap();
+        for budget in [1, 100] {
+            let plain = plan_call(&file, budget).unwrap();
+            let one = deep_call(&file, budget, 1).unwrap();
+            assert_eq!(one.whole, one.cost == one.floor);
+            assert_eq!(Answer { whole: plain.whole, ..one.clone() }, plain);
+            let mut before = one;
+            for rounds in 2..40 {
+                let after = deep_call(&file, budget, rounds).unwrap();
+                assert!(after.cost <= before.cost && before.floor <= after.floor && after.floor <= after.cost);
+                assert!(!before.whole || after == before);
+                assert_eq!(judge(&file, &after.drive), Ok(after.cost));
+                before = after;
+            }
+        }
+        for rounds in [0, 1_001, u32::MAX] {
+            assert_eq!(deep_call(&file, 1, rounds), Err(Refusal::Rounds));
+            assert_eq!(deep_call(&file, 0, rounds), Err(Refusal::Budget));
         }
     }
 

@@ -25,6 +25,19 @@ extern "C" {
         multipliers_len: usize,
     ) -> i64;
 
+    pub fn postman_deep_call(
+        plan: *const u8,
+        plan_len: usize,
+        budget: u64,
+        rounds: u32,
+        sheet: *mut u16,
+        sheet_len: usize,
+        answer: *mut u64,
+        answer_len: usize,
+        multipliers: *mut i64,
+        multipliers_len: usize,
+    ) -> i64;
+
     pub fn postman_plan_call_at(
         plan: *const u8,
         plan_len: usize,

@@ -43,7 +43,7 @@ mod tree_count;
 mod two_cars;
 mod windows;
 
-pub use answer::{judge, plan_call, short_call, Answer};
+pub use answer::{deep_call, judge, plan_call, short_call, Answer};
 pub use distances::{distances, Distances};
 pub use districts::{Districts, Turn};
 pub use edition::Edition;

@@ -9,7 +9,7 @@
 //! ```
 
 /// The bytes of stack that a thread needs for any of the calls; a thread of Rust's has 2 MiB.
-pub const STACK_BYTES: usize = 262_144;
+pub const STACK_BYTES: usize = 524_288;
 
 /// The most vertices of a plan.
 pub const MOST_VERTICES: usize = 64;
@@ -31,6 +31,9 @@ pub const MOST_PLACES: usize = 65_535;
 pub const DEFAULT_BUDGET: u64 = 100_000;
 /// The highest budget of the plan call. The lowest is 1.
 pub const HIGHEST_BUDGET: u64 = 1_000_000;
+
+/// The most rounds of the deep call. The fewest are 1.
+pub const MOST_ROUNDS: u32 = 1_000;
 
 /// The highest number of trees that is answered.
 pub const HIGHEST_COUNT: u32 = 4_294_967_295;

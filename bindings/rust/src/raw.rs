@@ -96,6 +96,46 @@ pub fn plan_call(
     .map(|_| ())
 }
 
+/// The deep call on lent slices: rounds of [`plan_call`], of which the cheapest drive and the highest floor are answered. Refuses with 1 to 13, and
+/// with 23 where the rounds are 0 or above [`MOST_ROUNDS`](crate::limits::MOST_ROUNDS). The words are as in a plan call, but
+/// [`WHOLE`](crate::limits::WHOLE) says that floor and cost are equal, and [`TREES`](crate::limits::TREES) are those of all rounds.
+///
+/// ```
+/// use postman::limits::{ANSWER_WORDS, COST, FLOOR, MULTIPLIERS, SHEET_PLACES, WHOLE};
+///
+/// let file = [0x10, 0x40, 0x20, 0x01, 0x40, 0x01, 0x41, 0x00, 0x00, 0x03];
+/// let mut sheet = vec![0; SHEET_PLACES];
+/// let (mut answer, mut multipliers) = ([0; ANSWER_WORDS], [0; MULTIPLIERS]);
+/// postman::raw::deep_call(&file, 10_000, 100, &mut sheet, &mut answer, &mut multipliers)?;
+/// assert_eq!((answer[COST], answer[FLOOR], answer[WHOLE]), (8, 8, 1));
+/// # Ok::<(), postman::Refusal>(())
+/// ```
+pub fn deep_call(
+    plan: &[u8],
+    budget: u64,
+    rounds: u32,
+    sheet: &mut [u16],
+    answer: &mut [u64],
+    multipliers: &mut [i64],
+) -> Result<(), Refusal> {
+    // SAFETY: as in `read_plan`.
+    unless_refused(unsafe {
+        ffi::postman_deep_call(
+            plan.as_ptr(),
+            plan.len(),
+            budget,
+            rounds,
+            sheet.as_mut_ptr(),
+            sheet.len(),
+            answer.as_mut_ptr(),
+            answer.len(),
+            multipliers.as_mut_ptr(),
+            multipliers.len(),
+        )
+    })
+    .map(|_| ())
+}
+
 /// The short call on lent slices: [`plan_call`] with a budget of [`DEFAULT_BUDGET`](crate::limits::DEFAULT_BUDGET). It never refuses with 9.
 ///
 /// ```

@@ -4,7 +4,7 @@ use std::error::Error;
 use std::fmt;
 
 /// Why a call was refused. Of several refusals that apply, the calls give the first in this order: 1 (under three bytes), 2, 3, 1 (length),
-/// 4, then arc by arc 5, 6, 7, then 13, then 17, then 8 and 9, then 18 to 20, then 10 to 12, then 22, then 14 to 16. The calls of
+/// 4, then arc by arc 5, 6, 7, then 13, then 17, then 8 and 9, then 18 to 20 or 23, then 10 to 12, then 22, then 14 to 16. The calls of
 /// an open plan have an order of their own.
 ///
 /// ```
@@ -62,6 +62,8 @@ pub enum Refusal {
     NoMark = 21,
     /// Eight districts are unfinished.
     Full = 22,
+    /// The rounds are 0 or above 1,000.
+    Rounds = 23,
 }
 
 impl Refusal {
@@ -70,7 +72,7 @@ impl Refusal {
     /// ```
     /// use postman::Refusal;
     ///
-    /// assert_eq!((Refusal::ALL[0], Refusal::ALL.len()), (Refusal::Torn, 22));
+    /// assert_eq!((Refusal::ALL[0], Refusal::ALL.len()), (Refusal::Torn, 23));
     /// ```
     pub const ALL: &'static [Refusal] = &[
         Refusal::Torn,
@@ -95,6 +97,7 @@ impl Refusal {
         Refusal::MustShut,
         Refusal::NoMark,
         Refusal::Full,
+        Refusal::Rounds,
     ];
 
     /// The refusal's number.
@@ -164,6 +167,7 @@ impl Refusal {
             Refusal::MustShut => ("must shut", "an arc that must be driven is shut at departure"),
             Refusal::NoMark => ("no mark", "a mark's number is above 3, or the mark was never set"),
             Refusal::Full => ("full", "eight districts are unfinished"),
+            Refusal::Rounds => ("rounds", "the rounds are 0 or above 1,000"),
         }
     }
 }
@@ -184,11 +188,11 @@ mod tests {
     #[test]
     fn numbers_ascend() {
         let numbers: Vec<u32> = Refusal::ALL.iter().map(|refusal| refusal.number()).collect();
-        assert_eq!(numbers, (1..=22).collect::<Vec<u32>>());
+        assert_eq!(numbers, (1..=23).collect::<Vec<u32>>());
         for &refusal in Refusal::ALL {
             assert_eq!(Refusal::from_number(refusal.number()), Some(refusal));
         }
-        for number in [0, 23, u32::MAX] {
+        for number in [0, 24, u32::MAX] {
             assert_eq!(Refusal::from_number(number), None);
         }
     }

@@ -1,4 +1,4 @@
--- What the plan call, also at a departure, answers to a caller in another language.
+-- What the plan call, also at a departure, and the deep call answer to a caller in another language.
 use mathlib.Core.List.{List}
 use Prim.Native.Nat.{ℕ}
 use lib.IntN.{ℤ}
@@ -7,6 +7,7 @@ use Rattle.postman.specs.Windows.{Departure}
 use Rattle.solution.specs.declared.Planned.{Planned}
 use Rattle.planner.specs.Contract.{IsPlanCall}
 use Rattle.windows.specs.Contract.{IsPlanCallAt}
+use Rattle.deep_call.specs.Contract.{IsDeepCall}
 use Rattle.answers.specs.Answer.{IsHandedOver}
 
 -- The exported call: it hands over an answer that the plan call gives.
@@ -19,4 +20,10 @@ pub record IsExportedCall (bytes : List ℕ) (budget : ℕ) (sheet sheet′ word
 pub record IsExportedCallAt (bytes : List ℕ) (budget : ℕ) (windows : List ℕ) (d : Departure) (sheet sheet′ words words′ : List ℕ) (u u′ : List ℤ) (number : ℤ) : Type 0 where
   pub answer : Planned
   pub called : IsPlanCallAt bytes budget windows d sheet sheet′ answer
+  pub handed-over : IsHandedOver answer words words′ u u′ number
+
+-- And one that the deep call gives.
+pub record IsExportedDeepCall (bytes : List ℕ) (budget rounds : ℕ) (sheet sheet′ words words′ : List ℕ) (u u′ : List ℤ) (number : ℤ) : Type 0 where
+  pub answer : Planned
+  pub called : IsDeepCall bytes budget rounds sheet sheet′ answer
   pub handed-over : IsHandedOver answer words words′ u u′ number

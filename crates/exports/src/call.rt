@@ -1,7 +1,7 @@
-// The plan call, the short call and the plan call at a departure, for callers in other languages. The number is 0, or minus the refusal's; an answer goes into two lent slices.
+// The plan call, the short call, the plan call at a departure and the deep call, for callers in other languages. The number is 0, or minus the refusal's; an answer goes into two lent slices.
 ghost use Rattle.postman.specs.PlanCall.{defaultBudget};
 ghost use Rattle.windows.specs.Contract.{departure};
-ghost use Rattle.exports.specs.Call.{IsExportedCall, IsExportedCallAt};
+ghost use Rattle.exports.specs.Call.{IsExportedCall, IsExportedCallAt, IsExportedDeepCall};
 use answers::answer::hand_over;
 
 // THE PLAN CALL. `answer` takes places, cost, floor, trees, whole and parts, `multipliers` takes u; a refusal changes no lent slice.
@@ -51,5 +51,22 @@ pub extern "C" fn postman_plan_call_at(
         (now (answer .entry)) (now (answer .exit)) (now (multipliers .entry)) (now (multipliers .exit)) k ⌝ }
 {
     let r = windows::call::plan_call_at(plan, budget, windows, weekday, minute, sheet);
+    hand_over(r, answer, multipliers)
+}
+
+// THE DEEP CALL. The words are as in a plan call, but whole says that floor and cost are equal, and trees are those of all rounds.
+#[no_mangle]
+pub extern "C" fn postman_deep_call(
+    plan: &[u8],
+    budget: u64,
+    rounds: u32,
+    sheet: &mut [u16],
+    answer: &mut [u64],
+    multipliers: &mut [i64],
+) -> i64
+    ensures { λ k. ⌜ IsExportedDeepCall (now (plan .entry)) budget rounds (now (sheet .entry)) (now (sheet .exit)) (now (answer .entry)) (now (answer .exit))
+        (now (multipliers .entry)) (now (multipliers .exit)) k ⌝ }
+{
+    let r = deep_call::call::deep_call(plan, budget, rounds, sheet);
     hand_over(r, answer, multipliers)
 }

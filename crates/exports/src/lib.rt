@@ -1,6 +1,6 @@
 // What other languages call: `extern "C"` functions over numbers and slices, none of which asks anything of its caller.
 pub mod codec; // reading and writing plan files
-pub mod call; // the plan call, the short call and the plan call at a departure
+pub mod call; // the plan call, the short call, the plan call at a departure and the deep call
 pub mod cars; // the call for two cars
 pub mod editing; // an open plan: changes, marks, returns and asking
 pub mod turns; // eight districts in turn

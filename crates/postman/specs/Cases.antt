@@ -1,4 +1,4 @@
--- Document 01's starred cases, document 02's with free arcs, the refusal 13, edition 2, and lists that are judged, as rows of one table under one lemma, `cases`. The checker computes
+-- Document 01's starred cases, one of them renumbered, document 02's with free arcs, the refusal 13, edition 2, and lists that are judged, as rows of one table under one lemma, `cases`. The checker computes
 -- each claim from the definitions.
 use mathlib.Core.Path.{_≡_, refl, ap, _∙_}
 use mathlib.Core.Bool.{Bool, true, false, _&&_, Bool·beq}
@@ -19,6 +19,7 @@ use Rattle.postman.specs.Balancing.{leastBalancing}
 use Rattle.postman.specs.LagrangianBound.{Multipliers, lagrangianBound}
 use Rattle.postman.specs.PlanCall.{sheetPlaces, defaultBudget, callRefusal, isWhole, bestCost, lowerBound}
 use Rattle.postman.specs.Judge.{judgeAnswer}
+use Rattle.postman.specs.Renumbering.{numberIn, renumbered}
 use Rattle.postman.specs.Laws.Tests.{and-parts, is-true}
 use Rattle.postman.specs.Laws.Membership.{allOf-at}
 use Rattle.postman.specs.Laws.Repeated.{agree-equal}
@@ -36,6 +37,7 @@ pub data Claim : Type 0 where
   balancing : ℕ → Claim
   boundAtZero : ℕ → Claim
   costAt : ℕ → ℕ → Claim
+  costUnder : List ℕ → ℕ → ℕ → Claim
   wholeAt : ℕ → Bool → Claim
   floorAt : ℕ → ℕ → Claim
   judged : List ℕ → ℕ → Claim
@@ -53,8 +55,8 @@ refusalOf e p = orZero (callRefusal (fileOf e p) defaultBudget sheetPlaces)
 abbrev writingOf : ℕ → Plan → ℕ
 writingOf e p = orZero (writeRefusal e p (fileLength e (length (p .arcs))))
 
--- The file of an edition, both ways; the refusal in edition 1, and in edition 2; the writer's in an edition; k; the number of links; N; Z; L(0); the cost, whole, and the
--- floor, whatever u is, at a budget; the cost that a list of arcs is judged to have in edition 2, and the fault of one.
+-- The file of an edition, both ways; the refusal in edition 1, and in edition 2; the writer's in an edition; k; the number of links; N; Z; L(0); the cost, the same of
+-- the plan renumbered by a list, whole, and the floor, whatever u is, at a budget; the cost that a list of arcs is judged to have in edition 2, and the fault of one.
 abbrev pub Means : Plan → Claim → Type 0
 Means p (file e bytes) = (fileOf e p ≡ bytes) × (edition bytes ≡ e) × (planOf bytes ≡ p)
 Means p (refusal r) = refusalOf 1 p ≡ r
@@ -66,6 +68,7 @@ Means p (trees k) = arborescenceCount p ≡ k
 Means p (balancing c) = leastBalancing p [] ≡ c
 Means p (boundAtZero l) = lagrangianBound p (λ i. pos 0) ≡ pos l
 Means p (costAt b c) = bestCost p b ≡ c
+Means p (costUnder ns b c) = bestCost (renumbered p (numberIn ns)) b ≡ c
 Means p (wholeAt b w) = isWhole p b ≡ w
 Means p (floorAt b l) = (u : Multipliers) → lowerBound p b u ≡ pos l
 Means p (judged w c) = judgeAnswer (fileOf 2 p) w ≡ given c
@@ -102,9 +105,9 @@ table =
     -- B
     ∷ row 4 (arc 0 1 1 1 ∷ arc 1 0 0 1 ∷ arc 2 3 1 1 ∷ arc 3 2 0 1 ∷ arc 1 2 0 10 ∷ arc 3 0 0 10 ∷ [])
     (refusal 0 ∷ parts 2 ∷ trees 1 ∷ costAt 10000 22 ∷ balancing 2 ∷ boundAtZero 12 ∷ [])
-    -- C
+    -- C; and with its vertices 0 and 1 exchanged, when the first tree is one of least cost
     ∷ row 3 (arc 0 0 1 1 ∷ arc 1 1 1 1 ∷ arc 2 2 1 1 ∷ arc 0 1 0 2 ∷ arc 1 2 0 2 ∷ arc 2 0 0 2 ∷ arc 0 2 0 3 ∷ [])
-    (refusal 0 ∷ linkCount 4 ∷ trees 2 ∷ costAt 1 14 ∷ wholeAt 1 false ∷ costAt 2 9 ∷ wholeAt 2 true ∷ boundAtZero 7 ∷ [])
+    (refusal 0 ∷ linkCount 4 ∷ trees 2 ∷ costAt 1 14 ∷ wholeAt 1 false ∷ costAt 2 9 ∷ wholeAt 2 true ∷ boundAtZero 7 ∷ costUnder (1 ∷ 0 ∷ []) 1 9 ∷ [])
     -- D, E
     ∷ row 2 (arc 0 1 1 5 ∷ []) (refusal 12 ∷ [])
     ∷ row 2 (arc 0 1 0 5 ∷ arc 1 0 0 3 ∷ []) (refusal 10 ∷ [])
@@ -178,6 +181,7 @@ holds p (trees k) = eqb (arborescenceCount p) k
 holds p (balancing c) = eqb (leastBalancing p []) c
 holds p (boundAtZero l) = isPos (lagrangianBound p (λ i. pos 0)) l
 holds p (costAt b c) = eqb (bestCost p b) c
+holds p (costUnder ns b c) = eqb (bestCost (renumbered p (numberIn ns)) b) c
 holds p (wholeAt b w) = Bool·beq (isWhole p b) w
 holds p (floorAt b l) = isWhole p b && eqb (bestCost p b) l
 holds p (judged w c) = sameAnswer (judgeAnswer (fileOf 2 p) w) (given c)
@@ -250,6 +254,7 @@ sound p (trees k) t = eqb→eq (arborescenceCount p) k t
 sound p (balancing c) t = eqb→eq (leastBalancing p []) c t
 sound p (boundAtZero l) t = is-pos (lagrangianBound p (λ i. pos 0)) l t
 sound p (costAt b c) t = eqb→eq (bestCost p b) c t
+sound p (costUnder ns b c) t = eqb→eq (bestCost (renumbered p (numberIn ns)) b) c t
 sound p (wholeAt b w) t = same-truth (isWhole p b) w t
 sound p (floorAt b l) t = λ u. (let h = and-parts (isWhole p b) (eqb (bestCost p b) l) t in whole-floor p b u (is-true (h .0)) ∙ ap pos (eqb→eq (bestCost p b) l (h .1)))
 sound p (judged w c) t = same-answer (judgeAnswer (fileOf 2 p) w) (given c) t

@@ -47,3 +47,10 @@ pub mod Roads
 pub mod Marks
 pub mod Copy
 pub mod FirstNumber
+pub mod Renumbering
+pub mod RenumberedTour
+pub mod RenumberedDistance
+pub mod RenumberedComponents
+pub mod RenumberedBalancing
+pub mod RenumberedMultipliers
+pub mod RenumberedDrive

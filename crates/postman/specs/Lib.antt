@@ -22,6 +22,7 @@ pub mod Judge
 pub mod Windows
 pub mod Marks
 pub mod OpenPlan
+pub mod Renumbering
 -- What is proved about them.
 pub mod Laws
 pub mod Theorem

@@ -1,4 +1,4 @@
--- EVERY DRIVE THAT THE PLANNER WRITES PASSES THE JUDGE WITH THE COST IT PRINTED: the plan call's and so the short call's, that of a plan call at a departure, of asking an open plan, of a district's last turn, and
+-- EVERY DRIVE THAT THE PLANNER WRITES PASSES THE JUDGE WITH THE COST IT PRINTED: the plan call's and so the short call's, that of a plan call at a departure, of the deep call, of asking an open plan, of a district's last turn, and
 -- of a car whose marks are the plan's own. And no drive that anyone sent is judged to cost less than the floor. For every input, from the contracts of the calls alone; then once more over what callers in other
 -- languages lend.
 use mathlib.Core.Path.{_≡_, sym, ap, _∙_, subst}
@@ -25,6 +25,8 @@ use Rattle.solution.specs.Laws.Answered.{accepted, is-answer, cost-is, floor-is
 use Rattle.planner.specs.Contract.{IsPlanCall}
 use Rattle.windows.specs.Contract.{IsPlanCallAt}
 use Rattle.two_cars.specs.Contract.{IsCar}
+use Rattle.deep_call.specs.Contract.{IsDeepCall}
+use Rattle.deep_call.specs.Theorem.{passes-the-judge}
 use Rattle.two_cars.specs.Laws.Own.{as-plan-call}
 use Rattle.districts.specs.declared.machine.Machine.{Machine}
 use Rattle.districts.specs.declared.turn.Outcome.{Outcome}
@@ -47,7 +49,7 @@ use Rattle.answers.specs.Laws.Answer.{put-at, answered-zero}
 use Rattle.answers.specs.Laws.CarsNumber.{first-told, second-told}
 use Rattle.machine_bytes.specs.MachineBytes.{machineIn}
 use Rattle.open_plan_bytes.specs.StateBytes.{openBytes, openIn}
-use Rattle.exports.specs.Call.{IsExportedCall, IsExportedCallAt}
+use Rattle.exports.specs.Call.{IsExportedCall, IsExportedCallAt, IsExportedDeepCall}
 use Rattle.exports.specs.Editing.{IsExportedAsk}
 use Rattle.exports.specs.Cars.{IsLeft, Lent, IsExportedCars}
 use Rattle.exports.specs.Turns.{IsExportedTurn, Call, eventsOf, LedLent}
@@ -95,6 +97,10 @@ module _ (bytes : List ℕ) (budget : ℕ) (old new : List ℕ) (r : Planned) (g
   -- the plan call at a departure; asking an open plan is this call on the file that it holds
   pub written-passes-at : (numbers : List ℕ) (d : Departure) → IsPlanCallAt bytes budget numbers d old new r → Passes bytes (take (r .places) new) (r .cost)
   written-passes-at numbers d call = passes (at-passes bytes budget numbers d old new r call good)
+
+  -- the deep call
+  pub written-passes-deep : (rounds : ℕ) → IsDeepCall bytes budget rounds old new r → Passes bytes (take (r .places) new) (r .cost)
+  written-passes-deep rounds call = passes (passes-the-judge bytes budget rounds old new r call good)
 
   -- a car whose marks are the plan's own must arcs
   pub written-passes-car : IsCar bytes (ownMarks (planOf bytes)) budget old new r → Passes bytes (take (r .places) new) (r .cost)
@@ -153,6 +159,11 @@ module _ (bytes : List ℕ) (budget : ℕ) (sheet sheet′ words words′ : List
   lent-passes-at numbers d x =
       let g = handed-words (x .handed-over) zero in
       lent-passes bytes (x .answer) sheet′ words words′ room (g .1) (at-passes bytes budget numbers d sheet sheet′ (x .answer) (x .called) (g .0))
+
+  pub lent-passes-deep : (rounds : ℕ) → IsExportedDeepCall bytes budget rounds sheet sheet′ words words′ u u′ n → LentPasses bytes words′ sheet′
+  lent-passes-deep rounds x =
+      let g = handed-words (x .handed-over) zero in
+      lent-passes bytes (x .answer) sheet′ words words′ room (g .1) (passes-the-judge bytes budget rounds sheet sheet′ (x .answer) (x .called) (g .0))
 
 -- asking: judged on the file that the state holds
 pub lent-passes-ask : (state : List ℕ) (budget : ℕ) (numbers : List ℕ) (d : Departure) (sheet sheet′ words words′ : List ℕ) (u u′ : List ℤ) (n : ℤ) → 2 ≤ length words → n ≡ pos 0 → openBytes ≤ length state

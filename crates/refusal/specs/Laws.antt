@@ -1,11 +1,11 @@
--- Verdicts one after the other are conditions one after the other; and the refusals' numbers are 1 to 22.
+-- Verdicts one after the other are conditions one after the other; and the refusals' numbers are 1 to 23.
 use mathlib.Core.Path.{_≡_, refl}
 use mathlib.Core.Bool.{Bool, true, false, cond}
 use mathlib.Core.Option.{Option, none, some}
 use Prim.Native.Nat.{ℕ, _≤_}
 use native.Mathlib.Omega.{arith}
 use Rattle.refusal.specs.declared.Refusal.{Refusal}
-use Rattle.refusal.specs.declared.Refusal.the-variants.{Torn, Edition, Extent, Margin, OffSheet, Unpriced, Standing, ShortSheet, Budget, Idle, Scattered, CutOff, Repeated, Foreign, Unjoined, Missed, StrayPair, BadMarks, BadWindow, MustShut, NoMark, Full}
+use Rattle.refusal.specs.declared.Refusal.the-variants.{Torn, Edition, Extent, Margin, OffSheet, Unpriced, Standing, ShortSheet, Budget, Idle, Scattered, CutOff, Repeated, Foreign, Unjoined, Missed, StrayPair, BadMarks, BadWindow, MustShut, NoMark, Full, Rounds}
 use Rattle.refusal.specs.Verdict.{refusalNumber, orElse}
 
 -- The condition, or else the next.
@@ -13,8 +13,8 @@ pub or-else-cond : (b : Bool) (r : ℕ) (o : Option ℕ) → orElse (cond b (som
 or-else-cond true r o = refl
 or-else-cond false r o = refl
 
--- The numbers are 1 to 22.
-pub some-number : (r : Refusal) → (1 ≤ refusalNumber r) × (refusalNumber r ≤ 22)
+-- The numbers are 1 to 23.
+pub some-number : (r : Refusal) → (1 ≤ refusalNumber r) × (refusalNumber r ≤ 23)
 some-number Torn = (omega arith, omega arith)
 some-number Edition = (omega arith, omega arith)
 some-number Extent = (omega arith, omega arith)
@@ -37,3 +37,4 @@ some-number BadWindow = (omega arith, omega arith)
 some-number MustShut = (omega arith, omega arith)
 some-number NoMark = (omega arith, omega arith)
 some-number Full = (omega arith, omega arith)
+some-number Rounds = (omega arith, omega arith)

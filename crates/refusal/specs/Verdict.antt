@@ -2,7 +2,7 @@
 use mathlib.Core.Option.{Option, none, some}
 use Prim.Native.Nat.{ℕ}
 use Rattle.refusal.specs.declared.Refusal.{Refusal}
-use Rattle.refusal.specs.declared.Refusal.the-variants.{Torn, Edition, Extent, Margin, OffSheet, Unpriced, Standing, ShortSheet, Budget, Idle, Scattered, CutOff, Repeated, Foreign, Unjoined, Missed, StrayPair, BadMarks, BadWindow, MustShut, NoMark, Full}
+use Rattle.refusal.specs.declared.Refusal.the-variants.{Torn, Edition, Extent, Margin, OffSheet, Unpriced, Standing, ShortSheet, Budget, Idle, Scattered, CutOff, Repeated, Foreign, Unjoined, Missed, StrayPair, BadMarks, BadWindow, MustShut, NoMark, Full, Rounds}
 use Rattle.refusal.specs.declared.Verdict.{Verdict}
 use Rattle.refusal.specs.declared.Verdict.the-variants.{Accepted, Refused}
 
@@ -30,6 +30,7 @@ refusalNumber BadWindow = 19
 refusalNumber MustShut = 20
 refusalNumber NoMark = 21
 refusalNumber Full = 22
+refusalNumber Rounds = 23
 
 -- The number that a verdict gives, or none.
 abbrev pub verdictNumber : Verdict → Option ℕ

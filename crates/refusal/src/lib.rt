@@ -27,6 +27,7 @@ pub enum Refusal {
     MustShut,
     NoMark,
     Full,
+    Rounds,
 }
 
 // The number of a refusal.
@@ -56,6 +57,7 @@ pub fn refusal_number(r: Refusal) -> u8
         Refusal::MustShut => 20,
         Refusal::NoMark => 21,
         Refusal::Full => 22,
+        Refusal::Rounds => 23,
     }
 }
 

@@ -29,14 +29,22 @@ def print_directions(output: Output, streets: StreetList, steps: Iterable[Step])
     output.result("* the street is checked on this pass")
 
 
-def print_figures(output: Output, answer: Answer, trees: int | None) -> None:
+def print_figures(output: Output, answer: Answer, trees: int | None, deep: bool = False) -> None:
     """Cost, floor, gap, trees and parts, a line each, and a line of advice."""
     output.result(f"cost   {output.style(counted(answer.cost), 'bold')}")
     output.result(f"floor  {counted(answer.floor)}")
     output.result(f"gap    {per_cent(answer.gap)}")
-    output.result(f"trees  {counted(answer.trees)} of {count_said(trees)}")
+    of_all = "in all rounds" if deep else f"of {count_said(trees)}"
+    output.result(f"trees  {counted(answer.trees)} {of_all}")
     output.result(f"parts  {answer.parts}")
-    output.result(advice(answer, trees))
+    output.result(deep_advice(answer) if deep else advice(answer, trees))
+
+
+def deep_advice(answer: Answer) -> str:
+    """What rounds say of a gap."""
+    if answer.whole:
+        return "The cost meets the floor: no drive is cheaper."
+    return "More rounds may find a cheaper drive or a higher floor."
 
 
 def count_said(trees: int | None) -> str:

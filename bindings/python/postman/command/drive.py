@@ -2,22 +2,25 @@
 star where a street under revision is checked; then the cost, the floor that no
 drive can undercut, the gap between them, and how many trees were tried.
 
-Without a budget it goes as deep as half a second allows."""
+Without a budget it goes as deep as half a second allows. With rounds it looks
+elsewhere too: each round numbers the corners anew or tries more trees."""
 
 from __future__ import annotations
 
 from argparse import ArgumentParser, ArgumentTypeError, Namespace
 
+from ..limits import HIGHEST_BUDGET
 from ..streets.steps import steps_of
 from .deepening import deepest, no_gap
 from .directions import as_csv, as_object, print_directions, print_figures
-from .options import add_budget, add_departure, add_formats, add_list
+from .options import add_budget, add_departure, add_formats, add_list, whole_number
 from .output import Output
 from .pictures import add_picture, write_picture
 from .question import asked
 
 EXAMPLE = """\
   postman drive town/streets.csv
+  postman drive town/streets.csv --rounds 100
   postman drive town/streets.csv --at "tue 09:30" --windows town/windows.csv
   postman drive town/streets.csv --picture drive.svg
   postman drive town/streets.csv --gpx --origin 54.21,-2.36 > drive.gpx"""
@@ -25,7 +28,10 @@ EXAMPLE = """\
 
 def add_arguments(parser: ArgumentParser) -> None:
     add_list(parser)
-    add_budget(parser, "as many as half a second allows")
+    add_budget(parser, "as many as half a second allows; with --rounds 1000000")
+    parser.add_argument(
+        "--rounds", metavar="R", type=whole_number, help="look elsewhere too, in so many rounds, 1 to 1000"
+    )
     add_departure(parser)
     add_formats(parser, "json", "csv", "geojson", "gpx")
     add_picture(parser, "the drive")
@@ -46,7 +52,9 @@ def origin(text: str) -> tuple[float, float]:
 
 def run(args: Namespace, output: Output) -> int:
     question = asked(args)
-    if args.budget is None:
+    if args.rounds is not None:
+        answer = question.ask_deep(HIGHEST_BUDGET if args.budget is None else args.budget, args.rounds)
+    elif args.budget is None:
         answer = deepest(question.ask, no_gap)
     else:
         answer = question.ask(args.budget)
@@ -70,5 +78,5 @@ def run(args: Namespace, output: Output) -> int:
         output.raw(as_csv(streets, steps_of(streets, answer.drive)))
     else:
         print_directions(output, streets, steps_of(streets, answer.drive))
-        print_figures(output, answer, question.trees())
+        print_figures(output, answer, question.trees(), deep=args.rounds is not None)
     return 0

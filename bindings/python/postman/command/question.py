@@ -6,7 +6,7 @@ from argparse import Namespace
 from typing import TYPE_CHECKING
 
 from ..answer import Answer
-from ..calls import plan_call, plan_call_at, tree_count
+from ..calls import deep_call, plan_call, plan_call_at, tree_count
 from ..plan import Plan
 from ..refusal import Refusal
 from ..streets import StreetList
@@ -41,6 +41,13 @@ class Question:
             if self.departure is None:
                 return plan_call(self.file, budget)
             return plan_call_at(self.file, budget, [typed.window for typed in self.windows], self.departure)
+
+    def ask_deep(self, budget: int, rounds: int) -> Answer:
+        """The best drive and the best floor of so many rounds."""
+        if self.departure is not None:
+            raise WrongUsage("--rounds and --at do not go together: the deep call takes no windows")
+        with explained(self.streets, self.explain):
+            return deep_call(self.file, budget, rounds)
 
     def trees(self) -> int | None:
         """The number of trees, or None above what is counted."""

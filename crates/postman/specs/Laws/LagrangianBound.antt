@@ -81,7 +81,7 @@ module _ (p : Plan) (u : Multipliers) where
       rw (a, b, c) (simp zl (omega arith))
 
   -- the sum of u(i) × D(i), with the links counted, is the sum of u over the heads less that over the tails
-  price-split : InPlan p → (t : List Link) → Joins p t → sumOfℤ (map (λ i. u i *ℤ imbalance p t i) (required p)) ≡ sumOfℤ (map u (heads p t)) -ℤ sumOfℤ (map u (tails p t))
+  pub price-split : InPlan p → (t : List Link) → Joins p t → sumOfℤ (map (λ i. u i *ℤ imbalance p t i) (required p)) ≡ sumOfℤ (map u (heads p t)) -ℤ sumOfℤ (map u (tails p t))
   unfolding imbalance
   price-split ok t j =
       ap (λ (f : ℕ → ℤ). sumOfℤ (map f (required p)))

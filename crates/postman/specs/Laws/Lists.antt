@@ -1,13 +1,13 @@
--- Laws of `map`, `flatMap` and `select`. By induction on the list.
+-- Laws of `map`, `flatMap`, `select` and `anyOf`. By induction on the list.
 use mathlib.Core.Path.{_≡_, refl, sym, ap, ap₂, _∙_}
-use mathlib.Core.Bool.{Bool, cond}
+use mathlib.Core.Bool.{Bool, cond, _||_}
 use mathlib.Core.List.{List, [], _∷_, _++_, map, flatMap, List·Memᴰ, List·Memᴰ·head, List·Memᴰ·tail, append-assoc}
 use Prim.Native.Nat.{ℕ, suc, _+_, _<_}
 use native.Mathlib.Decide.{ℕ-discrete}
 use native.Mathlib.Omega.{arith}
 use lib.ListN.{length, getD, set, length-append}
 use lib.Seq.{getD-append-seam, getD-set-same, getD-set-other}
-use Rattle.postman.specs.Lists.{select, below, upFrom}
+use Rattle.postman.specs.Lists.{select, anyOf, below, upFrom}
 use Rattle.postman.specs.Laws.Selection.{select-append}
 
 module _ {A B : Type 0} where
@@ -27,6 +27,11 @@ module _ {A B : Type 0} where
   unfolding flatMap
   flatMap-map h g [] = refl
   flatMap-map {C} h g (x ∷ xs) = ap (λ (l : List C). h (g x) ++ l) (flatMap-map h g xs)
+
+  pub anyOf-map : (f : B → Bool) (g : A → B) (xs : List A) → anyOf f (map g xs) ≡ anyOf (λ x. f (g x)) xs
+  unfolding anyOf
+  anyOf-map f g [] = refl
+  anyOf-map f g (x ∷ xs) = ap (λ b. f (g x) || b) (anyOf-map f g xs)
 
   -- what passes f after a map is the map of what passes the composed test
   pub select-map : (f : B → Bool) (f′ : A → Bool) (g : A → B) (xs : List A) → ((x : A) → List·Memᴰ x xs → f (g x) ≡ f′ x) → select f (map g xs) ≡ map g (select f′ xs)

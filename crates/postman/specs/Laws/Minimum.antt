@@ -1,7 +1,7 @@
 -- The least value of a list is at most each of its values, and is one of them. By induction on the list.
 use mathlib.Core.Path.{_≡_, refl, ap, subst}
-use mathlib.Core.List.{List, [], _∷_, List·Memᴰ, List·Memᴰ·head, List·Memᴰ·tail}
-use Prim.Native.Nat.{ℕ, _≤_, _<_}
+use mathlib.Core.List.{List, [], _∷_, map, List·Memᴰ, List·Memᴰ·head, List·Memᴰ·tail}
+use Prim.Native.Nat.{ℕ, _≤_, _<_, min}
 use native.Mathlib.Nat.{le-refl}
 use native.Mathlib.Decide.{decLe}
 use native.Mathlib.Omega.{arith}
@@ -30,6 +30,12 @@ module _ {A : Type 0} where
         let e = r .2 in
         (r .0, List·Memᴰ·tail (r .1), omega arith)
   ]
+
+-- of a list that is mapped
+pub least-map : {A B : Type 0} (b : ℕ) (f : B → ℕ) (g : A → B) (xs : List A) → least b f (map g xs) ≡ least b (λ x. f (g x)) xs
+unfolding least
+least-map b f g [] = refl
+least-map b f g (x ∷ xs) = ap (min (f (g x))) (least-map b f g xs)
 
 pub minimum-le : {x : ℕ} {xs : List ℕ} → List·Memᴰ x xs → minimum xs ≤ x
 unfolding minimum

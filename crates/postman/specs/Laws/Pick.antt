@@ -2,7 +2,8 @@
 use mathlib.Core.Path.{_≡_, refl, sym, ap, _∙_, subst⁻¹}
 use mathlib.Core.Logic.{_⊎_, inl, inr}
 use mathlib.Core.List.{List, [], _∷_, List·Memᴰ, List·Memᴰ·head, List·Memᴰ·tail, List·Memᴰ·cases-cons}
-use Prim.Native.Nat.{ℕ, suc}
+use Prim.Native.Nat.{ℕ, zero, suc, _≤_, _<_}
+use native.Mathlib.Omega.{arith}
 use lib.ListN.{length, length-map}
 use Rattle.postman.specs.Lists.{picks}
 use Rattle.postman.specs.Laws.Membership.{mem-map, map-mem}
@@ -56,6 +57,19 @@ module _ {A : Type 0} where
   pub permutation-mem : {y : A} {xs ys : List A} → Permutation xs ys → List·Memᴰ y ys → List·Memᴰ y xs
   permutation-mem none m = m
   permutation-mem (more q s) m = elim (pick-cases q m) [ inl e ↦ List·Memᴰ·head e | inr n ↦ List·Memᴰ·tail (permutation-mem s n) ]
+
+-- values that differ are at most as many as they may be
+pub differ-le : (f : ℕ → ℕ) (k : ℕ) (ys : List ℕ) → ((q : ℕ) → q < k → List·Memᴰ (f q) ys) → ((q r : ℕ) → q < k → r < k → f q ≡ f r → q ≡ r) → k ≤ length ys
+differ-le f zero ys m d = omega arith
+differ-le f (suc k) ys m d =
+    let r = pick-of-mem (m k (omega arith)) in
+    let e = pick-length (r .1) in
+    let rest : (q : ℕ) → q < k → List·Memᴰ (f q) (r .0) = λ q l. elim (pick-cases (r .1) (m q (omega arith))) [
+      | inl s ↦ (let z = d q k (omega arith) (omega arith) s in absurd (omega arith))
+      | inr n ↦ n
+    ] in
+    let i = differ-le f k (r .0) rest (λ q r a b. d q r (omega arith) (omega arith)) in
+    omega arith
 
 -- ---- `picks` lists every way to pick
 

@@ -15,6 +15,7 @@ use Rattle.postman.specs.Arborescence.{arborescences, arborescenceCount}
 use Rattle.postman.specs.Balancing.{completionCost}
 use Rattle.postman.specs.PlanCall.{triedCount, bestCost, bestArborescence}
 use Rattle.postman.specs.Laws.Tests.{cond-ind}
+use Rattle.postman.specs.Laws.Minimum.{least-map}
 
 module _ {A : Type 0} (f : A → ℕ) where
   -- the element that is kept of the best so far and the next
@@ -61,11 +62,6 @@ module _ {A : Type 0} (f : A → ℕ) where
 
 -- ---- the arborescence of least completion cost among those tried
 
-least-map : {A : Type 0} (f : A → ℕ) (b : ℕ) (xs : List A) → least b (λ n. n) (map f xs) ≡ least b f xs
-unfolding least
-least-map f b [] = refl
-least-map f b (x ∷ xs) = ap (min (f x)) (least-map f b xs)
-
 argmin-mem : {A : Type 0} (f : A → ℕ) (d : A) (xs : List A) → 0 < length xs → List·Memᴰ (argmin f d xs) xs
 unfolding argmin
 argmin-mem f d [] h = absurd (omega arith)
@@ -74,7 +70,7 @@ argmin-mem f d (x ∷ xs) h = argmin-from-mem f x xs
 argmin-value : {A : Type 0} (f : A → ℕ) (d : A) (xs : List A) → 0 < length xs → f (argmin f d xs) ≡ minimum (map f xs)
 unfolding argmin minimum
 argmin-value f d [] h = absurd (omega arith)
-argmin-value f d (x ∷ xs) h = argmin-from-value f x xs ∙ sym (least-map f (f x) xs)
+argmin-value f d (x ∷ xs) h = argmin-from-value f x xs ∙ sym (least-map (f x) (λ n. n) f xs)
 
 module _ (p : Plan) (budget : ℕ) (some : 1 ≤ budget) (count : 0 < arborescenceCount p) where
   abbrev tried : List (List Link)

@@ -1,0 +1,14 @@
+-- Every vertex keeps its number.
+use Rattle.deep_call.specs.Laws.Made.{begun-as}
+use borrow.Author.Needs.{needs}
+use Rattle.deep_call.proofs.kept.begin.Statement.{statement}
+use Rattle.deep_call.proofs.kept.begin.Tie as tie
+
+identity-requires : tie.Need-identity-requires
+identity-requires c κs = search needs
+
+returns : tie.Need-returns
+returns c = begun-as _ _ _ _ _ _ _ (c .before .identity .ensures) (search needs)
+
+pub begin-spec : {M : Type 1} → statement M
+begin-spec = tie.close (tie.spec identity-requires returns)

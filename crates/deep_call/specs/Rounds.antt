@@ -1,0 +1,127 @@
+-- THE ROUNDS. Each is the plan call on the plan under another numbering of its vertices, or with more trees; arcs keep their numbers, so that its drive is one of the file's plan, at its cost, and its floor is under every drive of that
+-- plan. Of all rounds the least cost and the greatest floor are kept. What is kept after so many rounds is a function of the plan and the budget.
+use mathlib.Core.Bool.{Bool, cond}
+use mathlib.Core.List.{List}
+use Prim.Native.Nat.{ℕ, zero, suc, _+_, _*_, _-_, _%_}
+use lib.ListN.{getD}
+use lib.Dec.{eqb, leb}
+use lib.IntN.{ℤ, pos}
+use lib.Signed.{leZ, ltZ}
+use Rattle.postman.specs.Plan.{Plan}
+use Rattle.postman.specs.Renumbering.{numberIn, renumbered}
+use Rattle.postman.specs.Component.{componentCount}
+use Rattle.postman.specs.PlanCall.{Summary, bestCost, lowerBound, triedCount}
+use Rattle.multipliers.specs.Ascent.{multipliersFor}
+use Rattle.multipliers.specs.Tour.{tourOf}
+use Rattle.renumbering.specs.declared.numbering.Numbering.{Numbering}
+use Rattle.renumbering.specs.Numbering.{unchanged}
+use Rattle.renumbering.specs.Shuffle.{shuffled}
+use Rattle.renumbering.specs.Renumbered.{carriedIn}
+use Rattle.deep_call.specs.declared.kept.Kept.{Kept}
+use Rattle.deep_call.specs.declared.trial.Trial.{Trial}
+use Rattle.deep_call.specs.declared.trial.Chosen.{Chosen}
+
+-- The plan under a numbering.
+abbrev pub under : Plan → Numbering → Plan
+under p x = renumbered p (numberIn (x .to))
+
+-- The floor that the plan call answers, with the multipliers that it answers.
+unfoldable pub floorOf : Plan → ℕ → ℤ
+unfolding lowerBound multipliersFor
+floorOf q budget = lowerBound q budget (λ i. getD (multipliersFor q) i (pos 0))
+
+-- What the plan call answers for the plan under a numbering, with so many trees: cost, floor, and multipliers carried back.
+abbrev pub costOf : Plan → Trial → ℕ
+costOf p x = bestCost (under p (x .numbering)) (x .tries)
+
+abbrev pub floorUnder : Plan → Trial → ℤ
+floorUnder p x = floorOf (under p (x .numbering)) (x .tries)
+
+abbrev pub carriedBack : Plan → Trial → List ℤ
+carriedBack p x = carriedIn (x .numbering .to) (multipliersFor (under p (x .numbering)))
+
+-- ---- what is kept
+
+-- After the first round, which is the plan call's: every number as it is, and the budget.
+unfoldable pub begun : ℕ → ℕ → ℤ → List ℤ → ℕ → Kept
+unfolding unchanged
+begun budget cost floor u trees =
+    let first : Trial = record { numbering = unchanged; tries = budget } in
+    record { drive = first; cost = cost; bound = first; floor = floor; multipliers = u; trees = trees; random = 1; doubling = 2 }
+
+-- A drive that is no dearer is kept, with what it was found with: of equal costs the last, so that the rounds go on from elsewhere.
+unfoldable pub withDrive : Trial → ℕ → Kept → Kept
+withDrive x cost k =
+    cond (leb cost (k .cost))
+    (record { drive = x; cost = cost; bound = k .bound; floor = k .floor; multipliers = k .multipliers; trees = k .trees; random = k .random; doubling = k .doubling })
+    k
+
+-- A floor that is greater is kept, with what it was found with and its multipliers: of equal floors the first.
+unfoldable pub withFloor : Trial → ℤ → List ℤ → Kept → Kept
+withFloor x floor u k =
+    cond (ltZ (k .floor) floor)
+    (record { drive = k .drive; cost = k .cost; bound = x; floor = floor; multipliers = u; trees = k .trees; random = k .random; doubling = k .doubling })
+    k
+
+-- The trees of the round are counted, and the generator and the doubling go on.
+unfoldable pub counted : ℕ → ℕ → ℕ → Kept → Kept
+counted trees random doubling k =
+    record { drive = k .drive; cost = k .cost; bound = k .bound; floor = k .floor; multipliers = k .multipliers; trees = k .trees + trees; random = random; doubling = doubling }
+
+-- Whether floor and cost meet.
+unfoldable pub isClosed : Kept → Bool
+isClosed k = leZ (pos (k .cost)) (k .floor)
+
+-- ---- the rounds
+
+-- Round 2, 4, 8 and so on doubles: the file's numbering, with so many times the budget's trees.
+unfoldable pub doubled : ℕ → ℕ → ℕ → Chosen
+unfolding unchanged
+doubled budget round random = record { trial = record { numbering = unchanged; tries = budget * round }; random = random; doubling = 2 * round }
+
+-- Any other takes the numbering of the drive that is kept, with 2 to 16 exchanges. Few of them close in, many get out of a corner.
+unfoldable pub exchangedBy : Plan → ℕ → ℕ → Kept → Chosen
+unfolding shuffled
+exchangedBy p budget round k =
+    let d = shuffled (p .n) (record { numbering = k .drive .numbering; random = k .random }) (2 + 2 * (round % 8)) in
+    record { trial = record { numbering = d .numbering; tries = budget }; random = d .random; doubling = k .doubling }
+
+unfoldable pub nextRound : Plan → ℕ → ℕ → Kept → Chosen
+unfolding doubled exchangedBy
+nextRound p budget round k = cond (eqb round (k .doubling)) (doubled budget round (k .random)) (exchangedBy p budget round k)
+
+-- A round: its cost, its floor, its multipliers carried back, its trees.
+unfoldable pub roundWith : Plan → Chosen → Kept → Kept
+unfolding bestCost floorOf multipliersFor triedCount carriedIn withDrive withFloor counted
+roundWith p c k =
+    let x = c .trial in
+    counted (triedCount (under p (x .numbering)) (x .tries)) (c .random) (c .doubling) (withFloor x (floorUnder p x) (carriedBack p x) (withDrive x (costOf p x) k))
+
+unfoldable pub nextKept : Plan → ℕ → ℕ → Kept → Kept
+unfolding nextRound roundWith
+nextKept p budget round k = roundWith p (nextRound p budget round k) k
+
+-- What is kept after the first round and r more; the next one is round r + 2. It ends as soon as floor and cost meet.
+unfoldable pub keptAfter : Plan → ℕ → ℕ → Kept
+unfolding begun bestCost floorOf multipliersFor triedCount isClosed nextKept
+keptAfter p budget zero = begun budget (bestCost p budget) (floorOf p budget) (multipliersFor p) (triedCount p budget)
+keptAfter p budget (suc r) = cond (isClosed (keptAfter p budget r)) (keptAfter p budget r) (nextKept p budget (r + 2) (keptAfter p budget r))
+
+-- ---- the answer
+
+-- What is kept after so many rounds; the answer's fields but for the places and u; and the drive.
+unfoldable pub kept : Plan → ℕ → ℕ → Kept
+unfolding keptAfter
+kept p budget rounds = keptAfter p budget (rounds - 1)
+
+unfoldable pub deepSummary : Plan → ℕ → ℕ → Summary
+unfolding kept isClosed componentCount
+deepSummary p budget rounds =
+    let k = kept p budget rounds in
+    record { cost = k .cost; floor = k .floor; trees = k .trees; whole = isClosed k; parts = componentCount p }
+
+unfoldable pub deepTour : Plan → ℕ → ℕ → List ℕ
+unfolding kept tourOf
+deepTour p budget rounds =
+    let x = kept p budget rounds .drive in
+    tourOf (under p (x .numbering)) (x .tries)
