@@ -164,7 +164,7 @@ pub enum Property {
     OneRound,
     /// Its drive is no dearer and its floor no lower than the plan call's with that budget.
     NoWorse,
-    /// More rounds give a drive no dearer and a floor no lower.
+    /// More rounds give a drive no dearer and a floor no lower; once floor and cost are equal, nothing else.
     MoreRounds,
     /// It says whole exactly when floor and cost are equal.
     FloorMet,

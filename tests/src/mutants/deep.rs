@@ -117,7 +117,7 @@ wrong_rounds! {
         }
     }
 
-    GoesOnWhereFloorAndCostMeet violates [EachRound, Stated] {
+    GoesOnWhereFloorAndCostMeet violates [MoreRounds, EachRound, Stated] {
         fn ends(&self, _cost: u64, _floor: u64) -> bool {
             false
         }

@@ -93,7 +93,7 @@ pub fn examine_one_round(
         .expect(Property::OneRound, same, || format!("budget {budget}: {told:?} instead of {plain:?} for {file:02x?}"));
 }
 
-/// Holds the answers with two numbers of rounds to each other.
+/// Holds the answers with two numbers of rounds to each other. Where floor and cost have met, more rounds change nothing.
 pub fn examine_more_rounds(
     found: &mut Findings,
     callee: &dyn DeepCall,
@@ -102,14 +102,15 @@ pub fn examine_more_rounds(
     (few, many): (u32, u32),
 ) {
     assert!(few <= many);
-    let [before, after] = [few, many].map(|rounds| {
+    let told = [few, many].map(|rounds| {
         let told = call(found, SHEET_PLACES, FILL, |sheet| callee.deep_call(file, budget, rounds, sheet));
-        told.and_then(|(told, _)| told.ok())
+        told.and_then(|(told, sheet)| Some((told.ok()?, sheet)))
     });
-    if let (Some(before), Some(after)) = (before, after) {
+    if let [Some((before, sheet)), Some((after, other))] = &told {
+        let about = || format!("budget {budget}, {few} and {many} rounds, {:?}, {before:?}, {after:?}", parse(file));
         let no_worse = after.cost <= before.cost && after.floor >= before.floor;
-        found.expect(Property::MoreRounds, no_worse, || {
-            format!("budget {budget}, {few} and {many} rounds, {:?}, {before:?}, {after:?}", parse(file))
-        });
+        found.expect(Property::MoreRounds, no_worse, about);
+        let closed = before.floor == before.cost;
+        found.expect(Property::MoreRounds, !closed || before == after && sheet == other, about);
     }
 }
