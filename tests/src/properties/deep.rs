@@ -19,8 +19,8 @@ pub fn examine_deep_refusal(
     }
 }
 
-/// Holds the deep call on a case, with a good budget, number of rounds and sheet, to every property; and to a planner that is right, which gives what each round is
-/// answered. No round may have more trees than a plan call takes.
+/// Holds the deep call on a case, with a good budget, number of rounds and sheet, to every property; and to a planner that is right, which gives what
+/// each round is answered. No round may have more trees than a plan call takes.
 pub fn examine_deep(
     found: &mut Findings,
     callee: &dyn DeepCall,
