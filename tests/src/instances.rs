@@ -6,10 +6,10 @@ mod joined;
 mod towns;
 mod worked;
 
-pub use drawn::{drawn_town, joined_loops};
+pub use drawn::{drawn_city, drawn_town, joined_loops};
 pub use equal::many_paths;
 pub use joined::{crossing, even, joined, one_above, star, Entries, HIGHEST_COUNT};
-pub use towns::{dead_ends, towns};
+pub use towns::{dead_ends, town, towns};
 pub use worked::{
     bound_choices, chorded_ring, loops_at_one, matrix, nested_circles, of_matrix, one_way, parallel, ties,
     two_ways_back, Matrix,

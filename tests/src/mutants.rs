@@ -4,6 +4,7 @@ mod answers;
 mod cars;
 mod codecs;
 mod counters;
+mod deep;
 mod departures;
 mod districts;
 mod editors;
@@ -11,7 +12,9 @@ mod judges;
 mod pages;
 mod steps;
 
-use crate::planner::{CarsCall, Codec, Counter, DepartureCall, DistanceCall, Districts, Editor, Judge, Planner};
+use crate::planner::{
+    CarsCall, Codec, Counter, DeepCall, DepartureCall, DistanceCall, Districts, Editor, Judge, Planner,
+};
 use crate::properties::Property;
 
 pub struct Mutant<T: ?Sized> {
@@ -46,6 +49,11 @@ pub fn counters() -> Vec<Mutant<dyn Counter>> {
 /// Wrong in windows and departures.
 pub fn departures() -> Vec<Mutant<dyn DepartureCall>> {
     departures::mutants()
+}
+
+/// Wrong in the rounds of a deep call, or in what is answered.
+pub fn deep() -> Vec<Mutant<dyn DeepCall>> {
+    deep::mutants()
 }
 
 /// Wrong in the call for two cars.

@@ -16,10 +16,12 @@
 //! | a car's plan | the set of its arcs, priced by standing | mark by mark, priced by checking cost |
 //! | an open plan | the accepted calls, looked up from the end | the plan and the marks as they are now |
 //! | districts in turn | whose each accepted call was; the front has waited longest since its own | a line, its front first |
+//! | a deep call | a list of all rounds; exchanges undone from the last | what is kept, round by round |
 //! | judging | sets of arcs, and how often each occurs | passes along the list |
 
 mod balancing;
 mod bound;
+mod deep;
 mod file;
 mod graph;
 mod history;
@@ -34,6 +36,7 @@ mod windows;
 
 pub use balancing::{assignment, greatest_multipliers, Assignment};
 pub use bound::{cheapest_tree, lagrangian_bound};
+pub use deep::{best_of, bounds_by_root, deep_refusal, rounds, vertices_of, with_numbers, Round};
 pub use file::{file_of, is_long_enough, parse, read_refusal, write_refusal};
 pub use graph::{judge, Graph, INFINITE};
 pub use history::History;

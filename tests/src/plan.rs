@@ -44,6 +44,9 @@ pub const DEFAULT_BUDGET: u64 = 100_000;
 pub const PROGRAM_BUDGET: u64 = 10_000;
 pub const HIGHEST_BUDGET: u64 = 1_000_000;
 
+/// The most rounds of a deep call.
+pub const MOST_ROUNDS: u32 = 1_000;
+
 /// The most pairs of a page of distances.
 pub const MOST_PAIRS: usize = 256;
 

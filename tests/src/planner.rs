@@ -16,12 +16,14 @@ use crate::plan::{Arc, Departure, MOST_VERTICES};
 
 mod cars;
 mod counter;
+mod deep;
 mod districts;
 mod editor;
 #[cfg(feature = "proved")]
 mod proved;
 pub use cars::{Car, CarsAnswer, CarsCall};
 pub use counter::{Counter, TreeCount};
+pub use deep::DeepCall;
 pub use districts::{Districts, Machine, Turn};
 pub use editor::{Call, Change, Editor, OpenPlan};
 #[cfg(feature = "proved")]
@@ -56,6 +58,7 @@ pub mod refusal {
     pub const MUST_SHUT: Refusal = 20;
     pub const NO_MARK: Refusal = 21;
     pub const FULL: Refusal = 22;
+    pub const ROUNDS: Refusal = 23;
 }
 
 /// What the plan call answers beside the drive.

@@ -6,6 +6,7 @@ mod cars;
 mod checking;
 mod codec;
 mod count;
+mod deep;
 mod departure;
 mod districts;
 mod editing;
@@ -19,6 +20,7 @@ pub use cars::{examine_alone, examine_car, examine_cars, examine_own_marks, Brou
 pub use checking::examine_checking;
 pub use codec::{examine_codec, examine_writing};
 pub use count::{examine_count, examine_whole};
+pub use deep::{examine_deep, examine_deep_refusal, examine_more_rounds, examine_one_round};
 pub use departure::{examine_departure, examine_departure_refusal, examine_no_windows};
 pub use districts::{examine_districts, examine_misplaced, Request, Told};
 pub use editing::{examine_editing, Question, Step};
@@ -162,10 +164,22 @@ pub enum Property {
     Drained,
     /// A front district at no place, or at that of another in line, is not gone on with.
     Misplaced,
+    /// With one round the deep call is the plan call, but for what it says of whole.
+    OneRound,
+    /// Its drive is no dearer and its floor no lower than the plan call's with that budget.
+    NoWorse,
+    /// More rounds give a drive no dearer and a floor no lower; once floor and cost are equal, nothing else.
+    MoreRounds,
+    /// It says whole exactly when floor and cost are equal.
+    FloorMet,
+    /// And otherwise its floor is the larger of L(0) and L(u), where the trees start from some part.
+    FloorOfSomeRoot,
+    /// Cost, floor, trees and u are those of the rounds.
+    EachRound,
 }
 
 /// All of them.
-pub const PROPERTIES: [Property; 66] = {
+pub const PROPERTIES: [Property; 72] = {
     use Property::*;
     [
         Returns,
@@ -234,6 +248,12 @@ pub const PROPERTIES: [Property; 66] = {
         NothingMoves,
         Drained,
         Misplaced,
+        OneRound,
+        NoWorse,
+        MoreRounds,
+        FloorMet,
+        FloorOfSomeRoot,
+        EachRound,
     ]
 };
 

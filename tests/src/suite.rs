@@ -3,6 +3,7 @@
 mod answers;
 mod cars;
 mod counts;
+mod deep;
 mod departures;
 mod districts;
 mod editing;
@@ -17,6 +18,7 @@ mod tables;
 
 pub use cars::run_cars;
 pub use counts::{run_count, run_counts};
+pub use deep::{run_deep, run_deep_towns};
 pub use departures::run_departures;
 pub use districts::{district_cases, run_districts, run_stated_districts};
 pub use editing::run_editing;

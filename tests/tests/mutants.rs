@@ -2,7 +2,7 @@
 //! catches some wrong planner.
 
 use postman_tests::instances::Shape;
-use postman_tests::mutants::{cars, codecs, counters, departures, districts, editors, judges, pages, planners};
+use postman_tests::mutants::{cars, codecs, counters, deep, departures, districts, editors, judges, pages, planners};
 use postman_tests::oracle::Effort;
 use postman_tests::properties::{Case, Findings, Property, PROPERTIES};
 use postman_tests::suite;
@@ -115,6 +115,29 @@ fn wrong_calls_for_two_cars_are_caught() {
 }
 
 #[test]
+fn wrong_deep_calls_are_caught() {
+    // A wrong deep call may panic, as a wrong planner may.
+    std::panic::set_hook(Box::new(|_| {}));
+    let mut escaped = Vec::new();
+    for mutant in deep() {
+        let mut found = Findings::default();
+        for seed in SEED..SEED + 10 {
+            if missed(mutant.violates, &found).is_empty() {
+                break;
+            }
+            suite::run_deep(&mut found, &*mutant.wrong, &Yardstick, seed, 1);
+        }
+        println!("{}: {:?}", mutant.name, found.violated);
+        let missed = missed(mutant.violates, &found);
+        if !missed.is_empty() {
+            escaped.push((mutant.name, missed));
+        }
+    }
+    let _ = std::panic::take_hook();
+    assert!(escaped.is_empty(), "{escaped:?}");
+}
+
+#[test]
 fn wrong_editors_are_caught() {
     let mut escaped = Vec::new();
     for mutant in editors() {
@@ -173,6 +196,7 @@ fn every_property_catches_some_mutant() {
     caught.extend(counters().iter().flat_map(|m| m.violates.to_vec()));
     caught.extend(departures().iter().flat_map(|m| m.violates.to_vec()));
     caught.extend(cars().iter().flat_map(|m| m.violates.to_vec()));
+    caught.extend(deep().iter().flat_map(|m| m.violates.to_vec()));
     caught.extend(editors().iter().flat_map(|m| m.violates.to_vec()));
     caught.extend(districts().iter().flat_map(|m| m.violates.to_vec()));
     caught.extend(judges().iter().flat_map(|m| m.violates.to_vec()));

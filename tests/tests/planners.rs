@@ -5,7 +5,9 @@
 
 use postman_tests::instances::Shape;
 use postman_tests::oracle::Effort;
-use postman_tests::planner::{CarsCall, Codec, Counter, DepartureCall, DistanceCall, Districts, Editor, Planner};
+use postman_tests::planner::{
+    CarsCall, Codec, Counter, DeepCall, DepartureCall, DistanceCall, Districts, Editor, Planner,
+};
 use postman_tests::properties::Findings;
 use postman_tests::random::{setting, Random};
 use postman_tests::{suite, yardstick::Yardstick};
@@ -90,6 +92,14 @@ fn windows<T: DepartureCall + Planner>(name: &str, planner: &T) {
 fn cars<T: CarsCall + Planner>(name: &str, planner: &T) {
     let mut found = Findings::default();
     suite::run_cars(&mut found, planner, planner, seed(), rounds(4));
+    found.assert_none(name, seed());
+}
+
+/// Deep calls, and with one round the plan call.
+fn deep(name: &str, call: &dyn DeepCall, planner: &dyn Planner) {
+    let mut found = Findings::default();
+    suite::run_deep(&mut found, call, planner, seed(), rounds(4));
+    suite::run_deep_towns(&mut found, call, planner);
     found.assert_none(name, seed());
 }
 
@@ -199,6 +209,19 @@ macro_rules! held_to_all {
 held_to_all!(yardstick, Yardstick);
 #[cfg(feature = "proved")]
 held_to_all!(proved, postman_tests::planner::Proved);
+
+#[test]
+fn yardstick_in_rounds() {
+    deep("yardstick in rounds", &Yardstick, &Yardstick);
+}
+
+/// The rounds over the library's plan call.
+#[cfg(feature = "proved")]
+#[test]
+fn proved_plan_call_in_rounds() {
+    use postman_tests::{planner::Proved, yardstick::OverPlanCall};
+    deep("proved plan call in rounds", &OverPlanCall(Proved), &Proved);
+}
 
 /// Beyond what the oracle can reach: many trees, on large plans and on the benchmark's; and u, which the oracle holds to its conditions only, on small ones too.
 #[cfg(feature = "proved")]

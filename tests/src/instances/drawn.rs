@@ -8,6 +8,11 @@ use crate::random::Random;
 pub fn drawn_town(random: &mut Random) -> Plan {
     let side = random.within(5..=7);
     let parts = random.within(3..=6);
+    drawn_city(random, side, parts)
+}
+
+/// Such a town with so many crossings on a side, and around so many of them.
+pub fn drawn_city(random: &mut Random, side: usize, parts: usize) -> Plan {
     let mut streets = Vec::new();
     for v in 0..side * side {
         if v % side + 1 < side {

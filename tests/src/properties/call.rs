@@ -126,7 +126,13 @@ pub fn examine_answer(found: &mut Findings, planner: &dyn Planner, case: &Case, 
     }
 }
 
-fn examine_drive(found: &mut Findings, facts: &Facts, answer: &Answer, sheet: &[u16], about: &dyn Fn() -> String) {
+pub(super) fn examine_drive(
+    found: &mut Findings,
+    facts: &Facts,
+    answer: &Answer,
+    sheet: &[u16],
+    about: &dyn Fn() -> String,
+) {
     let plan = &facts.graph.plan;
     let places = answer.places.min(SHEET_PLACES);
     let (drive, rest) = sheet.split_at(places);
@@ -169,13 +175,19 @@ fn examine_floor(found: &mut Findings, facts: &Facts, answer: &Answer, about: &d
     }
 }
 
-fn examine_multipliers(found: &mut Findings, facts: &Facts, answer: &Answer, about: &dyn Fn() -> String) {
+/// Document 01's conditions on u.
+pub(super) fn examine_conditions(found: &mut Findings, facts: &Facts, answer: &Answer, about: &dyn Fn() -> String) {
     let (graph, u) = (&facts.graph, &answer.multipliers);
     let feasible = graph.required.iter().all(|&i| graph.required.iter().all(|&j| graph.reduced(u, i, j) >= 0));
     found.expect(Property::Feasible, feasible, about);
     found.expect(Property::Tight, graph.price(u) == facts.least_balancing as i64, about);
     let elsewhere = (0..u.len()).all(|v| graph.required.contains(&v) || u[v] == 0);
     found.expect(Property::Elsewhere, elsewhere, about);
+}
+
+fn examine_multipliers(found: &mut Findings, facts: &Facts, answer: &Answer, about: &dyn Fn() -> String) {
+    let (graph, u) = (&facts.graph, &answer.multipliers);
+    examine_conditions(found, facts, answer, about);
     found.expect(Property::Root, u[graph.required[0]] == 0, about);
     let (bound, greatest) = (lagrangian_bound(graph, u), lagrangian_bound(graph, &facts.greatest));
     found.expect(Property::NoLower, bound >= greatest, || format!("{greatest} at the greatest, {bound}: {}", about()));
