@@ -5,3 +5,5 @@ pub mod Opening
 -- What two calls leave.
 pub mod OneAnswer
 pub mod CarNumber
+-- The three demands, of any answer.
+pub mod Demands

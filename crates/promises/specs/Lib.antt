@@ -1,3 +1,8 @@
+-- THE PAGE: what a user relies on, one file a call. First the three demands of document 01, of any answer.
+pub mod Demands
+pub mod PlanCall
+-- Each statement of the page, proved.
+pub mod Proved
 -- What callers in other languages lend for an answer, and what two cars' number says of each.
 pub mod Slices
 pub mod CarNumber

@@ -1,0 +1,2 @@
+-- Each statement of the page has its line here.
+pub mod PlanCall
