@@ -7,3 +7,7 @@ pub mod OneAnswer
 pub mod CarNumber
 -- The three demands, of any answer.
 pub mod Demands
+-- What the other calls answer, by their refusals.
+pub mod Counted
+pub mod Page
+pub mod Judged

@@ -1,2 +1,7 @@
 -- Each statement of the page has its line here.
 pub mod PlanCall
+pub mod Departure
+pub mod TwoCars
+pub mod TreeCount
+pub mod Distances
+pub mod Judging

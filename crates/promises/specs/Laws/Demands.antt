@@ -2,22 +2,27 @@
 use mathlib.Core.Path.{_≡_, sym, ap, ap₂, _∙_, subst}
 use mathlib.Core.Bool.{Bool, true, false, not}
 use mathlib.Core.List.{List}
-use mathlib.Core.Option.{Option, none}
+use mathlib.Core.Option.{Option, none, some}
 use Prim.Native.Nat.{ℕ}
 use lib.ListN.{length, drop}
 use lib.Seq.{drop-append-seam}
 use lib.IntN.{pos}
 use lib.Dec.{T}
 use Rattle.postman.specs.Plan.{Plan}
-use Rattle.postman.specs.Refusal.{answer, unless}
+use Rattle.postman.specs.Refusal.{firstRefusal, answer, unless}
+use Rattle.postman.specs.PlanFile.{fileConditions}
 use Rattle.postman.specs.PlanCall.{Summary, summary, fields}
 use Rattle.postman.specs.Laws.Tests.{of-true}
+use Rattle.postman.specs.Laws.Refusal.{first-stop}
+use Rattle.postman.specs.Laws.Marks.{car-order}
+use Rattle.refusal.specs.Verdict.{verdictNumber}
 use Rattle.circuit.specs.Tour.{written}
 use Rattle.multipliers.specs.Tour.{tourOf}
 use Rattle.multipliers.specs.Ascent.{multipliersFor}
 use Rattle.solution.specs.declared.Planned.{Planned}
 use Rattle.solution.specs.Planned.{summaryOf, multipliersOf, countUnless, IsPlanned}
 use Rattle.solution.specs.Laws.Answered.{is-answer, summary-given, floor-is, count-is, places-count, tour-written}
+use Rattle.two_cars.specs.Contract.{IsCar}
 use Rattle.promises.specs.Demands.{Refuses, Accepted, Drives, Bounds}
 
 module _ {p : Plan} {budget : ℕ} {refusal : Option ℕ} {old new : List ℕ} {r : Planned} (i : IsPlanned p budget refusal old new r) where
@@ -90,3 +95,9 @@ module _ {p : Plan} {budget : ℕ} {refusal : Option ℕ} {old new : List ℕ} {
 pub equal-multipliers : {p q : Plan} {b c : ℕ} {o o′ : Option ℕ} {old new old′ new′ : List ℕ} {r s : Planned} → IsPlanned p b o old new r → IsPlanned q c o′ old′ new′ s
     → p ≡ q → Accepted r → Accepted s → r .multipliers ≡ s .multipliers
 equal-multipliers i j e good good′ = i .answered (sym (i .verdict) ∙ good) .multipliers-are ∙ ap multipliersFor e ∙ sym (j .answered (sym (j .verdict) ∙ good′) .multipliers-are)
+
+-- ---- "Only 1 to 7 and 13 reach both"
+
+pub file-refused-car : {bytes marks : List ℕ} {budget : ℕ} {old new : List ℕ} {r : Planned} {k : ℕ} → IsCar bytes marks budget old new r → firstRefusal (fileConditions bytes) ≡ some k
+    → verdictNumber (r .verdict) ≡ some k
+file-refused-car {bytes} {marks} {budget} {old} {k = k} c e = c .planned .verdict ∙ car-order bytes budget (length old) marks ∙ first-stop (fileConditions bytes) _ k e

@@ -1,0 +1,34 @@
+-- Two cars, proved.
+use Rattle.two_cars.specs.Theorem.{first-alone, second-alone, own-marks, raised-budget-car}
+use Rattle.promises.specs.TwoCars.{Given, Cars, Car, EachCar, FirstAlone, SecondAlone, FileRefusal, FirstDemand, CutOff, SecondDemand, ThirdDemand, RaisedBudget, OwnMarks}
+use Rattle.promises.specs.Laws.Demands.{refuses, drives, bounds, file-refused-car}
+
+pub each-car : EachCar
+each-car bytes a b c = (c .contract .first, c .contract .second)
+
+pub first-car-alone : FirstAlone
+first-car-alone bytes a b b′ c d = first-alone bytes _ _ _ _ _ _ _ _ _ _ _ _ _ _ _ (c .contract) (d .contract)
+
+pub second-car-alone : SecondAlone
+second-car-alone bytes a a′ b c d = second-alone bytes _ _ _ _ _ _ _ _ _ _ _ _ _ _ _ (c .contract) (d .contract)
+
+pub file-refusal : FileRefusal
+file-refusal bytes a b c k e = (file-refused-car (c .contract .first) e, file-refused-car (c .contract .second) e)
+
+pub first-demand : FirstDemand
+first-demand bytes g c = refuses (c .contract .planned)
+
+pub cut-off : CutOff
+cut-off bytes g c = c .contract .cut-off
+
+pub second-demand : SecondDemand
+second-demand bytes g c = drives (c .contract .planned)
+
+pub third-demand : ThirdDemand
+third-demand bytes g c = bounds (c .contract .planned)
+
+pub raised-budget : RaisedBudget
+raised-budget bytes marks b b′ sheet sheet′ c d more = raised-budget-car _ _ _ _ more _ _ _ _ _ _ (c .contract) (d .contract)
+
+pub own-marks-call : OwnMarks
+own-marks-call bytes budget sheet c d = own-marks _ _ _ _ _ _ _ (c .contract) (d .contract)
