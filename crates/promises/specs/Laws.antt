@@ -8,6 +8,7 @@ pub mod CarNumber
 -- The three demands, of any answer.
 pub mod Demands
 -- What the other calls answer, by their refusals.
+pub mod File
 pub mod Counted
 pub mod Page
 pub mod Judged

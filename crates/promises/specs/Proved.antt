@@ -1,7 +1,9 @@
 -- Each statement of the page has its line here.
+pub mod PlanFile
 pub mod PlanCall
 pub mod Departure
 pub mod TwoCars
 pub mod TreeCount
 pub mod Distances
 pub mod Judging
+pub mod OpenPlan

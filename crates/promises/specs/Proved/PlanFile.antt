@@ -1,0 +1,31 @@
+-- The plan file, proved.
+use mathlib.Core.Path.{sym, ap, _∙_}
+use mathlib.Core.List.{List, _++_, map}
+use lib.ListN.{length}
+use Rattle.postman.specs.Plan.{Arc as Fields}
+use Rattle.plan.specs.Records.{arcValue}
+use Rattle.records.specs.Laws.Reading.{map-drop}
+use Rattle.records.specs.Laws.Reread.{read-back}
+use Rattle.promises.specs.PlanFile.{Reading, ReadRefused, ReadGiven, Writing, WriteRefused, WriteGiven, ReadsBack, WritesBack}
+use Rattle.promises.specs.Laws.File.{read-refused, read-given, write-refused, write-given-list, are-priced, same-plan, written-back}
+
+pub reading-refused : ReadRefused
+reading-refused bytes list r k e = let x = read-refused bytes list k e in (r .answer-is ∙ x .0, r .after-is ∙ x .1)
+
+pub reading-given : ReadGiven
+reading-given bytes list r e = let x = read-given bytes list e in (r .answer-is ∙ x .0, r .after-is ∙ x .1)
+
+pub writing-refused : WriteRefused
+writing-refused e n list bytes w k h = let x = write-refused e _ bytes k h in (w .answer-is ∙ x .0, w .after-is ∙ x .1)
+
+pub writing-given : WriteGiven
+writing-given e n list bytes w h = let x = write-given-list e n list bytes h in (w .answer-is ∙ x .0, w .after-is ∙ x .1)
+
+pub reads-back : ReadsBack
+reads-back e n list bytes w k small h into enough r =
+    let x = read-back e n list into bytes (w .after) k (are-priced list small) (sym h ∙ w .answer-is) (w .after-is) enough in
+    (r .answer-is ∙ x .answer, r .after-is ∙ x .records-after ∙ ap (λ (l : List Fields). map arcValue list ++ l) (sym (map-drop arcValue into (length list))))
+
+pub writes-back : WritesBack
+writes-back bytes list r small e slice enough w =
+    let x = written-back bytes (length list) slice _ small e enough (same-plan bytes list (r .after) e (r .after-is)) in (w .answer-is ∙ x .0, w .after-is ∙ x .1)
