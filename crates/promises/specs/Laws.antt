@@ -12,3 +12,4 @@ pub mod File
 pub mod Counted
 pub mod Page
 pub mod Judged
+pub mod Districts

@@ -8,6 +8,7 @@ pub mod TreeCount
 pub mod Distances
 pub mod Judging
 pub mod OpenPlan
+pub mod Districts
 -- Each statement of the page, proved.
 pub mod Proved
 -- What callers in other languages lend for an answer, and what two cars' number says of each.

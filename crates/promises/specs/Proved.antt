@@ -7,3 +7,4 @@ pub mod TreeCount
 pub mod Distances
 pub mod Judging
 pub mod OpenPlan
+pub mod Districts
