@@ -14,7 +14,6 @@ use Rattle.postman.specs.PlanFile.{planOf}
 use Rattle.postman.specs.Tour.{IsTour, tourCost}
 use Rattle.postman.specs.Windows.{Departure, windowsIn, planAt, Avoids, isBadDeparture, earlierConditionsAt, callRefusalAt}
 use Rattle.solution.specs.declared.Planned.{Planned}
-use Rattle.solution.specs.SameAnswer.{SameAnswer}
 use Rattle.solution.specs.RaisedBudget.{Buys}
 use Rattle.windows.specs.Contract.{IsPlanCallAt}
 use Rattle.promises.specs.Demands.{Refuses, Accepted, Drives, Bounds}
@@ -65,7 +64,7 @@ FloorOfAvoiding = (bytes : List ℕ) (budget : ℕ) (windows : List ℕ) (d : De
 -- Two calls on the same answer the same, and leave the same sheet.
 abbrev pub OneAnswer : Type 0
 OneAnswer = (bytes : List ℕ) (budget : ℕ) (windows : List ℕ) (d : Departure) (sheet : List ℕ) (c c′ : CallAt bytes budget windows d sheet)
-    → SameAnswer (c .answer) (c′ .answer) × (c .after ≡ c′ .after)
+    → (c .answer ≡ c′ .answer) × (c .after ≡ c′ .after)
 
 -- "What is said of one plan and two budgets is said at equal windows and departure, on which u depends too."
 abbrev pub RaisedBudget : Type 0
@@ -76,4 +75,4 @@ RaisedBudget = (bytes : List ℕ) (b b′ : ℕ) (windows : List ℕ) (d : Depar
 -- No windows, and any good departure: the plan call, in a refusal too.
 abbrev pub NoWindows : Type 0
 NoWindows = (bytes : List ℕ) (budget : ℕ) (d : Departure) (sheet : List ℕ) (c : CallAt bytes budget [] d sheet) (c′ : Call bytes budget sheet)
-    → T (not (isBadDeparture d)) → SameAnswer (c .answer) (c′ .answer) × (c .after ≡ c′ .after)
+    → T (not (isBadDeparture d)) → (c .answer ≡ c′ .answer) × (c .after ≡ c′ .after)

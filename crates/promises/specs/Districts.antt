@@ -7,7 +7,6 @@ use Prim.Native.Nat.{ℕ, suc, _+_, _*_, _≤_, _<_}
 use lib.ListN.{length}
 use Rattle.postman.specs.PlanFile.{planOf}
 use Rattle.postman.specs.PlanCall.{sheetPlaces, bestCost}
-use Rattle.solution.specs.SameAnswer.{SameAnswer}
 use Rattle.districts.specs.declared.machine.Machine.{Machine}
 use Rattle.districts.specs.declared.enter.Admission.the-variants.{At}
 use Rattle.districts.specs.declared.enter.Entered.{Entered}
@@ -84,7 +83,7 @@ StillGoing = (es : List Event) (sheet : List ℕ) (t : Turn es sheet) (d : Distr
 abbrev pub AsOnePlanCall : Type 0
 AsOnePlanCall = (es : List Event) (sheet : List ℕ) (t : Turn es sheet) (d : District) (l : Line) → run es ≡ d ∷ l → sheetPlaces ≤ length sheet
     → finishes d ≡ true → (c : Call (lastEntry (d .place) es .bytes) (lastEntry (d .place) es .budget) sheet)
-    → (t .answer .outcome ≡ Finished (d .place)) × SameAnswer (t .answer .planned) (c .answer) × (t .after ≡ c .after)
+    → (t .answer .outcome ≡ Finished (d .place)) × (t .answer .planned ≡ c .answer) × (t .after ≡ c .after)
 
 -- ---- what every run promises
 

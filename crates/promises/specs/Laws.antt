@@ -7,6 +7,7 @@ pub mod OneAnswer
 pub mod CarNumber
 -- The three demands, of any answer.
 pub mod Demands
+pub mod Equal
 -- What the other calls answer, by their refusals.
 pub mod File
 pub mod Counted

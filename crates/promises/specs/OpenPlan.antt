@@ -10,7 +10,6 @@ use Rattle.postman.specs.OpenPlan.{Call, mark, return, opened, outcome, history
 use Rattle.postman.specs.Windows.{Departure}
 use Rattle.refusal.specs.Verdict.{verdictNumber}
 use Rattle.solution.specs.declared.Planned.{Planned}
-use Rattle.solution.specs.SameAnswer.{SameAnswer}
 use Rattle.windows.specs.Contract.{IsPlanCallAt}
 use Rattle.open_plan.specs.declared.OpenPlan.{OpenPlan}
 use Rattle.open_plan.specs.declared.Moved.{Moved}
@@ -82,6 +81,6 @@ NeverRefused = (bytes : List ℕ) (x : Return bytes)
 abbrev pub AskedAgain : Type 0
 AskedAgain = (bytes : List ℕ) (x : Return bytes) (budget : ℕ) (windows : List ℕ) (d : Departure) (sheet sheet′ : List ℕ)
     (a : Asking (x .marked .state) budget windows d sheet) (b : Asking (x .returned .state) budget windows d sheet′) → length sheet ≡ length sheet′
-    → SameAnswer (a .answer) (b .answer)
+    → (a .answer ≡ b .answer)
     × (take (a .answer .places) (a .after) ≡ take (b .answer .places) (b .after))
     × (sheet ≡ sheet′ → a .after ≡ b .after)

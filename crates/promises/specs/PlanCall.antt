@@ -10,7 +10,6 @@ use Rattle.postman.specs.PlanFile.{planOf}
 use Rattle.postman.specs.Tour.{IsTour}
 use Rattle.postman.specs.PlanCall.{defaultBudget, earlierConditions, callRefusal}
 use Rattle.solution.specs.declared.Planned.{Planned}
-use Rattle.solution.specs.SameAnswer.{SameAnswer}
 use Rattle.solution.specs.RaisedBudget.{Buys}
 use Rattle.planner.specs.Contract.{IsPlanCall}
 use Rattle.promises.specs.Demands.{Refuses, Accepted, Drives, Bounds}
@@ -45,7 +44,7 @@ ThirdDemand = (bytes : List ℕ) (budget : ℕ) (sheet : List ℕ) (c : Call byt
 -- What is left open, the drive among equals and u, is a function of what was lent: two calls on the same answer the same, and leave the same sheet.
 abbrev pub OneAnswer : Type 0
 OneAnswer = (bytes : List ℕ) (budget : ℕ) (sheet : List ℕ) (c d : Call bytes budget sheet)
-    → SameAnswer (c .answer) (d .answer) × (c .after ≡ d .after)
+    → (c .answer ≡ d .answer) × (c .after ≡ d .after)
 
 -- "u depends on the plan alone."
 abbrev pub OwnMultipliers : Type 0
@@ -61,4 +60,4 @@ RaisedBudget = (bytes : List ℕ) (b b′ : ℕ) (sheet sheet′ : List ℕ) (c 
 -- "The short call leaves B out"; its budget "becomes 100,000": `planner` `short_call` ensures the plan call's contract at `defaultBudget`.
 abbrev pub ShortCall : Type 0
 ShortCall = (bytes sheet : List ℕ) (short : Call bytes defaultBudget sheet) (c : Call bytes 100000 sheet)
-    → SameAnswer (short .answer) (c .answer) × (short .after ≡ c .after)
+    → (short .answer ≡ c .answer) × (short .after ≡ c .after)

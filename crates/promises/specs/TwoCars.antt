@@ -11,7 +11,6 @@ use Rattle.postman.specs.Tour.{IsTour}
 use Rattle.postman.specs.Marks.{carPlan, ownMarks, earlierConditionsFor, carRefusal}
 use Rattle.refusal.specs.Verdict.{verdictNumber}
 use Rattle.solution.specs.declared.Planned.{Planned}
-use Rattle.solution.specs.SameAnswer.{SameAnswer}
 use Rattle.solution.specs.RaisedBudget.{Buys}
 use Rattle.two_cars.specs.declared.TwoPlanned.{TwoPlanned}
 use Rattle.two_cars.specs.Contract.{IsCar, IsTwoCars}
@@ -45,11 +44,11 @@ EachCar = (bytes : List ℕ) (a b : Given) (c : Cars bytes a b)
 -- "Change one car's marks at will: the other's refusal, drive, cost, floor, trees and u must be the same."
 abbrev pub FirstAlone : Type 0
 FirstAlone = (bytes : List ℕ) (a b b′ : Given) (c : Cars bytes a b) (d : Cars bytes a b′)
-    → SameAnswer (c .answer .first) (d .answer .first) × (c .first-after ≡ d .first-after)
+    → (c .answer .first ≡ d .answer .first) × (c .first-after ≡ d .first-after)
 
 abbrev pub SecondAlone : Type 0
 SecondAlone = (bytes : List ℕ) (a a′ b : Given) (c : Cars bytes a b) (d : Cars bytes a′ b)
-    → SameAnswer (c .answer .second) (d .answer .second) × (c .second-after ≡ d .second-after)
+    → (c .answer .second ≡ d .answer .second) × (c .second-after ≡ d .second-after)
 
 -- "Only 1 to 7 and 13 reach both": the file's.
 abbrev pub FileRefusal : Type 0
@@ -87,4 +86,4 @@ RaisedBudget = (bytes marks : List ℕ) (b b′ : ℕ) (sheet sheet′ : List �
 abbrev pub OwnMarks : Type 0
 OwnMarks = (bytes : List ℕ) (budget : ℕ) (sheet : List ℕ)
     (c : Car bytes (record { marks = ownMarks (planOf bytes); budget = budget; sheet = sheet })) (d : Call bytes budget sheet)
-    → SameAnswer (c .answer) (d .answer) × (c .after ≡ d .after)
+    → (c .answer ≡ d .answer) × (c .after ≡ d .after)

@@ -1,24 +1,31 @@
 -- Runs of calls by the page's words are runs by the laws of `districts`.
-use mathlib.Core.Path.{_≡_, refl, sym, ap, _∙_}
+use mathlib.Core.Path.{_≡_, refl, sym, ap, _∙_, subst⁻¹}
 use mathlib.Core.Bool.{Bool, true, false, not, cond}
-use mathlib.Core.List.{List, [], _∷_, _++_, List·Memᴰ, List·Memᴰ·cases-cons}
+use mathlib.Core.List.{List, [], _∷_, _++_, List·Memᴰ, List·Memᴰ·head, List·Memᴰ·cases-cons}
 use mathlib.Core.Logic.{inl, inr}
 use mathlib.Core.Option.{none}
-use Prim.Native.Nat.{ℕ, suc, _+_, _<_}
+use Prim.Native.Nat.{ℕ, suc, _+_, _≤_, _<_}
 use native.Mathlib.Omega.{arith}
 use lib.ListN.{length}
 use lib.Dec.{T}
+use Rattle.postman.specs.PlanFile.{planOf}
+use Rattle.postman.specs.PlanCall.{sheetPlaces}
+use Rattle.solution.specs.declared.Planned.{Planned}
+use Rattle.planner.specs.Contract.{IsPlanCall}
 use Rattle.districts.specs.declared.machine.Machine.{Machine}
 use Rattle.districts.specs.declared.enter.Admission.the-variants.{At}
 use Rattle.districts.specs.declared.enter.Entered.{Entered}
-use Rattle.districts.specs.Line.{District, Line, entryRefusal, lowestFree}
-use Rattle.districts.specs.Runs.{Event, runFrom, isTurnOf, turnsOf}
-use Rattle.districts.specs.Machine.{lineOf, admissionNumber, IsEntered}
-use Rattle.districts.specs.Laws.Led.{Led}
+use Rattle.districts.specs.declared.turn.Turned.{Turned}
+use Rattle.districts.specs.Line.{District, Line, entryRefusal, lowestFree, finishes}
+use Rattle.districts.specs.Runs.{Event, run, runFrom, isTurnOf, turnsOf, lastEntry}
+use Rattle.districts.specs.Machine.{lineOf, admissionNumber, IsEntered, IsTurned}
+use Rattle.districts.specs.Theorem.{as-entered, finished-as-plan-call}
+use Rattle.districts.specs.Laws.Led.{Led, led}
 use Rattle.districts.specs.Laws.Places.{free-small}
 use Rattle.districts.specs.Laws.Line.{room, Waits}
 use Rattle.districts.specs.Laws.Runs.{NoTurnOf}
 use Rattle.promises.specs.Districts.{Ran, begun, entered, had-turn}
+use Rattle.promises.specs.Laws.Demands.{equal-multipliers}
 
 pub ran-led : (es : List Event) (m : Machine) → Ran es m → Led es m
 unfolding Led
@@ -51,3 +58,14 @@ entry-place {m} {bytes} {budget} {r} {l} h e q a =
     let g : entryRefusal l bytes budget ≡ none = ap (λ (x : Line). entryRefusal x bytes budget) (sym e) ∙ sym (h .refusal) ∙ ap admissionNumber a in
     let s = free-small l (room l bytes budget g) in
     (p, omega arith)
+
+-- u of a last turn is that of the plan call
+pub last-multipliers : (es : List Event) {m : Machine} {old new new′ : List ℕ} {r : Turned} {s : Planned} (d : District) (l : Line) → run es ≡ d ∷ l → finishes d ≡ true → sheetPlaces ≤ length old
+    → Ran es m → IsTurned m old new r → IsPlanCall (lastEntry (d .place) es .bytes) (lastEntry (d .place) es .budget) old new′ s → r .planned .multipliers ≡ s .multipliers
+last-multipliers es {m} {old} {new} {new′} {r} {s} d l e f long ran t c =
+    let h = ran-led es m ran in
+    let i = led es m h in
+    let x = t .served (i .1) d l (i .0 ∙ e) long .0 .last f .1 in
+    let k = as-entered es d (subst⁻¹ (λ (y : Line). List·Memᴰ d y) e (List·Memᴰ·head refl)) .0 in
+    let same = finished-as-plan-call es m h d l e f old new r t long new′ s c .1 in
+    equal-multipliers x (c .planned) (ap planOf k) (x .verdict) (sym (same .refusal) ∙ x .verdict)

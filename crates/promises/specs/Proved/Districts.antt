@@ -10,7 +10,8 @@ use Rattle.districts.specs.Runs.{run}
 use Rattle.districts.specs.Theorem.{seven-turns, as-entered, last-turn, finished-as-plan-call}
 use Rattle.districts.specs.Laws.Led.{led}
 use Rattle.promises.specs.Districts.{Ran, LineOfRun, Entry, EntryAnswers, RefusedEntry, Turn, NobodyInside, ShortSheets, StillGoing, AsOnePlanCall, AsEntered, LastTurn, SevenTurns}
-use Rattle.promises.specs.Laws.Districts.{ran-led, waits, none-of, entry-place}
+use Rattle.promises.specs.Laws.Districts.{ran-led, waits, none-of, entry-place, last-multipliers}
+use Rattle.promises.specs.Laws.Equal.{equal}
 
 pub line-of-run : LineOfRun
 line-of-run es m r = led es m (ran-led es m r) .0
@@ -37,7 +38,8 @@ unfinished es sheet t d l e long f =
 
 pub as-one-plan-call : AsOnePlanCall
 as-one-plan-call es sheet t d l e long f c =
-    finished-as-plan-call es (t .machine) (ran-led es (t .machine) (t .ran)) d l e f sheet (t .after) (t .answer) (t .contract) long (c .after) (c .answer) (c .contract)
+    let x = finished-as-plan-call es (t .machine) (ran-led es (t .machine) (t .ran)) d l e f sheet (t .after) (t .answer) (t .contract) long (c .after) (c .answer) (c .contract) in
+    (x .0, equal (x .1) (last-multipliers es d l e f long (t .ran) (t .contract) (c .contract)), x .2)
 
 pub as-it-entered : AsEntered
 as-it-entered = as-entered

@@ -4,8 +4,9 @@ use mathlib.Core.Option.{Option}
 use Prim.Native.Nat.{ℕ}
 use Rattle.postman.specs.OpenPlan.{unlessRefused}
 use Rattle.open_plan.specs.State.{next}
-use Rattle.open_plan.specs.Theorem.{history-gives, asking, never-refused, same-plan, asked-again}
+use Rattle.open_plan.specs.Theorem.{history-gives, asking, never-refused, same-plan}
 use Rattle.promises.specs.OpenPlan.{Opening, OpenRefusals, RefusedAlike, History, Asking, AskingGives, Return, NeverRefused, AskedAgain}
+use Rattle.promises.specs.Laws.Equal.{asked-equal}
 
 pub open-refusals : OpenRefusals
 open-refusals bytes r h = h .verdict
@@ -30,5 +31,5 @@ never-is-refused bytes x =
 pub asked-again-same : AskedAgain
 asked-again-same bytes x budget windows d sheet sheet′ a b e =
     let o = x .opening in
-    asked-again bytes (o .small) (o .answer) (o .contract) (o .accepted) _ _ _ (x .come) _ _ (x .set-at) (x .accepted) _ _ _ (x .gone) (x .not-again) _ (x .back) budget windows d sheet _ sheet′ _ _ _ e
-    (a .contract) (b .contract)
+    let s = same-plan bytes (o .small) (o .answer) (o .contract) (o .accepted) _ _ _ (x .come) _ _ (x .set-at) (x .accepted) _ _ _ (x .gone) (x .not-again) _ (x .back) in
+    asked-equal s e (a .contract) (b .contract)

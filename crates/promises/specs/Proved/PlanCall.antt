@@ -1,10 +1,10 @@
 -- The plan call, proved.
 use Rattle.postman.specs.PlanCall.{defaultBudget}
 use Rattle.postman.specs.Theorem.{cut-off}
-use Rattle.solution.specs.Laws.SameAnswer.{same-answer}
 use Rattle.planner.specs.Theorem.{raised-budget-call}
 use Rattle.promises.specs.PlanCall.{Call, FirstDemand, CutOff, SecondDemand, ThirdDemand, OneAnswer, OwnMultipliers, RaisedBudget, ShortCall}
 use Rattle.promises.specs.Laws.Demands.{refuses, drives, bounds, equal-multipliers}
+use Rattle.promises.specs.Laws.Equal.{equal-calls}
 
 pub first-demand : FirstDemand
 first-demand bytes budget sheet c = refuses (c .contract .planned)
@@ -19,7 +19,7 @@ pub third-demand : ThirdDemand
 third-demand bytes budget sheet c good = bounds (c .contract .planned) good
 
 pub one-answer : OneAnswer
-one-answer bytes budget sheet c d = same-answer _ _ _ _ _ _ _ _ (c .contract .planned) (d .contract .planned)
+one-answer bytes budget sheet c d = equal-calls (c .contract .planned) (d .contract .planned)
 
 pub own-multipliers : OwnMultipliers
 own-multipliers bytes bytes′ b b′ sheet sheet′ c d = equal-multipliers (c .contract .planned) (d .contract .planned)

@@ -1,16 +1,18 @@
 -- Two cars, proved.
-use Rattle.two_cars.specs.Theorem.{first-alone, second-alone, own-marks, raised-budget-car}
+use Rattle.two_cars.specs.Theorem.{raised-budget-car}
+use Rattle.two_cars.specs.Laws.Own.{as-plan-call}
 use Rattle.promises.specs.TwoCars.{Given, Cars, Car, EachCar, FirstAlone, SecondAlone, FileRefusal, FirstDemand, CutOff, SecondDemand, ThirdDemand, RaisedBudget, OwnMarks}
 use Rattle.promises.specs.Laws.Demands.{refuses, drives, bounds, file-refused-car}
+use Rattle.promises.specs.Laws.Equal.{equal-calls}
 
 pub each-car : EachCar
 each-car bytes a b c = (c .contract .first, c .contract .second)
 
-pub first-car-alone : FirstAlone
-first-car-alone bytes a b b′ c d = first-alone bytes _ _ _ _ _ _ _ _ _ _ _ _ _ _ _ (c .contract) (d .contract)
+pub first-alone : FirstAlone
+first-alone bytes a b b′ c d = equal-calls (c .contract .first .planned) (d .contract .first .planned)
 
-pub second-car-alone : SecondAlone
-second-car-alone bytes a a′ b c d = second-alone bytes _ _ _ _ _ _ _ _ _ _ _ _ _ _ _ (c .contract) (d .contract)
+pub second-alone : SecondAlone
+second-alone bytes a a′ b c d = equal-calls (c .contract .second .planned) (d .contract .second .planned)
 
 pub file-refusal : FileRefusal
 file-refusal bytes a b c k e = (file-refused-car (c .contract .first) e, file-refused-car (c .contract .second) e)
@@ -30,5 +32,5 @@ third-demand bytes g c = bounds (c .contract .planned)
 pub raised-budget : RaisedBudget
 raised-budget bytes marks b b′ sheet sheet′ c d more = raised-budget-car _ _ _ _ more _ _ _ _ _ _ (c .contract) (d .contract)
 
-pub own-marks-call : OwnMarks
-own-marks-call bytes budget sheet c d = own-marks _ _ _ _ _ _ _ (c .contract) (d .contract)
+pub own-marks : OwnMarks
+own-marks bytes budget sheet c d = equal-calls (as-plan-call _ _ _ _ _ (c .contract) .planned) (d .contract .planned)
