@@ -14,3 +14,4 @@ pub mod Counted
 pub mod Page
 pub mod Judged
 pub mod Districts
+pub mod Codec

@@ -9,6 +9,8 @@ pub mod Distances
 pub mod Judging
 pub mod OpenPlan
 pub mod Districts
+-- The same for other languages, over the numbers and slices that they lend.
+pub mod Exports
 -- Each statement of the page, proved.
 pub mod Proved
 -- What callers in other languages lend for an answer, and what two cars' number says of each.

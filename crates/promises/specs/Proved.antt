@@ -8,3 +8,4 @@ pub mod Distances
 pub mod Judging
 pub mod OpenPlan
 pub mod Districts
+pub mod Exports
