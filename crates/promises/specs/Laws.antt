@@ -15,3 +15,4 @@ pub mod Page
 pub mod Judged
 pub mod Districts
 pub mod Codec
+pub mod Runs

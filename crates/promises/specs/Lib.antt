@@ -11,6 +11,7 @@ pub mod OpenPlan
 pub mod Districts
 -- The same for other languages, over the numbers and slices that they lend.
 pub mod Exports
+pub mod ExportedRuns
 -- Each statement of the page, proved.
 pub mod Proved
 -- What callers in other languages lend for an answer, and what two cars' number says of each.

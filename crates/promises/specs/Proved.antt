@@ -9,3 +9,4 @@ pub mod Judging
 pub mod OpenPlan
 pub mod Districts
 pub mod Exports
+pub mod ExportedRuns
