@@ -1,4 +1,5 @@
--- THE THREE DEMANDS of document 01, of an answer r for a plan p, whichever call gives it. `refusal` is what the call is refused for; old and new are the sheet at entry and at exit.
+-- THE THREE DEMANDS of document 01, of an answer r for a plan p, whichever call gives it. `refusal` is what the call is refused for; old
+-- and new are the sheet at entry and at exit.
 use mathlib.Core.Path.{_≡_}
 use mathlib.Core.Bool.{true, false}
 use mathlib.Core.List.{List, []}
@@ -25,7 +26,8 @@ pub record Refuses (refusal : Option ℕ) (old new : List ℕ) (r : Planned) : T
   pub number : verdictNumber (r .verdict) ≡ refusal
   -- "A refusal returns its number only": every other field is 0 or no;
   pub number-only : (k : ℕ) → refusal ≡ some k
-      → r ≡ record { verdict = r .verdict; places = 0; cost = 0; floor = pos 0; trees = 0; whole = false; parts = 0; multipliers = replicate 64 (pos 0) }
+      → (r .places ≡ 0) × (r .cost ≡ 0) × (r .floor ≡ pos 0) × (r .trees ≡ 0) × (r .whole ≡ false) × (r .parts ≡ 0)
+      × (r .multipliers ≡ replicate 64 (pos 0))
   -- "and changes no lent slice".
   pub untouched : (k : ℕ) → refusal ≡ some k → new ≡ old
 
@@ -40,7 +42,8 @@ pub record Drives (p : Plan) (budget : ℕ) (old new : List ℕ) (r : Planned) :
   pub whole : r .whole ≡ isWhole p budget
   pub cost : r .cost ≡ bestCost p budget
   pub parts : r .parts ≡ componentCount p
-  -- "The written places are a drive of that cost whose first arc is the lowest must arc; which such drive, of at most 17,266 places, is free."
+  -- "The written places are a drive of that cost whose first arc is the lowest must arc; which such drive, of at most 17,266 places, is
+  -- free."
   pub drive : IsAnswerTour p budget (take (r .places) new)
   -- "Places written is a count." "Later places of the sheet are untouched."
   pub count : length (take (r .places) new) ≡ r .places
@@ -53,7 +56,8 @@ pub record Bounds (p : Plan) (r : Planned) : Type 0 where
   -- "The floor is the cost if whole, else the larger of L(0) and L(u), with the u that the answer holds."
   pub floor-whole : r .whole ≡ true → r .floor ≡ pos (r .cost)
   pub floor-partial : r .whole ≡ false → r .floor ≡ maxℤ (lagrangianBound p (λ i. pos 0)) (lagrangianBound p (multipliersOf r))
-  -- Every list of arcs, of any length, that is a drive costs at least the floor; and where all trees were tried, none is cheaper than the one written.
+  -- Every list of arcs, of any length, that is a drive costs at least the floor; and where all trees were tried, none is cheaper than the
+  -- one written.
   pub below-every-drive : (w : List ℕ) → IsTour p w → r .floor ≤ℤ pos (tourCost p w)
   pub whole-least : r .whole ≡ true → (w : List ℕ) → IsTour p w → r .cost ≤ tourCost p w
   -- It is no idle number: at least R + Z.

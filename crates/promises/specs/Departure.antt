@@ -57,7 +57,8 @@ ThirdDemand = (bytes : List ℕ) (budget : ℕ) (windows : List ℕ) (d : Depart
 
 -- "The floor is over drives that avoid arcs shut at departure, and later minutes play no part": drives of the file's plan.
 abbrev pub FloorOfAvoiding : Type 0
-FloorOfAvoiding = (bytes : List ℕ) (budget : ℕ) (windows : List ℕ) (d : Departure) (sheet : List ℕ) (c : CallAt bytes budget windows d sheet)
+FloorOfAvoiding = (bytes : List ℕ) (budget : ℕ) (windows : List ℕ) (d : Departure) (sheet : List ℕ)
+    (c : CallAt bytes budget windows d sheet)
     → Accepted (c .answer)
     → (w : List ℕ) → IsTour (planOf bytes) w → Avoids (windowsIn windows) d w → c .answer .floor ≤ℤ pos (tourCost (planOf bytes) w)
 
@@ -74,5 +75,6 @@ RaisedBudget = (bytes : List ℕ) (b b′ : ℕ) (windows : List ℕ) (d : Depar
 
 -- No windows, and any good departure: the plan call, in a refusal too.
 abbrev pub NoWindows : Type 0
-NoWindows = (bytes : List ℕ) (budget : ℕ) (d : Departure) (sheet : List ℕ) (c : CallAt bytes budget [] d sheet) (c′ : Call bytes budget sheet)
+NoWindows = (bytes : List ℕ) (budget : ℕ) (d : Departure) (sheet : List ℕ) (c : CallAt bytes budget [] d sheet)
+    (c′ : Call bytes budget sheet)
     → T (not (isBadDeparture d)) → (c .answer ≡ c′ .answer) × (c .after ≡ c′ .after)

@@ -19,9 +19,11 @@ pub record Page (bytes pairs distances : List ℕ) : Type 0 where
   pub answer-is : searchedAnswer answer ≡ distanceAnswer bytes pairs (length distances)
   pub after-is : after ≡ distancesAfter bytes pairs distances
 
--- "17 stray pair […] after 7 and 13, before 8, which means a distance list shorter than the pairs; 9 to 12 don't apply." A refusal changes nothing.
+-- "17 stray pair […] after 7 and 13, before 8, which means a distance list shorter than the pairs; 9 to 12 don't apply." A refusal
+-- changes nothing.
 abbrev pub Refusals : Type 0
-Refusals = (bytes pairs distances : List ℕ) (c : Page bytes pairs distances) (k : ℕ) → distanceRefusal bytes pairs (length distances) ≡ some k
+Refusals = (bytes pairs distances : List ℕ) (c : Page bytes pairs distances) (k : ℕ)
+    → distanceRefusal bytes pairs (length distances) ≡ some k
     → (searchedAnswer (c .answer) ≡ refused k) × (c .after ≡ distances)
 
 -- "Each entry equals what a single query gives, that is d, the largest 32-bit number standing for no path."

@@ -18,7 +18,8 @@ use Rattle.districts.specs.Machine.{lineOf, IsSound, admissionNumber, IsEntered
 use Rattle.promises.specs.Demands.{Accepted}
 use Rattle.promises.specs.PlanCall.{Call}
 
--- A RUN of calls, the latest first, accepted or not, and the machine then. `districts` `empty`, `enter` and `turn` ensure what each step asks for, of any machine.
+-- A RUN of calls, the latest first, accepted or not, and the machine then. `districts` `empty`, `enter` and `turn` ensure what each step
+-- asks for, of any machine.
 pub data Ran : List Event → Machine → Type 0 where
   begun : (m : Machine) → lineOf m ≡ [] → IsSound m → Ran [] m
   entered : (es : List Event) (m : Machine) (bytes : List ℕ) (budget : ℕ) (r : Entered) → Ran es m → IsEntered m bytes budget r
@@ -26,7 +27,8 @@ pub data Ran : List Event → Machine → Type 0 where
   had-turn : (es : List Event) (m : Machine) (old new : List ℕ) (r : Turned) → Ran es m → IsTurned m old new r
       → Ran (turned (length old) ∷ es) (r .machine)
 
--- The machine's line is the run's: `run` puts an entry at the back, and takes the front district of an accepted turn away, finished, or to the back.
+-- The machine's line is the run's: `run` puts an entry at the back, and takes the front district of an accepted turn away, finished, or
+-- to the back.
 abbrev pub LineOfRun : Type 0
 LineOfRun = (es : List Event) (m : Machine) → Ran es m → lineOf m ≡ run es
 
@@ -39,8 +41,8 @@ pub record Entry (es : List Event) (bytes : List ℕ) (budget : ℕ) : Type 0 wh
   pub answer : Entered
   pub contract : IsEntered machine bytes budget answer
 
--- "Each enters at the back of the line with its plan and a budget, no windows; entry answers the lowest free place, 0 to 7"; "22 full: eight districts are unfinished; at entry, after
--- the plan call's own refusals but 8."
+-- "Each enters at the back of the line with its plan and a budget, no windows; entry answers the lowest free place, 0 to 7"; "22 full:
+-- eight districts are unfinished; at entry, after the plan call's own refusals but 8."
 abbrev pub EntryAnswers : Type 0
 EntryAnswers = (es : List Event) (bytes : List ℕ) (budget : ℕ) (x : Entry es bytes budget)
     → (admissionNumber (x .answer .answer) ≡ entryRefusal (run es) bytes budget)
@@ -71,17 +73,19 @@ abbrev pub ShortSheets : Type 0
 ShortSheets = (es : List Event) (sheet : List ℕ) (t : Turn es sheet) (d : District) (l : Line) → run es ≡ d ∷ l → length sheet < sheetPlaces
     → (t .answer .outcome ≡ ShortSheet) × (t .answer .machine ≡ t .machine) × (t .after ≡ sheet)
 
--- "A turn goes to the front district and takes 1,000 trees or the rest of T. An unfinished one answers the trees so far and their least cost"; "the sheet is […] written in a district's
--- last turn only". The turn's answer names its district's place.
+-- "A turn goes to the front district and takes 1,000 trees or the rest of T. An unfinished one answers the trees so far and their least
+-- cost"; "the sheet is […] written in a district's last turn only". The turn's answer names its district's place.
 abbrev pub StillGoing : Type 0
 StillGoing = (es : List Event) (sheet : List ℕ) (t : Turn es sheet) (d : District) (l : Line) → run es ≡ d ∷ l → sheetPlaces ≤ length sheet
     → finishes d ≡ false
     → (t .answer .outcome ≡ Unfinished (d .place)) × (t .after ≡ sheet) × (t .answer .planned .trees ≡ d .tried + 1000)
     × (t .answer .planned .cost ≡ bestCost (planOf (d .bytes)) (d .tried + 1000))
 
--- "A district's answer equals one plan call with its budget, however many turns it took": with the plan and the budget that it entered with, every field and every place of the sheet.
+-- "A district's answer equals one plan call with its budget, however many turns it took": with the plan and the budget that it entered
+-- with, every field and every place of the sheet.
 abbrev pub AsOnePlanCall : Type 0
-AsOnePlanCall = (es : List Event) (sheet : List ℕ) (t : Turn es sheet) (d : District) (l : Line) → run es ≡ d ∷ l → sheetPlaces ≤ length sheet
+AsOnePlanCall = (es : List Event) (sheet : List ℕ) (t : Turn es sheet) (d : District) (l : Line) → run es ≡ d ∷ l
+    → sheetPlaces ≤ length sheet
     → finishes d ≡ true → (c : Call (lastEntry (d .place) es .bytes) (lastEntry (d .place) es .budget) sheet)
     → (t .answer .outcome ≡ Finished (d .place)) × (t .answer .planned ≡ c .answer) × (t .after ≡ c .after)
 
@@ -97,7 +101,8 @@ abbrev pub LastTurn : Type 0
 LastTurn = (es : List Event) (d : District) → List·Memᴰ d (run es) → finishes d ≡ true
     → (total d ≤ suc (turnsSince (d .place) es) * 1000) × (suc (turnsSince (d .place) es) * 1000 < total d + 1000)
 
--- "No waiting district sees more than seven turns of others before its own, in any run of entries and accepted turns": in any further run that has no turn of it.
+-- "No waiting district sees more than seven turns of others before its own, in any run of entries and accepted turns": in any further run
+-- that has no turn of it.
 abbrev pub SevenTurns : Type 0
 SevenTurns = (es : List Event) (d : District) → List·Memᴰ d (run es)
     → (more : List Event) → turnsOf (d .place) (run es) more ≡ 0 → turnsIn (run es) more ≤ 7

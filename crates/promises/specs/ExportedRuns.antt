@@ -25,10 +25,12 @@ use Rattle.promises.specs.Exports.{LentCall}
 
 -- ---- an open plan
 
--- A run over lent bytes: `postman_change`, `postman_mark` and `postman_return` ensure the contract, on the bytes that the call before left. The numbers are what they answer.
+-- A run over lent bytes: `postman_change`, `postman_mark` and `postman_return` ensure the contract, on the bytes that the call before
+-- left. The numbers are what they answer.
 pub data RanLent : List ℕ → List Call → List ℕ → List ℤ → Type 0 where
   ended : (bytes : List ℕ) → RanLent bytes [] bytes []
-  called : (bytes last : List ℕ) (c : Call) (cs : List Call) (numbers : List ℤ) (bytes′ : List ℕ) (n : ℤ) → Fits c → IsExportedMove c bytes bytes′ n
+  called : (bytes last : List ℕ) (c : Call) (cs : List Call) (numbers : List ℤ) (bytes′ : List ℕ) (n : ℤ) → Fits c
+      → IsExportedMove c bytes bytes′ n
       → RanLent bytes′ cs last numbers → RanLent bytes (c ∷ cs) last (n ∷ numbers)
 
 -- `postman_open` of a file that answers 0; its bytes are numbers below 256.
@@ -39,21 +41,26 @@ pub record LentOpening (file bytes : List ℕ) : Type 0 where
   pub contract : IsExportedOpen file bytes after number
   pub zero : number ≡ pos 0
 
--- "After every list of such calls from an opening on, the open plan equals what the history of accepted changes, marks and returns gives": the calls answer 0 or minus the refusal
--- that the history says, and the bytes hold a state that stands for the open plan.
+-- "After every list of such calls from an opening on, the open plan equals what the history of accepted changes, marks and returns
+-- gives": the calls answer 0 or minus the refusal that the history says, and the bytes hold a state that stands for the open plan.
 abbrev pub LentHistory : Type 0
-LentHistory = (file bytes : List ℕ) (o : LentOpening file bytes) (cs : List Call) (last : List ℕ) (numbers : List ℤ) → RanLent (o .after) cs last numbers
+LentHistory = (file bytes : List ℕ) (o : LentOpening file bytes) (cs : List Call) (last : List ℕ) (numbers : List ℤ)
+    → RanLent (o .after) cs last numbers
     → (numbers ≡ map (λ r. oneNumber (answer r 0)) (refusals (edition file) (opened (planOf file)) cs))
     × StandsFor (edition file) (outcome (opened (planOf file)) (history (edition file) (opened (planOf file)) cs)) (openIn last)
 
--- `postman_ask`: what the plan call at a departure answers for the file that is held; a slice below the state is refused as 8, and nothing is changed.
+-- `postman_ask`: what the plan call at a departure answers for the file that is held; a slice below the state is refused as 8, and
+-- nothing is changed.
 abbrev pub AskHandsOver : Type 0
-AskHandsOver = (state : List ℕ) (budget : ℕ) (windows : List ℕ) (d : Departure) (old after : Slices) (n : ℤ) → IsAsked state budget windows d old after n
+AskHandsOver = (state : List ℕ) (budget : ℕ) (windows : List ℕ) (d : Departure) (old after : Slices) (n : ℤ)
+    → IsAsked state budget windows d old after n
     → openBytes ≤ length state
-    → (c : CallAt (fileIn (openIn state .plan)) budget windows d (old .sheet)) × (c .after ≡ after .sheet) × HandsOver (c .answer) old after n
+    → (c : CallAt (fileIn (openIn state .plan)) budget windows d (old .sheet)) × (c .after ≡ after .sheet)
+    × HandsOver (c .answer) old after n
 
 abbrev pub ShortState : Type 0
-ShortState = (state : List ℕ) (budget : ℕ) (windows : List ℕ) (d : Departure) (old after : Slices) (n : ℤ) → IsAsked state budget windows d old after n
+ShortState = (state : List ℕ) (budget : ℕ) (windows : List ℕ) (d : Departure) (old after : Slices) (n : ℤ)
+    → IsAsked state budget windows d old after n
     → length state < openBytes → (n ≡ negℤ (pos 8)) × (after ≡ old)
 
 -- From an opening on: calls, mark k, more calls of which none sets mark k, and a return to it.
@@ -82,8 +89,10 @@ BothAccepted = (file bytes : List ℕ) (x : LentReturn file bytes) → (x .mark-
 
 -- "Asking after a return gives what asking at the mark gave, with equal budget, windows, departure and sheet length."
 abbrev pub AskedAgain : Type 0
-AskedAgain = (file bytes : List ℕ) (x : LentReturn file bytes) (budget : ℕ) (windows : List ℕ) (d : Departure) (old new old′ new′ : Slices) (n n′ : ℤ)
-    → length (old .sheet) ≡ length (old′ .sheet) → IsAsked (x .marked) budget windows d old new n → IsAsked (x .returned) budget windows d old′ new′ n′
+AskedAgain = (file bytes : List ℕ) (x : LentReturn file bytes) (budget : ℕ) (windows : List ℕ) (d : Departure) (old new old′ new′ : Slices)
+    (n n′ : ℤ)
+    → length (old .sheet) ≡ length (old′ .sheet) → IsAsked (x .marked) budget windows d old new n
+    → IsAsked (x .returned) budget windows d old′ new′ n′
     → LeaveOneAnswer old new n old′ new′ n′
 
 -- ---- districts: `LedLent es bytes` says that the calls es, the latest first, lead from a start to these bytes
@@ -105,21 +114,26 @@ pub record LentTurn (es : List Event) (old : Slices) : Type 0 where
 
 -- It answers 16 with no district inside, and minus 8 for a short sheet; nothing is changed.
 abbrev pub LentEmpty : Type 0
-LentEmpty = (es : List Event) (old : Slices) (t : LentTurn es old) → run es ≡ [] → (t .number ≡ pos 16) × (t .machine ≡ t .bytes) × (t .after ≡ old)
+LentEmpty = (es : List Event) (old : Slices) (t : LentTurn es old) → run es ≡ []
+    → (t .number ≡ pos 16) × (t .machine ≡ t .bytes) × (t .after ≡ old)
 
 abbrev pub LentShort : Type 0
-LentShort = (es : List Event) (old : Slices) (t : LentTurn es old) (d : District) (l : Line) → run es ≡ d ∷ l → length (old .sheet) < sheetPlaces
+LentShort = (es : List Event) (old : Slices) (t : LentTurn es old) (d : District) (l : Line) → run es ≡ d ∷ l
+    → length (old .sheet) < sheetPlaces
     → (t .number ≡ negℤ (pos 8)) × (t .machine ≡ t .bytes) × (t .after ≡ old)
 
--- Before a district's last turn it answers the place, and among the words the trees so far and their least cost; sheet and multipliers are untouched.
+-- Before a district's last turn it answers the place, and among the words the trees so far and their least cost; sheet and multipliers
+-- are untouched.
 abbrev pub LentGoing : Type 0
-LentGoing = (es : List Event) (old : Slices) (t : LentTurn es old) (d : District) (l : Line) → run es ≡ d ∷ l → sheetPlaces ≤ length (old .sheet)
+LentGoing = (es : List Event) (old : Slices) (t : LentTurn es old) (d : District) (l : Line) → run es ≡ d ∷ l
+    → sheetPlaces ≤ length (old .sheet)
     → finishes d ≡ false
     → (t .number ≡ pos (d .place)) × (t .after .sheet ≡ old .sheet) × (t .after .multipliers ≡ old .multipliers)
     × (t .after .words ≡ putFirst (0 ∷ bestCost (planOf (d .bytes)) (d .tried + 1000) ∷ 0 ∷ (d .tried + 1000) ∷ 0 ∷ 0 ∷ []) (old .words))
 
 -- The last turn answers 8 and the place, and leaves what one plan call leaves, with the plan and the budget that the district entered with.
 abbrev pub LentLast : Type 0
-LentLast = (es : List Event) (old : Slices) (t : LentTurn es old) (d : District) (l : Line) → run es ≡ d ∷ l → sheetPlaces ≤ length (old .sheet)
+LentLast = (es : List Event) (old : Slices) (t : LentTurn es old) (d : District) (l : Line) → run es ≡ d ∷ l
+    → sheetPlaces ≤ length (old .sheet)
     → finishes d ≡ true → (c : LentCall (lastEntry (d .place) es .bytes) (lastEntry (d .place) es .budget) old)
     → (t .number ≡ pos (8 + d .place)) × (c .number ≡ pos 0) × (t .after ≡ c .after)

@@ -1,4 +1,5 @@
--- FOR OTHER LANGUAGES: what the C functions answer, over the numbers and slices that callers lend. None of them asks anything of its caller.
+-- FOR OTHER LANGUAGES: what the C functions answer, over the numbers and slices that callers lend. None of them asks anything of its
+-- caller.
 use mathlib.Core.Path.{_≡_}
 use mathlib.Core.Bool.{not}
 use mathlib.Core.List.{List, [], _++_, flatMap}
@@ -8,7 +9,8 @@ use lib.ListN.{length, drop}
 use lib.IntN.{ℤ, pos, negℤ}
 use lib.Dec.{T}
 use Rattle.postman.specs.Refusal.{given, refused}
-use Rattle.postman.specs.PlanFile.{edition, vertexCount, arcCount, planOf, readRefusal, readAnswer, fileLength, fileOf, writeRefusal, writeAnswer, bytesAfter}
+use Rattle.postman.specs.PlanFile.{edition, vertexCount, arcCount, planOf, readRefusal, readAnswer, fileLength, fileOf, writeRefusal}
+use Rattle.postman.specs.PlanFile.{writeAnswer, bytesAfter}
 use Rattle.postman.specs.Windows.{Departure, isBadDeparture}
 use Rattle.postman.specs.TreeCount.{countCall}
 use Rattle.postman.specs.DistanceCall.{distanceAnswer, distancesAfter}
@@ -42,7 +44,8 @@ pub record LentReading (file lent : List ℕ) : Type 0 where
   pub number-is : number ≡ oneNumber (packed (readAnswer file (arcsIn lent)))
   pub after-is : after ≡ lentAfter file lent
 
--- Minus the refusal's number, with every byte untouched; or edition, n and m in one number, the arcs in the list from its start, and the bytes after them untouched.
+-- Minus the refusal's number, with every byte untouched; or edition, n and m in one number, the arcs in the list from its start, and the
+-- bytes after them untouched.
 abbrev pub ReadRefused : Type 0
 ReadRefused = (file lent : List ℕ) (r : LentReading file lent) (k : ℕ) → readRefusal file (length lent / 7) ≡ some k
     → (r .number ≡ negℤ (pos k)) × (r .after ≡ lent)
@@ -60,7 +63,8 @@ pub record LentWriting (e n : ℕ) (lent bytes : List ℕ) : Type 0 where
   pub after-is : after ≡ bytesAfter e (lentPlan n lent) bytes
 
 abbrev pub WriteRefused : Type 0
-WriteRefused = (e n : ℕ) (lent bytes : List ℕ) (w : LentWriting e n lent bytes) (k : ℕ) → writeRefusal e (lentPlan n lent) (length bytes) ≡ some k
+WriteRefused = (e n : ℕ) (lent bytes : List ℕ) (w : LentWriting e n lent bytes) (k : ℕ)
+    → writeRefusal e (lentPlan n lent) (length bytes) ≡ some k
     → (w .number ≡ negℤ (pos k)) × (w .after ≡ bytes)
 
 abbrev pub WriteGiven : Type 0
@@ -81,18 +85,21 @@ pub record LentCallAt (bytes : List ℕ) (budget : ℕ) (windows : List ℕ) (d 
   pub number : ℤ
   pub contract : IsCalledAt bytes budget windows d old after number
 
--- They hand over what the plan call answers: 0 or minus the refusal's number; words, multipliers and the sheet, which a refusal leaves as they were.
+-- They hand over what the plan call answers: 0 or minus the refusal's number; words, multipliers and the sheet, which a refusal leaves as
+-- they were.
 abbrev pub PlanCallHandsOver : Type 0
 PlanCallHandsOver = (bytes : List ℕ) (budget : ℕ) (old : Slices) (l : LentCall bytes budget old)
     → (c : Call bytes budget (old .sheet)) × (c .after ≡ l .after .sheet) × HandsOver (c .answer) old (l .after) (l .number)
 
 abbrev pub DepartureHandsOver : Type 0
-DepartureHandsOver = (bytes : List ℕ) (budget : ℕ) (windows : List ℕ) (d : Departure) (old : Slices) (l : LentCallAt bytes budget windows d old)
+DepartureHandsOver = (bytes : List ℕ) (budget : ℕ) (windows : List ℕ) (d : Departure) (old : Slices)
+    (l : LentCallAt bytes budget windows d old)
     → (c : CallAt bytes budget windows d (old .sheet)) × (c .after ≡ l .after .sheet) × HandsOver (c .answer) old (l .after) (l .number)
 
 -- No windows: what the plan call leaves.
 abbrev pub NoWindows : Type 0
-NoWindows = (bytes : List ℕ) (budget : ℕ) (d : Departure) (old old′ : Slices) (x : LentCallAt bytes budget [] d old) (y : LentCall bytes budget old′)
+NoWindows = (bytes : List ℕ) (budget : ℕ) (d : Departure) (old old′ : Slices) (x : LentCallAt bytes budget [] d old)
+    (y : LentCall bytes budget old′)
     → T (not (isBadDeparture d)) → length (old .sheet) ≡ length (old′ .sheet)
     → LeaveOneAnswer old (x .after) (x .number) old′ (y .after) (y .number)
 
@@ -110,7 +117,8 @@ RaisedBudgetAt = (bytes : List ℕ) (b b′ : ℕ) (windows : List ℕ) (d : Dep
 
 -- A car is handed over what it is answered; n is its own number, 0 or minus its refusal's.
 abbrev pub CarHandsOver : List ℕ → Lent → ℤ → Type 0
-CarHandsOver bytes c n = (r : Planned) × IsCar bytes (c .marks) (c .budget) (c .sheet) (c .sheet′) r × IsHandedOver r (c .words) (c .words′) (c .u) (c .u′) n
+CarHandsOver bytes c n = (r : Planned) × IsCar bytes (c .marks) (c .budget) (c .sheet) (c .sheet′) r
+    × IsHandedOver r (c .words) (c .words′) (c .u) (c .u′) n
 
 -- `postman_two_cars` ensures the contract; its one number tells each car's.
 abbrev pub CarsHandOver : Type 0
@@ -121,7 +129,8 @@ CarsHandOver = (bytes : List ℕ) (a b : Lent) (n : ℤ) → IsExportedCars byte
 
 -- `postman_tree_count`: the number of trees, 4,294,967,296 for "above", or minus the refusal's number.
 abbrev pub CountHandsOver : Type 0
-CountHandsOver = (bytes : List ℕ) (n : ℤ) → n ≡ oneNumber (countOf (countCall bytes)) → (c : Count bytes) → n ≡ oneNumber (countOf (answerOf (c .answer)))
+CountHandsOver = (bytes : List ℕ) (n : ℤ) → n ≡ oneNumber (countOf (countCall bytes)) → (c : Count bytes)
+    → n ≡ oneNumber (countOf (answerOf (c .answer)))
 
 -- `postman_distances`
 abbrev pub PageHandsOver : Type 0
@@ -131,7 +140,8 @@ PageHandsOver = (bytes pairs distances after : List ℕ) (n : ℤ)
 
 -- `postman_judge`
 abbrev pub JudgeHandsOver : Type 0
-JudgeHandsOver = (bytes w : List ℕ) (n : ℤ) → n ≡ oneNumber (judgeAnswer bytes w) → (j : Judging bytes w) → n ≡ oneNumber (judgedAnswer (j .answer))
+JudgeHandsOver = (bytes w : List ℕ) (n : ℤ) → n ≡ oneNumber (judgeAnswer bytes w) → (j : Judging bytes w)
+    → n ≡ oneNumber (judgedAnswer (j .answer))
 
 -- A drive that words and sheet hold passes with the cost that the words say.
 abbrev pub WrittenPasses : Type 0
@@ -139,6 +149,7 @@ WrittenPasses = (bytes : List ℕ) (budget : ℕ) (old : Slices) (l : LentCall b
     → (n : ℤ) → n ≡ oneNumber (judgeAnswer bytes (driveIn (l .after))) → n ≡ pos (costIn (l .after))
 
 abbrev pub WrittenPassesAt : Type 0
-WrittenPassesAt = (bytes : List ℕ) (budget : ℕ) (windows : List ℕ) (d : Departure) (old : Slices) (l : LentCallAt bytes budget windows d old)
+WrittenPassesAt = (bytes : List ℕ) (budget : ℕ) (windows : List ℕ) (d : Departure) (old : Slices)
+    (l : LentCallAt bytes budget windows d old)
     → l .number ≡ pos 0 → HasRoom old
     → (n : ℤ) → n ≡ oneNumber (judgeAnswer bytes (driveIn (l .after))) → n ≡ pos (costIn (l .after))

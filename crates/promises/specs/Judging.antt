@@ -25,11 +25,13 @@ pub record Judging (bytes w : List ℕ) : Type 0 where
   pub answer : Judged
   pub contract : IsJudged bytes w answer
 
--- "14 foreign arc […]; 15 unjoined, the last to the first included; 16 missed: a must arc doesn't occur; in this order, after 10, with 8, 9, 11 and 12 not applied."
+-- "14 foreign arc […]; 15 unjoined, the last to the first included; 16 missed: a must arc doesn't occur; in this order, after 10, with 8,
+-- 9, 11 and 12 not applied."
 abbrev pub Refusals : Type 0
 Refusals = (bytes w : List ℕ) (j : Judging bytes w) (k : ℕ) → (judgedAnswer (j .answer) ≡ refused k) ↔ (judgeRefusal bytes w ≡ some k)
 
--- "Where 1 to 7, 10 and 13 don't apply, it returns the cost exactly when the list is a drive by the definition, and otherwise names the first fault."
+-- "Where 1 to 7, 10 and 13 don't apply, it returns the cost exactly when the list is a drive by the definition, and otherwise names the
+-- first fault."
 abbrev pub Exactly : Type 0
 Exactly = (bytes w : List ℕ) (j : Judging bytes w) → firstRefusal (unjudgedConditions bytes (length w)) ≡ none
     → ((c : ℕ) × (judgedAnswer (j .answer) ≡ given c)) ↔ IsTour (planOf bytes) w
@@ -46,7 +48,8 @@ WrittenPasses = (bytes : List ℕ) (budget : ℕ) (sheet : List ℕ) (c : Call b
 
 -- that of a call at a departure, and so of asking an open plan, judged on the file that it holds;
 abbrev pub WrittenPassesAt : Type 0
-WrittenPassesAt = (bytes : List ℕ) (budget : ℕ) (windows : List ℕ) (d : Departure) (sheet : List ℕ) (c : CallAt bytes budget windows d sheet)
+WrittenPassesAt = (bytes : List ℕ) (budget : ℕ) (windows : List ℕ) (d : Departure) (sheet : List ℕ)
+    (c : CallAt bytes budget windows d sheet)
     → Accepted (c .answer)
     → (j : Judging bytes (take (c .answer .places) (c .after))) → judgedAnswer (j .answer) ≡ given (c .answer .cost)
 

@@ -32,10 +32,12 @@ OpenRefusals = (bytes : List ℕ) (r : Moved) → IsOpened bytes r → verdictNu
 abbrev pub RefusedAlike : Type 0
 RefusedAlike = (s : OpenPlan) (c : Call) (r : Moved) → IsMoved s c r → (k : ℕ) → verdictNumber (r .verdict) ≡ some k → r .state ≡ s
 
--- "After every list of such calls from an opening on, the open plan equals what the history of accepted changes, marks and returns gives": its edition and its marks too; and each
--- call is refused as the history says. The file that is held is the one written from the open plan, and it reads back.
+-- "After every list of such calls from an opening on, the open plan equals what the history of accepted changes, marks and returns
+-- gives": its edition and its marks too; and each call is refused as the history says. The file that is held is the one written from the
+-- open plan, and it reads back.
 abbrev pub History : Type 0
-History = (bytes : List ℕ) (o : Opening bytes) (cs : List Call) (t : OpenPlan) (numbers : List (Option ℕ)) → Ran (o .answer .state) cs t numbers
+History = (bytes : List ℕ) (o : Opening bytes) (cs : List Call) (t : OpenPlan) (numbers : List (Option ℕ))
+    → Ran (o .answer .state) cs t numbers
     → (numbers ≡ refusals (edition bytes) (opened (planOf bytes)) cs)
     × StandsFor (edition bytes) (outcome (opened (planOf bytes)) (history (edition bytes) (opened (planOf bytes)) cs)) t
 
@@ -47,10 +49,12 @@ pub record Asking (s : OpenPlan) (budget : ℕ) (windows : List ℕ) (d : Depart
 
 -- "Asking gives what the plan call gives for the file written from it."
 abbrev pub AskingGives : Type 0
-AskingGives = (bytes : List ℕ) (o : Opening bytes) (cs : List Call) (t : OpenPlan) (numbers : List (Option ℕ)) → Ran (o .answer .state) cs t numbers
+AskingGives = (bytes : List ℕ) (o : Opening bytes) (cs : List Call) (t : OpenPlan) (numbers : List (Option ℕ))
+    → Ran (o .answer .state) cs t numbers
     → (budget : ℕ) (windows : List ℕ) (d : Departure) (sheet : List ℕ) (a : Asking t budget windows d sheet)
-    → IsPlanCallAt (fileOf (edition bytes) (outcome (opened (planOf bytes)) (history (edition bytes) (opened (planOf bytes)) cs) .plan)) budget windows d
-    sheet (a .after) (a .answer)
+    → IsPlanCallAt
+    (fileOf (edition bytes) (outcome (opened (planOf bytes)) (history (edition bytes) (opened (planOf bytes)) cs) .plan))
+    budget windows d sheet (a .after) (a .answer)
 
 -- From an opening on: calls, mark k, more calls of which none sets mark k, and a return to it.
 pub record Return (bytes : List ℕ) : Type 0 where
@@ -76,11 +80,12 @@ abbrev pub NeverRefused : Type 0
 NeverRefused = (bytes : List ℕ) (x : Return bytes)
     → (verdictNumber (x .returned .verdict) ≡ none) × (x .returned .state .plan ≡ x .marked .state .plan)
 
--- "Asking after a return gives what asking at the mark gave, with equal budget, windows, departure and sheet length": every field, the places written, and where the sheets held
--- the same, all of the sheet.
+-- "Asking after a return gives what asking at the mark gave, with equal budget, windows, departure and sheet length": every field, the
+-- places written, and where the sheets held the same, all of the sheet.
 abbrev pub AskedAgain : Type 0
 AskedAgain = (bytes : List ℕ) (x : Return bytes) (budget : ℕ) (windows : List ℕ) (d : Departure) (sheet sheet′ : List ℕ)
-    (a : Asking (x .marked .state) budget windows d sheet) (b : Asking (x .returned .state) budget windows d sheet′) → length sheet ≡ length sheet′
+    (a : Asking (x .marked .state) budget windows d sheet) (b : Asking (x .returned .state) budget windows d sheet′)
+    → length sheet ≡ length sheet′
     → (a .answer ≡ b .answer)
     × (take (a .answer .places) (a .after) ≡ take (b .answer .places) (b .after))
     × (sheet ≡ sheet′ → a .after ≡ b .after)

@@ -14,7 +14,8 @@ use Rattle.solution.specs.RaisedBudget.{Buys}
 use Rattle.planner.specs.Contract.{IsPlanCall}
 use Rattle.promises.specs.Demands.{Refuses, Accepted, Drives, Bounds}
 
--- A call that was made: what it was lent, and beside it what it left and answered. `planner` `plan_call` ensures the contract, for any bytes, budget and sheet.
+-- A call that was made: what it was lent, and beside it what it left and answered. `planner` `plan_call` ensures the contract, for any
+-- bytes, budget and sheet.
 pub record Call (bytes : List ℕ) (budget : ℕ) (sheet : List ℕ) : Type 0 where
   pub after : List ℕ
   pub answer : Planned
@@ -41,7 +42,8 @@ abbrev pub ThirdDemand : Type 0
 ThirdDemand = (bytes : List ℕ) (budget : ℕ) (sheet : List ℕ) (c : Call bytes budget sheet)
     → Accepted (c .answer) → Bounds (planOf bytes) (c .answer)
 
--- What is left open, the drive among equals and u, is a function of what was lent: two calls on the same answer the same, and leave the same sheet.
+-- What is left open, the drive among equals and u, is a function of what was lent: two calls on the same answer the same, and leave the
+-- same sheet.
 abbrev pub OneAnswer : Type 0
 OneAnswer = (bytes : List ℕ) (budget : ℕ) (sheet : List ℕ) (c d : Call bytes budget sheet)
     → (c .answer ≡ d .answer) × (c .after ≡ d .after)
@@ -51,8 +53,8 @@ abbrev pub OwnMultipliers : Type 0
 OwnMultipliers = (bytes bytes′ : List ℕ) (b b′ : ℕ) (sheet sheet′ : List ℕ) (c : Call bytes b sheet) (d : Call bytes′ b′ sheet′)
     → planOf bytes ≡ planOf bytes′ → Accepted (c .answer) → Accepted (d .answer) → c .answer .multipliers ≡ d .answer .multipliers
 
--- What a raised budget buys: "the larger gives a drive no dearer and a floor no lower […], so two answers that aren't whole have equal floors. This is to be shown for every plan
--- and every pair of good budgets, and refused calls are outside it."
+-- What a raised budget buys: "the larger gives a drive no dearer and a floor no lower […], so two answers that aren't whole have equal
+-- floors. This is to be shown for every plan and every pair of good budgets, and refused calls are outside it."
 abbrev pub RaisedBudget : Type 0
 RaisedBudget = (bytes : List ℕ) (b b′ : ℕ) (sheet sheet′ : List ℕ) (c : Call bytes b sheet) (d : Call bytes b′ sheet′)
     → b ≤ b′ → Accepted (c .answer) → Accepted (d .answer) → Buys (c .answer) (d .answer) (c .after) (d .after)

@@ -55,7 +55,8 @@ abbrev pub FileRefusal : Type 0
 FileRefusal = (bytes : List ℕ) (a b : Given) (c : Cars bytes a b) (k : ℕ) → firstRefusal (fileConditions bytes) ≡ some k
     → (verdictNumber (c .answer .first .verdict) ≡ some k) × (verdictNumber (c .answer .second .verdict) ≡ some k)
 
--- "Any other refusal is that car's alone and keeps just that car's sheet as it was, so demand 1 is read car by car for those": DEMAND 1, with 18 among the refusals
+-- "Any other refusal is that car's alone and keeps just that car's sheet as it was, so demand 1 is read car by car for those": DEMAND 1,
+-- with 18 among the refusals
 abbrev pub FirstDemand : Type 0
 FirstDemand = (bytes : List ℕ) (g : Given) (c : Car bytes g)
     → Refuses (carRefusal bytes (g .budget) (length (g .sheet)) (g .marks)) (g .sheet) (c .after) (c .answer)
@@ -79,7 +80,8 @@ ThirdDemand = (bytes : List ℕ) (g : Given) (c : Car bytes g) → Accepted (c .
 -- What a raised budget buys, "for a car, with equal marks"
 abbrev pub RaisedBudget : Type 0
 RaisedBudget = (bytes marks : List ℕ) (b b′ : ℕ) (sheet sheet′ : List ℕ)
-    (c : Car bytes (record { marks = marks; budget = b; sheet = sheet })) (d : Car bytes (record { marks = marks; budget = b′; sheet = sheet′ }))
+    (c : Car bytes (record { marks = marks; budget = b; sheet = sheet }))
+    (d : Car bytes (record { marks = marks; budget = b′; sheet = sheet′ }))
     → b ≤ b′ → Accepted (c .answer) → Accepted (d .answer) → Buys (c .answer) (d .answer) (c .after) (d .after)
 
 -- A car whose marks are the plan's own must arcs: the plan call, in a refusal too.

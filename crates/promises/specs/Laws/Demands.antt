@@ -33,10 +33,9 @@ module _ {p : Plan} {budget : ℕ} {refusal : Option ℕ} {old new : List ℕ} {
   refuses = record {
     number = i .verdict;
     number-only = λ k e.
-      (let s = i .summary-is ∙ ap (λ (o : Option ℕ). fields (answer o (summary p budget (multipliersOf r)))) e in
-      let n = i .places-are ∙ ap (λ (o : Option ℕ). countUnless o (length (tourOf p budget))) e in
-      let u = i .no-multipliers k e in
-      λ j. record { verdict = r .verdict; places = n j; cost = s j .cost; floor = s j .floor; trees = s j .trees; whole = s j .whole; parts = s j .parts; multipliers = u j });
+        (let s = i .summary-is ∙ ap (λ (o : Option ℕ). fields (answer o (summary p budget (multipliersOf r)))) e in
+        let n = i .places-are ∙ ap (λ (o : Option ℕ). countUnless o (length (tourOf p budget))) e in
+        (n, ap (λ (x : Summary). x .cost) s, ap (λ (x : Summary). x .floor) s, ap (λ (x : Summary). x .trees) s, ap (λ (x : Summary). x .whole) s, ap (λ (x : Summary). x .parts) s, i .no-multipliers k e));
     untouched = λ k e. i .sheet ∙ ap (λ (o : Option ℕ). unless o (written (tourOf p budget) old) old) e;
   }
 
