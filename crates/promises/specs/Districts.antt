@@ -2,11 +2,13 @@
 use mathlib.Core.Path.{_≡_}
 use mathlib.Core.Bool.{true, false}
 use mathlib.Core.List.{List, [], _∷_, List·Memᴰ}
-use mathlib.Core.Option.{none, some}
+use mathlib.Core.Option.{some}
 use Prim.Native.Nat.{ℕ, suc, _+_, _*_, _≤_, _<_}
-use lib.ListN.{length}
+use lib.ListN.{length, take}
+use Rattle.postman.specs.Refusal.{given}
 use Rattle.postman.specs.PlanFile.{planOf}
 use Rattle.postman.specs.PlanCall.{sheetPlaces, bestCost}
+use Rattle.judge.specs.Contract.{judgedAnswer}
 use Rattle.districts.specs.declared.machine.Machine.{Machine}
 use Rattle.districts.specs.declared.enter.Admission.the-variants.{At}
 use Rattle.districts.specs.declared.enter.Entered.{Entered}
@@ -15,8 +17,8 @@ use Rattle.districts.specs.declared.turn.Turned.{Turned}
 use Rattle.districts.specs.Line.{District, Line, entryRefusal, lowestFree, total, finishes}
 use Rattle.districts.specs.Runs.{Event, entry, turned, run, turnsIn, turnsOf, lastEntry, turnsSince}
 use Rattle.districts.specs.Machine.{lineOf, IsSound, admissionNumber, IsEntered, IsTurned}
-use Rattle.promises.specs.Demands.{Accepted}
 use Rattle.promises.specs.PlanCall.{Call}
+use Rattle.promises.specs.Judging.{Judging}
 
 -- A RUN of calls, the latest first, accepted or not, and the machine then. `districts` `empty`, `enter` and `turn` ensure what each step
 -- asks for, of any machine.
@@ -88,6 +90,13 @@ AsOnePlanCall = (es : List Event) (sheet : List ℕ) (t : Turn es sheet) (d : Di
     → sheetPlaces ≤ length sheet
     → finishes d ≡ true → (c : Call (lastEntry (d .place) es .bytes) (lastEntry (d .place) es .budget) sheet)
     → (t .answer .outcome ≡ Finished (d .place)) × (t .answer .planned ≡ c .answer) × (t .after ≡ c .after)
+
+-- "Every drive the planner writes must pass with the cost it printed": judged on the plan that the district entered with.
+abbrev pub LastTurnPasses : Type 0
+LastTurnPasses = (es : List Event) (sheet : List ℕ) (t : Turn es sheet) (d : District) (l : Line) → run es ≡ d ∷ l
+    → sheetPlaces ≤ length sheet → finishes d ≡ true
+    → (j : Judging (lastEntry (d .place) es .bytes) (take (t .answer .planned .places) (t .after)))
+    → judgedAnswer (j .answer) ≡ given (t .answer .planned .cost)
 
 -- ---- what every run promises
 

@@ -95,7 +95,9 @@ AskedAgain = (file bytes : List ℕ) (x : LentReturn file bytes) (budget : ℕ) 
     → IsAsked (x .returned) budget windows d old′ new′ n′
     → LeaveOneAnswer old new n old′ new′ n′
 
--- ---- districts: `LedLent es bytes` says that the calls es, the latest first, lead from a start to these bytes
+-- ---- districts
+
+-- `LedLent es bytes`: the calls es, the latest first, lead from `postman_districts_start` to these bytes.
 
 -- `postman_enter` answers the lowest free place, or minus the refusal's number.
 abbrev pub LentEntry : Type 0

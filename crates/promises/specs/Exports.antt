@@ -4,11 +4,10 @@ use mathlib.Core.Path.{_≡_}
 use mathlib.Core.Bool.{not}
 use mathlib.Core.List.{List, [], _++_, flatMap}
 use mathlib.Core.Option.{none, some}
-use Prim.Native.Nat.{ℕ, _+_, _*_, _/_, _≤_, _<_}
+use Prim.Native.Nat.{ℕ, _+_, _*_, _/_, _≤_}
 use lib.ListN.{length, drop}
 use lib.IntN.{ℤ, pos, negℤ}
 use lib.Dec.{T}
-use Rattle.postman.specs.Refusal.{given, refused}
 use Rattle.postman.specs.PlanFile.{edition, vertexCount, arcCount, planOf, readRefusal, readAnswer, fileLength, fileOf, writeRefusal}
 use Rattle.postman.specs.PlanFile.{writeAnswer, bytesAfter}
 use Rattle.postman.specs.Windows.{Departure, isBadDeparture}

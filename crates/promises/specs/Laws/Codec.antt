@@ -4,7 +4,7 @@ use mathlib.Core.List.{List, _++_, flatMap}
 use mathlib.Core.Option.{Option, none, some}
 use Prim.Native.Nat.{ℕ, _+_, _*_, _/_}
 use lib.ListN.{length, drop}
-use lib.IntN.{ℤ, pos, negℤ}
+use lib.IntN.{pos, negℤ}
 use Rattle.postman.specs.Refusal.{answer, unless}
 use Rattle.postman.specs.PlanFile.{edition, vertexCount, arcCount, planOf, readRefusal, readAnswer}
 use Rattle.encoding.specs.RecordBytes.{arcBytes, arcsIn}

@@ -1,7 +1,7 @@
 -- The plan call at a departure, proved.
 use Rattle.postman.specs.Theorem.{cut-off-at}
 use Rattle.windows.specs.Theorem.{as-plan-call, raised-budget-at}
-use Rattle.promises.specs.Departure.{CallAt, FirstDemand, CutOff, SecondDemand, WrittenAvoids, ThirdDemand, FloorOfAvoiding, OneAnswer, RaisedBudget, NoWindows}
+use Rattle.promises.specs.Departure.{FirstDemand, CutOff, SecondDemand, WrittenAvoids, ThirdDemand, FloorOfAvoiding, OneAnswer, RaisedBudget, NoWindows}
 use Rattle.promises.specs.Laws.Demands.{refuses, drives, bounds}
 use Rattle.promises.specs.Laws.Equal.{equal-calls}
 

@@ -1,15 +1,13 @@
 -- Eight districts in turn, proved.
-use mathlib.Core.Path.{_≡_, sym, ap, _∙_, subst}
-use mathlib.Core.List.{List}
-use mathlib.Core.Option.{Option, none}
-use Prim.Native.Nat.{ℕ}
+use mathlib.Core.Path.{ap, _∙_}
 use Rattle.postman.specs.Laws.Tests.{of-true}
 use Rattle.solution.specs.declared.Planned.{Planned}
-use Rattle.districts.specs.Line.{Line, entryRefusal, lowestFree}
+use Rattle.districts.specs.Line.{Line, entryRefusal}
 use Rattle.districts.specs.Runs.{run}
 use Rattle.districts.specs.Theorem.{seven-turns, as-entered, last-turn, finished-as-plan-call}
 use Rattle.districts.specs.Laws.Led.{led}
-use Rattle.promises.specs.Districts.{Ran, LineOfRun, Entry, EntryAnswers, RefusedEntry, Turn, NobodyInside, ShortSheets, StillGoing, AsOnePlanCall, AsEntered, LastTurn, SevenTurns}
+use Rattle.promises.specs.Districts.{LineOfRun, EntryAnswers, RefusedEntry, NobodyInside, ShortSheets, StillGoing, AsOnePlanCall, LastTurnPasses, AsEntered, LastTurn, SevenTurns}
+use Rattle.promises.specs.JudgedTheorem.{last-turn-passes}
 use Rattle.promises.specs.Laws.Districts.{ran-led, waits, none-of, entry-place, last-multipliers}
 use Rattle.promises.specs.Laws.Equal.{equal}
 
@@ -40,6 +38,10 @@ pub as-one-plan-call : AsOnePlanCall
 as-one-plan-call es sheet t d l e long f c =
     let x = finished-as-plan-call es (t .machine) (ran-led es (t .machine) (t .ran)) d l e f sheet (t .after) (t .answer) (t .contract) long (c .after) (c .answer) (c .contract) in
     (x .0, equal (x .1) (last-multipliers es d l e f long (t .ran) (t .contract) (c .contract)), x .2)
+
+pub last-passes : LastTurnPasses
+last-passes es sheet t d l e long f j =
+    last-turn-passes es (t .machine) (ran-led es (t .machine) (t .ran)) d l e f sheet (t .after) (t .answer) (t .contract) long (j .answer) (j .contract)
 
 pub as-it-entered : AsEntered
 as-it-entered = as-entered

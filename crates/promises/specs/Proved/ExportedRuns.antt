@@ -1,7 +1,6 @@
 -- Open plans and machines of districts for other languages, proved.
-use mathlib.Core.Path.{_≡_, refl}
-use Rattle.promises.specs.Slices.{Slices}
-use Rattle.promises.specs.ExportedRuns.{LentOpening, LentHistory, AskHandsOver, ShortState, LentReturn, BothAccepted, AskedAgain, LentEntry, LentTurn, LentEmpty, LentShort, LentGoing, LentLast}
+use mathlib.Core.Path.{refl}
+use Rattle.promises.specs.ExportedRuns.{LentHistory, AskHandsOver, ShortState, BothAccepted, AskedAgain, LentEntry, LentEmpty, LentShort, LentGoing, LentLast}
 use Rattle.promises.specs.HistoryTheorem.{lent-history}
 use Rattle.promises.specs.AskedTheorem.{both-accepted, asked-again-lent}
 use Rattle.promises.specs.TurnsTheorem.{lent-entry, lent-empty, lent-short, lent-going, lent-last}

@@ -1,13 +1,12 @@
 -- For other languages, proved.
 use mathlib.Core.Path.{refl, sym, ap, _∙_}
-use Prim.Native.Nat.{ℕ}
 use native.Mathlib.Omega.{arith}
 use Rattle.postman.specs.Refusal.{Answer}
 use Rattle.postman.specs.TreeCount.{TreeCount}
 use Rattle.answers.specs.Number.{oneNumber}
 use Rattle.answers.specs.Count.{countOf}
 use Rattle.exports.specs.Codec.{lentPlan}
-use Rattle.promises.specs.Exports.{LentReading, ReadRefused, ReadGiven, LentWriting, WriteRefused, WriteGiven, LentCall, LentCallAt, PlanCallHandsOver, DepartureHandsOver, NoWindows, RaisedBudget, RaisedBudgetAt, CarsHandOver, CountHandsOver, PageHandsOver, JudgeHandsOver, WrittenPasses, WrittenPassesAt}
+use Rattle.promises.specs.Exports.{ReadRefused, ReadGiven, WriteRefused, WriteGiven, PlanCallHandsOver, DepartureHandsOver, NoWindows, RaisedBudget, RaisedBudgetAt, CarsHandOver, CountHandsOver, PageHandsOver, JudgeHandsOver, WrittenPasses, WrittenPassesAt}
 use Rattle.promises.specs.WindowsTheorem.{no-windows-lent}
 use Rattle.promises.specs.BudgetTheorem.{raised-budget-lent, raised-budget-at-lent}
 use Rattle.promises.specs.CarsTheorem.{first-answered, second-answered}

@@ -5,7 +5,7 @@ use Prim.Native.Nat.{ℕ}
 use Rattle.postman.specs.OpenPlan.{unlessRefused}
 use Rattle.open_plan.specs.State.{next}
 use Rattle.open_plan.specs.Theorem.{history-gives, asking, never-refused, same-plan}
-use Rattle.promises.specs.OpenPlan.{Opening, OpenRefusals, RefusedAlike, History, Asking, AskingGives, Return, NeverRefused, AskedAgain}
+use Rattle.promises.specs.OpenPlan.{OpenRefusals, RefusedAlike, History, AskingGives, NeverRefused, AskedAgain}
 use Rattle.promises.specs.Laws.Equal.{asked-equal}
 
 pub open-refusals : OpenRefusals

@@ -2,7 +2,7 @@
 use Rattle.postman.specs.PlanCall.{defaultBudget}
 use Rattle.postman.specs.Theorem.{cut-off}
 use Rattle.planner.specs.Theorem.{raised-budget-call}
-use Rattle.promises.specs.PlanCall.{Call, FirstDemand, CutOff, SecondDemand, ThirdDemand, OneAnswer, OwnMultipliers, RaisedBudget, ShortCall}
+use Rattle.promises.specs.PlanCall.{FirstDemand, CutOff, SecondDemand, ThirdDemand, OneAnswer, OwnMultipliers, RaisedBudget, ShortCall}
 use Rattle.promises.specs.Laws.Demands.{refuses, drives, bounds, equal-multipliers}
 use Rattle.promises.specs.Laws.Equal.{equal-calls}
 

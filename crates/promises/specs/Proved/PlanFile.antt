@@ -6,7 +6,7 @@ use Rattle.postman.specs.Plan.{Arc as Fields}
 use Rattle.plan.specs.Records.{arcValue}
 use Rattle.records.specs.Laws.Reading.{map-drop}
 use Rattle.records.specs.Laws.Reread.{read-back}
-use Rattle.promises.specs.PlanFile.{Reading, ReadRefused, ReadGiven, Writing, WriteRefused, WriteGiven, ReadsBack, WritesBack}
+use Rattle.promises.specs.PlanFile.{ReadRefused, ReadGiven, WriteRefused, WriteGiven, ReadsBack, WritesBack}
 use Rattle.promises.specs.Laws.File.{read-refused, read-given, write-refused, write-given-list, are-priced, same-plan, written-back}
 
 pub reading-refused : ReadRefused

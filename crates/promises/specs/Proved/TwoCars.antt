@@ -1,7 +1,7 @@
 -- Two cars, proved.
 use Rattle.two_cars.specs.Theorem.{raised-budget-car}
 use Rattle.two_cars.specs.Laws.Own.{as-plan-call}
-use Rattle.promises.specs.TwoCars.{Given, Cars, Car, EachCar, FirstAlone, SecondAlone, FileRefusal, FirstDemand, CutOff, SecondDemand, ThirdDemand, RaisedBudget, OwnMarks}
+use Rattle.promises.specs.TwoCars.{EachCar, FirstAlone, SecondAlone, FileRefusal, FirstDemand, CutOff, SecondDemand, ThirdDemand, RaisedBudget, OwnMarks}
 use Rattle.promises.specs.Laws.Demands.{refuses, drives, bounds, file-refused-car}
 use Rattle.promises.specs.Laws.Equal.{equal-calls}
 
