@@ -4,10 +4,11 @@ use mathlib.Core.Bool.{Bool, true, false, not, cond}
 use mathlib.Core.List.{List, [], _∷_, List·Memᴰ, List·Memᴰ·head, List·Memᴰ·cases-cons}
 use mathlib.Core.Logic.{inl, inr}
 use mathlib.Core.Option.{none}
-use Prim.Native.Nat.{ℕ, suc, _+_, _≤_, _<_}
+use Prim.Native.Nat.{ℕ, suc, _+_, _*_, _≤_, _<_}
 use native.Mathlib.Omega.{arith}
 use lib.ListN.{length}
-use lib.Dec.{T}
+use lib.Dec.{T, leb→le}
+use Rattle.postman.specs.Laws.Tests.{of-true}
 use Rattle.postman.specs.PlanFile.{planOf}
 use Rattle.postman.specs.PlanCall.{sheetPlaces}
 use Rattle.solution.specs.declared.Planned.{Planned}
@@ -16,14 +17,14 @@ use Rattle.districts.specs.declared.machine.Machine.{Machine}
 use Rattle.districts.specs.declared.enter.Admission.the-variants.{At}
 use Rattle.districts.specs.declared.enter.Entered.{Entered}
 use Rattle.districts.specs.declared.turn.Turned.{Turned}
-use Rattle.districts.specs.Line.{District, Line, entryRefusal, lowestFree, finishes}
-use Rattle.districts.specs.Runs.{Event, run, runFrom, isTurnOf, turnsOf, lastEntry}
+use Rattle.districts.specs.Line.{District, Line, entryRefusal, lowestFree, total, finishes}
+use Rattle.districts.specs.Runs.{Event, run, runFrom, isTurnOf, turnsIn, turnsOf, lastEntry, turnsSince}
 use Rattle.districts.specs.Machine.{lineOf, admissionNumber, IsEntered, IsTurned}
-use Rattle.districts.specs.Theorem.{as-entered, finished-as-plan-call}
+use Rattle.districts.specs.Theorem.{finished-as-plan-call}
 use Rattle.districts.specs.Laws.Led.{Led, led}
 use Rattle.districts.specs.Laws.Places.{free-small}
-use Rattle.districts.specs.Laws.Line.{room, Waits}
-use Rattle.districts.specs.Laws.Runs.{NoTurnOf}
+use Rattle.districts.specs.Laws.Line.{room, Waits, waits-short}
+use Rattle.districts.specs.Laws.Runs.{NoTurnOf, waits-run, run-kept}
 use Rattle.promises.specs.Districts.{Ran, begun, entered, had-turn}
 use Rattle.promises.specs.Laws.Demands.{equal-multipliers}
 
@@ -66,6 +67,29 @@ last-multipliers es {m} {old} {new} {new′} {r} {s} d l e f long ran t c =
     let h = ran-led es m ran in
     let i = led es m h in
     let x = t .served (i .1) d l (i .0 ∙ e) long .0 .last f .1 in
-    let k = as-entered es d (subst⁻¹ (λ (y : Line). List·Memᴰ d y) e (List·Memᴰ·head refl)) .0 in
+    let k = run-kept es .each d (subst⁻¹ (λ (y : Line). List·Memᴰ d y) e (List·Memᴰ·head refl)) .bytes-are in
     let same = finished-as-plan-call es m h d l e f old new r t long new′ s c .1 in
     equal-multipliers x (c .planned) (ap planOf k) (x .verdict) (sym (same .refusal) ∙ x .verdict)
+
+-- ---- what a line's districts are, after a run
+
+pub seven : (es : List Event) (d : District) → List·Memᴰ d (run es) → (more : List Event) → turnsOf (d .place) (run es) more ≡ 0 → turnsIn (run es) more ≤ 7
+seven es d m more never =
+    let w = waits (run es) d m in
+    let a = waits-short (w .1) in
+    let b = run-kept es .short in
+    let c = waits-run (run es) (w .0) (w .1) more (none-of (d .place) (run es) more never) .0 in
+    omega arith
+
+pub rounded-up : (es : List Event) (d : District) → List·Memᴰ d (run es) → finishes d ≡ true
+    → (total d ≤ suc (turnsSince (d .place) es) * 1000) × (suc (turnsSince (d .place) es) * 1000 < total d + 1000)
+unfolding finishes
+rounded-up es d m f =
+    let k = run-kept es .each d m in
+    let a = k .tried-are in
+    let b = k .unfinished in
+    let c = leb→le (total d) (d .tried + 1000) (of-true f) in
+    (omega arith, omega arith)
+
+pub entered-with : (es : List Event) (d : District) → List·Memᴰ d (run es) → (d .bytes ≡ lastEntry (d .place) es .bytes) × (d .budget ≡ lastEntry (d .place) es .budget)
+entered-with es d m = let k = run-kept es .each d m in (k .bytes-are, k .budget-is)

@@ -3,19 +3,20 @@ use mathlib.Core.Path.{_≡_, refl, sym, ap, _∙_}
 use mathlib.Core.List.{List, [], _∷_, _++_, map, List·Memᴰ}
 use mathlib.Core.Option.{Option, none, some}
 use Prim.Native.Nat.{ℕ, zero, suc, _≤_, _<_}
+use native.Mathlib.Omega.{arith}
 use lib.ListN.{length, getD, take, drop, length-map}
 use lib.Seq.{take-append-seam}
 use Rattle.postman.specs.Plan.{Arc as Fields, Plan}
 use Rattle.postman.specs.Refusal.{refused, given, answer, unless}
 use Rattle.postman.specs.PlanFile.{edition, vertexCount, arcCount, planOf, readRefusal, readAnswer, recordsAfter, IsRecord, fileLength, fileOf, writeRefusal, writeAnswer, bytesAfter}
-use Rattle.postman.specs.Laws.Membership.{getD-mem, mem-map}
 use Rattle.postman.specs.Laws.Acceptance.{arcs-read, vertices-read}
-use Rattle.postman.specs.Laws.PlanFile.{length-fileOf, written-read}
+use Rattle.postman.specs.Laws.PlanFile.{length-fileOf, read-written, written-read}
 use Rattle.plan.specs.declared.Arc.{Arc}
 use Rattle.plan.specs.Records.{arcValue}
+use Rattle.plan_writer.specs.Laws.Writing.{length-given}
+use Rattle.plan_writer.specs.Laws.Reread.{written-file}
 use Rattle.records.specs.Writing.{listPlan}
 use Rattle.records.specs.Laws.Reading.{map-drop}
-use Rattle.records.specs.Laws.Reread.{Priced}
 
 module _ (bytes : List ℕ) (list : List Arc) where
   abbrev values : List Fields
@@ -65,10 +66,6 @@ write-given-list e n list bytes r =
     let l = length-map list arcValue in
     (g .0 ∙ ap (λ (m : ℕ). given (fileLength e m)) l, g .1 ∙ ap (λ (m : ℕ). fileOf e (listPlan n list) ++ drop (fileLength e m) bytes) l)
 
--- what is asked of records, one by one
-pub are-priced : (list : List Arc) → ((a : Fields) → List·Memᴰ a (map arcValue list) → IsRecord a) → Priced list
-are-priced list h i d l = let r = h _ (mem-map arcValue (getD-mem list d i l)) in (r .cost, r .service)
-
 -- the records that reading leaves, up to m, are the file's plan
 map-take : {A B : Type 0} (f : A → B) (xs : List A) (k : ℕ) → map f (take k xs) ≡ take k (map f xs)
 map-take f xs zero = refl
@@ -96,4 +93,25 @@ written-back bytes places slice p small e enough q =
       ap (λ (p : Plan). writeAnswer (edition bytes) p slice) q ∙ g .0 ∙ ap given l,
       ap (λ (p : Plan). bytesAfter (edition bytes) p slice) q ∙ g .1 ∙ ap (λ (m : ℕ). fileOf (edition bytes) (planOf bytes) ++ drop m slice) l
           ∙ ap (λ (f : List ℕ). f ++ drop (length bytes) slice) (b .0),
+    )
+
+-- what is written is read back
+pub read-back : (e n : ℕ) (list into : List Arc) (bytes after : List ℕ) (k : ℕ) → ((a : Fields) → List·Memᴰ a (map arcValue list) → IsRecord a)
+    → given k ≡ writeAnswer e (listPlan n list) bytes → after ≡ bytesAfter e (listPlan n list) bytes → length list ≤ length into
+    → (readAnswer (take k after) (map arcValue into) ≡ given (e, n, length list))
+    × (recordsAfter (take k after) (map arcValue into) ≡ map arcValue list ++ map arcValue (drop (length list) into))
+read-back e n list into bytes after k small h f enough =
+    let p = listPlan n list in
+    let file = take k after in
+    let q : file ≡ fileOf e p = written-file e p bytes after k h f .1 in
+    let b = read-written e p (length bytes) small (length-given e p bytes k h .0) in
+    let long = length-map list arcValue in
+    let read : readRefusal file (length into) ≡ none = ap (λ (l : List ℕ). readRefusal l (length into)) q ∙ b .2 (length into) (omega arith) in
+    let g = read-given file into read in
+    let told : edition file ≡ e = ap edition q ∙ b .0 in
+    let plan : planOf file ≡ p = ap planOf q ∙ b .1 in
+    let vertices : vertexCount file ≡ n = sym (vertices-read file) ∙ ap (λ (x : Plan). x .n) plan in
+    let count : arcCount file ≡ length list = sym (arcs-read file) ∙ ap (λ (x : Plan). length (x .arcs)) plan ∙ long in (
+      g .0 ∙ (λ j. given (told j, vertices j, count j)),
+      g .1 ∙ ap (λ (x : Plan). x .arcs ++ map arcValue (drop (arcCount file) into)) plan ∙ ap (λ (m : ℕ). map arcValue list ++ map arcValue (drop m into)) count,
     )

@@ -1,14 +1,12 @@
 -- Eight districts in turn, proved.
 use mathlib.Core.Path.{ap, _∙_}
-use Rattle.postman.specs.Laws.Tests.{of-true}
 use Rattle.solution.specs.declared.Planned.{Planned}
 use Rattle.districts.specs.Line.{Line, entryRefusal}
-use Rattle.districts.specs.Runs.{run}
-use Rattle.districts.specs.Theorem.{seven-turns, as-entered, last-turn, finished-as-plan-call}
+use Rattle.districts.specs.Theorem.{finished-as-plan-call}
 use Rattle.districts.specs.Laws.Led.{led}
 use Rattle.promises.specs.Districts.{LineOfRun, EntryAnswers, RefusedEntry, NobodyInside, ShortSheets, StillGoing, AsOnePlanCall, LastTurnPasses, AsEntered, LastTurn, SevenTurns}
 use Rattle.promises.specs.JudgedTheorem.{last-turn-passes}
-use Rattle.promises.specs.Laws.Districts.{ran-led, waits, none-of, entry-place, last-multipliers}
+use Rattle.promises.specs.Laws.Districts.{ran-led, entry-place, last-multipliers, entered-with, rounded-up, seven}
 use Rattle.promises.specs.Laws.Equal.{equal}
 
 pub line-of-run : LineOfRun
@@ -44,10 +42,10 @@ last-passes es sheet t d l e long f j =
     last-turn-passes es (t .machine) (ran-led es (t .machine) (t .ran)) d l e f sheet (t .after) (t .answer) (t .contract) long (j .answer) (j .contract)
 
 pub as-it-entered : AsEntered
-as-it-entered = as-entered
+as-it-entered = entered-with
 
 pub in-last-turn : LastTurn
-in-last-turn es d m f = let x = last-turn es d m (of-true f) in (x .enough, x .no-more)
+in-last-turn = rounded-up
 
 pub at-most-seven : SevenTurns
-at-most-seven es d m more never = let w = waits (run es) d m in seven-turns es d (w .0) (w .1) more (none-of (d .place) (run es) more never)
+at-most-seven = seven

@@ -1,13 +1,8 @@
 -- The plan file, proved.
-use mathlib.Core.Path.{sym, ap, _∙_}
-use mathlib.Core.List.{List, _++_, map}
+use mathlib.Core.Path.{sym, _∙_}
 use lib.ListN.{length}
-use Rattle.postman.specs.Plan.{Arc as Fields}
-use Rattle.plan.specs.Records.{arcValue}
-use Rattle.records.specs.Laws.Reading.{map-drop}
-use Rattle.records.specs.Laws.Reread.{read-back}
 use Rattle.promises.specs.PlanFile.{ReadRefused, ReadGiven, WriteRefused, WriteGiven, ReadsBack, WritesBack}
-use Rattle.promises.specs.Laws.File.{read-refused, read-given, write-refused, write-given-list, are-priced, same-plan, written-back}
+use Rattle.promises.specs.Laws.File.{read-refused, read-given, write-refused, write-given-list, same-plan, written-back, read-back}
 
 pub reading-refused : ReadRefused
 reading-refused bytes list r k e = let x = read-refused bytes list k e in (r .answer-is ∙ x .0, r .after-is ∙ x .1)
@@ -23,8 +18,7 @@ writing-given e n list bytes w h = let x = write-given-list e n list bytes h in 
 
 pub reads-back : ReadsBack
 reads-back e n list bytes w k small h into enough r =
-    let x = read-back e n list into bytes (w .after) k (are-priced list small) (sym h ∙ w .answer-is) (w .after-is) enough in
-    (r .answer-is ∙ x .answer, r .after-is ∙ x .records-after ∙ ap (λ (l : List Fields). map arcValue list ++ l) (sym (map-drop arcValue into (length list))))
+    let x = read-back e n list into bytes (w .after) k small (sym h ∙ w .answer-is) (w .after-is) enough in (r .answer-is ∙ x .0, r .after-is ∙ x .1)
 
 pub writes-back : WritesBack
 writes-back bytes list r small e slice enough w =
