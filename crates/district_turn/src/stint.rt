@@ -1,5 +1,6 @@
 // A district's turn, over its plan.
-use crate::tree::is_tree;
+use crate::held::first_of;
+use crate::held::is_holding;
 use balance::state::Balance;
 use multipliers::ascend::multipliers_for;
 use multipliers::prepare::base_state;
@@ -15,26 +16,29 @@ use solution::trees::Reached;
 use solution::trees::Resumed;
 use solution::trees::resume;
 ghost use mathlib.Core.Path.{_≡_};
-ghost use mathlib.Core.Bool.{true, false};
+ghost use mathlib.Core.Bool.{true, false, _&&_};
 ghost use mathlib.Core.Option.{none};
-ghost use Prim.Native.Nat.{ℕ, _≤_, _<_};
-ghost use lib.ListN.{length};
-ghost use Rattle.postman.specs.PlanCall.{sheetPlaces, triedCount};
+ghost use Prim.Native.Nat.{_-_, _≤_};
+ghost use lib.ListN.{length, take};
+ghost use Rattle.postman.specs.Component.{componentCount};
+ghost use Rattle.postman.specs.PlanCall.{sheetPlaces};
 ghost use Rattle.plan.specs.Records.{planValue};
 ghost use Rattle.shortest.specs.Contracts.{AreWeights};
 ghost use Rattle.balance.specs.Records.{stateOf};
 ghost use Rattle.network.specs.Network.{IsNetwork};
-ghost use Rattle.search.specs.Contracts.{IsSearched};
+ghost use Rattle.branches.specs.Links.{linksIn};
+ghost use Rattle.circuit.specs.Tour.{written};
 ghost use Rattle.multipliers.specs.Prepared.{IsKnown, IsBase, IsMeasured};
-ghost use Rattle.planner.specs.Refusals.{networkRefusal, planRefusal};
-ghost use Rattle.multipliers.specs.Tour.{tableOf};
+ghost use Rattle.planner.specs.Refusals.{networkRefusal};
+ghost use Rattle.multipliers.specs.Tour.{tableOf, driveOf};
 ghost use Rattle.postman.specs.Plan.{WellFormed};
 ghost use Rattle.multipliers.specs.Ascent.{multipliersFor};
-ghost use Rattle.solution.specs.Resumed.{IsReachedBy};
-ghost use Rattle.district_turn.specs.Stint.{searchedOf, IsLast, IsStint, LeavesSheet};
+ghost use Rattle.solution.specs.Resumed.{HoldsTree};
+ghost use Rattle.solution.specs.Concluded.{concluded};
+ghost use Rattle.district_turn.specs.Padded.{padded};
+ghost use Rattle.district_turn.specs.Stint.{isGood, isResumable, canGoOn, soFar, IsStint};
 
-// What a turn leaves: whether what was held could be gone on from; whether the district is finished; how far it is; and its answer. Before the last turn the answer has the trees so far and their
-// least cost, and nothing else.
+// What a turn leaves: whether what was held could be gone on from; whether the district is finished; how far it is, unless it is finished; and its answer.
 pub struct Stint {
     pub good: bool,
     pub done: bool,
@@ -42,26 +46,27 @@ pub struct Stint {
     pub planned: Planned,
 }
 
-// The answer before the last turn.
-fn so_far(good: bool, cost: u64, tails: [u8; 8], heads: [u8; 8], tried: u32) -> Stint
-    ensures { λ r. ⌜ (r .good ≡ good) × (r .done ≡ false) × (r .held .cost ≡ cost) × (r .held .tails ≡ tails) × (r .held .heads ≡ heads) × (r .held .tried ≡ tried) × (r .planned .cost ≡ cost) × (r .planned .trees ≡ tried) ⌝ }
+// The answer before the last turn: the trees so far and their least cost.
+pub fn so_far(cost: u64, trees: u32) -> Planned
+    ensures { λ r. ⌜ r ≡ soFar cost trees ⌝ }
 {
-    let held = Reached {
-        cost: cost,
-        tails: tails,
-        heads: heads,
-        tried: tried,
-    };
-    let planned = Planned {
+    Planned {
         verdict: Verdict::Accepted,
         places: 0,
         cost: cost,
         floor: 0,
-        trees: tried,
+        trees: trees,
         whole: false,
         parts: 0,
         multipliers: [0i64; 64],
-    };
+    }
+}
+
+// What is held, where the district is not finished.
+fn unfinished(good: bool, held: Reached) -> Stint
+    ensures { λ r. ⌜ (r .good ≡ good) × (r .done ≡ false) × (r .held ≡ held) × (r .planned ≡ soFar (held .cost) (held .tried)) ⌝ }
+{
+    let planned = so_far(held.cost, held.tried);
     Stint {
         good: good,
         done: false,
@@ -90,7 +95,7 @@ fn finished(r: Resumed, planned: Planned) -> Stint
     }
 }
 
-// The last turn: what is held is laid out, if it is a tree.
+// The last turn: the tree that is held is laid out.
 fn last(
     plan: Plan,
     table: &[[u32; 64]; 64],
@@ -103,21 +108,12 @@ fn last(
     sheet: &mut [u16],
 ) -> Stint
     requires { ⌜ IsBase (planValue plan) (now table) (now vs) (stateOf base) × (u ≡ multipliersFor (planValue plan)) ⌝ }
-    requires { ⌜ IsNetwork (planValue plan) net × (sheetPlaces ≤ length (now sheet)) × AreWeights (planValue plan) (now weights) ⌝ }
-    ensures { λ x. ⌜ ((budget : ℕ) → 1 ≤ budget → IsSearched (planValue plan) budget (searchedOf r) → IsLast (planValue plan) budget (now (sheet .entry)) (now (sheet .exit)) x) ⌝ }
-    ensures { λ x. ⌜ LeavesSheet (planValue plan) (now (sheet .entry)) (now (sheet .exit)) x ⌝ }
+    requires { ⌜ IsNetwork (planValue plan) net × HoldsTree (planValue plan) (r .tails) (r .heads) × (r .cost ≤ 4398046511104) × (sheetPlaces ≤ length (now sheet)) × AreWeights (planValue plan) (now weights) ⌝ }
+    ensures { λ x. ⌜ (x .good ≡ true) × (x .done ≡ true) × (x .planned ≡ concluded (planValue plan) (linksIn (componentCount (planValue plan) - 1) (r .tails) (r .heads)) (r .cost) (r .total) (r .whole)) ⌝ }
+    ensures { λ x. ⌜ now (sheet .exit) ≡ written (driveOf (planValue plan) (linksIn (componentCount (planValue plan) - 1) (r .tails) (r .heads))) (now (sheet .entry)) ⌝ }
 {
     let ts = r.tails;
     let hs = r.heads;
-    let links = net.links;
-    let component = net.component;
-    let k = net.components as usize;
-    if 4_000_000_000_000 < r.cost {
-        return so_far(false, r.cost, ts, hs, r.tried);
-    }
-    if !is_tree(ts, hs, &links, &component, k) {
-        return so_far(false, r.cost, ts, hs, r.tried);
-    }
     let s = Searched {
         cost: r.cost,
         tails: ts,
@@ -127,6 +123,23 @@ fn last(
     };
     let planned = conclude(plan, table, weights, vs, net, base, u, s, sheet);
     finished(r, planned)
+}
+
+// What is held after a turn that is not the last.
+fn kept(r: Resumed, n: usize) -> Reached
+    requires { ⌜ n ≤ 8 ⌝ }
+    ensures { λ x. ⌜ (x .cost ≡ r .cost) × (x .tails ≡ padded 8 0 (take n (r .tails))) × (x .heads ≡ padded 8 0 (take n (r .heads))) × (x .tried ≡ r .tried) ⌝ }
+{
+    let ts = r.tails;
+    let hs = r.heads;
+    let tails = first_of(ts, n);
+    let heads = first_of(hs, n);
+    Reached {
+        cost: r.cost,
+        tails: tails,
+        heads: heads,
+        tried: r.tried,
+    }
 }
 
 // One turn of a district whose plan is not refused.
@@ -142,17 +155,22 @@ pub(crate) fn one_turn(
 ) -> Stint
     requires { ⌜ IsKnown (planValue plan) (now table) (now vs) × (g .tried ≤ 1000000) ⌝ }
     requires { ⌜ IsNetwork (planValue plan) net × (1 ≤ budget) × (sheetPlaces ≤ length (now sheet)) × AreWeights (planValue plan) (now weights) ⌝ }
-    ensures { λ r. ⌜ (g .tried < triedCount (planValue plan) budget → IsReachedBy (planValue plan) g → IsStint (planValue plan) budget g (now (sheet .entry)) (now (sheet .exit)) r) ⌝ }
-    ensures { λ r. ⌜ LeavesSheet (planValue plan) (now (sheet .entry)) (now (sheet .exit)) r ⌝ }
+    ensures { λ r. ⌜ IsStint (planValue plan) budget g (isResumable (planValue plan) budget g) (now (sheet .entry)) (now (sheet .exit)) r ⌝ }
 {
     let base = base_state(plan, table, vs);
+    if !is_holding(plan, table, vs, net, base, g) {
+        return unfinished(false, g);
+    }
     let greatest = multipliers_of(plan, table, vs, base);
     let u = multipliers_for(plan, table, vs, net, base, greatest);
     let r = resume(plan, table, vs, net, base, u, budget, g);
+    if r.total <= g.tried {
+        return unfinished(false, g);
+    }
     if r.tried < r.total {
-        let ts = r.tails;
-        let hs = r.heads;
-        return so_far(true, r.cost, ts, hs, r.tried);
+        let k = net.components as usize;
+        let held = kept(r, k - 1);
+        return unfinished(true, held);
     }
     last(plan, table, weights, vs, net, base, u, r, sheet)
 }
@@ -169,8 +187,7 @@ pub(crate) fn turn_known(
 ) -> Stint
     requires { ⌜ IsMeasured (planValue plan) (now table) net × (networkRefusal (net .components) (net .«cut_off») ≡ none) × (g .tried ≤ 1000000) ⌝ }
     requires { ⌜ (1 ≤ budget) × (sheetPlaces ≤ length (now sheet)) × AreWeights (planValue plan) (now weights) ⌝ }
-    ensures { λ r. ⌜ (g .tried < triedCount (planValue plan) budget → IsReachedBy (planValue plan) g → IsStint (planValue plan) budget g (now (sheet .entry)) (now (sheet .exit)) r) ⌝ }
-    ensures { λ r. ⌜ LeavesSheet (planValue plan) (now (sheet .entry)) (now (sheet .exit)) r ⌝ }
+    ensures { λ r. ⌜ IsStint (planValue plan) budget g (isResumable (planValue plan) budget g) (now (sheet .entry)) (now (sheet .exit)) r ⌝ }
 {
     let flags = net.required;
     let v = candidates::vertices_of(flags);
@@ -183,9 +200,7 @@ pub(crate) fn turn_known(
 pub fn stuck(g: Reached) -> Stint
     ensures { λ r. ⌜ (r .good ≡ false) × (r .done ≡ false) ⌝ }
 {
-    let ts = g.tails;
-    let hs = g.heads;
-    so_far(false, g.cost, ts, hs, g.tried)
+    unfinished(false, g)
 }
 
 // The same, where the network does not refuse.
@@ -199,8 +214,7 @@ fn turn_measured(
     sheet: &mut [u16],
 ) -> Stint
     requires { ⌜ IsMeasured (planValue plan) (now table) net × (1 ≤ budget) × (sheetPlaces ≤ length (now sheet)) × AreWeights (planValue plan) (now weights) × (g .tried ≤ 1000000) ⌝ }
-    ensures { λ r. ⌜ (networkRefusal (net .components) (net .«cut_off») ≡ none → g .tried < triedCount (planValue plan) budget → IsReachedBy (planValue plan) g → IsStint (planValue plan) budget g (now (sheet .entry)) (now (sheet .exit)) r) ⌝ }
-    ensures { λ r. ⌜ LeavesSheet (planValue plan) (now (sheet .entry)) (now (sheet .exit)) r ⌝ }
+    ensures { λ r. ⌜ IsStint (planValue plan) budget g (isGood (networkRefusal (net .components) (net .«cut_off»)) && isResumable (planValue plan) budget g) (now (sheet .entry)) (now (sheet .exit)) r ⌝ }
 {
     match network_verdict(net.components, net.cut_off) {
         Verdict::Refused(r) => stuck(g),
@@ -219,8 +233,7 @@ fn turn_tabled(
 ) -> Stint
     requires { ⌜ WellFormed (planValue plan) × (now table ≡ tableOf (planValue plan)) × AreWeights (planValue plan) (now weights) ⌝ }
     requires { ⌜ (1 ≤ budget) × (sheetPlaces ≤ length (now sheet)) × (g .tried ≤ 1000000) ⌝ }
-    ensures { λ r. ⌜ (planRefusal (planValue plan) ≡ none → g .tried < triedCount (planValue plan) budget → IsReachedBy (planValue plan) g → IsStint (planValue plan) budget g (now (sheet .entry)) (now (sheet .exit)) r) ⌝ }
-    ensures { λ r. ⌜ LeavesSheet (planValue plan) (now (sheet .entry)) (now (sheet .exit)) r ⌝ }
+    ensures { λ r. ⌜ IsStint (planValue plan) budget g (canGoOn (planValue plan) budget g) (now (sheet .entry)) (now (sheet .exit)) r ⌝ }
 {
     let net = network::network::network_of(plan, table);
     turn_measured(plan, table, weights, net, budget, g, sheet)
@@ -229,8 +242,7 @@ fn turn_tabled(
 // The same, of a plan that was read: what a turn does again is to prepare it.
 pub fn turn_read(plan: Plan, budget: u32, g: Reached, sheet: &mut [u16]) -> Stint
     requires { ⌜ WellFormed (planValue plan) × (1 ≤ budget) × (sheetPlaces ≤ length (now sheet)) × (g .tried ≤ 1000000) ⌝ }
-    ensures { λ r. ⌜ (planRefusal (planValue plan) ≡ none → g .tried < triedCount (planValue plan) budget → IsReachedBy (planValue plan) g → IsStint (planValue plan) budget g (now (sheet .entry)) (now (sheet .exit)) r) ⌝ }
-    ensures { λ r. ⌜ LeavesSheet (planValue plan) (now (sheet .entry)) (now (sheet .exit)) r ⌝ }
+    ensures { λ r. ⌜ IsStint (planValue plan) budget g (canGoOn (planValue plan) budget g) (now (sheet .entry)) (now (sheet .exit)) r ⌝ }
 {
     let weights = shortest::weights::table(plan);
     let table = shortest::distance::table_of(&weights);

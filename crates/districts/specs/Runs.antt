@@ -3,10 +3,10 @@ use mathlib.Core.Path.{_≡_}
 use mathlib.Core.Logic.{_≢_}
 use mathlib.Core.Bool.{Bool, true, false, cond, _&&_}
 use mathlib.Core.List.{List, [], _∷_, _++_}
-use mathlib.Core.Option.{Option, none, some}
 use Prim.Native.Nat.{ℕ, suc, _+_}
 use lib.ListN.{length}
 use lib.Dec.{eqb}
+use Rattle.district_turn.specs.Stint.{isGood}
 use Rattle.districts.specs.Line.{District, Line, entryRefusal, lowestFree, enter, turn, isAccepted}
 
 -- An entry, by its plan and budget; a turn, by the length of the sheet that is lent.
@@ -56,10 +56,6 @@ turnsOf q l [] = 0
 turnsOf q l (e ∷ es) = cond (isTurnOf q (runFrom l es) e) 1 0 + turnsOf q l es
 
 -- ---- the last entry that was answered place q, and the turns of that place since
-
-unfoldable pub isGood : Option ℕ → Bool
-isGood none = true
-isGood (some r) = false
 
 -- Whether an event is an entry that is answered place q.
 unfoldable pub entersAt : ℕ → Line → Event → Bool

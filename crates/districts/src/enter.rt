@@ -1,7 +1,9 @@
 // An entry: the plan call's refusals but 8, then 22, then the lowest free place.
 use crate::machine::District;
 use crate::machine::Machine;
+use crate::machine::nothing_held;
 use crate::places::kept;
+use crate::places::lined_up;
 use crate::places::lowest_free;
 use budget::Budget;
 use budget::Checked;
@@ -9,7 +11,6 @@ use plan::Plan;
 use planner::call::network_verdict;
 use refusal::Refusal;
 use refusal::Verdict;
-use solution::trees::Reached;
 ghost use mathlib.Core.Path.{_≡_};
 ghost use mathlib.Core.Option.{none};
 ghost use Prim.Native.Nat.{_<_};
@@ -17,7 +18,7 @@ ghost use Rattle.postman.specs.Plan.{WellFormed};
 ghost use Rattle.plan.specs.Records.{planValue};
 ghost use Rattle.refusal.specs.Verdict.{verdictNumber};
 ghost use Rattle.planner.specs.Refusals.{planRefusal, budgetRefusal};
-ghost use Rattle.districts.specs.Machine.{callPart, IsEntered};
+ghost use Rattle.districts.specs.Entered.{callPart, IsEntered};
 
 // The place, or why there is none.
 pub enum Admission {
@@ -77,15 +78,11 @@ fn admit(m: Machine, bytes: &[u8], budget: u32) -> Entered
             machine: m,
         };
     }
-    let mut line = m.line;
-    let place = lowest_free(line, n);
+    let before = m.line;
+    let place = lowest_free(before, n);
+    let mut line = lined_up(before, 0, n);
     let copy = kept(bytes);
-    let held = Reached {
-        cost: 0,
-        tails: [0u8; 8],
-        heads: [0u8; 8],
-        tried: 0,
-    };
+    let held = nothing_held();
     let d = District {
         place: place,
         bytes: copy,

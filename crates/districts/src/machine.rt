@@ -1,8 +1,7 @@
 // The machine: up to eight districts, by value. "Empty at first."
 use solution::trees::Reached;
 ghost use mathlib.Core.Path.{_≡_};
-ghost use mathlib.Core.List.{[]};
-ghost use Rattle.districts.specs.Machine.{lineOf, IsSound};
+ghost use Rattle.districts.specs.Machine.{nothingHeld, emptyDistrict, emptyMachine};
 
 // A district that is not finished: its place; its plan, in the first `length` bytes; its budget; and how far it is.
 pub struct District {
@@ -19,14 +18,23 @@ pub struct Machine {
     pub waiting: usize,
 }
 
-// What stands behind the line of an empty machine.
-fn no_district() -> District {
-    let held = Reached {
+// What is held before the first tree.
+pub(crate) fn nothing_held() -> Reached
+    ensures { λ r. ⌜ r ≡ nothingHeld ⌝ }
+{
+    Reached {
         cost: 0,
         tails: [0u8; 8],
         heads: [0u8; 8],
         tried: 0,
-    };
+    }
+}
+
+// What stands behind the line.
+pub(crate) fn no_district() -> District
+    ensures { λ r. ⌜ r ≡ emptyDistrict ⌝ }
+{
+    let held = nothing_held();
     District {
         place: 0,
         bytes: [0u8; 1475],
@@ -38,7 +46,7 @@ fn no_district() -> District {
 
 // THE EMPTY MACHINE.
 pub fn empty() -> Machine
-    ensures { λ r. ⌜ (lineOf r ≡ []) × IsSound r ⌝ }
+    ensures { λ r. ⌜ r ≡ emptyMachine ⌝ }
 {
     let none = no_district();
     Machine {

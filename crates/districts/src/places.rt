@@ -1,13 +1,14 @@
-// The places of a line, its districts moved up by one, and the bytes of a plan.
+// The places of a line, its districts from one of them on, and the bytes of a plan.
 use crate::machine::District;
+use crate::machine::no_district;
 ghost use mathlib.Core.Path.{_≡_};
 ghost use Prim.Native.Nat.{_+_, _≤_, _<_};
-ghost use lib.ListN.{length, take, getD};
+ghost use lib.ListN.{length, take, drop};
 ghost use Rattle.postman.specs.Lists.{occurs};
 ghost use Rattle.districts.specs.Line.{places, lowestFree};
 ghost use Rattle.districts.specs.Places.{lowestBelow};
-ghost use Rattle.districts.specs.Machine.{noDistrict, districtsIn};
-ghost use Rattle.plan.specs.Laws.Prefix.{Prefix};
+ghost use Rattle.district_turn.specs.Padded.{padded};
+ghost use Rattle.districts.specs.Machine.{emptyDistrict, districtsIn};
 
 fn place_of(d: District) -> u8
     ensures { λ r. ⌜ r ≡ d .place ⌝ }
@@ -16,7 +17,7 @@ fn place_of(d: District) -> u8
 }
 
 // Whether one of the first n districts has place q.
-fn is_taken(line: [District; 8], n: usize, q: u8) -> bool
+pub(crate) fn is_taken(line: [District; 8], n: usize, q: u8) -> bool
     requires { ⌜ n ≤ 8 ⌝ }
     ensures { λ r. ⌜ r ≡ occurs q (places (districtsIn line n)) ⌝ }
 {
@@ -55,13 +56,15 @@ pub(crate) fn lowest_free(line: [District; 8], n: usize) -> u8
     lowest
 }
 
-// The districts behind the front one, each a place further ahead.
-pub(crate) fn moved_up(line: [District; 8]) -> [District; 8]
-    ensures { λ r. ⌜ Prefix 8 noDistrict (λ i. getD line (i + 1) noDistrict) r 7 ⌝ }
+// The n districts from the one at `from` on, and nothing behind them.
+pub(crate) fn lined_up(line: [District; 8], from: usize, n: usize) -> [District; 8]
+    requires { ⌜ from + n ≤ 8 ⌝ }
+    ensures { λ r. ⌜ r ≡ padded 8 emptyDistrict (take n (drop from line)) ⌝ }
 {
-    let mut next = line;
-    for i in 0..7 {
-        let d = line[i + 1];
+    let none = no_district();
+    let mut next = [none; 8];
+    for i in 0..n {
+        let d = line[from + i];
         next[i] = d;
     }
     next
@@ -70,7 +73,7 @@ pub(crate) fn moved_up(line: [District; 8]) -> [District; 8]
 // The bytes of a plan, zeros behind them.
 pub(crate) fn kept(bytes: &[u8]) -> [u8; 1475]
     requires { ⌜ length (now bytes) ≤ 1475 ⌝ }
-    ensures { λ r. ⌜ take (length (now (bytes .entry))) r ≡ now (bytes .entry) ⌝ }
+    ensures { λ r. ⌜ r ≡ padded 1475 0 (now (bytes .entry)) ⌝ }
 {
     let mut r = [0u8; 1475];
     let n = bytes.len();

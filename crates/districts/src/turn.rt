@@ -1,20 +1,26 @@
 // A turn: the front district takes 1,000 trees or the rest of T.
 use crate::machine::District;
 use crate::machine::Machine;
-use crate::places::moved_up;
+use crate::places::is_taken;
+use crate::places::lined_up;
 use district_turn::stint::Stint;
+use district_turn::stint::so_far;
 use district_turn::stint::stuck;
 use district_turn::stint::turn_read;
+use planner::call::refused;
+use refusal::Refusal;
 use refusal::Verdict;
 use solution::Planned;
 use solution::trees::Reached;
 ghost use mathlib.Core.Path.{_≡_};
-ghost use Prim.Native.Nat.{_≤_};
-ghost use lib.ListN.{length};
+ghost use mathlib.Core.List.{List, [], _∷_, _++_};
+ghost use Prim.Native.Nat.{_≤_, _<_};
+ghost use lib.ListN.{length, drop};
 ghost use Rattle.postman.specs.PlanCall.{sheetPlaces};
-ghost use Rattle.postman.specs.PlanFile.{planOf};
-ghost use Rattle.district_turn.specs.Stint.{IsStint, LeavesSheet};
-ghost use Rattle.districts.specs.Machine.{IsUnderWay, bytesOf, soFar, IsLeft, IsGoneOn, IsAfter, IsTurned};
+ghost use Rattle.district_turn.specs.Stint.{IsStint};
+ghost use Rattle.districts.specs.declared.machine.District.{District as DistrictRecord};
+ghost use Rattle.districts.specs.Machine.{waitingIn, machineOf};
+ghost use Rattle.districts.specs.Turned.{planBy, hasOwnPlace, canBeServed, heldNow, IsAfter, IsTurned};
 
 // What a turn met, and the place of the district that it went to. A machine that no entries and turns lead to may hold a front district that cannot be gone on with: it is answered as an empty one.
 pub enum Outcome {
@@ -30,27 +36,22 @@ pub struct Turned {
     pub machine: Machine,
 }
 
-// The trees so far and their least cost.
-fn so_far(cost: u64, trees: u32) -> Planned
-    ensures { λ r. ⌜ r ≡ soFar cost trees ⌝ }
+// Whether its place is one of eight, and none of the others has it.
+fn has_own_place(place: u8, others: Machine) -> bool
+    requires { ⌜ others .waiting ≤ 8 ⌝ }
+    ensures { λ r. ⌜ ((d : DistrictRecord) → d .place ≡ place → r ≡ hasOwnPlace d (waitingIn others)) ⌝ }
 {
-    Planned {
-        verdict: Verdict::Accepted,
-        places: 0,
-        cost: cost,
-        floor: 0,
-        trees: trees,
-        whole: false,
-        parts: 0,
-        multipliers: [0i64; 64],
+    if 8 <= place {
+        return false;
     }
+    let line = others.line;
+    !is_taken(line, others.waiting, place)
 }
 
-// The turn of the front district, over the plan that it holds.
+// The turn of the front district, over the plan that it holds. It has tried fewer trees than its budget, if it can be gone on with.
 fn served(d: District, sheet: &mut [u16]) -> Stint
     requires { ⌜ sheetPlaces ≤ length (now sheet) ⌝ }
-    ensures { λ r. ⌜ (IsUnderWay d → IsStint (planOf (bytesOf d)) (d .budget) (d .held) (now (sheet .entry)) (now (sheet .exit)) r) ⌝ }
-    ensures { λ r. ⌜ LeavesSheet (planOf (bytesOf d)) (now (sheet .entry)) (now (sheet .exit)) r ⌝ }
+    ensures { λ r. ⌜ IsStint (planBy d) (d .budget) (d .held) (canBeServed d) (now (sheet .entry)) (now (sheet .exit)) r ⌝ }
 {
     let held = d.held;
     let bytes = d.bytes;
@@ -58,10 +59,10 @@ fn served(d: District, sheet: &mut [u16]) -> Stint
     if 1475 < n {
         return stuck(held);
     }
-    if d.budget == 0 {
+    if 1_000_000 < d.budget {
         return stuck(held);
     }
-    if 1_000_000 < held.tried {
+    if d.budget <= held.tried {
         return stuck(held);
     }
     let reading = plan_file::reader::read_plan(&bytes[..n]);
@@ -76,23 +77,23 @@ fn served(d: District, sheet: &mut [u16]) -> Stint
 // "Finished, leaves and frees its place."
 fn left(m: Machine) -> Machine
     requires { ⌜ (1 ≤ m .waiting) × (m .waiting ≤ 8) ⌝ }
-    ensures { λ r. ⌜ IsLeft m r ⌝ }
+    ensures { λ r. ⌜ r ≡ machineOf (drop 1 (waitingIn m)) ⌝ }
 {
     let line = m.line;
-    let next = moved_up(line);
+    let n = m.waiting - 1;
+    let next = lined_up(line, 1, n);
     Machine {
         line: next,
-        waiting: m.waiting - 1,
+        waiting: n,
     }
 }
 
 // "Then it goes to the back", with what it holds now.
-fn gone_on(m: Machine, d: District, held: Reached) -> Machine
-    requires { ⌜ (1 ≤ m .waiting) × (m .waiting ≤ 8) ⌝ }
-    ensures { λ r. ⌜ IsGoneOn m d held r ⌝ }
+fn gone_on(others: Machine, d: District, held: Reached) -> Machine
+    requires { ⌜ others .waiting < 8 ⌝ }
+    ensures { λ r. ⌜ ((ds : List DistrictRecord) → others ≡ machineOf ds → r ≡ machineOf (ds ++ heldNow d held ∷ [])) ⌝ }
 {
-    let line = m.line;
-    let mut next = moved_up(line);
+    let mut line = others.line;
     let bytes = d.bytes;
     let back = District {
         place: d.place,
@@ -101,32 +102,30 @@ fn gone_on(m: Machine, d: District, held: Reached) -> Machine
         budget: d.budget,
         held: held,
     };
-    let n = m.waiting;
-    next[n - 1] = back;
+    let n = others.waiting;
+    line[n] = back;
     Machine {
-        line: next,
-        waiting: n,
+        line: line,
+        waiting: n + 1,
     }
 }
 
 // The front district has had its turn.
-fn after(m: Machine, d: District, s: Stint) -> Turned
-    requires { ⌜ (1 ≤ m .waiting) × (m .waiting ≤ 8) ⌝ }
-    ensures { λ r. ⌜ IsAfter m d s r ⌝ }
+fn after(others: Machine, d: District, s: Stint) -> Turned
+    requires { ⌜ others .waiting < 8 ⌝ }
+    ensures { λ r. ⌜ IsAfter others d s r ⌝ }
 {
     let place = d.place;
+    let planned = s.planned;
     if s.done {
-        let planned = s.planned;
-        let next = left(m);
         return Turned {
             outcome: Outcome::Finished(place),
             planned: planned,
-            machine: next,
+            machine: others,
         };
     }
     let held = s.held;
-    let planned = so_far(held.cost, held.tried);
-    let next = gone_on(m, d, held);
+    let next = gone_on(others, d, held);
     Turned {
         outcome: Outcome::Unfinished(place),
         planned: planned,
@@ -135,10 +134,9 @@ fn after(m: Machine, d: District, s: Stint) -> Turned
 }
 
 // Nothing moves.
-fn still(m: Machine, outcome: Outcome) -> Turned
-    ensures { λ r. ⌜ (r .outcome ≡ outcome) × (r .planned ≡ soFar 0 0) × (r .machine ≡ m) ⌝ }
+fn still(m: Machine, outcome: Outcome, planned: Planned) -> Turned
+    ensures { λ r. ⌜ (r .outcome ≡ outcome) × (r .planned ≡ planned) × (r .machine ≡ m) ⌝ }
 {
-    let planned = so_far(0, 0);
     Turned {
         outcome: outcome,
         planned: planned,
@@ -151,20 +149,26 @@ pub fn turn(m: Machine, sheet: &mut [u16]) -> Turned
     ensures { λ r. ⌜ IsTurned m (now (sheet .entry)) (now (sheet .exit)) r ⌝ }
 {
     let n = m.waiting;
+    let nothing = so_far(0, 0);
     if n == 0 {
-        return still(m, Outcome::Empty);
+        return still(m, Outcome::Empty, nothing);
     }
     if sheet.len() < 17_266 {
-        return still(m, Outcome::ShortSheet);
+        let short = refused(Refusal::ShortSheet);
+        return still(m, Outcome::ShortSheet, short);
     }
     if 8 < n {
-        return still(m, Outcome::Empty);
+        return still(m, Outcome::Empty, nothing);
     }
     let line = m.line;
     let d = line[0];
+    let others = left(m);
+    if !has_own_place(d.place, others) {
+        return still(m, Outcome::Empty, nothing);
+    }
     let s = served(d, sheet);
     if !s.good {
-        return still(m, Outcome::Empty);
+        return still(m, Outcome::Empty, nothing);
     }
-    after(m, d, s)
+    after(others, d, s)
 }

@@ -1,6 +1,6 @@
 -- What the calls of a machine of districts answer to a caller in another language.
 use mathlib.Core.Path.{_≡_}
-use mathlib.Core.List.{List, [], _∷_, _++_}
+use mathlib.Core.List.{List, [], _∷_, _++_, map}
 use Prim.Native.Nat.{ℕ, _+_, _≤_, _<_}
 use lib.IntN.{ℤ, pos, negℤ}
 use lib.ListN.{length, drop, replicate}
@@ -8,7 +8,8 @@ use Rattle.postman.specs.Refusal.{refused}
 use Rattle.districts.specs.declared.enter.Entered.{Entered}
 use Rattle.districts.specs.declared.turn.Turned.{Turned}
 use Rattle.districts.specs.Runs.{Event, entry, turned}
-use Rattle.districts.specs.Machine.{IsEntered, IsTurned}
+use Rattle.districts.specs.Entered.{IsEntered}
+use Rattle.districts.specs.Turned.{IsTurned}
 use Rattle.machine_bytes.specs.MachineBytes.{districtsBytes, machineIn}
 use Rattle.machine_bytes.specs.MachineStored.{IsEntryStored, IsTurnHandedOver}
 
@@ -35,20 +36,31 @@ pub record IsExportedTurn (bytes bytes′ sheet sheet′ words words′ : List �
 
 -- ---- runs
 
--- A turn with a sheet of so many places.
-pub record LentTurn (bytes bytes′ : List ℕ) (places : ℕ) : Type 0 where
+-- A call, with what it was given and the number that it answered: an entry of a plan with a budget; a turn with a sheet of so many places.
+pub data Call : Type 0 where
+  enters : List ℕ → ℕ → ℤ → Call
+  turns : ℕ → ℤ → Call
+
+abbrev pub eventOf : Call → Event
+eventOf (enters plan budget n) = entry plan budget
+eventOf (turns places n) = turned places
+
+abbrev pub eventsOf : List Call → List Event
+eventsOf cs = map eventOf cs
+
+-- A turn with such a sheet.
+pub record LentTurn (bytes bytes′ : List ℕ) (places : ℕ) (number : ℤ) : Type 0 where
   pub sheet : List ℕ
   pub sheet′ : List ℕ
   pub words : List ℕ
   pub words′ : List ℕ
   pub u : List ℤ
   pub u′ : List ℤ
-  pub number : ℤ
   pub contract : IsExportedTurn bytes bytes′ sheet sheet′ words words′ u u′ number
   pub size : length sheet ≡ places
 
--- The bytes after the events, the latest first, from a start that is not refused: each call has the contract of its function, on the bytes that the call before it left.
-unfoldable pub LedLent : List Event → List ℕ → Type 0
+-- The bytes after the calls, the latest first, from a start that is not refused: each call has the contract of its function, on the bytes that the call before it left.
+unfoldable pub LedLent : List Call → List ℕ → Type 0
 LedLent [] bytes = (old : List ℕ) × (n : ℤ) × IsStarted old bytes n × (districtsBytes ≤ length old)
-LedLent (entry plan budget ∷ es) bytes = (b : List ℕ) × (n : ℤ) × LedLent es b × IsExportedEntry plan budget b bytes n
-LedLent (turned places ∷ es) bytes = (b : List ℕ) × LedLent es b × LentTurn b bytes places
+LedLent (enters plan budget n ∷ cs) bytes = (b : List ℕ) × LedLent cs b × IsExportedEntry plan budget b bytes n
+LedLent (turns places n ∷ cs) bytes = (b : List ℕ) × LedLent cs b × LentTurn b bytes places n

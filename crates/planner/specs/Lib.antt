@@ -1,4 +1,5 @@
 pub mod Refusals
+pub mod Refused
 pub mod Contract
 -- What is proved about them.
 pub mod Laws

@@ -22,7 +22,7 @@ ghost use Rattle.multipliers.specs.Tour.{tableOf};
 ghost use Rattle.multipliers.specs.Prepared.{IsMeasured};
 ghost use Rattle.planner.specs.Contract.{IsPlanCall};
 ghost use Rattle.solution.specs.Planned.{IsPlanned};
-ghost use Rattle.planner.specs.Laws.Refused.{refusedWith};
+ghost use Rattle.planner.specs.Refused.{refusedWith};
 
 // A refusal "returns its number only".
 pub fn refused(r: Refusal) -> Planned

@@ -31,9 +31,12 @@ use Rattle.districts.specs.declared.turn.Outcome.{Outcome}
 use Rattle.districts.specs.declared.turn.Turned.{Turned}
 use Rattle.districts.specs.Line.{District, Line, finishes}
 use Rattle.districts.specs.Runs.{Event, run, lastEntry}
-use Rattle.districts.specs.Machine.{IsTurned}
-use Rattle.districts.specs.Theorem.{as-entered}
-use Rattle.districts.specs.Laws.Led.{Led, led}
+use Rattle.districts.specs.Number.{hadTurn}
+use Rattle.districts.specs.Turned.{IsTurned}
+use Rattle.districts.specs.Led.{Led}
+use Rattle.districts.specs.Theorem.{served}
+use Rattle.districts.specs.Laws.Runs.{run-kept}
+use Rattle.districts.specs.Laws.Led.{led}
 use Rattle.districts.specs.Laws.Finished.{front-accepted}
 use Rattle.judge.specs.declared.Judged.{Judged}
 use Rattle.judge.specs.Contract.{judgedAnswer, IsJudged}
@@ -43,12 +46,11 @@ use Rattle.answers.specs.Answer.{wordsOf, putFirst, IsHandedOver}
 use Rattle.answers.specs.Laws.Answer.{put-at, answered-zero}
 use Rattle.answers.specs.Laws.CarsNumber.{first-told, second-told}
 use Rattle.machine_bytes.specs.MachineBytes.{machineIn}
-use Rattle.machine_bytes.specs.MachineStored.{hadTurn}
 use Rattle.open_plan_bytes.specs.StateBytes.{openBytes, openIn}
 use Rattle.exports.specs.Call.{IsExportedCall, IsExportedCallAt}
 use Rattle.exports.specs.Editing.{IsExportedAsk}
 use Rattle.exports.specs.Cars.{IsLeft, Lent, IsExportedCars}
-use Rattle.exports.specs.Turns.{IsExportedTurn, LedLent}
+use Rattle.exports.specs.Turns.{IsExportedTurn, Call, eventsOf, LedLent}
 use Rattle.promises.specs.Laws.LentTurns.{lent-led}
 
 -- Judged on the file's plan, the list w costs c, whoever judges it by the contract of the judging call.
@@ -110,8 +112,8 @@ module _ (es : List Event) (m : Machine) (h : Led es m) (d : District) (l : Line
   turn-judged : judgeAnswer (lastEntry (d .place) es .bytes) (take (r .planned .places) new) ≡ given (r .planned .cost)
   turn-judged =
       let i = led es m h in
-      let x = t .served (i .1) d l (i .0 ∙ e) long .0 .last f .1 in
-      let k = as-entered es d (subst (λ (y : Line). List·Memᴰ d y) (sym e) (List·Memᴰ·head (λ i. d))) .0 in
+      let x = served es m h old new r t d l e long .last f .1 in
+      let k = run-kept es .each d (subst (λ (y : Line). List·Memᴰ d y) (sym e) (List·Memᴰ·head (λ i. d))) .bytes-are in
       ap (λ (b : List ℕ). judgeAnswer b (take (r .planned .places) new)) (sym k)
       ∙ planned-judged (d .bytes) (d .budget) none old new (r .planned) x (x .verdict) (front-accepted m (i .1) d l (i .0 ∙ e) (length old) long)
 
@@ -159,14 +161,14 @@ lent-passes-ask state budget numbers d sheet sheet′ words words′ u u′ n ro
     lent-passes-at (fileIn (openIn state .plan)) budget sheet sheet′ words words′ u u′ n room zero numbers d (x .asked long)
 
 -- a district's last turn, after every run of calls from a start on
-pub lent-passes-turn : (es : List Event) (b : List ℕ) → LedLent es b → (bytes sheet sheet′ words words′ : List ℕ) (u u′ : List ℤ) (n : ℤ) → IsExportedTurn b bytes sheet sheet′ words words′ u u′ n
-    → (d : District) (l : Line) → run es ≡ d ∷ l → finishes d ≡ true → sheetPlaces ≤ length sheet → 2 ≤ length words → LentPasses (lastEntry (d .place) es .bytes) words′ sheet′
-lent-passes-turn es b h bytes sheet sheet′ words words′ u u′ n x d l e f long room =
-    let i = lent-led es b h in
+pub lent-passes-turn : (cs : List Call) (b : List ℕ) → LedLent cs b → (bytes sheet sheet′ words words′ : List ℕ) (u u′ : List ℤ) (n : ℤ) → IsExportedTurn b bytes sheet sheet′ words words′ u u′ n
+    → (d : District) (l : Line) → run (eventsOf cs) ≡ d ∷ l → finishes d ≡ true → sheetPlaces ≤ length sheet → 2 ≤ length words → LentPasses (lastEntry (d .place) (eventsOf cs) .bytes) words′ sheet′
+lent-passes-turn cs b h bytes sheet sheet′ words words′ u u′ n x d l e f long room =
+    let es = eventsOf cs in
+    let i = lent-led cs b h in
     let y = x .turned (i .0) in
     let r = y .0 in
-    let k = led es (machineIn b) (i .1) in
-    let o = y .1 .served (k .1) d l (k .0 ∙ e) long .0 .last f .0 in
+    let o = served es (machineIn b) (i .1) sheet sheet′ r (y .1) d l e long .last f .0 in
     lent-passes _ (r .planned) sheet′ words words′ room
     (y .2 .words-are ∙ ap (λ (o : Outcome). cond (hadTurn o) (putFirst (wordsOf (r .planned)) words) words) o)
     (turn-judged es (machineIn b) (i .1) d l e f sheet sheet′ r (y .1) long)

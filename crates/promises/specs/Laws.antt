@@ -16,3 +16,4 @@ pub mod Judged
 pub mod Districts
 pub mod Codec
 pub mod Runs
+pub mod ToldTurns

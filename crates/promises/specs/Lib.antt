@@ -20,6 +20,7 @@ pub mod CarNumber
 -- What two calls that leave one answer have in common.
 pub mod OneAnswerTheorem
 -- Over an open plan's bytes, over a machine's, and of drives that are judged.
+pub mod Told
 pub mod HistoryTheorem
 pub mod AskedTheorem
 pub mod TurnsTheorem

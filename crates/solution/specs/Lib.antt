@@ -1,6 +1,7 @@
 pub mod Planned
 pub mod Begun
 pub mod Resumed
+pub mod Concluded
 pub mod RaisedBudget
 pub mod SameAnswer
 -- What is proved about them.

@@ -13,7 +13,7 @@ use refusal::Verdict;
 use search::tried::Searched;
 ghost use mathlib.Core.Path.{_≡_};
 ghost use mathlib.Core.Option.{none};
-ghost use Prim.Native.Nat.{ℕ, _≤_};
+ghost use Prim.Native.Nat.{_≤_};
 ghost use lib.ListN.{length};
 ghost use Rattle.postman.specs.PlanCall.{sheetPlaces};
 ghost use Rattle.plan.specs.Records.{planValue};
@@ -23,8 +23,8 @@ ghost use Rattle.network.specs.Network.{IsNetwork};
 ghost use Rattle.multipliers.specs.Prepared.{IsKnown, IsBase};
 ghost use Rattle.multipliers.specs.Ascent.{multipliersFor};
 ghost use Rattle.solution.specs.Planned.{IsPlanned};
-ghost use Rattle.solution.specs.Resumed.{HoldsTree, HoldsDrive};
-ghost use Rattle.search.specs.Contracts.{IsSearched};
+ghost use Rattle.solution.specs.Resumed.{HoldsTree};
+ghost use Rattle.solution.specs.Concluded.{IsConcluded};
 
 // The drive of the tree that is held is written, and the floor is computed, from the state of the required arcs. The multipliers that are answered give the floor.
 pub fn conclude(
@@ -40,8 +40,7 @@ pub fn conclude(
 ) -> Planned
     requires { ⌜ IsBase (planValue plan) (now table) (now vs) (stateOf base) × (u ≡ multipliersFor (planValue plan)) ⌝ }
     requires { ⌜ IsNetwork (planValue plan) net × HoldsTree (planValue plan) (s .tails) (s .heads) × (s .cost ≤ 4398046511104) × (sheetPlaces ≤ length (now sheet)) × AreWeights (planValue plan) (now weights) ⌝ }
-    ensures { λ r. ⌜ ((budget : ℕ) → 1 ≤ budget → IsSearched (planValue plan) budget s → IsPlanned (planValue plan) budget none (now (sheet .entry)) (now (sheet .exit)) r) ⌝ }
-    ensures { λ r. ⌜ HoldsDrive (planValue plan) (now (sheet .entry)) (now (sheet .exit)) ⌝ }
+    ensures { λ r. ⌜ IsConcluded (planValue plan) s (now (sheet .entry)) (now (sheet .exit)) r ⌝ }
 {
     let parts = net.components;
     let k = parts as usize;

@@ -9,17 +9,18 @@ use search::tried::Searched;
 use search::tried::lesser;
 use tree_count::entries::entries_of;
 ghost use mathlib.Core.Path.{_≡_};
-ghost use Prim.Native.Nat.{_≤_, _+_, _-_, min};
+ghost use Prim.Native.Nat.{_≤_, _+_};
 ghost use Rattle.plan.specs.Records.{planValue};
 ghost use Rattle.balance.specs.Records.{stateOf};
 ghost use Rattle.network.specs.Network.{IsNetwork};
-ghost use Rattle.postman.specs.Arborescence.{arborescences, arborescenceCount};
+ghost use Rattle.postman.specs.Arborescence.{arborescences};
+ghost use Rattle.postman.specs.PlanCall.{bestCost, bestArborescence};
 ghost use Rattle.search.specs.Contracts.{IsExplored, IsSearched};
 ghost use Rattle.branches.specs.Holding.{IsShort};
 ghost use Rattle.multipliers.specs.Prepared.{IsBase};
 ghost use Rattle.multipliers.specs.Ascent.{multipliersFor};
 ghost use Rattle.solution.specs.Begun.{IsBegun};
-ghost use Rattle.solution.specs.Resumed.{turnTrees, IsReachedBy, IsResumed};
+ghost use Rattle.solution.specs.Resumed.{turnOf, triedOn, linksBy, IsResumed};
 
 // How far a search is: the best so far, and how many trees were tried.
 pub struct Reached {
@@ -122,7 +123,7 @@ fn explored(
 
 // "takes 1,000 trees or the rest of T"
 fn turn_of(total: u32, tried: u32) -> u32
-    ensures { λ r. ⌜ r ≡ min turnTrees (total - tried) ⌝ }
+    ensures { λ r. ⌜ r ≡ turnOf total tried ⌝ }
 {
     if total <= tried {
         return 0;
@@ -142,7 +143,7 @@ fn first_tried(
     n: u32,
 ) -> Reached
     requires { ⌜ IsBase (planValue plan) (now table) (now vs) (stateOf base) × (u ≡ multipliersFor (planValue plan)) × IsNetwork (planValue plan) net × (1 ≤ n) ⌝ }
-    ensures { λ r. ⌜ (r .tried ≡ n) × (n ≤ arborescenceCount (planValue plan) → IsReachedBy (planValue plan) r) ⌝ }
+    ensures { λ r. ⌜ (r .tried ≡ n) × (r .cost ≡ bestCost (planValue plan) n) × (linksBy (planValue plan) r ≡ bestArborescence (planValue plan) n) ⌝ }
 {
     let s = best(plan, table, vs, net, base, u, n);
     let ts = s.tails;
@@ -167,7 +168,7 @@ fn tried_on(
     more: u32,
 ) -> Reached
     requires { ⌜ IsBase (planValue plan) (now table) (now vs) (stateOf base) × (u ≡ multipliersFor (planValue plan)) × IsNetwork (planValue plan) net × (1 ≤ g .tried + more) × (g .tried ≤ 1000000) × (more ≤ 1000) ⌝ }
-    ensures { λ r. ⌜ (r .tried ≡ g .tried + more) × (g .tried + more ≤ arborescenceCount (planValue plan) → IsReachedBy (planValue plan) g → IsReachedBy (planValue plan) r) ⌝ }
+    ensures { λ r. ⌜ (r .tried ≡ g .tried + more) × (r .cost ≡ triedOn (planValue plan) (g .cost) (linksBy (planValue plan) g) (g .tried) more .cost) × (linksBy (planValue plan) r ≡ triedOn (planValue plan) (g .cost) (linksBy (planValue plan) g) (g .tried) more .links) ⌝ }
 {
     if g.tried == 0 {
         return first_tried(plan, table, vs, net, base, u, more);

@@ -1,91 +1,237 @@
--- After the last tree what is held is what one search of the whole budget finds: T trees are tried either way. It costs little, and its links pass the test. The sheet is written where a district finishes, and nowhere else.
-use mathlib.Core.Path.{_≡_, refl, ap, _∙_, subst⁻¹}
-use mathlib.Core.Bool.{Bool, true, false}
-use mathlib.Core.List.{List, [], map}
-use mathlib.Core.Option.{none}
+-- A turn, by its three kinds: what is held cannot be gone on from; it can, and trees are left; none is left. The test for a tree is by the list of all trees.
+use mathlib.Core.Path.{_≡_, refl, sym, ap, ap₂, _∙_, subst, subst⁻¹}
+use mathlib.Core.Logic.{inl, inr}
+use mathlib.Core.Bool.{Bool, true, false, _&&_, _||_}
+use mathlib.Core.List.{List, [], _∷_, map, List·Memᴰ}
+use mathlib.Core.Option.{Option, none}
 use Prim.Native.Nat.{ℕ, _+_, _-_, _≤_, _<_, min}
 use native.Mathlib.Omega.{arith}
-use lib.ListN.{length, take}
-use Rattle.postman.specs.Lists.{minimum, argmin}
+use borrow.Author.Tests.{eq-eqb, ne-eqb, lt-ltb, le-ltb, le-leb, lt-leb}
+use lib.ListN.{length, take, replicate, length-take, length-map}
+use lib.Seq.{take-append-seam}
+use Rattle.residual_search.specs.Step.{arcsOf}
+use lib.Dec.{T, eqb, ltb, leb, eqb→eq, eqb-refl}
+use Rattle.postman.specs.Lists.{anyOf}
 use Rattle.postman.specs.Plan.{Plan}
+use Rattle.postman.specs.Link.{Link, joins}
 use Rattle.postman.specs.Component.{componentCount}
-use Rattle.postman.specs.Arborescence.{arborescences, arborescenceCount}
+use Rattle.postman.specs.Arborescence.{IsArborescence, arborescences}
 use Rattle.postman.specs.Balancing.{completionCost}
-use Rattle.postman.specs.PlanCall.{triedCount, bestCost, bestArborescence}
-use Rattle.postman.specs.Laws.Optimality.{Plannable}
-use Rattle.required.specs.Contracts.{IsLinks, IsComponents}
-use Rattle.search.specs.declared.tried.Searched.{Searched}
-use Rattle.search.specs.Contracts.{IsSearched}
-use Rattle.solution.specs.declared.Planned.{Planned}
-use Rattle.solution.specs.Planned.{IsPlanned}
+use Rattle.postman.specs.PlanCall.{triedCount}
+use Rattle.postman.specs.Laws.Tests.{same-test, and-both, and-parts, is-true, is-false, of-true}
+use Rattle.postman.specs.Laws.Membership.{anyOf-at, anyOf-mem}
+use Rattle.postman.specs.Laws.Distance.{InPlan}
+use Rattle.postman.specs.Laws.Arborescence.{arborescences-mem, mem-arborescences}
 use Rattle.solution.specs.declared.trees.Reached.{Reached}
 use Rattle.solution.specs.declared.trees.Resumed.{Resumed}
-use Rattle.solution.specs.Resumed.{IsReached, IsReachedBy, IsResumed, HoldsDrive}
-use Rattle.solution.specs.Laws.Answer.{cost-small}
-use Rattle.solution.specs.Laws.Resumed.{holds-kept, some-tried}
-use Rattle.district_turn.specs.Tree.{IsHeldTree}
-use Rattle.district_turn.specs.Stint.{searchedOf, IsLast, LeavesSheet}
+use Rattle.solution.specs.Resumed.{linksBy, heldAfter, IsResumed}
+use Rattle.district_turn.specs.Stint.{sameLinks, isTree, isHolding, isResumable, isGood, reachedAfter, isLast, soFar, lastAnswer, lastSheet, IsStint}
 use Rattle.district_turn.specs.declared.stint.Stint.{Stint}
+use Rattle.plan.specs.Records.{planValue}
+use Rattle.postman.specs.Plan.{WellFormed}
+use Rattle.postman.specs.Laws.Distance.{bounded}
+use Rattle.postman.specs.Laws.Optimality.{Plannable}
+use Rattle.required.specs.Contracts.{IsLinks, IsComponents}
+use Rattle.circuit.specs.Filled.{linksOf}
+use Rattle.circuit.specs.Laws.Laid.{links-tails, links-heads}
+use Rattle.branches.specs.Links.{linksIn}
+use Rattle.branches.specs.Progress.{Held, held}
+use Rattle.multipliers.specs.Laws.Lay.{arcs-links}
+use Rattle.circuit.specs.Tour.{written}
+use Rattle.multipliers.specs.Tour.{driveOf}
+use Rattle.solution.specs.Resumed.{HoldsTree}
+use Rattle.solution.specs.Concluded.{concluded}
+use Rattle.solution.specs.Laws.Answer.{tree-small}
+use Rattle.solution.specs.Laws.Resumed.{some-tried, IsPriced, on-priced}
+use Rattle.district_turn.specs.Tree.{IsHeldTree}
+use Rattle.district_turn.specs.Padded.{padded}
 use Rattle.district_turn.specs.Laws.Clash.{clash}
-use Rattle.district_turn.specs.Laws.HeldTree.{passes}
+use Rattle.district_turn.specs.Laws.Tree.{Says}
+use Rattle.district_turn.specs.Laws.HeldTree.{sound, passes}
 
--- ---- the sheet
+-- ---- a tree, by the list of all trees
 
-pub as-it-was : (p : Plan) (old : List ℕ) (r : Stint) → r .done ≡ false → LeavesSheet p old old r
-as-it-was p old r e = record { stuck = λ g. e; going = λ d. refl; last = λ d. absurd (clash (r .done) d e) }
+same-refl : (t : List Link) → T (sameLinks t t)
+unfolding sameLinks
+same-refl [] = tt
+same-refl (l ∷ t) = and-both (joins (l .tail) (l .head) l) (sameLinks t t) (and-both (eqb (l .tail) (l .tail)) (eqb (l .head) (l .head)) (eqb-refl (l .tail)) (eqb-refl (l .head))) (same-refl t)
 
-pub drive-laid : (p : Plan) (old new : List ℕ) (r : Stint) → r .good ≡ true → r .done ≡ true → HoldsDrive p old new → LeavesSheet p old new r
-drive-laid p old new r g e h = record { stuck = λ b. absurd (clash (r .good) g b); going = λ d. absurd (clash (r .done) e d); last = λ d. h }
+same-is : (t u : List Link) → T (sameLinks t u) → t ≡ u
+unfolding sameLinks
+same-is [] [] s = refl
+same-is [] (m ∷ u) s = absurd s
+same-is (l ∷ t) [] s = absurd s
+same-is (l ∷ t) (m ∷ u) s =
+    let a = and-parts (joins (m .tail) (m .head) l) (sameLinks t u) s in
+    let b = and-parts (eqb (l .tail) (m .tail)) (eqb (l .head) (m .head)) (a .0) in
+    let et = eqb→eq (l .tail) (m .tail) (b .0) in
+    let eh = eqb→eq (l .head) (m .head) (b .1) in
+    let e = same-is t u (a .1) in
+    λ i. record { tail = et i; head = eh i } ∷ e i
 
--- ---- the last turn's answer
+pub is-arborescence : (p : Plan) (t : List Link) → T (isTree p t) → IsArborescence p t
+unfolding isTree
+is-arborescence p t h = let x = anyOf-at (sameLinks t) (arborescences p) h in subst⁻¹ (IsArborescence p) (same-is t (x .0) (x .2)) (arborescences-mem p (x .1))
 
-pub last-as : (p : Plan) (budget : ℕ) (old new : List ℕ) (r : Stint) (x : Planned) → r .good ≡ true → r .done ≡ true → r .planned ≡ x → IsPlanned p budget none old new x → IsLast p budget old new r
-last-as p budget old new r x g d e h = record { good = g; done = d; planned = subst⁻¹ (λ (x : Planned). IsPlanned p budget none old new x) e h }
+pub of-arborescence : (p : Plan) (t : List Link) → InPlan p → IsArborescence p t → T (isTree p t)
+unfolding isTree
+of-arborescence p t ok a = anyOf-mem (sameLinks t) (mem-arborescences p ok a) (same-refl t)
 
--- ---- the trees
+-- the test over the arrays is that test
+pub tested : (p : Plan) (w : WellFormed p) (flags : List Bool) (of : List ℕ) (k : ℕ) → IsLinks p flags → IsComponents p of k → k ≤ 8 → 1 ≤ k → (ts hs : List ℕ) → length ts ≡ 8 → length hs ≡ 8
+    → (b : Bool) → Says b (IsHeldTree flags of ts hs k) → b ≡ isTree p (linksIn (componentCount p - 1) ts hs)
+tested p w flags of k hl hc few one ts hs lt lh b h =
+    let m = componentCount p - 1 in
+    let e = arcs-links (take m ts) (take m hs) in
+    same-test b (isTree p (linksIn m ts hs))
+    (λ t. of-arborescence p (linksIn m ts hs) (bounded w .ends) (subst⁻¹ (IsArborescence p) e (sound p w flags of k hl hc few one ts hs lt lh (h .0 (is-true t)))))
+    (λ t. of-true (h .1 (passes p w flags of k hl hc few one ts hs lt lh (subst (IsArborescence p) e (is-arborescence p (linksIn m ts hs) t)))))
 
-pub reached-as : (p : Plan) (n n′ c c′ : ℕ) (ts ts′ hs hs′ : List ℕ) → n ≡ n′ → c ≡ c′ → ts ≡ ts′ → hs ≡ hs′ → IsReached p n′ c′ ts′ hs′ → IsReached p n c ts hs
-reached-as p n n′ c c′ ts ts′ hs hs′ en ec et eh r =
-    subst⁻¹ (λ x. IsReached p x c ts hs) en (subst⁻¹ (λ x. IsReached p n′ x ts hs) ec (subst⁻¹ (λ (x : List ℕ). IsReached p n′ c′ x hs) et (subst⁻¹ (λ (x : List ℕ). IsReached p n′ c′ ts′ x) eh r)))
+-- ---- what is held
 
-module _ (p : Plan) (ok : Plannable p) (few : componentCount p ≤ 8) where
-  same-cost : (budget : ℕ) → bestCost p (triedCount p budget) ≡ bestCost p budget
-  unfolding bestCost triedCount
-  same-cost budget = ap (λ n. minimum (map (completionCost p) (take n (arborescences p)))) (let e : min (min budget (arborescenceCount p)) (arborescenceCount p) ≡ min budget (arborescenceCount p) = omega arith in e)
+module _ (p : Plan) (g : Reached) where
+  pub holding-first : g .tried ≡ 0 → isHolding p g ≡ true
+  unfolding isHolding
+  holding-first e = let t : eqb (g .tried) 0 ≡ true = eq-eqb (g .tried) 0 e in rw t
 
-  same-tree : (budget : ℕ) → bestArborescence p (triedCount p budget) ≡ bestArborescence p budget
-  unfolding bestArborescence triedCount
-  same-tree budget = ap (λ n. argmin (completionCost p) [] (take n (arborescences p))) (let e : min (min budget (arborescenceCount p)) (arborescenceCount p) ≡ min budget (arborescenceCount p) = omega arith in e)
+  pub holding-later : (g .tried ≡ 0 → ⊥) → isHolding p g ≡ (isTree p (linksBy p g) && eqb (g .cost) (completionCost p (linksBy p g)))
+  unfolding isHolding
+  holding-later o = let t : eqb (g .tried) 0 ≡ false = ne-eqb (g .tried) 0 o in rw t
 
-  -- AFTER THE LAST TURN
-  pub all-searched : (budget : ℕ) → 1 ≤ budget → (g : Reached) (r : Resumed) → IsResumed p budget g r → g .tried < triedCount p budget → IsReachedBy p g → r .total ≤ r .tried → IsSearched p budget (searchedOf r)
-  all-searched budget one g r h l k done =
-      let a = h .tried in
-      let b = h .total in
-      let n : r .tried ≡ triedCount p budget = omega arith in
-      let s = some-tried p ok budget one in
-      let e = h .reached l k in
-      record {
-        cost = e .cost-is (omega arith) ∙ ap (bestCost p) n ∙ same-cost budget;
-        tried = h .total;
-        whole = h .whole;
-        links = e .links-are (omega arith) ∙ ap (bestArborescence p) n ∙ same-tree budget;
-      }
+  pub held-priced : (n : ℕ) → isHolding p g ≡ true → 1 ≤ g .tried → IsArborescence p (linksBy p g) × (g .cost ≡ completionCost p (linksBy p g))
+  held-priced n h o =
+      let x = and-parts (isTree p (linksBy p g)) (eqb (g .cost) (completionCost p (linksBy p g))) (of-true (sym (holding-later (λ e. (let q = e in absurd (omega arith)))) ∙ h)) in
+      (is-arborescence p (linksBy p g) (x .0), eqb→eq (g .cost) (completionCost p (linksBy p g)) (x .1))
 
-  -- the two kinds of turn
-  pub last-is : (budget : ℕ) (g : Reached) (r : Resumed) → IsResumed p budget g r → g .tried < triedCount p budget → r .total ≤ r .tried → triedCount p budget ≤ g .tried + 1000
-  last-is budget g r h l done = let a = h .tried in let b = h .total in omega arith
+pub and-no : (b c : Bool) → c ≡ false → (b && c) ≡ false
+and-no true c e = e
+and-no false c e = refl
 
-  pub going-is : (budget : ℕ) (g : Reached) (r : Resumed) → IsResumed p budget g r → g .tried < triedCount p budget → r .tried < r .total
-      → (g .tried + 1000 < triedCount p budget) × (r .tried ≡ g .tried + 1000)
-  going-is budget g r h l more = let a = h .tried in let b = h .total in (omega arith, omega arith)
+pub and-first : (b c : Bool) → b ≡ false → (b && c) ≡ false
+and-first b c e = ap (λ (x : Bool). x && c) e
 
-  -- what is found costs little
-  pub not-dear : (budget : ℕ) → 1 ≤ budget → (s : Searched) → IsSearched p budget s → 4000000000000 < s .cost → ⊥
-  not-dear budget one s h l = let a = cost-small p ok few budget one in let e = h .cost in absurd (omega arith)
+pub and-yes : (b c : Bool) → b ≡ true → c ≡ true → (b && c) ≡ true
+and-yes b c e f = ap (λ (x : Bool). x && c) e ∙ f
 
-  -- and its links pass the test
-  pub found-passes : (flags : List Bool) (of : List ℕ) (k : ℕ) → IsLinks p flags → IsComponents p of k → k ≤ 8 → 1 ≤ k → (s : Searched) → length (s .tails) ≡ 8 → length (s .heads) ≡ 8
-      → (budget : ℕ) → 1 ≤ budget → IsSearched p budget s → IsHeldTree flags of (s .tails) (s .heads) k
-  found-passes flags of k hl hc most some s lt lh budget one h =
-      passes p (ok .well-formed) flags of k hl hc most some (s .tails) (s .heads) lt lh (holds-kept p ok few budget one s h .tree .tree)
+-- ---- the three kinds of turn
+
+module _ (p : Plan) (budget : ℕ) (g : Reached) (can : Bool) (old : List ℕ) (r : Stint) where
+  pub is-stuck : can ≡ false → r .good ≡ false → r .done ≡ false → IsStint p budget g can old old r
+  is-stuck c a d = record {
+    good = a ∙ sym c;
+    done = d ∙ sym (and-first can (isLast p budget g) c);
+    held = λ x. absurd (clash (r .good) x a);
+    going = λ x. absurd (clash (r .good) x a);
+    last = λ x. absurd (clash (r .done) x d);
+    unwritten = λ x. refl;
+    sheet = λ x. absurd (clash (r .done) x d);
+  }
+
+  pub is-going : can ≡ true → isLast p budget g ≡ false → r .good ≡ true → r .done ≡ false → r .held ≡ reachedAfter p budget g → r .planned ≡ soFar (r .held .cost) (r .held .tried)
+      → IsStint p budget g can old old r
+  is-going c l a d h s = record {
+    good = a ∙ sym c;
+    done = d ∙ sym (and-no can (isLast p budget g) l);
+    held = λ x y. h;
+    going = λ x y. s ∙ ap (λ (x : Reached). soFar (x .cost) (x .tried)) h;
+    last = λ x. absurd (clash (r .done) x d);
+    unwritten = λ x. refl;
+    sheet = λ x. absurd (clash (r .done) x d);
+  }
+
+  pub is-last : can ≡ true → isLast p budget g ≡ true → r .good ≡ true → r .done ≡ true → r .planned ≡ lastAnswer p budget g → (new : List ℕ) → new ≡ lastSheet p budget g old
+      → IsStint p budget g can old new r
+  is-last c l a d s new w = record {
+    good = a ∙ sym c;
+    done = d ∙ sym (and-yes can (isLast p budget g) c l);
+    held = λ x y. absurd (clash (r .done) d y);
+    going = λ x y. absurd (clash (r .done) d y);
+    last = λ x. s;
+    unwritten = λ x. absurd (clash (r .done) d x);
+    sheet = λ x. w;
+  }
+
+-- a plan that is not refused
+pub as-good : (p : Plan) (budget : ℕ) (g : Reached) (o : Option ℕ) (can : Bool) (old new : List ℕ) (r : Stint) → o ≡ none → IsStint p budget g can old new r → IsStint p budget g (isGood o && can) old new r
+unfolding isGood
+as-good p budget g o can old new r e h = subst⁻¹ (λ (o : Option ℕ). IsStint p budget g (isGood o && can) old new r) e h
+
+-- ---- what the search gives
+
+module _ (p : Plan) (ok : Plannable p) (few : componentCount p ≤ 8) (budget : ℕ) (one : 1 ≤ budget) (g : Reached) (r : Resumed) (h : IsResumed p budget g r) where
+  pub none-left : r .total ≤ g .tried → isResumable p budget g ≡ false
+  none-left l = let e = h .total in and-no (isHolding p g) (ltb (g .tried) (triedCount p budget)) (le-ltb (g .tried) (triedCount p budget) (omega arith))
+
+  pub some-left : isHolding p g ≡ true → g .tried < r .total → isResumable p budget g ≡ true
+  some-left i l = let e = h .total in and-yes (isHolding p g) (ltb (g .tried) (triedCount p budget)) i (lt-ltb (g .tried) (triedCount p budget) (omega arith))
+
+  pub going-on : g .tried < r .total → r .tried < r .total → isLast p budget g ≡ false
+  going-on l m = let a = h .total in let b = h .tried in lt-leb (triedCount p budget) (g .tried + 1000) (omega arith)
+
+  pub at-end : g .tried < r .total → r .total ≤ r .tried → isLast p budget g ≡ true
+  at-end l m = let a = h .total in let b = h .tried in le-leb (triedCount p budget) (g .tried + 1000) (omega arith)
+
+  -- a tree and its cost
+  pub priced-after : isHolding p g ≡ true → g .tried < r .total → IsPriced p ok (heldAfter p budget g)
+  priced-after i l =
+      let a = h .total in
+      on-priced p ok few (g .cost) (linksBy p g) (g .tried) (min 1000 (triedCount p budget - g .tried)) (omega arith) (held-priced p g 0 i)
+
+  abbrev m : ℕ
+  m = componentCount p - 1
+
+  abbrev links : List Link
+  links = heldAfter p budget g .links
+
+  module _ (lt : length (r .tails) ≡ 8) (lh : length (r .heads) ≡ 8) where
+    same-size : length (take m (r .heads)) ≡ length (take m (r .tails))
+    same-size = let a = length-take m (r .tails) in let b = length-take m (r .heads) in omega arith
+
+    links-of : linksOf (take m (r .tails)) (take m (r .heads)) ≡ links
+    links-of = sym (arcs-links (take m (r .tails)) (take m (r .heads))) ∙ h .links-are
+
+    pub after-tree : isHolding p g ≡ true → g .tried < r .total → HoldsTree p (r .tails) (r .heads)
+    after-tree i l = record {
+      tails-fit = omega arith;
+      heads-fit = omega arith;
+      tree = record { same = same-size; tree = subst⁻¹ (IsArborescence p) links-of (priced-after i l .0) };
+    }
+
+    pub after-small : isHolding p g ≡ true → g .tried < r .total → r .cost ≤ 4398046511104
+    after-small i l =
+        let x = priced-after i l in
+        let a = tree-small p ok few links (x .0) in
+        let b = x .1 in
+        let c = h .cost-is in
+        omega arith
+
+    pub held-after : (n : ℕ) → n ≡ m → (x : Reached) → (x .cost ≡ r .cost) × (x .tails ≡ padded 8 0 (take n (r .tails))) × (x .heads ≡ padded 8 0 (take n (r .heads))) × (x .tried ≡ r .tried)
+        → x ≡ reachedAfter p budget g
+    held-after n e x k =
+        let ec = k .0 ∙ h .cost-is in
+        let et = k .1 ∙ ap (λ j. padded 8 0 (take j (r .tails))) e ∙ ap (padded 8 0) (sym (links-tails (take m (r .tails)) (take m (r .heads)) same-size) ∙ ap (map (λ (l : Link). l .tail)) links-of) in
+        let eh = k .2 ∙ ap (λ j. padded 8 0 (take j (r .heads))) e ∙ ap (padded 8 0) (sym (links-heads (take m (r .tails)) (take m (r .heads)) same-size) ∙ ap (map (λ (l : Link). l .head)) links-of) in
+        let en = k .3 ∙ h .tried in
+        λ i. record { cost = ec i; tails = et i; heads = eh i; tried = en i }
+
+  -- what is answered, and what is written
+  pub answered-after : concluded p (linksIn m (r .tails) (r .heads)) (r .cost) (r .total) (r .whole) ≡ lastAnswer p budget g
+  answered-after = λ i. concluded p (h .links-are i) (h .cost-is i) (h .total i) (h .whole i)
+
+  pub written-after : (old : List ℕ) → written (driveOf p (linksIn m (r .tails) (r .heads))) old ≡ lastSheet p budget g old
+  written-after old = ap (λ (t : List Link). written (driveOf p t) old) (h .links-are)
+
+-- ---- links that are kept are held
+
+arcs-again : (ls : List Link) → arcsOf (map (λ (l : Link). l .tail) ls) (map (λ (l : Link). l .head) ls) ≡ ls
+unfolding arcsOf
+arcs-again [] = refl
+arcs-again (l ∷ ls) = ap (λ (r : List Link). l ∷ r) (arcs-again ls)
+
+pub padded-links : (ls : List Link) (n : ℕ) → length ls ≡ n → linksIn n (padded 8 0 (map (λ (l : Link). l .tail) ls)) (padded 8 0 (map (λ (l : Link). l .head) ls)) ≡ ls
+padded-links ls n e =
+    let ts = map (λ (l : Link). l .tail) ls in
+    let hs = map (λ (l : Link). l .head) ls in
+    let a : take n (padded 8 0 ts) ≡ ts = ap (λ k. take k (padded 8 0 ts)) (sym (length-map ls (λ (l : Link). l .tail) ∙ e)) ∙ take-append-seam ts (replicate (8 - length ts) 0) in
+    let b : take n (padded 8 0 hs) ≡ hs = ap (λ k. take k (padded 8 0 hs)) (sym (length-map ls (λ (l : Link). l .head) ∙ e)) ∙ take-append-seam hs (replicate (8 - length hs) 0) in
+    ap₂ arcsOf a b ∙ arcs-again ls

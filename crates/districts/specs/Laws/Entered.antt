@@ -1,14 +1,14 @@
--- An entry. The plan call's conditions but 8 stand before 22; where none applies the district goes behind the last one, and is under way: it has tried no tree, and some tree is to be tried.
-use mathlib.Core.Path.{_≡_, refl, sym, ap, _∙_, subst, subst⁻¹}
+-- An entry. The plan call's conditions but 8 stand before 22; where none applies the district goes behind the last one.
+use mathlib.Core.Path.{_≡_, refl, sym, ap, _∙_}
 use mathlib.Core.Logic.{inl, inr}
-use mathlib.Core.Bool.{Bool, true, false, not}
-use mathlib.Core.List.{List, [], _∷_, _++_, append-assoc, map, List·Memᴰ, List·Memᴰ·cases-cons, List·Memᴰ·append-cases}
-use mathlib.Core.Option.{none, some, Option·some-ne-none}
-use Prim.Native.Nat.{ℕ, _+_, _≤_, _<_}
+use mathlib.Core.List.{List, [], _∷_, _++_, append-assoc}
+use mathlib.Core.Option.{Option, none, some, Option·some-ne-none}
+use Prim.Native.Nat.{ℕ, _+_, _-_, _≤_, _<_}
 use native.Mathlib.Omega.{arith}
 use borrow.Author.Tests.{le-leb, lt-leb}
-use lib.ListN.{length, take, set}
-use lib.Dec.{T, T-not, leb, leb→le, nleb→lt}
+use lib.ListN.{length, set, replicate, length-append}
+use lib.Seq.{take-append-seam, length-take-le}
+use lib.Dec.{T-not, leb, leb→le, nleb→lt}
 use Rattle.postman.specs.Plan.{WellFormed}
 use Rattle.postman.specs.Refusal.{Conditions, firstRefusal}
 use Rattle.postman.specs.PlanFile.{fileConditions, isOutside, planOf}
@@ -19,17 +19,20 @@ use Rattle.postman.specs.Laws.Acceptance.{file-accepted, inside}
 use Rattle.postman.specs.Laws.Tests.{test, is-false}
 use Rattle.refusal.specs.declared.Refusal.{Refusal}
 use Rattle.refusal.specs.Verdict.{refusalNumber}
-use Rattle.planner.specs.Refusals.{planRefusal, budgetRefusal}
+use Rattle.planner.specs.Refusals.{budgetRefusal}
 use Rattle.planner.specs.Laws.Call.{parts-refusal}
 use Rattle.planner.specs.Laws.LongFile.{long-refused}
+use Rattle.district_turn.specs.Padded.{padded}
+use Rattle.district_turn.specs.Laws.Padded.{padded-set}
 use Rattle.districts.specs.declared.machine.District.{District as DistrictRecord}
 use Rattle.districts.specs.declared.machine.Machine.{Machine}
 use Rattle.districts.specs.declared.enter.Admission.the-variants.{At, Refused}
-use Rattle.districts.specs.Line.{District, district, Line, entryConditions, entryRefusal, lowestFree, enter, total}
-use Rattle.districts.specs.Machine.{districtOf, lineOf, IsUnderWay, IsSound, callPart, IsEntered}
-use Rattle.districts.specs.Laws.Line.{parts, later, some-total, enter-refused, enter-accepted}
-use Rattle.districts.specs.Laws.Entry.{plan-good, call-good}
-use Rattle.districts.specs.Laws.Held.{room, behind-last}
+use Rattle.districts.specs.Line.{District, district, Line, entryConditions, entryRefusal, lowestFree, enter}
+use Rattle.districts.specs.Machine.{districtOf, waitingIn, lineOf, emptyDistrict, machineOf}
+use Rattle.districts.specs.Entered.{callPart, entrant, movedUnless, afterEntry, IsEntered}
+use Rattle.districts.specs.Laws.Line.{later, enter-refused, enter-accepted}
+use Rattle.districts.specs.Laws.Entry.{call-good}
+use Rattle.districts.specs.Laws.Held.{room, machine-is, line-is}
 
 -- ---- the refusals in their order
 
@@ -73,6 +76,14 @@ module _ (bytes : List ℕ) (budget : ℕ) where
     unfolding firstRefusal
     entry-good e m = then-full e ∙ rw (lt-leb 8 (length l) m)
 
+    -- an entry that is not refused is not refused by the plan call's part
+    pub call-part : entryRefusal l bytes budget ≡ none → callPart bytes budget ≡ none
+    call-part e = at (callPart bytes budget) refl
+      where
+        at : (o : Option ℕ) → callPart bytes budget ≡ o → callPart bytes budget ≡ none
+        at none q = q
+        at (some k) q = absurd (Option·some-ne-none k (sym (entry-refused k q) ∙ e))
+
 -- ---- what a plan and a budget that are not refused are
 
 module _ (bytes : List ℕ) (budget : ℕ) (e : callPart bytes budget ≡ none) where
@@ -93,76 +104,59 @@ module _ (bytes : List ℕ) (budget : ℕ) (e : callPart bytes budget ≡ none) 
 
 -- ---- a refused entry
 
+pub entry-stays : (m : Machine) (bytes : List ℕ) (budget k : ℕ) → entryRefusal (lineOf m) bytes budget ≡ some k → afterEntry m bytes budget ≡ m
+unfolding movedUnless
+entry-stays m bytes budget k f = rw f refl
+
 pub refused-entered : (m : Machine) (bytes : List ℕ) (budget : ℕ) (r : Refusal) → entryRefusal (lineOf m) bytes budget ≡ some (refusalNumber r) → IsEntered m bytes budget (record { answer = Refused r; machine = m })
 refused-entered m bytes budget r f = record {
   refusal = sym f;
   place = λ q a. (let z : _≡_ {A = ℕ} 0 1 = cc in absurd (omega arith));
-  line = sym (enter-refused (lineOf m) bytes budget (refusalNumber r) f);
-  nothing-moves = λ k a. refl;
-  sound = λ h. h;
+  machine = sym (entry-stays m bytes budget (refusalNumber r) f);
 }
 
 -- ---- an accepted one
 
-module _ (bytes copy : List ℕ) (budget place : ℕ) (same : take (length bytes) copy ≡ bytes) (ts hs : List ℕ) where
-  abbrev pub fresh : DistrictRecord
-  fresh = record { place = place; bytes = copy; length = length bytes; budget = budget; held = record { cost = 0; tails = ts; heads = hs; tried = 0 } }
+pub entry-moves : (m : Machine) (bytes : List ℕ) (budget : ℕ) → entryRefusal (lineOf m) bytes budget ≡ none
+    → afterEntry m bytes budget ≡ machineOf (waitingIn m ++ entrant (lowestFree (lineOf m)) bytes budget ∷ [])
+unfolding movedUnless
+entry-moves m bytes budget f = rw f refl
 
-  pub fresh-is : (q : ℕ) → place ≡ q → districtOf fresh ≡ district q bytes budget 0
-  fresh-is q e = λ i. district (e i) (same i) budget 0
+pub entrant-is : (q : ℕ) (bytes : List ℕ) (budget : ℕ) → districtOf (entrant q bytes budget) ≡ district q bytes budget 0
+entrant-is q bytes budget = ap (λ (b : List ℕ). district q b budget 0) (take-append-seam bytes (replicate (1475 - length bytes) 0))
 
-  pub under-way : length bytes ≤ 1475 → (l : Line) → place ≡ lowestFree l → entryRefusal l bytes budget ≡ none → IsUnderWay fresh
-  under-way fits l p e =
-      let one = inside budget 1 highestBudget (is-false (λ t. nothing (isOutside budget 1 highestBudget) (later l bytes budget e .0) t)) in
-      record {
-        fits = fits;
-        file = subst⁻¹ (λ (b : List ℕ). firstRefusal (fileConditions b) ≡ none) same (parts l bytes budget e .0);
-        some-budget = one .0;
-        most-budget = one .1;
-        plan = subst⁻¹ (λ (b : List ℕ). planRefusal (planOf b) ≡ none) same (plan-good l bytes budget e);
-        unfinished = subst⁻¹ (λ (d : District). 0 < total d) (fresh-is (lowestFree l) p) (some-total l bytes budget e);
-        reached = record { within = omega arith; cost-is = λ o. absurd (omega arith); links-are = λ o. absurd (omega arith) };
-      }
-    where
-      nothing : (b : Bool) → T (not b) → T b → ⊥
-      nothing true s t = s
-      nothing false s t = t
-
-  module _ (m : Machine) (long : length (m .line) ≡ 8) (few : m .waiting < 8) (p : place ≡ lowestFree (lineOf m)) (fits : length bytes ≤ 1475) (e : callPart bytes budget ≡ none) where
-    abbrev next : Machine
-    next = record { line = set (m .line) (m .waiting) fresh; waiting = m .waiting + 1 }
-
-    good : entryRefusal (lineOf m) bytes budget ≡ none
-    good = entry-good bytes budget (lineOf m) e (room (m .line) (m .waiting) long few)
-
-    longer : take (m .waiting + 1) (set (m .line) (m .waiting) fresh) ≡ take (m .waiting) (m .line) ++ fresh ∷ []
-    longer = behind-last (m .line) (m .waiting) fresh (omega arith)
-
-    entered-line : lineOf next ≡ enter (lineOf m) bytes budget
-    entered-line =
-        ap (λ (x : List DistrictRecord). map districtOf x) longer
-        ∙ map-append districtOf (take (m .waiting) (m .line)) (fresh ∷ [])
-        ∙ ap (λ (x : District). lineOf m ++ x ∷ []) (fresh-is (lowestFree (lineOf m)) p)
-        ∙ sym (enter-accepted (lineOf m) bytes budget good)
-
-    entered-sound : IsSound m → IsSound next
-    entered-sound h = record {
-      few = omega arith;
-      each = λ d x. elim (List·Memᴰ·append-cases (take (m .waiting) (m .line)) (subst (λ (y : List DistrictRecord). List·Memᴰ d y) longer x)) [
-        | inl a ↦ h .each d a
-        | inr b ↦ elim (List·Memᴰ·cases-cons b) [
-          | inl q ↦ subst⁻¹ IsUnderWay q (under-way fits (lineOf m) p good)
-          | inr n ↦ elim n [ ]
-        ]
-      ];
-    }
-
-    -- THE DISTRICT IS AT THE BACK
-    pub admitted : IsEntered m bytes budget (record { answer = At place; machine = next })
-    admitted = record {
+-- THE DISTRICT IS AT THE BACK
+pub admitted : (m : Machine) (bytes : List ℕ) (budget place : ℕ) → length (m .line) ≡ 8 → m .waiting < 8 → place ≡ lowestFree (lineOf m) → callPart bytes budget ≡ none → (line : List DistrictRecord) (d : DistrictRecord)
+    → line ≡ padded 8 emptyDistrict (waitingIn m) → d ≡ entrant place bytes budget → IsEntered m bytes budget (record { answer = At place; machine = record { line = set line (m .waiting) d; waiting = m .waiting + 1 } })
+admitted m bytes budget place long few p e line d el ed =
+    let good = entry-good bytes budget (lineOf m) e (room (m .line) (m .waiting) long few) in
+    let x = entrant (lowestFree (lineOf m)) bytes budget in
+    let n : length (waitingIn m) ≡ m .waiting = length-take-le (m .waiting) (m .line) (omega arith) in
+    let a = length-append (waitingIn m) (x ∷ []) in
+    let same : d ≡ x = ed ∙ ap (λ q. entrant q bytes budget) p in
+    let l : set line (m .waiting) d ≡ padded 8 emptyDistrict (waitingIn m ++ x ∷ []) =
+        ap (λ (y : List DistrictRecord). set y (m .waiting) d) el ∙ ap (λ k. set (padded 8 emptyDistrict (waitingIn m)) k d) (sym n) ∙ padded-set 8 emptyDistrict (waitingIn m) d (omega arith)
+        ∙ ap (λ (y : DistrictRecord). padded 8 emptyDistrict (waitingIn m ++ y ∷ [])) same in
+    record {
       refusal = sym good;
       place = λ q a. (let s : place ≡ q = cc in sym s ∙ p);
-      line = entered-line;
-      nothing-moves = λ k a. absurd (Option·some-ne-none k (sym a));
-      sound = entered-sound;
+      machine = machine-is (set line (m .waiting) d) (m .waiting + 1) (waitingIn m ++ x ∷ []) l (omega arith) ∙ sym (entry-moves m bytes budget good);
     }
+
+-- ---- the line
+
+module _ (m : Machine) (bytes : List ℕ) (budget : ℕ) where
+  abbrev x : DistrictRecord
+  x = entrant (lowestFree (lineOf m)) bytes budget
+
+  pub entry-line : lineOf (afterEntry m bytes budget) ≡ enter (lineOf m) bytes budget
+  entry-line = at (entryRefusal (lineOf m) bytes budget) refl
+    where
+      at : (o : Option ℕ) → entryRefusal (lineOf m) bytes budget ≡ o → lineOf (afterEntry m bytes budget) ≡ enter (lineOf m) bytes budget
+      at (some k) f = ap (λ (y : Machine). lineOf y) (entry-stays m bytes budget k f) ∙ sym (enter-refused (lineOf m) bytes budget k f)
+      at none f =
+          ap (λ (y : Machine). lineOf y) (entry-moves m bytes budget f)
+          ∙ line-is (waitingIn m ++ x ∷ [])
+          ∙ map-append districtOf (waitingIn m) (x ∷ [])
+          ∙ ap (λ (y : District). lineOf m ++ y ∷ []) (entrant-is (lowestFree (lineOf m)) bytes budget)
+          ∙ sym (enter-accepted (lineOf m) bytes budget f)

@@ -1,25 +1,21 @@
--- The districts of a machine, in an array. A place is taken if one of them has it; one more goes behind the last; and where the front one goes, the others move up.
-use mathlib.Core.Path.{_≡_, refl, sym, ap, _∙_, subst}
+-- The districts of a machine, in an array. A place is taken if one of them has it; and those that a machine is made of wait in it.
+use mathlib.Core.Path.{_≡_, refl, sym, ap, _∙_}
 use mathlib.Core.Logic.{_≢_}
-use mathlib.Core.Bool.{Bool, true, false, not, or-true}
+use mathlib.Core.Bool.{true, false, or-true}
 use mathlib.Core.List.{List, [], _∷_, _++_, map}
 use Prim.Native.Nat.{ℕ, zero, suc, _+_, _-_, _≤_, _<_, min}
 use native.Mathlib.Omega.{arith}
-use lib.ListN.{length, getD, take, drop, set, length-take, length-drop, length-map}
-use lib.Seq.{length-take-le, getD-take, getD-drop, take-suc-set, ext-getD}
-use lib.Dec.{T, eqb, eqb→eq}
+use lib.ListN.{length, getD, take, drop, set, replicate, length-append, length-take, length-drop, length-map}
+use lib.Seq.{length-take-le, take-append-seam}
+use lib.Dec.{eqb, eqb→eq}
 use Rattle.postman.specs.Lists.{occurs, anyOf}
 use Rattle.postman.specs.Laws.Tests.{is-true, is-false, eqb-same}
-use Rattle.plan.specs.Laws.Prefix.{Prefix}
+use Rattle.district_turn.specs.Padded.{padded}
+use Rattle.district_turn.specs.Laws.Padded.{padded-set}
 use Rattle.districts.specs.declared.machine.District.{District as DistrictRecord}
 use Rattle.districts.specs.Line.{places}
-use Rattle.districts.specs.Machine.{districtOf, districtsIn, noDistrict}
-
--- ---- a test, told by its contrary
-
-pub was-false : (b : Bool) → not b ≡ true → b ≡ false
-was-false true e = absurd (subst T (sym e) tt)
-was-false false e = refl
+use Rattle.districts.specs.declared.machine.Machine.{Machine}
+use Rattle.districts.specs.Machine.{districtOf, districtsIn, waitingIn, lineOf, emptyDistrict, machineOf, noDistrict}
 
 -- ---- places
 
@@ -52,46 +48,47 @@ room line n long few = let size = line-length line n long in omega arith
 pub array-length : {B : Type 0} (f : DistrictRecord → B) (line : List DistrictRecord) (n : ℕ) → length (map f line) ≡ n → length line ≡ n
 array-length f line n e = sym (length-map line f) ∙ e
 
--- ---- one more
-
-pub behind-last : {A : Type 0} (line : List A) (n : ℕ) (d : A) → n < length line → take (n + 1) (set line n d) ≡ take n line ++ d ∷ []
-behind-last line n d l = ap (λ k. take k (set line n d)) (let e : n + 1 ≡ suc n = omega arith in e) ∙ take-suc-set line n d l
-
--- ---- the front one goes
+-- ---- the front one
 
 pub front : {A : Type 0} (line : List A) (n : ℕ) (z : A) → 1 ≤ n → 1 ≤ length line → take n line ≡ getD line 0 z ∷ drop 1 (take n line)
 front line zero z l m = absurd (omega arith)
 front [] (suc n) z l m = absurd (omega arith)
 front (x ∷ xs) (suc n) z l m = refl
 
-pub moved : (line next : List DistrictRecord) (n : ℕ) → length line ≡ 8 → n ≤ 7 → Prefix 8 noDistrict (λ i. getD line (i + 1) noDistrict) next 7 → take n next ≡ drop 1 (take (n + 1) line)
-moved line next n long l h =
-    let long′ = h .long in
-    let a = length-take-le n next (omega arith) in
-    let b = length-drop 1 (take (n + 1) line) in
-    let c = length-take-le (n + 1) line (omega arith) in
-    ext-getD noDistrict (take n next) (drop 1 (take (n + 1) line)) (omega arith) (λ i m.
-    getD-take n next i noDistrict (omega arith)
-    ∙ h .before i (omega arith)
-    ∙ ap (λ k. getD line k noDistrict) (let e : i + 1 ≡ 1 + i = omega arith in e)
-    ∙ sym (getD-drop 1 (take (n + 1) line) i noDistrict ∙ getD-take (n + 1) line (1 + i) noDistrict (omega arith)))
+-- those behind it
+pub rest-is : {A : Type 0} (line : List A) (n : ℕ) → 1 ≤ n → take (n - 1) (drop 1 line) ≡ drop 1 (take n line)
+rest-is line zero l = absurd (omega arith)
+rest-is [] (suc n) l = nil (suc n - 1)
+  where
+    nil : {A : Type 0} (k : ℕ) → take {A = A} k [] ≡ []
+    nil zero = refl
+    nil (suc k) = refl
+rest-is (x ∷ xs) (suc n) l = ap (λ k. take k xs) (let e : suc n - 1 ≡ n = omega arith in e)
 
-pub left-line : (line next : List DistrictRecord) (w : ℕ) → 1 ≤ w → w ≤ 8 → length line ≡ 8 → Prefix 8 noDistrict (λ i. getD line (i + 1) noDistrict) next 7 → take (w - 1) next ≡ drop 1 (take w line)
-left-line line next w one most long h = moved line next (w - 1) long (omega arith) h ∙ ap (λ k. drop 1 (take k line)) (let e : w - 1 + 1 ≡ w = omega arith in e)
+-- ---- machines of just these districts
 
-pub gone-line : (line next : List DistrictRecord) (w : ℕ) (d : DistrictRecord) → 1 ≤ w → w ≤ 8 → length line ≡ 8 → Prefix 8 noDistrict (λ i. getD line (i + 1) noDistrict) next 7
-    → take w (set next (w - 1) d) ≡ drop 1 (take w line) ++ d ∷ []
-gone-line line next w d one most long h =
-    let n = h .long in
-    ap (λ k. take k (set next (w - 1) d)) (let e : w ≡ w - 1 + 1 = omega arith in e)
-    ∙ behind-last next (w - 1) d (omega arith)
-    ∙ ap (λ (x : List DistrictRecord). x ++ d ∷ []) (left-line line next w one most long h)
+pub waiting-are : (ds : List DistrictRecord) → waitingIn (machineOf ds) ≡ ds
+waiting-are ds = take-append-seam ds (replicate (8 - length ds) emptyDistrict)
 
--- ---- the bytes of a plan
+pub line-is : (ds : List DistrictRecord) → lineOf (machineOf ds) ≡ map districtOf ds
+line-is ds = ap (λ (x : List DistrictRecord). map districtOf x) (waiting-are ds)
 
-pub kept-all : (bytes r : List ℕ) (i : ℕ) → i ≡ length bytes → Prefix 1475 0 (λ j. getD bytes j 0) r i → take (length bytes) r ≡ bytes
-kept-all bytes r i e h =
-    let n = h .long in
-    let f = h .few in
-    let a = length-take-le (length bytes) r (omega arith) in
-    ext-getD 0 (take (length bytes) r) bytes a (λ j l. getD-take (length bytes) r j 0 (omega arith) ∙ h .before j (omega arith))
+-- the machine with these in its array, and so many waiting
+pub machine-is : (line : List DistrictRecord) (n : ℕ) (ds : List DistrictRecord) → line ≡ padded 8 emptyDistrict ds → n ≡ length ds → record { line = line; waiting = n } ≡ machineOf ds
+machine-is line n ds e f = λ i. record { line = e i; waiting = f i }
+
+-- one goes behind the last
+pub back-is : (m : Machine) (ds : List DistrictRecord) (x : DistrictRecord) → m ≡ machineOf ds → m .waiting < 8 → record { line = set (m .line) (m .waiting) x; waiting = m .waiting + 1 } ≡ machineOf (ds ++ x ∷ [])
+back-is m ds x e l =
+    let n : length ds < 8 = (let w = ap (λ (y : Machine). y .waiting) e in omega arith) in
+    let a = length-append ds (x ∷ []) in
+    ap {B = Machine} (λ (y : Machine). record { line = set (y .line) (y .waiting) x; waiting = y .waiting + 1 }) e
+    ∙ machine-is (set (padded 8 emptyDistrict ds) (length ds) x) (length ds + 1) (ds ++ x ∷ []) (padded-set 8 emptyDistrict ds x n) (omega arith)
+
+-- the others, once the front one is left out
+pub others-are : (m : Machine) (line : List DistrictRecord) → length (m .line) ≡ 8 → 1 ≤ m .waiting → m .waiting ≤ 8 → line ≡ padded 8 emptyDistrict (take (m .waiting - 1) (drop 1 (m .line)))
+    → record { line = line; waiting = m .waiting - 1 } ≡ machineOf (drop 1 (waitingIn m))
+others-are m line long one most e =
+    let a = length-drop 1 (waitingIn m) in
+    let b = length-take-le (m .waiting) (m .line) (omega arith) in
+    machine-is line (m .waiting - 1) (drop 1 (waitingIn m)) (e ∙ ap (padded 8 emptyDistrict) (rest-is (m .line) (m .waiting) one)) (omega arith)

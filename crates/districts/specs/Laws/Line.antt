@@ -7,8 +7,8 @@ use mathlib.Core.Option.{Option, none, some, Option·some-ne-none}
 use Prim.Native.Nat.{ℕ, zero, suc, _+_, _-_, _*_, _≤_, _<_, min}
 use native.Mathlib.Omega.{arith}
 use lib.ListN.{length, length-append}
-use lib.Dec.{T, leb, eqb, nleb→lt}
-use Rattle.postman.specs.Plan.{Plan, requiredArcs}
+use lib.Dec.{T, leb, ltb, eqb, nleb→lt, nltb→le}
+use Rattle.postman.specs.Plan.{Plan, WellFormed, requiredArcs}
 use Rattle.postman.specs.Refusal.{Conditions, firstRefusal, unless}
 use Rattle.postman.specs.PlanFile.{fileConditions, isOutside, planOf}
 use Rattle.postman.specs.Component.{componentCount}
@@ -18,7 +18,19 @@ use Rattle.postman.specs.Laws.Refusal.{accepted-cons, accepted-append}
 use Rattle.postman.specs.Laws.Acceptance.{file-accepted, inside}
 use Rattle.postman.specs.Laws.Optimality.{Plannable, some-arborescence}
 use Rattle.districts.specs.Line.{District, district, Line, entryConditions, entryRefusal, lowestFree, enter, total, goneOn, finishes, turn}
+use Rattle.districts.specs.Waits.{Waits}
 use Rattle.districts.specs.Laws.Places.{free-small, free-other}
+
+-- ---- a plan that 10, 11 and 12 do not refuse
+
+pub plan-ok : (p : Plan) → WellFormed p → firstRefusal (lastConditions p) ≡ none → Plannable p × (componentCount p ≤ 8)
+unfolding partsConditions
+plan-ok p w e =
+    let a = accepted-append (partsConditions p) ((isCutOff p, 12) ∷ []) e in
+    let ten = accepted-cons (eqb (length (requiredArcs p)) 0) 10 _ (a .0) in
+    let eleven = accepted-cons (ltb 8 (componentCount p)) 11 [] (ten .1) in
+    let some : length (requiredArcs p) ≢ 0 = eqb-other (ten .0) in
+    (record { well-formed = w; some-arc = omega arith; connected = accepted-cons (isCutOff p) 12 [] (a .1) .0 }, nltb→le 8 (componentCount p) (eleven .0))
 
 -- ---- what an accepted entry makes sure of
 
@@ -28,9 +40,6 @@ module _ (l : Line) (bytes : List ℕ) (budget : ℕ) (e : entryRefusal l bytes 
 
   abbrev full : Conditions
   full = (leb 8 (length l), 22) ∷ []
-
-  abbrev last : Conditions
-  last = (isCutOff p, 12) ∷ []
 
   pub parts : (firstRefusal (fileConditions bytes) ≡ none) × (firstRefusal ((isOutside budget 1 highestBudget, 9) ∷ (lastConditions p ++ full)) ≡ none)
   unfolding entryRefusal entryConditions
@@ -46,12 +55,7 @@ module _ (l : Line) (bytes : List ℕ) (budget : ℕ) (e : entryRefusal l bytes 
   room = nleb→lt 8 (length l) (accepted-cons (leb 8 (length l)) 22 [] (ends .1) .0)
 
   plannable : Plannable p
-  unfolding partsConditions
-  plannable =
-      let a = accepted-append (partsConditions p) last (ends .0) in
-      let ten = accepted-cons (eqb (length (requiredArcs p)) 0) 10 _ (a .0) in
-      let some : length (requiredArcs p) ≢ 0 = eqb-other (ten .0) in
-      record { well-formed = file-accepted bytes (parts .0); some-arc = omega arith; connected = accepted-cons (isCutOff p) 12 [] (a .1) .0 }
+  plannable = plan-ok p (file-accepted bytes (parts .0)) (ends .0) .0
 
   pub some-total : 0 < total (district (lowestFree l) bytes budget 0)
   unfolding total triedCount
@@ -98,13 +102,6 @@ apart-more (d ∷ l) x a h = (
 )
 
 -- ---- the order of the line
-
--- i districts are ahead of d.
-pub record Waits (l : Line) (i : ℕ) (d : District) : Type 0 where
-  pub ahead : Line
-  pub behind : Line
-  pub line : l ≡ ahead ++ d ∷ behind
-  pub number : length ahead ≡ i
 
 pub waits-short : {l : Line} {i : ℕ} {d : District} → Waits l i d → i < length l
 waits-short {l} {i} {d} w =

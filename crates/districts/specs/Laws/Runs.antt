@@ -3,7 +3,7 @@
 use mathlib.Core.Path.{_≡_, refl, sym, ap, ap₂, _∙_, subst, subst⁻¹}
 use mathlib.Core.Logic.{_⊎_, _≢_, inl, inr}
 use mathlib.Core.Bool.{Bool, true, false, not, cond, _&&_}
-use mathlib.Core.List.{List, [], _∷_, _++_, List·Memᴰ, List·Memᴰ·head, List·Memᴰ·tail}
+use mathlib.Core.List.{List, [], _∷_, _++_, List·Memᴰ, List·Memᴰ·head, List·Memᴰ·tail, List·Memᴰ·cases-cons}
 use mathlib.Core.Option.{Option, none, some}
 use Prim.Native.Nat.{ℕ, zero, suc, _+_, _-_, _*_, _≤_, _<_}
 use native.Mathlib.Omega.{arith}
@@ -11,17 +11,13 @@ use lib.ListN.{length, length-append}
 use lib.Dec.{T, T-not, leb, eqb, nleb→lt, eqb→eq, eqb-refl}
 use Rattle.postman.specs.Laws.Tests.{test, is-true, is-false}
 use Rattle.districts.specs.Line.{District, district, Line, entryRefusal, lowestFree, enter, total, goneOn, finishes, turn, isAccepted}
-use Rattle.districts.specs.Runs.{Event, entry, turned, step, runFrom, run, servesPlace, isTurn, isTurnOf, turnsIn, entersAt, isGood, Entry, entryOf, lastEntry, turnsSince}
+use Rattle.districts.specs.Runs.{Event, entry, turned, step, runFrom, run, servesPlace, isTurn, isTurnOf, turnsIn, entersAt, Entry, entryOf, lastEntry, turnsSince}
+use Rattle.district_turn.specs.Stint.{isGood}
+use Rattle.districts.specs.Waits.{Waits, NoTurnOf}
 use Rattle.districts.specs.Laws.Places.{free-small, free-other}
-use Rattle.districts.specs.Laws.Line.{room, some-total, enter-refused, enter-accepted, Apart, last-cases, apart-more, Waits, waits-short, waits-entry, waits-turn}
+use Rattle.districts.specs.Laws.Line.{room, some-total, enter-refused, enter-accepted, Apart, last-cases, apart-more, waits-entry, waits-turn}
 
 -- ---- waiting
-
--- No turn of a run is of place q.
-unfoldable pub NoTurnOf : ℕ → Line → List Event → Type 0
-unfolding isTurn servesPlace runFrom
-NoTurnOf q l [] = Unit {0}
-NoTurnOf q l (e ∷ es) = T (not (isTurnOf q (runFrom l es) e)) × NoTurnOf q l es
 
 -- the front district is served
 front-served : {d : District} (l : Line) → Waits l 0 d → T (servesPlace l (d .place))
@@ -54,6 +50,14 @@ waits-run {d} l i w (e ∷ es) never =
     let a = s .0 in
     let b = r .0 in
     (omega arith, subst (λ n. Waits (runFrom l (e ∷ es)) n d) (let q : i - turnsIn l es - x ≡ i - (x + turnsIn l es) = omega arith in q) (s .1))
+
+-- one that is in the line waits in it
+pub waits-in : (l : Line) (d : District) → List·Memᴰ d l → (i : ℕ) × Waits l i d
+waits-in [] d m = elim m [ ]
+waits-in (x ∷ l) d m = elim (List·Memᴰ·cases-cons m) [
+  | inl e ↦ (0, record { ahead = []; behind = l; line = ap (λ (y : District). y ∷ l) (sym e); number = refl })
+  | inr k ↦ (let r = waits-in l d k in (suc (r .0), record { ahead = x ∷ r .1 .ahead; behind = r .1 .behind; line = ap (λ (y : Line). x ∷ y) (r .1 .line); number = ap suc (r .1 .number) }))
+]
 
 -- ---- what is known of a line
 

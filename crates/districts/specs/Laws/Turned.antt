@@ -1,226 +1,227 @@
--- A turn. The front district is under way, so that its turn is its last one or leaves it with 1,000 trees more; the line then is the definition's, by cases on whether it finishes.
-use mathlib.Core.Path.{_≡_, refl, sym, ap, _∙_, subst, subst⁻¹}
-use mathlib.Core.Logic.{inl, inr}
-use mathlib.Core.Bool.{Bool, true, false}
-use mathlib.Core.List.{List, [], _∷_, _++_, map, List·Memᴰ, List·Memᴰ·head, List·Memᴰ·tail, List·Memᴰ·cases-cons, List·Memᴰ·append-cases}
-use mathlib.Core.Option.{none}
+-- A turn, by what it meets. Each test that the program makes decides one of the cases.
+use mathlib.Core.Path.{_≡_, refl, sym, ap, _∙_, subst}
+use mathlib.Core.Bool.{Bool, true, false, not, cond, _&&_, or-true}
+use mathlib.Core.List.{List, [], _∷_, _++_, map}
+use mathlib.Core.Option.{Option, none, some}
 use Prim.Native.Nat.{ℕ, _+_, _≤_, _<_}
 use native.Mathlib.Omega.{arith}
-use borrow.Author.Tests.{leb-true, leb-false}
-use lib.ListN.{length, getD, take}
+use borrow.Author.Tests.{le-leb, lt-leb, lt-ltb, le-ltb}
+use lib.ListN.{length, getD, drop, length-drop}
+use lib.Seq.{length-take-le}
+use lib.Dec.{leb, ltb, ltb→lt}
+use Rattle.postman.specs.Lists.{occurs}
 use Rattle.postman.specs.Plan.{Plan}
-use Rattle.postman.specs.PlanFile.{planOf}
-use Rattle.postman.specs.PlanCall.{sheetPlaces, highestBudget, triedCount, bestCost}
-use Rattle.postman.specs.Laws.Lists.{map-append}
-use Rattle.solution.specs.declared.Planned.{Planned}
+use Rattle.postman.specs.Refusal.{firstRefusal}
+use Rattle.postman.specs.PlanFile.{fileConditions, isOutside, planOf}
+use Rattle.postman.specs.PlanCall.{sheetPlaces, highestBudget, triedCount}
 use Rattle.planner.specs.Refusals.{planRefusal}
-use Rattle.solution.specs.Resumed.{IsReachedBy}
-use Rattle.solution.specs.Planned.{IsPlanned}
+use Rattle.solution.specs.declared.Planned.{Planned}
+use Rattle.solution.specs.declared.trees.Reached.{Reached}
+use Rattle.district_turn.specs.declared.stint.Stint.{Stint}
+use Rattle.district_turn.specs.Stint.{isGood, isHolding, isResumable, canGoOn, isLast, IsStint}
+use Rattle.district_turn.specs.Laws.Stint.{and-no, and-first, and-yes}
 use Rattle.districts.specs.declared.machine.District.{District as DistrictRecord}
 use Rattle.districts.specs.declared.machine.Machine.{Machine}
-use Rattle.district_turn.specs.declared.stint.Stint.{Stint}
-use Rattle.districts.specs.declared.turn.Outcome.{Outcome}
-use Rattle.districts.specs.declared.turn.Outcome.the-variants.{Empty, ShortSheet}
 use Rattle.districts.specs.declared.turn.Turned.{Turned}
-use Rattle.districts.specs.Line.{District, district, Line, total, goneOn, finishes, turn}
-use Rattle.district_turn.specs.Stint.{IsStint, LeavesSheet}
-use Rattle.districts.specs.Machine.{bytesOf, districtOf, lineOf, noDistrict, IsUnderWay, IsSound, soFar, behind, heldNow, IsAfter, IsStill, IsServed, Moves, IsTurned}
-use Rattle.districts.specs.Laws.Held.{line-length, front}
-use Rattle.district_turn.specs.Laws.Clash.{clash}
+use Rattle.districts.specs.Line.{District, Line, places}
+use Rattle.districts.specs.Machine.{bytesOf, districtOf, lineOf, waitingIn, machineOf, noDistrict}
+use Rattle.districts.specs.Laws.Held.{front, waiting-are}
+use Rattle.districts.specs.Number.{HasPlace}
+use Rattle.postman.specs.Laws.Tests.{and-parts, of-true}
+use Rattle.districts.specs.Turned.{planBy, hasOwnPlace, isReadable, canBeServed, Meeting, nobody, shortSheet, stuck, goesOn, leaves, meetingIn, meeting, heldNow, reachedNow, afterTurn, outcomeOf, answerOf, sheetAfter, IsAfter, IsTurned}
 
--- ---- nothing moves
+-- from what is met to what is promised
+pub turned-as : (m : Machine) (old new : List ℕ) (r : Turned) (k : Meeting) → meeting m (length old) ≡ k → r .outcome ≡ outcomeOf k → r .planned ≡ answerOf k → r .machine ≡ afterTurn m k → new ≡ sheetAfter k old
+    → IsTurned m old new r
+turned-as m old new r k e a b c d = record {
+  outcome = a ∙ ap outcomeOf (sym e);
+  planned = b ∙ ap answerOf (sym e);
+  machine = c ∙ ap (afterTurn m) (sym e);
+  sheet = d ∙ ap (λ (k : Meeting). sheetAfter k old) (sym e);
+}
 
-module _ (m : Machine) (long : length (m .line) ≡ 8) (old : List ℕ) (r : Turned) (o : Outcome) (h : (r .outcome ≡ o) × (r .planned ≡ soFar 0 0) × (r .machine ≡ m)) where
-  is-still : (new : List ℕ) → new ≡ old → IsStill m old new r o
-  is-still new e = record { outcome = h .0; planned = h .1; machine = h .2; sheet = e }
+-- ---- what is met
 
-  same-sound : IsSound m → IsSound (r .machine)
-  same-sound s = subst⁻¹ IsSound (h .2) s
+pub none-met : (m : Machine) (sheet : ℕ) → m .waiting ≡ 0 → meeting m sheet ≡ nobody
+unfolding meetingIn
+none-met m sheet e = rw e refl
 
-  no-front : m .waiting ≡ 0 → (d : District) (l : Line) → lineOf m ≡ d ∷ l → ⊥
-  no-front n d l e =
-      let a = line-length (m .line) (m .waiting) long in
-      let b = ap length e in
-      absurd (omega arith)
+module _ (m : Machine) (f : DistrictRecord) (ds : List DistrictRecord) (ahead : waitingIn m ≡ f ∷ ds) (sheet : ℕ) where
+  met : meeting m sheet ≡ meetingIn (m .waiting) sheet (f ∷ ds)
+  met = ap (meetingIn (m .waiting) sheet) ahead
 
-  some-front : 1 ≤ m .waiting → lineOf m ≡ [] → ⊥
-  some-front n e =
-      let a = line-length (m .line) (m .waiting) long in
-      let b = ap length e in
-      absurd (omega arith)
+  pub short-met : sheet < sheetPlaces → meeting m sheet ≡ shortSheet
+  unfolding meetingIn
+  short-met l = let e : ltb sheet sheetPlaces ≡ true = lt-ltb sheet sheetPlaces l in met ∙ rw e refl
 
-  head-line : (d : DistrictRecord) (ds : List DistrictRecord) → take (m .waiting) (m .line) ≡ d ∷ ds → lineOf m ≡ districtOf d ∷ map districtOf ds
-  head-line d ds e = ap (λ (x : List DistrictRecord). map districtOf x) e
+  module _ (enough : sheetPlaces ≤ sheet) where
+    fits : ltb sheet sheetPlaces ≡ false
+    fits = le-ltb sheet sheetPlaces enough
 
-  pub empty-turned : o ≡ Empty → m .waiting ≡ 0 → IsTurned m old old r
-  empty-turned q n = record {
-    empty = λ e. subst (λ (o : Outcome). IsStill m old old r o) q (is-still old refl);
-    short = λ d l e s. absurd (no-front n d l e);
-    moves = λ d ds e g. absurd (no-front n _ _ (head-line d ds e));
-    served = λ s d l e g. absurd (no-front n d l e);
-    sound = same-sound;
-  }
+    stuck-if : (leb (m .waiting) 8 && (hasOwnPlace f ds && canBeServed f)) ≡ false → meeting m sheet ≡ stuck
+    unfolding meetingIn
+    stuck-if e = met ∙ rw (fits, e) refl
 
-  pub short-turned : o ≡ ShortSheet → 1 ≤ m .waiting → length old < sheetPlaces → IsTurned m old old r
-  short-turned q n s = record {
-    empty = λ e. absurd (some-front n e);
-    short = λ d l e g. subst (λ (o : Outcome). IsStill m old old r o) q (is-still old refl);
-    moves = λ d ds e g. absurd (omega arith);
-    served = λ h d l e g. absurd (omega arith);
-    sound = same-sound;
-  }
+    pub crowd-met : 8 < m .waiting → meeting m sheet ≡ stuck
+    crowd-met l = stuck-if (and-first (leb (m .waiting) 8) _ (lt-leb (m .waiting) 8 l))
 
-  -- never so in a machine that entries and turns lead to
-  pub stuck-turned : o ≡ Empty → (new : List ℕ) → new ≡ old → 1 ≤ m .waiting → sheetPlaces ≤ length old → (IsSound m → ⊥) → IsTurned m old new r
-  stuck-turned q new same n s never = record {
-    empty = λ e. absurd (some-front n e);
-    short = λ d l e g. absurd (omega arith);
-    moves = λ d ds e g. inl (subst (λ (o : Outcome). IsStill m old new r o) q (is-still new same));
-    served = λ h. absurd (never h);
-    sound = λ h. absurd (never h);
-  }
+    pub other-met : hasOwnPlace f ds ≡ false → meeting m sheet ≡ stuck
+    other-met e = stuck-if (and-no (leb (m .waiting) 8) _ (and-first (hasOwnPlace f ds) (canBeServed f) e))
 
--- ---- the front district
+    pub unserved-met : canBeServed f ≡ false → meeting m sheet ≡ stuck
+    unserved-met e = stuck-if (and-no (leb (m .waiting) 8) _ (and-no (hasOwnPlace f ds) (canBeServed f) e))
 
--- its turn, over the plan that was read
-pub stint-of : (p : Plan) (d : DistrictRecord) (old new : List ℕ) (r : Stint) → p ≡ planOf (bytesOf d)
-    → (planRefusal p ≡ none → d .held .tried < triedCount p (d .budget) → IsReachedBy p (d .held) → IsStint p (d .budget) (d .held) old new r)
-    → IsUnderWay d → IsStint (planOf (bytesOf d)) (d .budget) (d .held) old new r
-unfolding total
-stint-of p d old new r e t u =
-    subst (λ (p : Plan). planRefusal p ≡ none → d .held .tried < triedCount p (d .budget) → IsReachedBy p (d .held) → IsStint p (d .budget) (d .held) old new r) e t (u .plan) (u .unfinished) (u .reached)
+    module _ (few : m .waiting ≤ 8) (own : hasOwnPlace f ds ≡ true) (can : canBeServed f ≡ true) where
+      good : (leb (m .waiting) 8 && (hasOwnPlace f ds && canBeServed f)) ≡ true
+      good = and-yes (leb (m .waiting) 8) _ (le-leb (m .waiting) 8 few) (and-yes (hasOwnPlace f ds) (canBeServed f) own can)
 
-pub sheet-of : (p q : Plan) (old new : List ℕ) (r : Stint) → p ≡ q → LeavesSheet p old new r → LeavesSheet q old new r
-sheet-of p q old new r e h = subst (λ (p : Plan). LeavesSheet p old new r) e h
+      pub last-met : isLast (planBy f) (f .budget) (f .held) ≡ true → meeting m sheet ≡ leaves f ds
+      unfolding meetingIn
+      last-met e = met ∙ rw (fits, good, e) refl
 
--- at most a million trees were tried
-pub tried-small : (d : DistrictRecord) → IsUnderWay d → d .held .tried ≤ 1000000
-unfolding total triedCount highestBudget
-tried-small d u = let a = u .unfinished in let b = u .most-budget in omega arith
+      pub going-met : isLast (planBy f) (f .budget) (f .held) ≡ false → meeting m sheet ≡ goesOn f ds
+      unfolding meetingIn
+      going-met e = met ∙ rw (fits, good, e) refl
 
-module _ (m : Machine) (long : length (m .line) ≡ 8) (some : 1 ≤ m .waiting) where
-  abbrev pub frontOf : DistrictRecord
-  frontOf = getD (m .line) 0 noDistrict
+-- ---- the front district's turn
 
-  ahead : take (m .waiting) (m .line) ≡ frontOf ∷ behind m
-  ahead = front (m .line) (m .waiting) noDistrict some (omega arith)
+and-of : (b c : Bool) → b ≡ true → (b && c) ≡ c
+and-of b c e = ap (λ (x : Bool). x && c) e
 
-  line-front : lineOf m ≡ districtOf frontOf ∷ map districtOf (behind m)
-  line-front = ap (λ (x : List DistrictRecord). map districtOf x) ahead
-
-  pub front-under-way : IsSound m → IsUnderWay frontOf
-  front-under-way h = h .each frontOf (subst⁻¹ (λ (y : List DistrictRecord). List·Memᴰ frontOf y) ahead (List·Memᴰ·head refl))
-
-  behind-under-way : IsSound m → (d : DistrictRecord) → List·Memᴰ d (behind m) → IsUnderWay d
-  behind-under-way h d x = h .each d (subst⁻¹ (λ (y : List DistrictRecord). List·Memᴰ d y) ahead (List·Memᴰ·tail x))
-
-  module _ (old new : List ℕ) (s : Stint) (r : Turned) (st : IsStint (planOf (bytesOf frontOf)) (frontOf .budget) (frontOf .held) old new s) (af : IsAfter m frontOf s r) (h : IsSound m) where
-    abbrev d : District
-    d = districtOf frontOf
-
-    abbrev Promise : Type 0
-    Promise = IsServed d old new r × (lineOf (r .machine) ≡ turn (lineOf m)) × IsSound (r .machine)
-
-    turn-last : finishes d ≡ true → turn (lineOf m) ≡ map districtOf (behind m)
-    unfolding turn
-    turn-last f = ap turn line-front ∙ rw f
-
-    turn-going : finishes d ≡ false → turn (lineOf m) ≡ map districtOf (behind m) ++ goneOn d ∷ []
-    unfolding turn
-    turn-going f = ap turn line-front ∙ rw f
-
-    ends : finishes d ≡ true → total d ≤ d .tried + 1000
-    unfolding finishes
-    ends f = leb-true (total d) (d .tried + 1000) f
-
-    goes : finishes d ≡ false → d .tried + 1000 < total d
-    unfolding finishes
-    goes f = leb-false (total d) (d .tried + 1000) f
-
-    at-last : finishes d ≡ true → Promise
-    unfolding total
-    at-last f =
-        let x = st .last (ends f) in
-        let a = af .last (x .done) in (
-          record {
-            going = λ g. absurd (clash (finishes d) f g);
-            last = λ g. (a .0, subst⁻¹ (λ (p : Planned). IsPlanned (planOf (bytesOf frontOf)) (frontOf .budget) none old new p) (a .1) (x .planned));
-          },
-          ap (λ (y : List DistrictRecord). map districtOf y) (a .2 .line) ∙ sym (turn-last f),
-          record { few = a .2 .few; each = λ e y. behind-under-way h e (subst (λ (z : List DistrictRecord). List·Memᴰ e z) (a .2 .line) y) },
-        )
-
-    at-going : finishes d ≡ false → Promise
-    unfolding total
-    at-going f =
-        let u = front-under-way h in
-        let more = goes f in
-        let x = st .going more in
-        let a = af .going (x .done) in
-        let n = x .tried in
-        let c : s .held .cost ≡ bestCost (planOf (bytesOf frontOf)) (frontOf .held .tried + 1000) = x .reached .cost-is (omega arith) ∙ ap (bestCost (planOf (bytesOf frontOf))) n in
-        let back : IsUnderWay (heldNow frontOf (s .held)) = record {
-          fits = u .fits;
-          file = u .file;
-          some-budget = u .some-budget;
-          most-budget = u .most-budget;
-          plan = u .plan;
-          unfinished = subst⁻¹ (λ k. k < total d) n more;
-          reached = x .reached;
-        } in (
-          record {
-            going = λ g. (a .0, a .1 ∙ (λ i. soFar (c i) (n i)), x .sheet);
-            last = λ g. absurd (clash (finishes d) g f);
-          },
-          ap (λ (y : List DistrictRecord). map districtOf y) (a .2 .line)
-              ∙ map-append districtOf (behind m) (heldNow frontOf (s .held) ∷ [])
-              ∙ ap (λ k. map districtOf (behind m) ++ district (d .place) (d .bytes) (d .budget) k ∷ []) n
-              ∙ sym (turn-going f),
-          record {
-            few = a .2 .few;
-            each = λ e y. elim (List·Memᴰ·append-cases (behind m) (subst (λ (z : List DistrictRecord). List·Memᴰ e z) (a .2 .line) y)) [
-              | inl b ↦ behind-under-way h e b
-              | inr b ↦ elim (List·Memᴰ·cases-cons b) [
-                | inl q ↦ subst⁻¹ IsUnderWay q back
-                | inr o ↦ elim o [ ]
-              ]
-            ];
-          },
-        )
-
-    promise : Promise
-    promise = at (finishes d) refl
-      where
-        at : (b : Bool) → finishes d ≡ b → Promise
-        at true f = at-last f
-        at false f = at-going f
-
-  front-moves : (old new : List ℕ) (s : Stint) (r : Turned) → LeavesSheet (planOf (bytesOf frontOf)) old new s → IsAfter m frontOf s r → Moves m frontOf old new r
-  front-moves old new s r sheet af = at (s .done) refl
+module _ (m : Machine) (f : DistrictRecord) (ds : List DistrictRecord) (ahead : waitingIn m ≡ f ∷ ds) (few : m .waiting ≤ 8) (old new : List ℕ) (enough : sheetPlaces ≤ length old) where
+  pub served-turned : (s : Stint) (others : Machine) (r : Turned) → hasOwnPlace f ds ≡ true → IsStint (planBy f) (f .budget) (f .held) (canBeServed f) old new s → s .good ≡ true
+      → others ≡ machineOf ds → IsAfter others f s r → IsTurned m old new r
+  served-turned s others r own st g e a = at (s .done) refl
     where
-      at : (b : Bool) → s .done ≡ b → Moves m frontOf old new r
-      at true e = (let a = af .last e in inr (inr (record { outcome = a .0; machine = a .2; sheet = sheet .last e })))
-      at false e = (let a = af .going e in inr (inl (record { held = s .held; outcome = a .0; planned = a .1; machine = a .2; sheet = sheet .going e })))
+      can : canBeServed f ≡ true
+      can = sym (st .good) ∙ g
 
-  -- ITS TURN
-  pub served-turned : (old new : List ℕ) (s : Stint) (r : Turned) → sheetPlaces ≤ length old → (IsUnderWay frontOf → IsStint (planOf (bytesOf frontOf)) (frontOf .budget) (frontOf .held) old new s)
-      → LeavesSheet (planOf (bytesOf frontOf)) old new s → IsAfter m frontOf s r → IsTurned m old new r
-  served-turned old new s r enough st sheet af = record {
-    empty = λ e. (let b = ap length (sym line-front ∙ e) in absurd (omega arith));
-    short = λ d l e g. absurd (omega arith);
-    moves = λ d ds e g. (let q : d ≡ frontOf = ap (λ (x : List DistrictRecord). getD x 0 d) (sym e ∙ ahead) in subst⁻¹ (λ (x : DistrictRecord). Moves m x old new r) q (front-moves old new s r sheet af));
-    served = λ h d l e g.
-        (let p = promise old new s r (st (front-under-way h)) af h in
-        let q : d ≡ districtOf frontOf = ap (λ (x : Line). getD x 0 d) (sym e ∙ line-front) in
-        (subst⁻¹ (λ (x : District). IsServed x old new r) q (p .0), p .1));
-    sound = λ h. promise old new s r (st (front-under-way h)) af h .2;
-  }
+      whether : s .done ≡ isLast (planBy f) (f .budget) (f .held)
+      whether = st .done ∙ and-of (canBeServed f) (isLast (planBy f) (f .budget) (f .held)) can
 
-  -- and it is good
-  pub always-good : (old new : List ℕ) (s : Stint) → IsStint (planOf (bytesOf frontOf)) (frontOf .budget) (frontOf .held) old new s → s .good ≡ true
-  unfolding finishes total
-  always-good old new s st = at (finishes (districtOf frontOf)) refl
-    where
-      at : (b : Bool) → finishes (districtOf frontOf) ≡ b → s .good ≡ true
-      at true f = st .last (leb-true (total (districtOf frontOf)) (frontOf .held .tried + 1000) f) .good
-      at false f = st .going (leb-false (total (districtOf frontOf)) (frontOf .held .tried + 1000) f) .good
+      at : (b : Bool) → s .done ≡ b → IsTurned m old new r
+      at true d =
+          turned-as m old new r (leaves f ds) (last-met m f ds ahead (length old) enough few own can (sym whether ∙ d))
+          (a .last d .0) (a .planned ∙ st .last d) (a .last d .1 ∙ e) (st .sheet d)
+      at false d =
+          turned-as m old new r (goesOn f ds) (going-met m f ds ahead (length old) enough few own can (sym whether ∙ d))
+          (a .going d .0) (a .planned ∙ st .going g d) (a .going d .1 ds e ∙ ap (λ (x : Reached). machineOf (ds ++ heldNow f x ∷ [])) (st .held g d)) (st .unwritten d)
+
+-- ---- its place
+
+pub no-place : (d : DistrictRecord) (ds : List DistrictRecord) → 8 ≤ d .place → hasOwnPlace d ds ≡ false
+unfolding hasOwnPlace
+no-place d ds l = and-first (ltb (d .place) 8) (not (occurs (d .place) (places (map districtOf ds)))) (le-ltb (d .place) 8 l)
+
+pub own-is : (d : DistrictRecord) (ds : List DistrictRecord) (q : ℕ) (b : Bool) → d .place ≡ q → q < 8 → b ≡ occurs q (places (map districtOf ds)) → not b ≡ hasOwnPlace d ds
+unfolding hasOwnPlace
+own-is d ds q b e l h =
+    ap not (h ∙ ap (λ (x : ℕ). occurs x (places (map districtOf ds))) (sym e))
+    ∙ sym (and-of (ltb (d .place) 8) (not (occurs (d .place) (places (map districtOf ds)))) (lt-ltb (d .place) 8 (omega arith)))
+
+-- ---- whether it can be served
+
+module _ (d : DistrictRecord) where
+  abbrev outside : Bool
+  outside = isOutside (d .budget) 1 highestBudget
+
+  abbrev read : Bool
+  read = isGood (firstRefusal (fileConditions (bytesOf d)))
+
+  not-readable : isReadable d ≡ false → canBeServed d ≡ false
+  not-readable e = and-first (isReadable d) (canGoOn (planBy d) (d .budget) (d .held)) e
+
+  pub too-long : 1475 < d .length → canBeServed d ≡ false
+  unfolding isReadable
+  too-long l = not-readable (and-first (leb (d .length) 1475) (not outside && read) (lt-leb (d .length) 1475 l))
+
+  pub too-dear : 1000000 < d .budget → canBeServed d ≡ false
+  unfolding isReadable isOutside highestBudget
+  too-dear l =
+      let t : ltb 1000000 (d .budget) ≡ true = lt-ltb 1000000 (d .budget) l in
+      let o : outside ≡ true = rw (t, or-true (ltb (d .budget) 1)) refl in
+      not-readable (and-no (leb (d .length) 1475) (not outside && read) (and-first (not outside) read (ap not o)))
+
+  pub all-tried : d .budget ≤ d .held .tried → canBeServed d ≡ false
+  unfolding triedCount
+  all-tried l =
+      and-no (isReadable d) (canGoOn (planBy d) (d .budget) (d .held))
+      (and-no (isGood (planRefusal (planBy d))) (isResumable (planBy d) (d .budget) (d .held))
+      (and-no (isHolding (planBy d) (d .held)) (ltb (d .held .tried) (triedCount (planBy d) (d .budget))) (le-ltb (d .held .tried) (triedCount (planBy d) (d .budget)) (omega arith))))
+
+  pub unread : (k : ℕ) → firstRefusal (fileConditions (bytesOf d)) ≡ some k → canBeServed d ≡ false
+  unfolding isReadable isGood
+  unread k e = not-readable (and-no (leb (d .length) 1475) (not outside && read) (and-no (not outside) read (ap isGood e)))
+
+  pub readable : d .length ≤ 1475 → 1 ≤ d .budget → d .budget ≤ 1000000 → firstRefusal (fileConditions (bytesOf d)) ≡ none → isReadable d ≡ true
+  unfolding isReadable isGood isOutside highestBudget
+  readable n o b e =
+      let x : ltb (d .budget) 1 ≡ false = le-ltb (d .budget) 1 o in
+      let y : ltb 1000000 (d .budget) ≡ false = le-ltb 1000000 (d .budget) b in
+      let z : not outside ≡ true = rw (x, y) refl in
+      and-yes (leb (d .length) 1475) (not outside && read) (le-leb (d .length) 1475 n) (and-yes (not outside) read z (ap isGood e))
+
+  -- its plan is read
+  pub stint-read : (p : Plan) (old new : List ℕ) (r : Stint) → p ≡ planBy d → isReadable d ≡ true → IsStint p (d .budget) (d .held) (canGoOn p (d .budget) (d .held)) old new r
+      → IsStint (planBy d) (d .budget) (d .held) (canBeServed d) old new r
+  stint-read p old new r e i h =
+      subst (λ (c : Bool). IsStint (planBy d) (d .budget) (d .held) c old new r) (sym (and-of (isReadable d) (canGoOn (planBy d) (d .budget) (d .held)) i))
+      (subst (λ (p : Plan). IsStint p (d .budget) (d .held) (canGoOn p (d .budget) (d .held)) old new r) e h)
+
+-- ---- the machine's front, and the others
+
+pub ahead-is : (m : Machine) → length (m .line) ≡ 8 → 1 ≤ m .waiting → waitingIn m ≡ getD (m .line) 0 noDistrict ∷ drop 1 (waitingIn m)
+ahead-is m long one = front (m .line) (m .waiting) noDistrict one (omega arith)
+
+pub others-few : (m others : Machine) → length (m .line) ≡ 8 → 1 ≤ m .waiting → m .waiting ≤ 8 → others ≡ machineOf (drop 1 (waitingIn m)) → others .waiting < 8
+others-few m others long one most e =
+    let a = ap (λ (x : Machine). x .waiting) e in
+    let b = length-drop 1 (waitingIn m) in
+    let c = length-take-le (m .waiting) (m .line) (omega arith) in
+    omega arith
+
+pub own-as : (d : DistrictRecord) (others : Machine) (ds : List DistrictRecord) → others ≡ machineOf ds → hasOwnPlace d (waitingIn others) ≡ hasOwnPlace d ds
+own-as d others ds e = ap (λ (x : Machine). hasOwnPlace d (waitingIn x)) e ∙ ap (hasOwnPlace d) (waiting-are ds)
+
+-- a turn that could not be taken
+pub not-taken : {p : Plan} {budget : ℕ} {g : Reached} {can : Bool} {old new : List ℕ} {s : Stint} → IsStint p budget g can old new s → s .good ≡ false → (can ≡ false) × (new ≡ old)
+not-taken {p} {budget} {g} {can} st b = let c = sym (st .good) ∙ b in (c, st .unwritten (st .done ∙ and-first can (isLast p budget g) c))
+
+-- ---- the places that a turn answers
+
+in-meeting : (waiting sheet : ℕ) (ws : List DistrictRecord) → HasPlace (outcomeOf (meetingIn waiting sheet ws))
+unfolding meetingIn hasOwnPlace
+in-meeting waiting sheet [] = tt
+in-meeting waiting sheet (d ∷ ds) = at (ltb sheet sheetPlaces) (leb waiting 8 && (hasOwnPlace d ds && canBeServed d)) (isLast (planBy d) (d .budget) (d .held)) refl
+  where
+    small : (leb waiting 8 && (hasOwnPlace d ds && canBeServed d)) ≡ true → d .place < 8
+    small e =
+        let a = and-parts (leb waiting 8) (hasOwnPlace d ds && canBeServed d) (of-true e) in
+        let b = and-parts (hasOwnPlace d ds) (canBeServed d) (a .1) in
+        ltb→lt (d .place) 8 (and-parts (ltb (d .place) 8) (not (occurs (d .place) (places (map districtOf ds)))) (b .0) .0)
+
+    at : (x y z : Bool) → (leb waiting 8 && (hasOwnPlace d ds && canBeServed d)) ≡ y → HasPlace (outcomeOf (cond x shortSheet (cond y (cond z (leaves d ds) (goesOn d ds)) stuck)))
+    at true y z e = tt
+    at false true true e = small e
+    at false true false e = small e
+    at false false z e = tt
+
+pub placed : (m : Machine) (sheet : ℕ) → HasPlace (outcomeOf (meeting m sheet))
+placed m sheet = in-meeting (m .waiting) sheet (waitingIn m)
+
+-- ---- by the line
+
+pub empty-met : (m : Machine) (sheet : ℕ) → lineOf m ≡ [] → meeting m sheet ≡ nobody
+unfolding meetingIn
+empty-met m sheet e = at (waitingIn m) e
+  where
+    at : (ws : List DistrictRecord) → map districtOf ws ≡ [] → meetingIn (m .waiting) sheet ws ≡ nobody
+    at [] q = refl
+    at (f ∷ ds) q = (let n = ap length q in absurd (omega arith))
+
+pub line-short-met : (m : Machine) (sheet : ℕ) (d : District) (l : Line) → lineOf m ≡ d ∷ l → sheet < sheetPlaces → meeting m sheet ≡ shortSheet
+line-short-met m sheet d l e s = at (waitingIn m) refl e
+  where
+    at : (ws : List DistrictRecord) → waitingIn m ≡ ws → map districtOf ws ≡ d ∷ l → meeting m sheet ≡ shortSheet
+    at [] w q = (let n = ap length q in absurd (omega arith))
+    at (f ∷ ds) w q = short-met m f ds w sheet s

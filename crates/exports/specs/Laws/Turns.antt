@@ -8,7 +8,8 @@ use lib.ListN.{length}
 use Rattle.districts.specs.declared.machine.Machine.{Machine}
 use Rattle.districts.specs.declared.enter.Entered.{Entered}
 use Rattle.districts.specs.declared.turn.Turned.{Turned}
-use Rattle.districts.specs.Machine.{IsEntered, IsTurned}
+use Rattle.districts.specs.Entered.{IsEntered}
+use Rattle.districts.specs.Turned.{IsTurned}
 use Rattle.machine_bytes.specs.MachineBytes.{districtsBytes, machineIn}
 use Rattle.exports.specs.Turns.{IsExportedEntry, IsExportedTurn}
 use Rattle.machine_bytes.specs.MachineStored.{IsEntryStored, IsTurnHandedOver}

@@ -17,11 +17,11 @@ use Rattle.districts.specs.declared.enter.Admission.the-variants.{At}
 use Rattle.districts.specs.declared.enter.Entered.{Entered}
 use Rattle.districts.specs.declared.turn.Outcome.{Outcome}
 use Rattle.districts.specs.declared.turn.Turned.{Turned}
-use Rattle.districts.specs.Machine.{admissionNumber}
+use Rattle.districts.specs.Number.{admitted, admissionNumber, outcomeNumber, hadTurn, hadLast}
 use Rattle.answers.specs.Number.{oneNumber}
 use Rattle.answers.specs.Answer.{wordsOf, putFirst}
 use Rattle.machine_bytes.specs.MachineBytes.{districtsBytes, machineBytes, IsSized}
-use Rattle.machine_bytes.specs.MachineStored.{admitted, IsEntryStored, outcomeNumber, hadTurn, hadLast, IsTurnHandedOver}
+use Rattle.machine_bytes.specs.MachineStored.{IsEntryStored, IsTurnHandedOver}
 
 module _ (r : Entered) (bytes : List ℕ) where
   abbrev stored : List ℕ
@@ -53,19 +53,19 @@ module _ (r : Turned) (bytes words : List ℕ) (u : List ℤ) where
   abbrev moved : List ℕ
   moved = machineBytes (r .machine) ++ drop districtsBytes bytes
 
-  pub no-turn : (o : Outcome) (n : ℤ) → r .outcome ≡ o → hadTurn o ≡ false → hadLast o ≡ false → n ≡ outcomeNumber o → IsTurnHandedOver r bytes bytes words words u u n
+  pub no-turn : (o : Outcome) (n : ℤ) → r .outcome ≡ o → hadTurn o ≡ false → hadLast o ≡ false → n ≡ oneNumber (outcomeNumber o) → IsTurnHandedOver r bytes bytes words words u u n
   no-turn o n a t l e =
       let f : hadTurn (r .outcome) ≡ false = ap hadTurn a ∙ t in
       let g : hadLast (r .outcome) ≡ false = ap hadLast a ∙ l in
       record {
-        number-is = e ∙ ap outcomeNumber (sym a);
+        number-is = e ∙ ap (λ (x : Outcome). oneNumber (outcomeNumber x)) (sym a);
         machine-is = ap (λ (b : Bool). cond b moved bytes) (sym f);
         sized = λ h. absurd (subst T (sym h ∙ f) tt);
         words-are = ap (λ (b : Bool). cond b (putFirst (wordsOf (r .planned)) words) words) (sym f);
         multipliers-are = ap (λ (b : Bool). cond b (putFirst (r .planned .multipliers) u) u) (sym g);
       }
 
-  module _ (o : Outcome) (n : ℤ) (a : r .outcome ≡ o) (e : n ≡ outcomeNumber o) (t : hadTurn o ≡ true) (bytes′ words′ w : List ℕ) (z : IsSized (r .machine)) (b : bytes′ ≡ moved) (f : w ≡ wordsOf (r .planned))
+  module _ (o : Outcome) (n : ℤ) (a : r .outcome ≡ o) (e : n ≡ oneNumber (outcomeNumber o)) (t : hadTurn o ≡ true) (bytes′ words′ w : List ℕ) (z : IsSized (r .machine)) (b : bytes′ ≡ moved) (f : w ≡ wordsOf (r .planned))
       (g : words′ ≡ putFirst w words) where
     had : hadTurn (r .outcome) ≡ true
     had = ap hadTurn a ∙ t
@@ -78,7 +78,7 @@ module _ (r : Turned) (bytes words : List ℕ) (u : List ℤ) where
 
     pub one-turn : hadLast o ≡ false → IsTurnHandedOver r bytes bytes′ words words′ u u n
     one-turn l = record {
-      number-is = e ∙ ap outcomeNumber (sym a);
+      number-is = e ∙ ap (λ (x : Outcome). oneNumber (outcomeNumber x)) (sym a);
       machine-is = machine-put;
       sized = λ h. z;
       words-are = words-put;
@@ -87,7 +87,7 @@ module _ (r : Turned) (bytes words : List ℕ) (u : List ℤ) where
 
     pub last-turn : hadLast o ≡ true → (u′ : List ℤ) → u′ ≡ putFirst (r .planned .multipliers) u → IsTurnHandedOver r bytes bytes′ words words′ u u′ n
     last-turn l u′ h = record {
-      number-is = e ∙ ap outcomeNumber (sym a);
+      number-is = e ∙ ap (λ (x : Outcome). oneNumber (outcomeNumber x)) (sym a);
       machine-is = machine-put;
       sized = λ h. z;
       words-are = words-put;

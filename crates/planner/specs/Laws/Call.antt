@@ -37,7 +37,8 @@ use Rattle.multipliers.specs.Prepared.{IsMeasured, IsKnown}
 use Rattle.planner.specs.Contract.{IsPlanCall}
 use Rattle.solution.specs.Planned.{IsPlanned}
 use Rattle.planner.specs.Laws.Idle.{idle}
-use Rattle.planner.specs.Laws.Refused.{refusedWith, is-refused}
+use Rattle.planner.specs.Refused.{refusedWith}
+use Rattle.planner.specs.Laws.Refused.{is-refused}
 
 -- ---- 10, 11 and 12
 

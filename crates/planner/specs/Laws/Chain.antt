@@ -21,7 +21,7 @@ use Rattle.budget.specs.Checks.{checkedOf}
 use Rattle.solution.specs.declared.Planned.{Planned}
 use Rattle.solution.specs.Planned.{IsPlanned}
 use Rattle.planner.specs.Refusals.{planRefusal}
-use Rattle.planner.specs.Laws.Refused.{refusedWith}
+use Rattle.planner.specs.Refused.{refusedWith}
 use Rattle.planner.specs.Laws.Call.{parts-refusal, refused-planned, planned-as}
 
 -- ---- one step of the chain

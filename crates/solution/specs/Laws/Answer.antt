@@ -1,5 +1,5 @@
 -- The answer put together: its fields are those of the definition, its drive is the written one, and the guarantee is the theorem of the floor.
-use mathlib.Core.Path.{_≡_, sym, ap, _∙_, subst, subst⁻¹}
+use mathlib.Core.Path.{_≡_, refl, sym, ap, _∙_, subst, subst⁻¹}
 use mathlib.Core.Bool.{Bool, not, cond}
 use mathlib.Core.List.{List, [], _∷_, List·Memᴰ, Memᴰ·append-left}
 use mathlib.Core.Option.{none, some, Option·some-ne-none}
@@ -17,25 +17,29 @@ use Rattle.postman.specs.Tour.{IsWalk, tourCostDue, tourCost}
 use Rattle.postman.specs.Link.{Link}
 use Rattle.postman.specs.Component.{componentCount}
 use Rattle.postman.specs.Arborescence.{IsArborescence, arborescences}
+use Rattle.postman.specs.Balancing.{completionCost}
 use Rattle.postman.specs.LagrangianBound.{AreMultipliers, lagrangianBound}
 use Rattle.postman.specs.PlanCall.{Summary, summary, fields, triedCount, isWhole, bestCost, bestArborescence, lowerBound, sheetPlaces, IsAnswerTour}
 use Rattle.postman.specs.Laws.Tests.{cond-ind}
 use Rattle.postman.specs.Laws.Membership.{getD-mem}
 use Rattle.postman.specs.Laws.Arborescence.{arborescences-mem}
 use Rattle.postman.specs.Laws.Optimality.{Plannable, some-arborescence, guaranteed}
-use Rattle.postman.specs.Laws.Search.{best-mem}
+use Rattle.postman.specs.Laws.Search.{best-mem, best-value}
 use Rattle.residual_search.specs.Step.{arcsOf}
 use Rattle.circuit.specs.Filled.{linksOf}
 use Rattle.circuit.specs.Tour.{written}
 use Rattle.branches.specs.Links.{linksIn}
+use Rattle.search.specs.declared.tried.Searched.{Searched}
+use Rattle.search.specs.Contracts.{IsSearched}
 use Rattle.solution.specs.declared.Planned.{Planned}
 use Rattle.refusal.specs.Verdict.{verdictNumber}
 use Rattle.multipliers.specs.Tour.{driveOf, tourOf}
 use Rattle.multipliers.specs.Prepared.{IsTree}
 use Rattle.solution.specs.Planned.{summaryOf, multipliersOf, countUnless, IsPlanned}
+use Rattle.solution.specs.Concluded.{concluded, linksFound, IsConcluded}
 use Rattle.multipliers.specs.Ascent.{multipliersFor}
 use Rattle.multipliers.specs.Laws.Ascent.{answered-rooted, answered-above}
-use Rattle.multipliers.specs.Laws.Tour.{answer-tour}
+use Rattle.multipliers.specs.Laws.Tour.{tree-tour, answer-tour}
 use Rattle.multipliers.specs.Laws.Lay.{arcs-links}
 
 -- ---- the cost is small
@@ -51,26 +55,30 @@ passes-small n arcs h i j (k ∷ w) due g =
     (λ t. omega (arith, e, a .service-in, passes-small n arcs h (arcAt arcs k .head) j w (select (λ l. not (eqb k l)) due) (g .3)))
     (λ t. omega (arith, e, a .cost-in, passes-small n arcs h (arcAt arcs k .head) j w due (g .3)))
 
+-- no tree costs much
+pub tree-small : (p : Plan) → Plannable p → componentCount p ≤ 8 → (t : List Link) → IsArborescence p t → completionCost p t ≤ 1131527310
+unfolding sheetPlaces tourCost
+tree-small p ok few t tree =
+    let r = tree-tour p ok few t tree in
+    let a = passes-small (p .n) (p .arcs) (ok .well-formed .each) (r .0 .tour .start) (r .0 .tour .start) (driveOf p t) (requiredNumbers p) (r .0 .tour .closed) in
+    let b = mul-le-mul-right {m = length (driveOf p t)} {n = 17266} 65535 (r .0 .short) in
+    let c = r .1 in
+    omega arith
+
 module _ (p : Plan) (ok : Plannable p) (few : componentCount p ≤ 8) (budget : ℕ) (some : 1 ≤ budget) where
   drive : IsAnswerTour p budget (tourOf p budget)
   drive = answer-tour p ok few budget some
 
-  pub cost-small : bestCost p budget ≤ 1131527310
-  unfolding sheetPlaces tourCost
-  cost-small =
-      let t = drive in
-      let a = passes-small (p .n) (p .arcs) (ok .well-formed .each) (t .tour .start) (t .tour .start) (tourOf p budget) (requiredNumbers p) (t .tour .closed) in
-      let b = mul-le-mul-right {m = length (tourOf p budget)} {n = 17266} 65535 (t .short) in
-      let c = t .costs in
-      omega arith
-
   -- ---- the tree that was kept
 
-  best-tree : IsArborescence p (bestArborescence p budget)
+  pub best-tree : IsArborescence p (bestArborescence p budget)
   best-tree =
       arborescences-mem p
       (subst (λ (ts : List (List Link)). List·Memᴰ (bestArborescence p budget) ts) (take-append-drop (triedCount p budget) (arborescences p))
       (Memᴰ·append-left (drop (triedCount p budget) (arborescences p)) (best-mem p budget some (some-arborescence p ok))))
+
+  pub cost-small : bestCost p budget ≤ 1131527310
+  cost-small = let a = tree-small p ok few (bestArborescence p budget) best-tree in let e = best-value p budget some (some-arborescence p ok) in omega arith
 
   pub kept-links : (n : ℕ) (ts hs : List ℕ) → linksIn n ts hs ≡ bestArborescence p budget → linksOf (take n ts) (take n hs) ≡ bestArborescence p budget
   kept-links n ts hs e = sym (arcs-links (take n ts) (take n hs)) ∙ e
@@ -149,9 +157,15 @@ module _ (p : Plan) (ok : Plannable p) (few : componentCount p ≤ 8) (budget : 
   unfolding tourOf
   laid-best t e = ap (driveOf p) e
 
-  pub finished : (old new : List ℕ) (r : Planned) → verdictNumber (r .verdict) ≡ none → r .multipliers ≡ multipliersFor p → summaryOf r ≡ summary p budget (multipliersOf r)
-      → (n : ℕ) (ts hs : List ℕ) → linksIn n ts hs ≡ bestArborescence p budget → new ≡ written (driveOf p (linksOf (take n ts) (take n hs))) old
-      → r .places ≡ length (driveOf p (linksOf (take n ts) (take n hs))) → IsPlanned p budget none old new r
-  finished old new r v g s n ts hs e w m =
-      let l = laid-best (linksOf (take n ts) (take n hs)) (kept-links n ts hs e) in
-      is-planned old new r v g s (w ∙ ap (λ (t : List ℕ). written t old) l) (m ∙ ap length l)
+  -- WHERE THE TREE THAT IS HELD IS THE BEST, THE ANSWER IS THE DEFINITION'S
+  pub concluded-best : (t : List Link) (cost trees : ℕ) (whole : Bool) (old new : List ℕ) → t ≡ bestArborescence p budget → cost ≡ bestCost p budget → trees ≡ triedCount p budget → whole ≡ isWhole p budget
+      → new ≡ written (driveOf p t) old → IsPlanned p budget none old new (concluded p t cost trees whole)
+  concluded-best t cost trees whole old new et ec en ew h =
+      let x : Planned = concluded p t cost trees whole in
+      let l = laid-best t et in
+      is-planned old new x refl refl (found-summary x ec en ew refl refl) (h ∙ ap (λ (t : List ℕ). written t old) l) (ap length l)
+
+  pub concluded-planned : (s : Searched) (old new : List ℕ) (r : Planned) → IsSearched p budget s → IsConcluded p s old new r → IsPlanned p budget none old new r
+  concluded-planned s old new r f h =
+      subst⁻¹ (λ (r : Planned). IsPlanned p budget none old new r) (h .planned)
+      (concluded-best (linksFound p s) (s .cost) (s .tried) (s .whole) old new (f .links) (f .cost) (f .tried) (f .whole) (h .sheet))

@@ -25,7 +25,7 @@ use Rattle.plan_file.specs.Laws.Reading.{accepted-value}
 use Rattle.solution.specs.declared.Planned.{Planned}
 use Rattle.multipliers.specs.Tour.{tableOf}
 use Rattle.solution.specs.Planned.{IsPlanned}
-use Rattle.planner.specs.Laws.Refused.{refusedWith}
+use Rattle.planner.specs.Refused.{refusedWith}
 use Rattle.planner.specs.Laws.Call.{refused-planned, planned-as}
 use Rattle.two_cars.specs.Contract.{IsCar}
 

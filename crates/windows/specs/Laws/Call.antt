@@ -28,7 +28,7 @@ use Rattle.plan_file.specs.Reading.{IsReading}
 use Rattle.plan_file.specs.Laws.Reading.{accepted-value}
 use Rattle.solution.specs.declared.Planned.{Planned}
 use Rattle.solution.specs.Planned.{IsPlanned}
-use Rattle.planner.specs.Laws.Refused.{refusedWith}
+use Rattle.planner.specs.Refused.{refusedWith}
 use Rattle.planner.specs.Laws.Call.{refused-planned, planned-as}
 use Rattle.solution.specs.Laws.Answered.{accepted, cost-is, floor-is, tour-written}
 use Rattle.windows.specs.Contract.{IsPlanCallAt}

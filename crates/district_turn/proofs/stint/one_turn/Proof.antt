@@ -1,14 +1,38 @@
--- Where trees are left, 1,000 more are tried; where none is, what is held is what one search finds.
-use mathlib.Core.Path.{refl, _∙_}
+-- What is held is looked at first; then the search goes on, and what it gives is kept or laid out.
+use mathlib.Core.Path.{_≡_, refl, sym, ap, _∙_}
+use mathlib.Core.Bool.{true}
+use Prim.Native.Nat.{ℕ, _-_, _≤_, _<_}
 use native.Mathlib.Omega.{arith}
+use lib.ListN.{length}
 use Rattle.plan.specs.Records.{planValue}
-use Rattle.district_turn.specs.Laws.Stint.{as-it-was, reached-as, all-searched, last-is, going-is}
-use borrow.Author.Needs.{needs}
+use Rattle.multipliers.specs.Laws.Solve.{some-component}
+use Rattle.postman.specs.Component.{componentCount}
+use Rattle.solution.specs.declared.trees.Reached.{Reached}
+use Rattle.district_turn.specs.Stint.{isHolding, soFar}
+use Rattle.district_turn.specs.Laws.Clash.{was-false}
+use Rattle.district_turn.specs.Laws.Tree.{plain}
+use Rattle.district_turn.specs.Laws.Stint.{and-first, is-stuck, is-going, is-last, none-left, some-left, going-on, at-end, after-tree, after-small, held-after, answered-after, written-after}
+use borrow.Author.Needs.{needs, length-unmapped}
 use Rattle.district_turn.proofs.stint.one_turn.Statement.{statement}
 use Rattle.district_turn.proofs.stint.one_turn.Tie as tie
 
 base-state-requires : tie.Need-base-state-requires
 base-state-requires c κs = search needs
+
+is-holding-requires : tie.Need-is-holding-requires
+is-holding-requires c κs = search needs
+
+unfinished-requires : tie.Need-unfinished-requires
+unfinished-requires c κs = search needs
+
+returns : tie.Need-returns
+returns c =
+    let s = c .before .before .before .before .before .before in
+    let b = s .pre .0 .0 in
+    let p = planValue (s .args .plan) in
+    let g = s .args .g in
+    let t = c .before .before .is-holding in
+    is-stuck p (s .args .budget) g _ _ (c .unfinished .result) (and-first _ _ (sym (t .ensures) ∙ was-false (t .result) (c .before .if1 .taken))) (c .unfinished .ensures .0) (c .unfinished .ensures .1)
 
 multipliers-of-requires : tie.Need-multipliers-of-requires
 multipliers-of-requires c κs = search needs
@@ -19,67 +43,118 @@ multipliers-for-requires c κs = search needs
 resume-requires : tie.Need-resume-requires
 resume-requires c κs = search needs
 
-so-far-requires : tie.Need-so-far-requires
-so-far-requires c κs = search needs
+unfinished-requires-2 : tie.Need-unfinished-requires-2
+unfinished-requires-2 c κs = search needs
 
-returns : tie.Need-returns
-returns c =
-    let x = c .before .before .before .before .before in
-    let s = x .before .before .before .before .before .before in
+returns-2 : tie.Need-returns-2
+returns-2 c =
+    let s = c .before .before .before .before .before .before .before .before .before .before .before .before in
     let b = s .pre .0 .0 in
     let p = planValue (s .args .plan) in
-    let r = x .resume .result in
-    let h = x .resume .ensures in
-    let e = c .so-far .ensures in
-    let t = c .before .before .before .if1 .taken in (
-      λ l g.
-          (let k = going-is p (b .plannable) (b .few) (s .args .budget) (s .args .g) r h l t in
-          record {
-            last = λ f. (let a = k .0 in absurd (omega arith));
-            going = λ m. record {
-              good = e .0;
-              done = e .1;
-              tried = e .5 ∙ k .1;
-              reached = reached-as p _ (r .tried) _ (r .cost) _ (r .tails) _ (r .heads) (e .5) (e .2) (e .3) (e .4) (h .reached l g);
-              sheet = refl;
-            };
-          }),
-      as-it-was _ _ _ (e .1),
-    )
+    let g = s .args .g in
+    let x = c .before .before .before .before .resume in
+    let r = x .result in
+    let h = x .ensures in
+    is-stuck p (s .args .budget) g _ _ (c .unfinished2 .result) (none-left p (b .plannable) (b .few) (s .args .budget) (s .pre .1 .1) g r h (c .before .if2 .taken)) (c .unfinished2 .ensures .0) (c .unfinished2 .ensures .1)
+
+cast-k : tie.Need-cast-k
+cast-k c = search needs
+
+sub-kept : tie.Need-sub-kept
+sub-kept c =
+    let s = c .before .before .before .before .before .before .before .before .before .before .before .before .before .before in
+    let b = s .pre .0 .0 in
+    let a = s .pre .1 .0 .components .all in
+    let o = some-component _ (b .plannable) (b .few) in
+    let f = b .few in
+    omega arith
+
+kept-requires : tie.Need-kept-requires
+kept-requires c κs =
+    let s = c .before .before .before .before .before .before .before .before .before .before .before .before .before .before in
+    let b = s .pre .0 .0 in
+    let a = s .pre .1 .0 .components .all in
+    let o = some-component _ (b .plannable) (b .few) in
+    let f = b .few in
+    omega arith
+
+unfinished-requires-3 : tie.Need-unfinished-requires-3
+unfinished-requires-3 c κs = search needs
+
+returns-3 : tie.Need-returns-3
+returns-3 c =
+    let s = c .before .before .before .before .before .before .before .before .before .before .before .before .before .before .before .before in
+    let b = s .pre .0 .0 in
+    let p = planValue (s .args .plan) in
+    let g = s .args .g in
+    let i : isHolding p g ≡ true = sym (c .before .before .before .before .before .before .before .before .before .before .before .before .is-holding .ensures) ∙ plain (c .before .before .before .before .before .before .before .before .before .before .before .before .is-holding .result) (c .before .before .before .before .before .before .before .before .before .before .before .if1 .left) in
+    let x = c .before .before .before .before .before .before .before .before .resume in
+    let r = x .result in
+    let h = x .ensures in
+    let some : g .tried < r .total = (let l = c .before .before .before .before .before .if2 .left in omega arith) in
+    let lt : length (r .tails) ≡ 8 = length-unmapped ℕ (r .tails) 8 (x .ok .1 .1 .1 .0 .1 .0 .1) in
+    let lh : length (r .heads) ≡ 8 = length-unmapped ℕ (r .heads) 8 (x .ok .1 .1 .1 .1 .0 .1 .0 .1) in
+    let e = c .unfinished3 .ensures in
+    let n : s .args .net .components - 1 ≡ componentCount p - 1 = ap (λ k. k - 1) (s .pre .1 .0 .components .all) in
+    is-going p (s .args .budget) g _ _ (c .unfinished3 .result) (some-left p (b .plannable) (b .few) (s .args .budget) (s .pre .1 .1) g r h i some)
+    (going-on p (b .plannable) (b .few) (s .args .budget) (s .pre .1 .1) g r h some (c .before .before .before .if3 .taken)) (e .0) (e .1)
+    (e .2 ∙ held-after p (b .plannable) (b .few) (s .args .budget) (s .pre .1 .1) g r h lt lh (s .args .net .components - 1) n (c .before .kept .result) (c .before .kept .ensures))
+    (e .3 ∙ sym (ap (λ (y : Reached). soFar (y .cost) (y .tried)) (e .2)))
 
 last-requires : tie.Need-last-requires
-last-requires c κs = search needs
+last-requires c κs =
+    let s = c .before .before .before .before .before .before .before .before .before .before .before .before .before .before in
+    let b = s .pre .0 .0 in
+    let p = planValue (s .args .plan) in
+    let g = s .args .g in
+    let i : isHolding p g ≡ true = sym (c .before .before .before .before .before .before .before .before .before .before .is-holding .ensures) ∙ plain (c .before .before .before .before .before .before .before .before .before .before .is-holding .result) (c .before .before .before .before .before .before .before .before .before .if1 .left) in
+    let x = c .before .before .before .before .before .before .resume in
+    let r = x .result in
+    let h = x .ensures in
+    let some : g .tried < r .total = (let l = c .before .before .before .if2 .left in omega arith) in
+    let lt : length (r .tails) ≡ 8 = length-unmapped ℕ (r .tails) 8 (x .ok .1 .1 .1 .0 .1 .0 .1) in
+    let lh : length (r .heads) ≡ 8 = length-unmapped ℕ (r .heads) 8 (x .ok .1 .1 .1 .1 .0 .1 .0 .1) in
+    let t = after-tree p (b .plannable) (b .few) (s .args .budget) (s .pre .1 .1) g r h lt lh i some in
+    let l = after-small p (b .plannable) (b .few) (s .args .budget) (s .pre .1 .1) g r h lt lh i some in
+    ((record { known = b; base-is = c .before .before .before .before .before .before .before .before .before .before .before .base-state .ensures }, c .before .before .before .before .before .before .before .multipliers-for .ensures), (s .pre .1 .0, t, l, s .pre .1 .2, s .pre .1 .3))
 
 same-length : tie.Need-same-length
 same-length c = search needs
 
-returns-2 : tie.Need-returns-2
-returns-2 c =
-    let x = c .before .before .before .before .before .before in
-    let s = x .before .before .before .before .before .before in
+returns-4 : tie.Need-returns-4
+returns-4 c =
+    let s = c .before .before .before .before .before .before .before .before .before .before .before .before .before .before .before .before .before in
     let b = s .pre .0 .0 in
     let p = planValue (s .args .plan) in
-    let r = x .resume .result in
-    let h = x .resume .ensures in
-    let t = c .before .before .before .before .if1 .left in
-    let e = c .before .before .last .ensures in (
-      λ l g. record {
-        last = λ f. e .0 (s .args .budget) (s .pre .1 .1) (all-searched p (b .plannable) (b .few) (s .args .budget) (s .pre .1 .1) (s .args .g) r h l g t);
-        going = λ m. (let a = last-is p (b .plannable) (b .few) (s .args .budget) (s .args .g) r h l t in absurd (omega arith));
-      },
-      e .1,
-    )
+    let g = s .args .g in
+    let i : isHolding p g ≡ true = sym (c .before .before .before .before .before .before .before .before .before .before .before .before .before .is-holding .ensures) ∙ plain (c .before .before .before .before .before .before .before .before .before .before .before .before .before .is-holding .result) (c .before .before .before .before .before .before .before .before .before .before .before .before .if1 .left) in
+    let x = c .before .before .before .before .before .before .before .before .before .resume in
+    let r = x .result in
+    let h = x .ensures in
+    let some : g .tried < r .total = (let l = c .before .before .before .before .before .before .if2 .left in omega arith) in
+    let e = c .before .before .last .ensures in
+    is-last p (s .args .budget) g _ _ (c .before .before .last .result) (some-left p (b .plannable) (b .few) (s .args .budget) (s .pre .1 .1) g r h i some)
+    (at-end p (b .plannable) (b .few) (s .args .budget) (s .pre .1 .1) g r h some (c .before .before .before .before .if3 .left)) (e .0 .0) (e .0 .1)
+    (e .0 .2 ∙ answered-after p (b .plannable) (b .few) (s .args .budget) (s .pre .1 .1) g r h) _ (e .1 ∙ written-after p (b .plannable) (b .few) (s .args .budget) (s .pre .1 .1) g r h _)
 
 pub one-turn-spec : {M : Type 1} → statement M
 one-turn-spec =
     tie.close
     (tie.spec
     base-state-requires
+    is-holding-requires
+    unfinished-requires
+    returns
     multipliers-of-requires
     multipliers-for-requires
     resume-requires
-    so-far-requires
-    returns
+    unfinished-requires-2
+    returns-2
+    cast-k
+    sub-kept
+    kept-requires
+    unfinished-requires-3
+    returns-3
     last-requires
     same-length
-    returns-2)
+    returns-4)

@@ -1,8 +1,8 @@
--- Where the network refuses, there is nothing to show; where it does not, the turn is `turn_known`'s.
+-- Where the network refuses, the district is stuck; where it does not, the turn is `turn_known`'s.
 use mathlib.Core.Path.{sym, ap, _∙_}
-use mathlib.Core.Option.{Option·some-ne-none}
 use Rattle.refusal.specs.Verdict.{verdictNumber}
-use Rattle.district_turn.specs.Laws.Stint.{as-it-was}
+use Rattle.district_turn.specs.Stint.{isGood}
+use Rattle.district_turn.specs.Laws.Stint.{and-first, is-stuck, as-good}
 use borrow.Author.Needs.{needs}
 use Rattle.district_turn.proofs.stint.turn_measured.Statement.{statement}
 use Rattle.district_turn.proofs.stint.turn_measured.Tie as tie
@@ -26,15 +26,19 @@ turn-known-requires c κs =
     ((s .pre .0, e, s .pre .4), (s .pre .1, s .pre .2, s .pre .3))
 
 returns : tie.Need-returns
+unfolding isGood
 returns c =
     let v = c .before .before .before .before .network-verdict .ensures in
-    (λ e l g. absurd (Option·some-ne-none _ (sym (ap verdictNumber (c .before .before .r .given .1)) ∙ v ∙ e)), as-it-was _ _ _ (c .stuck .ensures .1))
+    is-stuck _ _ _ _ _ _ (and-first _ _ (ap isGood (sym v ∙ ap verdictNumber (c .before .before .r .given .1)))) (c .stuck .ensures .0) (c .stuck .ensures .1)
 
 same-length : tie.Need-same-length
 same-length c = search needs
 
 returns-2 : tie.Need-returns-2
-returns-2 c = let t = c .before .before .turn-known .ensures in (λ e. t .0, t .1)
+returns-2 c =
+    let v = c .before .before .before .before .before .before .network-verdict .ensures in
+    let e = sym v ∙ ap verdictNumber (c .before .before .before .before .enum-told .given .1) in
+    as-good _ _ _ _ _ _ _ _ e (c .before .before .turn-known .ensures)
 
 pub turn-measured-spec : {M : Type 1} → statement M
 turn-measured-spec = tie.close (tie.spec network-verdict-requires enum-known-r stuck-requires enum-told turn-known-requires returns same-length returns-2)

@@ -21,7 +21,7 @@ returns : tie.Need-returns
 returns c =
     let n = c .before .before .before .before .network-of in
     let t = c .before .before .turn-measured .ensures in
-    (λ e. t .0 (measured-refusal _ (n .result) (n .ensures) ∙ e), t .1)
+    rw (measured-refusal _ (n .result) (n .ensures)) at t
 
 pub turn-tabled-spec : {M : Type 1} → statement M
 turn-tabled-spec = tie.close (tie.spec network-of-requires turn-measured-requires same-length returns)

@@ -1,6 +1,7 @@
 -- No district is in the line.
-use mathlib.Core.Path.{refl}
-use native.Mathlib.Omega.{arith}
+use mathlib.Core.Path.{ap}
+use lib.ListN.{replicate}
+use Rattle.districts.specs.declared.machine.District.{District}
 use borrow.Author.Needs.{needs}
 use Rattle.districts.proofs.machine.empty.Statement.{statement}
 use Rattle.districts.proofs.machine.empty.Tie as tie
@@ -9,11 +10,7 @@ no-district-requires : tie.Need-no-district-requires
 no-district-requires c κs = search needs
 
 returns : tie.Need-returns
-returns c = (refl, record { few = omega arith; each = λ d x. elim x [ ] })
+returns c = ap (λ (d : District). record { line = replicate 8 d; waiting = 0 }) (c .no-district .ensures)
 
 pub empty-spec : {M : Type 1} → statement M
-empty-spec =
-    tie.close
-    (tie.spec
-    no-district-requires
-    returns)
+empty-spec = tie.close (tie.spec no-district-requires returns)

@@ -1,25 +1,21 @@
--- The invariant: the first i bytes are copied.
-use mathlib.Core.Path.{_≡_, refl, sym, ap, _∙_, subst}
-use mathlib.Core.Logic.{_≢_}
-use mathlib.Core.Bool.{true}
-use Prim.Native.Nat.{ℕ, _+_, _-_, _≤_, _<_}
+-- The invariant: the first i bytes are copied, and zeros stand behind them.
+use mathlib.Core.Path.{_≡_, refl}
+use Prim.Native.Nat.{_-_, _≤_}
 use native.Mathlib.Omega.{arith}
-use borrow.Author.Count.{below-more}
 use lib.ListN.{length, getD}
-use Rattle.plan.specs.Laws.Prefix.{Prefix, prefix-none, prefix-more}
-use Rattle.districts.specs.Laws.Held.{kept-all}
+use Rattle.district_turn.specs.Laws.Padded.{IsPadded, padded-none, padded-more, padded-is}
 use borrow.Author.Needs.{needs}
 use Rattle.districts.proofs.places.kept.Statement.{statement}
 use Rattle.districts.proofs.places.kept.Tie as tie
 
 abbrev Inv-loop : tie.InvT-loop
-Inv-loop bytes r₀ n i₀ r i = (n ≡ length bytes) × (n ≤ 1475) × (i ≤ n) × Prefix 1475 0 (λ j. getD bytes j 0) r i
+Inv-loop bytes r₀ n i₀ r i = (n ≡ length bytes) × (n ≤ 1475) × (i ≤ n) × IsPadded 0 1475 0 (λ j. getD bytes j 0) r i
 
 abbrev μ-loop : tie.MeasureT-loop
 μ-loop bytes r₀ n i₀ r i = n - i
 
 loop-holds : tie.Need-loop-holds Inv-loop μ-loop
-loop-holds c = (refl, c .pre, omega arith, prefix-none 1475 0 _ 0)
+loop-holds c = (refl, c .pre, omega arith, padded-none 0 1475 0 _)
 
 shared-slice-read-r : tie.Need-shared-slice-read-r Inv-loop μ-loop
 shared-slice-read-r c = search needs
@@ -38,14 +34,14 @@ loop-again c =
     let v = c .before .before in
     let i = v .loop .inv in
     let t = c .before .loop-test .taken in
-    (i .0, i .1, omega arith, prefix-more 1475 0 _ (v .loop .r) (v .loop .i) _ (i .3) (omega arith) refl)
+    (i .0, i .1, omega arith, padded-more 0 1475 0 _ (v .loop .r) (v .loop .i) _ (i .3) (omega arith) refl)
 
 returns : tie.Need-returns Inv-loop μ-loop
 returns c =
     let v = c .before in
     let i = v .loop .inv in
     let l = c .loop-test .left in
-    kept-all _ (v .loop .r) (v .loop .i) (omega arith) (i .3)
+    padded-is 0 1475 0 _ (v .loop .r) (v .before .args .bytes .now) (v .loop .i) (i .3) (omega arith) (λ j m. refl)
 
 pub kept-spec : {M : Type 1} → statement M
 kept-spec =

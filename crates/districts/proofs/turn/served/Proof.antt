@@ -1,14 +1,13 @@
--- A district under way passes each test: its plan was let in, and is read again as it was.
+-- Each test that it fails leaves it stuck; where it passes them its plan is read, and the turn is the plan's.
 use mathlib.Core.Path.{_≡_, sym, ap, _∙_, subst⁻¹}
-use mathlib.Core.Option.{Option·some-ne-none}
 use native.Mathlib.Omega.{arith}
 use lib.ListN.{length, length-take}
 use Rattle.postman.specs.Plan.{WellFormed}
 use Rattle.postman.specs.Laws.Acceptance.{file-accepted}
 use Rattle.refusal.specs.Verdict.{verdictNumber}
 use Rattle.plan_file.specs.Laws.Reading.{accepted-value}
-use Rattle.district_turn.specs.Laws.Stint.{as-it-was}
-use Rattle.districts.specs.Laws.Turned.{tried-small, stint-of, sheet-of}
+use Rattle.district_turn.specs.Laws.Stint.{is-stuck}
+use Rattle.districts.specs.Laws.Turned.{too-long, too-dear, all-tried, unread, readable, stint-read}
 use borrow.Author.Needs.{needs}
 use Rattle.districts.proofs.turn.served.Statement.{statement}
 use Rattle.districts.proofs.turn.served.Tie as tie
@@ -17,32 +16,32 @@ stuck-requires : tie.Need-stuck-requires
 stuck-requires c κs = search needs
 
 returns : tie.Need-returns
-returns c = (λ u. (let f = u .fits in let t = c .before .if1 .taken in absurd (omega arith)), as-it-was _ _ _ (c .stuck .ensures .1))
+returns c = is-stuck _ _ _ _ _ _ (too-long _ (c .before .if1 .taken)) (c .stuck .ensures .0) (c .stuck .ensures .1)
 
 stuck-requires-2 : tie.Need-stuck-requires-2
 stuck-requires-2 c κs = search needs
 
 returns-2 : tie.Need-returns-2
-returns-2 c = (λ u. (let f = u .some-budget in let t = c .before .if2 .taken in absurd (omega arith)), as-it-was _ _ _ (c .stuck2 .ensures .1))
+returns-2 c = is-stuck _ _ _ _ _ _ (too-dear _ (c .before .if2 .taken)) (c .stuck2 .ensures .0) (c .stuck2 .ensures .1)
 
 stuck-requires-3 : tie.Need-stuck-requires-3
 stuck-requires-3 c κs = search needs
 
 returns-3 : tie.Need-returns-3
-returns-3 c = (λ u. (let f = tried-small _ u in let t = c .before .if3 .taken in absurd (omega arith)), as-it-was _ _ _ (c .stuck3 .ensures .1))
+returns-3 c = is-stuck _ _ _ _ _ _ (all-tried _ (c .before .if3 .taken)) (c .stuck3 .ensures .0) (c .stuck3 .ensures .1)
 
 array-share-prefix-bytes : tie.Need-array-share-prefix-bytes
 array-share-prefix-bytes c =
-    let s = c .before .before .before .before .before .before .before .before in
+    let s = c .before .before .before .before .before .before .before .before .before in
     let long : length (s .args .d .bytes) ≡ 1475 = search (needs, s .good) in
-    let l = c .before .before .before .before .if1 .left in
+    let l = c .before .before .before .before .before .if1 .left in
     omega arith
 
 slice-aggregate-read-plan : tie.Need-slice-aggregate-read-plan
 slice-aggregate-read-plan c =
-    let s = c .before .before .before .before .before .before .before .before .before in
+    let s = c .before .before .before .before .before .before .before .before .before .before in
     let long : length (s .args .d .bytes) ≡ 1475 = search (needs, s .good) in
-    let l = c .before .before .before .before .before .if1 .left in
+    let l = c .before .before .before .before .before .before .if1 .left in
     let n = length-take (s .args .d .length) (s .args .d .bytes) in
     omega arith
 
@@ -62,15 +61,15 @@ turn-read-requires : tie.Need-turn-read-requires
 turn-read-requires c κs =
     let r = c .before .before .before .before .read-plan in
     let e = sym (r .ensures .verdict) ∙ ap verdictNumber (c .before .enum-told .given .1) in
-    let some = c .before .before .before .before .before .before .before .before .if2 .left in
-    let small = c .before .before .before .before .before .before .if3 .left in
-    (subst⁻¹ WellFormed (accepted-value _ (r .result) (r .ensures) e) (file-accepted _ e), omega arith, c .before .before .before .before .before .before .before .before .before .before .before .before .before .before .pre, small)
+    let most = c .before .before .before .before .before .before .before .before .before .if2 .left in
+    let some = c .before .before .before .before .before .before .if3 .left in
+    (subst⁻¹ WellFormed (accepted-value _ (r .result) (r .ensures) e) (file-accepted _ e), omega arith, c .before .before .before .before .before .before .before .before .before .before .before .before .before .before .before .pre, omega arith)
 
 returns-4 : tie.Need-returns-4
 returns-4 c =
     let r = c .before .before .before .before .before .read-plan in
     let v = sym (r .ensures .verdict) ∙ ap verdictNumber (c .before .before .verdict .given .1) in
-    (λ u. absurd (Option·some-ne-none _ (sym v ∙ u .file)), as-it-was _ _ _ (c .stuck4 .ensures .1))
+    is-stuck _ _ _ _ _ _ (unread _ _ v) (c .stuck4 .ensures .0) (c .stuck4 .ensures .1)
 
 same-length : tie.Need-same-length
 same-length c = search needs
@@ -80,8 +79,10 @@ returns-5 c =
     let r = c .before .before .before .before .before .before .before .read-plan in
     let e = sym (r .ensures .verdict) ∙ ap verdictNumber (c .before .before .before .before .enum-told .given .1) in
     let q = accepted-value _ (r .result) (r .ensures) e in
-    let t = c .before .before .turn-read .ensures in
-    (stint-of _ _ _ _ _ q (t .0), sheet-of _ _ _ _ _ q (t .1))
+    let fits = c .before .before .before .before .before .before .before .before .before .before .before .before .before .before .if1 .left in
+    let most = c .before .before .before .before .before .before .before .before .before .before .before .before .if2 .left in
+    let some = c .before .before .before .before .before .before .before .before .before .if3 .left in
+    stint-read _ _ _ _ _ q (readable _ fits (omega arith) most e) (c .before .before .turn-read .ensures)
 
 pub served-spec : {M : Type 1} → statement M
 served-spec =

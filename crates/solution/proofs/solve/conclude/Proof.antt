@@ -1,28 +1,27 @@
--- The tree that is held is laid, and the bounds price the same state. Where it is the best one, the answer is the definition's.
-use mathlib.Core.Path.{_≡_, refl, sym, ap, _∙_, subst, subst⁻¹}
-use mathlib.Core.Bool.{Bool}
+-- The tree that is held is laid, and the bounds price the same state.
+use mathlib.Core.Path.{_≡_, sym, ap, _∙_, subst, subst⁻¹}
+use mathlib.Core.Bool.{Bool, cond}
+use mathlib.Core.List.{List}
 use Prim.Native.Nat.{_-_}
 use native.Mathlib.Omega.{arith}
-use lib.ListN.{length, take, length-take}
+use lib.ListN.{length, getD, take, length-take}
+use lib.IntN.{ℤ, pos}
 use Rattle.multipliers.specs.Laws.Solve.{Rooted, some-component, priced}
 use Rattle.multipliers.specs.Laws.Ascent.{answered-rooted}
+use Rattle.multipliers.specs.Laws.Lay.{arcs-links}
 use Rattle.multipliers.specs.Ascent.{multipliersFor}
-use Rattle.solution.specs.Laws.Answer.{found-summary, finished}
 use denote.Ref.{now}
-use mir.Val.{toZ, ofZ}
-use mir.Syntax.{w64}
 use Rattle.integers.specs.Linear.{back64}
+use Rattle.postman.specs.Lists.{maxℤ}
+use Rattle.postman.specs.Link.{Link}
 use Rattle.postman.specs.Component.{componentCount}
-use Rattle.postman.specs.PlanCall.{summary}
+use Rattle.postman.specs.LagrangianBound.{lagrangianBound}
 use Rattle.circuit.specs.Filled.{linksOf}
 use Rattle.circuit.specs.Tour.{written}
 use Rattle.multipliers.specs.Tour.{driveOf}
 use Rattle.multipliers.specs.Prepared.{IsTree}
 use Rattle.plan.specs.Records.{planValue}
-use Rattle.solution.specs.Planned.{summaryOf, multipliersOf}
-use Rattle.solution.specs.declared.Planned.{Planned}
 use Rattle.refusal.specs.declared.Verdict.the-variants.{Accepted}
-use Rattle.branches.specs.Links.{linksIn}
 use borrow.Author.Needs.{needs, length-unmapped}
 use Rattle.solution.proofs.solve.conclude.Statement.{statement}
 use Rattle.solution.proofs.solve.conclude.Tie as tie
@@ -90,23 +89,20 @@ returns : tie.Need-returns
 unfolding floor-of-requires
 returns c =
     let s = c .before .before .before .before .before .before .before .before .before .before .before .before .before .before .before .before in
-    let b = s .pre .0 .0 .known in
     let p = planValue (s .args .plan) in
     let f = s .args .s in
     let m : s .args .net .components - 1 ≡ componentCount p - 1 = ap (λ n. n - 1) (s .pre .1 .0 .components .all) in
     let l = c .before .before .before .before .before .before .before .before .lay in
     let n = s .pre .1 .0 in
-    let x : Planned = record { verdict = Accepted; places = l .result; cost = f .cost; floor = toZ w64 (ofZ w64 (c .floor-of .result)); trees = f .tried; whole = f .whole; parts = s .args .net .components; multipliers = s .args .t7 } in
     let g : s .args .t7 ≡ multipliersFor p = s .pre .0 .1 in
-    let h = s .pre .1 .1 .tree in
-    let new = l .last .1 .1 .1 .1 .1 .1 .1 .0 in
-    let same = ap (λ n. written (driveOf p (linksOf (take n (f .tails)) (take n (f .heads)))) (now (s .args .sheet))) m in (
-      λ budget one found. (
-          let e : summaryOf x ≡ summary p budget (multipliersOf x) =
-          found-summary p (b .plannable) (b .few) budget one x (found .cost) (found .tried) (found .whole) (n .components .all) (back64 _ (c .floor-of .ok) ∙ c .floor-of .ensures p (floor-of-requires (c .before) (c .floor-of .lifetimes) .0 .1)) in
-          finished p (b .plannable) (b .few) budget one (now (s .args .sheet)) new x refl g e (s .args .net .components - 1) (f .tails) (f .heads) (ap (λ n. linksIn n (f .tails) (f .heads)) m ∙ found .links) (l .ensures .0) (l .ensures .1)),
-      record { tree = linksOf (take (componentCount p - 1) (f .tails)) (take (componentCount p - 1) (f .heads)); is-tree = h .tree; sheet = l .ensures .0 ∙ same },
-    )
+    let t = ap (λ n. linksOf (take n (f .tails)) (take n (f .heads))) m ∙ sym (arcs-links (take (componentCount p - 1) (f .tails)) (take (componentCount p - 1) (f .heads))) in
+    let ep = l .ensures .1 ∙ ap (λ (t : List Link). length (driveOf p t)) t in
+    let ef = back64 _ (c .floor-of .ok) ∙ c .floor-of .ensures p (floor-of-requires (c .before) (c .floor-of .lifetimes) .0 .1)
+    ∙ ap (λ (u : List ℤ). cond (f .whole) (pos (f .cost)) (maxℤ (lagrangianBound p (λ i. pos 0)) (lagrangianBound p (λ i. getD u i (pos 0))))) g in
+    record {
+      planned = λ i. record { verdict = Accepted; places = ep i; cost = f .cost; floor = ef i; trees = f .tried; whole = f .whole; parts = n .components .all i; multipliers = g i };
+      sheet = l .ensures .0 ∙ ap (λ (t : List Link). written (driveOf p t) (now (s .args .sheet))) t;
+    }
 
 pub conclude-spec : {M : Type 1} → statement M
 conclude-spec =

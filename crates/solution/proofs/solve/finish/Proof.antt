@@ -1,6 +1,6 @@
 -- What the search keeps is the best tree, which is what is answered.
 use native.Mathlib.Omega.{arith}
-use Rattle.solution.specs.Laws.Answer.{cost-small}
+use Rattle.solution.specs.Laws.Answer.{cost-small, concluded-planned}
 use Rattle.solution.specs.Laws.Resumed.{holds-kept}
 use borrow.Author.Needs.{needs}
 use Rattle.solution.proofs.solve.finish.Statement.{statement}
@@ -28,7 +28,8 @@ returns c =
     let k = c .before .before in
     let r = k .before .before .best in
     let s = k .before .before .before .before .before in
-    k .conclude .ensures .0 _ (s .pre .1 .1) (r .ensures)
+    let b = s .pre .0 .0 .known in
+    concluded-planned _ (b .plannable) (b .few) _ (s .pre .1 .1) (r .result) _ _ _ (r .ensures) (k .conclude .ensures)
 
 pub finish-spec : {M : Type 1} → statement M
 finish-spec = tie.close (tie.spec best-requires conclude-requires same-length returns)

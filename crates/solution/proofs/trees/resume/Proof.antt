@@ -5,9 +5,9 @@ use native.Mathlib.Omega.{arith}
 use Rattle.plan.specs.Records.{planValue}
 use Rattle.postman.specs.PlanCall.{triedCount}
 use Rattle.tree_count.specs.Matrix.{cap}
-use Rattle.solution.specs.Resumed.{afterTurn}
+use Rattle.solution.specs.Resumed.{triedOn, linksBy}
 use Rattle.multipliers.specs.Laws.Solve.{some-component}
-use Rattle.solution.specs.Laws.Resumed.{total-is, whole-is, some-tried, tried-few}
+use Rattle.solution.specs.Laws.Resumed.{total-is, whole-is, some-tried}
 use borrow.Author.Needs.{needs}
 use Rattle.solution.proofs.trees.resume.Statement.{statement}
 use Rattle.solution.proofs.trees.resume.Tie as tie
@@ -53,12 +53,13 @@ returns c =
     let t = total-is p (b .plannable) (s .args .budget) (n .of-network .result) small count (v .before .lesser .result) (v .before .lesser .ensures) in
     let e = v .turn-of .ensures in
     let m : v .turn-of .result ≡ min 1000 (triedCount p (s .args .budget) - s .args .g .tried) = e ∙ ap (λ y. min 1000 (y - s .args .g .tried)) t in
-    let few = tried-few p (b .plannable) (s .args .budget) in
+    let h = x .tried-on .ensures in
     record {
       total = t;
       whole = whole-is p (b .plannable) (s .args .budget) (n .of-network .result) small count;
-      tried = x .tried-on .ensures .0 ∙ ap (λ y. s .args .g .tried + y) m;
-      reached = λ l g. x .tried-on .ensures .1 (omega arith) g;
+      tried = h .0 ∙ ap (λ y. s .args .g .tried + y) m;
+      cost-is = h .1 ∙ ap (λ y. triedOn p (s .args .g .cost) (linksBy p (s .args .g)) (s .args .g .tried) y .cost) m;
+      links-are = h .2 ∙ ap (λ y. triedOn p (s .args .g .cost) (linksBy p (s .args .g)) (s .args .g .tried) y .links) m;
     }
 
 pub resume-spec : {M : Type 1} → statement M

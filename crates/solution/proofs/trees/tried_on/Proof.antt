@@ -1,7 +1,8 @@
 -- Where no tree was tried, those that are tried now are the first; else what is held is that of the first trees, and the search goes on after them.
-use mathlib.Core.Path.{refl}
+use mathlib.Core.Path.{refl, sym, ap, _∙_}
 use native.Mathlib.Omega.{arith}
-use Rattle.solution.specs.Laws.Resumed.{reached-on}
+use Rattle.branches.specs.Progress.{Held}
+use Rattle.solution.specs.Laws.Resumed.{first-on, later-on}
 use borrow.Author.Needs.{needs}
 use Rattle.solution.proofs.trees.tried_on.Statement.{statement}
 use Rattle.solution.proofs.trees.tried_on.Tie as tie
@@ -18,7 +19,9 @@ returns c =
     let f = c .first-tried .ensures in
     let n = f .0 in
     let e = c .before .if1 .taken in
-    (omega arith, λ few g. f .1 (omega arith))
+    let s = c .before .before .before .before in
+    let x = first-on _ (s .pre .0 .known .plannable) (s .args .g .cost) _ (s .args .g .tried) (s .args .more) e in
+    (omega arith, f .1 ∙ sym (ap (λ (h : Held). h .cost) x), f .2 ∙ sym (ap (λ (h : Held). h .links) x))
 
 cast-skip : tie.Need-cast-skip
 cast-skip c = search needs
@@ -38,10 +41,8 @@ returns-2 c =
     let x = c .before .before .before in
     let s = x .before .before .before .before .before .before .before in
     let n = x .before .before .before .before .if1 .left in
-    let k = s .pre .0 .known in (
-      refl,
-      λ few g. reached-on _ (k .plannable) (s .args .g .cost) (s .args .g .tails) (s .args .g .heads) (s .args .g .tried) (s .args .more) (x .explored .result) (omega arith) few g (x .explored .ensures),
-    )
+    let e = x .explored .ensures ∙ sym (later-on _ (s .pre .0 .known .plannable) (s .args .g .cost) _ (s .args .g .tried) (s .args .more) (omega arith)) in
+    (refl, ap (λ (h : Held). h .cost) e, ap (λ (h : Held). h .links) e)
 
 pub tried-on-spec : {M : Type 1} → statement M
 tried-on-spec = tie.close (tie.spec first-tried-requires returns cast-skip explored-requires add-tried returns-2)
