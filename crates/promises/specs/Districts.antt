@@ -15,31 +15,29 @@ use Rattle.districts.specs.declared.enter.Entered.{Entered}
 use Rattle.districts.specs.declared.turn.Outcome.the-variants.{Empty, ShortSheet, Unfinished, Finished}
 use Rattle.districts.specs.declared.turn.Turned.{Turned}
 use Rattle.districts.specs.Line.{District, Line, entryRefusal, lowestFree, total, finishes}
-use Rattle.districts.specs.Runs.{Event, entry, turned, run, turnsIn, turnsOf, lastEntry, turnsSince}
-use Rattle.districts.specs.Machine.{lineOf, IsSound, admissionNumber, IsEntered, IsTurned}
+use Rattle.districts.specs.Runs.{Event, run, turnsIn, turnsOf, lastEntry, turnsSince}
+use Rattle.districts.specs.Machine.{lineOf}
+use Rattle.districts.specs.Number.{admissionNumber}
+use Rattle.districts.specs.Entered.{IsEntered}
+use Rattle.districts.specs.Turned.{IsTurned}
+use Rattle.districts.specs.Led.{Led}
 use Rattle.promises.specs.PlanCall.{Call}
 use Rattle.promises.specs.Judging.{Judging}
 
--- A RUN of calls, the latest first, accepted or not, and the machine then. `districts` `empty`, `enter` and `turn` ensure what each step
--- asks for, of any machine.
-pub data Ran : List Event → Machine → Type 0 where
-  begun : (m : Machine) → lineOf m ≡ [] → IsSound m → Ran [] m
-  entered : (es : List Event) (m : Machine) (bytes : List ℕ) (budget : ℕ) (r : Entered) → Ran es m → IsEntered m bytes budget r
-      → Ran (entry bytes budget ∷ es) (r .machine)
-  had-turn : (es : List Event) (m : Machine) (old new : List ℕ) (r : Turned) → Ran es m → IsTurned m old new r
-      → Ran (turned (length old) ∷ es) (r .machine)
+-- `Led es m`: the calls es, the latest first, accepted or not, lead from the empty machine to m. `districts` `empty`, `enter` and `turn`
+-- ensure what each step asks for, of any machine.
 
 -- The machine's line is the run's: `run` puts an entry at the back, and takes the front district of an accepted turn away, finished, or
 -- to the back.
 abbrev pub LineOfRun : Type 0
-LineOfRun = (es : List Event) (m : Machine) → Ran es m → lineOf m ≡ run es
+LineOfRun = (es : List Event) (m : Machine) → Led es m → lineOf m ≡ run es
 
 -- ---- entries
 
 -- An entry that was made after a run.
 pub record Entry (es : List Event) (bytes : List ℕ) (budget : ℕ) : Type 0 where
   pub machine : Machine
-  pub ran : Ran es machine
+  pub led : Led es machine
   pub answer : Entered
   pub contract : IsEntered machine bytes budget answer
 
@@ -60,7 +58,7 @@ RefusedEntry = (es : List Event) (bytes : List ℕ) (budget : ℕ) (x : Entry es
 -- A turn that was made after a run.
 pub record Turn (es : List Event) (sheet : List ℕ) : Type 0 where
   pub machine : Machine
-  pub ran : Ran es machine
+  pub led : Led es machine
   pub after : List ℕ
   pub answer : Turned
   pub contract : IsTurned machine sheet after answer

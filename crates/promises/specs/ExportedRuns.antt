@@ -13,12 +13,12 @@ use Rattle.postman.specs.Windows.{Departure}
 use Rattle.open_plan.specs.State.{fileIn}
 use Rattle.open_plan.specs.Run.{Fits, StandsFor}
 use Rattle.districts.specs.Line.{District, Line, entryRefusal, lowestFree, finishes}
-use Rattle.districts.specs.Runs.{Event, run, lastEntry}
+use Rattle.districts.specs.Runs.{run, lastEntry}
 use Rattle.answers.specs.Number.{oneNumber}
 use Rattle.answers.specs.Answer.{putFirst}
 use Rattle.open_plan_bytes.specs.StateBytes.{openBytes, openIn}
 use Rattle.exports.specs.Editing.{IsExportedOpen, IsExportedMove}
-use Rattle.exports.specs.Turns.{IsExportedEntry, IsExportedTurn, LedLent}
+use Rattle.exports.specs.Turns.{Call as MachineCall, eventsOf, IsExportedEntry, IsExportedTurn, LedLent}
 use Rattle.promises.specs.Slices.{Slices, HandsOver, IsAsked, LeaveOneAnswer}
 use Rattle.promises.specs.Departure.{CallAt}
 use Rattle.promises.specs.Exports.{LentCall}
@@ -97,17 +97,18 @@ AskedAgain = (file bytes : List ℕ) (x : LentReturn file bytes) (budget : ℕ) 
 
 -- ---- districts
 
--- `LedLent es bytes`: the calls es, the latest first, lead from `postman_districts_start` to these bytes.
+-- `LedLent cs bytes`: the calls cs, the latest first, lead from `postman_districts_start` to these bytes.
 
 -- `postman_enter` answers the lowest free place, or minus the refusal's number.
 abbrev pub LentEntry : Type 0
-LentEntry = (es : List Event) (bytes : List ℕ) → LedLent es bytes → (plan : List ℕ) (budget : ℕ) (after : List ℕ) (n : ℤ)
-    → IsExportedEntry plan budget bytes after n → n ≡ oneNumber (answer (entryRefusal (run es) plan budget) (lowestFree (run es)))
+LentEntry = (cs : List MachineCall) (bytes : List ℕ) → LedLent cs bytes → (plan : List ℕ) (budget : ℕ) (after : List ℕ) (n : ℤ)
+    → IsExportedEntry plan budget bytes after n
+    → n ≡ oneNumber (answer (entryRefusal (run (eventsOf cs)) plan budget) (lowestFree (run (eventsOf cs))))
 
 -- A call of `postman_turn`.
-pub record LentTurn (es : List Event) (old : Slices) : Type 0 where
+pub record LentTurn (cs : List MachineCall) (old : Slices) : Type 0 where
   pub bytes : List ℕ
-  pub led : LedLent es bytes
+  pub led : LedLent cs bytes
   pub machine : List ℕ
   pub after : Slices
   pub number : ℤ
@@ -116,18 +117,18 @@ pub record LentTurn (es : List Event) (old : Slices) : Type 0 where
 
 -- It answers 16 with no district inside, and minus 8 for a short sheet; nothing is changed.
 abbrev pub LentEmpty : Type 0
-LentEmpty = (es : List Event) (old : Slices) (t : LentTurn es old) → run es ≡ []
+LentEmpty = (cs : List MachineCall) (old : Slices) (t : LentTurn cs old) → run (eventsOf cs) ≡ []
     → (t .number ≡ pos 16) × (t .machine ≡ t .bytes) × (t .after ≡ old)
 
 abbrev pub LentShort : Type 0
-LentShort = (es : List Event) (old : Slices) (t : LentTurn es old) (d : District) (l : Line) → run es ≡ d ∷ l
+LentShort = (cs : List MachineCall) (old : Slices) (t : LentTurn cs old) (d : District) (l : Line) → run (eventsOf cs) ≡ d ∷ l
     → length (old .sheet) < sheetPlaces
     → (t .number ≡ negℤ (pos 8)) × (t .machine ≡ t .bytes) × (t .after ≡ old)
 
 -- Before a district's last turn it answers the place, and among the words the trees so far and their least cost; sheet and multipliers
 -- are untouched.
 abbrev pub LentGoing : Type 0
-LentGoing = (es : List Event) (old : Slices) (t : LentTurn es old) (d : District) (l : Line) → run es ≡ d ∷ l
+LentGoing = (cs : List MachineCall) (old : Slices) (t : LentTurn cs old) (d : District) (l : Line) → run (eventsOf cs) ≡ d ∷ l
     → sheetPlaces ≤ length (old .sheet)
     → finishes d ≡ false
     → (t .number ≡ pos (d .place)) × (t .after .sheet ≡ old .sheet) × (t .after .multipliers ≡ old .multipliers)
@@ -135,7 +136,7 @@ LentGoing = (es : List Event) (old : Slices) (t : LentTurn es old) (d : District
 
 -- The last turn answers 8 and the place, and leaves what one plan call leaves, with the plan and the budget that the district entered with.
 abbrev pub LentLast : Type 0
-LentLast = (es : List Event) (old : Slices) (t : LentTurn es old) (d : District) (l : Line) → run es ≡ d ∷ l
+LentLast = (cs : List MachineCall) (old : Slices) (t : LentTurn cs old) (d : District) (l : Line) → run (eventsOf cs) ≡ d ∷ l
     → sheetPlaces ≤ length (old .sheet)
-    → finishes d ≡ true → (c : LentCall (lastEntry (d .place) es .bytes) (lastEntry (d .place) es .budget) old)
+    → finishes d ≡ true → (c : LentCall (lastEntry (d .place) (eventsOf cs) .bytes) (lastEntry (d .place) (eventsOf cs) .budget) old)
     → (t .number ≡ pos (8 + d .place)) × (c .number ≡ pos 0) × (t .after ≡ c .after)

@@ -1,9 +1,8 @@
--- Runs of calls by the page's words are runs by the laws of `districts`.
+-- What the calls of a machine answer after a run, and what the run's line is.
 use mathlib.Core.Path.{_≡_, refl, sym, ap, _∙_, subst⁻¹}
 use mathlib.Core.Bool.{Bool, true, false, not, cond}
-use mathlib.Core.List.{List, [], _∷_, List·Memᴰ, List·Memᴰ·head, List·Memᴰ·cases-cons}
-use mathlib.Core.Logic.{inl, inr}
-use mathlib.Core.Option.{none}
+use mathlib.Core.List.{List, [], _∷_, List·Memᴰ, List·Memᴰ·head}
+use mathlib.Core.Option.{Option, none, some}
 use Prim.Native.Nat.{ℕ, suc, _+_, _*_, _≤_, _<_}
 use native.Mathlib.Omega.{arith}
 use lib.ListN.{length}
@@ -16,31 +15,22 @@ use Rattle.planner.specs.Contract.{IsPlanCall}
 use Rattle.districts.specs.declared.machine.Machine.{Machine}
 use Rattle.districts.specs.declared.enter.Admission.the-variants.{At}
 use Rattle.districts.specs.declared.enter.Entered.{Entered}
+use Rattle.districts.specs.declared.turn.Outcome.the-variants.{Empty, ShortSheet}
 use Rattle.districts.specs.declared.turn.Turned.{Turned}
 use Rattle.districts.specs.Line.{District, Line, entryRefusal, lowestFree, total, finishes}
 use Rattle.districts.specs.Runs.{Event, run, runFrom, isTurnOf, turnsIn, turnsOf, lastEntry, turnsSince}
-use Rattle.districts.specs.Machine.{lineOf, admissionNumber, IsEntered, IsTurned}
-use Rattle.districts.specs.Theorem.{finished-as-plan-call}
-use Rattle.districts.specs.Laws.Led.{Led, led}
+use Rattle.districts.specs.Machine.{lineOf}
+use Rattle.districts.specs.Number.{admissionNumber}
+use Rattle.districts.specs.Entered.{movedUnless, IsEntered}
+use Rattle.districts.specs.Turned.{Meeting, nobody, shortSheet, meeting, outcomeOf, afterTurn, sheetAfter, IsTurned}
+use Rattle.districts.specs.Led.{Led}
+use Rattle.districts.specs.Waits.{NoTurnOf}
+use Rattle.districts.specs.Theorem.{run-line, served, finished-as-plan-call}
+use Rattle.districts.specs.Laws.Turned.{empty-met, line-short-met}
 use Rattle.districts.specs.Laws.Places.{free-small}
-use Rattle.districts.specs.Laws.Line.{room, Waits, waits-short}
-use Rattle.districts.specs.Laws.Runs.{NoTurnOf, waits-run, run-kept}
-use Rattle.promises.specs.Districts.{Ran, begun, entered, had-turn}
+use Rattle.districts.specs.Laws.Line.{room, waits-short}
+use Rattle.districts.specs.Laws.Runs.{waits-in, waits-run, run-kept}
 use Rattle.promises.specs.Laws.Demands.{equal-multipliers}
-
-pub ran-led : (es : List Event) (m : Machine) → Ran es m → Led es m
-unfolding Led
-ran-led _ _ (begun m e s) = (e, s)
-ran-led _ _ (entered es m bytes budget r run c) = (m, r, ran-led es m run, c, refl)
-ran-led _ _ (had-turn es m old new r run c) = (m, r, old, new, ran-led es m run, c, refl, refl)
-
--- where a district of the line waits
-pub waits : (l : Line) (d : District) → List·Memᴰ d l → (i : ℕ) × Waits l i d
-waits [] d m = elim m [ ]
-waits (x ∷ l) d m = elim (List·Memᴰ·cases-cons m) [
-  | inl e ↦ (0, record { ahead = []; behind = l; line = ap (λ (y : District). y ∷ l) (sym e); number = refl })
-  | inr i ↦ let w = waits l d i in (suc (w .0), record { ahead = x ∷ w .1 .ahead; behind = w .1 .behind; line = ap (λ (y : Line). x ∷ y) (w .1 .line); number = ap suc (w .1 .number) })
-]
 
 -- no turn of a place
 pub none-of : (q : ℕ) (l : Line) (es : List Event) → turnsOf q l es ≡ 0 → NoTurnOf q l es
@@ -60,22 +50,40 @@ entry-place {m} {bytes} {budget} {r} {l} h e q a =
     let s = free-small l (room l bytes budget g) in
     (p, omega arith)
 
--- u of a last turn is that of the plan call
-pub last-multipliers : (es : List Event) {m : Machine} {old new new′ : List ℕ} {r : Turned} {s : Planned} (d : District) (l : Line) → run es ≡ d ∷ l → finishes d ≡ true → sheetPlaces ≤ length old
-    → Ran es m → IsTurned m old new r → IsPlanCall (lastEntry (d .place) es .bytes) (lastEntry (d .place) es .budget) old new′ s → r .planned .multipliers ≡ s .multipliers
-last-multipliers es {m} {old} {new} {new′} {r} {s} d l e f long ran t c =
-    let h = ran-led es m ran in
-    let i = led es m h in
-    let x = t .served (i .1) d l (i .0 ∙ e) long .0 .last f .1 in
-    let k = run-kept es .each d (subst⁻¹ (λ (y : Line). List·Memᴰ d y) e (List·Memᴰ·head refl)) .bytes-are in
-    let same = finished-as-plan-call es m h d l e f old new r t long new′ s c .1 in
-    equal-multipliers x (c .planned) (ap planOf k) (x .verdict) (sym (same .refusal) ∙ x .verdict)
+-- a refused entry
+not-moved : (o : Option ℕ) (k : ℕ) (new old : Machine) → o ≡ some k → movedUnless o new old ≡ old
+unfolding movedUnless
+not-moved o k new old e = ap (λ (o : Option ℕ). movedUnless o new old) e
+
+pub refused-still : {m : Machine} {bytes : List ℕ} {budget k : ℕ} {r : Entered} → IsEntered m bytes budget r → admissionNumber (r .answer) ≡ some k → r .machine ≡ m
+refused-still {m} {k = k} h e = h .machine ∙ not-moved _ k _ m (sym (h .refusal) ∙ e)
+
+-- a turn that nobody has
+still : {m : Machine} {old new : List ℕ} {r : Turned} (k : Meeting) → IsTurned m old new r → meeting m (length old) ≡ k
+    → (r .outcome ≡ outcomeOf k) × (r .machine ≡ afterTurn m k) × (new ≡ sheetAfter k old)
+still {m} {old} k t e = (t .outcome ∙ ap outcomeOf e, t .machine ∙ ap (afterTurn m) e, t .sheet ∙ ap (λ (x : Meeting). sheetAfter x old) e)
+
+module _ (es : List Event) {m : Machine} (h : Led es m) {old new : List ℕ} {r : Turned} (t : IsTurned m old new r) where
+  pub nobody-still : run es ≡ [] → (r .outcome ≡ Empty) × (r .machine ≡ m) × (new ≡ old)
+  nobody-still e = still nobody t (empty-met m (length old) (run-line es m h ∙ e))
+
+  pub short-still : (d : District) (l : Line) → run es ≡ d ∷ l → length old < sheetPlaces → (r .outcome ≡ ShortSheet) × (r .machine ≡ m) × (new ≡ old)
+  short-still d l e few = still shortSheet t (line-short-met m (length old) d l (run-line es m h ∙ e) few)
+
+  -- u of a last turn is that of the plan call
+  pub last-multipliers : {new′ : List ℕ} {s : Planned} (d : District) (l : Line) → run es ≡ d ∷ l → sheetPlaces ≤ length old → finishes d ≡ true
+      → IsPlanCall (lastEntry (d .place) es .bytes) (lastEntry (d .place) es .budget) old new′ s → r .planned .multipliers ≡ s .multipliers
+  last-multipliers {new′} {s} d l e long f c =
+      let x = served es m h old new r t d l e long .last f .1 in
+      let k = run-kept es .each d (subst⁻¹ (λ (y : Line). List·Memᴰ d y) e (List·Memᴰ·head refl)) .bytes-are in
+      let same = finished-as-plan-call es m h old new r t d l e long f new′ s c .1 in
+      equal-multipliers x (c .planned) (ap planOf k) (x .verdict) (sym (same .refusal) ∙ x .verdict)
 
 -- ---- what a line's districts are, after a run
 
 pub seven : (es : List Event) (d : District) → List·Memᴰ d (run es) → (more : List Event) → turnsOf (d .place) (run es) more ≡ 0 → turnsIn (run es) more ≤ 7
 seven es d m more never =
-    let w = waits (run es) d m in
+    let w = waits-in (run es) d m in
     let a = waits-short (w .1) in
     let b = run-kept es .short in
     let c = waits-run (run es) (w .0) (w .1) more (none-of (d .place) (run es) more never) .0 in
