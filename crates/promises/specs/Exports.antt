@@ -127,28 +127,38 @@ CarsHandOver = (bytes : List ℕ) (a b : Lent) (n : ℤ) → IsExportedCars byte
 -- ---- number of trees, distances, judging
 
 -- `postman_tree_count`: the number of trees, 4,294,967,296 for "above", or minus the refusal's number.
+pub record LentCount (bytes : List ℕ) : Type 0 where
+  pub number : ℤ
+  pub number-is : number ≡ oneNumber (countOf (countCall bytes))
+
 abbrev pub CountHandsOver : Type 0
-CountHandsOver = (bytes : List ℕ) (n : ℤ) → n ≡ oneNumber (countOf (countCall bytes)) → (c : Count bytes)
-    → n ≡ oneNumber (countOf (answerOf (c .answer)))
+CountHandsOver = (bytes : List ℕ) (l : LentCount bytes) (c : Count bytes) → l .number ≡ oneNumber (countOf (answerOf (c .answer)))
 
--- `postman_distances`
+-- `postman_distances`: the number of searches, or minus the refusal's number; and the distances.
+pub record LentPage (bytes pairs distances : List ℕ) : Type 0 where
+  pub after : List ℕ
+  pub number : ℤ
+  pub number-is : number ≡ oneNumber (distanceAnswer bytes pairs (length distances))
+  pub after-is : after ≡ distancesAfter bytes pairs distances
+
 abbrev pub PageHandsOver : Type 0
-PageHandsOver = (bytes pairs distances after : List ℕ) (n : ℤ)
-    → n ≡ oneNumber (distanceAnswer bytes pairs (length distances)) → after ≡ distancesAfter bytes pairs distances
-    → (c : Page bytes pairs distances) → (n ≡ oneNumber (searchedAnswer (c .answer))) × (after ≡ c .after)
+PageHandsOver = (bytes pairs distances : List ℕ) (l : LentPage bytes pairs distances) (c : Page bytes pairs distances)
+    → (l .number ≡ oneNumber (searchedAnswer (c .answer))) × (l .after ≡ c .after)
 
--- `postman_judge`
+-- `postman_judge`: the cost, or minus the refusal's number.
+pub record LentJudging (bytes w : List ℕ) : Type 0 where
+  pub number : ℤ
+  pub number-is : number ≡ oneNumber (judgeAnswer bytes w)
+
 abbrev pub JudgeHandsOver : Type 0
-JudgeHandsOver = (bytes w : List ℕ) (n : ℤ) → n ≡ oneNumber (judgeAnswer bytes w) → (j : Judging bytes w)
-    → n ≡ oneNumber (judgedAnswer (j .answer))
+JudgeHandsOver = (bytes w : List ℕ) (l : LentJudging bytes w) (j : Judging bytes w) → l .number ≡ oneNumber (judgedAnswer (j .answer))
 
 -- A drive that words and sheet hold passes with the cost that the words say.
 abbrev pub WrittenPasses : Type 0
 WrittenPasses = (bytes : List ℕ) (budget : ℕ) (old : Slices) (l : LentCall bytes budget old) → l .number ≡ pos 0 → HasRoom old
-    → (n : ℤ) → n ≡ oneNumber (judgeAnswer bytes (driveIn (l .after))) → n ≡ pos (costIn (l .after))
+    → (j : LentJudging bytes (driveIn (l .after))) → j .number ≡ pos (costIn (l .after))
 
 abbrev pub WrittenPassesAt : Type 0
 WrittenPassesAt = (bytes : List ℕ) (budget : ℕ) (windows : List ℕ) (d : Departure) (old : Slices)
     (l : LentCallAt bytes budget windows d old)
-    → l .number ≡ pos 0 → HasRoom old
-    → (n : ℤ) → n ≡ oneNumber (judgeAnswer bytes (driveIn (l .after))) → n ≡ pos (costIn (l .after))
+    → l .number ≡ pos 0 → HasRoom old → (j : LentJudging bytes (driveIn (l .after))) → j .number ≡ pos (costIn (l .after))

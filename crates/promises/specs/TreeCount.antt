@@ -15,10 +15,10 @@ use Rattle.count_call.specs.Contract.{answerOf}
 use Rattle.promises.specs.Demands.{Accepted}
 use Rattle.promises.specs.PlanCall.{Call}
 
--- A call that was made. `count_call` `count_call` ensures the contract, for any bytes; it is lent nothing that it could change.
+-- A call that was made. `count_call` `count_call` ensures the equation, for any bytes; it is lent nothing that it could change.
 pub record Count (bytes : List ℕ) : Type 0 where
   pub answer : Counted
-  pub contract : answerOf answer ≡ countCall bytes
+  pub answer-is : answerOf answer ≡ countCall bytes
 
 -- "It takes plan bytes without windows and can give 1 to 7 and 10 to 13."
 abbrev pub Refusals : Type 0

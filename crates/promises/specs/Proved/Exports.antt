@@ -46,16 +46,16 @@ pub cars : CarsHandOver
 cars bytes a b n x = let f = first-answered bytes a b n x in let s = second-answered bytes a b n x in ((f .answer, f .called, f .handed-over), (s .answer, s .called, s .handed-over))
 
 pub count : CountHandsOver
-count bytes n e c = e ∙ ap (λ (a : Answer TreeCount). oneNumber (countOf a)) (sym (c .contract))
+count bytes l c = l .number-is ∙ ap (λ (a : Answer TreeCount). oneNumber (countOf a)) (sym (c .answer-is))
 
 pub page : PageHandsOver
-page bytes pairs distances after n e h c = (e ∙ ap oneNumber (sym (c .answer-is)), h ∙ sym (c .after-is))
+page bytes pairs distances l c = (l .number-is ∙ ap oneNumber (sym (c .answer-is)), l .after-is ∙ sym (c .after-is))
 
 pub judge : JudgeHandsOver
-judge bytes w n e j = e ∙ ap oneNumber (sym (j .contract .answer-is))
+judge bytes w l j = l .number-is ∙ ap oneNumber (sym (j .contract .answer-is))
 
 pub passes : WrittenPasses
-passes bytes budget old l zero room = lent-passes-call bytes budget _ _ _ _ _ _ _ (omega arith) zero (l .contract)
+passes bytes budget old l zero room j = lent-passes-call bytes budget _ _ _ _ _ _ _ (omega arith) zero (l .contract) (j .number) (j .number-is)
 
 pub passes-at : WrittenPassesAt
-passes-at bytes budget windows d old l zero room = lent-passes-at bytes budget _ _ _ _ _ _ _ (omega arith) zero windows d (l .contract)
+passes-at bytes budget windows d old l zero room j = lent-passes-at bytes budget _ _ _ _ _ _ _ (omega arith) zero windows d (l .contract) (j .number) (j .number-is)
