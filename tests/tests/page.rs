@@ -23,19 +23,17 @@ const PAGE: [&str; 12] = [
 ];
 
 /// Contracts and definitions that still cite a `Laws` folder: the file, and what it cites. This list may only become shorter.
-const CITING_LAWS: [(&str, &str); 16] = [
+const CITING_LAWS: [(&str, &str); 14] = [
     ("branches/specs/Branches.antt", "Joins"),
     ("branches/specs/Branches.antt", "renamed"),
     ("branches/src/names.rt", "renamed"),
     ("components/specs/Labels.antt", "IsRequiredNumber"),
     ("distances/src/entries.rt", "ArePairs"),
-    ("districts/src/places.rt", "Prefix"),
     ("hierholzer/specs/Eulerian.antt", "Permutation"),
     ("multipliers/specs/Prepared.antt", "Plannable"),
     ("multipliers/specs/Priced.antt", "Feasible"),
     ("multipliers/specs/Priced.antt", "Plannable"),
     ("pair_costs/src/pairs.rt", "Feasible"),
-    ("planner/src/call.rt", "refusedWith"),
     ("solution/specs/Planned.antt", "Plannable"),
     ("tree_bounds/specs/Branch.antt", "isTree"),
     ("tree_bounds/specs/Branch.antt", "renamed"),
