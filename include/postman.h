@@ -97,7 +97,9 @@ extern "C" {
  * The bytes are eight districts one after the other, the front of the line first, and the number of those that wait, in
  * eight bytes. A district is its place, one byte; the length of its file, eight bytes, and POSTMAN_LONGEST_FILE bytes from
  * whose start the file stands; its budget, four bytes; the least cost so far, eight bytes; eight tails and eight heads of
- * its best tree's links, a byte each; and the trees tried so far, four bytes. Numbers have their high byte first.
+ * its best tree's links, a byte each; and the trees tried so far, four bytes. Numbers have their high byte first. Zeros
+ * stand behind the file, behind the links, and behind the districts that wait: a machine that all districts have left is
+ * zeros again, as at its start.
  */
 #define POSTMAN_DISTRICTS_BYTES 12136
 #define POSTMAN_MOST_DISTRICTS 8
@@ -326,8 +328,10 @@ int64_t postman_enter(uint8_t *machine, size_t machine_len, const uint8_t *plan,
  *
  * Answers POSTMAN_NO_DISTRICT where no district is inside, whatever the sheet, or else minus 8 for a sheet below
  * POSTMAN_SHEET_PLACES; then nothing is changed. A machine with fewer than POSTMAN_DISTRICTS_BYTES bytes is refused with 8,
- * before all else. Any bytes of that length are a machine, and no call fails on them; what is said here is said of those
- * that these calls lead to from postman_districts_start.
+ * before all else. Any bytes of that length are a machine, and no call fails on them. In a machine that these calls do not
+ * lead to from postman_districts_start, POSTMAN_NO_DISTRICT is also answered, and nothing changed, where the front district
+ * cannot be gone on with: its place is 8 or more or that of another in line; its file, its budget or its plan is one that
+ * an entry refuses; no tree is left to be tried; or some were tried, and what is held is no tree of its plan with its cost.
  */
 int64_t postman_turn(uint8_t *machine, size_t machine_len, uint16_t *sheet, size_t sheet_len, uint64_t *answer,
                      size_t answer_len, int64_t *multipliers, size_t multipliers_len);

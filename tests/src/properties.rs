@@ -20,7 +20,7 @@ pub use checking::examine_checking;
 pub use codec::{examine_codec, examine_writing};
 pub use count::{examine_count, examine_whole};
 pub use departure::{examine_departure, examine_departure_refusal, examine_no_windows};
-pub use districts::{examine_districts, Request, Told};
+pub use districts::{examine_districts, examine_misplaced, Request, Told};
 pub use editing::{examine_editing, Question, Step};
 pub use judging::{examine_judgement, examine_written};
 pub use page::examine_page;
@@ -158,10 +158,14 @@ pub enum Property {
     SevenTurns,
     /// Without the calls that are refused or find no district inside, the others are told the same.
     NothingMoves,
+    /// A machine that all districts have left is what a start gives.
+    Drained,
+    /// A front district at no place, or at that of another in line, is not gone on with.
+    Misplaced,
 }
 
 /// All of them.
-pub const PROPERTIES: [Property; 64] = {
+pub const PROPERTIES: [Property; 66] = {
     use Property::*;
     [
         Returns,
@@ -228,6 +232,8 @@ pub const PROPERTIES: [Property; 64] = {
         AnswerOfTurns,
         SevenTurns,
         NothingMoves,
+        Drained,
+        Misplaced,
     ]
 };
 

@@ -5,7 +5,7 @@ use crate::limits::{COST, DISTRICTS_BYTES, FINISHED, NO_DISTRICT, TREES};
 use crate::{raw, Answer, Refusal};
 
 /// A machine that lays drives for up to eight districts in turn. Each enters at the back of the line; a turn goes to the front one, which tries 1,000 trees, or
-/// those that are left of its budget or of its plan. A refused entry moves nothing.
+/// those that are left of its budget or of its plan. A refused entry moves nothing. A machine that all districts have left is equal to a new one.
 ///
 /// ```
 /// use postman::{plan_call, Arc, Districts, Edition, Plan, Refusal, Standing, Turn};
@@ -133,7 +133,8 @@ impl Districts {
         &self.machine
     }
 
-    /// The machine that [`as_bytes`](Districts::as_bytes) gave. Any bytes are one, and no call fails on them; what is said of turns is said of those.
+    /// The machine that [`as_bytes`](Districts::as_bytes) gave. Any bytes are one, and no call fails on them; what is said of turns is said of those. In others a front district that cannot be
+    /// gone on with is answered as none: nothing moves.
     ///
     /// ```
     /// use postman::limits::DISTRICTS_BYTES;
@@ -231,6 +232,20 @@ mod tests {
             }
         }
         assert_eq!(turns, budgets.map(|budget| (budget + TURN_TREES - 1) / TURN_TREES));
+        assert_eq!(districts, Districts::new());
+    }
+
+    /// A front district at a place of 8 or more, or at another's, is answered as none, and nothing moves.
+    #[test]
+    fn places_that_are_none() {
+        let mut districts = Districts::new();
+        assert_eq!((districts.enter(&CASE_A, 1), districts.enter(&CASE_A, 1)), (Ok(0), Ok(1)));
+        for place in [8, 9, 16, 255, 1] {
+            let mut machine = *districts.as_bytes();
+            machine[0] = place;
+            let mut other = Districts::from_bytes(&machine);
+            assert_eq!((other.turn(), other.as_bytes()), (None, &machine));
+        }
     }
 
     /// Before the last turn sheet and multipliers are untouched, and of the words only cost and trees are told.

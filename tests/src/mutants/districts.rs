@@ -7,11 +7,12 @@ use crate::properties::Property::{self, *};
 use crate::yardstick::{check_entry, lowest_free, District, Line, Steps};
 use std::collections::BTreeSet;
 
-/// What there is to alter: the line, and places that stay taken.
+/// What there is to alter: the line, places that stay taken, and whether something stays where a district has left.
 #[derive(Clone, Default)]
 struct State {
     line: Line,
     lost: BTreeSet<u8>,
+    kept: bool,
 }
 
 /// Lets a district in wrongly.
@@ -44,6 +45,14 @@ impl Machine for Wrong {
 
     fn turn(&mut self, sheet: &mut [u16]) -> Result<Turn, Refusal> {
         (self.turn)(&mut self.state, sheet)
+    }
+
+    fn is_new(&self) -> bool {
+        self.state.line.is_new() && !self.state.kept
+    }
+
+    fn displace(&mut self, place: u8) {
+        self.state.line.displace(place);
     }
 }
 
@@ -227,7 +236,7 @@ const ENTRIES: [(&str, &[Property], Entry); 15] = [
     }),
 ];
 
-const TURNS: [(&str, &[Property], Service); 25] = [
+const TURNS: [(&str, &[Property], Service); 28] = [
     // the line
     ("the front stays at the front", &[FrontServed, SevenTurns, Stated], |s, sheet| {
         gone_on(s, sheet, |line| line.0.rotate_right(1))
@@ -273,6 +282,11 @@ const TURNS: [(&str, &[Property], Service); 25] = [
         }
         told => Ok(told),
     }),
+    ("a district at place 8 is gone on with", &[Misplaced], |s, sheet| match s.line.0.front() {
+        Some(front) if front.place == 8 => s.line.go_on(TURN_TREES, sheet),
+        _ => right_turn(s, sheet),
+    }),
+    ("the plan of one that leaves stays in the machine", &[Drained], |s, sheet| left(s, sheet, |s, _| s.kept = true)),
     // refusals
     ("a short sheet gets 8 from an empty machine", &[TurnRefusal, Stated], |s, sheet| {
         if sheet.len() < SHEET_PLACES {
@@ -350,6 +364,12 @@ const TURNS: [(&str, &[Property], Service); 25] = [
         answered(s, sheet, |front, answer, sheet| {
             let since = Since(front.tried).plan_call(&front.file, front.budget, sheet).expect("a good plan");
             Answer { whole: answer.whole, ..since }
+        })
+    }),
+    ("one place too many is counted", &[AnswerOfTurns], |s, sheet| {
+        answered(s, sheet, |front, answer, sheet| Answer {
+            places: answer.places + 1,
+            ..front.plan_call(front.budget, sheet)
         })
     }),
     ("an answer of many turns is whole", &[AnswerOfTurns], |s, sheet| {

@@ -26,4 +26,10 @@ pub trait Machine {
 
     /// The front district's turn. In its last one the drive is written into `sheet`, as the plan call does. A refusal moves nothing.
     fn turn(&mut self, sheet: &mut [u16]) -> Result<Turn, Refusal>;
+
+    /// Whether it is what a start gives.
+    fn is_new(&self) -> bool;
+
+    /// The front district's place becomes another, as a machine that was kept elsewhere may say.
+    fn displace(&mut self, place: u8);
 }

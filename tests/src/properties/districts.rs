@@ -39,7 +39,10 @@ fn tell(found: &mut Findings, districts: &dyn Districts, cases: &[Case], request
             call(found, 0, FILL, |_| machine.enter(&cases[case].file, budget)).map(|(told, _)| Told::Entry(told))
         }
         Request::Turn(places) => {
-            call(found, places, FILL, |sheet| machine.turn(sheet)).map(|(told, sheet)| Told::Turn(told, sheet))
+            let told = call(found, places, FILL, |sheet| machine.turn(sheet));
+            let drained = matches!(&told, Some((Ok(Turn::Empty), _)));
+            found.expect(Property::Drained, !drained || machine.is_new(), || format!("{requests:?}"));
+            told.map(|(told, sheet)| Told::Turn(told, sheet))
         }
     };
     requests.iter().map_while(tell).collect()
@@ -74,6 +77,21 @@ pub fn examine_districts(
     let again = tell(found, districts, cases, &accepted);
     found.expect(Property::NothingMoves, again.iter().eq(others), || format!("{requests:?}"));
     told
+}
+
+/// Two districts of one case, the front one at a place of 8 or more, or at the other's: a turn finds nobody to go on with. At its own it goes on.
+pub fn examine_misplaced(found: &mut Findings, districts: &dyn Districts, case: &Case, budget: u64) {
+    let mut machine = districts.start();
+    let entered: Vec<_> = (0..2).map(|_| machine.enter(&case.file, budget)).collect();
+    if entered != [Ok(0), Ok(1)] {
+        return;
+    }
+    for place in [8, 9, 16, 255, 1] {
+        machine.displace(place);
+        let told = call(found, SHEET_PLACES, FILL, |sheet| machine.turn(sheet));
+        let kept = told.as_ref().is_some_and(|(told, sheet)| *told == Ok(Turn::Empty) && sheet.iter().all(|&x| x == FILL));
+        found.expect(Property::Misplaced, kept, || format!("a turn at place {place}: {:?}", told.map(|(told, _)| told)));
+    }
 }
 
 /// The line as it has to be, and the case and the budget that each district brought, by its number there.

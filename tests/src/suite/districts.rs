@@ -5,7 +5,7 @@ use crate::instances::{joined, joined_loops, star, towns, Shape};
 use crate::oracle::Effort;
 use crate::plan::{HIGHEST_BUDGET, SHEET_PLACES};
 use crate::planner::{Districts, Planner, Refusal, Turn};
-use crate::properties::{examine_districts, Case, Findings, Property, Request, Told};
+use crate::properties::{examine_districts, examine_misplaced, Case, Findings, Property, Request, Told};
 use crate::random::Random;
 
 // The cases that districts enter with, by number: first those of the stated runs.
@@ -159,6 +159,7 @@ fn disturbed(run: Run) -> Run {
 }
 
 pub fn run_stated_districts(found: &mut Findings, districts: &dyn Districts, callee: &dyn Planner, cases: &[Case]) {
+    examine_misplaced(found, districts, &cases[MANY], 3_000);
     let mut runs = totals();
     runs.extend([("eight and a ninth", full()), ("nobody inside", empty()), ("places freed", freed())]);
     runs.extend([("behind", behind()), ("behind, disturbed", disturbed(behind()))]);

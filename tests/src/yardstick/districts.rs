@@ -46,8 +46,22 @@ pub fn lowest_free(line: &VecDeque<District>) -> u8 {
 pub struct Line(pub VecDeque<District>);
 
 impl Line {
-    /// The front district tries so many trees more.
+    /// Whether the front district's place is one of eight, and no other has it.
+    fn is_in_place(&self) -> bool {
+        let mut places = self.0.iter().map(|district| district.place);
+        places.next().is_some_and(|front| usize::from(front) < MOST_DISTRICTS && places.all(|place| place != front))
+    }
+
+    /// The front district tries so many trees more. With a long sheet it has to be in its place.
     pub fn turn_of(&mut self, trees: u64, sheet: &mut [u16]) -> Result<Turn, Refusal> {
+        if sheet.len() >= SHEET_PLACES && !self.is_in_place() {
+            return Ok(Turn::Empty);
+        }
+        self.go_on(trees, sheet)
+    }
+
+    /// The same, wherever it is.
+    pub fn go_on(&mut self, trees: u64, sheet: &mut [u16]) -> Result<Turn, Refusal> {
         let Some(mut front) = self.0.pop_front() else { return Ok(Turn::Empty) };
         if sheet.len() < SHEET_PLACES {
             self.0.push_front(front);
@@ -74,6 +88,14 @@ impl Machine for Line {
 
     fn turn(&mut self, sheet: &mut [u16]) -> Result<Turn, Refusal> {
         self.turn_of(TURN_TREES, sheet)
+    }
+
+    fn is_new(&self) -> bool {
+        self.0.is_empty()
+    }
+
+    fn displace(&mut self, place: u8) {
+        self.0.front_mut().expect("a district is inside").place = place;
     }
 }
 

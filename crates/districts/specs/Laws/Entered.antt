@@ -135,8 +135,8 @@ admitted m bytes budget place long few p e line d el ed =
     let a = length-append (waitingIn m) (x ∷ []) in
     let same : d ≡ x = ed ∙ ap (λ q. entrant q bytes budget) p in
     let l : set line (m .waiting) d ≡ padded 8 emptyDistrict (waitingIn m ++ x ∷ []) =
-        ap (λ (y : List DistrictRecord). set y (m .waiting) d) el ∙ ap (λ k. set (padded 8 emptyDistrict (waitingIn m)) k d) (sym n) ∙ padded-set 8 emptyDistrict (waitingIn m) d (omega arith)
-        ∙ ap (λ (y : DistrictRecord). padded 8 emptyDistrict (waitingIn m ++ y ∷ [])) same in
+    ap (λ (y : List DistrictRecord). set y (m .waiting) d) el ∙ ap (λ k. set (padded 8 emptyDistrict (waitingIn m)) k d) (sym n) ∙ padded-set 8 emptyDistrict (waitingIn m) d (omega arith)
+    ∙ ap (λ (y : DistrictRecord). padded 8 emptyDistrict (waitingIn m ++ y ∷ [])) same in
     record {
       refusal = sym good;
       place = λ q a. (let s : place ≡ q = cc in sym s ∙ p);

@@ -60,8 +60,9 @@ module _ (m : Machine) (old new : List ℕ) (r : Turned) (t : IsTurned m old new
   front-turn (last f ds w s u q k) = subst (λ (d : District). IsServed d old new r) (same f ds w) (record {
     going = λ g. absurd (clash (finishes (districtOf f)) q g);
     last = λ g. (
-        t .outcome ∙ ap outcomeOf k,
-        subst⁻¹ (λ (x : Planned). IsPlanned (planOf (bytesOf f)) (f .budget) none old new x) (t .planned ∙ ap answerOf k) (last-planned f u q old new (t .sheet ∙ ap (λ (x : Meeting). sheetAfter x old) k)));
+      t .outcome ∙ ap outcomeOf k,
+      subst⁻¹ (λ (x : Planned). IsPlanned (planOf (bytesOf f)) (f .budget) none old new x) (t .planned ∙ ap answerOf k) (last-planned f u q old new (t .sheet ∙ ap (λ (x : Meeting). sheetAfter x old) k)),
+    );
   })
 
 -- its answer is the plan call's

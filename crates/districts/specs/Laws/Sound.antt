@@ -234,8 +234,8 @@ own-place : (f : DistrictRecord) (ds : List DistrictRecord) → InPlace (distric
 unfolding hasOwnPlace Apart
 own-place f ds i =
     let free : occurs (f .place) (places (map districtOf ds)) ≡ false = is-false (λ t.
-        let r = map-mem (λ (d : District). d .place) (map districtOf ds) (occurs-mem (f .place) (places (map districtOf ds)) t) in
-        i .0 .0 (r .0) (r .1) (sym (r .2))) in
+    let r = map-mem (λ (d : District). d .place) (map districtOf ds) (occurs-mem (f .place) (places (map districtOf ds)) t) in
+    i .0 .0 (r .0) (r .1) (sym (r .2))) in
     and-yes (ltb (f .place) 8) (not (occurs (f .place) (places (map districtOf ds)))) (lt-ltb (f .place) 8 (i .1 (districtOf f) (List·Memᴰ·head refl))) (ap not free)
 
 pub meets : (m : Machine) (sheet : ℕ) → IsSound m → InPlace (lineOf m) → Met m sheet

@@ -6,7 +6,7 @@ use Prim.Native.Nat.{ℕ, zero, suc, _+_, _*_}
 use native.Mathlib.Nat.{suc-mul}
 use native.Mathlib.Omega.{arith}
 use lib.ListN.{length, replicate, length-replicate, replicate-append-replicate}
-use Rattle.encoding.specs.NumberBytes.{numberBytes, wordBytes, longBytes}
+use Rattle.encoding.specs.NumberBytes.{wordBytes, longBytes}
 use Rattle.districts.specs.declared.machine.District.{District}
 use Rattle.districts.specs.declared.machine.Machine.{Machine}
 use Rattle.districts.specs.Machine.{nothingHeld, emptyDistrict, emptyMachine}
@@ -18,11 +18,11 @@ more-zeros : (xs : List ℕ) (a b : ℕ) → xs ≡ replicate a 0 → xs ++ repl
 more-zeros xs a b e = ap (λ (x : List ℕ). x ++ replicate b 0) e ∙ replicate-append-replicate a b 0
 
 word-zeros : wordBytes 0 ≡ replicate 4 0
-unfolding wordBytes numberBytes
+unfolding wordBytes
 word-zeros = refl
 
 long-zeros : longBytes 0 ≡ replicate 8 0
-unfolding longBytes wordBytes numberBytes
+unfolding longBytes wordBytes
 long-zeros = refl
 
 reached-zeros : reachedBytes nothingHeld ≡ replicate 28 0
@@ -39,7 +39,8 @@ district-zeros =
     ∙ more-zeros _ 1488 28 (more-zeros _ 1484 4 (more-zeros _ 9 1475 (more-zeros _ 1 8 refl)))
 
 line-zeros : (n : ℕ) → flatMap districtBytes (replicate n emptyDistrict) ≡ replicate (n * 1516) 0
-line-zeros zero = refl
+unfolding flatMap
+line-zeros zero = ap (λ (k : ℕ). replicate k 0) (let q : 0 ≡ 0 * 1516 = omega arith in q)
 line-zeros (suc n) =
     ap₂ (λ (x y : List ℕ). x ++ y) district-zeros (line-zeros n) ∙ replicate-append-replicate 1516 (n * 1516) 0
     ∙ ap (λ (k : ℕ). replicate k 0) (let e = suc-mul n 1516 in let q : 1516 + n * 1516 ≡ suc n * 1516 = omega arith in q)
@@ -50,7 +51,7 @@ unfolding machineBytes
 empty-zeros = ap (λ (x : List ℕ). flatMap districtBytes (replicate 8 emptyDistrict) ++ x) long-zeros ∙ more-zeros _ 12128 8 (line-zeros 8)
 
 empty-sized : IsDistrictSized emptyDistrict
-empty-sized = record { file = length-replicate 1475 0; held = record { tails = refl; heads = refl } }
+empty-sized = record { file = length-replicate {A = ℕ} 1475 0; held = record { tails = refl; heads = refl } }
 
 each-sized : (n : ℕ) (d : District) → List·Memᴰ d (replicate n emptyDistrict) → IsDistrictSized d
 each-sized zero d m = elim m [ ]

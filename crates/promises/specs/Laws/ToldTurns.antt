@@ -1,5 +1,5 @@
 -- The turns that the numbers tell of are the accepted turns of the run.
-use mathlib.Core.Path.{_≡_, refl, sym, ap, _∙_, subst, subst⁻¹}
+use mathlib.Core.Path.{_≡_, refl, sym, ap, ap₂, _∙_, subst⁻¹}
 use mathlib.Core.Logic.{_≢_}
 use mathlib.Core.Bool.{Bool, true, false, not, cond, _&&_}
 use mathlib.Core.List.{List, [], _∷_, _++_}
@@ -32,8 +32,8 @@ use Rattle.promises.specs.Laws.LentTurns.{lent-led}
 number-told : (o : Outcome) → HasPlace o → (leZ (pos 0) (oneNumber (outcomeNumber o)) && leZ (oneNumber (outcomeNumber o)) (pos 15)) ≡ hadTurn o
 number-told Empty h = refl
 number-told ShortSheet h = refl
-number-told (Unfinished q) h = le-leb q 15 (omega arith)
-number-told (Finished q) h = le-leb (8 + q) 15 (omega arith)
+number-told (Unfinished q) h = ap₂ _&&_ (le-leb 0 q (omega arith)) (le-leb q 15 (omega arith))
+number-told (Finished q) h = ap₂ _&&_ (le-leb 0 (8 + q) (omega arith)) (le-leb (8 + q) 15 (omega arith))
 
 number-of : (q : ℕ) (o : Outcome) → oneNumber (outcomeNumber o) ≢ pos q → oneNumber (outcomeNumber o) ≢ pos (8 + q) → isOf q o ≡ false
 number-of q Empty a b = refl

@@ -40,6 +40,14 @@ impl Machine for LentMachine {
         let told = raw::turn(&mut self.0, sheet, &mut lent.0, &mut lent.1).map_err(postman::Refusal::number)?;
         Ok(turn_of(told, lent))
     }
+
+    fn is_new(&self) -> bool {
+        self.0.iter().all(|&byte| byte == 0)
+    }
+
+    fn displace(&mut self, place: u8) {
+        self.0[0] = place;
+    }
 }
 
 #[cfg(test)]
