@@ -1,6 +1,6 @@
 pub mod BitSet
 pub mod Reach
-pub mod Order
+pub mod Sources
 pub mod Candidates
 pub mod Layout
 -- What is proved about them.

@@ -1,3 +1,2 @@
-// Arborescences in order, and the cheapest one.
-pub mod order;
+// Which components are reached from component 0.
 pub mod reach;

@@ -2,10 +2,9 @@
 --     omega (arith, z)            the hypotheses in reach (fields of records too) and the goal are orders, equations and tests of single terms
 --     simp zz (omega arith)       a goal over sums, differences, products, SFits, Within, natAbs a ≤ m; hypotheses left as arrows of the goal are turned too
 --     simp zz (omega (arith, z, simp zz at h))    the same, with a hypothesis h over sums in reach
---     simp zr (simp zl (omega arith))             an equation of many products: each product is then one atom
 -- The order of the entries in zl matters: `simp` takes the first that fits, so the rules for sums stand before those for a single term. `omega` applies to a hypothesis the first rule of z that fits, and no other.
 -- Assumes nothing.
-use mathlib.Core.Path.{_≡_, refl, sym, _∙_, ap, subst⁻¹}
+use mathlib.Core.Path.{_≡_, refl, ap, subst⁻¹}
 use mathlib.Core.Logic.{_↔_}
 use mathlib.Core.List.{List, [], _∷_}
 use mathlib.Core.Bool.{Bool, true, false, not, cond}
@@ -16,7 +15,7 @@ use mir.Syntax.{Width, w8, w16, w32, w64}
 use mir.Val.{Fits, SFits, hbits, toZ, ofZ}
 use mir.Facts.{toZ-ofZ, toZ-pos}
 use lib.Dec.{T, ltb, ltb→lt, nltb→le, le→leb, leb→le, lt→ltb, nleb→lt}
-use lib.IntN.{ℤ, pos, negsuc, negℤ, subℕ, natAbs, _+ℤ_, _-ℤ_, _*ℤ_, +ℤ-assoc, negℤ-+ℤ, negℤ-negℤ, *ℤ-comm}
+use lib.IntN.{ℤ, pos, negsuc, negℤ, subℕ, natAbs, _+ℤ_, _-ℤ_, _*ℤ_, +ℤ-assoc, negℤ-+ℤ, negℤ-negℤ}
 use lib.Signed.{nonNeg, leZ, ltZ, mag, _≤ℤ_, _<ℤ_, ltZ-yes, ltZ-no, leZ-yes, yes-nonNeg, pos-natAbs}
 
 abbrev pub P : ℤ → ℕ
@@ -100,10 +99,6 @@ back64 a h = toZ-ofZ (record { sfits = h })
 -- a u64 or a usize below 2 ^ 63 cast to an i64, for `simp`: the premise is a `let` in scope, or is listed
 pub plain64 : (n : ℕ) → n < 2 ^ 63 → toZ w64 n ≡ pos n
 plain64 n h = toZ-pos w64 h
-
--- two i64 with the same bits, which is what `a == b` says
-pub same-bits : {w : Width} {a b : ℤ} → SFits w a → SFits w b → ofZ w a ≡ ofZ w b → a ≡ b
-same-bits {w} f g e = sym (toZ-ofZ f) ∙ ap (toZ w) e ∙ toZ-ofZ g
 
 -- the number that a cast of a value that is not negative gives
 pub pos-abs : {a : ℤ} → pos 0 ≤ℤ a → pos (natAbs a) ≡ a
@@ -294,9 +289,6 @@ negℤ-*ℤ a b = simp (zl, mul-p, mul-n) (omega arith)
 pub *ℤ-negℤ : (a b : ℤ) → a *ℤ negℤ b ≡ negℤ (a *ℤ b)
 *ℤ-negℤ a b = simp (zl, mul-p, mul-n) (omega arith)
 
-pub *ℤ-assoc : (a b c : ℤ) → (a *ℤ b) *ℤ c ≡ a *ℤ (b *ℤ c)
-*ℤ-assoc a b c = simp (zl, mul-p, mul-n) (omega arith)
-
 -- ---- ranges: that a value fits a signed width is two orders, and so is a bound on its size
 pub sfits-k : (w : Width) (a : ℤ) → SFits w a ↔ ((a <ℤ pos (2 ^ hbits w)) × (negℤ (pos (2 ^ hbits w)) ≤ℤ a))
 sfits-k w (pos n) = simp zl ((λ h. omega (arith, h .sfits)), (λ h. record { sfits = omega arith }))
@@ -333,29 +325,13 @@ abs-add a b = abs-k (a +ℤ b) (natAbs a + natAbs b) .1 (simp zl (omega (arith, 
 pub sfits-abs : (w : Width) (a : ℤ) → natAbs a < 2 ^ hbits w → SFits w a
 sfits-abs w a h = simp (sfits-k, zl) (omega (arith, abs-pn a))
 
-pub *ℤ-left-comm : (a b c : ℤ) → a *ℤ (b *ℤ c) ≡ b *ℤ (a *ℤ c)
-*ℤ-left-comm a b c = simp (zl, mul-p, mul-n) (omega arith)
-
--- products multiplied out; and sorted, so that each is one atom: `simp zr (simp zl (omega arith))`
+-- products multiplied out
 pub ruleset zm = (*ℤ-+ℤ, +ℤ-*ℤ, negℤ-*ℤ, *ℤ-negℤ)
-
-pub ruleset zr = (zm, *ℤ-assoc, *ℤ-left-comm, *ℤ-comm)
 
 -- everything: `simp zz (omega arith)`
 pub ruleset zz = (zm, sfits-k, abs-k, within-k, zl, mul-p, mul-n)
 
 -- ---- signs of products
-pub mul-nonneg : (m : ℕ) (a : ℤ) → pos 0 ≤ℤ a → pos 0 ≤ℤ (pos m *ℤ a)
-mul-nonneg m (pos n) h = omega (arith, z)
-mul-nonneg m (negsuc n) h = absurd (h .le)
-
-pub mul-mono : (m : ℕ) (a b : ℤ) → a ≤ℤ b → (pos m *ℤ a) ≤ℤ (pos m *ℤ b)
-mul-mono m a b h = simp zz (omega (arith, simp zz at (mul-nonneg m (b -ℤ a) (simp zl (omega (arith, z))))))
-
-pub mul-pos-pos : (a b : ℤ) → pos 0 ≤ℤ a → pos 0 ≤ℤ b → pos 0 ≤ℤ (a *ℤ b)
-mul-pos-pos (pos m) b h k = mul-nonneg m b k
-mul-pos-pos (negsuc m) b h k = absurd (h .le)
-
 -- |a| ≤ m, |b| ≤ k: |a * b| ≤ m * k
 pub mul-abs : (a b : ℤ) (m k : ℕ) → natAbs a ≤ m → natAbs b ≤ k → natAbs (a *ℤ b) ≤ m * k
 mul-abs a b m k h l = rw abs-mul (mul-le-mul h l)

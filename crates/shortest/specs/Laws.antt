@@ -1,7 +1,6 @@
 -- What is proved about the definitions.
 pub mod LastArc
 pub mod Weight
-pub mod Outside
 pub mod Relaxation
 pub mod Columns
 pub mod Roads

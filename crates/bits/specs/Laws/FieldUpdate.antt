@@ -11,8 +11,7 @@ use lib.Arith.{digits-lt}
 use lib.ListN.{length, getD, set, length-set}
 use lib.Pow.{pow-add, pow-pos, shr-lt, shr-shr, high, low, field, mod-mod-pow}
 use lib.Seq.{getD-set-same, getD-set-other}
-use Rattle.postman.specs.BitField.{bitAt, fieldAt}
-use Rattle.postman.specs.Laws.BitField.{number-of-bits}
+use Rattle.postman.specs.BitField.{bitAt}
 use Rattle.bits.specs.FieldUpdate.{withBit, setBit, putBits, putField}
 
 -- ---- one byte
@@ -155,8 +154,3 @@ module _ (l : List ℕ) (a w v : ℕ) where
   pub put-elsewhere : (j : ℕ) → a + w ≤ 8 * j → getD (putField l a w v) j 0 ≡ getD l j 0
   unfolding putField
   put-elsewhere j h = elsewhere-upto w j h
-
--- A field that was put is read back.
-pub field-round-trip : (l : List ℕ) (a w v : ℕ) → a + w ≤ 8 * length l → v < 2 ^ w → fieldAt (putField l a w v) a w ≡ v
-unfolding fieldAt
-field-round-trip l a w v h hv = number-of-bits (bitAt (putField l a w v)) a w v hv (λ i hi. put-inside l a w v i h hi)

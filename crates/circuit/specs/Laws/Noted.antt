@@ -10,9 +10,8 @@ use lib.ListN.{length, take, set, length-set, length-append}
 use lib.Seq.{take-suc-set, take-set-le}
 use Rattle.postman.specs.Lists.{select, upFrom, below}
 use Rattle.postman.specs.Plan.{Arc, Plan, isRequiredArc, arcAt, requiredNumbers}
-use Rattle.postman.specs.Laws.Membership.{length-below}
 use Rattle.circuit.specs.Filled.{Noted, numbersBelow}
-use Rattle.hierholzer.specs.Laws.Lists.{append-nil, map-append, select-append, upFrom-append, select-length}
+use Rattle.hierholzer.specs.Laws.Lists.{append-nil, map-append, select-append, upFrom-append}
 
 abbrev kept : Bool → ℕ → List ℕ
 kept true k = k ∷ []
@@ -31,10 +30,6 @@ unfolding numbersBelow below
 numbers-more p k =
     let f : ℕ → Bool = λ k. isRequiredArc (arcAt (p .arcs) k) in
     ap (select f) (upFrom-append 0 k 1 ∙ ap (λ z. upFrom 0 k ++ z ∷ []) (zero-add k)) ∙ select-append f (upFrom 0 k) (k ∷ []) ∙ ap (λ z. select f (upFrom 0 k) ++ z) (select-one f k)
-
-pub numbers-le : (p : Plan) (k : ℕ) → length (numbersBelow p k) ≤ k
-unfolding numbersBelow
-numbers-le p k = let a = select-length (λ k. isRequiredArc (arcAt (p .arcs) k)) (below k) in let b = length-below k in omega arith
 
 take-kept : (b : Bool) (xs ns : List ℕ) (c v : ℕ) → take c xs ≡ ns → c < length xs → take (c + cond b 1 0) (set xs c v) ≡ ns ++ kept b v
 take-kept true xs ns c v h l = ap (λ z. take z (set xs c v)) (add-one c) ∙ take-suc-set xs c v l ∙ ap (λ z. z ++ v ∷ []) h

@@ -1,16 +1,14 @@
 -- The direct amounts of a certified state: they balance the same arcs, tight for the same potentials, and send no more units than there are arcs.
-use mathlib.Core.Path.{_≡_, refl, sym, ap, _∙_, subst⁻¹}
+use mathlib.Core.Path.{_≡_, sym, ap, _∙_, subst⁻¹}
 use mathlib.Core.Logic.{_⊎_, inl, inr, _≢_}
 use mathlib.Core.List.{List, [], _∷_, List·Memᴰ, List·Memᴰ·head, List·Memᴰ·tail}
 use Prim.Native.Nat.{ℕ, _+_, _*_, _≤_}
-use native.Mathlib.Nat.{mul-comm, mul-one, suc-mul, mul-le-mul-right}
+use native.Mathlib.Nat.{suc-mul, mul-le-mul-right}
 use native.Mathlib.Decide.{ℕ-discrete}
 use native.Mathlib.Omega.{arith}
 use lib.ListN.{length}
-use Rattle.postman.specs.Lists.{occurrences}
 use Rattle.postman.specs.Balancing.{sumOver}
-use Rattle.postman.specs.Laws.Sum.{sum-le, term-le, sum-occurrences}
-use Rattle.postman.specs.Laws.Amounts.{Within, within-once}
+use Rattle.postman.specs.Laws.Sum.{term-le}
 use Rattle.balance.specs.Optimality.{Tight, Balances, sent, received}
 use Rattle.residual_search.specs.Step.{State, amount, potential}
 use Rattle.direct_amounts.specs.Direct.{passed, bypass, bypassFrom, bypassVertex, direct}
@@ -24,11 +22,6 @@ sum-most : (vs : List ℕ) (g : ℕ → ℕ) (n : ℕ) → ((i : ℕ) → g i �
 unfolding sumOver
 sum-most [] g n h = omega arith
 sum-most (v ∷ vs) g n h = let a = sum-most vs g n h in let b = h v in let e = suc-mul (length vs) n in omega arith
-
-sum-ones : (us : List ℕ) → sumOver us (λ i. 1) ≡ length us
-unfolding sumOver
-sum-ones [] = refl
-sum-ones (u ∷ us) = let e = sum-ones us in omega arith
 
 sum-two : {vs : List ℕ} (g : ℕ → ℕ) {i j : ℕ} → i ≢ j → List·Memᴰ i vs → List·Memᴰ j vs → g i + g j ≤ sumOver vs g
 unfolding sumOver
@@ -111,11 +104,3 @@ module _ (d : ℕ → ℕ → ℕ) (vs : List ℕ) (metric : Metric d vs) (s : S
     -- BALANCING THE SAME ARCS
     pub direct-balanced : Balances vs (amount g) hs ts
     direct-balanced i m = let a = direct-keeps .falls .net i m in let b = counted .balanced i m in omega arith
-
-    -- IN NO MORE UNITS THAN ARCS
-    pub direct-units : Within vs hs → sumOver vs (sent vs (amount g)) ≤ length hs
-    direct-units wh =
-        let a = sum-le vs (sent vs (amount g)) (λ i. 1 * occurrences i hs) (λ i m. let b = direct-balanced i m in let e = mul-comm 1 (occurrences i hs) ∙ mul-one (occurrences i hs) in elim (one-way i m) [ inl z ↦ omega arith | inr z ↦ omega arith ]) in
-        let b = sum-occurrences (λ i. 1) vs hs (within-once wh) in
-        let e = sum-ones hs in
-        omega arith

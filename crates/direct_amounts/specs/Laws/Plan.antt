@@ -3,7 +3,7 @@
 use mathlib.Core.Path.{_≡_, refl, sym, ap, ap₂, _∙_, subst₂, subst⁻¹, fun-ext}
 use mathlib.Core.Logic.{_⊎_, inl, inr}
 use mathlib.Core.Bool.{Bool, not}
-use mathlib.Core.List.{List, [], _∷_, _++_, map, List·Memᴰ, List·Memᴰ·head, List·Memᴰ·tail, List·Memᴰ·not-nil, List·Memᴰ·append-cases, append-nil}
+use mathlib.Core.List.{List, [], _∷_, _++_, map, List·Memᴰ, List·Memᴰ·head, List·Memᴰ·tail, List·Memᴰ·not-nil, List·Memᴰ·append-cases}
 use Prim.Native.Nat.{ℕ, suc, _+_, _*_, _-_, _≤_, _<_}
 use native.Mathlib.Nat.{mul-le-mul-right, zero-mul, suc-mul}
 use native.Mathlib.Omega.{arith}
@@ -30,14 +30,14 @@ use Rattle.postman.specs.Laws.Balancing.{Joins, within-heads, within-tails, sam
 use Rattle.postman.specs.Laws.Existence.{linked}
 use Rattle.postman.specs.Laws.SignedSum.{sum-sub, sum-occurrences}
 use Rattle.balance.specs.Optimality.{Feasible, Tight, sent, received}
-use Rattle.residual_search.specs.Step.{State, amount, potential, empty, add, addAll, arcsOf}
+use Rattle.residual_search.specs.Step.{State, amount, potential, empty, add, addAll}
 use Rattle.balance.specs.Multipliers.{multipliers}
 use Rattle.balance.specs.Balance.{requiredEnds, balance}
 use Rattle.direct_amounts.specs.Direct.{direct}
 use Rattle.balance.specs.Invariant.{Metric, Joining, limit, Certified, Counted}
 use Rattle.balance.specs.Laws.Duality.{is-balancing, cost-price, slack-tight, cost-least, price-least}
 use Rattle.balance.specs.Laws.Arcs.{all-counted, empty-certified, empty-counted}
-use Rattle.direct_amounts.specs.Laws.DirectBalance.{direct-tight, one-way, direct-balanced, direct-units}
+use Rattle.direct_amounts.specs.Laws.DirectBalance.{direct-tight, one-way, direct-balanced}
 use Rattle.balance.specs.Laws.Multipliers.{x-root, w, w-feasible, w-tight, below-greatest, M-here, M-other}
 
 -- ---- sums of signed numbers, and of the naturals that a constant makes of them
@@ -68,20 +68,6 @@ add-append : (d : ℕ → ℕ → ℕ) (vs : List ℕ) (s : State) (xs ys : List
 unfolding addAll
 add-append d vs s [] ys = refl
 add-append d vs s (x ∷ xs) ys = add-append d vs (add d vs s (x .tail) (x .head)) xs ys
-
--- the links of t are added to the state of the required arcs
-pub balance-links : (d : ℕ → ℕ → ℕ) (p : Plan) (t : List Link) → balance d p t ≡ addAll d (required p) (balance d p []) t
-unfolding balance
-balance-links d p t = add-append d (required p) empty (requiredEnds p) t ∙ ap (λ (l : List Link). addAll d (required p) (addAll d (required p) empty l) t) (sym (append-nil (requiredEnds p)))
-
--- the required arcs, by their tails and heads
-pub balance-ends : (d : ℕ → ℕ → ℕ) (p : Plan) → balance d p [] ≡ addAll d (required p) empty (arcsOf (map (λ a. a .tail) (requiredArcs p)) (map (λ a. a .head) (requiredArcs p)))
-unfolding balance requiredEnds arcsOf
-balance-ends d p = ap (addAll d (required p) empty) (append-nil (map (λ (a : Arc). record { tail = a .tail; head = a .head }) (requiredArcs p)) ∙ at (requiredArcs p))
-  where
-    at : (arcs : List Arc) → map (λ (a : Arc). record { tail = a .tail; head = a .head }) arcs ≡ arcsOf (map (λ a. a .tail) arcs) (map (λ a. a .head) arcs)
-    at [] = refl
-    at (a ∷ arcs) = ap (λ (l : List Link). record { tail = a .tail; head = a .head } ∷ l) (at arcs)
 
 -- ---- the required vertices are as a state asks
 
@@ -190,11 +176,6 @@ module _ (p : Plan) (ok : WellFormed p) (connected : T (not (isCutOff p))) where
       abbrev u : ℕ → ℕ
       u = potential (balance d p t .potentials)
 
-      -- THE AMOUNTS BALANCE
-      pub balance-balances : IsBalancing (required p) (imbalance p t) f
-      unfolding imbalance difference
-      balance-balances = is-balancing (required p) f (heads p t) (tails p t) (balance-counted .balanced)
-
       -- AT THE LEAST COST
       pub amounts-least : balancingCost (required p) (distance p) f ≡ leastBalancing p t
       unfolding leastBalancing
@@ -252,18 +233,6 @@ module _ (p : Plan) (ok : WellFormed p) (connected : T (not (isCutOff p))) where
       -- FROM SURPLUS TO DEFICIT
       pub direct-way : (v : ℕ) → List·Memᴰ v (required p) → (received (required p) g v ≡ 0) ⊎ (sent (required p) g v ≡ 0)
       direct-way = one-way d (required p) table-metric (balance d p t) balance-certified
-
-      -- IN AT MOST AS MANY UNITS AS REQUIRED ARCS AND LINKS
-      pub direct-few : sumOver (required p) (sent (required p) g) ≤ 256 + length t
-      unfolding heads requiredArcs
-      direct-few =
-          let a = direct-units d (required p) table-metric (balance d p t) balance-certified (heads p t) (tails p t) balance-counted (within-heads p ends t joins) in
-          let b = length-append (map (λ (a : Arc). a .head) (select isRequiredArc (p .arcs))) (map (λ (l : Link). l .head) t) in
-          let c = length-map (select isRequiredArc (p .arcs)) (λ (a : Arc). a .head) in
-          let e = length-map t (λ (l : Link). l .head) in
-          let f = length-select isRequiredArc (p .arcs) in
-          let h = ok .arc-count in
-          omega arith
 
     -- ---- the multipliers
 

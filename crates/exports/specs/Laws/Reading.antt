@@ -1,14 +1,11 @@
 -- Reading into lent bytes is reading into the records that they hold: there is room for a seventh as many records as bytes, and a refusal stores none.
-use mathlib.Core.Path.{_≡_, refl, ap, _∙_}
+use mathlib.Core.Path.{_≡_, refl, ap}
 use mathlib.Core.List.{List, _++_, map, flatMap}
-use mathlib.Core.Option.{Option, none, some}
-use Prim.Native.Nat.{ℕ, _+_, _*_, _/_, _%_, _≤_}
-use native.Mathlib.Omega.{arith}
+use Prim.Native.Nat.{ℕ, _+_, _*_, _/_}
 use lib.ListN.{length, drop}
 use Rattle.postman.specs.Lists.{below, upFrom}
-use Rattle.postman.specs.Plan.{Arc}
 use Rattle.postman.specs.Refusal.{answer, unless}
-use Rattle.postman.specs.PlanFile.{edition, arcOf, vertexCount, arcCount, planOf, readRefusal, readAnswer, recordsAfter}
+use Rattle.postman.specs.PlanFile.{edition, arcOf, vertexCount, arcCount, planOf, readRefusal, readAnswer}
 use Rattle.postman.specs.Laws.Refusal.{was-given, was-refused}
 use Rattle.plan.specs.Records.{recordOf}
 use Rattle.refusal.specs.Verdict.{refusalNumber}
@@ -20,7 +17,7 @@ use Rattle.encoding.specs.RecordBytes.{arcBytes, arcsIn}
 use Rattle.answers.specs.Number.{oneNumber}
 use Rattle.exports.specs.Codec.{lentAfter}
 use Rattle.answers.specs.FileNumber.{packed}
-use Rattle.encoding.specs.Laws.RecordBytes.{length-lent, length-records, arcs-left, arcs-back}
+use Rattle.encoding.specs.Laws.RecordBytes.{length-lent, length-records}
 
 module _ (file lent : List ℕ) where
   abbrev all : ℕ × ℕ × ℕ
@@ -47,21 +44,3 @@ module _ (file lent : List ℕ) where
       let w = was-refused (readRefusal file (length lent / 7)) all (refusalNumber q) e in
       rw w refl
 
--- ---- what a caller goes by
-
--- The records that the bytes hold afterwards are those that reading leaves.
-pub records-after : (file lent : List ℕ) → arcsIn (lentAfter file lent) ≡ recordsAfter file (arcsIn lent)
-unfolding lentAfter recordsAfter unless
-records-after file lent = rw length-lent (at (readRefusal file (length lent / 7)))
-  where
-    at
-        : (o : Option ℕ)
-        → arcsIn (unless o (flatMap arcBytes (planOf file .arcs) ++ drop (7 * arcCount file) lent) lent)
-        ≡ unless o (planOf file .arcs ++ drop (arcCount file) (arcsIn lent)) (arcsIn lent)
-    at none = arcs-back (planOf file .arcs) (drop (7 * arcCount file) lent) ∙ ap (λ (l : List Arc). planOf file .arcs ++ l) (arcs-left lent (arcCount file))
-    at (some r) = refl
-
--- The edition, n and m are digits of their number.
-pub unpacked : (e n m : ℕ) → n ≤ 64 → m ≤ 256
-    → ((e * 65536 + n * 512 + m) / 65536 ≡ e) × ((e * 65536 + n * 512 + m) / 512 % 128 ≡ n) × ((e * 65536 + n * 512 + m) % 512 ≡ m)
-unpacked e n m g h = (omega arith, omega arith, omega arith)

@@ -16,7 +16,6 @@ use Rattle.postman.specs.Laws.Membership.{getD-mem}
 use Rattle.postman.specs.Laws.Distance.{bounded}
 use Rattle.postman.specs.Laws.Required.{number-ends}
 use Rattle.postman.specs.Laws.Component.{component-lt}
-use Rattle.postman.specs.Laws.Balancing.{Joins}
 use Rattle.postman.specs.Laws.Existence.{some-required}
 use Rattle.postman.specs.Laws.Optimality.{Plannable}
 use Rattle.residual_search.specs.Step.{State, cell}
@@ -73,9 +72,6 @@ module _ (p : Plan) (ok : Plannable p) (few : componentCount p ≤ 8) where
 
   abbrev s : State
   s = balance d p []
-
-  none-joined : Joins p []
-  none-joined l m = elim m [ ]
 
   pub greatest : AreGreatest p (root p) (multipliersOf (multipliers d (required p) s (root p)))
   greatest = multipliers-greatest p (ok .well-formed) (ok .connected) d (agrees p ok few) (root p) root-required

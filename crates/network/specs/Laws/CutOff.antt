@@ -12,8 +12,8 @@ use Rattle.postman.specs.Plan.{Plan, WellFormed}
 use Rattle.postman.specs.Required.{required}
 use Rattle.postman.specs.Distance.{noPath, distance, hasPath}
 use Rattle.postman.specs.PlanCall.{isCutOff}
-use Rattle.postman.specs.Laws.Tests.{same-test, and-both, and-parts, not-not, eqb-same}
-use Rattle.postman.specs.Laws.Membership.{anyOf-mem, anyOf-at, anyOf-not, mem-below, below-mem}
+use Rattle.postman.specs.Laws.Tests.{same-test, and-both, and-parts, eqb-same}
+use Rattle.postman.specs.Laws.Membership.{anyOf-mem, anyOf-at, mem-below, below-mem}
 use Rattle.postman.specs.Laws.Distance.{bounded, distance-le-noPath}
 use Rattle.shortest.specs.Contracts.{IsTable}
 use Rattle.required.specs.Contracts.{IsRequiredFlags}
@@ -70,12 +70,3 @@ module _ (p : Plan) (ok : WellFormed p) (d : List (List ℕ)) (r : List Bool) (k
       let x = anyOf-at f (required p) t in
       let l = required-below p ok (x .1) in
       anyOf-mem (isCut d r) (mem-below l) (and-both (getD r (x .0) false) (missesSome d r (x .0)) (flag-of (x .1)) (subst⁻¹ T (misses-some (x .0) l) (x .2))))
-
--- where a plan is not cut off, any two required vertices have a path
-pub path-between : (p : Plan) → isCutOff p ≡ false → {i j : ℕ} → List·Memᴰ i (required p) → List·Memᴰ j (required p) → distance p i j < noPath
-unfolding isCutOff hasPath
-path-between p e {i} {j} mi mj =
-    let f : ℕ → Bool = λ k. anyOf (λ l. not (hasPath p k l)) (required p) in
-    let a : T (not (anyOf f (required p))) = rw e tt in
-    let b = anyOf-not (λ l. not (hasPath p i l)) mj (anyOf-not f mi a) in
-    ltb→lt (distance p i j) noPath (not-not (hasPath p i j) b)

@@ -32,17 +32,3 @@ module _ {A : Type 0} (z : A) (f : ℕ → ℕ → A) (t : List A) where
       ];
       after = λ a b ha hb l. getD-set-other t (i * 64 + j) (a * 64 + b) v z (λ q. omega arith) ∙ h .after a b ha hb (omega arith);
     }
-
-    -- no store, where the entry is right already
-    pub filled-skip : z ≡ f i j → Filled z f t (i * 64 + (j + 1))
-    filled-skip e = record {
-      size = h .size;
-      before = λ a b ha hb l. elim (ℕ-discrete (a * 64 + b) (i * 64 + j)) [
-        | yes q ↦
-            let x : a ≡ i = omega arith in
-            let y : b ≡ j = omega arith in
-            rw (x, y) (h .after i j hi hj (omega arith) ∙ e)
-        | no q ↦ h .before a b ha hb (omega arith)
-      ];
-      after = λ a b ha hb l. h .after a b ha hb (omega arith);
-    }

@@ -3,19 +3,17 @@ use mathlib.Core.Path.{_≡_, refl, sym, ap, ap₂, _∙_}
 use mathlib.Core.Bool.{cond, not, _||_}
 use mathlib.Core.List.{List, map}
 use mathlib.Core.Option.{none, some}
-use Prim.Native.Nat.{ℕ, _≤_}
+use Prim.Native.Nat.{ℕ}
 use lib.ListN.{length}
 use lib.Dec.{ltb}
-use native.Mathlib.Omega.{arith}
 use Rattle.postman.specs.Lists.{below}
 use Rattle.postman.specs.BitField.{fieldAt}
 use Rattle.postman.specs.Refusal.{firstRefusal}
-use Rattle.postman.specs.PlanFile.{edition, vertexCount, arcCount, isEdition, arcOf, editionConditions, extentConditions, bodyConditions, isOutside, fileConditions, planOf, readRefusal}
+use Rattle.postman.specs.PlanFile.{edition, vertexCount, arcCount, isEdition, arcOf, editionConditions, extentConditions, bodyConditions, isOutside, fileConditions, planOf}
 use Rattle.plan.specs.declared.Arc.{Arc as ArcRecord}
 use Rattle.plan.specs.declared.Plan.{Plan as PlanRecord}
 use Rattle.plan_file.specs.declared.Reading.{Reading}
 use Rattle.postman.specs.Laws.Below.{length-map-below}
-use Rattle.postman.specs.Laws.Acceptance.{accepted-is-file, file-is-read}
 use Rattle.plan_file.specs.Reading.{IsReading, editionUnless, planUnless, planFrom, extentOn}
 use Rattle.plan_file.specs.Laws.Records.{value-record}
 use Rattle.plan.specs.Records.{planValue, recordsOf, planRecord}
@@ -53,9 +51,3 @@ accepted-edition bytes r read e = rw e at (read .edition-is)
 pub accepted-value : (bytes : List ℕ) (r : Reading) → IsReading bytes r → firstRefusal (fileConditions bytes) ≡ none → planValue (r .plan) ≡ planOf bytes
 unfolding planUnless
 accepted-value bytes r read e = ap planValue (rw e at (read .plan)) ∙ value-record (planOf bytes)
-
--- 256 records are always enough, so a plan by value is never refused by 8.
-pub room-enough : (bytes : List ℕ) (room : ℕ) → 256 ≤ room → firstRefusal (fileConditions bytes) ≡ none → readRefusal bytes room ≡ none
-room-enough bytes room h e =
-    let f = accepted-is-file bytes e in
-    file-is-read bytes room f (omega (arith, f .arc-count))

@@ -5,11 +5,11 @@ use mathlib.Core.Logic.{_≢_}
 use mathlib.Core.Bool.{Bool, true, false, not, cond, _||_}
 use mathlib.Core.List.{List, [], _∷_, _++_, List·Memᴰ}
 use mathlib.Core.Option.{none}
-use Prim.Native.Nat.{ℕ, _+_, _*_, _≤_, _<_}
+use Prim.Native.Nat.{ℕ, _+_, _≤_, _<_}
 use native.Mathlib.Omega.{arith}
 use lib.ListN.{length}
-use lib.Dec.{T, eqb, ltb, leb, eqb→eq, not-T, nleb→lt, nltb→le}
-use lib.Arith.{lt→nleb, le→nltb}
+use lib.Dec.{T, eqb, ltb, leb, eqb→eq, nleb→lt, nltb→le}
+use lib.Arith.{le→nltb}
 use Rattle.postman.specs.Lists.{below}
 use Rattle.postman.specs.Plan.{Arc, Plan, WellFormed, isRequiredArc, requiredArcs}
 use Rattle.postman.specs.BitField.{fieldAt}
@@ -22,7 +22,7 @@ use Rattle.postman.specs.Laws.Membership.{map-mem, below-mem}
 use Rattle.postman.specs.Laws.Below.{length-map-below}
 use Rattle.postman.specs.Laws.BitField.{field-lt}
 use Rattle.postman.specs.Laws.FileLength.{counted}
-use Rattle.postman.specs.Laws.Refusal.{nothing-refused, accepted-cons, cons-accepted, accepted-append, append-accepted, accepted-flatMap, flatMap-accepted}
+use Rattle.postman.specs.Laws.Refusal.{nothing-refused, accepted-cons, cons-accepted, accepted-append, append-accepted, accepted-flatMap}
 use Rattle.postman.specs.Laws.Repeated.{Distinct, not-repeated}
 
 -- ---- limits
@@ -80,13 +80,6 @@ module _ (e n : ℕ) (a : Arc) where
       let v = not-or (leb n (a .tail)) (leb n (a .head)) (s .0) in
       record { tail = nleb→lt n (a .tail) (v .0); head = nleb→lt n (a .head) (v .1); priced = c .0; standing = nltb→le 2 (a .standing) (t .0) }
 
-  accepted-arc : IsFileArc e n a → firstRefusal (arcConditions e n a) ≡ none
-  unfolding arcConditions
-  accepted-arc h =
-      cons-accepted _ _ _ (neither (leb n (a .tail)) (leb n (a .head)) (lt→nleb n (a .tail) (h .tail)) (lt→nleb n (a .head) (h .head)))
-      (cons-accepted _ _ _ (h .priced)
-      (cons-accepted _ _ _ (le→nltb 2 (a .standing) (h .standing)) nothing-refused))
-
   -- in edition 1 the service cost is the implied one
   -- just the must arcs have checking costs
   pub required-priced : T (not (isMispriced e a)) → T (isRequiredArc a) → T (not (eqb (a .service) 0))
@@ -117,10 +110,6 @@ module _ (e : ℕ) (p : Plan) where
   pub arcs-accepted : firstRefusal (arcsConditions e p) ≡ none → (a : Arc) → List·Memᴰ a (p .arcs) → IsFileArc e (p .n) a
   unfolding arcsConditions
   arcs-accepted h a m = arc-accepted e (p .n) a (accepted-flatMap (arcConditions e (p .n)) m h)
-
-  accepted-arcs : ((a : Arc) → List·Memᴰ a (p .arcs) → IsFileArc e (p .n) a) → firstRefusal (arcsConditions e p) ≡ none
-  unfolding arcsConditions
-  accepted-arcs h = flatMap-accepted (arcConditions e (p .n)) (p .arcs) (λ a m. accepted-arc e (p .n) a (h a m))
 
   -- the arcs one by one, then all of them: "after all arcs passed 5 to 7"
   pub plan-accepted : firstRefusal (planConditions e p) ≡ none → (firstRefusal (arcsConditions e p) ≡ none) × T (not (hasRepeated (p .arcs)))

@@ -3,7 +3,6 @@ use mathlib.Core.Path.{_≡_, sym, ap₂, _∙_}
 use mathlib.Core.Logic.{inl, inr}
 use mathlib.Core.List.{List, _++_, map, List·Memᴰ, List·Memᴰ·append-cases, Memᴰ·cast}
 use Prim.Native.Nat.{ℕ, _+_, _≤_}
-use native.Mathlib.Omega.{arith}
 use lib.ListN.{length, length-map, length-append}
 use Rattle.postman.specs.Plan.{Arc, Plan, requiredArcs}
 use Rattle.postman.specs.Required.{required}
@@ -55,14 +54,3 @@ module _ (p : Plan) (ok : InPlan p) (t : List Link) (joins : Joins p t) where
   pub least-balancing-at : (f : ℕ → ℕ → ℕ) × IsBalancing (required p) (imbalance p t) f × (balancingCost (required p) (distance p) f ≡ leastBalancing p t)
   unfolding leastBalancing imbalance difference
   least-balancing-at = assignment-at (distance p) (required p) (heads p t) (tails p t) same-length within-heads within-tails
-
-  -- a balancing that no other undercuts has the least cost: what a run that found one, with multipliers, cites
-  pub certificate : (f : ℕ → ℕ → ℕ) → IsBalancing (required p) (imbalance p t) f
-      → ((g : ℕ → ℕ → ℕ) → IsBalancing (required p) (imbalance p t) g → balancingCost (required p) (distance p) f ≤ balancingCost (required p) (distance p) g)
-      → leastBalancing p t ≡ balancingCost (required p) (distance p) f
-  certificate f b c =
-      let r = least-balancing-at in
-      let h = c (r .0) (r .1) in
-      let g = least-balancing-le f b in
-      let e = r .2 in
-      omega arith

@@ -15,12 +15,11 @@ use Rattle.postman.specs.Plan.{WellFormed}
 use Rattle.postman.specs.Refusal.{firstRefusal, unless}
 use Rattle.postman.specs.PlanFile.{fileConditions, planOf}
 use Rattle.postman.specs.Distance.{distance}
-use Rattle.postman.specs.DistanceCall.{first, second, isStray, hasStray, pairsConditions, distanceRefusal, entry, searchCount, distancesAfter}
+use Rattle.postman.specs.DistanceCall.{first, second, isStray, hasStray, pairsConditions, distanceRefusal, entry, distancesAfter}
 use Rattle.postman.specs.Laws.Tests.{or-cases, not-or}
 use Rattle.postman.specs.Laws.Membership.{getD-mem, mem-getD, getD-map-in, anyOf-at, anyOf-not}
 use Rattle.postman.specs.Laws.Refusal.{first-on, first-stop, accepted-append, append-accepted, accepted-cons, cons-accepted, nothing-refused}
 use Rattle.postman.specs.Laws.Acceptance.{file-accepted}
-use Rattle.postman.specs.Laws.Distinct.{distinct-le, distinct-none}
 
 -- ---- the refusals in their order
 
@@ -100,15 +99,6 @@ unfolding distanceRefusal
 accepted-distance bytes pairs room e h l = append-accepted (fileConditions bytes) _ e (accepted-pairs (planOf bytes .n) pairs room h l)
 
 -- ---- the answer
-
--- No more searches than pairs, and none where there is no pair.
-pub searches-le : (pairs : List ℕ) → searchCount pairs ≤ length pairs
-unfolding searchCount
-searches-le pairs = let h = distinct-le (map first pairs) in let l = length-map pairs first in omega arith
-
-pub no-search : searchCount [] ≡ 0
-unfolding searchCount
-no-search = distinct-none
 
 -- Entry k of a page that is not refused.
 pub page-entry : (bytes pairs distances : List ℕ) (k : ℕ) → distanceRefusal bytes pairs (length distances) ≡ none → k < length pairs

@@ -108,12 +108,3 @@ distinct-more (y ∷ xs) x =
     other true c n = refl
     other false true n = refl
     other false false n = refl
-
-pub distinct-le : (xs : List ℕ) → length (distinct xs) ≤ length xs
-unfolding distinct
-distinct-le [] = omega arith
-distinct-le (x ∷ xs) = let h = distinct-le xs in rw distinct-cons (at (occurs x xs) h)
-  where
-    at : (b : Bool) → length (distinct xs) ≤ length xs → oneMore b (length (distinct xs)) ≤ length (x ∷ xs)
-    at true h = omega arith
-    at false h = omega arith

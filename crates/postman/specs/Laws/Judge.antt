@@ -1,7 +1,7 @@
 -- A list of arcs has no fault exactly when it is a tour: a number that is not foreign is that of an open arc, arcs without a gap are a walk that ends where it began, and a
 -- required arc that is not missed occurs. Each by induction on the list. Hence the list is judged to cost something exactly when it is a tour, where nothing before its faults applies.
-use mathlib.Core.Path.{_≡_, refl, sym, ap, _∙_, subst, subst⁻¹}
-use mathlib.Core.Logic.{_↔_, _≢_}
+use mathlib.Core.Path.{_≡_, refl, sym, ap, _∙_, subst⁻¹}
+use mathlib.Core.Logic.{_↔_}
 use mathlib.Core.Bool.{Bool, true, false, not, cond, _||_}
 use mathlib.Core.List.{List, [], _∷_, _++_, List·Memᴰ, append-assoc}
 use mathlib.Core.Option.{Option, none, some}
@@ -18,7 +18,7 @@ use Rattle.postman.specs.PlanFile.{edition, vertexCount, arcCount, isEdi
 use Rattle.postman.specs.Tour.{IsWalk, IsTour, tourCostDue, tourCost}
 use Rattle.postman.specs.PlanCall.{callRefusal}
 use Rattle.postman.specs.Judge.{isForeign, hasForeign, isBroken, isUnjoined, isMissed, faultConditions, highestPlaces, lentConditions, unjudgedConditions, judgeRefusal, judgeAnswer}
-use Rattle.postman.specs.Laws.Tests.{cond-ind, not-or, not-not, eqb-same, eqb-other}
+use Rattle.postman.specs.Laws.Tests.{cond-ind, not-or, not-not, eqb-same}
 use Rattle.postman.specs.Laws.Membership.{anyOf-mem, anyOf-at, anyOf-not}
 use Rattle.postman.specs.Laws.Required.{numbers-mem, mem-numbers}
 use Rattle.postman.specs.Laws.Refusal.{first-on, nothing-refused, accepted-cons, cons-accepted, accepted-append, append-accepted, answer-given, was-given}
@@ -141,14 +141,6 @@ module _ (bytes : List ℕ) (places : ℕ) where
       at : (b : Bool) → cond {A = Option ℕ} b (some 3) (some 3) ≡ some 3
       at true = refl
       at false = refl
-
-  -- where they do not apply the file is good, and some arc is required
-  pub unjudged-accepted : firstRefusal (unjudgedConditions bytes places) ≡ none → (firstRefusal (lentConditions bytes places) ≡ none) × (0 < length (requiredArcs (planOf bytes)))
-  unfolding unjudgedConditions
-  unjudged-accepted e =
-      let r = accepted-append (lentConditions bytes places) _ e in
-      let some : length (requiredArcs (planOf bytes)) ≢ 0 = eqb-other (accepted-cons _ _ _ (r .1) .0) in
-      (r .0, omega arith)
 
   accepted-unjudged : firstRefusal (lentConditions bytes places) ≡ none → 0 < length (requiredArcs (planOf bytes)) → firstRefusal (unjudgedConditions bytes places) ≡ none
   unfolding unjudgedConditions

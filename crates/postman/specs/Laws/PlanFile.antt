@@ -21,7 +21,7 @@ use Rattle.postman.specs.Refusal.{firstRefusal}
 use Rattle.postman.specs.Laws.Tests.{cond-ind, or-cases}
 use Rattle.postman.specs.Laws.Membership.{getD-mem}
 use Rattle.postman.specs.Laws.Below.{length-map-below, getD-map-below}
-use Rattle.postman.specs.Laws.BitField.{number-lt, number-same, zero-number, bit-lt, field-zero, bit-out, byte-of-bits, packed-bit, length-bitsOf, bitsOf-lt, run, run-zero, length-run, getD-run, bitsOf-number, run-append, bitIn, append-lt, read-left, read-right, read-last, three, length-three, three-lt, read-first, read-second, read-third, read-after}
+use Rattle.postman.specs.Laws.BitField.{number-same, zero-number, bit-lt, field-zero, bit-out, byte-of-bits, packed-bit, length-bitsOf, bitsOf-lt, run, run-zero, length-run, getD-run, bitsOf-number, run-append, bitIn, append-lt, read-left, read-right, read-last, three, length-three, three-lt, read-first, read-second, read-third, read-after}
 use Rattle.postman.specs.Laws.FileLength.{by-edition, second-width, width-le, bits-none, bits-least, bits-more, bits-fit}
 use Rattle.postman.specs.Laws.Acceptance.{implied, arcs-accepted, plan-accepted, IsFile, read-is-file, file-is-read, read-accepted, vertices-read, arcs-read, accepted-is-writable, write-accepted, accepted-write}
 
@@ -293,15 +293,6 @@ read-written e p room small h =
       plan-same e p w (g .edition-in) (g .arcs-in),
       λ records l. file-is-read (fileOf e p) records (is-file e p w (g .edition-in) (g .arcs-in)) (rw (count-same e p w) l),
     )
-
-pub fileOf-lt : (e : ℕ) (p : Plan) (k : ℕ) → getD (fileOf e p) k 0 < 256
-fileOf-lt e p k = elim (decLt k (fileLength e (length (p .arcs)))) [
-  | yes l ↦ rw (file-byte e p k l)
-      (number-lt (bitIn (planBits e p)) (8 * k) 8 (λ j g. plan-bits-lt e p (8 * k + j)))
-  | no l ↦ let g = length-fileOf e p in
-      let h : length (fileOf e p) ≤ k = omega arith in
-      rw (List·getD-eq-default (fileOf e p) 0 h) (lit< tt)
-]
 
 -- ---- writing what was read
 

@@ -76,12 +76,6 @@ module _ {A : Type 0} (f : A → Conditions) where
   accepted-flatMap (List·Memᴰ·head {x = y} {xs = ys} e) h = subst⁻¹ (λ z. firstRefusal (f z) ≡ none) e (accepted-append (f y) (flatMap f ys) h .0)
   accepted-flatMap (List·Memᴰ·tail {x = y} {xs = ys} m) h = accepted-flatMap m (accepted-append (f y) (flatMap f ys) h .1)
 
-  pub flatMap-accepted : (xs : List A) → ((x : A) → List·Memᴰ x xs → firstRefusal (f x) ≡ none) → firstRefusal (flatMap f xs) ≡ none
-  unfolding flatMap
-  flatMap-accepted [] h = nothing-refused
-  flatMap-accepted (x ∷ xs) h =
-      append-accepted (f x) (flatMap f xs) (h x (List·Memᴰ·head refl)) (flatMap-accepted xs (λ y m. h y (List·Memᴰ·tail m)))
-
 -- ---- a scan
 
 -- The conditions g k, g (k + 1), and so on up to m, in their order.

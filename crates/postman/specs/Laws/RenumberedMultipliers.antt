@@ -19,11 +19,10 @@ use Rattle.postman.specs.Renumbering.{IsNumbering, renumbered, carried}
 use Rattle.postman.specs.Laws.Distance.{bounded}
 use Rattle.postman.specs.Laws.SignedSum.{sum-map}
 use Rattle.postman.specs.Laws.LagrangianBound.{price-split}
-use Rattle.postman.specs.Laws.Optimality.{Plannable, guaranteed}
-use Rattle.postman.specs.Laws.Renumbering.{inverse, renumbered-back, renumbered-well-formed, renumbered-cost}
+use Rattle.postman.specs.Laws.Renumbering.{renumbered-well-formed, renumbered-cost}
 use Rattle.postman.specs.Laws.RenumberedTour.{tours, tour-cost}
 use Rattle.postman.specs.Laws.RenumberedDistance.{distance-renumbered}
-use Rattle.postman.specs.Laws.RenumberedComponents.{requireds, plannable-renumbered}
+use Rattle.postman.specs.Laws.RenumberedComponents.{requireds}
 use Rattle.postman.specs.Laws.RenumberedBalancing.{heads-renumbered, tails-renumbered, balancing-renumbered}
 
 -- ---- multipliers
@@ -55,18 +54,7 @@ module _ (p : Plan) {π σ : ℕ → ℕ} (h : IsNumbering (p .n) π σ) (u : Mu
   pub carried-again : carried σ (carried π u) ≡ u
   carried-again = fun-ext (λ i. ap u (h .forth i))
 
-module _ (p : Plan) {π σ : ℕ → ℕ} (h : IsNumbering (p .n) π σ) (u : Multipliers) where
-  pub multipliers-into : WellFormed p → AreMultipliers p u → AreMultipliers (renumbered p π) (carried σ u)
-  multipliers-into ok m =
-      multipliers-back (renumbered p π) (inverse h) u (renumbered-well-formed p h ok) (subst (λ (r : Plan). AreMultipliers r u) (sym (renumbered-back p h)) m)
-
 -- ---- the lower bound
-
--- any multipliers of the plan, carried into the plan renumbered, give a lower bound of it
-pub guaranteed-under : (p : Plan) {π σ : ℕ → ℕ} (h : IsNumbering (p .n) π σ) → Plannable p → (budget : ℕ) → 1 ≤ budget
-    → (u : Multipliers) → AreMultipliers p u → Guarantee (renumbered p π) budget (carried σ u)
-guaranteed-under p {π} {σ} h ok budget l u m =
-    guaranteed (renumbered p π) (plannable-renumbered p h ok) budget l (carried σ u) (multipliers-into p h u (ok .well-formed) m)
 
 module _ (p : Plan) {π σ : ℕ → ℕ} (h : IsNumbering (p .n) π σ) (budget : ℕ) (u : Multipliers) (g : Guarantee (renumbered p π) budget u) where
   pub below-tours : (w : List ℕ) → IsTour p w → lowerBound (renumbered p π) budget u ≤ℤ pos (tourCost p w)

@@ -3,7 +3,7 @@
 use mathlib.Core.Path.{_≡_, refl, sym, ap, _∙_}
 use mathlib.Core.Logic.{inl, inr}
 use mathlib.Core.Bool.{cond}
-use mathlib.Core.List.{List, [], _∷_, _++_, map, List·Memᴰ, List·Memᴰ·head, List·Memᴰ·tail, List·Memᴰ·cases-cons}
+use mathlib.Core.List.{List, [], _∷_, map, List·Memᴰ, List·Memᴰ·head, List·Memᴰ·tail, List·Memᴰ·cases-cons}
 use Prim.Native.Nat.{ℕ, _≤_, _<_, min}
 use native.Mathlib.Omega.{arith}
 use lib.ListN.{length, take, length-take}
@@ -46,19 +46,6 @@ module _ {A : Type 0} (f : A → ℕ) where
             (λ t q. List·Memᴰ·tail (List·Memᴰ·head q)) (λ t q. List·Memᴰ·head q) e
         | inr m ↦ List·Memᴰ·tail (List·Memᴰ·tail m)
       ]
-
-  -- one element more at the end, as a loop goes
-  pub argmin-from-more : (x : A) (xs : List A) (y : A) → argminFrom f x (xs ++ y ∷ []) ≡ better (argminFrom f x xs) y
-  unfolding argminFrom
-  argmin-from-more x [] y = refl
-  argmin-from-more x (w ∷ ws) y = argmin-from-more (better x w) ws y
-
-  -- an element that is no better, whatever the reason, is passed over
-  pub better-no : (x y : A) → f x ≤ f y → better x y ≡ x
-  better-no x y l = cond-ind (ltb (f y) (f x)) y x (λ w. w ≡ x) (λ t. (let h = ltb→lt (f y) (f x) t in absurd (omega arith))) (λ t. refl)
-
-  pub better-yes : (x y : A) → f y < f x → better x y ≡ y
-  better-yes x y l = cond-ind (ltb (f y) (f x)) y x (λ w. w ≡ y) (λ t. refl) (λ t. (let h = nltb→le (f y) (f x) t in absurd (omega arith)))
 
 -- ---- the arborescence of least completion cost among those tried
 

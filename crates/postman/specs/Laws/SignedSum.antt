@@ -38,10 +38,6 @@ pub min-right : (a b : ℤ) → minℤ a b ≤ℤ b
 unfolding minℤ
 min-right a b = cond-ind (leZ a b) a b (λ x. x ≤ℤ b) (λ t. leZ-yes t) (λ t. ≤ℤ-refl b)
 
-pub max-left : (a b : ℤ) → a ≤ℤ maxℤ a b
-unfolding maxℤ
-max-left a b = cond-ind (leZ a b) b a (λ x. a ≤ℤ x) (λ t. leZ-yes t) (λ t. ≤ℤ-refl a)
-
 pub max-right : (a b : ℤ) → b ≤ℤ maxℤ a b
 unfolding maxℤ
 max-right a b = cond-ind (leZ a b) b a (λ x. b ≤ℤ x) (λ t. ≤ℤ-refl b) (λ t. not-le a b t)

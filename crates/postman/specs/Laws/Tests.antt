@@ -38,11 +38,6 @@ pub not-or : (b c : Bool) → T (not (b || c)) → T (not b) × T (not c)
 not-or true c t = absurd t
 not-or false c t = (tt, t)
 
-pub not-and : (b c : Bool) → T b → T (not (b && not c)) → T c
-not-and true true s t = tt
-not-and true false s t = absurd t
-not-and false c s t = absurd s
-
 pub not-not : (b : Bool) → T (not (not b)) → T b
 not-not true t = tt
 not-not false t = t

@@ -98,10 +98,6 @@ module _ (n : ℕ) (π σ : ℕ → ℕ) (h : IsNumbering n π σ) (i j : ℕ) (
   exchange-numbers = record { inside = inside′; outside = outside′; back = back′; forth = forth′ }
 
 module _ (n : ℕ) (few : n ≤ 64) (x : Numbering) (h : IsNumberingOf n x) where
-  -- what the code reads
-  pub entry-to : (v : ℕ) → v < 64 → getD (x .to) v 0 ≡ numberIn (x .to) v
-  entry-to v l = let e = h .long-to in in-place (x .to) v 0 v (omega arith)
-
   pub entry-from : (v : ℕ) → v < 64 → getD (x .from) v 0 ≡ numberIn (x .from) v
   entry-from v l = let e = h .long-from in in-place (x .from) v 0 v (omega arith)
 

@@ -62,10 +62,6 @@ module _ (p : Plan) where
       let size = c .0 in
       subst (λ (x : Link). List·Memᴰ (x .tail) (required p) × List·Memᴰ (x .head) (required p)) (r .2) (candidate-ends (a + r .0) (getD t (r .0) noLink) (c .1 (r .0) (let b = r .1 in omega arith)))
 
-  pub left-length : (a : ℕ) (t : List Link) → List·Memᴰ t (leftChoices p a) → length t ≡ componentCount p - a
-  unfolding leftChoices
-  left-length a t m = choices-mem noLink (candidates p) a (componentCount p - a) m .0
-
 -- ---- a prepared plan
 
 module _ {p : Plan} {table : List (List ℕ)} {vs start source tails heads : List ℕ} {k : ℕ} (h : Prepared p table vs start source tails heads k) where
