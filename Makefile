@@ -1,6 +1,6 @@
 # The library as others install it. `make` builds build/libpostman.a and build/libpostman.so from the proved archive.
 #
-#   make                              LIBEXPORTS=/path/libexports.a takes an archive that was built elsewhere
+#   make                              LIBPROVED=/path/libproved.a takes an archive that was built elsewhere
 #   make install PREFIX=/usr/local    DESTDIR=/stage puts all of it under another root
 #   make check                        the gate: proofs from nothing and all tests
 #   make quick                        the quick gate
@@ -27,11 +27,11 @@ installed = $(include_dir)/postman.h $(lib_dir)/libpostman.a $(lib_dir)/$(SHARED
 
 all: build/libpostman.a build/libpostman.so
 
-# Without LIBEXPORTS the archive is built here, again whenever a source of it has changed.
-ifndef LIBEXPORTS
-LIBEXPORTS := target/staticlib/libexports.a
-$(LIBEXPORTS): $(wildcard crates/*/src/*.rt)
-	rt staticlib exports
+# Without LIBPROVED the archive is built here, again whenever a source of it has changed.
+ifndef LIBPROVED
+LIBPROVED := target/staticlib/libproved.a
+$(LIBPROVED): $(wildcard crates/*/src/*.rt)
+	tools/library
 	@touch $@
 endif
 
@@ -42,8 +42,8 @@ build/words.o: bindings/c/words.c include/postman.h | build
 	$(CC) -std=c99 -Wall -Wextra -Wpedantic -Werror $(CFLAGS) -fPIC -Iinclude -c $< -o $@
 
 # All in one object, in which every name but postman_* is its own.
-build/postman.o: $(LIBEXPORTS) build/words.o
-	$(CC) -r -nostdlib -o $@ -Wl,--whole-archive $(LIBEXPORTS) -Wl,--no-whole-archive build/words.o
+build/postman.o: $(LIBPROVED) build/words.o
+	$(CC) -r -nostdlib -o $@ -Wl,--whole-archive $(LIBPROVED) -Wl,--no-whole-archive build/words.o
 	$(OBJCOPY) --wildcard --keep-global-symbol='postman_*' $@
 
 build/libpostman.a: build/postman.o

@@ -225,7 +225,10 @@ fn of_folder(folder: &str, extension: &str, of: fn(&str) -> Vec<Function>) -> Ve
     files(folder, extension).iter().flat_map(|path| of(&read(&root().join(path)))).collect()
 }
 
-/// What the tests below compare is all that is declared: one header, and no function for other languages outside `exports` and the package's sources.
+/// The crates whose functions other languages call.
+const EXPORTING: [&str; 2] = ["crates/exports/src", "crates/state_exports/src"];
+
+/// What the tests below compare is all that is declared: one header, and no function for other languages outside the crates that export and the package's sources.
 #[test]
 fn nothing_is_left_uncompared() {
     assert_eq!(files("include", "h"), ["include/postman.h"]);
@@ -233,12 +236,13 @@ fn nothing_is_left_uncompared() {
         let source = without_line_comments(&read(&root().join(path)));
         source.contains("extern \"C\"") || source.contains("no_mangle")
     };
-    let elsewhere = |folder: &str, extension: &str, home: &str| -> Vec<String> {
-        files(folder, extension).into_iter().filter(|path| !path.starts_with(home) && declares(path)).collect()
+    let elsewhere = |folder: &str, extension: &str, homes: &[&str]| -> Vec<String> {
+        let at_home = |path: &String| homes.iter().any(|home| path.starts_with(home));
+        files(folder, extension).into_iter().filter(|path| !at_home(path) && declares(path)).collect()
     };
-    assert_eq!(elsewhere("crates", "rt", "crates/exports/src/"), [""; 0], "exported from another crate");
+    assert_eq!(elsewhere("crates", "rt", &EXPORTING), [""; 0], "exported from another crate");
     assert_eq!(
-        elsewhere("bindings/rust", "rs", "bindings/rust/src/"),
+        elsewhere("bindings/rust", "rs", &["bindings/rust/src"]),
         [""; 0],
         "declared outside the package's sources"
     );
@@ -246,7 +250,7 @@ fn nothing_is_left_uncompared() {
 
 #[test]
 fn declarations_agree() {
-    let library = of_folder("crates/exports/src", "rt", of_rattle);
+    let library: Vec<Function> = EXPORTING.iter().flat_map(|folder| of_folder(folder, "rt", of_rattle)).collect();
     assert!(!library.is_empty(), "the library exports no function");
     let header = of_c(&read(&root().join("include/postman.h")));
     assert_eq!(differences(&library, &header), [""; 0], "library and header");

@@ -91,7 +91,7 @@ mod in_c {
     /// The library that the Rust package links too.
     fn library() -> PathBuf {
         let folder = std::env::var_os("POSTMAN_LIB_DIR").map(PathBuf::from);
-        folder.unwrap_or_else(|| root().join("target/staticlib")).join("libexports.a")
+        folder.unwrap_or_else(|| root().join("target/staticlib")).join("libproved.a")
     }
 
     fn compile(command: &mut Command) {

@@ -29,10 +29,10 @@ def example(name: str) -> bytes:
 
 
 def archive() -> Path:
-    """The proved archive that the libraries are built from: LIBEXPORTS, or the one that `rt staticlib exports` made."""
-    path = Path(os.environ.get("LIBEXPORTS") or ROOT / "target" / "staticlib" / "libexports.a")
+    """The proved archive that the libraries are built from: LIBPROVED, or the one that `tools/library` made."""
+    path = Path(os.environ.get("LIBPROVED") or ROOT / "target" / "staticlib" / "libproved.a")
     if not path.is_file():
-        raise FileNotFoundError(f"there is no {path}: run `rt staticlib exports`, or set LIBEXPORTS")
+        raise FileNotFoundError(f"there is no {path}: run `tools/library`, or set LIBPROVED")
     return path
 
 
@@ -46,4 +46,4 @@ def run(*command: str | Path, **options) -> subprocess.CompletedProcess[str]:
 
 def make(*words: str | Path) -> None:
     """Runs make in the repository, over the archive that is there."""
-    run("make", "-C", ROOT, f"LIBEXPORTS={archive()}", *words)
+    run("make", "-C", ROOT, f"LIBPROVED={archive()}", *words)

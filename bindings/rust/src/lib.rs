@@ -22,10 +22,10 @@
 //! # Ok::<(), postman::Refusal>(())
 //! ```
 //!
-//! What is proved is the library behind this package, which `rt staticlib exports` builds; `include/postman.h` describes its C functions.
+//! What is proved is the library behind this package, which `tools/library` builds; `include/postman.h` describes its C functions.
 //! This package lends it slices and takes its answers apart. [`raw`] has the calls that lend slices of the caller's.
 //!
-//! The build script links `target/staticlib/libexports.a` of the repository, or the library in the folder that the environment variable
+//! The build script links `target/staticlib/libproved.a` of the repository, or the library in the folder that the environment variable
 //! `POSTMAN_LIB_DIR` names.
 #![deny(missing_docs)]
 

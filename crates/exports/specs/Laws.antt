@@ -2,5 +2,3 @@
 pub mod Reading
 pub mod Writing
 pub mod Cars
-pub mod Editing
-pub mod Turns

@@ -2,7 +2,5 @@
 pub mod Codec
 pub mod Call
 pub mod Cars
-pub mod Editing
-pub mod Turns
 -- What is proved about them.
 pub mod Laws

@@ -1,6 +1,6 @@
 // The plan call, the short call, the plan call at a departure and the deep call, for callers in other languages. The number is 0, or minus the refusal's; an answer goes into two lent slices.
 ghost use Rattle.postman.specs.PlanCall.{defaultBudget};
-ghost use Rattle.windows.specs.Contract.{departure};
+ghost use Rattle.shut_arcs.specs.Fields.{departure};
 ghost use Rattle.exports.specs.Call.{IsExportedCall, IsExportedCallAt, IsExportedDeepCall};
 use answers::answer::hand_over;
 

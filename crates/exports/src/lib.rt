@@ -2,8 +2,6 @@
 pub mod codec; // reading and writing plan files
 pub mod call; // the plan call, the short call, the plan call at a departure and the deep call
 pub mod cars; // the call for two cars
-pub mod editing; // an open plan: changes, marks, returns and asking
-pub mod turns; // eight districts in turn
 pub mod distance; // the distance call
 pub mod count; // the number of trees
 pub mod judging; // the judging call

@@ -9,7 +9,8 @@ use Rattle.postman.specs.OpenPlan.{Call, unlessRefused}
 use Rattle.refusal.specs.Verdict.{verdictNumber}
 use Rattle.open_plan.specs.declared.OpenPlan.{OpenPlan}
 use Rattle.open_plan.specs.declared.Moved.{Moved}
-use Rattle.open_plan.specs.State.{heldOf, freshState, refusalOf, next}
+use Rattle.held_file.specs.Held.{heldOf}
+use Rattle.open_plan.specs.State.{freshState, refusalOf, next}
 
 -- An answer, by its refusal and the open plan then.
 pub record IsAnswer (refusal : Option ℕ) (s : OpenPlan) (r : Moved) : Type 0 where

@@ -8,10 +8,11 @@ use Rattle.postman.specs.Refusal.{firstRefusal}
 use Rattle.postman.specs.PlanFile.{edition, planOf, fileOf, fileConditions}
 use Rattle.postman.specs.OpenPlan.{Open, Call, change, mark, return}
 use Rattle.refusal.specs.Verdict.{verdictNumber}
-use Rattle.open_plan.specs.declared.Held.{Held}
+use Rattle.held_file.specs.declared.Held.{Held}
 use Rattle.open_plan.specs.declared.OpenPlan.{OpenPlan}
 use Rattle.open_plan.specs.declared.Moved.{Moved}
-use Rattle.open_plan.specs.State.{fileIn, markIn}
+use Rattle.held_file.specs.Held.{fileIn}
+use Rattle.open_plan.specs.State.{markIn}
 use Rattle.open_plan.specs.Contract.{IsMoved}
 
 -- A call's costs are numbers of 16 bits.

@@ -1,52 +1,15 @@
--- The open plan by value: files that are held, and what each call makes of them.
-use mathlib.Core.Path.{_≡_}
+-- The open plan by value, and what each call makes of it.
 use mathlib.Core.Bool.{cond}
-use mathlib.Core.List.{List, [], _++_}
+use mathlib.Core.List.{[]}
 use mathlib.Core.Option.{Option, none, some}
 use Prim.Native.Nat.{ℕ}
-use lib.ListN.{length, getD, set, take, drop, replicate}
+use lib.ListN.{length, getD, set, replicate}
 use lib.Dec.{eqb, ltb}
-use Rattle.postman.specs.Refusal.{firstRefusal, unless}
-use Rattle.postman.specs.PlanFile.{edition, planOf, fileOf, fileConditions}
-use Rattle.postman.specs.OpenPlan.{Change, Call, change, mark, return, longestFile, changedPlan, changeRefusal}
-use Rattle.refusal.specs.Verdict.{verdictNumber, orElse}
-use Rattle.records.specs.Writing.{atMost}
-use Rattle.open_plan.specs.declared.Held.{Held}
+use Rattle.postman.specs.OpenPlan.{Call, change, mark, return}
+use Rattle.held_file.specs.declared.Held.{Held}
 use Rattle.open_plan.specs.declared.OpenPlan.{OpenPlan}
-use Rattle.open_plan.specs.declared.Rewritten.{Rewritten}
-
--- ---- files by value
-
--- The file that is held; its length is read as at most 1,475.
-abbrev pub fileIn : Held → List ℕ
-fileIn h = take (atMost (h .length) longestFile) (h .file)
-
--- A file of at most 1,475 bytes, held: zeros after its bytes. The empty list stands for no file.
-unfoldable pub heldOf : List ℕ → Held
-heldOf file = record { length = length file; file = file ++ drop (length file) (replicate longestFile 0) }
-
--- What writing a file by value answers.
-pub record IsHeld (refusal : Option ℕ) (file : List ℕ) (w : Rewritten) : Type 0 where
-  pub verdict : verdictNumber (w .verdict) ≡ refusal
-  pub held : w .held ≡ heldOf (unless refusal file [])
-
--- ---- changes
-
--- A change by its numbers.
-abbrev pub changeOf : ℕ → ℕ → ℕ → ℕ → Change
-changeOf arc cost service standing = record { arc = arc; cost = cost; service = service; standing = standing }
-
--- The file of a file's plan with an arc changed, in the file's edition.
-unfoldable pub changedFile : List ℕ → Change → List ℕ
-unfolding fileOf edition changedPlan planOf
-changedFile bytes c = fileOf (edition bytes) (changedPlan (planOf bytes) c)
-
--- A file that does not read is refused for what reading refuses; else the change is refused as its plan says.
-unfoldable pub fileChangeRefusal : List ℕ → Change → Option ℕ
-unfolding firstRefusal fileConditions changeRefusal edition planOf
-fileChangeRefusal bytes c = orElse (firstRefusal (fileConditions bytes)) (changeRefusal (edition bytes) (planOf bytes) c)
-
--- ---- the open plan
+use Rattle.held_file.specs.Held.{fileIn, heldOf}
+use Rattle.held_file.specs.Change.{fileChangeRefusal, changedFile}
 
 -- "Sets no mark."
 unfoldable pub freshState : Held → OpenPlan

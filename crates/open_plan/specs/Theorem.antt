@@ -16,10 +16,11 @@ use Rattle.refusal.specs.Verdict.{verdictNumber}
 use Rattle.solution.specs.declared.Planned.{Planned}
 use Rattle.solution.specs.SameAnswer.{SameAnswer}
 use Rattle.windows.specs.Contract.{IsPlanCallAt}
-use Rattle.open_plan.specs.declared.Held.{Held}
+use Rattle.held_file.specs.declared.Held.{Held}
 use Rattle.open_plan.specs.declared.OpenPlan.{OpenPlan}
 use Rattle.open_plan.specs.declared.Moved.{Moved}
-use Rattle.open_plan.specs.State.{fileIn, heldOf, freshState, markIn, refusalOf, next}
+use Rattle.held_file.specs.Held.{fileIn, heldOf}
+use Rattle.open_plan.specs.State.{freshState, markIn, refusalOf, next}
 use Rattle.open_plan.specs.Contract.{IsOpened, IsMoved}
 use Rattle.open_plan.specs.Run.{Ran, ended, called, StandsFor}
 use Rattle.open_plan.specs.Laws.Call.{return-set}

@@ -1,11 +1,11 @@
 // The calls of an open plan. None of them asks anything: whatever the state holds, reading decides.
-use crate::Held;
+use held_file::Held;
 use crate::Moved;
 use crate::OpenPlan;
-use crate::change::changed_file;
-use crate::file::held_length;
-use crate::file::hold;
-use crate::file::no_file;
+use held_file::change::changed_file;
+use held_file::file::held_length;
+use held_file::file::hold;
+use held_file::file::no_file;
 use plan_file::reader::file_verdict;
 use refusal::Refusal;
 use refusal::Verdict;
@@ -15,8 +15,11 @@ ghost use mathlib.Core.Path.{_≡_};
 ghost use mathlib.Core.Option.{none, some};
 ghost use Rattle.postman.specs.OpenPlan.{change as «a-change», mark as «a-mark», return as «a-return»};
 ghost use Rattle.refusal.specs.Verdict.{refusalNumber};
-ghost use Rattle.open_plan.specs.State.{changeOf, fileIn, freshState, withPlan as «with-plan-of»};
-ghost use Rattle.windows.specs.Contract.{departure, IsPlanCallAt};
+ghost use Rattle.held_file.specs.Change.{changeOf};
+ghost use Rattle.held_file.specs.Held.{fileIn};
+ghost use Rattle.open_plan.specs.State.{freshState, withPlan as «with-plan-of»};
+ghost use Rattle.shut_arcs.specs.Fields.{departure};
+ghost use Rattle.windows.specs.Contract.{IsPlanCallAt};
 ghost use Rattle.open_plan.specs.Contract.{IsAnswer, IsOpened, IsMoved};
 
 // A file with no mark set.

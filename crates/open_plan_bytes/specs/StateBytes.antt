@@ -6,7 +6,7 @@ use lib.IntN.{ℤ}
 use lib.ListN.{length, take, drop}
 use Rattle.postman.specs.Refusal.{answer, unless}
 use Rattle.refusal.specs.Verdict.{verdictNumber}
-use Rattle.open_plan.specs.declared.Held.{Held}
+use Rattle.held_file.specs.declared.Held.{Held}
 use Rattle.open_plan.specs.declared.OpenPlan.{OpenPlan}
 use Rattle.open_plan.specs.declared.Moved.{Moved}
 use Rattle.open_plan.specs.State.{markIn}

@@ -14,7 +14,7 @@ use answers::number::refused_number;
 use encoding::number_bytes::put_bytes;
 use encoding::number_bytes::put_number;
 use encoding::record_bytes::number_at;
-use open_plan::Held;
+use held_file::Held;
 use open_plan::Moved;
 use open_plan::OpenPlan;
 use refusal::Refusal;

@@ -17,11 +17,11 @@ use Rattle.postman.specs.Refusal.{answer}
 use Rattle.postman.specs.PlanFile.{edition, planOf, fileOf}
 use Rattle.postman.specs.OpenPlan.{Open, Call, change, mark, return, opened, taken, outcome, history, refusalIn, unlessRefused, unlessHeld, heldOr, afterCall}
 use Rattle.postman.specs.Windows.{Departure}
-use Rattle.open_plan.specs.State.{fileIn}
+use Rattle.held_file.specs.Held.{fileIn}
 use Rattle.open_plan.specs.Theorem.{history-more}
 use Rattle.open_plan.specs.Laws.History.{stands-for}
 use Rattle.open_plan_bytes.specs.StateBytes.{openIn}
-use Rattle.exports.specs.Editing.{IsExportedOpen, IsExportedMove}
+use Rattle.state_exports.specs.Editing.{IsExportedOpen, IsExportedMove}
 use Rattle.promises.specs.HistoryTheorem.{RanLent, numberOf, Holds, lent-step, run-holds, opening-holds}
 use Rattle.promises.specs.Slices.{Slices, IsCalledAt, IsAsked, LeaveOneAnswer}
 use Rattle.promises.specs.Laws.OneAnswer.{one-answer-at}

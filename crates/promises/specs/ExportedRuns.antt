@@ -10,15 +10,15 @@ use Rattle.postman.specs.PlanFile.{edition, planOf}
 use Rattle.postman.specs.PlanCall.{sheetPlaces, bestCost}
 use Rattle.postman.specs.OpenPlan.{Call, mark, return, opened, outcome, history, refusals}
 use Rattle.postman.specs.Windows.{Departure}
-use Rattle.open_plan.specs.State.{fileIn}
+use Rattle.held_file.specs.Held.{fileIn}
 use Rattle.open_plan.specs.Run.{Fits, StandsFor}
 use Rattle.districts.specs.Line.{District, Line, entryRefusal, lowestFree, finishes}
 use Rattle.districts.specs.Runs.{run, lastEntry}
 use Rattle.answers.specs.Number.{oneNumber}
 use Rattle.answers.specs.Answer.{putFirst}
 use Rattle.open_plan_bytes.specs.StateBytes.{openBytes, openIn}
-use Rattle.exports.specs.Editing.{IsExportedOpen, IsExportedMove}
-use Rattle.exports.specs.Turns.{Call as MachineCall, eventsOf, IsExportedEntry, IsExportedTurn, LedLent}
+use Rattle.state_exports.specs.Editing.{IsExportedOpen, IsExportedMove}
+use Rattle.state_exports.specs.Turns.{Call as MachineCall, eventsOf, IsExportedEntry, IsExportedTurn, LedLent}
 use Rattle.promises.specs.Slices.{Slices, HandsOver, IsAsked, LeaveOneAnswer}
 use Rattle.promises.specs.Departure.{CallAt}
 use Rattle.promises.specs.Exports.{LentCall}

@@ -11,14 +11,15 @@ use Rattle.postman.specs.PlanFile.{edition, planOf}
 use Rattle.postman.specs.OpenPlan.{Open, Call, opened, taken, outcome, history, refusals, refusalIn, unlessRefused, afterCall}
 use Rattle.refusal.specs.Verdict.{orElse}
 use Rattle.open_plan.specs.declared.OpenPlan.{OpenPlan}
-use Rattle.open_plan.specs.State.{heldOf, freshState, refusalOf, next}
+use Rattle.held_file.specs.Held.{heldOf}
+use Rattle.open_plan.specs.State.{freshState, refusalOf, next}
 use Rattle.open_plan.specs.Run.{Fits, StandsFor}
 use Rattle.open_plan.specs.Theorem.{history-more}
 use Rattle.open_plan.specs.Laws.History.{Stands, stands-for, refused-alike, after-stands, opening-stands}
 use Rattle.answers.specs.Number.{oneNumber}
-use Rattle.exports.specs.Editing.{moveRefusal, IsExportedOpen, IsExportedMove}
+use Rattle.state_exports.specs.Editing.{moveRefusal, IsExportedOpen, IsExportedMove}
 use Rattle.open_plan_bytes.specs.StateBytes.{openBytes, openIn, stateBytes}
-use Rattle.exports.specs.Laws.Editing.{has-room}
+use Rattle.state_exports.specs.Laws.Editing.{has-room}
 use Rattle.promises.specs.Laws.Opening.{zero-opened}
 use Rattle.promises.specs.Laws.Lent.{stands-sized, state-long, state-back}
 

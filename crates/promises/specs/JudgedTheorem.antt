@@ -42,7 +42,7 @@ use Rattle.districts.specs.Laws.Led.{led}
 use Rattle.districts.specs.Laws.Finished.{front-accepted}
 use Rattle.judge.specs.declared.Judged.{Judged}
 use Rattle.judge.specs.Contract.{judgedAnswer, IsJudged}
-use Rattle.open_plan.specs.State.{fileIn}
+use Rattle.held_file.specs.Held.{fileIn}
 use Rattle.answers.specs.Number.{oneNumber}
 use Rattle.answers.specs.Answer.{wordsOf, putFirst, IsHandedOver}
 use Rattle.answers.specs.Laws.Answer.{put-at, answered-zero}
@@ -50,9 +50,9 @@ use Rattle.answers.specs.Laws.CarsNumber.{first-told, second-told}
 use Rattle.machine_bytes.specs.MachineBytes.{machineIn}
 use Rattle.open_plan_bytes.specs.StateBytes.{openBytes, openIn}
 use Rattle.exports.specs.Call.{IsExportedCall, IsExportedCallAt, IsExportedDeepCall}
-use Rattle.exports.specs.Editing.{IsExportedAsk}
+use Rattle.state_exports.specs.Editing.{IsExportedAsk}
 use Rattle.exports.specs.Cars.{IsLeft, Lent, IsExportedCars}
-use Rattle.exports.specs.Turns.{IsExportedTurn, Call, eventsOf, LedLent}
+use Rattle.state_exports.specs.Turns.{IsExportedTurn, Call, eventsOf, LedLent}
 use Rattle.promises.specs.Laws.LentTurns.{lent-led}
 
 -- Judged on the file's plan, the list w costs c, whoever judges it by the contract of the judging call.

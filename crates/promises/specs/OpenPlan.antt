@@ -13,7 +13,7 @@ use Rattle.solution.specs.declared.Planned.{Planned}
 use Rattle.windows.specs.Contract.{IsPlanCallAt}
 use Rattle.open_plan.specs.declared.OpenPlan.{OpenPlan}
 use Rattle.open_plan.specs.declared.Moved.{Moved}
-use Rattle.open_plan.specs.State.{fileIn}
+use Rattle.held_file.specs.Held.{fileIn}
 use Rattle.open_plan.specs.Contract.{IsOpened, IsMoved}
 use Rattle.open_plan.specs.Run.{Ran, StandsFor}
 

@@ -11,7 +11,7 @@ use Rattle.circuit.specs.Tour.{written}
 use Rattle.solution.specs.declared.Planned.{Planned}
 use Rattle.answers.specs.Answer.{putFirst, IsHandedOver}
 use Rattle.exports.specs.Call.{IsExportedCall, IsExportedCallAt}
-use Rattle.exports.specs.Editing.{IsExportedAsk}
+use Rattle.state_exports.specs.Editing.{IsExportedAsk}
 
 -- The slices of one call, at entry or at exit.
 pub record Slices : Type 0 where

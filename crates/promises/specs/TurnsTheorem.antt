@@ -37,7 +37,7 @@ use Rattle.answers.specs.Number.{oneNumber}
 use Rattle.answers.specs.Answer.{wordsOf, putFirst}
 use Rattle.exports.specs.Call.{IsExportedCall}
 use Rattle.machine_bytes.specs.MachineBytes.{districtsBytes, machineIn, machineBytes}
-use Rattle.exports.specs.Turns.{IsExportedEntry, IsExportedTurn, Call, turns, eventsOf, LentTurn, LedLent}
+use Rattle.state_exports.specs.Turns.{IsExportedEntry, IsExportedTurn, Call, turns, eventsOf, LentTurn, LedLent}
 use Rattle.promises.specs.Told.{isTold, turnsTold, NeverTold}
 use Rattle.promises.specs.Laws.ToldTurns.{turn-told, turns-counted, never-of}
 use Rattle.machine_bytes.specs.MachineStored.{IsTurnHandedOver}

@@ -10,17 +10,10 @@ use lib.Signed.{_≤ℤ_}
 use Rattle.postman.specs.Refusal.{firstRefusal}
 use Rattle.postman.specs.PlanFile.{planOf}
 use Rattle.postman.specs.Tour.{IsTour, tourCost}
-use Rattle.postman.specs.Windows.{Window, Departure, windowsIn, planAt, Avoids, earlierConditionsAt, callRefusalAt}
+use Rattle.postman.specs.Windows.{Departure, windowsIn, planAt, Avoids, earlierConditionsAt, callRefusalAt}
 use Rattle.refusal.specs.Verdict.{verdictNumber}
 use Rattle.solution.specs.declared.Planned.{Planned}
 use Rattle.solution.specs.Planned.{IsPlanned}
-
--- A window and a departure, by their fields.
-abbrev pub window : ℕ → ℕ → ℕ → ℕ → Window
-window arc weekday from to = record { arc = arc; weekday = weekday; from = from; to = to }
-
-abbrev pub departure : ℕ → ℕ → Departure
-departure weekday minute = record { weekday = weekday; minute = minute }
 
 -- THE PLAN CALL AT A DEPARTURE on any bytes, any budget, any numbers for windows, any departure and any sheet: the plan call on the plan at that departure. What is said of that plan is
 -- said again of the file's, in whose words document 02 has it.

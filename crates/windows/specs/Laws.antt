@@ -1,4 +1,2 @@
 -- What is proved about the definitions.
-pub mod Limits
-pub mod Shut
 pub mod Call

@@ -1,7 +1,7 @@
 // The plan call at a departure: the refusals in their order, then the answer of the plan with the shut arcs closed.
-use crate::limits::has_bad_window;
-use crate::shut::must_shut;
-use crate::shut::plan_at;
+use shut_arcs::limits::has_bad_window;
+use shut_arcs::shut::must_shut;
+use shut_arcs::shut::plan_at;
 use plan::Plan;
 use planner::call::lent_verdict;
 use planner::call::plan_read;
@@ -20,7 +20,8 @@ ghost use Rattle.postman.specs.Windows.{windowsIn, planAt, windowConditions};
 ghost use Rattle.plan.specs.Records.{planValue};
 ghost use Rattle.refusal.specs.Verdict.{verdictNumber};
 ghost use Rattle.solution.specs.Planned.{IsPlanned};
-ghost use Rattle.windows.specs.Contract.{departure, IsPlanCallAt};
+ghost use Rattle.shut_arcs.specs.Fields.{departure};
+ghost use Rattle.windows.specs.Contract.{IsPlanCallAt};
 
 // 19, then 20: the list's length is tested first, then every window, and only good ones are used.
 fn windows_verdict(plan: Plan, windows: &[u16], weekday: u32, minute: u32) -> Verdict

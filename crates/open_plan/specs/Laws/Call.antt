@@ -1,53 +1,21 @@
 -- What each call answers, by the verdict that it came to.
-use mathlib.Core.Path.{_≡_, refl, sym, _∙_, subst}
+use mathlib.Core.Path.{_≡_, refl, sym, _∙_}
 use mathlib.Core.Logic.{_≢_}
 use mathlib.Core.List.{List, []}
 use mathlib.Core.Option.{Option, none, some}
 use Prim.Native.Nat.{ℕ, _≤_, _<_}
 use borrow.Author.Tests.{lt-ltb, le-ltb, eq-eqb, ne-eqb}
-use lib.ListN.{take}
-use Rattle.postman.specs.Plan.{WellFormed}
 use Rattle.postman.specs.Refusal.{firstRefusal, unless}
-use Rattle.postman.specs.PlanFile.{edition, fileOf, fileConditions}
-use Rattle.postman.specs.OpenPlan.{Change, Call, mark, return, changedPlan, changeRefusal, longestFile}
-use Rattle.plan.specs.Records.{planValue}
-use Rattle.plan.specs.Laws.Records.{record-arcs}
-use Rattle.postman.specs.Laws.Acceptance.{file-accepted}
-use Rattle.plan_file.specs.declared.Reading.{Reading}
-use Rattle.plan_file.specs.Reading.{IsReading}
-use Rattle.plan_file.specs.Laws.Reading.{accepted-edition, accepted-value}
+use Rattle.postman.specs.PlanFile.{fileConditions}
+use Rattle.postman.specs.OpenPlan.{Change, Call, mark, return}
 use Rattle.refusal.specs.Verdict.{verdictNumber}
-use Rattle.records.specs.Writing.{atMost}
-use Rattle.open_plan.specs.declared.Held.{Held}
 use Rattle.open_plan.specs.declared.OpenPlan.{OpenPlan}
 use Rattle.open_plan.specs.declared.Moved.{Moved}
-use Rattle.open_plan.specs.declared.Rewritten.{Rewritten}
-use Rattle.open_plan.specs.State.{fileIn, heldOf, freshState, IsHeld, changedFile, fileChangeRefusal, markIn, refusalOf, next}
+use Rattle.held_file.specs.declared.Rewritten.{Rewritten}
+use Rattle.held_file.specs.Held.{fileIn, heldOf, IsHeld}
+use Rattle.open_plan.specs.State.{freshState, markIn, refusalOf, next}
+use Rattle.held_file.specs.Change.{changedFile, fileChangeRefusal}
 use Rattle.open_plan.specs.Contract.{IsAnswer, IsOpened, IsMoved}
-use Rattle.open_plan.specs.Laws.Held.{refused-held}
-use Rattle.open_plan.specs.Laws.Change.{unread, read-on, changed-file}
-
--- ---- the file that is read
-
-pub reading-of : (h : Held) (n : ℕ) (r : Reading) → n ≡ atMost (h .length) longestFile → IsReading (take n (h .file)) r → IsReading (fileIn h) r
-reading-of h n r e i = subst (λ (k : ℕ). IsReading (take k (h .file)) r) e i
-
-module _ (bytes : List ℕ) (r : Reading) (i : IsReading bytes r) where
-  pub few-records : verdictNumber (r .verdict) ≡ none → r .plan .m ≤ 256
-  few-records v =
-      let e = sym (i .verdict) ∙ v in
-      record-arcs (r .plan) (subst WellFormed (sym (accepted-value bytes r i e)) (file-accepted bytes e))
-
-  module _ (c : Change) (w : Rewritten) where
-    pub change-unread : (q : ℕ) → verdictNumber (r .verdict) ≡ some q → IsHeld (some q) [] w → IsHeld (fileChangeRefusal bytes c) (changedFile bytes c) w
-    change-unread q v h = refused-held _ q _ w (unread bytes c q (sym (i .verdict) ∙ v)) h
-
-    pub change-read : verdictNumber (r .verdict) ≡ none
-        → IsHeld (changeRefusal (r .edition) (planValue (r .plan)) c) (fileOf (r .edition) (changedPlan (planValue (r .plan)) c)) w
-        → IsHeld (fileChangeRefusal bytes c) (changedFile bytes c) w
-    change-read v h =
-        let e = sym (i .verdict) ∙ v in
-        rw (read-on bytes c e, changed-file bytes c) (rw (accepted-edition bytes r i e, accepted-value bytes r i e) at h)
 
 -- ---- answers
 

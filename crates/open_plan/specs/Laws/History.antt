@@ -21,14 +21,16 @@ use Rattle.postman.specs.Laws.FileLength.{counted}
 use Rattle.postman.specs.Laws.Acceptance.{accepted-is-file, accepted-is-writable, writable-well-formed, file-is-accepted, file-is-read, file-accepted}
 use Rattle.postman.specs.Laws.PlanFile.{length-fileOf, edition-same, plan-same, is-file, written-read}
 use Rattle.refusal.specs.Verdict.{verdictNumber}
-use Rattle.open_plan.specs.declared.Held.{Held}
+use Rattle.held_file.specs.declared.Held.{Held}
 use Rattle.open_plan.specs.declared.OpenPlan.{OpenPlan}
 use Rattle.open_plan.specs.declared.Moved.{Moved}
-use Rattle.open_plan.specs.State.{fileIn, heldOf, freshState, changedFile, fileChangeRefusal, markIn, refusalOf, next}
+use Rattle.held_file.specs.Held.{fileIn, heldOf}
+use Rattle.open_plan.specs.State.{freshState, markIn, refusalOf, next}
+use Rattle.held_file.specs.Change.{changedFile, fileChangeRefusal}
 use Rattle.open_plan.specs.Contract.{IsMoved}
 use Rattle.open_plan.specs.Run.{Fits, IsFileOf, IsMarkOf, StandsFor}
-use Rattle.open_plan.specs.Laws.Held.{held-file, held-size, file-short}
-use Rattle.open_plan.specs.Laws.Change.{read-on, changed-file}
+use Rattle.held_file.specs.Laws.Held.{held-file, held-size, file-short}
+use Rattle.held_file.specs.Laws.Change.{read-on, changed-file}
 
 -- ---- a plan that can be written, and the file that is held for it
 

@@ -13,11 +13,11 @@ use lib.ListN.{length, take, drop, length-append, length-replicate, drop-of-leng
 use lib.Seq.{paste}
 use Rattle.postman.specs.Refusal.{answer, unless}
 use Rattle.refusal.specs.Verdict.{verdictNumber}
-use Rattle.open_plan.specs.declared.Held.{Held}
+use Rattle.held_file.specs.declared.Held.{Held}
 use Rattle.open_plan.specs.declared.OpenPlan.{OpenPlan}
 use Rattle.open_plan.specs.declared.Moved.{Moved}
 use Rattle.open_plan.specs.State.{markIn}
-use Rattle.open_plan.specs.Laws.Held.{zeros, over-zeros}
+use Rattle.held_file.specs.Laws.Held.{zeros, over-zeros}
 use Rattle.answers.specs.Number.{oneNumber}
 use Rattle.encoding.specs.NumberBytes.{putAt}
 use Rattle.encoding.specs.Laws.NumberBytes.{put-next, put-start}

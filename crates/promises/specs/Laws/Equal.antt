@@ -21,8 +21,8 @@ use Rattle.solution.specs.Planned.{IsPlanned}
 use Rattle.solution.specs.SameAnswer.{SameAnswer}
 use Rattle.planner.specs.Laws.Call.{planned-as}
 use Rattle.windows.specs.Contract.{IsPlanCallAt}
-use Rattle.open_plan.specs.declared.Held.{Held}
-use Rattle.open_plan.specs.State.{fileIn}
+use Rattle.held_file.specs.declared.Held.{Held}
+use Rattle.held_file.specs.Held.{fileIn}
 use Rattle.open_plan.specs.Laws.Asked.{same-asked}
 
 -- The refusal that has a number.

@@ -5,7 +5,7 @@ use Prim.Native.Nat.{ℕ, _+_, _≤_}
 use native.Mathlib.Omega.{arith}
 use lib.ListN.{length, getD, length-append}
 use Rattle.postman.specs.OpenPlan.{Open}
-use Rattle.open_plan.specs.declared.Held.{Held}
+use Rattle.held_file.specs.declared.Held.{Held}
 use Rattle.open_plan.specs.declared.OpenPlan.{OpenPlan}
 use Rattle.open_plan.specs.State.{markIn}
 use Rattle.open_plan.specs.Laws.History.{Stands, keeps-size, mark-size}

@@ -24,7 +24,7 @@ use Rattle.districts.specs.Led.{LedFrom, Led}
 use Rattle.districts.specs.Laws.Entered.{entry-stays}
 use Rattle.answers.specs.Number.{oneNumber}
 use Rattle.machine_bytes.specs.MachineBytes.{districtsBytes, machineIn, machineBytes, IsSized}
-use Rattle.exports.specs.Turns.{IsStarted, Call, enters, turns, eventsOf, LedLent}
+use Rattle.state_exports.specs.Turns.{IsStarted, Call, enters, turns, eventsOf, LedLent}
 use Rattle.machine_bytes.specs.MachineStored.{IsEntryStored, IsTurnHandedOver}
 use Rattle.machine_bytes.specs.Laws.MachineBytes.{machine-long, machine-back}
 use Rattle.machine_bytes.specs.Laws.EmptyMachine.{zeros-empty}

@@ -1,7 +1,8 @@
 -- The open plan has the changed file, or is as it was.
 use mathlib.Core.Path.{sym, ap, _∙_}
 use Rattle.refusal.specs.Verdict.{verdictNumber}
-use Rattle.open_plan.specs.State.{withPlan, changeOf}
+use Rattle.open_plan.specs.State.{withPlan}
+use Rattle.held_file.specs.Change.{changeOf}
 use Rattle.open_plan.specs.Laws.Call.{moved-on, moved-not, answer-of, change-file}
 use borrow.Author.Needs.{needs}
 use Rattle.open_plan.proofs.call.change.Statement.{statement}

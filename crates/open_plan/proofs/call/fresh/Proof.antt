@@ -1,7 +1,7 @@
 -- No mark is set.
 use mathlib.Core.Path.{ap}
 use lib.ListN.{replicate}
-use Rattle.open_plan.specs.declared.Held.{Held}
+use Rattle.held_file.specs.declared.Held.{Held}
 use Rattle.open_plan.specs.declared.OpenPlan.{OpenPlan}
 use Rattle.open_plan.specs.State.{freshState}
 use borrow.Author.Needs.{needs}

@@ -2,7 +2,7 @@
 use mathlib.Core.Path.{sym, ap, _∙_}
 use Rattle.refusal.specs.Verdict.{verdictNumber}
 use Rattle.open_plan.specs.State.{freshState}
-use Rattle.open_plan.specs.Laws.Held.{file-short}
+use Rattle.held_file.specs.Laws.Held.{file-short}
 use Rattle.open_plan.specs.Laws.Call.{open-accepted, open-refused}
 use borrow.Author.Needs.{needs}
 use Rattle.open_plan.proofs.call.open.Statement.{statement}

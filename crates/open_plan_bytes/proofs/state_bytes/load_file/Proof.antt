@@ -5,7 +5,7 @@ use native.Mathlib.Omega.{arith}
 use lib.ListN.{length, drop, length-drop, length-replicate}
 use lib.Seq.{getD-drop}
 use Rattle.postman.specs.Laws.Copy.{IsPasted, paste-start, paste-more, paste-end}
-use Rattle.open_plan.specs.Laws.Held.{zeros}
+use Rattle.held_file.specs.Laws.Held.{zeros}
 use Rattle.open_plan_bytes.specs.Laws.StateBytes.{loaded-file}
 use borrow.Author.Needs.{needs}
 use Rattle.open_plan_bytes.proofs.state_bytes.load_file.Statement.{statement}

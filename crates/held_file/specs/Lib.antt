@@ -1,0 +1,4 @@
+pub mod Held
+pub mod Change
+-- What is proved about them.
+pub mod Laws

@@ -1,0 +1,3 @@
+pub mod Fields
+-- What is proved about the definitions.
+pub mod Laws
