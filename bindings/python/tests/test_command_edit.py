@@ -114,6 +114,21 @@ class Editing(Folder):
         opened = self.session("close Elm Street", "open Elm Street", text=CHECKED)
         self.assertEqual(opened[-1], "Elm Street from A to B: must, cost 5, checking 8")
 
+    def test_numbers_and_letters_that_are_none(self):
+        for line, message in [
+            ("close row \u00b2", "row \u00b2 is no street of list.csv"),
+            (f"cost Oak Lane {'9' * 5000}", f"{'9' * 40}... is above 65535"),
+            ("cost Oak Lane \u00b2", "\u00b2 is not a whole number: write the street, then the number"),
+            ("ask \u00b2", "\u00b2 is not a whole number: write ask, or ask and a budget"),
+            ("mark x", "x is no mark: there are marks 0 to 3"),
+        ]:
+            self.assertEqual(self.session(line, status=2), [f"postman: line 1: {message}"])
+        self.assertIn("line 1: refusal 9, budget", self.session(f"ask {'9' * 5000}", status=1)[0])
+        self.assertIn("line 1: refusal 21, no mark", self.session(f"mark {'9' * 5000}", status=1)[0])
+        done = postman("edit", self.file("list.csv", LIST), stdin=b"close \xff\n")
+        self.assertEqual(done.status, 2)
+        self.assertIn("line 1: \ufffd is no street of", done.err)
+
     def test_a_refused_change_alters_nothing(self):
         lines = self.session("cost Ash Road 3", status=1)
         wanted = "row 3 (Oak Lane) and row 4 (Ash Road) agree in from, to, standing and cost: delete one of them"

@@ -66,19 +66,22 @@ class Package(unittest.TestCase):
             "by the variable": copy / "elsewhere.so",
         }
         missing = f"{sys.executable} -c 'import postman' 2>&1 | tail -n 1"
-        said = run("sh", "-c", missing, env=environment(PYTHONPATH=str(python))).stdout
+        # Python looks in the folder in which it is started before all others.
+        said = run("sh", "-c", missing, cwd=self.folder, env=environment(PYTHONPATH=str(python))).stdout
         self.assertRegex(said, "^ImportError: there is no libpostman.so .*: run `make` .* or set POSTMAN_LIBRARY")
         for name in reversed(places):
             places[name].parent.mkdir(parents=True, exist_ok=True)
             shutil.copy(BUILD / "libpostman.so", places[name])
             more = {"POSTMAN_LIBRARY": str(places[name])} if name == "by the variable" else {}
-            found = run(sys.executable, "-c", WHERE, env=environment(PYTHONPATH=str(python), **more)).stdout.strip()
+            set_to = environment(PYTHONPATH=str(python), **more)
+            found = run(sys.executable, "-c", WHERE, cwd=self.folder, env=set_to).stdout.strip()
             self.assertEqual(Path(found), places[name].resolve(), name)
         for wrong in (self.folder / "no such file", CASE_A):
             if wrong is CASE_A:
                 wrong = self.folder / "no library"
                 wrong.write_bytes(CASE_A)
-            said = run("sh", "-c", missing, env=environment(PYTHONPATH=str(python), POSTMAN_LIBRARY=str(wrong))).stdout
+            set_to = environment(PYTHONPATH=str(python), POSTMAN_LIBRARY=str(wrong))
+            said = run("sh", "-c", missing, cwd=self.folder, env=set_to).stdout
             self.assertRegex(said, f"^ImportError: .*{wrong}")
 
     def test_the_examples_of_the_documentation(self) -> None:

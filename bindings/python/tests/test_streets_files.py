@@ -63,6 +63,7 @@ class Windows(Lists):
             ("Oak Lane,,,,1:00,2:00", "day is empty"),
             ("Oak Lane,,,tue,one,2:00", "start one is no time: write it as 07:30"),
             ("Oak Lane,,,tue,1:00,25:00", "end 25:00 is no time: write it as 07:30"),
+            ("Oak Lane,,,tue,\u00b2:00,3:00", "start \u00b2:00 is no time: write it as 07:30"),
             ("Oak Lane,,,tue,1:60,2:00", "start 1:60 is no time: write it as 07:30"),
             ("Oak Lane,,,tue,2:00,2:00", "end 2:00 is not after start 2:00"),
             ("Oak Lane,C,B,tue,1:00,2:00", "streets.csv has no row with street Oak Lane, from C, to B"),
@@ -84,8 +85,8 @@ class Windows(Lists):
     def test_departures(self):
         self.assertEqual(departure_of("tue 09:30"), Departure(1, 570))
         self.assertEqual(departure_of(" Sunday  0:00 "), Departure(6, 0))
-        for text in ("", "tue", "09:30", "tue 24:00", "tue 9", "tues 9:30"):
-            with self.subTest(text), self.assertRaises(ValueError):
+        for text in ("", "tue", "09:30", "tue 24:00", "tue 9", "tues 9:30", "tue \u00b2:30"):
+            with self.subTest(text), self.assertRaisesRegex(ValueError, "is no departure"):
                 departure_of(text)
 
     def test_what_is_shut(self):
@@ -118,12 +119,13 @@ class Marks(Lists):
     def test_wording(self):
         cases = [
             ("Ash Road", "street Ash Road has no must row in streets.csv: name its ends by from and to"),
-            ("Old Ash Road,C,A", "Old Ash Road from C to A is closed in streets.csv"),
             ("Elm", "street Elm is no street of streets.csv"),
         ]
         for row, message in cases:
             with self.subTest(message):
-                self.fails(f"first.csv row 2 ({row.split(',')[0]}): {message}", self.marks, row)
+                self.fails(f"first.csv row 2 ({row}): {message}", self.marks, row)
+        message = "first.csv row 2 (Old Ash Road), column street: Old Ash Road from C to A is closed in streets.csv"
+        self.fails(message, self.marks, "Old Ash Road,C,A")
         self.fails("first.csv row 1: no column is named street, from or to", self.marks, "x", header="name")
 
     def test_marks_that_are_written_read_back(self):
@@ -203,6 +205,11 @@ class Drives(Lists):
             ("{}", "drive.csv: has no drive: a list of arc numbers, or an object in which drive is one"),
             ("[0.5]", "drive.csv: has no drive: a list of arc numbers, or an object in which drive is one"),
             ("{", "drive.csv: line 1, column 2: Expecting property name enclosed in double quotes; this is no JSON"),
+            ("[" * 100_000, "drive.csv: has too many brackets within each other; this is no JSON of a plan or a drive"),
+            (f"[{'1' * 5000}]", f"drive.csv: {'1' * 40}... is no number that a plan can have"),
+            ("[NaN]", "drive.csv: NaN is no number that a plan can have"),
+            ("0\n\x1b[2J\n", "drive.csv line 2: [2J is no arc number: write one a line, or a table with the columns from, "
+             "to and street"),
             ("arc\nx\n", "drive.csv row 2: arc x is not a whole number"),
             ("from,to\nA,\n", "drive.csv row 2: to is empty"),
             (
@@ -220,8 +227,8 @@ class Drives(Lists):
         path = self.file("streets.csv", LIST + "A,B,may,7,Elm Street\n")
         twice = streets.read(path)
         message = (
-            "drive.csv row 2 (Elm Street): may be row 2 (Elm Street) and row 8 (Elm Street) of streets.csv: "
-            "add the column arc with the arc's number, from 0 on"
+            "drive.csv row 2 (Elm Street), column street: may be row 2 (Elm Street) and row 8 (Elm Street) of "
+            "streets.csv: add the column arc with the arc's number, from 0 on"
         )
         drive = self.file("drive.csv", "street,from,to\nElm Street,A,B\n")
         self.fails(message, read_drive, drive, twice)

@@ -9,6 +9,7 @@ from repository import ROOT
 
 from postman import Standing, plan_call, streets
 from postman.streets import ListError, drive_geojson, from_geojson
+from postman.streets.csv_file import streets_text
 from postman.streets.earth import placed
 from postman.streets.gpx import drive_gpx
 
@@ -131,6 +132,14 @@ class Reading(unittest.TestCase):
             ([], {}, "GeoJSON: is no GeoJSON: its type is neither FeatureCollection nor Feature"),
             (line(A), {}, "GeoJSON feature 1: a line needs two points"),
             (line(A, ["x", 1]), {}, "GeoJSON feature 1: its geometry is no GeoJSON"),
+            (line(A, [float("nan"), 1]), {}, "GeoJSON feature 1: its geometry is no GeoJSON"),
+            (line(A, [1e300, 1]), {}, "GeoJSON feature 1: its geometry is no GeoJSON"),
+            (line(A, 7), {}, "GeoJSON feature 1: its geometry is no GeoJSON"),
+            ({"type": "FeatureCollection", "features": 7}, {}, "GeoJSON: is no GeoJSON: its features are no list"),
+            ({**line(A, B), "properties": [1]}, {}, "GeoJSON feature 1: its properties are no object"),
+            (line(A, B, s=float("inf")), {"cost": "s"}, "GeoJSON feature 1: s inf is not between 0 and 65535"),
+            (line(A, B, s=float("nan")), {"cost": "s"}, "GeoJSON feature 1: s nan is not between 0 and 65535"),
+            (line(A, B, s="9" * 400), {"cost": "s"}, f"GeoJSON feature 1: s {'9' * 40}... is not between 0 and 65535"),
             (
                 line(A, B, name="Elm", oneway="maybe"),
                 {},
@@ -156,6 +165,26 @@ class Reading(unittest.TestCase):
         with self.assertRaises(ListError) as caught:
             from_geojson("map.geojson", data=b'{\n"type": }')
         self.assertEqual(str(caught.exception), "map.geojson: line 2, column 9: Expecting value; this is no JSON")
+
+    def test_json_that_is_beyond_its_rules(self):
+        for text, message in [
+            ('{"type": NaN}', "map.geojson: NaN is no number that a plan can have"),
+            ('{"type": -Infinity}', "map.geojson: -Infinity is no number that a plan can have"),
+            ('{"type": 1e999}', "map.geojson: 1e999 is no number that a plan can have"),
+            (f'{{"type": -{"1" * 5000}}}', f"map.geojson: -{'1' * 39}... is no number that a plan can have"),
+            (
+                '{"type":' * 100_000,
+                "map.geojson: has too many brackets within each other; this is no JSON of a plan or a drive",
+            ),
+        ]:
+            with self.assertRaises(ListError) as caught:
+                from_geojson("map.geojson", data=text.encode())
+            self.assertEqual(str(caught.exception), message)
+
+    def test_names_that_no_table_can_hold(self):
+        found = town(line(A, B, name="Elm\ud800\x00 \x1b[1mRoad"), *NAMES)
+        self.assertEqual(found.streets[0].street, "Elm [1mRoad")
+        self.assertEqual(streets_text(found).encode().count(b"Elm [1mRoad"), 2)
 
 
 class Writing(unittest.TestCase):

@@ -63,6 +63,8 @@ class Plans(Folder):
             ("corner,lon,lat\nA,,3\n", "corners.csv row 2: corner A has lat and no lon"),
             ("corner,x,y\nA,east,3\n", "corners.csv row 2: x east is not a number"),
             ("corner,x,y\nA,nan,3\n", "corners.csv row 2: x nan is not a number"),
+            ("corner,x,y\nA,1,1e999\n", "corners.csv row 2: y 1e999 is not between -1000000000 and 1000000000"),
+            ("corner,x,y\nA,-2e9,1\n", "corners.csv row 2: x -2e9 is not between -1000000000 and 1000000000"),
             ("corner,x,y\n,1,3\n", "corners.csv row 2: corner is empty"),
             ("corner\n", "corners.csv: has no corner; write one a row under the header"),
             ("name,x,y\nA,1,3\n", "corners.csv row 1: no column is named corner; the header has: name, x, y"),

@@ -70,6 +70,10 @@ class Quirks(unittest.TestCase):
         data = "from,to,standing,cost\nCafe\u0301,B,must,5\nB,Caf\u00e9,may,3\n"
         self.assertEqual(len(read_csv("list.csv", None, data.encode()).corners), 2)
 
+    def test_what_a_terminal_would_obey_is_no_part_of_a_name(self):
+        data = "from,to,standing,cost,street\nA\x1b[31m,B\x07,must,5,Mill\x00\x1b Lane\n".replace("\x00", "\x01")
+        self.assertEqual(rows(data), [("A [31m", "B", "must", 5, "Mill Lane")])
+
     def test_short_rows_end_in_empty_cells(self):
         self.assertEqual(rows("from,to,standing,cost,street\nA,B,must,5\n"), [("A", "B", "must", 5, "")])
 
@@ -96,6 +100,12 @@ class Errors(unittest.TestCase):
             (header + "A,B,must,1.5,6,Mill Lane\n", "list.csv row 2 (Mill Lane): cost 1.5 is not a whole number"),
             (header + "A,B,must,five,6,Mill Lane\n", "list.csv row 2 (Mill Lane): cost five is not a whole number"),
             (header + "A,B,must,\u0665,6,Mill Lane\n", "list.csv row 2 (Mill Lane): cost \u0665 is not a whole number"),
+            (header + f"A,B,must,{'9' * 5000},6,Elm\n", f"list.csv row 2 (Elm): cost {'9' * 40}... is above 65535"),
+            (header + f"A,B,must,-{'9' * 5000},6,Elm\n", f"list.csv row 2 (Elm): cost -{'9' * 39}... is below 0"),
+            (
+                header + f"A,B,must,5,6,{'x' * 140_000}\n",
+                "list.csv row 2: a cell is too long (field larger than field limit (131072))",
+            ),
             (header + "A,B,must,,6,Mill Lane\n", "list.csv row 2 (Mill Lane): cost is empty"),
             (header + ",B,must,5,6,Mill Lane\n", "list.csv row 2 (Mill Lane): from is empty"),
             (header + "A,,must,5,6,Mill Lane\n", "list.csv row 2 (Mill Lane): to is empty"),

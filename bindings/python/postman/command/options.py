@@ -5,6 +5,8 @@ from __future__ import annotations
 from argparse import ArgumentParser, ArgumentTypeError, Namespace
 
 from ..streets import StreetList, open_list
+from ..streets.errors import clipped
+from ..streets.numerals import whole_of
 from ..windows import Departure
 
 
@@ -58,10 +60,10 @@ def add_formats(parser: ArgumentParser, *formats: str) -> None:
 
 
 def whole_number(text: str) -> int:
-    digits = text.replace(",", "").replace("_", "")
-    if not (digits.isascii() and digits.isdigit()):
-        raise ArgumentTypeError(f"{text} is not a whole number")
-    return int(digits)
+    number = whole_of(text.replace(",", "").replace("_", ""))
+    if number is None:
+        raise ArgumentTypeError(f"{clipped(text)} is not a whole number")
+    return number
 
 
 def departure(text: str) -> Departure:

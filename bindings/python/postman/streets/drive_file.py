@@ -10,10 +10,11 @@ from typing import NamedTuple
 
 from ..plan import Standing
 from ..refusal import Refusal
-from .errors import ListError
+from .errors import ListError, clipped
 from .explain import explain
+from .numerals import whole_of
 from .street_list import StreetList
-from .table import Row, decoded, read_bytes, read_table, separator_of
+from .table import Row, decoded, name_of, read_bytes, read_table, separator_of
 
 NO_ARC = 65535
 """A number that no arc has."""
@@ -51,12 +52,9 @@ def drive_of(path: str, data: bytes, streets: StreetList) -> TypedDrive:
 
 
 def from_json(path: str, text: str) -> TypedDrive:
-    import json
+    from .json_text import parsed
 
-    try:
-        value = json.loads(text)
-    except json.JSONDecodeError as error:
-        raise ListError(f"line {error.lineno}, column {error.colno}: {error.msg}; this is no JSON", path) from None
+    value = parsed(path, text)
     drive = value.get("drive") if isinstance(value, dict) else value
     if not isinstance(drive, list) or not all(type(arc) is int for arc in drive):
         raise ListError("has no drive: a list of arc numbers, or an object in which drive is one", path)
@@ -72,14 +70,13 @@ def from_lines(path: str, text: str) -> TypedDrive:
             continue
         if words[0] == "arc":
             words = words[1:]
-        if len(words) != 1 or not (words[0].isascii() and words[0].isdigit()):
-            message = (
-                f"{line.strip()} is no arc number: write one a line, or a table with the columns from, to and street"
-            )
-            raise ListError(message, path, number, unit="line")
-        arcs.append(clamped(int(words[0])))
+        arc = whole_of(words[0]) if len(words) == 1 else None
+        if arc is None:
+            message = "is no arc number: write one a line, or a table with the columns from, to and street"
+            raise ListError(f"{clipped(name_of(line))} {message}", path, number, unit="line")
+        arcs.append(clamped(arc))
         places.append(f"line {number}")
-        said.append(f"arc {words[0]}")
+        said.append(f"arc {clipped(words[0])}")
     return TypedDrive(path, tuple(arcs), tuple(places), tuple(said))
 
 

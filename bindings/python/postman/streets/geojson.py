@@ -6,7 +6,6 @@ metres of some national grid.
 
 from __future__ import annotations
 
-import json
 from collections.abc import Callable, Iterable, Mapping
 from math import asin, cos, hypot, radians, sin, sqrt
 from typing import Any, NamedTuple
@@ -15,9 +14,10 @@ from ..answer import Answer
 from ..plan import Standing
 from .csv_file import STANDINGS
 from .earth import DEGREE, EARTH_RADIUS
-from .errors import ListError
+from .errors import ListError, clipped
+from .json_text import parsed
 from .street_list import HIGHEST_COST, Corner, Street, StreetList
-from .table import decoded, name_of, read_bytes
+from .table import FARTHEST, decoded, name_of, read_bytes
 
 FORWARD = ("yes", "true", "1")
 BACKWARD = ("-1", "reverse")
@@ -58,7 +58,7 @@ def from_geojson(
     """
     path = source if isinstance(source, str) else "GeoJSON"
     if isinstance(source, str):
-        features = features_of(path, parsed(path, read_bytes(path) if data is None else data))
+        features = features_of(path, parsed(path, decoded(read_bytes(path) if data is None else data, path)))
     else:
         features = features_of(path, source)
     lines, names = lines_of(path, features)
@@ -78,18 +78,14 @@ def from_geojson(
     return StreetList(path, edition, tuple(corners.values()), tuple(streets), None, "feature", notes)
 
 
-def parsed(path: str, data: bytes) -> Any:
-    try:
-        return json.loads(decoded(data, path))
-    except json.JSONDecodeError as error:
-        raise ListError(f"line {error.lineno}, column {error.colno}: {error.msg}; this is no JSON", path) from None
-
-
 def features_of(path: str, value: Any) -> list[Mapping[str, Any]]:
     """The features of GeoJSON; a lone geometry counts as one."""
     kind = value.get("type") if isinstance(value, Mapping) else None
     if kind == "FeatureCollection":
-        return list(value.get("features") or [])
+        features = value.get("features") or []
+        if not isinstance(features, list):
+            raise ListError("is no GeoJSON: its features are no list", path)
+        return features
     if kind == "Feature":
         return [value]
     if kind in ("LineString", "MultiLineString"):
@@ -105,20 +101,29 @@ def lines_of(path: str, features: list[Mapping[str, Any]]) -> tuple[list[Line], 
         try:
             geometry = feature.get("geometry") or {}
             properties = feature.get("properties") or {}
+            if not isinstance(properties, Mapping):
+                raise ListError("its properties are no object", path, number, unit="feature")
             kind = str(geometry.get("type"))
             if kind == "Point" and properties.get("name"):
-                x, y = geometry["coordinates"][:2]
-                names.append(((float(x), float(y)), name_of(str(properties["name"]))))
+                names.append((point_of(geometry["coordinates"]), name_of(str(properties["name"]))))
             coordinates: Any = geometry.get("coordinates")
             parts: Any = {"LineString": [coordinates], "MultiLineString": coordinates}.get(kind, [])
             for part in parts:
-                points = tuple((float(x), float(y)) for x, y, *_ in part)
+                points = tuple(map(point_of, part))
                 if len(points) < 2:
                     raise ListError("a line needs two points", path, number, unit="feature")
                 lines.append(Line(number, properties, points))
         except (AttributeError, KeyError, TypeError, ValueError):
             raise ListError("its geometry is no GeoJSON", path, number, unit="feature") from None
     return lines, names
+
+
+def point_of(coordinates: Iterable[Any]) -> Point:
+    """A point of a geometry; its height is passed over."""
+    x, y, *_ = map(float, coordinates)
+    if not (abs(x) <= FARTHEST and abs(y) <= FARTHEST):
+        raise ValueError(f"no place is as far away as {x}, {y}")
+    return x, y
 
 
 def key_of(on_earth: bool) -> Key:
@@ -232,11 +237,11 @@ class LineReader(NamedTuple):
         try:
             number = float(text)
         except ValueError:
-            raise self.error(line, column, f"{column} is {text or 'empty'}, and no number") from None
-        if number != number or not 0 <= number <= HIGHEST_COST:
-            raise self.error(line, column, f"{column} {text} is not between 0 and {HIGHEST_COST}")
+            raise self.error(line, column, f"{column} is {clipped(text) or 'empty'}, and no number") from None
+        if not 0 <= number <= HIGHEST_COST:
+            raise self.error(line, column, f"{column} {clipped(text)} is not between 0 and {HIGHEST_COST}")
         if number != int(number):
-            raise self.error(line, column, f"{column} {text} is not a whole number")
+            raise self.error(line, column, f"{column} {clipped(text)} is not a whole number")
         return int(number)
 
     def length(self, line: Line) -> int:
@@ -254,7 +259,7 @@ def text_of(value: Any) -> str:
         return ""
     if isinstance(value, bool):
         return "true" if value else "false"
-    if isinstance(value, float) and value == int(value):
+    if isinstance(value, float) and value.is_integer():
         return str(int(value))
     return str(value).strip()
 
