@@ -147,6 +147,8 @@ class Admission(Served):
             ("change", {"arc": 0, "cost": "9"}),
             ("change", {"arc": 0, "standing": "closed", "back": 1}),
             ("judge", {"text": 7}),
+            ("judge", {"text": "0\n\ud800"}),
+            ("save", {"name": "\udfff.csv"}),
             ("save", {"name": ["x.csv"]}),
             ("save", {"name": "x.csv", "over": "yes"}),
         ):
