@@ -10,7 +10,7 @@ import unittest
 import zipfile
 from pathlib import Path
 
-from repository import BUILD, CASE_A, PACKAGE, make, run
+from repository import BUILD, CASE_A, PACKAGE, ROOT, make, run
 
 import postman
 
@@ -100,6 +100,19 @@ class Package(unittest.TestCase):
             for member, value in vars(thing).items() if isinstance(thing, type) else ():
                 if not member.startswith("_") and (callable(value) or isinstance(value, (property, classmethod))):
                     self.assertTrue(getattr(thing, member).__doc__ or value.__doc__, f"{name}.{member}")
+
+    def test_the_standard_library_is_enough(self) -> None:
+        """Every module is imported, and the command run, by a Python that sees no other package."""
+        modules = [
+            ".".join(path.relative_to(PACKAGE).with_suffix("").parts)
+            for path in sorted((PACKAGE / "postman").rglob("*.py"))
+            if path.stem not in ("__init__", "__main__")
+        ]
+        self.assertGreater(len(modules), 60)
+        code = f"import sys; sys.path.insert(0, {str(PACKAGE)!r})\nimport {', '.join(modules)}\n"
+        code += f"sys.exit(postman.command.main(['drive', {str(ROOT / 'examples' / 'town.plan')!r}, '-q']))"
+        printed = run(sys.executable, "-I", "-S", "-c", code, cwd=self.folder, env=environment()).stdout
+        self.assertIn("no drive is cheaper", printed)
 
     def test_networkx_is_not_imported_until_it_is_called_for(self) -> None:
         code = "import sys, postman.graph; print('networkx' in sys.modules)"

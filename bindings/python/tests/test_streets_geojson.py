@@ -7,6 +7,7 @@ from copy import deepcopy
 
 from repository import ROOT
 
+import postman
 from postman import Standing, plan_call, streets
 from postman.streets import ListError, drive_geojson, from_geojson
 from postman.streets.csv_file import streets_text
@@ -63,6 +64,16 @@ class Reading(unittest.TestCase):
 
     def test_a_ring_is_one_street(self):
         self.assertEqual(legs(town(line(A, B, C, A), *NAMES)), [("A", "A", MAY, 412)])
+
+    def test_the_plan_of_a_map(self):
+        value = {"type": "FeatureCollection", "features": [line(A, B, standing="must"), *NAMES]}
+        found = postman.from_geojson(value)
+        plan = postman.Plan.from_geojson(value)
+        self.assertEqual((plan, plan.names), (found.plan, ("A", "B")))
+        self.assertEqual(plan_call(plan, 1).cost, 260)
+        self.assertEqual(postman.Plan.from_geojson(value, must="name").arcs[0].standing, MAY)
+        drive = postman.drive_geojson(found, plan_call(plan, 1))
+        self.assertEqual([one["geometry"]["coordinates"] for one in drive["features"]], [[A, B], [B, A]])
 
     def test_the_length_is_in_metres(self):
         self.assertEqual(town(line(B, C)).streets[0].cost, 111)
