@@ -170,29 +170,33 @@ class Drives(Lists):
 
     def test_foreign(self):
         table = "street,from,to\nElm Street,A,B\n"
-        self.assertEqual(self.judged("0\n7\n"), "14: drive.csv line 2: arc 7 is no street of streets.csv")
-        self.assertEqual(self.judged("[0, 99999]"), "14: drive.csv place 2: arc 99999 is no street of streets.csv")
-        self.assertEqual(self.judged("[-1]"), "14: drive.csv place 1: arc -1 is no street of streets.csv")
-        wanted = "14: drive.csv row 3: Ash Road from B to C is no street of streets.csv"
-        self.assertEqual(self.judged(table + "Ash Road,B,C\n"), wanted)
-        self.assertEqual(
-            self.judged(table + "Old Ash Road,C,A\n"), "14: drive.csv row 3: Old Ash Road from C to A is closed"
-        )
+        for text, place in [
+            ("0\n7\n", "line 2: arc 7"),
+            ("[0, 99999]", "place 2: arc 99999"),
+            ("[-1]", "place 1: arc -1"),
+            (table + "Ash Road,B,C\n", "row 3: Ash Road from B to C"),
+        ]:
+            wanted = f"14: drive.csv {place} is no street of streets.csv: correct it, or take it out"
+            self.assertEqual(self.judged(text), wanted)
+        wanted = "14: drive.csv row 3: Old Ash Road from C to A is closed: lead around it, or open it in the list"
+        self.assertEqual(self.judged(table + "Old Ash Road,C,A\n"), wanted)
 
     def test_unjoined(self):
         told = "Elm Street from A to B ends at B, and the next, Ash Road from C to A (line 2), begins at C"
-        self.assertEqual(self.judged("0\n3\n"), f"15: drive.csv line 1: {told}")
+        what = "put in the way between them"
+        self.assertEqual(self.judged("0\n3\n"), f"15: drive.csv line 1: {told}: {what}")
         told = "Oak Lane from B to C ends at C, and the next, Elm Street from A to B (place 1), begins at A"
-        self.assertEqual(self.judged("[0, 2]"), f"15: drive.csv place 2: {told}")
+        self.assertEqual(self.judged("[0, 2]"), f"15: drive.csv place 2: {told}: {what}")
 
     def test_missed(self):
-        wanted = "16: drive.csv: 1 must street is missed:\n  Oak Lane from B to C (row 4)"
+        wanted = "16: drive.csv: 1 must street is missed:\n  Oak Lane from B to C (row 4)\nlead the drive over it"
         self.assertEqual(self.judged("0\n1\n"), wanted)
         self.assertEqual(
             self.judged("[]"),
             "16: drive.csv: 2 must streets are missed:\n"
             "  Elm Street from A to B (row 2)\n"
-            "  Oak Lane from B to C (row 4)",
+            "  Oak Lane from B to C (row 4)\n"
+            "lead the drive over them",
         )
 
     def test_wording(self):

@@ -24,10 +24,12 @@ EXAMPLE = """\
 
 MAP_OPTIONS = ("name", "cost", "must", "checking", "both_ways")
 
+OUTPUT = "what is made (default: A.plan of A.csv, A-streets.csv of a map or plan file); - for a plan on standard output"
+
 
 def add_arguments(parser: ArgumentParser) -> None:
     add_list(parser)
-    parser.add_argument("-o", "--output", metavar="FILE", help="what is made; - for a plan on standard output")
+    parser.add_argument("-o", "--output", metavar="FILE", help=OUTPUT)
     parser.add_argument("--force", action="store_true", help="write over a street list that is there already")
     of_maps = parser.add_argument_group("of a map's properties")
     of_maps.add_argument("--name", metavar="PROPERTY", help="the street's name (default: name)")

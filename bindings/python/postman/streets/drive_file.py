@@ -145,9 +145,9 @@ def explain_drive(streets: StreetList, drive: TypedDrive, refusal: Refusal) -> s
     if refusal.number == Refusal.FOREIGN:
         for arc, place, said in zip(arcs, places, drive.said):
             if arc >= len(streets.streets):
-                return f"{drive.path} {place}: {said} is no street of {streets.path}"
+                return f"{drive.path} {place}: {said} is no street of {streets.path}: correct it, or take it out"
             if streets.streets[arc].standing is Standing.CLOSED:
-                return f"{drive.path} {place}: {streets.leg(arc)} is closed"
+                return f"{drive.path} {place}: {streets.leg(arc)} is closed: lead around it, or open it in the list"
     if refusal.number == Refusal.UNJOINED:
         for number, arc in enumerate(arcs):
             after = (number + 1) % len(arcs)
@@ -155,11 +155,14 @@ def explain_drive(streets: StreetList, drive: TypedDrive, refusal: Refusal) -> s
             if ends[0] != ends[1]:
                 return (
                     f"{drive.path} {places[number]}: {streets.leg(arc)} ends at {ends[0]}, "
-                    f"and the next, {streets.leg(arcs[after])} ({places[after]}), begins at {ends[1]}"
+                    f"and the next, {streets.leg(arcs[after])} ({places[after]}), begins at {ends[1]}: "
+                    "put in the way between them"
                 )
     if refusal.number == Refusal.MISSED:
         missed = [arc for arc, street in enumerate(streets.streets) if street.must and arc not in set(arcs)]
-        legs = [f"  {streets.leg(arc)} ({streets.unit} {streets.streets[arc].row})" for arc in missed]
-        many = f"{len(missed)} must streets are" if len(missed) > 1 else "1 must street is"
-        return "\n".join([f"{drive.path}: {many} missed:", *legs])
+        # In a plan file the arc's number is its name.
+        rows = ["" if streets.unit == "arc" else f" ({streets.unit} {streets.streets[arc].row})" for arc in missed]
+        legs = [f"  {streets.leg(arc)}{row}" for arc, row in zip(missed, rows)]
+        many, them = (f"{len(missed)} must streets are", "them") if len(missed) > 1 else ("1 must street is", "it")
+        return "\n".join([f"{drive.path}: {many} missed:", *legs, f"lead the drive over {them}"])
     return explain(streets, refusal)
