@@ -22,6 +22,17 @@ def header(title: str, subtitle: str) -> Group:
     return Group("header", lines)
 
 
+def guesses(ground: Ground) -> list[Group]:
+    """A note in the upper right on corners that are drawn without coordinates among others that have them."""
+    if not ground.guessed:
+        return []
+    if ground.guessed == 1:
+        note = "1 corner without coordinates lies near its neighbours."
+    else:
+        note = f"{ground.guessed} corners without coordinates lie near their neighbours."
+    return [Group("note", (Label((ground.width - SIDE, 20), note, anchor="end"),))]
+
+
 def legend(ground: Ground, entries: Sequence[tuple[str, Sequence[Shape], str]]) -> list[Group]:
     """Samples with their words, in rows at the foot of the sheet. A sample is drawn at 0, 0 and is 44 wide."""
     groups = []
