@@ -38,7 +38,13 @@ class Package(unittest.TestCase):
         found = run(sys.executable, "-c", WHERE, cwd="/", env=environment(PYTHONPATH=str(target))).stdout.strip()
         self.assertEqual(Path(found), (target / "postman" / "libpostman.so").resolve())
         self.assertTrue((target / "postman" / "py.typed").is_file())
-        self.assertTrue(os.access(target / "bin" / "postman", os.X_OK))
+        # The command is there, and all that its pages are made of.
+        installed = environment(PYTHONPATH=str(target))
+        report = run(target / "bin" / "postman", "report", ROOT / "examples" / "town.plan", cwd="/", env=installed).stdout
+        self.assertIn("</html>", report)
+        pages = [path.relative_to(PACKAGE) for path in (PACKAGE / "postman" / "desk").glob("desk.*")]
+        self.assertEqual(len(pages), 3)
+        self.assertTrue(all((target / page).is_file() for page in pages))
         self.assertEqual([path for path in PACKAGE.iterdir() if path.suffix in (".egg-info", ".whl")], [])
 
     def test_the_wheel_has_every_file_and_the_library(self) -> None:
@@ -76,10 +82,10 @@ class Package(unittest.TestCase):
             set_to = environment(PYTHONPATH=str(python), **more)
             found = run(sys.executable, "-c", WHERE, cwd=self.folder, env=set_to).stdout.strip()
             self.assertEqual(Path(found), places[name].resolve(), name)
-        for wrong in (self.folder / "no such file", CASE_A):
-            if wrong is CASE_A:
-                wrong = self.folder / "no library"
-                wrong.write_bytes(CASE_A)
+        broken, older = self.folder / "no library", self.folder / "older.so"
+        broken.write_bytes(CASE_A)
+        run("cc", "-shared", "-x", "c", os.devnull, "-o", older)
+        for wrong in (self.folder / "no such file", broken, older):
             set_to = environment(PYTHONPATH=str(python), POSTMAN_LIBRARY=str(wrong))
             said = run("sh", "-c", missing, cwd=self.folder, env=set_to).stdout
             self.assertRegex(said, f"^ImportError: .*{wrong}")
