@@ -7,10 +7,10 @@
  * a length of 0, and a slice that is not const overlaps no other of the same call. The stack has POSTMAN_STACK_BYTES left.
  * That is all that is asked of a caller: any bytes, numbers and lengths will do.
  *
- * A function that answers a number answers minus a refusal's number, and then it did nothing; or 0 or more, and what that
- * says stands with the function. Two of them may answer above 0 and give no drive: postman_two_cars, where a car has a
- * refusal of its own, and 0 alone says that both cars are answered; and postman_turn, where a district is not finished, or
- * none is inside.
+ * A function that answers a number answers 0 or more, and what that says stands with the function; or minus a refusal's
+ * number, and then it did nothing. Of the calls that lay drives two say more than 0: postman_two_cars answers 0 only where
+ * both cars are answered, and else holds each car's own refusal; and postman_turn names the district whose turn it was, and
+ * says whether its drive is laid.
  *
  * Of several refusals that apply the first in this order is given: 1 (under three bytes), 2, 3, 1 (length), 4, then arc by
  * arc 5, 6, 7, then 13, then 17, then 8 and 9, then 18 to 20, then 10 to 12, then 22, then 14 to 16. The calls of an open
