@@ -1,6 +1,7 @@
 """postman edit: a session at the prompt, from a script."""
 
 import io
+import shutil
 import unittest
 from contextlib import redirect_stderr, redirect_stdout
 from pathlib import Path
@@ -199,6 +200,21 @@ class Editing(Folder):
         plan = self.folder / "new.plan"
         self.session("close Oak Lane", f"save {plan}")
         self.assertEqual(streets.open_list(str(plan)).streets[1].standing, Standing.CLOSED)
+
+    def test_what_is_saved_is_the_plan_that_was_asked(self):
+        town = str(self.folder / "town")
+        shutil.copytree(TOWN_FOLDER, town)
+        for name, others in [("bridges.csv", "bridges-corners.csv"), ("streets-2.csv", "corners-2.csv")]:
+            target = str(Path(town) / name)
+            lines = ["close Old Bridge", "ask 1000", f"save {target}"]
+            done = postman("edit", f"{town}/streets.csv", stdin="\n".join(lines))
+            self.assertEqual(done.err, f"postman: {target} and {town}/{others} are written\n")
+            saved = plan_call(streets.open_list(target).file, 1000)
+            self.assertIn(f"cost {saved.cost:,}, floor {saved.floor:,},", done.out)
+            # The corners stand there, and are not written again.
+            done = postman("edit", target, stdin=f"open Old Bridge\nsave {target} over\n")
+            self.assertEqual(done.err, f"postman: {target} is written\n")
+            self.assertEqual(streets.open_list(target).file, streets.open_list(f"{town}/streets.csv").file)
 
     def test_market_days(self):
         windows = self.file("windows.csv", "street,day,start,end\nOak Lane,tue,8:00,12:00\nElm Street,wed,8:00,12:00\n")

@@ -13,12 +13,12 @@ from ..open_plan import OpenPlan
 from ..plan import Arc, Standing
 from ..refusal import Refusal
 from ..streets import StreetList
-from ..streets.csv_file import streets_text
+from ..streets.csv_file import files_of
 from ..streets.errors import ListError, clipped, nearest
 from ..streets.numerals import whole_of
 from ..streets.steps import steps_of
 from ..streets.street_list import HIGHEST_COST, Street
-from ..streets.table import encoded, name_of
+from ..streets.table import name_of
 from ..windows import Departure
 from .deepening import deepest, no_gap
 from .directions import advice, print_directions
@@ -289,10 +289,13 @@ class Editor:
         now = self.now()
         if now.file != self.plan.file:
             raise Failed("the list is not the plan that is open")
-        data = now.file if Path(path).suffix.lower() == ".plan" else encoded(streets_text(now))
-        write_files([(path, data)], over == "over", f"save {path} over writes over it")
+        if Path(path).suffix.lower() == ".plan":
+            files = {path: now.file}
+        else:
+            files = {one: data for one, data in files_of(now, path).items() if one == path or not holds(one, data)}
+        write_files(files.items(), over == "over", f"save {path} over writes over it")
         self.unsaved = False
-        self.output.note(f"{path} is written")
+        self.output.note(f"{' and '.join(files)} {'is' if len(files) == 1 else 'are'} written")
 
     def help(self, text: str) -> None:
         self.output.result(HELP)
@@ -329,6 +332,14 @@ def difference(last: Answer | None, answer: Answer, word: str) -> str:
         return ""
     more = getattr(answer, word) - getattr(last, word)
     return f" ({more:+,})" if more else " (as before)"
+
+
+def holds(path: str, data: bytes) -> bool:
+    """Whether a file holds this already."""
+    try:
+        return Path(path).read_bytes() == data
+    except OSError:
+        return False
 
 
 def mark_of(text: str) -> int:

@@ -82,7 +82,7 @@ def default_output(path: str, kind: str) -> str:
 
 def write_lists(streets: StreetList, target: str, force: bool, output: Output) -> None:
     """Writes a street list and the file of its corners."""
-    corners = corners_beside(target) or str(Path(target).with_name(f"{Path(target).stem}-corners.csv"))
+    corners = corners_beside(target)
     write_files([(target, encoded(streets_text(streets))), (corners, encoded(corners_text(streets)))], force)
     output.note(f"{target} and {corners}: {held(streets)}")
     try:

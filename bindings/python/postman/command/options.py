@@ -33,7 +33,8 @@ def add_corners(parser: ArgumentParser) -> None:
     parser.add_argument(
         "--corners",
         metavar="CSV",
-        help="corners and coordinates (default: corners.csv beside streets.csv, A-corners.csv beside A-streets.csv)",
+        help="corners and coordinates (default: corners.csv beside streets.csv, A-corners.csv beside A.csv or "
+        "A-streets.csv)",
     )
 
 
