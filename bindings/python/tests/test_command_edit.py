@@ -270,6 +270,10 @@ class Prompt(Folder):
         self.assertEqual(out.count("closed"), 2)
         self.assertNotIn("jump", err)
         self.assertNotIn("not saved", self.typed("quit")[1])
+        self.assertNotIn("not saved", self.typed("close Oak Lane", "undo", "quit")[1])
+        self.assertIn("not saved", self.typed("mark", "close Oak Lane", f"save {self.folder}/a.csv", "return", "quit")[1])
+        # The end of input is a wish to end, and no more.
+        self.assertEqual(self.typed("close Oak Lane")[1].count("not saved"), 1)
 
     def test_completion(self):
         editor = Editor(streets.read(self.file("list.csv", LIST)), None, None, Output())

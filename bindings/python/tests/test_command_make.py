@@ -130,7 +130,9 @@ class Show(Folder):
         self.assertEqual(lines[-2].split(), ["2", "Elm", "A", "B", "must", "5"])
 
     def test_csv_and_json(self):
-        self.assertEqual(postman("show", self.file("list.csv", LIST), "--csv").out, LIST)
+        done = postman("show", self.file("list.csv", LIST), "--csv")
+        self.assertEqual((done.out, done.err), (LIST, ""))
+        self.assertIn("the corners' order and coordinates are not in it", postman("show", TOWN, "--csv").err)
         value = json.loads(postman("show", TOWN, "--json").out)
         self.assertEqual((len(value["corners"]), len(value["streets"]), len(value["parts"])), (62, 197, 7))
         self.assertIsNone(value["refusal"])

@@ -41,7 +41,7 @@ def at_prompt(editor: Editor) -> int:
             line = input("postman> ")
         except EOFError:
             print()
-            break
+            line = "quit"
         except KeyboardInterrupt:
             print()
             continue

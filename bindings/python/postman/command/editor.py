@@ -73,7 +73,7 @@ class Editor:
             self.windows = read_windows(windows, streets)
         self.departure: Departure | None = None
         self.asked: Answer | None = None
-        self.unsaved = False
+        self.saved = self.plan.file
         self.careful = False
         self.ended = False
 
@@ -155,7 +155,6 @@ class Editor:
                 self.plan = OpenPlan.from_bytes(state)
                 raise self.refused(replace(self.streets, streets=tuple(now)), refusal) from None
         self.before.append(state)
-        self.unsaved = True
         for number in arcs:
             self.output.result(self.said(number))
 
@@ -294,15 +293,15 @@ class Editor:
         else:
             files = {one: data for one, data in files_of(now, path).items() if one == path or not holds(one, data)}
         write_files(files.items(), over == "over", f"save {path} over writes over it")
-        self.unsaved = False
+        self.saved = self.plan.file
         self.output.note(f"{' and '.join(files)} {'is' if len(files) == 1 else 'are'} written")
 
     def help(self, text: str) -> None:
         self.output.result(HELP)
 
     def quit(self, text: str) -> None:
-        if self.unsaved and self.careful:
-            self.unsaved = False
+        if self.careful and self.plan.file != self.saved:
+            self.saved = self.plan.file
             raise Failed("changes are not saved: save FILE keeps them, and quit once more leaves them")
         self.ended = True
 
