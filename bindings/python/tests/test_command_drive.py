@@ -134,6 +134,9 @@ class Drive(Folder):
         self.assertIn("are not there, and no map", postman("drive", PLAN, "--budget", "10", "--geojson").err)
         self.assertIn("<rtept", postman("drive", TOWN, "--budget", "10", "--gpx", "--origin", "54.2,-2.3").out)
         self.assertEqual(postman("drive", TOWN, "--gpx").status, 2)
+        south = postman("drive", TOWN, "--budget", "10", "--gpx", "--origin", "-33.9,-70.6").out
+        self.assertIn('lat="-33.89', south)
+        self.assertIn("-5 is not a whole number", postman("drive", TOWN, "--budget", "-5").err)
 
     def test_standard_input(self):
         done = postman("drive", "-", stdin="from,to,standing,cost\nA,B,must,5\nB,A,may,3\n")
