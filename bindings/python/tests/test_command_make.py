@@ -4,6 +4,7 @@ import csv
 import io
 import json
 import unittest
+from copy import deepcopy
 from pathlib import Path
 
 from command import TOWN, postman
@@ -81,6 +82,14 @@ class Make(Folder):
             [("Elm Street", "12", "30", "must")] * 2,
         )
         self.assertTrue(Path(self.path("x-corners.csv")).exists())
+
+    def test_what_is_noticed_in_a_map_is_noted_by_all(self):
+        turns = deepcopy(MAP)
+        turns["features"][0]["properties"] |= {"oneway": "reversible", "standing": "must"}
+        source = self.file("map.geojson", json.dumps(turns))
+        for argv in (["make", source], ["drive", source], ["show", source]):
+            self.assertIn("map.geojson: 1 line is one way in turns, such as feature 1", postman(*argv).err)
+            self.assertNotIn("in turns", postman(*argv, "--quiet").err)
 
     def test_a_map_that_is_too_large_is_written_to_be_edited(self):
         points = [[k / 1000, 0] for k in range(66)]

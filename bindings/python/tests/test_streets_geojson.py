@@ -55,6 +55,8 @@ class Reading(unittest.TestCase):
             ({"oneway": "-1"}, [back]),
             ({"oneway": -1}, [back]),
             ({"oneway": "reverse"}, [back]),
+            ({"oneway": "alternating"}, [there, back]),
+            ({"oneway": "reversible"}, [there, back]),
             ({"junction": "roundabout"}, [there]),
             ({"junction": "roundabout", "oneway": "no"}, [there, back]),
             ({"highway": "motorway"}, [there]),
@@ -128,6 +130,11 @@ class Reading(unittest.TestCase):
         several = {"type": "MultiLineString", "coordinates": [[A, B], [B, C]]}
         found = town({"type": "Feature", "properties": None, "geometry": several}, *NAMES)
         self.assertEqual([leg[:2] for leg in legs(found)], [("A", "B"), ("B", "A"), ("B", "C"), ("C", "B")])
+
+    def test_lines_that_are_one_way_in_turns_are_noted(self):
+        found = town(line(A, B, name="Elm", oneway="reversible"), line(B, C, oneway="yes"), *NAMES)
+        wanted = "1 line is one way in turns, such as feature 1 (Elm), and taken for both: close the one that is shut"
+        self.assertEqual(found.notes, (wanted,))
 
     def test_lines_through_a_corner_are_noted(self):
         middle = [-2.299, 54.2]

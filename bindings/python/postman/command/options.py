@@ -5,9 +5,10 @@ from __future__ import annotations
 from argparse import ArgumentParser, ArgumentTypeError, Namespace
 
 from ..streets import StreetList, open_list
-from ..streets.errors import clipped
+from ..streets.errors import clipped, shown
 from ..streets.numerals import whole_of
 from ..windows import Departure
+from .output import Output
 
 
 class WrongUsage(Exception):
@@ -77,5 +78,8 @@ def departure(text: str) -> Departure:
 
 
 def opened(args: Namespace) -> StreetList:
-    """The list that the arguments name."""
-    return open_list(args.list, args.corners)
+    """The list that the arguments name. What its reader noticed is noted."""
+    streets = open_list(args.list, args.corners)
+    for note in streets.notes:
+        Output(args.quiet).note(f"{shown(args.list)}: {note}")
+    return streets

@@ -21,7 +21,9 @@ from .table import FARTHEST, decoded, name_of, read_bytes
 
 FORWARD = ("yes", "true", "1")
 BACKWARD = ("-1", "reverse")
-BOTH_WAYS = ("", "no", "false", "0")
+NO = ("", "no", "false", "0")
+IN_TURNS = ("alternating", "reversible")
+"""One way at a time, by signals or by the hour: both can be driven, though not at once."""
 
 Point = tuple[float, float]
 Key = Callable[[Point], Point]
@@ -74,7 +76,7 @@ def from_geojson(
         for one in reader.streets(line, corners[key(line.points[0])].name, corners[key(line.points[-1])].name)
     ]
     edition = 1 if checking is None else 2
-    notes = passing(lines, corners, key, reader)
+    notes = passing(lines, corners, key, reader) + in_turns(lines, reader)
     return StreetList(path, edition, tuple(corners.values()), tuple(streets), None, "feature", notes)
 
 
@@ -175,6 +177,16 @@ def passing(lines: list[Line], corners: dict[Point, Corner], key: Key, reader: L
     return (f"{many} through corners without ending there, such as {where}: split them there for turns",)
 
 
+def in_turns(lines: list[Line], reader: LineReader) -> tuple[str, ...]:
+    """A note on lines whose direction changes: both are taken."""
+    found = [line for line in lines if text_of(line.properties.get("oneway")).lower() in IN_TURNS]
+    if not found:
+        return ()
+    many = "1 line is" if len(found) == 1 else f"{len(found)} lines are"
+    where = f"feature {found[0].feature} ({reader.name(found[0]) or 'no name'})"
+    return (f"{many} one way in turns, such as {where}, and taken for both: close the one that is shut",)
+
+
 class LineReader(NamedTuple):
     """How the properties of a line are read."""
 
@@ -217,7 +229,7 @@ class LineReader(NamedTuple):
             return (0,)
         if oneway in BACKWARD:
             return (1,)
-        if oneway not in BOTH_WAYS:
+        if oneway not in (*NO, *IN_TURNS):
             raise self.error(line, "oneway", f"oneway {oneway} is none of yes, no and -1")
         return (0,) if ring else (0, 1)
 
@@ -225,7 +237,7 @@ class LineReader(NamedTuple):
         if self.must is not None:
             name, _, wanted = self.must.partition("=")
             found = text_of(line.properties.get(name))
-            must = found == wanted if wanted else found.lower() not in BOTH_WAYS
+            must = found == wanted if wanted else found.lower() not in NO
             return Standing.MUST if must else Standing.MAY
         word = text_of(line.properties.get("standing")).lower()
         if word and word not in STANDINGS:
