@@ -74,6 +74,17 @@ class Quirks(unittest.TestCase):
         data = "from,to,standing,cost,street\nA\x1b[31m,B\x07,must,5,Mill\x00\x1b Lane\n".replace("\x00", "\x01")
         self.assertEqual(rows(data), [("A [31m", "B", "must", 5, "Mill Lane")])
 
+    def test_whole_numbers_in_tables_of_decimals(self):
+        header = "from;to;standing;cost;checking;street\n"
+        found = read_csv("list.csv", None, f"{header}A;B;must;12,0;30.00;Elm\nB;A;may;+3;;\n".encode())
+        self.assertEqual([(street.cost, street.checking) for street in found.streets], [(12, 30), (3, None)])
+
+    def test_corners_that_differ_in_capitals_are_noted(self):
+        found = read_csv("list.csv", None, b"from,to,standing,cost\nMill Yard,B,must,3\nB,Mill yard,may,3\n")
+        wanted = "Mill Yard and Mill yard are two corners: write both names alike if they are one"
+        self.assertEqual((len(found.corners), found.notes), (3, (wanted,)))
+        self.assertEqual(read_csv("list.csv", None, PLAIN.encode()).notes, ())
+
     def test_short_rows_end_in_empty_cells(self):
         self.assertEqual(rows("from,to,standing,cost,street\nA,B,must,5\n"), [("A", "B", "must", 5, "")])
 
@@ -98,6 +109,11 @@ class Errors(unittest.TestCase):
             (header + good + "A,B,must,70000,6,Mill Lane\n", "list.csv row 3 (Mill Lane): cost 70000 is above 65535"),
             (header + "A,B,must,-5,6,Mill Lane\n", "list.csv row 2 (Mill Lane): cost -5 is below 0"),
             (header + "A,B,must,1.5,6,Mill Lane\n", "list.csv row 2 (Mill Lane): cost 1.5 is not a whole number"),
+            (header + "A,B,must,1.05,6,Mill Lane\n", "list.csv row 2 (Mill Lane): cost 1.05 is not a whole number"),
+            (header + "A,B,must,1.,6,Mill Lane\n", "list.csv row 2 (Mill Lane): cost 1. is not a whole number"),
+            (header + "A,B,must,.0,6,Mill Lane\n", "list.csv row 2 (Mill Lane): cost .0 is not a whole number"),
+            (header + 'A,B,must,"1,000",6,Elm\n', "list.csv row 2 (Elm): cost 1,000 is not a whole number"),
+            (header + "A,B,must,1.000,6,Elm\n", "list.csv row 2 (Elm): cost 1.000 is not a whole number"),
             (header + "A,B,must,five,6,Mill Lane\n", "list.csv row 2 (Mill Lane): cost five is not a whole number"),
             (header + "A,B,must,\u0665,6,Mill Lane\n", "list.csv row 2 (Mill Lane): cost \u0665 is not a whole number"),
             (header + f"A,B,must,{'9' * 5000},6,Elm\n", f"list.csv row 2 (Elm): cost {'9' * 40}... is above 65535"),

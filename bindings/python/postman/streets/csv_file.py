@@ -23,12 +23,14 @@ def read_csv(path: str, corners: str | None = None, data: bytes | None = None) -
         raise ListError("has no street; write one a row under the header", path)
     checked = "checking" in table.header
     streets = tuple(street_of(row, checked) for row in table.rows)
+    notes: tuple[str, ...] = ()
     if corners is None:
         found = corners_in_order(streets)
+        notes = alike(found)
     else:
         found = read_corners(corners)
         check_corners(table, corners, {corner.name for corner in found})
-    return StreetList(path, 2 if checked else 1, found, streets, corners)
+    return StreetList(path, 2 if checked else 1, found, streets, corners, notes=notes)
 
 
 def street_of(row: Row, checked: bool) -> Street:
@@ -59,6 +61,16 @@ def corners_in_order(streets: tuple[Street, ...]) -> tuple[Corner, ...]:
     """The corners as they first occur."""
     names = dict.fromkeys(name for street in streets for name in (street.from_corner, street.to_corner))
     return tuple(Corner(name) for name in names)
+
+
+def alike(corners: tuple[Corner, ...]) -> tuple[str, ...]:
+    """A note on corners whose names differ in nothing but capitals: they may be one."""
+    met: dict[str, str] = {}
+    for corner in corners:
+        other = met.setdefault(corner.name.casefold(), corner.name)
+        if other != corner.name:
+            return (f"{other} and {corner.name} are two corners: write both names alike if they are one",)
+    return ()
 
 
 def read_corners(path: str) -> tuple[Corner, ...]:

@@ -42,9 +42,11 @@ class Row(NamedTuple):
         return text
 
     def whole(self, column: str, highest: int) -> int:
-        """The cell's number, a whole one from 0 to `highest`."""
+        """The cell's number, a whole one from 0 to `highest`. Tables of decimals write it as 30.0 or 30.00; what has
+        three digits behind its point may be thousands, and is not taken."""
         text = self.needed(column)
-        number = whole_of(text[1:] if text[0] in "+-" else text)
+        digits, point, zeros = (text[1:] if text[0] in "+-" else text).replace(",", ".").partition(".")
+        number = whole_of(digits) if not point or zeros in ("0", "00") else None
         if number is None:
             raise self.error(column, f"{column} {clipped(text)} is not a whole number")
         if text[0] == "-" and number > 0:
