@@ -83,6 +83,11 @@ class Install(unittest.TestCase):
         self.assertIn(f"[libpostman.so.{version.split('.')[0]}]", dynamic)
         self.assertNotIn("TEXTREL", dynamic)
 
+    def test_the_gates(self) -> None:
+        for target, script in (("check", ".ci/run"), ("quick", ".ci/quick")):
+            self.assertEqual(run("make", "-C", ROOT, "--no-print-directory", "-n", target).stdout, f"bash {script}\n")
+            self.assertTrue((ROOT / script).is_file())
+
     def test_another_root_and_uninstalling(self) -> None:
         stage = self.folder / "stage"
         words = f"DESTDIR={stage}", "PREFIX=/opt/postman"
