@@ -4,13 +4,14 @@ import csv
 import io
 import unittest
 from random import Random
+from unittest import mock
 
 import repository  # noqa: F401
 
 from postman import Standing
 from postman.streets import ListError, Street, StreetList
 from postman.streets.csv_file import corners_in_order, read_csv, streets_text
-from postman.streets.table import encoded, name_of, read_table, written
+from postman.streets.table import encoded, name_of, read_bytes, read_table, written
 
 PLAIN = "from,to,standing,cost,street\nA,B,must,5,Mill Lane\nB,A,may,3,Mill Lane\n"
 
@@ -161,6 +162,11 @@ class Errors(unittest.TestCase):
             "from,to,standing,cost,street\nA,B,must,x,Elm\n", "list.csv row 2 (Elm): cost x is not a whole number"
         )
         self.assertEqual((error.file, error.row, error.column, error.street), ("list.csv", 2, "cost", "Elm"))
+
+    def test_files_that_are_no_lists_by_their_length(self):
+        with mock.patch("postman.streets.table.MOST_BYTES", 1000), self.assertRaises(ListError) as caught:
+            read_bytes("/dev/zero")
+        self.assertEqual(str(caught.exception), "/dev/zero: has more than 1,000 bytes, and is no list of streets")
 
     def test_missing_files(self):
         with self.assertRaises(ListError) as caught:

@@ -9,12 +9,14 @@ from __future__ import annotations
 
 import csv
 import io
-from pathlib import Path
 from typing import Iterable, NamedTuple
 
 from .errors import ListError, clipped
 from .numerals import whole_of
 
+
+MOST_BYTES = 100_000_000
+"""The most bytes of a file that are read. No list is near it, and a disk's image would take all memory."""
 
 FARTHEST = 1_000_000_000
 """The farthest that a coordinate may lie from 0: no grid of the earth has more metres."""
@@ -99,10 +101,15 @@ def read_bytes(path: str) -> bytes:
         if path == "-":
             import sys
 
-            return sys.stdin.buffer.read()
-        return Path(path).read_bytes()
+            data = sys.stdin.buffer.read(MOST_BYTES + 1)
+        else:
+            with open(path, "rb") as file:
+                data = file.read(MOST_BYTES + 1)
     except OSError as error:
         raise ListError(f"cannot be read: {error.strerror}", path) from None
+    if len(data) > MOST_BYTES:
+        raise ListError(f"has more than {MOST_BYTES:,} bytes, and is no list of streets", path)
+    return data
 
 
 def decoded(data: bytes, file: str) -> str:
