@@ -227,6 +227,18 @@ class Drives(Lists):
                     self.drive(text)
                 self.assertEqual(str(caught.exception).replace(f"{self.folder}/", ""), message)
 
+    def test_json_of_a_list_that_was_sorted_since(self):
+        steps = [{"arc": 0, "street": "Elm Street", "from": "A", "to": "B"}, {"arc": 2, "street": "Ash Road", "from": 7}, 9]
+        self.fails(
+            "drive.csv place 2: arc 2 has street Oak Lane in streets.csv, and Ash Road here",
+            self.drive,
+            json.dumps({"drive": [0, 2, 3], "steps": steps}),
+        )
+        steps[1]["street"] = "Oak Lane"
+        self.assertEqual(self.drive(json.dumps({"drive": [0, 2, 3], "steps": steps})).arcs, (0, 2, 3))
+        self.assertEqual(self.drive(json.dumps({"drive": [0, 2], "steps": steps})).arcs, (0, 2))
+        self.assertEqual(self.drive(json.dumps({"drive": [-1, 99, 3], "steps": steps})).arcs, (65535, 99, 3))
+
     def test_streets_that_names_do_not_tell_apart(self):
         path = self.file("streets.csv", LIST + "A,B,may,7,Elm Street\n")
         twice = streets.read(path)

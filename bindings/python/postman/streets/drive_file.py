@@ -43,7 +43,7 @@ def drive_of(path: str, data: bytes, streets: StreetList) -> TypedDrive:
     text = decoded(data, path)
     start = text.lstrip()
     if start[:1] in ("{", "["):
-        return from_json(path, text)
+        return from_json(path, text, streets)
     first = next((line for line in text.splitlines() if line.strip()), "")
     columns = {cell.strip().strip('"').lower() for cell in first.split(separator_of(first))}
     if "arc" in columns or {"from", "to"} <= columns:
@@ -51,13 +51,20 @@ def drive_of(path: str, data: bytes, streets: StreetList) -> TypedDrive:
     return from_lines(path, text)
 
 
-def from_json(path: str, text: str) -> TypedDrive:
+def from_json(path: str, text: str, streets: StreetList) -> TypedDrive:
     from .json_text import parsed
 
     value = parsed(path, text)
     drive = value.get("drive") if isinstance(value, dict) else value
     if not isinstance(drive, list) or not all(type(arc) is int for arc in drive):
         raise ListError("has no drive: a list of arc numbers, or an object in which drive is one", path)
+    steps = value.get("steps") if isinstance(value, dict) else None
+    if isinstance(steps, list) and len(steps) == len(drive):
+        for number, (arc, step) in enumerate(zip(drive, steps), 1):
+            names = {column: step.get(column) for column in ("street", "from", "to")} if isinstance(step, dict) else {}
+            other = differing(arc, {column: name for column, name in names.items() if isinstance(name, str)}, streets)
+            if other is not None:
+                raise ListError(other[1], path, number, other[0], unit="place")
     places = tuple(f"place {number}" for number in range(1, len(drive) + 1))
     return TypedDrive(path, tuple(map(clamped, drive)), places, tuple(f"arc {arc}" for arc in drive))
 
@@ -110,15 +117,23 @@ def names_of(streets: StreetList, arc: int) -> dict[str, str]:
     return {"street": street.street, "from": street.from_corner, "to": street.to_corner}
 
 
-def check_names(row: Row, arc: int, wanted: dict[str, str], streets: StreetList) -> None:
-    """Names beside an arc's number must be those of the arc: the list may have been sorted since."""
-    if arc >= len(streets.streets):
-        return
+def differing(arc: int, wanted: dict[str, str], streets: StreetList) -> tuple[str, str] | None:
+    """The first column in which names beside an arc's number are not those of the arc, and that in words: the list may
+    have been sorted since."""
+    if not 0 <= arc < len(streets.streets):
+        return None
     held = names_of(streets, arc)
     for column, name in wanted.items():
         if name and name != held[column]:
-            message = f"arc {row.text('arc')} has {column} {held[column]} in {streets.path}, and {name} here"
-            raise row.error(column, message)
+            return column, f"arc {arc} has {column} {held[column]} in {streets.path}, and {name} here"
+    return None
+
+
+def check_names(row: Row, arc: int, wanted: dict[str, str], streets: StreetList) -> None:
+    """Names beside an arc's number must be those of the arc."""
+    other = differing(arc, wanted, streets)
+    if other is not None:
+        raise row.error(*other)
 
 
 def arc_named(row: Row, wanted: dict[str, str], streets: StreetList) -> int:
