@@ -126,7 +126,7 @@ class Drive(Folder):
     def test_maps_and_navigation(self):
         done = postman("drive", TOWN, "--budget", "10", "--geojson")
         self.assertEqual(json.loads(done.out)["features"][0]["geometry"]["coordinates"][0], [800, 760])
-        self.assertIn("the coordinates are x and y as they stand in the list, and no map shows them: --origin", done.err)
+        self.assertIn("the coordinates are x and y as they stand in the list, and no map shows them: --or", done.err)
         done = postman("drive", TOWN, "--budget", "10", "--geojson", "--origin", "54.2,-2.3")
         value = json.loads(done.out)
         self.assertAlmostEqual(value["features"][0]["geometry"]["coordinates"][1][1], 54.2, delta=0.1)

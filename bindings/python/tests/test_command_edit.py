@@ -271,7 +271,8 @@ class Prompt(Folder):
         self.assertNotIn("jump", err)
         self.assertNotIn("not saved", self.typed("quit")[1])
         self.assertNotIn("not saved", self.typed("close Oak Lane", "undo", "quit")[1])
-        self.assertIn("not saved", self.typed("mark", "close Oak Lane", f"save {self.folder}/a.csv", "return", "quit")[1])
+        saved = f"save {self.folder}/a.csv"
+        self.assertIn("not saved", self.typed("mark", "close Oak Lane", saved, "return", "quit")[1])
         # The end of input is a wish to end, and no more.
         self.assertEqual(self.typed("close Oak Lane")[1].count("not saved"), 1)
 

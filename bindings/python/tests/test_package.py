@@ -40,7 +40,8 @@ class Package(unittest.TestCase):
         self.assertTrue((target / "postman" / "py.typed").is_file())
         # The command is there, and all that its pages are made of.
         installed = environment(PYTHONPATH=str(target))
-        report = run(target / "bin" / "postman", "report", ROOT / "examples" / "town.plan", cwd="/", env=installed).stdout
+        town = ROOT / "examples" / "town.plan"
+        report = run(target / "bin" / "postman", "report", town, cwd="/", env=installed).stdout
         self.assertIn("</html>", report)
         pages = [path.relative_to(PACKAGE) for path in (PACKAGE / "postman" / "desk").glob("desk.*")]
         self.assertEqual(len(pages), 3)

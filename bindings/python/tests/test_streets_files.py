@@ -212,8 +212,11 @@ class Drives(Lists):
             ("[" * 100_000, "drive.csv: has too many brackets within each other; this is no JSON of a plan or a drive"),
             (f"[{'1' * 5000}]", f"drive.csv: {'1' * 40}... is no number that a plan can have"),
             ("[NaN]", "drive.csv: NaN is no number that a plan can have"),
-            ("0\n\x1b[2J\n", "drive.csv line 2: [2J is no arc number: write one a line, or a table with the columns from, "
-             "to and street"),
+            (
+                "0\n\x1b[2J\n",
+                "drive.csv line 2: [2J is no arc number: "
+                "write one a line, or a table with the columns from, to and street",
+            ),
             ("arc\nx\n", "drive.csv row 2: arc x is not a whole number"),
             ("from,to\nA,\n", "drive.csv row 2: to is empty"),
             (
@@ -228,7 +231,7 @@ class Drives(Lists):
                 self.assertEqual(str(caught.exception).replace(f"{self.folder}/", ""), message)
 
     def test_json_of_a_list_that_was_sorted_since(self):
-        steps = [{"arc": 0, "street": "Elm Street", "from": "A", "to": "B"}, {"arc": 2, "street": "Ash Road", "from": 7}, 9]
+        steps = [{"street": "Elm Street", "from": "A", "to": "B"}, {"street": "Ash Road", "from": 7}, 9]
         self.fails(
             "drive.csv place 2: arc 2 has street Oak Lane in streets.csv, and Ash Road here",
             self.drive,

@@ -23,7 +23,7 @@ def header(title: str, subtitle: str) -> Group:
 
 
 def guesses(ground: Ground) -> list[Group]:
-    """A note below the title, on the right, on corners that are drawn without coordinates among others that have them."""
+    """A note below the title, on the right, on corners without coordinates among others that have them."""
     if not ground.guessed:
         return []
     if ground.guessed == 1:

@@ -51,8 +51,8 @@ def open_list(path: str, corners: str | None = None, data: bytes | None = None) 
     """Opens a street list, a plan file or GeoJSON, whichever the file is ("-" is standard input).
 
     The corners of a street list come from the file `corners`; where none is named, from the one beside it by its name,
-    if there is one: corners.csv for streets.csv, A-corners.csv for A-streets.csv and for A.csv. `data` are the file's bytes where they were read
-    already.
+    if there is one: corners.csv for streets.csv, A-corners.csv for A-streets.csv and for A.csv. `data` are the file's
+    bytes where they were read already.
     """
     if data is None:
         data = read_bytes(path)
