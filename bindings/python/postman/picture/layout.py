@@ -11,7 +11,6 @@ from collections.abc import Iterable, Mapping, Sequence
 from functools import lru_cache
 
 Point = tuple[float, float]
-Points = dict[int, Point]
 
 # A sweep moves every corner once. Towns settle in well under a hundred.
 SWEEPS = 200
@@ -29,20 +28,18 @@ def lay_out(count: int, pairs: Iterable[tuple[int, int]]) -> tuple[Point, ...]:
 def lay_beside(known: Mapping[int, Point], count: int, pairs: Iterable[tuple[int, int]]) -> tuple[Point, ...]:
     """Points for all corners where those of `known` are given, in their measure: these stay, and the others go near
     their neighbours. What no street joins to a known one goes below all that are."""
+    return _laid_beside(tuple(known.items()), count, frozenset((min(pair), max(pair)) for pair in pairs))
+
+
+@lru_cache(maxsize=16)
+def _laid_beside(
+    given: tuple[tuple[int, Point], ...], count: int, pairs: frozenset[tuple[int, int]]
+) -> tuple[Point, ...]:
+    known = dict(given)
     near = _neighbours(count, pairs)
     step = _usual_step(known, near)
     hops = {corner: _hops(near, corner) for corner in range(count) if corner not in known}
-    points: Points = {corner: (x / step, y / step) for corner, (x, y) in known.items()}
-    left, below = min(x for x, _ in points.values()), max(y for _, y in points.values()) + 1.0
-    for corner, reached in hops.items():
-        nearest = min((far for other, far in reached.items() if other in known), default=None)
-        if nearest is None:
-            points[corner], left = (left, below), left + 1.0
-            continue
-        beside = [points[other] for other, far in reached.items() if other in known and far == nearest]
-        x, y = (sum(values) / len(beside) for values in zip(*beside))
-        # A little beside them: two that have the same neighbours would stay on one point.
-        points[corner] = (x + 0.1 * math.cos(corner), y + 0.1 * math.sin(corner))
+    points = _start_beside({corner: (x / step, y / step) for corner, (x, y) in given}, hops)
     for _ in range(SWEEPS):
         moved = 0.0
         for corner, reached in hops.items():
@@ -53,6 +50,22 @@ def lay_beside(known: Mapping[int, Point], count: int, pairs: Iterable[tuple[int
         if moved < SETTLED:
             break
     return tuple((points[corner][0] * step, points[corner][1] * step) for corner in range(count))
+
+
+def _start_beside(known: dict[int, Point], hops: Mapping[int, Mapping[int, int]]) -> dict[int, Point]:
+    """All points, the unknown ones in the middle of those known ones that are nearest by hops."""
+    points = dict(known)
+    left, below = min(x for x, _ in known.values()), max(y for _, y in known.values()) + 1.0
+    for corner, reached in hops.items():
+        nearest = min((far for other, far in reached.items() if other in known), default=None)
+        if nearest is None:
+            points[corner], left = (left, below), left + 1.0
+            continue
+        beside = [known[other] for other, far in reached.items() if other in known and far == nearest]
+        x, y = (sum(values) / len(beside) for values in zip(*beside))
+        # A little beside them: two that have the same neighbours would stay on one point.
+        points[corner] = (x + 0.1 * math.cos(corner), y + 0.1 * math.sin(corner))
+    return points
 
 
 def _usual_step(known: Mapping[int, Point], near: Sequence[set[int]]) -> float:
