@@ -7,8 +7,10 @@
  * a length of 0, and a slice that is not const overlaps no other of the same call. The stack has POSTMAN_STACK_BYTES left.
  * That is all that is asked of a caller: any bytes, numbers and lengths will do.
  *
- * Every function that answers a number answers what was asked for, 0 or more, or minus a refusal's number. What is asked for
- * in postman_two_cars is each car's own refusal, in one number: there one above 0 says that a car is refused.
+ * A function that answers a number answers 0 or more, and what that says stands with the function; or minus a refusal's
+ * number, and then it did nothing. Of the calls that lay drives two say more than 0: postman_two_cars answers 0 only where
+ * both cars are answered, and else holds each car's own refusal; and postman_turn names the district whose turn it was, and
+ * says whether its drive is laid.
  *
  * Of several refusals that apply the first in this order is given: 1 (under three bytes), 2, 3, 1 (length), 4, then arc by
  * arc 5, 6, 7, then 13, then 17, then 8 and 9, then 18 to 20 or 23, then 10 to 12, then 22, then 14 to 16. The calls of an
@@ -33,9 +35,10 @@ extern "C" {
 #define POSTMAN_VERSION "0.1.0"
 
 /*
- * The bytes of stack that a thread needs for any of the calls. Measured on x86-64 as the least stack of a thread on which
- * the call works, in KiB: postman_turn 236, postman_two_cars 220, postman_ask and postman_plan_call_at 216,
- * postman_plan_call and postman_short_call 212, postman_enter 172, postman_tree_count 120, and all others at most 20.
+ * The bytes of stack that a thread needs for any of the calls. With less a call may end the process; on 128 KiB the plan
+ * call does. Measured on x86-64 as the least stack of a thread on which the call works, in KiB: postman_turn 240,
+ * postman_two_cars 220, postman_ask and postman_plan_call_at 216, postman_plan_call and postman_short_call 212,
+ * postman_enter 172, postman_tree_count 116, and all others at most 20.
  */
 #define POSTMAN_STACK_BYTES 524288
 

@@ -24,6 +24,7 @@ from .districts import Districts, Turn
 from .open_plan import OpenPlan
 from .plan import Arc, Plan, Standing
 from .refusal import Refusal
+from .streets import drive_geojson, from_geojson
 from .windows import Departure, Window
 
 __all__ = [
@@ -42,6 +43,8 @@ __all__ = [
     "__version__",
     "deep_call",
     "distances",
+    "drive_geojson",
+    "from_geojson",
     "judge",
     "limits",
     "plan_call",

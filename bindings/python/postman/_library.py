@@ -73,7 +73,10 @@ DECLARATIONS: dict[str, tuple[Any, list[Any]]] = {
 """Every function of the header: its result and its parameters."""
 
 for _name, (_result, _parameters) in DECLARATIONS.items():
-    _function = getattr(library, _name)
+    try:
+        _function = getattr(library, _name)
+    except AttributeError:
+        raise ImportError(f"the library {path} has no {_name}: it is another version's; run `make` again") from None
     _function.restype = _result
     _function.argtypes = _parameters
 

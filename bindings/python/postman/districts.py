@@ -38,7 +38,8 @@ class Districts:
     """A machine that lays drives for up to eight districts in turn.
 
     Each enters at the back of the line; a turn goes to the front one, which tries 1,000 trees, or those that are left
-    of its budget or of its plan. Iterating gives turn after turn until no district is inside; more may enter meanwhile.
+    of its budget or of its plan. It is an iterator of turns, which ends when no district is inside; more may enter at
+    any time, and then it goes on.
 
     >>> districts = Districts()
     >>> districts.enter(bytes.fromhex("10402001400141000003"), budget=10_000)
@@ -86,8 +87,13 @@ class Districts:
             give_back(lent)
 
     def __iter__(self) -> Iterator[Turn]:
-        while (turn := self.turn()) is not None:
-            yield turn
+        return self
+
+    def __next__(self) -> Turn:
+        turn = self.turn()
+        if turn is None:
+            raise StopIteration
+        return turn
 
     @property
     def waiting(self) -> int:

@@ -2,7 +2,7 @@
 
 from __future__ import annotations
 
-from collections.abc import Hashable
+from collections.abc import Hashable, Mapping
 from ctypes import c_uint8
 from dataclasses import dataclass, field
 from enum import IntEnum
@@ -121,6 +121,19 @@ class Plan:
         from .graph import from_networkx
 
         return from_networkx(graph, standing=standing, cost=cost, checking=checking, edition=edition)
+
+    @classmethod
+    def from_geojson(cls, source: str | Mapping[str, Any], **options: Any) -> Plan:
+        """The plan of a map's lines, with its corners as names; see `postman.streets.geojson.from_geojson`.
+
+        That gives a street list, which has the streets' names too.
+        """
+        from dataclasses import replace
+
+        from .streets import from_geojson
+
+        streets = from_geojson(source, **options)
+        return replace(streets.plan, names=tuple(corner.name for corner in streets.corners))
 
     def to_networkx(self, *, multigraph: bool = True) -> Any:
         """The plan as a networkx MultiDiGraph, or as a DiGraph; see `postman.graph.to_networkx`."""

@@ -153,7 +153,8 @@ class GoingOn(Batch):
 
     def test_a_file_of_something_else_is_left_as_it_is(self):
         plan = self.file("a.plan", CASE_A)
-        for data in (CASE_A, b"from,to,standing,cost\nA,B,must,5", b"{}\n", b"[1]\n", b'{"file": "x"}\n', b"\n", b"7"):
+        others = (b"{}\n", b"[1]\n", b"[" * 100_000 + b"\n", b'{"file": "x"}\n', b"\n", b"7")
+        for data in (CASE_A, b"from,to,standing,cost\nA,B,must,5", *others):
             path = self.file("results.jsonl", data)
             message = "results.jsonl row 1: this is no result; give another file to -o, or take the row out"
             self.batch(plan, status=2, err=f"postman: {message}\n")

@@ -15,6 +15,7 @@ from postman.command.directions import advice
 from postman.streets.windows_file import departure_of, read_windows
 
 WINDOWS = str(TOWN_FOLDER / "windows.csv")
+PLAN = str(ROOT / "examples" / "town.plan")
 
 
 class Drive(Folder):
@@ -131,12 +132,19 @@ class Drive(Folder):
         self.assertTrue(json.loads(postman("drive", path, *there, "--budget", str(trees), "--json").out)["whole"])
 
     def test_maps_and_navigation(self):
-        value = json.loads(postman("drive", TOWN, "--budget", "10", "--geojson").out)
-        self.assertEqual(value["features"][0]["geometry"]["coordinates"][0], [800, 760])
-        value = json.loads(postman("drive", TOWN, "--budget", "10", "--geojson", "--origin", "54.2,-2.3").out)
+        done = postman("drive", TOWN, "--budget", "10", "--geojson")
+        self.assertEqual(json.loads(done.out)["features"][0]["geometry"]["coordinates"][0], [800, 760])
+        self.assertIn("the coordinates are x and y as they stand in the list, and no map shows them: --or", done.err)
+        done = postman("drive", TOWN, "--budget", "10", "--geojson", "--origin", "54.2,-2.3")
+        value = json.loads(done.out)
         self.assertAlmostEqual(value["features"][0]["geometry"]["coordinates"][1][1], 54.2, delta=0.1)
+        self.assertEqual(done.err, "")
+        self.assertIn("are not there, and no map", postman("drive", PLAN, "--budget", "10", "--geojson").err)
         self.assertIn("<rtept", postman("drive", TOWN, "--budget", "10", "--gpx", "--origin", "54.2,-2.3").out)
         self.assertEqual(postman("drive", TOWN, "--gpx").status, 2)
+        south = postman("drive", TOWN, "--budget", "10", "--gpx", "--origin", "-33.9,-70.6").out
+        self.assertIn('lat="-33.89', south)
+        self.assertIn("-5 is not a whole number", postman("drive", TOWN, "--budget", "-5").err)
 
     def test_standard_input(self):
         done = postman("drive", "-", stdin="from,to,standing,cost\nA,B,must,5\nB,A,may,3\n")
@@ -210,6 +218,12 @@ class Trees(unittest.TestCase):
 
 
 class Judge(Folder):
+    def test_what_a_plan_file_s_drive_misses(self):
+        done = postman("judge", PLAN, self.file("drive.txt", "0\n"))
+        self.assertIn("refusal 15, unjoined:", done.err)
+        done = postman("judge", PLAN, self.file("drive.txt", ""))
+        self.assertEqual(done.err.splitlines()[-2:], ["  arc 53 from 18 to 19", "lead the drive over them"])
+
     def test_the_first_fault(self):
         done = postman("judge", TOWN, self.file("drive.txt", "42\n0\n"))
         self.assertEqual((done.status, done.out), (1, ""))

@@ -1,6 +1,7 @@
 """postman edit: a session at the prompt, from a script."""
 
 import io
+import shutil
 import unittest
 from contextlib import redirect_stderr, redirect_stdout
 from pathlib import Path
@@ -114,6 +115,21 @@ class Editing(Folder):
         opened = self.session("close Elm Street", "open Elm Street", text=CHECKED)
         self.assertEqual(opened[-1], "Elm Street from A to B: must, cost 5, checking 8")
 
+    def test_numbers_and_letters_that_are_none(self):
+        for line, message in [
+            ("close row \u00b2", "row \u00b2 is no street of list.csv"),
+            (f"cost Oak Lane {'9' * 5000}", f"{'9' * 40}... is above 65535"),
+            ("cost Oak Lane \u00b2", "\u00b2 is not a whole number: write the street, then the number"),
+            ("ask \u00b2", "\u00b2 is not a whole number: write ask, or ask and a budget"),
+            ("mark x", "x is no mark: there are marks 0 to 3"),
+        ]:
+            self.assertEqual(self.session(line, status=2), [f"postman: line 1: {message}"])
+        self.assertIn("line 1: refusal 9, budget", self.session(f"ask {'9' * 5000}", status=1)[0])
+        self.assertIn("line 1: refusal 21, no mark", self.session(f"mark {'9' * 5000}", status=1)[0])
+        done = postman("edit", self.file("list.csv", LIST), stdin=b"close \xff\n")
+        self.assertEqual(done.status, 2)
+        self.assertIn("line 1: \ufffd is no street of", done.err)
+
     def test_a_refused_change_alters_nothing(self):
         lines = self.session("cost Ash Road 3", status=1)
         wanted = "row 3 (Oak Lane) and row 4 (Ash Road) agree in from, to, standing and cost: delete one of them"
@@ -185,6 +201,21 @@ class Editing(Folder):
         self.session("close Oak Lane", f"save {plan}")
         self.assertEqual(streets.open_list(str(plan)).streets[1].standing, Standing.CLOSED)
 
+    def test_what_is_saved_is_the_plan_that_was_asked(self):
+        town = str(self.folder / "town")
+        shutil.copytree(TOWN_FOLDER, town)
+        for name, others in [("bridges.csv", "bridges-corners.csv"), ("streets-2.csv", "corners-2.csv")]:
+            target = str(Path(town) / name)
+            lines = ["close Old Bridge", "ask 1000", f"save {target}"]
+            done = postman("edit", f"{town}/streets.csv", stdin="\n".join(lines))
+            self.assertEqual(done.err, f"postman: {target} and {town}/{others} are written\n")
+            saved = plan_call(streets.open_list(target).file, 1000)
+            self.assertIn(f"cost {saved.cost:,}, floor {saved.floor:,},", done.out)
+            # The corners stand there, and are not written again.
+            done = postman("edit", target, stdin=f"open Old Bridge\nsave {target} over\n")
+            self.assertEqual(done.err, f"postman: {target} is written\n")
+            self.assertEqual(streets.open_list(target).file, streets.open_list(f"{town}/streets.csv").file)
+
     def test_market_days(self):
         windows = self.file("windows.csv", "street,day,start,end\nOak Lane,tue,8:00,12:00\nElm Street,wed,8:00,12:00\n")
         lines = self.session("ask", "at tue 09:30", "ask", "at", "ask", argv=("--windows", windows))
@@ -239,6 +270,11 @@ class Prompt(Folder):
         self.assertEqual(out.count("closed"), 2)
         self.assertNotIn("jump", err)
         self.assertNotIn("not saved", self.typed("quit")[1])
+        self.assertNotIn("not saved", self.typed("close Oak Lane", "undo", "quit")[1])
+        saved = f"save {self.folder}/a.csv"
+        self.assertIn("not saved", self.typed("mark", "close Oak Lane", saved, "return", "quit")[1])
+        # The end of input is a wish to end, and no more.
+        self.assertEqual(self.typed("close Oak Lane")[1].count("not saved"), 1)
 
     def test_completion(self):
         editor = Editor(streets.read(self.file("list.csv", LIST)), None, None, Output())

@@ -4,6 +4,7 @@ import csv
 import io
 import json
 import unittest
+from copy import deepcopy
 from pathlib import Path
 
 from command import TOWN, postman
@@ -82,6 +83,14 @@ class Make(Folder):
         )
         self.assertTrue(Path(self.path("x-corners.csv")).exists())
 
+    def test_what_is_noticed_in_a_map_is_noted_by_all(self):
+        turns = deepcopy(MAP)
+        turns["features"][0]["properties"] |= {"oneway": "reversible", "standing": "must"}
+        source = self.file("map.geojson", json.dumps(turns))
+        for argv in (["make", source], ["drive", source], ["show", source]):
+            self.assertIn("map.geojson: 1 line is one way in turns, such as feature 1", postman(*argv).err)
+            self.assertNotIn("in turns", postman(*argv, "--quiet").err)
+
     def test_a_map_that_is_too_large_is_written_to_be_edited(self):
         points = [[k / 1000, 0] for k in range(66)]
         lines = [
@@ -130,7 +139,9 @@ class Show(Folder):
         self.assertEqual(lines[-2].split(), ["2", "Elm", "A", "B", "must", "5"])
 
     def test_csv_and_json(self):
-        self.assertEqual(postman("show", self.file("list.csv", LIST), "--csv").out, LIST)
+        done = postman("show", self.file("list.csv", LIST), "--csv")
+        self.assertEqual((done.out, done.err), (LIST, ""))
+        self.assertIn("the corners' order and coordinates are not in it", postman("show", TOWN, "--csv").err)
         value = json.loads(postman("show", TOWN, "--json").out)
         self.assertEqual((len(value["corners"]), len(value["streets"]), len(value["parts"])), (62, 197, 7))
         self.assertIsNone(value["refusal"])

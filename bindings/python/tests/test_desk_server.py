@@ -147,6 +147,8 @@ class Admission(Served):
             ("change", {"arc": 0, "cost": "9"}),
             ("change", {"arc": 0, "standing": "closed", "back": 1}),
             ("judge", {"text": 7}),
+            ("judge", {"text": "0\n\ud800"}),
+            ("save", {"name": "\udfff.csv"}),
             ("save", {"name": ["x.csv"]}),
             ("save", {"name": "x.csv", "over": "yes"}),
         ):
@@ -355,20 +357,23 @@ class Saving(Served):
         self.post("save", {"name": "streets-2.csv"})
         self.assertEqual(json.loads(self.get("state")[2])["save"], "streets-3.csv")
 
-    def test_coordinates_that_would_not_be_found_again(self):
+    def test_what_is_saved_is_read_back_as_it_is(self):
         _, answer = self.post("save", {"name": "x.csv"})
-        self.assertIn("their coordinates are not saved", answer["said"])
+        self.assertEqual(answer["said"], "x.csv and x-corners.csv written.")
+        saved = streets.open_list(str(self.folder / "x.csv"))
+        opened = streets.open_list(str(self.folder / "streets.csv"))
+        self.assertEqual((saved.corners, saved.file), (opened.corners, opened.file))
         shutil.copy(TOWN_FOLDER / "map.geojson", self.folder / "map.geojson")
         mapped = streets.open_list(str(self.folder / "map.geojson"))
         name = free_name(mapped)
-        self.assertEqual(name, "map-2-streets.csv")
+        self.assertEqual(name, "map-2.csv")
         saved = save(Desk(mapped, budget=10), name, False)
-        self.assertEqual(saved, "map-2-streets.csv and map-2-corners.csv written.")
+        self.assertEqual(saved, "map-2.csv and map-2-corners.csv written.")
         self.assertEqual(streets.open_list(str(self.folder / name)).corners, mapped.corners)
 
     def test_nothing_is_left_beside(self):
         self.post("save", {"name": "x.csv"})
-        self.assertEqual(self.listed(), ["corners.csv", "streets.csv", "x.csv"])
+        self.assertEqual(self.listed(), ["corners.csv", "streets.csv", "x-corners.csv", "x.csv"])
 
 
 class Command(Folder):

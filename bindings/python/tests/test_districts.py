@@ -3,6 +3,7 @@
 import copy
 import pickle
 import unittest
+from collections.abc import Iterator
 
 from repository import CASE_A, example
 
@@ -30,6 +31,14 @@ class Lines(unittest.TestCase):
                 self.assertEqual(turn.cost, plan_call(TOWN, turn.trees).cost)
         self.assertEqual(turns, [-(-budget // limits.TURN_TREES) for budget in budgets])
         self.assertEqual((list(districts), districts.waiting), ([], 0))
+
+    def test_it_is_an_iterator_that_goes_on_when_a_district_enters(self) -> None:
+        districts = Districts()
+        self.assertIsInstance(districts, Iterator)
+        self.assertRaises(StopIteration, next, districts)
+        districts.enter(CASE_A, 1)
+        self.assertEqual(next(districts).answer, plan_call(CASE_A, 1))
+        self.assertRaises(StopIteration, next, districts)
 
     def test_a_district_enters_while_others_wait(self) -> None:
         districts = Districts()

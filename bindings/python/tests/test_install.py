@@ -1,6 +1,7 @@
 """The library as others install it: what `make install` puts in place, and programs built over it."""
 
 import os
+import re
 import tempfile
 import unittest
 from pathlib import Path
@@ -82,6 +83,11 @@ class Install(unittest.TestCase):
         self.assertIn(f"[libpostman.so.{version.split('.')[0]}]", dynamic)
         self.assertNotIn("TEXTREL", dynamic)
 
+    def test_the_gates(self) -> None:
+        for target, script in (("check", ".ci/run"), ("quick", ".ci/quick")):
+            self.assertEqual(run("make", "-C", ROOT, "--no-print-directory", "-n", target).stdout, f"bash {script}\n")
+            self.assertTrue((ROOT / script).is_file())
+
     def test_another_root_and_uninstalling(self) -> None:
         stage = self.folder / "stage"
         words = f"DESTDIR={stage}", "PREFIX=/opt/postman"
@@ -99,6 +105,21 @@ class Install(unittest.TestCase):
         program = self.built("stacks", "cc", "-std=c99", *STRICT, "-O2", *source)
         plans = [path for path in kept_plans() if path.name != "cut_off.plan"]
         self.assertEqual(run(program, *plans).stdout.split(), list(DECLARATIONS))
+        # What the header says of each call, in KiB, is enough for it and close to the least that is.
+        said = HEADER.read_text()[: HEADER.read_text().index("#define POSTMAN_STACK_BYTES")].rpartition("in KiB:")[2]
+        named: dict[str, int] = {}
+        for names, size in re.findall(r"((?:postman_\w+(?: and )?)+) (\d+)", re.sub(r"\n \*", "", said)):
+            named |= dict.fromkeys(names.split(" and "), int(size))
+        (others,) = map(int, re.findall(r"all others at most (\d+)", said))
+        deep = [path for path in plans if path.stem in ("large_town", "climbed_long_searches")]
+        least = dict(line.split() for line in run(program, "--least", *deep).stdout.splitlines())
+        self.assertLess(set(named), set(DECLARATIONS))
+        self.assertEqual(list(least), list(DECLARATIONS))
+        for name, size in least.items():
+            wanted = named.get(name, others)
+            self.assertLessEqual(int(size), wanted, f"{name}: run stacks --least, and say so in the header")
+            self.assertTrue(name not in named or wanted - int(size) <= 8, f"{name} needs {size}, not {wanted}")
+        self.assertGreater(int(least["postman_plan_call"]), 128)
 
 
 if __name__ == "__main__":

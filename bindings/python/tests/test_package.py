@@ -10,7 +10,7 @@ import unittest
 import zipfile
 from pathlib import Path
 
-from repository import BUILD, CASE_A, PACKAGE, make, run
+from repository import BUILD, CASE_A, PACKAGE, ROOT, make, run
 
 import postman
 
@@ -38,7 +38,14 @@ class Package(unittest.TestCase):
         found = run(sys.executable, "-c", WHERE, cwd="/", env=environment(PYTHONPATH=str(target))).stdout.strip()
         self.assertEqual(Path(found), (target / "postman" / "libpostman.so").resolve())
         self.assertTrue((target / "postman" / "py.typed").is_file())
-        self.assertTrue(os.access(target / "bin" / "postman", os.X_OK))
+        # The command is there, and all that its pages are made of.
+        installed = environment(PYTHONPATH=str(target))
+        town = ROOT / "examples" / "town.plan"
+        report = run(target / "bin" / "postman", "report", town, cwd="/", env=installed).stdout
+        self.assertIn("</html>", report)
+        pages = [path.relative_to(PACKAGE) for path in (PACKAGE / "postman" / "desk").glob("desk.*")]
+        self.assertEqual(len(pages), 3)
+        self.assertTrue(all((target / page).is_file() for page in pages))
         self.assertEqual([path for path in PACKAGE.iterdir() if path.suffix in (".egg-info", ".whl")], [])
 
     def test_the_wheel_has_every_file_and_the_library(self) -> None:
@@ -66,19 +73,22 @@ class Package(unittest.TestCase):
             "by the variable": copy / "elsewhere.so",
         }
         missing = f"{sys.executable} -c 'import postman' 2>&1 | tail -n 1"
-        said = run("sh", "-c", missing, env=environment(PYTHONPATH=str(python))).stdout
+        # Python looks in the folder in which it is started before all others.
+        said = run("sh", "-c", missing, cwd=self.folder, env=environment(PYTHONPATH=str(python))).stdout
         self.assertRegex(said, "^ImportError: there is no libpostman.so .*: run `make` .* or set POSTMAN_LIBRARY")
         for name in reversed(places):
             places[name].parent.mkdir(parents=True, exist_ok=True)
             shutil.copy(BUILD / "libpostman.so", places[name])
             more = {"POSTMAN_LIBRARY": str(places[name])} if name == "by the variable" else {}
-            found = run(sys.executable, "-c", WHERE, env=environment(PYTHONPATH=str(python), **more)).stdout.strip()
+            set_to = environment(PYTHONPATH=str(python), **more)
+            found = run(sys.executable, "-c", WHERE, cwd=self.folder, env=set_to).stdout.strip()
             self.assertEqual(Path(found), places[name].resolve(), name)
-        for wrong in (self.folder / "no such file", CASE_A):
-            if wrong is CASE_A:
-                wrong = self.folder / "no library"
-                wrong.write_bytes(CASE_A)
-            said = run("sh", "-c", missing, env=environment(PYTHONPATH=str(python), POSTMAN_LIBRARY=str(wrong))).stdout
+        broken, older = self.folder / "no library", self.folder / "older.so"
+        broken.write_bytes(CASE_A)
+        run("cc", "-shared", "-x", "c", os.devnull, "-o", older)
+        for wrong in (self.folder / "no such file", broken, older):
+            set_to = environment(PYTHONPATH=str(python), POSTMAN_LIBRARY=str(wrong))
+            said = run("sh", "-c", missing, cwd=self.folder, env=set_to).stdout
             self.assertRegex(said, f"^ImportError: .*{wrong}")
 
     def test_the_examples_of_the_documentation(self) -> None:
@@ -97,6 +107,19 @@ class Package(unittest.TestCase):
             for member, value in vars(thing).items() if isinstance(thing, type) else ():
                 if not member.startswith("_") and (callable(value) or isinstance(value, (property, classmethod))):
                     self.assertTrue(getattr(thing, member).__doc__ or value.__doc__, f"{name}.{member}")
+
+    def test_the_standard_library_is_enough(self) -> None:
+        """Every module is imported, and the command run, by a Python that sees no other package."""
+        modules = [
+            ".".join(path.relative_to(PACKAGE).with_suffix("").parts)
+            for path in sorted((PACKAGE / "postman").rglob("*.py"))
+            if path.stem not in ("__init__", "__main__")
+        ]
+        self.assertGreater(len(modules), 60)
+        code = f"import sys; sys.path.insert(0, {str(PACKAGE)!r})\nimport {', '.join(modules)}\n"
+        code += f"sys.exit(postman.command.main(['drive', {str(ROOT / 'examples' / 'town.plan')!r}, '-q']))"
+        printed = run(sys.executable, "-I", "-S", "-c", code, cwd=self.folder, env=environment()).stdout
+        self.assertIn("no drive is cheaper", printed)
 
     def test_networkx_is_not_imported_until_it_is_called_for(self) -> None:
         code = "import sys, postman.graph; print('networkx' in sys.modules)"

@@ -1,5 +1,6 @@
 """The pictures as SVG: parsed, and checked for what they show."""
 
+import math
 import os
 import re
 import subprocess
@@ -14,6 +15,7 @@ from repository import PACKAGE, ROOT, kept_plans
 from postman import Refusal, Standing, picture, plan_call, streets
 from postman.picture import svg_file
 from postman.picture.cars import car_list
+from postman.picture.ground import ground
 from postman.picture.passes import corners_of_parts
 from postman.streets import Corner, Street, StreetList
 
@@ -49,6 +51,13 @@ def line(group):
 
 def points(way):
     return [tuple(map(float, pair.split())) for pair in re.split("[MLZ]", way) if pair]
+
+
+def dense(way):
+    """Points along a polyline, close to each other."""
+    for (x, y), (end_x, end_y) in zip(way, way[1:]):
+        for k in range(51):
+            yield x + (end_x - x) * k / 50, y + (end_y - y) * k / 50
 
 
 class Town(unittest.TestCase):
@@ -259,9 +268,57 @@ class Files(unittest.TestCase):
         root = parsed(picture.town(opened))
         self.assertEqual(words(root, "note"), ["Not to scale: the corners have no coordinates."])
         self.assertEqual(groups(root, "scale"), [])
+        one = replace(opened, corners=(replace(opened.corners[0], x=1.0, y=1.0), *opened.corners[1:]))
+        self.assertEqual(groups(parsed(picture.town(one)), "scale"), [])
+
+    def test_corners_without_coordinates_among_others_lie_near_their_neighbours(self):
         town = streets.open_list(TOWN)
-        half = replace(town, corners=(replace(town.corners[0], x=None, y=None), *town.corners[1:]))
-        self.assertEqual(groups(parsed(picture.town(half)), "scale"), [])
+        missing = [town.numbers[name] for name in ("Theatre", "Observatory", "Terrace West", "Lime Kiln")]
+        bare = [replace(c, x=None, y=None) if k in missing else c for k, c in enumerate(town.corners)]
+        before, after = ground(town), ground(replace(town, corners=tuple(bare)))
+        root = parsed(picture.town(replace(town, corners=tuple(bare))))
+        self.assertEqual(words(root, "note"), ["4 corners without coordinates lie near their neighbours."])
+        self.assertEqual(len(groups(root, "scale")), 1)
+        self.assertEqual((before.guessed, after.guessed), (0, 4))
+        self.assertTrue(all(0 <= x <= after.width and 0 <= y <= after.height for x, y in after.points))
+        known = [k for k in range(62) if k not in missing]
+        for one in known[::7]:
+            for other in known[::5]:
+                apart = math.dist(after.points[one], after.points[other]) / after.per_metre
+                metres = math.dist(before.points[one], before.points[other]) / before.per_metre
+                self.assertAlmostEqual(apart, metres, delta=1e-6 * (1 + metres))
+        for k in missing:
+            far = math.dist(after.points[k], after.points[known[0]]) / after.per_metre
+            was = math.dist(before.points[k], before.points[known[0]]) / before.per_metre
+            self.assertLess(abs(far - was), 250, town.corners[k].name)
+        self.assertEqual(len(set(after.points)), 62)
+
+    def test_a_corner_that_nothing_joins_to_known_ones_has_a_place(self):
+        corners = (Corner("a", 0, 0), Corner("b", 100, 0), Corner("c"), Corner("d"), Corner("e"))
+        ends = ["ab", "ba", "cd", "dc", "ea"]
+        rows = [Street(k + 2, a, b, Standing.MAY, k + 1, None, "x") for k, (a, b) in enumerate(ends)]
+        found = ground(StreetList("apart.csv", 1, corners, tuple(rows)))
+        self.assertEqual((found.guessed, len(set(found.points))), (3, 5))
+        self.assertGreater(found.points[2][1], max(y for _, y in found.points[:2]))
+
+    def test_a_street_does_not_run_over_a_third_corner(self):
+        corners = tuple(Corner(name, 0, y) for name, y in (("south", 0), ("middle", 100), ("north", 200)))
+        ends = [("south", "middle"), ("middle", "north"), ("north", "south"), ("south", "north"), ("north", "south")]
+        rows = [Street(k + 2, *pair, Standing.MUST, k + 1, None, "x") for k, pair in enumerate(ends)]
+        straight = StreetList("straight.csv", 1, corners, tuple(rows))
+        for root in (parsed(picture.town(straight)), parsed(picture.drive(straight, plan_call(straight.file, 1)))):
+            (middle,) = [
+                (float(dot.get("cx")), float(dot.get("cy")))
+                for group in groups(root, "corner")
+                if "middle" in "".join(group.itertext())
+                for dot in group.iter(f"{SVG}circle")
+            ][:1]
+            ways = [points(line(group)) for kind in ("arc", "pass") for group in groups(root, kind)]
+            past = [way for way in ways if way[0][1] < middle[1] - 20 < middle[1] + 20 < way[-1][1]]
+            past += [way for way in ways if way[-1][1] < middle[1] - 20 < middle[1] + 20 < way[0][1]]
+            self.assertGreaterEqual(len(past), 3)
+            for way in past:
+                self.assertGreater(min(abs(x - middle[0]) for x, y in dense(way) if abs(y - middle[1]) < 20), 9)
 
     def test_corners_on_one_spot_and_streets_from_a_corner_to_itself(self):
         corners = (Corner("a", 5, 5), Corner("b", 5, 5), Corner("c", 90, 5))

@@ -63,6 +63,7 @@ class Windows(Lists):
             ("Oak Lane,,,,1:00,2:00", "day is empty"),
             ("Oak Lane,,,tue,one,2:00", "start one is no time: write it as 07:30"),
             ("Oak Lane,,,tue,1:00,25:00", "end 25:00 is no time: write it as 07:30"),
+            ("Oak Lane,,,tue,\u00b2:00,3:00", "start \u00b2:00 is no time: write it as 07:30"),
             ("Oak Lane,,,tue,1:60,2:00", "start 1:60 is no time: write it as 07:30"),
             ("Oak Lane,,,tue,2:00,2:00", "end 2:00 is not after start 2:00"),
             ("Oak Lane,C,B,tue,1:00,2:00", "streets.csv has no row with street Oak Lane, from C, to B"),
@@ -84,8 +85,8 @@ class Windows(Lists):
     def test_departures(self):
         self.assertEqual(departure_of("tue 09:30"), Departure(1, 570))
         self.assertEqual(departure_of(" Sunday  0:00 "), Departure(6, 0))
-        for text in ("", "tue", "09:30", "tue 24:00", "tue 9", "tues 9:30"):
-            with self.subTest(text), self.assertRaises(ValueError):
+        for text in ("", "tue", "09:30", "tue 24:00", "tue 9", "tues 9:30", "tue \u00b2:30"):
+            with self.subTest(text), self.assertRaisesRegex(ValueError, "is no departure"):
                 departure_of(text)
 
     def test_what_is_shut(self):
@@ -118,12 +119,13 @@ class Marks(Lists):
     def test_wording(self):
         cases = [
             ("Ash Road", "street Ash Road has no must row in streets.csv: name its ends by from and to"),
-            ("Old Ash Road,C,A", "Old Ash Road from C to A is closed in streets.csv"),
             ("Elm", "street Elm is no street of streets.csv"),
         ]
         for row, message in cases:
             with self.subTest(message):
-                self.fails(f"first.csv row 2 ({row.split(',')[0]}): {message}", self.marks, row)
+                self.fails(f"first.csv row 2 ({row}): {message}", self.marks, row)
+        message = "first.csv row 2 (Old Ash Road), column street: Old Ash Road from C to A is closed in streets.csv"
+        self.fails(message, self.marks, "Old Ash Road,C,A")
         self.fails("first.csv row 1: no column is named street, from or to", self.marks, "x", header="name")
 
     def test_marks_that_are_written_read_back(self):
@@ -168,29 +170,33 @@ class Drives(Lists):
 
     def test_foreign(self):
         table = "street,from,to\nElm Street,A,B\n"
-        self.assertEqual(self.judged("0\n7\n"), "14: drive.csv line 2: arc 7 is no street of streets.csv")
-        self.assertEqual(self.judged("[0, 99999]"), "14: drive.csv place 2: arc 99999 is no street of streets.csv")
-        self.assertEqual(self.judged("[-1]"), "14: drive.csv place 1: arc -1 is no street of streets.csv")
-        wanted = "14: drive.csv row 3: Ash Road from B to C is no street of streets.csv"
-        self.assertEqual(self.judged(table + "Ash Road,B,C\n"), wanted)
-        self.assertEqual(
-            self.judged(table + "Old Ash Road,C,A\n"), "14: drive.csv row 3: Old Ash Road from C to A is closed"
-        )
+        for text, place in [
+            ("0\n7\n", "line 2: arc 7"),
+            ("[0, 99999]", "place 2: arc 99999"),
+            ("[-1]", "place 1: arc -1"),
+            (table + "Ash Road,B,C\n", "row 3: Ash Road from B to C"),
+        ]:
+            wanted = f"14: drive.csv {place} is no street of streets.csv: correct it, or take it out"
+            self.assertEqual(self.judged(text), wanted)
+        wanted = "14: drive.csv row 3: Old Ash Road from C to A is closed: lead around it, or open it in the list"
+        self.assertEqual(self.judged(table + "Old Ash Road,C,A\n"), wanted)
 
     def test_unjoined(self):
         told = "Elm Street from A to B ends at B, and the next, Ash Road from C to A (line 2), begins at C"
-        self.assertEqual(self.judged("0\n3\n"), f"15: drive.csv line 1: {told}")
+        what = "put in the way between them"
+        self.assertEqual(self.judged("0\n3\n"), f"15: drive.csv line 1: {told}: {what}")
         told = "Oak Lane from B to C ends at C, and the next, Elm Street from A to B (place 1), begins at A"
-        self.assertEqual(self.judged("[0, 2]"), f"15: drive.csv place 2: {told}")
+        self.assertEqual(self.judged("[0, 2]"), f"15: drive.csv place 2: {told}: {what}")
 
     def test_missed(self):
-        wanted = "16: drive.csv: 1 must street is missed:\n  Oak Lane from B to C (row 4)"
+        wanted = "16: drive.csv: 1 must street is missed:\n  Oak Lane from B to C (row 4)\nlead the drive over it"
         self.assertEqual(self.judged("0\n1\n"), wanted)
         self.assertEqual(
             self.judged("[]"),
             "16: drive.csv: 2 must streets are missed:\n"
             "  Elm Street from A to B (row 2)\n"
-            "  Oak Lane from B to C (row 4)",
+            "  Oak Lane from B to C (row 4)\n"
+            "lead the drive over them",
         )
 
     def test_wording(self):
@@ -203,6 +209,14 @@ class Drives(Lists):
             ("{}", "drive.csv: has no drive: a list of arc numbers, or an object in which drive is one"),
             ("[0.5]", "drive.csv: has no drive: a list of arc numbers, or an object in which drive is one"),
             ("{", "drive.csv: line 1, column 2: Expecting property name enclosed in double quotes; this is no JSON"),
+            ("[" * 100_000, "drive.csv: has too many brackets within each other; this is no JSON of a plan or a drive"),
+            (f"[{'1' * 5000}]", f"drive.csv: {'1' * 40}... is no number that a plan can have"),
+            ("[NaN]", "drive.csv: NaN is no number that a plan can have"),
+            (
+                "0\n\x1b[2J\n",
+                "drive.csv line 2: [2J is no arc number: "
+                "write one a line, or a table with the columns from, to and street",
+            ),
             ("arc\nx\n", "drive.csv row 2: arc x is not a whole number"),
             ("from,to\nA,\n", "drive.csv row 2: to is empty"),
             (
@@ -216,12 +230,24 @@ class Drives(Lists):
                     self.drive(text)
                 self.assertEqual(str(caught.exception).replace(f"{self.folder}/", ""), message)
 
+    def test_json_of_a_list_that_was_sorted_since(self):
+        steps = [{"street": "Elm Street", "from": "A", "to": "B"}, {"street": "Ash Road", "from": 7}, 9]
+        self.fails(
+            "drive.csv place 2: arc 2 has street Oak Lane in streets.csv, and Ash Road here",
+            self.drive,
+            json.dumps({"drive": [0, 2, 3], "steps": steps}),
+        )
+        steps[1]["street"] = "Oak Lane"
+        self.assertEqual(self.drive(json.dumps({"drive": [0, 2, 3], "steps": steps})).arcs, (0, 2, 3))
+        self.assertEqual(self.drive(json.dumps({"drive": [0, 2], "steps": steps})).arcs, (0, 2))
+        self.assertEqual(self.drive(json.dumps({"drive": [-1, 99, 3], "steps": steps})).arcs, (65535, 99, 3))
+
     def test_streets_that_names_do_not_tell_apart(self):
         path = self.file("streets.csv", LIST + "A,B,may,7,Elm Street\n")
         twice = streets.read(path)
         message = (
-            "drive.csv row 2 (Elm Street): may be row 2 (Elm Street) and row 8 (Elm Street) of streets.csv: "
-            "add the column arc with the arc's number, from 0 on"
+            "drive.csv row 2 (Elm Street), column street: may be row 2 (Elm Street) and row 8 (Elm Street) of "
+            "streets.csv: add the column arc with the arc's number, from 0 on"
         )
         drive = self.file("drive.csv", "street,from,to\nElm Street,A,B\n")
         self.fails(message, read_drive, drive, twice)

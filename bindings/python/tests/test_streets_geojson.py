@@ -7,8 +7,10 @@ from copy import deepcopy
 
 from repository import ROOT
 
+import postman
 from postman import Standing, plan_call, streets
 from postman.streets import ListError, drive_geojson, from_geojson
+from postman.streets.csv_file import streets_text
 from postman.streets.earth import placed
 from postman.streets.gpx import drive_gpx
 
@@ -53,6 +55,8 @@ class Reading(unittest.TestCase):
             ({"oneway": "-1"}, [back]),
             ({"oneway": -1}, [back]),
             ({"oneway": "reverse"}, [back]),
+            ({"oneway": "alternating"}, [there, back]),
+            ({"oneway": "reversible"}, [there, back]),
             ({"junction": "roundabout"}, [there]),
             ({"junction": "roundabout", "oneway": "no"}, [there, back]),
             ({"highway": "motorway"}, [there]),
@@ -62,6 +66,16 @@ class Reading(unittest.TestCase):
 
     def test_a_ring_is_one_street(self):
         self.assertEqual(legs(town(line(A, B, C, A), *NAMES)), [("A", "A", MAY, 412)])
+
+    def test_the_plan_of_a_map(self):
+        value = {"type": "FeatureCollection", "features": [line(A, B, standing="must"), *NAMES]}
+        found = postman.from_geojson(value)
+        plan = postman.Plan.from_geojson(value)
+        self.assertEqual((plan, plan.names), (found.plan, ("A", "B")))
+        self.assertEqual(plan_call(plan, 1).cost, 260)
+        self.assertEqual(postman.Plan.from_geojson(value, must="name").arcs[0].standing, MAY)
+        drive = postman.drive_geojson(found, plan_call(plan, 1))
+        self.assertEqual([one["geometry"]["coordinates"] for one in drive["features"]], [[A, B], [B, A]])
 
     def test_the_length_is_in_metres(self):
         self.assertEqual(town(line(B, C)).streets[0].cost, 111)
@@ -117,6 +131,11 @@ class Reading(unittest.TestCase):
         found = town({"type": "Feature", "properties": None, "geometry": several}, *NAMES)
         self.assertEqual([leg[:2] for leg in legs(found)], [("A", "B"), ("B", "A"), ("B", "C"), ("C", "B")])
 
+    def test_lines_that_are_one_way_in_turns_are_noted(self):
+        found = town(line(A, B, name="Elm", oneway="reversible"), line(B, C, oneway="yes"), *NAMES)
+        wanted = "1 line is one way in turns, such as feature 1 (Elm), and taken for both: close the one that is shut"
+        self.assertEqual(found.notes, (wanted,))
+
     def test_lines_through_a_corner_are_noted(self):
         middle = [-2.299, 54.2]
         found = town(line(A, middle, B, name="Elm"), line(middle, C, name="Oak"), *NAMES)
@@ -131,6 +150,14 @@ class Reading(unittest.TestCase):
             ([], {}, "GeoJSON: is no GeoJSON: its type is neither FeatureCollection nor Feature"),
             (line(A), {}, "GeoJSON feature 1: a line needs two points"),
             (line(A, ["x", 1]), {}, "GeoJSON feature 1: its geometry is no GeoJSON"),
+            (line(A, [float("nan"), 1]), {}, "GeoJSON feature 1: its geometry is no GeoJSON"),
+            (line(A, [1e300, 1]), {}, "GeoJSON feature 1: its geometry is no GeoJSON"),
+            (line(A, 7), {}, "GeoJSON feature 1: its geometry is no GeoJSON"),
+            ({"type": "FeatureCollection", "features": 7}, {}, "GeoJSON: is no GeoJSON: its features are no list"),
+            ({**line(A, B), "properties": [1]}, {}, "GeoJSON feature 1: its properties are no object"),
+            (line(A, B, s=float("inf")), {"cost": "s"}, "GeoJSON feature 1: s inf is not between 0 and 65535"),
+            (line(A, B, s=float("nan")), {"cost": "s"}, "GeoJSON feature 1: s nan is not between 0 and 65535"),
+            (line(A, B, s="9" * 400), {"cost": "s"}, f"GeoJSON feature 1: s {'9' * 40}... is not between 0 and 65535"),
             (
                 line(A, B, name="Elm", oneway="maybe"),
                 {},
@@ -156,6 +183,26 @@ class Reading(unittest.TestCase):
         with self.assertRaises(ListError) as caught:
             from_geojson("map.geojson", data=b'{\n"type": }')
         self.assertEqual(str(caught.exception), "map.geojson: line 2, column 9: Expecting value; this is no JSON")
+
+    def test_json_that_is_beyond_its_rules(self):
+        for text, message in [
+            ('{"type": NaN}', "map.geojson: NaN is no number that a plan can have"),
+            ('{"type": -Infinity}', "map.geojson: -Infinity is no number that a plan can have"),
+            ('{"type": 1e999}', "map.geojson: 1e999 is no number that a plan can have"),
+            (f'{{"type": -{"1" * 5000}}}', f"map.geojson: -{'1' * 39}... is no number that a plan can have"),
+            (
+                '{"type":' * 100_000,
+                "map.geojson: has too many brackets within each other; this is no JSON of a plan or a drive",
+            ),
+        ]:
+            with self.assertRaises(ListError) as caught:
+                from_geojson("map.geojson", data=text.encode())
+            self.assertEqual(str(caught.exception), message)
+
+    def test_names_that_no_table_can_hold(self):
+        found = town(line(A, B, name="Elm\ud800\x00 \x1b[1mRoad"), *NAMES)
+        self.assertEqual(found.streets[0].street, "Elm [1mRoad")
+        self.assertEqual(streets_text(found).encode().count(b"Elm [1mRoad"), 2)
 
 
 class Writing(unittest.TestCase):

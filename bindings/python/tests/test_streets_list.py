@@ -10,7 +10,7 @@ from repository import CASE_A, ROOT, kept_plans
 
 from postman import Arc, Plan, Refusal, Standing, plan_call, streets
 from postman.streets import Corner, ListError
-from postman.streets.csv_file import corners_beside, corners_text, read_csv, streets_text
+from postman.streets.csv_file import corners_beside, corners_text, files_of, read_csv, streets_text
 
 LIST = b"from,to,standing,cost,checking,street\nB,A,must,5,9,Elm\nA,B,may,3,,Oak\nA,C,closed,4,,Ash\n"
 FIRST = b"from,to,standing,cost\nB,A,must,5\nA,B,may,3\n"
@@ -63,6 +63,8 @@ class Plans(Folder):
             ("corner,lon,lat\nA,,3\n", "corners.csv row 2: corner A has lat and no lon"),
             ("corner,x,y\nA,east,3\n", "corners.csv row 2: x east is not a number"),
             ("corner,x,y\nA,nan,3\n", "corners.csv row 2: x nan is not a number"),
+            ("corner,x,y\nA,1,1e999\n", "corners.csv row 2: y 1e999 is not between -1000000000 and 1000000000"),
+            ("corner,x,y\nA,-2e9,1\n", "corners.csv row 2: x -2e9 is not between -1000000000 and 1000000000"),
             ("corner,x,y\n,1,3\n", "corners.csv row 2: corner is empty"),
             ("corner\n", "corners.csv: has no corner; write one a row under the header"),
             ("name,x,y\nA,1,3\n", "corners.csv row 1: no column is named corner; the header has: name, x, y"),
@@ -175,13 +177,32 @@ class Files(Folder):
     def test_corners_beside_a_list(self):
         self.assertEqual(corners_beside("town/streets.csv"), "town/corners.csv")
         self.assertEqual(corners_beside("streets/old-streets.csv"), "streets/old-corners.csv")
-        self.assertIsNone(corners_beside("town/hill.csv"))
+        self.assertEqual(corners_beside("town/hill.csv"), "town/hill-corners.csv")
+        hill = self.file("hill.csv", LIST)
+        self.assertIsNone(streets.open_list(hill).corners_path)
+        beside = self.file("hill-corners.csv", "corner\nB\nC\nA\n")
+        self.assertEqual([corner.name for corner in streets.open_list(hill).corners], ["B", "C", "A"])
+        self.assertEqual(streets.open_list(hill).corners_path, beside)
         path = self.file("streets.csv", LIST)
         self.assertIsNone(streets.open_list(path).corners_path)
         beside = self.file("corners.csv", "corner\nC\nA\nB\n")
         self.assertEqual(streets.open_list(path).corners_path, beside)
         other = self.file("other.csv", "corner\nA\nB\nC\n")
         self.assertEqual([corner.name for corner in streets.open_list(path, other).corners], ["A", "B", "C"])
+
+    def test_files_from_which_a_list_is_read_back_as_it_is(self):
+        path = self.file("again.csv", "")
+        alone = streets.read(self.file("list.csv", LIST))
+        self.assertEqual(list(files_of(alone, path)), [path])
+        turned = replace(alone, corners=alone.corners[::-1])
+        placed = replace(alone, corners=(replace(alone.corners[0], x=1.0, y=2.0), *alone.corners[1:]))
+        for known in (turned, placed, alone):
+            for name, data in files_of(known, path).items():
+                Path(name).write_bytes(data)
+            self.assertEqual(streets.open_list(path).corners, known.corners)
+            self.assertEqual(streets.open_list(path).file, known.file)
+        # The last one wrote over the corners that the one before it left.
+        self.assertEqual(len(files_of(alone, path)), 2)
 
     def test_degrees_are_written_where_they_are_known(self):
         town = read_csv("list.csv", None, FIRST)

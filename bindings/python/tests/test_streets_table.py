@@ -4,13 +4,14 @@ import csv
 import io
 import unittest
 from random import Random
+from unittest import mock
 
 import repository  # noqa: F401
 
 from postman import Standing
 from postman.streets import ListError, Street, StreetList
 from postman.streets.csv_file import corners_in_order, read_csv, streets_text
-from postman.streets.table import encoded, name_of, read_table, written
+from postman.streets.table import encoded, name_of, read_bytes, read_table, written
 
 PLAIN = "from,to,standing,cost,street\nA,B,must,5,Mill Lane\nB,A,may,3,Mill Lane\n"
 
@@ -70,6 +71,21 @@ class Quirks(unittest.TestCase):
         data = "from,to,standing,cost\nCafe\u0301,B,must,5\nB,Caf\u00e9,may,3\n"
         self.assertEqual(len(read_csv("list.csv", None, data.encode()).corners), 2)
 
+    def test_what_a_terminal_would_obey_is_no_part_of_a_name(self):
+        data = "from,to,standing,cost,street\nA\x1b[31m,B\x07,must,5,Mill\x00\x1b Lane\n".replace("\x00", "\x01")
+        self.assertEqual(rows(data), [("A [31m", "B", "must", 5, "Mill Lane")])
+
+    def test_whole_numbers_in_tables_of_decimals(self):
+        header = "from;to;standing;cost;checking;street\n"
+        found = read_csv("list.csv", None, f"{header}A;B;must;12,0;30.00;Elm\nB;A;may;+3;;\n".encode())
+        self.assertEqual([(street.cost, street.checking) for street in found.streets], [(12, 30), (3, None)])
+
+    def test_corners_that_differ_in_capitals_are_noted(self):
+        found = read_csv("list.csv", None, b"from,to,standing,cost\nMill Yard,B,must,3\nB,Mill yard,may,3\n")
+        wanted = "Mill Yard and Mill yard are two corners: write both names alike if they are one"
+        self.assertEqual((len(found.corners), found.notes), (3, (wanted,)))
+        self.assertEqual(read_csv("list.csv", None, PLAIN.encode()).notes, ())
+
     def test_short_rows_end_in_empty_cells(self):
         self.assertEqual(rows("from,to,standing,cost,street\nA,B,must,5\n"), [("A", "B", "must", 5, "")])
 
@@ -94,8 +110,19 @@ class Errors(unittest.TestCase):
             (header + good + "A,B,must,70000,6,Mill Lane\n", "list.csv row 3 (Mill Lane): cost 70000 is above 65535"),
             (header + "A,B,must,-5,6,Mill Lane\n", "list.csv row 2 (Mill Lane): cost -5 is below 0"),
             (header + "A,B,must,1.5,6,Mill Lane\n", "list.csv row 2 (Mill Lane): cost 1.5 is not a whole number"),
+            (header + "A,B,must,1.05,6,Mill Lane\n", "list.csv row 2 (Mill Lane): cost 1.05 is not a whole number"),
+            (header + "A,B,must,1.,6,Mill Lane\n", "list.csv row 2 (Mill Lane): cost 1. is not a whole number"),
+            (header + "A,B,must,.0,6,Mill Lane\n", "list.csv row 2 (Mill Lane): cost .0 is not a whole number"),
+            (header + 'A,B,must,"1,000",6,Elm\n', "list.csv row 2 (Elm): cost 1,000 is not a whole number"),
+            (header + "A,B,must,1.000,6,Elm\n", "list.csv row 2 (Elm): cost 1.000 is not a whole number"),
             (header + "A,B,must,five,6,Mill Lane\n", "list.csv row 2 (Mill Lane): cost five is not a whole number"),
             (header + "A,B,must,\u0665,6,Mill Lane\n", "list.csv row 2 (Mill Lane): cost \u0665 is not a whole number"),
+            (header + f"A,B,must,{'9' * 5000},6,Elm\n", f"list.csv row 2 (Elm): cost {'9' * 40}... is above 65535"),
+            (header + f"A,B,must,-{'9' * 5000},6,Elm\n", f"list.csv row 2 (Elm): cost -{'9' * 39}... is below 0"),
+            (
+                header + f"A,B,must,5,6,{'x' * 140_000}\n",
+                "list.csv row 2: a cell is too long (field larger than field limit (131072))",
+            ),
             (header + "A,B,must,,6,Mill Lane\n", "list.csv row 2 (Mill Lane): cost is empty"),
             (header + ",B,must,5,6,Mill Lane\n", "list.csv row 2 (Mill Lane): from is empty"),
             (header + "A,,must,5,6,Mill Lane\n", "list.csv row 2 (Mill Lane): to is empty"),
@@ -135,6 +162,11 @@ class Errors(unittest.TestCase):
             "from,to,standing,cost,street\nA,B,must,x,Elm\n", "list.csv row 2 (Elm): cost x is not a whole number"
         )
         self.assertEqual((error.file, error.row, error.column, error.street), ("list.csv", 2, "cost", "Elm"))
+
+    def test_files_that_are_no_lists_by_their_length(self):
+        with mock.patch("postman.streets.table.MOST_BYTES", 1000), self.assertRaises(ListError) as caught:
+            read_bytes("/dev/zero")
+        self.assertEqual(str(caught.exception), "/dev/zero: has more than 1,000 bytes, and is no list of streets")
 
     def test_missing_files(self):
         with self.assertRaises(ListError) as caught:

@@ -1,11 +1,12 @@
 """Threads may call at once."""
 
+import sys
 import threading
 import time
 import unittest
 from concurrent.futures import ThreadPoolExecutor
 
-from repository import CASE_A, ROOT, example, kept_plans
+from repository import CASE_A, PACKAGE, ROOT, example, kept_plans, run
 
 from postman import (
     Car,
@@ -64,6 +65,28 @@ class Threads(unittest.TestCase):
         with ThreadPoolExecutor(THREADS) as pool:
             for equal in pool.map(work, range(THREADS)):
                 self.assertEqual(equal, [True] * 2 * len(files))
+
+    def test_a_thread_of_the_stack_that_the_header_names(self) -> None:
+        """In a process of its own, which would fall."""
+        town = ROOT / "examples" / "large_town.plan"
+        code = f"""
+import sys, threading
+sys.path[:0] = [{str(PACKAGE)!r}, {str(PACKAGE / "tests")!r}]
+from postman import Districts, limits
+from test_threads import everything
+
+def work():
+    file = open({str(town)!r}, "rb").read()
+    districts = Districts()
+    districts.enter(file, 2_500)
+    print(len(list(districts)), len(everything(file)))
+
+threading.stack_size(limits.STACK_BYTES)
+thread = threading.Thread(target=work)
+thread.start()
+thread.join()
+"""
+        self.assertEqual(run(sys.executable, "-c", code).stdout, "3 10\n")
 
     def test_one_machine_for_eight_threads(self) -> None:
         """Its calls follow one another: every district finishes once, with its own answer."""

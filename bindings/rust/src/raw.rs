@@ -2,6 +2,17 @@
 //!
 //! The functions ask nothing but what C does: a pointer and the length behind it belong together, and a slice that may be changed overlaps no
 //! other. Rust's references give both, so these calls are safe. A refusal changes no lent slice; one of a car alone changes none of that car's.
+//!
+//! ```
+//! use postman::limits::{ANSWER_WORDS, COST, PLACES, SHEET_PLACES};
+//! use postman::raw;
+//!
+//! let (mut sheet, mut answer) = ([0; SHEET_PLACES], [0; ANSWER_WORDS]);
+//! let file = [0x10, 0x40, 0x20, 0x01, 0x40, 0x01, 0x41, 0x00, 0x00, 0x03];
+//! raw::plan_call(&file, 10, &mut sheet, &mut answer, &mut [])?;
+//! assert_eq!((answer[COST], &sheet[..answer[PLACES] as usize]), (8, &[0, 1][..]));
+//! # Ok::<(), postman::Refusal>(())
+//! ```
 
 use crate::ffi;
 use crate::limits::{COUNTS, EDITIONS, FIRST_CAR};

@@ -61,7 +61,7 @@ class Result:
                 numbers, refusal, error = None, told["refusal"], told["error"]
             number = None if refusal is None else Refusal(refusal["number"]).number
             return cls(told["file"], told["budget"], numbers, number, error, told["seconds"])
-        except (KeyError, TypeError):
+        except (KeyError, TypeError, RecursionError):
             raise ValueError("this is no result") from None
 
 

@@ -11,6 +11,7 @@ from ..refusal import Refusal
 from ..streets import kind_of, open_list
 from ..streets.errors import ListError
 from ..streets.explain import explain
+from ..streets.table import MOST_BYTES
 from .result import Numbers, Result, Undone
 
 
@@ -40,7 +41,8 @@ def read(path: str, budget: int) -> bytes | Result | Undone:
     """A plan's file as the library takes it, made of a street list or a map where it is one; or why there is none."""
     try:
         with open(path, "rb", buffering=0) as file:
-            data = file.read()
+            # What is longer is no plan, and refused for what stands here.
+            data = file.read(MOST_BYTES)
     except OSError as error:
         return Undone(path, f"cannot be read: {error.strerror or error}")
     if kind_of(path, data) == "plan":

@@ -118,6 +118,7 @@ def complain(text: str, status: int = WRONG_USAGE) -> int:
 
 def parser_of(name: str) -> ArgumentParser:
     """The parser of a subcommand's arguments."""
+    import re
     from argparse import ArgumentParser, RawDescriptionHelpFormatter
 
     class Parser(ArgumentParser):
@@ -134,6 +135,8 @@ def parser_of(name: str) -> ArgumentParser:
         formatter_class=RawDescriptionHelpFormatter,
         allow_abbrev=False,
     )
+    # A place in the south begins with a minus, like an option.
+    parser._negative_number_matcher = re.compile(r"-\d*\.?\d+(,-?\d*\.?\d+)?$")
     module.add_arguments(parser)
     return parser
 

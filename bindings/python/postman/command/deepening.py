@@ -3,7 +3,7 @@
 from __future__ import annotations
 
 from collections.abc import Callable
-from time import perf_counter
+from time import process_time
 from typing import TypeVar
 
 from ..answer import Answer
@@ -25,12 +25,13 @@ def deepest(
     ask: Callable[[int], Answered],
     done: Callable[[Answered], bool],
     seconds: float = SECONDS,
-    clock: Callable[[], float] = perf_counter,
+    clock: Callable[[], float] = process_time,
 ) -> Answered:
     """What `ask` answers for the largest budget that the time allows, or for the first after which it is `done`.
 
     A larger budget's drive is no dearer, so the last answer is the best one. A call with ten times the budget takes
-    at most about ten times as long.
+    at most about ten times as long. What counts is the processor's time, so that a list has the same drive whatever
+    else the machine does.
     """
     start = clock()
     budget = FIRST_BUDGET

@@ -64,6 +64,10 @@ def run(args: Namespace, output: Output) -> int:
         from ..streets.earth import placed
 
         streets = placed(streets, *args.origin) if args.origin else streets
+        if args.format == "geojson" and not any(corner.lon is not None for corner in streets.corners):
+            what = "x and y as they stand in the list" if streets.corners[0].x is not None else "not there"
+            hint = "--origin LAT,LON says where x 0 and y 0 lie"
+            output.note(f"the coordinates are {what}, and no map shows them: {hint}")
     if args.format == "geojson":
         from ..streets.geojson import drive_geojson
 

@@ -4,6 +4,7 @@ standard input. `help` lists the commands. The list itself is not changed;
 
 from __future__ import annotations
 
+import io
 import sys
 from argparse import ArgumentParser, Namespace
 
@@ -40,7 +41,7 @@ def at_prompt(editor: Editor) -> int:
             line = input("postman> ")
         except EOFError:
             print()
-            break
+            line = "quit"
         except KeyboardInterrupt:
             print()
             continue
@@ -54,6 +55,9 @@ def from_lines(editor: Editor) -> int:
     """Commands from standard input: the first that fails ends the session with its status."""
     from . import complain
 
+    # Letters that are no UTF-8 are in no street's name, and the command that has them says so.
+    if isinstance(sys.stdin, io.TextIOWrapper):
+        sys.stdin.reconfigure(errors="replace")
     for number, line in enumerate(sys.stdin, 1):
         failed = editor.obey(line)
         if failed is not None:

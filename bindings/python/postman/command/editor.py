@@ -13,11 +13,12 @@ from ..open_plan import OpenPlan
 from ..plan import Arc, Standing
 from ..refusal import Refusal
 from ..streets import StreetList
-from ..streets.csv_file import streets_text
-from ..streets.errors import ListError, nearest
+from ..streets.csv_file import files_of
+from ..streets.errors import ListError, clipped, nearest
+from ..streets.numerals import whole_of
 from ..streets.steps import steps_of
 from ..streets.street_list import HIGHEST_COST, Street
-from ..streets.table import encoded, name_of
+from ..streets.table import name_of
 from ..windows import Departure
 from .deepening import deepest, no_gap
 from .directions import advice, print_directions
@@ -72,7 +73,7 @@ class Editor:
             self.windows = read_windows(windows, streets)
         self.departure: Departure | None = None
         self.asked: Answer | None = None
-        self.unsaved = False
+        self.saved = self.plan.file
         self.careful = False
         self.ended = False
 
@@ -125,20 +126,22 @@ class Editor:
     def found(self, text: str) -> list[int]:
         """The arcs that a text names, if any."""
         unit, _, number = text.partition(" ")
-        if unit.lower() == self.streets.unit and number.strip().isdigit():
-            return [arc for arc, street in enumerate(self.streets.streets) if street.row == int(number)]
+        row = whole_of(number.strip())
+        if unit.lower() == self.streets.unit and row is not None:
+            return [arc for arc, street in enumerate(self.streets.streets) if street.row == row]
         wanted = name_of(text).lower()
         streets = enumerate(self.streets.streets)
         return [arc for arc, street in streets if wanted in map(str.lower, sayings(street))]
 
     def with_number(self, text: str) -> tuple[list[int], int]:
         """Streets and a cost behind them."""
-        name, _, number = text.rpartition(" ")
-        if not (number.isascii() and number.isdigit()):
-            raise Failed(f"{number or 'nothing'} is not a whole number: write the street, then the number")
-        if int(number) > HIGHEST_COST:
-            raise Failed(f"{number} is above {HIGHEST_COST}")
-        return self.arcs_of(name.strip()), int(number)
+        name, _, written = text.rpartition(" ")
+        number = whole_of(written)
+        if number is None:
+            raise Failed(f"{clipped(written) or 'nothing'} is not a whole number: write the street, then the number")
+        if number > HIGHEST_COST:
+            raise Failed(f"{clipped(written)} is above {HIGHEST_COST}")
+        return self.arcs_of(name.strip()), number
 
     def change(self, arcs: list[int], changed: Callable[[int, Street], Street]) -> None:
         """Changes streets, all of them or, if one is refused, none."""
@@ -152,7 +155,6 @@ class Editor:
                 self.plan = OpenPlan.from_bytes(state)
                 raise self.refused(replace(self.streets, streets=tuple(now)), refusal) from None
         self.before.append(state)
-        self.unsaved = True
         for number in arcs:
             self.output.result(self.said(number))
 
@@ -181,7 +183,7 @@ class Editor:
 
     def must(self, text: str) -> None:
         given = None
-        if text.rpartition(" ")[2].isdigit() and not self.found(text):
+        if whole_of(text.rpartition(" ")[2]) is not None and not self.found(text):
             arcs, given = self.with_number(text)
             self.need_checking_costs()
         else:
@@ -230,9 +232,9 @@ class Editor:
     def ask(self, text: str) -> None:
         budget = self.budget
         if text:
-            if not (text.isascii() and text.isdigit()):
-                raise Failed(f"{text} is not a whole number: write ask, or ask and a budget")
-            budget = int(text)
+            budget = whole_of(text)
+            if budget is None:
+                raise Failed(f"{clipped(text)} is not a whole number: write ask, or ask and a budget")
         last = self.asked
         self.asked = deepest(self.answered, no_gap) if budget is None else self.answered(budget)
         answer = self.asked
@@ -286,17 +288,20 @@ class Editor:
         now = self.now()
         if now.file != self.plan.file:
             raise Failed("the list is not the plan that is open")
-        data = now.file if Path(path).suffix.lower() == ".plan" else encoded(streets_text(now))
-        write_files([(path, data)], over == "over", f"save {path} over writes over it")
-        self.unsaved = False
-        self.output.note(f"{path} is written")
+        if Path(path).suffix.lower() == ".plan":
+            files = {path: now.file}
+        else:
+            files = {one: data for one, data in files_of(now, path).items() if one == path or not holds(one, data)}
+        write_files(files.items(), over == "over", f"save {path} over writes over it")
+        self.saved = self.plan.file
+        self.output.note(f"{' and '.join(files)} {'is' if len(files) == 1 else 'are'} written")
 
     def help(self, text: str) -> None:
         self.output.result(HELP)
 
     def quit(self, text: str) -> None:
-        if self.unsaved and self.careful:
-            self.unsaved = False
+        if self.careful and self.plan.file != self.saved:
+            self.saved = self.plan.file
             raise Failed("changes are not saved: save FILE keeps them, and quit once more leaves them")
         self.ended = True
 
@@ -328,13 +333,22 @@ def difference(last: Answer | None, answer: Answer, word: str) -> str:
     return f" ({more:+,})" if more else " (as before)"
 
 
+def holds(path: str, data: bytes) -> bool:
+    """Whether a file holds this already."""
+    try:
+        return Path(path).read_bytes() == data
+    except OSError:
+        return False
+
+
 def mark_of(text: str) -> int:
     """The number of a mark, 0 where none is said."""
     if not text:
         return 0
-    if not (text.isascii() and text.isdigit()):
-        raise Failed(f"{text} is no mark: there are marks 0 to {MARKS - 1}")
-    return int(text)
+    mark = whole_of(text)
+    if mark is None:
+        raise Failed(f"{clipped(text)} is no mark: there are marks 0 to {MARKS - 1}")
+    return mark
 
 
 COMMANDS: dict[str, Callable[[Editor, str], None]] = {

@@ -24,10 +24,12 @@ EXAMPLE = """\
 
 MAP_OPTIONS = ("name", "cost", "must", "checking", "both_ways")
 
+OUTPUT = "what is made (default: A.plan of A.csv, A-streets.csv of a map or plan file); - for a plan on standard output"
+
 
 def add_arguments(parser: ArgumentParser) -> None:
     add_list(parser)
-    parser.add_argument("-o", "--output", metavar="FILE", help="what is made; - for a plan on standard output")
+    parser.add_argument("-o", "--output", metavar="FILE", help=OUTPUT)
     parser.add_argument("--force", action="store_true", help="write over a street list that is there already")
     of_maps = parser.add_argument_group("of a map's properties")
     of_maps.add_argument("--name", metavar="PROPERTY", help="the street's name (default: name)")
@@ -80,7 +82,7 @@ def default_output(path: str, kind: str) -> str:
 
 def write_lists(streets: StreetList, target: str, force: bool, output: Output) -> None:
     """Writes a street list and the file of its corners."""
-    corners = corners_beside(target) or str(Path(target).with_name(f"{Path(target).stem}-corners.csv"))
+    corners = corners_beside(target)
     write_files([(target, encoded(streets_text(streets))), (corners, encoded(corners_text(streets)))], force)
     output.note(f"{target} and {corners}: {held(streets)}")
     try:

@@ -5,7 +5,10 @@ from __future__ import annotations
 from argparse import ArgumentParser, ArgumentTypeError, Namespace
 
 from ..streets import StreetList, open_list
+from ..streets.errors import clipped, shown
+from ..streets.numerals import whole_of
 from ..windows import Departure
+from .output import Output
 
 
 class WrongUsage(Exception):
@@ -31,7 +34,8 @@ def add_corners(parser: ArgumentParser) -> None:
     parser.add_argument(
         "--corners",
         metavar="CSV",
-        help="corners and coordinates (default: corners.csv beside streets.csv, A-corners.csv beside A-streets.csv)",
+        help="corners and coordinates (default: corners.csv beside streets.csv, A-corners.csv beside A.csv or "
+        "A-streets.csv)",
     )
 
 
@@ -58,10 +62,10 @@ def add_formats(parser: ArgumentParser, *formats: str) -> None:
 
 
 def whole_number(text: str) -> int:
-    digits = text.replace(",", "").replace("_", "")
-    if not (digits.isascii() and digits.isdigit()):
-        raise ArgumentTypeError(f"{text} is not a whole number")
-    return int(digits)
+    number = whole_of(text.replace(",", "").replace("_", ""))
+    if number is None:
+        raise ArgumentTypeError(f"{clipped(text)} is not a whole number")
+    return number
 
 
 def departure(text: str) -> Departure:
@@ -74,5 +78,8 @@ def departure(text: str) -> Departure:
 
 
 def opened(args: Namespace) -> StreetList:
-    """The list that the arguments name."""
-    return open_list(args.list, args.corners)
+    """The list that the arguments name. What its reader noticed is noted."""
+    streets = open_list(args.list, args.corners)
+    for note in streets.notes:
+        Output(args.quiet).note(f"{shown(args.list)}: {note}")
+    return streets

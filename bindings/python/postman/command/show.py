@@ -10,7 +10,7 @@ from ..calls import tree_count
 from ..plan import Standing
 from ..refusal import Refusal
 from ..streets import StreetList
-from ..streets.csv_file import streets_text
+from ..streets.csv_file import needs_corners, streets_text
 from ..streets.explain import explain, named, parts_of
 from .directions import count_said
 from .options import add_formats, add_list, opened
@@ -38,6 +38,8 @@ def run(args: Namespace, output: Output) -> int:
     write_picture(output, args.picture, lambda picture: picture.town(streets))
     if args.format == "csv":
         output.raw(streets_text(streets))
+        if needs_corners(streets):
+            output.note("the corners' order and coordinates are not in it; make LIST -o FILE.csv writes both files")
         return 0
     try:
         trees, refusal = tree_count(file), None

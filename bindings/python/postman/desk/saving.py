@@ -7,9 +7,8 @@ import re
 import secrets
 from pathlib import Path, PurePath
 
-from ..streets.csv_file import corners_beside, corners_text, streets_text
+from ..streets.csv_file import files_of
 from ..streets.street_list import StreetList
-from ..streets.table import encoded
 from .state import Desk, Wrong
 
 # A plain file name of letters, digits and a few signs: no folder, no hidden file, no name that a system keeps.
@@ -26,17 +25,14 @@ class Exists(Exception):
 
 
 def save(desk: Desk, name: str, over: bool) -> str:
-    """Writes the list, and its corners beside it if they have coordinates. Answers what was written."""
+    """Writes the list, and its corners beside it where they need a file. Answers what was written."""
     if not _NAME.fullmatch(name) or _RESERVED.fullmatch(name):
         raise Wrong("write a plain file name that ends in .csv, without a folder")
     folder = Path(desk.opened.path).resolve().parent
     now = desk.streets
     if now.file != desk.plan.file:
         raise Wrong("the list is not the plan that is open")
-    files = {name: encoded(streets_text(now))}
-    beside = corners_beside(name)
-    if beside is not None and _placed(now):
-        files[beside] = encoded(corners_text(now))
+    files = {Path(path).name: data for path, data in files_of(now, str(folder / name)).items()}
     # Corners don't change on the desk: a file that holds them already needs no writing.
     files = {one: data for one, data in files.items() if one == name or _held(folder / one) != data}
     for one in files:
@@ -47,28 +43,19 @@ def save(desk: Desk, name: str, over: bool) -> str:
         raise Exists(there)
     for one, data in files.items():
         _write(folder / one, data)
-    said = f"{' and '.join(files)} written."
-    if beside is None and _placed(now):
-        said += " A list without streets in its name has no file of corners: their coordinates are not saved."
-    return said
+    return f"{' and '.join(files)} written."
 
 
 def free_name(streets: StreetList) -> str:
-    """A name beside a list that no file has, and under which its corners' file is found again."""
+    """A name beside a list that no file has."""
     folder = Path(streets.path).resolve().parent
     stem = re.sub(r"[^\w .()+,-]", "_", PurePath(streets.path).stem).lstrip(" .()+,-")[:80] or "streets"
     stem = re.sub(r"-\d+$", "", stem)
     for number in range(2, 1000):
         name = f"{stem}-{number}.csv"
-        if _placed(streets) and corners_beside(name) is None:
-            name = f"{stem}-{number}-streets.csv"
         if not (folder / name).exists():
             break
     return name
-
-
-def _placed(streets: StreetList) -> bool:
-    return any(corner.x is not None or corner.lon is not None for corner in streets.corners)
 
 
 def _held(path: Path) -> bytes | None:

@@ -214,7 +214,7 @@ class Fields:
 
     def text_if(self, name: str) -> str | None:
         value = self._fields.get(name)
-        if value is not None and not isinstance(value, str):
+        if value is not None and not (isinstance(value, str) and _is_text(value)):
             raise Refused(400, f"{name} is no text")
         return value
 
@@ -223,6 +223,11 @@ class Fields:
         if not isinstance(value, bool):
             raise Refused(400, f"{name} is neither true nor false")
         return value
+
+
+def _is_text(value: str) -> bool:
+    """Whether all of it can be written: JSON's escapes can make half a letter, which no file holds."""
+    return not any("\ud800" <= letter <= "\udfff" for letter in value)
 
 
 def _arcs(desk: Desk, asked: Fields) -> list[int]:

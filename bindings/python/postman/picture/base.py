@@ -17,6 +17,10 @@ from .passes import corners_of_parts
 from .room import Room, body, spine, text_width
 
 
+ROUND_A_CORNER = 16.0
+"""How far beyond a corner's rim a street runs past it."""
+
+
 def name_of(streets: StreetList) -> str:
     """What a list is called in titles: its file's name."""
     return "street list" if streets.path == "-" else PurePath(streets.path).name
@@ -48,7 +52,9 @@ class Base:
             shapes: list[Shape] = []
             for arc in self.plan.arcs:
                 if arc.standing == Standing.MUST and arc.tail in part:
-                    shapes.append(Line((self.points[arc.tail], self.points[arc.head]), "tint"))
+                    ends = self.points[arc.tail], self.points[arc.head]
+                    aside = self._aside(arc.tail, arc.head)
+                    shapes.append(Line(lanes.lane(*ends, aside, self.corners.rim) if aside else ends, "tint"))
             groups.append(Group(f"part part-{number % 8}", tuple(dict.fromkeys(shapes))))
         return groups
 
@@ -161,14 +167,23 @@ class Base:
             wider = math.sqrt(max(0.0, apart * apart - step * step))
             own_gap = min(max(gap, wider), 84.0 / len(together))
             offsets = lanes.offsets([self.plan.arcs[key[0]].tail == one for key in together], own_gap)
+            aside = self._aside(one, other)
+            if aside:
+                offsets = [offset - min(offsets) + aside for offset in offsets]
             self.lane_reach[one, other] = max(abs(offset) for offset in offsets)
             for key, offset in zip(together, offsets):
                 arc = self.plan.arcs[key[0]]
                 drawn[key] = lanes.lane(self.points[arc.tail], self.points[arc.head], offset, self.corners.rim)
         return drawn
 
+    def _aside(self, one: int, other: int) -> float:
+        """How far a street keeps to the right of the straight line between its corners: where that runs over a third
+        corner it would seem to end there."""
+        start, end = self.points[one], self.points[other]
+        between = (point for corner, point in enumerate(self.points) if corner not in (one, other))
+        over = any(lanes.lies_between(point, start, end, self.corners.rim) for point in between)
+        return self.corners.rim + ROUND_A_CORNER if over else 0.0
+
 
 def _counted(count: int, noun: str) -> str:
     return f"{count} {noun}" if count == 1 else f"{count} {noun}s"
-
-

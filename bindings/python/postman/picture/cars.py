@@ -45,6 +45,7 @@ def cars(streets: StreetList, marks: Sequence[Collection[int]], title: str | Non
     groups += [furniture.header(name, words), furniture.rule(base.ground)]
     groups += furniture.legend(base.ground, _entries(base, marks))
     groups.append(furniture.scale_bar(base.ground))
+    groups += furniture.guesses(base.ground)
     return Drawing(base.ground.width, base.ground.height, name, words, tuple(groups))
 
 

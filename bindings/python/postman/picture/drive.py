@@ -63,6 +63,7 @@ def drive(streets: StreetList, answer: Answer, shut: Collection[int] = (), title
     groups += [furniture.header(f"{name}: the drive", figures), furniture.rule(base.ground)]
     groups += furniture.legend(base.ground, _entries(base, lane_of, shut))
     groups.append(furniture.scale_bar(base.ground))
+    groups += furniture.guesses(base.ground)
     return Drawing(base.ground.width, base.ground.height, f"{name}: the drive", figures, tuple(groups))
 
 

@@ -7,7 +7,7 @@ from collections.abc import Sequence
 from dataclasses import replace
 
 from .drawing import Box, Group, Label, Line, Shape
-from .ground import ROW, Ground
+from .ground import HEADER, ROW, Ground
 from .room import text_width
 
 SIDE = 14.0
@@ -20,6 +20,17 @@ def header(title: str, subtitle: str) -> Group:
     """The title and the line under it."""
     lines = (Label((SIDE, 20), title, "title", "start"), Label((SIDE, 42), subtitle, "subtitle", "start"))
     return Group("header", lines)
+
+
+def guesses(ground: Ground) -> list[Group]:
+    """A note below the title, on the right, on corners without coordinates among others that have them."""
+    if not ground.guessed:
+        return []
+    if ground.guessed == 1:
+        note = "1 corner without coordinates lies near its neighbours."
+    else:
+        note = f"{ground.guessed} corners without coordinates lie near their neighbours."
+    return [Group("note", (Label((ground.width - SIDE, HEADER + 2), note, anchor="end"),))]
 
 
 def legend(ground: Ground, entries: Sequence[tuple[str, Sequence[Shape], str]]) -> list[Group]:

@@ -7,7 +7,7 @@ from dataclasses import dataclass
 
 from ..streets.street_list import StreetList
 from .drawing import Point
-from .layout import lay_out
+from .layout import lay_beside, lay_out
 
 # A4 with a margin of a centimetre, in points of 96 to the inch.
 LONG_SIDE = 1047.0
@@ -31,16 +31,28 @@ class Ground:
     width: float
     height: float
     per_metre: float | None
+    guessed: int
+    """How many corners have no coordinates, where others have them: these lie near their neighbours."""
     footer: float
     """The height of the foot. The legend takes two rows of a wide sheet, and three of a narrow one."""
 
 
 def ground(streets: StreetList) -> Ground:
-    """The ground of a list. Coordinates serve if every corner has them and they don't all agree."""
-    places = [(corner.x, -corner.y) for corner in streets.corners if corner.x is not None and corner.y is not None]
-    to_scale = len(places) == len(streets.corners) and len(set(places)) > 1
+    """The ground of a list. Coordinates serve if they don't all agree."""
+    known = {
+        number: (corner.x, -corner.y)
+        for number, corner in enumerate(streets.corners)
+        if corner.x is not None and corner.y is not None
+    }
+    to_scale = len(set(known.values())) > 1
+    guessed = len(streets.corners) - len(known) if to_scale else 0
+    pairs = [(arc.tail, arc.head) for arc in streets.plan.arcs]
     if not to_scale:
-        places = list(lay_out(len(streets.corners), [(arc.tail, arc.head) for arc in streets.plan.arcs]))
+        places = lay_out(len(streets.corners), pairs)
+    elif guessed:
+        places = lay_beside(known, len(streets.corners), pairs)
+    else:
+        places = tuple(known.values())
     left, right = min(x for x, _ in places), max(x for x, _ in places)
     top, bottom = min(y for _, y in places), max(y for _, y in places)
     wide, high = right - left, bottom - top
@@ -53,7 +65,7 @@ def ground(streets: StreetList) -> Ground:
     height = high * scale + HEADER + footer + 2 * ABOVE
     shift = ((width - wide * scale) / 2 - left * scale, HEADER + ABOVE - top * scale)
     points = [(x * scale + shift[0], y * scale + shift[1]) for x, y in places]
-    return Ground(_apart(points), width, height, scale if to_scale else None, footer)
+    return Ground(_apart(points), width, height, scale if to_scale else None, guessed, footer)
 
 
 def _apart(points: list[Point]) -> tuple[Point, ...]:

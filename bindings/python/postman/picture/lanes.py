@@ -7,6 +7,7 @@ from collections.abc import Sequence
 
 from .drawing import Point
 
+
 def offsets(directions: Sequence[bool], gap: float) -> list[float]:
     """How far each lane between two corners lies to the right of its own way, for its direction, True one way."""
     there = sum(directions)
@@ -44,6 +45,17 @@ def lane(start: Point, end: Point, offset: float, rim: float) -> tuple[Point, ..
         )
         for place, aside in places
     )
+
+
+def lies_between(point: Point, start: Point, end: Point, reach: float) -> bool:
+    """Whether a line runs over a point, which lies this near to it and at neither end."""
+    length = math.dist(start, end)
+    if length < 1e-6:
+        return False
+    along = ((end[0] - start[0]) / length, (end[1] - start[1]) / length)
+    away = (point[0] - start[0], point[1] - start[1])
+    place = away[0] * along[0] + away[1] * along[1]
+    return reach < place < length - reach and abs(away[1] * along[0] - away[0] * along[1]) < reach
 
 
 def loop(corner: Point, away: float, radius: float, rim: float) -> tuple[Point, ...]:

@@ -7,7 +7,7 @@ squared, is lowered corner by corner. Nothing is drawn at random, so that a plan
 from __future__ import annotations
 
 import math
-from collections.abc import Iterable, Sequence
+from collections.abc import Iterable, Mapping, Sequence
 from functools import lru_cache
 
 Point = tuple[float, float]
@@ -25,16 +25,75 @@ def lay_out(count: int, pairs: Iterable[tuple[int, int]]) -> tuple[Point, ...]:
     return _laid(count, frozenset((min(pair), max(pair)) for pair in pairs))
 
 
+def lay_beside(known: Mapping[int, Point], count: int, pairs: Iterable[tuple[int, int]]) -> tuple[Point, ...]:
+    """Points for all corners where those of `known` are given, in their measure: these stay, and the others go near
+    their neighbours. What no street joins to a known one goes below all that are."""
+    return _laid_beside(tuple(known.items()), count, frozenset((min(pair), max(pair)) for pair in pairs))
+
+
+@lru_cache(maxsize=16)
+def _laid_beside(
+    given: tuple[tuple[int, Point], ...], count: int, pairs: frozenset[tuple[int, int]]
+) -> tuple[Point, ...]:
+    known = dict(given)
+    near = _neighbours(count, pairs)
+    step = _usual_step(known, near)
+    hops = {corner: _hops(near, corner) for corner in range(count) if corner not in known}
+    points = _start_beside({corner: (x / step, y / step) for corner, (x, y) in given}, hops)
+    for _ in range(SWEEPS):
+        moved = 0.0
+        for corner, reached in hops.items():
+            if any(other in known for other in reached):
+                before = points[corner]
+                points[corner] = _pulled(corner, points, reached.items())
+                moved = max(moved, math.dist(before, points[corner]))
+        if moved < SETTLED:
+            break
+    return tuple((points[corner][0] * step, points[corner][1] * step) for corner in range(count))
+
+
+def _start_beside(known: dict[int, Point], hops: Mapping[int, Mapping[int, int]]) -> dict[int, Point]:
+    """All points, the unknown ones in the middle of those known ones that are nearest by hops."""
+    points = dict(known)
+    left, below = min(x for x, _ in known.values()), max(y for _, y in known.values()) + 1.0
+    for corner, reached in hops.items():
+        nearest = min((far for other, far in reached.items() if other in known), default=None)
+        if nearest is None:
+            points[corner], left = (left, below), left + 1.0
+            continue
+        beside = [known[other] for other, far in reached.items() if other in known and far == nearest]
+        x, y = (sum(values) / len(beside) for values in zip(*beside))
+        # A little beside them: two that have the same neighbours would stay on one point.
+        points[corner] = (x + 0.1 * math.cos(corner), y + 0.1 * math.sin(corner))
+    return points
+
+
+def _usual_step(known: Mapping[int, Point], near: Sequence[set[int]]) -> float:
+    """How far corners that a street joins lie apart: the middle one of those that are known."""
+    joined = ((one, other) for one in known for other in near[one] if one < other and other in known)
+    apart = sorted(filter(None, (math.dist(known[one], known[other]) for one, other in joined)))
+    if apart:
+        return apart[len(apart) // 2]
+    wide = max(x for x, _ in known.values()) - min(x for x, _ in known.values())
+    high = max(y for _, y in known.values()) - min(y for _, y in known.values())
+    return max(wide, high) / math.sqrt(len(near))
+
+
 @lru_cache(maxsize=16)
 def _laid(count: int, pairs: frozenset[tuple[int, int]]) -> tuple[Point, ...]:
     """What was laid out is kept: a list has several pictures, and on the desk its streets stay where they are."""
+    near = _neighbours(count, pairs)
+    pieces = [(piece, _level(_settle(hops))) for piece, hops in _pieces(near)]
+    return _pack(count, pieces)
+
+
+def _neighbours(count: int, pairs: Iterable[tuple[int, int]]) -> list[set[int]]:
     near: list[set[int]] = [set() for _ in range(count)]
     for one, other in pairs:
         if one != other:
             near[one].add(other)
             near[other].add(one)
-    pieces = [(piece, _level(_settle(hops))) for piece, hops in _pieces(near)]
-    return _pack(count, pieces)
+    return near
 
 
 def _pieces(near: Sequence[set[int]]) -> list[tuple[list[int], list[list[int]]]]:
@@ -75,25 +134,29 @@ def _settle(hops: Sequence[Sequence[int]]) -> list[Point]:
     for _ in range(SWEEPS):
         moved = 0.0
         for i in range(count):
-            x, y = points[i]
-            new_x = new_y = weights = 0.0
-            for j in range(count):
-                if i == j:
-                    continue
-                wanted = hops[i][j]
-                weight = 1.0 / (wanted * wanted)
-                other_x, other_y = points[j]
-                apart = math.hypot(x - other_x, y - other_y)
-                pull = wanted / apart if apart > 1e-9 else 0.0
-                new_x += weight * (other_x + pull * (x - other_x))
-                new_y += weight * (other_y + pull * (y - other_y))
-                weights += weight
-            if weights:
-                points[i] = (new_x / weights, new_y / weights)
-                moved = max(moved, math.hypot(points[i][0] - x, points[i][1] - y))
+            before = points[i]
+            points[i] = _pulled(i, points, enumerate(hops[i]))
+            moved = max(moved, math.dist(points[i], before))
         if moved < SETTLED:
             break
     return points
+
+
+def _pulled(corner: int, points: Mapping[int, Point] | Sequence[Point], hops: Iterable[tuple[int, int]]) -> Point:
+    """Where the others would have a corner, each as far away as its hops."""
+    x, y = points[corner]
+    new_x = new_y = weights = 0.0
+    for other, wanted in hops:
+        if other == corner:
+            continue
+        weight = 1.0 / (wanted * wanted)
+        other_x, other_y = points[other]
+        apart = math.hypot(x - other_x, y - other_y)
+        pull = wanted / apart if apart > 1e-9 else 0.0
+        new_x += weight * (other_x + pull * (x - other_x))
+        new_y += weight * (other_y + pull * (y - other_y))
+        weights += weight
+    return (new_x / weights, new_y / weights) if weights else (x, y)
 
 
 def _start(hops: Sequence[Sequence[int]]) -> list[Point]:

@@ -31,6 +31,7 @@ def town(streets: StreetList, shut: Collection[int] = (), title: str | None = No
     groups += [furniture.header(name, figures), furniture.rule(base.ground)]
     groups += furniture.legend(base.ground, _entries(base, shut))
     groups.append(furniture.scale_bar(base.ground))
+    groups += furniture.guesses(base.ground)
     return Drawing(base.ground.width, base.ground.height, name, f"The streets of {name}: {figures}", tuple(groups))
 
 

@@ -50,9 +50,9 @@ def write(streets: StreetList, path: str, corners: str | None = None) -> None:
 def open_list(path: str, corners: str | None = None, data: bytes | None = None) -> StreetList:
     """Opens a street list, a plan file or GeoJSON, whichever the file is ("-" is standard input).
 
-    The corners of a street list come from the file `corners`; where none is named, from the file whose name has
-    "corners" where that of the list has "streets", if there is one. `data` are the file's bytes where they were read
-    already.
+    The corners of a street list come from the file `corners`; where none is named, from the one beside it by its name,
+    if there is one: corners.csv for streets.csv, A-corners.csv for A-streets.csv and for A.csv. `data` are the file's
+    bytes where they were read already.
     """
     if data is None:
         data = read_bytes(path)
@@ -67,9 +67,9 @@ def open_list(path: str, corners: str | None = None, data: bytes | None = None) 
         return from_geojson(path, data=data)
     from .csv_file import corners_beside, read_csv
 
-    if corners is None:
+    if corners is None and path != "-":
         beside = corners_beside(path)
-        corners = beside if beside is not None and Path(beside).is_file() else None
+        corners = beside if Path(beside).is_file() else None
     return read_csv(path, corners, data)
 
 

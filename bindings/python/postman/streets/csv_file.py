@@ -23,12 +23,14 @@ def read_csv(path: str, corners: str | None = None, data: bytes | None = None) -
         raise ListError("has no street; write one a row under the header", path)
     checked = "checking" in table.header
     streets = tuple(street_of(row, checked) for row in table.rows)
+    notes: tuple[str, ...] = ()
     if corners is None:
         found = corners_in_order(streets)
+        notes = alike(found)
     else:
         found = read_corners(corners)
         check_corners(table, corners, {corner.name for corner in found})
-    return StreetList(path, 2 if checked else 1, found, streets, corners)
+    return StreetList(path, 2 if checked else 1, found, streets, corners, notes=notes)
 
 
 def street_of(row: Row, checked: bool) -> Street:
@@ -59,6 +61,16 @@ def corners_in_order(streets: tuple[Street, ...]) -> tuple[Corner, ...]:
     """The corners as they first occur."""
     names = dict.fromkeys(name for street in streets for name in (street.from_corner, street.to_corner))
     return tuple(Corner(name) for name in names)
+
+
+def alike(corners: tuple[Corner, ...]) -> tuple[str, ...]:
+    """A note on corners whose names differ in nothing but capitals: they may be one."""
+    met: dict[str, str] = {}
+    for corner in corners:
+        other = met.setdefault(corner.name.casefold(), corner.name)
+        if other != corner.name:
+            return (f"{other} and {corner.name} are two corners: write both names alike if they are one",)
+    return ()
 
 
 def read_corners(path: str) -> tuple[Corner, ...]:
@@ -95,12 +107,29 @@ def check_corners(table: Table, corners: str, known: set[str]) -> None:
                 raise row.error(column, f"{column} {name} is no corner of {corners}{nearest(name, known)}")
 
 
-def corners_beside(path: str) -> str | None:
-    """The file of corners that belongs to a street list by its name: "corners" where the list's name has "streets"."""
-    name = Path(path).name
-    if "streets" not in name:
-        return None
-    return str(Path(path).with_name(name.replace("streets", "corners")))
+def corners_beside(path: str) -> str:
+    """The file of corners that belongs to a street list by its name: "corners" where the list's name has "streets", and
+    A-corners.csv for A.csv."""
+    file = Path(path)
+    name = file.name.replace("streets", "corners") if "streets" in file.name else f"{file.stem}-corners.csv"
+    return str(file.with_name(name))
+
+
+def needs_corners(streets: StreetList) -> bool:
+    """Whether the list alone would be read otherwise: without coordinates, or with its corners in another order."""
+    placed = any(corner.x is not None or corner.lon is not None for corner in streets.corners)
+    names = [corner.name for corner in streets.corners]
+    return placed or names != [corner.name for corner in corners_in_order(streets.streets)]
+
+
+def files_of(streets: StreetList, path: str) -> dict[str, bytes]:
+    """A list as files from which it is read back as it is: the CSV `path`, and that of its corners where one is needed,
+    or where one is there that would be taken for it."""
+    files = {path: encoded(streets_text(streets))}
+    beside = corners_beside(path)
+    if needs_corners(streets) or Path(beside).exists():
+        files[beside] = encoded(corners_text(streets))
+    return files
 
 
 def streets_text(streets: StreetList) -> str:

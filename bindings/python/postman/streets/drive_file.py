@@ -10,10 +10,11 @@ from typing import NamedTuple
 
 from ..plan import Standing
 from ..refusal import Refusal
-from .errors import ListError
+from .errors import ListError, clipped
 from .explain import explain
+from .numerals import whole_of
 from .street_list import StreetList
-from .table import Row, decoded, read_bytes, read_table, separator_of
+from .table import Row, decoded, name_of, read_bytes, read_table, separator_of
 
 NO_ARC = 65535
 """A number that no arc has."""
@@ -42,7 +43,7 @@ def drive_of(path: str, data: bytes, streets: StreetList) -> TypedDrive:
     text = decoded(data, path)
     start = text.lstrip()
     if start[:1] in ("{", "["):
-        return from_json(path, text)
+        return from_json(path, text, streets)
     first = next((line for line in text.splitlines() if line.strip()), "")
     columns = {cell.strip().strip('"').lower() for cell in first.split(separator_of(first))}
     if "arc" in columns or {"from", "to"} <= columns:
@@ -50,16 +51,20 @@ def drive_of(path: str, data: bytes, streets: StreetList) -> TypedDrive:
     return from_lines(path, text)
 
 
-def from_json(path: str, text: str) -> TypedDrive:
-    import json
+def from_json(path: str, text: str, streets: StreetList) -> TypedDrive:
+    from .json_text import parsed
 
-    try:
-        value = json.loads(text)
-    except json.JSONDecodeError as error:
-        raise ListError(f"line {error.lineno}, column {error.colno}: {error.msg}; this is no JSON", path) from None
+    value = parsed(path, text)
     drive = value.get("drive") if isinstance(value, dict) else value
     if not isinstance(drive, list) or not all(type(arc) is int for arc in drive):
         raise ListError("has no drive: a list of arc numbers, or an object in which drive is one", path)
+    steps = value.get("steps") if isinstance(value, dict) else None
+    if isinstance(steps, list) and len(steps) == len(drive):
+        for number, (arc, step) in enumerate(zip(drive, steps), 1):
+            names = {column: step.get(column) for column in ("street", "from", "to")} if isinstance(step, dict) else {}
+            other = differing(arc, {column: name for column, name in names.items() if isinstance(name, str)}, streets)
+            if other is not None:
+                raise ListError(other[1], path, number, other[0], unit="place")
     places = tuple(f"place {number}" for number in range(1, len(drive) + 1))
     return TypedDrive(path, tuple(map(clamped, drive)), places, tuple(f"arc {arc}" for arc in drive))
 
@@ -72,14 +77,13 @@ def from_lines(path: str, text: str) -> TypedDrive:
             continue
         if words[0] == "arc":
             words = words[1:]
-        if len(words) != 1 or not (words[0].isascii() and words[0].isdigit()):
-            message = (
-                f"{line.strip()} is no arc number: write one a line, or a table with the columns from, to and street"
-            )
-            raise ListError(message, path, number, unit="line")
-        arcs.append(clamped(int(words[0])))
+        arc = whole_of(words[0]) if len(words) == 1 else None
+        if arc is None:
+            message = "is no arc number: write one a line, or a table with the columns from, to and street"
+            raise ListError(f"{clipped(name_of(line))} {message}", path, number, unit="line")
+        arcs.append(clamped(arc))
         places.append(f"line {number}")
-        said.append(f"arc {words[0]}")
+        said.append(f"arc {clipped(words[0])}")
     return TypedDrive(path, tuple(arcs), tuple(places), tuple(said))
 
 
@@ -113,15 +117,23 @@ def names_of(streets: StreetList, arc: int) -> dict[str, str]:
     return {"street": street.street, "from": street.from_corner, "to": street.to_corner}
 
 
-def check_names(row: Row, arc: int, wanted: dict[str, str], streets: StreetList) -> None:
-    """Names beside an arc's number must be those of the arc: the list may have been sorted since."""
-    if arc >= len(streets.streets):
-        return
+def differing(arc: int, wanted: dict[str, str], streets: StreetList) -> tuple[str, str] | None:
+    """The first column in which names beside an arc's number are not those of the arc, and that in words: the list may
+    have been sorted since."""
+    if not 0 <= arc < len(streets.streets):
+        return None
     held = names_of(streets, arc)
     for column, name in wanted.items():
         if name and name != held[column]:
-            message = f"arc {row.text('arc')} has {column} {held[column]} in {streets.path}, and {name} here"
-            raise row.error(column, message)
+            return column, f"arc {arc} has {column} {held[column]} in {streets.path}, and {name} here"
+    return None
+
+
+def check_names(row: Row, arc: int, wanted: dict[str, str], streets: StreetList) -> None:
+    """Names beside an arc's number must be those of the arc."""
+    other = differing(arc, wanted, streets)
+    if other is not None:
+        raise row.error(*other)
 
 
 def arc_named(row: Row, wanted: dict[str, str], streets: StreetList) -> int:
@@ -148,9 +160,9 @@ def explain_drive(streets: StreetList, drive: TypedDrive, refusal: Refusal) -> s
     if refusal.number == Refusal.FOREIGN:
         for arc, place, said in zip(arcs, places, drive.said):
             if arc >= len(streets.streets):
-                return f"{drive.path} {place}: {said} is no street of {streets.path}"
+                return f"{drive.path} {place}: {said} is no street of {streets.path}: correct it, or take it out"
             if streets.streets[arc].standing is Standing.CLOSED:
-                return f"{drive.path} {place}: {streets.leg(arc)} is closed"
+                return f"{drive.path} {place}: {streets.leg(arc)} is closed: lead around it, or open it in the list"
     if refusal.number == Refusal.UNJOINED:
         for number, arc in enumerate(arcs):
             after = (number + 1) % len(arcs)
@@ -158,11 +170,14 @@ def explain_drive(streets: StreetList, drive: TypedDrive, refusal: Refusal) -> s
             if ends[0] != ends[1]:
                 return (
                     f"{drive.path} {places[number]}: {streets.leg(arc)} ends at {ends[0]}, "
-                    f"and the next, {streets.leg(arcs[after])} ({places[after]}), begins at {ends[1]}"
+                    f"and the next, {streets.leg(arcs[after])} ({places[after]}), begins at {ends[1]}: "
+                    "put in the way between them"
                 )
     if refusal.number == Refusal.MISSED:
         missed = [arc for arc, street in enumerate(streets.streets) if street.must and arc not in set(arcs)]
-        legs = [f"  {streets.leg(arc)} ({streets.unit} {streets.streets[arc].row})" for arc in missed]
-        many = f"{len(missed)} must streets are" if len(missed) > 1 else "1 must street is"
-        return "\n".join([f"{drive.path}: {many} missed:", *legs])
+        # In a plan file the arc's number is its name.
+        rows = ["" if streets.unit == "arc" else f" ({streets.unit} {streets.streets[arc].row})" for arc in missed]
+        legs = [f"  {streets.leg(arc)}{row}" for arc, row in zip(missed, rows)]
+        many, them = (f"{len(missed)} must streets are", "them") if len(missed) > 1 else ("1 must street is", "it")
+        return "\n".join([f"{drive.path}: {many} missed:", *legs, f"lead the drive over {them}"])
     return explain(streets, refusal)

@@ -2,6 +2,7 @@
 
 from __future__ import annotations
 
+import re
 from collections.abc import Iterable
 
 
@@ -41,7 +42,18 @@ class ListError(Exception):
             place += f" {self.unit} {self.row}"
         if self.street is not None:
             place += f" ({self.street})"
+        if self.column is not None and not re.search(rf"\b{re.escape(self.column)}\b", self.message):
+            place += f", column {self.column}"
         return f"{place}: {self.message}"
+
+
+LONGEST_SHOWN = 40
+"""The most letters of a text that are shown to a person."""
+
+
+def clipped(text: str) -> str:
+    """The beginning of a long text."""
+    return text if len(text) <= LONGEST_SHOWN else f"{text[:LONGEST_SHOWN]}..."
 
 
 def nearest(name: str, known: Iterable[str]) -> str:

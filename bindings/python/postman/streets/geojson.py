@@ -6,7 +6,6 @@ metres of some national grid.
 
 from __future__ import annotations
 
-import json
 from collections.abc import Callable, Iterable, Mapping
 from math import asin, cos, hypot, radians, sin, sqrt
 from typing import Any, NamedTuple
@@ -15,13 +14,16 @@ from ..answer import Answer
 from ..plan import Standing
 from .csv_file import STANDINGS
 from .earth import DEGREE, EARTH_RADIUS
-from .errors import ListError
+from .errors import ListError, clipped
+from .json_text import parsed
 from .street_list import HIGHEST_COST, Corner, Street, StreetList
-from .table import decoded, name_of, read_bytes
+from .table import FARTHEST, decoded, name_of, read_bytes
 
 FORWARD = ("yes", "true", "1")
 BACKWARD = ("-1", "reverse")
-BOTH_WAYS = ("", "no", "false", "0")
+NO = ("", "no", "false", "0")
+IN_TURNS = ("alternating", "reversible")
+"""One way at a time, by signals or by the hour: both can be driven, though not at once."""
 
 Point = tuple[float, float]
 Key = Callable[[Point], Point]
@@ -58,7 +60,7 @@ def from_geojson(
     """
     path = source if isinstance(source, str) else "GeoJSON"
     if isinstance(source, str):
-        features = features_of(path, parsed(path, read_bytes(path) if data is None else data))
+        features = features_of(path, parsed(path, decoded(read_bytes(path) if data is None else data, path)))
     else:
         features = features_of(path, source)
     lines, names = lines_of(path, features)
@@ -74,22 +76,18 @@ def from_geojson(
         for one in reader.streets(line, corners[key(line.points[0])].name, corners[key(line.points[-1])].name)
     ]
     edition = 1 if checking is None else 2
-    notes = passing(lines, corners, key, reader)
+    notes = passing(lines, corners, key, reader) + in_turns(lines, reader)
     return StreetList(path, edition, tuple(corners.values()), tuple(streets), None, "feature", notes)
-
-
-def parsed(path: str, data: bytes) -> Any:
-    try:
-        return json.loads(decoded(data, path))
-    except json.JSONDecodeError as error:
-        raise ListError(f"line {error.lineno}, column {error.colno}: {error.msg}; this is no JSON", path) from None
 
 
 def features_of(path: str, value: Any) -> list[Mapping[str, Any]]:
     """The features of GeoJSON; a lone geometry counts as one."""
     kind = value.get("type") if isinstance(value, Mapping) else None
     if kind == "FeatureCollection":
-        return list(value.get("features") or [])
+        features = value.get("features") or []
+        if not isinstance(features, list):
+            raise ListError("is no GeoJSON: its features are no list", path)
+        return features
     if kind == "Feature":
         return [value]
     if kind in ("LineString", "MultiLineString"):
@@ -105,20 +103,29 @@ def lines_of(path: str, features: list[Mapping[str, Any]]) -> tuple[list[Line], 
         try:
             geometry = feature.get("geometry") or {}
             properties = feature.get("properties") or {}
+            if not isinstance(properties, Mapping):
+                raise ListError("its properties are no object", path, number, unit="feature")
             kind = str(geometry.get("type"))
             if kind == "Point" and properties.get("name"):
-                x, y = geometry["coordinates"][:2]
-                names.append(((float(x), float(y)), name_of(str(properties["name"]))))
+                names.append((point_of(geometry["coordinates"]), name_of(str(properties["name"]))))
             coordinates: Any = geometry.get("coordinates")
             parts: Any = {"LineString": [coordinates], "MultiLineString": coordinates}.get(kind, [])
             for part in parts:
-                points = tuple((float(x), float(y)) for x, y, *_ in part)
+                points = tuple(map(point_of, part))
                 if len(points) < 2:
                     raise ListError("a line needs two points", path, number, unit="feature")
                 lines.append(Line(number, properties, points))
         except (AttributeError, KeyError, TypeError, ValueError):
             raise ListError("its geometry is no GeoJSON", path, number, unit="feature") from None
     return lines, names
+
+
+def point_of(coordinates: Iterable[Any]) -> Point:
+    """A point of a geometry; its height is passed over."""
+    x, y, *_ = map(float, coordinates)
+    if not (abs(x) <= FARTHEST and abs(y) <= FARTHEST):
+        raise ValueError(f"no place is as far away as {x}, {y}")
+    return x, y
 
 
 def key_of(on_earth: bool) -> Key:
@@ -170,6 +177,16 @@ def passing(lines: list[Line], corners: dict[Point, Corner], key: Key, reader: L
     return (f"{many} through corners without ending there, such as {where}: split them there for turns",)
 
 
+def in_turns(lines: list[Line], reader: LineReader) -> tuple[str, ...]:
+    """A note on lines whose direction changes: both are taken."""
+    found = [line for line in lines if text_of(line.properties.get("oneway")).lower() in IN_TURNS]
+    if not found:
+        return ()
+    many = "1 line is" if len(found) == 1 else f"{len(found)} lines are"
+    where = f"feature {found[0].feature} ({reader.name(found[0]) or 'no name'})"
+    return (f"{many} one way in turns, such as {where}, and taken for both: close the one that is shut",)
+
+
 class LineReader(NamedTuple):
     """How the properties of a line are read."""
 
@@ -212,7 +229,7 @@ class LineReader(NamedTuple):
             return (0,)
         if oneway in BACKWARD:
             return (1,)
-        if oneway not in BOTH_WAYS:
+        if oneway not in (*NO, *IN_TURNS):
             raise self.error(line, "oneway", f"oneway {oneway} is none of yes, no and -1")
         return (0,) if ring else (0, 1)
 
@@ -220,7 +237,7 @@ class LineReader(NamedTuple):
         if self.must is not None:
             name, _, wanted = self.must.partition("=")
             found = text_of(line.properties.get(name))
-            must = found == wanted if wanted else found.lower() not in BOTH_WAYS
+            must = found == wanted if wanted else found.lower() not in NO
             return Standing.MUST if must else Standing.MAY
         word = text_of(line.properties.get("standing")).lower()
         if word and word not in STANDINGS:
@@ -232,11 +249,11 @@ class LineReader(NamedTuple):
         try:
             number = float(text)
         except ValueError:
-            raise self.error(line, column, f"{column} is {text or 'empty'}, and no number") from None
-        if number != number or not 0 <= number <= HIGHEST_COST:
-            raise self.error(line, column, f"{column} {text} is not between 0 and {HIGHEST_COST}")
+            raise self.error(line, column, f"{column} is {clipped(text) or 'empty'}, and no number") from None
+        if not 0 <= number <= HIGHEST_COST:
+            raise self.error(line, column, f"{column} {clipped(text)} is not between 0 and {HIGHEST_COST}")
         if number != int(number):
-            raise self.error(line, column, f"{column} {text} is not a whole number")
+            raise self.error(line, column, f"{column} {clipped(text)} is not a whole number")
         return int(number)
 
     def length(self, line: Line) -> int:
@@ -254,7 +271,7 @@ def text_of(value: Any) -> str:
         return ""
     if isinstance(value, bool):
         return "true" if value else "false"
-    if isinstance(value, float) and value == int(value):
+    if isinstance(value, float) and value.is_integer():
         return str(int(value))
     return str(value).strip()
 

@@ -9,10 +9,17 @@ from __future__ import annotations
 
 import csv
 import io
-from pathlib import Path
 from typing import Iterable, NamedTuple
 
-from .errors import ListError
+from .errors import ListError, clipped
+from .numerals import whole_of
+
+
+MOST_BYTES = 100_000_000
+"""The most bytes of a file that are read. No list is near it, and a disk's image would take all memory."""
+
+FARTHEST = 1_000_000_000
+"""The farthest that a coordinate may lie from 0: no grid of the earth has more metres."""
 
 
 class Row(NamedTuple):
@@ -37,16 +44,18 @@ class Row(NamedTuple):
         return text
 
     def whole(self, column: str, highest: int) -> int:
-        """The cell's number, a whole one from 0 to `highest`."""
+        """The cell's number, a whole one from 0 to `highest`. Tables of decimals write it as 30.0 or 30.00; what has
+        three digits behind its point may be thousands, and is not taken."""
         text = self.needed(column)
-        number = text[1:] if text[0] in "+-" else text
-        if not (number.isascii() and number.isdigit()):
-            raise self.error(column, f"{column} {text} is not a whole number")
-        if text[0] == "-" and int(number) > 0:
-            raise self.error(column, f"{column} {text} is below 0")
-        if int(number) > highest:
-            raise self.error(column, f"{column} {text} is above {highest}")
-        return int(number)
+        digits, point, zeros = (text[1:] if text[0] in "+-" else text).replace(",", ".").partition(".")
+        number = whole_of(digits) if not point or zeros in ("0", "00") else None
+        if number is None:
+            raise self.error(column, f"{column} {clipped(text)} is not a whole number")
+        if text[0] == "-" and number > 0:
+            raise self.error(column, f"{column} {clipped(text)} is below 0")
+        if number > highest:
+            raise self.error(column, f"{column} {clipped(text)} is above {highest}")
+        return number
 
     def decimal(self, column: str) -> float | None:
         """The cell's number, or None where it is empty. The decimal sign may be a comma."""
@@ -56,9 +65,11 @@ class Row(NamedTuple):
         try:
             number = float(text.replace(",", ".") if "." not in text else text)
         except ValueError:
-            raise self.error(column, f"{column} {text} is not a number") from None
-        if number - number != 0:
+            raise self.error(column, f"{column} {clipped(text)} is not a number") from None
+        if number != number:
             raise self.error(column, f"{column} {text} is not a number")
+        if abs(number) > FARTHEST:
+            raise self.error(column, f"{column} {clipped(text)} is not between -{FARTHEST} and {FARTHEST}")
         return number
 
 
@@ -71,12 +82,16 @@ class Table(NamedTuple):
 
 
 def name_of(text: str) -> str:
-    """A name as it is compared: without spaces around it, one space for any run of them, and accents composed."""
-    text = " ".join(text.split())
-    if not text.isascii():
-        from unicodedata import normalize
+    """A name as it is compared: without spaces around it, one space for any run of them, and accents composed.
 
-        text = normalize("NFC", text)
+    What is no letter that can be shown or written counts as a space: a terminal would obey it, and no table hold it.
+    """
+    text = " ".join(text.split())
+    if not (text.isascii() and text.isprintable()):
+        from unicodedata import category, normalize
+
+        shown = (" " if category(letter) in ("Cc", "Cs") else letter for letter in text)
+        text = normalize("NFC", " ".join("".join(shown).split()))
     return text
 
 
@@ -86,10 +101,15 @@ def read_bytes(path: str) -> bytes:
         if path == "-":
             import sys
 
-            return sys.stdin.buffer.read()
-        return Path(path).read_bytes()
+            data = sys.stdin.buffer.read(MOST_BYTES + 1)
+        else:
+            with open(path, "rb") as file:
+                data = file.read(MOST_BYTES + 1)
     except OSError as error:
         raise ListError(f"cannot be read: {error.strerror}", path) from None
+    if len(data) > MOST_BYTES:
+        raise ListError(f"has more than {MOST_BYTES:,} bytes, and is no list of streets", path)
+    return data
 
 
 def decoded(data: bytes, file: str) -> str:
@@ -141,7 +161,8 @@ def read_table(path: str, needed: Iterable[str], optional: Iterable[str] = (), d
                 raise ListError(message, path, number, None, street)
             rows.append(Row(path, number, {column: cell for column, cell in zip(header, cells) if column}))
     except csv.Error as error:
-        raise ListError(f"the quotes do not pair up ({error})", path, number + 1) from None
+        what = "a cell is too long" if "limit" in str(error) else "the quotes do not pair up"
+        raise ListError(f"{what} ({error})", path, number + 1) from None
     if not header:
         raise ListError(f"is empty; its first row names the columns {', '.join(needed)}", path)
     return Table(path, header, tuple(rows))

@@ -10,6 +10,7 @@ from typing import NamedTuple
 
 from ..limits import DAY_MINUTES, MOST_WINDOWS
 from ..windows import Departure, Window
+from .numerals import whole_of
 from .picking import arcs_of
 from .street_list import StreetList
 from .table import Row, read_table
@@ -84,10 +85,13 @@ def minutes(text: str) -> int | None:
     hour, *rest = text.split(":")
     if len(rest) == 2 and rest[1] == "00":
         rest.pop()
-    if len(rest) != 1 or not (hour.isdigit() and rest[0].isdigit() and len(hour) <= 2 and len(rest[0]) == 2):
+    if len(rest) != 1 or len(hour) > 2 or len(rest[0]) != 2:
         return None
-    minute = 60 * int(hour) + int(rest[0])
-    return minute if int(rest[0]) < 60 and minute <= DAY_MINUTES else None
+    hours, past = whole_of(hour), whole_of(rest[0])
+    if hours is None or past is None or past >= 60:
+        return None
+    minute = 60 * hours + past
+    return minute if minute <= DAY_MINUTES else None
 
 
 def departure_of(text: str) -> Departure:
