@@ -130,7 +130,7 @@ mod format {
             #[cfg(feature = "proved")]
             {
                 let read = postman::Plan::read(&file).expect("a plan");
-                assert_eq!((read.edition.number(), read.vertices), (plan.edition.into(), plan.n as u32));
+                assert_eq!((read.edition.number(), read.vertices), (plan.edition, plan.n as u32));
                 let same = |a: &postman::Arc, b: &postman_tests::plan::Arc| {
                     (a.tail, a.head, a.standing.number(), a.cost, a.checking)
                         == (b.tail, b.head, b.standing, b.cost, b.checking)
@@ -331,7 +331,9 @@ mod links {
             for word in quoted(&document) {
                 let path = word.split(' ').next().expect("a word").trim_end_matches("/*.antt");
                 // "NAME" stands for any name.
-                let is_file = roots.iter().any(|root| path.starts_with(root)) && !path.contains(['*', '<']) && !path.contains("NAME");
+                let is_file = roots.iter().any(|root| path.starts_with(root))
+                    && !path.contains(['*', '<'])
+                    && !path.contains("NAME");
                 if is_file {
                     assert!(root().join(path).exists(), "{name}: {word}");
                     found += 1;
@@ -399,6 +401,20 @@ mod review {
             assert!(missing(wrong, &sources).is_some(), "{wrong} is said to be there");
         }
     }
+}
+
+/// GUIDE.md has every crate of the list, in its layers' tables, and no other.
+#[test]
+fn the_guide_has_every_crate() {
+    let (guide, list) = (text("docs/GUIDE.md"), text("crates.txt"));
+    let names = list.lines().filter(|line| !line.starts_with('#')).filter_map(|line| line.split_once(':'));
+    let listed: BTreeSet<&str> = names.map(|(name, _)| name).collect();
+    let layers = section(&guide, "## The layers");
+    let rows = layers.lines().filter_map(|line| line.strip_prefix("| `")?.split_once('`'));
+    let mut shown: BTreeSet<&str> = rows.map(|(name, _)| name).collect();
+    let (_, programs) = layers.split_once("**Programs**").expect("the programs");
+    shown.extend(programs.lines().next().expect("a line").split('`').skip(1).step_by(2));
+    assert_eq!(shown, listed);
 }
 
 /// Commands that need the library.
