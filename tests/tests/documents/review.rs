@@ -55,3 +55,25 @@ fn names_are_in_the_sources() {
         assert!(missing(wrong, &sources).is_some(), "{wrong} is said to be there");
     }
 }
+
+/// A crate's name right before another name says where that stands: `solution` `Planned`.
+#[test]
+fn names_are_in_the_crates_that_are_named() {
+    let mut found = 0;
+    for document in ["docs/REVIEW.md", "docs/GUIDE.md", "docs/DECISIONS.md"] {
+        let document = text(document);
+        let parts: Vec<&str> = document.split('`').collect();
+        for pair in parts.windows(3).skip(1).step_by(2) {
+            let folder = root().join("crates").join(pair[0]);
+            let is_crate = |name: &str| !name.is_empty() && root().join("crates").join(name).is_dir();
+            if !is_crate(pair[0]) || is_crate(pair[2]) || !pair[1].chars().all(char::is_whitespace) {
+                continue;
+            }
+            let mut sources = BTreeMap::new();
+            gather(&folder, &["antt", "rt"], &mut sources);
+            assert_eq!(missing(pair[2], &sources), None, "of {}", pair[0]);
+            found += 1;
+        }
+    }
+    assert!(found > 100);
+}
