@@ -68,7 +68,7 @@ fn other_commands_are_the_gates() {
             assert_eq!(shell(then), text("examples/town.txt"));
         }
     }
-    assert!(document.contains("as in `examples/town.txt`"));
+    assert!(document.contains("`examples/town.txt`"), "README says what the first command prints");
 }
 
 /// The lines of C are compiled and run; they lay the drive of case A.
