@@ -64,6 +64,25 @@ fn files_are_taken_apart() {
     assert_eq!(editions, BTreeSet::from([1, 2]), "an example of each edition");
 }
 
+/// The reader in Python reads the files in hex as the oracle does.
+#[test]
+fn the_reader_in_python_reads() {
+    let document = text("docs/FORMAT.md");
+    let readers = blocks(&document, "python");
+    assert_eq!(readers.len(), 1);
+    for (hex, _) in blocks(&document, "hex") {
+        let plan = parse(&bytes(&hex));
+        let script = format!("{}\nprint(read(bytes.fromhex({:?})))", readers[0].0.join("\n"), hex.join(" "));
+        let output = std::process::Command::new("python3").args(["-c", &script]).output().expect("python3");
+        let arcs = plan.arcs.iter().map(|a| {
+            let fields = [a.tail.into(), a.head.into(), a.standing.into(), a.cost, a.checking];
+            format!("{:?}", &fields[..if plan.edition == 2 { 5 } else { 4 }])
+        });
+        let expected = format!("({}, {}, [{}])", plan.edition, plan.n, arcs.collect::<Vec<String>>().join(", "));
+        assert_eq!(String::from_utf8_lossy(&output.stdout).trim_end(), expected);
+    }
+}
+
 /// What the header defines, by name.
 fn defined(header: &str) -> BTreeMap<&str, u32> {
     let lines = header.lines().filter_map(|line| line.strip_prefix("#define "));
