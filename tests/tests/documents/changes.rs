@@ -2,14 +2,13 @@
 
 use super::*;
 
-/// The heads of a note's parts: `**Stayed.**`.
+/// The heads of a note's parts: `**Stayed.**`. A note may have them one after the other in a paragraph.
 fn heads(note: &str) -> Vec<&str> {
-    let lines = note.lines().filter_map(|line| line.strip_prefix("**"));
-    lines.filter_map(|line| line.split("**").next()).map(|head| head.trim_end_matches(['.', ':'])).collect()
+    note.split("**").skip(1).step_by(2).collect()
 }
 
 fn has_part(note: &str, word: &str) -> bool {
-    heads(note).iter().any(|head| head.split([' ', ',']).any(|of| of.eq_ignore_ascii_case(word)))
+    heads(note).iter().any(|head| head.split([' ', ',', '.', ':']).any(|of| of.eq_ignore_ascii_case(word)))
 }
 
 #[test]
