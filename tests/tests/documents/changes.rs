@@ -7,8 +7,10 @@ fn heads(note: &str) -> Vec<&str> {
     note.split("**").skip(1).step_by(2).collect()
 }
 
+/// Whether a note has a part on it. What is new may also stand in the part that it belongs to.
 fn has_part(note: &str, word: &str) -> bool {
-    heads(note).iter().any(|head| head.split([' ', ',', '.', ':']).any(|of| of.eq_ignore_ascii_case(word)))
+    (word == "new" && has_word(note, "New"))
+        || heads(note).iter().any(|head| head.split([' ', ',', '.', ':']).any(|of| of.eq_ignore_ascii_case(word)))
 }
 
 #[test]
