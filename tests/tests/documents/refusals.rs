@@ -75,6 +75,9 @@ fn plan_calls(told: &mut Gathered) {
         told.add("short", raw::short_call(file, &mut sheet, &mut [], &mut []));
         for budget in BUDGETS {
             told.add("plan", raw::plan_call(file, budget, &mut sheet, &mut [], &mut []));
+            for rounds in [0, 2] {
+                told.add("deep", raw::deep_call(file, budget, rounds, &mut sheet, &mut [], &mut []));
+            }
             for windows in WINDOWS {
                 let call = raw::plan_call_at(file, budget, windows, 0, 0, &mut sheet, &mut [], &mut []);
                 told.add("departure", call);
