@@ -3,8 +3,8 @@
  * call, the call for two cars, an open plan with marks to come back to, eight districts in turn, the number of trees,
  * distances, and judging a drive.
  *
- * A slice is lent as a pointer and a length. The length counts elements, not bytes. Pointers are not null, not even with
- * a length of 0, and a slice that is not const overlaps no other of the same call. The stack has POSTMAN_STACK_BYTES left.
+ * A caller's buffer is a pointer and a length. The length counts elements, not bytes. Pointers are not null, not even with
+ * a length of 0, and a buffer that is not const overlaps no other of the same call. The stack has POSTMAN_STACK_BYTES left.
  * That is all that is asked of a caller: any bytes, numbers and lengths will do.
  *
  * A function that answers a number answers 0 or more, and what that says stands with the function; or minus a refusal's
@@ -14,9 +14,9 @@
  *
  * Of several refusals that apply the first in this order is given: 1 (under three bytes), 2, 3, 1 (length), 4, then arc by
  * arc 5, 6, 7, then 13, then 17, then 8 and 9, then 18 to 20 or 23, then 10 to 12, then 22, then 14 to 16. The calls of an
- * open plan have an order of their own, and a slice that is too short for a machine of districts is refused with 8 before
- * all else. A refusal changes no lent slice; one of a car alone changes none of that car's. The functions keep nothing and
- * share nothing, so that threads may call them at once.
+ * open plan have an order of their own, and a buffer that is too short for a machine of districts is refused with 8 before
+ * all else. A refusal changes no buffer; one of a car alone changes none of that car's. The functions keep nothing and share
+ * nothing, so that threads may call them at once.
  *
  * `make install` puts the library in place, and `pkg-config --cflags --libs postman` says how to compile and link with it.
  * examples/plan.c shows a plan call.
@@ -168,7 +168,7 @@ enum postman_refusal {
     POSTMAN_REFUSED_OFF_SHEET = 5,   /* an arc's tail or head is no vertex */
     POSTMAN_REFUSED_UNPRICED = 6,    /* an arc's checking cost is wrong, as said above */
     POSTMAN_REFUSED_STANDING = 7,    /* an arc's standing is above 2 */
-    POSTMAN_REFUSED_SHORT_SHEET = 8, /* too few records, bytes, places or distances are lent */
+    POSTMAN_REFUSED_SHORT_SHEET = 8, /* a caller's buffer is too short for records, bytes, places or distances */
     POSTMAN_REFUSED_BUDGET = 9,      /* the budget is 0 or above 1,000,000 */
     POSTMAN_REFUSED_IDLE = 10,       /* no arc must be driven */
     POSTMAN_REFUSED_SCATTERED = 11,  /* the plan has more than 8 parts */

@@ -15,3 +15,12 @@ pub mod properties;
 pub mod random;
 pub mod suite;
 pub mod yardstick;
+
+// The examples of the documents are run with the other examples in documentation.
+#[cfg(all(doctest, feature = "proved"))]
+mod documents {
+    #[doc = include_str!("../../docs/CALLS.md")]
+    struct Calls;
+    #[doc = include_str!("../../README.md")]
+    struct Readme;
+}
