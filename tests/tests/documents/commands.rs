@@ -10,7 +10,7 @@ fn scratch(name: &str) -> PathBuf {
 
 fn archive() -> PathBuf {
     let folder = std::env::var_os("POSTMAN_LIB_DIR").map(PathBuf::from);
-    folder.unwrap_or_else(|| root().join("target/staticlib")).join("libexports.a")
+    folder.unwrap_or_else(|| root().join("target/staticlib")).join("libproved.a")
 }
 
 fn printed(command: &mut Command) -> String {
