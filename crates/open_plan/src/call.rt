@@ -1,7 +1,7 @@
 // The calls of an open plan. None of them asks anything: whatever the state holds, reading decides.
-use held_file::Held;
 use crate::Moved;
 use crate::OpenPlan;
+use held_file::Held;
 use held_file::change::changed_file;
 use held_file::file::held_length;
 use held_file::file::hold;

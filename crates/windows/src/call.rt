@@ -1,13 +1,13 @@
 // The plan call at a departure: the refusals in their order, then the answer of the plan with the shut arcs closed.
-use shut_arcs::limits::has_bad_window;
-use shut_arcs::shut::must_shut;
-use shut_arcs::shut::plan_at;
 use plan::Plan;
 use planner::call::lent_verdict;
 use planner::call::plan_read;
 use planner::call::refused;
 use refusal::Refusal;
 use refusal::Verdict;
+use shut_arcs::limits::has_bad_window;
+use shut_arcs::shut::must_shut;
+use shut_arcs::shut::plan_at;
 use solution::Planned;
 ghost use mathlib.Core.Path.{_≡_};
 ghost use mathlib.Core.List.{_++_};

@@ -89,8 +89,10 @@ pub fn examine_misplaced(found: &mut Findings, districts: &dyn Districts, case: 
     for place in [8, 9, 16, 255, 1] {
         machine.displace(place);
         let told = call(found, SHEET_PLACES, FILL, |sheet| machine.turn(sheet));
-        let kept = told.as_ref().is_some_and(|(told, sheet)| *told == Ok(Turn::Empty) && sheet.iter().all(|&x| x == FILL));
-        found.expect(Property::Misplaced, kept, || format!("a turn at place {place}: {:?}", told.map(|(told, _)| told)));
+        let kept =
+            told.as_ref().is_some_and(|(told, sheet)| *told == Ok(Turn::Empty) && sheet.iter().all(|&x| x == FILL));
+        found
+            .expect(Property::Misplaced, kept, || format!("a turn at place {place}: {:?}", told.map(|(told, _)| told)));
     }
 }
 

@@ -43,4 +43,3 @@ module _ (file lent : List ℕ) where
   lent-after (Refused q) e =
       let w = was-refused (readRefusal file (length lent / 7)) all (refusalNumber q) e in
       rw w refl
-
