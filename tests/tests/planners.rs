@@ -215,6 +215,14 @@ fn yardstick_in_rounds() {
     deep("yardstick in rounds", &Yardstick, &Yardstick);
 }
 
+/// The library's deep call.
+#[cfg(feature = "proved")]
+#[test]
+fn proved_deep_call() {
+    use postman_tests::planner::Proved;
+    deep("proved deep call", &Proved, &Proved);
+}
+
 /// The rounds over the library's plan call.
 #[cfg(feature = "proved")]
 #[test]

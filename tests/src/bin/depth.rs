@@ -73,15 +73,25 @@ fn report(call: &dyn DeepCall, name: &str, files: &[Vec<u8>]) {
     println!("  the longest of the last calls took {longest:.2} s");
 }
 
+#[cfg(feature = "proved")]
+fn deep_call() -> impl DeepCall {
+    postman_tests::planner::Proved
+}
+
+#[cfg(not(feature = "proved"))]
+fn deep_call() -> impl DeepCall {
+    Yardstick
+}
+
 fn main() {
-    let call: Box<dyn DeepCall> = Box::new(Yardstick);
+    let call = deep_call();
     let city = |random: &mut Random| {
         let (side, parts) = (random.within(7..=8), random.within(7..=8));
         drawn_city(random, side, parts)
     };
-    report(&*call, "drawn towns", &drawn(city));
-    report(&*call, "the benchmark's town, other seeds", &drawn(town));
+    report(&call, "drawn towns", &drawn(city));
+    report(&call, "the benchmark's town, other seeds", &drawn(town));
     let own: Vec<_> = towns().iter().map(|(_, plan)| file_of(plan)).filter(|file| is_open(file)).collect();
-    report(&*call, "the benchmark's plans", &own);
-    report(&*call, "plans that are kept", &kept());
+    report(&call, "the benchmark's plans", &own);
+    report(&call, "plans that are kept", &kept());
 }

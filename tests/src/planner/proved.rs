@@ -3,8 +3,8 @@
 mod districts;
 
 use super::{
-    Answer, Call, Car, CarsAnswer, CarsCall, Change, Codec, Counter, DepartureCall, DistanceCall, Editor, Judge,
-    OpenPlan, Planner, Refusal, TreeCount,
+    Answer, Call, Car, CarsAnswer, CarsCall, Change, Codec, Counter, DeepCall, DepartureCall, DistanceCall, Editor,
+    Judge, OpenPlan, Planner, Refusal, TreeCount,
 };
 use crate::plan::{Arc, Departure, MOST_VERTICES};
 use postman::limits::{ANSWER_WORDS, OPEN_BYTES, RECORD_BYTES};
@@ -41,6 +41,12 @@ impl Planner for Proved {
 
     fn short_call(&self, plan: &[u8], sheet: &mut [u16]) -> Result<Answer, Refusal> {
         answered(|answer, multipliers| raw::short_call(plan, sheet, answer, multipliers))
+    }
+}
+
+impl DeepCall for Proved {
+    fn deep_call(&self, plan: &[u8], budget: u64, rounds: u32, sheet: &mut [u16]) -> Result<Answer, Refusal> {
+        answered(|answer, multipliers| raw::deep_call(plan, budget, rounds, sheet, answer, multipliers))
     }
 }
 
