@@ -279,6 +279,7 @@ fn constants_agree() {
         ("MOST_PAIRS", plan::MOST_PAIRS as u64),
         ("MOST_WINDOWS", plan::MOST_WINDOWS as u64),
         ("MOST_DISTRICTS", plan::MOST_DISTRICTS as u64),
+        ("MOST_ROUNDS", u64::from(plan::MOST_ROUNDS)),
         ("TURN_TREES", plan::TURN_TREES),
         ("LONGEST_FILE", plan::LONGEST_FILE as u64),
         ("SHEET_PLACES", plan::SHEET_PLACES as u64),
@@ -312,6 +313,7 @@ fn constants_agree() {
         ("REFUSED_MUST_SHUT", u64::from(refusal::MUST_SHUT)),
         ("REFUSED_NO_MARK", u64::from(refusal::NO_MARK)),
         ("REFUSED_FULL", u64::from(refusal::FULL)),
+        ("REFUSED_ROUNDS", u64::from(refusal::ROUNDS)),
     ] {
         assert_eq!(header.get(name), Some(&value), "{name}");
     }

@@ -215,12 +215,30 @@ fn yardstick_in_rounds() {
     deep("yardstick in rounds", &Yardstick, &Yardstick);
 }
 
-/// The library's deep call.
 #[cfg(feature = "proved")]
 #[test]
-fn proved_deep_call() {
+fn proved_in_rounds() {
     use postman_tests::planner::Proved;
-    deep("proved deep call", &Proved, &Proved);
+    deep("proved in rounds", &Proved, &Proved);
+}
+
+/// The deep call is its rounds, each a plan call, to the last place of the drive.
+#[cfg(feature = "proved")]
+#[test]
+fn proved_deep_call_is_its_rounds() {
+    use postman_tests::plan::SHEET_PLACES;
+    use postman_tests::{planner::Proved, yardstick::OverPlanCall};
+
+    for i in 0..rounds(200) {
+        let shape = if i % 4 == 0 { Shape::large } else { Shape::small };
+        let file = suite::random_case(seed() + i, shape, &Effort { trees: 1, ..Effort::LIGHT }).file;
+        for (budget, most) in [(1, 30), (3, 7), (1_000, 12)] {
+            let mut sheets = [vec![0; SHEET_PLACES], vec![0; SHEET_PLACES]];
+            let told = Proved.deep_call(&file, budget, most, &mut sheets[0]);
+            let over = OverPlanCall(Proved).deep_call(&file, budget, most, &mut sheets[1]);
+            assert_eq!((told, &sheets[0]), (over, &sheets[1]), "budget {budget}, {most} rounds, {file:02x?}");
+        }
+    }
 }
 
 /// The rounds over the library's plan call.

@@ -10,8 +10,12 @@ use postman_tests::oracle::{call_refusal, file_of};
 use postman_tests::plan::{Plan, HIGHEST_BUDGET, SHEET_PLACES};
 use postman_tests::planner::{Answer, DeepCall, Planner};
 use postman_tests::random::{setting, Random};
-use postman_tests::yardstick::Yardstick;
 use std::time::Instant;
+
+#[cfg(feature = "proved")]
+use postman_tests::planner::Proved as Measured;
+#[cfg(not(feature = "proved"))]
+use postman_tests::yardstick::Yardstick as Measured;
 
 const DRAWN: usize = 38;
 const ROUNDS: [u32; 4] = [10, 100, 300, 1_000];
@@ -19,7 +23,7 @@ const LONGEST: f64 = 60.0;
 
 /// The plan call at the highest budget.
 fn plain(file: &[u8]) -> Answer {
-    Yardstick.plan_call(file, HIGHEST_BUDGET, &mut vec![0; SHEET_PLACES]).expect("a good plan")
+    Measured.plan_call(file, HIGHEST_BUDGET, &mut vec![0; SHEET_PLACES]).expect("a good plan")
 }
 
 fn is_open(file: &[u8]) -> bool {
@@ -73,25 +77,15 @@ fn report(call: &dyn DeepCall, name: &str, files: &[Vec<u8>]) {
     println!("  the longest of the last calls took {longest:.2} s");
 }
 
-#[cfg(feature = "proved")]
-fn deep_call() -> impl DeepCall {
-    postman_tests::planner::Proved
-}
-
-#[cfg(not(feature = "proved"))]
-fn deep_call() -> impl DeepCall {
-    Yardstick
-}
-
 fn main() {
-    let call = deep_call();
+    let call: Box<dyn DeepCall> = Box::new(Measured);
     let city = |random: &mut Random| {
         let (side, parts) = (random.within(7..=8), random.within(7..=8));
         drawn_city(random, side, parts)
     };
-    report(&call, "drawn towns", &drawn(city));
-    report(&call, "the benchmark's town, other seeds", &drawn(town));
+    report(&*call, "drawn towns", &drawn(city));
+    report(&*call, "the benchmark's town, other seeds", &drawn(town));
     let own: Vec<_> = towns().iter().map(|(_, plan)| file_of(plan)).filter(|file| is_open(file)).collect();
-    report(&call, "the benchmark's plans", &own);
-    report(&call, "plans that are kept", &kept());
+    report(&*call, "the benchmark's plans", &own);
+    report(&*call, "plans that are kept", &kept());
 }

@@ -44,12 +44,6 @@ impl Planner for Proved {
     }
 }
 
-impl DeepCall for Proved {
-    fn deep_call(&self, plan: &[u8], budget: u64, rounds: u32, sheet: &mut [u16]) -> Result<Answer, Refusal> {
-        answered(|answer, multipliers| raw::deep_call(plan, budget, rounds, sheet, answer, multipliers))
-    }
-}
-
 impl DepartureCall for Proved {
     fn plan_call_at(
         &self,
@@ -63,6 +57,12 @@ impl DepartureCall for Proved {
         answered(|answer, multipliers| {
             raw::plan_call_at(plan, budget, windows, weekday, minute, sheet, answer, multipliers)
         })
+    }
+}
+
+impl DeepCall for Proved {
+    fn deep_call(&self, plan: &[u8], budget: u64, rounds: u32, sheet: &mut [u16]) -> Result<Answer, Refusal> {
+        answered(|answer, multipliers| raw::deep_call(plan, budget, rounds, sheet, answer, multipliers))
     }
 }
 
@@ -174,6 +174,7 @@ mod tests {
         let file = [0x30, 0x40, 0x20]; // edition 3
         let edition = postman::Refusal::Edition;
         assert_eq!(raw::plan_call(&file, 1, &mut sheet, &mut answer, &mut multipliers), Err(edition));
+        assert_eq!(raw::deep_call(&file, 1, 1, &mut sheet, &mut answer, &mut multipliers), Err(edition));
         assert_eq!(raw::short_call(&file, &mut sheet, &mut answer, &mut multipliers), Err(edition));
         assert_eq!(raw::read_plan(&file, &mut record), Err(edition));
         let mut others = (sheet, answer, multipliers);
