@@ -68,7 +68,7 @@ class Declarations(unittest.TestCase):
 
     def test_functions_agree(self) -> None:
         self.assertEqual(self.expected(self.header), DECLARATIONS)
-        self.assertEqual(len(DECLARATIONS), 19)
+        self.assertEqual(len(DECLARATIONS), 20)
 
     def test_they_are_declared_to_ctypes(self) -> None:
         for name, (result, parameters) in DECLARATIONS.items():
@@ -105,9 +105,9 @@ class Declarations(unittest.TestCase):
         self.assertEqual({of_header, of_project, library.postman_version().decode()}, {postman.__version__})
 
     def test_trade_words_are_the_librarys(self) -> None:
-        for number in range(1, 23):
+        for number in range(1, 24):
             self.assertEqual(library.postman_refusal_word(number).decode(), Refusal(number).word)
-        for number in (0, 23, 2**32 - 1):
+        for number in (0, 24, 2**32 - 1):
             self.assertEqual(library.postman_refusal_word(number), b"")
 
 

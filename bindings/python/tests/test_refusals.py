@@ -15,6 +15,7 @@ from postman import (
     Refusal,
     Standing,
     Window,
+    deep_call,
     distances,
     judge,
     plan_call,
@@ -64,25 +65,26 @@ MET = {
     20: lambda: plan_call_at(CASE_A, 1, [Window(0, 0, 0, 1)], Departure(0, 0)),
     21: lambda: OpenPlan.open(CASE_A).return_to(0),
     22: full,
+    23: lambda: deep_call(CASE_A, 1, 0),
 }
 
 
 class Refusals(unittest.TestCase):
     def test_each_can_be_met(self) -> None:
-        self.assertEqual(list(MET), list(range(1, 23)))
+        self.assertEqual(list(MET), list(range(1, 24)))
         for number, call in MET.items():
             with self.subTest(number), self.assertRaises(Refusal) as caught:
                 call()
             self.assertEqual(caught.exception.number, number)
 
     def test_each_says_what_it_is_and_what_to_do(self) -> None:
-        refusals = [Refusal(number) for number in range(1, 23)]
+        refusals = [Refusal(number) for number in range(1, 24)]
         for refusal in refusals:
             self.assertEqual(str(refusal), f"refusal {refusal.number}, {refusal.word}: {refusal.sentence}")
             self.assertTrue(refusal.advice[0].isupper() and refusal.advice.endswith("."), refusal)
             self.assertFalse(refusal.sentence[0].isupper() or refusal.sentence.endswith("."), refusal)
         for words in ("word", "sentence", "advice"):
-            self.assertEqual(len({getattr(refusal, words) for refusal in refusals}), 22)
+            self.assertEqual(len({getattr(refusal, words) for refusal in refusals}), 23)
 
     def test_it_goes_by_its_number(self) -> None:
         refusal = Refusal(Refusal.CUT_OFF)
@@ -93,7 +95,7 @@ class Refusals(unittest.TestCase):
         self.assertEqual(repr(refusal), "Refusal(12)")
 
     def test_other_numbers_are_none(self) -> None:
-        for number in (0, 23, -12):
+        for number in (0, 24, -12):
             with self.assertRaises(ValueError):
                 Refusal(number)
 
