@@ -12,7 +12,7 @@ use Rattle.postman.specs.Refusal.{answer}
 use Rattle.postman.specs.PlanCall.{summary, fields}
 use Rattle.postman.specs.Windows.{Departure, callRefusalAt}
 use Rattle.refusal.specs.declared.Refusal.{Refusal}
-use Rattle.refusal.specs.declared.Refusal.the-variants.{Torn, Edition, Extent, Margin, OffSheet, Unpriced, Standing, ShortSheet, Budget, Idle, Scattered, CutOff, Repeated, Foreign, Unjoined, Missed, StrayPair, BadMarks, BadWindow, MustShut, NoMark, Full}
+use Rattle.refusal.specs.declared.Refusal.the-variants.{Torn, Edition, Extent, Margin, OffSheet, Unpriced, Standing, ShortSheet, Budget, Idle, Scattered, CutOff, Repeated, Foreign, Unjoined, Missed, StrayPair, BadMarks, BadWindow, MustShut, NoMark, Full, Rounds}
 use Rattle.refusal.specs.declared.Verdict.{Verdict}
 use Rattle.refusal.specs.declared.Verdict.the-variants.{Accepted, Refused}
 use Rattle.refusal.specs.Verdict.{refusalNumber, verdictNumber}
@@ -49,7 +49,8 @@ refusalOf n =
     (cond (eqb n 19) BadWindow
     (cond (eqb n 20) MustShut
     (cond (eqb n 21) NoMark
-    Full))))))))))))))))))))
+    (cond (eqb n 22) Full
+    Rounds)))))))))))))))))))))
 
 number-back : (r : Refusal) → refusalOf (refusalNumber r) ≡ r
 number-back Torn = refl
@@ -74,6 +75,7 @@ number-back BadWindow = refl
 number-back MustShut = refl
 number-back NoMark = refl
 number-back Full = refl
+number-back Rounds = refl
 
 same-refusal : (r s : Refusal) → refusalNumber r ≡ refusalNumber s → r ≡ s
 same-refusal r s e = sym (number-back r) ∙ ap refusalOf e ∙ number-back s
