@@ -1,4 +1,5 @@
 // One step of the ascent.
+// Steps for other crates, which ask something of their caller.
 use crate::relax::settle;
 use ascent_tree::offers::offers;
 use ascent_tree::tree::bit;

@@ -1,4 +1,5 @@
 // The cheapest pair for each two components.
+// Steps for other crates, which ask something of their caller.
 use integers::wide;
 use pair_costs::pairs::reduced;
 use residual_search::entries::vertex;

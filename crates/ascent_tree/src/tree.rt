@@ -1,4 +1,5 @@
 // A cheapest tree, by sets of components, and a step along its links.
+// Steps for other crates, which ask something of their caller.
 use arborescence::reach::single;
 use integers::wide;
 use multiplier_steps::steps::capped;

@@ -1,4 +1,5 @@
 // A district's turn, over its plan.
+// Steps for other crates, which ask something of their caller.
 use crate::held::first_of;
 use crate::held::is_holding;
 use balance::state::Balance;

@@ -1,4 +1,5 @@
 // A plan file by value.
+// Steps for other crates, which ask something of their caller.
 use crate::Held;
 use crate::Rewritten;
 use plan::Plan;

@@ -1,5 +1,6 @@
 // A machine of districts as bytes: eight districts one after the other, the front of the line first, and the number of those that wait. A district is its place, a byte; its file's length, eight bytes, and
 // 1,475 bytes; its budget, four; its least cost, eight; eight tails and eight heads; and the trees tried, four. Whatever these bytes are, they are a machine.
+// Steps for other crates, which ask something of their caller.
 ghost use mathlib.Core.Path.{_≡_};
 ghost use mathlib.Core.List.{_++_, map, flatMap};
 ghost use Prim.Native.Nat.{_+_, _*_, _≤_};

@@ -1,4 +1,5 @@
 // The answer of an entry and of a turn, handed over.
+// Steps for other crates, which ask something of their caller.
 ghost use Prim.Native.Nat.{_≤_};
 ghost use lib.ListN.{length};
 ghost use Rattle.machine_bytes.specs.MachineBytes.{districtsBytes};

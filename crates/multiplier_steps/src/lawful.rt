@@ -1,4 +1,5 @@
 // The test of multipliers.
+// Steps for other crates, which ask something of their caller.
 use integers::wide;
 use pair_costs::pairs::reduced;
 use residual_search::entries::vertex;

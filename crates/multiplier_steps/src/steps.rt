@@ -1,4 +1,5 @@
 // Multipliers between the steps of the ascent. They are signed; none lies further from 0 than 2 to the 40, so that no sum overflows.
+// Steps for other crates, which ask something of their caller.
 use integers::wide;
 use residual_search::entries::vertex;
 ghost use mathlib.Core.Path.{_≡_};

@@ -1,4 +1,5 @@
 // What the trees are tried from: the state of the required arcs.
+// Steps for other crates, which ask something of their caller.
 use balance::state::Balance;
 use plan::Plan;
 ghost use mathlib.Core.Path.{_≡_};

@@ -1,4 +1,5 @@
 // A(u): the least reduced cost of a pair for each two components, and the cheapest arborescence over these.
+// Steps for other crates, which ask something of their caller.
 use cheapest_tree::cheapest;
 use integers::wide;
 ghost use mathlib.Core.Path.{_≡_};

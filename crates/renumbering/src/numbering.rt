@@ -1,4 +1,5 @@
 // Numberings by value.
+// Steps for other crates, which ask something of their caller.
 use integers::wide;
 ghost use mathlib.Core.Path.{_≡_};
 ghost use Prim.Native.Nat.{_<_};

@@ -1,4 +1,5 @@
 // What a plan call is made with under a numbering: the plan, its tables of distances and weights; and the multipliers carried back.
+// Steps for other crates, which ask something of their caller.
 use integers::wide;
 use plan::Arc;
 use plan::Plan;

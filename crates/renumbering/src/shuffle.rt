@@ -1,4 +1,5 @@
 // Numbers exchanged at random.
+// Steps for other crates, which ask something of their caller.
 use crate::numbering::Numbering;
 use crate::numbering::exchange;
 ghost use mathlib.Core.Path.{_≡_};

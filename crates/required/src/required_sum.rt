@@ -1,4 +1,5 @@
 // Sums over the required arcs: what they cost, and their imbalance at each vertex.
+// Steps for other crates, which ask something of their caller.
 use plan::Arc;
 use plan::Plan;
 ghost use mathlib.Core.Path.{_≡_};

@@ -1,4 +1,5 @@
 // The vertices at the ends of required arcs.
+// Steps for other crates, which ask something of their caller.
 use plan::Arc;
 use plan::Plan;
 ghost use mathlib.Core.Path.{_≡_};

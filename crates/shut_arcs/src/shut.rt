@@ -1,4 +1,5 @@
 // The arcs that are shut at a departure, and the plan with these arcs closed.
+// Steps for other crates, which ask something of their caller.
 use plan::Arc;
 use plan::Plan;
 ghost use mathlib.Core.Path.{_≡_};

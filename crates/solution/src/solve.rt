@@ -1,4 +1,5 @@
 // The answer of a plan that is not refused.
+// Steps for other crates, which ask something of their caller.
 use crate::Planned;
 use crate::lay::lay;
 use crate::trees::best;

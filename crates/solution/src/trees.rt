@@ -1,4 +1,5 @@
 // The trees of a plan that is not refused, in order, at most as many as the budget.
+// Steps for other crates, which ask something of their caller.
 use balance::state::Balance;
 use branches::branch::Branch;
 use branches::progress::Progress;
