@@ -358,7 +358,7 @@ fn words_agree() {
     let c = words_of_c(&read(&root().join("bindings/c/words.c")));
     let rust = words_of_rust(&read(&root().join("bindings/rust/src/refusal.rs")));
     assert_eq!((c[0].as_str(), &c[1..]), ("", &rust[..]));
-    assert_eq!(rust.len(), 22);
+    assert_eq!(rust.len(), 23);
 }
 
 // ---- the test can fail

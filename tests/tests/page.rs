@@ -7,10 +7,11 @@ use std::path::{Path, PathBuf};
 use std::process::Command;
 
 /// The page, in its order.
-const PAGE: [&str; 12] = [
+const PAGE: [&str; 13] = [
     "Demands",
     "PlanFile",
     "PlanCall",
+    "DeepCall",
     "Departure",
     "TwoCars",
     "TreeCount",
@@ -182,7 +183,8 @@ fn quoted(text: &str) -> Vec<&str> {
 
 #[test]
 fn the_calls_of_the_page_ask_nothing() {
-    let exported = functions("exports");
+    let mut exported = functions("exports");
+    exported.extend(functions("state_exports"));
     let mut named = BTreeSet::new();
     for name in PAGE {
         let text = page(name);

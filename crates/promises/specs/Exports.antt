@@ -25,10 +25,12 @@ use Rattle.answers.specs.FileNumber.{packed}
 use Rattle.answers.specs.Count.{countOf}
 use Rattle.answers.specs.Answer.{IsHandedOver}
 use Rattle.exports.specs.Codec.{lentAfter, lentPlan}
+use Rattle.exports.specs.Call.{IsExportedDeepCall}
 use Rattle.exports.specs.Cars.{Lent, IsExportedCars}
 use Rattle.promises.specs.Slices.{Slices, HandsOver, IsCalled, IsCalledAt, HasRoom, costIn, driveIn, LeaveOneAnswer, BuysLent}
 use Rattle.promises.specs.CarNumber.{firstNumber, secondNumber}
 use Rattle.promises.specs.PlanCall.{Call}
+use Rattle.promises.specs.DeepCall.{Deep}
 use Rattle.promises.specs.Departure.{CallAt}
 use Rattle.promises.specs.TreeCount.{Count}
 use Rattle.promises.specs.Distances.{Page}
@@ -84,6 +86,13 @@ pub record LentCallAt (bytes : List ℕ) (budget : ℕ) (windows : List ℕ) (d 
   pub number : ℤ
   pub contract : IsCalledAt bytes budget windows d old after number
 
+-- `postman_deep_call`.
+pub record LentDeep (bytes : List ℕ) (budget rounds : ℕ) (old : Slices) : Type 0 where
+  pub after : Slices
+  pub number : ℤ
+  pub contract : IsExportedDeepCall bytes budget rounds (old .sheet) (after .sheet) (old .words) (after .words) (old .multipliers)
+      (after .multipliers) number
+
 -- They hand over what the plan call answers: 0 or minus the refusal's number; words, multipliers and the sheet, which a refusal leaves as
 -- they were.
 abbrev pub PlanCallHandsOver : Type 0
@@ -94,6 +103,10 @@ abbrev pub DepartureHandsOver : Type 0
 DepartureHandsOver = (bytes : List ℕ) (budget : ℕ) (windows : List ℕ) (d : Departure) (old : Slices)
     (l : LentCallAt bytes budget windows d old)
     → (c : CallAt bytes budget windows d (old .sheet)) × (c .after ≡ l .after .sheet) × HandsOver (c .answer) old (l .after) (l .number)
+
+abbrev pub DeepCallHandsOver : Type 0
+DeepCallHandsOver = (bytes : List ℕ) (budget rounds : ℕ) (old : Slices) (l : LentDeep bytes budget rounds old)
+    → (c : Deep bytes budget rounds (old .sheet)) × (c .after ≡ l .after .sheet) × HandsOver (c .answer) old (l .after) (l .number)
 
 -- No windows: what the plan call leaves.
 abbrev pub NoWindows : Type 0

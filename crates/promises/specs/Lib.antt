@@ -2,6 +2,7 @@
 pub mod Demands
 pub mod PlanFile
 pub mod PlanCall
+pub mod DeepCall
 pub mod Departure
 pub mod TwoCars
 pub mod TreeCount

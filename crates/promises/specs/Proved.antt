@@ -1,6 +1,7 @@
 -- Each statement of the page has its line here.
 pub mod PlanFile
 pub mod PlanCall
+pub mod DeepCall
 pub mod Departure
 pub mod TwoCars
 pub mod TreeCount

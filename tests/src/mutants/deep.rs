@@ -103,13 +103,13 @@ wrong_rounds! {
         }
     }
 
-    MultipliersNotCarriedBack violates [Feasible, Tight, Elsewhere, FloorOfSomeRoot] {
+    MultipliersNotCarriedBack violates [Feasible, Elsewhere, FloorOfSomeRoot] {
         fn carried(&self, u: &[i64; MOST_VERTICES], _order: &Order) -> [i64; MOST_VERTICES] {
             *u
         }
     }
 
-    MultipliersCarriedTheOtherWay violates [Feasible, Tight, Elsewhere] {
+    MultipliersCarriedTheOtherWay violates [Feasible, Elsewhere] {
         fn carried(&self, u: &[i64; MOST_VERTICES], order: &Order) -> [i64; MOST_VERTICES] {
             let mut carried = [0; MOST_VERTICES];
             order.iter().enumerate().for_each(|(i, &v)| carried[i] = u[v]);

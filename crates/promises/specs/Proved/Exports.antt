@@ -6,7 +6,7 @@ use Rattle.postman.specs.TreeCount.{TreeCount}
 use Rattle.answers.specs.Number.{oneNumber}
 use Rattle.answers.specs.Count.{countOf}
 use Rattle.exports.specs.Codec.{lentPlan}
-use Rattle.promises.specs.Exports.{ReadRefused, ReadGiven, WriteRefused, WriteGiven, PlanCallHandsOver, DepartureHandsOver, NoWindows, RaisedBudget, RaisedBudgetAt, CarsHandOver, CountHandsOver, PageHandsOver, JudgeHandsOver, WrittenPasses, WrittenPassesAt}
+use Rattle.promises.specs.Exports.{ReadRefused, ReadGiven, WriteRefused, WriteGiven, PlanCallHandsOver, DepartureHandsOver, DeepCallHandsOver, NoWindows, RaisedBudget, RaisedBudgetAt, CarsHandOver, CountHandsOver, PageHandsOver, JudgeHandsOver, WrittenPasses, WrittenPassesAt}
 use Rattle.promises.specs.WindowsTheorem.{no-windows-lent}
 use Rattle.promises.specs.BudgetTheorem.{raised-budget-lent, raised-budget-at-lent}
 use Rattle.promises.specs.CarsTheorem.{first-answered, second-answered}
@@ -32,6 +32,9 @@ plan-call bytes budget old l = let x = l .contract in (record { after = l .after
 
 pub departure : DepartureHandsOver
 departure bytes budget windows d old l = let x = l .contract in (record { after = l .after .sheet; answer = x .answer; contract = x .called }, refl, x .handed-over)
+
+pub deep-call : DeepCallHandsOver
+deep-call bytes budget rounds old l = let x = l .contract in (record { after = l .after .sheet; answer = x .answer; contract = x .called }, refl, x .handed-over)
 
 pub no-windows : NoWindows
 no-windows bytes budget d old old′ x y good s = no-windows-lent bytes budget d good old _ old′ _ _ _ s (x .contract) (y .contract)
