@@ -22,7 +22,6 @@ use Rattle.solution.specs.declared.Planned.{Planned}
 use Rattle.solution.specs.Planned.{multipliersOf}
 use Rattle.deep_call.specs.Refusals.{earlierConditionsIn, deepRefusal}
 use Rattle.deep_call.specs.Contract.{IsDeepCall}
-use Rattle.deep_call.specs.Compared.{SameButWhole, NoWorse, Deepens}
 use Rattle.promises.specs.Demands.{Accepted}
 use Rattle.promises.specs.PlanCall.{Call}
 
@@ -75,17 +74,22 @@ Whole = (bytes : List ℕ) (budget rounds : ℕ) (sheet : List ℕ) (c : Deep by
 -- One round is the plan call, but for what whole says.
 abbrev pub OneRound : Type 0
 OneRound = (bytes : List ℕ) (budget : ℕ) (sheet : List ℕ) (c : Deep bytes budget 1 sheet) (d : Call bytes budget sheet)
-    → SameButWhole (c .answer) (d .answer) × (c .after ≡ d .after)
+    → (verdictNumber (c .answer .verdict) ≡ verdictNumber (d .answer .verdict)) × (c .answer .places ≡ d .answer .places)
+    × (c .answer .cost ≡ d .answer .cost) × (c .answer .floor ≡ d .answer .floor) × (c .answer .trees ≡ d .answer .trees)
+    × (c .answer .parts ≡ d .answer .parts) × (c .answer .multipliers ≡ d .answer .multipliers) × (c .after ≡ d .after)
 
--- Cost no more and floor no less than the plan call's with the same budget; and more rounds are never worse.
+-- Cost no more and floor no less than the plan call's with the same budget.
 abbrev pub BeyondPlanCall : Type 0
 BeyondPlanCall = (bytes : List ℕ) (budget rounds : ℕ) (sheet sheet′ : List ℕ) (c : Call bytes budget sheet)
-    (d : Deep bytes budget rounds sheet′) → Accepted (c .answer) → Accepted (d .answer) → NoWorse (c .answer) (d .answer)
+    (d : Deep bytes budget rounds sheet′) → Accepted (c .answer) → Accepted (d .answer)
+    → (d .answer .cost ≤ c .answer .cost) × (c .answer .floor ≤ℤ d .answer .floor)
 
+-- More rounds are never worse; once floor and cost have met they leave the drive as it is.
 abbrev pub MoreRounds : Type 0
 MoreRounds = (bytes : List ℕ) (budget rounds rounds′ : ℕ) (sheet sheet′ : List ℕ) (c : Deep bytes budget rounds sheet)
     (d : Deep bytes budget rounds′ sheet′) → rounds ≤ rounds′ → Accepted (c .answer) → Accepted (d .answer)
-    → Deepens (c .answer) (d .answer) (c .after) (d .after)
+    → (d .answer .cost ≤ c .answer .cost) × (c .answer .floor ≤ℤ d .answer .floor)
+    × (T (c .answer .whole) → take (d .answer .places) (d .after) ≡ take (c .answer .places) (c .after))
 
 -- "Every drive the planner writes must pass with the cost it printed."
 abbrev pub WrittenPasses : Type 0

@@ -41,15 +41,20 @@ pub whole : Whole
 whole bytes budget rounds sheet c good = let a = answered c good in (a .whole-says, a .whole-least)
 
 pub first-round : OneRound
-first-round bytes budget sheet c d = one-round bytes budget sheet (c .after) (d .after) (c .answer) (d .answer) (c .contract) (d .contract)
+first-round bytes budget sheet c d =
+    let x = one-round bytes budget sheet (c .after) (d .after) (c .answer) (d .answer) (c .contract) (d .contract) in
+    let s = x .0 in
+    (s .refusal, s .places, s .cost, s .floor, s .trees, s .parts, s .multipliers, x .1)
 
 pub no-worse : BeyondPlanCall
 no-worse bytes budget rounds sheet sheet′ c d good good′ =
-    beyond-plan-call bytes budget rounds sheet (c .after) sheet′ (d .after) (c .answer) (d .answer) (c .contract) (d .contract) good good′
+    let x = beyond-plan-call bytes budget rounds sheet (c .after) sheet′ (d .after) (c .answer) (d .answer) (c .contract) (d .contract) good good′ in
+    (x .no-dearer, x .no-lower)
 
 pub deeper : MoreRounds
 deeper bytes budget rounds rounds′ sheet sheet′ c d more good good′ =
-    more-rounds bytes budget rounds rounds′ more sheet (c .after) sheet′ (d .after) (c .answer) (d .answer) (c .contract) (d .contract) good good′
+    let x = more-rounds bytes budget rounds rounds′ more sheet (c .after) sheet′ (d .after) (c .answer) (d .answer) (c .contract) (d .contract) good good′ in
+    (x .no-worse .no-dearer, x .no-worse .no-lower, x .closed-drive)
 
 pub written-passes : WrittenPasses
 written-passes bytes budget rounds sheet c good = passes-the-judge bytes budget rounds sheet (c .after) (c .answer) (c .contract) good
