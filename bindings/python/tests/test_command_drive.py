@@ -4,13 +4,14 @@ import csv
 import io
 import json
 import unittest
+from types import SimpleNamespace
 
 from command import TOWN, TOWN_FOLDER, postman
 from repository import ROOT, kept_plans
 from test_streets_list import Folder
 
 from postman import Answer, plan_call, plan_call_at, streets, tree_count
-from postman.command.deepening import deepest
+from postman.command.deepening import deepest, in_rounds
 from postman.command.directions import advice
 from postman.streets.windows_file import departure_of, read_windows
 
@@ -176,6 +177,37 @@ class Deepening(unittest.TestCase):
     def test_nothing_is_left_to_find(self):
         self.assertEqual(self.budgets(0, 10_000), [10_000])
         self.assertEqual(self.budgets(0, 50_000), [10_000, 100_000])
+
+
+class Rounds(unittest.TestCase):
+    def rounds(self, seconds_a_round: float, closed_by: int) -> list[int]:
+        """The rounds asked for after a plan call, where each takes so long and the gap closes with so many."""
+        asked, now = [], [seconds_a_round]
+
+        def ask(rounds: int) -> SimpleNamespace:
+            asked.append(rounds)
+            now[0] += rounds * seconds_a_round
+            return SimpleNamespace(cost=9, floor=9 if rounds >= closed_by else 8, rounds=rounds)
+
+        last = in_rounds(SimpleNamespace(cost=9, floor=8), ask, 0.0, clock=lambda: now[0])
+        self.assertEqual(last and last.rounds, asked[-1] if asked else None)
+        return asked
+
+    def test_as_many_as_half_a_second_allows(self):
+        self.assertEqual(self.rounds(1e-5, 10**9), [8, 64, 512, 1_000])
+        self.assertEqual(self.rounds(1e-3, 10**9), [8, 64])
+        self.assertEqual(self.rounds(1e-2, 10**9), [8])
+        self.assertEqual(self.rounds(1e-1, 10**9), [])
+
+    def test_none_once_floor_and_cost_meet(self):
+        self.assertEqual(self.rounds(1e-5, 60), [8, 64])
+
+    def test_the_drive_goes_on_in_rounds(self):
+        large = ROOT / "examples" / "large_town.plan"
+        done = postman("drive", str(large))
+        plain = postman("drive", str(large), "--budget", "1000000")
+        cost = [int(run.out.splitlines()[-6].split()[1].replace(",", "")) for run in (done, plain)]
+        self.assertLessEqual(*cost)
 
 
 class Budgets(unittest.TestCase):

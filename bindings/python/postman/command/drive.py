@@ -2,21 +2,23 @@
 star where a street under revision is checked; then the cost, the floor that no
 drive can undercut, the gap between them, and how many trees were tried.
 
-Without a budget it goes as deep as half a second allows. With rounds it looks
-elsewhere too: each round numbers the corners anew or tries more trees."""
+Without a budget it goes as deep as half a second allows. Rounds look elsewhere
+too: each numbers the corners anew or tries more trees."""
 
 from __future__ import annotations
 
 from argparse import ArgumentParser, ArgumentTypeError, Namespace
+from time import process_time
 
+from ..answer import Answer
 from ..limits import HIGHEST_BUDGET
 from ..streets.steps import steps_of
-from .deepening import deepest, no_gap
+from .deepening import deepest, in_rounds, no_gap
 from .directions import as_csv, as_object, print_directions, print_figures
 from .options import add_budget, add_departure, add_formats, add_list, whole_number
 from .output import Output
 from .pictures import add_picture, write_picture
-from .question import asked
+from .question import Question, asked
 
 EXAMPLE = """\
   postman drive town/streets.csv
@@ -50,12 +52,23 @@ def origin(text: str) -> tuple[float, float]:
     return lat, lon
 
 
+def in_half_a_second(question: Question) -> tuple[Answer, bool]:
+    """The deepest answer that the time allows, and whether it is one of rounds, which take no market days."""
+    started = process_time()
+    answer = deepest(question.ask, no_gap)
+    if no_gap(answer) or answer.trees < HIGHEST_BUDGET or question.departure is not None:
+        return answer, False
+    found = in_rounds(answer, lambda rounds: question.ask_deep(HIGHEST_BUDGET, rounds), started)
+    return (answer, False) if found is None else (found, True)
+
+
 def run(args: Namespace, output: Output) -> int:
     question = asked(args)
-    if args.rounds is not None:
+    deep = args.rounds is not None
+    if deep:
         answer = question.ask_deep(HIGHEST_BUDGET if args.budget is None else args.budget, args.rounds)
     elif args.budget is None:
-        answer = deepest(question.ask, no_gap)
+        answer, deep = in_half_a_second(question)
     else:
         answer = question.ask(args.budget)
     streets = question.streets
@@ -82,5 +95,5 @@ def run(args: Namespace, output: Output) -> int:
         output.raw(as_csv(streets, steps_of(streets, answer.drive)))
     else:
         print_directions(output, streets, steps_of(streets, answer.drive))
-        print_figures(output, answer, question.trees(), deep=args.rounds is not None)
+        print_figures(output, answer, question.trees(), deep=deep)
     return 0
