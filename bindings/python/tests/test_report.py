@@ -11,7 +11,7 @@ from pages import Page
 from repository import ROOT, kept_plans
 from test_streets_list import Folder
 
-from postman import Answer, Departure, Refusal, Window, plan_call, plan_call_at, streets, tree_count
+from postman import Answer, Departure, Refusal, Window, deep_call, plan_call, plan_call_at, streets, tree_count
 from postman.picture.passes import Purpose, passes
 from postman.picture.percent import percent
 from postman.report import Job, report
@@ -215,6 +215,26 @@ class Command(Folder):
         answer = plan_call(streets.open_list(TOWN).file, 1000)
         self.assertEqual(page.named("cost"), f"{answer.cost:,}")
         self.assertEqual(page.all("h1")[0][1], "Alderwick")
+
+    def test_in_rounds(self):
+        done = postman("report", TOWN, "--budget", "1000", "--rounds", "20", "--windows", WINDOWS)
+        page = Page(done.out)
+        answer = deep_call(streets.open_list(TOWN).file, 1000, 20)
+        self.assertEqual([page.named("cost"), page.named("floor")], [f"{answer.cost:,}", f"{answer.floor:,}"])
+        self.assertIn(f"{answer.trees:,}, in all rounds", page.named("figures"))
+        row = "".join(f"<td class=number>{cell}</td>" for cell in ("in rounds", f"{answer.cost:,}", f"{answer.floor:,}"))
+        self.assertIn(f"<tr>{row}", done.out)
+        self.assertIn("without rounds", page.named("market-days"))
+
+    def test_rounds_and_a_departure_do_not_go_together(self):
+        done = postman("report", TOWN, "--rounds", "20", "--windows", WINDOWS, "--at", "sun 12:00")
+        self.assertEqual(done.status, 2)
+        self.assertIn("--rounds and --at do not go together", done.err)
+
+    def test_no_dearer_than_the_plan_call(self):
+        large = ROOT / "examples" / "large_town.plan"
+        cost = int(Page(postman("report", str(large)).out).named("cost").replace(",", ""))
+        self.assertLessEqual(cost, plan_call(large.read_bytes(), 1_000_000).cost)
 
     def test_standard_output_and_market_days(self):
         done = postman("report", TOWN, "--windows", WINDOWS, "-q")

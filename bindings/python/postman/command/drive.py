@@ -8,17 +8,13 @@ too: each numbers the corners anew or tries more trees."""
 from __future__ import annotations
 
 from argparse import ArgumentParser, ArgumentTypeError, Namespace
-from time import process_time
 
-from ..answer import Answer
-from ..limits import HIGHEST_BUDGET
 from ..streets.steps import steps_of
-from .deepening import deepest, in_rounds, no_gap
 from .directions import as_csv, as_object, print_directions, print_figures
-from .options import add_budget, add_departure, add_formats, add_list, whole_number
+from .options import add_departure, add_formats, add_list, add_rounds
 from .output import Output
 from .pictures import add_picture, write_picture
-from .question import Question, asked
+from .question import asked
 
 EXAMPLE = """\
   postman drive town/streets.csv
@@ -30,10 +26,7 @@ EXAMPLE = """\
 
 def add_arguments(parser: ArgumentParser) -> None:
     add_list(parser)
-    add_budget(parser, "as many as half a second allows; with --rounds 1000000")
-    parser.add_argument(
-        "--rounds", metavar="R", type=whole_number, help="look elsewhere too, in so many rounds, 1 to 1000"
-    )
+    add_rounds(parser)
     add_departure(parser)
     add_formats(parser, "json", "csv", "geojson", "gpx")
     add_picture(parser, "the drive")
@@ -52,25 +45,9 @@ def origin(text: str) -> tuple[float, float]:
     return lat, lon
 
 
-def in_half_a_second(question: Question) -> tuple[Answer, bool]:
-    """The deepest answer that the time allows, and whether it is one of rounds, which take no market days."""
-    started = process_time()
-    answer = deepest(question.ask, no_gap)
-    if no_gap(answer) or answer.trees < HIGHEST_BUDGET or question.departure is not None:
-        return answer, False
-    found = in_rounds(answer, lambda rounds: question.ask_deep(HIGHEST_BUDGET, rounds), started)
-    return (answer, False) if found is None else (found, True)
-
-
 def run(args: Namespace, output: Output) -> int:
     question = asked(args)
-    deep = args.rounds is not None
-    if deep:
-        answer = question.ask_deep(HIGHEST_BUDGET if args.budget is None else args.budget, args.rounds)
-    elif args.budget is None:
-        answer, deep = in_half_a_second(question)
-    else:
-        answer = question.ask(args.budget)
+    answer, deep = question.answered(args.budget, args.rounds)
     streets = question.streets
     write_picture(output, args.picture, lambda picture: picture.drive(streets, answer, question.shut))
     if args.format in ("geojson", "gpx"):

@@ -49,6 +49,14 @@ def add_budget(parser: ArgumentParser, default: str) -> None:
     )
 
 
+def add_rounds(parser: ArgumentParser) -> None:
+    """Budget and rounds, for a drive that goes as deep as a time allows."""
+    add_budget(parser, "as many as half a second allows; with --rounds 1000000")
+    parser.add_argument(
+        "--rounds", metavar="R", type=whole_number, help="look elsewhere too, in so many rounds, 1 to 1000"
+    )
+
+
 def add_departure(parser: ArgumentParser) -> None:
     parser.add_argument("--windows", metavar="CSV", help="when streets are shut: street, day, start, end")
     parser.add_argument("--at", metavar="WHEN", type=departure, help='when the drive begins, such as "tue 09:30"')

@@ -3,14 +3,17 @@
 from __future__ import annotations
 
 from argparse import Namespace
+from time import process_time
 from typing import TYPE_CHECKING
 
 from ..answer import Answer
 from ..calls import deep_call, plan_call, plan_call_at, tree_count
+from ..limits import HIGHEST_BUDGET
 from ..plan import Plan
 from ..refusal import Refusal
 from ..streets import StreetList
 from ..windows import Departure
+from .deepening import deepest, in_rounds, no_gap
 from .options import WrongUsage, opened
 from .refused import explained
 
@@ -48,6 +51,21 @@ class Question:
             raise WrongUsage("--rounds and --at do not go together: the deep call takes no windows")
         with explained(self.streets, self.explain):
             return deep_call(self.file, budget, rounds)
+
+    def answered(self, budget: int | None, rounds: int | None) -> tuple[Answer, bool]:
+        """The answer at a budget and in rounds, as they are asked for, and whether it is one of rounds."""
+        if rounds is not None:
+            return self.ask_deep(HIGHEST_BUDGET if budget is None else budget, rounds), True
+        return self.in_half_a_second() if budget is None else (self.ask(budget), False)
+
+    def in_half_a_second(self) -> tuple[Answer, bool]:
+        """The deepest answer that the time allows, and whether it is one of rounds, which take no market days."""
+        started = process_time()
+        answer = deepest(self.ask, no_gap)
+        if no_gap(answer) or answer.trees < HIGHEST_BUDGET or self.departure is not None:
+            return answer, False
+        found = in_rounds(answer, lambda rounds: self.ask_deep(HIGHEST_BUDGET, rounds), started)
+        return (answer, False) if found is None else (found, True)
 
     def trees(self) -> int | None:
         """The number of trees, or None above what is counted."""

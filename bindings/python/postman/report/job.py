@@ -16,7 +16,8 @@ from .market_days import Spell
 
 @dataclass(frozen=True)
 class Job:
-    """A list with its answer. `trees` is the number of trees, None where it is above what is counted."""
+    """A list with its answer. `trees` is the number of trees, None where it is above what is counted; `deep` says that
+    the answer is one of rounds."""
 
     streets: StreetList
     answer: Answer
@@ -25,6 +26,7 @@ class Job:
     windows: tuple[TypedWindow, ...] = ()
     departure: Departure | None = None
     spells: Sequence[Spell] = ()
+    deep: bool = False
     title: str = ""
     made: date | None = None
 

@@ -50,7 +50,7 @@ def figures(job: Job) -> str:
     streets, answer = job.streets, job.answer
     standing = {one: sum(street.standing is one for street in streets.streets) for one in Standing}
     trees = f"above {HIGHEST_COUNT:,}" if job.trees is None else f"{job.trees:,}"
-    whole = "all of them" if answer.whole else f"of {trees}"
+    of_all = "in all rounds" if job.deep else "all of them" if answer.whole else f"of {trees}"
     rows = [
         ("street list", escape(streets.path)),
         ("corners", f"{len(streets.corners)}"),
@@ -59,7 +59,7 @@ def figures(job: Job) -> str:
         ("may be driven", f"{standing[Standing.MAY]}"),
         ("closed", f"{standing[Standing.CLOSED]}"),
         ("parts", f"{answer.parts}"),
-        ("trees tried", f"{answer.trees:,}, {whole}"),
+        ("trees tried", f"{answer.trees:,}, {of_all}"),
     ]
     if job.departure:
         when = f"{LONG_DAYS[job.departure.weekday].capitalize()} {clock(job.departure.minute)}"
@@ -141,9 +141,13 @@ def budget_section(job: Job) -> str:
         (f"{budget:,}", f"{a.cost:,}", f"{a.floor:,}", percent(a), f"{a.trees:,}", "yes" if a.whole else "no")
         for budget, a in job.budgets
     ]
+    deep = job.answer
+    if job.deep:
+        rows.append(("in rounds", f"{deep.cost:,}", f"{deep.floor:,}", percent(deep), f"{deep.trees:,}", ""))
     drawing = budgets(job.budgets, "Cost and floor over the budget")
     chart = f"<figure class=chart>{svg_element(drawing, 'budgets-chart')}</figure>"
-    words = "<p>A larger budget never gives a dearer drive, nor a lower floor.</p>"
+    elsewhere = " Rounds look elsewhere too, under other numbers of the corners." if job.deep else ""
+    words = f"<p>A larger budget never gives a dearer drive, nor a lower floor.{elsewhere}</p>"
     numbers = table(("budget", "cost", "floor", "gap", "trees tried", "all trees"), rows, range(5))
     return f"{words}<div class=columns>{chart}{numbers}</div>"
 
@@ -154,7 +158,8 @@ def market_days(job: Job) -> str:
     for spell in job.spells:
         names = dict.fromkeys(job.streets.streets[arc].name for arc in sorted(spell.shut))
         rows.append((spell.times, escape(", ".join(names)) or "none", *_spell_cells(spell)))
-    words = "<p>What counts is what is shut when the drive begins; later minutes play no part.</p>"
+    plain = " These drives are laid without rounds." if job.deep else ""
+    words = f"<p>What counts is what is shut when the drive begins; later minutes play no part.{plain}</p>"
     return words + table(("departure", "streets shut", "cost", "floor", "gap"), rows, (2, 3, 4))
 
 
