@@ -186,16 +186,6 @@ pub fn arc_fields(s: &[u8], edition: u8, k: usize) -> Fields
     }
 }
 
-// The first refusal of arc k of the file.
-pub fn field_verdict(s: &[u8], edition: u8, n: u32, k: usize) -> Verdict
-    requires { ⌜ (k < 256) × (fileBits edition k + arcWidth edition ≤ 8 * length (now s)) ⌝ }
-    ensures { λ r. ⌜ verdictNumber r ≡ firstRefusal (arcConditions edition n (arcOf (now (s .entry)) edition k)) ⌝ }
-{
-    let f = arc_fields(s, edition, k);
-    let standing = field_standing(f.standing);
-    arc_verdict(edition, n, f, standing)
-}
-
 // The first refusal of a record.
 pub fn record_verdict(edition: u8, n: u8, a: Arc) -> Verdict
     ensures { λ r. ⌜ verdictNumber r ≡ firstRefusal (arcConditions edition n (arcValue a)) ⌝ }

@@ -2,11 +2,11 @@
 use mathlib.Core.Path.{sym, ap, _∙_}
 use Rattle.refusal.specs.Verdict.{verdictNumber}
 use Rattle.plan.specs.Records.{recordAt}
-use Rattle.plan_file.specs.Reading.{planFrom}
+use Rattle.plan_arcs.specs.Arcs.{planFrom}
 use Rattle.plan_arcs.specs.Laws.Arcs.{passed-arcs, refused-arc}
 use borrow.Author.Needs.{needs}
-use Rattle.plan_writer.proofs.writer.all_records_verdict.Statement.{statement}
-use Rattle.plan_writer.proofs.writer.all_records_verdict.Tie as tie
+use Rattle.plan_arcs.proofs.verdicts.all_records_verdict.Statement.{statement}
+use Rattle.plan_arcs.proofs.verdicts.all_records_verdict.Tie as tie
 
 records-verdict-requires : tie.Need-records-verdict-requires
 records-verdict-requires c κs = search needs

@@ -7,8 +7,8 @@ use Rattle.plan.specs.Records.{recordAt}
 use Rattle.refusal.specs.Verdict.{verdictNumber}
 use Rattle.postman.specs.Laws.Refusal.{NoneBefore, none-before-first, none-before-next, refused-here, none-refused}
 use borrow.Author.Needs.{needs}
-use Rattle.plan_writer.proofs.writer.records_verdict.Statement.{statement}
-use Rattle.plan_writer.proofs.writer.records_verdict.Tie as tie
+use Rattle.plan_arcs.proofs.verdicts.records_verdict.Statement.{statement}
+use Rattle.plan_arcs.proofs.verdicts.records_verdict.Tie as tie
 
 abbrev Inv-loop : tie.InvT-loop
 Inv-loop e n m arcs k₀ k = (k ≤ m) × NoneBefore (arcConditions e n) (recordAt arcs) m k

@@ -1,4 +1,4 @@
--- `accepted_plan` meets its contract: a file that is not refused has its header, its limits and its length (`accepted-is-file`).
+-- `framed_plan` meets its contract: a file whose frame is good has its header, its limits and its length (`framed`).
 use mathlib.Core.Path.{_≡_, _∙_}
 use mathlib.Core.List.{List}
 use mathlib.Core.Option.{none}
@@ -7,13 +7,13 @@ use native.Mathlib.Omega.{arith}
 use Rattle.bits.specs.Taking.{takenField}
 use Rattle.bits.specs.Laws.Taking.{header-taken}
 use Rattle.postman.specs.Refusal.{firstRefusal}
-use Rattle.postman.specs.PlanFile.{edition, arcCount, vertexCount, fileConditions}
-use Rattle.postman.specs.Laws.Acceptance.{accepted-is-file, has-header}
+use Rattle.postman.specs.PlanFile.{edition, arcCount, vertexCount}
 use Rattle.postman.specs.Laws.FileLength.{bits-fit}
-use Rattle.plan_file.specs.Laws.Reading.{plan-parts}
+use Rattle.plan_file.specs.Reading.{frameConditions}
+use Rattle.plan_file.specs.Laws.Reading.{framed, plan-parts}
 use borrow.Author.Needs.{needs}
-use Rattle.plan_file.proofs.reader.accepted_plan.Statement.{statement}
-use Rattle.plan_file.proofs.reader.accepted_plan.Tie as tie
+use Rattle.plan_file.proofs.reader.framed_plan.Statement.{statement}
+use Rattle.plan_file.proofs.reader.framed_plan.Tie as tie
 
 file-edition-requires : tie.Need-file-edition-requires
 file-edition-requires c κs = search needs
@@ -25,13 +25,13 @@ take-at-requires-2 : tie.Need-take-at-requires-2
 take-at-requires-2 c κs = search needs
 
 -- n and m are those of the file
-vertices : (s : List ℕ) (x : ℕ) → firstRefusal (fileConditions s) ≡ none → x ≡ takenField s 4 7 → x ≡ vertexCount s
+vertices : (s : List ℕ) (x : ℕ) → firstRefusal (frameConditions s) ≡ none → x ≡ takenField s 4 7 → x ≡ vertexCount s
 unfolding vertexCount
-vertices s x e f = f ∙ header-taken s 4 7 (has-header s (accepted-is-file s e)) (omega arith) (omega arith)
+vertices s x e f = f ∙ header-taken s 4 7 (framed s e .0) (omega arith) (omega arith)
 
-arcs : (s : List ℕ) (x : ℕ) → firstRefusal (fileConditions s) ≡ none → x ≡ takenField s 11 9 → x ≡ arcCount s
+arcs : (s : List ℕ) (x : ℕ) → firstRefusal (frameConditions s) ≡ none → x ≡ takenField s 11 9 → x ≡ arcCount s
 unfolding arcCount
-arcs s x e f = f ∙ header-taken s 11 9 (has-header s (accepted-is-file s e)) (omega arith) (omega arith)
+arcs s x e f = f ∙ header-taken s 11 9 (framed s e .0) (omega arith) (omega arith)
 
 cast-read-arcs : tie.Need-cast-read-arcs
 cast-read-arcs c = search needs
@@ -40,22 +40,22 @@ read-arcs-requires : tie.Need-read-arcs-requires
 read-arcs-requires c κs =
     let start = c .before .before .before .before in
     let s = start .args .s .now in
-    let ok = accepted-is-file s (start .pre) in
+    let ok = framed s (start .pre) in
     let m = arcs s (c .take-at2 .result .field) (start .pre) (c .take-at2 .ensures .0) in
     let e = c .before .before .file-edition .ensures in
-    (omega (arith, ok .arc-count, m), rw (e, m) (omega (arith, ok .exact, bits-fit (edition s) (arcCount s))))
+    (omega (arith, ok .2, m), rw (e, m) (omega (arith, ok .3, bits-fit (edition s) (arcCount s))))
 
 cast-t8 : tie.Need-cast-t8
 cast-t8 c =
     let start = c .before .before .before .before .before in
     let s = start .args .s .now in
-    omega (arith, accepted-is-file s (start .pre) .vertices, vertices s (c .before .before .take-at .result .field) (start .pre) (c .before .before .take-at .ensures .0))
+    omega (arith, framed s (start .pre) .1, vertices s (c .before .before .take-at .result .field) (start .pre) (c .before .before .take-at .ensures .0))
 
 cast-t9 : tie.Need-cast-t9
 cast-t9 c =
     let start = c .before .before .before .before .before in
     let s = start .args .s .now in
-    omega (arith, accepted-is-file s (start .pre) .arc-count, arcs s (c .before .take-at2 .result .field) (start .pre) (c .before .take-at2 .ensures .0))
+    omega (arith, framed s (start .pre) .2, arcs s (c .before .take-at2 .result .field) (start .pre) (c .before .take-at2 .ensures .0))
 
 returns : tie.Need-returns
 returns c =
@@ -63,8 +63,8 @@ returns c =
     let s = start .args .s .now in
     plan-parts s _ _ _ _ (c .before .before .before .file-edition .ensures) (vertices s _ (start .pre) (c .before .before .take-at .ensures .0)) (arcs s _ (start .pre) (c .before .take-at2 .ensures .0)) (c .read-arcs .ensures)
 
-pub accepted-plan-spec : {M : Type 1} → statement M
-accepted-plan-spec =
+pub framed-plan-spec : {M : Type 1} → statement M
+framed-plan-spec =
     tie.close
     (tie.spec
     file-edition-requires
