@@ -12,13 +12,13 @@ ghost use Rattle.refusal.specs.Verdict.{verdictNumber};
 ghost use Rattle.plan.specs.Records.{recordOf, recordsOf, planRecord, noPlan};
 ghost use Rattle.plan_file.specs.Reading.{marginConditions, extentOn, frameConditions, hasArc, recordIn, refusedReading, IsReading};
 use crate::Reading;
+use arc_rules::rules::is_outside;
+use arc_rules::verdicts::all_records_verdict;
 use bits::reader::take_at;
 use plan::Arc;
 use plan::Plan;
 use plan_arcs::arcs::arc_fields;
 use plan_arcs::arcs::file_bits;
-use plan_arcs::arcs::is_outside;
-use plan_arcs::verdicts::all_records_verdict;
 use refusal::Refusal;
 use refusal::Verdict;
 

@@ -20,7 +20,7 @@ use Rattle.postman.specs.Laws.Refusal.{accepted-cons, accepted-append, first-on
 use Rattle.postman.specs.Laws.Acceptance.{extent-accepted, arcs-read}
 use Rattle.plan_file.specs.Reading.{IsReading, editionUnless, planUnless, refusedReading, marginConditions, extentOn, frameConditions}
 use Rattle.plan_file.specs.Laws.Records.{value-record}
-use Rattle.plan_arcs.specs.Arcs.{planFrom}
+use Rattle.arc_rules.specs.Arcs.{planFrom}
 use Rattle.plan.specs.Records.{recordAt, planValue, recordsOf, planRecord}
 use Rattle.refusal.specs.declared.Refusal.{Refusal}
 use Rattle.refusal.specs.declared.Verdict.the-variants.{Accepted}
