@@ -7,11 +7,11 @@ ghost use Prim.Native.Nat.{_+_, _*_, _/_, _≤_};
 ghost use lib.ListN.{length, drop};
 ghost use Rattle.postman.specs.Lists.{below};
 ghost use Rattle.plan.specs.Records.{arcValue, recordOf, recordAt};
-ghost use Rattle.records.specs.Writing.{loaded};
+ghost use Rattle.record_writer.specs.Writing.{loaded};
 ghost use Rattle.encoding.specs.RecordBytes.{arcBytes, numberIn, arcIn, arcsIn, withArc};
 use plan::Arc;
-use records::writer::at_most;
-use records::writer::no_records;
+use record_writer::writer::at_most;
+use record_writer::writer::no_records;
 
 // Two bytes as a number, the high one first.
 pub fn number_at(lent: &[u8], at: usize) -> u16

@@ -12,9 +12,9 @@ use answers::file_number::written_number;
 use encoding::record_bytes::load_records;
 use encoding::record_bytes::store_arcs;
 use plan_file::reader::read_plan;
+use record_writer::writer::write_arcs;
 use records::reader::arcs_read;
 use records::reader::room_answer;
-use records::writer::write_arcs;
 
 // Reading, from any bytes into any list of records, seven bytes each: 65,536 times the edition, and 512 n + m, with the file's arcs in the list from its start and the bytes after them untouched; or
 // minus the number of the first refusal by document 01's order, with every byte untouched.

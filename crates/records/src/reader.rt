@@ -5,7 +5,7 @@ ghost use lib.ListN.{length};
 ghost use Rattle.postman.specs.Refusal.{answer};
 ghost use Rattle.postman.specs.PlanFile.{edition, arcOf, vertexCount, arcCount, readRefusal, readAnswer, recordsAfter};
 ghost use Rattle.plan.specs.Records.{arcValue, recordOf};
-ghost use Rattle.records.specs.Stored.{storedTo};
+ghost use Rattle.record_writer.specs.Stored.{storedTo};
 ghost use Rattle.records.specs.Reading.{readNumbers, roomAnswer, arcsRead, Room};
 use plan::Arc;
 use plan_file::Reading;

@@ -10,9 +10,9 @@ use Rattle.postman.specs.Plan.{Arc}
 use Rattle.plan.specs.declared.Arc.{Arc as ArcRecord}
 use Rattle.plan.specs.Records.{arcValue, recordOf, zeroRecord}
 use Rattle.postman.specs.Laws.Below.{length-map-below, map-below-more, getD-map-below}
-use Rattle.records.specs.Stored.{storedTo}
-use Rattle.records.specs.Writing.{atMost, loaded}
-use Rattle.records.specs.Laws.Writing.{at-most-fits}
+use Rattle.record_writer.specs.Stored.{storedTo}
+use Rattle.record_writer.specs.Writing.{atMost, loaded}
+use Rattle.record_writer.specs.Laws.Writing.{at-most-fits}
 use Rattle.encoding.specs.RecordBytes.{arcBytes, arcIn, arcsIn, withArc}
 
 -- ---- a record

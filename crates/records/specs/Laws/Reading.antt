@@ -27,8 +27,8 @@ use Rattle.postman.specs.Laws.FileLength.{bits-fit}
 use Rattle.postman.specs.Laws.Acceptance.{read-is-file, vertices-read, arcs-read}
 use Rattle.records.specs.declared.reader.Read.{Read}
 use Rattle.records.specs.declared.reader.Read.the-variants.{Given, Refused}
-use Rattle.records.specs.Stored.{storedTo}
-use Rattle.records.specs.Laws.Stored.{stored-is}
+use Rattle.record_writer.specs.Stored.{storedTo}
+use Rattle.record_writer.specs.Laws.Stored.{stored-is}
 use Rattle.records.specs.Reading.{readNumbers, roomAnswer, arcsRead, Room}
 
 -- ---- lists

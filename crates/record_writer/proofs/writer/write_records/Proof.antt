@@ -45,21 +45,21 @@ use Rattle.plan_writer.specs.declared.Written.{Written}
 use Rattle.plan_writer.specs.Writing.{writtenAnswer}
 use Rattle.plan_writer.proofs.Written as S
 use Rattle.plan_writer.proofs.Written.Laws as S′
-use Rattle.records.specs.Writing.{loaded, countedPlan}
-use Rattle.records.specs.Laws.Writing.{same-answer, same-bytes}
-use Rattle.records.proofs.Rows.{Arcs, arcs-typed}
-use Rattle.records.proofs.writer.load_records as load-records
-use Rattle.records.proofs.writer.load_records.Symbol as load-def
-use Rattle.records.proofs.writer.load_records.Symbol.{name as #load-records}
-use Rattle.records.proofs.writer.load_records.Met as load-thm
-use Rattle.records.proofs.writer.write_arcs as write-arcs
-use Rattle.records.proofs.writer.write_arcs.Symbol as write-def
-use Rattle.records.proofs.writer.write_arcs.Symbol.{name as #write-arcs}
-use Rattle.records.proofs.writer.write_arcs.Met as write-thm
-use Rattle.records.proofs.writer.write_records.Key.{name as #write-records}
-use Rattle.records.proofs.writer.write_records as f
-use Rattle.records.proofs.writer.write_records.Statement as stated
-use Rattle.records.proofs.writer.write_records.Code as code
+use Rattle.record_writer.specs.Writing.{loaded, countedPlan}
+use Rattle.record_writer.specs.Laws.Writing.{same-answer, same-bytes}
+use Rattle.record_writer.proofs.Rows.{Arcs, arcs-typed}
+use Rattle.record_writer.proofs.writer.load_records as load-records
+use Rattle.record_writer.proofs.writer.load_records.Symbol as load-def
+use Rattle.record_writer.proofs.writer.load_records.Symbol.{name as #load-records}
+use Rattle.record_writer.proofs.writer.load_records.Met as load-thm
+use Rattle.record_writer.proofs.writer.write_arcs as write-arcs
+use Rattle.record_writer.proofs.writer.write_arcs.Symbol as write-def
+use Rattle.record_writer.proofs.writer.write_arcs.Symbol.{name as #write-arcs}
+use Rattle.record_writer.proofs.writer.write_arcs.Met as write-thm
+use Rattle.record_writer.proofs.writer.write_records.Key.{name as #write-records}
+use Rattle.record_writer.proofs.writer.write_records as f
+use Rattle.record_writer.proofs.writer.write_records.Statement as stated
+use Rattle.record_writer.proofs.writer.write_records.Code as code
 
 abbrev stayed : Stays (f.ended .signature .params) (f.ended .kept)
 stayed = (stay-none (λ _. u8) yes, (stay-none (λ _. u8) yes, (stay-none-slice (0 ∷ []) tt (plain (λ _. T.the-row)) yes, (gave-slice (1 ∷ []) tt (plain (λ _. u8)), tt))))
@@ -209,5 +209,5 @@ write-records-spec 𝓤 H 𝓜 𝓖 𝓡 =
     entered 𝓤 H (tripleOf 𝓤 H (𝓖 .A) f.signature (f.spec 𝓤 H (𝓖 .A) (𝓜 .mem) (𝓡 .run)))
     (tables 𝓤 H 𝓜 𝓡 code.env .C) (tables 𝓤 H 𝓜 𝓡 code.env .Λ) #write-records code.function (code.unfolded 𝓤 H 𝓜 𝓡)
     (write-records-meets 𝓤 H (𝓖 .A) (givenOf 𝓤 H 𝓜 𝓖) (𝓜 .mem) (𝓡 .run) (tablesOf 𝓤 H 𝓜 (tables 𝓤 H 𝓜 𝓡 code.env))
-    (cited 𝓤 H (Load 𝓤 H (𝓖 .A) (𝓜 .mem) (𝓡 .run)) 𝓜 𝓡 code.env #load-records load-def.routine code.calls-records·writer·load-records (load-thm.met 𝓤 H 𝓜 𝓖 𝓡))
-    (cited 𝓤 H (Write 𝓤 H (𝓖 .A) (𝓜 .mem) (𝓡 .run)) 𝓜 𝓡 code.env #write-arcs write-def.routine code.calls-records·writer·write-arcs (write-thm.met 𝓤 H 𝓜 𝓖 𝓡)))
+    (cited 𝓤 H (Load 𝓤 H (𝓖 .A) (𝓜 .mem) (𝓡 .run)) 𝓜 𝓡 code.env #load-records load-def.routine code.calls-record-writer·writer·load-records (load-thm.met 𝓤 H 𝓜 𝓖 𝓡))
+    (cited 𝓤 H (Write 𝓤 H (𝓖 .A) (𝓜 .mem) (𝓡 .run)) 𝓜 𝓡 code.env #write-arcs write-def.routine code.calls-record-writer·writer·write-arcs (write-thm.met 𝓤 H 𝓜 𝓖 𝓡)))

@@ -8,7 +8,7 @@ use Rattle.postman.specs.Plan.{Plan as Graph}
 use Rattle.plan.specs.declared.Arc.{Arc}
 use Rattle.plan.specs.declared.Plan.{Plan}
 use Rattle.plan.specs.Records.{arcValue, zeroRecord}
-use Rattle.records.specs.Stored.{storedTo}
+use Rattle.record_writer.specs.Stored.{storedTo}
 
 -- "Writing takes n and a list of records (m is its length)."
 abbrev pub listPlan : ℕ → List Arc → Graph

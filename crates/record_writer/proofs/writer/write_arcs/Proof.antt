@@ -1,10 +1,10 @@
 -- `write_arcs` meets its contract: the plan by value is made, and `write_plan` writes it.
 use mathlib.Core.Path.{sym}
 use native.Mathlib.Omega.{arith}
-use Rattle.records.specs.Laws.Writing.{at-most-le}
+use Rattle.record_writer.specs.Laws.Writing.{at-most-le}
 use borrow.Author.Needs.{needs}
-use Rattle.records.proofs.writer.write_arcs.Statement.{statement}
-use Rattle.records.proofs.writer.write_arcs.Tie as tie
+use Rattle.record_writer.proofs.writer.write_arcs.Statement.{statement}
+use Rattle.record_writer.proofs.writer.write_arcs.Tie as tie
 
 at-most-requires : tie.Need-at-most-requires
 at-most-requires c κs = search needs

@@ -48,25 +48,25 @@ use Rattle.plan.specs.declared.Arc.{Arc}
 use Rattle.plan.specs.Records.{zeroRecord}
 use Rattle.plan.proofs.Arc as T
 use Rattle.plan.proofs.Arc.Laws as T′
-use Rattle.records.specs.Stored.{storedTo}
-use Rattle.records.specs.Laws.Stored.{length-stored}
-use Rattle.records.specs.Writing.{atMost, loaded}
-use Rattle.records.specs.Laws.Writing.{at-most-le, at-most-fits}
-use Rattle.records.proofs.Counts.{counts}
-use Rattle.records.proofs.Rows.{arc-vals, arc-tells, arc-typed, arc-makes, arc-copy, Arcs, arcs-ty, arcs-val, arcs-typed, to-row, of-row}
-use Rattle.records.proofs.writer.at_most as least
-use Rattle.records.proofs.writer.at_most.Symbol as least-def
-use Rattle.records.proofs.writer.at_most.Symbol.{name as #at-most}
-use Rattle.records.proofs.writer.at_most.Met as least-thm
-use Rattle.records.proofs.writer.no_records as zeros
-use Rattle.records.proofs.writer.no_records.Symbol as zeros-def
-use Rattle.records.proofs.writer.no_records.Symbol.{name as #no-records}
-use Rattle.records.proofs.writer.no_records.Met as zeros-thm
-use Rattle.records.proofs.writer.load_records.Key.{name as #load-records}
-use Rattle.records.proofs.writer.load_records as f
-use Rattle.records.proofs.writer.load_records.Statement as stated
-use Rattle.records.proofs.writer.load_records.Code as code
-use Rattle.records.proofs.writer.load_records.Code.Mir as Mir
+use Rattle.record_writer.specs.Stored.{storedTo}
+use Rattle.record_writer.specs.Laws.Stored.{length-stored}
+use Rattle.record_writer.specs.Writing.{atMost, loaded}
+use Rattle.record_writer.specs.Laws.Writing.{at-most-le, at-most-fits}
+use Rattle.record_writer.proofs.Counts.{counts}
+use Rattle.record_writer.proofs.Rows.{arc-vals, arc-tells, arc-typed, arc-makes, arc-copy, Arcs, arcs-ty, arcs-val, arcs-typed, to-row, of-row}
+use Rattle.record_writer.proofs.writer.at_most as least
+use Rattle.record_writer.proofs.writer.at_most.Symbol as least-def
+use Rattle.record_writer.proofs.writer.at_most.Symbol.{name as #at-most}
+use Rattle.record_writer.proofs.writer.at_most.Met as least-thm
+use Rattle.record_writer.proofs.writer.no_records as zeros
+use Rattle.record_writer.proofs.writer.no_records.Symbol as zeros-def
+use Rattle.record_writer.proofs.writer.no_records.Symbol.{name as #no-records}
+use Rattle.record_writer.proofs.writer.no_records.Met as zeros-thm
+use Rattle.record_writer.proofs.writer.load_records.Key.{name as #load-records}
+use Rattle.record_writer.proofs.writer.load_records as f
+use Rattle.record_writer.proofs.writer.load_records.Statement as stated
+use Rattle.record_writer.proofs.writer.load_records.Code as code
+use Rattle.record_writer.proofs.writer.load_records.Code.Mir as Mir
 
 abbrev stayed : Stays (f.ended .signature .params) (f.ended .kept)
 stayed = (stay-none-slice (0 ∷ []) tt (plain (λ _. T.the-row)) yes, tt)
@@ -288,5 +288,5 @@ load-records-spec 𝓤 H 𝓜 𝓖 𝓡 =
     entered 𝓤 H (tripleOf 𝓤 H (𝓖 .A) f.signature (f.spec 𝓤 H (𝓖 .A) (𝓜 .mem) (𝓡 .run)))
     (tables 𝓤 H 𝓜 𝓡 code.env .C) (tables 𝓤 H 𝓜 𝓡 code.env .Λ) #load-records code.function (code.unfolded 𝓤 H 𝓜 𝓡)
     (load-records-meets 𝓤 H (𝓖 .A) (givenOf 𝓤 H 𝓜 𝓖) (𝓜 .mem) (𝓡 .run) (tablesOf 𝓤 H 𝓜 (tables 𝓤 H 𝓜 𝓡 code.env))
-    (cited 𝓤 H (Least 𝓤 H (𝓖 .A) (𝓜 .mem) (𝓡 .run)) 𝓜 𝓡 code.env #at-most least-def.routine code.calls-records·writer·at-most (least-thm.met 𝓤 H 𝓜 𝓖 𝓡))
-    (cited 𝓤 H (Zeros 𝓤 H (𝓖 .A) (𝓜 .mem) (𝓡 .run)) 𝓜 𝓡 code.env #no-records zeros-def.routine code.calls-records·writer·no-records (zeros-thm.met 𝓤 H 𝓜 𝓖 𝓡)))
+    (cited 𝓤 H (Least 𝓤 H (𝓖 .A) (𝓜 .mem) (𝓡 .run)) 𝓜 𝓡 code.env #at-most least-def.routine code.calls-record-writer·writer·at-most (least-thm.met 𝓤 H 𝓜 𝓖 𝓡))
+    (cited 𝓤 H (Zeros 𝓤 H (𝓖 .A) (𝓜 .mem) (𝓡 .run)) 𝓜 𝓡 code.env #no-records zeros-def.routine code.calls-record-writer·writer·no-records (zeros-thm.met 𝓤 H 𝓜 𝓖 𝓡)))

@@ -15,8 +15,8 @@ use Rattle.plan.specs.declared.Arc.{Arc as ArcRecord}
 use Rattle.plan.specs.Records.{arcValue, zeroRecord, recordAt, planValue}
 use Rattle.postman.specs.Laws.Below.{length-map-below, getD-map-below}
 use Rattle.plan_writer.specs.Laws.Writing.{headerRefusal, too-many-arcs, refused-answer, refused-bytes}
-use Rattle.records.specs.Laws.Stored.{stored-is}
-use Rattle.records.specs.Writing.{listPlan, atMost, loaded, countOf, countedPlan}
+use Rattle.record_writer.specs.Laws.Stored.{stored-is}
+use Rattle.record_writer.specs.Writing.{listPlan, atMost, loaded, countOf, countedPlan}
 
 -- ---- the lesser of two numbers
 

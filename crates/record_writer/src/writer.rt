@@ -4,7 +4,7 @@ ghost use lib.ListN.{replicate};
 ghost use Rattle.postman.specs.PlanFile.{writeAnswer, bytesAfter};
 ghost use Rattle.plan_writer.specs.Writing.{writtenAnswer};
 ghost use Rattle.plan.specs.Records.{zeroRecord, planValue};
-ghost use Rattle.records.specs.Writing.{atMost, loaded, countedPlan, listPlan};
+ghost use Rattle.record_writer.specs.Writing.{atMost, loaded, countedPlan, listPlan};
 use plan::Arc;
 use plan::Plan;
 use plan_writer::Written;

@@ -1,8 +1,8 @@
 -- `at_most` meets its contract, by its test.
 use mathlib.Core.Path.{refl}
 use borrow.Author.Tests.{lt-ltb, le-ltb}
-use Rattle.records.proofs.writer.at_most.Statement.{statement}
-use Rattle.records.proofs.writer.at_most.Tie as tie
+use Rattle.record_writer.proofs.writer.at_most.Statement.{statement}
+use Rattle.record_writer.proofs.writer.at_most.Tie as tie
 
 returns : tie.Need-returns
 returns c = let t = lt-ltb _ _ (c .if1 .taken) in rw t refl

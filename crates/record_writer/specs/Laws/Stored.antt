@@ -9,7 +9,7 @@ use lib.Seq.{set-at, append-snoc, drop-cons}
 use Rattle.postman.specs.Lists.{below}
 use Rattle.plan.specs.declared.Arc.{Arc}
 use Rattle.postman.specs.Laws.Below.{length-map-below, map-below-more}
-use Rattle.records.specs.Stored.{storedTo}
+use Rattle.record_writer.specs.Stored.{storedTo}
 
 pub length-stored : (new : ℕ → Arc) (records : List Arc) (k : ℕ) → length (storedTo new records k) ≡ length records
 length-stored new records zero = refl
