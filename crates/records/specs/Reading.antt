@@ -19,7 +19,8 @@ readNumbers (Refused r) = refused (refusalNumber r)
 
 -- What a reading answers where there is room for so many records: 8 after all that is refused of the file.
 abbrev pub roomAnswer : Reading → ℕ → Answer (ℕ × ℕ × ℕ)
-roomAnswer r room = answer (orElse (verdictNumber (r .verdict)) (cond (ltb room (r .plan .m)) (some 8) none)) (r .edition, r .plan .n, r .plan .m)
+roomAnswer r room =
+    answer (orElse (verdictNumber (r .verdict)) (cond (ltb room (r .plan .m)) (some 8) none)) (r .edition, r .plan .n, r .plan .m)
 
 -- How many records are stored.
 abbrev pub arcsRead : Read → ℕ

@@ -55,12 +55,15 @@ module _ (file lent : List ℕ) (reading : Reading) (is : IsReading file reading
   arc-count-is : readRefusal file (length lent / 7) ≡ none → reading .plan .m ≡ arcCount file
   arc-count-is e = sym (length-map-below (recordAt (reading .plan .arcs)) (reading .plan .m)) ∙ ap length (arcs-are e) ∙ arcs-read file
 
-  pub lent-after : (r : Read) → Answers r → flatMap arcBytes (map (recordAt (reading .plan .arcs)) (below (arcsRead r))) ++ drop (7 * arcsRead r) lent ≡ lentAfter file lent
+  pub lent-after : (r : Read) → Answers r
+      → flatMap arcBytes (map (recordAt (reading .plan .arcs)) (below (arcsRead r))) ++ drop (7 * arcsRead r) lent ≡ lentAfter file lent
   unfolding lentAfter unless below upFrom flatMap
   lent-after (Given d n m) e =
       let w = was-given (readRefusal file (length lent / 7)) all (d, n, m) (answered (Given d n m) e) in
-      let count : m ≡ reading .plan .m = ap (λ (p : ℕ × ℕ × ℕ). p .2) (w .1) ∙ sym (arc-count-is (w .0)) in
-      rw (w .0) (ap (λ (k : ℕ). flatMap arcBytes (map (recordAt (reading .plan .arcs)) (below k)) ++ drop (7 * m) lent) count ∙ ap₂ (λ (l : List Arc) (k : ℕ). flatMap arcBytes l ++ drop (7 * k) lent) (arcs-are (w .0)) (ap (λ (p : ℕ × ℕ × ℕ). p .2) (w .1)))
+      let same : m ≡ arcCount file = ap (λ (p : ℕ × ℕ × ℕ). p .2) (w .1) in
+      let first : ℕ → List Arc = λ k. map (recordAt (reading .plan .arcs)) (below k) in
+      let arcs : first m ≡ planOf file .arcs = ap first (same ∙ sym (arc-count-is (w .0))) ∙ arcs-are (w .0) in
+      rw (w .0) (ap₂ (λ (l : List Arc) (k : ℕ). flatMap arcBytes l ++ drop (7 * k) lent) arcs same)
   lent-after (Refused q) e =
       let w = was-refused (readRefusal file (length lent / 7)) all (refusalNumber q) (answered (Refused q) e) in
       rw w refl

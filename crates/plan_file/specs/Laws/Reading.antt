@@ -38,7 +38,8 @@ frame-refusal bytes = refl
 pub extent-refusal
     : (bytes : List ℕ) (e : ℕ)
     → firstRefusal (extentOn bytes e)
-    ≡ cond (isOutside (fieldAt bytes 4 7) 1 64 || isOutside (fieldAt bytes 11 9) 1 256) (some 3) (firstRefusal (marginConditions bytes e (fieldAt bytes 11 9)))
+    ≡ cond (isOutside (fieldAt bytes 4 7) 1 64 || isOutside (fieldAt bytes 11 9) 1 256) (some 3)
+    (firstRefusal (marginConditions bytes e (fieldAt bytes 11 9)))
 unfolding firstRefusal extentOn extentConditions vertexCount arcCount
 extent-refusal bytes e = refl
 
@@ -51,12 +52,16 @@ module _ (bytes : List ℕ) where
   pub frame-refused : (r : ℕ) → firstRefusal (frameConditions bytes) ≡ some r → firstRefusal (fileConditions bytes) ≡ some r
   frame-refused r e = rw in-order (first-stop (frameConditions bytes) _ r e)
 
-  pub frame-passed : firstRefusal (frameConditions bytes) ≡ none → firstRefusal (fileConditions bytes) ≡ firstRefusal (planConditions (edition bytes) (planOf bytes))
+  pub frame-passed : firstRefusal (frameConditions bytes) ≡ none
+      → firstRefusal (fileConditions bytes) ≡ firstRefusal (planConditions (edition bytes) (planOf bytes))
   frame-passed e = rw in-order (first-on (frameConditions bytes) _ e)
 
   -- A file whose frame is good has its header, is within the limits and is as long as its arcs.
   pub framed : firstRefusal (frameConditions bytes) ≡ none
-      → (3 ≤ length bytes) × (vertexCount bytes ≤ 64) × (arcCount bytes ≤ 256) × (length bytes ≡ fileLength (edition bytes) (arcCount bytes))
+      → (3 ≤ length bytes)
+      × (vertexCount bytes ≤ 64)
+      × (arcCount bytes ≤ 256)
+      × (length bytes ≡ fileLength (edition bytes) (arcCount bytes))
   unfolding frameConditions editionConditions extentOn marginConditions
   framed h =
       let three = accepted-cons _ _ _ h in
@@ -78,22 +83,26 @@ plan-parts bytes e n m records e′ n′ m′ r =
     λ i. record { n = n′ i; m = (m′ ∙ sym count) i; arcs = same i }
 
 -- What is answered, once the frame is good: the records that were read are the file's arcs, and the verdict on them is the file's.
-module _ (bytes : List ℕ) (good : firstRefusal (frameConditions bytes) ≡ none) (e : ℕ) (is : e ≡ edition bytes) (plan : PlanRecord) (read : plan ≡ planRecord (planOf bytes)) where
+module _ (bytes : List ℕ) (good : firstRefusal (frameConditions bytes) ≡ none) (e : ℕ) (is : e ≡ edition bytes)
+    (plan : PlanRecord) (read : plan ≡ planRecord (planOf bytes)) where
   pub few-arcs : plan .m ≤ 256
   unfolding planRecord
   few-arcs = let m = framed bytes good .2 in let same = ap (λ (p : PlanRecord). p .m) read ∙ arcs-read bytes in omega arith
 
-  pub arcs-refusal : firstRefusal (planConditions e (planFrom (plan .n) (recordAt (plan .arcs)) (plan .m))) ≡ firstRefusal (fileConditions bytes)
+  pub arcs-refusal
+      : firstRefusal (planConditions e (planFrom (plan .n) (recordAt (plan .arcs)) (plan .m))) ≡ firstRefusal (fileConditions bytes)
   unfolding planValue
   arcs-refusal =
-      ap₂ (λ (x : ℕ) (p : Plan). firstRefusal (planConditions x p)) is (ap planValue read ∙ value-record (planOf bytes)) ∙ sym (frame-passed bytes good)
+      ap₂ (λ (x : ℕ) (p : Plan). firstRefusal (planConditions x p)) is (ap planValue read ∙ value-record (planOf bytes))
+      ∙ sym (frame-passed bytes good)
 
   pub given-reading : firstRefusal (fileConditions bytes) ≡ none → IsReading bytes (record { verdict = Accepted; edition = e; plan = plan })
   unfolding editionUnless planUnless
   given-reading h = record { verdict = sym h; edition-is = rw h is; plan = rw h read }
 
 -- What is answered where the file is refused.
-pub refused-reading : (bytes : List ℕ) (r : Refusal) (x : Reading) → x ≡ refusedReading r → firstRefusal (fileConditions bytes) ≡ some (refusalNumber r) → IsReading bytes x
+pub refused-reading : (bytes : List ℕ) (r : Refusal) (x : Reading) → x ≡ refusedReading r
+    → firstRefusal (fileConditions bytes) ≡ some (refusalNumber r) → IsReading bytes x
 unfolding editionUnless planUnless
 refused-reading bytes r x q h = rw q (record { verdict = sym h; edition-is = rw h refl; plan = rw h refl })
 

@@ -48,7 +48,8 @@ module _ (bytes : List ℕ) (long : 1476 ≤ length bytes) where
       rw (le-ltb (length bytes) (fileLength e m) (omega arith), lt-ltb (fileLength e m) (length bytes) (omega arith))
 
   by-header : (e n m : ℕ)
-      → cond (not (isEdition e)) (some 2) (cond (isOutside n 1 64 || isOutside m 1 256) (some 3) (firstRefusal (marginConditions bytes e m)))
+      → cond (not (isEdition e)) (some 2)
+      (cond (isOutside n 1 64 || isOutside m 1 256) (some 3) (firstRefusal (marginConditions bytes e m)))
       ≡ some (longRefusal e n m)
   unfolding longRefusal
   by-header e n m = at (not (isEdition e)) (isOutside n 1 64) (isOutside m 1 256) (λ h. margin e m (inside m 1 256 h .1))
@@ -63,7 +64,8 @@ module _ (bytes : List ℕ) (long : 1476 ≤ length bytes) where
   file-long =
       frame-refused bytes _
       (frame-refusal bytes
-      ∙ rw (le-ltb (length bytes) 3 (omega arith), extent-refusal bytes (edition bytes)) (by-header (edition bytes) (fieldAt bytes 4 7) (fieldAt bytes 11 9)))
+      ∙ rw (le-ltb (length bytes) 3 (omega arith), extent-refusal bytes (edition bytes))
+      (by-header (edition bytes) (fieldAt bytes 4 7) (fieldAt bytes 11 9)))
 
   call-long : (budget places : ℕ) → callRefusal bytes budget places ≡ some (longRefusal (edition bytes) (fieldAt bytes 4 7) (fieldAt bytes 11 9))
   call-long budget places = file-refused bytes budget places _ file-long

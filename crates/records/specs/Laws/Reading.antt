@@ -61,10 +61,13 @@ module _ (bytes : List ℕ) (room : ℕ) (r : Reading) (read : IsReading bytes r
   unfolding readRefusal firstRefusal planRecord planUnless
   accepted e =
       let plan = rw e at (read .plan) in
+      let n : r .plan .n ≡ vertexCount bytes = ap (λ (p : PlanRecord). p .n) plan ∙ vertices-read bytes in
+      let m : r .plan .m ≡ arcCount bytes = ap (λ (p : PlanRecord). p .m) plan ∙ arcs-read bytes in
       let same : _≡_ {A = ℕ × ℕ × ℕ} (r .edition, r .plan .n, r .plan .m) (edition bytes, vertexCount bytes, arcCount bytes) =
-      λ i. (accepted-edition bytes r read e i, (ap (λ (p : PlanRecord). p .n) plan ∙ vertices-read bytes) i, (ap (λ (p : PlanRecord). p .m) plan ∙ arcs-read bytes) i)
+      λ i. (accepted-edition bytes r read e i, n i, m i)
       in
-      rw (read .verdict, e, first-on (fileConditions bytes) ((ltb room (arcCount bytes), 8) ∷ []) e) (ap (λ (x : ℕ × ℕ × ℕ). answer (cond (ltb room (x .2)) (some 8) none) x) same)
+      rw (read .verdict, e, first-on (fileConditions bytes) ((ltb room (arcCount bytes), 8) ∷ []) e)
+      (ap (λ (x : ℕ × ℕ × ℕ). answer (cond (ltb room (x .2)) (some 8) none) x) same)
 
   stopped : (k : ℕ) → firstRefusal (fileConditions bytes) ≡ some k → Same
   unfolding readRefusal answer

@@ -41,8 +41,12 @@ returns c =
     let r = c .before .before .before .before .before .before .before .before .room-answer in
     let count = c .before .before .before .before .before .arcs-read in
     let new : ℕ → _ = λ m. flatMap arcBytes (map (recordAt (p .result .plan .arcs)) (below m)) ++ drop (7 * m) (a .records .now) in (
-      back64 _ (c .read-number .ok) ∙ c .read-number .ensures ∙ lent-answer (a .plan .now) (a .records .now) (p .result) (p .ensures) (r .result) (r .ensures),
-      c .before .before .before .store-arcs .ensures ∙ ap new (count .ensures) ∙ lent-after (a .plan .now) (a .records .now) (p .result) (p .ensures) (r .result) (r .ensures),
+      back64 _ (c .read-number .ok)
+          ∙ c .read-number .ensures
+          ∙ lent-answer (a .plan .now) (a .records .now) (p .result) (p .ensures) (r .result) (r .ensures),
+      c .before .before .before .store-arcs .ensures
+          ∙ ap new (count .ensures)
+          ∙ lent-after (a .plan .now) (a .records .now) (p .result) (p .ensures) (r .result) (r .ensures),
     )
 
 pub postman-read-plan-spec : {M : Type 1} → statement M

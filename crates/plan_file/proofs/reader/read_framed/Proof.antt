@@ -49,4 +49,14 @@ returns-2 c =
 
 pub read-framed-spec : {M : Type 1} → statement M
 read-framed-spec =
-    tie.close (tie.spec file-edition-requires framed-plan-requires cast-all-records-verdict all-records-verdict-requires enum-told enum-known-r refused-requires returns returns-2)
+    tie.close
+    (tie.spec
+    file-edition-requires
+    framed-plan-requires
+    cast-all-records-verdict
+    all-records-verdict-requires
+    enum-told
+    enum-known-r
+    refused-requires
+    returns
+    returns-2)

@@ -27,7 +27,8 @@ returns c = c .read-framed .ensures
 returns-2 : tie.Need-returns-2
 returns-2 c =
     let s = c .before .before .before .before .before .before .args .s .now in
-    refused-reading s _ _ (c .refused .ensures) (frame-refused s _ (sym (c .before .before .before .before .frame-verdict .ensures) ∙ ap verdictNumber (c .before .before .r .given .1)))
+    let stopped = sym (c .before .before .before .before .frame-verdict .ensures) ∙ ap verdictNumber (c .before .before .r .given .1) in
+    refused-reading s _ _ (c .refused .ensures) (frame-refused s _ stopped)
 
 pub read-plan-spec : {M : Type 1} → statement M
 read-plan-spec =
