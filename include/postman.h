@@ -38,7 +38,7 @@ extern "C" {
  * The bytes of stack that a thread needs for any of the calls. With less a call may end the process; on 128 KiB the plan
  * call does. Measured on x86-64 as the least stack of a thread on which the call works, in KiB: postman_deep_call 356,
  * postman_turn 264, postman_two_cars 248, postman_plan_call_at 244, postman_plan_call and postman_short_call 240,
- * postman_ask 204, postman_enter 184, postman_tree_count 120, and all others at most 24.
+ * postman_ask 204, postman_enter 184, postman_tree_count 120, and all others at most 28.
  */
 #define POSTMAN_STACK_BYTES 524288
 

@@ -7,7 +7,7 @@ use lib.IntN.{ℤ, natAbs}
 use lib.ListN.{length}
 use lib.Seq.{paste}
 use Rattle.postman.specs.Refusal.{answer, unless}
-use Rattle.records.specs.Writing.{atMost}
+use Rattle.record_writer.specs.Writing.{atMost}
 use Rattle.solution.specs.declared.Planned.{Planned}
 use Rattle.refusal.specs.Verdict.{verdictNumber}
 use Rattle.answers.specs.Number.{oneNumber}

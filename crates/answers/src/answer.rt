@@ -2,7 +2,7 @@
 ghost use mathlib.Core.Path.{_≡_};
 ghost use Rattle.answers.specs.Answer.{wordsOf, putFirst, IsHandedOver};
 use crate::number::refused_number;
-use records::writer::at_most;
+use record_writer::writer::at_most;
 use refusal::Verdict;
 use solution::Planned;
 

@@ -5,7 +5,7 @@ ghost use Prim.Native.Nat.{ℕ, _≤_};
 ghost use Rattle.postman.specs.Refusal.{given};
 ghost use Rattle.plan_writer.specs.Writing.{writtenAnswer};
 ghost use Rattle.records.specs.Reading.{readNumbers};
-ghost use Rattle.records.specs.Writing.{atMost};
+ghost use Rattle.record_writer.specs.Writing.{atMost};
 ghost use Rattle.answers.specs.Number.{oneNumber};
 ghost use Rattle.answers.specs.FileNumber.{packed};
 use crate::number::refused_number;

@@ -6,15 +6,12 @@ ghost use mathlib.Core.List.{_++_, map, flatMap};
 ghost use Prim.Native.Nat.{_+_, _*_, _/_, _≤_};
 ghost use lib.ListN.{length, drop};
 ghost use Rattle.postman.specs.Lists.{below};
-ghost use Rattle.postman.specs.PlanFile.{edition, arcOf};
-ghost use Rattle.plan.specs.Records.{arcValue, recordOf};
-ghost use Rattle.records.specs.Reading.{Room};
-ghost use Rattle.records.specs.Writing.{loaded};
+ghost use Rattle.plan.specs.Records.{arcValue, recordOf, recordAt};
+ghost use Rattle.record_writer.specs.Writing.{loaded};
 ghost use Rattle.encoding.specs.RecordBytes.{arcBytes, numberIn, arcIn, arcsIn, withArc};
 use plan::Arc;
-use plan_file::reader::file_arc;
-use records::writer::at_most;
-use records::writer::no_records;
+use record_writer::writer::at_most;
+use record_writer::writer::no_records;
 
 // Two bytes as a number, the high one first.
 pub fn number_at(lent: &[u8], at: usize) -> u16
@@ -58,13 +55,13 @@ pub(crate) fn put_record(lent: &mut [u8], at: usize, a: Arc)
     lent[at + 6] = (service % 256) as u8;
 }
 
-// The first m records become those of the file's first m arcs.
-pub fn store_arcs(file: &[u8], m: usize, lent: &mut [u8])
-    requires { ⌜ Room (now file) (length (now lent) / 7) m ⌝ }
-    ensures { λ _. ⌜ now (lent .exit) ≡ flatMap arcBytes (map (arcOf (now (file .entry)) (edition (now (file .entry)))) (below m)) ++ drop (7 * m) (now (lent .entry)) ⌝ }
+// The first m records become those of the first m arcs.
+pub fn store_arcs(arcs: [Arc; 256], m: usize, lent: &mut [u8])
+    requires { ⌜ (m ≤ 256) × (m ≤ length (now lent) / 7) ⌝ }
+    ensures { λ _. ⌜ now (lent .exit) ≡ flatMap arcBytes (map (recordAt arcs) (below m)) ++ drop (7 * m) (now (lent .entry)) ⌝ }
 {
     for k in 0..m {
-        let a = file_arc(file, k);
+        let a = arcs[k];
         put_record(lent, 7 * k, a);
     }
 }

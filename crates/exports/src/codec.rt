@@ -11,9 +11,10 @@ use answers::file_number::vertices_of;
 use answers::file_number::written_number;
 use encoding::record_bytes::load_records;
 use encoding::record_bytes::store_arcs;
+use plan_file::reader::read_plan;
+use record_writer::writer::write_arcs;
 use records::reader::arcs_read;
-use records::reader::read_answer;
-use records::writer::write_arcs;
+use records::reader::room_answer;
 
 // Reading, from any bytes into any list of records, seven bytes each: 65,536 times the edition, and 512 n + m, with the file's arcs in the list from its start and the bytes after them untouched; or
 // minus the number of the first refusal by document 01's order, with every byte untouched.
@@ -22,8 +23,11 @@ pub extern "C" fn postman_read_plan(plan: &[u8], records: &mut [u8]) -> i64
     ensures { λ r. ⌜ (r ≡ oneNumber (packed (readAnswer (now (plan .entry)) (arcsIn (now (records .entry))))))
         × (now (records .exit) ≡ lentAfter (now (plan .entry)) (now (records .entry))) ⌝ }
 {
-    let read = read_answer(plan, records.len() / 7);
-    store_arcs(plan, arcs_read(read), records);
+    let reading = read_plan(plan);
+    let read = room_answer(reading, records.len() / 7);
+    let held = reading.plan;
+    let arcs = held.arcs;
+    store_arcs(arcs, arcs_read(read), records);
     read_number(read)
 }
 

@@ -7,7 +7,7 @@ use lib.ListN.{length, take, drop, replicate}
 use Rattle.postman.specs.Refusal.{unless}
 use Rattle.postman.specs.OpenPlan.{longestFile}
 use Rattle.refusal.specs.Verdict.{verdictNumber}
-use Rattle.records.specs.Writing.{atMost}
+use Rattle.record_writer.specs.Writing.{atMost}
 use Rattle.held_file.specs.declared.Held.{Held}
 use Rattle.held_file.specs.declared.Rewritten.{Rewritten}
 

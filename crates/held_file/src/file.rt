@@ -5,7 +5,7 @@ use crate::Rewritten;
 use plan::Plan;
 use plan_writer::Written;
 use plan_writer::writer::write_plan;
-use records::writer::at_most;
+use record_writer::writer::at_most;
 use refusal::Refusal;
 use refusal::Verdict;
 ghost use mathlib.Core.Path.{_≡_};
@@ -17,7 +17,7 @@ ghost use Rattle.postman.specs.PlanFile.{fileOf, writeRefusal};
 ghost use Rattle.postman.specs.OpenPlan.{longestFile};
 ghost use Rattle.plan.specs.Records.{planValue};
 ghost use Rattle.refusal.specs.Verdict.{refusalNumber};
-ghost use Rattle.records.specs.Writing.{atMost};
+ghost use Rattle.record_writer.specs.Writing.{atMost};
 ghost use Rattle.held_file.specs.Held.{heldOf, IsHeld};
 
 // The length of the file that is held; a number above 1,475 counts as 1,475.

@@ -1,4 +1,2 @@
 -- What is proved about the definitions.
-pub mod Packed
 pub mod Fields
-pub mod Arcs

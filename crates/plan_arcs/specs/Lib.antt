@@ -1,4 +1,2 @@
-pub mod Fields
-pub mod Packed
--- What is proved about them.
+-- What is proved about the fields of an arc.
 pub mod Laws

@@ -1,25 +1,24 @@
 // From bytes to a plan: the first refusal, or the plan.
 // Besides the calls, steps for other crates, which ask something of their caller.
 ghost use mathlib.Core.Path.{_≡_};
-ghost use mathlib.Core.List.{map, flatMap};
+ghost use mathlib.Core.List.{map};
 ghost use mathlib.Core.Option.{none};
 ghost use Prim.Native.Nat.{_+_, _*_, _<_, _≤_};
 ghost use lib.ListN.{length};
 ghost use Rattle.postman.specs.Lists.{below};
 ghost use Rattle.postman.specs.Refusal.{firstRefusal};
-ghost use Rattle.postman.specs.PlanFile.{edition, isEdition, arcWidth, fileBits, fileLength, fillBits, arcOf, arcConditions, planConditions, bodyConditions, fileConditions, planOf};
+ghost use Rattle.postman.specs.PlanFile.{edition, isEdition, arcWidth, fileBits, fileLength, fillBits, arcOf, fileConditions, planOf};
 ghost use Rattle.refusal.specs.Verdict.{verdictNumber};
 ghost use Rattle.plan.specs.Records.{recordOf, recordsOf, planRecord, noPlan};
-ghost use Rattle.plan_file.specs.Reading.{planFrom, extentOn, hasArc, recordIn, IsReading};
+ghost use Rattle.plan_file.specs.Reading.{marginConditions, extentOn, frameConditions, hasArc, recordIn, refusedReading, IsReading};
 use crate::Reading;
+use arc_rules::rules::is_outside;
+use arc_rules::verdicts::all_records_verdict;
 use bits::reader::take_at;
 use plan::Arc;
 use plan::Plan;
 use plan_arcs::arcs::arc_fields;
-use plan_arcs::arcs::field_verdict;
 use plan_arcs::arcs::file_bits;
-use plan_arcs::arcs::is_outside;
-use plan_arcs::repeated::repeated_verdict;
 use refusal::Refusal;
 use refusal::Verdict;
 
@@ -59,40 +58,10 @@ fn fill_bits(s: &[u8], edition: u8, m: usize) -> u32
     take_at(s, at, end - at).field
 }
 
-// The first refusal of the m arcs, arc by arc.
-fn arcs_verdict(s: &[u8], edition: u8, n: u32, m: usize) -> Verdict
-    requires { ⌜ (m ≤ 256) × (fileBits edition m ≤ 8 * length (now s)) ⌝ }
-    ensures { λ r. ⌜ verdictNumber r ≡ firstRefusal (flatMap (arcConditions edition n) (map (arcOf (now (s .entry)) edition) (below m))) ⌝ }
-{
-    for k in 0..m {
-        match field_verdict(s, edition, n, k) {
-            Verdict::Accepted => {}
-            Verdict::Refused(r) => {
-                return Verdict::Refused(r);
-            }
-        }
-    }
-    Verdict::Accepted
-}
-
-// The first refusal of the arcs: arc by arc, then of all together.
-fn all_arcs_verdict(s: &[u8], edition: u8, n: u32, m: usize) -> Verdict
-    requires { ⌜ (m ≤ 256) × (fileBits edition m ≤ 8 * length (now s)) ⌝ }
-    ensures { λ r. ⌜ verdictNumber r ≡ firstRefusal (planConditions edition (planFrom n (arcOf (now (s .entry)) edition) m)) ⌝ }
-{
-    match arcs_verdict(s, edition, n, m) {
-        Verdict::Accepted => {
-            let arcs = read_arcs(s, edition, m);
-            repeated_verdict(arcs, m)
-        }
-        Verdict::Refused(r) => Verdict::Refused(r),
-    }
-}
-
-// The first refusal once n and m are within their limits: the length, the margin, the arcs.
-fn body_verdict(s: &[u8], edition: u8, n: u32, m: usize) -> Verdict
+// The first refusal of the length and the margin, once m is within its limits.
+fn margin_verdict(s: &[u8], edition: u8, m: usize) -> Verdict
     requires { ⌜ m ≤ 256 ⌝ }
-    ensures { λ r. ⌜ verdictNumber r ≡ firstRefusal (bodyConditions (now (s .entry)) edition m (planFrom n (arcOf (now (s .entry)) edition) m)) ⌝ }
+    ensures { λ r. ⌜ verdictNumber r ≡ firstRefusal (marginConditions (now (s .entry)) edition m) ⌝ }
 {
     let needed = file_length(edition, m);
     if s.len() < needed {
@@ -105,10 +74,10 @@ fn body_verdict(s: &[u8], edition: u8, n: u32, m: usize) -> Verdict
     if fill != 0 {
         return Verdict::Refused(Refusal::Margin);
     }
-    all_arcs_verdict(s, edition, n, m)
+    Verdict::Accepted
 }
 
-// "1 to 64", "1 to 256": the first refusal from n and m on.
+// "1 to 64", "1 to 256": the first refusal from n and m on, before the arcs.
 fn extent_verdict(s: &[u8], edition: u8) -> Verdict
     requires { ⌜ 3 ≤ length (now s) ⌝ }
     ensures { λ r. ⌜ verdictNumber r ≡ firstRefusal (extentOn (now (s .entry)) edition) ⌝ }
@@ -121,12 +90,12 @@ fn extent_verdict(s: &[u8], edition: u8) -> Verdict
     if is_outside(m, 1, 256) {
         return Verdict::Refused(Refusal::Extent);
     }
-    body_verdict(s, edition, n, m as usize)
+    margin_verdict(s, edition, m as usize)
 }
 
-// The first refusal of a file, in document 01's order.
-pub fn file_verdict(s: &[u8]) -> Verdict
-    ensures { λ r. ⌜ verdictNumber r ≡ firstRefusal (fileConditions (now (s .entry))) ⌝ }
+// The first refusal of a file's frame: of all that is looked at before its arcs.
+fn frame_verdict(s: &[u8]) -> Verdict
+    ensures { λ r. ⌜ verdictNumber r ≡ firstRefusal (frameConditions (now (s .entry))) ⌝ }
 {
     if s.len() < 3 {
         return Verdict::Refused(Refusal::Torn);
@@ -199,9 +168,9 @@ fn read_arcs(s: &[u8], edition: u8, m: usize) -> [Arc; 256]
     arcs
 }
 
-// The plan of a file that is not refused.
-fn accepted_plan(s: &[u8]) -> Plan
-    requires { ⌜ firstRefusal (fileConditions (now s)) ≡ none ⌝ }
+// The plan of a file whose frame is good.
+fn framed_plan(s: &[u8]) -> Plan
+    requires { ⌜ firstRefusal (frameConditions (now s)) ≡ none ⌝ }
     ensures { λ r. ⌜ r ≡ planRecord (planOf (now (s .entry))) ⌝ }
 {
     let edition = file_edition(s);
@@ -233,27 +202,50 @@ pub fn no_plan() -> Plan
     }
 }
 
+// A file that is refused.
+fn refused(r: Refusal) -> Reading
+    ensures { λ x. ⌜ x ≡ refusedReading r ⌝ }
+{
+    let plan = no_plan();
+    Reading {
+        verdict: Verdict::Refused(r),
+        edition: 0,
+        plan: plan,
+    }
+}
+
+// Reading, once the frame is good. The records that the verdict on the arcs is about are those of the plan: each arc is decoded once.
+fn read_framed(s: &[u8]) -> Reading
+    requires { ⌜ firstRefusal (frameConditions (now s)) ≡ none ⌝ }
+    ensures { λ r. ⌜ IsReading (now (s .entry)) r ⌝ }
+{
+    let edition = file_edition(s);
+    let plan = framed_plan(s);
+    let arcs = plan.arcs;
+    match all_records_verdict(edition, plan.n, plan.m as usize, arcs) {
+        Verdict::Accepted => Reading {
+            verdict: Verdict::Accepted,
+            edition: edition,
+            plan: plan,
+        },
+        Verdict::Refused(r) => refused(r),
+    }
+}
+
 // Reading, from any bytes: the first refusal by document 01's order, or the edition and the plan.
 pub fn read_plan(s: &[u8]) -> Reading
     ensures { λ r. ⌜ IsReading (now (s .entry)) r ⌝ }
 {
-    match file_verdict(s) {
-        Verdict::Accepted => {
-            let edition = file_edition(s);
-            let plan = accepted_plan(s);
-            Reading {
-                verdict: Verdict::Accepted,
-                edition: edition,
-                plan: plan,
-            }
-        }
-        Verdict::Refused(r) => {
-            let plan = no_plan();
-            Reading {
-                verdict: Verdict::Refused(r),
-                edition: 0,
-                plan: plan,
-            }
-        }
+    match frame_verdict(s) {
+        Verdict::Accepted => read_framed(s),
+        Verdict::Refused(r) => refused(r),
     }
+}
+
+// The first refusal of a file, in document 01's order.
+pub fn file_verdict(s: &[u8]) -> Verdict
+    ensures { λ r. ⌜ verdictNumber r ≡ firstRefusal (fileConditions (now (s .entry))) ⌝ }
+{
+    let reading = read_plan(s);
+    reading.verdict
 }

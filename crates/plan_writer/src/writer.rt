@@ -1,57 +1,25 @@
 // From a plan to bytes: the first refusal, or the file.
 ghost use mathlib.Core.Path.{_≡_};
 ghost use mathlib.Core.Bool.{true};
-ghost use mathlib.Core.List.{_++_, map, flatMap};
+ghost use mathlib.Core.List.{_++_};
 ghost use Prim.Native.Nat.{_+_, _*_, _<_, _≤_};
 ghost use lib.ListN.{length, replicate, drop};
-ghost use Rattle.postman.specs.Lists.{below};
-ghost use Rattle.postman.specs.Refusal.{firstRefusal};
-ghost use Rattle.postman.specs.PlanFile.{isEdition, arcConditions, planConditions, arcWidth, fileBits, fileLength, fileOf, writeRefusal, writeAnswer, bytesAfter};
+ghost use Rattle.postman.specs.PlanFile.{isEdition, arcWidth, fileBits, fileLength, fileOf, writeRefusal, writeAnswer, bytesAfter};
 ghost use Rattle.refusal.specs.Verdict.{verdictNumber};
-ghost use Rattle.plan_file.specs.Reading.{planFrom};
 ghost use Rattle.plan_writer.specs.Writing.{writtenAnswer};
 ghost use Rattle.plan.specs.Records.{arcValue, recordAt, planValue};
 ghost use Rattle.plan_writer.specs.PlanUpdate.{putHeader, putCore, putArc, putArcs};
 use crate::Written;
+use arc_rules::rules::is_outside;
+use arc_rules::verdicts::all_records_verdict;
 use bits::put_field;
 use plan::Arc;
 use plan::Plan;
 use plan_arcs::arcs::file_bits;
-use plan_arcs::arcs::is_outside;
-use plan_arcs::arcs::record_verdict;
-use plan_arcs::repeated::repeated_verdict;
 use plan_file::reader::file_length;
 use plan_file::reader::is_edition;
 use refusal::Refusal;
 use refusal::Verdict;
-
-// The first refusal of the first m records, record by record.
-fn records_verdict(edition: u8, n: u8, m: usize, arcs: [Arc; 256]) -> Verdict
-    requires { ⌜ m ≤ 256 ⌝ }
-    ensures { λ r. ⌜ verdictNumber r ≡ firstRefusal (flatMap (arcConditions edition n) (map (recordAt arcs) (below m))) ⌝ }
-{
-    for k in 0..m {
-        let a = arcs[k];
-        match record_verdict(edition, n, a) {
-            Verdict::Accepted => {}
-            Verdict::Refused(r) => {
-                return Verdict::Refused(r);
-            }
-        }
-    }
-    Verdict::Accepted
-}
-
-// The first refusal of the records: one by one, then of all together.
-fn all_records_verdict(edition: u8, n: u8, m: usize, arcs: [Arc; 256]) -> Verdict
-    requires { ⌜ m ≤ 256 ⌝ }
-    ensures { λ r. ⌜ verdictNumber r ≡ firstRefusal (planConditions edition (planFrom n (recordAt arcs) m)) ⌝ }
-{
-    match records_verdict(edition, n, m, arcs) {
-        Verdict::Accepted => repeated_verdict(arcs, m),
-        Verdict::Refused(r) => Verdict::Refused(r),
-    }
-}
 
 // The first refusal from n and m on, of a plan that is to be written where there is room for `room` bytes.
 fn content_verdict(edition: u8, p: Plan, room: usize) -> Verdict

@@ -14,7 +14,7 @@ use Rattle.plan_writer.specs.declared.Written.{Written}
 use Rattle.plan_writer.specs.Writing.{writtenAnswer}
 use Rattle.records.specs.declared.reader.Read.{Read}
 use Rattle.records.specs.Reading.{readNumbers}
-use Rattle.records.specs.Writing.{listPlan}
+use Rattle.record_writer.specs.Writing.{listPlan}
 
 -- ---- reading
 

@@ -1,6 +1,4 @@
--- Lists of arc records: stores into a list, what reading and writing answer, and the round trip.
-pub mod Stored
+-- What reading into a list of arc records answers.
 pub mod Reading
-pub mod Writing
 -- What is proved about them.
 pub mod Laws

@@ -7,13 +7,13 @@ ghost use Rattle.postman.specs.PlanFile.{readAnswer, recordsAfter, writeAnswer,
 ghost use Rattle.plan.specs.Records.{arcValue};
 ghost use Rattle.plan_writer.specs.Writing.{writtenAnswer};
 ghost use Rattle.records.specs.Reading.{readNumbers};
-ghost use Rattle.records.specs.Writing.{listPlan};
+ghost use Rattle.record_writer.specs.Writing.{listPlan};
 use crate::reader::Read;
 use crate::reader::read_records;
-use crate::writer::at_most;
-use crate::writer::write_records;
 use plan::Arc;
 use plan_writer::Written;
+use record_writer::writer::at_most;
+use record_writer::writer::write_records;
 
 // One record more than a plan may have.
 pub struct Filled {

@@ -1,4 +1,3 @@
-// Plan files and lent lists of arc records: the bit reader, reading into a list, writing from one.
+// Plan files and lent lists of arc records: reading into a list, and both ways over an array.
 pub mod reader; // from bytes to a lent list
-pub mod writer; // from a lent list to bytes
-pub mod arrays; // the same over the first records of an array
+pub mod arrays; // reading and writing over the first records of an array

@@ -5,13 +5,12 @@ ghost use lib.ListN.{length};
 ghost use Rattle.postman.specs.Refusal.{answer};
 ghost use Rattle.postman.specs.PlanFile.{edition, arcOf, vertexCount, arcCount, readRefusal, readAnswer, recordsAfter};
 ghost use Rattle.plan.specs.Records.{arcValue, recordOf};
-ghost use Rattle.records.specs.Stored.{storedTo};
-ghost use Rattle.records.specs.Reading.{readNumbers, arcsRead, Room};
-use bits::reader::take_at;
+ghost use Rattle.record_writer.specs.Stored.{storedTo};
+ghost use Rattle.records.specs.Reading.{readNumbers, roomAnswer, arcsRead, Room};
 use plan::Arc;
+use plan_file::Reading;
 use plan_file::reader::file_arc;
-use plan_file::reader::file_edition;
-use plan_file::reader::file_verdict;
+use plan_file::reader::read_plan;
 use refusal::Refusal;
 use refusal::Verdict;
 
@@ -21,24 +20,30 @@ pub enum Read {
     Refused(Refusal),
 }
 
-// What reading answers where there is room for `room` records.
-pub fn read_answer(bytes: &[u8], room: usize) -> Read
-    ensures { λ r. ⌜ readNumbers r ≡ answer (readRefusal (now (bytes .entry)) room) (edition (now (bytes .entry)), vertexCount (now (bytes .entry)), arcCount (now (bytes .entry))) ⌝ }
+// What a reading answers where there is room for `room` records.
+pub fn room_answer(reading: Reading, room: usize) -> Read
+    ensures { λ r. ⌜ readNumbers r ≡ roomAnswer reading room ⌝ }
 {
-    match file_verdict(bytes) {
+    let plan = reading.plan;
+    let verdict = reading.verdict;
+    match verdict {
         Verdict::Accepted => {
-            let edition = file_edition(bytes);
-            let n = take_at(bytes, 4, 7);
-            let m = take_at(bytes, n.at, 9);
-            let count = m.field;
+            let count = plan.m;
             if room < count as usize {
                 return Read::Refused(Refusal::ShortSheet);
             }
-            let vertices = n.field;
-            Read::Given(edition, vertices as u8, count as u16)
+            Read::Given(reading.edition, plan.n, count)
         }
         Verdict::Refused(r) => Read::Refused(r),
     }
+}
+
+// What reading answers where there is room for `room` records.
+fn read_answer(bytes: &[u8], room: usize) -> Read
+    ensures { λ r. ⌜ readNumbers r ≡ answer (readRefusal (now (bytes .entry)) room) (edition (now (bytes .entry)), vertexCount (now (bytes .entry)), arcCount (now (bytes .entry))) ⌝ }
+{
+    let reading = read_plan(bytes);
+    room_answer(reading, room)
 }
 
 // How many records are stored: none in a refusal.

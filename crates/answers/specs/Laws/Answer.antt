@@ -15,7 +15,7 @@ use lib.Dec.{ltb}
 use lib.IntN.{ℤ, pos, negℤ, natAbs}
 use lib.ListN.{length, getD, set, take, drop, length-set, length-take, List·getD-append}
 use lib.Seq.{paste, paste-zero, paste-suc, getD-take}
-use Rattle.records.specs.Writing.{atMost}
+use Rattle.record_writer.specs.Writing.{atMost}
 use Rattle.postman.specs.Refusal.{answer, unless}
 use Rattle.solution.specs.declared.Planned.{Planned}
 use Rattle.refusal.specs.declared.Verdict.{Verdict}

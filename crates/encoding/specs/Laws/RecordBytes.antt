@@ -1,20 +1,19 @@
 -- Records as bytes: seven stores make one, and stores one after another make a list of them, since each record takes seven bytes.
-use mathlib.Core.Path.{_≡_, refl, sym, ap, ap₂, _∙_}
+use mathlib.Core.Path.{_≡_, refl, sym, ap, _∙_}
 use mathlib.Core.List.{List, [], _∷_, _++_, map, flatMap, append-assoc, append-nil}
 use Prim.Native.Nat.{ℕ, zero, suc, _+_, _*_, _/_, _%_, _<_, _≤_}
-use native.Mathlib.Nat.{div-add-mod'}
 use native.Mathlib.Omega.{arith}
-use lib.ListN.{length, getD, set, drop, replicate, length-drop, length-map, List·getD-map}
-use lib.Seq.{sets-eq, take-at, drop-append-add, drop-drop, drop-cons, getD-drop, ext-getD}
+use lib.ListN.{length, getD, set, drop, replicate, length-map, List·getD-map}
+use lib.Seq.{sets-eq, take-at, drop-append-add, drop-drop}
 use Rattle.postman.specs.Lists.{below}
 use Rattle.postman.specs.Plan.{Arc}
 use Rattle.plan.specs.declared.Arc.{Arc as ArcRecord}
 use Rattle.plan.specs.Records.{arcValue, recordOf, zeroRecord}
 use Rattle.postman.specs.Laws.Below.{length-map-below, map-below-more, getD-map-below}
-use Rattle.records.specs.Stored.{storedTo}
-use Rattle.records.specs.Writing.{atMost, loaded}
-use Rattle.records.specs.Laws.Writing.{at-most-fits}
-use Rattle.encoding.specs.RecordBytes.{arcBytes, numberIn, arcIn, arcsIn, withArc}
+use Rattle.record_writer.specs.Stored.{storedTo}
+use Rattle.record_writer.specs.Writing.{atMost, loaded}
+use Rattle.record_writer.specs.Laws.Writing.{at-most-fits}
+use Rattle.encoding.specs.RecordBytes.{arcBytes, arcIn, arcsIn, withArc}
 
 -- ---- a record
 
@@ -101,55 +100,3 @@ module _ (lent : List ℕ) where
       rw length-records
       (stored-same lentRecord (λ k. getD (map recordOf (arcsIn lent)) k zeroRecord) (replicate 256 zeroRecord) (atMost n 256)
       (λ k h. record-is k (omega (arith, at-most-fits n 256))))
-
--- ---- from bytes back to records
-
-abbrev noArc : Arc
-noArc = arcValue zeroRecord
-
--- The records from m on are those of the bytes from 7 m on.
-module _ (lent : List ℕ) (m : ℕ) where
-  abbrev left : List ℕ
-  left = drop (7 * m) lent
-
-  arc-left : (i : ℕ) → arcIn left i ≡ arcIn lent (7 * m + i)
-  arc-left i =
-      let at : (j : ℕ) → getD left (i + j) 0 ≡ getD lent (7 * m + i + j) 0 =
-      λ j. let e : 7 * m + i + j ≡ 7 * m + (i + j) = omega arith in rw e (getD-drop (7 * m) lent (i + j) 0)
-      in
-      let number : (j : ℕ) → numberIn left (i + j) ≡ numberIn lent (7 * m + i + j) =
-      λ j. let e : i + j + 1 ≡ i + (j + 1) = omega arith in let f : 7 * m + i + j + 1 ≡ 7 * m + i + (j + 1) = omega arith in rw (e, f) (ap₂ (λ (x y : ℕ). x * 256 + y) (at j) (at (j + 1)))
-      in
-      λ k. record { tail = getD-drop (7 * m) lent i 0 k; head = at 1 k; standing = at 2 k; cost = number 3 k; service = number 5 k }
-
-  length-left : length (arcsIn left) ≡ length (drop m (arcsIn lent))
-  length-left = omega (arith, length-lent left, length-drop (7 * m) lent, length-drop m (arcsIn lent), length-lent lent)
-
-  pub arcs-left : arcsIn left ≡ drop m (arcsIn lent)
-  arcs-left = ext-getD noArc (arcsIn left) (drop m (arcsIn lent)) length-left at
-    where
-      at : (k : ℕ) → k < length (arcsIn left) → getD (arcsIn left) k noArc ≡ getD (drop m (arcsIn lent)) k noArc
-      at k h =
-          let e : 7 * m + 7 * k ≡ 7 * (m + k) = omega arith in
-          let inside : m + k < length lent / 7 = omega (arith, length-left, length-drop m (arcsIn lent), length-lent lent) in
-          lent-at left k noArc (omega (arith, length-lent left))
-          ∙ arc-left (7 * k)
-          ∙ ap (arcIn lent) e
-          ∙ sym (getD-drop m (arcsIn lent) k noArc ∙ lent-at lent (m + k) noArc inside)
-
--- The first record of a record's bytes is that record, and the next ones are those of the bytes after it.
-one-arc : (a : Arc) (l : List ℕ) → arcsIn (arcBytes a ++ l) ≡ a ∷ arcsIn l
-unfolding arcBytes
-one-arc a l =
-    let all = arcBytes a ++ l in
-    let some : 0 < length all / 7 = omega arith in
-    let first : getD (arcsIn all) 0 noArc ≡ a =
-    lent-at all 0 noArc some ∙ (λ i. record { tail = a .tail; head = a .head; standing = a .standing; cost = div-add-mod' (a .cost) 256 i; service = div-add-mod' (a .service) 256 i })
-    in
-    drop-cons (arcsIn all) 0 noArc (omega (arith, length-lent all)) ∙ ap (λ (x : Arc). x ∷ drop 1 (arcsIn all)) first ∙ ap (λ (xs : List Arc). a ∷ xs) (sym (arcs-left all 1))
-
-pub arcs-back : (arcs : List Arc) (l : List ℕ) → arcsIn (flatMap arcBytes arcs ++ l) ≡ arcs ++ arcsIn l
-unfolding flatMap
-arcs-back [] l = refl
-arcs-back (a ∷ arcs) l =
-    ap arcsIn (append-assoc (arcBytes a) (flatMap arcBytes arcs) l) ∙ one-arc a (flatMap arcBytes arcs ++ l) ∙ ap (λ (xs : List Arc). a ∷ xs) (arcs-back arcs l)

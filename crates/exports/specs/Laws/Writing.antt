@@ -16,8 +16,8 @@ use Rattle.plan.specs.Records.{arcValue, recordOf, planValue}
 use Rattle.postman.specs.Laws.Acceptance.{few-arcs}
 use Rattle.postman.specs.Laws.FileLength.{fileLength-le}
 use Rattle.plan_writer.specs.Laws.Writing.{headerRefusal, too-many-vertices, no-edition, refused-answer, refused-bytes, length-given}
-use Rattle.records.specs.Writing.{atMost, countedPlan, listPlan, loaded}
-use Rattle.records.specs.Laws.Writing.{at-most-same, at-most-limit, same-answer, same-bytes}
+use Rattle.record_writer.specs.Writing.{atMost, countedPlan, listPlan, loaded}
+use Rattle.record_writer.specs.Laws.Writing.{at-most-same, at-most-limit, same-answer, same-bytes}
 use Rattle.encoding.specs.RecordBytes.{arcsIn}
 use Rattle.exports.specs.Codec.{lentPlan}
 use Rattle.encoding.specs.Laws.RecordBytes.{length-records}

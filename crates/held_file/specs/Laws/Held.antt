@@ -14,7 +14,7 @@ use Rattle.postman.specs.Laws.FileLength.{fileLength-le}
 use Rattle.postman.specs.Laws.Acceptance.{accepted-is-file, accepted-is-writable}
 use Rattle.postman.specs.Laws.PlanFile.{length-fileOf}
 use Rattle.plan_writer.specs.Laws.Writing.{length-given, given-bytes}
-use Rattle.records.specs.Laws.Writing.{at-most-same}
+use Rattle.record_writer.specs.Laws.Writing.{at-most-same}
 use Rattle.refusal.specs.declared.Verdict.the-variants.{Accepted}
 use Rattle.held_file.specs.declared.Held.{Held}
 use Rattle.held_file.specs.declared.Rewritten.{Rewritten}

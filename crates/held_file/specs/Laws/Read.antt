@@ -14,7 +14,7 @@ use Rattle.plan_file.specs.declared.Reading.{Reading}
 use Rattle.plan_file.specs.Reading.{IsReading}
 use Rattle.plan_file.specs.Laws.Reading.{accepted-edition, accepted-value}
 use Rattle.refusal.specs.Verdict.{verdictNumber}
-use Rattle.records.specs.Writing.{atMost}
+use Rattle.record_writer.specs.Writing.{atMost}
 use Rattle.held_file.specs.declared.Held.{Held}
 use Rattle.held_file.specs.declared.Rewritten.{Rewritten}
 use Rattle.held_file.specs.Held.{fileIn, IsHeld}

@@ -1,9 +1,9 @@
 -- Records filled one by one, and read back as arcs.
 use mathlib.Core.Path.{_≡_, sym, ap, _∙_}
 use mathlib.Core.List.{List, [], _∷_, _++_, map, map-append}
-use Prim.Native.Nat.{ℕ, suc, _+_, _-_, _<_, _≤_}
+use Prim.Native.Nat.{ℕ, suc, _+_, _-_, _<_}
 use native.Mathlib.Omega.{arith}
-use lib.ListN.{length, getD, set, replicate, length-map, length-append, length-replicate, List·getD-append, List·getD-map}
+use lib.ListN.{length, getD, set, replicate, length-map, List·getD-append, List·getD-map}
 use lib.Seq.{set-at, append-snoc, ext-getD}
 use Rattle.postman.specs.Lists.{below}
 use Rattle.postman.specs.Plan.{Arc, Plan}
@@ -29,13 +29,6 @@ records-more f k h =
     ∙ ap (λ (l : List ArcRecord). l ++ replicate (256 - (k + 1)) zeroRecord) (map-append recordOf (map f (below k)) (f k ∷ []))
     ∙ append-snoc done (recordOf (f k)) (replicate (256 - (k + 1)) zeroRecord))
 
--- There are 256 records.
-pub length-records : (arcs : List Arc) → length arcs ≤ 256 → length (recordsOf arcs) ≡ 256
-unfolding recordsOf
-length-records arcs h =
-    length-append (map recordOf arcs) (replicate (256 - length arcs) zeroRecord)
-    ∙ omega (arith, length-map arcs recordOf, length-replicate (256 - length arcs) zeroRecord)
-
 -- Record k of the arcs is arc k.
 record-at : (arcs : List Arc) (k : ℕ) → k < length arcs → recordAt (recordsOf arcs) k ≡ getD arcs k (arcValue zeroRecord)
 unfolding recordsOf
@@ -57,13 +50,3 @@ value-record p = rw same
         (λ k h.
         let l : k < length (p .arcs) = rw (length-map-below f (length (p .arcs))) at h in
         getD-map-below f (length (p .arcs)) k (arcValue zeroRecord) l ∙ record-at (p .arcs) k l)
-
--- Records that hold m arcs, read as m arcs again.
-arcs-back : (f : ℕ → Arc) (m : ℕ) → map (recordAt (recordsOf (map f (below m)))) (below m) ≡ map f (below m)
-unfolding planValue planRecord
-arcs-back f m =
-    let g : List ℕ → List Arc = map (recordAt (recordsOf (map f (below m)))) in
-    ap (λ k. g (below k)) (sym (length-map-below f m)) ∙ ap (λ (p : Plan). p .arcs) (value-record (record { n = 0; arcs = map f (below m) }))
-
-pub arcs-read : (f : ℕ → Arc) (m : ℕ) (records : List ArcRecord) → records ≡ recordsOf (map f (below m)) → map (recordAt records) (below m) ≡ map f (below m)
-arcs-read f m records e = ap (λ (r : List ArcRecord). map (recordAt r) (below m)) e ∙ arcs-back f m

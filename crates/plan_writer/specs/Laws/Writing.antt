@@ -14,7 +14,7 @@ use Rattle.plan.specs.declared.Plan.{Plan}
 use Rattle.postman.specs.Laws.Below.{length-map-below}
 use Rattle.postman.specs.Laws.Refusal.{first-on, first-stop, answer-refused, answer-given, was-given, was-refused}
 use Rattle.plan.specs.Records.{recordAt, planValue}
-use Rattle.plan_file.specs.Reading.{planFrom}
+use Rattle.arc_rules.specs.Arcs.{planFrom}
 
 -- The conditions of writing, of the edition, n, m and the records themselves.
 pub plan-refusal

@@ -11,11 +11,11 @@ use lib.ListN.{length, take}
 use lib.Seq.{length-take-le, getD-take}
 use Rattle.postman.specs.BitField.{bitAt, fieldAt}
 use Rattle.postman.specs.Refusal.{firstRefusal}
-use Rattle.postman.specs.Plan.{Plan}
-use Rattle.postman.specs.PlanFile.{edition, isEdition, isOutside, fileLength, bodyConditions, fileConditions}
+use Rattle.postman.specs.PlanFile.{edition, isEdition, isOutside, fileLength, fileConditions}
 use Rattle.postman.specs.PlanCall.{callRefusal}
 use Rattle.postman.specs.Laws.BitField.{number-same}
-use Rattle.plan_file.specs.Laws.Reading.{file-refusal, extent-refusal}
+use Rattle.plan_file.specs.Reading.{marginConditions}
+use Rattle.plan_file.specs.Laws.Reading.{frame-refusal, extent-refusal, frame-refused}
 use Rattle.postman.specs.Laws.Acceptance.{inside}
 use Rattle.postman.specs.Laws.FileLength.{fileLength-le}
 use Rattle.planner.specs.Laws.Call.{file-refused}
@@ -41,17 +41,18 @@ longRefusal : ℕ → ℕ → ℕ → ℕ
 longRefusal e n m = cond (not (isEdition e)) 2 (cond (isOutside n 1 64 || isOutside m 1 256) 3 4)
 
 module _ (bytes : List ℕ) (long : 1476 ≤ length bytes) where
-  margin : (e m : ℕ) (p : Plan) → m ≤ 256 → firstRefusal (bodyConditions bytes e m p) ≡ some 4
-  unfolding firstRefusal bodyConditions
-  margin e m p h =
+  margin : (e m : ℕ) → m ≤ 256 → firstRefusal (marginConditions bytes e m) ≡ some 4
+  unfolding firstRefusal marginConditions
+  margin e m h =
       let l = fileLength-le e m h in
       rw (le-ltb (length bytes) (fileLength e m) (omega arith), lt-ltb (fileLength e m) (length bytes) (omega arith))
 
-  by-header : (e n m : ℕ) (p : Plan)
-      → cond (not (isEdition e)) (some 2) (cond (isOutside n 1 64 || isOutside m 1 256) (some 3) (firstRefusal (bodyConditions bytes e m p)))
+  by-header : (e n m : ℕ)
+      → cond (not (isEdition e)) (some 2)
+      (cond (isOutside n 1 64 || isOutside m 1 256) (some 3) (firstRefusal (marginConditions bytes e m)))
       ≡ some (longRefusal e n m)
   unfolding longRefusal
-  by-header e n m p = at (not (isEdition e)) (isOutside n 1 64) (isOutside m 1 256) (λ h. margin e m p (inside m 1 256 h .1))
+  by-header e n m = at (not (isEdition e)) (isOutside n 1 64) (isOutside m 1 256) (λ h. margin e m (inside m 1 256 h .1))
     where
       at : (x y z : Bool) {o : Option ℕ} → (z ≡ false → o ≡ some 4) → cond x (some 2) (cond (y || z) (some 3) o) ≡ some (cond x 2 (cond (y || z) 3 4))
       at true y z f = refl
@@ -61,8 +62,10 @@ module _ (bytes : List ℕ) (long : 1476 ≤ length bytes) where
 
   file-long : firstRefusal (fileConditions bytes) ≡ some (longRefusal (edition bytes) (fieldAt bytes 4 7) (fieldAt bytes 11 9))
   file-long =
-      file-refusal bytes
-      ∙ rw (le-ltb (length bytes) 3 (omega arith), extent-refusal bytes (edition bytes)) (by-header (edition bytes) (fieldAt bytes 4 7) (fieldAt bytes 11 9) _)
+      frame-refused bytes _
+      (frame-refusal bytes
+      ∙ rw (le-ltb (length bytes) 3 (omega arith), extent-refusal bytes (edition bytes))
+      (by-header (edition bytes) (fieldAt bytes 4 7) (fieldAt bytes 11 9)))
 
   call-long : (budget places : ℕ) → callRefusal bytes budget places ≡ some (longRefusal (edition bytes) (fieldAt bytes 4 7) (fieldAt bytes 11 9))
   call-long budget places = file-refused bytes budget places _ file-long

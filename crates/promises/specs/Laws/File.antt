@@ -15,7 +15,7 @@ use Rattle.plan.specs.declared.Arc.{Arc}
 use Rattle.plan.specs.Records.{arcValue}
 use Rattle.plan_writer.specs.Laws.Writing.{length-given}
 use Rattle.plan_writer.specs.Laws.Reread.{written-file}
-use Rattle.records.specs.Writing.{listPlan}
+use Rattle.record_writer.specs.Writing.{listPlan}
 use Rattle.records.specs.Laws.Reading.{map-drop}
 
 module _ (bytes : List ℕ) (list : List Arc) where

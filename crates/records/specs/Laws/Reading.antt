@@ -1,27 +1,35 @@
 -- Reading into a lent list: its refusal, by the file's refusal and the room; and what the stored records are.
 use mathlib.Core.Path.{_≡_, refl, ap, _∙_}
+use mathlib.Core.Bool.{cond}
 use mathlib.Core.List.{List, [], _∷_, _++_, map, map-append, map-map}
-use mathlib.Core.Option.{none, some}
+use mathlib.Core.Option.{Option, none, some}
 use Prim.Native.Nat.{ℕ, zero, suc, _*_, _<_, _≤_}
 use native.Mathlib.Omega.{arith}
 use lib.ListN.{length, drop, length-map}
 use lib.Dec.{ltb}
-use borrow.Author.Tests.{lt-ltb}
+use borrow.Author.Tests.{lt-ltb, le-ltb}
 use Rattle.postman.specs.Lists.{below}
 use Rattle.postman.specs.Plan.{Arc}
-use Rattle.postman.specs.Refusal.{firstRefusal, answer, unless}
+use Rattle.postman.specs.Refusal.{firstRefusal, refused, given, answer, unless}
 use Rattle.postman.specs.PlanFile.{edition, arcOf, vertexCount, arcCount, planOf, fileBits, fileConditions, readRefusal, readAnswer, recordsAfter}
 use Rattle.plan.specs.declared.Arc.{Arc as ArcRecord}
-use Rattle.plan.specs.Records.{arcValue, recordOf}
+use Rattle.plan.specs.declared.Plan.{Plan as PlanRecord}
+use Rattle.plan.specs.Records.{arcValue, recordOf, planRecord}
+use Rattle.plan_file.specs.declared.Reading.{Reading}
+use Rattle.plan_file.specs.Reading.{IsReading, planUnless}
+use Rattle.plan_file.specs.Laws.Reading.{accepted-edition}
+use Rattle.refusal.specs.declared.Refusal.{Refusal}
+use Rattle.refusal.specs.declared.Verdict.the-variants as Verdict
+use Rattle.refusal.specs.declared.Verdict.the-variants.{Accepted}
 use Rattle.refusal.specs.Verdict.{refusalNumber}
-use Rattle.postman.specs.Laws.Refusal.{first-stop, given-last, was-given, was-refused}
+use Rattle.postman.specs.Laws.Refusal.{first-on, first-stop, was-given, was-refused}
 use Rattle.postman.specs.Laws.FileLength.{bits-fit}
-use Rattle.postman.specs.Laws.Acceptance.{accepted-is-file, read-is-file, file-is-read}
+use Rattle.postman.specs.Laws.Acceptance.{read-is-file, vertices-read, arcs-read}
 use Rattle.records.specs.declared.reader.Read.{Read}
 use Rattle.records.specs.declared.reader.Read.the-variants.{Given, Refused}
-use Rattle.records.specs.Stored.{storedTo}
-use Rattle.records.specs.Laws.Stored.{stored-is}
-use Rattle.records.specs.Reading.{readNumbers, arcsRead, Room}
+use Rattle.record_writer.specs.Stored.{storedTo}
+use Rattle.record_writer.specs.Laws.Stored.{stored-is}
+use Rattle.records.specs.Reading.{readNumbers, roomAnswer, arcsRead, Room}
 
 -- ---- lists
 
@@ -32,17 +40,45 @@ map-drop f (x ∷ xs) (suc k) = map-drop f xs k
 
 -- ---- the refusal: the file's, or else 8 by the list's room
 
-module _ (bytes : List ℕ) (room : ℕ) where
-  pub refusal-of-file : (r : ℕ) → firstRefusal (fileConditions bytes) ≡ some r → readRefusal bytes room ≡ some r
-  unfolding readRefusal
-  refusal-of-file r e = first-stop (fileConditions bytes) _ r e
+module _ (r : Reading) (room : ℕ) where
+  pub too-short : r .verdict ≡ Accepted → room < r .plan .m → refused 8 ≡ roomAnswer r room
+  unfolding answer
+  too-short e h = rw (e, lt-ltb room (r .plan .m) h) refl
 
-  pub too-short : firstRefusal (fileConditions bytes) ≡ none → room < arcCount bytes → readRefusal bytes room ≡ some 8
-  unfolding readRefusal
-  too-short e h = given-last (fileConditions bytes) (ltb room (arcCount bytes)) 8 e (rw (lt-ltb room (arcCount bytes) h) tt)
+  pub long-enough : r .verdict ≡ Accepted → r .plan .m ≤ room → given (r .edition, r .plan .n, r .plan .m) ≡ roomAnswer r room
+  unfolding answer
+  long-enough e h = rw (e, le-ltb room (r .plan .m) h) refl
 
-  pub long-enough : firstRefusal (fileConditions bytes) ≡ none → arcCount bytes ≤ room → readRefusal bytes room ≡ none
-  long-enough e h = file-is-read bytes room (accepted-is-file bytes e) h
+  pub refusal-of-file : (q : Refusal) → r .verdict ≡ Verdict.Refused q → refused (refusalNumber q) ≡ roomAnswer r room
+  unfolding answer
+  refusal-of-file q e = rw e refl
+
+module _ (bytes : List ℕ) (room : ℕ) (r : Reading) (read : IsReading bytes r) where
+  abbrev Same : Type 0
+  Same = roomAnswer r room ≡ answer (readRefusal bytes room) (edition bytes, vertexCount bytes, arcCount bytes)
+
+  accepted : firstRefusal (fileConditions bytes) ≡ none → Same
+  unfolding readRefusal firstRefusal planRecord planUnless
+  accepted e =
+      let plan = rw e at (read .plan) in
+      let n : r .plan .n ≡ vertexCount bytes = ap (λ (p : PlanRecord). p .n) plan ∙ vertices-read bytes in
+      let m : r .plan .m ≡ arcCount bytes = ap (λ (p : PlanRecord). p .m) plan ∙ arcs-read bytes in
+      let same : _≡_ {A = ℕ × ℕ × ℕ} (r .edition, r .plan .n, r .plan .m) (edition bytes, vertexCount bytes, arcCount bytes) =
+      λ i. (accepted-edition bytes r read e i, n i, m i)
+      in
+      rw (read .verdict, e, first-on (fileConditions bytes) ((ltb room (arcCount bytes), 8) ∷ []) e)
+      (ap (λ (x : ℕ × ℕ × ℕ). answer (cond (ltb room (x .2)) (some 8) none) x) same)
+
+  stopped : (k : ℕ) → firstRefusal (fileConditions bytes) ≡ some k → Same
+  unfolding readRefusal answer
+  stopped k e = rw (read .verdict, e, first-stop (fileConditions bytes) ((ltb room (arcCount bytes), 8) ∷ []) k e) refl
+
+  pub room-answer : Same
+  room-answer = by (firstRefusal (fileConditions bytes)) refl
+    where
+      by : (o : Option ℕ) → firstRefusal (fileConditions bytes) ≡ o → Same
+      by none e = accepted e
+      by (some k) e = stopped k e
 
 -- ---- the stored records
 

@@ -4,9 +4,9 @@ use mathlib.Core.Path.{_≡_, refl, _∙_, ap}
 use Prim.Native.Nat.{_/_, _≤_, _-_}
 use native.Mathlib.Omega.{arith}
 use lib.ListN.{length, set}
-use Rattle.records.specs.Stored.{storedTo}
-use Rattle.records.specs.Writing.{atMost}
-use Rattle.records.specs.Laws.Writing.{at-most-le, at-most-fits}
+use Rattle.record_writer.specs.Stored.{storedTo}
+use Rattle.record_writer.specs.Writing.{atMost}
+use Rattle.record_writer.specs.Laws.Writing.{at-most-le, at-most-fits}
 use Rattle.encoding.specs.Laws.RecordBytes.{lentRecord, loaded-is}
 use borrow.Author.Needs.{needs}
 use Rattle.encoding.proofs.record_bytes.load_records.Statement.{statement}

@@ -5,7 +5,7 @@ use lib.ListN.{length}
 use lib.Seq.{length-take-le}
 use native.Mathlib.Omega.{arith}
 use Rattle.refusal.specs.Verdict.{verdictNumber}
-use Rattle.records.specs.Laws.Writing.{at-most-le}
+use Rattle.record_writer.specs.Laws.Writing.{at-most-le}
 use Rattle.held_file.specs.Laws.Read.{reading-of, few-records, change-unread, change-read}
 use Rattle.held_file.specs.Change.{changeOf}
 use borrow.Author.Needs.{needs, length-unmapped}

@@ -4,7 +4,7 @@ use Prim.Native.Nat.{ℕ}
 use native.Mathlib.Omega.{arith}
 use lib.ListN.{length}
 use lib.Seq.{length-take-le}
-use Rattle.records.specs.Laws.Writing.{at-most-le}
+use Rattle.record_writer.specs.Laws.Writing.{at-most-le}
 use borrow.Author.Needs.{needs, length-unmapped}
 use Rattle.open_plan.proofs.call.ask.Statement.{statement}
 use Rattle.open_plan.proofs.call.ask.Tie as tie

@@ -1,14 +1,14 @@
 -- `extent_verdict` meets its contract: `extent-refusal` gives the order of the conditions, and the tests on the way say which apply.
-use mathlib.Core.Path.{_≡_, _∙_, sym, ap, ap₂}
+use mathlib.Core.Path.{_≡_, _∙_, sym, ap}
 use mathlib.Core.Bool.{true, false}
 use Prim.Native.Nat.{ℕ}
 use native.Mathlib.Omega.{arith}
 use Rattle.bits.specs.Laws.Taking.{header-taken}
 use Rattle.postman.specs.BitField.{fieldAt}
 use Rattle.postman.specs.Refusal.{firstRefusal}
-use Rattle.postman.specs.PlanFile.{isOutside, arcOf, bodyConditions}
+use Rattle.postman.specs.PlanFile.{isOutside}
 use Rattle.postman.specs.Laws.Acceptance.{inside}
-use Rattle.plan_file.specs.Reading.{planFrom}
+use Rattle.plan_file.specs.Reading.{marginConditions}
 use Rattle.plan_file.specs.Laws.Reading.{extent-refusal}
 use borrow.Author.Needs.{needs}
 use Rattle.plan_file.proofs.reader.extent_verdict.Statement.{statement}
@@ -42,11 +42,11 @@ returns-2 c =
     ap (λ (m : ℕ). isOutside m 1 256) (sym (c .before .before .take-at2 .ensures .0 ∙ header-taken (a .s .now) 11 9 (omega arith) (omega arith) (omega arith))) ∙ sym (c .before .is-outside2 .ensures) ∙ c .if2 .taken in
     rw (extent-refusal (a .s .now) (a .edition)) (simp (vertices, extent))
 
-cast-body-verdict : tie.Need-cast-body-verdict
-cast-body-verdict c = search needs
+cast-margin-verdict : tie.Need-cast-margin-verdict
+cast-margin-verdict c = search needs
 
-body-verdict-requires : tie.Need-body-verdict-requires
-body-verdict-requires c κs = inside (c .before .before .take-at2 .result .field) 1 256 (sym (c .before .is-outside2 .ensures) ∙ c .if2 .left) .1
+margin-verdict-requires : tie.Need-margin-verdict-requires
+margin-verdict-requires c κs = inside (c .before .before .take-at2 .result .field) 1 256 (sym (c .before .is-outside2 .ensures) ∙ c .if2 .left) .1
 
 returns-3 : tie.Need-returns-3
 returns-3 c =
@@ -60,7 +60,7 @@ returns-3 c =
     ap (λ (m : ℕ). isOutside m 1 256) (sym m) ∙ sym (c .before .before .is-outside2 .ensures) ∙ c .before .if2 .left in
     rw (extent-refusal s (a .edition))
     (simp (vertices, extent)
-    (c .body-verdict .ensures ∙ ap₂ (λ (x y : ℕ). firstRefusal (bodyConditions s (a .edition) y (planFrom x (arcOf s (a .edition)) y))) n m))
+    (c .margin-verdict .ensures ∙ ap (λ (x : ℕ). firstRefusal (marginConditions s (a .edition) x)) m))
 
 pub extent-verdict-spec : {M : Type 1} → statement M
 extent-verdict-spec =
@@ -72,6 +72,6 @@ extent-verdict-spec =
     take-at-requires-2
     is-outside-requires-2
     returns-2
-    cast-body-verdict
-    body-verdict-requires
+    cast-margin-verdict
+    margin-verdict-requires
     returns-3)

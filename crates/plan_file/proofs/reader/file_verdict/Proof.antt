@@ -1,51 +1,13 @@
--- `file_verdict` meets its contract: `file-refusal` gives the order of the header's conditions, and the tests on the way say which apply.
-use mathlib.Core.Path.{_≡_, _∙_, sym, ap}
-use mathlib.Core.Bool.{true, false}
-use Prim.Native.Nat.{ℕ}
-use lib.ListN.{length}
-use borrow.Author.Tests.{lt-ltb, le-ltb}
-use Rattle.postman.specs.Refusal.{firstRefusal}
-use Rattle.postman.specs.PlanFile.{edition, isEdition}
-use Rattle.plan_file.specs.Reading.{extentOn}
-use Rattle.plan_file.specs.Laws.Reading.{file-refusal}
+-- `file_verdict` meets its contract: the verdict is that of reading.
 use borrow.Author.Needs.{needs}
 use Rattle.plan_file.proofs.reader.file_verdict.Statement.{statement}
 use Rattle.plan_file.proofs.reader.file_verdict.Tie as tie
 
+read-plan-requires : tie.Need-read-plan-requires
+read-plan-requires c κs = search needs
+
 returns : tie.Need-returns
-returns c =
-    let s = c .before .before .args .s .now in
-    rw (file-refusal s) (simp (lt-ltb (length s) 3 (c .if1 .taken)))
-
-file-edition-requires : tie.Need-file-edition-requires
-file-edition-requires c κs = search needs
-
-is-edition-requires : tie.Need-is-edition-requires
-is-edition-requires c κs = search needs
-
-extent-verdict-requires : tie.Need-extent-verdict-requires
-extent-verdict-requires c κs = search needs
-
-returns-2 : tie.Need-returns-2
-returns-2 c =
-    let s = c .before .before .before .before .before .before .args .s .now in
-    let e = c .before .before .before .file-edition .ensures in
-    let known : isEdition (edition s) ≡ true = ap isEdition (sym e) ∙ sym (c .before .before .is-edition .ensures) ∙ c .before .if2 .taken in
-    rw (file-refusal s) (simp (le-ltb (length s) 3 (c .before .before .before .before .if1 .left), known) (c .extent-verdict .ensures ∙ ap (λ (x : ℕ). firstRefusal (extentOn s x)) e))
-
-returns-3 : tie.Need-returns-3
-returns-3 c =
-    let s = c .before .before .before .before .before .args .s .now in
-    let known : isEdition (edition s) ≡ false = ap isEdition (sym (c .before .before .file-edition .ensures)) ∙ sym (c .before .is-edition .ensures) ∙ c .if2 .left in
-    rw (file-refusal s) (simp (le-ltb (length s) 3 (c .before .before .before .if1 .left), known))
+returns c = c .read-plan .ensures .verdict
 
 pub file-verdict-spec : {M : Type 1} → statement M
-file-verdict-spec =
-    tie.close
-    (tie.spec
-    returns
-    file-edition-requires
-    is-edition-requires
-    extent-verdict-requires
-    returns-2
-    returns-3)
+file-verdict-spec = tie.close (tie.spec read-plan-requires returns)

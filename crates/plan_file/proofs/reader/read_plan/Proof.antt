@@ -1,50 +1,35 @@
--- `read_plan` meets its contract: the verdict is the file's, and the edition and the plan go by it.
-use mathlib.Core.Path.{refl, _∙_, sym, ap}
-use Rattle.plan_file.specs.Reading.{editionUnless, planUnless}
+-- `read_plan` meets its contract: a file is refused for its frame, or else read.
+use mathlib.Core.Path.{_∙_, sym, ap}
 use Rattle.refusal.specs.Verdict.{verdictNumber}
+use Rattle.plan_file.specs.Laws.Reading.{frame-refused, refused-reading}
 use borrow.Author.Needs.{needs}
 use Rattle.plan_file.proofs.reader.read_plan.Statement.{statement}
 use Rattle.plan_file.proofs.reader.read_plan.Tie as tie
 
-file-verdict-requires : tie.Need-file-verdict-requires
-file-verdict-requires c κs = search needs
+frame-verdict-requires : tie.Need-frame-verdict-requires
+frame-verdict-requires c κs = search needs
 
 enum-told : tie.Need-enum-told
 enum-told c = search needs
 
-file-edition-requires : tie.Need-file-edition-requires
-file-edition-requires c κs = search needs
-
-accepted-plan-requires : tie.Need-accepted-plan-requires
-accepted-plan-requires c κs = sym (c .before .before .before .file-verdict .ensures) ∙ ap verdictNumber (c .before .enum-told .given .1)
+read-framed-requires : tie.Need-read-framed-requires
+read-framed-requires c κs = sym (c .before .before .frame-verdict .ensures) ∙ ap verdictNumber (c .enum-told .given .1)
 
 enum-known-r : tie.Need-enum-known-r
 enum-known-r c = search needs
 
-no-plan-requires : tie.Need-no-plan-requires
-no-plan-requires c κs = search needs
+refused-requires : tie.Need-refused-requires
+refused-requires c κs = search needs
 
 returns : tie.Need-returns
-unfolding editionUnless planUnless
-returns c =
-    let accepted = ap verdictNumber (sym (c .before .before .enum-told .given .1)) ∙ c .before .before .before .before .file-verdict .ensures in
-    record { verdict = accepted; edition-is = rw (sym accepted) (c .before .file-edition .ensures); plan = rw (sym accepted) (c .accepted-plan .ensures) }
+returns c = c .read-framed .ensures
 
 returns-2 : tie.Need-returns-2
-unfolding editionUnless planUnless
 returns-2 c =
-    let refused = ap verdictNumber (sym (c .before .before .r .given .1)) ∙ c .before .before .before .before .file-verdict .ensures in
-    record { verdict = refused; edition-is = rw (sym refused) refl; plan = rw (sym refused) (c .no-plan .ensures) }
+    let s = c .before .before .before .before .before .before .args .s .now in
+    let stopped = sym (c .before .before .before .before .frame-verdict .ensures) ∙ ap verdictNumber (c .before .before .r .given .1) in
+    refused-reading s _ _ (c .refused .ensures) (frame-refused s _ stopped)
 
 pub read-plan-spec : {M : Type 1} → statement M
 read-plan-spec =
-    tie.close
-    (tie.spec
-    file-verdict-requires
-    enum-told
-    file-edition-requires
-    accepted-plan-requires
-    enum-known-r
-    no-plan-requires
-    returns
-    returns-2)
+    tie.close (tie.spec frame-verdict-requires enum-told read-framed-requires enum-known-r refused-requires returns returns-2)

@@ -6,7 +6,7 @@ use lib.ListN.{length, take, drop}
 use Rattle.postman.specs.PlanFile.{readAnswer, recordsAfter}
 use Rattle.plan.specs.declared.Arc.{Arc}
 use Rattle.plan.specs.Records.{arcValue}
-use Rattle.records.specs.Laws.Writing.{at-most-le, take-at-most, drop-at-most}
+use Rattle.record_writer.specs.Laws.Writing.{at-most-le, take-at-most, drop-at-most}
 use borrow.Author.Needs.{needs}
 use Rattle.records.proofs.arrays.read_array.Statement.{statement}
 use Rattle.records.proofs.arrays.read_array.Tie as tie

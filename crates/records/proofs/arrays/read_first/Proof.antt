@@ -54,7 +54,7 @@ use Rattle.plan.proofs.Arc as T
 use Rattle.records.specs.declared.reader.Read.{Read}
 use Rattle.records.specs.declared.arrays.Filled.{Filled}
 use Rattle.records.specs.Reading.{readNumbers}
-use Rattle.records.proofs.Rows.{arc-vals, arc-tells, Arcs, arcs-ty, arcs-val, arcs-typed, arcs-makes, arcs-field, to-row, of-row, row-apart, row-whole}
+use Rattle.record_writer.proofs.Rows.{arc-vals, arc-tells, Arcs, arcs-ty, arcs-val, arcs-typed, arcs-makes, arcs-field, to-row, of-row, row-apart, row-whole}
 use Rattle.records.proofs.reader.Read as S
 use Rattle.records.proofs.reader.Read.Laws as S′
 use Rattle.records.proofs.arrays.Filled as F

@@ -5,8 +5,8 @@ use Prim.Native.Nat.{ℕ}
 use lib.ListN.{length, take}
 use Rattle.postman.specs.PlanFile.{writeAnswer, bytesAfter}
 use Rattle.plan.specs.declared.Arc.{Arc}
-use Rattle.records.specs.Writing.{listPlan}
-use Rattle.records.specs.Laws.Writing.{at-most-le, take-at-most}
+use Rattle.record_writer.specs.Writing.{listPlan}
+use Rattle.record_writer.specs.Laws.Writing.{at-most-le, take-at-most}
 use borrow.Author.Needs.{needs}
 use Rattle.records.proofs.arrays.write_array.Statement.{statement}
 use Rattle.records.proofs.arrays.write_array.Tie as tie

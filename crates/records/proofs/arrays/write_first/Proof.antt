@@ -53,12 +53,12 @@ use Rattle.plan_writer.specs.declared.Written.{Written}
 use Rattle.plan_writer.specs.Writing.{writtenAnswer}
 use Rattle.plan_writer.proofs.Written as S
 use Rattle.plan_writer.proofs.Written.Laws as S′
-use Rattle.records.specs.Writing.{listPlan}
-use Rattle.records.proofs.Rows.{arc-vals, arc-tells, Arcs, arcs-ty, arcs-val, arcs-typed, to-row, of-row, row-apart, row-whole}
-use Rattle.records.proofs.writer.write_records as callee
-use Rattle.records.proofs.writer.write_records.Symbol as callee-def
-use Rattle.records.proofs.writer.write_records.Symbol.{name as #write-records}
-use Rattle.records.proofs.writer.write_records.Met as callee-thm
+use Rattle.record_writer.specs.Writing.{listPlan}
+use Rattle.record_writer.proofs.Rows.{arc-vals, arc-tells, Arcs, arcs-ty, arcs-val, arcs-typed, to-row, of-row, row-apart, row-whole}
+use Rattle.record_writer.proofs.writer.write_records as callee
+use Rattle.record_writer.proofs.writer.write_records.Symbol as callee-def
+use Rattle.record_writer.proofs.writer.write_records.Symbol.{name as #write-records}
+use Rattle.record_writer.proofs.writer.write_records.Met as callee-thm
 use Rattle.records.proofs.arrays.write_first.Key.{name as #write-first}
 use Rattle.records.proofs.arrays.write_first as f
 use Rattle.records.proofs.arrays.write_first.Statement as stated
@@ -207,4 +207,4 @@ write-first-spec 𝓤 H 𝓜 𝓖 𝓡 =
     entered 𝓤 H (tripleOf 𝓤 H (𝓖 .A) f.signature (f.spec 𝓤 H (𝓖 .A) (𝓜 .mem) (𝓡 .run)))
     (tables 𝓤 H 𝓜 𝓡 code.env .C) (tables 𝓤 H 𝓜 𝓡 code.env .Λ) #write-first code.function (code.unfolded 𝓤 H 𝓜 𝓡)
     (write-first-meets 𝓤 H (𝓖 .A) (givenOf 𝓤 H 𝓜 𝓖) (𝓜 .mem) (𝓡 .run) (tablesOf 𝓤 H 𝓜 (tables 𝓤 H 𝓜 𝓡 code.env))
-    (cited 𝓤 H (Write 𝓤 H (𝓖 .A) (𝓜 .mem) (𝓡 .run)) 𝓜 𝓡 code.env #write-records callee-def.routine code.calls-records·writer·write-records (callee-thm.met 𝓤 H 𝓜 𝓖 𝓡)))
+    (cited 𝓤 H (Write 𝓤 H (𝓖 .A) (𝓜 .mem) (𝓡 .run)) 𝓜 𝓡 code.env #write-records callee-def.routine code.calls-record-writer·writer·write-records (callee-thm.met 𝓤 H 𝓜 𝓖 𝓡)))

@@ -43,7 +43,7 @@ use Rattle.plan.specs.declared.Arc.{Arc}
 use Rattle.plan.specs.Records.{arcValue, recordOf}
 use Rattle.plan.proofs.Arc as T
 use Rattle.records.specs.declared.reader.Read.{Read}
-use Rattle.records.specs.Stored.{storedTo}
+use Rattle.record_writer.specs.Stored.{storedTo}
 use Rattle.records.specs.Reading.{arcsRead}
 use Rattle.records.specs.Reading.{Room as Enough}
 use Rattle.records.specs.Laws.Reading.{Answers, room-for, answers, after}

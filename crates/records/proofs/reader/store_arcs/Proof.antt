@@ -54,10 +54,10 @@ use Rattle.plan.proofs.Arc.Laws as T′
 use Rattle.records.specs.Reading.{Room as RoomFor}
 use Rattle.plan_file.specs.Reading.{recordIn}
 use Rattle.plan_file.specs.Laws.Room.{record-in}
-use Rattle.records.specs.Stored.{storedTo}
-use Rattle.records.specs.Laws.Stored.{length-stored}
-use Rattle.records.proofs.Counts.{counts}
-use Rattle.records.proofs.Rows.{arc-vals, arc-tells, arc-typed}
+use Rattle.record_writer.specs.Stored.{storedTo}
+use Rattle.record_writer.specs.Laws.Stored.{length-stored}
+use Rattle.record_writer.proofs.Counts.{counts}
+use Rattle.record_writer.proofs.Rows.{arc-vals, arc-tells, arc-typed}
 use Rattle.plan_file.proofs.reader.file_arc as callee
 use Rattle.plan_file.proofs.reader.file_arc.Symbol as callee-def
 use Rattle.plan_file.proofs.reader.file_arc.Symbol.{name as #file-arc}

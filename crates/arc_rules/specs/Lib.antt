@@ -1,0 +1,5 @@
+-- What is refused of arcs by their records.
+pub mod Fields
+pub mod Arcs
+-- What is proved about them.
+pub mod Laws
