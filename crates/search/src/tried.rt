@@ -26,7 +26,7 @@ pub struct Searched {
 }
 
 // How many trees there are, from the counts below the root: one where no component is to be chosen for.
-fn number(counts: [u64; 8], entries: [u32; 64], k: usize) -> u64
+pub fn number(counts: [u64; 8], entries: [u32; 64], k: usize) -> u64
     requires { ⌜ (1 ≤ k) × (k ≤ 8) × AreFew entries 1 k × (1 < k → AreCounts entries 1 k counts) ⌝ }
     ensures { λ r. ⌜ r ≡ min (countTrees (entriesOf entries) (upFrom 1 (k - 1))) cap ⌝ }
 {

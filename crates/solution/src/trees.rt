@@ -8,6 +8,7 @@ use network::network::Network;
 use plan::Plan;
 use search::tried::Searched;
 use search::tried::lesser;
+use search::tried::number;
 use tree_count::entries::entries_of;
 ghost use mathlib.Core.Path.{_≡_};
 ghost use Prim.Native.Nat.{_≤_, _+_};
@@ -41,13 +42,14 @@ pub struct Resumed {
     pub whole: bool,
 }
 
-// What a search begins with: the candidates in order, and the branch of all trees.
+// What a search begins with: the candidates in order, the branch of all trees, and how many they are.
 struct Begun {
     candidates: Candidates,
     root: Branch,
+    number: u64,
 }
 
-// The root's potentials are the multipliers that are answered.
+// The root's potentials are the multipliers that are answered. The trees are counted once: how many each branch below the root has, and their sum.
 fn begin(
     plan: Plan,
     table: &[[u32; 64]; 64],
@@ -66,10 +68,37 @@ fn begin(
     let k = net.components as usize;
     let cost = net.required_cost;
     let b = branches::branch::root(vs, k, base, &u, cost, entries);
+    let counts = b.counts;
+    let own = b.entries;
+    let n = number(counts, own, k);
     Begun {
         candidates: c,
         root: b,
+        number: n,
     }
+}
+
+// The trees from the root on, at most as many as the budget.
+fn searched(
+    plan: Plan,
+    table: &[[u32; 64]; 64],
+    vs: &[u8],
+    k: usize,
+    base: Balance,
+    s: Begun,
+    budget: u32,
+) -> Searched
+    requires { ⌜ IsBegun (planValue plan) (now table) (now vs) (base .amounts) k s × (1 ≤ budget) ⌝ }
+    ensures { λ r. ⌜ IsSearched (planValue plan) budget r ⌝ }
+{
+    let b = s.root;
+    let c = s.candidates;
+    let start = c.start;
+    let source = c.source;
+    let tails = c.tails;
+    let heads = c.heads;
+    let f = base.amounts;
+    search::tried::search(b, &f, table, vs, &start, &source, &tails, &heads, k, budget)
 }
 
 // The first tree of least cost among those tried.
@@ -86,15 +115,8 @@ pub(crate) fn best(
     ensures { λ r. ⌜ IsSearched (planValue plan) budget r ⌝ }
 {
     let s = begin(plan, table, vs, net, base, u);
-    let b = s.root;
-    let c = s.candidates;
-    let start = c.start;
-    let source = c.source;
-    let tails = c.tails;
-    let heads = c.heads;
     let k = net.components as usize;
-    let f = base.amounts;
-    search::tried::search(b, &f, table, vs, &start, &source, &tails, &heads, k, budget)
+    searched(plan, table, vs, k, base, s, budget)
 }
 
 // The trees from the root on: those to skip, then those that are left to be tried.
@@ -102,22 +124,20 @@ fn explored(
     plan: Plan,
     table: &[[u32; 64]; 64],
     vs: &[u8],
-    net: Network,
+    k: usize,
     base: Balance,
-    u: [i64; 64],
+    s: Begun,
     g: Progress,
 ) -> Progress
-    requires { ⌜ IsBase (planValue plan) (now table) (now vs) (stateOf base) × (u ≡ multipliersFor (planValue plan)) × IsNetwork (planValue plan) net × IsShort g ⌝ }
+    requires { ⌜ IsBegun (planValue plan) (now table) (now vs) (base .amounts) k s × IsShort g ⌝ }
     ensures { λ r. ⌜ IsExplored (planValue plan) (arborescences (planValue plan)) g r ⌝ }
 {
-    let s = begin(plan, table, vs, net, base, u);
     let b = s.root;
     let c = s.candidates;
     let start = c.start;
     let source = c.source;
     let tails = c.tails;
     let heads = c.heads;
-    let k = net.components as usize;
     let f = base.amounts;
     search::tried::advance(g, b, &f, table, vs, &start, &source, &tails, &heads, k)
 }
@@ -138,19 +158,19 @@ fn first_tried(
     plan: Plan,
     table: &[[u32; 64]; 64],
     vs: &[u8],
-    net: Network,
+    k: usize,
     base: Balance,
-    u: [i64; 64],
+    s: Begun,
     n: u32,
 ) -> Reached
-    requires { ⌜ IsBase (planValue plan) (now table) (now vs) (stateOf base) × (u ≡ multipliersFor (planValue plan)) × IsNetwork (planValue plan) net × (1 ≤ n) ⌝ }
+    requires { ⌜ IsBegun (planValue plan) (now table) (now vs) (base .amounts) k s × (1 ≤ n) ⌝ }
     ensures { λ r. ⌜ (r .tried ≡ n) × (r .cost ≡ bestCost (planValue plan) n) × (linksBy (planValue plan) r ≡ bestArborescence (planValue plan) n) ⌝ }
 {
-    let s = best(plan, table, vs, net, base, u, n);
-    let ts = s.tails;
-    let hs = s.heads;
+    let r = searched(plan, table, vs, k, base, s, n);
+    let ts = r.tails;
+    let hs = r.heads;
     Reached {
-        cost: s.cost,
+        cost: r.cost,
         tails: ts,
         heads: hs,
         tried: n,
@@ -162,17 +182,17 @@ fn tried_on(
     plan: Plan,
     table: &[[u32; 64]; 64],
     vs: &[u8],
-    net: Network,
+    k: usize,
     base: Balance,
-    u: [i64; 64],
+    s: Begun,
     g: Reached,
     more: u32,
 ) -> Reached
-    requires { ⌜ IsBase (planValue plan) (now table) (now vs) (stateOf base) × (u ≡ multipliersFor (planValue plan)) × IsNetwork (planValue plan) net × (1 ≤ g .tried + more) × (g .tried ≤ 1000000) × (more ≤ 1000) ⌝ }
+    requires { ⌜ IsBegun (planValue plan) (now table) (now vs) (base .amounts) k s × (1 ≤ g .tried + more) × (g .tried ≤ 1000000) × (more ≤ 1000) ⌝ }
     ensures { λ r. ⌜ (r .tried ≡ g .tried + more) × (r .cost ≡ triedOn (planValue plan) (g .cost) (linksBy (planValue plan) g) (g .tried) more .cost) × (linksBy (planValue plan) r ≡ triedOn (planValue plan) (g .cost) (linksBy (planValue plan) g) (g .tried) more .links) ⌝ }
 {
     if g.tried == 0 {
-        return first_tried(plan, table, vs, net, base, u, more);
+        return first_tried(plan, table, vs, k, base, s, more);
     }
     let ts = g.tails;
     let hs = g.heads;
@@ -184,7 +204,7 @@ fn tried_on(
         skip: skip,
         left: more as u64,
     };
-    let r = explored(plan, table, vs, net, base, u, from);
+    let r = explored(plan, table, vs, k, base, s, from);
     let after_ts = r.tails;
     let after_hs = r.heads;
     let tried = g.tried + more;
@@ -210,10 +230,12 @@ pub fn resume(
     requires { ⌜ IsBase (planValue plan) (now table) (now vs) (stateOf base) × (u ≡ multipliersFor (planValue plan)) × IsNetwork (planValue plan) net × (1 ≤ budget) × (g .tried ≤ 1000000) ⌝ }
     ensures { λ r. ⌜ IsResumed (planValue plan) budget g r ⌝ }
 {
-    let n = tree_count::of_network(net);
+    let s = begin(plan, table, vs, net, base, u);
+    let n = s.number;
     let total = lesser(n, budget);
     let more = turn_of(total, g.tried);
-    let r = tried_on(plan, table, vs, net, base, u, g, more);
+    let k = net.components as usize;
+    let r = tried_on(plan, table, vs, k, base, s, g, more);
     let ts = r.tails;
     let hs = r.heads;
     Resumed {

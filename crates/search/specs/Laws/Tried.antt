@@ -1,6 +1,6 @@
 -- The trees of the root are all trees, in order, and the count of the root's entries is their number; no tree costs as much as the search starts with, so the first tree is kept, and
 -- then the first of least cost.
-use mathlib.Core.Path.{_≡_, refl, sym, ap, ap₂, _∙_, subst⁻¹}
+use mathlib.Core.Path.{_≡_, refl, sym, ap, ap₂, _∙_, subst, subst⁻¹}
 use mathlib.Core.List.{List, [], _∷_, _++_, map, List·Memᴰ}
 use Prim.Native.Nat.{ℕ, _+_, _-_, _≤_, _<_, min}
 use native.Mathlib.Decide.{decLe}
@@ -24,7 +24,7 @@ use Rattle.postman.specs.Laws.Search.{best-value}
 use Rattle.residual_search.specs.Step.{cell}
 use Rattle.direct_amounts.specs.Laws.Plan.{balance-certified, balance-room, balance-least}
 use Rattle.tree_count.specs.Recursion.{countTrees}
-use Rattle.tree_count.specs.Matrix.{entriesOf, cap}
+use Rattle.tree_count.specs.Matrix.{entriesOf, cap, AreFew, AreCounts}
 use Rattle.tree_count.specs.Laws.Recursion.{entriesIn, count-cong}
 use Rattle.branches.specs.declared.branch.Branch.{Branch}
 use Rattle.branches.specs.declared.progress.Progress.{Progress}
@@ -77,6 +77,17 @@ module _ {p : Plan} {table : List (List ℕ)} {vs start source tails heads : Lis
       ∙ sym (ap (λ n. countTrees (entriesIn (sourcesBy p names)) (upFrom n (componentCount p - n))) (is .nothing))
       ∙ sym (completions-count p (in-plan h) (some-component h) names (b .a) (i .one) (i .most) (i .named))
       ∙ ap length (completions-cong p (in-plan h) (some-component h) names (λ c. c) (b .a) (λ c l. is .names-are c (let f = h .few in omega arith)) ∙ ap (completions p (λ c. c)) (is .nothing) ∙ completions-first p (in-plan h) (some-component h))
+
+  -- what counting them asks
+  pub countable : (1 ≤ k) × (k ≤ 8) × AreFew (b .entries) 1 k × (1 < k → AreCounts (b .entries) 1 k (b .counts))
+  countable =
+      let few = h .few in
+      let n = h .count in (
+        h .layout .sources .some-component,
+        omega arith,
+        subst⁻¹ (AreFew (b .entries) 1) n (subst (λ a. AreFew (b .entries) a (componentCount p)) (is .nothing) (is .branch .few)),
+        λ l. subst⁻¹ (λ k. AreCounts (b .entries) 1 k (b .counts)) n (subst (λ a. AreCounts (b .entries) a (componentCount p) (b .counts)) (is .nothing) (is .branch .counts (let o = is .nothing in omega arith))),
+      )
 
   -- no tree costs as much as the search starts with
   tree-cheap : (t : List Link) → List·Memᴰ t (arborescences p) → completionCost p t < 4000000000000

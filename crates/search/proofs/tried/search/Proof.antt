@@ -1,28 +1,15 @@
 -- The number of all trees is that of the root, and its trees are gone through.
-use mathlib.Core.Path.{refl, subst, subst⁻¹}
+use mathlib.Core.Path.{refl}
 use Prim.Native.Nat.{_<_}
 use native.Mathlib.Omega.{arith}
-use Rattle.postman.specs.Component.{componentCount}
-use Rattle.tree_count.specs.Matrix.{cap, AreFew, AreCounts}
-use Rattle.search.specs.Laws.Tried.{searched}
+use Rattle.tree_count.specs.Matrix.{cap}
+use Rattle.search.specs.Laws.Tried.{countable, searched}
 use borrow.Author.Needs.{needs}
 use Rattle.search.proofs.tried.search.Statement.{statement}
 use Rattle.search.proofs.tried.search.Tie as tie
 
 number-requires : tie.Need-number-requires
-number-requires c κs =
-    let s = c .before .before .before in
-    let h = s .pre .0 .1 in
-    let b = s .args .b in
-    let is = s .pre .0 .2 in
-    let few = h .few in
-    let n = h .count in
-    let p = s .pre .0 .0 in (
-      h .layout .sources .some-component,
-      omega arith,
-      subst⁻¹ (AreFew (b .entries) 1) n (subst (λ a. AreFew (b .entries) a (componentCount p)) (is .nothing) (is .branch .few)),
-      λ l. subst⁻¹ (λ k. AreCounts (b .entries) 1 k (b .counts)) n (subst (λ a. AreCounts (b .entries) a (componentCount p) (b .counts)) (is .nothing) (is .branch .counts (let o = is .nothing in omega arith))),
-    )
+number-requires c κs = let s = c .before .before .before in countable (s .pre .0 .1) (s .args .b) (s .pre .0 .2)
 
 advance-requires : tie.Need-advance-requires
 advance-requires c κs =

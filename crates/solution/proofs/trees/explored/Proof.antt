@@ -11,25 +11,18 @@ use borrow.Author.Needs.{needs}
 use Rattle.solution.proofs.trees.explored.Statement.{statement}
 use Rattle.solution.proofs.trees.explored.Tie as tie
 
-begin-requires : tie.Need-begin-requires
-begin-requires c κs = let s = c .before in (s .pre .0, s .pre .1, s .pre .2)
-
-cast-k : tie.Need-cast-k
-cast-k c = search needs
-
 advance-requires : tie.Need-advance-requires
 advance-requires c κs =
-    let b = c .before .before .before .before .before .before .before .before .before .before .before .before .before .begin in
-    let s = c .before .before .before .before .before .before .before .before .before .before .before .before .before .before .before in
-    ((planValue (s .args .plan), b .ensures .prepared, b .ensures .root .branch), s .pre .3)
+    let s = c .before .before .before .before .before .before .before .before .before .before .before .before .before in
+    ((planValue (s .args .plan), s .pre .0 .prepared, s .pre .0 .root .branch), s .pre .1)
 
 returns : tie.Need-returns
 returns c =
-    let b = c .before .before .before .before .before .before .before .before .before .before .before .before .before .before .begin in
-    let s = c .before .before .before .before .before .before .before .before .before .before .before .before .before .before .before .before in
-    let is = b .ensures .root in
+    let s = c .before .before .before .before .before .before .before .before .before .before .before .before .before .before in
+    let b = s .pre .0 in
+    let is = b .root in
     let m = componentCount (planValue (s .args .plan)) - 1 in
-    c .advance .ensures _ (b .ensures .prepared) (is .branch) ∙ ap (advance (completionCost (planValue (s .args .plan))) (heldOf m (s .args .g))) (root-trees (b .ensures .prepared) (b .result .root) is)
+    c .advance .ensures _ (b .prepared) (is .branch) ∙ ap (advance (completionCost (planValue (s .args .plan))) (heldOf m (s .args .g))) (root-trees (b .prepared) (s .args .s .root) is)
 
 pub explored-spec : {M : Type 1} → statement M
-explored-spec = tie.close (tie.spec begin-requires cast-k advance-requires returns)
+explored-spec = tie.close (tie.spec advance-requires returns)

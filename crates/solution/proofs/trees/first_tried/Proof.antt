@@ -4,11 +4,11 @@ use borrow.Author.Needs.{needs}
 use Rattle.solution.proofs.trees.first_tried.Statement.{statement}
 use Rattle.solution.proofs.trees.first_tried.Tie as tie
 
-best-requires : tie.Need-best-requires
-best-requires c κs = search needs
+searched-requires : tie.Need-searched-requires
+searched-requires c κs = search needs
 
 returns : tie.Need-returns
-returns c = let b = c .before .before in (refl, b .best .ensures .cost, b .best .ensures .links)
+returns c = let b = c .before .before in (refl, b .searched .ensures .cost, b .searched .ensures .links)
 
 pub first-tried-spec : {M : Type 1} → statement M
-first-tried-spec = tie.close (tie.spec best-requires returns)
+first-tried-spec = tie.close (tie.spec searched-requires returns)
