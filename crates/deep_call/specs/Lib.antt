@@ -1,6 +1,7 @@
 -- The rounds, and what is kept of them.
 pub mod Rounds
 pub mod Tabled
+pub mod Held
 -- The deep call.
 pub mod Refusals
 pub mod Contract

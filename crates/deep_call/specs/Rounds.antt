@@ -1,8 +1,9 @@
--- THE ROUNDS. Each is the plan call on the plan under another numbering of its vertices, or with more trees; arcs keep their numbers, so that its drive is one of the file's plan, at its cost, and its floor is under every drive of that
--- plan. Of all rounds the least cost and the greatest floor are kept. What is kept after so many rounds is a function of the plan and the budget.
+-- THE ROUNDS. Each is the plan call on the plan under a numbering of its vertices, with so many trees; arcs keep their numbers, so that its drive is one of the file's plan, at its cost, and its floor is under every drive of that
+-- plan. Of all rounds the least cost and the greatest floor are kept, and the numbering of which the fewest trees are left: every second round goes on there, until none is left. What is kept after so many rounds is a function of the
+-- plan and the budget.
 use mathlib.Core.Bool.{Bool, cond}
 use mathlib.Core.List.{List}
-use Prim.Native.Nat.{ℕ, zero, suc, _+_, _*_, _-_, _%_}
+use Prim.Native.Nat.{ℕ, zero, suc, _+_, _-_, _%_, min}
 use lib.ListN.{getD}
 use lib.Dec.{eqb, leb}
 use lib.IntN.{ℤ, pos}
@@ -10,7 +11,9 @@ use lib.Signed.{leZ, ltZ}
 use Rattle.postman.specs.Plan.{Plan}
 use Rattle.postman.specs.Renumbering.{numberIn, renumbered}
 use Rattle.postman.specs.Component.{componentCount}
+use Rattle.postman.specs.Arborescence.{arborescenceCount}
 use Rattle.postman.specs.PlanCall.{Summary, bestCost, lowerBound, triedCount}
+use Rattle.tree_count.specs.Matrix.{cap}
 use Rattle.multipliers.specs.Ascent.{multipliersFor}
 use Rattle.multipliers.specs.Tour.{tourOf}
 use Rattle.renumbering.specs.declared.numbering.Numbering.{Numbering}
@@ -40,33 +43,50 @@ floorUnder p x = floorOf (under p (x .numbering)) (x .tries)
 abbrev pub carriedBack : Plan → Trial → List ℤ
 carriedBack p x = carriedIn (x .numbering .to) (multipliersFor (under p (x .numbering)))
 
+-- How many trees of a plan are left once so many are tried, by a count that ends at 4,294,967,296.
+unfoldable pub leftOf : Plan → ℕ → ℕ
+unfolding arborescenceCount
+leftOf q tries = min (arborescenceCount q) cap - tries
+
+-- How many of the first trees, or of all, are new where all but the last `budget` of them were tried before.
+unfoldable pub newTrees : Plan → ℕ → ℕ → ℕ
+unfolding triedCount
+newTrees q budget tries = triedCount q tries - triedCount q (tries - budget)
+
 -- ---- what is kept
 
 -- After the first round, which is the plan call's: every number as it is, and the budget.
-unfoldable pub begun : ℕ → ℕ → ℤ → List ℤ → ℕ → Kept
+unfoldable pub begun : ℕ → ℕ → ℤ → List ℤ → ℕ → ℕ → Kept
 unfolding unchanged
-begun budget cost floor u trees =
+begun budget cost floor u left trees =
     let first : Trial = record { numbering = unchanged; tries = budget } in
-    record { drive = first; cost = cost; bound = first; floor = floor; multipliers = u; trees = trees; random = 1; doubling = 2 }
+    record { drive = first; cost = cost; bound = first; floor = floor; multipliers = u; base = first; left = left; trees = trees; random = 1 }
 
--- A drive that is no dearer is kept, with what it was found with: of equal costs the last, so that the rounds go on from elsewhere.
+-- A drive that is no dearer is kept, with what it was found with: of equal costs the last.
 unfoldable pub withDrive : Trial → ℕ → Kept → Kept
 withDrive x cost k =
     cond (leb cost (k .cost))
-    (record { drive = x; cost = cost; bound = k .bound; floor = k .floor; multipliers = k .multipliers; trees = k .trees; random = k .random; doubling = k .doubling })
+    (record { drive = x; cost = cost; bound = k .bound; floor = k .floor; multipliers = k .multipliers; base = k .base; left = k .left; trees = k .trees; random = k .random })
     k
 
 -- A floor that is greater is kept, with what it was found with and its multipliers: of equal floors the first.
 unfoldable pub withFloor : Trial → ℤ → List ℤ → Kept → Kept
 withFloor x floor u k =
     cond (ltZ (k .floor) floor)
-    (record { drive = k .drive; cost = k .cost; bound = x; floor = floor; multipliers = u; trees = k .trees; random = k .random; doubling = k .doubling })
+    (record { drive = k .drive; cost = k .cost; bound = x; floor = floor; multipliers = u; base = k .base; left = k .left; trees = k .trees; random = k .random })
     k
 
--- The trees of the round are counted, and the generator and the doubling go on.
-unfoldable pub counted : ℕ → ℕ → ℕ → Kept → Kept
-counted trees random doubling k =
-    record { drive = k .drive; cost = k .cost; bound = k .bound; floor = k .floor; multipliers = k .multipliers; trees = k .trees + trees; random = random; doubling = doubling }
+-- A search of which no more trees are left is kept: the rounds go on there.
+unfoldable pub withBase : Trial → ℕ → Kept → Kept
+withBase x left k =
+    cond (leb left (k .left))
+    (record { drive = k .drive; cost = k .cost; bound = k .bound; floor = k .floor; multipliers = k .multipliers; base = x; left = left; trees = k .trees; random = k .random })
+    k
+
+-- The trees of the round are counted, and the generator goes on.
+unfoldable pub counted : ℕ → ℕ → Kept → Kept
+counted trees random k =
+    record { drive = k .drive; cost = k .cost; bound = k .bound; floor = k .floor; multipliers = k .multipliers; base = k .base; left = k .left; trees = k .trees + trees; random = random }
 
 -- Whether floor and cost meet.
 unfoldable pub isClosed : Kept → Bool
@@ -74,37 +94,37 @@ isClosed k = leZ (pos (k .cost)) (k .floor)
 
 -- ---- the rounds
 
--- Round 2, 4, 8 and so on doubles: the file's numbering, with so many times the budget's trees.
-unfoldable pub doubled : ℕ → ℕ → ℕ → Chosen
-unfolding unchanged
-doubled budget round random = record { trial = record { numbering = unchanged; tries = budget * round }; random = random; doubling = 2 * round }
+-- Round 2, 4, 6 and so on goes on with the search that is kept: as many trees more as the budget says.
+unfoldable pub goneOn : ℕ → Kept → Chosen
+goneOn budget k = record { trial = record { numbering = k .base .numbering; tries = k .base .tries + budget }; random = k .random }
 
--- Any other takes the numbering of the drive that is kept, with 2 to 16 exchanges. Few of them close in, many get out of a corner.
-unfoldable pub exchangedBy : Plan → ℕ → ℕ → Kept → Chosen
+-- Any other takes the numbering of that search, with two exchanges. Fewer trees are found by small steps.
+unfoldable pub exchangedBy : Plan → ℕ → Kept → Chosen
 unfolding shuffled
-exchangedBy p budget round k =
-    let d = shuffled (p .n) (record { numbering = k .drive .numbering; random = k .random }) (2 + 2 * (round % 8)) in
-    record { trial = record { numbering = d .numbering; tries = budget }; random = d .random; doubling = k .doubling }
+exchangedBy p budget k =
+    let d = shuffled (p .n) (record { numbering = k .base .numbering; random = k .random }) 2 in
+    record { trial = record { numbering = d .numbering; tries = budget }; random = d .random }
 
 unfoldable pub nextRound : Plan → ℕ → ℕ → Kept → Chosen
-unfolding doubled exchangedBy
-nextRound p budget round k = cond (eqb round (k .doubling)) (doubled budget round (k .random)) (exchangedBy p budget round k)
+unfolding goneOn exchangedBy
+nextRound p budget round k = cond (eqb (round % 2) 0) (goneOn budget k) (exchangedBy p budget k)
 
--- A round: its cost, its floor, its multipliers carried back, its trees.
-unfoldable pub roundWith : Plan → Chosen → Kept → Kept
-unfolding bestCost floorOf multipliersFor triedCount carriedIn withDrive withFloor counted
-roundWith p c k =
+-- A round: its cost, its floor, its multipliers carried back, the trees that are left, and those that it tries.
+unfoldable pub roundWith : Plan → ℕ → Chosen → Kept → Kept
+unfolding bestCost floorOf multipliersFor carriedIn leftOf newTrees withDrive withFloor withBase counted
+roundWith p budget c k =
     let x = c .trial in
-    counted (triedCount (under p (x .numbering)) (x .tries)) (c .random) (c .doubling) (withFloor x (floorUnder p x) (carriedBack p x) (withDrive x (costOf p x) k))
+    let q = under p (x .numbering) in
+    counted (newTrees q budget (x .tries)) (c .random) (withBase x (leftOf q (x .tries)) (withFloor x (floorUnder p x) (carriedBack p x) (withDrive x (costOf p x) k)))
 
 unfoldable pub nextKept : Plan → ℕ → ℕ → Kept → Kept
 unfolding nextRound roundWith
-nextKept p budget round k = roundWith p (nextRound p budget round k) k
+nextKept p budget round k = roundWith p budget (nextRound p budget round k) k
 
 -- What is kept after the first round and r more; the next one is round r + 2. It ends as soon as floor and cost meet.
 unfoldable pub keptAfter : Plan → ℕ → ℕ → Kept
-unfolding begun bestCost floorOf multipliersFor triedCount isClosed nextKept
-keptAfter p budget zero = begun budget (bestCost p budget) (floorOf p budget) (multipliersFor p) (triedCount p budget)
+unfolding begun bestCost floorOf multipliersFor leftOf triedCount isClosed nextKept
+keptAfter p budget zero = begun budget (bestCost p budget) (floorOf p budget) (multipliersFor p) (leftOf p budget) (triedCount p budget)
 keptAfter p budget (suc r) = cond (isClosed (keptAfter p budget r)) (keptAfter p budget r) (nextKept p budget (r + 2) (keptAfter p budget r))
 
 -- ---- the answer

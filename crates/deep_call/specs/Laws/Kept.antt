@@ -1,13 +1,13 @@
 -- What is kept: the cost is that of the plan under its numbering, and so is the floor, with its multipliers carried back; and the cost is no more than that of the round which the floor is from.
-use mathlib.Core.Path.{_≡_, refl, sym, ap, fun-ext, _∙_, subst}
+use mathlib.Core.Path.{_≡_, refl, sym, ap, fun-ext, _∙_, subst, subst⁻¹}
 use mathlib.Core.Bool.{true, false, not, cond}
 use mathlib.Core.List.{List, map}
-use Prim.Native.Nat.{ℕ, zero, suc, _+_, _*_, _%_, _≤_, _<_}
+use Prim.Native.Nat.{ℕ, zero, suc, _+_, _-_, _*_, _%_, _≤_, _<_}
 use native.Mathlib.Decide.{decLe}
-use native.Mathlib.Nat.{zero-add, mul-comm, mul-le-mul, mul-le-mul-right}
+use native.Mathlib.Nat.{zero-add}
 use native.Mathlib.Omega.{arith}
 use lib.ListN.{length, getD, length-map, List·getD-eq-default}
-use lib.Dec.{T, eqb, eqb→eq, leb, leb→le, nleb→lt}
+use lib.Dec.{eqb, leb, leb→le, nleb→lt}
 use lib.IntN.{ℤ, pos}
 use lib.Signed.{_≤ℤ_, ltZ, ltZ-yes}
 use Rattle.integers.specs.Linear.{z}
@@ -35,7 +35,7 @@ use Rattle.renumbering.specs.Laws.Shuffle.{shuffled-numbering, shuffled-random}
 use Rattle.deep_call.specs.declared.kept.Kept.{Kept}
 use Rattle.deep_call.specs.declared.trial.Trial.{Trial}
 use Rattle.deep_call.specs.declared.trial.Chosen.{Chosen}
-use Rattle.deep_call.specs.Rounds.{under, floorOf, costOf, floorUnder, carriedBack, begun, withDrive, withFloor, counted, isClosed, doubled, exchangedBy, nextRound, roundWith, nextKept, keptAfter}
+use Rattle.deep_call.specs.Rounds.{under, floorOf, costOf, floorUnder, carriedBack, leftOf, newTrees, begun, withDrive, withFloor, withBase, counted, isClosed, goneOn, exchangedBy, nextRound, roundWith, nextKept, keptAfter}
 use Rattle.deep_call.specs.Tabled.{IsTrial, GoesOn}
 use Rattle.deep_call.specs.Laws.Tables.{under-few, under-plannable}
 
@@ -74,7 +74,7 @@ module _ (p : Plan) (ok : Plannable p) (few : componentCount p ≤ 8) (x : Numbe
             | no g ↦ getD-map-upFrom f 0 64 i (pos 0) (omega arith) ∙ ap f (zero-add i)
           ]
 
--- What is kept after the first round and r more. The trees of the rounds that double are no more than those of the last of them again, so that they are at most the next one's.
+-- What is kept after the first round and r more.
 pub record IsKept (p : Plan) (r : ℕ) (k : Kept) : Type 0 where
   pub drive-numbering : IsNumberingOf (p .n) (k .drive .numbering)
   pub drive-tries : 1 ≤ k .drive .tries
@@ -85,8 +85,9 @@ pub record IsKept (p : Plan) (r : ℕ) (k : Kept) : Type 0 where
   pub floor-is : k .floor ≡ floorUnder p (k .bound)
   pub multipliers-are : uOf (k .multipliers) ≡ carried (numberIn (k .bound .numbering .to)) (uOf (multipliersFor (under p (k .bound .numbering))))
   pub least : k .cost ≤ costOf p (k .bound)
-  pub few-trees : k .trees ≤ (suc r + k .doubling) * 1000000
-  pub doubling-in : k .doubling ≤ 2 * suc r
+  pub base-numbering : IsNumberingOf (p .n) (k .base .numbering)
+  pub base-few : k .base .tries ≤ suc r * 1000000
+  pub few-trees : k .trees ≤ suc r * 1000000
   pub random-in : k .random < modulus
 
 -- a round tries no more trees than it may
@@ -94,34 +95,36 @@ pub tried-few : (q : Plan) (tries : ℕ) → triedCount q tries ≤ tries
 unfolding triedCount
 tried-few q tries = omega arith
 
--- neither a drive nor a floor that is kept changes the count
-pub trees-same : (x : Trial) (cost : ℕ) (floor : ℤ) (u : List ℤ) (k : Kept) → withFloor x floor u (withDrive x cost k) .trees ≡ k .trees
-unfolding withDrive withFloor
-trees-same x cost floor u k =
+pub new-few : (q : Plan) (budget tries : ℕ) → newTrees q budget tries ≤ budget
+unfolding newTrees triedCount
+new-few q budget tries = omega arith
+
+-- neither a drive nor a floor nor a search that is kept changes the count
+pub trees-same : (x : Trial) (cost : ℕ) (floor : ℤ) (u : List ℤ) (left : ℕ) (k : Kept) → withBase x left (withFloor x floor u (withDrive x cost k)) .trees ≡ k .trees
+unfolding withDrive withFloor withBase
+trees-same x cost floor u left k =
     let m = withDrive x cost k in
-    cond-ind (ltZ (m .floor) floor) _ m (λ m. m .trees ≡ withDrive x cost k .trees) (λ t. refl) (λ t. refl)
+    let n = withFloor x floor u m in
+    cond-ind (leb left (n .left)) _ n (λ n′. n′ .trees ≡ n .trees) (λ t. refl) (λ t. refl)
+    ∙ cond-ind (ltZ (m .floor) floor) _ m (λ m′. m′ .trees ≡ m .trees) (λ t. refl) (λ t. refl)
     ∙ cond-ind (leb cost (k .cost)) _ k (λ m. m .trees ≡ k .trees) (λ t. refl) (λ t. refl)
 
 -- what the next round is made with, where r + 1 rounds are done
-pub record IsChosen (p : Plan) (budget r : ℕ) (k : Kept) (c : Chosen) : Type 0 where
+pub record IsChosen (p : Plan) (r : ℕ) (c : Chosen) : Type 0 where
   pub trial : IsTrial p (c .trial)
+  pub few-tries : c .trial .tries ≤ suc (suc r) * 1000000
   pub random-in : c .random < modulus
-  pub few-more : k .trees + c .trial .tries ≤ (suc (suc r) + c .doubling) * 1000000
-  pub doubling-in : c .doubling ≤ 2 * suc (suc r)
 
-module _ (p : Plan) (ok : WellFormed p) (budget : ℕ) (some-trees : 1 ≤ budget) (low : budget ≤ 1000000) (round : ℕ) (some-round : 1 ≤ round) (few-rounds : round ≤ 1000) (k : Kept)
-    (numbers : IsNumberingOf (p .n) (k .drive .numbering)) (random : k .random < modulus) where
+module _ (p : Plan) (ok : WellFormed p) (budget : ℕ) (some-trees : 1 ≤ budget) (low : budget ≤ 1000000) (round : ℕ) (k : Kept)
+    (numbers : IsNumberingOf (p .n) (k .base .numbering)) (random : k .random < modulus) where
   -- the numbering and the tries of a round
-  pub chosen-trial : IsTrial p (nextRound p budget round k .trial) × (nextRound p budget round k .random < modulus)
-  unfolding nextRound doubled exchangedBy
-  chosen-trial =
-      let d : Drawn = record { numbering = k .drive .numbering; random = k .random } in
-      let times = 2 + 2 * (round % 8) in
-      let most = mul-le-mul low few-rounds in
-      let least = mul-le-mul some-trees some-round in
-      cond-ind (eqb round (k .doubling)) (doubled budget round (k .random)) (exchangedBy p budget round k) (λ c. IsTrial p (c .trial) × (c .random < modulus))
-      (λ t. (record { numbers = unchanged-numbering (p .n); some-tries = omega arith; few-tries = omega arith }, random))
-      (λ t. (record { numbers = shuffled-numbering (p .n) (ok .some-vertex) (ok .vertices) d times numbers; some-tries = some-trees; few-tries = omega arith }, shuffled-random (p .n) d times random))
+  pub chosen-trial : (most : ℕ) → most ≤ 999000000 → k .base .tries ≤ most → IsTrial p (nextRound p budget round k .trial) × (nextRound p budget round k .trial .tries ≤ most + 1000000) × (nextRound p budget round k .random < modulus)
+  unfolding nextRound goneOn exchangedBy
+  chosen-trial most small few =
+      let d : Drawn = record { numbering = k .base .numbering; random = k .random } in
+      cond-ind (eqb (round % 2) 0) (goneOn budget k) (exchangedBy p budget k) (λ c. IsTrial p (c .trial) × (c .trial .tries ≤ most + 1000000) × (c .random < modulus))
+      (λ t. (record { numbers = numbers; some-tries = omega arith; few-tries = omega arith }, omega arith, random))
+      (λ t. (record { numbers = shuffled-numbering (p .n) (ok .some-vertex) (ok .vertices) d 2 numbers; some-tries = some-trees; few-tries = omega arith }, omega arith, shuffled-random (p .n) d 2 random))
 
 module _ (p : Plan) (ok : Plannable p) (few : componentCount p ≤ 8) (budget : ℕ) (some-trees : 1 ≤ budget) (low : budget ≤ 1000000) where
   -- ---- the first round
@@ -142,12 +145,33 @@ module _ (p : Plan) (ok : Plannable p) (few : componentCount p ≤ 8) (budget : 
         floor-is = ap (λ (q : Plan). floorOf q budget) same;
         multipliers-are = ap (λ (q : Plan). uOf (multipliersFor q)) same ∙ ap (λ (π : ℕ → ℕ). carried π (uOf (multipliersFor (under p unchanged)))) (sym as-it-is);
         least = (let e = ap (λ (q : Plan). bestCost q budget) same in omega arith);
+        base-numbering = n;
+        base-few = omega arith;
         few-trees = omega arith;
-        doubling-in = omega arith;
         random-in = omega arith;
       }
 
   -- ---- a round
+
+  one-more : (r : ℕ) (k : Kept) → IsKept p r k → IsKept p (suc r) k
+  one-more r k h =
+      let f = h .few-trees in
+      let e = h .base-few in
+      record {
+        drive-numbering = h .drive-numbering;
+        drive-tries = h .drive-tries;
+        drive-few = h .drive-few;
+        cost-is = h .cost-is;
+        bound-numbering = h .bound-numbering;
+        bound-tries = h .bound-tries;
+        floor-is = h .floor-is;
+        multipliers-are = h .multipliers-are;
+        least = h .least;
+        base-numbering = h .base-numbering;
+        base-few = omega arith;
+        few-trees = omega arith;
+        random-in = h .random-in;
+      }
 
   module _ (r : ℕ) (x : Trial) (hx : IsTrial p x) where
     drive-kept : (k : Kept) → IsKept p r k → IsKept p r (withDrive x (costOf p x) k)
@@ -163,8 +187,9 @@ module _ (p : Plan) (ok : Plannable p) (few : componentCount p ≤ 8) (budget : 
           floor-is = h .floor-is;
           multipliers-are = h .multipliers-are;
           least = (let a = leb→le (costOf p x) (k .cost) t in let b = h .least in omega arith);
+          base-numbering = h .base-numbering;
+          base-few = h .base-few;
           few-trees = h .few-trees;
-          doubling-in = h .doubling-in;
           random-in = h .random-in;
         })
         (λ t. h)
@@ -195,8 +220,9 @@ module _ (p : Plan) (ok : Plannable p) (few : componentCount p ≤ 8) (budget : 
           floor-is = refl;
           multipliers-are = carried-list p ok few (x .numbering) (hx .numbers);
           least = l;
+          base-numbering = h .base-numbering;
+          base-few = h .base-few;
           few-trees = h .few-trees;
-          doubling-in = h .doubling-in;
           random-in = h .random-in;
         })
         (λ t. h)
@@ -211,15 +237,42 @@ module _ (p : Plan) (ok : Plannable p) (few : componentCount p ≤ 8) (budget : 
     unfolding withFloor
     floor-cost k = cond-ind (ltZ (k .floor) (floorUnder p x)) _ k (λ m. m .cost ≡ k .cost) (λ t. refl) (λ t. refl)
 
-  round-kept : (r : ℕ) (c : Chosen) (k : Kept) → IsChosen p budget r k c → IsKept p r k → IsKept p (suc r) (roundWith p c k)
+    base-kept : (left : ℕ) (k : Kept) → x .tries ≤ suc (suc r) * 1000000 → IsKept p r k → IsKept p (suc r) (withBase x left k)
+    unfolding withBase
+    base-kept left k l h = let f = h .few-trees in let e = h .base-few in cond-ind (leb left (k .left)) _ k (IsKept p (suc r))
+        (λ t. record {
+          drive-numbering = h .drive-numbering;
+          drive-tries = h .drive-tries;
+          drive-few = h .drive-few;
+          cost-is = h .cost-is;
+          bound-numbering = h .bound-numbering;
+          bound-tries = h .bound-tries;
+          floor-is = h .floor-is;
+          multipliers-are = h .multipliers-are;
+          least = h .least;
+          base-numbering = hx .numbers;
+          base-few = l;
+          few-trees = omega arith;
+          random-in = h .random-in;
+        })
+        (λ t. one-more r k h)
+
+    base-same : (left : ℕ) (k : Kept) → (withBase x left k .cost ≡ k .cost) × (withBase x left k .floor ≡ k .floor)
+    unfolding withBase
+    base-same left k = cond-ind (leb left (k .left)) _ k (λ m. (m .cost ≡ k .cost) × (m .floor ≡ k .floor)) (λ t. (refl, refl)) (λ t. (refl, refl))
+
+  round-kept : (r : ℕ) (c : Chosen) (k : Kept) → IsChosen p r c → IsKept p r k → IsKept p (suc r) (roundWith p budget c k)
   unfolding roundWith counted
   round-kept r c k hc h =
       let x = c .trial in
+      let q = under p (x .numbering) in
+      let left = leftOf q (x .tries) in
       let m = withDrive x (costOf p x) k in
-      let g = floor-kept r x (hc .trial) m (drive-least r x (hc .trial) k .0) (drive-kept r x (hc .trial) k h) in
-      let t = tried-few (under p (x .numbering)) (x .tries) in
-      let e = trees-same x (costOf p x) (floorUnder p x) (carriedBack p x) k in
-      let f = hc .few-more in
+      let n = floor-kept r x (hc .trial) m (drive-least r x (hc .trial) k .0) (drive-kept r x (hc .trial) k h) in
+      let g = base-kept r x (hc .trial) left (withFloor x (floorUnder p x) (carriedBack p x) m) (hc .few-tries) n in
+      let t = new-few q budget (x .tries) in
+      let e = trees-same x (costOf p x) (floorUnder p x) (carriedBack p x) left k in
+      let f = h .few-trees in
       record {
         drive-numbering = g .drive-numbering;
         drive-tries = g .drive-tries;
@@ -230,77 +283,49 @@ module _ (p : Plan) (ok : Plannable p) (few : componentCount p ≤ 8) (budget : 
         floor-is = g .floor-is;
         multipliers-are = g .multipliers-are;
         least = g .least;
+        base-numbering = g .base-numbering;
+        base-few = g .base-few;
         few-trees = omega arith;
-        doubling-in = hc .doubling-in;
         random-in = hc .random-in;
       }
 
   -- no dearer, and no lower
-  round-better : (r : ℕ) (c : Chosen) (k : Kept) → IsTrial p (c .trial) → (roundWith p c k .cost ≤ k .cost) × (k .floor ≤ℤ roundWith p c k .floor)
+  round-better : (r : ℕ) (c : Chosen) (k : Kept) → IsTrial p (c .trial) → (roundWith p budget c k .cost ≤ k .cost) × (k .floor ≤ℤ roundWith p budget c k .floor)
   unfolding roundWith counted
   round-better r c k hx =
       let x = c .trial in
       let m = withDrive x (costOf p x) k in
+      let n = withFloor x (floorUnder p x) (carriedBack p x) m in
+      let s = base-same r x hx (leftOf (under p (x .numbering)) (x .tries)) n in
       let a = drive-least r x hx k .1 in
       let b = floor-cost r x hx m in
-      (omega arith, subst (λ f. f ≤ℤ withFloor x (floorUnder p x) (carriedBack p x) m .floor) (drive-floor r x hx k) (floor-greater r x hx m))
+      let c = s .0 in
+      (omega arith, subst⁻¹ (λ f. k .floor ≤ℤ f) (s .1) (subst (λ f. f ≤ℤ n .floor) (drive-floor r x hx k) (floor-greater r x hx m)))
 
   -- ---- all rounds
 
-  few-more : (r : ℕ) (k : Kept) → IsKept p r k
-      → (k .trees + nextRound p budget (r + 2) k .trial .tries ≤ (suc (suc r) + nextRound p budget (r + 2) k .doubling) * 1000000) × (nextRound p budget (r + 2) k .doubling ≤ 2 * suc (suc r))
-  unfolding nextRound doubled exchangedBy
-  few-more r k h =
-      let f = h .few-trees in
-      let d = h .doubling-in in
-      let most = mul-le-mul-right {m = budget} {n = 1000000} (r + 2) low in
-      let swap = mul-comm 1000000 (r + 2) in
-      cond-ind (eqb (r + 2) (k .doubling)) (doubled budget (r + 2) (k .random)) (exchangedBy p budget (r + 2) k)
-      (λ c. (k .trees + c .trial .tries ≤ (suc (suc r) + c .doubling) * 1000000) × (c .doubling ≤ 2 * suc (suc r)))
-      (λ t. (let e = eqb→eq (r + 2) (k .doubling) t in (omega arith, omega arith)))
-      (λ t. (omega arith, omega arith))
-
-  chosen : (r : ℕ) (k : Kept) → r < 999 → IsKept p r k → IsChosen p budget r k (nextRound p budget (r + 2) k)
+  chosen : (r : ℕ) (k : Kept) → r < 999 → IsKept p r k → IsChosen p r (nextRound p budget (r + 2) k)
   chosen r k l h =
-      let t = chosen-trial p (ok .well-formed) budget some-trees low (r + 2) (omega arith) (omega arith) k (h .drive-numbering) (h .random-in) in
-      let m = few-more r k h in
-      record { trial = t .0; random-in = t .1; few-more = m .0; doubling-in = m .1 }
-
-  one-more : (k : Kept) (r : ℕ) → IsKept p r k → IsKept p (suc r) k
-  one-more k r h =
-      let f = h .few-trees in
-      let d = h .doubling-in in
-      record {
-        drive-numbering = h .drive-numbering;
-        drive-tries = h .drive-tries;
-        drive-few = h .drive-few;
-        cost-is = h .cost-is;
-        bound-numbering = h .bound-numbering;
-        bound-tries = h .bound-tries;
-        floor-is = h .floor-is;
-        multipliers-are = h .multipliers-are;
-        least = h .least;
-        few-trees = omega arith;
-        doubling-in = omega arith;
-        random-in = h .random-in;
-      }
+      let t = chosen-trial p (ok .well-formed) budget some-trees low (r + 2) k (h .base-numbering) (h .random-in) (suc r * 1000000) (omega arith) (h .base-few) in
+      let f = t .1 in
+      record { trial = t .0; few-tries = omega arith; random-in = t .2 }
 
   next-kept : (r : ℕ) → r < 999 → IsKept p r (keptAfter p budget r) → IsKept p (suc r) (keptAfter p budget (suc r))
   unfolding keptAfter nextKept
   next-kept r l h =
       let k = keptAfter p budget r in
-      cond-ind (isClosed k) k _ (IsKept p (suc r)) (λ t. one-more k r h) (λ t. round-kept r (nextRound p budget (r + 2) k) k (chosen r k l h) h)
+      cond-ind (isClosed k) k _ (IsKept p (suc r)) (λ t. one-more r k h) (λ t. round-kept r (nextRound p budget (r + 2) k) k (chosen r k l h) h)
 
   pub after-kept : (r : ℕ) → r < 1000 → IsKept p r (keptAfter p budget r)
   after-kept zero l = begun-kept
   after-kept (suc r) l = next-kept r (omega arith) (after-kept r (omega arith))
 
-  pub goes-on : (r : ℕ) → r < 1000 → GoesOn p (keptAfter p budget r)
+  pub goes-on : (r : ℕ) → r < 999 → GoesOn p (keptAfter p budget r)
   goes-on r l =
-      let h = after-kept r l in
+      let h = after-kept r (omega arith) in
       let f = h .few-trees in
-      let d = h .doubling-in in
-      record { few-trees = omega arith; numbering = h .drive-numbering; random-in = h .random-in }
+      let e = h .base-few in
+      record { few-trees = omega arith; numbering = h .base-numbering; few-tries = omega arith; random-in = h .random-in }
 
   -- MORE ROUNDS ARE NEVER WORSE
   after-better : (r : ℕ) → r < 999

@@ -1,27 +1,33 @@
 -- What the code makes is what the definitions say: over the values that its functions answer.
-use mathlib.Core.Path.{_≡_, refl, sym, ap, _∙_, subst, subst⁻¹}
-use mathlib.Core.Bool.{Bool, true, false}
+use mathlib.Core.Path.{_≡_, refl, sym, ap, ap₂, _∙_, subst⁻¹}
+use mathlib.Core.Bool.{Bool, true, false, cond}
 use mathlib.Core.Logic.{_≢_}
 use mathlib.Core.List.{List}
 use mathlib.Core.Option.{none}
-use Prim.Native.Nat.{ℕ, suc, _+_, _*_, _-_, _%_, _≤_, _<_}
+use Prim.Native.Nat.{ℕ, suc, _+_, _-_, _%_, _≤_, _<_, min}
 use native.Mathlib.Omega.{arith}
 use borrow.Author.Tests.{le-leb, lt-leb, eq-eqb, ne-eqb}
+use lib.ListN.{length}
+use lib.Dec.{leb}
 use lib.IntN.{ℤ, pos}
 use lib.Signed.{leZ, ltZ}
 use Rattle.postman.specs.Plan.{Plan, WellFormed}
 use Rattle.postman.specs.Component.{componentCount}
-use Rattle.postman.specs.PlanCall.{Summary, summary, bestCost, triedCount}
+use Rattle.postman.specs.Arborescence.{arborescenceCount}
+use Rattle.postman.specs.PlanCall.{bestCost, triedCount}
 use Rattle.postman.specs.Laws.RenumberedComponents.{count-renumbered}
 use Rattle.plan.specs.declared.Plan.{Plan as PlanRecord}
 use Rattle.plan.specs.Records.{planValue}
 use Rattle.plan.specs.Laws.Records.{plan-vertices}
+use Rattle.tree_count.specs.Matrix.{cap}
+use Rattle.circuit.specs.Tour.{written}
+use Rattle.multipliers.specs.Tour.{tourOf}
 use Rattle.multipliers.specs.Ascent.{multipliersFor}
 use Rattle.refusal.specs.declared.Verdict.the-variants.{Accepted}
-use Rattle.refusal.specs.Verdict.{verdictNumber}
-use Rattle.solution.specs.declared.Planned.{Planned}
-use Rattle.solution.specs.Planned.{IsPlanned}
-use Rattle.solution.specs.Laws.Answered.{summary-given}
+use Rattle.solution.specs.declared.trees.Reached.{Reached}
+use Rattle.held_tree.specs.declared.found.Found.{Found}
+use Rattle.held_tree.specs.declared.laid.Laid.{Laid}
+use Rattle.held_tree.specs.Found.{IsFound}
 use Rattle.planner.specs.Refusals.{planRefusal}
 use Rattle.renumbering.specs.declared.numbering.Numbering.{Numbering}
 use Rattle.renumbering.specs.declared.shuffle.Drawn.{Drawn}
@@ -31,96 +37,135 @@ use Rattle.renumbering.specs.Renumbered.{carriedIn}
 use Rattle.deep_call.specs.declared.kept.Kept.{Kept}
 use Rattle.deep_call.specs.declared.trial.Trial.{Trial}
 use Rattle.deep_call.specs.declared.trial.Chosen.{Chosen}
-use Rattle.deep_call.specs.Rounds.{under, floorOf, costOf, floorUnder, carriedBack, begun, withDrive, withFloor, counted, isClosed, doubled, exchangedBy, nextRound, roundWith, nextKept, keptAfter, kept, deepSummary}
-use Rattle.deep_call.specs.Tabled.{IsTrial, IsTried}
+use Rattle.deep_call.specs.Rounds.{under, floorOf, costOf, floorUnder, carriedBack, leftOf, newTrees, begun, withDrive, withFloor, withBase, counted, isClosed, goneOn, exchangedBy, nextRound, roundWith, nextKept, keptAfter, kept, deepSummary, deepTour}
+use Rattle.deep_call.specs.Tabled.{IsTrial}
 use Rattle.deep_call.specs.Contract.{IsDeep}
 use Rattle.deep_call.specs.Laws.Tables.{plan-accepted}
 use Rattle.deep_call.specs.Laws.Kept.{IsKept, after-kept, closed-stays, one-round, tried-few, trees-same}
-use Rattle.deep_call.specs.Laws.Answer.{cost-low, is-kept, is-deep}
+use Rattle.deep_call.specs.Laws.Answer.{cost-low, is-deep}
 
-abbrev keptOf : Trial → ℕ → Trial → ℤ → List ℤ → ℕ → ℕ → ℕ → Kept
-keptOf x c y f u t r d = record { drive = x; cost = c; bound = y; floor = f; multipliers = u; trees = t; random = r; doubling = d }
+abbrev keptOf : Trial → ℕ → Trial → ℤ → List ℤ → Trial → ℕ → ℕ → ℕ → Kept
+keptOf x c y f u b l t r = record { drive = x; cost = c; bound = y; floor = f; multipliers = u; base = b; left = l; trees = t; random = r }
 
 -- ---- what is kept
 
-pub begun-as : (x : Numbering) (budget cost : ℕ) (f floor : ℤ) (u : List ℤ) (trees : ℕ) → x ≡ unchanged → f ≡ floor
-    → keptOf (record { numbering = x; tries = budget }) cost (record { numbering = x; tries = budget }) f u trees 1 2 ≡ begun budget cost floor u trees
+pub begun-as : (x : Numbering) (budget cost : ℕ) (f floor : ℤ) (u : List ℤ) (l left trees : ℕ) → x ≡ unchanged → f ≡ floor → l ≡ left
+    → keptOf (record { numbering = x; tries = budget }) cost (record { numbering = x; tries = budget }) f u (record { numbering = x; tries = budget }) l trees 1 ≡ begun budget cost floor u left trees
 unfolding begun
-begun-as x budget cost f floor u trees e g = λ i. keptOf (record { numbering = e i; tries = budget }) cost (record { numbering = e i; tries = budget }) (g i) u trees 1 2
+begun-as x budget cost f floor u l left trees e g h =
+    λ i. keptOf (record { numbering = e i; tries = budget }) cost (record { numbering = e i; tries = budget }) (g i) u (record { numbering = e i; tries = budget }) (h i) trees 1
 
 module _ (x : Trial) (k : Kept) where
   pub drive-left : (cost : ℕ) → k .cost < cost → k ≡ withDrive x cost k
   unfolding withDrive
   drive-left cost l = let e = lt-leb cost (k .cost) l in rw e refl
 
-  pub drive-taken : (cost : ℕ) (f : ℤ) → cost ≤ k .cost → f ≡ k .floor → keptOf x cost (k .bound) f (k .multipliers) (k .trees) (k .random) (k .doubling) ≡ withDrive x cost k
+  pub drive-taken : (cost : ℕ) (f : ℤ) → cost ≤ k .cost → f ≡ k .floor → keptOf x cost (k .bound) f (k .multipliers) (k .base) (k .left) (k .trees) (k .random) ≡ withDrive x cost k
   unfolding withDrive
-  drive-taken cost f l g = let e = le-leb cost (k .cost) l in rw e (ap (λ (f : ℤ). keptOf x cost (k .bound) f (k .multipliers) (k .trees) (k .random) (k .doubling)) g)
+  drive-taken cost f l g = let e = le-leb cost (k .cost) l in rw e (ap (λ (f : ℤ). keptOf x cost (k .bound) f (k .multipliers) (k .base) (k .left) (k .trees) (k .random)) g)
 
-  pub floor-taken : (f floor : ℤ) (u : List ℤ) → ltZ (k .floor) floor ≡ true → f ≡ floor → keptOf (k .drive) (k .cost) x f u (k .trees) (k .random) (k .doubling) ≡ withFloor x floor u k
+  pub floor-taken : (f floor : ℤ) (u : List ℤ) → ltZ (k .floor) floor ≡ true → f ≡ floor → keptOf (k .drive) (k .cost) x f u (k .base) (k .left) (k .trees) (k .random) ≡ withFloor x floor u k
   unfolding withFloor
-  floor-taken f floor u e g = rw e (ap (λ (f : ℤ). keptOf (k .drive) (k .cost) x f u (k .trees) (k .random) (k .doubling)) g)
+  floor-taken f floor u e g = rw e (ap (λ (f : ℤ). keptOf (k .drive) (k .cost) x f u (k .base) (k .left) (k .trees) (k .random)) g)
 
   pub floor-left : (floor : ℤ) (u : List ℤ) → ltZ (k .floor) floor ≡ false → k ≡ withFloor x floor u k
   unfolding withFloor
   floor-left floor u e = rw e refl
 
-pub counted-as : (k : Kept) (trees random doubling : ℕ) (f : ℤ) → f ≡ k .floor → keptOf (k .drive) (k .cost) (k .bound) f (k .multipliers) (k .trees + trees) random doubling ≡ counted trees random doubling k
+  pub base-left : (left : ℕ) → k .left < left → k ≡ withBase x left k
+  unfolding withBase
+  base-left left l = let e = lt-leb left (k .left) l in rw e refl
+
+  pub base-taken : (left : ℕ) (f : ℤ) → left ≤ k .left → f ≡ k .floor → keptOf (k .drive) (k .cost) (k .bound) f (k .multipliers) x left (k .trees) (k .random) ≡ withBase x left k
+  unfolding withBase
+  base-taken left f l g = let e = le-leb left (k .left) l in rw e (ap (λ (f : ℤ). keptOf (k .drive) (k .cost) (k .bound) f (k .multipliers) x left (k .trees) (k .random)) g)
+
+pub counted-as : (k : Kept) (trees random : ℕ) (f : ℤ) → f ≡ k .floor → keptOf (k .drive) (k .cost) (k .bound) f (k .multipliers) (k .base) (k .left) (k .trees + trees) random ≡ counted trees random k
 unfolding counted
-counted-as k trees random doubling f g = ap (λ (f : ℤ). keptOf (k .drive) (k .cost) (k .bound) f (k .multipliers) (k .trees + trees) random doubling) g
+counted-as k trees random f g = ap (λ (f : ℤ). keptOf (k .drive) (k .cost) (k .bound) f (k .multipliers) (k .base) (k .left) (k .trees + trees) random) g
+
+-- one of two, by two numbers
+module _ (a b : ℕ) (new old : Reached) where
+  pub old-chosen : b < a → old ≡ cond (leb a b) new old
+  old-chosen l = let e = lt-leb a b l in rw e refl
+
+  pub new-chosen : a ≤ b → new ≡ cond (leb a b) new old
+  new-chosen l = let e = le-leb a b l in rw e refl
 
 -- ---- one round
 
-pub doubled-as : (x : Numbering) (budget round random : ℕ) → x ≡ unchanged → record { trial = record { numbering = x; tries = budget * round }; random = random; doubling = 2 * round } ≡ doubled budget round random
-unfolding doubled
-doubled-as x budget round random e = λ i. record { trial = record { numbering = e i; tries = budget * round }; random = random; doubling = 2 * round }
-
-pub exchanged-as : (r : PlanRecord) (budget round : ℕ) (k : Kept) (d : Drawn) → d ≡ shuffled (r .n) (record { numbering = k .drive .numbering; random = k .random }) (2 + 2 * (round % 8))
-    → record { trial = record { numbering = d .numbering; tries = budget }; random = d .random; doubling = k .doubling } ≡ exchangedBy (planValue r) budget round k
+pub exchanged-as : (r : PlanRecord) (budget : ℕ) (k : Kept) (d : Drawn) → d ≡ shuffled (r .n) (record { numbering = k .base .numbering; random = k .random }) 2
+    → record { trial = record { numbering = d .numbering; tries = budget }; random = d .random } ≡ exchangedBy (planValue r) budget k
 unfolding exchangedBy
-exchanged-as r budget round k d e =
-    ap (λ (d : Drawn). record { trial = record { numbering = d .numbering; tries = budget }; random = d .random; doubling = k .doubling })
-    (e ∙ ap (λ n. shuffled n (record { numbering = k .drive .numbering; random = k .random }) (2 + 2 * (round % 8))) (sym (plan-vertices r)))
+exchanged-as r budget k d e =
+    ap (λ (d : Drawn). record { trial = record { numbering = d .numbering; tries = budget }; random = d .random }) (e ∙ ap (λ n. shuffled n (record { numbering = k .base .numbering; random = k .random }) 2) (sym (plan-vertices r)))
 
 module _ (p : Plan) (budget round : ℕ) (k : Kept) (c : Chosen) where
-  pub doubles : round ≡ k .doubling → c ≡ doubled budget round (k .random) → c ≡ nextRound p budget round k
+  pub goes-on-as : round % 2 ≡ 0 → c ≡ goneOn budget k → c ≡ nextRound p budget round k
   unfolding nextRound
-  doubles e f = let t = eq-eqb round (k .doubling) e in rw t f
+  goes-on-as e f = let t = eq-eqb (round % 2) 0 e in rw t f
 
-  pub does-not-double : round ≢ k .doubling → c ≡ exchangedBy p budget round k → c ≡ nextRound p budget round k
+  pub anew-as : round % 2 ≢ 0 → c ≡ exchangedBy p budget k → c ≡ nextRound p budget round k
   unfolding nextRound
-  does-not-double n f = let t = ne-eqb round (k .doubling) n in rw t f
+  anew-as n f = let t = ne-eqb (round % 2) 0 n in rw t f
 
-pub next-as : (p : Plan) (budget round : ℕ) (k : Kept) (s : Chosen) (a : Planned) (c t r : Kept) (f : ℤ) (u : List ℤ) → f ≡ a .floor → s ≡ nextRound p budget round k
-    → IsTried (under p (s .trial .numbering)) (s .trial .tries) a → c ≡ withDrive (s .trial) (a .cost) k → u ≡ carriedIn (s .trial .numbering .to) (a .multipliers)
-    → t ≡ withFloor (s .trial) f u c → r ≡ counted (a .trees) (s .random) (s .doubling) t → r ≡ nextKept p budget round k
-unfolding nextKept roundWith
-next-as p budget round k s a c t r f u ef es h ec eu et er =
+-- what is kept of what a round finds
+abbrev pub keptFrom : Chosen → Found → ℕ → Kept → Kept
+keptFrom c a trees k =
+    let x = c .trial in
+    counted trees (c .random) (withBase x (a .number - x .tries) (withFloor x (a .floor) (carriedIn (x .numbering .to) (a .multipliers)) (withDrive x (a .best .cost) k)))
+
+pub kept-as : (c : Chosen) (a : Found) (trees : ℕ) (k d t b r : Kept) (f : ℤ) (u : List ℤ) (left : ℕ) → f ≡ a .floor → d ≡ withDrive (c .trial) (a .best .cost) k → u ≡ carriedIn (c .trial .numbering .to) (a .multipliers)
+    → t ≡ withFloor (c .trial) f u d → left ≡ a .number - c .trial .tries → b ≡ withBase (c .trial) left t → r ≡ counted trees (c .random) b → r ≡ keptFrom c a trees k
+kept-as c a trees k d t b r f u left ef ed eu et el eb er =
+    let x = c .trial in
+    let d′ = withDrive x (a .best .cost) k in
+    let u′ = carriedIn (x .numbering .to) (a .multipliers) in
+    let t′ : t ≡ withFloor x (a .floor) u′ d′ = et ∙ ap (λ (f : ℤ). withFloor x f u d) ef ∙ ap (λ (u : List ℤ). withFloor x (a .floor) u d) eu ∙ ap (withFloor x (a .floor) u′) ed in
+    let b′ : b ≡ withBase x (a .number - x .tries) (withFloor x (a .floor) u′ d′) = eb ∙ ap (λ (l : ℕ). withBase x l t) el ∙ ap (withBase x (a .number - x .tries)) t′ in
+    er ∙ ap (counted trees (c .random)) b′
+
+pub next-as : (p : Plan) (budget round : ℕ) (k : Kept) (s : Chosen) (a : Found) (g : Reached) (r : Kept) → s ≡ nextRound p budget round k → IsFound (under p (s .trial .numbering)) (s .trial .tries) a
+    → g .tried ≡ triedCount (under p (s .trial .numbering)) (s .trial .tries - budget) → r ≡ keptFrom s a (a .best .tried - g .tried) k → r ≡ nextKept p budget round k
+unfolding nextKept roundWith newTrees leftOf floorOf
+next-as p budget round k s a g r es h eg er =
     let x = s .trial in
-    let c′ : c ≡ withDrive x (costOf p x) k = ec ∙ ap (λ (n : ℕ). withDrive x n k) (h .cost-is) in
-    let u′ : u ≡ carriedBack p x = eu ∙ ap (carriedIn (x .numbering .to)) (h .multipliers-are) in
-    let t′ : t ≡ withFloor x (floorUnder p x) (carriedBack p x) (withDrive x (costOf p x) k) =
-    et ∙ ap (λ (f : ℤ). withFloor x f u c) (ef ∙ h .floor-is) ∙ ap (λ (u : List ℤ). withFloor x (floorUnder p x) u c) u′ ∙ ap (withFloor x (floorUnder p x) (carriedBack p x)) c′ in
-    let r′ : r ≡ roundWith p s k = er ∙ ap (λ (n : ℕ). counted n (s .random) (s .doubling) t) (h .trees-are) ∙ ap (counted (triedCount (under p (x .numbering)) (x .tries)) (s .random) (s .doubling)) t′ in
-    r′ ∙ ap (λ (s : Chosen). roundWith p s k) es
+    let q = under p (x .numbering) in
+    let random = s .random in
+    let n : ℕ = triedCount q (x .tries) - triedCount q (x .tries - budget) in
+    let c = withDrive x (a .best .cost) k in
+    let c′ = withDrive x (costOf p x) k in
+    let u = carriedIn (x .numbering .to) (a .multipliers) in
+    let l = a .number - x .tries in
+    let l′ = min (arborescenceCount q) cap - x .tries in
+    let e1 : r ≡ counted n random (withBase x l (withFloor x (a .floor) u c)) = er ∙ ap₂ (λ (i j : ℕ). counted (i - j) random (withBase x l (withFloor x (a .floor) u c))) (h .best-is .tried-is) eg in
+    let e2 : r ≡ counted n random (withBase x l′ (withFloor x (a .floor) u c)) = e1 ∙ ap (λ (i : ℕ). counted n random (withBase x (i - x .tries) (withFloor x (a .floor) u c))) (h .number-is) in
+    let e3 : r ≡ counted n random (withBase x l′ (withFloor x (floorUnder p x) u c)) = e2 ∙ ap (λ (f : ℤ). counted n random (withBase x l′ (withFloor x f u c))) (h .floor-is) in
+    let e4 : r ≡ counted n random (withBase x l′ (withFloor x (floorUnder p x) (carriedBack p x) c)) =
+    e3 ∙ ap (λ (v : List ℤ). counted n random (withBase x l′ (withFloor x (floorUnder p x) (carriedIn (x .numbering .to) v) c))) (h .multipliers-are) in
+    let e5 : r ≡ roundWith p budget s k = e4 ∙ ap (λ (i : ℕ). counted n random (withBase x l′ (withFloor x (floorUnder p x) (carriedBack p x) (withDrive x i k)))) (h .best-is .cost-is) in
+    e5 ∙ ap (λ (s : Chosen). roundWith p budget s k) es
 
 -- the trees that are counted
-pub few-tried : (q : Plan) (tries : ℕ) (a : Planned) → tries ≤ 1000000000 → IsTried q tries a → a .trees ≤ 1000000000
-few-tried q tries a low h = let t = tried-few q tries in subst⁻¹ (λ n. n ≤ 1000000000) (h .trees-are) (omega arith)
+pub few-tried : (q : Plan) (tries : ℕ) (a : Found) → tries ≤ 1000000000 → IsFound q tries a → a .best .tried ≤ 1000000000
+few-tried q tries a low h = let t = tried-few q tries in let e = h .best-is .tried-is in omega arith
 
-pub few-counted : (x : Trial) (cost : ℕ) (f : ℤ) (u : List ℤ) (k c t : Kept) (n : ℕ) → c ≡ withDrive x cost k → t ≡ withFloor x f u c → k .trees ≤ n → t .trees ≤ n
-few-counted x cost f u k c t n e g l = subst⁻¹ (λ m. m ≤ n) (ap (λ (k : Kept). k .trees) (g ∙ ap (withFloor x f u) e) ∙ trees-same x cost f u k) l
+pub few-counted : (x : Trial) (cost : ℕ) (f : ℤ) (u : List ℤ) (left : ℕ) (k c t b : Kept) (n : ℕ) → c ≡ withDrive x cost k → t ≡ withFloor x f u c → b ≡ withBase x left t → k .trees ≤ n → b .trees ≤ n
+few-counted x cost f u left k c t b n e g h l =
+    subst⁻¹ (λ m. m ≤ n) (ap (λ (k : Kept). k .trees) (h ∙ ap (withBase x left) (g ∙ ap (withFloor x f u) e)) ∙ trees-same x cost f u left k) l
 
 -- ---- all rounds
 
-pub first-kept : (p : Plan) (budget : ℕ) (a : Planned) (k : Kept) → IsTried p budget a → k ≡ begun budget (a .cost) (a .floor) (a .multipliers) (a .trees) → k ≡ keptAfter p budget 0
-unfolding keptAfter
+pub first-kept : (p : Plan) (budget : ℕ) (a : Found) (k : Kept) → IsFound p budget a → k ≡ begun budget (a .best .cost) (a .floor) (a .multipliers) (a .number - budget) (a .best .tried) → k ≡ keptAfter p budget 0
+unfolding keptAfter leftOf floorOf
 first-kept p budget a k h e =
+    let l = min (arborescenceCount p) cap - budget in
     e
-    ∙ ap (λ (n : ℕ). begun budget n (a .floor) (a .multipliers) (a .trees)) (h .cost-is)
-    ∙ ap (λ (f : ℤ). begun budget (bestCost p budget) f (a .multipliers) (a .trees)) (h .floor-is)
-    ∙ ap (λ (u : List ℤ). begun budget (bestCost p budget) (floorOf p budget) u (a .trees)) (h .multipliers-are)
-    ∙ ap (λ (n : ℕ). begun budget (bestCost p budget) (floorOf p budget) (multipliersFor p) n) (h .trees-are)
+    ∙ ap (λ (n : ℕ). begun budget n (a .floor) (a .multipliers) (a .number - budget) (a .best .tried)) (h .best-is .cost-is)
+    ∙ ap (λ (f : ℤ). begun budget (bestCost p budget) f (a .multipliers) (a .number - budget) (a .best .tried)) (h .floor-is)
+    ∙ ap (λ (u : List ℤ). begun budget (bestCost p budget) (floorOf p budget) u (a .number - budget) (a .best .tried)) (h .multipliers-are)
+    ∙ ap (λ (n : ℕ). begun budget (bestCost p budget) (floorOf p budget) (multipliersFor p) (n - budget) (a .best .tried)) (h .number-is)
+    ∙ ap (λ (n : ℕ). begun budget (bestCost p budget) (floorOf p budget) (multipliersFor p) l n) (h .best-is .tried-is)
 
 pub closed-as : (k : Kept) (b v : Bool) (f : ℤ) → f ≡ k .floor → b ≡ leZ (pos (k .cost)) f → b ≡ v → isClosed k ≡ v
 unfolding isClosed
@@ -149,21 +194,21 @@ module _ (p : Plan) (ok : WellFormed p) (accepted : planRefusal p ≡ none) (bud
   pub kept-trial : (r : ℕ) (k : Kept) → r < 1000 → k ≡ keptAfter p budget r → IsTrial p (k .drive)
   kept-trial r k l e = let h = is-kept-after r k l e in record { numbers = h .drive-numbering; some-tries = h .drive-tries; few-tries = h .drive-few }
 
-  -- ---- the drive laid once more
+  -- ---- the drive that is laid
 
-  module _ (rounds : ℕ) (few-rounds : rounds ≤ 1000) (k : Kept) (e : k ≡ keptAfter p budget (rounds - 1)) (old new : List ℕ) (a : Planned)
-      (i : IsPlanned (under p (k .drive .numbering)) (k .drive .tries) (planRefusal p) old new a) where
+  module _ (rounds : ℕ) (few-rounds : rounds ≤ 1000) (k : Kept) (e : k ≡ keptAfter p budget (rounds - 1)) (old new : List ℕ) (a : Laid)
+      (sheet : new ≡ written (tourOf (under p (k .drive .numbering)) (k .drive .tries)) old) (places : a .places ≡ length (tourOf (under p (k .drive .numbering)) (k .drive .tries)))
+      (parts : a .parts ≡ componentCount (under p (k .drive .numbering))) where
     as-kept : k ≡ kept p budget rounds
     unfolding kept
     as-kept = e
 
-    good : verdictNumber (a .verdict) ≡ none
-    good = i .verdict ∙ accepted
-
     parts-are : a .parts ≡ componentCount p
-    unfolding summary
-    parts-are =
-        ap (λ (x : Summary). x .parts) (summary-given _ _ _ _ _ _ i good) ∙ count-renumbered p ok (is-kept-after (rounds - 1) k (omega arith) e .drive-numbering .numbers)
+    parts-are = parts ∙ count-renumbered p ok (is-kept-after (rounds - 1) k (omega arith) e .drive-numbering .numbers)
+
+    tour-is : tourOf (under p (k .drive .numbering)) (k .drive .tries) ≡ deepTour p budget rounds
+    unfolding deepTour
+    tour-is = ap (λ (k : Kept). tourOf (under p (k .drive .numbering)) (k .drive .tries)) as-kept
 
     fields-are : (f : ℤ) (b : Bool) → f ≡ k .floor → b ≡ leZ (pos (k .cost)) f → record { cost = k .cost; floor = f; trees = k .trees; whole = b; parts = a .parts } ≡ deepSummary p budget rounds
     unfolding deepSummary isClosed
@@ -175,5 +220,4 @@ module _ (p : Plan) (ok : WellFormed p) (accepted : planRefusal p ≡ none) (bud
         → IsDeep p budget rounds none old new (record { verdict = Accepted; places = a .places; cost = k .cost; floor = f; trees = k .trees; whole = b; parts = a .parts; multipliers = k .multipliers })
     laid-best f b ef eb =
         let ac = plan-accepted p ok accepted in
-        let i′ = subst (λ (k : Kept). IsPlanned (under p (k .drive .numbering)) (k .drive .tries) none old new a) as-kept (subst (λ o. IsPlanned (under p (k .drive .numbering)) (k .drive .tries) o old new a) accepted i) in
-        is-deep p (ac .0) (ac .1) budget some-trees low rounds few-rounds old new a _ good i′ refl refl (fields-are f b ef eb) (ap (λ (k : Kept). k .multipliers) as-kept)
+        is-deep p (ac .0) (ac .1) budget some-trees low rounds few-rounds old new _ (sheet ∙ ap (λ (w : List ℕ). written w old) tour-is) (places ∙ ap length tour-is) refl (fields-are f b ef eb) (ap (λ (k : Kept). k .multipliers) as-kept)

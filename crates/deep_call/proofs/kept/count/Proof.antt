@@ -8,7 +8,7 @@ add-t8 : tie.Need-add-t8
 add-t8 c = search needs
 
 returns : tie.Need-returns
-returns c = let s = c .before .before .before .before .before in counted-as (s .args .k) _ _ _ _ (search needs)
+returns c = let s = c .before .before .before .before .before .before in counted-as (s .args .k) _ _ _ (search needs)
 
 pub count-spec : {M : Type 1} → statement M
 count-spec = tie.close (tie.spec add-t8 returns)

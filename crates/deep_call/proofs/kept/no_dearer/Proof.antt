@@ -9,7 +9,7 @@ returns : tie.Need-returns
 returns c = drive-left _ _ _ (c .if1 .taken)
 
 returns-2 : tie.Need-returns-2
-returns-2 c = let s = c .before .before .before .before .before in drive-taken _ (s .args .k) _ _ (omega arith) (search needs)
+returns-2 c = let s = c .before .before .before .before .before .before in drive-taken _ (s .args .k) _ _ (omega arith) (search needs)
 
 pub no-dearer-spec : {M : Type 1} → statement M
 no-dearer-spec = tie.close (tie.spec returns returns-2)

@@ -10,10 +10,10 @@ use Rattle.deep_call.proofs.kept.tighter.Statement.{statement}
 use Rattle.deep_call.proofs.kept.tighter.Tie as tie
 
 returns : tie.Need-returns
-returns c = let s = c .before .before .before .before in
+returns c = let s = c .before .before .before .before .before in
     let a : toZ w64 (ofZ w64 (s .args .k .floor)) ≡ s .args .k .floor = search needs in
     let b : toZ w64 (ofZ w64 (s .args .floor)) ≡ s .args .floor = search needs in
-    let t : ltZ (s .args .k .floor) (s .args .floor) ≡ true = rw (a, b) at (c .before .if1 .taken) in
+    let t : ltZ (s .args .k .floor) (s .args .floor) ≡ true = rw (a, b) at (c .before .before .if1 .taken) in
     floor-taken _ (s .args .k) _ _ _ t b
 
 returns-2 : tie.Need-returns-2

@@ -1,68 +1,83 @@
--- What is chosen is a numbering with some trees, and the round is the definition's, step by step.
-use Rattle.deep_call.specs.declared.trial.Chosen.{Chosen}
-use Rattle.deep_call.specs.Tabled.{IsTrial}
-use Rattle.deep_call.specs.Laws.Kept.{chosen-trial}
-use mathlib.Core.Path.{_≡_, subst⁻¹}
-use mir.Val.{toZ, ofZ}
-use mir.Syntax.{w64}
-use Rattle.deep_call.specs.Laws.Made.{next-as, few-tried, few-counted}
-use Rattle.plan.specs.Records.{planValue}
-use Rattle.deep_call.specs.Laws.Tables.{inside-to}
+-- What is chosen is a numbering with some trees, which are gone on to from those that were tried; and the round is the definition's.
+use mathlib.Core.Path.{_≡_, ap, _∙_}
+use mathlib.Core.Bool.{cond}
+use Prim.Native.Nat.{ℕ}
+use native.Mathlib.Omega.{arith}
+use lib.Dec.{leb}
+use Rattle.deep_call.specs.Laws.Tables.{plan-accepted, inside-to}
+use Rattle.deep_call.specs.Laws.Made.{next-as, few-tried}
+use Rattle.deep_call.specs.Laws.Held.{chosen-begins, next-held}
 use borrow.Author.Needs.{needs}
 use Rattle.deep_call.proofs.round.next_round.Statement.{statement}
 use Rattle.deep_call.proofs.round.next_round.Tie as tie
 
 choose-requires : tie.Need-choose-requires
-choose-requires c κs = (c .pre .0 .0 .well-formed, c .pre .0 .2, c .pre .1 .1, c .pre .1 .3)
+choose-requires c κs = search needs
 
-tried-requires : tie.Need-tried-requires
-tried-requires c κs = let s = c .before .before .before .before in
-    let d = c .before .before .before .choose in
+start-of-requires : tie.Need-start-of-requires
+start-of-requires c κs = search needs
+
+found-under-requires : tie.Need-found-under-requires
+found-under-requires c κs = let s = c .before .before .before .before .before .before in
+    let t = s .pre .0 in
     let b = s .pre .1 in
-    let n = chosen-trial _ (s .pre .0 .0 .well-formed) _ (b .0) (b .1) _ (b .2) (b .3) (s .args .k) (s .pre .0 .2 .numbering) (s .pre .0 .2 .random-in) in
-    let t = subst⁻¹ (λ (c : Chosen). IsTrial (planValue (s .args .plan)) (c .trial)) (d .ensures) (n .0) in
-    (s .pre .0 .0, t, s .pre .0 .1)
+    let a = plan-accepted _ (t .0 .well-formed) (t .1) in
+    let g = chosen-begins _ (a .0) _ (s .args .round) (b .0) (b .1) (s .args .d .kept) (t .2) _ _ (t .3 .base-is) (c .start-of .ensures) _ (c .before .before .choose .ensures) in
+    (t .0, t .1, g .1, g .0 .1)
 
-no-dearer-requires : tie.Need-no-dearer-requires
-no-dearer-requires c κs = search needs
-
-carry-requires : tie.Need-carry-requires
-carry-requires c κs = let s = c .before .before .before .before .before .before .before .before in
-    let d = c .before .before .before .before .before .before .before .choose in
+sub-kept-of : tie.Need-sub-kept-of
+sub-kept-of c = let s = c .before .before .before .before .before .before .before .before .before .before in
+    let t = s .pre .0 in
     let b = s .pre .1 in
-    let n = chosen-trial _ (s .pre .0 .0 .well-formed) _ (b .0) (b .1) _ (b .2) (b .3) (s .args .k) (s .pre .0 .2 .numbering) (s .pre .0 .2 .random-in) in
-    let t = subst⁻¹ (λ (c : Chosen). IsTrial (planValue (s .args .plan)) (c .trial)) (d .ensures) (n .0) in
-    inside-to _ (s .pre .0 .0 .well-formed) _ (t .numbers)
+    let a = plan-accepted _ (t .0 .well-formed) (t .1) in
+    let g = chosen-begins _ (a .0) _ (s .args .round) (b .0) (b .1) (s .args .d .kept) (t .2) _ _ (t .3 .base-is) (c .before .before .before .before .start-of .ensures) _ (c .before .before .before .before .before .before .choose .ensures) in
+    let w = g .0 .1 .within in
+    let e = c .before .before .before .found-under .ensures .best-is .tried-is in
+    omega arith
 
-tighter-requires : tie.Need-tighter-requires
-tighter-requires c κs = search needs
-
-count-requires : tie.Need-count-requires
-count-requires c κs = let s = c .before .before .before .before .before .before .before .before .before .before .before in
-    let d = c .before .before .before .before .before .before .before .before .before .before .choose in
+kept-of-requires : tie.Need-kept-of-requires
+kept-of-requires c κs = let s = c .before .before .before .before .before .before .before .before .before .before in
+    let t = s .pre .0 in
     let b = s .pre .1 in
-    let n = chosen-trial _ (s .pre .0 .0 .well-formed) _ (b .0) (b .1) _ (b .2) (b .3) (s .args .k) (s .pre .0 .2 .numbering) (s .pre .0 .2 .random-in) in
-    let t = subst⁻¹ (λ (c : Chosen). IsTrial (planValue (s .args .plan)) (c .trial)) (d .ensures) (n .0) in (
-      few-counted _ _ _ _ (s .args .k) _ _ _ (c .before .before .before .before .no-dearer .ensures) (c .tighter .ensures) (s .pre .0 .2 .few-trees),
-      few-tried _ _ _ (t .few-tries) (c .before .before .before .before .before .before .tried .ensures),
-    )
+    let a = plan-accepted _ (t .0 .well-formed) (t .1) in
+    let g = chosen-begins _ (a .0) _ (s .args .round) (b .0) (b .1) (s .args .d .kept) (t .2) _ _ (t .3 .base-is) (c .before .before .before .before .start-of .ensures) _ (c .before .before .before .before .before .before .choose .ensures) in
+    let f = few-tried _ _ (c .before .before .before .found-under .result) (g .1 .few-tries) (c .before .before .before .found-under .ensures) in
+    (t .2 .few-trees, omega arith, inside-to _ (t .0 .well-formed) _ (g .1 .numbers))
+
+left-of-requires : tie.Need-left-of-requires
+left-of-requires c κs = search needs
+
+chosen-of-requires : tie.Need-chosen-of-requires
+chosen-of-requires c κs = search needs
+
+chosen-of-requires-2 : tie.Need-chosen-of-requires-2
+chosen-of-requires-2 c κs = search needs
 
 returns : tie.Need-returns
-returns c = let s = c .before .before .before .before .before .before .before .before .before .before .before .before in
-    let a = c .before .before .before .before .before .before .before .tried in
-    let g = c .before .before .struct-told .given in
-    let f : toZ w64 (ofZ w64 (a .result .floor)) ≡ a .result .floor = search needs in
-    next-as _ _ _ (s .args .k) (c .before .before .before .before .before .before .before .before .before .before .before .choose .result) (a .result) (c .before .before .before .before .before .no-dearer .result) (c .before .tighter .result) _ _ (c .before .before .before .carry .result) f
-    (c .before .before .before .before .before .before .before .before .before .before .before .choose .ensures) (a .ensures) (c .before .before .before .before .before .no-dearer .ensures) (c .before .before .before .carry .ensures) (c .before .tighter .ensures) (c .count .ensures)
+returns c = let s = c .before .before .before .before .before .before .before .before .before .before .before .before .before .before in
+    let t = s .pre .0 in
+    let b = s .pre .1 in
+    let d = s .args .d in
+    let a = plan-accepted _ (t .0 .well-formed) (t .1) in
+    let h = c .before .before .before .before .before .before .before .before .before .before .choose in
+    let g = c .before .before .before .before .before .before .before .before .start-of in
+    let f = c .before .before .before .before .before .before .before .found-under in
+    let k = c .before .before .before .kept-of in
+    let l = c .before .before .left-of in
+    let i = chosen-begins _ (a .0) _ (s .args .round) (b .0) (b .1) (d .kept) (t .2) _ _ (t .3 .base-is) (g .ensures) _ (h .ensures) in
+    let e = next-as _ _ _ (d .kept) (h .result) (f .result) (g .result) (k .result) (h .ensures) (f .ensures) (i .0 .0) (k .ensures) in
+    (e, next-held _ d _ (h .result .trial) (f .result) _ _ _ _ _ _ (t .3) (f .ensures) (k .ensures) (c .before .chosen-of .ensures ∙ ap (λ (n : ℕ). cond (leb n (d .kept .left)) (f .result .best) (d .base)) (l .ensures)) (c .chosen-of2 .ensures))
 
 pub next-round-spec : {M : Type 1} → statement M
 next-round-spec =
     tie.close
     (tie.spec
     choose-requires
-    tried-requires
-    no-dearer-requires
-    carry-requires
-    tighter-requires
-    count-requires
+    start-of-requires
+    found-under-requires
+    sub-kept-of
+    kept-of-requires
+    left-of-requires
+    chosen-of-requires
+    chosen-of-requires-2
     returns)

@@ -1,20 +1,20 @@
 -- The test is the definition's.
-use Rattle.deep_call.specs.Laws.Made.{doubles, does-not-double}
+use Rattle.deep_call.specs.Laws.Made.{goes-on-as, anew-as}
 use borrow.Author.Needs.{needs}
 use Rattle.deep_call.proofs.trial.choose.Statement.{statement}
 use Rattle.deep_call.proofs.trial.choose.Tie as tie
 
-double-requires : tie.Need-double-requires
-double-requires c κs = search needs
+further-requires : tie.Need-further-requires
+further-requires c κs = search needs
 
 returns : tie.Need-returns
-returns c = doubles _ _ _ _ _ (c .before .if1 .taken) (c .double .ensures)
+returns c = goes-on-as _ _ _ _ _ (c .before .if1 .taken) (c .further .ensures)
 
 exchanges-requires : tie.Need-exchanges-requires
 exchanges-requires c κs = search needs
 
 returns-2 : tie.Need-returns-2
-returns-2 c = does-not-double _ _ _ _ _ (c .before .if1 .left) (c .exchanges .ensures)
+returns-2 c = anew-as _ _ _ _ _ (c .before .if1 .left) (c .exchanges .ensures)
 
 pub choose-spec : {M : Type 1} → statement M
-choose-spec = tie.close (tie.spec double-requires returns exchanges-requires returns-2)
+choose-spec = tie.close (tie.spec further-requires returns exchanges-requires returns-2)

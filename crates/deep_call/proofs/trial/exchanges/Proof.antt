@@ -10,19 +10,13 @@ use Rattle.deep_call.proofs.trial.exchanges.Tie as tie
 cast-n : tie.Need-cast-n
 cast-n c = search needs
 
-mul-shuffle : tie.Need-mul-shuffle
-mul-shuffle c = search needs
-
-add-shuffle : tie.Need-add-shuffle
-add-shuffle c = search needs
-
 shuffle-requires : tie.Need-shuffle-requires
 shuffle-requires c κs = let s = c .before .before .before in
     let n = record-vertices _ (s .pre .0) in
-    (subst (λ n. IsNumberingOf n (s .args .k .drive .numbering)) (plan-vertices _) (s .pre .1 .numbering), n .0, n .1, s .pre .1 .random-in)
+    (subst (λ n. IsNumberingOf n (s .args .k .base .numbering)) (plan-vertices _) (s .pre .1 .numbering), n .0, n .1, s .pre .1 .random-in)
 
 returns : tie.Need-returns
-returns c = let s = c .before .before .before .before .before in exchanged-as _ _ _ (s .args .k) _ (c .before .shuffle .ensures)
+returns c = let s = c .before .before .before .before .before in exchanged-as _ _ (s .args .k) _ (c .before .shuffle .ensures)
 
 pub exchanges-spec : {M : Type 1} → statement M
-exchanges-spec = tie.close (tie.spec cast-n mul-shuffle add-shuffle shuffle-requires returns)
+exchanges-spec = tie.close (tie.spec cast-n shuffle-requires returns)
