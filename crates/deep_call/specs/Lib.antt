@@ -1,7 +1,3 @@
--- The rounds, and what is kept of them.
-pub mod Rounds
-pub mod Tabled
-pub mod Held
 -- The deep call.
 pub mod Refusals
 pub mod Contract

@@ -1,15 +1,15 @@
 // The deep call: the refusals in their order, then the rounds, and the best drive of them.
-use crate::kept::closed;
-use crate::round::Deep;
-use crate::round::deepen;
-use crate::round::first_round;
-use crate::under::lay_under;
 use held_tree::found::plan_verdict;
 use plan::Plan;
 use planner::call::lent_verdict;
 use planner::call::refused;
 use refusal::Refusal;
 use refusal::Verdict;
+use rounds::kept::closed;
+use rounds::round::Deep;
+use rounds::round::deepen;
+use rounds::round::first_round;
+use rounds::under::lay_under;
 use solution::Planned;
 ghost use mathlib.Core.Path.{_≡_};
 ghost use mathlib.Core.List.{_++_};
@@ -22,9 +22,9 @@ ghost use Rattle.postman.specs.PlanFile.{isOutside};
 ghost use Rattle.postman.specs.PlanCall.{sheetPlaces, callConditions, lastConditions};
 ghost use Rattle.plan.specs.Records.{planValue};
 ghost use Rattle.planner.specs.Refusals.{planRefusal};
-ghost use Rattle.deep_call.specs.Rounds.{keptAfter};
-ghost use Rattle.deep_call.specs.Tabled.{IsTabled};
-ghost use Rattle.deep_call.specs.Held.{IsHeld};
+ghost use Rattle.rounds.specs.Rounds.{keptAfter};
+ghost use Rattle.rounds.specs.Tabled.{IsTabled};
+ghost use Rattle.rounds.specs.Held.{IsHeld};
 ghost use Rattle.deep_call.specs.Refusals.{highestRounds, roundConditions};
 ghost use Rattle.deep_call.specs.Contract.{IsDeep, IsDeepCall};
 

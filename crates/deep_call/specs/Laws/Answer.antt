@@ -34,13 +34,12 @@ use Rattle.circuit.specs.Tour.{written}
 use Rattle.refusal.specs.Verdict.{verdictNumber}
 use Rattle.solution.specs.declared.Planned.{Planned}
 use Rattle.solution.specs.Planned.{summaryOf, multipliersOf, countUnless, IsPlanned}
-use Rattle.solution.specs.Laws.Answer.{cost-small}
 use Rattle.solution.specs.Laws.Answered.{cost-is, floor-is, is-answer, summary-given}
-use Rattle.deep_call.specs.declared.kept.Kept.{Kept}
-use Rattle.deep_call.specs.Rounds.{under, floorOf, isClosed, kept, deepSummary, deepTour}
+use Rattle.rounds.specs.declared.kept.Kept.{Kept}
+use Rattle.rounds.specs.Rounds.{under, floorOf, isClosed, kept, deepSummary, deepTour}
 use Rattle.deep_call.specs.Contract.{boundUnder, multipliersUnless, IsDeepAnswer, IsDeep}
-use Rattle.deep_call.specs.Laws.Tables.{under-few, under-plannable}
-use Rattle.deep_call.specs.Laws.Kept.{uOf, IsKept, after-kept, under-multipliers}
+use Rattle.rounds.specs.Laws.Tables.{under-few, under-plannable}
+use Rattle.rounds.specs.Laws.Kept.{uOf, IsKept, after-kept, under-multipliers}
 
 module _ (p : Plan) (ok : Plannable p) (few : componentCount p ≤ 8) (r : ℕ) (k : Kept) (h : IsKept p r k) where
   -- ---- the drive
@@ -65,12 +64,6 @@ module _ (p : Plan) (ok : Plannable p) (few : componentCount p ≤ 8) (r : ℕ) 
 
   pub told-cost : tourCost p w ≡ k .cost
   told-cost = told .costs ∙ sym (h .cost-is)
-
-  pub cost-low : k .cost ≤ 1131527310
-  cost-low =
-      let e = h .cost-is in
-      let l = cost-small driven (under-plannable p ok (k .drive .numbering) (h .drive-numbering)) (under-few p (ok .well-formed) (k .drive .numbering) (h .drive-numbering) few) tries (h .drive-tries) in
-      omega arith
 
   -- ---- the floor
 

@@ -3,7 +3,8 @@ use native.Mathlib.Omega.{arith}
 use mathlib.Core.Path.{_≡_}
 use mir.Val.{toZ, ofZ}
 use mir.Syntax.{w64}
-use Rattle.deep_call.specs.Laws.Made.{cost-fits, kept-trial, laid-best}
+use Rattle.rounds.specs.Laws.Made.{cost-fits, kept-trial}
+use Rattle.deep_call.specs.Laws.Laid.{laid-best}
 use borrow.Author.Needs.{needs}
 use Rattle.deep_call.proofs.call.lay_best.Statement.{statement}
 use Rattle.deep_call.proofs.call.lay_best.Tie as tie
