@@ -232,11 +232,12 @@ int64_t postman_plan_call(const uint8_t *plan, size_t plan_len, uint64_t budget,
  * The deep call: rounds of the plan call, of which the cheapest drive and the highest floor are answered. Answers 0, or
  * minus a refusal: 1 to 13, or 23.
  *
- * The first round is the plan call. Rounds 2, 4, 8 and so on try so many times `budget` trees; every other round numbers
- * the vertices anew, by a few exchanges of the numbers under which the cheapest drive so far was found, and tries `budget`.
- * It ends as soon as floor and cost meet. The drive is never dearer and the floor never lower than the plan call's with the
- * same budget, and more rounds are never worse. The words are as in a plan call, but for two: POSTMAN_WHOLE is 1 if floor
- * and cost are equal, and then no drive is cheaper; POSTMAN_TREES are the trees of all rounds.
+ * The first round is the plan call. Rounds 2, 4, 6 and so on go on with the search of which the fewest trees are left, by
+ * `budget` trees; every other round numbers the vertices anew, by two exchanges of the numbers of that search, and tries
+ * `budget`. It ends as soon as floor and cost meet. The drive is never dearer and the floor never lower than the plan
+ * call's with the same budget, and more rounds are never worse. The words are as in a plan call, but for two: POSTMAN_WHOLE
+ * is 1 if floor and cost are equal, and then no drive is cheaper; POSTMAN_TREES are the trees of all rounds, at most
+ * 1,000,000,000.
  */
 int64_t postman_deep_call(const uint8_t *plan, size_t plan_len, uint64_t budget, uint32_t rounds, uint16_t *sheet,
                           size_t sheet_len, uint64_t *answer, size_t answer_len, int64_t *multipliers,

@@ -1,7 +1,5 @@
 -- What is proved about the definitions.
-pub mod Tables
-pub mod Kept
 pub mod Answer
-pub mod Made
+pub mod Laid
 pub mod Call
 pub mod Compared

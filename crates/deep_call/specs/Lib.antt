@@ -1,6 +1,3 @@
--- The rounds, and what is kept of them.
-pub mod Rounds
-pub mod Tabled
 -- The deep call.
 pub mod Refusals
 pub mod Contract

@@ -1,15 +1,15 @@
 // The deep call: the refusals in their order, then the rounds, and the best drive of them.
-use crate::kept::Kept;
-use crate::kept::begin;
-use crate::kept::closed;
-use crate::round::deepen;
-use crate::round::plan_under;
+use held_tree::found::plan_verdict;
 use plan::Plan;
 use planner::call::lent_verdict;
-use planner::call::plan_tabled;
 use planner::call::refused;
 use refusal::Refusal;
 use refusal::Verdict;
+use rounds::kept::closed;
+use rounds::round::Deep;
+use rounds::round::deepen;
+use rounds::round::first_round;
+use rounds::under::lay_under;
 use solution::Planned;
 ghost use mathlib.Core.Path.{_≡_};
 ghost use mathlib.Core.List.{_++_};
@@ -22,27 +22,30 @@ ghost use Rattle.postman.specs.PlanFile.{isOutside};
 ghost use Rattle.postman.specs.PlanCall.{sheetPlaces, callConditions, lastConditions};
 ghost use Rattle.plan.specs.Records.{planValue};
 ghost use Rattle.planner.specs.Refusals.{planRefusal};
-ghost use Rattle.deep_call.specs.Rounds.{keptAfter};
-ghost use Rattle.deep_call.specs.Tabled.{IsTabled};
+ghost use Rattle.rounds.specs.Rounds.{keptAfter};
+ghost use Rattle.rounds.specs.Tabled.{IsTabled};
+ghost use Rattle.rounds.specs.Held.{IsHeld};
 ghost use Rattle.deep_call.specs.Refusals.{highestRounds, roundConditions};
 ghost use Rattle.deep_call.specs.Contract.{IsDeep, IsDeepCall};
 
-// The drive is laid once more, with what it was found with.
+// The drive of the tree that is held is laid, under the numbering that it was found under.
 fn lay_best(
     plan: Plan,
     table: &[[u32; 64]; 64],
     weights: &[[u32; 64]; 64],
     budget: u32,
     rounds: u32,
-    k: Kept,
+    d: Deep,
     sheet: &mut [u16],
 ) -> Planned
-    requires { ⌜ IsTabled (planValue plan) (now table) (now weights) × (planRefusal (planValue plan) ≡ none) × (k ≡ keptAfter (planValue plan) budget (rounds - 1)) × (sheetPlaces ≤ length (now sheet)) ⌝ }
+    requires { ⌜ IsTabled (planValue plan) (now table) (now weights) × (planRefusal (planValue plan) ≡ none) × (d .kept ≡ keptAfter (planValue plan) budget (rounds - 1)) × IsHeld (planValue plan) d × (sheetPlaces ≤ length (now sheet)) ⌝ }
     requires { ⌜ (1 ≤ budget) × (budget ≤ 1000000) × (rounds ≤ 1000) ⌝ }
     ensures { λ r. ⌜ IsDeep (planValue plan) budget rounds none (now (sheet .entry)) (now (sheet .exit)) r ⌝ }
 {
+    let k = d.kept;
     let x = k.drive;
-    let a = plan_under(plan, table, weights, x, sheet);
+    let g = d.drive;
+    let a = lay_under(plan, table, weights, x, g, sheet);
     let u = k.multipliers;
     let whole = closed(k.cost, k.floor);
     Planned {
@@ -70,15 +73,12 @@ fn plan_deep(
     requires { ⌜ (1 ≤ budget) × (budget ≤ 1000000) × (1 ≤ rounds) × (rounds ≤ 1000) ⌝ }
     ensures { λ r. ⌜ IsDeep (planValue plan) budget rounds (planRefusal (planValue plan)) (now (sheet .entry)) (now (sheet .exit)) r ⌝ }
 {
-    let mut scratch = [0u16; 17266];
-    let a = plan_tabled(plan, table, weights, budget, &mut scratch);
-    let verdict = a.verdict;
-    match verdict {
+    match plan_verdict(plan, table) {
         Verdict::Refused(r) => refused(r),
         Verdict::Accepted => {
-            let first = begin(a, budget);
-            let k = deepen(plan, table, weights, budget, rounds, first);
-            lay_best(plan, table, weights, budget, rounds, k, sheet)
+            let first = first_round(plan, table, budget);
+            let d = deepen(plan, table, budget, rounds, first);
+            lay_best(plan, table, weights, budget, rounds, d, sheet)
         }
     }
 }

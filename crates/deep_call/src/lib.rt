@@ -1,5 +1,2 @@
-// The deep call: rounds of the plan call, each under another numbering of the vertices or with more trees, of which the best drive and the best floor are kept.
-mod kept; // what the rounds so far have found
-mod trial; // what a round is made with
-mod round; // one round after another
+// The deep call: as many rounds as are asked for, and the best drive of them.
 pub mod call; // the deep call

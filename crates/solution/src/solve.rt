@@ -1,7 +1,7 @@
 // The answer of a plan that is not refused.
 // Steps for other crates, which ask something of their caller.
 use crate::Planned;
-use crate::lay::lay;
+use crate::lay::lay_held;
 use crate::trees::best;
 use balance::state::Balance;
 use multipliers::ascend::multipliers_for;
@@ -25,7 +25,39 @@ ghost use Rattle.multipliers.specs.Prepared.{IsKnown, IsBase};
 ghost use Rattle.multipliers.specs.Ascent.{multipliersFor, boundOf};
 ghost use Rattle.solution.specs.Planned.{IsPlanned};
 ghost use Rattle.solution.specs.Resumed.{HoldsTree};
-ghost use Rattle.solution.specs.Concluded.{IsConcluded};
+ghost use Rattle.solution.specs.Concluded.{floorWith, IsConcluded};
+
+// The floor of so many trees, from L(u), which the ascent has computed.
+pub fn floor_found(
+    plan: Plan,
+    table: &[[u32; 64]; 64],
+    vs: &[u8],
+    net: Network,
+    base: Balance,
+    u: [i64; 64],
+    bound: i64,
+    whole: bool,
+    cost: u64,
+) -> i64
+    requires { ⌜ IsBase (planValue plan) (now table) (now vs) (stateOf base) × (u ≡ multipliersFor (planValue plan)) × (bound ≡ boundOf (planValue plan) u) × IsNetwork (planValue plan) net × (cost ≤ 4398046511104) ⌝ }
+    ensures { λ r. ⌜ r ≡ floorWith (planValue plan) whole cost ⌝ }
+{
+    let k = net.components as usize;
+    let component = net.component;
+    let flags = net.required;
+    let imbalance = net.imbalance;
+    floor_of(
+        table,
+        &component,
+        &flags,
+        k,
+        net.required_cost,
+        &imbalance,
+        bound,
+        whole,
+        cost,
+    )
+}
 
 // The drive of the tree that is held is written, and the floor is computed, from the state of the required arcs. `bound` is L(u), which the ascent has computed.
 pub fn conclude(
@@ -44,27 +76,10 @@ pub fn conclude(
     requires { ⌜ IsNetwork (planValue plan) net × HoldsTree (planValue plan) (s .tails) (s .heads) × (s .cost ≤ 4398046511104) × (sheetPlaces ≤ length (now sheet)) × AreWeights (planValue plan) (now weights) ⌝ }
     ensures { λ r. ⌜ IsConcluded (planValue plan) s (now (sheet .entry)) (now (sheet .exit)) r ⌝ }
 {
-    let parts = net.components;
-    let k = parts as usize;
-    let required_cost = net.required_cost;
     let ts = s.tails;
     let hs = s.heads;
-    let n = k - 1;
-    let places = lay(plan, table, weights, vs, base, &ts[..n], &hs[..n], sheet);
-    let component = net.component;
-    let flags = net.required;
-    let imbalance = net.imbalance;
-    let floor = floor_of(
-        table,
-        &component,
-        &flags,
-        k,
-        required_cost,
-        &imbalance,
-        bound,
-        s.whole,
-        s.cost,
-    );
+    let places = lay_held(plan, table, weights, vs, net, base, ts, hs, sheet);
+    let floor = floor_found(plan, table, vs, net, base, u, bound, s.whole, s.cost);
     Planned {
         verdict: Verdict::Accepted,
         places: places,
@@ -72,7 +87,7 @@ pub fn conclude(
         floor: floor,
         trees: s.tried,
         whole: s.whole,
-        parts: parts,
+        parts: net.components,
         multipliers: u,
     }
 }

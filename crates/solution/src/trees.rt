@@ -11,18 +11,19 @@ use search::tried::lesser;
 use search::tried::number;
 use tree_count::entries::entries_of;
 ghost use mathlib.Core.Path.{_≡_};
-ghost use Prim.Native.Nat.{_≤_, _+_};
+ghost use Prim.Native.Nat.{_≤_, _+_, min};
 ghost use Rattle.plan.specs.Records.{planValue};
 ghost use Rattle.balance.specs.Records.{stateOf};
 ghost use Rattle.network.specs.Network.{IsNetwork};
-ghost use Rattle.postman.specs.Arborescence.{arborescences};
-ghost use Rattle.postman.specs.PlanCall.{bestCost, bestArborescence};
+ghost use Rattle.postman.specs.Arborescence.{arborescences, arborescenceCount};
+ghost use Rattle.postman.specs.PlanCall.{triedCount, bestCost, bestArborescence};
+ghost use Rattle.tree_count.specs.Matrix.{cap};
 ghost use Rattle.search.specs.Contracts.{IsExplored, IsSearched};
 ghost use Rattle.branches.specs.Holding.{IsShort};
 ghost use Rattle.multipliers.specs.Prepared.{IsBase};
 ghost use Rattle.multipliers.specs.Ascent.{multipliersFor};
 ghost use Rattle.solution.specs.Begun.{IsBegun};
-ghost use Rattle.solution.specs.Resumed.{turnOf, triedOn, linksBy, IsResumed};
+ghost use Rattle.solution.specs.Resumed.{turnOf, triedOn, linksBy, IsResumed, IsReachedBy};
 
 // How far a search is: the best so far, and how many trees were tried.
 pub struct Reached {
@@ -40,6 +41,12 @@ pub struct Resumed {
     pub tried: u32,
     pub total: u32,
     pub whole: bool,
+}
+
+// The best of so many trees, and how many trees there are, by a count that ends at 4,294,967,296.
+pub struct Further {
+    pub found: Searched,
+    pub number: u64,
 }
 
 // What a search begins with: the candidates in order, the branch of all trees, and how many they are.
@@ -188,7 +195,7 @@ fn tried_on(
     g: Reached,
     more: u32,
 ) -> Reached
-    requires { ⌜ IsBegun (planValue plan) (now table) (now vs) (base .amounts) k s × (1 ≤ g .tried + more) × (g .tried ≤ 1000000) × (more ≤ 1000) ⌝ }
+    requires { ⌜ IsBegun (planValue plan) (now table) (now vs) (base .amounts) k s × (1 ≤ g .tried + more) × (g .tried ≤ 1000000000) × (more ≤ 1000000000) ⌝ }
     ensures { λ r. ⌜ (r .tried ≡ g .tried + more) × (r .cost ≡ triedOn (planValue plan) (g .cost) (linksBy (planValue plan) g) (g .tried) more .cost) × (linksBy (planValue plan) r ≡ triedOn (planValue plan) (g .cost) (linksBy (planValue plan) g) (g .tried) more .links) ⌝ }
 {
     if g.tried == 0 {
@@ -245,5 +252,41 @@ pub fn resume(
         tried: r.tried,
         total: total,
         whole: n <= budget as u64,
+    }
+}
+
+// A search that goes on until so many trees are tried in all, or all that there are. None of those that were tried is tried again.
+pub fn go_on(
+    plan: Plan,
+    table: &[[u32; 64]; 64],
+    vs: &[u8],
+    net: Network,
+    base: Balance,
+    u: [i64; 64],
+    tries: u32,
+    g: Reached,
+) -> Further
+    requires { ⌜ IsBase (planValue plan) (now table) (now vs) (stateOf base) × (u ≡ multipliersFor (planValue plan)) × IsNetwork (planValue plan) net ⌝ }
+    requires { ⌜ (1 ≤ tries) × (tries ≤ 1000000000) × IsReachedBy (planValue plan) g × (g .tried ≤ triedCount (planValue plan) tries) ⌝ }
+    ensures { λ r. ⌜ IsSearched (planValue plan) tries (r .found) × (r .number ≡ min (arborescenceCount (planValue plan)) cap) ⌝ }
+{
+    let s = begin(plan, table, vs, net, base, u);
+    let n = s.number;
+    let total = lesser(n, tries);
+    let more = total - g.tried;
+    let k = net.components as usize;
+    let r = tried_on(plan, table, vs, k, base, s, g, more);
+    let ts = r.tails;
+    let hs = r.heads;
+    let found = Searched {
+        cost: r.cost,
+        tails: ts,
+        heads: hs,
+        tried: total,
+        whole: n <= tries as u64,
+    };
+    Further {
+        found: found,
+        number: n,
     }
 }

@@ -3,7 +3,7 @@
 //! On plans that the plan call at 1,000,000 trees leaves open: drawn towns of 49 to 64 crossings with seven and eight parts, other seeds of the benchmark's
 //! town, the benchmark's own plans, and those that are kept. For each set it prints the mean distance of floor and cost in percent, and how many are
 //! closed, by the plan call and by deep calls. `SEED=…` draws other plans: the numbers of the rounds were chosen on those of seeds 1,000 to 12,100.
-//! Where a deep call would take longer than a minute, the answer with fewer rounds stands.
+//! The plain planner tries the trees of a search that is gone on with again, so it is slow here. Where a deep call would take longer than a minute, the answer with fewer rounds stands.
 
 use postman_tests::instances::{drawn_city, town, towns};
 use postman_tests::oracle::{call_refusal, file_of};

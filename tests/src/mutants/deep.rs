@@ -1,7 +1,7 @@
 //! Deep calls that are wrong.
 
 use super::Mutant;
-use crate::plan::{MOST_VERTICES, SHEET_PLACES};
+use crate::plan::{Plan, MOST_VERTICES, SHEET_PLACES};
 use crate::planner::{refusal, Answer, DeepCall, Planner, Refusal};
 use crate::properties::Property::{self, *};
 use crate::yardstick::{read, renumbered, Order, Rounds, Yardstick};
@@ -32,38 +32,62 @@ wrong_rounds! {
     }
 
     FirstRoundRenumbered violates [OneRound, NoWorse, EachRound] {
-        fn looks_further(&self, round: u32) -> bool {
-            round != 1 && round.is_power_of_two()
+        fn first(&self, n: usize) -> Order {
+            (0..n).rev().collect()
         }
     }
 
-    NeverFurther violates [EachRound, Stated] {
-        fn looks_further(&self, round: u32) -> bool {
-            round == 1
+    NeverOn violates [EachRound] {
+        fn goes_on(&self, _round: u32) -> bool {
+            false
         }
     }
 
-    EveryRoundFurther violates [EachRound] {
-        fn looks_further(&self, _round: u32) -> bool {
+    AlwaysOn violates [EachRound] {
+        fn goes_on(&self, _round: u32) -> bool {
             true
         }
     }
 
-    FurtherByTheBudgetAlone violates [EachRound, Stated] {
-        fn trees(&self, budget: u64, _round: u32) -> u64 {
+    BegunAgain violates [EachRound, Stated] {
+        fn trees(&self, budget: u64, _tried: u64) -> u64 {
             budget
         }
     }
 
-    OneTreeMore violates [OneRound, EachRound, Stated] {
-        fn trees(&self, budget: u64, round: u32) -> u64 {
-            budget * u64::from(round) + 1
+    OneTreeSkipped violates [EachRound] {
+        fn trees(&self, budget: u64, tried: u64) -> u64 {
+            tried + budget + 1
         }
     }
 
-    AsManyExchangesInEveryRound violates [EachRound] {
-        fn exchanges(&self, _round: u32) -> u32 {
+    ManyExchanges violates [EachRound] {
+        fn exchanges(&self) -> u32 {
             8
+        }
+    }
+
+    MostTreesLeftKept violates [EachRound] {
+        fn nears(&self, left: u64, fewest: u64) -> bool {
+            fewest == u64::MAX || left >= fewest
+        }
+    }
+
+    LastSearchKept violates [EachRound] {
+        fn nears(&self, _left: u64, _fewest: u64) -> bool {
+            true
+        }
+    }
+
+    LeftByTheBudgetAlone violates [EachRound] {
+        fn left(&self, _plan: &Plan, trees: u64) -> u64 {
+            (1 << 32) - trees
+        }
+    }
+
+    TreesCountedAgain violates [EachRound, Stated] {
+        fn counted(&self, told: u64, _trees: u64, _budget: u64) -> u64 {
+            told
         }
     }
 
@@ -79,12 +103,6 @@ wrong_rounds! {
         }
     }
 
-    FirstOfEqualsKept violates [EachRound] {
-        fn keeps(&self, cost: u64, least: u64) -> bool {
-            cost < least
-        }
-    }
-
     LastRoundKept violates [MoreRounds, NoWorse, EachRound] {
         fn keeps(&self, _cost: u64, _least: u64) -> bool {
             true
@@ -97,7 +115,7 @@ wrong_rounds! {
         }
     }
 
-    LastFloorKept violates [NoWorse, MoreRounds, EachRound] {
+    LastFloorKept violates [MoreRounds, EachRound] {
         fn raises(&self, _floor: u64, _highest: u64) -> bool {
             true
         }
@@ -109,7 +127,7 @@ wrong_rounds! {
         }
     }
 
-    MultipliersCarriedTheOtherWay violates [Feasible, Elsewhere] {
+    MultipliersCarriedTheOtherWay violates [Feasible, FloorOfSomeRoot] {
         fn carried(&self, u: &[i64; MOST_VERTICES], order: &Order) -> [i64; MOST_VERTICES] {
             let mut carried = [0; MOST_VERTICES];
             order.iter().enumerate().for_each(|(i, &v)| carried[i] = u[v]);

@@ -1,13 +1,16 @@
 //! The deep call, round by round: a list of all rounds, and what is the best in it.
 
-use super::{first, lagrangian_bound, lent_refusal, parse, plan_refusal, read_refusal, Graph};
+use super::{count_trees, first, lagrangian_bound, lent_refusal, parse, plan_refusal, read_refusal, Graph};
 use crate::plan::{Plan, MOST_ROUNDS, MOST_VERTICES};
 use crate::planner::{Answer, Refusal};
 
-/// A round: the vertex of each number, the most trees, and what is answered, u by the file's numbers.
+/// A round: the vertex of each number, the most trees in all, how many are left after them, how many of them were not tried before, and what is
+/// answered, u by the file's numbers.
 pub struct Round {
     pub vertices: Vec<usize>,
     pub trees: u64,
+    pub left: u64,
+    pub new: u64,
     pub answer: Answer,
 }
 
@@ -32,19 +35,6 @@ pub fn with_numbers(plan: &Plan, vertices: &[usize]) -> Plan {
     plan
 }
 
-/// Rounds 1, 2, 4, 8 and so on take the file's numbers.
-fn takes_own_numbers(round: u32) -> bool {
-    round.count_ones() == 1
-}
-
-fn exchanges(round: u32) -> u32 {
-    if takes_own_numbers(round) {
-        0
-    } else {
-        2 + 2 * (round % 8)
-    }
-}
-
 /// The generator's k-th number: 48,271 to the power of k, modulo 2³¹ − 1.
 fn drawn(k: u32) -> u64 {
     const MODULUS: u64 = (1 << 31) - 1;
@@ -55,23 +45,26 @@ fn drawn(k: u32) -> u64 {
     }
 }
 
-/// The vertices by their numbers in a round, from those that are kept before it. The exchanges are undone from the last to the first.
+/// The vertices by their numbers in a round, from those of the search that is kept before it: rounds 3, 5, 7 and so on exchange two numbers twice. The exchanges
+/// are undone from the last to the first.
 pub fn vertices_of(round: u32, kept: &[usize]) -> Vec<usize> {
-    let n = kept.len() as u64;
-    if takes_own_numbers(round) {
-        return (0..kept.len()).collect();
+    if round < 3 || round % 2 == 0 {
+        return kept.to_vec();
     }
-    let before: u32 = (1..round).map(exchanges).sum();
-    let pairs: Vec<(usize, usize)> = (1..=exchanges(round))
-        .map(|k| drawn(before + k))
-        .map(|number| ((number % n) as usize, (number / n % n) as usize))
-        .collect();
+    let n = kept.len() as u64;
+    let pairs = [round - 2, round - 1].map(drawn).map(|number| ((number % n) as usize, (number / n % n) as usize));
     let exchanged = |i: usize, &(a, b): &(usize, usize)| match i {
         _ if i == a => b,
         _ if i == b => a,
         _ => i,
     };
     (0..kept.len()).map(|i| kept[pairs.iter().rev().fold(i, exchanged)]).collect()
+}
+
+/// How many trees are left once so many are tried. A count ends at 2³².
+fn left_of(plan: &Plan, trees: u64) -> u64 {
+    let all = count_trees(&Graph::new(plan)).min(1 << 32) as u64;
+    all - all.min(trees)
 }
 
 /// The least cost and the highest floor of some rounds.
@@ -89,16 +82,20 @@ pub fn rounds(plan: &Plan, budget: u64, most: u32, solve: &dyn Fn(&Plan, u64) ->
         if least.is_some_and(|(cost, floor)| cost == floor) {
             break;
         }
-        // The last of the cheapest rounds.
-        let kept = rounds.iter().rev().find(|round| Some(round.answer.cost) == least.map(|(cost, _)| cost));
+        // The last of those of which the fewest trees are left.
+        let fewest = rounds.iter().map(|round| round.left).min();
+        let kept = rounds.iter().rev().find(|round| Some(round.left) == fewest);
         let own: Vec<usize> = (0..plan.n).collect();
         let vertices = vertices_of(round, kept.map_or(&own, |round| &round.vertices));
-        let trees = if takes_own_numbers(round) { budget * u64::from(round) } else { budget };
-        let mut answer = solve(&with_numbers(plan, &vertices), trees);
+        let before = kept.filter(|_| round % 2 == 0).map_or(0, |kept| kept.trees);
+        let trees = before + budget;
+        let other = with_numbers(plan, &vertices);
+        let mut answer = solve(&other, trees);
+        let new = answer.trees - answer.trees.min(before);
         let u = answer.multipliers;
         answer.multipliers = [0; MOST_VERTICES];
         vertices.iter().enumerate().for_each(|(i, &v)| answer.multipliers[v] = u[i]);
-        rounds.push(Round { vertices, trees, answer });
+        rounds.push(Round { vertices, trees, left: left_of(&other, trees), new, answer });
     }
     rounds
 }
@@ -107,7 +104,7 @@ pub fn rounds(plan: &Plan, budget: u64, most: u32, solve: &dyn Fn(&Plan, u64) ->
 pub fn best_of(rounds: &[Round]) -> Answer {
     let (cost, floor) = bests(rounds).expect("a round");
     let highest = rounds.iter().find(|round| round.answer.floor == floor).expect("a round has it");
-    let trees = rounds.iter().map(|round| round.answer.trees).sum();
+    let trees = rounds.iter().map(|round| round.new).sum();
     Answer { places: 0, cost, floor, trees, whole: cost == floor, ..highest.answer.clone() }
 }
 
@@ -132,15 +129,13 @@ mod tests {
     /// Worked out by hand and by another program.
     #[test]
     fn numbers_of_the_first_rounds() {
-        let own: Vec<usize> = (0..5).collect();
-        assert_eq!([1, 2, 4, 512].map(|round| vertices_of(round, &[3, 1, 4, 0, 2])), [(); 4].map(|_| own.clone()));
-        assert_eq!(vertices_of(3, &own), [4, 0, 2, 1, 3]);
-        assert_eq!(vertices_of(5, &[4, 0, 2, 1, 3]), [1, 2, 3, 0, 4]);
+        let (own, other) = ([0, 1, 2, 3, 4], [3, 1, 4, 0, 2]);
+        [1, 2, 4, 1_000].iter().for_each(|&round| assert_eq!(vertices_of(round, &other), other));
+        assert_eq!(vertices_of(3, &own), [0, 4, 2, 1, 3]);
+        assert_eq!(vertices_of(5, &other), [3, 4, 1, 0, 2]);
         assert_eq!(vertices_of(3, &[0]), [0]);
-        let moved = [(1, 25), (4, 49), (5, 6), (6, 61), (15, 50), (17, 41), (25, 1)];
-        let others = [(31, 34), (34, 31), (35, 4), (41, 17), (49, 35), (50, 15), (61, 5)];
         let mut third: Vec<usize> = (0..64).collect();
-        moved.iter().chain(&others).for_each(|&(number, vertex)| third[number] = vertex);
+        [(15, 50), (31, 34), (34, 31), (50, 15)].iter().for_each(|&(number, vertex)| third[number] = vertex);
         assert_eq!(vertices_of(3, &(0..64).collect::<Vec<usize>>()), third);
         assert_eq!(drawn(8), 854_716_505);
     }

@@ -21,8 +21,8 @@ fn rows() -> Vec<Row> {
     let one = Ok((8, 1, true, 1));
     vec![
         ("C, one tree in one round", case_c(), (1, 1, SHEET), Ok((14, 1, false, 3))),
-        ("C, one tree, then two", case_c(), (1, 2, SHEET), Ok((9, 3, true, 3))),
-        ("C, ended in round 2", case_c(), (1, 1_000, SHEET), Ok((9, 3, true, 3))),
+        ("C, one tree, then the other", case_c(), (1, 2, SHEET), Ok((9, 2, true, 3))),
+        ("C, ended in round 2", case_c(), (1, 1_000, SHEET), Ok((9, 2, true, 3))),
         ("C, two trees", case_c(), (2, 1, SHEET), Ok((9, 2, true, 3))),
         ("C, ended in round 1", case_c(), (2, 1_000, SHEET), Ok((9, 2, true, 3))),
         a((1, 1, SHEET), one),

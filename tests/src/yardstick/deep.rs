@@ -1,6 +1,7 @@
-//! The deep call: rounds of the plan call, each on the plan with other numbers for its vertices, or with more trees.
+//! The deep call: rounds of the plan call, each on the plan with other numbers for its vertices, or with the next trees. A round that goes on tries the
+//! trees before its own again.
 
-use super::{accept, answer, write, Yardstick};
+use super::{accept, answer, count_by_layers, entry_counts, write, Yardstick};
 use crate::plan::{Plan, MOST_ROUNDS, MOST_VERTICES, SHEET_PLACES};
 use crate::planner::{refusal, Answer, DeepCall, Planner, Refusal};
 
@@ -24,19 +25,24 @@ pub trait Rounds {
         (1..=MOST_ROUNDS).contains(&rounds)
     }
 
-    /// Whether a round looks further in the file's own numbers.
-    fn looks_further(&self, round: u32) -> bool {
-        round.is_power_of_two()
+    /// The numbers of the first round.
+    fn first(&self, n: usize) -> Order {
+        (0..n).collect()
     }
 
-    /// The trees of a round that does.
-    fn trees(&self, budget: u64, round: u32) -> u64 {
-        budget * u64::from(round)
+    /// Whether a round goes on with the search that is kept.
+    fn goes_on(&self, round: u32) -> bool {
+        round % 2 == 0
+    }
+
+    /// The trees of a round that does, in all, where so many were tried.
+    fn trees(&self, budget: u64, tried: u64) -> u64 {
+        tried + budget
     }
 
     /// How often two vertices exchange their numbers before any other round.
-    fn exchanges(&self, round: u32) -> u32 {
-        2 + 2 * (round % 8)
+    fn exchanges(&self) -> u32 {
+        2
     }
 
     /// The number that the generator draws next.
@@ -50,7 +56,24 @@ pub trait Rounds {
         ((random % n) as usize, (random / n % n) as usize)
     }
 
-    /// Whether a round's drive and numbers are kept, by its cost and the least before it.
+    /// How many trees are left once so many are tried. A count ends at 2³².
+    fn left(&self, plan: &Plan, trees: u64) -> u64 {
+        let file = write(plan.edition, plan.n as u32, &plan.arcs).expect("a good plan");
+        let (entries, parts) = entry_counts(&file).expect("a plan that is not refused");
+        count_by_layers(&entries, parts).saturating_sub(trees)
+    }
+
+    /// Whether a round's search is gone on with, by the trees that are left of it and the fewest before it.
+    fn nears(&self, left: u64, fewest: u64) -> bool {
+        left <= fewest
+    }
+
+    /// How many of a round's trees are new, of those that it may try and those of which it takes the last.
+    fn counted(&self, told: u64, trees: u64, budget: u64) -> u64 {
+        told.saturating_sub(trees - budget)
+    }
+
+    /// Whether a round's drive is kept, by its cost and the least before it.
     fn keeps(&self, cost: u64, least: u64) -> bool {
         cost <= least
     }
@@ -86,20 +109,23 @@ pub fn renumbered(plan: &Plan, order: &Order) -> Plan {
 
 /// What is kept of the rounds so far.
 struct Kept {
-    /// The cheapest drive, and the numbers that it was found by.
+    /// The cheapest drive.
     drive: Vec<u16>,
+    /// The numbers of the search that is gone on with, the trees that were tried by them, and those that are left.
     order: Order,
+    tried: u64,
+    left: u64,
     /// Cost, floor and multipliers of the best, and the trees of all.
     answer: Answer,
 }
 
 /// The numbers of a round, and its trees. What was drawn before goes on.
-fn numbers<R: Rounds>(rules: &R, round: u32, budget: u64, kept: &Order, random: &mut u64) -> (Order, u64) {
-    if rules.looks_further(round) {
-        return ((0..kept.len()).collect(), rules.trees(budget, round));
+fn numbers<R: Rounds>(rules: &R, round: u32, budget: u64, kept: &Kept, random: &mut u64) -> (Order, u64) {
+    let mut order = kept.order.clone();
+    if rules.goes_on(round) {
+        return (order, rules.trees(budget, kept.tried));
     }
-    let mut order = kept.clone();
-    for _ in 0..rules.exchanges(round) {
+    for _ in 0..rules.exchanges() {
         *random = rules.draw(*random);
         let (i, j) = rules.pair(*random, order.len());
         order.swap(i, j);
@@ -122,23 +148,27 @@ fn deep_call<R: Rounds>(
     let mut own = vec![0; SHEET_PLACES];
     let mut kept: Option<Kept> = None;
     for round in 1..=rounds {
-        let before = kept.as_ref().map_or_else(|| (0..plan.n).collect(), |kept| kept.order.clone());
-        let (order, trees) = numbers(rules, round, budget, &before, &mut random);
-        let mut told = rules.solve(renumbered(&plan, &order), trees, &mut own)?;
+        let first = || (rules.first(plan.n), budget);
+        let (order, trees) = kept.as_ref().map_or_else(first, |k| numbers(rules, round, budget, k, &mut random));
+        let other = renumbered(&plan, &order);
+        let mut told = rules.solve(other.clone(), trees, &mut own)?;
         told.multipliers = rules.carried(&told.multipliers, &order);
         let best = kept.get_or_insert_with(|| {
             let answer = Answer { places: 0, cost: u64::MAX, floor: 0, trees: 0, ..told.clone() };
-            Kept { drive: Vec::new(), order: before, answer }
+            Kept { drive: Vec::new(), order: order.clone(), tried: trees, left: u64::MAX, answer }
         });
-        best.answer.trees += told.trees;
+        best.answer.trees += rules.counted(told.trees, trees, budget);
         if rules.keeps(told.cost, best.answer.cost) {
             best.answer.cost = told.cost;
             best.drive = own[..told.places].to_vec();
-            best.order = order;
         }
         if rules.raises(told.floor, best.answer.floor) {
             best.answer.floor = told.floor;
             best.answer.multipliers = told.multipliers;
+        }
+        let left = rules.left(&other, trees);
+        if rules.nears(left, best.left) {
+            (best.order, best.tried, best.left) = (order, trees, left);
         }
         if rules.ends(best.answer.cost, best.answer.floor) {
             break;

@@ -3,7 +3,7 @@ star where a street under revision is checked; then the cost, the floor that no
 drive can undercut, the gap between them, and how many trees were tried.
 
 Without a budget it goes as deep as half a second allows. Rounds look elsewhere
-too: each numbers the corners anew or tries more trees."""
+too: each numbers the corners anew or goes on where the fewest trees are left."""
 
 from __future__ import annotations
 

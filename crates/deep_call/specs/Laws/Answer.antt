@@ -1,12 +1,13 @@
 -- THE PROMISE, from what is kept. The drive is the plan call's under its numbering, told of the plan itself; the floor is that of the plan call under its numbering, and is below every drive of the plan; where all trees
 -- were tried in that round, its cost is the least there is, and so is the cost that is kept.
-use mathlib.Core.Path.{_≡_, refl, sym, ap, _∙_, subst, subst⁻¹}
+use mathlib.Core.Path.{_≡_, sym, ap, ap₂, _∙_, subst, subst⁻¹}
 use mathlib.Core.Logic.{_↔_, _⊎_, inl, inr}
 use mathlib.Core.List.{List, []}
 use mathlib.Core.Option.{Option, none, some}
 use Prim.Native.Nat.{ℕ, _+_, _-_, _≤_}
 use native.Mathlib.Omega.{arith}
-use lib.ListN.{take}
+use lib.ListN.{length, take, drop}
+use lib.Seq.{take-append-seam}
 use lib.Dec.{T}
 use lib.IntN.{ℤ, pos}
 use lib.Signed.{_≤ℤ_, leZ, leZ-yes, ≤ℤ-refl}
@@ -18,7 +19,7 @@ use Rattle.postman.specs.Required.{requiredCost}
 use Rattle.postman.specs.Balancing.{leastBalancing}
 use Rattle.postman.specs.Component.{componentCount}
 use Rattle.postman.specs.LagrangianBound.{Multipliers, AreMultipliers, lagrangianBound}
-use Rattle.postman.specs.PlanCall.{Summary, summary, fields, bestCost, lowerBound, isWhole, IsAnswerTour}
+use Rattle.postman.specs.PlanCall.{Summary, summary, fields, triedCount, bestCost, lowerBound, isWhole, IsAnswerTour}
 use Rattle.postman.specs.Guarantee.{Guarantee}
 use Rattle.postman.specs.Renumbering.{numberIn, carried, IsRenumberedTour}
 use Rattle.postman.specs.Lists.{maxℤ}
@@ -29,17 +30,16 @@ use Rattle.postman.specs.Laws.RenumberedDrive.{tour-back}
 use Rattle.multipliers.specs.Ascent.{multipliersFor}
 use Rattle.multipliers.specs.Tour.{tourOf}
 use Rattle.multipliers.specs.Laws.Tour.{answer-tour}
+use Rattle.circuit.specs.Tour.{written}
 use Rattle.refusal.specs.Verdict.{verdictNumber}
 use Rattle.solution.specs.declared.Planned.{Planned}
 use Rattle.solution.specs.Planned.{summaryOf, multipliersOf, countUnless, IsPlanned}
-use Rattle.solution.specs.Laws.Answer.{cost-small}
-use Rattle.solution.specs.Laws.Answered.{cost-is, floor-is, is-answer, drive-is, summary-given}
-use Rattle.deep_call.specs.declared.kept.Kept.{Kept}
-use Rattle.deep_call.specs.Rounds.{under, floorOf, isClosed, kept, deepSummary, deepTour}
+use Rattle.solution.specs.Laws.Answered.{cost-is, floor-is, is-answer, summary-given}
+use Rattle.rounds.specs.declared.kept.Kept.{Kept}
+use Rattle.rounds.specs.Rounds.{under, floorOf, isClosed, kept, deepSummary, deepTour}
 use Rattle.deep_call.specs.Contract.{boundUnder, multipliersUnless, IsDeepAnswer, IsDeep}
-use Rattle.deep_call.specs.Tabled.{IsTried}
-use Rattle.deep_call.specs.Laws.Tables.{under-few, under-plannable}
-use Rattle.deep_call.specs.Laws.Kept.{uOf, IsKept, after-kept, under-multipliers}
+use Rattle.rounds.specs.Laws.Tables.{under-few, under-plannable}
+use Rattle.rounds.specs.Laws.Kept.{uOf, IsKept, after-kept, under-multipliers}
 
 module _ (p : Plan) (ok : Plannable p) (few : componentCount p ≤ 8) (r : ℕ) (k : Kept) (h : IsKept p r k) where
   -- ---- the drive
@@ -64,12 +64,6 @@ module _ (p : Plan) (ok : Plannable p) (few : componentCount p ≤ 8) (r : ℕ) 
 
   pub told-cost : tourCost p w ≡ k .cost
   told-cost = told .costs ∙ sym (h .cost-is)
-
-  pub cost-low : k .cost ≤ 1131527310
-  cost-low =
-      let e = h .cost-is in
-      let l = cost-small driven (under-plannable p ok (k .drive .numbering) (h .drive-numbering)) (under-few p (ok .well-formed) (k .drive .numbering) (h .drive-numbering) few) tries (h .drive-tries) in
-      omega arith
 
   -- ---- the floor
 
@@ -163,21 +157,28 @@ module _ (p : Plan) (ok : Plannable p) (few : componentCount p ≤ 8) (budget : 
         whole-least = λ t w g. subst⁻¹ (λ c. c ≤ tourCost p w) c (closed-least p ok few (rounds - 1) k h (subst T b t) w g);
       }
 
-  -- laid once more under the numbering of the least cost
-  pub is-deep : (old new : List ℕ) (a r : Planned) → verdictNumber (a .verdict) ≡ none → IsPlanned (under p (kept p budget rounds .drive .numbering)) (kept p budget rounds .drive .tries) none old new a
-      → verdictNumber (r .verdict) ≡ none → r .places ≡ a .places → summaryOf r ≡ deepSummary p budget rounds → r .multipliers ≡ kept p budget rounds .multipliers
-      → IsDeep p budget rounds none old new r
-  unfolding answer fields unless countUnless multipliersUnless deepTour
-  is-deep old new a r g i v n s m = record {
-    verdict = v;
-    summary-is = s;
-    multipliers-are = m;
-    sheet = i .sheet;
-    places-are = n ∙ i .places-are;
-    answered = λ e. is-deep-answer new r (ap (λ n. take n new) n ∙ drive-is _ _ _ _ _ _ i g) s m;
-  }
+  -- laid under the numbering of the least cost
+  pub is-deep : (old new : List ℕ) (r : Planned) → new ≡ written (deepTour p budget rounds) old → r .places ≡ length (deepTour p budget rounds) → verdictNumber (r .verdict) ≡ none → summaryOf r ≡ deepSummary p budget rounds
+      → r .multipliers ≡ kept p budget rounds .multipliers → IsDeep p budget rounds none old new r
+  unfolding answer fields unless countUnless multipliersUnless written
+  is-deep old new r w n v s m =
+      let t = deepTour p budget rounds in
+      record {
+        verdict = v;
+        summary-is = s;
+        multipliers-are = m;
+        sheet = w;
+        places-are = n;
+        answered = λ e. is-deep-answer new r (ap₂ take n w ∙ take-append-seam t (drop (length t) old)) s m;
+      }
 
--- ---- what a round finds
+-- ---- what the plan call finds
+
+pub record IsTried (q : Plan) (budget : ℕ) (r : Planned) : Type 0 where
+  pub cost-is : r .cost ≡ bestCost q budget
+  pub floor-is : r .floor ≡ floorOf q budget
+  pub multipliers-are : r .multipliers ≡ multipliersFor q
+  pub trees-are : r .trees ≡ triedCount q budget
 
 pub is-tried : (q : Plan) (budget : ℕ) (refusal : Option ℕ) (old new : List ℕ) (r : Planned) → IsPlanned q budget refusal old new r → refusal ≡ none → IsTried q budget r
 unfolding floorOf summary

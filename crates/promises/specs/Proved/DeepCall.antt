@@ -6,7 +6,7 @@ use Prim.Native.Nat.{ℕ}
 use Rattle.postman.specs.Refusal.{unless}
 use Rattle.postman.specs.PlanFile.{planOf}
 use Rattle.circuit.specs.Tour.{written}
-use Rattle.deep_call.specs.Rounds.{deepTour}
+use Rattle.rounds.specs.Rounds.{deepTour}
 use Rattle.deep_call.specs.Contract.{IsDeepAnswer}
 use Rattle.deep_call.specs.Theorem.{one-round, beyond-plan-call, more-rounds, passes-the-judge}
 use Rattle.promises.specs.Demands.{Accepted}

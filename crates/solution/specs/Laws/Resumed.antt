@@ -3,14 +3,14 @@
 use mathlib.Core.Path.{_≡_, refl, sym, ap, ap₂, _∙_, subst⁻¹}
 use mathlib.Core.Logic.{inl, inr}
 use mathlib.Core.Bool.{Bool, true, false, cond}
-use mathlib.Core.List.{List, [], _∷_, List·Memᴰ, List·Memᴰ·head, List·Memᴰ·tail, List·Memᴰ·cases-cons}
+use mathlib.Core.List.{List, [], _∷_, map, List·Memᴰ, List·Memᴰ·head, List·Memᴰ·tail, List·Memᴰ·cases-cons}
 use Prim.Native.Nat.{ℕ, suc, _+_, _-_, _≤_, _<_, min}
 use native.Mathlib.Decide.{decLe, ℕ-discrete}
 use native.Mathlib.Omega.{arith}
 use borrow.Author.Tests.{le-leb, lt-leb, eq-eqb, ne-eqb}
 use lib.ListN.{length, take}
 use lib.Dec.{leb, ltb, eqb}
-use Rattle.postman.specs.Lists.{argmin}
+use Rattle.postman.specs.Lists.{argmin, minimum}
 use Rattle.postman.specs.Plan.{Plan}
 use Rattle.postman.specs.Link.{Link}
 use Rattle.postman.specs.Component.{componentCount}
@@ -39,6 +39,19 @@ some-bound f (t ∷ ts) =
         | inr k ↦ (let x = r .1 u k in omega arith)
       ],
     )
+
+-- the best of so many trees is the best of those that are tried
+tried-again : (p : Plan) (n : ℕ) → triedCount p (triedCount p n) ≡ triedCount p n
+unfolding triedCount
+tried-again p n = omega arith
+
+pub tried-cost : (p : Plan) (n : ℕ) → bestCost p (triedCount p n) ≡ bestCost p n
+unfolding bestCost
+tried-cost p n = ap (λ m. minimum (map (completionCost p) (take m (arborescences p)))) (tried-again p n)
+
+pub tried-tree : (p : Plan) (n : ℕ) → bestArborescence p (triedCount p n) ≡ bestArborescence p n
+unfolding bestArborescence
+tried-tree p n = ap (λ m. argmin (completionCost p) [] (take m (arborescences p))) (tried-again p n)
 
 some-of : (m : ℕ) → (m ≡ 0 → ⊥) → 1 ≤ m
 some-of m o = omega (arith, o)

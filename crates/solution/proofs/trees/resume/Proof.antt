@@ -34,7 +34,7 @@ tried-on-requires c κs =
     let o = some-tried p (b .plannable) (s .args .budget) (s .pre .3) in
     let e = c .before .turn-of .ensures in
     let g = s .pre .4 in
-    (n .begin .ensures, omega arith, g, omega arith)
+    (n .begin .ensures, omega arith, omega arith, omega arith)
 
 returns : tie.Need-returns
 returns c =

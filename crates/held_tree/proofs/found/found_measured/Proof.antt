@@ -1,0 +1,43 @@
+-- The vertices that are flagged are the required ones, and the list holds them at its start; so the plan is known.
+use mathlib.Core.Path.{_∙_}
+use native.Mathlib.Omega.{arith}
+use lib.ListN.{length-take}
+use Rattle.network.specs.Laws.Vertices.{vertices-required}
+use Rattle.planner.specs.Laws.Call.{is-known}
+use borrow.Author.Needs.{needs}
+use Rattle.held_tree.proofs.found.found_measured.Statement.{statement}
+use Rattle.held_tree.proofs.found.found_measured.Tie as tie
+
+vertices-of-requires : tie.Need-vertices-of-requires
+vertices-of-requires c κs = search needs
+
+array-share-prefix-list : tie.Need-array-share-prefix-list
+array-share-prefix-list c = search needs
+
+slice-aggregate-found-known : tie.Need-slice-aggregate-found-known
+slice-aggregate-found-known c =
+    let h = c .before .before .vertices-of .ensures in
+    let l = length-take (c .before .before .vertices-of .result .count) (c .before .before .vertices-of .result .list) in
+    let a = h .size in
+    let b = h .fits in
+    omega arith
+
+found-known-requires : tie.Need-found-known-requires
+found-known-requires c κs =
+    let s = c .before .before .before .before in
+    let m = s .pre .0 in
+    let v = c .before .before .vertices-of .ensures .content ∙ vertices-required _ (m .well-formed) (s .args .net .required) (m .network .required) in
+    (is-known _ _ _ m (s .pre .1) _ v, m .network, s .pre .2)
+
+returns : tie.Need-returns
+returns c = search needs
+
+pub found-measured-spec : {M : Type 1} → statement M
+found-measured-spec =
+    tie.close
+    (tie.spec
+    vertices-of-requires
+    array-share-prefix-list
+    slice-aggregate-found-known
+    found-known-requires
+    returns)

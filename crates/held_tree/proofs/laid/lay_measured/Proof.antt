@@ -1,0 +1,47 @@
+-- The vertices that are flagged are the required ones, and the list holds them at its start; so the plan is known.
+use mathlib.Core.Path.{_∙_}
+use native.Mathlib.Omega.{arith}
+use lib.ListN.{length-take}
+use Rattle.network.specs.Laws.Vertices.{vertices-required}
+use Rattle.planner.specs.Laws.Call.{is-known}
+use borrow.Author.Needs.{needs}
+use Rattle.held_tree.proofs.laid.lay_measured.Statement.{statement}
+use Rattle.held_tree.proofs.laid.lay_measured.Tie as tie
+
+vertices-of-requires : tie.Need-vertices-of-requires
+vertices-of-requires c κs = search needs
+
+array-share-prefix-list : tie.Need-array-share-prefix-list
+array-share-prefix-list c = search needs
+
+slice-aggregate-lay-known : tie.Need-slice-aggregate-lay-known
+slice-aggregate-lay-known c =
+    let h = c .before .before .vertices-of .ensures in
+    let l = length-take (c .before .before .vertices-of .result .count) (c .before .before .vertices-of .result .list) in
+    let a = h .size in
+    let b = h .fits in
+    omega arith
+
+lay-known-requires : tie.Need-lay-known-requires
+lay-known-requires c κs =
+    let s = c .before .before .before .before .before .before in
+    let m = s .pre .0 in
+    let v = c .before .before .before .vertices-of .ensures .content ∙ vertices-required _ (m .well-formed) (s .args .net .required) (m .network .required) in
+    (is-known _ _ _ m (s .pre .1) _ v, m .network, s .pre .2, s .pre .3, s .pre .4)
+
+same-length : tie.Need-same-length
+same-length c = search needs
+
+returns : tie.Need-returns
+returns c = search needs
+
+pub lay-measured-spec : {M : Type 1} → statement M
+lay-measured-spec =
+    tie.close
+    (tie.spec
+    vertices-of-requires
+    array-share-prefix-list
+    slice-aggregate-lay-known
+    lay-known-requires
+    same-length
+    returns)

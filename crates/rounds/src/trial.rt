@@ -1,0 +1,76 @@
+// What a round is made with.
+use crate::kept::Kept;
+use plan::Plan;
+use renumbering::numbering::Numbering;
+use renumbering::shuffle::Drawn;
+use renumbering::shuffle::shuffle;
+ghost use mathlib.Core.Path.{_≡_};
+ghost use Prim.Native.Nat.{_≤_};
+ghost use Rattle.postman.specs.Plan.{WellFormed};
+ghost use Rattle.plan.specs.Records.{planValue};
+ghost use Rattle.rounds.specs.Rounds.{goneOn, exchangedBy, nextRound};
+ghost use Rattle.rounds.specs.Tabled.{GoesOn};
+
+// A numbering, and how many trees are tried under it in all.
+pub struct Trial {
+    pub numbering: Numbering,
+    pub tries: u32,
+}
+
+// The next round: what it is made with, and where the generator stands.
+pub struct Chosen {
+    pub trial: Trial,
+    pub random: u64,
+}
+
+// A round that goes on: the next trees of the search that is kept.
+fn further(budget: u32, k: Kept) -> Chosen
+    requires { ⌜ (k .base .tries ≤ 999000000) × (budget ≤ 1000000) ⌝ }
+    ensures { λ r. ⌜ r ≡ goneOn budget k ⌝ }
+{
+    let held = k.base;
+    let x = held.numbering;
+    let trial = Trial {
+        numbering: x,
+        tries: held.tries + budget,
+    };
+    Chosen {
+        trial: trial,
+        random: k.random,
+    }
+}
+
+// Any other: the numbering of that search, with two exchanges.
+fn exchanges(plan: Plan, budget: u32, k: Kept) -> Chosen
+    requires { ⌜ WellFormed (planValue plan) × GoesOn (planValue plan) k ⌝ }
+    ensures { λ r. ⌜ r ≡ exchangedBy (planValue plan) budget k ⌝ }
+{
+    let base = k.base;
+    let x = base.numbering;
+    let before = Drawn {
+        numbering: x,
+        random: k.random,
+    };
+    let n = plan.n as u64;
+    let d = shuffle(before, n, 2);
+    let y = d.numbering;
+    let trial = Trial {
+        numbering: y,
+        tries: budget,
+    };
+    Chosen {
+        trial: trial,
+        random: d.random,
+    }
+}
+
+// The next round.
+pub(crate) fn choose(plan: Plan, budget: u32, round: u32, k: Kept) -> Chosen
+    requires { ⌜ WellFormed (planValue plan) × GoesOn (planValue plan) k × (budget ≤ 1000000) ⌝ }
+    ensures { λ r. ⌜ r ≡ nextRound (planValue plan) budget round k ⌝ }
+{
+    if round % 2 == 0 {
+        return further(budget, k);
+    }
+    exchanges(plan, budget, k)
+}
