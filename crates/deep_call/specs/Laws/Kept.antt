@@ -1,6 +1,6 @@
 -- What is kept: the cost is that of the plan under its numbering, and so is the floor, with its multipliers carried back; and the cost is no more than that of the round which the floor is from.
 use mathlib.Core.Path.{_≡_, refl, sym, ap, fun-ext, _∙_, subst}
-use mathlib.Core.Bool.{true, false, not, cond}
+use mathlib.Core.Bool.{true, false, cond}
 use mathlib.Core.List.{List, map}
 use Prim.Native.Nat.{ℕ, zero, suc, _+_, _*_, _%_, _≤_, _<_}
 use native.Mathlib.Decide.{decLe}
@@ -21,7 +21,7 @@ use Rattle.postman.specs.Renumbering.{numberIn, renumbered, carried}
 use Rattle.postman.specs.Laws.Tests.{cond-ind}
 use Rattle.postman.specs.Laws.Membership.{length-upFrom, getD-map-upFrom}
 use Rattle.postman.specs.Laws.Required.{required-lt}
-use Rattle.postman.specs.Laws.Optimality.{Plannable}
+use Rattle.postman.specs.Steps.{Plannable}
 use Rattle.postman.specs.Laws.Renumbering.{in-a-row, renumbered-identity}
 use Rattle.multipliers.specs.Ascent.{multipliersFor}
 use Rattle.multipliers.specs.Laws.Ascent.{answered-rooted}
