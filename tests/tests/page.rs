@@ -23,24 +23,6 @@ const PAGE: [&str; 13] = [
     "ExportedRuns",
 ];
 
-/// Contracts and definitions that still cite a `Laws` folder: the file, and what it cites. This list may only become shorter.
-const CITING_LAWS: [(&str, &str); 14] = [
-    ("branches/specs/Branches.antt", "Joins"),
-    ("branches/specs/Branches.antt", "renamed"),
-    ("branches/src/names.rt", "renamed"),
-    ("components/specs/Labels.antt", "IsRequiredNumber"),
-    ("distances/src/entries.rt", "ArePairs"),
-    ("hierholzer/specs/Eulerian.antt", "Permutation"),
-    ("multipliers/specs/Prepared.antt", "Plannable"),
-    ("multipliers/specs/Priced.antt", "Feasible"),
-    ("multipliers/specs/Priced.antt", "Plannable"),
-    ("pair_costs/src/pairs.rt", "Feasible"),
-    ("solution/specs/Planned.antt", "Plannable"),
-    ("tree_bounds/specs/Branch.antt", "isTree"),
-    ("tree_bounds/specs/Branch.antt", "renamed"),
-    ("tree_bounds/specs/Prepared.antt", "Plannable"),
-];
-
 fn crates() -> PathBuf {
     Path::new(env!("CARGO_MANIFEST_DIR")).join("../crates")
 }
@@ -241,12 +223,7 @@ fn contracts_and_definitions_cite_no_laws() {
             }
         }
     }
-    let known: BTreeSet<(String, String)> =
-        CITING_LAWS.iter().map(|(file, name)| (file.to_string(), name.to_string())).collect();
-    let new: Vec<_> = found.difference(&known).collect();
-    assert_eq!(new, Vec::<&(String, String)>::new(), "a definition belongs outside `Laws`");
-    let gone: Vec<_> = known.difference(&found).collect();
-    assert_eq!(gone, Vec::<&(String, String)>::new(), "no longer cited: take it off the list");
+    assert_eq!(found, BTreeSet::new(), "a definition belongs outside `Laws`");
 }
 
 #[test]

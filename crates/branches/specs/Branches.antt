@@ -11,12 +11,12 @@ use Rattle.postman.specs.Link.{Link}
 use Rattle.postman.specs.Component.{componentCount}
 use Rattle.postman.specs.Balancing.{heads, tails, linkCost}
 use Rattle.postman.specs.LagrangianBound.{AreMultipliers}
-use Rattle.postman.specs.Laws.Balancing.{Joins}
+use Rattle.postman.specs.Steps.{Joins}
 use Rattle.residual_search.specs.Step.{State, cell, add}
 use Rattle.balance.specs.Invariant.{Metric, Certified, Counted}
 use Rattle.balance.specs.Balance.{balance}
 use Rattle.tree_count.specs.Matrix.{entriesOf, AreFew, IsMerged, AreCounts}
-use Rattle.tree_count.specs.Laws.Arrival.{renamed}
+use Rattle.tree_count.specs.Arrival.{renamed}
 use Rattle.branches.specs.declared.branch.Branch.{Branch}
 use Rattle.branches.specs.declared.candidate.Candidate.{Candidate}
 use Rattle.branches.specs.Links.{linksIn}

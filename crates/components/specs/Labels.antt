@@ -10,7 +10,7 @@ use Rattle.postman.specs.Lists.{select, below}
 use Rattle.postman.specs.Plan.{Arc, Plan, isRequiredArc, arcAt}
 use Rattle.postman.specs.Required.{required}
 use Rattle.postman.specs.Component.{component}
-use Rattle.postman.specs.Laws.Required.{IsRequiredNumber}
+use Rattle.postman.specs.Steps.{IsRequiredNumber}
 
 -- A label once `from` is called `to`.
 abbrev pub rename : ℕ → ℕ → ℕ → ℕ

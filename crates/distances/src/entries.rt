@@ -8,7 +8,7 @@ ghost use Prim.Native.Nat.{_<_, _≤_};
 ghost use lib.ListN.{length, drop};
 ghost use Rattle.postman.specs.Plan.{WellFormed};
 ghost use Rattle.postman.specs.DistanceCall.{entry as «entry-of», searchCount};
-ghost use Rattle.postman.specs.Laws.DistanceCall.{ArePairs};
+ghost use Rattle.postman.specs.Steps.{ArePairs};
 ghost use Rattle.plan.specs.Records.{planValue};
 ghost use Rattle.distances.specs.Filling.{entryBy, IsRowPut, IsSearchPut};
 

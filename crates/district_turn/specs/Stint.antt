@@ -2,7 +2,6 @@
 use mathlib.Core.Path.{_≡_}
 use mathlib.Core.Bool.{Bool, true, false, _&&_, _||_}
 use mathlib.Core.List.{List, [], _∷_, map}
-use mathlib.Core.Option.{Option, none, some}
 use Prim.Native.Nat.{ℕ, _+_}
 use lib.ListN.{replicate}
 use lib.IntN.{pos}
@@ -19,10 +18,12 @@ use Rattle.planner.specs.Refusals.{planRefusal}
 use Rattle.refusal.specs.declared.Verdict.the-variants.{Accepted}
 use Rattle.solution.specs.declared.Planned.{Planned}
 use Rattle.solution.specs.declared.trees.Reached.{Reached}
-use Rattle.solution.specs.Resumed.{turnTrees, afterTurn, linksBy, heldAfter}
+use Rattle.postman.specs.Districts.{turnTrees}
+use Rattle.solution.specs.Resumed.{afterTurn, linksBy, heldAfter}
 use Rattle.solution.specs.Concluded.{concluded}
 use Rattle.district_turn.specs.declared.stint.Stint.{Stint}
 use Rattle.district_turn.specs.Padded.{padded}
+use Rattle.postman.specs.Refusal.{isGood}
 
 -- ---- whether it can be gone on with
 
@@ -46,11 +47,7 @@ isHolding p g = eqb (g .tried) 0 || (isTree p (linksBy p g) && eqb (g .cost) (co
 abbrev pub isResumable : Plan → ℕ → Reached → Bool
 isResumable p budget g = isHolding p g && ltb (g .tried) (triedCount p budget)
 
--- The plan is one that has drives.
-unfoldable pub isGood : Option ℕ → Bool
-isGood none = true
-isGood (some r) = false
-
+-- And the plan has to be one that has drives.
 abbrev pub canGoOn : Plan → ℕ → Reached → Bool
 canGoOn p budget g = isGood (planRefusal p) && isResumable p budget g
 

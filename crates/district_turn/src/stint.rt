@@ -37,7 +37,8 @@ ghost use Rattle.multipliers.specs.Ascent.{multipliersFor, boundOf};
 ghost use Rattle.solution.specs.Resumed.{HoldsTree};
 ghost use Rattle.solution.specs.Concluded.{concluded};
 ghost use Rattle.district_turn.specs.Padded.{padded};
-ghost use Rattle.district_turn.specs.Stint.{isGood, isResumable, canGoOn, soFar, IsStint};
+ghost use Rattle.postman.specs.Refusal.{isGood};
+ghost use Rattle.district_turn.specs.Stint.{isResumable, canGoOn, soFar, IsStint};
 
 // What a turn leaves: whether what was held could be gone on from; whether the district is finished; how far it is, unless it is finished; and its answer.
 pub struct Stint {

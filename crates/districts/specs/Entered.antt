@@ -12,7 +12,7 @@ use Rattle.districts.specs.declared.machine.District.{District as Distri
 use Rattle.districts.specs.declared.machine.Machine.{Machine}
 use Rattle.districts.specs.declared.enter.Admission.the-variants.{At}
 use Rattle.districts.specs.declared.enter.Entered.{Entered}
-use Rattle.districts.specs.Line.{entryRefusal, lowestFree}
+use Rattle.postman.specs.Districts.{entryRefusal, lowestFree}
 use Rattle.districts.specs.Machine.{waitingIn, lineOf, nothingHeld, machineOf}
 use Rattle.districts.specs.Number.{admissionNumber}
 

@@ -6,7 +6,7 @@ use lib.ListN.{length}
 use Rattle.districts.specs.declared.machine.Machine.{Machine}
 use Rattle.districts.specs.declared.enter.Entered.{Entered}
 use Rattle.districts.specs.declared.turn.Turned.{Turned}
-use Rattle.districts.specs.Runs.{Event, entry, turned}
+use Rattle.postman.specs.DistrictRuns.{Event, entry, turned}
 use Rattle.districts.specs.Machine.{emptyMachine}
 use Rattle.districts.specs.Entered.{IsEntered}
 use Rattle.districts.specs.Turned.{IsTurned}

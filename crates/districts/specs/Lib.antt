@@ -1,9 +1,5 @@
--- Lines, and runs of entries and turns.
-pub mod Line
-pub mod Places
-pub mod Runs
-pub mod Waits
 -- The machine, its calls, and what they lead to.
+pub mod Places
 pub mod Machine
 pub mod Number
 pub mod Entered

@@ -6,7 +6,7 @@ use Rattle.solution.specs.declared.trees.Reached.{Reached}
 use Rattle.district_turn.specs.Padded.{padded}
 use Rattle.districts.specs.declared.machine.District.{District as DistrictRecord}
 use Rattle.districts.specs.declared.machine.Machine.{Machine}
-use Rattle.districts.specs.Line.{District, district, Line}
+use Rattle.postman.specs.Districts.{District, district, Line}
 
 -- The plan that a district holds.
 abbrev pub bytesOf : DistrictRecord → List ℕ

@@ -2,7 +2,7 @@
 use mathlib.Core.Bool.{cond}
 use Prim.Native.Nat.{ℕ}
 use lib.Dec.{ltb}
-use Rattle.districts.specs.Line.{Line, lowestFree}
+use Rattle.postman.specs.Districts.{Line, lowestFree}
 
 -- The lowest free place if it is below q, else 8.
 unfoldable pub lowestBelow : Line → ℕ → ℕ

@@ -6,12 +6,11 @@ use mathlib.Core.Option.{none}
 use Prim.Native.Nat.{ℕ, _+_}
 use Rattle.postman.specs.PlanFile.{planOf}
 use Rattle.postman.specs.PlanCall.{bestCost}
-use Rattle.solution.specs.Resumed.{turnTrees}
+use Rattle.postman.specs.Districts.{turnTrees, District, finishes}
 use Rattle.solution.specs.Planned.{IsPlanned}
 use Rattle.district_turn.specs.Stint.{soFar}
 use Rattle.districts.specs.declared.turn.Outcome.the-variants.{Unfinished, Finished}
 use Rattle.districts.specs.declared.turn.Turned.{Turned}
-use Rattle.districts.specs.Line.{District, finishes}
 
 -- "An unfinished one answers the trees so far and their least cost", and the sheet is "written in a district's last turn only"; a finished one answers as the plan call does. "A turn's answer names its district's" place.
 pub record IsServed (d : District) (old new : List ℕ) (r : Turned) : Type 0 where

@@ -1,26 +1,23 @@
 -- WHAT ENTRIES AND TURNS PROMISE, in any order from the empty machine, accepted or not. The machine after any run of them has the run's line (`Laws.Led.led`), so that what is said of lines is said of machines.
-use mathlib.Core.Path.{_≡_, refl, sym, ap, _∙_, subst, subst⁻¹}
-use mathlib.Core.Bool.{Bool, true, false, cond}
-use mathlib.Core.List.{List, [], _∷_, _++_, map, List·Memᴰ, List·Memᴰ·head}
+use mathlib.Core.Path.{_≡_, refl, ap, _∙_, subst, subst⁻¹}
+use mathlib.Core.Bool.{true}
+use mathlib.Core.List.{List, [], _∷_, map, List·Memᴰ, List·Memᴰ·head}
 use Prim.Native.Nat.{ℕ, suc, _+_, _*_, _≤_, _<_}
 use native.Mathlib.Omega.{arith}
-use lib.ListN.{length, length-map}
-use lib.Dec.{T, leb→le, ltb→lt}
-use Rattle.postman.specs.Refusal.{Answer, refused, given}
+use lib.ListN.{length}
+use lib.Dec.{T, leb→le}
+use Rattle.postman.specs.Refusal.{Answer}
 use Rattle.postman.specs.PlanCall.{sheetPlaces}
-use Rattle.postman.specs.Laws.Tests.{and-parts, of-true}
 use Rattle.postman.specs.Laws.Membership.{mem-map}
 use Rattle.solution.specs.declared.Planned.{Planned}
 use Rattle.planner.specs.Contract.{IsPlanCall}
 use Rattle.solution.specs.SameAnswer.{SameAnswer}
 use Rattle.districts.specs.declared.machine.District.{District as DistrictRecord}
 use Rattle.districts.specs.declared.machine.Machine.{Machine}
-use Rattle.districts.specs.declared.turn.Outcome.{Outcome}
-use Rattle.districts.specs.declared.turn.Outcome.the-variants.{Empty, ShortSheet, Unfinished, Finished}
+use Rattle.districts.specs.declared.turn.Outcome.the-variants.{Finished}
 use Rattle.districts.specs.declared.turn.Turned.{Turned}
-use Rattle.districts.specs.Line.{District, Line, total, finishes}
-use Rattle.districts.specs.Runs.{Event, turned, run, runFrom, isTurn, isTurnOf, turnsIn, Entry, lastEntry, turnsSince}
-use Rattle.districts.specs.Waits.{NoTurnOf}
+use Rattle.postman.specs.Districts.{District, Line, total, finishes}
+use Rattle.postman.specs.DistrictRuns.{Event, turned, run, isTurn, isTurnOf, turnsIn, Entry, lastEntry, turnsSince, NoTurnOf}
 use Rattle.districts.specs.Machine.{districtOf, bytesOf, waitingIn, lineOf, machineOf, emptyMachine}
 use Rattle.districts.specs.Number.{outcomeNumber, hadTurn, hadLast, isOf, HasPlace}
 use Rattle.districts.specs.Turned.{planBy, IsTurned}

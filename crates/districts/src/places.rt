@@ -5,7 +5,7 @@ ghost use mathlib.Core.Path.{_≡_};
 ghost use Prim.Native.Nat.{_+_, _≤_, _<_};
 ghost use lib.ListN.{length, take, drop};
 ghost use Rattle.postman.specs.Lists.{occurs};
-ghost use Rattle.districts.specs.Line.{places, lowestFree};
+ghost use Rattle.postman.specs.Districts.{places, lowestFree};
 ghost use Rattle.districts.specs.Places.{lowestBelow};
 ghost use Rattle.district_turn.specs.Padded.{padded};
 ghost use Rattle.districts.specs.Machine.{emptyDistrict, districtsIn};

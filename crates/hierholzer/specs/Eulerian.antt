@@ -6,7 +6,7 @@ use Prim.Native.Nat.{ℕ, _<_}
 use lib.ListN.{length, getD}
 use lib.Dec.{T}
 use Rattle.postman.specs.Lists.{below, occurrences}
-use Rattle.postman.specs.Laws.Pick.{Permutation}
+use Rattle.postman.specs.Steps.{Permutation}
 
 -- As many legs leave a vertex as enter it, and every set that holds the tail of leg 0, and a leg's head with its tail, holds all tails: each leg can be
 -- reached from leg 0.

@@ -7,8 +7,7 @@ use lib.ListN.{length}
 use lib.IntN.{ℤ, pos}
 use Rattle.postman.specs.Plan.{Plan}
 use Rattle.postman.specs.Required.{required, requiredCost}
-use Rattle.postman.specs.Laws.Optimality.{Plannable}
-use Rattle.postman.specs.Laws.LagrangianBound.{Feasible}
+use Rattle.postman.specs.Steps.{Plannable, Feasible}
 use Rattle.shortest.specs.Contracts.{IsTable}
 use Rattle.required.specs.Contracts.{IsImbalance, IsRequiredFlags, IsComponents}
 use Rattle.pair_costs.specs.PairCosts.{multipliersOf}

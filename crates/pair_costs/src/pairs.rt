@@ -11,7 +11,7 @@ ghost use lib.IntN.{pos, _+ℤ_, _-ℤ_};
 ghost use Rattle.integers.specs.Linear.{Within};
 ghost use Rattle.postman.specs.Plan.{Plan, WellFormed};
 ghost use Rattle.postman.specs.LagrangianBound.{cheapestArborescence};
-ghost use Rattle.postman.specs.Laws.LagrangianBound.{Feasible};
+ghost use Rattle.postman.specs.Steps.{Feasible};
 ghost use Rattle.pair_costs.specs.PairCosts.{costOf, offerOf, entryFor, AreCosts, IsLesser, AreLeastOffers, IsNetwork, multipliersOf};
 
 // More than any reduced cost is not.

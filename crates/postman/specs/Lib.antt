@@ -23,6 +23,10 @@ pub mod Windows
 pub mod Marks
 pub mod OpenPlan
 pub mod Renumbering
+pub mod Districts
+pub mod DistrictRuns
+-- Words of the contracts of steps.
+pub mod Steps
 -- What is proved about them.
 pub mod Laws
 pub mod Theorem

@@ -1,5 +1,5 @@
 -- Refusals by their numbers: "the first that applies is given, and none otherwise".
-use mathlib.Core.Bool.{Bool, cond}
+use mathlib.Core.Bool.{Bool, true, false, cond}
 use mathlib.Core.List.{List, [], _∷_}
 use mathlib.Core.Option.{Option, none, some}
 use Prim.Native.Nat.{ℕ}
@@ -12,6 +12,11 @@ Conditions = List (Bool × ℕ)
 unfoldable pub firstRefusal : Conditions → Option ℕ
 firstRefusal [] = none
 firstRefusal (c ∷ cs) = cond (c .0) (some (c .1)) (firstRefusal cs)
+
+-- Whether none applies.
+unfoldable pub isGood : Option ℕ → Bool
+isGood none = true
+isGood (some r) = false
 
 -- "A refusal returns its number only": what a call answers is a refusal's number, or a value.
 pub data Answer (A : Type 0) : Type 0 where

@@ -6,7 +6,6 @@ use mathlib.Core.List.{List, [], _∷_, _++_}
 use mathlib.Core.Option.{none, some}
 use Prim.Native.Nat.{ℕ, _≤_, _<_}
 use lib.ListN.{length}
-use lib.Signed.{_≤ℤ_}
 use lib.Dec.{T}
 use Rattle.postman.specs.Plan.{Plan, WellFormed, requiredArcs}
 use Rattle.postman.specs.Refusal.{Conditions, firstRefusal}
@@ -14,7 +13,7 @@ use Rattle.postman.specs.PlanFile.{planOf}
 use Rattle.postman.specs.Tour.{IsTour}
 use Rattle.postman.specs.Arborescence.{arborescenceCount}
 use Rattle.postman.specs.LagrangianBound.{Multipliers, AreMultipliers}
-use Rattle.postman.specs.PlanCall.{isCutOff, earlierConditions, callRefusal, bestCost, lowerBound}
+use Rattle.postman.specs.PlanCall.{isCutOff, earlierConditions, callRefusal}
 use Rattle.postman.specs.Guarantee.{Guarantee}
 use Rattle.postman.specs.Windows.{Departure, windowsIn, planAt, Avoids, earlierConditionsAt, callRefusalAt}
 use Rattle.postman.specs.Laws.Acceptance.{call-conditions, earlier-accepted, call-accepted}
@@ -22,7 +21,8 @@ use Rattle.postman.specs.Laws.Refusal.{Other, earlier-other, last-given,
 use Rattle.postman.specs.Laws.Windows.{AcceptedAt, tours, at-conditions, at-other, earlier-accepted-at}
 use Rattle.postman.specs.Laws.Tests.{test}
 use Rattle.postman.specs.Laws.Existence.{no-tour, a-tour}
-use Rattle.postman.specs.Laws.Optimality.{Plannable, some-arborescence, guaranteed, larger-cost, larger-bound}
+use Rattle.postman.specs.Steps.{Plannable}
+use Rattle.postman.specs.Laws.Optimality.{some-arborescence, guaranteed}
 
 plannable : (bytes : List ℕ) (budget places : ℕ) → callRefusal bytes budget places ≡ none → Plannable (planOf bytes)
 plannable bytes budget places e =

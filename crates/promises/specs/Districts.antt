@@ -14,8 +14,8 @@ use Rattle.districts.specs.declared.enter.Admission.the-variants.{At}
 use Rattle.districts.specs.declared.enter.Entered.{Entered}
 use Rattle.districts.specs.declared.turn.Outcome.the-variants.{Empty, ShortSheet, Unfinished, Finished}
 use Rattle.districts.specs.declared.turn.Turned.{Turned}
-use Rattle.districts.specs.Line.{District, Line, entryRefusal, lowestFree, total, finishes}
-use Rattle.districts.specs.Runs.{Event, run, turnsIn, turnsOf, lastEntry, turnsSince}
+use Rattle.postman.specs.Districts.{District, Line, entryRefusal, lowestFree, total, finishes}
+use Rattle.postman.specs.DistrictRuns.{Event, run, turnsIn, turnsOf, lastEntry, turnsSince}
 use Rattle.districts.specs.Machine.{lineOf}
 use Rattle.districts.specs.Number.{admissionNumber}
 use Rattle.districts.specs.Entered.{IsEntered}

@@ -12,8 +12,8 @@ use Rattle.postman.specs.OpenPlan.{Call, mark, return, opened, outcome, history
 use Rattle.postman.specs.Windows.{Departure}
 use Rattle.held_file.specs.Held.{fileIn}
 use Rattle.open_plan.specs.Run.{Fits, StandsFor}
-use Rattle.districts.specs.Line.{District, Line, entryRefusal, lowestFree, finishes}
-use Rattle.districts.specs.Runs.{run, lastEntry}
+use Rattle.postman.specs.Districts.{District, Line, entryRefusal, lowestFree, finishes}
+use Rattle.postman.specs.DistrictRuns.{run, lastEntry}
 use Rattle.answers.specs.Number.{oneNumber}
 use Rattle.answers.specs.Answer.{putFirst}
 use Rattle.open_plan_bytes.specs.StateBytes.{openBytes, openIn}

@@ -31,8 +31,8 @@ use Rattle.two_cars.specs.Laws.Own.{as-plan-call}
 use Rattle.districts.specs.declared.machine.Machine.{Machine}
 use Rattle.districts.specs.declared.turn.Outcome.{Outcome}
 use Rattle.districts.specs.declared.turn.Turned.{Turned}
-use Rattle.districts.specs.Line.{District, Line, finishes}
-use Rattle.districts.specs.Runs.{Event, run, lastEntry}
+use Rattle.postman.specs.Districts.{District, Line, finishes}
+use Rattle.postman.specs.DistrictRuns.{Event, run, lastEntry}
 use Rattle.districts.specs.Number.{hadTurn}
 use Rattle.districts.specs.Turned.{IsTurned}
 use Rattle.districts.specs.Led.{Led}

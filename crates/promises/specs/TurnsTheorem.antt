@@ -1,14 +1,14 @@
 -- EIGHT DISTRICTS IN TURN, for callers in other languages: first of any bytes that are lent as a machine, then of what the calls answer after every run of calls from a start on, accepted or not. It is what `districts`
 -- promises of machines, since the machine that is lent is one that the run leads to (`Laws.LentTurns.lent-led`).
 use mathlib.Core.Path.{_≡_, refl, sym, ap, _∙_, subst, subst⁻¹}
-use mathlib.Core.Bool.{Bool, true, false, cond}
+use mathlib.Core.Bool.{true, false, cond}
 use mathlib.Core.List.{List, [], _∷_, _++_, List·Memᴰ, List·Memᴰ·head}
 use mathlib.Core.Option.{Option, none}
 use Prim.Native.Nat.{ℕ, suc, _+_, _≤_, _<_}
 use native.Mathlib.Omega.{arith}
 use lib.Dec.{T}
 use lib.IntN.{ℤ, pos, negℤ, natAbs}
-use lib.ListN.{length, drop, take, replicate}
+use lib.ListN.{length, drop}
 use Rattle.postman.specs.Refusal.{answer, unless}
 use Rattle.postman.specs.PlanFile.{planOf}
 use Rattle.postman.specs.PlanCall.{sheetPlaces, bestCost}
@@ -16,16 +16,15 @@ use Rattle.refusal.specs.Verdict.{verdictNumber}
 use Rattle.solution.specs.declared.Planned.{Planned}
 use Rattle.solution.specs.SameAnswer.{SameAnswer}
 use Rattle.multipliers.specs.Ascent.{multipliersFor}
-use Rattle.solution.specs.Resumed.{turnTrees}
+use Rattle.postman.specs.Districts.{turnTrees, District, Line, entryRefusal, lowestFree, total, finishes}
 use Rattle.districts.specs.declared.machine.District.{District as DistrictRecord}
 use Rattle.districts.specs.declared.machine.Machine.{Machine}
 use Rattle.districts.specs.declared.turn.Outcome.{Outcome}
 use Rattle.districts.specs.declared.turn.Outcome.the-variants.{Finished}
 use Rattle.districts.specs.declared.turn.Turned.{Turned}
-use Rattle.districts.specs.Line.{District, Line, entryRefusal, lowestFree, total, finishes}
-use Rattle.districts.specs.Runs.{Event, turned, run, isTurn, isTurnOf, lastEntry, turnsSince}
+use Rattle.postman.specs.DistrictRuns.{Event, turned, run, isTurn, lastEntry, turnsSince}
 use Rattle.districts.specs.Machine.{districtOf, bytesOf, waitingIn, lineOf, emptyMachine}
-use Rattle.districts.specs.Number.{outcomeNumber, hadTurn, hadLast, isOf}
+use Rattle.districts.specs.Number.{outcomeNumber, hadTurn, hadLast}
 use Rattle.districts.specs.Entered.{afterEntry}
 use Rattle.districts.specs.Turned.{Meeting, nobody, shortSheet, meeting, afterTurn, outcomeOf, answerOf, sheetAfter}
 use Rattle.districts.specs.Served.{IsServed}

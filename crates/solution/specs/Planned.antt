@@ -11,7 +11,7 @@ use Rattle.postman.specs.Refusal.{answer, unless}
 use Rattle.postman.specs.LagrangianBound.{Multipliers, AreMultipliers, AreGreatest, lagrangianBound}
 use Rattle.postman.specs.PlanCall.{Summary, summary, fields, root, IsAnswerTour}
 use Rattle.postman.specs.Guarantee.{Guarantee}
-use Rattle.postman.specs.Laws.Optimality.{Plannable}
+use Rattle.postman.specs.Steps.{Plannable}
 use Rattle.circuit.specs.Tour.{written}
 use Rattle.solution.specs.declared.Planned.{Planned}
 use Rattle.refusal.specs.Verdict.{verdictNumber}

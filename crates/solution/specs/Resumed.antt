@@ -1,8 +1,8 @@
 -- A search over trees that is taken up again.
 use mathlib.Core.Path.{_≡_}
-use mathlib.Core.Bool.{Bool, cond}
+use mathlib.Core.Bool.{cond}
 use mathlib.Core.List.{List}
-use Prim.Native.Nat.{ℕ, _+_, _-_, _≤_, _<_, min}
+use Prim.Native.Nat.{ℕ, _+_, _-_, _≤_, min}
 use lib.ListN.{length, take}
 use lib.Dec.{eqb}
 use Rattle.postman.specs.Plan.{Plan}
@@ -16,10 +16,7 @@ use Rattle.branches.specs.Progress.{Held, held, advance}
 use Rattle.solution.specs.declared.trees.Reached.{Reached}
 use Rattle.solution.specs.declared.trees.Resumed.{Resumed}
 use Rattle.multipliers.specs.Prepared.{IsTree}
-
--- "A turn … takes 1,000 trees or the rest of T."
-abbrev pub turnTrees : ℕ
-turnTrees = 1000
+use Rattle.postman.specs.Districts.{turnTrees}
 
 -- How many trees are tried in a turn, where T are tried in all and n were tried before; and how many are tried after it.
 abbrev pub turnOf : ℕ → ℕ → ℕ

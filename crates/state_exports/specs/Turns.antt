@@ -4,10 +4,9 @@ use mathlib.Core.List.{List, [], _∷_, _++_, map}
 use Prim.Native.Nat.{ℕ, _+_, _≤_, _<_}
 use lib.IntN.{ℤ, pos, negℤ}
 use lib.ListN.{length, drop, replicate}
-use Rattle.postman.specs.Refusal.{refused}
 use Rattle.districts.specs.declared.enter.Entered.{Entered}
 use Rattle.districts.specs.declared.turn.Turned.{Turned}
-use Rattle.districts.specs.Runs.{Event, entry, turned}
+use Rattle.postman.specs.DistrictRuns.{Event, entry, turned}
 use Rattle.districts.specs.Entered.{IsEntered}
 use Rattle.districts.specs.Turned.{IsTurned}
 use Rattle.machine_bytes.specs.MachineBytes.{districtsBytes, machineIn}

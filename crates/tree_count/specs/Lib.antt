@@ -1,5 +1,6 @@
 -- What the functions compute.
 pub mod Recursion
+pub mod Arrival
 pub mod Matrix
 pub mod ClosedForm
 pub mod Entries

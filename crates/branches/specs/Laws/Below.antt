@@ -13,7 +13,8 @@ use Rattle.postman.specs.Link.{Link}
 use Rattle.postman.specs.Component.{component, componentCount}
 use Rattle.postman.specs.Arborescence.{candidates}
 use Rattle.postman.specs.Balancing.{heads as heads-of, tails as tails-of, linkCost}
-use Rattle.postman.specs.Laws.Balancing.{Joins, within-heads, within-tails}
+use Rattle.postman.specs.Steps.{Joins}
+use Rattle.postman.specs.Laws.Balancing.{within-heads, within-tails}
 use Rattle.postman.specs.Laws.Membership.{upFrom-mem, mem-upFrom}
 use Rattle.postman.specs.Laws.Lists.{map-cong, map-map, map-append}
 use Rattle.residual_search.specs.Step.{State, cell, add, addAll, arcsOf}
@@ -22,7 +23,7 @@ use Rattle.balance.specs.Laws.Arcs.{all-counted}
 use Rattle.direct_amounts.specs.Laws.Plan.{balance-counted, balance-room}
 use Rattle.tree_count.specs.Recursion.{merged}
 use Rattle.tree_count.specs.Matrix.{entriesOf, AreFew, AreCounts}
-use Rattle.tree_count.specs.Laws.Arrival.{renamed}
+use Rattle.tree_count.specs.Arrival.{renamed}
 use Rattle.tree_count.specs.Laws.Matrix.{few-merged}
 use Rattle.tree_count.specs.Laws.Recursion.{occurrences-renamed}
 use Rattle.branches.specs.declared.branch.Branch.{Branch}

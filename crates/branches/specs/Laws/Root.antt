@@ -16,7 +16,7 @@ use Rattle.postman.specs.Component.{component, componentCount}
 use Rattle.postman.specs.Arborescence.{candidates}
 use Rattle.postman.specs.Balancing.{heads as heads-of, tails as tails-of, linkCost}
 use Rattle.postman.specs.LagrangianBound.{reducedCost}
-use Rattle.postman.specs.Laws.Balancing.{Joins}
+use Rattle.postman.specs.Steps.{Joins}
 use Rattle.postman.specs.Laws.Existence.{some-required}
 use Rattle.postman.specs.Laws.Required.{number-ends}
 use Rattle.postman.specs.Laws.Membership.{getD-mem, mem-getD, mem-upFrom, upFrom-mem}

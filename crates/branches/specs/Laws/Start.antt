@@ -12,7 +12,8 @@ use Rattle.postman.specs.Plan.{Plan, requiredArcs}
 use Rattle.postman.specs.Required.{required}
 use Rattle.postman.specs.Link.{Link}
 use Rattle.postman.specs.Balancing.{heads as heads-of, tails as tails-of}
-use Rattle.postman.specs.Laws.Balancing.{Joins, within-heads, within-tails}
+use Rattle.postman.specs.Steps.{Joins}
+use Rattle.postman.specs.Laws.Balancing.{within-heads, within-tails}
 use Rattle.postman.specs.Laws.Membership.{mem-getD}
 use Rattle.balance.specs.Optimality.{Feasible, Tight}
 use Rattle.residual_search.specs.Step.{State, cell, amount, potential}

@@ -9,7 +9,7 @@ use Rattle.postman.specs.Lists.{select, upFrom, below, sumOf}
 use Rattle.postman.specs.Balancing.{sumOver}
 use Rattle.postman.specs.Laws.Tests.{cond-ind}
 use Rattle.postman.specs.Laws.Sum.{sum-append}
-use Rattle.postman.specs.Laws.Pick.{Pick, here, there, Permutation, none, more}
+use Rattle.postman.specs.Steps.{Permutation, Pick, here, there, none, more}
 use Rattle.hierholzer.specs.Laws.Lists.{upFrom-append}
 
 -- terms that fail the test are 0

@@ -19,7 +19,8 @@ use Rattle.postman.specs.Distance.{distance}
 use Rattle.postman.specs.Link.{Link}
 use Rattle.postman.specs.Balancing.{linkCost, balancingCost}
 use Rattle.postman.specs.Laws.Membership.{mem-getD, mem-flatMap, getD-mem, getD-map-in, mem-below, below-mem}
-use Rattle.postman.specs.Laws.Pick.{Permutation, permutation-mem}
+use Rattle.postman.specs.Steps.{Permutation}
+use Rattle.postman.specs.Laws.Pick.{permutation-mem}
 use Rattle.postman.specs.Laws.Distance.{walk-append, cost-append}
 use Rattle.postman.specs.Laws.Required.{required-open, numbers-mem, mem-numbers, numbers-arcs, numbers-field, sum-cost}
 use Rattle.postman.specs.Laws.LinkLegs.{link-weight}

@@ -17,7 +17,8 @@ use Rattle.postman.specs.Component.{bothWays, component}
 use Rattle.postman.specs.Laws.Tests.{test, cond-ind, eqb-other}
 use Rattle.postman.specs.Laws.Membership.{select-mem, getD-mem, mem-getD}
 use Rattle.postman.specs.Laws.Distance.{InPlan, bounded}
-use Rattle.postman.specs.Laws.Required.{IsRequiredNumber, required-mem, number-ends}
+use Rattle.postman.specs.Steps.{IsRequiredNumber}
+use Rattle.postman.specs.Laws.Required.{required-mem, number-ends}
 use Rattle.postman.specs.Laws.Component.{undirected, component-walk, arc-component}
 use Rattle.components.specs.Labels.{rename, mergeLabel, labelAfter, Labelled}
 use Rattle.required.specs.Laws.Search.{is-true, is-false}

@@ -24,7 +24,8 @@ use Rattle.postman.specs.Guarantee.{Guarantee}
 use Rattle.postman.specs.Renumbering.{numberIn, carried, IsRenumberedTour}
 use Rattle.postman.specs.Lists.{maxℤ}
 use Rattle.postman.specs.Laws.Tests.{test}
-use Rattle.postman.specs.Laws.Optimality.{Plannable, guaranteed}
+use Rattle.postman.specs.Steps.{Plannable}
+use Rattle.postman.specs.Laws.Optimality.{guaranteed}
 use Rattle.postman.specs.Laws.RenumberedMultipliers.{multipliers-back, carried-again, below-tours, least-cost, above-balancing}
 use Rattle.postman.specs.Laws.RenumberedDrive.{tour-back}
 use Rattle.multipliers.specs.Ascent.{multipliersFor}

@@ -19,7 +19,7 @@ use Rattle.postman.specs.Laws.Judge.{file-judged}
 use Rattle.postman.specs.PlanCall.{Summary, summary, fields, bestCost, triedCount, highestBudget, isCutOff, sheetPlaces}
 use Rattle.postman.specs.Laws.Refusal.{accepted-cons, accepted-append}
 use Rattle.postman.specs.Laws.Acceptance.{before-accepted, file-accepted}
-use Rattle.postman.specs.Laws.Optimality.{Plannable}
+use Rattle.postman.specs.Steps.{Plannable}
 use Rattle.multipliers.specs.Ascent.{multipliersFor}
 use Rattle.multipliers.specs.Tour.{tourOf}
 use Rattle.circuit.specs.Tour.{written}

@@ -26,7 +26,8 @@ use Rattle.postman.specs.Laws.Occurrences.{mem?}
 use Rattle.postman.specs.Laws.Distance.{InPlan, bounded, triangle, distance-self, distance-bound}
 use Rattle.postman.specs.Laws.Required.{required-lt, required-once, required-ends}
 use Rattle.postman.specs.Laws.Amounts.{Within, difference}
-use Rattle.postman.specs.Laws.Balancing.{Joins, within-heads, within-tails, same-length}
+use Rattle.postman.specs.Steps.{Joins}
+use Rattle.postman.specs.Laws.Balancing.{within-heads, within-tails, same-length}
 use Rattle.postman.specs.Laws.Existence.{linked}
 use Rattle.postman.specs.Laws.SignedSum.{sum-sub, sum-occurrences}
 use Rattle.balance.specs.Optimality.{Feasible, Tight, sent, received}

@@ -11,7 +11,7 @@ use Rattle.postman.specs.Link.{Link}
 use Rattle.postman.specs.Required.{required, requiredCost}
 use Rattle.postman.specs.Distance.{distance}
 use Rattle.postman.specs.Balancing.{linkCost, leastBalancing, completionCost}
-use Rattle.postman.specs.Laws.Balancing.{Joins}
+use Rattle.postman.specs.Steps.{Joins}
 use Rattle.postman.specs.Laws.Required.{required-lt}
 use Rattle.residual_search.specs.Step.{State, cell}
 use Rattle.balance.specs.Balance.{balance}

@@ -1,8 +1,7 @@
 -- A turn, by its three kinds: what is held cannot be gone on from; it can, and trees are left; none is left. The test for a tree is by the list of all trees.
 use mathlib.Core.Path.{_≡_, refl, sym, ap, ap₂, _∙_, subst, subst⁻¹}
-use mathlib.Core.Logic.{inl, inr}
-use mathlib.Core.Bool.{Bool, true, false, _&&_, _||_}
-use mathlib.Core.List.{List, [], _∷_, map, List·Memᴰ}
+use mathlib.Core.Bool.{Bool, true, false, _&&_}
+use mathlib.Core.List.{List, [], _∷_, map}
 use mathlib.Core.Option.{Option, none}
 use Prim.Native.Nat.{ℕ, _+_, _-_, _≤_, _<_, min}
 use native.Mathlib.Omega.{arith}
@@ -12,25 +11,23 @@ use lib.Seq.{take-append-seam}
 use Rattle.residual_search.specs.Step.{arcsOf}
 use lib.Dec.{T, eqb, ltb, leb, eqb→eq, eqb-refl}
 use Rattle.postman.specs.Lists.{anyOf}
-use Rattle.postman.specs.Plan.{Plan}
+use Rattle.postman.specs.Plan.{Plan, WellFormed}
 use Rattle.postman.specs.Link.{Link, joins}
 use Rattle.postman.specs.Component.{componentCount}
 use Rattle.postman.specs.Arborescence.{IsArborescence, arborescences}
 use Rattle.postman.specs.Balancing.{completionCost}
 use Rattle.postman.specs.PlanCall.{triedCount}
-use Rattle.postman.specs.Laws.Tests.{same-test, and-both, and-parts, is-true, is-false, of-true}
+use Rattle.postman.specs.Laws.Tests.{same-test, and-both, and-parts, is-true, of-true}
 use Rattle.postman.specs.Laws.Membership.{anyOf-at, anyOf-mem}
-use Rattle.postman.specs.Laws.Distance.{InPlan}
+use Rattle.postman.specs.Laws.Distance.{InPlan, bounded}
 use Rattle.postman.specs.Laws.Arborescence.{arborescences-mem, mem-arborescences}
 use Rattle.solution.specs.declared.trees.Reached.{Reached}
 use Rattle.solution.specs.declared.trees.Resumed.{Resumed}
-use Rattle.solution.specs.Resumed.{linksBy, heldAfter, IsResumed}
-use Rattle.district_turn.specs.Stint.{sameLinks, isTree, isHolding, isResumable, isGood, reachedAfter, isLast, soFar, lastAnswer, lastSheet, IsStint}
+use Rattle.solution.specs.Resumed.{linksBy, heldAfter, IsResumed, HoldsTree}
+use Rattle.postman.specs.Refusal.{isGood}
+use Rattle.district_turn.specs.Stint.{sameLinks, isTree, isHolding, isResumable, reachedAfter, isLast, soFar, lastAnswer, lastSheet, IsStint}
 use Rattle.district_turn.specs.declared.stint.Stint.{Stint}
-use Rattle.plan.specs.Records.{planValue}
-use Rattle.postman.specs.Plan.{WellFormed}
-use Rattle.postman.specs.Laws.Distance.{bounded}
-use Rattle.postman.specs.Laws.Optimality.{Plannable}
+use Rattle.postman.specs.Steps.{Plannable}
 use Rattle.required.specs.Contracts.{IsLinks, IsComponents}
 use Rattle.circuit.specs.Filled.{linksOf}
 use Rattle.circuit.specs.Laws.Laid.{links-tails, links-heads}
@@ -39,10 +36,9 @@ use Rattle.branches.specs.Progress.{Held, held}
 use Rattle.multipliers.specs.Laws.Lay.{arcs-links}
 use Rattle.circuit.specs.Tour.{written}
 use Rattle.multipliers.specs.Tour.{driveOf}
-use Rattle.solution.specs.Resumed.{HoldsTree}
 use Rattle.solution.specs.Concluded.{concluded}
 use Rattle.solution.specs.Laws.Answer.{tree-small}
-use Rattle.solution.specs.Laws.Resumed.{some-tried, IsPriced, on-priced}
+use Rattle.solution.specs.Laws.Resumed.{IsPriced, on-priced}
 use Rattle.district_turn.specs.Tree.{IsHeldTree}
 use Rattle.district_turn.specs.Padded.{padded}
 use Rattle.district_turn.specs.Laws.Clash.{clash}

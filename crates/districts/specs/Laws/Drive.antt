@@ -1,21 +1,21 @@
 -- The last turn of any machine's front district: it can be gone on with, so that its plan has drives and what it holds after the turn is a tree and its cost.
 use mathlib.Core.Path.{_≡_, refl, sym, ap, _∙_, subst, subst⁻¹}
 use mathlib.Core.Bool.{Bool, true, false, not, cond, _&&_}
-use mathlib.Core.List.{List, [], _∷_, _++_}
+use mathlib.Core.List.{List, _∷_}
 use mathlib.Core.Option.{Option, none, some}
-use Prim.Native.Nat.{ℕ, _+_, _-_, _≤_, _<_, min}
+use Prim.Native.Nat.{ℕ, _-_, _≤_, min}
 use native.Mathlib.Omega.{arith}
 use lib.Dec.{T, leb, ltb, ltb→lt}
 use lib.ListN.{length, take, drop, length-append}
 use lib.Seq.{take-append-seam}
 use Rattle.postman.specs.Plan.{Plan, WellFormed}
-use Rattle.postman.specs.Refusal.{firstRefusal}
+use Rattle.postman.specs.Refusal.{firstRefusal, isGood}
 use Rattle.postman.specs.PlanFile.{fileConditions, isOutside}
 use Rattle.postman.specs.Tour.{IsTour, tourCost}
 use Rattle.postman.specs.Component.{componentCount}
 use Rattle.postman.specs.PlanCall.{sheetPlaces, highestBudget, triedCount}
 use Rattle.postman.specs.Laws.Acceptance.{file-accepted}
-use Rattle.postman.specs.Laws.Optimality.{Plannable}
+use Rattle.postman.specs.Steps.{Plannable}
 use Rattle.postman.specs.Laws.Tests.{and-parts, of-true, is-true}
 use Rattle.circuit.specs.Tour.{written}
 use Rattle.multipliers.specs.Tour.{driveOf}
@@ -26,7 +26,7 @@ use Rattle.solution.specs.declared.Planned.{Planned}
 use Rattle.solution.specs.declared.trees.Reached.{Reached}
 use Rattle.solution.specs.Resumed.{linksBy, heldAfter}
 use Rattle.solution.specs.Laws.Resumed.{IsPriced, on-priced}
-use Rattle.district_turn.specs.Stint.{isGood, isHolding, isResumable, canGoOn, isLast, lastAnswer, lastSheet}
+use Rattle.district_turn.specs.Stint.{isHolding, isResumable, canGoOn, isLast, lastAnswer, lastSheet}
 use Rattle.district_turn.specs.Laws.Stint.{held-priced}
 use Rattle.districts.specs.declared.machine.District.{District as DistrictRecord}
 use Rattle.districts.specs.declared.machine.Machine.{Machine}

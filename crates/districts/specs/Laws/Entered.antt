@@ -27,7 +27,7 @@ use Rattle.district_turn.specs.Laws.Padded.{padded-set}
 use Rattle.districts.specs.declared.machine.District.{District as DistrictRecord}
 use Rattle.districts.specs.declared.machine.Machine.{Machine}
 use Rattle.districts.specs.declared.enter.Admission.the-variants.{At, Refused}
-use Rattle.districts.specs.Line.{District, district, Line, entryConditions, entryRefusal, lowestFree, enter}
+use Rattle.postman.specs.Districts.{District, district, Line, entryConditions, entryRefusal, lowestFree, enter}
 use Rattle.districts.specs.Machine.{districtOf, waitingIn, lineOf, emptyDistrict, machineOf}
 use Rattle.districts.specs.Entered.{callPart, entrant, movedUnless, afterEntry, IsEntered}
 use Rattle.districts.specs.Laws.Line.{later, enter-refused, enter-accepted}

@@ -1,17 +1,16 @@
 -- An accepted entry has passed the plan call's conditions but 8, so that the plan call on its plan and budget, with a sheet that is long enough, is not refused.
-use mathlib.Core.Path.{_≡_, refl, sym, _∙_}
+use mathlib.Core.Path.{_≡_, sym, _∙_}
 use mathlib.Core.Bool.{Bool, true, false, not, cond}
 use mathlib.Core.List.{List}
-use mathlib.Core.Option.{Option, none, some}
+use mathlib.Core.Option.{none, some}
 use Prim.Native.Nat.{ℕ, _≤_}
 use lib.Dec.{T}
-use Rattle.postman.specs.Refusal.{firstRefusal}
 use Rattle.postman.specs.PlanFile.{isOutside, planOf}
 use Rattle.postman.specs.PlanCall.{highestBudget, sheetPlaces, callRefusal}
 use Rattle.postman.specs.Laws.Acceptance.{file-accepted}
 use Rattle.planner.specs.Refusals.{planRefusal, budgetRefusal}
 use Rattle.planner.specs.Laws.Call.{parts-refusal, file-good, sheet-long}
-use Rattle.districts.specs.Line.{Line, entryRefusal}
+use Rattle.postman.specs.Districts.{Line, entryRefusal}
 use Rattle.districts.specs.Laws.Line.{parts, later, ends}
 
 module _ (l : Line) (bytes : List ℕ) (budget : ℕ) (e : entryRefusal l bytes budget ≡ none) where

@@ -1,9 +1,8 @@
 -- A district that has its turn. It is under way, so that the plan call on its plan and budget is not refused; and these are what it entered with.
-use mathlib.Core.Path.{_≡_, refl, sym, ap, ap₂, _∙_, subst, subst⁻¹}
-use mathlib.Core.Bool.{true, false}
+use mathlib.Core.Path.{_≡_, refl, sym, ap, _∙_, subst, subst⁻¹}
 use mathlib.Core.List.{List, [], _∷_, map, List·Memᴰ, List·Memᴰ·head}
 use mathlib.Core.Option.{none}
-use Prim.Native.Nat.{ℕ, _+_, _≤_, _<_}
+use Prim.Native.Nat.{ℕ, _≤_}
 use native.Mathlib.Omega.{arith}
 use lib.ListN.{length, getD}
 use Rattle.postman.specs.PlanFile.{planOf}
@@ -21,9 +20,9 @@ use Rattle.district_turn.specs.Laws.Clash.{clash}
 use Rattle.districts.specs.declared.machine.District.{District as DistrictRecord}
 use Rattle.districts.specs.declared.machine.Machine.{Machine}
 use Rattle.districts.specs.declared.turn.Turned.{Turned}
-use Rattle.districts.specs.Line.{District, Line, finishes}
+use Rattle.postman.specs.Districts.{District, Line, finishes}
 use Rattle.districts.specs.Machine.{bytesOf, districtOf, waitingIn, lineOf}
-use Rattle.districts.specs.Turned.{Meeting, outcomeOf, answerOf, sheetAfter, meeting, IsTurned}
+use Rattle.districts.specs.Turned.{Meeting, outcomeOf, answerOf, sheetAfter, IsTurned}
 use Rattle.districts.specs.Served.{IsServed}
 use Rattle.districts.specs.Laws.Sound.{IsUnderWay, IsSound, cost-now, tried-now, last-planned, Met, no-one, too-short, going, last}
 

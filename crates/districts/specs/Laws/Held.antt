@@ -13,7 +13,7 @@ use Rattle.postman.specs.Laws.Tests.{is-true, is-false, eqb-same}
 use Rattle.district_turn.specs.Padded.{padded}
 use Rattle.district_turn.specs.Laws.Padded.{padded-set}
 use Rattle.districts.specs.declared.machine.District.{District as DistrictRecord}
-use Rattle.districts.specs.Line.{places}
+use Rattle.postman.specs.Districts.{places}
 use Rattle.districts.specs.declared.machine.Machine.{Machine}
 use Rattle.districts.specs.Machine.{districtOf, districtsIn, waitingIn, lineOf, emptyDistrict, machineOf, noDistrict}
 

@@ -2,25 +2,22 @@
 use mathlib.Core.Path.{_≡_, refl, sym, ap, _∙_, subst, subst⁻¹}
 use mathlib.Core.Logic.{inl, inr}
 use mathlib.Core.Bool.{Bool, true, false, not, cond, _&&_}
-use mathlib.Core.List.{List, [], _∷_, _++_, map, List·Memᴰ, List·Memᴰ·head, List·Memᴰ·tail, List·Memᴰ·cases-cons, List·Memᴰ·append-cases}
+use mathlib.Core.List.{List, [], _∷_, _++_, map, List·Memᴰ, List·Memᴰ·tail, List·Memᴰ·cases-cons, List·Memᴰ·append-cases}
 use Prim.Native.Nat.{ℕ, _+_, _≤_, _<_}
 use native.Mathlib.Omega.{arith}
 use borrow.Author.Tests.{lt-ltb, le-ltb}
-use lib.ListN.{length, length-append, length-map, take}
+use lib.ListN.{length, length-append}
 use lib.Dec.{eqb, ltb}
 use Rattle.postman.specs.PlanCall.{sheetPlaces}
 use Rattle.postman.specs.Laws.Lists.{map-append}
 use Rattle.districts.specs.declared.machine.District.{District as DistrictRecord}
 use Rattle.districts.specs.declared.machine.Machine.{Machine}
-use Rattle.districts.specs.declared.enter.Entered.{Entered}
-use Rattle.districts.specs.declared.turn.Turned.{Turned}
-use Rattle.districts.specs.declared.turn.Outcome.{Outcome}
-use Rattle.districts.specs.Line.{District, Line, enter, goneOn, finishes, turn, isAccepted}
-use Rattle.districts.specs.Runs.{Event, entry, turned, step, runFrom, run, isTurn, servesPlace, isTurnOf}
-use Rattle.districts.specs.Machine.{districtOf, waitingIn, lineOf, machineOf, emptyMachine}
+use Rattle.postman.specs.Districts.{District, Line, enter, goneOn, finishes, turn, isAccepted}
+use Rattle.postman.specs.DistrictRuns.{Event, entry, turned, step, runFrom, run, servesPlace}
+use Rattle.districts.specs.Machine.{districtOf, waitingIn, lineOf, emptyMachine}
 use Rattle.districts.specs.Number.{hadTurn, isOf}
-use Rattle.districts.specs.Entered.{afterEntry, IsEntered}
-use Rattle.districts.specs.Turned.{Meeting, nobody, shortSheet, goesOn, leaves, meeting, heldNow, reachedNow, afterTurn, outcomeOf, IsTurned}
+use Rattle.districts.specs.Entered.{afterEntry}
+use Rattle.districts.specs.Turned.{Meeting, leaves, meeting, heldNow, reachedNow, afterTurn, outcomeOf}
 use Rattle.districts.specs.Led.{LedFrom, Led}
 use Rattle.districts.specs.Laws.Held.{line-is}
 use Rattle.districts.specs.Laws.Entered.{entry-line}

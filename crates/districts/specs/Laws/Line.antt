@@ -3,8 +3,8 @@ use mathlib.Core.Path.{_≡_, refl, sym, ap, _∙_, subst, subst⁻¹}
 use mathlib.Core.Logic.{_⊎_, _≢_, inl, inr}
 use mathlib.Core.Bool.{Bool, true, false, not, cond}
 use mathlib.Core.List.{List, [], _∷_, _++_, append-assoc, List·Memᴰ, List·Memᴰ·head, List·Memᴰ·tail, List·Memᴰ·cases-cons, List·Memᴰ·append-cases}
-use mathlib.Core.Option.{Option, none, some, Option·some-ne-none}
-use Prim.Native.Nat.{ℕ, zero, suc, _+_, _-_, _*_, _≤_, _<_, min}
+use mathlib.Core.Option.{Option, none, some}
+use Prim.Native.Nat.{ℕ, suc, _+_, _-_, _≤_, _<_}
 use native.Mathlib.Omega.{arith}
 use lib.ListN.{length, length-append}
 use lib.Dec.{T, leb, ltb, eqb, nleb→lt, nltb→le}
@@ -16,10 +16,10 @@ use Rattle.postman.specs.PlanCall.{highestBudget, isCutOff, partsConditions, la
 use Rattle.postman.specs.Laws.Tests.{cond-ind, eqb-other, is-false}
 use Rattle.postman.specs.Laws.Refusal.{accepted-cons, accepted-append}
 use Rattle.postman.specs.Laws.Acceptance.{file-accepted, inside}
-use Rattle.postman.specs.Laws.Optimality.{Plannable, some-arborescence}
-use Rattle.districts.specs.Line.{District, district, Line, entryConditions, entryRefusal, lowestFree, enter, total, goneOn, finishes, turn}
-use Rattle.districts.specs.Waits.{Waits}
-use Rattle.districts.specs.Laws.Places.{free-small, free-other}
+use Rattle.postman.specs.Steps.{Plannable}
+use Rattle.postman.specs.Laws.Optimality.{some-arborescence}
+use Rattle.postman.specs.Districts.{District, district, Line, entryConditions, entryRefusal, lowestFree, enter, total, goneOn, finishes, turn}
+use Rattle.postman.specs.DistrictRuns.{Waits}
 
 -- ---- a plan that 10, 11 and 12 do not refuse
 

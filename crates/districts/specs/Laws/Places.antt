@@ -13,7 +13,7 @@ use Rattle.postman.specs.Laws.Membership.{anyOf-at, anyOf-not, mem-below, below
 use Rattle.postman.specs.Laws.Distinct.{mem-occurs, occurs-mem}
 use Rattle.postman.specs.Laws.Pick.{pick-of-mem, pick-length, pick-cases}
 use Rattle.postman.specs.Laws.FirstNumber.{first-lt, first-le, first-test}
-use Rattle.districts.specs.Line.{District, Line, places, lowestFree}
+use Rattle.postman.specs.Districts.{District, Line, places, lowestFree}
 use Rattle.districts.specs.Places.{lowestBelow}
 
 covered : (n : ℕ) (xs : List ℕ) → ((q : ℕ) → q < n → List·Memᴰ q xs) → n ≤ length xs

@@ -1,7 +1,7 @@
 -- Over runs, by induction on the events. What is known of a line that a run from the empty machine leads to: at most eight districts, at places below 8 that are apart; each has the plan and the
 -- budget of the last entry that was answered its place, has tried 1,000 trees in each of its turns since, and is not finished.
-use mathlib.Core.Path.{_≡_, refl, sym, ap, ap₂, _∙_, subst, subst⁻¹}
-use mathlib.Core.Logic.{_⊎_, _≢_, inl, inr}
+use mathlib.Core.Path.{_≡_, refl, sym, ap, _∙_, subst, subst⁻¹}
+use mathlib.Core.Logic.{_≢_, inl, inr}
 use mathlib.Core.Bool.{Bool, true, false, not, cond, _&&_}
 use mathlib.Core.List.{List, [], _∷_, _++_, List·Memᴰ, List·Memᴰ·head, List·Memᴰ·tail, List·Memᴰ·cases-cons}
 use mathlib.Core.Option.{Option, none, some}
@@ -9,11 +9,10 @@ use Prim.Native.Nat.{ℕ, zero, suc, _+_, _-_, _*_, _≤_, _<_}
 use native.Mathlib.Omega.{arith}
 use lib.ListN.{length, length-append}
 use lib.Dec.{T, T-not, leb, eqb, nleb→lt, eqb→eq, eqb-refl}
-use Rattle.postman.specs.Laws.Tests.{test, is-true, is-false}
-use Rattle.districts.specs.Line.{District, district, Line, entryRefusal, lowestFree, enter, total, goneOn, finishes, turn, isAccepted}
-use Rattle.districts.specs.Runs.{Event, entry, turned, step, runFrom, run, servesPlace, isTurn, isTurnOf, turnsIn, entersAt, Entry, entryOf, lastEntry, turnsSince}
-use Rattle.district_turn.specs.Stint.{isGood}
-use Rattle.districts.specs.Waits.{Waits, NoTurnOf}
+use Rattle.postman.specs.Laws.Tests.{is-true, is-false}
+use Rattle.postman.specs.Districts.{District, district, Line, entryRefusal, lowestFree, enter, total, goneOn, finishes, turn, isAccepted}
+use Rattle.postman.specs.DistrictRuns.{Event, entry, turned, step, runFrom, run, servesPlace, isTurn, isTurnOf, turnsIn, entersAt, Entry, entryOf, lastEntry, turnsSince, Waits, NoTurnOf}
+use Rattle.postman.specs.Refusal.{isGood}
 use Rattle.districts.specs.Laws.Places.{free-small, free-other}
 use Rattle.districts.specs.Laws.Line.{room, some-total, enter-refused, enter-accepted, Apart, last-cases, apart-more, waits-entry, waits-turn}
 

@@ -1,9 +1,9 @@
 -- Machines that entries and turns lead to: each district holds the best of the trees that it has tried. So its front district can be gone on with, its turn is its last one or leaves it with 1,000 trees more, and the line
 -- then is the definition's, by cases on whether it finishes.
 use mathlib.Core.Path.{_≡_, refl, sym, ap, _∙_, subst, subst⁻¹}
-use mathlib.Core.Logic.{_≢_, inl, inr}
-use mathlib.Core.Bool.{Bool, true, false, not, _&&_}
-use mathlib.Core.List.{List, [], _∷_, _++_, map, List·Memᴰ, List·Memᴰ·head, List·Memᴰ·tail, List·Memᴰ·cases-cons, List·Memᴰ·append-cases}
+use mathlib.Core.Logic.{inl, inr}
+use mathlib.Core.Bool.{Bool, true, false, not}
+use mathlib.Core.List.{List, [], _∷_, _++_, map, List·Memᴰ, List·Memᴰ·head, List·Memᴰ·cases-cons, List·Memᴰ·append-cases}
 use mathlib.Core.Option.{Option, none, some}
 use Prim.Native.Nat.{ℕ, _+_, _-_, _≤_, _<_, min}
 use native.Mathlib.Decide.{ℕ-discrete, decLt}
@@ -11,23 +11,23 @@ use native.Mathlib.Omega.{arith}
 use borrow.Author.Tests.{leb-true, leb-false, lt-ltb, eq-eqb}
 use lib.ListN.{length, length-append, length-map, take, replicate}
 use lib.Seq.{take-append-seam}
-use lib.Dec.{T, eqb, ltb, leb, eqb-refl}
+use lib.Dec.{T, eqb, ltb, leb}
 use Rattle.postman.specs.Lists.{minimum, argmin, occurs}
 use Rattle.postman.specs.Plan.{Plan, WellFormed}
-use Rattle.postman.specs.Link.{Link}
-use Rattle.postman.specs.Refusal.{firstRefusal}
-use Rattle.postman.specs.PlanFile.{fileConditions, isOutside, planOf}
+use Rattle.postman.specs.Refusal.{firstRefusal, isGood}
+use Rattle.postman.specs.PlanFile.{fileConditions, planOf}
 use Rattle.postman.specs.Component.{componentCount}
 use Rattle.postman.specs.Arborescence.{IsArborescence, arborescences, arborescenceCount}
 use Rattle.postman.specs.Balancing.{completionCost}
-use Rattle.postman.specs.PlanCall.{sheetPlaces, highestBudget, triedCount, isWhole, bestCost, bestArborescence}
-use Rattle.postman.specs.Laws.Acceptance.{file-accepted, inside}
+use Rattle.postman.specs.PlanCall.{sheetPlaces, triedCount, isWhole, bestCost, bestArborescence}
+use Rattle.postman.specs.Laws.Acceptance.{file-accepted}
 use Rattle.postman.specs.Laws.Distance.{bounded}
 use Rattle.postman.specs.Laws.Distinct.{occurs-mem}
 use Rattle.postman.specs.Laws.Membership.{map-mem}
-use Rattle.postman.specs.Laws.Optimality.{Plannable, some-arborescence}
+use Rattle.postman.specs.Steps.{Plannable}
+use Rattle.postman.specs.Laws.Optimality.{some-arborescence}
 use Rattle.postman.specs.Laws.Search.{best-value}
-use Rattle.postman.specs.Laws.Tests.{is-true, is-false, of-true}
+use Rattle.postman.specs.Laws.Tests.{is-true, is-false}
 use Rattle.planner.specs.Refusals.{planRefusal}
 use Rattle.planner.specs.Laws.Call.{parts-refusal}
 use Rattle.solution.specs.declared.Planned.{Planned}
@@ -36,19 +36,19 @@ use Rattle.solution.specs.Resumed.{linksBy, heldAfter, IsReachedBy}
 use Rattle.solution.specs.Planned.{IsPlanned}
 use Rattle.solution.specs.Laws.Answer.{best-tree, concluded-best}
 use Rattle.solution.specs.Laws.Resumed.{best-after, tried-few}
-use Rattle.district_turn.specs.Stint.{isGood, isTree, isHolding, isResumable, canGoOn, isLast, reachedAfter, lastAnswer, lastSheet}
+use Rattle.district_turn.specs.Stint.{isTree, isHolding, isResumable, canGoOn, isLast, lastAnswer, lastSheet}
 use Rattle.district_turn.specs.Padded.{padded}
 use Rattle.district_turn.specs.Laws.Stint.{of-arborescence, holding-first, holding-later, and-yes, padded-links}
 use Rattle.districts.specs.declared.machine.District.{District as DistrictRecord}
 use Rattle.districts.specs.declared.machine.Machine.{Machine}
-use Rattle.districts.specs.Line.{District, district, Line, places, entryRefusal, lowestFree, enter, total, goneOn, finishes, turn, isAccepted}
-use Rattle.districts.specs.Machine.{bytesOf, districtOf, waitingIn, lineOf, machineOf, emptyMachine}
+use Rattle.postman.specs.Districts.{District, district, Line, places, entryRefusal, lowestFree, total, goneOn, finishes}
+use Rattle.districts.specs.Machine.{bytesOf, districtOf, waitingIn, lineOf, machineOf}
 use Rattle.districts.specs.Entered.{entrant, afterEntry}
-use Rattle.districts.specs.Turned.{planBy, hasOwnPlace, isReadable, canBeServed, Meeting, nobody, shortSheet, goesOn, leaves, meetingIn, meeting, heldNow, reachedNow, afterTurn}
+use Rattle.districts.specs.Turned.{planBy, hasOwnPlace, isReadable, canBeServed, nobody, shortSheet, goesOn, leaves, meetingIn, meeting, heldNow, reachedNow}
 use Rattle.districts.specs.Laws.Line.{plan-ok, parts, later, some-total, Apart}
 use Rattle.districts.specs.Laws.Line as line
 use Rattle.districts.specs.Laws.Entry.{plan-good}
-use Rattle.districts.specs.Laws.Held.{waiting-are, line-is}
+use Rattle.districts.specs.Laws.Held.{waiting-are}
 use Rattle.districts.specs.Laws.Entered.{entry-stays, entry-moves, entrant-is, call-part, part-limits, short-file}
 use Rattle.districts.specs.Laws.Turned.{short-met, last-met, going-met, readable}
 

@@ -2,7 +2,7 @@
 use mathlib.Core.Path.{_≡_, refl, sym, ap, _∙_, subst}
 use mathlib.Core.Bool.{Bool, true, false, not, cond, _&&_, or-true}
 use mathlib.Core.List.{List, [], _∷_, _++_, map}
-use mathlib.Core.Option.{Option, none, some}
+use mathlib.Core.Option.{none, some}
 use Prim.Native.Nat.{ℕ, _+_, _≤_, _<_}
 use native.Mathlib.Omega.{arith}
 use borrow.Author.Tests.{le-leb, lt-leb, lt-ltb, le-ltb}
@@ -11,24 +11,23 @@ use lib.Seq.{length-take-le}
 use lib.Dec.{leb, ltb, ltb→lt}
 use Rattle.postman.specs.Lists.{occurs}
 use Rattle.postman.specs.Plan.{Plan}
-use Rattle.postman.specs.Refusal.{firstRefusal}
-use Rattle.postman.specs.PlanFile.{fileConditions, isOutside, planOf}
+use Rattle.postman.specs.Refusal.{firstRefusal, isGood}
+use Rattle.postman.specs.PlanFile.{fileConditions, isOutside}
 use Rattle.postman.specs.PlanCall.{sheetPlaces, highestBudget, triedCount}
 use Rattle.planner.specs.Refusals.{planRefusal}
-use Rattle.solution.specs.declared.Planned.{Planned}
 use Rattle.solution.specs.declared.trees.Reached.{Reached}
 use Rattle.district_turn.specs.declared.stint.Stint.{Stint}
-use Rattle.district_turn.specs.Stint.{isGood, isHolding, isResumable, canGoOn, isLast, IsStint}
+use Rattle.district_turn.specs.Stint.{isHolding, isResumable, canGoOn, isLast, IsStint}
 use Rattle.district_turn.specs.Laws.Stint.{and-no, and-first, and-yes}
 use Rattle.districts.specs.declared.machine.District.{District as DistrictRecord}
 use Rattle.districts.specs.declared.machine.Machine.{Machine}
 use Rattle.districts.specs.declared.turn.Turned.{Turned}
-use Rattle.districts.specs.Line.{District, Line, places}
+use Rattle.postman.specs.Districts.{District, Line, places}
 use Rattle.districts.specs.Machine.{bytesOf, districtOf, lineOf, waitingIn, machineOf, noDistrict}
 use Rattle.districts.specs.Laws.Held.{front, waiting-are}
 use Rattle.districts.specs.Number.{HasPlace}
 use Rattle.postman.specs.Laws.Tests.{and-parts, of-true}
-use Rattle.districts.specs.Turned.{planBy, hasOwnPlace, isReadable, canBeServed, Meeting, nobody, shortSheet, stuck, goesOn, leaves, meetingIn, meeting, heldNow, reachedNow, afterTurn, outcomeOf, answerOf, sheetAfter, IsAfter, IsTurned}
+use Rattle.districts.specs.Turned.{planBy, hasOwnPlace, isReadable, canBeServed, Meeting, nobody, shortSheet, stuck, goesOn, leaves, meetingIn, meeting, heldNow, afterTurn, outcomeOf, answerOf, sheetAfter, IsAfter, IsTurned}
 
 -- from what is met to what is promised
 pub turned-as : (m : Machine) (old new : List ℕ) (r : Turned) (k : Meeting) → meeting m (length old) ≡ k → r .outcome ≡ outcomeOf k → r .planned ≡ answerOf k → r .machine ≡ afterTurn m k → new ≡ sheetAfter k old

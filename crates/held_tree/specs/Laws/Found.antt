@@ -11,7 +11,7 @@ use Rattle.postman.specs.Component.{componentCount}
 use Rattle.postman.specs.Arborescence.{arborescenceCount}
 use Rattle.postman.specs.LagrangianBound.{lagrangianBound}
 use Rattle.postman.specs.PlanCall.{triedCount, isWhole, bestCost, bestArborescence, lowerBound}
-use Rattle.postman.specs.Laws.Optimality.{Plannable}
+use Rattle.postman.specs.Steps.{Plannable}
 use Rattle.multipliers.specs.Ascent.{multipliersFor}
 use Rattle.search.specs.declared.tried.Searched.{Searched}
 use Rattle.search.specs.Contracts.{IsSearched}

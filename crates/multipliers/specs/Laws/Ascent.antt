@@ -17,7 +17,7 @@ use Rattle.postman.specs.LagrangianBound.{Multipliers, AreGreatest, lagrangianB
 use Rattle.postman.specs.PlanCall.{root}
 use Rattle.postman.specs.Laws.Tests.{cond-ind, and-parts}
 use Rattle.postman.specs.Laws.Multiplier.{greatest-unique}
-use Rattle.postman.specs.Laws.Optimality.{Plannable}
+use Rattle.postman.specs.Steps.{Plannable}
 use Rattle.residual_search.specs.Search.{beyond}
 use Rattle.residual_search.specs.Step.{State, cell}
 use Rattle.balance.specs.Balance.{balance}

@@ -3,7 +3,7 @@
 use mathlib.Core.Path.{_≡_, refl, sym, ap, ap₂, _∙_, subst, subst⁻¹, fun-ext}
 use mathlib.Core.Logic.{inl, inr}
 use mathlib.Core.Bool.{Bool, true, false}
-use mathlib.Core.List.{List, [], _∷_, map, List·Memᴰ, List·Memᴰ·head, List·Memᴰ·tail}
+use mathlib.Core.List.{List, [], _∷_, List·Memᴰ, List·Memᴰ·head, List·Memᴰ·tail}
 use Prim.Native.Nat.{ℕ, _+_, _*_, _≤_, _<_}
 use native.Mathlib.Decide.{decLe}
 use native.Mathlib.Omega.{arith}
@@ -25,10 +25,10 @@ use Rattle.postman.specs.Laws.Occurrences.{mem?}
 use Rattle.postman.specs.Laws.Distance.{bounded}
 use Rattle.postman.specs.Laws.Required.{required-lt}
 use Rattle.postman.specs.Laws.Component.{component-lt}
-use Rattle.postman.specs.Laws.Balancing.{Joins}
+use Rattle.postman.specs.Steps.{Joins, Feasible, Plannable}
 use Rattle.postman.specs.Laws.Arborescence.{arborescences-mem, joins}
-use Rattle.postman.specs.Laws.LagrangianBound.{Feasible, cheapest-at, cheapest-nonneg, zero-feasible}
-use Rattle.postman.specs.Laws.Optimality.{Plannable, some-arborescence}
+use Rattle.postman.specs.Laws.LagrangianBound.{cheapest-at, cheapest-nonneg, zero-feasible}
+use Rattle.postman.specs.Laws.Optimality.{some-arborescence}
 use Rattle.balance.specs.Invariant.{Metric}
 use Rattle.residual_search.specs.Laws.Fill.{zero-at}
 use Rattle.direct_amounts.specs.Laws.Plan.{plan-metric}

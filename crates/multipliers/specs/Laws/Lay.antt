@@ -11,7 +11,7 @@ use Rattle.postman.specs.Link.{Link}
 use Rattle.postman.specs.Laws.Membership.{getD-mem, map-mem}
 use Rattle.postman.specs.Laws.Distance.{bounded}
 use Rattle.postman.specs.Laws.Required.{required-ends, numbers-field}
-use Rattle.postman.specs.Laws.Balancing.{Joins}
+use Rattle.postman.specs.Steps.{Joins}
 use Rattle.postman.specs.Laws.Arborescence.{joins}
 use Rattle.residual_search.specs.Step.{State, cell, empty, add, addAll, arcsOf}
 use Rattle.balance.specs.Balance.{balance, requiredEnds}

@@ -17,7 +17,7 @@ use Rattle.postman.specs.Laws.Distance.{bounded}
 use Rattle.postman.specs.Laws.Required.{number-ends}
 use Rattle.postman.specs.Laws.Component.{component-lt}
 use Rattle.postman.specs.Laws.Existence.{some-required}
-use Rattle.postman.specs.Laws.Optimality.{Plannable}
+use Rattle.postman.specs.Steps.{Plannable}
 use Rattle.residual_search.specs.Step.{State, cell}
 use Rattle.balance.specs.Balance.{balance}
 use Rattle.balance.specs.Multipliers.{multipliers}

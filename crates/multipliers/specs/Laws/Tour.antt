@@ -18,9 +18,9 @@ use Rattle.postman.specs.Balancing.{balancingCost, leastBalancing, completionCo
 use Rattle.postman.specs.PlanCall.{triedCount, bestArborescence, IsAnswerTour}
 use Rattle.postman.specs.Laws.Membership.{getD-map-upFrom}
 use Rattle.postman.specs.Laws.Required.{required-lt}
-use Rattle.postman.specs.Laws.Balancing.{Joins}
+use Rattle.postman.specs.Steps.{Joins, Plannable}
 use Rattle.postman.specs.Laws.Arborescence.{arborescences-mem, joins}
-use Rattle.postman.specs.Laws.Optimality.{Plannable, some-arborescence}
+use Rattle.postman.specs.Laws.Optimality.{some-arborescence}
 use Rattle.postman.specs.Laws.Search.{best-mem, best-value}
 use Rattle.residual_search.specs.Step.{cell, State, empty, amount}
 use Rattle.balance.specs.Balance.{balance, requiredEnds}

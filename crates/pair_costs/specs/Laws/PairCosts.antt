@@ -19,7 +19,7 @@ use Rattle.postman.specs.Plan.{Plan, WellFormed}
 use Rattle.postman.specs.Required.{required}
 use Rattle.postman.specs.Component.{componentCount, lowest}
 use Rattle.postman.specs.LagrangianBound.{reducedCost, cheapestArborescence}
-use Rattle.postman.specs.Laws.LagrangianBound.{Feasible}
+use Rattle.postman.specs.Steps.{Feasible}
 use Rattle.postman.specs.Laws.Membership.{upFrom-mem}
 use Rattle.postman.specs.Laws.Distance.{bounded}
 use Rattle.postman.specs.Laws.Required.{required-lt}

@@ -33,7 +33,8 @@ use Rattle.postman.specs.Laws.LinkLegs.{Without, done, next, extract}
 use Rattle.postman.specs.Laws.Iteration.{settle}
 use Rattle.postman.specs.Laws.Arborescence.{arborescences-mem, mem-arborescences}
 use Rattle.postman.specs.Laws.SignedSum.{≤ℤ-trans, ≤ℤ-antisym, sum-append, sum-nonneg, sum-pick}
-use Rattle.postman.specs.Laws.LagrangianBound.{Feasible, cheapest-le, cheapest-at}
+use Rattle.postman.specs.Steps.{Feasible}
+use Rattle.postman.specs.Laws.LagrangianBound.{cheapest-le, cheapest-at}
 use Rattle.cheapest_tree.specs.Cheapest.{Matrix, AreOthers, IsTree, treeCost, IsCheapest}
 use Rattle.pair_costs.specs.Pairs.{IsPairMatrix, othersOf}
 use Rattle.postman.specs.Laws.Lists.{map-map, by-place}

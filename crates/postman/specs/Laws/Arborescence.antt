@@ -19,7 +19,7 @@ use Rattle.postman.specs.Laws.Distance.{InPlan}
 use Rattle.postman.specs.Laws.Component.{component-lt}
 use Rattle.postman.specs.Laws.Link.{link-ends}
 use Rattle.postman.specs.Laws.Iteration.{settle}
-use Rattle.postman.specs.Laws.Balancing.{Joins}
+use Rattle.postman.specs.Steps.{Joins}
 
 module _ (p : Plan) (q : ℕ) {l : Link} where
   pub candidates-mem : List·Memᴰ l (candidates p q) → Enters p q l

@@ -11,7 +11,8 @@ use Rattle.postman.specs.Lists.{picks, delta, occurrences}
 use Rattle.postman.specs.Balancing.{assignment}
 use Rattle.postman.specs.Laws.Membership.{mem-map, map-mem}
 use Rattle.postman.specs.Laws.Minimum.{minimum-le, minimum-at}
-use Rattle.postman.specs.Laws.Pick.{Pick, here, there, pick-length, pick-swap, pick-of-mem, pick-cons, picks-of, of-picks, length-picks}
+use Rattle.postman.specs.Steps.{Pick, here, there}
+use Rattle.postman.specs.Laws.Pick.{pick-length, pick-swap, pick-of-mem, pick-cons, picks-of, of-picks, length-picks}
 use Rattle.postman.specs.Laws.Occurrences.{delta-yes, mem-of-occurrences, occurrences-pick}
 
 module _ (d : ℕ → ℕ → ℕ) where

@@ -13,10 +13,7 @@ use Rattle.postman.specs.Laws.Membership.{map-mem}
 use Rattle.postman.specs.Laws.Required.{required-once, required-ends}
 use Rattle.postman.specs.Laws.Distance.{InPlan, triangle, distance-self}
 use Rattle.postman.specs.Laws.Amounts.{Within, difference, assignment-le, assignment-at}
-
--- the links of t join required vertices
-abbrev pub Joins : Plan → List Link → Type 0
-Joins p t = (l : Link) → List·Memᴰ l t → List·Memᴰ (l .tail) (required p) × List·Memᴰ (l .head) (required p)
+use Rattle.postman.specs.Steps.{Joins}
 
 -- one end of the required arcs and of the links: all required
 within-ends : (p : Plan) (t : List Link) (f : Arc → ℕ) (g : Link → ℕ)

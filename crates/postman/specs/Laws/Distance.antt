@@ -17,7 +17,8 @@ use Rattle.postman.specs.Distance.{noPath, arcsFrom, distanceWithin, dis
 use Rattle.postman.specs.Laws.Tests.{cond-ind, and-both, and-parts, eqb-same}
 use Rattle.postman.specs.Laws.Membership.{mem-select, select-mem, getD-mem, mem-getD, mem-below, length-below}
 use Rattle.postman.specs.Laws.Minimum.{least-le, least-le-base, least-at}
-use Rattle.postman.specs.Laws.Pick.{Pick, pick-cases, pick-length, pick-of-mem}
+use Rattle.postman.specs.Steps.{Pick}
+use Rattle.postman.specs.Laws.Pick.{pick-cases, pick-length, pick-of-mem}
 
 module _ (arcs : List Arc) where
   mem-arcsFrom : {a : Arc} (i : ℕ) → List·Memᴰ a arcs → T (isOpen a) → a .tail ≡ i → List·Memᴰ a (arcsFrom arcs i)

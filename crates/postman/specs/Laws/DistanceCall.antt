@@ -20,6 +20,7 @@ use Rattle.postman.specs.Laws.Tests.{or-cases, not-or}
 use Rattle.postman.specs.Laws.Membership.{getD-mem, mem-getD, getD-map-in, anyOf-at, anyOf-not}
 use Rattle.postman.specs.Laws.Refusal.{first-on, first-stop, accepted-append, append-accepted, accepted-cons, cons-accepted, nothing-refused}
 use Rattle.postman.specs.Laws.Acceptance.{file-accepted}
+use Rattle.postman.specs.Steps.{ArePairs}
 
 -- ---- the refusals in their order
 
@@ -33,11 +34,6 @@ module _ (bytes pairs : List ℕ) (room : ℕ) where
   file-read e = first-on (fileConditions bytes) _ e
 
 -- ---- 17
-
--- At most 256 pairs, each of two vertices.
-pub record ArePairs (n : ℕ) (pairs : List ℕ) : Type 0 where
-  pub few : length pairs ≤ 256
-  pub inside : (k : ℕ) → k < length pairs → (first (getD pairs k 0) < n) × (second (getD pairs k 0) < n)
 
 pub inside-pair : (n x : ℕ) → T (not (isStray n x)) → (first x < n) × (second x < n)
 unfolding isStray

@@ -17,7 +17,8 @@ use Rattle.postman.specs.Laws.Tests.{not-not}
 use Rattle.postman.specs.Laws.Membership.{select-mem, getD-mem, mem-getD, anyOf-at, anyOf-not}
 use Rattle.postman.specs.Laws.Distance.{bounded, path-walk, walk-path}
 use Rattle.postman.specs.Laws.Walk.{Leads, join, around}
-use Rattle.postman.specs.Laws.Required.{IsRequiredNumber, required-arc-of, required-lt, required-open, number-ends, numbers-mem, mem-numbers}
+use Rattle.postman.specs.Steps.{IsRequiredNumber}
+use Rattle.postman.specs.Laws.Required.{required-arc-of, required-lt, required-open, number-ends, numbers-mem, mem-numbers}
 
 -- from a required vertex a tour leads to its start, and back
 reach : (p : Plan) {w : List ℕ} (h : IsTour p w) {v : ℕ} → List·Memᴰ v (required p) → Leads (p .arcs) v (h .start) × Leads (p .arcs) (h .start) v

@@ -20,7 +20,8 @@ use Rattle.postman.specs.Laws.Membership.{mem-map, map-mem}
 use Rattle.postman.specs.Laws.Pick.{pick-length, mem-of-pick, left-mem}
 use Rattle.postman.specs.Laws.Distance.{InPlan}
 use Rattle.postman.specs.Laws.Assignment.{assign-at}
-use Rattle.postman.specs.Laws.Balancing.{Joins, within-heads, within-tails, same-length}
+use Rattle.postman.specs.Steps.{Joins, Feasible}
+use Rattle.postman.specs.Laws.Balancing.{within-heads, within-tails, same-length}
 use Rattle.postman.specs.Laws.Arborescence.{arborescences-mem, joins}
 use Rattle.postman.specs.Laws.SignedSum.{minimumℤ-le, minimumℤ-at, sum-append, sum-add, sum-sub, sum-pos, sum-nonneg, sum-map, sum-pick, sum-occurrences}
 
@@ -54,9 +55,6 @@ unfolding cheapestArborescence
 cheapest-at p u h = map-mem (reducedSum p u) (arborescences p) (minimumℤ-at (map (reducedSum p u) (arborescences p)) (subst⁻¹ (λ n. 0 < n) (length-map (arborescences p) (reducedSum p u)) h))
 
 module _ (p : Plan) (u : Multipliers) where
-  abbrev pub Feasible : Type 0
-  Feasible = (i j : ℕ) → List·Memᴰ i (required p) → List·Memᴰ j (required p) → pos 0 ≤ℤ reducedCost p u i j
-
   -- the sum of u over the links' heads, and over their tails
   abbrev over-heads : List Link → ℤ
   over-heads t = sumOfℤ (map (λ l. u (l .head)) t)
@@ -92,7 +90,7 @@ module _ (p : Plan) (u : Multipliers) where
       times-sub : (a b c : ℤ) → a *ℤ (b -ℤ c) ≡ a *ℤ b -ℤ a *ℤ c
       times-sub a b c = simp zm
 
-  module _ (ok : InPlan p) (feasible : Feasible) where
+  module _ (ok : InPlan p) (feasible : Feasible p u) where
     -- weak duality for the required arcs and the links of t
     pub price-le : (t : List Link) → Joins p t → sumOfℤ (map u (heads p t)) ≤ℤ (sumOfℤ (map u (tails p t)) +ℤ pos (leastBalancing p t))
     unfolding leastBalancing reducedCost

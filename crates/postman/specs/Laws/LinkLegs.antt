@@ -9,7 +9,8 @@ use Rattle.postman.specs.Plan.{Plan}
 use Rattle.postman.specs.Distance.{distance}
 use Rattle.postman.specs.Link.{Link}
 use Rattle.postman.specs.Balancing.{linkCost}
-use Rattle.postman.specs.Laws.Pick.{Pick, here, there, pick-of-mem, pick-cases}
+use Rattle.postman.specs.Steps.{Pick, here, there}
+use Rattle.postman.specs.Laws.Pick.{pick-of-mem, pick-cases}
 use Rattle.postman.specs.Laws.Occurrences.{delta-yes, occurrences-of-mem, occurrences-cons}
 use Rattle.postman.specs.Laws.Assignment.{Legs, weight}
 use Rattle.postman.specs.Laws.Link.{chainCost}

@@ -10,7 +10,7 @@ use native.Mathlib.Omega.{arith}
 use lib.Dec.{eqb, eqb→eq, T-not}
 use Rattle.postman.specs.Lists.{select, upFrom, delta, occurrences}
 use Rattle.postman.specs.Laws.Tests.{cond-ind, eqb-same}
-use Rattle.postman.specs.Laws.Pick.{Pick, here, there, Permutation, none, more}
+use Rattle.postman.specs.Steps.{Permutation, Pick, here, there, none, more}
 
 pub delta-yes : {i j : ℕ} → i ≡ j → delta i j ≡ 1
 unfolding delta

@@ -14,14 +14,14 @@ use lib.Signed.{_≤ℤ_, ≤ℤ-refl}
 use lib.Dec.{T, leb, leb→le, le→leb, T-not}
 use Rattle.integers.specs.Linear.{z}
 use Rattle.postman.specs.Lists.{minimum, maxℤ}
-use Rattle.postman.specs.Plan.{Plan, requiredArcs, WellFormed}
+use Rattle.postman.specs.Plan.{Plan}
 use Rattle.postman.specs.Tour.{tourCost, IsTour}
 use Rattle.postman.specs.Required.{requiredCost}
 use Rattle.postman.specs.Link.{Link}
 use Rattle.postman.specs.Arborescence.{arborescences, arborescenceCount}
 use Rattle.postman.specs.Balancing.{leastBalancing, completionCost}
 use Rattle.postman.specs.LagrangianBound.{Multipliers, lagrangianBound, AreMultipliers}
-use Rattle.postman.specs.PlanCall.{isCutOff, triedCount, isWhole, bestCost, lowerBound}
+use Rattle.postman.specs.PlanCall.{triedCount, isWhole, bestCost, lowerBound}
 use Rattle.postman.specs.Guarantee.{Guarantee}
 use Rattle.postman.specs.Laws.Tests.{cond-ind}
 use Rattle.postman.specs.Laws.Membership.{mem-map, map-mem}
@@ -29,7 +29,8 @@ use Rattle.postman.specs.Laws.Minimum.{minimum-le, minimum-at}
 use Rattle.postman.specs.Laws.Distance.{bounded}
 use Rattle.postman.specs.Laws.Existence.{some-required, a-tour}
 use Rattle.postman.specs.Laws.TourBound.{arborescence-of-tour}
-use Rattle.postman.specs.Laws.LagrangianBound.{Feasible, bound-le, bound-ge, zero-feasible}
+use Rattle.postman.specs.Steps.{Feasible, Plannable}
+use Rattle.postman.specs.Laws.LagrangianBound.{bound-le, bound-ge, zero-feasible}
 use Rattle.postman.specs.Laws.SignedSum.{≤ℤ-trans, max-right, max-least}
 
 take-mem : {A : Type 0} (n : ℕ) {x : A} (xs : List A) → List·Memᴰ x (take n xs) → List·Memᴰ x xs
@@ -57,12 +58,6 @@ module _ (p : Plan) (budget : ℕ) where
   whole-all t =
       let l = leb→le (length (arborescences p)) budget t in
       take-all (triedCount p budget) (arborescences p) (omega arith)
-
--- a plan that the call does not refuse, as far as bounds go
-pub record Plannable (p : Plan) : Type 0 where
-  pub well-formed : WellFormed p
-  pub some-arc : 0 < length (requiredArcs p)
-  pub connected : T (not (isCutOff p))
 
 module _ (p : Plan) (ok : Plannable p) where
   pub tour-arborescence : (w : List ℕ) → IsTour p w → (t : List Link) × List·Memᴰ t (arborescences p) × (completionCost p t ≤ tourCost p w)

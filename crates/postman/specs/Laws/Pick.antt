@@ -7,16 +7,7 @@ use native.Mathlib.Omega.{arith}
 use lib.ListN.{length, length-map}
 use Rattle.postman.specs.Lists.{picks}
 use Rattle.postman.specs.Laws.Membership.{mem-map, map-mem}
-
--- `Pick x xs ys`: x is an element of xs, and ys is xs without it
-pub data Pick {ℓ} {A : Type ℓ} (x : A) : List A → List A → Type ℓ where
-  here : {y : A} {xs : List A} → x ≡ y → Pick x (y ∷ xs) xs
-  there : {y : A} {xs ys : List A} → Pick x xs ys → Pick x (y ∷ xs) (y ∷ ys)
-
--- `Permutation xs ys`: xs holds the elements of ys in some order
-pub data Permutation {A : Type 0} : List A → List A → Type 0 where
-  none : Permutation [] []
-  more : {x : A} {xs ys zs : List A} → Pick x ys zs → Permutation xs zs → Permutation (x ∷ xs) ys
+use Rattle.postman.specs.Steps.{Pick, here, there, Permutation, none, more}
 
 module _ {A : Type 0} where
   pub pick-length : {x : A} {xs ys : List A} → Pick x xs ys → length xs ≡ suc (length ys)

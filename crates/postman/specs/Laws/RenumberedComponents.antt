@@ -27,7 +27,7 @@ use Rattle.postman.specs.Laws.Component.{flat, undirected, component-lt,
 use Rattle.postman.specs.Laws.Renumbering.{eqb-number, inverse, renumbered-back, renumbered-well-formed, renumbered-required, renumbered-count}
 use Rattle.postman.specs.Laws.RenumberedTour.{walks}
 use Rattle.postman.specs.Laws.RenumberedDistance.{path-renumbered}
-use Rattle.postman.specs.Laws.Optimality.{Plannable}
+use Rattle.postman.specs.Steps.{Plannable}
 
 -- ---- the required vertices
 

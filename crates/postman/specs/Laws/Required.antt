@@ -18,11 +18,7 @@ use Rattle.postman.specs.Laws.Tests.{or-left, or-right, or-cases}
 use Rattle.postman.specs.Laws.Membership.{mem-select, select-mem, getD-mem, mem-getD, anyOf-mem, anyOf-at, mem-below, below-mem}
 use Rattle.postman.specs.Laws.Occurrences.{occurrences-select, occurrences-upFrom}
 use Rattle.postman.specs.Laws.Distance.{InPlan}
-
--- arc number k is there, and is required
-pub record IsRequiredNumber (p : Plan) (k : ℕ) : Type 0 where
-  pub number : k < length (p .arcs)
-  pub must : T (isRequiredArc (arcAt (p .arcs) k))
+use Rattle.postman.specs.Steps.{IsRequiredNumber}
 
 -- a required vertex is an end of a required arc
 pub required-arc-of : (p : Plan) {v : ℕ} → List·Memᴰ v (required p)

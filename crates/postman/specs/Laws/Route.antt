@@ -12,10 +12,11 @@ use Rattle.postman.specs.Plan.{Plan, arcAt, requiredNumbers, WellFormed}
 use Rattle.postman.specs.Tour.{IsWalk, walkCost, IsTour}
 use Rattle.postman.specs.Required.{required}
 use Rattle.postman.specs.Link.{Link, links}
-use Rattle.postman.specs.Laws.Pick.{pick-of-mem, left-mem, Permutation, none, more}
+use Rattle.postman.specs.Steps.{Permutation, none, more, IsRequiredNumber}
+use Rattle.postman.specs.Laws.Pick.{pick-of-mem, left-mem}
 use Rattle.postman.specs.Laws.Occurrences.{delta-yes, mem-of-occurrences, occurrences-of-mem, occurrences-pick}
 use Rattle.postman.specs.Laws.Distance.{InPlan, bounded, distance-le, walk-append, cost-append}
-use Rattle.postman.specs.Laws.Required.{IsRequiredNumber, required-lt, number-ends, numbers-mem, numbers-once}
+use Rattle.postman.specs.Laws.Required.{required-lt, number-ends, numbers-mem, numbers-once}
 use Rattle.postman.specs.Laws.Link.{IsChain, chainCost, chain}
 
 pub data Move : Type 0 where

@@ -11,7 +11,7 @@ use lib.Signed.{leZ, _≤ℤ_, leZ-yes, ≤ℤ-refl}
 use Rattle.integers.specs.Linear.{z, zl, le-no, *ℤ-+ℤ}
 use Rattle.postman.specs.Lists.{sumOf, sumOfℤ, minℤ, maxℤ, minimumℤ, delta, occurrences}
 use Rattle.postman.specs.Laws.Tests.{cond-ind}
-use Rattle.postman.specs.Laws.Pick.{Pick, here, there}
+use Rattle.postman.specs.Steps.{Pick, here, there}
 use Rattle.postman.specs.Laws.Occurrences.{delta-sym, occurrences-of-mem}
 use Rattle.postman.specs.Laws.Amounts.{Within}
 

@@ -4,7 +4,6 @@ use mathlib.Core.Path.{_≡_, refl, ap, _∙_, subst, subst⁻¹}
 use mathlib.Core.Logic.{inl, inr, _≢_}
 use mathlib.Core.List.{List, [], _∷_, map, List·Memᴰ, List·Memᴰ·head, List·Memᴰ·not-nil, List·Memᴰ·eq-of-singleton}
 use Prim.Native.Nat.{ℕ, suc, _+_, _-_, _≤_, _<_}
-use native.Mathlib.Nat.{le-trans}
 use native.Mathlib.Numerals.{one-add}
 use native.Mathlib.Omega.{arith}
 use lib.ListN.{length, length-map}
@@ -17,10 +16,11 @@ use Rattle.postman.specs.Component.{component, componentCount}
 use Rattle.postman.specs.Arborescence.{linkAt, Enters, IsArborescence, arborescences}
 use Rattle.postman.specs.Balancing.{heads, tails, linkCost, leastBalancing, completionCost}
 use Rattle.postman.specs.Laws.Membership.{upFrom-mem, length-upFrom, getD-map-upFrom}
-use Rattle.postman.specs.Laws.Pick.{Pick, here, there, Permutation, none, more, permutation-mem}
+use Rattle.postman.specs.Steps.{Permutation, Pick, here, there, none, more, IsRequiredNumber}
+use Rattle.postman.specs.Laws.Pick.{permutation-mem}
 use Rattle.postman.specs.Laws.Occurrences.{occurrences-append, occurrences-upFrom, occurrences-map-permutation}
 use Rattle.postman.specs.Laws.Distance.{InPlan, bounded, triangle, distance-self}
-use Rattle.postman.specs.Laws.Required.{IsRequiredNumber, required-arc-of, required-mem, number-ends, mem-numbers, numbers-field}
+use Rattle.postman.specs.Laws.Required.{required-arc-of, required-mem, number-ends, mem-numbers, numbers-field}
 use Rattle.postman.specs.Laws.Component.{component-lt, component-at, arc-component}
 use Rattle.postman.specs.Laws.Assignment.{weight, legs-le}
 use Rattle.postman.specs.Laws.Balancing.{same-length}

@@ -17,14 +17,13 @@ use Rattle.districts.specs.declared.enter.Admission.the-variants.{At}
 use Rattle.districts.specs.declared.enter.Entered.{Entered}
 use Rattle.districts.specs.declared.turn.Outcome.the-variants.{Empty, ShortSheet}
 use Rattle.districts.specs.declared.turn.Turned.{Turned}
-use Rattle.districts.specs.Line.{District, Line, entryRefusal, lowestFree, total, finishes}
-use Rattle.districts.specs.Runs.{Event, run, runFrom, isTurnOf, turnsIn, turnsOf, lastEntry, turnsSince}
+use Rattle.postman.specs.Districts.{District, Line, entryRefusal, lowestFree, total, finishes}
+use Rattle.postman.specs.DistrictRuns.{Event, run, runFrom, isTurnOf, turnsIn, turnsOf, lastEntry, turnsSince, NoTurnOf}
 use Rattle.districts.specs.Machine.{lineOf}
 use Rattle.districts.specs.Number.{admissionNumber}
 use Rattle.districts.specs.Entered.{movedUnless, IsEntered}
 use Rattle.districts.specs.Turned.{Meeting, nobody, shortSheet, meeting, outcomeOf, afterTurn, sheetAfter, IsTurned}
 use Rattle.districts.specs.Led.{Led}
-use Rattle.districts.specs.Waits.{NoTurnOf}
 use Rattle.districts.specs.Theorem.{run-line, served, finished-as-plan-call}
 use Rattle.districts.specs.Laws.Turned.{empty-met, line-short-met}
 use Rattle.districts.specs.Laws.Places.{free-small}

@@ -15,7 +15,6 @@ use Rattle.districts.specs.declared.enter.Admission.{Admission}
 use Rattle.districts.specs.declared.enter.Admission.the-variants.{At, Refused}
 use Rattle.districts.specs.declared.enter.Entered.{Entered}
 use Rattle.districts.specs.declared.turn.Turned.{Turned}
-use Rattle.districts.specs.Runs.{Event}
 use Rattle.districts.specs.Machine.{emptyMachine}
 use Rattle.districts.specs.Number.{admitted, admissionNumber, hadTurn}
 use Rattle.districts.specs.Entered.{IsEntered}

@@ -1,9 +1,9 @@
 -- The turns that the numbers tell of are the accepted turns of the run.
 use mathlib.Core.Path.{_≡_, refl, sym, ap, ap₂, _∙_, subst⁻¹}
 use mathlib.Core.Logic.{_≢_}
-use mathlib.Core.Bool.{Bool, true, false, not, cond, _&&_}
+use mathlib.Core.Bool.{Bool, false, not, cond, _&&_}
 use mathlib.Core.List.{List, [], _∷_, _++_}
-use Prim.Native.Nat.{ℕ, _+_, _≤_, _<_}
+use Prim.Native.Nat.{ℕ, _+_}
 use native.Mathlib.Omega.{arith}
 use borrow.Author.Tests.{le-leb}
 use lib.Dec.{T, leb, eqb, eqb→eq}
@@ -14,11 +14,10 @@ use Rattle.postman.specs.Laws.Tests.{is-false}
 use Rattle.districts.specs.declared.turn.Outcome.{Outcome}
 use Rattle.districts.specs.declared.turn.Outcome.the-variants.{Empty, ShortSheet, Unfinished, Finished}
 use Rattle.districts.specs.declared.turn.Turned.{Turned}
-use Rattle.districts.specs.Line.{Line}
-use Rattle.districts.specs.Runs.{Event, entry, turned, step, runFrom, run, isTurn, servesPlace, isTurnOf, turnsIn}
-use Rattle.districts.specs.Waits.{NoTurnOf}
+use Rattle.postman.specs.Districts.{Line}
+use Rattle.postman.specs.DistrictRuns.{turned, step, runFrom, run, isTurn, isTurnOf, turnsIn, NoTurnOf}
 use Rattle.districts.specs.Number.{outcomeNumber, hadTurn, isOf, HasPlace}
-use Rattle.districts.specs.Turned.{meeting, outcomeOf, IsTurned}
+use Rattle.districts.specs.Turned.{IsTurned}
 use Rattle.districts.specs.Theorem.{answered-accepted, answered-of}
 use Rattle.districts.specs.Laws.Turned.{placed}
 use Rattle.answers.specs.Number.{oneNumber}

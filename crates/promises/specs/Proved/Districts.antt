@@ -1,7 +1,7 @@
 -- Eight districts in turn, proved.
 use mathlib.Core.Path.{ap, _∙_}
 use Rattle.solution.specs.declared.Planned.{Planned}
-use Rattle.districts.specs.Line.{Line, entryRefusal}
+use Rattle.postman.specs.Districts.{Line, entryRefusal}
 use Rattle.districts.specs.Theorem.{run-line, served, finished-as-plan-call}
 use Rattle.promises.specs.Districts.{LineOfRun, EntryAnswers, RefusedEntry, NobodyInside, ShortSheets, StillGoing, AsOnePlanCall, LastTurnPasses, AsEntered, LastTurn, SevenTurns}
 use Rattle.promises.specs.JudgedTheorem.{last-turn-passes}

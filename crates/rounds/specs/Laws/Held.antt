@@ -14,7 +14,7 @@ use Rattle.postman.specs.Plan.{Plan}
 use Rattle.postman.specs.Component.{componentCount}
 use Rattle.postman.specs.PlanCall.{triedCount}
 use Rattle.postman.specs.Laws.Tests.{cond-ind}
-use Rattle.postman.specs.Laws.Optimality.{Plannable}
+use Rattle.postman.specs.Steps.{Plannable}
 use Rattle.branches.specs.Links.{linksIn}
 use Rattle.multipliers.specs.Tour.{driveOf, tourOf}
 use Rattle.renumbering.specs.declared.shuffle.Drawn.{Drawn}

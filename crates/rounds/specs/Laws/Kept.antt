@@ -21,7 +21,7 @@ use Rattle.postman.specs.Renumbering.{numberIn, renumbered, carried}
 use Rattle.postman.specs.Laws.Tests.{cond-ind}
 use Rattle.postman.specs.Laws.Membership.{length-upFrom, getD-map-upFrom}
 use Rattle.postman.specs.Laws.Required.{required-lt}
-use Rattle.postman.specs.Laws.Optimality.{Plannable}
+use Rattle.postman.specs.Steps.{Plannable}
 use Rattle.postman.specs.Laws.Renumbering.{in-a-row, renumbered-identity}
 use Rattle.multipliers.specs.Ascent.{multipliersFor}
 use Rattle.multipliers.specs.Laws.Ascent.{answered-rooted}

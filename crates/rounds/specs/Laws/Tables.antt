@@ -2,7 +2,6 @@
 use mathlib.Core.Path.{_≡_, sym, ap, _∙_, subst, subst⁻¹}
 use mathlib.Core.List.{List, [], _∷_, map}
 use mathlib.Core.Option.{none}
-use mathlib.Core.Bool.{not}
 use mathlib.Core.Logic.{_≢_}
 use Prim.Native.Nat.{ℕ, _≤_, _<_}
 use native.Mathlib.Omega.{arith}
@@ -16,7 +15,7 @@ use Rattle.postman.specs.Renumbering.{numberIn, renumberedArc, renumbered}
 use Rattle.postman.specs.Laws.Lists.{map-map}
 use Rattle.postman.specs.Laws.Tests.{eqb-other}
 use Rattle.postman.specs.Laws.Refusal.{accepted-cons, accepted-append}
-use Rattle.postman.specs.Laws.Optimality.{Plannable}
+use Rattle.postman.specs.Steps.{Plannable}
 use Rattle.postman.specs.Laws.Renumbering.{renumbered-well-formed}
 use Rattle.postman.specs.Laws.RenumberedDistance.{table-renumbered}
 use Rattle.postman.specs.Laws.RenumberedComponents.{count-renumbered, last-renumbered, plannable-renumbered}

@@ -16,7 +16,7 @@ use Rattle.postman.specs.Component.{componentCount}
 use Rattle.postman.specs.Arborescence.{arborescences, arborescenceCount}
 use Rattle.postman.specs.Balancing.{completionCost}
 use Rattle.postman.specs.PlanCall.{triedCount, isWhole, bestCost, bestArborescence}
-use Rattle.postman.specs.Laws.Balancing.{Joins}
+use Rattle.postman.specs.Steps.{Joins}
 use Rattle.postman.specs.Laws.Membership.{upFrom-mem}
 use Rattle.postman.specs.Laws.Arborescence.{arborescences-mem, joins}
 use Rattle.postman.specs.Laws.Optimality.{some-arborescence}

@@ -23,7 +23,8 @@ use Rattle.postman.specs.PlanCall.{Summary, summary, fields, triedCount, isWhol
 use Rattle.postman.specs.Laws.Tests.{cond-ind}
 use Rattle.postman.specs.Laws.Membership.{getD-mem}
 use Rattle.postman.specs.Laws.Arborescence.{arborescences-mem}
-use Rattle.postman.specs.Laws.Optimality.{Plannable, some-arborescence, guaranteed}
+use Rattle.postman.specs.Steps.{Plannable}
+use Rattle.postman.specs.Laws.Optimality.{some-arborescence, guaranteed}
 use Rattle.postman.specs.Laws.Search.{best-mem, best-value}
 use Rattle.residual_search.specs.Step.{arcsOf}
 use Rattle.circuit.specs.Filled.{linksOf}

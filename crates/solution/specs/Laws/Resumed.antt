@@ -18,7 +18,8 @@ use Rattle.postman.specs.Arborescence.{IsArborescence, arborescences, arboresce
 use Rattle.postman.specs.Balancing.{completionCost}
 use Rattle.postman.specs.PlanCall.{triedCount, isWhole, bestCost, bestArborescence}
 use Rattle.postman.specs.Laws.Arborescence.{arborescences-mem}
-use Rattle.postman.specs.Laws.Optimality.{Plannable, some-arborescence}
+use Rattle.postman.specs.Steps.{Plannable}
+use Rattle.postman.specs.Laws.Optimality.{some-arborescence}
 use Rattle.postman.specs.Laws.Search.{best-value}
 use Rattle.tree_count.specs.Matrix.{cap}
 use Rattle.search.specs.declared.tried.Searched.{Searched}

@@ -15,7 +15,8 @@ use Rattle.postman.specs.Balancing.{heads, tails, sumOver, linkCost, leastBalan
 use Rattle.postman.specs.Laws.Sum.{sum-append}
 use Rattle.postman.specs.Laws.Membership.{mem-map, mem-flatMap, flatMap-mem, map-mem}
 use Rattle.postman.specs.Laws.Lists.{map-append}
-use Rattle.postman.specs.Laws.Balancing.{Joins, within-heads, within-tails, same-length}
+use Rattle.postman.specs.Steps.{Joins}
+use Rattle.postman.specs.Laws.Balancing.{within-heads, within-tails, same-length}
 use Rattle.residual_search.specs.Step.{cell, potential}
 use Rattle.balance.specs.Laws.Duality.{price-le}
 use Rattle.tree_bounds.specs.Branch.{leftChoices}

@@ -16,7 +16,7 @@ use Rattle.postman.specs.Arborescence.{linkAt, candidates}
 use Rattle.postman.specs.Laws.Tests.{cond-ind}
 use Rattle.postman.specs.Laws.Distance.{InPlan, bounded}
 use Rattle.postman.specs.Laws.Required.{required-lt}
-use Rattle.postman.specs.Laws.Balancing.{Joins}
+use Rattle.postman.specs.Steps.{Joins}
 use Rattle.postman.specs.Laws.Membership.{getD-mem, mem-getD, choices-mem}
 use Rattle.postman.specs.Laws.Link.{link-ends}
 use Rattle.postman.specs.Laws.Arborescence.{candidates-mem}

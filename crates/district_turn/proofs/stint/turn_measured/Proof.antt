@@ -1,7 +1,7 @@
 -- Where the network refuses, the district is stuck; where it does not, the turn is `turn_known`'s.
 use mathlib.Core.Path.{sym, ap, _∙_}
 use Rattle.refusal.specs.Verdict.{verdictNumber}
-use Rattle.district_turn.specs.Stint.{isGood}
+use Rattle.postman.specs.Refusal.{isGood}
 use Rattle.district_turn.specs.Laws.Stint.{and-first, is-stuck, as-good}
 use borrow.Author.Needs.{needs}
 use Rattle.district_turn.proofs.stint.turn_measured.Statement.{statement}

@@ -3,7 +3,7 @@ use mathlib.Core.Path.{_≡_, sym, _∙_}
 use Prim.Native.Nat.{ℕ, _≤_, _<_}
 use native.Mathlib.Omega.{arith}
 use lib.ListN.{length}
-use Rattle.districts.specs.Line.{Line}
+use Rattle.postman.specs.Districts.{Line}
 use Rattle.districts.specs.Machine.{districtsIn}
 use Rattle.districts.specs.Places.{lowestBelow}
 use Rattle.districts.specs.Laws.Places.{at-most, already, taken-there, free-there}

@@ -1,13 +1,12 @@
 -- Runs of entries and turns, in any order, accepted or not.
 use mathlib.Core.Path.{_≡_}
-use mathlib.Core.Logic.{_≢_}
-use mathlib.Core.Bool.{Bool, true, false, cond, _&&_}
+use mathlib.Core.Bool.{Bool, false, not, cond, _&&_}
 use mathlib.Core.List.{List, [], _∷_, _++_}
-use Prim.Native.Nat.{ℕ, suc, _+_}
+use Prim.Native.Nat.{ℕ, _+_}
 use lib.ListN.{length}
-use lib.Dec.{eqb}
-use Rattle.district_turn.specs.Stint.{isGood}
-use Rattle.districts.specs.Line.{District, Line, entryRefusal, lowestFree, enter, turn, isAccepted}
+use lib.Dec.{T, eqb}
+use Rattle.postman.specs.Refusal.{isGood}
+use Rattle.postman.specs.Districts.{District, Line, entryRefusal, lowestFree, enter, turn, isAccepted}
 
 -- An entry, by its plan and budget; a turn, by the length of the sheet that is lent.
 pub data Event : Type 0 where
@@ -80,3 +79,18 @@ unfoldable pub turnsSince : ℕ → List Event → ℕ
 unfolding entersAt isTurn servesPlace runFrom
 turnsSince q [] = 0
 turnsSince q (e ∷ es) = cond (entersAt q (run es) e) 0 (cond (isTurnOf q (run es) e) 1 0 + turnsSince q es)
+
+-- ---- waiting in a line
+
+-- i districts are ahead of d.
+pub record Waits (l : Line) (i : ℕ) (d : District) : Type 0 where
+  pub ahead : Line
+  pub behind : Line
+  pub line : l ≡ ahead ++ d ∷ behind
+  pub number : length ahead ≡ i
+
+-- No turn of a run, from a line on, is of place q.
+unfoldable pub NoTurnOf : ℕ → Line → List Event → Type 0
+unfolding isTurn servesPlace runFrom
+NoTurnOf q l [] = Unit {0}
+NoTurnOf q l (e ∷ es) = T (not (isTurnOf q (runFrom l es) e)) × NoTurnOf q l es

@@ -1,15 +1,14 @@
 -- EIGHT DISTRICTS IN TURN: the line of districts, an entry and a turn. "One machine, empty at first, lays drives for up to eight districts."
 use mathlib.Core.Bool.{Bool, false, not, cond}
 use mathlib.Core.List.{List, [], _∷_, _++_, map}
-use mathlib.Core.Option.{Option, none, some}
+use mathlib.Core.Option.{Option}
 use Prim.Native.Nat.{ℕ, _+_}
 use lib.ListN.{length}
 use lib.Dec.{leb, ltb}
 use Rattle.postman.specs.Lists.{below, firstIndex, occurs}
 use Rattle.postman.specs.Refusal.{Conditions, firstRefusal, unless}
 use Rattle.postman.specs.PlanFile.{fileConditions, isOutside, planOf}
 use Rattle.postman.specs.PlanCall.{highestBudget, budgetConditions, sheetPlaces, lastConditions, triedCount}
-use Rattle.solution.specs.Resumed.{turnTrees}
 
 -- A district that is not finished: its place, its plan and budget as it entered with them, and how many trees were tried.
 pub record District : Type 0 where
@@ -57,6 +56,9 @@ unfolding triedCount planOf
 total d = triedCount (planOf (d .bytes)) (d .budget)
 
 -- "A turn … takes 1,000 trees or the rest of T."
+abbrev pub turnTrees : ℕ
+turnTrees = 1000
+
 abbrev pub goneOn : District → District
 goneOn d = district (d .place) (d .bytes) (d .budget) (d .tried + turnTrees)
 
