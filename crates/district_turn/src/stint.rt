@@ -28,7 +28,7 @@ ghost use Rattle.shortest.specs.Contracts.{AreWeights};
 ghost use Rattle.balance.specs.Records.{stateOf};
 ghost use Rattle.network.specs.Network.{IsNetwork};
 ghost use Rattle.branches.specs.Links.{linksIn};
-ghost use Rattle.circuit.specs.Tour.{written};
+ghost use Rattle.tour_legs.specs.Tour.{written};
 ghost use Rattle.multipliers.specs.Prepared.{IsKnown, IsBase, IsMeasured};
 ghost use Rattle.planner.specs.Refusals.{networkRefusal};
 ghost use Rattle.multipliers.specs.Tour.{tableOf, driveOf};

@@ -8,8 +8,8 @@ ghost use Rattle.postman.specs.PlanCall.{sheetPlaces};
 ghost use Rattle.plan.specs.Records.{planValue};
 ghost use Rattle.shortest.specs.Contracts.{AreWeights};
 ghost use Rattle.balance.specs.Records.{stateOf};
-ghost use Rattle.circuit.specs.Filled.{linksOf};
-ghost use Rattle.circuit.specs.Tour.{tour, written};
+ghost use Rattle.tour_legs.specs.Filled.{linksOf};
+ghost use Rattle.tour_legs.specs.Tour.{tour, written};
 ghost use Rattle.multipliers.specs.Tour.{amountsOf};
 ghost use Rattle.multipliers.specs.Prepared.{IsBase, IsTree};
 

@@ -1,11 +1,11 @@
 -- The deep call, proved.
-use mathlib.Core.Path.{_≡_, sym, ap, _∙_}
+use mathlib.Core.Path.{sym, ap, _∙_}
 use mathlib.Core.List.{List}
-use mathlib.Core.Option.{Option, none}
+use mathlib.Core.Option.{Option}
 use Prim.Native.Nat.{ℕ}
 use Rattle.postman.specs.Refusal.{unless}
 use Rattle.postman.specs.PlanFile.{planOf}
-use Rattle.circuit.specs.Tour.{written}
+use Rattle.tour_legs.specs.Tour.{written}
 use Rattle.deep_call.specs.Rounds.{deepTour}
 use Rattle.deep_call.specs.Contract.{IsDeepAnswer}
 use Rattle.deep_call.specs.Theorem.{one-round, beyond-plan-call, more-rounds, passes-the-judge}

@@ -3,7 +3,7 @@ use mathlib.Core.Path.{refl, subst, subst⁻¹}
 use Prim.Native.Nat.{_<_}
 use native.Mathlib.Omega.{arith}
 use Rattle.postman.specs.Component.{componentCount}
-use Rattle.tree_count.specs.Matrix.{cap, AreFew, AreCounts}
+use Rattle.small_counts.specs.Matrix.{cap, AreFew, AreCounts}
 use Rattle.search.specs.Laws.Tried.{searched}
 use borrow.Author.Needs.{needs}
 use Rattle.search.proofs.tried.search.Statement.{statement}

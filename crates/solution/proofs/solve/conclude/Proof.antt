@@ -7,7 +7,7 @@ use native.Mathlib.Omega.{arith}
 use lib.ListN.{length, getD, take, length-take}
 use lib.IntN.{ℤ, pos}
 use Rattle.multipliers.specs.Laws.Solve.{Rooted, some-component, priced}
-use Rattle.multipliers.specs.Laws.Bound.{zero-priced}
+use Rattle.lagrangian.specs.Laws.Bound.{zero-priced}
 use Rattle.multipliers.specs.Laws.Ascent.{answered-rooted}
 use Rattle.multipliers.specs.Laws.Lay.{arcs-links}
 use Rattle.multipliers.specs.Ascent.{multipliersFor}
@@ -17,8 +17,8 @@ use Rattle.postman.specs.Lists.{maxℤ}
 use Rattle.postman.specs.Link.{Link}
 use Rattle.postman.specs.Component.{componentCount}
 use Rattle.postman.specs.LagrangianBound.{lagrangianBound}
-use Rattle.circuit.specs.Filled.{linksOf}
-use Rattle.circuit.specs.Tour.{written}
+use Rattle.tour_legs.specs.Filled.{linksOf}
+use Rattle.tour_legs.specs.Tour.{written}
 use Rattle.multipliers.specs.Tour.{driveOf}
 use Rattle.multipliers.specs.Prepared.{IsTree}
 use Rattle.plan.specs.Records.{planValue}
