@@ -24,8 +24,8 @@ use Rattle.districts.specs.Led.{Led}
 use Rattle.promises.specs.PlanCall.{Call}
 use Rattle.promises.specs.Judging.{Judging}
 
--- `Led es m`: the calls es, the latest first, accepted or not, lead from the empty machine to m. `district_machine` `empty`, `district_entry` `enter` and `districts` `turn`
--- ensure what each step asks for, of any machine.
+-- `Led es m`: the calls es, the latest first, accepted or not, lead from the empty machine to m. `district_machine` `empty`,
+-- `district_entry` `enter` and `districts` `turn` ensure what each step asks for, of any machine.
 
 -- The machine's line is the run's: `run` puts an entry at the back, and takes the front district of an accepted turn away, finished, or
 -- to the back.
