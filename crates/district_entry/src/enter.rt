@@ -1,6 +1,7 @@
 // An entry: the plan call's refusals but 8, then 22, then the lowest free place.
 use budget::Budget;
 use budget::Checked;
+use call_steps::steps::network_verdict;
 use district_machine::machine::District;
 use district_machine::machine::Machine;
 use district_machine::machine::nothing_held;
@@ -8,7 +9,6 @@ use district_machine::places::kept;
 use district_machine::places::lined_up;
 use district_machine::places::lowest_free;
 use plan::Plan;
-use planner::call::network_verdict;
 use refusal::Refusal;
 use refusal::Verdict;
 ghost use mathlib.Core.Path.{_≡_};
@@ -17,7 +17,7 @@ ghost use Prim.Native.Nat.{_<_};
 ghost use Rattle.postman.specs.Plan.{WellFormed};
 ghost use Rattle.plan.specs.Records.{planValue};
 ghost use Rattle.refusal.specs.Verdict.{verdictNumber};
-ghost use Rattle.planner.specs.Refusals.{planRefusal, budgetRefusal};
+ghost use Rattle.call_steps.specs.Refusals.{planRefusal, budgetRefusal};
 ghost use Rattle.district_entry.specs.Entered.{callPart, IsEntered};
 
 // The place, or why there is none.

@@ -11,7 +11,7 @@ use Rattle.postman.specs.Refusal.{firstRefusal, isGood}
 use Rattle.postman.specs.PlanFile.{fileConditions, isOutside, planOf}
 use Rattle.postman.specs.PlanCall.{sheetPlaces, highestBudget}
 use Rattle.refusal.specs.declared.Refusal.the-variants.{ShortSheet as ShortSheetRefusal}
-use Rattle.planner.specs.Refused.{refusedWith}
+use Rattle.call_steps.specs.Refused.{refusedWith}
 use Rattle.solution.specs.declared.Planned.{Planned}
 use Rattle.solution.specs.declared.trees.Reached.{Reached}
 use Rattle.district_turn.specs.declared.stint.Stint.{Stint}

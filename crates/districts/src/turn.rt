@@ -1,4 +1,5 @@
 // A turn: the front district takes 1,000 trees or the rest of T.
+use call_steps::steps::refused;
 use district_machine::machine::District;
 use district_machine::machine::Machine;
 use district_machine::places::is_taken;
@@ -7,7 +8,6 @@ use district_turn::stint::Stint;
 use district_turn::stint::so_far;
 use district_turn::stint::stuck;
 use district_turn::stint::turn_read;
-use planner::call::refused;
 use refusal::Refusal;
 use refusal::Verdict;
 use solution::Planned;

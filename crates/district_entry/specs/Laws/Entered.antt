@@ -19,8 +19,8 @@ use Rattle.postman.specs.Laws.Acceptance.{file-accepted, inside}
 use Rattle.postman.specs.Laws.Tests.{test, is-false}
 use Rattle.refusal.specs.declared.Refusal.{Refusal}
 use Rattle.refusal.specs.Verdict.{refusalNumber}
-use Rattle.planner.specs.Refusals.{budgetRefusal}
-use Rattle.planner.specs.Laws.Call.{parts-refusal}
+use Rattle.call_steps.specs.Refusals.{budgetRefusal}
+use Rattle.call_steps.specs.Laws.Call.{parts-refusal}
 use Rattle.planner.specs.Laws.LongFile.{long-refused}
 use Rattle.district_turn.specs.Padded.{padded}
 use Rattle.district_turn.specs.Laws.Padded.{padded-set}

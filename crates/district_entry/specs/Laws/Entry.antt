@@ -8,8 +8,9 @@ use lib.Dec.{T}
 use Rattle.postman.specs.PlanFile.{isOutside, planOf}
 use Rattle.postman.specs.PlanCall.{highestBudget, sheetPlaces, callRefusal}
 use Rattle.postman.specs.Laws.Acceptance.{file-accepted}
-use Rattle.planner.specs.Refusals.{planRefusal, budgetRefusal}
-use Rattle.planner.specs.Laws.Call.{parts-refusal, file-good, sheet-long}
+use Rattle.call_steps.specs.Refusals.{planRefusal, budgetRefusal}
+use Rattle.call_steps.specs.Laws.Call.{parts-refusal, sheet-long}
+use Rattle.planner.specs.Laws.Whole.{file-good}
 use Rattle.postman.specs.Districts.{Line, entryRefusal}
 use Rattle.district_entry.specs.Laws.Line.{parts, later, ends}
 

@@ -20,8 +20,8 @@ use Rattle.postman.specs.Laws.Tests.{and-parts, of-true, is-true}
 use Rattle.tour_legs.specs.Tour.{written}
 use Rattle.multipliers.specs.Tour.{driveOf}
 use Rattle.multipliers.specs.Laws.Tour.{tree-tour}
-use Rattle.planner.specs.Refusals.{planRefusal}
-use Rattle.planner.specs.Laws.Call.{parts-refusal}
+use Rattle.call_steps.specs.Refusals.{planRefusal}
+use Rattle.call_steps.specs.Laws.Call.{parts-refusal}
 use Rattle.solution.specs.declared.Planned.{Planned}
 use Rattle.solution.specs.declared.trees.Reached.{Reached}
 use Rattle.solution.specs.Resumed.{linksBy, heldAfter}

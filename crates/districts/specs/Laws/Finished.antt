@@ -13,7 +13,8 @@ use Rattle.solution.specs.declared.Planned.{Planned}
 use Rattle.planner.specs.Contract.{IsPlanCall}
 use Rattle.solution.specs.Planned.{IsPlanned}
 use Rattle.solution.specs.SameAnswer.{SameAnswer}
-use Rattle.planner.specs.Laws.Call.{file-good, sheet-long, budget-good, planned-as}
+use Rattle.call_steps.specs.Laws.Call.{sheet-long, budget-good, planned-as}
+use Rattle.planner.specs.Laws.Whole.{file-good}
 use Rattle.solution.specs.Laws.SameAnswer.{same-answer}
 use Rattle.district_turn.specs.Stint.{soFar}
 use Rattle.district_turn.specs.Laws.Clash.{clash}

@@ -28,8 +28,8 @@ use Rattle.postman.specs.Steps.{Plannable}
 use Rattle.postman.specs.Laws.Optimality.{some-arborescence}
 use Rattle.postman.specs.Laws.Search.{best-value}
 use Rattle.postman.specs.Laws.Tests.{is-true, is-false}
-use Rattle.planner.specs.Refusals.{planRefusal}
-use Rattle.planner.specs.Laws.Call.{parts-refusal}
+use Rattle.call_steps.specs.Refusals.{planRefusal}
+use Rattle.call_steps.specs.Laws.Call.{parts-refusal}
 use Rattle.solution.specs.declared.Planned.{Planned}
 use Rattle.solution.specs.declared.trees.Reached.{Reached}
 use Rattle.solution.specs.Resumed.{linksBy, heldAfter, IsReachedBy}

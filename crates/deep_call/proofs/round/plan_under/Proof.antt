@@ -6,8 +6,8 @@ use Rattle.postman.specs.Plan.{Plan, WellFormed}
 use Rattle.shortest.specs.Contracts.{AreWeights}
 use Rattle.multipliers.specs.Tour.{tableOf}
 use Rattle.multipliers.specs.Laws.Table.{rows}
-use Rattle.planner.specs.Refusals.{planRefusal}
-use Rattle.planner.specs.Laws.Call.{planned-as}
+use Rattle.call_steps.specs.Refusals.{planRefusal}
+use Rattle.call_steps.specs.Laws.Call.{planned-as}
 use Rattle.deep_call.specs.Laws.Tables.{inside-from, under-well-formed, under-refusal, under-table, under-weights}
 use borrow.Author.Needs.{needs}
 use Rattle.deep_call.proofs.round.plan_under.Statement.{statement}

@@ -1,6 +1,6 @@
 -- A budget outside its limits is refused as 9; else the rest decides.
 use mathlib.Core.Path.{sym, _∙_}
-use Rattle.planner.specs.Laws.Call.{budget-refused, budget-good}
+use Rattle.call_steps.specs.Laws.Call.{budget-refused, budget-good}
 use borrow.Author.Needs.{needs}
 use Rattle.district_entry.proofs.enter.budget_verdict.Statement.{statement}
 use Rattle.district_entry.proofs.enter.budget_verdict.Tie as tie

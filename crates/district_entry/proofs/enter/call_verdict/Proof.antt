@@ -4,7 +4,7 @@ use Rattle.postman.specs.Plan.{Plan, WellFormed}
 use Rattle.postman.specs.Laws.Acceptance.{file-accepted}
 use Rattle.refusal.specs.Verdict.{verdictNumber}
 use Rattle.plan_file.specs.Laws.Reading.{accepted-value}
-use Rattle.planner.specs.Refusals.{budgetRefusal}
+use Rattle.call_steps.specs.Refusals.{budgetRefusal}
 use Rattle.district_entry.specs.Laws.Entered.{part-file, part-good}
 use borrow.Author.Needs.{needs}
 use Rattle.district_entry.proofs.enter.call_verdict.Statement.{statement}

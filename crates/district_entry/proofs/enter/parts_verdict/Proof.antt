@@ -1,7 +1,7 @@
 -- The table holds the distances, and the network's refusal is the plan's.
 use mathlib.Core.Path.{_∙_}
 use Rattle.shortest.specs.Laws.Weight.{table-costs}
-use Rattle.planner.specs.Laws.Call.{measured-refusal}
+use Rattle.call_steps.specs.Laws.Call.{measured-refusal}
 use borrow.Author.Needs.{needs}
 use Rattle.district_entry.proofs.enter.parts_verdict.Statement.{statement}
 use Rattle.district_entry.proofs.enter.parts_verdict.Tie as tie

@@ -1,7 +1,7 @@
 -- The chain of a call with conditions of its own: where a verdict refuses, the first condition that applies is among those it looked at; where it does not, it is among the rest. The last of them
 -- are those of the plan that the call is made for.
 use mathlib.Core.Path.{_≡_, refl, sym, ap, _∙_}
-use mathlib.Core.List.{List, [], _∷_, _++_}
+use mathlib.Core.List.{List, _++_}
 use mathlib.Core.Bool.{Bool, true, false, cond}
 use mathlib.Core.Option.{Option, none, some}
 use Prim.Native.Nat.{ℕ, _<_, _≤_}
@@ -20,9 +20,9 @@ use Rattle.budget.specs.declared.Checked.the-variants.{Good, Refused}
 use Rattle.budget.specs.Checks.{checkedOf}
 use Rattle.solution.specs.declared.Planned.{Planned}
 use Rattle.solution.specs.Planned.{IsPlanned}
-use Rattle.planner.specs.Refusals.{planRefusal}
-use Rattle.planner.specs.Refused.{refusedWith}
-use Rattle.planner.specs.Laws.Call.{parts-refusal, refused-planned, planned-as}
+use Rattle.call_steps.specs.Refusals.{planRefusal}
+use Rattle.call_steps.specs.Refused.{refusedWith}
+use Rattle.call_steps.specs.Laws.Call.{parts-refusal, refused-planned, planned-as}
 
 -- ---- one step of the chain
 

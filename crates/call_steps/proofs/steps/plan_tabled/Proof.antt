@@ -1,10 +1,10 @@
 -- The table is that of the definition, so it holds the distances, and the network's refusal is the plan's.
 use mathlib.Core.Path.{refl}
 use Rattle.multipliers.specs.Laws.Tour.{is-table}
-use Rattle.planner.specs.Laws.Call.{measured-refusal, planned-as}
+use Rattle.call_steps.specs.Laws.Call.{measured-refusal, planned-as}
 use borrow.Author.Needs.{needs}
-use Rattle.planner.proofs.call.plan_tabled.Statement.{statement}
-use Rattle.planner.proofs.call.plan_tabled.Tie as tie
+use Rattle.call_steps.proofs.steps.plan_tabled.Statement.{statement}
+use Rattle.call_steps.proofs.steps.plan_tabled.Tie as tie
 
 network-of-requires : tie.Need-network-of-requires
 network-of-requires c κs = let s = c .before in (s .pre .0 .0, is-table _ _ (s .pre .0 .1))

@@ -9,7 +9,7 @@ use Rattle.postman.specs.PlanCall.{fields}
 use Rattle.refusal.specs.declared.Refusal.{Refusal}
 use Rattle.refusal.specs.Verdict.{refusalNumber}
 use Rattle.solution.specs.Planned.{countUnless, IsPlanned}
-use Rattle.planner.specs.Refused.{refusedWith}
+use Rattle.call_steps.specs.Refused.{refusedWith}
 
 pub is-refused : (p : Plan) (budget : ℕ) (old : List ℕ) (r : Refusal) → IsPlanned p budget (some (refusalNumber r)) old old (refusedWith r)
 unfolding answer fields unless countUnless

@@ -1,9 +1,9 @@
 -- The tests that the code makes are those of the definition.
 use borrow.Author.Tests.{lt-ltb, le-ltb, eq-eqb, ne-eqb}
 use Rattle.postman.specs.Refusal.{firstRefusal}
-use Rattle.planner.specs.Refusals.{networkRefusal}
-use Rattle.planner.proofs.call.network_verdict.Statement.{statement}
-use Rattle.planner.proofs.call.network_verdict.Tie as tie
+use Rattle.call_steps.specs.Refusals.{networkRefusal}
+use Rattle.call_steps.proofs.steps.network_verdict.Statement.{statement}
+use Rattle.call_steps.proofs.steps.network_verdict.Tie as tie
 
 returns : tie.Need-returns
 unfolding networkRefusal firstRefusal

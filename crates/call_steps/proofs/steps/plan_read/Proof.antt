@@ -5,8 +5,8 @@ use lib.ListN.{length}
 use Rattle.shortest.specs.Laws.Weight.{table-costs}
 use Rattle.multipliers.specs.Laws.Table.{table-is, rows}
 use borrow.Author.Needs.{needs}
-use Rattle.planner.proofs.call.plan_read.Statement.{statement}
-use Rattle.planner.proofs.call.plan_read.Tie as tie
+use Rattle.call_steps.proofs.steps.plan_read.Statement.{statement}
+use Rattle.call_steps.proofs.steps.plan_read.Tie as tie
 
 table-requires : tie.Need-table-requires
 table-requires c κs = search needs

@@ -3,10 +3,10 @@ use mathlib.Core.Path.{_∙_}
 use native.Mathlib.Omega.{arith}
 use lib.ListN.{length-take}
 use Rattle.network.specs.Laws.Vertices.{vertices-required}
-use Rattle.planner.specs.Laws.Call.{is-known}
+use Rattle.call_steps.specs.Laws.Call.{is-known}
 use borrow.Author.Needs.{needs}
-use Rattle.planner.proofs.call.answer.Statement.{statement}
-use Rattle.planner.proofs.call.answer.Tie as tie
+use Rattle.call_steps.proofs.steps.answer.Statement.{statement}
+use Rattle.call_steps.proofs.steps.answer.Tie as tie
 
 vertices-of-requires : tie.Need-vertices-of-requires
 vertices-of-requires c κs = search needs

@@ -1,10 +1,10 @@
 -- Where the network refuses, the answer is the refusal's; where it does not, it is `answer`'s.
 use mathlib.Core.Path.{refl, sym, ap, _∙_}
 use Rattle.refusal.specs.Verdict.{verdictNumber}
-use Rattle.planner.specs.Laws.Call.{refused-planned, planned-as}
+use Rattle.call_steps.specs.Laws.Call.{refused-planned, planned-as}
 use borrow.Author.Needs.{needs}
-use Rattle.planner.proofs.call.plan_measured.Statement.{statement}
-use Rattle.planner.proofs.call.plan_measured.Tie as tie
+use Rattle.call_steps.proofs.steps.plan_measured.Statement.{statement}
+use Rattle.call_steps.proofs.steps.plan_measured.Tie as tie
 
 network-verdict-requires : tie.Need-network-verdict-requires
 network-verdict-requires c κs = search needs
