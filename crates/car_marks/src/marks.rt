@@ -1,4 +1,5 @@
 // 18, and the plan of a car.
+// Steps for other crates, which ask something of their caller.
 use plan::Arc;
 use plan::Plan;
 ghost use mathlib.Core.Path.{_≡_};

@@ -1,4 +1,5 @@
 // The places of a line, its districts from one of them on, and the bytes of a plan.
+// Steps for other crates, which ask something of their caller.
 use crate::machine::District;
 use crate::machine::no_district;
 ghost use mathlib.Core.Path.{_≡_};

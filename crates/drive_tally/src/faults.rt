@@ -1,4 +1,5 @@
 // Arcs that are foreign, and arcs that do not join. The plan's arcs are lent as rows: tail, head, standing, cost, service cost.
+// Steps for other crates, which ask something of their caller.
 ghost use mathlib.Core.Path.{_≡_};
 ghost use mathlib.Core.Bool.{false};
 ghost use Rattle.postman.specs.Judge.{isForeign, hasForeign, isUnjoined};

@@ -1,4 +1,5 @@
 // The cost of a list of arcs, and the must arcs that it misses. A flag for each arc says whether it is due: a must arc that was not passed yet.
+// Steps for other crates, which ask something of their caller.
 ghost use mathlib.Core.Path.{_≡_};
 ghost use mathlib.Core.Bool.{false, cond};
 ghost use Prim.Native.Nat.{_≤_, _<_, _^_};
