@@ -226,7 +226,8 @@ fn of_folder(folder: &str, extension: &str, of: fn(&str) -> Vec<Function>) -> Ve
 }
 
 /// The crates whose functions other languages call.
-const EXPORTING: [&str; 2] = ["crates/exports/src", "crates/state_exports/src"];
+const EXPORTING: [&str; 4] =
+    ["crates/exports/src", "crates/file_exports/src", "crates/open_plan_exports/src", "crates/district_exports/src"];
 
 /// What the tests below compare is all that is declared: one header, and no function for other languages outside the crates that export and the package's sources.
 #[test]

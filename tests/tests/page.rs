@@ -166,7 +166,9 @@ fn quoted(text: &str) -> Vec<&str> {
 #[test]
 fn the_calls_of_the_page_ask_nothing() {
     let mut exported = functions("exports");
-    exported.extend(functions("state_exports"));
+    for other in ["file_exports", "open_plan_exports", "district_exports"] {
+        exported.extend(functions(other));
+    }
     let mut named = BTreeSet::new();
     for name in PAGE {
         let text = page(name);

@@ -15,8 +15,8 @@ use Rattle.postman.specs.Steps.{Joins}
 use Rattle.residual_search.specs.Step.{State, cell, add}
 use Rattle.balance.specs.Invariant.{Metric, Certified, Counted}
 use Rattle.balance.specs.Balance.{balance}
-use Rattle.tree_count.specs.Matrix.{entriesOf, AreFew, IsMerged, AreCounts}
-use Rattle.tree_count.specs.Arrival.{renamed}
+use Rattle.small_counts.specs.Matrix.{entriesOf, AreFew, IsMerged, AreCounts}
+use Rattle.small_counts.specs.Arrival.{renamed}
 use Rattle.branches.specs.declared.branch.Branch.{Branch}
 use Rattle.branches.specs.declared.candidate.Candidate.{Candidate}
 use Rattle.branches.specs.Links.{linksIn}

@@ -3,7 +3,7 @@ use mathlib.Core.Bool.{Bool, false, cond}
 use Prim.Native.Nat.{ℕ, _+_, _≤_}
 use lib.Dec.{eqb, leb, ltb}
 use Rattle.postman.specs.Balancing.{heads, tails}
-use Rattle.tree_count.specs.Matrix.{cap}
+use Rattle.small_counts.specs.Matrix.{cap}
 use Rattle.branches.specs.declared.progress.Progress.{Progress}
 use Rattle.branches.specs.Links.{linksIn}
 use Rattle.branches.specs.Progress.{Held, held}

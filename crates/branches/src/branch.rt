@@ -14,7 +14,7 @@ ghost use Prim.Native.Nat.{ℕ, _+_, _<_, _≤_};
 ghost use lib.ListN.{set};
 ghost use Rattle.postman.specs.Plan.{Plan};
 ghost use Rattle.balance.specs.Records.{stateOf};
-ghost use Rattle.tree_count.specs.Matrix.{AreFew, AreCounts};
+ghost use Rattle.small_counts.specs.Matrix.{AreFew, AreCounts};
 ghost use Rattle.tree_bounds.specs.Prepared.{Prepared};
 ghost use Rattle.branches.specs.Branches.{CanGoBelow, IsBelow, AreGiven, IsRoot};
 

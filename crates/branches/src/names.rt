@@ -3,7 +3,7 @@ use integers::wide;
 ghost use mathlib.Core.Path.{_≡_};
 ghost use Prim.Native.Nat.{ℕ, _<_};
 ghost use lib.ListN.{getD};
-ghost use Rattle.tree_count.specs.Arrival.{renamed as «new-name»};
+ghost use Rattle.small_counts.specs.Arrival.{renamed as «new-name»};
 
 // Component a becomes one with x: what was one with a is one with x.
 pub(crate) fn renamed(names: [u8; 8], a: usize, x: u8) -> [u8; 8]

@@ -1,6 +1,7 @@
 // The best so far, and how many trees are yet to be skipped, and left to be tried after those.
+use residual_search::entries::monus;
 ghost use mathlib.Core.Path.{_≡_};
-ghost use Prim.Native.Nat.{ℕ, _-_};
+ghost use Prim.Native.Nat.{ℕ};
 ghost use Rattle.branches.specs.Links.{linksIn};
 ghost use Rattle.branches.specs.Progress.{passOver, tryTree};
 ghost use Rattle.branches.specs.Holding.{heldOf, isEntered};
@@ -11,15 +12,6 @@ pub struct Progress {
     pub heads: [u8; 8],
     pub skip: u64,
     pub left: u64,
-}
-
-fn monus(a: u64, b: u64) -> u64
-    ensures { λ r. ⌜ r ≡ a - b ⌝ }
-{
-    if a < b {
-        return 0;
-    }
-    a - b
 }
 
 // n trees are passed over.

@@ -1,9 +1,9 @@
 // The tour: the legs laid, put in order, and written.
 // Steps for other crates, which ask something of their caller.
-use crate::legs::lay;
 use crate::places::write;
 use hierholzer::hierholzer::arrange;
 use plan::Plan;
+use tour_legs::legs::lay;
 ghost use mathlib.Core.Path.{_≡_};
 ghost use Prim.Native.Nat.{_≤_};
 ghost use lib.ListN.{length};
@@ -14,9 +14,9 @@ ghost use Rattle.paths.specs.ShortestPath.{shortestPath};
 ghost use Rattle.shortest.specs.Contracts.{AreWeights};
 ghost use Rattle.hierholzer.specs.Circuit.{circuit};
 ghost use Rattle.hierholzer.specs.Eulerian.{Eulerian};
-ghost use Rattle.circuit.specs.Legs.{Completes};
-ghost use Rattle.circuit.specs.Tour.{placesOf, tour, written, HavePaths};
-ghost use Rattle.circuit.specs.Filled.{linksOf};
+ghost use Rattle.tour_legs.specs.Legs.{Completes};
+ghost use Rattle.tour_legs.specs.Tour.{placesOf, tour, written, HavePaths};
+ghost use Rattle.tour_legs.specs.Filled.{linksOf};
 
 // Writes the legs in the order of their circuit. What a leg needs of the plan and of the table of weights is lent to it.
 fn write_circuit(

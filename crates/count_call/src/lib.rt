@@ -1,7 +1,7 @@
 // The number of trees of a plan file.
+use call_steps::steps::network_verdict;
 use network::network::Network;
 use plan::Plan;
-use planner::call::network_verdict;
 use refusal::Refusal;
 use refusal::Verdict;
 ghost use mathlib.Core.Path.{_≡_};
@@ -10,7 +10,7 @@ ghost use Rattle.postman.specs.Refusal.{answer, given};
 ghost use Rattle.postman.specs.TreeCount.{counted as «counted-as», treeCount, countCall};
 ghost use Rattle.plan.specs.Records.{planValue};
 ghost use Rattle.network.specs.Network.{IsNetwork};
-ghost use Rattle.planner.specs.Refusals.{networkRefusal, planRefusal};
+ghost use Rattle.call_steps.specs.Refusals.{networkRefusal, planRefusal};
 ghost use Rattle.count_call.specs.Contract.{answerOf};
 
 // "Give the exact number of trees, counted without listing each, or the answer 'above 4,294,967,295' exactly when it is."

@@ -18,7 +18,7 @@ use Rattle.postman.specs.Balancing.{leastBalancing}
 use Rattle.postman.specs.LagrangianBound.{Multipliers, AreMultipliers, lagrangianBound}
 use Rattle.postman.specs.PlanCall.{fields}
 use Rattle.postman.specs.Renumbering.{numberIn, carried, IsRenumberedTour}
-use Rattle.circuit.specs.Tour.{written}
+use Rattle.tour_legs.specs.Tour.{written}
 use Rattle.refusal.specs.Verdict.{verdictNumber}
 use Rattle.solution.specs.declared.Planned.{Planned}
 use Rattle.solution.specs.Planned.{summaryOf, multipliersOf, countUnless}

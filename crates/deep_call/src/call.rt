@@ -1,8 +1,8 @@
 // The deep call: the refusals in their order, then the rounds, and the best drive of them.
+use call_steps::steps::lent_verdict;
+use call_steps::steps::refused;
 use held_tree::found::plan_verdict;
 use plan::Plan;
-use planner::call::lent_verdict;
-use planner::call::refused;
 use refusal::Refusal;
 use refusal::Verdict;
 use rounds::kept::closed;
@@ -21,7 +21,7 @@ ghost use Rattle.postman.specs.Refusal.{firstRefusal};
 ghost use Rattle.postman.specs.PlanFile.{isOutside};
 ghost use Rattle.postman.specs.PlanCall.{sheetPlaces, callConditions, lastConditions};
 ghost use Rattle.plan.specs.Records.{planValue};
-ghost use Rattle.planner.specs.Refusals.{planRefusal};
+ghost use Rattle.call_steps.specs.Refusals.{planRefusal};
 ghost use Rattle.rounds.specs.Rounds.{keptAfter};
 ghost use Rattle.rounds.specs.Tabled.{IsTabled};
 ghost use Rattle.rounds.specs.Held.{IsHeld};

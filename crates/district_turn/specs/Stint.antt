@@ -12,9 +12,9 @@ use Rattle.postman.specs.Link.{Link, joins}
 use Rattle.postman.specs.Arborescence.{arborescences}
 use Rattle.postman.specs.Balancing.{completionCost}
 use Rattle.postman.specs.PlanCall.{triedCount, isWhole}
-use Rattle.circuit.specs.Tour.{written}
+use Rattle.tour_legs.specs.Tour.{written}
 use Rattle.multipliers.specs.Tour.{driveOf}
-use Rattle.planner.specs.Refusals.{planRefusal}
+use Rattle.call_steps.specs.Refusals.{planRefusal}
 use Rattle.refusal.specs.declared.Verdict.the-variants.{Accepted}
 use Rattle.solution.specs.declared.Planned.{Planned}
 use Rattle.solution.specs.declared.trees.Reached.{Reached}

@@ -13,7 +13,7 @@ ghost use Rattle.postman.specs.Balancing.{completionCost};
 ghost use Rattle.plan.specs.Records.{planValue};
 ghost use Rattle.residual_search.specs.Step.{cell};
 ghost use Rattle.balance.specs.Records.{stateOf};
-ghost use Rattle.circuit.specs.Filled.{linksOf};
+ghost use Rattle.tour_legs.specs.Filled.{linksOf};
 ghost use Rattle.multipliers.specs.Prepared.{IsBase, IsTree};
 ghost use Rattle.district_turn.specs.Cost.{tableCost, AreVertices};
 

@@ -3,12 +3,12 @@ use mathlib.Core.Path.{_≡_}
 use mathlib.Core.List.{List, [], _∷_}
 use Prim.Native.Nat.{ℕ}
 use lib.ListN.{length}
-use Rattle.districts.specs.declared.machine.Machine.{Machine}
-use Rattle.districts.specs.declared.enter.Entered.{Entered}
+use Rattle.district_machine.specs.declared.machine.Machine.{Machine}
+use Rattle.district_entry.specs.declared.enter.Entered.{Entered}
 use Rattle.districts.specs.declared.turn.Turned.{Turned}
 use Rattle.postman.specs.DistrictRuns.{Event, entry, turned}
-use Rattle.districts.specs.Machine.{emptyMachine}
-use Rattle.districts.specs.Entered.{IsEntered}
+use Rattle.district_machine.specs.Machine.{emptyMachine}
+use Rattle.district_entry.specs.Entered.{IsEntered}
 use Rattle.districts.specs.Turned.{IsTurned}
 
 -- The machine after the events, the latest first, from the machine a on; and from the empty one.

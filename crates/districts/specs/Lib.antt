@@ -1,8 +1,5 @@
 -- The machine, its calls, and what they lead to.
-pub mod Places
-pub mod Machine
 pub mod Number
-pub mod Entered
 pub mod Turned
 pub mod Led
 pub mod Served

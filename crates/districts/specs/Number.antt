@@ -1,28 +1,14 @@
--- What an entry and a turn answer, in document 02's numbers.
+-- What a turn answers, in document 02's numbers.
 use mathlib.Core.Bool.{Bool, true, false}
-use mathlib.Core.Option.{Option, none, some}
 use Prim.Native.Nat.{ℕ, _+_, _<_}
 use lib.Dec.{eqb}
 use Rattle.postman.specs.Refusal.{Answer, refused, given}
 use Rattle.refusal.specs.Verdict.{refusalNumber}
 use Rattle.refusal.specs.declared.Refusal.the-variants.{ShortSheet as ShortSheetRefusal}
-use Rattle.districts.specs.declared.enter.Admission.{Admission}
-use Rattle.districts.specs.declared.enter.Admission.the-variants.{At, Refused}
 use Rattle.districts.specs.declared.turn.Outcome.{Outcome}
 use Rattle.districts.specs.declared.turn.Outcome.the-variants.{Empty, ShortSheet, Unfinished, Finished}
 
--- ---- an entry: the place, or the refusal
-
-abbrev pub admitted : Admission → Answer ℕ
-admitted (At q) = given q
-admitted (Refused r) = refused (refusalNumber r)
-
--- The number of a refused entry.
-abbrev pub admissionNumber : Admission → Option ℕ
-admissionNumber (At q) = none
-admissionNumber (Refused r) = some (refusalNumber r)
-
--- ---- a turn: "a turn's answer names its district's" place, 8 is added to it in the last turn, and 16 says that no district is inside
+-- "a turn's answer names its district's" place, 8 is added to it in the last turn, and 16 says that no district is inside
 
 abbrev pub outcomeNumber : Outcome → Answer ℕ
 outcomeNumber Empty = given 16

@@ -12,19 +12,19 @@ use Rattle.postman.specs.Laws.Membership.{mem-map}
 use Rattle.solution.specs.declared.Planned.{Planned}
 use Rattle.planner.specs.Contract.{IsPlanCall}
 use Rattle.solution.specs.SameAnswer.{SameAnswer}
-use Rattle.districts.specs.declared.machine.District.{District as DistrictRecord}
-use Rattle.districts.specs.declared.machine.Machine.{Machine}
+use Rattle.district_machine.specs.declared.machine.District.{District as DistrictRecord}
+use Rattle.district_machine.specs.declared.machine.Machine.{Machine}
 use Rattle.districts.specs.declared.turn.Outcome.the-variants.{Finished}
 use Rattle.districts.specs.declared.turn.Turned.{Turned}
 use Rattle.postman.specs.Districts.{District, Line, total, finishes}
 use Rattle.postman.specs.DistrictRuns.{Event, turned, run, isTurn, isTurnOf, turnsIn, Entry, lastEntry, turnsSince, NoTurnOf}
-use Rattle.districts.specs.Machine.{districtOf, bytesOf, waitingIn, lineOf, machineOf, emptyMachine}
+use Rattle.district_machine.specs.Machine.{districtOf, bytesOf, waitingIn, lineOf, machineOf, emptyMachine}
 use Rattle.districts.specs.Number.{outcomeNumber, hadTurn, hadLast, isOf, HasPlace}
 use Rattle.districts.specs.Turned.{planBy, IsTurned}
 use Rattle.districts.specs.Finished.{HoldsDrive}
 use Rattle.districts.specs.Led.{Led}
 use Rattle.districts.specs.Served.{IsServed}
-use Rattle.districts.specs.Laws.Line.{waits-short}
+use Rattle.district_entry.specs.Laws.Line.{waits-short}
 use Rattle.districts.specs.Laws.Runs.{waits-run, waits-in, run-kept}
 use Rattle.districts.specs.Laws.Turned.{placed}
 use Rattle.districts.specs.Laws.Number.{number-apart}

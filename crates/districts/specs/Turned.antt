@@ -11,18 +11,18 @@ use Rattle.postman.specs.Refusal.{firstRefusal, isGood}
 use Rattle.postman.specs.PlanFile.{fileConditions, isOutside, planOf}
 use Rattle.postman.specs.PlanCall.{sheetPlaces, highestBudget}
 use Rattle.refusal.specs.declared.Refusal.the-variants.{ShortSheet as ShortSheetRefusal}
-use Rattle.planner.specs.Refused.{refusedWith}
+use Rattle.call_steps.specs.Refused.{refusedWith}
 use Rattle.solution.specs.declared.Planned.{Planned}
 use Rattle.solution.specs.declared.trees.Reached.{Reached}
 use Rattle.district_turn.specs.declared.stint.Stint.{Stint}
 use Rattle.district_turn.specs.Stint.{isHolding, canGoOn, reachedAfter, soFar, isLast, lastAnswer, lastSheet}
-use Rattle.districts.specs.declared.machine.District.{District as DistrictRecord}
-use Rattle.districts.specs.declared.machine.Machine.{Machine}
+use Rattle.district_machine.specs.declared.machine.District.{District as DistrictRecord}
+use Rattle.district_machine.specs.declared.machine.Machine.{Machine}
 use Rattle.districts.specs.declared.turn.Outcome.{Outcome}
 use Rattle.districts.specs.declared.turn.Outcome.the-variants.{Empty, ShortSheet, Unfinished, Finished}
 use Rattle.districts.specs.declared.turn.Turned.{Turned}
 use Rattle.postman.specs.Districts.{places}
-use Rattle.districts.specs.Machine.{bytesOf, districtOf, waitingIn, machineOf}
+use Rattle.district_machine.specs.Machine.{bytesOf, districtOf, waitingIn, machineOf}
 
 -- ---- whether the front district can be gone on with: it can, in every machine that entries and turns lead to from the empty one
 

@@ -1,13 +1,13 @@
 // A turn: the front district takes 1,000 trees or the rest of T.
-use crate::machine::District;
-use crate::machine::Machine;
-use crate::places::is_taken;
-use crate::places::lined_up;
+use call_steps::steps::refused;
+use district_machine::machine::District;
+use district_machine::machine::Machine;
+use district_machine::places::is_taken;
+use district_machine::places::lined_up;
 use district_turn::stint::Stint;
 use district_turn::stint::so_far;
 use district_turn::stint::stuck;
 use district_turn::stint::turn_read;
-use planner::call::refused;
 use refusal::Refusal;
 use refusal::Verdict;
 use solution::Planned;
@@ -18,8 +18,8 @@ ghost use Prim.Native.Nat.{_≤_, _<_};
 ghost use lib.ListN.{length, drop};
 ghost use Rattle.postman.specs.PlanCall.{sheetPlaces};
 ghost use Rattle.district_turn.specs.Stint.{IsStint};
-ghost use Rattle.districts.specs.declared.machine.District.{District as DistrictRecord};
-ghost use Rattle.districts.specs.Machine.{waitingIn, machineOf};
+ghost use Rattle.district_machine.specs.declared.machine.District.{District as DistrictRecord};
+ghost use Rattle.district_machine.specs.Machine.{waitingIn, machineOf};
 ghost use Rattle.districts.specs.Turned.{planBy, hasOwnPlace, canBeServed, heldNow, IsAfter, IsTurned};
 
 // What a turn met, and the place of the district that it went to. A machine that no entries and turns lead to may hold a front district that cannot be gone on with: it is answered as an empty one.

@@ -1,12 +1,9 @@
 // `drive`: a plan on standard input, the drive and its floor on standard output, what went wrong on standard error.
-mod message; // what is said on standard error
-mod output; // output in blocks
-
-use crate::message::say;
-use crate::message::say_word;
-use crate::output::flush;
-use crate::output::put;
-use crate::output::put_line;
+use drive_output::message::say;
+use drive_output::message::say_word;
+use drive_output::output::flush;
+use drive_output::output::put;
+use drive_output::output::put_line;
 use libc::STDIN_FILENO;
 use planner::call::plan_call;
 use refusal::Verdict;

@@ -1,4 +1,2 @@
 -- What is proved about the definitions.
-pub mod Reading
-pub mod Writing
 pub mod Cars

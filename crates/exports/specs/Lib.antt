@@ -1,5 +1,4 @@
 -- How plan files and records cross the border to other languages.
-pub mod Codec
 pub mod Call
 pub mod Cars
 -- What is proved about them.

@@ -6,7 +6,7 @@ use lib.IntN.{pos}
 use Rattle.postman.specs.Plan.{Plan}
 use Rattle.postman.specs.Arborescence.{arborescenceCount}
 use Rattle.postman.specs.PlanCall.{triedCount, bestCost, bestArborescence, lowerBound}
-use Rattle.tree_count.specs.Matrix.{cap}
+use Rattle.small_counts.specs.Matrix.{cap}
 use Rattle.multipliers.specs.Ascent.{multipliersFor}
 use Rattle.solution.specs.declared.trees.Reached.{Reached}
 use Rattle.solution.specs.Resumed.{linksBy, IsReachedBy}

@@ -1,11 +1,11 @@
 // So many trees of a plan tried in all, from those that were tried before.
 // Steps for other crates, which ask something of their caller.
+use call_steps::steps::network_verdict;
 use multipliers::ascend::multipliers_for;
 use multipliers::prepare::base_state;
 use multipliers::prepare::multipliers_of;
 use network::network::Network;
 use plan::Plan;
-use planner::call::network_verdict;
 use refusal::Verdict;
 use solution::solve::floor_found;
 use solution::trees::Reached;
@@ -19,7 +19,7 @@ ghost use Rattle.network.specs.Network.{IsNetwork};
 ghost use Rattle.refusal.specs.Verdict.{verdictNumber};
 ghost use Rattle.multipliers.specs.Tour.{tableOf};
 ghost use Rattle.multipliers.specs.Prepared.{IsKnown, IsMeasured};
-ghost use Rattle.planner.specs.Refusals.{networkRefusal, planRefusal};
+ghost use Rattle.call_steps.specs.Refusals.{networkRefusal, planRefusal};
 ghost use Rattle.held_tree.specs.Found.{IsFound, CanGoOn};
 
 // The best tree and how many were tried, the floor, the multipliers, and how many trees there are, by a count that ends at 4,294,967,296.

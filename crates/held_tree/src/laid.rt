@@ -15,10 +15,10 @@ ghost use Rattle.plan.specs.Records.{planValue};
 ghost use Rattle.shortest.specs.Contracts.{AreWeights};
 ghost use Rattle.network.specs.Network.{IsNetwork};
 ghost use Rattle.branches.specs.Links.{linksIn};
-ghost use Rattle.circuit.specs.Tour.{written};
+ghost use Rattle.tour_legs.specs.Tour.{written};
 ghost use Rattle.multipliers.specs.Tour.{tableOf, driveOf};
 ghost use Rattle.multipliers.specs.Prepared.{IsKnown, IsMeasured};
-ghost use Rattle.planner.specs.Refusals.{networkRefusal, planRefusal};
+ghost use Rattle.call_steps.specs.Refusals.{networkRefusal, planRefusal};
 ghost use Rattle.solution.specs.Resumed.{HoldsTree};
 
 // The places written, and the number of components.

@@ -1,10 +1,10 @@
 // The judging call: the refusals in document 02's order, and the cost.
 use crate::Judged;
-use crate::faults::has_foreign;
-use crate::faults::is_unjoined;
-use crate::tally::has_flag;
-use crate::tally::priced;
-use crate::tally::required_flags;
+use drive_tally::faults::has_foreign;
+use drive_tally::faults::is_unjoined;
+use drive_tally::tally::has_flag;
+use drive_tally::tally::priced;
+use drive_tally::tally::required_flags;
 use plan::Plan;
 use plan::rows::rows_of;
 use plan_file::reader::file_edition;
@@ -22,8 +22,8 @@ ghost use Rattle.postman.specs.Tour.{tourCost};
 ghost use Rattle.postman.specs.Judge.{highestPlaces, lentConditions};
 ghost use Rattle.plan.specs.Records.{planValue};
 ghost use Rattle.refusal.specs.Verdict.{refusalNumber};
-ghost use Rattle.judge.specs.Rows.{planOver};
-ghost use Rattle.judge.specs.Tally.{AreDue};
+ghost use Rattle.drive_tally.specs.Rows.{planOver};
+ghost use Rattle.drive_tally.specs.Tally.{AreDue};
 ghost use Rattle.judge.specs.Contract.{judgedAnswer, listAnswer, planAnswer, IsJudged};
 
 // 14, 15 and 16, then the cost.

@@ -1,6 +1,4 @@
 // Judging a drive that another house laid: its cost, or the first fault.
-mod faults; // foreign arcs and gaps
-mod tally; // the cost, and the must arcs that are missed
 pub mod call; // the judging call
 
 use refusal::Refusal;

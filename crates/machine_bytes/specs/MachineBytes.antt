@@ -5,8 +5,8 @@ use Prim.Native.Nat.{ℕ, _+_, _*_}
 use lib.ListN.{length, getD, take, drop}
 use Rattle.postman.specs.Lists.{below}
 use Rattle.solution.specs.declared.trees.Reached.{Reached}
-use Rattle.districts.specs.declared.machine.District.{District}
-use Rattle.districts.specs.declared.machine.Machine.{Machine}
+use Rattle.district_machine.specs.declared.machine.District.{District}
+use Rattle.district_machine.specs.declared.machine.Machine.{Machine}
 use Rattle.encoding.specs.NumberBytes.{wordIn, wordBytes, longIn, longBytes}
 
 -- A district takes 1,516 bytes, and the number of those that wait takes eight.

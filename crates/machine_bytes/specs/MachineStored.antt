@@ -7,9 +7,10 @@ use Prim.Native.Nat.{ℕ}
 use lib.IntN.{ℤ}
 use lib.ListN.{drop}
 use Rattle.postman.specs.Refusal.{unless}
-use Rattle.districts.specs.declared.enter.Entered.{Entered}
+use Rattle.district_entry.specs.declared.enter.Entered.{Entered}
 use Rattle.districts.specs.declared.turn.Turned.{Turned}
-use Rattle.districts.specs.Number.{admitted, admissionNumber, outcomeNumber, hadTurn, hadLast}
+use Rattle.district_entry.specs.Admitted.{admitted, admissionNumber}
+use Rattle.districts.specs.Number.{outcomeNumber, hadTurn, hadLast}
 use Rattle.answers.specs.Number.{oneNumber}
 use Rattle.answers.specs.Answer.{wordsOf, putFirst}
 use Rattle.machine_bytes.specs.MachineBytes.{districtsBytes, machineBytes, IsSized}

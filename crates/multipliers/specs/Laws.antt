@@ -1,8 +1,6 @@
 -- What is proved about the definitions.
 pub mod Tour
 pub mod Lay
-pub mod Price
-pub mod Bound
 pub mod Table
 pub mod Solve
 pub mod Root

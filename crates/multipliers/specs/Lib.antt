@@ -1,7 +1,5 @@
 pub mod Tour
 pub mod Prepared
-pub mod Price
-pub mod Priced
 pub mod Ascent
 pub mod Climbs
 -- What is proved about them.

@@ -12,7 +12,7 @@ use Rattle.postman.specs.Arborescence.{IsArborescence}
 use Rattle.postman.specs.Steps.{Plannable}
 use Rattle.residual_search.specs.Step.{State, cell}
 use Rattle.balance.specs.Balance.{balance}
-use Rattle.circuit.specs.Filled.{linksOf}
+use Rattle.tour_legs.specs.Filled.{linksOf}
 use Rattle.network.specs.declared.network.Network.{Network}
 use Rattle.required.specs.Contracts.{IsImbalance, IsRequiredFlags, IsComponents}
 use Rattle.network.specs.Network.{IsNetwork}

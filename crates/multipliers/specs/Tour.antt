@@ -10,7 +10,7 @@ use Rattle.postman.specs.PlanCall.{bestArborescence}
 use Rattle.residual_search.specs.Step.{cell}
 use Rattle.balance.specs.Balance.{balance}
 use Rattle.direct_amounts.specs.Direct.{direct}
-use Rattle.circuit.specs.Tour.{tour}
+use Rattle.tour_legs.specs.Tour.{tour}
 
 -- "The table is 64 rows of 64."
 unfoldable pub tableOf : Plan → List (List ℕ)

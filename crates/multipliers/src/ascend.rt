@@ -1,9 +1,9 @@
 // The multipliers that are answered: steps from the greatest ones on, of which the first with the largest bound is kept.
 // What is read at each step is lent: f are the amounts of the state of the required arcs; cost is R, and imbalance is D.
 // Steps for other crates, which ask something of their caller.
-use crate::bound::lagrangian;
-use crate::bound::larger;
 use balance::state::Balance;
+use lagrangian::bound::lagrangian;
+use lagrangian::bound::larger;
 use network::network::Network;
 use plan::Plan;
 use residual_search::entries::lesser;

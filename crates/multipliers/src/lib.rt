@@ -1,4 +1,3 @@
 // The multipliers that are answered, and the bound that they give.
 pub mod ascend; // the multipliers that are answered
-pub mod bound; // L(u)
 pub mod prepare; // the state of the required arcs

@@ -21,7 +21,7 @@ pub fn base_state(plan: Plan, table: &[[u32; 64]; 64], vs: &[u8]) -> Balance
     let mut numbers = [0u16; 256];
     let mut tails = [0u8; 526];
     let mut heads = [0u8; 526];
-    let c = circuit::legs::gather(plan, &mut numbers, &mut tails, &mut heads);
+    let c = tour_legs::legs::gather(plan, &mut numbers, &mut tails, &mut heads);
     let none = balance::state::empty();
     balance::state::add_all(none, table, vs, &tails[..c], &heads[..c])
 }

@@ -1,6 +1,3 @@
 -- What is proved about the definitions.
-pub mod Idle
-pub mod Refused
-pub mod Call
-pub mod Chain
 pub mod LongFile
+pub mod Whole

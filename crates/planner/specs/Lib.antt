@@ -1,5 +1,4 @@
-pub mod Refusals
-pub mod Refused
+-- What the plan call answers.
 pub mod Contract
 -- What is proved about them.
 pub mod Laws

@@ -21,7 +21,7 @@ use Rattle.held_file.specs.Held.{fileIn}
 use Rattle.open_plan.specs.Theorem.{history-more}
 use Rattle.open_plan.specs.Laws.History.{stands-for}
 use Rattle.open_plan_bytes.specs.StateBytes.{openIn}
-use Rattle.state_exports.specs.Editing.{IsExportedOpen, IsExportedMove}
+use Rattle.open_plan_exports.specs.Editing.{IsExportedOpen, IsExportedMove}
 use Rattle.promises.specs.HistoryTheorem.{RanLent, numberOf, Holds, lent-step, run-holds, opening-holds}
 use Rattle.promises.specs.Slices.{Slices, IsCalledAt, IsAsked, LeaveOneAnswer}
 use Rattle.promises.specs.Laws.OneAnswer.{one-answer-at}

@@ -9,23 +9,23 @@ use Rattle.postman.specs.Refusal.{given}
 use Rattle.postman.specs.PlanFile.{planOf}
 use Rattle.postman.specs.PlanCall.{sheetPlaces, bestCost}
 use Rattle.judge.specs.Contract.{judgedAnswer}
-use Rattle.districts.specs.declared.machine.Machine.{Machine}
-use Rattle.districts.specs.declared.enter.Admission.the-variants.{At}
-use Rattle.districts.specs.declared.enter.Entered.{Entered}
+use Rattle.district_machine.specs.declared.machine.Machine.{Machine}
+use Rattle.district_entry.specs.declared.enter.Admission.the-variants.{At}
+use Rattle.district_entry.specs.declared.enter.Entered.{Entered}
 use Rattle.districts.specs.declared.turn.Outcome.the-variants.{Empty, ShortSheet, Unfinished, Finished}
 use Rattle.districts.specs.declared.turn.Turned.{Turned}
 use Rattle.postman.specs.Districts.{District, Line, entryRefusal, lowestFree, total, finishes}
 use Rattle.postman.specs.DistrictRuns.{Event, run, turnsIn, turnsOf, lastEntry, turnsSince}
-use Rattle.districts.specs.Machine.{lineOf}
-use Rattle.districts.specs.Number.{admissionNumber}
-use Rattle.districts.specs.Entered.{IsEntered}
+use Rattle.district_machine.specs.Machine.{lineOf}
+use Rattle.district_entry.specs.Admitted.{admissionNumber}
+use Rattle.district_entry.specs.Entered.{IsEntered}
 use Rattle.districts.specs.Turned.{IsTurned}
 use Rattle.districts.specs.Led.{Led}
 use Rattle.promises.specs.PlanCall.{Call}
 use Rattle.promises.specs.Judging.{Judging}
 
--- `Led es m`: the calls es, the latest first, accepted or not, lead from the empty machine to m. `districts` `empty`, `enter` and `turn`
--- ensure what each step asks for, of any machine.
+-- `Led es m`: the calls es, the latest first, accepted or not, lead from the empty machine to m. `district_machine` `empty`,
+-- `district_entry` `enter` and `districts` `turn` ensure what each step asks for, of any machine.
 
 -- The machine's line is the run's: `run` puts an entry at the back, and takes the front district of an accepted turn away, finished, or
 -- to the back.

@@ -17,8 +17,8 @@ use Rattle.postman.specs.DistrictRuns.{run, lastEntry}
 use Rattle.answers.specs.Number.{oneNumber}
 use Rattle.answers.specs.Answer.{putFirst}
 use Rattle.open_plan_bytes.specs.StateBytes.{openBytes, openIn}
-use Rattle.state_exports.specs.Editing.{IsExportedOpen, IsExportedMove}
-use Rattle.state_exports.specs.Turns.{Call as MachineCall, eventsOf, IsExportedEntry, IsExportedTurn, LedLent}
+use Rattle.open_plan_exports.specs.Editing.{IsExportedOpen, IsExportedMove}
+use Rattle.district_exports.specs.Turns.{Call as MachineCall, eventsOf, IsExportedEntry, IsExportedTurn, LedLent}
 use Rattle.promises.specs.Slices.{Slices, HandsOver, IsAsked, LeaveOneAnswer}
 use Rattle.promises.specs.Departure.{CallAt}
 use Rattle.promises.specs.Exports.{LentCall}

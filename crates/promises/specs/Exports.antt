@@ -24,7 +24,7 @@ use Rattle.answers.specs.Number.{oneNumber}
 use Rattle.answers.specs.FileNumber.{packed}
 use Rattle.answers.specs.Count.{countOf}
 use Rattle.answers.specs.Answer.{IsHandedOver}
-use Rattle.exports.specs.Codec.{lentAfter, lentPlan}
+use Rattle.file_exports.specs.Codec.{lentAfter, lentPlan}
 use Rattle.exports.specs.Call.{IsExportedDeepCall}
 use Rattle.exports.specs.Cars.{Lent, IsExportedCars}
 use Rattle.promises.specs.Slices.{Slices, HandsOver, IsCalled, IsCalledAt, HasRoom, costIn, driveIn, LeaveOneAnswer, BuysLent}

@@ -17,9 +17,9 @@ use Rattle.open_plan.specs.Run.{Fits, StandsFor}
 use Rattle.open_plan.specs.Theorem.{history-more}
 use Rattle.open_plan.specs.Laws.History.{Stands, stands-for, refused-alike, after-stands, opening-stands}
 use Rattle.answers.specs.Number.{oneNumber}
-use Rattle.state_exports.specs.Editing.{moveRefusal, IsExportedOpen, IsExportedMove}
+use Rattle.open_plan_exports.specs.Editing.{moveRefusal, IsExportedOpen, IsExportedMove}
 use Rattle.open_plan_bytes.specs.StateBytes.{openBytes, openIn, stateBytes}
-use Rattle.state_exports.specs.Laws.Editing.{has-room}
+use Rattle.open_plan_exports.specs.Laws.Editing.{has-room}
 use Rattle.promises.specs.Laws.Opening.{zero-opened}
 use Rattle.promises.specs.Laws.Lent.{stands-sized, state-long, state-back}
 

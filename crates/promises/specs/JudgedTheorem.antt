@@ -28,7 +28,7 @@ use Rattle.two_cars.specs.Contract.{IsCar}
 use Rattle.deep_call.specs.Contract.{IsDeepCall}
 use Rattle.deep_call.specs.Theorem.{passes-the-judge}
 use Rattle.two_cars.specs.Laws.Own.{as-plan-call}
-use Rattle.districts.specs.declared.machine.Machine.{Machine}
+use Rattle.district_machine.specs.declared.machine.Machine.{Machine}
 use Rattle.districts.specs.declared.turn.Outcome.{Outcome}
 use Rattle.districts.specs.declared.turn.Turned.{Turned}
 use Rattle.postman.specs.Districts.{District, Line, finishes}
@@ -50,9 +50,9 @@ use Rattle.answers.specs.Laws.CarsNumber.{first-told, second-told}
 use Rattle.machine_bytes.specs.MachineBytes.{machineIn}
 use Rattle.open_plan_bytes.specs.StateBytes.{openBytes, openIn}
 use Rattle.exports.specs.Call.{IsExportedCall, IsExportedCallAt, IsExportedDeepCall}
-use Rattle.state_exports.specs.Editing.{IsExportedAsk}
+use Rattle.open_plan_exports.specs.Editing.{IsExportedAsk}
 use Rattle.exports.specs.Cars.{IsLeft, Lent, IsExportedCars}
-use Rattle.state_exports.specs.Turns.{IsExportedTurn, Call, eventsOf, LedLent}
+use Rattle.district_exports.specs.Turns.{IsExportedTurn, Call, eventsOf, LedLent}
 use Rattle.promises.specs.Laws.LentTurns.{lent-led}
 
 -- Judged on the file's plan, the list w costs c, whoever judges it by the contract of the judging call.

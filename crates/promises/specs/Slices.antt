@@ -7,11 +7,11 @@ use lib.ListN.{length, getD, take}
 use Rattle.postman.specs.Refusal.{unless}
 use Rattle.postman.specs.Windows.{Departure}
 use Rattle.refusal.specs.Verdict.{verdictNumber}
-use Rattle.circuit.specs.Tour.{written}
+use Rattle.tour_legs.specs.Tour.{written}
 use Rattle.solution.specs.declared.Planned.{Planned}
 use Rattle.answers.specs.Answer.{putFirst, IsHandedOver}
 use Rattle.exports.specs.Call.{IsExportedCall, IsExportedCallAt}
-use Rattle.state_exports.specs.Editing.{IsExportedAsk}
+use Rattle.open_plan_exports.specs.Editing.{IsExportedAsk}
 
 -- The slices of one call, at entry or at exit.
 pub record Slices : Type 0 where

@@ -6,7 +6,7 @@ use mathlib.Core.List.{List, [], _∷_}
 use Prim.Native.Nat.{ℕ, _+_}
 use lib.IntN.{ℤ, pos}
 use lib.Signed.{leZ}
-use Rattle.state_exports.specs.Turns.{Call, enters, turns}
+use Rattle.district_exports.specs.Turns.{Call, enters, turns}
 
 -- Whether a call is a turn that a district had: it answered 0 to 15.
 abbrev pub isTold : Call → Bool

@@ -17,26 +17,26 @@ use Rattle.solution.specs.declared.Planned.{Planned}
 use Rattle.solution.specs.SameAnswer.{SameAnswer}
 use Rattle.multipliers.specs.Ascent.{multipliersFor}
 use Rattle.postman.specs.Districts.{turnTrees, District, Line, entryRefusal, lowestFree, total, finishes}
-use Rattle.districts.specs.declared.machine.District.{District as DistrictRecord}
-use Rattle.districts.specs.declared.machine.Machine.{Machine}
+use Rattle.district_machine.specs.declared.machine.District.{District as DistrictRecord}
+use Rattle.district_machine.specs.declared.machine.Machine.{Machine}
 use Rattle.districts.specs.declared.turn.Outcome.{Outcome}
 use Rattle.districts.specs.declared.turn.Outcome.the-variants.{Finished}
 use Rattle.districts.specs.declared.turn.Turned.{Turned}
 use Rattle.postman.specs.DistrictRuns.{Event, turned, run, isTurn, lastEntry, turnsSince}
-use Rattle.districts.specs.Machine.{districtOf, bytesOf, waitingIn, lineOf, emptyMachine}
+use Rattle.district_machine.specs.Machine.{districtOf, bytesOf, waitingIn, lineOf, emptyMachine}
 use Rattle.districts.specs.Number.{outcomeNumber, hadTurn, hadLast}
-use Rattle.districts.specs.Entered.{afterEntry}
+use Rattle.district_entry.specs.Entered.{afterEntry}
 use Rattle.districts.specs.Turned.{Meeting, nobody, shortSheet, meeting, afterTurn, outcomeOf, answerOf, sheetAfter}
 use Rattle.districts.specs.Served.{IsServed}
 use Rattle.districts.specs.Theorem.{run-line, drained, as-entered, IsRoundedUp, last-turn, served, finished-as-plan-call}
 use Rattle.districts.specs.Laws.Runs.{run-kept, waits-run, waits-in}
-use Rattle.districts.specs.Laws.Line.{waits-short}
+use Rattle.district_entry.specs.Laws.Line.{waits-short}
 use Rattle.districts.specs.Laws.Turned.{empty-met, line-short-met}
 use Rattle.answers.specs.Number.{oneNumber}
 use Rattle.answers.specs.Answer.{wordsOf, putFirst}
 use Rattle.exports.specs.Call.{IsExportedCall}
 use Rattle.machine_bytes.specs.MachineBytes.{districtsBytes, machineIn, machineBytes}
-use Rattle.state_exports.specs.Turns.{IsExportedEntry, IsExportedTurn, Call, turns, eventsOf, LentTurn, LedLent}
+use Rattle.district_exports.specs.Turns.{IsExportedEntry, IsExportedTurn, Call, turns, eventsOf, LentTurn, LedLent}
 use Rattle.promises.specs.Told.{isTold, turnsTold, NeverTold}
 use Rattle.promises.specs.Laws.ToldTurns.{turn-told, turns-counted, never-of}
 use Rattle.machine_bytes.specs.MachineStored.{IsTurnHandedOver}

@@ -13,7 +13,7 @@ use Rattle.postman.specs.Renumbering.{numberIn, renumbered}
 use Rattle.postman.specs.Component.{componentCount}
 use Rattle.postman.specs.Arborescence.{arborescenceCount}
 use Rattle.postman.specs.PlanCall.{Summary, bestCost, lowerBound, triedCount}
-use Rattle.tree_count.specs.Matrix.{cap}
+use Rattle.small_counts.specs.Matrix.{cap}
 use Rattle.multipliers.specs.Ascent.{multipliersFor}
 use Rattle.multipliers.specs.Tour.{tourOf}
 use Rattle.renumbering.specs.declared.numbering.Numbering.{Numbering}

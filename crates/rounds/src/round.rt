@@ -23,7 +23,7 @@ ghost use mathlib.Core.Option.{none};
 ghost use Prim.Native.Nat.{_-_, _%_, _≤_};
 ghost use lib.Dec.{eqb, leb};
 ghost use Rattle.plan.specs.Records.{planValue};
-ghost use Rattle.planner.specs.Refusals.{planRefusal};
+ghost use Rattle.call_steps.specs.Refusals.{planRefusal};
 ghost use Rattle.renumbering.specs.Renumbered.{carriedIn, Inside};
 ghost use Rattle.rounds.specs.Rounds.{withDrive, withFloor, withBase, counted, nextKept, keptAfter};
 ghost use Rattle.rounds.specs.Tabled.{HasTable, GoesOn};

@@ -1,4 +1,5 @@
 // Least weights from all vertices at once: in place 64 v + i stands what is known of the weight from i to v, so that an arc is relaxed for all sources side by side.
+use crate::weights::NO_PATH;
 use crate::weights::arc_weight;
 use crate::weights::shorter;
 use plan::Plan;
@@ -11,9 +12,6 @@ ghost use Rattle.shortest.specs.Weight.{weighted};
 ghost use Rattle.shortest.specs.Relaxation.{relaxArcs, startRow};
 ghost use Rattle.shortest.specs.Columns.{rowFrom, relaxBy, areSame};
 ghost use Rattle.shortest.specs.Contracts.{IsRow};
-
-// "4,294,967,295 stands for no path".
-const NO_PATH: u32 = 4294967295;
 
 // An arc of weight w from t to h relaxed, for every source.
 fn relax_all(c: &mut [u32; 4096], t: usize, h: usize, w: u32)

@@ -1,6 +1,7 @@
 // Distances of a plan: a 64th of the least weights, rounded down.
 // Steps for other crates, which ask something of their caller.
 use crate::weights;
+use crate::weights::NO_PATH;
 use plan::Plan;
 ghost use mathlib.Core.Path.{_≡_};
 ghost use Prim.Native.Nat.{_<_};
@@ -8,9 +9,6 @@ ghost use Rattle.postman.specs.Plan.{WellFormed};
 ghost use Rattle.plan.specs.Records.{planValue};
 ghost use Rattle.shortest.specs.Weight.{unweighted};
 ghost use Rattle.shortest.specs.Contracts.{IsRow, IsTable, AreCosts, AreTableCosts};
-
-// "4,294,967,295 stands for no path".
-const NO_PATH: u32 = 4294967295;
 
 // The cost of a lightest path, by its weight.
 fn cost_of(weight: u32) -> u32

@@ -16,7 +16,7 @@ ghost use Rattle.shortest.specs.Relaxation.{weight, shorter as «capped-
 ghost use Rattle.shortest.specs.Contracts.{IsRow, AreWeights};
 
 // "4,294,967,295 stands for no path".
-const NO_PATH: u32 = 4294967295;
+pub(crate) const NO_PATH: u32 = 4294967295;
 
 // What an arc adds to a path: a closed arc leads nowhere.
 pub(crate) fn arc_weight(a: Arc) -> u32

@@ -4,7 +4,7 @@ use mathlib.Core.List.{List}
 use Prim.Native.Nat.{ℕ, min}
 use Rattle.postman.specs.Plan.{Plan}
 use Rattle.postman.specs.Arborescence.{arborescenceCount}
-use Rattle.tree_count.specs.Matrix.{cap}
+use Rattle.small_counts.specs.Matrix.{cap}
 use Rattle.tree_bounds.specs.Prepared.{Prepared}
 use Rattle.branches.specs.Branches.{IsRoot}
 use Rattle.solution.specs.declared.trees.Begun.{Begun}

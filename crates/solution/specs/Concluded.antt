@@ -10,7 +10,7 @@ use Rattle.postman.specs.Plan.{Plan}
 use Rattle.postman.specs.Link.{Link}
 use Rattle.postman.specs.Component.{componentCount}
 use Rattle.postman.specs.LagrangianBound.{lagrangianBound}
-use Rattle.circuit.specs.Tour.{written}
+use Rattle.tour_legs.specs.Tour.{written}
 use Rattle.branches.specs.Links.{linksIn}
 use Rattle.search.specs.declared.tried.Searched.{Searched}
 use Rattle.refusal.specs.declared.Verdict.the-variants.{Accepted}

@@ -12,7 +12,7 @@ use Rattle.postman.specs.LagrangianBound.{Multipliers, AreMultipliers, AreGreat
 use Rattle.postman.specs.PlanCall.{Summary, summary, fields, root, IsAnswerTour}
 use Rattle.postman.specs.Guarantee.{Guarantee}
 use Rattle.postman.specs.Steps.{Plannable}
-use Rattle.circuit.specs.Tour.{written}
+use Rattle.tour_legs.specs.Tour.{written}
 use Rattle.solution.specs.declared.Planned.{Planned}
 use Rattle.refusal.specs.Verdict.{verdictNumber}
 use Rattle.multipliers.specs.Tour.{tourOf}

@@ -17,7 +17,7 @@ ghost use Rattle.balance.specs.Records.{stateOf};
 ghost use Rattle.network.specs.Network.{IsNetwork};
 ghost use Rattle.postman.specs.Arborescence.{arborescences, arborescenceCount};
 ghost use Rattle.postman.specs.PlanCall.{triedCount, bestCost, bestArborescence};
-ghost use Rattle.tree_count.specs.Matrix.{cap};
+ghost use Rattle.small_counts.specs.Matrix.{cap};
 ghost use Rattle.search.specs.Contracts.{IsExplored, IsSearched};
 ghost use Rattle.branches.specs.Holding.{IsShort};
 ghost use Rattle.multipliers.specs.Prepared.{IsBase};

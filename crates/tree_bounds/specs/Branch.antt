@@ -9,7 +9,7 @@ use Rattle.postman.specs.Plan.{Plan}
 use Rattle.postman.specs.Link.{Link}
 use Rattle.postman.specs.Component.{component, componentCount}
 use Rattle.postman.specs.Arborescence.{candidates}
-use Rattle.tree_count.specs.Arrival.{renamed, isTree}
+use Rattle.small_counts.specs.Arrival.{renamed, isTree}
 
 -- the component that a link comes from, by its new name
 abbrev pub sourceBy : Plan → (ℕ → ℕ) → Link → ℕ

@@ -1,11 +1,11 @@
 // The call for two cars: the file's refusals reach both; the table of distances is built once, from the file's plan, and lent to both.
 use crate::TwoPlanned;
-use crate::marks::car_plan;
-use crate::marks::has_bad_mark;
+use call_steps::steps::lent_verdict;
+use call_steps::steps::plan_tabled;
+use call_steps::steps::refused;
+use car_marks::marks::car_plan;
+use car_marks::marks::has_bad_mark;
 use plan::Plan;
-use planner::call::lent_verdict;
-use planner::call::plan_tabled;
-use planner::call::refused;
 use refusal::Refusal;
 use refusal::Verdict;
 use solution::Planned;

@@ -1,6 +1,5 @@
 // Two cars on the streets of one plan, each with its own must arcs.
 pub mod call; // the call for two cars
-mod marks; // a car's marks, and its plan
 
 use solution::Planned;
 

@@ -16,7 +16,8 @@ use Rattle.planner.specs.Contract.{IsPlanCall}
 use Rattle.solution.specs.SameAnswer.{SameAnswer}
 use Rattle.solution.specs.RaisedBudget.{Buys}
 use Rattle.planner.specs.Theorem.{raised-budget}
-use Rattle.planner.specs.Laws.Call.{planned-as, is-call}
+use Rattle.call_steps.specs.Laws.Call.{planned-as}
+use Rattle.planner.specs.Laws.Whole.{is-call}
 use Rattle.solution.specs.Laws.SameAnswer.{same-answer}
 use Rattle.windows.specs.Contract.{IsPlanCallAt}
 use Rattle.windows.specs.Laws.Call.{is-call-at}

@@ -1,8 +1,8 @@
 // The plan call at a departure: the refusals in their order, then the answer of the plan with the shut arcs closed.
+use call_steps::steps::lent_verdict;
+use call_steps::steps::plan_read;
+use call_steps::steps::refused;
 use plan::Plan;
-use planner::call::lent_verdict;
-use planner::call::plan_read;
-use planner::call::refused;
 use refusal::Refusal;
 use refusal::Verdict;
 use shut_arcs::limits::has_bad_window;

@@ -21,11 +21,11 @@ use Rattle.residual_search.specs.Step.{State, cell, add, addAll, arcsOf}
 use Rattle.balance.specs.Invariant.{Metric, Certified, Counted}
 use Rattle.balance.specs.Laws.Arcs.{all-counted}
 use Rattle.direct_amounts.specs.Laws.Plan.{balance-counted, balance-room}
-use Rattle.tree_count.specs.Recursion.{merged}
-use Rattle.tree_count.specs.Matrix.{entriesOf, AreFew, AreCounts}
-use Rattle.tree_count.specs.Arrival.{renamed}
-use Rattle.tree_count.specs.Laws.Matrix.{few-merged}
-use Rattle.tree_count.specs.Laws.Recursion.{occurrences-renamed}
+use Rattle.small_counts.specs.Recursion.{merged}
+use Rattle.small_counts.specs.Matrix.{entriesOf, AreFew, AreCounts}
+use Rattle.small_counts.specs.Arrival.{renamed}
+use Rattle.small_counts.specs.Laws.Matrix.{few-merged}
+use Rattle.small_counts.specs.Laws.Recursion.{occurrences-renamed}
 use Rattle.branches.specs.declared.branch.Branch.{Branch}
 use Rattle.branches.specs.Links.{linksIn}
 use Rattle.tree_bounds.specs.Branch.{sourceBy, renamedBy, sourcesBy, Named}

@@ -7,8 +7,8 @@ use native.Mathlib.Decide.{ℕ-discrete}
 use native.Mathlib.Omega.{arith}
 use lib.ListN.{length, getD, set, length-set}
 use lib.Seq.{getD-set-same, getD-set-other}
-use Rattle.tree_count.specs.Arrival.{renamed}
-use Rattle.tree_count.specs.Laws.Arrival.{renamed-same, renamed-moved}
+use Rattle.small_counts.specs.Arrival.{renamed}
+use Rattle.small_counts.specs.Laws.Arrival.{renamed-same, renamed-moved}
 
 pub record AreRenamed (a x : ℕ) (names : List ℕ) (n : ℕ) (r : List ℕ) : Type 0 where
   pub size : length r ≡ 8

@@ -24,7 +24,7 @@ use Rattle.postman.specs.Laws.Lists.{map-cong}
 use Rattle.residual_search.specs.Step.{State, cell, arcsOf}
 use Rattle.balance.specs.Invariant.{Certified, Counted}
 use Rattle.balance.specs.Laws.Repriced.{repriced}
-use Rattle.tree_count.specs.Matrix.{entriesOf, AreFew, AreCounts}
+use Rattle.small_counts.specs.Matrix.{entriesOf, AreFew, AreCounts}
 use Rattle.branches.specs.declared.branch.Branch.{Branch}
 use Rattle.branches.specs.Links.{linksIn}
 use Rattle.tree_bounds.specs.Branch.{sourceBy, sourcesBy, Named}

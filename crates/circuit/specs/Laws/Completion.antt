@@ -21,16 +21,16 @@ use Rattle.postman.specs.Laws.Required.{required-lt}
 use Rattle.postman.specs.Laws.TourCost.{tour-cost}
 use Rattle.paths.specs.ShortestPath.{shortestPath}
 use Rattle.paths.specs.Laws.ShortestPath.{shortest-path}
-use Rattle.circuit.specs.Legs.{amount, units, legTails, legHeads, Completes}
-use Rattle.circuit.specs.Tour.{placesOf, tourBy, tour, ArePaths, HavePaths, IsCompletion}
+use Rattle.tour_legs.specs.Legs.{amount, units, legTails, legHeads, Completes}
+use Rattle.tour_legs.specs.Tour.{placesOf, tourBy, tour, ArePaths, HavePaths, IsCompletion}
 use Rattle.hierholzer.specs.Circuit.{circuit}
 use Rattle.hierholzer.specs.Eulerian.{Eulerian}
-use Rattle.circuit.specs.Filled.{Laid}
-use Rattle.circuit.specs.Laws.Legs.{leg-at, leg-ends, legs-length, eulerian}
-use Rattle.circuit.specs.Laws.Laid.{prefix-length}
-use Rattle.circuit.specs.Laws.Few.{few-others, few-numbers}
+use Rattle.tour_legs.specs.Filled.{Laid}
+use Rattle.tour_legs.specs.Laws.Legs.{leg-at, leg-ends, legs-length, eulerian}
+use Rattle.tour_legs.specs.Laws.Laid.{prefix-length}
+use Rattle.tour_legs.specs.Laws.Few.{few-others, few-numbers}
 use Rattle.circuit.specs.Laws.Description.{is-laid}
-use Rattle.circuit.specs.Laws.Tour.{legs-count, is-tour, plain-cost, tour-length, tour-first}
+use Rattle.tour_legs.specs.Laws.Tour.{legs-count, is-tour, plain-cost, tour-length, tour-first}
 
 module _ (p : Plan) (ok : WellFormed p) (linked : T (not (isCutOff p))) where
   pub has-path : {i j : ℕ} → List·Memᴰ i (required p) → List·Memᴰ j (required p) → distance p i j < noPath

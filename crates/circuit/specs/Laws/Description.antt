@@ -23,11 +23,11 @@ use Rattle.postman.specs.Laws.FewestPath.{fewest-once}
 use Rattle.postman.specs.Laws.Assignment.{weight}
 use Rattle.postman.specs.Laws.LinkLegs.{ends}
 use Rattle.hierholzer.specs.Laws.Lists.{upFrom-append}
-use Rattle.circuit.specs.Laws.Units.{units-pair}
-use Rattle.circuit.specs.Legs.{amount, units, legTails, legHeads, Completes}
-use Rattle.circuit.specs.Tour.{placesOf, tourBy, ArePaths}
-use Rattle.circuit.specs.Laws.Legs.{leg-at, leg-ends}
-use Rattle.circuit.specs.Laws.Tour.{sum-by, sum-le, sum-map-append, noLink, numbers, others, at-other, legs-count, places, places-arc, places-other, legs-sum, order, order-circuit, order-lt, leg-path}
+use Rattle.tour_legs.specs.Laws.Units.{units-pair}
+use Rattle.tour_legs.specs.Legs.{amount, units, legTails, legHeads, Completes}
+use Rattle.tour_legs.specs.Tour.{placesOf, tourBy, ArePaths}
+use Rattle.tour_legs.specs.Laws.Legs.{leg-at, leg-ends}
+use Rattle.tour_legs.specs.Laws.Tour.{sum-by, sum-le, sum-map-append, noLink, others, at-other, places, places-arc, places-other, legs-sum, order, order-circuit, order-lt, leg-path}
 
 -- ---- a list of lists, one after the other
 

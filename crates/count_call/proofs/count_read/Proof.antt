@@ -1,7 +1,7 @@
 -- The network's refusal is the plan's.
 use Rattle.postman.specs.Refusal.{answer}
 use Rattle.postman.specs.TreeCount.{treeCount}
-use Rattle.planner.specs.Laws.Call.{measured-refusal}
+use Rattle.call_steps.specs.Laws.Call.{measured-refusal}
 use Rattle.plan.specs.Records.{planValue}
 use mathlib.Core.Option.{Option}
 use mathlib.Core.Path.{ap, _∙_}

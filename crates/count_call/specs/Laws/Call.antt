@@ -20,8 +20,8 @@ use Rattle.postman.specs.TreeCount.{counted, treeCount, countConditions, countR
 use Rattle.postman.specs.Laws.Tests.{eqb-other}
 use Rattle.postman.specs.Laws.Refusal.{first-on, first-stop, accepted-cons, cons-accepted, accepted-append, append-accepted}
 use Rattle.postman.specs.Laws.TreeCount.{counted-above}
-use Rattle.planner.specs.Refusals.{networkRefusal, planRefusal}
-use Rattle.planner.specs.Laws.Idle.{idle}
+use Rattle.call_steps.specs.Refusals.{networkRefusal, planRefusal}
+use Rattle.call_steps.specs.Laws.Idle.{idle}
 
 pub counted-capped : (n : ℕ) → counted (min n 4294967296) ≡ counted n
 counted-capped n = elim (decLe n 4294967295) [

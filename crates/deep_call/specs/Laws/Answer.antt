@@ -31,7 +31,7 @@ use Rattle.postman.specs.Laws.RenumberedDrive.{tour-back}
 use Rattle.multipliers.specs.Ascent.{multipliersFor}
 use Rattle.multipliers.specs.Tour.{tourOf}
 use Rattle.multipliers.specs.Laws.Tour.{answer-tour}
-use Rattle.circuit.specs.Tour.{written}
+use Rattle.tour_legs.specs.Tour.{written}
 use Rattle.refusal.specs.Verdict.{verdictNumber}
 use Rattle.solution.specs.declared.Planned.{Planned}
 use Rattle.solution.specs.Planned.{summaryOf, multipliersOf, countUnless, IsPlanned}

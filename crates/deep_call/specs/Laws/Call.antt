@@ -23,9 +23,9 @@ use Rattle.plan_file.specs.Reading.{IsReading}
 use Rattle.plan_file.specs.Laws.Reading.{accepted-value}
 use Rattle.solution.specs.declared.Planned.{Planned}
 use Rattle.solution.specs.Planned.{countUnless}
-use Rattle.planner.specs.Refusals.{planRefusal}
-use Rattle.planner.specs.Refused.{refusedWith}
-use Rattle.planner.specs.Laws.Call.{parts-refusal}
+use Rattle.call_steps.specs.Refusals.{planRefusal}
+use Rattle.call_steps.specs.Refused.{refusedWith}
+use Rattle.call_steps.specs.Laws.Call.{parts-refusal}
 use Rattle.deep_call.specs.Refusals.{highestRounds, roundConditions, earlierConditionsIn, deepRefusal}
 use Rattle.deep_call.specs.Contract.{multipliersUnless, IsDeep, IsDeepCall}
 

@@ -22,7 +22,7 @@ use Rattle.postman.specs.Laws.Acceptance.{before-accepted, file-accepted}
 use Rattle.postman.specs.Steps.{Plannable}
 use Rattle.multipliers.specs.Ascent.{multipliersFor}
 use Rattle.multipliers.specs.Tour.{tourOf}
-use Rattle.circuit.specs.Tour.{written}
+use Rattle.tour_legs.specs.Tour.{written}
 use Rattle.refusal.specs.Verdict.{verdictNumber}
 use Rattle.solution.specs.declared.Planned.{Planned}
 use Rattle.solution.specs.Planned.{summaryOf, countUnless, IsPlanned}

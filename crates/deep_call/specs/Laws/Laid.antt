@@ -11,10 +11,10 @@ use lib.Signed.{leZ}
 use Rattle.postman.specs.Plan.{Plan, WellFormed}
 use Rattle.postman.specs.Component.{componentCount}
 use Rattle.postman.specs.Laws.RenumberedComponents.{count-renumbered}
-use Rattle.circuit.specs.Tour.{written}
+use Rattle.tour_legs.specs.Tour.{written}
 use Rattle.multipliers.specs.Tour.{tourOf}
 use Rattle.refusal.specs.declared.Verdict.the-variants.{Accepted}
-use Rattle.planner.specs.Refusals.{planRefusal}
+use Rattle.call_steps.specs.Refusals.{planRefusal}
 use Rattle.held_tree.specs.declared.laid.Laid.{Laid}
 use Rattle.rounds.specs.declared.kept.Kept.{Kept}
 use Rattle.rounds.specs.Rounds.{under, isClosed, keptAfter, kept, deepSummary, deepTour}

@@ -17,7 +17,7 @@ use Rattle.residual_search.specs.Step.{State, cell}
 use Rattle.balance.specs.Balance.{balance}
 use Rattle.balance.specs.Invariant.{AllIn}
 use Rattle.direct_amounts.specs.Laws.Plan.{balance-least}
-use Rattle.circuit.specs.Filled.{linksOf}
+use Rattle.tour_legs.specs.Filled.{linksOf}
 use Rattle.multipliers.specs.Tour.{tableOf}
 use Rattle.multipliers.specs.Prepared.{IsBase, IsTree}
 use Rattle.multipliers.specs.Laws.Tour.{agrees}

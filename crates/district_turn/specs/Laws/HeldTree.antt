@@ -1,20 +1,19 @@
 -- Links that pass the test are an arborescence of the plan, and those of an arborescence pass it. The sets hold one source each, so that going back is the same by the sets and by the links.
 use mathlib.Core.Path.{_≡_, refl, sym, ap, _∙_, subst, subst⁻¹}
-use mathlib.Core.Bool.{Bool, true, false}
+use mathlib.Core.Bool.{Bool, true}
 use mathlib.Core.List.{List, [], _∷_, List·Memᴰ}
-use Prim.Native.Nat.{ℕ, zero, suc, _+_, _-_, _*_, _%_, _^_, _≤_, _<_}
+use Prim.Native.Nat.{ℕ, zero, suc, _-_, _%_, _^_, _≤_, _<_}
 use native.Mathlib.Omega.{arith}
 use lib.ListN.{length, getD, take, length-take}
 use lib.Dec.{T}
 use Rattle.postman.specs.Lists.{iterate}
 use Rattle.postman.specs.Plan.{Plan, WellFormed}
-use Rattle.postman.specs.Link.{Link, links, isHeld}
-use Rattle.postman.specs.Laws.Link.{link}
+use Rattle.postman.specs.Link.{Link, links}
+use Rattle.postman.specs.Laws.Link.{link, held-mem, mem-held, link-ends}
 use Rattle.postman.specs.Required.{required}
 use Rattle.postman.specs.Component.{component, componentCount}
 use Rattle.postman.specs.Arborescence.{linkAt, parent, Enters, IsArborescence}
 use Rattle.postman.specs.Laws.Tests.{of-true, is-true}
-use Rattle.postman.specs.Laws.Link.{held-mem, mem-held, link-ends}
 use Rattle.postman.specs.Laws.Required.{required-lt}
 use Rattle.postman.specs.Laws.Component.{component-lt}
 use Rattle.postman.specs.Laws.Distance.{InPlan, bounded}
@@ -22,9 +21,8 @@ use Rattle.postman.specs.Laws.Iteration.{settle}
 use Rattle.required.specs.Contracts.{IsLinks, IsComponents}
 use Rattle.arborescence.specs.BitSet.{Has, has-single, single-has}
 use Rattle.arborescence.specs.Laws.Reach.{Arrives, reached-arrives, arrives-reaches, same-steps}
-use Rattle.circuit.specs.Filled.{linksOf}
-use Rattle.circuit.specs.Laws.Laid.{links-length}
-use Rattle.multipliers.specs.Prepared.{IsTree}
+use Rattle.tour_legs.specs.Filled.{linksOf}
+use Rattle.tour_legs.specs.Laws.Laid.{links-length}
 use Rattle.solution.specs.Resumed.{HoldsTree}
 use Rattle.district_turn.specs.Tree.{IsEntry, sourceSet, IsHeldTree}
 

@@ -29,12 +29,12 @@ use Rattle.district_turn.specs.Stint.{sameLinks, isTree, isHolding, isRe
 use Rattle.district_turn.specs.declared.stint.Stint.{Stint}
 use Rattle.postman.specs.Steps.{Plannable}
 use Rattle.required.specs.Contracts.{IsLinks, IsComponents}
-use Rattle.circuit.specs.Filled.{linksOf}
-use Rattle.circuit.specs.Laws.Laid.{links-tails, links-heads}
+use Rattle.tour_legs.specs.Filled.{linksOf}
+use Rattle.tour_legs.specs.Laws.Laid.{links-tails, links-heads}
 use Rattle.branches.specs.Links.{linksIn}
 use Rattle.branches.specs.Progress.{Held, held}
 use Rattle.multipliers.specs.Laws.Lay.{arcs-links}
-use Rattle.circuit.specs.Tour.{written}
+use Rattle.tour_legs.specs.Tour.{written}
 use Rattle.multipliers.specs.Tour.{driveOf}
 use Rattle.solution.specs.Concluded.{concluded}
 use Rattle.solution.specs.Laws.Answer.{tree-small}

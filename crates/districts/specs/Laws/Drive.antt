@@ -17,25 +17,25 @@ use Rattle.postman.specs.PlanCall.{sheetPlaces, highestBudget, triedCount}
 use Rattle.postman.specs.Laws.Acceptance.{file-accepted}
 use Rattle.postman.specs.Steps.{Plannable}
 use Rattle.postman.specs.Laws.Tests.{and-parts, of-true, is-true}
-use Rattle.circuit.specs.Tour.{written}
+use Rattle.tour_legs.specs.Tour.{written}
 use Rattle.multipliers.specs.Tour.{driveOf}
 use Rattle.multipliers.specs.Laws.Tour.{tree-tour}
-use Rattle.planner.specs.Refusals.{planRefusal}
-use Rattle.planner.specs.Laws.Call.{parts-refusal}
+use Rattle.call_steps.specs.Refusals.{planRefusal}
+use Rattle.call_steps.specs.Laws.Call.{parts-refusal}
 use Rattle.solution.specs.declared.Planned.{Planned}
 use Rattle.solution.specs.declared.trees.Reached.{Reached}
 use Rattle.solution.specs.Resumed.{linksBy, heldAfter}
 use Rattle.solution.specs.Laws.Resumed.{IsPriced, on-priced}
 use Rattle.district_turn.specs.Stint.{isHolding, isResumable, canGoOn, isLast, lastAnswer, lastSheet}
 use Rattle.district_turn.specs.Laws.Stint.{held-priced}
-use Rattle.districts.specs.declared.machine.District.{District as DistrictRecord}
-use Rattle.districts.specs.declared.machine.Machine.{Machine}
+use Rattle.district_machine.specs.declared.machine.District.{District as DistrictRecord}
+use Rattle.district_machine.specs.declared.machine.Machine.{Machine}
 use Rattle.districts.specs.declared.turn.Turned.{Turned}
-use Rattle.districts.specs.Machine.{bytesOf, waitingIn}
+use Rattle.district_machine.specs.Machine.{bytesOf, waitingIn}
 use Rattle.districts.specs.Number.{hadLast}
 use Rattle.districts.specs.Turned.{planBy, hasOwnPlace, isReadable, canBeServed, Meeting, shortSheet, stuck, goesOn, leaves, meetingIn, meeting, outcomeOf, answerOf, sheetAfter, IsTurned}
 use Rattle.districts.specs.Finished.{HoldsDrive}
-use Rattle.districts.specs.Laws.Line.{plan-ok}
+use Rattle.district_entry.specs.Laws.Line.{plan-ok}
 
 good-none : (o : Option ℕ) → T (isGood o) → o ≡ none
 unfolding isGood

@@ -13,15 +13,16 @@ use Rattle.solution.specs.declared.Planned.{Planned}
 use Rattle.planner.specs.Contract.{IsPlanCall}
 use Rattle.solution.specs.Planned.{IsPlanned}
 use Rattle.solution.specs.SameAnswer.{SameAnswer}
-use Rattle.planner.specs.Laws.Call.{file-good, sheet-long, budget-good, planned-as}
+use Rattle.call_steps.specs.Laws.Call.{sheet-long, budget-good, planned-as}
+use Rattle.planner.specs.Laws.Whole.{file-good}
 use Rattle.solution.specs.Laws.SameAnswer.{same-answer}
 use Rattle.district_turn.specs.Stint.{soFar}
 use Rattle.district_turn.specs.Laws.Clash.{clash}
-use Rattle.districts.specs.declared.machine.District.{District as DistrictRecord}
-use Rattle.districts.specs.declared.machine.Machine.{Machine}
+use Rattle.district_machine.specs.declared.machine.District.{District as DistrictRecord}
+use Rattle.district_machine.specs.declared.machine.Machine.{Machine}
 use Rattle.districts.specs.declared.turn.Turned.{Turned}
 use Rattle.postman.specs.Districts.{District, Line, finishes}
-use Rattle.districts.specs.Machine.{bytesOf, districtOf, waitingIn, lineOf}
+use Rattle.district_machine.specs.Machine.{bytesOf, districtOf, waitingIn, lineOf}
 use Rattle.districts.specs.Turned.{Meeting, outcomeOf, answerOf, sheetAfter, IsTurned}
 use Rattle.districts.specs.Served.{IsServed}
 use Rattle.districts.specs.Laws.Sound.{IsUnderWay, IsSound, cost-now, tried-now, last-planned, Met, no-one, too-short, going, last}

@@ -10,17 +10,17 @@ use lib.ListN.{length, length-append}
 use lib.Dec.{eqb, ltb}
 use Rattle.postman.specs.PlanCall.{sheetPlaces}
 use Rattle.postman.specs.Laws.Lists.{map-append}
-use Rattle.districts.specs.declared.machine.District.{District as DistrictRecord}
-use Rattle.districts.specs.declared.machine.Machine.{Machine}
+use Rattle.district_machine.specs.declared.machine.District.{District as DistrictRecord}
+use Rattle.district_machine.specs.declared.machine.Machine.{Machine}
 use Rattle.postman.specs.Districts.{District, Line, enter, goneOn, finishes, turn, isAccepted}
 use Rattle.postman.specs.DistrictRuns.{Event, entry, turned, step, runFrom, run, servesPlace}
-use Rattle.districts.specs.Machine.{districtOf, waitingIn, lineOf, emptyMachine}
+use Rattle.district_machine.specs.Machine.{districtOf, waitingIn, lineOf, emptyMachine}
 use Rattle.districts.specs.Number.{hadTurn, isOf}
-use Rattle.districts.specs.Entered.{afterEntry}
+use Rattle.district_entry.specs.Entered.{afterEntry}
 use Rattle.districts.specs.Turned.{Meeting, leaves, meeting, heldNow, reachedNow, afterTurn, outcomeOf}
 use Rattle.districts.specs.Led.{LedFrom, Led}
-use Rattle.districts.specs.Laws.Held.{line-is}
-use Rattle.districts.specs.Laws.Entered.{entry-line}
+use Rattle.district_machine.specs.Laws.Held.{line-is}
+use Rattle.district_entry.specs.Laws.Entered.{entry-line}
 use Rattle.districts.specs.Laws.Runs.{run-kept}
 use Rattle.districts.specs.Laws.Sound.{IsUnderWay, IsSound, sound-of, gone-on, still-under-way, entry-sound, Met, no-one, too-short, going, last, InPlace, meets}
 

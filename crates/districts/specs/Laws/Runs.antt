@@ -13,8 +13,8 @@ use Rattle.postman.specs.Laws.Tests.{is-true, is-false}
 use Rattle.postman.specs.Districts.{District, district, Line, entryRefusal, lowestFree, enter, total, goneOn, finishes, turn, isAccepted}
 use Rattle.postman.specs.DistrictRuns.{Event, entry, turned, step, runFrom, run, servesPlace, isTurn, isTurnOf, turnsIn, entersAt, Entry, entryOf, lastEntry, turnsSince, Waits, NoTurnOf}
 use Rattle.postman.specs.Refusal.{isGood}
-use Rattle.districts.specs.Laws.Places.{free-small, free-other}
-use Rattle.districts.specs.Laws.Line.{room, some-total, enter-refused, enter-accepted, Apart, last-cases, apart-more, waits-entry, waits-turn}
+use Rattle.district_machine.specs.Laws.Places.{free-small, free-other}
+use Rattle.district_entry.specs.Laws.Line.{room, some-total, enter-refused, enter-accepted, Apart, last-cases, apart-more, waits-entry, waits-turn}
 
 -- ---- waiting
 

@@ -28,8 +28,8 @@ use Rattle.postman.specs.Steps.{Plannable}
 use Rattle.postman.specs.Laws.Optimality.{some-arborescence}
 use Rattle.postman.specs.Laws.Search.{best-value}
 use Rattle.postman.specs.Laws.Tests.{is-true, is-false}
-use Rattle.planner.specs.Refusals.{planRefusal}
-use Rattle.planner.specs.Laws.Call.{parts-refusal}
+use Rattle.call_steps.specs.Refusals.{planRefusal}
+use Rattle.call_steps.specs.Laws.Call.{parts-refusal}
 use Rattle.solution.specs.declared.Planned.{Planned}
 use Rattle.solution.specs.declared.trees.Reached.{Reached}
 use Rattle.solution.specs.Resumed.{linksBy, heldAfter, IsReachedBy}
@@ -39,17 +39,17 @@ use Rattle.solution.specs.Laws.Resumed.{best-after, tried-few}
 use Rattle.district_turn.specs.Stint.{isTree, isHolding, isResumable, canGoOn, isLast, lastAnswer, lastSheet}
 use Rattle.district_turn.specs.Padded.{padded}
 use Rattle.district_turn.specs.Laws.Stint.{of-arborescence, holding-first, holding-later, and-yes, padded-links}
-use Rattle.districts.specs.declared.machine.District.{District as DistrictRecord}
-use Rattle.districts.specs.declared.machine.Machine.{Machine}
+use Rattle.district_machine.specs.declared.machine.District.{District as DistrictRecord}
+use Rattle.district_machine.specs.declared.machine.Machine.{Machine}
 use Rattle.postman.specs.Districts.{District, district, Line, places, entryRefusal, lowestFree, total, goneOn, finishes}
-use Rattle.districts.specs.Machine.{bytesOf, districtOf, waitingIn, lineOf, machineOf}
-use Rattle.districts.specs.Entered.{entrant, afterEntry}
+use Rattle.district_machine.specs.Machine.{bytesOf, districtOf, waitingIn, lineOf, machineOf}
+use Rattle.district_entry.specs.Entered.{entrant, afterEntry}
 use Rattle.districts.specs.Turned.{planBy, hasOwnPlace, isReadable, canBeServed, nobody, shortSheet, goesOn, leaves, meetingIn, meeting, heldNow, reachedNow}
-use Rattle.districts.specs.Laws.Line.{plan-ok, parts, later, some-total, Apart}
-use Rattle.districts.specs.Laws.Line as line
-use Rattle.districts.specs.Laws.Entry.{plan-good}
-use Rattle.districts.specs.Laws.Held.{waiting-are}
-use Rattle.districts.specs.Laws.Entered.{entry-stays, entry-moves, entrant-is, call-part, part-limits, short-file}
+use Rattle.district_entry.specs.Laws.Line.{plan-ok, parts, later, some-total, Apart}
+use Rattle.district_entry.specs.Laws.Line as line
+use Rattle.district_entry.specs.Laws.Entry.{plan-good}
+use Rattle.district_machine.specs.Laws.Held.{waiting-are}
+use Rattle.district_entry.specs.Laws.Entered.{entry-stays, entry-moves, entrant-is, call-part, part-limits, short-file}
 use Rattle.districts.specs.Laws.Turned.{short-met, last-met, going-met, readable}
 
 -- A district that was let in and is not finished: it holds the best of the trees that it has tried.

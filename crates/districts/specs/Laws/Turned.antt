@@ -14,17 +14,17 @@ use Rattle.postman.specs.Plan.{Plan}
 use Rattle.postman.specs.Refusal.{firstRefusal, isGood}
 use Rattle.postman.specs.PlanFile.{fileConditions, isOutside}
 use Rattle.postman.specs.PlanCall.{sheetPlaces, highestBudget, triedCount}
-use Rattle.planner.specs.Refusals.{planRefusal}
+use Rattle.call_steps.specs.Refusals.{planRefusal}
 use Rattle.solution.specs.declared.trees.Reached.{Reached}
 use Rattle.district_turn.specs.declared.stint.Stint.{Stint}
 use Rattle.district_turn.specs.Stint.{isHolding, isResumable, canGoOn, isLast, IsStint}
 use Rattle.district_turn.specs.Laws.Stint.{and-no, and-first, and-yes}
-use Rattle.districts.specs.declared.machine.District.{District as DistrictRecord}
-use Rattle.districts.specs.declared.machine.Machine.{Machine}
+use Rattle.district_machine.specs.declared.machine.District.{District as DistrictRecord}
+use Rattle.district_machine.specs.declared.machine.Machine.{Machine}
 use Rattle.districts.specs.declared.turn.Turned.{Turned}
 use Rattle.postman.specs.Districts.{District, Line, places}
-use Rattle.districts.specs.Machine.{bytesOf, districtOf, lineOf, waitingIn, machineOf, noDistrict}
-use Rattle.districts.specs.Laws.Held.{front, waiting-are}
+use Rattle.district_machine.specs.Machine.{bytesOf, districtOf, lineOf, waitingIn, machineOf, noDistrict}
+use Rattle.district_machine.specs.Laws.Held.{front, waiting-are}
 use Rattle.districts.specs.Number.{HasPlace}
 use Rattle.postman.specs.Laws.Tests.{and-parts, of-true}
 use Rattle.districts.specs.Turned.{planBy, hasOwnPlace, isReadable, canBeServed, Meeting, nobody, shortSheet, stuck, goesOn, leaves, meetingIn, meeting, heldNow, afterTurn, outcomeOf, answerOf, sheetAfter, IsAfter, IsTurned}

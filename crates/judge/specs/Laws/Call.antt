@@ -19,7 +19,7 @@ use Rattle.postman.specs.Laws.Refusal.{first-on, first-stop, answer-refused}
 use Rattle.postman.specs.Laws.Judge.{lent-short, lent-long, judge-conditions, judged-cost, tour-judged, tour-cost-small}
 use Rattle.plan.specs.Rows.{planIn}
 use Rattle.judge.specs.declared.Judged.{Judged}
-use Rattle.judge.specs.Rows.{planOver}
+use Rattle.drive_tally.specs.Rows.{planOver}
 use Rattle.judge.specs.Contract.{judgedAnswer, listAnswer, planAnswer, IsJudged}
 
 -- ---- 14, 15 and 16, and the cost

@@ -7,10 +7,10 @@ use native.Mathlib.Nat.{suc-mul}
 use native.Mathlib.Omega.{arith}
 use lib.ListN.{length, replicate, length-replicate, replicate-append-replicate}
 use Rattle.encoding.specs.NumberBytes.{wordBytes, longBytes}
-use Rattle.districts.specs.declared.machine.District.{District}
-use Rattle.districts.specs.declared.machine.Machine.{Machine}
-use Rattle.districts.specs.Machine.{nothingHeld, emptyDistrict, emptyMachine}
-use Rattle.machine_bytes.specs.MachineBytes.{districtsBytes, reachedBytes, districtBytes, machineIn, machineBytes, IsDistrictSized, IsSized}
+use Rattle.district_machine.specs.declared.machine.District.{District}
+use Rattle.district_machine.specs.declared.machine.Machine.{Machine}
+use Rattle.district_machine.specs.Machine.{nothingHeld, emptyDistrict, emptyMachine}
+use Rattle.machine_bytes.specs.MachineBytes.{districtsBytes, reachedBytes, districtBytes, machineIn, machineBytes, IsDistrictSized}
 use Rattle.machine_bytes.specs.Laws.MachineBytes.{machine-back}
 
 -- zeros behind zeros

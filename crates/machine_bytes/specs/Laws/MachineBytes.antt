@@ -12,8 +12,8 @@ use Rattle.postman.specs.Lists.{below}
 use Rattle.postman.specs.Laws.Below.{length-map-below, getD-map-below}
 use Rattle.plan.specs.Laws.Prefix.{Prefix, prefix-all}
 use Rattle.solution.specs.declared.trees.Reached.{Reached}
-use Rattle.districts.specs.declared.machine.District.{District}
-use Rattle.districts.specs.declared.machine.Machine.{Machine}
+use Rattle.district_machine.specs.declared.machine.District.{District}
+use Rattle.district_machine.specs.declared.machine.Machine.{Machine}
 use Rattle.encoding.specs.NumberBytes.{putAt, wordBytes, longBytes}
 use Rattle.machine_bytes.specs.MachineBytes.{districtsBytes, reachedIn, reachedBytes, districtIn, districtBytes, machineIn, machineBytes, IsReachedSized, IsDistrictSized, AreSized, IsSized}
 use Rattle.encoding.specs.Laws.NumberBytes.{length-word, length-long, put-byte, put-more, put-next, put-start, IsAt, first, second, byte-back, bytes-back, word-back, long-back}

@@ -12,12 +12,13 @@ use lib.IntN.{ℤ, pos}
 use lib.ListN.{drop}
 use Rattle.integers.specs.Linear.{back64}
 use Rattle.postman.specs.Refusal.{unless}
-use Rattle.districts.specs.declared.enter.Admission.{Admission}
-use Rattle.districts.specs.declared.enter.Admission.the-variants.{At}
-use Rattle.districts.specs.declared.enter.Entered.{Entered}
+use Rattle.district_entry.specs.declared.enter.Admission.{Admission}
+use Rattle.district_entry.specs.declared.enter.Admission.the-variants.{At}
+use Rattle.district_entry.specs.declared.enter.Entered.{Entered}
 use Rattle.districts.specs.declared.turn.Outcome.{Outcome}
 use Rattle.districts.specs.declared.turn.Turned.{Turned}
-use Rattle.districts.specs.Number.{admitted, admissionNumber, outcomeNumber, hadTurn, hadLast}
+use Rattle.district_entry.specs.Admitted.{admitted, admissionNumber}
+use Rattle.districts.specs.Number.{outcomeNumber, hadTurn, hadLast}
 use Rattle.answers.specs.Number.{oneNumber}
 use Rattle.answers.specs.Answer.{wordsOf, putFirst}
 use Rattle.machine_bytes.specs.MachineBytes.{districtsBytes, machineBytes, IsSized}

@@ -36,12 +36,12 @@ use Rattle.network.specs.Network.{IsNetwork}
 use Rattle.multipliers.specs.Tour.{tableOf}
 use Rattle.multipliers.specs.Ascent.{Climb, boundOf, attempt, climb, begin, ascent, componentsOf, greatestOf, multipliersFor}
 use Rattle.multipliers.specs.Prepared.{IsBase, IsPrepared}
-use Rattle.multipliers.specs.Priced.{IsPriced}
+use Rattle.lagrangian.specs.Priced.{IsPriced}
 use Rattle.multipliers.specs.Laws.Table.{filled}
 use Rattle.multipliers.specs.Laws.Solve.{Rooted, some-component, greatest, root-required, greatest-rooted, lawful-at-root, lawful-rooted, priced}
 use Rattle.multipliers.specs.Laws.Root.{some-place}
 use Rattle.multipliers.specs.Laws.Lay.{base-metric}
-use Rattle.multipliers.specs.Laws.Bound.{multipliers-near}
+use Rattle.lagrangian.specs.Laws.Bound.{multipliers-near}
 
 -- THE BOUND THAT AN ASCENT HOLDS IS THAT OF ITS BEST MULTIPLIERS
 module _ (p : Plan) (d : List (List ℕ)) (f vs components : List ℕ) (k : ℕ) where

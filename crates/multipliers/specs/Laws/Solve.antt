@@ -34,14 +34,14 @@ use Rattle.multiplier_steps.specs.Laws.Steps.{raised, rooted-raised, rooted-oth
 use Rattle.candidates.specs.declared.Candidates.{Candidates}
 use Rattle.candidates.specs.LaidOut.{AreLaidOut}
 use Rattle.tree_count.specs.Entries.{AreCounted}
-use Rattle.tree_count.specs.Laws.Recursion.{entriesIn}
+use Rattle.small_counts.specs.Laws.Recursion.{entriesIn}
 use Rattle.tree_count.specs.Laws.Plan.{sources}
 use Rattle.tree_count.specs.Laws.Entries.{all-few, entry-is}
 use Rattle.tree_bounds.specs.Prepared.{Prepared}
 use Rattle.branches.specs.Branches.{AreGiven}
 use Rattle.multipliers.specs.Tour.{tableOf}
 use Rattle.multipliers.specs.Prepared.{IsBase}
-use Rattle.multipliers.specs.Priced.{IsPriced}
+use Rattle.lagrangian.specs.Priced.{IsPriced}
 use Rattle.multipliers.specs.Ascent.{greatestOf}
 use Rattle.multipliers.specs.Laws.Tour.{agrees}
 use Rattle.multipliers.specs.Laws.Lay.{base-table}

@@ -30,8 +30,8 @@ use Rattle.balance.specs.Laws.Arcs.{empty-certified}
 use Rattle.direct_amounts.specs.Laws.Among.{Among, among-direct, among-all, among-empty}
 use Rattle.direct_amounts.specs.Laws.Plan.{table-metric, inside, few-arcs, direct-balances, direct-least, direct-way}
 use Rattle.postman.specs.Laws.Sum.{term-le}
-use Rattle.circuit.specs.Legs.{Completes}
-use Rattle.circuit.specs.Tour.{tour, IsCompletion}
+use Rattle.tour_legs.specs.Legs.{Completes}
+use Rattle.tour_legs.specs.Tour.{tour, IsCompletion}
 use Rattle.circuit.specs.Laws.Completion.{completion, completes-at-least-cost}
 use Rattle.shortest.specs.Contracts.{IsTable}
 use Rattle.multipliers.specs.Tour.{tableOf, amountsOf, tourOf}

@@ -18,7 +18,7 @@ use Rattle.plan_file.specs.Reading.{marginConditions}
 use Rattle.plan_file.specs.Laws.Reading.{frame-refusal, extent-refusal, frame-refused}
 use Rattle.postman.specs.Laws.Acceptance.{inside}
 use Rattle.postman.specs.Laws.FileLength.{fileLength-le}
-use Rattle.planner.specs.Laws.Call.{file-refused}
+use Rattle.planner.specs.Laws.Whole.{file-refused}
 
 -- ---- the fields of the first bytes
 

@@ -11,7 +11,7 @@ use Rattle.encoding.specs.RecordBytes.{arcBytes, arcsIn}
 use Rattle.encoding.specs.Laws.RecordBytes.{length-lent}
 use Rattle.answers.specs.Number.{oneNumber}
 use Rattle.answers.specs.FileNumber.{packed}
-use Rattle.exports.specs.Codec.{lentAfter}
+use Rattle.file_exports.specs.Codec.{lentAfter}
 
 module _ (file lent : List ℕ) where
   abbrev numbers : ℕ × ℕ × ℕ

@@ -16,7 +16,7 @@ use Rattle.postman.specs.Laws.Tests.{of-true}
 use Rattle.postman.specs.Laws.Refusal.{first-stop}
 use Rattle.postman.specs.Laws.Marks.{car-order}
 use Rattle.refusal.specs.Verdict.{verdictNumber}
-use Rattle.circuit.specs.Tour.{written}
+use Rattle.tour_legs.specs.Tour.{written}
 use Rattle.multipliers.specs.Tour.{tourOf}
 use Rattle.multipliers.specs.Ascent.{multipliersFor}
 use Rattle.solution.specs.declared.Planned.{Planned}

@@ -12,22 +12,22 @@ use Rattle.postman.specs.PlanFile.{planOf}
 use Rattle.postman.specs.PlanCall.{sheetPlaces}
 use Rattle.solution.specs.declared.Planned.{Planned}
 use Rattle.planner.specs.Contract.{IsPlanCall}
-use Rattle.districts.specs.declared.machine.Machine.{Machine}
-use Rattle.districts.specs.declared.enter.Admission.the-variants.{At}
-use Rattle.districts.specs.declared.enter.Entered.{Entered}
+use Rattle.district_machine.specs.declared.machine.Machine.{Machine}
+use Rattle.district_entry.specs.declared.enter.Admission.the-variants.{At}
+use Rattle.district_entry.specs.declared.enter.Entered.{Entered}
 use Rattle.districts.specs.declared.turn.Outcome.the-variants.{Empty, ShortSheet}
 use Rattle.districts.specs.declared.turn.Turned.{Turned}
 use Rattle.postman.specs.Districts.{District, Line, entryRefusal, lowestFree, total, finishes}
 use Rattle.postman.specs.DistrictRuns.{Event, run, runFrom, isTurnOf, turnsIn, turnsOf, lastEntry, turnsSince, NoTurnOf}
-use Rattle.districts.specs.Machine.{lineOf}
-use Rattle.districts.specs.Number.{admissionNumber}
-use Rattle.districts.specs.Entered.{movedUnless, IsEntered}
+use Rattle.district_machine.specs.Machine.{lineOf}
+use Rattle.district_entry.specs.Admitted.{admissionNumber}
+use Rattle.district_entry.specs.Entered.{movedUnless, IsEntered}
 use Rattle.districts.specs.Turned.{Meeting, nobody, shortSheet, meeting, outcomeOf, afterTurn, sheetAfter, IsTurned}
 use Rattle.districts.specs.Led.{Led}
 use Rattle.districts.specs.Theorem.{run-line, served, finished-as-plan-call}
 use Rattle.districts.specs.Laws.Turned.{empty-met, line-short-met}
-use Rattle.districts.specs.Laws.Places.{free-small}
-use Rattle.districts.specs.Laws.Line.{room, waits-short}
+use Rattle.district_machine.specs.Laws.Places.{free-small}
+use Rattle.district_entry.specs.Laws.Line.{room, waits-short}
 use Rattle.districts.specs.Laws.Runs.{waits-in, waits-run, run-kept}
 use Rattle.promises.specs.Laws.Demands.{equal-multipliers}
 

@@ -19,7 +19,7 @@ use Rattle.refusal.specs.Verdict.{refusalNumber, verdictNumber}
 use Rattle.solution.specs.declared.Planned.{Planned}
 use Rattle.solution.specs.Planned.{IsPlanned}
 use Rattle.solution.specs.SameAnswer.{SameAnswer}
-use Rattle.planner.specs.Laws.Call.{planned-as}
+use Rattle.call_steps.specs.Laws.Call.{planned-as}
 use Rattle.windows.specs.Contract.{IsPlanCallAt}
 use Rattle.held_file.specs.declared.Held.{Held}
 use Rattle.held_file.specs.Held.{fileIn}

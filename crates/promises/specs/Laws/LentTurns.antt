@@ -10,20 +10,21 @@ use lib.Dec.{T}
 use lib.IntN.{ℤ, pos}
 use lib.ListN.{length, drop, replicate, length-append, length-replicate}
 use Rattle.postman.specs.Refusal.{answer, unless}
-use Rattle.districts.specs.declared.machine.Machine.{Machine}
-use Rattle.districts.specs.declared.enter.Admission.{Admission}
-use Rattle.districts.specs.declared.enter.Admission.the-variants.{At, Refused}
-use Rattle.districts.specs.declared.enter.Entered.{Entered}
+use Rattle.district_machine.specs.declared.machine.Machine.{Machine}
+use Rattle.district_entry.specs.declared.enter.Admission.{Admission}
+use Rattle.district_entry.specs.declared.enter.Admission.the-variants.{At, Refused}
+use Rattle.district_entry.specs.declared.enter.Entered.{Entered}
 use Rattle.districts.specs.declared.turn.Turned.{Turned}
-use Rattle.districts.specs.Machine.{emptyMachine}
-use Rattle.districts.specs.Number.{admitted, admissionNumber, hadTurn}
-use Rattle.districts.specs.Entered.{IsEntered}
+use Rattle.district_machine.specs.Machine.{emptyMachine}
+use Rattle.district_entry.specs.Admitted.{admitted, admissionNumber}
+use Rattle.districts.specs.Number.{hadTurn}
+use Rattle.district_entry.specs.Entered.{IsEntered}
 use Rattle.districts.specs.Turned.{Meeting, nobody, shortSheet, stuck, goesOn, leaves, meeting, afterTurn, outcomeOf, IsTurned}
 use Rattle.districts.specs.Led.{LedFrom, Led}
-use Rattle.districts.specs.Laws.Entered.{entry-stays}
+use Rattle.district_entry.specs.Laws.Entered.{entry-stays}
 use Rattle.answers.specs.Number.{oneNumber}
 use Rattle.machine_bytes.specs.MachineBytes.{districtsBytes, machineIn, machineBytes, IsSized}
-use Rattle.state_exports.specs.Turns.{IsStarted, Call, enters, turns, eventsOf, LedLent}
+use Rattle.district_exports.specs.Turns.{IsStarted, Call, enters, turns, eventsOf, LedLent}
 use Rattle.machine_bytes.specs.MachineStored.{IsEntryStored, IsTurnHandedOver}
 use Rattle.machine_bytes.specs.Laws.MachineBytes.{machine-long, machine-back}
 use Rattle.machine_bytes.specs.Laws.EmptyMachine.{zeros-empty}

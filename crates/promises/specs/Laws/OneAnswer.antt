@@ -12,7 +12,7 @@ use Rattle.postman.specs.Refusal.{answer, unless}
 use Rattle.postman.specs.PlanFile.{planOf}
 use Rattle.postman.specs.Windows.{Departure, windowsIn, planAt, callRefusalAt}
 use Rattle.refusal.specs.Verdict.{verdictNumber}
-use Rattle.circuit.specs.Tour.{written}
+use Rattle.tour_legs.specs.Tour.{written}
 use Rattle.multipliers.specs.Tour.{tourOf}
 use Rattle.solution.specs.declared.Planned.{Planned}
 use Rattle.solution.specs.Planned.{countUnless, IsPlanned}

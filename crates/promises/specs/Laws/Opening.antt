@@ -14,7 +14,7 @@ use Rattle.postman.specs.PlanFile.{edition, planOf, arcConditions, arcsConditio
 use Rattle.refusal.specs.Verdict.{orElse}
 use Rattle.answers.specs.Number.{oneNumber}
 use Rattle.open_plan_bytes.specs.StateBytes.{openBytes}
-use Rattle.state_exports.specs.Editing.{openRefusal, IsExportedOpen}
+use Rattle.open_plan_exports.specs.Editing.{openRefusal, IsExportedOpen}
 
 -- the conditions' numbers are 1 or more
 abbrev AreSome : Conditions → Type 0

@@ -22,7 +22,7 @@ use Rattle.districts.specs.Theorem.{answered-accepted, answered-of}
 use Rattle.districts.specs.Laws.Turned.{placed}
 use Rattle.answers.specs.Number.{oneNumber}
 use Rattle.machine_bytes.specs.MachineBytes.{machineIn}
-use Rattle.state_exports.specs.Turns.{Call, enters, turns, eventOf, eventsOf, LentTurn, LedLent}
+use Rattle.district_exports.specs.Turns.{Call, enters, turns, eventOf, eventsOf, LentTurn, LedLent}
 use Rattle.promises.specs.Told.{isTold, turnsTold, NeverTold}
 use Rattle.promises.specs.Laws.LentTurns.{lent-led}
 

@@ -5,7 +5,7 @@ use mathlib.Core.Option.{Option, none}
 use Prim.Native.Nat.{ℕ}
 use Rattle.postman.specs.Refusal.{unless}
 use Rattle.postman.specs.PlanFile.{planOf}
-use Rattle.circuit.specs.Tour.{written}
+use Rattle.tour_legs.specs.Tour.{written}
 use Rattle.rounds.specs.Rounds.{deepTour}
 use Rattle.deep_call.specs.Contract.{IsDeepAnswer}
 use Rattle.deep_call.specs.Theorem.{one-round, beyond-plan-call, more-rounds, passes-the-judge}

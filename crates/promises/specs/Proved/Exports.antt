@@ -5,7 +5,7 @@ use Rattle.postman.specs.Refusal.{Answer}
 use Rattle.postman.specs.TreeCount.{TreeCount}
 use Rattle.answers.specs.Number.{oneNumber}
 use Rattle.answers.specs.Count.{countOf}
-use Rattle.exports.specs.Codec.{lentPlan}
+use Rattle.file_exports.specs.Codec.{lentPlan}
 use Rattle.promises.specs.Exports.{ReadRefused, ReadGiven, WriteRefused, WriteGiven, PlanCallHandsOver, DepartureHandsOver, DeepCallHandsOver, NoWindows, RaisedBudget, RaisedBudgetAt, CarsHandOver, CountHandsOver, PageHandsOver, JudgeHandsOver, WrittenPasses, WrittenPassesAt}
 use Rattle.promises.specs.WindowsTheorem.{no-windows-lent}
 use Rattle.promises.specs.BudgetTheorem.{raised-budget-lent, raised-budget-at-lent}

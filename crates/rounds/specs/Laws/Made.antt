@@ -18,13 +18,13 @@ use Rattle.postman.specs.Steps.{Plannable}
 use Rattle.plan.specs.declared.Plan.{Plan as PlanRecord}
 use Rattle.plan.specs.Records.{planValue}
 use Rattle.plan.specs.Laws.Records.{plan-vertices}
-use Rattle.tree_count.specs.Matrix.{cap}
+use Rattle.small_counts.specs.Matrix.{cap}
 use Rattle.multipliers.specs.Ascent.{multipliersFor}
 use Rattle.solution.specs.declared.trees.Reached.{Reached}
 use Rattle.solution.specs.Laws.Answer.{cost-small}
 use Rattle.held_tree.specs.declared.found.Found.{Found}
 use Rattle.held_tree.specs.Found.{IsFound}
-use Rattle.planner.specs.Refusals.{planRefusal}
+use Rattle.call_steps.specs.Refusals.{planRefusal}
 use Rattle.renumbering.specs.declared.numbering.Numbering.{Numbering}
 use Rattle.renumbering.specs.declared.shuffle.Drawn.{Drawn}
 use Rattle.renumbering.specs.Numbering.{unchanged}

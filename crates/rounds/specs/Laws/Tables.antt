@@ -24,8 +24,8 @@ use Rattle.shortest.specs.Contracts.{IsTable, AreWeights}
 use Rattle.multipliers.specs.Tour.{tableOf}
 use Rattle.multipliers.specs.Laws.Table.{table-is}
 use Rattle.multipliers.specs.Laws.Tour.{is-table}
-use Rattle.planner.specs.Refusals.{planRefusal}
-use Rattle.planner.specs.Laws.Call.{parts-refusal}
+use Rattle.call_steps.specs.Refusals.{planRefusal}
+use Rattle.call_steps.specs.Laws.Call.{parts-refusal}
 use Rattle.renumbering.specs.declared.numbering.Numbering.{Numbering}
 use Rattle.renumbering.specs.Numbering.{IsNumberingOf}
 use Rattle.renumbering.specs.Renumbered.{Inside, IsRenumberedTable}

@@ -26,9 +26,9 @@ use Rattle.postman.specs.Laws.Occurrences.{occurrences-of-mem}
 use Rattle.postman.specs.Laws.Lists.{map-cong, map-append, map-map}
 use Rattle.residual_search.specs.Step.{State, cell, add}
 use Rattle.direct_amounts.specs.Laws.Plan.{certified-least}
-use Rattle.tree_count.specs.Recursion.{merged, countTrees}
-use Rattle.tree_count.specs.Matrix.{entriesOf, cap, AreCounts}
-use Rattle.tree_count.specs.Laws.Recursion.{entriesIn, count-cong}
+use Rattle.small_counts.specs.Recursion.{merged, countTrees}
+use Rattle.small_counts.specs.Matrix.{entriesOf, cap, AreCounts}
+use Rattle.small_counts.specs.Laws.Recursion.{entriesIn, count-cong}
 use Rattle.branches.specs.declared.branch.Branch.{Branch}
 use Rattle.branches.specs.declared.candidate.Candidate.{Candidate}
 use Rattle.tree_bounds.specs.declared.pricing.Pricing.{Pricing}

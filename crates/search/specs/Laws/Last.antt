@@ -9,7 +9,7 @@ use lib.ListN.{getD, set, take}
 use Rattle.postman.specs.Plan.{Plan}
 use Rattle.postman.specs.Arborescence.{candidates}
 use Rattle.residual_search.specs.Step.{State, cell, add}
-use Rattle.tree_count.specs.Arrival.{renamed}
+use Rattle.small_counts.specs.Arrival.{renamed}
 use Rattle.branches.specs.declared.branch.Branch.{Branch}
 use Rattle.branches.specs.declared.candidate.Candidate.{Candidate}
 use Rattle.search.specs.declared.last.Completed.{Completed}

@@ -23,9 +23,9 @@ use Rattle.postman.specs.Laws.Optimality.{some-arborescence}
 use Rattle.postman.specs.Laws.Search.{best-value}
 use Rattle.residual_search.specs.Step.{cell}
 use Rattle.direct_amounts.specs.Laws.Plan.{balance-certified, balance-room, balance-least}
-use Rattle.tree_count.specs.Recursion.{countTrees}
-use Rattle.tree_count.specs.Matrix.{entriesOf, cap, AreFew, AreCounts}
-use Rattle.tree_count.specs.Laws.Recursion.{entriesIn, count-cong}
+use Rattle.small_counts.specs.Recursion.{countTrees}
+use Rattle.small_counts.specs.Matrix.{entriesOf, cap, AreFew, AreCounts}
+use Rattle.small_counts.specs.Laws.Recursion.{entriesIn, count-cong}
 use Rattle.branches.specs.declared.branch.Branch.{Branch}
 use Rattle.branches.specs.declared.progress.Progress.{Progress}
 use Rattle.search.specs.declared.tried.Searched.{Searched}

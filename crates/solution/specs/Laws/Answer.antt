@@ -27,8 +27,8 @@ use Rattle.postman.specs.Steps.{Plannable}
 use Rattle.postman.specs.Laws.Optimality.{some-arborescence, guaranteed}
 use Rattle.postman.specs.Laws.Search.{best-mem, best-value}
 use Rattle.residual_search.specs.Step.{arcsOf}
-use Rattle.circuit.specs.Filled.{linksOf}
-use Rattle.circuit.specs.Tour.{written}
+use Rattle.tour_legs.specs.Filled.{linksOf}
+use Rattle.tour_legs.specs.Tour.{written}
 use Rattle.branches.specs.Links.{linksIn}
 use Rattle.search.specs.declared.tried.Searched.{Searched}
 use Rattle.search.specs.Contracts.{IsSearched}

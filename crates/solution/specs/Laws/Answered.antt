@@ -13,7 +13,7 @@ use Rattle.integers.specs.Linear.{z}
 use Rattle.postman.specs.Plan.{Plan}
 use Rattle.postman.specs.Refusal.{answer, unless}
 use Rattle.postman.specs.PlanCall.{Summary, summary, fields, bestCost, lowerBound, IsAnswerTour}
-use Rattle.circuit.specs.Tour.{written}
+use Rattle.tour_legs.specs.Tour.{written}
 use Rattle.solution.specs.declared.Planned.{Planned}
 use Rattle.refusal.specs.Verdict.{verdictNumber}
 use Rattle.multipliers.specs.Tour.{tourOf}

@@ -21,7 +21,7 @@ use Rattle.postman.specs.Laws.Arborescence.{arborescences-mem}
 use Rattle.postman.specs.Steps.{Plannable}
 use Rattle.postman.specs.Laws.Optimality.{some-arborescence}
 use Rattle.postman.specs.Laws.Search.{best-value}
-use Rattle.tree_count.specs.Matrix.{cap}
+use Rattle.small_counts.specs.Matrix.{cap}
 use Rattle.search.specs.declared.tried.Searched.{Searched}
 use Rattle.branches.specs.Progress.{Held, held, passOver, tryTree, advance}
 use Rattle.search.specs.Contracts.{IsSearched}

@@ -20,11 +20,11 @@ use Rattle.postman.specs.Laws.Membership.{mem-map, map-mem, select-cong, mem-ge
 use Rattle.postman.specs.Laws.Distance.{InPlan}
 use Rattle.postman.specs.Laws.Lists.{map-cong, map-map, select-map, select-flatMap, flatMap-cong}
 use Rattle.postman.specs.Laws.Selection.{select-none}
-use Rattle.tree_count.specs.Recursion.{merged, countTrees}
-use Rattle.tree_count.specs.Arrival.{renamed, isTree}
-use Rattle.tree_count.specs.Laws.Arrival.{renamed-moved, renamed-same}
-use Rattle.tree_count.specs.Laws.Choices.{passing, passing-map, choices-map}
-use Rattle.tree_count.specs.Laws.Recursion.{entriesIn, AreInside, occurrences-renamed, count-cong, alike, never, counts}
+use Rattle.small_counts.specs.Recursion.{merged, countTrees}
+use Rattle.small_counts.specs.Arrival.{renamed, isTree}
+use Rattle.small_counts.specs.Laws.Arrival.{renamed-moved, renamed-same}
+use Rattle.small_counts.specs.Laws.Choices.{passing, passing-map, choices-map}
+use Rattle.small_counts.specs.Laws.Recursion.{entriesIn, AreInside, occurrences-renamed, count-cong, alike, never, counts}
 use Rattle.tree_count.specs.Laws.Plan as plan
 use Rattle.tree_bounds.specs.Branch.{sourceBy, renamedBy, Named, sourcesBy, leftChoices, completions, entered}
 

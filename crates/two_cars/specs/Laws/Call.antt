@@ -1,9 +1,9 @@
 -- One car, from the file on: its tables are the file's, its refusals are the file's and then its own, and what is answered for its plan is its contract.
-use mathlib.Core.Path.{_≡_, refl, sym, ap, _∙_, subst, subst⁻¹}
-use mathlib.Core.Bool.{Bool, true, false}
+use mathlib.Core.Path.{_≡_, refl, sym, ap, _∙_, subst}
+use mathlib.Core.Bool.{true, false}
 use mathlib.Core.List.{List, _++_, map}
-use mathlib.Core.Option.{Option, none, some}
-use Prim.Native.Nat.{ℕ, _<_}
+use mathlib.Core.Option.{none, some}
+use Prim.Native.Nat.{ℕ}
 use lib.ListN.{length}
 use Rattle.postman.specs.Lists.{below}
 use Rattle.postman.specs.Plan.{Plan}
@@ -25,8 +25,8 @@ use Rattle.plan_file.specs.Laws.Reading.{accepted-value}
 use Rattle.solution.specs.declared.Planned.{Planned}
 use Rattle.multipliers.specs.Tour.{tableOf}
 use Rattle.solution.specs.Planned.{IsPlanned}
-use Rattle.planner.specs.Refused.{refusedWith}
-use Rattle.planner.specs.Laws.Call.{refused-planned, planned-as}
+use Rattle.call_steps.specs.Refused.{refusedWith}
+use Rattle.call_steps.specs.Laws.Call.{refused-planned, planned-as}
 use Rattle.two_cars.specs.Contract.{IsCar}
 
 -- ---- the tables do not depend on marks

@@ -1,21 +1,22 @@
 -- A car with the plan's own marks: where the file is not refused, its plan is the file's and its refusal the plan call's; where it is, both are refused for it, and a refusal says nothing of the
 -- plan.
-use mathlib.Core.Path.{_≡_, refl, sym, ap, _∙_}
-use mathlib.Core.List.{List, _++_}
-use mathlib.Core.Option.{Option, none, some, Option·some-ne-none}
+use mathlib.Core.Path.{_≡_, refl, sym, _∙_}
+use mathlib.Core.List.{List}
+use mathlib.Core.Option.{Option, none, some}
 use Prim.Native.Nat.{ℕ}
 use lib.ListN.{length}
 use Rattle.postman.specs.Plan.{Plan}
-use Rattle.postman.specs.Refusal.{firstRefusal, answer, unless}
+use Rattle.postman.specs.Refusal.{firstRefusal}
 use Rattle.postman.specs.PlanFile.{fileConditions, planOf}
-use Rattle.postman.specs.PlanCall.{callRefusal, fields, summary}
-use Rattle.postman.specs.Marks.{ownMarks, carRefusal}
+use Rattle.postman.specs.PlanCall.{callRefusal}
+use Rattle.postman.specs.Marks.{ownMarks}
 use Rattle.postman.specs.Laws.Refusal.{first-stop}
 use Rattle.postman.specs.Laws.Marks.{car-order, own-file-plan, own-refusal}
 use Rattle.solution.specs.declared.Planned.{Planned}
 use Rattle.planner.specs.Contract.{IsPlanCall}
 use Rattle.solution.specs.Planned.{IsPlanned}
-use Rattle.planner.specs.Laws.Call.{planned-as, is-call, file-refused}
+use Rattle.call_steps.specs.Laws.Call.{planned-as}
+use Rattle.planner.specs.Laws.Whole.{is-call, file-refused}
 use Rattle.solution.specs.Laws.SameAnswer.{refused-as}
 use Rattle.two_cars.specs.Contract.{IsCar}
 

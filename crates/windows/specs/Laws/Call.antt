@@ -2,9 +2,8 @@
 use mathlib.Core.Path.{_≡_, refl, sym, ap, _∙_, subst}
 use mathlib.Core.List.{List, _++_}
 use mathlib.Core.Bool.{Bool, true, false, not, cond}
-use mathlib.Core.Option.{Option, none, some}
-use Prim.Native.Nat.{ℕ, _<_, _≤_}
-use native.Mathlib.Omega.{arith}
+use mathlib.Core.Option.{none, some}
+use Prim.Native.Nat.{ℕ, _≤_}
 use lib.ListN.{length, take}
 use lib.IntN.{pos}
 use lib.Signed.{_≤ℤ_}
@@ -28,8 +27,8 @@ use Rattle.plan_file.specs.Reading.{IsReading}
 use Rattle.plan_file.specs.Laws.Reading.{accepted-value}
 use Rattle.solution.specs.declared.Planned.{Planned}
 use Rattle.solution.specs.Planned.{IsPlanned}
-use Rattle.planner.specs.Refused.{refusedWith}
-use Rattle.planner.specs.Laws.Call.{refused-planned, planned-as}
+use Rattle.call_steps.specs.Refused.{refusedWith}
+use Rattle.call_steps.specs.Laws.Call.{refused-planned, planned-as}
 use Rattle.solution.specs.Laws.Answered.{accepted, cost-is, floor-is, tour-written}
 use Rattle.windows.specs.Contract.{IsPlanCallAt}
 

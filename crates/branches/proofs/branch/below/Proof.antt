@@ -3,8 +3,8 @@ use mathlib.Core.Path.{refl, ap, ap₂, _∙_, subst}
 use Prim.Native.Nat.{_+_, _≤_, _<_}
 use native.Mathlib.Omega.{arith}
 use Rattle.residual_search.specs.Step.{cell}
-use Rattle.tree_count.specs.Matrix.{IsMerged}
-use Rattle.tree_count.specs.Laws.Matrix.{few-merged}
+use Rattle.small_counts.specs.Matrix.{IsMerged}
+use Rattle.small_counts.specs.Laws.Matrix.{few-merged}
 use borrow.Author.Needs.{needs}
 use Rattle.branches.proofs.branch.below.Statement.{statement}
 use Rattle.branches.proofs.branch.below.Tie as tie

@@ -4,7 +4,7 @@ use mathlib.Core.List.{[], _∷_}
 use Prim.Native.Nat.{ℕ, zero, suc, _<_}
 use native.Mathlib.Omega.{arith}
 use lib.ListN.{getD}
-use Rattle.tree_count.specs.Matrix.{AreFew}
+use Rattle.small_counts.specs.Matrix.{AreFew}
 use Rattle.branches.specs.Laws.Root.{can-shift, some-place, root-branch}
 use Rattle.branches.proofs.branch.root.Statement.{statement}
 use Rattle.branches.proofs.branch.root.Tie as tie

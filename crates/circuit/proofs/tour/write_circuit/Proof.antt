@@ -12,7 +12,7 @@ use Rattle.paths.specs.ShortestPath.{shortestPath}
 use Rattle.shortest.specs.Contracts.{AreRows}
 use Rattle.paths.specs.Laws.Lookup.{lent-plan, lent-rows}
 use Rattle.hierholzer.specs.Circuit.{circuit}
-use Rattle.circuit.specs.Tour.{placesOf, written, HavePaths}
+use Rattle.tour_legs.specs.Tour.{placesOf, written, HavePaths}
 use Rattle.hierholzer.specs.Laws.Circuit.{circuit-below}
 use Rattle.plan.specs.Laws.Rows.{made-long, made-value}
 use borrow.Author.Needs.{needs}

@@ -5,9 +5,9 @@ use native.Mathlib.Omega.{arith}
 use lib.ListN.{length, replicate, length-replicate}
 use lib.Seq.{length-take-le}
 use Rattle.plan.specs.Records.{planValue}
-use Rattle.circuit.specs.Filled.{linksOf}
-use Rattle.circuit.specs.Tour.{written}
-use Rattle.circuit.specs.Laws.Laid.{links-length, prefix-length, prefix-le}
+use Rattle.tour_legs.specs.Filled.{linksOf}
+use Rattle.tour_legs.specs.Tour.{written}
+use Rattle.tour_legs.specs.Laws.Laid.{links-length, prefix-length, prefix-le}
 use Rattle.circuit.specs.Laws.Completion.{completion, few-legs, heads-number, tails-number, laid-ready, laid-few}
 use borrow.Author.Needs.{needs}
 use Rattle.circuit.proofs.tour.write_tour.Statement.{statement}

@@ -2,7 +2,7 @@
 use mathlib.Core.Path.{sym, ap, _∙_}
 use Rattle.postman.specs.Laws.Acceptance.{call-limits}
 use Rattle.refusal.specs.Verdict.{verdictNumber}
-use Rattle.planner.specs.Laws.Chain.{small-budget}
+use Rattle.call_steps.specs.Laws.Chain.{small-budget}
 use Rattle.deep_call.specs.Laws.Call.{step-refused, step-on}
 use borrow.Author.Needs.{needs}
 use Rattle.deep_call.proofs.call.deep_lent.Statement.{statement}

@@ -1,9 +1,9 @@
 -- The invariant: the cost of the first i links. The whole sum is small, so that each part is.
 use mathlib.Core.Path.{_≡_, refl, sym, ap, ap₂, _∙_}
-use Prim.Native.Nat.{suc, _+_, _-_, _≤_, _<_}
+use Prim.Native.Nat.{suc, _+_, _-_, _≤_}
 use native.Mathlib.Omega.{arith}
 use lib.ListN.{length, take}
-use Rattle.circuit.specs.Filled.{linksOf}
+use Rattle.tour_legs.specs.Filled.{linksOf}
 use Rattle.district_turn.specs.Cost.{tableCost, AreVertices}
 use Rattle.district_turn.specs.Laws.Cost.{cost-none, cost-more, cost-part, cost-all}
 use borrow.Author.Needs.{needs}

@@ -1,5 +1,5 @@
 -- Where some tree was tried, the links have to be a tree, and the cost has to be its cost.
-use mathlib.Core.Path.{_≡_, refl, sym, ap, ap₂, _∙_, subst}
+use mathlib.Core.Path.{_≡_, sym, ap, _∙_, subst}
 use mathlib.Core.Bool.{Bool, _&&_}
 use mathlib.Core.List.{List}
 use Prim.Native.Nat.{ℕ, _-_}
@@ -10,7 +10,7 @@ use Rattle.plan.specs.Records.{planValue}
 use Rattle.postman.specs.Link.{Link}
 use Rattle.postman.specs.Component.{componentCount}
 use Rattle.postman.specs.Balancing.{completionCost}
-use Rattle.circuit.specs.Filled.{linksOf}
+use Rattle.tour_legs.specs.Filled.{linksOf}
 use Rattle.multipliers.specs.Prepared.{IsTree}
 use Rattle.multipliers.specs.Laws.Lay.{arcs-links}
 use Rattle.multipliers.specs.Laws.Solve.{some-component}

@@ -3,7 +3,7 @@ use mathlib.Core.Path.{_∙_}
 use native.Mathlib.Omega.{arith}
 use lib.ListN.{length-take}
 use Rattle.network.specs.Laws.Vertices.{vertices-required}
-use Rattle.planner.specs.Laws.Call.{is-known}
+use Rattle.call_steps.specs.Laws.Call.{is-known}
 use borrow.Author.Needs.{needs}
 use Rattle.district_turn.proofs.stint.turn_known.Statement.{statement}
 use Rattle.district_turn.proofs.stint.turn_known.Tie as tie

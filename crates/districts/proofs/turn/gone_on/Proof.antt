@@ -1,5 +1,5 @@
 -- It stands behind the last of them.
-use Rattle.districts.specs.Laws.Held.{back-is}
+use Rattle.district_machine.specs.Laws.Held.{back-is}
 use borrow.Author.Needs.{needs}
 use Rattle.districts.proofs.turn.gone_on.Statement.{statement}
 use Rattle.districts.proofs.turn.gone_on.Tie as tie

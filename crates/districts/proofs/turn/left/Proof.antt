@@ -1,7 +1,7 @@
 -- The districts behind the front one are the line.
 use mathlib.Core.Path.{_≡_}
 use lib.ListN.{length}
-use Rattle.districts.specs.Laws.Held.{array-length, others-are}
+use Rattle.district_machine.specs.Laws.Held.{array-length, others-are}
 use borrow.Author.Needs.{needs}
 use Rattle.districts.proofs.turn.left.Statement.{statement}
 use Rattle.districts.proofs.turn.left.Tie as tie

@@ -6,9 +6,9 @@ use lib.ListN.{length, getD, drop}
 use Rattle.postman.specs.PlanCall.{sheetPlaces}
 use Rattle.district_turn.specs.Laws.Clash.{was-false}
 use Rattle.district_turn.specs.Laws.Tree.{plain}
-use Rattle.districts.specs.Machine.{waitingIn, noDistrict}
+use Rattle.district_machine.specs.Machine.{waitingIn, noDistrict}
 use Rattle.districts.specs.Turned.{nobody, shortSheet, stuck}
-use Rattle.districts.specs.Laws.Held.{array-length}
+use Rattle.district_machine.specs.Laws.Held.{array-length}
 use Rattle.districts.specs.Laws.Turned.{turned-as, none-met, short-met, crowd-met, other-met, unserved-met, ahead-is, others-few, own-as, not-taken, served-turned}
 use borrow.Author.Needs.{needs}
 use Rattle.districts.proofs.turn.turn.Statement.{statement}

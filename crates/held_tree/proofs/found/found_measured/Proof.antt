@@ -3,7 +3,7 @@ use mathlib.Core.Path.{_∙_}
 use native.Mathlib.Omega.{arith}
 use lib.ListN.{length-take}
 use Rattle.network.specs.Laws.Vertices.{vertices-required}
-use Rattle.planner.specs.Laws.Call.{is-known}
+use Rattle.call_steps.specs.Laws.Call.{is-known}
 use borrow.Author.Needs.{needs}
 use Rattle.held_tree.proofs.found.found_measured.Statement.{statement}
 use Rattle.held_tree.proofs.found.found_measured.Tie as tie

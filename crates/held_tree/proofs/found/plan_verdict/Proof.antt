@@ -1,7 +1,7 @@
 -- The network's refusal is the plan's.
 use mathlib.Core.Path.{_∙_}
 use Rattle.multipliers.specs.Laws.Tour.{is-table}
-use Rattle.planner.specs.Laws.Call.{measured-refusal}
+use Rattle.call_steps.specs.Laws.Call.{measured-refusal}
 use borrow.Author.Needs.{needs}
 use Rattle.held_tree.proofs.found.plan_verdict.Statement.{statement}
 use Rattle.held_tree.proofs.found.plan_verdict.Tie as tie

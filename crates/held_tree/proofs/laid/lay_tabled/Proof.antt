@@ -1,7 +1,7 @@
 -- The table is that of the definition, so it holds the distances, and the network's refusal is the plan's.
 use mathlib.Core.Path.{_∙_}
 use Rattle.multipliers.specs.Laws.Tour.{is-table}
-use Rattle.planner.specs.Laws.Call.{measured-refusal}
+use Rattle.call_steps.specs.Laws.Call.{measured-refusal}
 use borrow.Author.Needs.{needs}
 use Rattle.held_tree.proofs.laid.lay_tabled.Statement.{statement}
 use Rattle.held_tree.proofs.laid.lay_tabled.Tie as tie

@@ -1,7 +1,7 @@
 -- Some flag is set exactly if some arc is a must arc.
 use mathlib.Core.Path.{sym, ap, _∙_}
 use mathlib.Core.Bool.{not}
-use Rattle.judge.specs.Laws.Tally.{has-required}
+use Rattle.drive_tally.specs.Laws.Tally.{has-required}
 use Rattle.judge.specs.Laws.Call.{idle-answer, list-answer}
 use borrow.Author.Needs.{needs}
 use Rattle.judge.proofs.call.judge_arcs.Statement.{statement}

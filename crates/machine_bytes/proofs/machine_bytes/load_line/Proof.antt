@@ -3,7 +3,7 @@ use Prim.Native.Nat.{_*_, _-_, _≤_}
 use native.Mathlib.Omega.{arith}
 use lib.ListN.{length}
 use Rattle.plan.specs.Laws.Prefix.{Prefix, prefix-more}
-use Rattle.districts.specs.Machine.{noDistrict}
+use Rattle.district_machine.specs.Machine.{noDistrict}
 use Rattle.machine_bytes.specs.MachineBytes.{districtsBytes, districtIn}
 use Rattle.machine_bytes.specs.Laws.MachineBytes.{first-loaded, all-loaded}
 use borrow.Author.Needs.{needs}

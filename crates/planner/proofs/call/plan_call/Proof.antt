@@ -4,7 +4,8 @@ use Rattle.postman.specs.Plan.{WellFormed}
 use Rattle.postman.specs.Laws.Acceptance.{file-accepted}
 use Rattle.refusal.specs.Verdict.{verdictNumber}
 use Rattle.plan_file.specs.Laws.Reading.{accepted-value}
-use Rattle.planner.specs.Laws.Call.{refused-planned, file-refused, read-planned, is-call}
+use Rattle.call_steps.specs.Laws.Call.{refused-planned}
+use Rattle.planner.specs.Laws.Whole.{file-refused, read-planned, is-call}
 use borrow.Author.Needs.{needs}
 use Rattle.planner.proofs.call.plan_call.Statement.{statement}
 use Rattle.planner.proofs.call.plan_call.Tie as tie
@@ -21,8 +22,8 @@ refused-requires c κs = search needs
 enum-told : tie.Need-enum-told
 enum-told c = search needs
 
-plan-onto-requires : tie.Need-plan-onto-requires
-plan-onto-requires c κs =
+plan-lent-requires : tie.Need-plan-lent-requires
+plan-lent-requires c κs =
     let r = c .before .before .before .before .read-plan in
     let e = sym (r .ensures .verdict) ∙ ap verdictNumber (c .before .enum-told .given .1) in
     subst⁻¹ WellFormed (accepted-value _ (r .result) (r .ensures) e) (file-accepted _ e)
@@ -40,7 +41,7 @@ returns-2 : tie.Need-returns-2
 returns-2 c =
     let r = c .before .before .before .before .before .before .before .read-plan in
     let e = sym (r .ensures .verdict) ∙ ap verdictNumber (c .before .before .before .before .enum-told .given .1) in
-    is-call _ _ _ _ _ (read-planned _ _ _ _ _ (r .result) (r .ensures) e (c .before .before .plan-onto .ensures))
+    is-call _ _ _ _ _ (read-planned _ _ _ _ _ (r .result) (r .ensures) e (c .before .before .plan-lent .ensures))
 
 pub plan-call-spec : {M : Type 1} → statement M
 plan-call-spec =
@@ -50,7 +51,7 @@ plan-call-spec =
     enum-known-verdict
     refused-requires
     enum-told
-    plan-onto-requires
+    plan-lent-requires
     returns
     same-length
     returns-2)

@@ -1,5 +1,5 @@
 -- The standard budget is the default.
-use Rattle.planner.specs.Laws.Call.{call-as}
+use Rattle.planner.specs.Laws.Whole.{call-as}
 use borrow.Author.Needs.{needs}
 use Rattle.planner.proofs.call.short_call.Statement.{statement}
 use Rattle.planner.proofs.call.short_call.Tie as tie

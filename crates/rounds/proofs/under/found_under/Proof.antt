@@ -5,7 +5,7 @@ use lib.ListN.{length}
 use Rattle.postman.specs.Plan.{Plan, WellFormed}
 use Rattle.multipliers.specs.Tour.{tableOf}
 use Rattle.multipliers.specs.Laws.Table.{rows}
-use Rattle.planner.specs.Refusals.{planRefusal}
+use Rattle.call_steps.specs.Refusals.{planRefusal}
 use Rattle.held_tree.specs.Found.{IsFound, CanGoOn}
 use Rattle.rounds.specs.Laws.Tables.{inside-from, under-well-formed, under-refusal, under-table}
 use borrow.Author.Needs.{needs}

@@ -8,10 +8,10 @@ use denote.Ref.{now}
 use Rattle.postman.specs.Plan.{Plan, WellFormed}
 use Rattle.postman.specs.Component.{componentCount}
 use Rattle.shortest.specs.Contracts.{AreWeights}
-use Rattle.circuit.specs.Tour.{written}
+use Rattle.tour_legs.specs.Tour.{written}
 use Rattle.multipliers.specs.Tour.{tableOf}
 use Rattle.multipliers.specs.Laws.Table.{rows}
-use Rattle.planner.specs.Refusals.{planRefusal}
+use Rattle.call_steps.specs.Refusals.{planRefusal}
 use Rattle.solution.specs.Resumed.{HoldsTree}
 use Rattle.held_tree.specs.Laws.Found.{best-holds}
 use Rattle.rounds.specs.Laws.Tables.{plan-accepted, inside-from, under-well-formed, under-refusal, under-few, under-table, under-weights, under-plannable}

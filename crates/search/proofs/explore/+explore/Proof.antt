@@ -7,7 +7,7 @@ use native.Mathlib.Omega.{arith}
 use lib.ListN.{length, getD, take}
 use Rattle.postman.specs.Plan.{Plan}
 use Rattle.postman.specs.Arborescence.{candidates}
-use Rattle.tree_count.specs.Matrix.{AreCounts}
+use Rattle.small_counts.specs.Matrix.{AreCounts}
 use Rattle.search.specs.declared.explore.Explored.{Explored}
 use Rattle.branches.specs.declared.progress.Progress.{Progress}
 use Rattle.tree_bounds.specs.Prepared.{Prepared}

@@ -4,9 +4,9 @@ use Prim.Native.Nat.{_-_, _<_, min}
 use native.Mathlib.Decide.{ℕ-discrete}
 use native.Mathlib.Omega.{arith}
 use Rattle.postman.specs.Lists.{upFrom}
-use Rattle.tree_count.specs.Recursion.{countTrees}
-use Rattle.tree_count.specs.Matrix.{entriesOf, cap}
-use Rattle.tree_count.specs.Laws.ClosedForm.{none-left}
+use Rattle.small_counts.specs.Recursion.{countTrees}
+use Rattle.small_counts.specs.Matrix.{entriesOf, cap}
+use Rattle.small_counts.specs.Laws.ClosedForm.{none-left}
 use Rattle.search.proofs.tried.number.Statement.{statement}
 use Rattle.search.proofs.tried.number.Tie as tie
 

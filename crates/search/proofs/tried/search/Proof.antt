@@ -2,7 +2,7 @@
 use mathlib.Core.Path.{refl}
 use Prim.Native.Nat.{_<_}
 use native.Mathlib.Omega.{arith}
-use Rattle.tree_count.specs.Matrix.{cap}
+use Rattle.small_counts.specs.Matrix.{cap}
 use Rattle.search.specs.Laws.Tried.{countable, searched}
 use borrow.Author.Needs.{needs}
 use Rattle.search.proofs.tried.search.Statement.{statement}

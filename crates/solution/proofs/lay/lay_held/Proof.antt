@@ -8,8 +8,8 @@ use denote.Ref.{now}
 use Rattle.postman.specs.Link.{Link}
 use Rattle.postman.specs.Component.{componentCount}
 use Rattle.plan.specs.Records.{planValue}
-use Rattle.circuit.specs.Filled.{linksOf}
-use Rattle.circuit.specs.Tour.{written}
+use Rattle.tour_legs.specs.Filled.{linksOf}
+use Rattle.tour_legs.specs.Tour.{written}
 use Rattle.multipliers.specs.Tour.{driveOf}
 use Rattle.multipliers.specs.Prepared.{IsTree}
 use Rattle.multipliers.specs.Laws.Solve.{some-component}

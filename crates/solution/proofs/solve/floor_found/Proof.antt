@@ -6,7 +6,7 @@ use native.Mathlib.Omega.{arith}
 use lib.ListN.{length, getD}
 use lib.IntN.{ℤ, pos}
 use Rattle.multipliers.specs.Laws.Solve.{Rooted, priced}
-use Rattle.multipliers.specs.Laws.Bound.{zero-priced}
+use Rattle.lagrangian.specs.Laws.Bound.{zero-priced}
 use Rattle.multipliers.specs.Laws.Ascent.{answered-rooted}
 use Rattle.multipliers.specs.Ascent.{multipliersFor}
 use Rattle.integers.specs.Linear.{back64}

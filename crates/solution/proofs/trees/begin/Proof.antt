@@ -3,7 +3,7 @@ use mathlib.Core.Path.{ap, _∙_, subst⁻¹}
 use Prim.Native.Nat.{min}
 use native.Mathlib.Omega.{arith}
 use Rattle.plan.specs.Records.{planValue}
-use Rattle.tree_count.specs.Matrix.{cap}
+use Rattle.small_counts.specs.Matrix.{cap}
 use Rattle.search.specs.Laws.Tried.{countable, root-count}
 use Rattle.multipliers.specs.Laws.Solve.{Rooted, some-component, prepared, given}
 use Rattle.multipliers.specs.Laws.Ascent.{answered-rooted}

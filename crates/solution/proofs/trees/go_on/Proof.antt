@@ -4,7 +4,7 @@ use Prim.Native.Nat.{_+_, _-_, _≤_, _<_}
 use native.Mathlib.Omega.{arith}
 use Rattle.plan.specs.Records.{planValue}
 use Rattle.postman.specs.PlanCall.{triedCount, bestCost, bestArborescence}
-use Rattle.tree_count.specs.Matrix.{cap}
+use Rattle.small_counts.specs.Matrix.{cap}
 use Rattle.solution.specs.Laws.Resumed.{total-is, whole-is, some-tried, tried-few, best-after, tried-cost, tried-tree}
 use borrow.Author.Needs.{needs}
 use Rattle.solution.proofs.trees.go_on.Statement.{statement}

@@ -1,10 +1,10 @@
 -- The count is cut, but above every budget, so that T and whole are the definition's; and a turn takes no more than is left of T.
-use mathlib.Core.Path.{_≡_, sym, ap, _∙_, subst, subst⁻¹}
-use Prim.Native.Nat.{ℕ, _+_, _-_, _≤_, _<_, min}
+use mathlib.Core.Path.{_≡_, ap, _∙_}
+use Prim.Native.Nat.{_+_, _-_, _<_, min}
 use native.Mathlib.Omega.{arith}
 use Rattle.plan.specs.Records.{planValue}
 use Rattle.postman.specs.PlanCall.{triedCount}
-use Rattle.tree_count.specs.Matrix.{cap}
+use Rattle.small_counts.specs.Matrix.{cap}
 use Rattle.solution.specs.Resumed.{triedOn, linksBy}
 use Rattle.solution.specs.Laws.Resumed.{total-is, whole-is, some-tried}
 use borrow.Author.Needs.{needs}

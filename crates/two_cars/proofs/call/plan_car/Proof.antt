@@ -2,7 +2,7 @@
 use mathlib.Core.Path.{sym, ap, _∙_}
 use Rattle.postman.specs.Laws.Acceptance.{call-limits}
 use Rattle.refusal.specs.Verdict.{verdictNumber}
-use Rattle.planner.specs.Laws.Chain.{small-budget, step-refused, step-on}
+use Rattle.call_steps.specs.Laws.Chain.{small-budget, step-refused, step-on}
 use borrow.Author.Needs.{needs}
 use Rattle.two_cars.proofs.call.plan_car.Statement.{statement}
 use Rattle.two_cars.proofs.call.plan_car.Tie as tie

@@ -1,13 +1,12 @@
 -- Where the marks are bad, the answer is the refusal's; where they are not, the car's plan is well formed, the tables are its own, and it is answered.
 use mathlib.Core.Path.{sym, ap, _∙_, subst⁻¹}
-use Prim.Native.Nat.{_≤_}
 use Rattle.postman.specs.Plan.{Plan, WellFormed}
 use Rattle.postman.specs.Laws.Marks.{car-well-formed}
 use Rattle.plan.specs.Laws.Records.{record-arcs}
 use Rattle.shortest.specs.Contracts.{AreWeights}
 use Rattle.multipliers.specs.Tour.{tableOf}
-use Rattle.planner.specs.Laws.Chain.{step-refused, made-planned}
-use Rattle.two_cars.specs.Laws.Marks.{good-length}
+use Rattle.call_steps.specs.Laws.Chain.{step-refused, made-planned}
+use Rattle.car_marks.specs.Laws.Marks.{good-length}
 use Rattle.two_cars.specs.Laws.Call.{table-shared, weights-shared, marks-refused, marks-good}
 use borrow.Author.Needs.{needs}
 use Rattle.two_cars.proofs.call.plan_marked.Statement.{statement}

@@ -4,7 +4,7 @@ use Rattle.postman.specs.Plan.{WellFormed}
 use Rattle.postman.specs.Laws.Windows.{at-well-formed}
 use Rattle.plan.specs.Laws.Records.{record-arcs}
 use Rattle.refusal.specs.Verdict.{verdictNumber}
-use Rattle.planner.specs.Laws.Chain.{step-refused, made-planned}
+use Rattle.call_steps.specs.Laws.Chain.{step-refused, made-planned}
 use borrow.Author.Needs.{needs}
 use Rattle.windows.proofs.call.plan_departing.Statement.{statement}
 use Rattle.windows.proofs.call.plan_departing.Tie as tie

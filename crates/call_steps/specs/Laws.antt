@@ -1,0 +1,5 @@
+-- What is proved about them.
+pub mod Idle
+pub mod Refused
+pub mod Call
+pub mod Chain

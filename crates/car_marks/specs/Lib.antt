@@ -1,0 +1,2 @@
+-- A car's marks, and its plan.
+pub mod Laws

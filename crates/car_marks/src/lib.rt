@@ -1,0 +1,2 @@
+// A car's marks, and its plan.
+pub mod marks; // a car's marks, and its plan

@@ -1,0 +1,2 @@
+// An entry into a machine of districts.
+pub mod enter; // an entry

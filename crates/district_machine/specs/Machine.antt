@@ -1,0 +1,45 @@
+-- THE MACHINE BY VALUE, and the line that it stands for.
+use mathlib.Core.List.{List, [], map}
+use Prim.Native.Nat.{ℕ}
+use lib.ListN.{length, take, replicate}
+use Rattle.solution.specs.declared.trees.Reached.{Reached}
+use Rattle.district_turn.specs.Padded.{padded}
+use Rattle.district_machine.specs.declared.machine.District.{District as DistrictRecord}
+use Rattle.district_machine.specs.declared.machine.Machine.{Machine}
+use Rattle.postman.specs.Districts.{District, district, Line}
+
+-- The plan that a district holds.
+abbrev pub bytesOf : DistrictRecord → List ℕ
+bytesOf d = take (d .length) (d .bytes)
+
+abbrev pub districtOf : DistrictRecord → District
+districtOf d = district (d .place) (bytesOf d) (d .budget) (d .held .tried)
+
+-- The first n districts.
+abbrev pub districtsIn : List DistrictRecord → ℕ → Line
+districtsIn line n = map districtOf (take n line)
+
+-- The districts that wait, the front one first; and their line.
+abbrev pub waitingIn : Machine → List DistrictRecord
+waitingIn m = take (m .waiting) (m .line)
+
+abbrev pub lineOf : Machine → Line
+lineOf m = districtsIn (m .line) (m .waiting)
+
+-- What stands behind the line: zeros.
+abbrev pub nothingHeld : Reached
+nothingHeld = record { cost = 0; tails = replicate 8 0; heads = replicate 8 0; tried = 0 }
+
+abbrev pub emptyDistrict : DistrictRecord
+emptyDistrict = record { place = 0; bytes = replicate 1475 0; length = 0; budget = 0; held = nothingHeld }
+
+-- The machine in which just these districts wait; and the empty one.
+abbrev pub machineOf : List DistrictRecord → Machine
+machineOf ds = record { line = padded 8 emptyDistrict ds; waiting = length ds }
+
+abbrev pub emptyMachine : Machine
+emptyMachine = machineOf []
+
+-- What is read past the eighth district. (No call does.)
+abbrev pub noDistrict : DistrictRecord
+noDistrict = record { place = 0; bytes = []; length = 0; budget = 0; held = record { cost = 0; tails = []; heads = []; tried = 0 } }

@@ -1,0 +1,56 @@
+// The machine: up to eight districts, by value. "Empty at first."
+use solution::trees::Reached;
+ghost use mathlib.Core.Path.{_≡_};
+ghost use Rattle.district_machine.specs.Machine.{nothingHeld, emptyDistrict, emptyMachine};
+
+// A district that is not finished: its place; its plan, in the first `length` bytes; its budget; and how far it is.
+pub struct District {
+    pub place: u8,
+    pub bytes: [u8; 1475],
+    pub length: usize,
+    pub budget: u32,
+    pub held: Reached,
+}
+
+// The districts in the order of the line, its front first: the first `waiting` of eight.
+pub struct Machine {
+    pub line: [District; 8],
+    pub waiting: usize,
+}
+
+// What is held before the first tree.
+pub fn nothing_held() -> Reached
+    ensures { λ r. ⌜ r ≡ nothingHeld ⌝ }
+{
+    Reached {
+        cost: 0,
+        tails: [0u8; 8],
+        heads: [0u8; 8],
+        tried: 0,
+    }
+}
+
+// What stands behind the line.
+pub(crate) fn no_district() -> District
+    ensures { λ r. ⌜ r ≡ emptyDistrict ⌝ }
+{
+    let held = nothing_held();
+    District {
+        place: 0,
+        bytes: [0u8; 1475],
+        length: 0,
+        budget: 0,
+        held: held,
+    }
+}
+
+// THE EMPTY MACHINE.
+pub fn empty() -> Machine
+    ensures { λ r. ⌜ r ≡ emptyMachine ⌝ }
+{
+    let none = no_district();
+    Machine {
+        line: [none; 8],
+        waiting: 0,
+    }
+}

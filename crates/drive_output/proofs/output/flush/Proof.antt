@@ -1,0 +1,29 @@
+-- What waits is within the buffer, which has 4,096 bytes.
+use mathlib.Core.Path.{_≡_, sym}
+use native.Mathlib.Omega.{arith}
+use lib.ListN.{length}
+use lib.Seq.{length-take-le}
+use borrow.Author.Needs.{needs}
+use Rattle.drive_output.proofs.output.flush.Statement.{statement}
+use Rattle.drive_output.proofs.output.flush.Tie as tie
+
+array-share-prefix-space : tie.Need-array-share-prefix-space
+array-share-prefix-space c = search needs
+
+slice-aggregate-write : tie.Need-slice-aggregate-write
+slice-aggregate-write c =
+    let s = c .before in
+    let long : length (s .args .t1) ≡ 4096 = s .good .0 .1 .0 .1 in
+    let few = s .pre in
+    sym (length-take-le (s .args .waiting) (s .args .t1) (omega arith))
+
+write-requires : tie.Need-write-requires
+write-requires c κs = search needs
+
+returns : tie.Need-returns
+returns c = search needs
+
+pub flush-spec : {M : Type 1} → statement M
+flush-spec =
+    tie.close
+    (tie.spec array-share-prefix-space slice-aggregate-write write-requires returns)

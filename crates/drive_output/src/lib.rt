@@ -1,0 +1,3 @@
+// What the program `drive` writes: its output in blocks, and what it says on standard error.
+pub mod message; // what is said on standard error
+pub mod output; // output in blocks

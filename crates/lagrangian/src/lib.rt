@@ -1,0 +1,2 @@
+// L(u) from R, D and u, and the floor.
+pub mod bound; // L(u)

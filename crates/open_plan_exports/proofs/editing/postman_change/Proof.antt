@@ -1,0 +1,45 @@
+-- A slice that is too short, or the state after the call.
+use mathlib.Core.Path.{_∙_}
+use Rattle.integers.specs.Linear.{back64}
+use Rattle.open_plan_exports.specs.Laws.Editing.{moved-short, moved-lent}
+use Rattle.open_plan_bytes.specs.Laws.StateBytes.{stored-back}
+use borrow.Author.Needs.{needs}
+use Rattle.open_plan_exports.proofs.editing.postman_change.Statement.{statement}
+use Rattle.open_plan_exports.proofs.editing.postman_change.Tie as tie
+
+refused-number-requires : tie.Need-refused-number-requires
+refused-number-requires c κs = search needs
+
+returns : tie.Need-returns
+returns c = moved-short _ _ _ (c .before .if1 .taken) (back64 _ (c .refused-number .ok) ∙ c .refused-number .ensures)
+
+load-requires : tie.Need-load-requires
+load-requires c κs = search needs
+
+change-requires : tie.Need-change-requires
+change-requires c κs = search needs
+
+store-moved-requires : tie.Need-store-moved-requires
+store-moved-requires c κs = search needs
+
+same-length : tie.Need-same-length
+same-length c = search needs
+
+returns-2 : tie.Need-returns-2
+returns-2 c =
+    let m = c .before .before .store-moved in
+    let r = c .before .before .before .before .change in
+    let s = c .before .before .before .before .before .load in
+    moved-lent _ _ _ _ (s .result) (r .result) (c .before .before .before .before .before .before .before .if1 .left) (s .ensures) (r .ensures) (stored-back (m .ok) (m .ensures))
+
+pub postman-change-spec : {M : Type 1} → statement M
+postman-change-spec =
+    tie.close
+    (tie.spec
+    refused-number-requires
+    returns
+    load-requires
+    change-requires
+    store-moved-requires
+    same-length
+    returns-2)

@@ -1,3 +1,0 @@
--- What is proved about the definitions.
-pub mod Editing
-pub mod Turns

@@ -1,3 +1,0 @@
-// What other languages call over a state that they lend: `extern "C"` functions over numbers and slices, none of which asks anything of its caller.
-pub mod editing; // an open plan: changes, marks, returns and asking
-pub mod turns; // eight districts in turn

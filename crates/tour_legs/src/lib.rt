@@ -1,0 +1,2 @@
+// The legs of a tour.
+pub mod legs; // the legs of a tour
