@@ -378,3 +378,39 @@ fn a_copy_is_seen() {
         assert_eq!(way.iter().any(|name| copies(&all[name].0, &structs)), expected, "{source}");
     }
 }
+
+/// The lines of a folder's sources that are longer than 140 characters, by file; imports, which the formatter lays out, and the worked cases, a row each, are left out.
+fn long_lines(folder: &Path, found: &mut Vec<(String, String)>) {
+    for entry in std::fs::read_dir(folder).expect("a folder") {
+        let path = entry.expect("an entry").path();
+        if path.is_dir() {
+            long_lines(&path, found);
+        } else if path.extension().is_some_and(|of| of == "rt" || of == "antt") && !path.ends_with("Cases.antt") {
+            let source = std::fs::read_to_string(&path).expect("a source");
+            let is_import = |line: &&str| line.starts_with("use ") || line.starts_with("ghost use ");
+            let long = source.lines().filter(|line| line.chars().count() > 140 && !is_import(line));
+            found.extend(long.map(|line| (path.display().to_string(), line.to_owned())));
+        }
+    }
+}
+
+/// Lines of code, contracts and laws fit a screen. Six definitions are longer: each is counted as a line of what is believed.
+#[test]
+fn lines_fit_a_screen() {
+    let crates = Path::new(env!("CARGO_MANIFEST_DIR")).join("../crates");
+    let mut found = Vec::new();
+    for entry in std::fs::read_dir(crates).expect("the crates") {
+        for part in ["src", "specs"] {
+            let folder = entry.as_ref().expect("a crate").path().join(part);
+            if folder.is_dir() {
+                long_lines(&folder, &mut found);
+            }
+        }
+    }
+    let believed = |(path, _): &&(String, String)| {
+        (path.contains("/postman/specs/") && !path.contains("/Laws/")) || path.ends_with("/districts/specs/Led.antt")
+    };
+    let (definitions, others): (Vec<_>, Vec<_>) = found.iter().partition(believed);
+    assert_eq!(others, Vec::<&(String, String)>::new(), "longer than 140 characters");
+    assert!(definitions.len() <= 6, "{definitions:#?}");
+}

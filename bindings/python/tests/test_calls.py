@@ -58,7 +58,7 @@ class Calls(unittest.TestCase):
             one, plain = deep_call(LOOPS, budget, 1), plan_call(LOOPS, budget)
             self.assertEqual((one.whole, dataclasses.replace(one, whole=plain.whole)), (one.cost == one.floor, plain))
         deep = deep_call(LOOPS, 1, 2)
-        self.assertEqual((deep.cost, deep.floor, deep.trees, deep.whole), (9, 9, 3, True))
+        self.assertEqual((deep.cost, deep.floor, deep.trees, deep.whole), (9, 9, 2, True))
         self.assertEqual((deep_call(LOOPS, 1, limits.MOST_ROUNDS), judge(LOOPS, deep.drive)), (deep, 9))
         for rounds in (0, limits.MOST_ROUNDS + 1):
             self.refused(Refusal.ROUNDS, deep_call, LOOPS, 1, rounds)

@@ -6,7 +6,8 @@ use record_writer::writer::at_most;
 use refusal::Verdict;
 use solution::Planned;
 
-// The words of an answer: places, cost, floor, trees, whole as 0 or 1, parts. The floor of a plan call's answer is at least 0, since R + Z is.
+// The words of an answer: places, cost, floor, trees, whole as 0 or 1, parts. The floor of a plan
+// call's answer is at least 0, since R + Z is.
 pub fn words(r: Planned) -> [u64; 6]
     ensures { λ w. ⌜ w ≡ wordsOf r ⌝ }
 {
@@ -43,7 +44,8 @@ pub fn put_multipliers(u: [i64; 64], lent: &mut [i64])
 
 // An answer that is no refusal goes into the lent slices.
 pub fn hand_over(r: Planned, words_lent: &mut [u64], u_lent: &mut [i64]) -> i64
-    ensures { λ k. ⌜ IsHandedOver r (now («words_lent» .entry)) (now («words_lent» .exit)) (now («u_lent» .entry)) (now («u_lent» .exit)) k ⌝ }
+    ensures { λ k.
+        ⌜ IsHandedOver r (now («words_lent» .entry)) (now («words_lent» .exit)) (now («u_lent» .entry)) (now («u_lent» .exit)) k ⌝ }
 {
     let verdict = r.verdict;
     match verdict {

@@ -1,6 +1,6 @@
 // The number that the count, the distance call and judging answer.
 ghost use mathlib.Core.Path.{_≡_};
-ghost use Rattle.count_call.specs.Contract.{answerOf};
+ghost use Rattle.count_call.specs.Contract.{countAnswer};
 ghost use Rattle.answers.specs.Number.{oneNumber};
 ghost use Rattle.answers.specs.Count.{countOf};
 use crate::number::refused_number;
@@ -12,7 +12,7 @@ use judge::Judged;
 
 // The number, 4,294,967,296 for one above 4,294,967,295, or minus the refusal's.
 pub fn count_number(c: Counted) -> i64
-    ensures { λ k. ⌜ k ≡ oneNumber (countOf (answerOf c)) ⌝ }
+    ensures { λ k. ⌜ k ≡ oneNumber (countOf (countAnswer c)) ⌝ }
 {
     match c {
         Counted::Known(n) => n as i64,

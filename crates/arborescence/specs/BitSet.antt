@@ -1,4 +1,5 @@
--- Sets of components as numbers: x is in the set s where bit x of s is 1. What `&`, `|` and single bits do to a set, by induction on the bit.
+-- Sets of components as numbers: x is in the set s where bit x of s is 1. What `&`, `|` and
+-- single bits do to a set, by induction on the bit.
 use mathlib.Core.Path.{_≡_, refl, sym, ap, _∙_}
 use mathlib.Core.Logic.{_⊎_, inl, inr, _≢_}
 use Prim.Native.Nat.{ℕ, zero, suc, _-_, _*_, _/_, _%_, _^_, _≤_, _<_, min, max}

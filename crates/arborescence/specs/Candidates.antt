@@ -11,4 +11,5 @@ use Rattle.arborescence.specs.Sources.{Sources}
 pub record AreCandidates (p : Plan) (c : Sources) : Type 0 where
   pub components : c .components ≡ componentCount p
   pub count : (q : ℕ) → 1 ≤ q → q < componentCount p → c .count q ≡ length (candidates p q)
-  pub source : (q i : ℕ) → 1 ≤ q → q < componentCount p → i < length (candidates p q) → c .source q i ≡ component p (linkAt (candidates p q) i .tail)
+  pub source : (q i : ℕ) → 1 ≤ q → q < componentCount p → i < length (candidates p q)
+      → c .source q i ≡ component p (linkAt (candidates p q) i .tail)

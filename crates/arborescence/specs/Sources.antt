@@ -1,4 +1,5 @@
--- What trees need of a plan: the number of components; how many candidates component q has; and the component that candidate i of component q comes from, its source.
+-- What trees need of a plan: the number of components; how many candidates component q has; and the component that
+-- candidate i of component q comes from, its source.
 use Prim.Native.Nat.{ℕ, _≤_, _<_}
 
 pub record Sources : Type 0 where

@@ -36,7 +36,8 @@ fn swept(sets: &[u64; 8], k: usize, s: u64) -> u64
     r
 }
 
-// Whether all k components are reached, each entered from the components of its set. It stops at the sweep that reaches all, and at the first that adds none.
+// Whether all k components are reached, each entered from the components of its set. It stops at the sweep that
+// reaches all, and at the first that adds none.
 pub fn all_reached(sets: &[u64; 8], k: usize) -> bool
     requires { ⌜ (1 ≤ k) × (k ≤ 8) ⌝ }
     ensures { λ r. ⌜ r ≡ reachesAll (λ q. getD (now (sets .entry)) q 0) k ⌝ }

@@ -16,7 +16,8 @@ fieldsArc f = record { tail = f .tail; head = f .head; standing = f .standing; c
 
 -- Whether the checking cost of an arc, a must arc or another, is wrong in edition e.
 abbrev pub mispriced : ℕ → Bool → ℕ → ℕ → Bool
-mispriced e must cost service = cond must (eqb service 0) (not (eqb service 0)) || (not (isSecond e) && not (eqb service (cond must cost 0)))
+mispriced e must cost service =
+    cond must (eqb service 0) (not (eqb service 0)) || (not (isSecond e) && not (eqb service (cond must cost 0)))
 
 -- "5, 6, 7", of the fields and the kind of standing.
 abbrev pub fieldConditions : ℕ → ℕ → Fields → Standing → Conditions

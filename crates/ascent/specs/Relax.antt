@@ -1,5 +1,6 @@
--- Multipliers brought back under document 01's two conditions. Between the vertices vs every pair asks x(v) ≤ x(w) + d(v,w), and where something is sent from w to v it asks x(v) ≤ x(w) − d(w,v).
--- Lowered, each multiplier becomes the largest that all others allow; raised (`up`), the least, by the same pairs read the other way. A vertex whose multiplier has changed is open, until it has asked of all others.
+-- Multipliers brought back under document 01's two conditions. Between the vertices vs every pair asks x(v) ≤ x(w) + d(v,w), and where
+-- something is sent from w to v it asks x(v) ≤ x(w) − d(w,v). Lowered, each multiplier becomes the largest that all others allow; raised
+-- (`up`), the least, by the same pairs read the other way. A vertex whose multiplier has changed is open, until it has asked of all others.
 use mathlib.Core.Bool.{Bool, true, not, cond, _&&_}
 use mathlib.Core.List.{List}
 use Prim.Native.Nat.{ℕ, zero, suc, _+_, _*_}
@@ -7,7 +8,7 @@ use lib.Dec.{eqb, ltb}
 use lib.IntN.{ℤ, pos, _+ℤ_, _-ℤ_}
 use lib.ListN.{length, getD, set, replicate}
 use lib.Signed.{ltZ}
-use Rattle.residual_search.specs.Step.{cell}
+use Rattle.postman.specs.Steps.{cell}
 use Rattle.multiplier_steps.specs.Turns.{turns}
 use Rattle.multiplier_steps.specs.Steps.{capped, cappedAll}
 

@@ -1,5 +1,6 @@
--- One step of the ascent, from multipliers x: a cheapest tree is found, the multipliers of its links' heads rise by s and those of their tails fall, half of the last change is made once more, and all is brought back
--- under the two conditions, from above or from below. The tree is balanced where that leaves every multiplier as it is.
+-- One step of the ascent, from multipliers x: a cheapest tree is found, the multipliers of its links' heads rise by s and those of their
+-- tails fall, half of the last change is made once more, and all is brought back under the two conditions, from above or from below. The
+-- tree is balanced where that leaves every multiplier as it is.
 use mathlib.Core.Bool.{Bool, true, _&&_}
 use mathlib.Core.List.{List}
 use Prim.Native.Nat.{ℕ, _-_, _^_}
@@ -33,4 +34,8 @@ module _ (d : List (List ℕ)) (f vs component : List ℕ) (k : ℕ) (up : Bool)
       let o = offers d x component vs in
       let t = grown (o .0) (2 ^ (k - 1)) in
       let y = along (t .1) (o .1) s x (2 ^ (k - 1) - 1) in
-      record { multipliers = settled d f up vs (carried vs y x before); value = getD (t .0) (2 ^ (k - 1) - 1) (pos 0); balanced = areSame vs y x }
+      record {
+        multipliers = settled d f up vs (carried vs y x before);
+        value = getD (t .0) (2 ^ (k - 1) - 1) (pos 0);
+        balanced = areSame vs y x;
+      }

@@ -1,4 +1,5 @@
-// Multipliers brought back under document 01's two conditions: every vertex whose multiplier changed asks of all others, until none is open.
+// Multipliers brought back under document 01's two conditions: every vertex whose multiplier
+// changed asks of all others, until none is open.
 use integers::wide;
 use multiplier_steps::steps::capped;
 use multiplier_steps::steps::capped_all;
@@ -66,7 +67,9 @@ fn move_vertex(
     marks: &mut [u8; 64],
 )
     requires { ⌜ (v < 64) × (w < 64) × Within beyond base ⌝ }
-    ensures { λ r. ⌜ (now (x .exit), now (marks .exit)) ≡ moveVertex (now (d .entry)) (now (f .entry)) up w base (now (x .entry), now (marks .entry)) v ⌝ }
+    ensures { λ r.
+        ⌜ (now (x .exit), now (marks .exit))
+        ≡ moveVertex (now (d .entry)) (now (f .entry)) up w base (now (x .entry), now (marks .entry)) v ⌝ }
 {
     let back = f[place(up, v, w)];
     let c = asked(up, back, d[v][w], d[w][v], base);
@@ -88,7 +91,9 @@ fn move_all(
     marks: &mut [u8; 64],
 )
     requires { ⌜ (w < 64) × Within beyond base × AtMost 63 (now vs) ⌝ }
-    ensures { λ r. ⌜ (now (x .exit), now (marks .exit)) ≡ moveAll (now (d .entry)) (now (f .entry)) up (now (vs .entry)) w base (now (x .entry), now (marks .entry)) ⌝ }
+    ensures { λ r.
+        ⌜ (now (x .exit), now (marks .exit))
+        ≡ moveAll (now (d .entry)) (now (f .entry)) up (now (vs .entry)) w base (now (x .entry), now (marks .entry)) ⌝ }
 {
     let mut a: usize = 0;
     while a < vs.len() {
@@ -109,7 +114,9 @@ fn ask(
     marks: &mut [u8; 64],
 )
     requires { ⌜ (w < 64) × AtMost 63 (now vs) ⌝ }
-    ensures { λ r. ⌜ (now (x .exit), now (marks .exit)) ≡ askAll (now (d .entry)) (now (f .entry)) up (now (vs .entry)) (now (x .entry), now (marks .entry)) w ⌝ }
+    ensures { λ r.
+        ⌜ (now (x .exit), now (marks .exit))
+        ≡ askAll (now (d .entry)) (now (f .entry)) up (now (vs .entry)) (now (x .entry), now (marks .entry)) w ⌝ }
 {
     if marks[w] > 0 {
         marks[w] = 0;
@@ -128,7 +135,9 @@ fn sweep(
     marks: &mut [u8; 64],
 )
     requires { ⌜ AtMost 63 (now vs) ⌝ }
-    ensures { λ r. ⌜ (now (x .exit), now (marks .exit)) ≡ sweepAll (now (d .entry)) (now (f .entry)) up (now (vs .entry)) (now (x .entry), now (marks .entry)) ⌝ }
+    ensures { λ r.
+        ⌜ (now (x .exit), now (marks .exit))
+        ≡ sweepAll (now (d .entry)) (now (f .entry)) up (now (vs .entry)) (now (x .entry), now (marks .entry)) ⌝ }
 {
     let mut a: usize = 0;
     while a < vs.len() {

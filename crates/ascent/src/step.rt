@@ -65,7 +65,9 @@ pub fn step(
     before: &[i64; 64],
 ) -> Stepped
     requires { ⌜ AtMost 63 (now vs) × (1 ≤ k) × (k ≤ 8) × (s ≤ beyond) × AreSmall beyond (now x) × AreSmall beyond (now before) ⌝ }
-    ensures { λ r. ⌜ stepOf r ≡ stepFrom (now (d .entry)) (now (f .entry)) (now (vs .entry)) (now (component .entry)) k up s (now (x .entry)) (now (before .entry)) ⌝ }
+    ensures { λ r.
+        ⌜ stepOf r ≡ stepFrom (now (d .entry)) (now (f .entry)) (now (vs .entry)) (now (component .entry)) k up s (now (x .entry))
+        (now (before .entry)) ⌝ }
 {
     let o = offers(d, x, component, vs);
     let costs = o.costs;

@@ -1,4 +1,5 @@
--- The cheapest pair for each two components: for each of 8 rows of 8 the least reduced cost of a pair of vertices, and the first pair that has it, as 64 × tail + head.
+-- The cheapest pair for each two components: for each of 8 rows of 8 the least reduced cost of a pair of vertices, and the
+-- first pair that has it, as 64 × tail + head.
 use mathlib.Core.Bool.{Bool, cond}
 use mathlib.Core.List.{List}
 use Prim.Native.Nat.{ℕ, _+_, _*_, _%_}
@@ -6,7 +7,7 @@ use lib.ListN.{length, getD, set, replicate}
 use lib.IntN.{ℤ, pos, _+ℤ_, _-ℤ_}
 use lib.Signed.{ltZ}
 use Rattle.residual_search.specs.Search.{beyond}
-use Rattle.residual_search.specs.Step.{cell}
+use Rattle.postman.specs.Steps.{cell}
 use Rattle.multiplier_steps.specs.Turns.{turns}
 
 abbrev pub Offers : Type 0

@@ -1,5 +1,6 @@
--- A cheapest tree over the offers m, by sets: the set of the components that are reached grows from component 0 by one component at a time, entered by the cheapest offer from the set. For each set the
--- least cost is held, and the entry by which its last component was reached, the first of equal ones. A set is a number, of which bit q says whether it has component q, and stands at half that number.
+-- A cheapest tree over the offers m, by sets: the set of the components that are reached grows from component 0 by one component at a time,
+-- entered by the cheapest offer from the set. For each set the least cost is held, and the entry by which its last component was reached,
+-- the first of equal ones. A set is a number, of which bit q says whether it has component q, and stands at half that number.
 use mathlib.Core.Bool.{Bool, not, cond, _&&_}
 use mathlib.Core.List.{List}
 use Prim.Native.Nat.{ℕ, _+_, _*_, _-_, _/_, _%_, _^_}
@@ -44,8 +45,10 @@ module _ (m : List ℤ) where
   enter s t q =
       let p = entry s q in
       let c = costBy s (t .0) p q in
-      let better = isBetter s q c (getD (t .0) (joined s q) (pos 0)) in
-      (set (t .0) (joined s q) (cond better c (getD (t .0) (joined s q) (pos 0))), set (t .1) (joined s q) (cond better (p * 8 + q) (getD (t .1) (joined s q) 0)))
+      let better = isBetter s q c (getD (t .0) (joined s q) (pos 0)) in (
+        set (t .0) (joined s q) (cond better c (getD (t .0) (joined s q) (pos 0))),
+        set (t .1) (joined s q) (cond better (p * 8 + q) (getD (t .1) (joined s q) 0)),
+      )
 
   unfoldable pub extend : Sets → ℕ → Sets
   unfolding turns enter

@@ -33,7 +33,9 @@ fn offer_pair(
     at: &mut [u16; 64],
 )
     requires { ⌜ (i < 64) × (j < 64) × (row ≡ part (now component) i * 8) × (xi ≡ getD (now x) i (pos 0)) × AreSmall beyond (now x) ⌝ }
-    ensures { λ r. ⌜ (now (m .exit), now (at .exit)) ≡ offer (now (d .entry)) (now (x .entry)) (now (component .entry)) i (now (m .entry), now (at .entry)) j ⌝ }
+    ensures { λ r.
+        ⌜ (now (m .exit), now (at .exit))
+        ≡ offer (now (d .entry)) (now (x .entry)) (now (component .entry)) i (now (m .entry), now (at .entry)) j ⌝ }
 {
     let l = row + part_of(component, j);
     let c = reduced(d[i][j], xi, x[j]);
@@ -54,7 +56,9 @@ fn offer_from(
     at: &mut [u16; 64],
 )
     requires { ⌜ (i < 64) × AtMost 63 (now vs) × AreSmall beyond (now x) ⌝ }
-    ensures { λ r. ⌜ (now (m .exit), now (at .exit)) ≡ offersFrom (now (d .entry)) (now (x .entry)) (now (component .entry)) (now (vs .entry)) (now (m .entry), now (at .entry)) i ⌝ }
+    ensures { λ r.
+        ⌜ (now (m .exit), now (at .exit))
+        ≡ offersFrom (now (d .entry)) (now (x .entry)) (now (component .entry)) (now (vs .entry)) (now (m .entry), now (at .entry)) i ⌝ }
 {
     let row = part_of(component, i) * 8;
     let xi = x[i];

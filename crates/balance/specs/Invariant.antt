@@ -6,11 +6,13 @@ use lib.ListN.{length, getD}
 use Rattle.postman.specs.Lists.{occurrences}
 use Rattle.postman.specs.Link.{Link}
 use Rattle.postman.specs.Balancing.{sumOver}
-use Rattle.balance.specs.Optimality.{Feasible, Tight, Balances, sent}
-use Rattle.residual_search.specs.Step.{State, amount, potential}
+use Rattle.balance.specs.Optimality.{ArePotentials, Tight, Balances, sent}
+use Rattle.postman.specs.Steps.{amount}
+use Rattle.residual_search.specs.Step.{State, potential}
 
--- What is asked of the distances d between the vertices vs: the vertices are distinct, at most 64 and below 64, no distance exceeds 63 arcs of cost 65,535, a vertex is at no
--- distance from itself, and a way by a third vertex is no shorter. `Laws.Plan`: the required vertices of a plan that is not cut off are so.
+-- What is asked of the distances d between the vertices vs: the vertices are distinct, at most 64 and below 64, no distance exceeds 63
+-- arcs of cost 65,535, a vertex is at no distance from itself, and a way by a third vertex is no shorter. `Laws.Plan`: the required
+-- vertices of a plan that is not cut off are so.
 pub record Metric (d : ℕ → ℕ → ℕ) (vs : List ℕ) : Type 0 where
   pub once : (i : ℕ) → occurrences i vs ≤ 1
   pub size : length vs ≤ 64
@@ -31,7 +33,8 @@ Joining vs arcs = (a : Link) → List·Memᴰ a arcs → List·Memᴰ (a .tail) 
 abbrev pub limit : ℕ
 limit = 1000
 
--- The numbers of a state are small: an arc adds at most one to an amount, and to a potential at most a residual length, which two distances bound.
+-- The numbers of a state are small: an arc adds at most one to an amount, and to a potential at most a
+-- residual length, which two distances bound.
 pub record Small (s : State) : Type 0 where
   pub long-amounts : length (s .amounts) ≡ 4096
   pub long-potentials : length (s .potentials) ≡ 64
@@ -54,7 +57,7 @@ pub record Sparse (vs f : List ℕ) : Type 0 where
 -- The potentials certify the amounts.
 pub record Certified (d : ℕ → ℕ → ℕ) (vs : List ℕ) (s : State) : Type 0 where
   pub numbers : Small s
-  pub feasible : Feasible d vs (potential (s .potentials))
+  pub feasible : ArePotentials d vs (potential (s .potentials))
   pub tight : Tight d vs (amount (s .amounts)) (potential (s .potentials))
   pub loopless : Loopless vs (s .amounts)
 

@@ -11,7 +11,7 @@ ghost use mathlib.Core.List.{List·Memᴰ};
 ghost use Prim.Native.Nat.{_<_};
 ghost use Rattle.residual_search.specs.Bounds.{AtMost};
 ghost use Rattle.residual_search.specs.Search.{beyond};
-ghost use Rattle.residual_search.specs.Step.{cell};
+ghost use Rattle.postman.specs.Steps.{cell};
 ghost use Rattle.balance.specs.Multipliers.{fromRoot, multipliers as greatest};
 ghost use Rattle.balance.specs.Invariant.{Metric, Certified, limit};
 ghost use Rattle.balance.specs.Records.{stateOf};
@@ -34,7 +34,8 @@ fn true_costs(x: &[u64; 64], u: &[u64; 64], vs: &[u8], root: usize) -> [i64; 64]
 
 // The greatest multipliers that are 0 at the root.
 pub fn multipliers(s: Balance, d: &[[u32; 64]; 64], vs: &[u8], root: u8) -> [i64; 64]
-    requires { ⌜ Metric (cell (now d)) (now vs) × Certified (cell (now d)) (now vs) (stateOf s) × (s .count < limit) × List·Memᴰ root (now vs) ⌝ }
+    requires { ⌜ Metric (cell (now d)) (now vs) × Certified (cell (now d)) (now vs) (stateOf s) × (s .count < limit)
+        × List·Memᴰ root (now vs) ⌝ }
     ensures { λ r. ⌜ r ≡ greatest (cell (now (d .entry))) (now (vs .entry)) (stateOf s) root ⌝ }
 {
     let found = search_towards(d, &s.amounts, &s.potentials, vs, root, root, vs.len());

@@ -10,11 +10,13 @@ ghost use mathlib.Core.Path.{_≡_};
 ghost use mathlib.Core.List.{List·Memᴰ};
 ghost use Prim.Native.Nat.{_+_, _<_, _≤_};
 ghost use lib.ListN.{length};
-ghost use Rattle.residual_search.specs.Step.{cell, stateIn, empty as emptyState, add as addState, addAll as addAllStates, arcsOf, IsAdded};
+ghost use Rattle.postman.specs.Steps.{cell};
+ghost use Rattle.residual_search.specs.Step.{stateIn, empty as emptyState, add as addState, addAll as addAllStates, arcsOf, IsAdded};
 ghost use Rattle.balance.specs.Invariant.{Metric, Certified, AllIn, limit};
 ghost use Rattle.balance.specs.Records.{stateOf};
 
-// The amounts, at i * 64 + j what is sent from vertex i to vertex j, and the potentials that certify them, the amounts' cost, and how many arcs were counted.
+// The amounts, at i * 64 + j what is sent from vertex i to vertex j, and the potentials that certify them, the
+// amounts' cost, and how many arcs were counted.
 pub struct Balance {
     pub amounts: [u16; 4096],
     pub potentials: [u64; 64],
@@ -41,7 +43,8 @@ pub struct Added {
     pub cost: u64,
 }
 
-// One arc more, but for the amounts: the cheapest residual path for one unit more from its head to its tail, and what it does to the potentials and the cost.
+// One arc more, but for the amounts: the cheapest residual path for one unit more from its head to its tail, and
+// what it does to the potentials and the cost.
 pub fn price<'a>(
     f: &'a [u16; 4096],
     u: &'a [u64; 64],
@@ -52,8 +55,11 @@ pub fn price<'a>(
     tail: u8,
     head: u8,
 ) -> Added
-    requires { ⌜ Metric (cell (now d)) (now vs) × Certified (cell (now d)) (now vs) (stateIn (now f) (now u) cost count) × (count < limit) × List·Memᴰ tail (now vs) × List·Memᴰ head (now vs) ⌝ }
-    ensures { λ r. ⌜ IsAdded (cell (now (d .entry))) (now (vs .entry)) (stateIn (now (f .entry)) (now (u .entry)) cost count) tail head (r .next) (r .potentials) (r .cost) ⌝ }
+    requires { ⌜ Metric (cell (now d)) (now vs) × Certified (cell (now d)) (now vs) (stateIn (now f) (now u) cost count) × (count < limit)
+        × List·Memᴰ tail (now vs) × List·Memᴰ head (now vs) ⌝ }
+    ensures { λ r.
+        ⌜ IsAdded (cell (now (d .entry))) (now (vs .entry)) (stateIn (now (f .entry)) (now (u .entry)) cost count) tail head (r .next)
+        (r .potentials) (r .cost) ⌝ }
 {
     let last = settled_by(tail, head, vs.len());
     let found = search_towards(d, f, u, vs, tail, head, last);
@@ -83,8 +89,11 @@ pub fn add_in(
     tail: u8,
     head: u8,
 ) -> Added
-    requires { ⌜ Metric (cell (now d)) (now vs) × Certified (cell (now d)) (now vs) (stateIn (now f) (now u) cost count) × (count < limit) × List·Memᴰ tail (now vs) × List·Memᴰ head (now vs) ⌝ }
-    ensures { λ r. ⌜ stateIn (now (f .exit)) (r .potentials) (r .cost) (count + 1) ≡ addState (cell (now (d .entry))) (now (vs .entry)) (stateIn (now (f .entry)) (now (u .entry)) cost count) tail head ⌝ }
+    requires { ⌜ Metric (cell (now d)) (now vs) × Certified (cell (now d)) (now vs) (stateIn (now f) (now u) cost count) × (count < limit)
+        × List·Memᴰ tail (now vs) × List·Memᴰ head (now vs) ⌝ }
+    ensures { λ r.
+        ⌜ stateIn (now (f .exit)) (r .potentials) (r .cost) (count + 1)
+        ≡ addState (cell (now (d .entry))) (now (vs .entry)) (stateIn (now (f .entry)) (now (u .entry)) cost count) tail head ⌝ }
 {
     let added = price(f, u, cost, count, d, vs, tail, head);
     let next = added.next;
@@ -94,8 +103,12 @@ pub fn add_in(
 
 // Arcs added one by one, in their order.
 pub fn add_all(s: Balance, d: &[[u32; 64]; 64], vs: &[u8], tails: &[u8], heads: &[u8]) -> Balance
-    requires { ⌜ Metric (cell (now d)) (now vs) × Certified (cell (now d)) (now vs) (stateOf s) × (length (now tails) ≡ length (now heads)) × (s .count + length (now tails) ≤ limit) × AllIn (now vs) (now tails) × AllIn (now vs) (now heads) ⌝ }
-    ensures { λ r. ⌜ (stateOf r ≡ addAllStates (cell (now (d .entry))) (now (vs .entry)) (stateOf s) (arcsOf (now (tails .entry)) (now (heads .entry)))) × Certified (cell (now (d .entry))) (now (vs .entry)) (stateOf r) × (r .count ≡ s .count + length (now (tails .entry))) ⌝ }
+    requires { ⌜ Metric (cell (now d)) (now vs) × Certified (cell (now d)) (now vs) (stateOf s) × (length (now tails) ≡ length (now heads))
+        × (s .count + length (now tails) ≤ limit) × AllIn (now vs) (now tails) × AllIn (now vs) (now heads) ⌝ }
+    ensures { λ r.
+        ⌜ (stateOf r
+        ≡ addAllStates (cell (now (d .entry))) (now (vs .entry)) (stateOf s) (arcsOf (now (tails .entry)) (now (heads .entry))))
+        × Certified (cell (now (d .entry))) (now (vs .entry)) (stateOf r) × (r .count ≡ s .count + length (now (tails .entry))) ⌝ }
 {
     let mut f = s.amounts;
     let mut u = s.potentials;

@@ -27,7 +27,8 @@ fn can_take(file: &[u8], at: usize, width: usize) -> bool
     (at + width + 7) / 8 <= file.len()
 }
 
-// The work: the field of `width` bits from bit `at` on, and the position after it; 0, and the position as it was, where there is no such field.
+// The work: the field of `width` bits from bit `at` on, and the position after it; 0, and the
+// position as it was, where there is no such field.
 pub(crate) fn field_from(file: &[u8], at: usize, width: usize) -> Taken
     ensures { λ r. ⌜ (r .field ≡ takenField (now (file .entry)) at width) × (r .at ≡ takenAt (now (file .entry)) at width) ⌝ }
 {
@@ -50,7 +51,9 @@ impl<'a> BitReader<'a> {
 
     // The field of `width` bits at the position, and the moved position.
     pub fn take(self, width: usize) -> Taken
-        ensures { λ r. ⌜ (r .field ≡ takenField (now (self .entry .file)) (self .entry .at) width) × (r .at ≡ takenAt (now (self .entry .file)) (self .entry .at) width) ⌝ }
+        ensures { λ r.
+            ⌜ (r .field ≡ takenField (now (self .entry .file)) (self .entry .at) width)
+            × (r .at ≡ takenAt (now (self .entry .file)) (self .entry .at) width) ⌝ }
     {
         field_from(self.file, self.at, width)
     }

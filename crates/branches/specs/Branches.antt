@@ -11,8 +11,8 @@ use Rattle.postman.specs.Link.{Link}
 use Rattle.postman.specs.Component.{componentCount}
 use Rattle.postman.specs.Balancing.{heads, tails, linkCost}
 use Rattle.postman.specs.LagrangianBound.{AreMultipliers}
-use Rattle.postman.specs.Steps.{Joins}
-use Rattle.residual_search.specs.Step.{State, cell, add}
+use Rattle.postman.specs.Steps.{Joins, cell}
+use Rattle.residual_search.specs.Step.{State, add}
 use Rattle.balance.specs.Invariant.{Metric, Certified, Counted}
 use Rattle.balance.specs.Balance.{balance}
 use Rattle.small_counts.specs.Matrix.{entriesOf, AreFew, IsMerged, AreCounts}
@@ -50,7 +50,8 @@ pub record IsBranch (p : Plan) (table : List (List ℕ)) (f : List ℕ) (b : Bra
   pub counted : Counted (required p) (stateIn f b) (heads p (chosenIn b)) (tails p (chosenIn b))
   pub fixed : b .fixed ≡ requiredCost p + linkCost p (chosenIn b)
   pub named : Named p (namesIn b) (b .a)
-  pub entries : (q x : ℕ) → b .a ≤ q → q < componentCount p → List·Memᴰ x (0 ∷ upFrom (b .a) (componentCount p - b .a)) → entriesOf (b .entries) q x ≡ occurrences x (sourcesBy p (namesIn b) q)
+  pub entries : (q x : ℕ) → b .a ≤ q → q < componentCount p → List·Memᴰ x (0 ∷ upFrom (b .a) (componentCount p - b .a))
+      → entriesOf (b .entries) q x ≡ occurrences x (sourcesBy p (namesIn b) q)
   pub few : AreFew (b .entries) (b .a) (componentCount p)
   pub counts : b .a < componentCount p → AreCounts (b .entries) (b .a) (componentCount p) (b .counts)
 

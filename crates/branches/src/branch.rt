@@ -18,8 +18,9 @@ ghost use Rattle.small_counts.specs.Matrix.{AreFew, AreCounts};
 ghost use Rattle.tree_bounds.specs.Prepared.{Prepared};
 ghost use Rattle.branches.specs.Branches.{CanGoBelow, IsBelow, AreGiven, IsRoot};
 
-// The links chosen; the potentials, the cost and the number of arcs of the required arcs balanced with them, of which the amounts are lent beside the branch; R and the d of the links;
-// which component each has become one with; how many entries each component has from each other; and how many trees each branch below has.
+// The links chosen; the potentials, the cost and the number of arcs of the required arcs balanced with them, of which the amounts are lent
+// beside the branch; R and the d of the links; which component each has become one with; how many entries each component has from each
+// other; and how many trees each branch below has.
 pub struct Branch {
     pub a: usize,
     pub tails: [u8; 8],
@@ -53,7 +54,9 @@ pub fn below(
     k: usize,
 ) -> Branch
     requires { ⌜ CanGoBelow (now d) (now vs) (now f) b (c .tail) (c .head) (c .name) k × (b .a + 1 < k) ⌝ }
-    ensures { λ r. ⌜ IsBelow (now (d .entry)) (now (vs .entry)) (now (f .entry)) b (c .tail) (c .head) (c .name) k (now (f .exit)) r × AreCounts (r .entries) (r .a) k (r .counts) ⌝ }
+    ensures { λ r.
+        ⌜ IsBelow (now (d .entry)) (now (vs .entry)) (now (f .entry)) b (c .tail) (c .head) (c .name) k (now (f .exit)) r
+        × AreCounts (r .entries) (r .a) k (r .counts) ⌝ }
 {
     let a = b.a;
     let u = b.potentials;
@@ -91,8 +94,8 @@ fn root_counts(entries: [u32; 64], k: usize) -> [u64; 8]
     counts(entries, 1, k)
 }
 
-// The branch that has no choice yet, from the state of the required arcs, the multipliers u, R, and the number of entries that each component has from each other. The multipliers certify
-// the state's amounts, so they are its potentials.
+// The branch that has no choice yet, from the state of the required arcs, the multipliers u, R, and the number of entries that each
+// component has from each other. The multipliers certify the state's amounts, so they are its potentials.
 pub fn root(
     vs: &[u8],
     k: usize,
@@ -101,8 +104,13 @@ pub fn root(
     required_cost: u64,
     entries: [u32; 64],
 ) -> Branch
-    requires { ⌜ ((p : Plan) × (table : List (List ℕ)) × (start : List ℕ) × (source : List ℕ) × (tails : List ℕ) × (heads : List ℕ) × Prepared p table (now vs) start source tails heads k × AreGiven p table (stateOf base) (now u) «required_cost» entries) ⌝ }
-    ensures { λ r. ⌜ ((p : Plan) (table : List (List ℕ)) (start source tails heads : List ℕ) → Prepared p table (now (vs .entry)) start source tails heads k → AreGiven p table (stateOf base) (now (u .entry)) «required_cost» entries → IsRoot p table (base .amounts) r) ⌝ }
+    requires { ⌜
+        ((p : Plan) × (table : List (List ℕ)) × (start : List ℕ) × (source : List ℕ) × (tails : List ℕ) × (heads : List ℕ)
+        × Prepared p table (now vs) start source tails heads k × AreGiven p table (stateOf base) (now u) «required_cost» entries) ⌝ }
+    ensures { λ r.
+        ⌜ ((p : Plan) (table : List (List ℕ)) (start source tails heads : List ℕ)
+        → Prepared p table (now (vs .entry)) start source tails heads k
+        → AreGiven p table (stateOf base) (now (u .entry)) «required_cost» entries → IsRoot p table (base .amounts) r) ⌝ }
 {
     let w = shifted(u, vs);
     Branch {

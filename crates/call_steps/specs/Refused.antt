@@ -7,4 +7,14 @@ use Rattle.refusal.specs.declared.Verdict.the-variants.{Refused}
 use Rattle.solution.specs.declared.Planned.{Planned}
 
 abbrev pub refusedWith : Refusal → Planned
-refusedWith r = record { verdict = Refused r; places = 0; cost = 0; floor = pos 0; trees = 0; whole = false; parts = 0; multipliers = replicate 64 (pos 0) }
+refusedWith r =
+    record {
+      verdict = Refused r;
+      places = 0;
+      cost = 0;
+      floor = pos 0;
+      trees = 0;
+      whole = false;
+      parts = 0;
+      multipliers = replicate 64 (pos 0);
+    }

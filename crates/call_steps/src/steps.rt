@@ -85,8 +85,11 @@ fn plan_measured(
     budget: u32,
     sheet: &mut [u16],
 ) -> Planned
-    requires { ⌜ IsMeasured (planValue plan) (now table) net × (1 ≤ budget) × (sheetPlaces ≤ length (now sheet)) × AreWeights (planValue plan) (now weights) ⌝ }
-    ensures { λ r. ⌜ IsPlanned (planValue plan) budget (networkRefusal (net .components) (net .«cut_off»)) (now (sheet .entry)) (now (sheet .exit)) r ⌝ }
+    requires { ⌜ IsMeasured (planValue plan) (now table) net × (1 ≤ budget) × (sheetPlaces ≤ length (now sheet))
+        × AreWeights (planValue plan) (now weights) ⌝ }
+    ensures { λ r.
+        ⌜ IsPlanned (planValue plan) budget (networkRefusal (net .components) (net .«cut_off»)) (now (sheet .entry))
+        (now (sheet .exit)) r ⌝ }
 {
     match network_verdict(net.components, net.cut_off) {
         Verdict::Refused(r) => refused(r),
@@ -94,7 +97,8 @@ fn plan_measured(
     }
 }
 
-// The network of a plan that is well formed, from the tables of its distances and weights, which are lent: what several plans share is computed once.
+// The network of a plan that is well formed, from the tables of its distances and weights, which are
+// lent: what several plans share is computed once.
 pub fn plan_tabled(
     plan: Plan,
     table: &[[u32; 64]; 64],

@@ -13,5 +13,7 @@ pub record AreLaidOut (p : Plan) (r : Candidates) : Type 0 where
   pub layout : IsLayout (componentCount p) (r .start) (r .source)
   pub are-candidates : AreCandidates p (laidOut (componentCount p) (r .start) (r .source))
   pub none-first : (getD (r .start) 0 0 ≡ 0) × (getD (r .start) 1 0 ≡ 0)
-  pub tail : (q i : ℕ) → 1 ≤ q → q < componentCount p → i < length (candidates p q) → getD (r .tails) (getD (r .start) q 0 + i) 0 ≡ linkAt (candidates p q) i .tail
-  pub head : (q i : ℕ) → 1 ≤ q → q < componentCount p → i < length (candidates p q) → getD (r .heads) (getD (r .start) q 0 + i) 0 ≡ linkAt (candidates p q) i .head
+  pub tail : (q i : ℕ) → 1 ≤ q → q < componentCount p → i < length (candidates p q)
+      → getD (r .tails) (getD (r .start) q 0 + i) 0 ≡ linkAt (candidates p q) i .tail
+  pub head : (q i : ℕ) → 1 ≤ q → q < componentCount p → i < length (candidates p q)
+      → getD (r .heads) (getD (r .start) q 0 + i) 0 ≡ linkAt (candidates p q) i .head

@@ -1,5 +1,5 @@
--- The candidates of the components by places: the pair (i, j) of vertices has the place 64 i + j, which ascends as (i, j) does. All of it over the arrays that say
--- which pairs are links and which component a vertex is in.
+-- The candidates of the components by places: the pair (i, j) of vertices has the place 64 i + j, which ascends as (i, j) does. All of it
+-- over the arrays that say which pairs are links and which component a vertex is in.
 use mathlib.Core.Path.{_≡_}
 use mathlib.Core.Bool.{Bool, false, not, _&&_}
 use mathlib.Core.List.{List, [], _++_}

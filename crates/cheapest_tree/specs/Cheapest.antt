@@ -1,5 +1,5 @@
--- The cheapest arborescence over a matrix of costs, w p q the cost of entering component q from component p. The components are 0, the root, and those of a
--- list vs; while a circle of entries is shrunk to one component, the list gets shorter and the numbers stay.
+-- The cheapest arborescence over a matrix of costs, w p q the cost of entering component q from component p. The components are 0, the
+-- root, and those of a list vs; while a circle of entries is shrunk to one component, the list gets shorter and the numbers stay.
 use mathlib.Core.Path.{_≡_}
 use mathlib.Core.Logic.{_≢_}
 use mathlib.Core.Bool.{Bool, not, _||_}
@@ -19,7 +19,7 @@ pub record AreOthers (vs : List ℕ) : Type 0 where
   pub once : (q : ℕ) → occurrences q vs ≤ 1
 
 -- every component but the root is entered from a component, and going back arrives at the root: a rank falls at each step
-pub record IsTree (vs : List ℕ) (parent : ℕ → ℕ) : Type 0 where
+pub record IsRootedTree (vs : List ℕ) (parent : ℕ → ℕ) : Type 0 where
   pub inside : (q : ℕ) → List·Memᴰ q vs → List·Memᴰ (parent q) (0 ∷ vs)
   pub rank : ℕ → ℕ
   pub falls : (q : ℕ) → List·Memᴰ q vs → rank (parent q) < rank q
@@ -31,9 +31,9 @@ treeCost w vs parent = sumOfℤ (map (λ q. w (parent q) q) vs)
 -- a is the least cost of a tree
 pub record IsCheapest (vs : List ℕ) (w : Matrix) (a : ℤ) : Type 0 where
   pub tree : ℕ → ℕ
-  pub is-tree : IsTree vs tree
+  pub is-tree : IsRootedTree vs tree
   pub attained : treeCost w vs tree ≡ a
-  pub least : (parent : ℕ → ℕ) → IsTree vs parent → a ≤ℤ treeCost w vs parent
+  pub least : (parent : ℕ → ℕ) → IsRootedTree vs parent → a ≤ℤ treeCost w vs parent
 
 -- ---- Edmonds' steps
 
@@ -63,7 +63,7 @@ unfolding select isAmong
 shrunk cs c vs = select (λ q. not (isAmong q cs) || eqb q c) vs
 
 -- r is the least value of f over cs
-pub record IsLeast (cs : List ℕ) (f : ℕ → ℤ) (r : ℤ) : Type 0 where
+pub record IsLeastOver (cs : List ℕ) (f : ℕ → ℤ) (r : ℤ) : Type 0 where
   pub at : ℕ
   pub member : List·Memᴰ at cs
   pub attained : r ≡ f at
@@ -72,5 +72,5 @@ pub record IsLeast (cs : List ℕ) (f : ℕ → ℤ) (r : ℤ) : Type 0 where
 -- the costs of the smaller picture: to enter the circle, and to come from it, costs the least over its members
 pub record IsContraction (vs cs : List ℕ) (c : ℕ) (v : Matrix) (w : Matrix) : Type 0 where
   pub same : (p q : ℕ) → List·Memᴰ p (0 ∷ vs) → List·Memᴰ q vs → (List·Memᴰ p cs → ⊥) → (List·Memᴰ q cs → ⊥) → w p q ≡ v p q
-  pub into : (p : ℕ) → List·Memᴰ p (0 ∷ vs) → (List·Memᴰ p cs → ⊥) → IsLeast cs (λ q. v p q) (w p c)
-  pub from : (q : ℕ) → List·Memᴰ q vs → (List·Memᴰ q cs → ⊥) → IsLeast cs (λ p. v p q) (w c q)
+  pub into : (p : ℕ) → List·Memᴰ p (0 ∷ vs) → (List·Memᴰ p cs → ⊥) → IsLeastOver cs (λ q. v p q) (w p c)
+  pub from : (q : ℕ) → List·Memᴰ q vs → (List·Memᴰ q cs → ⊥) → IsLeastOver cs (λ p. v p q) (w c q)

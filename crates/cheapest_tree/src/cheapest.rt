@@ -1,5 +1,5 @@
-// The cheapest arborescence over a matrix of costs, by Edmonds: every component takes its cheapest entry; a circle of them is shrunk to one component, and the
-// smaller picture is solved.
+// The cheapest arborescence over a matrix of costs, by Edmonds: every component takes its cheapest entry; a circle of them is shrunk to one
+// component, and the smaller picture is solved.
 // Steps for other crates, which ask something of their caller.
 ghost use mathlib.Core.Path.{_≡_};
 ghost use mathlib.Core.Bool.{true, false, not, _&&_, _||_};
@@ -114,7 +114,8 @@ fn lesser(a: i64, m: i64) -> i64
 // The costs less what each component pays.
 fn reduced(w: &[i64; 64], left: [bool; 8], e: [usize; 8]) -> [i64; 64]
     requires { ⌜ IsPicture (now w) left × HasEntries (now w) left 8 e ⌝ }
-    ensures { λ r. ⌜ ((i : ℕ) → i < 64 → getD r i (pos 0) ≡ «less-by» (getD (now (w .entry)) i (pos 0)) (payOf (now (w .entry)) left e (i % 8))) ⌝ }
+    ensures { λ r.
+        ⌜ ((i : ℕ) → i < 64 → getD r i (pos 0) ≡ «less-by» (getD (now (w .entry)) i (pos 0)) (payOf (now (w .entry)) left e (i % 8))) ⌝ }
 {
     let mut v = [0i64; 64];
     for i in 0..64 {

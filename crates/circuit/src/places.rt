@@ -26,11 +26,21 @@ fn write_leg(
     places: &mut [u16],
     at: usize,
 ) -> usize
-    requires { ⌜ WellFormed (planIn (length (now weights)) (now arcs)) × AreRows (planIn (length (now weights)) (now arcs)) (now weights) × IsChain (now arcs) (now chain) ⌝ }
-    requires { ⌜ (e < length (now tails)) × (length (now heads) ≡ length (now tails)) × HavePaths (planIn (length (now weights)) (now arcs)) (now numbers) (now tails) (now heads) ⌝ }
-    requires { ⌜ at + length (legPlaces (shortestPath (planIn (length (now weights)) (now arcs))) (now numbers) (now tails) (now heads) e) ≤ length (now places) ⌝ }
-    ensures { λ r. ⌜ now (places .exit) ≡ overwrite (now (places .entry)) at (legPlaces (shortestPath (planIn (length (now (weights .entry))) (now (arcs .entry)))) (now (numbers .entry)) (now (tails .entry)) (now (heads .entry)) e) ⌝ }
-    ensures { λ r. ⌜ r ≡ at + length (legPlaces (shortestPath (planIn (length (now (weights .entry))) (now (arcs .entry)))) (now (numbers .entry)) (now (tails .entry)) (now (heads .entry)) e) ⌝ }
+    requires { ⌜ WellFormed (planIn (length (now weights)) (now arcs)) × AreRows (planIn (length (now weights)) (now arcs)) (now weights)
+        × IsChain (now arcs) (now chain) ⌝ }
+    requires { ⌜ (e < length (now tails)) × (length (now heads) ≡ length (now tails))
+        × HavePaths (planIn (length (now weights)) (now arcs)) (now numbers) (now tails) (now heads) ⌝ }
+    requires { ⌜ at + length (legPlaces (shortestPath (planIn (length (now weights)) (now arcs))) (now numbers) (now tails) (now heads) e)
+        ≤ length (now places) ⌝ }
+    ensures { λ r.
+        ⌜ now (places .exit)
+        ≡ overwrite (now (places .entry)) at
+        (legPlaces (shortestPath (planIn (length (now (weights .entry))) (now (arcs .entry)))) (now (numbers .entry)) (now (tails .entry))
+        (now (heads .entry)) e) ⌝ }
+    ensures { λ r.
+        ⌜ r ≡ at
+        + length (legPlaces (shortestPath (planIn (length (now (weights .entry))) (now (arcs .entry)))) (now (numbers .entry))
+        (now (tails .entry)) (now (heads .entry)) e) ⌝ }
 {
     if e < numbers.len() {
         places[at] = numbers[e];
@@ -43,7 +53,8 @@ fn write_leg(
     path(arcs, chain, &column[..n], i, j, places, at)
 }
 
-// Writes the legs in their order from the start of the places on, and answers how many places that are. Paths are looked up along the chain.
+// Writes the legs in their order from the start of the places on, and answers how many places
+// that are. Paths are looked up along the chain.
 fn write_legs(
     arcs: &[[u16; 5]],
     chain: &[u16; 320],
@@ -54,12 +65,22 @@ fn write_legs(
     order: &[u16],
     places: &mut [u16],
 ) -> usize
-    requires { ⌜ WellFormed (planIn (length (now weights)) (now arcs)) × AreRows (planIn (length (now weights)) (now arcs)) (now weights) × IsChain (now arcs) (now chain) ⌝ }
+    requires { ⌜ WellFormed (planIn (length (now weights)) (now arcs)) × AreRows (planIn (length (now weights)) (now arcs)) (now weights)
+        × IsChain (now arcs) (now chain) ⌝ }
     requires { ⌜ ((x : ℕ) → x < length (now order) → getD (now order) x 0 < length (now tails)) ⌝ }
-    requires { ⌜ (length (now heads) ≡ length (now tails)) × HavePaths (planIn (length (now weights)) (now arcs)) (now numbers) (now tails) (now heads) ⌝ }
-    requires { ⌜ length (placesOf (shortestPath (planIn (length (now weights)) (now arcs))) (now numbers) (now tails) (now heads) (now order)) ≤ length (now places) ⌝ }
-    ensures { λ r. ⌜ now (places .exit) ≡ written (placesOf (shortestPath (planIn (length (now (weights .entry))) (now (arcs .entry)))) (now (numbers .entry)) (now (tails .entry)) (now (heads .entry)) (now (order .entry))) (now (places .entry)) ⌝ }
-    ensures { λ r. ⌜ r ≡ length (placesOf (shortestPath (planIn (length (now (weights .entry))) (now (arcs .entry)))) (now (numbers .entry)) (now (tails .entry)) (now (heads .entry)) (now (order .entry))) ⌝ }
+    requires { ⌜ (length (now heads) ≡ length (now tails))
+        × HavePaths (planIn (length (now weights)) (now arcs)) (now numbers) (now tails) (now heads) ⌝ }
+    requires { ⌜ length
+        (placesOf (shortestPath (planIn (length (now weights)) (now arcs))) (now numbers) (now tails) (now heads) (now order))
+        ≤ length (now places) ⌝ }
+    ensures { λ r.
+        ⌜ now (places .exit)
+        ≡ written (placesOf (shortestPath (planIn (length (now (weights .entry))) (now (arcs .entry)))) (now (numbers .entry))
+        (now (tails .entry)) (now (heads .entry)) (now (order .entry))) (now (places .entry)) ⌝ }
+    ensures { λ r.
+        ⌜ r ≡ length
+        (placesOf (shortestPath (planIn (length (now (weights .entry))) (now (arcs .entry)))) (now (numbers .entry)) (now (tails .entry))
+        (now (heads .entry)) (now (order .entry))) ⌝ }
 {
     let mut at: usize = 0;
     let mut x: usize = 0;
@@ -90,12 +111,22 @@ pub(crate) fn write(
     order: &[u16],
     places: &mut [u16],
 ) -> usize
-    requires { ⌜ WellFormed (planIn (length (now weights)) (now arcs)) × AreRows (planIn (length (now weights)) (now arcs)) (now weights) ⌝ }
+    requires { ⌜ WellFormed (planIn (length (now weights)) (now arcs))
+        × AreRows (planIn (length (now weights)) (now arcs)) (now weights) ⌝ }
     requires { ⌜ ((x : ℕ) → x < length (now order) → getD (now order) x 0 < length (now tails)) ⌝ }
-    requires { ⌜ (length (now heads) ≡ length (now tails)) × HavePaths (planIn (length (now weights)) (now arcs)) (now numbers) (now tails) (now heads) ⌝ }
-    requires { ⌜ length (placesOf (shortestPath (planIn (length (now weights)) (now arcs))) (now numbers) (now tails) (now heads) (now order)) ≤ length (now places) ⌝ }
-    ensures { λ r. ⌜ now (places .exit) ≡ written (placesOf (shortestPath (planIn (length (now (weights .entry))) (now (arcs .entry)))) (now (numbers .entry)) (now (tails .entry)) (now (heads .entry)) (now (order .entry))) (now (places .entry)) ⌝ }
-    ensures { λ r. ⌜ r ≡ length (placesOf (shortestPath (planIn (length (now (weights .entry))) (now (arcs .entry)))) (now (numbers .entry)) (now (tails .entry)) (now (heads .entry)) (now (order .entry))) ⌝ }
+    requires { ⌜ (length (now heads) ≡ length (now tails))
+        × HavePaths (planIn (length (now weights)) (now arcs)) (now numbers) (now tails) (now heads) ⌝ }
+    requires { ⌜ length
+        (placesOf (shortestPath (planIn (length (now weights)) (now arcs))) (now numbers) (now tails) (now heads) (now order))
+        ≤ length (now places) ⌝ }
+    ensures { λ r.
+        ⌜ now (places .exit)
+        ≡ written (placesOf (shortestPath (planIn (length (now (weights .entry))) (now (arcs .entry)))) (now (numbers .entry))
+        (now (tails .entry)) (now (heads .entry)) (now (order .entry))) (now (places .entry)) ⌝ }
+    ensures { λ r.
+        ⌜ r ≡ length
+        (placesOf (shortestPath (planIn (length (now (weights .entry))) (now (arcs .entry)))) (now (numbers .entry)) (now (tails .entry))
+        (now (heads .entry)) (now (order .entry))) ⌝ }
 {
     let chain = chain_of(arcs);
     write_legs(arcs, &chain, weights, numbers, tails, heads, order, places)

@@ -31,9 +31,16 @@ fn write_circuit(
     requires { ⌜ WellFormed (planValue plan) × AreWeights (planValue plan) (now weights) ⌝ }
     requires { ⌜ (length (now tails) ≤ 526) × (length (now order) ≡ length (now tails)) × Eulerian (now tails) (now heads) ⌝ }
     requires { ⌜ HavePaths (planValue plan) (now numbers) (now tails) (now heads) ⌝ }
-    requires { ⌜ length (placesOf (shortestPath (planValue plan)) (now numbers) (now tails) (now heads) (circuit (now tails) (now heads))) ≤ length (now places) ⌝ }
-    ensures { λ r. ⌜ now (places .exit) ≡ written (placesOf (shortestPath (planValue plan)) (now (numbers .entry)) (now (tails .entry)) (now (heads .entry)) (circuit (now (tails .entry)) (now (heads .entry)))) (now (places .entry)) ⌝ }
-    ensures { λ r. ⌜ r ≡ length (placesOf (shortestPath (planValue plan)) (now (numbers .entry)) (now (tails .entry)) (now (heads .entry)) (circuit (now (tails .entry)) (now (heads .entry)))) ⌝ }
+    requires { ⌜ length (placesOf (shortestPath (planValue plan)) (now numbers) (now tails) (now heads) (circuit (now tails) (now heads)))
+        ≤ length (now places) ⌝ }
+    ensures { λ r.
+        ⌜ now (places .exit)
+        ≡ written (placesOf (shortestPath (planValue plan)) (now (numbers .entry)) (now (tails .entry)) (now (heads .entry))
+        (circuit (now (tails .entry)) (now (heads .entry)))) (now (places .entry)) ⌝ }
+    ensures { λ r.
+        ⌜ r ≡ length
+        (placesOf (shortestPath (planValue plan)) (now (numbers .entry)) (now (tails .entry)) (now (heads .entry))
+        (circuit (now (tails .entry)) (now (heads .entry)))) ⌝ }
 {
     arrange(tails, heads, order);
     let arcs = plan::rows::rows_of(plan);
@@ -43,7 +50,8 @@ fn write_circuit(
     write(&arcs[..m], &rows[..n], numbers, tails, heads, order, places)
 }
 
-// Writes the tour that the required arcs, the links of an arborescence and the amounts that balance them make, by the table of weights, and answers how many places it has.
+// Writes the tour that the required arcs, the links of an arborescence and the amounts that balance them make, by the table of
+// weights, and answers how many places it has.
 pub fn write_tour(
     plan: Plan,
     weights: &[[u32; 64]; 64],
@@ -53,10 +61,15 @@ pub fn write_tour(
     places: &mut [u16],
 ) -> usize
     requires { ⌜ WellFormed (planValue plan) × AreWeights (planValue plan) (now weights) ⌝ }
-    requires { ⌜ (length (now «link_heads») ≡ length (now «link_tails»)) × Completes (planValue plan) (linksOf (now «link_tails») (now «link_heads»)) (now amounts) ⌝ }
+    requires { ⌜ (length (now «link_heads») ≡ length (now «link_tails»))
+        × Completes (planValue plan) (linksOf (now «link_tails») (now «link_heads»)) (now amounts) ⌝ }
     requires { ⌜ sheetPlaces ≤ length (now places) ⌝ }
-    ensures { λ r. ⌜ now (places .exit) ≡ written (tour (planValue plan) (linksOf (now («link_tails» .entry)) (now («link_heads» .entry))) (now (amounts .entry))) (now (places .entry)) ⌝ }
-    ensures { λ r. ⌜ r ≡ length (tour (planValue plan) (linksOf (now («link_tails» .entry)) (now («link_heads» .entry))) (now (amounts .entry))) ⌝ }
+    ensures { λ r.
+        ⌜ now (places .exit)
+        ≡ written (tour (planValue plan) (linksOf (now («link_tails» .entry)) (now («link_heads» .entry))) (now (amounts .entry)))
+        (now (places .entry)) ⌝ }
+    ensures { λ r.
+        ⌜ r ≡ length (tour (planValue plan) (linksOf (now («link_tails» .entry)) (now («link_heads» .entry))) (now (amounts .entry))) ⌝ }
 {
     let mut numbers = [0u16; 256];
     let mut tails = [0u8; 526];

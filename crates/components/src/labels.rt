@@ -1,4 +1,5 @@
-// The label of each vertex: required arcs merge the labels of their ends, so that each required vertex has the lowest vertex of its component.
+// The label of each vertex: required arcs merge the labels of their ends, so that each required
+// vertex has the lowest vertex of its component.
 use plan::Arc;
 use plan::Plan;
 ghost use mathlib.Core.Path.{_≡_};

@@ -5,7 +5,7 @@ use Rattle.refusal.specs.Verdict.{refusalNumber}
 use Rattle.count_call.specs.declared.Counted.{Counted}
 use Rattle.count_call.specs.declared.Counted.the-variants.{Refused, Known, Above}
 
-abbrev pub answerOf : Counted → Answer TreeCount
-answerOf (Refused r) = refused (refusalNumber r)
-answerOf (Known n) = given (known n)
-answerOf Above = given above
+abbrev pub countAnswer : Counted → Answer TreeCount
+countAnswer (Refused r) = refused (refusalNumber r)
+countAnswer (Known n) = given (known n)
+countAnswer Above = given above

@@ -2,4 +2,3 @@
 pub mod Contract
 -- What is proved about it.
 pub mod Laws
-pub mod Theorem

@@ -11,7 +11,7 @@ ghost use Rattle.postman.specs.TreeCount.{counted as «counted-as», treeCount,
 ghost use Rattle.plan.specs.Records.{planValue};
 ghost use Rattle.network.specs.Network.{IsNetwork};
 ghost use Rattle.call_steps.specs.Refusals.{networkRefusal, planRefusal};
-ghost use Rattle.count_call.specs.Contract.{answerOf};
+ghost use Rattle.count_call.specs.Contract.{countAnswer};
 
 // "Give the exact number of trees, counted without listing each, or the answer 'above 4,294,967,295' exactly when it is."
 pub enum Counted {
@@ -22,7 +22,7 @@ pub enum Counted {
 
 // A number that is counted.
 fn known_or_above(n: u64) -> Counted
-    ensures { λ r. ⌜ answerOf r ≡ given («counted-as» n) ⌝ }
+    ensures { λ r. ⌜ countAnswer r ≡ given («counted-as» n) ⌝ }
 {
     if 4_294_967_295 < n {
         return Counted::Above;
@@ -32,7 +32,9 @@ fn known_or_above(n: u64) -> Counted
 
 // 10, 11 and 12, then the number, for whatever plan it is the network of.
 fn count_measured(net: Network) -> Counted
-    ensures { λ r. ⌜ ((p : «a-plan») → WellFormed p → IsNetwork p net → answerOf r ≡ answer (networkRefusal (net .components) (net .«cut_off»)) (treeCount p)) ⌝ }
+    ensures { λ r.
+        ⌜ ((p : «a-plan») → WellFormed p → IsNetwork p net
+        → countAnswer r ≡ answer (networkRefusal (net .components) (net .«cut_off»)) (treeCount p)) ⌝ }
 {
     match network_verdict(net.components, net.cut_off) {
         Verdict::Refused(r) => Counted::Refused(r),
@@ -43,7 +45,7 @@ fn count_measured(net: Network) -> Counted
 // The distances and the network of a plan that the file's rules let through.
 fn count_read(plan: Plan) -> Counted
     requires { ⌜ WellFormed (planValue plan) ⌝ }
-    ensures { λ r. ⌜ answerOf r ≡ answer (planRefusal (planValue plan)) (treeCount (planValue plan)) ⌝ }
+    ensures { λ r. ⌜ countAnswer r ≡ answer (planRefusal (planValue plan)) (treeCount (planValue plan)) ⌝ }
 {
     let table = shortest::distance::table(plan);
     let net = network::network::network_of(plan, &table);
@@ -52,7 +54,7 @@ fn count_read(plan: Plan) -> Counted
 
 // THE COUNT, for any bytes. It asks nothing and changes nothing.
 pub fn count_call(bytes: &[u8]) -> Counted
-    ensures { λ r. ⌜ answerOf r ≡ countCall (now (bytes .entry)) ⌝ }
+    ensures { λ r. ⌜ countAnswer r ≡ countCall (now (bytes .entry)) ⌝ }
 {
     let reading = plan_file::reader::read_plan(bytes);
     let plan = reading.plan;

@@ -37,7 +37,8 @@ pub record IsDeepAnswer (p : Plan) (budget rounds : ℕ) (new : List ℕ) (r : P
   pub drive-numbering : IsNumberingOf (p .n) (kept p budget rounds .drive .numbering)
   pub bound-numbering : IsNumberingOf (p .n) (kept p budget rounds .bound .numbering)
   -- the written places are a drive, the lowest must arc first, of exactly the cost answered, and described as the plan call's drive is
-  pub drive : IsRenumberedTour p (numberIn (kept p budget rounds .drive .numbering .to)) (kept p budget rounds .drive .tries) (take (r .places) new)
+  pub drive : IsRenumberedTour p (numberIn (kept p budget rounds .drive .numbering .to)) (kept p budget rounds .drive .tries)
+      (take (r .places) new)
   pub costs : tourCost p (take (r .places) new) ≡ r .cost
   -- no drive of any length costs less than the floor
   pub below-every-tour : (w : List ℕ) → IsTour p w → r .floor ≤ℤ pos (tourCost p w)
@@ -56,7 +57,8 @@ unfoldable pub multipliersUnless : Option ℕ → List ℤ → List ℤ
 multipliersUnless none u = u
 multipliersUnless (some r) u = replicate 64 (pos 0)
 
--- The call on a plan, a budget and so many rounds, where `refusal` is what it is refused for; old and new are the sheet at entry and at exit.
+-- The call on a plan, a budget and so many rounds, where `refusal` is what it is refused for; old
+-- and new are the sheet at entry and at exit.
 pub record IsDeep (p : Plan) (budget rounds : ℕ) (refusal : Option ℕ) (old new : List ℕ) (r : Planned) : Type 0 where
   -- the first refusal that applies, or none
   pub verdict : verdictNumber (r .verdict) ≡ refusal
@@ -68,7 +70,8 @@ pub record IsDeep (p : Plan) (budget rounds : ℕ) (refusal : Option ℕ) (old n
   pub places-are : r .places ≡ countUnless refusal (length (deepTour p budget rounds))
   pub answered : refusal ≡ none → IsDeepAnswer p budget rounds new r
 
--- THE DEEP CALL on any bytes, any budget, any number of rounds and any sheet. 12 is given exactly when no number before it applies and no drive exists.
+-- THE DEEP CALL on any bytes, any budget, any number of rounds and any sheet. 12 is given exactly when no
+-- number before it applies and no drive exists.
 pub record IsDeepCall (bytes : List ℕ) (budget rounds : ℕ) (old new : List ℕ) (r : Planned) : Type 0 where
   pub deep : IsDeep (planOf bytes) budget rounds (deepRefusal bytes budget rounds (length old)) old new r
   pub cut-off

@@ -3,3 +3,4 @@ pub mod Answer
 pub mod Laid
 pub mod Call
 pub mod Compared
+pub mod Theorem

@@ -4,4 +4,3 @@ pub mod Contract
 pub mod Compared
 -- What is proved about it.
 pub mod Laws
-pub mod Theorem

@@ -38,7 +38,8 @@ fn lay_best(
     d: Deep,
     sheet: &mut [u16],
 ) -> Planned
-    requires { ⌜ IsTabled (planValue plan) (now table) (now weights) × (planRefusal (planValue plan) ≡ none) × (d .kept ≡ keptAfter (planValue plan) budget (rounds - 1)) × IsHeld (planValue plan) d × (sheetPlaces ≤ length (now sheet)) ⌝ }
+    requires { ⌜ IsTabled (planValue plan) (now table) (now weights) × (planRefusal (planValue plan) ≡ none)
+        × (d .kept ≡ keptAfter (planValue plan) budget (rounds - 1)) × IsHeld (planValue plan) d × (sheetPlaces ≤ length (now sheet)) ⌝ }
     requires { ⌜ (1 ≤ budget) × (budget ≤ 1000000) × (rounds ≤ 1000) ⌝ }
     ensures { λ r. ⌜ IsDeep (planValue plan) budget rounds none (now (sheet .entry)) (now (sheet .exit)) r ⌝ }
 {
@@ -96,7 +97,9 @@ fn bad_rounds(rounds: u32) -> bool
 // From 23 on.
 fn deep_within(plan: Plan, budget: u32, rounds: u32, sheet: &mut [u16]) -> Planned
     requires { ⌜ WellFormed (planValue plan) × (1 ≤ budget) × (budget ≤ 1000000) × (sheetPlaces ≤ length (now sheet)) ⌝ }
-    ensures { λ r. ⌜ IsDeep (planValue plan) budget rounds (firstRefusal (roundConditions rounds ++ lastConditions (planValue plan))) (now (sheet .entry)) (now (sheet .exit)) r ⌝ }
+    ensures { λ r.
+        ⌜ IsDeep (planValue plan) budget rounds (firstRefusal (roundConditions rounds ++ lastConditions (planValue plan)))
+        (now (sheet .entry)) (now (sheet .exit)) r ⌝ }
 {
     if bad_rounds(rounds) {
         return refused(Refusal::Rounds);

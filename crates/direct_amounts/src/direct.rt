@@ -7,7 +7,7 @@ ghost use mathlib.Core.Path.{_≡_};
 ghost use mathlib.Core.List.{List·Memᴰ};
 ghost use Prim.Native.Nat.{_+_, _<_, _≤_, min};
 ghost use Rattle.residual_search.specs.Bounds.{AtMost};
-ghost use Rattle.residual_search.specs.Step.{cell, amount};
+ghost use Rattle.postman.specs.Steps.{cell, amount};
 ghost use Rattle.direct_amounts.specs.Direct.{passed, gained, bypass, bypassFrom, bypassVertex, direct};
 ghost use Rattle.balance.specs.Invariant.{Metric, Sparse, Certified, limit};
 ghost use Rattle.balance.specs.Records.{stateOf};

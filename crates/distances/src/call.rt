@@ -15,7 +15,9 @@ ghost use Rattle.distances.specs.Answer.{searchedAnswer, IsPage};
 // 17, then 8, then the entries of a plan that the file's rules let through.
 fn plan_distances(plan: Plan, pairs: &[u16], distances: &mut [u32]) -> Searched
     requires { ⌜ WellFormed (planValue plan) ⌝ }
-    ensures { λ r. ⌜ IsPage (planValue plan) (firstRefusal (pairsConditions (planValue plan .n) (now (pairs .entry)) (length (now (distances .entry)))))
+    ensures { λ r.
+        ⌜ IsPage (planValue plan)
+        (firstRefusal (pairsConditions (planValue plan .n) (now (pairs .entry)) (length (now (distances .entry)))))
         (now (pairs .entry)) (now (distances .entry)) (now (distances .exit)) r ⌝ }
 {
     let n = plan.n;
@@ -25,8 +27,9 @@ fn plan_distances(plan: Plan, pairs: &[u16], distances: &mut [u32]) -> Searched
     }
 }
 
-// THE DISTANCE CALL, for any bytes, any list of pairs and any list for the distances: the first refusal by its order, with every entry untouched; or the number of
-// searches run, one for each first vertex, with the pairs' distances in the list from its start and the entries after them untouched.
+// THE DISTANCE CALL, for any bytes, any list of pairs and any list for the distances: the first refusal by its order, with every
+// entry untouched; or the number of searches run, one for each first vertex, with the pairs' distances in the list from its
+// start and the entries after them untouched.
 pub fn distance_call(bytes: &[u8], pairs: &[u16], distances: &mut [u32]) -> Searched
     ensures { λ r. ⌜ searchedAnswer r ≡ distanceAnswer (now (bytes .entry)) (now (pairs .entry)) (length (now (distances .entry))) ⌝ }
     ensures { λ r. ⌜ now (distances .exit) ≡ distancesAfter (now (bytes .entry)) (now (pairs .entry)) (now (distances .entry)) ⌝ }

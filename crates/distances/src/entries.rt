@@ -1,4 +1,5 @@
-// The entries of a page: one search for each first vertex, when the first pair with it is met, and from its row the entries of all its pairs.
+// The entries of a page: one search for each first vertex, when the first pair with it is met,
+// and from its row the entries of all its pairs.
 use crate::pairs::first;
 use crate::pairs::second;
 use plan::Plan;
@@ -38,7 +39,8 @@ fn put_row(row: &[u32; 64], source: usize, pairs: &[u16], distances: &mut [u32])
 
 // One search.
 fn search(plan: Plan, source: usize, pairs: &[u16], distances: &mut [u32])
-    requires { ⌜ WellFormed (planValue plan) × ArePairs (planValue plan .n) (now pairs) × (length (now pairs) ≤ length (now distances)) × (source < 64) ⌝ }
+    requires { ⌜ WellFormed (planValue plan) × ArePairs (planValue plan .n) (now pairs) × (length (now pairs) ≤ length (now distances))
+        × (source < 64) ⌝ }
     ensures { λ _. ⌜ IsSearchPut (planValue plan) source (now (pairs .entry)) (now (distances .entry)) (now (distances .exit)) ⌝ }
 {
     let row = shortest::distance::row(plan, source);
@@ -49,7 +51,9 @@ fn search(plan: Plan, source: usize, pairs: &[u16], distances: &mut [u32])
 pub(crate) fn put_entries(plan: Plan, pairs: &[u16], distances: &mut [u32]) -> u16
     requires { ⌜ WellFormed (planValue plan) × ArePairs (planValue plan .n) (now pairs) × (length (now pairs) ≤ length (now distances)) ⌝ }
     ensures { λ r. ⌜ r ≡ searchCount (now (pairs .entry)) ⌝ }
-    ensures { λ r. ⌜ now (distances .exit) ≡ map («entry-of» (planValue plan)) (now (pairs .entry)) ++ drop (length (now (pairs .entry))) (now (distances .entry)) ⌝ }
+    ensures { λ r.
+        ⌜ now (distances .exit)
+        ≡ map («entry-of» (planValue plan)) (now (pairs .entry)) ++ drop (length (now (pairs .entry))) (now (distances .entry)) ⌝ }
 {
     let mut searches: u16 = 0;
     let mut searched = [false; 64];

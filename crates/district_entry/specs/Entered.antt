@@ -23,7 +23,8 @@ callPart bytes budget = firstRefusal (fileConditions bytes ++ (budgetConditions 
 
 -- A district that enters: its plan, and zeros behind it; no tree was tried.
 abbrev pub entrant : ℕ → List ℕ → ℕ → DistrictRecord
-entrant place bytes budget = record { place = place; bytes = padded 1475 0 bytes; length = length bytes; budget = budget; held = nothingHeld }
+entrant place bytes budget =
+    record { place = place; bytes = padded 1475 0 bytes; length = length bytes; budget = budget; held = nothingHeld }
 
 -- In a refused entry "nothing moves".
 unfoldable pub movedUnless : Option ℕ → Machine → Machine → Machine
@@ -32,7 +33,8 @@ movedUnless (some r) new old = old
 
 -- THE MACHINE AFTER AN ENTRY.
 abbrev pub afterEntry : Machine → List ℕ → ℕ → Machine
-afterEntry m bytes budget = movedUnless (entryRefusal (lineOf m) bytes budget) (machineOf (waitingIn m ++ entrant (lowestFree (lineOf m)) bytes budget ∷ [])) m
+afterEntry m bytes budget =
+    movedUnless (entryRefusal (lineOf m) bytes budget) (machineOf (waitingIn m ++ entrant (lowestFree (lineOf m)) bytes budget ∷ [])) m
 
 -- The refusal, or the lowest free place; and the machine afterwards.
 pub record IsEntered (m : Machine) (bytes : List ℕ) (budget : ℕ) (r : Entered) : Type 0 where

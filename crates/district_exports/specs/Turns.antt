@@ -24,13 +24,15 @@ pub record IsStarted (bytes bytes′ : List ℕ) (number : ℤ) : Type 0 where
 -- ---- an entry
 
 pub record IsExportedEntry (plan : List ℕ) (budget : ℕ) (bytes bytes′ : List ℕ) (number : ℤ) : Type 0 where
-  pub entered : districtsBytes ≤ length bytes → (r : Entered) × IsEntered (machineIn bytes) plan budget r × IsEntryStored r bytes bytes′ number
+  pub entered : districtsBytes ≤ length bytes
+      → (r : Entered) × IsEntered (machineIn bytes) plan budget r × IsEntryStored r bytes bytes′ number
   pub short : length bytes < districtsBytes → IsRefusedShort bytes bytes′ number
 
 -- ---- a turn
 
 pub record IsExportedTurn (bytes bytes′ sheet sheet′ words words′ : List ℕ) (u u′ : List ℤ) (number : ℤ) : Type 0 where
-  pub turned : districtsBytes ≤ length bytes → (r : Turned) × IsTurned (machineIn bytes) sheet sheet′ r × IsTurnHandedOver r bytes bytes′ words words′ u u′ number
+  pub turned : districtsBytes ≤ length bytes
+      → (r : Turned) × IsTurned (machineIn bytes) sheet sheet′ r × IsTurnHandedOver r bytes bytes′ words words′ u u′ number
   pub short : length bytes < districtsBytes → IsRefusedShort bytes bytes′ number × (sheet′ ≡ sheet) × (words′ ≡ words) × (u′ ≡ u)
 
 -- ---- runs
@@ -58,7 +60,8 @@ pub record LentTurn (bytes bytes′ : List ℕ) (places : ℕ) (number : ℤ) : 
   pub contract : IsExportedTurn bytes bytes′ sheet sheet′ words words′ u u′ number
   pub size : length sheet ≡ places
 
--- The bytes after the calls, the latest first, from a start that is not refused: each call has the contract of its function, on the bytes that the call before it left.
+-- The bytes after the calls, the latest first, from a start that is not refused: each call has the contract of its
+-- function, on the bytes that the call before it left.
 unfoldable pub LedLent : List Call → List ℕ → Type 0
 LedLent [] bytes = (old : List ℕ) × (n : ℤ) × IsStarted old bytes n × (districtsBytes ≤ length old)
 LedLent (enters plan budget n ∷ cs) bytes = (b : List ℕ) × LedLent cs b × IsExportedEntry plan budget b bytes n

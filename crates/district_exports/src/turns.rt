@@ -7,7 +7,8 @@ use machine_bytes::machine_stored::hand_turn_over;
 use machine_bytes::machine_stored::store_entered;
 use refusal::Refusal;
 
-// THE START: a machine with no district inside, which is zeros. A slice that is too short for the machine is refused as 8, here and in what follows first.
+// THE START: a machine with no district inside, which is zeros. A slice that is too short for the machine is
+// refused as 8, here and in what follows first.
 #[no_mangle]
 pub extern "C" fn postman_districts_start(machine: &mut [u8]) -> i64
     ensures { λ k. ⌜ IsStarted (now (machine .entry)) (now (machine .exit)) k ⌝ }

@@ -1,4 +1,5 @@
--- One district's turn, over its plan: whether what is held can be gone on from, and what the turn then gives. Whatever is held, this is what a turn gives.
+-- One district's turn, over its plan: whether what is held can be gone on from, and what the turn then gives.
+-- Whatever is held, this is what a turn gives.
 use mathlib.Core.Path.{_≡_}
 use mathlib.Core.Bool.{Bool, true, false, _&&_, _||_}
 use mathlib.Core.List.{List, [], _∷_, map}
@@ -64,7 +65,17 @@ reachedAfter p budget g = record {
 
 -- What is answered before the last turn: "the trees so far and their least cost".
 abbrev pub soFar : ℕ → ℕ → Planned
-soFar cost trees = record { verdict = Accepted; places = 0; cost = cost; floor = pos 0; trees = trees; whole = false; parts = 0; multipliers = replicate 64 (pos 0) }
+soFar cost trees =
+    record {
+      verdict = Accepted;
+      places = 0;
+      cost = cost;
+      floor = pos 0;
+      trees = trees;
+      whole = false;
+      parts = 0;
+      multipliers = replicate 64 (pos 0);
+    }
 
 -- Whether it is the last one; what is answered then, and what is written.
 abbrev pub isLast : Plan → ℕ → Reached → Bool

@@ -1,11 +1,11 @@
-// Whether what a machine holds for a district can be gone on from: nothing where no tree was tried, else a tree of its plan and what that costs. It can, in every machine that entries and turns lead to; no drive is laid
-// from anything else.
-use crate::cost::tree_cost;
-use crate::tree::is_tree;
+// Whether what a machine holds for a district can be gone on from: nothing where no tree was tried, else a tree of its plan and what that
+// costs. It can, in every machine that entries and turns lead to; no drive is laid from anything else.
 use balance::state::Balance;
 use network::network::Network;
 use plan::Plan;
 use solution::trees::Reached;
+use tree_check::cost::tree_cost;
+use tree_check::tree::is_tree;
 ghost use mathlib.Core.Path.{_≡_};
 ghost use Prim.Native.Nat.{_≤_};
 ghost use lib.ListN.{take};

@@ -1,5 +1,3 @@
 // A district's turn over its plan, which goes on from the trees that were tried.
-mod tree; // whether links that are held are a tree
-mod cost; // what such a tree costs
 mod held; // whether what is held can be gone on from
 pub mod stint; // a district's turn, over its plan

@@ -40,7 +40,8 @@ ghost use Rattle.district_turn.specs.Padded.{padded};
 ghost use Rattle.postman.specs.Refusal.{isGood};
 ghost use Rattle.district_turn.specs.Stint.{isResumable, canGoOn, soFar, IsStint};
 
-// What a turn leaves: whether what was held could be gone on from; whether the district is finished; how far it is, unless it is finished; and its answer.
+// What a turn leaves: whether what was held could be gone on from; whether the district is finished; how far
+// it is, unless it is finished; and its answer.
 pub struct Stint {
     pub good: bool,
     pub done: bool,
@@ -110,10 +111,18 @@ fn last(
     r: Resumed,
     sheet: &mut [u16],
 ) -> Stint
-    requires { ⌜ IsBase (planValue plan) (now table) (now vs) (stateOf base) × (u ≡ multipliersFor (planValue plan)) × (bound ≡ boundOf (planValue plan) u) ⌝ }
-    requires { ⌜ IsNetwork (planValue plan) net × HoldsTree (planValue plan) (r .tails) (r .heads) × (r .cost ≤ 4398046511104) × (sheetPlaces ≤ length (now sheet)) × AreWeights (planValue plan) (now weights) ⌝ }
-    ensures { λ x. ⌜ (x .good ≡ true) × (x .done ≡ true) × (x .planned ≡ concluded (planValue plan) (linksIn (componentCount (planValue plan) - 1) (r .tails) (r .heads)) (r .cost) (r .total) (r .whole)) ⌝ }
-    ensures { λ x. ⌜ now (sheet .exit) ≡ written (driveOf (planValue plan) (linksIn (componentCount (planValue plan) - 1) (r .tails) (r .heads))) (now (sheet .entry)) ⌝ }
+    requires { ⌜ IsBase (planValue plan) (now table) (now vs) (stateOf base) × (u ≡ multipliersFor (planValue plan))
+        × (bound ≡ boundOf (planValue plan) u) ⌝ }
+    requires { ⌜ IsNetwork (planValue plan) net × HoldsTree (planValue plan) (r .tails) (r .heads) × (r .cost ≤ 4398046511104)
+        × (sheetPlaces ≤ length (now sheet)) × AreWeights (planValue plan) (now weights) ⌝ }
+    ensures { λ x.
+        ⌜ (x .good ≡ true) × (x .done ≡ true)
+        × (x .planned
+        ≡ concluded (planValue plan) (linksIn (componentCount (planValue plan) - 1) (r .tails) (r .heads)) (r .cost) (r .total)
+        (r .whole)) ⌝ }
+    ensures { λ x.
+        ⌜ now (sheet .exit)
+        ≡ written (driveOf (planValue plan) (linksIn (componentCount (planValue plan) - 1) (r .tails) (r .heads))) (now (sheet .entry)) ⌝ }
 {
     let ts = r.tails;
     let hs = r.heads;
@@ -131,7 +140,9 @@ fn last(
 // What is held after a turn that is not the last.
 fn kept(r: Resumed, n: usize) -> Reached
     requires { ⌜ n ≤ 8 ⌝ }
-    ensures { λ x. ⌜ (x .cost ≡ r .cost) × (x .tails ≡ padded 8 0 (take n (r .tails))) × (x .heads ≡ padded 8 0 (take n (r .heads))) × (x .tried ≡ r .tried) ⌝ }
+    ensures { λ x.
+        ⌜ (x .cost ≡ r .cost) × (x .tails ≡ padded 8 0 (take n (r .tails))) × (x .heads ≡ padded 8 0 (take n (r .heads)))
+        × (x .tried ≡ r .tried) ⌝ }
 {
     let ts = r.tails;
     let hs = r.heads;
@@ -157,8 +168,10 @@ pub(crate) fn one_turn(
     sheet: &mut [u16],
 ) -> Stint
     requires { ⌜ IsKnown (planValue plan) (now table) (now vs) × (g .tried ≤ 1000000) ⌝ }
-    requires { ⌜ IsNetwork (planValue plan) net × (1 ≤ budget) × (sheetPlaces ≤ length (now sheet)) × AreWeights (planValue plan) (now weights) ⌝ }
-    ensures { λ r. ⌜ IsStint (planValue plan) budget g (isResumable (planValue plan) budget g) (now (sheet .entry)) (now (sheet .exit)) r ⌝ }
+    requires { ⌜ IsNetwork (planValue plan) net × (1 ≤ budget) × (sheetPlaces ≤ length (now sheet))
+        × AreWeights (planValue plan) (now weights) ⌝ }
+    ensures { λ r.
+        ⌜ IsStint (planValue plan) budget g (isResumable (planValue plan) budget g) (now (sheet .entry)) (now (sheet .exit)) r ⌝ }
 {
     let base = base_state(plan, table, vs);
     if !is_holding(plan, table, vs, net, base, g) {
@@ -189,9 +202,11 @@ pub(crate) fn turn_known(
     g: Reached,
     sheet: &mut [u16],
 ) -> Stint
-    requires { ⌜ IsMeasured (planValue plan) (now table) net × (networkRefusal (net .components) (net .«cut_off») ≡ none) × (g .tried ≤ 1000000) ⌝ }
+    requires { ⌜ IsMeasured (planValue plan) (now table) net × (networkRefusal (net .components) (net .«cut_off») ≡ none)
+        × (g .tried ≤ 1000000) ⌝ }
     requires { ⌜ (1 ≤ budget) × (sheetPlaces ≤ length (now sheet)) × AreWeights (planValue plan) (now weights) ⌝ }
-    ensures { λ r. ⌜ IsStint (planValue plan) budget g (isResumable (planValue plan) budget g) (now (sheet .entry)) (now (sheet .exit)) r ⌝ }
+    ensures { λ r.
+        ⌜ IsStint (planValue plan) budget g (isResumable (planValue plan) budget g) (now (sheet .entry)) (now (sheet .exit)) r ⌝ }
 {
     let flags = net.required;
     let v = candidates::vertices_of(flags);
@@ -217,8 +232,12 @@ fn turn_measured(
     g: Reached,
     sheet: &mut [u16],
 ) -> Stint
-    requires { ⌜ IsMeasured (planValue plan) (now table) net × (1 ≤ budget) × (sheetPlaces ≤ length (now sheet)) × AreWeights (planValue plan) (now weights) × (g .tried ≤ 1000000) ⌝ }
-    ensures { λ r. ⌜ IsStint (planValue plan) budget g (isGood (networkRefusal (net .components) (net .«cut_off»)) && isResumable (planValue plan) budget g) (now (sheet .entry)) (now (sheet .exit)) r ⌝ }
+    requires { ⌜ IsMeasured (planValue plan) (now table) net × (1 ≤ budget) × (sheetPlaces ≤ length (now sheet))
+        × AreWeights (planValue plan) (now weights) × (g .tried ≤ 1000000) ⌝ }
+    ensures { λ r.
+        ⌜ IsStint (planValue plan) budget g
+        (isGood (networkRefusal (net .components) (net .«cut_off»)) && isResumable (planValue plan) budget g) (now (sheet .entry))
+        (now (sheet .exit)) r ⌝ }
 {
     match network_verdict(net.components, net.cut_off) {
         Verdict::Refused(r) => stuck(g),

@@ -1,4 +1,5 @@
--- What stands on the sheet after a district's last turn, in any machine: a drive of its plan, whose places are counted, and whose cost is answered.
+-- What stands on the sheet after a district's last turn, in any machine: a drive of its plan, whose
+-- places are counted, and whose cost is answered.
 use mathlib.Core.Path.{_≡_}
 use mathlib.Core.List.{List}
 use Prim.Native.Nat.{ℕ, _≤_}

@@ -6,3 +6,4 @@ pub mod Sound
 pub mod Led
 pub mod Finished
 pub mod Drive
+pub mod Theorem

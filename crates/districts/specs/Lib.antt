@@ -6,4 +6,3 @@ pub mod Served
 pub mod Finished
 -- What is proved about them.
 pub mod Laws
-pub mod Theorem

@@ -12,7 +12,10 @@ use Rattle.district_turn.specs.Stint.{soFar}
 use Rattle.districts.specs.declared.turn.Outcome.the-variants.{Unfinished, Finished}
 use Rattle.districts.specs.declared.turn.Turned.{Turned}
 
--- "An unfinished one answers the trees so far and their least cost", and the sheet is "written in a district's last turn only"; a finished one answers as the plan call does. "A turn's answer names its district's" place.
+-- "An unfinished one answers the trees so far and their least cost", and the sheet is "written in a district's last turn only"; a finished
+-- one answers as the plan call does. "A turn's answer names its district's" place.
 pub record IsServed (d : District) (old new : List ℕ) (r : Turned) : Type 0 where
-  pub going : finishes d ≡ false → (r .outcome ≡ Unfinished (d .place)) × (r .planned ≡ soFar (bestCost (planOf (d .bytes)) (d .tried + turnTrees)) (d .tried + turnTrees)) × (new ≡ old)
+  pub going : finishes d ≡ false
+      → (r .outcome ≡ Unfinished (d .place))
+      × (r .planned ≡ soFar (bestCost (planOf (d .bytes)) (d .tried + turnTrees)) (d .tried + turnTrees)) × (new ≡ old)
   pub last : finishes d ≡ true → (r .outcome ≡ Finished (d .place)) × IsPlanned (planOf (d .bytes)) (d .budget) none old new (r .planned)

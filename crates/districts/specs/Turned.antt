@@ -58,7 +58,8 @@ unfolding sheetPlaces hasOwnPlace isReadable isHolding isGood
 meetingIn waiting sheet [] = nobody
 meetingIn waiting sheet (d ∷ ds) =
     cond (ltb sheet sheetPlaces) shortSheet
-    (cond (leb waiting 8 && (hasOwnPlace d ds && canBeServed d)) (cond (isLast (planBy d) (d .budget) (d .held)) (leaves d ds) (goesOn d ds)) stuck)
+    (cond (leb waiting 8 && (hasOwnPlace d ds && canBeServed d))
+    (cond (isLast (planBy d) (d .budget) (d .held)) (leaves d ds) (goesOn d ds)) stuck)
 
 abbrev pub meeting : Machine → ℕ → Meeting
 meeting m sheet = meetingIn (m .waiting) sheet (waitingIn m)
@@ -113,4 +114,6 @@ pub record IsTurned (m : Machine) (old new : List ℕ) (r : Turned) : Type 0 whe
 pub record IsAfter (others : Machine) (d : DistrictRecord) (s : Stint) (r : Turned) : Type 0 where
   pub planned : r .planned ≡ s .planned
   pub last : s .done ≡ true → (r .outcome ≡ Finished (d .place)) × (r .machine ≡ others)
-  pub going : s .done ≡ false → (r .outcome ≡ Unfinished (d .place)) × ((ds : List DistrictRecord) → others ≡ machineOf ds → r .machine ≡ machineOf (ds ++ heldNow d (s .held) ∷ []))
+  pub going : s .done ≡ false
+      → (r .outcome ≡ Unfinished (d .place))
+      × ((ds : List DistrictRecord) → others ≡ machineOf ds → r .machine ≡ machineOf (ds ++ heldNow d (s .held) ∷ []))

@@ -22,7 +22,8 @@ ghost use Rattle.district_machine.specs.declared.machine.District.{District as 
 ghost use Rattle.district_machine.specs.Machine.{waitingIn, machineOf};
 ghost use Rattle.districts.specs.Turned.{planBy, hasOwnPlace, canBeServed, heldNow, IsAfter, IsTurned};
 
-// What a turn met, and the place of the district that it went to. A machine that no entries and turns lead to may hold a front district that cannot be gone on with: it is answered as an empty one.
+// What a turn met, and the place of the district that it went to. A machine that no entries and turns lead to may hold a front district
+// that cannot be gone on with: it is answered as an empty one.
 pub enum Outcome {
     Empty,
     ShortSheet,

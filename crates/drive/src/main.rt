@@ -88,7 +88,8 @@ fn pass() -> bool {
     io::read_full(STDIN_FILENO, &mut space) != 0
 }
 
-// Reads what is left, so that whoever writes it can end. A proved loop has to end, and nothing says that the input does: the turns are counted down, from a number that no run uses up.
+// Reads what is left, so that whoever writes it can end. A proved loop has to end, and nothing says that the input does: the turns are
+// counted down, from a number that no run uses up.
 fn pass_all() {
     let mut turns = u64::MAX;
     while turns > 0 && pass() {
@@ -96,7 +97,8 @@ fn pass_all() {
     }
 }
 
-// The longest plan has 1,475 bytes. A file longer than the buffer is refused for what its first 4,096 bytes hold, as the whole would be (`planner`'s `Laws.LongFile`).
+// The longest plan has 1,475 bytes. A file longer than the buffer is refused for what its first 4,096 bytes hold, as the
+// whole would be (`planner`'s `Laws.LongFile`).
 fn run() {
     let mut file = io::buffer();
     let n = io::read_full(STDIN_FILENO, &mut file);

@@ -1,4 +1,5 @@
-// The cost of a list of arcs, and the must arcs that it misses. A flag for each arc says whether it is due: a must arc that was not passed yet.
+// The cost of a list of arcs, and the must arcs that it misses. A flag for each arc says whether it
+// is due: a must arc that was not passed yet.
 // Steps for other crates, which ask something of their caller.
 ghost use mathlib.Core.Path.{_≡_};
 ghost use mathlib.Core.Bool.{false, cond};
@@ -52,7 +53,8 @@ fn pass_cost(cost: u16, service: u16, due: bool) -> u32
 // The cost of the list, and the flags of the must arcs that are still due at its end.
 pub fn priced(arcs: &[[u16; 5]], required: [bool; 256], places: &[u16]) -> Tally
     requires { ⌜ hasForeign (planOver (now arcs)) (now places) ≡ false ⌝ }
-    requires { ⌜ (length (now arcs) ≤ 256) × (tourCost (planOver (now arcs)) (now places) < 2 ^ 32) × AreDue required (requiredNumbers (planOver (now arcs))) ⌝ }
+    requires { ⌜ (length (now arcs) ≤ 256) × (tourCost (planOver (now arcs)) (now places) < 2 ^ 32)
+        × AreDue required (requiredNumbers (planOver (now arcs))) ⌝ }
     ensures { λ r. ⌜ IsTally (planOver (now (arcs .entry))) (now (places .entry)) r ⌝ }
 {
     let mut due = required;

@@ -5,7 +5,8 @@ use lib.ListN.{length, getD, take, drop}
 use Rattle.postman.specs.Lists.{below}
 use Rattle.postman.specs.Plan.{Arc}
 
--- "A record has tail, head and standing of 8 bits each and a cost of 16", and a checking cost of 16: tail, head, standing, and the two costs, each with its high byte first.
+-- "A record has tail, head and standing of 8 bits each and a cost of 16", and a checking cost of 16: tail, head, standing, and
+-- the two costs, each with its high byte first.
 unfoldable pub arcBytes : Arc → List ℕ
 arcBytes a = a .tail ∷ a .head ∷ a .standing ∷ a .cost / 256 ∷ a .cost % 256 ∷ a .service / 256 ∷ a .service % 256 ∷ []
 
@@ -16,7 +17,13 @@ numberIn lent i = getD lent i 0 * 256 + getD lent (i + 1) 0
 -- The record whose bytes start at byte i.
 abbrev pub arcIn : List ℕ → ℕ → Arc
 arcIn lent i =
-    record { tail = getD lent i 0; head = getD lent (i + 1) 0; standing = getD lent (i + 2) 0; cost = numberIn lent (i + 3); service = numberIn lent (i + 5) }
+    record {
+      tail = getD lent i 0;
+      head = getD lent (i + 1) 0;
+      standing = getD lent (i + 2) 0;
+      cost = numberIn lent (i + 3);
+      service = numberIn lent (i + 5);
+    }
 
 -- The records that are lent: a seventh as many as bytes. Up to six bytes that are left over are no record.
 unfoldable pub arcsIn : List ℕ → List Arc

@@ -1,5 +1,5 @@
-// A record crosses the border as seven bytes: tail, head, standing, and the cost and the service cost, each with its high byte first. Every seven bytes are a record, so none is
-// out of range.
+// A record crosses the border as seven bytes: tail, head, standing, and the cost and the service cost, each with its high byte first. Every
+// seven bytes are a record, so none is out of range.
 // Steps for other crates, which ask something of their caller.
 ghost use mathlib.Core.Path.{_≡_};
 ghost use mathlib.Core.List.{_++_, map, flatMap};

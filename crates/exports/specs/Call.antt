@@ -17,13 +17,15 @@ pub record IsExportedCall (bytes : List ℕ) (budget : ℕ) (sheet sheet′ word
   pub handed-over : IsHandedOver answer words words′ u u′ number
 
 -- And one that the plan call at a departure gives.
-pub record IsExportedCallAt (bytes : List ℕ) (budget : ℕ) (windows : List ℕ) (d : Departure) (sheet sheet′ words words′ : List ℕ) (u u′ : List ℤ) (number : ℤ) : Type 0 where
+pub record IsExportedCallAt (bytes : List ℕ) (budget : ℕ) (windows : List ℕ) (d : Departure) (sheet sheet′ words words′ : List ℕ)
+    (u u′ : List ℤ) (number : ℤ) : Type 0 where
   pub answer : Planned
   pub called : IsPlanCallAt bytes budget windows d sheet sheet′ answer
   pub handed-over : IsHandedOver answer words words′ u u′ number
 
 -- And one that the deep call gives.
-pub record IsExportedDeepCall (bytes : List ℕ) (budget rounds : ℕ) (sheet sheet′ words words′ : List ℕ) (u u′ : List ℤ) (number : ℤ) : Type 0 where
+pub record IsExportedDeepCall (bytes : List ℕ) (budget rounds : ℕ) (sheet sheet′ words words′ : List ℕ) (u u′ : List ℤ)
+    (number : ℤ) : Type 0 where
   pub answer : Planned
   pub called : IsDeepCall bytes budget rounds sheet sheet′ answer
   pub handed-over : IsHandedOver answer words words′ u u′ number

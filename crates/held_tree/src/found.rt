@@ -94,7 +94,8 @@ fn found_measured(
     tries: u32,
     g: Reached,
 ) -> Found
-    requires { ⌜ IsMeasured (planValue plan) (now table) net × (networkRefusal (net .components) (net .«cut_off») ≡ none) × CanGoOn (planValue plan) tries g ⌝ }
+    requires { ⌜ IsMeasured (planValue plan) (now table) net × (networkRefusal (net .components) (net .«cut_off») ≡ none)
+        × CanGoOn (planValue plan) tries g ⌝ }
     ensures { λ r. ⌜ IsFound (planValue plan) tries r ⌝ }
 {
     let flags = net.required;
@@ -106,7 +107,8 @@ fn found_measured(
 
 // The same, from the table of the plan's distances.
 pub fn found_tabled(plan: Plan, table: &[[u32; 64]; 64], tries: u32, g: Reached) -> Found
-    requires { ⌜ WellFormed (planValue plan) × (now table ≡ tableOf (planValue plan)) × (planRefusal (planValue plan) ≡ none) × CanGoOn (planValue plan) tries g ⌝ }
+    requires { ⌜ WellFormed (planValue plan) × (now table ≡ tableOf (planValue plan)) × (planRefusal (planValue plan) ≡ none)
+        × CanGoOn (planValue plan) tries g ⌝ }
     ensures { λ r. ⌜ IsFound (planValue plan) tries r ⌝ }
 {
     let net = network::network::network_of(plan, table);

@@ -1,5 +1,5 @@
 // The drive of a tree that is held.
-// A step for other crates, which asks something of its caller.
+// Steps for other crates, which ask something of their caller.
 use multipliers::prepare::base_state;
 use network::network::Network;
 use plan::Plan;
@@ -38,8 +38,12 @@ fn lay_known(
     heads: [u8; 8],
     sheet: &mut [u16],
 ) -> usize
-    requires { ⌜ IsKnown (planValue plan) (now table) (now vs) × IsNetwork (planValue plan) net × HoldsTree (planValue plan) tails heads × (sheetPlaces ≤ length (now sheet)) × AreWeights (planValue plan) (now weights) ⌝ }
-    ensures { λ r. ⌜ (now (sheet .exit) ≡ written (driveOf (planValue plan) (linksIn (componentCount (planValue plan) - 1) tails heads)) (now (sheet .entry))) × (r ≡ length (driveOf (planValue plan) (linksIn (componentCount (planValue plan) - 1) tails heads))) ⌝ }
+    requires { ⌜ IsKnown (planValue plan) (now table) (now vs) × IsNetwork (planValue plan) net × HoldsTree (planValue plan) tails heads
+        × (sheetPlaces ≤ length (now sheet)) × AreWeights (planValue plan) (now weights) ⌝ }
+    ensures { λ r.
+        ⌜ (now (sheet .exit)
+        ≡ written (driveOf (planValue plan) (linksIn (componentCount (planValue plan) - 1) tails heads)) (now (sheet .entry)))
+        × (r ≡ length (driveOf (planValue plan) (linksIn (componentCount (planValue plan) - 1) tails heads))) ⌝ }
 {
     let base = base_state(plan, table, vs);
     lay_held(plan, table, weights, vs, net, base, tails, heads, sheet)
@@ -55,8 +59,12 @@ fn lay_measured(
     heads: [u8; 8],
     sheet: &mut [u16],
 ) -> usize
-    requires { ⌜ IsMeasured (planValue plan) (now table) net × (networkRefusal (net .components) (net .«cut_off») ≡ none) × HoldsTree (planValue plan) tails heads × (sheetPlaces ≤ length (now sheet)) × AreWeights (planValue plan) (now weights) ⌝ }
-    ensures { λ r. ⌜ (now (sheet .exit) ≡ written (driveOf (planValue plan) (linksIn (componentCount (planValue plan) - 1) tails heads)) (now (sheet .entry))) × (r ≡ length (driveOf (planValue plan) (linksIn (componentCount (planValue plan) - 1) tails heads))) ⌝ }
+    requires { ⌜ IsMeasured (planValue plan) (now table) net × (networkRefusal (net .components) (net .«cut_off») ≡ none)
+        × HoldsTree (planValue plan) tails heads × (sheetPlaces ≤ length (now sheet)) × AreWeights (planValue plan) (now weights) ⌝ }
+    ensures { λ r.
+        ⌜ (now (sheet .exit)
+        ≡ written (driveOf (planValue plan) (linksIn (componentCount (planValue plan) - 1) tails heads)) (now (sheet .entry)))
+        × (r ≡ length (driveOf (planValue plan) (linksIn (componentCount (planValue plan) - 1) tails heads))) ⌝ }
 {
     let flags = net.required;
     let v = candidates::vertices_of(flags);
@@ -74,8 +82,12 @@ pub fn lay_tabled(
     heads: [u8; 8],
     sheet: &mut [u16],
 ) -> Laid
-    requires { ⌜ WellFormed (planValue plan) × (now table ≡ tableOf (planValue plan)) × AreWeights (planValue plan) (now weights) × (planRefusal (planValue plan) ≡ none) × HoldsTree (planValue plan) tails heads × (sheetPlaces ≤ length (now sheet)) ⌝ }
-    ensures { λ r. ⌜ (now (sheet .exit) ≡ written (driveOf (planValue plan) (linksIn (componentCount (planValue plan) - 1) tails heads)) (now (sheet .entry))) × (r .places ≡ length (driveOf (planValue plan) (linksIn (componentCount (planValue plan) - 1) tails heads))) × (r .parts ≡ componentCount (planValue plan)) ⌝ }
+    requires { ⌜ WellFormed (planValue plan) × (now table ≡ tableOf (planValue plan)) × AreWeights (planValue plan) (now weights)
+        × (planRefusal (planValue plan) ≡ none) × HoldsTree (planValue plan) tails heads × (sheetPlaces ≤ length (now sheet)) ⌝ }
+    ensures { λ r. ⌜ (now (sheet .exit) ≡ written (driveOf (planValue plan)
+        (linksIn (componentCount (planValue plan) - 1) tails heads)) (now (sheet .entry)))
+        × (r .places ≡ length (driveOf (planValue plan) (linksIn (componentCount (planValue plan) - 1) tails heads)))
+        × (r .parts ≡ componentCount (planValue plan)) ⌝ }
 {
     let net = network::network::network_of(plan, table);
     let places = lay_measured(plan, table, weights, net, tails, heads, sheet);

@@ -1,6 +1,6 @@
--- The circuit: one closed walk that uses each of some legs once. The legs are given by their tails and their heads; leg e goes from the eth tail to the eth head.
--- Hierholzer's way: walk on from leg 0 by unused legs, always by the first there is; where there is none, the last leg of the walk has its final place, in
--- front of those that were placed before it, and the walk goes on from its tail.
+-- The circuit: one closed walk that uses each of some legs once. The legs are given by their tails and their heads; leg e goes from the eth
+-- tail to the eth head. Hierholzer's way: walk on from leg 0 by unused legs, always by the first there is; where there is none, the last
+-- leg of the walk has its final place, in front of those that were placed before it, and the walk goes on from its tail.
 use mathlib.Core.Bool.{Bool, cond, _&&_}
 use mathlib.Core.List.{List, [], _∷_}
 use Prim.Native.Nat.{ℕ, zero, suc, _+_, _-_, _*_}
@@ -9,7 +9,7 @@ use lib.Dec.{eqb, ltb}
 use Rattle.postman.specs.Lists.{below, firstIndex, occurrences}
 
 -- The walk so far, its last leg first, and the end of the circuit.
-pub record State : Type 0 where
+pub record CircuitState : Type 0 where
   pub walk : List ℕ
   pub placed : List ℕ
 
@@ -23,7 +23,7 @@ unfoldable pub nextLeg : List ℕ → List ℕ → List ℕ → ℕ → ℕ
 unfolding firstIndex isFree below
 nextLeg tails walk placed v = firstIndex (isFree tails walk placed v) (below (length tails))
 
-unfoldable pub step : List ℕ → List ℕ → List ℕ → List ℕ → State
+unfoldable pub step : List ℕ → List ℕ → List ℕ → List ℕ → CircuitState
 unfolding nextLeg
 step tails heads [] placed = record { walk = []; placed = placed }
 step tails heads (k ∷ walk) placed =

@@ -8,8 +8,8 @@ use lib.Dec.{T}
 use Rattle.postman.specs.Lists.{below, occurrences}
 use Rattle.postman.specs.Steps.{Permutation}
 
--- As many legs leave a vertex as enter it, and every set that holds the tail of leg 0, and a leg's head with its tail, holds all tails: each leg can be
--- reached from leg 0.
+-- As many legs leave a vertex as enter it, and every set that holds the tail of leg 0, and a leg's head with its tail, holds
+-- all tails: each leg can be reached from leg 0.
 pub record Eulerian (tails heads : List ℕ) : Type 0 where
   pub some : 0 < length tails
   pub ends : length heads ≡ length tails

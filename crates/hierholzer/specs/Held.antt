@@ -1,4 +1,5 @@
--- How the code holds the circuit's state: one list of places for both lists, the walk from its start on, what is placed at its end; and a flag for each leg.
+-- How the code holds the circuit's state: one list of places for both lists, the walk from its start on, what is
+-- placed at its end; and a flag for each leg.
 use mathlib.Core.Path.{_≡_}
 use mathlib.Core.Bool.{Bool, not, _&&_}
 use mathlib.Core.List.{List, [], _∷_}
@@ -13,7 +14,7 @@ unfoldable pub walkOf : List ℕ → ℕ → List ℕ
 walkOf order zero = []
 walkOf order (suc n) = getD order n 0 ∷ walkOf order n
 
-pub record Held (tails order used : List ℕ) (depth start : ℕ) : Type 0 where
+pub record HeldPath (tails order used : List ℕ) (depth start : ℕ) : Type 0 where
   pub apart : depth ≤ start
   pub within : start ≤ length order
   pub places : length order ≡ length tails
@@ -23,7 +24,7 @@ pub record Held (tails order used : List ℕ) (depth start : ℕ) : Type 0 where
 
 -- One step taken, from places, a depth and a start to others.
 pub record Stepped (tails heads before : List ℕ) (depth start : ℕ) (after used : List ℕ) (depth′ start′ : ℕ) : Type 0 where
-  pub held : Held tails after used depth′ start′
+  pub held : HeldPath tails after used depth′ start′
   pub walk : walkOf after depth′ ≡ step tails heads (walkOf before depth) (drop start before) .walk
   pub placed : drop start′ after ≡ step tails heads (walkOf before depth) (drop start before) .placed
   pub nearer : 2 * start′ + depth + 1 ≡ 2 * start + depth′

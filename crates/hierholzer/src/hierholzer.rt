@@ -9,7 +9,7 @@ ghost use lib.ListN.{length};
 ghost use lib.Dec.{T, eqb};
 ghost use Rattle.hierholzer.specs.Circuit.{circuit};
 ghost use Rattle.hierholzer.specs.Eulerian.{Eulerian};
-ghost use Rattle.hierholzer.specs.Held.{Held, Stepped, Hints, isUnused, firstUnused};
+ghost use Rattle.hierholzer.specs.Held.{HeldPath, Stepped, Hints, isUnused, firstUnused};
 
 // How far the walk reaches from the start of the places, and where the placed legs begin.
 struct Progress {
@@ -29,7 +29,8 @@ fn is_unused(tail: u8, flag: u8, v: u8) -> bool
 
 // The first unused leg out of v, where none is before `from`; the number of legs where there is none.
 fn next_leg(tails: &[u8], used: &[u8; 526], v: u8, from: usize) -> usize
-    requires { ⌜ (length (now tails) ≤ 526) × (from ≤ length (now tails)) × ((k : ℕ) → k < from → T (not (isUnused (now tails) (now used) v k))) ⌝ }
+    requires { ⌜ (length (now tails) ≤ 526) × (from ≤ length (now tails))
+        × ((k : ℕ) → k < from → T (not (isUnused (now tails) (now used) v k))) ⌝ }
     ensures { λ r. ⌜ r ≡ firstUnused (now (tails .entry)) (now (used .entry)) v ⌝ }
 {
     let mut e = from;
@@ -45,7 +46,9 @@ fn next_leg(tails: &[u8], used: &[u8; 526], v: u8, from: usize) -> usize
 // The same, from the hint of v on, which then says where it was found: legs do not become unused again.
 fn find_leg(tails: &[u8], used: &[u8; 526], hints: &mut [u16; 256], v: u8) -> usize
     requires { ⌜ (length (now tails) ≤ 526) × Hints (now tails) (now used) (now hints) ⌝ }
-    ensures { λ r. ⌜ (r ≡ firstUnused (now (tails .entry)) (now (used .entry)) v) × Hints (now (tails .entry)) (now (used .entry)) (now (hints .exit)) ⌝ }
+    ensures { λ r.
+        ⌜ (r ≡ firstUnused (now (tails .entry)) (now (used .entry)) v)
+        × Hints (now (tails .entry)) (now (used .entry)) (now (hints .exit)) ⌝ }
 {
     let i = wide8(v);
     let from = wide(hints[i]);
@@ -64,8 +67,11 @@ fn advance(
     depth: usize,
     start: usize,
 ) -> Progress
-    requires { ⌜ (length (now tails) ≤ 526) × (length (now heads) ≡ length (now tails)) × (0 < depth) × Held (now tails) (now order) (now used) depth start × Hints (now tails) (now used) (now hints) ⌝ }
-    ensures { λ r. ⌜ Stepped (now (tails .entry)) (now (heads .entry)) (now (order .entry)) depth start (now (order .exit)) (now (used .exit)) (r .depth) (r .start) × Hints (now (tails .entry)) (now (used .exit)) (now (hints .exit)) ⌝ }
+    requires { ⌜ (length (now tails) ≤ 526) × (length (now heads) ≡ length (now tails)) × (0 < depth)
+        × HeldPath (now tails) (now order) (now used) depth start × Hints (now tails) (now used) (now hints) ⌝ }
+    ensures { λ r.
+        ⌜ Stepped (now (tails .entry)) (now (heads .entry)) (now (order .entry)) depth start (now (order .exit)) (now (used .exit))
+        (r .depth) (r .start) × Hints (now (tails .entry)) (now (used .exit)) (now (hints .exit)) ⌝ }
 {
     let top = depth - 1;
     let k = order[top];

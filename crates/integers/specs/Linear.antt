@@ -1,9 +1,9 @@
--- Facts about ℤ, which `omega` does not read: every integer a is P a - N a, two naturals, and orders and equations of integers are orders and equations of those.
---     omega (arith, z)            the hypotheses in reach (fields of records too) and the goal are orders, equations and tests of single terms
---     simp zz (omega arith)       a goal over sums, differences, products, SFits, Within, natAbs a ≤ m; hypotheses left as arrows of the goal are turned too
---     simp zz (omega (arith, z, simp zz at h))    the same, with a hypothesis h over sums in reach
--- The order of the entries in zl matters: `simp` takes the first that fits, so the rules for sums stand before those for a single term. `omega` applies to a hypothesis the first rule of z that fits, and no other.
--- Assumes nothing.
+-- Facts about ℤ, which `omega` does not read: every integer a is P a - N a, two naturals, and orders and equations of integers are orders
+-- and equations of those. omega (arith, z)            the hypotheses in reach (fields of records too) and the goal are orders, equations
+-- and tests of single terms simp zz (omega arith)       a goal over sums, differences, products, SFits, Within, natAbs a ≤ m; hypotheses
+-- left as arrows of the goal are turned too simp zz (omega (arith, z, simp zz at h))    the same, with a hypothesis h over sums in reach
+-- The order of the entries in zl matters: `simp` takes the first that fits, so the rules for sums stand before those for a single term.
+-- `omega` applies to a hypothesis the first rule of z that fits, and no other. Assumes nothing.
 use mathlib.Core.Path.{_≡_, refl, ap, subst⁻¹}
 use mathlib.Core.Logic.{_↔_}
 use mathlib.Core.List.{List, [], _∷_}
@@ -31,7 +31,9 @@ cond-ind true x y Q f g = f tt
 cond-ind false x y Q f g = g tt
 
 sub-pn : (a b : ℕ) → P (subℕ a b) + b ≡ N (subℕ a b) + a
-sub-pn a b = cond-ind (ltb a b) (negsuc (b - suc a)) (pos (a - b)) (λ z. P z + b ≡ N z + a) (λ t. omega (arith, ltb→lt)) (λ t. omega (arith, nltb→le))
+sub-pn a b =
+    cond-ind (ltb a b) (negsuc (b - suc a)) (pos (a - b)) (λ z. P z + b ≡ N z + a) (λ t. omega (arith, ltb→lt))
+    (λ t. omega (arith, nltb→le))
 
 pub add-pn : (a b : ℤ) → P (a +ℤ b) + (N a + N b) ≡ N (a +ℤ b) + (P a + P b)
 add-pn (pos a) (pos b) = omega arith
@@ -183,15 +185,24 @@ Ek s k x y = P (s +ℤ sum k) + x ≡ N (s +ℤ sum k) + y
 
 pub le-k : (a b : ℤ) → (a ≤ℤ b) ↔ Lk a (negℤ b ∷ []) 0 0
 unfolding Lk sum
-le-k a b = ((λ h. omega (arith, z, add-pn a (negℤ b +ℤ pos 0), add-pn (negℤ b) (pos 0), neg-p b, neg-n b)), (λ h. omega (arith, z, add-pn a (negℤ b +ℤ pos 0), add-pn (negℤ b) (pos 0), neg-p b, neg-n b)))
+le-k a b = (
+  (λ h. omega (arith, z, add-pn a (negℤ b +ℤ pos 0), add-pn (negℤ b) (pos 0), neg-p b, neg-n b)),
+  (λ h. omega (arith, z, add-pn a (negℤ b +ℤ pos 0), add-pn (negℤ b) (pos 0), neg-p b, neg-n b)),
+)
 
 pub lt-k : (a b : ℤ) → (a <ℤ b) ↔ Lk a (negℤ b ∷ []) 1 0
 unfolding Lk sum
-lt-k a b = ((λ h. omega (arith, z, add-pn a (negℤ b +ℤ pos 0), add-pn (negℤ b) (pos 0), neg-p b, neg-n b)), (λ h. omega (arith, z, add-pn a (negℤ b +ℤ pos 0), add-pn (negℤ b) (pos 0), neg-p b, neg-n b)))
+lt-k a b = (
+  (λ h. omega (arith, z, add-pn a (negℤ b +ℤ pos 0), add-pn (negℤ b) (pos 0), neg-p b, neg-n b)),
+  (λ h. omega (arith, z, add-pn a (negℤ b +ℤ pos 0), add-pn (negℤ b) (pos 0), neg-p b, neg-n b)),
+)
 
 pub eq-k : (a b : ℤ) → (a ≡ b) ↔ Ek a (negℤ b ∷ []) 0 0
 unfolding Ek sum
-eq-k a b = ((λ h. omega (arith, z, add-pn a (negℤ b +ℤ pos 0), add-pn (negℤ b) (pos 0), neg-p b, neg-n b)), (λ h. omega (arith, z, add-pn a (negℤ b +ℤ pos 0), add-pn (negℤ b) (pos 0), neg-p b, neg-n b)))
+eq-k a b = (
+  (λ h. omega (arith, z, add-pn a (negℤ b +ℤ pos 0), add-pn (negℤ b) (pos 0), neg-p b, neg-n b)),
+  (λ h. omega (arith, z, add-pn a (negℤ b +ℤ pos 0), add-pn (negℤ b) (pos 0), neg-p b, neg-n b)),
+)
 
 module _ (a b : ℤ) (k : List ℤ) (x y : ℕ) where
   pub lk-add : Lk (a +ℤ b) k x y ↔ Lk a (b ∷ k) x y
@@ -258,7 +269,32 @@ n-lit (pos n) m = omega arith
 n-lit (negsuc n) m = omega (arith, neg-n (pos (suc n * m)))
 
 -- linear facts: `simp zl (omega arith)`
-pub ruleset zl = (lk-add, lk-sub, lk-neg, ek-add, ek-sub, ek-neg, lk-next, ek-next, lk-end, ek-end, le-k, lt-k, eq-k, negℤ-negℤ, neg-p, neg-n, pos-p, pos-n, negsuc-p, negsuc-n, lit-p, lit-n, p-lit, n-lit)
+pub ruleset zl = (
+  lk-add,
+  lk-sub,
+  lk-neg,
+  ek-add,
+  ek-sub,
+  ek-neg,
+  lk-next,
+  ek-next,
+  lk-end,
+  ek-end,
+  le-k,
+  lt-k,
+  eq-k,
+  negℤ-negℤ,
+  neg-p,
+  neg-n,
+  pos-p,
+  pos-n,
+  negsuc-p,
+  negsuc-n,
+  lit-p,
+  lit-n,
+  p-lit,
+  n-lit,
+)
 
 -- ---- products
 pub mul-p : (a b : ℤ) → P (a *ℤ b) ≡ P a * P b + N a * N b

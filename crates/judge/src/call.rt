@@ -28,7 +28,8 @@ ghost use Rattle.judge.specs.Contract.{judgedAnswer, listAnswer, planAns
 
 // 14, 15 and 16, then the cost.
 fn judge_list(arcs: &[[u16; 5]], required: [bool; 256], places: &[u16]) -> Judged
-    requires { ⌜ (length (now arcs) ≤ 256) × (tourCost (planOver (now arcs)) (now places) < 2 ^ 32) × AreDue required (requiredNumbers (planOver (now arcs))) ⌝ }
+    requires { ⌜ (length (now arcs) ≤ 256) × (tourCost (planOver (now arcs)) (now places) < 2 ^ 32)
+        × AreDue required (requiredNumbers (planOver (now arcs))) ⌝ }
     ensures { λ r. ⌜ judgedAnswer r ≡ listAnswer (planOver (now (arcs .entry))) (now (places .entry)) ⌝ }
 {
     if has_foreign(arcs, places) {

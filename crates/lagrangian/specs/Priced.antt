@@ -10,9 +10,10 @@ use Rattle.postman.specs.Required.{required, requiredCost}
 use Rattle.postman.specs.Steps.{Plannable, Feasible}
 use Rattle.shortest.specs.Contracts.{IsTable}
 use Rattle.required.specs.Contracts.{IsImbalance, IsRequiredFlags, IsComponents}
-use Rattle.pair_costs.specs.PairCosts.{multipliersOf}
+use Rattle.pair_costs.specs.PairCosts.{multipliersIn}
 
-pub record IsPriced (p : Plan) (table : List (List ℕ)) (u : List ℤ) (component : List ℕ) (flags : List Bool) (k r : ℕ) (d : List ℤ) : Type 0 where
+pub record IsPriced (p : Plan) (table : List (List ℕ)) (u : List ℤ) (component : List ℕ) (flags : List Bool) (k r : ℕ)
+    (d : List ℤ) : Type 0 where
   pub plannable : Plannable p
   pub few : k ≤ 8
   pub some : 1 ≤ k
@@ -22,8 +23,8 @@ pub record IsPriced (p : Plan) (table : List (List ℕ)) (u : List ℤ) (compone
   pub components : IsComponents p component k
   pub cost : r ≡ requiredCost p
   pub imbalance : IsImbalance p d
-  pub feasible : Feasible p (multipliersOf u)
-  pub elsewhere : (i : ℕ) → (List·Memᴰ i (required p) → ⊥) → multipliersOf u i ≡ pos 0
+  pub feasible : Feasible p (multipliersIn u)
+  pub elsewhere : (i : ℕ) → (List·Memᴰ i (required p) → ⊥) → multipliersIn u i ≡ pos 0
   pub root : ℕ
   pub root-required : List·Memᴰ root (required p)
-  pub at-root : multipliersOf u root ≡ pos 0
+  pub at-root : multipliersIn u root ≡ pos 0

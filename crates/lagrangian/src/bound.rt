@@ -9,7 +9,7 @@ ghost use Rattle.integers.specs.Linear.{Within};
 ghost use Rattle.postman.specs.Lists.{maxℤ};
 ghost use Rattle.postman.specs.Plan.{Plan};
 ghost use Rattle.postman.specs.LagrangianBound.{lagrangianBound};
-ghost use Rattle.pair_costs.specs.PairCosts.{multipliersOf};
+ghost use Rattle.pair_costs.specs.PairCosts.{multipliersIn};
 ghost use Rattle.multiplier_steps.specs.Steps.{AreSmall};
 ghost use Rattle.lagrangian.specs.Price.{priceOf};
 ghost use Rattle.lagrangian.specs.Priced.{IsPriced};
@@ -60,7 +60,10 @@ pub fn lagrangian(
     imbalance: &[i64; 64],
 ) -> i64
     requires { ⌜ ((p : Plan) × IsPriced p (now table) (now u) (now component) (now required) k «required_cost» (now imbalance)) ⌝ }
-    ensures { λ r. ⌜ ((p : Plan) → IsPriced p (now (table .entry)) (now (u .entry)) (now (component .entry)) (now (required .entry)) k «required_cost» (now (imbalance .entry)) → r ≡ lagrangianBound p (multipliersOf (now (u .entry)))) ⌝ }
+    ensures { λ r.
+        ⌜ ((p : Plan)
+        → IsPriced p (now (table .entry)) (now (u .entry)) (now (component .entry)) (now (required .entry)) k «required_cost»
+        (now (imbalance .entry)) → r ≡ lagrangianBound p (multipliersIn (now (u .entry)))) ⌝ }
 {
     let a = pair_costs::pairs::cheapest_arborescence(table, u, component, required, k);
     total(required_cost, price(u, imbalance), a)
@@ -78,8 +81,13 @@ pub fn floor_of(
     whole: bool,
     cost: u64,
 ) -> i64
-    requires { ⌜ ((p : Plan) × IsPriced p (now table) (replicate 64 (pos 0)) (now component) (now required) k «required_cost» (now imbalance)) × (cost ≤ 4398046511104) ⌝ }
-    ensures { λ r. ⌜ ((p : Plan) → IsPriced p (now (table .entry)) (replicate 64 (pos 0)) (now (component .entry)) (now (required .entry)) k «required_cost» (now (imbalance .entry)) → r ≡ cond whole (pos cost) (maxℤ (lagrangianBound p (λ i. pos 0)) bound)) ⌝ }
+    requires { ⌜
+        ((p : Plan) × IsPriced p (now table) (replicate 64 (pos 0)) (now component) (now required) k «required_cost» (now imbalance))
+        × (cost ≤ 4398046511104) ⌝ }
+    ensures { λ r.
+        ⌜ ((p : Plan)
+        → IsPriced p (now (table .entry)) (replicate 64 (pos 0)) (now (component .entry)) (now (required .entry)) k «required_cost»
+        (now (imbalance .entry)) → r ≡ cond whole (pos cost) (maxℤ (lagrangianBound p (λ i. pos 0)) bound)) ⌝ }
 {
     if whole {
         return cost as i64;

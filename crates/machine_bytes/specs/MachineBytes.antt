@@ -13,9 +13,16 @@ use Rattle.encoding.specs.NumberBytes.{wordIn, wordBytes, longIn, longBytes}
 abbrev pub districtsBytes : ℕ
 districtsBytes = 12136
 
--- What a district holds of the trees tried, from byte i on: the least cost, the tails and heads of the best tree's links, and how many were tried.
+-- What a district holds of the trees tried, from byte i on: the least cost, the tails and heads of the
+-- best tree's links, and how many were tried.
 abbrev pub reachedIn : List ℕ → ℕ → Reached
-reachedIn bytes i = record { cost = longIn bytes i; tails = take 8 (drop (i + 8) bytes); heads = take 8 (drop (i + 16) bytes); tried = wordIn bytes (i + 24) }
+reachedIn bytes i =
+    record {
+      cost = longIn bytes i;
+      tails = take 8 (drop (i + 8) bytes);
+      heads = take 8 (drop (i + 16) bytes);
+      tried = wordIn bytes (i + 24);
+    }
 
 unfoldable pub reachedBytes : Reached → List ℕ
 unfolding wordBytes longBytes
@@ -23,7 +30,14 @@ reachedBytes g = longBytes (g .cost) ++ g .tails ++ g .heads ++ wordBytes (g .tr
 
 -- The district whose bytes start at byte i: its place; its file's length, and 1,475 bytes; its budget, and what it holds.
 abbrev pub districtIn : List ℕ → ℕ → District
-districtIn bytes i = record { place = getD bytes i 0; bytes = take 1475 (drop (i + 9) bytes); length = longIn bytes (i + 1); budget = wordIn bytes (i + 1484); held = reachedIn bytes (i + 1488) }
+districtIn bytes i =
+    record {
+      place = getD bytes i 0;
+      bytes = take 1475 (drop (i + 9) bytes);
+      length = longIn bytes (i + 1);
+      budget = wordIn bytes (i + 1484);
+      held = reachedIn bytes (i + 1488);
+    }
 
 unfoldable pub districtBytes : District → List ℕ
 unfolding wordBytes longBytes reachedBytes

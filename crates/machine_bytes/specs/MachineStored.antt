@@ -21,7 +21,8 @@ pub record IsEntryStored (r : Entered) (bytes bytes′ : List ℕ) (number : ℤ
   pub machine-is : bytes′ ≡ unless (admissionNumber (r .answer)) (machineBytes (r .machine) ++ drop districtsBytes bytes) bytes
   pub sized : admissionNumber (r .answer) ≡ none → IsSized (r .machine)
 
--- A turn's answer in a number and three lent slices. The words are those of the answer, which are 0 before the last turn but for the least cost and the trees so far.
+-- A turn's answer in a number and three lent slices. The words are those of the answer, which are 0 before the last turn
+-- but for the least cost and the trees so far.
 pub record IsTurnHandedOver (r : Turned) (bytes bytes′ words words′ : List ℕ) (u u′ : List ℤ) (number : ℤ) : Type 0 where
   pub number-is : number ≡ oneNumber (outcomeNumber (r .outcome))
   pub machine-is : bytes′ ≡ cond (hadTurn (r .outcome)) (machineBytes (r .machine) ++ drop districtsBytes bytes) bytes

@@ -1,5 +1,6 @@
-// A machine of districts as bytes: eight districts one after the other, the front of the line first, and the number of those that wait. A district is its place, a byte; its file's length, eight bytes, and
-// 1,475 bytes; its budget, four; its least cost, eight; eight tails and eight heads; and the trees tried, four. Whatever these bytes are, they are a machine.
+// A machine of districts as bytes: eight districts one after the other, the front of the line first, and the number of those that wait. A
+// district is its place, a byte; its file's length, eight bytes, and 1,475 bytes; its budget, four; its least cost, eight; eight tails and
+// eight heads; and the trees tried, four. Whatever these bytes are, they are a machine.
 // Steps for other crates, which ask something of their caller.
 ghost use mathlib.Core.Path.{_≡_};
 ghost use mathlib.Core.List.{_++_, map, flatMap};
@@ -108,7 +109,8 @@ fn store_district(machine: &mut [u8], at: usize, d: District)
 
 fn store_line(machine: &mut [u8], line: [District; 8])
     requires { ⌜ districtsBytes ≤ length (now machine) ⌝ }
-    ensures { λ _. ⌜ AreSized line × (length line ≡ 8) × (now (machine .exit) ≡ putAt (now (machine .entry)) 0 (flatMap districtBytes line)) ⌝ }
+    ensures { λ _.
+        ⌜ AreSized line × (length line ≡ 8) × (now (machine .exit) ≡ putAt (now (machine .entry)) 0 (flatMap districtBytes line)) ⌝ }
 {
     for k in 0..8 {
         let d = line[k];

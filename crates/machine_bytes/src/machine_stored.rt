@@ -39,7 +39,9 @@ pub fn hand_turn_over(
     u_lent: &mut [i64],
 ) -> i64
     requires { ⌜ districtsBytes ≤ length (now machine) ⌝ }
-    ensures { λ k. ⌜ IsTurnHandedOver r (now (machine .entry)) (now (machine .exit)) (now («words_lent» .entry)) (now («words_lent» .exit)) (now («u_lent» .entry)) (now («u_lent» .exit)) k ⌝ }
+    ensures { λ k.
+        ⌜ IsTurnHandedOver r (now (machine .entry)) (now (machine .exit)) (now («words_lent» .entry)) (now («words_lent» .exit))
+        (now («u_lent» .entry)) (now («u_lent» .exit)) k ⌝ }
 {
     let outcome = r.outcome;
     let planned = r.planned;

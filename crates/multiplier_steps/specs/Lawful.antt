@@ -1,4 +1,5 @@
--- The test of multipliers: document 01's first condition for every pair of vs, and that a pair's reduced cost is 0 where something is sent, which gives the second.
+-- The test of multipliers: document 01's first condition for every pair of vs, and that a pair's reduced cost is 0
+-- where something is sent, which gives the second.
 use mathlib.Core.Bool.{Bool, true, cond, _&&_}
 use mathlib.Core.List.{List}
 use Prim.Native.Nat.{ℕ}
@@ -6,7 +7,7 @@ use lib.Dec.{ltb}
 use lib.ListN.{length, getD}
 use lib.IntN.{ℤ, pos, _+ℤ_, _-ℤ_}
 use lib.Signed.{leZ}
-use Rattle.residual_search.specs.Step.{cell, amount}
+use Rattle.postman.specs.Steps.{cell, amount}
 use Rattle.multiplier_steps.specs.Turns.{turns}
 
 abbrev pub passes : ℕ → ℕ → ℤ → ℤ → Bool

@@ -1,4 +1,5 @@
--- The multipliers that are answered, as a function of the plan: of those that 20 steps meet, from the greatest that are 0 at the lowest required vertex on, the first that gives the largest L(u).
+-- The multipliers that are answered, as a function of the plan: of those that 20 steps meet, from the greatest that are 0 at the lowest
+-- required vertex on, the first that gives the largest L(u).
 use mathlib.Core.Bool.{Bool, false, cond, _&&_}
 use mathlib.Core.List.{List, [], map}
 use Prim.Native.Nat.{ℕ, _+_, _-_, _/_, _%_, min}
@@ -12,17 +13,18 @@ use Rattle.postman.specs.Component.{component, componentCount}
 use Rattle.postman.specs.LagrangianBound.{lagrangianBound}
 use Rattle.postman.specs.PlanCall.{root}
 use Rattle.residual_search.specs.Search.{beyond}
-use Rattle.residual_search.specs.Step.{cell}
+use Rattle.postman.specs.Steps.{cell}
 use Rattle.balance.specs.Balance.{balance}
 use Rattle.balance.specs.Multipliers.{multipliers}
-use Rattle.pair_costs.specs.PairCosts.{multipliersOf}
+use Rattle.pair_costs.specs.PairCosts.{multipliersIn}
 use Rattle.multiplier_steps.specs.Turns.{turns}
 use Rattle.multiplier_steps.specs.Steps.{rooted, span}
 use Rattle.ascent.specs.Step.{Step, step}
 use Rattle.multiplier_steps.specs.Lawful.{areLawful}
 use Rattle.multipliers.specs.Tour.{tableOf}
 
--- Where an ascent stands: the multipliers and those before the last step, the best multipliers met and their bound, the largest cost of a tree met, the length of the next step, and whether a tree was balanced.
+-- Where an ascent stands: the multipliers and those before the last step, the best multipliers met and their bound, the largest cost of a
+-- tree met, the length of the next step, and whether a tree was balanced.
 pub record Climb : Type 0 where
   pub multipliers : List ℤ
   pub before : List ℤ
@@ -35,22 +37,40 @@ pub record Climb : Type 0 where
 module _ (p : Plan) where
   -- L(u)
   abbrev pub boundOf : List ℤ → ℤ
-  boundOf u = lagrangianBound p (multipliersOf u)
+  boundOf u = lagrangianBound p (multipliersIn u)
 
   module _ (d : List (List ℕ)) (f vs components : List ℕ) (k : ℕ) where
     abbrev pub taken : Climb → List ℤ → ℤ → Climb
-    taken c u l = record { multipliers = c .multipliers; before = c .before; best = u; bound = l; value = c .value; stride = c .stride; done = c .done }
+    taken c u l =
+        record {
+          multipliers = c .multipliers;
+          before = c .before;
+          best = u;
+          bound = l;
+          value = c .value;
+          stride = c .stride;
+          done = c .done;
+        }
 
     -- The multipliers, 0 at the root, are the best so far, where they are lawful and their bound is larger.
     unfoldable pub attempt : Climb → Climb
     unfolding areLawful rooted lagrangianBound
     attempt c =
-        cond (areLawful d f (c .multipliers) vs && ltZ (c .bound) (boundOf (rooted (c .multipliers) vs))) (taken c (rooted (c .multipliers) vs) (boundOf (rooted (c .multipliers) vs))) c
+        cond (areLawful d f (c .multipliers) vs && ltZ (c .bound) (boundOf (rooted (c .multipliers) vs)))
+        (taken c (rooted (c .multipliers) vs) (boundOf (rooted (c .multipliers) vs))) c
 
     -- A step from c, at which the tree costs `value`. A ninth of the step's length is lost.
     abbrev pub moved : Climb → Climb → Step → Climb
     moved c b s =
-        record { multipliers = s .multipliers; before = c .multipliers; best = b .best; bound = b .bound; value = maxℤ (c .value) (s .value); stride = c .stride - c .stride / 9; done = s .balanced }
+        record {
+          multipliers = s .multipliers;
+          before = c .multipliers;
+          best = b .best;
+          bound = b .bound;
+          value = maxℤ (c .value) (s .value);
+          stride = c .stride - c .stride / 9;
+          done = s .balanced;
+        }
 
     -- Step i, unless a tree was balanced. Brought back from above and from below by turns.
     unfoldable pub climb : Climb → ℕ → Climb
@@ -61,7 +81,15 @@ module _ (p : Plan) where
 
     unfoldable pub begin : List ℤ → Climb
     unfolding lagrangianBound span
-    begin u = record { multipliers = u; before = u; best = u; bound = boundOf u; value = pos 0; stride = min (span d vs / 24 + 1) beyond; done = false }
+    begin u = record {
+      multipliers = u;
+      before = u;
+      best = u;
+      bound = boundOf u;
+      value = pos 0;
+      stride = min (span d vs / 24 + 1) beyond;
+      done = false;
+    }
 
     -- Of all multipliers met, the first with the largest L(u).
     unfoldable pub ascent : List ℤ → List ℤ
@@ -81,4 +109,5 @@ greatestOf p = multipliers (cell (tableOf p)) (required p) (balance (cell (table
 -- THE MULTIPLIERS THAT ARE ANSWERED.
 unfoldable pub multipliersFor : Plan → List ℤ
 unfolding ascent tableOf balance required componentsOf componentCount greatestOf
-multipliersFor p = ascent p (tableOf p) (balance (cell (tableOf p)) p [] .amounts) (required p) (componentsOf p) (componentCount p) (greatestOf p)
+multipliersFor p =
+    ascent p (tableOf p) (balance (cell (tableOf p)) p [] .amounts) (required p) (componentsOf p) (componentCount p) (greatestOf p)

@@ -7,11 +7,28 @@ use Rattle.multipliers.specs.declared.ascend.Stage.{Stage}
 use Rattle.multipliers.specs.Ascent.{Climb}
 
 abbrev pub climbOf : Stage → Climb
-climbOf c = record { multipliers = c .multipliers; before = c .before; best = c .best; bound = c .bound; value = c .value; stride = c .stride; done = c .done }
+climbOf c = record {
+  multipliers = c .multipliers;
+  before = c .before;
+  best = c .best;
+  bound = c .bound;
+  value = c .value;
+  stride = c .stride;
+  done = c .done;
+}
 
 -- The same, with the best multipliers and their bound in place of its own.
 abbrev pub holding : Stage → Best → Climb
-holding c b = record { multipliers = c .multipliers; before = c .before; best = b .multipliers; bound = b .bound; value = c .value; stride = c .stride; done = c .done }
+holding c b =
+    record {
+      multipliers = c .multipliers;
+      before = c .before;
+      best = b .multipliers;
+      bound = b .bound;
+      value = c .value;
+      stride = c .stride;
+      done = c .done;
+    }
 
 -- It can be gone on with: no sum of a step overflows.
 pub record CanStep (c : Stage) : Type 0 where

@@ -9,8 +9,8 @@ use Rattle.postman.specs.Plan.{Plan, WellFormed}
 use Rattle.postman.specs.Required.{required, requiredCost}
 use Rattle.postman.specs.Component.{componentCount}
 use Rattle.postman.specs.Arborescence.{IsArborescence}
-use Rattle.postman.specs.Steps.{Plannable}
-use Rattle.residual_search.specs.Step.{State, cell}
+use Rattle.postman.specs.Steps.{Plannable, cell}
+use Rattle.residual_search.specs.Step.{State}
 use Rattle.balance.specs.Balance.{balance}
 use Rattle.tour_legs.specs.Filled.{linksOf}
 use Rattle.network.specs.declared.network.Network.{Network}
@@ -37,7 +37,8 @@ pub record IsBase (p : Plan) (table : List (List ℕ)) (vs : List ℕ) (base : S
   pub base-is : base ≡ balance (cell (tableOf p)) p []
 
 -- With the amounts of that state, its network in arrays, R and D.
-pub record IsPrepared (p : Plan) (table : List (List ℕ)) (amounts vs component : List ℕ) (flags : List Bool) (k r : ℕ) (d : List ℤ) : Type 0 where
+pub record IsPrepared (p : Plan) (table : List (List ℕ)) (amounts vs component : List ℕ) (flags : List Bool) (k r : ℕ)
+    (d : List ℤ) : Type 0 where
   pub known : IsKnown p table vs
   pub amounts-are : amounts ≡ balance (cell (tableOf p)) p [] .amounts
   pub long : length flags ≡ 64

@@ -7,7 +7,7 @@ use Rattle.postman.specs.Required.{required}
 use Rattle.postman.specs.Distance.{distance}
 use Rattle.postman.specs.Link.{Link}
 use Rattle.postman.specs.PlanCall.{bestArborescence}
-use Rattle.residual_search.specs.Step.{cell}
+use Rattle.postman.specs.Steps.{cell}
 use Rattle.balance.specs.Balance.{balance}
 use Rattle.direct_amounts.specs.Direct.{direct}
 use Rattle.tour_legs.specs.Tour.{tour}

@@ -15,7 +15,7 @@ ghost use Rattle.postman.specs.PlanCall.{root};
 ghost use Rattle.plan.specs.Records.{planValue};
 ghost use Rattle.residual_search.specs.Search.{beyond};
 ghost use Rattle.multiplier_steps.specs.Steps.{AreSmall};
-ghost use Rattle.residual_search.specs.Step.{cell};
+ghost use Rattle.postman.specs.Steps.{cell};
 ghost use Rattle.balance.specs.Multipliers.{multipliers};
 ghost use Rattle.balance.specs.Records.{stateOf};
 ghost use Rattle.network.specs.Network.{IsNetwork};
@@ -59,8 +59,11 @@ fn attempt(
     imbalance: &[i64; 64],
     c: Stage,
 ) -> Best
-    requires { ⌜ ((p : «a-plan») × IsPrepared p (now table) (now f) (now vs) (now component) (now flags) k cost (now imbalance)) × AreSmall beyond (c .multipliers) ⌝ }
-    ensures { λ r. ⌜ ((p : «a-plan») → IsPrepared p (now (table .entry)) (now (f .entry)) (now (vs .entry)) (now (component .entry)) (now (flags .entry)) k cost (now (imbalance .entry)) → holding c r ≡ attemptOf p (now (table .entry)) (now (f .entry)) (now (vs .entry)) (now (component .entry)) k (climbOf c)) ⌝ }
+    requires { ⌜ ((p : «a-plan») × IsPrepared p (now table) (now f) (now vs) (now component) (now flags) k cost (now imbalance))
+        × AreSmall beyond (c .multipliers) ⌝ }
+    ensures { λ r. ⌜ ((p : «a-plan») → IsPrepared p (now (table .entry)) (now (f .entry)) (now (vs .entry)) (now (component .entry)) (now
+        (flags .entry)) k cost (now (imbalance .entry))
+        → holding c r ≡ attemptOf p (now (table .entry)) (now (f .entry)) (now (vs .entry)) (now (component .entry)) k (climbOf c)) ⌝ }
 {
     let x = c.multipliers;
     let best = c.best;
@@ -94,8 +97,13 @@ fn attempt_above(
     c: Stage,
     value: i64,
 ) -> Best
-    requires { ⌜ ((p : «a-plan») × IsPrepared p (now table) (now f) (now vs) (now component) (now flags) k cost (now imbalance)) × AreSmall beyond (c .multipliers) ⌝ }
-    ensures { λ r. ⌜ ((p : «a-plan») → IsPrepared p (now (table .entry)) (now (f .entry)) (now (vs .entry)) (now (component .entry)) (now (flags .entry)) k cost (now (imbalance .entry)) → holding c r ≡ cond (ltZ (c .value) value) (attemptOf p (now (table .entry)) (now (f .entry)) (now (vs .entry)) (now (component .entry)) k (climbOf c)) (climbOf c)) ⌝ }
+    requires { ⌜ ((p : «a-plan») × IsPrepared p (now table) (now f) (now vs) (now component) (now flags) k cost (now imbalance))
+        × AreSmall beyond (c .multipliers) ⌝ }
+    ensures { λ r. ⌜ ((p : «a-plan») → IsPrepared p (now (table .entry)) (now (f .entry)) (now (vs .entry)) (now (component .entry)) (now
+        (flags .entry)) k cost (now (imbalance .entry))
+        → holding c r
+        ≡ cond (ltZ (c .value) value)
+        (attemptOf p (now (table .entry)) (now (f .entry)) (now (vs .entry)) (now (component .entry)) k (climbOf c)) (climbOf c)) ⌝ }
 {
     if c.value < value {
         return attempt(table, f, vs, component, flags, k, cost, imbalance, c);
@@ -120,8 +128,12 @@ fn climb(
     c: Stage,
     i: usize,
 ) -> Stage
-    requires { ⌜ ((p : «a-plan») × IsPrepared p (now table) (now f) (now vs) (now component) (now flags) k cost (now imbalance)) × CanStep c ⌝ }
-    ensures { λ r. ⌜ ((p : «a-plan») → IsPrepared p (now (table .entry)) (now (f .entry)) (now (vs .entry)) (now (component .entry)) (now (flags .entry)) k cost (now (imbalance .entry)) → climbOf r ≡ climbOnce p (now (table .entry)) (now (f .entry)) (now (vs .entry)) (now (component .entry)) k (climbOf c) i) × CanStep r ⌝ }
+    requires { ⌜ ((p : «a-plan») × IsPrepared p (now table) (now f) (now vs) (now component) (now flags) k cost (now imbalance))
+        × CanStep c ⌝ }
+    ensures { λ r. ⌜ ((p : «a-plan») → IsPrepared p (now (table .entry)) (now (f .entry)) (now (vs .entry)) (now (component .entry)) (now
+        (flags .entry)) k cost (now (imbalance .entry))
+        → climbOf r ≡ climbOnce p (now (table .entry)) (now (f .entry)) (now (vs .entry)) (now (component .entry)) k (climbOf c) i)
+        × CanStep r ⌝ }
 {
     if c.done {
         return c;
@@ -168,8 +180,12 @@ fn begun(
     imbalance: &[i64; 64],
     u: [i64; 64],
 ) -> Stage
-    requires { ⌜ ((p : «a-plan») × IsPrepared p (now table) (now f) (now vs) (now component) (now flags) k cost (now imbalance) × (u ≡ greatestOf p)) ⌝ }
-    ensures { λ r. ⌜ ((p : «a-plan») → IsPrepared p (now (table .entry)) (now (f .entry)) (now (vs .entry)) (now (component .entry)) (now (flags .entry)) k cost (now (imbalance .entry)) → u ≡ greatestOf p → climbOf r ≡ begin p (now (table .entry)) (now (f .entry)) (now (vs .entry)) (now (component .entry)) k u) × CanStep r ⌝ }
+    requires { ⌜
+        ((p : «a-plan») × IsPrepared p (now table) (now f) (now vs) (now component) (now flags) k cost (now imbalance)
+        × (u ≡ greatestOf p)) ⌝ }
+    ensures { λ r. ⌜ ((p : «a-plan») → IsPrepared p (now (table .entry)) (now (f .entry)) (now (vs .entry)) (now (component .entry)) (now
+        (flags .entry)) k cost (now (imbalance .entry)) → u ≡ greatestOf p
+        → climbOf r ≡ begin p (now (table .entry)) (now (f .entry)) (now (vs .entry)) (now (component .entry)) k u) × CanStep r ⌝ }
 {
     let l = lagrangian(table, &u, component, flags, k, cost, imbalance);
     let far = multiplier_steps::steps::span(table, vs);
@@ -197,8 +213,13 @@ pub(crate) fn ascend(
     imbalance: &[i64; 64],
     u: [i64; 64],
 ) -> Best
-    requires { ⌜ ((p : «a-plan») × IsPrepared p (now table) (now f) (now vs) (now component) (now flags) k cost (now imbalance) × (u ≡ greatestOf p)) ⌝ }
-    ensures { λ r. ⌜ ((p : «a-plan») → IsPrepared p (now (table .entry)) (now (f .entry)) (now (vs .entry)) (now (component .entry)) (now (flags .entry)) k cost (now (imbalance .entry)) → u ≡ greatestOf p → (r .multipliers ≡ ascentOf p (now (table .entry)) (now (f .entry)) (now (vs .entry)) (now (component .entry)) k u) × (r .bound ≡ boundOf p (r .multipliers))) ⌝ }
+    requires { ⌜
+        ((p : «a-plan») × IsPrepared p (now table) (now f) (now vs) (now component) (now flags) k cost (now imbalance)
+        × (u ≡ greatestOf p)) ⌝ }
+    ensures { λ r. ⌜ ((p : «a-plan») → IsPrepared p (now (table .entry)) (now (f .entry)) (now (vs .entry)) (now (component .entry)) (now
+        (flags .entry)) k cost (now (imbalance .entry)) → u ≡ greatestOf p
+        → (r .multipliers ≡ ascentOf p (now (table .entry)) (now (f .entry)) (now (vs .entry)) (now (component .entry)) k u)
+        × (r .bound ≡ boundOf p (r .multipliers))) ⌝ }
 {
     let mut c = begun(table, f, vs, component, flags, k, cost, imbalance, u);
     for i in 0..20usize {
@@ -221,7 +242,8 @@ pub fn multipliers_for(
     base: Balance,
     u: [i64; 64],
 ) -> Best
-    requires { ⌜ IsBase (planValue plan) (now table) (now vs) (stateOf base) × IsNetwork (planValue plan) net × (u ≡ multipliers (cell (now table)) (now vs) (stateOf base) (root (planValue plan))) ⌝ }
+    requires { ⌜ IsBase (planValue plan) (now table) (now vs) (stateOf base) × IsNetwork (planValue plan) net
+        × (u ≡ multipliers (cell (now table)) (now vs) (stateOf base) (root (planValue plan))) ⌝ }
     ensures { λ r. ⌜ (r .multipliers ≡ multipliersFor (planValue plan)) × (r .bound ≡ boundOf (planValue plan) (r .multipliers)) ⌝ }
 {
     let amounts = base.amounts;

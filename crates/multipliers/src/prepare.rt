@@ -6,7 +6,7 @@ ghost use mathlib.Core.Path.{_≡_};
 ghost use mathlib.Core.List.{[]};
 ghost use Rattle.plan.specs.Records.{planValue};
 ghost use Rattle.balance.specs.Records.{stateOf};
-ghost use Rattle.residual_search.specs.Step.{cell};
+ghost use Rattle.postman.specs.Steps.{cell};
 ghost use Rattle.balance.specs.Balance.{balance as balanceOf};
 ghost use Rattle.multipliers.specs.Tour.{tableOf};
 ghost use Rattle.balance.specs.Multipliers.{multipliers};

@@ -1,13 +1,11 @@
 -- Thinning over a table of distances and flags, that of the pair (i, j) at 64 i + j: what the loops over pairs compute.
 use mathlib.Core.Bool.{Bool, false, not, cond, _&&_}
-use mathlib.Core.List.{List, []}
+use mathlib.Core.List.{List}
 use Prim.Native.Nat.{ℕ, zero, suc, _+_, _*_}
 use lib.ListN.{length, getD, set}
 use lib.Dec.{eqb, ltb}
 use Rattle.postman.specs.Lists.{select, anyOf, below}
-
-abbrev pub cell : List (List ℕ) → ℕ → ℕ → ℕ
-cell d i j = getD (getD d i []) j 0
+use Rattle.postman.specs.Steps.{cell}
 
 abbrev pub flag : List Bool → ℕ → ℕ → Bool
 flag held i j = getD held (i * 64 + j) false
@@ -23,7 +21,8 @@ far = 1073741824
 abbrev pub nearby : Bool → ℕ → ℕ
 nearby pair d = cond (pair && ltb d far) d far
 
--- The number of ways by a third vertex to j that cost a, of distances from a row and from the columns; and whether a pair of that distance, not far, has none.
+-- The number of ways by a third vertex to j that cost a, of distances from a row and from the columns; and whether
+-- a pair of that distance, not far, has none.
 unfoldable pub waysOf : List ℕ → List ℕ → ℕ → ℕ → ℕ
 unfolding select below
 waysOf row columns j a = length (select (λ k. eqb (getD row k 0 + getD columns (j * 64 + k) 0) a) (below 64))

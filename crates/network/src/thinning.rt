@@ -4,7 +4,8 @@ ghost use mathlib.Core.Bool.{false, cond};
 ghost use Prim.Native.Nat.{ℕ, _+_, _*_, _/_, _%_, _≤_, _<_};
 ghost use lib.Dec.{eqb};
 ghost use lib.ListN.{length, getD};
-ghost use Rattle.network.specs.Thinning.{cell, flag, isPair, far, nearby, waysOf, hasNoWay, rowsThinned};
+ghost use Rattle.postman.specs.Steps.{cell};
+ghost use Rattle.network.specs.Thinning.{flag, isPair, far, nearby, waysOf, hasNoWay, rowsThinned};
 
 // Whether i and j, of which a and b say whether they are required, are a pair.
 fn is_pair(i: usize, j: usize, a: bool, b: bool) -> bool
@@ -21,7 +22,8 @@ fn is_pair(i: usize, j: usize, a: bool, b: bool) -> bool
 
 // All pairs of required vertices, (i, j) at 64 i + j.
 pub(crate) fn pairs(required: [bool; 64]) -> [bool; 4096]
-    ensures { λ r. ⌜ (length r ≡ 4096) × ((i j : ℕ) → i < 64 → j < 64 → flag r i j ≡ isPair i j (getD required i false) (getD required j false)) ⌝ }
+    ensures { λ r.
+        ⌜ (length r ≡ 4096) × ((i j : ℕ) → i < 64 → j < 64 → flag r i j ≡ isPair i j (getD required i false) (getD required j false)) ⌝ }
 {
     let mut held = [false; 4096];
     for i in 0..64 {
@@ -68,7 +70,9 @@ fn row_near(d: &[[u32; 64]; 64], pairs: &[bool; 4096], i: usize) -> [u32; 64]
 
 // Those of all pairs, by their heads: of (k, j) at 64 j + k.
 fn columns_near(d: &[[u32; 64]; 64], pairs: &[bool; 4096]) -> [u32; 4096]
-    ensures { λ r. ⌜ ((x : ℕ) → x < 4096 → getD r x 0 ≡ nearby (flag (now (pairs .entry)) (x % 64) (x / 64)) (cell (now (d .entry)) (x % 64) (x / 64))) ⌝ }
+    ensures { λ r.
+        ⌜ ((x : ℕ) → x < 4096
+        → getD r x 0 ≡ nearby (flag (now (pairs .entry)) (x % 64) (x / 64)) (cell (now (d .entry)) (x % 64) (x / 64))) ⌝ }
 {
     let mut columns = [0u32; 4096];
     for x in 0..4096usize {
@@ -84,7 +88,8 @@ fn one(a: u32, b: u32) -> u32
     if a == b { 1 } else { 0 }
 }
 
-// The number of ways of cost a by a third vertex to j, of distances from a row and from the columns. They are counted side by side, with no end at the first.
+// The number of ways of cost a by a third vertex to j, of distances from a row and from the columns. They are
+// counted side by side, with no end at the first.
 fn ways(row: &[u32; 64], columns: &[u32; 4096], j: usize, a: u32) -> u32
     requires { ⌜ (j < 64) × ((k : ℕ) → k < 64 → (getD (now row) k 0 ≤ far) × (getD (now columns) (j * 64 + k) 0 ≤ far)) ⌝ }
     ensures { λ r. ⌜ r ≡ waysOf (now (row .entry)) (now (columns .entry)) j a ⌝ }
@@ -107,8 +112,8 @@ fn is_short(row: &[u32; 64], columns: &[u32; 4096], j: usize, a: u32) -> bool
     false
 }
 
-// Thinning. Each pair that is held has its turn, and is dropped at the first via vertex by pairs that are still held: the `break` moves on to the next pair. Where no distances add up
-// to that of the pair, no via vertex is looked for.
+// Thinning. Each pair that is held has its turn, and is dropped at the first via vertex by pairs that are still held: the `break` moves on
+// to the next pair. Where no distances add up to that of the pair, no via vertex is looked for.
 pub(crate) fn thin(d: &[[u32; 64]; 64], pairs: [bool; 4096]) -> [bool; 4096]
     requires { ⌜ length pairs ≡ 4096 ⌝ }
     ensures { λ r. ⌜ r ≡ rowsThinned (now (d .entry)) pairs 64 ⌝ }

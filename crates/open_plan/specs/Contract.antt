@@ -13,7 +13,7 @@ use Rattle.held_file.specs.Held.{heldOf}
 use Rattle.open_plan.specs.State.{freshState, refusalOf, next}
 
 -- An answer, by its refusal and the open plan then.
-pub record IsAnswer (refusal : Option ℕ) (s : OpenPlan) (r : Moved) : Type 0 where
+pub record IsMoveAnswer (refusal : Option ℕ) (s : OpenPlan) (r : Moved) : Type 0 where
   pub verdict : verdictNumber (r .verdict) ≡ refusal
   pub state : r .state ≡ s
 

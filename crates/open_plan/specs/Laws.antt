@@ -2,3 +2,4 @@
 pub mod Call
 pub mod Asked
 pub mod History
+pub mod Theorem

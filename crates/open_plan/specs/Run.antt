@@ -21,10 +21,11 @@ Fits (change c) = (c .cost ≤ 65535) × (c .service ≤ 65535)
 Fits (mark k) = Unit {0}
 Fits (return k) = Unit {0}
 
--- A RUN from s to t: each call has the contract of its function, on the state that the call before it left. The numbers are the refusals, or none.
+-- A RUN from s to t: each call has the contract of its function, on the state that the call before it
+-- left. The numbers are the refusals, or none.
 pub data Ran : OpenPlan → List Call → OpenPlan → List (Option ℕ) → Type 0 where
   ended : (s : OpenPlan) → Ran s [] s []
-  called : (s t : OpenPlan) (c : Call) (cs : List Call) (numbers : List (Option ℕ)) (r : Moved) → Fits c → IsMoved s c r → Ran (r .state) cs t numbers
+  called : (s t : OpenPlan) (c : Call) (cs : List Call) (ns : List (Option ℕ)) (r : Moved) → Fits c → IsMoved s c r → Ran (r .state) cs t ns
       → Ran s (c ∷ cs) t (verdictNumber (r .verdict) ∷ numbers)
 
 -- A file that is held for a plan of edition e: the file that is written from it. It reads back.

@@ -20,7 +20,7 @@ ghost use Rattle.held_file.specs.Held.{fileIn};
 ghost use Rattle.open_plan.specs.State.{freshState, withPlan as «with-plan-of»};
 ghost use Rattle.shut_arcs.specs.Fields.{departure};
 ghost use Rattle.windows.specs.Contract.{IsPlanCallAt};
-ghost use Rattle.open_plan.specs.Contract.{IsAnswer, IsOpened, IsMoved};
+ghost use Rattle.open_plan.specs.Contract.{IsMoveAnswer, IsOpened, IsMoved};
 
 // A file with no mark set.
 fn fresh(file: Held) -> OpenPlan
@@ -45,7 +45,7 @@ fn with_plan(state: OpenPlan, file: Held) -> OpenPlan
 }
 
 fn accepted(state: OpenPlan) -> Moved
-    ensures { λ r. ⌜ IsAnswer none state r ⌝ }
+    ensures { λ r. ⌜ IsMoveAnswer none state r ⌝ }
 {
     Moved {
         verdict: Verdict::Accepted,
@@ -54,7 +54,7 @@ fn accepted(state: OpenPlan) -> Moved
 }
 
 fn refused(state: OpenPlan, r: Refusal) -> Moved
-    ensures { λ m. ⌜ IsAnswer (some (refusalNumber r)) state m ⌝ }
+    ensures { λ m. ⌜ IsMoveAnswer (some (refusalNumber r)) state m ⌝ }
 {
     Moved {
         verdict: Verdict::Refused(r),
@@ -131,7 +131,9 @@ pub fn ask(
     minute: u32,
     sheet: &mut [u16],
 ) -> Planned
-    ensures { λ r. ⌜ IsPlanCallAt (fileIn (state .plan)) budget (now (windows .entry)) (departure weekday minute) (now (sheet .entry)) (now (sheet .exit)) r ⌝ }
+    ensures { λ r.
+        ⌜ IsPlanCallAt (fileIn (state .plan)) budget (now (windows .entry)) (departure weekday minute) (now (sheet .entry))
+        (now (sheet .exit)) r ⌝ }
 {
     let held = state.plan;
     let n = held_length(held);

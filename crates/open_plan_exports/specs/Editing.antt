@@ -39,6 +39,8 @@ pub record IsExportedMove (c : Call) (bytes bytes′ : List ℕ) (number : ℤ) 
   pub state-is : bytes′ ≡ unless (moveRefusal c bytes) (stateBytes (next (openIn bytes) c) ++ drop openBytes bytes) bytes
 
 -- Asking: what the plan call at a departure answers for the file that is held; a slice below the state is refused, and nothing is changed.
-pub record IsExportedAsk (bytes : List ℕ) (budget : ℕ) (windows : List ℕ) (d : Departure) (sheet sheet′ words words′ : List ℕ) (u u′ : List ℤ) (number : ℤ) : Type 0 where
-  pub asked : openBytes ≤ length bytes → IsExportedCallAt (fileIn (openIn bytes .plan)) budget windows d sheet sheet′ words words′ u u′ number
+pub record IsExportedAsk (bytes : List ℕ) (budget : ℕ) (windows : List ℕ) (d : Departure) (sheet sheet′ words words′ : List ℕ)
+    (u u′ : List ℤ) (number : ℤ) : Type 0 where
+  pub asked : openBytes ≤ length bytes
+      → IsExportedCallAt (fileIn (openIn bytes .plan)) budget windows d sheet sheet′ words words′ u u′ number
   pub short : length bytes < openBytes → (number ≡ negℤ (pos 8)) × (sheet′ ≡ sheet) × (words′ ≡ words) × (u′ ≡ u)

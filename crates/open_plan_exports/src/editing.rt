@@ -1,5 +1,5 @@
-// An open plan, for callers in other languages. The state is lent: five files one after the other, that of the open plan and those of marks 0 to 3, each as the two bytes of its length, the high one
-// first, and 1,475 bytes. Whatever these bytes are, they are a state.
+// An open plan, for callers in other languages. The state is lent: five files one after the other, that of the open plan and those of marks
+// 0 to 3, each as the two bytes of its length, the high one first, and 1,475 bytes. Whatever these bytes are, they are a state.
 ghost use lib.ListN.{length};
 ghost use Rattle.postman.specs.OpenPlan.{change as «a-change», mark as «a-mark», return as «a-return»};
 ghost use Rattle.shut_arcs.specs.Fields.{departure};
@@ -83,7 +83,9 @@ pub extern "C" fn postman_ask(
     answer: &mut [u64],
     multipliers: &mut [i64],
 ) -> i64
-    ensures { λ k. ⌜ IsExportedAsk (now (state .entry)) budget (now (windows .entry)) (departure weekday minute) (now (sheet .entry)) (now (sheet .exit))
+    ensures { λ k.
+        ⌜ IsExportedAsk (now (state .entry)) budget (now (windows .entry)) (departure weekday minute) (now (sheet .entry))
+        (now (sheet .exit))
         (now (answer .entry)) (now (answer .exit)) (now (multipliers .entry)) (now (multipliers .exit)) k ⌝ }
 {
     if state.len() < 7_385 {

@@ -30,7 +30,7 @@ abbrev pub entryFor : List ℕ → List Bool → ℕ → ℕ → ℕ
 entryFor c r i j = cond (areRequired r i j) (getD c i 0 * 8 + getD c j 0) 0
 
 -- components below 8, and reduced costs that are neither negative nor too large
-pub record AreCosts (d : List (List ℕ)) (u : List ℤ) (c : List ℕ) (r : List Bool) : Type 0 where
+pub record ArePairCosts (d : List (List ℕ)) (u : List ℤ) (c : List ℕ) (r : List Bool) : Type 0 where
   pub in-range : (v : ℕ) → v < 64 → getD r v false ≡ true → getD c v 0 < 8
   pub small : (v : ℕ) → v < 64 → Within 1099511627776 (getD u v (pos 0))
   pub low : (i j : ℕ) → i < 64 → j < 64 → getD r i false ≡ true → getD r j false ≡ true → pos 0 ≤ℤ costOf d u i j
@@ -46,17 +46,20 @@ pub record IsLesser (a b r : ℤ) : Type 0 where
 pub record AreLeastOffers (d : List (List ℕ)) (u : List ℤ) (c : List ℕ) (r : List Bool) (n : ℕ) (m : List ℤ) : Type 0 where
   pub low : (x : ℕ) → x < 64 → pos 0 ≤ℤ getD m x (pos 0)
   pub high : (x : ℕ) → x < 64 → getD m x (pos 0) ≤ℤ pos highest
-  pub least : (l : ℕ) → l < n → areRequired r (l / 64) (l % 64) ≡ true → getD m (entryFor c r (l / 64) (l % 64)) (pos 0) ≤ℤ costOf d u (l / 64) (l % 64)
+  pub least : (l : ℕ) → l < n → areRequired r (l / 64) (l % 64) ≡ true
+      → getD m (entryFor c r (l / 64) (l % 64)) (pos 0) ≤ℤ costOf d u (l / 64) (l % 64)
   pub attained : (x : ℕ) → x < 64
-      → (getD m x (pos 0) ≡ pos highest) ⊎ ((l : ℕ) × (l < n) × (areRequired r (l / 64) (l % 64) ≡ true) × (x ≡ entryFor c r (l / 64) (l % 64)) × (getD m x (pos 0) ≡ costOf d u (l / 64) (l % 64)))
+      → (getD m x (pos 0) ≡ pos highest)
+      ⊎ ((l : ℕ) × (l < n) × (areRequired r (l / 64) (l % 64) ≡ true) × (x ≡ entryFor c r (l / 64) (l % 64))
+      × (getD m x (pos 0) ≡ costOf d u (l / 64) (l % 64)))
 
 -- the arrays hold what the plan has
-pub record IsNetwork (p : Plan) (d : List (List ℕ)) (c : List ℕ) (r : List Bool) (k : ℕ) : Type 0 where
+pub record HoldsNetwork (p : Plan) (d : List (List ℕ)) (c : List ℕ) (r : List Bool) (k : ℕ) : Type 0 where
   pub components : k ≡ componentCount p
   pub distances : (i j : ℕ) → List·Memᴰ i (required p) → List·Memᴰ j (required p) → getD (getD d i []) j 0 ≡ distance p i j
   pub component-of : (i : ℕ) → List·Memᴰ i (required p) → getD c i 0 ≡ component p i
   pub is-required : (i : ℕ) → getD r i false ≡ true → List·Memᴰ i (required p)
   pub required-is : (i : ℕ) → List·Memᴰ i (required p) → getD r i false ≡ true
 
-abbrev pub multipliersOf : List ℤ → Multipliers
-multipliersOf u i = getD u i (pos 0)
+abbrev pub multipliersIn : List ℤ → Multipliers
+multipliersIn u i = getD u i (pos 0)

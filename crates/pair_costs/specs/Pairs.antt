@@ -1,5 +1,5 @@
--- The matrix of a plan: to enter component t from component s costs the least reduced cost of a pair of required vertices, from one of s to one of t. No entry
--- is missing, also where no link leads from s to t.
+-- The matrix of a plan: to enter component t from component s costs the least reduced cost of a pair of required vertices, from one of s to
+-- one of t. No entry is missing, also where no link leads from s to t.
 use mathlib.Core.Path.{_≡_}
 use mathlib.Core.Logic.{_≢_}
 use mathlib.Core.List.{List, List·Memᴰ}
@@ -20,7 +20,8 @@ pub record IsPair (p : Plan) (s t i j : ℕ) : Type 0 where
   pub to : component p j ≡ t
 
 pub record IsPairMatrix (p : Plan) (u : Multipliers) (w : Matrix) : Type 0 where
-  pub attained : (s t : ℕ) → s < componentCount p → t < componentCount p → s ≢ t → (i : ℕ) × (j : ℕ) × IsPair p s t i j × (w s t ≡ reducedCost p u i j)
+  pub attained : (s t : ℕ) → s < componentCount p → t < componentCount p → s ≢ t
+      → (i : ℕ) × (j : ℕ) × IsPair p s t i j × (w s t ≡ reducedCost p u i j)
   pub least : (s t i j : ℕ) → IsPair p s t i j → s ≢ t → w s t ≤ℤ reducedCost p u i j
 
 -- the components but the root

@@ -12,7 +12,7 @@ ghost use Rattle.integers.specs.Linear.{Within};
 ghost use Rattle.postman.specs.Plan.{Plan, WellFormed};
 ghost use Rattle.postman.specs.LagrangianBound.{cheapestArborescence};
 ghost use Rattle.postman.specs.Steps.{Feasible};
-ghost use Rattle.pair_costs.specs.PairCosts.{costOf, offerOf, entryFor, AreCosts, IsLesser, AreLeastOffers, IsNetwork, multipliersOf};
+ghost use Rattle.pair_costs.specs.PairCosts.{costOf, offerOf, entryFor, ArePairCosts, IsLesser, AreLeastOffers, HoldsNetwork, multipliersIn};
 
 // More than any reduced cost is not.
 const HIGHEST: i64 = 8257410;
@@ -72,7 +72,7 @@ fn pair_costs(
     component: &[u8; 64],
     required: &[bool; 64],
 ) -> [i64; 64]
-    requires { ⌜ AreCosts (now d) (now u) (now component) (now required) ⌝ }
+    requires { ⌜ ArePairCosts (now d) (now u) (now component) (now required) ⌝ }
     ensures { λ r. ⌜ AreLeastOffers (now (d .entry)) (now (u .entry)) (now (component .entry)) (now (required .entry)) 4096 r ⌝ }
 {
     let mut m = [HIGHEST; 64];
@@ -94,7 +94,8 @@ fn all_left(k: usize) -> [bool; 8]
     left
 }
 
-// A(u), the least sum of reduced costs over all arborescences of links, for multipliers u under which no pair of required vertices has a negative reduced cost.
+// A(u), the least sum of reduced costs over all arborescences of links, for multipliers u under which no pair of
+// required vertices has a negative reduced cost.
 pub fn cheapest_arborescence(
     d: &[[u32; 64]; 64],
     u: &[i64; 64],
@@ -102,8 +103,10 @@ pub fn cheapest_arborescence(
     required: &[bool; 64],
     k: usize,
 ) -> i64
-    requires { ⌜ (1 ≤ k) × (k ≤ 8) × AreCosts (now d) (now u) (now component) (now required) ⌝ }
-    ensures { λ r. ⌜ ((p : Plan) → WellFormed p → IsNetwork p (now (d .entry)) (now (component .entry)) (now (required .entry)) k → Feasible p (multipliersOf (now (u .entry))) → r ≡ cheapestArborescence p (multipliersOf (now (u .entry)))) ⌝ }
+    requires { ⌜ (1 ≤ k) × (k ≤ 8) × ArePairCosts (now d) (now u) (now component) (now required) ⌝ }
+    ensures { λ r.
+        ⌜ ((p : Plan) → WellFormed p → HoldsNetwork p (now (d .entry)) (now (component .entry)) (now (required .entry)) k
+        → Feasible p (multipliersIn (now (u .entry))) → r ≡ cheapestArborescence p (multipliersIn (now (u .entry)))) ⌝ }
 {
     let m = pair_costs(d, u, component, required);
     let left = all_left(k);

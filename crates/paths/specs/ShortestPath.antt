@@ -1,4 +1,5 @@
--- The path of a leg, as a function of the plan: at each vertex the lowest numbered arc that begins a cheapest path, by weights that count cost first and arcs second.
+-- The path of a leg, as a function of the plan: at each vertex the lowest numbered arc that begins a cheapest path, by
+-- weights that count cost first and arcs second.
 use mathlib.Core.Bool.{Bool, cond, _&&_}
 use mathlib.Core.List.{List, [], _∷_}
 use Prim.Native.Nat.{ℕ, zero, suc, _+_, _*_}
@@ -14,7 +15,8 @@ use Rattle.shortest.specs.Weight.{weighted}
 unfoldable pub begins : Plan → ℕ → ℕ → ℕ → Bool
 unfolding distance
 begins p v j k =
-    isOpen (arcAt (p .arcs) k) && eqb (arcAt (p .arcs) k .tail) v && eqb (arcAt (p .arcs) k .cost + distance p (arcAt (p .arcs) k .head) j) (distance p v j)
+    isOpen (arcAt (p .arcs) k) && eqb (arcAt (p .arcs) k .tail) v
+    && eqb (arcAt (p .arcs) k .cost + distance p (arcAt (p .arcs) k .head) j) (distance p v j)
 
 -- The lowest such number; m where there is none.
 unfoldable pub nextArc : Plan → ℕ → ℕ → ℕ
@@ -24,7 +26,8 @@ nextArc p v j = firstIndex (begins p v j) (below (length (p .arcs)))
 -- The same number of the weighted plan, looked up among rows of arcs and a column of the weights to j. `Laws.Lookup`: they give the same.
 unfoldable pub beginsIn : List (List ℕ) → List ℕ → ℕ → ℕ → Bool
 beginsIn rows column v k =
-    isOpen (arcIn (getD rows k [])) && eqb (arcIn (getD rows k []) .tail) v && eqb (64 * arcIn (getD rows k []) .cost + 1 + getD column (arcIn (getD rows k []) .head) 0) (getD column v 0)
+    isOpen (arcIn (getD rows k [])) && eqb (arcIn (getD rows k []) .tail) v
+    && eqb (64 * arcIn (getD rows k []) .cost + 1 + getD column (arcIn (getD rows k []) .head) 0) (getD column v 0)
 
 unfoldable pub nextIn : List (List ℕ) → List ℕ → ℕ → ℕ
 unfolding beginsIn firstIndex below
@@ -36,8 +39,8 @@ unfolding nextArc
 pathWithin p zero v j = []
 pathWithin p (suc k) v j = cond (eqb v j) [] (nextArc p v j ∷ pathWithin p k (arcAt (p .arcs) (nextArc p v j) .head) j)
 
--- The arc numbers of a cheapest path from i to j, where arcs cost something: n arcs are enough. `Laws.CheapestPath`: it enters no vertex twice, and no cheapest path comes
--- before it.
+-- The arc numbers of a cheapest path from i to j, where arcs cost something: n arcs are enough. `Laws.CheapestPath`: it enters no vertex
+-- twice, and no cheapest path comes before it.
 unfoldable pub cheapestPath : Plan → ℕ → ℕ → List ℕ
 unfolding pathWithin
 cheapestPath p i j = pathWithin p (p .n) i j

@@ -1,4 +1,5 @@
-// The arcs of a shortest path, looked up among lent rows: those of the arcs, and one column of weights, to the vertex that the path leads to.
+// The arcs of a shortest path, looked up among lent rows: those of the arcs, and one column of
+// weights, to the vertex that the path leads to.
 // Steps for other crates, which ask something of their caller.
 ghost use mathlib.Core.Path.{_≡_};
 ghost use mathlib.Core.Bool.{cond, _&&_};
@@ -26,7 +27,8 @@ fn wide(x: u16) -> usize
     x as usize
 }
 
-// The arcs that leave each vertex, in ascending order: in place v the first that leaves v, in place 64 + k the next one after arc k. Made from the last arc to the first.
+// The arcs that leave each vertex, in ascending order: in place v the first that leaves v, in place 64 + k the next one after
+// arc k. Made from the last arc to the first.
 pub fn chain_of(arcs: &[[u16; 5]]) -> [u16; 320]
     requires { ⌜ (length (now arcs) ≤ 256) × ((k : ℕ) → k < length (now arcs) → tailOf (now arcs) k < 64) ⌝ }
     ensures { λ r. ⌜ IsChain (now (arcs .entry)) r ⌝ }
@@ -49,8 +51,8 @@ fn taken(passed: bool, k: usize, best: usize) -> usize
     if passed { k } else { best }
 }
 
-// The lowest numbered arc with which a lightest path from v begins, to the vertex of the column. The arcs that leave v are met in ascending order, so that the first that is
-// taken is the last that is met.
+// The lowest numbered arc with which a lightest path from v begins, to the vertex of the column. The arcs that leave v are met in ascending
+// order, so that the first that is taken is the last that is met.
 fn next_arc(arcs: &[[u16; 5]], chain: &[u16; 320], column: &[u32], v: usize) -> usize
     requires { ⌜ WellFormed (planIn (length (now column)) (now arcs)) × IsChain (now arcs) (now chain) × (v < length (now column)) ⌝ }
     ensures { λ r. ⌜ r ≡ nextIn (now (arcs .entry)) (now (column .entry)) v ⌝ }
@@ -80,10 +82,14 @@ pub fn path(
     places: &mut [u16],
     at: usize,
 ) -> usize
-    requires { ⌜ WellFormed (planIn (length (now column)) (now arcs)) × IsColumn (planIn (length (now column)) (now arcs)) j (now column) × IsChain (now arcs) (now chain) ⌝ }
-    requires { ⌜ (i < length (now column)) × (j < length (now column)) × (distance (planIn (length (now column)) (now arcs)) i j < noPath) ⌝ }
+    requires { ⌜ WellFormed (planIn (length (now column)) (now arcs)) × IsColumn (planIn (length (now column)) (now arcs)) j (now column)
+        × IsChain (now arcs) (now chain) ⌝ }
+    requires { ⌜ (i < length (now column)) × (j < length (now column))
+        × (distance (planIn (length (now column)) (now arcs)) i j < noPath) ⌝ }
     requires { ⌜ at + length (shortestPath (planIn (length (now column)) (now arcs)) i j) ≤ length (now places) ⌝ }
-    ensures { λ r. ⌜ now (places .exit) ≡ overwrite (now (places .entry)) at (shortestPath (planIn (length (now (column .entry))) (now (arcs .entry))) i j) ⌝ }
+    ensures { λ r.
+        ⌜ now (places .exit)
+        ≡ overwrite (now (places .entry)) at (shortestPath (planIn (length (now (column .entry))) (now (arcs .entry))) i j) ⌝ }
     ensures { λ r. ⌜ r ≡ at + length (shortestPath (planIn (length (now (column .entry))) (now (arcs .entry))) i j) ⌝ }
 {
     let mut v = i;
@@ -100,7 +106,8 @@ pub fn path(
 // The column of the weights to j, out of lent rows of their table.
 pub fn column_to(table: &[[u32; 64]], j: usize) -> [u32; 64]
     requires { ⌜ (length (now table) ≤ 64) × (j < 64) ⌝ }
-    ensures { λ r. ⌜ (length r ≡ 64) × ((i : ℕ) → i < length (now (table .entry)) → getD r i 0 ≡ getD (getD (now (table .entry)) i []) j 0) ⌝ }
+    ensures { λ r.
+        ⌜ (length r ≡ 64) × ((i : ℕ) → i < length (now (table .entry)) → getD r i 0 ≡ getD (getD (now (table .entry)) i []) j 0) ⌝ }
 {
     let mut column = [0u32; 64];
     for i in 0..table.len() {

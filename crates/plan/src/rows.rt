@@ -1,4 +1,5 @@
-// The arcs of a plan as rows of five numbers: tail, head, standing, cost, service cost. Rows can be lent to a call, and no plan is copied for it.
+// The arcs of a plan as rows of five numbers: tail, head, standing, cost, service cost. Rows can be
+// lent to a call, and no plan is copied for it.
 // Steps for other crates, which ask something of their caller.
 use crate::Arc;
 use crate::Plan;

@@ -25,7 +25,8 @@ unfoldable pub planUnless : Option ℕ → Plan → Plan
 planUnless none p = p
 planUnless (some r) p = noPlan
 
--- The verdict is the first refusal that applies, or none; 8 is for a lent list, and a plan by value has room. Edition and plan are the file's.
+-- The verdict is the first refusal that applies, or none; 8 is for a lent list, and a plan by
+-- value has room. Edition and plan are the file's.
 pub record IsReading (bytes : List ℕ) (r : Reading) : Type 0 where
   pub verdict : verdictNumber (r .verdict) ≡ firstRefusal (fileConditions bytes)
   pub edition-is : r .edition ≡ editionUnless (firstRefusal (fileConditions bytes)) (edition bytes)

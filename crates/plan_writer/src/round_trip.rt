@@ -8,7 +8,8 @@ use plan_file::reader::no_plan;
 use plan_file::reader::read_plan;
 use refusal::Verdict;
 
-// What is read from the file of p in an edition: that edition and p itself, or the refusal of writing it. Every file has room in 1,475 bytes.
+// What is read from the file of p in an edition: that edition and p itself, or the refusal of
+// writing it. Every file has room in 1,475 bytes.
 pub fn reread(edition: u8, p: Plan) -> Reading
     ensures { λ r. ⌜ IsReread edition p r ⌝ }
 {

@@ -123,7 +123,8 @@ fn put_plan(s: &mut [u8], edition: u8, p: Plan)
     put_arcs(s, edition, arcs, m as usize);
 }
 
-// Writing in an edition, into any slice: the first refusal by document 01's order, with the slice untouched; or the file's length, with the file in the slice.
+// Writing in an edition, into any slice: the first refusal by document 01's order, with the slice untouched; or
+// the file's length, with the file in the slice.
 pub fn write_plan(edition: u8, p: Plan, s: &mut [u8]) -> Written
     ensures { λ r. ⌜ writtenAnswer r ≡ writeAnswer edition (planValue p) (now (s .entry)) ⌝ }
     ensures { λ r. ⌜ now (s .exit) ≡ bytesAfter edition (planValue p) (now (s .entry)) ⌝ }

@@ -1,3 +1,4 @@
 -- What is proved about the definitions.
 pub mod LongFile
 pub mod Whole
+pub mod Theorem

@@ -1,5 +1,5 @@
--- An arborescence (document 01: a tree): "for each part but part 0 one link whose head is in it and whose tail is in another part, such that going back
--- along links from any part arrives at part 0. With k = 1 the empty tree is the one tree."
+-- An arborescence (document 01: a tree): "for each part but part 0 one link whose head is in it and whose tail is in another part, such
+-- that going back along links from any part arrives at part 0. With k = 1 the empty tree is the one tree."
 use mathlib.Core.Path.{_≡_}
 use mathlib.Core.Logic.{_≢_}
 use mathlib.Core.Bool.{Bool, not, _&&_}

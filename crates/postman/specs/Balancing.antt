@@ -23,8 +23,8 @@ unfoldable pub imbalance : Plan → List Link → ℕ → ℤ
 unfolding heads tails occurrences
 imbalance p t i = pos (occurrences i (heads p t)) -ℤ pos (occurrences i (tails p t))
 
--- "Balancing given values D means whole amounts f(i,j) ≥ 0 between required vertices with (sum out of i) − (sum into i) = D(i) for all i", here between the
--- vertices vs. An amount f(i,i) is allowed, and costs nothing.
+-- "Balancing given values D means whole amounts f(i,j) ≥ 0 between required vertices with (sum out of i) − (sum into i) = D(i) for all i",
+-- here between the vertices vs. An amount f(i,i) is allowed, and costs nothing.
 unfoldable pub sumOver : List ℕ → (ℕ → ℕ) → ℕ
 sumOver [] g = 0
 sumOver (v ∷ vs) g = g v + sumOver vs g
@@ -44,8 +44,8 @@ unfolding minimum picks
 assignment d [] ts = 0
 assignment d (s ∷ ss) ts = minimum (map (λ r. d s (r .0) + assignment d ss (r .1)) (picks ts))
 
--- "Z is the least such cost": each head is sent to a tail, which costs nothing where they are the same vertex. `Laws.Balancing`: it is the least cost of all
--- balancings of the imbalance, between the required vertices. Z is the case of no link.
+-- "Z is the least such cost": each head is sent to a tail, which costs nothing where they are the same vertex. `Laws.Balancing`: it is the
+-- least cost of all balancings of the imbalance, between the required vertices. Z is the case of no link.
 unfoldable pub leastBalancing : Plan → List Link → ℕ
 unfolding assignment distance heads tails
 leastBalancing p t = assignment (distance p) (heads p t) (tails p t)

@@ -1,5 +1,5 @@
--- Document 01's starred cases, one of them renumbered, document 02's with free arcs, the refusal 13, edition 2, and lists that are judged, as rows of one table under one lemma, `cases`. The checker computes
--- each claim from the definitions.
+-- Document 01's starred cases, one of them renumbered, document 02's with free arcs, the refusal 13, edition 2, and lists that are judged,
+-- as rows of one table under one lemma, `cases`. The checker computes each claim from the definitions.
 use mathlib.Core.Path.{_≡_, refl, ap, _∙_}
 use mathlib.Core.Bool.{Bool, true, false, _&&_, Bool·beq}
 use mathlib.Core.List.{List, [], _∷_, _++_, map, List·Memᴰ}
@@ -55,8 +55,9 @@ refusalOf e p = orZero (callRefusal (fileOf e p) defaultBudget sheetPlaces)
 abbrev writingOf : ℕ → Plan → ℕ
 writingOf e p = orZero (writeRefusal e p (fileLength e (length (p .arcs))))
 
--- The file of an edition, both ways; the refusal in edition 1, and in edition 2; the writer's in an edition; k; the number of links; N; Z; L(0); the cost, the same of
--- the plan renumbered by a list, whole, and the floor, whatever u is, at a budget; the cost that a list of arcs is judged to have in edition 2, and the fault of one.
+-- The file of an edition, both ways; the refusal in edition 1, and in edition 2; the writer's in an edition; k; the number of links; N; Z;
+-- L(0); the cost, the same of the plan renumbered by a list, whole, and the floor, whatever u is, at a budget; the cost that a list of arcs
+-- is judged to have in edition 2, and the fault of one.
 abbrev pub Means : Plan → Claim → Type 0
 Means p (file e bytes) = (fileOf e p ≡ bytes) × (edition bytes ≡ e) × (planOf bytes ≡ p)
 Means p (refusal r) = refusalOf 1 p ≡ r
@@ -139,7 +140,8 @@ table =
     -- two arcs that agree but for their checking costs, and two that agree in all
     ∷ row 2 (arc2 0 1 1 5 9 ∷ arc2 1 0 0 3 0 ∷ arc2 0 1 1 5 8 ∷ []) (refusal2 0 ∷ costAt 10000 23 ∷ [])
     ∷ row 2 (arc2 0 1 1 5 9 ∷ arc2 1 0 0 3 0 ∷ arc2 0 1 1 5 9 ∷ []) (refusal2 13 ∷ [])
-    -- lists of arcs, judged: A with a closed arc, its must arc driven once and twice, from either arc on; a foreign arc at the end before a gap at the start, a gap before a missed arc
+    -- lists of arcs, judged: A with a closed arc, its must arc driven once and twice, from either arc on; a foreign arc at the end before a
+    -- gap at the start, a gap before a missed arc
     ∷ row 2 (arc2 0 1 1 5 9 ∷ arc2 1 0 0 3 0 ∷ arc2 0 0 2 1 0 ∷ arc2 0 0 0 1 0 ∷ [])
     (judged (0 ∷ 1 ∷ []) 12 ∷ judged (1 ∷ 0 ∷ []) 12 ∷ judged (0 ∷ 1 ∷ 3 ∷ 0 ∷ 1 ∷ []) 21 ∷ fault (0 ∷ 0 ∷ 2 ∷ []) 14 ∷ fault (4 ∷ []) 14 ∷ fault (0 ∷ []) 15
     ∷ fault (1 ∷ 3 ∷ []) 15 ∷ fault (3 ∷ []) 16 ∷ fault [] 16 ∷ [])

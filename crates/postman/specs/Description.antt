@@ -1,5 +1,6 @@
--- The drive's description: "Legs for links and balancing legs then follow such paths, and the drive's description says so." The drive is laid from a tree, and from amounts
--- that balance it; this says which legs it has, and which way each takes. No leg has to be found out from the places: the description gives them.
+-- The drive's description: "Legs for links and balancing legs then follow such paths, and the drive's description says so." The drive is
+-- laid from a tree, and from amounts that balance it; this says which legs it has, and which way each takes. No leg has to be found out
+-- from the places: the description gives them.
 use mathlib.Core.Path.{_≡_}
 use mathlib.Core.List.{List, [], _∷_, flatMap, List·Memᴰ}
 use Prim.Native.Nat.{ℕ, _≤_}
@@ -43,7 +44,8 @@ unfoldable pub howOften : ℕ → ℕ → List Link → ℕ
 unfolding select
 howOften i j ls = length (select (joins i j) ls)
 
--- What a leg that is no must arc follows, from i to j: both are required, it is the path of fewest arcs between them, and it visits no vertex twice.
+-- What a leg that is no must arc follows, from i to j: both are required, it is the path of fewest arcs
+-- between them, and it visits no vertex twice.
 pub record IsLegPath (p : Plan) (i j : ℕ) (w : List ℕ) : Type 0 where
   pub from : List·Memᴰ i (required p)
   pub to : List·Memᴰ j (required p)

@@ -1,4 +1,5 @@
--- "d(i,j): least cost of a path of arcs that aren't closed from i to j; d(i,i) = 0; 4,294,967,295 stands for no path. […] Must arcs may serve in paths."
+-- "d(i,j): least cost of a path of arcs that aren't closed from i to j; d(i,i) = 0; 4,294,967,295 stands for
+-- no path. […] Must arcs may serve in paths."
 use mathlib.Core.Bool.{Bool, cond, _&&_}
 use mathlib.Core.List.{List}
 use Prim.Native.Nat.{ℕ, zero, suc, _+_, _-_}

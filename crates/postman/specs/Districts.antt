@@ -1,4 +1,5 @@
--- EIGHT DISTRICTS IN TURN: the line of districts, an entry and a turn. "One machine, empty at first, lays drives for up to eight districts."
+-- EIGHT DISTRICTS IN TURN: the line of districts, an entry and a turn. "One machine, empty at
+-- first, lays drives for up to eight districts."
 use mathlib.Core.Bool.{Bool, false, not, cond}
 use mathlib.Core.List.{List, [], _∷_, _++_, map}
 use mathlib.Core.Option.{Option}
@@ -32,7 +33,7 @@ places l = map (λ (d : District). d .place) l
 -- "22 full: eight districts are unfinished; at entry, after the plan call's own refusals but 8."
 unfoldable pub entryConditions : Line → List ℕ → ℕ → Conditions
 unfolding fileConditions isOutside highestBudget planOf
-entryConditions l bytes budget = fileConditions bytes ++ (budgetConditions budget ++ (lastConditions (planOf bytes) ++ (leb 8 (length l), 22) ∷ []))
+entryConditions l bytes b = fileConditions bytes ++ (budgetConditions b ++ (lastConditions (planOf bytes) ++ (leb 8 (length l), 22) ∷ []))
 
 unfoldable pub entryRefusal : Line → List ℕ → ℕ → Option ℕ
 unfolding firstRefusal entryConditions
@@ -73,7 +74,8 @@ unfolding finishes
 turn [] = []
 turn (d ∷ l) = cond (finishes d) l (l ++ goneOn d ∷ [])
 
--- A turn with no district inside "says so, short sheet or not, and changes nothing"; a short sheet "gets 8, and there … nothing moves". The others are accepted.
+-- A turn with no district inside "says so, short sheet or not, and changes nothing"; a short sheet "gets 8, and
+-- there … nothing moves". The others are accepted.
 unfoldable pub isAccepted : Line → ℕ → Bool
 unfolding sheetPlaces
 isAccepted [] sheet = false

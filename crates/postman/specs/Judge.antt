@@ -21,7 +21,8 @@ unfoldable pub hasForeign : Plan → List ℕ → Bool
 unfolding anyOf isForeign
 hasForeign p w = anyOf (isForeign p) w
 
--- 15 unjoined: an arc's head is not the next one's tail, "the last to the first included". First, of arcs that a car at vertex v is to drive until it is at vertex j:
+-- 15 unjoined: an arc's head is not the next one's tail, "the last to the first included". First, of arcs that a car at
+-- vertex v is to drive until it is at vertex j:
 unfoldable pub isBroken : List Arc → ℕ → List ℕ → ℕ → Bool
 isBroken arcs v [] j = not (eqb v j)
 isBroken arcs v (k ∷ w) j = not (eqb v (arcAt arcs k .tail)) || isBroken arcs (arcAt arcs k .head) w j

@@ -40,14 +40,15 @@ unfoldable pub lagrangianBound : Plan → Multipliers → ℤ
 unfolding requiredCost priceOfImbalance cheapestArborescence
 lagrangianBound p u = pos (requiredCost p) +ℤ priceOfImbalance p u +ℤ cheapestArborescence p u
 
--- "u is free within this: every pair of required vertices has d(i,j) − u(i) + u(j) ≥ 0, and the sum of u(i) × D(i) is Z"; u is "0 where not required".
+-- "u is free within this: every pair of required vertices has d(i,j) − u(i) + u(j) ≥ 0, and the sum of
+-- u(i) × D(i) is Z"; u is "0 where not required".
 pub record AreMultipliers (p : Plan) (u : Multipliers) : Type 0 where
   pub elsewhere : (i : ℕ) → (List·Memᴰ i (required p) → ⊥) → u i ≡ pos 0
   pub feasible : (i j : ℕ) → List·Memᴰ i (required p) → List·Memᴰ j (required p) → pos 0 ≤ℤ reducedCost p u i j
   pub tight : priceOfImbalance p u ≡ pos (leastBalancing p [])
 
--- The greatest multipliers that are 0 at a root, which is a required vertex. `Laws.Multiplier`: a root has at most one such u. Those that we answer are found from them, and give a
--- bound no lower.
+-- The greatest multipliers that are 0 at a root, which is a required vertex. `Laws.Multiplier`: a root has at most one such u. Those that
+-- we answer are found from them, and give a bound no lower.
 pub record AreGreatest (p : Plan) (root : ℕ) (u : Multipliers) : Type 0 where
   pub multipliers : AreMultipliers p u
   pub at-root : u root ≡ pos 0

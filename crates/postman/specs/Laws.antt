@@ -54,3 +54,4 @@ pub mod RenumberedComponents
 pub mod RenumberedBalancing
 pub mod RenumberedMultipliers
 pub mod RenumberedDrive
+pub mod Theorem

@@ -29,5 +29,4 @@ pub mod DistrictRuns
 pub mod Steps
 -- What is proved about them.
 pub mod Laws
-pub mod Theorem
 pub mod Cases

@@ -1,5 +1,5 @@
--- Thinning, in document 02's words: it "goes through the pairs by (tail, head), one at a time. A pair is dropped exactly if, for some k, both pairs that add up to it are still
--- held." Document 01: the pairs are those i≠j of required vertices, and "the pairs left are links".
+-- Thinning, in document 02's words: it "goes through the pairs by (tail, head), one at a time. A pair is dropped exactly if, for some k,
+-- both pairs that add up to it are still held." Document 01: the pairs are those i≠j of required vertices, and "the pairs left are links".
 use mathlib.Core.Bool.{Bool, not, cond, _&&_}
 use mathlib.Core.List.{List, [], _∷_, map, flatMap}
 use Prim.Native.Nat.{ℕ, _+_}
@@ -30,21 +30,22 @@ unfoldable pub isHeld : List Link → ℕ → ℕ → Bool
 unfolding anyOf
 isHeld held i j = anyOf (joins i j) held
 
--- The pairs (i, k) and (k, j) are held, and d(i,j) = d(i,k) + d(k,j). Only pairs of distinct required vertices are ever held, so k is required, and other than both ends.
+-- The pairs (i, k) and (k, j) are held, and d(i,j) = d(i,k) + d(k,j). Only pairs of distinct required vertices are ever held,
+-- so k is required, and other than both ends.
 unfoldable pub isVia : Plan → List Link → Link → ℕ → Bool
 unfolding isHeld distance
 isVia p held l k =
     isHeld held (l .tail) k && isHeld held k (l .head) && eqb (distance p (l .tail) (l .head)) (distance p (l .tail) k + distance p k (l .head))
 
 -- The pairs held once l has had its turn; and once the pairs ls have had theirs, one after the other.
-unfoldable pub turn : Plan → List Link → Link → List Link
+unfoldable pub heldAfter : Plan → List Link → Link → List Link
 unfolding anyOf isVia required select
-turn p held l = cond (anyOf (isVia p held l) (required p)) (select (λ m. not (joins (l .tail) (l .head) m)) held) held
+heldAfter p held l = cond (anyOf (isVia p held l) (required p)) (select (λ m. not (joins (l .tail) (l .head) m)) held) held
 
 unfoldable pub thinned : Plan → List Link → List Link → List Link
-unfolding turn
+unfolding heldAfter
 thinned p held [] = held
-thinned p held (l ∷ ls) = thinned p (turn p held l) ls
+thinned p held (l ∷ ls) = thinned p (heldAfter p held l) ls
 
 unfoldable pub links : Plan → List Link
 unfolding thinned properPairs

@@ -53,8 +53,8 @@ unfolding least
 minimum [] = 0
 minimum (x ∷ xs) = least x (λ y. y) xs
 
--- The first element of least value: of x, the best so far, and a list, where an element replaces those before it only if its value is less; and of a list, d where
--- there is none.
+-- The first element of least value: of x, the best so far, and a list, where an element replaces those before it only if its value is
+-- less; and of a list, d where there is none.
 unfoldable pub argminFrom {ℓ} : {A : Type ℓ} → (A → ℕ) → A → List A → A
 argminFrom f x [] = x
 argminFrom f x (y ∷ ys) = argminFrom f (cond (ltb (f y) (f x)) y x) ys

@@ -13,8 +13,8 @@ use Rattle.postman.specs.PlanCall.{conditionsBefore, isCutOff}
 
 -- ---- the plan of a car
 
--- "Each car has its own list of must marks, which replaces the plan's must marks (a plain arc if unmarked)." Closed arcs stay closed. "A marked arc that has no checking cost uses its plain
--- cost, even 0."
+-- "Each car has its own list of must marks, which replaces the plan's must marks (a plain arc if unmarked)." Closed arcs stay closed. "A
+-- marked arc that has no checking cost uses its plain cost, even 0."
 unfoldable pub markedService : ℕ → Arc → ℕ
 markedService mark a = cond (eqb mark 1) (cond (eqb (a .service) 0) (a .cost) (a .service)) 0
 
@@ -51,11 +51,12 @@ unfoldable pub markConditions : Plan → List ℕ → Conditions
 unfolding hasBadMark
 markConditions p marks = (hasBadMark p marks, 18) ∷ []
 
--- "Only 1 to 7 and 13 reach both; any other refusal is that car's alone": a car's refusals are the file's, then its own, 18 "after 9, before 10"; from 10 on the plan is the car's.
+-- "Only 1 to 7 and 13 reach both; any other refusal is that car's alone": a car's refusals are the file's, then its own, 18 "after 9,
+-- before 10"; from 10 on the plan is the car's.
 unfoldable pub earlierConditionsFor : List ℕ → ℕ → ℕ → List ℕ → Conditions
 unfolding conditionsBefore markConditions carPlan planOf
-earlierConditionsFor bytes budget places marks = conditionsBefore bytes budget places (markConditions (planOf bytes) marks) (carPlan (planOf bytes) marks)
+earlierConditionsFor bytes b n marks = conditionsBefore bytes b n (markConditions (planOf bytes) marks) (carPlan (planOf bytes) marks)
 
 unfoldable pub carRefusal : List ℕ → ℕ → ℕ → List ℕ → Option ℕ
 unfolding firstRefusal earlierConditionsFor isCutOff carPlan planOf
-carRefusal bytes budget places marks = firstRefusal (earlierConditionsFor bytes budget places marks ++ (isCutOff (carPlan (planOf bytes) marks), 12) ∷ [])
+carRefusal bytes b n marks = firstRefusal (earlierConditionsFor bytes b n marks ++ (isCutOff (carPlan (planOf bytes) marks), 12) ∷ [])

@@ -28,7 +28,8 @@ changedPlan p c = record { n = p .n; arcs = set (p .arcs) (c .arc) (changedArc (
 abbrev pub longestFile : ℕ
 longestFile = 1475
 
--- "A change to arc m or above gets 14, and one the writer would refuse in the plan's edition gets the writer's number." Every file has room in 1,475 bytes.
+-- "A change to arc m or above gets 14, and one the writer would refuse in the plan's edition gets the writer's
+-- number." Every file has room in 1,475 bytes.
 unfoldable pub changeRefusal : ℕ → Plan → Change → Option ℕ
 unfolding changedPlan writeRefusal
 changeRefusal e p c = cond (leb (length (p .arcs)) (c .arc)) (some 14) (writeRefusal e (changedPlan p c) longestFile)
@@ -44,7 +45,8 @@ pub record Open : Type 0 where
 abbrev pub opened : Plan → Open
 opened p = record { plan = p; marks = λ k. none }
 
--- Changes; "up to four marks, numbered 0 to 3, each holding the plan at that moment"; "returning brings that plan back". Any numbers may stand in a call.
+-- Changes; "up to four marks, numbered 0 to 3, each holding the plan at that moment"; "returning brings that
+-- plan back". Any numbers may stand in a call.
 pub data Call : Type 0 where
   change : Change → Call
   mark : ℕ → Call
@@ -68,7 +70,8 @@ outcome s (c ∷ h) = outcome (taken s c) h
 
 -- ---- the refusals
 
--- 21 no mark: "the mark's number is above 3 or was never set; it is the only check of a return, and for setting a mark it is given only above 3"
+-- 21 no mark: "the mark's number is above 3 or was never set; it is the only check of a return, and
+-- for setting a mark it is given only above 3"
 abbrev pub unlessHeld : Option Plan → Option ℕ
 unlessHeld none = some 21
 unlessHeld (some q) = none

@@ -6,8 +6,9 @@ use lib.ListN.{length, getD}
 use lib.Dec.{eqb, ltb}
 use Rattle.postman.specs.Lists.{select, below}
 
--- "tail 6, head 6, standing 2, cost 16. […] Standing 0: may be driven; 1: must be driven; 2: closed, held in the file and never driven." The service cost (document
--- 02: the checking cost) is that of the pass on which a must arc is checked: "our drivers crawl the first time along a must arc to read signs".
+-- "tail 6, head 6, standing 2, cost 16. […] Standing 0: may be driven; 1: must be driven; 2: closed, held in the file and never
+-- driven." The service cost (document 02: the checking cost) is that of the pass on which a must arc is checked: "our drivers crawl the
+-- first time along a must arc to read signs".
 pub record Arc : Type 0 where
   pub tail : ℕ
   pub head : ℕ
@@ -40,8 +41,9 @@ unfoldable pub requiredNumbers : Plan → List ℕ
 unfolding select below
 requiredNumbers p = select (λ k. isRequiredArc (arcAt (p .arcs) k)) (below (length (p .arcs)))
 
--- What the layers above the plan file ask of an arc, and of a plan. `Laws.Acceptance`: a plan that was read, or that is written, is well formed. A plan that is made from
--- another may be well formed and yet refused as a file: nothing is asked of which arcs have a service cost. An arc of any standing may be free.
+-- What the layers above the plan file ask of an arc, and of a plan. `Laws.Acceptance`: a plan that was read, or that is written, is
+-- well formed. A plan that is made from another may be well formed and yet refused as a file: nothing is asked of which arcs have a
+-- service cost. An arc of any standing may be free.
 pub record IsArc (n : ℕ) (a : Arc) : Type 0 where
   pub tail-in : a .tail < n
   pub head-in : a .head < n

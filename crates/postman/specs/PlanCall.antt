@@ -39,7 +39,8 @@ unfoldable pub isCutOff : Plan → Bool
 unfolding anyOf required hasPath
 isCutOff p = anyOf (λ i. anyOf (λ j. not (hasPath p i j)) (required p)) (required p)
 
--- "then 8 to 12". 9 budget: "0 or above 1,000,000"; 10 idle: "no must arc"; 11 scattered: "more than 8 parts". Of the budget, with the sheet, and of a plan:
+-- "then 8 to 12". 9 budget: "0 or above 1,000,000"; 10 idle: "no must arc"; 11 scattered: "more than 8 parts".
+-- Of the budget, with the sheet, and of a plan:
 abbrev pub budgetConditions : ℕ → Conditions
 budgetConditions budget = (isOutside budget 1 highestBudget, 9) ∷ []
 
@@ -55,7 +56,8 @@ partsConditions p = (eqb (length (requiredArcs p)) 0, 10) ∷ (ltb 8 (componentC
 abbrev pub lastConditions : Plan → Conditions
 lastConditions p = partsConditions p ++ (isCutOff p, 12) ∷ []
 
--- The conditions of a call but for the last, where the call has conditions of its own between 9 and 10, and p is the plan that it speaks of:
+-- The conditions of a call but for the last, where the call has conditions of its own between 9
+-- and 10, and p is the plan that it speaks of:
 unfoldable pub conditionsBefore : List ℕ → ℕ → ℕ → Conditions → Plan → Conditions
 unfolding fileConditions callConditions partsConditions
 conditionsBefore bytes budget places own p = fileConditions bytes ++ (callConditions budget places ++ (own ++ partsConditions p))
@@ -95,7 +97,8 @@ unfoldable pub lowerBound : Plan → ℕ → Multipliers → ℤ
 unfolding isWhole bestCost maxℤ lagrangianBound
 lowerBound p budget u = cond (isWhole p budget) (pos (bestCost p budget)) (maxℤ (lagrangianBound p (λ i. pos 0)) (lagrangianBound p u))
 
--- "The answer holds the places written, cost, floor, trees tried T, whole (yes or no), k and u." These are the fields but for the places and u.
+-- "The answer holds the places written, cost, floor, trees tried T, whole (yes or no), k and u."
+-- These are the fields but for the places and u.
 pub record Summary : Type 0 where
   pub cost : ℕ
   pub floor : ℤ
@@ -105,8 +108,8 @@ pub record Summary : Type 0 where
 
 unfoldable pub summary : Plan → ℕ → Multipliers → Summary
 unfolding bestCost lowerBound triedCount isWhole componentCount
-summary p budget u =
-    record { cost = bestCost p budget; floor = lowerBound p budget u; trees = triedCount p budget; whole = isWhole p budget; parts = componentCount p }
+summary p b u =
+    record { cost = bestCost p b; floor = lowerBound p b u; trees = triedCount p b; whole = isWhole p b; parts = componentCount p }
 
 -- What the fields hold in a refusal, which document 01 leaves open: 0 and no.
 unfoldable pub fields : Answer Summary → Summary
@@ -118,8 +121,9 @@ unfoldable pub root : Plan → ℕ
 unfolding required
 root p = getD (required p) 0 0
 
--- "The written places are a drive of that cost whose first arc is the lowest must arc; which such drive, of at most 17,266 places, is free." It is laid from one of the trees
--- tried, of least cost, and from amounts that balance it at the least cost. This is all that has to be believed of the drive.
+-- "The written places are a drive of that cost whose first arc is the lowest must arc; which such drive, of at most 17,266
+-- places, is free." It is laid from one of the trees tried, of least cost, and from amounts that balance it at the least cost.
+-- This is all that has to be believed of the drive.
 pub record IsAnswerTour (p : Plan) (budget : ℕ) (w : List ℕ) : Type 0 where
   pub tour : IsTour p w
   pub costs : tourCost p w ≡ bestCost p budget

@@ -67,7 +67,8 @@ unfoldable pub planOf : List ℕ → Plan
 unfolding edition vertexCount arcCount arcOf below
 planOf bytes = record { n = vertexCount bytes; arcs = map (arcOf bytes (edition bytes)) (below (arcCount bytes)) }
 
--- "After the last arc, zero bits fill up the byte. The file is exactly that long." The bytes of a file of edition e and m arcs, and the number that its fill bits are.
+-- "After the last arc, zero bits fill up the byte. The file is exactly that long." The bytes of a file of edition e and m
+-- arcs, and the number that its fill bits are.
 unfoldable pub fileLength : ℕ → ℕ → ℕ
 unfolding fileBits
 fileLength e m = (fileBits e m + 7) / 8
@@ -86,14 +87,16 @@ unfoldable pub extentConditions : ℕ → ℕ → Conditions
 unfolding isOutside
 extentConditions n m = (isOutside n 1 64 || isOutside m 1 256, 3) ∷ []
 
--- A checking cost "is 1 to 65,535 for must arcs and 0 for others"; and in edition 1 it is the implied one, so that there a must arc of cost 0 has none.
+-- A checking cost "is 1 to 65,535 for must arcs and 0 for others"; and in edition 1 it is the implied one,
+-- so that there a must arc of cost 0 has none.
 unfoldable pub isMispriced : ℕ → Arc → Bool
 unfolding impliedService
 isMispriced e a =
     cond (isRequiredArc a) (eqb (a .service) 0) (not (eqb (a .service) 0))
     || (not (isSecond e) && not (eqb (a .service) (impliedService (a .standing) (a .cost))))
 
--- 5 off sheet: "tail or head is n or more"; 6 unpriced: a checking cost as above ("plain cost 0 becomes good in both editions"); 7 standing: "standing above 2"
+-- 5 off sheet: "tail or head is n or more"; 6 unpriced: a checking cost as above ("plain cost 0 becomes good in
+-- both editions"); 7 standing: "standing above 2"
 unfoldable pub arcConditions : ℕ → ℕ → Arc → Conditions
 unfolding isMispriced
 arcConditions e n a = (leb n (a .tail) || leb n (a .head), 5) ∷ (isMispriced e a, 6) ∷ (ltb 2 (a .standing), 7) ∷ []
@@ -185,15 +188,16 @@ unfoldable pub fileOf : ℕ → Plan → List ℕ
 unfolding planBits number below fileLength
 fileOf e p = map (λ k. number (λ i. getD (planBits e p) i 0) (8 * k) 8) (below (fileLength e (length (p .arcs))))
 
--- "The writer is told which edition to write, first refuses others with 2"; then "3 and 5 to 8", and 13. 8, for writing: "byte slice below the file"
+-- "The writer is told which edition to write, first refuses others with 2"; then "3 and 5 to 8", and 13.
+-- 8, for writing: "byte slice below the file"
 unfoldable pub writeRefusal : ℕ → Plan → ℕ → Option ℕ
 unfolding firstRefusal editionConditions extentConditions planConditions fileLength
 writeRefusal e p room =
     firstRefusal
     (editionConditions e ++ extentConditions (p .n) (length (p .arcs)) ++ planConditions e p ++ (ltb room (fileLength e (length (p .arcs))), 8) ∷ [])
 
--- "Writing takes n and a list of records (m is its length) and fills a lent byte slice from its start; bytes after the file are untouched. It answers the
--- file's length in bytes."
+-- "Writing takes n and a list of records (m is its length) and fills a lent byte slice from its start; bytes after the file are
+-- untouched. It answers the file's length in bytes."
 unfoldable pub writeAnswer : ℕ → Plan → List ℕ → Answer ℕ
 unfolding answer writeRefusal fileLength
 writeAnswer e p bytes = answer (writeRefusal e p (length bytes)) (fileLength e (length (p .arcs)))

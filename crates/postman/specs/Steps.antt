@@ -2,7 +2,7 @@
 use mathlib.Core.Path.{_≡_}
 use mathlib.Core.Bool.{not}
 use mathlib.Core.List.{List, [], _∷_, List·Memᴰ}
-use Prim.Native.Nat.{ℕ, _≤_, _<_}
+use Prim.Native.Nat.{ℕ, _+_, _*_, _≤_, _<_}
 use lib.ListN.{length, getD}
 use lib.Dec.{T}
 use lib.IntN.{ℤ, pos}
@@ -25,6 +25,15 @@ pub data Pick {ℓ} {A : Type ℓ} (x : A) : List A → List A → Type ℓ wher
 pub data Permutation {A : Type 0} : List A → List A → Type 0 where
   none : Permutation [] []
   more : {x : A} {xs ys zs : List A} → Pick x ys zs → Permutation xs zs → Permutation (x ∷ xs) ys
+
+-- ---- tables
+
+-- Row i, column j of a table; and the amount of the pair (i, j) among those of all pairs of 64 vertices.
+abbrev pub cell : List (List ℕ) → ℕ → ℕ → ℕ
+cell d i j = getD (getD d i []) j 0
+
+abbrev pub amount : List ℕ → ℕ → ℕ → ℕ
+amount f i j = getD f (i * 64 + j) 0
 
 -- ---- plans
 

@@ -13,7 +13,8 @@ use Rattle.postman.specs.PlanCall.{conditionsBefore, isCutOff}
 
 -- ---- windows and departures
 
--- "Add a list of up to 128 windows: arc (0 to m−1, of any standing), weekday 0 (Monday) to 6, from minute, to minute, with from < to and to at most 1,440."
+-- "Add a list of up to 128 windows: arc (0 to m−1, of any standing), weekday 0 (Monday) to 6, from minute, to
+-- minute, with from < to and to at most 1,440."
 pub record Window : Type 0 where
   pub arc : ℕ
   pub weekday : ℕ
@@ -25,10 +26,11 @@ pub record Departure : Type 0 where
   pub weekday : ℕ
   pub minute : ℕ
 
--- A list of windows is lent as numbers of 16 bits, four a window. Window k of such a list, and all of them; up to three numbers that are left over are no window.
+-- A list of windows is lent as numbers of 16 bits, four a window. Window k of such a list, and all of them; up to
+-- three numbers that are left over are no window.
 abbrev pub windowIn : List ℕ → ℕ → Window
-windowIn numbers k =
-    record { arc = getD numbers (4 * k) 0; weekday = getD numbers (4 * k + 1) 0; from = getD numbers (4 * k + 2) 0; to = getD numbers (4 * k + 3) 0 }
+windowIn ns k =
+    record { arc = getD ns (4 * k) 0; weekday = getD ns (4 * k + 1) 0; from = getD ns (4 * k + 2) 0; to = getD ns (4 * k + 3) 0 }
 
 unfoldable pub windowsIn : List ℕ → List Window
 unfolding below
@@ -36,7 +38,8 @@ windowsIn numbers = map (windowIn numbers) (below (length numbers / 4))
 
 -- ---- the plan at a departure
 
--- "A window of that weekday shuts its arc when from ≤ t < to." Whether a window shuts arc k; whether one of a list does. "Windows may overlap."
+-- "A window of that weekday shuts its arc when from ≤ t < to." Whether a window shuts arc k;
+-- whether one of a list does. "Windows may overlap."
 unfoldable pub shuts : Departure → ℕ → Window → Bool
 shuts d k w = eqb (w .arc) k && (eqb (w .weekday) (d .weekday) && (leb (w .from) (d .minute) && ltb (d .minute) (w .to)))
 
@@ -44,7 +47,8 @@ unfoldable pub isShut : List Window → Departure → ℕ → Bool
 unfolding anyOf shuts
 isShut windows d k = anyOf (shuts d k) windows
 
--- "The arc then counts as closed for that plan call." THE PLAN OF THE CALL: the file's, with the arcs that are shut at departure closed; "later minutes play no part".
+-- "The arc then counts as closed for that plan call." THE PLAN OF THE CALL: the file's, with the arcs that are shut at
+-- departure closed; "later minutes play no part".
 unfoldable pub closedIf : Bool → Arc → Arc
 closedIf shut a = record { tail = a .tail; head = a .head; standing = cond shut 2 (a .standing); cost = a .cost; service = a .service }
 
@@ -52,7 +56,8 @@ unfoldable pub planAt : Plan → List Window → Departure → Plan
 unfolding closedIf isShut below
 planAt p windows d = record { n = p .n; arcs = map (λ k. closedIf (isShut windows d k) (arcAt (p .arcs) k)) (below (length (p .arcs))) }
 
--- Tours "that avoid arcs shut at departure". `Laws.Windows`: where no must arc is shut, the tours of that plan are the tours of the file's plan that avoid them, at equal costs.
+-- Tours "that avoid arcs shut at departure". `Laws.Windows`: where no must arc is shut, the tours of that plan are the tours of the
+-- file's plan that avoid them, at equal costs.
 abbrev pub Avoids : List Window → Departure → List ℕ → Type 0
 Avoids windows d w = (k : ℕ) → List·Memᴰ k w → T (not (isShut windows d k))
 

@@ -16,7 +16,7 @@ use Rattle.postman.specs.DistanceCall.{distanceAnswer, distancesAfter}
 use Rattle.postman.specs.Judge.{judgeAnswer}
 use Rattle.solution.specs.declared.Planned.{Planned}
 use Rattle.two_cars.specs.Contract.{IsCar}
-use Rattle.count_call.specs.Contract.{answerOf}
+use Rattle.count_call.specs.Contract.{countAnswer}
 use Rattle.distances.specs.Answer.{searchedAnswer}
 use Rattle.judge.specs.Contract.{judgedAnswer}
 use Rattle.encoding.specs.RecordBytes.{arcBytes, arcsIn}
@@ -145,7 +145,7 @@ pub record LentCount (bytes : List ℕ) : Type 0 where
   pub number-is : number ≡ oneNumber (countOf (countCall bytes))
 
 abbrev pub CountHandsOver : Type 0
-CountHandsOver = (bytes : List ℕ) (l : LentCount bytes) (c : Count bytes) → l .number ≡ oneNumber (countOf (answerOf (c .answer)))
+CountHandsOver = (bytes : List ℕ) (l : LentCount bytes) (c : Count bytes) → l .number ≡ oneNumber (countOf (countAnswer (c .answer)))
 
 -- `postman_distances`: the number of searches, or minus the refusal's number; and the distances.
 pub record LentPage (bytes pairs distances : List ℕ) : Type 0 where

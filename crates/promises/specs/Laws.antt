@@ -17,3 +17,11 @@ pub mod Judged
 pub mod Districts
 pub mod Codec
 pub mod Runs
+pub mod OneAnswerTheorem
+pub mod HistoryTheorem
+pub mod AskedTheorem
+pub mod TurnsTheorem
+pub mod JudgedTheorem
+pub mod WindowsTheorem
+pub mod CarsTheorem
+pub mod BudgetTheorem

@@ -18,17 +18,7 @@ pub mod Proved
 -- What callers in other languages lend for an answer, and what two cars' number says of each.
 pub mod Slices
 pub mod CarNumber
--- What two calls that leave one answer have in common.
-pub mod OneAnswerTheorem
--- Over an open plan's bytes, over a machine's, and of drives that are judged.
+-- What callers are told over an open plan's bytes, and over a machine's.
 pub mod Told
-pub mod HistoryTheorem
-pub mod AskedTheorem
-pub mod TurnsTheorem
-pub mod JudgedTheorem
--- Over the slices of plan calls.
-pub mod WindowsTheorem
-pub mod CarsTheorem
-pub mod BudgetTheorem
 -- How they are proved.
 pub mod Laws

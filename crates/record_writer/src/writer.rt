@@ -62,8 +62,8 @@ pub fn write_arcs(edition: u8, n: u8, m: usize, arcs: [Arc; 256], bytes: &mut [u
     write_plan(edition, plan, bytes)
 }
 
-// Writing in an edition, from any list into any slice: the first refusal by document 01's order, with the slice untouched; or the file's length, with the file in the slice from its
-// start and the bytes after it untouched.
+// Writing in an edition, from any list into any slice: the first refusal by document 01's order, with the slice untouched; or the file's
+// length, with the file in the slice from its start and the bytes after it untouched.
 pub fn write_records(edition: u8, n: u8, records: &[Arc], bytes: &mut [u8]) -> Written
     ensures { λ r. ⌜ (writtenAnswer r ≡ writeAnswer edition (listPlan n (now (records .entry))) (now (bytes .entry)))
         × (now (bytes .exit) ≡ bytesAfter edition (listPlan n (now (records .entry))) (now (bytes .entry))) ⌝ }

@@ -40,7 +40,10 @@ pub fn room_answer(reading: Reading, room: usize) -> Read
 
 // What reading answers where there is room for `room` records.
 fn read_answer(bytes: &[u8], room: usize) -> Read
-    ensures { λ r. ⌜ readNumbers r ≡ answer (readRefusal (now (bytes .entry)) room) (edition (now (bytes .entry)), vertexCount (now (bytes .entry)), arcCount (now (bytes .entry))) ⌝ }
+    ensures { λ r.
+        ⌜ readNumbers r
+        ≡ answer (readRefusal (now (bytes .entry)) room)
+        (edition (now (bytes .entry)), vertexCount (now (bytes .entry)), arcCount (now (bytes .entry))) ⌝ }
 {
     let reading = read_plan(bytes);
     room_answer(reading, room)
@@ -59,7 +62,9 @@ pub fn arcs_read(r: Read) -> usize
 // The first m records become those of the file's first m arcs.
 fn store_arcs(bytes: &[u8], m: usize, records: &mut [Arc])
     requires { ⌜ Room (now bytes) (length (now records)) m ⌝ }
-    ensures { λ _. ⌜ now (records .exit) ≡ storedTo (λ k. recordOf (arcOf (now (bytes .entry)) (edition (now (bytes .entry))) k)) (now (records .entry)) m ⌝ }
+    ensures { λ _.
+        ⌜ now (records .exit)
+        ≡ storedTo (λ k. recordOf (arcOf (now (bytes .entry)) (edition (now (bytes .entry))) k)) (now (records .entry)) m ⌝ }
 {
     let mut k = 0;
     while k < m {
@@ -68,8 +73,8 @@ fn store_arcs(bytes: &[u8], m: usize, records: &mut [Arc])
     }
 }
 
-// Reading, from any bytes into any list: the first refusal by document 01's order, with every record untouched; or the edition, n and m, with the file's arcs in the list from its
-// start and the records from m on untouched.
+// Reading, from any bytes into any list: the first refusal by document 01's order, with every record untouched; or the edition, n and m,
+// with the file's arcs in the list from its start and the records from m on untouched.
 pub fn read_records(bytes: &[u8], records: &mut [Arc]) -> Read
     ensures { λ r. ⌜ (readNumbers r ≡ readAnswer (now (bytes .entry)) (map arcValue (now (records .entry))))
         × (map arcValue (now (records .exit)) ≡ recordsAfter (now (bytes .entry)) (map arcValue (now (records .entry)))) ⌝ }

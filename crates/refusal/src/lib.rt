@@ -1,5 +1,5 @@
-// The refusals of every call. A new one is a line in `Refusal`, in `refusal_number` and in `refusalNumber` of `specs/Verdict.antt`, and two cases in the proof of `refusal_number`; which
-// of them a call can give is said by its contract.
+// The refusals of every call. A new one is a line in `Refusal`, in `refusal_number` and in `refusalNumber` of `specs/Verdict.antt`, and two
+// cases in the proof of `refusal_number`; which of them a call can give is said by its contract.
 ghost use mathlib.Core.Path.{_≡_};
 ghost use Rattle.refusal.specs.Verdict.{refusalNumber, verdictNumber, orElse};
 

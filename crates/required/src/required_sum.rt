@@ -61,7 +61,8 @@ fn counted(a: Arc) -> u64
 // How many required arcs have that end at each vertex: the in-degrees or the out-degrees.
 fn degrees(plan: Plan, heads: bool) -> [u64; 64]
     requires { ⌜ WellFormed (planValue plan) ⌝ }
-    ensures { λ r. ⌜ ((v : ℕ) → v < 64 → (getD r v 0 ≡ occurrences v (map (endOf heads) (requiredArcs (planValue plan)))) × (getD r v 0 ≤ 256)) ⌝ }
+    ensures { λ r.
+        ⌜ ((v : ℕ) → v < 64 → (getD r v 0 ≡ occurrences v (map (endOf heads) (requiredArcs (planValue plan)))) × (getD r v 0 ≤ 256)) ⌝ }
 {
     let mut counts = [0u64; 64];
     let m = plan.m as usize;

@@ -1,5 +1,6 @@
--- Dijkstra's search towards a vertex t, over lengths ℓ(i,j) between the vertices vs. It settles the vertices in the order of their distance to t; where several are
--- nearest, the goal of the search comes first, since the search may end there, and then the first of vs. `Laws.Search`: what it finds.
+-- Dijkstra's search towards a vertex t, over lengths ℓ(i,j) between the vertices vs. It settles the vertices in the order of
+-- their distance to t; where several are nearest, the goal of the search comes first, since the search may end there, and then
+-- the first of vs. `Laws.Search`: what it finds.
 use mathlib.Core.Bool.{Bool, not, cond, _&&_}
 use mathlib.Core.List.{List}
 use Prim.Native.Nat.{ℕ, zero, suc, _+_, _-_, min}
@@ -11,7 +12,8 @@ use Rattle.residual_search.specs.Fold.{fold}
 abbrev pub beyond : ℕ
 beyond = 1099511627776
 
--- For each vertex its distance to t, as far as it is known, the next vertex on the way, and when it was settled: 0 where it was not, 1 for t itself.
+-- For each vertex its distance to t, as far as it is known, the next vertex on the way, and when it was
+-- settled: 0 where it was not, 1 for t itself.
 pub record Found : Type 0 where
   pub distance : List ℕ
   pub next : List ℕ

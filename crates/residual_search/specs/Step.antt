@@ -9,18 +9,13 @@ use Rattle.postman.specs.Link.{Link}
 use Rattle.residual_search.specs.Bounds.{AtMost}
 use Rattle.residual_search.specs.Fold.{fold}
 use Rattle.residual_search.specs.Search.{Found, search}
-
--- The distance in a table of 64 rows of 64, and the amount in 64 rows of 64, one after the other.
-abbrev pub cell : List (List ℕ) → ℕ → ℕ → ℕ
-cell d i j = getD (getD d i []) j 0
-
-abbrev pub amount : List ℕ → ℕ → ℕ → ℕ
-amount f i j = getD f (i * 64 + j) 0
+use Rattle.postman.specs.Steps.{amount}
 
 abbrev pub potential : List ℕ → ℕ → ℕ
 potential u i = getD u i 0
 
--- The residual length of a pair of vertices i and j: 0 where something is sent from j to i, since that can be sent less; else the reduced cost.
+-- The residual length of a pair of vertices i and j: 0 where something is sent from j to i, since
+-- that can be sent less; else the reduced cost.
 abbrev pub residual : ℕ → ℕ → ℕ → ℕ → ℕ
 residual d ui uj back = cond (ltb 0 back) 0 (d + uj - ui)
 

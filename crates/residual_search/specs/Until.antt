@@ -1,4 +1,5 @@
--- The search that ends once the goal is the nearest vertex, before it is settled: what settling it would change is no nearer than the goal. `Laws.Until`.
+-- The search that ends once the goal is the nearest vertex, before it is settled: what settling it would
+-- change is no nearer than the goal. `Laws.Until`.
 use mathlib.Core.Bool.{cond}
 use mathlib.Core.List.{List}
 use Prim.Native.Nat.{ℕ, zero, suc, _+_, _-_}
@@ -10,7 +11,8 @@ module _ (ℓ : ℕ → ℕ → ℕ) (vs : List ℕ) (t : ℕ) where
   unfoldable pub roundsUntil : ℕ → ℕ → ℕ → Found → Found
   unfolding round nearest
   roundsUntil goal zero k s = s
-  roundsUntil goal (suc n) k s = cond (eqb (nearest vs goal (s .distance) (s .rank)) goal) s (roundsUntil goal n (k + 1) (round ℓ vs t goal k s))
+  roundsUntil goal (suc n) k s =
+      cond (eqb (nearest vs goal (s .distance) (s .rank)) goal) s (roundsUntil goal n (k + 1) (round ℓ vs t goal k s))
 
   -- The search until the goal is the nearest, or so many vertices are settled.
   unfoldable pub until : ℕ → ℕ → Found

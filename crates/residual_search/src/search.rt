@@ -15,7 +15,8 @@ ghost use lib.Dec.{eqb, ltb};
 ghost use Rattle.residual_search.specs.Bounds.{AtMost};
 ghost use Rattle.residual_search.specs.Search.{beyond, relax, nearest};
 ghost use Rattle.residual_search.specs.Until.{until, settledBy};
-ghost use Rattle.residual_search.specs.Step.{cell, residual, residualLength};
+ghost use Rattle.postman.specs.Steps.{cell};
+ghost use Rattle.residual_search.specs.Step.{residual, residualLength};
 ghost use Rattle.residual_search.specs.Found.{foundOf};
 
 // The distances to a vertex, the next vertices on the way, and when each vertex was settled.
@@ -55,7 +56,10 @@ fn distance_by(
 // v goes by w where that is nearer, at the distance c. What its distance is then.
 fn relax_at(x: &mut [u64; 64], next: &mut [u8; 64], v: usize, c: u64, w: u8) -> u64
     requires { ⌜ v < 64 ⌝ }
-    ensures { λ r. ⌜ (now (x .exit) ≡ set (now (x .entry)) v (min c (getD (now (x .entry)) v 0))) × (now (next .exit) ≡ set (now (next .entry)) v (cond (ltb c (getD (now (x .entry)) v 0)) w (getD (now (next .entry)) v 0))) × (r ≡ min c (getD (now (x .entry)) v 0)) ⌝ }
+    ensures { λ r.
+        ⌜ (now (x .exit) ≡ set (now (x .entry)) v (min c (getD (now (x .entry)) v 0)))
+        × (now (next .exit) ≡ set (now (next .entry)) v (cond (ltb c (getD (now (x .entry)) v 0)) w (getD (now (next .entry)) v 0)))
+        × (r ≡ min c (getD (now (x .entry)) v 0)) ⌝ }
 {
     let old = x[v];
     if c < old {
@@ -73,7 +77,8 @@ fn open_distance(rank: u8, x: u64) -> u64
     if rank == 0 { x } else { 1099511627776 }
 }
 
-// Every vertex may go by w, which is `base` away from the target. The nearest then of the vertices that are not settled, as each is relaxed.
+// Every vertex may go by w, which is `base` away from the target. The nearest then of the
+// vertices that are not settled, as each is relaxed.
 fn relax_by(
     d: &[[u32; 64]; 64],
     f: &[u16; 4096],
@@ -87,7 +92,11 @@ fn relax_by(
     next: &mut [u8; 64],
 ) -> u8
     requires { ⌜ (w < 64) × (base ≤ beyond) × (goal < 64) × List·Memᴰ goal (now vs) × AtMost beyond (now u) × AtMost 63 (now vs) ⌝ }
-    ensures { λ r. ⌜ (now (x .exit) ≡ relax (residualLength (cell (now (d .entry))) (now (f .entry)) (now (u .entry))) (now (vs .entry)) w base (now (x .entry), now (next .entry)) .0) × (now (next .exit) ≡ relax (residualLength (cell (now (d .entry))) (now (f .entry)) (now (u .entry))) (now (vs .entry)) w base (now (x .entry), now (next .entry)) .1) × (r ≡ nearest (now (vs .entry)) goal (now (x .exit)) (now (rank .entry))) × (r < 64) ⌝ }
+    ensures { λ r. ⌜ (now (x .exit) ≡ relax (residualLength (cell (now (d .entry))) (now (f .entry)) (now (u .entry))) (now
+        (vs .entry)) w base (now (x .entry), now (next .entry)) .0)
+        × (now (next .exit)
+        ≡ relax (residualLength (cell (now (d .entry))) (now (f .entry)) (now (u .entry))) (now (vs .entry)) w base
+        (now (x .entry), now (next .entry)) .1) × (r ≡ nearest (now (vs .entry)) goal (now (x .exit)) (now (rank .entry))) × (r < 64) ⌝ }
 {
     let uw = level(u, w);
     let w8 = w as u8;
@@ -127,7 +136,8 @@ pub fn search_towards<'a>(
     most: usize,
 ) -> Found
     requires { ⌜ (t < 64) × (goal < 64) × List·Memᴰ goal (now vs) × AtMost beyond (now u) × AtMost 63 (now vs) × (most ≤ 64) ⌝ }
-    ensures { λ r. ⌜ foundOf r ≡ until (residualLength (cell (now (d .entry))) (now (f .entry)) (now (u .entry))) (now (vs .entry)) t goal most ⌝ }
+    ensures { λ r.
+        ⌜ foundOf r ≡ until (residualLength (cell (now (d .entry))) (now (f .entry)) (now (u .entry))) (now (vs .entry)) t goal most ⌝ }
 {
     let mut x: [u64; 64] = [1099511627776; 64];
     let mut next: [u8; 64] = [t; 64];

@@ -1,5 +1,6 @@
-// Plan files through lists of arc records, there and back. Each argument names a file: it is read into the first records of a list, written from the list in
-// both editions, and read back, into a list and by value. Before each call every record of a list is nines, and every byte of a slice ee.
+// Plan files through lists of arc records, there and back. Each argument names a file: it is read into the first records of a
+// list, written from the list in both editions, and read back, into a list and by value. Before each call every record of a
+// list is nines, and every byte of a slice ee.
 use libc::STDOUT_FILENO;
 use plan::Arc;
 use plan::Plan;

@@ -1,6 +1,7 @@
--- THE ROUNDS. Each is the plan call on the plan under a numbering of its vertices, with so many trees; arcs keep their numbers, so that its drive is one of the file's plan, at its cost, and its floor is under every drive of that
--- plan. Of all rounds the least cost and the greatest floor are kept, and the numbering of which the fewest trees are left: every second round goes on there, until none is left. What is kept after so many rounds is a function of the
--- plan and the budget.
+-- THE ROUNDS. Each is the plan call on the plan under a numbering of its vertices, with so many trees; arcs keep their numbers, so that its
+-- drive is one of the file's plan, at its cost, and its floor is under every drive of that plan. Of all rounds the least cost and the
+-- greatest floor are kept, and the numbering of which the fewest trees are left: every second round goes on there, until none is left. What
+-- is kept after so many rounds is a function of the plan and the budget.
 use mathlib.Core.Bool.{Bool, cond}
 use mathlib.Core.List.{List}
 use Prim.Native.Nat.{ℕ, zero, suc, _+_, _-_, _%_, min}
@@ -60,33 +61,83 @@ unfoldable pub begun : ℕ → ℕ → ℤ → List ℤ → ℕ → ℕ → Kept
 unfolding unchanged
 begun budget cost floor u left trees =
     let first : Trial = record { numbering = unchanged; tries = budget } in
-    record { drive = first; cost = cost; bound = first; floor = floor; multipliers = u; base = first; left = left; trees = trees; random = 1 }
+    record {
+      drive = first;
+      cost = cost;
+      bound = first;
+      floor = floor;
+      multipliers = u;
+      base = first;
+      left = left;
+      trees = trees;
+      random = 1;
+    }
 
 -- A drive that is no dearer is kept, with what it was found with: of equal costs the last.
 unfoldable pub withDrive : Trial → ℕ → Kept → Kept
 withDrive x cost k =
     cond (leb cost (k .cost))
-    (record { drive = x; cost = cost; bound = k .bound; floor = k .floor; multipliers = k .multipliers; base = k .base; left = k .left; trees = k .trees; random = k .random })
+    (record {
+      drive = x;
+      cost = cost;
+      bound = k .bound;
+      floor = k .floor;
+      multipliers = k .multipliers;
+      base = k .base;
+      left = k .left;
+      trees = k .trees;
+      random = k .random;
+    })
     k
 
 -- A floor that is greater is kept, with what it was found with and its multipliers: of equal floors the first.
 unfoldable pub withFloor : Trial → ℤ → List ℤ → Kept → Kept
 withFloor x floor u k =
     cond (ltZ (k .floor) floor)
-    (record { drive = k .drive; cost = k .cost; bound = x; floor = floor; multipliers = u; base = k .base; left = k .left; trees = k .trees; random = k .random })
+    (record {
+      drive = k .drive;
+      cost = k .cost;
+      bound = x;
+      floor = floor;
+      multipliers = u;
+      base = k .base;
+      left = k .left;
+      trees = k .trees;
+      random = k .random;
+    })
     k
 
 -- A search of which no more trees are left is kept: the rounds go on there.
 unfoldable pub withBase : Trial → ℕ → Kept → Kept
 withBase x left k =
     cond (leb left (k .left))
-    (record { drive = k .drive; cost = k .cost; bound = k .bound; floor = k .floor; multipliers = k .multipliers; base = x; left = left; trees = k .trees; random = k .random })
+    (record {
+      drive = k .drive;
+      cost = k .cost;
+      bound = k .bound;
+      floor = k .floor;
+      multipliers = k .multipliers;
+      base = x;
+      left = left;
+      trees = k .trees;
+      random = k .random;
+    })
     k
 
 -- The trees of the round are counted, and the generator goes on.
 unfoldable pub counted : ℕ → ℕ → Kept → Kept
 counted trees random k =
-    record { drive = k .drive; cost = k .cost; bound = k .bound; floor = k .floor; multipliers = k .multipliers; base = k .base; left = k .left; trees = k .trees + trees; random = random }
+    record {
+      drive = k .drive;
+      cost = k .cost;
+      bound = k .bound;
+      floor = k .floor;
+      multipliers = k .multipliers;
+      base = k .base;
+      left = k .left;
+      trees = k .trees + trees;
+      random = random;
+    }
 
 -- Whether floor and cost meet.
 unfoldable pub isClosed : Kept → Bool
@@ -115,7 +166,8 @@ unfolding bestCost floorOf multipliersFor carriedIn leftOf newTrees withDrive wi
 roundWith p budget c k =
     let x = c .trial in
     let q = under p (x .numbering) in
-    counted (newTrees q budget (x .tries)) (c .random) (withBase x (leftOf q (x .tries)) (withFloor x (floorUnder p x) (carriedBack p x) (withDrive x (costOf p x) k)))
+    counted (newTrees q budget (x .tries)) (c .random)
+    (withBase x (leftOf q (x .tries)) (withFloor x (floorUnder p x) (carriedBack p x) (withDrive x (costOf p x) k)))
 
 unfoldable pub nextKept : Plan → ℕ → ℕ → Kept → Kept
 unfolding nextRound roundWith
@@ -125,7 +177,8 @@ nextKept p budget round k = roundWith p budget (nextRound p budget round k) k
 unfoldable pub keptAfter : Plan → ℕ → ℕ → Kept
 unfolding begun bestCost floorOf multipliersFor leftOf triedCount isClosed nextKept
 keptAfter p budget zero = begun budget (bestCost p budget) (floorOf p budget) (multipliersFor p) (leftOf p budget) (triedCount p budget)
-keptAfter p budget (suc r) = cond (isClosed (keptAfter p budget r)) (keptAfter p budget r) (nextKept p budget (r + 2) (keptAfter p budget r))
+keptAfter p budget (suc r) =
+    cond (isClosed (keptAfter p budget r)) (keptAfter p budget r) (nextKept p budget (r + 2) (keptAfter p budget r))
 
 -- ---- the answer
 

@@ -1,5 +1,5 @@
 // What the rounds so far have found.
-// A step for other crates, which asks something of its caller.
+// Steps for other crates, which ask something of their caller.
 use crate::trial::Trial;
 use held_tree::found::Found;
 use renumbering::numbering::identity;
@@ -9,8 +9,8 @@ ghost use lib.IntN.{pos};
 ghost use lib.Signed.{leZ};
 ghost use Rattle.rounds.specs.Rounds.{begun, withDrive, withFloor, withBase, counted};
 
-// The least cost with what it was found with, the greatest floor with the same and its multipliers, which are carried back, the search that is gone on with and how many trees are left of it, the trees of all rounds, and where
-// the generator stands.
+// The least cost with what it was found with, the greatest floor with the same and its multipliers, which are carried back, the search that
+// is gone on with and how many trees are left of it, the trees of all rounds, and where the generator stands.
 pub struct Kept {
     pub drive: Trial,
     pub cost: u64,

@@ -59,7 +59,11 @@ fn chosen_of(a: u64, b: u64, new: Reached, old: Reached) -> Reached
 // What is kept of a round.
 fn kept_of(k: Kept, c: Chosen, a: Found, trees: u32) -> Kept
     requires { ⌜ (k .trees ≤ 1000000000) × (trees ≤ 1000000000) × Inside (c .trial .numbering .to) ⌝ }
-    ensures { λ r. ⌜ r ≡ counted trees (c .random) (withBase (c .trial) (a .number - c .trial .tries) (withFloor (c .trial) (a .floor) (carriedIn (c .trial .numbering .to) (a .multipliers)) (withDrive (c .trial) (a .best .cost) k))) ⌝ }
+    ensures { λ r.
+        ⌜ r ≡ counted trees (c .random)
+        (withBase (c .trial) (a .number - c .trial .tries)
+        (withFloor (c .trial) (a .floor) (carriedIn (c .trial .numbering .to) (a .multipliers))
+        (withDrive (c .trial) (a .best .cost) k))) ⌝ }
 {
     let x = c.trial;
     let numbering = x.numbering;
@@ -74,7 +78,8 @@ fn kept_of(k: Kept, c: Chosen, a: Found, trees: u32) -> Kept
 
 // The next round.
 fn next_round(plan: Plan, table: &[[u32; 64]; 64], budget: u32, round: u32, d: Deep) -> Deep
-    requires { ⌜ HasTable (planValue plan) (now table) × (planRefusal (planValue plan) ≡ none) × GoesOn (planValue plan) (d .kept) × IsHeld (planValue plan) d ⌝ }
+    requires { ⌜ HasTable (planValue plan) (now table) × (planRefusal (planValue plan) ≡ none) × GoesOn (planValue plan) (d .kept)
+        × IsHeld (planValue plan) d ⌝ }
     requires { ⌜ (1 ≤ budget) × (budget ≤ 1000000) ⌝ }
     ensures { λ r. ⌜ (r .kept ≡ nextKept (planValue plan) budget round (d .kept)) × IsHeld (planValue plan) r ⌝ }
 {
@@ -112,7 +117,8 @@ pub fn first_round(plan: Plan, table: &[[u32; 64]; 64], budget: u32) -> Deep
 
 // The rounds after the first, until floor and cost meet.
 pub fn deepen(plan: Plan, table: &[[u32; 64]; 64], budget: u32, rounds: u32, first: Deep) -> Deep
-    requires { ⌜ HasTable (planValue plan) (now table) × (planRefusal (planValue plan) ≡ none) × (first .kept ≡ keptAfter (planValue plan) budget 0) × IsHeld (planValue plan) first ⌝ }
+    requires { ⌜ HasTable (planValue plan) (now table) × (planRefusal (planValue plan) ≡ none)
+        × (first .kept ≡ keptAfter (planValue plan) budget 0) × IsHeld (planValue plan) first ⌝ }
     requires { ⌜ (1 ≤ budget) × (budget ≤ 1000000) × (1 ≤ rounds) × (rounds ≤ 1000) ⌝ }
     ensures { λ r. ⌜ (r .kept ≡ keptAfter (planValue plan) budget (rounds - 1)) × IsHeld (planValue plan) r ⌝ }
 {

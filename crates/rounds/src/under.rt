@@ -1,5 +1,5 @@
 // The search and the drive of a plan under a numbering, over the tables of the file's plan, which are renumbered and not computed again.
-// A step for other crates, which asks something of its caller.
+// Steps for other crates, which ask something of their caller.
 use crate::trial::Trial;
 use held_tree::found::Found;
 use held_tree::found::found_tabled;
@@ -25,7 +25,8 @@ ghost use Rattle.rounds.specs.Tabled.{HasTable, IsTabled, IsTrial};
 
 // So many trees under a numbering, from those that were tried.
 pub(crate) fn found_under(plan: Plan, table: &[[u32; 64]; 64], x: Trial, g: Reached) -> Found
-    requires { ⌜ HasTable (planValue plan) (now table) × (planRefusal (planValue plan) ≡ none) × IsTrial (planValue plan) x × CanGoOn (under (planValue plan) (x .numbering)) (x .tries) g ⌝ }
+    requires { ⌜ HasTable (planValue plan) (now table) × (planRefusal (planValue plan) ≡ none) × IsTrial (planValue plan) x
+        × CanGoOn (under (planValue plan) (x .numbering)) (x .tries) g ⌝ }
     ensures { λ r. ⌜ IsFound (under (planValue plan) (x .numbering)) (x .tries) r ⌝ }
 {
     let numbering = x.numbering;
@@ -45,8 +46,12 @@ pub fn lay_under(
     g: Reached,
     sheet: &mut [u16],
 ) -> Laid
-    requires { ⌜ IsTabled (planValue plan) (now table) (now weights) × (planRefusal (planValue plan) ≡ none) × IsTrial (planValue plan) x × IsBest (under (planValue plan) (x .numbering)) (x .tries) g × (sheetPlaces ≤ length (now sheet)) ⌝ }
-    ensures { λ r. ⌜ (now (sheet .exit) ≡ written (tourOf (under (planValue plan) (x .numbering)) (x .tries)) (now (sheet .entry))) × (r .places ≡ length (tourOf (under (planValue plan) (x .numbering)) (x .tries))) × (r .parts ≡ componentCount (under (planValue plan) (x .numbering))) ⌝ }
+    requires { ⌜ IsTabled (planValue plan) (now table) (now weights) × (planRefusal (planValue plan) ≡ none) × IsTrial (planValue plan) x
+        × IsBest (under (planValue plan) (x .numbering)) (x .tries) g × (sheetPlaces ≤ length (now sheet)) ⌝ }
+    ensures { λ r.
+        ⌜ (now (sheet .exit) ≡ written (tourOf (under (planValue plan) (x .numbering)) (x .tries)) (now (sheet .entry)))
+        × (r .places ≡ length (tourOf (under (planValue plan) (x .numbering)) (x .tries)))
+        × (r .parts ≡ componentCount (under (planValue plan) (x .numbering))) ⌝ }
 {
     let numbering = x.numbering;
     let to = numbering.to;

@@ -8,7 +8,8 @@ use Rattle.postman.specs.Link.{Link}
 use Rattle.postman.specs.Component.{componentCount}
 use Rattle.postman.specs.Balancing.{heads, tails, completionCost}
 use Rattle.postman.specs.PlanCall.{triedCount, isWhole, bestCost, bestArborescence}
-use Rattle.residual_search.specs.Step.{cell, add}
+use Rattle.postman.specs.Steps.{cell}
+use Rattle.residual_search.specs.Step.{add}
 use Rattle.branches.specs.declared.branch.Branch.{Branch}
 use Rattle.search.specs.declared.last.Completed.{Completed}
 use Rattle.tree_bounds.specs.declared.pricing.Pricing.{Pricing}
@@ -19,7 +20,7 @@ use Rattle.branches.specs.Progress.{tryTree, advance}
 use Rattle.tree_bounds.specs.Bound.{Low}
 use Rattle.tree_bounds.specs.Reducible.{AreLevelled, CanLevel}
 use Rattle.tree_bounds.specs.Pricing.{Prices}
-use Rattle.branches.specs.Holding.{heldOf}
+use Rattle.branches.specs.Holding.{heldIn}
 use Rattle.branches.specs.Branches.{CanLink, chosenIn, repricedBranch, stateIn}
 
 -- The link from tail to head can complete a tree, by the potentials w.
@@ -32,13 +33,16 @@ pub record CanComplete (table : List (List ℕ)) (vs f : List ℕ) (b : Branch) 
   pub level : CanLevel (add (cell table) vs (stateIn f (repricedBranch b w)) tail head .potentials) vs
 
 -- Its tree was tried, and the potentials are those that it has raised, from that of the first vertex on.
-pub record IsCompleted (table : List (List ℕ)) (vs f : List ℕ) (b : Branch) (w : List ℕ) (tail head : ℕ) (g : Progress) (r : Completed) : Type 0 where
-  pub tried : (m : ℕ) → heldOf m (r .progress) ≡ tryTree (λ t. b .fixed + cell table tail head + add (cell table) vs (stateIn f (repricedBranch b w)) tail head .cost) (heldOf m g)
+pub record IsCompleted (table : List (List ℕ)) (vs f : List ℕ) (b : Branch) (w : List ℕ) (tail head : ℕ) (g : Progress)
+    (r : Completed) : Type 0 where
+  pub tried : (m : ℕ)
+      → heldIn m (r .progress)
+      ≡ tryTree (λ t. b .fixed + cell table tail head + add (cell table) vs (stateIn f (repricedBranch b w)) tail head .cost) (heldIn m g)
       (linksIn m (set (b .tails) (b .a - 1) tail) (set (b .heads) (b .a - 1) head))
   pub levelled : AreLevelled (add (cell table) vs (stateIn f (repricedBranch b w)) tail head .potentials) vs (length vs) (r .potentials)
 
 -- Prices of a branch, and their bound.
-pub record IsPriced (p : Plan) (table : List (List ℕ)) (b : Branch) (r : Pricing) : Type 0 where
+pub record IsBranchPriced (p : Plan) (table : List (List ℕ)) (b : Branch) (r : Pricing) : Type 0 where
   pub prices : Prices p table (chosenIn b) (b .a) r
   pub rest : ℕ
   pub low : Low p table (r .potentials) rest (b .a + 1)
@@ -47,7 +51,7 @@ pub record IsPriced (p : Plan) (table : List (List ℕ)) (b : Branch) (r : Prici
 
 -- The trees ts were gone through.
 abbrev pub IsExplored : Plan → List (List Link) → Progress → Progress → Type 0
-IsExplored p ts before after = heldOf (componentCount p - 1) after ≡ advance (completionCost p) (heldOf (componentCount p - 1) before) ts
+IsExplored p ts before after = heldIn (componentCount p - 1) after ≡ advance (completionCost p) (heldIn (componentCount p - 1) before) ts
 
 pub record IsSearched (p : Plan) (budget : ℕ) (r : Searched) : Type 0 where
   pub cost : r .cost ≡ bestCost p budget

@@ -18,13 +18,14 @@ ghost use Rattle.postman.specs.Plan.{Plan};
 ghost use Rattle.tree_bounds.specs.Bound.{reducedBy};
 ghost use Rattle.branches.specs.Progress.{passOver};
 ghost use Rattle.tree_bounds.specs.Prepared.{Prepared};
-ghost use Rattle.search.specs.Contracts.{IsExplored, IsPriced};
+ghost use Rattle.search.specs.Contracts.{IsExplored, IsBranchPriced};
 ghost use Rattle.branches.specs.Branches.{IsBranch, chosenIn, linkOf, treesIn};
-ghost use Rattle.branches.specs.Holding.{heldOf, isEntered, IsShort};
+ghost use Rattle.branches.specs.Holding.{heldIn, isEntered, IsShort};
 ghost use Rattle.tree_bounds.specs.Pricing.{Prices};
 ghost use Rattle.tree_bounds.specs.Reducible.{CanReduce};
 
-// What is held after trees of a branch, and prices of the branch: those of the tree that was tried last, without the links that are not the branch's.
+// What is held after trees of a branch, and prices of the branch: those of the tree that was tried last,
+// without the links that are not the branch's.
 pub struct Explored {
     pub progress: Progress,
     pub pricing: Pricing,
@@ -40,8 +41,14 @@ fn begun(
     heads: &[u8; 4096],
     k: usize,
 ) -> Explored
-    requires { ⌜ ((p : Plan) × (vs : List ℕ) × (source : List ℕ) × (f : List ℕ) × Prepared p (now d) vs (now start) source (now tails) (now heads) k × IsBranch p (now d) f b) × (b .a < k) ⌝ }
-    ensures { λ r. ⌜ (r .progress ≡ g) × ((p : Plan) (vs source f : List ℕ) → Prepared p (now (d .entry)) vs (now (start .entry)) source (now (tails .entry)) (now (heads .entry)) k → IsBranch p (now (d .entry)) f b → IsPriced p (now (d .entry)) b (r .pricing)) ⌝ }
+    requires { ⌜
+        ((p : Plan) × (vs : List ℕ) × (source : List ℕ) × (f : List ℕ) × Prepared p (now d) vs (now start) source (now tails) (now heads) k
+        × IsBranch p (now d) f b) × (b .a < k) ⌝ }
+    ensures { λ r.
+        ⌜ (r .progress ≡ g)
+        × ((p : Plan) (vs source f : List ℕ)
+        → Prepared p (now (d .entry)) vs (now (start .entry)) source (now (tails .entry)) (now (heads .entry)) k
+        → IsBranch p (now (d .entry)) f b → IsBranchPriced p (now (d .entry)) b (r .pricing)) ⌝ }
 {
     let u = b.potentials;
     let own = Pricing {
@@ -59,7 +66,9 @@ fn begun(
 // Whether the branch below a candidate is gone into.
 fn goes_into(e: Explored, d: &[[u32; 64]; 64], c: Candidate) -> bool
     requires { ⌜ CanReduce (now d) (e .pricing .potentials) (c .tail) (c .head) × (e .pricing .bound ≤ 3100000000000) ⌝ }
-    ensures { λ r. ⌜ r ≡ isEntered (e .progress) (c .trees) (e .pricing .bound + reducedBy (now (d .entry)) (e .pricing .potentials) (c .tail) (c .head)) ⌝ }
+    ensures { λ r.
+        ⌜ r ≡ isEntered (e .progress) (c .trees)
+        (e .pricing .bound + reducedBy (now (d .entry)) (e .pricing .potentials) (c .tail) (c .head)) ⌝ }
 {
     let g = e.progress;
     let q = e.pricing;
@@ -70,7 +79,7 @@ fn goes_into(e: Explored, d: &[[u32; 64]; 64], c: Candidate) -> bool
 
 // The trees behind a candidate are passed over, and counted at once.
 fn passed_over(e: Explored, c: Candidate) -> Explored
-    ensures { λ r. ⌜ ((m : ℕ) → heldOf m (r .progress) ≡ passOver (heldOf m (e .progress)) (c .trees)) × (r .pricing ≡ e .pricing) ⌝ }
+    ensures { λ r. ⌜ ((m : ℕ) → heldIn m (r .progress) ≡ passOver (heldIn m (e .progress)) (c .trees)) × (r .pricing ≡ e .pricing) ⌝ }
 {
     let g = e.progress;
     let prices = e.pricing;
@@ -81,7 +90,8 @@ fn passed_over(e: Explored, c: Candidate) -> Explored
     }
 }
 
-// The trees behind a candidate were gone through: the branch's prices are those that the branch below was left with, without the candidate's link.
+// The trees behind a candidate were gone through: the branch's prices are those that the branch below
+// was left with, without the candidate's link.
 fn backed_up(
     e: Explored,
     under: Explored,
@@ -93,8 +103,15 @@ fn backed_up(
     heads: &[u8; 4096],
     k: usize,
 ) -> Explored
-    requires { ⌜ ((p : Plan) × (vs : List ℕ) × (source : List ℕ) × (f : List ℕ) × Prepared p (now d) vs (now start) source (now tails) (now heads) k × IsBranch p (now d) f b × Prices p (now d) (chosenIn b) (b .a) (e .pricing) × Prices p (now d) (chosenIn b ++ linkOf c ∷ []) (b .a + 1) (under .pricing)) × (b .a < k) × (c .tail < 64) × (c .head < 64) ⌝ }
-    ensures { λ r. ⌜ (r .progress ≡ under .progress) × ((p : Plan) (vs source f : List ℕ) → Prepared p (now (d .entry)) vs (now (start .entry)) source (now (tails .entry)) (now (heads .entry)) k → IsBranch p (now (d .entry)) f b → Prices p (now (d .entry)) (chosenIn b) (b .a) (e .pricing) → Prices p (now (d .entry)) (chosenIn b ++ linkOf c ∷ []) (b .a + 1) (under .pricing) → IsPriced p (now (d .entry)) b (r .pricing)) ⌝ }
+    requires { ⌜ ((p : Plan) × (vs : List ℕ) × (source : List ℕ) × (f : List ℕ)
+        × Prepared p (now d) vs (now start) source (now tails) (now heads) k × IsBranch p (now d) f b
+        × Prices p (now d) (chosenIn b) (b .a) (e .pricing) × Prices p (now d) (chosenIn b ++ linkOf c ∷ []) (b .a + 1) (under .pricing))
+        × (b .a < k) × (c .tail < 64) × (c .head < 64) ⌝ }
+    ensures { λ r. ⌜ (r .progress ≡ under .progress)
+        × ((p : Plan) (vs source f : List ℕ) → Prepared p (now (d .entry)) vs (now (start .entry)) source (now (tails .entry)) (now
+        (heads .entry)) k → IsBranch p (now (d .entry)) f b → Prices p (now (d .entry)) (chosenIn b) (b .a) (e .pricing)
+        → Prices p (now (d .entry)) (chosenIn b ++ linkOf c ∷ []) (b .a + 1) (under .pricing)
+        → IsBranchPriced p (now (d .entry)) b (r .pricing)) ⌝ }
 {
     let old = e.pricing;
     let new = under.pricing;
@@ -107,8 +124,8 @@ fn backed_up(
     }
 }
 
-// One candidate of component a after the other: the branch below is passed over, or gone into with the amounts copied. Its trees are priced by the branch's own potentials, and after a
-// branch below was gone into by those that it was left with.
+// One candidate of component a after the other: the branch below is passed over, or gone into with the amounts copied. Its trees are priced
+// by the branch's own potentials, and after a branch below was gone into by those that it was left with.
 pub(crate) fn explore(
     g: Progress,
     b: Branch,
@@ -121,8 +138,12 @@ pub(crate) fn explore(
     heads: &[u8; 4096],
     k: usize,
 ) -> Explored
-    requires { ⌜ ((p : Plan) × Prepared p (now d) (now vs) (now start) (now source) (now tails) (now heads) k × IsBranch p (now d) (now f) b) × IsShort g × (b .a < k) ⌝ }
-    ensures { λ r. ⌜ ((p : Plan) → Prepared p (now (d .entry)) (now (vs .entry)) (now (start .entry)) (now (source .entry)) (now (tails .entry)) (now (heads .entry)) k → IsBranch p (now (d .entry)) (now (f .entry)) b → IsExplored p (treesIn p b) g (r .progress) × Prices p (now (d .entry)) (chosenIn b) (b .a) (r .pricing)) ⌝ }
+    requires { ⌜
+        ((p : Plan) × Prepared p (now d) (now vs) (now start) (now source) (now tails) (now heads) k × IsBranch p (now d) (now f) b)
+        × IsShort g × (b .a < k) ⌝ }
+    ensures { λ r. ⌜ ((p : Plan) → Prepared p (now (d .entry)) (now (vs .entry)) (now (start .entry)) (now (source .entry)) (now
+        (tails .entry)) (now (heads .entry)) k → IsBranch p (now (d .entry)) (now (f .entry)) b
+        → IsExplored p (treesIn p b) g (r .progress) × Prices p (now (d .entry)) (chosenIn b) (b .a) (r .pricing)) ⌝ }
 {
     let a = b.a;
     if a + 1 == k {

@@ -27,7 +27,8 @@ pub struct Completed {
     pub potentials: [u64; 64],
 }
 
-// The tree that the link from tail to head completes is tried. Its unit is not sent: the cost is what the raised potentials price it at. They certify the amounts without it too.
+// The tree that the link from tail to head completes is tried. Its unit is not sent: the cost is what the raised potentials price it
+// at. They certify the amounts without it too.
 fn complete<'a>(
     g: Progress,
     b: Branch,
@@ -83,8 +84,12 @@ pub(crate) fn last(
     tails: &[u8; 4096],
     heads: &[u8; 4096],
 ) -> Explored
-    requires { ⌜ ((p : Plan) × Prepared p (now d) (now vs) (now start) (now source) (now tails) (now heads) (b .a + 1) × IsBranch p (now d) (now f) b) × IsShort g ⌝ }
-    ensures { λ r. ⌜ ((p : Plan) → Prepared p (now (d .entry)) (now (vs .entry)) (now (start .entry)) (now (source .entry)) (now (tails .entry)) (now (heads .entry)) (b .a + 1) → IsBranch p (now (d .entry)) (now (f .entry)) b → IsExplored p (treesIn p b) g (r .progress) × Prices p (now (d .entry)) (chosenIn b) (b .a) (r .pricing)) ⌝ }
+    requires { ⌜
+        ((p : Plan) × Prepared p (now d) (now vs) (now start) (now source) (now tails) (now heads) (b .a + 1)
+        × IsBranch p (now d) (now f) b) × IsShort g ⌝ }
+    ensures { λ r. ⌜ ((p : Plan) → Prepared p (now (d .entry)) (now (vs .entry)) (now (start .entry)) (now (source .entry)) (now
+        (tails .entry)) (now (heads .entry)) (b .a + 1) → IsBranch p (now (d .entry)) (now (f .entry)) b
+        → IsExplored p (treesIn p b) g (r .progress) × Prices p (now (d .entry)) (chosenIn b) (b .a) (r .pricing)) ⌝ }
 {
     let a = b.a;
     let names = b.names;

@@ -59,8 +59,13 @@ pub fn advance(
     heads: &[u8; 4096],
     k: usize,
 ) -> Progress
-    requires { ⌜ ((p : Plan) × Prepared p (now d) (now vs) (now start) (now source) (now tails) (now heads) k × IsBranch p (now d) (now f) b) × IsShort g ⌝ }
-    ensures { λ r. ⌜ ((p : Plan) → Prepared p (now (d .entry)) (now (vs .entry)) (now (start .entry)) (now (source .entry)) (now (tails .entry)) (now (heads .entry)) k → IsBranch p (now (d .entry)) (now (f .entry)) b → IsExplored p (treesIn p b) g r) ⌝ }
+    requires { ⌜
+        ((p : Plan) × Prepared p (now d) (now vs) (now start) (now source) (now tails) (now heads) k × IsBranch p (now d) (now f) b)
+        × IsShort g ⌝ }
+    ensures { λ r.
+        ⌜ ((p : Plan)
+        → Prepared p (now (d .entry)) (now (vs .entry)) (now (start .entry)) (now (source .entry)) (now (tails .entry))
+        (now (heads .entry)) k → IsBranch p (now (d .entry)) (now (f .entry)) b → IsExplored p (treesIn p b) g r) ⌝ }
 {
     if b.a == k {
         let ts = b.tails;
@@ -84,8 +89,12 @@ pub fn search(
     k: usize,
     budget: u32,
 ) -> Searched
-    requires { ⌜ ((p : Plan) × Prepared p (now d) (now vs) (now start) (now source) (now tails) (now heads) k × IsRoot p (now d) (now f) b) × (1 ≤ budget) ⌝ }
-    ensures { λ r. ⌜ ((p : Plan) → Prepared p (now (d .entry)) (now (vs .entry)) (now (start .entry)) (now (source .entry)) (now (tails .entry)) (now (heads .entry)) k → IsRoot p (now (d .entry)) (now (f .entry)) b → IsSearched p budget r) ⌝ }
+    requires { ⌜ ((p : Plan) × Prepared p (now d) (now vs) (now start) (now source) (now tails) (now heads) k × IsRoot p (now d) (now f) b)
+        × (1 ≤ budget) ⌝ }
+    ensures { λ r.
+        ⌜ ((p : Plan)
+        → Prepared p (now (d .entry)) (now (vs .entry)) (now (start .entry)) (now (source .entry)) (now (tails .entry))
+        (now (heads .entry)) k → IsRoot p (now (d .entry)) (now (f .entry)) b → IsSearched p budget r) ⌝ }
 {
     let entries = b.entries;
     let counts = b.counts;

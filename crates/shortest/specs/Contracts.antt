@@ -1,4 +1,5 @@
--- What a row and a table of distances hold: for vertices from n on too, where d is 0 on the diagonal and else "no path". The same of least weights, by which paths are found.
+-- What a row and a table of distances hold: for vertices from n on too, where d is 0 on the diagonal and else "no path". The same
+-- of least weights, by which paths are found.
 use mathlib.Core.Path.{_≡_}
 use mathlib.Core.List.{List, [], _++_}
 use Prim.Native.Nat.{ℕ, _+_, _<_}

@@ -1,5 +1,6 @@
--- Cost and number of arcs in one number: an arc weighs 64 × its cost + 1. A path that enters no vertex twice has at most 63 arcs, so that of two such paths the cheaper is
--- lighter, and of two that cost the same the one of fewer arcs. Every arc weighs something, whatever it costs.
+-- Cost and number of arcs in one number: an arc weighs 64 × its cost + 1. A path that enters no vertex twice has at
+-- most 63 arcs, so that of two such paths the cheaper is lighter, and of two that cost the same the one of fewer arcs.
+-- Every arc weighs something, whatever it costs.
 use mathlib.Core.Bool.{cond}
 use mathlib.Core.List.{List, map}
 use Prim.Native.Nat.{ℕ, _+_, _*_, _/_}

@@ -1,4 +1,5 @@
-// Least weights from all vertices at once: in place 64 v + i stands what is known of the weight from i to v, so that an arc is relaxed for all sources side by side.
+// Least weights from all vertices at once: in place 64 v + i stands what is known of the weight from i to v, so that an
+// arc is relaxed for all sources side by side.
 use crate::weights::NO_PATH;
 use crate::weights::arc_weight;
 use crate::weights::shorter;
@@ -16,7 +17,8 @@ ghost use Rattle.shortest.specs.Contracts.{IsRow};
 // An arc of weight w from t to h relaxed, for every source.
 fn relax_all(c: &mut [u32; 4096], t: usize, h: usize, w: u32)
     requires { ⌜ (t < 64) × (h < 64) × (length (now c) ≡ 4096) ⌝ }
-    ensures { λ r. ⌜ (length (now (c .exit)) ≡ 4096) × ((i : ℕ) → i < 64 → rowFrom (now (c .exit)) i ≡ relaxBy t h w (rowFrom (now (c .entry)) i)) ⌝ }
+    ensures { λ r.
+        ⌜ (length (now (c .exit)) ≡ 4096) × ((i : ℕ) → i < 64 → rowFrom (now (c .exit)) i ≡ relaxBy t h w (rowFrom (now (c .entry)) i)) ⌝ }
 {
     for i in 0..64usize {
         c[h * 64 + i] = shorter(c[t * 64 + i], w, c[h * 64 + i]);
@@ -26,7 +28,9 @@ fn relax_all(c: &mut [u32; 4096], t: usize, h: usize, w: u32)
 // Each arc of the plan relaxed once, for every source.
 fn round_all(plan: Plan, c: &mut [u32; 4096])
     requires { ⌜ WellFormed (planValue plan) × (length (now c) ≡ 4096) ⌝ }
-    ensures { λ r. ⌜ (length (now (c .exit)) ≡ 4096) × ((i : ℕ) → i < 64 → rowFrom (now (c .exit)) i ≡ relaxArcs (weighted (planValue plan) .arcs) (rowFrom (now (c .entry)) i)) ⌝ }
+    ensures { λ r.
+        ⌜ (length (now (c .exit)) ≡ 4096)
+        × ((i : ℕ) → i < 64 → rowFrom (now (c .exit)) i ≡ relaxArcs (weighted (planValue plan) .arcs) (rowFrom (now (c .entry)) i)) ⌝ }
 {
     let m = plan.m as usize;
     for k in 0..m {

@@ -1,5 +1,5 @@
-// Least weights of a plan's paths: rows by rounds of relaxing, and the table of all rows. An arc weighs 64 × its cost + 1, so that a lightest path is a cheapest one, of the
-// fewest arcs.
+// Least weights of a plan's paths: rows by rounds of relaxing, and the table of all rows. An arc weighs 64 × its cost + 1, so that a
+// lightest path is a cheapest one, of the fewest arcs.
 // Steps for other crates, which ask something of their caller.
 use crate::columns::row_from;
 use crate::columns::settled;

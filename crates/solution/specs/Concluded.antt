@@ -20,7 +20,8 @@ use Rattle.solution.specs.declared.Planned.{Planned}
 
 -- "The floor is the cost if whole, else the larger of L(0) and L(u), with the u that the answer holds."
 abbrev pub floorWith : Plan → Bool → ℕ → ℤ
-floorWith p whole cost = cond whole (pos cost) (maxℤ (lagrangianBound p (λ i. pos 0)) (lagrangianBound p (λ i. getD (multipliersFor p) i (pos 0))))
+floorWith p whole cost =
+    cond whole (pos cost) (maxℤ (lagrangianBound p (λ i. pos 0)) (lagrangianBound p (λ i. getD (multipliersFor p) i (pos 0))))
 
 -- The tree t, of that cost, where so many trees were tried: the places of its drive are counted, and u is the plan's.
 abbrev pub concluded : Plan → List Link → ℕ → ℕ → Bool → Planned

@@ -30,8 +30,9 @@ unfoldable pub countUnless : Option ℕ → ℕ → ℕ
 countUnless none n = n
 countUnless (some r) n = 0
 
--- What an answer that is no refusal is: some arc is required, every two required vertices are joined, and some tree may be tried; u meets the two conditions, is a function of the plan alone, and gives a
--- bound no lower than the greatest multipliers that are 0 at the lowest required vertex; the written places are a drive of the cost, and DEMAND 3 HOLDS.
+-- What an answer that is no refusal is: some arc is required, every two required vertices are joined, and some tree may be tried; u meets
+-- the two conditions, is a function of the plan alone, and gives a bound no lower than the greatest multipliers that are 0 at the lowest
+-- required vertex; the written places are a drive of the cost, and DEMAND 3 HOLDS.
 pub record IsAnswer (p : Plan) (budget : ℕ) (r : Planned) : Type 0 where
   pub plannable : Plannable p
   pub some-budget : 1 ≤ budget

@@ -1,5 +1,6 @@
--- What a raised budget buys: "For one plan […] and two budgets, the larger gives a drive no dearer and a floor no lower. u depends on the plan alone […], so two answers that
--- aren't whole have equal floors." r is the answer at the smaller budget and s the one at the larger, neither of them a refusal, and the sheets are those at exit.
+-- What a raised budget buys: "For one plan […] and two budgets, the larger gives a drive no dearer and a floor no lower. u depends on the
+-- plan alone […], so two answers that aren't whole have equal floors." r is the answer at the smaller budget and s the one at the larger,
+-- neither of them a refusal, and the sheets are those at exit.
 use mathlib.Core.Path.{_≡_}
 use mathlib.Core.Bool.{true, false}
 use mathlib.Core.List.{List}

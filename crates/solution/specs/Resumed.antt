@@ -25,10 +25,12 @@ turnOf total n = min turnTrees (total - n)
 abbrev pub afterTurn : ℕ → ℕ → ℕ
 afterTurn total n = n + turnOf total n
 
--- The best once n more trees are tried after the first m: of the first n, where none was tried before; else of what is held and the n trees after the first m.
+-- The best once n more trees are tried after the first m: of the first n, where none was tried before; else of
+-- what is held and the n trees after the first m.
 unfoldable pub triedOn : Plan → ℕ → List Link → ℕ → ℕ → Held
 unfolding bestCost bestArborescence advance completionCost arborescences
-triedOn p cost links m n = cond (eqb m 0) (held (bestCost p n) (bestArborescence p n) 0 0) (advance (completionCost p) (held cost links m n) (arborescences p))
+triedOn p cost links m n =
+    cond (eqb m 0) (held (bestCost p n) (bestArborescence p n) 0 0) (advance (completionCost p) (held cost links m n) (arborescences p))
 
 -- The links that are held, whatever stands in the arrays behind them; and what is held after a turn, whatever was held before it.
 abbrev pub linksBy : Plan → Reached → List Link

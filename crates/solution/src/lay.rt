@@ -1,5 +1,5 @@
 // The drive of an arborescence.
-// A step for other crates, which asks something of its caller.
+// Steps for other crates, which ask something of their caller.
 use balance::state::Balance;
 use network::network::Network;
 use plan::Plan;
@@ -19,8 +19,8 @@ ghost use Rattle.multipliers.specs.Tour.{amountsOf, driveOf};
 ghost use Rattle.multipliers.specs.Prepared.{IsBase, IsTree};
 ghost use Rattle.solution.specs.Resumed.{HoldsTree};
 
-// Writes the drive of the arborescence with these links: they are added to the state of the required arcs, the amounts are made direct, and paths are found by the table of
-// weights.
+// Writes the drive of the arborescence with these links: they are added to the state of the required arcs, the amounts are made direct,
+// and paths are found by the table of weights.
 fn lay(
     plan: Plan,
     table: &[[u32; 64]; 64],
@@ -31,9 +31,16 @@ fn lay(
     heads: &[u8],
     sheet: &mut [u16],
 ) -> usize
-    requires { ⌜ IsBase (planValue plan) (now table) (now vs) (stateOf base) × IsTree (planValue plan) (now tails) (now heads) × (sheetPlaces ≤ length (now sheet)) × AreWeights (planValue plan) (now weights) ⌝ }
-    ensures { λ r. ⌜ now (sheet .exit) ≡ written (tour (planValue plan) (linksOf (now (tails .entry)) (now (heads .entry))) (amountsOf (planValue plan) (linksOf (now (tails .entry)) (now (heads .entry))))) (now (sheet .entry)) ⌝ }
-    ensures { λ r. ⌜ r ≡ length (tour (planValue plan) (linksOf (now (tails .entry)) (now (heads .entry))) (amountsOf (planValue plan) (linksOf (now (tails .entry)) (now (heads .entry))))) ⌝ }
+    requires { ⌜ IsBase (planValue plan) (now table) (now vs) (stateOf base) × IsTree (planValue plan) (now tails) (now heads)
+        × (sheetPlaces ≤ length (now sheet)) × AreWeights (planValue plan) (now weights) ⌝ }
+    ensures { λ r.
+        ⌜ now (sheet .exit)
+        ≡ written (tour (planValue plan) (linksOf (now (tails .entry)) (now (heads .entry)))
+        (amountsOf (planValue plan) (linksOf (now (tails .entry)) (now (heads .entry))))) (now (sheet .entry)) ⌝ }
+    ensures { λ r.
+        ⌜ r ≡ length
+        (tour (planValue plan) (linksOf (now (tails .entry)) (now (heads .entry)))
+        (amountsOf (planValue plan) (linksOf (now (tails .entry)) (now (heads .entry))))) ⌝ }
 {
     let full = balance::state::add_all(base, table, vs, tails, heads);
     let amounts = direct_amounts::direct::direct_amounts(full, table, vs);
@@ -52,8 +59,11 @@ pub fn lay_held(
     heads: [u8; 8],
     sheet: &mut [u16],
 ) -> usize
-    requires { ⌜ IsBase (planValue plan) (now table) (now vs) (stateOf base) × IsNetwork (planValue plan) net × HoldsTree (planValue plan) tails heads × (sheetPlaces ≤ length (now sheet)) × AreWeights (planValue plan) (now weights) ⌝ }
-    ensures { λ r. ⌜ now (sheet .exit) ≡ written (driveOf (planValue plan) (linksIn (componentCount (planValue plan) - 1) tails heads)) (now (sheet .entry)) ⌝ }
+    requires { ⌜ IsBase (planValue plan) (now table) (now vs) (stateOf base) × IsNetwork (planValue plan) net
+        × HoldsTree (planValue plan) tails heads × (sheetPlaces ≤ length (now sheet)) × AreWeights (planValue plan) (now weights) ⌝ }
+    ensures { λ r.
+        ⌜ now (sheet .exit)
+        ≡ written (driveOf (planValue plan) (linksIn (componentCount (planValue plan) - 1) tails heads)) (now (sheet .entry)) ⌝ }
     ensures { λ r. ⌜ r ≡ length (driveOf (planValue plan) (linksIn (componentCount (planValue plan) - 1) tails heads)) ⌝ }
 {
     let k = net.components as usize;

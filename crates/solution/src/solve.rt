@@ -39,7 +39,8 @@ pub fn floor_found(
     whole: bool,
     cost: u64,
 ) -> i64
-    requires { ⌜ IsBase (planValue plan) (now table) (now vs) (stateOf base) × (u ≡ multipliersFor (planValue plan)) × (bound ≡ boundOf (planValue plan) u) × IsNetwork (planValue plan) net × (cost ≤ 4398046511104) ⌝ }
+    requires { ⌜ IsBase (planValue plan) (now table) (now vs) (stateOf base) × (u ≡ multipliersFor (planValue plan))
+        × (bound ≡ boundOf (planValue plan) u) × IsNetwork (planValue plan) net × (cost ≤ 4398046511104) ⌝ }
     ensures { λ r. ⌜ r ≡ floorWith (planValue plan) whole cost ⌝ }
 {
     let k = net.components as usize;
@@ -59,7 +60,8 @@ pub fn floor_found(
     )
 }
 
-// The drive of the tree that is held is written, and the floor is computed, from the state of the required arcs. `bound` is L(u), which the ascent has computed.
+// The drive of the tree that is held is written, and the floor is computed, from the state of the required arcs.
+// `bound` is L(u), which the ascent has computed.
 pub fn conclude(
     plan: Plan,
     table: &[[u32; 64]; 64],
@@ -72,8 +74,10 @@ pub fn conclude(
     s: Searched,
     sheet: &mut [u16],
 ) -> Planned
-    requires { ⌜ IsBase (planValue plan) (now table) (now vs) (stateOf base) × (u ≡ multipliersFor (planValue plan)) × (bound ≡ boundOf (planValue plan) u) ⌝ }
-    requires { ⌜ IsNetwork (planValue plan) net × HoldsTree (planValue plan) (s .tails) (s .heads) × (s .cost ≤ 4398046511104) × (sheetPlaces ≤ length (now sheet)) × AreWeights (planValue plan) (now weights) ⌝ }
+    requires { ⌜ IsBase (planValue plan) (now table) (now vs) (stateOf base) × (u ≡ multipliersFor (planValue plan))
+        × (bound ≡ boundOf (planValue plan) u) ⌝ }
+    requires { ⌜ IsNetwork (planValue plan) net × HoldsTree (planValue plan) (s .tails) (s .heads) × (s .cost ≤ 4398046511104)
+        × (sheetPlaces ≤ length (now sheet)) × AreWeights (planValue plan) (now weights) ⌝ }
     ensures { λ r. ⌜ IsConcluded (planValue plan) s (now (sheet .entry)) (now (sheet .exit)) r ⌝ }
 {
     let ts = s.tails;
@@ -105,8 +109,10 @@ pub(crate) fn finish(
     budget: u32,
     sheet: &mut [u16],
 ) -> Planned
-    requires { ⌜ IsBase (planValue plan) (now table) (now vs) (stateOf base) × (u ≡ multipliersFor (planValue plan)) × (bound ≡ boundOf (planValue plan) u) ⌝ }
-    requires { ⌜ IsNetwork (planValue plan) net × (1 ≤ budget) × (sheetPlaces ≤ length (now sheet)) × AreWeights (planValue plan) (now weights) ⌝ }
+    requires { ⌜ IsBase (planValue plan) (now table) (now vs) (stateOf base) × (u ≡ multipliersFor (planValue plan))
+        × (bound ≡ boundOf (planValue plan) u) ⌝ }
+    requires { ⌜ IsNetwork (planValue plan) net × (1 ≤ budget) × (sheetPlaces ≤ length (now sheet))
+        × AreWeights (planValue plan) (now weights) ⌝ }
     ensures { λ r. ⌜ IsPlanned (planValue plan) budget none (now (sheet .entry)) (now (sheet .exit)) r ⌝ }
 {
     let s = best(plan, table, vs, net, base, u, budget);
@@ -124,7 +130,8 @@ pub fn solve(
     sheet: &mut [u16],
 ) -> Planned
     requires { ⌜ IsKnown (planValue plan) (now table) (now vs) ⌝ }
-    requires { ⌜ IsNetwork (planValue plan) net × (1 ≤ budget) × (sheetPlaces ≤ length (now sheet)) × AreWeights (planValue plan) (now weights) ⌝ }
+    requires { ⌜ IsNetwork (planValue plan) net × (1 ≤ budget) × (sheetPlaces ≤ length (now sheet))
+        × AreWeights (planValue plan) (now weights) ⌝ }
     ensures { λ r. ⌜ IsPlanned (planValue plan) budget none (now (sheet .entry)) (now (sheet .exit)) r ⌝ }
 {
     let base = base_state(plan, table, vs);

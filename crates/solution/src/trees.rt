@@ -56,7 +56,8 @@ struct Begun {
     number: u64,
 }
 
-// The root's potentials are the multipliers that are answered. The trees are counted once: how many each branch below the root has, and their sum.
+// The root's potentials are the multipliers that are answered. The trees are counted once: how many
+// each branch below the root has, and their sum.
 fn begin(
     plan: Plan,
     table: &[[u32; 64]; 64],
@@ -65,7 +66,8 @@ fn begin(
     base: Balance,
     u: [i64; 64],
 ) -> Begun
-    requires { ⌜ IsBase (planValue plan) (now table) (now vs) (stateOf base) × (u ≡ multipliersFor (planValue plan)) × IsNetwork (planValue plan) net ⌝ }
+    requires { ⌜ IsBase (planValue plan) (now table) (now vs) (stateOf base) × (u ≡ multipliersFor (planValue plan))
+        × IsNetwork (planValue plan) net ⌝ }
     ensures { λ r. ⌜ IsBegun (planValue plan) (now (table .entry)) (now (vs .entry)) (base .amounts) (net .components) r ⌝ }
 {
     let c = candidates::of_network(net);
@@ -118,7 +120,8 @@ pub(crate) fn best(
     u: [i64; 64],
     budget: u32,
 ) -> Searched
-    requires { ⌜ IsBase (planValue plan) (now table) (now vs) (stateOf base) × (u ≡ multipliersFor (planValue plan)) × IsNetwork (planValue plan) net × (1 ≤ budget) ⌝ }
+    requires { ⌜ IsBase (planValue plan) (now table) (now vs) (stateOf base) × (u ≡ multipliersFor (planValue plan))
+        × IsNetwork (planValue plan) net × (1 ≤ budget) ⌝ }
     ensures { λ r. ⌜ IsSearched (planValue plan) budget r ⌝ }
 {
     let s = begin(plan, table, vs, net, base, u);
@@ -171,7 +174,8 @@ fn first_tried(
     n: u32,
 ) -> Reached
     requires { ⌜ IsBegun (planValue plan) (now table) (now vs) (base .amounts) k s × (1 ≤ n) ⌝ }
-    ensures { λ r. ⌜ (r .tried ≡ n) × (r .cost ≡ bestCost (planValue plan) n) × (linksBy (planValue plan) r ≡ bestArborescence (planValue plan) n) ⌝ }
+    ensures { λ r.
+        ⌜ (r .tried ≡ n) × (r .cost ≡ bestCost (planValue plan) n) × (linksBy (planValue plan) r ≡ bestArborescence (planValue plan) n) ⌝ }
 {
     let r = searched(plan, table, vs, k, base, s, n);
     let ts = r.tails;
@@ -195,8 +199,11 @@ fn tried_on(
     g: Reached,
     more: u32,
 ) -> Reached
-    requires { ⌜ IsBegun (planValue plan) (now table) (now vs) (base .amounts) k s × (1 ≤ g .tried + more) × (g .tried ≤ 1000000000) × (more ≤ 1000000000) ⌝ }
-    ensures { λ r. ⌜ (r .tried ≡ g .tried + more) × (r .cost ≡ triedOn (planValue plan) (g .cost) (linksBy (planValue plan) g) (g .tried) more .cost) × (linksBy (planValue plan) r ≡ triedOn (planValue plan) (g .cost) (linksBy (planValue plan) g) (g .tried) more .links) ⌝ }
+    requires { ⌜ IsBegun (planValue plan) (now table) (now vs) (base .amounts) k s × (1 ≤ g .tried + more) × (g .tried ≤ 1000000000)
+        × (more ≤ 1000000000) ⌝ }
+    ensures { λ r.
+        ⌜ (r .tried ≡ g .tried + more) × (r .cost ≡ triedOn (planValue plan) (g .cost) (linksBy (planValue plan) g) (g .tried) more .cost)
+        × (linksBy (planValue plan) r ≡ triedOn (planValue plan) (g .cost) (linksBy (planValue plan) g) (g .tried) more .links) ⌝ }
 {
     if g.tried == 0 {
         return first_tried(plan, table, vs, k, base, s, more);
@@ -234,7 +241,8 @@ pub fn resume(
     budget: u32,
     g: Reached,
 ) -> Resumed
-    requires { ⌜ IsBase (planValue plan) (now table) (now vs) (stateOf base) × (u ≡ multipliersFor (planValue plan)) × IsNetwork (planValue plan) net × (1 ≤ budget) × (g .tried ≤ 1000000) ⌝ }
+    requires { ⌜ IsBase (planValue plan) (now table) (now vs) (stateOf base) × (u ≡ multipliersFor (planValue plan))
+        × IsNetwork (planValue plan) net × (1 ≤ budget) × (g .tried ≤ 1000000) ⌝ }
     ensures { λ r. ⌜ IsResumed (planValue plan) budget g r ⌝ }
 {
     let s = begin(plan, table, vs, net, base, u);
@@ -266,7 +274,8 @@ pub fn go_on(
     tries: u32,
     g: Reached,
 ) -> Further
-    requires { ⌜ IsBase (planValue plan) (now table) (now vs) (stateOf base) × (u ≡ multipliersFor (planValue plan)) × IsNetwork (planValue plan) net ⌝ }
+    requires { ⌜ IsBase (planValue plan) (now table) (now vs) (stateOf base) × (u ≡ multipliersFor (planValue plan))
+        × IsNetwork (planValue plan) net ⌝ }
     requires { ⌜ (1 ≤ tries) × (tries ≤ 1000000000) × IsReachedBy (planValue plan) g × (g .tried ≤ triedCount (planValue plan) tries) ⌝ }
     ensures { λ r. ⌜ IsSearched (planValue plan) tries (r .found) × (r .number ≡ min (arborescenceCount (planValue plan)) cap) ⌝ }
 {

@@ -1,7 +1,7 @@
 -- The legs of a tour: each required arc once, each link of an arborescence once, and each unit of the amounts that balance them once.
 use mathlib.Core.Bool.{not}
 use mathlib.Core.List.{List, _++_, map, flatMap, List·Memᴰ}
-use Prim.Native.Nat.{ℕ, _+_, _*_, _/_, _%_, _≤_, _<_}
+use Prim.Native.Nat.{ℕ, _+_, _/_, _%_, _≤_, _<_}
 use lib.ListN.{length, getD, replicate}
 use lib.Dec.{T}
 use Rattle.postman.specs.Lists.{below}
@@ -12,10 +12,7 @@ use Rattle.postman.specs.Component.{componentCount}
 use Rattle.postman.specs.PlanCall.{isCutOff}
 use Rattle.postman.specs.Arborescence.{IsArborescence}
 use Rattle.postman.specs.Balancing.{imbalance, IsBalancing}
-
--- Amounts are held in 64 rows of 64, one after the other.
-abbrev pub amount : List ℕ → ℕ → ℕ → ℕ
-amount amounts i j = getD amounts (i * 64 + j) 0
+use Rattle.postman.specs.Steps.{amount}
 
 -- The pair of vertices in place x, and its units.
 abbrev pub pairAt : ℕ → Link
@@ -40,8 +37,8 @@ legTails p t amounts = map (λ l. l .tail) (legs p t amounts)
 unfoldable pub legHeads : Plan → List Link → List ℕ → List ℕ
 legHeads p t amounts = map (λ l. l .head) (legs p t amounts)
 
--- What completes the required arcs of a plan that is not refused to a tour: an arborescence, and amounts between required vertices, from surplus to deficit only,
--- that balance it with the required arcs.
+-- What completes the required arcs of a plan that is not refused to a tour: an arborescence, and amounts between required vertices, from
+-- surplus to deficit only, that balance it with the required arcs.
 pub record Completes (p : Plan) (t : List Link) (amounts : List ℕ) : Type 0 where
   pub some : 0 < length (requiredArcs p)
   pub few : componentCount p ≤ 8

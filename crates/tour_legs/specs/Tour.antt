@@ -16,7 +16,8 @@ use Rattle.postman.specs.Description.{IsLaid}
 use Rattle.postman.specs.PlanCall.{sheetPlaces}
 use Rattle.paths.specs.ShortestPath.{shortestPath}
 use Rattle.hierholzer.specs.Circuit.{circuit}
-use Rattle.tour_legs.specs.Legs.{amount, legTails, legHeads}
+use Rattle.postman.specs.Steps.{amount}
+use Rattle.tour_legs.specs.Legs.{legTails, legHeads}
 
 -- The places of leg e: the required arcs come first, in file order.
 unfoldable pub legPlaces : (ℕ → ℕ → List ℕ) → List ℕ → List ℕ → List ℕ → ℕ → List ℕ
@@ -26,7 +27,8 @@ unfoldable pub placesOf : (ℕ → ℕ → List ℕ) → List ℕ → List ℕ �
 placesOf path numbers tails heads order = flatMap (legPlaces path numbers tails heads) order
 
 unfoldable pub tourBy : (ℕ → ℕ → List ℕ) → Plan → List Link → List ℕ → List ℕ
-tourBy path p t amounts = placesOf path (requiredNumbers p) (legTails p t amounts) (legHeads p t amounts) (circuit (legTails p t amounts) (legHeads p t amounts))
+tourBy path p t amounts =
+    placesOf path (requiredNumbers p) (legTails p t amounts) (legHeads p t amounts) (circuit (legTails p t amounts) (legHeads p t amounts))
 
 -- The tour that is written: its paths are the shortest paths of the plan.
 unfoldable pub tour : Plan → List Link → List ℕ → List ℕ

@@ -44,7 +44,8 @@ fn add_units(
     at: usize,
 ) -> usize
     requires { ⌜ (length (now tails) ≡ 526) × (length (now heads) ≡ 526) × (at + length (units (now amounts)) ≤ 526) ⌝ }
-    ensures { λ r. ⌜ Added (units (now (amounts .entry))) at r (now (tails .entry)) (now (tails .exit)) (now (heads .entry)) (now (heads .exit)) ⌝ }
+    ensures { λ r.
+        ⌜ Added (units (now (amounts .entry))) at r (now (tails .entry)) (now (tails .exit)) (now (heads .entry)) (now (heads .exit)) ⌝ }
 {
     let mut to = at;
     let mut x: usize = 0;
@@ -76,7 +77,8 @@ pub fn gather(
     heads: &mut [u8; 526],
 ) -> usize
     requires { ⌜ WellFormed (planValue plan) × (length (now numbers) ≡ 256) × (length (now tails) ≡ 526) × (length (now heads) ≡ 526) ⌝ }
-    ensures { λ r. ⌜ Noted (planValue plan) (requiredNumbers (planValue plan)) (now (numbers .exit)) (now (tails .exit)) (now (heads .exit)) r ⌝ }
+    ensures { λ r.
+        ⌜ Noted (planValue plan) (requiredNumbers (planValue plan)) (now (numbers .exit)) (now (tails .exit)) (now (heads .exit)) r ⌝ }
 {
     let m = plan.m as usize;
     let mut c: usize = 0;
@@ -107,8 +109,11 @@ pub fn lay(
     heads: &mut [u8; 526],
 ) -> Counts
     requires { ⌜ WellFormed (planValue plan) × (length (now numbers) ≡ 256) × (length (now tails) ≡ 526) × (length (now heads) ≡ 526) ⌝ }
-    requires { ⌜ (length (now «link_heads») ≡ length (now «link_tails»)) × (length (requiredNumbers (planValue plan)) + length (now «link_tails») + length (units (now amounts)) ≤ 526) ⌝ }
-    ensures { λ r. ⌜ Laid (planValue plan) (linksOf (now («link_tails» .entry)) (now («link_heads» .entry))) (now (amounts .entry)) (now (numbers .exit)) (now (tails .exit)) (now (heads .exit)) (r .required) (r .legs) ⌝ }
+    requires { ⌜ (length (now «link_heads») ≡ length (now «link_tails»))
+        × (length (requiredNumbers (planValue plan)) + length (now «link_tails») + length (units (now amounts)) ≤ 526) ⌝ }
+    ensures { λ r.
+        ⌜ Laid (planValue plan) (linksOf (now («link_tails» .entry)) (now («link_heads» .entry))) (now (amounts .entry))
+        (now (numbers .exit)) (now (tails .exit)) (now (heads .exit)) (r .required) (r .legs) ⌝ }
 {
     let c = gather(plan, numbers, tails, heads);
     copy(tails, c, link_tails);

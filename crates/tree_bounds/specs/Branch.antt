@@ -1,5 +1,5 @@
--- A branch: the trees that begin with the same choices for components 1 to a − 1. Each of these components is one with the component that it is entered from, and what
--- is left to choose depends on the choices by these new names alone.
+-- A branch: the trees that begin with the same choices for components 1 to a − 1. Each of these components is one with the component that
+-- it is entered from, and what is left to choose depends on the choices by these new names alone.
 use mathlib.Core.Bool.{cond}
 use mathlib.Core.List.{List, [], _∷_, map, List·Memᴰ}
 use Prim.Native.Nat.{ℕ, suc, _-_, _<_}
@@ -9,7 +9,7 @@ use Rattle.postman.specs.Plan.{Plan}
 use Rattle.postman.specs.Link.{Link}
 use Rattle.postman.specs.Component.{component, componentCount}
 use Rattle.postman.specs.Arborescence.{candidates}
-use Rattle.small_counts.specs.Arrival.{renamed, isTree}
+use Rattle.small_counts.specs.Arrival.{renamed, formTree}
 
 -- the component that a link comes from, by its new name
 abbrev pub sourceBy : Plan → (ℕ → ℕ) → Link → ℕ
@@ -35,8 +35,9 @@ leftChoices p a = choices (map (candidates p) (upFrom a (componentCount p - a)))
 -- those with which the branch's choices are a tree
 unfoldable pub completions : Plan → (ℕ → ℕ) → ℕ → List (List Link)
 unfolding select leftChoices
-completions p names a = select (λ t. isTree (componentCount p) a (map (sourceBy p names) t)) (leftChoices p a)
+completions p names a = select (λ t. formTree (componentCount p) a (map (sourceBy p names) t)) (leftChoices p a)
 
 -- those in which component a takes the candidate l: none if it would close a circle, else those of the branch below, behind l
 abbrev pub entered : Plan → (ℕ → ℕ) → ℕ → Link → List (List Link)
-entered p names a l = cond (eqb (sourceBy p names l) a) [] (map (λ t. l ∷ t) (completions p (renamedBy names a (sourceBy p names l)) (suc a)))
+entered p names a l =
+    cond (eqb (sourceBy p names l) a) [] (map (λ t. l ∷ t) (completions p (renamedBy names a (sourceBy p names l)) (suc a)))

@@ -21,4 +21,5 @@ pub record Prepared (p : Plan) (table : List (List ℕ)) (vs start source tails 
   pub layout : IsLayout k start source
   pub candidates : AreCandidates p (laidOut k start source)
   pub ends : (q i : ℕ) → 1 ≤ q → q < k → i < length (candidatesOf p q)
-      → (getD tails (getD start q 0 + i) 0 ≡ linkAt (candidatesOf p q) i .tail) × (getD heads (getD start q 0 + i) 0 ≡ linkAt (candidatesOf p q) i .head)
+      → (getD tails (getD start q 0 + i) 0 ≡ linkAt (candidatesOf p q) i .tail)
+      × (getD heads (getD start q 0 + i) 0 ≡ linkAt (candidatesOf p q) i .head)

@@ -6,7 +6,7 @@ use lib.ListN.{length, getD}
 use lib.IntN.{ℤ, pos, _+ℤ_, _-ℤ_}
 use lib.Signed.{_≤ℤ_}
 use Rattle.postman.specs.Balancing.{heads, tails}
-use Rattle.residual_search.specs.Step.{cell}
+use Rattle.postman.specs.Steps.{cell}
 use Rattle.tree_bounds.specs.Bound.{reducedBy}
 
 -- The reduced cost of the way from t to h is not negative, and small.

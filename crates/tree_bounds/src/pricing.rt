@@ -7,8 +7,8 @@ ghost use lib.ListN.{getD};
 ghost use Rattle.tree_bounds.specs.Pricing.{IsLifted, IsBounded};
 ghost use Rattle.tree_bounds.specs.Reducible.{CanRest};
 
-// Potentials; what they price the required arcs and the links chosen at, or less; and what the branch's trees cost at least by them, but for the reduced cost of the link that is
-// chosen next.
+// Potentials; what they price the required arcs and the links chosen at, or less; and what the branch's trees cost at least by them, but
+// for the reduced cost of the link that is chosen next.
 pub struct Pricing {
     pub potentials: [u64; 64],
     pub value: u64,

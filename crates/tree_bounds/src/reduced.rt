@@ -36,7 +36,10 @@ fn risen(u: i64, low: i64) -> u64
 
 // The multipliers of the vertices vs as potentials: from the first one's on, so that none is negative.
 pub fn shifted(u: &[i64; 64], vs: &[u8]) -> [u64; 64]
-    requires { ⌜ ((k : ℕ) → k < length (now vs) → (getD (now vs) k 0 < 64) × Spread (getD (now u) (getD (now vs) k 0) (pos 0)) (getD (now u) (getD (now vs) 0 0) (pos 0))) × (1 ≤ length (now vs)) ⌝ }
+    requires { ⌜
+        ((k : ℕ) → k < length (now vs)
+        → (getD (now vs) k 0 < 64) × Spread (getD (now u) (getD (now vs) k 0) (pos 0)) (getD (now u) (getD (now vs) 0 0) (pos 0)))
+        × (1 ≤ length (now vs)) ⌝ }
     ensures { λ r. ⌜ AreShifted (now (u .entry)) (now (vs .entry)) (length (now (vs .entry))) r ⌝ }
 {
     let mut r = [0u64; 64];

@@ -42,7 +42,10 @@ pub(crate) fn rest(
     k: usize,
 ) -> u64
     requires { ⌜ CanRest (now d) (now p) (now start) (now tails) (now heads) a k ⌝ }
-    ensures { λ r. ⌜ ((q : Plan) (vs source : List ℕ) → Prepared q (now (d .entry)) vs (now (start .entry)) source (now (tails .entry)) (now (heads .entry)) k → Low q (now (d .entry)) (now (p .entry)) r a) × (r ≤ 32000000000) ⌝ }
+    ensures { λ r.
+        ⌜ ((q : Plan) (vs source : List ℕ)
+        → Prepared q (now (d .entry)) vs (now (start .entry)) source (now (tails .entry)) (now (heads .entry)) k
+        → Low q (now (d .entry)) (now (p .entry)) r a) × (r ≤ 32000000000) ⌝ }
 {
     let mut sum: u64 = 0;
     let mut q = k;

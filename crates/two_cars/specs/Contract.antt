@@ -14,14 +14,17 @@ use Rattle.solution.specs.declared.Planned.{Planned}
 use Rattle.solution.specs.Planned.{IsPlanned}
 use Rattle.two_cars.specs.declared.TwoPlanned.{TwoPlanned}
 
--- One car: the plan call on its plan, demand 3 over its marks. 12 is given exactly when no number before it applies and no drive exists that passes the marked arcs.
+-- One car: the plan call on its plan, demand 3 over its marks. 12 is given exactly when no number before it applies and
+-- no drive exists that passes the marked arcs.
 pub record IsCar (bytes marks : List ℕ) (budget : ℕ) (old new : List ℕ) (r : Planned) : Type 0 where
   pub planned : IsPlanned (carPlan (planOf bytes) marks) budget (carRefusal bytes budget (length old) marks) old new r
   pub cut-off
       : (verdictNumber (r .verdict) ≡ some 12)
-      ↔ ((firstRefusal (earlierConditionsFor bytes budget (length old) marks) ≡ none) × ((w : List ℕ) → IsTour (carPlan (planOf bytes) marks) w → ⊥))
+      ↔ ((firstRefusal (earlierConditionsFor bytes budget (length old) marks) ≡ none)
+      × ((w : List ℕ) → IsTour (carPlan (planOf bytes) marks) w → ⊥))
 
 -- THE CALL FOR TWO CARS on any bytes, and any marks, budgets and sheets.
-pub record IsTwoCars (bytes : List ℕ) (marks₁ : List ℕ) (budget₁ : ℕ) (old₁ new₁ : List ℕ) (marks₂ : List ℕ) (budget₂ : ℕ) (old₂ new₂ : List ℕ) (r : TwoPlanned) : Type 0 where
+pub record IsTwoCars (bytes : List ℕ) (marks₁ : List ℕ) (budget₁ : ℕ) (old₁ new₁ : List ℕ) (marks₂ : List ℕ) (budget₂ : ℕ)
+    (old₂ new₂ : List ℕ) (r : TwoPlanned) : Type 0 where
   pub first : IsCar bytes marks₁ budget₁ old₁ new₁ (r .first)
   pub second : IsCar bytes marks₂ budget₂ old₂ new₂ (r .second)

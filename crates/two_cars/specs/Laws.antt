@@ -1,3 +1,4 @@
 -- What is proved about the definitions.
 pub mod Call
 pub mod Own
+pub mod Theorem

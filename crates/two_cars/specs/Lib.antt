@@ -1,4 +1,3 @@
 pub mod Contract
 -- What is proved about them.
 pub mod Laws
-pub mod Theorem

@@ -35,7 +35,8 @@ fn plan_marked(
     requires { ⌜ WellFormed (planValue plan) × (now table ≡ tableOf (planValue plan)) × AreWeights (planValue plan) (now weights) ⌝ }
     requires { ⌜ (1 ≤ budget) × (sheetPlaces ≤ length (now sheet)) ⌝ }
     ensures { λ r. ⌜ IsPlanned (carPlan (planValue plan) (now (marks .entry))) budget
-        (firstRefusal (markConditions (planValue plan) (now (marks .entry)) ++ lastConditions (carPlan (planValue plan) (now (marks .entry)))))
+        (firstRefusal
+        (markConditions (planValue plan) (now (marks .entry)) ++ lastConditions (carPlan (planValue plan) (now (marks .entry)))))
         (now (sheet .entry)) (now (sheet .exit)) r ⌝ }
 {
     if has_bad_mark(plan, marks) {
@@ -76,7 +77,9 @@ pub fn two_cars(
     budget_2: u64,
     sheet_2: &mut [u16],
 ) -> TwoPlanned
-    ensures { λ r. ⌜ IsTwoCars (now (bytes .entry)) (now («marks_1» .entry)) «budget_1» (now («sheet_1» .entry)) (now («sheet_1» .exit)) (now («marks_2» .entry)) «budget_2» (now («sheet_2» .entry)) (now («sheet_2» .exit)) r ⌝ }
+    ensures { λ r.
+        ⌜ IsTwoCars (now (bytes .entry)) (now («marks_1» .entry)) «budget_1» (now («sheet_1» .entry)) (now («sheet_1» .exit))
+        (now («marks_2» .entry)) «budget_2» (now («sheet_2» .entry)) (now («sheet_2» .exit)) r ⌝ }
 {
     let reading = plan_file::reader::read_plan(bytes);
     let plan = reading.plan;

@@ -15,8 +15,8 @@ use Rattle.refusal.specs.Verdict.{verdictNumber}
 use Rattle.solution.specs.declared.Planned.{Planned}
 use Rattle.solution.specs.Planned.{IsPlanned}
 
--- THE PLAN CALL AT A DEPARTURE on any bytes, any budget, any numbers for windows, any departure and any sheet: the plan call on the plan at that departure. What is said of that plan is
--- said again of the file's, in whose words document 02 has it.
+-- THE PLAN CALL AT A DEPARTURE on any bytes, any budget, any numbers for windows, any departure and any sheet: the plan call on the plan at
+-- that departure. What is said of that plan is said again of the file's, in whose words document 02 has it.
 pub record IsPlanCallAt (bytes : List ℕ) (budget : ℕ) (numbers : List ℕ) (d : Departure) (old new : List ℕ) (r : Planned) : Type 0 where
   pub planned : IsPlanned (planAt (planOf bytes) (windowsIn numbers) d) budget (callRefusalAt bytes budget (length old) numbers d) old new r
   -- 12 is given exactly when no number before it applies and no drive exists that avoids the arcs shut
@@ -26,7 +26,8 @@ pub record IsPlanCallAt (bytes : List ℕ) (budget : ℕ) (numbers : List ℕ) (
       × ((w : List ℕ) → IsTour (planOf bytes) w → Avoids (windowsIn numbers) d w → ⊥))
   -- "The floor is over drives that avoid arcs shut at departure": each drive of the file's plan that does costs at least the floor
   pub below-every-tour
-      : verdictNumber (r .verdict) ≡ none → (w : List ℕ) → IsTour (planOf bytes) w → Avoids (windowsIn numbers) d w → r .floor ≤ℤ pos (tourCost (planOf bytes) w)
+      : verdictNumber (r .verdict) ≡ none → (w : List ℕ) → IsTour (planOf bytes) w → Avoids (windowsIn numbers) d w
+      → r .floor ≤ℤ pos (tourCost (planOf bytes) w)
   -- and the places written are one of them, of the cost
   pub written-tour : verdictNumber (r .verdict) ≡ none → IsTour (planOf bytes) (take (r .places) new)
   pub written-avoids : verdictNumber (r .verdict) ≡ none → Avoids (windowsIn numbers) d (take (r .places) new)

@@ -1,2 +1,3 @@
 -- What is proved about the definitions.
 pub mod Call
+pub mod Theorem

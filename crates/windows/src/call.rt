@@ -26,7 +26,8 @@ ghost use Rattle.windows.specs.Contract.{IsPlanCallAt};
 // 19, then 20: the list's length is tested first, then every window, and only good ones are used.
 fn windows_verdict(plan: Plan, windows: &[u16], weekday: u32, minute: u32) -> Verdict
     requires { ⌜ plan .m ≤ 256 ⌝ }
-    ensures { λ r. ⌜ verdictNumber r ≡ firstRefusal (windowConditions (planValue plan) (now (windows .entry)) (departure weekday minute)) ⌝ }
+    ensures { λ r.
+        ⌜ verdictNumber r ≡ firstRefusal (windowConditions (planValue plan) (now (windows .entry)) (departure weekday minute)) ⌝ }
 {
     let m = plan.m as usize;
     let bad = has_bad_window(m, windows, weekday, minute);
@@ -95,7 +96,9 @@ pub fn plan_call_at(
     minute: u32,
     sheet: &mut [u16],
 ) -> Planned
-    ensures { λ r. ⌜ IsPlanCallAt (now (bytes .entry)) budget (now (windows .entry)) (departure weekday minute) (now (sheet .entry)) (now (sheet .exit)) r ⌝ }
+    ensures { λ r.
+        ⌜ IsPlanCallAt (now (bytes .entry)) budget (now (windows .entry)) (departure weekday minute) (now (sheet .entry))
+        (now (sheet .exit)) r ⌝ }
 {
     let reading = plan_file::reader::read_plan(bytes);
     let plan = reading.plan;

@@ -55,7 +55,15 @@ module _ {A : Type 0} (new old : List A) (m : ℕ) where
       let a = at-most-le (length old) m in
       let b = a .0 in
       let c = a .1 in
-      record { turns = omega arith; new-size = w; count = e; within = omega arith; room = omega arith; same = refl; content = paste-zero old 0 new }
+      record {
+        turns = omega arith;
+        new-size = w;
+        count = e;
+        within = omega arith;
+        room = omega arith;
+        same = refl;
+        content = paste-zero old 0 new;
+      }
 
   put-next : (z : A) (lent : List A) (n i : ℕ) → IsPut lent n i → i < n → IsPut (set lent i (getD new i z)) n (i + 1)
   put-next z lent n i h l =
@@ -72,7 +80,8 @@ module _ {A : Type 0} (new old : List A) (m : ℕ) where
         within = t;
         room = omega arith;
         same = k ∙ s;
-        content = ap (λ (x : List A). set x i (getD new i z)) (h .content) ∙ ap (λ (k : ℕ). set (paste old 0 new i) k (getD new i z)) (sym at)
+        content = ap (λ (x : List A). set x i (getD new i z)) (h .content)
+            ∙ ap (λ (k : ℕ). set (paste old 0 new i) k (getD new i z)) (sym at)
             ∙ paste-suc old 0 new i z (omega arith) (omega arith) ∙ ap (paste old 0 new) (sym (add-one i));
       }
 
@@ -103,7 +112,8 @@ answered-zero (Refused r) e = let a = some-number r .0 in let b = ap natAbs e in
     abs-neg zero = refl
     abs-neg (suc k) = refl
 
-pub words-are : (r : Planned) (f : ℕ) → f ≡ natAbs (r .floor) → r .places ∷ r .cost ∷ f ∷ r .trees ∷ boolByte (r .whole) ∷ r .parts ∷ [] ≡ wordsOf r
+pub words-are : (r : Planned) (f : ℕ) → f ≡ natAbs (r .floor)
+    → r .places ∷ r .cost ∷ f ∷ r .trees ∷ boolByte (r .whole) ∷ r .parts ∷ [] ≡ wordsOf r
 words-are r f e = let b = byte (r .whole) in rw (e, b)
   where
     byte : (x : Bool) → boolByte x ≡ cond x 1 0
@@ -119,7 +129,8 @@ handed r words words′ w u u′ e f g h = record {
   multipliers-are = h ∙ ap (λ (o : Option ℕ). unless o (putFirst (r .multipliers) u) u) (sym e);
 }
 
-pub kept : (r : Planned) (words : List ℕ) (u : List ℤ) (k : ℕ) (n : ℤ) → verdictNumber (r .verdict) ≡ some k → n ≡ negℤ (pos k) → IsHandedOver r words words u u n
+pub kept : (r : Planned) (words : List ℕ) (u : List ℤ) (k : ℕ) (n : ℤ) → verdictNumber (r .verdict) ≡ some k → n ≡ negℤ (pos k)
+    → IsHandedOver r words words u u n
 unfolding unless answer
 kept r words u k n e f = record {
   number-is = f ∙ ap (λ (o : Option ℕ). oneNumber (answer o 0)) (sym e);
@@ -128,5 +139,6 @@ kept r words u k n e f = record {
 }
 
 -- The number is the same once it has been a word of 64 bits.
-pub handed-back : {r : Planned} {words words′ : List ℕ} {u u′ : List ℤ} {n : ℤ} → mag n < 2 ^ 63 → IsHandedOver r words words′ u u′ n → IsHandedOver r words words′ u u′ (toZ w64 (ofZ w64 n))
+pub handed-back : {r : Planned} {words words′ : List ℕ} {u u′ : List ℤ} {n : ℤ} → mag n < 2 ^ 63 → IsHandedOver r words words′ u u′ n
+    → IsHandedOver r words words′ u u′ (toZ w64 (ofZ w64 n))
 handed-back {r} {words} {words′} {u} {u′} {n} small h = subst⁻¹ (IsHandedOver r words words′ u u′) (back64 n small) h

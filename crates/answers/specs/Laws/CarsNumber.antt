@@ -1,4 +1,5 @@
--- One number for two cars, by the cases of the first one's verdict; and what it tells: the first car is answered where it is 0 to 255, the second where, besides, 256 divides it.
+-- One number for two cars, by the cases of the first one's verdict; and what it tells: the first car is answered where it is 0 to
+-- 255, the second where, besides, 256 divides it.
 use mathlib.Core.Path.{_≡_, refl, sym, ap, _∙_, subst}
 use mathlib.Core.Bool.{Bool, true, false, cond}
 use mathlib.Core.Option.{Option, none, some}
@@ -17,7 +18,8 @@ module _ (first second : Option ℕ) (b : ℕ) (e : b ≡ ownNumber second) wher
   first-answered h = ap pos e ∙ sym (ap (λ (o : Option ℕ). carsNumber o second) h)
 
   pub both-refused : (k : ℕ) → first ≡ some k → reachesBoth k ≡ true → (n : ℤ) → n ≡ negℤ (pos k) → n ≡ carsNumber first second
-  both-refused k h t n f = f ∙ sym (ap (λ (o : Option ℕ). carsNumber o second) h ∙ ap (λ (c : Bool). cond c (negℤ (pos k)) (pos (256 * k + ownNumber second))) t)
+  both-refused k h t n f =
+      f ∙ sym (ap (λ (o : Option ℕ). carsNumber o second) h ∙ ap (λ (c : Bool). cond c (negℤ (pos k)) (pos (256 * k + ownNumber second))) t)
 
   pub own-refused : (k : ℕ) → first ≡ some k → reachesBoth k ≡ false → (n : ℤ) → n ≡ pos (256 * k + b) → n ≡ carsNumber first second
   own-refused k h t n f =
@@ -46,7 +48,8 @@ first-told (Refused r) w x e l = absurd (at (reachesBoth (refusalNumber r)) e)
 
 pub second-told : (v w : Verdict) (x : ℕ) → carsNumber (verdictNumber v) (verdictNumber w) ≡ pos x → x % 256 ≡ 0 → verdictNumber w ≡ none
 second-told v Accepted x e l = refl
-second-told Accepted (Refused s) x e l = let a = some-number s in let c = a .0 in let d = a .1 in let b = ap natAbs e in absurd (omega arith)
+second-told Accepted (Refused s) x e l = let a = some-number s in let c = a .0 in let d = a .1 in let b = ap natAbs e in
+    absurd (omega arith)
 second-told (Refused r) (Refused s) x e l = absurd (at (reachesBoth (refusalNumber r)) e)
   where
     at : (b : Bool) → cond b (negℤ (pos (refusalNumber r))) (pos (256 * refusalNumber r + refusalNumber s)) ≡ pos x → ⊥

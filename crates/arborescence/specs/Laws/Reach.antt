@@ -1,5 +1,5 @@
--- All components are reached exactly when one source can be chosen for each so that going back arrives at component 0. A component q that arrives in r
--- steps is reached by r sweeps. Conversely each component that is reached takes the source over which it was reached first.
+-- All components are reached exactly when one source can be chosen for each so that going back arrives at component 0. A component q that
+-- arrives in r steps is reached by r sweeps. Conversely each component that is reached takes the source over which it was reached first.
 use mathlib.Core.Path.{_≡_, refl, sym, ap, ap₂, _∙_, subst, subst⁻¹}
 use mathlib.Core.Logic.{_⊎_, inl, inr, _≢_}
 use mathlib.Core.Bool.{cond}
@@ -51,7 +51,8 @@ unfolding enter
 enter-lt k m i s l h = cond-ind (eqb (bitAnd s m) 0) s (bitOr s (2 ^ i)) (λ r. r < 2 ^ k) (λ t. l) (λ t. or-lt k s (2 ^ i) l (pow-lt h))
 
 -- two step functions that agree where the steps stay
-pub same-steps : (P : ℕ → Type 0) (f f′ : ℕ → ℕ) → ((x : ℕ) → P x → P (f x)) → ((x : ℕ) → P x → f′ x ≡ f x) → (m x : ℕ) → P x → iterate m f′ x ≡ iterate m f x
+pub same-steps : (P : ℕ → Type 0) (f f′ : ℕ → ℕ) → ((x : ℕ) → P x → P (f x)) → ((x : ℕ) → P x → f′ x ≡ f x) → (m x : ℕ) → P x
+    → iterate m f′ x ≡ iterate m f x
 unfolding iterate
 same-steps P f f′ i e zero x h = refl
 same-steps P f f′ i e (suc m) x h = ap (iterate m f′) (e x h) ∙ same-steps P f f′ i e m (f x) (i x h)
@@ -69,7 +70,8 @@ module _ (g : ℕ → ℕ) where
     | yes b ↦ enter-keeps (g (suc n)) (suc n) (sweep g n s) q (sweep-at n s q y l b hs hg)
     | no b ↦
         let e : suc n ≡ q = omega arith in
-        subst (Has (sweep g (suc n) s)) e (enter-at (g (suc n)) (suc n) (sweep g n s) y (sweep-keeps n s y hs) (subst⁻¹ (λ z. Has (g z) y) e hg))
+        subst (Has (sweep g (suc n) s)) e
+        (enter-at (g (suc n)) (suc n) (sweep g n s) y (sweep-keeps n s y hs) (subst⁻¹ (λ z. Has (g z) y) e hg))
   ]
 
   pub sweep-lt : (k n s : ℕ) → n < k → s < 2 ^ k → sweep g n s < 2 ^ k
@@ -94,7 +96,9 @@ module _ (g : ℕ → ℕ) where
         start : (r : ℕ) → Has (sweeps g n r) 0
         start zero = refl
         start (suc r) = sweep-keeps n (sweeps g n r) 0 (start r)
-    arrives-reached (suc r) (suc q) l h = sweep-at n (sweeps g n r) (suc q) (f (suc q)) (omega arith) l (arrives-reached r (f (suc q)) (inside (suc q) l) h) (source (suc q) (omega arith) l)
+    arrives-reached (suc r) (suc q) l h =
+        sweep-at n (sweeps g n r) (suc q) (f (suc q)) (omega arith) l (arrives-reached r (f (suc q)) (inside (suc q) l) h)
+        (source (suc q) (omega arith) l)
 
   -- ---- what is reached arrives
 
@@ -127,11 +131,16 @@ module _ (g : ℕ → ℕ) where
       ];
       inside = λ x h. elim (enter-has (g i) i s x h) [
         | inl o ↦ enter-keeps (g i) i s (update f i y x) (subst⁻¹ (Has s) (old x o) (b .inside x o))
-        | inr e ↦ subst⁻¹ (λ z. Has (enter (g i) i s) (update f i y z)) (e .0) (enter-keeps (g i) i s (update f i y i) (subst⁻¹ (Has s) (update-at f i y) hs))
+        | inr e ↦ subst⁻¹ (λ z. Has (enter (g i) i s) (update f i y z)) (e .0)
+            (enter-keeps (g i) i s (update f i y i) (subst⁻¹ (Has s) (update-at f i y) hs))
       ];
       back = λ x h. elim (enter-has (g i) i s x h) [
         | inl o ↦ let r = b .back x o in (r .0, steps (r .0) x o ∙ r .1)
-        | inr e ↦ let r = b .back y hs in (suc (r .0), ap (λ z. iterate (r .0) (update f i y) (update f i y z)) (e .0) ∙ ap (iterate (r .0) (update f i y)) (update-at f i y) ∙ steps (r .0) y hs ∙ r .1)
+        | inr e ↦ let r = b .back y hs in (
+          suc (r .0),
+          ap (λ z. iterate (r .0) (update f i y) (update f i y z)) (e .0)
+              ∙ ap (iterate (r .0) (update f i y)) (update-at f i y) ∙ steps (r .0) y hs ∙ r .1,
+        )
       ];
     }
       where
@@ -158,7 +167,11 @@ module _ (g : ℕ → ℕ) where
         },
       )
       | inr o ↦ elim (ℕ-discrete (bitAnd s (g i)) 0) [
-        | yes e ↦ (f, subst⁻¹ (λ z. Grown z f) (cond-ind (eqb (bitAnd s (g i)) 0) s (bitOr s (2 ^ i)) (λ z. z ≡ s) (λ t. refl) (λ t. absurd (eqb-other t e))) b)
+        | yes e ↦ (
+          f,
+          subst⁻¹ (λ z. Grown z f)
+              (cond-ind (eqb (bitAnd s (g i)) 0) s (bitOr s (2 ^ i)) (λ z. z ≡ s) (λ t. refl) (λ t. absurd (eqb-other t e))) b,
+        )
         | no e ↦ let r = meet s (g i) e in (update f i (r .0), with-source (r .0) o (r .1) (r .2))
       ]
     ]
@@ -209,7 +222,8 @@ module _ (g : ℕ → ℕ) where
   unfolding reachesAll
   arrives-reaches k l f b h =
       eqb-same (all-has k (sweeps g (k - 1) k) (sweeps-lt k (k - 1) k (omega arith)) (λ x m.
-      arrives-reached (k - 1) f (λ q c. (let i = b .inside q (omega arith) in omega arith)) (λ q c d. b .source q c (omega arith)) k x (omega arith) (h x m)))
+      arrives-reached (k - 1) f (λ q c. (let i = b .inside q (omega arith) in omega arith)) (λ q c d. b .source q c (omega arith)) k x
+      (omega arith) (h x m)))
 
 -- ---- as the code has it
 
@@ -223,7 +237,8 @@ module _ (g h : ℕ → ℕ) where
   sweep-cong : (n s : ℕ) → ((q : ℕ) → 1 ≤ q → q ≤ n → g q ≡ h q) → sweep g n s ≡ sweep h n s
   unfolding sweep
   sweep-cong zero s e = refl
-  sweep-cong (suc n) s e = ap₂ (λ m r. enter m (suc n) r) (e (suc n) (omega arith) (omega arith)) (sweep-cong n s (λ q a b. e q a (omega arith)))
+  sweep-cong (suc n) s e =
+      ap₂ (λ m r. enter m (suc n) r) (e (suc n) (omega arith) (omega arith)) (sweep-cong n s (λ q a b. e q a (omega arith)))
 
   sweeps-cong : (n r : ℕ) → ((q : ℕ) → 1 ≤ q → q ≤ n → g q ≡ h q) → sweeps g n r ≡ sweeps h n r
   unfolding sweeps

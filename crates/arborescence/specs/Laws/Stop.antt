@@ -1,5 +1,5 @@
--- Sweeping may stop early. A set that a sweep leaves as it is, every later sweep leaves so too: it is what k sweeps reach. The set of all k components is
--- such a set, since a sweep only adds, and only components below k.
+-- Sweeping may stop early. A set that a sweep leaves as it is, every later sweep leaves so too: it is what k sweeps reach. The set of all k
+-- components is such a set, since a sweep only adds, and only components below k.
 use mathlib.Core.Path.{_≡_, sym, ap, _∙_}
 use mathlib.Core.Logic.{_≢_}
 use mathlib.Core.Bool.{true, false}
@@ -22,7 +22,8 @@ module _ (g : ℕ → ℕ) where
   -- a sweep leaves the set of all components as it is
   full-stays : (k : ℕ) → 1 ≤ k → sweep g (k - 1) (2 ^ k - 1) ≡ 2 ^ k - 1
   full-stays k l =
-      let p = pow-pos k in all-has k _ (sweep-lt g k (k - 1) _ (omega arith) (omega arith)) (λ x h. sweep-keeps g (k - 1) _ x (has-all k x h))
+      let p = pow-pos k in
+      all-has k _ (sweep-lt g k (k - 1) _ (omega arith) (omega arith)) (λ x h. sweep-keeps g (k - 1) _ x (has-all k x h))
 
   -- what a sweep leaves as it is, once reached, is what k sweeps reach
   last : (k s j : ℕ) → j ≤ k → sweep g (k - 1) s ≡ s → sweeps g (k - 1) j ≡ s → sweeps g (k - 1) k ≡ s

@@ -28,10 +28,12 @@ arc-parts e n f standing s =
 
 -- All arcs together, once each of them has passed; or the first that has not.
 module _ (e : ℕ) (p : Plan) where
-  pub passed-arcs : firstRefusal (flatMap (arcConditions e (p .n)) (p .arcs)) ≡ none → firstRefusal (planConditions e p) ≡ cond (hasRepeated (p .arcs)) (some 13) none
+  pub passed-arcs : firstRefusal (flatMap (arcConditions e (p .n)) (p .arcs)) ≡ none
+      → firstRefusal (planConditions e p) ≡ cond (hasRepeated (p .arcs)) (some 13) none
   unfolding firstRefusal planConditions arcsConditions
   passed-arcs h = first-on (flatMap (arcConditions e (p .n)) (p .arcs)) _ h
 
-  pub refused-arc : (r : ℕ) → firstRefusal (flatMap (arcConditions e (p .n)) (p .arcs)) ≡ some r → firstRefusal (planConditions e p) ≡ some r
+  pub refused-arc : (r : ℕ) → firstRefusal (flatMap (arcConditions e (p .n)) (p .arcs)) ≡ some r
+      → firstRefusal (planConditions e p) ≡ some r
   unfolding planConditions arcsConditions
   refused-arc r h = first-stop (flatMap (arcConditions e (p .n)) (p .arcs)) _ r h

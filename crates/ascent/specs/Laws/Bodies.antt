@@ -1,6 +1,6 @@
 -- One turn of each loop, put together from what its parts answer. Each by the equations of the parts, one after the other.
 use mathlib.Core.Path.{_≡_, refl, sym, ap, ap₂, _∙_}
-use mathlib.Core.Bool.{Bool, true, false, cond}
+use mathlib.Core.Bool.{Bool, true, false}
 use mathlib.Core.List.{List, List·Memᴰ}
 use Prim.Native.Nat.{ℕ, zero, suc, _+_, _-_, _^_, _≤_, _<_}
 use native.Mathlib.Omega.{arith}
@@ -8,7 +8,7 @@ use borrow.Author.Tests.{lt-ltb, le-ltb}
 use lib.IntN.{ℤ, pos}
 use lib.ListN.{getD, set, replicate}
 use Rattle.residual_search.specs.Search.{beyond}
-use Rattle.residual_search.specs.Step.{cell}
+use Rattle.postman.specs.Steps.{cell}
 use Rattle.multiplier_steps.specs.Steps.{AreSmall, capped, cappedAll, carried}
 use Rattle.multiplier_steps.specs.Laws.Steps.{all-small}
 use Rattle.ascent.specs.Relax.{backPlace, asks, overtakes, demand, moveVertex, moveAll, ask, sweep, areClosed, sweeps, settled}
@@ -17,7 +17,8 @@ use Rattle.ascent_tree.specs.Tree.{Sets, grown, along}
 use Rattle.ascent.specs.Step.{Step, areSame, step}
 
 -- a multiplier that changes, and one that does not
-module _ (d : List (List ℕ)) (f : List ℕ) (up : Bool) (w : ℕ) (base : ℤ) (x : List ℤ) (marks : List ℕ) (v : ℕ) {p : ℕ} {c : ℤ} {b : Bool} (ep : p ≡ backPlace up v w) (ec : c ≡ asks up (getD f p 0) (cell d v w) (cell d w v) base)
+module _ (d : List (List ℕ)) (f : List ℕ) (up : Bool) (w : ℕ) (base : ℤ) (x : List ℤ) (marks : List ℕ) (v : ℕ) {p : ℕ} {c : ℤ} {b : Bool}
+    (ep : p ≡ backPlace up v w) (ec : c ≡ asks up (getD f p 0) (cell d v w) (cell d w v) base)
     (eb : b ≡ overtakes up c (getD x v (pos 0))) where
   asked-is : c ≡ demand d f up w base v
   asked-is = ec ∙ ap (λ q. asks up (getD f q 0) (cell d v w) (cell d w v) base) ep
@@ -31,11 +32,13 @@ module _ (d : List (List ℕ)) (f : List ℕ) (up : Bool) (w : ℕ) (base : ℤ)
   pub move-same : b ≡ false → (x, marks) ≡ moveVertex d f up w base (x, marks) v
   move-same t = rw (sym test-is ∙ t)
 
-pub ask-none : (d : List (List ℕ)) (f : List ℕ) (up : Bool) (vs : List ℕ) (x : List ℤ) (marks : List ℕ) (w : ℕ) → getD marks w 0 ≤ 0 → (x, marks) ≡ ask d f up vs (x, marks) w
+pub ask-none : (d : List (List ℕ)) (f : List ℕ) (up : Bool) (vs : List ℕ) (x : List ℤ) (marks : List ℕ) (w : ℕ) → getD marks w 0 ≤ 0
+    → (x, marks) ≡ ask d f up vs (x, marks) w
 unfolding ask
 ask-none d f up vs x marks w l = rw (le-ltb 0 (getD marks w 0) l)
 
-pub ask-some : (d : List (List ℕ)) (f : List ℕ) (up : Bool) (vs : List ℕ) (x : List ℤ) (marks : List ℕ) (w : ℕ) {base : ℤ} {r : List ℤ × List ℕ} → 0 < getD marks w 0 → base ≡ capped (getD x w (pos 0))
+pub ask-some : (d : List (List ℕ)) (f : List ℕ) (up : Bool) (vs : List ℕ) (x : List ℤ) (marks : List ℕ) (w : ℕ) {base : ℤ}
+    {r : List ℤ × List ℕ} → 0 < getD marks w 0 → base ≡ capped (getD x w (pos 0))
     → r ≡ moveAll d f up vs w base (x, set marks w 0) → r ≡ ask d f up vs (x, marks) w
 unfolding ask
 ask-some d f up vs x marks w l eb er = er ∙ ap (λ (q : ℤ). moveAll d f up vs w q (x, set marks w 0)) eb ∙ rw (lt-ltb 0 (getD marks w 0) l)
@@ -56,11 +59,13 @@ module _ (d : List (List ℕ)) (f : List ℕ) (up : Bool) (vs : List ℕ) where
   unfolding sweeps
   sweeps-none k x marks l = let e : 64 - k ≡ 0 = omega arith in ap (λ n. sweeps d f up vs n (x, marks) .0) e
 
-  sweeps-step : (n : ℕ) (s : List ℤ × List ℕ) → areClosed vs (s .1) ≡ false → sweeps d f up vs (suc n) s ≡ sweeps d f up vs n (sweep d f up vs s)
+  sweeps-step : (n : ℕ) (s : List ℤ × List ℕ) → areClosed vs (s .1) ≡ false
+      → sweeps d f up vs (suc n) s ≡ sweeps d f up vs n (sweep d f up vs s)
   unfolding sweeps
   sweeps-step n s e = rw e
 
-  pub sweeps-more : (k : ℕ) (x : List ℤ) (marks : List ℕ) {x′ r : List ℤ} {marks′ : List ℕ} → cappedAll (sweeps d f up vs (64 - k) (x, marks) .0) vs ≡ r → k < 64 → areClosed vs marks ≡ false
+  pub sweeps-more : (k : ℕ) (x : List ℤ) (marks : List ℕ) {x′ r : List ℤ} {marks′ : List ℕ}
+      → cappedAll (sweeps d f up vs (64 - k) (x, marks) .0) vs ≡ r → k < 64 → areClosed vs marks ≡ false
       → (x′, marks′) ≡ sweep d f up vs (x, marks) → cappedAll (sweeps d f up vs (64 - (k + 1)) (x′, marks′) .0) vs ≡ r
   sweeps-more k x marks inv l any e =
       let m : 64 - k ≡ suc (64 - (k + 1)) = omega arith in
@@ -77,15 +82,20 @@ module _ (d : List (List ℕ)) (f vs component : List ℕ) (k : ℕ) (up : Bool)
 
   -- a step by the tree that the sets t have, along the pairs
   abbrev by : Sets → List ℕ → ℕ → Step
-  by t pairs n = taken (settled d f up vs (carried vs (along (t .1) pairs s x (n - 1)) x before)) (getD (t .0) (n - 1) (pos 0)) (areSame vs (along (t .1) pairs s x (n - 1)) x)
+  by t pairs n =
+      taken (settled d f up vs (carried vs (along (t .1) pairs s x (n - 1)) x before)) (getD (t .0) (n - 1) (pos 0))
+      (areSame vs (along (t .1) pairs s x (n - 1)) x)
 
-  pub step-is : {costs cost y z multipliers : List ℤ} {pairs from : List ℕ} {n : ℕ} {l : ℤ} {b : Bool} → (costs, pairs) ≡ offers d x component vs → n ≡ 2 ^ (k - 1) → (cost, from) ≡ grown costs n
-      → y ≡ along from pairs s x (n - 1) → b ≡ areSame vs y x → z ≡ carried vs y x before → multipliers ≡ settled d f up vs z → l ≡ getD cost (n - 1) (pos 0)
+  pub step-is : {costs cost y z multipliers : List ℤ} {pairs from : List ℕ} {n : ℕ} {l : ℤ} {b : Bool}
+      → (costs, pairs) ≡ offers d x component vs → n ≡ 2 ^ (k - 1) → (cost, from) ≡ grown costs n
+      → y ≡ along from pairs s x (n - 1) → b ≡ areSame vs y x → z ≡ carried vs y x before → multipliers ≡ settled d f up vs z
+      → l ≡ getD cost (n - 1) (pos 0)
       → taken multipliers l b ≡ step d f vs component k up s x before
   unfolding step
   step-is {costs} {cost} {y} {z} {multipliers} {pairs} {from} {n} {l} {b} eo en eg ey eb ez eh el =
       ap (λ (u : List ℤ). taken u l b) (eh ∙ ap (settled d f up vs) (ez ∙ ap (λ (y : List ℤ). carried vs y x before) ey))
-      ∙ ap₂ (λ (l : ℤ) (b : Bool). taken (settled d f up vs (carried vs (along from pairs s x (n - 1)) x before)) l b) el (eb ∙ ap (λ (y : List ℤ). areSame vs y x) ey)
+      ∙ ap₂ (λ (l : ℤ) (b : Bool). taken (settled d f up vs (carried vs (along from pairs s x (n - 1)) x before)) l b) el
+      (eb ∙ ap (λ (y : List ℤ). areSame vs y x) ey)
       ∙ ap (λ (t : Sets). by t pairs n) eg
       ∙ ap (λ (o : Offers). by (grown (o .0) n) (o .1) n) eo
       ∙ ap (λ (n : ℕ). by (grown (offers d x component vs .0) n) (offers d x component vs .1) n) en

@@ -1,5 +1,5 @@
--- The multipliers are feasible and tight, as potentials raised by distances are. They are the greatest: whatever is feasible and tight for the same amounts falls
--- along a residual pair by at most its length, so from a vertex to the root by at most the distance.
+-- The multipliers are feasible and tight, as potentials raised by distances are. They are the greatest: whatever is feasible and tight for
+-- the same amounts falls along a residual pair by at most its length, so from a vertex to the root by at most the distance.
 use mathlib.Core.Path.{_≡_, ap, _∙_}
 use mathlib.Core.Bool.{true}
 use mathlib.Core.List.{List, List·Memᴰ}
@@ -8,16 +8,18 @@ use native.Mathlib.Decide.{ℕ-discrete, decLe}
 use native.Mathlib.Omega.{arith}
 use lib.ListN.{getD, replicate, length-replicate}
 use lib.IntN.{ℤ, pos, _-ℤ_}
-use Rattle.balance.specs.Optimality.{Feasible, Tight}
+use Rattle.balance.specs.Optimality.{ArePotentials, Tight}
 use Rattle.residual_search.specs.Search.{Found, search}
-use Rattle.residual_search.specs.Step.{State, amount, potential, residualLength}
+use Rattle.postman.specs.Steps.{amount}
+use Rattle.residual_search.specs.Step.{State, potential, residualLength}
 use Rattle.balance.specs.Multipliers.{fromRoot, ways, multipliers}
 use Rattle.balance.specs.Invariant.{Metric, limit, Certified}
 use Rattle.residual_search.specs.Laws.Search.{Ground, Searching, searched, whole-settled}
 use Rattle.balance.specs.Laws.Step.{residual-ahead, residual-ground, raised-feasible, raised-tight}
 use Rattle.residual_search.specs.Laws.Fill.{zero-at, fill-other, fill-here}
 
-module _ (d : ℕ → ℕ → ℕ) (vs : List ℕ) (metric : Metric d vs) (s : State) (certified : Certified d vs s) (room : s .count < limit) (root : ℕ) (mr : List·Memᴰ root vs) where
+module _ (d : ℕ → ℕ → ℕ) (vs : List ℕ) (metric : Metric d vs) (s : State) (certified : Certified d vs s) (room : s .count < limit)
+    (root : ℕ) (mr : List·Memᴰ root vs) where
   abbrev f : ℕ → ℕ → ℕ
   f = amount (s .amounts)
 
@@ -56,13 +58,13 @@ module _ (d : ℕ → ℕ → ℕ) (vs : List ℕ) (metric : Metric d vs) (s : S
   abbrev pub w : ℕ → ℕ
   w v = x v + u v
 
-  pub w-feasible : Feasible d vs w
+  pub w-feasible : ArePotentials d vs w
   w-feasible i j mi mj = let c = raised-feasible d vs metric s certified room x x-near i j mi mj in omega arith
 
   pub w-tight : Tight d vs f w
   w-tight i j mi mj p = let c = raised-tight d vs metric s certified room x x-near i j mi mj p in omega arith
 
-  module _ (q : ℕ → ℕ) (feasible : Feasible d vs q) (tight : Tight d vs f q) where
+  module _ (q : ℕ → ℕ) (feasible : ArePotentials d vs q) (tight : Tight d vs f q) where
     -- along a residual pair q falls by at most its length
     falls : (i j : ℕ) → List·Memᴰ i vs → List·Memᴰ j vs → q i + u j ≤ ℓ i j + q j + u i
     falls i j mi mj = elim (decLe 1 (f j i)) [

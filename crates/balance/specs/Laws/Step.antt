@@ -1,5 +1,5 @@
--- Adding an arc keeps a state certified. Distances to t obey the residual lengths, so raising the potentials by them, by no more than h's, keeps every reduced
--- cost and makes it 0 along the path from h to t.
+-- Adding an arc keeps a state certified. Distances to t obey the residual lengths, so raising the potentials by them, by no more than h's,
+-- keeps every reduced cost and makes it 0 along the path from h to t.
 use mathlib.Core.Path.{_≡_, ap, ap₂, _∙_, subst⁻¹}
 use mathlib.Core.Logic.{_⊎_, inl, inr}
 use mathlib.Core.Bool.{Bool, false, cond}
@@ -15,10 +15,11 @@ use Rattle.postman.specs.Laws.Occurrences.{mem?}
 use Rattle.postman.specs.Laws.Amounts.{Within}
 use Rattle.postman.specs.Laws.Membership.{getD-mem}
 use Rattle.residual_search.specs.Bounds.{AtMost}
-use Rattle.balance.specs.Optimality.{Feasible, Tight, Balances}
+use Rattle.balance.specs.Optimality.{ArePotentials, Tight, Balances}
 use Rattle.residual_search.specs.Search.{Found, beyond, search}
 use Rattle.residual_search.specs.Until.{until, settledBy}
-use Rattle.residual_search.specs.Step.{State, amount, potential, residual, residualLength, augment, raise, way, add, IsAdded}
+use Rattle.postman.specs.Steps.{amount}
+use Rattle.residual_search.specs.Step.{State, potential, residual, residualLength, augment, raise, way, add, IsAdded}
 use Rattle.balance.specs.Invariant.{Metric, limit, Certified, Counted}
 use Rattle.balance.specs.Laws.Duality.{cost-price, tight-slack}
 use Rattle.residual_search.specs.Laws.Search.{Ground, Searching, searched, goal-settled}
@@ -73,7 +74,7 @@ module _ (d : ℕ → ℕ → ℕ) (vs : List ℕ) (metric : Metric d vs) (s : S
 
   -- raises that fall along a pair by at most its residual length keep the potentials feasible and tight
   module _ (y : ℕ → ℕ) (near : (i j : ℕ) → List·Memᴰ i vs → List·Memᴰ j vs → y i ≤ y j + ℓ i j) where
-    pub raised-feasible : Feasible d vs (λ v. u v + y v)
+    pub raised-feasible : ArePotentials d vs (λ v. u v + y v)
     raised-feasible i j mi mj =
         let c = near i j mi mj in
         let e = residual-le (d i j) (u i) (u j) (f j i) in
@@ -136,7 +137,8 @@ module _ (d : ℕ → ℕ → ℕ) (vs : List ℕ) (metric : Metric d vs) (s : S
     -- the way found
     pub way-found : {w : Found} {last : ℕ} → w ≡ until ℓ vs t h last → last ≡ settledBy t h (length vs) → Agree vs t h w (way d vs s t h)
     unfolding way
-    way-found ew el = subst⁻¹ (λ (w : Found). Agree vs t h w found) (ew ∙ ap (until ℓ vs t h) el) (until-agrees ℓ vs t (residual-ground t mt) h mh)
+    way-found ew el =
+        subst⁻¹ (λ (w : Found). Agree vs t h w found) (ew ∙ ap (until ℓ vs t h) el) (until-agrees ℓ vs t (residual-ground t mt) h mh)
 
     -- what the code asks of it
     pub most-small : {w : Found} {k : ℕ} → Agree vs t h w (way d vs s t h) → k ≡ h → getD (w .distance) k 0 ≤ beyond
@@ -160,7 +162,9 @@ module _ (d : ℕ → ℕ → ℕ) (vs : List ℕ) (metric : Metric d vs) (s : S
 
     raise-long : length (raise (found .distance) (x h) (s .potentials) vs) ≡ 64
     unfolding raise
-    raise-long = fill-length (λ v. getD (s .potentials) v 0 + min (getD (found .distance) v 0) (x h)) 0 vs (s .potentials) ∙ certified .numbers .long-potentials
+    raise-long =
+        fill-length (λ v. getD (s .potentials) v 0 + min (getD (found .distance) v 0) (x h)) 0 vs (s .potentials)
+        ∙ certified .numbers .long-potentials
 
     raise-low : (v : ℕ) → u′ v ≤ (s .count + 1) * 8257410
     raise-low v =
@@ -171,8 +175,9 @@ module _ (d : ℕ → ℕ → ℕ) (vs : List ℕ) (metric : Metric d vs) (s : S
           | inr n ↦ let e = raise-other v n in omega arith
         ]
 
-    raise-feasible : Feasible d vs u′
-    raise-feasible i j mi mj = let a = raise-here i mi in let b = raise-here j mj in let c = raised-feasible y y-near i j mi mj in omega arith
+    raise-feasible : ArePotentials d vs u′
+    raise-feasible i j mi mj = let a = raise-here i mi in let b = raise-here j mj in let c = raised-feasible y y-near i j mi mj in
+        omega arith
 
     raise-tight : Tight d vs f u′
     raise-tight i j mi mj p = let a = raise-here i mi in let b = raise-here j mj in let c = raised-tight y y-near i j mi mj p in omega arith
@@ -187,7 +192,8 @@ module _ (d : ℕ → ℕ → ℕ) (vs : List ℕ) (metric : Metric d vs) (s : S
           let a = raise-here z mz in
           let b = raise-here (getD (found .next) z 0) n in
           let c = y-edge z mz g l in
-          let e = residual-ahead (d z (getD (found .next) z 0)) (u z) (u (getD (found .next) z 0)) (f (getD (found .next) z 0) z) (omega arith) in
+          let e = residual-ahead (d z (getD (found .next) z 0)) (u z) (u (getD (found .next) z 0)) (f (getD (found .next) z 0) z)
+          (omega arith) in
           let q = certified .feasible z (getD (found .next) z 0) mz n in
           inr (omega arith)
     ]
@@ -197,10 +203,12 @@ module _ (d : ℕ → ℕ → ℕ) (vs : List ℕ) (metric : Metric d vs) (s : S
     rank-64 : rank h ≤ 64
     rank-64 = let a = state .1 .recent h in let b = state .1 .left in let c = metric .size in omega arith
 
-    path-sent : Sent vs (metric .once) (metric .small) t (found .next) rank (state .1 .onward) (state .1 .reached) (state .1 .order) d u′ (s .count) h (s .amounts)
+    path-sent : Sent vs (metric .once) (metric .small) t (found .next) rank (state .1 .onward) (state .1 .reached) (state .1 .order) d u′
+        (s .count) h (s .amounts)
         (augment (found .next) t 64 (s .amounts) h)
     path-sent =
-        augment-sent vs (metric .once) (metric .small) t (found .next) rank (state .1 .onward) (state .1 .reached) (state .1 .order) d u′ (s .count) 64 (s .amounts) h mh settled-h rank-64
+        augment-sent vs (metric .once) (metric .small) t (found .next) rank (state .1 .onward) (state .1 .reached) (state .1 .order) d u′
+        (s .count) 64 (s .amounts) h mh settled-h rank-64
         (record {
           long = certified .numbers .long-amounts;
           tight = raise-tight;
@@ -253,8 +261,10 @@ module _ (d : ℕ → ℕ → ℕ) (vs : List ℕ) (metric : Metric d vs) (s : S
           let b = cost-price d f vs u′ hs ts wh wt (c .balanced) raise-feasible in
           let b₀ = tight-slack d f vs u′ hs ts wh wt (c .balanced) raise-tight in
           let e = c .priced in
-          let q = cost-price d (amount (augment (found .next) t 64 (s .amounts) h)) vs u′ (h ∷ hs) (t ∷ ts) (within-more h hs mh wh) (within-more t ts mt wt) balanced′ raise-feasible in
-          let q₀ = tight-slack d (amount (augment (found .next) t 64 (s .amounts) h)) vs u′ (h ∷ hs) (t ∷ ts) (within-more h hs mh wh) (within-more t ts mt wt) balanced′ (path-sent .tight) in
+          let q = cost-price d (amount (augment (found .next) t 64 (s .amounts) h)) vs u′ (h ∷ hs) (t ∷ ts) (within-more h hs mh wh)
+          (within-more t ts mt wt) balanced′ raise-feasible in
+          let q₀ = tight-slack d (amount (augment (found .next) t 64 (s .amounts) h)) vs u′ (h ∷ hs) (t ∷ ts) (within-more h hs mh wh)
+          (within-more t ts mt wt) balanced′ (path-sent .tight) in
           omega arith
 
       -- AND COUNTS THE ARC
@@ -264,12 +274,14 @@ module _ (d : ℕ → ℕ → ℕ) (vs : List ℕ) (metric : Metric d vs) (s : S
 
     -- ---- what the code asks, and what it puts together
 
-    pub sum-small : {w : Found} {k : ℕ} → Agree vs t h w (way d vs s t h) → k ≡ h → s .cost + getD (raise (w .distance) (getD (w .distance) k 0) (s .potentials) vs) k 0 < 18446744073709551616
+    pub sum-small : {w : Found} {k : ℕ} → Agree vs t h w (way d vs s t h) → k ≡ h
+        → s .cost + getD (raise (w .distance) (getD (w .distance) k 0) (s .potentials) vs) k 0 < 18446744073709551616
     unfolding way
     sum-small {w} {k} agree e =
         let a = raise-low k in
         let b = certified .numbers .cheap in
-        let c = ap (λ (u : List ℕ). getD u k 0) (ap (λ k. raise (w .distance) (getD (w .distance) k 0) (s .potentials) vs) e ∙ raise-same (s .potentials) agree) in
+        let c = ap (λ (u : List ℕ). getD u k 0)
+        (ap (λ k. raise (w .distance) (getD (w .distance) k 0) (s .potentials) vs) e ∙ raise-same (s .potentials) agree) in
         omega arith
 
   pub levels-small : AtMost beyond (s .potentials)
@@ -282,12 +294,14 @@ abbrev made : ℕ → List ℕ → List ℕ → ℕ → State
 made n f u c = record { amounts = f; potentials = u; cost = c; count = n }
 
 state-same : (n : ℕ) {f f′ u u′ : List ℕ} {c c′ : ℕ} → f ≡ f′ → u ≡ u′ → c ≡ c′ → made n f u c ≡ made n f′ u′ c′
-state-same n {f} {f′} {u} {u′} {c} ef eu ec = ap (λ (q : List ℕ). made n q u c) ef ∙ ap (λ (q : List ℕ). made n f′ q c) eu ∙ ap (made n f′ u′) ec
+state-same n {f} {f′} {u} {u′} {c} ef eu ec =
+    ap (λ (q : List ℕ). made n q u c) ef ∙ ap (λ (q : List ℕ). made n f′ q c) eu ∙ ap (made n f′ u′) ec
 
 module _ (d : ℕ → ℕ → ℕ) (vs : List ℕ) (s : State) (t h : ℕ) where
   -- but for the amounts
   pub price-made : {w : Found} {u : List ℕ} {t′ h′ cost : ℕ} → Agree vs t h w (way d vs s t h) → h′ ≡ h → t′ ≡ t
-      → u ≡ raise (w .distance) (getD (w .distance) h′ 0) (s .potentials) vs → cost ≡ s .cost + getD u h′ 0 - getD u t′ 0 → IsAdded d vs s t h (w .next) u cost
+      → u ≡ raise (w .distance) (getD (w .distance) h′ 0) (s .potentials) vs → cost ≡ s .cost + getD u h′ 0 - getD u t′ 0
+      → IsAdded d vs s t h (w .next) u cost
   unfolding add
   price-made {w} {u} {t′} {h′} {cost} agree eh et eu ec =
       let r = way d vs s t h in
@@ -297,7 +311,8 @@ module _ (d : ℕ → ℕ → ℕ) (vs : List ℕ) (s : State) (t h : ℕ) where
         next-low = agree .inside;
         amounts-are = agree .way-same 64 (s .amounts);
         potentials-are = eu′;
-        cost-is = ec ∙ ap₂ (λ (p q : ℕ). s .cost + getD u p 0 - getD u q 0) eh et ∙ ap (λ (u : List ℕ). s .cost + getD u h 0 - getD u t 0) eu′;
+        cost-is = ec ∙ ap₂ (λ (p q : ℕ). s .cost + getD u p 0 - getD u q 0) eh et
+            ∙ ap (λ (u : List ℕ). s .cost + getD u h 0 - getD u t 0) eu′;
       }
 
   pub add-made : {f next u : List ℕ} {cost : ℕ} → IsAdded d vs s t h next u cost → f ≡ augment next t 64 (s .amounts) h

@@ -121,7 +121,8 @@ module _ (l : List ℕ) (a w v : ℕ) where
       at (yes e) r =
           rw e (set-bit-same (putBits l a w v n) (a + n) (v / 2 ^ (w - 1 - n) % 2) (omega arith) (omega (arith, length-put-bits l a w v n)))
       at (no e) r =
-          set-bit-other (putBits l a w v n) (a + n) (v / 2 ^ (w - 1 - n) % 2) (omega arith) (a + i) (omega (arith, length-put-bits l a w v n)) (λ q. omega arith)
+          set-bit-other (putBits l a w v n) (a + n) (v / 2 ^ (w - 1 - n) % 2) (omega arith) (a + i)
+          (omega (arith, length-put-bits l a w v n)) (λ q. omega arith)
           ∙ r (omega arith)
 
   outside-upto : (n m : ℕ) → a + n ≤ 8 * length l → (m < a) ⊎ (a + n ≤ m) → bitAt (putBits l a w v n) m ≡ bitAt l m

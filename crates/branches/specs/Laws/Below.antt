@@ -13,11 +13,11 @@ use Rattle.postman.specs.Link.{Link}
 use Rattle.postman.specs.Component.{component, componentCount}
 use Rattle.postman.specs.Arborescence.{candidates}
 use Rattle.postman.specs.Balancing.{heads as heads-of, tails as tails-of, linkCost}
-use Rattle.postman.specs.Steps.{Joins}
+use Rattle.postman.specs.Steps.{Joins, cell}
 use Rattle.postman.specs.Laws.Balancing.{within-heads, within-tails}
 use Rattle.postman.specs.Laws.Membership.{upFrom-mem, mem-upFrom}
 use Rattle.postman.specs.Laws.Lists.{map-cong, map-map, map-append}
-use Rattle.residual_search.specs.Step.{State, cell, add, addAll, arcsOf}
+use Rattle.residual_search.specs.Step.{State, add, addAll, arcsOf}
 use Rattle.balance.specs.Invariant.{Metric, Certified, Counted}
 use Rattle.balance.specs.Laws.Arcs.{all-counted}
 use Rattle.direct_amounts.specs.Laws.Plan.{balance-counted, balance-room}
@@ -46,12 +46,14 @@ links-length (suc n) (t ∷ ts) [] lt lh = absurd (omega arith)
 links-length (suc n) (t ∷ ts) (h ∷ hs) lt lh = ap suc (links-length n ts hs (omega arith) (omega arith))
 
 -- one link more, written behind the first n
-links-set : (n t h : ℕ) (ts hs : List ℕ) → n < length ts → n < length hs → linksIn (suc n) (set ts n t) (set hs n h) ≡ linksIn n ts hs ++ record { tail = t; head = h } ∷ []
+links-set : (n t h : ℕ) (ts hs : List ℕ) → n < length ts → n < length hs
+    → linksIn (suc n) (set ts n t) (set hs n h) ≡ linksIn n ts hs ++ record { tail = t; head = h } ∷ []
 unfolding arcsOf
 links-set n t h [] hs lt lh = absurd (omega arith)
 links-set n t h (x ∷ ts) [] lt lh = absurd (omega arith)
 links-set zero t h (x ∷ ts) (y ∷ hs) lt lh = refl
-links-set (suc n) t h (x ∷ ts) (y ∷ hs) lt lh = ap (λ (l : List Link). record { tail = x; head = y } ∷ l) (links-set n t h ts hs (omega arith) (omega arith))
+links-set (suc n) t h (x ∷ ts) (y ∷ hs) lt lh =
+    ap (λ (l : List Link). record { tail = x; head = y } ∷ l) (links-set n t h ts hs (omega arith) (omega arith))
 
 cost-last : (p : Plan) (t : List Link) (l : Link) → linkCost p (t ++ l ∷ []) ≡ linkCost p t + distance p (l .tail) (l .head)
 unfolding linkCost sumOf
@@ -60,9 +62,11 @@ cost-last p (x ∷ t) l = let h = cost-last p t l in omega arith
 
 -- ---- the branch below
 
-module _ {p : Plan} {table : List (List ℕ)} {vs start source tails heads : List ℕ} {k : ℕ} (h : Prepared p table vs start source tails heads k) {f : List ℕ} (b : Branch) (is : IsBranch p table f b) where
+module _ {p : Plan} {table : List (List ℕ)} {vs start source tails heads : List ℕ} {k : ℕ}
+    (h : Prepared p table vs start source tails heads k) {f : List ℕ} (b : Branch) (is : IsBranch p table f b) where
   pub chosen-length : length (chosenIn b) ≡ b .a - 1
-  chosen-length = let s = is .tails-size in let t = is .heads-size in let m = is .most in let f = h .few in links-length (b .a - 1) (b .tails) (b .heads) (omega arith) (omega arith)
+  chosen-length = let s = is .tails-size in let t = is .heads-size in let m = is .most in let f = h .few in
+      links-length (b .a - 1) (b .tails) (b .heads) (omega arith) (omega arith)
 
   pub chosen-short : length (chosenIn b) ≤ 8
   chosen-short = let e = chosen-length in let m = is .most in let f = h .few in omega arith
@@ -88,8 +92,10 @@ module _ {p : Plan} {table : List (List ℕ)} {vs start source tails heads : Lis
   -- the state is small
   heads-few : length (heads-of p (chosenIn b)) ≤ 356
   heads-few =
-      let n = balance-counted p (h .plannable .well-formed) (h .plannable .connected) (cell table) (agrees h) (chosenIn b) (is .joins) (let l = chosen-short in omega arith) .number in
-      let r = balance-room p (h .plannable .well-formed) (h .plannable .connected) (cell table) (agrees h) (chosenIn b) (is .joins) (let l = chosen-short in omega arith) in
+      let n = balance-counted p (h .plannable .well-formed) (h .plannable .connected) (cell table) (agrees h) (chosenIn b) (is .joins)
+      (let l = chosen-short in omega arith) .number in
+      let r = balance-room p (h .plannable .well-formed) (h .plannable .connected) (cell table) (agrees h) (chosenIn b) (is .joins)
+      (let l = chosen-short in omega arith) in
       omega arith
 
   pub room : b .count ≤ 356
@@ -131,7 +137,8 @@ module _ {p : Plan} {table : List (List ℕ)} {vs start source tails heads : Lis
       entries-few = subst⁻¹ (λ n. AreFew (b .entries) (b .a) n) (h .count) (is .few);
     }
 
-    module _ (other : sourceBy p (namesIn b) l ≢ b .a) (g : List ℕ) (r : Branch) (at : IsBelow table vs f b (l .tail) (l .head) (sourceBy p (namesIn b) l) k g r) where
+    module _ (other : sourceBy p (namesIn b) l ≢ b .a) (g : List ℕ) (r : Branch)
+        (at : IsBelow table vs f b (l .tail) (l .head) (sourceBy p (namesIn b) l) k g r) where
       abbrev x : ℕ
       x = sourceBy p (namesIn b) l
 
@@ -154,16 +161,26 @@ module _ {p : Plan} {table : List (List ℕ)} {vs start source tails heads : Lis
       joins-more : Joins p (chosenIn b ++ l ∷ [])
       joins-more y g = elim (List·Memᴰ·append-cases (chosenIn b) g) [
         | inl i ↦ is .joins y i
-        | inr i ↦ subst⁻¹ (λ (y : Link). List·Memᴰ (y .tail) (required p) × List·Memᴰ (y .head) (required p)) (List·Memᴰ·eq-of-singleton i) ends
+        | inr i ↦ subst⁻¹ (λ (y : Link). List·Memᴰ (y .tail) (required p) × List·Memᴰ (y .head) (required p))
+            (List·Memᴰ·eq-of-singleton i) ends
       ]
 
-      one-link : (Certified (cell table) (required p) (stateIn g r)) × Counted (required p) (stateIn g r) (heads-of p (chosenIn b) ++ l .head ∷ []) (tails-of p (chosenIn b) ++ l .tail ∷ [])
+      one-link : (Certified (cell table) (required p) (stateIn g r))
+          × Counted (required p) (stateIn g r) (heads-of p (chosenIn b) ++ l .head ∷ []) (tails-of p (chosenIn b) ++ l .tail ∷ [])
       unfolding addAll
       one-link =
-          let e : stateIn g r ≡ add (cell table) (required p) (stateIn f b) (l .tail) (l .head) = at .state-is ∙ ap (λ (v : List ℕ). add (cell table) v (stateIn f b) (l .tail) (l .head)) (h .vertices) in
-          let m = all-counted (cell table) (required p) (metric h) (l ∷ []) (stateIn f b) (heads-of p (chosenIn b)) (tails-of p (chosenIn b)) (λ x i. subst⁻¹ (λ (y : Link). List·Memᴰ (y .tail) (required p) × List·Memᴰ (y .head) (required p)) (List·Memᴰ·eq-of-singleton i) ends)
-          (within-heads p (in-plan h) (chosenIn b) (is .joins)) (within-tails p (in-plan h) (chosenIn b) (is .joins)) (is .certified) (is .counted) (let n = heads-few in omega arith) in
-          (subst⁻¹ (Certified (cell table) (required p)) e (m .0), subst⁻¹ (λ (s : State). Counted (required p) s (heads-of p (chosenIn b) ++ l .head ∷ []) (tails-of p (chosenIn b) ++ l .tail ∷ [])) e (m .1))
+          let e : stateIn g r ≡ add (cell table) (required p) (stateIn f b) (l .tail) (l .head) =
+          at .state-is ∙ ap (λ (v : List ℕ). add (cell table) v (stateIn f b) (l .tail) (l .head)) (h .vertices) in
+          let m = all-counted (cell table) (required p) (metric h) (l ∷ []) (stateIn f b) (heads-of p (chosenIn b))
+          (tails-of p (chosenIn b))
+          (λ x i. subst⁻¹ (λ (y : Link). List·Memᴰ (y .tail) (required p) × List·Memᴰ (y .head) (required p))
+          (List·Memᴰ·eq-of-singleton i) ends)
+          (within-heads p (in-plan h) (chosenIn b) (is .joins)) (within-tails p (in-plan h) (chosenIn b) (is .joins)) (is .certified)
+          (is .counted) (let n = heads-few in omega arith) in (
+            subst⁻¹ (Certified (cell table) (required p)) e (m .0),
+            subst⁻¹ (λ (s : State). Counted (required p) s (heads-of p (chosenIn b) ++ l .head ∷ [])
+                (tails-of p (chosenIn b) ++ l .tail ∷ [])) e (m .1),
+          )
 
       heads-more : heads-of p (chosenIn b) ++ l .head ∷ [] ≡ heads-of p (chosenIn r)
       unfolding heads-of
@@ -198,14 +215,17 @@ module _ {p : Plan} {table : List (List ℕ)} {vs start source tails heads : Lis
       named-more c g =
           subst⁻¹ (λ n. List·Memᴰ (namesIn r c) (0 ∷ upFrom n (componentCount p - n))) a-is
           (subst⁻¹ (λ z. List·Memᴰ z (0 ∷ upFrom (suc (b .a)) (componentCount p - suc (b .a)))) (names-new c g)
-          (still-named p (in-plan h) (some-component h) (namesIn b) (b .a) (is .one) (let e = h .count in omega arith) (is .named) l m other c g))
+          (still-named p (in-plan h) (some-component h) (namesIn b) (b .a) (is .one) (let e = h .count in omega arith)
+          (is .named) l m other c g))
 
       sources-new : (q : ℕ) → sourcesBy p (namesIn r) q ≡ map (renamed (b .a) x) (sourcesBy p (namesIn b) q)
       sources-new q =
-          map-cong (sourceBy p (namesIn r)) (λ y. renamed (b .a) x (sourceBy p (namesIn b) y)) (candidates p q) (λ y g. names-new (component p (y .tail)) (source-lt p (in-plan h) (some-component h) q y g))
+          map-cong (sourceBy p (namesIn r)) (λ y. renamed (b .a) x (sourceBy p (namesIn b) y)) (candidates p q)
+          (λ y g. names-new (component p (y .tail)) (source-lt p (in-plan h) (some-component h) q y g))
           ∙ sym (map-map (renamed (b .a) x) (sourceBy p (namesIn b)) (candidates p q))
 
-      entries-more : (q y : ℕ) → r .a ≤ q → q < componentCount p → List·Memᴰ y (0 ∷ upFrom (r .a) (componentCount p - r .a)) → entriesOf (r .entries) q y ≡ occurrences y (sourcesBy p (namesIn r) q)
+      entries-more : (q y : ℕ) → r .a ≤ q → q < componentCount p → List·Memᴰ y (0 ∷ upFrom (r .a) (componentCount p - r .a))
+          → entriesOf (r .entries) q y ≡ occurrences y (sourcesBy p (namesIn r) q)
       unfolding merged
       entries-more q y g c s =
           let few = h .few in
@@ -214,9 +234,11 @@ module _ {p : Plan} {table : List (List ℕ)} {vs start source tails heads : Lis
           let o = is .one in
           let i : (y ≢ b .a) × (y < 8) × List·Memᴰ y (0 ∷ upFrom (b .a) (componentCount p - b .a)) = elim (List·Memᴰ·cases-cons s) [
             | inl z ↦ ((λ f. omega arith), omega arith, List·Memᴰ·head z)
-            | inr t ↦ (let u = upFrom-mem (r .a) (componentCount p - r .a) t in ((λ f. omega arith), omega arith, List·Memᴰ·tail (mem-upFrom (b .a) (componentCount p - b .a) (omega arith) (omega arith))))
+            | inr t ↦ (let u = upFrom-mem (r .a) (componentCount p - r .a) t in
+                ((λ f. omega arith), omega arith, List·Memᴰ·tail (mem-upFrom (b .a) (componentCount p - b .a) (omega arith) (omega arith))))
           ] in
-          let z = is .entries q (b .a) (omega arith) c (List·Memᴰ·tail (mem-upFrom (b .a) (componentCount p - b .a) (omega arith) (omega arith))) in
+          let z = is .entries q (b .a) (omega arith) c
+          (List·Memᴰ·tail (mem-upFrom (b .a) (componentCount p - b .a) (omega arith) (omega arith))) in
           let w = is .entries q y (omega arith) c (i .2) in
           at .entries-are (omega arith) .done q y (omega arith) (omega arith) (i .1) ∙ ap₂ (λ u v. u + delta y x * v) w z
           ∙ sym (ap (occurrences y) (sources-new q) ∙ occurrences-renamed (b .a) x y other (i .0) (sourcesBy p (namesIn b) q))
@@ -226,7 +248,8 @@ module _ {p : Plan} {table : List (List ℕ)} {vs start source tails heads : Lis
           let e = a-is in
           let n = h .count in
           let f = h .few in
-          let m = few-merged (b .entries) (r .entries) (b .a) x k (omega arith) (omega arith) (subst⁻¹ (λ n. AreFew (b .entries) (b .a) n) (h .count) (is .few)) (at .entries-are (omega arith)) in
+          let m = few-merged (b .entries) (r .entries) (b .a) x k (omega arith) (omega arith)
+          (subst⁻¹ (λ n. AreFew (b .entries) (b .a) n) (h .count) (is .few)) (at .entries-are (omega arith)) in
           subst⁻¹ (λ a. entriesOf (r .entries) q y ≤ 2048 * 2 ^ a) (at .next) (m q y (omega arith) (omega arith) c)
 
       -- IT IS A BRANCH
@@ -238,7 +261,8 @@ module _ {p : Plan} {table : List (List ℕ)} {vs start source tails heads : Lis
         heads-size = ap length (at .heads-are) ∙ length-set (b .heads) (b .a - 1) (l .head) ∙ is .heads-size;
         joins = subst⁻¹ (Joins p) chosen-more joins-more;
         certified = one-link .0;
-        counted = subst (λ (hs : List ℕ). Counted (required p) (stateIn g r) hs (tails-of p (chosenIn r))) heads-more (subst (Counted (required p) (stateIn g r) (heads-of p (chosenIn b) ++ l .head ∷ [])) tails-more (one-link .1));
+        counted = subst (λ (hs : List ℕ). Counted (required p) (stateIn g r) hs (tails-of p (chosenIn r))) heads-more
+            (subst (Counted (required p) (stateIn g r) (heads-of p (chosenIn b) ++ l .head ∷ [])) tails-more (one-link .1));
         fixed = fixed-more;
         named = named-more;
         entries = entries-more;

@@ -27,7 +27,8 @@ module _ (a x : ℕ) (names : List ℕ) where
       size = length-set r n x ∙ h .size;
       within = omega arith;
       done = λ c l. elim (ℕ-discrete c n) [
-        | yes s ↦ ap (λ z. getD (set r n x) z 0) s ∙ getD-set-same r n x 0 (let k = h .size in omega arith) ∙ sym (renamed-moved a x (getD names c 0) (ap (λ z. getD names z 0) s ∙ e))
+        | yes s ↦ ap (λ z. getD (set r n x) z 0) s ∙ getD-set-same r n x 0 (let k = h .size in omega arith)
+            ∙ sym (renamed-moved a x (getD names c 0) (ap (λ z. getD names z 0) s ∙ e))
         | no o ↦ getD-set-other r n c x 0 o ∙ h .done c (omega arith)
       ];
       rest = λ c l. getD-set-other r n c x 0 (λ e. omega arith) ∙ h .rest c (omega arith);

@@ -1,4 +1,5 @@
--- The root is a branch: nothing is chosen, its state is that of the required arcs with the multipliers as potentials, and every component has its own name.
+-- The root is a branch: nothing is chosen, its state is that of the required arcs with the multipliers as
+-- potentials, and every component has its own name.
 use mathlib.Core.Path.{_≡_, refl, sym, ap, _∙_, subst, subst⁻¹}
 use mathlib.Core.Logic.{inl, inr}
 use mathlib.Core.List.{List, [], _∷_, List·Memᴰ, List·Memᴰ·head, List·Memᴰ·tail, List·Memᴰ·not-nil, List·Memᴰ·cases-cons}
@@ -16,12 +17,12 @@ use Rattle.postman.specs.Component.{component, componentCount}
 use Rattle.postman.specs.Arborescence.{candidates}
 use Rattle.postman.specs.Balancing.{heads as heads-of, tails as tails-of, linkCost}
 use Rattle.postman.specs.LagrangianBound.{reducedCost}
-use Rattle.postman.specs.Steps.{Joins}
+use Rattle.postman.specs.Steps.{Joins, cell}
 use Rattle.postman.specs.Laws.Existence.{some-required}
 use Rattle.postman.specs.Laws.Required.{number-ends}
 use Rattle.postman.specs.Laws.Membership.{getD-mem, mem-getD, mem-upFrom, upFrom-mem}
 use Rattle.postman.specs.Laws.Lists.{map-cong}
-use Rattle.residual_search.specs.Step.{State, cell, arcsOf}
+use Rattle.residual_search.specs.Step.{State, arcsOf}
 use Rattle.balance.specs.Invariant.{Certified, Counted}
 use Rattle.balance.specs.Laws.Repriced.{repriced}
 use Rattle.small_counts.specs.Matrix.{entriesOf, AreFew, AreCounts}
@@ -46,7 +47,8 @@ none (t ∷ ts) (h ∷ hs) = refl
 pub no-chosen : (b : Branch) → b .a ≡ 1 → chosenIn b ≡ []
 no-chosen b e = ap (λ n. linksIn (n - 1) (b .tails) (b .heads)) e ∙ none (b .tails) (b .heads)
 
-module _ {p : Plan} {table : List (List ℕ)} {vs start source tails heads : List ℕ} {k : ℕ} (h : Prepared p table vs start source tails heads k) where
+module _ {p : Plan} {table : List (List ℕ)} {vs start source tails heads : List ℕ} {k : ℕ}
+    (h : Prepared p table vs start source tails heads k) where
   -- the candidates have reduced costs, by any potentials
   pub can-rest : (pot : List ℕ) → ArePotentials table (required p) pot → (a : ℕ) → 1 ≤ a → a ≤ k → CanRest table pot start tails heads a k
   can-rest pot f a one within = record {
@@ -68,7 +70,8 @@ module _ {p : Plan} {table : List (List ℕ)} {vs start source tails heads : Lis
         reducible pot f (subst⁻¹ (λ v. List·Memᴰ v (required p)) t (ends .0)) (subst⁻¹ (λ v. List·Memᴰ v (required p)) u (ends .1));
   }
     where
-      reducible : (pot : List ℕ) → ArePotentials table (required p) pot → {i j : ℕ} → List·Memᴰ i (required p) → List·Memᴰ j (required p) → CanReduce table pot i j
+      reducible : (pot : List ℕ) → ArePotentials table (required p) pot → {i j : ℕ} → List·Memᴰ i (required p) → List·Memᴰ j (required p)
+          → CanReduce table pot i j
       reducible pot f {i} {j} mi mj = record {
         tail = metric h .small i mi;
         head = metric h .small j mj;
@@ -161,15 +164,20 @@ module _ {p : Plan} {table : List (List ℕ)} {vs start source tails heads : Lis
             certified = subst⁻¹ (Certified (cell table) (required p)) (f .state-is) (start-certified h g w s);
             counted = subst⁻¹ (λ (t : List Link). Counted (required p) (stateIn (base .amounts) b) (heads-of p t) (tails-of p t)) no-links
                 (subst⁻¹ (λ (s : State). Counted (required p) s (heads-of p []) (tails-of p [])) (f .state-is) (start-counted h g w s));
-            fixed = f .fixed-is ∙ g .required-cost ∙ (let e : requiredCost p ≡ requiredCost p + 0 = omega arith in e) ∙ ap (λ (t : List Link). requiredCost p + linkCost p t) (sym no-links);
+            fixed = f .fixed-is ∙ g .required-cost ∙ (let e : requiredCost p ≡ requiredCost p + 0 = omega arith in e)
+                ∙ ap (λ (t : List Link). requiredCost p + linkCost p t) (sym no-links);
             named = named;
             entries = λ q x l c m.
                 let e = f .nothing-chosen in
                 let few = h .few in
-                ap (λ (v : List ℕ). entriesOf v q x) (f .entries-are) ∙ g .entries-are q x (omega arith) c (small x m) ∙ ap (occurrences x) (sources-same q);
-            few = subst⁻¹ (λ (v : List ℕ). AreFew v (b .a) (componentCount p)) (f .entries-are) (subst⁻¹ (λ n. AreFew entries n (componentCount p)) (f .nothing-chosen) (g .few));
-            counts = λ l. subst⁻¹ (λ (v : List ℕ). AreCounts v (b .a) (componentCount p) (b .counts)) (f .entries-are) (subst⁻¹ (λ n. AreCounts entries n (componentCount p) (b .counts)) (f .nothing-chosen)
-                (subst (λ n. AreCounts entries 1 n (b .counts)) (h .count) (f .counts-are (let e = f .nothing-chosen in let n = h .count in omega arith))));
+                ap (λ (v : List ℕ). entriesOf v q x) (f .entries-are) ∙ g .entries-are q x (omega arith) c (small x m)
+                ∙ ap (occurrences x) (sources-same q);
+            few = subst⁻¹ (λ (v : List ℕ). AreFew v (b .a) (componentCount p)) (f .entries-are)
+                (subst⁻¹ (λ n. AreFew entries n (componentCount p)) (f .nothing-chosen) (g .few));
+            counts = λ l. subst⁻¹ (λ (v : List ℕ). AreCounts v (b .a) (componentCount p) (b .counts)) (f .entries-are)
+                (subst⁻¹ (λ n. AreCounts entries n (componentCount p) (b .counts)) (f .nothing-chosen)
+                (subst (λ n. AreCounts entries 1 n (b .counts)) (h .count)
+                (f .counts-are (let e = f .nothing-chosen in let n = h .count in omega arith))));
           };
           nothing = f .nothing-chosen;
           names-are = f .names-are;
@@ -178,5 +186,6 @@ module _ {p : Plan} {table : List (List ℕ)} {vs start source tails heads : Lis
             small : (x : ℕ) → List·Memᴰ x (0 ∷ upFrom (b .a) (componentCount p - b .a)) → x < 8
             small x m = elim (List·Memᴰ·cases-cons m) [
               | inl e ↦ omega arith
-              | inr t ↦ (let i = upFrom-mem (b .a) (componentCount p - b .a) t in let few = h .few in let e = f .nothing-chosen in omega arith)
+              | inr t ↦ (let i = upFrom-mem (b .a) (componentCount p - b .a) t in let few = h .few in let e = f .nothing-chosen in
+                  omega arith)
             ]

@@ -1,5 +1,5 @@
--- The search starts with the multipliers as potentials: they are feasible, and they price the imbalance at what balancing the required arcs costs, so that nothing which is sent has a reduced cost. A constant on
--- all of them changes neither.
+-- The search starts with the multipliers as potentials: they are feasible, and they price the imbalance at what balancing the required arcs
+-- costs, so that nothing which is sent has a reduced cost. A constant on all of them changes neither.
 use mathlib.Core.Path.{_≡_, subst, subst⁻¹}
 use mathlib.Core.List.{List, [], map, List·Memᴰ, List·Memᴰ·not-nil}
 use Prim.Native.Nat.{ℕ, _+_, _≤_}
@@ -12,11 +12,11 @@ use Rattle.postman.specs.Plan.{Plan, requiredArcs}
 use Rattle.postman.specs.Required.{required}
 use Rattle.postman.specs.Link.{Link}
 use Rattle.postman.specs.Balancing.{heads as heads-of, tails as tails-of}
-use Rattle.postman.specs.Steps.{Joins}
+use Rattle.postman.specs.Steps.{Joins, cell, amount}
 use Rattle.postman.specs.Laws.Balancing.{within-heads, within-tails}
 use Rattle.postman.specs.Laws.Membership.{mem-getD}
-use Rattle.balance.specs.Optimality.{Feasible, Tight}
-use Rattle.residual_search.specs.Step.{State, cell, amount, potential}
+use Rattle.balance.specs.Optimality.{ArePotentials, Tight}
+use Rattle.residual_search.specs.Step.{State, potential}
 use Rattle.balance.specs.Invariant.{Certified, Counted}
 use Rattle.balance.specs.Balance.{balance}
 use Rattle.direct_amounts.specs.Laws.Plan.{balance-certified, balance-counted, multipliers-heights}
@@ -31,8 +31,10 @@ with-magnitude : (x : ℤ) → pos 0 ≤ℤ (x +ℤ pos (natAbs x))
 with-magnitude (pos n) = simp zl (omega arith)
 with-magnitude (negsuc n) = simp zl (omega (arith, z))
 
-module _ {p : Plan} {table : List (List ℕ)} {vs start source tails heads : List ℕ} {k : ℕ} (h : Prepared p table vs start source tails heads k)
-    {base : State} {u : List ℤ} {r : ℕ} {entries : List ℕ} (g : AreGiven p table base u r entries) (w : List ℕ) (s : AreShifted u vs (length vs) w) where
+module _ {p : Plan} {table : List (List ℕ)} {vs start source tails heads : List ℕ} {k : ℕ}
+    (h : Prepared p table vs start source tails heads k)
+    {base : State} {u : List ℤ} {r : ℕ} {entries : List ℕ} (g : AreGiven p table base u r entries) (w : List ℕ)
+    (s : AreShifted u vs (length vs) w) where
   abbrev mu : ℕ → ℤ
   mu i = getD u i (pos 0)
 
@@ -62,10 +64,11 @@ module _ {p : Plan} {table : List (List ℕ)} {vs start source tails heads : Lis
   none : Joins p []
   none l m = absurd (List·Memᴰ·not-nil m)
 
-  both : Feasible (cell table) (required p) q × Tight (cell table) (required p) (amount (s₀ .amounts)) q
-  both = multipliers-heights p (h .plannable .well-formed) (h .plannable .connected) (cell table) (agrees h) mu (g .multipliers) q (4128705 + natAbs low) here
+  both : ArePotentials (cell table) (required p) q × Tight (cell table) (required p) (amount (s₀ .amounts)) q
+  both = multipliers-heights p (h .plannable .well-formed) (h .plannable .connected) (cell table) (agrees h) mu (g .multipliers) q
+      (4128705 + natAbs low) here
 
-  feasible : Feasible (cell table) (required p) (potential w)
+  feasible : ArePotentials (cell table) (required p) (potential w)
   feasible i j mi mj = let a = both .0 i j mi mj in omega arith
 
   tight : Tight (cell table) (required p) (amount (s₀ .amounts)) (potential w)
@@ -89,9 +92,11 @@ module _ {p : Plan} {table : List (List ℕ)} {vs start source tails heads : Lis
   -- THE STATE OF THE REQUIRED ARCS, WITH THE MULTIPLIERS AS ITS POTENTIALS
   pub start-certified : Certified (cell table) (required p) (repriced base w)
   start-certified =
-      subst⁻¹ (λ (b : State). Certified (cell table) (required p) (repriced b w)) (g .base-is) (repriced-certified (cell table) (required p) s₀ w feasible tight certified (s .size) some-arc (s .low))
+      subst⁻¹ (λ (b : State). Certified (cell table) (required p) (repriced b w)) (g .base-is)
+      (repriced-certified (cell table) (required p) s₀ w feasible tight certified (s .size) some-arc (s .low))
 
   pub start-counted : Counted (required p) (repriced base w) (heads-of p []) (tails-of p [])
   start-counted =
       subst⁻¹ (λ (b : State). Counted (required p) (repriced b w) (heads-of p []) (tails-of p [])) (g .base-is)
-      (repriced-counted (cell table) (required p) s₀ w feasible tight (heads-of p []) (tails-of p []) (within-heads p (in-plan h) [] none) (within-tails p (in-plan h) [] none) certified counted)
+      (repriced-counted (cell table) (required p) s₀ w feasible tight (heads-of p []) (tails-of p []) (within-heads p (in-plan h) [] none)
+      (within-tails p (in-plan h) [] none) certified counted)

@@ -1,4 +1,5 @@
--- The refusals in their order. Each test of the code is a condition of the definition, and where the conditions before it do not apply, the first that applies is among the rest.
+-- The refusals in their order. Each test of the code is a condition of the definition, and where the conditions before it do not
+-- apply, the first that applies is among the rest.
 use mathlib.Core.Path.{_≡_, refl, sym, ap, _∙_, subst, subst⁻¹}
 use mathlib.Core.Bool.{Bool, true, false, not, cond}
 use mathlib.Core.List.{List, [], _∷_, _++_}
@@ -15,7 +16,7 @@ use Rattle.postman.specs.Refusal.{Conditions, firstRefusal}
 use Rattle.postman.specs.PlanFile.{isOutside}
 use Rattle.postman.specs.Component.{componentCount}
 use Rattle.postman.specs.PlanCall.{sheetPlaces, highestBudget, isCutOff, partsConditions}
-use Rattle.postman.specs.Theorem.{cut-off}
+use Rattle.postman.specs.Laws.Theorem.{cut-off}
 use Rattle.postman.specs.Laws.Tests.{eqb-other}
 use Rattle.refusal.specs.declared.Refusal.{Refusal}
 use Rattle.refusal.specs.Verdict.{refusalNumber}
@@ -37,14 +38,16 @@ use Rattle.call_steps.specs.Laws.Refused.{is-refused}
 
 pub measured-refusal : (p : Plan) (net : Network) → IsNetwork p net → networkRefusal (net .components) (net .«cut_off») ≡ planRefusal p
 unfolding planRefusal
-measured-refusal p net h = ap (λ (n : ℕ). networkRefusal n (net .«cut_off»)) (h .components .all) ∙ ap (networkRefusal (componentCount p)) (h .cut-off)
+measured-refusal p net h =
+    ap (λ (n : ℕ). networkRefusal n (net .«cut_off»)) (h .components .all) ∙ ap (networkRefusal (componentCount p)) (h .cut-off)
 
 -- 10, 11 and 12 of any plan, from the number of its components
 pub parts-refusal : (p : Plan) → WellFormed p → firstRefusal (partsConditions p ++ (isCutOff p, 12) ∷ []) ≡ planRefusal p
 unfolding firstRefusal partsConditions planRefusal networkRefusal
 parts-refusal p w = rw (idle p w)
 
-pub is-known : (p : Plan) (table : List (List ℕ)) (net : Network) → IsMeasured p table net → networkRefusal (net .components) (net .«cut_off») ≡ none
+pub is-known : (p : Plan) (table : List (List ℕ)) (net : Network) → IsMeasured p table net
+    → networkRefusal (net .components) (net .«cut_off») ≡ none
     → (vs : List ℕ) → vs ≡ required p → IsKnown p table vs
 unfolding networkRefusal
 is-known p table net m e vs v =
@@ -93,10 +96,13 @@ sheet-long p budget places l = rw (le-ltb places sheetPlaces l)
 
 -- ---- the answer of a refusal
 
-pub refused-planned : (p : Plan) (budget : ℕ) (o : Option ℕ) (old : List ℕ) (r : Refusal) (x : Planned) → x ≡ refusedWith r → o ≡ some (refusalNumber r) → IsPlanned p budget o old old x
+pub refused-planned : (p : Plan) (budget : ℕ) (o : Option ℕ) (old : List ℕ) (r : Refusal) (x : Planned) → x ≡ refusedWith r
+    → o ≡ some (refusalNumber r) → IsPlanned p budget o old old x
 refused-planned p budget o old r x e h =
-    subst⁻¹ (λ (x : Planned). IsPlanned p budget o old old x) e (subst⁻¹ (λ (o : Option ℕ). IsPlanned p budget o old old (refusedWith r)) h (is-refused p budget old r))
+    subst⁻¹ (λ (x : Planned). IsPlanned p budget o old old x) e
+    (subst⁻¹ (λ (o : Option ℕ). IsPlanned p budget o old old (refusedWith r)) h (is-refused p budget old r))
 
-pub planned-as : (p q : Plan) (budget : ℕ) (o o′ : Option ℕ) (old new : List ℕ) (x : Planned) → p ≡ q → o ≡ o′ → IsPlanned p budget o old new x → IsPlanned q budget o′ old new x
+pub planned-as : (p q : Plan) (budget : ℕ) (o o′ : Option ℕ) (old new : List ℕ) (x : Planned) → p ≡ q → o ≡ o′
+    → IsPlanned p budget o old new x → IsPlanned q budget o′ old new x
 planned-as p q budget o o′ old new x e h i =
     subst (λ (q : Plan). IsPlanned q budget o′ old new x) e (subst (λ (o : Option ℕ). IsPlanned p budget o old new x) h i)

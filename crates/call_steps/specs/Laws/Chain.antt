@@ -1,5 +1,5 @@
--- The chain of a call with conditions of its own: where a verdict refuses, the first condition that applies is among those it looked at; where it does not, it is among the rest. The last of them
--- are those of the plan that the call is made for.
+-- The chain of a call with conditions of its own: where a verdict refuses, the first condition that applies is among those it looked at;
+-- where it does not, it is among the rest. The last of them are those of the plan that the call is made for.
 use mathlib.Core.Path.{_≡_, refl, sym, ap, _∙_}
 use mathlib.Core.List.{List, _++_}
 use mathlib.Core.Bool.{Bool, true, false, cond}
@@ -26,11 +26,13 @@ use Rattle.call_steps.specs.Laws.Call.{parts-refusal, refused-planned, p
 
 -- ---- one step of the chain
 
-pub step-refused : (q : Plan) (budget : ℕ) (cs ds : Conditions) (old : List ℕ) (r : Refusal) (x : Planned) → x ≡ refusedWith r → firstRefusal cs ≡ some (refusalNumber r)
+pub step-refused : (q : Plan) (budget : ℕ) (cs ds : Conditions) (old : List ℕ) (r : Refusal) (x : Planned) → x ≡ refusedWith r
+    → firstRefusal cs ≡ some (refusalNumber r)
     → IsPlanned q budget (firstRefusal (cs ++ ds)) old old x
 step-refused q budget cs ds old r x e h = refused-planned q budget _ old r x e (first-stop cs ds _ h)
 
-pub step-on : (q : Plan) (budget : ℕ) (cs ds : Conditions) (old new : List ℕ) (x : Planned) → firstRefusal cs ≡ none → IsPlanned q budget (firstRefusal ds) old new x
+pub step-on : (q : Plan) (budget : ℕ) (cs ds : Conditions) (old new : List ℕ) (x : Planned) → firstRefusal cs ≡ none
+    → IsPlanned q budget (firstRefusal ds) old new x
     → IsPlanned q budget (firstRefusal (cs ++ ds)) old new x
 step-on q budget cs ds old new x h i = planned-as q q budget _ _ old new x refl (sym (first-on cs ds h)) i
 
@@ -40,7 +42,8 @@ pub sheet-refused : (budget places : ℕ) → places < sheetPlaces → some 8 �
 unfolding firstRefusal callConditions
 sheet-refused budget places l = let e = lt-ltb places sheetPlaces l in rw e refl
 
-pub budget-refused : (budget places : ℕ) → sheetPlaces ≤ places → checkedOf budget ≡ Refused → some 9 ≡ firstRefusal (callConditions budget places)
+pub budget-refused : (budget places : ℕ) → sheetPlaces ≤ places → checkedOf budget ≡ Refused
+    → some 9 ≡ firstRefusal (callConditions budget places)
 unfolding firstRefusal callConditions checkedOf
 budget-refused budget places l h = let e = le-ltb places sheetPlaces l in rw e (at (isOutside budget 1 highestBudget) h)
   where
@@ -48,7 +51,8 @@ budget-refused budget places l h = let e = le-ltb places sheetPlaces l in rw e (
     at true h = refl
     at false h = let z : _≡_ {A = ℕ} 0 1 = cc in absurd (omega arith)
 
-pub lent-good : (budget places : ℕ) (b : Budget) → sheetPlaces ≤ places → checkedOf budget ≡ Good b → none ≡ firstRefusal (callConditions budget places)
+pub lent-good : (budget places : ℕ) (b : Budget) → sheetPlaces ≤ places → checkedOf budget ≡ Good b
+    → none ≡ firstRefusal (callConditions budget places)
 unfolding firstRefusal callConditions checkedOf
 lent-good budget places b l h = let e = le-ltb places sheetPlaces l in rw e (at (isOutside budget 1 highestBudget) h)
   where
@@ -64,6 +68,8 @@ small-budget budget places e = call-limits budget places e .2
 
 -- p, which the plan q was made for, is answered as q
 pub made-planned : (p q : Plan) (budget : ℕ) (cs : Conditions) (old new : List ℕ) (x : Planned)
-    → p ≡ q → WellFormed q → firstRefusal cs ≡ none → IsPlanned p budget (planRefusal p) old new x → IsPlanned q budget (firstRefusal (cs ++ lastConditions q)) old new x
+    → p ≡ q → WellFormed q → firstRefusal cs ≡ none → IsPlanned p budget (planRefusal p) old new x
+    → IsPlanned q budget (firstRefusal (cs ++ lastConditions q)) old new x
 made-planned p q budget cs old new x v w e i =
-    step-on q budget cs (lastConditions q) old new x e (planned-as p q budget _ _ old new x v (ap planRefusal v ∙ sym (parts-refusal q w)) i)
+    step-on q budget cs (lastConditions q) old new x e
+    (planned-as p q budget _ _ old new x v (ap planRefusal v ∙ sym (parts-refusal q w)) i)

@@ -1,5 +1,5 @@
--- The plan's candidates are the links at the places: links, and candidates among them, are selected from the pairs of required vertices, these from all pairs, and
--- the pairs in order are those of the places in order.
+-- The plan's candidates are the links at the places: links, and candidates among them, are selected from the pairs of required vertices,
+-- these from all pairs, and the pairs in order are those of the places in order.
 use mathlib.Core.Path.{_≡_, refl, sym, ap, ap₂, _∙_}
 use mathlib.Core.Bool.{Bool, false, not, _&&_}
 use mathlib.Core.List.{List, map}
@@ -46,9 +46,11 @@ module _ (p : Plan) (ok : WellFormed p) where
   -- the ends of a link are required
   is-pair : (i j : ℕ) → isPair (link i j) ≡ isHeld (links p) i j
   is-pair i j =
-      same-test (isPair (link i j)) (isHeld (links p) i j) (λ t. and-parts (isRequired p i && isRequired p j) (isHeld (links p) i j) t .1) (λ t.
+      same-test (isPair (link i j)) (isHeld (links p) i j) (λ t. and-parts (isRequired p i && isRequired p j) (isHeld (links p) i j) t .1)
+      (λ t.
       let e = link-ends p (held-mem (links p) i j t) in
-      and-both (isRequired p i && isRequired p j) (isHeld (links p) i j) (and-both (isRequired p i) (isRequired p j) (of-required p ok (e .0)) (of-required p ok (e .1))) t)
+      and-both (isRequired p i && isRequired p j) (isHeld (links p) i j)
+      (and-both (isRequired p i) (isRequired p j) (of-required p ok (e .0)) (of-required p ok (e .1))) t)
 
   module _ (flags : List Bool) (of : List ℕ) (count : ℕ) (are : IsLinks p flags) (known : IsComponents p of count) where
     at-place : (q x : ℕ) → x < 4096 → (isPair (linkOf x) && crosses q (linkOf x)) ≡ isCandidate flags of q x

@@ -12,7 +12,8 @@ use Rattle.candidates.specs.Laws.Places.{before-place}
 tail-in : (x : ℕ) → x < 4096 → x / 64 % 64 ≡ x / 64
 tail-in x l = omega arith
 
-module _ (links : List Bool) (component : List ℕ) (k : ℕ) (start list sources tails heads : List ℕ) (g : AreGrouped links component k start list)
+module _ (links : List Bool) (component : List ℕ) (k : ℕ) (start list sources tails heads : List ℕ)
+    (g : AreGrouped links component k start list)
     (h : AreEnds component list 4096 sources tails heads) where
   abbrev all : List ℕ
   all = placesBefore links component k

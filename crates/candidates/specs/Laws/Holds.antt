@@ -39,17 +39,26 @@ holds-as h e = rw e at h
 pub holds-by : {n : ℕ} {array a : List ℕ} {count c : ℕ} {xs : List ℕ} → array ≡ a → count ≡ c → Holds n a c xs → Holds n array count xs
 holds-by e f h = rw (← e, ← f) at h
 
-pub holds-whole : {n : ℕ} {array : List ℕ} {count : ℕ} {xs : List ℕ} (ys : List ℕ) → Holds n array count xs → xs ≡ ys → Holds n array (length ys) ys
+pub holds-whole : {n : ℕ} {array : List ℕ} {count : ℕ} {xs : List ℕ} (ys : List ℕ) → Holds n array count xs → xs ≡ ys
+    → Holds n array (length ys) ys
 holds-whole {n} {array} ys h e = subst (λ c. Holds n array c ys) (holds-length h ∙ ap length e) (holds-as h e)
 
-pub holds-start : (n : ℕ) (array : List ℕ) (count : ℕ) (f : ℕ → Bool) → length array ≡ n → count ≤ n → Holds n array count (take count array ++ select f (below 0))
-holds-start n array count f s l = record { size = s; fits = l; content = sym (ap (λ (zs : List ℕ). take count array ++ zs) (select-none-below f) ∙ append-nil (take count array)) }
+pub holds-start : (n : ℕ) (array : List ℕ) (count : ℕ) (f : ℕ → Bool) → length array ≡ n → count ≤ n
+    → Holds n array count (take count array ++ select f (below 0))
+holds-start n array count f s l =
+    record {
+      size = s;
+      fits = l;
+      content = sym (ap (λ (zs : List ℕ). take count array ++ zs) (select-none-below f) ∙ append-nil (take count array));
+    }
 
 -- ---- a selection of numbers behind ys, up to the number x
 
-module _ {n : ℕ} {array : List ℕ} {count : ℕ} (ys : List ℕ) (f : ℕ → Bool) (x : ℕ) (h : Holds n array count (ys ++ select f (below x))) where
+module _ {n : ℕ} {array : List ℕ} {count : ℕ} (ys : List ℕ) (f : ℕ → Bool) (x : ℕ)
+    (h : Holds n array count (ys ++ select f (below x))) where
   pub pick-taken : f x ≡ true → count < n → Holds n (set array count x) (count + 1) (ys ++ select f (below (x + 1)))
-  pick-taken e l = holds-as (holds-more h x l) (append-assoc ys (select f (below x)) (x ∷ []) ∙ ap (λ (zs : List ℕ). ys ++ zs) (sym (next-taken f x e)))
+  pick-taken e l =
+      holds-as (holds-more h x l) (append-assoc ys (select f (below x)) (x ∷ []) ∙ ap (λ (zs : List ℕ). ys ++ zs) (sym (next-taken f x e)))
 
   pub pick-passed : f x ≡ false → Holds n array count (ys ++ select f (below (x + 1)))
   pick-passed e = holds-as h (ap (λ (zs : List ℕ). ys ++ zs) (sym (next-passed f x e)))

@@ -21,7 +21,8 @@ use Rattle.candidates.specs.LaidOut.{AreLaidOut}
 use Rattle.candidates.specs.Laws.Places.{before-fits, before-length, before-at, before-place}
 use Rattle.candidates.specs.Laws.Candidates.{candidates-are}
 
-module _ (p : Plan) (ok : WellFormed p) (links : List Bool) (of : List ℕ) (k : ℕ) (are : IsLinks p links) (known : IsComponents p of k) (some : 1 ≤ k) (few : k ≤ 8) (r : Candidates)
+module _ (p : Plan) (ok : WellFormed p) (links : List Bool) (of : List ℕ) (k : ℕ) (are : IsLinks p links) (known : IsComponents p of k)
+    (some : 1 ≤ k) (few : k ≤ 8) (r : Candidates)
     (ends : HaveEnds links of k (r .start) (r .source) (r .tails) (r .heads)) where
   abbrev places : ℕ → List ℕ
   places = placesOf links of
@@ -63,7 +64,8 @@ module _ (p : Plan) (ok : WellFormed p) (links : List Bool) (of : List ℕ) (k :
         let n = k-is in
         let c = count-is q in
         let s = ends .starts q (omega arith) in
-        subst⁻¹ (λ z. (z + i < length all) × (getD all (z + i) 0 ≡ getD (places q) i 0)) s (before-at links of q a k i (omega arith) (omega arith))
+        subst⁻¹ (λ z. (z + i < length all) × (getD all (z + i) 0 ≡ getD (places q) i 0)) s
+        (before-at links of q a k i (omega arith) (omega arith))
 
     tail-is : getD (r .tails) place 0 ≡ linkAt (candidates p q) i .tail
     tail-is = ends .tail place (found .0) ∙ ap (λ z. z / 64) (found .1) ∙ ap (λ (l : Link). l .tail) (sym (link-is q i))
@@ -74,7 +76,8 @@ module _ (p : Plan) (ok : WellFormed p) (links : List Bool) (of : List ℕ) (k :
     source-is : getD (r .source) place 0 ≡ component p (linkAt (candidates p q) i .tail)
     source-is =
         let f = before-place links of k place (found .0) in
-        let t : getD all place 0 / 64 ≡ linkAt (candidates p q) i .tail = ap (λ z. z / 64) (found .1) ∙ ap (λ (l : Link). l .tail) (sym (link-is q i)) in
+        let t : getD all place 0 / 64 ≡ linkAt (candidates p q) i .tail =
+        ap (λ z. z / 64) (found .1) ∙ ap (λ (l : Link). l .tail) (sym (link-is q i)) in
         ends .source place (found .0) ∙ known .each (getD all place 0 / 64) (omega arith) ∙ ap (component p) t
 
   holds : AreCandidates p (laidOut (componentCount p) (r .start) (r .source))
@@ -99,4 +102,11 @@ module _ (p : Plan) (ok : WellFormed p) (links : List Bool) (of : List ℕ) (k :
       ascending (suc q) l = let e = start-next (suc q) (omega arith) l in omega arith
 
   pub are-laid-out : AreLaidOut p r
-  are-laid-out = record { layout = lies; are-candidates = holds; none-first = (none 0 (omega arith), none 1 (omega arith)); tail = tail-is; head = head-is }
+  are-laid-out =
+      record {
+        layout = lies;
+        are-candidates = holds;
+        none-first = (none 0 (omega arith), none 1 (omega arith));
+        tail = tail-is;
+        head = head-is;
+      }

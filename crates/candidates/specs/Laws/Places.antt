@@ -1,4 +1,5 @@
--- The places of the candidates: how they follow each other, and that they are few, since a pair is a candidate of one component at most, that of its head.
+-- The places of the candidates: how they follow each other, and that they are few, since a pair is a candidate
+-- of one component at most, that of its head.
 use mathlib.Core.Path.{_≡_, refl, sym, ap, _∙_, subst}
 use mathlib.Core.Logic.{inl, inr}
 use mathlib.Core.Bool.{Bool, true, false, not, _&&_}
@@ -70,8 +71,10 @@ module _ (links : List Bool) (component : List ℕ) where
   before-few zero = zero-le
   before-few (suc q) =
       let e : suc q + 1 ≡ suc (suc q) = omega arith in
-      let d = disjoint-length (headBelow (suc q)) (isCandidate links component (suc q)) (headBelow (suc q + 1)) (below 4096) (one-each (suc q)) in
-      sums (length (before (suc q))) (length (of (suc q))) (length (select (headBelow (suc q)) (below 4096))) (before-few q) (length-append (before (suc q)) (of (suc q))) d
+      let d = disjoint-length (headBelow (suc q)) (isCandidate links component (suc q)) (headBelow (suc q + 1)) (below 4096)
+      (one-each (suc q)) in
+      sums (length (before (suc q))) (length (of (suc q))) (length (select (headBelow (suc q)) (below 4096))) (before-few q)
+      (length-append (before (suc q)) (of (suc q))) d
       (ap (λ z. length (select (headBelow z) (below 4096))) e)
     where
       sums : (a b c : ℕ) {d e f : ℕ} → a ≤ c → d ≡ a + b → c + b ≤ e → e ≡ f → d ≤ f
@@ -81,14 +84,17 @@ module _ (links : List Bool) (component : List ℕ) where
   unfolding placesBefore
   before-fits zero = zero-le
   before-fits (suc q) =
-      le-trans (before-few q) (subst (λ n. length (select (headBelow (suc q)) (below 4096)) ≤ n) (length-below 4096) (select-length (headBelow (suc q)) (below 4096)))
+      le-trans (before-few q)
+      (subst (λ n. length (select (headBelow (suc q)) (below 4096)) ≤ n) (length-below 4096)
+      (select-length (headBelow (suc q)) (below 4096)))
 
   pub before-length : (q : ℕ) → 1 ≤ q → length (before (q + 1)) ≡ length (before q) + length (of q)
   before-length q l = ap length (before-more q l) ∙ length-append (before q) (of q)
 
   -- ---- where they stand
 
-  pub before-at : (q : ℕ) → 1 ≤ q → (k i : ℕ) → q < k → i < length (of q) → (length (before q) + i < length (before k)) × (getD (before k) (length (before q) + i) 0 ≡ getD (of q) i 0)
+  pub before-at : (q : ℕ) → 1 ≤ q → (k i : ℕ) → q < k → i < length (of q)
+      → (length (before q) + i < length (before k)) × (getD (before k) (length (before q) + i) 0 ≡ getD (of q) i 0)
   before-at q l zero i m b = absurd (omega arith)
   before-at q l (suc k) i m b =
       let s : k + 1 ≡ suc k = omega arith in
@@ -100,12 +106,16 @@ module _ (links : List Bool) (component : List ℕ) where
             let y = ap (λ z. length (of z)) g in (
               omega arith,
               ap (λ (l : List ℕ). getD l (length (before q) + i) 0) e
-                  ∙ ap (λ z. getD (before k ++ of k) (z + i) 0) x ∙ getD-append-add (before k) (of k) i 0 ∙ ap (λ z. getD (of z) i 0) (sym g),
+                  ∙ ap (λ z. getD (before k ++ of k) (z + i) 0) x ∙ getD-append-add (before k) (of k) i 0
+                  ∙ ap (λ z. getD (of z) i 0) (sym g),
             )
         | no o ↦
             let r = before-at q l k i (omega arith) b in
-            let f = r .0 in
-            (omega arith, ap (λ (l : List ℕ). getD l (length (before q) + i) 0) e ∙ List·getD-append (before k) (of k) 0 (length (before q) + i) f ∙ r .1)
+            let f = r .0 in (
+              omega arith,
+              ap (λ (l : List ℕ). getD l (length (before q) + i) 0) e
+                  ∙ List·getD-append (before k) (of k) 0 (length (before q) + i) f ∙ r .1,
+            )
       ]
 
   -- every one is the place of a pair
@@ -132,7 +142,8 @@ module _ (links : List Bool) (component : List ℕ) where
   starts-none (suc zero) l = refl
   starts-none (suc (suc i)) l = absurd (omega arith)
 
-  pub starts-more : (q : ℕ) (start : List ℕ) (n : ℕ) → q + 1 < length start → StartsTo q start → n ≡ length (before (q + 1)) → StartsTo (q + 1) (set start (q + 1) n)
+  pub starts-more : (q : ℕ) (start : List ℕ) (n : ℕ) → q + 1 < length start → StartsTo q start → n ≡ length (before (q + 1))
+      → StartsTo (q + 1) (set start (q + 1) n)
   starts-more q start n l h e i b = elim (ℕ-discrete i (q + 1)) [
     | yes s ↦ ap (λ x. getD (set start (q + 1) n) x 0) s ∙ getD-set-same start (q + 1) n 0 l ∙ e ∙ ap (λ x. length (before x)) (sym s)
     | no o ↦ getD-set-other start (q + 1) i n 0 o ∙ h i (omega arith)

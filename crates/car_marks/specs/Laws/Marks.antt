@@ -1,4 +1,5 @@
--- Marks: a bad one was found, or each was looked at. The fields of a marked arc; and records that hold the marked arcs stand for the car's plan.
+-- Marks: a bad one was found, or each was looked at. The fields of a marked arc; and records that
+-- hold the marked arcs stand for the car's plan.
 use mathlib.Core.Path.{_≡_, refl, sym, ap, _∙_, subst}
 use mathlib.Core.Logic.{_≢_, inl, inr}
 use mathlib.Core.Bool.{Bool, true, false, not, cond}
@@ -55,8 +56,10 @@ one-standing mark o = let f = eq-eqb mark 1 o in rw f refl
 pub other-standing : (mark : ℕ) → mark ≢ 1 → _≡_ {A = ℕ} 0 (cond (eqb mark 1) 1 0)
 other-standing mark o = let f = ne-eqb mark 1 o in rw f refl
 
-pub open-marked : (mark : ℕ) (a : ArcRecord) (s v : ℕ) → isOpen (arcValue a) ≡ true → s ≡ cond (eqb mark 1) 1 0 → v ≡ markedService mark (arcValue a)
-    → _≡_ {A = ArcRecord} (record { tail = a .tail; head = a .head; standing = s; cost = a .cost; service = v }) (recordOf (marked mark (arcValue a)))
+pub open-marked : (mark : ℕ) (a : ArcRecord) (s v : ℕ) → isOpen (arcValue a) ≡ true → s ≡ cond (eqb mark 1) 1 0
+    → v ≡ markedService mark (arcValue a)
+    → _≡_ {A = ArcRecord} (record { tail = a .tail; head = a .head; standing = s; cost = a .cost; service = v })
+    (recordOf (marked mark (arcValue a)))
 unfolding marked
 open-marked mark a s v o e f =
     let fields : ℕ → ℕ → ArcRecord = λ s v. record { tail = a .tail; head = a .head; standing = s; cost = a .cost; service = v } in
@@ -110,7 +113,8 @@ module _ (r : PlanRecord) (marks : List ℕ) where
   unfolding hasBadMark
   good-length e =
       let t : T (not (hasBadMark (planValue r) marks)) = not-T (hasBadMark (planValue r) marks) (λ t. subst T e t) in
-      eqb→eq (length marks) (length (planValue r .arcs)) (not-not (eqb (length marks) (length (planValue r .arcs))) (not-or other any t .0)) ∙ plan-length r
+      eqb→eq (length marks) (length (planValue r .arcs))
+      (not-not (eqb (length marks) (length (planValue r .arcs))) (not-or other any t .0)) ∙ plan-length r
 
   -- ---- the plan of the car
 
@@ -121,5 +125,7 @@ module _ (r : PlanRecord) (marks : List ℕ) where
   unfolding carPlan
   car-vertices = refl
 
-  pub plan-marked : (arcs : List ArcRecord) (j : ℕ) → HoldMade r markArc arcs j → j ≡ r .m → planValue (record { n = r .n; m = r .m; arcs = arcs }) ≡ carPlan (planValue r) marks
-  plan-marked = made-plan r markArc (carPlan (planValue r) marks) car-vertices (car-length (planValue r) marks) (car-arc (planValue r) marks)
+  pub plan-marked : (arcs : List ArcRecord) (j : ℕ) → HoldMade r markArc arcs j → j ≡ r .m
+      → planValue (record { n = r .n; m = r .m; arcs = arcs }) ≡ carPlan (planValue r) marks
+  plan-marked =
+      made-plan r markArc (carPlan (planValue r) marks) car-vertices (car-length (planValue r) marks) (car-arc (planValue r) marks)

@@ -1,5 +1,5 @@
--- Either going back along the entries arrives at the root from every component, and they make a tree, or it ends in a circle, whose shrinking leaves fewer
--- components. A component that has not arrived after as many steps as there are components has gone round.
+-- Either going back along the entries arrives at the root from every component, and they make a tree, or it ends in a circle, whose
+-- shrinking leaves fewer components. A component that has not arrived after as many steps as there are components has gone round.
 use mathlib.Core.Path.{_≡_, refl, sym, ap, _∙_, subst, subst⁻¹}
 use mathlib.Core.Logic.{inl, inr, _≢_}
 use mathlib.Core.Bool.{Bool, not, _||_}
@@ -11,7 +11,7 @@ use lib.Dec.{T, eqb, eqb→eq, T-not, not-T}
 use Rattle.postman.specs.Lists.{select, below, iterate}
 use Rattle.postman.specs.Laws.Tests.{cond-ind, or-cases}
 use Rattle.postman.specs.Laws.Membership.{mem-map, map-mem, mem-below}
-use Rattle.cheapest_tree.specs.Cheapest.{AreOthers, IsTree, IsCircle, isAmong, shrunk}
+use Rattle.cheapest_tree.specs.Cheapest.{AreOthers, IsRootedTree, IsCircle, isAmong, shrunk}
 use Rattle.cheapest_tree.specs.Laws.Iterates.{iterate-add, iterate-last, stepsTo, steps-fall, goes-round, reduce}
 use Rattle.cheapest_tree.specs.Laws.Edmonds.{among-of}
 
@@ -20,9 +20,10 @@ unfoldable pub orbit : (ℕ → ℕ) → ℕ → ℕ → List ℕ
 unfolding iterate below
 orbit entry n y = map (λ i. iterate i entry y) (below n)
 
-module _ (vs : List ℕ) (entry : ℕ → ℕ) (others : AreOthers vs) (root : entry 0 ≡ 0) (inside : (q : ℕ) → List·Memᴰ q vs → List·Memᴰ (entry q) (0 ∷ vs)) where
+module _ (vs : List ℕ) (entry : ℕ → ℕ) (others : AreOthers vs) (root : entry 0 ≡ 0)
+    (inside : (q : ℕ) → List·Memᴰ q vs → List·Memᴰ (entry q) (0 ∷ vs)) where
   -- all arrive: the entries make a tree
-  pub entries-tree : (n : ℕ) → ((q : ℕ) → List·Memᴰ q vs → iterate n entry q ≡ 0) → IsTree vs entry
+  pub entries-tree : (n : ℕ) → ((q : ℕ) → List·Memᴰ q vs → iterate n entry q ≡ 0) → IsRootedTree vs entry
   entries-tree n h = record {
     inside = inside;
     rank = stepsTo entry 0 (suc n);
@@ -75,7 +76,8 @@ module _ (vs : List ℕ) (entry : ℕ → ℕ) (others : AreOthers vs) (root : e
       among = λ q h. (let r = member q h in let l = r .1 in
           subst⁻¹ (λ q. List·Memᴰ q vs) (r .2) (stays (round .0) y y-mem (λ e. lost (sym (round .3) ∙ e)) (r .0) (omega arith)));
       closed = λ q h. (let r = member q h in let s = reduce entry (round .0) y (round .1) (round .3) (suc (r .0)) in
-          subst⁻¹ (λ q. List·Memᴰ q (orbit entry n y)) (ap entry (r .2) ∙ sym (iterate-last (r .0) entry y) ∙ s .2) (of-steps (s .0) (s .1)));
+          subst⁻¹ (λ q. List·Memᴰ q (orbit entry n y)) (ap entry (r .2) ∙ sym (iterate-last (r .0) entry y) ∙ s .2)
+          (of-steps (s .0) (s .1)));
       around = λ p q h g.
           (let r = member p h in
           let s = member q g in
@@ -87,7 +89,8 @@ module _ (vs : List ℕ) (entry : ℕ → ℕ) (others : AreOthers vs) (root : e
             k - r .0 + s .0,
             omega arith,
             ap (iterate (k - r .0 + s .0) entry) (r .2) ∙ iterate-add (k - r .0) (s .0) entry (iterate (r .0) entry y)
-                ∙ ap (iterate (s .0) entry) (sym (iterate-add (r .0) (k - r .0) entry y) ∙ ap (λ i. iterate i entry y) e ∙ round .3) ∙ sym (s .2),
+                ∙ ap (iterate (s .0) entry) (sym (iterate-add (r .0) (k - r .0) entry y) ∙ ap (λ i. iterate i entry y) e ∙ round .3)
+                ∙ sym (s .2),
           ));
     }
 
@@ -95,19 +98,22 @@ module _ (vs : List ℕ) (entry : ℕ → ℕ) (others : AreOthers vs) (root : e
 pub select-le : (f : ℕ → Bool) (xs : List ℕ) → length (select f xs) ≤ length xs
 unfolding select
 select-le f [] = omega arith
-select-le f (x ∷ xs) = let r = select-le f xs in cond-ind (f x) (x ∷ select f xs) (select f xs) (λ l. length l ≤ suc (length xs)) (λ t. omega arith) (λ t. omega arith)
+select-le f (x ∷ xs) = let r = select-le f xs in
+    cond-ind (f x) (x ∷ select f xs) (select f xs) (λ l. length l ≤ suc (length xs)) (λ t. omega arith) (λ t. omega arith)
 
 select-lt : (f : ℕ → Bool) {x : ℕ} {xs : List ℕ} → List·Memᴰ x xs → T (not (f x)) → length (select f xs) < length xs
 unfolding select
 select-lt f (List·Memᴰ·head {x = y} {xs = ys} e) t =
     let r = select-le f ys in
-    cond-ind (f y) (y ∷ select f ys) (select f ys) (λ l. length l < suc (length ys)) (λ u. absurd (T-not (f y) (subst (λ z. T (not (f z))) e t) u)) (λ u. omega arith)
+    cond-ind (f y) (y ∷ select f ys) (select f ys) (λ l. length l < suc (length ys))
+    (λ u. absurd (T-not (f y) (subst (λ z. T (not (f z))) e t) u)) (λ u. omega arith)
 select-lt f (List·Memᴰ·tail {x = y} {xs = ys} m) t =
     let r = select-lt f m t in
     cond-ind (f y) (y ∷ select f ys) (select f ys) (λ l. length l < suc (length ys)) (λ u. omega arith) (λ u. omega arith)
 
 -- a circle has two members, so that shrinking it leaves fewer components
-pub shrunk-fewer : (vs cs : List ℕ) (c d : ℕ) (entry : ℕ → ℕ) → IsCircle vs entry cs d → List·Memᴰ c cs → entry c ≢ c → length (shrunk cs c vs) < length vs
+pub shrunk-fewer : (vs cs : List ℕ) (c d : ℕ) (entry : ℕ → ℕ) → IsCircle vs entry cs d → List·Memᴰ c cs → entry c ≢ c
+    → length (shrunk cs c vs) < length vs
 unfolding shrunk
 shrunk-fewer vs cs c d entry k m o =
     let h = k .closed c m in

@@ -1,6 +1,6 @@
--- Edmonds: once the cheapest entries are paid, a circle of them costs nothing, and shrinking it changes no least cost. A tree of the smaller picture gives one
--- of the larger: the circle's members keep their entries but for the one where the tree comes in. A tree of the larger gives one of the smaller: the circle
--- takes the entry of its member of least rank.
+-- Edmonds: once the cheapest entries are paid, a circle of them costs nothing, and shrinking it changes no least cost. A tree of the
+-- smaller picture gives one of the larger: the circle's members keep their entries but for the one where the tree comes in. A tree of the
+-- larger gives one of the smaller: the circle takes the entry of its member of least rank.
 use mathlib.Core.Path.{_≡_, refl, sym, ap, _∙_, subst, subst⁻¹}
 use mathlib.Core.Logic.{_⊎_, inl, inr, _≢_}
 use mathlib.Core.Bool.{Bool, not, cond, _||_}
@@ -19,7 +19,7 @@ use Rattle.postman.specs.Laws.Membership.{mem-select, select-mem, anyOf-mem, an
 use Rattle.postman.specs.Laws.Pick.{pick-of-mem, left-mem}
 use Rattle.postman.specs.Laws.Occurrences.{mem?, delta-yes, occurrences-pick, occurrences-of-mem}
 use Rattle.postman.specs.Laws.SignedSum.{≤ℤ-trans, sum-add, sum-pick}
-use Rattle.cheapest_tree.specs.Cheapest.{Matrix, AreOthers, IsTree, treeCost, IsCheapest, AreEntries, IsReduced, IsCircle, isAmong, shrunk, IsLeast, IsContraction}
+use Rattle.cheapest_tree.specs.Cheapest.{Matrix, AreOthers, IsRootedTree, treeCost, IsCheapest, AreEntries, IsReduced, IsCircle, isAmong, shrunk, IsLeastOver, IsContraction}
 use Rattle.postman.specs.Laws.Lists.{map-cong}
 use Rattle.cheapest_tree.specs.Laws.Iterates.{stepsTo, steps-le, steps-fall}
 
@@ -69,55 +69,63 @@ sum-mono f g (q ∷ vs) h =
     let b = sum-mono f g vs (λ x m. h x (List·Memᴰ·tail m)) in
     simp zl (omega (arith, z))
 
-sum-select : (keep : ℕ → Bool) (g : ℕ → ℤ) (vs : List ℕ) → sumOfℤ (map g (select keep vs)) ≡ sumOfℤ (map (λ q. cond (keep q) (g q) (pos 0)) vs)
+sum-select : (keep : ℕ → Bool) (g : ℕ → ℤ) (vs : List ℕ)
+    → sumOfℤ (map g (select keep vs)) ≡ sumOfℤ (map (λ q. cond (keep q) (g q) (pos 0)) vs)
 unfolding sumOfℤ select
 sum-select keep g [] = refl
 sum-select keep g (q ∷ vs) = picked (keep q) (sum-select keep g vs)
   where
     picked : (b : Bool) → sumOfℤ (map g (select keep vs)) ≡ sumOfℤ (map (λ q. cond (keep q) (g q) (pos 0)) vs)
-        → sumOfℤ (map g (cond b (q ∷ select keep vs) (select keep vs))) ≡ cond b (g q) (pos 0) +ℤ sumOfℤ (map (λ q. cond (keep q) (g q) (pos 0)) vs)
+        → sumOfℤ (map g (cond b (q ∷ select keep vs) (select keep vs)))
+        ≡ cond b (g q) (pos 0) +ℤ sumOfℤ (map (λ q. cond (keep q) (g q) (pos 0)) vs)
     picked Bool.true r = ap (λ (x : ℤ). g q +ℤ x) r
     picked Bool.false r = simp zl (omega (arith, z))
 
 -- a sum that differs from another at one place, where that one has 0
-one-of : (f g : ℕ → ℤ) (x : ℕ) (vs : List ℕ) → List·Memᴰ x vs → occurrences x vs ≤ 1 → g x ≡ pos 0 → ((q : ℕ) → List·Memᴰ q vs → q ≢ x → f q ≡ g q)
+one-of : (f g : ℕ → ℤ) (x : ℕ) (vs : List ℕ) → List·Memᴰ x vs → occurrences x vs ≤ 1 → g x ≡ pos 0
+    → ((q : ℕ) → List·Memᴰ q vs → q ≢ x → f q ≡ g q)
     → sumOfℤ (map f vs) ≡ f x +ℤ sumOfℤ (map g vs)
 one-of f g x vs m o e h =
     let p = pick-of-mem m in
     let k = occurrences-pick x (p .1) in
     let d = delta-yes {i = x} refl in
-    let s = sum-cong f g (p .0) (λ q n. h q (left-mem (p .1) n) (λ y. (let r = occurrences-of-mem (subst (λ q. List·Memᴰ q (p .0)) y n) in omega arith))) in
+    let s = sum-cong f g (p .0)
+    (λ q n. h q (left-mem (p .1) n) (λ y. (let r = occurrences-of-mem (subst (λ q. List·Memᴰ q (p .0)) y n) in omega arith))) in
     let a = sum-pick f (p .1) in
     let b = sum-pick g (p .1) in
     rw (a, b, e, s) (simp zl (omega arith))
 
 -- ---- trees
 
-module _ {vs : List ℕ} {parent : ℕ → ℕ} (t : IsTree vs parent) where
+module _ {vs : List ℕ} {parent : ℕ → ℕ} (t : IsRootedTree vs parent) where
   pub parent-other : (q : ℕ) → List·Memᴰ q vs → parent q ≢ q
   parent-other q m e = let f = t .falls q m in let g = ap (t .rank) e in omega arith
 
 -- entries that make a tree are a cheapest one
-pub tree-of-entries : (vs : List ℕ) (w : Matrix) (entry : ℕ → ℕ) → AreEntries vs w entry → IsTree vs entry → IsCheapest vs w (treeCost w vs entry)
+pub tree-of-entries : (vs : List ℕ) (w : Matrix) (entry : ℕ → ℕ) → AreEntries vs w entry → IsRootedTree vs entry
+    → IsCheapest vs w (treeCost w vs entry)
 unfolding treeCost
 tree-of-entries vs w entry a t = record {
   tree = entry;
   is-tree = t;
   attained = refl;
-  least = λ parent s. sum-mono (λ q. w (entry q) q) (λ q. w (parent q) q) vs (λ q m. a .cheapest (parent q) q (s .inside q m) m (parent-other s q m));
+  least = λ parent s. sum-mono (λ q. w (entry q) q) (λ q. w (parent q) q) vs
+      (λ q m. a .cheapest (parent q) q (s .inside q m) m (parent-other s q m));
 }
 
 -- the entries are paid, and the rest is solved with what is left
-pub pay-entries : (vs : List ℕ) (w v : Matrix) (entry : ℕ → ℕ) (a : ℤ) → IsReduced vs w entry v → IsCheapest vs v a → IsCheapest vs w (treeCost w vs entry +ℤ a)
+pub pay-entries : (vs : List ℕ) (w v : Matrix) (entry : ℕ → ℕ) (a : ℤ) → IsReduced vs w entry v → IsCheapest vs v a
+    → IsCheapest vs w (treeCost w vs entry +ℤ a)
 unfolding treeCost
 pay-entries vs w v entry a r h = record {
   tree = h .tree;
   is-tree = h .is-tree;
   attained = costs (h .tree) (h .is-tree) ∙ ap (λ (x : ℤ). treeCost w vs entry +ℤ x) (h .attained);
-  least = λ parent s. (let l = h .least parent s in subst⁻¹ (λ (x : ℤ). (treeCost w vs entry +ℤ a) ≤ℤ x) (costs parent s) (simp zl (omega (arith, z))));
+  least = λ parent s.
+      (let l = h .least parent s in subst⁻¹ (λ (x : ℤ). (treeCost w vs entry +ℤ a) ≤ℤ x) (costs parent s) (simp zl (omega (arith, z))));
 }
   where
-    costs : (parent : ℕ → ℕ) → IsTree vs parent → sumOfℤ (map (λ q. w (parent q) q) vs) ≡ treeCost w vs entry +ℤ treeCost v vs parent
+    costs : (parent : ℕ → ℕ) → IsRootedTree vs parent → sumOfℤ (map (λ q. w (parent q) q) vs) ≡ treeCost w vs entry +ℤ treeCost v vs parent
     costs parent s =
         sum-cong (λ q. w (parent q) q) (λ q. w (entry q) q +ℤ v (parent q) q) vs (λ q m.
         (let e = r .reduced (parent q) q (s .inside q m) m (parent-other s q m) in rw e (simp zl (omega arith))))
@@ -125,7 +133,8 @@ pay-entries vs w v entry a r h = record {
 
 -- ---- the circle, shrunk
 
-module _ (vs cs : List ℕ) (c d : ℕ) (entry : ℕ → ℕ) (v w : Matrix) (others : AreOthers vs) (circle : IsCircle vs entry cs d) (mc : List·Memᴰ c cs)
+module _ (vs cs : List ℕ) (c d : ℕ) (entry : ℕ → ℕ) (v w : Matrix) (others : AreOthers vs) (circle : IsCircle vs entry cs d)
+    (mc : List·Memᴰ c cs)
     (free : (q : ℕ) → List·Memᴰ q vs → v (entry q) q ≡ pos 0)
     (nonneg : (p q : ℕ) → List·Memᴰ p (0 ∷ vs) → List·Memᴰ q vs → p ≢ q → pos 0 ≤ℤ v p q)
     (k : IsContraction vs cs c v w) where
@@ -143,8 +152,14 @@ module _ (vs cs : List ℕ) (c d : ℕ) (entry : ℕ → ℕ) (v w : Matrix) (ot
   few-mem : {q : ℕ} → List·Memᴰ q few → List·Memᴰ q vs × ((List·Memᴰ q cs → ⊥) ⊎ (q ≡ c))
   unfolding shrunk
   few-mem {q} m =
-      let r = select-mem (λ q. not (isAmong q cs) || eqb q c) vs m in
-      (r .0, elim (or-cases (not (isAmong q cs)) (eqb q c) (r .1)) [ inl t ↦ inl (λ n. T-not (isAmong q cs) t (among-of n)) | inr t ↦ inr (eqb→eq q c t) ])
+      let r = select-mem (λ q. not (isAmong q cs) || eqb q c) vs m in (
+        r .0,
+        elim (or-cases (not (isAmong q cs)) (eqb q c) (r .1)) [
+          | inl t ↦ inl (λ n. T-not (isAmong q cs) t (among-of n))
+          | inr t ↦
+              inr (eqb→eq q c t)
+        ],
+      )
 
   root-off : {q : ℕ} → q ≡ 0 → List·Memᴰ q cs → ⊥
   root-off {q} e m = others .positive q (circle .among q m) e
@@ -176,14 +191,17 @@ module _ (vs cs : List ℕ) (c d : ℕ) (entry : ℕ → ℕ) (v w : Matrix) (ot
         | inl n ↦ cond-no (keep q) (g q) (pos 0) (not-kept q n o) ∙ sym (on-yes (pos 0) (g q) n)
         | inr n ↦ cond-yes (keep q) (g q) (pos 0) (or-left (not (isAmong q cs)) (eqb q c) (not-among q cs n)) ∙ sym (on-no (pos 0) (g q) n)
       ])
-      ∙ ap (λ (x : ℤ). x +ℤ sumOfℤ (map (outside g) vs)) (cond-yes (keep c) (g c) (pos 0) (or-right (not (isAmong c cs)) (eqb c c) (eqb-refl c)))
+      ∙ ap (λ (x : ℤ). x +ℤ sumOfℤ (map (outside g) vs))
+      (cond-yes (keep c) (g c) (pos 0) (or-right (not (isAmong c cs)) (eqb c c) (eqb-refl c)))
     where
       not-kept : (q : ℕ) → List·Memᴰ q cs → q ≢ c → T (not (not (isAmong q cs) || eqb q c))
-      not-kept q n o = not-T (not (isAmong q cs) || eqb q c) (λ t. elim (or-cases (not (isAmong q cs)) (eqb q c) t) [ inl a ↦ T-not (isAmong q cs) a (among-of n) | inr e ↦ o (eqb→eq q c e) ])
+      not-kept q n o =
+          not-T (not (isAmong q cs) || eqb q c)
+          (λ t. elim (or-cases (not (isAmong q cs)) (eqb q c) t) [ inl a ↦ T-not (isAmong q cs) a (among-of n) | inr e ↦ o (eqb→eq q c e) ])
 
   -- ---- a tree of the smaller picture gives one of the larger, at the same cost
 
-  module _ (parent : ℕ → ℕ) (t : IsTree few parent) where
+  module _ (parent : ℕ → ℕ) (t : IsRootedTree few parent) where
     abbrev p₀ : ℕ
     p₀ = parent c
 
@@ -191,7 +209,7 @@ module _ (vs cs : List ℕ) (c d : ℕ) (entry : ℕ → ℕ) (v w : Matrix) (ot
     p₀-off = off (t .inside c c-few) (parent-other t c c-few)
 
     -- where the tree comes into the circle
-    come : IsLeast cs (λ q. v p₀ q) (w p₀ c)
+    come : IsLeastOver cs (λ q. v p₀ q) (w p₀ c)
     come = k .into p₀ (up (t .inside c c-few)) p₀-off
 
     abbrev x₀ : ℕ
@@ -220,11 +238,13 @@ module _ (vs cs : List ℕ) (c d : ℕ) (entry : ℕ → ℕ) (v w : Matrix) (ot
 
     from-circle : (q : ℕ) → (List·Memᴰ q cs → ⊥) → parent q ≡ c → expanded q ≡ leave q .0
     unfolding expanded
-    from-circle q n e = on-no (cond (eqb q x₀) p₀ (entry q)) (cond (eqb (parent q) c) (leave q .0) (parent q)) n ∙ eq-yes (leave q .0) (parent q) e
+    from-circle q n e =
+        on-no (cond (eqb q x₀) p₀ (entry q)) (cond (eqb (parent q) c) (leave q .0) (parent q)) n ∙ eq-yes (leave q .0) (parent q) e
 
     elsewhere : (q : ℕ) → (List·Memᴰ q cs → ⊥) → parent q ≢ c → expanded q ≡ parent q
     unfolding expanded
-    elsewhere q n o = on-no (cond (eqb q x₀) p₀ (entry q)) (cond (eqb (parent q) c) (leave q .0) (parent q)) n ∙ eq-no (leave q .0) (parent q) o
+    elsewhere q n o =
+        on-no (cond (eqb q x₀) p₀ (entry q)) (cond (eqb (parent q) c) (leave q .0) (parent q)) n ∙ eq-no (leave q .0) (parent q) o
 
     -- what holds of the four kinds of components holds of all
     cases : (P : ℕ → ℕ → Type 0) → P x₀ p₀ → ((q : ℕ) → List·Memᴰ q cs → q ≢ x₀ → P q (entry q))
@@ -256,21 +276,26 @@ module _ (vs cs : List ℕ) (c d : ℕ) (entry : ℕ → ℕ) (v w : Matrix) (ot
     higher x y l = let a = mul-le-mul-left d l in let b = mul-suc d x in omega arith
 
     steps-lt : (q : ℕ) → List·Memᴰ q cs → stepsTo entry x₀ d q < d
-    steps-lt q m = let r = circle .around q x₀ m (come .member) in let l = r .1 in let s = steps-le entry x₀ d q (r .0) l (r .2) .0 in omega arith
+    steps-lt q m = let r = circle .around q x₀ m (come .member) in let l = r .1 in let s = steps-le entry x₀ d q (r .0) l (r .2) .0 in
+        omega arith
 
-    expanded-tree : IsTree vs expanded
+    expanded-tree : IsRootedTree vs expanded
     expanded-tree = record {
-      inside = cases (λ q p. List·Memᴰ p (0 ∷ vs)) (up (t .inside c c-few)) (λ q m o. List·Memᴰ·tail (circle .among (entry q) (circle .closed q m)))
+      inside = cases (λ q p. List·Memᴰ p (0 ∷ vs)) (up (t .inside c c-few))
+          (λ q m o. List·Memᴰ·tail (circle .among (entry q) (circle .closed q m)))
           (λ q m n e. List·Memᴰ·tail (circle .among (leave q .0) (leave q .1 m n .0))) (λ q m n o. up (t .inside q (mem-few m n)));
       rank = height;
       falls = cases (λ q p. height p < height q)
-          (let a = height-off p₀ p₀-off in let b = height-on x₀ (come .member) in let h = higher (t .rank p₀) (t .rank c) (t .falls c c-few) in let s = steps-lt x₀ (come .member) in omega arith)
-          (λ q m o. (let a = height-on q m in let b = height-on (entry q) (circle .closed q m) in let r = circle .around q x₀ m (come .member) in let f = steps-fall entry x₀ d q (r .0) (r .1) (r .2) o in omega arith))
+          (let a = height-off p₀ p₀-off in let b = height-on x₀ (come .member) in
+          let h = higher (t .rank p₀) (t .rank c) (t .falls c c-few) in let s = steps-lt x₀ (come .member) in omega arith)
+          (λ q m o. (let a = height-on q m in let b = height-on (entry q) (circle .closed q m) in
+          let r = circle .around q x₀ m (come .member) in let f = steps-fall entry x₀ d q (r .0) (r .1) (r .2) o in omega arith))
           (λ q m n e.
           (let l = leave q .1 m n .0 in let a = height-on (leave q .0) l in let b = height-off q n in let s = steps-lt (leave q .0) l in
           let h = higher (t .rank c) (t .rank q) (subst (λ x. t .rank x < t .rank q) e (t .falls q (mem-few m n))) in omega arith))
           (λ q m n o.
-          (let a = height-off (parent q) (off (t .inside q (mem-few m n)) o) in let b = height-off q n in let h = higher (t .rank (parent q)) (t .rank q) (t .falls q (mem-few m n)) in
+          (let a = height-off (parent q) (off (t .inside q (mem-few m n)) o) in let b = height-off q n in
+          let h = higher (t .rank (parent q)) (t .rank q) (t .falls q (mem-few m n)) in
           let s = steps-lt x₀ (come .member) in omega arith));
     }
 
@@ -283,7 +308,8 @@ module _ (vs cs : List ℕ) (c d : ℕ) (entry : ℕ → ℕ) (v w : Matrix) (ot
         (λ q m o. cases (λ q p. q ≢ x₀ → v p q ≡ outside g q) (λ n. absurd (n refl))
         (λ q n o h. free q (circle .among q n) ∙ sym (on-yes (pos 0) (g q) n))
         (λ q m n e h. sym (on-no (pos 0) (g q) n ∙ ap (λ x. w x q) e ∙ leave q .1 m n .1))
-        (λ q m n o h. sym (on-no (pos 0) (g q) n ∙ k .same (parent q) q (up (t .inside q (mem-few m n))) m (off (t .inside q (mem-few m n)) o) n)) q m o)
+        (λ q m n o h. sym
+        (on-no (pos 0) (g q) n ∙ k .same (parent q) q (up (t .inside q (mem-few m n))) m (off (t .inside q (mem-few m n)) o) n)) q m o)
         ∙ ap (λ (x : ℤ). x +ℤ sumOfℤ (map (outside g) vs)) (ap (λ x. v x x₀) (at-x₀ x₀ (come .member) refl) ∙ sym (come .attained))
         ∙ sym (few-sum g)
 
@@ -291,15 +317,24 @@ module _ (vs cs : List ℕ) (c d : ℕ) (entry : ℕ → ℕ) (v w : Matrix) (ot
 
   least-rank : (r : ℕ → ℕ) {q : ℕ} (xs : List ℕ) → List·Memᴰ q xs → (x : ℕ) × List·Memᴰ x xs × ((y : ℕ) → List·Memᴰ y xs → r x ≤ r y)
   least-rank r [] m = elim m [ ]
-  least-rank r (x ∷ []) m = (x, List·Memᴰ·head refl, λ y n. elim (List·Memᴰ·cases-cons n) [ inl e ↦ (let h = ap r e in omega arith) | inr o ↦ elim o [ ] ])
+  least-rank r (x ∷ []) m =
+      (x, List·Memᴰ·head refl, λ y n. elim (List·Memᴰ·cases-cons n) [ inl e ↦ (let h = ap r e in omega arith) | inr o ↦ elim o [ ] ])
   least-rank r (x ∷ x′ ∷ xs) m =
       let s = least-rank r (x′ ∷ xs) (List·Memᴰ·head refl) in
       elim (decLe (r x) (r (s .0))) [
-        | yes l ↦ (x, List·Memᴰ·head refl, λ y n. elim (List·Memᴰ·cases-cons n) [ inl e ↦ (let h = ap r e in omega arith) | inr o ↦ (let h = s .2 y o in omega arith) ])
-        | no l ↦ (s .0, List·Memᴰ·tail (s .1), λ y n. elim (List·Memᴰ·cases-cons n) [ inl e ↦ (let h = ap r e in omega arith) | inr o ↦ s .2 y o ])
+        | yes l ↦ (
+          x,
+          List·Memᴰ·head refl,
+          λ y n. elim (List·Memᴰ·cases-cons n) [ inl e ↦ (let h = ap r e in omega arith) | inr o ↦ (let h = s .2 y o in omega arith) ],
+        )
+        | no l ↦ (
+          s .0,
+          List·Memᴰ·tail (s .1),
+          λ y n. elim (List·Memᴰ·cases-cons n) [ inl e ↦ (let h = ap r e in omega arith) | inr o ↦ s .2 y o ],
+        )
       ]
 
-  module _ (parent : ℕ → ℕ) (t : IsTree vs parent) where
+  module _ (parent : ℕ → ℕ) (t : IsRootedTree vs parent) where
     lowest : (x : ℕ) × List·Memᴰ x cs × ((y : ℕ) → List·Memᴰ y cs → t .rank x ≤ t .rank y)
     lowest = least-rank (t .rank) cs mc
 
@@ -329,7 +364,8 @@ module _ (vs cs : List ℕ) (c d : ℕ) (entry : ℕ → ℕ) (v w : Matrix) (ot
 
     few-cases : (P : ℕ → ℕ → Type 0) → P c (parent x₁)
         → ((q : ℕ) → List·Memᴰ q vs → (List·Memᴰ q cs → ⊥) → q ≢ c → List·Memᴰ (parent q) cs → P q c)
-        → ((q : ℕ) → List·Memᴰ q vs → (List·Memᴰ q cs → ⊥) → q ≢ c → (List·Memᴰ (parent q) cs → ⊥) → P q (parent q)) → (q : ℕ) → List·Memᴰ q few → P q (contracted q)
+        → ((q : ℕ) → List·Memᴰ q vs → (List·Memᴰ q cs → ⊥) → q ≢ c → (List·Memᴰ (parent q) cs → ⊥) → P q (parent q)) → (q : ℕ)
+        → List·Memᴰ q few → P q (contracted q)
     few-cases P a f g q m = elim (ℕ-discrete q c) [
       | yes e ↦ subst⁻¹ (P q) (at-c q e) (subst⁻¹ (λ x. P x (parent x₁)) e a)
       | no o ↦
@@ -355,13 +391,15 @@ module _ (vs cs : List ℕ) (c d : ℕ) (entry : ℕ → ℕ) (v w : Matrix) (ot
     not-c : {q : ℕ} → (List·Memᴰ q cs → ⊥) → q ≢ c
     not-c n e = n (subst⁻¹ (λ x. List·Memᴰ x cs) e mc)
 
-    contracted-tree : IsTree few contracted
+    contracted-tree : IsRootedTree few contracted
     contracted-tree = record {
-      inside = few-cases (λ q p. List·Memᴰ p (0 ∷ few)) (down (t .inside x₁ x₁-mem) above-off) (λ q m n o h. List·Memᴰ·tail c-few) (λ q m n o h. down (t .inside q m) h);
+      inside = few-cases (λ q p. List·Memᴰ p (0 ∷ few)) (down (t .inside x₁ x₁-mem) above-off) (λ q m n o h. List·Memᴰ·tail c-few)
+          (λ q m n o h. down (t .inside q m) h);
       rank = level;
       falls = few-cases (λ q p. level p < level q)
           (let a = level-other (parent x₁) (not-c above-off) in let b = level-c in let f = t .falls x₁ x₁-mem in omega arith)
-          (λ q m n o h. (let a = level-c in let b = level-other q o in let f = t .falls q m in let l = lowest .2 (parent q) h in omega arith))
+          (λ q m n o h.
+          (let a = level-c in let b = level-other q o in let f = t .falls q m in let l = lowest .2 (parent q) h in omega arith))
           (λ q m n o h. (let a = level-other (parent q) (not-c h) in let b = level-other q o in let f = t .falls q m in omega arith));
     }
 
@@ -377,21 +415,27 @@ module _ (vs cs : List ℕ) (c d : ℕ) (entry : ℕ → ℕ) (v w : Matrix) (ot
           | inr n ↦ on-no (cond (eqb q x₁) x (pos 0)) (g q) n ∙ sym (on-no (pos 0) (g q) n)
         ]) in
         let e : h x₁ ≡ x = on-yes (cond (eqb x₁ x₁) x (pos 0)) (g x₁) (lowest .1) ∙ eq-self x₁ x (pos 0) in
-        let f : g c ≤ℤ x = subst⁻¹ (λ p. w p c ≤ℤ x) (at-c c refl) (k .into (parent x₁) (t .inside x₁ x₁-mem) above-off .least x₁ (lowest .1)) in
+        let f : g c ≤ℤ x =
+        subst⁻¹ (λ p. w p c ≤ℤ x) (at-c c refl) (k .into (parent x₁) (t .inside x₁ x₁-mem) above-off .least x₁ (lowest .1)) in
         let s : sumOfℤ (map h vs) ≤ℤ sumOfℤ (map (λ q. v (parent q) q) vs) = sum-mono h (λ q. v (parent q) q) vs below-it in
         let i : sumOfℤ (map g few) ≤ℤ sumOfℤ (map h vs) = rw (a, b, e) (simp zl (omega (arith, z))) in
         ≤ℤ-trans i s
       where
-        below-it : (q : ℕ) → List·Memᴰ q vs → cond (isAmong q cs) (cond (eqb q x₁) (v (parent x₁) x₁) (pos 0)) (w (contracted q) q) ≤ℤ v (parent q) q
+        below-it : (q : ℕ) → List·Memᴰ q vs
+            → cond (isAmong q cs) (cond (eqb q x₁) (v (parent x₁) x₁) (pos 0)) (w (contracted q) q) ≤ℤ v (parent q) q
         below-it q m = elim (mem? q cs) [
-          | inl n ↦ subst⁻¹ (λ (y : ℤ). y ≤ℤ v (parent q) q) (on-yes (cond (eqb q x₁) (v (parent x₁) x₁) (pos 0)) (w (contracted q) q) n) (elim (ℕ-discrete q x₁) [
-            | yes e ↦ subst⁻¹ (λ (y : ℤ). y ≤ℤ v (parent q) q) (eq-yes (v (parent x₁) x₁) (pos 0) e) (subst (λ y. v (parent x₁) x₁ ≤ℤ v (parent y) y) (sym e) (≤ℤ-refl (v (parent x₁) x₁)))
-            | no o ↦ subst⁻¹ (λ (y : ℤ). y ≤ℤ v (parent q) q) (eq-no (v (parent x₁) x₁) (pos 0) o) (nonneg (parent q) q (t .inside q m) m (parent-other t q m))
-          ])
+          | inl n ↦ subst⁻¹ (λ (y : ℤ). y ≤ℤ v (parent q) q) (on-yes (cond (eqb q x₁) (v (parent x₁) x₁) (pos 0)) (w (contracted q) q) n)
+              (elim (ℕ-discrete q x₁) [
+                | yes e ↦ subst⁻¹ (λ (y : ℤ). y ≤ℤ v (parent q) q) (eq-yes (v (parent x₁) x₁) (pos 0) e)
+                    (subst (λ y. v (parent x₁) x₁ ≤ℤ v (parent y) y) (sym e) (≤ℤ-refl (v (parent x₁) x₁)))
+                | no o ↦ subst⁻¹ (λ (y : ℤ). y ≤ℤ v (parent q) q) (eq-no (v (parent x₁) x₁) (pos 0) o)
+                    (nonneg (parent q) q (t .inside q m) m (parent-other t q m))
+              ])
           | inr n ↦ subst⁻¹ (λ (y : ℤ). y ≤ℤ v (parent q) q) (on-no (cond (eqb q x₁) (v (parent x₁) x₁) (pos 0)) (w (contracted q) q) n)
               (few-cases (λ q p. List·Memᴰ q vs → (List·Memᴰ q cs → ⊥) → w p q ≤ℤ v (parent q) q) (λ m n. absurd (n mc))
               (λ q m n o h m′ n′. k .from q m n .least (parent q) h)
-              (λ q m n o h m′ n′. subst⁻¹ (λ (y : ℤ). y ≤ℤ v (parent q) q) (k .same (parent q) q (t .inside q m) m h n) (≤ℤ-refl (v (parent q) q))) q (mem-few m n) m n)
+              (λ q m n o h m′ n′. subst⁻¹ (λ (y : ℤ). y ≤ℤ v (parent q) q) (k .same (parent q) q (t .inside q m) m h n)
+              (≤ℤ-refl (v (parent q) q))) q (mem-few m n) m n)
         ]
 
   -- shrinking the circle changes no least cost

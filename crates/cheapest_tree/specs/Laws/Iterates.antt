@@ -36,7 +36,8 @@ index-from f a (suc n) (suc i) l t =
     let b = r .0 in
     let x = firstIndex f (upFrom (suc a) n) in
     cond-ind (f a) 0 (suc x) (λ z. (z ≤ suc i) × T (f (a + z)))
-    (λ u. (omega arith, subst⁻¹ (λ z. T (f z)) (add-zero a) u)) (λ u. (omega arith, subst (λ z. T (f z)) (suc-add a x ∙ sym (add-suc a x)) (r .1)))
+    (λ u. (omega arith, subst⁻¹ (λ z. T (f z)) (add-zero a) u))
+    (λ u. (omega arith, subst (λ z. T (f z)) (suc-add a x ∙ sym (add-suc a x)) (r .1)))
 
 module _ (f : ℕ → ℕ) (z d : ℕ) where
   -- the least number of steps from x to z, where it is below d
@@ -67,7 +68,12 @@ module _ (f : ℕ → ℕ) where
   -- x again, within n steps
   again? : (n x y : ℕ) → ((j : ℕ) × (j ≤ n) × (iterate j f y ≡ x)) ⊎ ((j : ℕ) → j ≤ n → iterate j f y ≢ x)
   unfolding iterate
-  again? zero x y = elim (ℕ-discrete y x) [ yes e ↦ inl (0, omega arith, e) | no o ↦ inr (λ j b. subst⁻¹ (λ i. iterate i f y ≢ x) (let e : j ≡ 0 = omega arith in e) o) ]
+  again? zero x y =
+      elim (ℕ-discrete y x) [
+        | yes e ↦ inl (0, omega arith, e)
+        | no o ↦
+            inr (λ j b. subst⁻¹ (λ i. iterate i f y ≢ x) (let e : j ≡ 0 = omega arith in e) o)
+      ]
   again? (suc n) x y = elim (ℕ-discrete y x) [
     | yes e ↦ inl (0, omega arith, e)
     | no o ↦ elim (again? n x (f y)) [
@@ -90,7 +96,8 @@ module _ (f : ℕ → ℕ) where
     | inr r ↦
         let p = pick-of-mem (h 0 (omega arith)) in
         let k = pick-length (p .1) in
-        let q = pigeonhole n (f x) (p .0) (omega arith) (λ i b. elim (pick-cases (p .1) (h (suc i) (omega arith))) [ inl e ↦ absurd (r i b e) | inr m ↦ m ]) in
+        let q = pigeonhole n (f x) (p .0) (omega arith)
+        (λ i b. elim (pick-cases (p .1) (h (suc i) (omega arith))) [ inl e ↦ absurd (r i b e) | inr m ↦ m ]) in
         let b = q .2 in
         let g = q .3 in
         (suc (q .0), suc (q .1), omega arith, omega arith, q .4)

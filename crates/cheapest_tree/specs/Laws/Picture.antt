@@ -25,7 +25,8 @@ pub nlt-le : (a b : ℤ) → ltZ a b ≡ false → b ≤ℤ a
 nlt-le a b e = omega (arith, z)
 
 -- one component more is looked at
-pub best-more : (cost : ℕ → ℤ) (may : List Bool) (n a r : ℕ) → n < 8 → IsBest cost may n a → IsCheaper cost (getD may n false) a n r → IsBest cost may (n + 1) r
+pub best-more : (cost : ℕ → ℤ) (may : List Bool) (n a r : ℕ) → n < 8 → IsBest cost may n a → IsCheaper cost (getD may n false) a n r
+    → IsBest cost may (n + 1) r
 best-more cost may n a r l h k = record {
   in-range = elim (k .among) [ inl e ↦ subst⁻¹ (λ x. x < 8) e (h .in-range) | inr e ↦ subst⁻¹ (λ x. x < 8) (e .0) l ];
   allowed = elim (k .among) [ inl e ↦ ap (λ x. getD may x false) e ∙ h .allowed | inr e ↦ ap (λ x. getD may x false) (e .0) ∙ e .1 ];
@@ -37,7 +38,8 @@ best-more cost may n a r l h k = record {
 
 -- ---- the entries
 
-pub entries-more : (w : List ℤ) (left : List Bool) (n : ℕ) (e : List ℕ) (r : ℕ) → 1 ≤ n → n < 8 → length e ≡ 8 → HasEntries w left n e → r < 8
+pub entries-more : (w : List ℤ) (left : List Bool) (n : ℕ) (e : List ℕ) (r : ℕ) → 1 ≤ n → n < 8 → length e ≡ 8 → HasEntries w left n e
+    → r < 8
     → (getD left n false ≡ true → IsBest (lineOf w false n) (set left n false) 8 r) → HasEntries w left (n + 1) (set e n r)
 entries-more w left n e r p l k h b i = record {
   root = getD-set-other e n 0 r 0 (λ x. (omega arith)) ∙ h .root;
@@ -47,7 +49,8 @@ entries-more w left n e r p l k h b i = record {
   ];
   best = λ q m a f. elim (ℕ-discrete q n) [
     | yes x ↦ subst⁻¹ (λ y. IsBest (lineOf w false y) (set left y false) 8 (getD (set e n r) y 0)) x
-        (subst⁻¹ (IsBest (lineOf w false n) (set left n false) 8) (getD-set-same e n r 0 (omega arith)) (i (ap (λ y. getD left y false) (sym x) ∙ f)))
+        (subst⁻¹ (IsBest (lineOf w false n) (set left n false) 8) (getD-set-same e n r 0 (omega arith))
+        (i (ap (λ y. getD left y false) (sym x) ∙ f)))
     | no o ↦ subst⁻¹ (IsBest (lineOf w false q) (set left q false) 8) (getD-set-other e n q r 0 o) (h .best q m (omega arith) f)
   ];
 }
@@ -71,10 +74,15 @@ module _ (w : List ℤ) (left : List Bool) (e : List ℕ) where
       let b : q + 1 ≡ suc q = omega arith in
       ap (λ n. sumOfℤ (map (λ x. matrixOf w (entryOf e x) x) (select (λ x. getD left x false) (upFrom q n)))) a
       ∙ picked (getD left q false)
-      ∙ ap (λ x. payOf w left e q +ℤ sumOfℤ (map (λ x. matrixOf w (entryOf e x) x) (select (λ x. getD left x false) (upFrom x (8 - (q + 1)))))) (sym b)
+      ∙ ap (λ x. payOf w left e q
+      +ℤ sumOfℤ (map (λ x. matrixOf w (entryOf e x) x) (select (λ x. getD left x false) (upFrom x (8 - (q + 1)))))) (sym b)
     where
-      picked : (c : Bool) → sumOfℤ (map (λ x. matrixOf w (entryOf e x) x) (cond c (q ∷ select (λ x. getD left x false) (upFrom (suc q) (8 - (q + 1)))) (select (λ x. getD left x false) (upFrom (suc q) (8 - (q + 1))))))
-          ≡ cond c (getD w (getD e q 0 * 8 + q) (pos 0)) (pos 0) +ℤ sumOfℤ (map (λ x. matrixOf w (entryOf e x) x) (select (λ x. getD left x false) (upFrom (suc q) (8 - (q + 1)))))
+      picked : (c : Bool)
+          → sumOfℤ (map (λ x. matrixOf w (entryOf e x) x)
+          (cond c (q ∷ select (λ x. getD left x false) (upFrom (suc q) (8 - (q + 1))))
+          (select (λ x. getD left x false) (upFrom (suc q) (8 - (q + 1))))))
+          ≡ cond c (getD w (getD e q 0 * 8 + q) (pos 0)) (pos 0)
+          +ℤ sumOfℤ (map (λ x. matrixOf w (entryOf e x) x) (select (λ x. getD left x false) (upFrom (suc q) (8 - (q + 1)))))
       picked Bool.true = refl
       picked Bool.false = simp zl (omega arith)
 
@@ -85,7 +93,8 @@ module _ (w : List ℤ) (left : List Bool) (e : List ℕ) where
   pub pay-within : IsPicture w left → (q : ℕ) → q < 8 → getD e q 0 < 8 → (pos 0 ≤ℤ payOf w left e q) × (payOf w left e q ≤ℤ pos highest)
   pay-within p q l b =
       cond-ind (getD left q false) (getD w (getD e q 0 * 8 + q) (pos 0)) (pos 0) (λ x. (pos 0 ≤ℤ x) × (x ≤ℤ pos highest))
-      (λ t. (p .low (getD e q 0 * 8 + q) (omega arith), p .high (getD e q 0 * 8 + q) (omega arith))) (λ t. (≤ℤ-refl (pos 0), omega (arith, z)))
+      (λ t. (p .low (getD e q 0 * 8 + q) (omega arith), p .high (getD e q 0 * 8 + q) (omega arith)))
+      (λ t. (≤ℤ-refl (pos 0), omega (arith, z)))
 
   -- s is what the components from q on pay, and small
   pub record Paid (q : ℕ) (s : ℤ) : Type 0 where
@@ -97,7 +106,8 @@ module _ (w : List ℤ) (left : List Bool) (e : List ℕ) where
   paid-none = record { sum = sym payments-end; low = ≤ℤ-refl (pos 0); high = ≤ℤ-refl (pos 0) }
 
   -- one component more
-  pub paid-more : IsPicture w left → HasEntries w left 8 e → (q : ℕ) → 1 < q → q ≤ 8 → (r s : ℤ) → r ≡ payOf w left e (q - 1) → Paid q s → Paid (q - 1) (r +ℤ s)
+  pub paid-more : IsPicture w left → HasEntries w left 8 e → (q : ℕ) → 1 < q → q ≤ 8 → (r s : ℤ) → r ≡ payOf w left e (q - 1) → Paid q s
+      → Paid (q - 1) (r +ℤ s)
   paid-more p h q l m r s er i =
       let a = pay-within p (q - 1) (omega arith) (h .in-range (q - 1) (omega arith)) in
       let lo : pos 0 ≤ℤ r = subst⁻¹ (λ (x : ℤ). pos 0 ≤ℤ x) er (a .0) in
@@ -112,11 +122,13 @@ module _ (w : List ℤ) (left : List Bool) (e : List ℕ) where
 pub less-within : (a m : ℤ) → pos 0 ≤ℤ a → a ≤ℤ pos highest → pos 0 ≤ℤ m → (pos 0 ≤ℤ less a m) × (less a m ≤ℤ pos highest)
 unfolding less
 less-within a m l h k = elim (test (ltZ a m)) [
-  | inl t ↦ subst⁻¹ (λ b. (pos 0 ≤ℤ cond b (pos 0) (a -ℤ m)) × (cond b (pos 0) (a -ℤ m) ≤ℤ pos highest)) (is-true {b = ltZ a m} t) (≤ℤ-refl (pos 0), omega (arith, z))
+  | inl t ↦ subst⁻¹ (λ b. (pos 0 ≤ℤ cond b (pos 0) (a -ℤ m)) × (cond b (pos 0) (a -ℤ m) ≤ℤ pos highest)) (is-true {b = ltZ a m} t)
+      (≤ℤ-refl (pos 0), omega (arith, z))
   | inr t ↦
       let f : ltZ a m ≡ false = is-false {b = ltZ a m} (λ u. T-not (ltZ a m) t u) in
       let g = nlt-le a m f in
-      subst⁻¹ (λ b. (pos 0 ≤ℤ cond b (pos 0) (a -ℤ m)) × (cond b (pos 0) (a -ℤ m) ≤ℤ pos highest)) f (simp zl (omega (arith, z)), simp zl (omega (arith, z)))
+      subst⁻¹ (λ b. (pos 0 ≤ℤ cond b (pos 0) (a -ℤ m)) × (cond b (pos 0) (a -ℤ m) ≤ℤ pos highest)) f
+      (simp zl (omega (arith, z)), simp zl (omega (arith, z)))
 ]
 
 -- ---- the circle
@@ -135,7 +147,8 @@ marked-none e y = record {
         getD-same (suc n) zero = refl
         getD-same (suc n) (suc x) = getD-same n x
 
-pub marked-more : (e : List ℕ) (y i : ℕ) (on : List Bool) (x : ℕ) → x < length on → x ≡ iterate i (entryOf e) y → IsMarked e y i on → IsMarked e y (i + 1) (set on x true)
+pub marked-more : (e : List ℕ) (y i : ℕ) (on : List Bool) (x : ℕ) → x < length on → x ≡ iterate i (entryOf e) y → IsMarked e y i on
+    → IsMarked e y (i + 1) (set on x true)
 marked-more e y i on x l s h = record {
   sound = λ u m. elim (ℕ-discrete u x) [
     | yes a ↦ (i, omega arith, a ∙ s)
@@ -152,11 +165,13 @@ marked-more e y i on x l s h = record {
 
 -- ---- the smaller picture
 
-pub shrunk-more : (v : List ℤ) (on : List Bool) (c i : ℕ) (m : List ℤ) (r : ℕ) (a : ℤ) → i < length m → IsShrunk v on c i m → IsPlace v on c (i / 8) (i % 8) r → a ≡ getD v r (pos 0)
+pub shrunk-more : (v : List ℤ) (on : List Bool) (c i : ℕ) (m : List ℤ) (r : ℕ) (a : ℤ) → i < length m → IsShrunk v on c i m
+    → IsPlace v on c (i / 8) (i % 8) r → a ≡ getD v r (pos 0)
     → IsShrunk v on c (i + 1) (set m i a)
 shrunk-more v on c i m r a l h k e = record {
   each = λ j b. elim (ℕ-discrete j i) [
-    | yes s ↦ subst⁻¹ (λ u. (r : ℕ) × IsPlace v on c (u / 8) (u % 8) r × (getD (set m i a) u (pos 0) ≡ getD v r (pos 0))) s (r, k, getD-set-same m i a (pos 0) l ∙ e)
+    | yes s ↦ subst⁻¹ (λ u. (r : ℕ) × IsPlace v on c (u / 8) (u % 8) r × (getD (set m i a) u (pos 0) ≡ getD v r (pos 0))) s
+        (r, k, getD-set-same m i a (pos 0) l ∙ e)
     | no o ↦ let q = h .each j (omega arith) in (q .0, q .1, getD-set-other m i j a (pos 0) o ∙ q .2)
   ];
 }

@@ -1,5 +1,5 @@
--- One level of Edmonds' recursion, on the arrays: the entries make a tree, or the circle is shrunk, and the least cost of the smaller picture with what was
--- paid is the least cost of this one.
+-- One level of Edmonds' recursion, on the arrays: the entries make a tree, or the circle is shrunk, and the least cost of the smaller
+-- picture with what was paid is the least cost of this one.
 use mathlib.Core.Path.{_≡_, refl, sym, ap, ap₂, _∙_, subst, subst⁻¹}
 use mathlib.Core.Logic.{inl, inr, _≢_}
 use mathlib.Core.Bool.{Bool, true, false, not, cond, _&&_, _||_}
@@ -35,7 +35,8 @@ select-select f g h (x ∷ xs) e =
     let r = select-select f g h xs (λ q m. e q (List·Memᴰ·tail m)) in
     ap (λ b. cond b (x ∷ select f xs) (select f xs)) (e x (List·Memᴰ·head refl)) ∙ picked (g x) (h x) refl r
   where
-    picked : (b c : Bool) → h x ≡ c → select f xs ≡ select h (select g xs) → cond (b && c) (x ∷ select f xs) (select f xs) ≡ select h (cond b (x ∷ select g xs) (select g xs))
+    picked : (b c : Bool) → h x ≡ c → select f xs ≡ select h (select g xs)
+        → cond (b && c) (x ∷ select f xs) (select f xs) ≡ select h (cond b (x ∷ select g xs) (select g xs))
     picked true true s r = ap (λ (l : List ℕ). x ∷ l) r ∙ sym (ap (λ b. cond b (x ∷ select h (select g xs)) (select h (select g xs))) s)
     picked true false s r = r ∙ sym (ap (λ b. cond b (x ∷ select h (select g xs)) (select h (select g xs))) s)
     picked false c s r = r
@@ -79,7 +80,8 @@ module _ (left : List Bool) where
 
 -- ---- bounds on costs
 
-sum-within : (f : ℕ → ℤ) (vs : List ℕ) → ((q : ℕ) → List·Memᴰ q vs → (pos 0 ≤ℤ f q) × (f q ≤ℤ pos highest)) → (pos 0 ≤ℤ sumOfℤ (map f vs)) × (sumOfℤ (map f vs) ≤ℤ pos (length vs * highest))
+sum-within : (f : ℕ → ℤ) (vs : List ℕ) → ((q : ℕ) → List·Memᴰ q vs → (pos 0 ≤ℤ f q) × (f q ≤ℤ pos highest))
+    → (pos 0 ≤ℤ sumOfℤ (map f vs)) × (sumOfℤ (map f vs) ≤ℤ pos (length vs * highest))
 unfolding sumOfℤ
 sum-within f [] h = (≤ℤ-refl (pos 0), ≤ℤ-refl (pos 0))
 sum-within f (q ∷ vs) h =
@@ -95,7 +97,8 @@ sum-within f (q ∷ vs) h =
 pub record Smaller (w : List ℤ) (left : List Bool) (e : List ℕ) (m : List ℤ) (l : List Bool) : Type 0 where
   pub picture : IsPicture m l
   pub fewer : length (othersIn l) < length (othersIn left)
-  pub cost : (a : ℤ) → IsCheapest (othersIn l) (matrixOf m) a → IsCheapest (othersIn left) (matrixOf w) (treeCost (matrixOf w) (othersIn left) (entryOf e) +ℤ a)
+  pub cost : (a : ℤ) → IsCheapest (othersIn l) (matrixOf m) a
+      → IsCheapest (othersIn left) (matrixOf w) (treeCost (matrixOf w) (othersIn left) (entryOf e) +ℤ a)
 
 module _ (w : List ℤ) (left : List Bool) (p : IsPicture w left) where
   pub cost-within : (f : ℕ → ℕ) → ((q : ℕ) → List·Memᴰ q (othersIn left) → List·Memᴰ (f q) (0 ∷ othersIn left))
@@ -103,7 +106,8 @@ module _ (w : List ℤ) (left : List Bool) (p : IsPicture w left) where
   unfolding treeCost
   cost-within f h =
       let r = sum-within (λ q. matrixOf w (f q) q) (othersIn left) (λ q m.
-      (let a = all-in left (p .root) (h q m) .0 in let b = others-in left m .1 in (p .low (f q * 8 + q) (omega arith), p .high (f q * 8 + q) (omega arith)))) in
+      (let a = all-in left (p .root) (h q m) .0 in let b = others-in left m .1 in
+      (p .low (f q * 8 + q) (omega arith), p .high (f q * 8 + q) (omega arith)))) in
       let n = others-few left in
       let r1 = r .1 in
       (r .0, omega (arith, z))
@@ -119,7 +123,8 @@ module _ (w : List ℤ) (left : List Bool) (p : IsPicture w left) where
         let r = others-in left m in
         let l = r .1 in
         let b = h .best q (r .0) l (r .2) in
-        let o : getD e q 0 ≢ q = λ x. not-both (b .allowed) (ap (λ y. getD (set left q false) y false) x ∙ getD-set-same left q false false (omega arith)) in
+        let o : getD e q 0 ≢ q =
+        λ x. not-both (b .allowed) (ap (λ y. getD (set left q false) y false) x ∙ getD-set-same left q false false (omega arith)) in
         (b .in-range, sym (getD-set-other left q (getD e q 0) false false o) ∙ b .allowed, o)
 
     pub are-entries : AreEntries (othersIn left) (matrixOf w) (entryOf e)
@@ -132,10 +137,12 @@ module _ (w : List ℤ) (left : List Bool) (p : IsPicture w left) where
     }
 
     -- no circle
-    pub solve-tree : (y : ℕ) → IsLost left e 8 y → y ≡ 0 → IsCheapest (othersIn left) (matrixOf w) (treeCost (matrixOf w) (othersIn left) (entryOf e))
+    pub solve-tree : (y : ℕ) → IsLost left e 8 y → y ≡ 0
+        → IsCheapest (othersIn left) (matrixOf w) (treeCost (matrixOf w) (othersIn left) (entryOf e))
     solve-tree y k s =
         tree-of-entries (othersIn left) (matrixOf w) (entryOf e) are-entries
-        (entries-tree (othersIn left) (entryOf e) (others-are left) (h .root) (are-entries .inside) 8 (λ q m. (let r = others-in left m in k .none s q (r .0) (r .1) (r .2))))
+        (entries-tree (othersIn left) (entryOf e) (others-are left) (h .root) (are-entries .inside) 8
+        (λ q m. (let r = others-in left m in k .none s q (r .0) (r .1) (r .2))))
 
     -- ---- what is left of the costs
 
@@ -150,7 +157,8 @@ module _ (w : List ℤ) (left : List Bool) (p : IsPicture w left) where
       v-within : (i : ℕ) → i < 64 → (pos 0 ≤ℤ getD v i (pos 0)) × (getD v i (pos 0) ≤ℤ pos highest)
       v-within i l =
           let a = pay-within w left e p (i % 8) (omega arith) (h .in-range (i % 8) (omega arith)) in
-          subst⁻¹ (λ (x : ℤ). (pos 0 ≤ℤ x) × (x ≤ℤ pos highest)) (reduced i l) (less-within (getD w i (pos 0)) (payOf w left e (i % 8)) (p .low i l) (p .high i l) (a .0))
+          subst⁻¹ (λ (x : ℤ). (pos 0 ≤ℤ x) × (x ≤ℤ pos highest)) (reduced i l)
+          (less-within (getD w i (pos 0)) (payOf w left e (i % 8)) (p .low i l) (p .high i l) (a .0))
 
       is-reduced : IsReduced (othersIn left) (matrixOf w) (entryOf e) (matrixOf v)
       is-reduced = record {
@@ -191,14 +199,17 @@ module _ (w : List ℤ) (left : List Bool) (p : IsPicture w left) where
 
         on-mem : (x : ℕ) → getD on x false ≡ true → List·Memᴰ x cs
         unfolding orbit
-        on-mem x t = let r = marked .sound x t in subst⁻¹ (λ u. List·Memᴰ u (orbit (entryOf e) 8 y)) (r .2) (mem-map (λ i. iterate i (entryOf e) y) (mem-below (r .1)))
+        on-mem x t = let r = marked .sound x t in
+            subst⁻¹ (λ u. List·Memᴰ u (orbit (entryOf e) 8 y)) (r .2) (mem-map (λ i. iterate i (entryOf e) y) (mem-below (r .1)))
 
         mem-on : (x : ℕ) → List·Memᴰ x cs → getD on x false ≡ true
         unfolding orbit
-        mem-on x m = let r = map-mem (λ i. iterate i (entryOf e) y) (below 8) m in ap (λ u. getD on u false) (r .2) ∙ marked .complete (r .0) (below-mem (r .1))
+        mem-on x m = let r = map-mem (λ i. iterate i (entryOf e) y) (below 8) m in
+            ap (λ u. getD on u false) (r .2) ∙ marked .complete (r .0) (below-mem (r .1))
 
         on-is : (x : ℕ) → getD on x false ≡ isAmong x cs
-        on-is x = same-test (getD on x false) (isAmong x cs) (λ t. among-of (on-mem x (is-true t))) (λ t. of-true (mem-on x (of-among x cs t)))
+        on-is x = same-test (getD on x false) (isAmong x cs) (λ t. among-of (on-mem x (is-true t)))
+            (λ t. of-true (mem-on x (of-among x cs t)))
 
         cs-lt : {x : ℕ} → List·Memᴰ x cs → x < 8
         cs-lt {x} m = others-in left (circle-is .0 .among x m) .1
@@ -206,7 +217,8 @@ module _ (w : List ℤ) (left : List Bool) (p : IsPicture w left) where
         not-y : {q : ℕ} → (List·Memᴰ q cs → ⊥) → q ≢ y
         not-y n s = n (subst⁻¹ (λ u. List·Memᴰ u cs) s (circle-is .1))
 
-        module _ (m : List ℤ) (shrunk-to : IsShrunk v on y 64 m) (l : List Bool) (kept : (x : ℕ) → x < 8 → getD l x false ≡ keptOf left on y x) where
+        module _ (m : List ℤ) (shrunk-to : IsShrunk v on y 64 m) (l : List Bool)
+            (kept : (x : ℕ) → x < 8 → getD l x false ≡ keptOf left on y x) where
           cell : (s t : ℕ) → s < 8 → t < 8 → (r : ℕ) × IsPlace v on y s t r × (matrixOf m s t ≡ getD v r (pos 0))
           cell s t a b =
               let q = shrunk-to .each (s * 8 + t) (omega arith) in
@@ -217,18 +229,22 @@ module _ (w : List ℤ) (left : List Bool) (p : IsPicture w left) where
           contraction : IsContraction (othersIn left) cs y (matrixOf v) (matrixOf m)
           unfolding placeOf
           contraction = record {
-            same = λ s t a b n o. (let c = cell s t (all-in left (p .root) a .0) (others-in left b .1) in c .2 ∙ ap (λ i. getD v i (pos 0)) (c .1 .same (not-y o) (not-y n)));
+            same = λ s t a b n o.
+                (let c = cell s t (all-in left (p .root) a .0) (others-in left b .1) in
+                c .2 ∙ ap (λ i. getD v i (pos 0)) (c .1 .same (not-y o) (not-y n)));
             into = λ s a n. (let c = cell s y (all-in left (p .root) a .0) (cs-lt (circle-is .1)) in let r = c .1 .into refl in record {
               at = r .0;
               member = on-mem (r .0) (r .1 .allowed);
               attained = c .2 ∙ ap (λ i. getD v i (pos 0)) (r .2);
-              least = λ q b. subst⁻¹ (λ (x : ℤ). x ≤ℤ matrixOf v s q) (c .2 ∙ ap (λ i. getD v i (pos 0)) (r .2)) (r .1 .cheapest q (cs-lt b) (mem-on q b));
+              least = λ q b. subst⁻¹ (λ (x : ℤ). x ≤ℤ matrixOf v s q) (c .2 ∙ ap (λ i. getD v i (pos 0)) (r .2))
+                  (r .1 .cheapest q (cs-lt b) (mem-on q b));
             });
             from = λ t b o. (let c = cell y t (cs-lt (circle-is .1)) (others-in left b .1) in let r = c .1 .from (not-y o) refl in record {
               at = r .0;
               member = on-mem (r .0) (r .1 .allowed);
               attained = c .2 ∙ ap (λ i. getD v i (pos 0)) (r .2);
-              least = λ s a. subst⁻¹ (λ (x : ℤ). x ≤ℤ matrixOf v s t) (c .2 ∙ ap (λ i. getD v i (pos 0)) (r .2)) (r .1 .cheapest s (cs-lt a) (mem-on s a));
+              least = λ s a. subst⁻¹ (λ (x : ℤ). x ≤ℤ matrixOf v s t) (c .2 ∙ ap (λ i. getD v i (pos 0)) (r .2))
+                  (r .1 .cheapest s (cs-lt a) (mem-on s a));
             });
           }
 
@@ -240,19 +256,23 @@ module _ (w : List ℤ) (left : List Bool) (p : IsPicture w left) where
 
           root-kept : getD l 0 false ≡ true
           root-kept =
-              let n : getD on 0 false ≡ false = is-false (λ t. others-are left .positive 0 (circle-is .0 .among 0 (on-mem 0 (is-true t))) refl) in
+              let n : getD on 0 false ≡ false =
+              is-false (λ t. others-are left .positive 0 (circle-is .0 .among 0 (on-mem 0 (is-true t))) refl) in
               kept 0 (omega arith) ∙ ap₂ (λ a b. a && (not b || eqb 0 y)) (p .root) n
 
           pub smaller : Smaller w left e m l
           smaller = record {
             picture = record {
               low = λ i b. (let q = shrunk-to .each i b in subst⁻¹ (λ (x : ℤ). pos 0 ≤ℤ x) (q .2) (v-within (q .0) (q .1 .in-range) .0));
-              high = λ i b. (let q = shrunk-to .each i b in subst⁻¹ (λ (x : ℤ). x ≤ℤ pos highest) (q .2) (v-within (q .0) (q .1 .in-range) .1));
+              high = λ i b.
+                  (let q = shrunk-to .each i b in subst⁻¹ (λ (x : ℤ). x ≤ℤ pos highest) (q .2) (v-within (q .0) (q .1 .in-range) .1));
               root = root-kept;
             };
             fewer = subst⁻¹ (λ (x : List ℕ). length x < length (othersIn left)) others-shrunk
-                (shrunk-fewer (othersIn left) cs y 16 (entryOf e) (circle-is .0) (circle-is .1) (are-entries .other y (circle-is .0 .among y (circle-is .1))));
+                (shrunk-fewer (othersIn left) cs y 16 (entryOf e) (circle-is .0) (circle-is .1)
+                (are-entries .other y (circle-is .0 .among y (circle-is .1))));
             cost = λ a c. pay-entries (othersIn left) (matrixOf w) (matrixOf v) (entryOf e) a is-reduced
-                (shrink-circle (othersIn left) cs y 16 (entryOf e) (matrixOf v) (matrixOf m) (others-are left) (circle-is .0) (circle-is .1) free nonneg contraction a
+                (shrink-circle (othersIn left) cs y 16 (entryOf e) (matrixOf v) (matrixOf m) (others-are left) (circle-is .0)
+                (circle-is .1) free nonneg contraction a
                 (subst (λ (x : List ℕ). IsCheapest x (matrixOf m) a) others-shrunk c));
           }

@@ -1,5 +1,5 @@
--- The tour that is written completes the arborescence: its paths are those of fewest arcs, at most n − 1, and there is one for each leg. One pass of each required arc is
--- exchanged for the one that checks it.
+-- The tour that is written completes the arborescence: its paths are those of fewest arcs, at most n − 1, and there is one for each leg.
+-- One pass of each required arc is exchanged for the one that checks it.
 use mathlib.Core.Path.{_≡_, refl, sym, ap, _∙_, subst⁻¹, subst₃}
 use mathlib.Core.Bool.{not}
 use mathlib.Core.List.{List, List·Memᴰ}
@@ -21,7 +21,8 @@ use Rattle.postman.specs.Laws.Required.{required-lt}
 use Rattle.postman.specs.Laws.TourCost.{tour-cost}
 use Rattle.paths.specs.ShortestPath.{shortestPath}
 use Rattle.paths.specs.Laws.ShortestPath.{shortest-path}
-use Rattle.tour_legs.specs.Legs.{amount, units, legTails, legHeads, Completes}
+use Rattle.postman.specs.Steps.{amount}
+use Rattle.tour_legs.specs.Legs.{units, legTails, legHeads, Completes}
 use Rattle.tour_legs.specs.Tour.{placesOf, tourBy, tour, ArePaths, HavePaths, IsCompletion}
 use Rattle.hierholzer.specs.Circuit.{circuit}
 use Rattle.hierholzer.specs.Eulerian.{Eulerian}
@@ -63,7 +64,8 @@ module _ (p : Plan) (ok : WellFormed p) (t : List Link) (amounts : List ℕ) (h 
       }
 
   -- least amounts give the cost of the arborescence's completion
-  pub completes-at-least-cost : balancingCost (required p) (distance p) (amount amounts) ≡ leastBalancing p t → tourCost p (tour p t amounts) ≡ completionCost p t
+  pub completes-at-least-cost : balancingCost (required p) (distance p) (amount amounts) ≡ leastBalancing p t
+      → tourCost p (tour p t amounts) ≡ completionCost p t
   unfolding completionCost
   completes-at-least-cost e = completion .costs ∙ ap (λ z. requiredCost p + linkCost p t + z) e
 
@@ -87,7 +89,8 @@ module _ (p : Plan) (ok : WellFormed p) (t : List Link) (amounts : List ℕ) (h 
     pub have-paths : HavePaths p numbers tails heads
     pub written : placesOf (shortestPath p) numbers tails heads (circuit tails heads) ≡ tour p t amounts
 
-  pub ready : (numbers tails heads : List ℕ) → numbers ≡ requiredNumbers p → tails ≡ legTails p t amounts → heads ≡ legHeads p t amounts → Ready numbers tails heads
+  pub ready : (numbers tails heads : List ℕ) → numbers ≡ requiredNumbers p → tails ≡ legTails p t amounts → heads ≡ legHeads p t amounts
+      → Ready numbers tails heads
   unfolding tour tourBy
   ready numbers tails heads a b c =
       subst₃ Ready (sym a) (sym b) (sym c)

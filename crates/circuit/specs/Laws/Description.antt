@@ -1,5 +1,6 @@
--- The tour's description: its legs in the order of the circuit. Each leg is in the circuit once, so each required arc is a leg of its own once, each link of the tree has one leg,
--- and each pair of vertices as many as its amount says; a leg that is no required arc is the path of fewest arcs between its ends, which are required.
+-- The tour's description: its legs in the order of the circuit. Each leg is in the circuit once, so each required arc is a leg of its own
+-- once, each link of the tree has one leg, and each pair of vertices as many as its amount says; a leg that is no required arc is the path
+-- of fewest arcs between its ends, which are required.
 use mathlib.Core.Path.{_≡_, refl, sym, ap, ap₂, _∙_, subst⁻¹}
 use mathlib.Core.Logic.{_⊎_, inl, inr}
 use mathlib.Core.Bool.{Bool, true, false, cond, _&&_}
@@ -24,19 +25,22 @@ use Rattle.postman.specs.Laws.Assignment.{weight}
 use Rattle.postman.specs.Laws.LinkLegs.{ends}
 use Rattle.hierholzer.specs.Laws.Lists.{upFrom-append}
 use Rattle.tour_legs.specs.Laws.Units.{units-pair}
-use Rattle.tour_legs.specs.Legs.{amount, units, legTails, legHeads, Completes}
+use Rattle.postman.specs.Steps.{amount}
+use Rattle.tour_legs.specs.Legs.{units, legTails, legHeads, Completes}
 use Rattle.tour_legs.specs.Tour.{placesOf, tourBy, ArePaths}
 use Rattle.tour_legs.specs.Laws.Legs.{leg-at, leg-ends}
 use Rattle.tour_legs.specs.Laws.Tour.{sum-by, sum-le, sum-map-append, noLink, others, at-other, places, places-arc, places-other, legs-sum, order, order-circuit, order-lt, leg-path}
 
 -- ---- a list of lists, one after the other
 
-flat-map : {A B C : Type 0} (f : A → B) (g : B → List C) (h : A → List C) → ((x : A) → g (f x) ≡ h x) → (xs : List A) → flatMap g (map f xs) ≡ flatMap h xs
+flat-map : {A B C : Type 0} (f : A → B) (g : B → List C) (h : A → List C) → ((x : A) → g (f x) ≡ h x) → (xs : List A)
+    → flatMap g (map f xs) ≡ flatMap h xs
 unfolding flatMap
 flat-map f g h e [] = refl
 flat-map f g h e (x ∷ xs) = rw (e x, flat-map f g h e xs)
 
-occurrences-flat : {A : Type 0} (k : ℕ) (f : A → List ℕ) (xs : List A) → occurrences k (flatMap f xs) ≡ sumOf (map (λ x. occurrences k (f x)) xs)
+occurrences-flat : {A : Type 0} (k : ℕ) (f : A → List ℕ) (xs : List A)
+    → occurrences k (flatMap f xs) ≡ sumOf (map (λ x. occurrences k (f x)) xs)
 unfolding flatMap sumOf occurrences
 occurrences-flat k f [] = refl
 occurrences-flat k f (x ∷ xs) = let h = occurrences-flat k f xs in let a = occurrences-append k (f x) (flatMap f xs) in omega arith
@@ -50,7 +54,9 @@ sum-deltas k (x ∷ xs) = let h = sum-deltas k xs in omega arith
 
 often-cons : (i j : ℕ) (l : Link) (ls : List Link) → howOften i j (l ∷ ls) ≡ delta i (l .tail) * delta j (l .head) + howOften i j ls
 unfolding howOften select delta
-often-cons i j l ls = one (eqb (l .tail) i) (eqb (l .head) j) (select (joins i j) ls) ∙ ap₂ (λ x y. x * y + length (select (joins i j) ls)) (delta-sym (l .tail) i) (delta-sym (l .head) j)
+often-cons i j l ls =
+    one (eqb (l .tail) i) (eqb (l .head) j) (select (joins i j) ls)
+    ∙ ap₂ (λ x y. x * y + length (select (joins i j) ls)) (delta-sym (l .tail) i) (delta-sym (l .head) j)
   where
     one : (x y : Bool) (s : List Link) → length (cond (x && y) (l ∷ s) s) ≡ cond x 1 0 * cond y 1 0 + length s
     one true true s = omega arith
@@ -66,9 +72,11 @@ often-weight i j (l ∷ ls) = often-cons i j l ls ∙ ap (λ z. delta i (l .tail
 often-append : (i j : ℕ) (ls ms : List Link) → howOften i j (ls ++ ms) ≡ howOften i j ls + howOften i j ms
 unfolding howOften
 often-append i j [] ms = omega arith
-often-append i j (l ∷ ls) ms = let h = often-append i j ls ms in let a = often-cons i j l (ls ++ ms) in let b = often-cons i j l ls in omega arith
+often-append i j (l ∷ ls) ms = let h = often-append i j ls ms in let a = often-cons i j l (ls ++ ms) in let b = often-cons i j l ls in
+    omega arith
 
-often-flat : {A : Type 0} (i j : ℕ) (f : A → List Link) (xs : List A) → howOften i j (flatMap f xs) ≡ sumOf (map (λ x. howOften i j (f x)) xs)
+often-flat : {A : Type 0} (i j : ℕ) (f : A → List Link) (xs : List A)
+    → howOften i j (flatMap f xs) ≡ sumOf (map (λ x. howOften i j (f x)) xs)
 unfolding flatMap sumOf howOften
 often-flat i j f [] = refl
 often-flat i j f (x ∷ xs) = let h = often-flat i j f xs in let a = often-append i j (f x) (flatMap f xs) in omega arith
@@ -80,7 +88,8 @@ often-sum i j (l ∷ ls) = let h = often-sum i j ls in let a = often-cons i j l 
 
 -- ---- the legs
 
-module _ (p : Plan) (ok : WellFormed p) (t : List Link) (amounts : List ℕ) (h : Completes p t amounts) (path : ℕ → ℕ → List ℕ) (paths : ArePaths p path) where
+module _ (p : Plan) (ok : WellFormed p) (t : List Link) (amounts : List ℕ) (h : Completes p t amounts) (path : ℕ → ℕ → List ℕ)
+    (paths : ArePaths p path) where
   abbrev tail : ℕ → ℕ
   tail e = getD (legTails p t amounts) e 0
 
@@ -98,7 +107,8 @@ module _ (p : Plan) (ok : WellFormed p) (t : List Link) (amounts : List ℕ) (h 
   way e = path (tail e) (head e)
 
   leg : ℕ → Leg
-  leg e = cond (ltb e n) (mustArc (getD (requiredNumbers p) e 0)) (cond (ltb e (n + m)) (forLink (tail e) (head e) (way e)) (forUnit (tail e) (head e) (way e)))
+  leg e = cond (ltb e n) (mustArc (getD (requiredNumbers p) e 0))
+      (cond (ltb e (n + m)) (forLink (tail e) (head e) (way e)) (forUnit (tail e) (head e) (way e)))
 
   leg-arc : (e : ℕ) → e < n → leg e ≡ mustArc (getD (requiredNumbers p) e 0)
   unfolding leg
@@ -113,7 +123,8 @@ module _ (p : Plan) (ok : WellFormed p) (t : List Link) (amounts : List ℕ) (h 
   leg-unit e l = rw (le-ltb e n (omega arith), le-ltb e (n + m) l) refl
 
   -- of a leg of any kind
-  leg-cases : (P : Leg → Type 0) (e : ℕ) → (e < n → P (mustArc (getD (requiredNumbers p) e 0))) → (n ≤ e → e < n + m → P (forLink (tail e) (head e) (way e)))
+  leg-cases : (P : Leg → Type 0) (e : ℕ) → (e < n → P (mustArc (getD (requiredNumbers p) e 0)))
+      → (n ≤ e → e < n + m → P (forLink (tail e) (head e) (way e)))
       → (n + m ≤ e → P (forUnit (tail e) (head e) (way e))) → P (leg e)
   leg-cases P e a b c = elim (decLe n e) [
     | yes g ↦ elim (decLe (n + m) e) [
@@ -126,7 +137,8 @@ module _ (p : Plan) (ok : WellFormed p) (t : List Link) (amounts : List ℕ) (h 
   leg-places : (e : ℕ) → placesOfLeg (leg e) ≡ places p t amounts path e
   unfolding placesOfLeg
   leg-places e = leg-cases (λ x. placesOfLeg x ≡ places p t amounts path e) e
-      (λ l. sym (places-arc p t amounts path e l)) (λ g k. sym (places-other p t amounts path e g)) (λ k. sym (places-other p t amounts path e (omega arith)))
+      (λ l. sym (places-arc p t amounts path e l)) (λ g k. sym (places-other p t amounts path e g))
+      (λ k. sym (places-other p t amounts path e (omega arith)))
 
   -- ---- each required arc
 
@@ -145,9 +157,11 @@ module _ (p : Plan) (ok : WellFormed p) (t : List Link) (amounts : List ℕ) (h 
   unfolding own
   must-arcs k =
       let w = order p ok t amounts h path paths in
-      let a = ap (occurrences k) (flat-map leg mustArcOf (λ e. mustArcOf (leg e)) (λ e. refl) w) ∙ occurrences-flat k (λ e. mustArcOf (leg e)) w in
+      let a = ap (occurrences k) (flat-map leg mustArcOf (λ e. mustArcOf (leg e)) (λ e. refl) w)
+      ∙ occurrences-flat k (λ e. mustArcOf (leg e)) w in
       let b = legs-sum p t amounts path (own k) (order-circuit p ok t amounts h path paths .each-once) in
-      let c = sum-by (own k) (delta k) 0 (requiredNumbers p) 0 (λ e l. ap (own k) (zero-add e) ∙ own-arc k e l) ∙ sum-deltas k (requiredNumbers p) in
+      let c = sum-by (own k) (delta k) 0 (requiredNumbers p) 0 (λ e l. ap (own k) (zero-add e) ∙ own-arc k e l)
+      ∙ sum-deltas k (requiredNumbers p) in
       let d = sum-le (own k) 0 n (length (others p t amounts)) (λ e l g. let z = own-other k e l in omega arith) in
       omega arith
 
@@ -162,7 +176,8 @@ module _ (p : Plan) (ok : WellFormed p) (t : List Link) (amounts : List ℕ) (h 
       ∙ ap (λ z. sumOf (map c z)) (upFrom-append n m (length (units amounts)))
       ∙ sum-map-append c (upFrom n m) (upFrom (n + m) (length (units amounts))))
 
-  ends-at : (k : ℕ) → k < length (others p t amounts) → (tail (n + k) ≡ getD (others p t amounts) k noLink .tail) × (head (n + k) ≡ getD (others p t amounts) k noLink .head)
+  ends-at : (k : ℕ) → k < length (others p t amounts)
+      → (tail (n + k) ≡ getD (others p t amounts) k noLink .tail) × (head (n + k) ≡ getD (others p t amounts) k noLink .head)
   unfolding legTails legHeads
   ends-at k l = (at-other p t amounts (λ l. l .tail) k l, at-other p t amounts (λ l. l .head) k l)
 
@@ -198,7 +213,9 @@ module _ (p : Plan) (ok : WellFormed p) (t : List Link) (amounts : List ℕ) (h 
 
     no-link : (e : ℕ) → (e < n) ⊎ (n + m ≤ e) → of-links e ≡ 0
     unfolding of-links linkOf howOften
-    no-link e o = leg-cases (λ x. howOften i j (linkOf x) ≡ 0) e (λ l. refl) (λ l g. elim o [ inl a ↦ absurd (omega arith) | inr a ↦ absurd (omega arith) ]) (λ l. refl)
+    no-link e o =
+        leg-cases (λ x. howOften i j (linkOf x) ≡ 0) e (λ l. refl)
+        (λ l g. elim o [ inl a ↦ absurd (omega arith) | inr a ↦ absurd (omega arith) ]) (λ l. refl)
 
     no-unit : (e : ℕ) → e < n + m → of-units e ≡ 0
     unfolding of-units unitOf howOften
@@ -208,17 +225,20 @@ module _ (p : Plan) (ok : WellFormed p) (t : List Link) (amounts : List ℕ) (h 
     unfolding of-links
     links-are =
         let w = order p ok t amounts h path paths in
-        let a = ap (howOften i j) (flat-map leg linkOf (λ e. linkOf (leg e)) (λ e. refl) w) ∙ often-flat i j (λ e. linkOf (leg e)) w ∙ three-sums of-links in
+        let a = ap (howOften i j) (flat-map leg linkOf (λ e. linkOf (leg e)) (λ e. refl) w) ∙ often-flat i j (λ e. linkOf (leg e)) w
+        ∙ three-sums of-links in
         let b = sum-le of-links 0 0 n (λ e l g. let z = no-link e (inl (omega arith)) in omega arith) in
         let c = sum-by of-links (λ l. howOften i j (l ∷ [])) n t noLink link-at ∙ often-sum i j t in
         let d = sum-le of-links 0 (n + m) (length (units amounts)) (λ e l g. let z = no-link e (inr l) in omega arith) in
         omega arith
 
-    units-are : List·Memᴰ i (required p) → List·Memᴰ j (required p) → howOften i j (flatMap unitOf (map leg (order p ok t amounts h path paths))) ≡ amount amounts i j
+    units-are : List·Memᴰ i (required p) → List·Memᴰ j (required p)
+        → howOften i j (flatMap unitOf (map leg (order p ok t amounts h path paths))) ≡ amount amounts i j
     unfolding of-units
     units-are mi mj =
         let w = order p ok t amounts h path paths in
-        let a = ap (howOften i j) (flat-map leg unitOf (λ e. unitOf (leg e)) (λ e. refl) w) ∙ often-flat i j (λ e. unitOf (leg e)) w ∙ three-sums of-units in
+        let a = ap (howOften i j) (flat-map leg unitOf (λ e. unitOf (leg e)) (λ e. refl) w) ∙ often-flat i j (λ e. unitOf (leg e)) w
+        ∙ three-sums of-units in
         let b = sum-le of-units 0 0 n (λ e l g. let z = no-unit e (omega arith) in omega arith) in
         let c = sum-le of-units 0 n m (λ e l g. let z = no-unit e (omega arith) in omega arith) in
         let d = sum-by of-units (λ l. howOften i j (l ∷ [])) (n + m) (units amounts) noLink unit-at ∙ often-sum i j (units amounts)

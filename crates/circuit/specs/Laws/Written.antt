@@ -15,14 +15,18 @@ module _ (path : ℕ → ℕ → List ℕ) (numbers tails heads : List ℕ) wher
   -- ---- one leg more
 
   pub places-more : (order : List ℕ) (x : ℕ) → x < length order
-      → placesOf path numbers tails heads (take (x + 1) order) ≡ placesOf path numbers tails heads (take x order) ++ legPlaces path numbers tails heads (getD order x 0)
+      → placesOf path numbers tails heads (take (x + 1) order)
+      ≡ placesOf path numbers tails heads (take x order) ++ legPlaces path numbers tails heads (getD order x 0)
   unfolding placesOf flatMap
   places-more order x l =
-      ap (flatMap (legPlaces path numbers tails heads)) (sym (take-one order x l)) ∙ flat-append (legPlaces path numbers tails heads) (take x order) (getD order x 0 ∷ [])
-      ∙ ap (λ z. flatMap (legPlaces path numbers tails heads) (take x order) ++ z) (append-nil (legPlaces path numbers tails heads (getD order x 0)))
+      ap (flatMap (legPlaces path numbers tails heads)) (sym (take-one order x l))
+      ∙ flat-append (legPlaces path numbers tails heads) (take x order) (getD order x 0 ∷ [])
+      ∙ ap (λ z. flatMap (legPlaces path numbers tails heads) (take x order) ++ z)
+      (append-nil (legPlaces path numbers tails heads (getD order x 0)))
 
   -- the legs up to x take no more room than all
-  places-part : (order : List ℕ) (x : ℕ) → length (placesOf path numbers tails heads (take x order)) ≤ length (placesOf path numbers tails heads order)
+  places-part : (order : List ℕ) (x : ℕ)
+      → length (placesOf path numbers tails heads (take x order)) ≤ length (placesOf path numbers tails heads order)
   unfolding placesOf
   places-part order x =
       let f = legPlaces path numbers tails heads in
@@ -31,7 +35,8 @@ module _ (path : ℕ → ℕ → List ℕ) (numbers tails heads : List ℕ) wher
       omega arith
 
   pub places-fit : (order : List ℕ) (x : ℕ) → x < length order
-      → length (placesOf path numbers tails heads (take x order)) + length (legPlaces path numbers tails heads (getD order x 0)) ≤ length (placesOf path numbers tails heads order)
+      → length (placesOf path numbers tails heads (take x order)) + length (legPlaces path numbers tails heads (getD order x 0))
+      ≤ length (placesOf path numbers tails heads order)
   places-fit order x l =
       let a = ap length (places-more order x l) in
       let b = length-append (placesOf path numbers tails heads (take x order)) (legPlaces path numbers tails heads (getD order x 0)) in
@@ -57,7 +62,9 @@ written-length xs old h = let a = length-append xs (drop (length xs) old) in let
 
 pub overwrite-one : (old : List ℕ) (at v : ℕ) → at < length old → set old at v ≡ overwrite old at (v ∷ [])
 unfolding overwrite
-overwrite-one old at v l = set-split old at v l ∙ ap (λ z. take at old ++ v ∷ drop z old) (sym (add-one at)) ∙ sym (append-assoc (take at old) (v ∷ []) (drop (at + 1) old))
+overwrite-one old at v l =
+    set-split old at v l ∙ ap (λ z. take at old ++ v ∷ drop z old) (sym (add-one at))
+    ∙ sym (append-assoc (take at old) (v ∷ []) (drop (at + 1) old))
 
 -- ---- one leg, as the code writes it
 
@@ -66,7 +73,8 @@ module _ (path : ℕ → ℕ → List ℕ) (numbers tails heads : List ℕ) (e :
   number-room n at l h = let a = ap length (places-number path numbers tails heads e l) in omega arith
 
   pub number-written : (old : List ℕ) (at : ℕ) → e < length numbers → at < length old
-      → (set old at (getD numbers e 0) ≡ overwrite old at (legPlaces path numbers tails heads e)) × (at + 1 ≡ at + length (legPlaces path numbers tails heads e))
+      → (set old at (getD numbers e 0) ≡ overwrite old at (legPlaces path numbers tails heads e))
+      × (at + 1 ≡ at + length (legPlaces path numbers tails heads e))
   number-written old at l h =
       let a = places-number path numbers tails heads e l in
       (overwrite-one old at (getD numbers e 0) h ∙ ap (overwrite old at) (sym a), ap (λ z. at + length z) (sym a))
@@ -85,10 +93,13 @@ module _ (path : ℕ → ℕ → List ℕ) (numbers tails heads order old : List
   unfolding placesOf flatMap
   to-none = record { count = refl; content = written-none old }
 
-  pub to-length : (x at : ℕ) (places : List ℕ) → length (placesOf path numbers tails heads order) ≤ length old → WrittenTo x at places → length places ≡ length old
-  to-length x at places fits w = let a = places-part path numbers tails heads order x in ap length (w .content) ∙ written-length (placesOf path numbers tails heads (take x order)) old (omega arith)
+  pub to-length : (x at : ℕ) (places : List ℕ) → length (placesOf path numbers tails heads order) ≤ length old → WrittenTo x at places
+      → length places ≡ length old
+  to-length x at places fits w = let a = places-part path numbers tails heads order x in
+      ap length (w .content) ∙ written-length (placesOf path numbers tails heads (take x order)) old (omega arith)
 
-  module _ (x at : ℕ) (places : List ℕ) (l : x < length order) (fits : length (placesOf path numbers tails heads order) ≤ length old) (w : WrittenTo x at places) where
+  module _ (x at : ℕ) (places : List ℕ) (l : x < length order) (fits : length (placesOf path numbers tails heads order) ≤ length old)
+      (w : WrittenTo x at places) where
     pub to-room : (e : ℕ) → e ≡ getD order x 0 → at + length (legPlaces path numbers tails heads e) ≤ length places
     to-room e i =
         let a = places-fit path numbers tails heads order x l in
@@ -106,11 +117,15 @@ module _ (path : ℕ → ℕ → List ℕ) (numbers tails heads order old : List
         let d = ap (legPlaces path numbers tails heads) i in
         record {
           count = (let a = ap length m in let b = length-append ps q in let c = w .count in let h = ap length d in omega arith);
-          content = f ∙ ap (overwrite places at) d ∙ ap₂ (λ (y : List ℕ) (z : ℕ). overwrite y z q) (w .content) (w .count) ∙ written-more ps q old ∙ ap (λ z. written z old) (sym m);
+          content = f ∙ ap (overwrite places at) d ∙ ap₂ (λ (y : List ℕ) (z : ℕ). overwrite y z q) (w .content) (w .count)
+              ∙ written-more ps q old ∙ ap (λ z. written z old) (sym m);
         }
 
   pub to-all : (x at : ℕ) (places : List ℕ) → x ≡ length order → WrittenTo x at places
       → (places ≡ written (placesOf path numbers tails heads order) old) × (at ≡ length (placesOf path numbers tails heads order))
   to-all x at places e w =
-      let a = ap (λ z. take z order) e ∙ take-length order in
-      (w .content ∙ ap (λ z. written (placesOf path numbers tails heads z) old) a, w .count ∙ ap (λ z. length (placesOf path numbers tails heads z)) a)
+      let a = ap (λ z. take z order) e ∙ take-length order in (
+        w .content ∙ ap (λ z. written (placesOf path numbers tails heads z) old) a,
+        w .count
+            ∙ ap (λ z. length (placesOf path numbers tails heads z)) a,
+      )

@@ -1,5 +1,5 @@
--- Labels after all arcs: two required vertices have one label exactly where they have one component. Merging keeps each label in its component, and makes the
--- labels of a required arc's ends one; a walk of required arcs then keeps its label.
+-- Labels after all arcs: two required vertices have one label exactly where they have one component. Merging keeps each label in its
+-- component, and makes the labels of a required arc's ends one; a walk of required arcs then keeps its label.
 use mathlib.Core.Path.{_≡_, refl, sym, ap, _∙_, subst, subst⁻¹}
 use mathlib.Core.Logic.{inl, inr, _≢_}
 use mathlib.Core.Bool.{not, cond}
@@ -25,7 +25,8 @@ use Rattle.required.specs.Laws.Search.{is-true, is-false}
 use Rattle.required.specs.Laws.RequiredVertex.{required-below}
 
 -- what holds of both ways along each arc holds of each arc of the graph without direction
-pub both-ways : (Q : ℕ → ℕ → Type 0) {x : Arc} (arcs : List Arc) → ((a : Arc) → List·Memᴰ a arcs → Q (a .tail) (a .head) × Q (a .head) (a .tail))
+pub both-ways : (Q : ℕ → ℕ → Type 0) {x : Arc} (arcs : List Arc)
+    → ((a : Arc) → List·Memᴰ a arcs → Q (a .tail) (a .head) × Q (a .head) (a .tail))
     → List·Memᴰ x (bothWays arcs) → Q (x .tail) (x .head)
 unfolding bothWays
 both-ways Q [] h m = elim m [ ]
@@ -65,13 +66,15 @@ module _ (p : Plan) (ok : WellFormed p) where
   -- ---- one arc
 
   -- other labels that are the same
-  labelled-same : (k : ℕ) (labels new : List ℕ) → Labelled p k labels → length new ≡ 64 → ((v : ℕ) → v < 64 → getD new v 0 ≡ getD labels v 0) → Labelled p k new
+  labelled-same : (k : ℕ) (labels new : List ℕ) → Labelled p k labels → length new ≡ 64
+      → ((v : ℕ) → v < 64 → getD new v 0 ≡ getD labels v 0) → Labelled p k new
   labelled-same k labels new h e same =
       let s = h .size in
       subst (Labelled p k) (sym (ext-getD 0 new labels (omega arith) (λ v l. same v (omega arith)))) h
 
   -- one label renamed, to a lower one of the same component
-  labelled-renamed : (k from to : ℕ) (labels new : List ℕ) → Labelled p k labels → to ≤ from → List·Memᴰ to (required p) → component p to ≡ component p from
+  labelled-renamed : (k from to : ℕ) (labels new : List ℕ) → Labelled p k labels → to ≤ from → List·Memᴰ to (required p)
+      → component p to ≡ component p from
       → getD labels to 0 ≡ to → length new ≡ 64 → ((v : ℕ) → v < 64 → getD new v 0 ≡ rename from to (getD labels v 0)) → Labelled p k new
   labelled-renamed k from to labels new h le m e r size at = record {
     size = size;
@@ -84,7 +87,8 @@ module _ (p : Plan) (ok : WellFormed p) where
         subst⁻¹ (λ x. getD new x 0 ≡ x) (at v l)
         (rename-ind (λ x. getD new x 0 ≡ x) from to (getD labels v 0)
         (λ q. at to (required-below p ok m) ∙ ap (rename from to) r ∙ rename-to from to)
-        (λ n. at (getD labels v 0) (let b = h .low v l in omega arith) ∙ ap (rename from to) (h .root v l) ∙ rename-other from to (getD labels v 0) n));
+        (λ n. at (getD labels v 0) (let b = h .low v l in omega arith) ∙ ap (rename from to) (h .root v l)
+        ∙ rename-other from to (getD labels v 0) n));
     within = λ v n.
         subst⁻¹ (λ x. List·Memᴰ x (required p) × (component p x ≡ component p v)) (at v (required-below p ok n))
         (rename-ind (λ x. List·Memᴰ x (required p) × (component p x ≡ component p v)) from to (getD labels v 0)
@@ -96,7 +100,8 @@ module _ (p : Plan) (ok : WellFormed p) where
   }
 
   -- the ends of arc k have one label
-  labelled-more : (k : ℕ) (labels : List ℕ) → Labelled p k labels → (IsRequiredNumber p k → getD labels (arcAt (p .arcs) k .tail) 0 ≡ getD labels (arcAt (p .arcs) k .head) 0)
+  labelled-more : (k : ℕ) (labels : List ℕ) → Labelled p k labels
+      → (IsRequiredNumber p k → getD labels (arcAt (p .arcs) k .tail) 0 ≡ getD labels (arcAt (p .arcs) k .head) 0)
       → Labelled p (k + 1) labels
   labelled-more k labels h e = record {
     size = h .size;
@@ -104,7 +109,8 @@ module _ (p : Plan) (ok : WellFormed p) where
     root = h .root;
     within = h .within;
     joins = λ i l a. elim (ℕ-discrete i k) [
-      | yes q ↦ subst⁻¹ (λ x. getD labels (arcAt (p .arcs) x .tail) 0 ≡ getD labels (arcAt (p .arcs) x .head) 0) q (e (subst (IsRequiredNumber p) q a))
+      | yes q ↦ subst⁻¹ (λ x. getD labels (arcAt (p .arcs) x .tail) 0 ≡ getD labels (arcAt (p .arcs) x .head) 0) q
+          (e (subst (IsRequiredNumber p) q a))
       | no n ↦ h .joins i (omega arith) a
     ];
   }
@@ -131,16 +137,20 @@ module _ (p : Plan) (ok : WellFormed p) where
               | inl u ↦
                   let q = ltb→lt x y u in
                   let g : (v : ℕ) → v < 64 → getD new v 0 ≡ rename y x (getD labels v 0) =
-                  λ v g. merged v g ∙ ap (λ b. cond b (rename y x (getD labels v 0)) (rename x y (getD labels v 0))) (is-true {b = ltb x y} u)
+                  λ v g. merged v g
+                  ∙ ap (λ b. cond b (rename y x (getD labels v 0)) (rename x y (getD labels v 0))) (is-true {b = ltb x y} u)
                   in
-                  labelled-more k new (labelled-renamed k y x labels new h (omega arith) (wt .0) (wt .1 ∙ e ∙ sym (wh .1)) (h .root (a .tail) ht) size g)
+                  labelled-more k new
+                  (labelled-renamed k y x labels new h (omega arith) (wt .0) (wt .1 ∙ e ∙ sym (wh .1)) (h .root (a .tail) ht) size g)
                   (λ n. g (a .tail) ht ∙ rename-to y x ∙ sym (g (a .head) hh ∙ rename-from y x))
               | inr u ↦
                   let q : y ≤ x = not-below x y u in
                   let g : (v : ℕ) → v < 64 → getD new v 0 ≡ rename x y (getD labels v 0) =
-                  λ v g. merged v g ∙ ap (λ b. cond b (rename y x (getD labels v 0)) (rename x y (getD labels v 0))) (is-false {b = ltb x y} u)
+                  λ v g. merged v g
+                  ∙ ap (λ b. cond b (rename y x (getD labels v 0)) (rename x y (getD labels v 0))) (is-false {b = ltb x y} u)
                   in
-                  labelled-more k new (labelled-renamed k x y labels new h q (wh .0) (wh .1 ∙ sym e ∙ sym (wt .1)) (h .root (a .head) hh) size g)
+                  labelled-more k new
+                  (labelled-renamed k x y labels new h q (wh .0) (wh .1 ∙ sym e ∙ sym (wt .1)) (h .root (a .head) hh) size g)
                   (λ n. g (a .tail) ht ∙ rename-from x y ∙ sym (g (a .head) hh ∙ rename-to x y))
             ]
         | inr t ↦
@@ -171,5 +181,6 @@ module _ (p : Plan) (ok : WellFormed p) where
         (getD-mem (undirected p ends) _ k (q .0))
         ∙ walk-label w (arcAt (undirected p ends) k .head) v (q .3)
 
-    pub component-label : {u v : ℕ} → List·Memᴰ u (required p) → List·Memᴰ v (required p) → component p u ≡ component p v → getD labels u 0 ≡ getD labels v 0
+    pub component-label : {u v : ℕ} → List·Memᴰ u (required p) → List·Memᴰ v (required p) → component p u ≡ component p v
+        → getD labels u 0 ≡ getD labels v 0
     component-label {u} {v} mu mv e = let w = component-walk p ends mu mv e in walk-label (w .0) u v (w .1)

@@ -1,5 +1,5 @@
--- The roots are the lowest vertices of the components, in order, so that their places are the components' numbers. A vertex that is not required is joined to
--- none of them.
+-- The roots are the lowest vertices of the components, in order, so that their places are the components' numbers. A vertex
+-- that is not required is joined to none of them.
 use mathlib.Core.Path.{_≡_, refl, sym, ap, _∙_}
 use mathlib.Core.Logic.{inl, inr}
 use mathlib.Core.Bool.{Bool, true, false, not, cond, _&&_}
@@ -69,7 +69,8 @@ module _ (p : Plan) (ok : WellFormed p) where
               let w = h .within v m in
               let j = walk-joined p ends (getD labels v 0) v (required-lt p (w .0)) (component-walk p ends (w .0) m (w .1)) in
               absurd (T-not (anyOf (lower v) (required p)) t
-              (anyOf-mem (lower v) (w .0) (and-both (ltb (getD labels v 0) v) (joined p (getD labels v 0) v) (lt→ltb (getD labels v 0) v (omega arith)) j)))
+              (anyOf-mem (lower v) (w .0)
+              (and-both (ltb (getD labels v 0) v) (joined p (getD labels v 0) v) (lt→ltb (getD labels v 0) v (omega arith)) j)))
         ]))
         (λ t. not-T (anyOf (lower v) (required p)) (λ s.
         let u = anyOf-at (lower v) (required p) s in
@@ -87,14 +88,16 @@ module _ (p : Plan) (ok : WellFormed p) where
         ∙ select-cong (λ v. isRequired p v && not (anyOf (lower v) (required p))) (isRoot r labels) (below (p .n)) (λ v m.
         let l : v < p .n = below-mem m in
         let n = ok .vertices in
-        and-cong (isRequired p v) (λ t. lowest-label v (required-of p ok t)) ∙ ap (λ b. b && eqb (getD labels v 0) v) (sym (flags v (omega arith))))
+        and-cong (isRequired p v) (λ t. lowest-label v (required-of p ok t))
+        ∙ ap (λ b. b && eqb (getD labels v 0) v) (sym (flags v (omega arith))))
 
     pub roots-count : rootsBelow r labels 64 ≡ componentCount p
     unfolding rootsBelow componentCount
     roots-count =
         ap length (select-past (isRoot r labels) (p .n) 64 (ok .vertices) (λ v g l.
         ap (λ b. b && eqb (getD labels v 0) v)
-        (flags v l ∙ is-false {b = isRequired p v} (not-T (isRequired p v) (λ t. let n = required-lt p (required-of p ok t) in omega arith))))
+        (flags v l ∙ is-false {b = isRequired p v}
+        (not-T (isRequired p v) (λ t. let n = required-lt p (required-of p ok t) in omega arith))))
         ∙ sym lowest-roots)
 
     -- a component's number is how many roots are below its own
@@ -105,7 +108,8 @@ module _ (p : Plan) (ok : WellFormed p) where
         let w = h .within v m in
         let l = required-below p ok (w .0) in
         let e : isRoot r labels x ≡ true =
-        rw (flags x l, is-true {b = isRequired p x} (of-required p ok (w .0))) (is-true {b = eqb (getD labels x 0) x} (eqb-same (h .root v (required-below p ok m))))
+        rw (flags x l, is-true {b = isRequired p x} (of-required p ok (w .0)))
+        (is-true {b = eqb (getD labels x 0) x} (eqb-same (h .root v (required-below p ok m))))
         in
         let s = select-place (isRoot r labels) x (p .n) (required-lt p (w .0)) e in
         let q = length (select (isRoot r labels) (below x)) in

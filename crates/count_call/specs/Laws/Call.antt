@@ -51,7 +51,8 @@ module _ {A : Type 0} (x : A) (o : Option ℕ) where
   answer-given e = sym (ap (λ (o : Option ℕ). answer o x) e)
 
 -- the number of trees, from the number that is capped
-pub count-given : (p : Plan) (n : ℕ) (o : Option ℕ) → n ≡ min (arborescenceCount p) 4294967296 → o ≡ none → given (counted n) ≡ answer o (treeCount p)
+pub count-given : (p : Plan) (n : ℕ) (o : Option ℕ) → n ≡ min (arborescenceCount p) 4294967296 → o ≡ none
+    → given (counted n) ≡ answer o (treeCount p)
 unfolding treeCount
 count-given p n o e h = ap given (ap counted e ∙ counted-capped (arborescenceCount p)) ∙ answer-given (treeCount p) o h
 
@@ -93,4 +94,5 @@ module _ (bytes : List ℕ) where
       let nine = accepted-cons _ _ _ (eight .1) in
       let ten = accepted-cons _ _ _ (nine .1) in
       let eleven = accepted-cons _ _ _ (ten .1) in
-      refusal-is ∙ append-accepted (fileConditions bytes) later (file .0) (cons-accepted _ _ _ (ten .0) (cons-accepted _ _ _ (eleven .0) (all .1)))
+      refusal-is ∙ append-accepted (fileConditions bytes) later (file .0)
+      (cons-accepted _ _ _ (ten .0) (cons-accepted _ _ _ (eleven .0) (all .1)))

@@ -1,5 +1,6 @@
--- THE PROMISE, from what is kept. The drive is the plan call's under its numbering, told of the plan itself; the floor is that of the plan call under its numbering, and is below every drive of the plan; where all trees
--- were tried in that round, its cost is the least there is, and so is the cost that is kept.
+-- THE PROMISE, from what is kept. The drive is the plan call's under its numbering, told of the plan itself; the floor is that of the
+-- plan call under its numbering, and is below every drive of the plan; where all trees were tried in that round, its cost is the
+-- least there is, and so is the cost that is kept.
 use mathlib.Core.Path.{_≡_, sym, ap, ap₂, _∙_, subst, subst⁻¹}
 use mathlib.Core.Logic.{_↔_, _⊎_, inl, inr}
 use mathlib.Core.List.{List, []}
@@ -58,7 +59,9 @@ module _ (p : Plan) (ok : Plannable p) (few : componentCount p ≤ 8) (r : ℕ) 
   w = tourOf driven tries
 
   answer-under : IsAnswerTour driven tries w
-  answer-under = answer-tour driven (under-plannable p ok (k .drive .numbering) (h .drive-numbering)) (under-few p (ok .well-formed) (k .drive .numbering) (h .drive-numbering) few) tries (h .drive-tries)
+  answer-under =
+      answer-tour driven (under-plannable p ok (k .drive .numbering) (h .drive-numbering))
+      (under-few p (ok .well-formed) (k .drive .numbering) (h .drive-numbering) few) tries (h .drive-tries)
 
   pub told : IsRenumberedTour p π tries w
   told = tour-back p (h .drive-numbering .numbers) tries w answer-under
@@ -91,13 +94,15 @@ module _ (p : Plan) (ok : Plannable p) (few : componentCount p ≤ 8) (r : ℕ) 
   below v t = subst⁻¹ (λ f. f ≤ℤ pos (tourCost p v)) floor-as (below-tours p (h .bound-numbering .numbers) bound-budget u guarantee v t)
 
   pub above : pos (requiredCost p + leastBalancing p []) ≤ℤ k .floor
-  above = subst⁻¹ (λ f. pos (requiredCost p + leastBalancing p []) ≤ℤ f) floor-as (above-balancing p (h .bound-numbering .numbers) bound-budget u guarantee)
+  above = subst⁻¹ (λ f. pos (requiredCost p + leastBalancing p []) ≤ℤ f) floor-as
+      (above-balancing p (h .bound-numbering .numbers) bound-budget u guarantee)
 
   pub floor-no-higher : k .floor ≤ℤ pos (k .cost)
   floor-no-higher = subst (λ c. k .floor ≤ℤ pos c) told-cost (below w (told .tour))
 
   pub kept-multipliers : AreMultipliers p (uOf (k .multipliers))
-  kept-multipliers = subst⁻¹ (AreMultipliers p) (h .multipliers-are) (multipliers-back p (h .bound-numbering .numbers) u (ok .well-formed) lawful)
+  kept-multipliers =
+      subst⁻¹ (AreMultipliers p) (h .multipliers-are) (multipliers-back p (h .bound-numbering .numbers) u (ok .well-formed) lawful)
 
   carried-into : carried (numberIn (k .bound .numbering .from)) (uOf (k .multipliers)) ≡ u
   carried-into = ap (carried (numberIn (k .bound .numbering .from))) (h .multipliers-are) ∙ carried-again p (h .bound-numbering .numbers) u
@@ -111,26 +116,32 @@ module _ (p : Plan) (ok : Plannable p) (few : componentCount p ≤ 8) (r : ℕ) 
         let e : bestCost bounded bound-budget ≡ k .cost = omega arith in
         inl (floor-as ∙ guarantee .whole-equal t ∙ ap pos e)
     | inr t ↦
-        inr (floor-as ∙ guarantee .partial-equal t ∙ ap (λ (v : Multipliers). maxℤ (lagrangianBound bounded (λ i. pos 0)) (lagrangianBound bounded v)) (sym carried-into))
+        inr (floor-as ∙ guarantee .partial-equal t
+        ∙ ap (λ (v : Multipliers). maxℤ (lagrangianBound bounded (λ i. pos 0)) (lagrangianBound bounded v)) (sym carried-into))
   ]
 
   -- ---- whole
 
   pub closed-says : T (isClosed k) ↔ (k .floor ≡ pos (k .cost))
   unfolding isClosed
-  closed-says = ((λ t. (let a = leZ-yes {a = pos (k .cost)} {b = k .floor} t in let b = floor-no-higher in omega (arith, z))), (λ e. subst⁻¹ (λ f. T (leZ (pos (k .cost)) f)) e (≤ℤ-refl (pos (k .cost)) .le)))
+  closed-says = (
+    (λ t. (let a = leZ-yes {a = pos (k .cost)} {b = k .floor} t in let b = floor-no-higher in omega (arith, z))),
+    (λ e. subst⁻¹ (λ f. T (leZ (pos (k .cost)) f)) e (≤ℤ-refl (pos (k .cost)) .le)),
+  )
 
   pub closed-least : T (isClosed k) → (v : List ℕ) → IsTour p v → k .cost ≤ tourCost p v
   closed-least t v g = let e = closed-says .0 t in let b = below v g in omega (arith, z)
 
 -- ---- the answer
 
-module _ (p : Plan) (ok : Plannable p) (few : componentCount p ≤ 8) (budget : ℕ) (some-trees : 1 ≤ budget) (low : budget ≤ 1000000) (rounds : ℕ) (few-rounds : rounds ≤ 1000) where
+module _ (p : Plan) (ok : Plannable p) (few : componentCount p ≤ 8) (budget : ℕ) (some-trees : 1 ≤ budget) (low : budget ≤ 1000000)
+    (rounds : ℕ) (few-rounds : rounds ≤ 1000) where
   pub is-kept : IsKept p (rounds - 1) (kept p budget rounds)
   unfolding kept
   is-kept = after-kept p ok few budget some-trees low (rounds - 1) (omega arith)
 
-  pub is-deep-answer : (new : List ℕ) (r : Planned) → take (r .places) new ≡ deepTour p budget rounds → summaryOf r ≡ deepSummary p budget rounds → r .multipliers ≡ kept p budget rounds .multipliers
+  pub is-deep-answer : (new : List ℕ) (r : Planned) → take (r .places) new ≡ deepTour p budget rounds
+      → summaryOf r ≡ deepSummary p budget rounds → r .multipliers ≡ kept p budget rounds .multipliers
       → IsDeepAnswer p budget rounds new r
   unfolding deepTour deepSummary
   is-deep-answer new r d s m =
@@ -159,7 +170,8 @@ module _ (p : Plan) (ok : Plannable p) (few : componentCount p ≤ 8) (budget : 
       }
 
   -- laid under the numbering of the least cost
-  pub is-deep : (old new : List ℕ) (r : Planned) → new ≡ written (deepTour p budget rounds) old → r .places ≡ length (deepTour p budget rounds) → verdictNumber (r .verdict) ≡ none → summaryOf r ≡ deepSummary p budget rounds
+  pub is-deep : (old new : List ℕ) (r : Planned) → new ≡ written (deepTour p budget rounds) old
+      → r .places ≡ length (deepTour p budget rounds) → verdictNumber (r .verdict) ≡ none → summaryOf r ≡ deepSummary p budget rounds
       → r .multipliers ≡ kept p budget rounds .multipliers → IsDeep p budget rounds none old new r
   unfolding answer fields unless countUnless multipliersUnless written
   is-deep old new r w n v s m =
@@ -181,7 +193,8 @@ pub record IsTried (q : Plan) (budget : ℕ) (r : Planned) : Type 0 where
   pub multipliers-are : r .multipliers ≡ multipliersFor q
   pub trees-are : r .trees ≡ triedCount q budget
 
-pub is-tried : (q : Plan) (budget : ℕ) (refusal : Option ℕ) (old new : List ℕ) (r : Planned) → IsPlanned q budget refusal old new r → refusal ≡ none → IsTried q budget r
+pub is-tried : (q : Plan) (budget : ℕ) (refusal : Option ℕ) (old new : List ℕ) (r : Planned) → IsPlanned q budget refusal old new r
+    → refusal ≡ none → IsTried q budget r
 unfolding floorOf summary
 is-tried q budget refusal old new r i e =
     let g : verdictNumber (r .verdict) ≡ none = i .verdict ∙ e in

@@ -12,7 +12,7 @@ use Rattle.postman.specs.Plan.{Plan, WellFormed}
 use Rattle.postman.specs.Refusal.{Conditions, firstRefusal, answer, unless}
 use Rattle.postman.specs.PlanFile.{fileConditions, isOutside, planOf}
 use Rattle.postman.specs.PlanCall.{callConditions, lastConditions, callRefusal, earlierConditions, isCutOff, fields}
-use Rattle.postman.specs.Theorem.{last-cut-off}
+use Rattle.postman.specs.Laws.Theorem.{last-cut-off}
 use Rattle.postman.specs.Laws.Acceptance.{inside, before-accepted, file-accepted}
 use Rattle.postman.specs.Laws.Refusal.{Other, accepted-cons, first-on, first-stop, before-order, before-other, own-passed}
 use Rattle.plan.specs.Records.{planValue}
@@ -31,11 +31,13 @@ use Rattle.deep_call.specs.Contract.{multipliersUnless, IsDeep, IsDeepCa
 
 -- ---- one step of the chain
 
-pub deep-as : (p q : Plan) (budget rounds : ℕ) (o o′ : Option ℕ) (old new : List ℕ) (x : Planned) → p ≡ q → o ≡ o′ → IsDeep p budget rounds o old new x → IsDeep q budget rounds o′ old new x
+pub deep-as : (p q : Plan) (budget rounds : ℕ) (o o′ : Option ℕ) (old new : List ℕ) (x : Planned) → p ≡ q → o ≡ o′
+    → IsDeep p budget rounds o old new x → IsDeep q budget rounds o′ old new x
 deep-as p q budget rounds o o′ old new x e h i =
     subst (λ (q : Plan). IsDeep q budget rounds o′ old new x) e (subst (λ (o : Option ℕ). IsDeep p budget rounds o old new x) h i)
 
-is-refused : (p : Plan) (budget rounds : ℕ) (old : List ℕ) (r : Refusal) → IsDeep p budget rounds (some (refusalNumber r)) old old (refusedWith r)
+is-refused : (p : Plan) (budget rounds : ℕ) (old : List ℕ) (r : Refusal)
+    → IsDeep p budget rounds (some (refusalNumber r)) old old (refusedWith r)
 unfolding answer fields unless countUnless multipliersUnless
 is-refused p budget rounds old r = record {
   verdict = refl;
@@ -46,15 +48,19 @@ is-refused p budget rounds old r = record {
   answered = λ e. absurd (Option·some-ne-none (refusalNumber r) e);
 }
 
-pub refused-deep : (p : Plan) (budget rounds : ℕ) (o : Option ℕ) (old : List ℕ) (r : Refusal) (x : Planned) → x ≡ refusedWith r → o ≡ some (refusalNumber r) → IsDeep p budget rounds o old old x
+pub refused-deep : (p : Plan) (budget rounds : ℕ) (o : Option ℕ) (old : List ℕ) (r : Refusal) (x : Planned) → x ≡ refusedWith r
+    → o ≡ some (refusalNumber r) → IsDeep p budget rounds o old old x
 refused-deep p budget rounds o old r x e h =
-    subst⁻¹ (λ (x : Planned). IsDeep p budget rounds o old old x) e (subst⁻¹ (λ (o : Option ℕ). IsDeep p budget rounds o old old (refusedWith r)) h (is-refused p budget rounds old r))
+    subst⁻¹ (λ (x : Planned). IsDeep p budget rounds o old old x) e
+    (subst⁻¹ (λ (o : Option ℕ). IsDeep p budget rounds o old old (refusedWith r)) h (is-refused p budget rounds old r))
 
-pub step-refused : (p : Plan) (budget rounds : ℕ) (cs ds : Conditions) (old : List ℕ) (r : Refusal) (x : Planned) → x ≡ refusedWith r → firstRefusal cs ≡ some (refusalNumber r)
+pub step-refused : (p : Plan) (budget rounds : ℕ) (cs ds : Conditions) (old : List ℕ) (r : Refusal) (x : Planned) → x ≡ refusedWith r
+    → firstRefusal cs ≡ some (refusalNumber r)
     → IsDeep p budget rounds (firstRefusal (cs ++ ds)) old old x
 step-refused p budget rounds cs ds old r x e h = refused-deep p budget rounds _ old r x e (first-stop cs ds _ h)
 
-pub step-on : (p : Plan) (budget rounds : ℕ) (cs ds : Conditions) (old new : List ℕ) (x : Planned) → firstRefusal cs ≡ none → IsDeep p budget rounds (firstRefusal ds) old new x
+pub step-on : (p : Plan) (budget rounds : ℕ) (cs ds : Conditions) (old new : List ℕ) (x : Planned) → firstRefusal cs ≡ none
+    → IsDeep p budget rounds (firstRefusal ds) old new x
     → IsDeep p budget rounds (firstRefusal (cs ++ ds)) old new x
 step-on p budget rounds cs ds old new x h i = deep-as p p budget rounds _ _ old new x refl (sym (first-on cs ds h)) i
 
@@ -93,7 +99,8 @@ module _ (rounds : ℕ) where
   rounds-other = (omega arith, tt)
 
 -- from 10 on
-pub last-deep : (p : Plan) (budget rounds : ℕ) (old new : List ℕ) (x : Planned) → WellFormed p → IsDeep p budget rounds (planRefusal p) old new x → IsDeep p budget rounds (firstRefusal (lastConditions p)) old new x
+pub last-deep : (p : Plan) (budget rounds : ℕ) (old new : List ℕ) (x : Planned) → WellFormed p
+    → IsDeep p budget rounds (planRefusal p) old new x → IsDeep p budget rounds (firstRefusal (lastConditions p)) old new x
 last-deep p budget rounds old new x w i = deep-as p p budget rounds _ _ old new x refl (sym (parts-refusal p w)) i
 
 -- ---- the whole call
@@ -108,7 +115,8 @@ module _ (bytes : List ℕ) (budget rounds : ℕ) (old new : List ℕ) (r : Plan
   abbrev Called : Type 0
   Called = IsDeep p budget rounds (deepRefusal bytes budget rounds (length old)) old new r
 
-  conditions : deepRefusal bytes budget rounds (length old) ≡ firstRefusal (earlierConditionsIn bytes budget rounds (length old) ++ (isCutOff p, 12) ∷ [])
+  conditions : deepRefusal bytes budget rounds (length old)
+      ≡ firstRefusal (earlierConditionsIn bytes budget rounds (length old) ++ (isCutOff p, 12) ∷ [])
   unfolding deepRefusal
   conditions = refl
 
@@ -116,7 +124,8 @@ module _ (bytes : List ℕ) (budget rounds : ℕ) (old new : List ℕ) (r : Plan
   unfolding earlierConditionsIn
   other = before-other bytes budget (length old) own p (rounds-other rounds)
 
-  order : deepRefusal bytes budget rounds (length old) ≡ firstRefusal (fileConditions bytes ++ (callConditions budget (length old) ++ (own ++ lastConditions p)))
+  order : deepRefusal bytes budget rounds (length old)
+      ≡ firstRefusal (fileConditions bytes ++ (callConditions budget (length old) ++ (own ++ lastConditions p)))
   unfolding deepRefusal earlierConditionsIn
   order = ap firstRefusal (before-order bytes budget (length old) own p ((isCutOff p, 12) ∷ []))
 
@@ -124,22 +133,26 @@ module _ (bytes : List ℕ) (budget rounds : ℕ) (old new : List ℕ) (r : Plan
   unfolding earlierConditionsIn
   is-deep-call i =
       let sure = before-accepted bytes budget (length old) own p in
-      let c = last-cut-off (earlierConditionsIn bytes budget rounds (length old)) p other (λ e. (file-accepted bytes (sure e .file), sure e .some-required)) in
+      let c = last-cut-off (earlierConditionsIn bytes budget rounds (length old)) p other
+      (λ e. (file-accepted bytes (sure e .file), sure e .some-required)) in
       record { deep = i; cut-off = ((λ h. c .0 (sym conditions ∙ sym (i .verdict) ∙ h)), (λ h. i .verdict ∙ conditions ∙ c .1 h)) }
 
   -- a file that is refused refuses the call
-  pub file-refused-deep : (x : Refusal) → r ≡ refusedWith x → old ≡ new → firstRefusal (fileConditions bytes) ≡ some (refusalNumber x) → Called
+  pub file-refused-deep : (x : Refusal) → r ≡ refusedWith x → old ≡ new → firstRefusal (fileConditions bytes) ≡ some (refusalNumber x)
+      → Called
   file-refused-deep x h s e =
       subst (λ (new : List ℕ). IsDeep p budget rounds (deepRefusal bytes budget rounds (length old)) old new r) s
       (refused-deep p budget rounds _ old x r h (order ∙ first-stop (fileConditions bytes) _ _ e))
 
   -- one that is not gives its plan
   pub read-deep : (x : Reading) → IsReading bytes x → firstRefusal (fileConditions bytes) ≡ none
-      → IsDeep (planValue (x .plan)) budget rounds (firstRefusal (callConditions budget (length old) ++ (own ++ lastConditions (planValue (x .plan))))) old new r → Called
+      → IsDeep (planValue (x .plan)) budget rounds
+      (firstRefusal (callConditions budget (length old) ++ (own ++ lastConditions (planValue (x .plan))))) old new r → Called
   read-deep x h e i =
       let v = accepted-value bytes x h e in
       deep-as _ p budget rounds _ _ old new r v
-      (ap (λ (p : Plan). firstRefusal (callConditions budget (length old) ++ (own ++ lastConditions p))) v ∙ sym (order ∙ first-on (fileConditions bytes) _ e)) i
+      (ap (λ (p : Plan). firstRefusal (callConditions budget (length old) ++ (own ++ lastConditions p))) v
+      ∙ sym (order ∙ first-on (fileConditions bytes) _ e)) i
 
   -- with one round nothing but the plan call's refusals is left
   pub as-call-refusal : firstRefusal own ≡ none → deepRefusal bytes budget rounds (length old) ≡ callRefusal bytes budget (length old)

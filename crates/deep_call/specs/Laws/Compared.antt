@@ -62,7 +62,8 @@ module _ (p : Plan) (budget rounds : ℕ) (old new : List ℕ) (r : Planned) (i 
 
   pub drive-deep : take (r .places) new ≡ deepTour p budget rounds
   unfolding unless countUnless written
-  drive-deep = ap₂ take (i .places-are) (i .sheet) ∙ take-append-seam (deepTour p budget rounds) (drop (length (deepTour p budget rounds)) old)
+  drive-deep =
+      ap₂ take (i .places-are) (i .sheet) ∙ take-append-seam (deepTour p budget rounds) (drop (length (deepTour p budget rounds)) old)
 
 -- ---- a call that is not refused
 
@@ -88,7 +89,11 @@ module _ (bytes : List ℕ) (budget rounds places : ℕ) (e : deepRefusal bytes 
       let b = before-accepted bytes budget places (roundConditions rounds) p (all .0) in
       record {
         file = b .file;
-        plannable = record { well-formed = file-accepted bytes (b .file); some-arc = b .some-required; connected = accepted-cons (isCutOff p) 12 [] (all .1) .0 };
+        plannable = record {
+          well-formed = file-accepted bytes (b .file);
+          some-arc = b .some-required;
+          connected = accepted-cons (isCutOff p) 12 [] (all .1) .0;
+        };
         few = b .components;
         some-budget = b .some-budget;
         low = b .budget;
@@ -155,27 +160,35 @@ one-good : firstRefusal (roundConditions 1) ≡ none
 unfolding isOutside highestRounds
 one-good = rounds-good 1 refl
 
-pub first-same : (bytes : List ℕ) (budget : ℕ) (old new new′ : List ℕ) (r s : Planned) → IsDeepCall bytes budget 1 old new r → IsPlanCall bytes budget old new′ s → SameButWhole r s × (new ≡ new′)
+pub first-same : (bytes : List ℕ) (budget : ℕ) (old new new′ : List ℕ) (r s : Planned) → IsDeepCall bytes budget 1 old new r
+    → IsPlanCall bytes budget old new′ s → SameButWhole r s × (new ≡ new′)
 first-same bytes budget old new new′ r s d c =
     same (planOf bytes) budget old new new′ r s _
-    (subst (λ (o : Option ℕ). IsDeep (planOf bytes) budget 1 o old new r) (as-call-refusal bytes budget 1 old new r one-good) (d .deep)) (c .planned)
+    (subst (λ (o : Option ℕ). IsDeep (planOf bytes) budget 1 o old new r) (as-call-refusal bytes budget 1 old new r one-good) (d .deep))
+    (c .planned)
 
 -- ---- more rounds
 
 module _ (bytes : List ℕ) (budget y : ℕ) (a : DeepAccepted bytes budget y) where
-  kept-better : (x : ℕ) → x ≤ y → (kept (planOf bytes) budget y .cost ≤ kept (planOf bytes) budget x .cost) × (kept (planOf bytes) budget x .floor ≤ℤ kept (planOf bytes) budget y .floor)
+  kept-better : (x : ℕ) → x ≤ y
+      → (kept (planOf bytes) budget y .cost ≤ kept (planOf bytes) budget x .cost)
+      × (kept (planOf bytes) budget x .floor ≤ℤ kept (planOf bytes) budget y .floor)
   unfolding kept
   kept-better x l =
       let e : (y - 1) - (x - 1) + (x - 1) ≡ y - 1 = omega arith in
-      subst (λ n. (keptAfter (planOf bytes) budget n .cost ≤ keptAfter (planOf bytes) budget (x - 1) .cost) × (keptAfter (planOf bytes) budget (x - 1) .floor ≤ℤ keptAfter (planOf bytes) budget n .floor)) e
-      (more-better (planOf bytes) (a .plannable) (a .few) budget (a .some-budget) (a .low) (x - 1) ((y - 1) - (x - 1)) (let f = a .few-rounds in omega arith))
+      subst (λ n. (keptAfter (planOf bytes) budget n .cost ≤ keptAfter (planOf bytes) budget (x - 1) .cost)
+      × (keptAfter (planOf bytes) budget (x - 1) .floor ≤ℤ keptAfter (planOf bytes) budget n .floor)) e
+      (more-better (planOf bytes) (a .plannable) (a .few) budget (a .some-budget) (a .low) (x - 1) ((y - 1) - (x - 1))
+      (let f = a .few-rounds in omega arith))
 
   -- from the first round on, which no rounds at all would leave too
-  from-first : (kept (planOf bytes) budget y .cost ≤ kept (planOf bytes) budget 1 .cost) × (kept (planOf bytes) budget 1 .floor ≤ℤ kept (planOf bytes) budget y .floor)
+  from-first : (kept (planOf bytes) budget y .cost ≤ kept (planOf bytes) budget 1 .cost)
+      × (kept (planOf bytes) budget 1 .floor ≤ℤ kept (planOf bytes) budget y .floor)
   unfolding kept
   from-first =
       let e : y - 1 + 0 ≡ y - 1 = omega arith in
-      subst (λ n. (keptAfter (planOf bytes) budget n .cost ≤ keptAfter (planOf bytes) budget 0 .cost) × (keptAfter (planOf bytes) budget 0 .floor ≤ℤ keptAfter (planOf bytes) budget n .floor)) e
+      subst (λ n. (keptAfter (planOf bytes) budget n .cost ≤ keptAfter (planOf bytes) budget 0 .cost)
+      × (keptAfter (planOf bytes) budget 0 .floor ≤ℤ keptAfter (planOf bytes) budget n .floor)) e
       (more-better (planOf bytes) (a .plannable) (a .few) budget (a .some-budget) (a .low) 0 (y - 1) (let f = a .few-rounds in omega arith))
 
 is-true : (b : Bool) → T b → b ≡ true
@@ -183,7 +196,8 @@ is-true true t = refl
 
 same-summary : (p : Plan) (budget x y : ℕ) → kept p budget y ≡ kept p budget x → deepSummary p budget y ≡ deepSummary p budget x
 unfolding deepSummary
-same-summary p budget x y e = ap (λ (k : Kept). record { cost = k .cost; floor = k .floor; trees = k .trees; whole = isClosed k; parts = componentCount p }) e
+same-summary p budget x y e =
+    ap (λ (k : Kept). record { cost = k .cost; floor = k .floor; trees = k .trees; whole = isClosed k; parts = componentCount p }) e
 
 same-tour : (p : Plan) (budget x y : ℕ) → kept p budget y ≡ kept p budget x → deepTour p budget y ≡ deepTour p budget x
 unfolding deepTour
@@ -195,7 +209,8 @@ kept-closed p budget x y l c =
     let e : (y - 1) - (x - 1) + (x - 1) ≡ y - 1 = omega arith in
     ap (keptAfter p budget) (sym e) ∙ closed-stays p budget (x - 1) ((y - 1) - (x - 1)) c
 
-pub first-no-worse : (bytes : List ℕ) (budget rounds : ℕ) (old new old′ new′ : List ℕ) (r s : Planned) → IsPlanCall bytes budget old new r → IsDeepCall bytes budget rounds old′ new′ s
+pub first-no-worse : (bytes : List ℕ) (budget rounds : ℕ) (old new old′ new′ : List ℕ) (r s : Planned) → IsPlanCall bytes budget old new r
+    → IsDeepCall bytes budget rounds old′ new′ s
     → verdictNumber (r .verdict) ≡ none → verdictNumber (s .verdict) ≡ none → NoWorse r s
 first-no-worse bytes budget rounds old new old′ new′ r s c d good-c good-d =
     let p = planOf bytes in
@@ -204,11 +219,14 @@ first-no-worse bytes budget rounds old new old′ new′ r s c d good-c good-d =
     let t = is-tried p budget _ old new r (c .planned) (sym (c .planned .verdict) ∙ good-c) in
     let b = from-first bytes budget rounds (deep-accepted bytes budget rounds (length old′) e) in
     record {
-      no-dearer = subst⁻¹ (λ x. s .cost ≤ x) (t .cost-is ∙ sym (first-cost p budget)) (subst⁻¹ (λ x. x ≤ kept p budget 1 .cost) (cost-deep p budget rounds old′ new′ s i) (b .0));
-      no-lower = subst⁻¹ (λ x. x ≤ℤ s .floor) (t .floor-is ∙ sym (first-floor p budget)) (subst⁻¹ (λ x. kept p budget 1 .floor ≤ℤ x) (floor-deep p budget rounds old′ new′ s i) (b .1));
+      no-dearer = subst⁻¹ (λ x. s .cost ≤ x) (t .cost-is ∙ sym (first-cost p budget))
+          (subst⁻¹ (λ x. x ≤ kept p budget 1 .cost) (cost-deep p budget rounds old′ new′ s i) (b .0));
+      no-lower = subst⁻¹ (λ x. x ≤ℤ s .floor) (t .floor-is ∙ sym (first-floor p budget))
+          (subst⁻¹ (λ x. kept p budget 1 .floor ≤ℤ x) (floor-deep p budget rounds old′ new′ s i) (b .1));
     }
 
-pub deepens : (bytes : List ℕ) (budget a b : ℕ) → a ≤ b → (old new old′ new′ : List ℕ) (r s : Planned) → IsDeepCall bytes budget a old new r → IsDeepCall bytes budget b old′ new′ s
+pub deepens : (bytes : List ℕ) (budget a b : ℕ) → a ≤ b → (old new old′ new′ : List ℕ) (r s : Planned)
+    → IsDeepCall bytes budget a old new r → IsDeepCall bytes budget b old′ new′ s
     → verdictNumber (r .verdict) ≡ none → verdictNumber (s .verdict) ≡ none → Deepens r s new new′
 deepens bytes budget a b more old new old′ new′ r s x y good-x good-y =
     let p = planOf bytes in
@@ -217,20 +235,27 @@ deepens bytes budget a b more old new old′ new′ r s x y good-x good-y =
     let i = subst (λ (o : Option ℕ). IsDeep p budget a o old new r) ex (x .deep) in
     let j = subst (λ (o : Option ℕ). IsDeep p budget b o old′ new′ s) ey (y .deep) in
     let g = kept-better bytes budget b (deep-accepted bytes budget b (length old′) ey) a more in
-    let met : T (r .whole) → kept p budget b ≡ kept p budget a = λ t. kept-closed p budget a b more (sym (whole-deep p budget a old new r i) ∙ is-true (r .whole) t) in
+    let met : T (r .whole) → kept p budget b ≡ kept p budget a =
+    λ t. kept-closed p budget a b more (sym (whole-deep p budget a old new r i) ∙ is-true (r .whole) t) in
     record {
       no-worse = record {
-        no-dearer = subst⁻¹ (λ c. s .cost ≤ c) (cost-deep p budget a old new r i) (subst⁻¹ (λ c. c ≤ kept p budget a .cost) (cost-deep p budget b old′ new′ s j) (g .0));
-        no-lower = subst⁻¹ (λ f. f ≤ℤ s .floor) (floor-deep p budget a old new r i) (subst⁻¹ (λ f. kept p budget a .floor ≤ℤ f) (floor-deep p budget b old′ new′ s j) (g .1));
+        no-dearer = subst⁻¹ (λ c. s .cost ≤ c) (cost-deep p budget a old new r i)
+            (subst⁻¹ (λ c. c ≤ kept p budget a .cost) (cost-deep p budget b old′ new′ s j) (g .0));
+        no-lower = subst⁻¹ (λ f. f ≤ℤ s .floor) (floor-deep p budget a old new r i)
+            (subst⁻¹ (λ f. kept p budget a .floor ≤ℤ f) (floor-deep p budget b old′ new′ s j) (g .1));
       };
-      closed-fields = λ t. summary-deep p budget b old′ new′ s j ∙ same-summary p budget a b (met t) ∙ sym (summary-deep p budget a old new r i);
-      closed-multipliers = λ t. multipliers-deep p budget b old′ new′ s j ∙ ap (λ (k : Kept). k .multipliers) (met t) ∙ sym (multipliers-deep p budget a old new r i);
+      closed-fields =
+          λ t. summary-deep p budget b old′ new′ s j ∙ same-summary p budget a b (met t) ∙ sym (summary-deep p budget a old new r i);
+      closed-multipliers =
+          λ t. multipliers-deep p budget b old′ new′ s j ∙ ap (λ (k : Kept). k .multipliers) (met t)
+          ∙ sym (multipliers-deep p budget a old new r i);
       closed-drive = λ t. drive-deep p budget b old′ new′ s j ∙ same-tour p budget a b (met t) ∙ sym (drive-deep p budget a old new r i);
     }
 
 -- ---- the judge
 
-pub deep-judged : (bytes : List ℕ) (budget rounds : ℕ) (old new : List ℕ) (r : Planned) → IsDeepCall bytes budget rounds old new r → verdictNumber (r .verdict) ≡ none
+pub deep-judged : (bytes : List ℕ) (budget rounds : ℕ) (old new : List ℕ) (r : Planned) → IsDeepCall bytes budget rounds old new r
+    → verdictNumber (r .verdict) ≡ none
     → judgeAnswer bytes (take (r .places) new) ≡ given (r .cost)
 unfolding highestPlaces sheetPlaces
 deep-judged bytes budget rounds old new r d good =

@@ -23,28 +23,49 @@ use Rattle.rounds.specs.Laws.Made.{is-kept-after}
 use Rattle.deep_call.specs.Contract.{IsDeep}
 use Rattle.deep_call.specs.Laws.Answer.{is-deep}
 
-module _ (p : Plan) (ok : WellFormed p) (accepted : planRefusal p ≡ none) (budget : ℕ) (some-trees : 1 ≤ budget) (low : budget ≤ 1000000) (rounds : ℕ) (few-rounds : rounds ≤ 1000) (k : Kept) (e : k ≡ keptAfter p budget (rounds - 1)) (old new : List ℕ) (a : Laid)
-    (sheet : new ≡ written (tourOf (under p (k .drive .numbering)) (k .drive .tries)) old) (places : a .places ≡ length (tourOf (under p (k .drive .numbering)) (k .drive .tries)))
+module _ (p : Plan) (ok : WellFormed p) (accepted : planRefusal p ≡ none) (budget : ℕ) (some-trees : 1 ≤ budget) (low : budget ≤ 1000000)
+    (rounds : ℕ) (few-rounds : rounds ≤ 1000) (k : Kept) (e : k ≡ keptAfter p budget (rounds - 1)) (old new : List ℕ) (a : Laid)
+    (sheet : new ≡ written (tourOf (under p (k .drive .numbering)) (k .drive .tries)) old)
+    (places : a .places ≡ length (tourOf (under p (k .drive .numbering)) (k .drive .tries)))
     (parts : a .parts ≡ componentCount (under p (k .drive .numbering))) where
   as-kept : k ≡ kept p budget rounds
   unfolding kept
   as-kept = e
 
   parts-are : a .parts ≡ componentCount p
-  parts-are = parts ∙ count-renumbered p ok (is-kept-after p ok accepted budget some-trees low (rounds - 1) k (omega arith) e .drive-numbering .numbers)
+  parts-are = parts
+      ∙ count-renumbered p ok (is-kept-after p ok accepted budget some-trees low (rounds - 1) k (omega arith) e .drive-numbering .numbers)
 
   tour-is : tourOf (under p (k .drive .numbering)) (k .drive .tries) ≡ deepTour p budget rounds
   unfolding deepTour
   tour-is = ap (λ (k : Kept). tourOf (under p (k .drive .numbering)) (k .drive .tries)) as-kept
 
-  fields-are : (f : ℤ) (b : Bool) → f ≡ k .floor → b ≡ leZ (pos (k .cost)) f → record { cost = k .cost; floor = f; trees = k .trees; whole = b; parts = a .parts } ≡ deepSummary p budget rounds
+  fields-are : (f : ℤ) (b : Bool) → f ≡ k .floor → b ≡ leZ (pos (k .cost)) f
+      → record { cost = k .cost; floor = f; trees = k .trees; whole = b; parts = a .parts } ≡ deepSummary p budget rounds
   unfolding deepSummary isClosed
   fields-are f b ef eb =
       (λ j. record { cost = k .cost; floor = ef j; trees = k .trees; whole = (eb ∙ ap (leZ (pos (k .cost))) ef) j; parts = parts-are j })
-      ∙ ap (λ (k : Kept). record { cost = k .cost; floor = k .floor; trees = k .trees; whole = leZ (pos (k .cost)) (k .floor); parts = componentCount p }) as-kept
+      ∙ ap (λ (k : Kept). record {
+        cost = k .cost;
+        floor = k .floor;
+        trees = k .trees;
+        whole = leZ (pos (k .cost)) (k .floor);
+        parts = componentCount p;
+      }) as-kept
 
   pub laid-best : (f : ℤ) (b : Bool) → f ≡ k .floor → b ≡ leZ (pos (k .cost)) f
-      → IsDeep p budget rounds none old new (record { verdict = Accepted; places = a .places; cost = k .cost; floor = f; trees = k .trees; whole = b; parts = a .parts; multipliers = k .multipliers })
+      → IsDeep p budget rounds none old new
+      (record {
+        verdict = Accepted;
+        places = a .places;
+        cost = k .cost;
+        floor = f;
+        trees = k .trees;
+        whole = b;
+        parts = a .parts;
+        multipliers = k .multipliers;
+      })
   laid-best f b ef eb =
       let ac = plan-accepted p ok accepted in
-      is-deep p (ac .0) (ac .1) budget some-trees low rounds few-rounds old new _ (sheet ∙ ap (λ (w : List ℕ). written w old) tour-is) (places ∙ ap length tour-is) refl (fields-are f b ef eb) (ap (λ (k : Kept). k .multipliers) as-kept)
+      is-deep p (ac .0) (ac .1) budget some-trees low rounds few-rounds old new _ (sheet ∙ ap (λ (w : List ℕ). written w old) tour-is)
+      (places ∙ ap length tour-is) refl (fields-are f b ef eb) (ap (λ (k : Kept). k .multipliers) as-kept)

@@ -12,7 +12,8 @@ use Rattle.postman.specs.Link.{Link}
 use Rattle.postman.specs.Laws.Tests.{cond-ind}
 use Rattle.residual_search.specs.Fold.{fold}
 use Rattle.residual_search.specs.Search.{search}
-use Rattle.residual_search.specs.Step.{State, amount, residualLength, moved, push, augment, empty, way, add, addAll}
+use Rattle.postman.specs.Steps.{amount}
+use Rattle.residual_search.specs.Step.{State, residualLength, moved, push, augment, empty, way, add, addAll}
 use Rattle.direct_amounts.specs.Direct.{passed, gained, bypass, bypassFrom, bypassVertex, direct}
 use Rattle.balance.specs.Invariant.{Metric, Joining, Certified, limit}
 use Rattle.residual_search.specs.Laws.Search.{searched}
@@ -35,13 +36,16 @@ module _ (vs : List ℕ) (small : (i : ℕ) → List·Memᴰ i vs → i < 64) wh
   among-push : (f : List ℕ) (v w : ℕ) → List·Memᴰ v vs → List·Memᴰ w vs → Among vs f → Among vs (push f v w)
   among-push f v w mv mw h =
       cond-ind (ltb 0 (amount f w v)) (w * 64 + v) (v * 64 + w) (λ k. Among vs (set f k (moved (amount f w v) (amount f v w))))
-      (λ t. among-set f w v (moved (amount f w v) (amount f v w)) mw mv h) (λ t. among-set f v w (moved (amount f w v) (amount f v w)) mv mw h)
+      (λ t. among-set f w v (moved (amount f w v) (amount f v w)) mw mv h)
+      (λ t. among-set f v w (moved (amount f w v) (amount f v w)) mv mw h)
 
-  among-augment : (next : List ℕ) (t : ℕ) → ((v : ℕ) → List·Memᴰ v vs → List·Memᴰ (getD next v 0) vs) → (n : ℕ) (f : List ℕ) (v : ℕ) → List·Memᴰ v vs → Among vs f → Among vs (augment next t n f v)
+  among-augment : (next : List ℕ) (t : ℕ) → ((v : ℕ) → List·Memᴰ v vs → List·Memᴰ (getD next v 0) vs) → (n : ℕ) (f : List ℕ) (v : ℕ)
+      → List·Memᴰ v vs → Among vs f → Among vs (augment next t n f v)
   unfolding augment
   among-augment next t on zero f v mv h = h
   among-augment next t on (suc n) f v mv h =
-      let r = among-augment next t on n (push f v (getD next v 0)) (getD next v 0) (on v mv) (among-push f v (getD next v 0) mv (on v mv) h) in
+      let r = among-augment next t on n (push f v (getD next v 0)) (getD next v 0) (on v mv)
+      (among-push f v (getD next v 0) mv (on v mv) h) in
       cond-ind (eqb v t) f (augment next t n (push f v (getD next v 0)) (getD next v 0)) (Among vs) (λ y. h) (λ y. r)
 
   among-bypass : (f : List ℕ) (a b c : ℕ) → List·Memᴰ a vs → List·Memᴰ b vs → List·Memᴰ c vs → Among vs f → Among vs (bypass f a b c)
@@ -61,17 +65,21 @@ module _ (vs : List ℕ) (small : (i : ℕ) → List·Memᴰ i vs → i < 64) wh
   unfolding direct bypassVertex bypassFrom
   among-direct f h =
       among-fold (bypassVertex vs)
-      (λ f b mb. among-fold (bypassFrom vs b) (λ f a ma. among-fold (λ g c. bypass g a b c) (λ f c mc. among-bypass f a b c ma mb mc) vs (λ v m. m) f) vs (λ v m. m) f)
+      (λ f b mb. among-fold (bypassFrom vs b)
+      (λ f a ma. among-fold (λ g c. bypass g a b c) (λ f c mc. among-bypass f a b c ma mb mc) vs (λ v m. m) f) vs (λ v m. m) f)
       vs (λ v m. m) f h
 
 module _ (d : ℕ → ℕ → ℕ) (vs : List ℕ) (metric : Metric d vs) where
-  among-add : (s : State) → Certified d vs s → s .count < limit → (t h : ℕ) → List·Memᴰ t vs → List·Memᴰ h vs → Among vs (s .amounts) → Among vs (add d vs s t h .amounts)
+  among-add : (s : State) → Certified d vs s → s .count < limit → (t h : ℕ) → List·Memᴰ t vs → List·Memᴰ h vs → Among vs (s .amounts)
+      → Among vs (add d vs s t h .amounts)
   unfolding add way
   among-add s c room t h mt mh a =
       let r = searched (residualLength d (s .amounts) (s .potentials)) vs t (residual-ground d vs metric s c room t mt) false h mh in
-      among-augment vs (metric .small) (search (residualLength d (s .amounts) (s .potentials)) vs t false h .next) t (r .1 .onward) 64 (s .amounts) h mh a
+      among-augment vs (metric .small) (search (residualLength d (s .amounts) (s .potentials)) vs t false h .next) t (r .1 .onward) 64
+      (s .amounts) h mh a
 
-  pub among-all : (arcs : List Link) (s : State) → Joining vs arcs → Certified d vs s → s .count + length arcs ≤ limit → Among vs (s .amounts) → Among vs (addAll d vs s arcs .amounts)
+  pub among-all : (arcs : List Link) (s : State) → Joining vs arcs → Certified d vs s → s .count + length arcs ≤ limit
+      → Among vs (s .amounts) → Among vs (addAll d vs s arcs .amounts)
   unfolding addAll add
   among-all [] s inside c l h = h
   among-all (a ∷ arcs) s inside c l h =

@@ -1,5 +1,5 @@
--- No vertex of the direct amounts both sends and receives. Passing by a vertex makes no other send or receive more, takes what it passes from what it sends and
--- from what it receives, and keeps the balance; reduced costs stay 0, by the triangle inequality.
+-- No vertex of the direct amounts both sends and receives. Passing by a vertex makes no other send or receive more, takes what it passes
+-- from what it sends and from what it receives, and keeps the balance; reduced costs stay 0, by the triangle inequality.
 use mathlib.Core.Path.{_≡_, refl, sym, ap, ap₂, _∙_, subst⁻¹}
 use mathlib.Core.Logic.{_⊎_, inl, inr, _≢_}
 use mathlib.Core.Bool.{Bool, true, false, cond}
@@ -15,7 +15,7 @@ use borrow.Author.Tests.{eq-eqb, ne-eqb}
 use Rattle.postman.specs.Lists.{delta, occurrences}
 use Rattle.postman.specs.Laws.Occurrences.{delta-yes, delta-no}
 use Rattle.balance.specs.Optimality.{sent, received}
-use Rattle.residual_search.specs.Step.{amount}
+use Rattle.postman.specs.Steps.{amount}
 use Rattle.balance.specs.Invariant.{Loopless}
 use Rattle.direct_amounts.specs.Direct.{passed, gained, bypass, bypassFrom, bypassVertex, direct}
 use Rattle.residual_search.specs.Laws.Fold.{fold-all, fold-each}
@@ -57,31 +57,36 @@ module _ (vs : List ℕ) (unique : (i : ℕ) → occurrences i vs ≤ 1) (small 
 
     sent-drop : x + k ≡ amount f p q → (i : ℕ) → List·Memᴰ i vs → sent vs (amount g) i + delta i p * k ≡ sent vs (amount f) i
     sent-drop e i mi = elim (ℕ-discrete i p) [
-      | yes r ↦ let s = sent-here vs unique small f long p q mp mq x in let t = times-yes i p r in let a = ap (sent vs (amount g)) r in let b = ap (sent vs (amount f)) r in omega arith
+      | yes r ↦ let s = sent-here vs unique small f long p q mp mq x in let t = times-yes i p r in let a = ap (sent vs (amount g)) r in
+          let b = ap (sent vs (amount f)) r in omega arith
       | no r ↦ let s = sent-other vs unique small f long p q mp mq x i mi r in let t = times-no i p r in omega arith
     ]
 
     received-drop : x + k ≡ amount f p q → (i : ℕ) → List·Memᴰ i vs → received vs (amount g) i + delta i q * k ≡ received vs (amount f) i
     received-drop e i mi = elim (ℕ-discrete i q) [
-      | yes r ↦ let s = received-here vs unique small f long p q mp mq x in let t = times-yes i q r in let a = ap (received vs (amount g)) r in let b = ap (received vs (amount f)) r in omega arith
+      | yes r ↦ let s = received-here vs unique small f long p q mp mq x in let t = times-yes i q r in
+          let a = ap (received vs (amount g)) r in let b = ap (received vs (amount f)) r in omega arith
       | no r ↦ let s = received-other vs unique small f long p q mp mq x i mi r in let t = times-no i q r in omega arith
     ]
 
     sent-gain : amount f p q + k ≡ x → (i : ℕ) → List·Memᴰ i vs → sent vs (amount g) i ≡ sent vs (amount f) i + delta i p * k
     sent-gain e i mi = elim (ℕ-discrete i p) [
-      | yes r ↦ let s = sent-here vs unique small f long p q mp mq x in let t = times-yes i p r in let a = ap (sent vs (amount g)) r in let b = ap (sent vs (amount f)) r in omega arith
+      | yes r ↦ let s = sent-here vs unique small f long p q mp mq x in let t = times-yes i p r in let a = ap (sent vs (amount g)) r in
+          let b = ap (sent vs (amount f)) r in omega arith
       | no r ↦ let s = sent-other vs unique small f long p q mp mq x i mi r in let t = times-no i p r in omega arith
     ]
 
     received-gain : amount f p q + k ≡ x → (i : ℕ) → List·Memᴰ i vs → received vs (amount g) i ≡ received vs (amount f) i + delta i q * k
     received-gain e i mi = elim (ℕ-discrete i q) [
-      | yes r ↦ let s = received-here vs unique small f long p q mp mq x in let t = times-yes i q r in let a = ap (received vs (amount g)) r in let b = ap (received vs (amount f)) r in omega arith
+      | yes r ↦ let s = received-here vs unique small f long p q mp mq x in let t = times-yes i q r in
+          let a = ap (received vs (amount g)) r in let b = ap (received vs (amount f)) r in omega arith
       | no r ↦ let s = received-other vs unique small f long p q mp mq x i mi r in let t = times-no i q r in omega arith
     ]
 
   -- ---- one way by b
 
-  module _ (f : List ℕ) (long : length f ≡ 4096) (loopless : Loopless vs f) (a b c : ℕ) (ma : List·Memᴰ a vs) (mb : List·Memᴰ b vs) (mc : List·Memᴰ c vs) where
+  module _ (f : List ℕ) (long : length f ≡ 4096) (loopless : Loopless vs f) (a b c : ℕ) (ma : List·Memᴰ a vs) (mb : List·Memᴰ b vs)
+      (mc : List·Memᴰ c vs) where
     abbrev m : ℕ
     m = passed f a b c
 
@@ -157,7 +162,8 @@ module _ (vs : List ℕ) (unique : (i : ℕ) → occurrences i vs ≤ 1) (small 
 
       -- what is sent, and received
       sums : (i : ℕ) → List·Memᴰ i vs
-          → (sent vs (amount f₃) i + received vs (amount f) i ≡ sent vs (amount f) i + received vs (amount f₃) i) × (sent vs (amount f₃) i ≤ sent vs (amount f) i)
+          → (sent vs (amount f₃) i + received vs (amount f) i ≡ sent vs (amount f) i + received vs (amount f₃) i)
+          × (sent vs (amount f₃) i ≤ sent vs (amount f) i)
           × (received vs (amount f₃) i ≤ received vs (amount f) i)
       sums i mi =
           let e₁ : (amount f a b - m) + m ≡ amount f a b = omega arith in
@@ -215,7 +221,8 @@ module _ (vs : List ℕ) (unique : (i : ℕ) → occurrences i vs ≤ 1) (small 
       pub row : (j : ℕ) → List·Memᴰ j vs → amount g b j ≤ amount f b j
       pub column : (i : ℕ) → List·Memᴰ i vs → amount g i b ≤ amount f i b
       pub over : (amount g a b ≡ 0) ⊎ (amount g b c ≡ 0)
-      pub from : (i j : ℕ) → List·Memᴰ i vs → List·Memᴰ j vs → 0 < amount g i j → (0 < amount f i j) ⊎ ((i ≡ a) × (j ≡ c) × (0 < amount f a b) × (0 < amount f b c))
+      pub from : (i j : ℕ) → List·Memᴰ i vs → List·Memᴰ j vs → 0 < amount g i j
+          → (0 < amount f i j) ⊎ ((i ≡ a) × (j ≡ c) × (0 < amount f a b) × (0 < amount f b c))
 
     pub bypass-passes : Passes (bypass f a b c)
     bypass-passes = elim (decLe 1 m) [
@@ -251,7 +258,8 @@ module _ (vs : List ℕ) (unique : (i : ℕ) → occurrences i vs ≤ 1) (small 
 
   -- a property of amounts that passing by a vertex keeps
   module _ (Keep : List ℕ → Type 0)
-      (keeps : (f : List ℕ) (a b c : ℕ) → List·Memᴰ a vs → List·Memᴰ b vs → List·Memᴰ c vs → length f ≡ 4096 → Loopless vs f → Keep f → Keep (bypass f a b c)) where
+      (keeps : (f : List ℕ) (a b c : ℕ) → List·Memᴰ a vs → List·Memᴰ b vs → List·Memᴰ c vs → length f ≡ 4096 → Loopless vs f → Keep f
+      → Keep (bypass f a b c)) where
     -- what g, with some ways by b gone, keeps of f
     record Under (b : ℕ) (f g : List ℕ) : Type 0 where
       falls : Falls f g
@@ -277,14 +285,20 @@ module _ (vs : List ℕ) (unique : (i : ℕ) → occurrences i vs ≤ 1) (small 
         once-under : (f g : List ℕ) (c : ℕ) → List·Memᴰ c vs → Under b f g → Under b g (bypass g a b c)
         once-under f g c mc u =
             let p = bypass-passes g (u .falls .long) (u .falls .loopless) a b c ma mb mc in
-            record { falls = p .falls; keep = keeps g a b c ma mb mc (u .falls .long) (u .falls .loopless) (u .keep); row = p .row; column = p .column }
+            record {
+              falls = p .falls;
+              keep = keeps g a b c ma mb mc (u .falls .long) (u .falls .loopless) (u .keep);
+              row = p .row;
+              column = p .column;
+            }
 
         abbrev Gone : ℕ → List ℕ → Type 0
         Gone c g = (amount g a b ≡ 0) ⊎ (amount g b c ≡ 0)
 
         from-under : (f : List ℕ) → length f ≡ 4096 → Loopless vs f → Keep f → Under b f (bypassFrom vs b f a)
         unfolding bypassFrom
-        from-under f l o k = fold-all (λ g c. bypass g a b c) vs (Under b f) (λ g c mc u. under-trans u (once-under f g c mc u)) f (under-same b f l o k)
+        from-under f l o k =
+            fold-all (λ g c. bypass g a b c) vs (Under b f) (λ g c mc u. under-trans u (once-under f g c mc u)) f (under-same b f l o k)
 
         from-gone : (f : List ℕ) → length f ≡ 4096 → Loopless vs f → Keep f → (c : ℕ) → List·Memᴰ c vs → Gone c (bypassFrom vs b f a)
         unfolding bypassFrom
@@ -297,11 +311,14 @@ module _ (vs : List ℕ) (unique : (i : ℕ) → occurrences i vs ≤ 1) (small 
             ])
             f (under-same b f l o k)
 
-        from-over : (f : List ℕ) → length f ≡ 4096 → Loopless vs f → Keep f → (amount (bypassFrom vs b f a) a b ≡ 0) ⊎ (sent vs (amount (bypassFrom vs b f a)) b ≡ 0)
+        from-over : (f : List ℕ) → length f ≡ 4096 → Loopless vs f → Keep f
+            → (amount (bypassFrom vs b f a) a b ≡ 0) ⊎ (sent vs (amount (bypassFrom vs b f a)) b ≡ 0)
         unfolding sent
         from-over f l o k = elim (decLe 1 (amount (bypassFrom vs b f a) a b)) [
           | no h ↦ inl (omega arith)
-          | yes h ↦ inr (sum-none vs (λ c. amount (bypassFrom vs b f a) b c) (λ c mc. elim (from-gone f l o k c mc) [ inl e ↦ absurd (omega arith) | inr e ↦ e ]))
+          | yes h ↦ inr
+              (sum-none vs (λ c. amount (bypassFrom vs b f a) b c)
+              (λ c mc. elim (from-gone f l o k c mc) [ inl e ↦ absurd (omega arith) | inr e ↦ e ]))
         ]
 
       -- ---- from all
@@ -314,7 +331,8 @@ module _ (vs : List ℕ) (unique : (i : ℕ) → occurrences i vs ≤ 1) (small 
 
       vertex-under : (f : List ℕ) → length f ≡ 4096 → Loopless vs f → Keep f → Under b f (bypassVertex vs f b)
       unfolding bypassVertex
-      vertex-under f l o k = fold-all (bypassFrom vs b) vs (Under b f) (λ g a ma u. under-trans u (turn-under f g a ma u)) f (under-same b f l o k)
+      vertex-under f l o k =
+          fold-all (bypassFrom vs b) vs (Under b f) (λ g a ma u. under-trans u (turn-under f g a ma u)) f (under-same b f l o k)
 
       vertex-gone : (f : List ℕ) → length f ≡ 4096 → Loopless vs f → Keep f → (a : ℕ) → List·Memᴰ a vs → Over a (bypassVertex vs f b)
       unfolding bypassVertex
@@ -327,11 +345,14 @@ module _ (vs : List ℕ) (unique : (i : ℕ) → occurrences i vs ≤ 1) (small 
           ])
           f (under-same b f l o k)
 
-      vertex-over : (f : List ℕ) → length f ≡ 4096 → Loopless vs f → Keep f → (received vs (amount (bypassVertex vs f b)) b ≡ 0) ⊎ (sent vs (amount (bypassVertex vs f b)) b ≡ 0)
+      vertex-over : (f : List ℕ) → length f ≡ 4096 → Loopless vs f → Keep f
+          → (received vs (amount (bypassVertex vs f b)) b ≡ 0) ⊎ (sent vs (amount (bypassVertex vs f b)) b ≡ 0)
       unfolding received
       vertex-over f l o k = elim (decLe 1 (sent vs (amount (bypassVertex vs f b)) b)) [
         | no h ↦ inr (omega arith)
-        | yes h ↦ inl (sum-none vs (λ a. amount (bypassVertex vs f b) a b) (λ a ma. elim (vertex-gone f l o k a ma) [ inl e ↦ e | inr e ↦ absurd (omega arith) ]))
+        | yes h ↦ inl
+            (sum-none vs (λ a. amount (bypassVertex vs f b) a b)
+            (λ a ma. elim (vertex-gone f l o k a ma) [ inl e ↦ e | inr e ↦ absurd (omega arith) ]))
       ]
 
     -- ---- by all
@@ -342,7 +363,8 @@ module _ (vs : List ℕ) (unique : (i : ℕ) → occurrences i vs ≤ 1) (small 
       pub keep : Keep g
 
     vertex-kept : (f g : List ℕ) (b : ℕ) → List·Memᴰ b vs → Kept f g → Kept g (bypassVertex vs g b)
-    vertex-kept f g b mb u = let p = vertex-under b mb g (u .falls .long) (u .falls .loopless) (u .keep) in record { falls = p .falls; keep = p .keep }
+    vertex-kept f g b mb u = let p = vertex-under b mb g (u .falls .long) (u .falls .loopless) (u .keep) in
+        record { falls = p .falls; keep = p .keep }
 
     kept-trans : {f g h : List ℕ} → Kept f g → Kept g h → Kept f h
     kept-trans p q = record { falls = falls-trans (p .falls) (q .falls); keep = q .keep }
@@ -350,13 +372,16 @@ module _ (vs : List ℕ) (unique : (i : ℕ) → occurrences i vs ≤ 1) (small 
     module _ (f : List ℕ) (l : length f ≡ 4096) (o : Loopless vs f) (k : Keep f) where
       pub direct-kept : Kept f (direct vs f)
       unfolding direct
-      direct-kept = fold-all (bypassVertex vs) vs (Kept f) (λ g b mb u. kept-trans u (vertex-kept f g b mb u)) f (record { falls = falls-same f l o; keep = k })
+      direct-kept =
+          fold-all (bypassVertex vs) vs (Kept f) (λ g b mb u. kept-trans u (vertex-kept f g b mb u)) f
+          (record { falls = falls-same f l o; keep = k })
 
       -- NO VERTEX BOTH SENDS AND RECEIVES
       pub direct-one-way : (b : ℕ) → List·Memᴰ b vs → (received vs (amount (direct vs f)) b ≡ 0) ⊎ (sent vs (amount (direct vs f)) b ≡ 0)
       unfolding direct
       direct-one-way =
-          fold-each (bypassVertex vs) vs (Kept f) (λ g b mb u. kept-trans u (vertex-kept f g b mb u)) (λ b g. (received vs (amount g) b ≡ 0) ⊎ (sent vs (amount g) b ≡ 0))
+          fold-each (bypassVertex vs) vs (Kept f) (λ g b mb u. kept-trans u (vertex-kept f g b mb u))
+          (λ b g. (received vs (amount g) b ≡ 0) ⊎ (sent vs (amount g) b ≡ 0))
           (λ g b mb u. vertex-over b mb g (u .falls .long) (u .falls .loopless) (u .keep))
           (λ g b w mb mw u r. let p = vertex-kept f g b mb u .falls in elim r [
             | inl e ↦ inl (let x = p .receives w mw in omega arith)

@@ -1,4 +1,5 @@
--- The direct amounts of a certified state: they balance the same arcs, tight for the same potentials, and send no more units than there are arcs.
+-- The direct amounts of a certified state: they balance the same arcs, tight for the same potentials,
+-- and send no more units than there are arcs.
 use mathlib.Core.Path.{_≡_, sym, ap, _∙_, subst⁻¹}
 use mathlib.Core.Logic.{_⊎_, inl, inr, _≢_}
 use mathlib.Core.List.{List, [], _∷_, List·Memᴰ, List·Memᴰ·head, List·Memᴰ·tail}
@@ -10,7 +11,8 @@ use lib.ListN.{length}
 use Rattle.postman.specs.Balancing.{sumOver}
 use Rattle.postman.specs.Laws.Sum.{term-le}
 use Rattle.balance.specs.Optimality.{Tight, Balances, sent, received}
-use Rattle.residual_search.specs.Step.{State, amount, potential}
+use Rattle.postman.specs.Steps.{amount}
+use Rattle.residual_search.specs.Step.{State, potential}
 use Rattle.direct_amounts.specs.Direct.{passed, bypass, bypassFrom, bypassVertex, direct}
 use Rattle.balance.specs.Invariant.{Metric, limit, Sparse, Certified, Counted}
 use Rattle.residual_search.specs.Laws.Fold.{fold-all}
@@ -30,7 +32,8 @@ sum-two g n (List·Memᴰ·head e) (List·Memᴰ·tail m) = let a = ap g e in le
 sum-two g n (List·Memᴰ·tail m) (List·Memᴰ·head e) = let a = ap g e in let b = term-le g m in omega arith
 sum-two g n (List·Memᴰ·tail m) (List·Memᴰ·tail k) = let a = sum-two g n m k in omega arith
 
-pub certified-sparse : (d : ℕ → ℕ → ℕ) (vs : List ℕ) → Metric d vs → (s : State) → Certified d vs s → s .count ≤ limit → Sparse vs (s .amounts)
+pub certified-sparse : (d : ℕ → ℕ → ℕ) (vs : List ℕ) → Metric d vs → (s : State) → Certified d vs s → s .count ≤ limit
+    → Sparse vs (s .amounts)
 unfolding sent
 certified-sparse d vs metric s certified room = record {
   once = metric .once;
@@ -44,10 +47,17 @@ certified-sparse d vs metric s certified room = record {
 }
 
 -- passing by a vertex keeps that, and what it adds fits
-pub bypass-sparse : (vs f : List ℕ) (a b c : ℕ) → List·Memᴰ a vs → List·Memᴰ b vs → List·Memᴰ c vs → Sparse vs f → Sparse vs (bypass f a b c)
+pub bypass-sparse : (vs f : List ℕ) (a b c : ℕ) → List·Memᴰ a vs → List·Memᴰ b vs → List·Memᴰ c vs → Sparse vs f
+    → Sparse vs (bypass f a b c)
 bypass-sparse vs f a b c ma mb mc s =
     let p = bypass-passes vs (s .once) (s .small) f (s .long) (s .loopless) a b c ma mb mc .falls in
-    record { once = s .once; small = s .small; long = p .long; loopless = p .loopless; rows = λ i m. (let x = p .sends i m in let y = s .rows i m in omega arith) }
+    record {
+      once = s .once;
+      small = s .small;
+      long = p .long;
+      loopless = p .loopless;
+      rows = λ i m. (let x = p .sends i m in let y = s .rows i m in omega arith);
+    }
 
 pub from-sparse : (vs f : List ℕ) (b a : ℕ) → List·Memᴰ b vs → List·Memᴰ a vs → Sparse vs f → Sparse vs (bypassFrom vs b f a)
 unfolding bypassFrom
@@ -57,7 +67,8 @@ pub vertex-sparse : (vs f : List ℕ) (b : ℕ) → List·Memᴰ b vs → Sparse
 unfolding bypassVertex
 vertex-sparse vs f b mb s = fold-all (bypassFrom vs b) vs (Sparse vs) (λ g a ma q. from-sparse vs g b a mb ma q) f s
 
-pub bypass-room : (vs f : List ℕ) (a b c : ℕ) → List·Memᴰ a vs → List·Memᴰ b vs → List·Memᴰ c vs → Sparse vs f → amount f a c + passed f a b c ≤ 64000
+pub bypass-room : (vs f : List ℕ) (a b c : ℕ) → List·Memᴰ a vs → List·Memᴰ b vs → List·Memᴰ c vs → Sparse vs f
+    → amount f a c + passed f a b c ≤ 64000
 unfolding sent
 bypass-room vs f a b c ma mb mc s =
     let r = s .rows a ma in
@@ -78,19 +89,23 @@ module _ (d : ℕ → ℕ → ℕ) (vs : List ℕ) (metric : Metric d vs) (s : S
   abbrev TightOf : List ℕ → Type 0
   TightOf f = Tight d vs (amount f) u
 
-  tight-step : (f : List ℕ) (a b c : ℕ) → List·Memᴰ a vs → List·Memᴰ b vs → List·Memᴰ c vs → length f ≡ 4096 → ((i : ℕ) → List·Memᴰ i vs → amount f i i ≡ 0) → TightOf f → TightOf (bypass f a b c)
-  tight-step f a b c ma mb mc l o t i j mi mj h = elim (bypass-passes vs (metric .once) (metric .small) f l o a b c ma mb mc .from i j mi mj h) [
-    | inl k ↦ t i j mi mj k
-    | inr k ↦
-        let x = t a b ma mb (k .2) in
-        let y = t b c mb mc (k .3) in
-        let w = metric .triangle a b c ma mb mc in
-        let z = certified .feasible a c ma mc in
-        subst⁻¹ (λ i. u i ≡ d i j + u j) (k .0) (subst⁻¹ (λ j. u a ≡ d a j + u j) (k .1) (omega arith))
-  ]
+  tight-step : (f : List ℕ) (a b c : ℕ) → List·Memᴰ a vs → List·Memᴰ b vs → List·Memᴰ c vs → length f ≡ 4096
+      → ((i : ℕ) → List·Memᴰ i vs → amount f i i ≡ 0) → TightOf f → TightOf (bypass f a b c)
+  tight-step f a b c ma mb mc l o t i j mi mj h =
+      elim (bypass-passes vs (metric .once) (metric .small) f l o a b c ma mb mc .from i j mi mj h) [
+        | inl k ↦ t i j mi mj k
+        | inr k ↦
+            let x = t a b ma mb (k .2) in
+            let y = t b c mb mc (k .3) in
+            let w = metric .triangle a b c ma mb mc in
+            let z = certified .feasible a c ma mc in
+            subst⁻¹ (λ i. u i ≡ d i j + u j) (k .0) (subst⁻¹ (λ j. u a ≡ d a j + u j) (k .1) (omega arith))
+      ]
 
   direct-keeps : Kept vs (metric .once) (metric .small) TightOf tight-step (s .amounts) g
-  direct-keeps = direct-kept vs (metric .once) (metric .small) TightOf tight-step (s .amounts) (certified .numbers .long-amounts) (certified .loopless) (certified .tight)
+  direct-keeps =
+      direct-kept vs (metric .once) (metric .small) TightOf tight-step (s .amounts) (certified .numbers .long-amounts)
+      (certified .loopless) (certified .tight)
 
   -- TIGHT FOR THE SAME POTENTIALS
   pub direct-tight : Tight d vs (amount g) u
@@ -98,7 +113,8 @@ module _ (d : ℕ → ℕ → ℕ) (vs : List ℕ) (metric : Metric d vs) (s : S
 
   -- NO VERTEX BOTH SENDS AND RECEIVES
   pub one-way : (b : ℕ) → List·Memᴰ b vs → (received vs (amount g) b ≡ 0) ⊎ (sent vs (amount g) b ≡ 0)
-  one-way = direct-one-way vs (metric .once) (metric .small) TightOf tight-step (s .amounts) (certified .numbers .long-amounts) (certified .loopless) (certified .tight)
+  one-way = direct-one-way vs (metric .once) (metric .small) TightOf tight-step (s .amounts) (certified .numbers .long-amounts)
+      (certified .loopless) (certified .tight)
 
   module _ (hs ts : List ℕ) (counted : Counted vs s hs ts) where
     -- BALANCING THE SAME ARCS

@@ -2,12 +2,12 @@
 use mathlib.Core.Path.{_≡_, refl, ap, _∙_}
 use mathlib.Core.Bool.{Bool, true, false, cond}
 use mathlib.Core.List.{List}
-use Prim.Native.Nat.{ℕ, _+_, _*_, _-_, min}
+use Prim.Native.Nat.{ℕ, _+_, _*_, _-_}
 use native.Mathlib.Omega.{arith}
 use lib.ListN.{set}
 use lib.Seq.{set-getD}
 use lib.Dec.{eqb}
-use Rattle.residual_search.specs.Step.{amount}
+use Rattle.postman.specs.Steps.{amount}
 use Rattle.direct_amounts.specs.Direct.{passed, gained, bypass, bypassFrom}
 use Rattle.residual_search.specs.Laws.Fold.{fold-idle}
 

@@ -1,5 +1,5 @@
--- For a plan that is not cut off: the state that counts its required arcs and the links of t holds a least balancing and its cost, and the multipliers drawn from
--- the state of no link are the greatest.
+-- For a plan that is not cut off: the state that counts its required arcs and the links of t holds a least balancing and its cost, and the
+-- multipliers drawn from the state of no link are the greatest.
 use mathlib.Core.Path.{_≡_, refl, sym, ap, ap₂, _∙_, subst₂, subst⁻¹, fun-ext}
 use mathlib.Core.Logic.{_⊎_, inl, inr}
 use mathlib.Core.Bool.{Bool, not}
@@ -26,12 +26,12 @@ use Rattle.postman.specs.Laws.Occurrences.{mem?}
 use Rattle.postman.specs.Laws.Distance.{InPlan, bounded, triangle, distance-self, distance-bound}
 use Rattle.postman.specs.Laws.Required.{required-lt, required-once, required-ends}
 use Rattle.postman.specs.Laws.Amounts.{Within, difference}
-use Rattle.postman.specs.Steps.{Joins}
+use Rattle.postman.specs.Steps.{Joins, amount}
 use Rattle.postman.specs.Laws.Balancing.{within-heads, within-tails, same-length}
 use Rattle.postman.specs.Laws.Existence.{linked}
 use Rattle.postman.specs.Laws.SignedSum.{sum-sub, sum-occurrences}
-use Rattle.balance.specs.Optimality.{Feasible, Tight, sent, received}
-use Rattle.residual_search.specs.Step.{State, amount, potential, empty, add, addAll}
+use Rattle.balance.specs.Optimality.{ArePotentials, Tight, sent, received}
+use Rattle.residual_search.specs.Step.{State, potential, empty, add, addAll}
 use Rattle.balance.specs.Multipliers.{multipliers}
 use Rattle.balance.specs.Balance.{requiredEnds, balance}
 use Rattle.direct_amounts.specs.Direct.{direct}
@@ -43,7 +43,8 @@ use Rattle.balance.specs.Laws.Multipliers.{x-root, w, w-feasible, w-tight, belo
 
 -- ---- sums of signed numbers, and of the naturals that a constant makes of them
 
-signed-shift : (xs : List ℕ) (v : ℕ → ℤ) (q : ℕ → ℕ) (c : ℕ) → ((i : ℕ) → List·Memᴰ i xs → v i +ℤ pos c ≡ pos (q i)) → sumOfℤ (map v xs) +ℤ pos (length xs * c) ≡ pos (sumOver xs q)
+signed-shift : (xs : List ℕ) (v : ℕ → ℤ) (q : ℕ → ℕ) (c : ℕ) → ((i : ℕ) → List·Memᴰ i xs → v i +ℤ pos c ≡ pos (q i))
+    → sumOfℤ (map v xs) +ℤ pos (length xs * c) ≡ pos (sumOver xs q)
 unfolding sumOfℤ sumOver
 signed-shift [] v q c h = simp zl (omega (arith, zero-mul c))
 signed-shift (x ∷ xs) v q c h =
@@ -53,12 +54,15 @@ signed-shift (x ∷ xs) v q c h =
     simp zl (omega (arith, z, simp zl at a, simp zl at b))
 
 -- the sum of u(i) × D(i), with the links counted, is the sum of u over the heads less that over the tails
-price-ends : (p : Plan) → InPlan p → (t : List Link) → Joins p t → (u : Multipliers) → sumOfℤ (map (λ i. u i *ℤ imbalance p t i) (required p)) ≡ sumOfℤ (map u (heads p t)) -ℤ sumOfℤ (map u (tails p t))
+price-ends : (p : Plan) → InPlan p → (t : List Link) → Joins p t → (u : Multipliers)
+    → sumOfℤ (map (λ i. u i *ℤ imbalance p t i) (required p)) ≡ sumOfℤ (map u (heads p t)) -ℤ sumOfℤ (map u (tails p t))
 unfolding imbalance
 price-ends p ok t j u =
-    ap (λ (f : ℕ → ℤ). sumOfℤ (map f (required p))) (fun-ext (λ i. times-sub (u i) (pos (occurrences i (heads p t))) (pos (occurrences i (tails p t)))))
+    ap (λ (f : ℕ → ℤ). sumOfℤ (map f (required p)))
+    (fun-ext (λ i. times-sub (u i) (pos (occurrences i (heads p t))) (pos (occurrences i (tails p t)))))
     ∙ sum-sub (λ i. u i *ℤ pos (occurrences i (heads p t))) (λ i. u i *ℤ pos (occurrences i (tails p t))) (required p)
-    ∙ ap₂ _-ℤ_ (sum-occurrences u (required p) (heads p t) (within-heads p ok t j)) (sum-occurrences u (required p) (tails p t) (within-tails p ok t j))
+    ∙ ap₂ _-ℤ_ (sum-occurrences u (required p) (heads p t) (within-heads p ok t j))
+    (sum-occurrences u (required p) (tails p t) (within-tails p ok t j))
   where
     times-sub : (a b c : ℤ) → a *ℤ (b -ℤ c) ≡ a *ℤ b -ℤ a *ℤ c
     times-sub a b c = simp zm
@@ -112,10 +116,12 @@ module _ (p : Plan) (ok : WellFormed p) (connected : T (not (isCutOff p))) where
       small = plan-metric .small;
       bound = λ i j mi mj. (let e = agrees i j mi mj in let a = plan-metric .bound i j mi mj in omega arith);
       self = λ i m. agrees i i m m ∙ plan-metric .self i m;
-      triangle = λ i k j mi mk mj. (let a = plan-metric .triangle i k j mi mk mj in let e = agrees i j mi mj in let f = agrees i k mi mk in let g = agrees k j mk mj in omega arith);
+      triangle = λ i k j mi mk mj.
+          (let a = plan-metric .triangle i k j mi mk mj in let e = agrees i j mi mj in let f = agrees i k mi mk in
+          let g = agrees k j mk mj in omega arith);
     }
 
-    feasible-distance : (u : ℕ → ℕ) → Feasible d (required p) u → Feasible (distance p) (required p) u
+    feasible-distance : (u : ℕ → ℕ) → ArePotentials d (required p) u → ArePotentials (distance p) (required p) u
     feasible-distance u h i j mi mj = let a = h i j mi mj in let e = agrees i j mi mj in omega arith
 
     tight-distance : (f : ℕ → ℕ → ℕ) (u : ℕ → ℕ) → Tight d (required p) f u → Tight (distance p) (required p) f u
@@ -136,7 +142,9 @@ module _ (p : Plan) (ok : WellFormed p) (connected : T (not (isCutOff p))) where
       unfolding heads requiredEnds
       ends-heads = at (requiredArcs p)
         where
-          at : (arcs : List Arc) → map (λ (a : Link). a .head) (map (λ (a : Arc). record { tail = a .tail; head = a .head }) arcs ++ t) ≡ map (λ a. a .head) arcs ++ map (λ l. l .head) t
+          at : (arcs : List Arc)
+              → map (λ (a : Link). a .head) (map (λ (a : Arc). record { tail = a .tail; head = a .head }) arcs ++ t)
+              ≡ map (λ a. a .head) arcs ++ map (λ l. l .head) t
           at [] = refl
           at (a ∷ arcs) = ap (λ (l : List ℕ). a .head ∷ l) (at arcs)
 
@@ -144,7 +152,9 @@ module _ (p : Plan) (ok : WellFormed p) (connected : T (not (isCutOff p))) where
       unfolding tails requiredEnds
       ends-tails = at (requiredArcs p)
         where
-          at : (arcs : List Arc) → map (λ (a : Link). a .tail) (map (λ (a : Arc). record { tail = a .tail; head = a .head }) arcs ++ t) ≡ map (λ a. a .tail) arcs ++ map (λ l. l .tail) t
+          at : (arcs : List Arc)
+              → map (λ (a : Link). a .tail) (map (λ (a : Arc). record { tail = a .tail; head = a .head }) arcs ++ t)
+              ≡ map (λ a. a .tail) arcs ++ map (λ l. l .tail) t
           at [] = refl
           at (a ∷ arcs) = ap (λ (l : List ℕ). a .tail ∷ l) (at arcs)
 
@@ -162,7 +172,8 @@ module _ (p : Plan) (ok : WellFormed p) (connected : T (not (isCutOff p))) where
       both =
           let nothing : Within (required p) [] = record { once = required-once p; among = λ i m. absurd (List·Memᴰ·not-nil m) } in
           let l = few-arcs in
-          let r = all-counted d (required p) table-metric (requiredEnds p ++ t) empty [] [] inside nothing nothing (empty-certified d (required p)) (empty-counted (required p)) (omega arith) in
+          let r = all-counted d (required p) table-metric (requiredEnds p ++ t) empty [] [] inside nothing nothing
+          (empty-certified d (required p)) (empty-counted (required p)) (omega arith) in
           (r .0, subst₂ (Counted (required p) (addAll d (required p) empty (requiredEnds p ++ t))) ends-heads ends-tails (r .1))
 
       pub balance-certified : Certified d (required p) (balance d p t)
@@ -181,23 +192,28 @@ module _ (p : Plan) (ok : WellFormed p) (connected : T (not (isCutOff p))) where
       pub amounts-least : balancingCost (required p) (distance p) f ≡ leastBalancing p t
       unfolding leastBalancing
       amounts-least =
-          cost-least (distance p) (triangle p ends) (distance-self p ends) (required p) f u (heads p t) (tails p t) (same-length p ends t joins) (within-heads p ends t joins) (within-tails p ends t joins)
+          cost-least (distance p) (triangle p ends) (distance-self p ends) (required p) f u (heads p t) (tails p t)
+          (same-length p ends t joins) (within-heads p ends t joins) (within-tails p ends t joins)
           (balance-counted .balanced) (feasible-distance u (balance-certified .feasible)) (tight-distance f u (balance-certified .tight))
 
       -- feasible and tight potentials price the arcs at the least cost
-      price-at : (q : ℕ → ℕ) → Feasible (distance p) (required p) q → Tight (distance p) (required p) f q → leastBalancing p t + sumOver (tails p t) q ≡ sumOver (heads p t) q
+      price-at : (q : ℕ → ℕ) → ArePotentials (distance p) (required p) q → Tight (distance p) (required p) f q
+          → leastBalancing p t + sumOver (tails p t) q ≡ sumOver (heads p t) q
       unfolding leastBalancing
       price-at q feasible tight =
-          price-least (distance p) (triangle p ends) (distance-self p ends) (required p) f q (heads p t) (tails p t) (same-length p ends t joins) (within-heads p ends t joins) (within-tails p ends t joins)
+          price-least (distance p) (triangle p ends) (distance-self p ends) (required p) f q (heads p t) (tails p t)
+          (same-length p ends t joins) (within-heads p ends t joins) (within-tails p ends t joins)
           (balance-counted .balanced) feasible tight
 
       -- WHICH ANY STATE HOLDS that is certified and counts these arcs
-      pub certified-least : (s : State) → Certified d (required p) s → Counted (required p) s (heads p t) (tails p t) → s .cost ≡ leastBalancing p t
+      pub certified-least : (s : State) → Certified d (required p) s → Counted (required p) s (heads p t) (tails p t)
+          → s .cost ≡ leastBalancing p t
       unfolding leastBalancing
       certified-least s c n =
           let g = amount (s .amounts) in
           let q = potential (s .potentials) in
-          let a = price-least (distance p) (triangle p ends) (distance-self p ends) (required p) g q (heads p t) (tails p t) (same-length p ends t joins) (within-heads p ends t joins) (within-tails p ends t joins)
+          let a = price-least (distance p) (triangle p ends) (distance-self p ends) (required p) g q (heads p t) (tails p t)
+          (same-length p ends t joins) (within-heads p ends t joins) (within-tails p ends t joins)
           (n .balanced) (feasible-distance q (c .feasible)) (tight-distance g q (c .tight)) in
           let b = n .priced in
           omega arith
@@ -221,14 +237,18 @@ module _ (p : Plan) (ok : WellFormed p) (connected : T (not (isCutOff p))) where
       -- THEY BALANCE
       pub direct-balances : IsBalancing (required p) (imbalance p t) g
       unfolding imbalance difference
-      direct-balances = is-balancing (required p) g (heads p t) (tails p t) (direct-balanced d (required p) table-metric (balance d p t) balance-certified (heads p t) (tails p t) balance-counted)
+      direct-balances =
+          is-balancing (required p) g (heads p t) (tails p t)
+          (direct-balanced d (required p) table-metric (balance d p t) balance-certified (heads p t) (tails p t) balance-counted)
 
       -- AT THE LEAST COST
       pub direct-least : balancingCost (required p) (distance p) g ≡ leastBalancing p t
       unfolding leastBalancing
       direct-least =
-          cost-least (distance p) (triangle p ends) (distance-self p ends) (required p) g u (heads p t) (tails p t) (same-length p ends t joins) (within-heads p ends t joins) (within-tails p ends t joins)
-          (direct-balanced d (required p) table-metric (balance d p t) balance-certified (heads p t) (tails p t) balance-counted) (feasible-distance u (balance-certified .feasible))
+          cost-least (distance p) (triangle p ends) (distance-self p ends) (required p) g u (heads p t) (tails p t)
+          (same-length p ends t joins) (within-heads p ends t joins) (within-tails p ends t joins)
+          (direct-balanced d (required p) table-metric (balance d p t) balance-certified (heads p t) (tails p t) balance-counted)
+          (feasible-distance u (balance-certified .feasible))
           (tight-distance g u (direct-tight d (required p) table-metric (balance d p t) balance-certified))
 
       -- FROM SURPLUS TO DEFICIT
@@ -252,8 +272,9 @@ module _ (p : Plan) (ok : WellFormed p) (connected : T (not (isCutOff p))) where
         rw e (simp zl (omega (arith, z, simp zl at a, simp zl at b)))
 
     -- HEIGHTS THAT ARE FEASIBLE, AND TIGHT FOR THE AMOUNTS, ARE MULTIPLIERS, once a constant is taken off
-    pub heights-multipliers : (q : ℕ → ℕ) → Feasible d (required p) q → Tight d (required p) (amount (balance d p [] .amounts)) q
-        → (v : Multipliers) (c : ℕ) → ((i : ℕ) → List·Memᴰ i (required p) → v i +ℤ pos c ≡ pos (q i)) → ((i : ℕ) → (List·Memᴰ i (required p) → ⊥) → v i ≡ pos 0) → AreMultipliers p v
+    pub heights-multipliers : (q : ℕ → ℕ) → ArePotentials d (required p) q → Tight d (required p) (amount (balance d p [] .amounts)) q
+        → (v : Multipliers) (c : ℕ) → ((i : ℕ) → List·Memᴰ i (required p) → v i +ℤ pos c ≡ pos (q i))
+        → ((i : ℕ) → (List·Memᴰ i (required p) → ⊥) → v i ≡ pos 0) → AreMultipliers p v
     unfolding reducedCost
     heights-multipliers q feasible tight v c here other = record {
       elsewhere = other;
@@ -265,16 +286,19 @@ module _ (p : Plan) (ok : WellFormed p) (connected : T (not (isCutOff p))) where
           simp zl (omega (arith, simp zl at a, simp zl at b)));
       tight =
           let a = price-from v q c here in
-          let b = price-at [] none (omega arith) q (feasible-distance q feasible) (tight-distance (amount (balance d p [] .amounts)) q tight) in
+          let b = price-at [] none (omega arith) q (feasible-distance q feasible)
+          (tight-distance (amount (balance d p [] .amounts)) q tight) in
           simp zl (omega (arith, simp zl at a));
     }
 
-    -- AND MULTIPLIERS ARE FEASIBLE, AND TIGHT FOR THE AMOUNTS: nothing that is sent has a reduced cost, since they price the imbalance at what the amounts cost
-    module _ (v : Multipliers) (are : AreMultipliers p v) (q : ℕ → ℕ) (c : ℕ) (here : (i : ℕ) → List·Memᴰ i (required p) → v i +ℤ pos c ≡ pos (q i)) where
+    -- AND MULTIPLIERS ARE FEASIBLE, AND TIGHT FOR THE AMOUNTS: nothing that is sent has a reduced cost, since they
+    -- price the imbalance at what the amounts cost
+    module _ (v : Multipliers) (are : AreMultipliers p v) (q : ℕ → ℕ) (c : ℕ)
+        (here : (i : ℕ) → List·Memᴰ i (required p) → v i +ℤ pos c ≡ pos (q i)) where
       abbrev f₀ : ℕ → ℕ → ℕ
       f₀ = amount (balance d p [] .amounts)
 
-      q-feasible : Feasible (distance p) (required p) q
+      q-feasible : ArePotentials (distance p) (required p) q
       unfolding reducedCost
       q-feasible i j mi mj =
           let a = are .feasible i j mi mj in
@@ -285,13 +309,15 @@ module _ (p : Plan) (ok : WellFormed p) (connected : T (not (isCutOff p))) where
       q-tight : Tight (distance p) (required p) f₀ q
       q-tight =
           let balanced = balance-counted [] none (omega arith) .balanced in
-          let a = cost-price (distance p) f₀ (required p) q (heads p []) (tails p []) (within-heads p ends [] none) (within-tails p ends [] none) balanced q-feasible in
+          let a = cost-price (distance p) f₀ (required p) q (heads p []) (tails p []) (within-heads p ends [] none)
+          (within-tails p ends [] none) balanced q-feasible in
           let b = amounts-least [] none (omega arith) in
           let g = price-from v q c here in
           let e = are .tight in
-          slack-tight (distance p) f₀ (required p) q (heads p []) (tails p []) (within-heads p ends [] none) (within-tails p ends [] none) balanced q-feasible (omega (arith, z, simp zl at g))
+          slack-tight (distance p) f₀ (required p) q (heads p []) (tails p []) (within-heads p ends [] none)
+          (within-tails p ends [] none) balanced q-feasible (omega (arith, z, simp zl at g))
 
-      pub multipliers-heights : Feasible d (required p) q × Tight d (required p) f₀ q
+      pub multipliers-heights : ArePotentials d (required p) q × Tight d (required p) f₀ q
       multipliers-heights = (
         (λ i j mi mj. (let h = q-feasible i j mi mj in let e = agrees i j mi mj in omega arith)),
         (λ i j mi mj o. (let h = q-tight i j mi mj o in let e = agrees i j mi mj in omega arith)),
@@ -321,7 +347,8 @@ module _ (p : Plan) (ok : WellFormed p) (connected : T (not (isCutOff p))) where
 
       are-multipliers : AreMultipliers p U
       are-multipliers =
-          heights-multipliers W (w-feasible d (required p) table-metric s certified room root mr) (w-tight d (required p) table-metric s certified room root mr) U c U-here
+          heights-multipliers W (w-feasible d (required p) table-metric s certified room root mr)
+          (w-tight d (required p) table-metric s certified room root mr) U c U-here
           (λ i n. M-other d (required p) table-metric s certified room root mr i n)
 
       -- other multipliers, as naturals: none is less than minus the distance from the root
@@ -337,7 +364,7 @@ module _ (p : Plan) (ok : WellFormed p) (connected : T (not (isCutOff p))) where
             let e = zero-there in
             sym (pos-abs (simp zl (omega (arith, z, simp zl at a))))
 
-        q-both : Feasible d (required p) q × Tight d (required p) (amount (s .amounts)) q
+        q-both : ArePotentials d (required p) q × Tight d (required p) (amount (s .amounts)) q
         q-both = multipliers-heights v others q 4128705 q-here
 
         no-greater : (i : ℕ) → v i ≤ℤ U i
@@ -348,13 +375,15 @@ module _ (p : Plan) (ok : WellFormed p) (connected : T (not (isCutOff p))) where
               let c = q-here root mr in
               let e = U-here i m in
               simp zl (omega (arith, z, simp zl at b, simp zl at c, simp zl at e, zero-there))
-          | inr n ↦ let a = others .elsewhere i n in let b = M-other d (required p) table-metric s certified room root mr i n in omega (arith, z)
+          | inr n ↦ let a = others .elsewhere i n in let b = M-other d (required p) table-metric s certified room root mr i n in
+              omega (arith, z)
         ]
 
       -- THE MULTIPLIERS ARE THE GREATEST
       pub multipliers-greatest : AreGreatest p root (λ i. getD (multipliers d (required p) (balance d p []) root) i (pos 0))
       multipliers-greatest = record {
         multipliers = are-multipliers;
-        at-root = (let a = U-here root mr in let b = x-root d (required p) table-metric s certified room root mr in omega (arith, z, simp zl at a));
+        at-root = (let a = U-here root mr in let b = x-root d (required p) table-metric s certified room root mr in
+            omega (arith, z, simp zl at a));
         greatest = no-greater;
       }

@@ -31,7 +31,8 @@ module _ (p : Plan) (pairs old : List ℕ) where
   unfolding answer unless
   refused-page o r e = subst⁻¹ (λ o. IsPage p o pairs old old (Refused r)) e record { answer-is = refl; distances-are = refl }
 
-  pub given-page : (o : Option ℕ) (new : List ℕ) (k : ℕ) → o ≡ none → k ≡ searchCount pairs → new ≡ map (entry p) pairs ++ drop (length pairs) old
+  pub given-page : (o : Option ℕ) (new : List ℕ) (k : ℕ) → o ≡ none → k ≡ searchCount pairs
+      → new ≡ map (entry p) pairs ++ drop (length pairs) old
       → IsPage p o pairs old new (Searches k)
   unfolding answer unless
   given-page o new k e f g = subst⁻¹ (λ o. IsPage p o pairs old new (Searches k)) e record { answer-is = ap given f; distances-are = g }
@@ -56,4 +57,6 @@ module _ (bytes pairs old new : List ℕ) (r : Searched) where
 -- the file's refusal
 pub refused-call : (bytes pairs old : List ℕ) (r : Refusal) → firstRefusal (fileConditions bytes) ≡ some (refusalNumber r)
     → (searchedAnswer (Refused r) ≡ distanceAnswer bytes pairs (length old)) × (old ≡ distancesAfter bytes pairs old)
-refused-call bytes pairs old r e = page-call bytes pairs old old (Refused r) (refused-page (planOf bytes) pairs old _ r (file-refused bytes pairs (length old) (refusalNumber r) e))
+refused-call bytes pairs old r e =
+    page-call bytes pairs old old (Refused r)
+    (refused-page (planOf bytes) pairs old _ r (file-refused bytes pairs (length old) (refusalNumber r) e))

@@ -1,6 +1,6 @@
--- Filling a page. A row is put pair by pair. A search puts the entries of its source's pairs, so that after the pairs before the kth the entries are those of all pairs
--- whose first vertex occurs among these; a source that occurs there already needs no search, and one that does not adds itself to the distinct ones. After all pairs every
--- first vertex occurs.
+-- Filling a page. A row is put pair by pair. A search puts the entries of its source's pairs, so that after the pairs before the kth the
+-- entries are those of all pairs whose first vertex occurs among these; a source that occurs there already needs no search, and one that
+-- does not adds itself to the distinct ones. After all pairs every first vertex occurs.
 use mathlib.Core.Path.{_≡_, refl, sym, ap, _∙_, subst⁻¹}
 use mathlib.Core.Logic.{_≢_}
 use mathlib.Core.Bool.{Bool, true, false, cond, _||_, or-true, or-false}
@@ -32,7 +32,8 @@ entry-read source from to old row e = let t = eq-eqb from source e in rw t refl
 pub entry-kept : (source from to old : ℕ) (row : List ℕ) → from ≢ source → old ≡ entryBy source row from to old
 entry-kept source from to old row n = let t = ne-eqb from source n in rw t refl
 
-pub entry-as : (source old : ℕ) (row : List ℕ) {from from′ to to′ : ℕ} → from ≡ from′ → to ≡ to′ → entryBy source row from to old ≡ entryBy source row from′ to′ old
+pub entry-as : (source old : ℕ) (row : List ℕ) {from from′ to to′ : ℕ} → from ≡ from′ → to ≡ to′
+    → entryBy source row from to old ≡ entryBy source row from′ to′ old
 entry-as source old row e f = rw (e, f) refl
 
 -- ---- pair by pair
@@ -49,7 +50,8 @@ module _ (new : ℕ → ℕ → ℕ) (pairs old : List ℕ) where
   pub put-start : length pairs ≤ length old → PutTo old 0
   put-start l = record { turns = omega arith; room = l; same = refl; put = λ j h. absurd (omega arith); kept = λ j h. refl }
 
-  pub put-more : (now : List ℕ) (k v : ℕ) → PutTo now k → k < length pairs → v ≡ new (getD pairs k 0) (getD now k 0) → PutTo (set now k v) (k + 1)
+  pub put-more : (now : List ℕ) (k v : ℕ) → PutTo now k → k < length pairs → v ≡ new (getD pairs k 0) (getD now k 0)
+      → PutTo (set now k v) (k + 1)
   put-more now k v h l e =
       let r = h .room in
       let s = h .same in
@@ -66,14 +68,17 @@ module _ (new : ℕ → ℕ → ℕ) (pairs old : List ℕ) where
       }
 
   pub put-end : (now : List ℕ) (k : ℕ) → PutTo now k → length pairs ≤ k → IsPut new pairs old now
-  put-end now k h l = let t = h .turns in record { same = h .same; put = λ j g. h .put j (omega arith); kept = λ j g. h .kept j (omega arith) }
+  put-end now k h l = let t = h .turns in
+      record { same = h .same; put = λ j g. h .put j (omega arith); kept = λ j g. h .kept j (omega arith) }
 
 -- ---- search by search
 
 pub pairs-within : (n m : ℕ) (pairs : List ℕ) → n ≤ m → ArePairs n pairs → ArePairs m pairs
-pairs-within n m pairs l h = record { few = h .few; inside = λ k i. let a = h .inside k i .0 in let b = h .inside k i .1 in (omega arith, omega arith) }
+pairs-within n m pairs l h =
+    record { few = h .few; inside = λ k i. let a = h .inside k i .0 in let b = h .inside k i .1 in (omega arith, omega arith) }
 
-pub row-put : (p : Plan) (source : ℕ) (row pairs old now : List ℕ) → p .n ≤ 64 → ArePairs (p .n) pairs → IsRow p source row → IsRowPut source row pairs old now
+pub row-put : (p : Plan) (source : ℕ) (row pairs old now : List ℕ) → p .n ≤ 64 → ArePairs (p .n) pairs → IsRow p source row
+    → IsRowPut source row pairs old now
     → IsSearchPut p source pairs old now
 unfolding entry
 row-put p source row pairs old now w a r h = record {
@@ -112,7 +117,8 @@ occurs-again xs s e v = occurs-more v xs s ∙ at (eqb v s) refl
 
 -- ---- the page
 
-pub source-small : (n : ℕ) (pairs : List ℕ) (k source : ℕ) → n ≤ 64 → ArePairs n pairs → k < length pairs → source ≡ first (getD pairs k 0) → source < 64
+pub source-small : (n : ℕ) (pairs : List ℕ) (k source : ℕ) → n ≤ 64 → ArePairs n pairs → k < length pairs → source ≡ first (getD pairs k 0)
+    → source < 64
 source-small n pairs k source w a l e = let h = a .inside k l .0 in omega arith
 
 module _ (p : Plan) (pairs old : List ℕ) where
@@ -142,7 +148,8 @@ module _ (p : Plan) (pairs old : List ℕ) where
   }
 
   -- No search where the source occurs already.
-  pub filled-again : (now : List ℕ) (searched : List Bool) (searches k source : ℕ) → source ≡ first (getD pairs k 0) → k < length pairs → source < 64
+  pub filled-again : (now : List ℕ) (searched : List Bool) (searches k source : ℕ) → source ≡ first (getD pairs k 0) → k < length pairs
+      → source < 64
       → getD searched source false ≡ true → IsFilled now searched searches k → IsFilled now searched searches (k + 1)
   filled-again now searched searches k source e l s t h =
       let o : occurs source (seen pairs k) ≡ true = sym (h .flag source s) ∙ t in
@@ -164,7 +171,8 @@ module _ (p : Plan) (pairs old : List ℕ) where
       }
 
   -- A search where it does not.
-  pub filled-more : (now now′ : List ℕ) (searched : List Bool) (searches k source : ℕ) → source ≡ first (getD pairs k 0) → k < length pairs → source < 64
+  pub filled-more : (now now′ : List ℕ) (searched : List Bool) (searches k source : ℕ) → source ≡ first (getD pairs k 0) → k < length pairs
+      → source < 64
       → getD searched source false ≡ false → IsFilled now searched searches k → IsSearchPut p source pairs now now′
       → IsFilled now′ (set searched source true) (searches + 1) (k + 1)
   filled-more now now′ searched searches k source e l s t h r =
@@ -198,11 +206,15 @@ module _ (p : Plan) (pairs old : List ℕ) where
 
       flag-set : (v : ℕ) → v < 64 → getD (set searched source true) v false ≡ (occurs v (seen pairs k) || eqb v source)
       flag-set v g = elim (ℕ-discrete v source) [
-        | yes i ↦ rw (eq-eqb v source i) (rw (i, getD-set-same searched source true false (let f = h .flags in omega arith)) (sym (or-true (occurs source (seen pairs k)))))
-        | no n ↦ rw (ne-eqb v source n) (getD-set-other searched source v true false n ∙ h .flag v g ∙ sym (or-false (occurs v (seen pairs k))))
+        | yes i ↦ rw (eq-eqb v source i)
+            (rw (i, getD-set-same searched source true false (let f = h .flags in omega arith))
+            (sym (or-true (occurs source (seen pairs k)))))
+        | no n ↦ rw (ne-eqb v source n)
+            (getD-set-other searched source v true false n ∙ h .flag v g ∙ sym (or-false (occurs v (seen pairs k))))
       ]
 
-  pub filled-as : {now now′ : List ℕ} {searched searched′ : List Bool} {searches searches′ k : ℕ} → now′ ≡ now → searched′ ≡ searched → searches′ ≡ searches
+  pub filled-as : {now now′ : List ℕ} {searched searched′ : List Bool} {searches searches′ k : ℕ} → now′ ≡ now → searched′ ≡ searched
+      → searches′ ≡ searches
       → IsFilled now searched searches k → IsFilled now′ searched′ searches′ k
   filled-as {now = now} {searched = old} {searched′ = flags} {searches′ = m} {k = k} e f g h =
       subst⁻¹ (λ x. IsFilled x flags m k) e (subst⁻¹ (λ x. IsFilled now x m k) f (subst⁻¹ (λ x. IsFilled now old x k) g h))
@@ -227,7 +239,8 @@ module _ (p : Plan) (pairs old : List ℕ) where
         before : (j : ℕ) → j < length pairs → getD now j 0 ≡ getD (map (entry p) pairs ++ drop (length pairs) old) j 0
         before j g =
             let m = length-map pairs (entry p) in
-            let o : occurs (first (getD pairs j 0)) (seen pairs k) ≡ true = rw (seen-all pairs k l) (is-true (mem-occurs (mem-map first (getD-mem pairs 0 j g)))) in
+            let o : occurs (first (getD pairs j 0)) (seen pairs k) ≡ true =
+            rw (seen-all pairs k l) (is-true (mem-occurs (mem-map first (getD-mem pairs 0 j g)))) in
             h .filled .put j g ∙ ap (λ b. cond b (entry p (getD pairs j 0)) (getD old j 0)) o
             ∙ sym (List·getD-append (map (entry p) pairs) (drop (length pairs) old) 0 j (omega arith) ∙ getD-map-in (entry p) pairs j 0 g)
 

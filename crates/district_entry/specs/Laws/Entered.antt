@@ -104,11 +104,13 @@ module _ (bytes : List ℕ) (budget : ℕ) (e : callPart bytes budget ≡ none) 
 
 -- ---- a refused entry
 
-pub entry-stays : (m : Machine) (bytes : List ℕ) (budget k : ℕ) → entryRefusal (lineOf m) bytes budget ≡ some k → afterEntry m bytes budget ≡ m
+pub entry-stays : (m : Machine) (bytes : List ℕ) (budget k : ℕ) → entryRefusal (lineOf m) bytes budget ≡ some k
+    → afterEntry m bytes budget ≡ m
 unfolding movedUnless
 entry-stays m bytes budget k f = rw f refl
 
-pub refused-entered : (m : Machine) (bytes : List ℕ) (budget : ℕ) (r : Refusal) → entryRefusal (lineOf m) bytes budget ≡ some (refusalNumber r) → IsEntered m bytes budget (record { answer = Refused r; machine = m })
+pub refused-entered : (m : Machine) (bytes : List ℕ) (budget : ℕ) (r : Refusal)
+    → entryRefusal (lineOf m) bytes budget ≡ some (refusalNumber r) → IsEntered m bytes budget (record { answer = Refused r; machine = m })
 refused-entered m bytes budget r f = record {
   refusal = sym f;
   place = λ q a. (let z : _≡_ {A = ℕ} 0 1 = cc in absurd (omega arith));
@@ -126,8 +128,11 @@ pub entrant-is : (q : ℕ) (bytes : List ℕ) (budget : ℕ) → districtOf (ent
 entrant-is q bytes budget = ap (λ (b : List ℕ). district q b budget 0) (take-append-seam bytes (replicate (1475 - length bytes) 0))
 
 -- THE DISTRICT IS AT THE BACK
-pub admitted : (m : Machine) (bytes : List ℕ) (budget place : ℕ) → length (m .line) ≡ 8 → m .waiting < 8 → place ≡ lowestFree (lineOf m) → callPart bytes budget ≡ none → (line : List DistrictRecord) (d : DistrictRecord)
-    → line ≡ padded 8 emptyDistrict (waitingIn m) → d ≡ entrant place bytes budget → IsEntered m bytes budget (record { answer = At place; machine = record { line = set line (m .waiting) d; waiting = m .waiting + 1 } })
+pub admitted : (m : Machine) (bytes : List ℕ) (budget place : ℕ) → length (m .line) ≡ 8 → m .waiting < 8 → place ≡ lowestFree (lineOf m)
+    → callPart bytes budget ≡ none → (line : List DistrictRecord) (d : DistrictRecord)
+    → line ≡ padded 8 emptyDistrict (waitingIn m) → d ≡ entrant place bytes budget
+    → IsEntered m bytes budget
+    (record { answer = At place; machine = record { line = set line (m .waiting) d; waiting = m .waiting + 1 } })
 admitted m bytes budget place long few p e line d el ed =
     let good = entry-good bytes budget (lineOf m) e (room (m .line) (m .waiting) long few) in
     let x = entrant (lowestFree (lineOf m)) bytes budget in
@@ -135,12 +140,14 @@ admitted m bytes budget place long few p e line d el ed =
     let a = length-append (waitingIn m) (x ∷ []) in
     let same : d ≡ x = ed ∙ ap (λ q. entrant q bytes budget) p in
     let l : set line (m .waiting) d ≡ padded 8 emptyDistrict (waitingIn m ++ x ∷ []) =
-    ap (λ (y : List DistrictRecord). set y (m .waiting) d) el ∙ ap (λ k. set (padded 8 emptyDistrict (waitingIn m)) k d) (sym n) ∙ padded-set 8 emptyDistrict (waitingIn m) d (omega arith)
+    ap (λ (y : List DistrictRecord). set y (m .waiting) d) el ∙ ap (λ k. set (padded 8 emptyDistrict (waitingIn m)) k d) (sym n)
+    ∙ padded-set 8 emptyDistrict (waitingIn m) d (omega arith)
     ∙ ap (λ (y : DistrictRecord). padded 8 emptyDistrict (waitingIn m ++ y ∷ [])) same in
     record {
       refusal = sym good;
       place = λ q a. (let s : place ≡ q = cc in sym s ∙ p);
-      machine = machine-is (set line (m .waiting) d) (m .waiting + 1) (waitingIn m ++ x ∷ []) l (omega arith) ∙ sym (entry-moves m bytes budget good);
+      machine = machine-is (set line (m .waiting) d) (m .waiting + 1) (waitingIn m ++ x ∷ []) l (omega arith)
+          ∙ sym (entry-moves m bytes budget good);
     }
 
 -- ---- the line

@@ -1,4 +1,5 @@
--- An accepted entry has passed the plan call's conditions but 8, so that the plan call on its plan and budget, with a sheet that is long enough, is not refused.
+-- An accepted entry has passed the plan call's conditions but 8, so that the plan call on its plan and budget, with
+-- a sheet that is long enough, is not refused.
 use mathlib.Core.Path.{_≡_, sym, _∙_}
 use mathlib.Core.Bool.{Bool, true, false, not, cond}
 use mathlib.Core.List.{List}
@@ -28,4 +29,5 @@ module _ (l : Line) (bytes : List ℕ) (budget : ℕ) (e : entryRefusal l bytes 
 
   pub call-good : (places : ℕ) → sheetPlaces ≤ places → callRefusal bytes budget places ≡ none
   call-good places s =
-      file-good bytes budget places (file-accepted bytes (parts l bytes budget e .0)) (parts l bytes budget e .0) ∙ sheet-long (planOf bytes) budget places s ∙ budget-good
+      file-good bytes budget places (file-accepted bytes (parts l bytes budget e .0)) (parts l bytes budget e .0)
+      ∙ sheet-long (planOf bytes) budget places s ∙ budget-good

@@ -1,4 +1,5 @@
--- One step. A line keeps its order: an entry and a district that goes on come to the back, so that those ahead of a district only leave; and places stay apart.
+-- One step. A line keeps its order: an entry and a district that goes on come to the back, so that those ahead of a
+-- district only leave; and places stay apart.
 use mathlib.Core.Path.{_≡_, refl, sym, ap, _∙_, subst, subst⁻¹}
 use mathlib.Core.Logic.{_⊎_, _≢_, inl, inr}
 use mathlib.Core.Bool.{Bool, true, false, not, cond}
@@ -29,8 +30,14 @@ plan-ok p w e =
     let a = accepted-append (partsConditions p) ((isCutOff p, 12) ∷ []) e in
     let ten = accepted-cons (eqb (length (requiredArcs p)) 0) 10 _ (a .0) in
     let eleven = accepted-cons (ltb 8 (componentCount p)) 11 [] (ten .1) in
-    let some : length (requiredArcs p) ≢ 0 = eqb-other (ten .0) in
-    (record { well-formed = w; some-arc = omega arith; connected = accepted-cons (isCutOff p) 12 [] (a .1) .0 }, nltb→le 8 (componentCount p) (eleven .0))
+    let some : length (requiredArcs p) ≢ 0 = eqb-other (ten .0) in (
+      record {
+        well-formed = w;
+        some-arc = omega arith;
+        connected = accepted-cons (isCutOff p) 12 [] (a .1) .0;
+      },
+      nltb→le 8 (componentCount p) (eleven .0),
+    )
 
 -- ---- what an accepted entry makes sure of
 
@@ -41,7 +48,8 @@ module _ (l : Line) (bytes : List ℕ) (budget : ℕ) (e : entryRefusal l bytes 
   abbrev full : Conditions
   full = (leb 8 (length l), 22) ∷ []
 
-  pub parts : (firstRefusal (fileConditions bytes) ≡ none) × (firstRefusal ((isOutside budget 1 highestBudget, 9) ∷ (lastConditions p ++ full)) ≡ none)
+  pub parts : (firstRefusal (fileConditions bytes) ≡ none)
+      × (firstRefusal ((isOutside budget 1 highestBudget, 9) ∷ (lastConditions p ++ full)) ≡ none)
   unfolding entryRefusal entryConditions
   parts = accepted-append (fileConditions bytes) ((isOutside budget 1 highestBudget, 9) ∷ (lastConditions p ++ full)) e
 
@@ -74,7 +82,8 @@ pub enter-refused : (l : Line) (bytes : List ℕ) (budget r : ℕ) → entryRefu
 unfolding enter unless
 enter-refused l bytes budget r e = rw e refl
 
-pub enter-accepted : (l : Line) (bytes : List ℕ) (budget : ℕ) → entryRefusal l bytes budget ≡ none → enter l bytes budget ≡ l ++ district (lowestFree l) bytes budget 0 ∷ []
+pub enter-accepted : (l : Line) (bytes : List ℕ) (budget : ℕ) → entryRefusal l bytes budget ≡ none
+    → enter l bytes budget ≡ l ++ district (lowestFree l) bytes budget 0 ∷ []
 unfolding enter unless
 enter-accepted l bytes budget e = rw e refl
 
@@ -133,7 +142,8 @@ waits-turn {i} {d} l w = at (w .ahead) (w .line) (w .number)
     gone : (f : District) (a : Line) → length a ≡ i → Waits (turn (f ∷ (a ++ d ∷ w .behind))) i d
     gone f a n =
         let v : Waits (a ++ d ∷ w .behind) i d = record { ahead = a; behind = w .behind; line = refl; number = n } in
-        cond-ind (finishes f) (a ++ d ∷ w .behind) ((a ++ d ∷ w .behind) ++ goneOn f ∷ []) (λ (y : Line). Waits y i d) (λ t. v) (λ t. waits-more (goneOn f) v)
+        cond-ind (finishes f) (a ++ d ∷ w .behind) ((a ++ d ∷ w .behind) ++ goneOn f ∷ []) (λ (y : Line). Waits y i d) (λ t. v)
+        (λ t. waits-more (goneOn f) v)
 
     at : (a : Line) → l ≡ a ++ d ∷ w .behind → length a ≡ suc i → Waits (turn l) i d
     at [] e n = absurd (omega arith)

@@ -20,9 +20,11 @@ module _ (plan : List ℕ) (budget : ℕ) (bytes : List ℕ) where
   pub entry-short : (n : ℤ) → length bytes < districtsBytes → n ≡ negℤ (pos 8) → IsExportedEntry plan budget bytes bytes n
   entry-short n l e = record { entered = λ h. absurd (omega arith); short = λ h. (e, refl) }
 
-  pub entry-lent : (bytes′ : List ℕ) (n : ℤ) (m : Machine) (r : Entered) → districtsBytes ≤ length bytes → m ≡ machineIn bytes → IsEntered m plan budget r → IsEntryStored r bytes bytes′ n
+  pub entry-lent : (bytes′ : List ℕ) (n : ℤ) (m : Machine) (r : Entered) → districtsBytes ≤ length bytes → m ≡ machineIn bytes
+      → IsEntered m plan budget r → IsEntryStored r bytes bytes′ n
       → IsExportedEntry plan budget bytes bytes′ n
-  entry-lent bytes′ n m r l e h s = record { entered = λ g. (r, subst (λ (x : Machine). IsEntered x plan budget r) e h, s); short = λ g. absurd (omega arith) }
+  entry-lent bytes′ n m r l e h s =
+      record { entered = λ g. (r, subst (λ (x : Machine). IsEntered x plan budget r) e h, s); short = λ g. absurd (omega arith) }
 
 -- ---- a turn
 
@@ -30,6 +32,8 @@ module _ (bytes sheet words : List ℕ) (u : List ℤ) where
   pub turn-short : (n : ℤ) → length bytes < districtsBytes → n ≡ negℤ (pos 8) → IsExportedTurn bytes bytes sheet sheet words words u u n
   turn-short n l e = record { turned = λ h. absurd (omega arith); short = λ h. ((e, refl), refl, refl, refl) }
 
-  pub turn-lent : (bytes′ sheet′ words′ : List ℕ) (u′ : List ℤ) (n : ℤ) (m : Machine) (r : Turned) → districtsBytes ≤ length bytes → m ≡ machineIn bytes → IsTurned m sheet sheet′ r
+  pub turn-lent : (bytes′ sheet′ words′ : List ℕ) (u′ : List ℤ) (n : ℤ) (m : Machine) (r : Turned) → districtsBytes ≤ length bytes
+      → m ≡ machineIn bytes → IsTurned m sheet sheet′ r
       → IsTurnHandedOver r bytes bytes′ words words′ u u′ n → IsExportedTurn bytes bytes′ sheet sheet′ words words′ u u′ n
-  turn-lent bytes′ sheet′ words′ u′ n m r l e h s = record { turned = λ g. (r, subst (λ (x : Machine). IsTurned x sheet sheet′ r) e h, s); short = λ g. absurd (omega arith) }
+  turn-lent bytes′ sheet′ words′ u′ n m r l e h s =
+      record { turned = λ g. (r, subst (λ (x : Machine). IsTurned x sheet sheet′ r) e h, s); short = λ g. absurd (omega arith) }

@@ -19,7 +19,8 @@ use Rattle.district_machine.specs.Machine.{districtOf, districtsIn, wait
 
 -- ---- places
 
-pub none-taken : (q : ℕ) (line : List DistrictRecord) (n : ℕ) → ((j : ℕ) → j < n → getD line j noDistrict .place ≢ q) → n ≤ length line → occurs q (places (districtsIn line n)) ≡ false
+pub none-taken : (q : ℕ) (line : List DistrictRecord) (n : ℕ) → ((j : ℕ) → j < n → getD line j noDistrict .place ≢ q) → n ≤ length line
+    → occurs q (places (districtsIn line n)) ≡ false
 unfolding occurs anyOf
 none-taken q line zero h l = refl
 none-taken q [] (suc n) h l = refl
@@ -27,7 +28,8 @@ none-taken q (x ∷ xs) (suc n) h l =
     let e : eqb q (x .place) ≡ false = is-false (λ t. h 0 (omega arith) (sym (eqb→eq q (x .place) t))) in
     rw e (none-taken q xs n (λ j m. h (suc j) (omega arith)) (omega arith))
 
-pub some-taken : (q : ℕ) (line : List DistrictRecord) (n i : ℕ) → i < n → i < length line → getD line i noDistrict .place ≡ q → occurs q (places (districtsIn line n)) ≡ true
+pub some-taken : (q : ℕ) (line : List DistrictRecord) (n i : ℕ) → i < n → i < length line → getD line i noDistrict .place ≡ q
+    → occurs q (places (districtsIn line n)) ≡ true
 unfolding occurs anyOf
 some-taken q line zero i l m e = absurd (omega arith)
 some-taken q [] (suc n) i l m e = absurd (omega arith)
@@ -74,21 +76,26 @@ pub line-is : (ds : List DistrictRecord) → lineOf (machineOf ds) ≡ map distr
 line-is ds = ap (λ (x : List DistrictRecord). map districtOf x) (waiting-are ds)
 
 -- the machine with these in its array, and so many waiting
-pub machine-is : (line : List DistrictRecord) (n : ℕ) (ds : List DistrictRecord) → line ≡ padded 8 emptyDistrict ds → n ≡ length ds → record { line = line; waiting = n } ≡ machineOf ds
+pub machine-is : (line : List DistrictRecord) (n : ℕ) (ds : List DistrictRecord) → line ≡ padded 8 emptyDistrict ds → n ≡ length ds
+    → record { line = line; waiting = n } ≡ machineOf ds
 machine-is line n ds e f = λ i. record { line = e i; waiting = f i }
 
 -- one goes behind the last
-pub back-is : (m : Machine) (ds : List DistrictRecord) (x : DistrictRecord) → m ≡ machineOf ds → m .waiting < 8 → record { line = set (m .line) (m .waiting) x; waiting = m .waiting + 1 } ≡ machineOf (ds ++ x ∷ [])
+pub back-is : (m : Machine) (ds : List DistrictRecord) (x : DistrictRecord) → m ≡ machineOf ds → m .waiting < 8
+    → record { line = set (m .line) (m .waiting) x; waiting = m .waiting + 1 } ≡ machineOf (ds ++ x ∷ [])
 back-is m ds x e l =
     let n : length ds < 8 = (let w = ap (λ (y : Machine). y .waiting) e in omega arith) in
     let a = length-append ds (x ∷ []) in
     ap {B = Machine} (λ (y : Machine). record { line = set (y .line) (y .waiting) x; waiting = y .waiting + 1 }) e
-    ∙ machine-is (set (padded 8 emptyDistrict ds) (length ds) x) (length ds + 1) (ds ++ x ∷ []) (padded-set 8 emptyDistrict ds x n) (omega arith)
+    ∙ machine-is (set (padded 8 emptyDistrict ds) (length ds) x) (length ds + 1) (ds ++ x ∷ []) (padded-set 8 emptyDistrict ds x n)
+    (omega arith)
 
 -- the others, once the front one is left out
-pub others-are : (m : Machine) (line : List DistrictRecord) → length (m .line) ≡ 8 → 1 ≤ m .waiting → m .waiting ≤ 8 → line ≡ padded 8 emptyDistrict (take (m .waiting - 1) (drop 1 (m .line)))
+pub others-are : (m : Machine) (line : List DistrictRecord) → length (m .line) ≡ 8 → 1 ≤ m .waiting → m .waiting ≤ 8
+    → line ≡ padded 8 emptyDistrict (take (m .waiting - 1) (drop 1 (m .line)))
     → record { line = line; waiting = m .waiting - 1 } ≡ machineOf (drop 1 (waitingIn m))
 others-are m line long one most e =
     let a = length-drop 1 (waitingIn m) in
     let b = length-take-le (m .waiting) (m .line) (omega arith) in
-    machine-is line (m .waiting - 1) (drop 1 (waitingIn m)) (e ∙ ap (padded 8 emptyDistrict) (rest-is (m .line) (m .waiting) one)) (omega arith)
+    machine-is line (m .waiting - 1) (drop 1 (waitingIn m)) (e ∙ ap (padded 8 emptyDistrict) (rest-is (m .line) (m .waiting) one))
+    (omega arith)

@@ -1,4 +1,5 @@
--- A free place: a list that holds each of n numbers is at least n long, so that fewer than eight districts leave a place free; and the lowest free place is free, and no other free one is below it.
+-- A free place: a list that holds each of n numbers is at least n long, so that fewer than eight districts leave a place free; and the
+-- lowest free place is free, and no other free one is below it.
 use mathlib.Core.Path.{_≡_, sym, _∙_, subst}
 use mathlib.Core.Logic.{_≢_, inl, inr}
 use mathlib.Core.Bool.{Bool, true, false, not}
@@ -31,7 +32,8 @@ module _ (l : Line) (few : length l < 8) where
   some-free : (q : ℕ) × List·Memᴰ q (below 8) × T (free q)
   some-free = elim (test (anyOf free (below 8))) [
     | inl t ↦ anyOf-at free (below 8) t
-    | inr t ↦ (let c = covered 8 (places l) (λ q m. occurs-mem q (places l) (not-not (occurs q (places l)) (anyOf-not free (mem-below m) t))) in
+    | inr t ↦ (let c =
+        covered 8 (places l) (λ q m. occurs-mem q (places l) (not-not (occurs q (places l)) (anyOf-not free (mem-below m) t))) in
         let n = length-map l (λ (d : District). d .place) in
         absurd (omega arith))
   ]
@@ -50,7 +52,9 @@ module _ (l : Line) (few : length l < 8) where
   is-lowest q m t = first-le free 8 m t
 
   pub free-other : (d : District) → List·Memᴰ d l → d .place ≢ lowestFree l
-  free-other d m e = T-not (occurs (lowestFree l) (places l)) is-free (subst (λ q. T (occurs q (places l))) e (mem-occurs (mem-map (λ (d : District). d .place) m)))
+  free-other d m e =
+      T-not (occurs (lowestFree l) (places l)) is-free
+      (subst (λ q. T (occurs q (places l))) e (mem-occurs (mem-map (λ (d : District). d .place) m)))
 
   -- the search for it: below q + 1 it is the one below q, or q itself
   none-below : (q : ℕ) → q ≤ lowestFree l → lowestBelow l q ≡ 8

@@ -1,4 +1,5 @@
--- Links that pass the test are an arborescence of the plan, and those of an arborescence pass it. The sets hold one source each, so that going back is the same by the sets and by the links.
+-- Links that pass the test are an arborescence of the plan, and those of an arborescence pass it. The sets hold one source each, so that
+-- going back is the same by the sets and by the links.
 use mathlib.Core.Path.{_≡_, refl, sym, ap, _∙_, subst, subst⁻¹}
 use mathlib.Core.Bool.{Bool, true}
 use mathlib.Core.List.{List, [], _∷_, List·Memᴰ}
@@ -24,9 +25,10 @@ use Rattle.arborescence.specs.Laws.Reach.{Arrives, reached-arrives, arrives-rea
 use Rattle.tour_legs.specs.Filled.{linksOf}
 use Rattle.tour_legs.specs.Laws.Laid.{links-length}
 use Rattle.solution.specs.Resumed.{HoldsTree}
-use Rattle.district_turn.specs.Tree.{IsEntry, sourceSet, IsHeldTree}
+use Rattle.tree_check.specs.Tree.{IsEntry, sourceSet, IsHeldTree}
 
-links-at : (n : ℕ) (ts hs : List ℕ) (q : ℕ) → q < n → n ≤ length ts → n ≤ length hs → linkAt (linksOf (take n ts) (take n hs)) q ≡ link (getD ts q 0) (getD hs q 0)
+links-at : (n : ℕ) (ts hs : List ℕ) (q : ℕ) → q < n → n ≤ length ts → n ≤ length hs
+    → linkAt (linksOf (take n ts) (take n hs)) q ≡ link (getD ts q 0) (getD hs q 0)
 unfolding linksOf
 links-at zero ts hs q l a b = absurd (omega arith)
 links-at (suc n) [] hs q l a b = absurd (omega arith)
@@ -34,7 +36,8 @@ links-at (suc n) (t ∷ ts) [] q l a b = absurd (omega arith)
 links-at (suc n) (t ∷ ts) (h ∷ hs) zero l a b = refl
 links-at (suc n) (t ∷ ts) (h ∷ hs) (suc q) l a b = links-at n ts hs q (omega arith) (omega arith) (omega arith)
 
-module _ (p : Plan) (w : WellFormed p) (flags : List Bool) (of : List ℕ) (k : ℕ) (hl : IsLinks p flags) (hc : IsComponents p of k) (few : k ≤ 8) (one : 1 ≤ k)
+module _ (p : Plan) (w : WellFormed p) (flags : List Bool) (of : List ℕ) (k : ℕ) (hl : IsLinks p flags) (hc : IsComponents p of k)
+    (few : k ≤ 8) (one : 1 ≤ k)
     (tails heads : List ℕ) (long-t : length tails ≡ 8) (long-h : length heads ≡ 8) where
   abbrev m : ℕ
   m = componentCount p - 1
@@ -75,13 +78,16 @@ module _ (p : Plan) (w : WellFormed p) (flags : List Bool) (of : List ℕ) (k : 
   set-at q = ap (λ x. 2 ^ (getD of (tail x) 0 % 64)) (let z : suc q - 1 ≡ q = omega arith in z)
 
   source-at : (q : ℕ) → tail q < 64 → component p (tail q) < componentCount p → getD of (tail q) 0 % 64 ≡ component p (tail q)
-  source-at q l s = let c = count in ap (λ x. x % 64) (hc .each (tail q) l) ∙ (let z : component p (tail q) % 64 ≡ component p (tail q) = omega arith in z)
+  source-at q l s = let c = count in
+      ap (λ x. x % 64) (hc .each (tail q) l) ∙ (let z : component p (tail q) % 64 ≡ component p (tail q) = omega arith in z)
 
   -- ---- links that pass the test
 
   module _ (h : IsHeldTree flags of tails heads k) where
     entry-at : (q : ℕ) → q < m → IsEntry flags of (tail q) (head q) (suc q)
-    entry-at q l = let c = count in subst (λ x. IsEntry flags of (tail x) (head x) (suc q)) (let z : suc q - 1 ≡ q = omega arith in z) (h .enters (suc q) (omega arith) (omega arith))
+    entry-at q l = let c = count in
+        subst (λ x. IsEntry flags of (tail x) (head x) (suc q)) (let z : suc q - 1 ≡ q = omega arith in z)
+        (h .enters (suc q) (omega arith) (omega arith))
 
     enters-at : (q : ℕ) → q < m → Enters p (suc q) (link (tail q) (head q))
     enters-at q l =
@@ -99,7 +105,8 @@ module _ (p : Plan) (w : WellFormed p) (flags : List Bool) (of : List ℕ) (k : 
         let c = count in
         let n : q < m = omega arith in
         let s = component-lt p ok (link-ends p (enters-at q n .is-link) .0) in
-        let e = single-has (getD of (tail q) 0 % 64) (f (suc q)) (subst (λ x. Has x (f (suc q))) (set-at q) (a .source (suc q) (omega arith) l)) in
+        let e = single-has (getD of (tail q) 0 % 64) (f (suc q))
+        (subst (λ x. Has x (f (suc q))) (set-at q) (a .source (suc q) (omega arith) l)) in
         parent-at q n ∙ sym (source-at q (entry-at q n .tail-in) s) ∙ sym e
 
     pub sound : IsArborescence p t
@@ -109,7 +116,9 @@ module _ (p : Plan) (w : WellFormed p) (flags : List Bool) (of : List ℕ) (k : 
         record {
           size = size;
           enters = λ q l. (let n = size in let u : q < m = omega arith in subst⁻¹ (Enters p (suc q)) (link-at q u) (enters-at q u));
-          back = λ q l. (let b = r .1 .back q (omega arith) in (b .0, same-steps (λ x. x < k) (r .0) (parent p t) (r .1 .inside) (agrees (r .0) (r .1)) (b .0) q (omega arith) ∙ b .1));
+          back = λ q l.
+              (let b = r .1 .back q (omega arith) in
+              (b .0, same-steps (λ x. x < k) (r .0) (parent p t) (r .1 .inside) (agrees (r .0) (r .1)) (b .0) q (omega arith) ∙ b .1));
         }
 
     -- THEY ARE A TREE'S
@@ -172,7 +181,8 @@ module _ (p : Plan) (w : WellFormed p) (flags : List Bool) (of : List ℕ) (k : 
     passes = record {
       enters = λ q o l.
           (let c = count in
-          subst (λ x. IsEntry flags of (tail (q - 1)) (head (q - 1)) x) (let z : suc (q - 1) ≡ q = omega arith in z) (is-entry (q - 1) (omega arith)));
+          subst (λ x. IsEntry flags of (tail (q - 1)) (head (q - 1)) x) (let z : suc (q - 1) ≡ q = omega arith in z)
+          (is-entry (q - 1) (omega arith)));
       arrives = is-true (arrives-reaches g k one (parent p t) (record { root = root; inside = inside; source = source; back = back })
           (λ q l. let b = back q l in settle k (parent p t) inside (b .0) q root l (b .1)));
     }

@@ -1,4 +1,5 @@
--- An array that is filled up behind its first i elements, by index: a loop fills it in order, and what it holds then is the list's start with the filling behind it.
+-- An array that is filled up behind its first i elements, by index: a loop fills it in order, and what it holds then is
+-- the list's start with the filling behind it.
 use mathlib.Core.Path.{_≡_, refl, sym, ap, _∙_}
 use mathlib.Core.List.{List, [], _∷_, _++_, append-assoc}
 use Prim.Native.Nat.{ℕ, zero, suc, _+_, _-_, _≤_, _<_}
@@ -18,11 +19,18 @@ pub record IsPadded {A : Type 0} (d : A) (n : ℕ) (z : A) (f : ℕ → A) (r : 
 getD-behind : {A : Type 0} (xs ys : List A) (j : ℕ) (d : A) → length xs ≤ j → getD (xs ++ ys) j d ≡ getD ys (j - length xs) d
 getD-behind [] ys j d l = ap (λ k. getD ys k d) (let e : j ≡ j - 0 = omega arith in e)
 getD-behind (x ∷ xs) ys zero d l = absurd (omega arith)
-getD-behind (x ∷ xs) ys (suc j) d l = getD-behind xs ys j d (omega arith) ∙ ap (λ k. getD ys k d) (let e : j - length xs ≡ suc j - suc (length xs) = omega arith in e)
+getD-behind (x ∷ xs) ys (suc j) d l =
+    getD-behind xs ys j d (omega arith) ∙ ap (λ k. getD ys k d) (let e : j - length xs ≡ suc j - suc (length xs) = omega arith in e)
 
 module _ {A : Type 0} (d : A) (n : ℕ) (z : A) (f : ℕ → A) where
   pub padded-none : IsPadded d n z f (replicate n z) 0
-  padded-none = record { few = omega arith; long = length-replicate n z; before = λ j l. absurd (omega arith); after = λ j l m. getD-replicate n j z d m }
+  padded-none =
+      record {
+        few = omega arith;
+        long = length-replicate n z;
+        before = λ j l. absurd (omega arith);
+        after = λ j l m. getD-replicate n j z d m;
+      }
 
   pub padded-more : (r : List A) (i : ℕ) (x : A) → IsPadded d n z f r i → i < n → x ≡ f i → IsPadded d n z f (set r i x) (i + 1)
   padded-more r i x h l e = record {
@@ -44,7 +52,9 @@ module _ {A : Type 0} (d : A) (n : ℕ) (z : A) (f : ℕ → A) where
       let l = h .long in
       ext-getD d r (padded n z xs) (omega arith) (λ j m. elim (decLt j i) [
         | yes s ↦ h .before j s ∙ g j s ∙ sym (List·getD-append xs (replicate (n - length xs) z) d j (omega arith))
-        | no s ↦ h .after j (omega arith) (omega arith) ∙ sym (getD-behind xs (replicate (n - length xs) z) j d (omega arith) ∙ getD-replicate (n - length xs) (j - length xs) z d (omega arith))
+        | no s ↦ h .after j (omega arith) (omega arith)
+            ∙ sym (getD-behind xs (replicate (n - length xs) z) j d (omega arith)
+            ∙ getD-replicate (n - length xs) (j - length xs) z d (omega arith))
       ])
 
 -- ---- one more
@@ -53,7 +63,8 @@ set-behind : {A : Type 0} (xs : List A) (k : ℕ) (z v : A) → set (xs ++ repli
 set-behind [] k z v = refl
 set-behind {A} (x ∷ xs) k z v = ap (λ (r : List A). x ∷ r) (set-behind xs k z v)
 
-pub padded-set : {A : Type 0} (n : ℕ) (z : A) (xs : List A) (v : A) → length xs < n → set (padded n z xs) (length xs) v ≡ padded n z (xs ++ v ∷ [])
+pub padded-set : {A : Type 0} (n : ℕ) (z : A) (xs : List A) (v : A) → length xs < n
+    → set (padded n z xs) (length xs) v ≡ padded n z (xs ++ v ∷ [])
 padded-set {A} n z xs v l =
     let a = length-append xs (v ∷ []) in
     let k = n - length (xs ++ v ∷ []) in

@@ -1,4 +1,5 @@
--- A turn, by its three kinds: what is held cannot be gone on from; it can, and trees are left; none is left. The test for a tree is by the list of all trees.
+-- A turn, by its three kinds: what is held cannot be gone on from; it can, and trees are left; none is left. The
+-- test for a tree is by the list of all trees.
 use mathlib.Core.Path.{_≡_, refl, sym, ap, ap₂, _∙_, subst, subst⁻¹}
 use mathlib.Core.Bool.{Bool, true, false, _&&_}
 use mathlib.Core.List.{List, [], _∷_, map}
@@ -38,11 +39,11 @@ use Rattle.tour_legs.specs.Tour.{written}
 use Rattle.multipliers.specs.Tour.{driveOf}
 use Rattle.solution.specs.Concluded.{concluded}
 use Rattle.solution.specs.Laws.Answer.{tree-small}
-use Rattle.solution.specs.Laws.Resumed.{IsPriced, on-priced}
-use Rattle.district_turn.specs.Tree.{IsHeldTree}
+use Rattle.solution.specs.Laws.Resumed.{some-tried, IsPriced, on-priced}
+use Rattle.tree_check.specs.Tree.{IsHeldTree}
 use Rattle.district_turn.specs.Padded.{padded}
 use Rattle.district_turn.specs.Laws.Clash.{clash}
-use Rattle.district_turn.specs.Laws.Tree.{Says}
+use Rattle.tree_check.specs.Laws.Tree.{Says}
 use Rattle.district_turn.specs.Laws.HeldTree.{sound, passes}
 
 -- ---- a tree, by the list of all trees
@@ -50,7 +51,9 @@ use Rattle.district_turn.specs.Laws.HeldTree.{sound, passes}
 same-refl : (t : List Link) → T (sameLinks t t)
 unfolding sameLinks
 same-refl [] = tt
-same-refl (l ∷ t) = and-both (joins (l .tail) (l .head) l) (sameLinks t t) (and-both (eqb (l .tail) (l .tail)) (eqb (l .head) (l .head)) (eqb-refl (l .tail)) (eqb-refl (l .head))) (same-refl t)
+same-refl (l ∷ t) =
+    and-both (joins (l .tail) (l .head) l) (sameLinks t t)
+    (and-both (eqb (l .tail) (l .tail)) (eqb (l .head) (l .head)) (eqb-refl (l .tail)) (eqb-refl (l .head))) (same-refl t)
 
 same-is : (t u : List Link) → T (sameLinks t u) → t ≡ u
 unfolding sameLinks
@@ -67,21 +70,25 @@ same-is (l ∷ t) (m ∷ u) s =
 
 pub is-arborescence : (p : Plan) (t : List Link) → T (isTree p t) → IsArborescence p t
 unfolding isTree
-is-arborescence p t h = let x = anyOf-at (sameLinks t) (arborescences p) h in subst⁻¹ (IsArborescence p) (same-is t (x .0) (x .2)) (arborescences-mem p (x .1))
+is-arborescence p t h = let x = anyOf-at (sameLinks t) (arborescences p) h in
+    subst⁻¹ (IsArborescence p) (same-is t (x .0) (x .2)) (arborescences-mem p (x .1))
 
 pub of-arborescence : (p : Plan) (t : List Link) → InPlan p → IsArborescence p t → T (isTree p t)
 unfolding isTree
 of-arborescence p t ok a = anyOf-mem (sameLinks t) (mem-arborescences p ok a) (same-refl t)
 
 -- the test over the arrays is that test
-pub tested : (p : Plan) (w : WellFormed p) (flags : List Bool) (of : List ℕ) (k : ℕ) → IsLinks p flags → IsComponents p of k → k ≤ 8 → 1 ≤ k → (ts hs : List ℕ) → length ts ≡ 8 → length hs ≡ 8
+pub tested : (p : Plan) (w : WellFormed p) (flags : List Bool) (of : List ℕ) (k : ℕ) → IsLinks p flags → IsComponents p of k → k ≤ 8
+    → 1 ≤ k → (ts hs : List ℕ) → length ts ≡ 8 → length hs ≡ 8
     → (b : Bool) → Says b (IsHeldTree flags of ts hs k) → b ≡ isTree p (linksIn (componentCount p - 1) ts hs)
 tested p w flags of k hl hc few one ts hs lt lh b h =
     let m = componentCount p - 1 in
     let e = arcs-links (take m ts) (take m hs) in
     same-test b (isTree p (linksIn m ts hs))
-    (λ t. of-arborescence p (linksIn m ts hs) (bounded w .ends) (subst⁻¹ (IsArborescence p) e (sound p w flags of k hl hc few one ts hs lt lh (h .0 (is-true t)))))
-    (λ t. of-true (h .1 (passes p w flags of k hl hc few one ts hs lt lh (subst (IsArborescence p) e (is-arborescence p (linksIn m ts hs) t)))))
+    (λ t. of-arborescence p (linksIn m ts hs) (bounded w .ends)
+    (subst⁻¹ (IsArborescence p) e (sound p w flags of k hl hc few one ts hs lt lh (h .0 (is-true t)))))
+    (λ t. of-true
+    (h .1 (passes p w flags of k hl hc few one ts hs lt lh (subst (IsArborescence p) e (is-arborescence p (linksIn m ts hs) t)))))
 
 -- ---- what is held
 
@@ -94,9 +101,11 @@ module _ (p : Plan) (g : Reached) where
   unfolding isHolding
   holding-later o = let t : eqb (g .tried) 0 ≡ false = ne-eqb (g .tried) 0 o in rw t
 
-  pub held-priced : (n : ℕ) → isHolding p g ≡ true → 1 ≤ g .tried → IsArborescence p (linksBy p g) × (g .cost ≡ completionCost p (linksBy p g))
+  pub held-priced : (n : ℕ) → isHolding p g ≡ true → 1 ≤ g .tried
+      → IsArborescence p (linksBy p g) × (g .cost ≡ completionCost p (linksBy p g))
   held-priced n h o =
-      let x = and-parts (isTree p (linksBy p g)) (eqb (g .cost) (completionCost p (linksBy p g))) (of-true (sym (holding-later (λ e. (let q = e in absurd (omega arith)))) ∙ h)) in
+      let x = and-parts (isTree p (linksBy p g)) (eqb (g .cost) (completionCost p (linksBy p g)))
+      (of-true (sym (holding-later (λ e. (let q = e in absurd (omega arith)))) ∙ h)) in
       (is-arborescence p (linksBy p g) (x .0), eqb→eq (g .cost) (completionCost p (linksBy p g)) (x .1))
 
 pub and-no : (b c : Bool) → c ≡ false → (b && c) ≡ false
@@ -123,7 +132,8 @@ module _ (p : Plan) (budget : ℕ) (g : Reached) (can : Bool) (old : List ℕ) (
     sheet = λ x. absurd (clash (r .done) x d);
   }
 
-  pub is-going : can ≡ true → isLast p budget g ≡ false → r .good ≡ true → r .done ≡ false → r .held ≡ reachedAfter p budget g → r .planned ≡ soFar (r .held .cost) (r .held .tried)
+  pub is-going : can ≡ true → isLast p budget g ≡ false → r .good ≡ true → r .done ≡ false → r .held ≡ reachedAfter p budget g
+      → r .planned ≡ soFar (r .held .cost) (r .held .tried)
       → IsStint p budget g can old old r
   is-going c l a d h s = record {
     good = a ∙ sym c;
@@ -135,7 +145,8 @@ module _ (p : Plan) (budget : ℕ) (g : Reached) (can : Bool) (old : List ℕ) (
     sheet = λ x. absurd (clash (r .done) x d);
   }
 
-  pub is-last : can ≡ true → isLast p budget g ≡ true → r .good ≡ true → r .done ≡ true → r .planned ≡ lastAnswer p budget g → (new : List ℕ) → new ≡ lastSheet p budget g old
+  pub is-last : can ≡ true → isLast p budget g ≡ true → r .good ≡ true → r .done ≡ true → r .planned ≡ lastAnswer p budget g
+      → (new : List ℕ) → new ≡ lastSheet p budget g old
       → IsStint p budget g can old new r
   is-last c l a d s new w = record {
     good = a ∙ sym c;
@@ -148,18 +159,22 @@ module _ (p : Plan) (budget : ℕ) (g : Reached) (can : Bool) (old : List ℕ) (
   }
 
 -- a plan that is not refused
-pub as-good : (p : Plan) (budget : ℕ) (g : Reached) (o : Option ℕ) (can : Bool) (old new : List ℕ) (r : Stint) → o ≡ none → IsStint p budget g can old new r → IsStint p budget g (isGood o && can) old new r
+pub as-good : (p : Plan) (budget : ℕ) (g : Reached) (o : Option ℕ) (can : Bool) (old new : List ℕ) (r : Stint) → o ≡ none
+    → IsStint p budget g can old new r → IsStint p budget g (isGood o && can) old new r
 unfolding isGood
 as-good p budget g o can old new r e h = subst⁻¹ (λ (o : Option ℕ). IsStint p budget g (isGood o && can) old new r) e h
 
 -- ---- what the search gives
 
-module _ (p : Plan) (ok : Plannable p) (few : componentCount p ≤ 8) (budget : ℕ) (one : 1 ≤ budget) (g : Reached) (r : Resumed) (h : IsResumed p budget g r) where
+module _ (p : Plan) (ok : Plannable p) (few : componentCount p ≤ 8) (budget : ℕ) (one : 1 ≤ budget) (g : Reached) (r : Resumed)
+    (h : IsResumed p budget g r) where
   pub none-left : r .total ≤ g .tried → isResumable p budget g ≡ false
-  none-left l = let e = h .total in and-no (isHolding p g) (ltb (g .tried) (triedCount p budget)) (le-ltb (g .tried) (triedCount p budget) (omega arith))
+  none-left l = let e = h .total in
+      and-no (isHolding p g) (ltb (g .tried) (triedCount p budget)) (le-ltb (g .tried) (triedCount p budget) (omega arith))
 
   pub some-left : isHolding p g ≡ true → g .tried < r .total → isResumable p budget g ≡ true
-  some-left i l = let e = h .total in and-yes (isHolding p g) (ltb (g .tried) (triedCount p budget)) i (lt-ltb (g .tried) (triedCount p budget) (omega arith))
+  some-left i l = let e = h .total in
+      and-yes (isHolding p g) (ltb (g .tried) (triedCount p budget)) i (lt-ltb (g .tried) (triedCount p budget) (omega arith))
 
   pub going-on : g .tried < r .total → r .tried < r .total → isLast p budget g ≡ false
   going-on l m = let a = h .total in let b = h .tried in lt-leb (triedCount p budget) (g .tried + 1000) (omega arith)
@@ -201,12 +216,18 @@ module _ (p : Plan) (ok : Plannable p) (few : componentCount p ≤ 8) (budget : 
         let c = h .cost-is in
         omega arith
 
-    pub held-after : (n : ℕ) → n ≡ m → (x : Reached) → (x .cost ≡ r .cost) × (x .tails ≡ padded 8 0 (take n (r .tails))) × (x .heads ≡ padded 8 0 (take n (r .heads))) × (x .tried ≡ r .tried)
+    pub held-after : (n : ℕ) → n ≡ m → (x : Reached)
+        → (x .cost ≡ r .cost) × (x .tails ≡ padded 8 0 (take n (r .tails))) × (x .heads ≡ padded 8 0 (take n (r .heads)))
+        × (x .tried ≡ r .tried)
         → x ≡ reachedAfter p budget g
     held-after n e x k =
         let ec = k .0 ∙ h .cost-is in
-        let et = k .1 ∙ ap (λ j. padded 8 0 (take j (r .tails))) e ∙ ap (padded 8 0) (sym (links-tails (take m (r .tails)) (take m (r .heads)) same-size) ∙ ap (map (λ (l : Link). l .tail)) links-of) in
-        let eh = k .2 ∙ ap (λ j. padded 8 0 (take j (r .heads))) e ∙ ap (padded 8 0) (sym (links-heads (take m (r .tails)) (take m (r .heads)) same-size) ∙ ap (map (λ (l : Link). l .head)) links-of) in
+        let et = k .1 ∙ ap (λ j. padded 8 0 (take j (r .tails))) e
+        ∙ ap (padded 8 0)
+        (sym (links-tails (take m (r .tails)) (take m (r .heads)) same-size) ∙ ap (map (λ (l : Link). l .tail)) links-of) in
+        let eh = k .2 ∙ ap (λ j. padded 8 0 (take j (r .heads))) e
+        ∙ ap (padded 8 0)
+        (sym (links-heads (take m (r .tails)) (take m (r .heads)) same-size) ∙ ap (map (λ (l : Link). l .head)) links-of) in
         let en = k .3 ∙ h .tried in
         λ i. record { cost = ec i; tails = et i; heads = eh i; tried = en i }
 
@@ -224,10 +245,15 @@ unfolding arcsOf
 arcs-again [] = refl
 arcs-again (l ∷ ls) = ap (λ (r : List Link). l ∷ r) (arcs-again ls)
 
-pub padded-links : (ls : List Link) (n : ℕ) → length ls ≡ n → linksIn n (padded 8 0 (map (λ (l : Link). l .tail) ls)) (padded 8 0 (map (λ (l : Link). l .head) ls)) ≡ ls
+pub padded-links : (ls : List Link) (n : ℕ) → length ls ≡ n
+    → linksIn n (padded 8 0 (map (λ (l : Link). l .tail) ls)) (padded 8 0 (map (λ (l : Link). l .head) ls)) ≡ ls
 padded-links ls n e =
     let ts = map (λ (l : Link). l .tail) ls in
     let hs = map (λ (l : Link). l .head) ls in
-    let a : take n (padded 8 0 ts) ≡ ts = ap (λ k. take k (padded 8 0 ts)) (sym (length-map ls (λ (l : Link). l .tail) ∙ e)) ∙ take-append-seam ts (replicate (8 - length ts) 0) in
-    let b : take n (padded 8 0 hs) ≡ hs = ap (λ k. take k (padded 8 0 hs)) (sym (length-map ls (λ (l : Link). l .head) ∙ e)) ∙ take-append-seam hs (replicate (8 - length hs) 0) in
+    let a : take n (padded 8 0 ts) ≡ ts =
+    ap (λ k. take k (padded 8 0 ts)) (sym (length-map ls (λ (l : Link). l .tail) ∙ e))
+    ∙ take-append-seam ts (replicate (8 - length ts) 0) in
+    let b : take n (padded 8 0 hs) ≡ hs =
+    ap (λ k. take k (padded 8 0 hs)) (sym (length-map ls (λ (l : Link). l .head) ∙ e))
+    ∙ take-append-seam hs (replicate (8 - length hs) 0) in
     ap₂ arcsOf a b ∙ arcs-again ls

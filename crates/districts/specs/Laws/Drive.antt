@@ -1,4 +1,5 @@
--- The last turn of any machine's front district: it can be gone on with, so that its plan has drives and what it holds after the turn is a tree and its cost.
+-- The last turn of any machine's front district: it can be gone on with, so that its plan has drives and what it
+-- holds after the turn is a tree and its cost.
 use mathlib.Core.Path.{_≡_, refl, sym, ap, _∙_, subst, subst⁻¹}
 use mathlib.Core.Bool.{Bool, true, false, not, cond, _&&_}
 use mathlib.Core.List.{List, _∷_}
@@ -55,8 +56,10 @@ module _ (d : DistrictRecord) (can : canBeServed d ≡ true) where
   file : firstRefusal (fileConditions (bytesOf d)) ≡ none
   unfolding isReadable
   file =
-      let a = and-parts (leb (d .length) 1475) (not (isOutside (d .budget) 1 highestBudget) && isGood (firstRefusal (fileConditions (bytesOf d)))) (both .0) in
-      good-none (firstRefusal (fileConditions (bytesOf d))) (and-parts (not (isOutside (d .budget) 1 highestBudget)) (isGood (firstRefusal (fileConditions (bytesOf d)))) (a .1) .1)
+      let a = and-parts (leb (d .length) 1475)
+      (not (isOutside (d .budget) 1 highestBudget) && isGood (firstRefusal (fileConditions (bytesOf d)))) (both .0) in
+      good-none (firstRefusal (fileConditions (bytesOf d)))
+      (and-parts (not (isOutside (d .budget) 1 highestBudget)) (isGood (firstRefusal (fileConditions (bytesOf d)))) (a .1) .1)
 
   go : T (isGood (planRefusal p)) × T (isResumable p (d .budget) g)
   go = and-parts (isGood (planRefusal p)) (isResumable p (d .budget) g) (both .1)
@@ -73,7 +76,8 @@ module _ (d : DistrictRecord) (can : canBeServed d ≡ true) where
   priced : IsPriced p (plan .0) (heldAfter p (d .budget) g)
   priced =
       let l = ltb→lt (g .tried) (triedCount p (d .budget)) (parts .1) in
-      on-priced p (plan .0) (plan .1) (g .cost) (linksBy p g) (g .tried) (min 1000 (triedCount p (d .budget) - g .tried)) (omega arith) (held-priced p g 0 (is-true (parts .0)))
+      on-priced p (plan .0) (plan .1) (g .cost) (linksBy p g) (g .tried) (min 1000 (triedCount p (d .budget) - g .tried)) (omega arith)
+      (held-priced p g 0 (is-true (parts .0)))
 
   abbrev drive : List ℕ
   drive = driveOf p (heldAfter p (d .budget) g .links)
@@ -90,23 +94,31 @@ module _ (d : DistrictRecord) (can : canBeServed d ≡ true) where
       }
 
 -- WHATEVER THE MACHINE
-module _ (m : Machine) (old new : List ℕ) (r : Turned) (t : IsTurned m old new r) (d : DistrictRecord) (ds : List DistrictRecord) (w : waitingIn m ≡ d ∷ ds) where
+module _ (m : Machine) (old new : List ℕ) (r : Turned) (t : IsTurned m old new r) (d : DistrictRecord) (ds : List DistrictRecord)
+    (w : waitingIn m ≡ d ∷ ds) where
   abbrev Drives : Meeting → Type 0
   Drives k = hadLast (outcomeOf k) ≡ true → HoldsDrive (planBy d) (sheetAfter k old) (answerOf k)
 
-  drives : (x y z : Bool) → (leb (m .waiting) 8 && (hasOwnPlace d ds && canBeServed d)) ≡ y → Drives (cond x shortSheet (cond y (cond z (leaves d ds) (goesOn d ds)) stuck))
+  drives : (x y z : Bool) → (leb (m .waiting) 8 && (hasOwnPlace d ds && canBeServed d)) ≡ y
+      → Drives (cond x shortSheet (cond y (cond z (leaves d ds) (goesOn d ds)) stuck))
   drives true y z q = λ h. absurd (subst⁻¹ T h tt)
-  drives false true true q = λ h. last-drive d (is-true (and-parts (hasOwnPlace d ds) (canBeServed d) (and-parts (leb (m .waiting) 8) (hasOwnPlace d ds && canBeServed d) (of-true q) .1) .1)) old
+  drives false true true q =
+      λ h. last-drive d
+      (is-true (and-parts (hasOwnPlace d ds) (canBeServed d)
+      (and-parts (leb (m .waiting) 8) (hasOwnPlace d ds && canBeServed d) (of-true q) .1) .1)) old
   drives false true false q = λ h. absurd (subst⁻¹ T h tt)
   drives false false z q = λ h. absurd (subst⁻¹ T h tt)
 
   met-drives : Drives (meetingIn (m .waiting) (length old) (d ∷ ds))
   unfolding meetingIn
-  met-drives = drives (ltb (length old) sheetPlaces) (leb (m .waiting) 8 && (hasOwnPlace d ds && canBeServed d)) (isLast (planBy d) (d .budget) (d .held)) refl
+  met-drives =
+      drives (ltb (length old) sheetPlaces) (leb (m .waiting) 8 && (hasOwnPlace d ds && canBeServed d))
+      (isLast (planBy d) (d .budget) (d .held)) refl
 
   pub finished-drive : hadLast (r .outcome) ≡ true → HoldsDrive (planBy d) new (r .planned)
   finished-drive e =
       let k = meeting m (length old) in
       let q : k ≡ meetingIn (m .waiting) (length old) (d ∷ ds) = ap (meetingIn (m .waiting) (length old)) w in
       let x : HoldsDrive (planBy d) (sheetAfter k old) (answerOf k) = subst⁻¹ Drives q met-drives (sym (ap hadLast (t .outcome)) ∙ e) in
-      subst⁻¹ (λ (y : List ℕ). HoldsDrive (planBy d) y (r .planned)) (t .sheet) (subst⁻¹ (λ (y : Planned). HoldsDrive (planBy d) (sheetAfter k old) y) (t .planned) x)
+      subst⁻¹ (λ (y : List ℕ). HoldsDrive (planBy d) y (r .planned)) (t .sheet)
+      (subst⁻¹ (λ (y : Planned). HoldsDrive (planBy d) (sheetAfter k old) y) (t .planned) x)

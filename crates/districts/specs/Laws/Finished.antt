@@ -1,4 +1,5 @@
--- A district that has its turn. It is under way, so that the plan call on its plan and budget is not refused; and these are what it entered with.
+-- A district that has its turn. It is under way, so that the plan call on its plan and budget is not
+-- refused; and these are what it entered with.
 use mathlib.Core.Path.{_≡_, refl, sym, ap, _∙_, subst, subst⁻¹}
 use mathlib.Core.List.{List, [], _∷_, map, List·Memᴰ, List·Memᴰ·head}
 use mathlib.Core.Option.{none}
@@ -27,7 +28,8 @@ use Rattle.districts.specs.Turned.{Meeting, outcomeOf, answerOf, sheetAf
 use Rattle.districts.specs.Served.{IsServed}
 use Rattle.districts.specs.Laws.Sound.{IsUnderWay, IsSound, cost-now, tried-now, last-planned, Met, no-one, too-short, going, last}
 
-call-accepted : (x : DistrictRecord) → IsUnderWay x → (places : ℕ) → sheetPlaces ≤ places → callRefusal (bytesOf x) (x .budget) places ≡ none
+call-accepted : (x : DistrictRecord) → IsUnderWay x → (places : ℕ) → sheetPlaces ≤ places
+    → callRefusal (bytesOf x) (x .budget) places ≡ none
 unfolding highestBudget
 call-accepted x u places s =
     file-good (bytesOf x) (x .budget) places (file-accepted (bytesOf x) (u .file)) (u .file)
@@ -36,17 +38,20 @@ call-accepted x u places s =
     ∙ u .plan
 
 -- the district at the front, as it is held
-held-front : (xs : List DistrictRecord) (d : District) (l : Line) → map districtOf xs ≡ d ∷ l → (x : DistrictRecord) × List·Memᴰ x xs × (districtOf x ≡ d)
+held-front : (xs : List DistrictRecord) (d : District) (l : Line) → map districtOf xs ≡ d ∷ l
+    → (x : DistrictRecord) × List·Memᴰ x xs × (districtOf x ≡ d)
 held-front [] d l e = (let n = ap length e in absurd (omega arith))
 held-front (x ∷ xs) d l e = (x, List·Memᴰ·head refl, ap (λ (y : Line). getD y 0 d) e)
 
-pub front-accepted : (m : Machine) → IsSound m → (d : District) (l : Line) → lineOf m ≡ d ∷ l → (places : ℕ) → sheetPlaces ≤ places → callRefusal (d .bytes) (d .budget) places ≡ none
+pub front-accepted : (m : Machine) → IsSound m → (d : District) (l : Line) → lineOf m ≡ d ∷ l → (places : ℕ) → sheetPlaces ≤ places
+    → callRefusal (d .bytes) (d .budget) places ≡ none
 front-accepted m h d l e places s =
     let f = held-front _ d l e in
     ap (λ (d : District). callRefusal (d .bytes) (d .budget) places) (sym (f .2)) ∙ call-accepted (f .0) (h .each (f .0) (f .1)) places s
 
 -- its turn
-module _ (m : Machine) (old new : List ℕ) (r : Turned) (t : IsTurned m old new r) (d : District) (l : Line) (e : lineOf m ≡ d ∷ l) (long : sheetPlaces ≤ length old) where
+module _ (m : Machine) (old new : List ℕ) (r : Turned) (t : IsTurned m old new r) (d : District) (l : Line) (e : lineOf m ≡ d ∷ l)
+    (long : sheetPlaces ≤ length old) where
   same : (f : DistrictRecord) (ds : List DistrictRecord) → waitingIn m ≡ f ∷ ds → districtOf f ≡ d
   same f ds w = ap (λ (y : Line). getD y 0 d) (sym (ap (λ (x : List DistrictRecord). map districtOf x) w) ∙ e)
 
@@ -54,20 +59,28 @@ module _ (m : Machine) (old new : List ℕ) (r : Turned) (t : IsTurned m old new
   front-turn (no-one z k) = (let n = ap length (sym z ∙ e) in absurd (omega arith))
   front-turn (too-short f ds w s k) = absurd (omega arith)
   front-turn (going f ds w s u q k) = subst (λ (d : District). IsServed d old new r) (same f ds w) (record {
-    going = λ g. (t .outcome ∙ ap outcomeOf k, t .planned ∙ ap answerOf k ∙ (λ i. soFar (cost-now f u q i) (tried-now f u q i)), t .sheet ∙ ap (λ (x : Meeting). sheetAfter x old) k);
+    going = λ g. (
+      t .outcome ∙ ap outcomeOf k,
+      t .planned ∙ ap answerOf k ∙ (λ i. soFar (cost-now f u q i) (tried-now f u q i)),
+      t .sheet
+          ∙ ap (λ (x : Meeting). sheetAfter x old) k,
+    );
     last = λ g. absurd (clash (finishes (districtOf f)) g q);
   })
   front-turn (last f ds w s u q k) = subst (λ (d : District). IsServed d old new r) (same f ds w) (record {
     going = λ g. absurd (clash (finishes (districtOf f)) q g);
     last = λ g. (
       t .outcome ∙ ap outcomeOf k,
-      subst⁻¹ (λ (x : Planned). IsPlanned (planOf (bytesOf f)) (f .budget) none old new x) (t .planned ∙ ap answerOf k) (last-planned f u q old new (t .sheet ∙ ap (λ (x : Meeting). sheetAfter x old) k)),
+      subst⁻¹ (λ (x : Planned). IsPlanned (planOf (bytesOf f)) (f .budget) none old new x) (t .planned ∙ ap answerOf k)
+          (last-planned f u q old new (t .sheet ∙ ap (λ (x : Meeting). sheetAfter x old) k)),
     );
   })
 
 -- its answer is the plan call's
-pub as-call : (bytes bytes′ : List ℕ) (budget budget′ : ℕ) (old new new′ : List ℕ) (r s : Planned) → bytes ≡ bytes′ → budget ≡ budget′ → callRefusal bytes budget (length old) ≡ none
+pub as-call : (bytes bytes′ : List ℕ) (budget budget′ : ℕ) (old new new′ : List ℕ) (r s : Planned) → bytes ≡ bytes′ → budget ≡ budget′
+    → callRefusal bytes budget (length old) ≡ none
     → IsPlanned (planOf bytes) budget none old new r → IsPlanCall bytes′ budget′ old new′ s → SameAnswer r s × (new ≡ new′)
 as-call bytes bytes′ budget budget′ old new new′ r s eb en good h g =
-    let g′ : IsPlanCall bytes budget old new′ s = subst⁻¹ (λ (b : List ℕ). IsPlanCall b budget old new′ s) eb (subst⁻¹ (λ (n : ℕ). IsPlanCall bytes′ n old new′ s) en g) in
+    let g′ : IsPlanCall bytes budget old new′ s =
+    subst⁻¹ (λ (b : List ℕ). IsPlanCall b budget old new′ s) eb (subst⁻¹ (λ (n : ℕ). IsPlanCall bytes′ n old new′ s) en g) in
     same-answer (planOf bytes) budget old new new′ r s none h (planned-as _ _ _ _ _ _ _ _ refl good (g′ .planned))

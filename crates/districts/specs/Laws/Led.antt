@@ -1,4 +1,5 @@
--- Machines that entries and turns lead to. By the contracts each step's line is the definition's, so that a machine's line is its run's, and what runs promise holds of the calls.
+-- Machines that entries and turns lead to. By the contracts each step's line is the definition's, so that a machine's line is its
+-- run's, and what runs promise holds of the calls.
 use mathlib.Core.Path.{_≡_, refl, sym, ap, _∙_, subst, subst⁻¹}
 use mathlib.Core.Logic.{inl, inr}
 use mathlib.Core.Bool.{Bool, true, false, not, cond, _&&_}
@@ -63,7 +64,8 @@ module _ (m : Machine) (sheet : ℕ) where
   -- THE LINE AFTER IT
   pub met-line : Met m sheet → lineOf (afterTurn m (meeting m sheet)) ≡ stepped (lineOf m)
   met-line (no-one e k) = ap (λ (x : Meeting). lineOf (afterTurn m x)) k ∙ e ∙ sym (ap stepped e ∙ stays [] none-accepted)
-  met-line (too-short f ds e s k) = ap (λ (x : Meeting). lineOf (afterTurn m x)) k ∙ line-by f ds e ∙ sym (ap stepped (line-by f ds e) ∙ stays _ (short-not _ _ s))
+  met-line (too-short f ds e s k) =
+      ap (λ (x : Meeting). lineOf (afterTurn m x)) k ∙ line-by f ds e ∙ sym (ap stepped (line-by f ds e) ∙ stays _ (short-not _ _ s))
   met-line (going f ds e s u q k) =
       ap (λ (x : Meeting). lineOf (afterTurn m x)) k
       ∙ line-is (ds ++ heldNow f (reachedNow f) ∷ [])
@@ -71,14 +73,18 @@ module _ (m : Machine) (sheet : ℕ) where
       ∙ ap (λ (y : District). map districtOf ds ++ y ∷ []) (gone-on f u q)
       ∙ sym (ap stepped (line-by f ds e) ∙ turns _ (long-is _ _ s) ∙ turn-goes (districtOf f) (map districtOf ds) q)
   met-line (last f ds e s u q k) =
-      ap (λ (x : Meeting). lineOf (afterTurn m x)) k ∙ line-is ds ∙ sym (ap stepped (line-by f ds e) ∙ turns _ (long-is _ _ s) ∙ turn-leaves (districtOf f) (map districtOf ds) q)
+      ap (λ (x : Meeting). lineOf (afterTurn m x)) k ∙ line-is ds
+      ∙ sym (ap stepped (line-by f ds e) ∙ turns _ (long-is _ _ s) ∙ turn-leaves (districtOf f) (map districtOf ds) q)
 
   -- AN ANSWERED TURN IS AN ACCEPTED ONE, and of the front district
   pub met-answered : Met m sheet → hadTurn (outcomeOf (meeting m sheet)) ≡ isAccepted (lineOf m) sheet
   met-answered (no-one e k) = ap (λ (x : Meeting). hadTurn (outcomeOf x)) k ∙ sym (ap (λ (l : Line). isAccepted l sheet) e ∙ none-accepted)
-  met-answered (too-short f ds e s k) = ap (λ (x : Meeting). hadTurn (outcomeOf x)) k ∙ sym (ap (λ (l : Line). isAccepted l sheet) (line-by f ds e) ∙ short-not _ _ s)
-  met-answered (going f ds e s u q k) = ap (λ (x : Meeting). hadTurn (outcomeOf x)) k ∙ sym (ap (λ (l : Line). isAccepted l sheet) (line-by f ds e) ∙ long-is _ _ s)
-  met-answered (last f ds e s u q k) = ap (λ (x : Meeting). hadTurn (outcomeOf x)) k ∙ sym (ap (λ (l : Line). isAccepted l sheet) (line-by f ds e) ∙ long-is _ _ s)
+  met-answered (too-short f ds e s k) =
+      ap (λ (x : Meeting). hadTurn (outcomeOf x)) k ∙ sym (ap (λ (l : Line). isAccepted l sheet) (line-by f ds e) ∙ short-not _ _ s)
+  met-answered (going f ds e s u q k) =
+      ap (λ (x : Meeting). hadTurn (outcomeOf x)) k ∙ sym (ap (λ (l : Line). isAccepted l sheet) (line-by f ds e) ∙ long-is _ _ s)
+  met-answered (last f ds e s u q k) =
+      ap (λ (x : Meeting). hadTurn (outcomeOf x)) k ∙ sym (ap (λ (l : Line). isAccepted l sheet) (line-by f ds e) ∙ long-is _ _ s)
 
   abbrev of : ℕ → Line → Bool
   of x l = isAccepted l sheet && servesPlace l x
@@ -92,13 +98,15 @@ module _ (m : Machine) (sheet : ℕ) where
 
   pub met-of : (x : ℕ) → Met m sheet → isOf x (outcomeOf (meeting m sheet)) ≡ of x (lineOf m)
   met-of x (no-one e k) = ap (λ (y : Meeting). isOf x (outcomeOf y)) k ∙ sym (ap (of x) e ∙ of-none x [] none-accepted)
-  met-of x (too-short f ds e s k) = ap (λ (y : Meeting). isOf x (outcomeOf y)) k ∙ sym (ap (of x) (line-by f ds e) ∙ of-none x _ (short-not _ _ s))
+  met-of x (too-short f ds e s k) =
+      ap (λ (y : Meeting). isOf x (outcomeOf y)) k ∙ sym (ap (of x) (line-by f ds e) ∙ of-none x _ (short-not _ _ s))
   met-of x (going f ds e s u q k) = ap (λ (y : Meeting). isOf x (outcomeOf y)) k ∙ sym (ap (of x) (line-by f ds e) ∙ of-front x _ _ s)
   met-of x (last f ds e s u q k) = ap (λ (y : Meeting). isOf x (outcomeOf y)) k ∙ sym (ap (of x) (line-by f ds e) ∙ of-front x _ _ s)
 
   -- IT STAYS SOUND
   module _ (h : IsSound m) where
-    under-way : (f : DistrictRecord) (ds : List DistrictRecord) → waitingIn m ≡ f ∷ ds → (d : DistrictRecord) → List·Memᴰ d ds → IsUnderWay d
+    under-way : (f : DistrictRecord) (ds : List DistrictRecord) → waitingIn m ≡ f ∷ ds → (d : DistrictRecord) → List·Memᴰ d ds
+        → IsUnderWay d
     under-way f ds e d x = h .each d (subst⁻¹ (λ (y : List DistrictRecord). List·Memᴰ d y) e (List·Memᴰ·tail x))
 
     number : (f : DistrictRecord) (ds : List DistrictRecord) → waitingIn m ≡ f ∷ ds → length ds + 1 ≤ 8
@@ -114,11 +122,13 @@ module _ (m : Machine) (sheet : ℕ) where
     met-sound (going f ds e s u q k) =
         let a = length-append ds (heldNow f (reachedNow f) ∷ []) in
         let b = number f ds e in
-        subst⁻¹ (λ (x : Meeting). IsSound (afterTurn m x)) k (sound-of (ds ++ heldNow f (reachedNow f) ∷ []) (omega arith) (λ d y. elim (List·Memᴰ·append-cases ds y) [
+        subst⁻¹ (λ (x : Meeting). IsSound (afterTurn m x)) k
+        (sound-of (ds ++ heldNow f (reachedNow f) ∷ []) (omega arith) (λ d y. elim (List·Memᴰ·append-cases ds y) [
           | inl i ↦ under-way f ds e d i
           | inr o ↦ elim (List·Memᴰ·cases-cons o) [ inl w ↦ subst⁻¹ IsUnderWay w (still-under-way f u q) | inr z ↦ elim z [ ] ]
         ]))
-    met-sound (last f ds e s u q k) = let b = number f ds e in subst⁻¹ (λ (x : Meeting). IsSound (afterTurn m x)) k (sound-of ds (omega arith) (under-way f ds e))
+    met-sound (last f ds e s u q k) = let b = number f ds e in
+        subst⁻¹ (λ (x : Meeting). IsSound (afterTurn m x)) k (sound-of ds (omega arith) (under-way f ds e))
 
 -- ---- runs
 
@@ -134,8 +144,11 @@ unfolding LedFrom runFrom step
 led [] m h = (ap (λ (x : Machine). lineOf x) h ∙ line-is [], subst⁻¹ IsSound h empty-sound)
 led (entry bytes budget ∷ es) m h =
     let i = led es (h .0) (h .2) in
-    let e : m ≡ afterEntry (h .0) bytes budget = sym (h .4) ∙ h .3 .machine in
-    (ap (λ (x : Machine). lineOf x) e ∙ entry-line (h .0) bytes budget ∙ ap (λ (l : Line). enter l bytes budget) (i .0), subst⁻¹ IsSound e (entry-sound (h .0) (i .1) bytes budget))
+    let e : m ≡ afterEntry (h .0) bytes budget = sym (h .4) ∙ h .3 .machine in (
+      ap (λ (x : Machine). lineOf x) e ∙ entry-line (h .0) bytes budget
+          ∙ ap (λ (l : Line). enter l bytes budget) (i .0),
+      subst⁻¹ IsSound e (entry-sound (h .0) (i .1) bytes budget),
+    )
 led (turned sheet ∷ es) m h =
     let i = led es (h .0) (h .4) in
     let b = h .0 in

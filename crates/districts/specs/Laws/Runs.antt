@@ -1,5 +1,6 @@
--- Over runs, by induction on the events. What is known of a line that a run from the empty machine leads to: at most eight districts, at places below 8 that are apart; each has the plan and the
--- budget of the last entry that was answered its place, has tried 1,000 trees in each of its turns since, and is not finished.
+-- Over runs, by induction on the events. What is known of a line that a run from the empty machine leads to: at most eight districts, at
+-- places below 8 that are apart; each has the plan and the budget of the last entry that was answered its place, has tried 1,000 trees in
+-- each of its turns since, and is not finished.
 use mathlib.Core.Path.{_≡_, refl, sym, ap, _∙_, subst, subst⁻¹}
 use mathlib.Core.Logic.{_≢_, inl, inr}
 use mathlib.Core.Bool.{Bool, true, false, not, cond, _&&_}
@@ -29,17 +30,21 @@ front-served {d} l w = at (w .ahead) (w .line) (w .number)
 
 -- one event, which is no turn of d: those ahead of it are fewer by the turn, if it is one
 module _ {d : District} (l : Line) where
-  waits-step : (i : ℕ) (e : Event) → Waits l i d → T (not (isTurnOf (d .place) l e)) → (cond (isTurn l e) 1 0 ≤ i) × Waits (step l e) (i - cond (isTurn l e) 1 0) d
+  waits-step : (i : ℕ) (e : Event) → Waits l i d → T (not (isTurnOf (d .place) l e))
+      → (cond (isTurn l e) 1 0 ≤ i) × Waits (step l e) (i - cond (isTurn l e) 1 0) d
   unfolding isTurn step
-  waits-step i (entry bytes budget) w never = (omega arith, subst (λ n. Waits (enter l bytes budget) n d) (let e : i ≡ i - 0 = omega arith in e) (waits-entry l bytes budget w))
+  waits-step i (entry bytes budget) w never =
+      (omega arith, subst (λ n. Waits (enter l bytes budget) n d) (let e : i ≡ i - 0 = omega arith in e) (waits-entry l bytes budget w))
   waits-step i (turned sheet) w never = at i (isAccepted l sheet) w never
     where
-      at : (i : ℕ) (b : Bool) → Waits l i d → T (not (b && servesPlace l (d .place))) → (cond b 1 0 ≤ i) × Waits (cond b (turn l) l) (i - cond b 1 0) d
+      at : (i : ℕ) (b : Bool) → Waits l i d → T (not (b && servesPlace l (d .place)))
+          → (cond b 1 0 ≤ i) × Waits (cond b (turn l) l) (i - cond b 1 0) d
       at i false w never = (omega arith, subst (λ n. Waits l n d) (let e : i ≡ i - 0 = omega arith in e) w)
       at zero true w never = absurd (T-not (servesPlace l (d .place)) never (front-served l w))
       at (suc i) true w never = (omega arith, subst (λ n. Waits (turn l) n d) (let e : i ≡ suc i - 1 = omega arith in e) (waits-turn l w))
 
-pub waits-run : {d : District} (l : Line) (i : ℕ) → Waits l i d → (es : List Event) → NoTurnOf (d .place) l es → (turnsIn l es ≤ i) × Waits (runFrom l es) (i - turnsIn l es) d
+pub waits-run : {d : District} (l : Line) (i : ℕ) → Waits l i d → (es : List Event) → NoTurnOf (d .place) l es
+    → (turnsIn l es ≤ i) × Waits (runFrom l es) (i - turnsIn l es) d
 unfolding NoTurnOf turnsIn runFrom
 waits-run {d} l i w [] never = (omega arith, subst (λ n. Waits l n d) (let e : i ≡ i - 0 = omega arith in e) w)
 waits-run {d} l i w (e ∷ es) never =
@@ -47,15 +52,25 @@ waits-run {d} l i w (e ∷ es) never =
     let s = waits-step (runFrom l es) (i - turnsIn l es) e (r .1) (never .0) in
     let x : ℕ = cond (isTurn (runFrom l es) e) 1 0 in
     let a = s .0 in
-    let b = r .0 in
-    (omega arith, subst (λ n. Waits (runFrom l (e ∷ es)) n d) (let q : i - turnsIn l es - x ≡ i - (x + turnsIn l es) = omega arith in q) (s .1))
+    let b = r .0 in (
+      omega arith,
+      subst (λ n. Waits (runFrom l (e ∷ es)) n d) (let q : i - turnsIn l es - x ≡ i - (x + turnsIn l es) = omega arith in q) (s .1),
+    )
 
 -- one that is in the line waits in it
 pub waits-in : (l : Line) (d : District) → List·Memᴰ d l → (i : ℕ) × Waits l i d
 waits-in [] d m = elim m [ ]
 waits-in (x ∷ l) d m = elim (List·Memᴰ·cases-cons m) [
   | inl e ↦ (0, record { ahead = []; behind = l; line = ap (λ (y : District). y ∷ l) (sym e); number = refl })
-  | inr k ↦ (let r = waits-in l d k in (suc (r .0), record { ahead = x ∷ r .1 .ahead; behind = r .1 .behind; line = ap (λ (y : Line). x ∷ y) (r .1 .line); number = ap suc (r .1 .number) }))
+  | inr k ↦ (let r = waits-in l d k in (
+    suc (r .0),
+    record {
+      ahead = x ∷ r .1 .ahead;
+      behind = r .1 .behind;
+      line = ap (λ (y : Line). x ∷ y) (r .1 .line);
+      number = ap suc (r .1 .number);
+    },
+  ))
 ]
 
 -- ---- what is known of a line
@@ -88,7 +103,8 @@ and-false false = refl
 
 module _ (last : ℕ → Entry) (n : ℕ → ℕ) where
   -- as it was, for a district that does not enter and has no turn
-  stays : (l : Line) (e : Event) (d : District) → entersAt (d .place) l e ≡ false → isTurnOf (d .place) l e ≡ false → Known (last (d .place)) (n (d .place)) d
+  stays : (l : Line) (e : Event) (d : District) → entersAt (d .place) l e ≡ false → isTurnOf (d .place) l e ≡ false
+      → Known (last (d .place)) (n (d .place)) d
       → Known (lastNow last l e (d .place)) (turnsNow n l e (d .place)) d
   stays l e d a b k = rw (a, b) (subst (λ m. Known (last (d .place)) m d) (let q : n (d .place) ≡ 0 + n (d .place) = omega arith in q) k)
 
@@ -118,14 +134,25 @@ module _ (last : ℕ → Entry) (n : ℕ → ℕ) where
 
     entered : entryRefusal l bytes budget ≡ none → Known (lastNow last l e (lowestFree l)) (turnsNow n l e (lowestFree l)) x
     unfolding entryOf
-    entered g = rw (accepted-there g) (record { small = free-small l (room l bytes budget g); bytes-are = refl; budget-is = refl; tried-are = refl; unfinished = some-total l bytes budget g })
+    entered g = rw (accepted-there g)
+        (record {
+          small = free-small l (room l bytes budget g);
+          bytes-are = refl;
+          budget-is = refl;
+          tried-are = refl;
+          unfinished = some-total l bytes budget g;
+        })
 
     entry-kept : InOrder (lastNow last l e) (turnsNow n l e) (enter l bytes budget)
     entry-kept = at (entryRefusal l bytes budget) refl
       where
         at : (o : Option ℕ) → entryRefusal l bytes budget ≡ o → InOrder (lastNow last l e) (turnsNow n l e) (enter l bytes budget)
         at (some r) g = subst⁻¹ (λ (y : Line). InOrder (lastNow last l e) (turnsNow n l e) y) (enter-refused l bytes budget r g)
-            (record { short = h .short; apart = h .apart; each = λ d m. stays l e d (refused-not r (d .place) g) (entry-no-turn (d .place)) (h .each d m) })
+            (record {
+              short = h .short;
+              apart = h .apart;
+              each = λ d m. stays l e d (refused-not r (d .place) g) (entry-no-turn (d .place)) (h .each d m);
+            })
         at none g = subst⁻¹ (λ (y : Line). InOrder (lastNow last l e) (turnsNow n l e) y) (enter-accepted l bytes budget g)
             (let few = room l bytes budget g in
             record {
@@ -146,7 +173,8 @@ module _ (last : ℕ → Entry) (n : ℕ → ℕ) where
   unfolding isTurn
   no-turn l sheet q g = rw g refl
 
-  idle-kept : (l : Line) (sheet : ℕ) → isAccepted l sheet ≡ false → InOrder last n l → InOrder (lastNow last l (turned sheet)) (turnsNow n l (turned sheet)) l
+  idle-kept : (l : Line) (sheet : ℕ) → isAccepted l sheet ≡ false → InOrder last n l
+      → InOrder (lastNow last l (turned sheet)) (turnsNow n l (turned sheet)) l
   idle-kept l sheet g h = record {
     short = h .short;
     apart = h .apart;
@@ -196,7 +224,8 @@ module _ (last : ℕ → Entry) (n : ℕ → ℕ) where
           apart = apart-more l (goneOn f) (apart-front .1) (apart-front .0);
           each = λ d m. elim (last-cases l m) [
             | inl i ↦ behind d i
-            | inr y ↦ subst⁻¹ (λ (d : District). Known (lastNow last (f ∷ l) t (d .place)) (turnsNow n (f ∷ l) t (d .place)) d) y (went-on (subst⁻¹ (λ (b : Bool). T (not b)) q tt))
+            | inr y ↦ subst⁻¹ (λ (d : District). Known (lastNow last (f ∷ l) t (d .place)) (turnsNow n (f ∷ l) t (d .place)) d) y
+                (went-on (subst⁻¹ (λ (b : Bool). T (not b)) q tt))
           ];
         }
 
@@ -209,12 +238,14 @@ module _ (last : ℕ → Entry) (n : ℕ → ℕ) where
   step-kept l (entry bytes budget) h = entry-kept l bytes budget h
   step-kept [] (turned sheet) h = at (isAccepted [] sheet) refl
     where
-      at : (b : Bool) → isAccepted [] sheet ≡ b → InOrder (lastNow last [] (turned sheet)) (turnsNow n [] (turned sheet)) (cond b (turn []) [])
+      at : (b : Bool) → isAccepted [] sheet ≡ b
+          → InOrder (lastNow last [] (turned sheet)) (turnsNow n [] (turned sheet)) (cond b (turn []) [])
       at true q = absurd (subst T (sym q ∙ none-accepted sheet) tt)
       at false q = idle-kept [] sheet q h
   step-kept (f ∷ l) (turned sheet) h = at (isAccepted (f ∷ l) sheet) refl
     where
-      at : (b : Bool) → isAccepted (f ∷ l) sheet ≡ b → InOrder (lastNow last (f ∷ l) (turned sheet)) (turnsNow n (f ∷ l) (turned sheet)) (cond b (turn (f ∷ l)) (f ∷ l))
+      at : (b : Bool) → isAccepted (f ∷ l) sheet ≡ b
+          → InOrder (lastNow last (f ∷ l) (turned sheet)) (turnsNow n (f ∷ l) (turned sheet)) (cond b (turn (f ∷ l)) (f ∷ l))
       at true q = turn-kept f l sheet q h
       at false q = idle-kept (f ∷ l) sheet q h
 

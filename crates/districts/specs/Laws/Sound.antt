@@ -1,5 +1,6 @@
--- Machines that entries and turns lead to: each district holds the best of the trees that it has tried. So its front district can be gone on with, its turn is its last one or leaves it with 1,000 trees more, and the line
--- then is the definition's, by cases on whether it finishes.
+-- Machines that entries and turns lead to: each district holds the best of the trees that it has tried. So its front
+-- district can be gone on with, its turn is its last one or leaves it with 1,000 trees more, and the line then is the
+-- definition's, by cases on whether it finishes.
 use mathlib.Core.Path.{_≡_, refl, sym, ap, _∙_, subst, subst⁻¹}
 use mathlib.Core.Logic.{inl, inr}
 use mathlib.Core.Bool.{Bool, true, false, not}
@@ -79,11 +80,15 @@ sound-of ds few h = record {
 
 same-cost : (p : Plan) (budget : ℕ) → bestCost p (triedCount p budget) ≡ bestCost p budget
 unfolding bestCost triedCount
-same-cost p budget = ap (λ n. minimum (map (completionCost p) (take n (arborescences p)))) (let e : min (min budget (arborescenceCount p)) (arborescenceCount p) ≡ min budget (arborescenceCount p) = omega arith in e)
+same-cost p budget =
+    ap (λ n. minimum (map (completionCost p) (take n (arborescences p))))
+    (let e : min (min budget (arborescenceCount p)) (arborescenceCount p) ≡ min budget (arborescenceCount p) = omega arith in e)
 
 same-tree : (p : Plan) (budget : ℕ) → bestArborescence p (triedCount p budget) ≡ bestArborescence p budget
 unfolding bestArborescence triedCount
-same-tree p budget = ap (λ n. argmin (completionCost p) [] (take n (arborescences p))) (let e : min (min budget (arborescenceCount p)) (arborescenceCount p) ≡ min budget (arborescenceCount p) = omega arith in e)
+same-tree p budget =
+    ap (λ n. argmin (completionCost p) [] (take n (arborescences p)))
+    (let e : min (min budget (arborescenceCount p)) (arborescenceCount p) ≡ min budget (arborescenceCount p) = omega arith in e)
 
 -- ---- a district under way
 
@@ -112,9 +117,12 @@ module _ (d : DistrictRecord) (u : IsUnderWay d) where
     | yes e ↦ holding-first p g e
     | no o ↦ (let one : 1 ≤ g .tried = omega (arith, o) in
         let l = u .reached .links-are one in
-        let c : g .cost ≡ completionCost p (linksBy p g) = u .reached .cost-is one ∙ sym (best-value p (g .tried) one (some-arborescence p ok)) ∙ ap (completionCost p) (sym l) in
+        let c : g .cost ≡ completionCost p (linksBy p g) =
+        u .reached .cost-is one ∙ sym (best-value p (g .tried) one (some-arborescence p ok)) ∙ ap (completionCost p) (sym l) in
         holding-later p g o
-        ∙ and-yes (isTree p (linksBy p g)) (eqb (g .cost) (completionCost p (linksBy p g))) (is-true (of-arborescence p (linksBy p g) (bounded wf .ends) (subst⁻¹ (IsArborescence p) l (best-tree p ok few8 (g .tried) one))))
+        ∙ and-yes (isTree p (linksBy p g)) (eqb (g .cost) (completionCost p (linksBy p g)))
+        (is-true (of-arborescence p (linksBy p g) (bounded wf .ends)
+        (subst⁻¹ (IsArborescence p) l (best-tree p ok few8 (g .tried) one))))
         (eq-eqb (g .cost) (completionCost p (linksBy p g)) c))
   ]
 
@@ -122,26 +130,31 @@ module _ (d : DistrictRecord) (u : IsUnderWay d) where
   unfolding isGood
   served =
       and-yes (isReadable d) (canGoOn p (d .budget) g) (readable d (u .fits) (u .some-budget) (u .most-budget) (u .file))
-      (and-yes (isGood (planRefusal p)) (isResumable p (d .budget) g) (ap isGood (u .plan)) (and-yes (isHolding p g) (ltb (g .tried) (triedCount p (d .budget))) holding (lt-ltb (g .tried) (triedCount p (d .budget)) below)))
+      (and-yes (isGood (planRefusal p)) (isResumable p (d .budget) g) (ap isGood (u .plan))
+      (and-yes (isHolding p g) (ltb (g .tried) (triedCount p (d .budget))) holding
+      (lt-ltb (g .tried) (triedCount p (d .budget)) below)))
 
   abbrev n : ℕ
   n = g .tried + min 1000 (triedCount p (d .budget) - g .tried)
 
   best : (heldAfter p (d .budget) g .cost ≡ bestCost p n) × (heldAfter p (d .budget) g .links ≡ bestArborescence p n)
-  best = let t = tried-few p ok (d .budget) in let b = below in best-after p ok g (min 1000 (triedCount p (d .budget) - g .tried)) (omega arith) (omega arith) (u .reached)
+  best = let t = tried-few p ok (d .budget) in let b = below in
+      best-after p ok g (min 1000 (triedCount p (d .budget) - g .tried)) (omega arith) (omega arith) (u .reached)
 
   pub last-is : isLast p (d .budget) g ≡ finishes (districtOf d)
   unfolding finishes total
   last-is = refl
 
   -- ITS LAST TURN
-  pub last-planned : finishes (districtOf d) ≡ true → (old new : List ℕ) → new ≡ lastSheet p (d .budget) g old → IsPlanned p (d .budget) none old new (lastAnswer p (d .budget) g)
+  pub last-planned : finishes (districtOf d) ≡ true → (old new : List ℕ) → new ≡ lastSheet p (d .budget) g old
+      → IsPlanned p (d .budget) none old new (lastAnswer p (d .budget) g)
   unfolding finishes total
   last-planned f old new h =
       let b = below in
       let l = leb-true (triedCount p (d .budget)) (g .tried + 1000) f in
       let e : n ≡ triedCount p (d .budget) = omega arith in
-      concluded-best p ok few8 (d .budget) (u .some-budget) (heldAfter p (d .budget) g .links) (heldAfter p (d .budget) g .cost) (triedCount p (d .budget)) (isWhole p (d .budget)) old new
+      concluded-best p ok few8 (d .budget) (u .some-budget) (heldAfter p (d .budget) g .links) (heldAfter p (d .budget) g .cost)
+      (triedCount p (d .budget)) (isWhole p (d .budget)) old new
       (best .1 ∙ ap (bestArborescence p) e ∙ same-tree p (d .budget)) (best .0 ∙ ap (bestCost p) e ∙ same-cost p (d .budget)) refl refl h
 
   -- ANOTHER ONE
@@ -197,7 +210,9 @@ module _ (m : Machine) (h : IsSound m) (bytes : List ℕ) (budget : ℕ) where
         some-budget = one .0;
         most-budget = one .1;
         plan = subst⁻¹ (λ (b : List ℕ). planRefusal (planOf b) ≡ none) same (plan-good (lineOf m) bytes budget e);
-        unfinished = subst⁻¹ (λ (d : District). 0 < total d) (entrant-is (lowestFree (lineOf m)) bytes budget) (some-total (lineOf m) bytes budget e);
+        unfinished =
+            subst⁻¹ (λ (d : District). 0 < total d) (entrant-is (lowestFree (lineOf m)) bytes budget)
+            (some-total (lineOf m) bytes budget e);
         reached = record { within = omega arith; cost-is = λ o. absurd (omega arith); links-are = λ o. absurd (omega arith) };
       }
 
@@ -210,7 +225,8 @@ module _ (m : Machine) (h : IsSound m) (bytes : List ℕ) (budget : ℕ) where
           let r = line.room (lineOf m) bytes budget f in
           let a = length-append (waitingIn m) (x ∷ []) in
           let b = length-map (waitingIn m) districtOf in
-          subst⁻¹ IsSound (entry-moves m bytes budget f) (sound-of (waitingIn m ++ x ∷ []) (omega arith) (λ d y. elim (List·Memᴰ·append-cases (waitingIn m) y) [
+          subst⁻¹ IsSound (entry-moves m bytes budget f)
+          (sound-of (waitingIn m ++ x ∷ []) (omega arith) (λ d y. elim (List·Memᴰ·append-cases (waitingIn m) y) [
             | inl i ↦ h .each d i
             | inr o ↦ elim (List·Memᴰ·cases-cons o) [
               | inl q ↦ subst⁻¹ IsUnderWay q (entrant-under-way f (short-file bytes budget (call-part bytes budget (lineOf m) f)))
@@ -223,9 +239,12 @@ module _ (m : Machine) (h : IsSound m) (bytes : List ℕ) (budget : ℕ) where
 -- What a turn meets in a sound machine whose places are apart and below 8.
 pub data Met (m : Machine) (sheet : ℕ) : Type 0 where
   no-one : lineOf m ≡ [] → meeting m sheet ≡ nobody → Met m sheet
-  too-short : (f : DistrictRecord) (ds : List DistrictRecord) → waitingIn m ≡ f ∷ ds → sheet < sheetPlaces → meeting m sheet ≡ shortSheet → Met m sheet
-  going : (f : DistrictRecord) (ds : List DistrictRecord) → waitingIn m ≡ f ∷ ds → sheetPlaces ≤ sheet → IsUnderWay f → finishes (districtOf f) ≡ false → meeting m sheet ≡ goesOn f ds → Met m sheet
-  last : (f : DistrictRecord) (ds : List DistrictRecord) → waitingIn m ≡ f ∷ ds → sheetPlaces ≤ sheet → IsUnderWay f → finishes (districtOf f) ≡ true → meeting m sheet ≡ leaves f ds → Met m sheet
+  too-short : (f : DistrictRecord) (ds : List DistrictRecord) → waitingIn m ≡ f ∷ ds → sheet < sheetPlaces → meeting m sheet ≡ shortSheet
+      → Met m sheet
+  going : (f : DistrictRecord) (ds : List DistrictRecord) → waitingIn m ≡ f ∷ ds → sheetPlaces ≤ sheet → IsUnderWay f
+      → finishes (districtOf f) ≡ false → meeting m sheet ≡ goesOn f ds → Met m sheet
+  last : (f : DistrictRecord) (ds : List DistrictRecord) → waitingIn m ≡ f ∷ ds → sheetPlaces ≤ sheet → IsUnderWay f
+      → finishes (districtOf f) ≡ true → meeting m sheet ≡ leaves f ds → Met m sheet
 
 abbrev pub InPlace : Line → Type 0
 InPlace l = Apart l × ((d : District) → List·Memᴰ d l → d .place < 8)
@@ -236,7 +255,8 @@ own-place f ds i =
     let free : occurs (f .place) (places (map districtOf ds)) ≡ false = is-false (λ t.
     let r = map-mem (λ (d : District). d .place) (map districtOf ds) (occurs-mem (f .place) (places (map districtOf ds)) t) in
     i .0 .0 (r .0) (r .1) (sym (r .2))) in
-    and-yes (ltb (f .place) 8) (not (occurs (f .place) (places (map districtOf ds)))) (lt-ltb (f .place) 8 (i .1 (districtOf f) (List·Memᴰ·head refl))) (ap not free)
+    and-yes (ltb (f .place) 8) (not (occurs (f .place) (places (map districtOf ds))))
+    (lt-ltb (f .place) 8 (i .1 (districtOf f) (List·Memᴰ·head refl))) (ap not free)
 
 pub meets : (m : Machine) (sheet : ℕ) → IsSound m → InPlace (lineOf m) → Met m sheet
 unfolding meetingIn

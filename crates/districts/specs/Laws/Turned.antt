@@ -30,7 +30,8 @@ use Rattle.postman.specs.Laws.Tests.{and-parts, of-true}
 use Rattle.districts.specs.Turned.{planBy, hasOwnPlace, isReadable, canBeServed, Meeting, nobody, shortSheet, stuck, goesOn, leaves, meetingIn, meeting, heldNow, afterTurn, outcomeOf, answerOf, sheetAfter, IsAfter, IsTurned}
 
 -- from what is met to what is promised
-pub turned-as : (m : Machine) (old new : List ℕ) (r : Turned) (k : Meeting) → meeting m (length old) ≡ k → r .outcome ≡ outcomeOf k → r .planned ≡ answerOf k → r .machine ≡ afterTurn m k → new ≡ sheetAfter k old
+pub turned-as : (m : Machine) (old new : List ℕ) (r : Turned) (k : Meeting) → meeting m (length old) ≡ k → r .outcome ≡ outcomeOf k
+    → r .planned ≡ answerOf k → r .machine ≡ afterTurn m k → new ≡ sheetAfter k old
     → IsTurned m old new r
 turned-as m old new r k e a b c d = record {
   outcome = a ∙ ap outcomeOf (sym e);
@@ -87,8 +88,10 @@ module _ (m : Machine) (f : DistrictRecord) (ds : List DistrictRecord) (ahead : 
 and-of : (b c : Bool) → b ≡ true → (b && c) ≡ c
 and-of b c e = ap (λ (x : Bool). x && c) e
 
-module _ (m : Machine) (f : DistrictRecord) (ds : List DistrictRecord) (ahead : waitingIn m ≡ f ∷ ds) (few : m .waiting ≤ 8) (old new : List ℕ) (enough : sheetPlaces ≤ length old) where
-  pub served-turned : (s : Stint) (others : Machine) (r : Turned) → hasOwnPlace f ds ≡ true → IsStint (planBy f) (f .budget) (f .held) (canBeServed f) old new s → s .good ≡ true
+module _ (m : Machine) (f : DistrictRecord) (ds : List DistrictRecord) (ahead : waitingIn m ≡ f ∷ ds) (few : m .waiting ≤ 8)
+    (old new : List ℕ) (enough : sheetPlaces ≤ length old) where
+  pub served-turned : (s : Stint) (others : Machine) (r : Turned) → hasOwnPlace f ds ≡ true
+      → IsStint (planBy f) (f .budget) (f .held) (canBeServed f) old new s → s .good ≡ true
       → others ≡ machineOf ds → IsAfter others f s r → IsTurned m old new r
   served-turned s others r own st g e a = at (s .done) refl
     where
@@ -104,7 +107,8 @@ module _ (m : Machine) (f : DistrictRecord) (ds : List DistrictRecord) (ahead : 
           (a .last d .0) (a .planned ∙ st .last d) (a .last d .1 ∙ e) (st .sheet d)
       at false d =
           turned-as m old new r (goesOn f ds) (going-met m f ds ahead (length old) enough few own can (sym whether ∙ d))
-          (a .going d .0) (a .planned ∙ st .going g d) (a .going d .1 ds e ∙ ap (λ (x : Reached). machineOf (ds ++ heldNow f x ∷ [])) (st .held g d)) (st .unwritten d)
+          (a .going d .0) (a .planned ∙ st .going g d)
+          (a .going d .1 ds e ∙ ap (λ (x : Reached). machineOf (ds ++ heldNow f x ∷ [])) (st .held g d)) (st .unwritten d)
 
 -- ---- its place
 
@@ -112,7 +116,8 @@ pub no-place : (d : DistrictRecord) (ds : List DistrictRecord) → 8 ≤ d .plac
 unfolding hasOwnPlace
 no-place d ds l = and-first (ltb (d .place) 8) (not (occurs (d .place) (places (map districtOf ds)))) (le-ltb (d .place) 8 l)
 
-pub own-is : (d : DistrictRecord) (ds : List DistrictRecord) (q : ℕ) (b : Bool) → d .place ≡ q → q < 8 → b ≡ occurs q (places (map districtOf ds)) → not b ≡ hasOwnPlace d ds
+pub own-is : (d : DistrictRecord) (ds : List DistrictRecord) (q : ℕ) (b : Bool) → d .place ≡ q → q < 8
+    → b ≡ occurs q (places (map districtOf ds)) → not b ≡ hasOwnPlace d ds
 unfolding hasOwnPlace
 own-is d ds q b e l h =
     ap not (h ∙ ap (λ (x : ℕ). occurs x (places (map districtOf ds))) (sym e))
@@ -146,13 +151,15 @@ module _ (d : DistrictRecord) where
   all-tried l =
       and-no (isReadable d) (canGoOn (planBy d) (d .budget) (d .held))
       (and-no (isGood (planRefusal (planBy d))) (isResumable (planBy d) (d .budget) (d .held))
-      (and-no (isHolding (planBy d) (d .held)) (ltb (d .held .tried) (triedCount (planBy d) (d .budget))) (le-ltb (d .held .tried) (triedCount (planBy d) (d .budget)) (omega arith))))
+      (and-no (isHolding (planBy d) (d .held)) (ltb (d .held .tried) (triedCount (planBy d) (d .budget)))
+      (le-ltb (d .held .tried) (triedCount (planBy d) (d .budget)) (omega arith))))
 
   pub unread : (k : ℕ) → firstRefusal (fileConditions (bytesOf d)) ≡ some k → canBeServed d ≡ false
   unfolding isReadable isGood
   unread k e = not-readable (and-no (leb (d .length) 1475) (not outside && read) (and-no (not outside) read (ap isGood e)))
 
-  pub readable : d .length ≤ 1475 → 1 ≤ d .budget → d .budget ≤ 1000000 → firstRefusal (fileConditions (bytesOf d)) ≡ none → isReadable d ≡ true
+  pub readable : d .length ≤ 1475 → 1 ≤ d .budget → d .budget ≤ 1000000 → firstRefusal (fileConditions (bytesOf d)) ≡ none
+      → isReadable d ≡ true
   unfolding isReadable isGood isOutside highestBudget
   readable n o b e =
       let x : ltb (d .budget) 1 ≡ false = le-ltb (d .budget) 1 o in
@@ -161,10 +168,12 @@ module _ (d : DistrictRecord) where
       and-yes (leb (d .length) 1475) (not outside && read) (le-leb (d .length) 1475 n) (and-yes (not outside) read z (ap isGood e))
 
   -- its plan is read
-  pub stint-read : (p : Plan) (old new : List ℕ) (r : Stint) → p ≡ planBy d → isReadable d ≡ true → IsStint p (d .budget) (d .held) (canGoOn p (d .budget) (d .held)) old new r
+  pub stint-read : (p : Plan) (old new : List ℕ) (r : Stint) → p ≡ planBy d → isReadable d ≡ true
+      → IsStint p (d .budget) (d .held) (canGoOn p (d .budget) (d .held)) old new r
       → IsStint (planBy d) (d .budget) (d .held) (canBeServed d) old new r
   stint-read p old new r e i h =
-      subst (λ (c : Bool). IsStint (planBy d) (d .budget) (d .held) c old new r) (sym (and-of (isReadable d) (canGoOn (planBy d) (d .budget) (d .held)) i))
+      subst (λ (c : Bool). IsStint (planBy d) (d .budget) (d .held) c old new r)
+      (sym (and-of (isReadable d) (canGoOn (planBy d) (d .budget) (d .held)) i))
       (subst (λ (p : Plan). IsStint p (d .budget) (d .held) (canGoOn p (d .budget) (d .held)) old new r) e h)
 
 -- ---- the machine's front, and the others
@@ -172,18 +181,21 @@ module _ (d : DistrictRecord) where
 pub ahead-is : (m : Machine) → length (m .line) ≡ 8 → 1 ≤ m .waiting → waitingIn m ≡ getD (m .line) 0 noDistrict ∷ drop 1 (waitingIn m)
 ahead-is m long one = front (m .line) (m .waiting) noDistrict one (omega arith)
 
-pub others-few : (m others : Machine) → length (m .line) ≡ 8 → 1 ≤ m .waiting → m .waiting ≤ 8 → others ≡ machineOf (drop 1 (waitingIn m)) → others .waiting < 8
+pub others-few : (m others : Machine) → length (m .line) ≡ 8 → 1 ≤ m .waiting → m .waiting ≤ 8 → others ≡ machineOf (drop 1 (waitingIn m))
+    → others .waiting < 8
 others-few m others long one most e =
     let a = ap (λ (x : Machine). x .waiting) e in
     let b = length-drop 1 (waitingIn m) in
     let c = length-take-le (m .waiting) (m .line) (omega arith) in
     omega arith
 
-pub own-as : (d : DistrictRecord) (others : Machine) (ds : List DistrictRecord) → others ≡ machineOf ds → hasOwnPlace d (waitingIn others) ≡ hasOwnPlace d ds
+pub own-as : (d : DistrictRecord) (others : Machine) (ds : List DistrictRecord) → others ≡ machineOf ds
+    → hasOwnPlace d (waitingIn others) ≡ hasOwnPlace d ds
 own-as d others ds e = ap (λ (x : Machine). hasOwnPlace d (waitingIn x)) e ∙ ap (hasOwnPlace d) (waiting-are ds)
 
 -- a turn that could not be taken
-pub not-taken : {p : Plan} {budget : ℕ} {g : Reached} {can : Bool} {old new : List ℕ} {s : Stint} → IsStint p budget g can old new s → s .good ≡ false → (can ≡ false) × (new ≡ old)
+pub not-taken : {p : Plan} {budget : ℕ} {g : Reached} {can : Bool} {old new : List ℕ} {s : Stint} → IsStint p budget g can old new s
+    → s .good ≡ false → (can ≡ false) × (new ≡ old)
 not-taken {p} {budget} {g} {can} st b = let c = sym (st .good) ∙ b in (c, st .unwritten (st .done ∙ and-first can (isLast p budget g) c))
 
 -- ---- the places that a turn answers
@@ -191,7 +203,8 @@ not-taken {p} {budget} {g} {can} st b = let c = sym (st .good) ∙ b in (c, st .
 in-meeting : (waiting sheet : ℕ) (ws : List DistrictRecord) → HasPlace (outcomeOf (meetingIn waiting sheet ws))
 unfolding meetingIn hasOwnPlace
 in-meeting waiting sheet [] = tt
-in-meeting waiting sheet (d ∷ ds) = at (ltb sheet sheetPlaces) (leb waiting 8 && (hasOwnPlace d ds && canBeServed d)) (isLast (planBy d) (d .budget) (d .held)) refl
+in-meeting waiting sheet (d ∷ ds) =
+    at (ltb sheet sheetPlaces) (leb waiting 8 && (hasOwnPlace d ds && canBeServed d)) (isLast (planBy d) (d .budget) (d .held)) refl
   where
     small : (leb waiting 8 && (hasOwnPlace d ds && canBeServed d)) ≡ true → d .place < 8
     small e =
@@ -199,7 +212,8 @@ in-meeting waiting sheet (d ∷ ds) = at (ltb sheet sheetPlaces) (leb waiting 8 
         let b = and-parts (hasOwnPlace d ds) (canBeServed d) (a .1) in
         ltb→lt (d .place) 8 (and-parts (ltb (d .place) 8) (not (occurs (d .place) (places (map districtOf ds)))) (b .0) .0)
 
-    at : (x y z : Bool) → (leb waiting 8 && (hasOwnPlace d ds && canBeServed d)) ≡ y → HasPlace (outcomeOf (cond x shortSheet (cond y (cond z (leaves d ds) (goesOn d ds)) stuck)))
+    at : (x y z : Bool) → (leb waiting 8 && (hasOwnPlace d ds && canBeServed d)) ≡ y
+        → HasPlace (outcomeOf (cond x shortSheet (cond y (cond z (leaves d ds) (goesOn d ds)) stuck)))
     at true y z e = tt
     at false true true e = small e
     at false true false e = small e
@@ -218,7 +232,8 @@ empty-met m sheet e = at (waitingIn m) e
     at [] q = refl
     at (f ∷ ds) q = (let n = ap length q in absurd (omega arith))
 
-pub line-short-met : (m : Machine) (sheet : ℕ) (d : District) (l : Line) → lineOf m ≡ d ∷ l → sheet < sheetPlaces → meeting m sheet ≡ shortSheet
+pub line-short-met : (m : Machine) (sheet : ℕ) (d : District) (l : Line) → lineOf m ≡ d ∷ l → sheet < sheetPlaces
+    → meeting m sheet ≡ shortSheet
 line-short-met m sheet d l e s = at (waitingIn m) refl e
   where
     at : (ws : List DistrictRecord) → waitingIn m ≡ ws → map districtOf ws ≡ d ∷ l → meeting m sheet ≡ shortSheet

@@ -17,7 +17,12 @@ use Rattle.drive_tally.specs.Laws.Places.{places-from, no-places}
 -- ---- 14
 
 not-below : (s : ℕ) → leb 2 s ≡ not (ltb s 2)
-not-below s = elim (decLe 2 s) [ yes h ↦ le-leb 2 s h ∙ ap not (sym (le-ltb s 2 h)) | no h ↦ lt-leb 2 s (omega arith) ∙ ap not (sym (lt-ltb s 2 (omega arith))) ]
+not-below s =
+    elim (decLe 2 s) [
+      | yes h ↦ le-leb 2 s h ∙ ap not (sym (le-ltb s 2 h))
+      | no h ↦
+          lt-leb 2 s (omega arith) ∙ ap not (sym (lt-ltb s 2 (omega arith)))
+    ]
 
 module _ (rows : List (List ℕ)) (k : ℕ) where
   pub foreign-past : length rows ≤ k → true ≡ isForeign (planOver rows) k
@@ -50,19 +55,23 @@ module _ (p : Plan) (w : List ℕ) where
   unfolding isUnjoined
   no-gap-start = at w
     where
-      at : (w : List ℕ) → 0 < length w → isUnjoined p w ≡ isBroken (p .arcs) (arcAt (p .arcs) (getD w 0 0) .head) (drop 1 w) (arcAt (p .arcs) (getD w 0 0) .tail)
+      at : (w : List ℕ) → 0 < length w
+          → isUnjoined p w ≡ isBroken (p .arcs) (arcAt (p .arcs) (getD w 0 0) .head) (drop 1 w) (arcAt (p .arcs) (getD w 0 0) .tail)
       at [] l = absurd (omega arith)
       at (k ∷ w) l = refl
 
-  joint : (v i : ℕ) → i < length w → NoGapBefore v i → isUnjoined p w ≡ (not (eqb v (arc i .tail)) || isBroken (p .arcs) (arc i .head) (drop (i + 1) w) (arc 0 .tail))
+  joint : (v i : ℕ) → i < length w → NoGapBefore v i
+      → isUnjoined p w ≡ (not (eqb v (arc i .tail)) || isBroken (p .arcs) (arc i .head) (drop (i + 1) w) (arc 0 .tail))
   unfolding isBroken
   joint v i l h = h ∙ ap (λ (u : List ℕ). isBroken (p .arcs) v u (arc 0 .tail)) (places-from w i l)
 
   pub no-gap-next : (v i : ℕ) → i < length w → NoGapBefore v i → v ≡ arc i .tail → NoGapBefore (arc i .head) (i + 1)
-  no-gap-next v i l h e = joint v i l h ∙ ap (λ b. not b || isBroken (p .arcs) (arc i .head) (drop (i + 1) w) (arc 0 .tail)) (eq-eqb v (arc i .tail) e)
+  no-gap-next v i l h e =
+      joint v i l h ∙ ap (λ b. not b || isBroken (p .arcs) (arc i .head) (drop (i + 1) w) (arc 0 .tail)) (eq-eqb v (arc i .tail) e)
 
   pub gap-here : (v i : ℕ) → i < length w → NoGapBefore v i → (v ≡ arc i .tail → ⊥) → true ≡ isUnjoined p w
-  gap-here v i l h e = sym (joint v i l h ∙ ap (λ b. not b || isBroken (p .arcs) (arc i .head) (drop (i + 1) w) (arc 0 .tail)) (ne-eqb v (arc i .tail) e))
+  gap-here v i l h e =
+      sym (joint v i l h ∙ ap (λ b. not b || isBroken (p .arcs) (arc i .head) (drop (i + 1) w) (arc 0 .tail)) (ne-eqb v (arc i .tail) e))
 
   pub last-joint : (v i : ℕ) → length w ≤ i → NoGapBefore v i → not (eqb v (arc 0 .tail)) ≡ isUnjoined p w
   unfolding isBroken

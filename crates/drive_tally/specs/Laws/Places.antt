@@ -1,4 +1,5 @@
--- A pass over a list, place by place: the places from i on are place i and those after it. And a place that is not foreign is the number of a row.
+-- A pass over a list, place by place: the places from i on are place i and those after it. And a place
+-- that is not foreign is the number of a row.
 use mathlib.Core.Path.{_≡_, sym, ap, _∙_}
 use mathlib.Core.Bool.{Bool, true, false, _||_}
 use mathlib.Core.List.{List, [], _∷_}

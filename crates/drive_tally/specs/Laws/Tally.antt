@@ -1,5 +1,6 @@
--- The flags stand for the must arcs that are due. A pass takes its arc off the list, whether it was due or not, and clears its flag; what was spent and what the rest of the
--- list costs with the arcs still due is the cost of the whole, and a must arc is missed exactly if one of those does not occur in the rest.
+-- The flags stand for the must arcs that are due. A pass takes its arc off the list, whether it was due or not, and clears its flag;
+-- what was spent and what the rest of the list costs with the arcs still due is the cost of the whole, and a must arc is missed exactly
+-- if one of those does not occur in the rest.
 use mathlib.Core.Path.{_≡_, refl, sym, ap, _∙_, subst, subst⁻¹}
 use mathlib.Core.Bool.{Bool, true, false, not, cond}
 use mathlib.Core.List.{List, [], _∷_, List·Memᴰ·head}
@@ -63,7 +64,8 @@ module _ (rows : List (List ℕ)) where
     ];
   }
 
-  pub more-flagged : (flags : List Bool) (i : ℕ) (b : Bool) → i < 256 → b ≡ isMust i → AreFlagged flags i → AreFlagged (set flags i b) (i + 1)
+  pub more-flagged : (flags : List Bool) (i : ℕ) (b : Bool) → i < 256 → b ≡ isMust i → AreFlagged flags i
+      → AreFlagged (set flags i b) (i + 1)
   more-flagged flags i b l e h = record {
     long = length-set flags i b ∙ h .long;
     before = λ k g. elim (ℕ-discrete k i) [
@@ -80,7 +82,8 @@ module _ (rows : List (List ℕ)) where
         let m = rows-length 0 rows in
         elim (decLe i k) [
           | yes g ↦ h .after k g ∙ past-flag (planOver rows) k (omega arith)
-          | no g ↦ h .before k (omega arith) ∙ ap (λ (a : Arc). eqb (a .standing) 1) (sym (row-arc 0 rows k (omega arith))) ∙ required-flag (planOver rows) k (omega arith)
+          | no g ↦ h .before k (omega arith) ∙ ap (λ (a : Arc). eqb (a .standing) 1) (sym (row-arc 0 rows k (omega arith)))
+              ∙ required-flag (planOver rows) k (omega arith)
         ];
   }
 
@@ -109,12 +112,15 @@ module _ (flags : List Bool) where
 
   pub no-flag : ((k : ℕ) → k < 256 → getD flags k false ≡ false) → false ≡ hasFlag flags
   unfolding hasFlag
-  no-flag h = sym (is-false {b = anyOf (λ k. getD flags k false) (below 256)} (λ t. (let r = anyOf-at (λ k. getD flags k false) (below 256) t in rw (h (r .0) (below-mem (r .1))) at (r .2))))
+  no-flag h = sym
+      (is-false {b = anyOf (λ k. getD flags k false) (below 256)}
+      (λ t. (let r = anyOf-at (λ k. getD flags k false) (below 256) t in rw (h (r .0) (below-mem (r .1))) at (r .2))))
 
 -- no must arc is there exactly when no flag is set
 pub has-required : (p : Plan) (flags : List Bool) → AreDue flags (requiredNumbers p) → eqb (length (requiredArcs p)) 0 ≡ not (hasFlag flags)
 has-required p flags h =
-    let e : length (requiredArcs p) ≡ length (requiredNumbers p) = sym (ap length (numbers-arcs p)) ∙ length-map (requiredNumbers p) (λ k. arcAt (p .arcs) k) in
+    let e : length (requiredArcs p) ≡ length (requiredNumbers p) =
+    sym (ap length (numbers-arcs p)) ∙ length-map (requiredNumbers p) (λ k. arcAt (p .arcs) k) in
     rw (e, has-due flags (requiredNumbers p) h) (twice (eqb (length (requiredNumbers p)) 0))
   where
     twice : (b : Bool) → b ≡ not (not b)
@@ -131,7 +137,9 @@ other k j t = not-T (eqb j k) (λ u. eqb-other t (sym (eqb→eq j k u)))
 
 module _ (k : ℕ) where
   without-self : (due : List ℕ) → anyOf (eqb k) (without k due) ≡ false
-  without-self due = is-false (λ t. (let r = anyOf-at (eqb k) (without k due) t in T-not (eqb k (r .0)) (select-mem (λ j. not (eqb k j)) due (r .1) .1) (r .2)))
+  without-self due =
+      is-false (λ t.
+      (let r = anyOf-at (eqb k) (without k due) t in T-not (eqb k (r .0)) (select-mem (λ j. not (eqb k j)) due (r .1) .1) (r .2)))
 
   without-other : (due : List ℕ) (j : ℕ) → (j ≡ k → ⊥) → anyOf (eqb j) (without k due) ≡ anyOf (eqb j) due
   without-other due j n =
@@ -172,7 +180,8 @@ module _ (k : ℕ) where
 
   -- what a pass costs, and the rest
   pass-due : (arcs : List Arc) (w due : List ℕ)
-      → tourCostDue arcs due (k ∷ w) ≡ cond (anyOf (eqb k) due) (arcAt arcs k .service) (arcAt arcs k .cost) + tourCostDue arcs (without k due) w
+      → tourCostDue arcs due (k ∷ w)
+      ≡ cond (anyOf (eqb k) due) (arcAt arcs k .service) (arcAt arcs k .cost) + tourCostDue arcs (without k due) w
   unfolding tourCostDue
   pass-due arcs w due = at (anyOf (eqb k) due) refl
     where
@@ -213,8 +222,11 @@ module _ (p : Plan) (w : List ℕ) where
 
     spent : cost + (passCost + tourCostDue (p .arcs) (without k (h .due)) (drop (i + 1) w)) ≡ tourCost p w
     spent =
-        ap (λ b. cost + (cond b (arcAt (p .arcs) k .service) (arcAt (p .arcs) k .cost) + tourCostDue (p .arcs) (without k (h .due)) (drop (i + 1) w))) (h .flags-are .flag k)
-        ∙ ap (λ c. cost + c) (sym (pass-due k (p .arcs) (drop (i + 1) w) (h .due)) ∙ ap (tourCostDue (p .arcs) (h .due)) (sym (places-from w i l)))
+        ap (λ b. cost
+        + (cond b (arcAt (p .arcs) k .service) (arcAt (p .arcs) k .cost)
+        + tourCostDue (p .arcs) (without k (h .due)) (drop (i + 1) w))) (h .flags-are .flag k)
+        ∙ ap (λ c. cost + c)
+        (sym (pass-due k (p .arcs) (drop (i + 1) w) (h .due)) ∙ ap (tourCostDue (p .arcs) (h .due)) (sym (places-from w i l)))
         ∙ h .costs
 
     tallied-room : cost + passCost ≤ tourCost p w
@@ -225,7 +237,8 @@ module _ (p : Plan) (w : List ℕ) where
       due = without k (h .due);
       flags-are = cleared k flags (h .due) m (h .flags-are);
       costs = let e = spent in omega arith;
-      left = sym (missed-without k (drop (i + 1) w) (h .due)) ∙ ap (λ (u : List ℕ). anyOf (λ k. not (anyOf (eqb k) u)) (h .due)) (sym (places-from w i l)) ∙ h .left;
+      left = sym (missed-without k (drop (i + 1) w) (h .due))
+          ∙ ap (λ (u : List ℕ). anyOf (λ k. not (anyOf (eqb k) u)) (h .due)) (sym (places-from w i l)) ∙ h .left;
     }
 
   pub tallied-end : (r : Tally) (i : ℕ) → length w ≤ i → IsTallied (r .due) (r .cost) i → IsTally p w r
@@ -234,8 +247,10 @@ module _ (p : Plan) (w : List ℕ) where
       let e = no-places w i l in
       let c = nothing-left (h .due) in
       record {
-        costs = sym (nothing-due (p .arcs) (h .due) (r .cost)) ∙ ap (λ (u : List ℕ). r .cost + tourCostDue (p .arcs) (h .due) u) (sym e) ∙ h .costs;
-        left = has-due (r .due) (h .due) (h .flags-are) ∙ sym c ∙ ap (λ (u : List ℕ). anyOf (λ k. not (anyOf (eqb k) u)) (h .due)) (sym e) ∙ h .left;
+        costs = sym (nothing-due (p .arcs) (h .due) (r .cost)) ∙ ap (λ (u : List ℕ). r .cost + tourCostDue (p .arcs) (h .due) u) (sym e)
+            ∙ h .costs;
+        left = has-due (r .due) (h .due) (h .flags-are) ∙ sym c ∙ ap (λ (u : List ℕ). anyOf (λ k. not (anyOf (eqb k) u)) (h .due)) (sym e)
+            ∙ h .left;
       }
     where
       nothing-due : (arcs : List Arc) (due : List ℕ) (c : ℕ) → c + tourCostDue arcs due [] ≡ c
@@ -246,7 +261,8 @@ module _ (p : Plan) (w : List ℕ) where
       nothing-left (x ∷ due) = ap not (sym (ne-eqb (length (x ∷ due)) 0 (λ e. omega arith)))
 
 -- one place more, where x is what the row's numbers say that the pass costs
-module _ (rows : List (List ℕ)) (w : List ℕ) (known : hasForeign (planOver rows) w ≡ false) (flags : List Bool) (cost i : ℕ) (l : i < length w)
+module _ (rows : List (List ℕ)) (w : List ℕ) (known : hasForeign (planOver rows) w ≡ false) (flags : List Bool) (cost i : ℕ)
+    (l : i < length w)
     (h : IsTallied (planOver rows) w flags cost i) (x : ℕ)
     (e : x ≡ cond (getD flags (getD w i 0) false) (getD (getD rows (getD w i 0) []) 4 0) (getD (getD rows (getD w i 0) []) 3 0)) where
   abbrev at : ℕ
@@ -259,4 +275,6 @@ module _ (rows : List (List ℕ)) (w : List ℕ) (known : hasForeign (planOver r
   tally-room = subst (λ x. cost + x ≤ tourCost (planOver rows) w) paid (tallied-room (planOver rows) w flags cost i l h)
 
   pub tally-more : at < 256 → IsTallied (planOver rows) w (set flags at false) (cost + x) (i + 1)
-  tally-more m = subst (λ x. IsTallied (planOver rows) w (set flags at false) (cost + x) (i + 1)) paid (tallied-next (planOver rows) w flags cost i l h m)
+  tally-more m =
+      subst (λ x. IsTallied (planOver rows) w (set flags at false) (cost + x) (i + 1)) paid
+      (tallied-next (planOver rows) w flags cost i l h m)

@@ -1,4 +1,5 @@
--- Bytes that are put one after the other are put together, since each begins where the one before it ended; and what was put is read from there, since what stands before it has that length.
+-- Bytes that are put one after the other are put together, since each begins where the one before it ended; and what was put is read from
+-- there, since what stands before it has that length.
 use mathlib.Core.Path.{_≡_, refl, sym, ap, ap₂, _∙_}
 use mathlib.Core.List.{List, [], _∷_, _++_, append-assoc}
 use Prim.Native.Nat.{ℕ, zero, suc, _+_, _*_, _/_, _%_, _≤_}
@@ -31,10 +32,12 @@ put-two l i x y room = let e : i + 1 ≡ suc i = omega arith in rw e (sets-eq (x
 -- a copy
 pub put-copy : (l : List ℕ) (i : ℕ) (new x : List ℕ) (n : ℕ) → n ≡ length new → x ≡ paste l i new n → x ≡ putAt l i new
 unfolding putAt
-put-copy l i new x n e f = f ∙ ap (paste l i new) e ∙ ap (λ (y : List ℕ). take i l ++ y ++ drop (i + length new) l) (take-all (length new) new (omega arith))
+put-copy l i new x n e f =
+    f ∙ ap (paste l i new) e ∙ ap (λ (y : List ℕ). take i l ++ y ++ drop (i + length new) l) (take-all (length new) new (omega arith))
 
 -- one after the other
-pub put-more : (l : List ℕ) (i : ℕ) (a : List ℕ) (j : ℕ) (b : List ℕ) → j ≡ i + length a → j + length b ≤ length l → putAt (putAt l i a) j b ≡ putAt l i (a ++ b)
+pub put-more : (l : List ℕ) (i : ℕ) (a : List ℕ) (j : ℕ) (b : List ℕ) → j ≡ i + length a → j + length b ≤ length l
+    → putAt (putAt l i a) j b ≡ putAt l i (a ++ b)
 unfolding putAt
 put-more l i a j b e room =
     let t = take i l ++ a in
@@ -43,24 +46,32 @@ put-more l i a j b e room =
     let q : j + length b ≡ length t + length b = ap (λ (k : ℕ). k + length b) (sym size) in
     let c = length-append a b in
     let s : i + length a + length b ≡ i + length (a ++ b) = omega arith in
-    ap₂ (λ (x y : List ℕ). x ++ b ++ y) (take-at t r j size) (ap (λ (k : ℕ). drop k (t ++ r)) q ∙ drop-append-add t r (length b) ∙ drop-drop (length b) (i + length a) l ∙ ap (λ (k : ℕ). drop k l) s)
+    ap₂ (λ (x y : List ℕ). x ++ b ++ y) (take-at t r j size)
+    (ap (λ (k : ℕ). drop k (t ++ r)) q ∙ drop-append-add t r (length b) ∙ drop-drop (length b) (i + length a) l
+    ∙ ap (λ (k : ℕ). drop k l) s)
     ∙ ap (λ (x : List ℕ). x ++ drop (i + length (a ++ b)) l) (append-assoc (take i l) a b)
 
-pub put-next : (l : List ℕ) (i : ℕ) (a b : List ℕ) (n m : ℕ) → length a ≡ n → length b ≡ m → i + n + m ≤ length l → (x x′ : List ℕ) → x ≡ putAt l i a → x′ ≡ putAt x (i + n) b → x′ ≡ putAt l i (a ++ b)
-put-next l i a b n m e f h x x′ p q = q ∙ ap (λ (y : List ℕ). putAt y (i + n) b) p ∙ put-more l i a (i + n) b (ap (λ (k : ℕ). i + k) (sym e)) (omega arith)
+pub put-next : (l : List ℕ) (i : ℕ) (a b : List ℕ) (n m : ℕ) → length a ≡ n → length b ≡ m → i + n + m ≤ length l → (x x′ : List ℕ)
+    → x ≡ putAt l i a → x′ ≡ putAt x (i + n) b → x′ ≡ putAt l i (a ++ b)
+put-next l i a b n m e f h x x′ p q =
+    q ∙ ap (λ (y : List ℕ). putAt y (i + n) b) p ∙ put-more l i a (i + n) b (ap (λ (k : ℕ). i + k) (sym e)) (omega arith)
 
 -- a number's bytes
-pub put-word : (l : List ℕ) (i k : ℕ) → i + 4 ≤ length l → (x y : List ℕ) → x ≡ putAt l i (numberBytes (k / 65536)) → y ≡ putAt x (i + 2) (numberBytes (k % 65536)) → y ≡ putAt l i (wordBytes k)
+pub put-word : (l : List ℕ) (i k : ℕ) → i + 4 ≤ length l → (x y : List ℕ) → x ≡ putAt l i (numberBytes (k / 65536))
+    → y ≡ putAt x (i + 2) (numberBytes (k % 65536)) → y ≡ putAt l i (wordBytes k)
 unfolding wordBytes
 put-word l i k room x y e f =
-    f ∙ ap (λ (t : List ℕ). putAt t (i + 2) (numberBytes (k % 65536))) e ∙ put-more l i (numberBytes (k / 65536)) (i + 2) (numberBytes (k % 65536)) refl (omega arith)
+    f ∙ ap (λ (t : List ℕ). putAt t (i + 2) (numberBytes (k % 65536))) e
+    ∙ put-more l i (numberBytes (k / 65536)) (i + 2) (numberBytes (k % 65536)) refl (omega arith)
 
-pub put-long : (l : List ℕ) (i k : ℕ) → i + 8 ≤ length l → (x y : List ℕ) → x ≡ putAt l i (wordBytes (k / 4294967296)) → y ≡ putAt x (i + 4) (wordBytes (k % 4294967296)) → y ≡ putAt l i (longBytes k)
+pub put-long : (l : List ℕ) (i k : ℕ) → i + 8 ≤ length l → (x y : List ℕ) → x ≡ putAt l i (wordBytes (k / 4294967296))
+    → y ≡ putAt x (i + 4) (wordBytes (k % 4294967296)) → y ≡ putAt l i (longBytes k)
 unfolding longBytes
 put-long l i k room x y e f =
     let a = length-word (k / 4294967296) in
     let b = length-word (k % 4294967296) in
-    f ∙ ap (λ (t : List ℕ). putAt t (i + 4) (wordBytes (k % 4294967296))) e ∙ put-more l i (wordBytes (k / 4294967296)) (i + 4) (wordBytes (k % 4294967296)) (omega arith) (omega arith)
+    f ∙ ap (λ (t : List ℕ). putAt t (i + 4) (wordBytes (k % 4294967296))) e
+    ∙ put-more l i (wordBytes (k / 4294967296)) (i + 4) (wordBytes (k % 4294967296)) (omega arith) (omega arith)
 
 -- from the start
 pub put-start : (l new : List ℕ) (n : ℕ) → length new ≡ n → putAt l 0 new ≡ new ++ drop n l
@@ -76,10 +87,12 @@ listed l (suc n) i = getD l i 0 ∷ listed l n (suc i)
 
 reads : (l : List ℕ) (n i : ℕ) → i + n ≤ length l → listed l n i ≡ take n (drop i l)
 reads l zero i h = refl
-reads l (suc n) i h = ap (λ (x : List ℕ). getD l i 0 ∷ x) (reads l n (suc i) (omega arith)) ∙ ap (take (suc n)) (sym (drop-cons l i 0 (omega arith)))
+reads l (suc n) i h =
+    ap (λ (x : List ℕ). getD l i 0 ∷ x) (reads l n (suc i) (omega arith)) ∙ ap (take (suc n)) (sym (drop-cons l i 0 (omega arith)))
 
 pub eight-read : (l : List ℕ) (i : ℕ) → i + 8 ≤ length l
-    → getD l i 0 ∷ getD l (i + 1) 0 ∷ getD l (i + 2) 0 ∷ getD l (i + 3) 0 ∷ getD l (i + 4) 0 ∷ getD l (i + 5) 0 ∷ getD l (i + 6) 0 ∷ getD l (i + 7) 0 ∷ [] ≡ take 8 (drop i l)
+    → getD l i 0 ∷ getD l (i + 1) 0 ∷ getD l (i + 2) 0 ∷ getD l (i + 3) 0 ∷ getD l (i + 4) 0 ∷ getD l (i + 5) 0 ∷ getD l (i + 6) 0
+    ∷ getD l (i + 7) 0 ∷ [] ≡ take 8 (drop i l)
 eight-read l i h =
     let e₁ : i + 1 ≡ suc i = omega arith in
     let e₂ : i + 2 ≡ suc (suc i) = omega arith in

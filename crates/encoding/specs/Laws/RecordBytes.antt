@@ -20,7 +20,8 @@ use Rattle.encoding.specs.RecordBytes.{arcBytes, arcIn, arcsIn, withArc}
 pub seven-stores
     : (l : List ℕ) (i : ℕ) (a : Arc)
     → i + 7 ≤ length l
-    → set (set (set (set (set (set (set l i (a .tail)) (i + 1) (a .head)) (i + 2) (a .standing)) (i + 3) (a .cost / 256)) (i + 4) (a .cost % 256)) (i + 5) (a .service / 256)) (i + 6) (a .service % 256)
+    → set (set (set (set (set (set (set l i (a .tail)) (i + 1) (a .head)) (i + 2) (a .standing)) (i + 3) (a .cost / 256)) (i + 4)
+    (a .cost % 256)) (i + 5) (a .service / 256)) (i + 6) (a .service % 256)
     ≡ withArc l i a
 unfolding withArc arcBytes
 seven-stores l i a h =
@@ -40,7 +41,8 @@ length-arcs (a ∷ arcs) = let e = length-arcs arcs in omega arith
 arcs-append : (xs ys : List Arc) → flatMap arcBytes (xs ++ ys) ≡ flatMap arcBytes xs ++ flatMap arcBytes ys
 unfolding flatMap
 arcs-append [] ys = refl
-arcs-append (x ∷ xs) ys = ap (λ (l : List ℕ). arcBytes x ++ l) (arcs-append xs ys) ∙ sym (append-assoc (arcBytes x) (flatMap arcBytes xs) (flatMap arcBytes ys))
+arcs-append (x ∷ xs) ys =
+    ap (λ (l : List ℕ). arcBytes x ++ l) (arcs-append xs ys) ∙ sym (append-assoc (arcBytes x) (flatMap arcBytes xs) (flatMap arcBytes ys))
 
 -- ---- records that are stored
 
@@ -53,18 +55,21 @@ module _ (f : ℕ → Arc) (l : List ℕ) (k : ℕ) where
 
   more : flatMap arcBytes (map f (below (k + 1))) ≡ done ++ arcBytes (f k)
   unfolding flatMap
-  more = ap (flatMap arcBytes) (map-below-more f k) ∙ arcs-append (map f (below k)) (f k ∷ []) ∙ ap (λ (l : List ℕ). done ++ l) (append-nil (arcBytes (f k)))
+  more = ap (flatMap arcBytes) (map-below-more f k) ∙ arcs-append (map f (below k)) (f k ∷ [])
+      ∙ ap (λ (l : List ℕ). done ++ l) (append-nil (arcBytes (f k)))
 
   rest : drop (7 * k + 7) (done ++ drop (7 * k) l) ≡ drop (7 * (k + 1)) l
   rest =
       let e : 7 * k + 7 ≡ 7 * (k + 1) = omega arith in
-      ap (λ (n : ℕ). drop (n + 7) (done ++ drop (7 * k) l)) (sym length-done) ∙ drop-append-add done (drop (7 * k) l) 7 ∙ drop-drop 7 (7 * k) l ∙ ap (λ (n : ℕ). drop n l) e
+      ap (λ (n : ℕ). drop (n + 7) (done ++ drop (7 * k) l)) (sym length-done) ∙ drop-append-add done (drop (7 * k) l) 7
+      ∙ drop-drop 7 (7 * k) l ∙ ap (λ (n : ℕ). drop n l) e
 
   -- One record more.
   pub stored-more : withArc (done ++ drop (7 * k) l) (7 * k) (f k) ≡ flatMap arcBytes (map f (below (k + 1))) ++ drop (7 * (k + 1)) l
   unfolding withArc
   stored-more =
-      ap (λ (t : List ℕ). t ++ arcBytes (f k) ++ drop (7 * k + 7) (done ++ drop (7 * k) l)) (take-at done (drop (7 * k) l) (7 * k) length-done)
+      ap (λ (t : List ℕ). t ++ arcBytes (f k) ++ drop (7 * k + 7) (done ++ drop (7 * k) l))
+      (take-at done (drop (7 * k) l) (7 * k) length-done)
       ∙ ap (λ (t : List ℕ). done ++ arcBytes (f k) ++ t) rest
       ∙ ap (λ (t : List ℕ). t ++ drop (7 * (k + 1)) l) (sym more)
 

@@ -1,4 +1,5 @@
--- Reading into lent bytes is reading into the records that they hold: there is room for a seventh as many records as bytes, and a refusal stores none.
+-- Reading into lent bytes is reading into the records that they hold: there is room for a seventh as many
+-- records as bytes, and a refusal stores none.
 use mathlib.Core.Path.{_≡_, refl, sym, ap, ap₂, _∙_}
 use mathlib.Core.List.{List, _++_, map, flatMap}
 use mathlib.Core.Option.{none}

@@ -1,4 +1,5 @@
--- Writing from lent bytes is writing the records that they hold; and n above 64 is refused whatever it is, so that 65 can stand for it; so is an edition above 2, and 3 stands for it.
+-- Writing from lent bytes is writing the records that they hold; and n above 64 is refused whatever it is, so that 65 can stand for it; so
+-- is an edition above 2, and 3 stands for it.
 use mathlib.Core.Path.{_≡_, sym, ap, _∙_}
 use mathlib.Core.List.{List, map, map-id, map-map}
 use mathlib.Core.Bool.{false}
@@ -71,14 +72,16 @@ module _ (e n : ℕ) (lent bytes : List ℕ) where
     where
       at : Dec (n < 65) → writeAnswer e cut bytes ≡ writeAnswer e whole bytes
       at (yes h) = ap (λ (k : ℕ). writeAnswer e (lentPlan k lent) bytes) (at-most-same n 65 (omega arith))
-      at (no h) = refused-answer e cut bytes (headerRefusal e) (cut-refused (omega arith)) ∙ sym (refused-answer e whole bytes (headerRefusal e) (whole-refused (omega arith)))
+      at (no h) = refused-answer e cut bytes (headerRefusal e) (cut-refused (omega arith))
+          ∙ sym (refused-answer e whole bytes (headerRefusal e) (whole-refused (omega arith)))
 
   cut-bytes : bytesAfter e cut bytes ≡ bytesAfter e whole bytes
   cut-bytes = at (decLt n 65)
     where
       at : Dec (n < 65) → bytesAfter e cut bytes ≡ bytesAfter e whole bytes
       at (yes h) = ap (λ (k : ℕ). bytesAfter e (lentPlan k lent) bytes) (at-most-same n 65 (omega arith))
-      at (no h) = refused-bytes e cut bytes (headerRefusal e) (cut-refused (omega arith)) ∙ sym (refused-bytes e whole bytes (headerRefusal e) (whole-refused (omega arith)))
+      at (no h) = refused-bytes e cut bytes (headerRefusal e) (cut-refused (omega arith))
+          ∙ sym (refused-bytes e whole bytes (headerRefusal e) (whole-refused (omega arith)))
 
 -- ---- the records
 
@@ -90,7 +93,8 @@ lent-list n lent = λ i. record { n = n; arcs = same i }
     same = map-map arcValue recordOf (arcsIn lent) ∙ map-id (arcsIn lent)
 
 -- What is written is a plan by value: the edition, cut at 3, n, cut at 65, and the first 256 records.
-module _ (e n : ℕ) (lent bytes : List ℕ) (d k : ℕ) (arcs : List ArcRecord) (which : d ≡ atMost e 3) (few : k ≡ atMost n 65) (load : arcs ≡ loaded (map recordOf (arcsIn lent))) where
+module _ (e n : ℕ) (lent bytes : List ℕ) (d k : ℕ) (arcs : List ArcRecord) (which : d ≡ atMost e 3) (few : k ≡ atMost n 65)
+    (load : arcs ≡ loaded (map recordOf (arcsIn lent))) where
   abbrev written : Graph
   written = planValue (countedPlan k (length lent / 7) arcs)
 

@@ -19,7 +19,8 @@ use Rattle.plan.specs.Laws.Records.{plan-length, plan-arc, plan-vertices}
 use Rattle.held_file.specs.Change.{changedFile, fileChangeRefusal}
 
 pub changed-value : (r : PlanRecord) (c : Change) → c .arc < r .m → c .arc < length (r .arcs)
-    → planValue (record { n = r .n; m = r .m; arcs = set (r .arcs) (c .arc) (recordOf (changedArc (recordAt (r .arcs) (c .arc)) c)) }) ≡ changedPlan (planValue r) c
+    → planValue (record { n = r .n; m = r .m; arcs = set (r .arcs) (c .arc) (recordOf (changedArc (recordAt (r .arcs) (c .arc)) c)) })
+    ≡ changedPlan (planValue r) c
 unfolding changedPlan
 changed-value r c l room =
     let k = c .arc in
@@ -35,8 +36,10 @@ changed-value r c l room =
     (let b : j < r .m = omega arith in
     elim (ℕ-discrete j k) [
       | yes q ↦ rw q
-          (plan-arc s k l ∙ ap arcValue (getD-set-same (r .arcs) k new zeroRecord room) ∙ ap (λ (x : Arc). changedArc x c) (sym was) ∙ sym (getD-set-same old k a (arcAt [] 0) (omega arith)))
-      | no q ↦ plan-arc s j b ∙ ap arcValue (getD-set-other (r .arcs) k j new zeroRecord q) ∙ sym (plan-arc r j b) ∙ sym (getD-set-other old k j a (arcAt [] 0) q)
+          (plan-arc s k l ∙ ap arcValue (getD-set-same (r .arcs) k new zeroRecord room) ∙ ap (λ (x : Arc). changedArc x c) (sym was)
+          ∙ sym (getD-set-same old k a (arcAt [] 0) (omega arith)))
+      | no q ↦ plan-arc s j b ∙ ap arcValue (getD-set-other (r .arcs) k j new zeroRecord q) ∙ sym (plan-arc r j b)
+          ∙ sym (getD-set-other old k j a (arcAt [] 0) q)
     ])) in
     let n : planValue s .n ≡ planValue r .n = plan-vertices s ∙ sym (plan-vertices r) in
     λ i. record { n = n i; arcs = same i }

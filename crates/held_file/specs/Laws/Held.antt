@@ -30,7 +30,8 @@ pub over-zeros : (file : List ℕ) (n : ℕ) → paste zeros 0 file n ≡ take n
 over-zeros file n = let z : 0 + n ≡ n = omega arith in ap (λ (k : ℕ). take n file ++ drop k zeros) z
 
 -- a file that was copied whole
-pub copied-held : (file bytes : List ℕ) (n : ℕ) → n ≡ length file → bytes ≡ paste zeros 0 file n → _≡_ {A = Held} (record { length = n; file = bytes }) (heldOf file)
+pub copied-held : (file bytes : List ℕ) (n : ℕ) → n ≡ length file → bytes ≡ paste zeros 0 file n
+    → _≡_ {A = Held} (record { length = n; file = bytes }) (heldOf file)
 unfolding heldOf
 copied-held file bytes n e h =
     let all : take (length file) file ≡ file = take-all (length file) file (omega arith) in

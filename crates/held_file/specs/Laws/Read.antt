@@ -22,7 +22,8 @@ use Rattle.held_file.specs.Change.{changedFile, fileChangeRefusal}
 use Rattle.held_file.specs.Laws.Held.{refused-held}
 use Rattle.held_file.specs.Laws.Change.{unread, read-on, changed-file}
 
-pub reading-of : (h : Held) (n : ℕ) (r : Reading) → n ≡ atMost (h .length) longestFile → IsReading (take n (h .file)) r → IsReading (fileIn h) r
+pub reading-of : (h : Held) (n : ℕ) (r : Reading) → n ≡ atMost (h .length) longestFile → IsReading (take n (h .file)) r
+    → IsReading (fileIn h) r
 reading-of h n r e i = subst (λ (k : ℕ). IsReading (take k (h .file)) r) e i
 
 module _ (bytes : List ℕ) (r : Reading) (i : IsReading bytes r) where
@@ -32,7 +33,8 @@ module _ (bytes : List ℕ) (r : Reading) (i : IsReading bytes r) where
       record-arcs (r .plan) (subst WellFormed (sym (accepted-value bytes r i e)) (file-accepted bytes e))
 
   module _ (c : Change) (w : Rewritten) where
-    pub change-unread : (q : ℕ) → verdictNumber (r .verdict) ≡ some q → IsHeld (some q) [] w → IsHeld (fileChangeRefusal bytes c) (changedFile bytes c) w
+    pub change-unread : (q : ℕ) → verdictNumber (r .verdict) ≡ some q → IsHeld (some q) [] w
+        → IsHeld (fileChangeRefusal bytes c) (changedFile bytes c) w
     change-unread q v h = refused-held _ q _ w (unread bytes c q (sym (i .verdict) ∙ v)) h
 
     pub change-read : verdictNumber (r .verdict) ≡ none

@@ -54,10 +54,15 @@ module _ (p : Plan) (ok : Plannable p) where
   best-holds few tries one g h =
       let m = componentCount p - 1 in
       let t = kept-fits p ok few tries one m (g .tails) (g .heads) refl (h .links-are) in
-      record { tails-fit = t .tails-le; heads-fit = t .heads-le; tree = kept-tree p ok few tries one m (g .tails) (g .heads) (t .tails-le) (t .heads-le) (h .links-are) }
+      record {
+        tails-fit = t .tails-le;
+        heads-fit = t .heads-le;
+        tree = kept-tree p ok few tries one m (g .tails) (g .heads) (t .tails-le) (t .heads-le) (h .links-are);
+      }
 
 -- the floor of what was found
-pub floor-as : (p : Plan) (tries : ℕ) (s : Searched) → IsSearched p tries s → floorWith p (s .whole) (s .cost) ≡ lowerBound p tries (λ i. getD (multipliersFor p) i (pos 0))
+pub floor-as : (p : Plan) (tries : ℕ) (s : Searched) → IsSearched p tries s
+    → floorWith p (s .whole) (s .cost) ≡ lowerBound p tries (λ i. getD (multipliersFor p) i (pos 0))
 unfolding lowerBound
 floor-as p tries s h =
     let b : ℤ = maxℤ (lagrangianBound p (λ i. pos 0)) (lagrangianBound p (λ i. getD (multipliersFor p) i (pos 0))) in

@@ -1,6 +1,7 @@
--- The legs of an Eulerian graph make a circuit. Along the run these stay true: no leg is in the lists twice; the walk leads from leg 0's tail to where it stands,
--- and what is placed leads from some vertex back to leg 0's tail; all legs out of a placed leg's head are in the lists. A walk that cannot go on stands, by
--- balance, where the placed legs begin. At the end all is placed: else the heads of the placed legs were a set that no leg leaves.
+-- The legs of an Eulerian graph make a circuit. Along the run these stay true: no leg is in the lists twice; the walk leads from leg
+-- 0's tail to where it stands, and what is placed leads from some vertex back to leg 0's tail; all legs out of a placed leg's head are
+-- in the lists. A walk that cannot go on stands, by balance, where the placed legs begin. At the end all is placed: else the heads of
+-- the placed legs were a set that no leg leaves.
 use mathlib.Core.Path.{_≡_, refl, sym, ap, _∙_, subst⁻¹}
 use mathlib.Core.Logic.{inl, inr}
 use mathlib.Core.Bool.{Bool}
@@ -14,7 +15,7 @@ use Rattle.postman.specs.Lists.{below, anyOf, delta, occurrences}
 use Rattle.postman.specs.Laws.Tests.{cond-ind, eqb-same}
 use Rattle.postman.specs.Laws.Membership.{anyOf-mem, anyOf-at, getD-mem, below-mem, length-below}
 use Rattle.postman.specs.Laws.Occurrences.{delta-yes, delta-pos, occurrences-append, mem-of-occurrences, occurrences-of-mem}
-use Rattle.hierholzer.specs.Circuit.{State, nextLeg, step, run, circuit}
+use Rattle.hierholzer.specs.Circuit.{CircuitState, nextLeg, step, run, circuit}
 use Rattle.hierholzer.specs.Eulerian.{Eulerian, Joined, IsCircuit}
 use Rattle.hierholzer.specs.Laws.Lists.{by-numbers, map-append}
 use Rattle.hierholzer.specs.Laws.Counting.{map-le, permutation, permutation-length, mem-of-permutation, below-once, below-none, below-lt}
@@ -42,12 +43,14 @@ module _ (tails heads : List ℕ) where
   Trail r [] v = r ≡ v
   Trail r (k ∷ w) v = (head k ≡ v) × Trail r w (tail k)
 
-  trail-balance : (x r : ℕ) (w : List ℕ) (v : ℕ) → Trail r w v → occurrences x (map tail w) + delta x v ≡ occurrences x (map head w) + delta x r
+  trail-balance : (x r : ℕ) (w : List ℕ) (v : ℕ) → Trail r w v
+      → occurrences x (map tail w) + delta x v ≡ occurrences x (map head w) + delta x r
   unfolding occurrences
   trail-balance x r [] v h = let e = ap (delta x) h in omega arith
   trail-balance x r (k ∷ w) v h = let a = trail-balance x r w (tail k) (h .1) in let e = ap (delta x) (h .0) in omega arith
 
-  joined-balance : (x i : ℕ) (w : List ℕ) (j : ℕ) → Joined tails heads i w j → occurrences x (map tail w) + delta x j ≡ occurrences x (map head w) + delta x i
+  joined-balance : (x i : ℕ) (w : List ℕ) (j : ℕ) → Joined tails heads i w j
+      → occurrences x (map tail w) + delta x j ≡ occurrences x (map head w) + delta x i
   unfolding occurrences
   joined-balance x i [] j h = let e = ap (delta x) h in omega arith
   joined-balance x i (k ∷ w) j h = let a = joined-balance x (head k) w j (h .1) in let e = ap (delta x) (h .0) in omega arith
@@ -64,7 +67,8 @@ module _ (tails heads : List ℕ) where
         let ts = ap (occurrences v) (map-append tail w d) ∙ occurrences-append v (map tail w) (map tail d) in
         let hs = ap (occurrences v) (map-append head w d) ∙ occurrences-append v (map head w) (map head d) in
         let out = map-le tail v legs (w ++ d) (λ k e. elim (decLe 1 (occurrences k legs)) [
-          | yes g ↦ (let l = below-lt (length tails) k g in let a = below-once (length tails) k l in let c = s k l e in let o = occurrences-append k w d in omega arith)
+          | yes g ↦ (let l = below-lt (length tails) k g in let a = below-once (length tails) k l in let c = s k l e in
+              let o = occurrences-append k w d in omega arith)
           | no g ↦ omega arith
         ]) in
         let into = map-le head v (w ++ d) legs (λ k e. let a = t k in let o = occurrences-append k w d in omega arith) in
@@ -135,7 +139,8 @@ module _ (tails heads : List ℕ) where
       step-sound [] d s = s
       step-sound (k ∷ w) d s =
           let e = nextLeg tails (k ∷ w) d (head k) in
-          cond-ind (ltb e (length tails)) (record { walk = e ∷ k ∷ w; placed = d }) (record { walk = w; placed = k ∷ d }) (λ (z : State). Sound (z .walk) (z .placed))
+          cond-ind (ltb e (length tails)) (record { walk = e ∷ k ∷ w; placed = d }) (record { walk = w; placed = k ∷ d })
+          (λ (z : CircuitState). Sound (z .walk) (z .placed))
           (λ t. pushed k e w d s (next-free tails (k ∷ w) d (head k) (ltb→lt e (length tails) t)))
           (λ t. popped k w d s (next-none tails (k ∷ w) d (head k) (nltb→le e (length tails) t)))
 
@@ -146,14 +151,16 @@ module _ (tails heads : List ℕ) where
       step-nearer n k w d l =
           let e = nextLeg tails (k ∷ w) d (head k) in
           cond-ind (ltb e (length tails)) (record { walk = e ∷ k ∷ w; placed = d }) (record { walk = w; placed = k ∷ d })
-          (λ (z : State). 2 * length tails ≤ n + length (z .walk) + 2 * length (z .placed)) (λ t. omega arith) (λ t. omega arith)
+          (λ (z : CircuitState). 2 * length tails ≤ n + length (z .walk) + 2 * length (z .placed)) (λ t. omega arith) (λ t. omega arith)
 
       run-sound : (n : ℕ) (w d : List ℕ) → Sound w d → 2 * length tails ≤ n + length w + 2 * length d → Sound [] (run tails heads n w d)
       unfolding run
       run-sound zero [] d s l = s
       run-sound zero (k ∷ w) d s l = let h = tidy-length tails (k ∷ w) d (s .tidy) in absurd (omega arith)
       run-sound (suc n) [] d s l = subst⁻¹ (Sound []) (run-done tails heads (suc n) d) s
-      run-sound (suc n) (k ∷ w) d s l = run-sound n (step tails heads (k ∷ w) d .walk) (step tails heads (k ∷ w) d .placed) (step-sound (k ∷ w) d s) (step-nearer n k w d l)
+      run-sound (suc n) (k ∷ w) d s l =
+          run-sound n (step tails heads (k ∷ w) d .walk) (step tails heads (k ∷ w) d .placed) (step-sound (k ∷ w) d s)
+          (step-nearer n k w d l)
 
 module _ (tails heads : List ℕ) (h : Eulerian tails heads) where
   abbrev root : ℕ
@@ -192,16 +199,19 @@ module _ (tails heads : List ℕ) (h : Eulerian tails heads) where
           let n = s .spent (x .0) (x .1) y m (o ∙ sym (eqb→eq (getD heads (x .0) 0) v (x .2))) in
           mem-of-occurrences y (k ∷ d) (omega arith)) in
           let all = h .connected X (anyOf-mem (λ j. eqb (getD heads j 0) root) (z .1) (eqb-same (z .2)))
-          (λ y m t. anyOf-mem (λ j. eqb (getD heads j 0) (getD heads y 0)) (placed (getD tails y 0) t y m refl) (eqb-same {i = getD heads y 0} refl)) in
+          (λ y m t. anyOf-mem (λ j. eqb (getD heads j 0) (getD heads y 0)) (placed (getD tails y 0) t y m refl)
+          (eqb-same {i = getD heads y 0} refl)) in
           placed (getD tails e 0) (all e l) e l refl
 
   pub is-circuit : IsCircuit tails heads (circuit tails heads)
   unfolding occurrences
   is-circuit = record {
-    each-once = permutation (circuit tails heads) (below (length tails)) (λ k. let a = circuit-sound .tidy k in elim (decLe (length tails) k) [
-      | yes g ↦ (let b = below-none (length tails) k g in omega arith)
-      | no g ↦ (let b = below-once (length tails) k (omega arith) in let c = occurrences-of-mem (circuit-whole k (omega arith)) in omega arith)
-    ]);
+    each-once = permutation (circuit tails heads) (below (length tails))
+        (λ k. let a = circuit-sound .tidy k in elim (decLe (length tails) k) [
+          | yes g ↦ (let b = below-none (length tails) k g in omega arith)
+          | no g ↦ (let b = below-once (length tails) k (omega arith) in let c = occurrences-of-mem (circuit-whole k (omega arith)) in
+              omega arith)
+        ]);
     closed = circuit-sound .chained;
     first = circuit-sound .lowest;
   }

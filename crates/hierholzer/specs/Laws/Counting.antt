@@ -13,7 +13,8 @@ use Rattle.postman.specs.Laws.Pick.{pick-of-mem, pick-length, mem-of-pick, left
 use Rattle.postman.specs.Laws.Occurrences.{delta-yes, delta-pos, mem-of-occurrences, occurrences-of-mem, occurrences-pick, occurrences-map-pick, occurrences-upFrom}
 
 -- what occurs at most as often occurs at most as often under a map
-pub map-le : (f : ℕ → ℕ) (v : ℕ) (xs ys : List ℕ) → ((k : ℕ) → f k ≡ v → occurrences k xs ≤ occurrences k ys) → occurrences v (map f xs) ≤ occurrences v (map f ys)
+pub map-le : (f : ℕ → ℕ) (v : ℕ) (xs ys : List ℕ) → ((k : ℕ) → f k ≡ v → occurrences k xs ≤ occurrences k ys)
+    → occurrences v (map f xs) ≤ occurrences v (map f ys)
 unfolding occurrences
 map-le f v [] ys h = zero-le
 map-le f v (x ∷ xs) ys h = elim (decLe 1 (delta v (f x))) [
@@ -34,7 +35,8 @@ occurrences-zeros [] = refl
 occurrences-zeros (x ∷ xs) = let h = occurrences-zeros xs in let s = delta-yes {i = 0} refl in omega arith
 
 pub length-le : (xs ys : List ℕ) → ((k : ℕ) → occurrences k xs ≤ occurrences k ys) → length xs ≤ length ys
-length-le xs ys h = let r = map-le (λ k. 0) 0 xs ys (λ k e. h k) in let a = occurrences-zeros xs in let b = occurrences-zeros ys in omega arith
+length-le xs ys h = let r = map-le (λ k. 0) 0 xs ys (λ k e. h k) in let a = occurrences-zeros xs in let b = occurrences-zeros ys in
+    omega arith
 
 -- what occurs equally often is in another order
 pub permutation : (xs ys : List ℕ) → ((k : ℕ) → occurrences k xs ≡ occurrences k ys) → Permutation xs ys
@@ -68,4 +70,5 @@ permutation-length (more q s) = let a = pick-length q in let b = permutation-len
 
 pub mem-of-permutation : {x : ℕ} {xs ys : List ℕ} → Permutation xs ys → List·Memᴰ x xs → List·Memᴰ x ys
 mem-of-permutation none m = m
-mem-of-permutation (more q s) m = elim (List·Memᴰ·cases-cons m) [ inl e ↦ Memᴰ·cast e (mem-of-pick q) | inr n ↦ left-mem q (mem-of-permutation s n) ]
+mem-of-permutation (more q s) m =
+    elim (List·Memᴰ·cases-cons m) [ inl e ↦ Memᴰ·cast e (mem-of-pick q) | inr n ↦ left-mem q (mem-of-permutation s n) ]

@@ -13,9 +13,9 @@ use Rattle.postman.specs.Lists.{below, delta, occurrences}
 use Rattle.postman.specs.Laws.Ascending.{index-cong}
 use Rattle.postman.specs.Laws.Membership.{below-mem}
 use Rattle.postman.specs.Laws.Occurrences.{delta-yes, delta-pos}
-use Rattle.hierholzer.specs.Circuit.{State, isFree, nextLeg, step, run, circuit}
+use Rattle.hierholzer.specs.Circuit.{CircuitState, isFree, nextLeg, step, run, circuit}
 use Rattle.hierholzer.specs.Eulerian.{Eulerian}
-use Rattle.hierholzer.specs.Held.{walkOf, Held, Stepped, isUnused, firstUnused}
+use Rattle.hierholzer.specs.Held.{walkOf, HeldPath, Stepped, isUnused, firstUnused}
 use Rattle.hierholzer.specs.Laws.Counting.{below-once, below-lt}
 use Rattle.hierholzer.specs.Laws.Circuit.{run-done, circuit-length}
 use Rattle.hierholzer.specs.Laws.Unused.{Free, next-free, tidy-length, tidy-more}
@@ -43,10 +43,10 @@ drop-place l i a h =
 -- ---- what a step does, where the search finds a leg and where it finds none
 
 module _ (tails heads : List ℕ) (k : ℕ) (w d : List ℕ) (e : ℕ) (f : e ≡ nextLeg tails (k ∷ w) d (getD heads k 0)) where
-  abbrev more : ℕ → State
+  abbrev more : ℕ → CircuitState
   more x = record { walk = x ∷ k ∷ w; placed = d }
 
-  abbrev less : State
+  abbrev less : CircuitState
   less = record { walk = w; placed = k ∷ d }
 
   step-more : e < length tails → step tails heads (k ∷ w) d ≡ more e
@@ -59,7 +59,7 @@ module _ (tails heads : List ℕ) (k : ℕ) (w d : List ℕ) (e : ℕ) (f : e �
 
 -- ---- the stores
 
-module _ (tails heads order used : List ℕ) (d start : ℕ) (h : Held tails order used (suc d) start) where
+module _ (tails heads order used : List ℕ) (d start : ℕ) (h : HeldPath tails order used (suc d) start) where
   abbrev top : ℕ
   top = getD order d 0
 
@@ -76,7 +76,8 @@ module _ (tails heads order used : List ℕ) (d start : ℕ) (h : Held tails ord
 
   module _ (e : ℕ) (f : e ≡ nextLeg tails (walkOf order (suc d)) (drop start order) (getD heads top 0)) where
     free : e < length tails → Free tails (walkOf order (suc d)) (drop start order) (getD heads top 0) e
-    free l = subst⁻¹ (Free tails (walkOf order (suc d)) (drop start order) (getD heads top 0)) f (next-free tails (walkOf order (suc d)) (drop start order) (getD heads top 0) (subst (λ z. z < length tails) f l))
+    free l = subst⁻¹ (Free tails (walkOf order (suc d)) (drop start order) (getD heads top 0)) f
+        (next-free tails (walkOf order (suc d)) (drop start order) (getD heads top 0) (subst (λ z. z < length tails) f l))
 
     mark-set : (x : ℕ) → x < length tails → Free tails (walkOf order (suc d)) (drop start order) (getD heads top 0) e
         → getD (set used e 1) x 0 ≡ delta x e + occurrences x (walkOf order (suc d)) + occurrences x (drop start order)
@@ -101,7 +102,8 @@ module _ (tails heads order used : List ℕ) (d start : ℕ) (h : Held tails ord
     unfolding occurrences
     room l =
         let g = free l in
-        let n = tidy-length tails (e ∷ walkOf order (suc d)) (drop start order) (tidy-more tails (walkOf order (suc d)) (drop start order) (getD heads top 0) e (h .tidy) g) in
+        let n = tidy-length tails (e ∷ walkOf order (suc d)) (drop start order)
+        (tidy-more tails (walkOf order (suc d)) (drop start order) (getD heads top 0) e (h .tidy) g) in
         let a = walk-length order (suc d) in
         let b = length-drop start order in
         let c = h .within in
@@ -129,8 +131,8 @@ module _ (tails heads order used : List ℕ) (d start : ℕ) (h : Held tails ord
                 let c = ap₂ (λ (y z : List ℕ). occurrences x y + occurrences x z) w p in
                 omega arith);
           };
-          walk = w ∙ sym (ap (λ (z : State). z .walk) s);
-          placed = p ∙ sym (ap (λ (z : State). z .placed) s);
+          walk = w ∙ sym (ap (λ (z : CircuitState). z .walk) s);
+          placed = p ∙ sym (ap (λ (z : CircuitState). z .placed) s);
           nearer = omega arith;
         }
 
@@ -158,8 +160,8 @@ module _ (tails heads order used : List ℕ) (d start : ℕ) (h : Held tails ord
                 let c = ap₂ (λ (y z : List ℕ). occurrences x y + occurrences x z) w p in
                 omega arith);
           };
-          walk = w ∙ sym (ap (λ (z : State). z .walk) s);
-          placed = p ∙ sym (ap (λ (z : State). z .placed) s);
+          walk = w ∙ sym (ap (λ (z : CircuitState). z .walk) s);
+          placed = p ∙ sym (ap (λ (z : CircuitState). z .placed) s);
           nearer = omega arith;
         }
 
@@ -170,46 +172,56 @@ topOf order depth = getD order (depth - 1) 0
 
 -- i is the walk's last leg, and e the first unused leg out of its head
 module _ {tails order used : List ℕ} (heads : List ℕ) where
-  pub top-below : {depth start : ℕ} → 0 < depth → Held tails order used depth start → topOf order depth < length tails
+  pub top-below : {depth start : ℕ} → 0 < depth → HeldPath tails order used depth start → topOf order depth < length tails
   top-below {depth = zero} p h = absurd (omega arith)
-  top-below {depth = suc d} {start} p h = let i : d ≡ suc d - 1 = omega arith in subst (λ z. getD order z 0 < length tails) i (top-lt tails heads order used d start h)
+  top-below {depth = suc d} {start} p h = let i : d ≡ suc d - 1 = omega arith in
+      subst (λ z. getD order z 0 < length tails) i (top-lt tails heads order used d start h)
 
-  search-at : {d start e i : ℕ} (h : Held tails order used (suc d) start) → i ≡ topOf order (suc d) → e ≡ firstUnused tails used (getD heads i 0)
+  search-at : {d start e i : ℕ} (h : HeldPath tails order used (suc d) start) → i ≡ topOf order (suc d)
+      → e ≡ firstUnused tails used (getD heads i 0)
       → e ≡ nextLeg tails (walkOf order (suc d)) (drop start order) (getD heads (getD order d 0) 0)
   search-at {d} {start} h w f =
       let j : suc d - 1 ≡ d = omega arith in
-      f ∙ ap (λ z. firstUnused tails used (getD heads z 0)) (w ∙ ap (λ z. getD order z 0) j) ∙ same-search tails heads order used d start h (getD heads (getD order d 0) 0)
+      f ∙ ap (λ z. firstUnused tails used (getD heads z 0)) (w ∙ ap (λ z. getD order z 0) j)
+      ∙ same-search tails heads order used d start h (getD heads (getD order d 0) 0)
 
-  pub has-room : {depth start e i : ℕ} → 0 < depth → Held tails order used depth start → i ≡ topOf order depth → e ≡ firstUnused tails used (getD heads i 0) → e < length tails
+  pub has-room : {depth start e i : ℕ} → 0 < depth → HeldPath tails order used depth start → i ≡ topOf order depth
+      → e ≡ firstUnused tails used (getD heads i 0) → e < length tails
       → depth < start
   has-room {depth = zero} p h w f l = absurd (omega arith)
   has-room {depth = suc d} {start} {e} p h w f l = room tails heads order used d start h e (search-at h w f) l
 
-  pub walked-at : {depth start e i : ℕ} → 0 < depth → Held tails order used depth start → i ≡ topOf order depth → e ≡ firstUnused tails used (getD heads i 0) → e < length tails
+  pub walked-at : {depth start e i : ℕ} → 0 < depth → HeldPath tails order used depth start → i ≡ topOf order depth
+      → e ≡ firstUnused tails used (getD heads i 0) → e < length tails
       → Stepped tails heads order depth start (set order depth e) (set used e 1) (depth + 1) start
   walked-at {depth = zero} p h w f l = absurd (omega arith)
   walked-at {depth = suc d} {start} {e} p h w f l =
       let j : suc (suc d) ≡ suc d + 1 = omega arith in
-      subst (λ z. Stepped tails heads order (suc d) start (set order (suc d) e) (set used e 1) z start) j (walked tails heads order used d start h e (search-at h w f) l)
+      subst (λ z. Stepped tails heads order (suc d) start (set order (suc d) e) (set used e 1) z start) j
+      (walked tails heads order used d start h e (search-at h w f) l)
 
-  pub placed-at : {depth start e i : ℕ} → 0 < depth → Held tails order used depth start → i ≡ topOf order depth → e ≡ firstUnused tails used (getD heads i 0) → length tails ≤ e
+  pub placed-at : {depth start e i : ℕ} → 0 < depth → HeldPath tails order used depth start → i ≡ topOf order depth
+      → e ≡ firstUnused tails used (getD heads i 0) → length tails ≤ e
       → Stepped tails heads order depth start (set order (start - 1) (topOf order depth)) used (depth - 1) (start - 1)
   placed-at {depth = zero} p h w f l = absurd (omega arith)
   placed-at {depth = suc d} {start} {e} p h w f l =
       let j : d ≡ suc d - 1 = omega arith in
-      subst (λ z. Stepped tails heads order (suc d) start (set order (start - 1) (getD order z 0)) used z (start - 1)) j (placed tails heads order used d start h e (search-at h w f) l)
+      subst (λ z. Stepped tails heads order (suc d) start (set order (start - 1) (getD order z 0)) used z (start - 1)) j
+      (placed tails heads order used d start h e (search-at h w f) l)
 
 -- ---- from the first leg to the last
 
 module _ (tails heads : List ℕ) where
-  pub held-first : (order used : List ℕ) → 0 < length tails → length order ≡ length tails → length tails ≤ length used → ((e : ℕ) → e < length tails → getD used e 0 ≡ 0)
-      → Held tails (set order 0 0) (set used 0 1) 1 (length tails)
+  pub held-first : (order used : List ℕ) → 0 < length tails → length order ≡ length tails → length tails ≤ length used
+      → ((e : ℕ) → e < length tails → getD used e 0 ≡ 0)
+      → HeldPath tails (set order 0 0) (set used 0 1) 1 (length tails)
   unfolding walkOf occurrences
   held-first order used l n m z =
       let a = length-set order 0 0 in
       let w : walkOf (set order 0 0) 1 ≡ 0 ∷ [] = walk-push order 0 0 (omega arith) in
       let p = drop-of-length-le (set order 0 0) {i = length tails} (omega arith) in
-      let uses : (e : ℕ) → occurrences e (walkOf (set order 0 0) 1) + occurrences e (drop (length tails) (set order 0 0)) ≡ delta e 0 + 0 + 0
+      let uses : (e : ℕ)
+      → occurrences e (walkOf (set order 0 0) 1) + occurrences e (drop (length tails) (set order 0 0)) ≡ delta e 0 + 0 + 0
       = λ e. ap₂ (λ (y z : List ℕ). occurrences e y + occurrences e z) w p in
       record {
         apart = l;
@@ -217,7 +229,8 @@ module _ (tails heads : List ℕ) where
         places = a ∙ n;
         marks = (let b = length-set used 0 1 in omega arith);
         flags = λ e k. (let u = uses e in elim (decLe 1 (delta e 0)) [
-          | yes g ↦ (let i = delta-pos e 0 g in let o = delta-yes i in let b = ap (λ z. getD (set used 0 1) z 0) i ∙ getD-set-same used 0 1 0 (omega arith) in omega arith)
+          | yes g ↦ (let i = delta-pos e 0 g in let o = delta-yes i in
+              let b = ap (λ z. getD (set used 0 1) z 0) i ∙ getD-set-same used 0 1 0 (omega arith) in omega arith)
           | no g ↦ (let b = getD-set-other used 0 e 1 0 (λ i. (let o = delta-yes i in omega arith)) in let c = z e k in omega arith)
         ]);
         tidy = λ e. (let u = uses e in elim (decLe 1 (delta e 0)) [
@@ -235,17 +248,20 @@ module _ (tails heads : List ℕ) where
       let p = drop-of-length-le (set order 0 0) {i = length tails} (omega arith) in
       sym (ap₂ (run tails heads (2 * length tails - 1)) w p)
 
-  pub run-step : (order order′ used′ : List ℕ) (depth start depth′ start′ : ℕ) → Stepped tails heads order depth start order′ used′ depth′ start′
-      → run tails heads (2 * start - depth) (walkOf order depth) (drop start order) ≡ run tails heads (2 * start′ - depth′) (walkOf order′ depth′) (drop start′ order′)
+  pub run-step : (order order′ used′ : List ℕ) (depth start depth′ start′ : ℕ)
+      → Stepped tails heads order depth start order′ used′ depth′ start′
+      → run tails heads (2 * start - depth) (walkOf order depth) (drop start order)
+      ≡ run tails heads (2 * start′ - depth′) (walkOf order′ depth′) (drop start′ order′)
   unfolding run
   run-step order order′ used′ depth start depth′ start′ s =
       let n = s .nearer in
       let a = s .held .apart in
       let i : 2 * start - depth ≡ suc (2 * start′ - depth′) = omega arith in
-      ap (λ z. run tails heads z (walkOf order depth) (drop start order)) i ∙ sym (ap₂ (run tails heads (2 * start′ - depth′)) (s .walk) (s .placed))
+      ap (λ z. run tails heads z (walkOf order depth) (drop start order)) i
+      ∙ sym (ap₂ (run tails heads (2 * start′ - depth′)) (s .walk) (s .placed))
 
   -- a walk that is used up leaves the whole circuit, in its place
-  pub run-last : (order used : List ℕ) (start n : ℕ) → Eulerian tails heads → Held tails order used 0 start
+  pub run-last : (order used : List ℕ) (start n : ℕ) → Eulerian tails heads → HeldPath tails order used 0 start
       → circuit tails heads ≡ run tails heads n (walkOf order 0) (drop start order) → order ≡ circuit tails heads
   unfolding walkOf
   run-last order used start n h g e =

@@ -66,7 +66,8 @@ unfolding below
 by-numbers xs =
     let n = length xs in
     let l : length (map (λ e. getD xs e 0) (upFrom 0 n)) ≡ n = length-map (upFrom 0 n) (λ e. getD xs e 0) ∙ length-upFrom 0 n in
-    ext-getD 0 (map (λ e. getD xs e 0) (upFrom 0 n)) xs l (λ i m. getD-map-upFrom (λ e. getD xs e 0) 0 n i 0 (omega arith) ∙ ap (λ z. getD xs z 0) (zero-add i))
+    ext-getD 0 (map (λ e. getD xs e 0) (upFrom 0 n)) xs l
+    (λ i m. getD-map-upFrom (λ e. getD xs e 0) 0 n i 0 (omega arith) ∙ ap (λ z. getD xs z 0) (zero-add i))
 
 pub take-one : (xs : List ℕ) (i : ℕ) → i < length xs → take i xs ++ getD xs i 0 ∷ [] ≡ take (i + 1) xs
 take-one xs i l = let e : suc i ≡ i + 1 = omega arith in sym (take-suc xs i 0 l) ∙ ap (λ z. take z xs) e

@@ -15,18 +15,21 @@ unfolding firstIndex upFrom
 from-none f a zero h = refl
 from-none f a (suc n) h =
     let r = from-none f (suc a) n (λ k l m. h k (omega arith) (omega arith)) in
-    cond-ind (f a) 0 (suc (firstIndex f (upFrom (suc a) n))) (λ z. z ≡ suc n) (λ u. absurd (T-not (f a) (h a (omega arith) (omega arith)) u)) (λ u. ap suc r)
+    cond-ind (f a) 0 (suc (firstIndex f (upFrom (suc a) n))) (λ z. z ≡ suc n)
+    (λ u. absurd (T-not (f a) (h a (omega arith) (omega arith)) u)) (λ u. ap suc r)
 
 from-at : (f : ℕ → Bool) (a n q : ℕ) → q < n → T (f (a + q)) → ((k : ℕ) → a ≤ k → k < a + q → T (not (f k))) → firstIndex f (upFrom a n) ≡ q
 unfolding firstIndex upFrom
 from-at f a zero q l t h = absurd (omega arith)
 from-at f a (suc n) zero l t h =
     let e : a + 0 ≡ a = omega arith in
-    cond-ind (f a) 0 (suc (firstIndex f (upFrom (suc a) n))) (λ z. z ≡ 0) (λ u. refl) (λ u. absurd (T-not (f a) u (subst (λ z. T (f z)) e t)))
+    cond-ind (f a) 0 (suc (firstIndex f (upFrom (suc a) n))) (λ z. z ≡ 0) (λ u. refl)
+    (λ u. absurd (T-not (f a) u (subst (λ z. T (f z)) e t)))
 from-at f a (suc n) (suc q) l t h =
     let e : a + suc q ≡ suc a + q = omega arith in
     let r = from-at f (suc a) n q (omega arith) (subst (λ z. T (f z)) e t) (λ k m o. h k (omega arith) (omega arith)) in
-    cond-ind (f a) 0 (suc (firstIndex f (upFrom (suc a) n))) (λ z. z ≡ suc q) (λ u. absurd (T-not (f a) (h a (omega arith) (omega arith)) u)) (λ u. ap suc r)
+    cond-ind (f a) 0 (suc (firstIndex f (upFrom (suc a) n))) (λ z. z ≡ suc q)
+    (λ u. absurd (T-not (f a) (h a (omega arith) (omega arith)) u)) (λ u. ap suc r)
 
 from-le : (f : ℕ → Bool) (a n : ℕ) → firstIndex f (upFrom a n) ≤ n
 unfolding firstIndex upFrom

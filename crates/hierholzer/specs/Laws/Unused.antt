@@ -57,7 +57,8 @@ module _ (tails : List ℕ) where
     | yes g ↦ g
     | no g ↦
         let z : uses e w d ≡ 0 = omega arith in
-        absurd (T-not (isFree tails w d v e) (first-fails (isFree tails w d v) (length tails) e (omega arith)) (and-both (eqb (getD tails e 0) v) (eqb (uses e w d) 0) (eqb-same o) (eqb-same z)))
+        absurd (T-not (isFree tails w d v e) (first-fails (isFree tails w d v) (length tails) e (omega arith))
+        (and-both (eqb (getD tails e 0) v) (eqb (uses e w d) 0) (eqb-same o) (eqb-same z)))
   ]
 
   -- a free leg more

@@ -1,4 +1,5 @@
--- Each test of the code is a condition of the definition. Rows that hold the arcs of a plan are judged as the plan is, and the contract follows from the answer.
+-- Each test of the code is a condition of the definition. Rows that hold the arcs of a plan are judged as the plan
+-- is, and the contract follows from the answer.
 use mathlib.Core.Path.{_≡_, refl, sym, ap, _∙_, subst}
 use mathlib.Core.Bool.{Bool, true, false, cond}
 use mathlib.Core.List.{List, [], _∷_}
@@ -65,7 +66,8 @@ module _ (n : ℕ) (rows : List (List ℕ)) (p : Plan) (e : planIn n rows ≡ p)
   arcs-same = ap (λ (q : Plan). q .arcs) e
 
   pub rows-answer : (w : List ℕ) → planAnswer (planOver rows) w ≡ planAnswer p w
-  rows-answer w = by-arcs (planOver rows) w ∙ ap (λ (arcs : List Arc). planAnswer (record { n = 0; arcs = arcs }) w) arcs-same ∙ sym (by-arcs p w)
+  rows-answer w =
+      by-arcs (planOver rows) w ∙ ap (λ (arcs : List Arc). planAnswer (record { n = 0; arcs = arcs }) w) arcs-same ∙ sym (by-arcs p w)
 
   costs-fit : WellFormed p → (k : ℕ) → (arcAt (p .arcs) k .cost ≤ 65535) × (arcAt (p .arcs) k .service ≤ 65535)
   costs-fit ok k = elim (decLe (length (p .arcs)) k) [
@@ -76,14 +78,18 @@ module _ (n : ℕ) (rows : List (List ℕ)) (p : Plan) (e : planIn n rows ≡ p)
   -- the sum does not leave its 32 bits
   pub rows-cost : WellFormed p → (w : List ℕ) → length w ≤ highestPlaces → tourCost (planOver rows) w < 2 ^ 32
   rows-cost ok w l =
-      tour-cost-small (planOver rows) (λ k. subst (λ (arcs : List Arc). (arcAt arcs k .cost ≤ 65535) × (arcAt arcs k .service ≤ 65535)) (sym arcs-same) (costs-fit ok k)) w l
+      tour-cost-small (planOver rows)
+      (λ k. subst (λ (arcs : List Arc). (arcAt arcs k .cost ≤ 65535) × (arcAt arcs k .service ≤ 65535)) (sym arcs-same)
+      (costs-fit ok k)) w l
 
 -- ---- the file
 
 module _ (bytes w : List ℕ) where
   refused-at : (r : ℕ) → firstRefusal (lentConditions bytes (length w)) ≡ some r → refused r ≡ judgeAnswer bytes w
   unfolding judgeAnswer
-  refused-at r e = sym (answer-refused (judgeRefusal bytes w) (tourCost (planOf bytes) w) r (judge-conditions bytes w ∙ first-stop (lentConditions bytes (length w)) _ r e))
+  refused-at r e =
+      sym (answer-refused (judgeRefusal bytes w) (tourCost (planOf bytes) w) r
+      (judge-conditions bytes w ∙ first-stop (lentConditions bytes (length w)) _ r e))
 
   -- a list that is too long, and a file that is refused
   pub long-answer : (r : ℕ) → some r ≡ firstRefusal (lentConditions bytes (length w)) → refused r ≡ judgeAnswer bytes w
@@ -93,11 +99,13 @@ module _ (bytes w : List ℕ) where
   file-answer r l e = refused-at r (lent-short bytes (length w) l ∙ e)
 
   -- one that is not
-  pub good-answer : length w ≤ highestPlaces → firstRefusal (fileConditions bytes) ≡ none → planAnswer (planOf bytes) w ≡ judgeAnswer bytes w
+  pub good-answer : length w ≤ highestPlaces → firstRefusal (fileConditions bytes) ≡ none
+      → planAnswer (planOf bytes) w ≡ judgeAnswer bytes w
   unfolding planAnswer listAnswer judgeAnswer firstRefusal answer
   good-answer l e =
       at (eqb (length (requiredArcs (planOf bytes))) 0) (firstRefusal (faultConditions (planOf bytes) w)) (tourCost (planOf bytes) w)
-      ∙ ap (λ (o : Option ℕ). answer o (tourCost (planOf bytes) w)) (sym (judge-conditions bytes w ∙ first-on (lentConditions bytes (length w)) _ (lent-short bytes (length w) l ∙ e)))
+      ∙ ap (λ (o : Option ℕ). answer o (tourCost (planOf bytes) w))
+      (sym (judge-conditions bytes w ∙ first-on (lentConditions bytes (length w)) _ (lent-short bytes (length w) l ∙ e)))
     where
       at : (b : Bool) (o : Option ℕ) (c : ℕ) → cond b (refused 10) (answer o c) ≡ answer (cond b (some 10) o) c
       at true o c = refl

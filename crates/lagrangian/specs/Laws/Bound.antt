@@ -1,5 +1,5 @@
--- What the cheapest arborescence is asked: multipliers with reduced costs that are not negative, 0 at a required vertex, are bounded by distances; so are the reduced
--- costs, and A(u).
+-- What the cheapest arborescence is asked: multipliers with reduced costs that are not negative, 0 at a required vertex, are bounded by
+-- distances; so are the reduced costs, and A(u).
 use mathlib.Core.Path.{_≡_, refl, sym, ap, ap₂, _∙_, subst, subst⁻¹, fun-ext}
 use mathlib.Core.Logic.{inl, inr}
 use mathlib.Core.Bool.{Bool, true, false}
@@ -33,7 +33,7 @@ use Rattle.balance.specs.Invariant.{Metric}
 use Rattle.residual_search.specs.Laws.Fill.{zero-at}
 use Rattle.direct_amounts.specs.Laws.Plan.{plan-metric}
 use Rattle.cheapest_tree.specs.Picture.{highest}
-use Rattle.pair_costs.specs.PairCosts.{AreCosts, IsNetwork, multipliersOf}
+use Rattle.pair_costs.specs.PairCosts.{ArePairCosts, HoldsNetwork, multipliersIn}
 use Rattle.network.specs.Laws.Vertices.{required-of-64}
 use Rattle.tree_bounds.specs.Laws.Prepared.{required-small}
 use Rattle.multiplier_steps.specs.Steps.{AreSmall}
@@ -52,7 +52,8 @@ module _ (p : Plan) (flags : List Bool) (h : (v : ℕ) → v < 64 → getD flags
       h v (omega arith) ∙ is-true t
 
 -- |u| is at most a distance, where u is 0 at a required vertex
-pub multipliers-near : (p : Plan) → Plannable p → (u : Multipliers) → Feasible p u → ((i : ℕ) → (List·Memᴰ i (required p) → ⊥) → u i ≡ pos 0) → (root : ℕ) → List·Memᴰ root (required p) → u root ≡ pos 0
+pub multipliers-near : (p : Plan) → Plannable p → (u : Multipliers) → Feasible p u
+    → ((i : ℕ) → (List·Memᴰ i (required p) → ⊥) → u i ≡ pos 0) → (root : ℕ) → List·Memᴰ root (required p) → u root ≡ pos 0
     → (v : ℕ) → Within 4128705 (u v)
 unfolding reducedCost
 multipliers-near p ok u feasible elsewhere root mr at-root v = elim (mem? v (required p)) [
@@ -66,9 +67,10 @@ multipliers-near p ok u feasible elsewhere root mr at-root v = elim (mem? v (req
   | inr n ↦ let e = elsewhere v n in record { low = simp zl (omega (arith, z)); high = simp zl (omega (arith, z)) }
 ]
 
-module _ (p : Plan) (table : List (List ℕ)) (u : List ℤ) (c : List ℕ) (flags : List Bool) (k r : ℕ) (d : List ℤ) (h : IsPriced p table u c flags k r d) where
+module _ (p : Plan) (table : List (List ℕ)) (u : List ℤ) (c : List ℕ) (flags : List Bool) (k r : ℕ) (d : List ℤ)
+    (h : IsPriced p table u c flags k r d) where
   abbrev U : ℕ → ℤ
-  U = multipliersOf u
+  U = multipliersIn u
 
   metric : Metric (distance p) (required p)
   metric = plan-metric p (h .plannable .well-formed) (h .plannable .connected)
@@ -88,15 +90,17 @@ module _ (p : Plan) (table : List (List ℕ)) (u : List ℤ) (c : List ℕ) (fla
     -- only required vertices are flagged
     member : (i : ℕ) → getD flags i false ≡ true → List·Memᴰ i (required p)
     member i e = elim (decLe 64 i) [
-      | yes l ↦ let q : getD flags i false ≡ false = List·getD-eq-default flags false (omega arith) in let w : _≡_ {A = Bool} false true = sym q ∙ e in absurd (true-false w)
+      | yes l ↦ let q : getD flags i false ≡ false = List·getD-eq-default flags false (omega arith) in
+          let w : _≡_ {A = Bool} false true = sym q ∙ e in absurd (true-false w)
       | no l ↦ subst (λ (xs : List ℕ). List·Memᴰ i xs) (required-of-64 p (h .plannable .well-formed))
-          (mem-select (isRequired p) (mem-below {n = 64} (omega arith)) (subst (λ (b : Bool). T b) (sym e ∙ h .required-flags i (omega arith)) tt))
+          (mem-select (isRequired p) (mem-below {n = 64} (omega arith))
+          (subst (λ (b : Bool). T b) (sym e ∙ h .required-flags i (omega arith)) tt))
     ]
       where
         true-false : _≡_ {A = Bool} false true → ⊥
         true-false w = subst⁻¹ (λ (b : Bool). T b) w tt
 
-    pub are-costs : AreCosts table u c flags
+    pub are-costs : ArePairCosts table u c flags
     unfolding reducedCost
     are-costs = record {
       in-range = λ v l e. (
@@ -106,12 +110,16 @@ module _ (p : Plan) (table : List (List ℕ)) (u : List ℤ) (c : List ℕ) (fla
           let d = h .components .all in
           let f = h .few in
           omega arith);
-      small = λ v l. (let w = multiplier-small v in record { low = simp zl (omega (arith, z, simp zl at (w .low))); high = simp zl (omega (arith, z, simp zl at (w .high))) });
-      low = λ i j li lj ei ej. subst⁻¹ (λ (n : ℕ). pos 0 ≤ℤ (pos n -ℤ U i +ℤ U j)) (h .distances i j li lj) (h .feasible i j (member i ei) (member j ej));
-      high = λ i j li lj ei ej. subst⁻¹ (λ (n : ℕ). (pos n -ℤ U i +ℤ U j) ≤ℤ pos highest) (h .distances i j li lj) (reduced-high i j (member i ei) (member j ej));
+      small = λ v l.
+          (let w = multiplier-small v in
+          record { low = simp zl (omega (arith, z, simp zl at (w .low))); high = simp zl (omega (arith, z, simp zl at (w .high))) });
+      low = λ i j li lj ei ej. subst⁻¹ (λ (n : ℕ). pos 0 ≤ℤ (pos n -ℤ U i +ℤ U j)) (h .distances i j li lj)
+          (h .feasible i j (member i ei) (member j ej));
+      high = λ i j li lj ei ej. subst⁻¹ (λ (n : ℕ). (pos n -ℤ U i +ℤ U j) ≤ℤ pos highest) (h .distances i j li lj)
+          (reduced-high i j (member i ei) (member j ej));
     }
 
-    pub is-network : IsNetwork p table c flags k
+    pub is-network : HoldsNetwork p table c flags k
     is-network = record {
       components = h .components .all;
       distances = λ i j mi mj. h .distances i j (small i mi) (small j mj);
@@ -143,8 +151,10 @@ module _ (p : Plan) (table : List (List ℕ)) (u : List ℤ) (c : List ℕ) (fla
       let s = tree .size in
       let f = h .few in
       let k = h .components .all in
-      let e = r .2 in
-      (cheapest-nonneg p U (bounded (h .plannable .well-formed) .ends) (h .feasible) n, subst⁻¹ (λ (x : ℤ). x ≤ℤ pos 66059280) e (simp zl (omega (arith, z, simp zl at a))))
+      let e = r .2 in (
+        cheapest-nonneg p U (bounded (h .plannable .well-formed) .ends) (h .feasible) n,
+        subst⁻¹ (λ (x : ℤ). x ≤ℤ pos 66059280) e (simp zl (omega (arith, z, simp zl at a))),
+      )
 
   -- the sum of u(i) × D(i) is small, and with R and A(u) it is L(u)
   pub multipliers-small : AreSmall 4128705 u
@@ -168,14 +178,15 @@ module _ (p : Plan) (table : List (List ℕ)) (u : List ℤ) (c : List ℕ) (fla
 
 -- ---- u = 0
 
-zeros-are : multipliersOf (replicate 64 (pos 0)) ≡ (λ (i : ℕ). pos 0)
+zeros-are : multipliersIn (replicate 64 (pos 0)) ≡ (λ (i : ℕ). pos 0)
 zeros-are = fun-ext (λ i. zero-at 64 i (pos 0))
 
-pub zero-bound : (p : Plan) → lagrangianBound p (multipliersOf (replicate 64 (pos 0))) ≡ lagrangianBound p (λ i. pos 0)
+pub zero-bound : (p : Plan) → lagrangianBound p (multipliersIn (replicate 64 (pos 0))) ≡ lagrangianBound p (λ i. pos 0)
 zero-bound p = ap (lagrangianBound p) zeros-are
 
 -- what is known of a plan and multipliers is known of it and 0
-pub zero-priced : {p : Plan} {table : List (List ℕ)} {u : List ℤ} {c : List ℕ} {flags : List Bool} {k r : ℕ} {d : List ℤ} → IsPriced p table u c flags k r d → IsPriced p table (replicate 64 (pos 0)) c flags k r d
+pub zero-priced : {p : Plan} {table : List (List ℕ)} {u : List ℤ} {c : List ℕ} {flags : List Bool} {k r : ℕ} {d : List ℤ}
+    → IsPriced p table u c flags k r d → IsPriced p table (replicate 64 (pos 0)) c flags k r d
 zero-priced {p} h = record {
   plannable = h .plannable;
   few = h .few;

@@ -1,4 +1,5 @@
--- The sum of u(i) × D(i) over all vertices is that over the required ones, since u is 0 elsewhere; and it is small: no D is above the number of arcs.
+-- The sum of u(i) × D(i) over all vertices is that over the required ones, since u is 0 elsewhere; and it
+-- is small: no D is above the number of arcs.
 use mathlib.Core.Path.{_≡_, refl, ap, ap₂, _∙_, subst, subst⁻¹}
 use mathlib.Core.Bool.{Bool, not}
 use mathlib.Core.List.{List, [], _∷_, _++_, map, append-nil, List·Memᴰ, List·Memᴰ·head, List·Memᴰ·tail}
@@ -19,7 +20,7 @@ use Rattle.postman.specs.Laws.Below.{map-below-more}
 use Rattle.required.specs.Contracts.{IsImbalance}
 use Rattle.network.specs.Laws.Vertices.{required-of-64}
 use Rattle.candidates.specs.Laws.Selection.{select-length}
-use Rattle.pair_costs.specs.PairCosts.{multipliersOf}
+use Rattle.pair_costs.specs.PairCosts.{multipliersIn}
 use Rattle.multiplier_steps.specs.Steps.{AreSmall}
 use Rattle.lagrangian.specs.Price.{priceOf}
 
@@ -53,7 +54,8 @@ module _ (u d : List ℤ) where
         let a = abs-add (priceOf u d i) (term i) in
         let b = price-size i (omega arith) in
         let c = term-small i (omega arith) in
-        subst (λ n. natAbs (priceOf u d n) ≤ n * 1056948480) e (subst⁻¹ (λ (x : ℤ). natAbs x ≤ (i + 1) * 1056948480) (price-more i) (omega arith))
+        subst (λ n. natAbs (priceOf u d n) ≤ n * 1056948480) e
+        (subst⁻¹ (λ (x : ℤ). natAbs x ≤ (i + 1) * 1056948480) (price-more i) (omega arith))
 
     pub price-small : (i : ℕ) → i ≤ 64 → Within 67644702720 (priceOf u d i)
     price-small i l = abs-within 67644702720 (priceOf u d i) (let a = price-size i l in omega arith)
@@ -63,7 +65,8 @@ module _ (u d : List ℤ) where
 occurrences-few : (i : ℕ) (xs : List ℕ) → occurrences i xs ≤ length xs
 unfolding occurrences delta
 occurrences-few i [] = omega arith
-occurrences-few i (x ∷ xs) = let h = occurrences-few i xs in cond-ind (eqb i x) 1 0 (λ n. n + occurrences i xs ≤ suc (length xs)) (λ t. omega arith) (λ t. omega arith)
+occurrences-few i (x ∷ xs) = let h = occurrences-few i xs in
+    cond-ind (eqb i x) 1 0 (λ n. n + occurrences i xs ≤ suc (length xs)) (λ t. omega arith) (λ t. omega arith)
 
 module _ (p : Plan) (ok : WellFormed p) where
   arcs-few : length (requiredArcs p) ≤ 256
@@ -84,20 +87,25 @@ module _ (p : Plan) (ok : WellFormed p) where
 
 -- ---- over the required vertices
 
-sum-selected : (f : ℕ → Bool) (g h : ℕ → ℤ) (xs : List ℕ) → ((x : ℕ) → List·Memᴰ x xs → T (f x) → g x ≡ h x) → ((x : ℕ) → List·Memᴰ x xs → T (not (f x)) → g x ≡ pos 0) → sumOfℤ (map g xs) ≡ sumOfℤ (map h (select f xs))
+sum-selected : (f : ℕ → Bool) (g h : ℕ → ℤ) (xs : List ℕ) → ((x : ℕ) → List·Memᴰ x xs → T (f x) → g x ≡ h x)
+    → ((x : ℕ) → List·Memᴰ x xs → T (not (f x)) → g x ≡ pos 0) → sumOfℤ (map g xs) ≡ sumOfℤ (map h (select f xs))
 unfolding sumOfℤ select
 sum-selected f g h [] a b = refl
 sum-selected f g h (x ∷ xs) a b =
     let r = sum-selected f g h xs (λ y m. a y (List·Memᴰ·tail m)) (λ y m. b y (List·Memᴰ·tail m)) in
-    cond-ind (f x) (x ∷ select f xs) (select f xs) (λ l. g x +ℤ sumOfℤ (map g xs) ≡ sumOfℤ (map h l)) (λ t. ap₂ _+ℤ_ (a x (List·Memᴰ·head refl) t) r)
+    cond-ind (f x) (x ∷ select f xs) (select f xs) (λ l. g x +ℤ sumOfℤ (map g xs) ≡ sumOfℤ (map h l))
+    (λ t. ap₂ _+ℤ_ (a x (List·Memᴰ·head refl) t) r)
     (λ t. let e = b x (List·Memᴰ·head refl) t in simp zl (omega (arith, z, simp zl at e, simp zl at r)))
 
-module _ (p : Plan) (ok : WellFormed p) (u d : List ℤ) (hd : IsImbalance p d) (elsewhere : (i : ℕ) → (List·Memᴰ i (required p) → ⊥) → multipliersOf u i ≡ pos 0) where
+module _ (p : Plan) (ok : WellFormed p) (u d : List ℤ) (hd : IsImbalance p d)
+    (elsewhere : (i : ℕ) → (List·Memᴰ i (required p) → ⊥) → multipliersIn u i ≡ pos 0) where
   -- THE SUM IS THE DEFINITION'S
-  pub price-is : priceOf u d 64 ≡ priceOfImbalance p (multipliersOf u)
+  pub price-is : priceOf u d 64 ≡ priceOfImbalance p (multipliersIn u)
   unfolding priceOf priceOfImbalance required
   price-is =
-      let away : (i : ℕ) → T (not (isRequired p i)) → List·Memᴰ i (required p) → ⊥ = λ i t m. T-not (isRequired p i) t (select-mem (isRequired p) (below (p .n)) m .1) in
-      sum-selected (isRequired p) (term u d) (λ i. multipliersOf u i *ℤ imbalance p [] i) (below 64) (λ i m t. ap (λ (x : ℤ). multipliersOf u i *ℤ x) (hd i (below-mem m)))
+      let away : (i : ℕ) → T (not (isRequired p i)) → List·Memᴰ i (required p) → ⊥ =
+      λ i t m. T-not (isRequired p i) t (select-mem (isRequired p) (below (p .n)) m .1) in
+      sum-selected (isRequired p) (term u d) (λ i. multipliersIn u i *ℤ imbalance p [] i) (below 64)
+      (λ i m t. ap (λ (x : ℤ). multipliersIn u i *ℤ x) (hd i (below-mem m)))
       (λ i m t. ap (λ (x : ℤ). x *ℤ getD d i (pos 0)) (elsewhere i (away i t)) ∙ zero-*ℤ (getD d i (pos 0)))
-      ∙ ap (λ (vs : List ℕ). sumOfℤ (map (λ i. multipliersOf u i *ℤ imbalance p [] i) vs)) (required-of-64 p ok)
+      ∙ ap (λ (vs : List ℕ). sumOfℤ (map (λ i. multipliersIn u i *ℤ imbalance p [] i) vs)) (required-of-64 p ok)

@@ -60,4 +60,5 @@ each-sized (suc n) d m = elim (List·Memᴰ·cases-cons m) [ inl e ↦ subst⁻�
 -- ZEROS ARE THE EMPTY MACHINE
 pub zeros-empty : (rest : List ℕ) → machineIn (replicate districtsBytes 0 ++ rest) ≡ emptyMachine
 zeros-empty rest =
-    ap (λ (x : List ℕ). machineIn (x ++ rest)) (sym empty-zeros) ∙ machine-back emptyMachine (record { eight = refl; each = each-sized 8 }) rest
+    ap (λ (x : List ℕ). machineIn (x ++ rest)) (sym empty-zeros)
+    ∙ machine-back emptyMachine (record { eight = refl; each = each-sized 8 }) rest

@@ -1,5 +1,5 @@
 -- What the test of multipliers says: raised to heights they are feasible for every pair of vs, and tight wherever something is sent.
-use mathlib.Core.Path.{_≡_, subst, subst⁻¹}
+use mathlib.Core.Path.{subst, subst⁻¹}
 use mathlib.Core.Bool.{Bool, true, cond, _&&_}
 use mathlib.Core.List.{List, List·Memᴰ}
 use Prim.Native.Nat.{ℕ, zero, suc, _≤_, _<_}
@@ -13,9 +13,9 @@ use lib.Signed.{leZ, _≤ℤ_, leZ-yes}
 use Rattle.integers.specs.Linear.{z, zl}
 use Rattle.postman.specs.Laws.Tests.{and-parts}
 use Rattle.postman.specs.Laws.Membership.{mem-getD}
-use Rattle.balance.specs.Optimality.{Feasible, Tight}
+use Rattle.balance.specs.Optimality.{ArePotentials, Tight}
 use Rattle.residual_search.specs.Search.{beyond}
-use Rattle.residual_search.specs.Step.{cell, amount}
+use Rattle.postman.specs.Steps.{cell, amount}
 use Rattle.multiplier_steps.specs.Turns.{turns}
 use Rattle.multiplier_steps.specs.Steps.{AreSmall}
 use Rattle.multiplier_steps.specs.Lawful.{passes, isPairLawful, isVertexLawful, areLawful}
@@ -40,7 +40,9 @@ module _ (d f : ℕ) (xi xj : ℤ) (h : T (passes d f xi xj)) where
   not-negative = leZ-yes {a = pos 0} {b = c} (and-parts (leZ (pos 0) c) (cond (ltb 0 f) (leZ c (pos 0)) true) h .0)
 
   not-positive : 0 < f → c ≤ℤ pos 0
-  not-positive l = leZ-yes {a = c} {b = pos 0} (subst (λ b. T (cond b (leZ c (pos 0)) true)) (lt-ltb 0 f l) (and-parts (leZ (pos 0) c) (cond (ltb 0 f) (leZ c (pos 0)) true) h .1))
+  not-positive l =
+      leZ-yes {a = c} {b = pos 0}
+      (subst (λ b. T (cond b (leZ c (pos 0)) true)) (lt-ltb 0 f l) (and-parts (leZ (pos 0) c) (cond (ltb 0 f) (leZ c (pos 0)) true) h .1))
 
 module _ (d : List (List ℕ)) (f vs : List ℕ) (x : List ℤ) (h : T (areLawful d f x vs)) where
   pair : (i j : ℕ) → List·Memᴰ i vs → List·Memᴰ j vs → T (isPairLawful d f x i j)
@@ -55,7 +57,7 @@ module _ (d : List (List ℕ)) (f vs : List ℕ) (x : List ℤ) (h : T (areLawfu
 
   module _ (small : (i : ℕ) → List·Memᴰ i vs → i < 64) (s : AreSmall beyond x) where
     -- AS HEIGHTS THEY ARE FEASIBLE
-    pub lawful-feasible : Feasible (cell d) vs (raised vs small x)
+    pub lawful-feasible : ArePotentials (cell d) vs (raised vs small x)
     lawful-feasible i j mi mj =
         let a = raised-is vs small x s i mi in
         let b = raised-is vs small x s j mj in

@@ -1,4 +1,5 @@
--- Capped multipliers are small. Those less that of the first vertex are 0 there, and elsewhere what the others are above it. Small ones, each raised by `beyond`, are naturals: heights, which the laws of the balancing speak of.
+-- Capped multipliers are small. Those less that of the first vertex are 0 there, and elsewhere what the others are above it. Small ones,
+-- each raised by `beyond`, are naturals: heights, which the laws of the balancing speak of.
 use mathlib.Core.Path.{_≡_, sym, _∙_, subst, subst⁻¹}
 use mathlib.Core.Logic.{inl, inr}
 use mathlib.Core.Bool.{cond}
@@ -19,14 +20,18 @@ use Rattle.multiplier_steps.specs.Laws.Turns.{stored-here, stored-other}
 
 pub capped-small : (a : ℤ) → Within beyond (capped a)
 capped-small a =
-    cond-ind (ltZ a (negℤ (pos beyond))) (negℤ (pos beyond)) (cond (ltZ (pos beyond) a) (pos beyond) a) (Within beyond) (λ t. record { low = omega (arith, z); high = simp zl (omega arith) })
-    (λ t. cond-ind (ltZ (pos beyond) a) (pos beyond) a (Within beyond) (λ u. record { low = simp zl (omega arith); high = omega (arith, z) })
+    cond-ind (ltZ a (negℤ (pos beyond))) (negℤ (pos beyond)) (cond (ltZ (pos beyond) a) (pos beyond) a) (Within beyond)
+    (λ t. record { low = omega (arith, z); high = simp zl (omega arith) })
+    (λ t. cond-ind (ltZ (pos beyond) a) (pos beyond) a (Within beyond)
+    (λ u. record { low = simp zl (omega arith); high = omega (arith, z) })
     (λ u. record { low = ltZ-no {a = a} {b = negℤ (pos beyond)} t; high = ltZ-no {a = pos beyond} {b = a} u }))
 
 -- half of a number, rounded down, is no further from 0
 pub half-small : (m : ℕ) (a : ℤ) → Within m a → Within m (shrZ a 2)
-half-small m (pos n) h = let b = h .high in record { low = simp zl (omega (arith, simp zl at b)); high = simp zl (omega (arith, simp zl at b)) }
-half-small m (negsuc n) h = let b = h .low in record { low = simp zl (omega (arith, simp zl at b)); high = simp zl (omega (arith, simp zl at b)) }
+half-small m (pos n) h = let b = h .high in
+    record { low = simp zl (omega (arith, simp zl at b)); high = simp zl (omega (arith, simp zl at b)) }
+half-small m (negsuc n) h = let b = h .low in
+    record { low = simp zl (omega (arith, simp zl at b)); high = simp zl (omega (arith, simp zl at b)) }
 
 pub zero-small : Within beyond (pos 0)
 zero-small = record { low = simp zl (omega arith); high = simp zl (omega arith) }
@@ -44,7 +49,8 @@ module _ (vs : List ℕ) (small : (i : ℕ) → List·Memᴰ i vs → i < 64) wh
   capped-other : (x : List ℤ) (i : ℕ) → (List·Memᴰ i vs → ⊥) → getD (cappedAll x vs) i (pos 0) ≡ pos 0
   unfolding cappedAll
   capped-other x i n =
-      stored-other (λ v. capped (getD x v (pos 0))) (pos 0) vs (replicate 64 (pos 0)) (length vs) i (λ a l e. n (subst (λ v. List·Memᴰ v vs) (sym e) (getD-mem vs 0 a l))) ∙ zero-at 64 i (pos 0)
+      stored-other (λ v. capped (getD x v (pos 0))) (pos 0) vs (replicate 64 (pos 0)) (length vs) i
+      (λ a l e. n (subst (λ v. List·Memᴰ v vs) (sym e) (getD-mem vs 0 a l))) ∙ zero-at 64 i (pos 0)
 
   -- CAPPED MULTIPLIERS ARE SMALL
   pub all-small : (x : List ℤ) → AreSmall beyond (cappedAll x vs)
@@ -71,7 +77,8 @@ module _ (vs : List ℕ) (small : (i : ℕ) → List·Memᴰ i vs → i < 64) wh
     pub rooted-other : (i : ℕ) → (List·Memᴰ i vs → ⊥) → U i ≡ pos 0
     unfolding rooted
     rooted-other i n =
-        stored-other less (pos 0) vs (replicate 64 (pos 0)) (length vs) i (λ a l e. n (subst (λ v. List·Memᴰ v vs) (sym e) (getD-mem vs 0 a l))) ∙ zero-at 64 i (pos 0)
+        stored-other less (pos 0) vs (replicate 64 (pos 0)) (length vs) i
+        (λ a l e. n (subst (λ v. List·Memᴰ v vs) (sym e) (getD-mem vs 0 a l))) ∙ zero-at 64 i (pos 0)
 
     pub rooted-first : 0 < length vs → U (getD vs 0 0) ≡ pos 0
     rooted-first l = let e = rooted-here (getD vs 0 0) (getD-mem vs 0 0 l) in simp zl (omega (arith, z, simp zl at e))

@@ -31,11 +31,13 @@ module _ {S : Type 0} (g : S → ℕ → S) (vs : List ℕ) (s : S) where
   abbrev at : S → ℕ → S
   at r a = g r (getD vs a 0)
 
-  pub turn-at : (i : ℕ) {v : ℕ} {r r′ : S} → r ≡ turns (λ r a. g r (getD vs a 0)) s i → v ≡ getD vs i 0 → r′ ≡ g r v → r′ ≡ turns (λ r a. g r (getD vs a 0)) s (i + 1)
+  pub turn-at : (i : ℕ) {v : ℕ} {r r′ : S} → r ≡ turns (λ r a. g r (getD vs a 0)) s i → v ≡ getD vs i 0 → r′ ≡ g r v
+      → r′ ≡ turns (λ r a. g r (getD vs a 0)) s (i + 1)
   turn-at i {v} {r} inv ev e = turn at s i inv (e ∙ ap (g r) ev)
 
 -- what each turn keeps
-pub turns-keep : {S : Type 0} (g : S → ℕ → S) (Q : S → Type 0) → ((s : S) (i : ℕ) → Q s → Q (g s i)) → (s : S) → Q s → (n : ℕ) → Q (turns g s n)
+pub turns-keep : {S : Type 0} (g : S → ℕ → S) (Q : S → Type 0) → ((s : S) (i : ℕ) → Q s → Q (g s i)) → (s : S) → Q s → (n : ℕ)
+    → Q (turns g s n)
 unfolding turns
 turns-keep g Q h s q zero = q
 turns-keep g Q h s q (suc n) = h (turns g s n) n (turns-keep g Q h s q n)
@@ -55,7 +57,8 @@ module _ {A : Type 0} (g : ℕ → A) (z : A) (vs : List ℕ) (s : List A) where
   stored-here zero a l m = absurd (omega arith)
   stored-here (suc n) a l m = elim (ℕ-discrete (getD vs a 0) (getD vs n 0)) [
     | yes e ↦ let k = stored-length n in
-        ap (λ v. getD (set (stored n) (getD vs n 0) (g (getD vs n 0))) v z) e ∙ getD-set-same (stored n) (getD vs n 0) (g (getD vs n 0)) z (omega arith) ∙ ap g (sym e)
+        ap (λ v. getD (set (stored n) (getD vs n 0) (g (getD vs n 0))) v z) e
+        ∙ getD-set-same (stored n) (getD vs n 0) (g (getD vs n 0)) z (omega arith) ∙ ap g (sym e)
     | no e ↦ elim (ℕ-discrete a n) [
       | yes q ↦ absurd (e (ap (λ i. getD vs i 0) q))
       | no q ↦ getD-set-other (stored n) (getD vs n 0) (getD vs a 0) (g (getD vs n 0)) z e ∙ stored-here n a (omega arith) m
@@ -65,4 +68,5 @@ module _ {A : Type 0} (g : ℕ → A) (z : A) (vs : List ℕ) (s : List A) where
   pub stored-other : (n v : ℕ) → ((a : ℕ) → a < n → v ≡ getD vs a 0 → ⊥) → getD (stored n) v z ≡ getD s v z
   unfolding turns
   stored-other zero v h = refl
-  stored-other (suc n) v h = getD-set-other (stored n) (getD vs n 0) v (g (getD vs n 0)) z (h n (omega arith)) ∙ stored-other n v (λ a l. h a (omega arith))
+  stored-other (suc n) v h =
+      getD-set-other (stored n) (getD vs n 0) v (g (getD vs n 0)) z (h n (omega arith)) ∙ stored-other n v (λ a l. h a (omega arith))

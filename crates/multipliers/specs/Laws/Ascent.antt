@@ -1,4 +1,5 @@
--- The multipliers that are answered are lawful, 0 at the root, and give a bound no lower than that of the greatest ones: each step of an ascent keeps that of the best it has met, whatever multipliers it goes to.
+-- The multipliers that are answered are lawful, 0 at the root, and give a bound no lower than that of the greatest ones: each step of an
+-- ascent keeps that of the best it has met, whatever multipliers it goes to.
 use mathlib.Core.Path.{_≡_, refl, sym, ap, _∙_, subst, subst⁻¹}
 use mathlib.Core.Bool.{Bool, true, _&&_}
 use mathlib.Core.List.{List, [], List·Memᴰ}
@@ -17,14 +18,14 @@ use Rattle.postman.specs.LagrangianBound.{Multipliers, AreGreatest, lagrangianB
 use Rattle.postman.specs.PlanCall.{root}
 use Rattle.postman.specs.Laws.Tests.{cond-ind, and-parts}
 use Rattle.postman.specs.Laws.Multiplier.{greatest-unique}
-use Rattle.postman.specs.Steps.{Plannable}
+use Rattle.postman.specs.Steps.{Plannable, cell}
 use Rattle.residual_search.specs.Search.{beyond}
-use Rattle.residual_search.specs.Step.{State, cell}
+use Rattle.residual_search.specs.Step.{State}
 use Rattle.balance.specs.Balance.{balance}
 use Rattle.residual_search.specs.Bounds.{AtMost}
 use Rattle.balance.specs.Laws.Step.{vertices-small}
 use Rattle.direct_amounts.specs.Laws.Plan.{plan-metric}
-use Rattle.pair_costs.specs.PairCosts.{multipliersOf}
+use Rattle.pair_costs.specs.PairCosts.{multipliersIn}
 use Rattle.ascent.specs.Step.{step}
 use Rattle.ascent.specs.Laws.Bodies.{step-small}
 use Rattle.multiplier_steps.specs.Turns.{turns}
@@ -50,12 +51,15 @@ module _ (p : Plan) (d : List (List ℕ)) (f vs components : List ℕ) (k : ℕ)
 
   attempt-bounded : (c : Climb) → Bounded c → Bounded (attempt p d f vs components k c)
   unfolding attempt
-  attempt-bounded c h = cond-ind (areLawful d f (c .multipliers) vs && ltZ (c .bound) (boundOf p (rooted (c .multipliers) vs))) _ c Bounded (λ t. refl) (λ t. h)
+  attempt-bounded c h =
+      cond-ind (areLawful d f (c .multipliers) vs && ltZ (c .bound) (boundOf p (rooted (c .multipliers) vs))) _ c Bounded (λ t. refl)
+      (λ t. h)
 
   climb-bounded : (c : Climb) (i : ℕ) → Bounded c → Bounded (climb p d f vs components k c i)
   unfolding climb
   climb-bounded c i h =
-      cond-ind (c .done) c _ Bounded (λ t. h) (λ t. cond-ind (ltZ (c .value) _) (attempt p d f vs components k c) c Bounded (λ t. attempt-bounded c h) (λ t. h))
+      cond-ind (c .done) c _ Bounded (λ t. h)
+      (λ t. cond-ind (ltZ (c .value) _) (attempt p d f vs components k c) c Bounded (λ t. attempt-bounded c h) (λ t. h))
 
   pub ascent-bounded : (u : List ℤ) (n : ℕ) → Bounded (turns (climb p d f vs components k) (begin p d f vs components k u) n)
   unfolding begin
@@ -81,7 +85,8 @@ module _ (p : Plan) (ok : Plannable p) (few : componentCount p ≤ 8) where
   -- lawful multipliers that are 0 at the root are small
   pub rooted-small : (u : List ℤ) → Rooted p u → AreSmall beyond u
   rooted-small u r v l =
-      let w = multipliers-near p ok (multipliersOf u) (r .multipliers .feasible) (r .multipliers .elsewhere) (root p) (root-required p ok few) (r .at-root) v in
+      let w = multipliers-near p ok (multipliersIn u) (r .multipliers .feasible) (r .multipliers .elsewhere) (root p)
+      (root-required p ok few) (r .at-root) v in
       let a = w .low in
       let b = w .high in
       record { low = simp zl (omega (arith, z, simp zl at a)); high = simp zl (omega (arith, z, simp zl at b)) }
@@ -92,8 +97,15 @@ module _ (p : Plan) (ok : Plannable p) (few : componentCount p ≤ 8) where
     attempt-kept c h =
         cond-ind (areLawful d f (c .multipliers) (required p) && ltZ (c .bound) (boundOf p (rooted (c .multipliers) (required p)))) _ c Kept
         (λ t.
-        let s = and-parts (areLawful d f (c .multipliers) (required p)) (ltZ (c .bound) (boundOf p (rooted (c .multipliers) (required p)))) t in
-        record { rooted = lawful-at-root p ok few (c .multipliers) (h .small) (s .0); bound-is = refl; above = (let a = h .above in let b = ltZ-yes {a = c .bound} {b = boundOf p (rooted (c .multipliers) (required p))} (s .1) in omega (arith, z)); small = h .small })
+        let s = and-parts (areLawful d f (c .multipliers) (required p))
+        (ltZ (c .bound) (boundOf p (rooted (c .multipliers) (required p)))) t in
+        record {
+          rooted = lawful-at-root p ok few (c .multipliers) (h .small) (s .0);
+          bound-is = refl;
+          above = (let a = h .above in let b = ltZ-yes {a = c .bound} {b = boundOf p (rooted (c .multipliers) (required p))} (s .1) in
+              omega (arith, z));
+          small = h .small;
+        })
         (λ t. h)
 
     climb-kept : (c : Climb) (i : ℕ) → Kept c → Kept (climb p d f (required p) components k c i)
@@ -102,14 +114,22 @@ module _ (p : Plan) (ok : Plannable p) (few : componentCount p ≤ 8) where
         cond-ind (c .done) c _ Kept (λ t. h)
         (λ t.
         let b = cond-ind (ltZ (c .value) _) (attempt p d f (required p) components k c) c Kept (λ t. attempt-kept c h) (λ t. h) in
-        record { rooted = b .rooted; bound-is = b .bound-is; above = b .above; small = step-small d f (required p) (eqb (i % 2) 1) low components k (c .stride) (c .multipliers) (c .before) })
+        record {
+          rooted = b .rooted;
+          bound-is = b .bound-is;
+          above = b .above;
+          small = step-small d f (required p) (eqb (i % 2) 1) low components k (c .stride) (c .multipliers) (c .before);
+        })
 
     begin-kept : Kept (begin p d f (required p) components k (greatestOf p))
     unfolding begin
-    begin-kept = let r = greatest-rooted p ok few (greatestOf p) refl in record { rooted = r; bound-is = refl; above = omega (arith, z); small = rooted-small (greatestOf p) r }
+    begin-kept = let r = greatest-rooted p ok few (greatestOf p) refl in
+        record { rooted = r; bound-is = refl; above = omega (arith, z); small = rooted-small (greatestOf p) r }
 
     ascent-kept : Kept (turns (climb p d f (required p) components k) (begin p d f (required p) components k (greatestOf p)) 20)
-    ascent-kept = turns-keep (climb p d f (required p) components k) Kept climb-kept (begin p d f (required p) components k (greatestOf p)) begin-kept 20
+    ascent-kept =
+        turns-keep (climb p d f (required p) components k) Kept climb-kept
+        (begin p d f (required p) components k (greatestOf p)) begin-kept 20
 
   -- THEY ARE LAWFUL, AND 0 AT THE ROOT
   pub answered-rooted : Rooted p (multipliersFor p)
@@ -121,15 +141,17 @@ module _ (p : Plan) (ok : Plannable p) (few : componentCount p ≤ 8) where
   unfolding multipliersFor ascent greatestOf
   answered-above v g =
       let k = ascent-kept (componentsOf p) (componentCount p) in
-      let e = greatest-unique p (root p) v (multipliersOf (greatestOf p)) g (greatest p ok few) in
+      let e = greatest-unique p (root p) v (multipliersIn (greatestOf p)) g (greatest p ok few) in
       let a = k .above in
       let b = k .bound-is in
-      subst⁻¹ (λ (v : Multipliers). lagrangianBound p v ≤ℤ boundOf p (multipliersFor p)) e (subst (λ (x : ℤ). boundOf p (greatestOf p) ≤ℤ x) b a)
+      subst⁻¹ (λ (v : Multipliers). lagrangianBound p v ≤ℤ boundOf p (multipliersFor p)) e
+      (subst (λ (x : ℤ). boundOf p (greatestOf p) ≤ℤ x) b a)
 
 -- ---- over the lists that the code has
 
 -- a plan's state and its network, taken apart
-pub is-prepared : (p : Plan) (table : List (List ℕ)) (vs : List ℕ) (base : State) → IsBase p table vs base → (net : Network) → IsNetwork p net → length (net .required) ≡ 64
+pub is-prepared : (p : Plan) (table : List (List ℕ)) (vs : List ℕ) (base : State) → IsBase p table vs base → (net : Network)
+    → IsNetwork p net → length (net .required) ≡ 64
     → IsPrepared p table (base .amounts) vs (net .component) (net .required) (net .components) (net .«required_cost») (net .imbalance)
 is-prepared p table vs base b net n l = record {
   known = b .known;
@@ -141,7 +163,8 @@ is-prepared p table vs base b net n l = record {
   imbalance = n .imbalance;
 }
 
-module _ (p : Plan) (table : List (List ℕ)) (f vs c : List ℕ) (flags : List Bool) (k r : ℕ) (d : List ℤ) (h : IsPrepared p table f vs c flags k r d) where
+module _ (p : Plan) (table : List (List ℕ)) (f vs c : List ℕ) (flags : List Bool) (k r : ℕ) (d : List ℤ)
+    (h : IsPrepared p table f vs c flags k r d) where
   -- the state that the amounts are of
   abbrev base : State
   base = balance (cell (tableOf p)) p []
@@ -179,7 +202,8 @@ module _ (p : Plan) (table : List (List ℕ)) (f vs c : List ℕ) (flags : List 
 
   -- the bound of multipliers that are 0 at the root can be asked for
   rooted-priced : (u : List ℤ) → Rooted p u → IsPriced p table u c flags k r d
-  rooted-priced u e = priced p table vs base is-base u e c flags k r d (h .long) (h .required-flags) (h .components) (h .cost) (h .imbalance)
+  rooted-priced u e =
+      priced p table vs base is-base u e c flags k r d (h .long) (h .required-flags) (h .components) (h .cost) (h .imbalance)
 
   -- so can that of the greatest ones
   pub greatest-priced : (u : List ℤ) → u ≡ greatestOf p → IsPriced p table u c flags k r d
@@ -189,10 +213,13 @@ module _ (p : Plan) (table : List (List ℕ)) (f vs c : List ℕ) (flags : List 
   greatest-small u e = rooted-small p (h .known .plannable) (h .known .few) u (greatest-rooted p (h .known .plannable) (h .known .few) u e)
 
   -- and that of multipliers that pass the test
-  pub lawful-priced : (x : List ℤ) → AreSmall beyond x → {b : Bool} → b ≡ areLawful table f x vs → b ≡ true → (u : List ℤ) → u ≡ rooted x vs → IsPriced p table u c flags k r d
+  pub lawful-priced : (x : List ℤ) → AreSmall beyond x → {b : Bool} → b ≡ areLawful table f x vs → b ≡ true → (u : List ℤ)
+      → u ≡ rooted x vs → IsPriced p table u c flags k r d
   lawful-priced x small e y u eu =
       let t : T (areLawful table f x vs) = subst⁻¹ (λ (b : Bool). T b) (sym e ∙ y) tt in
-      rooted-priced u (subst⁻¹ (Rooted p) eu (lawful-rooted p table vs base is-base x small (subst (λ (f : List ℕ). T (areLawful table f x vs)) (h .amounts-are) t)))
+      rooted-priced u
+      (subst⁻¹ (Rooted p) eu
+      (lawful-rooted p table vs base is-base x small (subst (λ (f : List ℕ). T (areLawful table f x vs)) (h .amounts-are) t)))
 
   -- a step from whatever multipliers goes to small ones
   pub stepped-small : (up : Bool) (s : ℕ) (x before : List ℤ) → AreSmall beyond (step table f vs c k up s x before .multipliers)

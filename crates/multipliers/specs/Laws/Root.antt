@@ -7,7 +7,8 @@ use lib.ListN.{length, getD}
 use Rattle.postman.specs.Plan.{Plan}
 use Rattle.postman.specs.PlanCall.{root}
 use Rattle.postman.specs.Laws.Membership.{getD-mem}
-use Rattle.residual_search.specs.Step.{State, cell}
+use Rattle.postman.specs.Steps.{cell}
+use Rattle.residual_search.specs.Step.{State}
 use Rattle.balance.specs.Invariant.{Certified}
 use Rattle.balance.specs.Multipliers.{multipliers}
 use Rattle.multipliers.specs.Prepared.{IsBase}

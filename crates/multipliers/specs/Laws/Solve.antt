@@ -1,4 +1,5 @@
--- From a prepared plan to what the search and the bounds ask: the greatest multipliers are lawful, and so are those that pass the test, once that of the root is taken off.
+-- From a prepared plan to what the search and the bounds ask: the greatest multipliers are lawful, and so are those that pass
+-- the test, once that of the root is taken off.
 use mathlib.Core.Path.{_≡_, sym, ap, _∙_, subst, subst⁻¹}
 use mathlib.Core.Bool.{Bool}
 use mathlib.Core.List.{List, [], List·Memᴰ, List·Memᴰ·head, List·Memᴰ·tail}
@@ -17,15 +18,15 @@ use Rattle.postman.specs.Laws.Distance.{bounded}
 use Rattle.postman.specs.Laws.Required.{number-ends}
 use Rattle.postman.specs.Laws.Component.{component-lt}
 use Rattle.postman.specs.Laws.Existence.{some-required}
-use Rattle.postman.specs.Steps.{Plannable}
-use Rattle.residual_search.specs.Step.{State, cell}
+use Rattle.postman.specs.Steps.{Plannable, cell}
+use Rattle.residual_search.specs.Step.{State}
 use Rattle.balance.specs.Balance.{balance}
 use Rattle.balance.specs.Multipliers.{multipliers}
 use Rattle.direct_amounts.specs.Laws.Plan.{plan-metric, heights-multipliers, multipliers-greatest}
 use Rattle.required.specs.Contracts.{IsImbalance, IsLinks, IsRequiredFlags, IsComponents}
 use Rattle.arborescence.specs.Layout.{laidOut, IsLayout}
 use Rattle.arborescence.specs.Candidates.{AreCandidates}
-use Rattle.pair_costs.specs.PairCosts.{multipliersOf}
+use Rattle.pair_costs.specs.PairCosts.{multipliersIn}
 use Rattle.residual_search.specs.Search.{beyond}
 use Rattle.multiplier_steps.specs.Steps.{AreSmall, rooted}
 use Rattle.multiplier_steps.specs.Lawful.{areLawful}
@@ -52,8 +53,8 @@ nonempty (List·Memᴰ·tail m) = omega arith
 
 -- Multipliers that are 0 at the root.
 pub record Rooted (p : Plan) (u : List ℤ) : Type 0 where
-  pub multipliers : AreMultipliers p (multipliersOf u)
-  pub at-root : multipliersOf u (root p) ≡ pos 0
+  pub multipliers : AreMultipliers p (multipliersIn u)
+  pub at-root : multipliersIn u (root p) ≡ pos 0
 
 module _ (p : Plan) (ok : Plannable p) (few : componentCount p ≤ 8) where
   abbrev d : ℕ → ℕ → ℕ
@@ -73,7 +74,7 @@ module _ (p : Plan) (ok : Plannable p) (few : componentCount p ≤ 8) where
   abbrev s : State
   s = balance d p []
 
-  pub greatest : AreGreatest p (root p) (multipliersOf (multipliers d (required p) s (root p)))
+  pub greatest : AreGreatest p (root p) (multipliersIn (multipliers d (required p) s (root p)))
   greatest = multipliers-greatest p (ok .well-formed) (ok .connected) d (agrees p ok few) (root p) root-required
 
   -- they are lawful, and 0 at the root
@@ -82,14 +83,17 @@ module _ (p : Plan) (ok : Plannable p) (few : componentCount p ≤ 8) where
   greatest-rooted u e = subst⁻¹ (Rooted p) e (record { multipliers = greatest .multipliers; at-root = greatest .at-root })
 
   -- multipliers that pass the test are lawful, once that of the root is taken off
-  pub lawful-at-root : (x : List ℤ) → AreSmall beyond x → T (areLawful (tableOf p) (s .amounts) x (required p)) → Rooted p (rooted x (required p))
+  pub lawful-at-root : (x : List ℤ) → AreSmall beyond x → T (areLawful (tableOf p) (s .amounts) x (required p))
+      → Rooted p (rooted x (required p))
   unfolding root
   lawful-at-root x h t =
       let small = plan-metric p (ok .well-formed) (ok .connected) .small in
       record {
         multipliers =
-            heights-multipliers p (ok .well-formed) (ok .connected) d (agrees p ok few) (raised (required p) small x) (lawful-feasible (tableOf p) (s .amounts) (required p) x t small h)
-            (lawful-tight (tableOf p) (s .amounts) (required p) x t small h) (multipliersOf (rooted x (required p))) (raised (required p) small x (getD (required p) 0 0)) (rooted-raised (required p) small x h some-vertex)
+            heights-multipliers p (ok .well-formed) (ok .connected) d (agrees p ok few) (raised (required p) small x)
+            (lawful-feasible (tableOf p) (s .amounts) (required p) x t small h)
+            (lawful-tight (tableOf p) (s .amounts) (required p) x t small h) (multipliersIn (rooted x (required p)))
+            (raised (required p) small x (getD (required p) 0 0)) (rooted-raised (required p) small x h some-vertex)
             (rooted-other (required p) small x);
         at-root = rooted-first (required p) small x some-vertex;
       }
@@ -99,16 +103,20 @@ module _ (p : Plan) (table : List (List ℕ)) (vs : List ℕ) (base : State) (b 
   pub greatest-is : (u : List ℤ) → u ≡ multipliers (cell table) vs base (root p) → u ≡ greatestOf p
   unfolding greatestOf
   greatest-is u e =
-      e ∙ ap (λ (x : List (List ℕ)). multipliers (cell x) vs base (root p)) (b .known .distances) ∙ ap (λ (v : List ℕ). multipliers (cell (tableOf p)) v base (root p)) (b .known .vertices)
+      e ∙ ap (λ (x : List (List ℕ)). multipliers (cell x) vs base (root p)) (b .known .distances)
+      ∙ ap (λ (v : List ℕ). multipliers (cell (tableOf p)) v base (root p)) (b .known .vertices)
       ∙ ap (λ (s : State). multipliers (cell (tableOf p)) (required p) s (root p)) (b .base-is)
 
   -- multipliers that pass the test are lawful, once that of the root is taken off
   pub lawful-rooted : (x : List ℤ) → AreSmall beyond x → T (areLawful table (base .amounts) x vs) → Rooted p (rooted x vs)
   lawful-rooted x small h =
-      let d : T (areLawful (tableOf p) (base .amounts) x vs) = subst (λ (t : List (List ℕ)). T (areLawful t (base .amounts) x vs)) (b .known .distances) h in
-      let v : T (areLawful (tableOf p) (base .amounts) x (required p)) = subst (λ (vs : List ℕ). T (areLawful (tableOf p) (base .amounts) x vs)) (b .known .vertices) d in
+      let d : T (areLawful (tableOf p) (base .amounts) x vs) =
+      subst (λ (t : List (List ℕ)). T (areLawful t (base .amounts) x vs)) (b .known .distances) h in
+      let v : T (areLawful (tableOf p) (base .amounts) x (required p)) =
+      subst (λ (vs : List ℕ). T (areLawful (tableOf p) (base .amounts) x vs)) (b .known .vertices) d in
       let s = subst (λ (s : State). T (areLawful (tableOf p) (s .amounts) x (required p))) (b .base-is) v in
-      subst⁻¹ (λ (vs : List ℕ). Rooted p (rooted x vs)) (b .known .vertices) (lawful-at-root p (b .known .plannable) (b .known .few) x small s)
+      subst⁻¹ (λ (vs : List ℕ). Rooted p (rooted x vs)) (b .known .vertices)
+      (lawful-at-root p (b .known .plannable) (b .known .few) x small s)
 
 module _ (p : Plan) (table : List (List ℕ)) (vs : List ℕ) (base : State) (b : IsBase p table vs base) (u : List ℤ) (e : Rooted p u) where
   abbrev ok : Plannable p
@@ -117,7 +125,8 @@ module _ (p : Plan) (table : List (List ℕ)) (vs : List ℕ) (base : State) (b 
   abbrev few : componentCount p ≤ 8
   few = b .known .few
 
-  pub priced : (c : List ℕ) (flags : List Bool) (k r : ℕ) (d : List ℤ) → length flags ≡ 64 → IsRequiredFlags p flags → IsComponents p c k → r ≡ requiredCost p → IsImbalance p d
+  pub priced : (c : List ℕ) (flags : List Bool) (k r : ℕ) (d : List ℤ) → length flags ≡ 64 → IsRequiredFlags p flags → IsComponents p c k
+      → r ≡ requiredCost p → IsImbalance p d
       → IsPriced p table u c flags k r d
   priced c flags k r d long hf hc hr hd = record {
     plannable = ok;
@@ -136,7 +145,8 @@ module _ (p : Plan) (table : List (List ℕ)) (vs : List ℕ) (base : State) (b 
     at-root = e .at-root;
   }
 
-  pub prepared : (k : ℕ) (c : Candidates) → k ≡ componentCount p → AreLaidOut p c → Prepared p table vs (c .start) (c .source) (c .tails) (c .heads) k
+  pub prepared : (k : ℕ) (c : Candidates) → k ≡ componentCount p → AreLaidOut p c
+      → Prepared p table vs (c .start) (c .source) (c .tails) (c .heads) k
   prepared k c hk h = record {
     plannable = ok;
     few = few;
@@ -149,7 +159,8 @@ module _ (p : Plan) (table : List (List ℕ)) (vs : List ℕ) (base : State) (b 
   }
 
   -- what the search begins with: the state, the multipliers, R, and the entries counted from the network
-  pub given : (r : ℕ) (links : List Bool) (of : List ℕ) (k : ℕ) (entries : List ℕ) → r ≡ requiredCost p → IsLinks p links → IsComponents p of k → AreCounted links of 4096 entries → AreGiven p table base u r entries
+  pub given : (r : ℕ) (links : List Bool) (of : List ℕ) (k : ℕ) (entries : List ℕ) → r ≡ requiredCost p → IsLinks p links
+      → IsComponents p of k → AreCounted links of 4096 entries → AreGiven p table base u r entries
   unfolding entriesIn sources
   given r links of k entries hr hl hc h = record {
     base-is = b .base-is ∙ ap (λ (x : List (List ℕ)). balance (cell x) p []) (sym (b .known .distances));

@@ -1,5 +1,5 @@
--- A table of 64 rows of 64 that holds the distances is the table of the definition: lists of one length that agree at every place are equal. And a table that a function answered has
--- such rows.
+-- A table of 64 rows of 64 that holds the distances is the table of the definition: lists of one length that agree at every place are
+-- equal. And a table that a function answered has such rows.
 use mathlib.Core.Path.{_≡_, refl, ap, _∙_}
 use mathlib.Core.List.{List, [], _∷_, map}
 use Prim.Native.Nat.{ℕ, zero, suc, _+_, _<_}
@@ -35,7 +35,8 @@ table-is p t e r h =
     filled (λ i. map (distance p i) (upFrom 0 64)) [] t 0 64 e (λ i l. row i l ∙ ap (λ i. map (distance p i) (upFrom 0 64)) (omega arith))
 
 -- each row of an array of arrays has the length of its type
-pub rows : (xs : List (List ℕ)) (us : List Val) → shadow (each (List ℕ) (eArr (eInt w32) 64 .ty .own) xs us) → (i : ℕ) → i < length xs → length (getD xs i []) ≡ 64
+pub rows : (xs : List (List ℕ)) (us : List Val) → shadow (each (List ℕ) (eArr (eInt w32) 64 .ty .own) xs us) → (i : ℕ) → i < length xs
+    → length (getD xs i []) ≡ 64
 rows [] [] s i l = absurd (omega arith)
 rows [] (u ∷ us) s i l = absurd s
 rows (x ∷ xs) [] s i l = absurd s

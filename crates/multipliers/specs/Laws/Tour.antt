@@ -1,4 +1,5 @@
--- The drive that is written is a drive of the answer's cost: the first tree of least cost and the amounts complete the required arcs, at the completion cost.
+-- The drive that is written is a drive of the answer's cost: the first tree of least cost and the amounts
+-- complete the required arcs, at the completion cost.
 use mathlib.Core.Path.{_≡_, ap, _∙_, subst}
 use mathlib.Core.Logic.{inl, inr}
 use mathlib.Core.List.{List, [], _++_, map, List·Memᴰ, Memᴰ·append-left}
@@ -18,11 +19,11 @@ use Rattle.postman.specs.Balancing.{balancingCost, leastBalancing, completionCo
 use Rattle.postman.specs.PlanCall.{triedCount, bestArborescence, IsAnswerTour}
 use Rattle.postman.specs.Laws.Membership.{getD-map-upFrom}
 use Rattle.postman.specs.Laws.Required.{required-lt}
-use Rattle.postman.specs.Steps.{Joins, Plannable}
+use Rattle.postman.specs.Steps.{Joins, Plannable, cell, amount}
 use Rattle.postman.specs.Laws.Arborescence.{arborescences-mem, joins}
 use Rattle.postman.specs.Laws.Optimality.{some-arborescence}
 use Rattle.postman.specs.Laws.Search.{best-mem, best-value}
-use Rattle.residual_search.specs.Step.{cell, State, empty, amount}
+use Rattle.residual_search.specs.Step.{State, empty}
 use Rattle.balance.specs.Balance.{balance, requiredEnds}
 use Rattle.direct_amounts.specs.Direct.{direct}
 use Rattle.balance.specs.Optimality.{sent, received}
@@ -44,7 +45,8 @@ row-at f j l = getD-map-upFrom f 0 64 j 0 l ∙ ap f (zero-add j)
 pub table-at : (p : Plan) (i j : ℕ) → i < 64 → j < 64 → cell (tableOf p) i j ≡ distance p i j
 unfolding tableOf below
 table-at p i j li lj =
-    ap (λ (r : List ℕ). getD r j 0) (getD-map-upFrom (λ i. map (distance p i) (below 64)) 0 64 i [] li ∙ ap (λ i. map (distance p i) (below 64)) (zero-add i))
+    ap (λ (r : List ℕ). getD r j 0)
+    (getD-map-upFrom (λ i. map (distance p i) (below 64)) 0 64 i [] li ∙ ap (λ i. map (distance p i) (below 64)) (zero-add i))
     ∙ row-at (distance p i) j lj
 
 pub is-table : (p : Plan) (table : List (List ℕ)) → table ≡ tableOf p → IsTable p table
@@ -118,7 +120,8 @@ module _ (p : Plan) (ok : Plannable p) (few : componentCount p ≤ 8) where
   unfolding tourOf
   answer-tour budget l =
       let n = some-arborescence p ok in
-      let m = subst (λ (ts : List (List Link)). List·Memᴰ (bestArborescence p budget) ts) (take-append-drop (triedCount p budget) (arborescences p))
+      let m = subst (λ (ts : List (List Link)). List·Memᴰ (bestArborescence p budget) ts)
+      (take-append-drop (triedCount p budget) (arborescences p))
       (Memᴰ·append-left (drop (triedCount p budget) (arborescences p)) (best-mem p budget l n)) in
       let t = bestArborescence p budget in
       let a = arborescences-mem p m in

@@ -17,8 +17,8 @@ use Rattle.postman.specs.Laws.Membership.{anyOf-mem, anyOf-at, mem-below, below
 use Rattle.postman.specs.Laws.Distance.{bounded, distance-le-noPath}
 use Rattle.shortest.specs.Contracts.{IsTable}
 use Rattle.required.specs.Contracts.{IsRequiredFlags}
-use Rattle.network.specs.Thinning.{cell}
-use Rattle.network.specs.CutOff.{isMissed, missesSome, isCut, cutsOff}
+use Rattle.postman.specs.Steps.{cell}
+use Rattle.network.specs.CutOff.{hasNoPath, missesSome, isCut, cutsOff}
 use Rattle.required.specs.Laws.RequiredVertex.{required-of, of-required, required-below}
 
 module _ (p : Plan) (ok : WellFormed p) (d : List (List ℕ)) (r : List Bool) (known : IsTable p d) (flags : IsRequiredFlags p r) where
@@ -35,7 +35,8 @@ module _ (p : Plan) (ok : WellFormed p) (d : List (List ℕ)) (r : List Bool) (k
       let e = known i j hi hj in
       let b = distance-le-noPath p (bounded ok .ends) i j in
       same-test (eqb (cell d i j) 4294967295) (not (ltb (distance p i j) noPath))
-      (λ t. let q = eqb→eq (cell d i j) 4294967295 t in not-T (ltb (distance p i j) noPath) (λ u. let l = ltb→lt (distance p i j) noPath u in omega arith))
+      (λ t. let q = eqb→eq (cell d i j) 4294967295 t in
+      not-T (ltb (distance p i j) noPath) (λ u. let l = ltb→lt (distance p i j) noPath u in omega arith))
       (λ t. eqb-same {i = cell d i j} {j = 4294967295} (elim (decLe noPath (distance p i j)) [
         | yes g ↦ omega arith
         | no g ↦ absurd (T-not (ltb (distance p i j) noPath) t (lt→ltb (distance p i j) noPath (omega arith)))
@@ -44,16 +45,16 @@ module _ (p : Plan) (ok : WellFormed p) (d : List (List ℕ)) (r : List Bool) (k
   misses-some : (i : ℕ) → i < 64 → missesSome d r i ≡ anyOf (λ j. not (hasPath p i j)) (required p)
   unfolding missesSome
   misses-some i hi =
-      same-test (anyOf (isMissed d r i) (below 64)) (anyOf (λ j. not (hasPath p i j)) (required p))
+      same-test (anyOf (hasNoPath d r i) (below 64)) (anyOf (λ j. not (hasPath p i j)) (required p))
       (λ t.
-      let x = anyOf-at (isMissed d r i) (below 64) t in
+      let x = anyOf-at (hasNoPath d r i) (below 64) t in
       let l = below-mem (x .1) in
       let b = and-parts (getD r (x .0) false) (eqb (cell d i (x .0)) 4294967295) (x .2) in
       anyOf-mem (λ j. not (hasPath p i j)) (flagged l (b .0)) (subst T (no-path i (x .0) hi l) (b .1)))
       (λ t.
       let x = anyOf-at (λ j. not (hasPath p i j)) (required p) t in
       let l = required-below p ok (x .1) in
-      anyOf-mem (isMissed d r i) (mem-below l)
+      anyOf-mem (hasNoPath d r i) (mem-below l)
       (and-both (getD r (x .0) false) (eqb (cell d i (x .0)) 4294967295) (flag-of (x .1)) (subst⁻¹ T (no-path i (x .0) hi l) (x .2))))
 
   pub cut-off : cutsOff d r ≡ isCutOff p
@@ -69,4 +70,5 @@ module _ (p : Plan) (ok : WellFormed p) (d : List (List ℕ)) (r : List Bool) (k
       (λ t.
       let x = anyOf-at f (required p) t in
       let l = required-below p ok (x .1) in
-      anyOf-mem (isCut d r) (mem-below l) (and-both (getD r (x .0) false) (missesSome d r (x .0)) (flag-of (x .1)) (subst⁻¹ T (misses-some (x .0) l) (x .2))))
+      anyOf-mem (isCut d r) (mem-below l)
+      (and-both (getD r (x .0) false) (missesSome d r (x .0)) (flag-of (x .1)) (subst⁻¹ T (misses-some (x .0) l) (x .2))))

@@ -12,7 +12,8 @@ use borrow.Author.Tests.{not-true, eqb-true, lt-ltb}
 use native.Mathlib.Decide.{ℕ-discrete}
 use Rattle.postman.specs.Laws.Tests.{cond-ind}
 use Rattle.postman.specs.Lists.{anyOf, below}
-use Rattle.network.specs.Thinning.{cell, flag, far, nearby, between, turnAt, rowThinned, rowsThinned}
+use Rattle.postman.specs.Steps.{cell}
+use Rattle.network.specs.Thinning.{flag, far, nearby, between, turnAt, rowThinned, rowsThinned}
 use Rattle.required.specs.Laws.Search.{some-below, none-below}
 
 -- a conjunction that fails by a part, and one that holds by both
@@ -26,7 +27,8 @@ pub both : {a b : Bool} → a ≡ true → b ≡ true → (a && b) ≡ true
 both e f = rw (e, f)
 
 module _ (d : List (List ℕ)) (held : List Bool) (i j : ℕ) where
-  turn-by : {b : Bool} → (flag held i j && anyOf (between d held i j) (below 64)) ≡ b → turnAt d held i j ≡ cond b (set held (i * 64 + j) false) held
+  turn-by : {b : Bool} → (flag held i j && anyOf (between d held i j) (below 64)) ≡ b
+      → turnAt d held i j ≡ cond b (set held (i * 64 + j) false) held
   unfolding turnAt
   turn-by e = ap (λ b. cond b (set held (i * 64 + j) false) held) e
 
@@ -51,7 +53,8 @@ module _ (d : List (List ℕ)) (held : List Bool) (i j : ℕ) where
     pub via-long : eqb (cell d i j) (cell d i k + cell d k j) ≡ false → between d held i j k ≡ false
     via-long e = no-right (flag held i k && flag held k j) e
 
-    pub via-found : flag held i k ≡ true → flag held k j ≡ true → eqb (cell d i j) (cell d i k + cell d k j) ≡ true → between d held i j k ≡ true
+    pub via-found : flag held i k ≡ true → flag held k j ≡ true → eqb (cell d i j) (cell d i k + cell d k j) ≡ true
+        → between d held i j k ≡ true
     via-found a b e = both (both a b) e
 
 -- what is held is among the pairs
@@ -73,7 +76,8 @@ module _ (d : List (List ℕ)) (pairs held : List Bool) (i j : ℕ) (row columns
       let b : (j * 64 + k) / 64 ≡ j = omega arith in
       columns-are (j * 64 + k) (omega arith) ∙ ap₂ (λ (p q : ℕ). nearby (flag pairs p q) (cell d p q)) a b
 
-  short-between : j < 64 → cell d i j < far → ((k : ℕ) → k < 64 → getD row k 0 + getD columns (j * 64 + k) 0 ≡ cell d i j → ⊥) → (k : ℕ) → k < 64 → between d held i j k ≡ false
+  short-between : j < 64 → cell d i j < far → ((k : ℕ) → k < 64 → getD row k 0 + getD columns (j * 64 + k) 0 ≡ cell d i j → ⊥) → (k : ℕ)
+      → k < 64 → between d held i j k ≡ false
   short-between l f h k m = cases (flag held i k) (flag held k j) (eqb (cell d i j) (cell d i k + cell d k j)) (λ a b e.
       let s : cell d i j ≡ cell d i k + cell d k j = eqb-true (cell d i j) (cell d i k + cell d k j) e in
       let p : getD row k 0 ≡ cell d i k = row-is k m ∙ as-it-is (fewer (i * 64 + k) a) (omega arith) in
@@ -86,7 +90,8 @@ module _ (d : List (List ℕ)) (pairs held : List Bool) (i j : ℕ) (row columns
       cases true false c g = refl
       cases false b c g = refl
 
-  pub turn-short : j < 64 → cell d i j < far → ((k : ℕ) → k < 64 → getD row k 0 + getD columns (j * 64 + k) 0 ≡ cell d i j → ⊥) → turnAt d held i j ≡ held
+  pub turn-short : j < 64 → cell d i j < far → ((k : ℕ) → k < 64 → getD row k 0 + getD columns (j * 64 + k) 0 ≡ cell d i j → ⊥)
+      → turnAt d held i j ≡ held
   turn-short l f h = turn-keeps d held i j (short-between l f h)
 
   -- the numbers are small
@@ -95,7 +100,10 @@ module _ (d : List (List ℕ)) (pairs held : List Bool) (i j : ℕ) (row columns
   nearby-small false n = omega arith
 
   pub near-small : j < 64 → (k : ℕ) → k < 64 → (getD row k 0 ≤ far) × (getD columns (j * 64 + k) 0 ≤ far)
-  near-small l k m = (subst⁻¹ (λ n. n ≤ far) (row-is k m) (nearby-small (flag pairs i k) (cell d i k)), subst⁻¹ (λ n. n ≤ far) (column-is l k m) (nearby-small (flag pairs k j) (cell d k j)))
+  near-small l k m = (
+    subst⁻¹ (λ n. n ≤ far) (row-is k m) (nearby-small (flag pairs i k) (cell d i k)),
+    subst⁻¹ (λ n. n ≤ far) (column-is l k m) (nearby-small (flag pairs k j) (cell d k j)),
+  )
 
 -- whatever is dropped
 pub fewer-dropped : (pairs held : List Bool) (x : ℕ) → Fewer pairs held → Fewer pairs (set held x false)
@@ -121,7 +129,8 @@ module _ (d : List (List ℕ)) (held : List Bool) where
   row-more i j = ap (rowThinned d held i) (add-one j)
 
   -- after the turn of (i, j), by what it did
-  pub row-turn : (i j : ℕ) (before after : List Bool) → before ≡ rowThinned d held i j → turnAt d before i j ≡ after → after ≡ rowThinned d held i (j + 1)
+  pub row-turn : (i j : ℕ) (before after : List Bool) → before ≡ rowThinned d held i j → turnAt d before i j ≡ after
+      → after ≡ rowThinned d held i (j + 1)
   row-turn i j before after e f = sym f ∙ ap (λ (h : List Bool). turnAt d h i j) e ∙ sym (row-more i j)
 
   pub rows-none : rowsThinned d held 0 ≡ held
@@ -129,7 +138,8 @@ module _ (d : List (List ℕ)) (held : List Bool) where
   rows-none = refl
 
   -- after row i
-  pub rows-turn : (i j : ℕ) (before after : List Bool) → before ≡ rowsThinned d held i → after ≡ rowThinned d before i j → j ≡ 64 → after ≡ rowsThinned d held (i + 1)
+  pub rows-turn : (i j : ℕ) (before after : List Bool) → before ≡ rowsThinned d held i → after ≡ rowThinned d before i j → j ≡ 64
+      → after ≡ rowsThinned d held (i + 1)
   unfolding rowsThinned
   rows-turn i j before after e f g = f ∙ ap₂ (λ (h : List Bool) (k : ℕ). rowThinned d h i k) e g ∙ sym (ap (rowsThinned d held) (add-one i))
 
@@ -146,7 +156,8 @@ module _ (d : List (List ℕ)) (held : List Bool) where
       let s : suc (i * 64 + j) ≡ i * 64 + suc j = omega arith in
       let a : i ≡ (i * 64 + j) / 64 = omega arith in
       let b : j ≡ (i * 64 + j) % 64 = omega arith in
-      ap (λ (h : List Bool). turnAt d h i j) (row-places i j (omega arith)) ∙ ap₂ (turnAt d (placesThinned (i * 64 + j))) a b ∙ ap placesThinned s
+      ap (λ (h : List Bool). turnAt d h i j) (row-places i j (omega arith)) ∙ ap₂ (turnAt d (placesThinned (i * 64 + j))) a b
+      ∙ ap placesThinned s
 
   pub rows-places : (i : ℕ) → rowsThinned d held i ≡ placesThinned (i * 64)
   unfolding rowsThinned placesThinned

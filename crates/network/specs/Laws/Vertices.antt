@@ -17,7 +17,9 @@ use Rattle.required.specs.Laws.RequiredVertex.{required-of}
 module _ (p : Plan) (ok : WellFormed p) where
   pub required-of-64 : select (isRequired p) (below 64) ≡ required p
   unfolding required
-  required-of-64 = select-past (isRequired p) (p .n) 64 (ok .vertices) (λ v l b. same-test (isRequired p v) false (λ t. (let m = required-lt p (required-of p ok t) in omega arith)) (λ t. absurd t))
+  required-of-64 =
+      select-past (isRequired p) (p .n) 64 (ok .vertices)
+      (λ v l b. same-test (isRequired p v) false (λ t. (let m = required-lt p (required-of p ok t) in omega arith)) (λ t. absurd t))
 
   pub vertices-required : (flags : List Bool) → IsRequiredFlags p flags → select (λ v. getD flags v false) (below 64) ≡ required p
   vertices-required flags h = select-cong (λ v. getD flags v false) (isRequired p) (below 64) (λ v m. h v (below-mem m)) ∙ required-of-64

@@ -43,10 +43,12 @@ module _ (row columns : List ℕ) (j a : ℕ) where
   unfolding hasNoWay
   no-way e = by (ltb a far) (eqb (waysOf row columns j a) 0) refl refl e
     where
-      by : (b c : Bool) → ltb a far ≡ b → eqb (waysOf row columns j a) 0 ≡ c → b && c ≡ true → (a < far) × ((k : ℕ) → k < 64 → sumAt k ≡ a → ⊥)
+      by : (b c : Bool) → ltb a far ≡ b → eqb (waysOf row columns j a) 0 ≡ c → b && c ≡ true
+          → (a < far) × ((k : ℕ) → k < 64 → sumAt k ≡ a → ⊥)
       by true true f g q = (
         ltb-true a far f,
-        λ k l s. none-below (waysBy k) (waysBy 64) (waysOf row columns j a) (counted k 64 l s) ways-all (eqb-true (waysOf row columns j a) 0 g),
+        λ k l s. none-below (waysBy k) (waysBy 64) (waysOf row columns j a) (counted k 64 l s) ways-all
+            (eqb-true (waysOf row columns j a) 0 g),
       )
       by true false f g q = absurd (subst⁻¹ T q tt)
       by false c f g q = absurd (subst⁻¹ T q tt)

@@ -15,20 +15,20 @@ use Rattle.held_file.specs.declared.Rewritten.{Rewritten}
 use Rattle.held_file.specs.Held.{fileIn, heldOf, IsHeld}
 use Rattle.open_plan.specs.State.{freshState, markIn, refusalOf, next}
 use Rattle.held_file.specs.Change.{changedFile, fileChangeRefusal}
-use Rattle.open_plan.specs.Contract.{IsAnswer, IsOpened, IsMoved}
+use Rattle.open_plan.specs.Contract.{IsMoveAnswer, IsOpened, IsMoved}
 
 -- ---- answers
 
 -- an answer that is not refused, and one that is
 module _ (s : OpenPlan) (c : Call) (r : Moved) where
-  pub moved-on : refusalOf s c ≡ none → IsAnswer none (next s c) r → IsMoved s c r
+  pub moved-on : refusalOf s c ≡ none → IsMoveAnswer none (next s c) r → IsMoved s c r
   moved-on e a = record { verdict = a .verdict ∙ sym e; state = rw e (a .state) }
 
-  pub moved-not : (k : ℕ) → refusalOf s c ≡ some k → IsAnswer (some k) s r → IsMoved s c r
+  pub moved-not : (k : ℕ) → refusalOf s c ≡ some k → IsMoveAnswer (some k) s r → IsMoved s c r
   moved-not k e a = record { verdict = a .verdict ∙ sym e; state = rw e (a .state) }
 
 -- of the state that it is said of, or an equal one
-pub answer-of : (o : Option ℕ) (s t : OpenPlan) (r : Moved) → s ≡ t → IsAnswer o s r → IsAnswer o t r
+pub answer-of : (o : Option ℕ) (s t : OpenPlan) (r : Moved) → s ≡ t → IsMoveAnswer o s r → IsMoveAnswer o t r
 answer-of o s t r e a = record { verdict = a .verdict; state = a .state ∙ e }
 
 -- 21, by the tests of a mark's number and of what the mark holds
@@ -50,7 +50,8 @@ module _ (s : OpenPlan) (k : ℕ) where
 
 -- ---- a change
 
-module _ (s : OpenPlan) (c : Change) (w : Rewritten) (h : IsHeld (fileChangeRefusal (fileIn (s .plan)) c) (changedFile (fileIn (s .plan)) c) w) where
+module _ (s : OpenPlan) (c : Change) (w : Rewritten)
+    (h : IsHeld (fileChangeRefusal (fileIn (s .plan)) c) (changedFile (fileIn (s .plan)) c) w) where
   pub change-file : verdictNumber (w .verdict) ≡ none → w .held ≡ heldOf (changedFile (fileIn (s .plan)) c)
   unfolding unless
   change-file v = let e : fileChangeRefusal (fileIn (s .plan)) c ≡ none = sym (h .verdict) ∙ v in rw e at (h .held)
@@ -58,10 +59,11 @@ module _ (s : OpenPlan) (c : Change) (w : Rewritten) (h : IsHeld (fileChangeRefu
 -- ---- opening
 
 module _ (bytes : List ℕ) (s : OpenPlan) (r : Moved) where
-  pub open-accepted : firstRefusal (fileConditions bytes) ≡ none → s ≡ freshState (heldOf bytes) → IsAnswer none s r → IsOpened bytes r
+  pub open-accepted : firstRefusal (fileConditions bytes) ≡ none → s ≡ freshState (heldOf bytes) → IsMoveAnswer none s r → IsOpened bytes r
   unfolding unless
   open-accepted e f a = record { verdict = a .verdict ∙ sym e; state = rw e (a .state ∙ f) }
 
-  pub open-refused : (k : ℕ) → firstRefusal (fileConditions bytes) ≡ some k → s ≡ freshState (heldOf []) → IsAnswer (some k) s r → IsOpened bytes r
+  pub open-refused : (k : ℕ) → firstRefusal (fileConditions bytes) ≡ some k → s ≡ freshState (heldOf []) → IsMoveAnswer (some k) s r
+      → IsOpened bytes r
   unfolding unless
   open-refused k e f a = record { verdict = a .verdict ∙ sym e; state = rw e (a .state ∙ f) }

@@ -1,5 +1,6 @@
--- Each call takes a state that stands for an open plan to one that stands for the open plan after the call, and is refused alike. The state holds, for each plan, the file written from it; such a
--- file reads back to its edition and its plan, so that what a call finds by reading is what the definitions say of the plan.
+-- Each call takes a state that stands for an open plan to one that stands for the open plan after the call, and is refused alike. The
+-- state holds, for each plan, the file written from it; such a file reads back to its edition and its plan, so that what a call finds by
+-- reading is what the definitions say of the plan.
 use mathlib.Core.Path.{_≡_, refl, sym, ap, _∙_, subst}
 use mathlib.Core.Logic.{_≢_}
 use mathlib.Core.Bool.{Bool, true, false, cond}
@@ -101,12 +102,17 @@ pub record Stands (e : ℕ) (o : Open) (s : OpenPlan) : Type 0 where
   pub marks-are : (k : ℕ) → k < 4 → KeepsMark e (o .marks k) (markIn s k)
 
 pub stands-for : (e : ℕ) (o : Open) (s : OpenPlan) → Stands e o s → StandsFor e o s
-stands-for e o s h = record { plan-is = keeps-file e (o .plan) (s .plan) (h .plan-is); marks-are = λ k l. keeps-mark e (o .marks k) (markIn s k) (h .marks-are k l) }
+stands-for e o s h =
+    record {
+      plan-is = keeps-file e (o .plan) (s .plan) (h .plan-is);
+      marks-are = λ k l. keeps-mark e (o .marks k) (markIn s k) (h .marks-are k l);
+    }
 
 -- ---- a change
 
 -- an arc of a list with one element set is that element or was there before
-set-mem : (arcs : List Arc) (k : ℕ) (x a : Arc) → k < length arcs → (P : Arc → Type 0) → P x → ((b : Arc) → List·Memᴰ b arcs → P b) → List·Memᴰ a (set arcs k x) → P a
+set-mem : (arcs : List Arc) (k : ℕ) (x a : Arc) → k < length arcs → (P : Arc → Type 0) → P x → ((b : Arc) → List·Memᴰ b arcs → P b)
+    → List·Memᴰ a (set arcs k x) → P a
 set-mem arcs k x a room P new old m =
     let d = arcAt [] 0 in
     let r = mem-getD d m in
@@ -130,7 +136,8 @@ module _ (e : ℕ) (p : Plan) (c : Change) where
       let l : c .arc < length (p .arcs) = leb-false _ _ (n .0) in
       record {
         accepted = n .1;
-        costs = λ a m. set-mem (p .arcs) (c .arc) (changedArc (arcAt (p .arcs) (c .arc)) c) a l (λ b. (b .cost ≤ 65535) × (b .service ≤ 65535)) fits (w .costs) m;
+        costs = λ a m. set-mem (p .arcs) (c .arc) (changedArc (arcAt (p .arcs) (c .arc)) c) a l
+            (λ b. (b .cost ≤ 65535) × (b .service ≤ 65535)) fits (w .costs) m;
       }
 
   -- what reading the file finds is what the plan says
@@ -161,7 +168,8 @@ module _ (e : ℕ) (o : Open) (s : OpenPlan) (h : Stands e o s) where
   refused-alike (mark k) = refl
   refused-alike (return k) = at (ltb 3 k) refl
     where
-      at : (b : Bool) → ltb 3 k ≡ b → cond b (some 21) (cond (eqb (markIn s k .length) 0) (some 21) none) ≡ cond b (some 21) (unlessHeld (o .marks k))
+      at : (b : Bool) → ltb 3 k ≡ b
+          → cond b (some 21) (cond (eqb (markIn s k .length) 0) (some 21) none) ≡ cond b (some 21) (unlessHeld (o .marks k))
       at true q = refl
       at false q = let l = ltb-false 3 k q in held-test k (o .marks k) (h .marks-are k (omega arith))
 
@@ -170,7 +178,8 @@ module _ (e : ℕ) (o : Open) (s : OpenPlan) (h : Stands e o s) where
   set-mark k j l g =
       let f = h .four in
       elim (ℕ-discrete j k) [
-        | yes q ↦ rw (eq-eqb j k q) (rw q (subst (Keeps e (o .plan)) (sym (getD-set-same (s .marks) k (s .plan) _ (omega arith))) (h .plan-is)))
+        | yes q ↦ rw (eq-eqb j k q)
+            (rw q (subst (Keeps e (o .plan)) (sym (getD-set-same (s .marks) k (s .plan) _ (omega arith))) (h .plan-is)))
         | no q ↦ rw (ne-eqb j k q) (subst (KeepsMark e (o .marks j)) (sym (getD-set-other (s .marks) k j (s .plan) _ q)) (h .marks-are j g))
       ]
 
@@ -182,7 +191,10 @@ module _ (e : ℕ) (o : Open) (s : OpenPlan) (h : Stands e o s) where
   accepted-stands (change c) fits q =
       let f = keeps-file e (o .plan) (s .plan) (h .plan-is) in
       record {
-        plan-is = record { writable = changed-writable e (o .plan) c (h .plan-is .writable) fits q; held = ap heldOf (same-file e (o .plan) c (s .plan) f) };
+        plan-is = record {
+          writable = changed-writable e (o .plan) c (h .plan-is .writable) fits q;
+          held = ap heldOf (same-file e (o .plan) c (s .plan) f);
+        };
         four = h .four;
         marks-are = h .marks-are;
       }
@@ -194,14 +206,19 @@ module _ (e : ℕ) (o : Open) (s : OpenPlan) (h : Stands e o s) where
       record { plan-is = back k (o .marks k) (h .marks-are k (b .0)) (b .1); four = h .four; marks-are = h .marks-are }
 
   -- THE STEP
-  pub after-stands : (c : Call) → Fits c → (r : Option ℕ) → refusalIn e o c ≡ r → Stands e (unlessRefused r (taken o c) o) (unlessRefused r (next s c) s)
+  pub after-stands : (c : Call) → Fits c → (r : Option ℕ) → refusalIn e o c ≡ r
+      → Stands e (unlessRefused r (taken o c) o) (unlessRefused r (next s c) s)
   after-stands c fits none q = accepted-stands c fits q
   after-stands c fits (some k) q = h
 
-  pub step : (c : Call) (r : Moved) → Fits c → IsMoved s c r → (verdictNumber (r .verdict) ≡ refusalIn e o c) × Stands e (afterCall e o c) (r .state)
+  pub step : (c : Call) (r : Moved) → Fits c → IsMoved s c r
+      → (verdictNumber (r .verdict) ≡ refusalIn e o c) × Stands e (afterCall e o c) (r .state)
   step c r fits m =
-      let q = refused-alike c in
-      (m .verdict ∙ q, subst (Stands e (afterCall e o c)) (sym (m .state ∙ ap (λ (x : Option ℕ). unlessRefused x (next s c) s) q)) (after-stands c fits (refusalIn e o c) refl))
+      let q = refused-alike c in (
+        m .verdict ∙ q,
+        subst (Stands e (afterCall e o c)) (sym (m .state ∙ ap (λ (x : Option ℕ). unlessRefused x (next s c) s) q))
+            (after-stands c fits (refusalIn e o c) refl),
+      )
 
 -- ---- opening
 
@@ -214,7 +231,10 @@ opening-stands bytes small read =
     let w = written-read bytes (arcCount bytes) small (file-is-read bytes (arcCount bytes) f (omega arith)) in
     record {
       plan-is = record {
-        writable = record { accepted = w .1 longestFile (file-short bytes read); costs = λ a m. (let i = file-accepted bytes read .each a m in (i .cost-in, i .service-in)) };
+        writable = record {
+          accepted = w .1 longestFile (file-short bytes read);
+          costs = λ a m. (let i = file-accepted bytes read .each a m in (i .cost-in, i .service-in));
+        };
         held = ap heldOf (sym (w .0));
       };
       four = length-replicate 4 (heldOf []);

@@ -34,7 +34,8 @@ pub has-room : (bytes : List ℕ) (o : Option ℕ) → openBytes ≤ length byte
 has-room bytes o h = rw (le-ltb (length bytes) openBytes h) refl
 
 -- what is stored goes by the refusal: where there is none, the state is the one that the definition gives
-same-unless : {A : Type 0} (o : Option ℕ) (f : OpenPlan → List A) (s : OpenPlan) (new old : OpenPlan) (l : List A) → s ≡ unlessRefused o new old → unless o (f s) l ≡ unless o (f new) l
+same-unless : {A : Type 0} (o : Option ℕ) (f : OpenPlan → List A) (s : OpenPlan) (new old : OpenPlan) (l : List A)
+    → s ≡ unlessRefused o new old → unless o (f s) l ≡ unless o (f new) l
 unfolding unless
 same-unless none f s new old l e = ap f e
 same-unless (some k) f s new old l e = refl
@@ -44,9 +45,13 @@ module _ (c : Call) (bytes : List ℕ) where
   unfolding unless answer
   moved-short n h e =
       let q = no-room bytes (refusalOf (openIn bytes) c) h in
-      record { number-is = e ∙ ap (λ (o : Option ℕ). oneNumber (answer o 0)) (sym q); state-is = ap (λ (o : Option ℕ). unless o (stateBytes (next (openIn bytes) c) ++ drop openBytes bytes) bytes) (sym q) }
+      record {
+        number-is = e ∙ ap (λ (o : Option ℕ). oneNumber (answer o 0)) (sym q);
+        state-is = ap (λ (o : Option ℕ). unless o (stateBytes (next (openIn bytes) c) ++ drop openBytes bytes) bytes) (sym q);
+      }
 
-  pub moved-lent : (bytes′ : List ℕ) (n : ℤ) (s : OpenPlan) (r : Moved) → openBytes ≤ length bytes → s ≡ openIn bytes → IsMoved s c r → IsStored r bytes bytes′ n → IsExportedMove c bytes bytes′ n
+  pub moved-lent : (bytes′ : List ℕ) (n : ℤ) (s : OpenPlan) (r : Moved) → openBytes ≤ length bytes → s ≡ openIn bytes → IsMoved s c r
+      → IsStored r bytes bytes′ n → IsExportedMove c bytes bytes′ n
   moved-lent bytes′ n s r h e m i =
       let m′ : IsMoved (openIn bytes) c r = subst (λ (x : OpenPlan). IsMoved x c r) e m in
       let q : verdictNumber (r .verdict) ≡ moveRefusal c bytes = m′ .verdict ∙ sym (has-room bytes (refusalOf (openIn bytes) c) h) in
@@ -55,7 +60,8 @@ module _ (c : Call) (bytes : List ℕ) where
         number-is = i .number-is ∙ ap (λ (o : Option ℕ). oneNumber (answer o 0)) q;
         state-is = i .state-is ∙ ap (λ (o : Option ℕ). unless o (f (r .state)) bytes) q
             ∙ same-unless (moveRefusal c bytes) f (r .state) (next (openIn bytes) c) (openIn bytes) bytes
-            (m′ .state ∙ ap (λ (o : Option ℕ). unlessRefused o (next (openIn bytes) c) (openIn bytes)) (sym (has-room bytes (refusalOf (openIn bytes) c) h)));
+            (m′ .state ∙ ap (λ (o : Option ℕ). unlessRefused o (next (openIn bytes) c) (openIn bytes))
+            (sym (has-room bytes (refusalOf (openIn bytes) c) h)));
       }
 
 module _ (file bytes : List ℕ) (n : ℤ) (r : Moved) (i : IsOpened file r) where
@@ -67,19 +73,24 @@ module _ (file bytes : List ℕ) (n : ℤ) (r : Moved) (i : IsOpened file r) whe
   always none = refl
   always (some k) = refl
 
-  pub opened-short : length bytes < openBytes → n ≡ oneNumber (answer (orElse (verdictNumber (r .verdict)) (some 8)) 0) → IsExportedOpen file bytes bytes n
+  pub opened-short : length bytes < openBytes → n ≡ oneNumber (answer (orElse (verdictNumber (r .verdict)) (some 8)) 0)
+      → IsExportedOpen file bytes bytes n
   opened-short h e =
       let q : openRefusal file bytes ≡ orElse first (some 8) = ap (orElse first) (no-room bytes none h) in
       record {
-        number-is = e ∙ ap (λ (o : Option ℕ). oneNumber (answer (orElse o (some 8)) 0)) (i .verdict) ∙ ap (λ (o : Option ℕ). oneNumber (answer o 0)) (sym q);
-        state-is = sym (ap (λ (o : Option ℕ). unless o (stateBytes (freshState (heldOf file)) ++ drop openBytes bytes) bytes) q ∙ always first);
+        number-is = e ∙ ap (λ (o : Option ℕ). oneNumber (answer (orElse o (some 8)) 0)) (i .verdict)
+            ∙ ap (λ (o : Option ℕ). oneNumber (answer o 0)) (sym q);
+        state-is = sym
+            (ap (λ (o : Option ℕ). unless o (stateBytes (freshState (heldOf file)) ++ drop openBytes bytes) bytes) q ∙ always first);
       }
 
   or-none : (o : Option ℕ) → orElse o none ≡ o
   or-none none = refl
   or-none (some k) = refl
 
-  stored : (o : Option ℕ) → r .state ≡ freshState (heldOf (unless o file [])) → unless o (stateBytes (r .state) ++ drop openBytes bytes) bytes ≡ unless o (stateBytes (freshState (heldOf file)) ++ drop openBytes bytes) bytes
+  stored : (o : Option ℕ) → r .state ≡ freshState (heldOf (unless o file []))
+      → unless o (stateBytes (r .state) ++ drop openBytes bytes) bytes
+      ≡ unless o (stateBytes (freshState (heldOf file)) ++ drop openBytes bytes) bytes
   unfolding unless
   stored none e = ap (λ (s : OpenPlan). stateBytes s ++ drop openBytes bytes) e
   stored (some k) e = refl
@@ -97,6 +108,7 @@ module _ (file bytes : List ℕ) (n : ℤ) (r : Moved) (i : IsOpened file r) whe
 -- ---- asking
 
 pub asked-lent : (bytes : List ℕ) (s : OpenPlan) → s ≡ openIn bytes
-    → (budget : ℕ) (windows : List ℕ) (d : Departure) (old new : List ℕ) (r : Planned) → IsPlanCallAt (fileIn (s .plan)) budget windows d old new r
+    → (budget : ℕ) (windows : List ℕ) (d : Departure) (old new : List ℕ) (r : Planned)
+    → IsPlanCallAt (fileIn (s .plan)) budget windows d old new r
     → IsPlanCallAt (fileIn (openIn bytes .plan)) budget windows d old new r
 asked-lent bytes s e budget windows d old new r h = subst (λ (x : OpenPlan). IsPlanCallAt (fileIn (x .plan)) budget windows d old new r) e h

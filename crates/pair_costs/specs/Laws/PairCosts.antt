@@ -1,5 +1,5 @@
--- The arrays' least offers are the plan's matrix over pairs: each pair offers its reduced cost to the entry of its components, and each two components have a
--- pair.
+-- The arrays' least offers are the plan's matrix over pairs: each pair offers its reduced cost to the entry of its
+-- components, and each two components have a pair.
 use mathlib.Core.Path.{_≡_, refl, sym, ap, ap₂, _∙_, subst, subst⁻¹}
 use mathlib.Core.Logic.{_⊎_, inl, inr, _≢_}
 use mathlib.Core.Bool.{Bool, true, false, cond, _&&_}
@@ -28,7 +28,7 @@ use Rattle.postman.specs.Laws.SignedSum.{≤ℤ-trans, ≤ℤ-antisym}
 use Rattle.cheapest_tree.specs.Cheapest.{IsCheapest}
 use Rattle.pair_costs.specs.Pairs.{IsPair, IsPairMatrix, othersOf}
 use Rattle.cheapest_tree.specs.Picture.{matrixOf, othersIn, highest, IsPicture}
-use Rattle.pair_costs.specs.PairCosts.{costOf, areRequired, offerOf, entryFor, AreCosts, IsLesser, AreLeastOffers, IsNetwork, multipliersOf}
+use Rattle.pair_costs.specs.PairCosts.{costOf, areRequired, offerOf, entryFor, ArePairCosts, IsLesser, AreLeastOffers, HoldsNetwork, multipliersIn}
 use Rattle.pair_costs.specs.Laws.Pairs.{pairs-links}
 
 both-true : (a b : Bool) → a && b ≡ true → (a ≡ true) × (b ≡ true)
@@ -40,18 +40,21 @@ either : (b : Bool) → (b ≡ true) ⊎ (b ≡ false)
 either true = inl refl
 either false = inr refl
 
-module _ (d : List (List ℕ)) (u : List ℤ) (c : List ℕ) (r : List Bool) (ok : AreCosts d u c r) where
+module _ (d : List (List ℕ)) (u : List ℤ) (c : List ℕ) (r : List Bool) (ok : ArePairCosts d u c r) where
   -- ---- one pair more
 
   offer-within : (i j : ℕ) → i < 64 → j < 64 → (pos 0 ≤ℤ offerOf d u r i j) × (offerOf d u r i j ≤ℤ pos highest)
   offer-within i j a b = elim (either (areRequired r i j)) [
     | inl t ↦
         let e = both-true (getD r i false) (getD r j false) t in
-        subst⁻¹ (λ x. (pos 0 ≤ℤ cond x (costOf d u i j) (pos highest)) × (cond x (costOf d u i j) (pos highest) ≤ℤ pos highest)) t (ok .low i j a b (e .0) (e .1), ok .high i j a b (e .0) (e .1))
-    | inr f ↦ subst⁻¹ (λ x. (pos 0 ≤ℤ cond x (costOf d u i j) (pos highest)) × (cond x (costOf d u i j) (pos highest) ≤ℤ pos highest)) f (omega (arith, z), ≤ℤ-refl (pos highest))
+        subst⁻¹ (λ x. (pos 0 ≤ℤ cond x (costOf d u i j) (pos highest)) × (cond x (costOf d u i j) (pos highest) ≤ℤ pos highest)) t
+        (ok .low i j a b (e .0) (e .1), ok .high i j a b (e .0) (e .1))
+    | inr f ↦ subst⁻¹ (λ x. (pos 0 ≤ℤ cond x (costOf d u i j) (pos highest)) × (cond x (costOf d u i j) (pos highest) ≤ℤ pos highest)) f
+        (omega (arith, z), ≤ℤ-refl (pos highest))
   ]
 
-  module _ (n : ℕ) (bound : n < 4096) (m : List ℤ) (h : AreLeastOffers d u c r n m) (x : ℕ) (sized : length m ≡ 64) (l : x < 64) (e : x ≡ entryFor c r (n / 64) (n % 64)) (v : ℤ)
+  module _ (n : ℕ) (bound : n < 4096) (m : List ℤ) (h : AreLeastOffers d u c r n m) (x : ℕ) (sized : length m ≡ 64) (l : x < 64)
+      (e : x ≡ entryFor c r (n / 64) (n % 64)) (v : ℤ)
       (k : IsLesser (getD m x (pos 0)) (offerOf d u r (n / 64) (n % 64)) v) where
     abbrev m′ : List ℤ
     m′ = set m x v
@@ -76,7 +79,9 @@ module _ (d : List (List ℕ)) (u : List ℤ) (c : List ℕ) (r : List Bool) (ok
     ]
 
     abbrev Source : ℕ → List ℤ → ℕ → Type 0
-    Source b w y = (l : ℕ) × (l < b) × (areRequired r (l / 64) (l % 64) ≡ true) × (y ≡ entryFor c r (l / 64) (l % 64)) × (getD w y (pos 0) ≡ costOf d u (l / 64) (l % 64))
+    Source b w y =
+        (l : ℕ) × (l < b) × (areRequired r (l / 64) (l % 64) ≡ true) × (y ≡ entryFor c r (l / 64) (l % 64))
+        × (getD w y (pos 0) ≡ costOf d u (l / 64) (l % 64))
 
     older : (y : ℕ) → y < 64 → getD m′ y (pos 0) ≡ getD m y (pos 0) → (getD m′ y (pos 0) ≡ pos highest) ⊎ Source (n + 1) m′ y
     older y b s = elim (h .attained y b) [
@@ -103,7 +108,9 @@ module _ (d : List (List ℕ)) (u : List ℤ) (c : List ℕ) (r : List Bool) (ok
       least = λ i b t. elim (ℕ-discrete i n) [
         | yes s ↦ subst⁻¹ (λ i. getD m′ (entryFor c r (i / 64) (i % 64)) (pos 0) ≤ℤ costOf d u (i / 64) (i % 64)) s
             (subst (λ y. getD m′ y (pos 0) ≤ℤ costOf d u (n / 64) (n % 64)) e (subst⁻¹ (λ (a : ℤ). a ≤ℤ costOf d u (n / 64) (n % 64)) at-x
-            (subst (λ (a : ℤ). v ≤ℤ a) (ap (λ b. cond b (costOf d u (n / 64) (n % 64)) (pos highest)) (ap (λ i. areRequired r (i / 64) (i % 64)) (sym s) ∙ t)) (k .second))))
+            (subst (λ (a : ℤ). v ≤ℤ a)
+            (ap (λ b. cond b (costOf d u (n / 64) (n % 64)) (pos highest)) (ap (λ i. areRequired r (i / 64) (i % 64)) (sym s) ∙ t))
+            (k .second))))
         | no o ↦ ≤ℤ-trans (falls (entryFor c r (i / 64) (i % 64))) (h .least i (omega arith) t)
       ];
       attained = λ y b. elim (ℕ-discrete y x) [
@@ -114,11 +121,12 @@ module _ (d : List (List ℕ)) (u : List ℤ) (c : List ℕ) (r : List Bool) (ok
 
   -- ---- the plan's matrix
 
-  module _ (p : Plan) (wf : WellFormed p) (k : ℕ) (few : k ≤ 8) (net : IsNetwork p d c r k) (m : List ℤ) (h : AreLeastOffers d u c r 4096 m) where
+  module _ (p : Plan) (wf : WellFormed p) (k : ℕ) (few : k ≤ 8) (net : HoldsNetwork p d c r k) (m : List ℤ)
+      (h : AreLeastOffers d u c r 4096 m) where
     vertex-lt : {i : ℕ} → List·Memᴰ i (required p) → i < 64
     vertex-lt n = let a = required-lt p n in let b = wf .vertices in omega arith
 
-    pair-cost : (i j : ℕ) → List·Memᴰ i (required p) → List·Memᴰ j (required p) → costOf d u i j ≡ reducedCost p (multipliersOf u) i j
+    pair-cost : (i j : ℕ) → List·Memᴰ i (required p) → List·Memᴰ j (required p) → costOf d u i j ≡ reducedCost p (multipliersIn u) i j
     unfolding reducedCost
     pair-cost i j a b = ap (λ n. pos n -ℤ getD u i (pos 0) +ℤ getD u j (pos 0)) (net .distances i j a b)
 
@@ -135,18 +143,22 @@ module _ (d : List (List ℕ)) (u : List ℤ) (c : List ℕ) (r : List Bool) (ok
         let x : (i * 64 + j) / 64 ≡ i = omega arith in
         let y : (i * 64 + j) % 64 ≡ j = omega arith in
         let t₀ = both-required i j (q .tail) (q .head) in
-        let e : entryFor c r i j ≡ s * 8 + t = entry-of i j t₀ ∙ ap₂ (λ a b. a * 8 + b) (net .component-of i (q .tail) ∙ q .from) (net .component-of j (q .head) ∙ q .to) in
+        let e : entryFor c r i j ≡ s * 8 + t =
+        entry-of i j t₀ ∙ ap₂ (λ a b. a * 8 + b) (net .component-of i (q .tail) ∙ q .from) (net .component-of j (q .head) ∙ q .to) in
         let f : areRequired r ((i * 64 + j) / 64) ((i * 64 + j) % 64) ≡ true = ap₂ (areRequired r) x y ∙ t₀ in
         let g = h .least (i * 64 + j) (omega arith) f in
-        subst (λ n. getD m n (pos 0) ≤ℤ costOf d u i j) e (subst (λ n. getD m (entryFor c r i n) (pos 0) ≤ℤ costOf d u i n) y (subst (λ n. getD m (entryFor c r n ((i * 64 + j) % 64)) (pos 0) ≤ℤ costOf d u n ((i * 64 + j) % 64)) x g))
+        subst (λ n. getD m n (pos 0) ≤ℤ costOf d u i j) e
+        (subst (λ n. getD m (entryFor c r i n) (pos 0) ≤ℤ costOf d u i n) y
+        (subst (λ n. getD m (entryFor c r n ((i * 64 + j) % 64)) (pos 0) ≤ℤ costOf d u n ((i * 64 + j) % 64)) x g))
 
-    pub pair-matrix : IsPairMatrix p (multipliersOf u) (matrixOf m)
+    pub pair-matrix : IsPairMatrix p (multipliersIn u) (matrixOf m)
     pair-matrix = record {
       attained = λ s t a b o. attained s t a b;
       least = λ s t i j q o. subst (λ (a : ℤ). matrixOf m s t ≤ℤ a) (pair-cost i j (q .tail) (q .head)) (pair-least s t i j q);
     }
       where
-        attained : (s t : ℕ) → s < componentCount p → t < componentCount p → (i : ℕ) × (j : ℕ) × IsPair p s t i j × (matrixOf m s t ≡ reducedCost p (multipliersOf u) i j)
+        attained : (s t : ℕ) → s < componentCount p → t < componentCount p
+            → (i : ℕ) × (j : ℕ) × IsPair p s t i j × (matrixOf m s t ≡ reducedCost p (multipliersIn u) i j)
         attained s t a b =
             let n = net .components in
             elim (h .attained (s * 8 + t) (omega arith)) [
@@ -176,7 +188,8 @@ module _ (d : List (List ℕ)) (u : List ℤ) (c : List ℕ) (r : List Bool) (ok
 
     -- ---- the components there are
 
-    select-below : (f : ℕ → Bool) (b a n : ℕ) → a ≤ b → b ≤ a + n → ((q : ℕ) → List·Memᴰ q (upFrom a n) → f q ≡ ltb q b) → select f (upFrom a n) ≡ upFrom a (b - a)
+    select-below : (f : ℕ → Bool) (b a n : ℕ) → a ≤ b → b ≤ a + n → ((q : ℕ) → List·Memᴰ q (upFrom a n) → f q ≡ ltb q b)
+        → select f (upFrom a n) ≡ upFrom a (b - a)
     unfolding select upFrom
     select-below f b a zero l g e = let s : b - a ≡ 0 = omega arith in sym (ap (upFrom a) s)
     select-below f b a (suc n) l g e = elim (decLt a b) [
@@ -186,25 +199,33 @@ module _ (d : List (List ℕ)) (u : List ℤ) (c : List ℕ) (r : List Bool) (ok
           ∙ ap (λ (x : List ℕ). a ∷ x) (select-below f b (suc a) n t (omega arith) (λ q i. e q (List·Memᴰ·tail i))) ∙ sym (ap (upFrom a) s)
       | no t ↦
           let s : b - a ≡ 0 = omega arith in
-          ap (λ x. cond x (a ∷ select f (upFrom (suc a) n)) (select f (upFrom (suc a) n))) (e a (List·Memᴰ·head refl) ∙ le-ltb a b (omega arith))
-          ∙ none f (upFrom (suc a) n) (λ q i. e q (List·Memᴰ·tail i) ∙ le-ltb q b (let u = upFrom-mem (suc a) n i .0 in omega arith)) ∙ sym (ap (upFrom a) s)
+          ap (λ x. cond x (a ∷ select f (upFrom (suc a) n)) (select f (upFrom (suc a) n)))
+          (e a (List·Memᴰ·head refl) ∙ le-ltb a b (omega arith))
+          ∙ none f (upFrom (suc a) n) (λ q i. e q (List·Memᴰ·tail i) ∙ le-ltb q b (let u = upFrom-mem (suc a) n i .0 in omega arith))
+          ∙ sym (ap (upFrom a) s)
     ]
       where
         none : (f : ℕ → Bool) (xs : List ℕ) → ((q : ℕ) → List·Memᴰ q xs → f q ≡ false) → select f xs ≡ []
         none f [] e = refl
-        none f (x ∷ xs) e = ap (λ b. cond b (x ∷ select f xs) (select f xs)) (e x (List·Memᴰ·head refl)) ∙ none f xs (λ q i. e q (List·Memᴰ·tail i))
+        none f (x ∷ xs) e =
+            ap (λ b. cond b (x ∷ select f xs) (select f xs)) (e x (List·Memᴰ·head refl)) ∙ none f xs (λ q i. e q (List·Memᴰ·tail i))
 
     module _ (some : 1 ≤ k) (left : List Bool) (all : (q : ℕ) → q < 8 → getD left q false ≡ ltb q k) where
       others-same : othersIn left ≡ othersOf p
       unfolding othersIn othersOf
       others-same =
           let n = net .components in
-          select-below (λ q. getD left q false) k 1 7 some (omega arith) (λ q i. (let b = upFrom-mem 1 7 i .1 in all q (omega arith))) ∙ ap (λ k. upFrom 1 (k - 1)) n
+          select-below (λ q. getD left q false) k 1 7 some (omega arith) (λ q i. (let b = upFrom-mem 1 7 i .1 in all q (omega arith)))
+          ∙ ap (λ k. upFrom 1 (k - 1)) n
 
-      pub answer : (a : ℤ) → Feasible p (multipliersOf u) → IsCheapest (othersIn left) (matrixOf m) a → a ≡ cheapestArborescence p (multipliersOf u)
-      answer a f q = let n = net .components in pairs-links p wf (omega arith) (multipliersOf u) (matrixOf m) pair-matrix f a (subst (λ (x : List ℕ). IsCheapest x (matrixOf m) a) others-same q)
+      pub answer : (a : ℤ) → Feasible p (multipliersIn u) → IsCheapest (othersIn left) (matrixOf m) a
+          → a ≡ cheapestArborescence p (multipliersIn u)
+      answer a f q = let n = net .components in
+          pairs-links p wf (omega arith) (multipliersIn u) (matrixOf m) pair-matrix f a
+          (subst (λ (x : List ℕ). IsCheapest x (matrixOf m) a) others-same q)
 
-  pub first-picture : (k : ℕ) → 1 ≤ k → (m : List ℤ) → AreLeastOffers d u c r 4096 m → (left : List Bool) → ((q : ℕ) → q < 8 → getD left q false ≡ ltb q k) → IsPicture m left
+  pub first-picture : (k : ℕ) → 1 ≤ k → (m : List ℤ) → AreLeastOffers d u c r 4096 m → (left : List Bool)
+      → ((q : ℕ) → q < 8 → getD left q false ≡ ltb q k) → IsPicture m left
   first-picture k some m h left all = record { low = h .low; high = h .high; root = all 0 (omega arith) ∙ lt-ltb 0 k some }
 
 -- before any pair nothing is offered

@@ -1,7 +1,7 @@
--- The least over pairs is the least over links. An arborescence of links is a tree of components that costs no less than the matrix says. Conversely each entry
--- of a tree is a pair, and the pair a chain of links of the same reduced cost; the links of all these chains hold an arborescence: grow the set of components
--- reached from component 0, since the chain into a component that is not reached, from one that is, has a link that leaves the set. What is left of the links
--- costs nothing or more.
+-- The least over pairs is the least over links. An arborescence of links is a tree of components that costs no less than the matrix says.
+-- Conversely each entry of a tree is a pair, and the pair a chain of links of the same reduced cost; the links of all these chains hold an
+-- arborescence: grow the set of components reached from component 0, since the chain into a component that is not reached, from one that
+-- is, has a link that leaves the set. What is left of the links costs nothing or more.
 use mathlib.Core.Path.{_≡_, refl, sym, ap, ap₂, _∙_, subst, subst⁻¹}
 use mathlib.Core.Logic.{_⊎_, inl, inr, _≢_}
 use mathlib.Core.Bool.{cond}
@@ -35,7 +35,7 @@ use Rattle.postman.specs.Laws.Arborescence.{arborescences-mem, mem-arborescence
 use Rattle.postman.specs.Laws.SignedSum.{≤ℤ-trans, ≤ℤ-antisym, sum-append, sum-nonneg, sum-pick}
 use Rattle.postman.specs.Steps.{Feasible}
 use Rattle.postman.specs.Laws.LagrangianBound.{cheapest-le, cheapest-at}
-use Rattle.cheapest_tree.specs.Cheapest.{Matrix, AreOthers, IsTree, treeCost, IsCheapest}
+use Rattle.cheapest_tree.specs.Cheapest.{Matrix, AreOthers, IsRootedTree, treeCost, IsCheapest}
 use Rattle.pair_costs.specs.Pairs.{IsPairMatrix, othersOf}
 use Rattle.postman.specs.Laws.Lists.{map-map, by-place}
 use Rattle.cheapest_tree.specs.Laws.Iterates.{stepsTo, steps-fall}
@@ -69,7 +69,8 @@ rank-arrives P f rank i h (suc n) q l m = elim (ℕ-discrete q 0) [
 
 -- ---- sums
 
-sum-flatMap : {A : Type 0} (u : A → ℤ) (h : ℕ → List A) (vs : List ℕ) → sumOfℤ (map u (flatMap h vs)) ≡ sumOfℤ (map (λ q. sumOfℤ (map u (h q))) vs)
+sum-flatMap : {A : Type 0} (u : A → ℤ) (h : ℕ → List A) (vs : List ℕ)
+    → sumOfℤ (map u (flatMap h vs)) ≡ sumOfℤ (map (λ q. sumOfℤ (map u (h q))) vs)
 unfolding flatMap sumOfℤ
 sum-flatMap u h [] = refl
 sum-flatMap u h (q ∷ vs) = sum-append u (h q) (flatMap h vs) ∙ ap (λ (x : ℤ). sumOfℤ (map u (h q)) +ℤ x) (sum-flatMap u h vs)
@@ -125,13 +126,14 @@ module _ (p : Plan) where
       parent-in zero l = l
       parent-in (suc q) l = let n = a .size in component-lt p ok (link-ends p (a .enters q (omega arith) .is-link) .0)
 
-      arborescence-tree : IsTree vs (parent p t)
+      arborescence-tree : IsRootedTree vs (parent p t)
       unfolding parent
       arborescence-tree = record {
         inside = λ q m. mem-all (parent-in q (others-lt m .1));
         rank = stepsTo (parent p t) 0 (suc k);
         falls = λ q m. (let l = others-lt m in let h = l .0 in let b = a .back q (l .1) in
-            steps-fall (parent p t) 0 (suc k) q k (omega arith) (settle k (parent p t) parent-in (b .0) q refl (l .1) (b .1)) (λ e. (omega arith)));
+            steps-fall (parent p t) 0 (suc k) q k (omega arith) (settle k (parent p t) parent-in (b .0) q refl (l .1) (b .1))
+            (λ e. (omega arith)));
       }
 
       link-ge : (q : ℕ) → q < k - 1 → w (parent p t (suc q)) (suc q) ≤ℤ reduced (linkAt t q)
@@ -140,7 +142,8 @@ module _ (p : Plan) where
           let n = a .size in
           let e = a .enters q (omega arith) in
           let m = link-ends p (e .is-link) in
-          is .least (component p (linkAt t q .tail)) (suc q) (linkAt t q .tail) (linkAt t q .head) (record { tail = m .0; head = m .1; from = refl; to = e .head }) (e .tail)
+          is .least (component p (linkAt t q .tail)) (suc q) (linkAt t q .tail) (linkAt t q .head)
+          (record { tail = m .0; head = m .1; from = refl; to = e .head }) (e .tail)
 
       arborescence-cost : treeCost w vs (parent p t) ≤ℤ reducedSum p u t
       unfolding treeCost reducedSum othersOf below
@@ -148,14 +151,18 @@ module _ (p : Plan) where
           let n = a .size in
           let f : ℕ → ℤ = λ q. w (parent p t (suc q)) (suc q) in
           let g : ℕ → ℤ = λ q. reduced (linkAt t q) in
-          let l : sumOfℤ (map (λ q. w (parent p t q) q) (upFrom 1 (k - 1))) ≡ sumOfℤ (map f (upFrom 0 (k - 1))) = ap (λ (x : List ℕ). sumOfℤ (map (λ q. w (parent p t q) q) x)) (upFrom-suc 0 (k - 1)) ∙ ap sumOfℤ (map-map (λ q. w (parent p t q) q) suc (upFrom 0 (k - 1))) in
-          let r : sumOfℤ (map g (upFrom 0 (k - 1))) ≡ sumOfℤ (map reduced t) = ap (λ m. sumOfℤ (map g (upFrom 0 m))) (sym n) ∙ ap sumOfℤ (sym (map-map reduced (λ q. linkAt t q) (upFrom 0 (length t)))) ∙ ap (λ (x : List Link). sumOfℤ (map reduced x)) (by-place noLink t) in
+          let l : sumOfℤ (map (λ q. w (parent p t q) q) (upFrom 1 (k - 1))) ≡ sumOfℤ (map f (upFrom 0 (k - 1))) =
+          ap (λ (x : List ℕ). sumOfℤ (map (λ q. w (parent p t q) q) x)) (upFrom-suc 0 (k - 1))
+          ∙ ap sumOfℤ (map-map (λ q. w (parent p t q) q) suc (upFrom 0 (k - 1))) in
+          let r : sumOfℤ (map g (upFrom 0 (k - 1))) ≡ sumOfℤ (map reduced t) =
+          ap (λ m. sumOfℤ (map g (upFrom 0 m))) (sym n) ∙ ap sumOfℤ (sym (map-map reduced (λ q. linkAt t q) (upFrom 0 (length t))))
+          ∙ ap (λ (x : List Link). sumOfℤ (map reduced x)) (by-place noLink t) in
           subst⁻¹ (λ (x : ℤ). x ≤ℤ sumOfℤ (map reduced t)) l (subst (λ (x : ℤ). sumOfℤ (map f (upFrom 0 (k - 1))) ≤ℤ x) r
           (sum-mono f g (upFrom 0 (k - 1)) (λ q m. (let b = upFrom-mem 0 (k - 1) m .1 in link-ge q (omega arith)))))
 
     -- ---- a tree gives an arborescence of links that costs no more
 
-    module _ (ok : WellFormed p) (feasible : Feasible p u) (some : 1 ≤ k) (up : ℕ → ℕ) (t : IsTree vs up) where
+    module _ (ok : WellFormed p) (feasible : Feasible p u) (some : 1 ≤ k) (up : ℕ → ℕ) (t : IsRootedTree vs up) where
       ends : InPlan p
       ends = bounded ok .ends
 
@@ -205,7 +212,8 @@ module _ (p : Plan) where
       unfolding bundle treeCost
       bundle-cost = sum-flatMap reduced (λ q. leg q .0) vs ∙ ap sumOfℤ (map-legs vs (λ q m. m))
         where
-          map-legs : (qs : List ℕ) → ((q : ℕ) → List·Memᴰ q qs → List·Memᴰ q vs) → map (λ q. sumOfℤ (map reduced (leg q .0))) qs ≡ map (λ q. w (up q) q) qs
+          map-legs : (qs : List ℕ) → ((q : ℕ) → List·Memᴰ q qs → List·Memᴰ q vs)
+              → map (λ q. sumOfℤ (map reduced (leg q .0))) qs ≡ map (λ q. w (up q) q) qs
           map-legs [] h = refl
           map-legs (q ∷ qs) h = ap₂ _∷_ (leg q .1 (h q (List·Memᴰ·head refl)) .cost) (map-legs qs (λ x m. h x (List·Memᴰ·tail m)))
 
@@ -229,20 +237,23 @@ module _ (p : Plan) where
       abbrev Leaves : List ℕ → Link → Type 0
       Leaves qs l = List·Memᴰ (component p (l .tail)) qs × (List·Memᴰ (component p (l .head)) qs → ⊥)
 
-      crossing : (qs : List ℕ) (i j : ℕ) (ls : List Link) → IsChain p i ls j → List·Memᴰ (component p i) qs → (List·Memᴰ (component p j) qs → ⊥) → (l : Link) × List·Memᴰ l ls × Leaves qs l
+      crossing : (qs : List ℕ) (i j : ℕ) (ls : List Link) → IsChain p i ls j → List·Memᴰ (component p i) qs
+          → (List·Memᴰ (component p j) qs → ⊥) → (l : Link) × List·Memᴰ l ls × Leaves qs l
       crossing qs i j [] h m n = absurd (n (subst (λ x. List·Memᴰ (component p x) qs) h m))
       crossing qs i j (l ∷ ls) h m n = elim (mem? (component p (l .head)) qs) [
         | inl g ↦ let r = crossing qs (l .head) j ls (h .2) g n in (r .0, List·Memᴰ·tail (r .1), r .2)
         | inr g ↦ (l, List·Memᴰ·head refl, (subst⁻¹ (λ x. List·Memᴰ (component p x) qs) (h .0) m, g))
       ]
 
-      leaving : (qs : List ℕ) → List·Memᴰ 0 qs → (n q : ℕ) → t .rank q < n → List·Memᴰ q vs → (List·Memᴰ q qs → ⊥) → (l : Link) × List·Memᴰ l bundle × Leaves qs l
+      leaving : (qs : List ℕ) → List·Memᴰ 0 qs → (n q : ℕ) → t .rank q < n → List·Memᴰ q vs → (List·Memᴰ q qs → ⊥)
+          → (l : Link) × List·Memᴰ l bundle × Leaves qs l
       unfolding bundle
       leaving qs z zero q b m o = absurd (omega arith)
       leaving qs z (suc n) q b m o = elim (mem? (up q) qs) [
         | inl g ↦
             let s = leg q .1 m in
-            let r = crossing qs (s .tail) (s .head) (leg q .0) (s .chained) (subst⁻¹ (λ x. List·Memᴰ x qs) (s .from) g) (λ h. o (subst (λ x. List·Memᴰ x qs) (s .to) h)) in
+            let r = crossing qs (s .tail) (s .head) (leg q .0) (s .chained) (subst⁻¹ (λ x. List·Memᴰ x qs) (s .from) g)
+            (λ h. o (subst (λ x. List·Memᴰ x qs) (s .to) h)) in
             (r .0, mem-flatMap (λ q. leg q .0) m (r .1), r .2)
         | inr g ↦ elim (List·Memᴰ·cases-cons (t .inside q m)) [
           | inl e ↦ absurd (g (subst⁻¹ (λ x. List·Memᴰ x qs) e z))
@@ -258,7 +269,8 @@ module _ (p : Plan) where
         pub falls : (q : ℕ) → List·Memᴰ q qs → q ≢ 0 → rank (component p (entry q .tail)) < rank q
 
       -- one component more
-      module _ (qs : List ℕ) (entry : ℕ → Link) (rank : ℕ → ℕ) (g : Grown qs entry rank) (l : Link) (m : List·Memᴰ l bundle) (leaves : Leaves qs l) where
+      module _ (qs : List ℕ) (entry : ℕ → Link) (rank : ℕ → ℕ) (g : Grown qs entry rank) (l : Link) (m : List·Memᴰ l bundle)
+          (leaves : Leaves qs l) where
         abbrev x : ℕ
         x = component p (l .head)
 
@@ -274,7 +286,8 @@ module _ (p : Plan) where
         old-rank : {q : ℕ} → List·Memᴰ q qs → rank′ q ≡ rank q
         old-rank {q} n = update-other rank x (suc (rank (component p (l .tail)))) q (old n)
 
-        both : (P : ℕ → Link → Type 0) → P x l → ((q : ℕ) → List·Memᴰ q qs → q ≢ 0 → P q (entry q)) → (q : ℕ) → List·Memᴰ q (x ∷ qs) → q ≢ 0 → P q (entry′ q)
+        both : (P : ℕ → Link → Type 0) → P x l → ((q : ℕ) → List·Memᴰ q qs → q ≢ 0 → P q (entry q)) → (q : ℕ) → List·Memᴰ q (x ∷ qs)
+            → q ≢ 0 → P q (entry′ q)
         both P a b q n o = elim (List·Memᴰ·cases-cons n) [
           | inl e ↦ subst⁻¹ (λ y. P y (entry′ y)) e (subst⁻¹ (P x) (update-at entry x l) a)
           | inr h ↦ subst⁻¹ (P q) (update-other entry x l q (old h)) (b q h o)
@@ -285,7 +298,8 @@ module _ (p : Plan) where
           root = List·Memᴰ·tail (g .root);
           chosen = both (λ q y. List·Memᴰ y bundle) m (g .chosen);
           head = both (λ q y. component p (y .head) ≡ q) refl (g .head);
-          tail = both (λ q y. List·Memᴰ (component p (y .tail)) (x ∷ qs)) (List·Memᴰ·tail (leaves .0)) (λ q n o. List·Memᴰ·tail (g .tail q n o));
+          tail = both (λ q y. List·Memᴰ (component p (y .tail)) (x ∷ qs)) (List·Memᴰ·tail (leaves .0))
+              (λ q n o. List·Memᴰ·tail (g .tail q n o));
           falls = both (λ q y. rank′ (component p (y .tail)) < rank′ q)
               (let a = old-rank (leaves .0) in let b = update-at rank x (suc (rank (component p (l .tail)))) in omega arith)
               (λ q n o. (let a = old-rank (g .tail q n o) in let b = old-rank n in let f = g .falls q n o in omega arith));
@@ -298,10 +312,12 @@ module _ (p : Plan) where
         pub grown : Grown qs entry rank
         pub all : (q : ℕ) → List·Memᴰ q vs → List·Memᴰ q qs
 
-      whole : (qs : List ℕ) (entry : ℕ → Link) (rank : ℕ → ℕ) → Grown qs entry rank → ((q : ℕ) → List·Memᴰ q vs → List·Memᴰ q qs ⊎ List·Memᴰ q []) → Spans entry
+      whole : (qs : List ℕ) (entry : ℕ → Link) (rank : ℕ → ℕ) → Grown qs entry rank
+          → ((q : ℕ) → List·Memᴰ q vs → List·Memᴰ q qs ⊎ List·Memᴰ q []) → Spans entry
       whole qs entry rank g c = record { qs = qs; rank = rank; grown = g; all = λ q m. elim (c q m) [ inl h ↦ h | inr h ↦ elim h [ ] ] }
 
-      grow-all : (n : ℕ) (rest qs : List ℕ) (entry : ℕ → Link) (rank : ℕ → ℕ) → length rest ≤ n → Grown qs entry rank → ((q : ℕ) → List·Memᴰ q rest → List·Memᴰ q vs)
+      grow-all : (n : ℕ) (rest qs : List ℕ) (entry : ℕ → Link) (rank : ℕ → ℕ) → length rest ≤ n → Grown qs entry rank
+          → ((q : ℕ) → List·Memᴰ q rest → List·Memᴰ q vs)
           → ((q : ℕ) → List·Memᴰ q vs → List·Memᴰ q qs ⊎ List·Memᴰ q rest) → (e : ℕ → Link) × Spans e
       grow-all zero [] qs entry rank b g i c = (entry, whole qs entry rank g c)
       grow-all (suc n) [] qs entry rank b g i c = (entry, whole qs entry rank g c)
@@ -315,11 +331,17 @@ module _ (p : Plan) where
             let s = leaving qs (g .root) (suc (t .rank r)) r (omega arith) (i r (List·Memᴰ·head refl)) h in
             let l = s .0 in
             let x = component p (l .head) in
-            let xm : List·Memᴰ x vs = elim (List·Memᴰ·cases-cons (mem-all (component-lt p ends (link-ends p (bundle-links (s .1)) .1)))) [ inl e ↦ absurd (s .2 .1 (subst⁻¹ (λ y. List·Memᴰ y qs) e (g .root))) | inr y ↦ y ] in
+            let xm : List·Memᴰ x vs =
+            elim (List·Memᴰ·cases-cons (mem-all (component-lt p ends (link-ends p (bundle-links (s .1)) .1)))) [
+              | inl e ↦
+                  absurd (s .2 .1 (subst⁻¹ (λ y. List·Memᴰ y qs) e (g .root)))
+              | inr y ↦ y
+            ] in
             let xr : List·Memᴰ x (r ∷ rest) = elim (c x xm) [ inl y ↦ absurd (s .2 .1 y) | inr y ↦ y ] in
             let k = pick-of-mem xr in
             let f = pick-length (k .1) in
-            grow-all n (k .0) (x ∷ qs) (update entry x l) (update rank x (suc (rank (component p (l .tail))))) (omega arith) (grow qs entry rank g l (s .1) (s .2))
+            grow-all n (k .0) (x ∷ qs) (update entry x l) (update rank x (suc (rank (component p (l .tail))))) (omega arith)
+            (grow qs entry rank g l (s .1) (s .2))
             (λ q m. i q (left-mem (k .1) m)) (λ q m. elim (c q m) [
               | inl y ↦ inl (List·Memᴰ·tail y)
               | inr y ↦ elim (pick-cases (k .1) y) [ inl e ↦ inl (List·Memᴰ·head e) | inr y′ ↦ inr y′ ]
@@ -359,7 +381,9 @@ module _ (p : Plan) where
       unfolding parent
       is-arborescence = record {
         size = tree-size;
-        enters = λ q l. (let n = tree-size in let h : q < k - 1 = omega arith in let m = in-span (suc q) (omega arith) (omega arith) in let o : suc q ≢ 0 = λ e. (omega arith) in
+        enters = λ q l.
+            (let n = tree-size in let h : q < k - 1 = omega arith in let m = in-span (suc q) (omega arith) (omega arith) in
+            let o : suc q ≢ 0 = λ e. (omega arith) in
             let f = spans .grown .falls (suc q) m o in
             subst⁻¹ (Enters p (suc q)) (tree-at q h) (record {
               is-link = bundle-links (spans .grown .chosen (suc q) m o);
@@ -378,23 +402,28 @@ module _ (p : Plan) where
           falling : (q : ℕ) → q < k → q ≢ 0 → spans .rank (parent p tree q) < spans .rank q
           falling zero l o = absurd (o refl)
           falling (suc q) l o =
-              subst⁻¹ (λ (x : Link). spans .rank (component p (x .tail)) < spans .rank (suc q)) (tree-at q (omega arith)) (spans .grown .falls (suc q) (in-span (suc q) (omega arith) l) o)
+              subst⁻¹ (λ (x : Link). spans .rank (component p (x .tail)) < spans .rank (suc q)) (tree-at q (omega arith))
+              (spans .grown .falls (suc q) (in-span (suc q) (omega arith) l) o)
 
       tree-cost : reducedSum p u tree ≤ℤ treeCost w vs up
       unfolding reducedSum
       tree-cost =
           let r = extract entry (component p) vs bundle
-          (λ q m. (let b = others-lt m in let c = b .0 in let n = spans .all q m in let o : q ≢ 0 = λ e. (omega arith) in (spans .grown .chosen q n o, spans .grown .head q n o))) (others-are .once) in
+          (λ q m. (let b = others-lt m in let c = b .0 in let n = spans .all q m in let o : q ≢ 0 = λ e. (omega arith) in
+          (spans .grown .chosen q n o, spans .grown .head q n o))) (others-are .once) in
           let a = without-sum reduced (r .1) in
-          let b = sum-nonneg reduced (r .0) (λ l m. (let e = link-ends p (bundle-links (without-mem (r .1) m)) in feasible (l .tail) (l .head) (e .0) (e .1))) in
+          let b = sum-nonneg reduced (r .0)
+          (λ l m. (let e = link-ends p (bundle-links (without-mem (r .1) m)) in feasible (l .tail) (l .head) (e .0) (e .1))) in
           let c = bundle-cost in
-          subst (λ (x : ℤ). sumOfℤ (map reduced tree) ≤ℤ x) c (subst⁻¹ (λ (x : ℤ). sumOfℤ (map reduced tree) ≤ℤ x) a (simp zl (omega (arith, z))))
+          subst (λ (x : ℤ). sumOfℤ (map reduced tree) ≤ℤ x) c
+          (subst⁻¹ (λ (x : ℤ). sumOfℤ (map reduced tree) ≤ℤ x) a (simp zl (omega (arith, z))))
 
       listed : List·Memᴰ tree (arborescences p)
       listed = mem-arborescences p ends is-arborescence
 
   -- the least over pairs is the least over links
-  pub pairs-links : WellFormed p → 1 ≤ k → (u : Multipliers) (w : Matrix) → IsPairMatrix p u w → Feasible p u → (a : ℤ) → IsCheapest vs w a → a ≡ cheapestArborescence p u
+  pub pairs-links : WellFormed p → 1 ≤ k → (u : Multipliers) (w : Matrix) → IsPairMatrix p u w → Feasible p u → (a : ℤ) → IsCheapest vs w a
+      → a ≡ cheapestArborescence p u
   pairs-links ok some u w is feasible a h =
       let m = listed u w is ok feasible some (h .tree) (h .is-tree) in
       let b = cheapest-le p u m in
@@ -407,4 +436,5 @@ module _ (p : Plan) where
       let f = arborescence-cost u w is e (r .0) s in
       let g = r .2 in
       let i = h .attained in
-      ≤ℤ-antisym (subst⁻¹ (λ (x : ℤ). a ≤ℤ x) g (≤ℤ-trans d f)) (≤ℤ-trans b (subst (λ (x : ℤ). reducedSum p u (tree u w is ok feasible some (h .tree) (h .is-tree)) ≤ℤ x) i c))
+      ≤ℤ-antisym (subst⁻¹ (λ (x : ℤ). a ≤ℤ x) g (≤ℤ-trans d f))
+      (≤ℤ-trans b (subst (λ (x : ℤ). reducedSum p u (tree u w is ok feasible some (h .tree) (h .is-tree)) ≤ℤ x) i c))

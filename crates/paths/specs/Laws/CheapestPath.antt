@@ -1,6 +1,7 @@
--- In a plan whose arcs cost something, as a weighted plan's do: the path is a walk that costs d, since at each vertex some cheapest path begins with an open arc, and d falls
--- along it. So no vertex is entered twice, and fewer vertices than there are lie nearer to the end: n arcs are enough. No walk that costs d comes before it: its first arc
--- begins a cheapest path too, so that it is no lower than the lowest that does, and so on from the head of that.
+-- In a plan whose arcs cost something, as a weighted plan's do: the path is a walk that costs d, since at each vertex some cheapest path
+-- begins with an open arc, and d falls along it. So no vertex is entered twice, and fewer vertices than there are lie nearer to the end: n
+-- arcs are enough. No walk that costs d comes before it: its first arc begins a cheapest path too, so that it is no lower than the lowest
+-- that does, and so on from the head of that.
 use mathlib.Core.Path.{_≡_, ap, subst}
 use mathlib.Core.Logic.{inl, inr, _≢_}
 use mathlib.Core.Bool.{true, not, _&&_}
@@ -175,7 +176,8 @@ module _ (p : Plan) (ok : IsWeighted p) where
   ]
   path-within (suc f) v j l h g =
       let k = nextArc p v j in
-      cond-ind (eqb v j) [] (k ∷ pathWithin p f (arcAt (p .arcs) k .head) j) (IsPath v j (rank j v)) (λ t. empty-path v j (rank j v) (eqb→eq v j t)) (λ t.
+      cond-ind (eqb v j) [] (k ∷ pathWithin p f (arcAt (p .arcs) k .head) j) (IsPath v j (rank j v))
+      (λ t. empty-path v j (rank j v) (eqb→eq v j t)) (λ t.
       let b = next-begins v j (eqb-other t) h in
       let o = ends (arcAt (p .arcs) k) (getD-mem (p .arcs) _ k (b .number)) .1 in
       let d = nearer v j k b in
@@ -184,21 +186,25 @@ module _ (p : Plan) (ok : IsWeighted p) where
       (path-within f (arcAt (p .arcs) k .head) j o (omega arith) (omega arith)))
 
   -- no cheapest walk comes before it
-  lowest-within : (f v j : ℕ) (w : List ℕ) → IsWalk (p .arcs) v w j → walkCost (p .arcs) w ≡ distance p v j → T (not (isBefore w (pathWithin p f v j)))
+  lowest-within : (f v j : ℕ) (w : List ℕ) → IsWalk (p .arcs) v w j → walkCost (p .arcs) w ≡ distance p v j
+      → T (not (isBefore w (pathWithin p f v j)))
   unfolding pathWithin
   lowest-within zero v j w q c = none-before w
   lowest-within (suc f) v j [] q c =
       let k = nextArc p v j in
-      cond-ind (eqb v j) [] (k ∷ pathWithin p f (arcAt (p .arcs) k .head) j) (λ x. T (not (isBefore [] x))) (λ t. none-before []) (λ t. absurd (eqb-other t q))
+      cond-ind (eqb v j) [] (k ∷ pathWithin p f (arcAt (p .arcs) k .head) j) (λ x. T (not (isBefore [] x))) (λ t. none-before [])
+      (λ t. absurd (eqb-other t q))
   lowest-within (suc f) v j (a ∷ w) q c =
       let k = nextArc p v j in
       let b = first-begins v j a w q c in
-      cond-ind (eqb v j) [] (k ∷ pathWithin p f (arcAt (p .arcs) k .head) j) (λ x. T (not (isBefore (a ∷ w) x))) (λ t. none-before (a ∷ w)) (λ t.
+      cond-ind (eqb v j) [] (k ∷ pathWithin p f (arcAt (p .arcs) k .head) j) (λ x. T (not (isBefore (a ∷ w) x))) (λ t. none-before (a ∷ w))
+      (λ t.
       not-before a k w (pathWithin p f (arcAt (p .arcs) k .head) j) (next-lowest v j a (b .0))
-      (λ e. subst (λ x. T (not (isBefore w (pathWithin p f (arcAt (p .arcs) x .head) j)))) e (lowest-within f (arcAt (p .arcs) a .head) j w (q .3) (b .1))))
+      (λ e. subst (λ x. T (not (isBefore w (pathWithin p f (arcAt (p .arcs) x .head) j)))) e
+      (lowest-within f (arcAt (p .arcs) a .head) j w (q .3) (b .1))))
 
--- The path from i to j: where there is one, a walk of open arcs that costs d(i,j), of at most n − 1 arcs, which enters no vertex twice and not i again; no walk of that
--- cost comes before it.
+-- The path from i to j: where there is one, a walk of open arcs that costs d(i,j), of at most n − 1 arcs, which enters no vertex twice and
+-- not i again; no walk of that cost comes before it.
 pub record IsCheapestPath (p : Plan) (i j : ℕ) (w : List ℕ) : Type 0 where
   pub walk : IsWalk (p .arcs) i w j
   pub costs : walkCost (p .arcs) w ≡ distance p i j

@@ -1,5 +1,5 @@
--- The arcs that leave a vertex: from an arc that does, the lowest number is its own; from one that does not, it is that from the next arc on. So no such arc is left out
--- between two numbers of a chain.
+-- The arcs that leave a vertex: from an arc that does, the lowest number is its own; from one that does not, it is that from the next arc
+-- on. So no such arc is left out between two numbers of a chain.
 use mathlib.Core.Path.{_≡_, refl, sym, ap, _∙_, subst}
 use mathlib.Core.Bool.{Bool, true, false, cond, _&&_}
 use mathlib.Core.List.{List, []}
@@ -38,15 +38,19 @@ first-later f k m r e h = record {
   passes = h .passes;
 }
 
-first-case : (f : ℕ → Bool) (k m r : ℕ) → k < m → IsFirstFrom f (k + 1) m (k + 1 + r) → (b : Bool) → f k ≡ b → IsFirstFrom f k m (k + cond b 0 (suc r))
+first-case : (f : ℕ → Bool) (k m r : ℕ) → k < m → IsFirstFrom f (k + 1) m (k + 1 + r) → (b : Bool) → f k ≡ b
+    → IsFirstFrom f k m (k + cond b 0 (suc r))
 first-case f k m r l h true e = subst (IsFirstFrom f k m) (omega arith) (first-here f k m (omega arith) e)
 first-case f k m r l h false e = subst (IsFirstFrom f k m) (omega arith) (first-later f k m (k + 1 + r) e h)
 
 first-from : (f : ℕ → Bool) (k m n : ℕ) → k + n ≡ m → IsFirstFrom f k m (k + firstIndex f (upFrom k n))
 unfolding firstIndex upFrom
-first-from f k m zero e = record { from = omega arith; most = omega arith; skipped = λ i g h. absurd (omega arith); passes = λ l. absurd (omega arith) }
+first-from f k m zero e =
+    record { from = omega arith; most = omega arith; skipped = λ i g h. absurd (omega arith); passes = λ l. absurd (omega arith) }
 first-from f k m (suc n) e =
-    first-case f k m (firstIndex f (upFrom (suc k) n)) (omega arith) (subst (λ x. IsFirstFrom f x m (x + firstIndex f (upFrom (suc k) n))) (omega arith) (first-from f (suc k) m n (omega arith))) (f k) refl
+    first-case f k m (firstIndex f (upFrom (suc k) n)) (omega arith)
+    (subst (λ x. IsFirstFrom f x m (x + firstIndex f (upFrom (suc k) n))) (omega arith) (first-from f (suc k) m n (omega arith)))
+    (f k) refl
 
 -- there is one such number
 first-le : (f : ℕ → Bool) {k m r s : ℕ} → IsFirstFrom f k m r → IsFirstFrom f k m s → r ≤ s
@@ -68,11 +72,14 @@ module _ (rows : List (List ℕ)) (v : ℕ) where
 
   -- from an arc that leaves v, from one that does not, and past the last
   pub leaving-here : (k : ℕ) → k < length rows → tailOf rows k ≡ v → k ≡ leavingFrom rows v k
-  leaving-here k l e = first-unique (leaves rows v) (first-here (leaves rows v) k (length rows) (omega arith) (eq-eqb _ v e)) (leaving k (omega arith))
+  leaving-here k l e =
+      first-unique (leaves rows v) (first-here (leaves rows v) k (length rows) (omega arith) (eq-eqb _ v e)) (leaving k (omega arith))
 
   pub leaving-later : (k : ℕ) → k < length rows → (tailOf rows k ≡ v → ⊥) → leavingFrom rows v (k + 1) ≡ leavingFrom rows v k
   leaving-later k l n =
-      first-unique (leaves rows v) (first-later (leaves rows v) k (length rows) (leavingFrom rows v (k + 1)) (ne-eqb _ v n) (leaving (k + 1) (omega arith))) (leaving k (omega arith))
+      first-unique (leaves rows v)
+      (first-later (leaves rows v) k (length rows) (leavingFrom rows v (k + 1)) (ne-eqb _ v n) (leaving (k + 1) (omega arith)))
+      (leaving k (omega arith))
 
   pub leaving-none : length rows ≡ leavingFrom rows v (length rows)
   leaving-none = let h = leaving (length rows) (omega arith) in let a = h .from in let b = h .most in omega arith
@@ -113,10 +120,12 @@ chain-more rows chain k t few l s e h =
       few = omega arith;
       first = λ v g. elim (ℕ-discrete v t) [
         | yes q ↦ rw q (getD-set-same c t k 0 (omega arith) ∙ leaving-here rows t k l (sym e))
-        | no q ↦ getD-set-other c t v k 0 q ∙ getD-set-other chain (64 + k) v (getD chain t 0) 0 (λ z. omega arith) ∙ h .first v g ∙ leaving-later rows v k l (λ z. q (sym z ∙ sym e))
+        | no q ↦ getD-set-other c t v k 0 q ∙ getD-set-other chain (64 + k) v (getD chain t 0) 0 (λ z. omega arith) ∙ h .first v g
+            ∙ leaving-later rows v k l (λ z. q (sym z ∙ sym e))
       ];
       next = λ i g m. getD-set-other c t (64 + i) k 0 (λ z. omega arith) ∙ elim (ℕ-discrete i k) [
-        | yes q ↦ rw q (getD-set-same chain (64 + k) (getD chain t 0) 0 (omega arith) ∙ h .first t s ∙ ap (λ x. leavingFrom rows x (k + 1)) e)
+        | yes q ↦ rw q
+            (getD-set-same chain (64 + k) (getD chain t 0) 0 (omega arith) ∙ h .first t s ∙ ap (λ x. leavingFrom rows x (k + 1)) e)
         | no q ↦ getD-set-other chain (64 + k) (64 + i) (getD chain t 0) 0 (λ z. q (omega arith)) ∙ h .next i (omega arith) m
       ];
     }
@@ -145,10 +154,12 @@ module _ (rows : List (List ℕ)) (column : List ℕ) (v : ℕ) where
         begins = λ l. absurd (omega arith);
       }
 
-  module _ {best k next : ℕ} (h : Meets rows column v best k) (l : k < length rows) (e : next ≡ leavingFrom rows (tailOf rows k) (k + 1)) where
+  module _ {best k next : ℕ} (h : Meets rows column v best k) (l : k < length rows)
+      (e : next ≡ leavingFrom rows (tailOf rows k) (k + 1)) where
     follows : IsFirstFrom (leaves rows v) (k + 1) (length rows) next
     follows =
-        subst (IsFirstFrom (leaves rows v) (k + 1) (length rows)) (sym (e ∙ ap (λ x. leavingFrom rows x (k + 1)) (h .tail l))) (leaving rows v (k + 1) (omega arith))
+        subst (IsFirstFrom (leaves rows v) (k + 1) (length rows)) (sym (e ∙ ap (λ x. leavingFrom rows x (k + 1)) (h .tail l)))
+        (leaving rows v (k + 1) (omega arith))
 
     pub meets-later : (k < next) × (next ≤ length rows)
     meets-later = let a = follows .from in (omega arith, follows .most)
@@ -186,5 +197,6 @@ module _ (rows : List (List ℕ)) (column : List ℕ) (v : ℕ) where
     | yes g ↦ let a = h .most in
         let e : best ≡ length rows = omega arith in
         e ∙ sym (first-none (beginsIn rows column v) (length rows) (λ i m. h .lowest i (omega arith) (omega arith)))
-    | no g ↦ sym (first-at (beginsIn rows column v) (length rows) best (omega arith) (h .begins (omega arith)) (λ i m. h .lowest i (omega arith) m))
+    | no g ↦ sym
+        (first-at (beginsIn rows column v) (length rows) best (omega arith) (h .begins (omega arith)) (λ i m. h .lowest i (omega arith) m))
   ]

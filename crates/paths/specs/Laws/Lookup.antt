@@ -1,4 +1,5 @@
--- What is looked up among lent rows and a column is the next arc of their weighted plan: arc k is row k, and the column holds the weights to j.
+-- What is looked up among lent rows and a column is the next arc of their weighted plan: arc k is
+-- row k, and the column holds the weights to j.
 use mathlib.Core.Path.{_≡_, refl, sym, ap, _∙_, subst⁻¹}
 use mathlib.Core.Bool.{Bool, _&&_}
 use mathlib.Core.List.{List, [], _∷_}
@@ -49,20 +50,28 @@ module _ (n : ℕ) (rows : List (List ℕ)) (ok : WellFormed (planIn n rows)) wh
         let w = rows-vertices n rows in
         let g = row-ends k l .1 in
         let m = rows-length n rows in
-        rw (heavy-at (planIn n rows .arcs) k (omega arith), row-arc n rows k l, c v (omega arith), c (arcIn (getD rows k []) .head) (omega arith))
+        rw (
+          heavy-at (planIn n rows .arcs) k (omega arith),
+          row-arc n rows k l,
+          c v (omega arith),
+          c (arcIn (getD rows k []) .head) (omega arith),
+        )
 
     pub next-same : (v : ℕ) → v < n → nextIn rows column v ≡ nextArc (weighted (planIn n rows)) v j
     unfolding nextIn nextArc below
     next-same v h =
-        first-same (beginsIn rows column v) (begins (weighted (planIn n rows)) v j) 0 (length rows) (λ k a b. begins-same v k h (omega arith))
-        ∙ ap (λ m. firstIndex (begins (weighted (planIn n rows)) v j) (upFrom 0 m)) (sym (length-map (planIn n rows .arcs) heavy ∙ rows-length n rows))
+        first-same (beginsIn rows column v) (begins (weighted (planIn n rows)) v j) 0 (length rows)
+        (λ k a b. begins-same v k h (omega arith))
+        ∙ ap (λ m. firstIndex (begins (weighted (planIn n rows)) v j) (upFrom 0 m))
+        (sym (length-map (planIn n rows .arcs) heavy ∙ rows-length n rows))
 
 -- A column that was taken out of the rows of a table: of as many entries as there are rows, it is the column of the weights to j.
 pub few-rows : (arcs table : List (List ℕ)) → WellFormed (planIn (length table) arcs) → length table ≤ 64
 few-rows arcs table ok = let v = rows-vertices (length table) arcs in let n = ok .vertices in omega arith
 
 -- what a chain asks
-pub chain-ready : (arcs table : List (List ℕ)) → WellFormed (planIn (length table) arcs) → (length arcs ≤ 256) × ((k : ℕ) → k < length arcs → tailOf arcs k < 64)
+pub chain-ready : (arcs table : List (List ℕ)) → WellFormed (planIn (length table) arcs)
+    → (length arcs ≤ 256) × ((k : ℕ) → k < length arcs → tailOf arcs k < 64)
 chain-ready arcs table ok =
     let n = ok .vertices in
     let m = ok .arc-count in
@@ -77,7 +86,8 @@ module _ (arcs table : List (List ℕ)) (column : List ℕ) (long : length colum
   pub taken-plan : planIn (length (take (length table) column)) arcs ≡ planIn (length table) arcs
   taken-plan = ap (λ n. planIn n arcs) taken-length
 
-  pub taken-column : (j : ℕ) → j < 64 → AreRows (planIn (length table) arcs) table → ((i : ℕ) → i < length table → getD column i 0 ≡ getD (getD table i []) j 0)
+  pub taken-column : (j : ℕ) → j < 64 → AreRows (planIn (length table) arcs) table
+      → ((i : ℕ) → i < length table → getD column i 0 ≡ getD (getD table i []) j 0)
       → IsColumn (planIn (length table) arcs) j (take (length table) column)
   taken-column j l rows entries i h =
       let v = rows-vertices (length table) arcs in
@@ -96,17 +106,26 @@ module _ (arcs table : List (List ℕ)) (column : List ℕ) (long : length colum
       let v = rows-vertices (length table) arcs in
       let f = few-rows arcs table ok in
       let l = taken-length in (
-        (subst⁻¹ WellFormed taken-plan ok, subst⁻¹ (λ (p : Plan). IsColumn p j (take (length table) column)) taken-plan (taken-column j (omega arith) rows entries), linked-arcs),
-        ((omega arith, omega arith, subst⁻¹ (λ (p : Plan). distance p i j < noPath) taken-plan linked), subst⁻¹ (λ (p : Plan). at + length (shortestPath p i j) ≤ room) taken-plan fits),
+        (
+          subst⁻¹ WellFormed taken-plan ok,
+          subst⁻¹ (λ (p : Plan). IsColumn p j (take (length table) column)) taken-plan (taken-column j (omega arith) rows entries),
+          linked-arcs,
+        ),
+        (
+          (omega arith, omega arith, subst⁻¹ (λ (p : Plan). distance p i j < noPath) taken-plan linked),
+          subst⁻¹ (λ (p : Plan). at + length (shortestPath p i j) ≤ room) taken-plan fits,
+        ),
       )
 
-  pub taken-path : (i j : ℕ) → shortestPath (planIn (length (take (length table) column)) arcs) i j ≡ shortestPath (planIn (length table) arcs) i j
+  pub taken-path : (i j : ℕ)
+      → shortestPath (planIn (length (take (length table) column)) arcs) i j ≡ shortestPath (planIn (length table) arcs) i j
   taken-path i j = ap (λ (p : Plan). shortestPath p i j) taken-plan
 
 -- ---- what is lent of a plan by value and of its table
 
 module _ (r : PlanRecord) (ok : WellFormed (planValue r)) where
-  pub lent-plan : (rows : List (List ℕ)) → planIn (r .n) rows ≡ planValue r → (table : List (List ℕ)) → length table ≡ 64 → planIn (length (take (r .n) table)) rows ≡ planValue r
+  pub lent-plan : (rows : List (List ℕ)) → planIn (r .n) rows ≡ planValue r → (table : List (List ℕ)) → length table ≡ 64
+      → planIn (length (take (r .n) table)) rows ≡ planValue r
   lent-plan rows e table l = let n = record-vertices r ok .1 in ap (λ n. planIn n rows) (length-take-le (r .n) table (omega arith)) ∙ e
 
   pub lent-rows : (table : List (List ℕ)) → AreWeights (planValue r) table → AreRows (planValue r) (take (r .n) table)

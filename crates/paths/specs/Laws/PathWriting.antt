@@ -100,7 +100,8 @@ module _ (p : Plan) (ok : IsWeighted p) (i j : ℕ) (old : List ℕ) (at : ℕ) 
           finite = omega arith;
           place = omega arith;
           size = length-set places to k ∙ h .size;
-          written = ap (λ n. take n (set places to k)) (add-one to) ∙ take-suc-set places to k (omega arith) ∙ ap (λ (xs : List ℕ). xs ++ k ∷ []) (h .written)
+          written = ap (λ n. take n (set places to k)) (add-one to) ∙ take-suc-set places to k (omega arith)
+              ∙ ap (λ (xs : List ℕ). xs ++ k ∷ []) (h .written)
               ∙ append-assoc (take at old) (h .done) (k ∷ []);
           kept = drop-set-lt (to + 1) places to k (omega arith) ∙ sym (drop-drop 1 to places) ∙ ap (drop 1) (h .kept) ∙ drop-drop 1 to old;
         }
@@ -108,6 +109,11 @@ module _ (p : Plan) (ok : IsWeighted p) (i j : ℕ) (old : List ℕ) (at : ℕ) 
     pub writing-all : v ≡ j → (places ≡ overwrite old at (cheapestPath p i j)) × (to ≡ at + length (cheapestPath p i j))
     unfolding overwrite
     writing-all e =
-        let z : h .done ≡ cheapestPath p i j = sym (append-nil (h .done)) ∙ ap (λ (xs : List ℕ). h .done ++ xs) (sym (none-left (h .fuel) v e)) ∙ h .split in
-        let q : to ≡ at + length (cheapestPath p i j) = h .place ∙ ap (λ (xs : List ℕ). at + length xs) z in
-        (sym (take-append-drop to places) ∙ ap₂ (λ (xs ys : List ℕ). xs ++ ys) (h .written ∙ ap (λ (xs : List ℕ). take at old ++ xs) z) (h .kept ∙ ap (λ n. drop n old) q), q)
+        let z : h .done ≡ cheapestPath p i j =
+        sym (append-nil (h .done)) ∙ ap (λ (xs : List ℕ). h .done ++ xs) (sym (none-left (h .fuel) v e)) ∙ h .split in
+        let q : to ≡ at + length (cheapestPath p i j) = h .place ∙ ap (λ (xs : List ℕ). at + length xs) z in (
+          sym (take-append-drop to places)
+              ∙ ap₂ (λ (xs ys : List ℕ). xs ++ ys) (h .written ∙ ap (λ (xs : List ℕ). take at old ++ xs) z)
+              (h .kept ∙ ap (λ n. drop n old) q),
+          q,
+        )

@@ -16,7 +16,8 @@ module _ {A : Type 0} (f g : A → Bool) (implies : (x : A) → T (f x) → T (g
   select-le (x ∷ xs) =
       let r = select-le xs in
       cond-ind (f x) (x ∷ select f xs) (select f xs) (λ l. length l ≤ length (cond (g x) (x ∷ select g xs) (select g xs)))
-      (λ t. cond-ind (g x) (x ∷ select g xs) (select g xs) (λ l. suc (length (select f xs)) ≤ length l) (λ u. omega arith) (λ u. absurd (T-not (g x) u (implies x t))))
+      (λ t. cond-ind (g x) (x ∷ select g xs) (select g xs) (λ l. suc (length (select f xs)) ≤ length l) (λ u. omega arith)
+      (λ u. absurd (T-not (g x) u (implies x t))))
       (λ t. cond-ind (g x) (x ∷ select g xs) (select g xs) (λ l. length (select f xs) ≤ length l) (λ u. omega arith) (λ u. r))
 
   pub select-lt : {x : A} {xs : List A} → List·Memᴰ x xs → T (g x) → T (not (f x)) → length (select f xs) < length (select g xs)
@@ -30,10 +31,12 @@ module _ {A : Type 0} (f g : A → Bool) (implies : (x : A) → T (f x) → T (g
   select-lt {x} (List·Memᴰ·tail {x = y} {xs = xs} m) t u =
       let r = select-lt m t u in
       cond-ind (f y) (y ∷ select f xs) (select f xs) (λ l. length l < length (cond (g y) (y ∷ select g xs) (select g xs)))
-      (λ v. cond-ind (g y) (y ∷ select g xs) (select g xs) (λ l. suc (length (select f xs)) < length l) (λ w. omega arith) (λ w. absurd (T-not (g y) w (implies y v))))
+      (λ v. cond-ind (g y) (y ∷ select g xs) (select g xs) (λ l. suc (length (select f xs)) < length l) (λ w. omega arith)
+      (λ w. absurd (T-not (g y) w (implies y v))))
       (λ v. cond-ind (g y) (y ∷ select g xs) (select g xs) (λ l. length (select f xs) < length l) (λ w. omega arith) (λ w. r))
 
 pub select-all : {A : Type 0} (f : A → Bool) (xs : List A) → length (select f xs) ≤ length xs
 unfolding select
 select-all f [] = zero-le
-select-all f (x ∷ xs) = let r = select-all f xs in cond-ind (f x) (x ∷ select f xs) (select f xs) (λ l. length l ≤ suc (length xs)) (λ t. omega arith) (λ t. omega arith)
+select-all f (x ∷ xs) = let r = select-all f xs in
+    cond-ind (f x) (x ∷ select f xs) (select f xs) (λ l. length l ≤ suc (length xs)) (λ t. omega arith) (λ t. omega arith)

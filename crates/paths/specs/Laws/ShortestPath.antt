@@ -1,4 +1,5 @@
--- The path of a leg is the path of fewest arcs: a lightest one costs d, has no more arcs than any that costs as much, and none of its weight comes before it.
+-- The path of a leg is the path of fewest arcs: a lightest one costs d, has no more arcs than any that costs as
+-- much, and none of its weight comes before it.
 use mathlib.Core.Path.{_≡_, _∙_, subst}
 use mathlib.Core.List.{List}
 use Prim.Native.Nat.{ℕ, _+_, _-_, _*_, _≤_, _<_}
@@ -16,7 +17,8 @@ use Rattle.shortest.specs.Weight.{entered}
 use Rattle.paths.specs.Laws.CheapestPath.{IsCheapestPath, cheapest-path}
 use Rattle.shortest.specs.Laws.Weight.{is-weighted, to-weighted, of-weighted, walk-weight, same-entered, weight-path, least-cost}
 
--- The path from i to j: where there is one, the path of fewest arcs; it costs d(i,j), has at most n − 1 arcs, and enters no vertex twice and not i again.
+-- The path from i to j: where there is one, the path of fewest arcs; it costs d(i,j), has at most n − 1 arcs,
+-- and enters no vertex twice and not i again.
 pub record IsShortestPath (p : Plan) (i j : ℕ) (w : List ℕ) : Type 0 where
   pub fewest-path : IsFewestPath p i j w
   pub costs : walkCost (p .arcs) w ≡ distance p i j
@@ -69,4 +71,5 @@ module _ (p : Plan) (ok : WellFormed p) (i j : ℕ) (l : i < p .n) (w : List ℕ
 
 pub shortest-path : (p : Plan) → WellFormed p → (i j : ℕ) → i < p .n → distance p i j < noPath → IsShortestPath p i j (shortestPath p i j)
 unfolding shortestPath
-shortest-path p ok i j l h = is-shortest p ok i j l (cheapestPath (weighted p) i j) (cheapest-path (weighted p) (is-weighted p ok) i j l (weight-path p ok i j l h))
+shortest-path p ok i j l h =
+    is-shortest p ok i j l (cheapestPath (weighted p) i j) (cheapest-path (weighted p) (is-weighted p ok) i j l (weight-path p ok i j l h))

@@ -37,11 +37,13 @@ module _ (r : PlanRecord) (ok : WellFormed (planValue r)) where
   pub record-arc : (k : ℕ) → k < r .m → IsArc (r .n) (recordAt (r .arcs) k)
   record-arc k l =
       let e = plan-length r in
-      subst (λ (a : Arc). IsArc (r .n) a) (plan-arc r k l) (rw (plan-vertices r) at (ok .each (arcAt (planValue r .arcs) k) (getD-mem (planValue r .arcs) _ k (omega arith))))
+      subst (λ (a : Arc). IsArc (r .n) a) (plan-arc r k l)
+      (rw (plan-vertices r) at (ok .each (arcAt (planValue r .arcs) k) (getD-mem (planValue r .arcs) _ k (omega arith))))
 
   -- the ends of an arc are below 64
   pub record-ends : (k : ℕ) → k < r .m → (recordAt (r .arcs) k .tail < 64) × (recordAt (r .arcs) k .head < 64)
-  record-ends k l = let a = record-arc k l in let t = a .tail-in in let h = a .head-in in let n = record-vertices .1 in (omega arith, omega arith)
+  record-ends k l = let a = record-arc k l in let t = a .tail-in in let h = a .head-in in let n = record-vertices .1 in
+      (omega arith, omega arith)
 
   -- the arcs before the (k + 1)th
   pub arcs-more : (k : ℕ) → k < r .m → take (k + 1) (planValue r .arcs) ≡ take k (planValue r .arcs) ++ recordAt (r .arcs) k ∷ []
@@ -54,7 +56,8 @@ module _ (r : PlanRecord) (ok : WellFormed (planValue r)) where
   arcs-all = let e = plan-length r in take-all (r .m) (planValue r .arcs) (omega arith)
 
 -- and the other way round: what the limits say of its record makes a plan well formed
-pub well-formed : (r : PlanRecord) → 1 ≤ r .n → r .n ≤ 64 → 1 ≤ r .m → r .m ≤ 256 → ((k : ℕ) → k < r .m → IsArc (r .n) (recordAt (r .arcs) k)) → WellFormed (planValue r)
+pub well-formed : (r : PlanRecord) → 1 ≤ r .n → r .n ≤ 64 → 1 ≤ r .m → r .m ≤ 256
+    → ((k : ℕ) → k < r .m → IsArc (r .n) (recordAt (r .arcs) k)) → WellFormed (planValue r)
 well-formed r a b c d h =
     let e = plan-length r in
     let n = plan-vertices r in

@@ -1,4 +1,5 @@
--- Arc k of the plan that rows stand for is row k; rows that hold the arcs of a plan by value stand for its plan, and `rowsOf` are such rows.
+-- Arc k of the plan that rows stand for is row k; rows that hold the arcs of a plan by value
+-- stand for its plan, and `rowsOf` are such rows.
 use mathlib.Core.Path.{_≡_, refl, sym, ap, _∙_}
 use mathlib.Core.Bool.{Bool, true, false, cond}
 use mathlib.Core.List.{List, [], _∷_, map}
@@ -49,7 +50,8 @@ rows-plan r rows h =
     let size = rows-length (r .n) (take (r .m) rows) in
     let arcs : p .arcs ≡ planValue r .arcs = ext-getD (arcAt [] 0) (p .arcs) (planValue r .arcs) long (λ k g.
     (let b : k < r .m = omega arith in
-    row-arc (r .n) (take (r .m) rows) k (omega arith) ∙ ap arcIn (getD-take (r .m) rows k [] b) ∙ ap arcIn (h .before k b) ∙ sym (plan-arc r k b))) in
+    row-arc (r .n) (take (r .m) rows) k (omega arith) ∙ ap arcIn (getD-take (r .m) rows k [] b) ∙ ap arcIn (h .before k b)
+    ∙ sym (plan-arc r k b))) in
     λ i. record { n = n i; arcs = arcs i }
 
 -- a loop that has filled the first k rows, over zeros
@@ -61,9 +63,13 @@ module _ (r : PlanRecord) where
   pub filled-none : FilledTo r (replicate 256 (replicate 5 0)) 0
   filled-none = record { first = prefix-none 256 [] _ (replicate 5 0); rest = λ i l m. getD-replicate 256 i (replicate 5 0) [] m }
 
-  pub filled-more : (rows : List (List ℕ)) (k : ℕ) (x : List ℕ) → FilledTo r rows k → k < 256 → x ≡ rowOf (recordAt (r .arcs) k) → FilledTo r (set rows k x) (k + 1)
+  pub filled-more : (rows : List (List ℕ)) (k : ℕ) (x : List ℕ) → FilledTo r rows k → k < 256 → x ≡ rowOf (recordAt (r .arcs) k)
+      → FilledTo r (set rows k x) (k + 1)
   filled-more rows k x h l e =
-      record { first = prefix-more 256 [] _ rows k x (h .first) l e; rest = λ i a b. getD-set-other rows k i x [] (λ q. absurd (omega arith)) ∙ h .rest i (omega arith) b }
+      record {
+        first = prefix-more 256 [] _ rows k x (h .first) l e;
+        rest = λ i a b. getD-set-other rows k i x [] (λ q. absurd (omega arith)) ∙ h .rest i (omega arith) b;
+      }
 
   row-is : (i : ℕ) → i < 256 → getD (rowsOf r) i [] ≡ cond (ltb i (r .m)) (rowOf (recordAt (r .arcs) i)) (replicate 5 0)
   unfolding rowsOf
@@ -74,7 +80,9 @@ module _ (r : PlanRecord) where
   rows-long = length-map-below (λ k. cond (ltb k (r .m)) (rowOf (recordAt (r .arcs) k)) (replicate 5 0)) 256
 
   pub filled-all : (rows : List (List ℕ)) → FilledTo r rows (r .m) → rows ≡ rowsOf r
-  filled-all rows h = ext-getD [] rows (rowsOf r) (h .first .long ∙ sym rows-long) (λ i l. (let s = h .first .long in at i (omega arith) (ltb i (r .m)) refl) ∙ sym (row-is i (let s = h .first .long in omega arith)))
+  filled-all rows h =
+      ext-getD [] rows (rowsOf r) (h .first .long ∙ sym rows-long)
+      (λ i l. (let s = h .first .long in at i (omega arith) (ltb i (r .m)) refl) ∙ sym (row-is i (let s = h .first .long in omega arith)))
     where
       at : (i : ℕ) → i < 256 → (b : Bool) → ltb i (r .m) ≡ b → getD rows i [] ≡ cond b (rowOf (recordAt (r .arcs) i)) (replicate 5 0)
       at i l true e = h .first .before i (ltb-true i (r .m) e)

@@ -75,7 +75,8 @@ module _ (bytes : List ℕ) where
 
 -- The plan by value, by its parts.
 pub plan-parts : (bytes : List ℕ) (e n m : ℕ) (records : List ArcRecord) → e ≡ edition bytes → n ≡ vertexCount bytes → m ≡ arcCount bytes
-    → records ≡ recordsOf (map (arcOf bytes e) (below m)) → _≡_ {A = PlanRecord} (record { n = n; m = m; arcs = records }) (planRecord (planOf bytes))
+    → records ≡ recordsOf (map (arcOf bytes e) (below m))
+    → _≡_ {A = PlanRecord} (record { n = n; m = m; arcs = records }) (planRecord (planOf bytes))
 unfolding planRecord planOf
 plan-parts bytes e n m records e′ n′ m′ r =
     let count = length-map-below (arcOf bytes (edition bytes)) (arcCount bytes) in
@@ -107,10 +108,12 @@ unfolding editionUnless planUnless
 refused-reading bytes r x q h = rw q (record { verdict = sym h; edition-is = rw h refl; plan = rw h refl })
 
 -- The edition is the file's, and the plan by value stands for the file's plan.
-pub accepted-edition : (bytes : List ℕ) (r : Reading) → IsReading bytes r → firstRefusal (fileConditions bytes) ≡ none → r .edition ≡ edition bytes
+pub accepted-edition : (bytes : List ℕ) (r : Reading) → IsReading bytes r → firstRefusal (fileConditions bytes) ≡ none
+    → r .edition ≡ edition bytes
 unfolding editionUnless
 accepted-edition bytes r read e = rw e at (read .edition-is)
 
-pub accepted-value : (bytes : List ℕ) (r : Reading) → IsReading bytes r → firstRefusal (fileConditions bytes) ≡ none → planValue (r .plan) ≡ planOf bytes
+pub accepted-value : (bytes : List ℕ) (r : Reading) → IsReading bytes r → firstRefusal (fileConditions bytes) ≡ none
+    → planValue (r .plan) ≡ planOf bytes
 unfolding planUnless
 accepted-value bytes r read e = ap planValue (rw e at (read .plan)) ∙ value-record (planOf bytes)

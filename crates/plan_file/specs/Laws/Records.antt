@@ -34,7 +34,8 @@ record-at : (arcs : List Arc) (k : ℕ) → k < length arcs → recordAt (record
 unfolding recordsOf
 record-at arcs k h =
     let l : k < length (map recordOf arcs) = rw (length-map arcs recordOf) h in
-    ap arcValue (List·getD-append (map recordOf arcs) (replicate (256 - length arcs) zeroRecord) zeroRecord k l ∙ List·getD-map recordOf arcs k (arcValue zeroRecord))
+    ap arcValue (List·getD-append (map recordOf arcs) (replicate (256 - length arcs) zeroRecord) zeroRecord k l
+    ∙ List·getD-map recordOf arcs k (arcValue zeroRecord))
 
 -- A plan by value stands for the plan that it was made from.
 pub value-record : (p : Plan) → planValue (planRecord p) ≡ p

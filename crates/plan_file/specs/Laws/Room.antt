@@ -26,14 +26,17 @@ module _ (bytes : List ℕ) (e k : ℕ) where
   unfolding hasArc
   has-within q = by (leb k 255) (leb (fileBits e (k + 1)) (8 * length bytes)) refl refl q
     where
-      by : (a b : Bool) → leb k 255 ≡ a → leb (fileBits e (k + 1)) (8 * length bytes) ≡ b → a && b ≡ true → (k < 256) × (fileBits e k + arcWidth e ≤ 8 * length bytes)
-      by true true i j q = let l = leb-true k 255 i in let m = leb-true (fileBits e (k + 1)) (8 * length bytes) j in let d = bits-more e k in (omega arith, omega arith)
+      by : (a b : Bool) → leb k 255 ≡ a → leb (fileBits e (k + 1)) (8 * length bytes) ≡ b → a && b ≡ true
+          → (k < 256) × (fileBits e k + arcWidth e ≤ 8 * length bytes)
+      by true true i j q = let l = leb-true k 255 i in let m = leb-true (fileBits e (k + 1)) (8 * length bytes) j in
+          let d = bits-more e k in (omega arith, omega arith)
       by true false i j q = absurd (subst⁻¹ T q tt)
       by false b i j q = absurd (subst⁻¹ T q tt)
 
   pub within-has : k < 256 → fileBits e k + arcWidth e ≤ 8 * length bytes → hasArc bytes e k ≡ true
   unfolding hasArc
-  within-has l m = let d = bits-more e k in rw (le-leb k 255 (omega arith), le-leb (fileBits e (k + 1)) (8 * length bytes) (omega arith)) refl
+  within-has l m = let d = bits-more e k in
+      rw (le-leb k 255 (omega arith), le-leb (fileBits e (k + 1)) (8 * length bytes) (omega arith)) refl
 
 module _ (bytes : List ℕ) (k : ℕ) where
   pub record-there : hasArc bytes (edition bytes) k ≡ true → recordIn bytes k ≡ recordOf (arcOf bytes (edition bytes) k)
@@ -45,5 +48,6 @@ module _ (bytes : List ℕ) (k : ℕ) where
   no-record q = rw q refl
 
   -- for callers that know it to be there
-  pub record-in : k < 256 → fileBits (edition bytes) k + arcWidth (edition bytes) ≤ 8 * length bytes → recordIn bytes k ≡ recordOf (arcOf bytes (edition bytes) k)
+  pub record-in : k < 256 → fileBits (edition bytes) k + arcWidth (edition bytes) ≤ 8 * length bytes
+      → recordIn bytes k ≡ recordOf (arcOf bytes (edition bytes) k)
   record-in l m = record-there (within-has bytes (edition bytes) k l m)

@@ -1,4 +1,5 @@
--- The file that putting the fields one after the other makes is the file of the plan. `Holds` says how far the bits have come; each field adds its own.
+-- The file that putting the fields one after the other makes is the file of the plan. `Holds` says how far
+-- the bits have come; each field adds its own.
 use mathlib.Core.Path.{_≡_, refl, sym, ap, _∙_, subst}
 use mathlib.Core.List.{List, [], _∷_, _++_, map, append-nil, append-assoc, flatMap}
 use mathlib.Core.Logic.{inl, inr}
@@ -104,11 +105,13 @@ module _ (e : ℕ) where
   flat-snoc : (arcs : List Arc) (a : Arc) → flatMap (arcBits e) (arcs ++ a ∷ []) ≡ flatMap (arcBits e) arcs ++ arcBits e a
   unfolding flatMap
   flat-snoc [] a = append-nil (arcBits e a)
-  flat-snoc (x ∷ arcs) a = ap (λ (l : List ℕ). arcBits e x ++ l) (flat-snoc arcs a) ∙ sym (append-assoc (arcBits e x) (flatMap (arcBits e) arcs) (arcBits e a))
+  flat-snoc (x ∷ arcs) a =
+      ap (λ (l : List ℕ). arcBits e x ++ l) (flat-snoc arcs a) ∙ sym (append-assoc (arcBits e x) (flatMap (arcBits e) arcs) (arcBits e a))
 
   flat-more : (f : ℕ → Arc) (k : ℕ) → flatMap (arcBits e) (map f (below (suc k))) ≡ flatMap (arcBits e) (map f (below k)) ++ arcBits e (f k)
   flat-more f k =
-      ap (λ (n : ℕ). flatMap (arcBits e) (map f (below n))) (sym (add-one k)) ∙ ap (flatMap (arcBits e)) (map-below-more f k) ∙ flat-snoc (map f (below k)) (f k)
+      ap (λ (n : ℕ). flatMap (arcBits e) (map f (below n))) (sym (add-one k)) ∙ ap (flatMap (arcBits e)) (map-below-more f k)
+      ∙ flat-snoc (map f (below k)) (f k)
 
 module _ (old : List ℕ) (len : ℕ) (room : len ≤ length old) where
   pub holds-header
@@ -147,8 +150,10 @@ module _ (old : List ℕ) (len : ℕ) (room : len ≤ length old) where
     where
       join : bits ++ bitsOf 6 (a .tail) ++ bitsOf 6 (a .head) ++ bitsOf 2 (a .standing) ++ bitsOf 16 (a .cost) ≡ bits ++ core a
       join =
-          ap (λ (l : List ℕ). l ++ bitsOf 2 (a .standing) ++ bitsOf 16 (a .cost)) (append-assoc bits (bitsOf 6 (a .tail)) (bitsOf 6 (a .head)))
-          ∙ ap (λ (l : List ℕ). l ++ bitsOf 16 (a .cost)) (append-assoc bits (bitsOf 6 (a .tail) ++ bitsOf 6 (a .head)) (bitsOf 2 (a .standing)))
+          ap (λ (l : List ℕ). l ++ bitsOf 2 (a .standing) ++ bitsOf 16 (a .cost))
+          (append-assoc bits (bitsOf 6 (a .tail)) (bitsOf 6 (a .head)))
+          ∙ ap (λ (l : List ℕ). l ++ bitsOf 16 (a .cost))
+          (append-assoc bits (bitsOf 6 (a .tail) ++ bitsOf 6 (a .head)) (bitsOf 2 (a .standing)))
           ∙ append-assoc bits (bitsOf 6 (a .tail) ++ bitsOf 6 (a .head) ++ bitsOf 2 (a .standing)) (bitsOf 16 (a .cost))
 
   pub holds-arc
@@ -161,13 +166,17 @@ module _ (old : List ℕ) (len : ℕ) (room : len ≤ length old) where
   holds-arc e s bits i a h q l = at (isSecond e) l
     where
       long : length (bits ++ core a) ≡ i + 30
-      long = simp length-append (omega (arith, length-bitsOf 6 (a .tail), length-bitsOf 6 (a .head), length-bitsOf 2 (a .standing), length-bitsOf 16 (a .cost)))
+      long = simp length-append
+          (omega (arith, length-bitsOf 6 (a .tail), length-bitsOf 6 (a .head), length-bitsOf 2 (a .standing), length-bitsOf 16 (a .cost)))
 
       at : (b : Bool) → i + cond b 46 30 ≤ 8 * len
-          → Holds old len (cond b (putField (putCore s i a) (i + 30) 16 (a .service)) (putCore s i a)) (bits ++ (core a ++ cond b (bitsOf 16 (a .service)) []))
+          → Holds old len (cond b (putField (putCore s i a) (i + 30) 16 (a .service)) (putCore s i a))
+          (bits ++ (core a ++ cond b (bitsOf 16 (a .service)) []))
       at true g =
-          subst (λ (l : List ℕ). Holds old len (putField (putCore s i a) (i + 30) 16 (a .service)) l) (append-assoc bits (core a) (bitsOf 16 (a .service)))
-          (holds-put old len room (putCore s i a) (bits ++ core a) (holds-core s bits i a h q (omega arith)) (i + 30) 16 (a .service) long (omega arith))
+          subst (λ (l : List ℕ). Holds old len (putField (putCore s i a) (i + 30) 16 (a .service)) l)
+          (append-assoc bits (core a) (bitsOf 16 (a .service)))
+          (holds-put old len room (putCore s i a) (bits ++ core a) (holds-core s bits i a h q (omega arith)) (i + 30) 16 (a .service) long
+          (omega arith))
       at false g = rw (append-nil (core a)) (holds-core s bits i a h q g)
 
   pub holds-arcs
@@ -184,9 +193,11 @@ module _ (old : List ℕ) (len : ℕ) (room : len ≤ length old) where
       let before = holds-arcs e s bits f h q k (omega arith) in
       let n : length (bits ++ flatMap (arcBits e) (map f (below k))) ≡ fileBits e k =
       simp length-append (omega (arith, rw (length-map-below f k) at (length-arcs e (map f (below k))))) in
-      let after = holds-arc e (putArcs s e f k) (bits ++ flatMap (arcBits e) (map f (below k))) (fileBits e k) (f k) before n (omega arith) in
+      let after = holds-arc e (putArcs s e f k) (bits ++ flatMap (arcBits e) (map f (below k))) (fileBits e k) (f k) before n
+      (omega arith) in
       let join : bits ++ flatMap (arcBits e) (map f (below k)) ++ arcBits e (f k) ≡ bits ++ flatMap (arcBits e) (map f (below (suc k))) =
-      append-assoc bits (flatMap (arcBits e) (map f (below k))) (arcBits e (f k)) ∙ ap (λ (l : List ℕ). bits ++ l) (sym (flat-more e f k)) in
+      append-assoc bits (flatMap (arcBits e) (map f (below k))) (arcBits e (f k))
+      ∙ ap (λ (l : List ℕ). bits ++ l) (sym (flat-more e f k)) in
       subst (λ (l : List ℕ). Holds old len (putArcs s e f (suc k)) l) join after
 
 -- ---- the bytes that the bits make
@@ -240,8 +251,10 @@ put-plan-file e old n m f s room same small =
     let fit = bits-fit e m in
     let least = bits-least e m in
     let head = holds-header old len room zeros e n m (holds-clear old len room) (omega arith) in
-    let body = holds-arcs old len room e (putHeader zeros e n m) (bitsOf 4 e ++ bitsOf 7 n ++ bitsOf 9 m) f head (length-header e n m) m fit in
+    let body = holds-arcs old len room e (putHeader zeros e n m) (bitsOf 4 e ++ bitsOf 7 n ++ bitsOf 9 m) f head
+    (length-header e n m) m fit in
     let held : Holds old len s (bitsOf 4 e ++ bitsOf 7 n ++ bitsOf 9 m ++ flatMap (arcBits e) (map f (below m))) = rw same body in
     let held′ =
-    subst (λ (k : ℕ). Holds old (fileLength e k) s (bitsOf 4 e ++ bitsOf 7 n ++ bitsOf 9 k ++ flatMap (arcBits e) (map f (below m)))) (sym count) held in
+    subst (λ (k : ℕ). Holds old (fileLength e k) s (bitsOf 4 e ++ bitsOf 7 n ++ bitsOf 9 k ++ flatMap (arcBits e) (map f (below m))))
+    (sym count) held in
     subst (λ (k : ℕ). s ≡ fileOf e p ++ drop (fileLength e k) old) count (holds-file e old s p (rw count room) small held′)

@@ -65,7 +65,8 @@ module _ (e : ℕ) (p : Plan) (bytes s : List ℕ) (room : length bytes ≡ 1475
       let ok = writable-well-formed e g 1475 (costs-fit p small) w in
       let can = accepted-is-writable e g 1475 w in
       let same : IsReading (fileOf e g) r = rw (written-file e g bytes s k h f .1) at read in
-      let none-of : firstRefusal (fileConditions (fileOf e g)) ≡ none = file-is-accepted (fileOf e g) (is-file e g ok (can .edition-in) (can .arcs-in)) in
+      let none-of : firstRefusal (fileConditions (fileOf e g)) ≡ none =
+      file-is-accepted (fileOf e g) (is-file e g ok (can .edition-in) (can .arcs-in)) in
       record {
         verdict = same .verdict ∙ none-of ∙ sym w;
         edition-is = rw w (rw (none-of, edition-same e g (can .edition-in)) at (same .edition-is));

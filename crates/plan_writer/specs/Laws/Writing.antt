@@ -95,11 +95,13 @@ module _ (e : ℕ) (p : Graph) (bytes : List ℕ) where
   unfolding writeAnswer
   given-answer h = answer-given _ _ h
 
-  pub given-bytes : writeRefusal e p (length bytes) ≡ none → bytesAfter e p bytes ≡ fileOf e p ++ drop (fileLength e (length (p .arcs))) bytes
+  pub given-bytes : writeRefusal e p (length bytes) ≡ none
+      → bytesAfter e p bytes ≡ fileOf e p ++ drop (fileLength e (length (p .arcs))) bytes
   unfolding bytesAfter unless
   given-bytes h = rw h
 
-  pub length-given : (k : ℕ) → given k ≡ writeAnswer e p bytes → (writeRefusal e p (length bytes) ≡ none) × (k ≡ fileLength e (length (p .arcs)))
+  pub length-given : (k : ℕ) → given k ≡ writeAnswer e p bytes
+      → (writeRefusal e p (length bytes) ≡ none) × (k ≡ fileLength e (length (p .arcs)))
   unfolding writeAnswer
   length-given k h = was-given _ _ k h
 

@@ -1,5 +1,5 @@
--- A file longer than the longest plan is refused by its edition, by its extent or, since no plan within the limits is so long, by its margin. The fields
--- of the header alone decide which, and they lie in the first three bytes.
+-- A file longer than the longest plan is refused by its edition, by its extent or, since no plan within the limits is so long, by its
+-- margin. The fields of the header alone decide which, and they lie in the first three bytes.
 use mathlib.Core.Path.{_≡_, refl, sym, ap, _∙_}
 use mathlib.Core.Bool.{Bool, true, false, not, cond, _||_}
 use mathlib.Core.List.{List}
@@ -54,7 +54,8 @@ module _ (bytes : List ℕ) (long : 1476 ≤ length bytes) where
   unfolding longRefusal
   by-header e n m = at (not (isEdition e)) (isOutside n 1 64) (isOutside m 1 256) (λ h. margin e m (inside m 1 256 h .1))
     where
-      at : (x y z : Bool) {o : Option ℕ} → (z ≡ false → o ≡ some 4) → cond x (some 2) (cond (y || z) (some 3) o) ≡ some (cond x 2 (cond (y || z) 3 4))
+      at : (x y z : Bool) {o : Option ℕ} → (z ≡ false → o ≡ some 4)
+          → cond x (some 2) (cond (y || z) (some 3) o) ≡ some (cond x 2 (cond (y || z) 3 4))
       at true y z f = refl
       at false true z f = refl
       at false false true f = refl
@@ -67,7 +68,8 @@ module _ (bytes : List ℕ) (long : 1476 ≤ length bytes) where
       ∙ rw (le-ltb (length bytes) 3 (omega arith), extent-refusal bytes (edition bytes))
       (by-header (edition bytes) (fieldAt bytes 4 7) (fieldAt bytes 11 9)))
 
-  call-long : (budget places : ℕ) → callRefusal bytes budget places ≡ some (longRefusal (edition bytes) (fieldAt bytes 4 7) (fieldAt bytes 11 9))
+  call-long : (budget places : ℕ)
+      → callRefusal bytes budget places ≡ some (longRefusal (edition bytes) (fieldAt bytes 4 7) (fieldAt bytes 11 9))
   call-long budget places = file-refused bytes budget places _ file-long
 
   -- A file longer than the longest plan is refused.
@@ -75,7 +77,8 @@ module _ (bytes : List ℕ) (long : 1476 ≤ length bytes) where
   long-refused budget places = (_, call-long budget places)
 
 -- A file longer than the longest plan is refused for what its first 1,476 bytes hold, whatever follows them.
-pub long-file : (bytes : List ℕ) (budget places k : ℕ) → 1476 ≤ k → k ≤ length bytes → callRefusal (take k bytes) budget places ≡ callRefusal bytes budget places
+pub long-file : (bytes : List ℕ) (budget places k : ℕ) → 1476 ≤ k → k ≤ length bytes
+    → callRefusal (take k bytes) budget places ≡ callRefusal bytes budget places
 long-file bytes budget places k h l =
     let e = length-take-le k bytes l in
     call-long (take k bytes) (omega arith) budget places

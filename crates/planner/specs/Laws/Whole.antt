@@ -9,7 +9,7 @@ use Rattle.postman.specs.Plan.{Plan, WellFormed}
 use Rattle.postman.specs.Refusal.{Conditions, firstRefusal}
 use Rattle.postman.specs.PlanFile.{fileConditions, planOf}
 use Rattle.postman.specs.PlanCall.{isCutOff, callConditions, partsConditions, lastConditions, earlierConditions, callRefusal}
-use Rattle.postman.specs.Theorem.{cut-off}
+use Rattle.postman.specs.Laws.Theorem.{cut-off}
 use Rattle.plan.specs.Records.{planValue}
 use Rattle.refusal.specs.declared.Refusal.{Refusal}
 use Rattle.plan_file.specs.declared.Reading.{Reading}
@@ -50,18 +50,23 @@ module _ (bytes : List ℕ) (budget places : ℕ) where
   file-good w e = file-on e ∙ later-refusal w
 
 -- the plan of a file that is not refused
-pub read-planned : (bytes : List ℕ) (budget : ℕ) (old new : List ℕ) (x : Planned) (r : Reading) → IsReading bytes r → firstRefusal (fileConditions bytes) ≡ none
-    → IsPlanned (planValue (r .plan)) budget (firstRefusal (callConditions budget (length old) ++ lastConditions (planValue (r .plan)))) old new x
+pub read-planned : (bytes : List ℕ) (budget : ℕ) (old new : List ℕ) (x : Planned) (r : Reading) → IsReading bytes r
+    → firstRefusal (fileConditions bytes) ≡ none
+    → IsPlanned (planValue (r .plan)) budget
+    (firstRefusal (callConditions budget (length old) ++ lastConditions (planValue (r .plan)))) old new x
     → IsPlanned (planOf bytes) budget (callRefusal bytes budget (length old)) old new x
 read-planned bytes budget old new x r h e i =
     let v = accepted-value bytes r h e in
     planned-as _ _ _ _ _ _ _ _ v
-    (ap (λ (p : Plan). firstRefusal (callConditions budget (length old) ++ lastConditions p)) v ∙ sym (file-on bytes budget (length old) e)) i
+    (ap (λ (p : Plan). firstRefusal (callConditions budget (length old) ++ lastConditions p)) v
+    ∙ sym (file-on bytes budget (length old) e)) i
 
-pub is-call : (bytes : List ℕ) (budget : ℕ) (old new : List ℕ) (r : Planned) → IsPlanned (planOf bytes) budget (callRefusal bytes budget (length old)) old new r → IsPlanCall bytes budget old new r
+pub is-call : (bytes : List ℕ) (budget : ℕ) (old new : List ℕ) (r : Planned)
+    → IsPlanned (planOf bytes) budget (callRefusal bytes budget (length old)) old new r → IsPlanCall bytes budget old new r
 is-call bytes budget old new r i =
     let c = cut-off bytes budget (length old) in
     record { planned = i; cut-off = ((λ e. c .0 (sym (i .verdict) ∙ e)), (λ h. i .verdict ∙ c .1 h)) }
 
-pub call-as : (bytes : List ℕ) (b c : ℕ) (old new : List ℕ) (r : Planned) → b ≡ c → IsPlanCall bytes b old new r → IsPlanCall bytes c old new r
+pub call-as : (bytes : List ℕ) (b c : ℕ) (old new : List ℕ) (r : Planned) → b ≡ c → IsPlanCall bytes b old new r
+    → IsPlanCall bytes c old new r
 call-as bytes b c old new r e i = subst (λ (b : ℕ). IsPlanCall bytes b old new r) e i

@@ -1,5 +1,5 @@
--- What it says that a call is not refused. Conditions are accepted together exactly when each of them is (`Refusal`), so a list of conditions is taken apart, or put
--- together, condition by condition.
+-- What it says that a call is not refused. Conditions are accepted together exactly when each of them is (`Refusal`), so a list of
+-- conditions is taken apart, or put together, condition by condition.
 use mathlib.Core.Path.{_≡_, refl, ap}
 use mathlib.Core.Logic.{_≢_}
 use mathlib.Core.Bool.{Bool, true, false, not, cond, _||_}
@@ -78,13 +78,19 @@ module _ (e n : ℕ) (a : Arc) where
       let c = accepted-cons _ _ _ (s .1) in
       let t = accepted-cons _ _ _ (c .1) in
       let v = not-or (leb n (a .tail)) (leb n (a .head)) (s .0) in
-      record { tail = nleb→lt n (a .tail) (v .0); head = nleb→lt n (a .head) (v .1); priced = c .0; standing = nltb→le 2 (a .standing) (t .0) }
+      record {
+        tail = nleb→lt n (a .tail) (v .0);
+        head = nleb→lt n (a .head) (v .1);
+        priced = c .0;
+        standing = nltb→le 2 (a .standing) (t .0);
+      }
 
   -- in edition 1 the service cost is the implied one
   -- just the must arcs have checking costs
   pub required-priced : T (not (isMispriced e a)) → T (isRequiredArc a) → T (not (eqb (a .service) 0))
   unfolding isMispriced
-  required-priced t r = at (isRequiredArc a) (eqb (a .service) 0) (not-or (cond (isRequiredArc a) (eqb (a .service) 0) (not (eqb (a .service) 0))) _ t .0) r
+  required-priced t r =
+      at (isRequiredArc a) (eqb (a .service) 0) (not-or (cond (isRequiredArc a) (eqb (a .service) 0) (not (eqb (a .service) 0))) _ t .0) r
     where
       at : (b x : Bool) → T (not (cond b x (not x))) → T b → T (not x)
       at true x t r = t
@@ -93,7 +99,9 @@ module _ (e n : ℕ) (a : Arc) where
   pub others-unpriced : T (not (isMispriced e a)) → T (not (isRequiredArc a)) → a .service ≡ 0
   unfolding isMispriced
   others-unpriced t r =
-      eqb→eq (a .service) 0 (at (isRequiredArc a) (eqb (a .service) 0) (not-or (cond (isRequiredArc a) (eqb (a .service) 0) (not (eqb (a .service) 0))) _ t .0) r)
+      eqb→eq (a .service) 0
+      (at (isRequiredArc a) (eqb (a .service) 0)
+      (not-or (cond (isRequiredArc a) (eqb (a .service) 0) (not (eqb (a .service) 0))) _ t .0) r)
     where
       at : (b x : Bool) → T (not (cond b x (not x))) → T (not b) → T x
       at true x t r = absurd r
@@ -112,7 +120,8 @@ module _ (e : ℕ) (p : Plan) where
   arcs-accepted h a m = arc-accepted e (p .n) a (accepted-flatMap (arcConditions e (p .n)) m h)
 
   -- the arcs one by one, then all of them: "after all arcs passed 5 to 7"
-  pub plan-accepted : firstRefusal (planConditions e p) ≡ none → (firstRefusal (arcsConditions e p) ≡ none) × T (not (hasRepeated (p .arcs)))
+  pub plan-accepted : firstRefusal (planConditions e p) ≡ none
+      → (firstRefusal (arcsConditions e p) ≡ none) × T (not (hasRepeated (p .arcs)))
   unfolding planConditions
   plan-accepted h = let r = accepted-append (arcsConditions e p) _ h in (r .0, accepted-cons _ _ _ (r .1) .0)
 
@@ -181,7 +190,8 @@ module _ (bytes : List ℕ) where
       ≡ (ltb (length bytes) 3, 1)
       ∷ (not (isEdition e), 2)
       ∷ (extentConditions n m
-      ++ ((ltb (length bytes) (fileLength e m), 1) ∷ (ltb (fileLength e m) (length bytes) || not (eqb (fillBits bytes e m) 0), 4) ∷ planConditions e (planOf bytes)))
+      ++ ((ltb (length bytes) (fileLength e m), 1) ∷ (ltb (fileLength e m) (length bytes) || not (eqb (fillBits bytes e m) 0), 4)
+      ∷ planConditions e (planOf bytes)))
   unfolding fileConditions editionConditions bodyConditions
   conditions = refl
 
@@ -220,7 +230,8 @@ module _ (bytes : List ℕ) where
       (append-accepted _ _ (accepted-extent n m (f .some-vertex) (f .vertices) (f .some-arc) (f .arc-count))
       (cons-accepted _ _ _ (le→nltb (length bytes) (fileLength e m) (omega arith))
       (cons-accepted _ _ _
-      (neither (ltb (fileLength e m) (length bytes)) (not (eqb (fillBits bytes e m) 0)) (le→nltb (fileLength e m) (length bytes) (omega arith))
+      (neither (ltb (fileLength e m) (length bytes)) (not (eqb (fillBits bytes e m) 0))
+      (le→nltb (fileLength e m) (length bytes) (omega arith))
       (not-not-T (eqb (fillBits bytes e m) 0) (eqb-same (f .filled))))
       (f .arcs-in))))))
 
@@ -250,7 +261,8 @@ module _ (bytes : List ℕ) where
 
   is-file-well-formed : IsFile bytes → WellFormed (planOf bytes)
   is-file-well-formed f =
-      plan-well-formed e (planOf bytes) (rw (vertices-read, arcs-read) (accepted-extent n m (f .some-vertex) (f .vertices) (f .some-arc) (f .arc-count))) (f .arcs-in)
+      plan-well-formed e (planOf bytes)
+      (rw (vertices-read, arcs-read) (accepted-extent n m (f .some-vertex) (f .vertices) (f .some-arc) (f .arc-count))) (f .arcs-in)
       costs-read
 
   pub file-accepted : firstRefusal (fileConditions bytes) ≡ none → WellFormed (planOf bytes)
@@ -261,7 +273,8 @@ module _ (bytes : List ℕ) where
   file-distinct h = plan-distinct e (planOf bytes) (accepted-is-file h .arcs-in)
 
   -- and each of its arcs passed 5 to 7
-  pub file-arcs : firstRefusal (fileConditions bytes) ≡ none → (a : Arc) → List·Memᴰ a (planOf bytes .arcs) → IsFileArc e (planOf bytes .n) a
+  pub file-arcs : firstRefusal (fileConditions bytes) ≡ none → (a : Arc) → List·Memᴰ a (planOf bytes .arcs)
+      → IsFileArc e (planOf bytes .n) a
   file-arcs h = arcs-accepted e (planOf bytes) (plan-accepted e (planOf bytes) (accepted-is-file h .arcs-in) .0)
 
   -- ---- reading
@@ -276,7 +289,9 @@ module _ (bytes : List ℕ) where
       (accepted-is-file (both .0), nltb→le room m (accepted-cons _ _ _ (both .1) .0))
 
   pub file-is-read : (room : ℕ) → IsFile bytes → arcCount bytes ≤ room → readRefusal bytes room ≡ none
-  file-is-read room f h = rw read-conditions (append-accepted (fileConditions bytes) _ (file-is-accepted f) (cons-accepted _ _ _ (le→nltb room m h) nothing-refused))
+  file-is-read room f h =
+      rw read-conditions
+      (append-accepted (fileConditions bytes) _ (file-is-accepted f) (cons-accepted _ _ _ (le→nltb room m h) nothing-refused))
 
   pub read-accepted : (room : ℕ) → readRefusal bytes room ≡ none → WellFormed (planOf bytes) × (arcCount bytes ≤ room)
   read-accepted room h = let r = read-is-file room h in (is-file-well-formed (r .0), r .1)
@@ -297,7 +312,8 @@ module _ (e : ℕ) (p : Plan) (room : ℕ) where
   abbrev bytes-needed : ℕ
   bytes-needed = fileLength e (length (p .arcs))
 
-  write-conditions : writeRefusal e p room ≡ firstRefusal ((not (isEdition e), 2) ∷ (extent ++ planConditions e p ++ (ltb room bytes-needed, 8) ∷ []))
+  write-conditions : writeRefusal e p room
+      ≡ firstRefusal ((not (isEdition e), 2) ∷ (extent ++ planConditions e p ++ (ltb room bytes-needed, 8) ∷ []))
   unfolding writeRefusal editionConditions
   write-conditions = refl
 
@@ -316,14 +332,19 @@ module _ (e : ℕ) (p : Plan) (room : ℕ) where
   pub few-arcs : writeRefusal e p room ≡ none → length (p .arcs) ≤ 256
   few-arcs h = extent-accepted (p .n) (length (p .arcs)) (accepted-is-writable h .extent-in) .3
 
-  pub writable-well-formed : ((a : Arc) → List·Memᴰ a (p .arcs) → (a .cost ≤ 65535) × (a .service ≤ 65535)) → writeRefusal e p room ≡ none → WellFormed p
+  pub writable-well-formed : ((a : Arc) → List·Memᴰ a (p .arcs) → (a .cost ≤ 65535) × (a .service ≤ 65535)) → writeRefusal e p room ≡ none
+      → WellFormed p
   writable-well-formed costs h = let w = accepted-is-writable h in plan-well-formed e p (w .extent-in) (w .arcs-in) costs
 
-  pub write-accepted : ((a : Arc) → List·Memᴰ a (p .arcs) → IsRecord a) → writeRefusal e p room ≡ none → WellFormed p × (fileLength e (length (p .arcs)) ≤ room)
-  write-accepted records h =
-      (writable-well-formed (λ a m. (let c = records a m .cost in let s = records a m .service in (omega arith, omega arith))) h, accepted-is-writable h .enough)
+  pub write-accepted : ((a : Arc) → List·Memᴰ a (p .arcs) → IsRecord a) → writeRefusal e p room ≡ none
+      → WellFormed p × (fileLength e (length (p .arcs)) ≤ room)
+  write-accepted records h = (
+    writable-well-formed (λ a m. (let c = records a m .cost in let s = records a m .service in (omega arith, omega arith))) h,
+    accepted-is-writable h .enough,
+  )
 
-  pub accepted-write : T (isEdition e) → WellFormed p → firstRefusal (planConditions e p) ≡ none → fileLength e (length (p .arcs)) ≤ room → writeRefusal e p room ≡ none
+  pub accepted-write : T (isEdition e) → WellFormed p → firstRefusal (planConditions e p) ≡ none → fileLength e (length (p .arcs)) ≤ room
+      → writeRefusal e p room ≡ none
   accepted-write i w a h =
       let limits = accepted-extent (p .n) (length (p .arcs)) (w .some-vertex) (w .vertices) (w .some-arc) (w .arc-count) in
       rw write-conditions
@@ -349,7 +370,8 @@ call-limits b places h =
     let limits = outside-accepted b 1 highestBudget (accepted-cons _ _ _ (eight .1) .0) in
     (nltb→le places sheetPlaces (eight .0), limits .0, limits .1)
 
-pub before-accepted : (bytes : List ℕ) (b places : ℕ) (own : Conditions) (p : Plan) → firstRefusal (conditionsBefore bytes b places own p) ≡ none
+pub before-accepted : (bytes : List ℕ) (b places : ℕ) (own : Conditions) (p : Plan)
+    → firstRefusal (conditionsBefore bytes b places own p) ≡ none
     → BeforeAccepted bytes b places own p
 unfolding conditionsBefore partsConditions
 before-accepted bytes b places own p h =
@@ -385,7 +407,8 @@ pub record CallAccepted (bytes : List ℕ) (budget places : ℕ) : Type 0 where
   pub connected : T (not (isCutOff (planOf bytes)))
 
 module _ (bytes : List ℕ) (budget places : ℕ) where
-  pub call-conditions : callRefusal bytes budget places ≡ firstRefusal (earlierConditions bytes budget places ++ (isCutOff (planOf bytes), 12) ∷ [])
+  pub call-conditions : callRefusal bytes budget places
+      ≡ firstRefusal (earlierConditions bytes budget places ++ (isCutOff (planOf bytes), 12) ∷ [])
   unfolding callRefusal
   call-conditions = refl
 

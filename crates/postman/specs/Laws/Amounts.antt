@@ -1,5 +1,5 @@
--- Amounts and legs are two ways to say the same: amounts f(i,j) are f(i,j) legs from i to j each, and legs are counted into amounts. So the least assignment
--- is the least cost of all amounts that balance.
+-- Amounts and legs are two ways to say the same: amounts f(i,j) are f(i,j) legs from i to j each, and legs are counted into amounts. So the
+-- least assignment is the least cost of all amounts that balance.
 use mathlib.Core.Path.{_≡_, refl, sym, ap, ap₂, _∙_, subst}
 use mathlib.Core.List.{List, [], _∷_, _++_, List·Memᴰ, List·Memᴰ·head, List·Memᴰ·tail}
 use Prim.Native.Nat.{ℕ, zero, suc, _+_, _*_, _≤_, _<_}
@@ -71,19 +71,25 @@ module _ (d : ℕ → ℕ → ℕ) (triangle : (i k j : ℕ) → d i j ≤ d i k
   assignment-le vs ss ts f l ws wt b =
       subst (λ x. assignment d ss ts ≤ x) (weight-legs d f vs vs) (legs-le d triangle self (legsOf vs vs f) ss ts l at)
     where
-      at : (i : ℕ) → weight (λ a b. delta i b) (legsOf vs vs f) + occurrences i ss ≡ weight (λ a b. delta i a) (legsOf vs vs f) + occurrences i ts
+      at : (i : ℕ)
+          → weight (λ a b. delta i b) (legsOf vs vs f) + occurrences i ss ≡ weight (λ a b. delta i a) (legsOf vs vs f) + occurrences i ts
       at i = elim (decLe 1 (occurrences i vs)) [
         | yes g ↦
             let o = ws .once i in
             let c : occurrences i vs ≡ 1 = omega arith in
-            let e₁ = weight-legs (λ a b. delta i b) f vs vs ∙ in-sum f vs i ∙ ap (λ z. sumOver vs (λ j. f j i) * z) c ∙ mul-one (sumOver vs (λ j. f j i)) in
-            let e₂ = weight-legs (λ a b. delta i a) f vs vs ∙ out-sum f vs i ∙ ap (λ z. sumOver vs (λ j. f i j) * z) c ∙ mul-one (sumOver vs (λ j. f i j)) in
-            let h = minus-eq (sumOver vs (λ j. f i j)) (sumOver vs (λ j. f j i)) (occurrences i ss) (occurrences i ts) (b i (mem-of-occurrences i vs g)) in
+            let e₁ = weight-legs (λ a b. delta i b) f vs vs ∙ in-sum f vs i ∙ ap (λ z. sumOver vs (λ j. f j i) * z) c
+            ∙ mul-one (sumOver vs (λ j. f j i)) in
+            let e₂ = weight-legs (λ a b. delta i a) f vs vs ∙ out-sum f vs i ∙ ap (λ z. sumOver vs (λ j. f i j) * z) c
+            ∙ mul-one (sumOver vs (λ j. f i j)) in
+            let h = minus-eq (sumOver vs (λ j. f i j)) (sumOver vs (λ j. f j i)) (occurrences i ss) (occurrences i ts)
+            (b i (mem-of-occurrences i vs g)) in
             omega arith
         | no g ↦
             let c : occurrences i vs ≡ 0 = omega arith in
-            let e₁ = weight-legs (λ a b. delta i b) f vs vs ∙ in-sum f vs i ∙ ap (λ z. sumOver vs (λ j. f j i) * z) c ∙ mul-zero (sumOver vs (λ j. f j i)) in
-            let e₂ = weight-legs (λ a b. delta i a) f vs vs ∙ out-sum f vs i ∙ ap (λ z. sumOver vs (λ j. f i j) * z) c ∙ mul-zero (sumOver vs (λ j. f i j)) in
+            let e₁ = weight-legs (λ a b. delta i b) f vs vs ∙ in-sum f vs i ∙ ap (λ z. sumOver vs (λ j. f j i) * z) c
+            ∙ mul-zero (sumOver vs (λ j. f j i)) in
+            let e₂ = weight-legs (λ a b. delta i a) f vs vs ∙ out-sum f vs i ∙ ap (λ z. sumOver vs (λ j. f i j) * z) c
+            ∙ mul-zero (sumOver vs (λ j. f i j)) in
             let s = within-none ws i (omega arith) in
             let t = within-none wt i (omega arith) in
             omega arith
@@ -101,7 +107,8 @@ module _ (vs : List ℕ) where
   Inside ls = (l : ℕ × ℕ) → List·Memᴰ l ls → (occurrences (l .0) vs ≡ 1) × (occurrences (l .1) vs ≡ 1)
 
   -- one leg, seen through a weight
-  one : (a b : ℕ) (w : ℕ → ℕ → ℕ) → occurrences a vs ≡ 1 → occurrences b vs ≡ 1 → sumOver vs (λ i. sumOver vs (λ j. delta i a * delta j b * w i j)) ≡ w a b
+  one : (a b : ℕ) (w : ℕ → ℕ → ℕ) → occurrences a vs ≡ 1 → occurrences b vs ≡ 1
+      → sumOver vs (λ i. sumOver vs (λ j. delta i a * delta j b * w i j)) ≡ w a b
   one a b w ca cb =
       sum-cong vs _ (λ i. w i b * delta a i) (λ i.
       sum-cong vs (λ j. delta i a * delta j b * w i j) (λ j. delta i a * w i j * delta b j) (λ j.
@@ -118,7 +125,8 @@ module _ (vs : List ℕ) where
   amounts-weight (l ∷ ls) h w =
       let m = h l (List·Memᴰ·head refl) in
       sum-cong vs _ (λ i. sumOver vs (λ j. delta i (l .0) * delta j (l .1) * w i j) + sumOver vs (λ j. amounts ls i j * w i j)) (λ i.
-      sum-cong vs _ (λ j. delta i (l .0) * delta j (l .1) * w i j + amounts ls i j * w i j) (λ j. add-mul (delta i (l .0) * delta j (l .1)) (amounts ls i j) (w i j))
+      sum-cong vs _ (λ j. delta i (l .0) * delta j (l .1) * w i j + amounts ls i j * w i j)
+      (λ j. add-mul (delta i (l .0) * delta j (l .1)) (amounts ls i j) (w i j))
       ∙ sum-add vs (λ j. delta i (l .0) * delta j (l .1) * w i j) (λ j. amounts ls i j * w i j))
       ∙ sum-add vs (λ i. sumOver vs (λ j. delta i (l .0) * delta j (l .1) * w i j)) (λ i. sumOver vs (λ j. amounts ls i j * w i j))
       ∙ ap₂ _+_ (one (l .0) (l .1) w (m .0) (m .1)) (amounts-weight ls (λ k n. h k (List·Memᴰ·tail n)) w)
@@ -144,8 +152,10 @@ module _ (d : ℕ → ℕ → ℕ) where
       let inside : Inside vs (p .legs) = λ l m. (
       let e = ends-of (p .legs) l m in
       let x = p .from (l .0) in
-      let y = p .to (l .1) in
-      (within-once ws (l .0) (mem-of-occurrences (l .0) ss (omega arith)), within-once wt (l .1) (mem-of-occurrences (l .1) ts (omega arith)))) in
+      let y = p .to (l .1) in (
+        within-once ws (l .0) (mem-of-occurrences (l .0) ss (omega arith)),
+        within-once wt (l .1) (mem-of-occurrences (l .1) ts (omega arith)),
+      )) in
       let out : (i : ℕ) → List·Memᴰ i vs → sumOver vs (λ j. f i j) ≡ occurrences i ss = λ i m.
       sym (out-sum f vs i ∙ ap (λ z. sumOver vs (λ j. f i j) * z) (single i m) ∙ mul-one (sumOver vs (λ j. f i j)))
       ∙ amounts-weight vs (p .legs) inside (λ a b. delta i a) ∙ p .from i in

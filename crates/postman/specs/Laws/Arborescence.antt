@@ -1,5 +1,5 @@
--- The list of arborescences holds just the lists that are arborescences by document 01's words: one candidate of each component, by what `choices` and `select`
--- hold; and going back arrives in k steps if it arrives at all.
+-- The list of arborescences holds just the lists that are arborescences by document 01's words: one candidate of each component, by what
+-- `choices` and `select` hold; and going back arrives in k steps if it arrives at all.
 use mathlib.Core.Path.{refl, subst, subst⁻¹}
 use mathlib.Core.Bool.{not, _&&_}
 use mathlib.Core.List.{List, map, List·Memᴰ}
@@ -57,7 +57,8 @@ module _ (p : Plan) {t : List Link} where
   pub joins : IsArborescence p t → Joins p t
   joins h l m =
       let x = mem-getD noLink m in
-      subst (λ (z : Link). List·Memᴰ (z .tail) (required p) × List·Memᴰ (z .head) (required p)) (x .2) (link-ends p (h .enters (x .0) (x .1) .is-link))
+      subst (λ (z : Link). List·Memᴰ (z .tail) (required p) × List·Memᴰ (z .head) (required p)) (x .2)
+      (link-ends p (h .enters (x .0) (x .1) .is-link))
 
   module _ (ok : InPlan p) where
     parent-lt : IsArborescence p t → (q : ℕ) → q < componentCount p → parent p t q < componentCount p

@@ -46,12 +46,14 @@ ascends-lt b (x ∷ xs) (suc q) (suc r) h k l = ascends-lt (suc x) xs q r (h .1)
 pub index-lt : (f : ℕ → Bool) {x : ℕ} {xs : List ℕ} → List·Memᴰ x xs → T (f x) → firstIndex f xs < length xs
 unfolding firstIndex
 index-lt f (List·Memᴰ·head {x = y} {xs = ys} e) t =
-    cond-ind (f y) 0 (suc (firstIndex f ys)) (λ z. z < suc (length ys)) (λ u. omega arith) (λ u. absurd (T-not (f y) u (subst (λ z. T (f z)) e t)))
+    cond-ind (f y) 0 (suc (firstIndex f ys)) (λ z. z < suc (length ys)) (λ u. omega arith)
+    (λ u. absurd (T-not (f y) u (subst (λ z. T (f z)) e t)))
 index-lt f (List·Memᴰ·tail {x = y} {xs = ys} m) t =
     let r = index-lt f m t in
     cond-ind (f y) 0 (suc (firstIndex f ys)) (λ z. z < suc (length ys)) (λ u. omega arith) (λ u. omega arith)
 
-pub index-at : (f : ℕ → Bool) (xs : List ℕ) (q : ℕ) → q < length xs → T (f (getD xs q 0)) → ((r : ℕ) → r < q → T (not (f (getD xs r 0)))) → firstIndex f xs ≡ q
+pub index-at : (f : ℕ → Bool) (xs : List ℕ) (q : ℕ) → q < length xs → T (f (getD xs q 0)) → ((r : ℕ) → r < q → T (not (f (getD xs r 0))))
+    → firstIndex f xs ≡ q
 unfolding firstIndex
 index-at f [] q l t h = absurd (omega arith)
 index-at f (x ∷ xs) zero l t h = cond-ind (f x) 0 (suc (firstIndex f xs)) (λ z. z ≡ 0) (λ u. refl) (λ u. absurd (T-not (f x) u t))
@@ -62,7 +64,8 @@ index-at f (x ∷ xs) (suc q) l t h =
 pub index-cong : (f g : ℕ → Bool) (xs : List ℕ) → ((x : ℕ) → List·Memᴰ x xs → f x ≡ g x) → firstIndex f xs ≡ firstIndex g xs
 unfolding firstIndex
 index-cong f g [] h = refl
-index-cong f g (x ∷ xs) h = ap₂ (λ (b : Bool) (n : ℕ). cond b 0 (suc n)) (h x (List·Memᴰ·head refl)) (index-cong f g xs (λ y m. h y (List·Memᴰ·tail m)))
+index-cong f g (x ∷ xs) h =
+    ap₂ (λ (b : Bool) (n : ℕ). cond b 0 (suc n)) (h x (List·Memᴰ·head refl)) (index-cong f g xs (λ y m. h y (List·Memᴰ·tail m)))
 
 -- the element in that place passes
 pub index-test : (f : ℕ → Bool) (xs : List ℕ) → firstIndex f xs < length xs → T (f (getD xs (firstIndex f xs) 0))

@@ -1,5 +1,5 @@
--- The least assignment of heads to tails is at most the cost of any legs that turn the one list into the other. One leg more is one step: a unit moved on
--- its way costs no less, by the triangle inequality; and equal lists cost nothing.
+-- The least assignment of heads to tails is at most the cost of any legs that turn the one list into the other. One leg more is one step: a
+-- unit moved on its way costs no less, by the triangle inequality; and equal lists cost nothing.
 use mathlib.Core.Path.{_≡_, refl, ap, _∙_, subst⁻¹}
 use mathlib.Core.Logic.{inl, inr}
 use mathlib.Core.List.{List, [], _∷_, map}
@@ -21,7 +21,8 @@ module _ (d : ℕ → ℕ → ℕ) where
   assign-le s ss p = minimum-le (mem-map (λ r. d s (r .0) + assignment d ss (r .1)) (picks-of p))
 
   -- the assignment's first choice
-  pub assign-at : (s : ℕ) (ss ts : List ℕ) → 0 < length ts → (t : ℕ) × (rs : List ℕ) × Pick t ts rs × (assignment d (s ∷ ss) ts ≡ d s t + assignment d ss rs)
+  pub assign-at : (s : ℕ) (ss ts : List ℕ) → 0 < length ts
+      → (t : ℕ) × (rs : List ℕ) × Pick t ts rs × (assignment d (s ∷ ss) ts ≡ d s t + assignment d ss rs)
   unfolding assignment
   assign-at s ss ts h =
       let f : ℕ × List ℕ → ℕ = λ r. d s (r .0) + assignment d ss (r .1) in
@@ -116,7 +117,8 @@ module _ (d : ℕ → ℕ → ℕ) (triangle : (i k j : ℕ) → d i j ≤ d i k
 
   -- whatever legs turn the one list into the other, they cost at least the assignment
   pub legs-le : (ls : Legs) (ss ts : List ℕ) → length ss ≡ length ts
-      → ((i : ℕ) → weight (λ a b. delta i b) ls + occurrences i ss ≡ weight (λ a b. delta i a) ls + occurrences i ts) → assignment d ss ts ≤ weight d ls
+      → ((i : ℕ) → weight (λ a b. delta i b) ls + occurrences i ss ≡ weight (λ a b. delta i a) ls + occurrences i ts)
+      → assignment d ss ts ≤ weight d ls
   unfolding weight occurrences
   legs-le [] ss ts l c = balanced ss ts (λ i. let h = c i in omega arith)
   legs-le (x ∷ ls) ss ts l c =

@@ -41,13 +41,18 @@ module _ (p : Plan) (ok : InPlan p) (t : List Link) (joins : Joins p t) where
   unfolding heads tails
   same-length =
       length-append (map (λ a. a .head) (requiredArcs p)) (map (λ l. l .head) t)
-      ∙ ap₂ _+_ (length-map (requiredArcs p) (λ a. a .head) ∙ sym (length-map (requiredArcs p) (λ a. a .tail))) (length-map t (λ l. l .head) ∙ sym (length-map t (λ l. l .tail)))
+      ∙ ap₂ _+_ (length-map (requiredArcs p) (λ a. a .head) ∙ sym (length-map (requiredArcs p) (λ a. a .tail)))
+      (length-map t (λ l. l .head) ∙ sym (length-map t (λ l. l .tail)))
       ∙ sym (length-append (map (λ a. a .tail) (requiredArcs p)) (map (λ l. l .tail) t))
 
-  pub least-balancing-le : (f : ℕ → ℕ → ℕ) → IsBalancing (required p) (imbalance p t) f → leastBalancing p t ≤ balancingCost (required p) (distance p) f
+  pub least-balancing-le : (f : ℕ → ℕ → ℕ) → IsBalancing (required p) (imbalance p t) f
+      → leastBalancing p t ≤ balancingCost (required p) (distance p) f
   unfolding leastBalancing imbalance difference
-  least-balancing-le f b = assignment-le (distance p) (triangle p ok) (distance-self p ok) (required p) (heads p t) (tails p t) f same-length within-heads within-tails b
+  least-balancing-le f b =
+      assignment-le (distance p) (triangle p ok) (distance-self p ok) (required p) (heads p t)
+      (tails p t) f same-length within-heads within-tails b
 
-  pub least-balancing-at : (f : ℕ → ℕ → ℕ) × IsBalancing (required p) (imbalance p t) f × (balancingCost (required p) (distance p) f ≡ leastBalancing p t)
+  pub least-balancing-at : (f : ℕ → ℕ → ℕ) × IsBalancing (required p) (imbalance p t) f
+      × (balancingCost (required p) (distance p) f ≡ leastBalancing p t)
   unfolding leastBalancing imbalance difference
   least-balancing-at = assignment-at (distance p) (required p) (heads p t) (tails p t) same-length within-heads within-tails

@@ -1,4 +1,5 @@
--- Bits and the numbers that they make. By induction on the width: a number of w + 1 bits is twice that of its first w bits, and the last bit.
+-- Bits and the numbers that they make. By induction on the width: a number of w + 1 bits is twice
+-- that of its first w bits, and the last bit.
 use mathlib.Core.Path.{_≡_, refl, sym, ap, ap₂, _∙_}
 use mathlib.Core.List.{List, [], _∷_, _++_, map}
 use Prim.Native.Nat.{ℕ, zero, suc, _+_, _*_, _-_, _/_, _%_, _^_, _<_, _≤_}
@@ -47,7 +48,8 @@ half-bits x w j l =
     rw (← e) (shr-shr x 1 (w - 1 - j))
 
 -- the bits of the number that bits make
-pub bits-of-number : (b : ℕ → ℕ) (i w : ℕ) → ((j : ℕ) → j < w → b (i + j) < 2) → (j : ℕ) → j < w → number b i w / 2 ^ (w - 1 - j) % 2 ≡ b (i + j)
+pub bits-of-number : (b : ℕ → ℕ) (i w : ℕ) → ((j : ℕ) → j < w → b (i + j) < 2) → (j : ℕ) → j < w
+    → number b i w / 2 ^ (w - 1 - j) % 2 ≡ b (i + j)
 unfolding number
 bits-of-number b i zero h j l = absurd (omega arith)
 bits-of-number b i (suc w) h j l =
@@ -68,7 +70,8 @@ number-of-bits b i (suc w) x l h =
     let p = pow-suc 2 w in
     let e : suc w - 1 - w ≡ 0 = omega arith in
     let last : b (i + w) ≡ x / 2 ^ 0 % 2 = rw e at (h w (omega arith)) in
-    let half = number-of-bits b i w (x / 2) (omega arith) (λ j g. (let f : suc w - 1 - j ≡ w - j = omega arith in rw (half-bits x w j g, ← f) (h j (omega arith)))) in
+    let half = number-of-bits b i w (x / 2) (omega arith)
+    (λ j g. (let f : suc w - 1 - j ≡ w - j = omega arith in rw (half-bits x w j g, ← f) (h j (omega arith)))) in
     omega arith
 
 -- ---- bits of bytes
@@ -117,7 +120,8 @@ packed-bit b n small i l =
     let e : 8 * k + j ≡ i = omega arith in
     let g : j < 8 = omega arith in
     let byte = getD-map-below (λ q. number b (8 * q) 8) n k 0 (omega arith) in
-    ap (bitAt bytes) (sym e) ∙ bit-of-byte bytes k j g ∙ ap (λ x. x / 2 ^ (7 - j) % 2) byte ∙ bits-of-number b (8 * k) 8 (λ h f. small (8 * k + h)) j g ∙ ap b e
+    ap (bitAt bytes) (sym e) ∙ bit-of-byte bytes k j g ∙ ap (λ x. x / 2 ^ (7 - j) % 2) byte
+    ∙ bits-of-number b (8 * k) 8 (λ h f. small (8 * k + h)) j g ∙ ap b e
 
 -- ---- the bits of a number, as a list
 
@@ -157,7 +161,8 @@ getD-run b i w j l = getD-map-upFrom b i w j 0 l
 
 -- the bits of the number that a run makes are the run
 pub bitsOf-number : (b : ℕ → ℕ) (i w : ℕ) → ((k : ℕ) → b k < 2) → bitsOf w (number b i w) ≡ run b i w
-bitsOf-number b i w small = ext-getD 0 (bitsOf w x) (run b i w) (length-bitsOf w x ∙ sym (length-run b i w)) (λ j l. at j (rw length-bitsOf at l))
+bitsOf-number b i w small =
+    ext-getD 0 (bitsOf w x) (run b i w) (length-bitsOf w x ∙ sym (length-run b i w)) (λ j l. at j (rw length-bitsOf at l))
   where
     x : ℕ
     x = number b i w
@@ -198,7 +203,8 @@ pub read-last : (before : List ℕ) {i : ℕ} (w x : ℕ) → length before ≡ 
 read-last before w x e l =
     number-of-bits (bitIn (before ++ bitsOf w x)) _ w x l (λ j g. rw (← e) (getD-append-add before (bitsOf w x) j 0 ∙ getD-bitsOf w x j g))
 
-pub read-back : (before after : List ℕ) {i : ℕ} (w x : ℕ) → length before ≡ i → x < 2 ^ w → number (bitIn (before ++ bitsOf w x ++ after)) i w ≡ x
+pub read-back : (before after : List ℕ) {i : ℕ} (w x : ℕ) → length before ≡ i → x < 2 ^ w
+    → number (bitIn (before ++ bitsOf w x ++ after)) i w ≡ x
 read-back before after {i} w x e l =
     let f = length-append before (bitsOf w x) in
     let g = length-bitsOf w x in
@@ -216,7 +222,8 @@ module _ (u v w x y z : ℕ) (after : List ℕ) where
   pub three-lt : ((k : ℕ) → bitIn after k < 2) → (k : ℕ) → bitIn (three u v w x y z ++ after) k < 2
   three-lt =
       append-lt (three u v w x y z) after
-      (append-lt (bitsOf u x ++ bitsOf v y) (bitsOf w z) (append-lt (bitsOf u x) (bitsOf v y) (bitsOf-lt u x) (bitsOf-lt v y)) (bitsOf-lt w z))
+      (append-lt (bitsOf u x ++ bitsOf v y) (bitsOf w z) (append-lt (bitsOf u x) (bitsOf v y) (bitsOf-lt u x) (bitsOf-lt v y))
+      (bitsOf-lt w z))
 
   pub read-first : x < 2 ^ u → number (bitIn (three u v w x y z ++ after)) 0 u ≡ x
   read-first h =
@@ -226,7 +233,8 @@ module _ (u v w x y z : ℕ) (after : List ℕ) where
 
   pub read-second : y < 2 ^ v → number (bitIn (three u v w x y z ++ after)) u v ≡ y
   read-second h =
-      read-left (three u v w x y z) after u v (rw length-three (omega arith)) ∙ read-back (bitsOf u x) (bitsOf w z) v y (length-bitsOf u x) h
+      read-left (three u v w x y z) after u v (rw length-three (omega arith))
+      ∙ read-back (bitsOf u x) (bitsOf w z) v y (length-bitsOf u x) h
 
   pub read-third : z < 2 ^ w → number (bitIn (three u v w x y z ++ after)) (u + v) w ≡ z
   read-third h = read-back (bitsOf u x ++ bitsOf v y) after w z (simp (length-append, length-bitsOf)) h

@@ -1,5 +1,5 @@
--- Being joined by required arcs, direction ignored, is an equivalence, since the graph holds each arc both ways. Each class has a lowest vertex, and a vertex's
--- component is the place of the lowest vertex that it is joined to.
+-- Being joined by required arcs, direction ignored, is an equivalence, since the graph holds each arc both ways. Each class has a lowest
+-- vertex, and a vertex's component is the place of the lowest vertex that it is joined to.
 use mathlib.Core.Path.{_≡_, refl, sym, ap, subst, subst⁻¹}
 use mathlib.Core.Bool.{Bool, not, _&&_}
 use mathlib.Core.Logic.{_⊎_, inl, inr}
@@ -40,9 +40,13 @@ both-of (a ∷ arcs) m = elim (List·Memᴰ·cases-cons m) [
   ]
 ]
 
-of-both : {a : Arc} {arcs : List Arc} → List·Memᴰ a arcs → List·Memᴰ (flat (a .tail) (a .head)) (bothWays arcs) × List·Memᴰ (flat (a .head) (a .tail)) (bothWays arcs)
+of-both : {a : Arc} {arcs : List Arc} → List·Memᴰ a arcs
+    → List·Memᴰ (flat (a .tail) (a .head)) (bothWays arcs) × List·Memᴰ (flat (a .head) (a .tail)) (bothWays arcs)
 unfolding bothWays
-of-both (List·Memᴰ·head e) = (List·Memᴰ·head (ap (λ (a : Arc). flat (a .tail) (a .head)) e), List·Memᴰ·tail (List·Memᴰ·head (ap (λ (a : Arc). flat (a .head) (a .tail)) e)))
+of-both (List·Memᴰ·head e) = (
+  List·Memᴰ·head (ap (λ (a : Arc). flat (a .tail) (a .head)) e),
+  List·Memᴰ·tail (List·Memᴰ·head (ap (λ (a : Arc). flat (a .head) (a .tail)) e)),
+)
 of-both (List·Memᴰ·tail m) = let r = of-both m in (List·Memᴰ·tail (List·Memᴰ·tail (r .0)), List·Memᴰ·tail (List·Memᴰ·tail (r .1)))
 
 -- the same arc the other way round
@@ -73,13 +77,15 @@ module _ (p : Plan) (ok : InPlan p) where
 
   no-cost : (i j : ℕ) (w : List ℕ) → IsWalk undirected i w j → walkCost undirected w ≡ 0
   no-cost i j [] h = refl
-  no-cost i j (k ∷ w) h = let c = free {x = arcAt undirected k} (requiredArcs p) (getD-mem undirected _ k (h .0)) in let r = no-cost (arcAt undirected k .head) j w (h .3) in omega arith
+  no-cost i j (k ∷ w) h = let c = free {x = arcAt undirected k} (requiredArcs p) (getD-mem undirected _ k (h .0)) in
+      let r = no-cost (arcAt undirected k .head) j w (h .3) in omega arith
 
   back : (i j : ℕ) (w : List ℕ) → IsWalk undirected i w j → Leads undirected j i
   back i j [] h = ([], sym h)
   back i j (k ∷ w) h =
       join undirected (back (arcAt undirected k .head) j w (h .3))
-      (subst (λ z. Leads undirected (arcAt undirected k .head) z) (h .2) (one-way undirected (turned {x = arcAt undirected k} (requiredArcs p) (getD-mem undirected _ k (h .0))) tt))
+      (subst (λ z. Leads undirected (arcAt undirected k .head) z) (h .2)
+      (one-way undirected (turned {x = arcAt undirected k} (requiredArcs p) (getD-mem undirected _ k (h .0))) tt))
 
   -- ---- joined: some walk of required arcs leads there, direction ignored
 
@@ -116,7 +122,9 @@ module _ (p : Plan) (ok : InPlan p) where
   lowest-le : {r v : ℕ} → List·Memᴰ r (lowest p) → List·Memᴰ v (required p) → T (joined p v r) → r ≤ v
   lowest-le {r} {v} m n t = elim (decLe r v) [
     | yes h ↦ h
-    | no h ↦ absurd (T-not (anyOf (lower r) (required p)) (lowest-of m .1) (anyOf-mem (lower r) n (and-both (ltb v r) (joined p v r) (lt→ltb v r (omega arith)) t)))
+    | no h ↦ absurd
+        (T-not (anyOf (lower r) (required p)) (lowest-of m .1)
+        (anyOf-mem (lower r) n (and-both (ltb v r) (joined p v r) (lt→ltb v r (omega arith)) t)))
   ]
 
   -- every required vertex is joined to the lowest one of its component
@@ -185,10 +193,12 @@ module _ (p : Plan) (ok : InPlan p) where
       let l = required-lt p (lowest-of n .0) in
       same-test (joined p r u) (joined p r v) (λ s. joined-trans r u v l s t) (λ s. joined-trans r v u l s (joined-sym u v lv t)))
 
-  pub walk-component : {u v : ℕ} → List·Memᴰ u (required p) → List·Memᴰ v (required p) → Leads undirected u v → component p u ≡ component p v
+  pub walk-component : {u v : ℕ} → List·Memᴰ u (required p) → List·Memᴰ v (required p) → Leads undirected u v
+      → component p u ≡ component p v
   walk-component {u} {v} mu mv w = joined-component (required-lt p mu) (required-lt p mv) (walk-joined u v (required-lt p mu) w)
 
-  pub component-walk : {u v : ℕ} → List·Memᴰ u (required p) → List·Memᴰ v (required p) → component p u ≡ component p v → Leads undirected u v
+  pub component-walk : {u v : ℕ} → List·Memᴰ u (required p) → List·Memᴰ v (required p) → component p u ≡ component p v
+      → Leads undirected u v
   unfolding componentCount
   component-walk {u} {v} mu mv e =
       let r = getD (lowest p) (component p u) 0 in

@@ -18,7 +18,8 @@ module _ {A : Type 0} (d : List A) (at : ℕ) (s : List A) (n : ℕ) where
   pub paste-start : n ≤ length s → at + n ≤ length d → IsPasted d 0
   paste-start l h = record { turns = omega arith; size = l; room = h; same = λ i. length d; content = paste-zero d at s }
 
-  pub paste-more : (z x : A) (k : ℕ) (lent : List A) (i : ℕ) → x ≡ getD s i z → k ≡ at + i → i < n → IsPasted lent i → IsPasted (set lent k x) (i + 1)
+  pub paste-more : (z x : A) (k : ℕ) (lent : List A) (i : ℕ) → x ≡ getD s i z → k ≡ at + i → i < n → IsPasted lent i
+      → IsPasted (set lent k x) (i + 1)
   paste-more z x k lent i e q l h =
       let r = h .room in
       let f = h .size in
@@ -27,7 +28,8 @@ module _ {A : Type 0} (d : List A) (at : ℕ) (s : List A) (n : ℕ) where
         size = f;
         room = r;
         same = length-set lent k x ∙ h .same;
-        content = ap (λ (y : List A). set y k x) (h .content) ∙ ap (λ (j : ℕ). set (paste d at s i) j x) q ∙ ap (set (paste d at s i) (at + i)) e
+        content = ap (λ (y : List A). set y k x) (h .content) ∙ ap (λ (j : ℕ). set (paste d at s i) j x) q
+            ∙ ap (set (paste d at s i) (at + i)) e
             ∙ paste-suc d at s i z (omega arith) (omega arith) ∙ ap (paste d at s) (sym (add-one i));
       }
 

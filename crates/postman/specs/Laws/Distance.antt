@@ -1,5 +1,5 @@
--- d is the least cost of all walks: a walk is cut at its vertices until it enters none twice, so that n − 1 arcs are enough, and the recursion tries every
--- first arc. The triangle inequality is two walks put together. Nothing here uses that costs are positive.
+-- d is the least cost of all walks: a walk is cut at its vertices until it enters none twice, so that n − 1 arcs are enough, and the
+-- recursion tries every first arc. The triangle inequality is two walks put together. Nothing here uses that costs are positive.
 use mathlib.Core.Path.{_≡_, refl, ap, subst, subst⁻¹}
 use mathlib.Core.Logic.{_⊎_, inl, inr}
 use mathlib.Core.Bool.{_&&_}
@@ -38,7 +38,9 @@ module _ (arcs : List Arc) where
   self : (k i j : ℕ) → i ≡ j → distanceWithin arcs k i j ≡ 0
   unfolding distanceWithin
   self zero i j e = cond-ind (eqb i j) 0 noPath (λ x. x ≡ 0) (λ t. refl) (λ t. absurd (T-not (eqb i j) t (eqb-same e)))
-  self (suc k) i j e = cond-ind (eqb i j) 0 (least noPath (via k j) (arcsFrom arcs i)) (λ x. x ≡ 0) (λ t. refl) (λ t. absurd (T-not (eqb i j) t (eqb-same e)))
+  self (suc k) i j e =
+      cond-ind (eqb i j) 0 (least noPath (via k j) (arcsFrom arcs i)) (λ x. x ≡ 0) (λ t. refl)
+      (λ t. absurd (T-not (eqb i j) t (eqb-same e)))
 
   -- a walk of at most k arcs costs at least distWithin k
   pub within-le : (k i j : ℕ) (w : List ℕ) → IsWalk arcs i w j → length w ≤ k → distanceWithin arcs k i j ≤ walkCost arcs w
@@ -48,23 +50,29 @@ module _ (arcs : List Arc) where
   within-le (suc k) i j (a ∷ w) h l =
       cond-ind (eqb i j) 0 (least noPath (via k j) (arcsFrom arcs i)) (λ x. x ≤ walkCost arcs (a ∷ w)) (λ t. zero-le)
       (λ t. let ih = within-le k (arcAt arcs a .head) j w (h .3) (omega arith) in
-      let m : least noPath (via k j) (arcsFrom arcs i) ≤ via k j (arcAt arcs a) = least-le noPath (via k j) (mem-arcsFrom {a = arcAt arcs a} i (getD-mem arcs _ a (h .0)) (h .1) (h .2)) in
+      let m : least noPath (via k j) (arcsFrom arcs i) ≤ via k j (arcAt arcs a) =
+      least-le noPath (via k j) (mem-arcsFrom {a = arcAt arcs a} i (getD-mem arcs _ a (h .0)) (h .1) (h .2)) in
       omega arith)
 
   -- and some walk of at most k arcs costs just that, unless there is no path
   abbrev Walks : ℕ → ℕ → ℕ → ℕ → Type 0
   Walks k i j c = (w : List ℕ) × IsWalk arcs i w j × (length w ≤ k) × (walkCost arcs w ≡ c)
 
-  cons-walk : (i j k c : ℕ) (a : Arc) → List·Memᴰ a arcs → T (isOpen a) → a .tail ≡ i → Walks k (a .head) j c → Walks (suc k) i j (a .cost + c)
+  cons-walk : (i j k c : ℕ) (a : Arc) → List·Memᴰ a arcs → T (isOpen a) → a .tail ≡ i → Walks k (a .head) j c
+      → Walks (suc k) i j (a .cost + c)
   cons-walk i j k c a m o t r =
       let x = mem-getD _ m in
-      let y : T (isOpen (arcAt arcs (x .0))) × (arcAt arcs (x .0) .tail ≡ i) × IsWalk arcs (arcAt arcs (x .0) .head) (r .0) j × (arcAt arcs (x .0) .cost ≡ a .cost)
-      = subst⁻¹ (λ (b : Arc). T (isOpen b) × (b .tail ≡ i) × IsWalk arcs (b .head) (r .0) j × (b .cost ≡ a .cost)) (x .2) (o, t, r .1, refl) in
+      let y : T (isOpen (arcAt arcs (x .0))) × (arcAt arcs (x .0) .tail ≡ i) × IsWalk arcs (arcAt arcs (x .0) .head) (r .0) j
+      × (arcAt arcs (x .0) .cost ≡ a .cost)
+      = subst⁻¹ (λ (b : Arc). T (isOpen b) × (b .tail ≡ i) × IsWalk arcs (b .head) (r .0) j × (b .cost ≡ a .cost)) (x .2)
+      (o, t, r .1, refl) in
       (x .0 ∷ r .0, (x .1, y .0, y .1, y .2), suc-le-suc (r .2), omega arith)
 
   pub within-walk : (k i j : ℕ) → distanceWithin arcs k i j < noPath → Walks k i j (distanceWithin arcs k i j)
   unfolding distanceWithin arcsFrom
-  within-walk zero i j = cond-ind (eqb i j) 0 noPath (λ x. x < noPath → Walks zero i j x) (λ t h. ([], eqb→eq i j t, zero-le, refl)) (λ t h. absurd (omega arith))
+  within-walk zero i j =
+      cond-ind (eqb i j) 0 noPath (λ x. x < noPath → Walks zero i j x) (λ t h. ([], eqb→eq i j t, zero-le, refl))
+      (λ t h. absurd (omega arith))
   within-walk (suc k) i j =
       cond-ind (eqb i j) 0 (least noPath (via k j) (arcsFrom arcs i)) (λ x. x < noPath → Walks (suc k) i j x)
       (λ t h. ([], eqb→eq i j t, zero-le, refl))
@@ -77,7 +85,9 @@ module _ (arcs : List Arc) where
   within-le-noPath : (k i j : ℕ) → distanceWithin arcs k i j ≤ noPath
   unfolding distanceWithin
   within-le-noPath zero i j = cond-ind (eqb i j) 0 noPath (λ x. x ≤ noPath) (λ t. zero-le) (λ t. le-refl noPath)
-  within-le-noPath (suc k) i j = cond-ind (eqb i j) 0 (least noPath (via k j) (arcsFrom arcs i)) (λ x. x ≤ noPath) (λ t. zero-le) (λ t. least-le-base noPath (via k j) (arcsFrom arcs i))
+  within-le-noPath (suc k) i j =
+      cond-ind (eqb i j) 0 (least noPath (via k j) (arcsFrom arcs i)) (λ x. x ≤ noPath) (λ t. zero-le)
+      (λ t. least-le-base noPath (via k j) (arcsFrom arcs i))
 
   pub walk-append : (i j k : ℕ) (v w : List ℕ) → IsWalk arcs i v j → IsWalk arcs j w k → IsWalk arcs i (v ++ w) k
   walk-append i j k [] w e h = subst⁻¹ (λ z. IsWalk arcs z w k) e h
@@ -98,7 +108,8 @@ module _ (arcs : List Arc) where
   Cheap vs i j c = (w : List ℕ) × IsWalk arcs i w j × HeadsIn vs w × (walkCost arcs w ≤ c)
 
   -- a walk that enters vertices of vs: it does not enter i, or else it is cut to what follows its last visit of i
-  last-visit : {vs us : List ℕ} {i : ℕ} → Pick i vs us → (v j : ℕ) (w : List ℕ) → IsWalk arcs v w j → HeadsIn vs w → HeadsIn us w ⊎ Cheap us i j (walkCost arcs w)
+  last-visit : {vs us : List ℕ} {i : ℕ} → Pick i vs us → (v j : ℕ) (w : List ℕ) → IsWalk arcs v w j → HeadsIn vs w
+      → HeadsIn us w ⊎ Cheap us i j (walkCost arcs w)
   last-visit p v j [] h m = inl tt
   last-visit {us = us} {i = i} p v j (k ∷ w) h m =
       elim (last-visit p (arcAt arcs k .head) j w (h .3) (m .1)) [
@@ -112,10 +123,12 @@ module _ (arcs : List Arc) where
   abbrev Short : ℕ → ℕ → ℕ → ℕ → Type 0
   Short n i j c = (w : List ℕ) × IsWalk arcs i w j × (length w ≤ n) × (walkCost arcs w ≤ c)
 
-  after-last : {vs us : List ℕ} {i : ℕ} → Pick i vs us → (j : ℕ) (w : List ℕ) → IsWalk arcs i w j → HeadsIn vs w → Cheap us i j (walkCost arcs w)
+  after-last : {vs us : List ℕ} {i : ℕ} → Pick i vs us → (j : ℕ) (w : List ℕ) → IsWalk arcs i w j → HeadsIn vs w
+      → Cheap us i j (walkCost arcs w)
   after-last {i = i} p j w h m = elim (last-visit p i j w h m) [ inl n ↦ (w, h, n, le-refl _) | inr r ↦ r ]
 
-  shorten : (n : ℕ) (us : List ℕ) → length us ≤ n → (i j : ℕ) (w : List ℕ) → IsWalk arcs i w j → HeadsIn us w → Short n i j (walkCost arcs w)
+  shorten : (n : ℕ) (us : List ℕ) → length us ≤ n → (i j : ℕ) (w : List ℕ) → IsWalk arcs i w j → HeadsIn us w
+      → Short n i j (walkCost arcs w)
   shorten zero us l i j [] h m = ([], h, zero-le, le-refl 0)
   shorten (suc n) us l i j [] h m = ([], h, zero-le, le-refl 0)
   shorten zero us l i j (k ∷ w) h m = let p = pick-length (pick-of-mem (m .0) .1) in absurd (omega arith)
@@ -192,7 +205,8 @@ module _ (p : Plan) (ok : InPlan p) where
   ]
 
   -- where there is a walk, and arcs cost at most c, d is at most c for each of n - 1 arcs
-  pub distance-bound : (c : ℕ) → ((a : Arc) → List·Memᴰ a (p .arcs) → a .cost ≤ c) → (i j : ℕ) (w : List ℕ) → i < p .n → IsWalk (p .arcs) i w j → distance p i j ≤ (p .n - 1) * c
+  pub distance-bound : (c : ℕ) → ((a : Arc) → List·Memᴰ a (p .arcs) → a .cost ≤ c) → (i j : ℕ) (w : List ℕ) → i < p .n
+      → IsWalk (p .arcs) i w j → distance p i j ≤ (p .n - 1) * c
   unfolding distance
   distance-bound c b i j w l h =
       let s = cut i j w l h in
@@ -209,7 +223,8 @@ module _ (p : Plan) (ok : InPlan p) where
   -- ---- what a program that fills the table by relaxing arcs cites
 
   -- no arc can be relaxed at d
-  pub distance-arc : (k j : ℕ) → k < length (p .arcs) → T (isOpen (arcAt (p .arcs) k)) → distance p (arcAt (p .arcs) k .tail) j ≤ arcAt (p .arcs) k .cost + distance p (arcAt (p .arcs) k .head) j
+  pub distance-arc : (k j : ℕ) → k < length (p .arcs) → T (isOpen (arcAt (p .arcs) k))
+      → distance p (arcAt (p .arcs) k .tail) j ≤ arcAt (p .arcs) k .cost + distance p (arcAt (p .arcs) k .head) j
   distance-arc k j l o =
       let e = ok (arcAt (p .arcs) k) (getD-mem (p .arcs) _ k l) .0 in
       let a = distance-le (arcAt (p .arcs) k .tail) (arcAt (p .arcs) k .head) (k ∷ []) e (l, o, refl, refl) in
@@ -225,7 +240,8 @@ relaxed arcs k e e′ h m r i j = elim (decLe noPath (distanceWithin arcs (suc k
   | no g ↦ let w = within-walk arcs (suc k) i j (omega arith) in go (w .0) (w .1) (w .2) (w .3)
 ]
   where
-    go : (w : List ℕ) → IsWalk arcs i w j → length w ≤ suc k → walkCost arcs w ≡ distanceWithin arcs (suc k) i j → e′ i j ≤ distanceWithin arcs (suc k) i j
+    go : (w : List ℕ) → IsWalk arcs i w j → length w ≤ suc k → walkCost arcs w ≡ distanceWithin arcs (suc k) i j
+        → e′ i j ≤ distanceWithin arcs (suc k) i j
     go [] q l c = let z = self arcs k i j q in let x = m i j in let y = h i j in omega arith
     go (a ∷ w) q l c =
         let x = r a j (q .0) (q .1) in

@@ -1,5 +1,5 @@
--- The distance call: its refusals in their order, what a call that is not refused makes sure of, and that each entry is what a single query gives. A single query is a
--- page of one pair: it is not refused where the page is not, and both hold d.
+-- The distance call: its refusals in their order, what a call that is not refused makes sure of, and that each entry is what a single query
+-- gives. A single query is a page of one pair: it is not refused where the page is not, and both hold d.
 use mathlib.Core.Path.{_≡_, sym, _∙_, subst}
 use mathlib.Core.Logic.{inl, inr}
 use mathlib.Core.Bool.{not, _||_}
@@ -29,7 +29,8 @@ module _ (bytes pairs : List ℕ) (room : ℕ) where
   unfolding distanceRefusal
   file-refused r e = first-stop (fileConditions bytes) _ r e
 
-  pub file-read : firstRefusal (fileConditions bytes) ≡ none → distanceRefusal bytes pairs room ≡ firstRefusal (pairsConditions (planOf bytes .n) pairs room)
+  pub file-read : firstRefusal (fileConditions bytes) ≡ none
+      → distanceRefusal bytes pairs room ≡ firstRefusal (pairsConditions (planOf bytes .n) pairs room)
   unfolding distanceRefusal
   file-read e = first-on (fileConditions bytes) _ e
 
@@ -51,16 +52,21 @@ module _ (n : ℕ) (pairs : List ℕ) where
   unfolding hasStray
   are-pairs t =
       let h = not-or (ltb 256 (length pairs)) (anyOf (isStray n) pairs) t in
-      record { few = nltb→le 256 (length pairs) (h .0); inside = λ k l. inside-pair n (getD pairs k 0) (anyOf-not (isStray n) (getD-mem pairs 0 k l) (h .1)) }
+      record {
+        few = nltb→le 256 (length pairs) (h .0);
+        inside = λ k l. inside-pair n (getD pairs k 0) (anyOf-not (isStray n) (getD-mem pairs 0 k l) (h .1));
+      }
 
   pub pairs-are : ArePairs n pairs → T (not (hasStray n pairs))
   unfolding hasStray
-  pairs-are h = not-T (ltb 256 (length pairs) || anyOf (isStray n) pairs) (λ t. elim (or-cases (ltb 256 (length pairs)) (anyOf (isStray n) pairs) t) [
-    | inl u ↦ (let l = ltb→lt 256 (length pairs) u in let f = h .few in omega arith)
-    | inr u ↦ (let r = anyOf-at (isStray n) pairs u in
-        let g = mem-getD 0 (r .1) in
-        T-not (isStray n (r .0)) (subst (λ x. T (not (isStray n x))) (g .2) (pair-inside n (getD pairs (g .0) 0) (h .inside (g .0) (g .1)))) (r .2))
-  ])
+  pairs-are h =
+      not-T (ltb 256 (length pairs) || anyOf (isStray n) pairs) (λ t. elim (or-cases (ltb 256 (length pairs)) (anyOf (isStray n) pairs) t) [
+        | inl u ↦ (let l = ltb→lt 256 (length pairs) u in let f = h .few in omega arith)
+        | inr u ↦ (let r = anyOf-at (isStray n) pairs u in
+            let g = mem-getD 0 (r .1) in
+            T-not (isStray n (r .0))
+            (subst (λ x. T (not (isStray n x))) (g .2) (pair-inside n (getD pairs (g .0) 0) (h .inside (g .0) (g .1)))) (r .2))
+      ])
 
   -- ---- 17, then 8
 
@@ -89,7 +95,8 @@ distance-accepted bytes pairs room e =
     let b = pairs-accepted (planOf bytes .n) pairs room (a .1) in
     record { file = a .0; well-formed = file-accepted bytes (a .0); pairs-in = b .0; enough = b .1 }
 
-pub accepted-distance : (bytes pairs : List ℕ) (room : ℕ) → firstRefusal (fileConditions bytes) ≡ none → ArePairs (planOf bytes .n) pairs → length pairs ≤ room
+pub accepted-distance : (bytes pairs : List ℕ) (room : ℕ) → firstRefusal (fileConditions bytes) ≡ none → ArePairs (planOf bytes .n) pairs
+    → length pairs ≤ room
     → distanceRefusal bytes pairs room ≡ none
 unfolding distanceRefusal
 accepted-distance bytes pairs room e h l = append-accepted (fileConditions bytes) _ e (accepted-pairs (planOf bytes .n) pairs room h l)
@@ -102,10 +109,13 @@ pub page-entry : (bytes pairs distances : List ℕ) (k : ℕ) → distanceRefusa
 unfolding distancesAfter unless entry
 page-entry bytes pairs distances k e l =
     let m = length-map pairs (entry (planOf bytes)) in
-    rw e (List·getD-append (map (entry (planOf bytes)) pairs) (drop (length pairs) distances) 0 k (omega arith) ∙ getD-map-in (entry (planOf bytes)) pairs k 0 l)
+    rw e (List·getD-append (map (entry (planOf bytes)) pairs) (drop (length pairs) distances) 0 k (omega arith)
+    ∙ getD-map-in (entry (planOf bytes)) pairs k 0 l)
 
--- "Each entry equals what a single query gives": the page of that pair alone is not refused, whatever is lent for its distance, and its one entry is the same.
-pub single-query : (bytes pairs distances one : List ℕ) (k : ℕ) → distanceRefusal bytes pairs (length distances) ≡ none → k < length pairs → 1 ≤ length one
+-- "Each entry equals what a single query gives": the page of that pair alone is not refused, whatever is lent for
+-- its distance, and its one entry is the same.
+pub single-query : (bytes pairs distances one : List ℕ) (k : ℕ) → distanceRefusal bytes pairs (length distances) ≡ none → k < length pairs
+    → 1 ≤ length one
     → (distanceRefusal bytes (getD pairs k 0 ∷ []) (length one) ≡ none)
     × (getD (distancesAfter bytes pairs distances) k 0 ≡ getD (distancesAfter bytes (getD pairs k 0 ∷ []) one) 0 0)
 single-query bytes pairs distances one k e l h =
@@ -115,6 +125,7 @@ single-query bytes pairs distances one k e l h =
     let f = accepted-distance bytes (x ∷ []) (length one) (a .file) alone h in
     (f, page-entry bytes pairs distances k e l ∙ sym (page-entry bytes (x ∷ []) one 0 f (omega arith)))
   where
-    at : {n : ℕ} (x : ℕ) → (first x < n) × (second x < n) → (k : ℕ) → k < 1 → (first (getD (x ∷ []) k 0) < n) × (second (getD (x ∷ []) k 0) < n)
+    at : {n : ℕ} (x : ℕ) → (first x < n) × (second x < n) → (k : ℕ) → k < 1
+        → (first (getD (x ∷ []) k 0) < n) × (second (getD (x ∷ []) k 0) < n)
     at x h zero l = h
     at x h (suc k) l = absurd (omega arith)

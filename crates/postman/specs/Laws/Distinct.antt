@@ -1,5 +1,5 @@
--- The numbers of a list, each once: they are the list's, none stands twice, and one number more at the end adds itself exactly if it did not occur before. By
--- induction on the list.
+-- The numbers of a list, each once: they are the list's, none stands twice, and one number more at the end adds itself exactly if it did
+-- not occur before. By induction on the list.
 use mathlib.Core.Path.{_≡_, refl, sym, subst, subst⁻¹}
 use mathlib.Core.Logic.{inl, inr}
 use mathlib.Core.Bool.{Bool, true, false, not, cond, _||_, or-false, or-assoc}
@@ -53,7 +53,8 @@ mem-distinct [] = λ m. elim m [ ]
 mem-distinct {x} (y ∷ ys) = λ m. elim (List·Memᴰ·cases-cons m) [
   | inl e ↦ cond-ind (occurs y ys) (distinct ys) (y ∷ distinct ys) (List·Memᴰ x)
       (λ t. mem-distinct ys (subst⁻¹ (λ z. List·Memᴰ z ys) e (occurs-mem y ys t))) (λ t. List·Memᴰ·head e)
-  | inr k ↦ cond-ind (occurs y ys) (distinct ys) (y ∷ distinct ys) (List·Memᴰ x) (λ t. mem-distinct ys k) (λ t. List·Memᴰ·tail (mem-distinct ys k))
+  | inr k ↦ cond-ind (occurs y ys) (distinct ys) (y ∷ distinct ys) (List·Memᴰ x) (λ t. mem-distinct ys k)
+      (λ t. List·Memᴰ·tail (mem-distinct ys k))
 ]
 
 pub distinct-once : (x : ℕ) (xs : List ℕ) → occurrences x (distinct xs) ≤ 1
@@ -69,7 +70,8 @@ distinct-once x (y ∷ ys) =
   where
     none : x ≡ y → T (not (occurs y ys)) → occurrences x (distinct ys) < 1
     none e t = elim (decLe 1 (occurrences x (distinct ys))) [
-      | yes g ↦ absurd (T-not (occurs y ys) t (mem-occurs (subst (λ z. List·Memᴰ z ys) e (distinct-mem ys (mem-of-occurrences x (distinct ys) g)))))
+      | yes g ↦ absurd
+          (T-not (occurs y ys) t (mem-occurs (subst (λ z. List·Memᴰ z ys) e (distinct-mem ys (mem-of-occurrences x (distinct ys) g)))))
       | no g ↦ omega arith
     ]
 
@@ -97,7 +99,8 @@ distinct-more (y ∷ xs) x =
     let h = distinct-more xs x in
     elim (ℕ-discrete y x) [
       | yes e ↦ simp (e, distinct-cons, occurs-more x xs x, occurs-cons, h, eq-eqb x x refl) (same (occurs x xs) (length (distinct xs)))
-      | no n ↦ simp (distinct-cons, occurs-more y xs x, occurs-cons, h, ne-eqb y x n, ne-eqb x y (λ e. n (sym e)), or-false) (other (occurs y xs) (occurs x xs) (length (distinct xs)))
+      | no n ↦ simp (distinct-cons, occurs-more y xs x, occurs-cons, h, ne-eqb y x n, ne-eqb x y (λ e. n (sym e)), or-false)
+          (other (occurs y xs) (occurs x xs) (length (distinct xs)))
     ]
   where
     same : (b : Bool) (n : ℕ) → oneMore (b || true) (oneMore b n) ≡ oneMore b n

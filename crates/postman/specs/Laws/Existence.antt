@@ -1,5 +1,5 @@
--- A plan with a required arc has a tour exactly when it is not cut off. A tour leads from any required vertex to any other; conversely the required arcs, in
--- file order, are joined by shortest paths.
+-- A plan with a required arc has a tour exactly when it is not cut off. A tour leads from any required vertex to any other; conversely the
+-- required arcs, in file order, are joined by shortest paths.
 use mathlib.Core.Path.{refl, subst, subst⁻¹}
 use mathlib.Core.Logic.{inl, inr}
 use mathlib.Core.Bool.{not}
@@ -21,13 +21,20 @@ use Rattle.postman.specs.Steps.{IsRequiredNumber}
 use Rattle.postman.specs.Laws.Required.{required-arc-of, required-lt, required-open, number-ends, numbers-mem, mem-numbers}
 
 -- from a required vertex a tour leads to its start, and back
-reach : (p : Plan) {w : List ℕ} (h : IsTour p w) {v : ℕ} → List·Memᴰ v (required p) → Leads (p .arcs) v (h .start) × Leads (p .arcs) (h .start) v
+reach : (p : Plan) {w : List ℕ} (h : IsTour p w) {v : ℕ} → List·Memᴰ v (required p)
+    → Leads (p .arcs) v (h .start) × Leads (p .arcs) (h .start) v
 reach p h {v} m =
     let r = required-arc-of p m in
     let a = around (p .arcs) (h .start) (h .start) (h .covers (r .0) (r .1 .number) (r .1 .must)) (h .closed) in
     elim (r .2) [
-      | inl e ↦ (subst (λ z. Leads (p .arcs) z (h .start)) e (join (p .arcs) (a .1) (a .2)), subst (λ z. Leads (p .arcs) (h .start) z) e (a .0))
-      | inr e ↦ (subst (λ z. Leads (p .arcs) z (h .start)) e (a .2), subst (λ z. Leads (p .arcs) (h .start) z) e (join (p .arcs) (a .0) (a .1)))
+      | inl e ↦ (
+        subst (λ z. Leads (p .arcs) z (h .start)) e (join (p .arcs) (a .1) (a .2)),
+        subst (λ z. Leads (p .arcs) (h .start) z) e (a .0),
+      )
+      | inr e ↦ (
+        subst (λ z. Leads (p .arcs) z (h .start)) e (a .2),
+        subst (λ z. Leads (p .arcs) (h .start) z) e (join (p .arcs) (a .0) (a .1)),
+      )
     ]
 
 -- some arc is required
@@ -59,7 +66,8 @@ module _ (p : Plan) (ok : WellFormed p) where
         path-walk p (bounded ok .ends) i j (not-not (hasPath p i j) u)
 
     -- through the arcs ks, from i to e
-    through : {e : ℕ} → List·Memᴰ e (required p) → (ks : List ℕ) → ((k : ℕ) → List·Memᴰ k ks → IsRequiredNumber p k) → (i : ℕ) → List·Memᴰ i (required p)
+    through : {e : ℕ} → List·Memᴰ e (required p) → (ks : List ℕ) → ((k : ℕ) → List·Memᴰ k ks → IsRequiredNumber p k) → (i : ℕ)
+        → List·Memᴰ i (required p)
         → (w : List ℕ) × IsWalk (p .arcs) i w e × ((k : ℕ) → List·Memᴰ k ks → List·Memᴰ k w)
     unfolding join
     through {e} me [] h i mi = let r = linked mi me in (r .0, r .1, λ k m. absurd (List·Memᴰ·not-nil m))
@@ -69,12 +77,22 @@ module _ (p : Plan) (ok : WellFormed p) where
         let a = linked mi (x .0) in
         let r = through me ks (λ l m. h l (List·Memᴰ·tail m)) (arcAt (p .arcs) k .head) (x .1) in
         let b = join (p .arcs) (k ∷ [], (hk .number, required-open p k hk, refl, refl)) (r .0, r .1) in
-        let c = join (p .arcs) a b in
-        (c .0, c .1, λ l m. Memᴰ·append-right (a .0) (elim (List·Memᴰ·cases-cons m) [ inl q ↦ List·Memᴰ·head q | inr n ↦ List·Memᴰ·tail (r .2 l n) ]))
+        let c = join (p .arcs) a b in (
+          c .0,
+          c .1,
+          λ l m. Memᴰ·append-right (a .0)
+              (elim (List·Memᴰ·cases-cons m) [ inl q ↦ List·Memᴰ·head q | inr n ↦ List·Memᴰ·tail (r .2 l n) ]),
+        )
 
     pub a-tour : 0 < length (requiredArcs p) → (w : List ℕ) × IsTour p w
     a-tour some =
         let k = some-required p some in
         let s = number-ends p (bounded ok .ends) (k .1) .0 in
-        let r = through s (requiredNumbers p) (λ j n. numbers-mem p n) (arcAt (p .arcs) (k .0) .tail) s in
-        (r .0, record { start = arcAt (p .arcs) (k .0) .tail; closed = r .1; covers = λ j l m. r .2 j (mem-numbers p (record { number = l; must = m })) })
+        let r = through s (requiredNumbers p) (λ j n. numbers-mem p n) (arcAt (p .arcs) (k .0) .tail) s in (
+          r .0,
+          record {
+            start = arcAt (p .arcs) (k .0) .tail;
+            closed = r .1;
+            covers = λ j l m. r .2 j (mem-numbers p (record { number = l; must = m }));
+          },
+        )

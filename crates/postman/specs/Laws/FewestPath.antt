@@ -1,5 +1,6 @@
--- The path is one at most: of two of them each is no dearer, has no more arcs and does not come after the other. A walk that is cut to n − 1 arcs is no dearer, so the path
--- has no more; and it visits no vertex twice, since what lies between two visits could be left out at no more cost. Nothing here uses that costs are positive.
+-- The path is one at most: of two of them each is no dearer, has no more arcs and does not come after the other. A walk that is cut to n −
+-- 1 arcs is no dearer, so the path has no more; and it visits no vertex twice, since what lies between two visits could be left out at no
+-- more cost. Nothing here uses that costs are positive.
 use mathlib.Core.Path.{_≡_, refl, ap₂, subst, subst⁻¹}
 use mathlib.Core.Logic.{inl, inr}
 use mathlib.Core.Bool.{not, _&&_, _||_}
@@ -84,7 +85,8 @@ module _ (arcs : List Arc) where
   Shorter n i j c = (v : List ℕ) × IsWalk arcs i v j × (length v < n) × (walkCost arcs v ≤ c)
 
   -- from a vertex that is entered on
-  entered-again : (x v j : ℕ) (w : List ℕ) → IsWalk arcs v w j → 1 ≤ occurrences x (map (λ k. arcAt arcs k .head) w) → Shorter (length w) x j (walkCost arcs w)
+  entered-again : (x v j : ℕ) (w : List ℕ) → IsWalk arcs v w j → 1 ≤ occurrences x (map (λ k. arcAt arcs k .head) w)
+      → Shorter (length w) x j (walkCost arcs w)
   unfolding occurrences
   entered-again x v j [] h o = absurd (omega arith)
   entered-again x v j (k ∷ w) h o = elim (ℕ-discrete x (arcAt arcs k .head)) [
@@ -97,11 +99,13 @@ module _ (arcs : List Arc) where
         (r .0, r .1, omega arith, omega arith)
   ]
 
-  visited-twice : (x i j : ℕ) (w : List ℕ) → IsWalk arcs i w j → 2 ≤ occurrences x (visited arcs i w) → Shorter (length w) i j (walkCost arcs w)
+  visited-twice : (x i j : ℕ) (w : List ℕ) → IsWalk arcs i w j → 2 ≤ occurrences x (visited arcs i w)
+      → Shorter (length w) i j (walkCost arcs w)
   unfolding occurrences
   visited-twice x i j [] h o = let d = delta-le x i in absurd (omega arith)
   visited-twice x i j (k ∷ w) h o = elim (ℕ-discrete x i) [
-    | yes e ↦ (let d = delta-yes e in subst (λ z. Shorter (length (k ∷ w)) z j (walkCost arcs (k ∷ w))) e (entered-again x i j (k ∷ w) h (omega arith)))
+    | yes e ↦ (let d = delta-yes e in
+        subst (λ z. Shorter (length (k ∷ w)) z j (walkCost arcs (k ∷ w))) e (entered-again x i j (k ∷ w) h (omega arith)))
     | no n ↦
         let d = delta-no _ _ n in
         let r = visited-twice x (arcAt arcs k .head) j w (h .3) (omega arith) in

@@ -40,7 +40,8 @@ module _ (e : ℕ) where
   -- the longest file: "now 1,475 bytes"
   pub bits-limit : (m : ℕ) → m ≤ 256 → (20 + 30 * m ≤ fileBits e m) × (fileBits e m ≤ 20 + 46 * m)
   unfolding fileBits
-  bits-limit m l = by-edition e (λ w. (20 + 30 * m ≤ 20 + w * m) × (20 + w * m ≤ 20 + 46 * m)) (omega arith, omega arith) (omega arith, omega arith)
+  bits-limit m l =
+      by-edition e (λ w. (20 + 30 * m ≤ 20 + w * m) × (20 + w * m ≤ 20 + 46 * m)) (omega arith, omega arith) (omega arith, omega arith)
 
   pub fileLength-le : (m : ℕ) → m ≤ 256 → fileLength e m ≤ 1475
   unfolding fileLength

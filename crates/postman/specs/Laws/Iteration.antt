@@ -1,5 +1,5 @@
--- A step taken often enough arrives: what some number of steps reaches, as many steps as there are places do. The steps are the arcs of a graph, and a walk in
--- it can be cut to fewer arcs than there are vertices.
+-- A step taken often enough arrives: what some number of steps reaches, as many steps as there are places do. The steps are the arcs of a
+-- graph, and a walk in it can be cut to fewer arcs than there are vertices.
 use mathlib.Core.Path.{_≡_, refl, sym, ap, _∙_, subst⁻¹}
 use mathlib.Core.List.{List, [], _∷_, map}
 use Prim.Native.Nat.{ℕ, zero, suc, _+_, _-_, _<_}
@@ -53,8 +53,15 @@ module _ (K : ℕ) (f : ℕ → ℕ) (inside : (q : ℕ) → q < K → f q < K) 
   to-walk (suc m) q e l h =
       let r = to-walk m (f q) e (inside q l) h in
       let x = arrow-at q l in
-      let n = arrows-length in
-      (q ∷ r .0, (omega arith, subst⁻¹ (λ (b : Arc). T (ltb (b .standing) 2)) x tt, ap (λ (b : Arc). b .tail) x, subst⁻¹ (λ (b : Arc). IsWalk arrows (b .head) (r .0) e) x (r .1)))
+      let n = arrows-length in (
+        q ∷ r .0,
+        (
+          omega arith,
+          subst⁻¹ (λ (b : Arc). T (ltb (b .standing) 2)) x tt,
+          ap (λ (b : Arc). b .tail) x,
+          subst⁻¹ (λ (b : Arc). IsWalk arrows (b .head) (r .0) e) x (r .1),
+        ),
+      )
 
   of-walk : (w : List ℕ) (q e : ℕ) → IsWalk arrows q w e → iterate (length w) f q ≡ e
   unfolding iterate
@@ -64,7 +71,8 @@ module _ (K : ℕ) (f : ℕ → ℕ) (inside : (q : ℕ) → q < K → f q < K) 
       let l = h .0 in
       let x = arrow-at k (omega arith) in
       let y = sym (ap (λ (b : Arc). b .tail) x) ∙ h .2 in
-      ap (λ z. iterate (length w) f (f z)) (sym y) ∙ ap (iterate (length w) f) (sym (ap (λ (b : Arc). b .head) x)) ∙ of-walk w (arcAt arrows k .head) e (h .3)
+      ap (λ z. iterate (length w) f (f z)) (sym y) ∙ ap (iterate (length w) f) (sym (ap (λ (b : Arc). b .head) x))
+      ∙ of-walk w (arcAt arrows k .head) e (h .3)
 
   pub settle : (m q : ℕ) → f 0 ≡ 0 → q < K → iterate m f q ≡ 0 → iterate K f q ≡ 0
   unfolding graph

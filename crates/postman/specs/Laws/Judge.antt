@@ -1,5 +1,6 @@
--- A list of arcs has no fault exactly when it is a tour: a number that is not foreign is that of an open arc, arcs without a gap are a walk that ends where it began, and a
--- required arc that is not missed occurs. Each by induction on the list. Hence the list is judged to cost something exactly when it is a tour, where nothing before its faults applies.
+-- A list of arcs has no fault exactly when it is a tour: a number that is not foreign is that of an open arc, arcs without a gap are a walk
+-- that ends where it began, and a required arc that is not missed occurs. Each by induction on the list. Hence the list is judged to cost
+-- something exactly when it is a tour, where nothing before its faults applies.
 use mathlib.Core.Path.{_≡_, refl, sym, ap, _∙_, subst⁻¹}
 use mathlib.Core.Logic.{_↔_}
 use mathlib.Core.Bool.{Bool, true, false, not, cond, _||_}
@@ -36,7 +37,8 @@ module _ (p : Plan) where
   not-foreign : (k : ℕ) → k < length (p .arcs) → T (isOpen (arcAt (p .arcs) k)) → T (not (isForeign p k))
   unfolding isForeign
   not-foreign k l o =
-      neither (leb (length (p .arcs)) k) (not (isOpen (arcAt (p .arcs) k))) (lt→nleb (length (p .arcs)) k l) (not-not-T (isOpen (arcAt (p .arcs) k)) o)
+      neither (leb (length (p .arcs)) k) (not (isOpen (arcAt (p .arcs) k))) (lt→nleb (length (p .arcs)) k l)
+      (not-not-T (isOpen (arcAt (p .arcs) k)) o)
 
   -- ---- 15
 
@@ -69,7 +71,8 @@ module _ (p : Plan) where
       let r = anyOf-at (eqb k) w (not-not (anyOf (eqb k) w) u) in
       subst⁻¹ (λ z. List·Memᴰ z w) (eqb→eq k (r .0) (r .2)) (r .1)
 
-  not-missed : (w : List ℕ) → ((k : ℕ) → k < length (p .arcs) → T (isRequiredArc (arcAt (p .arcs) k)) → List·Memᴰ k w) → T (not (isMissed p w))
+  not-missed : (w : List ℕ) → ((k : ℕ) → k < length (p .arcs) → T (isRequiredArc (arcAt (p .arcs) k)) → List·Memᴰ k w)
+      → T (not (isMissed p w))
   unfolding isMissed
   not-missed w h =
       not-T (anyOf (λ k. not (anyOf (eqb k) w)) (requiredNumbers p))
@@ -92,11 +95,16 @@ module _ (p : Plan) where
       let a = arcAt (p .arcs) k in
       let x = not-or (isForeign p k) (anyOf (isForeign p) w) (h .known) in
       let d = driven k (x .0) in
-      record { start = a .tail; closed = (d .0, d .1, refl, joined-walk (a .head) w (a .tail) (x .1) (h .joined)); covers = covers (k ∷ w) (h .complete) }
+      record {
+        start = a .tail;
+        closed = (d .0, d .1, refl, joined-walk (a .head) w (a .tail) (x .1) (h .joined));
+        covers = covers (k ∷ w) (h .complete);
+      }
 
   tour-faultless : (w : List ℕ) → IsTour p w → IsFaultless w
   unfolding isUnjoined
-  tour-faultless [] h = record { known = walk-joined (h .start) [] (h .start) (h .closed) .0; joined = tt; complete = not-missed [] (h .covers) }
+  tour-faultless [] h =
+      record { known = walk-joined (h .start) [] (h .start) (h .closed) .0; joined = tt; complete = not-missed [] (h .covers) }
   tour-faultless (k ∷ w) h =
       let a = arcAt (p .arcs) k in
       record {
@@ -115,7 +123,8 @@ module _ (p : Plan) where
 
   faultless-accepted : (w : List ℕ) → IsFaultless w → firstRefusal (faultConditions p w) ≡ none
   unfolding faultConditions
-  faultless-accepted w h = cons-accepted _ _ _ (h .known) (cons-accepted _ _ _ (h .joined) (cons-accepted _ _ _ (h .complete) nothing-refused))
+  faultless-accepted w h =
+      cons-accepted _ _ _ (h .known) (cons-accepted _ _ _ (h .joined) (cons-accepted _ _ _ (h .complete) nothing-refused))
 
   -- no fault applies exactly when the list is a tour
   pub faultless : (w : List ℕ) → (firstRefusal (faultConditions p w) ≡ none) ↔ IsTour p w
@@ -131,7 +140,8 @@ module _ (bytes : List ℕ) (places : ℕ) where
 
   -- a longer one for the file's first bytes, or for its length
   pub lent-long : highestPlaces < places
-      → firstRefusal (lentConditions bytes places) ≡ cond (ltb (length bytes) 3) (some 1) (cond (not (isEdition (edition bytes))) (some 2) (some 3))
+      → firstRefusal (lentConditions bytes places)
+      ≡ cond (ltb (length bytes) 3) (some 1) (cond (not (isEdition (edition bytes))) (some 2) (some 3))
   unfolding lentConditions firstRefusal editionConditions extentConditions
   lent-long l =
       rw (lt-ltb highestPlaces places l)
@@ -142,11 +152,14 @@ module _ (bytes : List ℕ) (places : ℕ) where
       at true = refl
       at false = refl
 
-  accepted-unjudged : firstRefusal (lentConditions bytes places) ≡ none → 0 < length (requiredArcs (planOf bytes)) → firstRefusal (unjudgedConditions bytes places) ≡ none
+  accepted-unjudged : firstRefusal (lentConditions bytes places) ≡ none → 0 < length (requiredArcs (planOf bytes))
+      → firstRefusal (unjudgedConditions bytes places) ≡ none
   unfolding unjudgedConditions
   accepted-unjudged e l =
       append-accepted (lentConditions bytes places) _ e
-      (cons-accepted _ _ _ (not-T (eqb (length (requiredArcs (planOf bytes))) 0) (λ t. (let z = eqb→eq (length (requiredArcs (planOf bytes))) 0 t in omega arith))) nothing-refused)
+      (cons-accepted _ _ _
+      (not-T (eqb (length (requiredArcs (planOf bytes))) 0)
+      (λ t. (let z = eqb→eq (length (requiredArcs (planOf bytes))) 0 t in omega arith))) nothing-refused)
 
 -- ---- what is judged
 
@@ -155,9 +168,11 @@ module _ (bytes w : List ℕ) where
   p = planOf bytes
 
   -- 10 and the faults, one after the other
-  pub judge-conditions : judgeRefusal bytes w ≡ firstRefusal (lentConditions bytes (length w) ++ (eqb (length (requiredArcs p)) 0, 10) ∷ faultConditions p w)
+  pub judge-conditions : judgeRefusal bytes w
+      ≡ firstRefusal (lentConditions bytes (length w) ++ (eqb (length (requiredArcs p)) 0, 10) ∷ faultConditions p w)
   unfolding judgeRefusal unjudgedConditions
-  judge-conditions = ap firstRefusal (append-assoc (lentConditions bytes (length w)) ((eqb (length (requiredArcs p)) 0, 10) ∷ []) (faultConditions p w))
+  judge-conditions =
+      ap firstRefusal (append-assoc (lentConditions bytes (length w)) ((eqb (length (requiredArcs p)) 0, 10) ∷ []) (faultConditions p w))
 
   -- THE LAW: nothing is refused exactly when the list is a tour
   pub judged : firstRefusal (unjudgedConditions bytes (length w)) ≡ none → (judgeRefusal bytes w ≡ none) ↔ IsTour p w
@@ -180,25 +195,31 @@ module _ (bytes w : List ℕ) where
   tour-judged e h = answer-given (judgeRefusal bytes w) (tourCost p w) (judged e .1 h)
 
   -- so does every tour of at most 65,535 places of a file that reads, with some required arc; and of one that the plan call does not refuse
-  pub file-judged : firstRefusal (fileConditions bytes) ≡ none → 0 < length (requiredArcs p) → length w ≤ highestPlaces → IsTour p w → judgeAnswer bytes w ≡ given (tourCost p w)
+  pub file-judged : firstRefusal (fileConditions bytes) ≡ none → 0 < length (requiredArcs p) → length w ≤ highestPlaces → IsTour p w
+      → judgeAnswer bytes w ≡ given (tourCost p w)
   file-judged f s l h = tour-judged (accepted-unjudged bytes (length w) (lent-short bytes (length w) l ∙ f) s) h
 
-  pub call-judged : (budget places : ℕ) → callRefusal bytes budget places ≡ none → length w ≤ highestPlaces → IsTour p w → judgeAnswer bytes w ≡ given (tourCost p w)
-  call-judged budget places e l h = file-judged (call-file bytes budget places e) (call-accepted bytes budget places e .earlier .some-required) l h
+  pub call-judged : (budget places : ℕ) → callRefusal bytes budget places ≡ none → length w ≤ highestPlaces → IsTour p w
+      → judgeAnswer bytes w ≡ given (tourCost p w)
+  call-judged budget places e l h =
+      file-judged (call-file bytes budget places e) (call-accepted bytes budget places e .earlier .some-required) l h
 
 -- ---- what it costs
 
 -- A pass costs at most 65,535, so that the cost of 65,535 places is below 2 to the 32.
-pub cost-due-le : (arcs : List Arc) → ((k : ℕ) → (arcAt arcs k .cost ≤ 65535) × (arcAt arcs k .service ≤ 65535)) → (w due : List ℕ) → tourCostDue arcs due w ≤ 65535 * length w
+pub cost-due-le : (arcs : List Arc) → ((k : ℕ) → (arcAt arcs k .cost ≤ 65535) × (arcAt arcs k .service ≤ 65535)) → (w due : List ℕ)
+    → tourCostDue arcs due w ≤ 65535 * length w
 unfolding tourCostDue
 cost-due-le arcs h [] due = omega arith
 cost-due-le arcs h (k ∷ w) due =
     let a = h k .0 in
     let b = h k .1 in
     cond-ind (anyOf (eqb k) due) _ _ (λ c. c ≤ 65535 * length (k ∷ w))
-    (λ t. (let r = cost-due-le arcs h w (select (λ j. not (eqb k j)) due) in omega arith)) (λ t. (let r = cost-due-le arcs h w due in omega arith))
+    (λ t. (let r = cost-due-le arcs h w (select (λ j. not (eqb k j)) due) in omega arith))
+    (λ t. (let r = cost-due-le arcs h w due in omega arith))
 
-pub tour-cost-small : (p : Plan) → ((k : ℕ) → (arcAt (p .arcs) k .cost ≤ 65535) × (arcAt (p .arcs) k .service ≤ 65535)) → (w : List ℕ) → length w ≤ highestPlaces
+pub tour-cost-small : (p : Plan) → ((k : ℕ) → (arcAt (p .arcs) k .cost ≤ 65535) × (arcAt (p .arcs) k .service ≤ 65535)) → (w : List ℕ)
+    → length w ≤ highestPlaces
     → tourCost p w < 2 ^ 32
 unfolding tourCost highestPlaces
 tour-cost-small p h w l = let r = cost-due-le (p .arcs) h w (requiredNumbers p) in omega arith

@@ -1,5 +1,5 @@
--- L(u) is at most the completion cost of every arborescence: what the links' multipliers take from their reduced costs, weak duality gives back in the
--- balancing. And L(u) is at least R + Z, since reduced costs are not negative.
+-- L(u) is at most the completion cost of every arborescence: what the links' multipliers take from their reduced costs, weak duality gives
+-- back in the balancing. And L(u) is at least R + Z, since reduced costs are not negative.
 use mathlib.Core.Path.{_≡_, refl, ap, ap₂, _∙_, subst⁻¹, fun-ext}
 use mathlib.Core.List.{List, [], _∷_, _++_, map, List·Memᴰ, List·Memᴰ·head, List·Memᴰ·tail}
 use Prim.Native.Nat.{ℕ, _+_, _≤_, _<_}
@@ -27,7 +27,8 @@ use Rattle.postman.specs.Laws.SignedSum.{minimumℤ-le, minimumℤ-at, s
 
 -- ---- weak duality
 
--- under multipliers with reduced costs that are not negative, the sum of u over the heads less that over the tails is at most the least assignment
+-- under multipliers with reduced costs that are not negative, the sum of u over the heads less that
+-- over the tails is at most the least assignment
 pub weak-duality : (d : ℕ → ℕ → ℕ) (u : Multipliers) (ss ts : List ℕ) → length ss ≡ length ts
     → ((s t : ℕ) → List·Memᴰ s ss → List·Memᴰ t ts → pos 0 ≤ℤ (pos (d s t) -ℤ u s +ℤ u t))
     → sumOfℤ (map u ss) ≤ℤ (sumOfℤ (map u ts) +ℤ pos (assignment d ss ts))
@@ -46,13 +47,17 @@ weak-duality d u (s ∷ ss) ts l h =
 -- ---- A(u), the bound
 
 -- A(u) is the least sum of reduced costs over all arborescences
-pub cheapest-le : (p : Plan) (u : Multipliers) {t : List Link} → List·Memᴰ t (arborescences p) → cheapestArborescence p u ≤ℤ reducedSum p u t
+pub cheapest-le : (p : Plan) (u : Multipliers) {t : List Link} → List·Memᴰ t (arborescences p)
+    → cheapestArborescence p u ≤ℤ reducedSum p u t
 unfolding cheapestArborescence
 cheapest-le p u m = minimumℤ-le (mem-map (reducedSum p u) m)
 
-pub cheapest-at : (p : Plan) (u : Multipliers) → 0 < length (arborescences p) → (t : List Link) × List·Memᴰ t (arborescences p) × (cheapestArborescence p u ≡ reducedSum p u t)
+pub cheapest-at : (p : Plan) (u : Multipliers) → 0 < length (arborescences p)
+    → (t : List Link) × List·Memᴰ t (arborescences p) × (cheapestArborescence p u ≡ reducedSum p u t)
 unfolding cheapestArborescence
-cheapest-at p u h = map-mem (reducedSum p u) (arborescences p) (minimumℤ-at (map (reducedSum p u) (arborescences p)) (subst⁻¹ (λ n. 0 < n) (length-map (arborescences p) (reducedSum p u)) h))
+cheapest-at p u h =
+    map-mem (reducedSum p u) (arborescences p)
+    (minimumℤ-at (map (reducedSum p u) (arborescences p)) (subst⁻¹ (λ n. 0 < n) (length-map (arborescences p) (reducedSum p u)) h))
 
 module _ (p : Plan) (u : Multipliers) where
   -- the sum of u over the links' heads, and over their tails
@@ -70,7 +75,8 @@ module _ (p : Plan) (u : Multipliers) where
       ∙ ap (λ (w : ℤ). w -ℤ over-tails t) (sum-pos (λ l. distance p (l .tail) (l .head)) t))
 
   -- u summed over vertices and the links' ends, apart
-  ends-split : (f : Link → ℕ) (vs : List ℕ) (t : List Link) → sumOfℤ (map u (vs ++ map f t)) ≡ sumOfℤ (map u (vs ++ [])) +ℤ sumOfℤ (map (λ l. u (f l)) t)
+  ends-split : (f : Link → ℕ) (vs : List ℕ) (t : List Link)
+      → sumOfℤ (map u (vs ++ map f t)) ≡ sumOfℤ (map u (vs ++ [])) +ℤ sumOfℤ (map (λ l. u (f l)) t)
   unfolding sumOfℤ
   ends-split f vs t =
       let a = sum-append u vs (map f t) in
@@ -79,13 +85,15 @@ module _ (p : Plan) (u : Multipliers) where
       rw (a, b, c) (simp zl (omega arith))
 
   -- the sum of u(i) × D(i), with the links counted, is the sum of u over the heads less that over the tails
-  pub price-split : InPlan p → (t : List Link) → Joins p t → sumOfℤ (map (λ i. u i *ℤ imbalance p t i) (required p)) ≡ sumOfℤ (map u (heads p t)) -ℤ sumOfℤ (map u (tails p t))
+  pub price-split : InPlan p → (t : List Link) → Joins p t
+      → sumOfℤ (map (λ i. u i *ℤ imbalance p t i) (required p)) ≡ sumOfℤ (map u (heads p t)) -ℤ sumOfℤ (map u (tails p t))
   unfolding imbalance
   price-split ok t j =
       ap (λ (f : ℕ → ℤ). sumOfℤ (map f (required p)))
       (fun-ext (λ i. times-sub (u i) (pos (occurrences i (heads p t))) (pos (occurrences i (tails p t)))))
       ∙ sum-sub (λ i. u i *ℤ pos (occurrences i (heads p t))) (λ i. u i *ℤ pos (occurrences i (tails p t))) (required p)
-      ∙ ap₂ _-ℤ_ (sum-occurrences u (required p) (heads p t) (within-heads p ok t j)) (sum-occurrences u (required p) (tails p t) (within-tails p ok t j))
+      ∙ ap₂ _-ℤ_ (sum-occurrences u (required p) (heads p t) (within-heads p ok t j))
+      (sum-occurrences u (required p) (tails p t) (within-tails p ok t j))
     where
       times-sub : (a b c : ℤ) → a *ℤ (b -ℤ c) ≡ a *ℤ b -ℤ a *ℤ c
       times-sub a b c = simp zm
@@ -99,7 +107,8 @@ module _ (p : Plan) (u : Multipliers) where
         (λ s r m n. feasible s r (within-heads p ok t j .among s m) (within-tails p ok t j .among r n))
 
     -- R + Σ u·D + the reduced costs of t is at most the completion cost of t
-    pub reduced-le : (t : List Link) → Joins p t → (pos (requiredCost p) +ℤ priceOfImbalance p u +ℤ reducedSum p u t) ≤ℤ pos (completionCost p t)
+    pub reduced-le : (t : List Link) → Joins p t
+        → (pos (requiredCost p) +ℤ priceOfImbalance p u +ℤ reducedSum p u t) ≤ℤ pos (completionCost p t)
     unfolding completionCost priceOfImbalance heads tails
     reduced-le t j =
         let a = price-split ok [] (λ l m. elim m [ ]) in
@@ -127,7 +136,8 @@ module _ (p : Plan) (u : Multipliers) where
         subst⁻¹ (λ (w : ℤ). pos 0 ≤ℤ w) (r .2) (reduced-nonneg (r .0) (joins p (arborescences-mem p (r .1))))
 
 -- L(u) ≥ R + Z
-pub bound-ge : (p : Plan) (u : Multipliers) → InPlan p → AreMultipliers p u → 0 < length (arborescences p) → pos (requiredCost p + leastBalancing p []) ≤ℤ lagrangianBound p u
+pub bound-ge : (p : Plan) (u : Multipliers) → InPlan p → AreMultipliers p u → 0 < length (arborescences p)
+    → pos (requiredCost p + leastBalancing p []) ≤ℤ lagrangianBound p u
 unfolding lagrangianBound
 bound-ge p u ok h some =
     let a = cheapest-nonneg p u ok (h .feasible) some in

@@ -1,6 +1,7 @@
--- Thinning loses nothing: any two required vertices are joined by a chain of links whose distances add up to theirs. A pair that is dropped at its turn goes by two pairs that are
--- held then, so the induction is on the pairs that have not had their turn yet, for the claim that each pair held at this moment is a chain of pairs held at the end, of
--- the same total. It says nothing of costs: circles of free arcs change nothing.
+-- Thinning loses nothing: any two required vertices are joined by a chain of links whose distances add up to theirs. A pair that
+-- is dropped at its turn goes by two pairs that are held then, so the induction is on the pairs that have not had their turn yet,
+-- for the claim that each pair held at this moment is a chain of pairs held at the end, of the same total. It says nothing of
+-- costs: circles of free arcs change nothing.
 use mathlib.Core.Path.{_≡_, refl, sym, ap, _∙_, subst, subst⁻¹}
 use mathlib.Core.Logic.{_≢_, inl, inr}
 use mathlib.Core.Bool.{Bool, true, not, cond, _&&_}
@@ -13,7 +14,7 @@ use Rattle.postman.specs.Lists.{select, anyOf}
 use Rattle.postman.specs.Plan.{Plan, WellFormed}
 use Rattle.postman.specs.Required.{required}
 use Rattle.postman.specs.Distance.{distance}
-use Rattle.postman.specs.Link.{Link, pairs, properPairs, joins, isHeld, isVia, turn, thinned, links}
+use Rattle.postman.specs.Link.{Link, pairs, properPairs, joins, isHeld, isVia, heldAfter, thinned, links}
 use Rattle.postman.specs.Laws.Tests.{cond-ind, test, same-test, is-true, and-both, and-parts, eqb-same, eqb-other}
 use Rattle.postman.specs.Laws.Membership.{mem-select, select-mem, select-cong, anyOf-mem, anyOf-at, mem-map, map-mem, mem-flatMap, flatMap-mem}
 use Rattle.postman.specs.Laws.Selection.{select-select, select-all}
@@ -36,7 +37,8 @@ abbrev pub chainCost : Plan → List Link → ℕ
 chainCost p [] = 0
 chainCost p (l ∷ ls) = distance p (l .tail) (l .head) + chainCost p ls
 
-chain-append : (held : List Link) (i j k : ℕ) (ls ms : List Link) → IsChainOf held i ls j → IsChainOf held j ms k → IsChainOf held i (ls ++ ms) k
+chain-append : (held : List Link) (i j k : ℕ) (ls ms : List Link) → IsChainOf held i ls j → IsChainOf held j ms k
+    → IsChainOf held i (ls ++ ms) k
 chain-append held i j k [] ms e h = subst⁻¹ (λ z. IsChainOf held z ms k) e h
 chain-append held i j k (l ∷ ls) ms g h = (g .0, g .1, chain-append held (l .head) j k ls ms (g .2) h)
 
@@ -105,44 +107,47 @@ module _ (p : Plan) where
     abbrev goes : Bool
     goes = anyOf (isVia p held l) (required p)
 
-    pub turn-mem : {m : Link} → List·Memᴰ m (turn p held l) → List·Memᴰ m held
-    unfolding turn
+    pub turn-mem : {m : Link} → List·Memᴰ m (heldAfter p held l) → List·Memᴰ m held
+    unfolding heldAfter
     turn-mem {m} =
-        cond-ind goes others held (λ h. List·Memᴰ m h → List·Memᴰ m held) (λ t h. select-mem (λ m. not (joins (l .tail) (l .head) m)) held h .0) (λ t h. h)
+        cond-ind goes others held (λ h. List·Memᴰ m h → List·Memᴰ m held)
+        (λ t h. select-mem (λ m. not (joins (l .tail) (l .head) m)) held h .0) (λ t h. h)
 
-    pub mem-turn : {m : Link} → List·Memᴰ m held → m ≢ l → List·Memᴰ m (turn p held l)
-    unfolding turn
+    pub mem-turn : {m : Link} → List·Memᴰ m held → m ≢ l → List·Memᴰ m (heldAfter p held l)
+    unfolding heldAfter
     mem-turn {m} h n =
         cond-ind goes others held (List·Memᴰ m)
         (λ t. mem-select (λ m. not (joins (l .tail) (l .head) m)) h (not-T (joins (l .tail) (l .head) m) (λ u. n (joined u))))
         (λ t. h)
 
-    pub turn-gone : T goes → List·Memᴰ l (turn p held l) → ⊥
-    unfolding turn
+    pub turn-gone : T goes → List·Memᴰ l (heldAfter p held l) → ⊥
+    unfolding heldAfter
     turn-gone g =
         cond-ind goes others held (λ h. List·Memᴰ l h → ⊥)
-        (λ t h. T-not (joins (l .tail) (l .head) l) (select-mem (λ m. not (joins (l .tail) (l .head) m)) held h .1) (joins-same {i = l .tail} {j = l .head} {l = l} refl))
+        (λ t h. T-not (joins (l .tail) (l .head) l) (select-mem (λ m. not (joins (l .tail) (l .head) m)) held h .1)
+        (joins-same {i = l .tail} {j = l .head} {l = l} refl))
         (λ t h. T-not goes t g)
 
-    pub turn-stays : T (not goes) → turn p held l ≡ held
-    unfolding turn
+    pub turn-stays : T (not goes) → heldAfter p held l ≡ held
+    unfolding heldAfter
     turn-stays n = cond-ind goes others held (λ h. h ≡ held) (λ t. absurd (T-not goes n t)) (λ t. refl)
 
     -- the turn of a pair that is not held drops none
-    pub turn-none : (List·Memᴰ l held → ⊥) → turn p held l ≡ held
-    unfolding turn
+    pub turn-none : (List·Memᴰ l held → ⊥) → heldAfter p held l ≡ held
+    unfolding heldAfter
     turn-none n =
         cond-ind goes others held (λ h. h ≡ held)
-        (λ t. select-all (λ m. not (joins (l .tail) (l .head) m)) held (λ m h. is-true (not-T (joins (l .tail) (l .head) m) (λ u. n (Memᴰ·cast (sym (joined u)) h)))))
+        (λ t. select-all (λ m. not (joins (l .tail) (l .head) m)) held
+        (λ m h. is-true (not-T (joins (l .tail) (l .head) m) (λ u. n (Memᴰ·cast (sym (joined u)) h)))))
         (λ t. refl)
 
-    turn-select : (f : Link → Bool) × (turn p held l ≡ select f held)
-    unfolding turn
+    turn-select : (f : Link → Bool) × (heldAfter p held l ≡ select f held)
+    unfolding heldAfter
     turn-select =
         cond-ind goes others held (λ h. (f : Link → Bool) × (h ≡ select f held)) (λ t. (λ m. not (joins (l .tail) (l .head) m), refl))
         (λ t. (λ m. true, sym (select-all (λ m. true) held (λ m h. refl))))
 
-    pub turn-proper : AreProper held → AreProper (turn p held l)
+    pub turn-proper : AreProper held → AreProper (heldAfter p held l)
     turn-proper h m n = h m (turn-mem n)
 
     -- a pair that is dropped goes by two others that are held
@@ -162,14 +167,16 @@ module _ (p : Plan) where
 
     -- "for some k, required and other than both"
     pub via-other : AreProper held → {k : ℕ} → Via k → List·Memᴰ k (required p) × (l .tail ≢ k) × (k ≢ l .head)
-    via-other h {k} v = (h (link (l .tail) k) (v .first) .head, h (link (l .tail) k) (v .first) .apart, h (link k (l .head)) (v .second) .apart)
+    via-other h {k} v =
+        (h (link (l .tail) k) (v .first) .head, h (link (l .tail) k) (v .first) .apart, h (link k (l .head)) (v .second) .apart)
 
   -- ---- each pair held is a chain of those held at the end
 
   abbrev pub ChainOf : List Link → ℕ → ℕ → Type 0
   ChainOf held i j = (ls : List Link) × IsChainOf held i ls j × (chainCost p ls ≡ distance p i j)
 
-  both-chains : (held : List Link) (i j k : ℕ) → distance p i j ≡ distance p i k + distance p k j → ChainOf held i k → ChainOf held k j → ChainOf held i j
+  both-chains : (held : List Link) (i j k : ℕ) → distance p i j ≡ distance p i k + distance p k j → ChainOf held i k → ChainOf held k j
+      → ChainOf held i j
   both-chains held i j k e x y =
       let c = chain-cost p (x .0) (y .0) in
       let s = x .2 in
@@ -180,7 +187,8 @@ module _ (p : Plan) where
   Goal end l = ChainOf end (l .tail) (l .head)
 
   -- one turn: a pair that is dropped is a chain of two that stay
-  turn-chain : (held end : List Link) (x : Link) → AreProper held → ((l : Link) → List·Memᴰ l (turn p held x) → Goal end l) → (l : Link) → List·Memᴰ l held → Goal end l
+  turn-chain : (held end : List Link) (x : Link) → AreProper held → ((l : Link) → List·Memᴰ l (heldAfter p held x) → Goal end l)
+      → (l : Link) → List·Memᴰ l held → Goal end l
   turn-chain held end x h rest l m = elim (test (joins (x .tail) (x .head) l)) [
     | inr t ↦ rest l (mem-turn held x m (λ e. T-not (joins (x .tail) (x .head) l) t (joins-same e)))
     | inl t ↦ subst⁻¹ (Goal end) (joined t) (elim (test (anyOf (isVia p held x) (required p))) [
@@ -200,7 +208,7 @@ module _ (p : Plan) where
   unfolding thinned
   held-chain held [] h l m = (l ∷ [], (refl, m, refl), omega arith)
   held-chain held (x ∷ ls) h l m =
-      turn-chain held (thinned p (turn p held x) ls) x h (λ k n. held-chain (turn p held x) ls (turn-proper held x h) k n) l m
+      turn-chain held (thinned p (heldAfter p held x) ls) x h (λ k n. held-chain (heldAfter p held x) ls (turn-proper held x h) k n) l m
 
   -- ---- what is held at the end is a selection of what was held
 
@@ -209,7 +217,7 @@ module _ (p : Plan) where
   thinned-select held [] = (λ m. true, sym (select-all (λ m. true) held (λ m h. refl)))
   thinned-select held (l ∷ ls) =
       let a = turn-select held l in
-      let b = thinned-select (turn p held l) ls in
+      let b = thinned-select (heldAfter p held l) ls in
       (λ m. a .0 m && b .0 m, b .1 ∙ ap (select (b .0)) (a .1) ∙ select-select (b .0) (a .0) held)
 
   pub thinned-proper : (held ls : List Link) → AreProper held → AreProper (thinned p held ls)
@@ -218,14 +226,16 @@ module _ (p : Plan) where
   pub thinned-append : (held ls ms : List Link) → thinned p held (ls ++ ms) ≡ thinned p (thinned p held ls) ms
   unfolding thinned
   thinned-append held [] ms = refl
-  thinned-append held (l ∷ ls) ms = thinned-append (turn p held l) ls ms
+  thinned-append held (l ∷ ls) ms = thinned-append (heldAfter p held l) ls ms
 
   -- pairs that are not held need no turn
-  pub thinned-skip : (f : Link → Bool) (held ls : List Link) → ((l : Link) → List·Memᴰ l held → T (f l)) → thinned p held (select f ls) ≡ thinned p held ls
+  pub thinned-skip : (f : Link → Bool) (held ls : List Link) → ((l : Link) → List·Memᴰ l held → T (f l))
+      → thinned p held (select f ls) ≡ thinned p held ls
   unfolding thinned select
   thinned-skip f held [] h = refl
   thinned-skip f held (l ∷ ls) h =
-      cond-ind (f l) (l ∷ select f ls) (select f ls) (λ ms. thinned p held ms ≡ thinned p (turn p held l) ls) (λ t. thinned-skip f (turn p held l) ls (λ m n. h m (turn-mem held l n)))
+      cond-ind (f l) (l ∷ select f ls) (select f ls) (λ ms. thinned p held ms ≡ thinned p (heldAfter p held l) ls)
+      (λ t. thinned-skip f (heldAfter p held l) ls (λ m n. h m (turn-mem held l n)))
       (λ t. thinned-skip f held ls h ∙ ap (λ (k : List Link). thinned p k ls) (sym (turn-none held l (λ m. T-not (f l) t (h l m)))))
 
   pub links-proper : AreProper (links p)
@@ -241,11 +251,13 @@ module _ (p : Plan) where
   -- the links are the pairs of required vertices that are held at the end, in order
   pub links-select : links p ≡ select (λ l. isHeld (links p) (l .tail) (l .head)) (pairs (required p))
   links-select =
-      subst⁻¹ (λ (ls : List Link). ls ≡ select (λ l. isHeld ls (l .tail) (l .head)) (pairs (required p))) (links-chosen .1) (again (links-chosen .0) (pairs (required p)))
+      subst⁻¹ (λ (ls : List Link). ls ≡ select (λ l. isHeld ls (l .tail) (l .head)) (pairs (required p))) (links-chosen .1)
+      (again (links-chosen .0) (pairs (required p)))
     where
       again : (f : Link → Bool) (xs : List Link) → select f xs ≡ select (λ l. isHeld (select f xs) (l .tail) (l .head)) xs
       again f xs = select-cong f (λ l. isHeld (select f xs) (l .tail) (l .head)) xs (λ x m.
-          same-test (f x) (isHeld (select f xs) (x .tail) (x .head)) (λ t. mem-held (select f xs) (x .tail) (x .head) (mem-select f m t)) (λ t. select-mem f xs (held-mem (select f xs) (x .tail) (x .head) t) .1))
+          same-test (f x) (isHeld (select f xs) (x .tail) (x .head)) (λ t. mem-held (select f xs) (x .tail) (x .head) (mem-select f m t))
+          (λ t. select-mem f xs (held-mem (select f xs) (x .tail) (x .head) t) .1))
 
 -- ---- the law
 

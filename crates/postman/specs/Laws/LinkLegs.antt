@@ -1,4 +1,5 @@
--- Links as legs: what a list of links sends out of a vertex and into it, and what is left of a list without some of its links. By induction on the list.
+-- Links as legs: what a list of links sends out of a vertex and into it, and what is left of a list without
+-- some of its links. By induction on the list.
 use mathlib.Core.Path.{_≡_, refl, sym, ap, _∙_}
 use mathlib.Core.Logic.{inl, inr}
 use mathlib.Core.List.{List, [], _∷_, map, List·Memᴰ, List·Memᴰ·head, List·Memᴰ·tail}
@@ -23,17 +24,20 @@ pub data Without : List Link → List Link → List Link → Type 0 where
   done : {ls : List Link} → Without [] ls ls
   next : {x : Link} {xs ls ms rest : List Link} → Pick x ls ms → Without xs ms rest → Without (x ∷ xs) ls rest
 
-pick-weight : (w : ℕ → ℕ → ℕ) {x : Link} {ls ms : List Link} → Pick x ls ms → weight w (ends ls) ≡ w (x .tail) (x .head) + weight w (ends ms)
+pick-weight : (w : ℕ → ℕ → ℕ) {x : Link} {ls ms : List Link} → Pick x ls ms
+    → weight w (ends ls) ≡ w (x .tail) (x .head) + weight w (ends ms)
 unfolding weight ends
 pick-weight w (here {xs = xs} e) = ap (λ (z : Link). w (z .tail) (z .head) + weight w (ends xs)) (sym e)
 pick-weight w (there q) = let h = pick-weight w q in omega arith
 
-pub without-weight : (w : ℕ → ℕ → ℕ) {xs ls rest : List Link} → Without xs ls rest → weight w (ends ls) ≡ weight w (ends xs) + weight w (ends rest)
+pub without-weight : (w : ℕ → ℕ → ℕ) {xs ls rest : List Link} → Without xs ls rest
+    → weight w (ends ls) ≡ weight w (ends xs) + weight w (ends rest)
 unfolding weight ends
 without-weight w done = omega arith
 without-weight w (next q s) = let h = without-weight w s in let k = pick-weight w q in omega arith
 
-pub extract : (f : ℕ → Link) (part : ℕ → ℕ) (qs : List ℕ) (ls : List Link) → ((q : ℕ) → List·Memᴰ q qs → List·Memᴰ (f q) ls × (part (f q .head) ≡ q)) → ((q : ℕ) → occurrences q qs ≤ 1)
+pub extract : (f : ℕ → Link) (part : ℕ → ℕ) (qs : List ℕ) (ls : List Link)
+    → ((q : ℕ) → List·Memᴰ q qs → List·Memᴰ (f q) ls × (part (f q .head) ≡ q)) → ((q : ℕ) → occurrences q qs ≤ 1)
     → (rest : List Link) × Without (map f qs) ls rest
 extract f part [] ls h o = (ls, done)
 extract f part (q ∷ qs) ls h o =

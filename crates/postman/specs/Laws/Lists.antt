@@ -34,14 +34,16 @@ module _ {A B : Type 0} where
   anyOf-map f g (x ∷ xs) = ap (λ b. f (g x) || b) (anyOf-map f g xs)
 
   -- what passes f after a map is the map of what passes the composed test
-  pub select-map : (f : B → Bool) (f′ : A → Bool) (g : A → B) (xs : List A) → ((x : A) → List·Memᴰ x xs → f (g x) ≡ f′ x) → select f (map g xs) ≡ map g (select f′ xs)
+  pub select-map : (f : B → Bool) (f′ : A → Bool) (g : A → B) (xs : List A) → ((x : A) → List·Memᴰ x xs → f (g x) ≡ f′ x)
+      → select f (map g xs) ≡ map g (select f′ xs)
   unfolding select
   select-map f f′ g [] h = refl
   select-map f f′ g (x ∷ xs) h =
       let r = select-map f f′ g xs (λ y m. h y (List·Memᴰ·tail m)) in
       ap (λ b. cond b (g x ∷ select f (map g xs)) (select f (map g xs))) (h x (List·Memᴰ·head refl)) ∙ picked (f′ x) r
     where
-      picked : (b : Bool) → select f (map g xs) ≡ map g (select f′ xs) → cond b (g x ∷ select f (map g xs)) (select f (map g xs)) ≡ map g (cond b (x ∷ select f′ xs) (select f′ xs))
+      picked : (b : Bool) → select f (map g xs) ≡ map g (select f′ xs)
+          → cond b (g x ∷ select f (map g xs)) (select f (map g xs)) ≡ map g (cond b (x ∷ select f′ xs) (select f′ xs))
       picked Bool.true r = ap (λ (l : List B). g x ∷ l) r
       picked Bool.false r = r
 
@@ -68,14 +70,16 @@ places-after d us [] = refl
 places-after {A} d us (x ∷ xs) =
     let n : length (us ++ x ∷ []) ≡ suc (length us) = (let e = length-append us (x ∷ []) in omega arith) in
     ap₂ _∷_ (getD-append-seam us x xs d)
-    (ap₂ (λ (l : List A) (k : ℕ). map (λ i. getD l i d) (upFrom k (length xs))) (sym (append-assoc us (x ∷ []) xs)) (sym n) ∙ places-after d (us ++ x ∷ []) xs)
+    (ap₂ (λ (l : List A) (k : ℕ). map (λ i. getD l i d) (upFrom k (length xs))) (sym (append-assoc us (x ∷ []) xs)) (sym n)
+    ∙ places-after d (us ++ x ∷ []) xs)
 
 pub by-place : {A : Type 0} (d : A) (xs : List A) → map (λ i. getD xs i d) (below (length xs)) ≡ xs
 unfolding below
 by-place d xs = places-after d [] xs
 
 -- an array filled from the start, by one place more
-pub filled-more : {A : Type 0} (d : A) (g : ℕ → A) (l : List A) (n : ℕ) (v : A) → n < length l → ((m : ℕ) → m < n → getD l m d ≡ g m) → v ≡ g n
+pub filled-more : {A : Type 0} (d : A) (g : ℕ → A) (l : List A) (n : ℕ) (v : A) → n < length l → ((m : ℕ) → m < n → getD l m d ≡ g m)
+    → v ≡ g n
     → (m : ℕ) → m < n + 1 → getD (set l n v) m d ≡ g m
 filled-more d g l n v b h e m r = elim (ℕ-discrete m n) [
   | yes s ↦ ap (λ x. getD (set l n v) x d) s ∙ getD-set-same l n v d b ∙ e ∙ ap g (sym s)

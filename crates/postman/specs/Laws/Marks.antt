@@ -1,5 +1,6 @@
--- The plan of a car. It has the arcs of the plan that it is made from, with the same ends and costs, and the same arcs may be driven: so it is well formed, and its distances are
--- those of the plan, whatever the marks are. By the plan's own marks, where just its must arcs have checking costs, it is the plan itself, and the car's refusal is the plan call's.
+-- The plan of a car. It has the arcs of the plan that it is made from, with the same ends and costs, and the same arcs may be driven: so it
+-- is well formed, and its distances are those of the plan, whatever the marks are. By the plan's own marks, where just its must arcs have
+-- checking costs, it is the plan itself, and the car's refusal is the plan call's.
 use mathlib.Core.Path.{_≡_, refl, sym, ap, fun-ext, _∙_, subst, subst⁻¹}
 use mathlib.Core.Logic.{inl, inr}
 use mathlib.Core.Bool.{Bool, true, false, not, cond, _&&_, _||_}
@@ -44,7 +45,8 @@ module _ (mark : ℕ) (a : Arc) where
   service-small : a .cost ≤ 65535 → a .service ≤ 65535 → markedService mark a ≤ 65535
   unfolding markedService
   service-small c s =
-      cond-ind (eqb mark 1) _ 0 (λ x. x ≤ 65535) (λ t. cond-ind (eqb (a .service) 0) (a .cost) (a .service) (λ x. x ≤ 65535) (λ t. c) (λ t. s)) (λ t. omega arith)
+      cond-ind (eqb mark 1) _ 0 (λ x. x ≤ 65535)
+      (λ t. cond-ind (eqb (a .service) 0) (a .cost) (a .service) (λ x. x ≤ 65535) (λ t. c) (λ t. s)) (λ t. omega arith)
 
   pub marked-arc : (n : ℕ) → IsArc n a → IsArc n (marked mark a)
   unfolding marked
@@ -54,7 +56,9 @@ module _ (mark : ℕ) (a : Arc) where
     standing-in = cond-ind (isOpen a) (cond (eqb mark 1) 1 0) (a .standing) (λ s. s ≤ 2)
         (λ t. cond-ind (eqb mark 1) 1 0 (λ s. s ≤ 2) (λ t. omega arith) (λ t. omega arith)) (λ t. h .standing-in);
     cost-in = h .cost-in;
-    service-in = cond-ind (isOpen a) (markedService mark a) (a .service) (λ s. s ≤ 65535) (λ t. service-small (h .cost-in) (h .service-in)) (λ t. h .service-in);
+    service-in =
+        cond-ind (isOpen a) (markedService mark a) (a .service) (λ s. s ≤ 65535) (λ t. service-small (h .cost-in) (h .service-in))
+        (λ t. h .service-in);
   }
 
 -- ---- the plan
@@ -161,14 +165,16 @@ module _ (p : Plan) where
 
   none-bad : T (not (hasBadMark p (ownMarks p)))
   unfolding hasBadMark
-  none-bad = not-T (hasBadMark p (ownMarks p)) (λ t. elim (or-cases (not (eqb (length (ownMarks p)) (length (p .arcs)))) (anyOf bad (below (length (p .arcs)))) t) [
-    | inl u ↦ eqb-other u own-length
-    | inr u ↦
-        let r = anyOf-at bad (below (length (p .arcs))) u in
-        let l = below-mem (r .1) in
-        let g : isBadMark (getD (ownMarks p) (r .0) 0) (arcAt (p .arcs) (r .0)) ≡ false = rw (own-at (r .0) l) (good-arc (arcAt (p .arcs) (r .0))) in
-        subst T g (r .2)
-  ])
+  none-bad = not-T (hasBadMark p (ownMarks p))
+      (λ t. elim (or-cases (not (eqb (length (ownMarks p)) (length (p .arcs)))) (anyOf bad (below (length (p .arcs)))) t) [
+        | inl u ↦ eqb-other u own-length
+        | inr u ↦
+            let r = anyOf-at bad (below (length (p .arcs))) u in
+            let l = below-mem (r .1) in
+            let g : isBadMark (getD (ownMarks p) (r .0) 0) (arcAt (p .arcs) (r .0)) ≡ false =
+            rw (own-at (r .0) l) (good-arc (arcAt (p .arcs) (r .0))) in
+            subst T g (r .2)
+      ])
 
   module _ (priced : (a : Arc) → List·Memᴰ a (p .arcs) → IsPriced a) where
     pub own-plan : carPlan p (ownMarks p) ≡ p
@@ -179,7 +185,8 @@ module _ (p : Plan) where
         arcs-same =
             ext-getD (arcAt [] 0) (carPlan p (ownMarks p) .arcs) (p .arcs) (car-length p (ownMarks p)) (λ k l.
             let m : k < length (p .arcs) = (let e = car-length p (ownMarks p) in omega arith) in
-            car-arc p (ownMarks p) k m ∙ rw (own-at k m) (same-arc (arcAt (p .arcs) k) (priced (arcAt (p .arcs) k) (getD-mem (p .arcs) _ k m))))
+            car-arc p (ownMarks p) k m
+            ∙ rw (own-at k m) (same-arc (arcAt (p .arcs) k) (priced (arcAt (p .arcs) k) (getD-mem (p .arcs) _ k m))))
 
 -- ---- the call
 
@@ -209,7 +216,8 @@ module _ (bytes : List ℕ) (budget places : ℕ) (marks : List ℕ) where
   abbrev own : Conditions
   own = markConditions (planOf bytes) marks
 
-  pub car-conditions : carRefusal bytes budget places marks ≡ firstRefusal (earlierConditionsFor bytes budget places marks ++ (isCutOff car, 12) ∷ [])
+  pub car-conditions : carRefusal bytes budget places marks
+      ≡ firstRefusal (earlierConditionsFor bytes budget places marks ++ (isCutOff car, 12) ∷ [])
   unfolding carRefusal
   car-conditions = refl
 
@@ -221,7 +229,11 @@ module _ (bytes : List ℕ) (budget places : ℕ) (marks : List ℕ) where
   unfolding earlierConditionsFor
   earlier-accepted-for e =
       let b = before-accepted bytes budget places own car e in
-      record { before = b; well-formed = car-well-formed (planOf bytes) marks (file-accepted bytes (b .file)); good = marks-accepted (planOf bytes) marks (b .own-accepted) }
+      record {
+        before = b;
+        well-formed = car-well-formed (planOf bytes) marks (file-accepted bytes (b .file));
+        good = marks-accepted (planOf bytes) marks (b .own-accepted);
+      }
 
   -- the order, from the file on
   pub car-order : carRefusal bytes budget places marks
@@ -234,7 +246,10 @@ module _ (bytes : List ℕ) (read : firstRefusal (fileConditions bytes) ≡ none
   file-priced : (a : Arc) → List·Memᴰ a (planOf bytes .arcs) → IsPriced a
   file-priced a m =
       let t = file-arcs bytes read a m .priced in
-      record { required-priced = required-priced (edition bytes) (planOf bytes .n) a t; others-not = others-unpriced (edition bytes) (planOf bytes .n) a t }
+      record {
+        required-priced = required-priced (edition bytes) (planOf bytes .n) a t;
+        others-not = others-unpriced (edition bytes) (planOf bytes .n) a t;
+      }
 
   pub own-file-plan : carPlan (planOf bytes) (ownMarks (planOf bytes)) ≡ planOf bytes
   own-file-plan = own-plan (planOf bytes) file-priced

@@ -16,7 +16,8 @@ module _ {A : Type 0} where
   pub mem-select : (p : A → Bool) {x : A} {xs : List A} → List·Memᴰ x xs → T (p x) → List·Memᴰ x (select p xs)
   unfolding select
   mem-select p {x} (List·Memᴰ·head {x = y} {xs = ys} e) t =
-      cond-ind (p y) (y ∷ select p ys) (select p ys) (List·Memᴰ x) (λ u. List·Memᴰ·head e) (λ u. absurd (T-not (p y) u (subst (λ z. T (p z)) e t)))
+      cond-ind (p y) (y ∷ select p ys) (select p ys) (List·Memᴰ x) (λ u. List·Memᴰ·head e)
+      (λ u. absurd (T-not (p y) u (subst (λ z. T (p z)) e t)))
   mem-select p {x} (List·Memᴰ·tail {x = y} {xs = ys} m) t =
       let r = mem-select p m t in
       cond-ind (p y) (y ∷ select p ys) (select p ys) (List·Memᴰ x) (λ u. List·Memᴰ·tail r) (λ u. r)
@@ -108,7 +109,12 @@ getD-map-in f (x ∷ xs) (suc k) d l = getD-map-in f xs k d (omega arith)
 pub upFrom-mem : (a n : ℕ) {k : ℕ} → List·Memᴰ k (upFrom a n) → (a ≤ k) × (k < a + n)
 unfolding upFrom
 upFrom-mem a zero m = elim m [ ]
-upFrom-mem a (suc n) m = elim (List·Memᴰ·cases-cons m) [ inl e ↦ (omega arith, omega arith) | inr m′ ↦ let h = upFrom-mem (suc a) n m′ in (omega arith, omega arith) ]
+upFrom-mem a (suc n) m =
+    elim (List·Memᴰ·cases-cons m) [
+      | inl e ↦ (omega arith, omega arith)
+      | inr m′ ↦ let h = upFrom-mem (suc a) n m′ in
+          (omega arith, omega arith)
+    ]
 
 pub mem-upFrom : (a n : ℕ) {k : ℕ} → a ≤ k → k < a + n → List·Memᴰ k (upFrom a n)
 unfolding upFrom
@@ -143,15 +149,18 @@ length-below n = length-upFrom 0 n
 
 -- ---- one element of each list
 
-pub mem-choices : {A : Type 0} (d : A) (g : ℕ → List A) (a n : ℕ) (xs : List A) → length xs ≡ n → ((i : ℕ) → i < n → List·Memᴰ (getD xs i d) (g (a + i)))
+pub mem-choices : {A : Type 0} (d : A) (g : ℕ → List A) (a n : ℕ) (xs : List A) → length xs ≡ n
+    → ((i : ℕ) → i < n → List·Memᴰ (getD xs i d) (g (a + i)))
     → List·Memᴰ xs (choices (map g (upFrom a n)))
 unfolding choices upFrom
 mem-choices d g a zero [] l h = List·Memᴰ·head refl
 mem-choices d g a zero (x ∷ xs) l h = absurd (omega arith)
 mem-choices d g a (suc n) [] l h = absurd (omega arith)
 mem-choices d g a (suc n) (x ∷ xs) l h =
-    let r = mem-choices d g (suc a) n xs (omega arith) (λ i k. subst (λ z. List·Memᴰ (getD xs i d) (g z)) (add-suc a i ∙ sym (suc-add a i)) (h (suc i) (omega arith))) in
-    mem-flatMap (λ y. map (λ ys. y ∷ ys) (choices (map g (upFrom (suc a) n)))) (subst (λ z. List·Memᴰ x (g z)) (add-zero a) (h 0 (omega arith))) (mem-map (λ ys. x ∷ ys) r)
+    let r = mem-choices d g (suc a) n xs (omega arith)
+    (λ i k. subst (λ z. List·Memᴰ (getD xs i d) (g z)) (add-suc a i ∙ sym (suc-add a i)) (h (suc i) (omega arith))) in
+    mem-flatMap (λ y. map (λ ys. y ∷ ys) (choices (map g (upFrom (suc a) n))))
+    (subst (λ z. List·Memᴰ x (g z)) (add-zero a) (h 0 (omega arith))) (mem-map (λ ys. x ∷ ys) r)
 
 pub choices-mem : {A : Type 0} (d : A) (g : ℕ → List A) (a n : ℕ) {xs : List A} → List·Memᴰ xs (choices (map g (upFrom a n)))
     → (length xs ≡ n) × ((i : ℕ) → i < n → List·Memᴰ (getD xs i d) (g (a + i)))
@@ -165,6 +174,7 @@ choices-mem {A} d g a (suc n) m =
     subst⁻¹ (λ (zs : List A). (length zs ≡ suc n) × ((i : ℕ) → i < suc n → List·Memᴰ (getD zs i d) (g (a + i)))) (s .2)
     (ap suc (t .0), at (r .0) (s .0) (r .1) (t .1))
   where
-    at : (x : A) (xs : List A) → List·Memᴰ x (g a) → ((i : ℕ) → i < n → List·Memᴰ (getD xs i d) (g (suc a + i))) → (i : ℕ) → i < suc n → List·Memᴰ (getD (x ∷ xs) i d) (g (a + i))
+    at : (x : A) (xs : List A) → List·Memᴰ x (g a) → ((i : ℕ) → i < n → List·Memᴰ (getD xs i d) (g (suc a + i))) → (i : ℕ) → i < suc n
+        → List·Memᴰ (getD (x ∷ xs) i d) (g (a + i))
     at x xs h k zero l = subst⁻¹ (λ z. List·Memᴰ x (g z)) (add-zero a) h
     at x xs h k (suc i) l = subst (λ z. List·Memᴰ (getD xs i d) (g z)) (suc-add a i ∙ sym (add-suc a i)) (k i (omega arith))

@@ -55,7 +55,12 @@ occurrences-of-mem (List·Memᴰ·head e) = let s = delta-yes e in omega arith
 occurrences-of-mem (List·Memᴰ·tail m) = let h = occurrences-of-mem m in omega arith
 
 pub mem? : (x : ℕ) (xs : List ℕ) → List·Memᴰ x xs ⊎ (List·Memᴰ x xs → ⊥)
-mem? x xs = elim (decLe 1 (occurrences x xs)) [ yes h ↦ inl (mem-of-occurrences x xs h) | no h ↦ inr (λ m. (let k = occurrences-of-mem m in omega arith)) ]
+mem? x xs = elim
+    (decLe 1 (occurrences x xs)) [
+      | yes h ↦ inl (mem-of-occurrences x xs h)
+      | no h ↦
+          inr (λ m. (let k = occurrences-of-mem m in omega arith))
+    ]
 
 pub occurrences-append : (i : ℕ) (xs ys : List ℕ) → occurrences i (xs ++ ys) ≡ occurrences i xs + occurrences i ys
 unfolding occurrences
@@ -67,7 +72,8 @@ unfolding select occurrences
 occurrences-select i f [] = zero-le
 occurrences-select i f (x ∷ xs) =
     let h = occurrences-select i f xs in
-    cond-ind (f x) (x ∷ select f xs) (select f xs) (λ l. occurrences i l ≤ delta i x + occurrences i xs) (λ t. omega arith) (λ t. omega arith)
+    cond-ind (f x) (x ∷ select f xs) (select f xs) (λ l. occurrences i l ≤ delta i x + occurrences i xs) (λ t. omega arith)
+    (λ t. omega arith)
 
 occurrences-upFrom-none : (i a n : ℕ) → i < a → occurrences i (upFrom a n) ≡ 0
 unfolding upFrom occurrences delta
@@ -88,7 +94,8 @@ occurrences-upFrom i a (suc n) = elim (decLe (suc a) i) [
 
 -- ---- of a list, mapped, without one of its elements; and in another order
 
-pub occurrences-map-pick : {A : Type 0} (i : ℕ) (f : A → ℕ) {x : A} {xs ys : List A} → Pick x xs ys → occurrences i (map f xs) ≡ delta i (f x) + occurrences i (map f ys)
+pub occurrences-map-pick : {A : Type 0} (i : ℕ) (f : A → ℕ) {x : A} {xs ys : List A} → Pick x xs ys
+    → occurrences i (map f xs) ≡ delta i (f x) + occurrences i (map f ys)
 unfolding occurrences
 occurrences-map-pick i f (here e) = let h = ap (λ z. delta i (f z)) e in omega arith
 occurrences-map-pick i f (there q) = let h = occurrences-map-pick i f q in omega arith
@@ -98,7 +105,8 @@ unfolding occurrences
 occurrences-pick i (here e) = let f = ap (delta i) e in omega arith
 occurrences-pick i (there p) = let h = occurrences-pick i p in omega arith
 
-pub occurrences-map-permutation : {A : Type 0} (i : ℕ) (f : A → ℕ) {xs ys : List A} → Permutation xs ys → occurrences i (map f xs) ≡ occurrences i (map f ys)
+pub occurrences-map-permutation : {A : Type 0} (i : ℕ) (f : A → ℕ) {xs ys : List A} → Permutation xs ys
+    → occurrences i (map f xs) ≡ occurrences i (map f ys)
 unfolding occurrences
 occurrences-map-permutation i f none = refl
 occurrences-map-permutation i f (more q s) = let h = occurrences-map-permutation i f s in let k = occurrences-map-pick i f q in omega arith

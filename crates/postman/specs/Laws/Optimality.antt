@@ -1,5 +1,5 @@
--- The lower bound is below every tour. For any tour there is an arborescence whose completion costs no more; the cost is the least over arborescences where all
--- are tried, and L(u) is at most the completion cost of each.
+-- The lower bound is below every tour. For any tour there is an arborescence whose completion costs no more; the cost is the least over
+-- arborescences where all are tried, and L(u) is at most the completion cost of each.
 use mathlib.Core.Path.{_≡_, refl, sym, ap, subst, subst⁻¹}
 use mathlib.Core.Bool.{Bool, true, false, not, cond}
 use mathlib.Core.Logic.{inl, inr}
@@ -46,12 +46,14 @@ module _ (p : Plan) (budget : ℕ) where
   best-le m = minimum-le (mem-map (completionCost p) m)
 
   -- and is that of one of them
-  best-at : 1 ≤ budget → 0 < arborescenceCount p → (t : List Link) × List·Memᴰ t (take (triedCount p budget) (arborescences p)) × (bestCost p budget ≡ completionCost p t)
+  best-at : 1 ≤ budget → 0 < arborescenceCount p
+      → (t : List Link) × List·Memᴰ t (take (triedCount p budget) (arborescences p)) × (bestCost p budget ≡ completionCost p t)
   unfolding bestCost triedCount arborescenceCount
   best-at l h =
       let n = length-take (triedCount p budget) (arborescences p) in
       let m = length-map (take (triedCount p budget) (arborescences p)) (completionCost p) in
-      map-mem (completionCost p) (take (triedCount p budget) (arborescences p)) (minimum-at (map (completionCost p) (take (triedCount p budget) (arborescences p))) (omega arith))
+      map-mem (completionCost p) (take (triedCount p budget) (arborescences p))
+      (minimum-at (map (completionCost p) (take (triedCount p budget) (arborescences p))) (omega arith))
 
   whole-all : T (isWhole p budget) → take (triedCount p budget) (arborescences p) ≡ arborescences p
   unfolding isWhole triedCount arborescenceCount
@@ -131,7 +133,8 @@ module _ (p : Plan) (ok : Plannable p) where
     larger-cost =
         let r = best-at p b some some-arborescence in
         let n = arborescenceCount p in
-        let m = subst (λ (ts : List (List Link)). List·Memᴰ (r .0) ts) (sym (take-take (min b n) (min c n) (arborescences p) (omega arith))) (r .1) in
+        let m = subst (λ (ts : List (List Link)). List·Memᴰ (r .0) ts)
+        (sym (take-take (min b n) (min c n) (arborescences p) (omega arith))) (r .1) in
         let g = best-le p c (take-mem (min b n) (take (min c n) (arborescences p)) m) in
         let e = r .2 in
         omega arith
@@ -159,5 +162,6 @@ module _ (p : Plan) (ok : Plannable p) where
         (λ s. (let e = whole-cost t in omega (arith, z)))
         (λ s. absurd (T-not (isWhole p c) s (whole-stays t))))
         (λ t. cond-ind (isWhole p c) (pos (bestCost p c)) (maxℤ L0 Lu) (λ x. maxℤ L0 Lu ≤ℤ x)
-        (λ s. max-least L0 Lu (pos (bestCost p c)) (bound-best (λ i. pos 0) (zero-feasible p) c (omega arith)) (bound-best u (h .feasible) c (omega arith)))
+        (λ s. max-least L0 Lu (pos (bestCost p c)) (bound-best (λ i. pos 0) (zero-feasible p) c (omega arith))
+        (bound-best u (h .feasible) c (omega arith)))
         (λ s. ≤ℤ-refl (maxℤ L0 Lu)))

@@ -1,4 +1,5 @@
--- An element with the list that is left without it, and lists that hold the same elements in another order. By induction on the place of the element.
+-- An element with the list that is left without it, and lists that hold the same elements in another
+-- order. By induction on the place of the element.
 use mathlib.Core.Path.{_≡_, refl, sym, ap, _∙_, subst⁻¹}
 use mathlib.Core.Logic.{_⊎_, inl, inr}
 use mathlib.Core.List.{List, [], _∷_, List·Memᴰ, List·Memᴰ·head, List·Memᴰ·tail, List·Memᴰ·cases-cons}
@@ -50,7 +51,8 @@ module _ {A : Type 0} where
   permutation-mem (more q s) m = elim (pick-cases q m) [ inl e ↦ List·Memᴰ·head e | inr n ↦ List·Memᴰ·tail (permutation-mem s n) ]
 
 -- values that differ are at most as many as they may be
-pub differ-le : (f : ℕ → ℕ) (k : ℕ) (ys : List ℕ) → ((q : ℕ) → q < k → List·Memᴰ (f q) ys) → ((q r : ℕ) → q < k → r < k → f q ≡ f r → q ≡ r) → k ≤ length ys
+pub differ-le : (f : ℕ → ℕ) (k : ℕ) (ys : List ℕ) → ((q : ℕ) → q < k → List·Memᴰ (f q) ys)
+    → ((q r : ℕ) → q < k → r < k → f q ≡ f r → q ≡ r) → k ≤ length ys
 differ-le f zero ys m d = omega arith
 differ-le f (suc k) ys m d =
     let r = pick-of-mem (m k (omega arith)) in

@@ -1,5 +1,6 @@
--- Writing and reading undo each other. The bits of a written file are the plan's bits, and zeros; each field is read from the place where its bits were put.
--- The other way round, the bits of a field that was read are the bits that it was read from, so the plan's bits are the file's.
+-- Writing and reading undo each other. The bits of a written file are the plan's bits, and zeros; each field is read
+-- from the place where its bits were put. The other way round, the bits of a field that was read are the bits that it
+-- was read from, so the plan's bits are the file's.
 use mathlib.Core.Path.{_≡_, refl, sym, ap, _∙_}
 use mathlib.Core.Logic.{inl, inr}
 use mathlib.Core.Bool.{Bool, true, false, not, cond}
@@ -33,7 +34,8 @@ arc-of : (bytes : List ℕ) (e k : ℕ) → arcOf bytes e k
       head = fieldAt bytes (fileBits e k + 6) 6;
       standing = fieldAt bytes (fileBits e k + 12) 2;
       cost = fieldAt bytes (fileBits e k + 14) 16;
-      service = cond (isSecond e) (fieldAt bytes (fileBits e k + 30) 16) (impliedService (fieldAt bytes (fileBits e k + 12) 2) (fieldAt bytes (fileBits e k + 14) 16));
+      service = cond (isSecond e) (fieldAt bytes (fileBits e k + 30) 16)
+          (impliedService (fieldAt bytes (fileBits e k + 12) 2) (fieldAt bytes (fileBits e k + 14) 16));
     }
 unfolding arcOf arcFrom
 arc-of bytes e k = refl
@@ -49,7 +51,8 @@ arc-bits : (e : ℕ) (a : Arc) → arcBits e a ≡ core a ++ serviceBits e a
 unfolding arcBits
 arc-bits e a = refl
 
-plan-bits : (e : ℕ) (p : Plan) → planBits e p ≡ bitsOf 4 e ++ bitsOf 7 (p .n) ++ bitsOf 9 (length (p .arcs)) ++ flatMap (arcBits e) (p .arcs)
+plan-bits : (e : ℕ) (p : Plan)
+    → planBits e p ≡ bitsOf 4 e ++ bitsOf 7 (p .n) ++ bitsOf 9 (length (p .arcs)) ++ flatMap (arcBits e) (p .arcs)
 unfolding planBits
 plan-bits e p = refl
 
@@ -61,13 +64,15 @@ fill-bits : (bytes : List ℕ) (e m : ℕ) → fillBits bytes e m ≡ fieldAt by
 unfolding fillBits
 fill-bits bytes e m = refl
 
-arc-path : {a b : Arc} → a .tail ≡ b .tail → a .head ≡ b .head → a .standing ≡ b .standing → a .cost ≡ b .cost → a .service ≡ b .service → a ≡ b
+arc-path : {a b : Arc} → a .tail ≡ b .tail → a .head ≡ b .head → a .standing ≡ b .standing → a .cost ≡ b .cost → a .service ≡ b .service
+    → a ≡ b
 arc-path t h s c v = λ i. record { tail = t i; head = h i; standing = s i; cost = c i; service = v i }
 
 -- an edition is a number of four bits
 edition-lt : (e : ℕ) → T (isEdition e) → e < 16
 unfolding isEdition
-edition-lt e t = elim (or-cases (eqb e 1) (eqb e 2) t) [ inl u ↦ (let q = eqb→eq e 1 u in omega arith) | inr u ↦ (let q = eqb→eq e 2 u in omega arith) ]
+edition-lt e t =
+    elim (or-cases (eqb e 1) (eqb e 2) t) [ inl u ↦ (let q = eqb→eq e 1 u in omega arith) | inr u ↦ (let q = eqb→eq e 2 u in omega arith) ]
 
 -- ---- lengths
 
@@ -76,7 +81,8 @@ unfolding fileOf
 length-fileOf e p = length-map-below _ (fileLength e (length (p .arcs)))
 
 -- byte k of the file
-pub file-byte : (e : ℕ) (p : Plan) (k : ℕ) → k < fileLength e (length (p .arcs)) → getD (fileOf e p) k 0 ≡ number (bitIn (planBits e p)) (8 * k) 8
+pub file-byte : (e : ℕ) (p : Plan) (k : ℕ) → k < fileLength e (length (p .arcs))
+    → getD (fileOf e p) k 0 ≡ number (bitIn (planBits e p)) (8 * k) 8
 unfolding fileOf
 file-byte e p k l = getD-map-below (λ q. number (bitIn (planBits e p)) (8 * q) 8) (fileLength e (length (p .arcs))) k 0 l
 
@@ -130,11 +136,13 @@ module _ (e : ℕ) where
   -- ---- every bit is 0 or 1
 
   service-lt : (a : Arc) (k : ℕ) → bitIn (serviceBits e a) k < 2
-  service-lt a k = cond-ind (isSecond e) (bitsOf 16 (a .service)) [] (λ (l : List ℕ). bitIn l k < 2) (λ t. bitsOf-lt 16 (a .service) k) (λ t. lit< tt)
+  service-lt a k =
+      cond-ind (isSecond e) (bitsOf 16 (a .service)) [] (λ (l : List ℕ). bitIn l k < 2) (λ t. bitsOf-lt 16 (a .service) k) (λ t. lit< tt)
 
   arc-bits-lt : (a : Arc) (k : ℕ) → bitIn (arcBits e a) k < 2
   arc-bits-lt a =
-      rw arc-bits (append-lt (core a) (serviceBits e a) (three-lt 6 6 2 (a .tail) (a .head) (a .standing) (bitsOf 16 (a .cost)) (bitsOf-lt 16 (a .cost))) (service-lt a))
+      rw arc-bits (append-lt (core a) (serviceBits e a)
+      (three-lt 6 6 2 (a .tail) (a .head) (a .standing) (bitsOf 16 (a .cost)) (bitsOf-lt 16 (a .cost))) (service-lt a))
 
   arcs-lt : (arcs : List Arc) (k : ℕ) → bitIn (flatMap (arcBits e) arcs) k < 2
   unfolding flatMap
@@ -167,7 +175,8 @@ module _ (e : ℕ) where
       count-bits : number (bitIn (planBits e p)) 11 9 ≡ m
       count-bits = let h = w .arc-count in rw plan-bits (read-third 4 7 9 e (p .n) m _ (omega arith))
 
-    arc-place : (k i s : ℕ) → k < m → i + s ≤ arcWidth e → number (bitIn (planBits e p)) (fileBits e k + i) s ≡ number (bitIn (arcBits e (arcAt (p .arcs) k))) i s
+    arc-place : (k i s : ℕ) → k < m → i + s ≤ arcWidth e
+        → number (bitIn (planBits e p)) (fileBits e k + i) s ≡ number (bitIn (arcBits e (arcAt (p .arcs) k))) i s
     arc-place k i s l h =
         let c = bits-least e k in
         let g : fileBits e k + i ≡ 20 + (before k + i) = omega arith in
@@ -185,13 +194,15 @@ module _ (e : ℕ) where
     head-bits = let l = h .head-in in core-bits 6 6 (omega arith) ∙ read-second 6 6 2 (a .tail) (a .head) (a .standing) _ (omega arith)
 
     standing-bits : number (bitIn (arcBits e a)) 12 2 ≡ a .standing
-    standing-bits = let l = h .standing-in in core-bits 12 2 (omega arith) ∙ read-third 6 6 2 (a .tail) (a .head) (a .standing) _ (omega arith)
+    standing-bits = let l = h .standing-in in
+        core-bits 12 2 (omega arith) ∙ read-third 6 6 2 (a .tail) (a .head) (a .standing) _ (omega arith)
 
     cost-bits : number (bitIn (arcBits e a)) 14 16 ≡ a .cost
     cost-bits =
         let l = h .cost-in in
         core-bits 14 16 (omega arith)
-        ∙ read-last (three 6 6 2 (a .tail) (a .head) (a .standing)) 16 (a .cost) (length-three 6 6 2 (a .tail) (a .head) (a .standing)) (omega arith)
+        ∙ read-last (three 6 6 2 (a .tail) (a .head) (a .standing)) 16 (a .cost) (length-three 6 6 2 (a .tail) (a .head) (a .standing))
+        (omega arith)
 
     service-bits : isSecond e ≡ true → number (bitIn (arcBits e a)) 30 16 ≡ a .service
     service-bits q = let l = h .service-in in rw (arc-bits, q) (read-last (core a) 16 (a .service) (length-core a) (omega arith))
@@ -239,8 +250,10 @@ module _ (e : ℕ) (p : Plan) where
         let standing = place 12 2 (omega arith) ∙ standing-bits e a h few in
         let cost = place 14 16 (omega arith) ∙ cost-bits e a h few in
         rw arc-of
-        (arc-path ((rw add-zero at (place 0 6 (omega arith))) ∙ tail-bits e a h few) (place 6 6 (omega arith) ∙ head-bits e a h few) standing cost
-        (rw (standing, cost) (service-same a h priced (isSecond e) refl (fileBits e k + 30) (λ q. place 30 16 (rw (second-width e q) (omega arith))))))
+        (arc-path ((rw add-zero at (place 0 6 (omega arith))) ∙ tail-bits e a h few)
+        (place 6 6 (omega arith) ∙ head-bits e a h few) standing cost
+        (rw (standing, cost)
+        (service-same a h priced (isSecond e) refl (fileBits e k + 30) (λ q. place 30 16 (rw (second-width e q) (omega arith))))))
 
     vertices-same : vertexCount (fileOf e p) ≡ p .n
     unfolding vertexCount
@@ -256,7 +269,8 @@ module _ (e : ℕ) (p : Plan) where
         let h = length-planBits e p in
         rw fill-bits
         (file-field (fileBits e m) (8 * fileLength e m - fileBits e m)
-        ∙ zero-number (bitIn (planBits e p)) (fileBits e m) (8 * fileLength e m - fileBits e m) (λ j g. List·getD-eq-default (planBits e p) 0 (omega arith)))
+        ∙ zero-number (bitIn (planBits e p)) (fileBits e m) (8 * fileLength e m - fileBits e m)
+        (λ j g. List·getD-eq-default (planBits e p) 0 (omega arith)))
 
     module _ (t : T (isEdition e)) (accepted : firstRefusal (planConditions e p) ≡ none) where
       arcs-same : map (arcOf (fileOf e p) (edition (fileOf e p))) (below (arcCount (fileOf e p))) ≡ p .arcs
@@ -264,7 +278,8 @@ module _ (e : ℕ) (p : Plan) where
           let m = length (p .arcs) in
           let h = length-map-below (arcOf (fileOf e p) e) m in
           rw (edition-same t, count-same)
-          (ext-getD (arcAt [] 0) (map (arcOf (fileOf e p) e) (below m)) (p .arcs) h (λ k l. getD-map-below (arcOf (fileOf e p) e) m k _ (omega arith) ∙ arc-same accepted k (omega arith)))
+          (ext-getD (arcAt [] 0) (map (arcOf (fileOf e p) e) (below m)) (p .arcs) h
+          (λ k l. getD-map-below (arcOf (fileOf e p) e) m k _ (omega arith) ∙ arc-same accepted k (omega arith)))
 
       pub plan-same : planOf (fileOf e p) ≡ p
       unfolding planOf
@@ -285,7 +300,8 @@ module _ (e : ℕ) (p : Plan) where
 
 -- THE LAW: a plan that is written is read back, its edition too
 pub read-written : (e : ℕ) (p : Plan) (room : ℕ) → ((a : Arc) → List·Memᴰ a (p .arcs) → IsRecord a) → writeRefusal e p room ≡ none
-    → (edition (fileOf e p) ≡ e) × (planOf (fileOf e p) ≡ p) × ((records : ℕ) → length (p .arcs) ≤ records → readRefusal (fileOf e p) records ≡ none)
+    → (edition (fileOf e p) ≡ e) × (planOf (fileOf e p) ≡ p)
+    × ((records : ℕ) → length (p .arcs) ≤ records → readRefusal (fileOf e p) records ≡ none)
 read-written e p room small h =
     let w = write-accepted e p room small h .0 in
     let g = accepted-is-writable e p room h in (
@@ -312,14 +328,18 @@ module _ (bytes : List ℕ) where
       i : ℕ
       i = fileBits e k
 
-      at : (b : Bool) → core (arcFrom bytes 1 i) ++ cond b (bitsOf 16 (cond b (fieldAt bytes (i + 30) 16) (impliedService (fieldAt bytes (i + 12) 2) (fieldAt bytes (i + 14) 16)))) []
+      at : (b : Bool)
+          → core (arcFrom bytes 1 i)
+          ++ cond b (bitsOf 16
+          (cond b (fieldAt bytes (i + 30) 16) (impliedService (fieldAt bytes (i + 12) 2) (fieldAt bytes (i + 14) 16)))) []
           ≡ run (bitAt bytes) i (cond b 46 30)
       at true = rw (core-run i, field-run (i + 30) 16) (run-append (bitAt bytes) i 30 16)
       at false = rw append-nil (core-run i)
 
   arcs-run : (e a n : ℕ) → flatMap (arcBits e) (map (arcOf bytes e) (upFrom a n)) ≡ run (bitAt bytes) (fileBits e a) (arcWidth e * n)
   unfolding flatMap upFrom
-  arcs-run e a zero = let z : arcWidth e * 0 ≡ 0 = by-edition e (λ w. w * 0 ≡ 0) (omega arith) (omega arith) in rw z (sym (run-zero (bitAt bytes) (fileBits e a)))
+  arcs-run e a zero = let z : arcWidth e * 0 ≡ 0 = by-edition e (λ w. w * 0 ≡ 0) (omega arith) (omega arith) in
+      rw z (sym (run-zero (bitAt bytes) (fileBits e a)))
   arcs-run e a (suc n) =
       let g : fileBits e (suc a) ≡ fileBits e a + arcWidth e = rw add-one at (bits-more e a) in
       let f : arcWidth e * suc n ≡ arcWidth e + arcWidth e * n = by-edition e (λ w. w * suc n ≡ w + w * n) (omega arith) (omega arith) in
@@ -349,14 +369,24 @@ module _ (bytes : List ℕ) where
   unfolding fileBits
   plan-run =
       let b = bitAt bytes in
-      rw (plan-bits, edition-run, vertices-run, count-run, all-arcs-run, run-append b 0 4 7, run-append b 0 11 9, run-append b 0 20 (arcWidth e * arcCount bytes))
+      rw (
+        plan-bits,
+        edition-run,
+        vertices-run,
+        count-run,
+        all-arcs-run,
+        run-append b 0 4 7,
+        run-append b 0 11 9,
+        run-append b 0 20 (arcWidth e * arcCount bytes),
+      )
 
   module _ (f : IsFile bytes) where
     filled-bit : (i : ℕ) → fileBits e (arcCount bytes) ≤ i → i < 8 * fileLength e (arcCount bytes) → bitAt bytes i ≡ 0
     filled-bit i h l =
         let bits = fileBits e (arcCount bytes) in
         let q : bits + (i - bits) ≡ i = omega arith in
-        rw q at (field-zero bytes bits (8 * fileLength e (arcCount bytes) - bits) (sym (fill-bits bytes e (arcCount bytes)) ∙ f .filled) (i - bits) (omega arith))
+        rw q at (field-zero bytes bits (8 * fileLength e (arcCount bytes) - bits) (sym (fill-bits bytes e (arcCount bytes)) ∙ f .filled)
+        (i - bits) (omega arith))
 
     same-bit : (i : ℕ) → i < 8 * fileLength e (arcCount bytes) → bitIn (planBits e (planOf bytes)) i ≡ bitAt bytes i
     same-bit i l =
@@ -379,12 +409,14 @@ module _ (bytes : List ℕ) where
 
 -- THE LAW: a file that is read is written back, in its edition
 pub written-read : (bytes : List ℕ) (room : ℕ) → ((k : ℕ) → getD bytes k 0 < 256) → readRefusal bytes room ≡ none
-    → (fileOf (edition bytes) (planOf bytes) ≡ bytes) × ((space : ℕ) → length bytes ≤ space → writeRefusal (edition bytes) (planOf bytes) space ≡ none)
+    → (fileOf (edition bytes) (planOf bytes) ≡ bytes)
+    × ((space : ℕ) → length bytes ≤ space → writeRefusal (edition bytes) (planOf bytes) space ≡ none)
 written-read bytes room small h =
     let f = read-is-file bytes room h .0 in
     let w = read-accepted bytes room h .0 in
     let e = edition bytes in
-    let a : length (fileOf e (planOf bytes)) ≡ fileLength e (arcCount bytes) = length-fileOf e (planOf bytes) ∙ ap (fileLength e) (arcs-read bytes) in
+    let a : length (fileOf e (planOf bytes)) ≡ fileLength e (arcCount bytes) =
+    length-fileOf e (planOf bytes) ∙ ap (fileLength e) (arcs-read bytes) in
     let b = f .exact in (
       ext-getD 0 (fileOf e (planOf bytes)) bytes (a ∙ sym b) (λ k l. same-byte bytes f k (small k) (omega arith)),
       λ space h. accepted-write e (planOf bytes) space (f .edition-in) w (f .arcs-in) (rw arcs-read (omega arith)),

@@ -1,6 +1,6 @@
--- The first condition that applies: of lists that are joined, of a scan over numbers in their order, and what a call then answers. Each by induction on the
--- conditions. Of a whole list: conditions are accepted together exactly when each of them is; and the last condition is the one that is given exactly when none
--- before it applies and it does, if its number stands for no other.
+-- The first condition that applies: of lists that are joined, of a scan over numbers in their order, and what a call then answers. Each by
+-- induction on the conditions. Of a whole list: conditions are accepted together exactly when each of them is; and the last condition is
+-- the one that is given exactly when none before it applies and it does, if its number stands for no other.
 use mathlib.Core.Path.{_≡_, refl, sym, ap, _∙_, subst⁻¹}
 use mathlib.Core.Logic.{_≢_}
 use mathlib.Core.Bool.{Bool, true, false, not, cond}
@@ -73,7 +73,8 @@ append-accepted cs ds e f = first-on cs ds e ∙ f
 module _ {A : Type 0} (f : A → Conditions) where
   pub accepted-flatMap : {x : A} {xs : List A} → List·Memᴰ x xs → firstRefusal (flatMap f xs) ≡ none → firstRefusal (f x) ≡ none
   unfolding flatMap
-  accepted-flatMap (List·Memᴰ·head {x = y} {xs = ys} e) h = subst⁻¹ (λ z. firstRefusal (f z) ≡ none) e (accepted-append (f y) (flatMap f ys) h .0)
+  accepted-flatMap (List·Memᴰ·head {x = y} {xs = ys} e) h =
+      subst⁻¹ (λ z. firstRefusal (f z) ≡ none) e (accepted-append (f y) (flatMap f ys) h .0)
   accepted-flatMap (List·Memᴰ·tail {x = y} {xs = ys} m) h = accepted-flatMap m (accepted-append (f y) (flatMap f ys) h .1)
 
 -- ---- a scan
@@ -112,7 +113,8 @@ unfolding flatMap
 flat-map c f [] = refl
 flat-map c f (k ∷ ks) = ap (λ (r : Conditions). c (f k) ++ r) (flat-map c f ks)
 
--- The first refusal of a list f 0, f 1, and so on below m, looked for from 0 on: none of those before k is refused, so it is that of those from k on.
+-- The first refusal of a list f 0, f 1, and so on below m, looked for from 0 on: none of those before k
+-- is refused, so it is that of those from k on.
 module _ {A : Type 0} (c : A → Conditions) (f : ℕ → A) (m : ℕ) where
   abbrev pub NoneBefore : ℕ → Type 0
   NoneBefore k = firstRefusal (flatMap c (map f (below m))) ≡ scan (λ j. c (f j)) k m
@@ -126,7 +128,8 @@ module _ {A : Type 0} (c : A → Conditions) (f : ℕ → A) (m : ℕ) where
   pub none-before-next : (k : ℕ) → k < m → NoneBefore k → firstRefusal (c (f k)) ≡ none → NoneBefore (k + 1)
   none-before-next k h b e = b ∙ scan-on (λ j. c (f j)) k m h e
 
-  pub refused-here : (k r : ℕ) → k < m → NoneBefore k → firstRefusal (c (f k)) ≡ some r → some r ≡ firstRefusal (flatMap c (map f (below m)))
+  pub refused-here : (k r : ℕ) → k < m → NoneBefore k → firstRefusal (c (f k)) ≡ some r
+      → some r ≡ firstRefusal (flatMap c (map f (below m)))
   refused-here k r h b e = sym (b ∙ scan-stop (λ j. c (f j)) k m r h e)
 
   pub none-refused : (k : ℕ) → m ≤ k → NoneBefore k → none ≡ firstRefusal (flatMap c (map f (below m)))
@@ -158,7 +161,8 @@ module _ {A : Type 0} where
 
 -- the file's, 8 and 9, the call's own, then 10 and 11, and what comes after these
 pub before-order : (bytes : List ℕ) (budget places : ℕ) (own : Conditions) (p : Plan) (ds : Conditions)
-    → conditionsBefore bytes budget places own p ++ ds ≡ fileConditions bytes ++ (callConditions budget places ++ (own ++ (partsConditions p ++ ds)))
+    → conditionsBefore bytes budget places own p ++ ds
+    ≡ fileConditions bytes ++ (callConditions budget places ++ (own ++ (partsConditions p ++ ds)))
 unfolding conditionsBefore
 before-order bytes budget places own p ds =
     let c = callConditions budget places in
@@ -203,28 +207,33 @@ arc-other e n a = (omega arith, (omega arith, (omega arith, tt)))
 plan-other : (e : ℕ) (p : Plan) → Other 12 (planConditions e p)
 unfolding planConditions arcsConditions
 plan-other e p =
-    other-append 12 (flatMap (arcConditions e (p .n)) (p .arcs)) _ (other-flatMap 12 (arcConditions e (p .n)) (arc-other e (p .n)) (p .arcs)) (omega arith, tt)
+    other-append 12 (flatMap (arcConditions e (p .n)) (p .arcs)) _
+    (other-flatMap 12 (arcConditions e (p .n)) (arc-other e (p .n)) (p .arcs)) (omega arith, tt)
 
 file-other : (bytes : List ℕ) → Other 12 (fileConditions bytes)
 unfolding fileConditions editionConditions extentConditions bodyConditions
 file-other bytes = (omega arith, (omega arith, (omega arith, (omega arith, (omega arith, plan-other (edition bytes) (planOf bytes))))))
 
-pub before-other : (bytes : List ℕ) (budget places : ℕ) (own : Conditions) (p : Plan) → Other 12 own → Other 12 (conditionsBefore bytes budget places own p)
+pub before-other : (bytes : List ℕ) (budget places : ℕ) (own : Conditions) (p : Plan) → Other 12 own
+    → Other 12 (conditionsBefore bytes budget places own p)
 unfolding conditionsBefore callConditions partsConditions
 before-other bytes budget places own p h =
-    other-append 12 (fileConditions bytes) _ (file-other bytes) (omega arith, (omega arith, other-append 12 own _ h (omega arith, (omega arith, tt))))
+    other-append 12 (fileConditions bytes) _ (file-other bytes)
+    (omega arith, (omega arith, other-append 12 own _ h (omega arith, (omega arith, tt))))
 
 pub earlier-other : (bytes : List ℕ) (budget places : ℕ) → Other 12 (earlierConditions bytes budget places)
 unfolding earlierConditions
 earlier-other bytes budget places = before-other bytes budget places [] (planOf bytes) tt
 
-pub last-given : (cs : Conditions) (b : Bool) (r : ℕ) → Other r cs → firstRefusal (cs ++ (b, r) ∷ []) ≡ some r → (firstRefusal cs ≡ none) × T b
+pub last-given : (cs : Conditions) (b : Bool) (r : ℕ) → Other r cs → firstRefusal (cs ++ (b, r) ∷ []) ≡ some r
+    → (firstRefusal cs ≡ none) × T b
 unfolding firstRefusal
 last-given [] true r h e = (refl, tt)
 last-given [] false r h e = let x : _≡_ {A = ℕ} 0 1 = cc in absurd (omega arith)
 last-given (c ∷ cs) b r h e = at (c .0) (c .1) (h .0) e (last-given cs b r (h .1))
   where
-    at : (x : Bool) (k : ℕ) → k ≢ r → firstRefusal ((x, k) ∷ cs ++ (b, r) ∷ []) ≡ some r → (firstRefusal (cs ++ (b, r) ∷ []) ≡ some r → (firstRefusal cs ≡ none) × T b)
+    at : (x : Bool) (k : ℕ) → k ≢ r → firstRefusal ((x, k) ∷ cs ++ (b, r) ∷ []) ≡ some r
+        → (firstRefusal (cs ++ (b, r) ∷ []) ≡ some r → (firstRefusal cs ≡ none) × T b)
         → (firstRefusal ((x, k) ∷ cs) ≡ none) × T b
     at true k l e ih = let q : k ≡ r = cc in absurd (l q)
     at false k l e ih = ih e

@@ -57,7 +57,8 @@ picks-map f [] = refl
 picks-map f (t ∷ ts) =
     let g : ℕ × List ℕ → ℕ × List ℕ = λ r. (f (r .0), map f (r .1)) in
     ap (λ (l : List (ℕ × List ℕ)). (f t, map f ts) ∷ l)
-    (ap (map (λ r. (r .0, f t ∷ r .1))) (picks-map f ts) ∙ map-map (λ r. (r .0, f t ∷ r .1)) g (picks ts) ∙ sym (map-map g (λ r. (r .0, t ∷ r .1)) (picks ts)))
+    (ap (map (λ r. (r .0, f t ∷ r .1))) (picks-map f ts) ∙ map-map (λ r. (r .0, f t ∷ r .1)) g (picks ts)
+    ∙ sym (map-map g (λ r. (r .0, t ∷ r .1)) (picks ts)))
 
 module _ (d e : ℕ → ℕ → ℕ) (π : ℕ → ℕ) (same : (i j : ℕ) → d (π i) (π j) ≡ e i j) where
   assignment-renumbered : (ss ts : List ℕ) → assignment d (map π ss) (map π ts) ≡ assignment e ss ts
@@ -67,7 +68,8 @@ module _ (d e : ℕ → ℕ → ℕ) (π : ℕ → ℕ) (same : (i j : ℕ) → 
       let f : ℕ × List ℕ → ℕ = λ r. d (π s) (r .0) + assignment d (map π ss) (r .1) in
       let g : ℕ × List ℕ → ℕ × List ℕ = λ r. (π (r .0), map π (r .1)) in
       ap minimum (ap (map f) (picks-map π ts) ∙ map-map f g (picks ts)
-      ∙ map-cong (λ r. f (g r)) (λ r. e s (r .0) + assignment e ss (r .1)) (picks ts) (λ r m. ap₂ _+_ (same s (r .0)) (assignment-renumbered ss (r .1))))
+      ∙ map-cong (λ r. f (g r)) (λ r. e s (r .0) + assignment e ss (r .1)) (picks ts)
+      (λ r m. ap₂ _+_ (same s (r .0)) (assignment-renumbered ss (r .1))))
 
 -- ---- the plan: D, Z, and the cost of a tree
 
@@ -93,7 +95,8 @@ module _ (p : Plan) {π σ : ℕ → ℕ} (h : IsNumbering (p .n) π σ) where
     unfolding linkCost
     links-renumbered =
         ap sumOf (map-map (λ l. distance q (l .tail) (l .head)) (renumberedLink π) t
-        ∙ map-cong (λ l. distance q (π (l .tail)) (π (l .head))) (λ l. distance p (l .tail) (l .head)) t (λ l m. distance-renumbered p h (l .tail) (l .head)))
+        ∙ map-cong (λ l. distance q (π (l .tail)) (π (l .head))) (λ l. distance p (l .tail) (l .head)) t
+        (λ l m. distance-renumbered p h (l .tail) (l .head)))
 
     pub completion-renumbered : completionCost q (renumberedTree π t) ≡ completionCost p t
     unfolding completionCost
@@ -104,7 +107,8 @@ module _ (p : Plan) {π σ : ℕ → ℕ} (h : IsNumbering (p .n) π σ) where
   sum-renumbered : (w : ℕ → ℕ) → sumOver (required q) w ≡ sumOver (required p) (λ v. w (π v))
   unfolding sumOver
   sum-renumbered w =
-      sum-cong-mem (required q) w (λ i. w i * occurrences i (map π (required p))) (λ i m. sym (ap (λ x. w i * x) (single i m) ∙ mul-one (w i)))
+      sum-cong-mem (required q) w (λ i. w i * occurrences i (map π (required p)))
+      (λ i m. sym (ap (λ x. w i * x) (single i m) ∙ mul-one (w i)))
       ∙ sum-occurrences w (required q) (map π (required p)) there ∙ over (required p)
     where
       single : (i : ℕ) → List·Memᴰ i (required q) → occurrences i (map π (required p)) ≡ 1
@@ -133,6 +137,8 @@ module _ (p : Plan) {π σ : ℕ → ℕ} (h : IsNumbering (p .n) π σ) where
     unfolding balancingCost
     amounts-cost =
         sum-renumbered (λ i. sumOver (required q) (λ j. f i j * distance q i j))
-        ∙ sum-cong (required p) (λ i. sumOver (required q) (λ j. f (π i) j * distance q (π i) j)) (λ i. sumOver (required p) (λ j. f (π i) (π j) * distance p i j)) (λ i.
+        ∙ sum-cong (required p) (λ i. sumOver (required q) (λ j. f (π i) j * distance q (π i) j))
+        (λ i. sumOver (required p) (λ j. f (π i) (π j) * distance p i j)) (λ i.
         sum-renumbered (λ j. f (π i) j * distance q (π i) j)
-        ∙ sum-cong (required p) (λ j. f (π i) (π j) * distance q (π i) (π j)) (λ j. f (π i) (π j) * distance p i j) (λ j. ap (λ d. f (π i) (π j) * d) (distance-renumbered p h i j)))
+        ∙ sum-cong (required p) (λ j. f (π i) (π j) * distance q (π i) (π j)) (λ j. f (π i) (π j) * distance p i j)
+        (λ j. ap (λ d. f (π i) (π j) * d) (distance-renumbered p h i j)))

@@ -85,7 +85,8 @@ module _ (p : Plan) (ok : WellFormed p) {π σ : ℕ → ℕ} (h : IsNumbering (
 
   leads-back : (u v : ℕ) → Leads (undirected other other-ends) (π u) (π v) → Leads (undirected p ends) u v
   leads-back u v w =
-      let r = subst (λ (arcs : List Arc). Leads arcs (π u) (π v)) undirected-renumbered w in (r .0, walks (undirected p ends) π h u v (r .0) .0 (r .1))
+      let r = subst (λ (arcs : List Arc). Leads arcs (π u) (π v)) undirected-renumbered w in
+      (r .0, walks (undirected p ends) π h u v (r .0) .0 (r .1))
 
   leads-into : (u v : ℕ) → Leads (undirected p ends) u v → Leads (undirected other other-ends) (π u) (π v)
   leads-into u v w =
@@ -96,15 +97,18 @@ module _ (p : Plan) (ok : WellFormed p) {π σ : ℕ → ℕ} (h : IsNumbering (
       → (component other (π u) ≡ component other (π v)) ↔ (component p u ≡ component p v)
   components {u} {v} m n =
       let mu = requireds p h u .1 m in
-      let mv = requireds p h v .1 n in
-      ((λ e. walk-component p ends m n (leads-back u v (component-walk other other-ends mu mv e))), (λ e. walk-component other other-ends mu mv (leads-into u v (component-walk p ends m n e))))
+      let mv = requireds p h v .1 n in (
+        (λ e. walk-component p ends m n (leads-back u v (component-walk other other-ends mu mv e))),
+        (λ e. walk-component other other-ends mu mv (leads-into u v (component-walk p ends m n e))),
+      )
 
   count-le : componentCount p ≤ componentCount other
   count-le =
       let f : ℕ → ℕ = λ r. component other (π (getD (lowest p) r 0)) in
       let b = differ-le f (componentCount p) (below (componentCount other))
       (λ r l. mem-below (component-lt other other-ends (requireds p h _ .1 (component-at p ends r l .0))))
-      (λ r s l m e. let x = component-at p ends r l in let y = component-at p ends s m in sym (x .1) ∙ components (x .0) (y .0) .0 e ∙ y .1) in
+      (λ r s l m e. let x = component-at p ends r l in let y = component-at p ends s m in
+      sym (x .1) ∙ components (x .0) (y .0) .0 e ∙ y .1) in
       let e = length-below (componentCount other) in
       omega arith
 
@@ -126,7 +130,8 @@ cut-into p {π} h t =
     let r = anyOf-at (λ i. anyOf (λ j. not (hasPath p i j)) (required p)) (required p) t in
     let s = anyOf-at (λ j. not (hasPath p (r .0) j)) (required p) (r .2) in
     anyOf-mem (λ i. anyOf (λ j. not (hasPath q i j)) (required q)) (requireds p h (r .0) .1 (r .1))
-    (anyOf-mem (λ j. not (hasPath q (π (r .0)) j)) (requireds p h (s .0) .1 (s .1)) (subst⁻¹ (λ b. T (not b)) (path-renumbered p h (r .0) (s .0)) (s .2)))
+    (anyOf-mem (λ j. not (hasPath q (π (r .0)) j)) (requireds p h (s .0) .1 (s .1))
+    (subst⁻¹ (λ b. T (not b)) (path-renumbered p h (r .0) (s .0)) (s .2)))
 
 module _ (p : Plan) {π σ : ℕ → ℕ} (h : IsNumbering (p .n) π σ) where
   pub cut-renumbered : isCutOff (renumbered p π) ≡ isCutOff p

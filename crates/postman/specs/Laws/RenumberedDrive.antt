@@ -88,7 +88,8 @@ module _ {n : ℕ} {π σ : ℕ → ℕ} (h : IsNumbering n π σ) where
   often-back : (i j : ℕ) (ls : List Link) → howOften i j (renumberedTree σ ls) ≡ howOften (π i) (π j) ls
   unfolding howOften
   often-back i j ls =
-      ap length (select-map (joins i j) (joins (π i) (π j)) (renumberedLink σ) ls (λ l m. ap₂ _&&_ (turned (l .tail) i) (turned (l .head) j)))
+      ap length (select-map (joins i j) (joins (π i) (π j)) (renumberedLink σ) ls
+      (λ l m. ap₂ _&&_ (turned (l .tail) i) (turned (l .head) j)))
       ∙ length-map (select (joins (π i) (π j)) ls) (renumberedLink σ)
     where
       turned : (v i : ℕ) → eqb (σ v) i ≡ eqb v (π i)
@@ -135,7 +136,8 @@ module _ (p : Plan) {π σ : ℕ → ℕ} (h : IsNumbering (p .n) π σ) where
         tried = subst⁻¹ (λ (s : List Link). List·Memᴰ s (take (triedCount q budget) (arborescences q))) e (a .tried);
         least = sym (completion-renumbered p h t) ∙ ap (λ (s : List Link). completionCost q s) e ∙ a .least;
         amounts = λ i j. a .amounts (π i) (π j);
-        balances = amounts-back p h (a .amounts) t (subst⁻¹ (λ (s : List Link). IsBalancing (required q) (imbalance q s) (a .amounts)) e (a .balances));
+        balances = amounts-back p h (a .amounts) t
+            (subst⁻¹ (λ (s : List Link). IsBalancing (required q) (imbalance q s) (a .amounts)) e (a .balances));
         balances-least = sym (amounts-cost p h (a .amounts)) ∙ a .balances-least ∙ ap (leastBalancing q) (sym e)
             ∙ balancing-renumbered p h t;
         laid = laid-back (a .tree) (a .amounts) w (a .laid);

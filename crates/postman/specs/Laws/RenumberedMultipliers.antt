@@ -38,7 +38,8 @@ module _ (p : Plan) {π σ : ℕ → ℕ} (h : IsNumbering (p .n) π σ) (u : Mu
   pub price-renumbered : WellFormed p → priceOfImbalance q u ≡ priceOfImbalance p (carried π u)
   unfolding priceOfImbalance
   price-renumbered ok =
-      let over : (f g : List ℕ) → g ≡ map π f → sumOfℤ (map u g) ≡ sumOfℤ (map (carried π u) f) = λ f g e. ap (λ (l : List ℕ). sumOfℤ (map u l)) e ∙ sum-map π u f in
+      let over : (f g : List ℕ) → g ≡ map π f → sumOfℤ (map u g) ≡ sumOfℤ (map (carried π u) f) =
+      λ f g e. ap (λ (l : List ℕ). sumOfℤ (map u l)) e ∙ sum-map π u f in
       price-split q u (bounded (renumbered-well-formed p h ok) .ends) [] (λ l m. elim m [ ])
       ∙ ap₂ _-ℤ_ (over (heads p []) (heads q []) (heads-renumbered p π [])) (over (tails p []) (tails q []) (tails-renumbered p π []))
       ∙ sym (price-split p (carried π u) (bounded ok .ends) [] (λ l m. elim m [ ]))
@@ -46,7 +47,8 @@ module _ (p : Plan) {π σ : ℕ → ℕ} (h : IsNumbering (p .n) π σ) (u : Mu
   pub multipliers-back : WellFormed p → AreMultipliers q u → AreMultipliers p (carried π u)
   multipliers-back ok m = record {
     elsewhere = λ i n. m .elsewhere (π i) (λ r. n (requireds p h i .0 r));
-    feasible = λ i j a b. subst (λ (c : ℤ). pos 0 ≤ℤ c) (reduced-renumbered i j) (m .feasible (π i) (π j) (requireds p h i .1 a) (requireds p h j .1 b));
+    feasible = λ i j a b. subst (λ (c : ℤ). pos 0 ≤ℤ c) (reduced-renumbered i j)
+        (m .feasible (π i) (π j) (requireds p h i .1 a) (requireds p h j .1 b));
     tight = sym (price-renumbered ok) ∙ m .tight ∙ ap pos (balancing-renumbered p h []);
   }
 
@@ -56,7 +58,8 @@ module _ (p : Plan) {π σ : ℕ → ℕ} (h : IsNumbering (p .n) π σ) (u : Mu
 
 -- ---- the lower bound
 
-module _ (p : Plan) {π σ : ℕ → ℕ} (h : IsNumbering (p .n) π σ) (budget : ℕ) (u : Multipliers) (g : Guarantee (renumbered p π) budget u) where
+module _ (p : Plan) {π σ : ℕ → ℕ} (h : IsNumbering (p .n) π σ) (budget : ℕ) (u : Multipliers)
+    (g : Guarantee (renumbered p π) budget u) where
   pub below-tours : (w : List ℕ) → IsTour p w → lowerBound (renumbered p π) budget u ≤ℤ pos (tourCost p w)
   below-tours w t = subst (λ c. lowerBound (renumbered p π) budget u ≤ℤ pos c) (tour-cost p π w) (g .below-every-tour w (tours p h w .1 t))
 
@@ -67,4 +70,5 @@ module _ (p : Plan) {π σ : ℕ → ℕ} (h : IsNumbering (p .n) π σ) (budget
   -- R + Z
   pub above-balancing : pos (requiredCost p + leastBalancing p []) ≤ℤ lowerBound (renumbered p π) budget u
   above-balancing =
-      subst (λ c. pos c ≤ℤ lowerBound (renumbered p π) budget u) (ap₂ _+_ (renumbered-cost p π) (balancing-renumbered p h [])) (g .above-balancing)
+      subst (λ c. pos c ≤ℤ lowerBound (renumbered p π) budget u) (ap₂ _+_ (renumbered-cost p π) (balancing-renumbered p h []))
+      (g .above-balancing)

@@ -26,7 +26,8 @@ module _ (arcs : List Arc) (π : ℕ → ℕ) where
   walk-renumbered i j (k ∷ w) h =
       let e = length-map arcs (renumberedArc π) in
       let l = h .0 in
-      subst⁻¹ (λ (a : Arc). (k < length others) × T (isOpen a) × (a .tail ≡ π i) × IsWalk others (a .head) w (π j)) (arc-number π arcs k (h .0))
+      subst⁻¹ (λ (a : Arc). (k < length others) × T (isOpen a) × (a .tail ≡ π i) × IsWalk others (a .head) w (π j))
+      (arc-number π arcs k (h .0))
       (omega arith, h .1, ap π (h .2), walk-renumbered (arcAt arcs k .head) j w (h .3))
 
   pub cost-renumbered : (w : List ℕ) → walkCost others w ≡ walkCost arcs w
@@ -39,7 +40,8 @@ module _ (arcs : List Arc) (π : ℕ → ℕ) where
   due-renumbered due (k ∷ w) =
       let rest = select (λ j. not (eqb k j)) due in
       ap₂ (cond (anyOf (eqb k) due))
-      (ap₂ _+_ (arc-same π (λ a. a .service) (λ a. refl) arcs k) (due-renumbered rest w)) (ap₂ _+_ (arc-same π (λ a. a .cost) (λ a. refl) arcs k) (due-renumbered due w))
+      (ap₂ _+_ (arc-same π (λ a. a .service) (λ a. refl) arcs k) (due-renumbered rest w))
+      (ap₂ _+_ (arc-same π (λ a. a .cost) (λ a. refl) arcs k) (due-renumbered due w))
 
   module _ {n : ℕ} {σ : ℕ → ℕ} (number : IsNumbering n π σ) where
     walk-back : (i j : ℕ) (w : List ℕ) → IsWalk others (π i) w (π j) → IsWalk arcs i w j
@@ -48,7 +50,8 @@ module _ (arcs : List Arc) (π : ℕ → ℕ) where
         let e = length-map arcs (renumberedArc π) in
         let m = h .0 in
         let l : k < length arcs = omega arith in
-        let r = subst (λ (a : Arc). T (isOpen a) × (a .tail ≡ π i) × IsWalk others (a .head) w (π j)) (arc-number π arcs k l) (h .1, h .2, h .3) in
+        let r = subst (λ (a : Arc). T (isOpen a) × (a .tail ≡ π i) × IsWalk others (a .head) w (π j)) (arc-number π arcs k l)
+        (h .1, h .2, h .3) in
         (l, r .0, one-to-one number (r .1), walk-back (arcAt arcs k .head) j w (r .2))
 
     -- a walk of one exactly when of the other
@@ -77,7 +80,8 @@ module _ (p : Plan) {π σ : ℕ → ℕ} (h : IsNumbering (p .n) π σ) where
       back t =
           let e = length-map (p .arcs) (renumberedArc π) in record {
             start = σ (t .start);
-            closed = walk-back (p .arcs) π h (σ (t .start)) (σ (t .start)) w (subst⁻¹ (λ v. IsWalk (q .arcs) v w v) (h .forth (t .start)) (t .closed));
+            closed = walk-back (p .arcs) π h (σ (t .start)) (σ (t .start)) w
+                (subst⁻¹ (λ v. IsWalk (q .arcs) v w v) (h .forth (t .start)) (t .closed));
             covers = λ k l m. t .covers k (omega arith) (subst⁻¹ T (must-same k) m);
           }
 

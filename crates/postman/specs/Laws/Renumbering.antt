@@ -84,7 +84,8 @@ module _ (p : Plan) {π σ : ℕ → ℕ} (h : IsNumbering (p .n) π σ) where
   pub renumbered-back : renumbered (renumbered p π) σ ≡ p
   renumbered-back =
       ap (λ (arcs : List Arc). record { n = p .n; arcs = arcs })
-      (map-map (renumberedArc σ) (renumberedArc π) (p .arcs) ∙ ap (λ (f : ℕ → ℕ). map (renumberedArc f) (p .arcs)) (fun-ext (h .back)) ∙ ap (λ (q : Plan). q .arcs) (renumbered-identity p))
+      (map-map (renumberedArc σ) (renumberedArc π) (p .arcs) ∙ ap (λ (f : ℕ → ℕ). map (renumberedArc f) (p .arcs)) (fun-ext (h .back))
+      ∙ ap (λ (q : Plan). q .arcs) (renumbered-identity p))
 
   pub renumbered-well-formed : WellFormed p → WellFormed (renumbered p π)
   renumbered-well-formed ok =
@@ -122,7 +123,8 @@ module _ (p : Plan) (π : ℕ → ℕ) where
   unfolding requiredNumbers
   renumbered-numbers =
       ap (λ n. select (λ k. isRequiredArc (arcAt (renumbered p π .arcs) k)) (below n)) (arcs-length π (p .arcs))
-      ∙ select-cong (λ k. isRequiredArc (arcAt (renumbered p π .arcs) k)) (λ k. isRequiredArc (arcAt (p .arcs) k)) (below (length (p .arcs))) (λ k m. arc-same π isRequiredArc (λ a. refl) (p .arcs) k)
+      ∙ select-cong (λ k. isRequiredArc (arcAt (renumbered p π .arcs) k)) (λ k. isRequiredArc (arcAt (p .arcs) k))
+      (below (length (p .arcs))) (λ k m. arc-same π isRequiredArc (λ a. refl) (p .arcs) k)
 
   -- R
   pub renumbered-cost : requiredCost (renumbered p π) ≡ requiredCost p

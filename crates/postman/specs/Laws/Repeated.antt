@@ -40,7 +40,8 @@ equal-agree a b e =
 abbrev pub Distinct : List Arc → Type 0
 Distinct arcs = (j k : ℕ) → j < k → k < length arcs → arcAt arcs j ≡ arcAt arcs k → ⊥
 
-pub repeated-pair : (arcs : List Arc) → T (hasRepeated arcs) → (j : ℕ) × (k : ℕ) × (j < k) × (k < length arcs) × (arcAt arcs j ≡ arcAt arcs k)
+pub repeated-pair : (arcs : List Arc) → T (hasRepeated arcs)
+    → (j : ℕ) × (k : ℕ) × (j < k) × (k < length arcs) × (arcAt arcs j ≡ arcAt arcs k)
 unfolding hasRepeated
 repeated-pair [] t = absurd t
 repeated-pair (a ∷ arcs) t = elim (or-cases (anyOf (agree a) arcs) (hasRepeated arcs) t) [
@@ -55,8 +56,10 @@ unfolding hasRepeated
 pair-repeated [] j k l h e = absurd (omega arith)
 pair-repeated (a ∷ arcs) j zero l h e = absurd (omega arith)
 pair-repeated (a ∷ arcs) zero (suc k) l h e =
-    or-left (anyOf (agree a) arcs) (hasRepeated arcs) (anyOf-mem (agree a) (getD-mem arcs (arcAt [] 0) k (omega arith)) (equal-agree a (arcAt arcs k) e))
-pair-repeated (a ∷ arcs) (suc j) (suc k) l h e = or-right (anyOf (agree a) arcs) (hasRepeated arcs) (pair-repeated arcs j k (omega arith) (omega arith) e)
+    or-left (anyOf (agree a) arcs) (hasRepeated arcs)
+    (anyOf-mem (agree a) (getD-mem arcs (arcAt [] 0) k (omega arith)) (equal-agree a (arcAt arcs k) e))
+pair-repeated (a ∷ arcs) (suc j) (suc k) l h e =
+    or-right (anyOf (agree a) arcs) (hasRepeated arcs) (pair-repeated arcs j k (omega arith) (omega arith) e)
 
 pub not-repeated : (arcs : List Arc) → T (not (hasRepeated arcs)) → Distinct arcs
 not-repeated arcs t j k l h e = T-not (hasRepeated arcs) t (pair-repeated arcs j k l h e)

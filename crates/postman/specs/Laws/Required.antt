@@ -51,11 +51,13 @@ required-once p i = le-trans (occurrences-select i (isRequired p) (below (p .n))
 
 -- ---- the ends of a required arc are required
 
-end-required : (p : Plan) (v : ℕ) (a : Arc) → List·Memᴰ a (requiredArcs p) → v < p .n → T (eqb (a .tail) v || eqb (a .head) v) → List·Memᴰ v (required p)
+end-required : (p : Plan) (v : ℕ) (a : Arc) → List·Memᴰ a (requiredArcs p) → v < p .n → T (eqb (a .tail) v || eqb (a .head) v)
+    → List·Memᴰ v (required p)
 unfolding required isRequired
 end-required p v a m l t = mem-select (isRequired p) (mem-below l) (anyOf-mem (λ c. eqb (c .tail) v || eqb (c .head) v) m t)
 
-pub required-ends : (p : Plan) → InPlan p → {a : Arc} → List·Memᴰ a (requiredArcs p) → List·Memᴰ (a .tail) (required p) × List·Memᴰ (a .head) (required p)
+pub required-ends : (p : Plan) → InPlan p → {a : Arc} → List·Memᴰ a (requiredArcs p)
+    → List·Memᴰ (a .tail) (required p) × List·Memᴰ (a .head) (required p)
 unfolding requiredArcs
 required-ends p ok {a} m =
     let b = ok a (select-mem isRequiredArc (p .arcs) m .0) in (
@@ -63,7 +65,8 @@ required-ends p ok {a} m =
       end-required p (a .head) a m (b .1) (or-right (eqb (a .tail) (a .head)) (eqb (a .head) (a .head)) (eqb-refl (a .head))),
     )
 
-pub number-ends : (p : Plan) → InPlan p → {k : ℕ} → IsRequiredNumber p k → List·Memᴰ (arcAt (p .arcs) k .tail) (required p) × List·Memᴰ (arcAt (p .arcs) k .head) (required p)
+pub number-ends : (p : Plan) → InPlan p → {k : ℕ} → IsRequiredNumber p k
+    → List·Memᴰ (arcAt (p .arcs) k .tail) (required p) × List·Memᴰ (arcAt (p .arcs) k .head) (required p)
 number-ends p ok {k} h = required-ends p ok (required-mem p k h)
 
 -- ---- the required arcs by their numbers
@@ -80,9 +83,12 @@ mem-numbers p h = mem-select (λ k. isRequiredArc (arcAt (p .arcs) k)) (mem-belo
 
 pub numbers-once : (p : Plan) (k : ℕ) → occurrences k (requiredNumbers p) ≤ 1
 unfolding requiredNumbers below
-numbers-once p k = le-trans (occurrences-select k (λ k. isRequiredArc (arcAt (p .arcs) k)) (below (length (p .arcs)))) (occurrences-upFrom k 0 (length (p .arcs)))
+numbers-once p k =
+    le-trans (occurrences-select k (λ k. isRequiredArc (arcAt (p .arcs) k)) (below (length (p .arcs))))
+    (occurrences-upFrom k 0 (length (p .arcs)))
 
-kept : {A : Type 0} (b : Bool) (g : ℕ → A) (n : ℕ) (r : List ℕ) (x : A) (l : List A) → g n ≡ x → map g r ≡ l → map g (cond b (n ∷ r) r) ≡ cond b (x ∷ l) l
+kept : {A : Type 0} (b : Bool) (g : ℕ → A) (n : ℕ) (r : List ℕ) (x : A) (l : List A) → g n ≡ x → map g r ≡ l
+    → map g (cond b (n ∷ r) r) ≡ cond b (x ∷ l) l
 kept true g n r x l e h = ap₂ _∷_ e h
 kept false g n r x l e h = h
 
@@ -94,9 +100,12 @@ by-number f d pre [] = refl
 by-number {A} f d pre (x ∷ xs) =
     let l = pre ++ x ∷ xs in
     let at : List A → ℕ → Type 0 = λ l n. map (λ k. getD l k d) (select (λ k. f (getD l k d)) (upFrom n (length xs))) ≡ select f xs in
-    let ih : at l (suc (length pre)) = subst₂ at (append-assoc pre (x ∷ []) xs) (length-append pre (x ∷ []) ∙ add-one (length pre)) (by-number f d (pre ++ x ∷ []) xs) in
+    let ih : at l (suc (length pre)) =
+    subst₂ at (append-assoc pre (x ∷ []) xs) (length-append pre (x ∷ []) ∙ add-one (length pre)) (by-number f d (pre ++ x ∷ []) xs) in
     let y = getD-append-seam pre x xs d in
-    subst⁻¹ (λ b. map (λ k. getD l k d) (cond b (length pre ∷ select (λ k. f (getD l k d)) (upFrom (suc (length pre)) (length xs))) (select (λ k. f (getD l k d)) (upFrom (suc (length pre)) (length xs))))
+    subst⁻¹ (λ b. map (λ k. getD l k d)
+    (cond b (length pre ∷ select (λ k. f (getD l k d)) (upFrom (suc (length pre)) (length xs)))
+    (select (λ k. f (getD l k d)) (upFrom (suc (length pre)) (length xs))))
     ≡ cond (f x) (x ∷ select f xs) (select f xs)) (ap f y) (kept (f x) (λ k. getD l k d) (length pre) _ x (select f xs) y ih)
 
 map-map : {A B C : Type 0} (f : A → B) (g : B → C) (xs : List A) → map g (map f xs) ≡ map (λ x. g (f x)) xs

@@ -1,4 +1,5 @@
--- What d depends on: two lists of arcs that agree, arc by arc, in ends and cost and in which may be driven, have the same distances, whatever is required.
+-- What d depends on: two lists of arcs that agree, arc by arc, in ends and cost and in which may be driven,
+-- have the same distances, whatever is required.
 use mathlib.Core.Path.{_≡_, refl, sym, ap, ap₂, fun-ext, _∙_}
 use mathlib.Core.Bool.{Bool, true, false, cond, _&&_}
 use mathlib.Core.List.{List, [], _∷_}
@@ -35,7 +36,8 @@ module _ (i : ℕ) (f : ℕ → ℕ) where
   least-same (a ∷ xs) (b ∷ ys) h =
       let r = h .0 in
       let e = least-same xs ys (h .1) in
-      let c : (isOpen a && eqb (a .tail) i) ≡ (isOpen b && eqb (b .tail) i) = ap₂ (λ (x : Bool) (y : ℕ). x && eqb y i) (r .open-same) (r .tail-same) in
+      let c : (isOpen a && eqb (a .tail) i) ≡ (isOpen b && eqb (b .tail) i) =
+      ap₂ (λ (x : Bool) (y : ℕ). x && eqb y i) (r .open-same) (r .tail-same) in
       let v : a .cost + f (a .head) ≡ b .cost + f (b .head) = ap₂ (λ (x y : ℕ). x + f y) (r .cost-same) (r .head-same) in
       step (isOpen a && eqb (a .tail) i) (isOpen b && eqb (b .tail) i) c (arcsFrom xs i) (arcsFrom ys i) a b v e
     where
@@ -51,7 +53,9 @@ module _ (xs ys : List Arc) (h : SameRoads xs ys) where
   unfolding distanceWithin
   within-same zero i j = refl
   within-same (suc k) i j =
-      ap (cond (eqb i j) 0) (least-same i (λ v. distanceWithin xs k v j) xs ys h ∙ ap (λ (f : ℕ → ℕ). least noPath (λ a. a .cost + f (a .head)) (arcsFrom ys i)) (fun-ext (λ v. within-same k v j)))
+      ap (cond (eqb i j) 0)
+      (least-same i (λ v. distanceWithin xs k v j) xs ys h
+      ∙ ap (λ (f : ℕ → ℕ). least noPath (λ a. a .cost + f (a .head)) (arcsFrom ys i)) (fun-ext (λ v. within-same k v j)))
 
 pub distance-same : (p q : Plan) → p .n ≡ q .n → SameRoads (p .arcs) (q .arcs) → (i j : ℕ) → distance p i j ≡ distance q i j
 unfolding distance

@@ -1,5 +1,6 @@
--- A tour as a route of links and required arcs: each required arc once, and the links between them cost no more than the rest of the tour. Walk along the tour
--- from a required arc, mark the first pass of each required arc, and replace each stretch between two of them by its chain of links.
+-- A tour as a route of links and required arcs: each required arc once, and the links between them cost no more than the
+-- rest of the tour. Walk along the tour from a required arc, mark the first pass of each required arc, and replace each
+-- stretch between two of them by its chain of links.
 use mathlib.Core.Path.{_≡_, refl, sym, ap, _∙_, subst, subst⁻¹}
 use mathlib.Core.Logic.{inl, inr}
 use mathlib.Core.List.{List, [], _∷_, _++_, List·Memᴰ, List·Memᴰ·head, List·Memᴰ·tail, List·Memᴰ·cases-cons, List·Memᴰ·not-nil, List·Memᴰ·append-cases, Memᴰ·append-left, Memᴰ·append-right}
@@ -68,7 +69,8 @@ module _ (p : Plan) (ok : WellFormed p) where
       let x = s .2 in
       (link l ∷ s .0, (h .0, h .1, s .1), omega arith, s .3)
 
-  leg : (i j e : ℕ) (u ks : List ℕ) (c : ℕ) → List·Memᴰ i (required p) → List·Memᴰ j (required p) → IsWalk (p .arcs) i u j → Route p j e ks c → Route p i e ks (walkCost (p .arcs) u + c)
+  leg : (i j e : ℕ) (u ks : List ℕ) (c : ℕ) → List·Memᴰ i (required p) → List·Memᴰ j (required p) → IsWalk (p .arcs) i u j
+      → Route p j e ks c → Route p i e ks (walkCost (p .arcs) u + c)
   leg i j e u ks c mi mj h r =
       let x = chain p ok i j mi mj in
       let s = along i j e (x .0) ks c (x .1) r in
@@ -81,7 +83,8 @@ module _ (p : Plan) (ok : WellFormed p) where
   Sought ks w = (k : ℕ) → List·Memᴰ k ks → List·Memᴰ k w × IsRequiredNumber p k
 
   -- a walk on from v, reached from the required vertex i by u, in which the required arcs ks occur
-  scan : (w ks u : List ℕ) (i v e : ℕ) → IsWalk (p .arcs) v w e → IsWalk (p .arcs) i u v → List·Memᴰ i (required p) → List·Memᴰ e (required p)
+  scan : (w ks u : List ℕ) (i v e : ℕ) → IsWalk (p .arcs) v w e → IsWalk (p .arcs) i u v → List·Memᴰ i (required p)
+      → List·Memᴰ e (required p)
       → ((k : ℕ) → occurrences k ks ≤ 1) → Sought ks w → Route p i e ks (walkCost (p .arcs) u + walkCost (p .arcs) w)
   scan [] [] u i v e h g mi me o m = leg i e e u [] 0 mi me (subst (λ z. IsWalk (p .arcs) i u z) h g) ([], refl, le-refl 0, none)
   scan [] (k ∷ ks) u i v e h g mi me o m = absurd (List·Memᴰ·not-nil (m k (List·Memᴰ·head refl) .0))
@@ -92,7 +95,8 @@ module _ (p : Plan) (ok : WellFormed p) where
         let x = number-ends p ends f in
         let m′ : Sought (q .0) w = λ k n. (let z = m k (left-mem (q .1) n) in (
           elim (List·Memᴰ·cases-cons (z .0)) [
-            | inl y ↦ let b = occurrences-of-mem n in let d = occurrences-pick k (q .1) in let s = delta-yes y in let l = o k in absurd (omega arith)
+            | inl y ↦ let b = occurrences-of-mem n in let d = occurrences-pick k (q .1) in let s = delta-yes y in let l = o k in
+                absurd (omega arith)
             | inr y ↦ y
           ],
           z .1,
@@ -100,7 +104,8 @@ module _ (p : Plan) (ok : WellFormed p) where
         let r = scan w (q .0) [] (arcAt (p .arcs) a .head) (arcAt (p .arcs) a .head) e (h .3) refl (x .1) me
         (λ k. let l = o k in let d = occurrences-pick k (q .1) in omega arith) m′ in
         let y = r .2 in
-        leg i (arcAt (p .arcs) a .tail) e u ks (arcAt (p .arcs) a .cost + walkCost (p .arcs) w) mi (x .0) (subst⁻¹ (λ z. IsWalk (p .arcs) i u z) (h .2) g)
+        leg i (arcAt (p .arcs) a .tail) e u ks (arcAt (p .arcs) a .cost + walkCost (p .arcs) w) mi (x .0)
+        (subst⁻¹ (λ z. IsWalk (p .arcs) i u z) (h .2) g)
         (arc a ∷ r .0, (refl, f, r .1), omega arith, more (q .1) (r .3))
     | no c ↦
         let m′ : Sought ks w = λ k n. (let z = m k n in (
@@ -144,7 +149,8 @@ module _ (p : Plan) (ok : WellFormed p) where
       )
     where
       widen : {j : ℕ} (v : List ℕ) (h : ℕ) (u : List ℕ) → List·Memᴰ j (v ++ u) → List·Memᴰ j (v ++ h ∷ u)
-      widen v h u m = elim (List·Memᴰ·append-cases v m) [ inl a ↦ Memᴰ·append-left (h ∷ u) a | inr b ↦ Memᴰ·append-right v (List·Memᴰ·tail b) ]
+      widen v h u m =
+          elim (List·Memᴰ·append-cases v m) [ inl a ↦ Memᴰ·append-left (h ∷ u) a | inr b ↦ Memᴰ·append-right v (List·Memᴰ·tail b) ]
 
   -- a tour as a route from any required arc on
   pub tour-route : {w : List ℕ} → IsTour p w → (k : ℕ) → IsRequiredNumber p k

@@ -1,5 +1,5 @@
--- A search that keeps the best so far finds the first element of least value; and it may pass over an element whose lower bound is no less than the best so far.
--- By induction on the elements left.
+-- A search that keeps the best so far finds the first element of least value; and it may pass over an element whose lower bound is no less
+-- than the best so far. By induction on the elements left.
 use mathlib.Core.Path.{_≡_, refl, sym, ap, _∙_}
 use mathlib.Core.Logic.{inl, inr}
 use mathlib.Core.Bool.{cond}
@@ -23,7 +23,9 @@ module _ {A : Type 0} (f : A → ℕ) where
   better x y = cond (ltb (f y) (f x)) y x
 
   better-value : (x y : A) → f (better x y) ≡ min (f y) (f x)
-  better-value x y = cond-ind (ltb (f y) (f x)) y x (λ w. f w ≡ min (f y) (f x)) (λ t. (let l = ltb→lt (f y) (f x) t in omega arith)) (λ t. (let l = nltb→le (f y) (f x) t in omega arith))
+  better-value x y =
+      cond-ind (ltb (f y) (f x)) y x (λ w. f w ≡ min (f y) (f x)) (λ t. (let l = ltb→lt (f y) (f x) t in omega arith))
+      (λ t. (let l = nltb→le (f y) (f x) t in omega arith))
 
   least-base : (a b : ℕ) (xs : List A) → least (min a b) f xs ≡ min a (least b f xs)
   unfolding least
@@ -42,7 +44,8 @@ module _ {A : Type 0} (f : A → ℕ) where
   argmin-from-mem x [] = List·Memᴰ·head refl
   argmin-from-mem x (y ∷ ys) =
       elim (List·Memᴰ·cases-cons (argmin-from-mem (better x y) ys)) [
-        | inl e ↦ cond-ind (ltb (f y) (f x)) y x (λ w. argminFrom f (better x y) ys ≡ w → List·Memᴰ (argminFrom f (better x y) ys) (x ∷ y ∷ ys))
+        | inl e ↦ cond-ind (ltb (f y) (f x)) y x
+            (λ w. argminFrom f (better x y) ys ≡ w → List·Memᴰ (argminFrom f (better x y) ys) (x ∷ y ∷ ys))
             (λ t q. List·Memᴰ·tail (List·Memᴰ·head q)) (λ t q. List·Memᴰ·head q) e
         | inr m ↦ List·Memᴰ·tail (List·Memᴰ·tail m)
       ]

@@ -1,4 +1,5 @@
--- Selections of a list: their order, one after another, and the place of an element among those of numbers in a row. By induction on the list.
+-- Selections of a list: their order, one after another, and the place of an element among those of
+-- numbers in a row. By induction on the list.
 use mathlib.Core.Path.{_≡_, refl, ap, _∙_}
 use mathlib.Core.Bool.{Bool, true, false, cond, _&&_}
 use mathlib.Core.List.{List, [], _∷_, _++_, append-nil, List·Memᴰ, List·Memᴰ·head, List·Memᴰ·tail}
@@ -25,7 +26,9 @@ module _ {A : Type 0} where
   select-select f g [] = refl
   select-select f g (x ∷ xs) = again (g x) (select-select f g xs)
     where
-      again : (b : Bool) → select f (select g xs) ≡ select (λ x. g x && f x) xs → select f (cond b (x ∷ select g xs) (select g xs)) ≡ cond (b && f x) (x ∷ select (λ x. g x && f x) xs) (select (λ x. g x && f x) xs)
+      again : (b : Bool) → select f (select g xs) ≡ select (λ x. g x && f x) xs
+          → select f (cond b (x ∷ select g xs) (select g xs))
+          ≡ cond (b && f x) (x ∷ select (λ x. g x && f x) xs) (select (λ x. g x && f x) xs)
       again true e = ap (λ (l : List A). cond (f x) (x ∷ l) l) e
       again false e = e
 
@@ -50,7 +53,8 @@ upFrom-append a (suc m) n =
 -- the numbers below n, cut at v
 pub below-split : (v n : ℕ) → v ≤ n → below n ≡ below v ++ upFrom v (n - v)
 unfolding below
-below-split v n l = let e : n ≡ v + (n - v) = omega arith in ap (upFrom 0) e ∙ upFrom-append 0 v (n - v) ∙ ap (λ a. upFrom 0 v ++ upFrom a (n - v)) (zero-add v)
+below-split v n l = let e : n ≡ v + (n - v) = omega arith in
+    ap (upFrom 0) e ∙ upFrom-append 0 v (n - v) ∙ ap (λ a. upFrom 0 v ++ upFrom a (n - v)) (zero-add v)
 
 module _ (f : ℕ → Bool) where
   cut : (v n : ℕ) → v ≤ n → select f (below n) ≡ select f (below v) ++ select f (upFrom v (n - v))
@@ -71,10 +75,13 @@ module _ (f : ℕ → Bool) where
   -- those from n on do not count, where none passes
   pub select-past : (n m : ℕ) → n ≤ m → ((v : ℕ) → n ≤ v → v < m → f v ≡ false) → select f (below m) ≡ select f (below n)
   select-past n m l h =
-      cut n m l ∙ ap (λ (r : List ℕ). select f (below n) ++ r) (select-none f (upFrom n (m - n)) (λ v q. let b = upFrom-mem n (m - n) q in h v (b .0) (omega arith))) ∙ append-nil (select f (below n))
+      cut n m l ∙ ap (λ (r : List ℕ). select f (below n) ++ r)
+      (select-none f (upFrom n (m - n)) (λ v q. let b = upFrom-mem n (m - n) q in h v (b .0) (omega arith)))
+      ∙ append-nil (select f (below n))
 
   -- the place of an element is how many are before it
-  pub select-place : (v n : ℕ) → v < n → f v ≡ true → (length (select f (below v)) < length (select f (below n))) × (getD (select f (below n)) (length (select f (below v))) 0 ≡ v)
+  pub select-place : (v n : ℕ) → v < n → f v ≡ true
+      → (length (select f (below v)) < length (select f (below n))) × (getD (select f (below n)) (length (select f (below v))) 0 ≡ v)
   unfolding select upFrom
   select-place v n l e =
       let g : n - v ≡ suc (n - suc v) = omega arith in

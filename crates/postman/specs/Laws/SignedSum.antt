@@ -49,7 +49,8 @@ max-least a b c h g = cond-ind (leZ a b) b a (λ x. x ≤ℤ c) (λ t. g) (λ t.
 pub minimumℤ-le : {x : ℤ} {xs : List ℤ} → List·Memᴰ x xs → minimumℤ xs ≤ℤ x
 unfolding minimumℤ
 minimumℤ-le {x} (List·Memᴰ·head {x = y} {xs = []} e) = subst (λ w. y ≤ℤ w) (sym e) (≤ℤ-refl y)
-minimumℤ-le {x} (List·Memᴰ·head {x = y} {xs = w ∷ ws} e) = subst (λ v. minℤ y (minimumℤ (w ∷ ws)) ≤ℤ v) (sym e) (min-left y (minimumℤ (w ∷ ws)))
+minimumℤ-le {x} (List·Memᴰ·head {x = y} {xs = w ∷ ws} e) =
+    subst (λ v. minℤ y (minimumℤ (w ∷ ws)) ≤ℤ v) (sym e) (min-left y (minimumℤ (w ∷ ws)))
 minimumℤ-le (List·Memᴰ·tail {x = y} {xs = w ∷ ws} m) = ≤ℤ-trans (min-right y (minimumℤ (w ∷ ws))) (minimumℤ-le m)
 
 pub minimumℤ-at : (xs : List ℤ) → 0 < length xs → List·Memᴰ (minimumℤ xs) xs
@@ -105,7 +106,9 @@ module _ {A : Type 0} where
 
 times-delta : (u : ℕ → ℤ) (i s : ℕ) → u i *ℤ pos (delta i s) ≡ u s *ℤ pos (delta i s)
 unfolding delta
-times-delta u i s = cond-ind (eqb i s) 1 0 (λ x. u i *ℤ pos x ≡ u s *ℤ pos x) (λ t. ap (λ (w : ℕ). u w *ℤ pos 1) (eqb→eq i s t)) (λ t. *ℤ-zero (u i) ∙ sym (*ℤ-zero (u s)))
+times-delta u i s =
+    cond-ind (eqb i s) 1 0 (λ x. u i *ℤ pos x ≡ u s *ℤ pos x) (λ t. ap (λ (w : ℕ). u w *ℤ pos 1) (eqb→eq i s t))
+    (λ t. *ℤ-zero (u i) ∙ sym (*ℤ-zero (u s)))
 
 -- a sum that only the terms of s enter
 sum-delta : (u : ℕ → ℤ) (s : ℕ) (vs : List ℕ) → sumOfℤ (map (λ i. u i *ℤ pos (delta i s)) vs) ≡ u s *ℤ pos (occurrences s vs)

@@ -79,7 +79,9 @@ sum-swap (v ∷ vs) ws g =
 
 times-delta : (g : ℕ → ℕ) (i v : ℕ) → g v * delta i v ≡ g i * delta i v
 unfolding delta
-times-delta g i v = cond-ind (eqb i v) 1 0 (λ x. g v * x ≡ g i * x) (λ t. ap (λ z. g z * 1) (sym (eqb→eq i v t))) (λ t. mul-zero (g v) ∙ sym (mul-zero (g i)))
+times-delta g i v =
+    cond-ind (eqb i v) 1 0 (λ x. g v * x ≡ g i * x) (λ t. ap (λ z. g z * 1) (sym (eqb→eq i v t)))
+    (λ t. mul-zero (g v) ∙ sym (mul-zero (g i)))
 
 -- a sum that only i's term enters
 pub sum-delta : (vs : List ℕ) (g : ℕ → ℕ) (i : ℕ) → sumOver vs (λ v. g v * delta i v) ≡ g i * occurrences i vs
@@ -88,12 +90,15 @@ sum-delta [] g i = sym (mul-zero (g i))
 sum-delta (v ∷ vs) g i = ap₂ _+_ (times-delta g i v) (sum-delta vs g i) ∙ sym (mul-add (g i) (delta i v) (occurrences i vs))
 
 -- the double sum of f counts what leaves a, or what enters it
-pub out-sum : (f : ℕ → ℕ → ℕ) (vs : List ℕ) (a : ℕ) → sumOver vs (λ i. sumOver vs (λ j. f i j * delta a i)) ≡ sumOver vs (λ j. f a j) * occurrences a vs
+pub out-sum : (f : ℕ → ℕ → ℕ) (vs : List ℕ) (a : ℕ)
+    → sumOver vs (λ i. sumOver vs (λ j. f i j * delta a i)) ≡ sumOver vs (λ j. f a j) * occurrences a vs
 out-sum f vs a =
-    sum-cong vs (λ i. sumOver vs (λ j. f i j * delta a i)) (λ i. sumOver vs (λ j. f i j) * delta a i) (λ i. sum-mul vs (λ j. f i j) (delta a i))
+    sum-cong vs (λ i. sumOver vs (λ j. f i j * delta a i)) (λ i. sumOver vs (λ j. f i j) * delta a i)
+    (λ i. sum-mul vs (λ j. f i j) (delta a i))
     ∙ sum-delta vs (λ i. sumOver vs (λ j. f i j)) a
 
-pub in-sum : (f : ℕ → ℕ → ℕ) (vs : List ℕ) (a : ℕ) → sumOver vs (λ i. sumOver vs (λ j. f i j * delta a j)) ≡ sumOver vs (λ i. f i a) * occurrences a vs
+pub in-sum : (f : ℕ → ℕ → ℕ) (vs : List ℕ) (a : ℕ)
+    → sumOver vs (λ i. sumOver vs (λ j. f i j * delta a j)) ≡ sumOver vs (λ i. f i a) * occurrences a vs
 in-sum f vs a =
     sum-cong vs (λ i. sumOver vs (λ j. f i j * delta a j)) (λ i. f i a * occurrences a vs) (λ i. sum-delta vs (λ j. f i j) a)
     ∙ sum-mul vs (λ i. f i a) (occurrences a vs)
@@ -102,17 +107,20 @@ pub once : {vs : List ℕ} {i : ℕ} → ((k : ℕ) → occurrences k vs ≤ 1) 
 once {i = i} o m = let a = o i in let b = occurrences-of-mem m in omega arith
 
 -- Σ w(i) × (how often i occurs in ss), over vertices among which each of ss is once, is the sum of w over ss
-pub sum-occurrences : (w : ℕ → ℕ) (vs ss : List ℕ) → ((i : ℕ) → List·Memᴰ i ss → occurrences i vs ≡ 1) → sumOver vs (λ i. w i * occurrences i ss) ≡ sumOver ss w
+pub sum-occurrences : (w : ℕ → ℕ) (vs ss : List ℕ) → ((i : ℕ) → List·Memᴰ i ss → occurrences i vs ≡ 1)
+    → sumOver vs (λ i. w i * occurrences i ss) ≡ sumOver ss w
 unfolding sumOver occurrences
 sum-occurrences w vs [] h = sum-cong vs (λ i. w i * 0) (λ i. 0) (λ i. mul-zero (w i)) ∙ sum-zero vs
 sum-occurrences w vs (s ∷ ss) h =
     sum-cong vs _ (λ i. w i * delta s i + w i * occurrences i ss) (λ i.
     mul-add (w i) (delta i s) (occurrences i ss) ∙ ap (λ z. w i * z + w i * occurrences i ss) (delta-sym i s))
     ∙ sum-add vs (λ i. w i * delta s i) (λ i. w i * occurrences i ss)
-    ∙ ap₂ _+_ (sum-delta vs w s ∙ ap (λ z. w s * z) (h s (List·Memᴰ·head refl)) ∙ mul-one (w s)) (sum-occurrences w vs ss (λ i m. h i (List·Memᴰ·tail m)))
+    ∙ ap₂ _+_ (sum-delta vs w s ∙ ap (λ z. w s * z) (h s (List·Memᴰ·head refl)) ∙ mul-one (w s))
+    (sum-occurrences w vs ss (λ i m. h i (List·Memᴰ·tail m)))
 
 -- one term changed, at a vertex that the list has so often
-sum-change : (vs : List ℕ) (g h : ℕ → ℕ) (k : ℕ) → ((i : ℕ) → List·Memᴰ i vs → i ≢ k → h i ≡ g i) → sumOver vs h + occurrences k vs * g k ≡ sumOver vs g + occurrences k vs * h k
+sum-change : (vs : List ℕ) (g h : ℕ → ℕ) (k : ℕ) → ((i : ℕ) → List·Memᴰ i vs → i ≢ k → h i ≡ g i)
+    → sumOver vs h + occurrences k vs * g k ≡ sumOver vs g + occurrences k vs * h k
 unfolding sumOver occurrences
 sum-change [] g h k e = omega (arith, zero-mul (g k), zero-mul (h k))
 sum-change (v ∷ vs) g h k e =
@@ -131,7 +139,8 @@ sum-change (v ∷ vs) g h k e =
     ]
 
 -- at a vertex that the list has once
-pub sum-change-once : (vs : List ℕ) (g h : ℕ → ℕ) (k : ℕ) → occurrences k vs ≡ 1 → ((i : ℕ) → List·Memᴰ i vs → i ≢ k → h i ≡ g i) → sumOver vs h + g k ≡ sumOver vs g + h k
+pub sum-change-once : (vs : List ℕ) (g h : ℕ → ℕ) (k : ℕ) → occurrences k vs ≡ 1 → ((i : ℕ) → List·Memᴰ i vs → i ≢ k → h i ≡ g i)
+    → sumOver vs h + g k ≡ sumOver vs g + h k
 sum-change-once vs g h k o e =
     let r = sum-change vs g h k e in
     let s : occurrences k vs * g k ≡ g k = ap (λ z. z * g k) o ∙ mul-comm 1 (g k) ∙ mul-one (g k) in

@@ -1,5 +1,5 @@
--- For any tour there is an arborescence whose completion costs no more. Cut the tour into a route of links and required arcs; its first entries are an
--- arborescence; and the links that are left balance the required arcs with the arborescence counted.
+-- For any tour there is an arborescence whose completion costs no more. Cut the tour into a route of links and required arcs; its first
+-- entries are an arborescence; and the links that are left balance the required arcs with the arborescence counted.
 use mathlib.Core.Path.{_≡_, refl, ap, _∙_, subst, subst⁻¹}
 use mathlib.Core.Logic.{inl, inr, _≢_}
 use mathlib.Core.List.{List, [], _∷_, map, List·Memᴰ, List·Memᴰ·head, List·Memᴰ·not-nil, List·Memᴰ·eq-of-singleton}
@@ -45,10 +45,12 @@ route-balance : (p : Plan) (v i j : ℕ) (ms : List Move) → IsRoute p i ms j
 unfolding weight ends occurrences
 route-balance p v i j [] h = let e = ap (delta v) h in omega arith
 route-balance p v i j (link l ∷ ms) h = let r = route-balance p v (l .head) j ms (h .2) in let e = ap (delta v) (h .0) in omega arith
-route-balance p v i j (arc k ∷ ms) h = let r = route-balance p v (arcAt (p .arcs) k .head) j ms (h .2) in let e = ap (delta v) (h .0) in omega arith
+route-balance p v i j (arc k ∷ ms) h = let r = route-balance p v (arcAt (p .arcs) k .head) j ms (h .2) in let e = ap (delta v) (h .0) in
+    omega arith
 
 -- a required arc of component q starts there
-arc-in : (p : Plan) → InPlan p → (q : ℕ) → q < componentCount p → (k : ℕ) × IsRequiredNumber p k × (component p (arcAt (p .arcs) k .tail) ≡ q)
+arc-in : (p : Plan) → InPlan p → (q : ℕ) → q < componentCount p
+    → (k : ℕ) × IsRequiredNumber p k × (component p (arcAt (p .arcs) k .tail) ≡ q)
 arc-in p ok q l =
     let v = component-at p ok q l in
     let k = required-arc-of p (v .0) in (
@@ -60,7 +62,8 @@ arc-in p ok q l =
       ],
     )
 
-module _ (p : Plan) (ok : InPlan p) (ms : List Move) (x : ℕ) (route : IsRoute p x ms x) (perm : Permutation (arcsOf ms) (requiredNumbers p)) (root : component p x ≡ 0) where
+module _ (p : Plan) (ok : InPlan p) (ms : List Move) (x : ℕ) (route : IsRoute p x ms x)
+    (perm : Permutation (arcsOf ms) (requiredNumbers p)) (root : component p x ≡ 0) where
   abbrev whole : List Link
   whole = linksOf ms
 
@@ -89,7 +92,8 @@ module _ (p : Plan) (ok : InPlan p) (ms : List Move) (x : ℕ) (route : IsRoute 
   entry-at q l = getD-map-upFrom (entry p whole) 1 (k - 1) q _ l ∙ ap (entry p whole) (one-add q)
 
   found : (q : ℕ) → q < k - 1
-      → List·Memᴰ (entry p whole (suc q)) whole × List·Memᴰ (entry p whole (suc q)) (links p) × (component p (entry p whole (suc q) .head) ≡ suc q) × (component p (entry p whole (suc q) .tail) ≢ suc q)
+      → List·Memᴰ (entry p whole (suc q)) whole × List·Memᴰ (entry p whole (suc q)) (links p)
+      × (component p (entry p whole (suc q) .head) ≡ suc q) × (component p (entry p whole (suc q) .tail) ≢ suc q)
   found q l = good (suc q) (omega arith) .found (λ e. (let z : suc q ≡ 0 = e in omega arith))
 
   pub is-arborescence : IsArborescence p t
@@ -111,7 +115,8 @@ module _ (p : Plan) (ok : InPlan p) (ms : List Move) (x : ℕ) (route : IsRoute 
   unfolding leastBalancing heads tails
   completion-le =
       let s = rest in
-      let b = legs-le (distance p) (triangle p ok) (distance-self p ok) (ends (s .0)) (heads p t) (tails p t) (same-length p ok t (joins p is-arborescence)) (λ i.
+      let b = legs-le (distance p) (triangle p ok) (distance-self p ok) (ends (s .0)) (heads p t) (tails p t)
+      (same-length p ok t (joins p is-arborescence)) (λ i.
       let h₁ = without-weight (λ a b. delta i b) (s .1) in
       let h₂ = without-weight (λ a b. delta i a) (s .1) in
       let h₃ = route-balance p i x x ms route in

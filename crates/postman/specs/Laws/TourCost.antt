@@ -1,5 +1,6 @@
--- A tour's cost is its plain cost, with the required arcs' own costs exchanged for their service costs. Walk along the list: where an arc is due, it is taken off, and its
--- cost is exchanged for its service cost on both sides; any other pass costs the same on both. At the end nothing is due, since every required arc occurs.
+-- A tour's cost is its plain cost, with the required arcs' own costs exchanged for their service costs. Walk along the list: where an arc
+-- is due, it is taken off, and its cost is exchanged for its service cost on both sides; any other pass costs the same on both. At the end
+-- nothing is due, since every required arc occurs.
 use mathlib.Core.Path.{_≡_, refl, sym, ap, _∙_, subst⁻¹}
 use mathlib.Core.Logic.{inl, inr}
 use mathlib.Core.Bool.{not}
@@ -80,9 +81,11 @@ module _ (arcs : List Arc) where
       rest j h n = elim (List·Memᴰ·cases-cons h) [ inl e ↦ absurd (n e) | inr g ↦ g ]
 
 -- THE LAW: both sides stay in the natural numbers, whichever of the two costs is larger
-pub tour-cost : (p : Plan) {w : List ℕ} → IsTour p w → tourCost p w + walkCost (p .arcs) (requiredNumbers p) ≡ walkCost (p .arcs) w + requiredCost p
+pub tour-cost : (p : Plan) {w : List ℕ} → IsTour p w
+    → tourCost p w + walkCost (p .arcs) (requiredNumbers p) ≡ walkCost (p .arcs) w + requiredCost p
 unfolding tourCost
 tour-cost p {w} h =
-    let e = exchange (p .arcs) w (requiredNumbers p) (numbers-once p) (λ k m. (let g = numbers-mem p m in h .covers k (g .number) (g .must))) in
+    let e = exchange (p .arcs) w (requiredNumbers p) (numbers-once p)
+    (λ k m. (let g = numbers-mem p m in h .covers k (g .number) (g .must))) in
     let r = numbers-service p in
     omega arith

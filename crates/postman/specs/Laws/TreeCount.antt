@@ -1,4 +1,5 @@
--- The number of trees beside the plan call: every accepted budget is at most 4,294,967,295, so a number above that is above the budget. And one component has one tree.
+-- The number of trees beside the plan call: every accepted budget is at most 4,294,967,295, so a number above that is above
+-- the budget. And one component has one tree.
 use mathlib.Core.Path.{_≡_, sym, ap, _∙_}
 use mathlib.Core.Bool.{cond}
 use mathlib.Core.List.{map}
@@ -29,7 +30,8 @@ pub whole-known : (p : Plan) (budget : ℕ) → budget ≤ highestBudget → isW
 unfolding isWhole treeCount isKnownWithin highestBudget
 whole-known p budget l = elim (decLe (arborescenceCount p) 4294967295) [
   | yes h ↦ sym (ap (λ c. isKnownWithin c budget) (counted-known (arborescenceCount p) h))
-  | no h ↦ lt-leb (arborescenceCount p) budget (omega arith) ∙ sym (ap (λ c. isKnownWithin c budget) (counted-above (arborescenceCount p) (omega arith)))
+  | no h ↦ lt-leb (arborescenceCount p) budget (omega arith)
+      ∙ sym (ap (λ c. isKnownWithin c budget) (counted-above (arborescenceCount p) (omega arith)))
 ]
 
 -- "k = 1 gives 1"
@@ -38,4 +40,5 @@ unfolding treeCount arborescenceCount arborescences arrives select choices allOf
 one-component p e = ap counted one ∙ counted-known 1 (omega arith)
   where
     one : arborescenceCount p ≡ 1
-    one = ap (λ k. length (select (λ t. allOf (λ q. eqb (iterate k (parent p t) q) 0) (below k)) (choices (map (candidates p) (upFrom 1 (k - 1)))))) e
+    one = ap (λ k. length
+        (select (λ t. allOf (λ q. eqb (iterate k (parent p t) q) 0) (below k)) (choices (map (candidates p) (upFrom 1 (k - 1)))))) e

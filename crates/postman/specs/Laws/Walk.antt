@@ -19,7 +19,8 @@ join arcs {i} {j} {k} a b = (a .0 ++ b .0, walk-append arcs i j k (a .0) (b .0) 
 pub around : (arcs : List Arc) (x y : ℕ) {k : ℕ} {w : List ℕ} → List·Memᴰ k w → IsWalk arcs x w y
     → Leads arcs x (arcAt arcs k .tail) × Leads arcs (arcAt arcs k .tail) (arcAt arcs k .head) × Leads arcs (arcAt arcs k .head) y
 around arcs x y (List·Memᴰ·head {x = h} {xs = w} e) g =
-    subst⁻¹ (λ (z : ℕ). Leads arcs x (arcAt arcs z .tail) × Leads arcs (arcAt arcs z .tail) (arcAt arcs z .head) × Leads arcs (arcAt arcs z .head) y) e
+    subst⁻¹ (λ (z : ℕ). Leads arcs x (arcAt arcs z .tail) × Leads arcs (arcAt arcs z .tail) (arcAt arcs z .head)
+    × Leads arcs (arcAt arcs z .head) y) e
     (([], sym (g .2)), (h ∷ [], (g .0, g .1, refl, refl)), (w, g .3))
 around arcs x y (List·Memᴰ·tail {x = h} {xs = w} m) g =
     let r = around arcs (arcAt arcs h .head) y m (g .3) in

@@ -1,6 +1,7 @@
--- The plan at a departure. It has the arcs of the plan that it is made from, with the same ends and costs; an arc of it may be driven exactly if it may be driven there and is not shut. So it is
--- well formed, and its walks are the walks that avoid the arcs shut. Where no required arc is shut, it has the same required arcs: its tours are the tours that avoid the arcs shut,
--- and a list of arcs costs the same in both. With no window it is the plan itself, and the call's refusal is the plan call's.
+-- The plan at a departure. It has the arcs of the plan that it is made from, with the same ends and costs; an arc of it may be driven
+-- exactly if it may be driven there and is not shut. So it is well formed, and its walks are the walks that avoid the arcs shut. Where no
+-- required arc is shut, it has the same required arcs: its tours are the tours that avoid the arcs shut, and a list of arcs costs the same
+-- in both. With no window it is the plan itself, and the call's refusal is the plan call's.
 use mathlib.Core.Path.{_≡_, refl, sym, ap, _∙_, subst, subst⁻¹}
 use mathlib.Core.Logic.{_↔_, inl, inr}
 use mathlib.Core.Bool.{Bool, true, false, not, cond, _&&_, _||_}
@@ -85,7 +86,8 @@ module _ (p : Plan) (windows : List Window) (d : Departure) where
   arc-beyond : (k : ℕ) → length (p .arcs) ≤ k → arcAt (q .arcs) k ≡ closedIf (shut k) (arcAt (p .arcs) k)
   arc-beyond k l =
       let e = at-length in
-      List·getD-eq-default (q .arcs) _ (omega arith) ∙ sym (ap (closedIf (shut k)) (List·getD-eq-default (p .arcs) _ l) ∙ closed-none (shut k))
+      List·getD-eq-default (q .arcs) _ (omega arith)
+      ∙ sym (ap (closedIf (shut k)) (List·getD-eq-default (p .arcs) _ l) ∙ closed-none (shut k))
 
   pub at-arc : (k : ℕ) → arcAt (q .arcs) k ≡ closedIf (shut k) (arcAt (p .arcs) k)
   at-arc k = elim (decLe (length (p .arcs)) k) [ yes l ↦ arc-beyond k l | no n ↦ arc-within k (omega arith) ]
@@ -176,8 +178,14 @@ module _ (p : Plan) (windows : List Window) (d : Departure) where
         there : IsTour q w → IsTour p w × Avoids windows d w
         there t =
             let r = walk-avoids (t .start) w (t .start) (t .closed) in
-            let e = at-length in
-            (record { start = t .start; closed = r .0; covers = λ k l m. t .covers k (omega arith) (subst⁻¹ T (same-required k l) m) }, r .1)
+            let e = at-length in (
+              record {
+                start = t .start;
+                closed = r .0;
+                covers = λ k l m. t .covers k (omega arith) (subst⁻¹ T (same-required k l) m);
+              },
+              r .1,
+            )
 
         back : IsTour p w × Avoids windows d w → IsTour q w
         back h =
@@ -193,7 +201,8 @@ module _ (p : Plan) (windows : List Window) (d : Departure) where
     unfolding requiredNumbers
     same-numbers =
         ap (λ m. select (λ k. isRequiredArc (arcAt (q .arcs) k)) (below m)) at-length
-        ∙ select-cong (λ k. isRequiredArc (arcAt (q .arcs) k)) (λ k. isRequiredArc (arcAt (p .arcs) k)) (below (length (p .arcs))) (λ k m. same-required k (below-mem m))
+        ∙ select-cong (λ k. isRequiredArc (arcAt (q .arcs) k)) (λ k. isRequiredArc (arcAt (p .arcs) k)) (below (length (p .arcs)))
+        (λ k m. same-required k (below-mem m))
 
     pub same-some : 0 < length (requiredArcs q) → 0 < length (requiredArcs p)
     same-some l =
@@ -293,15 +302,22 @@ module _ (bytes : List ℕ) (budget places : ℕ) (numbers : List ℕ) (d : Depa
   unfolding earlierConditionsAt
   at-other = before-other bytes budget places own at (windows-other (planOf bytes) numbers d)
 
-  pub earlier-accepted-at : firstRefusal (earlierConditionsAt bytes budget places numbers d) ≡ none → AcceptedAt bytes budget places numbers d
+  pub earlier-accepted-at : firstRefusal (earlierConditionsAt bytes budget places numbers d) ≡ none
+      → AcceptedAt bytes budget places numbers d
   unfolding earlierConditionsAt
   earlier-accepted-at e =
       let b = before-accepted bytes budget places own at e in
       let w = windows-accepted (planOf bytes) numbers d (b .own-accepted) in
-      record { before = b; well-formed = at-well-formed (planOf bytes) (windowsIn numbers) d (file-accepted bytes (b .file)); good = w .0; none-shut = w .1 }
+      record {
+        before = b;
+        well-formed = at-well-formed (planOf bytes) (windowsIn numbers) d (file-accepted bytes (b .file));
+        good = w .0;
+        none-shut = w .1;
+      }
 
   pub call-accepted-at : callRefusalAt bytes budget places numbers d ≡ none → AcceptedAt bytes budget places numbers d
-  call-accepted-at e = earlier-accepted-at (accepted-append (earlierConditionsAt bytes budget places numbers d) _ (rw at-conditions at e) .0)
+  call-accepted-at e =
+      earlier-accepted-at (accepted-append (earlierConditionsAt bytes budget places numbers d) _ (rw at-conditions at e) .0)
 
   -- the order, from the file on
   pub at-order : callRefusalAt bytes budget places numbers d

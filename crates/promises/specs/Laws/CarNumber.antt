@@ -33,7 +33,8 @@ unfolding firstRefusal
 own-number [] h k e = absurd (Option·some-ne-none k (sym e))
 own-number (c ∷ cs) h k e = at (c .0) e (own-number cs (h .1) k)
   where
-    at : (b : Bool) → cond b (some (c .1)) (firstRefusal cs) ≡ some k → (firstRefusal cs ≡ some k → reachesBoth k ≡ false) → reachesBoth k ≡ false
+    at : (b : Bool) → cond b (some (c .1)) (firstRefusal cs) ≡ some k → (firstRefusal cs ≡ some k → reachesBoth k ≡ false)
+        → reachesBoth k ≡ false
     at true q more = let x : c .1 ≡ k = cc in ap reachesBoth (sym x) ∙ h .0
     at false q more = more q
 
@@ -44,14 +45,16 @@ module _ (bytes : List ℕ) (budget places : ℕ) (marks : List ℕ) where
     where
       at : (o : Option ℕ) → firstRefusal (fileConditions bytes) ≡ o → o ≡ some k
       at none q =
-          let x = own-number _ (refl, (refl, (refl, (refl, (refl, (refl, tt)))))) k (sym (first-on (fileConditions bytes) _ q) ∙ sym (car-order bytes budget places marks) ∙ e) in
+          let x = own-number _ (refl, (refl, (refl, (refl, (refl, (refl, tt)))))) k
+          (sym (first-on (fileConditions bytes) _ q) ∙ sym (car-order bytes budget places marks) ∙ e) in
           let y : _≡_ {A = Bool} true false = sym b ∙ x in cc
       at (some r) q = sym (first-stop (fileConditions bytes) _ r q) ∙ sym (car-order bytes budget places marks) ∙ e
 
 -- a refusal that reaches both is both cars'
 pub both-refused : (bytes : List ℕ) (b₁ b₂ p₁ p₂ : ℕ) (m₁ m₂ : List ℕ) (k : ℕ)
     → carRefusal bytes b₁ p₁ m₁ ≡ some k → reachesBoth k ≡ true → carRefusal bytes b₂ p₂ m₂ ≡ some k
-both-refused bytes b₁ b₂ p₁ p₂ m₁ m₂ k e r = car-order bytes b₂ p₂ m₂ ∙ first-stop (fileConditions bytes) _ k (file-first bytes b₁ p₁ m₁ k e r)
+both-refused bytes b₁ b₂ p₁ p₂ m₁ m₂ k e r =
+    car-order bytes b₂ p₂ m₂ ∙ first-stop (fileConditions bytes) _ k (file-first bytes b₁ p₁ m₁ k e r)
 
 -- ---- the number is read
 
@@ -73,7 +76,9 @@ unfolding answer
 first-read Accepted w = let l = own-small w in let e : ownNumber (verdictNumber w) / 256 ≡ 0 = omega arith in ap (λ (x : ℕ). negℤ (pos x)) e
 first-read (Refused r) w = at (reachesBoth (refusalNumber r))
   where
-    at : (b : Bool) → firstNumber (cond b (negℤ (pos (refusalNumber r))) (pos (256 * refusalNumber r + ownNumber (verdictNumber w)))) ≡ negℤ (pos (refusalNumber r))
+    at : (b : Bool)
+        → firstNumber (cond b (negℤ (pos (refusalNumber r))) (pos (256 * refusalNumber r + ownNumber (verdictNumber w))))
+        ≡ negℤ (pos (refusalNumber r))
     at true = below-zero firstNumber (λ n. refl) (refusalNumber r) (some-number r .0)
     at false =
         let l = own-small w in
@@ -90,7 +95,8 @@ second-read Accepted w h =
 second-read (Refused r) w h = at (reachesBoth (refusalNumber r)) refl
   where
     at : (b : Bool) → reachesBoth (refusalNumber r) ≡ b
-        → secondNumber (cond b (negℤ (pos (refusalNumber r))) (pos (256 * refusalNumber r + ownNumber (verdictNumber w)))) ≡ oneNumber (answer (verdictNumber w) 0)
+        → secondNumber (cond b (negℤ (pos (refusalNumber r))) (pos (256 * refusalNumber r + ownNumber (verdictNumber w))))
+        ≡ oneNumber (answer (verdictNumber w) 0)
     at true e =
         below-zero secondNumber (λ n. refl) (refusalNumber r) (some-number r .0)
         ∙ ap (λ (o : Option ℕ). oneNumber (answer o 0)) (sym (h (refusalNumber r) refl e))

@@ -26,7 +26,8 @@ module _ (file lent : List ℕ) where
     ap (λ (o : Option ℕ). unless o (flatMap arcBytes (planOf file .arcs) ++ drop (7 * arcCount file) lent) lent) e,
   )
 
-  pub lent-read-refused : (k : ℕ) → readRefusal file (length lent / 7) ≡ some k → (oneNumber (packed (readAnswer file (arcsIn lent))) ≡ negℤ (pos k)) × (lentAfter file lent ≡ lent)
+  pub lent-read-refused : (k : ℕ) → readRefusal file (length lent / 7) ≡ some k
+      → (oneNumber (packed (readAnswer file (arcsIn lent))) ≡ negℤ (pos k)) × (lentAfter file lent ≡ lent)
   unfolding answer unless
   lent-read-refused k e = by (some k) e
 

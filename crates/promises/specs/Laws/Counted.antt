@@ -18,7 +18,8 @@ module _ (bytes : List ℕ) where
   unfolding countCall answer
   count-given e = ap (λ (o : Option ℕ). answer o (treeCount (planOf bytes))) e
 
-  pub count-exact : countRefusal bytes ≡ none → arborescenceCount (planOf bytes) ≤ 4294967295 → countCall bytes ≡ given (known (arborescenceCount (planOf bytes)))
+  pub count-exact : countRefusal bytes ≡ none → arborescenceCount (planOf bytes) ≤ 4294967295
+      → countCall bytes ≡ given (known (arborescenceCount (planOf bytes)))
   unfolding treeCount
   count-exact e l = count-given e ∙ ap given (counted-known (arborescenceCount (planOf bytes)) l)
 

@@ -34,8 +34,15 @@ module _ {p : Plan} {budget : ℕ} {refusal : Option ℕ} {old new : List ℕ} {
     number = i .verdict;
     number-only = λ k e.
         (let s = i .summary-is ∙ ap (λ (o : Option ℕ). fields (answer o (summary p budget (multipliersOf r)))) e in
-        let n = i .places-are ∙ ap (λ (o : Option ℕ). countUnless o (length (tourOf p budget))) e in
-        (n, ap (λ (x : Summary). x .cost) s, ap (λ (x : Summary). x .floor) s, ap (λ (x : Summary). x .trees) s, ap (λ (x : Summary). x .whole) s, ap (λ (x : Summary). x .parts) s, i .no-multipliers k e));
+        let n = i .places-are ∙ ap (λ (o : Option ℕ). countUnless o (length (tourOf p budget))) e in (
+          n,
+          ap (λ (x : Summary). x .cost) s,
+          ap (λ (x : Summary). x .floor) s,
+          ap (λ (x : Summary). x .trees) s,
+          ap (λ (x : Summary). x .whole) s,
+          ap (λ (x : Summary). x .parts) s,
+          i .no-multipliers k e,
+        ));
     untouched = λ k e. i .sheet ∙ ap (λ (o : Option ℕ). unless o (written (tourOf p budget) old) old) e;
   }
 
@@ -91,12 +98,17 @@ module _ {p : Plan} {budget : ℕ} {refusal : Option ℕ} {old new : List ℕ} {
 
 -- ---- u
 
-pub equal-multipliers : {p q : Plan} {b c : ℕ} {o o′ : Option ℕ} {old new old′ new′ : List ℕ} {r s : Planned} → IsPlanned p b o old new r → IsPlanned q c o′ old′ new′ s
+pub equal-multipliers : {p q : Plan} {b c : ℕ} {o o′ : Option ℕ} {old new old′ new′ : List ℕ} {r s : Planned} → IsPlanned p b o old new r
+    → IsPlanned q c o′ old′ new′ s
     → p ≡ q → Accepted r → Accepted s → r .multipliers ≡ s .multipliers
-equal-multipliers i j e good good′ = i .answered (sym (i .verdict) ∙ good) .multipliers-are ∙ ap multipliersFor e ∙ sym (j .answered (sym (j .verdict) ∙ good′) .multipliers-are)
+equal-multipliers i j e good good′ =
+    i .answered (sym (i .verdict) ∙ good) .multipliers-are ∙ ap multipliersFor e
+    ∙ sym (j .answered (sym (j .verdict) ∙ good′) .multipliers-are)
 
 -- ---- "Only 1 to 7 and 13 reach both"
 
-pub file-refused-car : {bytes marks : List ℕ} {budget : ℕ} {old new : List ℕ} {r : Planned} {k : ℕ} → IsCar bytes marks budget old new r → firstRefusal (fileConditions bytes) ≡ some k
+pub file-refused-car : {bytes marks : List ℕ} {budget : ℕ} {old new : List ℕ} {r : Planned} {k : ℕ} → IsCar bytes marks budget old new r
+    → firstRefusal (fileConditions bytes) ≡ some k
     → verdictNumber (r .verdict) ≡ some k
-file-refused-car {bytes} {marks} {budget} {old} {k = k} c e = c .planned .verdict ∙ car-order bytes budget (length old) marks ∙ first-stop (fileConditions bytes) _ k e
+file-refused-car {bytes} {marks} {budget} {old} {k = k} c e =
+    c .planned .verdict ∙ car-order bytes budget (length old) marks ∙ first-stop (fileConditions bytes) _ k e

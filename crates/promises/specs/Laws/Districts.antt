@@ -24,7 +24,7 @@ use Rattle.district_entry.specs.Admitted.{admissionNumber}
 use Rattle.district_entry.specs.Entered.{movedUnless, IsEntered}
 use Rattle.districts.specs.Turned.{Meeting, nobody, shortSheet, meeting, outcomeOf, afterTurn, sheetAfter, IsTurned}
 use Rattle.districts.specs.Led.{Led}
-use Rattle.districts.specs.Theorem.{run-line, served, finished-as-plan-call}
+use Rattle.districts.specs.Laws.Theorem.{run-line, served, finished-as-plan-call}
 use Rattle.districts.specs.Laws.Turned.{empty-met, line-short-met}
 use Rattle.district_machine.specs.Laws.Places.{free-small}
 use Rattle.district_entry.specs.Laws.Line.{room, waits-short}
@@ -42,10 +42,12 @@ none-of q l (x ∷ es) e = at (isTurnOf q (runFrom l es) x) e (none-of q l es)
     at false e more = (tt, more (omega arith))
 
 -- the place that an entry answers
-pub entry-place : {m : Machine} {bytes : List ℕ} {budget : ℕ} {r : Entered} {l : Line} → IsEntered m bytes budget r → lineOf m ≡ l → (q : ℕ) → r .answer ≡ At q → (q ≡ lowestFree l) × (q < 8)
+pub entry-place : {m : Machine} {bytes : List ℕ} {budget : ℕ} {r : Entered} {l : Line} → IsEntered m bytes budget r → lineOf m ≡ l
+    → (q : ℕ) → r .answer ≡ At q → (q ≡ lowestFree l) × (q < 8)
 entry-place {m} {bytes} {budget} {r} {l} h e q a =
     let p = h .place q a ∙ ap lowestFree e in
-    let g : entryRefusal l bytes budget ≡ none = ap (λ (x : Line). entryRefusal x bytes budget) (sym e) ∙ sym (h .refusal) ∙ ap admissionNumber a in
+    let g : entryRefusal l bytes budget ≡ none =
+    ap (λ (x : Line). entryRefusal x bytes budget) (sym e) ∙ sym (h .refusal) ∙ ap admissionNumber a in
     let s = free-small l (room l bytes budget g) in
     (p, omega arith)
 
@@ -54,7 +56,8 @@ not-moved : (o : Option ℕ) (k : ℕ) (new old : Machine) → o ≡ some k → 
 unfolding movedUnless
 not-moved o k new old e = ap (λ (o : Option ℕ). movedUnless o new old) e
 
-pub refused-still : {m : Machine} {bytes : List ℕ} {budget k : ℕ} {r : Entered} → IsEntered m bytes budget r → admissionNumber (r .answer) ≡ some k → r .machine ≡ m
+pub refused-still : {m : Machine} {bytes : List ℕ} {budget k : ℕ} {r : Entered} → IsEntered m bytes budget r
+    → admissionNumber (r .answer) ≡ some k → r .machine ≡ m
 refused-still {m} {k = k} h e = h .machine ∙ not-moved _ k _ m (sym (h .refusal) ∙ e)
 
 -- a turn that nobody has
@@ -66,11 +69,13 @@ module _ (es : List Event) {m : Machine} (h : Led es m) {old new : List ℕ} {r 
   pub nobody-still : run es ≡ [] → (r .outcome ≡ Empty) × (r .machine ≡ m) × (new ≡ old)
   nobody-still e = still nobody t (empty-met m (length old) (run-line es m h ∙ e))
 
-  pub short-still : (d : District) (l : Line) → run es ≡ d ∷ l → length old < sheetPlaces → (r .outcome ≡ ShortSheet) × (r .machine ≡ m) × (new ≡ old)
+  pub short-still : (d : District) (l : Line) → run es ≡ d ∷ l → length old < sheetPlaces
+      → (r .outcome ≡ ShortSheet) × (r .machine ≡ m) × (new ≡ old)
   short-still d l e few = still shortSheet t (line-short-met m (length old) d l (run-line es m h ∙ e) few)
 
   -- u of a last turn is that of the plan call
-  pub last-multipliers : {new′ : List ℕ} {s : Planned} (d : District) (l : Line) → run es ≡ d ∷ l → sheetPlaces ≤ length old → finishes d ≡ true
+  pub last-multipliers : {new′ : List ℕ} {s : Planned} (d : District) (l : Line) → run es ≡ d ∷ l → sheetPlaces ≤ length old
+      → finishes d ≡ true
       → IsPlanCall (lastEntry (d .place) es .bytes) (lastEntry (d .place) es .budget) old new′ s → r .planned .multipliers ≡ s .multipliers
   last-multipliers {new′} {s} d l e long f c =
       let x = served es m h old new r t d l e long .last f .1 in
@@ -80,7 +85,8 @@ module _ (es : List Event) {m : Machine} (h : Led es m) {old new : List ℕ} {r 
 
 -- ---- what a line's districts are, after a run
 
-pub seven : (es : List Event) (d : District) → List·Memᴰ d (run es) → (more : List Event) → turnsOf (d .place) (run es) more ≡ 0 → turnsIn (run es) more ≤ 7
+pub seven : (es : List Event) (d : District) → List·Memᴰ d (run es) → (more : List Event) → turnsOf (d .place) (run es) more ≡ 0
+    → turnsIn (run es) more ≤ 7
 seven es d m more never =
     let w = waits-in (run es) d m in
     let a = waits-short (w .1) in
@@ -98,5 +104,6 @@ rounded-up es d m f =
     let c = leb→le (total d) (d .tried + 1000) (of-true f) in
     (omega arith, omega arith)
 
-pub entered-with : (es : List Event) (d : District) → List·Memᴰ d (run es) → (d .bytes ≡ lastEntry (d .place) es .bytes) × (d .budget ≡ lastEntry (d .place) es .budget)
+pub entered-with : (es : List Event) (d : District) → List·Memᴰ d (run es)
+    → (d .bytes ≡ lastEntry (d .place) es .bytes) × (d .budget ≡ lastEntry (d .place) es .budget)
 entered-with es d m = let k = run-kept es .each d m in (k .bytes-are, k .budget-is)

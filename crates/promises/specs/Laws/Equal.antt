@@ -93,7 +93,16 @@ same-verdict (Refused r) (Refused s) e = ap Refused (same-refusal r s (ap held e
 pub equal : {r s : Planned} → SameAnswer r s → r .multipliers ≡ s .multipliers → r ≡ s
 equal {r} {s} h u =
     let v = same-verdict (r .verdict) (s .verdict) (h .refusal) in
-    λ j. record { verdict = v j; places = h .places j; cost = h .cost j; floor = h .floor j; trees = h .trees j; whole = h .whole j; parts = h .parts j; multipliers = u j }
+    λ j. record {
+      verdict = v j;
+      places = h .places j;
+      cost = h .cost j;
+      floor = h .floor j;
+      trees = h .trees j;
+      whole = h .whole j;
+      parts = h .parts j;
+      multipliers = u j;
+    }
 
 -- ---- two answers to calls on one plan, with one budget and one refusal, are equal, whatever the sheets hold
 
@@ -108,20 +117,32 @@ module _ {p : Plan} {budget : ℕ} {old new old′ new′ : List ℕ} {r s : Pla
       let v = same-verdict (r .verdict) (s .verdict) (i .verdict ∙ sym (j .verdict)) in
       let n = i .places-are ∙ sym (j .places-are) in
       let e = i .summary-is ∙ ap (λ (l : List ℤ). fields (answer o (summary p budget (λ v. getD l v (pos 0))))) u ∙ sym (j .summary-is) in
-      λ k. record { verdict = v k; places = n k; cost = e k .cost; floor = e k .floor; trees = e k .trees; whole = e k .whole; parts = e k .parts; multipliers = u k }
+      λ k. record {
+        verdict = v k;
+        places = n k;
+        cost = e k .cost;
+        floor = e k .floor;
+        trees = e k .trees;
+        whole = e k .whole;
+        parts = e k .parts;
+        multipliers = u k;
+      }
 
 -- and where the sheets held the same, they hold the same
-pub equal-calls : {p : Plan} {budget : ℕ} {o : Option ℕ} {old new new′ : List ℕ} {r s : Planned} → IsPlanned p budget o old new r → IsPlanned p budget o old new′ s → (r ≡ s) × (new ≡ new′)
+pub equal-calls : {p : Plan} {budget : ℕ} {o : Option ℕ} {old new new′ : List ℕ} {r s : Planned} → IsPlanned p budget o old new r
+    → IsPlanned p budget o old new′ s → (r ≡ s) × (new ≡ new′)
 equal-calls i j = (equal-answers i j, i .sheet ∙ sym (j .sheet))
 
 -- at a departure, with sheets of one length
 pub equal-at : {bytes windows : List ℕ} {budget : ℕ} {d : Departure} {old new old′ new′ : List ℕ} {r s : Planned} → length old ≡ length old′
     → IsPlanCallAt bytes budget windows d old new r → IsPlanCallAt bytes budget windows d old′ new′ s → r ≡ s
 equal-at {bytes} {windows} {budget} {d} e x y =
-    equal-answers (x .planned) (planned-as _ _ _ _ _ _ _ _ refl (ap (λ (n : ℕ). callRefusalAt bytes budget n windows d) (sym e)) (y .planned))
+    equal-answers (x .planned)
+    (planned-as _ _ _ _ _ _ _ _ refl (ap (λ (n : ℕ). callRefusalAt bytes budget n windows d) (sym e)) (y .planned))
 
 -- and of an open plan that holds the same file
-pub asked-equal : {f g : Held} {windows : List ℕ} {budget : ℕ} {d : Departure} {old new old′ new′ : List ℕ} {r s : Planned} → g ≡ f → length old ≡ length old′
+pub asked-equal : {f g : Held} {windows : List ℕ} {budget : ℕ} {d : Departure} {old new old′ new′ : List ℕ} {r s : Planned} → g ≡ f
+    → length old ≡ length old′
     → IsPlanCallAt (fileIn f) budget windows d old new r → IsPlanCallAt (fileIn g) budget windows d old′ new′ s
     → (r ≡ s) × (take (r .places) new ≡ take (s .places) new′) × (old ≡ old′ → new ≡ new′)
 asked-equal {f} {g} {windows} {budget} {d} {old} {new} {old′} {new′} {r} {s} same e x y =

@@ -1,4 +1,5 @@
--- A state that was stored is lent again as it was. Each file is read from the place where it was put: what stands before it has the length of the files before it.
+-- A state that was stored is lent again as it was. Each file is read from the place where it was put: what stands
+-- before it has the length of the files before it.
 use mathlib.Core.Path.{_≡_, refl, ap, _∙_}
 use mathlib.Core.List.{List, [], _∷_, _++_}
 use Prim.Native.Nat.{ℕ, _+_, _≤_}

@@ -1,5 +1,5 @@
--- Machines that are lent, from the start on. A machine that was stored is lent again as it was, and where none is stored nothing has moved: so the machine after any run of calls is one that the run's entries and turns
--- lead to (`districts` `Led`).
+-- Machines that are lent, from the start on. A machine that was stored is lent again as it was, and where none is stored nothing has moved:
+-- so the machine after any run of calls is one that the run's entries and turns lead to (`districts` `Led`).
 use mathlib.Core.Path.{_≡_, refl, sym, ap, _∙_, subst, subst⁻¹}
 use mathlib.Core.Bool.{Bool, true, false, cond}
 use mathlib.Core.List.{List, [], _∷_, _++_}
@@ -31,7 +31,8 @@ use Rattle.machine_bytes.specs.Laws.EmptyMachine.{zeros-empty}
 
 -- ---- the start
 
-started-empty : (old bytes : List ℕ) (n : ℤ) → IsStarted old bytes n → districtsBytes ≤ length old → (districtsBytes ≤ length bytes) × (machineIn bytes ≡ emptyMachine)
+started-empty : (old bytes : List ℕ) (n : ℤ) → IsStarted old bytes n → districtsBytes ≤ length old
+    → (districtsBytes ≤ length bytes) × (machineIn bytes ≡ emptyMachine)
 started-empty old bytes n h l =
     let e = h .started l .1 in
     let rest = drop districtsBytes old in
@@ -41,22 +42,31 @@ started-empty old bytes n h l =
 
 -- ---- a machine that was stored
 
-stored-led : (m : Machine) → IsSized m → (rest bytes : List ℕ) → bytes ≡ machineBytes m ++ rest → (districtsBytes ≤ length bytes) × (m ≡ machineIn bytes)
-stored-led m z rest bytes q = (subst⁻¹ (λ (x : List ℕ). districtsBytes ≤ length x) q (machine-long m z rest), sym (ap machineIn q ∙ machine-back m z rest))
+stored-led : (m : Machine) → IsSized m → (rest bytes : List ℕ) → bytes ≡ machineBytes m ++ rest
+    → (districtsBytes ≤ length bytes) × (m ≡ machineIn bytes)
+stored-led m z rest bytes q =
+    (subst⁻¹ (λ (x : List ℕ). districtsBytes ≤ length x) q (machine-long m z rest), sym (ap machineIn q ∙ machine-back m z rest))
 
 -- ---- an entry
 
-entry-led : (r : Entered) (b bytes : List ℕ) (n : ℤ) (plan : List ℕ) (budget : ℕ) → districtsBytes ≤ length b → IsEntered (machineIn b) plan budget r → IsEntryStored r b bytes n
+entry-led : (r : Entered) (b bytes : List ℕ) (n : ℤ) (plan : List ℕ) (budget : ℕ) → districtsBytes ≤ length b
+    → IsEntered (machineIn b) plan budget r → IsEntryStored r b bytes n
     → (districtsBytes ≤ length bytes) × (r .machine ≡ machineIn bytes)
 unfolding unless
 entry-led r b bytes n plan budget l h s = at (admissionNumber (r .answer)) refl (s .machine-is)
   where
-    at : (o : Option ℕ) → admissionNumber (r .answer) ≡ o → bytes ≡ unless o (machineBytes (r .machine) ++ drop districtsBytes b) b → (districtsBytes ≤ length bytes) × (r .machine ≡ machineIn bytes)
+    at : (o : Option ℕ) → admissionNumber (r .answer) ≡ o → bytes ≡ unless o (machineBytes (r .machine) ++ drop districtsBytes b) b
+        → (districtsBytes ≤ length bytes) × (r .machine ≡ machineIn bytes)
     at none e q = stored-led (r .machine) (s .sized e) (drop districtsBytes b) bytes q
-    at (some k) e q = (subst⁻¹ (λ (x : List ℕ). districtsBytes ≤ length x) q l, h .machine ∙ entry-stays (machineIn b) plan budget k (sym (h .refusal) ∙ e) ∙ ap machineIn (sym q))
+    at (some k) e q = (
+      subst⁻¹ (λ (x : List ℕ). districtsBytes ≤ length x) q l,
+      h .machine
+          ∙ entry-stays (machineIn b) plan budget k (sym (h .refusal) ∙ e) ∙ ap machineIn (sym q),
+    )
 
 -- what it answers
-pub admitted-is : (a : Admission) (o : Option ℕ) (q : ℕ) → admissionNumber a ≡ o → ((p : ℕ) → a ≡ At p → p ≡ q) → oneNumber (admitted a) ≡ oneNumber (answer o q)
+pub admitted-is : (a : Admission) (o : Option ℕ) (q : ℕ) → admissionNumber a ≡ o → ((p : ℕ) → a ≡ At p → p ≡ q)
+    → oneNumber (admitted a) ≡ oneNumber (answer o q)
 unfolding answer
 admitted-is (At p) o q e f = ap pos (f p refl) ∙ ap (λ (o : Option ℕ). oneNumber (answer o q)) e
 admitted-is (Refused r) o q e f = ap (λ (o : Option ℕ). oneNumber (answer o q)) e
@@ -70,13 +80,19 @@ still-machine m stuck e = refl
 still-machine m (goesOn d ds) e = absurd (subst T e tt)
 still-machine m (leaves d ds) e = absurd (subst T e tt)
 
-turn-led : (r : Turned) (b bytes old new words words′ : List ℕ) (u u′ : List ℤ) (n : ℤ) → districtsBytes ≤ length b → IsTurned (machineIn b) old new r
+turn-led : (r : Turned) (b bytes old new words words′ : List ℕ) (u u′ : List ℤ) (n : ℤ) → districtsBytes ≤ length b
+    → IsTurned (machineIn b) old new r
     → IsTurnHandedOver r b bytes words words′ u u′ n → (districtsBytes ≤ length bytes) × (r .machine ≡ machineIn bytes)
 turn-led r b bytes old new words words′ u u′ n l h s = at (hadTurn (r .outcome)) refl (s .machine-is)
   where
-    at : (x : Bool) → hadTurn (r .outcome) ≡ x → bytes ≡ cond x (machineBytes (r .machine) ++ drop districtsBytes b) b → (districtsBytes ≤ length bytes) × (r .machine ≡ machineIn bytes)
+    at : (x : Bool) → hadTurn (r .outcome) ≡ x → bytes ≡ cond x (machineBytes (r .machine) ++ drop districtsBytes b) b
+        → (districtsBytes ≤ length bytes) × (r .machine ≡ machineIn bytes)
     at true e q = stored-led (r .machine) (s .sized e) (drop districtsBytes b) bytes q
-    at false e q = (subst⁻¹ (λ (x : List ℕ). districtsBytes ≤ length x) q l, h .machine ∙ still-machine (machineIn b) (meeting (machineIn b) (length old)) (sym (ap hadTurn (h .outcome)) ∙ e) ∙ ap machineIn (sym q))
+    at false e q = (
+      subst⁻¹ (λ (x : List ℕ). districtsBytes ≤ length x) q l,
+      h .machine
+          ∙ still-machine (machineIn b) (meeting (machineIn b) (length old)) (sym (ap hadTurn (h .outcome)) ∙ e) ∙ ap machineIn (sym q),
+    )
 
 -- THE MACHINE THAT IS LENT IS ONE THAT THE RUN LEADS TO
 pub lent-led : (cs : List Call) (bytes : List ℕ) → LedLent cs bytes → (districtsBytes ≤ length bytes) × Led (eventsOf cs) (machineIn bytes)

@@ -45,7 +45,8 @@ module _ (p : Plan) (budget : ℕ) (o : Option ℕ) where
   count none = refl
   count (some k) = refl
 
-  sheet-as : (q : Option ℕ) (old : List ℕ) → unless q (written (tourOf p budget) old) old ≡ unless q (written (unless q (tourOf p budget) []) old) old
+  sheet-as : (q : Option ℕ) (old : List ℕ)
+      → unless q (written (tourOf p budget) old) old ≡ unless q (written (unless q (tourOf p budget) []) old) old
   unfolding unless
   sheet-as none old = refl
   sheet-as (some k) old = refl
@@ -55,7 +56,8 @@ module _ (p : Plan) (budget : ℕ) (o : Option ℕ) where
     leaves : Leaves r drive old new n
     leaves = record {
       handed-over = x;
-      sheet-is = i .sheet ∙ sheet-as o (old .sheet) ∙ ap (λ (q : Option ℕ). unless q (written drive (old .sheet)) (old .sheet)) (sym (i .verdict));
+      sheet-is = i .sheet ∙ sheet-as o (old .sheet)
+          ∙ ap (λ (q : Option ℕ). unless q (written drive (old .sheet)) (old .sheet)) (sym (i .verdict));
     }
 
   module _ (old new : Slices) (n : ℤ) (r : Planned) (i : IsPlanned p budget o (old .sheet) (new .sheet) r)
@@ -66,7 +68,14 @@ module _ (p : Plan) (budget : ℕ) (o : Option ℕ) where
     same : SameAnswer r s
     same =
         let k : IsPlanned p budget o (old .sheet) (unless o (written (tourOf p budget) (old .sheet)) (old .sheet)) s =
-        record { verdict = j .verdict; summary-is = j .summary-is; sheet = refl; places-are = j .places-are; no-multipliers = j .no-multipliers; answered = j .answered }
+        record {
+          verdict = j .verdict;
+          summary-is = j .summary-is;
+          sheet = refl;
+          places-are = j .places-are;
+          no-multipliers = j .no-multipliers;
+          answered = j .answered;
+        }
         in
         same-answer p budget (old .sheet) (new .sheet) _ r s o i k .0
 
@@ -101,6 +110,7 @@ module _ (file : List ℕ) (budget : ℕ) (windows : List ℕ) (d : Departure) (
       let p = planAt (planOf file) (windowsIn windows) d in
       let o = callRefusalAt file budget (length (old .sheet)) windows d in
       let j : IsPlanned p budget o (old′ .sheet) (new′ .sheet) (y .answer) =
-      subst (λ (k : ℕ). IsPlanned p budget (callRefusalAt file budget k windows d) (old′ .sheet) (new′ .sheet) (y .answer)) (sym e) (y .called .planned)
+      subst (λ (k : ℕ). IsPlanned p budget (callRefusalAt file budget k windows d) (old′ .sheet) (new′ .sheet) (y .answer)) (sym e)
+      (y .called .planned)
       in
       one-answer p budget o old new n (x .answer) (x .called .planned) (x .handed-over) old′ new′ n′ (y .answer) j (y .handed-over)

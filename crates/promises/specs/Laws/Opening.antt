@@ -36,7 +36,9 @@ arc-some e n a = (omega arith, (omega arith, (omega arith, tt)))
 
 plan-some : (e : ℕ) (p : Plan) → AreSome (planConditions e p)
 unfolding planConditions arcsConditions
-plan-some e p = some-append (flatMap (arcConditions e (p .n)) (p .arcs)) _ (some-flatMap (arcConditions e (p .n)) (arc-some e (p .n)) (p .arcs)) (omega arith, tt)
+plan-some e p =
+    some-append (flatMap (arcConditions e (p .n)) (p .arcs)) _ (some-flatMap (arcConditions e (p .n)) (arc-some e (p .n)) (p .arcs))
+    (omega arith, tt)
 
 file-some : (file : List ℕ) → AreSome (fileConditions file)
 unfolding fileConditions editionConditions extentConditions bodyConditions
@@ -62,7 +64,8 @@ zero-opened file bytes bytes′ n m e = by (firstRefusal (fileConditions file)) 
     not-zero : (k : ℕ) → 1 ≤ k → negℤ (pos k) ≡ pos 0 → ⊥
     not-zero k l q = let a = abs-neg k in let b = ap natAbs q in omega arith
 
-    by : (o : Option ℕ) → firstRefusal (fileConditions file) ≡ o → (b : Bool) → oneNumber (answer (orElse o (cond b (some 8) none)) 0) ≡ pos 0 → orElse o (cond b (some 8) none) ≡ none
+    by : (o : Option ℕ) → firstRefusal (fileConditions file) ≡ o → (b : Bool)
+        → oneNumber (answer (orElse o (cond b (some 8) none)) 0) ≡ pos 0 → orElse o (cond b (some 8) none) ≡ none
     by (some k) i b q = absurd (not-zero k (first-some (fileConditions file) (file-some file) k i) q)
     by none i true q = absurd (not-zero 8 (omega arith) q)
     by none i false q = refl

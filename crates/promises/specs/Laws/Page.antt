@@ -17,9 +17,13 @@ module _ (bytes pairs distances : List ℕ) where
   abbrev page : List ℕ
   page = map (entry (planOf bytes)) pairs
 
-  pub page-refused : (k : ℕ) → refusal ≡ some k → (distanceAnswer bytes pairs (length distances) ≡ refused k) × (distancesAfter bytes pairs distances ≡ distances)
+  pub page-refused : (k : ℕ) → refusal ≡ some k
+      → (distanceAnswer bytes pairs (length distances) ≡ refused k) × (distancesAfter bytes pairs distances ≡ distances)
   unfolding distanceAnswer distancesAfter answer unless
-  page-refused k e = (ap (λ (o : Option ℕ). answer o (searchCount pairs)) e, ap (λ (o : Option ℕ). unless o (page ++ drop (length pairs) distances) distances) e)
+  page-refused k e = (
+    ap (λ (o : Option ℕ). answer o (searchCount pairs)) e,
+    ap (λ (o : Option ℕ). unless o (page ++ drop (length pairs) distances) distances) e,
+  )
 
   pub page-searches : refusal ≡ none → distanceAnswer bytes pairs (length distances) ≡ given (length (distinct (map first pairs)))
   unfolding distanceAnswer answer searchCount
@@ -30,5 +34,6 @@ module _ (bytes pairs distances : List ℕ) where
   page-later = at refusal
     where
       at : (o : Option ℕ) → drop (length pairs) (unless o (page ++ drop (length pairs) distances) distances) ≡ drop (length pairs) distances
-      at none = ap (λ (n : ℕ). drop n (page ++ drop (length pairs) distances)) (sym (length-map pairs (entry (planOf bytes)))) ∙ drop-append-seam page (drop (length pairs) distances)
+      at none = ap (λ (n : ℕ). drop n (page ++ drop (length pairs) distances)) (sym (length-map pairs (entry (planOf bytes))))
+          ∙ drop-append-seam page (drop (length pairs) distances)
       at (some k) = refl

@@ -6,7 +6,7 @@ use lib.IntN.{ℤ}
 use Rattle.postman.specs.OpenPlan.{Call}
 use Rattle.promises.specs.Slices.{Slices}
 use Rattle.promises.specs.ExportedRuns.{RanLent, ended, called}
-use Rattle.promises.specs.HistoryTheorem.{RanLent as Ran, ended as at-end, called as then}
+use Rattle.promises.specs.Laws.HistoryTheorem.{RanLent as Ran, ended as at-end, called as then}
 
 pub ran-lent : {bytes last : List ℕ} {cs : List Call} {numbers : List ℤ} → RanLent bytes cs last numbers → Ran bytes cs last numbers
 ran-lent (ended bytes) = at-end bytes

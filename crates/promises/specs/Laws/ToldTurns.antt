@@ -18,7 +18,7 @@ use Rattle.postman.specs.Districts.{Line}
 use Rattle.postman.specs.DistrictRuns.{turned, step, runFrom, run, isTurn, isTurnOf, turnsIn, NoTurnOf}
 use Rattle.districts.specs.Number.{outcomeNumber, hadTurn, isOf, HasPlace}
 use Rattle.districts.specs.Turned.{IsTurned}
-use Rattle.districts.specs.Theorem.{answered-accepted, answered-of}
+use Rattle.districts.specs.Laws.Theorem.{answered-accepted, answered-of}
 use Rattle.districts.specs.Laws.Turned.{placed}
 use Rattle.answers.specs.Number.{oneNumber}
 use Rattle.machine_bytes.specs.MachineBytes.{machineIn}
@@ -28,7 +28,8 @@ use Rattle.promises.specs.Laws.LentTurns.{lent-led}
 
 -- ---- one number
 
-number-told : (o : Outcome) → HasPlace o → (leZ (pos 0) (oneNumber (outcomeNumber o)) && leZ (oneNumber (outcomeNumber o)) (pos 15)) ≡ hadTurn o
+number-told : (o : Outcome) → HasPlace o
+    → (leZ (pos 0) (oneNumber (outcomeNumber o)) && leZ (oneNumber (outcomeNumber o)) (pos 15)) ≡ hadTurn o
 number-told Empty h = refl
 number-told ShortSheet h = refl
 number-told (Unfinished q) h = ap₂ _&&_ (le-leb 0 q (omega arith)) (le-leb q 15 (omega arith))
@@ -63,7 +64,8 @@ module _ (cs : List Call) (b bytes : List ℕ) (h : LedLent cs b) (places : ℕ)
 
   pub turn-not-of : (q : ℕ) → n ≢ pos q → n ≢ pos (8 + q) → isTurnOf q (run (eventsOf cs)) (turned places) ≡ false
   turn-not-of q x y =
-      sym (answered-of (eventsOf cs) (machineIn b) (lent-led cs b h .1) (t .sheet) (t .sheet′) r turned-is q ∙ ap (λ k. isTurnOf q (run (eventsOf cs)) (turned k)) (t .size))
+      sym (answered-of (eventsOf cs) (machineIn b) (lent-led cs b h .1) (t .sheet) (t .sheet′) r turned-is q
+      ∙ ap (λ k. isTurnOf q (run (eventsOf cs)) (turned k)) (t .size))
       ∙ number-of q (r .outcome) (λ e. x (number-is ∙ e)) (λ e. y (number-is ∙ e))
 
 -- ---- further calls
@@ -91,5 +93,6 @@ module _ (cs : List Call) where
   never-of q [] bytes h v = tt
   never-of q (enters plan budget n ∷ more) bytes h v = (tt, never-of q more (h .0) (h .1) v)
   never-of q (turns places n ∷ more) bytes h v =
-      let e = ap (λ (y : Line). isTurnOf q y (turned places)) (sym (goes-on more)) ∙ turn-not-of (more ++ cs) (h .0) bytes (h .1) places n (h .2) q (v .0) (v .1) in
+      let e = ap (λ (y : Line). isTurnOf q y (turned places)) (sym (goes-on more))
+      ∙ turn-not-of (more ++ cs) (h .0) bytes (h .1) places n (h .2) q (v .0) (v .1) in
       (subst⁻¹ (λ (x : Bool). T (not x)) e tt, never-of q more (h .0) (h .1) (v .2))

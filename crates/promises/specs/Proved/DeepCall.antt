@@ -8,7 +8,7 @@ use Rattle.postman.specs.PlanFile.{planOf}
 use Rattle.tour_legs.specs.Tour.{written}
 use Rattle.rounds.specs.Rounds.{deepTour}
 use Rattle.deep_call.specs.Contract.{IsDeepAnswer}
-use Rattle.deep_call.specs.Theorem.{one-round, beyond-plan-call, more-rounds, passes-the-judge}
+use Rattle.deep_call.specs.Laws.Theorem.{one-round, beyond-plan-call, more-rounds, passes-the-judge}
 use Rattle.promises.specs.Demands.{Accepted}
 use Rattle.promises.specs.DeepCall.{Deep, Refusal, Untouched, CutOff, Written, Floor, OwnMultipliers, Whole, OneRound, BeyondPlanCall, MoreRounds, WrittenPasses}
 
@@ -48,12 +48,14 @@ first-round bytes budget sheet c d =
 
 pub no-worse : BeyondPlanCall
 no-worse bytes budget rounds sheet sheet′ c d good good′ =
-    let x = beyond-plan-call bytes budget rounds sheet (c .after) sheet′ (d .after) (c .answer) (d .answer) (c .contract) (d .contract) good good′ in
+    let x = beyond-plan-call bytes budget rounds sheet (c .after) sheet′ (d .after) (c .answer) (d .answer) (c .contract)
+    (d .contract) good good′ in
     (x .no-dearer, x .no-lower)
 
 pub deeper : MoreRounds
 deeper bytes budget rounds rounds′ sheet sheet′ c d more good good′ =
-    let x = more-rounds bytes budget rounds rounds′ more sheet (c .after) sheet′ (d .after) (c .answer) (d .answer) (c .contract) (d .contract) good good′ in
+    let x = more-rounds bytes budget rounds rounds′ more sheet (c .after) sheet′ (d .after) (c .answer) (d .answer) (c .contract)
+    (d .contract) good good′ in
     (x .no-worse .no-dearer, x .no-worse .no-lower, x .closed-drive)
 
 pub written-passes : WrittenPasses

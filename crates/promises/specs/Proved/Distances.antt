@@ -15,7 +15,8 @@ entries bytes pairs distances c e k l = ap (λ (x : List ℕ). getD x k 0) (c .a
 
 pub single-entry : SingleQuery
 single-entry bytes pairs distances c e k l one d m =
-    ap (λ (x : List ℕ). getD x k 0) (c .after-is) ∙ single-query bytes pairs distances one k e l m .1 ∙ ap (λ (x : List ℕ). getD x 0 0) (sym (d .after-is))
+    ap (λ (x : List ℕ). getD x k 0) (c .after-is) ∙ single-query bytes pairs distances one k e l m .1
+    ∙ ap (λ (x : List ℕ). getD x 0 0) (sym (d .after-is))
 
 pub searches : Searches
 searches bytes pairs distances c e = c .answer-is ∙ page-searches bytes pairs distances e

@@ -2,9 +2,9 @@
 use mathlib.Core.Path.{ap, _∙_}
 use Rattle.solution.specs.declared.Planned.{Planned}
 use Rattle.postman.specs.Districts.{Line, entryRefusal}
-use Rattle.districts.specs.Theorem.{run-line, served, finished-as-plan-call}
+use Rattle.districts.specs.Laws.Theorem.{run-line, served, finished-as-plan-call}
 use Rattle.promises.specs.Districts.{LineOfRun, EntryAnswers, RefusedEntry, NobodyInside, ShortSheets, StillGoing, AsOnePlanCall, LastTurnPasses, AsEntered, LastTurn, SevenTurns}
-use Rattle.promises.specs.JudgedTheorem.{last-turn-passes}
+use Rattle.promises.specs.Laws.JudgedTheorem.{last-turn-passes}
 use Rattle.promises.specs.Laws.Districts.{entry-place, refused-still, nobody-still, short-still, last-multipliers, entered-with, rounded-up, seven}
 use Rattle.promises.specs.Laws.Equal.{equal}
 
@@ -32,11 +32,13 @@ unfinished es sheet t d l e long f =
 
 pub as-one-plan-call : AsOnePlanCall
 as-one-plan-call es sheet t d l e long f c =
-    let x = finished-as-plan-call es (t .machine) (t .led) sheet (t .after) (t .answer) (t .contract) d l e long f (c .after) (c .answer) (c .contract) in
+    let x = finished-as-plan-call es (t .machine) (t .led) sheet (t .after) (t .answer) (t .contract) d l e long f (c .after) (c .answer)
+    (c .contract) in
     (x .0, equal (x .1) (last-multipliers es (t .led) (t .contract) d l e long f (c .contract)), x .2)
 
 pub last-passes : LastTurnPasses
-last-passes es sheet t d l e long f j = last-turn-passes es (t .machine) (t .led) d l e f sheet (t .after) (t .answer) (t .contract) long (j .answer) (j .contract)
+last-passes es sheet t d l e long f j =
+    last-turn-passes es (t .machine) (t .led) d l e f sheet (t .after) (t .answer) (t .contract) long (j .answer) (j .contract)
 
 pub as-it-entered : AsEntered
 as-it-entered = entered-with

@@ -2,7 +2,7 @@
 use mathlib.Core.Path.{sym, _∙_}
 use Rattle.postman.specs.Judge.{judgeAnswer, judgeRefusal}
 use Rattle.promises.specs.Judging.{Refusals, Exactly, Costs, WrittenPasses, WrittenPassesAt, WrittenPassesCar, FloorBelow}
-use Rattle.promises.specs.JudgedTheorem.{written-passes, written-passes-at, written-passes-car, floor-below}
+use Rattle.promises.specs.Laws.JudgedTheorem.{written-passes, written-passes-at, written-passes-car, floor-below}
 use Rattle.promises.specs.Laws.Judged.{answer-refused}
 
 pub refusals : Refusals

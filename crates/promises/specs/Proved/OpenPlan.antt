@@ -4,7 +4,7 @@ use mathlib.Core.Option.{Option}
 use Prim.Native.Nat.{ℕ}
 use Rattle.postman.specs.OpenPlan.{unlessRefused}
 use Rattle.open_plan.specs.State.{next}
-use Rattle.open_plan.specs.Theorem.{history-gives, asking, never-refused, same-plan}
+use Rattle.open_plan.specs.Laws.Theorem.{history-gives, asking, never-refused, same-plan}
 use Rattle.promises.specs.OpenPlan.{OpenRefusals, RefusedAlike, History, AskingGives, NeverRefused, AskedAgain}
 use Rattle.promises.specs.Laws.Equal.{asked-equal}
 
@@ -19,17 +19,21 @@ history bytes o = history-gives bytes (o .small) (o .answer) (o .contract) (o .a
 
 pub asking-gives : AskingGives
 asking-gives bytes o cs t numbers run budget windows d sheet a =
-    asking bytes (o .small) (o .answer) (o .contract) (o .accepted) cs t numbers run budget windows d sheet (a .after) (a .answer) (a .contract)
+    asking bytes (o .small) (o .answer) (o .contract) (o .accepted) cs t numbers run budget windows d sheet (a .after) (a .answer)
+    (a .contract)
 
 pub never-is-refused : NeverRefused
 never-is-refused bytes x =
     let o = x .opening in (
-      never-refused bytes (o .small) (o .answer) (o .contract) (o .accepted) _ _ _ (x .come) _ _ (x .set-at) (x .accepted) _ _ _ (x .gone) (x .not-again) _ (x .back),
-      same-plan bytes (o .small) (o .answer) (o .contract) (o .accepted) _ _ _ (x .come) _ _ (x .set-at) (x .accepted) _ _ _ (x .gone) (x .not-again) _ (x .back),
+      never-refused bytes (o .small) (o .answer) (o .contract) (o .accepted) _ _ _ (x .come) _ _ (x .set-at) (x .accepted) _ _ _ (x .gone)
+          (x .not-again) _ (x .back),
+      same-plan bytes (o .small) (o .answer) (o .contract) (o .accepted) _ _ _ (x .come) _ _ (x .set-at) (x .accepted) _ _ _ (x .gone)
+          (x .not-again) _ (x .back),
     )
 
 pub asked-again-same : AskedAgain
 asked-again-same bytes x budget windows d sheet sheet′ a b e =
     let o = x .opening in
-    let s = same-plan bytes (o .small) (o .answer) (o .contract) (o .accepted) _ _ _ (x .come) _ _ (x .set-at) (x .accepted) _ _ _ (x .gone) (x .not-again) _ (x .back) in
+    let s = same-plan bytes (o .small) (o .answer) (o .contract) (o .accepted) _ _ _ (x .come) _ _ (x .set-at) (x .accepted) _ _ _
+    (x .gone) (x .not-again) _ (x .back) in
     asked-equal s e (a .contract) (b .contract)

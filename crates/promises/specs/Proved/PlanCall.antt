@@ -1,7 +1,7 @@
 -- The plan call, proved.
 use Rattle.postman.specs.PlanCall.{defaultBudget}
-use Rattle.postman.specs.Theorem.{cut-off}
-use Rattle.planner.specs.Theorem.{raised-budget-call}
+use Rattle.postman.specs.Laws.Theorem.{cut-off}
+use Rattle.planner.specs.Laws.Theorem.{raised-budget-call}
 use Rattle.promises.specs.PlanCall.{FirstDemand, CutOff, SecondDemand, ThirdDemand, OneAnswer, OwnMultipliers, RaisedBudget, ShortCall}
 use Rattle.promises.specs.Laws.Demands.{refuses, drives, bounds, equal-multipliers}
 use Rattle.promises.specs.Laws.Equal.{equal-calls}

@@ -18,8 +18,10 @@ writing-given e n list bytes w h = let x = write-given-list e n list bytes h in 
 
 pub reads-back : ReadsBack
 reads-back e n list bytes w k small h into enough r =
-    let x = read-back e n list into bytes (w .after) k small (sym h ∙ w .answer-is) (w .after-is) enough in (r .answer-is ∙ x .0, r .after-is ∙ x .1)
+    let x = read-back e n list into bytes (w .after) k small (sym h ∙ w .answer-is) (w .after-is) enough in
+    (r .answer-is ∙ x .0, r .after-is ∙ x .1)
 
 pub writes-back : WritesBack
 writes-back bytes list r small e slice enough w =
-    let x = written-back bytes (length list) slice _ small e enough (same-plan bytes list (r .after) e (r .after-is)) in (w .answer-is ∙ x .0, w .after-is ∙ x .1)
+    let x = written-back bytes (length list) slice _ small e enough (same-plan bytes list (r .after) e (r .after-is)) in
+    (w .answer-is ∙ x .0, w .after-is ∙ x .1)

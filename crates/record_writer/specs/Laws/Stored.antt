@@ -16,12 +16,14 @@ length-stored new records zero = refl
 length-stored new records (suc k) = length-set (storedTo new records k) k (new k) ∙ length-stored new records k
 
 -- k stores leave the new records before those from k on.
-pub stored-is : (new : ℕ → Arc) (records : List Arc) (k : ℕ) → k ≤ length records → storedTo new records k ≡ map new (below k) ++ drop k records
+pub stored-is : (new : ℕ → Arc) (records : List Arc) (k : ℕ) → k ≤ length records
+    → storedTo new records k ≡ map new (below k) ++ drop k records
 unfolding below
 stored-is new records zero h = refl
 stored-is new records (suc k) h =
     let done = map new (below k) in
-    ap (λ (l : List Arc). set l k (new k)) (stored-is new records k (omega arith) ∙ ap (λ (l : List Arc). done ++ l) (drop-cons records k (new k) h))
+    ap (λ (l : List Arc). set l k (new k))
+    (stored-is new records k (omega arith) ∙ ap (λ (l : List Arc). done ++ l) (drop-cons records k (new k) h))
     ∙ set-at done (getD records k (new k)) (drop (suc k) records) (new k) k (length-map-below new k)
     ∙ sym
     (ap (λ (l : List Arc). l ++ drop (suc k) records) (ap (λ (n : ℕ). map new (below n)) (sym (add-one k)) ∙ map-below-more new k)

@@ -21,10 +21,12 @@ use Rattle.record_writer.specs.Writing.{listPlan, atMost, loaded, countO
 -- ---- the lesser of two numbers
 
 pub at-most-le : (n limit : ℕ) → atMost n limit ≤ limit
-at-most-le n limit = elim (decLt n limit) [ yes h ↦ rw (lt-ltb n limit h) (omega arith) | no h ↦ rw (le-ltb n limit (omega arith)) (omega arith) ]
+at-most-le n limit =
+    elim (decLt n limit) [ yes h ↦ rw (lt-ltb n limit h) (omega arith) | no h ↦ rw (le-ltb n limit (omega arith)) (omega arith) ]
 
 pub at-most-fits : (n limit : ℕ) → atMost n limit ≤ n
-at-most-fits n limit = elim (decLt n limit) [ yes h ↦ rw (lt-ltb n limit h) (omega arith) | no h ↦ rw (le-ltb n limit (omega arith)) (omega arith) ]
+at-most-fits n limit =
+    elim (decLt n limit) [ yes h ↦ rw (lt-ltb n limit h) (omega arith) | no h ↦ rw (le-ltb n limit (omega arith)) (omega arith) ]
 
 pub at-most-same : (n limit : ℕ) → n ≤ limit → atMost n limit ≡ n
 at-most-same n limit h = elim (decLt n limit) [ yes l ↦ rw (lt-ltb n limit l) | no l ↦ rw (le-ltb n limit (omega arith)) (omega arith) ]
@@ -37,13 +39,15 @@ module _ {A : Type 0} (xs : List A) (n limit : ℕ) (long : length xs ≡ limit)
   pub take-at-most : take (atMost n limit) xs ≡ take n xs
   take-at-most = elim (decLt n limit) [
     | yes l ↦ ap (λ (k : ℕ). take k xs) (at-most-same n limit (omega arith))
-    | no l ↦ ap (λ (k : ℕ). take k xs) (at-most-limit n limit (omega arith)) ∙ take-all limit xs (omega arith) ∙ sym (take-all n xs (omega arith))
+    | no l ↦ ap (λ (k : ℕ). take k xs) (at-most-limit n limit (omega arith)) ∙ take-all limit xs (omega arith)
+        ∙ sym (take-all n xs (omega arith))
   ]
 
   pub drop-at-most : drop (atMost n limit) xs ≡ drop n xs
   drop-at-most = elim (decLt n limit) [
     | yes l ↦ ap (λ (k : ℕ). drop k xs) (at-most-same n limit (omega arith))
-    | no l ↦ ap (λ (k : ℕ). drop k xs) (at-most-limit n limit (omega arith)) ∙ drop-of-length-le xs {i = limit} (omega arith) ∙ sym (drop-of-length-le xs {i = n} (omega arith))
+    | no l ↦ ap (λ (k : ℕ). drop k xs) (at-most-limit n limit (omega arith)) ∙ drop-of-length-le xs {i = limit} (omega arith)
+        ∙ sym (drop-of-length-le xs {i = n} (omega arith))
   ]
 
 -- ---- a list of at most 256 records
@@ -74,7 +78,8 @@ module _ (n : ℕ) (records : List ArcRecord) where
       of-count : (m : ℕ) → m ≡ length records → map (recordAt (loaded records)) (below m) ≡ map arcValue records
       of-count m e =
           let counted = length-map-below (recordAt (loaded records)) m in
-          ext-getD zeroArc (map (recordAt (loaded records)) (below m)) (map arcValue records) (counted ∙ e ∙ sym (length-map records arcValue))
+          ext-getD zeroArc (map (recordAt (loaded records)) (below m)) (map arcValue records)
+          (counted ∙ e ∙ sym (length-map records arcValue))
           (λ k l. getD-map-below (recordAt (loaded records)) m k zeroArc (omega (arith, counted, l))
           ∙ ap arcValue (loaded-at h k (omega (arith, counted, l, e)))
           ∙ sym (List·getD-map arcValue records k zeroRecord))
@@ -106,12 +111,16 @@ module _ (e n : ℕ) (records : List ArcRecord) (bytes : List ℕ) where
   same-answer = at (decLt 256 (length records))
     where
       at : Dec (256 < length records) → writeAnswer e plan bytes ≡ writeAnswer e list bytes
-      at (yes h) = refused-answer e plan bytes (headerRefusal e) (plan-refused h) ∙ sym (refused-answer e list bytes (headerRefusal e) (list-refused h))
+      at (yes h) =
+          refused-answer e plan bytes (headerRefusal e) (plan-refused h)
+          ∙ sym (refused-answer e list bytes (headerRefusal e) (list-refused h))
       at (no h) = ap (λ (p : Graph). writeAnswer e p bytes) (same-plan n records (omega arith))
 
   pub same-bytes : bytesAfter e plan bytes ≡ bytesAfter e list bytes
   same-bytes = at (decLt 256 (length records))
     where
       at : Dec (256 < length records) → bytesAfter e plan bytes ≡ bytesAfter e list bytes
-      at (yes h) = refused-bytes e plan bytes (headerRefusal e) (plan-refused h) ∙ sym (refused-bytes e list bytes (headerRefusal e) (list-refused h))
+      at (yes h) =
+          refused-bytes e plan bytes (headerRefusal e) (plan-refused h)
+          ∙ sym (refused-bytes e list bytes (headerRefusal e) (list-refused h))
       at (no h) = ap (λ (p : Graph). bytesAfter e p bytes) (same-plan n records (omega arith))

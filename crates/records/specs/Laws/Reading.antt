@@ -94,11 +94,13 @@ module _ (bytes : List ℕ) (records : List ArcRecord) where
       let w = was-given (readRefusal bytes (length records)) (edition bytes, vertexCount bytes, arcCount bytes) (e, n, m) h in
       let same : m ≡ arcCount bytes = ap (λ (p : ℕ × ℕ × ℕ). p .2) (w .1) in
       let ok = read-is-file bytes (length records) (w .0) in
-      let fit : fileBits (edition bytes) m ≤ 8 * length bytes = rw same (omega (arith, ok .0 .exact, bits-fit (edition bytes) (arcCount bytes))) in
+      let fit : fileBits (edition bytes) m ≤ 8 * length bytes =
+      rw same (omega (arith, ok .0 .exact, bits-fit (edition bytes) (arcCount bytes))) in
       (omega (arith, ok .0 .arc-count), λ some. fit, omega (arith, ok .1))
   room-for (Refused q) h = (omega arith, λ some. absurd (omega arith), omega arith)
 
-  values : (m : ℕ) → m ≤ length records → map arcValue (stored m) ≡ map (arcOf bytes (edition bytes)) (below m) ++ drop m (map arcValue records)
+  values : (m : ℕ) → m ≤ length records
+      → map arcValue (stored m) ≡ map (arcOf bytes (edition bytes)) (below m) ++ drop m (map arcValue records)
   values m h =
       let new : ℕ → ArcRecord = λ k. recordOf (arcOf bytes (edition bytes) k) in
       ap (map arcValue) (stored-is new records m h)

@@ -1,4 +1,5 @@
--- An exchange of two numbers keeps a numbering a numbering: by whether a vertex is one of the two. And what an array has in a place is the same whatever stands for a missing entry.
+-- An exchange of two numbers keeps a numbering a numbering: by whether a vertex is one of the two. And what an array has in a place is
+-- the same whatever stands for a missing entry.
 use mathlib.Core.Path.{_≡_, refl, sym, ap, _∙_}
 use mathlib.Core.Logic.{_≢_}
 use mathlib.Core.List.{List, [], _∷_}
@@ -23,16 +24,19 @@ in-place (x ∷ xs) (suc k) d e l = in-place xs k d e (omega arith)
 
 module _ (n : ℕ) (π σ : ℕ → ℕ) (h : IsNumbering n π σ) where
   pub inside-back : (v : ℕ) → v < n → σ v < n
-  inside-back v l = let f = h .forth v in elim (decLe n (σ v)) [ yes g ↦ let o = h .outside (σ v) g in absurd (omega arith) | no g ↦ omega arith ]
+  inside-back v l = let f = h .forth v in
+      elim (decLe n (σ v)) [ yes g ↦ let o = h .outside (σ v) g in absurd (omega arith) | no g ↦ omega arith ]
 
   outside-back : (v : ℕ) → n ≤ v → σ v ≡ v
   outside-back v l = ap σ (sym (h .outside v l)) ∙ h .back v
 
   pub to-inside : n ≤ 64 → (v : ℕ) → v < 64 → π v < 64
-  to-inside few v l = elim (decLe n v) [ yes g ↦ let o = h .outside v g in omega arith | no g ↦ let o = h .inside v (omega arith) in omega arith ]
+  to-inside few v l =
+      elim (decLe n v) [ yes g ↦ let o = h .outside v g in omega arith | no g ↦ let o = h .inside v (omega arith) in omega arith ]
 
   pub from-inside : n ≤ 64 → (v : ℕ) → v < 64 → σ v < 64
-  from-inside few v l = elim (decLe n v) [ yes g ↦ let o = outside-back v g in omega arith | no g ↦ let o = inside-back v (omega arith) in omega arith ]
+  from-inside few v l =
+      elim (decLe n v) [ yes g ↦ let o = outside-back v g in omega arith | no g ↦ let o = inside-back v (omega arith) in omega arith ]
 
   -- a numbering of fewer vertices is one of 64
   pub of-all : n ≤ 64 → IsNumbering 64 π σ
@@ -53,13 +57,15 @@ changed l a p b q ha hb = record {
   rest = λ v x y. getD-set-other (set l a p) b v q v y ∙ getD-set-other l a v p v x;
 }
 
-module _ (n : ℕ) (π σ : ℕ → ℕ) (h : IsNumbering n π σ) (i j : ℕ) (hi : i < n) (hj : j < n) (π′ σ′ : ℕ → ℕ) (to : IsChanged π π′ (σ i) j (σ j) i) (from : IsChanged σ σ′ i (σ j) j (σ i)) where
+module _ (n : ℕ) (π σ : ℕ → ℕ) (h : IsNumbering n π σ) (i j : ℕ) (hi : i < n) (hj : j < n) (π′ σ′ : ℕ → ℕ)
+    (to : IsChanged π π′ (σ i) j (σ j) i) (from : IsChanged σ σ′ i (σ j) j (σ i)) where
   one-to-one : (a b : ℕ) → σ a ≡ σ b → a ≡ b
   one-to-one a b e = sym (h .forth a) ∙ ap π e ∙ h .forth b
 
   back′ : (v : ℕ) → σ′ (π′ v) ≡ v
   back′ v = elim (ℕ-discrete v (σ j)) [
-    | yes e ↦ ap σ′ (ap π′ e ∙ to .second) ∙ elim (ℕ-discrete i j) [ yes s ↦ ap σ′ s ∙ from .second ∙ ap σ s ∙ sym e | no s ↦ from .first s ∙ sym e ]
+    | yes e ↦ ap σ′ (ap π′ e ∙ to .second)
+        ∙ elim (ℕ-discrete i j) [ yes s ↦ ap σ′ s ∙ from .second ∙ ap σ s ∙ sym e | no s ↦ from .first s ∙ sym e ]
     | no x ↦ elim (ℕ-discrete v (σ i)) [
       | yes e ↦ ap σ′ (ap π′ e ∙ to .first (λ s. x (e ∙ s))) ∙ from .second ∙ sym e
       | no y ↦
@@ -72,7 +78,8 @@ module _ (n : ℕ) (π σ : ℕ → ℕ) (h : IsNumbering n π σ) (i j : ℕ) (
 
   forth′ : (k : ℕ) → π′ (σ′ k) ≡ k
   forth′ k = elim (ℕ-discrete k j) [
-    | yes e ↦ ap π′ (ap σ′ e ∙ from .second) ∙ elim (ℕ-discrete (σ i) (σ j)) [ yes s ↦ ap π′ s ∙ to .second ∙ one-to-one i j s ∙ sym e | no s ↦ to .first s ∙ sym e ]
+    | yes e ↦ ap π′ (ap σ′ e ∙ from .second)
+        ∙ elim (ℕ-discrete (σ i) (σ j)) [ yes s ↦ ap π′ s ∙ to .second ∙ one-to-one i j s ∙ sym e | no s ↦ to .first s ∙ sym e ]
     | no x ↦ elim (ℕ-discrete k i) [
       | yes e ↦ ap π′ (ap σ′ e ∙ from .first (λ s. x (e ∙ s))) ∙ to .second ∙ sym e
       | no y ↦ ap π′ (from .rest k y x) ∙ to .rest (σ k) (λ s. y (one-to-one k i s)) (λ s. x (one-to-one k j s)) ∙ h .forth k
@@ -120,8 +127,10 @@ module _ (n : ℕ) (few : n ≤ 64) (x : Numbering) (h : IsNumberingOf n x) wher
       let ew = entry-from j (omega arith) in
       let to′ = set (set (x .to) v j) w i in
       let from′ = set (set (x .from) i w) j v in
-      let ct : IsChanged (numberIn (x .to)) (numberIn to′) (numberIn (x .from) i) j (numberIn (x .from) j) i = rw (sym ev, sym ew) (changed (x .to) v j w i (omega arith) (omega arith)) in
-      let cf : IsChanged (numberIn (x .from)) (numberIn from′) i (numberIn (x .from) j) j (numberIn (x .from) i) = rw (sym ev, sym ew) (changed (x .from) i w j v (omega arith) (omega arith)) in
+      let ct : IsChanged (numberIn (x .to)) (numberIn to′) (numberIn (x .from) i) j (numberIn (x .from) j) i =
+      rw (sym ev, sym ew) (changed (x .to) v j w i (omega arith) (omega arith)) in
+      let cf : IsChanged (numberIn (x .from)) (numberIn from′) i (numberIn (x .from) j) j (numberIn (x .from) i) =
+      rw (sym ev, sym ew) (changed (x .from) i w j v (omega arith) (omega arith)) in
       record {
         long-to = length-set (set (x .to) v j) w i ∙ length-set (x .to) v j ∙ t;
         long-from = length-set (set (x .from) i w) j v ∙ length-set (x .from) i w ∙ f;
@@ -147,7 +156,8 @@ pub unchanged-by : (xs : List ℕ) → length xs ≡ 64 → ((i : ℕ) → i < 6
 unfolding unchanged below
 unchanged-by xs long h =
     let e = length-upFrom 0 64 in
-    let s : xs ≡ upFrom 0 64 = ext-getD 0 xs (upFrom 0 64) (omega arith) (λ i l. h i (omega arith) ∙ sym (in-upFrom 0 64 i 0 (omega arith) ∙ zero-add i)) in
+    let s : xs ≡ upFrom 0 64 =
+    ext-getD 0 xs (upFrom 0 64) (omega arith) (λ i l. h i (omega arith) ∙ sym (in-upFrom 0 64 i 0 (omega arith) ∙ zero-add i)) in
     λ i. record { to = s i; from = s i }
 
 pub unchanged-numbering : (n : ℕ) → IsNumberingOf n unchanged

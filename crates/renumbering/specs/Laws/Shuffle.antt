@@ -10,11 +10,13 @@ use Rattle.renumbering.specs.Laws.Numbering.{exchanged-numbering}
 use Rattle.renumbering.specs.declared.numbering.Numbering.{Numbering}
 use Rattle.renumbering.specs.declared.shuffle.Drawn.{Drawn}
 
-pub drawn-as : (n : ℕ) (d : Drawn) (x : Numbering) (random : ℕ) → random ≡ following (d .random) → x ≡ exchanged (random % n) (random / n % n) (d .numbering)
+pub drawn-as : (n : ℕ) (d : Drawn) (x : Numbering) (random : ℕ) → random ≡ following (d .random)
+    → x ≡ exchanged (random % n) (random / n % n) (d .numbering)
     → record { numbering = x; random = random } ≡ drawn n d
 unfolding drawn
 drawn-as n d x random e f =
-    let g : x ≡ exchanged (following (d .random) % n) (following (d .random) / n % n) (d .numbering) = f ∙ ap (λ r. exchanged (r % n) (r / n % n) (d .numbering)) e in
+    let g : x ≡ exchanged (following (d .random) % n) (following (d .random) / n % n) (d .numbering) =
+    f ∙ ap (λ r. exchanged (r % n) (r / n % n) (d .numbering)) e in
     λ j. record { numbering = g j; random = e j }
 
 module _ (n : ℕ) (d : Drawn) where

@@ -1,4 +1,5 @@
--- Packed arcs are equal exactly when the arcs are: the fields are digits of the number. So two arcs agree exactly when two numbers are equal.
+-- Packed arcs are equal exactly when the arcs are: the fields are digits of the number. So two
+-- arcs agree exactly when two numbers are equal.
 use mathlib.Core.Path.{_≡_, sym, ap, _∙_}
 use mathlib.Core.Bool.{true, false}
 use mathlib.Core.List.{List, map}
@@ -26,7 +27,8 @@ packed-equal a b ra rb e =
     λ i. record { tail = e₁ i; head = e₂ i; standing = e₃ i; cost = e₄ i; service = e₅ i }
 
 -- Numbers of which the first m are those of arcs.
-module _ (arc : ℕ → Arc) (m : ℕ) (numbers : List ℕ) (fields : (k : ℕ) → k < m → IsRecord (arc k)) (packed : (k : ℕ) → k < m → getD numbers k 0 ≡ packedArc (arc k)) where
+module _ (arc : ℕ → Arc) (m : ℕ) (numbers : List ℕ) (fields : (k : ℕ) → k < m → IsRecord (arc k))
+    (packed : (k : ℕ) → k < m → getD numbers k 0 ≡ packedArc (arc k)) where
   abbrev arcs : List Arc
   arcs = map arc (below m)
 

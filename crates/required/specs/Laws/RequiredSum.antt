@@ -36,7 +36,8 @@ sum-one g a =
 
 module _ (g : Arc → ℕ) (r : PlanRecord) (ok : WellFormed (planValue r)) where
   pub sum-more : (k : ℕ) → k < r .m
-      → requiredSum g (planValue r) (k + 1) ≡ requiredSum g (planValue r) k + cond (isRequiredArc (recordAt (r .arcs) k)) (g (recordAt (r .arcs) k)) 0
+      → requiredSum g (planValue r) (k + 1)
+      ≡ requiredSum g (planValue r) k + cond (isRequiredArc (recordAt (r .arcs) k)) (g (recordAt (r .arcs) k)) 0
   unfolding requiredSum
   sum-more k l =
       ap (λ (xs : List Arc). sumOf (map g (select isRequiredArc xs))) (arcs-more r ok k l)
@@ -62,7 +63,8 @@ pub record Summed (g : Arc → ℕ) (b : ℕ) (r : PlanRecord) (m k sum : ℕ) :
 pub summed-none : (g : Arc → ℕ) (b : ℕ) (r : PlanRecord) → Summed g b r (r .m) 0 0
 summed-none g b r = record { all = refl; before = omega arith; bounded = omega arith; is = sym (sum-none g (planValue r)) }
 
-module _ (r : PlanRecord) (ok : WellFormed (planValue r)) {g : Arc → ℕ} {b m k sum x : ℕ} (small : (a : Arc) → IsArc (r .n) a → g a ≤ b) (h : Summed g b r m k sum) (l : k < m)
+module _ (r : PlanRecord) (ok : WellFormed (planValue r)) {g : Arc → ℕ} {b m k sum x : ℕ} (small : (a : Arc) → IsArc (r .n) a → g a ≤ b)
+    (h : Summed g b r m k sum) (l : k < m)
     (e : x ≡ cond (isRequiredArc (recordAt (r .arcs) k)) (g (recordAt (r .arcs) k)) 0) where
   pub term-le : x ≤ b
   term-le =
@@ -115,21 +117,24 @@ degrees-none heads r = record {
   all = refl;
   before = omega arith;
   long = length-replicate {A = ℕ} 64 0;
-  each = λ v l. subst⁻¹ (Summed (λ a. delta v (endOf heads a)) 1 r (r .m) 0) (getD-replicate {A = ℕ} 64 v 0 0 l) (summed-none (λ a. delta v (endOf heads a)) 1 r);
+  each = λ v l. subst⁻¹ (Summed (λ a. delta v (endOf heads a)) 1 r (r .m) 0) (getD-replicate {A = ℕ} 64 v 0 0 l)
+      (summed-none (λ a. delta v (endOf heads a)) 1 r);
 }
 
 at-most-one : (heads : Bool) (v n : ℕ) (a : Arc) → IsArc n a → delta v (endOf heads a) ≤ 1
 unfolding delta
 at-most-one heads v n a h = cond-ind (eqb v (endOf heads a)) 1 0 (λ x. x ≤ 1) (λ u. omega arith) (λ u. omega arith)
 
-module _ (heads : Bool) (r : PlanRecord) (ok : WellFormed (planValue r)) {m k : ℕ} {counts : List ℕ} (h : Degrees heads r m k counts) (l : k < m) {e x : ℕ} (ee : e ≡ endOf heads (recordAt (r .arcs) k))
+module _ (heads : Bool) (r : PlanRecord) (ok : WellFormed (planValue r)) {m k : ℕ} {counts : List ℕ} (h : Degrees heads r m k counts)
+    (l : k < m) {e x : ℕ} (ee : e ≡ endOf heads (recordAt (r .arcs) k))
     (low : e < 64) (ex : x ≡ cond (isRequiredArc (recordAt (r .arcs) k)) 1 0) where
   -- the term of the end, and of another vertex
   own : x ≡ cond (isRequiredArc (recordAt (r .arcs) k)) (delta e (endOf heads (recordAt (r .arcs) k))) 0
   unfolding delta
   own = ex ∙ ap (λ n. cond (isRequiredArc (recordAt (r .arcs) k)) n 0) (sym (ap (λ (b : Bool). cond b 1 0) (eq-eqb e _ ee)))
 
-  other : (v : ℕ) → (v ≡ e → ⊥) → _≡_ {A = ℕ} 0 (cond (isRequiredArc (recordAt (r .arcs) k)) (delta v (endOf heads (recordAt (r .arcs) k))) 0)
+  other : (v : ℕ) → (v ≡ e → ⊥)
+      → _≡_ {A = ℕ} 0 (cond (isRequiredArc (recordAt (r .arcs) k)) (delta v (endOf heads (recordAt (r .arcs) k))) 0)
   unfolding delta
   other v n = either (isRequiredArc (recordAt (r .arcs) k)) (sym (ap (λ (b : Bool). cond b 1 0) (ne-eqb v _ (λ q. n (q ∙ sym ee)))))
     where
@@ -143,9 +148,12 @@ module _ (heads : Bool) (r : PlanRecord) (ok : WellFormed (planValue r)) {m k : 
     before = omega arith;
     long = length-set counts e (getD counts e 0 + x) ∙ h .long;
     each = λ v g. elim (ℕ-discrete v e) [
-      | yes q ↦ rw q (subst⁻¹ (Summed (λ a. delta e (endOf heads a)) 1 r m (k + 1)) (getD-set-same counts e (getD counts e 0 + x) 0 (let s = h .long in omega arith))
+      | yes q ↦ rw q
+          (subst⁻¹ (Summed (λ a. delta e (endOf heads a)) 1 r m (k + 1))
+          (getD-set-same counts e (getD counts e 0 + x) 0 (let s = h .long in omega arith))
           (summed-more r ok (at-most-one heads e (r .n)) (h .each e low) l own))
-      | no q ↦ subst⁻¹ (Summed (λ a. delta v (endOf heads a)) 1 r m (k + 1)) (getD-set-other counts e v (getD counts e 0 + x) 0 q ∙ sym (add-zero (getD counts v 0)))
+      | no q ↦ subst⁻¹ (Summed (λ a. delta v (endOf heads a)) 1 r m (k + 1))
+          (getD-set-other counts e v (getD counts e 0 + x) 0 q ∙ sym (add-zero (getD counts v 0)))
           (summed-more r ok (at-most-one heads v (r .n)) (h .each v g) l (other v q))
     ];
   }
@@ -159,4 +167,5 @@ pub imbalance-degrees : (p : Plan) (v : ℕ)
     → pos (occurrences v (map (endOf true) (requiredArcs p))) -ℤ pos (occurrences v (map (endOf false) (requiredArcs p))) ≡ imbalance p [] v
 unfolding imbalance heads tails
 imbalance-degrees p v =
-    sym (ap₂ (λ (xs ys : List ℕ). pos (occurrences v xs) -ℤ pos (occurrences v ys)) (append-nil (map (endOf true) (requiredArcs p))) (append-nil (map (endOf false) (requiredArcs p))))
+    sym (ap₂ (λ (xs ys : List ℕ). pos (occurrences v xs) -ℤ pos (occurrences v ys)) (append-nil (map (endOf true) (requiredArcs p)))
+    (append-nil (map (endOf false) (requiredArcs p))))

@@ -39,7 +39,8 @@ module _ (r : PlanRecord) (v : ℕ) where
       let s = select-mem isRequiredArc (planValue r .arcs) m in
       let x = mem-getD _ (s .0) in
       let k = x .1 in
-      let e : touches v a ≡ false = subst (λ (b : Arc). touches v b ≡ false) (sym (plan-arc r (x .0) (omega arith)) ∙ x .2) (h (x .0) (omega arith)) in
+      let e : touches v a ≡ false =
+      subst (λ (b : Arc). touches v b ≡ false) (sym (plan-arc r (x .0) (omega arith)) ∙ x .2) (h (x .0) (omega arith)) in
       let o : isRequiredArc a ≡ true = is-true (s .1) in
       rw o at e))
 

@@ -26,7 +26,8 @@ module _ {A : Type 0} (g : ℕ → A) (z : A) where
   pub fill-other : (us : List ℕ) (s : List A) (v : ℕ) → (List·Memᴰ v us → ⊥) → getD (fold store s us) v z ≡ getD s v z
   unfolding fold
   fill-other [] s v n = refl
-  fill-other (u ∷ us) s v n = fill-other us (store s u) v (λ m. n (List·Memᴰ·tail m)) ∙ getD-set-other s u v (g u) z (λ e. n (List·Memᴰ·head e))
+  fill-other (u ∷ us) s v n =
+      fill-other us (store s u) v (λ m. n (List·Memᴰ·tail m)) ∙ getD-set-other s u v (g u) z (λ e. n (List·Memᴰ·head e))
 
   pub fill-here : (us : List ℕ) (s : List A) (v : ℕ) → List·Memᴰ v us → v < length s → getD (fold store s us) v z ≡ g v
   unfolding fold
@@ -34,7 +35,8 @@ module _ {A : Type 0} (g : ℕ → A) (z : A) where
   fill-here (u ∷ us) s v m h = elim (mem? v us) [
     | inl n ↦ fill-here us (store s u) v n (let l = length-set s u (g u) in omega arith)
     | inr n ↦ elim (List·Memᴰ·cases-cons m) [
-      | inl e ↦ fill-other us (store s u) v n ∙ ap (λ k. getD (store s u) k z) e ∙ getD-set-same s u (g u) z (let q = e in omega arith) ∙ ap g (sym e)
+      | inl e ↦ fill-other us (store s u) v n ∙ ap (λ k. getD (store s u) k z) e ∙ getD-set-same s u (g u) z (let q = e in omega arith)
+          ∙ ap g (sym e)
       | inr k ↦ absurd (n k)
     ]
   ]

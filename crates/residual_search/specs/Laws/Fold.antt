@@ -17,9 +17,11 @@ module _ {S : Type 0} (g : S → ℕ → S) where
   -- one turn more
   pub fold-more : (s : S) (xs : List ℕ) (i : ℕ) → i < length xs → fold g s (take (i + 1) xs) ≡ g (fold g s (take i xs)) (getD xs i 0)
   unfolding fold
-  fold-more s xs i h = ap (λ n. fold g s (take n xs)) (add-one i) ∙ ap (fold g s) (take-suc xs i 0 h) ∙ fold-append s (take i xs) (getD xs i 0 ∷ [])
+  fold-more s xs i h =
+      ap (λ n. fold g s (take n xs)) (add-one i) ∙ ap (fold g s) (take-suc xs i 0 h) ∙ fold-append s (take i xs) (getD xs i 0 ∷ [])
 
-  pub fold-turn : (s : S) (xs : List ℕ) (i : ℕ) {r r′ : S} {v : ℕ} → r ≡ fold g s (take i xs) → i < length xs → v ≡ getD xs i 0 → r′ ≡ g r v → r′ ≡ fold g s (take (i + 1) xs)
+  pub fold-turn : (s : S) (xs : List ℕ) (i : ℕ) {r r′ : S} {v : ℕ} → r ≡ fold g s (take i xs) → i < length xs → v ≡ getD xs i 0
+      → r′ ≡ g r v → r′ ≡ fold g s (take (i + 1) xs)
   fold-turn s xs i {r} {r′} {v} inv l ev er = er ∙ ap (λ (q : S). g q v) inv ∙ ap (g (fold g s (take i xs))) ev ∙ sym (fold-more s xs i l)
 
   -- what each turn keeps
@@ -41,7 +43,8 @@ module _ {S : Type 0} (g : S → ℕ → S) (vs : List ℕ) (Q : S → Type 0) (
   pub fold-all : (s : S) → Q s → Q (fold g s vs)
   fold-all s q = turns-keep vs (λ v m. m) s q
 
-  module _ (R : ℕ → S → Type 0) (bring : (s : S) (v : ℕ) → List·Memᴰ v vs → Q s → R v (g s v)) (hold : (s : S) (v w : ℕ) → List·Memᴰ v vs → List·Memᴰ w vs → Q s → R w s → R w (g s v)) where
+  module _ (R : ℕ → S → Type 0) (bring : (s : S) (v : ℕ) → List·Memᴰ v vs → Q s → R v (g s v))
+      (hold : (s : S) (v w : ℕ) → List·Memᴰ v vs → List·Memᴰ w vs → Q s → R w s → R w (g s v)) where
     turns-hold : (us : List ℕ) → In us → (w : ℕ) → List·Memᴰ w vs → (s : S) → Q s → R w s → R w (fold g s us)
     unfolding fold
     turns-hold [] i w mw s q r = r

@@ -1,5 +1,5 @@
--- One pass over the vertices relaxes them and finds the nearest: the distance of a vertex after its turn is its last, since each turn of a vertex comes to the lesser of the
--- distance that it had at first and that by w. By induction on the turns.
+-- One pass over the vertices relaxes them and finds the nearest: the distance of a vertex after its turn is its last, since each turn of a
+-- vertex comes to the lesser of the distance that it had at first and that by w. By induction on the turns.
 use mathlib.Core.Path.{_≡_, refl, ap, _∙_, subst⁻¹}
 use mathlib.Core.Logic.{_⊎_, inl, inr}
 use mathlib.Core.Bool.{cond}
@@ -51,7 +51,8 @@ module _ (len : ℕ → ℕ) (w base : ℕ) where
   turned [] s i m = absurd (List·Memᴰ·not-nil m)
   turned (u ∷ us) s i m = elim (List·Memᴰ·cases-cons m) [
     | inl e ↦
-        let here : getD (relaxed len w base s u .0) i 0 ≡ lowered s i = subst⁻¹ (λ k. getD (relaxed len w base s u .0) k 0 ≡ lowered s k) e (turn-here s u) in
+        let here : getD (relaxed len w base s u .0) i 0 ≡ lowered s i =
+        subst⁻¹ (λ k. getD (relaxed len w base s u .0) k 0 ≡ lowered s k) e (turn-here s u) in
         elim (turns us (relaxed len w base s u) i) [ inl p ↦ p ∙ here | inr p ↦ omega arith ]
     | inr k ↦
         let p = turned us (relaxed len w base s u) i k in
@@ -63,7 +64,8 @@ module _ (len : ℕ → ℕ) (w base : ℕ) where
     final v = getD (fold (relaxed len w base) s vs .0) v 0
 
     -- the distance after a turn is the last
-    pub relax-last : (a : ℕ) {x next : List ℕ} {v c y : ℕ} → (x, next) ≡ fold (relaxed len w base) s (take a vs) → a < length vs → v ≡ getD vs a 0 → c ≡ base + len v
+    pub relax-last : (a : ℕ) {x next : List ℕ} {v c y : ℕ} → (x, next) ≡ fold (relaxed len w base) s (take a vs) → a < length vs
+        → v ≡ getD vs a 0 → c ≡ base + len v
         → y ≡ min c (getD x v 0) → y ≡ final v
     relax-last a {x} {next} {v} {c} {y} inv l ev ec ey =
         let f = turned vs s v (subst⁻¹ (λ k. List·Memᴰ k vs) ev (getD-mem vs 0 a l)) in
@@ -71,7 +73,8 @@ module _ (len : ℕ → ℕ) (w base : ℕ) where
         elim (turns (take a vs) s v) [ inl p ↦ omega arith | inr p ↦ omega arith ]
 
     -- what the nearest begins with
-    pub goal-low : (rank : List ℕ) {goal end c y low : ℕ} → List·Memᴰ goal vs → end ≡ goal → c ≡ base + len end → y ≡ min c (getD (s .0) end 0)
+    pub goal-low : (rank : List ℕ) {goal end c y low : ℕ} → List·Memᴰ goal vs → end ≡ goal → c ≡ base + len end
+        → y ≡ min c (getD (s .0) end 0)
         → low ≡ cond (eqb (getD rank end 0) 0) y beyond → low ≡ openDistance (fold (relaxed len w base) s vs .0) rank goal
     goal-low rank {goal} {end} {c} {y} m ee ec ey el =
         let f = turned vs s end (subst⁻¹ (λ k. List·Memᴰ k vs) ee m) in

@@ -1,5 +1,5 @@
--- What the search finds. A vertex that is settled keeps its distance, since every other that is settled after it is no nearer; so at the end no length can be
--- relaxed, the way on from each vertex has just its distance, and it goes by vertices settled earlier.
+-- What the search finds. A vertex that is settled keeps its distance, since every other that is settled after it is no nearer; so at the
+-- end no length can be relaxed, the way on from each vertex has just its distance, and it goes by vertices settled earlier.
 use mathlib.Core.Path.{_≡_, refl, sym, ap, _∙_, subst⁻¹}
 use mathlib.Core.Logic.{_⊎_, inl, inr, _≢_}
 use mathlib.Core.Bool.{Bool, not, cond, _&&_}
@@ -33,14 +33,18 @@ module _ (len : ℕ → ℕ) (w base : ℕ) where
     pub long-next : length (r .1) ≡ length (s .1)
     pub down : (v : ℕ) → at (r .0) v ≤ at (s .0) v
     pub near : (v : ℕ) → List·Memᴰ v us → at (r .0) v ≤ base + len v
-    pub from : (v : ℕ) → ((at (r .0) v ≡ at (s .0) v) × (at (r .1) v ≡ at (s .1) v)) ⊎ ((at (r .0) v ≡ base + len v) × (at (r .1) v ≡ w) × (at (r .0) v < at (s .0) v))
+    pub from : (v : ℕ)
+        → ((at (r .0) v ≡ at (s .0) v) × (at (r .1) v ≡ at (s .1) v))
+        ⊎ ((at (r .0) v ≡ base + len v) × (at (r .1) v ≡ w) × (at (r .0) v < at (s .0) v))
 
   relaxed-one : (s : List ℕ × List ℕ) (v : ℕ) → v < length (s .0) → v < length (s .1) → Relaxed (v ∷ []) s (relaxed len w base s v)
   relaxed-one s v h g =
       let same-0 = getD-set-same (s .0) v (min (base + len v) (at (s .0) v)) 0 h in
       let same-1 = getD-set-same (s .1) v (cond (ltb (base + len v) (at (s .0) v)) w (at (s .1) v)) 0 g in
-      let other-0 : (i : ℕ) → i ≢ v → at (relaxed len w base s v .0) i ≡ at (s .0) i = λ i n. getD-set-other (s .0) v i (min (base + len v) (at (s .0) v)) 0 n in
-      let other-1 : (i : ℕ) → i ≢ v → at (relaxed len w base s v .1) i ≡ at (s .1) i = λ i n. getD-set-other (s .1) v i (cond (ltb (base + len v) (at (s .0) v)) w (at (s .1) v)) 0 n in
+      let other-0 : (i : ℕ) → i ≢ v → at (relaxed len w base s v .0) i ≡ at (s .0) i =
+      λ i n. getD-set-other (s .0) v i (min (base + len v) (at (s .0) v)) 0 n in
+      let other-1 : (i : ℕ) → i ≢ v → at (relaxed len w base s v .1) i ≡ at (s .1) i =
+      λ i n. getD-set-other (s .1) v i (cond (ltb (base + len v) (at (s .0) v)) w (at (s .1) v)) 0 n in
       record {
         long-distance = length-set (s .0) v _;
         long-next = length-set (s .1) v _;
@@ -53,16 +57,25 @@ module _ (len : ℕ → ℕ) (w base : ℕ) where
           | inr k ↦ absurd (List·Memᴰ·not-nil k)
         ];
         from = λ i. elim (ℕ-discrete i v) [
-          | yes e ↦ subst⁻¹ (λ k. ((at (relaxed len w base s v .0) k ≡ at (s .0) k) × (at (relaxed len w base s v .1) k ≡ at (s .1) k)) ⊎ ((at (relaxed len w base s v .0) k ≡ base + len k) × (at (relaxed len w base s v .1) k ≡ w) × (at (relaxed len w base s v .0) k < at (s .0) k))) e
+          | yes e ↦ subst⁻¹
+              (λ k. ((at (relaxed len w base s v .0) k ≡ at (s .0) k) × (at (relaxed len w base s v .1) k ≡ at (s .1) k))
+              ⊎ ((at (relaxed len w base s v .0) k ≡ base + len k) × (at (relaxed len w base s v .1) k ≡ w)
+              × (at (relaxed len w base s v .0) k < at (s .0) k))) e
               (elim (decLe (at (s .0) v) (base + len v)) [
                 | yes l ↦ inl (omega arith, same-1 ∙ ap (λ (b : Bool). cond b w (at (s .1) v)) (le-ltb (base + len v) (at (s .0) v) l))
-                | no l ↦ inr (omega arith, same-1 ∙ ap (λ (b : Bool). cond b w (at (s .1) v)) (lt-ltb (base + len v) (at (s .0) v) (omega arith)), omega arith)
+                | no l ↦ inr (
+                  omega arith,
+                  same-1
+                      ∙ ap (λ (b : Bool). cond b w (at (s .1) v)) (lt-ltb (base + len v) (at (s .0) v) (omega arith)),
+                  omega arith,
+                )
               ])
           | no n ↦ inl (other-0 i n, other-1 i n)
         ];
       }
 
-  relaxed-all : (us : List ℕ) (s : List ℕ × List ℕ) → ((v : ℕ) → List·Memᴰ v us → (v < length (s .0)) × (v < length (s .1))) → Relaxed us s (fold (relaxed len w base) s us)
+  relaxed-all : (us : List ℕ) (s : List ℕ × List ℕ) → ((v : ℕ) → List·Memᴰ v us → (v < length (s .0)) × (v < length (s .1)))
+      → Relaxed us s (fold (relaxed len w base) s us)
   unfolding fold
   relaxed-all [] s h = record {
     long-distance = refl;
@@ -73,7 +86,9 @@ module _ (len : ℕ → ℕ) (w base : ℕ) where
   }
   relaxed-all (u ∷ us) s h =
       let one = relaxed-one s u (h u (List·Memᴰ·head refl) .0) (h u (List·Memᴰ·head refl) .1) in
-      let rest = relaxed-all us (relaxed len w base s u) (λ v m. let k = h v (List·Memᴰ·tail m) in let a = one .long-distance in let b = one .long-next in (omega (arith, k .0), omega (arith, k .1))) in
+      let rest = relaxed-all us (relaxed len w base s u)
+      (λ v m. let k = h v (List·Memᴰ·tail m) in let a = one .long-distance in let b = one .long-next in
+      (omega (arith, k .0), omega (arith, k .1))) in
       record {
         long-distance = rest .long-distance ∙ one .long-distance;
         long-next = rest .long-next ∙ one .long-next;
@@ -97,7 +112,8 @@ module _ (distance rank : List ℕ) where
   abbrev key : ℕ → ℕ
   key v = openDistance distance rank v
 
-  nearest-low : (us : List ℕ) (s : ℕ × ℕ) → (fold (nearer distance rank) s us .1 ≤ s .1) × ((v : ℕ) → List·Memᴰ v us → fold (nearer distance rank) s us .1 ≤ key v)
+  nearest-low : (us : List ℕ) (s : ℕ × ℕ)
+      → (fold (nearer distance rank) s us .1 ≤ s .1) × ((v : ℕ) → List·Memᴰ v us → fold (nearer distance rank) s us .1 ≤ key v)
   unfolding fold
   nearest-low [] s = (omega arith, λ v m. absurd (List·Memᴰ·not-nil m))
   nearest-low (u ∷ us) s =
@@ -157,8 +173,10 @@ pub record Searching (ℓ : ℕ → ℕ → ℕ) (vs : List ℕ) (t k : ℕ) (s 
   pub zero : at (s .distance) t ≡ 0
   pub first : 0 < at (s .rank) t
   pub near : (i j : ℕ) → List·Memᴰ i vs → List·Memᴰ j vs → 0 < at (s .rank) i → at (s .distance) j ≤ at (s .distance) i + ℓ j i
-  pub ahead : (i j : ℕ) → List·Memᴰ i vs → List·Memᴰ j vs → 0 < at (s .rank) i → at (s .rank) j ≡ 0 → at (s .distance) i ≤ at (s .distance) j
-  pub sorted : (i j : ℕ) → List·Memᴰ i vs → List·Memᴰ j vs → 0 < at (s .rank) i → at (s .rank) i ≤ at (s .rank) j → at (s .distance) i ≤ at (s .distance) j
+  pub ahead : (i j : ℕ) → List·Memᴰ i vs → List·Memᴰ j vs → 0 < at (s .rank) i → at (s .rank) j ≡ 0
+      → at (s .distance) i ≤ at (s .distance) j
+  pub sorted : (i j : ℕ) → List·Memᴰ i vs → List·Memᴰ j vs → 0 < at (s .rank) i → at (s .rank) i ≤ at (s .rank) j
+      → at (s .distance) i ≤ at (s .distance) j
   pub onward : (v : ℕ) → List·Memᴰ v vs → List·Memᴰ (at (s .next) v) vs
   pub inside : (v : ℕ) → at (s .next) v ≤ 63
   pub reached : (v : ℕ) → List·Memᴰ v vs → 0 < at (s .rank) (at (s .next) v)
@@ -192,7 +210,8 @@ module _ (ℓ : ℕ → ℕ → ℕ) (vs : List ℕ) (t : ℕ) (ground : Ground 
     rank-long = length-set (s .rank) w (k + 1) ∙ before .long-rank
 
     -- what is settled stays as it is
-    pub keep : (i : ℕ) → List·Memᴰ i vs → 0 < at (after .rank) i → (at (after .distance) i ≡ at (s .distance) i) × (at (after .next) i ≡ at (s .next) i)
+    pub keep : (i : ℕ) → List·Memᴰ i vs → 0 < at (after .rank) i
+        → (at (after .distance) i ≡ at (s .distance) i) × (at (after .next) i ≡ at (s .next) i)
     keep i m h = elim (change .from i) [
       | inl p ↦ p
       | inr p ↦
@@ -213,7 +232,9 @@ module _ (ℓ : ℕ → ℕ → ℕ) (vs : List ℕ) (t : ℕ) (ground : Ground 
         let n : i ≢ w = λ e. let r = ap (at (s .rank)) e in omega arith in
         (n, rank-other i n)
 
-    settled-next : (v : ℕ) → List·Memᴰ v vs → (List·Memᴰ (at (after .next) v) vs) × (0 < at (after .rank) (at (after .next) v)) × (at (after .distance) v ≡ at (after .distance) (at (after .next) v) + ℓ v (at (after .next) v))
+    settled-next : (v : ℕ) → List·Memᴰ v vs
+        → (List·Memᴰ (at (after .next) v) vs) × (0 < at (after .rank) (at (after .next) v))
+        × (at (after .distance) v ≡ at (after .distance) (at (after .next) v) + ℓ v (at (after .next) v))
     settled-next v m = elim (change .from v) [
       | inl p ↦
           let n = at (s .next) v in
@@ -225,13 +246,15 @@ module _ (ℓ : ℕ → ℕ → ℕ) (vs : List ℕ) (t : ℕ) (ground : Ground 
           let e = before .edge v m in
           let a = p .0 in
           let b = keep (at (s .next) v) mn l .0 in
-          subst⁻¹ (λ n. (List·Memᴰ n vs) × (0 < at (after .rank) n) × (at (after .distance) v ≡ at (after .distance) n + ℓ v n)) (p .1) (mn, l, omega arith)
+          subst⁻¹ (λ n. (List·Memᴰ n vs) × (0 < at (after .rank) n) × (at (after .distance) v ≡ at (after .distance) n + ℓ v n)) (p .1)
+          (mn, l, omega arith)
       | inr p ↦
           let r = rank-here in
           let a = p .0 in
           let l : 0 < at (after .rank) w = omega arith in
           let b = keep w member l .0 in
-          subst⁻¹ (λ n. (List·Memᴰ n vs) × (0 < at (after .rank) n) × (at (after .distance) v ≡ at (after .distance) n + ℓ v n)) (p .1) (member, l, omega arith)
+          subst⁻¹ (λ n. (List·Memᴰ n vs) × (0 < at (after .rank) n) × (at (after .distance) v ≡ at (after .distance) n + ℓ v n)) (p .1)
+          (member, l, omega arith)
     ]
 
     pub settle-step : Searching ℓ vs t (k + 1) after
@@ -260,7 +283,8 @@ module _ (ℓ : ℕ → ℕ → ℕ) (vs : List ℕ) (t : ℕ) (ground : Ground 
       left = left′;
     }
       where
-        near′ : (i j : ℕ) → List·Memᴰ i vs → List·Memᴰ j vs → 0 < at (after .rank) i → at (after .distance) j ≤ at (after .distance) i + ℓ j i
+        near′ : (i j : ℕ) → List·Memᴰ i vs → List·Memᴰ j vs → 0 < at (after .rank) i
+            → at (after .distance) j ≤ at (after .distance) i + ℓ j i
         near′ i j m n h =
             let a = keep i m h .0 in
             let c = change .near j n in
@@ -270,7 +294,8 @@ module _ (ℓ : ℕ → ℕ → ℕ) (vs : List ℕ) (t : ℕ) (ground : Ground 
               | inr q ↦ let b = before .near i j m n (q .1) in omega arith
             ]
 
-        ahead′ : (i j : ℕ) → List·Memᴰ i vs → List·Memᴰ j vs → 0 < at (after .rank) i → at (after .rank) j ≡ 0 → at (after .distance) i ≤ at (after .distance) j
+        ahead′ : (i j : ℕ) → List·Memᴰ i vs → List·Memᴰ j vs → 0 < at (after .rank) i → at (after .rank) j ≡ 0
+            → at (after .distance) i ≤ at (after .distance) j
         ahead′ i j m n h g =
             let a = keep i m h .0 in
             let other : j ≢ w = λ e. let r = ap (at (after .rank)) e in let r′ = rank-here in omega arith in
@@ -285,7 +310,8 @@ module _ (ℓ : ℕ → ℕ → ℕ) (vs : List ℕ) (t : ℕ) (ground : Ground 
               | inr p ↦ let e = p .0 in omega arith
             ]
 
-        sorted′ : (i j : ℕ) → List·Memᴰ i vs → List·Memᴰ j vs → 0 < at (after .rank) i → at (after .rank) i ≤ at (after .rank) j → at (after .distance) i ≤ at (after .distance) j
+        sorted′ : (i j : ℕ) → List·Memᴰ i vs → List·Memᴰ j vs → 0 < at (after .rank) i → at (after .rank) i ≤ at (after .rank) j
+            → at (after .distance) i ≤ at (after .distance) j
         sorted′ i j m n h l =
             let a = keep i m h .0 in
             let b = keep j n (omega arith) .0 in
@@ -293,11 +319,13 @@ module _ (ℓ : ℕ → ℕ → ℕ) (vs : List ℕ) (t : ℕ) (ground : Ground 
             elim (was i h) [
               | inl q ↦ elim (was j (omega arith)) [
                 | inl q′ ↦ let e = ap (at (s .distance)) (q ∙ sym q′) in omega arith
-                | inr q′ ↦ let e = ap (at (after .rank)) q in let o = rank-other j (q′ .0) in let z = before .recent j in absurd (omega arith)
+                | inr q′ ↦ let e = ap (at (after .rank)) q in let o = rank-other j (q′ .0) in let z = before .recent j in
+                    absurd (omega arith)
               ]
               | inr q ↦ elim (was j (omega arith)) [
                 | inl q′ ↦ let e = ap (at (s .distance)) q′ in let z = before .ahead i w m member (q .1) fresh in omega arith
-                | inr q′ ↦ let e = rank-other i (q .0) in let o = rank-other j (q′ .0) in let z = before .sorted i j m n (q .1) (omega arith) in omega arith
+                | inr q′ ↦ let e = rank-other i (q .0) in let o = rank-other j (q′ .0) in
+                    let z = before .sorted i j m n (q .1) (omega arith) in omega arith
               ]
             ]
 
@@ -315,7 +343,8 @@ module _ (ℓ : ℕ → ℕ → ℕ) (vs : List ℕ) (t : ℕ) (ground : Ground 
 
         left′ : sumOver vs (λ v. 1 - at (after .rank) v) + (k + 1) ≡ length vs
         left′ =
-            let c = sum-change-once vs (λ v. 1 - at (s .rank) v) (λ v. 1 - at (after .rank) v) w (once (ground .once) member) (λ i m n. ap (λ r. 1 - r) (rank-other i n)) in
+            let c = sum-change-once vs (λ v. 1 - at (s .rank) v) (λ v. 1 - at (after .rank) v) w (once (ground .once) member)
+            (λ i m n. ap (λ r. 1 - r) (rank-other i n)) in
             let l = before .left in
             let r = rank-here in
             omega arith
@@ -362,9 +391,11 @@ module _ (ℓ : ℕ → ℕ → ℕ) (vs : List ℕ) (t : ℕ) (ground : Ground 
             )
       ]
 
-  pub round-step : (goal k : ℕ) (s : Found) → List·Memᴰ goal vs → Searching ℓ vs t k s → k < length vs → Searching ℓ vs t (k + 1) (round ℓ vs t goal k s)
+  pub round-step : (goal k : ℕ) (s : Found) → List·Memᴰ goal vs → Searching ℓ vs t k s → k < length vs
+      → Searching ℓ vs t (k + 1) (round ℓ vs t goal k s)
   unfolding round
-  round-step goal k s aim h l = let n = nearest-holds goal k s aim h l in settle-step k (nearest vs goal (s .distance) (s .rank)) s h (n .0) (n .1) (n .2)
+  round-step goal k s aim h l = let n = nearest-holds goal k s aim h l in
+      settle-step k (nearest vs goal (s .distance) (s .rank)) s h (n .0) (n .1) (n .2)
 
   -- ---- the start
 
@@ -380,7 +411,8 @@ module _ (ℓ : ℕ → ℕ → ℕ) (vs : List ℕ) (t : ℕ) (ground : Ground 
   start-change : Relaxed (λ v. ℓ v t) t 0 vs (replicate 64 beyond, replicate 64 t) (start ℓ vs t .distance, start ℓ vs t .next)
   unfolding start relax
   start-change = relaxed-all (λ v. ℓ v t) t 0 vs (replicate 64 beyond, replicate 64 t)
-      (λ v m. let a = ground .small v m in let b = length-replicate 64 beyond in let c = length-replicate 64 t in (omega arith, omega arith))
+      (λ v m. let a = ground .small v m in let b = length-replicate 64 beyond in let c = length-replicate 64 t in
+      (omega arith, omega arith))
 
   start-at : (v : ℕ) → List·Memᴰ v vs → (at (start ℓ vs t .distance) v ≡ ℓ v t) × (at (start ℓ vs t .next) v ≡ t)
   start-at v m = elim (start-change .from v) [
@@ -395,7 +427,9 @@ module _ (ℓ : ℕ → ℕ → ℕ) (vs : List ℕ) (t : ℕ) (ground : Ground 
 
   pub start-here : at (start ℓ vs t .rank) t ≡ 1
   unfolding start
-  start-here = getD-set-same (replicate 64 0) t 1 0 (let a = ground .small t (ground .target) in let b = length-replicate {A = ℕ} 64 0 in omega arith)
+  start-here =
+      getD-set-same (replicate 64 0) t 1 0
+      (let a = ground .small t (ground .target) in let b = length-replicate {A = ℕ} 64 0 in omega arith)
 
   pub start-other : (v : ℕ) → v ≢ t → at (start ℓ vs t .rank) v ≡ 0
   unfolding start
@@ -447,7 +481,8 @@ module _ (ℓ : ℕ → ℕ → ℕ) (vs : List ℕ) (t : ℕ) (ground : Ground 
     low = λ v m. (let a = start-at v m .0 in let b = ground .short v t m (ground .target) in omega arith);
     left =
         let a = all-open vs (at (replicate 64 0)) (λ v. zero-at 64 v 0) in
-        let c = sum-change-once vs (λ v. 1 - at (replicate 64 0) v) (λ v. 1 - at (start ℓ vs t .rank) v) t (once (ground .once) (ground .target))
+        let c = sum-change-once vs (λ v. 1 - at (replicate 64 0) v) (λ v. 1 - at (start ℓ vs t .rank) v) t
+        (once (ground .once) (ground .target))
         (λ i m n. ap (λ r. 1 - r) (start-other i n ∙ sym (zero-at 64 i 0))) in
         let h = start-here in
         let z = zero-at {A = ℕ} 64 t 0 in

@@ -1,5 +1,6 @@
--- What the search until the goal is the nearest finds is what the potentials and the path need. Settling the goal lowers only distances beyond the goal's, to no less than that,
--- so no distance changes up to the goal's; and it keeps the next vertex of what is settled, so the path from the goal stays, since it goes on by settled vertices.
+-- What the search until the goal is the nearest finds is what the potentials and the path need. Settling the goal lowers only distances
+-- beyond the goal's, to no less than that, so no distance changes up to the goal's; and it keeps the next vertex of what is settled, so the
+-- path from the goal stays, since it goes on by settled vertices.
 use mathlib.Core.Path.{_≡_, refl, sym, ap, _∙_, subst⁻¹}
 use mathlib.Core.Logic.{inl, inr, _≢_}
 use mathlib.Core.Bool.{Bool, true, false, cond}
@@ -25,7 +26,8 @@ at l v = getD l v 0
 -- a is r as far as the potentials and the path from the goal need it
 pub record Agree (vs : List ℕ) (t goal : ℕ) (a r : Found) : Type 0 where
   pub goal-same : at (a .distance) goal ≡ at (r .distance) goal
-  pub near-same : (v : ℕ) → List·Memᴰ v vs → min (at (a .distance) v) (at (a .distance) goal) ≡ min (at (r .distance) v) (at (r .distance) goal)
+  pub near-same : (v : ℕ) → List·Memᴰ v vs
+      → min (at (a .distance) v) (at (a .distance) goal) ≡ min (at (r .distance) v) (at (r .distance) goal)
   pub way-same : (n : ℕ) (f : List ℕ) → augment (a .next) t n f goal ≡ augment (r .next) t n f goal
   pub inside : AtMost 63 (a .next)
 
@@ -39,7 +41,8 @@ module _ (ℓ : ℕ → ℕ → ℕ) (vs : List ℕ) (t : ℕ) (ground : Ground 
     abbrev after : Found
     after = settle ℓ vs t (k + 1) goal s
 
-    kept : (v : ℕ) → List·Memᴰ v vs → 0 < at (after .rank) v → (at (after .distance) v ≡ at (s .distance) v) × (at (after .next) v ≡ at (s .next) v)
+    kept : (v : ℕ) → List·Memᴰ v vs → 0 < at (after .rank) v
+        → (at (after .distance) v ≡ at (s .distance) v) × (at (after .next) v ≡ at (s .next) v)
     kept = keep ℓ vs t ground k goal s before aim fresh least
 
     settled : Searching ℓ vs t (k + 1) after
@@ -48,7 +51,8 @@ module _ (ℓ : ℕ → ℕ → ℕ) (vs : List ℕ) (t : ℕ) (ground : Ground 
     goal-first : 0 < at (after .rank) goal
     goal-first = let r = rank-here ℓ vs t ground k goal s before aim fresh least in omega arith
 
-    path-same : (n : ℕ) (f : List ℕ) (v : ℕ) → List·Memᴰ v vs → 0 < at (after .rank) v → augment (s .next) t n f v ≡ augment (after .next) t n f v
+    path-same : (n : ℕ) (f : List ℕ) (v : ℕ) → List·Memᴰ v vs → 0 < at (after .rank) v
+        → augment (s .next) t n f v ≡ augment (after .next) t n f v
     unfolding augment
     path-same zero f v m h = refl
     path-same (suc n) f v m h =
@@ -71,9 +75,11 @@ module _ (ℓ : ℕ → ℕ → ℕ) (vs : List ℕ) (t : ℕ) (ground : Ground 
     }
 
   agree-cast : {a a′ r r′ : Found} → a ≡ a′ → r ≡ r′ → Agree vs t goal a′ r′ → Agree vs t goal a r
-  agree-cast {a} {a′} {r} {r′} ea er h = subst⁻¹ (λ (q : Found). Agree vs t goal q r) ea (subst⁻¹ (λ (q : Found). Agree vs t goal a′ q) er h)
+  agree-cast {a} {a′} {r} {r′} ea er h =
+      subst⁻¹ (λ (q : Found). Agree vs t goal q r) ea (subst⁻¹ (λ (q : Found). Agree vs t goal a′ q) er h)
 
-  open-goes-on : (n k : ℕ) (s : Found) → at (s .rank) goal ≡ 0 → rounds ℓ vs t false goal (suc n) k s ≡ rounds ℓ vs t false goal n (k + 1) (round ℓ vs t goal k s)
+  open-goes-on : (n k : ℕ) (s : Found) → at (s .rank) goal ≡ 0
+      → rounds ℓ vs t false goal (suc n) k s ≡ rounds ℓ vs t false goal n (k + 1) (round ℓ vs t goal k s)
   unfolding rounds
   open-goes-on n k s fresh = rw (le-ltb 0 (at (s .rank) goal) (omega arith))
 
@@ -81,7 +87,8 @@ module _ (ℓ : ℕ → ℕ → ℕ) (vs : List ℕ) (t : ℕ) (ground : Ground 
   unfolding round
   round-goal k s q = ap (λ w. settle ℓ vs t (k + 1) w s) q
 
-  round-other : (k : ℕ) (s : Found) → nearest vs goal (s .distance) (s .rank) ≢ goal → at (round ℓ vs t goal k s .rank) goal ≡ at (s .rank) goal
+  round-other : (k : ℕ) (s : Found) → nearest vs goal (s .distance) (s .rank) ≢ goal
+      → at (round ℓ vs t goal k s .rank) goal ≡ at (s .rank) goal
   unfolding round settle
   round-other k s q = getD-set-other (s .rank) (nearest vs goal (s .distance) (s .rank)) goal (k + 1) 0 (λ e. q (sym e))
 
@@ -98,11 +105,13 @@ module _ (ℓ : ℕ → ℕ → ℕ) (vs : List ℕ) (t : ℕ) (ground : Ground 
             let done = goal-first k s h fresh least in
             agree-cast (until-end ℓ vs t goal (suc n) k s q)
             (open-goes-on n k s fresh ∙ ap (rounds ℓ vs t false goal n (k + 1)) (round-goal k s q)
-            ∙ rounds-end ℓ vs t false goal n (k + 1) (settle ℓ vs t (k + 1) goal s) (lt-ltb 0 (at (settle ℓ vs t (k + 1) goal s .rank) goal) done))
+            ∙ rounds-end ℓ vs t false goal n (k + 1) (settle ℓ vs t (k + 1) goal s)
+            (lt-ltb 0 (at (settle ℓ vs t (k + 1) goal s .rank) goal) done))
             (agree-settled k s h fresh least)
         | no q ↦
             agree-cast (until-on ℓ vs t goal n k s q) (open-goes-on n k s fresh)
-            (rounds-agree n (k + 1) (round ℓ vs t goal k s) (omega arith) (round-step ℓ vs t ground goal k s aim h (omega arith)) (round-other k s q ∙ fresh))
+            (rounds-agree n (k + 1) (round ℓ vs t goal k s) (omega arith) (round-step ℓ vs t ground goal k s aim h (omega arith))
+            (round-other k s q ∙ fresh))
       ]
 
   -- THE SEARCH UNTIL THE GOAL IS THE NEAREST agrees with the search until it is settled
@@ -112,12 +121,15 @@ module _ (ℓ : ℕ → ℕ → ℕ) (vs : List ℕ) (t : ℕ) (ground : Ground 
     | yes q ↦
         let r = start-here ℓ vs t ground in
         let p = ap (at (start ℓ vs t .rank)) q in
-        agree-cast (ap (λ n. roundsUntil ℓ vs t goal (n - 1) 1 (start ℓ vs t)) (ap (λ (b : Bool). cond b 1 (length vs)) (eq-eqb t goal q)) ∙ none)
+        agree-cast (ap (λ n. roundsUntil ℓ vs t goal (n - 1) 1 (start ℓ vs t)) (ap (λ (b : Bool). cond b 1 (length vs)) (eq-eqb t goal q))
+        ∙ none)
         (rounds-end ℓ vs t false goal (length vs - 1) 1 (start ℓ vs t) (lt-ltb 0 (at (start ℓ vs t .rank) goal) (omega arith)))
         (agree-same 1 (start ℓ vs t) (start-holds ℓ vs t ground))
     | no q ↦
-        agree-cast (ap (λ n. roundsUntil ℓ vs t goal (n - 1) 1 (start ℓ vs t)) (ap (λ (b : Bool). cond b 1 (length vs)) (ne-eqb t goal q))) refl
-        (rounds-agree (length vs - 1) 1 (start ℓ vs t) (let h = some-vertex ℓ vs t ground (ground .target) in omega arith) (start-holds ℓ vs t ground)
+        agree-cast (ap (λ n. roundsUntil ℓ vs t goal (n - 1) 1 (start ℓ vs t))
+        (ap (λ (b : Bool). cond b 1 (length vs)) (ne-eqb t goal q))) refl
+        (rounds-agree (length vs - 1) 1 (start ℓ vs t) (let h = some-vertex ℓ vs t ground (ground .target) in omega arith)
+        (start-holds ℓ vs t ground)
         (start-other ℓ vs t ground goal (λ e. q (sym e))))
   ]
     where
@@ -136,11 +148,14 @@ module _ (ℓ : ℕ → ℕ → ℕ) (vs : List ℕ) (t : ℕ) (ground : Ground 
   -- with t for the goal, which is settled from the start, it goes on to the end: it is the whole search
   pub until-whole : until ℓ vs t t (length vs) ≡ search ℓ vs t true t
   unfolding until search
-  until-whole = rounds-whole (length vs - 1) 1 (start ℓ vs t) (let h = some-vertex ℓ vs t ground (ground .target) in omega arith) (start-holds ℓ vs t ground)
+  until-whole =
+      rounds-whole (length vs - 1) 1 (start ℓ vs t) (let h = some-vertex ℓ vs t ground (ground .target) in omega arith)
+      (start-holds ℓ vs t ground)
 
 -- ---- the potentials raised
 
-raise-fold : (g g′ : ℕ → ℕ) (us s : List ℕ) → ((v : ℕ) → List·Memᴰ v us → g v ≡ g′ v) → fold (λ s v. set s v (g v)) s us ≡ fold (λ s v. set s v (g′ v)) s us
+raise-fold : (g g′ : ℕ → ℕ) (us s : List ℕ) → ((v : ℕ) → List·Memᴰ v us → g v ≡ g′ v)
+    → fold (λ s v. set s v (g v)) s us ≡ fold (λ s v. set s v (g′ v)) s us
 unfolding fold
 raise-fold g g′ [] s h = refl
 raise-fold g g′ (u ∷ us) s h =

@@ -1,4 +1,5 @@
--- What is kept: the cost is that of the plan under its numbering, and so is the floor, with its multipliers carried back; and the cost is no more than that of the round which the floor is from.
+-- What is kept: the cost is that of the plan under its numbering, and so is the floor, with its multipliers carried back; and the cost is
+-- no more than that of the round which the floor is from.
 use mathlib.Core.Path.{_≡_, refl, sym, ap, fun-ext, _∙_, subst, subst⁻¹}
 use mathlib.Core.Bool.{true, false, not, cond}
 use mathlib.Core.List.{List, map}
@@ -61,7 +62,8 @@ module _ (p : Plan) (ok : Plannable p) (few : componentCount p ≤ 8) (x : Numbe
   unfolding carriedIn below
   carried-list = fun-ext (λ i. at i)
     where
-      at : (i : ℕ) → uOf (carriedIn (x .to) (multipliersFor (under p x))) i ≡ carried (numberIn (x .to)) (uOf (multipliersFor (under p x))) i
+      at : (i : ℕ)
+          → uOf (carriedIn (x .to) (multipliersFor (under p x))) i ≡ carried (numberIn (x .to)) (uOf (multipliersFor (under p x))) i
       at i =
           let f : ℕ → ℤ = λ v. getD (multipliersFor (under p x)) (numberIn (x .to) v) (pos 0) in
           let n = ok .well-formed .vertices in
@@ -70,7 +72,8 @@ module _ (p : Plan) (ok : Plannable p) (few : componentCount p ≤ 8) (x : Numbe
                 let long : length (map f (upFrom 0 64)) ≡ 64 = length-map (upFrom 0 64) f ∙ length-upFrom 0 64 in
                 let o : numberIn (x .to) i ≡ i = h .numbers .outside i (omega arith) in
                 List·getD-eq-default (map f (upFrom 0 64)) (pos 0) {n = i} (omega arith)
-                ∙ sym (ap (uOf (multipliersFor (under p x))) o ∙ under-multipliers .elsewhere i (λ m. let l = required-lt (under p x) m in omega arith))
+                ∙ sym (ap (uOf (multipliersFor (under p x))) o
+                ∙ under-multipliers .elsewhere i (λ m. let l = required-lt (under p x) m in omega arith))
             | no g ↦ getD-map-upFrom f 0 64 i (pos 0) (omega arith) ∙ ap f (zero-add i)
           ]
 
@@ -83,7 +86,8 @@ pub record IsKept (p : Plan) (r : ℕ) (k : Kept) : Type 0 where
   pub bound-numbering : IsNumberingOf (p .n) (k .bound .numbering)
   pub bound-tries : 1 ≤ k .bound .tries
   pub floor-is : k .floor ≡ floorUnder p (k .bound)
-  pub multipliers-are : uOf (k .multipliers) ≡ carried (numberIn (k .bound .numbering .to)) (uOf (multipliersFor (under p (k .bound .numbering))))
+  pub multipliers-are : uOf (k .multipliers)
+      ≡ carried (numberIn (k .bound .numbering .to)) (uOf (multipliersFor (under p (k .bound .numbering))))
   pub least : k .cost ≤ costOf p (k .bound)
   pub base-numbering : IsNumberingOf (p .n) (k .base .numbering)
   pub base-few : k .base .tries ≤ suc r * 1000000
@@ -100,7 +104,8 @@ unfolding newTrees triedCount
 new-few q budget tries = omega arith
 
 -- neither a drive nor a floor nor a search that is kept changes the count
-pub trees-same : (x : Trial) (cost : ℕ) (floor : ℤ) (u : List ℤ) (left : ℕ) (k : Kept) → withBase x left (withFloor x floor u (withDrive x cost k)) .trees ≡ k .trees
+pub trees-same : (x : Trial) (cost : ℕ) (floor : ℤ) (u : List ℤ) (left : ℕ) (k : Kept)
+    → withBase x left (withFloor x floor u (withDrive x cost k)) .trees ≡ k .trees
 unfolding withDrive withFloor withBase
 trees-same x cost floor u left k =
     let m = withDrive x cost k in
@@ -118,13 +123,24 @@ pub record IsChosen (p : Plan) (r : ℕ) (c : Chosen) : Type 0 where
 module _ (p : Plan) (ok : WellFormed p) (budget : ℕ) (some-trees : 1 ≤ budget) (low : budget ≤ 1000000) (round : ℕ) (k : Kept)
     (numbers : IsNumberingOf (p .n) (k .base .numbering)) (random : k .random < modulus) where
   -- the numbering and the tries of a round
-  pub chosen-trial : (most : ℕ) → most ≤ 999000000 → k .base .tries ≤ most → IsTrial p (nextRound p budget round k .trial) × (nextRound p budget round k .trial .tries ≤ most + 1000000) × (nextRound p budget round k .random < modulus)
+  pub chosen-trial : (most : ℕ) → most ≤ 999000000 → k .base .tries ≤ most
+      → IsTrial p (nextRound p budget round k .trial) × (nextRound p budget round k .trial .tries ≤ most + 1000000)
+      × (nextRound p budget round k .random < modulus)
   unfolding nextRound goneOn exchangedBy
   chosen-trial most small few =
       let d : Drawn = record { numbering = k .base .numbering; random = k .random } in
-      cond-ind (eqb (round % 2) 0) (goneOn budget k) (exchangedBy p budget k) (λ c. IsTrial p (c .trial) × (c .trial .tries ≤ most + 1000000) × (c .random < modulus))
+      cond-ind (eqb (round % 2) 0) (goneOn budget k) (exchangedBy p budget k)
+      (λ c. IsTrial p (c .trial) × (c .trial .tries ≤ most + 1000000) × (c .random < modulus))
       (λ t. (record { numbers = numbers; some-tries = omega arith; few-tries = omega arith }, omega arith, random))
-      (λ t. (record { numbers = shuffled-numbering (p .n) (ok .some-vertex) (ok .vertices) d 2 numbers; some-tries = some-trees; few-tries = omega arith }, omega arith, shuffled-random (p .n) d 2 random))
+      (λ t. (
+        record {
+          numbers = shuffled-numbering (p .n) (ok .some-vertex) (ok .vertices) d 2 numbers;
+          some-tries = some-trees;
+          few-tries = omega arith;
+        },
+        omega arith,
+        shuffled-random (p .n) d 2 random,
+      ))
 
 module _ (p : Plan) (ok : Plannable p) (few : componentCount p ≤ 8) (budget : ℕ) (some-trees : 1 ≤ budget) (low : budget ≤ 1000000) where
   -- ---- the first round
@@ -143,7 +159,9 @@ module _ (p : Plan) (ok : Plannable p) (few : componentCount p ≤ 8) (budget : 
         bound-numbering = n;
         bound-tries = some-trees;
         floor-is = ap (λ (q : Plan). floorOf q budget) same;
-        multipliers-are = ap (λ (q : Plan). uOf (multipliersFor q)) same ∙ ap (λ (π : ℕ → ℕ). carried π (uOf (multipliersFor (under p unchanged)))) (sym as-it-is);
+        multipliers-are =
+            ap (λ (q : Plan). uOf (multipliersFor q)) same
+            ∙ ap (λ (π : ℕ → ℕ). carried π (uOf (multipliersFor (under p unchanged)))) (sym as-it-is);
         least = (let e = ap (λ (q : Plan). bestCost q budget) same in omega arith);
         base-numbering = n;
         base-few = omega arith;
@@ -259,7 +277,8 @@ module _ (p : Plan) (ok : Plannable p) (few : componentCount p ≤ 8) (budget : 
 
     base-same : (left : ℕ) (k : Kept) → (withBase x left k .cost ≡ k .cost) × (withBase x left k .floor ≡ k .floor)
     unfolding withBase
-    base-same left k = cond-ind (leb left (k .left)) _ k (λ m. (m .cost ≡ k .cost) × (m .floor ≡ k .floor)) (λ t. (refl, refl)) (λ t. (refl, refl))
+    base-same left k =
+        cond-ind (leb left (k .left)) _ k (λ m. (m .cost ≡ k .cost) × (m .floor ≡ k .floor)) (λ t. (refl, refl)) (λ t. (refl, refl))
 
   round-kept : (r : ℕ) (c : Chosen) (k : Kept) → IsChosen p r c → IsKept p r k → IsKept p (suc r) (roundWith p budget c k)
   unfolding roundWith counted
@@ -290,7 +309,8 @@ module _ (p : Plan) (ok : Plannable p) (few : componentCount p ≤ 8) (budget : 
       }
 
   -- no dearer, and no lower
-  round-better : (r : ℕ) (c : Chosen) (k : Kept) → IsTrial p (c .trial) → (roundWith p budget c k .cost ≤ k .cost) × (k .floor ≤ℤ roundWith p budget c k .floor)
+  round-better : (r : ℕ) (c : Chosen) (k : Kept) → IsTrial p (c .trial)
+      → (roundWith p budget c k .cost ≤ k .cost) × (k .floor ≤ℤ roundWith p budget c k .floor)
   unfolding roundWith counted
   round-better r c k hx =
       let x = c .trial in
@@ -306,7 +326,8 @@ module _ (p : Plan) (ok : Plannable p) (few : componentCount p ≤ 8) (budget : 
 
   chosen : (r : ℕ) (k : Kept) → r < 999 → IsKept p r k → IsChosen p r (nextRound p budget (r + 2) k)
   chosen r k l h =
-      let t = chosen-trial p (ok .well-formed) budget some-trees low (r + 2) k (h .base-numbering) (h .random-in) (suc r * 1000000) (omega arith) (h .base-few) in
+      let t = chosen-trial p (ok .well-formed) budget some-trees low (r + 2) k (h .base-numbering) (h .random-in) (suc r * 1000000)
+      (omega arith) (h .base-few) in
       let f = t .1 in
       record { trial = t .0; few-tries = omega arith; random-in = t .2 }
 
@@ -314,7 +335,8 @@ module _ (p : Plan) (ok : Plannable p) (few : componentCount p ≤ 8) (budget : 
   unfolding keptAfter nextKept
   next-kept r l h =
       let k = keptAfter p budget r in
-      cond-ind (isClosed k) k _ (IsKept p (suc r)) (λ t. one-more r k h) (λ t. round-kept r (nextRound p budget (r + 2) k) k (chosen r k l h) h)
+      cond-ind (isClosed k) k _ (IsKept p (suc r)) (λ t. one-more r k h)
+      (λ t. round-kept r (nextRound p budget (r + 2) k) k (chosen r k l h) h)
 
   pub after-kept : (r : ℕ) → r < 1000 → IsKept p r (keptAfter p budget r)
   after-kept zero l = begun-kept
@@ -334,10 +356,12 @@ module _ (p : Plan) (ok : Plannable p) (few : componentCount p ≤ 8) (budget : 
   after-better r l =
       let k = keptAfter p budget r in
       let h = after-kept r (omega arith) in
-      cond-ind (isClosed k) k _ (λ m. (m .cost ≤ k .cost) × (k .floor ≤ℤ m .floor)) (λ t. (omega arith, omega (arith, z))) (λ t. round-better r (nextRound p budget (r + 2) k) k (chosen r k l h .trial))
+      cond-ind (isClosed k) k _ (λ m. (m .cost ≤ k .cost) × (k .floor ≤ℤ m .floor)) (λ t. (omega arith, omega (arith, z)))
+      (λ t. round-better r (nextRound p budget (r + 2) k) k (chosen r k l h .trial))
 
   pub more-better : (r more : ℕ) → more + r < 1000
-      → (keptAfter p budget (more + r) .cost ≤ keptAfter p budget r .cost) × (keptAfter p budget r .floor ≤ℤ keptAfter p budget (more + r) .floor)
+      → (keptAfter p budget (more + r) .cost ≤ keptAfter p budget r .cost)
+      × (keptAfter p budget r .floor ≤ℤ keptAfter p budget (more + r) .floor)
   more-better r zero l = rw (zero-add r) (omega arith, omega (arith, z))
   more-better r (suc more) l =
       let a = more-better r more (omega arith) in
@@ -350,13 +374,15 @@ closed-step : (p : Plan) (budget r : ℕ) → isClosed (keptAfter p budget r) �
 unfolding keptAfter
 closed-step p budget r e = rw e refl
 
-pub closed-stays : (p : Plan) (budget r more : ℕ) → isClosed (keptAfter p budget r) ≡ true → keptAfter p budget (more + r) ≡ keptAfter p budget r
+pub closed-stays : (p : Plan) (budget r more : ℕ) → isClosed (keptAfter p budget r) ≡ true
+    → keptAfter p budget (more + r) ≡ keptAfter p budget r
 closed-stays p budget r zero e = ap (keptAfter p budget) (zero-add r)
 closed-stays p budget r (suc more) e =
     let h = closed-stays p budget r more e in
     let s : suc more + r ≡ suc (more + r) = omega arith in
     rw s (closed-step p budget (more + r) (ap isClosed h ∙ e) ∙ h)
 
-pub one-round : (p : Plan) (budget r : ℕ) → isClosed (keptAfter p budget r) ≡ false → keptAfter p budget (suc r) ≡ nextKept p budget (r + 2) (keptAfter p budget r)
+pub one-round : (p : Plan) (budget r : ℕ) → isClosed (keptAfter p budget r) ≡ false
+    → keptAfter p budget (suc r) ≡ nextKept p budget (r + 2) (keptAfter p budget r)
 unfolding keptAfter
 one-round p budget r e = rw e refl

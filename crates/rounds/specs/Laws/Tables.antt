@@ -57,23 +57,27 @@ module _ (p : Plan) (ok : WellFormed p) (x : Numbering) (h : IsNumberingOf (p .n
   under-well-formed = renumbered-well-formed p (h .numbers) ok
 
   pub under-refusal : planRefusal (under p x) ≡ planRefusal p
-  under-refusal = sym (parts-refusal (under p x) under-well-formed) ∙ ap firstRefusal (last-renumbered p (h .numbers) ok) ∙ parts-refusal p ok
+  under-refusal =
+      sym (parts-refusal (under p x) under-well-formed) ∙ ap firstRefusal (last-renumbered p (h .numbers) ok) ∙ parts-refusal p ok
 
   pub under-few : componentCount p ≤ 8 → componentCount (under p x) ≤ 8
   under-few few = let e = count-renumbered p ok (h .numbers) in omega arith
 
-  pub under-table : (t s : List (List ℕ)) → t ≡ tableOf p → length s ≡ 64 → ((i : ℕ) → i < 64 → length (getD s i []) ≡ 64) → IsRenumberedTable (x .from) t s → s ≡ tableOf (under p x)
+  pub under-table : (t s : List (List ℕ)) → t ≡ tableOf p → length s ≡ 64 → ((i : ℕ) → i < 64 → length (getD s i []) ≡ 64)
+      → IsRenumberedTable (x .from) t s → s ≡ tableOf (under p x)
   under-table t s e long rows f =
       table-is (under p x) s long rows (table-renumbered p (h .numbers) 64 (ok .vertices) t s (is-table p t e) (λ i j a b. f i a j b))
 
   weighted-under : weighted (under p x) ≡ renumbered (weighted p) (numberIn (x .to))
   weighted-under =
       let π = numberIn (x .to) in
-      ap (λ (arcs : List Arc). record { n = p .n; arcs = arcs }) (map-map heavy (renumberedArc π) (p .arcs) ∙ sym (map-map (renumberedArc π) heavy (p .arcs)))
+      ap (λ (arcs : List Arc). record { n = p .n; arcs = arcs })
+      (map-map heavy (renumberedArc π) (p .arcs) ∙ sym (map-map (renumberedArc π) heavy (p .arcs)))
 
   pub under-weights : (t s : List (List ℕ)) → AreWeights p t → IsRenumberedTable (x .from) t s → AreWeights (under p x) s
   under-weights t s e f =
-      subst⁻¹ (λ (r : Plan). IsTable r s) weighted-under (table-renumbered (weighted p) (h .numbers) 64 (ok .vertices) t s e (λ i j a b. f i a j b))
+      subst⁻¹ (λ (r : Plan). IsTable r s) weighted-under
+      (table-renumbered (weighted p) (h .numbers) 64 (ok .vertices) t s e (λ i j a b. f i a j b))
 
 pub under-plannable : (p : Plan) (ok : Plannable p) (x : Numbering) → IsNumberingOf (p .n) x → Plannable (under p x)
 under-plannable p ok x h = plannable-renumbered p (h .numbers) ok

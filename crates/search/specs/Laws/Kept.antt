@@ -1,4 +1,5 @@
--- The branch goes on with the potentials that a link has raised: they certify the amounts without it too (`add-tight`), and a constant taken off all of them changes neither.
+-- The branch goes on with the potentials that a link has raised: they certify the amounts without it too (`add-tight`), and a
+-- constant taken off all of them changes neither.
 use mathlib.Core.Path.{_≡_, ap, subst, subst⁻¹}
 use mathlib.Core.List.{List, map, List·Memᴰ}
 use Prim.Native.Nat.{ℕ, _+_, _≤_, _<_}
@@ -11,8 +12,9 @@ use Rattle.postman.specs.Balancing.{heads as heads-of, tails as tails-of}
 use Rattle.postman.specs.Arborescence.{candidates}
 use Rattle.postman.specs.Laws.Balancing.{within-heads, within-tails}
 use Rattle.postman.specs.Laws.Membership.{getD-mem, mem-getD}
-use Rattle.balance.specs.Optimality.{Feasible, Tight}
-use Rattle.residual_search.specs.Step.{State, cell, amount, potential, add}
+use Rattle.balance.specs.Optimality.{ArePotentials, Tight}
+use Rattle.postman.specs.Steps.{cell, amount}
+use Rattle.residual_search.specs.Step.{State, potential, add}
 use Rattle.balance.specs.Invariant.{Certified}
 use Rattle.balance.specs.Laws.Step.{add-certified, add-tight}
 use Rattle.balance.specs.Laws.Repriced.{repriced-certified, repriced-counted}
@@ -28,7 +30,8 @@ use Rattle.branches.specs.Laws.Below.{room}
 
 -- ---- the branch
 
-module _ {p : Plan} {table : List (List ℕ)} {vs start source tails heads : List ℕ} {k : ℕ} (h : Prepared p table vs start source tails heads k) {f : List ℕ} (b : Branch) (is : IsBranch p table f b)
+module _ {p : Plan} {table : List (List ℕ)} {vs start source tails heads : List ℕ} {k : ℕ}
+    (h : Prepared p table vs start source tails heads k) {f : List ℕ} (b : Branch) (is : IsBranch p table f b)
     (l : Link) (m : List·Memᴰ l (candidates p (b .a))) where
   abbrev n : State
   n = add (cell table) vs (stateIn f b) (l .tail) (l .head)
@@ -46,10 +49,12 @@ module _ {p : Plan} {table : List (List ℕ)} {vs start source tails heads : Lis
   small = let r = room h b is in omega arith
 
   after : Certified (cell table) (required p) n
-  after = subst⁻¹ (Certified (cell table) (required p)) state-is (add-certified (cell table) (required p) (metric h) (stateIn f b) (is .certified) small (l .tail) (l .head) (ends .0) (ends .1))
+  after = subst⁻¹ (Certified (cell table) (required p)) state-is
+      (add-certified (cell table) (required p) (metric h) (stateIn f b) (is .certified) small (l .tail) (l .head) (ends .0) (ends .1))
 
   tight : Tight (cell table) (required p) (amount f) (potential u)
-  tight = subst⁻¹ (λ (s : State). Tight (cell table) (required p) (amount f) (potential (s .potentials))) state-is (add-tight (cell table) (required p) (metric h) (stateIn f b) (is .certified) small (l .tail) (l .head) (ends .0) (ends .1))
+  tight = subst⁻¹ (λ (s : State). Tight (cell table) (required p) (amount f) (potential (s .potentials))) state-is
+      (add-tight (cell table) (required p) (metric h) (stateIn f b) (is .certified) small (l .tail) (l .head) (ends .0) (ends .1))
 
   counts : n .count ≡ b .count + 1
   unfolding add
@@ -75,7 +80,8 @@ module _ {p : Plan} {table : List (List ℕ)} {vs start source tails heads : Lis
 
   pub can-level : CanLevel u vs
   can-level = (
-    (λ i c. let g = subst (λ (v : List ℕ). List·Memᴰ (getD vs i 0) v) (h .vertices) (getD-mem vs 0 i c) in (metric h .small _ g, near _ _ g first-in)),
+    (λ i c. let g = subst (λ (v : List ℕ). List·Memᴰ (getD vs i 0) v) (h .vertices) (getD-mem vs 0 i c) in
+        (metric h .small _ g, near _ _ g first-in)),
     subst⁻¹ (λ (v : List ℕ). 1 ≤ length v) (h .vertices) (let s = some-vertex h in omega arith),
   )
 
@@ -85,7 +91,7 @@ module _ {p : Plan} {table : List (List ℕ)} {vs start source tails heads : Lis
         let y = mem-getD 0 (subst⁻¹ (λ (l : List ℕ). List·Memᴰ i l) (h .vertices) g) in
         subst (λ i. getD w i 0 + getD u (getD vs 0 0) 0 ≡ getD u i 0 + 4128705) (y .2) (v .each (y .0) (y .1))
 
-    feasible′ : Feasible (cell table) (required p) (potential w)
+    feasible′ : ArePotentials (cell table) (required p) (potential w)
     feasible′ i j mi mj = let a = level-at i mi in let c = level-at j mj in let e = after .feasible i j mi mj in omega arith
 
     tight′ : Tight (cell table) (required p) (amount f) (potential w)
@@ -110,7 +116,9 @@ module _ {p : Plan} {table : List (List ℕ)} {vs start source tails heads : Lis
       heads-size = is .heads-size;
       joins = is .joins;
       certified = repriced-certified (cell table) (required p) (stateIn f b) w feasible′ tight′ (is .certified) (v .size) some-arc (v .low);
-      counted = repriced-counted (cell table) (required p) (stateIn f b) w feasible′ tight′ (heads-of p (chosenIn b)) (tails-of p (chosenIn b)) (within-heads p (in-plan h) (chosenIn b) (is .joins)) (within-tails p (in-plan h) (chosenIn b) (is .joins)) (is .certified) (is .counted);
+      counted = repriced-counted (cell table) (required p) (stateIn f b) w feasible′ tight′ (heads-of p (chosenIn b))
+          (tails-of p (chosenIn b)) (within-heads p (in-plan h) (chosenIn b) (is .joins))
+          (within-tails p (in-plan h) (chosenIn b) (is .joins)) (is .certified) (is .counted);
       fixed = is .fixed;
       named = is .named;
       entries = is .entries;

@@ -1,5 +1,5 @@
--- The trees of the root are all trees, in order, and the count of the root's entries is their number; no tree costs as much as the search starts with, so the first tree is kept, and
--- then the first of least cost.
+-- The trees of the root are all trees, in order, and the count of the root's entries is their number; no tree costs as much as the search
+-- starts with, so the first tree is kept, and then the first of least cost.
 use mathlib.Core.Path.{_≡_, refl, sym, ap, ap₂, _∙_, subst, subst⁻¹}
 use mathlib.Core.List.{List, [], _∷_, _++_, map, List·Memᴰ}
 use Prim.Native.Nat.{ℕ, _+_, _-_, _≤_, _<_, min}
@@ -16,12 +16,11 @@ use Rattle.postman.specs.Component.{componentCount}
 use Rattle.postman.specs.Arborescence.{arborescences, arborescenceCount}
 use Rattle.postman.specs.Balancing.{completionCost}
 use Rattle.postman.specs.PlanCall.{triedCount, isWhole, bestCost, bestArborescence}
-use Rattle.postman.specs.Steps.{Joins}
+use Rattle.postman.specs.Steps.{Joins, cell}
 use Rattle.postman.specs.Laws.Membership.{upFrom-mem}
 use Rattle.postman.specs.Laws.Arborescence.{arborescences-mem, joins}
 use Rattle.postman.specs.Laws.Optimality.{some-arborescence}
 use Rattle.postman.specs.Laws.Search.{best-value}
-use Rattle.residual_search.specs.Step.{cell}
 use Rattle.direct_amounts.specs.Laws.Plan.{balance-certified, balance-room, balance-least}
 use Rattle.small_counts.specs.Recursion.{countTrees}
 use Rattle.small_counts.specs.Matrix.{entriesOf, cap, AreFew, AreCounts}
@@ -35,7 +34,7 @@ use Rattle.branches.specs.Progress.{Held, held, advance}
 use Rattle.tree_bounds.specs.Prepared.{Prepared}
 use Rattle.search.specs.Contracts.{IsExplored, IsSearched}
 use Rattle.branches.specs.Branches.{namesIn, IsRoot, treesIn}
-use Rattle.branches.specs.Holding.{heldOf}
+use Rattle.branches.specs.Holding.{heldIn}
 use Rattle.tree_bounds.specs.Laws.Prepared.{in-plan, some-component, agrees, required-small}
 use Rattle.tree_bounds.specs.Laws.Branch.{completions-count, completions-cong, completions-first}
 use Rattle.branches.specs.Laws.Progress.{tried-first}
@@ -53,14 +52,16 @@ take-min n xs = elim (decLe n (length xs)) [
   | no l ↦ take-all n xs (omega arith) ∙ sym (take-all (min n (length xs)) xs (omega arith))
 ]
 
-module _ {p : Plan} {table : List (List ℕ)} {vs start source tails heads : List ℕ} {k : ℕ} (h : Prepared p table vs start source tails heads k) {f : List ℕ} (b : Branch) (is : IsRoot p table f b) where
+module _ {p : Plan} {table : List (List ℕ)} {vs start source tails heads : List ℕ} {k : ℕ}
+    (h : Prepared p table vs start source tails heads k) {f : List ℕ} (b : Branch) (is : IsRoot p table f b) where
   -- ALL TREES
   pub root-trees : treesIn p b ≡ arborescences p
   unfolding treesIn
   root-trees =
       ap (λ (c : List Link). map (λ t. c ++ t) (completions p (namesIn b) (b .a))) (no-chosen b (is .nothing))
       ∙ map-same (λ t. [] ++ t) (λ t. refl) (completions p (namesIn b) (b .a))
-      ∙ completions-cong p (in-plan h) (some-component h) (namesIn b) (λ c. c) (b .a) (λ c l. is .names-are c (let f = h .few in omega arith))
+      ∙ completions-cong p (in-plan h) (some-component h) (namesIn b) (λ c. c) (b .a)
+      (λ c l. is .names-are c (let f = h .few in omega arith))
       ∙ ap (completions p (λ c. c)) (is .nothing) ∙ completions-first p (in-plan h) (some-component h)
 
   -- their number
@@ -76,7 +77,9 @@ module _ {p : Plan} {table : List (List ℕ)} {vs start source tails heads : Lis
       i .entries q x (omega arith) (omega arith) (subst⁻¹ (λ n. List·Memᴰ x (0 ∷ upFrom n (componentCount p - n))) e v))
       ∙ sym (ap (λ n. countTrees (entriesIn (sourcesBy p names)) (upFrom n (componentCount p - n))) (is .nothing))
       ∙ sym (completions-count p (in-plan h) (some-component h) names (b .a) (i .one) (i .most) (i .named))
-      ∙ ap length (completions-cong p (in-plan h) (some-component h) names (λ c. c) (b .a) (λ c l. is .names-are c (let f = h .few in omega arith)) ∙ ap (completions p (λ c. c)) (is .nothing) ∙ completions-first p (in-plan h) (some-component h))
+      ∙ ap length (completions-cong p (in-plan h) (some-component h) names (λ c. c) (b .a)
+      (λ c l. is .names-are c (let f = h .few in omega arith)) ∙ ap (completions p (λ c. c)) (is .nothing)
+      ∙ completions-first p (in-plan h) (some-component h))
 
   -- what counting them asks
   pub countable : (1 ≤ k) × (k ≤ 8) × AreFew (b .entries) 1 k × (1 < k → AreCounts (b .entries) 1 k (b .counts))
@@ -86,7 +89,9 @@ module _ {p : Plan} {table : List (List ℕ)} {vs start source tails heads : Lis
         h .layout .sources .some-component,
         omega arith,
         subst⁻¹ (AreFew (b .entries) 1) n (subst (λ a. AreFew (b .entries) a (componentCount p)) (is .nothing) (is .branch .few)),
-        λ l. subst⁻¹ (λ k. AreCounts (b .entries) 1 k (b .counts)) n (subst (λ a. AreCounts (b .entries) a (componentCount p) (b .counts)) (is .nothing) (is .branch .counts (let o = is .nothing in omega arith))),
+        λ l. subst⁻¹ (λ k. AreCounts (b .entries) 1 k (b .counts)) n
+            (subst (λ a. AreCounts (b .entries) a (componentCount p) (b .counts)) (is .nothing)
+            (is .branch .counts (let o = is .nothing in omega arith))),
       )
 
   -- no tree costs as much as the search starts with
@@ -100,7 +105,8 @@ module _ {p : Plan} {table : List (List ℕ)} {vs start source tails heads : Lis
       let r = required-small p (h .plannable .well-formed) in
       let c = link-cost-small h b (is .branch) t j in
       let e = balance-least p (h .plannable .well-formed) (h .plannable .connected) (cell table) (agrees h) t j (omega arith) in
-      let n = balance-certified p (h .plannable .well-formed) (h .plannable .connected) (cell table) (agrees h) t j (omega arith) .numbers .cheap in
+      let n = balance-certified p (h .plannable .well-formed) (h .plannable .connected) (cell table) (agrees h) t j
+      (omega arith) .numbers .cheap in
       let q = balance-room p (h .plannable .well-formed) (h .plannable .connected) (cell table) (agrees h) t j (omega arith) in
       omega arith
 
@@ -114,14 +120,20 @@ module _ {p : Plan} {table : List (List ℕ)} {vs start source tails heads : Lis
         let cost = completionCost p in
         let m = componentCount p - 1 in
         let l0 = linksIn m (none .tails) (none .heads) in
-        let start : heldOf m none ≡ held 4000000000000 l0 0 budget = ap (λ x. held x l0 (none .skip) (none .left)) ec ∙ ap (λ x. held 4000000000000 l0 x (none .left)) es ∙ ap (λ x. held 4000000000000 l0 0 x) el in
-        let x = e ∙ ap₂ (λ (g : Held) (ts : List (List Link)). advance cost g ts) start root-trees ∙ tried-first cost 4000000000000 l0 budget (arborescences p) one some tree-cheap in
-        let links : argmin cost [] (take budget (arborescences p)) ≡ bestArborescence p budget = ap (argmin cost []) (take-min budget (arborescences p)) in
+        let start : heldIn m none ≡ held 4000000000000 l0 0 budget =
+        ap (λ x. held x l0 (none .skip) (none .left)) ec ∙ ap (λ x. held 4000000000000 l0 x (none .left)) es
+        ∙ ap (λ x. held 4000000000000 l0 0 x) el in
+        let x = e ∙ ap₂ (λ (g : Held) (ts : List (List Link)). advance cost g ts) start root-trees
+        ∙ tried-first cost 4000000000000 l0 budget (arborescences p) one some tree-cheap in
+        let links : argmin cost [] (take budget (arborescences p)) ≡ bestArborescence p budget =
+        ap (argmin cost []) (take-min budget (arborescences p)) in
         (ap (λ (g : Held). g .cost) x ∙ ap cost links ∙ best-value p budget one some, ap (λ (g : Held). g .links) x ∙ links)
 
     -- THE ANSWER
-    pub searched : (none r : Progress) (n : ℕ) (s : Searched) → none .cost ≡ 4000000000000 → none .skip ≡ 0 → none .left ≡ budget → IsExplored p (treesIn p b) none r
-        → n ≡ min (countTrees (entriesOf (b .entries)) (upFrom 1 (k - 1))) cap → s .cost ≡ r .cost → s .tails ≡ r .tails → s .heads ≡ r .heads → s .tried ≡ min budget n → s .whole ≡ leb n budget → IsSearched p budget s
+    pub searched : (none r : Progress) (n : ℕ) (s : Searched) → none .cost ≡ 4000000000000 → none .skip ≡ 0 → none .left ≡ budget
+        → IsExplored p (treesIn p b) none r
+        → n ≡ min (countTrees (entriesOf (b .entries)) (upFrom 1 (k - 1))) cap → s .cost ≡ r .cost → s .tails ≡ r .tails
+        → s .heads ≡ r .heads → s .tried ≡ min budget n → s .whole ≡ leb n budget → IsSearched p budget s
     unfolding triedCount isWhole
     searched none r n s ec es el e en sc st sh tried whole =
         let best = best-is none r ec es el e in

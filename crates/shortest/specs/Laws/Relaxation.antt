@@ -1,5 +1,5 @@
--- After k rounds over all arcs a row is at most the cost of every walk of k arcs from its source, by the walk's last arc; and it is at least the distance, by the
--- triangle inequality. So n − 1 rounds give the distances, and so does a round that changes nothing.
+-- After k rounds over all arcs a row is at most the cost of every walk of k arcs from its source, by the walk's last arc; and it is at
+-- least the distance, by the triangle inequality. So n − 1 rounds give the distances, and so does a round that changes nothing.
 use mathlib.Core.Path.{_≡_, refl, sym, ap, _∙_, subst, subst⁻¹}
 use mathlib.Core.List.{List, [], _∷_, _++_, List·Memᴰ, List·Memᴰ·head, List·Memᴰ·tail}
 use Prim.Native.Nat.{ℕ, zero, suc, _+_, _-_, _≤_, _<_, min, zero-le}
@@ -64,7 +64,8 @@ unfolding relaxArcs
 relaxArcs-le [] row h j = le-refl _
 relaxArcs-le (a ∷ arcs) row h j =
     let e = relaxArc-length a row in
-    le-trans (relaxArcs-le arcs (relaxArc a row) (λ b m. let k = h b (List·Memᴰ·tail m) in omega arith) j) (relaxArc-le a row (h a (List·Memᴰ·head refl)) j)
+    le-trans (relaxArcs-le arcs (relaxArc a row) (λ b m. let k = h b (List·Memᴰ·tail m) in omega arith) j)
+    (relaxArc-le a row (h a (List·Memᴰ·head refl)) j)
 
 -- once an open arc was relaxed, its head costs at most what its tail costs, and the arc
 weight-open : (a : Arc) → T (isOpen a) → weight a ≡ a .cost
@@ -138,7 +139,8 @@ rounds-none p wf source l = record {
     past (x ∷ row) zero h = absurd (omega arith)
     past (x ∷ row) (suc j) h = past row j (omega arith)
 
-    none : (j : ℕ) (w : List ℕ) → IsWalk (p .arcs) source w j → length w ≤ 0 → getD (set (replicate 64 noPath) source 0) j 0 ≤ walkCost (p .arcs) w
+    none : (j : ℕ) (w : List ℕ) → IsWalk (p .arcs) source w j → length w ≤ 0
+        → getD (set (replicate 64 noPath) source 0) j 0 ≤ walkCost (p .arcs) w
     none j [] h g = let z = same j (sym h) in omega arith
     none j (k ∷ w) h g = absurd (omega arith)
 
@@ -159,21 +161,25 @@ module _ (p : Plan) (wf : IsWeighted p) (source : ℕ) where
       let t = h (a .tail) (omega arith) in
       let u = h (a .head) (omega arith) in
       let b = distance-le-noPath p ok source (a .head) in
-      cond-ind (isOpen a) (a .cost) noPath (λ x. distance p source (a .head) ≤ min (getD row (a .head) 0) (min (getD row (a .tail) 0 + x) noPath))
+      cond-ind (isOpen a) (a .cost) noPath
+      (λ x. distance p source (a .head) ≤ min (getD row (a .head) 0) (min (getD row (a .tail) 0 + x) noPath))
       (λ c.
       let x = mem-getD _ m in
       let w = triangle p ok source (a .tail) (a .head) in
-      let y = subst⁻¹ (λ (b : Arc). T (isOpen b) × (b .tail ≡ a .tail) × (b .head ≡ a .head) × (b .cost ≡ a .cost)) (x .2) (c, refl, refl, refl) in
+      let y = subst⁻¹ (λ (b : Arc). T (isOpen b) × (b .tail ≡ a .tail) × (b .head ≡ a .head) × (b .cost ≡ a .cost)) (x .2)
+      (c, refl, refl, refl) in
       let z = distance-le p ok (a .tail) (a .head) (x .0 ∷ []) (o .0) (x .1, y .0, y .1, y .2) in
       let k = y .3 in
       omega arith)
       (λ c. omega arith))
 
-  at-least-arcs : (arcs : List Arc) → ((a : Arc) → List·Memᴰ a arcs → List·Memᴰ a (p .arcs)) → (row : List ℕ) → length row ≡ 64 → AtLeast row → AtLeast (relaxArcs arcs row)
+  at-least-arcs : (arcs : List Arc) → ((a : Arc) → List·Memᴰ a arcs → List·Memᴰ a (p .arcs)) → (row : List ℕ) → length row ≡ 64
+      → AtLeast row → AtLeast (relaxArcs arcs row)
   unfolding relaxArcs
   at-least-arcs [] sub row e h = h
   at-least-arcs (a ∷ arcs) sub row e h =
-      at-least-arcs arcs (λ b m. sub b (List·Memᴰ·tail m)) (relaxArc a row) (relaxArc-length a row ∙ e) (at-least-arc a (sub a (List·Memᴰ·head refl)) row e h)
+      at-least-arcs arcs (λ b m. sub b (List·Memᴰ·tail m)) (relaxArc a row) (relaxArc-length a row ∙ e)
+      (at-least-arc a (sub a (List·Memᴰ·head refl)) row e h)
 
   heads-within : (row : List ℕ) → length row ≡ 64 → HeadsWithin (length row) (p .arcs)
   heads-within row e a m = let o = ok a m .1 in let few = wf .vertices in omega arith
@@ -189,13 +195,15 @@ module _ (p : Plan) (wf : IsWeighted p) (source : ℕ) where
       le : (j : ℕ) → getD (relaxArcs (p .arcs) row) j 0 ≤ getD row j 0
       le j = relaxArcs-le (p .arcs) row (heads-within row (h .size)) j
 
-      more : (j : ℕ) (w : List ℕ) → IsWalk (p .arcs) source w j → length w ≤ suc k → getD (relaxArcs (p .arcs) row) j 0 ≤ walkCost (p .arcs) w
+      more : (j : ℕ) (w : List ℕ) → IsWalk (p .arcs) source w j → length w ≤ suc k
+          → getD (relaxArcs (p .arcs) row) j 0 ≤ walkCost (p .arcs) w
       more j [] q l = le-trans (le j) (h .reaches j [] q zero-le)
       more j (a ∷ w) q l =
           let r = last-arc (p .arcs) source a j w q in
           let s = r .size in
           let c = r .costs in
-          let x = relaxArcs-arc (p .arcs) row (heads-within row (h .size)) {a = arcAt (p .arcs) (r .last)} (getD-mem (p .arcs) _ (r .last) (r .number)) (r .opens) in
+          let x = relaxArcs-arc (p .arcs) row (heads-within row (h .size)) {a = arcAt (p .arcs) (r .last)}
+          (getD-mem (p .arcs) _ (r .last) (r .number)) (r .opens) in
           let y = h .reaches (arcAt (p .arcs) (r .last) .tail) (r .before) (r .walk) (omega arith) in
           let z = ap (λ i. getD (relaxArcs (p .arcs) row) i 0) (r .head) in
           omega arith
@@ -206,7 +214,8 @@ module _ (p : Plan) (wf : IsWeighted p) (source : ℕ) where
   rounds-settled row e h (suc k) = subst (Rounds p source (suc k)) e (rounds-more k row (rounds-settled row e h k))
 
   rounds-fewer : {k : ℕ} {row : List ℕ} → Rounds p source k row → Rounds p source 0 row
-  rounds-fewer h = record { size = h .size; at-most = h .at-most; at-least = h .at-least; reaches = λ j w q l. h .reaches j w q (le-trans l zero-le) }
+  rounds-fewer h =
+      record { size = h .size; at-most = h .at-most; at-least = h .at-least; reaches = λ j w q l. h .reaches j w q (le-trans l zero-le) }
 
   pub rounds-row : (row : List ℕ) → Rounds p source (p .n - 1) row → IsRow p source row
   rounds-row row h j g =
@@ -223,12 +232,14 @@ module _ (p : Plan) (wf : IsWeighted p) (source : ℕ) where
 
   -- ---- what the loop over the rounds cites
 
-  pub rounds-next : (k : ℕ) (row next : List ℕ) → 1 ≤ k → Rounds p source (k - 1) row → next ≡ relaxArcs (p .arcs) row → Rounds p source (k + 1 - 1) next
+  pub rounds-next : (k : ℕ) (row next : List ℕ) → 1 ≤ k → Rounds p source (k - 1) row → next ≡ relaxArcs (p .arcs) row
+      → Rounds p source (k + 1 - 1) next
   rounds-next k row next l h e =
       let a : suc (k - 1) ≡ k + 1 - 1 = omega arith in
       rw (e, ← a) (rounds-more (k - 1) row h)
 
-  pub settled-row : (k : ℕ) (row next : List ℕ) → Rounds p source k row → next ≡ relaxArcs (p .arcs) row → ((j : ℕ) → j < 64 → getD next j 0 ≡ getD row j 0) → IsRow p source row
+  pub settled-row : (k : ℕ) (row next : List ℕ) → Rounds p source k row → next ≡ relaxArcs (p .arcs) row
+      → ((j : ℕ) → j < 64 → getD next j 0 ≡ getD row j 0) → IsRow p source row
   settled-row k row next h e same =
       let n = relaxArcs-length (p .arcs) row in
       let s = h .size in

@@ -12,8 +12,16 @@ heavy-roads [] [] h = tt
 heavy-roads [] (y ∷ ys) h = absurd h
 heavy-roads (x ∷ xs) [] h = absurd h
 heavy-roads (x ∷ xs) (y ∷ ys) h =
-    let r = h .0 in
-    (record { tail-same = r .tail-same; head-same = r .head-same; cost-same = ap (λ c. 64 * c + 1) (r .cost-same); open-same = r .open-same }, heavy-roads xs ys (h .1))
+    let r = h .0 in (
+      record {
+        tail-same = r .tail-same;
+        head-same = r .head-same;
+        cost-same = ap (λ c. 64 * c + 1) (r .cost-same);
+        open-same = r .open-same;
+      },
+      heavy-roads xs ys (h .1),
+    )
 
-pub weights-same : (p q : Plan) → p .n ≡ q .n → SameRoads (p .arcs) (q .arcs) → (table : List (List ℕ)) → AreWeights p table → AreWeights q table
+pub weights-same : (p q : Plan) → p .n ≡ q .n → SameRoads (p .arcs) (q .arcs) → (table : List (List ℕ)) → AreWeights p table
+    → AreWeights q table
 weights-same p q n h table w i j l m = w i j l m ∙ distance-same (weighted p) (weighted q) n (heavy-roads (p .arcs) (q .arcs) h) i j

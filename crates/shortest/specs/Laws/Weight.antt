@@ -1,5 +1,5 @@
--- A walk of a plan is one of the weighted plan, of weight 64 × its cost + its number of arcs. Cut to n − 1 ≤ 63 arcs, a lightest one is a cheapest one: so d is a 64th of
--- the least weight, rounded down. Nothing here uses that costs are positive.
+-- A walk of a plan is one of the weighted plan, of weight 64 × its cost + its number of arcs. Cut to n − 1 ≤ 63 arcs, a lightest one is a
+-- cheapest one: so d is a 64th of the least weight, rounded down. Nothing here uses that costs are positive.
 use mathlib.Core.Path.{_≡_, refl, sym, ap, _∙_, subst, subst⁻¹}
 use mathlib.Core.Bool.{cond}
 use mathlib.Core.List.{List, [], _∷_, map, List·Memᴰ}
@@ -37,7 +37,8 @@ module _ (arcs : List Arc) where
   to-weighted i j [] h = h
   to-weighted i j (k ∷ w) h =
       let n = length-map arcs heavy in
-      let r = subst⁻¹ (λ (a : Arc). T (isOpen a) × (a .tail ≡ i) × IsWalk (map heavy arcs) (a .head) w j) (heavy-at arcs k (h .0)) (h .1, h .2, to-weighted (arcAt arcs k .head) j w (h .3)) in
+      let r = subst⁻¹ (λ (a : Arc). T (isOpen a) × (a .tail ≡ i) × IsWalk (map heavy arcs) (a .head) w j) (heavy-at arcs k (h .0))
+      (h .1, h .2, to-weighted (arcAt arcs k .head) j w (h .3)) in
       (omega (arith, h .0), r .0, r .1, r .2)
 
   pub of-weighted : (i j : ℕ) (w : List ℕ) → IsWalk (map heavy arcs) i w j → IsWalk arcs i w j
@@ -45,7 +46,8 @@ module _ (arcs : List Arc) where
   of-weighted i j (k ∷ w) h =
       let n = length-map arcs heavy in
       let l : k < length arcs = omega (arith, h .0) in
-      let r = subst (λ (a : Arc). T (isOpen a) × (a .tail ≡ i) × IsWalk (map heavy arcs) (a .head) w j) (heavy-at arcs k l) (h .1, h .2, h .3) in
+      let r = subst (λ (a : Arc). T (isOpen a) × (a .tail ≡ i) × IsWalk (map heavy arcs) (a .head) w j) (heavy-at arcs k l)
+      (h .1, h .2, h .3) in
       (l, r .0, r .1, of-weighted (arcAt arcs k .head) j w (r .2))
 
   pub walk-weight : (i j : ℕ) (w : List ℕ) → IsWalk arcs i w j → walkCost (map heavy arcs) w ≡ 64 * walkCost arcs w + length w
@@ -94,7 +96,8 @@ module _ (p : Plan) (ok : WellFormed p) where
   weight-path i j l h = let r = distance-walk p ends i j h in weight-finite i j (r .0) l (r .1)
 
   -- a lightest walk, of at most 63 arcs, costs d
-  pub least-cost : (i j : ℕ) (w : List ℕ) → i < p .n → IsWalk (p .arcs) i w j → walkCost (weighted p .arcs) w ≡ distance (weighted p) i j → length w ≤ 63
+  pub least-cost : (i j : ℕ) (w : List ℕ) → i < p .n → IsWalk (p .arcs) i w j → walkCost (weighted p .arcs) w ≡ distance (weighted p) i j
+      → length w ≤ 63
       → walkCost (p .arcs) w ≡ distance p i j
   least-cost i j w l h e s =
       let a = distance-le p ends i j w l h in
@@ -115,7 +118,8 @@ module _ (p : Plan) (ok : WellFormed p) where
       below-noPath = let f = weight-finite i j w l h in let b = walk-weight (p .arcs) i j w h in omega arith
 
   -- no walk but the empty one leaves what is no vertex
-  outside : (arcs : List Arc) (n i j : ℕ) (w : List ℕ) → ((a : Arc) → List·Memᴰ a arcs → (a .tail < n) × (a .head < n)) → n ≤ i → IsWalk arcs i w j → i ≡ j
+  outside : (arcs : List Arc) (n i j : ℕ) (w : List ℕ) → ((a : Arc) → List·Memᴰ a arcs → (a .tail < n) × (a .head < n)) → n ≤ i
+      → IsWalk arcs i w j → i ≡ j
   outside arcs n i j [] o l h = h
   outside arcs n i j (k ∷ w) o l h = let a = o (arcAt arcs k) (getD-mem arcs _ k (h .0)) .0 in let e = h .2 in absurd (omega arith)
 

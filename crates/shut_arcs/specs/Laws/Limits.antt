@@ -1,4 +1,5 @@
--- A test over all windows of a list of numbers: window by window, one was found, or each was looked at. And the tests of one window, of the list's length and of the departure, one after the other.
+-- A test over all windows of a list of numbers: window by window, one was found, or each was looked at. And the tests of one window, of the
+-- list's length and of the departure, one after the other.
 use mathlib.Core.Path.{_≡_, refl, ap, _∙_, subst}
 use mathlib.Core.Bool.{Bool, true, false}
 use mathlib.Core.Logic.{_≢_}
@@ -17,7 +18,8 @@ use Rattle.postman.specs.Laws.Membership.{anyOf-mem, anyOf-at, mem-map, map-mem
 module _ (f : Window → Bool) (numbers : List ℕ) where
   pub window-found : (k : ℕ) → k < length numbers / 4 → f (windowIn numbers k) ≡ true → true ≡ anyOf f (windowsIn numbers)
   unfolding windowsIn
-  window-found k l e = same-test true (anyOf f (windowsIn numbers)) (λ u. anyOf-mem f (mem-map (windowIn numbers) (mem-below l)) (of-true e)) (λ u. tt)
+  window-found k l e =
+      same-test true (anyOf f (windowsIn numbers)) (λ u. anyOf-mem f (mem-map (windowIn numbers) (mem-below l)) (of-true e)) (λ u. tt)
 
   pub none-found : ((k : ℕ) → k < length numbers / 4 → f (windowIn numbers k) ≡ false) → false ≡ anyOf f (windowsIn numbers)
   unfolding windowsIn
@@ -41,7 +43,8 @@ module _ (m : ℕ) (w : Window) where
 
   pub bad-order : w .arc < m → w .weekday ≤ 6 → w .to ≤ w .from → true ≡ isBadWindow m w
   unfolding isBadWindow
-  bad-order a b h = let x = lt-leb m (w .arc) a in let y = le-ltb 6 (w .weekday) b in let e = le-leb (w .to) (w .from) h in rw (x, y, e) refl
+  bad-order a b h = let x = lt-leb m (w .arc) a in let y = le-ltb 6 (w .weekday) b in let e = le-leb (w .to) (w .from) h in
+      rw (x, y, e) refl
 
   pub bad-end : w .arc < m → w .weekday ≤ 6 → w .from < w .to → ltb 1440 (w .to) ≡ isBadWindow m w
   unfolding isBadWindow
@@ -62,7 +65,8 @@ module _ (m : ℕ) (numbers : List ℕ) (d : Departure) where
     module _ (minute : d .minute ≤ 1439) where
       pub odd-length : length numbers % 4 ≢ 0 → true ≡ hasBadWindow m numbers d
       unfolding hasBadWindow isBadDeparture isBadLength
-      odd-length h = let x = le-ltb 6 (d .weekday) day in let y = le-ltb 1439 (d .minute) minute in let e = ne-eqb (length numbers % 4) 0 h in rw (x, y, e) refl
+      odd-length h = let x = le-ltb 6 (d .weekday) day in let y = le-ltb 1439 (d .minute) minute in
+          let e = ne-eqb (length numbers % 4) 0 h in rw (x, y, e) refl
 
       pub many-windows : length numbers % 4 ≡ 0 → 128 < length numbers / 4 → true ≡ hasBadWindow m numbers d
       unfolding hasBadWindow isBadDeparture isBadLength
@@ -73,7 +77,8 @@ module _ (m : ℕ) (numbers : List ℕ) (d : Departure) where
           let e = lt-ltb 128 (length numbers / 4) h in
           rw (x, y, z, e) refl
 
-      pub by-windows : length numbers % 4 ≡ 0 → length numbers / 4 ≤ 128 → anyOf (isBadWindow m) (windowsIn numbers) ≡ hasBadWindow m numbers d
+      pub by-windows : length numbers % 4 ≡ 0 → length numbers / 4 ≤ 128
+          → anyOf (isBadWindow m) (windowsIn numbers) ≡ hasBadWindow m numbers d
       unfolding hasBadWindow isBadDeparture isBadLength
       by-windows q h =
           let x = le-ltb 6 (d .weekday) day in

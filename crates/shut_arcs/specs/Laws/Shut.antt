@@ -1,4 +1,5 @@
--- Shut arcs. The tests of one window, one after the other; a must arc that is shut was found, or each arc was looked at; and records that hold the arcs of the plan at a departure stand for that plan.
+-- Shut arcs. The tests of one window, one after the other; a must arc that is shut was found, or each arc was looked at; and records that
+-- hold the arcs of the plan at a departure stand for that plan.
 use mathlib.Core.Path.{_≡_, refl, sym, ap, _∙_, subst}
 use mathlib.Core.Bool.{Bool, true, false, _&&_}
 use mathlib.Core.Logic.{_≢_}
@@ -36,11 +37,13 @@ module _ (d : Departure) (k : ℕ) (w : Window) where
     module _ (day : w .weekday ≡ d .weekday) where
       pub too-early : d .minute < w .from → false ≡ shuts d k w
       unfolding shuts
-      too-early h = let x = eq-eqb (w .arc) k arc in let y = eq-eqb (w .weekday) (d .weekday) day in let e = lt-leb (w .from) (d .minute) h in rw (x, y, e) refl
+      too-early h = let x = eq-eqb (w .arc) k arc in let y = eq-eqb (w .weekday) (d .weekday) day in
+          let e = lt-leb (w .from) (d .minute) h in rw (x, y, e) refl
 
       pub by-end : w .from ≤ d .minute → ltb (d .minute) (w .to) ≡ shuts d k w
       unfolding shuts
-      by-end h = let x = eq-eqb (w .arc) k arc in let y = eq-eqb (w .weekday) (d .weekday) day in let e = le-leb (w .from) (d .minute) h in rw (x, y, e) refl
+      by-end h = let x = eq-eqb (w .arc) k arc in let y = eq-eqb (w .weekday) (d .weekday) day in let e = le-leb (w .from) (d .minute) h in
+          rw (x, y, e) refl
 
 -- ---- one arc of the plan at a departure
 
@@ -64,7 +67,8 @@ module _ (r : PlanRecord) (windows : List Window) (d : Departure) where
   must-found k l e =
       let b = and-parts (isRequiredArc (recordAt (r .arcs) k)) (isShut windows d k) (of-true e) in
       let n = plan-length r in
-      let m = mem-numbers (planValue r) (record { number = omega arith; must = subst T (ap isRequiredArc (sym (plan-arc r k l))) (b .0) }) in
+      let m = mem-numbers (planValue r)
+      (record { number = omega arith; must = subst T (ap isRequiredArc (sym (plan-arc r k l))) (b .0) }) in
       same-test true (anyOf (isShut windows d) (requiredNumbers (planValue r))) (λ u. anyOf-mem (isShut windows d) m (b .1)) (λ u. tt)
 
   pub no-must-found : ((k : ℕ) → k < r .m → mustShut k ≡ false) → false ≡ isMustShut (planValue r) windows d
@@ -78,7 +82,8 @@ module _ (r : PlanRecord) (windows : List Window) (d : Departure) where
       let i = n .number in
       let l : a .0 < r .m = omega arith in
       subst T (h (a .0) l)
-      (and-both (isRequiredArc (recordAt (r .arcs) (a .0))) (isShut windows d (a .0)) (subst T (ap isRequiredArc (plan-arc r (a .0) l)) (n .must)) (a .2)))
+      (and-both (isRequiredArc (recordAt (r .arcs) (a .0))) (isShut windows d (a .0))
+      (subst T (ap isRequiredArc (plan-arc r (a .0) l)) (n .must)) (a .2)))
 
   -- ---- the plan at a departure
 
@@ -90,5 +95,7 @@ module _ (r : PlanRecord) (windows : List Window) (d : Departure) where
   unfolding planAt
   at-vertices = refl
 
-  pub plan-shut : (arcs : List ArcRecord) (j : ℕ) → HoldMade r shutArc arcs j → j ≡ r .m → planValue (record { n = r .n; m = r .m; arcs = arcs }) ≡ planAt (planValue r) windows d
-  plan-shut = made-plan r shutArc (planAt (planValue r) windows d) at-vertices (at-length (planValue r) windows d) (λ k l. at-arc (planValue r) windows d k)
+  pub plan-shut : (arcs : List ArcRecord) (j : ℕ) → HoldMade r shutArc arcs j → j ≡ r .m
+      → planValue (record { n = r .n; m = r .m; arcs = arcs }) ≡ planAt (planValue r) windows d
+  plan-shut = made-plan r shutArc (planAt (planValue r) windows d) at-vertices (at-length (planValue r) windows d)
+      (λ k l. at-arc (planValue r) windows d k)

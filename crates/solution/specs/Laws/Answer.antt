@@ -1,4 +1,5 @@
--- The answer put together: its fields are those of the definition, its drive is the written one, and the guarantee is the theorem of the floor.
+-- The answer put together: its fields are those of the definition, its drive is the written one,
+-- and the guarantee is the theorem of the floor.
 use mathlib.Core.Path.{_≡_, refl, sym, ap, _∙_, subst, subst⁻¹}
 use mathlib.Core.Bool.{Bool, not, cond}
 use mathlib.Core.List.{List, [], _∷_, List·Memᴰ, Memᴰ·append-left}
@@ -46,7 +47,8 @@ use Rattle.multipliers.specs.Laws.Lay.{arcs-links}
 -- ---- the cost is small
 
 -- each pass costs at most 65,535, whether it is one that checks or not
-passes-small : (n : ℕ) (arcs : List Arc) → ((a : Arc) → List·Memᴰ a arcs → IsArc n a) → (i j : ℕ) (w due : List ℕ) → IsWalk arcs i w j → tourCostDue arcs due w ≤ length w * 65535
+passes-small : (n : ℕ) (arcs : List Arc) → ((a : Arc) → List·Memᴰ a arcs → IsArc n a) → (i j : ℕ) (w due : List ℕ) → IsWalk arcs i w j
+    → tourCostDue arcs due w ≤ length w * 65535
 unfolding tourCostDue
 passes-small n arcs h i j [] due g = omega arith
 passes-small n arcs h i j (k ∷ w) due g =
@@ -61,7 +63,8 @@ pub tree-small : (p : Plan) → Plannable p → componentCount p ≤ 8 → (t : 
 unfolding sheetPlaces tourCost
 tree-small p ok few t tree =
     let r = tree-tour p ok few t tree in
-    let a = passes-small (p .n) (p .arcs) (ok .well-formed .each) (r .0 .tour .start) (r .0 .tour .start) (driveOf p t) (requiredNumbers p) (r .0 .tour .closed) in
+    let a = passes-small (p .n) (p .arcs) (ok .well-formed .each) (r .0 .tour .start) (r .0 .tour .start) (driveOf p t) (requiredNumbers p)
+    (r .0 .tour .closed) in
     let b = mul-le-mul-right {m = length (driveOf p t)} {n = 17266} 65535 (r .0 .short) in
     let c = r .1 in
     omega arith
@@ -75,16 +78,20 @@ module _ (p : Plan) (ok : Plannable p) (few : componentCount p ≤ 8) (budget : 
   pub best-tree : IsArborescence p (bestArborescence p budget)
   best-tree =
       arborescences-mem p
-      (subst (λ (ts : List (List Link)). List·Memᴰ (bestArborescence p budget) ts) (take-append-drop (triedCount p budget) (arborescences p))
+      (subst (λ (ts : List (List Link)). List·Memᴰ (bestArborescence p budget) ts)
+      (take-append-drop (triedCount p budget) (arborescences p))
       (Memᴰ·append-left (drop (triedCount p budget) (arborescences p)) (best-mem p budget some (some-arborescence p ok))))
 
   pub cost-small : bestCost p budget ≤ 1131527310
-  cost-small = let a = tree-small p ok few (bestArborescence p budget) best-tree in let e = best-value p budget some (some-arborescence p ok) in omega arith
+  cost-small = let a = tree-small p ok few (bestArborescence p budget) best-tree in
+      let e = best-value p budget some (some-arborescence p ok) in omega arith
 
-  pub kept-links : (n : ℕ) (ts hs : List ℕ) → linksIn n ts hs ≡ bestArborescence p budget → linksOf (take n ts) (take n hs) ≡ bestArborescence p budget
+  pub kept-links : (n : ℕ) (ts hs : List ℕ) → linksIn n ts hs ≡ bestArborescence p budget
+      → linksOf (take n ts) (take n hs) ≡ bestArborescence p budget
   kept-links n ts hs e = sym (arcs-links (take n ts) (take n hs)) ∙ e
 
-  pub kept-tree : (n : ℕ) (ts hs : List ℕ) → n ≤ length ts → n ≤ length hs → linksIn n ts hs ≡ bestArborescence p budget → IsTree p (take n ts) (take n hs)
+  pub kept-tree : (n : ℕ) (ts hs : List ℕ) → n ≤ length ts → n ≤ length hs → linksIn n ts hs ≡ bestArborescence p budget
+      → IsTree p (take n ts) (take n hs)
   kept-tree n ts hs lt lh e = record {
     same = (let a = length-take n ts in let b = length-take n hs in omega arith);
     tree = subst⁻¹ (IsArborescence p) (kept-links n ts hs e) best-tree;
@@ -95,7 +102,8 @@ module _ (p : Plan) (ok : Plannable p) (few : componentCount p ≤ 8) (budget : 
   lawful : (r : Planned) → r .multipliers ≡ multipliersFor p → AreMultipliers p (multipliersOf r)
   lawful r g = subst⁻¹ (λ (u : List ℤ). AreMultipliers p (λ i. getD u i (pos 0))) g (answered-rooted p ok few .multipliers)
 
-  pub is-planned : (old new : List ℕ) (r : Planned) → verdictNumber (r .verdict) ≡ none → r .multipliers ≡ multipliersFor p → summaryOf r ≡ summary p budget (multipliersOf r)
+  pub is-planned : (old new : List ℕ) (r : Planned) → verdictNumber (r .verdict) ≡ none → r .multipliers ≡ multipliersFor p
+      → summaryOf r ≡ summary p budget (multipliersOf r)
       → new ≡ written (tourOf p budget) old → r .places ≡ length (tourOf p budget) → IsPlanned p budget none old new r
   unfolding answer fields unless countUnless
   is-planned old new r v g s w n = record {
@@ -109,7 +117,8 @@ module _ (p : Plan) (ok : Plannable p) (few : componentCount p ≤ 8) (budget : 
       some-budget = some;
       multipliers = lawful r g;
       multipliers-are = g;
-      above-greatest = λ v h. subst⁻¹ (λ (u : List ℤ). lagrangianBound p v ≤ℤ lagrangianBound p (λ i. getD u i (pos 0))) g (answered-above p ok few v h);
+      above-greatest =
+          λ v h. subst⁻¹ (λ (u : List ℤ). lagrangianBound p v ≤ℤ lagrangianBound p (λ i. getD u i (pos 0))) g (answered-above p ok few v h);
       tour = drive;
       guarantee = guaranteed p ok budget some (multipliersOf r) (lawful r g);
     };
@@ -143,30 +152,36 @@ module _ (p : Plan) (ok : Plannable p) (few : componentCount p ≤ 8) (budget : 
   abbrev fieldsOf : ℕ → ℤ → ℕ → Bool → ℕ → Summary
   fieldsOf c f t w k = record { cost = c; floor = f; trees = t; whole = w; parts = k }
 
-  pub found-summary : (r : Planned) → r .cost ≡ bestCost p budget → r .trees ≡ triedCount p budget → r .whole ≡ isWhole p budget → r .parts ≡ componentCount p
-      → r .floor ≡ cond (r .whole) (pos (r .cost)) (maxℤ (lagrangianBound p (λ i. pos 0)) (lagrangianBound p (multipliersOf r))) → summaryOf r ≡ summary p budget (multipliersOf r)
+  pub found-summary : (r : Planned) → r .cost ≡ bestCost p budget → r .trees ≡ triedCount p budget → r .whole ≡ isWhole p budget
+      → r .parts ≡ componentCount p
+      → r .floor ≡ cond (r .whole) (pos (r .cost)) (maxℤ (lagrangianBound p (λ i. pos 0)) (lagrangianBound p (multipliersOf r)))
+      → summaryOf r ≡ summary p budget (multipliersOf r)
   unfolding summary lowerBound
   found-summary r ec et ew ek ef =
       let b : ℤ = maxℤ (lagrangianBound p (λ i. pos 0)) (lagrangianBound p (multipliersOf r)) in
       ap (λ (f : ℤ). fieldsOf (r .cost) f (r .trees) (r .whole) (r .parts)) ef
       ∙ ap (λ (c : ℕ). fieldsOf c (cond (r .whole) (pos c) b) (r .trees) (r .whole) (r .parts)) ec
       ∙ ap (λ (w : Bool). fieldsOf (bestCost p budget) (cond w (pos (bestCost p budget)) b) (r .trees) w (r .parts)) ew
-      ∙ ap (λ (t : ℕ). fieldsOf (bestCost p budget) (cond (isWhole p budget) (pos (bestCost p budget)) b) t (isWhole p budget) (r .parts)) et
-      ∙ ap (λ (k : ℕ). fieldsOf (bestCost p budget) (cond (isWhole p budget) (pos (bestCost p budget)) b) (triedCount p budget) (isWhole p budget) k) ek
+      ∙ ap (λ (t : ℕ). fieldsOf (bestCost p budget) (cond (isWhole p budget) (pos (bestCost p budget)) b) t (isWhole p budget)
+      (r .parts)) et
+      ∙ ap (λ (k : ℕ). fieldsOf (bestCost p budget) (cond (isWhole p budget) (pos (bestCost p budget)) b) (triedCount p budget)
+      (isWhole p budget) k) ek
 
   laid-best : (t : List Link) → t ≡ bestArborescence p budget → driveOf p t ≡ tourOf p budget
   unfolding tourOf
   laid-best t e = ap (driveOf p) e
 
   -- WHERE THE TREE THAT IS HELD IS THE BEST, THE ANSWER IS THE DEFINITION'S
-  pub concluded-best : (t : List Link) (cost trees : ℕ) (whole : Bool) (old new : List ℕ) → t ≡ bestArborescence p budget → cost ≡ bestCost p budget → trees ≡ triedCount p budget → whole ≡ isWhole p budget
+  pub concluded-best : (t : List Link) (cost trees : ℕ) (whole : Bool) (old new : List ℕ) → t ≡ bestArborescence p budget
+      → cost ≡ bestCost p budget → trees ≡ triedCount p budget → whole ≡ isWhole p budget
       → new ≡ written (driveOf p t) old → IsPlanned p budget none old new (concluded p t cost trees whole)
   concluded-best t cost trees whole old new et ec en ew h =
       let x : Planned = concluded p t cost trees whole in
       let l = laid-best t et in
       is-planned old new x refl refl (found-summary x ec en ew refl refl) (h ∙ ap (λ (t : List ℕ). written t old) l) (ap length l)
 
-  pub concluded-planned : (s : Searched) (old new : List ℕ) (r : Planned) → IsSearched p budget s → IsConcluded p s old new r → IsPlanned p budget none old new r
+  pub concluded-planned : (s : Searched) (old new : List ℕ) (r : Planned) → IsSearched p budget s → IsConcluded p s old new r
+      → IsPlanned p budget none old new r
   concluded-planned s old new r f h =
       subst⁻¹ (λ (r : Planned). IsPlanned p budget none old new r) (h .planned)
       (concluded-best (linksFound p s) (s .cost) (s .tried) (s .whole) old new (f .links) (f .cost) (f .tried) (f .whole) (h .sheet))

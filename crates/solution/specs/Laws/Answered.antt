@@ -1,5 +1,5 @@
--- What a caller reads off an answer, whatever plan it is for: cost, floor and the other fields by their definitions, the floor is at least 0, being at least R + Z, and the places
--- written lie within the sheet and are the tour.
+-- What a caller reads off an answer, whatever plan it is for: cost, floor and the other fields by their definitions, the floor is at least
+-- 0, being at least R + Z, and the places written lie within the sheet and are the tour.
 use mathlib.Core.Path.{_≡_, sym, ap, ap₂, _∙_, subst⁻¹}
 use mathlib.Core.List.{List}
 use mathlib.Core.Option.{Option, none}
@@ -19,7 +19,8 @@ use Rattle.refusal.specs.Verdict.{verdictNumber}
 use Rattle.multipliers.specs.Tour.{tourOf}
 use Rattle.solution.specs.Planned.{summaryOf, multipliersOf, countUnless, IsAnswer, IsPlanned}
 
-module _ (p : Plan) (budget : ℕ) (refusal : Option ℕ) (old new : List ℕ) (r : Planned) (i : IsPlanned p budget refusal old new r) (e : verdictNumber (r .verdict) ≡ none) where
+module _ (p : Plan) (budget : ℕ) (refusal : Option ℕ) (old new : List ℕ) (r : Planned) (i : IsPlanned p budget refusal old new r)
+    (e : verdictNumber (r .verdict) ≡ none) where
   pub accepted : refusal ≡ none
   accepted = sym (i .verdict) ∙ e
 

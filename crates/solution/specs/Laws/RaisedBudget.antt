@@ -1,5 +1,6 @@
--- A raised budget, over the contract of two answers for one plan. u is the same function of the plan in both. Cost and floor are their definitions at that u, which a larger budget never
--- makes worse; where the smaller one reached all trees, both tried the same, and every field is a function of that number.
+-- A raised budget, over the contract of two answers for one plan. u is the same function of the plan in both. Cost and floor are
+-- their definitions at that u, which a larger budget never makes worse; where the smaller one reached all trees, both tried the same,
+-- and every field is a function of that number.
 use mathlib.Core.Path.{_≡_, refl, sym, ap, _∙_, subst⁻¹}
 use mathlib.Core.Bool.{Bool, false, cond}
 use mathlib.Core.List.{List}
@@ -32,9 +33,20 @@ accepting (Refused r) e = absurd (Option·some-ne-none (refusalNumber r) e)
 
 -- the fields of an answer, put together again
 abbrev fromParts : Verdict → ℕ → List ℤ → Summary → Planned
-fromParts v n u s = record { verdict = v; places = n; cost = s .cost; floor = s .floor; trees = s .trees; whole = s .whole; parts = s .parts; multipliers = u }
+fromParts v n u s =
+    record {
+      verdict = v;
+      places = n;
+      cost = s .cost;
+      floor = s .floor;
+      trees = s .trees;
+      whole = s .whole;
+      parts = s .parts;
+      multipliers = u;
+    }
 
-module _ (p : Plan) (b c : ℕ) (more : b ≤ c) (f g : Option ℕ) (old new old′ new′ : List ℕ) (r s : Planned) (at-b : IsPlanned p b f old new r) (at-c : IsPlanned p c g old′ new′ s)
+module _ (p : Plan) (b c : ℕ) (more : b ≤ c) (f g : Option ℕ) (old new old′ new′ : List ℕ) (r s : Planned)
+    (at-b : IsPlanned p b f old new r) (at-c : IsPlanned p c g old′ new′ s)
     (good-b : verdictNumber (r .verdict) ≡ none) (good-c : verdictNumber (s .verdict) ≡ none) where
   abbrev u : ℕ → ℤ
   u = multipliersOf r
@@ -95,7 +107,8 @@ module _ (p : Plan) (b c : ℕ) (more : b ≤ c) (f g : Option ℕ) (old new old
 
     same-answer : s ≡ r
     same-answer =
-        ap (λ (v : Verdict). fromParts v (s .places) (s .multipliers) (summaryOf s)) (accepting (s .verdict) good-c ∙ sym (accepting (r .verdict) good-b))
+        ap (λ (v : Verdict). fromParts v (s .places) (s .multipliers) (summaryOf s))
+        (accepting (s .verdict) good-c ∙ sym (accepting (r .verdict) good-b))
         ∙ ap (λ (n : ℕ). fromParts (r .verdict) n (s .multipliers) (summaryOf s)) same-places
         ∙ ap (λ (x : List ℤ). fromParts (r .verdict) (r .places) x (summaryOf s)) same-u
         ∙ ap (fromParts (r .verdict) (r .places) (r .multipliers)) same-fields
@@ -105,7 +118,8 @@ module _ (p : Plan) (b c : ℕ) (more : b ≤ c) (f g : Option ℕ) (old new old
 
   pub buys : Buys r s new new′
   buys = record {
-    no-dearer = (let l = larger-cost p ok b c some more in let x = cost-is p b f old new r at-b good-b in let y = cost-is p c g old′ new′ s at-c good-c in omega arith);
+    no-dearer = (let l = larger-cost p ok b c some more in let x = cost-is p b f old new r at-b good-b in
+        let y = cost-is p c g old′ new′ s at-c good-c in omega arith);
     no-lower =
         (let l = larger-bound p ok b c some more u (is-answer p b f old new r at-b good-b .multipliers) in
         subst₂⁻¹ floor-b floor-c l);

@@ -1,5 +1,5 @@
--- Going on after the first m trees is one search of m + n, whatever is held before the first tree, so long as every tree costs less. Some number is above the costs of all trees. Whatever tree is held, what is held after a
--- turn is a tree and its cost.
+-- Going on after the first m trees is one search of m + n, whatever is held before the first tree, so long as every tree costs less. Some
+-- number is above the costs of all trees. Whatever tree is held, what is held after a turn is a tree and its cost.
 use mathlib.Core.Path.{_≡_, refl, sym, ap, ap₂, _∙_, subst⁻¹}
 use mathlib.Core.Logic.{inl, inr}
 use mathlib.Core.Bool.{Bool, true, false, cond}
@@ -71,12 +71,14 @@ module _ (p : Plan) (ok : Plannable p) where
   unfolding bestArborescence triedCount arborescenceCount
   best-of n l = ap best (let e : n ≡ min n (length ts) = omega arith in e)
 
-  went-on : (m n : ℕ) → 1 ≤ m → m ≤ arborescenceCount p → advance f (held (f (best m)) (best m) m n) ts ≡ held (f (best (m + n))) (best (m + n)) 0 (m + n - length ts)
+  went-on : (m n : ℕ) → 1 ≤ m → m ≤ arborescenceCount p
+      → advance f (held (f (best m)) (best m) m n) ts ≡ held (f (best (m + n))) (best (m + n)) 0 (m + n - length ts)
   unfolding arborescenceCount
   went-on m n one few =
       let b = some-bound f ts in
       let some = some-arborescence p ok in
-      ap (λ (h : Held). advance f (held (h .cost) (h .links) m n) ts) (sym (tried-first f (b .0) [] m ts one some (b .1))) ∙ goes-on f (b .0) [] m n ts few ∙ tried-first f (b .0) [] (m + n) ts (omega arith) some (b .1)
+      ap (λ (h : Held). advance f (held (h .cost) (h .links) m n) ts) (sym (tried-first f (b .0) [] m ts one some (b .1)))
+      ∙ goes-on f (b .0) [] m n ts few ∙ tried-first f (b .0) [] (m + n) ts (omega arith) some (b .1)
 
   -- ---- what is held after a turn
 
@@ -91,16 +93,19 @@ module _ (p : Plan) (ok : Plannable p) where
 
   -- THE BEST OF THE TREES TRIED, if the best of those before was held
   pub best-after : (g : Reached) (n : ℕ) → 1 ≤ g .tried + n → g .tried + n ≤ arborescenceCount p → IsReachedBy p g
-      → (triedOn p (g .cost) (linksBy p g) (g .tried) n .cost ≡ bestCost p (g .tried + n)) × (triedOn p (g .cost) (linksBy p g) (g .tried) n .links ≡ bestArborescence p (g .tried + n))
+      → (triedOn p (g .cost) (linksBy p g) (g .tried) n .cost ≡ bestCost p (g .tried + n))
+      × (triedOn p (g .cost) (linksBy p g) (g .tried) n .links ≡ bestArborescence p (g .tried + n))
   best-after g n one few r = elim (ℕ-discrete (g .tried) 0) [
     | yes e ↦ (let x = first-on (g .cost) (linksBy p g) (g .tried) n e in
         let k : n ≡ g .tried + n = omega arith in
         (ap (λ (h : Held). h .cost) x ∙ ap (bestCost p) k, ap (λ (h : Held). h .links) x ∙ ap (bestArborescence p) k))
     | no o ↦ (let some = some-arborescence p ok in
         let m : 1 ≤ g .tried = some-of (g .tried) o in
-        let cost : g .cost ≡ f (best (g .tried)) = r .cost-is m ∙ sym (best-value p (g .tried) m some) ∙ sym (ap f (best-of (g .tried) (r .within))) in
+        let cost : g .cost ≡ f (best (g .tried)) =
+        r .cost-is m ∙ sym (best-value p (g .tried) m some) ∙ sym (ap f (best-of (g .tried) (r .within))) in
         let links : linksBy p g ≡ best (g .tried) = r .links-are m ∙ sym (best-of (g .tried) (r .within)) in
-        let e = later-on (g .cost) (linksBy p g) (g .tried) n m ∙ ap₂ (λ (x : ℕ) (l : List Link). advance f (held x l (g .tried) n) ts) cost links ∙ went-on (g .tried) n m (r .within) in
+        let e = later-on (g .cost) (linksBy p g) (g .tried) n m
+        ∙ ap₂ (λ (x : ℕ) (l : List Link). advance f (held x l (g .tried) n) ts) cost links ∙ went-on (g .tried) n m (r .within) in
         let l = best-of (g .tried + n) few in
         (ap (λ (x : Held). x .cost) e ∙ ap f l ∙ best-value p (g .tried + n) one some, ap (λ (x : Held). x .links) e ∙ l))
   ]
@@ -120,15 +125,20 @@ module _ (p : Plan) (ok : Plannable p) where
       at false true false = i
       at false false z = i
 
-  advance-priced : (h : Held) (us : List (List Link)) → ((t : List Link) → List·Memᴰ t us → IsArborescence p t) → IsPriced h → IsPriced (advance f h us)
+  advance-priced : (h : Held) (us : List (List Link)) → ((t : List Link) → List·Memᴰ t us → IsArborescence p t) → IsPriced h
+      → IsPriced (advance f h us)
   unfolding advance
   advance-priced h [] a i = i
-  advance-priced h (t ∷ us) a i = advance-priced (tryTree f h t) us (λ u m. a u (List·Memᴰ·tail m)) (tried-priced h t (a t (List·Memᴰ·head refl)) i)
+  advance-priced h (t ∷ us) a i =
+      advance-priced (tryTree f h t) us (λ u m. a u (List·Memᴰ·tail m)) (tried-priced h t (a t (List·Memᴰ·head refl)) i)
 
-  pub on-priced : componentCount p ≤ 8 → (c : ℕ) (l : List Link) (m n : ℕ) → 1 ≤ m + n → (1 ≤ m → IsPriced (held c l m n)) → IsPriced (triedOn p c l m n)
+  pub on-priced : componentCount p ≤ 8 → (c : ℕ) (l : List Link) (m n : ℕ) → 1 ≤ m + n → (1 ≤ m → IsPriced (held c l m n))
+      → IsPriced (triedOn p c l m n)
   on-priced few c l m n one i = elim (ℕ-discrete m 0) [
-    | yes e ↦ subst⁻¹ IsPriced (first-on c l m n e) (best-tree p ok few n (omega arith), sym (best-value p n (omega arith) (some-arborescence p ok)))
-    | no o ↦ subst⁻¹ IsPriced (later-on c l m n (some-of m o)) (advance-priced (held c l m n) ts (λ t x. arborescences-mem p x) (i (some-of m o)))
+    | yes e ↦ subst⁻¹ IsPriced (first-on c l m n e)
+        (best-tree p ok few n (omega arith), sym (best-value p n (omega arith) (some-arborescence p ok)))
+    | no o ↦ subst⁻¹ IsPriced (later-on c l m n (some-of m o))
+        (advance-priced (held c l m n) ts (λ t x. arborescences-mem p x) (i (some-of m o)))
   ]
 
   -- ---- T, and whole, from a count that is cut
@@ -155,8 +165,13 @@ module _ (p : Plan) (ok : Plannable p) where
 
   -- ---- the tree that is held
 
-  pub holds-kept : componentCount p ≤ 8 → (budget : ℕ) → 1 ≤ budget → (s : Searched) → IsSearched p budget s → HoldsTree p (s .tails) (s .heads)
+  pub holds-kept : componentCount p ≤ 8 → (budget : ℕ) → 1 ≤ budget → (s : Searched) → IsSearched p budget s
+      → HoldsTree p (s .tails) (s .heads)
   holds-kept few budget one s h =
       let m = componentCount p - 1 in
       let t = kept-fits p ok few budget one m (s .tails) (s .heads) refl (h .links) in
-      record { tails-fit = t .tails-le; heads-fit = t .heads-le; tree = kept-tree p ok few budget one m (s .tails) (s .heads) (t .tails-le) (t .heads-le) (h .links) }
+      record {
+        tails-fit = t .tails-le;
+        heads-fit = t .heads-le;
+        tree = kept-tree p ok few budget one m (s .tails) (s .heads) (t .tails-le) (t .heads-le) (h .links);
+      }

@@ -1,4 +1,5 @@
--- Two answers to calls on one plan, with one budget, one refusal and one sheet, are the same, and so are the places that they leave: u is fixed by the plan, and the rest follows from u.
+-- Two answers to calls on one plan, with one budget, one refusal and one sheet, are the same, and so are the places that they leave: u is
+-- fixed by the plan, and the rest follows from u.
 use mathlib.Core.Path.{_≡_, refl, sym, ap, _∙_}
 use mathlib.Core.List.{List}
 use mathlib.Core.Option.{Option, none, some, Option·some-ne-none}
@@ -22,7 +23,8 @@ module _ (p : Plan) (budget : ℕ) (old new new′ : List ℕ) (r s : Planned) w
   same-answer o i j =
       let read : List ℤ → Multipliers = λ us v. getD us v (pos 0) in
       let u = ap read (same-multipliers o i j) in
-      let e : summaryOf r ≡ summaryOf s = i .summary-is ∙ ap (λ (u : Multipliers). fields (answer o (summary p budget u))) u ∙ sym (j .summary-is) in (
+      let e : summaryOf r ≡ summaryOf s =
+      i .summary-is ∙ ap (λ (u : Multipliers). fields (answer o (summary p budget u))) u ∙ sym (j .summary-is) in (
         record {
           refusal = i .verdict ∙ sym (j .verdict);
           places = i .places-are ∙ sym (j .places-are);
@@ -37,7 +39,8 @@ module _ (p : Plan) (budget : ℕ) (old new new′ : List ℕ) (r s : Planned) w
       )
 
 -- A refusal says nothing of the plan.
-pub refused-as : (p q : Plan) (budget k : ℕ) (old new : List ℕ) (r : Planned) → IsPlanned p budget (some k) old new r → IsPlanned q budget (some k) old new r
+pub refused-as : (p q : Plan) (budget k : ℕ) (old new : List ℕ) (r : Planned) → IsPlanned p budget (some k) old new r
+    → IsPlanned q budget (some k) old new r
 unfolding answer fields unless countUnless
 refused-as p q budget k old new r i = record {
   verdict = i .verdict;

@@ -29,7 +29,8 @@ module _ (X : ℕ → Bool) where
       one false = delta-no 1 0 (λ e. omega arith)
 
   inside-le : (xs ys : List ℕ) → ((v : ℕ) → occurrences v xs ≤ occurrences v ys) → inside xs ≤ inside ys
-  inside-le xs ys h = let a = map-le (λ v. mark (X v)) 1 xs ys (λ k e. h k) in let b = inside-marks xs in let c = inside-marks ys in omega arith
+  inside-le xs ys h = let a = map-le (λ v. mark (X v)) 1 xs ys (λ k e. h k) in let b = inside-marks xs in let c = inside-marks ys in
+      omega arith
 
   abbrev Forward : List ℕ → List ℕ → Type 0
   Forward ts hs = (e : ℕ) → e < length ts → T (X (getD ts e 0)) → T (X (getD hs e 0))
@@ -54,7 +55,8 @@ module _ (X : ℕ → Bool) where
       let m = mark-le (X t) (X h) (f 0 (omega arith)) in
       omega arith
 
-  backward : (ts hs : List ℕ) → length hs ≡ length ts → Forward ts hs → inside hs ≤ inside ts → (e : ℕ) → e < length ts → T (X (getD hs e 0)) → T (X (getD ts e 0))
+  backward : (ts hs : List ℕ) → length hs ≡ length ts → Forward ts hs → inside hs ≤ inside ts → (e : ℕ) → e < length ts
+      → T (X (getD hs e 0)) → T (X (getD ts e 0))
   unfolding inside
   backward [] hs l f c e k x = absurd (omega arith)
   backward (t ∷ ts) [] l f c e k x = absurd (omega arith)

@@ -1,5 +1,5 @@
--- There are few legs: where amounts go from surplus to deficit only, a vertex sends no more than its surplus, and all surpluses together are no more than the required
--- arcs and links.
+-- There are few legs: where amounts go from surplus to deficit only, a vertex sends no more than its surplus, and all surpluses together
+-- are no more than the required arcs and links.
 use mathlib.Core.Path.{_≡_, refl, sym, ap, ap₂, _∙_}
 use mathlib.Core.List.{List, [], _∷_, map, List·Memᴰ}
 use Prim.Native.Nat.{ℕ, _+_, _≤_, _<_}
@@ -19,7 +19,8 @@ use Rattle.postman.specs.Laws.Sum.{sum-cong, sum-le, sum-zero, sum-some, sum-ad
 use Rattle.postman.specs.Laws.Required.{required-once, required-lt, numbers-arcs}
 use Rattle.postman.specs.Laws.Assignment.{weight}
 use Rattle.postman.specs.Laws.LinkLegs.{ends}
-use Rattle.tour_legs.specs.Legs.{amount, units, Completes}
+use Rattle.postman.specs.Steps.{amount}
+use Rattle.tour_legs.specs.Legs.{units, Completes}
 use Rattle.hierholzer.specs.Laws.Lists.{select-length}
 use Rattle.tour_legs.specs.Laws.Units.{units-weight}
 
@@ -61,7 +62,8 @@ module _ (p : Plan) (ok : WellFormed p) (t : List Link) (amounts : List ℕ) (h 
   sent-le i m =
       let vs = required p in
       let f = amount amounts in
-      let d = minus-eq (sumOver vs (λ j. f i j)) (sumOver vs (λ j. f j i)) (occurrences i (heads p t)) (occurrences i (tails p t)) (h .balances i m) in
+      let d = minus-eq (sumOver vs (λ j. f i j)) (sumOver vs (λ j. f j i)) (occurrences i (heads p t)) (occurrences i (tails p t))
+      (h .balances i m) in
       elim (decLe 1 (sumOver vs (λ j. f i j))) [
         | yes x ↦ elim (decLe 1 (sumOver vs (λ j. f j i))) [
           | yes y ↦ (
@@ -78,10 +80,12 @@ module _ (p : Plan) (ok : WellFormed p) (t : List Link) (amounts : List ℕ) (h 
   few-units =
       let vs = required p in
       let a = sym (weight-length (units amounts)) ∙ units-weight p (ok .vertices) amounts (h .between) (λ i j. 1)
-      ∙ sum-cong vs _ (λ i. sumOver vs (λ j. amount amounts i j)) (λ i. sum-cong vs _ (λ j. amount amounts i j) (λ j. mul-one (amount amounts i j))) in
+      ∙ sum-cong vs _ (λ i. sumOver vs (λ j. amount amounts i j))
+      (λ i. sum-cong vs _ (λ j. amount amounts i j) (λ j. mul-one (amount amounts i j))) in
       let b = sum-le vs (λ i. sumOver vs (λ j. amount amounts i j)) (λ i. occurrences i (heads p t)) sent-le in
       let c = sum-occurrences-le vs (heads p t) (required-once p) in
-      let d : length (heads p t) ≡ length (map (λ a. a .head) (requiredArcs p)) + length (map (λ l. l .head) t) = length-append (map (λ a. a .head) (requiredArcs p)) (map (λ l. l .head) t) in
+      let d : length (heads p t) ≡ length (map (λ a. a .head) (requiredArcs p)) + length (map (λ l. l .head) t) =
+      length-append (map (λ a. a .head) (requiredArcs p)) (map (λ l. l .head) t) in
       let e = length-map (requiredArcs p) (λ a. a .head) in
       let f = length-map t (λ l. l .head) in
       omega arith

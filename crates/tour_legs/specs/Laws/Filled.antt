@@ -27,7 +27,8 @@ replicate-one i a = replicate-append-replicate i 1 a
 
 -- ---- one part after another
 
-pub extends-more : (old new new′ xs ys : List ℕ) (n : ℕ) → Extends old n new xs → Extends xs (n + length new) new′ ys → Extends old n (new ++ new′) ys
+pub extends-more : (old new new′ xs ys : List ℕ) (n : ℕ) → Extends old n new xs → Extends xs (n + length new) new′ ys
+    → Extends old n (new ++ new′) ys
 extends-more old new new′ xs ys n a b =
     let l = length-append new new′ in
     let e : n + length (new ++ new′) ≡ n + length new + length new′ = omega arith in
@@ -38,10 +39,15 @@ extends-more old new new′ xs ys n a b =
 
 pub added-none : (n : ℕ) (tails heads : List ℕ) → Added [] n n tails tails heads heads
 added-none n tails heads =
-    record { end = sym (add-zero n); tails-are = record { same = refl; filled = extends-none tails n }; heads-are = record { same = refl; filled = extends-none heads n } }
+    record {
+      end = sym (add-zero n);
+      tails-are = record { same = refl; filled = extends-none tails n };
+      heads-are = record { same = refl; filled = extends-none heads n };
+    }
 
 pub added-more : (ls ms : List Link) (n m : ℕ) (ts ts′ ts″ hs hs′ hs″ : List ℕ) → Added ls n m ts ts′ hs hs′
-    → Extends ts′ m (map (λ l. l .tail) ms) ts″ → Extends hs′ m (map (λ l. l .head) ms) hs″ → Added (ls ++ ms) n (m + length ms) ts ts″ hs hs″
+    → Extends ts′ m (map (λ l. l .tail) ms) ts″ → Extends hs′ m (map (λ l. l .head) ms) hs″
+    → Added (ls ++ ms) n (m + length ms) ts ts″ hs hs″
 added-more ls ms n m ts ts′ ts″ hs hs′ hs″ a b c =
     let tail : Link → ℕ = λ l. l .tail in
     let head : Link → ℕ = λ l. l .head in
@@ -51,8 +57,10 @@ added-more ls ms n m ts ts′ ts″ hs hs′ hs″ a b c =
     let j : m ≡ n + length (map head ls) = e ∙ ap (λ z. n + z) (sym (length-map ls head)) in
     record {
       end = omega arith;
-      tails-are = subst⁻¹ (λ z. Extends ts n z ts″) (map-append tail ls ms) (extends-more ts (map tail ls) (map tail ms) ts′ ts″ n (a .tails-are) (subst (λ z. Extends ts′ z (map tail ms) ts″) i b));
-      heads-are = subst⁻¹ (λ z. Extends hs n z hs″) (map-append head ls ms) (extends-more hs (map head ls) (map head ms) hs′ hs″ n (a .heads-are) (subst (λ z. Extends hs′ z (map head ms) hs″) j c));
+      tails-are = subst⁻¹ (λ z. Extends ts n z ts″) (map-append tail ls ms)
+          (extends-more ts (map tail ls) (map tail ms) ts′ ts″ n (a .tails-are) (subst (λ z. Extends ts′ z (map tail ms) ts″) i b));
+      heads-are = subst⁻¹ (λ z. Extends hs n z hs″) (map-append head ls ms)
+          (extends-more hs (map head ls) (map head ms) hs′ hs″ n (a .heads-are) (subst (λ z. Extends hs′ z (map head ms) hs″) j c));
     }
 
 -- ---- the units, place by place
@@ -61,7 +69,8 @@ units-more : (amounts : List ℕ) (x : ℕ) → unitsBelow (x + 1) amounts ≡ u
 unfolding unitsBelow below flatMap
 units-more amounts x =
     let f : ℕ → List Link = λ x. replicate (getD amounts x 0) (pairAt x) in
-    ap (flatMap f) (upFrom-append 0 x 1 ∙ ap (λ z. upFrom 0 x ++ z ∷ []) (zero-add x)) ∙ flat-append f (upFrom 0 x) (x ∷ []) ∙ ap (λ z. flatMap f (upFrom 0 x) ++ z) (append-nil (f x))
+    ap (flatMap f) (upFrom-append 0 x 1 ∙ ap (λ z. upFrom 0 x ++ z ∷ []) (zero-add x)) ∙ flat-append f (upFrom 0 x) (x ∷ [])
+    ∙ ap (λ z. flatMap f (upFrom 0 x) ++ z) (append-nil (f x))
 
 units-upTo : (amounts : List ℕ) (x d : ℕ) → length (unitsBelow x amounts) ≤ length (unitsBelow (x + d) amounts)
 unfolding unitsBelow below
@@ -83,8 +92,10 @@ units-fit amounts x l =
     let e = ap (λ z. length (unitsBelow z amounts)) i in
     omega arith
 
-pub added-units : (amounts : List ℕ) (x k n m : ℕ) (ts ts′ ts″ hs hs′ hs″ : List ℕ) → k ≡ getD amounts x 0 → Added (unitsBelow x amounts) n m ts ts′ hs hs′
-    → Extends ts′ m (replicate k (x / 64)) ts″ → Extends hs′ m (replicate k (x % 64)) hs″ → Added (unitsBelow (x + 1) amounts) n (m + k) ts ts″ hs hs″
+pub added-units : (amounts : List ℕ) (x k n m : ℕ) (ts ts′ ts″ hs hs′ hs″ : List ℕ) → k ≡ getD amounts x 0
+    → Added (unitsBelow x amounts) n m ts ts′ hs hs′
+    → Extends ts′ m (replicate k (x / 64)) ts″ → Extends hs′ m (replicate k (x % 64)) hs″
+    → Added (unitsBelow (x + 1) amounts) n (m + k) ts ts″ hs hs″
 added-units amounts x k n m ts ts′ ts″ hs hs′ hs″ e a b c =
     subst⁻¹ (λ z. Added z n (m + k) ts ts″ hs hs″) (units-more amounts x ∙ ap (λ z. unitsBelow x amounts ++ replicate z (pairAt x)) (sym e))
     (subst (λ z. Added (unitsBelow x amounts ++ replicate k (pairAt x)) n (m + z) ts ts″ hs hs″) (length-replicate k (pairAt x))

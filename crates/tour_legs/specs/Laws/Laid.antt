@@ -28,8 +28,10 @@ pub links-length : (ts hs : List ℕ) → length hs ≡ length ts → length (li
 links-length ts hs e = sym (length-map (linksOf ts hs) (λ l. l .tail)) ∙ ap length (links-tails ts hs e)
 
 -- one of the two arrays
-row : (p : Plan) (t : List Link) (amounts : List ℕ) (f : Link → ℕ) (xs xs₁ xs₂ ls : List ℕ) (c n : ℕ) → take c xs ≡ map (λ k. f (arcLeg (arcAt (p .arcs) k))) (requiredNumbers p)
-    → ls ≡ map f t → Extends xs c ls xs₁ → n ≡ c + length ls + length (units amounts) → Extends xs₁ (c + length ls) (map f (units amounts)) xs₂ → take n xs₂ ≡ map f (legs p t amounts)
+row : (p : Plan) (t : List Link) (amounts : List ℕ) (f : Link → ℕ) (xs xs₁ xs₂ ls : List ℕ) (c n : ℕ)
+    → take c xs ≡ map (λ k. f (arcLeg (arcAt (p .arcs) k))) (requiredNumbers p)
+    → ls ≡ map f t → Extends xs c ls xs₁ → n ≡ c + length ls + length (units amounts)
+    → Extends xs₁ (c + length ls) (map f (units amounts)) xs₂ → take n xs₂ ≡ map f (legs p t amounts)
 row p t amounts f xs xs₁ xs₂ ls c n h e a m b =
     let us = units amounts in
     let l = length-map us f in
@@ -54,7 +56,8 @@ laid p ts hs amounts numbers tails tails₁ tails₂ heads heads₁ heads₂ c n
       numbers-are = a .numbers-are;
       tails-are = tr;
       heads-are = row p t amounts (λ l. l .head) heads heads₁ heads₂ hs c n (a .heads-are) (sym (links-heads ts hs e)) d
-          (x ∙ ap (λ z. c + z + length us) (sym e)) (subst (λ z. Extends heads₁ (c + z) (map (λ l. l .head) us) heads₂) (sym e) (u .heads-are));
+          (x ∙ ap (λ z. c + z + length us) (sym e))
+          (subst (λ z. Extends heads₁ (c + z) (map (λ l. l .head) us) heads₂) (sym e) (u .heads-are));
     }
 
 -- the first n elements are there

@@ -1,5 +1,6 @@
--- The legs of a plan, an arborescence and amounts that balance them are Eulerian. Balanced: the amounts make up for the imbalance of the rest. Connected: a set that
--- no leg leaves is one that no leg enters; so it holds a component with each of its vertices, and with a component the one before it and those after it.
+-- The legs of a plan, an arborescence and amounts that balance them are Eulerian. Balanced: the amounts make up for the imbalance of the
+-- rest. Connected: a set that no leg leaves is one that no leg enters; so it holds a component with each of its vertices, and with a
+-- component the one before it and those after it.
 use mathlib.Core.Path.{_≡_, refl, sym, ap, ap₂, _∙_, subst, subst⁻¹}
 use mathlib.Core.Logic.{inl, inr}
 use mathlib.Core.Bool.{Bool}
@@ -29,7 +30,8 @@ use Rattle.postman.specs.Laws.Arborescence.{joins}
 use Rattle.postman.specs.Laws.Balancing.{within-heads, within-tails}
 use Rattle.postman.specs.Laws.LinkLegs.{ends, ends-heads, ends-tails}
 use Rattle.hierholzer.specs.Eulerian.{Eulerian}
-use Rattle.tour_legs.specs.Legs.{amount, pairAt, unitsBelow, units, arcLeg, legs, legTails, legHeads, Completes}
+use Rattle.postman.specs.Steps.{amount}
+use Rattle.tour_legs.specs.Legs.{pairAt, unitsBelow, units, arcLeg, legs, legTails, legHeads, Completes}
 use Rattle.hierholzer.specs.Laws.Lists.{map-append, map-map, replicate-mem}
 use Rattle.tour_legs.specs.Laws.Units.{units-out, units-into}
 use Rattle.tour_legs.specs.Laws.Cut.{entered-too}
@@ -41,27 +43,32 @@ module _ (p : Plan) (ok : WellFormed p) (t : List Link) (amounts : List ℕ) (h 
   -- ---- balanced
 
   legs-ends : (v : ℕ) (f : Link → ℕ)
-      → occurrences v (map f (legs p t amounts)) ≡ occurrences v (map (λ a. f (arcLeg a)) (requiredArcs p) ++ map f t) + occurrences v (map f (units amounts))
+      → occurrences v (map f (legs p t amounts))
+      ≡ occurrences v (map (λ a. f (arcLeg a)) (requiredArcs p) ++ map f t) + occurrences v (map f (units amounts))
   unfolding legs
   legs-ends v f =
       let rs = map (λ a. f (arcLeg a)) (requiredArcs p) in
       let us = units amounts in
       let a = occurrences-append v rs (map f t) in
       let b : occurrences v (map f (legs p t amounts)) ≡ occurrences v (rs ++ (map f t ++ map f us))
-      = ap (occurrences v) (map-append f (map arcLeg (requiredArcs p)) (t ++ us) ∙ ap₂ _++_ (map-map arcLeg f (requiredArcs p)) (map-append f t us)) in
+      = ap (occurrences v)
+      (map-append f (map arcLeg (requiredArcs p)) (t ++ us) ∙ ap₂ _++_ (map-map arcLeg f (requiredArcs p)) (map-append f t us)) in
       let c = occurrences-append v rs (map f t ++ map f us) in
       let d = occurrences-append v (map f t) (map f us) in
       omega arith
 
-  legs-tails : (v : ℕ) → occurrences v (legTails p t amounts) ≡ occurrences v (tails p t) + occurrences v (map (λ l. l .tail) (units amounts))
+  legs-tails : (v : ℕ)
+      → occurrences v (legTails p t amounts) ≡ occurrences v (tails p t) + occurrences v (map (λ l. l .tail) (units amounts))
   unfolding legTails tails
   legs-tails v = legs-ends v (λ l. l .tail)
 
-  legs-heads : (v : ℕ) → occurrences v (legHeads p t amounts) ≡ occurrences v (heads p t) + occurrences v (map (λ l. l .head) (units amounts))
+  legs-heads : (v : ℕ)
+      → occurrences v (legHeads p t amounts) ≡ occurrences v (heads p t) + occurrences v (map (λ l. l .head) (units amounts))
   unfolding legHeads heads
   legs-heads v = legs-ends v (λ l. l .head)
 
-  none-in : {vs : List ℕ} (v : ℕ) → ((i : ℕ) → List·Memᴰ i vs → List·Memᴰ i (required p)) → occurrences v (required p) ≡ 0 → occurrences v vs ≡ 0
+  none-in : {vs : List ℕ} (v : ℕ) → ((i : ℕ) → List·Memᴰ i vs → List·Memᴰ i (required p)) → occurrences v (required p) ≡ 0
+      → occurrences v vs ≡ 0
   none-in {vs} v m z = elim (decLe 1 (occurrences v vs)) [
     | yes g ↦ (let x = occurrences-of-mem (m v (mem-of-occurrences v vs g)) in absurd (omega arith))
     | no g ↦ omega arith
@@ -83,7 +90,8 @@ module _ (p : Plan) (ok : WellFormed p) (t : List Link) (amounts : List ℕ) (h 
             let e : occurrences v vs ≡ 1 = omega arith in
             let o₁ = ap (λ z. sumOver vs (λ j. f v j) * z) e ∙ mul-one (sumOver vs (λ j. f v j)) in
             let i₁ = ap (λ z. sumOver vs (λ j. f j v) * z) e ∙ mul-one (sumOver vs (λ j. f j v)) in
-            let d = minus-eq (sumOver vs (λ j. f v j)) (sumOver vs (λ j. f j v)) (occurrences v (heads p t)) (occurrences v (tails p t)) (h .balances v (mem-of-occurrences v vs g)) in
+            let d = minus-eq (sumOver vs (λ j. f v j)) (sumOver vs (λ j. f j v)) (occurrences v (heads p t)) (occurrences v (tails p t))
+            (h .balances v (mem-of-occurrences v vs g)) in
             omega arith)
         | no g ↦ (
             let e : occurrences v vs ≡ 0 = omega arith in
@@ -101,14 +109,20 @@ module _ (p : Plan) (ok : WellFormed p) (t : List Link) (amounts : List ℕ) (h 
 
   -- a leg by its number
   leg-number : {l : Link} → List·Memᴰ l (legs p t amounts)
-      → (e : ℕ) × (e < length (legTails p t amounts)) × (getD (legTails p t amounts) e 0 ≡ l .tail) × (getD (legHeads p t amounts) e 0 ≡ l .head)
+      → (e : ℕ) × (e < length (legTails p t amounts)) × (getD (legTails p t amounts) e 0 ≡ l .tail)
+      × (getD (legHeads p t amounts) e 0 ≡ l .head)
   unfolding legTails legHeads
   leg-number m =
       let r = mem-getD noLink m in
       let ls = legs p t amounts in
       let n = length-map ls (λ l. l .tail) in
-      let k = r .1 in
-      (r .0, omega arith, List·getD-map (λ l. l .tail) ls (r .0) noLink ∙ ap (λ (l : Link). l .tail) (r .2), List·getD-map (λ l. l .head) ls (r .0) noLink ∙ ap (λ (l : Link). l .head) (r .2))
+      let k = r .1 in (
+        r .0,
+        omega arith,
+        List·getD-map (λ l. l .tail) ls (r .0) noLink
+            ∙ ap (λ (l : Link). l .tail) (r .2),
+        List·getD-map (λ l. l .head) ls (r .0) noLink ∙ ap (λ (l : Link). l .head) (r .2),
+      )
 
   pub legs-length : length (legHeads p t amounts) ≡ length (legTails p t amounts)
   unfolding legTails legHeads
@@ -132,7 +146,8 @@ module _ (p : Plan) (ok : WellFormed p) (t : List Link) (amounts : List ℕ) (h 
   leg-ends {l} m = elim (List·Memᴰ·append-cases (map arcLeg (requiredArcs p)) m) [
     | inl a ↦ (
         let r = map-mem arcLeg (requiredArcs p) a in
-        subst⁻¹ (λ (z : Link). List·Memᴰ (z .tail) (required p) × List·Memᴰ (z .head) (required p)) (r .2) (required-ends p within-plan (r .1)))
+        subst⁻¹ (λ (z : Link). List·Memᴰ (z .tail) (required p) × List·Memᴰ (z .head) (required p)) (r .2)
+        (required-ends p within-plan (r .1)))
     | inr b ↦ elim (List·Memᴰ·append-cases t b) [ inl c ↦ joins p (h .arborescence) l c | inr d ↦ unit-ends d ]
   ]
 
@@ -154,8 +169,10 @@ module _ (p : Plan) (ok : WellFormed p) (t : List Link) (amounts : List ℕ) (h 
         let r = both-of {x = a} (requiredArcs p) (getD-mem (undirected p within-plan) _ k (g .0)) in
         let y : T (X (a .tail)) = subst⁻¹ (λ z. T (X z)) (g .2) x in
         walk-in (a .head) v w (g .3) (elim (r .2) [
-          | inl e ↦ subst⁻¹ (λ (b : Arc). T (X (b .head))) e (forward (arcLeg (r .0)) (arc-mem (r .1)) (subst (λ (b : Arc). T (X (b .tail))) e y))
-          | inr e ↦ subst⁻¹ (λ (b : Arc). T (X (b .head))) e (back (arcLeg (r .0)) (arc-mem (r .1)) (subst (λ (b : Arc). T (X (b .tail))) e y))
+          | inl e ↦ subst⁻¹ (λ (b : Arc). T (X (b .head))) e
+              (forward (arcLeg (r .0)) (arc-mem (r .1)) (subst (λ (b : Arc). T (X (b .tail))) e y))
+          | inr e ↦ subst⁻¹ (λ (b : Arc). T (X (b .head))) e
+              (back (arcLeg (r .0)) (arc-mem (r .1)) (subst (λ (b : Arc). T (X (b .tail))) e y))
         ])
 
     -- component q lies in the set
@@ -168,7 +185,8 @@ module _ (p : Plan) (ok : WellFormed p) (t : List Link) (amounts : List ℕ) (h 
     parent-lt : (q : ℕ) → q < componentCount p → parent p t q < componentCount p
     unfolding parent
     parent-lt zero l = l
-    parent-lt (suc q) l = let n = h .arborescence .size in component-lt p within-plan (link-ends p (h .arborescence .enters q (omega arith) .is-link) .0)
+    parent-lt (suc q) l = let n = h .arborescence .size in
+        component-lt p within-plan (link-ends p (h .arborescence .enters q (omega arith) .is-link) .0)
 
     -- with a component the one before it, and the other way round
     to-parent : (q : ℕ) → q < componentCount p → Holds q → Holds (parent p t q)
@@ -187,7 +205,8 @@ module _ (p : Plan) (ok : WellFormed p) (t : List Link) (amounts : List ℕ) (h 
         let n = h .arborescence .size in
         let e = h .arborescence .enters q (omega arith) in
         let k = link-ends p (e .is-link) in
-        subst Holds (e .head) (holds-of (k .1) (forward (linkAt t q) (link-mem (getD-mem t noLink q (omega arith))) (y (linkAt t q .tail) (k .0) refl)))
+        subst Holds (e .head)
+        (holds-of (k .1) (forward (linkAt t q) (link-mem (getD-mem t noLink q (omega arith))) (y (linkAt t q .tail) (k .0) refl)))
 
     to-end : (n q : ℕ) → q < componentCount p → Holds q → Holds (iterate n (parent p t) q)
     unfolding iterate
@@ -219,12 +238,17 @@ module _ (p : Plan) (ok : WellFormed p) (t : List Link) (amounts : List ℕ) (h 
 
   -- the tail and the head of leg e are ends of a leg
   pub leg-at : (e : ℕ) → e < length (legTails p t amounts)
-      → (l : Link) × List·Memᴰ l (legs p t amounts) × (getD (legTails p t amounts) e 0 ≡ l .tail) × (getD (legHeads p t amounts) e 0 ≡ l .head)
+      → (l : Link) × List·Memᴰ l (legs p t amounts) × (getD (legTails p t amounts) e 0 ≡ l .tail)
+      × (getD (legHeads p t amounts) e 0 ≡ l .head)
   unfolding legTails legHeads
   leg-at e k =
       let ls = legs p t amounts in
-      let n = length-map ls (λ l. l .tail) in
-      (getD ls e noLink, getD-mem ls noLink e (omega arith), List·getD-map (λ l. l .tail) ls e noLink, List·getD-map (λ l. l .head) ls e noLink)
+      let n = length-map ls (λ l. l .tail) in (
+        getD ls e noLink,
+        getD-mem ls noLink e (omega arith),
+        List·getD-map (λ l. l .tail) ls e noLink,
+        List·getD-map (λ l. l .head) ls e noLink,
+      )
 
   pub eulerian : Eulerian (legTails p t amounts) (legHeads p t amounts)
   eulerian = record {

@@ -13,7 +13,8 @@ use Rattle.postman.specs.Steps.{Permutation, Pick, here, there, none, more}
 use Rattle.hierholzer.specs.Laws.Lists.{upFrom-append}
 
 -- terms that fail the test are 0
-pub sum-select : (f : ℕ → Bool) (vs : List ℕ) (g : ℕ → ℕ) → ((i : ℕ) → List·Memᴰ i vs → T (not (f i)) → g i ≡ 0) → sumOver (select f vs) g ≡ sumOver vs g
+pub sum-select : (f : ℕ → Bool) (vs : List ℕ) (g : ℕ → ℕ) → ((i : ℕ) → List·Memᴰ i vs → T (not (f i)) → g i ≡ 0)
+    → sumOver (select f vs) g ≡ sumOver vs g
 unfolding sumOver select
 sum-select f [] g z = refl
 sum-select f (v ∷ vs) g z =
@@ -32,7 +33,8 @@ row-sum g a b (suc n) l =
     let k : suc (a * 64 + b) ≡ a * 64 + suc b = omega arith in
     ap₂ _+_ (ap₂ g i j) (ap (λ z. sumOver (upFrom z n) (λ x. g (x / 64) (x % 64))) k ∙ row-sum g a (suc b) n (omega arith))
 
-pub flat-sum : (g : ℕ → ℕ → ℕ) (a n : ℕ) → sumOver (upFrom (a * 64) (n * 64)) (λ x. g (x / 64) (x % 64)) ≡ sumOver (upFrom a n) (λ i. sumOver (below 64) (g i))
+pub flat-sum : (g : ℕ → ℕ → ℕ) (a n : ℕ)
+    → sumOver (upFrom (a * 64) (n * 64)) (λ x. g (x / 64) (x % 64)) ≡ sumOver (upFrom a n) (λ i. sumOver (below 64) (g i))
 unfolding sumOver upFrom below
 flat-sum g a zero = refl
 flat-sum g a (suc n) =
@@ -43,7 +45,8 @@ flat-sum g a (suc n) =
     ap (λ z. sumOver (upFrom (a * 64) z) f) i
     ∙ ap (λ l. sumOver l f) (upFrom-append (a * 64) 64 (n * 64))
     ∙ sum-append (upFrom (a * 64) 64) (upFrom (a * 64 + 64) (n * 64)) f
-    ∙ ap₂ _+_ (ap (λ z. sumOver (upFrom z 64) f) k ∙ row-sum g a 0 64 (omega arith)) (ap (λ z. sumOver (upFrom z (n * 64)) f) j ∙ flat-sum g (suc a) n)
+    ∙ ap₂ _+_ (ap (λ z. sumOver (upFrom z 64) f) k ∙ row-sum g a 0 64 (omega arith))
+    (ap (λ z. sumOver (upFrom z (n * 64)) f) j ∙ flat-sum g (suc a) n)
 
 -- ---- sums over lists in another order
 

@@ -1,5 +1,5 @@
--- The tour is one: closed, since the circuit is and each leg's places lead from its tail to its head; with every required arc, since each is a leg. Its plain cost and
--- its length are those of the legs, which the circuit only puts in another order.
+-- The tour is one: closed, since the circuit is and each leg's places lead from its tail to its head; with every required arc, since each
+-- is a leg. Its plain cost and its length are those of the legs, which the circuit only puts in another order.
 use mathlib.Core.Path.{_≡_, refl, sym, ap, ap₂, _∙_, subst, subst⁻¹}
 use mathlib.Core.Bool.{Bool, true, false, cond}
 use mathlib.Core.List.{List, [], _∷_, _++_, map, flatMap, List·Memᴰ, List·Memᴰ·head, List·Memᴰ·tail, List·Memᴰ·not-nil}
@@ -19,14 +19,14 @@ use Rattle.postman.specs.Distance.{distance}
 use Rattle.postman.specs.Link.{Link}
 use Rattle.postman.specs.Balancing.{linkCost, balancingCost}
 use Rattle.postman.specs.Laws.Membership.{mem-getD, mem-flatMap, getD-mem, getD-map-in, mem-below, below-mem}
-use Rattle.postman.specs.Steps.{Permutation}
+use Rattle.postman.specs.Steps.{Permutation, amount}
 use Rattle.postman.specs.Laws.Pick.{permutation-mem}
 use Rattle.postman.specs.Laws.Distance.{walk-append, cost-append}
 use Rattle.postman.specs.Laws.Required.{required-open, numbers-mem, mem-numbers, numbers-arcs, numbers-field, sum-cost}
 use Rattle.postman.specs.Laws.LinkLegs.{link-weight}
 use Rattle.hierholzer.specs.Circuit.{circuit}
 use Rattle.hierholzer.specs.Eulerian.{Joined, IsCircuit}
-use Rattle.tour_legs.specs.Legs.{amount, units, arcLeg, legs, legTails, legHeads, Completes}
+use Rattle.tour_legs.specs.Legs.{units, arcLeg, legs, legTails, legHeads, Completes}
 use Rattle.tour_legs.specs.Tour.{legPlaces, placesOf, tourBy, IsPath, ArePaths}
 use Rattle.tour_legs.specs.Laws.Sum.{permutation-sum}
 use Rattle.hierholzer.specs.Laws.Lists.{map-append, map-map, upFrom-append}
@@ -56,11 +56,13 @@ module _ (path : ℕ → ℕ → List ℕ) (numbers tails heads : List ℕ) wher
 -- ---- a list of lists, one after the other
 
 walk-flat : (arcs : List Arc) (tails heads : List ℕ) (f : ℕ → List ℕ) (w : List ℕ) (i j : ℕ)
-    → ((e : ℕ) → List·Memᴰ e w → IsWalk arcs (getD tails e 0) (f e) (getD heads e 0)) → Joined tails heads i w j → IsWalk arcs i (flatMap f w) j
+    → ((e : ℕ) → List·Memᴰ e w → IsWalk arcs (getD tails e 0) (f e) (getD heads e 0)) → Joined tails heads i w j
+    → IsWalk arcs i (flatMap f w) j
 unfolding flatMap
 walk-flat arcs tails heads f [] i j h g = g
 walk-flat arcs tails heads f (e ∷ w) i j h g =
-    walk-append arcs i (getD heads e 0) j (f e) (flatMap f w) (subst (λ z. IsWalk arcs z (f e) (getD heads e 0)) (g .0) (h e (List·Memᴰ·head refl)))
+    walk-append arcs i (getD heads e 0) j (f e) (flatMap f w)
+    (subst (λ z. IsWalk arcs z (f e) (getD heads e 0)) (g .0) (h e (List·Memᴰ·head refl)))
     (walk-flat arcs tails heads f w (getD heads e 0) j (λ k m. h k (List·Memᴰ·tail m)) (g .1))
 
 cost-flat : (arcs : List Arc) (f : ℕ → List ℕ) (w : List ℕ) → walkCost arcs (flatMap f w) ≡ sumOf (map (λ e. walkCost arcs (f e)) w)
@@ -81,7 +83,8 @@ sum-map-append f [] ys = omega arith
 sum-map-append f (x ∷ xs) ys = let h = sum-map-append f xs ys in omega arith
 
 -- over numbers in a row, by what stands there
-pub sum-by : {A : Type 0} (f : ℕ → ℕ) (g : A → ℕ) (a : ℕ) (xs : List A) (d : A) → ((k : ℕ) → k < length xs → f (a + k) ≡ g (getD xs k d)) → sumOf (map f (upFrom a (length xs))) ≡ sumOf (map g xs)
+pub sum-by : {A : Type 0} (f : ℕ → ℕ) (g : A → ℕ) (a : ℕ) (xs : List A) (d : A) → ((k : ℕ) → k < length xs → f (a + k) ≡ g (getD xs k d))
+    → sumOf (map f (upFrom a (length xs))) ≡ sumOf (map g xs)
 unfolding sumOf upFrom
 sum-by f g a [] d h = refl
 sum-by f g a (x ∷ xs) d h =
@@ -153,7 +156,8 @@ module _ (p : Plan) (t : List Link) (amounts : List ℕ) where
 
     -- a sum over all legs, in the order of the circuit
     pub legs-sum : (c : ℕ → ℕ) → Permutation (circuit (legTails p t amounts) (legHeads p t amounts)) (below (length (legTails p t amounts)))
-        → sumOf (map c (circuit (legTails p t amounts) (legHeads p t amounts))) ≡ sumOf (map c (upFrom 0 (length numbers))) + sumOf (map c (upFrom (length numbers) (length others)))
+        → sumOf (map c (circuit (legTails p t amounts) (legHeads p t amounts)))
+        ≡ sumOf (map c (upFrom 0 (length numbers))) + sumOf (map c (upFrom (length numbers) (length others)))
     unfolding below
     legs-sum c q =
         permutation-sum c q
@@ -162,7 +166,8 @@ module _ (p : Plan) (t : List Link) (amounts : List ℕ) where
         ∙ sum-map-append c (upFrom 0 (length numbers)) (upFrom (0 + length numbers) (length others))
         ∙ ap (λ z. sumOf (map c (upFrom 0 (length numbers))) + sumOf (map c (upFrom z (length others)))) (zero-add (length numbers))
 
-module _ (p : Plan) (ok : WellFormed p) (t : List Link) (amounts : List ℕ) (h : Completes p t amounts) (path : ℕ → ℕ → List ℕ) (paths : ArePaths p path) where
+module _ (p : Plan) (ok : WellFormed p) (t : List Link) (amounts : List ℕ) (h : Completes p t amounts) (path : ℕ → ℕ → List ℕ)
+    (paths : ArePaths p path) where
   abbrev pub order : List ℕ
   order = circuit (legTails p t amounts) (legHeads p t amounts)
 
@@ -179,21 +184,31 @@ module _ (p : Plan) (ok : WellFormed p) (t : List Link) (amounts : List ℕ) (h 
   number-lt e l = let n = legs-count p t amounts in omega arith
 
   -- the path of a leg
-  pub leg-path : (e : ℕ) → e < length (legTails p t amounts) → IsPath p (getD (legTails p t amounts) e 0) (getD (legHeads p t amounts) e 0) (path (getD (legTails p t amounts) e 0) (getD (legHeads p t amounts) e 0))
+  pub leg-path : (e : ℕ) → e < length (legTails p t amounts)
+      → IsPath p (getD (legTails p t amounts) e 0) (getD (legHeads p t amounts) e 0)
+      (path (getD (legTails p t amounts) e 0) (getD (legHeads p t amounts) e 0))
   leg-path e l =
       let r = leg-at p ok t amounts h e l in
       let s = leg-ends p ok t amounts h (r .1) in
-      paths (getD (legTails p t amounts) e 0) (getD (legHeads p t amounts) e 0) (subst⁻¹ (λ z. List·Memᴰ z (required p)) (r .2) (s .0)) (subst⁻¹ (λ z. List·Memᴰ z (required p)) (r .3) (s .1))
+      paths (getD (legTails p t amounts) e 0) (getD (legHeads p t amounts) e 0) (subst⁻¹ (λ z. List·Memᴰ z (required p)) (r .2) (s .0))
+      (subst⁻¹ (λ z. List·Memᴰ z (required p)) (r .3) (s .1))
 
-  places-walk : (e : ℕ) → e < length (legTails p t amounts) → IsWalk (p .arcs) (getD (legTails p t amounts) e 0) (places p t amounts path e) (getD (legHeads p t amounts) e 0)
+  places-walk : (e : ℕ) → e < length (legTails p t amounts)
+      → IsWalk (p .arcs) (getD (legTails p t amounts) e 0) (places p t amounts path e) (getD (legHeads p t amounts) e 0)
   unfolding legTails legHeads
   places-walk e l = elim (decLe (length (numbers p t amounts)) e) [
-    | yes g ↦ subst⁻¹ (λ z. IsWalk (p .arcs) (getD (legTails p t amounts) e 0) z (getD (legHeads p t amounts) e 0)) (places-other p t amounts path e g) (leg-path e l .fewest-path .walk)
+    | yes g ↦ subst⁻¹ (λ z. IsWalk (p .arcs) (getD (legTails p t amounts) e 0) z (getD (legHeads p t amounts) e 0))
+        (places-other p t amounts path e g) (leg-path e l .fewest-path .walk)
     | no g ↦ (
         let k : e < length (numbers p t amounts) = omega arith in
         let r = numbers-mem p (getD-mem (numbers p t amounts) 0 e k) in
-        subst⁻¹ (λ z. IsWalk (p .arcs) (getD (legTails p t amounts) e 0) z (getD (legHeads p t amounts) e 0)) (places-arc p t amounts path e k)
-        (r .number, required-open p (getD (numbers p t amounts) e 0) r, sym (at-arc p t amounts (λ l. l .tail) e k), sym (at-arc p t amounts (λ l. l .head) e k)))
+        subst⁻¹ (λ z. IsWalk (p .arcs) (getD (legTails p t amounts) e 0) z (getD (legHeads p t amounts) e 0))
+        (places-arc p t amounts path e k) (
+          r .number,
+          required-open p (getD (numbers p t amounts) e 0) r,
+          sym (at-arc p t amounts (λ l. l .tail) e k),
+          sym (at-arc p t amounts (λ l. l .head) e k),
+        ))
   ]
 
   -- ---- it is a tour
@@ -202,7 +217,8 @@ module _ (p : Plan) (ok : WellFormed p) (t : List Link) (amounts : List ℕ) (h 
   unfolding tourBy placesOf
   is-tour = record {
     start = getD (legTails p t amounts) 0 0;
-    closed = walk-flat (p .arcs) (legTails p t amounts) (legHeads p t amounts) (places p t amounts path) order (getD (legTails p t amounts) 0 0) (getD (legTails p t amounts) 0 0)
+    closed = walk-flat (p .arcs) (legTails p t amounts) (legHeads p t amounts) (places p t amounts path) order
+        (getD (legTails p t amounts) 0 0) (getD (legTails p t amounts) 0 0)
         (λ e m. places-walk e (order-lt m)) (order-circuit .closed);
     covers = λ k l m. (
         let r = mem-getD 0 (mem-numbers p (record { number = l; must = m })) in
@@ -212,13 +228,17 @@ module _ (p : Plan) (ok : WellFormed p) (t : List Link) (amounts : List ℕ) (h 
 
   -- ---- its plain cost
 
-  cost-arcs : sumOf (map (λ e. walkCost (p .arcs) (places p t amounts path e)) (upFrom 0 (length (numbers p t amounts)))) ≡ walkCost (p .arcs) (numbers p t amounts)
+  cost-arcs : sumOf (map (λ e. walkCost (p .arcs) (places p t amounts path e)) (upFrom 0 (length (numbers p t amounts))))
+      ≡ walkCost (p .arcs) (numbers p t amounts)
   cost-arcs =
       sum-by (λ e. walkCost (p .arcs) (places p t amounts path e)) (λ k. arcAt (p .arcs) k .cost) 0 (numbers p t amounts) 0
-      (λ k l. ap (λ z. walkCost (p .arcs) (places p t amounts path z)) (zero-add k) ∙ ap (walkCost (p .arcs)) (places-arc p t amounts path k l) ∙ add-zero (arcAt (p .arcs) (getD (numbers p t amounts) k 0) .cost))
+      (λ k l. ap (λ z. walkCost (p .arcs) (places p t amounts path z)) (zero-add k)
+      ∙ ap (walkCost (p .arcs)) (places-arc p t amounts path k l) ∙ add-zero (arcAt (p .arcs) (getD (numbers p t amounts) k 0) .cost))
       ∙ sum-cost (p .arcs) (numbers p t amounts)
 
-  cost-others : sumOf (map (λ e. walkCost (p .arcs) (places p t amounts path e)) (upFrom (length (numbers p t amounts)) (length (others p t amounts)))) ≡ linkCost p (others p t amounts)
+  cost-others : sumOf
+      (map (λ e. walkCost (p .arcs) (places p t amounts path e)) (upFrom (length (numbers p t amounts)) (length (others p t amounts))))
+      ≡ linkCost p (others p t amounts)
   unfolding linkCost legTails legHeads
   cost-others =
       let n = length (numbers p t amounts) in
@@ -228,13 +248,17 @@ module _ (p : Plan) (ok : WellFormed p) (t : List Link) (amounts : List ℕ) (h 
       ap (walkCost (p .arcs)) (places-other p t amounts path (n + k) (omega arith)) ∙ leg-path (n + k) (omega arith) .costs
       ∙ ap₂ (distance p) (at-other p t amounts (λ l. l .tail) k l) (at-other p t amounts (λ l. l .head) k l))
 
-  pub plain-cost : walkCost (p .arcs) (tourBy path p t amounts) ≡ walkCost (p .arcs) (requiredNumbers p) + linkCost p t + balancingCost (required p) (distance p) (amount amounts)
+  pub plain-cost : walkCost (p .arcs) (tourBy path p t amounts)
+      ≡ walkCost (p .arcs) (requiredNumbers p) + linkCost p t + balancingCost (required p) (distance p) (amount amounts)
   unfolding tourBy placesOf balancingCost
   plain-cost =
       let a : walkCost (p .arcs) (tourBy path p t amounts) ≡ walkCost (p .arcs) (requiredNumbers p) + linkCost p (others p t amounts)
-      = cost-flat (p .arcs) (places p t amounts path) order ∙ legs-sum p t amounts path (λ e. walkCost (p .arcs) (places p t amounts path e)) (order-circuit .each-once) ∙ ap₂ _+_ cost-arcs cost-others in
+      = cost-flat (p .arcs) (places p t amounts path) order
+      ∙ legs-sum p t amounts path (λ e. walkCost (p .arcs) (places p t amounts path e)) (order-circuit .each-once)
+      ∙ ap₂ _+_ cost-arcs cost-others in
       let b : linkCost p (others p t amounts) ≡ linkCost p t + balancingCost (required p) (distance p) (amount amounts)
-      = link-weight p (others p t amounts) ∙ weight-append (distance p) t (units amounts) ∙ ap₂ _+_ (sym (link-weight p t)) (units-weight p (ok .vertices) amounts (h .between) (distance p)) in
+      = link-weight p (others p t amounts) ∙ weight-append (distance p) t (units amounts)
+      ∙ ap₂ _+_ (sym (link-weight p t)) (units-weight p (ok .vertices) amounts (h .between) (distance p)) in
       omega arith
 
   -- ---- its length
@@ -266,7 +290,8 @@ module _ (p : Plan) (ok : WellFormed p) (t : List Link) (amounts : List ℕ) (h 
   tour-first = starts order (order-mem (legs-some p ok t amounts h)) (order-circuit .first)
     where
       starts : (w : List ℕ) → List·Memᴰ 0 w → getD w 0 0 ≡ 0
-          → (0 < length (flatMap (places p t amounts path) w)) × (getD (flatMap (places p t amounts path) w) 0 0 ≡ getD (requiredNumbers p) 0 0)
+          → (0 < length (flatMap (places p t amounts path) w))
+          × (getD (flatMap (places p t amounts path) w) 0 0 ≡ getD (requiredNumbers p) 0 0)
       starts [] m e = absurd (List·Memᴰ·not-nil m)
       starts (k ∷ w) m e =
           let f = places p t amounts path in

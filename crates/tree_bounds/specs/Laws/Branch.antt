@@ -1,5 +1,5 @@
--- The completions of a branch: those of the branches below it, one candidate of component a after the other; none below a candidate that would close a circle, by `alike`
--- and `never` of the count; and their number by the count, whose law is over sources under any names.
+-- The completions of a branch: those of the branches below it, one candidate of component a after the other; none below a candidate that
+-- would close a circle, by `alike` and `never` of the count; and their number by the count, whose law is over sources under any names.
 use mathlib.Core.Path.{_≡_, refl, sym, ap, _∙_, subst, subst⁻¹}
 use mathlib.Core.Logic.{_≢_, inl, inr}
 use mathlib.Core.Bool.{Bool, true, false, cond}
@@ -21,7 +21,7 @@ use Rattle.postman.specs.Laws.Distance.{InPlan}
 use Rattle.postman.specs.Laws.Lists.{map-cong, map-map, select-map, select-flatMap, flatMap-cong}
 use Rattle.postman.specs.Laws.Selection.{select-none}
 use Rattle.small_counts.specs.Recursion.{merged, countTrees}
-use Rattle.small_counts.specs.Arrival.{renamed, isTree}
+use Rattle.small_counts.specs.Arrival.{renamed, formTree}
 use Rattle.small_counts.specs.Laws.Arrival.{renamed-moved, renamed-same}
 use Rattle.small_counts.specs.Laws.Choices.{passing, passing-map, choices-map}
 use Rattle.small_counts.specs.Laws.Recursion.{entriesIn, AreInside, occurrences-renamed, count-cong, alike, never, counts}
@@ -50,9 +50,11 @@ module _ (p : Plan) (ok : InPlan p) (some : 1 ≤ componentCount p) where
         subst⁻¹ (λ z. List·Memᴰ z (0 ∷ left a)) (r .2) (named (component p (r .0 .tail)) (source-lt q (r .0) (r .1)))
 
   -- choices of links are choices of sources
-  chosen-sources : (names : ℕ → ℕ) (vs : List ℕ) {t : List Link} → List·Memᴰ t (choices (map (candidates p) vs)) → List·Memᴰ (map (sourceBy p names) t) (choices (map (sourcesBy p names) vs))
+  chosen-sources : (names : ℕ → ℕ) (vs : List ℕ) {t : List Link} → List·Memᴰ t (choices (map (candidates p) vs))
+      → List·Memᴰ (map (sourceBy p names) t) (choices (map (sourcesBy p names) vs))
   chosen-sources names vs {t} m =
-      subst (λ (l : List (List ℕ)). List·Memᴰ (map (sourceBy p names) t) l) (sym (choices-map (sourceBy p names) (map (candidates p) vs)) ∙ ap choices (map-map (map (sourceBy p names)) (candidates p) vs))
+      subst (λ (l : List (List ℕ)). List·Memᴰ (map (sourceBy p names) t) l)
+      (sym (choices-map (sourceBy p names) (map (candidates p) vs)) ∙ ap choices (map-map (map (sourceBy p names)) (candidates p) vs))
       (mem-map (map (sourceBy p names)) m)
 
   -- ---- one component more is chosen for
@@ -69,7 +71,7 @@ module _ (p : Plan) (ok : InPlan p) (some : 1 ≤ componentCount p) where
     left-first = let e : k - a ≡ suc n = omega arith in ap (upFrom a) e
 
     abbrev test : List Link → Bool
-    test t = isTree k a (map (sourceBy p names) t)
+    test t = formTree k a (map (sourceBy p names) t)
 
     inside : AreInside (sourcesBy p names) (a ∷ upFrom (suc a) n)
     inside = subst (AreInside (sourcesBy p names)) left-first (named-inside names a named)
@@ -84,12 +86,17 @@ module _ (p : Plan) (ok : InPlan p) (some : 1 ≤ componentCount p) where
         | yes d ↦
             select-none test (map (λ t. l ∷ t) (choices (map (candidates p) (upFrom (suc a) n)))) (λ t g.
             let r = map-mem (λ (t : List Link). l ∷ t) (choices (map (candidates p) (upFrom (suc a) n))) g in
-            ap test (r .2) ∙ never k a n one size (sourcesBy p names) inside x (mem-map (sourceBy p names) m) (map (sourceBy p names) (r .0)) (chosen-sources names (upFrom (suc a) n) (r .1)) d)
-            ∙ sym (ap (λ b. cond b [] (map (λ t. l ∷ t) (completions p (renamedBy names a x) (suc a)))) (is-true {b = eqb x a} (eqb-same d)))
+            ap test (r .2)
+            ∙ never k a n one size (sourcesBy p names) inside x (mem-map (sourceBy p names) m) (map (sourceBy p names) (r .0))
+            (chosen-sources names (upFrom (suc a) n) (r .1)) d)
+            ∙ sym (ap (λ b. cond b [] (map (λ t. l ∷ t) (completions p (renamedBy names a x) (suc a))))
+            (is-true {b = eqb x a} (eqb-same d)))
         | no d ↦
-            select-map test (λ t. isTree k (suc a) (map (sourceBy p (renamedBy names a x)) t)) (λ t. l ∷ t) (choices (map (candidates p) (upFrom (suc a) n))) (λ t g.
-            alike k a n one size (sourcesBy p names) inside x (mem-map (sourceBy p names) m) (map (sourceBy p names) t) (chosen-sources names (upFrom (suc a) n) g) d
-            ∙ ap (isTree k (suc a)) (map-map (renamed a x) (sourceBy p names) t))
+            select-map test (λ t. formTree k (suc a) (map (sourceBy p (renamedBy names a x)) t)) (λ t. l ∷ t)
+            (choices (map (candidates p) (upFrom (suc a) n))) (λ t g.
+            alike k a n one size (sourcesBy p names) inside x (mem-map (sourceBy p names) m) (map (sourceBy p names) t)
+            (chosen-sources names (upFrom (suc a) n) g) d
+            ∙ ap (formTree k (suc a)) (map-map (renamed a x) (sourceBy p names) t))
             ∙ sym (ap (λ b. cond b [] (map (λ t. l ∷ t) (completions p (renamedBy names a x) (suc a)))) (ne-eqb x a d))
       ]
 
@@ -99,16 +106,23 @@ module _ (p : Plan) (ok : InPlan p) (some : 1 ≤ componentCount p) where
     completions-step =
         ap (λ (vs : List ℕ). select test (choices (map (candidates p) vs))) left-first
         ∙ select-flatMap (λ (l : Link). map (λ t. l ∷ t) (choices (map (candidates p) (upFrom (suc a) n)))) test (candidates p a)
-        ∙ flatMap-cong (λ (l : Link). select test (map (λ t. l ∷ t) (choices (map (candidates p) (upFrom (suc a) n))))) (entered p names a) (candidates p a) entered-is
+        ∙ flatMap-cong (λ (l : Link). select test (map (λ t. l ∷ t) (choices (map (candidates p) (upFrom (suc a) n))))) (entered p names a)
+        (candidates p a) entered-is
 
     -- the names stay names
-    pub still-named : (l : Link) → List·Memᴰ l (candidates p a) → sourceBy p names l ≢ a → Named p (renamedBy names a (sourceBy p names l)) (suc a)
+    pub still-named : (l : Link) → List·Memᴰ l (candidates p a) → sourceBy p names l ≢ a
+        → Named p (renamedBy names a (sourceBy p names l)) (suc a)
     still-named l m o c b = without (named c b)
       where
         apart : (z : ℕ) → z ≢ a → List·Memᴰ z (0 ∷ left a) → List·Memᴰ z (0 ∷ upFrom (suc a) n)
         apart z d g = elim (List·Memᴰ·cases-cons g) [
           | inl e ↦ List·Memᴰ·head e
-          | inr t ↦ elim (List·Memᴰ·cases-cons (subst (λ (vs : List ℕ). List·Memᴰ z vs) left-first t)) [ inl e ↦ absurd (d e) | inr u ↦ List·Memᴰ·tail u ]
+          | inr t ↦ elim
+              (List·Memᴰ·cases-cons (subst (λ (vs : List ℕ). List·Memᴰ z vs) left-first t)) [
+                | inl e ↦ absurd (d e)
+                | inr u ↦
+                    List·Memᴰ·tail u
+              ]
         ]
 
         without : List·Memᴰ (names c) (0 ∷ left a) → List·Memᴰ (renamed a (sourceBy p names l) (names c)) (0 ∷ upFrom (suc a) n)
@@ -120,23 +134,33 @@ module _ (p : Plan) (ok : InPlan p) (some : 1 ≤ componentCount p) where
 
   -- ---- how many they are
 
-  pub completions-count : (names : ℕ → ℕ) (a : ℕ) → 1 ≤ a → a ≤ k → Named p names a → length (completions p names a) ≡ countTrees (entriesIn (sourcesBy p names)) (left a)
+  pub completions-count : (names : ℕ → ℕ) (a : ℕ) → 1 ≤ a → a ≤ k → Named p names a
+      → length (completions p names a) ≡ countTrees (entriesIn (sourcesBy p names)) (left a)
   unfolding completions leftChoices passing
   completions-count names a one more named =
-      sym (passing-map (isTree k a) (map (sourceBy p names)) (choices (map (candidates p) (left a))))
-      ∙ ap (passing (isTree k a)) (sym (choices-map (sourceBy p names) (map (candidates p) (left a))) ∙ ap choices (map-map (map (sourceBy p names)) (candidates p) (left a)))
+      sym (passing-map (formTree k a) (map (sourceBy p names)) (choices (map (candidates p) (left a))))
+      ∙ ap (passing (formTree k a))
+      (sym (choices-map (sourceBy p names) (map (candidates p) (left a)))
+      ∙ ap choices (map-map (map (sourceBy p names)) (candidates p) (left a)))
       ∙ counts k (k - a) a one (omega arith) (sourcesBy p names) (named-inside names a named)
 
   -- those behind one candidate
-  module _ (names : ℕ → ℕ) (a : ℕ) (one : 1 ≤ a) (more : a < k) (named : Named p names a) (l : Link) (m : List·Memᴰ l (candidates p a)) where
+  module _ (names : ℕ → ℕ) (a : ℕ) (one : 1 ≤ a) (more : a < k) (named : Named p names a) (l : Link)
+      (m : List·Memᴰ l (candidates p a)) where
     pub entered-none : sourceBy p names l ≡ a → entered p names a l ≡ []
-    entered-none e = ap (λ b. cond b [] (map (λ t. l ∷ t) (completions p (renamedBy names a (sourceBy p names l)) (suc a)))) (is-true {b = eqb (sourceBy p names l) a} (eqb-same e))
+    entered-none e =
+        ap (λ b. cond b [] (map (λ t. l ∷ t) (completions p (renamedBy names a (sourceBy p names l)) (suc a))))
+        (is-true {b = eqb (sourceBy p names l) a} (eqb-same e))
 
-    pub entered-some : sourceBy p names l ≢ a → entered p names a l ≡ map (λ t. l ∷ t) (completions p (renamedBy names a (sourceBy p names l)) (suc a))
-    entered-some o = ap (λ b. cond b [] (map (λ t. l ∷ t) (completions p (renamedBy names a (sourceBy p names l)) (suc a)))) (ne-eqb (sourceBy p names l) a o)
+    pub entered-some : sourceBy p names l ≢ a
+        → entered p names a l ≡ map (λ t. l ∷ t) (completions p (renamedBy names a (sourceBy p names l)) (suc a))
+    entered-some o =
+        ap (λ b. cond b [] (map (λ t. l ∷ t) (completions p (renamedBy names a (sourceBy p names l)) (suc a))))
+        (ne-eqb (sourceBy p names l) a o)
 
     -- their number, where component a becomes one with x
-    pub entered-count : sourceBy p names l ≢ a → length (entered p names a l) ≡ countTrees (merged (entriesIn (sourcesBy p names)) a (sourceBy p names l)) (left (suc a))
+    pub entered-count : sourceBy p names l ≢ a
+        → length (entered p names a l) ≡ countTrees (merged (entriesIn (sourcesBy p names)) a (sourceBy p names l)) (left (suc a))
     unfolding entriesIn merged
     entered-count o =
         let x = sourceBy p names l in
@@ -144,21 +168,27 @@ module _ (p : Plan) (ok : InPlan p) (some : 1 ≤ componentCount p) where
         ap length (entered-some o) ∙ length-map (completions p (renamedBy names a x) (suc a)) (λ t. l ∷ t)
         ∙ completions-count (renamedBy names a x) (suc a) (omega arith) (omega arith) new
         ∙ count-cong (left (suc a)) (entriesIn (sourcesBy p (renamedBy names a x))) (merged (entriesIn (sourcesBy p names)) a x) (λ q y b c.
-        ap (occurrences y) (sym (map-map (renamed a x) (sourceBy p names) (candidates p q))) ∙ occurrences-renamed a x y o (not-a y c) (sourcesBy p names q))
+        ap (occurrences y) (sym (map-map (renamed a x) (sourceBy p names) (candidates p q)))
+        ∙ occurrences-renamed a x y o (not-a y c) (sourcesBy p names q))
       where
         not-a : (y : ℕ) → List·Memᴰ y (0 ∷ left (suc a)) → y ≢ a
-        not-a y g d = elim (List·Memᴰ·cases-cons g) [ inl z ↦ omega arith | inr b ↦ (let c = upFrom-mem (suc a) (k - suc a) b in omega arith) ]
+        not-a y g d =
+            elim (List·Memᴰ·cases-cons g) [ inl z ↦ omega arith | inr b ↦ (let c = upFrom-mem (suc a) (k - suc a) b in omega arith) ]
 
   -- names that agree
-  pub completions-cong : (names other : ℕ → ℕ) (a : ℕ) → ((c : ℕ) → c < k → names c ≡ other c) → completions p names a ≡ completions p other a
+  pub completions-cong : (names other : ℕ → ℕ) (a : ℕ) → ((c : ℕ) → c < k → names c ≡ other c)
+      → completions p names a ≡ completions p other a
   unfolding completions leftChoices
   completions-cong names other a h =
-      select-cong (λ t. isTree k a (map (sourceBy p names) t)) (λ t. isTree k a (map (sourceBy p other) t)) (choices (map (candidates p) (left a))) (λ t m.
-      ap (isTree k a) (map-cong (sourceBy p names) (sourceBy p other) t (λ l n.
+      select-cong (λ t. formTree k a (map (sourceBy p names) t)) (λ t. formTree k a (map (sourceBy p other) t))
+      (choices (map (candidates p) (left a))) (λ t m.
+      ap (formTree k a) (map-cong (sourceBy p names) (sourceBy p other) t (λ l n.
       let c = choices-mem noLink (candidates p) a (k - a) m in
       let r = mem-getD noLink n in
       let size = c .0 in
-      h (component p (l .tail)) (subst (λ (x : Link). component p (x .tail) < k) (r .2) (source-lt (a + r .0) (getD t (r .0) noLink) (c .1 (r .0) (let b = r .1 in omega arith)))))))
+      h (component p (l .tail))
+      (subst (λ (x : Link). component p (x .tail) < k) (r .2)
+      (source-lt (a + r .0) (getD t (r .0) noLink) (c .1 (r .0) (let b = r .1 in omega arith)))))))
 
   -- ---- the last component is chosen for
 
@@ -166,9 +196,10 @@ module _ (p : Plan) (ok : InPlan p) (some : 1 ≤ componentCount p) where
   unfolding completions leftChoices choices upFrom select countTrees
   completions-last names a e named =
       let z : k - a ≡ 0 = omega arith in
-      let h = completions-count names a (omega arith) (omega arith) named ∙ ap (λ n. countTrees (entriesIn (sourcesBy p names)) (upFrom a n)) z in
-      let g = ap (λ n. select (λ t. isTree k a (map (sourceBy p names) t)) (choices (map (candidates p) (upFrom a n)))) z in
-      g ∙ one (isTree k a []) (sym (ap length g) ∙ h)
+      let h = completions-count names a (omega arith) (omega arith) named
+      ∙ ap (λ n. countTrees (entriesIn (sourcesBy p names)) (upFrom a n)) z in
+      let g = ap (λ n. select (λ t. formTree k a (map (sourceBy p names) t)) (choices (map (candidates p) (upFrom a n)))) z in
+      g ∙ one (formTree k a []) (sym (ap length g) ∙ h)
     where
       none : List Link
       none = []
@@ -181,4 +212,6 @@ module _ (p : Plan) (ok : InPlan p) (some : 1 ≤ componentCount p) where
 
   pub completions-first : completions p (λ c. c) 1 ≡ arborescences p
   unfolding completions leftChoices arborescences
-  completions-first = sym (select-cong _ (λ t. isTree k 1 (map (sourceBy p (λ c. c)) t)) (choices (map (candidates p) (upFrom 1 (k - 1)))) (λ t m. plan.alike p ok some t m))
+  completions-first =
+      sym (select-cong _ (λ t. formTree k 1 (map (sourceBy p (λ c. c)) t)) (choices (map (candidates p) (upFrom 1 (k - 1))))
+      (λ t m. plan.alike p ok some t m))

@@ -12,7 +12,8 @@ module _ (u vs : List ℕ) where
   pub levelled-start : (w : List ℕ) → length w ≡ 64 → ((v : ℕ) → getD w v 0 ≡ 0) → AreLevelled u vs 0 w
   levelled-start w l z = record { size = l; each = λ k b. absurd (omega arith); low = λ v. (let e = z v in omega arith) }
 
-  pub levelled-more : (n : ℕ) (w : List ℕ) (r : ℕ) → AreLevelled u vs n w → getD vs n 0 < 64 → r + getD u (getD vs 0 0) 0 ≡ getD u (getD vs n 0) 0 + 4128705 → r ≤ 8257410
+  pub levelled-more : (n : ℕ) (w : List ℕ) (r : ℕ) → AreLevelled u vs n w → getD vs n 0 < 64
+      → r + getD u (getD vs 0 0) 0 ≡ getD u (getD vs n 0) 0 + 4128705 → r ≤ 8257410
       → AreLevelled u vs (n + 1) (set w (getD vs n 0) r)
   levelled-more n w r h b e l = record {
     size = length-set w (getD vs n 0) r ∙ h .size;
@@ -27,7 +28,8 @@ module _ (u vs : List ℕ) where
           omega arith
     ];
     low = λ v. elim (ℕ-discrete v (getD vs n 0)) [
-      | yes s ↦ (let g = ap (λ v. getD (set w (getD vs n 0) r) v 0) s ∙ getD-set-same w (getD vs n 0) r 0 (let m = h .size in omega arith) in omega arith)
+      | yes s ↦ (let g =
+          ap (λ v. getD (set w (getD vs n 0) r) v 0) s ∙ getD-set-same w (getD vs n 0) r 0 (let m = h .size in omega arith) in omega arith)
       | no o ↦ (let g = getD-set-other w (getD vs n 0) v r 0 o in let a = h .low v in omega arith)
     ];
   }

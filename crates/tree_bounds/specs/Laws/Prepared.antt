@@ -1,5 +1,5 @@
--- For a prepared plan: the table's distances are the plan's, the places of a component's candidates in the arrays are those of its links, and links chosen for components join
--- required vertices.
+-- For a prepared plan: the table's distances are the plan's, the places of a component's candidates in the arrays are those of its links,
+-- and links chosen for components join required vertices.
 use mathlib.Core.Path.{_≡_, refl, ap, _∙_, subst}
 use mathlib.Core.List.{List, [], _∷_, map, List·Memᴰ, List·Memᴰ·head, List·Memᴰ·tail}
 use Prim.Native.Nat.{ℕ, suc, _+_, _*_, _-_, _≤_, _<_}
@@ -16,11 +16,10 @@ use Rattle.postman.specs.Arborescence.{linkAt, candidates}
 use Rattle.postman.specs.Laws.Tests.{cond-ind}
 use Rattle.postman.specs.Laws.Distance.{InPlan, bounded}
 use Rattle.postman.specs.Laws.Required.{required-lt}
-use Rattle.postman.specs.Steps.{Joins}
+use Rattle.postman.specs.Steps.{Joins, cell}
 use Rattle.postman.specs.Laws.Membership.{getD-mem, mem-getD, choices-mem}
 use Rattle.postman.specs.Laws.Link.{link-ends}
 use Rattle.postman.specs.Laws.Arborescence.{candidates-mem}
-use Rattle.residual_search.specs.Step.{cell}
 use Rattle.balance.specs.Invariant.{Metric}
 use Rattle.direct_amounts.specs.Laws.Plan.{table-metric}
 use Rattle.tree_bounds.specs.Branch.{leftChoices}
@@ -28,14 +27,16 @@ use Rattle.tree_bounds.specs.Prepared.{Prepared}
 
 -- ---- R is small
 
-sum-select : (xs : List Arc) → ((a : Arc) → List·Memᴰ a xs → a .service ≤ 65535) → sumOf (map (λ a. a .service) (select isRequiredArc xs)) ≤ length xs * 65535
+sum-select : (xs : List Arc) → ((a : Arc) → List·Memᴰ a xs → a .service ≤ 65535)
+    → sumOf (map (λ a. a .service) (select isRequiredArc xs)) ≤ length xs * 65535
 unfolding sumOf select
 sum-select [] h = omega arith
 sum-select (x ∷ xs) h =
     let i = sum-select xs (λ a m. h a (List·Memᴰ·tail m)) in
     let b = h x (List·Memᴰ·head refl) in
     let e = suc-mul (length xs) 65535 in
-    cond-ind (isRequiredArc x) (x ∷ select isRequiredArc xs) (select isRequiredArc xs) (λ l. sumOf (map (λ a. a .service) l) ≤ suc (length xs) * 65535)
+    cond-ind (isRequiredArc x) (x ∷ select isRequiredArc xs) (select isRequiredArc xs)
+    (λ l. sumOf (map (λ a. a .service) l) ≤ suc (length xs) * 65535)
     (λ t. omega arith) (λ t. omega arith)
 
 pub required-small : (p : Plan) → WellFormed p → requiredCost p ≤ 16776960
@@ -51,7 +52,8 @@ abbrev noLink : Link
 noLink = record { tail = 0; head = 0 }
 
 module _ (p : Plan) where
-  pub candidate-ends : (q : ℕ) (l : Link) → List·Memᴰ l (candidates p q) → List·Memᴰ (l .tail) (required p) × List·Memᴰ (l .head) (required p)
+  pub candidate-ends : (q : ℕ) (l : Link) → List·Memᴰ l (candidates p q)
+      → List·Memᴰ (l .tail) (required p) × List·Memᴰ (l .head) (required p)
   candidate-ends q l m = link-ends p (candidates-mem p q m .is-link)
 
   pub left-joins : (a : ℕ) (t : List Link) → List·Memᴰ t (leftChoices p a) → Joins p t
@@ -60,11 +62,13 @@ module _ (p : Plan) where
       let c = choices-mem noLink (candidates p) a (componentCount p - a) m in
       let r = mem-getD noLink n in
       let size = c .0 in
-      subst (λ (x : Link). List·Memᴰ (x .tail) (required p) × List·Memᴰ (x .head) (required p)) (r .2) (candidate-ends (a + r .0) (getD t (r .0) noLink) (c .1 (r .0) (let b = r .1 in omega arith)))
+      subst (λ (x : Link). List·Memᴰ (x .tail) (required p) × List·Memᴰ (x .head) (required p)) (r .2)
+      (candidate-ends (a + r .0) (getD t (r .0) noLink) (c .1 (r .0) (let b = r .1 in omega arith)))
 
 -- ---- a prepared plan
 
-module _ {p : Plan} {table : List (List ℕ)} {vs start source tails heads : List ℕ} {k : ℕ} (h : Prepared p table vs start source tails heads k) where
+module _ {p : Plan} {table : List (List ℕ)} {vs start source tails heads : List ℕ} {k : ℕ}
+    (h : Prepared p table vs start source tails heads k) where
   pub in-plan : InPlan p
   in-plan = bounded (h .plannable .well-formed) .ends
 
@@ -105,5 +109,11 @@ module _ {p : Plan} {table : List (List ℕ)} {vs start source tails heads : Lis
   place-of q one few l m =
       let r = mem-getD noLink m in
       let e = h .ends q (r .0) one few (r .1) in
-      let b = places q one few in
-      (getD start q 0 + r .0, omega arith, (let c = r .1 in omega arith), e .0 ∙ ap (λ (x : Link). x .tail) (r .2), e .1 ∙ ap (λ (x : Link). x .head) (r .2))
+      let b = places q one few in (
+        getD start q 0 + r .0,
+        omega arith,
+        (let c = r .1 in omega arith),
+        e .0 ∙ ap (λ (x : Link). x .tail) (r .2),
+        e .1
+            ∙ ap (λ (x : Link). x .head) (r .2),
+      )

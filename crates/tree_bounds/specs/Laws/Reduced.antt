@@ -1,4 +1,5 @@
--- A multiplier that is raised is not negative and small, so that it can be read back from a cast; and the multipliers are raised one after the other.
+-- A multiplier that is raised is not negative and small, so that it can be read back from a cast; and the
+-- multipliers are raised one after the other.
 use mathlib.Core.Path.{_≡_, sym, ap, _∙_, subst⁻¹}
 use mathlib.Core.List.{List}
 use Prim.Native.Nat.{ℕ, _+_, _≤_, _<_}
@@ -33,7 +34,8 @@ module _ (u : List ℤ) (vs : List ℕ) where
   pub shifted-start : (w : List ℕ) → length w ≡ 64 → ((v : ℕ) → getD w v 0 ≡ 0) → AreShifted u vs 0 w
   shifted-start w l z = record { size = l; each = λ k b. absurd (omega arith); low = λ v. (let e = z v in omega arith) }
 
-  pub shifted-more : (n : ℕ) (w : List ℕ) (r : ℕ) → AreShifted u vs n w → getD vs n 0 < 64 → pos r ≡ getD u (getD vs n 0) (pos 0) -ℤ getD u (getD vs 0 0) (pos 0) +ℤ pos 4128705 → r ≤ 8257410
+  pub shifted-more : (n : ℕ) (w : List ℕ) (r : ℕ) → AreShifted u vs n w → getD vs n 0 < 64
+      → pos r ≡ getD u (getD vs n 0) (pos 0) -ℤ getD u (getD vs 0 0) (pos 0) +ℤ pos 4128705 → r ≤ 8257410
       → AreShifted u vs (n + 1) (set w (getD vs n 0) r)
   shifted-more n w r h b e l = record {
     size = length-set w (getD vs n 0) r ∙ h .size;
@@ -41,10 +43,12 @@ module _ (u : List ℤ) (vs : List ℕ) where
       | yes s ↦
           ap pos (ap (λ v. getD (set w (getD vs n 0) r) v 0) s ∙ getD-set-same w (getD vs n 0) r 0 (let m = h .size in omega arith)) ∙ e
           ∙ ap (λ v. getD u v (pos 0) -ℤ getD u (getD vs 0 0) (pos 0) +ℤ pos 4128705) (sym s)
-      | no o ↦ ap pos (getD-set-other w (getD vs n 0) (getD vs k 0) r 0 o) ∙ h .each k (elim (ℕ-discrete k n) [ yes s ↦ absurd (o (ap (λ i. getD vs i 0) s)) | no d ↦ omega arith ])
+      | no o ↦ ap pos (getD-set-other w (getD vs n 0) (getD vs k 0) r 0 o)
+          ∙ h .each k (elim (ℕ-discrete k n) [ yes s ↦ absurd (o (ap (λ i. getD vs i 0) s)) | no d ↦ omega arith ])
     ];
     low = λ v. elim (ℕ-discrete v (getD vs n 0)) [
-      | yes s ↦ (let g = ap (λ v. getD (set w (getD vs n 0) r) v 0) s ∙ getD-set-same w (getD vs n 0) r 0 (let m = h .size in omega arith) in omega arith)
+      | yes s ↦ (let g =
+          ap (λ v. getD (set w (getD vs n 0) r) v 0) s ∙ getD-set-same w (getD vs n 0) r 0 (let m = h .size in omega arith) in omega arith)
       | no o ↦ (let g = getD-set-other w (getD vs n 0) v r 0 o in let a = h .low v in omega arith)
     ];
   }

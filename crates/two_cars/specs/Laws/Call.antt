@@ -1,4 +1,5 @@
--- One car, from the file on: its tables are the file's, its refusals are the file's and then its own, and what is answered for its plan is its contract.
+-- One car, from the file on: its tables are the file's, its refusals are the file's and then its own, and
+-- what is answered for its plan is its contract.
 use mathlib.Core.Path.{_≡_, refl, sym, ap, _∙_, subst}
 use mathlib.Core.Bool.{true, false}
 use mathlib.Core.List.{List, _++_, map}
@@ -11,7 +12,7 @@ use Rattle.postman.specs.Refusal.{firstRefusal}
 use Rattle.postman.specs.PlanFile.{fileConditions, planOf}
 use Rattle.postman.specs.PlanCall.{callConditions, lastConditions}
 use Rattle.postman.specs.Marks.{hasBadMark, carPlan, markConditions, earlierConditionsFor, carRefusal}
-use Rattle.postman.specs.Theorem.{last-cut-off}
+use Rattle.postman.specs.Laws.Theorem.{last-cut-off}
 use Rattle.postman.specs.Laws.Refusal.{first-on, first-stop}
 use Rattle.postman.specs.Laws.Marks.{car-roads, car-table, car-conditions, car-other, earlier-accepted-for, car-order}
 use Rattle.shortest.specs.Contracts.{AreWeights}
@@ -63,11 +64,13 @@ module _ (bytes marks : List ℕ) (budget : ℕ) (old new : List ℕ) (r : Plann
   is-car i =
       let sure = earlier-accepted-for bytes budget (length old) marks in
       let e = car-conditions bytes budget (length old) marks in
-      let c = last-cut-off (earlierConditionsFor bytes budget (length old) marks) car (car-other bytes budget (length old) marks) (λ h. (sure h .well-formed, sure h .before .some-required)) in
+      let c = last-cut-off (earlierConditionsFor bytes budget (length old) marks) car (car-other bytes budget (length old) marks)
+      (λ h. (sure h .well-formed, sure h .before .some-required)) in
       record { planned = i; cut-off = ((λ h. c .0 (sym e ∙ sym (i .verdict) ∙ h)), (λ h. i .verdict ∙ e ∙ c .1 h)) }
 
   -- a file that is refused refuses the car
-  pub file-refused-for : (x : Refusal) → r ≡ refusedWith x → old ≡ new → firstRefusal (fileConditions bytes) ≡ some (refusalNumber x) → Called
+  pub file-refused-for : (x : Refusal) → r ≡ refusedWith x → old ≡ new → firstRefusal (fileConditions bytes) ≡ some (refusalNumber x)
+      → Called
   file-refused-for x h s e =
       subst (λ (new : List ℕ). IsPlanned car budget (carRefusal bytes budget (length old) marks) old new r) s
       (refused-planned car budget _ old x r h (car-order bytes budget (length old) marks ∙ first-stop (fileConditions bytes) _ _ e))
@@ -75,11 +78,14 @@ module _ (bytes marks : List ℕ) (budget : ℕ) (old new : List ℕ) (r : Plann
   -- one that is not gives its plan
   pub read-planned-for : (x : Reading) → IsReading bytes x → firstRefusal (fileConditions bytes) ≡ none
       → IsPlanned (carPlan (planValue (x .plan)) marks) budget
-      (firstRefusal (callConditions budget (length old) ++ (markConditions (planValue (x .plan)) marks ++ lastConditions (carPlan (planValue (x .plan)) marks)))) old new r
+      (firstRefusal
+      (callConditions budget (length old)
+      ++ (markConditions (planValue (x .plan)) marks ++ lastConditions (carPlan (planValue (x .plan)) marks)))) old new r
       → Called
   read-planned-for x h e i =
       let v = accepted-value bytes x h e in
       planned-as _ car budget _ _ old new r (ap (λ (p : Plan). carPlan p marks) v)
-      (ap (λ (p : Plan). firstRefusal (callConditions budget (length old) ++ (markConditions p marks ++ lastConditions (carPlan p marks)))) v
+      (ap (λ (p : Plan). firstRefusal
+      (callConditions budget (length old) ++ (markConditions p marks ++ lastConditions (carPlan p marks)))) v
       ∙ sym (car-order bytes budget (length old) marks ∙ first-on (fileConditions bytes) _ e))
       i

@@ -1,4 +1,5 @@
--- The verdict of the windows is the first of their conditions that applies. From the contract over the plan at the departure, what is said of the file's plan: its tours are those that avoid the arcs shut, at equal costs.
+-- The verdict of the windows is the first of their conditions that applies. From the contract over the plan at the departure, what is said
+-- of the file's plan: its tours are those that avoid the arcs shut, at equal costs.
 use mathlib.Core.Path.{_≡_, refl, sym, ap, _∙_, subst}
 use mathlib.Core.List.{List, _++_}
 use mathlib.Core.Bool.{Bool, true, false, not, cond}
@@ -14,7 +15,7 @@ use Rattle.postman.specs.PlanFile.{fileConditions, planOf}
 use Rattle.postman.specs.PlanCall.{callConditions, lastConditions}
 use Rattle.postman.specs.Tour.{IsTour, tourCost}
 use Rattle.postman.specs.Windows.{Departure, windowsIn, planAt, Avoids, hasBadWindow, isMustShut, windowConditions, callRefusalAt}
-use Rattle.postman.specs.Theorem.{cut-off-at}
+use Rattle.postman.specs.Laws.Theorem.{cut-off-at}
 use Rattle.postman.specs.Laws.Refusal.{first-on, first-stop}
 use Rattle.postman.specs.Laws.Windows.{tours, same-tour-cost, call-accepted-at, at-order}
 use Rattle.plan.specs.Records.{planValue}
@@ -72,14 +73,17 @@ module _ (bytes : List ℕ) (budget : ℕ) (numbers : List ℕ) (d : Departure) 
 
     floor-below : (w : List ℕ) → IsTour p w → Avoids (windowsIn numbers) d w → r .floor ≤ℤ pos (tourCost p w)
     floor-below w t a =
-        let l = i .answered (accepted _ _ _ _ _ _ i e) .guarantee .below-every-tour w (tours p (windowsIn numbers) d open-must w .1 (t, a)) in
+        let l = i .answered (accepted _ _ _ _ _ _ i e) .guarantee .below-every-tour w
+        (tours p (windowsIn numbers) d open-must w .1 (t, a)) in
         subst (λ c. r .floor ≤ℤ pos c) (same-tour-cost p (windowsIn numbers) d open-must w) (rw (floor-is _ _ _ _ _ _ i e) l)
 
     written-is : IsTour p (take (r .places) new) × Avoids (windowsIn numbers) d (take (r .places) new)
     written-is = tours p (windowsIn numbers) d open-must (take (r .places) new) .0 (tour-written _ _ _ _ _ _ i e .tour)
 
     written-costs : tourCost p (take (r .places) new) ≡ r .cost
-    written-costs = sym (same-tour-cost p (windowsIn numbers) d open-must (take (r .places) new)) ∙ tour-written _ _ _ _ _ _ i e .costs ∙ sym (cost-is _ _ _ _ _ _ i e)
+    written-costs =
+        sym (same-tour-cost p (windowsIn numbers) d open-must (take (r .places) new)) ∙ tour-written _ _ _ _ _ _ i e .costs
+        ∙ sym (cost-is _ _ _ _ _ _ i e)
 
   pub is-call-at : Called → IsPlanCallAt bytes budget numbers d old new r
   is-call-at i =
@@ -94,7 +98,8 @@ module _ (bytes : List ℕ) (budget : ℕ) (numbers : List ℕ) (d : Departure) 
       }
 
   -- a file that is refused refuses the call
-  pub file-refused-at : (x : Refusal) → r ≡ refusedWith x → old ≡ new → firstRefusal (fileConditions bytes) ≡ some (refusalNumber x) → Called
+  pub file-refused-at : (x : Refusal) → r ≡ refusedWith x → old ≡ new → firstRefusal (fileConditions bytes) ≡ some (refusalNumber x)
+      → Called
   file-refused-at x h s e =
       subst (λ (new : List ℕ). IsPlanned q budget (callRefusalAt bytes budget (length old) numbers d) old new r) s
       (refused-planned q budget _ old x r h (at-order bytes budget (length old) numbers d ∙ first-stop (fileConditions bytes) _ _ e))
@@ -111,6 +116,7 @@ module _ (bytes : List ℕ) (budget : ℕ) (numbers : List ℕ) (d : Departure) 
       let v = accepted-value bytes x h e in
       planned-as _ q budget _ _ old new r (ap (λ (p : Plan). planAt p (windowsIn numbers) d) v)
       (ap
-      (λ (p : Plan). firstRefusal (callConditions budget (length old) ++ (windowConditions p numbers d ++ lastConditions (planAt p (windowsIn numbers) d)))) v
+      (λ (p : Plan). firstRefusal
+      (callConditions budget (length old) ++ (windowConditions p numbers d ++ lastConditions (planAt p (windowsIn numbers) d)))) v
       ∙ sym (at-order bytes budget (length old) numbers d ∙ first-on (fileConditions bytes) _ e))
       i

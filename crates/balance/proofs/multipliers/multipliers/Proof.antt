@@ -5,7 +5,8 @@ use Prim.Native.Nat.{ℕ}
 use native.Mathlib.Omega.{arith}
 use Rattle.residual_search.specs.Bounds.{AtMost}
 use Rattle.residual_search.specs.Search.{Found, beyond}
-use Rattle.residual_search.specs.Step.{cell, residualLength}
+use Rattle.postman.specs.Steps.{cell}
+use Rattle.residual_search.specs.Step.{residualLength}
 use Rattle.balance.specs.Multipliers.{fromRoot, ways, multipliers as greatest}
 use Rattle.balance.specs.Records.{stateOf}
 use Rattle.balance.specs.Laws.Step.{vertices-small, levels-small, residual-ground}

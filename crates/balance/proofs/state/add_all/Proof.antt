@@ -3,7 +3,8 @@ use mathlib.Core.Path.{_≡_, refl, sym, ap, _∙_, subst⁻¹}
 use Prim.Native.Nat.{_+_, _≤_, _-_}
 use native.Mathlib.Omega.{arith}
 use lib.ListN.{length, getD, drop}
-use Rattle.residual_search.specs.Step.{State, cell, stateIn, addAll, arcsOf}
+use Rattle.postman.specs.Steps.{cell}
+use Rattle.residual_search.specs.Step.{State, stateIn, addAll, arcsOf}
 use Rattle.balance.specs.Invariant.{Certified}
 use Rattle.balance.specs.Laws.Step.{add-certified}
 use Rattle.residual_search.specs.Laws.Turns.{all-more, all-end, counted}

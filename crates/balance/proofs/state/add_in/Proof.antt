@@ -1,5 +1,6 @@
 -- The way is the price's, and the laws of the step give what the unit asks. Assumes nothing.
-use Rattle.residual_search.specs.Step.{cell, stateIn}
+use Rattle.postman.specs.Steps.{cell}
+use Rattle.residual_search.specs.Step.{stateIn}
 use Rattle.balance.specs.Laws.Step.{amounts-small, add-made}
 use borrow.Author.Needs.{needs}
 use Rattle.balance.proofs.state.add_in.Statement.{statement}

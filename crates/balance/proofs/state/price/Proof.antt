@@ -6,7 +6,8 @@ use native.Mathlib.Omega.{arith}
 use lib.ListN.{length, getD}
 use lib.Dec.{eqb}
 use Rattle.postman.specs.Laws.Tests.{cond-ind}
-use Rattle.residual_search.specs.Step.{cell, stateIn}
+use Rattle.postman.specs.Steps.{cell}
+use Rattle.residual_search.specs.Step.{stateIn}
 use Rattle.balance.specs.Laws.Step.{vertices-small, levels-small, way-found, most-small, sum-small, price-made}
 use borrow.Author.Needs.{needs}
 use Rattle.balance.proofs.state.price.Statement.{statement}

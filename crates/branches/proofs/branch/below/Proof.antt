@@ -2,7 +2,7 @@
 use mathlib.Core.Path.{refl, ap, ap₂, _∙_, subst}
 use Prim.Native.Nat.{_+_, _≤_, _<_}
 use native.Mathlib.Omega.{arith}
-use Rattle.residual_search.specs.Step.{cell}
+use Rattle.postman.specs.Steps.{cell}
 use Rattle.small_counts.specs.Matrix.{IsMerged}
 use Rattle.small_counts.specs.Laws.Matrix.{few-merged}
 use borrow.Author.Needs.{needs}

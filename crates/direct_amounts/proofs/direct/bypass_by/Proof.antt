@@ -2,7 +2,7 @@
 use mathlib.Core.Path.{ap, ap₂, _∙_}
 use Prim.Native.Nat.{ℕ, _+_, _*_, _-_}
 use lib.ListN.{set}
-use Rattle.residual_search.specs.Step.{amount}
+use Rattle.postman.specs.Steps.{amount}
 use Rattle.direct_amounts.specs.Direct.{gained}
 use borrow.Author.Needs.{needs}
 use Rattle.direct_amounts.proofs.direct.bypass_by.Statement.{statement}

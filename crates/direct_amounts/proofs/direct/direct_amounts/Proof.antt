@@ -9,7 +9,7 @@ use Rattle.postman.specs.Laws.Membership.{getD-mem}
 use Rattle.residual_search.specs.Fold.{fold}
 use Rattle.balance.specs.Invariant.{Sparse}
 use Rattle.residual_search.specs.Laws.Fold.{fold-turn}
-use Rattle.residual_search.specs.Step.{cell}
+use Rattle.postman.specs.Steps.{cell}
 use Rattle.balance.specs.Records.{stateOf}
 use Rattle.direct_amounts.specs.Direct.{bypassVertex, direct}
 use Rattle.balance.specs.Laws.Step.{vertices-small}

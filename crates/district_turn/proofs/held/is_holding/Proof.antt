@@ -17,7 +17,7 @@ use Rattle.multipliers.specs.Laws.Solve.{some-component}
 use Rattle.solution.specs.Resumed.{linksBy}
 use Rattle.district_turn.specs.Stint.{isTree}
 use Rattle.district_turn.specs.Laws.Clash.{was-false}
-use Rattle.district_turn.specs.Laws.Tree.{plain}
+use Rattle.tree_check.specs.Laws.Tree.{plain}
 use Rattle.district_turn.specs.Laws.HeldTree.{holds-tree}
 use Rattle.district_turn.specs.Laws.Stint.{tested, holding-first, holding-later, and-first}
 use borrow.Author.Needs.{needs, length-unmapped}

@@ -11,7 +11,7 @@ use Rattle.postman.specs.Component.{componentCount}
 use Rattle.solution.specs.declared.trees.Reached.{Reached}
 use Rattle.district_turn.specs.Stint.{isHolding, soFar}
 use Rattle.district_turn.specs.Laws.Clash.{was-false}
-use Rattle.district_turn.specs.Laws.Tree.{plain}
+use Rattle.tree_check.specs.Laws.Tree.{plain}
 use Rattle.district_turn.specs.Laws.Stint.{and-first, is-stuck, is-going, is-last, none-left, some-left, going-on, at-end, after-tree, after-small, held-after, answered-after, written-after}
 use borrow.Author.Needs.{needs, length-unmapped}
 use Rattle.district_turn.proofs.stint.one_turn.Statement.{statement}

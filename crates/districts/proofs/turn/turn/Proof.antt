@@ -5,7 +5,7 @@ use native.Mathlib.Omega.{arith}
 use lib.ListN.{length, getD, drop}
 use Rattle.postman.specs.PlanCall.{sheetPlaces}
 use Rattle.district_turn.specs.Laws.Clash.{was-false}
-use Rattle.district_turn.specs.Laws.Tree.{plain}
+use Rattle.tree_check.specs.Laws.Tree.{plain}
 use Rattle.district_machine.specs.Machine.{waitingIn, noDistrict}
 use Rattle.districts.specs.Turned.{nobody, shortSheet, stuck}
 use Rattle.district_machine.specs.Laws.Held.{array-length}

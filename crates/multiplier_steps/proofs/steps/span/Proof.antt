@@ -6,7 +6,7 @@ use lib.ListN.{length, getD}
 use Rattle.multiplier_steps.specs.Steps.{span}
 use Rattle.multiplier_steps.specs.Laws.Turns.{turn-at, end}
 use Rattle.multiplier_steps.specs.Turns.{turns}
-use Rattle.residual_search.specs.Step.{cell}
+use Rattle.postman.specs.Steps.{cell}
 use borrow.Author.Needs.{needs}
 use Rattle.multiplier_steps.proofs.steps.span.Statement.{statement}
 use Rattle.multiplier_steps.proofs.steps.span.Tie as tie

@@ -7,7 +7,7 @@ use native.Mathlib.Omega.{arith}
 use borrow.Author.Count.{below-more}
 use borrow.Author.Tests.{eq-eqb, ne-eqb}
 use lib.ListN.{getD}
-use Rattle.network.specs.CutOff.{isMissed, missesSome}
+use Rattle.network.specs.CutOff.{hasNoPath, missesSome}
 use Rattle.required.specs.Laws.Search.{some-below, none-below}
 use Rattle.network.specs.Laws.Thinning.{no-left, no-right, both}
 use borrow.Author.Needs.{needs}
@@ -15,7 +15,7 @@ use Rattle.network.proofs.cut_off.misses.Statement.{statement}
 use Rattle.network.proofs.cut_off.misses.Tie as tie
 
 abbrev Inv-loop : tie.InvT-loop
-Inv-loop d i required j₀ j = (j ≤ 64) × ((k : ℕ) → k < j → isMissed d required i k ≡ false)
+Inv-loop d i required j₀ j = (j ≤ 64) × ((k : ℕ) → k < j → hasNoPath d required i k ≡ false)
 
 abbrev μ-loop : tie.MeasureT-loop
 μ-loop d i required j₀ j = 64 - j
@@ -43,7 +43,7 @@ unfolding missesSome
 returns c =
     let v = c .before .before .before .before in
     let s = v .before .args in
-    sym (some-below (isMissed (s .d .now) (s .t2) (s .i)) 64 (v .loop .j) (omega arith) (both (c .before .before .if1 .taken) (eq-eqb _ 4294967295 (c .if2 .taken))))
+    sym (some-below (hasNoPath (s .d .now) (s .t2) (s .i)) 64 (v .loop .j) (omega arith) (both (c .before .before .if1 .taken) (eq-eqb _ 4294967295 (c .if2 .taken))))
 
 add-j : tie.Need-add-j Inv-loop μ-loop
 add-j c = search needs
@@ -55,11 +55,11 @@ loop-again : tie.Need-loop-again Inv-loop μ-loop
 loop-again c =
     let v = c .before .before in
     let s = v .before .args in
-    let here : isMissed (s .d .now) (s .t2) (s .i) (v .loop .j) ≡ false =
+    let here : hasNoPath (s .d .now) (s .t2) (s .i) (v .loop .j) ≡ false =
     ⊎-elim (λ w. no-right (getD (s .t2) (v .loop .j) false) (ne-eqb _ 4294967295 (w .2 .left))) (λ w. no-left _ (w .left)) (c .if1 .came)
     in (
       omega arith,
-      below-more (λ k. isMissed (s .d .now) (s .t2) (s .i) k ≡ false) (v .loop .j) (v .loop .inv .1)
+      below-more (λ k. hasNoPath (s .d .now) (s .t2) (s .i) k ≡ false) (v .loop .j) (v .loop .inv .1)
           here,
     )
 
@@ -68,7 +68,7 @@ unfolding missesSome
 returns-2 c =
     let v = c .before in
     let s = v .before .args in
-    sym (none-below (isMissed (s .d .now) (s .t2) (s .i)) 64 (λ k l. v .loop .inv .1 k (omega arith)))
+    sym (none-below (hasNoPath (s .d .now) (s .t2) (s .i)) 64 (λ k l. v .loop .inv .1 k (omega arith)))
 
 pub misses-spec : {M : Type 1} → statement M
 misses-spec =

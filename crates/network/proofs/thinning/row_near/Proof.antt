@@ -2,7 +2,8 @@
 use Prim.Native.Nat.{_-_}
 use native.Mathlib.Omega.{arith}
 use Rattle.plan.specs.Laws.Prefix.{Prefix, prefix-none, prefix-more, prefix-all}
-use Rattle.network.specs.Thinning.{cell, flag, nearby}
+use Rattle.postman.specs.Steps.{cell}
+use Rattle.network.specs.Thinning.{flag, nearby}
 use borrow.Author.Needs.{needs}
 use Rattle.network.proofs.thinning.row_near.Statement.{statement}
 use Rattle.network.proofs.thinning.row_near.Tie as tie

@@ -9,7 +9,8 @@ use native.Mathlib.Omega.{arith}
 use borrow.Author.Count.{below-more}
 use borrow.Author.Tests.{not-false}
 use lib.ListN.{length, length-set}
-use Rattle.network.specs.Thinning.{cell, flag, between, turnAt, rowThinned, rowsThinned}
+use Rattle.postman.specs.Steps.{cell}
+use Rattle.network.specs.Thinning.{flag, between, turnAt, rowThinned, rowsThinned}
 use Rattle.network.specs.Laws.Ways.{no-way}
 use Rattle.network.specs.Laws.Thinning.{Fewer, fewer-dropped, turn-short, near-small, turn-not-held, turn-drops, turn-keeps, via-first, via-second, via-long, via-found, row-none, row-turn, rows-none, rows-turn}
 use borrow.Author.Needs.{needs}

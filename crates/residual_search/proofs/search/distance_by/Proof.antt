@@ -2,7 +2,8 @@
 use mathlib.Core.Path.{ap, _∙_}
 use Prim.Native.Nat.{_+_, _*_}
 use lib.ListN.{getD}
-use Rattle.residual_search.specs.Step.{cell, residual}
+use Rattle.postman.specs.Steps.{cell}
+use Rattle.residual_search.specs.Step.{residual}
 use borrow.Author.Needs.{needs}
 use Rattle.residual_search.proofs.search.distance_by.Statement.{statement}
 use Rattle.residual_search.proofs.search.distance_by.Tie as tie

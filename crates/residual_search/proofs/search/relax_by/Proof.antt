@@ -9,7 +9,8 @@ use lib.Dec.{eqb}
 use lib.Seq.{take-all}
 use Rattle.residual_search.specs.Fold.{fold}
 use Rattle.residual_search.specs.Search.{beyond, relaxed, relax, openDistance, nearer, nearest}
-use Rattle.residual_search.specs.Step.{cell, residualLength}
+use Rattle.postman.specs.Steps.{cell}
+use Rattle.residual_search.specs.Step.{residualLength}
 use Rattle.residual_search.specs.Laws.Turns.{relax-more, nearest-more}
 use Rattle.residual_search.specs.Laws.Relax.{relax-last, goal-low}
 use Rattle.residual_search.specs.Laws.Search.{nearest-small}

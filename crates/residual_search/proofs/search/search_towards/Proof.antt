@@ -6,7 +6,8 @@ use borrow.Author.Tests.{eqb-true, eqb-false, not-true, not-false}
 use Rattle.residual_search.specs.Bounds.{AtMost}
 use Rattle.residual_search.specs.Search.{beyond, nearest}
 use Rattle.residual_search.specs.Until.{roundsUntil, until}
-use Rattle.residual_search.specs.Step.{cell, residualLength}
+use Rattle.postman.specs.Steps.{cell}
+use Rattle.residual_search.specs.Step.{residualLength}
 use Rattle.residual_search.specs.Laws.Turns.{relax-low, replicate-low, until-start, until-end, until-none, until-more}
 use borrow.Author.Needs.{needs}
 use Rattle.residual_search.proofs.search.search_towards.Statement.{statement}

@@ -11,7 +11,7 @@ use Rattle.small_counts.specs.Matrix.{AreCounts}
 use Rattle.search.specs.declared.explore.Explored.{Explored}
 use Rattle.branches.specs.declared.progress.Progress.{Progress}
 use Rattle.tree_bounds.specs.Prepared.{Prepared}
-use Rattle.search.specs.Contracts.{IsExplored, IsPriced}
+use Rattle.search.specs.Contracts.{IsExplored, IsBranchPriced}
 use Rattle.branches.specs.Branches.{IsBranch}
 use Rattle.branches.specs.Holding.{IsShort}
 use Rattle.tree_bounds.specs.Laws.Prepared.{places}
@@ -66,7 +66,7 @@ abbrev Inv-loop : explore-lts.InvT-loop
 Inv-loop b f d vs start source tails heads k a names counts end e₀ x₀ e x =
     (getD start (b .a) 0 ≤ x) × (x ≤ end) × IsShort (e .progress)
     × ((q : Plan) (h : Prepared q d vs start source tails heads k) (br : IsBranch q d f b)
-    → IsExplored q (branches h b br (take (x - getD start (b .a) 0) (candidates q (b .a)))) (e₀ .progress) (e .progress) × IsPriced q d b (e .pricing))
+    → IsExplored q (branches h b br (take (x - getD start (b .a) 0) (candidates q (b .a)))) (e₀ .progress) (e .progress) × IsBranchPriced q d b (e .pricing))
 
 abbrev μ-loop : explore-lts.MeasureT-loop
 μ-loop b f d vs start source tails heads k a names counts end e₀ x₀ e x = end - x
@@ -249,7 +249,7 @@ explore-loop-again t c =
     let start = s .args .start .now in
     let first = c .before .before .before .before .before .before .begun .result .progress in
     let both : (p : Plan) → (h : Prepared p (s .args .d .now) (s .args .vs .now) start (s .args .source .now) (s .args .tails .now) (s .args .heads .now) (s .args .k)) → (br : IsBranch p (s .args .d .now) (s .args .f .now) b)
-    → IsExplored p (branches h b br (take (v .x - getD start (b .a) 0 + 1) (candidates p (b .a)))) first (c .if2 .e .progress) × IsPriced p (s .args .d .now) b (c .if2 .e .pricing) =
+    → IsExplored p (branches h b br (take (v .x - getD start (b .a) 0 + 1) (candidates p (b .a)))) first (c .if2 .e .progress) × IsBranchPriced p (s .args .d .now) b (c .if2 .e .pricing) =
     (λ p h br.
     let i = v .inv .3 p h br in
     ⊎-elim
@@ -265,12 +265,12 @@ explore-loop-again t c =
       subst⁻¹ (λ (e : Explored). IsExplored p (branches h b br (take (v .x - getD start (b .a) 0 + 1) (candidates p (b .a)))) first (e .progress)) (w .8)
           (subst⁻¹ (IsExplored p (branches h b br (take (v .x - getD start (b .a) 0 + 1) (candidates p (b .a)))) first) (up .ensures .0)
           (next-explored h b br less (v .x) (v .inv .0) t (at .result) (at .ensures) (v .e .progress) _ yes _ (down .result) (down .ensures .0) first (under .result .progress) (i .0) (after .0))),
-      subst⁻¹ (λ (e : Explored). IsPriced p (s .args .d .now) b (e .pricing)) (w .8) (up .ensures .1 p _ _ _ h br (i .1 .prices) new),
+      subst⁻¹ (λ (e : Explored). IsBranchPriced p (s .args .d .now) b (e .pricing)) (w .8) (up .ensures .1 p _ _ _ h br (i .1 .prices) new),
     ))
     (λ w. (
       subst⁻¹ (λ (e : Explored). IsExplored p (branches h b br (take (v .x - getD start (b .a) 0 + 1) (candidates p (b .a)))) first (e .progress)) (w .2)
           (next-passed h b br less (v .x) (v .inv .0) t (at .result) (at .ensures) first (v .e .progress) (w .1 .result .progress) (v .inv .2) (i .0) (w .1 .ensures .0) (v .e .pricing) (i .1) (sym (c .before .goes-into .ensures) ∙ w .0 .left)),
-      subst⁻¹ (λ (e : Explored). IsPriced p (s .args .d .now) b (e .pricing)) (w .2) (subst⁻¹ (IsPriced p (s .args .d .now) b) (w .1 .ensures .1) (i .1)),
+      subst⁻¹ (λ (e : Explored). IsBranchPriced p (s .args .d .now) b (e .pricing)) (w .2) (subst⁻¹ (IsBranchPriced p (s .args .d .now) b) (w .1 .ensures .1) (i .1)),
     ))
     (c .if2 .came)) in
     let e : v .x - getD start (b .a) 0 + 1 ≡ v .x + 1 - getD start (b .a) 0 = omega (arith, v .inv .0) in (

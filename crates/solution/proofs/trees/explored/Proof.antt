@@ -5,7 +5,7 @@ use Rattle.postman.specs.Component.{componentCount}
 use Rattle.postman.specs.Balancing.{completionCost}
 use Rattle.plan.specs.Records.{planValue}
 use Rattle.branches.specs.Progress.{advance}
-use Rattle.branches.specs.Holding.{heldOf}
+use Rattle.branches.specs.Holding.{heldIn}
 use Rattle.search.specs.Laws.Tried.{root-trees}
 use borrow.Author.Needs.{needs}
 use Rattle.solution.proofs.trees.explored.Statement.{statement}
@@ -22,7 +22,7 @@ returns c =
     let b = s .pre .0 in
     let is = b .root in
     let m = componentCount (planValue (s .args .plan)) - 1 in
-    c .advance .ensures _ (b .prepared) (is .branch) ∙ ap (advance (completionCost (planValue (s .args .plan))) (heldOf m (s .args .g))) (root-trees (b .prepared) (s .args .s .root) is)
+    c .advance .ensures _ (b .prepared) (is .branch) ∙ ap (advance (completionCost (planValue (s .args .plan))) (heldIn m (s .args .g))) (root-trees (b .prepared) (s .args .s .root) is)
 
 pub explored-spec : {M : Type 1} → statement M
 explored-spec = tie.close (tie.spec advance-requires returns)

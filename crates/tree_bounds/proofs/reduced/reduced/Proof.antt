@@ -1,9 +1,9 @@
 -- The potentials are feasible, so the subtraction stays above 0.
-use mathlib.Core.Path.{_≡_, sym, ap, ap₂, _∙_}
-use Prim.Native.Nat.{ℕ, _+_, _-_, _≤_, _<_}
+use mathlib.Core.Path.{_≡_, ap, ap₂, _∙_}
+use Prim.Native.Nat.{_+_, _-_, _≤_, _<_}
 use native.Mathlib.Omega.{arith}
 use lib.ListN.{getD}
-use Rattle.residual_search.specs.Step.{cell}
+use Rattle.postman.specs.Steps.{cell}
 use borrow.Author.Needs.{needs}
 use Rattle.tree_bounds.proofs.reduced.reduced.Statement.{statement}
 use Rattle.tree_bounds.proofs.reduced.reduced.Tie as tie

@@ -1,0 +1,38 @@
+-- Both vertices are below 64.
+use mathlib.Core.Path.{_∙_, ap₂}
+use native.Mathlib.Omega.{arith}
+use Rattle.postman.specs.Steps.{cell}
+use borrow.Author.Needs.{needs}
+use Rattle.tree_check.proofs.cost.distance_at.Statement.{statement}
+use Rattle.tree_check.proofs.cost.distance_at.Tie as tie
+
+wide-requires : tie.Need-wide-requires
+wide-requires c κs = search needs
+
+wide-requires-2 : tie.Need-wide-requires-2
+wide-requires-2 c κs = search needs
+
+index-1-long : tie.Need-index-1-long
+index-1-long c = let s = c .before .before in omega (arith, s .pre .0, c .before .wide .ensures)
+
+index-2-long : tie.Need-index-2-long
+index-2-long c = let s = c .before .before in omega (arith, s .pre .1, c .wide2 .ensures)
+
+mul-long : tie.Need-mul-long
+mul-long c = let h = index-1-long c in search needs
+
+mul-long-2 : tie.Need-mul-long-2
+mul-long-2 c = let h = index-2-long c in search needs
+
+long-requires : tie.Need-long-requires
+long-requires c κs = search needs
+
+returns : tie.Need-returns
+returns c =
+    let s = c .before .before .before .before in
+    c .long .ensures ∙ ap₂ (cell (s .args .d .now)) (c .before .before .before .wide .ensures) (c .before .before .wide2 .ensures)
+
+pub distance-at-spec : {M : Type 1} → statement M
+distance-at-spec =
+    tie.close
+    (tie.spec wide-requires wide-requires-2 mul-long mul-long-2 index-1-long index-2-long long-requires returns)

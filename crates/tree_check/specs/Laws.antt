@@ -1,0 +1,3 @@
+-- What is proved about them.
+pub mod Tree
+pub mod Cost
