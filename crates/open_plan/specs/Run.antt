@@ -26,7 +26,7 @@ Fits (return k) = Unit {0}
 pub data Ran : OpenPlan → List Call → OpenPlan → List (Option ℕ) → Type 0 where
   ended : (s : OpenPlan) → Ran s [] s []
   called : (s t : OpenPlan) (c : Call) (cs : List Call) (ns : List (Option ℕ)) (r : Moved) → Fits c → IsMoved s c r → Ran (r .state) cs t ns
-      → Ran s (c ∷ cs) t (verdictNumber (r .verdict) ∷ numbers)
+      → Ran s (c ∷ cs) t (verdictNumber (r .verdict) ∷ ns)
 
 -- A file that is held for a plan of edition e: the file that is written from it. It reads back.
 pub record IsFileOf (e : ℕ) (p : Plan) (h : Held) : Type 0 where
