@@ -161,7 +161,14 @@ fn deep_call<R: Rounds>(
         told.multipliers = rules.carried(&told.multipliers, &order);
         let best = kept.get_or_insert_with(|| {
             let answer = Answer { places: 0, cost: u64::MAX, floor: 0, trees: 0, ..told.clone() };
-            Kept { drive: Vec::new(), drive_order: order.clone(), order: order.clone(), tried: trees, left: u64::MAX, answer }
+            Kept {
+                drive: Vec::new(),
+                drive_order: order.clone(),
+                order: order.clone(),
+                tried: trees,
+                left: u64::MAX,
+                answer,
+            }
         });
         best.answer.trees += rules.counted(told.trees, trees, budget);
         if rules.keeps(told.cost, best.answer.cost) {
