@@ -149,7 +149,8 @@ isClosed k = leZ (pos (k .cost)) (k .floor)
 unfoldable pub goneOn : ℕ → Kept → Chosen
 goneOn budget k = record { trial = record { numbering = k .base .numbering; tries = k .base .tries + budget }; random = k .random }
 
--- Any other takes the numbering of that search, with two exchanges: fewer trees are found by small steps. Where more are left than all rounds together can try, it takes the numbering of the cheapest drive.
+-- Any other takes the numbering of that search, with two exchanges: fewer trees are found by small steps. Where more are left than all
+-- rounds together can try, it takes the numbering of the cheapest drive.
 unfoldable pub numbersOf : Kept → Numbering
 numbersOf k = cond (ltb 1000000000 (k .left)) (k .drive .numbering) (k .base .numbering)
 

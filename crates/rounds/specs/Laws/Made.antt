@@ -106,11 +106,14 @@ module _ (k : Kept) (x : Numbering) where
   unfolding numbersOf
   base-numbers l e = let t = le-ltb 1000000000 (k .left) l in rw t e
 
-pub exchanged-as : (r : PlanRecord) (budget : ℕ) (k : Kept) (x : Numbering) (d : Drawn) → x ≡ numbersOf k → d ≡ shuffled (r .n) (record { numbering = x; random = k .random }) 2
+pub exchanged-as : (r : PlanRecord) (budget : ℕ) (k : Kept) (x : Numbering) (d : Drawn) → x ≡ numbersOf k
+    → d ≡ shuffled (r .n) (record { numbering = x; random = k .random }) 2
     → record { trial = record { numbering = d .numbering; tries = budget }; random = d .random } ≡ exchangedBy (planValue r) budget k
 unfolding exchangedBy
 exchanged-as r budget k x d g e =
-    ap (λ (d : Drawn). record { trial = record { numbering = d .numbering; tries = budget }; random = d .random }) (e ∙ ap (λ (y : Numbering). shuffled (r .n) (record { numbering = y; random = k .random }) 2) g ∙ ap (λ n. shuffled n (record { numbering = numbersOf k; random = k .random }) 2) (sym (plan-vertices r)))
+    ap (λ (d : Drawn). record { trial = record { numbering = d .numbering; tries = budget }; random = d .random })
+    (e ∙ ap (λ (y : Numbering). shuffled (r .n) (record { numbering = y; random = k .random }) 2) g
+    ∙ ap (λ n. shuffled n (record { numbering = numbersOf k; random = k .random }) 2) (sym (plan-vertices r)))
 
 module _ (p : Plan) (budget round : ℕ) (k : Kept) (c : Chosen) where
   pub goes-on-as : round % 2 ≡ 0 → c ≡ goneOn budget k → c ≡ nextRound p budget round k
