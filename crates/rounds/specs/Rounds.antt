@@ -6,7 +6,7 @@ use mathlib.Core.Bool.{Bool, cond}
 use mathlib.Core.List.{List}
 use Prim.Native.Nat.{ℕ, zero, suc, _+_, _-_, _%_, min}
 use lib.ListN.{getD}
-use lib.Dec.{eqb, leb}
+use lib.Dec.{eqb, leb, ltb}
 use lib.IntN.{ℤ, pos}
 use lib.Signed.{leZ, ltZ}
 use Rattle.postman.specs.Plan.{Plan}
@@ -149,11 +149,15 @@ isClosed k = leZ (pos (k .cost)) (k .floor)
 unfoldable pub goneOn : ℕ → Kept → Chosen
 goneOn budget k = record { trial = record { numbering = k .base .numbering; tries = k .base .tries + budget }; random = k .random }
 
--- Any other takes the numbering of that search, with two exchanges. Fewer trees are found by small steps.
+-- Any other takes the numbering of that search, with two exchanges: fewer trees are found by small steps. Where more are left than all
+-- rounds together can try, it takes the numbering of the cheapest drive.
+unfoldable pub numbersOf : Kept → Numbering
+numbersOf k = cond (ltb 1000000000 (k .left)) (k .drive .numbering) (k .base .numbering)
+
 unfoldable pub exchangedBy : Plan → ℕ → Kept → Chosen
-unfolding shuffled
+unfolding shuffled numbersOf
 exchangedBy p budget k =
-    let d = shuffled (p .n) (record { numbering = k .base .numbering; random = k .random }) 2 in
+    let d = shuffled (p .n) (record { numbering = numbersOf k; random = k .random }) 2 in
     record { trial = record { numbering = d .numbering; tries = budget }; random = d .random }
 
 unfoldable pub nextRound : Plan → ℕ → ℕ → Kept → Chosen

@@ -31,5 +31,6 @@ pub record IsTrial (p : Plan) (x : Trial) : Type 0 where
 pub record GoesOn (p : Plan) (k : Kept) : Type 0 where
   pub few-trees : k .trees ≤ 1000000000
   pub numbering : IsNumberingOf (p .n) (k .base .numbering)
+  pub drive-numbering : IsNumberingOf (p .n) (k .drive .numbering)
   pub few-tries : k .base .tries ≤ 999000000
   pub random-in : k .random < modulus

@@ -8,7 +8,7 @@ ghost use mathlib.Core.Path.{_≡_};
 ghost use Prim.Native.Nat.{_≤_};
 ghost use Rattle.postman.specs.Plan.{WellFormed};
 ghost use Rattle.plan.specs.Records.{planValue};
-ghost use Rattle.rounds.specs.Rounds.{goneOn, exchangedBy, nextRound};
+ghost use Rattle.rounds.specs.Rounds.{goneOn, numbersOf, exchangedBy, nextRound};
 ghost use Rattle.rounds.specs.Tabled.{GoesOn};
 
 // A numbering, and how many trees are tried under it in all.
@@ -40,13 +40,24 @@ fn further(budget: u32, k: Kept) -> Chosen
     }
 }
 
-// Any other: the numbering of that search, with two exchanges.
+// The numbering that is exchanged in: that search's, or the cheapest drive's where no number of rounds could try all that are left.
+fn numbers_of(k: Kept) -> Numbering
+    ensures { λ r. ⌜ r ≡ numbersOf k ⌝ }
+{
+    let drive = k.drive;
+    let base = k.base;
+    if 1_000_000_000 < k.left {
+        return drive.numbering;
+    }
+    base.numbering
+}
+
+// Any other: that numbering, with two exchanges.
 fn exchanges(plan: Plan, budget: u32, k: Kept) -> Chosen
     requires { ⌜ WellFormed (planValue plan) × GoesOn (planValue plan) k ⌝ }
     ensures { λ r. ⌜ r ≡ exchangedBy (planValue plan) budget k ⌝ }
 {
-    let base = k.base;
-    let x = base.numbering;
+    let x = numbers_of(k);
     let before = Drawn {
         numbering: x,
         random: k.random,

@@ -85,6 +85,12 @@ wrong_rounds! {
         }
     }
 
+    AlwaysByTheDrive violates [EachRound] {
+        fn is_far(&self, _left: u64) -> bool {
+            true
+        }
+    }
+
     TreesCountedAgain violates [EachRound, Stated] {
         fn counted(&self, told: u64, _trees: u64, _budget: u64) -> u64 {
             told

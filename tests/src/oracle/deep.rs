@@ -85,8 +85,11 @@ pub fn rounds(plan: &Plan, budget: u64, most: u32, solve: &dyn Fn(&Plan, u64) ->
         // The last of those of which the fewest trees are left.
         let fewest = rounds.iter().map(|round| round.left).min();
         let kept = rounds.iter().rev().find(|round| Some(round.left) == fewest);
+        // Where more are left than all rounds together can try, the last of the cheapest rounds is what the exchanges begin with.
+        let is_far = round % 2 == 1 && fewest.is_some_and(|left| left > 1_000_000_000);
+        let cheapest = rounds.iter().rev().find(|round| Some(round.answer.cost) == least.map(|(cost, _)| cost));
         let own: Vec<usize> = (0..plan.n).collect();
-        let vertices = vertices_of(round, kept.map_or(&own, |round| &round.vertices));
+        let vertices = vertices_of(round, if is_far { cheapest } else { kept }.map_or(&own, |round| &round.vertices));
         let before = kept.filter(|_| round % 2 == 0).map_or(0, |kept| kept.trees);
         let trees = before + budget;
         let other = with_numbers(plan, &vertices);

@@ -68,6 +68,11 @@ pub trait Rounds {
         left <= fewest
     }
 
+    /// Whether more trees are left than all rounds together can try, so that the numbers of the cheapest drive are exchanged.
+    fn is_far(&self, left: u64) -> bool {
+        left > 1_000_000_000
+    }
+
     /// How many of a round's trees are new, of those that it may try and those of which it takes the last.
     fn counted(&self, told: u64, trees: u64, budget: u64) -> u64 {
         told.saturating_sub(trees - budget)
@@ -109,8 +114,9 @@ pub fn renumbered(plan: &Plan, order: &Order) -> Plan {
 
 /// What is kept of the rounds so far.
 struct Kept {
-    /// The cheapest drive.
+    /// The cheapest drive, and the numbers that it was found by.
     drive: Vec<u16>,
+    drive_order: Order,
     /// The numbers of the search that is gone on with, the trees that were tried by them, and those that are left.
     order: Order,
     tried: u64,
@@ -121,10 +127,10 @@ struct Kept {
 
 /// The numbers of a round, and its trees. What was drawn before goes on.
 fn numbers<R: Rounds>(rules: &R, round: u32, budget: u64, kept: &Kept, random: &mut u64) -> (Order, u64) {
-    let mut order = kept.order.clone();
     if rules.goes_on(round) {
-        return (order, rules.trees(budget, kept.tried));
+        return (kept.order.clone(), rules.trees(budget, kept.tried));
     }
+    let mut order = if rules.is_far(kept.left) { kept.drive_order.clone() } else { kept.order.clone() };
     for _ in 0..rules.exchanges() {
         *random = rules.draw(*random);
         let (i, j) = rules.pair(*random, order.len());
@@ -155,12 +161,20 @@ fn deep_call<R: Rounds>(
         told.multipliers = rules.carried(&told.multipliers, &order);
         let best = kept.get_or_insert_with(|| {
             let answer = Answer { places: 0, cost: u64::MAX, floor: 0, trees: 0, ..told.clone() };
-            Kept { drive: Vec::new(), order: order.clone(), tried: trees, left: u64::MAX, answer }
+            Kept {
+                drive: Vec::new(),
+                drive_order: order.clone(),
+                order: order.clone(),
+                tried: trees,
+                left: u64::MAX,
+                answer,
+            }
         });
         best.answer.trees += rules.counted(told.trees, trees, budget);
         if rules.keeps(told.cost, best.answer.cost) {
             best.answer.cost = told.cost;
             best.drive = own[..told.places].to_vec();
+            best.drive_order.clone_from(&order);
         }
         if rules.raises(told.floor, best.answer.floor) {
             best.answer.floor = told.floor;

@@ -29,11 +29,11 @@ use Rattle.rounds.specs.declared.kept.Kept.{Kept}
 use Rattle.rounds.specs.declared.round.Deep.{Deep}
 use Rattle.rounds.specs.declared.trial.Trial.{Trial}
 use Rattle.rounds.specs.declared.trial.Chosen.{Chosen}
-use Rattle.rounds.specs.Rounds.{under, begun, withDrive, withFloor, withBase, counted, goneOn, exchangedBy, nextRound, keptAfter}
+use Rattle.rounds.specs.Rounds.{under, begun, withDrive, withFloor, withBase, counted, goneOn, numbersOf, exchangedBy, nextRound, keptAfter}
 use Rattle.rounds.specs.Tabled.{IsTrial, GoesOn}
 use Rattle.rounds.specs.Held.{IsHeld, IsBefore}
 use Rattle.rounds.specs.Laws.Tables.{under-plannable}
-use Rattle.rounds.specs.Laws.Kept.{under-unchanged, chosen-trial}
+use Rattle.rounds.specs.Laws.Kept.{under-unchanged, numbers-kept, chosen-trial}
 
 none-tried : (q : Plan) (budget : ℕ) → 0 ≡ triedCount q (budget - budget)
 unfolding triedCount
@@ -64,9 +64,10 @@ module _ (p : Plan) (ok : Plannable p) (budget round : ℕ) (some-trees : 1 ≤ 
   anew-begins : round % 2 ≢ 0 → Begins (exchangedBy p budget k)
   unfolding exchangedBy
   anew-begins n =
-      let d : Drawn = record { numbering = k .base .numbering; random = k .random } in
+      let d : Drawn = record { numbering = numbersOf k; random = k .random } in
       let y = shuffled (p .n) d 2 .numbering in
-      let h = shuffled-numbering (p .n) (ok .well-formed .some-vertex) (ok .well-formed .vertices) d 2 (on .numbering) in
+      let h = shuffled-numbering (p .n) (ok .well-formed .some-vertex) (ok .well-formed .vertices) d 2
+      (numbers-kept (p .n) k (on .numbering) (on .drive-numbering)) in
       (b .1 n ∙ none-tried (under p y) budget, first (under p y) (under-plannable p ok y h) budget g (b .1 n) some-trees (omega arith))
 
   goes : round % 2 ≡ 0 → nextRound p budget round k ≡ goneOn budget k
@@ -83,8 +84,8 @@ module _ (p : Plan) (ok : Plannable p) (budget round : ℕ) (some-trees : 1 ≤ 
 
   pub chosen-begins : (c : Chosen) → c ≡ nextRound p budget round k → Begins c × IsTrial p (c .trial)
   chosen-begins c e =
-      let t = chosen-trial p (ok .well-formed) budget some-trees low round k (on .numbering) (on .random-in) 999000000 (omega arith)
-      (on .few-tries) in
+      let t = chosen-trial p (ok .well-formed) budget some-trees low round k (on .numbering) (on .drive-numbering)
+      (on .random-in) 999000000 (omega arith) (on .few-tries) in
       subst⁻¹ (λ (c : Chosen). Begins c × IsTrial p (c .trial)) e (begins, t .0)
 
 -- ---- what it leaves

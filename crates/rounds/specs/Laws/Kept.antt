@@ -8,7 +8,7 @@ use native.Mathlib.Decide.{decLe}
 use native.Mathlib.Nat.{zero-add}
 use native.Mathlib.Omega.{arith}
 use lib.ListN.{length, getD, length-map, List·getD-eq-default}
-use lib.Dec.{eqb, leb, leb→le, nleb→lt}
+use lib.Dec.{eqb, leb, ltb, leb→le, nleb→lt}
 use lib.IntN.{ℤ, pos}
 use lib.Signed.{_≤ℤ_, ltZ, ltZ-yes}
 use Rattle.integers.specs.Linear.{z}
@@ -36,7 +36,7 @@ use Rattle.renumbering.specs.Laws.Shuffle.{shuffled-numbering, shuffled-random}
 use Rattle.rounds.specs.declared.kept.Kept.{Kept}
 use Rattle.rounds.specs.declared.trial.Trial.{Trial}
 use Rattle.rounds.specs.declared.trial.Chosen.{Chosen}
-use Rattle.rounds.specs.Rounds.{under, floorOf, costOf, floorUnder, carriedBack, leftOf, newTrees, begun, withDrive, withFloor, withBase, counted, isClosed, goneOn, exchangedBy, nextRound, roundWith, nextKept, keptAfter}
+use Rattle.rounds.specs.Rounds.{under, floorOf, costOf, floorUnder, carriedBack, leftOf, newTrees, begun, withDrive, withFloor, withBase, counted, isClosed, goneOn, numbersOf, exchangedBy, nextRound, roundWith, nextKept, keptAfter}
 use Rattle.rounds.specs.Tabled.{IsTrial, GoesOn}
 use Rattle.rounds.specs.Laws.Tables.{under-few, under-plannable}
 
@@ -114,6 +114,12 @@ trees-same x cost floor u left k =
     ∙ cond-ind (ltZ (m .floor) floor) _ m (λ m′. m′ .trees ≡ m .trees) (λ t. refl) (λ t. refl)
     ∙ cond-ind (leb cost (k .cost)) _ k (λ m. m .trees ≡ k .trees) (λ t. refl) (λ t. refl)
 
+-- the numbers that are exchanged
+pub numbers-kept : (n : ℕ) (k : Kept) → IsNumberingOf n (k .base .numbering) → IsNumberingOf n (k .drive .numbering)
+    → IsNumberingOf n (numbersOf k)
+unfolding numbersOf
+numbers-kept n k b d = cond-ind (ltb 1000000000 (k .left)) (k .drive .numbering) (k .base .numbering) (IsNumberingOf n) (λ t. d) (λ t. b)
+
 -- what the next round is made with, where r + 1 rounds are done
 pub record IsChosen (p : Plan) (r : ℕ) (c : Chosen) : Type 0 where
   pub trial : IsTrial p (c .trial)
@@ -121,20 +127,21 @@ pub record IsChosen (p : Plan) (r : ℕ) (c : Chosen) : Type 0 where
   pub random-in : c .random < modulus
 
 module _ (p : Plan) (ok : WellFormed p) (budget : ℕ) (some-trees : 1 ≤ budget) (low : budget ≤ 1000000) (round : ℕ) (k : Kept)
-    (numbers : IsNumberingOf (p .n) (k .base .numbering)) (random : k .random < modulus) where
+    (numbers : IsNumberingOf (p .n) (k .base .numbering)) (drive-numbers : IsNumberingOf (p .n) (k .drive .numbering))
+    (random : k .random < modulus) where
   -- the numbering and the tries of a round
   pub chosen-trial : (most : ℕ) → most ≤ 999000000 → k .base .tries ≤ most
       → IsTrial p (nextRound p budget round k .trial) × (nextRound p budget round k .trial .tries ≤ most + 1000000)
       × (nextRound p budget round k .random < modulus)
   unfolding nextRound goneOn exchangedBy
   chosen-trial most small few =
-      let d : Drawn = record { numbering = k .base .numbering; random = k .random } in
+      let d : Drawn = record { numbering = numbersOf k; random = k .random } in
       cond-ind (eqb (round % 2) 0) (goneOn budget k) (exchangedBy p budget k)
       (λ c. IsTrial p (c .trial) × (c .trial .tries ≤ most + 1000000) × (c .random < modulus))
       (λ t. (record { numbers = numbers; some-tries = omega arith; few-tries = omega arith }, omega arith, random))
       (λ t. (
         record {
-          numbers = shuffled-numbering (p .n) (ok .some-vertex) (ok .vertices) d 2 numbers;
+          numbers = shuffled-numbering (p .n) (ok .some-vertex) (ok .vertices) d 2 (numbers-kept (p .n) k numbers drive-numbers);
           some-tries = some-trees;
           few-tries = omega arith;
         },
@@ -326,8 +333,8 @@ module _ (p : Plan) (ok : Plannable p) (few : componentCount p ≤ 8) (budget : 
 
   chosen : (r : ℕ) (k : Kept) → r < 999 → IsKept p r k → IsChosen p r (nextRound p budget (r + 2) k)
   chosen r k l h =
-      let t = chosen-trial p (ok .well-formed) budget some-trees low (r + 2) k (h .base-numbering) (h .random-in) (suc r * 1000000)
-      (omega arith) (h .base-few) in
+      let t = chosen-trial p (ok .well-formed) budget some-trees low (r + 2) k (h .base-numbering) (h .drive-numbering) (h .random-in)
+      (suc r * 1000000) (omega arith) (h .base-few) in
       let f = t .1 in
       record { trial = t .0; few-tries = omega arith; random-in = t .2 }
 
@@ -347,7 +354,13 @@ module _ (p : Plan) (ok : Plannable p) (few : componentCount p ≤ 8) (budget : 
       let h = after-kept r (omega arith) in
       let f = h .few-trees in
       let e = h .base-few in
-      record { few-trees = omega arith; numbering = h .base-numbering; few-tries = omega arith; random-in = h .random-in }
+      record {
+        few-trees = omega arith;
+        numbering = h .base-numbering;
+        drive-numbering = h .drive-numbering;
+        few-tries = omega arith;
+        random-in = h .random-in;
+      }
 
   -- MORE ROUNDS ARE NEVER WORSE
   after-better : (r : ℕ) → r < 999

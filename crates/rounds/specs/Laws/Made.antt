@@ -6,7 +6,7 @@ use mathlib.Core.List.{List}
 use mathlib.Core.Option.{none}
 use Prim.Native.Nat.{ℕ, suc, _+_, _-_, _%_, _≤_, _<_, min}
 use native.Mathlib.Omega.{arith}
-use borrow.Author.Tests.{le-leb, lt-leb, eq-eqb, ne-eqb}
+use borrow.Author.Tests.{le-leb, lt-leb, lt-ltb, le-ltb, eq-eqb, ne-eqb}
 use lib.Dec.{leb}
 use lib.IntN.{ℤ, pos}
 use lib.Signed.{leZ, ltZ}
@@ -33,7 +33,7 @@ use Rattle.renumbering.specs.Renumbered.{carriedIn}
 use Rattle.rounds.specs.declared.kept.Kept.{Kept}
 use Rattle.rounds.specs.declared.trial.Trial.{Trial}
 use Rattle.rounds.specs.declared.trial.Chosen.{Chosen}
-use Rattle.rounds.specs.Rounds.{under, floorOf, costOf, floorUnder, carriedBack, leftOf, newTrees, begun, withDrive, withFloor, withBase, counted, isClosed, goneOn, exchangedBy, nextRound, roundWith, nextKept, keptAfter}
+use Rattle.rounds.specs.Rounds.{under, floorOf, costOf, floorUnder, carriedBack, leftOf, newTrees, begun, withDrive, withFloor, withBase, counted, isClosed, goneOn, numbersOf, exchangedBy, nextRound, roundWith, nextKept, keptAfter}
 use Rattle.rounds.specs.Tabled.{IsTrial}
 use Rattle.rounds.specs.Laws.Tables.{plan-accepted, under-few, under-plannable}
 use Rattle.rounds.specs.Laws.Kept.{IsKept, after-kept, closed-stays, one-round, tried-few, trees-same}
@@ -97,13 +97,23 @@ module _ (a b : ℕ) (new old : Reached) where
 
 -- ---- one round
 
-pub exchanged-as : (r : PlanRecord) (budget : ℕ) (k : Kept) (d : Drawn)
-    → d ≡ shuffled (r .n) (record { numbering = k .base .numbering; random = k .random }) 2
+module _ (k : Kept) (x : Numbering) where
+  pub drive-numbers : 1000000000 < k .left → x ≡ k .drive .numbering → x ≡ numbersOf k
+  unfolding numbersOf
+  drive-numbers l e = let t = lt-ltb 1000000000 (k .left) l in rw t e
+
+  pub base-numbers : k .left ≤ 1000000000 → x ≡ k .base .numbering → x ≡ numbersOf k
+  unfolding numbersOf
+  base-numbers l e = let t = le-ltb 1000000000 (k .left) l in rw t e
+
+pub exchanged-as : (r : PlanRecord) (budget : ℕ) (k : Kept) (x : Numbering) (d : Drawn) → x ≡ numbersOf k
+    → d ≡ shuffled (r .n) (record { numbering = x; random = k .random }) 2
     → record { trial = record { numbering = d .numbering; tries = budget }; random = d .random } ≡ exchangedBy (planValue r) budget k
 unfolding exchangedBy
-exchanged-as r budget k d e =
+exchanged-as r budget k x d g e =
     ap (λ (d : Drawn). record { trial = record { numbering = d .numbering; tries = budget }; random = d .random })
-    (e ∙ ap (λ n. shuffled n (record { numbering = k .base .numbering; random = k .random }) 2) (sym (plan-vertices r)))
+    (e ∙ ap (λ (y : Numbering). shuffled (r .n) (record { numbering = y; random = k .random }) 2) g
+    ∙ ap (λ n. shuffled n (record { numbering = numbersOf k; random = k .random }) 2) (sym (plan-vertices r)))
 
 module _ (p : Plan) (budget round : ℕ) (k : Kept) (c : Chosen) where
   pub goes-on-as : round % 2 ≡ 0 → c ≡ goneOn budget k → c ≡ nextRound p budget round k
