@@ -48,7 +48,7 @@ fn drawn(k: u32) -> u64 {
 /// The vertices by their numbers in a round, from those of the search that is kept before it: rounds 3, 5, 7 and so on exchange two numbers twice. The exchanges
 /// are undone from the last to the first.
 pub fn vertices_of(round: u32, kept: &[usize]) -> Vec<usize> {
-    if round < 3 || round % 2 == 0 {
+    if round < 3 || round.is_multiple_of(2) {
         return kept.to_vec();
     }
     let n = kept.len() as u64;

@@ -32,7 +32,7 @@ pub trait Rounds {
 
     /// Whether a round goes on with the search that is kept.
     fn goes_on(&self, round: u32) -> bool {
-        round % 2 == 0
+        round.is_multiple_of(2)
     }
 
     /// The trees of a round that does, in all, where so many were tried.
