@@ -2,7 +2,7 @@
 use mathlib.Core.List.{List, [], map}
 use Prim.Native.Nat.{ℕ}
 use lib.ListN.{length, take, replicate}
-use Rattle.solution.specs.declared.trees.Reached.{Reached}
+use Rattle.tree_search.specs.declared.trees.Reached.{Reached}
 use Rattle.district_turn.specs.Padded.{padded}
 use Rattle.district_machine.specs.declared.machine.District.{District as DistrictRecord}
 use Rattle.district_machine.specs.declared.machine.Machine.{Machine}

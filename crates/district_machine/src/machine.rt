@@ -1,5 +1,5 @@
 // The machine: up to eight districts, by value. "Empty at first."
-use solution::trees::Reached;
+use tree_search::trees::Reached;
 ghost use mathlib.Core.Path.{_≡_};
 ghost use Rattle.district_machine.specs.Machine.{nothingHeld, emptyDistrict, emptyMachine};
 

@@ -18,9 +18,9 @@ use Rattle.multipliers.specs.Tour.{driveOf}
 use Rattle.call_steps.specs.Refusals.{planRefusal}
 use Rattle.refusal.specs.declared.Verdict.the-variants.{Accepted}
 use Rattle.solution.specs.declared.Planned.{Planned}
-use Rattle.solution.specs.declared.trees.Reached.{Reached}
+use Rattle.tree_search.specs.declared.trees.Reached.{Reached}
 use Rattle.postman.specs.Districts.{turnTrees}
-use Rattle.solution.specs.Resumed.{afterTurn, linksBy, heldAfter}
+use Rattle.tree_search.specs.Resumed.{afterTurn, linksBy, heldAfter}
 use Rattle.solution.specs.Concluded.{concluded}
 use Rattle.district_turn.specs.declared.stint.Stint.{Stint}
 use Rattle.district_turn.specs.Padded.{padded}

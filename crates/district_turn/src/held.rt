@@ -3,7 +3,7 @@
 use balance::state::Balance;
 use network::network::Network;
 use plan::Plan;
-use solution::trees::Reached;
+use tree_search::trees::Reached;
 use tree_check::cost::tree_cost;
 use tree_check::tree::is_tree;
 ghost use mathlib.Core.Path.{_≡_};

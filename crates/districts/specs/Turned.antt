@@ -13,7 +13,7 @@ use Rattle.postman.specs.PlanCall.{sheetPlaces, highestBudget}
 use Rattle.refusal.specs.declared.Refusal.the-variants.{ShortSheet as ShortSheetRefusal}
 use Rattle.call_steps.specs.Refused.{refusedWith}
 use Rattle.solution.specs.declared.Planned.{Planned}
-use Rattle.solution.specs.declared.trees.Reached.{Reached}
+use Rattle.tree_search.specs.declared.trees.Reached.{Reached}
 use Rattle.district_turn.specs.declared.stint.Stint.{Stint}
 use Rattle.district_turn.specs.Stint.{isHolding, canGoOn, reachedAfter, soFar, isLast, lastAnswer, lastSheet}
 use Rattle.district_machine.specs.declared.machine.District.{District as DistrictRecord}

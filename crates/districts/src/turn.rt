@@ -11,7 +11,7 @@ use district_turn::stint::turn_read;
 use refusal::Refusal;
 use refusal::Verdict;
 use solution::Planned;
-use solution::trees::Reached;
+use tree_search::trees::Reached;
 ghost use mathlib.Core.Path.{_≡_};
 ghost use mathlib.Core.List.{List, [], _∷_, _++_};
 ghost use Prim.Native.Nat.{_≤_, _<_};

@@ -19,7 +19,7 @@ ghost use Rattle.tour_legs.specs.Tour.{written};
 ghost use Rattle.multipliers.specs.Tour.{tableOf, driveOf};
 ghost use Rattle.multipliers.specs.Prepared.{IsKnown, IsMeasured};
 ghost use Rattle.call_steps.specs.Refusals.{networkRefusal, planRefusal};
-ghost use Rattle.solution.specs.Resumed.{HoldsTree};
+ghost use Rattle.tree_search.specs.Resumed.{HoldsTree};
 
 // The places written, and the number of components.
 pub struct Laid {

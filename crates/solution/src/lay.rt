@@ -17,7 +17,7 @@ ghost use Rattle.tour_legs.specs.Filled.{linksOf};
 ghost use Rattle.tour_legs.specs.Tour.{tour, written};
 ghost use Rattle.multipliers.specs.Tour.{amountsOf, driveOf};
 ghost use Rattle.multipliers.specs.Prepared.{IsBase, IsTree};
-ghost use Rattle.solution.specs.Resumed.{HoldsTree};
+ghost use Rattle.tree_search.specs.Resumed.{HoldsTree};
 
 // Writes the drive of the arborescence with these links: they are added to the state of the required arcs, the amounts are made direct,
 // and paths are found by the table of weights.

@@ -2,7 +2,7 @@
 // Steps for other crates, which ask something of their caller.
 use crate::Planned;
 use crate::lay::lay_held;
-use crate::trees::best;
+use tree_search::trees::best;
 use balance::state::Balance;
 use lagrangian::bound::floor_of;
 use multipliers::ascend::multipliers_for;
@@ -24,7 +24,7 @@ ghost use Rattle.network.specs.Network.{IsNetwork};
 ghost use Rattle.multipliers.specs.Prepared.{IsKnown, IsBase};
 ghost use Rattle.multipliers.specs.Ascent.{multipliersFor, boundOf};
 ghost use Rattle.solution.specs.Planned.{IsPlanned};
-ghost use Rattle.solution.specs.Resumed.{HoldsTree};
+ghost use Rattle.tree_search.specs.Resumed.{HoldsTree};
 ghost use Rattle.solution.specs.Concluded.{floorWith, IsConcluded};
 
 // The floor of so many trees, from L(u), which the ascent has computed.

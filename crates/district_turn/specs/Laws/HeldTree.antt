@@ -24,7 +24,7 @@ use Rattle.arborescence.specs.BitSet.{Has, has-single, single-has}
 use Rattle.arborescence.specs.Laws.Reach.{Arrives, reached-arrives, arrives-reaches, same-steps}
 use Rattle.tour_legs.specs.Filled.{linksOf}
 use Rattle.tour_legs.specs.Laws.Laid.{links-length}
-use Rattle.solution.specs.Resumed.{HoldsTree}
+use Rattle.tree_search.specs.Resumed.{HoldsTree}
 use Rattle.tree_check.specs.Tree.{IsEntry, sourceSet, IsHeldTree}
 
 links-at : (n : ℕ) (ts hs : List ℕ) (q : ℕ) → q < n → n ≤ length ts → n ≤ length hs

@@ -22,9 +22,9 @@ use Rattle.postman.specs.Laws.Tests.{same-test, and-both, and-parts, is-true, o
 use Rattle.postman.specs.Laws.Membership.{anyOf-at, anyOf-mem}
 use Rattle.postman.specs.Laws.Distance.{InPlan, bounded}
 use Rattle.postman.specs.Laws.Arborescence.{arborescences-mem, mem-arborescences}
-use Rattle.solution.specs.declared.trees.Reached.{Reached}
-use Rattle.solution.specs.declared.trees.Resumed.{Resumed}
-use Rattle.solution.specs.Resumed.{linksBy, heldAfter, IsResumed, HoldsTree}
+use Rattle.tree_search.specs.declared.trees.Reached.{Reached}
+use Rattle.tree_search.specs.declared.trees.Resumed.{Resumed}
+use Rattle.tree_search.specs.Resumed.{linksBy, heldAfter, IsResumed, HoldsTree}
 use Rattle.postman.specs.Refusal.{isGood}
 use Rattle.district_turn.specs.Stint.{sameLinks, isTree, isHolding, isResumable, reachedAfter, isLast, soFar, lastAnswer, lastSheet, IsStint}
 use Rattle.district_turn.specs.declared.stint.Stint.{Stint}
@@ -38,8 +38,8 @@ use Rattle.multipliers.specs.Laws.Lay.{arcs-links}
 use Rattle.tour_legs.specs.Tour.{written}
 use Rattle.multipliers.specs.Tour.{driveOf}
 use Rattle.solution.specs.Concluded.{concluded}
-use Rattle.solution.specs.Laws.Answer.{tree-small}
-use Rattle.solution.specs.Laws.Resumed.{some-tried, IsPriced, on-priced}
+use Rattle.tree_search.specs.Laws.BestTree.{tree-small}
+use Rattle.tree_search.specs.Laws.Resumed.{some-tried, IsPriced, on-priced}
 use Rattle.tree_check.specs.Tree.{IsHeldTree}
 use Rattle.district_turn.specs.Padded.{padded}
 use Rattle.district_turn.specs.Laws.Clash.{clash}

@@ -24,9 +24,9 @@ use Rattle.multipliers.specs.Laws.Tour.{tree-tour}
 use Rattle.call_steps.specs.Refusals.{planRefusal}
 use Rattle.call_steps.specs.Laws.Call.{parts-refusal}
 use Rattle.solution.specs.declared.Planned.{Planned}
-use Rattle.solution.specs.declared.trees.Reached.{Reached}
-use Rattle.solution.specs.Resumed.{linksBy, heldAfter}
-use Rattle.solution.specs.Laws.Resumed.{IsPriced, on-priced}
+use Rattle.tree_search.specs.declared.trees.Reached.{Reached}
+use Rattle.tree_search.specs.Resumed.{linksBy, heldAfter}
+use Rattle.tree_search.specs.Laws.Resumed.{IsPriced, on-priced}
 use Rattle.district_turn.specs.Stint.{isHolding, isResumable, canGoOn, isLast, lastAnswer, lastSheet}
 use Rattle.district_turn.specs.Laws.Stint.{held-priced}
 use Rattle.district_machine.specs.declared.machine.District.{District as DistrictRecord}

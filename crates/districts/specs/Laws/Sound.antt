@@ -32,11 +32,12 @@ use Rattle.postman.specs.Laws.Tests.{is-true, is-false}
 use Rattle.call_steps.specs.Refusals.{planRefusal}
 use Rattle.call_steps.specs.Laws.Call.{parts-refusal}
 use Rattle.solution.specs.declared.Planned.{Planned}
-use Rattle.solution.specs.declared.trees.Reached.{Reached}
-use Rattle.solution.specs.Resumed.{linksBy, heldAfter, IsReachedBy}
+use Rattle.tree_search.specs.declared.trees.Reached.{Reached}
+use Rattle.tree_search.specs.Resumed.{linksBy, heldAfter, IsReachedBy}
 use Rattle.solution.specs.Planned.{IsPlanned}
-use Rattle.solution.specs.Laws.Answer.{best-tree, concluded-best}
-use Rattle.solution.specs.Laws.Resumed.{best-after, tried-few}
+use Rattle.solution.specs.Laws.Answer.{concluded-best}
+use Rattle.tree_search.specs.Laws.BestTree.{best-tree}
+use Rattle.tree_search.specs.Laws.Resumed.{best-after, tried-few}
 use Rattle.district_turn.specs.Stint.{isTree, isHolding, isResumable, canGoOn, isLast, lastAnswer, lastSheet}
 use Rattle.district_turn.specs.Padded.{padded}
 use Rattle.district_turn.specs.Laws.Stint.{of-arborescence, holding-first, holding-later, and-yes, padded-links}

@@ -15,7 +15,7 @@ use Rattle.postman.specs.Refusal.{firstRefusal, isGood}
 use Rattle.postman.specs.PlanFile.{fileConditions, isOutside}
 use Rattle.postman.specs.PlanCall.{sheetPlaces, highestBudget, triedCount}
 use Rattle.call_steps.specs.Refusals.{planRefusal}
-use Rattle.solution.specs.declared.trees.Reached.{Reached}
+use Rattle.tree_search.specs.declared.trees.Reached.{Reached}
 use Rattle.district_turn.specs.declared.stint.Stint.{Stint}
 use Rattle.district_turn.specs.Stint.{isHolding, isResumable, canGoOn, isLast, IsStint}
 use Rattle.district_turn.specs.Laws.Stint.{and-no, and-first, and-yes}

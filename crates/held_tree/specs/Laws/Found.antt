@@ -15,11 +15,11 @@ use Rattle.postman.specs.Steps.{Plannable}
 use Rattle.multipliers.specs.Ascent.{multipliersFor}
 use Rattle.search.specs.declared.tried.Searched.{Searched}
 use Rattle.search.specs.Contracts.{IsSearched}
-use Rattle.solution.specs.declared.trees.Reached.{Reached}
-use Rattle.solution.specs.Resumed.{linksBy, IsReachedBy, HoldsTree}
+use Rattle.tree_search.specs.declared.trees.Reached.{Reached}
+use Rattle.tree_search.specs.Resumed.{linksBy, IsReachedBy, HoldsTree}
 use Rattle.solution.specs.Concluded.{floorWith}
-use Rattle.solution.specs.Laws.Answer.{kept-fits, kept-tree}
-use Rattle.solution.specs.Laws.Resumed.{tried-cost, tried-tree, tried-few}
+use Rattle.tree_search.specs.Laws.BestTree.{kept-fits, kept-tree}
+use Rattle.tree_search.specs.Laws.Resumed.{tried-cost, tried-tree, tried-few}
 use Rattle.held_tree.specs.Found.{IsBest, CanGoOn}
 
 module _ (p : Plan) (ok : Plannable p) where

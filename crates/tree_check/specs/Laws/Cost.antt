@@ -23,7 +23,7 @@ use Rattle.multipliers.specs.Tour.{tableOf}
 use Rattle.multipliers.specs.Prepared.{IsBase, IsTree}
 use Rattle.multipliers.specs.Laws.Tour.{agrees}
 use Rattle.multipliers.specs.Laws.Lay.{tree-joined, tree-short, tails-in, heads-in}
-use Rattle.solution.specs.Laws.Answer.{tree-small}
+use Rattle.tree_search.specs.Laws.BestTree.{tree-small}
 use Rattle.tree_check.specs.Cost.{tableCost, AreVertices}
 
 -- one link more

@@ -14,7 +14,7 @@ use Rattle.tour_legs.specs.Filled.{linksOf}
 use Rattle.multipliers.specs.Prepared.{IsTree}
 use Rattle.multipliers.specs.Laws.Lay.{arcs-links}
 use Rattle.multipliers.specs.Laws.Solve.{some-component}
-use Rattle.solution.specs.Resumed.{linksBy}
+use Rattle.tree_search.specs.Resumed.{linksBy}
 use Rattle.district_turn.specs.Stint.{isTree}
 use Rattle.district_turn.specs.Laws.Clash.{was-false}
 use Rattle.tree_check.specs.Laws.Tree.{plain}

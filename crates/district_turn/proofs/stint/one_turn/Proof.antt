@@ -8,7 +8,7 @@ use Rattle.integers.specs.Linear.{back64}
 use Rattle.plan.specs.Records.{planValue}
 use Rattle.multipliers.specs.Laws.Solve.{some-component}
 use Rattle.postman.specs.Component.{componentCount}
-use Rattle.solution.specs.declared.trees.Reached.{Reached}
+use Rattle.tree_search.specs.declared.trees.Reached.{Reached}
 use Rattle.district_turn.specs.Stint.{isHolding, soFar}
 use Rattle.district_turn.specs.Laws.Clash.{was-false}
 use Rattle.tree_check.specs.Laws.Tree.{plain}

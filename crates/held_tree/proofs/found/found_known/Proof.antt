@@ -2,7 +2,7 @@
 use mathlib.Core.Path.{_∙_}
 use native.Mathlib.Omega.{arith}
 use Rattle.integers.specs.Linear.{back64}
-use Rattle.solution.specs.Laws.Answer.{cost-small}
+use Rattle.tree_search.specs.Laws.BestTree.{cost-small}
 use Rattle.held_tree.specs.Laws.Found.{floor-as}
 use borrow.Author.Needs.{needs}
 use Rattle.held_tree.proofs.found.found_known.Statement.{statement}

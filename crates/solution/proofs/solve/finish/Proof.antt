@@ -2,8 +2,9 @@
 use mathlib.Core.Path.{_∙_}
 use native.Mathlib.Omega.{arith}
 use Rattle.integers.specs.Linear.{back64}
-use Rattle.solution.specs.Laws.Answer.{cost-small, concluded-planned}
-use Rattle.solution.specs.Laws.Resumed.{holds-kept}
+use Rattle.solution.specs.Laws.Answer.{concluded-planned}
+use Rattle.tree_search.specs.Laws.BestTree.{cost-small}
+use Rattle.tree_search.specs.Laws.Resumed.{holds-kept}
 use borrow.Author.Needs.{needs}
 use Rattle.solution.proofs.solve.finish.Statement.{statement}
 use Rattle.solution.proofs.solve.finish.Tie as tie

@@ -26,9 +26,9 @@ use Rattle.search.specs.declared.tried.Searched.{Searched}
 use Rattle.branches.specs.Progress.{Held, held, passOver, tryTree, advance}
 use Rattle.search.specs.Contracts.{IsSearched}
 use Rattle.branches.specs.Laws.Progress.{tried-first, goes-on}
-use Rattle.solution.specs.declared.trees.Reached.{Reached}
-use Rattle.solution.specs.Resumed.{triedOn, linksBy, IsReachedBy, HoldsTree}
-use Rattle.solution.specs.Laws.Answer.{best-tree, kept-tree, kept-fits}
+use Rattle.tree_search.specs.declared.trees.Reached.{Reached}
+use Rattle.tree_search.specs.Resumed.{triedOn, linksBy, IsReachedBy, HoldsTree}
+use Rattle.tree_search.specs.Laws.BestTree.{best-tree, kept-tree, kept-fits}
 
 some-bound : (f : List Link → ℕ) (ts : List (List Link)) → (b : ℕ) × ((t : List Link) → List·Memᴰ t ts → f t < b)
 some-bound f [] = (0, λ t m. elim m [ ])

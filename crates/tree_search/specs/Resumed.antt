@@ -13,8 +13,8 @@ use Rattle.postman.specs.Balancing.{completionCost}
 use Rattle.postman.specs.PlanCall.{triedCount, isWhole, bestCost, bestArborescence}
 use Rattle.branches.specs.Links.{linksIn}
 use Rattle.branches.specs.Progress.{Held, held, advance}
-use Rattle.solution.specs.declared.trees.Reached.{Reached}
-use Rattle.solution.specs.declared.trees.Resumed.{Resumed}
+use Rattle.tree_search.specs.declared.trees.Reached.{Reached}
+use Rattle.tree_search.specs.declared.trees.Resumed.{Resumed}
 use Rattle.multipliers.specs.Prepared.{IsTree}
 use Rattle.postman.specs.Districts.{turnTrees}
 

@@ -5,10 +5,10 @@ use native.Mathlib.Omega.{arith}
 use Rattle.plan.specs.Records.{planValue}
 use Rattle.postman.specs.PlanCall.{triedCount, bestCost, bestArborescence}
 use Rattle.small_counts.specs.Matrix.{cap}
-use Rattle.solution.specs.Laws.Resumed.{total-is, whole-is, some-tried, tried-few, best-after, tried-cost, tried-tree}
+use Rattle.tree_search.specs.Laws.Resumed.{total-is, whole-is, some-tried, tried-few, best-after, tried-cost, tried-tree}
 use borrow.Author.Needs.{needs}
-use Rattle.solution.proofs.trees.go_on.Statement.{statement}
-use Rattle.solution.proofs.trees.go_on.Tie as tie
+use Rattle.tree_search.proofs.trees.go_on.Statement.{statement}
+use Rattle.tree_search.proofs.trees.go_on.Tie as tie
 
 begin-requires : tie.Need-begin-requires
 begin-requires c κs = search needs

@@ -8,8 +8,8 @@ use Rattle.search.specs.Laws.Tried.{countable, root-count}
 use Rattle.multipliers.specs.Laws.Solve.{Rooted, some-component, prepared, given}
 use Rattle.multipliers.specs.Laws.Ascent.{answered-rooted}
 use borrow.Author.Needs.{needs}
-use Rattle.solution.proofs.trees.begin.Statement.{statement}
-use Rattle.solution.proofs.trees.begin.Tie as tie
+use Rattle.tree_search.proofs.trees.begin.Statement.{statement}
+use Rattle.tree_search.proofs.trees.begin.Tie as tie
 
 of-network-requires : tie.Need-of-network-requires
 of-network-requires c κs =

@@ -8,8 +8,8 @@ use Rattle.branches.specs.Progress.{advance}
 use Rattle.branches.specs.Holding.{heldIn}
 use Rattle.search.specs.Laws.Tried.{root-trees}
 use borrow.Author.Needs.{needs}
-use Rattle.solution.proofs.trees.explored.Statement.{statement}
-use Rattle.solution.proofs.trees.explored.Tie as tie
+use Rattle.tree_search.proofs.trees.explored.Statement.{statement}
+use Rattle.tree_search.proofs.trees.explored.Tie as tie
 
 advance-requires : tie.Need-advance-requires
 advance-requires c κs =

@@ -22,8 +22,8 @@ ghost use Rattle.search.specs.Contracts.{IsExplored, IsSearched};
 ghost use Rattle.branches.specs.Holding.{IsShort};
 ghost use Rattle.multipliers.specs.Prepared.{IsBase};
 ghost use Rattle.multipliers.specs.Ascent.{multipliersFor};
-ghost use Rattle.solution.specs.Begun.{IsBegun};
-ghost use Rattle.solution.specs.Resumed.{turnOf, triedOn, linksBy, IsResumed, IsReachedBy};
+ghost use Rattle.tree_search.specs.Begun.{IsBegun};
+ghost use Rattle.tree_search.specs.Resumed.{turnOf, triedOn, linksBy, IsResumed, IsReachedBy};
 
 // How far a search is: the best so far, and how many trees were tried.
 pub struct Reached {
@@ -111,7 +111,7 @@ fn searched(
 }
 
 // The first tree of least cost among those tried.
-pub(crate) fn best(
+pub fn best(
     plan: Plan,
     table: &[[u32; 64]; 64],
     vs: &[u8],

@@ -7,7 +7,7 @@ use Rattle.postman.specs.Arborescence.{arborescenceCount}
 use Rattle.small_counts.specs.Matrix.{cap}
 use Rattle.tree_bounds.specs.Prepared.{Prepared}
 use Rattle.branches.specs.Branches.{IsRoot}
-use Rattle.solution.specs.declared.trees.Begun.{Begun}
+use Rattle.tree_search.specs.declared.trees.Begun.{Begun}
 
 -- The candidates of the k components in order, the branch that has no choice yet, beside the amounts of the required arcs, and the number
 -- of all trees, by a count that ends at the cap.

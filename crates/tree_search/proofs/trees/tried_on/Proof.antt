@@ -2,10 +2,10 @@
 use mathlib.Core.Path.{refl, sym, ap, _∙_}
 use native.Mathlib.Omega.{arith}
 use Rattle.branches.specs.Progress.{Held}
-use Rattle.solution.specs.Laws.Resumed.{first-on, later-on}
+use Rattle.tree_search.specs.Laws.Resumed.{first-on, later-on}
 use borrow.Author.Needs.{needs}
-use Rattle.solution.proofs.trees.tried_on.Statement.{statement}
-use Rattle.solution.proofs.trees.tried_on.Tie as tie
+use Rattle.tree_search.proofs.trees.tried_on.Statement.{statement}
+use Rattle.tree_search.proofs.trees.tried_on.Tie as tie
 
 first-tried-requires : tie.Need-first-tried-requires
 first-tried-requires c κs =

@@ -1,8 +1,8 @@
 -- What one search finds is the best of the trees that it tries.
 use mathlib.Core.Path.{refl}
 use borrow.Author.Needs.{needs}
-use Rattle.solution.proofs.trees.first_tried.Statement.{statement}
-use Rattle.solution.proofs.trees.first_tried.Tie as tie
+use Rattle.tree_search.proofs.trees.first_tried.Statement.{statement}
+use Rattle.tree_search.proofs.trees.first_tried.Tie as tie
 
 searched-requires : tie.Need-searched-requires
 searched-requires c κs = search needs

@@ -5,11 +5,11 @@ use native.Mathlib.Omega.{arith}
 use Rattle.plan.specs.Records.{planValue}
 use Rattle.postman.specs.PlanCall.{triedCount}
 use Rattle.small_counts.specs.Matrix.{cap}
-use Rattle.solution.specs.Resumed.{triedOn, linksBy}
-use Rattle.solution.specs.Laws.Resumed.{total-is, whole-is, some-tried}
+use Rattle.tree_search.specs.Resumed.{triedOn, linksBy}
+use Rattle.tree_search.specs.Laws.Resumed.{total-is, whole-is, some-tried}
 use borrow.Author.Needs.{needs}
-use Rattle.solution.proofs.trees.resume.Statement.{statement}
-use Rattle.solution.proofs.trees.resume.Tie as tie
+use Rattle.tree_search.proofs.trees.resume.Statement.{statement}
+use Rattle.tree_search.proofs.trees.resume.Tie as tie
 
 begin-requires : tie.Need-begin-requires
 begin-requires c κs = let s = c .before in (s .pre .0, s .pre .1, s .pre .2)

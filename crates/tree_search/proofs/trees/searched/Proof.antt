@@ -1,8 +1,8 @@
 -- The search begins at the root, with the candidates that it asks for.
 use Rattle.plan.specs.Records.{planValue}
 use borrow.Author.Needs.{needs}
-use Rattle.solution.proofs.trees.searched.Statement.{statement}
-use Rattle.solution.proofs.trees.searched.Tie as tie
+use Rattle.tree_search.proofs.trees.searched.Statement.{statement}
+use Rattle.tree_search.proofs.trees.searched.Tie as tie
 
 search-requires : tie.Need-search-requires
 search-requires c κs =

@@ -1,7 +1,7 @@
 -- A search from the root.
 use borrow.Author.Needs.{needs}
-use Rattle.solution.proofs.trees.best.Statement.{statement}
-use Rattle.solution.proofs.trees.best.Tie as tie
+use Rattle.tree_search.proofs.trees.best.Statement.{statement}
+use Rattle.tree_search.proofs.trees.best.Tie as tie
 
 begin-requires : tie.Need-begin-requires
 begin-requires c κs = let s = c .before in (s .pre .0, s .pre .1, s .pre .2)
