@@ -3,9 +3,9 @@
 use balance::state::Balance;
 use network::network::Network;
 use plan::Plan;
-use tree_search::trees::Reached;
 use tree_check::cost::tree_cost;
 use tree_check::tree::is_tree;
+use tree_search::trees::Reached;
 ghost use mathlib.Core.Path.{_≡_};
 ghost use Prim.Native.Nat.{_≤_};
 ghost use lib.ListN.{take};

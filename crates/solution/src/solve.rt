@@ -2,7 +2,6 @@
 // Steps for other crates, which ask something of their caller.
 use crate::Planned;
 use crate::lay::lay_held;
-use tree_search::trees::best;
 use balance::state::Balance;
 use lagrangian::bound::floor_of;
 use multipliers::ascend::multipliers_for;
@@ -12,6 +11,7 @@ use network::network::Network;
 use plan::Plan;
 use refusal::Verdict;
 use search::tried::Searched;
+use tree_search::trees::best;
 ghost use mathlib.Core.Path.{_≡_};
 ghost use mathlib.Core.Option.{none};
 ghost use Prim.Native.Nat.{_≤_};
