@@ -4,7 +4,7 @@ use budget::Checked;
 use call_steps::steps::network_verdict;
 use district_machine::machine::District;
 use district_machine::machine::Machine;
-use district_machine::machine::nothing_held;
+use tree_search::trees::nothing_held;
 use district_machine::places::kept;
 use district_machine::places::lined_up;
 use district_machine::places::lowest_free;

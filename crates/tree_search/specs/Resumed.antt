@@ -3,7 +3,7 @@ use mathlib.Core.Path.{_≡_}
 use mathlib.Core.Bool.{cond}
 use mathlib.Core.List.{List}
 use Prim.Native.Nat.{ℕ, _+_, _-_, _≤_, min}
-use lib.ListN.{length, take}
+use lib.ListN.{length, take, replicate}
 use lib.Dec.{eqb}
 use Rattle.postman.specs.Plan.{Plan}
 use Rattle.postman.specs.Link.{Link}
@@ -17,6 +17,10 @@ use Rattle.tree_search.specs.declared.trees.Reached.{Reached}
 use Rattle.tree_search.specs.declared.trees.Resumed.{Resumed}
 use Rattle.multipliers.specs.Prepared.{IsTree}
 use Rattle.postman.specs.Districts.{turnTrees}
+
+-- What is held before the first tree: zeros.
+abbrev pub nothingHeld : Reached
+nothingHeld = record { cost = 0; tails = replicate 8 0; heads = replicate 8 0; tried = 0 }
 
 -- How many trees are tried in a turn, where T are tried in all and n were tried before; and how many are tried after it.
 abbrev pub turnOf : ℕ → ℕ → ℕ

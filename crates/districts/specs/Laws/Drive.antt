@@ -27,8 +27,8 @@ use Rattle.solution.specs.declared.Planned.{Planned}
 use Rattle.tree_search.specs.declared.trees.Reached.{Reached}
 use Rattle.tree_search.specs.Resumed.{linksBy, heldAfter}
 use Rattle.tree_search.specs.Laws.Resumed.{IsPriced, on-priced}
-use Rattle.district_turn.specs.Stint.{isHolding, isResumable, canGoOn, isLast, lastAnswer, lastSheet}
-use Rattle.district_turn.specs.Laws.Stint.{held-priced}
+use Rattle.district_turn.specs.DistrictTurn.{isHolding, isResumable, canGoOn, isLast, lastAnswer, lastSheet}
+use Rattle.district_turn.specs.Laws.DistrictTurn.{held-priced}
 use Rattle.district_machine.specs.declared.machine.District.{District as DistrictRecord}
 use Rattle.district_machine.specs.declared.machine.Machine.{Machine}
 use Rattle.districts.specs.declared.turn.Turned.{Turned}

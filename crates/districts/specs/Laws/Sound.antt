@@ -38,9 +38,9 @@ use Rattle.solution.specs.Planned.{IsPlanned}
 use Rattle.solution.specs.Laws.Answer.{concluded-best}
 use Rattle.tree_search.specs.Laws.BestTree.{best-tree}
 use Rattle.tree_search.specs.Laws.Resumed.{best-after, tried-few}
-use Rattle.district_turn.specs.Stint.{isTree, isHolding, isResumable, canGoOn, isLast, lastAnswer, lastSheet}
+use Rattle.district_turn.specs.DistrictTurn.{isTree, isHolding, isResumable, canGoOn, isLast, lastAnswer, lastSheet}
 use Rattle.district_turn.specs.Padded.{padded}
-use Rattle.district_turn.specs.Laws.Stint.{of-arborescence, holding-first, holding-later, and-yes, padded-links}
+use Rattle.district_turn.specs.Laws.DistrictTurn.{of-arborescence, holding-first, holding-later, and-yes, padded-links}
 use Rattle.district_machine.specs.declared.machine.District.{District as DistrictRecord}
 use Rattle.district_machine.specs.declared.machine.Machine.{Machine}
 use Rattle.postman.specs.Districts.{District, district, Line, places, entryRefusal, lowestFree, total, goneOn, finishes}

@@ -54,6 +54,24 @@ pub tried-tree : (p : Plan) (n : ℕ) → bestArborescence p (triedCount p n) �
 unfolding bestArborescence
 tried-tree p n = ap (λ m. argmin (completionCost p) [] (take m (arborescences p))) (tried-again p n)
 
+-- ---- T, and whole, from a count that is cut
+
+module _ (p : Plan) (budget n : ℕ) (small : budget < cap) (count : n ≡ min (arborescenceCount p) cap) where
+  pub total-is : (t : ℕ) → t ≡ min budget n → t ≡ triedCount p budget
+  unfolding triedCount
+  total-is t e = omega arith
+
+  pub whole-is : leb n budget ≡ isWhole p budget
+  unfolding isWhole
+  whole-is = elim (decLe (arborescenceCount p) budget) [
+    | yes l ↦ le-leb n budget (omega arith) ∙ sym (le-leb (arborescenceCount p) budget l)
+    | no l ↦ lt-leb n budget (omega arith) ∙ sym (lt-leb (arborescenceCount p) budget (omega arith))
+  ]
+
+pub tried-within : (p : Plan) (budget : ℕ) → triedCount p budget ≤ budget
+unfolding triedCount
+tried-within p budget = omega arith
+
 some-of : (m : ℕ) → (m ≡ 0 → ⊥) → 1 ≤ m
 some-of m o = omega (arith, o)
 
@@ -141,19 +159,7 @@ module _ (p : Plan) (ok : Plannable p) where
         (advance-priced (held c l m n) ts (λ t x. arborescences-mem p x) (i (some-of m o)))
   ]
 
-  -- ---- T, and whole, from a count that is cut
-
-  module _ (budget n : ℕ) (small : budget < cap) (count : n ≡ min (arborescenceCount p) cap) where
-    pub total-is : (t : ℕ) → t ≡ min budget n → t ≡ triedCount p budget
-    unfolding triedCount
-    total-is t e = omega arith
-
-    pub whole-is : leb n budget ≡ isWhole p budget
-    unfolding isWhole
-    whole-is = elim (decLe (arborescenceCount p) budget) [
-      | yes l ↦ le-leb n budget (omega arith) ∙ sym (le-leb (arborescenceCount p) budget l)
-      | no l ↦ lt-leb n budget (omega arith) ∙ sym (lt-leb (arborescenceCount p) budget (omega arith))
-    ]
+  -- ---- the trees that are tried
 
   pub some-tried : (budget : ℕ) → 1 ≤ budget → 1 ≤ triedCount p budget
   unfolding triedCount

@@ -1,24 +1,18 @@
 -- The candidates, the state, the multipliers and the entries are what the search asks.
-use mathlib.Core.Path.{ap, _∙_, subst⁻¹}
+use mathlib.Core.Path.{ap, _∙_}
 use Prim.Native.Nat.{min}
 use native.Mathlib.Omega.{arith}
 use Rattle.plan.specs.Records.{planValue}
 use Rattle.small_counts.specs.Matrix.{cap}
 use Rattle.search.specs.Laws.Tried.{countable, root-count}
-use Rattle.multipliers.specs.Laws.Solve.{Rooted, some-component, prepared, given}
-use Rattle.multipliers.specs.Laws.Ascent.{answered-rooted}
+use Rattle.preparation.specs.Laws.Preparation.{vertices-fit, vertices-length, component-range}
+use Rattle.tree_search.specs.Laws.Begun.{search-prepared, search-given}
 use borrow.Author.Needs.{needs}
 use Rattle.tree_search.proofs.trees.begin.Statement.{statement}
 use Rattle.tree_search.proofs.trees.begin.Tie as tie
 
 of-network-requires : tie.Need-of-network-requires
-of-network-requires c κs =
-    let s = c .before in
-    let b = s .pre .0 .known in
-    let a = s .pre .2 .components .all in
-    let l = some-component _ (b .plannable) (b .few) in
-    let m = b .few in
-    (omega arith, omega arith)
+of-network-requires c κs = component-range _ _ _ (c .before .pre)
 
 entries-of-requires : tie.Need-entries-of-requires
 entries-of-requires c κs = search needs
@@ -26,47 +20,51 @@ entries-of-requires c κs = search needs
 cast-k : tie.Need-cast-k
 cast-k c = search needs
 
+array-share-prefix-list : tie.Need-array-share-prefix-list
+array-share-prefix-list c = vertices-fit _ _ _ (c .before .pre)
+
+slice-aggregate-root : tie.Need-slice-aggregate-root
+slice-aggregate-root c = vertices-length _ _ _ (c .before .pre)
+
 root-requires : tie.Need-root-requires
 root-requires c κs =
-    let s = c .before .before .before .before .before .before .before .before .before in
-    let b = s .pre .0 in
-    let n = s .pre .2 in
-    let net = s .args .net in
-    let o = c .before .before .before .before .before .before .before .of-network in
+    let s = c .before in
+    let o = c .before .of-network in
     let i = c .before .before .entries-of in
-    let e : Rooted (planValue (s .args .plan)) (s .args .t6) = subst⁻¹ (Rooted (planValue (s .args .plan))) (s .pre .1) (answered-rooted _ (b .known .plannable) (b .known .few)) in
-    let h = prepared _ _ _ _ b _ e _ (o .result) (n .components .all) (o .ensures _ (b .known .plannable .well-formed) n) in
-    let g = given _ _ _ _ b _ e _ (net .links) (net .component) (net .components) (i .result) (n .required-cost) (n .links) (n .components) (i .ensures) in
-    (planValue (s .args .plan), s .args .table .now, o .result .start, o .result .source, o .result .tails, o .result .heads, h, g)
+    let p = planValue (s .args .plan) in
+    let h = search-prepared p _ _ (s .pre) (o .result) (o .ensures _ (s .pre .base .known .plannable .well-formed) (s .pre .network)) in
+    (p, s .args .table .now, o .result .start, o .result .source, o .result .tails, o .result .heads, h, search-given p _ _ (s .pre) (i .result) (i .ensures))
 
 number-requires : tie.Need-number-requires
 number-requires c κs =
-    let s = c .before .before .before .before .before .before .before .before .before .before .before .before in
-    let b = s .pre .0 in
-    let n = s .pre .2 in
-    let net = s .args .net in
-    let o = c .before .before .before .before .before .before .before .before .before .before .of-network in
-    let i = c .before .before .before .before .before .entries-of in
-    let e : Rooted (planValue (s .args .plan)) (s .args .t6) = subst⁻¹ (Rooted (planValue (s .args .plan))) (s .pre .1) (answered-rooted _ (b .known .plannable) (b .known .few)) in
-    let h = prepared _ _ _ _ b _ e _ (o .result) (n .components .all) (o .ensures _ (b .known .plannable .well-formed) n) in
-    let g = given _ _ _ _ b _ e _ (net .links) (net .component) (net .components) (i .result) (n .required-cost) (n .links) (n .components) (i .ensures) in
+    let s = c .before in
+    let o = c .before .of-network in
+    let i = c .before .before .entries-of in
+    let p = planValue (s .args .plan) in
+    let h = search-prepared p _ _ (s .pre) (o .result) (o .ensures _ (s .pre .base .known .plannable .well-formed) (s .pre .network)) in
     let r = c .before .before .root in
-    countable h (r .result) (r .ensures _ _ _ _ _ _ h g)
+    countable h (r .result) (r .ensures _ _ _ _ _ _ h (search-given p _ _ (s .pre) (i .result) (i .ensures)))
 
 returns : tie.Need-returns
 returns c =
-    let s = c .before .before .before .before .before .before .before .before .before .before .before .before .before in
-    let b = s .pre .0 in
-    let n = s .pre .2 in
-    let net = s .args .net in
-    let o = c .before .before .before .before .before .before .before .before .before .before .before .of-network in
-    let i = c .before .before .before .before .before .before .entries-of in
-    let e : Rooted (planValue (s .args .plan)) (s .args .t6) = subst⁻¹ (Rooted (planValue (s .args .plan))) (s .pre .1) (answered-rooted _ (b .known .plannable) (b .known .few)) in
-    let h = prepared _ _ _ _ b _ e _ (o .result) (n .components .all) (o .ensures _ (b .known .plannable .well-formed) n) in
-    let g = given _ _ _ _ b _ e _ (net .links) (net .component) (net .components) (i .result) (n .required-cost) (n .links) (n .components) (i .ensures) in
+    let s = c .before in
+    let o = c .before .of-network in
+    let i = c .before .before .entries-of in
+    let p = planValue (s .args .plan) in
+    let h = search-prepared p _ _ (s .pre) (o .result) (o .ensures _ (s .pre .base .known .plannable .well-formed) (s .pre .network)) in
     let r = c .before .before .before .root in
-    let is = r .ensures _ _ _ _ _ _ h g in
+    let is = r .ensures _ _ _ _ _ _ h (search-given p _ _ (s .pre) (i .result) (i .ensures)) in
     record { prepared = h; root = is; number = c .number .ensures ∙ ap (λ x. min x cap) (root-count h (r .result) is) }
 
 pub begin-spec : {M : Type 1} → statement M
-begin-spec = tie.close (tie.spec of-network-requires entries-of-requires cast-k root-requires number-requires returns)
+begin-spec =
+    tie.close
+    (tie.spec
+    of-network-requires
+    entries-of-requires
+    cast-k
+    array-share-prefix-list
+    slice-aggregate-root
+    root-requires
+    number-requires
+    returns)

@@ -11,8 +11,8 @@ first-tried-requires : tie.Need-first-tried-requires
 first-tried-requires c κs =
     let s = c .before .before .before in
     let e = c .if1 .taken in
-    let l = s .pre .1 in
-    (s .pre .0, omega arith)
+    let l = s .pre .1 .0 in
+    (s .pre .0 .0, s .pre .0 .1, omega arith)
 
 returns : tie.Need-returns
 returns c =
@@ -20,7 +20,7 @@ returns c =
     let n = f .0 in
     let e = c .before .if1 .taken in
     let s = c .before .before .before .before in
-    let x = first-on _ (s .pre .0 .prepared .plannable) (s .args .g .cost) _ (s .args .g .tried) (s .args .more) e in
+    let x = first-on _ (s .pre .0 .0 .base .known .plannable) (s .args .g .cost) _ (s .args .g .tried) (s .args .more) e in
     (omega arith, f .1 ∙ sym (ap (λ (h : Held). h .cost) x), f .2 ∙ sym (ap (λ (h : Held). h .links) x))
 
 cast-skip : tie.Need-cast-skip
@@ -29,9 +29,9 @@ cast-skip c = search needs
 explored-requires : tie.Need-explored-requires
 explored-requires c κs =
     let s = c .before .before .before .before .before .before in
-    let a = s .pre .2 in
-    let b = s .pre .3 in
-    (s .pre .0, omega arith)
+    let a = s .pre .1 .1 in
+    let b = s .pre .1 .2 in
+    (s .pre .0 .0, s .pre .0 .1, omega arith)
 
 add-tried : tie.Need-add-tried
 add-tried c = search needs
@@ -41,7 +41,7 @@ returns-2 c =
     let x = c .before .before .before in
     let s = x .before .before .before .before .before .before .before in
     let n = x .before .before .before .before .if1 .left in
-    let e = x .explored .ensures ∙ sym (later-on _ (s .pre .0 .prepared .plannable) (s .args .g .cost) _ (s .args .g .tried) (s .args .more) (omega arith)) in
+    let e = x .explored .ensures ∙ sym (later-on _ (s .pre .0 .0 .base .known .plannable) (s .args .g .cost) _ (s .args .g .tried) (s .args .more) (omega arith)) in
     (refl, ap (λ (h : Held). h .cost) e, ap (λ (h : Held). h .links) e)
 
 pub tried-on-spec : {M : Type 1} → statement M
