@@ -12,7 +12,7 @@ use Rattle.tree_search.proofs.trees.begin.Statement.{statement}
 use Rattle.tree_search.proofs.trees.begin.Tie as tie
 
 of-network-requires : tie.Need-of-network-requires
-of-network-requires c κs = component-range _ _ _ (c .before .pre)
+of-network-requires c κs = component-range _ _ _ (c .before .before .before .before .before .pre)
 
 entries-of-requires : tie.Need-entries-of-requires
 entries-of-requires c κs = search needs
@@ -21,25 +21,25 @@ cast-k : tie.Need-cast-k
 cast-k c = search needs
 
 array-share-prefix-list : tie.Need-array-share-prefix-list
-array-share-prefix-list c = vertices-fit _ _ _ (c .before .pre)
+array-share-prefix-list c = vertices-fit _ _ _ (c .before .before .before .before .before .before .before .before .before .before .before .before .pre)
 
 slice-aggregate-root : tie.Need-slice-aggregate-root
-slice-aggregate-root c = vertices-length _ _ _ (c .before .pre)
+slice-aggregate-root c = vertices-length _ _ _ (c .before .before .before .before .before .before .before .before .before .before .before .before .before .pre)
 
 root-requires : tie.Need-root-requires
 root-requires c κs =
-    let s = c .before in
-    let o = c .before .of-network in
-    let i = c .before .before .entries-of in
+    let s = c .before .before .before .before .before .before .before .before .before .before .before .before .before .before in
+    let o = c .before .before .before .before .before .before .before .before .of-network in
+    let i = c .before .before .before .entries-of in
     let p = planValue (s .args .plan) in
     let h = search-prepared p _ _ (s .pre) (o .result) (o .ensures _ (s .pre .base .known .plannable .well-formed) (s .pre .network)) in
     (p, s .args .table .now, o .result .start, o .result .source, o .result .tails, o .result .heads, h, search-given p _ _ (s .pre) (i .result) (i .ensures))
 
 number-requires : tie.Need-number-requires
 number-requires c κs =
-    let s = c .before in
-    let o = c .before .of-network in
-    let i = c .before .before .entries-of in
+    let s = c .before .before .before .before .before .before .before .before .before .before .before .before .before .before .before .before .before in
+    let o = c .before .before .before .before .before .before .before .before .before .before .before .of-network in
+    let i = c .before .before .before .before .before .before .entries-of in
     let p = planValue (s .args .plan) in
     let h = search-prepared p _ _ (s .pre) (o .result) (o .ensures _ (s .pre .base .known .plannable .well-formed) (s .pre .network)) in
     let r = c .before .before .root in
@@ -47,9 +47,9 @@ number-requires c κs =
 
 returns : tie.Need-returns
 returns c =
-    let s = c .before in
-    let o = c .before .of-network in
-    let i = c .before .before .entries-of in
+    let s = c .before .before .before .before .before .before .before .before .before .before .before .before .before .before .before .before .before .before in
+    let o = c .before .before .before .before .before .before .before .before .before .before .before .before .of-network in
+    let i = c .before .before .before .before .before .before .before .entries-of in
     let p = planValue (s .args .plan) in
     let h = search-prepared p _ _ (s .pre) (o .result) (o .ensures _ (s .pre .base .known .plannable .well-formed) (s .pre .network)) in
     let r = c .before .before .before .root in

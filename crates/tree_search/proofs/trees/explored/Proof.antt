@@ -16,10 +16,10 @@ cast-k : tie.Need-cast-k
 cast-k c = search needs
 
 array-share-prefix-list : tie.Need-array-share-prefix-list
-array-share-prefix-list c = vertices-fit _ _ _ (c .before .before .before .before .before .before .before .before .before .before .before .before .before .before .pre .0)
+array-share-prefix-list c = vertices-fit _ _ _ (c .before .before .before .before .before .before .before .before .before .before .before .before .before .pre .0)
 
 slice-aggregate-advance : tie.Need-slice-aggregate-advance
-slice-aggregate-advance c = vertices-length _ _ _ (c .before .before .before .before .before .before .before .before .before .before .before .before .before .before .before .pre .0)
+slice-aggregate-advance c = vertices-length _ _ _ (c .before .before .before .before .before .before .before .before .before .before .before .before .before .before .pre .0)
 
 advance-requires : tie.Need-advance-requires
 advance-requires c κs =

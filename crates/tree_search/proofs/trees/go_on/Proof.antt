@@ -13,42 +13,38 @@ begin-requires : tie.Need-begin-requires
 begin-requires c κs = search needs
 
 total-of-requires : tie.Need-total-of-requires
-total-of-requires c κs = c .before .begin .ensures .number
+total-of-requires c κs = c .begin .ensures .number
 
 sub-more : tie.Need-sub-more
 sub-more c =
-    let s = c .before .before in
-    let t = c .total-of .ensures .0 in
+    let s = c .before .before .before .before in
+    let t = c .before .before .total-of .ensures .0 in
     let g = s .pre .1 .3 in
     omega arith
 
 tried-on-requires : tie.Need-tried-on-requires
 tried-on-requires c κs =
-    let n = c .before .before .before in
-    let s = n .before .before in
+    let s = c .before .before .before .before in
     let p = planValue (s .args .plan) in
     let t = c .before .before .total-of .ensures .0 in
     let w = tried-within p (s .args .tries) in
     let o = some-tried p (s .pre .0 .base .known .plannable) (s .args .tries) (s .pre .1 .0) in
     let few = s .pre .1 .1 in
     let g = s .pre .1 .3 in
-    ((s .pre .0, n .begin .ensures), (omega arith, omega arith, omega arith))
+    ((s .pre .0, c .before .before .before .begin .ensures), (omega arith, omega arith, omega arith))
 
 returns : tie.Need-returns
 returns c =
-    let x = c .before .before in
-    let v = x .before .before in
-    let n = v .before in
-    let s = n .before .before in
+    let s = c .before .before .before .before .before .before .before in
     let ok = s .pre .0 .base .known .plannable in
     let p = planValue (s .args .plan) in
     let m = s .args .tries in
-    let t = v .total-of .ensures in
+    let t = c .before .before .before .before .before .total-of .ensures in
     let o = some-tried p ok m (s .pre .1 .0) in
     let g = s .pre .1 .3 in
     let l = tried-few p ok m in
-    let h = x .tried-on .ensures in
-    let more = v .total-of .result .trees - s .args .g .tried in
+    let h = c .before .before .tried-on .ensures in
+    let more = c .before .before .before .before .before .total-of .result .trees - s .args .g .tried in
     let q = t .0 in
     let e : s .args .g .tried + more ≡ triedCount p m = omega arith in
     let a = best-after p ok (s .args .g) more (omega arith) (omega arith) (s .pre .1 .2) in (
@@ -58,7 +54,7 @@ returns c =
         whole = t .1;
         links = h .2 ∙ a .1 ∙ ap (bestArborescence p) e ∙ tried-tree p m;
       },
-      n .begin .ensures .number,
+      c .before .before .before .before .before .before .begin .ensures .number,
     )
 
 pub go-on-spec : {M : Type 1} → statement M

@@ -14,33 +14,30 @@ begin-requires : tie.Need-begin-requires
 begin-requires c κs = search needs
 
 total-of-requires : tie.Need-total-of-requires
-total-of-requires c κs = c .before .begin .ensures .number
+total-of-requires c κs = c .begin .ensures .number
 
 turn-of-requires : tie.Need-turn-of-requires
 turn-of-requires c κs = search needs
 
 tried-on-requires : tie.Need-tried-on-requires
 tried-on-requires c κs =
-    let n = c .before .before .before in
-    let s = n .before .before in
+    let s = c .before .before .before in
     let p = planValue (s .args .plan) in
-    let t = c .before .before .total-of .ensures .0 in
+    let t = c .before .total-of .ensures .0 in
     let o = some-tried p (s .pre .0 .base .known .plannable) (s .args .budget) (s .pre .1) in
-    let e = c .before .turn-of .ensures in
+    let e = c .turn-of .ensures in
     let g = s .pre .2 in
-    ((s .pre .0, n .begin .ensures), (omega arith, omega arith, omega arith))
+    ((s .pre .0, c .before .before .begin .ensures), (omega arith, omega arith, omega arith))
 
 returns : tie.Need-returns
 returns c =
-    let x = c .before .before in
-    let v = x .before in
-    let n = v .before .before in
-    let s = n .before .before in
+    let v = c .before .before .before in
+    let s = c .before .before .before .before .before .before in
     let p = planValue (s .args .plan) in
-    let t = v .before .total-of .ensures in
+    let t = c .before .before .before .before .total-of .ensures in
     let e = v .turn-of .ensures in
     let m : v .turn-of .result ≡ min 1000 (triedCount p (s .args .budget) - s .args .g .tried) = e ∙ ap (λ y. min 1000 (y - s .args .g .tried)) (t .0) in
-    let h = x .tried-on .ensures in
+    let h = c .before .before .tried-on .ensures in
     record {
       total = t .0;
       whole = t .1;

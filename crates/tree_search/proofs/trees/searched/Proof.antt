@@ -9,10 +9,10 @@ cast-k : tie.Need-cast-k
 cast-k c = search needs
 
 array-share-prefix-list : tie.Need-array-share-prefix-list
-array-share-prefix-list c = vertices-fit _ _ _ (c .before .before .before .before .before .before .before .before .before .before .before .before .before .before .pre .0)
+array-share-prefix-list c = vertices-fit _ _ _ (c .before .before .before .before .before .before .before .before .before .before .before .before .before .pre .0)
 
 slice-aggregate-search : tie.Need-slice-aggregate-search
-slice-aggregate-search c = vertices-length _ _ _ (c .before .before .before .before .before .before .before .before .before .before .before .before .before .before .before .pre .0)
+slice-aggregate-search c = vertices-length _ _ _ (c .before .before .before .before .before .before .before .before .before .before .before .before .before .before .pre .0)
 
 search-requires : tie.Need-search-requires
 search-requires c κs =

@@ -9,7 +9,7 @@ use Rattle.tree_search.proofs.trees.tried_on.Tie as tie
 
 first-tried-requires : tie.Need-first-tried-requires
 first-tried-requires c κs =
-    let s = c .before .before .before in
+    let s = c .before .before in
     let e = c .if1 .taken in
     let l = s .pre .1 .0 in
     (s .pre .0 .0, s .pre .0 .1, omega arith)
@@ -19,7 +19,7 @@ returns c =
     let f = c .first-tried .ensures in
     let n = f .0 in
     let e = c .before .if1 .taken in
-    let s = c .before .before .before .before in
+    let s = c .before .before .before in
     let x = first-on _ (s .pre .0 .0 .base .known .plannable) (s .args .g .cost) _ (s .args .g .tried) (s .args .more) e in
     (omega arith, f .1 ∙ sym (ap (λ (h : Held). h .cost) x), f .2 ∙ sym (ap (λ (h : Held). h .links) x))
 
@@ -28,7 +28,7 @@ cast-skip c = search needs
 
 explored-requires : tie.Need-explored-requires
 explored-requires c κs =
-    let s = c .before .before .before .before .before .before in
+    let s = c .before .before .before .before .before in
     let a = s .pre .1 .1 in
     let b = s .pre .1 .2 in
     (s .pre .0 .0, s .pre .0 .1, omega arith)
@@ -39,8 +39,8 @@ add-tried c = search needs
 returns-2 : tie.Need-returns-2
 returns-2 c =
     let x = c .before .before .before in
-    let s = x .before .before .before .before .before .before .before in
-    let n = x .before .before .before .before .if1 .left in
+    let s = c .before .before .before .before .before .before .before .before .before in
+    let n = c .before .before .before .before .before .before .before .if1 .left in
     let e = x .explored .ensures ∙ sym (later-on _ (s .pre .0 .0 .base .known .plannable) (s .args .g .cost) _ (s .args .g .tried) (s .args .more) (omega arith)) in
     (refl, ap (λ (h : Held). h .cost) e, ap (λ (h : Held). h .links) e)
 
