@@ -8,20 +8,20 @@ use Rattle.solution.proofs.lay.lay.Statement.{statement}
 use Rattle.solution.proofs.lay.lay.Tie as tie
 
 with-links-requires : tie.Need-with-links-requires
-with-links-requires c κs = let s = c .before in (s .pre .0, s .pre .1)
+with-links-requires c κs = let s = c .before .before .before in (s .pre .0, s .pre .1)
 
 array-share-prefix-list : tie.Need-array-share-prefix-list
-array-share-prefix-list c = vertices-fit _ _ _ (c .before .before .before .before .before .pre .0)
+array-share-prefix-list c = vertices-fit _ _ _ (c .before .before .before .before .before .before .pre .0)
 
 slice-aggregate-direct-amounts : tie.Need-slice-aggregate-direct-amounts
-slice-aggregate-direct-amounts c = vertices-length _ _ _ (c .before .before .before .before .before .before .pre .0)
+slice-aggregate-direct-amounts c = vertices-length _ _ _ (c .before .before .before .before .before .before .before .pre .0)
 
 direct-amounts-requires : tie.Need-direct-amounts-requires
 direct-amounts-requires c κs =
     let s = c .before .before .before .before .before .before .before in
     let b = s .pre .0 .base in
     let t = s .pre .1 in
-    let e = c .before .before .before .before .before .with-links .ensures in
+    let e = c .before .before .before .with-links .ensures in
     let j = tree-joined _ _ _ _ b _ _ t in
     let l = tree-short _ _ _ _ b _ _ t in
     let r = state-room _ _ _ (b .known) _ j (omega arith) _ e in
@@ -29,10 +29,10 @@ direct-amounts-requires c κs =
 
 write-tour-requires : tie.Need-write-tour-requires
 write-tour-requires c κs =
-    let s = c .before .before .before .before .before .before .before .before .before in
+    let s = c .before .before .before .before .before .before .before .before .before .before in
     let b = s .pre .0 .base in
     let t = s .pre .1 in
-    let full = c .before .before .before .before .before .before .before .with-links in
+    let full = c .before .before .before .before .before .before .with-links in
     let laid = c .before .before .direct-amounts in
     let a = amounts-are _ _ _ _ b _ _ t (stateOf (full .result)) (full .ensures) (laid .result) (laid .ensures) in
     ((b .known .plannable .well-formed, s .pre .3), ((t .same, amounts-complete _ _ _ _ b _ _ t _ a), s .pre .2))
@@ -42,8 +42,8 @@ same-length c = search needs
 
 returns : tie.Need-returns
 returns c =
-    let s = c .before .before .before .before .before .before .before .before .before .before .before .before in
-    let full = c .before .before .before .before .before .before .before .before .before .before .with-links in
+    let s = c .before .before .before .before .before .before .before .before .before .before .before .before .before in
+    let full = c .before .before .before .before .before .before .before .before .before .with-links in
     let laid = c .before .before .before .before .before .direct-amounts in
     let w = c .before .before .write-tour in
     let a = amounts-are _ _ _ _ (s .pre .0 .base) _ _ (s .pre .1) (stateOf (full .result)) (full .ensures) (laid .result) (laid .ensures) in

@@ -11,12 +11,12 @@ use Rattle.solution.proofs.solve.conclude.Tie as tie
 
 lay-held-requires : tie.Need-lay-held-requires
 lay-held-requires c κs =
-    let s = c .before .before .before .before .before in
+    let s = c .before .before .before .before .before .before in
     (s .pre .0, s .pre .1, s .pre .3, s .pre .4)
 
 floor-found-requires : tie.Need-floor-found-requires
 floor-found-requires c κs =
-    let s = c .before .before .before .before .before .before .before .before in
+    let s = c .before .before .before .before .before .before .before .before .before in
     (s .pre .0, s .pre .2)
 
 same-length : tie.Need-same-length
@@ -24,7 +24,7 @@ same-length c = search needs
 
 returns : tie.Need-returns
 returns c =
-    let s = c .before .before .before .before .before .before .before .before .before in
+    let s = c .before .before .before .before .before .before .before .before .before .before in
     let p = planValue (s .args .plan) in
     let f = s .args .s in
     let l = c .before .before .before .lay-held in

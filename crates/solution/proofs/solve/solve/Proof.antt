@@ -8,12 +8,12 @@ use Rattle.solution.proofs.solve.solve.Statement.{statement}
 use Rattle.solution.proofs.solve.solve.Tie as tie
 
 best-requires : tie.Need-best-requires
-best-requires c κs = let s = c .before .before in (s .pre .0, s .pre .1)
+best-requires c κs = let s = c .before in (s .pre .0, s .pre .1)
 
 conclude-requires : tie.Need-conclude-requires
 conclude-requires c κs =
     let r = c .before .best in
-    let s = c .before .before .before .before in
+    let s = c .before .before .before in
     let b = s .pre .0 .base .known in
     let l = cost-small _ (b .plannable) (b .few) _ (s .pre .1) in
     let e = r .ensures .cost in
@@ -24,11 +24,10 @@ same-length c = search needs
 
 returns : tie.Need-returns
 returns c =
-    let k = c .before .before in
-    let r = k .before .before .best in
-    let s = k .before .before .before .before .before in
+    let r = c .before .before .before .before .best in
+    let s = c .before .before .before .before .before .before in
     let b = s .pre .0 .base .known in
-    concluded-planned _ (b .plannable) (b .few) _ (s .pre .1) (r .result) _ _ _ (r .ensures) (k .conclude .ensures)
+    concluded-planned _ (b .plannable) (b .few) _ (s .pre .1) (r .result) _ _ _ (r .ensures) (c .before .before .conclude .ensures)
 
 pub solve-spec : {M : Type 1} → statement M
 solve-spec = tie.close (tie.spec best-requires conclude-requires same-length returns)
