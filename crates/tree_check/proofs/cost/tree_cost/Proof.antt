@@ -13,7 +13,7 @@ with-links-requires c κs = search needs
 
 link-cost-requires : tie.Need-link-cost-requires
 link-cost-requires c κs =
-    let s = c .before .before in
+    let s = c .before .before .before in
     let b = s .pre .0 .base in
     let t = s .pre .1 in
     let l = links-cost _ _ _ _ b _ _ t in
@@ -23,38 +23,38 @@ link-cost-requires c κs =
 
 add-result : tie.Need-add-result
 add-result c =
-    let s = c .before .before .before .before in
+    let s = c .before .before .before .before .before .before in
     let b = s .pre .0 .base in
     let t = s .pre .1 in
-    let full = c .before .before .with-links in
+    let full = c .before .before .before .with-links in
     let x = s .pre .0 .network .required-cost in
-    let y = c .before .link-cost .ensures ∙ links-cost _ _ _ _ b _ _ t in
+    let y = c .before .before .link-cost .ensures ∙ links-cost _ _ _ _ b _ _ t in
     let w = whole-cost _ _ _ _ b _ _ t in
     let m = cost-small _ _ _ _ b _ _ t in
-    let l : s .args .r .network .«required_cost» + c .before .link-cost .result ≤ 1131527310 = omega arith in
+    let l : s .args .r .network .«required_cost» + c .before .before .link-cost .result ≤ 1131527310 = omega arith in
     search needs
 
 add-result-2 : tie.Need-add-result-2
 add-result-2 c =
-    let s = c .before .before .before .before .before in
+    let s = c .before .before .before .before .before .before .before in
     let b = s .pre .0 .base in
     let t = s .pre .1 in
-    let full = c .before .before .before .with-links in
+    let full = c .before .before .before .before .with-links in
     let x = s .pre .0 .network .required-cost in
-    let y = c .before .before .link-cost .ensures ∙ links-cost _ _ _ _ b _ _ t in
+    let y = c .before .before .before .link-cost .ensures ∙ links-cost _ _ _ _ b _ _ t in
     let z = balanced-cost _ _ _ _ b _ _ t (stateOf (full .result)) (full .ensures) in
     let w = whole-cost _ _ _ _ b _ _ t in
     let m = cost-small _ _ _ _ b _ _ t in
-    let l : s .args .r .network .«required_cost» + c .before .before .link-cost .result + full .result .cost ≤ 1131527310 = omega arith in
+    let l : s .args .r .network .«required_cost» + c .before .before .before .link-cost .result + full .result .cost ≤ 1131527310 = omega arith in
     search needs
 
 returns : tie.Need-returns
 returns c =
-    let s = c .before .before .before .before .before in
+    let s = c .before .before .before .before .before .before .before in
     let b = s .pre .0 .base in
     let t = s .pre .1 in
-    let full = c .before .before .before .with-links in
-    let y = c .before .before .link-cost .ensures ∙ links-cost _ _ _ _ b _ _ t in
+    let full = c .before .before .before .before .with-links in
+    let y = c .before .before .before .link-cost .ensures ∙ links-cost _ _ _ _ b _ _ t in
     let z = balanced-cost _ _ _ _ b _ _ t (stateOf (full .result)) (full .ensures) in
     ap₂ _+_ (ap₂ _+_ (s .pre .0 .network .required-cost) y) z ∙ whole-cost _ _ _ _ b _ _ t
 
