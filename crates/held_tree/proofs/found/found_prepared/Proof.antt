@@ -13,8 +13,8 @@ go-on-requires c κs = search needs
 
 floor-found-requires : tie.Need-floor-found-requires
 floor-found-requires c κs =
-    let s = c .before .before .before in
-    let g = c .before .before .go-on in
+    let s = c .before .before in
+    let g = c .before .go-on in
     let k = s .pre .0 .base .known in
     let l = cost-small _ (k .plannable) (k .few) _ (s .pre .1 .some-tries) in
     let e = g .ensures .0 .cost in
@@ -22,11 +22,11 @@ floor-found-requires c κs =
 
 returns : tie.Need-returns
 returns c =
-    let s = c .before .before .before .before .before .before .before in
+    let s = c .before .before .before .before .before .before in
     let g = c .before .before .before .before .before .go-on in
     record {
       best-is = record { tried-is = g .ensures .0 .tried; cost-is = g .ensures .0 .cost; links-are = g .ensures .0 .links };
-      floor-is = back64 _ (c .before .before .floor-found .ok) ∙ c .before .before .floor-found .ensures ∙ floor-as _ _ (g .result .found) (g .ensures .0);
+      floor-is = back64 _ (c .before .before .before .floor-found .ok) ∙ c .before .before .before .floor-found .ensures ∙ floor-as _ _ (g .result .found) (g .ensures .0);
       multipliers-are = s .pre .0 .multipliers-are;
       number-is = g .ensures .1;
     }

@@ -10,19 +10,21 @@ network-of-requires c κs = let s = c .before in (s .pre .0, is-table _ _ (s .pr
 
 prepare-requires : tie.Need-prepare-requires
 prepare-requires c κs =
-    let s = c .before .before .before in
-    (known-tabled _ _ (s .pre .0) (s .pre .1) (s .pre .3) _ (c .before .network-of .ensures), c .before .network-of .ensures)
+    let s = c .before .before in
+    (known-tabled _ _ (s .pre .0) (s .pre .1) (s .pre .3) _ (c .network-of .ensures), c .network-of .ensures)
 
 lay-held-requires : tie.Need-lay-held-requires
 lay-held-requires c κs =
-    let s = c .before .before .before .before .before in
+    let s = c .before .before .before .before in
     (c .before .prepare .ensures, s .pre .4, s .pre .5, s .pre .2)
 
 same-length : tie.Need-same-length
 same-length c = search needs
 
 returns : tie.Need-returns
-returns c = search needs
+returns c =
+    let e = c .before .before .lay-held .ensures in
+    (e .0, e .1, c .before .before .before .before .before .network-of .ensures .components .all)
 
 pub lay-tabled-spec : {M : Type 1} → statement M
 lay-tabled-spec = tie.close (tie.spec network-of-requires prepare-requires lay-held-requires same-length returns)
