@@ -19,17 +19,17 @@ use Rattle.district_turn.proofs.held.is_holding.Statement.{statement}
 use Rattle.district_turn.proofs.held.is_holding.Tie as tie
 
 returns : tie.Need-returns
-returns c = let s = c .before .before .before in sym (holding-first (planValue (s .args .plan)) (s .args .g) (c .if1 .taken))
+returns c = let s = c .before .before in sym (holding-first (planValue (s .args .plan)) (s .args .g) (c .if1 .taken))
 
 cast-k : tie.Need-cast-k
 cast-k c = search needs
 
 is-tree-requires : tie.Need-is-tree-requires
-is-tree-requires c κs = component-range _ _ _ (c .before .before .before .before .before .before .before .before .before .before .before .pre)
+is-tree-requires c κs = component-range _ _ _ (c .before .before .before .before .before .before .before .before .before .before .pre)
 
 returns-2 : tie.Need-returns-2
 returns-2 c =
-    let s = c .before .before .before .before .before .before .before .before .before .before .before .before .before in
+    let s = c .before .before .before .before .before .before .before .before .before .before .before .before in
     let p = planValue (s .args .plan) in
     let lt : length (s .args .g .tails) ≡ 8 = length-unmapped ℕ (s .args .g .tails) 8 (s .good .1 .1 .1 .0 .1 .1 .1 .0 .1 .0 .1) in
     let lh : length (s .args .g .heads) ≡ 8 = length-unmapped ℕ (s .args .g .heads) 8 (s .good .1 .1 .1 .0 .1 .1 .1 .1 .0 .1 .0 .1) in
@@ -38,35 +38,35 @@ returns-2 c =
     sym (holding-later p (s .args .g) (c .before .before .before .before .before .before .before .before .before .before .if1 .left) ∙ and-first (isTree p (linksBy p (s .args .g))) _ (sym q ∙ was-false (t .result) (c .if2 .taken)))
 
 sub-n : tie.Need-sub-n
-sub-n c = component-range _ _ _ (c .before .before .before .before .before .before .before .before .before .before .before .before .before .pre) .0
+sub-n c = component-range _ _ _ (c .before .before .before .before .before .before .before .before .before .before .before .before .pre) .0
 
 array-share-prefix-ts : tie.Need-array-share-prefix-ts
 array-share-prefix-ts c =
-    let s = c .before .before .before .before .before .before .before .before .before .before .before .before .before in
+    let s = c .before .before .before .before .before .before .before .before .before .before .before .before in
     let lt : length (s .args .g .tails) ≡ 8 = length-unmapped ℕ (s .args .g .tails) 8 (s .good .1 .1 .1 .0 .1 .1 .1 .0 .1 .0 .1) in
     held-fit _ _ _ (s .pre) (s .args .g .tails) lt
 
 slice-aggregate-tree-cost : tie.Need-slice-aggregate-tree-cost
 slice-aggregate-tree-cost c =
-    let s = c .before .before .before .before .before .before .before .before .before .before .before .before .before .before in
+    let s = c .before .before .before .before .before .before .before .before .before .before .before .before .before in
     let lt : length (s .args .g .tails) ≡ 8 = length-unmapped ℕ (s .args .g .tails) 8 (s .good .1 .1 .1 .0 .1 .1 .1 .0 .1 .0 .1) in
     held-length _ _ _ (s .pre) (s .args .g .tails) lt
 
 array-share-prefix-hs : tie.Need-array-share-prefix-hs
 array-share-prefix-hs c =
-    let s = c .before .before .before .before .before .before .before .before .before .before .before .before .before .before in
+    let s = c .before .before .before .before .before .before .before .before .before .before .before .before .before in
     let lh : length (s .args .g .heads) ≡ 8 = length-unmapped ℕ (s .args .g .heads) 8 (s .good .1 .1 .1 .0 .1 .1 .1 .1 .0 .1 .0 .1) in
     held-fit _ _ _ (s .pre) (s .args .g .heads) lh
 
 slice-aggregate-tree-cost-2 : tie.Need-slice-aggregate-tree-cost-2
 slice-aggregate-tree-cost-2 c =
-    let s = c .before .before .before .before .before .before .before .before .before .before .before .before .before .before .before in
+    let s = c .before .before .before .before .before .before .before .before .before .before .before .before .before .before in
     let lh : length (s .args .g .heads) ≡ 8 = length-unmapped ℕ (s .args .g .heads) 8 (s .good .1 .1 .1 .0 .1 .1 .1 .1 .0 .1 .0 .1) in
     held-length _ _ _ (s .pre) (s .args .g .heads) lh
 
 tree-cost-requires : tie.Need-tree-cost-requires
 tree-cost-requires c κs =
-    let s = c .before .before .before .before .before .before .before .before .before .before .before .before .before .before .before in
+    let s = c .before .before .before .before .before .before .before .before .before .before .before .before .before .before in
     let lt : length (s .args .g .tails) ≡ 8 = length-unmapped ℕ (s .args .g .tails) 8 (s .good .1 .1 .1 .0 .1 .1 .1 .0 .1 .0 .1) in
     let lh : length (s .args .g .heads) ≡ 8 = length-unmapped ℕ (s .args .g .heads) 8 (s .good .1 .1 .1 .0 .1 .1 .1 .1 .0 .1 .0 .1) in
     let t = c .before .before .before .is-tree in
@@ -74,7 +74,7 @@ tree-cost-requires c κs =
 
 returns-3 : tie.Need-returns-3
 returns-3 c =
-    let s = c .before .before .before .before .before .before .before .before .before .before .before .before .before .before .before .before .before in
+    let s = c .before .before .before .before .before .before .before .before .before .before .before .before .before .before .before .before in
     let p = planValue (s .args .plan) in
     let g = s .args .g in
     let lt : length (s .args .g .tails) ≡ 8 = length-unmapped ℕ (s .args .g .tails) 8 (s .good .1 .1 .1 .0 .1 .1 .1 .0 .1 .0 .1) in

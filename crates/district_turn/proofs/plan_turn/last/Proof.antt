@@ -6,7 +6,7 @@ use Rattle.district_turn.proofs.plan_turn.last.Tie as tie
 
 conclude-requires : tie.Need-conclude-requires
 conclude-requires c κs =
-    let s = c .before .before .before .before .before in
+    let s = c .before .before .before .before in
     s .pre
 
 finished-requires : tie.Need-finished-requires

@@ -76,16 +76,16 @@ returns-3 c =
 
 last-requires : tie.Need-last-requires
 last-requires c κs =
-    let s = c .before .before .before .before .before .before .before .before .before .before .before in
+    let s = c .before .before .before .before .before .before .before .before .before .before in
     let b = s .pre .0 .base .known in
     let p = planValue (s .args .plan) in
     let g = s .args .g in
-    let t = c .before .before .before .before .before .before .before .before .before .is-holding in
-    let i : isHolding p g ≡ true = sym (t .ensures) ∙ plain (t .result) (c .before .before .before .before .before .before .before .before .if1 .left) in
-    let x = c .before .before .before .before .before .before .before .resume in
+    let t = c .before .before .before .before .before .before .before .before .is-holding in
+    let i : isHolding p g ≡ true = sym (t .ensures) ∙ plain (t .result) (c .before .before .before .before .before .before .before .if1 .left) in
+    let x = c .before .before .before .before .before .before .resume in
     let r = x .result in
     let h = x .ensures in
-    let some : g .tried < r .total = (let l = c .before .before .before .before .if2 .left in omega arith) in
+    let some : g .tried < r .total = (let l = c .before .before .before .if2 .left in omega arith) in
     let lt : length (r .tails) ≡ 8 = length-unmapped ℕ (r .tails) 8 (x .ok .1 .1 .1 .0 .1 .0 .1) in
     let lh : length (r .heads) ≡ 8 = length-unmapped ℕ (r .heads) 8 (x .ok .1 .1 .1 .1 .0 .1 .0 .1) in
     (s .pre .0, after-tree p (b .plannable) (b .few) (s .args .budget) (s .pre .2) g r h lt lh i some, after-small p (b .plannable) (b .few) (s .args .budget) (s .pre .2) g r h lt lh i some, s .pre .3, s .pre .4)
@@ -95,19 +95,19 @@ same-length c = search needs
 
 returns-4 : tie.Need-returns-4
 returns-4 c =
-    let s = c .before .before .before .before .before .before .before .before .before .before .before .before .before .before in
+    let s = c .before .before .before .before .before .before .before .before .before .before .before .before .before in
     let b = s .pre .0 .base .known in
     let p = planValue (s .args .plan) in
     let g = s .args .g in
-    let t = c .before .before .before .before .before .before .before .before .before .before .before .before .is-holding in
-    let i : isHolding p g ≡ true = sym (t .ensures) ∙ plain (t .result) (c .before .before .before .before .before .before .before .before .before .before .before .if1 .left) in
-    let x = c .before .before .before .before .before .before .before .before .before .before .resume in
+    let t = c .before .before .before .before .before .before .before .before .before .before .before .is-holding in
+    let i : isHolding p g ≡ true = sym (t .ensures) ∙ plain (t .result) (c .before .before .before .before .before .before .before .before .before .before .if1 .left) in
+    let x = c .before .before .before .before .before .before .before .before .before .resume in
     let r = x .result in
     let h = x .ensures in
-    let some : g .tried < r .total = (let l = c .before .before .before .before .before .before .before .if2 .left in omega arith) in
+    let some : g .tried < r .total = (let l = c .before .before .before .before .before .before .if2 .left in omega arith) in
     let e = c .before .before .last .ensures in
     is-last p (s .args .budget) g _ _ (c .before .before .last .result) (some-left p (b .plannable) (b .few) (s .args .budget) (s .pre .2) g r h i some)
-    (at-end p (b .plannable) (b .few) (s .args .budget) (s .pre .2) g r h some (c .before .before .before .before .before .if3 .left)) (e .0 .0) (e .0 .1)
+    (at-end p (b .plannable) (b .few) (s .args .budget) (s .pre .2) g r h some (c .before .before .before .before .if3 .left)) (e .0 .0) (e .0 .1)
     (e .0 .2 ∙ answered-after p (b .plannable) (b .few) (s .args .budget) (s .pre .2) g r h) _ (e .1 ∙ written-after p (b .plannable) (b .few) (s .args .budget) (s .pre .2) g r h _)
 
 pub turn-prepared-spec : {M : Type 1} → statement M
