@@ -2,9 +2,9 @@
 // costs. It can, in every machine that entries and turns lead to; no drive is laid from anything else.
 use plan::Plan;
 use preparation::prepare::Preparation;
-use tree_search::trees::Reached;
 use tree_check::cost::tree_cost;
 use tree_check::tree::is_tree;
+use tree_search::trees::Reached;
 ghost use mathlib.Core.Path.{_≡_};
 ghost use Prim.Native.Nat.{_≤_};
 ghost use lib.ListN.{take};

@@ -45,7 +45,13 @@ pub fn plan_verdict(plan: Plan, table: &[[u32; 64]; 64]) -> Verdict
 }
 
 // Of a plan that is prepared.
-fn found_prepared(plan: Plan, table: &[[u32; 64]; 64], r: Preparation, tries: u32, g: Reached) -> Found
+fn found_prepared(
+    plan: Plan,
+    table: &[[u32; 64]; 64],
+    r: Preparation,
+    tries: u32,
+    g: Reached,
+) -> Found
     requires { ⌜ IsPreparation (planValue plan) (now table) r × CanGoOn (planValue plan) tries g ⌝ }
     ensures { λ x. ⌜ IsFound (planValue plan) tries x ⌝ }
 {

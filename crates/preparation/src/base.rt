@@ -26,7 +26,12 @@ pub(crate) fn base_state(plan: Plan, table: &[[u32; 64]; 64], vs: &[u8]) -> Bala
 }
 
 // The greatest multipliers that are 0 at the lowest required vertex.
-pub(crate) fn multipliers_of(plan: Plan, table: &[[u32; 64]; 64], vs: &[u8], base: Balance) -> [i64; 64]
+pub(crate) fn multipliers_of(
+    plan: Plan,
+    table: &[[u32; 64]; 64],
+    vs: &[u8],
+    base: Balance,
+) -> [i64; 64]
     requires { ⌜ IsBase (planValue plan) (now table) (now vs) (stateOf base) ⌝ }
     ensures { λ r. ⌜ r ≡ multipliers (cell (now (table .entry))) (now (vs .entry)) (stateOf base) (root (planValue plan)) ⌝ }
 {

@@ -13,7 +13,13 @@ ghost use Rattle.multipliers.specs.Tour.{tableOf};
 ghost use Rattle.multipliers.specs.Prepared.{IsTree};
 ghost use Rattle.preparation.specs.Preparation.{IsPreparation};
 
-pub fn with_links(plan: Plan, table: &[[u32; 64]; 64], r: Preparation, tails: &[u8], heads: &[u8]) -> Balance
+pub fn with_links(
+    plan: Plan,
+    table: &[[u32; 64]; 64],
+    r: Preparation,
+    tails: &[u8],
+    heads: &[u8],
+) -> Balance
     requires { ⌜ IsPreparation (planValue plan) (now table) r × IsTree (planValue plan) (now tails) (now heads) ⌝ }
     ensures { λ x.
         ⌜ stateOf x

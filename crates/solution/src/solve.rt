@@ -21,7 +21,13 @@ ghost use Rattle.solution.specs.Planned.{IsPlanned};
 ghost use Rattle.solution.specs.Concluded.{floorWith, IsConcluded};
 
 // The floor of so many trees, from L(u), which the ascent has computed.
-pub fn floor_found(plan: Plan, table: &[[u32; 64]; 64], r: Preparation, whole: bool, cost: u64) -> i64
+pub fn floor_found(
+    plan: Plan,
+    table: &[[u32; 64]; 64],
+    r: Preparation,
+    whole: bool,
+    cost: u64,
+) -> i64
     requires { ⌜ IsPreparation (planValue plan) (now table) r × (cost ≤ 4398046511104) ⌝ }
     ensures { λ x. ⌜ x ≡ floorWith (planValue plan) whole cost ⌝ }
 {

@@ -39,7 +39,13 @@ fn link_cost(d: &[[u32; 64]; 64], tails: &[u8], heads: &[u8]) -> u64
     cost
 }
 
-pub fn tree_cost(plan: Plan, table: &[[u32; 64]; 64], r: Preparation, tails: &[u8], heads: &[u8]) -> u64
+pub fn tree_cost(
+    plan: Plan,
+    table: &[[u32; 64]; 64],
+    r: Preparation,
+    tails: &[u8],
+    heads: &[u8],
+) -> u64
     requires { ⌜ IsPreparation (planValue plan) (now table) r × IsTree (planValue plan) (now tails) (now heads) ⌝ }
     ensures { λ x. ⌜ x ≡ completionCost (planValue plan) (linksOf (now (tails .entry)) (now (heads .entry))) ⌝ }
 {

@@ -117,7 +117,18 @@ fn searched(plan: Plan, table: &[[u32; 64]; 64], r: Preparation, s: Begun, budge
     let source = c.source;
     let tails = c.tails;
     let heads = c.heads;
-    search::tried::search(b, &f, table, &list[..count], &start, &source, &tails, &heads, k, budget)
+    search::tried::search(
+        b,
+        &f,
+        table,
+        &list[..count],
+        &start,
+        &source,
+        &tails,
+        &heads,
+        k,
+        budget,
+    )
 }
 
 // The first tree of least cost among those tried.
@@ -147,7 +158,18 @@ fn explored(plan: Plan, table: &[[u32; 64]; 64], r: Preparation, s: Begun, g: Pr
     let source = c.source;
     let tails = c.tails;
     let heads = c.heads;
-    search::tried::advance(g, b, &f, table, &list[..count], &start, &source, &tails, &heads, k)
+    search::tried::advance(
+        g,
+        b,
+        &f,
+        table,
+        &list[..count],
+        &start,
+        &source,
+        &tails,
+        &heads,
+        k,
+    )
 }
 
 // "takes 1,000 trees or the rest of T"
@@ -179,7 +201,14 @@ fn first_tried(plan: Plan, table: &[[u32; 64]; 64], r: Preparation, s: Begun, n:
 }
 
 // More trees after those that were tried. None of them is tried again.
-fn tried_on(plan: Plan, table: &[[u32; 64]; 64], r: Preparation, s: Begun, g: Reached, more: u32) -> Reached
+fn tried_on(
+    plan: Plan,
+    table: &[[u32; 64]; 64],
+    r: Preparation,
+    s: Begun,
+    g: Reached,
+    more: u32,
+) -> Reached
     requires { ⌜ IsPreparation (planValue plan) (now table) r × IsBegun (planValue plan) (now table) r s ⌝ }
     requires { ⌜ (1 ≤ g .tried + more) × (g .tried ≤ 1000000000) × (more ≤ 1000000000) ⌝ }
     ensures { λ x.
@@ -223,7 +252,13 @@ fn total_of(plan: Plan, number: u64, budget: u32) -> Total
 }
 
 // One turn.
-pub fn resume(plan: Plan, table: &[[u32; 64]; 64], r: Preparation, budget: u32, g: Reached) -> Resumed
+pub fn resume(
+    plan: Plan,
+    table: &[[u32; 64]; 64],
+    r: Preparation,
+    budget: u32,
+    g: Reached,
+) -> Resumed
     requires { ⌜ IsPreparation (planValue plan) (now table) r × (1 ≤ budget) × (g .tried ≤ 1000000) ⌝ }
     ensures { λ x. ⌜ IsResumed (planValue plan) budget g x ⌝ }
 {

@@ -10,8 +10,7 @@ use borrow.Author.Tests.{eq-eqb, ne-eqb, lt-ltb, le-ltb, le-leb, lt-leb}
 use lib.ListN.{length, take, replicate, length-take, length-map}
 use lib.Seq.{take-append-seam}
 use Rattle.residual_search.specs.Step.{arcsOf}
-use lib.Dec.{T, eqb, ltb, leb, eqb→eq, eqb-refl}
-use Rattle.postman.specs.Lists.{anyOf}
+use lib.Dec.{T, eqb, ltb, eqb→eq, eqb-refl}
 use Rattle.postman.specs.Plan.{Plan, WellFormed}
 use Rattle.postman.specs.Link.{Link, joins}
 use Rattle.postman.specs.Component.{componentCount}
@@ -33,13 +32,13 @@ use Rattle.required.specs.Contracts.{IsLinks, IsComponents}
 use Rattle.tour_legs.specs.Filled.{linksOf}
 use Rattle.tour_legs.specs.Laws.Laid.{links-tails, links-heads}
 use Rattle.branches.specs.Links.{linksIn}
-use Rattle.branches.specs.Progress.{Held, held}
+use Rattle.branches.specs.Progress.{held}
 use Rattle.multipliers.specs.Laws.Lay.{arcs-links}
 use Rattle.tour_legs.specs.Tour.{written}
 use Rattle.multipliers.specs.Tour.{driveOf}
 use Rattle.solution.specs.Concluded.{concluded}
 use Rattle.tree_search.specs.Laws.BestTree.{tree-small}
-use Rattle.tree_search.specs.Laws.Resumed.{some-tried, IsPriced, on-priced}
+use Rattle.tree_search.specs.Laws.Resumed.{IsPriced, on-priced}
 use Rattle.tree_check.specs.Tree.{IsHeldTree}
 use Rattle.district_turn.specs.Padded.{padded}
 use Rattle.district_turn.specs.Laws.Clash.{clash}

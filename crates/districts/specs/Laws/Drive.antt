@@ -1,13 +1,13 @@
 -- The last turn of any machine's front district: it can be gone on with, so that its plan has drives and what it
 -- holds after the turn is a tree and its cost.
-use mathlib.Core.Path.{_≡_, refl, sym, ap, _∙_, subst, subst⁻¹}
+use mathlib.Core.Path.{_≡_, refl, sym, ap, _∙_, subst⁻¹}
 use mathlib.Core.Bool.{Bool, true, false, not, cond, _&&_}
 use mathlib.Core.List.{List, _∷_}
 use mathlib.Core.Option.{Option, none, some}
 use Prim.Native.Nat.{ℕ, _-_, _≤_, min}
 use native.Mathlib.Omega.{arith}
 use lib.Dec.{T, leb, ltb, ltb→lt}
-use lib.ListN.{length, take, drop, length-append}
+use lib.ListN.{length, drop, length-append}
 use lib.Seq.{take-append-seam}
 use Rattle.postman.specs.Plan.{Plan, WellFormed}
 use Rattle.postman.specs.Refusal.{firstRefusal, isGood}

@@ -9,7 +9,7 @@ use lib.Seq.{take-length}
 use Rattle.postman.specs.Lists.{sumOf}
 use Rattle.postman.specs.Plan.{Plan}
 use Rattle.postman.specs.Link.{Link}
-use Rattle.postman.specs.Required.{required, requiredCost}
+use Rattle.postman.specs.Required.{requiredCost}
 use Rattle.postman.specs.Distance.{distance}
 use Rattle.postman.specs.Balancing.{linkCost, leastBalancing, completionCost}
 use Rattle.postman.specs.Steps.{Joins, cell}

@@ -22,12 +22,11 @@ use Rattle.postman.specs.Steps.{Plannable}
 use Rattle.postman.specs.Laws.Optimality.{some-arborescence}
 use Rattle.postman.specs.Laws.Search.{best-mem, best-value}
 use Rattle.residual_search.specs.Step.{arcsOf}
-use Rattle.tour_legs.specs.Filled.{linksOf}
 use Rattle.branches.specs.Links.{linksIn}
 use Rattle.multipliers.specs.Tour.{driveOf}
-use Rattle.multipliers.specs.Prepared.{IsTree}
 use Rattle.multipliers.specs.Laws.Tour.{tree-tour}
 use Rattle.multipliers.specs.Laws.Lay.{arcs-links}
+use Rattle.tree_search.specs.Resumed.{HoldsTree}
 
 -- ---- the cost is small
 
@@ -66,18 +65,7 @@ module _ (p : Plan) (ok : Plannable p) (few : componentCount p ≤ 8) (budget : 
   cost-small = let a = tree-small p ok few (bestArborescence p budget) best-tree in
       let e = best-value p budget some (some-arborescence p ok) in omega arith
 
-  kept-links : (n : ℕ) (ts hs : List ℕ) → linksIn n ts hs ≡ bestArborescence p budget
-      → linksOf (take n ts) (take n hs) ≡ bestArborescence p budget
-  kept-links n ts hs e = sym (arcs-links (take n ts) (take n hs)) ∙ e
-
-  pub kept-tree : (n : ℕ) (ts hs : List ℕ) → n ≤ length ts → n ≤ length hs → linksIn n ts hs ≡ bestArborescence p budget
-      → IsTree p (take n ts) (take n hs)
-  kept-tree n ts hs lt lh e = record {
-    same = (let a = length-take n ts in let b = length-take n hs in omega arith);
-    tree = subst⁻¹ (IsArborescence p) (kept-links n ts hs e) best-tree;
-  }
-
-  -- ---- the arrays are long enough
+  -- ---- the arrays that hold its links are long enough
 
   arcs-fit : (ts hs : List ℕ) → (length (arcsOf ts hs) ≤ length ts) × (length (arcsOf ts hs) ≤ length hs)
   unfolding arcsOf
@@ -85,17 +73,19 @@ module _ (p : Plan) (ok : Plannable p) (few : componentCount p ≤ 8) (budget : 
   arcs-fit (t ∷ ts) [] = (omega arith, omega arith)
   arcs-fit (t ∷ ts) (h ∷ hs) = let r = arcs-fit ts hs in (omega arith, omega arith)
 
-  pub record Fits (n : ℕ) (ts hs : List ℕ) : Type 0 where
-    pub tails-le : n ≤ length ts
-    pub tails-length : n ≡ length (take n ts)
-    pub heads-le : n ≤ length hs
-    pub heads-length : n ≡ length (take n hs)
-
-  pub kept-fits : (n : ℕ) (ts hs : List ℕ) → n ≡ componentCount p - 1 → linksIn n ts hs ≡ bestArborescence p budget → Fits n ts hs
-  kept-fits n ts hs e h =
-      let a = arcs-fit (take n ts) (take n hs) in
+  pub best-held : (ts hs : List ℕ) → linksIn (componentCount p - 1) ts hs ≡ bestArborescence p budget → HoldsTree p ts hs
+  best-held ts hs e =
+      let m = componentCount p - 1 in
+      let a = arcs-fit (take m ts) (take m hs) in
       let s = best-tree .size in
-      let l = ap length h in
-      let x = length-take n ts in
-      let y = length-take n hs in
-      record { tails-le = omega arith; tails-length = omega arith; heads-le = omega arith; heads-length = omega arith }
+      let l = ap length e in
+      let x = length-take m ts in
+      let y = length-take m hs in
+      record {
+        tails-fit = omega arith;
+        heads-fit = omega arith;
+        tree = record {
+          same = omega arith;
+          tree = subst⁻¹ (IsArborescence p) (sym (arcs-links (take m ts) (take m hs)) ∙ e) best-tree;
+        };
+      }

@@ -22,13 +22,11 @@ use Rattle.postman.specs.Steps.{Plannable}
 use Rattle.postman.specs.Laws.Optimality.{some-arborescence}
 use Rattle.postman.specs.Laws.Search.{best-value}
 use Rattle.small_counts.specs.Matrix.{cap}
-use Rattle.search.specs.declared.tried.Searched.{Searched}
 use Rattle.branches.specs.Progress.{Held, held, passOver, tryTree, advance}
-use Rattle.search.specs.Contracts.{IsSearched}
 use Rattle.branches.specs.Laws.Progress.{tried-first, goes-on}
 use Rattle.tree_search.specs.declared.trees.Reached.{Reached}
-use Rattle.tree_search.specs.Resumed.{triedOn, linksBy, IsReachedBy, HoldsTree}
-use Rattle.tree_search.specs.Laws.BestTree.{best-tree, kept-tree, kept-fits}
+use Rattle.tree_search.specs.Resumed.{triedOn, linksBy, IsReachedBy}
+use Rattle.tree_search.specs.Laws.BestTree.{best-tree}
 
 some-bound : (f : List Link → ℕ) (ts : List (List Link)) → (b : ℕ) × ((t : List Link) → List·Memᴰ t ts → f t < b)
 some-bound f [] = (0, λ t m. elim m [ ])
@@ -168,16 +166,3 @@ module _ (p : Plan) (ok : Plannable p) where
   pub tried-few : (budget : ℕ) → triedCount p budget ≤ arborescenceCount p
   unfolding triedCount
   tried-few budget = omega arith
-
-  -- ---- the tree that is held
-
-  pub holds-kept : componentCount p ≤ 8 → (budget : ℕ) → 1 ≤ budget → (s : Searched) → IsSearched p budget s
-      → HoldsTree p (s .tails) (s .heads)
-  holds-kept few budget one s h =
-      let m = componentCount p - 1 in
-      let t = kept-fits p ok few budget one m (s .tails) (s .heads) refl (h .links) in
-      record {
-        tails-fit = t .tails-le;
-        heads-fit = t .heads-le;
-        tree = kept-tree p ok few budget one m (s .tails) (s .heads) (t .tails-le) (t .heads-le) (h .links);
-      }

@@ -8,7 +8,6 @@ use lib.IntN.{ℤ, pos}
 use Rattle.multipliers.specs.Laws.Solve.{Rooted, priced}
 use Rattle.lagrangian.specs.Laws.Bound.{zero-priced}
 use Rattle.multipliers.specs.Laws.Ascent.{answered-rooted}
-use Rattle.multipliers.specs.Ascent.{multipliersFor}
 use Rattle.integers.specs.Linear.{back64}
 use Rattle.postman.specs.Lists.{maxℤ}
 use Rattle.postman.specs.LagrangianBound.{lagrangianBound}

@@ -1,7 +1,6 @@
 -- What the search keeps is the best tree, which is what is answered.
 use native.Mathlib.Omega.{arith}
-use Rattle.tree_search.specs.Laws.BestTree.{cost-small}
-use Rattle.tree_search.specs.Laws.Resumed.{holds-kept}
+use Rattle.tree_search.specs.Laws.BestTree.{cost-small, best-held}
 use Rattle.solution.specs.Laws.Answer.{concluded-planned}
 use borrow.Author.Needs.{needs}
 use Rattle.solution.proofs.solve.solve.Statement.{statement}
@@ -17,7 +16,7 @@ conclude-requires c κs =
     let b = s .pre .0 .base .known in
     let l = cost-small _ (b .plannable) (b .few) _ (s .pre .1) in
     let e = r .ensures .cost in
-    (s .pre .0, holds-kept _ (b .plannable) (b .few) _ (s .pre .1) (r .result) (r .ensures), omega arith, s .pre .2, s .pre .3)
+    (s .pre .0, best-held _ (b .plannable) (b .few) _ (s .pre .1) _ _ (r .ensures .links), omega arith, s .pre .2, s .pre .3)
 
 same-length : tie.Need-same-length
 same-length c = search needs
