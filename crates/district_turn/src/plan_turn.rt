@@ -238,7 +238,8 @@ fn turn_tabled(
 ) -> DistrictTurn
     requires { ⌜ WellFormed (planValue plan) × (now table ≡ tableOf (planValue plan)) × AreWeights (planValue plan) (now weights) ⌝ }
     requires { ⌜ (1 ≤ budget) × (sheetPlaces ≤ length (now sheet)) × (g .tried ≤ 1000000) ⌝ }
-    ensures { λ r. ⌜ IsDistrictTurn (planValue plan) budget g (canGoOn (planValue plan) budget g) (now (sheet .entry)) (now (sheet .exit)) r ⌝ }
+    ensures { λ r.
+        ⌜ IsDistrictTurn (planValue plan) budget g (canGoOn (planValue plan) budget g) (now (sheet .entry)) (now (sheet .exit)) r ⌝ }
 {
     let net = network::network::network_of(plan, table);
     turn_measured(plan, table, weights, net, budget, g, sheet)
@@ -247,7 +248,8 @@ fn turn_tabled(
 // The same, of a plan that was read: what a turn does again is to prepare it.
 pub fn turn_read(plan: Plan, budget: u32, g: Reached, sheet: &mut [u16]) -> DistrictTurn
     requires { ⌜ WellFormed (planValue plan) × (1 ≤ budget) × (sheetPlaces ≤ length (now sheet)) × (g .tried ≤ 1000000) ⌝ }
-    ensures { λ r. ⌜ IsDistrictTurn (planValue plan) budget g (canGoOn (planValue plan) budget g) (now (sheet .entry)) (now (sheet .exit)) r ⌝ }
+    ensures { λ r.
+        ⌜ IsDistrictTurn (planValue plan) budget g (canGoOn (planValue plan) budget g) (now (sheet .entry)) (now (sheet .exit)) r ⌝ }
 {
     let weights = shortest::weights::table(plan);
     let table = shortest::distance::table_of(&weights);

@@ -194,7 +194,8 @@ pub own-as : (d : DistrictRecord) (others : Machine) (ds : List DistrictRecord) 
 own-as d others ds e = ap (λ (x : Machine). hasOwnPlace d (waitingIn x)) e ∙ ap (hasOwnPlace d) (waiting-are ds)
 
 -- a turn that could not be taken
-pub not-taken : {p : Plan} {budget : ℕ} {g : Reached} {can : Bool} {old new : List ℕ} {s : DistrictTurn} → IsDistrictTurn p budget g can old new s
+pub not-taken : {p : Plan} {budget : ℕ} {g : Reached} {can : Bool} {old new : List ℕ} {s : DistrictTurn}
+    → IsDistrictTurn p budget g can old new s
     → s .good ≡ false → (can ≡ false) × (new ≡ old)
 not-taken {p} {budget} {g} {can} st b = let c = sym (st .good) ∙ b in (c, st .unwritten (st .done ∙ and-first can (isLast p budget g) c))
 
