@@ -3,17 +3,19 @@
 use crate::plan::{Arc, Plan};
 use crate::planner::Refusal;
 
-/// The last bits of a number, as many as wanted.
-fn bits_of(number: u64, width: usize) -> String {
-    (0..width).rev().map(|i| if number / 2u64.pow(i as u32) % 2 == 1 { '1' } else { '0' }).collect()
+/// Appends the last bits of a number, as many as wanted.
+fn push_bits(bits: &mut String, number: u64, width: usize) {
+    bits.extend((0..width).rev().map(|i| if (number >> i).is_multiple_of(2) { '0' } else { '1' }));
 }
 
 fn number(bits: &str) -> usize {
-    bits.chars().fold(0, |x, bit| 2 * x + usize::from(bit == '1'))
+    bits.bytes().fold(0, |x, bit| 2 * x + usize::from(bit == b'1'))
 }
 
 fn unpack(bytes: &[u8]) -> String {
-    bytes.iter().map(|&byte| bits_of(byte.into(), 8)).collect()
+    let mut bits = String::with_capacity(8 * bytes.len());
+    bytes.iter().for_each(|&byte| push_bits(&mut bits, byte.into(), 8));
+    bits
 }
 
 /// The bits of an arc, by edition.
@@ -128,14 +130,18 @@ pub fn write_refusal(plan: &Plan, room: usize) -> Refusal {
 
 /// The file of a plan; fields that are too wide are cut, so that bad files can be made too. An edition that is none has arcs like those of edition 1.
 pub fn file_of(plan: &Plan) -> Vec<u8> {
-    let mut bits = bits_of(plan.edition.into(), 4) + &bits_of(plan.n as u64, 7) + &bits_of(plan.arcs.len() as u64, 9);
+    let mut bits = String::new();
+    let mut push = |number: u64, width: usize| push_bits(&mut bits, number, width);
+    push(plan.edition.into(), 4);
+    push(plan.n as u64, 7);
+    push(plan.arcs.len() as u64, 9);
     for a in &plan.arcs {
-        bits += &bits_of(a.tail.into(), 6);
-        bits += &bits_of(a.head.into(), 6);
-        bits += &bits_of(a.standing.into(), 2);
-        bits += &bits_of(a.cost.into(), 16);
+        push(a.tail.into(), 6);
+        push(a.head.into(), 6);
+        push(a.standing.into(), 2);
+        push(a.cost.into(), 16);
         if plan.edition == 2 {
-            bits += &bits_of(a.checking.into(), 16);
+            push(a.checking.into(), 16);
         }
     }
     while !bits.len().is_multiple_of(8) {

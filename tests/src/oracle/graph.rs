@@ -70,7 +70,7 @@ fn thinned(d: &[Vec<u64>], required: &[usize]) -> Vec<(usize, usize)> {
     let mut held: BTreeSet<(usize, usize)> = turns.iter().copied().collect();
     for (i, j) in turns {
         let adds_up = |k: usize| d[i][j] == d[i][k] + d[k][j];
-        if required.iter().any(|&k| held.contains(&(i, k)) && held.contains(&(k, j)) && adds_up(k)) {
+        if required.iter().any(|&k| adds_up(k) && held.contains(&(i, k)) && held.contains(&(k, j))) {
             held.remove(&(i, j));
         }
     }
@@ -89,9 +89,11 @@ fn distances(plan: &Plan) -> Vec<Vec<u64>> {
         row[v] = 0;
     }
     for k in 0..n {
-        for i in 0..n {
-            for j in 0..n {
-                d[i][j] = d[i][j].min(d[i][k] + d[k][j]);
+        let onward = d[k].clone();
+        for row in &mut d {
+            let to = row[k];
+            for (entry, rest) in row.iter_mut().zip(&onward) {
+                *entry = (*entry).min(to + rest);
             }
         }
     }
@@ -108,10 +110,9 @@ fn parts(n: usize, required: &[usize], ends: &[(usize, usize)]) -> (Vec<Option<u
         joined[h][h] = true;
     }
     for k in 0..n {
-        for i in 0..n {
-            for j in 0..n {
-                joined[i][j] |= joined[i][k] && joined[k][j];
-            }
+        let onward = joined[k].clone();
+        for row in joined.iter_mut().filter(|row| row[k]) {
+            row.iter_mut().zip(&onward).for_each(|(entry, rest)| *entry |= rest);
         }
     }
     let lowest_of = |v: usize| (0..n).find(|&w| joined[w][v]);
