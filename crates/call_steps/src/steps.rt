@@ -4,6 +4,7 @@ use budget::Budget;
 use budget::Checked;
 use network::network::Network;
 use plan::Plan;
+use preparation::prepare::prepare;
 use refusal::Refusal;
 use refusal::Verdict;
 use solution::Planned;
@@ -56,7 +57,7 @@ pub fn network_verdict(components: u8, cut_off: bool) -> Verdict
     Verdict::Accepted
 }
 
-// The answer of a plan that is not refused, over the required vertices.
+// The answer of a plan that is not refused, once it is prepared.
 fn answer(
     plan: Plan,
     table: &[[u32; 64]; 64],
@@ -69,11 +70,8 @@ fn answer(
     requires { ⌜ (1 ≤ budget) × (sheetPlaces ≤ length (now sheet)) × AreWeights (planValue plan) (now weights) ⌝ }
     ensures { λ r. ⌜ IsPlanned (planValue plan) budget none (now (sheet .entry)) (now (sheet .exit)) r ⌝ }
 {
-    let flags = net.required;
-    let v = candidates::vertices_of(flags);
-    let list = v.list;
-    let n = v.count;
-    solve(plan, table, weights, &list[..n], net, budget, sheet)
+    let r = prepare(plan, table, net);
+    solve(plan, table, weights, r, budget, sheet)
 }
 
 // 10, 11 and 12, then the answer.

@@ -13,7 +13,8 @@ use Rattle.district_machine.specs.declared.machine.Machine.{Machine}
 use Rattle.district_entry.specs.declared.enter.Admission.the-variants.{At}
 use Rattle.district_entry.specs.declared.enter.Entered.{Entered}
 use Rattle.postman.specs.Districts.{entryRefusal, lowestFree}
-use Rattle.district_machine.specs.Machine.{waitingIn, lineOf, nothingHeld, machineOf}
+use Rattle.district_machine.specs.Machine.{waitingIn, lineOf, machineOf}
+use Rattle.tree_search.specs.Resumed.{nothingHeld}
 use Rattle.district_entry.specs.Admitted.{admissionNumber}
 
 -- The plan call's refusals but 8.

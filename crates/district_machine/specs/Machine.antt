@@ -2,7 +2,7 @@
 use mathlib.Core.List.{List, [], map}
 use Prim.Native.Nat.{ℕ}
 use lib.ListN.{length, take, replicate}
-use Rattle.solution.specs.declared.trees.Reached.{Reached}
+use Rattle.tree_search.specs.Resumed.{nothingHeld}
 use Rattle.district_turn.specs.Padded.{padded}
 use Rattle.district_machine.specs.declared.machine.District.{District as DistrictRecord}
 use Rattle.district_machine.specs.declared.machine.Machine.{Machine}
@@ -27,9 +27,6 @@ abbrev pub lineOf : Machine → Line
 lineOf m = districtsIn (m .line) (m .waiting)
 
 -- What stands behind the line: zeros.
-abbrev pub nothingHeld : Reached
-nothingHeld = record { cost = 0; tails = replicate 8 0; heads = replicate 8 0; tried = 0 }
-
 abbrev pub emptyDistrict : DistrictRecord
 emptyDistrict = record { place = 0; bytes = replicate 1475 0; length = 0; budget = 0; held = nothingHeld }
 

@@ -1,7 +1,8 @@
 // The machine: up to eight districts, by value. "Empty at first."
-use solution::trees::Reached;
+use tree_search::trees::Reached;
+use tree_search::trees::nothing_held;
 ghost use mathlib.Core.Path.{_≡_};
-ghost use Rattle.district_machine.specs.Machine.{nothingHeld, emptyDistrict, emptyMachine};
+ghost use Rattle.district_machine.specs.Machine.{emptyDistrict, emptyMachine};
 
 // A district that is not finished: its place; its plan, in the first `length` bytes; its budget; and how far it is.
 pub struct District {
@@ -16,18 +17,6 @@ pub struct District {
 pub struct Machine {
     pub line: [District; 8],
     pub waiting: usize,
-}
-
-// What is held before the first tree.
-pub fn nothing_held() -> Reached
-    ensures { λ r. ⌜ r ≡ nothingHeld ⌝ }
-{
-    Reached {
-        cost: 0,
-        tails: [0u8; 8],
-        heads: [0u8; 8],
-        tried: 0,
-    }
 }
 
 // What stands behind the line.

@@ -1,5 +1,6 @@
 -- What is proved about the definitions.
 pub mod Padded
 pub mod HeldTree
-pub mod Stint
+pub mod DistrictTurn
+pub mod Holding
 pub mod Clash

@@ -1,4 +1,4 @@
 pub mod Padded
-pub mod Stint
+pub mod DistrictTurn
 -- What is proved about them.
 pub mod Laws

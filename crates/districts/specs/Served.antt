@@ -8,7 +8,7 @@ use Rattle.postman.specs.PlanFile.{planOf}
 use Rattle.postman.specs.PlanCall.{bestCost}
 use Rattle.postman.specs.Districts.{turnTrees, District, finishes}
 use Rattle.solution.specs.Planned.{IsPlanned}
-use Rattle.district_turn.specs.Stint.{soFar}
+use Rattle.district_turn.specs.DistrictTurn.{soFar}
 use Rattle.districts.specs.declared.turn.Outcome.the-variants.{Unfinished, Finished}
 use Rattle.districts.specs.declared.turn.Turned.{Turned}
 

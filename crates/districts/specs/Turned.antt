@@ -13,9 +13,9 @@ use Rattle.postman.specs.PlanCall.{sheetPlaces, highestBudget}
 use Rattle.refusal.specs.declared.Refusal.the-variants.{ShortSheet as ShortSheetRefusal}
 use Rattle.call_steps.specs.Refused.{refusedWith}
 use Rattle.solution.specs.declared.Planned.{Planned}
-use Rattle.solution.specs.declared.trees.Reached.{Reached}
-use Rattle.district_turn.specs.declared.stint.Stint.{Stint}
-use Rattle.district_turn.specs.Stint.{isHolding, canGoOn, reachedAfter, soFar, isLast, lastAnswer, lastSheet}
+use Rattle.tree_search.specs.declared.trees.Reached.{Reached}
+use Rattle.district_turn.specs.declared.plan_turn.DistrictTurn.{DistrictTurn}
+use Rattle.district_turn.specs.DistrictTurn.{isHolding, canGoOn, reachedAfter, soFar, isLast, lastAnswer, lastSheet}
 use Rattle.district_machine.specs.declared.machine.District.{District as DistrictRecord}
 use Rattle.district_machine.specs.declared.machine.Machine.{Machine}
 use Rattle.districts.specs.declared.turn.Outcome.{Outcome}
@@ -111,7 +111,7 @@ pub record IsTurned (m : Machine) (old new : List ℕ) (r : Turned) : Type 0 whe
   pub sheet : new ≡ sheetAfter (meeting m (length old)) old
 
 -- A turn that the front district d had, which gave s, where the others are left.
-pub record IsAfter (others : Machine) (d : DistrictRecord) (s : Stint) (r : Turned) : Type 0 where
+pub record IsAfter (others : Machine) (d : DistrictRecord) (s : DistrictTurn) (r : Turned) : Type 0 where
   pub planned : r .planned ≡ s .planned
   pub last : s .done ≡ true → (r .outcome ≡ Finished (d .place)) × (r .machine ≡ others)
   pub going : s .done ≡ false

@@ -4,20 +4,20 @@ use district_machine::machine::District;
 use district_machine::machine::Machine;
 use district_machine::places::is_taken;
 use district_machine::places::lined_up;
-use district_turn::stint::Stint;
-use district_turn::stint::so_far;
-use district_turn::stint::stuck;
-use district_turn::stint::turn_read;
+use district_turn::plan_turn::DistrictTurn;
+use district_turn::plan_turn::so_far;
+use district_turn::plan_turn::stuck;
+use district_turn::plan_turn::turn_read;
 use refusal::Refusal;
 use refusal::Verdict;
 use solution::Planned;
-use solution::trees::Reached;
+use tree_search::trees::Reached;
 ghost use mathlib.Core.Path.{_≡_};
 ghost use mathlib.Core.List.{List, [], _∷_, _++_};
 ghost use Prim.Native.Nat.{_≤_, _<_};
 ghost use lib.ListN.{length, drop};
 ghost use Rattle.postman.specs.PlanCall.{sheetPlaces};
-ghost use Rattle.district_turn.specs.Stint.{IsStint};
+ghost use Rattle.district_turn.specs.DistrictTurn.{IsDistrictTurn};
 ghost use Rattle.district_machine.specs.declared.machine.District.{District as DistrictRecord};
 ghost use Rattle.district_machine.specs.Machine.{waitingIn, machineOf};
 ghost use Rattle.districts.specs.Turned.{planBy, hasOwnPlace, canBeServed, heldNow, IsAfter, IsTurned};
@@ -50,9 +50,9 @@ fn has_own_place(place: u8, others: Machine) -> bool
 }
 
 // The turn of the front district, over the plan that it holds. It has tried fewer trees than its budget, if it can be gone on with.
-fn served(d: District, sheet: &mut [u16]) -> Stint
+fn served(d: District, sheet: &mut [u16]) -> DistrictTurn
     requires { ⌜ sheetPlaces ≤ length (now sheet) ⌝ }
-    ensures { λ r. ⌜ IsStint (planBy d) (d .budget) (d .held) (canBeServed d) (now (sheet .entry)) (now (sheet .exit)) r ⌝ }
+    ensures { λ r. ⌜ IsDistrictTurn (planBy d) (d .budget) (d .held) (canBeServed d) (now (sheet .entry)) (now (sheet .exit)) r ⌝ }
 {
     let held = d.held;
     let bytes = d.bytes;
@@ -112,7 +112,7 @@ fn gone_on(others: Machine, d: District, held: Reached) -> Machine
 }
 
 // The front district has had its turn.
-fn after(others: Machine, d: District, s: Stint) -> Turned
+fn after(others: Machine, d: District, s: DistrictTurn) -> Turned
     requires { ⌜ others .waiting < 8 ⌝ }
     ensures { λ r. ⌜ IsAfter others d s r ⌝ }
 {

@@ -8,8 +8,8 @@ use Rattle.postman.specs.Arborescence.{arborescenceCount}
 use Rattle.postman.specs.PlanCall.{triedCount, bestCost, bestArborescence, lowerBound}
 use Rattle.small_counts.specs.Matrix.{cap}
 use Rattle.multipliers.specs.Ascent.{multipliersFor}
-use Rattle.solution.specs.declared.trees.Reached.{Reached}
-use Rattle.solution.specs.Resumed.{linksBy, IsReachedBy}
+use Rattle.tree_search.specs.declared.trees.Reached.{Reached}
+use Rattle.tree_search.specs.Resumed.{linksBy, IsReachedBy}
 use Rattle.held_tree.specs.declared.found.Found.{Found}
 
 -- The best of the first `tries` trees, or of all, and how many these are.

@@ -1,8 +1,7 @@
 // The drive of a tree that is held.
 // Steps for other crates, which ask something of their caller.
-use multipliers::prepare::base_state;
-use network::network::Network;
 use plan::Plan;
+use preparation::prepare::prepare;
 use solution::lay::lay_held;
 ghost use mathlib.Core.Path.{_≡_};
 ghost use mathlib.Core.Option.{none};
@@ -13,13 +12,11 @@ ghost use Rattle.postman.specs.Component.{componentCount};
 ghost use Rattle.postman.specs.PlanCall.{sheetPlaces};
 ghost use Rattle.plan.specs.Records.{planValue};
 ghost use Rattle.shortest.specs.Contracts.{AreWeights};
-ghost use Rattle.network.specs.Network.{IsNetwork};
 ghost use Rattle.branches.specs.Links.{linksIn};
 ghost use Rattle.tour_legs.specs.Tour.{written};
 ghost use Rattle.multipliers.specs.Tour.{tableOf, driveOf};
-ghost use Rattle.multipliers.specs.Prepared.{IsKnown, IsMeasured};
-ghost use Rattle.call_steps.specs.Refusals.{networkRefusal, planRefusal};
-ghost use Rattle.solution.specs.Resumed.{HoldsTree};
+ghost use Rattle.call_steps.specs.Refusals.{planRefusal};
+ghost use Rattle.tree_search.specs.Resumed.{HoldsTree};
 
 // The places written, and the number of components.
 pub struct Laid {
@@ -27,53 +24,7 @@ pub struct Laid {
     pub parts: u8,
 }
 
-// Of a plan that is not refused.
-fn lay_known(
-    plan: Plan,
-    table: &[[u32; 64]; 64],
-    weights: &[[u32; 64]; 64],
-    vs: &[u8],
-    net: Network,
-    tails: [u8; 8],
-    heads: [u8; 8],
-    sheet: &mut [u16],
-) -> usize
-    requires { ⌜ IsKnown (planValue plan) (now table) (now vs) × IsNetwork (planValue plan) net × HoldsTree (planValue plan) tails heads
-        × (sheetPlaces ≤ length (now sheet)) × AreWeights (planValue plan) (now weights) ⌝ }
-    ensures { λ r.
-        ⌜ (now (sheet .exit)
-        ≡ written (driveOf (planValue plan) (linksIn (componentCount (planValue plan) - 1) tails heads)) (now (sheet .entry)))
-        × (r ≡ length (driveOf (planValue plan) (linksIn (componentCount (planValue plan) - 1) tails heads))) ⌝ }
-{
-    let base = base_state(plan, table, vs);
-    lay_held(plan, table, weights, vs, net, base, tails, heads, sheet)
-}
-
-// The same, over the required vertices.
-fn lay_measured(
-    plan: Plan,
-    table: &[[u32; 64]; 64],
-    weights: &[[u32; 64]; 64],
-    net: Network,
-    tails: [u8; 8],
-    heads: [u8; 8],
-    sheet: &mut [u16],
-) -> usize
-    requires { ⌜ IsMeasured (planValue plan) (now table) net × (networkRefusal (net .components) (net .«cut_off») ≡ none)
-        × HoldsTree (planValue plan) tails heads × (sheetPlaces ≤ length (now sheet)) × AreWeights (planValue plan) (now weights) ⌝ }
-    ensures { λ r.
-        ⌜ (now (sheet .exit)
-        ≡ written (driveOf (planValue plan) (linksIn (componentCount (planValue plan) - 1) tails heads)) (now (sheet .entry)))
-        × (r ≡ length (driveOf (planValue plan) (linksIn (componentCount (planValue plan) - 1) tails heads))) ⌝ }
-{
-    let flags = net.required;
-    let v = candidates::vertices_of(flags);
-    let list = v.list;
-    let n = v.count;
-    lay_known(plan, table, weights, &list[..n], net, tails, heads, sheet)
-}
-
-// The same, from the tables of the plan's distances and weights.
+// From the tables of the plan's distances and weights.
 pub fn lay_tabled(
     plan: Plan,
     table: &[[u32; 64]; 64],
@@ -90,7 +41,8 @@ pub fn lay_tabled(
         × (r .parts ≡ componentCount (planValue plan)) ⌝ }
 {
     let net = network::network::network_of(plan, table);
-    let places = lay_measured(plan, table, weights, net, tails, heads, sheet);
+    let p = prepare(plan, table, net);
+    let places = lay_held(plan, table, weights, p, tails, heads, sheet);
     Laid {
         places: places,
         parts: net.components,

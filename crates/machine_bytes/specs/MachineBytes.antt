@@ -4,7 +4,7 @@ use mathlib.Core.List.{List, [], _∷_, _++_, map, flatMap, List·Memᴰ}
 use Prim.Native.Nat.{ℕ, _+_, _*_}
 use lib.ListN.{length, getD, take, drop}
 use Rattle.postman.specs.Lists.{below}
-use Rattle.solution.specs.declared.trees.Reached.{Reached}
+use Rattle.tree_search.specs.declared.trees.Reached.{Reached}
 use Rattle.district_machine.specs.declared.machine.District.{District}
 use Rattle.district_machine.specs.declared.machine.Machine.{Machine}
 use Rattle.encoding.specs.NumberBytes.{wordIn, wordBytes, longIn, longBytes}

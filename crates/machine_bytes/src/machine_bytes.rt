@@ -18,7 +18,7 @@ use encoding::number_bytes::put_long;
 use encoding::number_bytes::put_word;
 use encoding::number_bytes::word_at;
 use open_plan_bytes::state_bytes::load_file;
-use solution::trees::Reached;
+use tree_search::trees::Reached;
 
 // What a district holds of the trees tried, from `at` on.
 fn load_reached(machine: &[u8], at: usize) -> Reached

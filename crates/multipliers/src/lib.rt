@@ -1,3 +1,2 @@
 // The multipliers that are answered, and the bound that they give.
 pub mod ascend; // the multipliers that are answered
-pub mod prepare; // the state of the required arcs

@@ -3,7 +3,7 @@ use mathlib.Core.Path.{_≡_}
 use mathlib.Core.Logic.{_≢_}
 use Prim.Native.Nat.{ℕ, _%_}
 use Rattle.postman.specs.Plan.{Plan}
-use Rattle.solution.specs.declared.trees.Reached.{Reached}
+use Rattle.tree_search.specs.declared.trees.Reached.{Reached}
 use Rattle.held_tree.specs.Found.{IsBest}
 use Rattle.rounds.specs.declared.round.Deep.{Deep}
 use Rattle.rounds.specs.Rounds.{under}

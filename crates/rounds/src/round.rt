@@ -16,7 +16,7 @@ use held_tree::found::found_tabled;
 use held_tree::found::nothing;
 use plan::Plan;
 use renumbering::renumbered::carry;
-use solution::trees::Reached;
+use tree_search::trees::Reached;
 ghost use mathlib.Core.Path.{_≡_};
 ghost use mathlib.Core.Bool.{cond};
 ghost use mathlib.Core.Option.{none};

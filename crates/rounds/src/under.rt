@@ -8,7 +8,7 @@ use held_tree::laid::lay_tabled;
 use plan::Plan;
 use renumbering::renumbered::renumber;
 use renumbering::renumbered::renumber_table;
-use solution::trees::Reached;
+use tree_search::trees::Reached;
 ghost use mathlib.Core.Path.{_≡_};
 ghost use mathlib.Core.Option.{none};
 ghost use Prim.Native.Nat.{_≤_};

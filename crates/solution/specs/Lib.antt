@@ -1,6 +1,4 @@
 pub mod Planned
-pub mod Begun
-pub mod Resumed
 pub mod Concluded
 pub mod RaisedBudget
 pub mod SameAnswer

@@ -1,6 +1,5 @@
 // The answer of a plan that is not refused.
 pub mod lay; // the drive of a tree
-pub mod trees; // the trees, at most as many as the budget
 pub mod solve; // the answer of a plan that is not refused
 
 use refusal::Verdict;

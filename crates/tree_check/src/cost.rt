@@ -1,21 +1,20 @@
 // The cost of a tree: "R, plus the d of its links, plus the least balancing once the links are counted in D as arcs".
 // Steps for other crates, which ask something of their caller.
-use balance::state::Balance;
-use balance::state::add_all;
 use integers::wide;
 use plan::Plan;
+use preparation::links::with_links;
+use preparation::prepare::Preparation;
 use tree_bounds::reduced::long;
 ghost use mathlib.Core.Path.{_≡_};
 ghost use mathlib.Core.List.{map};
 ghost use Prim.Native.Nat.{ℕ, _≤_, _<_};
 ghost use lib.ListN.{length, getD};
-ghost use Rattle.postman.specs.Required.{requiredCost};
 ghost use Rattle.postman.specs.Balancing.{completionCost};
 ghost use Rattle.plan.specs.Records.{planValue};
 ghost use Rattle.postman.specs.Steps.{cell};
-ghost use Rattle.balance.specs.Records.{stateOf};
 ghost use Rattle.tour_legs.specs.Filled.{linksOf};
-ghost use Rattle.multipliers.specs.Prepared.{IsBase, IsTree};
+ghost use Rattle.multipliers.specs.Prepared.{IsTree};
+ghost use Rattle.preparation.specs.Preparation.{IsPreparation};
 ghost use Rattle.tree_check.specs.Cost.{tableCost, AreVertices};
 
 fn distance_at(d: &[[u32; 64]; 64], tail: u8, head: u8) -> u64
@@ -43,17 +42,15 @@ fn link_cost(d: &[[u32; 64]; 64], tails: &[u8], heads: &[u8]) -> u64
 pub fn tree_cost(
     plan: Plan,
     table: &[[u32; 64]; 64],
-    vs: &[u8],
-    base: Balance,
-    required_cost: u64,
+    r: Preparation,
     tails: &[u8],
     heads: &[u8],
 ) -> u64
-    requires { ⌜ IsBase (planValue plan) (now table) (now vs) (stateOf base) × IsTree (planValue plan) (now tails) (now heads)
-        × («required_cost» ≡ requiredCost (planValue plan)) ⌝ }
-    ensures { λ r. ⌜ r ≡ completionCost (planValue plan) (linksOf (now (tails .entry)) (now (heads .entry))) ⌝ }
+    requires { ⌜ IsPreparation (planValue plan) (now table) r × IsTree (planValue plan) (now tails) (now heads) ⌝ }
+    ensures { λ x. ⌜ x ≡ completionCost (planValue plan) (linksOf (now (tails .entry)) (now (heads .entry))) ⌝ }
 {
-    let full = add_all(base, table, vs, tails, heads);
+    let full = with_links(plan, table, r, tails, heads);
     let links = link_cost(table, tails, heads);
-    required_cost + links + full.cost
+    let net = r.network;
+    net.required_cost + links + full.cost
 }

@@ -28,6 +28,7 @@ use Rattle.network.specs.declared.network.Network.{Network}
 use Rattle.network.specs.Network.{IsNetwork}
 use Rattle.solution.specs.declared.Planned.{Planned}
 use Rattle.call_steps.specs.Refusals.{networkRefusal, planRefusal, budgetRefusal, sheetRefusal}
+use Rattle.multipliers.specs.Tour.{tableOf}
 use Rattle.multipliers.specs.Prepared.{IsMeasured, IsKnown}
 use Rattle.solution.specs.Planned.{IsPlanned}
 use Rattle.call_steps.specs.Laws.Idle.{idle}
@@ -47,10 +48,9 @@ unfolding firstRefusal partsConditions planRefusal networkRefusal
 parts-refusal p w = rw (idle p w)
 
 pub is-known : (p : Plan) (table : List (List ℕ)) (net : Network) → IsMeasured p table net
-    → networkRefusal (net .components) (net .«cut_off») ≡ none
-    → (vs : List ℕ) → vs ≡ required p → IsKnown p table vs
+    → networkRefusal (net .components) (net .«cut_off») ≡ none → IsKnown p table (required p)
 unfolding networkRefusal
-is-known p table net m e vs v =
+is-known p table net m e =
     let last : Conditions = (net .«cut_off», 12) ∷ [] in
     let ten = accepted-cons (eqb (net .components) 0) 10 ((ltb 8 (net .components), 11) ∷ last) e in
     let eleven = accepted-cons (ltb 8 (net .components)) 11 last (ten .1) in
@@ -67,8 +67,13 @@ is-known p table net m e vs v =
       };
       few = omega arith;
       distances = m .distances;
-      vertices = v;
+      vertices = refl;
     }
+
+pub known-tabled : (p : Plan) (table : List (List ℕ)) → WellFormed p → table ≡ tableOf p → planRefusal p ≡ none → (net : Network)
+    → IsNetwork p net → IsKnown p table (required p)
+known-tabled p table w d e net n =
+    is-known p table net (record { well-formed = w; distances = d; network = n }) (measured-refusal p net n ∙ e)
 
 -- ---- 9
 

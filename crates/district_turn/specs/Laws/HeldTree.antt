@@ -1,12 +1,11 @@
 -- Links that pass the test are an arborescence of the plan, and those of an arborescence pass it. The sets hold one source each, so that
 -- going back is the same by the sets and by the links.
 use mathlib.Core.Path.{_≡_, refl, sym, ap, _∙_, subst, subst⁻¹}
-use mathlib.Core.Bool.{Bool, true}
+use mathlib.Core.Bool.{Bool}
 use mathlib.Core.List.{List, [], _∷_, List·Memᴰ}
 use Prim.Native.Nat.{ℕ, zero, suc, _-_, _%_, _^_, _≤_, _<_}
 use native.Mathlib.Omega.{arith}
 use lib.ListN.{length, getD, take, length-take}
-use lib.Dec.{T}
 use Rattle.postman.specs.Lists.{iterate}
 use Rattle.postman.specs.Plan.{Plan, WellFormed}
 use Rattle.postman.specs.Link.{Link, links}
@@ -24,7 +23,7 @@ use Rattle.arborescence.specs.BitSet.{Has, has-single, single-has}
 use Rattle.arborescence.specs.Laws.Reach.{Arrives, reached-arrives, arrives-reaches, same-steps}
 use Rattle.tour_legs.specs.Filled.{linksOf}
 use Rattle.tour_legs.specs.Laws.Laid.{links-length}
-use Rattle.solution.specs.Resumed.{HoldsTree}
+use Rattle.tree_search.specs.Resumed.{HoldsTree}
 use Rattle.tree_check.specs.Tree.{IsEntry, sourceSet, IsHeldTree}
 
 links-at : (n : ℕ) (ts hs : List ℕ) (q : ℕ) → q < n → n ≤ length ts → n ≤ length hs

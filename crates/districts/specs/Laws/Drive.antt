@@ -1,13 +1,13 @@
 -- The last turn of any machine's front district: it can be gone on with, so that its plan has drives and what it
 -- holds after the turn is a tree and its cost.
-use mathlib.Core.Path.{_≡_, refl, sym, ap, _∙_, subst, subst⁻¹}
+use mathlib.Core.Path.{_≡_, refl, sym, ap, _∙_, subst⁻¹}
 use mathlib.Core.Bool.{Bool, true, false, not, cond, _&&_}
 use mathlib.Core.List.{List, _∷_}
 use mathlib.Core.Option.{Option, none, some}
 use Prim.Native.Nat.{ℕ, _-_, _≤_, min}
 use native.Mathlib.Omega.{arith}
 use lib.Dec.{T, leb, ltb, ltb→lt}
-use lib.ListN.{length, take, drop, length-append}
+use lib.ListN.{length, drop, length-append}
 use lib.Seq.{take-append-seam}
 use Rattle.postman.specs.Plan.{Plan, WellFormed}
 use Rattle.postman.specs.Refusal.{firstRefusal, isGood}
@@ -24,11 +24,11 @@ use Rattle.multipliers.specs.Laws.Tour.{tree-tour}
 use Rattle.call_steps.specs.Refusals.{planRefusal}
 use Rattle.call_steps.specs.Laws.Call.{parts-refusal}
 use Rattle.solution.specs.declared.Planned.{Planned}
-use Rattle.solution.specs.declared.trees.Reached.{Reached}
-use Rattle.solution.specs.Resumed.{linksBy, heldAfter}
-use Rattle.solution.specs.Laws.Resumed.{IsPriced, on-priced}
-use Rattle.district_turn.specs.Stint.{isHolding, isResumable, canGoOn, isLast, lastAnswer, lastSheet}
-use Rattle.district_turn.specs.Laws.Stint.{held-priced}
+use Rattle.tree_search.specs.declared.trees.Reached.{Reached}
+use Rattle.tree_search.specs.Resumed.{linksBy, heldAfter}
+use Rattle.tree_search.specs.Laws.Resumed.{IsPriced, on-priced}
+use Rattle.district_turn.specs.DistrictTurn.{isHolding, isResumable, canGoOn, isLast, lastAnswer, lastSheet}
+use Rattle.district_turn.specs.Laws.DistrictTurn.{held-priced}
 use Rattle.district_machine.specs.declared.machine.District.{District as DistrictRecord}
 use Rattle.district_machine.specs.declared.machine.Machine.{Machine}
 use Rattle.districts.specs.declared.turn.Turned.{Turned}

@@ -17,7 +17,7 @@ use Rattle.solution.specs.SameAnswer.{SameAnswer}
 use Rattle.call_steps.specs.Laws.Call.{sheet-long, budget-good, planned-as}
 use Rattle.planner.specs.Laws.Whole.{file-good}
 use Rattle.solution.specs.Laws.SameAnswer.{same-answer}
-use Rattle.district_turn.specs.Stint.{soFar}
+use Rattle.district_turn.specs.DistrictTurn.{soFar}
 use Rattle.district_turn.specs.Laws.Clash.{clash}
 use Rattle.district_machine.specs.declared.machine.District.{District as DistrictRecord}
 use Rattle.district_machine.specs.declared.machine.Machine.{Machine}

@@ -12,7 +12,7 @@ use native.Mathlib.Omega.{arith}
 use borrow.Author.Tests.{leb-true, leb-false, lt-ltb, eq-eqb}
 use lib.ListN.{length, length-append, length-map, take, replicate}
 use lib.Seq.{take-append-seam}
-use lib.Dec.{T, eqb, ltb, leb}
+use lib.Dec.{eqb, ltb}
 use Rattle.postman.specs.Lists.{minimum, argmin, occurs}
 use Rattle.postman.specs.Plan.{Plan, WellFormed}
 use Rattle.postman.specs.Refusal.{firstRefusal, isGood}
@@ -31,22 +31,21 @@ use Rattle.postman.specs.Laws.Search.{best-value}
 use Rattle.postman.specs.Laws.Tests.{is-true, is-false}
 use Rattle.call_steps.specs.Refusals.{planRefusal}
 use Rattle.call_steps.specs.Laws.Call.{parts-refusal}
-use Rattle.solution.specs.declared.Planned.{Planned}
-use Rattle.solution.specs.declared.trees.Reached.{Reached}
-use Rattle.solution.specs.Resumed.{linksBy, heldAfter, IsReachedBy}
+use Rattle.tree_search.specs.declared.trees.Reached.{Reached}
+use Rattle.tree_search.specs.Resumed.{linksBy, heldAfter, IsReachedBy}
 use Rattle.solution.specs.Planned.{IsPlanned}
-use Rattle.solution.specs.Laws.Answer.{best-tree, concluded-best}
-use Rattle.solution.specs.Laws.Resumed.{best-after, tried-few}
-use Rattle.district_turn.specs.Stint.{isTree, isHolding, isResumable, canGoOn, isLast, lastAnswer, lastSheet}
-use Rattle.district_turn.specs.Padded.{padded}
-use Rattle.district_turn.specs.Laws.Stint.{of-arborescence, holding-first, holding-later, and-yes, padded-links}
+use Rattle.solution.specs.Laws.Answer.{concluded-best}
+use Rattle.tree_search.specs.Laws.BestTree.{best-tree}
+use Rattle.tree_search.specs.Laws.Resumed.{best-after, tried-few}
+use Rattle.district_turn.specs.DistrictTurn.{isTree, isHolding, isResumable, canGoOn, isLast, lastAnswer, lastSheet}
+use Rattle.district_turn.specs.Laws.DistrictTurn.{of-arborescence, holding-first, holding-later, and-yes, padded-links}
 use Rattle.district_machine.specs.declared.machine.District.{District as DistrictRecord}
 use Rattle.district_machine.specs.declared.machine.Machine.{Machine}
 use Rattle.postman.specs.Districts.{District, district, Line, places, entryRefusal, lowestFree, total, goneOn, finishes}
 use Rattle.district_machine.specs.Machine.{bytesOf, districtOf, waitingIn, lineOf, machineOf}
 use Rattle.district_entry.specs.Entered.{entrant, afterEntry}
 use Rattle.districts.specs.Turned.{planBy, hasOwnPlace, isReadable, canBeServed, nobody, shortSheet, goesOn, leaves, meetingIn, meeting, heldNow, reachedNow}
-use Rattle.district_entry.specs.Laws.Line.{plan-ok, parts, later, some-total, Apart}
+use Rattle.district_entry.specs.Laws.Line.{plan-ok, parts, some-total, Apart}
 use Rattle.district_entry.specs.Laws.Line as line
 use Rattle.district_entry.specs.Laws.Entry.{plan-good}
 use Rattle.district_machine.specs.Laws.Held.{waiting-are}

@@ -3,7 +3,7 @@ use mathlib.Core.Path.{_≡_, refl, sym, ap, _∙_, subst}
 use mathlib.Core.Bool.{Bool, true, false, not, cond, _&&_, or-true}
 use mathlib.Core.List.{List, [], _∷_, _++_, map}
 use mathlib.Core.Option.{none, some}
-use Prim.Native.Nat.{ℕ, _+_, _≤_, _<_}
+use Prim.Native.Nat.{ℕ, _≤_, _<_}
 use native.Mathlib.Omega.{arith}
 use borrow.Author.Tests.{le-leb, lt-leb, lt-ltb, le-ltb}
 use lib.ListN.{length, getD, drop, length-drop}
@@ -15,10 +15,10 @@ use Rattle.postman.specs.Refusal.{firstRefusal, isGood}
 use Rattle.postman.specs.PlanFile.{fileConditions, isOutside}
 use Rattle.postman.specs.PlanCall.{sheetPlaces, highestBudget, triedCount}
 use Rattle.call_steps.specs.Refusals.{planRefusal}
-use Rattle.solution.specs.declared.trees.Reached.{Reached}
-use Rattle.district_turn.specs.declared.stint.Stint.{Stint}
-use Rattle.district_turn.specs.Stint.{isHolding, isResumable, canGoOn, isLast, IsStint}
-use Rattle.district_turn.specs.Laws.Stint.{and-no, and-first, and-yes}
+use Rattle.tree_search.specs.declared.trees.Reached.{Reached}
+use Rattle.district_turn.specs.declared.plan_turn.DistrictTurn.{DistrictTurn}
+use Rattle.district_turn.specs.DistrictTurn.{isHolding, isResumable, canGoOn, isLast, IsDistrictTurn}
+use Rattle.district_turn.specs.Laws.DistrictTurn.{and-no, and-first, and-yes}
 use Rattle.district_machine.specs.declared.machine.District.{District as DistrictRecord}
 use Rattle.district_machine.specs.declared.machine.Machine.{Machine}
 use Rattle.districts.specs.declared.turn.Turned.{Turned}
@@ -90,8 +90,8 @@ and-of b c e = ap (λ (x : Bool). x && c) e
 
 module _ (m : Machine) (f : DistrictRecord) (ds : List DistrictRecord) (ahead : waitingIn m ≡ f ∷ ds) (few : m .waiting ≤ 8)
     (old new : List ℕ) (enough : sheetPlaces ≤ length old) where
-  pub served-turned : (s : Stint) (others : Machine) (r : Turned) → hasOwnPlace f ds ≡ true
-      → IsStint (planBy f) (f .budget) (f .held) (canBeServed f) old new s → s .good ≡ true
+  pub served-turned : (s : DistrictTurn) (others : Machine) (r : Turned) → hasOwnPlace f ds ≡ true
+      → IsDistrictTurn (planBy f) (f .budget) (f .held) (canBeServed f) old new s → s .good ≡ true
       → others ≡ machineOf ds → IsAfter others f s r → IsTurned m old new r
   served-turned s others r own st g e a = at (s .done) refl
     where
@@ -168,13 +168,13 @@ module _ (d : DistrictRecord) where
       and-yes (leb (d .length) 1475) (not outside && read) (le-leb (d .length) 1475 n) (and-yes (not outside) read z (ap isGood e))
 
   -- its plan is read
-  pub stint-read : (p : Plan) (old new : List ℕ) (r : Stint) → p ≡ planBy d → isReadable d ≡ true
-      → IsStint p (d .budget) (d .held) (canGoOn p (d .budget) (d .held)) old new r
-      → IsStint (planBy d) (d .budget) (d .held) (canBeServed d) old new r
-  stint-read p old new r e i h =
-      subst (λ (c : Bool). IsStint (planBy d) (d .budget) (d .held) c old new r)
+  pub turn-by-file : (p : Plan) (old new : List ℕ) (r : DistrictTurn) → p ≡ planBy d → isReadable d ≡ true
+      → IsDistrictTurn p (d .budget) (d .held) (canGoOn p (d .budget) (d .held)) old new r
+      → IsDistrictTurn (planBy d) (d .budget) (d .held) (canBeServed d) old new r
+  turn-by-file p old new r e i h =
+      subst (λ (c : Bool). IsDistrictTurn (planBy d) (d .budget) (d .held) c old new r)
       (sym (and-of (isReadable d) (canGoOn (planBy d) (d .budget) (d .held)) i))
-      (subst (λ (p : Plan). IsStint p (d .budget) (d .held) (canGoOn p (d .budget) (d .held)) old new r) e h)
+      (subst (λ (p : Plan). IsDistrictTurn p (d .budget) (d .held) (canGoOn p (d .budget) (d .held)) old new r) e h)
 
 -- ---- the machine's front, and the others
 
@@ -194,7 +194,8 @@ pub own-as : (d : DistrictRecord) (others : Machine) (ds : List DistrictRecord) 
 own-as d others ds e = ap (λ (x : Machine). hasOwnPlace d (waitingIn x)) e ∙ ap (hasOwnPlace d) (waiting-are ds)
 
 -- a turn that could not be taken
-pub not-taken : {p : Plan} {budget : ℕ} {g : Reached} {can : Bool} {old new : List ℕ} {s : Stint} → IsStint p budget g can old new s
+pub not-taken : {p : Plan} {budget : ℕ} {g : Reached} {can : Bool} {old new : List ℕ} {s : DistrictTurn}
+    → IsDistrictTurn p budget g can old new s
     → s .good ≡ false → (can ≡ false) × (new ≡ old)
 not-taken {p} {budget} {g} {can} st b = let c = sym (st .good) ∙ b in (c, st .unwritten (st .done ∙ and-first can (isLast p budget g) c))
 

@@ -1,7 +1,7 @@
 -- What is held can be gone on with, and its tree can be laid.
-use mathlib.Core.Path.{_≡_, refl, sym, ap, _∙_, subst⁻¹}
+use mathlib.Core.Path.{_≡_, sym, ap, _∙_, subst⁻¹}
 use mathlib.Core.Bool.{cond}
-use Prim.Native.Nat.{ℕ, _-_, _≤_}
+use Prim.Native.Nat.{ℕ, _≤_}
 use native.Mathlib.Omega.{arith}
 use lib.ListN.{getD}
 use lib.IntN.{ℤ, pos}
@@ -15,11 +15,11 @@ use Rattle.postman.specs.Steps.{Plannable}
 use Rattle.multipliers.specs.Ascent.{multipliersFor}
 use Rattle.search.specs.declared.tried.Searched.{Searched}
 use Rattle.search.specs.Contracts.{IsSearched}
-use Rattle.solution.specs.declared.trees.Reached.{Reached}
-use Rattle.solution.specs.Resumed.{linksBy, IsReachedBy, HoldsTree}
+use Rattle.tree_search.specs.declared.trees.Reached.{Reached}
+use Rattle.tree_search.specs.Resumed.{IsReachedBy, HoldsTree}
 use Rattle.solution.specs.Concluded.{floorWith}
-use Rattle.solution.specs.Laws.Answer.{kept-fits, kept-tree}
-use Rattle.solution.specs.Laws.Resumed.{tried-cost, tried-tree, tried-few}
+use Rattle.tree_search.specs.Laws.BestTree.{best-held}
+use Rattle.tree_search.specs.Laws.Resumed.{tried-cost, tried-tree, tried-few}
 use Rattle.held_tree.specs.Found.{IsBest, CanGoOn}
 
 module _ (p : Plan) (ok : Plannable p) where
@@ -51,14 +51,7 @@ module _ (p : Plan) (ok : Plannable p) where
   }
 
   pub best-holds : componentCount p ≤ 8 → (tries : ℕ) → 1 ≤ tries → (g : Reached) → IsBest p tries g → HoldsTree p (g .tails) (g .heads)
-  best-holds few tries one g h =
-      let m = componentCount p - 1 in
-      let t = kept-fits p ok few tries one m (g .tails) (g .heads) refl (h .links-are) in
-      record {
-        tails-fit = t .tails-le;
-        heads-fit = t .heads-le;
-        tree = kept-tree p ok few tries one m (g .tails) (g .heads) (t .tails-le) (t .heads-le) (h .links-are);
-      }
+  best-holds few tries one g h = best-held p ok few tries one (g .tails) (g .heads) (h .links-are)
 
 -- the floor of what was found
 pub floor-as : (p : Plan) (tries : ℕ) (s : Searched) → IsSearched p tries s

@@ -9,7 +9,8 @@ use lib.ListN.{length, replicate, length-replicate, replicate-append-replicate}
 use Rattle.encoding.specs.NumberBytes.{wordBytes, longBytes}
 use Rattle.district_machine.specs.declared.machine.District.{District}
 use Rattle.district_machine.specs.declared.machine.Machine.{Machine}
-use Rattle.district_machine.specs.Machine.{nothingHeld, emptyDistrict, emptyMachine}
+use Rattle.district_machine.specs.Machine.{emptyDistrict, emptyMachine}
+use Rattle.tree_search.specs.Resumed.{nothingHeld}
 use Rattle.machine_bytes.specs.MachineBytes.{districtsBytes, reachedBytes, districtBytes, machineIn, machineBytes, IsDistrictSized}
 use Rattle.machine_bytes.specs.Laws.MachineBytes.{machine-back}
 

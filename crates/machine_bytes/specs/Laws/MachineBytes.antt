@@ -11,7 +11,7 @@ use lib.Seq.{take-suc, take-all, ext-getD, length-take-le}
 use Rattle.postman.specs.Lists.{below}
 use Rattle.postman.specs.Laws.Below.{length-map-below, getD-map-below}
 use Rattle.plan.specs.Laws.Prefix.{Prefix, prefix-all}
-use Rattle.solution.specs.declared.trees.Reached.{Reached}
+use Rattle.tree_search.specs.declared.trees.Reached.{Reached}
 use Rattle.district_machine.specs.declared.machine.District.{District}
 use Rattle.district_machine.specs.declared.machine.Machine.{Machine}
 use Rattle.encoding.specs.NumberBytes.{putAt, wordBytes, longBytes}

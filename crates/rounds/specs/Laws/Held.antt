@@ -21,7 +21,7 @@ use Rattle.renumbering.specs.declared.shuffle.Drawn.{Drawn}
 use Rattle.renumbering.specs.Numbering.{unchanged}
 use Rattle.renumbering.specs.Shuffle.{shuffled}
 use Rattle.renumbering.specs.Laws.Shuffle.{shuffled-numbering}
-use Rattle.solution.specs.declared.trees.Reached.{Reached}
+use Rattle.tree_search.specs.declared.trees.Reached.{Reached}
 use Rattle.held_tree.specs.declared.found.Found.{Found}
 use Rattle.held_tree.specs.Found.{IsBest, IsFound, CanGoOn}
 use Rattle.held_tree.specs.Laws.Found.{later, first}

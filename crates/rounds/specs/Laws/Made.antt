@@ -20,8 +20,8 @@ use Rattle.plan.specs.Records.{planValue}
 use Rattle.plan.specs.Laws.Records.{plan-vertices}
 use Rattle.small_counts.specs.Matrix.{cap}
 use Rattle.multipliers.specs.Ascent.{multipliersFor}
-use Rattle.solution.specs.declared.trees.Reached.{Reached}
-use Rattle.solution.specs.Laws.Answer.{cost-small}
+use Rattle.tree_search.specs.declared.trees.Reached.{Reached}
+use Rattle.tree_search.specs.Laws.BestTree.{cost-small}
 use Rattle.held_tree.specs.declared.found.Found.{Found}
 use Rattle.held_tree.specs.Found.{IsFound}
 use Rattle.call_steps.specs.Refusals.{planRefusal}

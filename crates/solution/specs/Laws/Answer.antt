@@ -1,101 +1,37 @@
 -- The answer put together: its fields are those of the definition, its drive is the written one,
 -- and the guarantee is the theorem of the floor.
-use mathlib.Core.Path.{_≡_, refl, sym, ap, _∙_, subst, subst⁻¹}
-use mathlib.Core.Bool.{Bool, not, cond}
-use mathlib.Core.List.{List, [], _∷_, List·Memᴰ, Memᴰ·append-left}
+use mathlib.Core.Path.{_≡_, refl, sym, ap, _∙_, subst⁻¹}
+use mathlib.Core.Bool.{Bool, cond}
+use mathlib.Core.List.{List}
 use mathlib.Core.Option.{none, some, Option·some-ne-none}
-use Prim.Native.Nat.{ℕ, suc, _*_, _-_, _≤_}
-use native.Mathlib.Nat.{suc-mul, mul-le-mul-right}
-use native.Mathlib.Omega.{arith}
-use lib.ListN.{length, getD, take, drop, take-append-drop, length-take}
+use Prim.Native.Nat.{ℕ, _≤_}
+use lib.ListN.{length, getD}
 use lib.IntN.{ℤ, pos}
 use lib.Signed.{_≤ℤ_}
-use lib.Dec.{eqb}
-use Rattle.postman.specs.Lists.{select, anyOf, maxℤ}
-use Rattle.postman.specs.Plan.{Arc, Plan, arcAt, requiredNumbers, IsArc}
+use Rattle.postman.specs.Lists.{maxℤ}
+use Rattle.postman.specs.Plan.{Plan}
 use Rattle.postman.specs.Refusal.{answer, unless}
-use Rattle.postman.specs.Tour.{IsWalk, tourCostDue, tourCost}
 use Rattle.postman.specs.Link.{Link}
 use Rattle.postman.specs.Component.{componentCount}
-use Rattle.postman.specs.Arborescence.{IsArborescence, arborescences}
-use Rattle.postman.specs.Balancing.{completionCost}
 use Rattle.postman.specs.LagrangianBound.{AreMultipliers, lagrangianBound}
-use Rattle.postman.specs.PlanCall.{Summary, summary, fields, triedCount, isWhole, bestCost, bestArborescence, lowerBound, sheetPlaces, IsAnswerTour}
-use Rattle.postman.specs.Laws.Tests.{cond-ind}
-use Rattle.postman.specs.Laws.Membership.{getD-mem}
-use Rattle.postman.specs.Laws.Arborescence.{arborescences-mem}
+use Rattle.postman.specs.PlanCall.{Summary, summary, fields, triedCount, isWhole, bestCost, bestArborescence, lowerBound, IsAnswerTour}
 use Rattle.postman.specs.Steps.{Plannable}
-use Rattle.postman.specs.Laws.Optimality.{some-arborescence, guaranteed}
-use Rattle.postman.specs.Laws.Search.{best-mem, best-value}
-use Rattle.residual_search.specs.Step.{arcsOf}
-use Rattle.tour_legs.specs.Filled.{linksOf}
+use Rattle.postman.specs.Laws.Optimality.{guaranteed}
 use Rattle.tour_legs.specs.Tour.{written}
-use Rattle.branches.specs.Links.{linksIn}
 use Rattle.search.specs.declared.tried.Searched.{Searched}
 use Rattle.search.specs.Contracts.{IsSearched}
 use Rattle.solution.specs.declared.Planned.{Planned}
 use Rattle.refusal.specs.Verdict.{verdictNumber}
 use Rattle.multipliers.specs.Tour.{driveOf, tourOf}
-use Rattle.multipliers.specs.Prepared.{IsTree}
 use Rattle.solution.specs.Planned.{summaryOf, multipliersOf, countUnless, IsPlanned}
 use Rattle.solution.specs.Concluded.{concluded, linksFound, IsConcluded}
 use Rattle.multipliers.specs.Ascent.{multipliersFor}
 use Rattle.multipliers.specs.Laws.Ascent.{answered-rooted, answered-above}
-use Rattle.multipliers.specs.Laws.Tour.{tree-tour, answer-tour}
-use Rattle.multipliers.specs.Laws.Lay.{arcs-links}
-
--- ---- the cost is small
-
--- each pass costs at most 65,535, whether it is one that checks or not
-passes-small : (n : ℕ) (arcs : List Arc) → ((a : Arc) → List·Memᴰ a arcs → IsArc n a) → (i j : ℕ) (w due : List ℕ) → IsWalk arcs i w j
-    → tourCostDue arcs due w ≤ length w * 65535
-unfolding tourCostDue
-passes-small n arcs h i j [] due g = omega arith
-passes-small n arcs h i j (k ∷ w) due g =
-    let a = h (arcAt arcs k) (getD-mem arcs _ k (g .0)) in
-    let e = suc-mul (length w) 65535 in
-    cond-ind (anyOf (eqb k) due) _ _ (λ x. x ≤ suc (length w) * 65535)
-    (λ t. omega (arith, e, a .service-in, passes-small n arcs h (arcAt arcs k .head) j w (select (λ l. not (eqb k l)) due) (g .3)))
-    (λ t. omega (arith, e, a .cost-in, passes-small n arcs h (arcAt arcs k .head) j w due (g .3)))
-
--- no tree costs much
-pub tree-small : (p : Plan) → Plannable p → componentCount p ≤ 8 → (t : List Link) → IsArborescence p t → completionCost p t ≤ 1131527310
-unfolding sheetPlaces tourCost
-tree-small p ok few t tree =
-    let r = tree-tour p ok few t tree in
-    let a = passes-small (p .n) (p .arcs) (ok .well-formed .each) (r .0 .tour .start) (r .0 .tour .start) (driveOf p t) (requiredNumbers p)
-    (r .0 .tour .closed) in
-    let b = mul-le-mul-right {m = length (driveOf p t)} {n = 17266} 65535 (r .0 .short) in
-    let c = r .1 in
-    omega arith
+use Rattle.multipliers.specs.Laws.Tour.{answer-tour}
 
 module _ (p : Plan) (ok : Plannable p) (few : componentCount p ≤ 8) (budget : ℕ) (some : 1 ≤ budget) where
   drive : IsAnswerTour p budget (tourOf p budget)
   drive = answer-tour p ok few budget some
-
-  -- ---- the tree that was kept
-
-  pub best-tree : IsArborescence p (bestArborescence p budget)
-  best-tree =
-      arborescences-mem p
-      (subst (λ (ts : List (List Link)). List·Memᴰ (bestArborescence p budget) ts)
-      (take-append-drop (triedCount p budget) (arborescences p))
-      (Memᴰ·append-left (drop (triedCount p budget) (arborescences p)) (best-mem p budget some (some-arborescence p ok))))
-
-  pub cost-small : bestCost p budget ≤ 1131527310
-  cost-small = let a = tree-small p ok few (bestArborescence p budget) best-tree in
-      let e = best-value p budget some (some-arborescence p ok) in omega arith
-
-  pub kept-links : (n : ℕ) (ts hs : List ℕ) → linksIn n ts hs ≡ bestArborescence p budget
-      → linksOf (take n ts) (take n hs) ≡ bestArborescence p budget
-  kept-links n ts hs e = sym (arcs-links (take n ts) (take n hs)) ∙ e
-
-  pub kept-tree : (n : ℕ) (ts hs : List ℕ) → n ≤ length ts → n ≤ length hs → linksIn n ts hs ≡ bestArborescence p budget
-      → IsTree p (take n ts) (take n hs)
-  kept-tree n ts hs lt lh e = record {
-    same = (let a = length-take n ts in let b = length-take n hs in omega arith);
-    tree = subst⁻¹ (IsArborescence p) (kept-links n ts hs e) best-tree;
-  }
 
   -- ---- the answer
 
@@ -123,29 +59,6 @@ module _ (p : Plan) (ok : Plannable p) (few : componentCount p ≤ 8) (budget : 
       guarantee = guaranteed p ok budget some (multipliersOf r) (lawful r g);
     };
   }
-
-  -- ---- the arrays are long enough
-
-  arcs-fit : (ts hs : List ℕ) → (length (arcsOf ts hs) ≤ length ts) × (length (arcsOf ts hs) ≤ length hs)
-  unfolding arcsOf
-  arcs-fit [] hs = (omega arith, omega arith)
-  arcs-fit (t ∷ ts) [] = (omega arith, omega arith)
-  arcs-fit (t ∷ ts) (h ∷ hs) = let r = arcs-fit ts hs in (omega arith, omega arith)
-
-  pub record Fits (n : ℕ) (ts hs : List ℕ) : Type 0 where
-    pub tails-le : n ≤ length ts
-    pub tails-length : n ≡ length (take n ts)
-    pub heads-le : n ≤ length hs
-    pub heads-length : n ≡ length (take n hs)
-
-  pub kept-fits : (n : ℕ) (ts hs : List ℕ) → n ≡ componentCount p - 1 → linksIn n ts hs ≡ bestArborescence p budget → Fits n ts hs
-  kept-fits n ts hs e h =
-      let a = arcs-fit (take n ts) (take n hs) in
-      let s = best-tree .size in
-      let l = ap length h in
-      let x = length-take n ts in
-      let y = length-take n hs in
-      record { tails-le = omega arith; tails-length = omega arith; heads-le = omega arith; heads-length = omega arith }
 
   -- ---- the answer from what the search, the drive and the bound answer
 

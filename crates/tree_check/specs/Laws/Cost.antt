@@ -9,7 +9,7 @@ use lib.Seq.{take-length}
 use Rattle.postman.specs.Lists.{sumOf}
 use Rattle.postman.specs.Plan.{Plan}
 use Rattle.postman.specs.Link.{Link}
-use Rattle.postman.specs.Required.{required, requiredCost}
+use Rattle.postman.specs.Required.{requiredCost}
 use Rattle.postman.specs.Distance.{distance}
 use Rattle.postman.specs.Balancing.{linkCost, leastBalancing, completionCost}
 use Rattle.postman.specs.Steps.{Joins, cell}
@@ -23,7 +23,7 @@ use Rattle.multipliers.specs.Tour.{tableOf}
 use Rattle.multipliers.specs.Prepared.{IsBase, IsTree}
 use Rattle.multipliers.specs.Laws.Tour.{agrees}
 use Rattle.multipliers.specs.Laws.Lay.{tree-joined, tree-short, tails-in, heads-in}
-use Rattle.solution.specs.Laws.Answer.{tree-small}
+use Rattle.tree_search.specs.Laws.BestTree.{tree-small}
 use Rattle.tree_check.specs.Cost.{tableCost, AreVertices}
 
 -- one link more

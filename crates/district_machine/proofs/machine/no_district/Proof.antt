@@ -1,7 +1,7 @@
 -- Nothing is held.
 use mathlib.Core.Path.{ap}
 use lib.ListN.{replicate}
-use Rattle.solution.specs.declared.trees.Reached.{Reached}
+use Rattle.tree_search.specs.declared.trees.Reached.{Reached}
 use borrow.Author.Needs.{needs}
 use Rattle.district_machine.proofs.machine.no_district.Statement.{statement}
 use Rattle.district_machine.proofs.machine.no_district.Tie as tie

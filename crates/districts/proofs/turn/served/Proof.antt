@@ -6,8 +6,8 @@ use Rattle.postman.specs.Plan.{WellFormed}
 use Rattle.postman.specs.Laws.Acceptance.{file-accepted}
 use Rattle.refusal.specs.Verdict.{verdictNumber}
 use Rattle.plan_file.specs.Laws.Reading.{accepted-value}
-use Rattle.district_turn.specs.Laws.Stint.{is-stuck}
-use Rattle.districts.specs.Laws.Turned.{too-long, too-dear, all-tried, unread, readable, stint-read}
+use Rattle.district_turn.specs.Laws.DistrictTurn.{is-stuck}
+use Rattle.districts.specs.Laws.Turned.{too-long, too-dear, all-tried, unread, readable, turn-by-file}
 use borrow.Author.Needs.{needs}
 use Rattle.districts.proofs.turn.served.Statement.{statement}
 use Rattle.districts.proofs.turn.served.Tie as tie
@@ -82,7 +82,7 @@ returns-5 c =
     let fits = c .before .before .before .before .before .before .before .before .before .before .before .before .before .before .if1 .left in
     let most = c .before .before .before .before .before .before .before .before .before .before .before .before .if2 .left in
     let some = c .before .before .before .before .before .before .before .before .before .if3 .left in
-    stint-read _ _ _ _ _ q (readable _ fits (omega arith) most e) (c .before .before .turn-read .ensures)
+    turn-by-file _ _ _ _ _ q (readable _ fits (omega arith) most e) (c .before .before .turn-read .ensures)
 
 pub served-spec : {M : Type 1} → statement M
 served-spec =

@@ -1,7 +1,6 @@
--- The table is that of the definition, so it holds the distances, and the network's refusal is the plan's.
-use mathlib.Core.Path.{_∙_}
+-- The table is that of the definition, so it holds the distances, and the plan can be prepared.
 use Rattle.multipliers.specs.Laws.Tour.{is-table}
-use Rattle.call_steps.specs.Laws.Call.{measured-refusal}
+use Rattle.call_steps.specs.Laws.Call.{known-tabled}
 use borrow.Author.Needs.{needs}
 use Rattle.held_tree.proofs.found.found_tabled.Statement.{statement}
 use Rattle.held_tree.proofs.found.found_tabled.Tie as tie
@@ -9,14 +8,16 @@ use Rattle.held_tree.proofs.found.found_tabled.Tie as tie
 network-of-requires : tie.Need-network-of-requires
 network-of-requires c κs = (c .pre .0, is-table _ _ (c .pre .1))
 
-found-measured-requires : tie.Need-found-measured-requires
-found-measured-requires c κs =
+prepare-requires : tie.Need-prepare-requires
+prepare-requires c κs =
     let s = c .before in
-    let n = c .network-of in
-    (record { well-formed = s .pre .0; distances = s .pre .1; network = n .ensures }, measured-refusal _ (n .result) (n .ensures) ∙ s .pre .2, s .pre .3)
+    (known-tabled _ _ (s .pre .0) (s .pre .1) (s .pre .2) _ (c .network-of .ensures), c .network-of .ensures)
+
+found-prepared-requires : tie.Need-found-prepared-requires
+found-prepared-requires c κs = search needs
 
 returns : tie.Need-returns
 returns c = search needs
 
 pub found-tabled-spec : {M : Type 1} → statement M
-found-tabled-spec = tie.close (tie.spec network-of-requires found-measured-requires returns)
+found-tabled-spec = tie.close (tie.spec network-of-requires prepare-requires found-prepared-requires returns)

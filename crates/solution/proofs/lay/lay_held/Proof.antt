@@ -12,8 +12,8 @@ use Rattle.tour_legs.specs.Filled.{linksOf}
 use Rattle.tour_legs.specs.Tour.{written}
 use Rattle.multipliers.specs.Tour.{driveOf}
 use Rattle.multipliers.specs.Prepared.{IsTree}
-use Rattle.multipliers.specs.Laws.Solve.{some-component}
 use Rattle.multipliers.specs.Laws.Lay.{arcs-links}
+use Rattle.preparation.specs.Laws.Preparation.{component-range}
 use borrow.Author.Needs.{needs}
 use Rattle.solution.proofs.lay.lay_held.Statement.{statement}
 use Rattle.solution.proofs.lay.lay_held.Tie as tie
@@ -22,49 +22,44 @@ cast-k : tie.Need-cast-k
 cast-k c = search needs
 
 sub-n : tie.Need-sub-n
-sub-n c =
-    let s = c .before .before .before in
-    let b = s .pre .0 .known in
-    let a = s .pre .1 .components .all in
-    let l = some-component _ (b .plannable) (b .few) in
-    omega arith
+sub-n c = component-range _ _ _ (c .before .before .before .pre .0) .0
 
 array-share-prefix-tails : tie.Need-array-share-prefix-tails
 array-share-prefix-tails c =
     let s = c .before .before .before in
-    let n = s .pre .1 .components .all in
-    let f = s .pre .2 .tails-fit in
+    let n = s .pre .0 .network .components .all in
+    let f = s .pre .1 .tails-fit in
     omega arith
 
 slice-aggregate-lay : tie.Need-slice-aggregate-lay
 slice-aggregate-lay c =
     let s = c .before .before .before .before in
-    let n = s .pre .1 .components .all in
-    let f = s .pre .2 .tails-fit in
-    let e = length-take (s .args .net .components - 1) (s .args .t7) in
+    let n = s .pre .0 .network .components .all in
+    let f = s .pre .1 .tails-fit in
+    let e = length-take (s .args .r .network .components - 1) (s .args .t5) in
     omega arith
 
 array-share-prefix-heads : tie.Need-array-share-prefix-heads
 array-share-prefix-heads c =
     let s = c .before .before .before .before in
-    let n = s .pre .1 .components .all in
-    let f = s .pre .2 .heads-fit in
+    let n = s .pre .0 .network .components .all in
+    let f = s .pre .1 .heads-fit in
     omega arith
 
 slice-aggregate-lay-2 : tie.Need-slice-aggregate-lay-2
 slice-aggregate-lay-2 c =
     let s = c .before .before .before .before .before in
-    let n = s .pre .1 .components .all in
-    let f = s .pre .2 .heads-fit in
-    let e = length-take (s .args .net .components - 1) (s .args .t8) in
+    let n = s .pre .0 .network .components .all in
+    let f = s .pre .1 .heads-fit in
+    let e = length-take (s .args .r .network .components - 1) (s .args .t6) in
     omega arith
 
 lay-requires : tie.Need-lay-requires
 lay-requires c κs =
     let s = c .before .before .before .before .before .before in
-    let m : componentCount (planValue (s .args .plan)) - 1 ≡ s .args .net .components - 1 = ap (λ n. n - 1) (sym (s .pre .1 .components .all)) in
-    let t = subst (λ n. IsTree (planValue (s .args .plan)) (take n (s .args .t7)) (take n (s .args .t8))) m (s .pre .2 .tree) in
-    (s .pre .0, t, s .pre .3, s .pre .4)
+    let p = planValue (s .args .plan) in
+    let m : componentCount p - 1 ≡ s .args .r .network .components - 1 = ap (λ n. n - 1) (sym (s .pre .0 .network .components .all)) in
+    (s .pre .0, subst (λ n. IsTree p (take n (s .args .t5)) (take n (s .args .t6))) m (s .pre .1 .tree), s .pre .2, s .pre .3)
 
 same-length : tie.Need-same-length
 same-length c = search needs
@@ -73,9 +68,9 @@ returns : tie.Need-returns
 returns c =
     let s = c .before .before .before .before .before .before .before .before .before in
     let p = planValue (s .args .plan) in
-    let m : s .args .net .components - 1 ≡ componentCount p - 1 = ap (λ n. n - 1) (s .pre .1 .components .all) in
+    let m : s .args .r .network .components - 1 ≡ componentCount p - 1 = ap (λ n. n - 1) (s .pre .0 .network .components .all) in
     let l = c .before .before .lay in
-    let t = ap (λ n. linksOf (take n (s .args .t7)) (take n (s .args .t8))) m ∙ sym (arcs-links (take (componentCount p - 1) (s .args .t7)) (take (componentCount p - 1) (s .args .t8))) in
+    let t = ap (λ n. linksOf (take n (s .args .t5)) (take n (s .args .t6))) m ∙ sym (arcs-links (take (componentCount p - 1) (s .args .t5)) (take (componentCount p - 1) (s .args .t6))) in
     (l .ensures .0 ∙ ap (λ (t : List Link). written (driveOf p t) (now (s .args .sheet))) t, l .ensures .1 ∙ ap (λ (t : List Link). length (driveOf p t)) t)
 
 pub lay-held-spec : {M : Type 1} → statement M

@@ -11,28 +11,28 @@ use Rattle.solution.proofs.solve.conclude.Tie as tie
 
 lay-held-requires : tie.Need-lay-held-requires
 lay-held-requires c κs =
-    let s = c .before .before .before .before .before in
-    (s .pre .0 .0, s .pre .1 .0, s .pre .1 .1, s .pre .1 .3, s .pre .1 .4)
+    let s = c .before .before .before .before .before .before in
+    (s .pre .0, s .pre .1, s .pre .3, s .pre .4)
 
 floor-found-requires : tie.Need-floor-found-requires
 floor-found-requires c κs =
-    let s = c .before .before .before .before .before .before .before .before in
-    (s .pre .0 .0, s .pre .0 .1, back64 _ (s .fits .bound .sfits) ∙ s .pre .0 .2, s .pre .1 .0, s .pre .1 .2)
+    let s = c .before .before .before .before .before .before .before .before .before in
+    (s .pre .0, s .pre .2)
 
 same-length : tie.Need-same-length
 same-length c = search needs
 
 returns : tie.Need-returns
 returns c =
-    let s = c .before .before .before .before .before .before .before .before .before in
+    let s = c .before .before .before .before .before .before .before .before .before .before in
     let p = planValue (s .args .plan) in
     let f = s .args .s in
     let l = c .before .before .before .lay-held in
-    let n = s .pre .1 .0 in
-    let g : s .args .u ≡ multipliersFor p = s .pre .0 .1 in
+    let r = s .pre .0 in
+    let g : s .args .r .multipliers ≡ multipliersFor p = r .multipliers-are in
     let ef = back64 _ (c .floor-found .ok) ∙ c .floor-found .ensures in
     record {
-      planned = λ i. record { verdict = Accepted; places = l .ensures .1 i; cost = f .cost; floor = ef i; trees = f .tried; whole = f .whole; parts = n .components .all i; multipliers = g i };
+      planned = λ i. record { verdict = Accepted; places = l .ensures .1 i; cost = f .cost; floor = ef i; trees = f .tried; whole = f .whole; parts = r .network .components .all i; multipliers = g i };
       sheet = l .ensures .0;
     }
 

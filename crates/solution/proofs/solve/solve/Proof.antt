@@ -1,39 +1,32 @@
--- The ascent gives the multipliers that are answered, and their bound.
-use mathlib.Core.Path.{_∙_}
-use Rattle.integers.specs.Linear.{back64}
+-- What the search keeps is the best tree, which is what is answered.
+use native.Mathlib.Omega.{arith}
+use Rattle.tree_search.specs.Laws.BestTree.{cost-small, best-held}
+use Rattle.solution.specs.Laws.Answer.{concluded-planned}
 use borrow.Author.Needs.{needs}
 use Rattle.solution.proofs.solve.solve.Statement.{statement}
 use Rattle.solution.proofs.solve.solve.Tie as tie
 
-base-state-requires : tie.Need-base-state-requires
-base-state-requires c κs = search needs
+best-requires : tie.Need-best-requires
+best-requires c κs = let s = c .before in (s .pre .0, s .pre .1)
 
-multipliers-of-requires : tie.Need-multipliers-of-requires
-multipliers-of-requires c κs = search needs
-
-multipliers-for-requires : tie.Need-multipliers-for-requires
-multipliers-for-requires c κs = search needs
-
-finish-requires : tie.Need-finish-requires
-finish-requires c κs =
-    let s = c .before .before .before .before .before .before .before .before in
-    let b = c .before .before .before .before .before .base-state .ensures in
-    let m = c .before .before .before .multipliers-for .ensures in
-    ((record { known = s .pre .0; base-is = b }, m .0, back64 _ (c .struct-told .given .1 .0 .1) ∙ m .1), s .pre .1)
+conclude-requires : tie.Need-conclude-requires
+conclude-requires c κs =
+    let r = c .before .best in
+    let s = c .before .before .before in
+    let b = s .pre .0 .base .known in
+    let l = cost-small _ (b .plannable) (b .few) _ (s .pre .1) in
+    let e = r .ensures .cost in
+    (s .pre .0, best-held _ (b .plannable) (b .few) _ (s .pre .1) _ _ (r .ensures .links), omega arith, s .pre .2, s .pre .3)
 
 same-length : tie.Need-same-length
 same-length c = search needs
 
 returns : tie.Need-returns
-returns c = search needs
+returns c =
+    let r = c .before .before .before .before .best in
+    let s = c .before .before .before .before .before .before in
+    let b = s .pre .0 .base .known in
+    concluded-planned _ (b .plannable) (b .few) _ (s .pre .1) (r .result) _ _ _ (r .ensures) (c .before .before .conclude .ensures)
 
 pub solve-spec : {M : Type 1} → statement M
-solve-spec =
-    tie.close
-    (tie.spec
-    base-state-requires
-    multipliers-of-requires
-    multipliers-for-requires
-    finish-requires
-    same-length
-    returns)
+solve-spec = tie.close (tie.spec best-requires conclude-requires same-length returns)

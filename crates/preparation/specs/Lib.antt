@@ -1,0 +1,3 @@
+pub mod Preparation
+-- What is proved about it.
+pub mod Laws

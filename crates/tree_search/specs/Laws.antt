@@ -1,0 +1,4 @@
+-- What is proved about the definitions.
+pub mod BestTree
+pub mod Begun
+pub mod Resumed

@@ -1,0 +1,2 @@
+// The first trees of a plan that is not refused, and going on after them.
+pub mod trees; // the trees, at most as many as the budget

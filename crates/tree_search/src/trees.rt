@@ -1,0 +1,304 @@
+// The trees of a plan that is not refused, in order, at most as many as the budget.
+// Steps for other crates, which ask something of their caller.
+use branches::branch::Branch;
+use branches::progress::Progress;
+use candidates::Candidates;
+use plan::Plan;
+use preparation::prepare::Preparation;
+use search::tried::Searched;
+use search::tried::lesser;
+use search::tried::number;
+use tree_count::entries::entries_of;
+ghost use mathlib.Core.Path.{_≡_};
+ghost use Prim.Native.Nat.{_≤_, _+_, min};
+ghost use Rattle.plan.specs.Records.{planValue};
+ghost use Rattle.postman.specs.Arborescence.{arborescences, arborescenceCount};
+ghost use Rattle.postman.specs.PlanCall.{triedCount, isWhole, bestCost, bestArborescence};
+ghost use Rattle.small_counts.specs.Matrix.{cap};
+ghost use Rattle.search.specs.Contracts.{IsExplored, IsSearched};
+ghost use Rattle.branches.specs.Holding.{IsShort};
+ghost use Rattle.preparation.specs.Preparation.{IsPreparation};
+ghost use Rattle.tree_search.specs.Begun.{IsBegun};
+ghost use Rattle.tree_search.specs.Resumed.{nothingHeld, turnOf, triedOn, linksBy, IsResumed, IsReachedBy};
+
+// How far a search is: the best so far, and how many trees were tried.
+pub struct Reached {
+    pub cost: u64,
+    pub tails: [u8; 8],
+    pub heads: [u8; 8],
+    pub tried: u32,
+}
+
+// How far it is after a turn, how many trees are tried in all, and whether these are all there are.
+pub struct Resumed {
+    pub cost: u64,
+    pub tails: [u8; 8],
+    pub heads: [u8; 8],
+    pub tried: u32,
+    pub total: u32,
+    pub whole: bool,
+}
+
+// The best of so many trees, and how many trees there are, by a count that ends at 4,294,967,296.
+pub struct Further {
+    pub found: Searched,
+    pub number: u64,
+}
+
+// What a search begins with: the candidates in order, the branch of all trees, and how many they are.
+struct Begun {
+    candidates: Candidates,
+    root: Branch,
+    number: u64,
+}
+
+// How many trees are tried in all, and whether these are all there are.
+struct Total {
+    trees: u32,
+    whole: bool,
+}
+
+// What is held before the first tree.
+pub fn nothing_held() -> Reached
+    ensures { λ r. ⌜ r ≡ nothingHeld ⌝ }
+{
+    Reached {
+        cost: 0,
+        tails: [0; 8],
+        heads: [0; 8],
+        tried: 0,
+    }
+}
+
+// The root's potentials are the multipliers that are answered. The trees are counted once: how many
+// each branch below the root has, and their sum.
+fn begin(plan: Plan, table: &[[u32; 64]; 64], r: Preparation) -> Begun
+    requires { ⌜ IsPreparation (planValue plan) (now table) r ⌝ }
+    ensures { λ x. ⌜ IsBegun (planValue plan) (now (table .entry)) r x ⌝ }
+{
+    let v = r.vertices;
+    let list = v.list;
+    let count = v.count;
+    let net = r.network;
+    let base = r.base;
+    let u = r.multipliers;
+    let c = candidates::of_network(net);
+    let links = net.links;
+    let component = net.component;
+    let entries = entries_of(&links, &component);
+    let k = net.components as usize;
+    let cost = net.required_cost;
+    let b = branches::branch::root(&list[..count], k, base, &u, cost, entries);
+    let counts = b.counts;
+    let own = b.entries;
+    let n = number(counts, own, k);
+    Begun {
+        candidates: c,
+        root: b,
+        number: n,
+    }
+}
+
+// The trees from the root on, at most as many as the budget.
+fn searched(plan: Plan, table: &[[u32; 64]; 64], r: Preparation, s: Begun, budget: u32) -> Searched
+    requires { ⌜ IsPreparation (planValue plan) (now table) r × IsBegun (planValue plan) (now table) r s × (1 ≤ budget) ⌝ }
+    ensures { λ x. ⌜ IsSearched (planValue plan) budget x ⌝ }
+{
+    let v = r.vertices;
+    let list = v.list;
+    let count = v.count;
+    let net = r.network;
+    let k = net.components as usize;
+    let base = r.base;
+    let f = base.amounts;
+    let b = s.root;
+    let c = s.candidates;
+    let start = c.start;
+    let source = c.source;
+    let tails = c.tails;
+    let heads = c.heads;
+    search::tried::search(
+        b,
+        &f,
+        table,
+        &list[..count],
+        &start,
+        &source,
+        &tails,
+        &heads,
+        k,
+        budget,
+    )
+}
+
+// The first tree of least cost among those tried.
+pub fn best(plan: Plan, table: &[[u32; 64]; 64], r: Preparation, budget: u32) -> Searched
+    requires { ⌜ IsPreparation (planValue plan) (now table) r × (1 ≤ budget) ⌝ }
+    ensures { λ x. ⌜ IsSearched (planValue plan) budget x ⌝ }
+{
+    let s = begin(plan, table, r);
+    searched(plan, table, r, s, budget)
+}
+
+// The trees from the root on: those to skip, then those that are left to be tried.
+fn explored(plan: Plan, table: &[[u32; 64]; 64], r: Preparation, s: Begun, g: Progress) -> Progress
+    requires { ⌜ IsPreparation (planValue plan) (now table) r × IsBegun (planValue plan) (now table) r s × IsShort g ⌝ }
+    ensures { λ x. ⌜ IsExplored (planValue plan) (arborescences (planValue plan)) g x ⌝ }
+{
+    let v = r.vertices;
+    let list = v.list;
+    let count = v.count;
+    let net = r.network;
+    let k = net.components as usize;
+    let base = r.base;
+    let f = base.amounts;
+    let b = s.root;
+    let c = s.candidates;
+    let start = c.start;
+    let source = c.source;
+    let tails = c.tails;
+    let heads = c.heads;
+    search::tried::advance(
+        g,
+        b,
+        &f,
+        table,
+        &list[..count],
+        &start,
+        &source,
+        &tails,
+        &heads,
+        k,
+    )
+}
+
+// "takes 1,000 trees or the rest of T"
+fn turn_of(total: u32, tried: u32) -> u32
+    ensures { λ r. ⌜ r ≡ turnOf total tried ⌝ }
+{
+    if total <= tried {
+        return 0;
+    }
+    let rest = total - tried;
+    if rest < 1_000 { rest } else { 1_000 }
+}
+
+// The first trees.
+fn first_tried(plan: Plan, table: &[[u32; 64]; 64], r: Preparation, s: Begun, n: u32) -> Reached
+    requires { ⌜ IsPreparation (planValue plan) (now table) r × IsBegun (planValue plan) (now table) r s × (1 ≤ n) ⌝ }
+    ensures { λ x.
+        ⌜ (x .tried ≡ n) × (x .cost ≡ bestCost (planValue plan) n) × (linksBy (planValue plan) x ≡ bestArborescence (planValue plan) n) ⌝ }
+{
+    let x = searched(plan, table, r, s, n);
+    let ts = x.tails;
+    let hs = x.heads;
+    Reached {
+        cost: x.cost,
+        tails: ts,
+        heads: hs,
+        tried: n,
+    }
+}
+
+// More trees after those that were tried. None of them is tried again.
+fn tried_on(
+    plan: Plan,
+    table: &[[u32; 64]; 64],
+    r: Preparation,
+    s: Begun,
+    g: Reached,
+    more: u32,
+) -> Reached
+    requires { ⌜ IsPreparation (planValue plan) (now table) r × IsBegun (planValue plan) (now table) r s ⌝ }
+    requires { ⌜ (1 ≤ g .tried + more) × (g .tried ≤ 1000000000) × (more ≤ 1000000000) ⌝ }
+    ensures { λ x.
+        ⌜ (x .tried ≡ g .tried + more) × (x .cost ≡ triedOn (planValue plan) (g .cost) (linksBy (planValue plan) g) (g .tried) more .cost)
+        × (linksBy (planValue plan) x ≡ triedOn (planValue plan) (g .cost) (linksBy (planValue plan) g) (g .tried) more .links) ⌝ }
+{
+    if g.tried == 0 {
+        return first_tried(plan, table, r, s, more);
+    }
+    let ts = g.tails;
+    let hs = g.heads;
+    let skip = g.tried as u64;
+    let from = Progress {
+        cost: g.cost,
+        tails: ts,
+        heads: hs,
+        skip: skip,
+        left: more as u64,
+    };
+    let x = explored(plan, table, r, s, from);
+    let after_ts = x.tails;
+    let after_hs = x.heads;
+    let tried = g.tried + more;
+    Reached {
+        cost: x.cost,
+        tails: after_ts,
+        heads: after_hs,
+        tried: tried,
+    }
+}
+
+// How many trees are tried in all, and whether these are all there are, from how many there are.
+fn total_of(plan: Plan, number: u64, budget: u32) -> Total
+    requires { ⌜ number ≡ min (arborescenceCount (planValue plan)) cap ⌝ }
+    ensures { λ x. ⌜ (x .trees ≡ triedCount (planValue plan) budget) × (x .whole ≡ isWhole (planValue plan) budget) ⌝ }
+{
+    Total {
+        trees: lesser(number, budget),
+        whole: number <= budget as u64,
+    }
+}
+
+// One turn.
+pub fn resume(
+    plan: Plan,
+    table: &[[u32; 64]; 64],
+    r: Preparation,
+    budget: u32,
+    g: Reached,
+) -> Resumed
+    requires { ⌜ IsPreparation (planValue plan) (now table) r × (1 ≤ budget) × (g .tried ≤ 1000000) ⌝ }
+    ensures { λ x. ⌜ IsResumed (planValue plan) budget g x ⌝ }
+{
+    let s = begin(plan, table, r);
+    let total = total_of(plan, s.number, budget);
+    let more = turn_of(total.trees, g.tried);
+    let x = tried_on(plan, table, r, s, g, more);
+    let ts = x.tails;
+    let hs = x.heads;
+    Resumed {
+        cost: x.cost,
+        tails: ts,
+        heads: hs,
+        tried: x.tried,
+        total: total.trees,
+        whole: total.whole,
+    }
+}
+
+// A search that goes on until so many trees are tried in all, or all that there are. None of those that were tried is tried again.
+pub fn go_on(plan: Plan, table: &[[u32; 64]; 64], r: Preparation, tries: u32, g: Reached) -> Further
+    requires { ⌜ IsPreparation (planValue plan) (now table) r ⌝ }
+    requires { ⌜ (1 ≤ tries) × (tries ≤ 1000000000) × IsReachedBy (planValue plan) g × (g .tried ≤ triedCount (planValue plan) tries) ⌝ }
+    ensures { λ x. ⌜ IsSearched (planValue plan) tries (x .found) × (x .number ≡ min (arborescenceCount (planValue plan)) cap) ⌝ }
+{
+    let s = begin(plan, table, r);
+    let total = total_of(plan, s.number, tries);
+    let more = total.trees - g.tried;
+    let x = tried_on(plan, table, r, s, g, more);
+    let ts = x.tails;
+    let hs = x.heads;
+    let found = Searched {
+        cost: x.cost,
+        tails: ts,
+        heads: hs,
+        tried: total.trees,
+        whole: total.whole,
+    };
+    Further {
+        found: found,
+        number: s.number,
+    }
+}
