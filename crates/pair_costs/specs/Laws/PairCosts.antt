@@ -27,7 +27,7 @@ use Rattle.postman.specs.Laws.Component.{component-at}
 use Rattle.postman.specs.Laws.SignedSum.{≤ℤ-trans, ≤ℤ-antisym}
 use Rattle.cheapest_tree.specs.Cheapest.{IsCheapest}
 use Rattle.pair_costs.specs.Pairs.{IsPair, IsPairMatrix, othersOf}
-use Rattle.cheapest_tree.specs.Picture.{matrixOf, othersIn, highest, IsPicture}
+use Rattle.cheapest_tree.specs.CostMatrix.{matrixOf, othersIn, highest, IsCostMatrix}
 use Rattle.pair_costs.specs.PairCosts.{costOf, areRequired, offerOf, entryFor, ArePairCosts, IsLesser, AreLeastOffers, HoldsNetwork, multipliersIn}
 use Rattle.pair_costs.specs.Laws.Pairs.{pairs-links}
 
@@ -224,9 +224,9 @@ module _ (d : List (List ℕ)) (u : List ℤ) (c : List ℕ) (r : List Bool) (ok
           pairs-links p wf (omega arith) (multipliersIn u) (matrixOf m) pair-matrix f a
           (subst (λ (x : List ℕ). IsCheapest x (matrixOf m) a) others-same q)
 
-  pub first-picture : (k : ℕ) → 1 ≤ k → (m : List ℤ) → AreLeastOffers d u c r 4096 m → (left : List Bool)
-      → ((q : ℕ) → q < 8 → getD left q false ≡ ltb q k) → IsPicture m left
-  first-picture k some m h left all = record { low = h .low; high = h .high; root = all 0 (omega arith) ∙ lt-ltb 0 k some }
+  pub first-matrix : (k : ℕ) → 1 ≤ k → (m : List ℤ) → AreLeastOffers d u c r 4096 m → (left : List Bool)
+      → ((q : ℕ) → q < 8 → getD left q false ≡ ltb q k) → IsCostMatrix m left
+  first-matrix k some m h left all = record { low = h .low; high = h .high; root = all 0 (omega arith) ∙ lt-ltb 0 k some }
 
 -- before any pair nothing is offered
 pub offers-none : (d : List (List ℕ)) (u : List ℤ) (c : List ℕ) (r : List Bool) → AreLeastOffers d u c r 0 (replicate 64 (pos highest))

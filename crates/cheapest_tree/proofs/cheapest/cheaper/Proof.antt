@@ -1,6 +1,6 @@
 -- Each way out compares the two costs, or x may not be taken.
-use Rattle.cheapest_tree.specs.Laws.Picture.{lt-le, nlt-le}
-use Rattle.cheapest_tree.specs.Picture.{lineOf}
+use Rattle.cheapest_tree.specs.Laws.CostMatrix.{lt-le, nlt-le}
+use Rattle.cheapest_tree.specs.CostMatrix.{lineOf}
 use Rattle.integers.specs.Linear.{back64}
 use lib.Signed.{ltZ, _≤ℤ_, ≤ℤ-refl}
 use mathlib.Core.Bool.{true, false}
