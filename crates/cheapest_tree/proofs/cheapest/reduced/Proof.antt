@@ -23,11 +23,11 @@ abbrev μ-loop : tie.MeasureT-loop
 loop-holds : tie.Need-loop-holds Inv-loop μ-loop
 loop-holds c = (omega arith, refl, λ m l. absurd (omega arith))
 
-mul-lesser : tie.Need-mul-lesser Inv-loop μ-loop
-mul-lesser c = search needs
+mul-cost-less : tie.Need-mul-cost-less Inv-loop μ-loop
+mul-cost-less c = search needs
 
-element-copy-out-lesser : tie.Need-element-copy-out-lesser Inv-loop μ-loop
-element-copy-out-lesser c = search needs
+element-copy-out-cost-less : tie.Need-element-copy-out-cost-less Inv-loop μ-loop
+element-copy-out-cost-less c = search needs
 
 pay-requires : tie.Need-pay-requires Inv-loop μ-loop
 pay-requires c κs = let s = c .before .before .before in (omega arith, s .pre .1 .in-range _ (omega arith))
@@ -78,8 +78,8 @@ reduced-spec =
     Inv-loop
     μ-loop
     loop-holds
-    mul-lesser
-    element-copy-out-lesser
+    mul-cost-less
+    element-copy-out-cost-less
     pay-requires
     cost-less-requires
     mul-v
