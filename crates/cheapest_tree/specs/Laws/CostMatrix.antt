@@ -11,6 +11,7 @@ use lib.Seq.{getD-set-same, getD-set-other}
 use lib.Dec.{T-not}
 use lib.IntN.{ℤ, pos, _+ℤ_, _-ℤ_}
 use lib.Signed.{ltZ, _≤ℤ_, ≤ℤ-refl}
+use Rattle.postman.specs.Laws.Contradiction.{zero-is-one}
 use Rattle.integers.specs.Linear.{z, zl}
 use Rattle.postman.specs.Lists.{select, upFrom, sumOfℤ, iterate}
 use Rattle.postman.specs.Laws.Tests.{cond-ind, test, is-true, is-false}
@@ -135,7 +136,7 @@ less-within a m l h k = elim (test (ltZ a m)) [
 
 pub marked-none : (e : List ℕ) (y : ℕ) → IsMarked e y 0 (replicate 8 false)
 marked-none e y = record {
-  sound = λ x h. (let f = all-false x in let z : _≡_ {A = ℕ} 0 1 = cc in absurd (omega arith));
+  sound = λ x h. (let f = all-false x in zero-is-one (cc));
   complete = λ i l. absurd (omega arith);
 }
   where

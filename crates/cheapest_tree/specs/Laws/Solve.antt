@@ -12,6 +12,7 @@ use lib.Seq.{getD-set-same, getD-set-other}
 use lib.Dec.{eqb, T-not}
 use lib.IntN.{ℤ, pos, _+ℤ_, _-ℤ_}
 use lib.Signed.{ltZ, _≤ℤ_, ≤ℤ-refl}
+use Rattle.postman.specs.Laws.Contradiction.{zero-is-one}
 use Rattle.integers.specs.Linear.{z, zl}
 use Rattle.postman.specs.Lists.{select, upFrom, below, sumOfℤ, iterate}
 use Rattle.postman.specs.Laws.Tests.{test, same-test, is-true, is-false, of-true}
@@ -26,7 +27,7 @@ use Rattle.cheapest_tree.specs.Laws.CostMatrix.{pay-within, less-within}
 -- ---- tests
 
 not-both : {b : Bool} → b ≡ true → b ≡ false → ⊥
-not-both e f = let y : _≡_ {A = ℕ} 0 1 = cc in omega arith
+not-both e f = zero-is-one (cc)
 
 select-select : (f g h : ℕ → Bool) (xs : List ℕ) → ((q : ℕ) → List·Memᴰ q xs → f q ≡ g q && h q) → select f xs ≡ select h (select g xs)
 unfolding select

@@ -13,6 +13,7 @@ use lib.Dec.{ltb}
 use lib.IntN.{ℤ, pos, _+ℤ_, _-ℤ_}
 use lib.Signed.{_≤ℤ_, ≤ℤ-refl}
 use borrow.Author.Tests.{lt-ltb, le-ltb}
+use Rattle.postman.specs.Laws.Contradiction.{zero-is-one}
 use Rattle.integers.specs.Linear.{z}
 use Rattle.postman.specs.Lists.{select, upFrom}
 use Rattle.postman.specs.Plan.{Plan, WellFormed}
@@ -33,8 +34,8 @@ use Rattle.pair_costs.specs.Laws.Pairs.{pairs-links}
 
 both-true : (a b : Bool) → a && b ≡ true → (a ≡ true) × (b ≡ true)
 both-true true true e = (refl, refl)
-both-true true false e = let y : _≡_ {A = ℕ} 0 1 = cc in absurd (omega arith)
-both-true false b e = let y : _≡_ {A = ℕ} 0 1 = cc in absurd (omega arith)
+both-true true false e = zero-is-one (cc)
+both-true false b e = zero-is-one (cc)
 
 either : (b : Bool) → (b ≡ true) ⊎ (b ≡ false)
 either true = inl refl
