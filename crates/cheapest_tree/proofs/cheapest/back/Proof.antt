@@ -1,5 +1,5 @@
 -- After i turns y is where i entries lead.
-use Rattle.cheapest_tree.specs.Picture.{entryOf}
+use Rattle.cheapest_tree.specs.CostMatrix.{entryOf}
 use Rattle.cheapest_tree.specs.Laws.Iterates.{iterate-last}
 use Rattle.postman.specs.Lists.{iterate}
 use native.Mathlib.Numerals.{add-one}

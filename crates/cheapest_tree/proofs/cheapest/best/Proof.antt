@@ -1,6 +1,6 @@
 -- After the turns for members below x, r is a cheapest of those.
-use Rattle.cheapest_tree.specs.Laws.Picture.{best-more}
-use Rattle.cheapest_tree.specs.Picture.{lineOf, IsBest}
+use Rattle.cheapest_tree.specs.Laws.CostMatrix.{best-more}
+use Rattle.cheapest_tree.specs.CostMatrix.{lineOf, IsBest}
 use native.Mathlib.Omega.{arith}
 use Prim.Native.Nat.{_-_, _≤_}
 use mathlib.Core.Path.{_≡_}

@@ -1,6 +1,7 @@
 -- Each way out compares the two costs, or x may not be taken.
-use Rattle.cheapest_tree.specs.Laws.Picture.{lt-le, nlt-le}
-use Rattle.cheapest_tree.specs.Picture.{lineOf}
+use Rattle.postman.specs.Laws.Contradiction.{zero-is-one}
+use Rattle.cheapest_tree.specs.Laws.CostMatrix.{lt-le, nlt-le}
+use Rattle.cheapest_tree.specs.CostMatrix.{lineOf}
 use Rattle.integers.specs.Linear.{back64}
 use lib.Signed.{ltZ, _≤ℤ_, ≤ℤ-refl}
 use mathlib.Core.Bool.{true, false}
@@ -49,7 +50,7 @@ returns-2 c =
     record { old = ≤ℤ-refl _; new = λ m. nlt-le _ _ t; among = inl refl }
 
 returns-3 : tie.Need-returns-3
-returns-3 c = let f = c .if1 .left in record { old = ≤ℤ-refl _; new = λ m. (let y : _≡_ {A = ℕ} 0 1 = cc in absurd (omega arith)); among = inl refl }
+returns-3 c = let f = c .if1 .left in record { old = ≤ℤ-refl _; new = λ m. (zero-is-one (cc)); among = inl refl }
 
 pub cheaper-spec : {M : Type 1} → statement M
 cheaper-spec =

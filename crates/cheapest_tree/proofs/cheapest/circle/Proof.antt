@@ -1,6 +1,6 @@
 -- After i turns the components that i entries pass are marked, and x is the next.
-use Rattle.cheapest_tree.specs.Laws.Picture.{marked-none, marked-more}
-use Rattle.cheapest_tree.specs.Picture.{entryOf, IsMarked}
+use Rattle.cheapest_tree.specs.Laws.CostMatrix.{marked-none, marked-more}
+use Rattle.cheapest_tree.specs.CostMatrix.{entryOf, IsMarked}
 use Rattle.cheapest_tree.specs.Laws.Iterates.{iterate-last}
 use Rattle.postman.specs.Lists.{iterate}
 use native.Mathlib.Numerals.{add-one}

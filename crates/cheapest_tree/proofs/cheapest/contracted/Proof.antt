@@ -1,6 +1,6 @@
 -- After i turns the first i costs are there.
-use Rattle.cheapest_tree.specs.Laws.Picture.{shrunk-more}
-use Rattle.cheapest_tree.specs.Picture.{IsShrunk}
+use Rattle.cheapest_tree.specs.Laws.CostMatrix.{shrunk-more}
+use Rattle.cheapest_tree.specs.CostMatrix.{IsShrunk}
 use Rattle.integers.specs.Linear.{back64}
 use lib.ListN.{length}
 use native.Mathlib.Omega.{arith}

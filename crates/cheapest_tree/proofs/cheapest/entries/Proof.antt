@@ -1,7 +1,7 @@
 -- After the turns for components below q, theirs are found.
 use lib.ListN.{getD-replicate}
-use Rattle.cheapest_tree.specs.Laws.Picture.{entries-more}
-use Rattle.cheapest_tree.specs.Picture.{HasEntries}
+use Rattle.cheapest_tree.specs.Laws.CostMatrix.{entries-more}
+use Rattle.cheapest_tree.specs.CostMatrix.{HasEntries}
 use lib.ListN.{length}
 use native.Mathlib.Omega.{arith}
 use Prim.Native.Nat.{_-_, _≤_, _<_}

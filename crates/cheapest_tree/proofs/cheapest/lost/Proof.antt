@@ -1,5 +1,5 @@
 -- From every component below q going back arrives.
-use Rattle.cheapest_tree.specs.Picture.{entryOf}
+use Rattle.cheapest_tree.specs.CostMatrix.{entryOf}
 use native.Mathlib.Decide.{ℕ-discrete}
 use Rattle.postman.specs.Lists.{iterate}
 use mathlib.Core.Bool.{Bool, true, false}

@@ -1,5 +1,5 @@
 -- s is what the components from q on pay.
-use Rattle.cheapest_tree.specs.Laws.Picture.{Paid, paid-none, paid-more, payments, payments-all}
+use Rattle.cheapest_tree.specs.Laws.CostMatrix.{Paid, paid-none, paid-more, payments, payments-all}
 use Rattle.integers.specs.Linear.{z, zz, back64}
 use mir.Facts.{toZ-ofZ}
 use mir.Val.{toZ, ofZ}

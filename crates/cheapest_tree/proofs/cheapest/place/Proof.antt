@@ -1,5 +1,5 @@
 -- The two cases of the definition.
-use Rattle.cheapest_tree.specs.Picture.{placeOf}
+use Rattle.cheapest_tree.specs.CostMatrix.{placeOf}
 use native.Mathlib.Omega.{arith}
 use borrow.Author.Needs.{needs}
 use Rattle.cheapest_tree.proofs.cheapest.place.Statement.{statement}

@@ -1,6 +1,6 @@
 -- After x turns the first x places are filled.
 use Rattle.postman.specs.Laws.Lists.{filled-more}
-use Rattle.cheapest_tree.specs.Picture.{keptOf}
+use Rattle.cheapest_tree.specs.CostMatrix.{keptOf}
 use mathlib.Core.Bool.{false}
 use lib.ListN.{length, getD}
 use native.Mathlib.Omega.{arith}

@@ -1,5 +1,5 @@
 -- The least over pairs is the least over links.
-use Rattle.pair_costs.specs.Laws.PairCosts.{answer, first-picture}
+use Rattle.pair_costs.specs.Laws.PairCosts.{answer, first-matrix}
 use Rattle.integers.specs.Linear.{back64}
 use mathlib.Core.Path.{_∙_}
 use borrow.Author.Needs.{needs}
@@ -13,7 +13,7 @@ all-left-requires : tie.Need-all-left-requires
 all-left-requires c κs = search needs
 
 solve-requires : tie.Need-solve-requires
-solve-requires c κs = let s = c .before .before in first-picture _ _ _ _ (s .pre .2) (s .args .k) (s .pre .0) _ (c .before .pair-costs .ensures) _ (c .all-left .ensures)
+solve-requires c κs = let s = c .before .before in first-matrix _ _ _ _ (s .pre .2) (s .args .k) (s .pre .0) _ (c .before .pair-costs .ensures) _ (c .all-left .ensures)
 
 returns : tie.Need-returns
 returns c =

@@ -6,11 +6,12 @@ use native.Mathlib.Omega.{arith}
 use borrow.Author.Count.{below-more}
 use lib.ListN.{getD}
 use borrow.Author.Needs.{needs}
+use Rattle.postman.specs.Laws.Contradiction.{zero-is-one}
 use Rattle.repeated_arcs.proofs.repeated.stands_before.Statement.{statement}
 use Rattle.repeated_arcs.proofs.repeated.stands_before.Tie as tie
 
 true-ne-false : true ≡ false → ⊥
-true-ne-false e = let z : _≡_ {A = ℕ} 0 1 = cc in omega arith
+true-ne-false e = zero-is-one (cc)
 
 abbrev Inv-loop : tie.InvT-loop
 Inv-loop numbers n x j₀ j = (j ≤ n) × ((i : ℕ) → i < j → getD numbers i 0 ≡ x → ⊥)

@@ -5,6 +5,7 @@ use native.Mathlib.Omega.{arith}
 use borrow.Author.Count.{below-more}
 use lib.ListN.{getD}
 use borrow.Author.Needs.{needs}
+use Rattle.postman.specs.Laws.Contradiction.{zero-is-one}
 use Rattle.shortest.proofs.weights.same.Statement.{statement}
 use Rattle.shortest.proofs.weights.same.Tie as tie
 
@@ -31,7 +32,7 @@ element-copy-out-if1-2 c = search needs
 
 returns : tie.Need-returns Inv-loop μ-loop
 returns c = (
-  λ e j l. absurd (let z : _≡_ {A = ℕ} 0 1 = cc in omega arith),
+  λ e j l. zero-is-one (cc),
   λ h. absurd (c .if1 .taken (h (c .before .before .before .before .loop .j) (c .before .before .before .loop-test .taken))),
 )
 
