@@ -23,12 +23,6 @@ abbrev μ-loop : tie.MeasureT-loop
 loop-holds : tie.Need-loop-holds Inv-loop μ-loop
 loop-holds c = (omega arith, refl, λ m l. absurd (omega arith))
 
-mul-cost-less : tie.Need-mul-cost-less Inv-loop μ-loop
-mul-cost-less c = search needs
-
-element-copy-out-cost-less : tie.Need-element-copy-out-cost-less Inv-loop μ-loop
-element-copy-out-cost-less c = search needs
-
 pay-requires : tie.Need-pay-requires Inv-loop μ-loop
 pay-requires c κs = let s = c .before .before .before in (omega arith, s .pre .1 .in-range _ (omega arith))
 
@@ -41,18 +35,6 @@ cost-less-requires c κs =
     let f = back64 (c .pay .result) (c .pay .ok) ∙ c .pay .ensures in
     let g : toZ w64 (ofZ w64 (getD (s .args .w .now) (v .i) (pos 0))) ≡ getD (s .args .w .now) (v .i) (pos 0) = back64 _ (c .before .cost-less-arg .given) in
     (rw g (s .pre .0 .low (v .i) t), rw g (s .pre .0 .high (v .i) t), rw f (a .0), rw f (a .1))
-
-mul-v : tie.Need-mul-v Inv-loop μ-loop
-mul-v c = search needs
-
-array-set-from-v : tie.Need-array-set-from-v Inv-loop μ-loop
-array-set-from-v c = search needs
-
-add-i : tie.Need-add-i Inv-loop μ-loop
-add-i c = search needs
-
-loop-less : tie.Need-loop-less Inv-loop μ-loop
-loop-less c = search needs
 
 loop-again : tie.Need-loop-again Inv-loop μ-loop
 loop-again c =
@@ -78,13 +60,13 @@ reduced-spec =
     Inv-loop
     μ-loop
     loop-holds
-    mul-cost-less
-    element-copy-out-cost-less
+    (λ c. search needs)
+    (λ c. search needs)
     pay-requires
     cost-less-requires
-    mul-v
-    array-set-from-v
-    add-i
-    loop-less
+    (λ c. search needs)
+    (λ c. search needs)
+    (λ c. search needs)
+    (λ c. search needs)
     loop-again
     returns)
