@@ -69,7 +69,7 @@ pub record IsLeastOver (cs : List ℕ) (f : ℕ → ℤ) (r : ℤ) : Type 0 wher
   pub attained : r ≡ f at
   pub least : (q : ℕ) → List·Memᴰ q cs → r ≤ℤ f q
 
--- the costs of the smaller picture: to enter the circle, and to come from it, costs the least over its members
+-- the costs of the contracted matrix: to enter the circle, and to come from it, costs the least over its members
 pub record IsContraction (vs cs : List ℕ) (c : ℕ) (v : Matrix) (w : Matrix) : Type 0 where
   pub same : (p q : ℕ) → List·Memᴰ p (0 ∷ vs) → List·Memᴰ q vs → (List·Memᴰ p cs → ⊥) → (List·Memᴰ q cs → ⊥) → w p q ≡ v p q
   pub into : (p : ℕ) → List·Memᴰ p (0 ∷ vs) → (List·Memᴰ p cs → ⊥) → IsLeastOver cs (λ q. v p q) (w p c)

@@ -2,5 +2,5 @@
 pub mod Iterates
 pub mod Edmonds
 pub mod Circle
-pub mod Picture
+pub mod CostMatrix
 pub mod Solve

@@ -1,4 +1,4 @@
 pub mod Cheapest
-pub mod Picture
+pub mod CostMatrix
 -- What is proved about them.
 pub mod Laws

@@ -1,5 +1,5 @@
 // The cheapest arborescence over a matrix of costs, by Edmonds: every component takes its cheapest entry; a circle of them is shrunk to one
-// component, and the smaller picture is solved.
+// component, and the contracted matrix is solved.
 // Steps for other crates, which ask something of their caller.
 ghost use mathlib.Core.Path.{_≡_};
 ghost use mathlib.Core.Bool.{true, false, not, _&&_, _||_};
@@ -9,7 +9,7 @@ ghost use lib.IntN.{pos};
 ghost use lib.Signed.{_≤ℤ_};
 ghost use Rattle.postman.specs.Lists.{iterate};
 ghost use Rattle.cheapest_tree.specs.Cheapest.{treeCost, IsCheapest};
-ghost use Rattle.cheapest_tree.specs.Picture.{matrixOf, othersIn, IsPicture, highest, placeOf, lineOf, IsCheaper, IsBest, HasEntries, entryOf, payOf, IsLost, IsMarked, IsPlace, IsShrunk, keptOf, less as «less-by»};
+ghost use Rattle.cheapest_tree.specs.CostMatrix.{matrixOf, othersIn, IsCostMatrix, highest, placeOf, lineOf, IsCheaper, IsBest, HasEntries, entryOf, payOf, IsLost, IsMarked, IsPlace, IsShrunk, keptOf, less as «less-by»};
 
 // The place of x in row f, or in column f.
 fn place(row: bool, f: usize, x: usize) -> usize
@@ -88,7 +88,7 @@ fn pay(w: &[i64; 64], left: [bool; 8], e: [usize; 8], q: usize) -> i64
 
 // The sum of what they pay.
 fn paid(w: &[i64; 64], left: [bool; 8], e: [usize; 8]) -> i64
-    requires { ⌜ IsPicture (now w) left × HasEntries (now w) left 8 e ⌝ }
+    requires { ⌜ IsCostMatrix (now w) left × HasEntries (now w) left 8 e ⌝ }
     ensures { λ r. ⌜ r ≡ treeCost (matrixOf (now (w .entry))) (othersIn left) (entryOf e) ⌝ }
 {
     let mut s: i64 = 0;
@@ -101,7 +101,7 @@ fn paid(w: &[i64; 64], left: [bool; 8], e: [usize; 8]) -> i64
 }
 
 // A cost less a part of it; 0 where the part is more.
-fn lesser(a: i64, m: i64) -> i64
+fn cost_less(a: i64, m: i64) -> i64
     requires { ⌜ (pos 0 ≤ℤ a) × (a ≤ℤ pos highest) × (pos 0 ≤ℤ m) × (m ≤ℤ pos highest) ⌝ }
     ensures { λ r. ⌜ r ≡ «less-by» a m ⌝ }
 {
@@ -113,13 +113,13 @@ fn lesser(a: i64, m: i64) -> i64
 
 // The costs less what each component pays.
 fn reduced(w: &[i64; 64], left: [bool; 8], e: [usize; 8]) -> [i64; 64]
-    requires { ⌜ IsPicture (now w) left × HasEntries (now w) left 8 e ⌝ }
+    requires { ⌜ IsCostMatrix (now w) left × HasEntries (now w) left 8 e ⌝ }
     ensures { λ r.
         ⌜ ((i : ℕ) → i < 64 → getD r i (pos 0) ≡ «less-by» (getD (now (w .entry)) i (pos 0)) (payOf (now (w .entry)) left e (i % 8))) ⌝ }
 {
     let mut v = [0i64; 64];
     for i in 0..64 {
-        v[i] = lesser(w[i], pay(w, left, e, i % 8));
+        v[i] = cost_less(w[i], pay(w, left, e, i % 8));
     }
     v
 }
@@ -189,7 +189,7 @@ fn source_place(v: &[i64; 64], on: [bool; 8], c: usize, s: usize, t: usize) -> u
     s * 8 + t
 }
 
-// The costs of the smaller picture.
+// The costs of the contracted matrix.
 fn contracted(v: &[i64; 64], on: [bool; 8], c: usize) -> [i64; 64]
     requires { ⌜ (c < 8) × (getD on c false ≡ true) ⌝ }
     ensures { λ r. ⌜ IsShrunk (now (v .entry)) on c 64 r ⌝ }
@@ -213,7 +213,7 @@ fn kept(left: bool, on: bool, own: bool) -> bool
     left
 }
 
-// The components that are left in the smaller picture.
+// The components that are left in the contracted matrix.
 fn remaining(left: [bool; 8], on: [bool; 8], c: usize) -> [bool; 8]
     ensures { λ r. ⌜ ((x : ℕ) → x < 8 → getD r x false ≡ keptOf left on c x) ⌝ }
 {
@@ -226,7 +226,7 @@ fn remaining(left: [bool; 8], on: [bool; 8], c: usize) -> [bool; 8]
 
 // The least cost of an arborescence of the components that are left.
 pub fn solve(w: [i64; 64], left: [bool; 8]) -> i64
-    requires { ⌜ IsPicture w left ⌝ }
+    requires { ⌜ IsCostMatrix w left ⌝ }
     ensures { λ r. ⌜ IsCheapest (othersIn left) (matrixOf w) r ⌝ }
 {
     let e = entries(&w, left);

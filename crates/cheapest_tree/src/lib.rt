@@ -1,2 +1,2 @@
-// The cheapest arborescence: a circle of cheapest links is shrunk, and the smaller picture solved.
+// The cheapest arborescence: a circle of cheapest links is shrunk, and the contracted matrix solved.
 pub mod cheapest;

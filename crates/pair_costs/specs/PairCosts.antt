@@ -13,7 +13,7 @@ use Rattle.postman.specs.Required.{required}
 use Rattle.postman.specs.Distance.{distance}
 use Rattle.postman.specs.Component.{component, componentCount}
 use Rattle.postman.specs.LagrangianBound.{Multipliers}
-use Rattle.cheapest_tree.specs.Picture.{highest}
+use Rattle.cheapest_tree.specs.CostMatrix.{highest}
 
 -- the reduced cost of a pair
 abbrev pub costOf : List (List ℕ) → List ℤ → ℕ → ℕ → ℤ

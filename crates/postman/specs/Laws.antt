@@ -1,4 +1,5 @@
 -- What is proved about the definitions.
+pub mod Contradiction
 pub mod Tests
 pub mod Membership
 pub mod Below

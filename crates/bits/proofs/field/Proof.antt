@@ -24,23 +24,11 @@ loop-holds : tie.Need-loop-holds Inv-loop μ-loop
 unfolding fieldAt number
 loop-holds c = (omega arith, refl, omega arith)
 
-mul-r : tie.Need-mul-r Inv-loop μ-loop
-mul-r c = search needs
-
 add-bit : tie.Need-add-bit Inv-loop μ-loop
 add-bit c = omega arith
 
-bit-requires : tie.Need-bit-requires Inv-loop μ-loop
-bit-requires c κs = search needs
-
 add-r : tie.Need-add-r Inv-loop μ-loop
 add-r c = omega (arith, c .bit .ensures, bit-lt (c .before .before .before .before .args .s .now) (c .before .before .before .before .args .at + c .before .before .loop .i))
-
-add-i : tie.Need-add-i Inv-loop μ-loop
-add-i c = search needs
-
-loop-less : tie.Need-loop-less Inv-loop μ-loop
-loop-less c = search needs
 
 loop-again : tie.Need-loop-again Inv-loop μ-loop
 loop-again c =
@@ -64,11 +52,11 @@ field-spec =
     Inv-loop
     μ-loop
     loop-holds
-    mul-r
+    (λ c. search needs)
     add-bit
-    bit-requires
+    (λ c κs. search needs)
     add-r
-    add-i
-    loop-less
+    (λ c. search needs)
+    (λ c. search needs)
     loop-again
     returns)

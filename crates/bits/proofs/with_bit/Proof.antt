@@ -23,9 +23,6 @@ small c =
       rw (with-as (a .x) (a .k) (a .b) (c .power .result) e) (with-lt (a .x) (a .k) (a .b) (s .pre .1) (s .fits .x .fits) (s .pre .0)),
     )
 
-power-requires : tie.Need-power-requires
-power-requires c κs = search needs
-
 mul-result : tie.Need-mul-result
 mul-result c = omega (arith, small c .0)
 
@@ -57,7 +54,7 @@ pub with-bit-spec : {M : Type 1} → statement M
 with-bit-spec =
     tie.close
     (tie.spec
-    power-requires
+    (λ c κs. search needs)
     mul-result
     div-result
     mul-result-2

@@ -10,6 +10,7 @@ use native.Mathlib.Omega.{arith}
 use borrow.Author.Tests.{le-ltb}
 use lib.ListN.{length}
 use lib.Dec.{T, eqb, ltb, nltb→le}
+use Rattle.postman.specs.Laws.Contradiction.{zero-is-one}
 use Rattle.postman.specs.Plan.{Plan, requiredArcs, WellFormed}
 use Rattle.postman.specs.Required.{required}
 use Rattle.postman.specs.Refusal.{Conditions, firstRefusal}
@@ -83,14 +84,14 @@ budget-refused p n = at (isOutside n 1 highestBudget)
   where
     at : (x : Bool) → cond x Refused (Good (record { trees = n })) ≡ Refused → cond x (some 9) (planRefusal p) ≡ some 9
     at true e = refl
-    at false e = let z : _≡_ {A = ℕ} 0 1 = cc in absurd (omega arith)
+    at false e = zero-is-one (cc)
 
 pub budget-good : (p : Plan) (n : ℕ) (b : Budget) → checkedOf n ≡ Good b → budgetRefusal p n ≡ planRefusal p
 unfolding checkedOf budgetRefusal
 budget-good p n b = at (isOutside n 1 highestBudget)
   where
     at : (x : Bool) → cond x Refused (Good (record { trees = n })) ≡ Good b → cond x (some 9) (planRefusal p) ≡ planRefusal p
-    at true e = let z : _≡_ {A = ℕ} 0 1 = cc in absurd (omega arith)
+    at true e = zero-is-one (cc)
     at false e = refl
 
 -- ---- 8

@@ -7,6 +7,7 @@ use mathlib.Core.Option.{Option, none, some}
 use Prim.Native.Nat.{ℕ, _<_, _≤_}
 use native.Mathlib.Omega.{arith}
 use borrow.Author.Tests.{lt-ltb, le-ltb}
+use Rattle.postman.specs.Laws.Contradiction.{zero-is-one}
 use Rattle.postman.specs.Plan.{Plan, WellFormed}
 use Rattle.postman.specs.Refusal.{Conditions, firstRefusal}
 use Rattle.postman.specs.PlanFile.{isOutside}
@@ -49,7 +50,7 @@ budget-refused budget places l h = let e = le-ltb places sheetPlaces l in rw e (
   where
     at : (b : Bool) → cond b Refused (Good (record { trees = budget })) ≡ Refused → _≡_ {A = Option ℕ} (some 9) (cond b (some 9) none)
     at true h = refl
-    at false h = let z : _≡_ {A = ℕ} 0 1 = cc in absurd (omega arith)
+    at false h = zero-is-one (cc)
 
 pub lent-good : (budget places : ℕ) (b : Budget) → sheetPlaces ≤ places → checkedOf budget ≡ Good b
     → none ≡ firstRefusal (callConditions budget places)
@@ -57,7 +58,7 @@ unfolding firstRefusal callConditions checkedOf
 lent-good budget places b l h = let e = le-ltb places sheetPlaces l in rw e (at (isOutside budget 1 highestBudget) h)
   where
     at : (x : Bool) → cond x Refused (Good (record { trees = budget })) ≡ Good b → _≡_ {A = Option ℕ} none (cond x (some 9) none)
-    at true h = let z : _≡_ {A = ℕ} 0 1 = cc in absurd (omega arith)
+    at true h = zero-is-one (cc)
     at false h = refl
 
 pub small-budget : (budget places : ℕ) → firstRefusal (callConditions budget places) ≡ none → budget ≤ 1000000

@@ -4,12 +4,6 @@ use Rattle.candidates.specs.Laws.Ends.{have-ends}
 use Rattle.candidates.proofs.candidates_of.Statement.{statement}
 use Rattle.candidates.proofs.candidates_of.Tie as tie
 
-group-requires : tie.Need-group-requires
-group-requires c κs = search needs
-
-ends-of-requires : tie.Need-ends-of-requires
-ends-of-requires c κs = search needs
-
 returns : tie.Need-returns
 returns c =
     let e = c .before .before .before in
@@ -18,4 +12,4 @@ returns c =
     have-ends (s .links .now) (s .component .now) (s .k) _ (g .group .result .list) _ _ _ (g .group .ensures) (e .ends-of .ensures)
 
 pub candidates-of-spec : {M : Type 1} → statement M
-candidates-of-spec = tie.close (tie.spec group-requires ends-of-requires returns)
+candidates-of-spec = tie.close (tie.spec (λ c κs. search needs) (λ c κs. search needs) returns)

@@ -15,48 +15,6 @@ Inv-loop list component source₀ tails₀ heads₀ m₀ source tails heads m = 
 abbrev μ-loop : tie.MeasureT-loop
 μ-loop list component source₀ tails₀ heads₀ m₀ source tails heads m = 4096 - m
 
-loop-holds : tie.Need-loop-holds Inv-loop μ-loop
-loop-holds c = search needs
-
-mul-tail-of : tie.Need-mul-tail-of Inv-loop μ-loop
-mul-tail-of c = search needs
-
-element-copy-out-tail-of : tie.Need-element-copy-out-tail-of Inv-loop μ-loop
-element-copy-out-tail-of c = search needs
-
-tail-of-requires : tie.Need-tail-of-requires Inv-loop μ-loop
-tail-of-requires c κs = search needs
-
-array-write-tails : tie.Need-array-write-tails Inv-loop μ-loop
-array-write-tails c = search needs
-
-mul-head-of : tie.Need-mul-head-of Inv-loop μ-loop
-mul-head-of c = search needs
-
-element-copy-out-head-of : tie.Need-element-copy-out-head-of Inv-loop μ-loop
-element-copy-out-head-of c = search needs
-
-head-of-requires : tie.Need-head-of-requires Inv-loop μ-loop
-head-of-requires c κs = search needs
-
-array-write-heads : tie.Need-array-write-heads Inv-loop μ-loop
-array-write-heads c = search needs
-
-cast-source : tie.Need-cast-source Inv-loop μ-loop
-cast-source c = search needs
-
-element-copy-out-source : tie.Need-element-copy-out-source Inv-loop μ-loop
-element-copy-out-source c = search needs
-
-array-write-source : tie.Need-array-write-source Inv-loop μ-loop
-array-write-source c = search needs
-
-add-m : tie.Need-add-m Inv-loop μ-loop
-add-m c = search needs
-
-loop-less : tie.Need-loop-less Inv-loop μ-loop
-loop-less c = search needs
-
 loop-again : tie.Need-loop-again Inv-loop μ-loop
 loop-again c =
     let v = c .before .before .before .before .before .before in
@@ -88,19 +46,19 @@ ends-of-spec =
     (tie.spec
     Inv-loop
     μ-loop
-    loop-holds
-    mul-tail-of
-    element-copy-out-tail-of
-    tail-of-requires
-    array-write-tails
-    mul-head-of
-    element-copy-out-head-of
-    head-of-requires
-    array-write-heads
-    cast-source
-    element-copy-out-source
-    array-write-source
-    add-m
-    loop-less
+    (λ c. search needs)
+    (λ c. search needs)
+    (λ c. search needs)
+    (λ c κs. search needs)
+    (λ c. search needs)
+    (λ c. search needs)
+    (λ c. search needs)
+    (λ c κs. search needs)
+    (λ c. search needs)
+    (λ c. search needs)
+    (λ c. search needs)
+    (λ c. search needs)
+    (λ c. search needs)
+    (λ c. search needs)
     loop-again
     returns)

@@ -31,21 +31,6 @@ scan-requires c κs =
     let h = v .loop .inv .4 in
     (room-for (s .links .now) (s .component .now) (v .loop .q) (v .loop .places .count) (v .loop .inv .0) (holds-length h), h .size)
 
-add-start : tie.Need-add-start Inv-loop μ-loop
-add-start c = search needs
-
-mul-start : tie.Need-mul-start Inv-loop μ-loop
-mul-start c = search needs
-
-array-write-start : tie.Need-array-write-start Inv-loop μ-loop
-array-write-start c = search needs
-
-add-q : tie.Need-add-q Inv-loop μ-loop
-add-q c = search needs
-
-loop-less : tie.Need-loop-less Inv-loop μ-loop
-loop-less c = search needs
-
 loop-again : tie.Need-loop-again Inv-loop μ-loop
 loop-again c =
     let v = c .before .before in
@@ -81,10 +66,10 @@ group-spec =
     μ-loop
     loop-holds
     scan-requires
-    add-start
-    mul-start
-    array-write-start
-    add-q
-    loop-less
+    (λ c. search needs)
+    (λ c. search needs)
+    (λ c. search needs)
+    (λ c. search needs)
+    (λ c. search needs)
     loop-again
     returns)

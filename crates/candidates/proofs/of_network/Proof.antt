@@ -4,12 +4,6 @@ use Rattle.candidates.specs.Laws.LaidOut.{are-laid-out}
 use Rattle.candidates.proofs.of_network.Statement.{statement}
 use Rattle.candidates.proofs.of_network.Tie as tie
 
-cast-k : tie.Need-cast-k
-cast-k c = search needs
-
-candidates-of-requires : tie.Need-candidates-of-requires
-candidates-of-requires c κs = search needs
-
 returns : tie.Need-returns
 returns c =
     let s = c .before .before .before .before .before .before in
@@ -18,4 +12,4 @@ returns c =
     are-laid-out p ok (net .links) (net .component) (net .components) (is .links) (is .components) (s .pre .0) (s .pre .1) (c .candidates-of .result) (c .candidates-of .ensures)
 
 pub of-network-spec : {M : Type 1} → statement M
-of-network-spec = tie.close (tie.spec cast-k candidates-of-requires returns)
+of-network-spec = tie.close (tie.spec (λ c. search needs) (λ c κs. search needs) returns)

@@ -34,24 +34,6 @@ loop-holds c =
     let b = c .before .pre .0 in
     (omega arith, holds-start 4096 (s .places .list) (s .places .count) _ (c .before .pre .1) (omega arith))
 
-element-copy-out-is-candidate : tie.Need-element-copy-out-is-candidate Inv-loop μ-loop
-element-copy-out-is-candidate c = search needs
-
-element-copy-out-is-candidate-2 : tie.Need-element-copy-out-is-candidate-2 Inv-loop μ-loop
-element-copy-out-is-candidate-2 c = search needs
-
-element-copy-out-is-candidate-3 : tie.Need-element-copy-out-is-candidate-3 Inv-loop μ-loop
-element-copy-out-is-candidate-3 c = search needs
-
-is-candidate-requires : tie.Need-is-candidate-requires Inv-loop μ-loop
-is-candidate-requires c κs = search needs
-
-cast-list : tie.Need-cast-list Inv-loop μ-loop
-cast-list c = search needs
-
-mul-list : tie.Need-mul-list Inv-loop μ-loop
-mul-list c = search needs
-
 array-write-list : tie.Need-array-write-list Inv-loop μ-loop
 array-write-list c =
     let v = c .before .before .before .before .before .before in
@@ -59,15 +41,6 @@ array-write-list c =
     let p = v .before .before .pre in
     room (s .links .now) (s .component .now) (s .q) (s .places .list) (v .loop .list) (s .places .count) (v .loop .count) (v .loop .x) (p .0) (p .1) (v .loop .inv .1)
     (sym (c .before .is-candidate .ensures) ∙ c .if1 .taken) (c .before .before .before .before .before .loop-test .taken)
-
-add-count : tie.Need-add-count Inv-loop μ-loop
-add-count c = search needs
-
-add-x : tie.Need-add-x Inv-loop μ-loop
-add-x c = search needs
-
-loop-less : tie.Need-loop-less Inv-loop μ-loop
-loop-less c = search needs
 
 loop-again : tie.Need-loop-again Inv-loop μ-loop
 loop-again c =
@@ -100,15 +73,15 @@ scan-spec =
     Inv-loop
     μ-loop
     loop-holds
-    element-copy-out-is-candidate
-    element-copy-out-is-candidate-2
-    element-copy-out-is-candidate-3
-    is-candidate-requires
-    cast-list
-    mul-list
+    (λ c. search needs)
+    (λ c. search needs)
+    (λ c. search needs)
+    (λ c κs. search needs)
+    (λ c. search needs)
+    (λ c. search needs)
     array-write-list
-    add-count
-    add-x
-    loop-less
+    (λ c. search needs)
+    (λ c. search needs)
+    (λ c. search needs)
     loop-again
     returns)

@@ -34,25 +34,10 @@ abbrev μ-loop : tie.MeasureT-loop
 loop-holds : tie.Need-loop-holds Inv-loop μ-loop
 loop-holds c = (omega arith, holds-as (holds-none 64) (sym (select-none-below _)))
 
-array-read-if1 : tie.Need-array-read-if1 Inv-loop μ-loop
-array-read-if1 c = search needs
-
-cast-list : tie.Need-cast-list Inv-loop μ-loop
-cast-list c = search needs
-
 array-write-list : tie.Need-array-write-list Inv-loop μ-loop
 array-write-list c =
     let v = c .before .before in
     room (v .before .args .t1) (v .loop .list) (v .loop .count) (v .loop .v) (v .loop .inv .1) (c .if1 .taken) (c .before .loop-test .taken)
-
-add-count : tie.Need-add-count Inv-loop μ-loop
-add-count c = search needs
-
-add-v : tie.Need-add-v Inv-loop μ-loop
-add-v c = search needs
-
-loop-less : tie.Need-loop-less Inv-loop μ-loop
-loop-less c = search needs
 
 loop-again : tie.Need-loop-again Inv-loop μ-loop
 loop-again c =
@@ -79,11 +64,11 @@ vertices-of-spec =
     Inv-loop
     μ-loop
     loop-holds
-    array-read-if1
-    cast-list
+    (λ c. search needs)
+    (λ c. search needs)
     array-write-list
-    add-count
-    add-v
-    loop-less
+    (λ c. search needs)
+    (λ c. search needs)
+    (λ c. search needs)
     loop-again
     returns)

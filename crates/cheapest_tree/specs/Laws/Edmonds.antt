@@ -1,5 +1,5 @@
 -- Edmonds: once the cheapest entries are paid, a circle of them costs nothing, and shrinking it changes no least cost. A tree of the
--- smaller picture gives one of the larger: the circle's members keep their entries but for the one where the tree comes in. A tree of the
+-- contracted matrix gives one of the larger: the circle's members keep their entries but for the one where the tree comes in. A tree of the
 -- larger gives one of the smaller: the circle takes the entry of its member of least rank.
 use mathlib.Core.Path.{_≡_, refl, sym, ap, _∙_, subst, subst⁻¹}
 use mathlib.Core.Logic.{_⊎_, inl, inr, _≢_}
@@ -199,7 +199,7 @@ module _ (vs cs : List ℕ) (c d : ℕ) (entry : ℕ → ℕ) (v w : Matrix) (ot
           not-T (not (isAmong q cs) || eqb q c)
           (λ t. elim (or-cases (not (isAmong q cs)) (eqb q c) t) [ inl a ↦ T-not (isAmong q cs) a (among-of n) | inr e ↦ o (eqb→eq q c e) ])
 
-  -- ---- a tree of the smaller picture gives one of the larger, at the same cost
+  -- ---- a tree of the contracted matrix gives one of the larger, at the same cost
 
   module _ (parent : ℕ → ℕ) (t : IsRootedTree few parent) where
     abbrev p₀ : ℕ

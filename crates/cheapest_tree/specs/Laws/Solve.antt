@@ -1,5 +1,5 @@
 -- One level of Edmonds' recursion, on the arrays: the entries make a tree, or the circle is shrunk, and the least cost of the smaller
--- picture with what was paid is the least cost of this one.
+-- matrix with what was paid is the least cost of this one.
 use mathlib.Core.Path.{_≡_, refl, sym, ap, ap₂, _∙_, subst, subst⁻¹}
 use mathlib.Core.Logic.{inl, inr, _≢_}
 use mathlib.Core.Bool.{Bool, true, false, not, cond, _&&_, _||_}
@@ -12,21 +12,22 @@ use lib.Seq.{getD-set-same, getD-set-other}
 use lib.Dec.{eqb, T-not}
 use lib.IntN.{ℤ, pos, _+ℤ_, _-ℤ_}
 use lib.Signed.{ltZ, _≤ℤ_, ≤ℤ-refl}
+use Rattle.postman.specs.Laws.Contradiction.{zero-is-one}
 use Rattle.integers.specs.Linear.{z, zl}
 use Rattle.postman.specs.Lists.{select, upFrom, below, sumOfℤ, iterate}
 use Rattle.postman.specs.Laws.Tests.{test, same-test, is-true, is-false, of-true}
 use Rattle.postman.specs.Laws.Membership.{mem-select, select-mem, mem-upFrom, upFrom-mem, mem-map, map-mem, mem-below, below-mem, length-upFrom}
 use Rattle.postman.specs.Laws.Occurrences.{occurrences-select, occurrences-upFrom}
 use Rattle.cheapest_tree.specs.Cheapest.{AreOthers, treeCost, IsCheapest, AreEntries, IsReduced, IsCircle, isAmong, shrunk, IsContraction}
-use Rattle.cheapest_tree.specs.Picture.{matrixOf, othersIn, highest, IsPicture, placeOf, less, HasEntries, entryOf, payOf, IsLost, IsMarked, IsPlace, IsShrunk, keptOf}
+use Rattle.cheapest_tree.specs.CostMatrix.{matrixOf, othersIn, highest, IsCostMatrix, placeOf, less, HasEntries, entryOf, payOf, IsLost, IsMarked, IsPlace, IsShrunk, keptOf}
 use Rattle.cheapest_tree.specs.Laws.Edmonds.{among-of, of-among, tree-of-entries, pay-entries, shrink-circle}
 use Rattle.cheapest_tree.specs.Laws.Circle.{orbit, entries-tree, is-circle, start-mem, shrunk-fewer, select-le}
-use Rattle.cheapest_tree.specs.Laws.Picture.{pay-within, less-within}
+use Rattle.cheapest_tree.specs.Laws.CostMatrix.{pay-within, less-within}
 
 -- ---- tests
 
 not-both : {b : Bool} → b ≡ true → b ≡ false → ⊥
-not-both e f = let y : _≡_ {A = ℕ} 0 1 = cc in omega arith
+not-both e f = zero-is-one (cc)
 
 select-select : (f g h : ℕ → Bool) (xs : List ℕ) → ((q : ℕ) → List·Memᴰ q xs → f q ≡ g q && h q) → select f xs ≡ select h (select g xs)
 unfolding select
@@ -93,14 +94,14 @@ sum-within f (q ∷ vs) h =
     let r1 = r .1 in
     (simp zl (omega (arith, z)), simp zl (omega (arith, z)))
 
--- What the smaller picture m, l of a picture w, left with the entries e has.
+-- What the contracted matrix m, l of a matrix w, left with the entries e has.
 pub record Smaller (w : List ℤ) (left : List Bool) (e : List ℕ) (m : List ℤ) (l : List Bool) : Type 0 where
-  pub picture : IsPicture m l
+  pub matrix : IsCostMatrix m l
   pub fewer : length (othersIn l) < length (othersIn left)
   pub cost : (a : ℤ) → IsCheapest (othersIn l) (matrixOf m) a
       → IsCheapest (othersIn left) (matrixOf w) (treeCost (matrixOf w) (othersIn left) (entryOf e) +ℤ a)
 
-module _ (w : List ℤ) (left : List Bool) (p : IsPicture w left) where
+module _ (w : List ℤ) (left : List Bool) (p : IsCostMatrix w left) where
   pub cost-within : (f : ℕ → ℕ) → ((q : ℕ) → List·Memᴰ q (othersIn left) → List·Memᴰ (f q) (0 ∷ othersIn left))
       → (pos 0 ≤ℤ treeCost (matrixOf w) (othersIn left) f) × (treeCost (matrixOf w) (othersIn left) f ≤ℤ pos 57801870)
   unfolding treeCost
@@ -262,7 +263,7 @@ module _ (w : List ℤ) (left : List Bool) (p : IsPicture w left) where
 
           pub smaller : Smaller w left e m l
           smaller = record {
-            picture = record {
+            matrix = record {
               low = λ i b. (let q = shrunk-to .each i b in subst⁻¹ (λ (x : ℤ). pos 0 ≤ℤ x) (q .2) (v-within (q .0) (q .1 .in-range) .0));
               high = λ i b.
                   (let q = shrunk-to .each i b in subst⁻¹ (λ (x : ℤ). x ≤ℤ pos highest) (q .2) (v-within (q .0) (q .1 .in-range) .1));

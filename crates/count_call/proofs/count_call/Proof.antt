@@ -9,15 +9,6 @@ use borrow.Author.Needs.{needs}
 use Rattle.count_call.proofs.count_call.Statement.{statement}
 use Rattle.count_call.proofs.count_call.Tie as tie
 
-read-plan-requires : tie.Need-read-plan-requires
-read-plan-requires c κs = search needs
-
-enum-known-verdict : tie.Need-enum-known-verdict
-enum-known-verdict c = search needs
-
-enum-told : tie.Need-enum-told
-enum-told c = search needs
-
 count-read-requires : tie.Need-count-read-requires
 count-read-requires c κs =
     let r = c .before .before .before .read-plan in
@@ -39,9 +30,9 @@ pub count-call-spec : {M : Type 1} → statement M
 count-call-spec =
     tie.close
     (tie.spec
-    read-plan-requires
-    enum-known-verdict
-    enum-told
+    (λ c κs. search needs)
+    (λ c. search needs)
+    (λ c. search needs)
     count-read-requires
     returns
     returns-2)

@@ -7,20 +7,8 @@ use borrow.Author.Needs.{needs}
 use Rattle.count_call.proofs.count_measured.Statement.{statement}
 use Rattle.count_call.proofs.count_measured.Tie as tie
 
-network-verdict-requires : tie.Need-network-verdict-requires
-network-verdict-requires c κs = search needs
-
-enum-known-r : tie.Need-enum-known-r
-enum-known-r c = search needs
-
-enum-told : tie.Need-enum-told
-enum-told c = search needs
-
 of-network-requires : tie.Need-of-network-requires
 of-network-requires c κs = few-components _ _ (sym (c .before .before .network-verdict .ensures) ∙ ap verdictNumber (c .enum-told .given .1))
-
-known-or-above-requires : tie.Need-known-or-above-requires
-known-or-above-requires c κs = search needs
 
 returns : tie.Need-returns
 returns c =
@@ -38,10 +26,10 @@ pub count-measured-spec : {M : Type 1} → statement M
 count-measured-spec =
     tie.close
     (tie.spec
-    network-verdict-requires
-    enum-known-r
-    enum-told
+    (λ c κs. search needs)
+    (λ c. search needs)
+    (λ c. search needs)
     of-network-requires
-    known-or-above-requires
+    (λ c κs. search needs)
     returns
     returns-2)

@@ -10,15 +10,6 @@ use borrow.Author.Needs.{needs}
 use Rattle.count_call.proofs.count_read.Statement.{statement}
 use Rattle.count_call.proofs.count_read.Tie as tie
 
-table-requires : tie.Need-table-requires
-table-requires c κs = search needs
-
-network-of-requires : tie.Need-network-of-requires
-network-of-requires c κs = search needs
-
-count-measured-requires : tie.Need-count-measured-requires
-count-measured-requires c κs = search needs
-
 returns : tie.Need-returns
 returns c =
     let s = c .before .before .before .before in
@@ -28,4 +19,4 @@ returns c =
 
 pub count-read-spec : {M : Type 1} → statement M
 count-read-spec =
-    tie.close (tie.spec table-requires network-of-requires count-measured-requires returns)
+    tie.close (tie.spec (λ c κs. search needs) (λ c κs. search needs) (λ c κs. search needs) returns)

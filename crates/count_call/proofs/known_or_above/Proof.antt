@@ -10,11 +10,8 @@ use Rattle.count_call.proofs.known_or_above.Tie as tie
 returns : tie.Need-returns
 returns c = sym (ap given (counted-above _ (c .if1 .taken)))
 
-cast-t3 : tie.Need-cast-t3
-cast-t3 c = search needs
-
 returns-2 : tie.Need-returns-2
 returns-2 c = sym (ap given (counted-known _ (omega arith)))
 
 pub known-or-above-spec : {M : Type 1} → statement M
-known-or-above-spec = tie.close (tie.spec returns cast-t3 returns-2)
+known-or-above-spec = tie.close (tie.spec returns (λ c. search needs) returns-2)

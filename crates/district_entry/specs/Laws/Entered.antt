@@ -9,6 +9,7 @@ use borrow.Author.Tests.{le-leb, lt-leb}
 use lib.ListN.{length, set, replicate, length-append}
 use lib.Seq.{take-append-seam, length-take-le}
 use lib.Dec.{T-not, leb, leb→le, nleb→lt}
+use Rattle.postman.specs.Laws.Contradiction.{zero-is-one}
 use Rattle.postman.specs.Plan.{WellFormed}
 use Rattle.postman.specs.Refusal.{Conditions, firstRefusal}
 use Rattle.postman.specs.PlanFile.{fileConditions, isOutside, planOf}
@@ -113,7 +114,7 @@ pub refused-entered : (m : Machine) (bytes : List ℕ) (budget : ℕ) (r : Refus
     → entryRefusal (lineOf m) bytes budget ≡ some (refusalNumber r) → IsEntered m bytes budget (record { answer = Refused r; machine = m })
 refused-entered m bytes budget r f = record {
   refusal = sym f;
-  place = λ q a. (let z : _≡_ {A = ℕ} 0 1 = cc in absurd (omega arith));
+  place = λ q a. (zero-is-one (cc));
   machine = sym (entry-stays m bytes budget (refusalNumber r) f);
 }
 

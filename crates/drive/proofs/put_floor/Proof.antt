@@ -4,18 +4,9 @@ use borrow.Author.Needs.{needs}
 use Rattle.drive.proofs.put_floor.Statement.{statement}
 use Rattle.drive.proofs.put_floor.Tie as tie
 
-slice-aggregate-put-line : tie.Need-slice-aggregate-put-line
-slice-aggregate-put-line c = search needs
-
 cast-put-line : tie.Need-cast-put-line
 cast-put-line c = nonneg-cast _ (c .before .before .fits .x .sfits) (c .before .before .pre .1)
 
-put-line-requires : tie.Need-put-line-requires
-put-line-requires c κs = search needs
-
-returns : tie.Need-returns
-returns c = search needs
-
 pub put-floor-spec : {M : Type 1} → statement M
 put-floor-spec =
-    tie.close (tie.spec slice-aggregate-put-line cast-put-line put-line-requires returns)
+    tie.close (tie.spec (λ c. search needs) cast-put-line (λ c κs. search needs) (λ c. search needs))

@@ -33,8 +33,5 @@ add-result-2 c = record { fits = omega (arith, returns c, sf (c .before .fits .a
 cast-result-2 : tie.Need-cast-result-2
 cast-result-2 c = simp abs-pn (omega (arith, z, sf (c .before .fits .a)))
 
-returns-2 : tie.Need-returns-2
-returns-2 c = search needs
-
 pub magnitude-spec : {M : Type 1} → statement M
-magnitude-spec = tie.close (tie.spec add-result sub-result cast-result add-result-2 returns cast-result-2 returns-2)
+magnitude-spec = tie.close (tie.spec add-result sub-result cast-result add-result-2 returns cast-result-2 (λ c. search needs))

@@ -32,7 +32,7 @@ use Rattle.postman.specs.Laws.Optimality.{some-arborescence}
 use Rattle.balance.specs.Invariant.{Metric}
 use Rattle.residual_search.specs.Laws.Fill.{zero-at}
 use Rattle.direct_amounts.specs.Laws.Plan.{plan-metric}
-use Rattle.cheapest_tree.specs.Picture.{highest}
+use Rattle.cheapest_tree.specs.CostMatrix.{highest}
 use Rattle.pair_costs.specs.PairCosts.{ArePairCosts, HoldsNetwork, multipliersIn}
 use Rattle.network.specs.Laws.Vertices.{required-of-64}
 use Rattle.tree_bounds.specs.Laws.Prepared.{required-small}

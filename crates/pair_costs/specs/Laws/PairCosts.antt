@@ -13,6 +13,7 @@ use lib.Dec.{ltb}
 use lib.IntN.{ℤ, pos, _+ℤ_, _-ℤ_}
 use lib.Signed.{_≤ℤ_, ≤ℤ-refl}
 use borrow.Author.Tests.{lt-ltb, le-ltb}
+use Rattle.postman.specs.Laws.Contradiction.{zero-is-one}
 use Rattle.integers.specs.Linear.{z}
 use Rattle.postman.specs.Lists.{select, upFrom}
 use Rattle.postman.specs.Plan.{Plan, WellFormed}
@@ -27,14 +28,14 @@ use Rattle.postman.specs.Laws.Component.{component-at}
 use Rattle.postman.specs.Laws.SignedSum.{≤ℤ-trans, ≤ℤ-antisym}
 use Rattle.cheapest_tree.specs.Cheapest.{IsCheapest}
 use Rattle.pair_costs.specs.Pairs.{IsPair, IsPairMatrix, othersOf}
-use Rattle.cheapest_tree.specs.Picture.{matrixOf, othersIn, highest, IsPicture}
+use Rattle.cheapest_tree.specs.CostMatrix.{matrixOf, othersIn, highest, IsCostMatrix}
 use Rattle.pair_costs.specs.PairCosts.{costOf, areRequired, offerOf, entryFor, ArePairCosts, IsLesser, AreLeastOffers, HoldsNetwork, multipliersIn}
 use Rattle.pair_costs.specs.Laws.Pairs.{pairs-links}
 
 both-true : (a b : Bool) → a && b ≡ true → (a ≡ true) × (b ≡ true)
 both-true true true e = (refl, refl)
-both-true true false e = let y : _≡_ {A = ℕ} 0 1 = cc in absurd (omega arith)
-both-true false b e = let y : _≡_ {A = ℕ} 0 1 = cc in absurd (omega arith)
+both-true true false e = zero-is-one (cc)
+both-true false b e = zero-is-one (cc)
 
 either : (b : Bool) → (b ≡ true) ⊎ (b ≡ false)
 either true = inl refl
@@ -224,9 +225,9 @@ module _ (d : List (List ℕ)) (u : List ℤ) (c : List ℕ) (r : List Bool) (ok
           pairs-links p wf (omega arith) (multipliersIn u) (matrixOf m) pair-matrix f a
           (subst (λ (x : List ℕ). IsCheapest x (matrixOf m) a) others-same q)
 
-  pub first-picture : (k : ℕ) → 1 ≤ k → (m : List ℤ) → AreLeastOffers d u c r 4096 m → (left : List Bool)
-      → ((q : ℕ) → q < 8 → getD left q false ≡ ltb q k) → IsPicture m left
-  first-picture k some m h left all = record { low = h .low; high = h .high; root = all 0 (omega arith) ∙ lt-ltb 0 k some }
+  pub first-matrix : (k : ℕ) → 1 ≤ k → (m : List ℤ) → AreLeastOffers d u c r 4096 m → (left : List Bool)
+      → ((q : ℕ) → q < 8 → getD left q false ≡ ltb q k) → IsCostMatrix m left
+  first-matrix k some m h left all = record { low = h .low; high = h .high; root = all 0 (omega arith) ∙ lt-ltb 0 k some }
 
 -- before any pair nothing is offered
 pub offers-none : (d : List (List ℕ)) (u : List ℤ) (c : List ℕ) (r : List Bool) → AreLeastOffers d u c r 0 (replicate 64 (pos highest))

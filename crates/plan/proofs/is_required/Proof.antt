@@ -5,21 +5,6 @@ use borrow.Author.Needs.{needs}
 use Rattle.plan.proofs.is_required.Statement.{statement}
 use Rattle.plan.proofs.is_required.Tie as tie
 
-record-standing-requires : tie.Need-record-standing-requires
-record-standing-requires c κs = search needs
-
-enum-told : tie.Need-enum-told
-enum-told c = search needs
-
-enum-told-2 : tie.Need-enum-told-2
-enum-told-2 c = search needs
-
-enum-told-3 : tie.Need-enum-told-3
-enum-told-3 c = search needs
-
-enum-told-4 : tie.Need-enum-told-4
-enum-told-4 c = search needs
-
 returns : tie.Need-returns
 returns c = must-test (c .before .before .before .args .a .standing) _ (sym (c .enum-told .given .1) ∙ c .before .before .record-standing .ensures)
 
@@ -36,11 +21,11 @@ pub is-required-spec : {M : Type 1} → statement M
 is-required-spec =
     tie.close
     (tie.spec
-    record-standing-requires
-    enum-told
-    enum-told-2
-    enum-told-3
-    enum-told-4
+    (λ c κs. search needs)
+    (λ c. search needs)
+    (λ c. search needs)
+    (λ c. search needs)
+    (λ c. search needs)
     returns
     returns-2
     returns-3

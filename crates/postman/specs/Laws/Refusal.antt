@@ -10,6 +10,7 @@ use Prim.Native.Nat.{ℕ, suc, _+_, _-_, _<_, _≤_}
 use native.Mathlib.Numerals.{add-one}
 use native.Mathlib.Omega.{arith}
 use lib.Dec.{T}
+use Rattle.postman.specs.Laws.Contradiction.{zero-is-one}
 use Rattle.postman.specs.Lists.{upFrom, below}
 use Rattle.postman.specs.Plan.{Arc, Plan}
 use Rattle.postman.specs.Refusal.{Conditions, firstRefusal, refused, given, answer}
@@ -150,11 +151,11 @@ module _ {A : Type 0} where
   pub was-given : (o : Option ℕ) (x y : A) → given y ≡ answer o x → (o ≡ none) × (y ≡ x)
   unfolding answer
   was-given none x y e = (refl, cc)
-  was-given (some r) x y e = let z : _≡_ {A = ℕ} 0 1 = cc in absurd (omega arith)
+  was-given (some r) x y e = zero-is-one (cc)
 
   pub was-refused : (o : Option ℕ) (x : A) (r : ℕ) → refused r ≡ answer o x → o ≡ some r
   unfolding answer
-  was-refused none x r e = let z : _≡_ {A = ℕ} 0 1 = cc in absurd (omega arith)
+  was-refused none x r e = zero-is-one (cc)
   was-refused (some q) x r e = cc
 
 -- ---- the order of a call's conditions
@@ -229,7 +230,7 @@ pub last-given : (cs : Conditions) (b : Bool) (r : ℕ) → Other r cs → first
     → (firstRefusal cs ≡ none) × T b
 unfolding firstRefusal
 last-given [] true r h e = (refl, tt)
-last-given [] false r h e = let x : _≡_ {A = ℕ} 0 1 = cc in absurd (omega arith)
+last-given [] false r h e = zero-is-one (cc)
 last-given (c ∷ cs) b r h e = at (c .0) (c .1) (h .0) e (last-given cs b r (h .1))
   where
     at : (x : Bool) (k : ℕ) → k ≢ r → firstRefusal ((x, k) ∷ cs ++ (b, r) ∷ []) ≡ some r

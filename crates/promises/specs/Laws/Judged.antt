@@ -4,12 +4,13 @@ use mathlib.Core.Logic.{_↔_}
 use mathlib.Core.Option.{Option, none, some}
 use Prim.Native.Nat.{ℕ}
 use native.Mathlib.Omega.{arith}
+use Rattle.postman.specs.Laws.Contradiction.{zero-is-one}
 use Rattle.postman.specs.Refusal.{Answer, refused, given, answer}
 
 pub answer-refused : (o : Option ℕ) (x k : ℕ) → (answer o x ≡ refused k) ↔ (o ≡ some k)
 unfolding answer
 answer-refused none x k =
-    ((λ e. let z : _≡_ {A = ℕ} 0 1 = cc in absurd (omega arith)), (λ e. let z : _≡_ {A = ℕ} 0 1 = cc in absurd (omega arith)))
+    ((λ e. zero-is-one (cc)), (λ e. zero-is-one (cc)))
 answer-refused (some r) x k = ((λ e. ap some (number e)), (λ e. ap (λ (o : Option ℕ). answer o x) e))
   where
     held : Answer ℕ → ℕ

@@ -3,17 +3,8 @@ use borrow.Author.Needs.{needs}
 use Rattle.refusal.proofs.first_refused.Statement.{statement}
 use Rattle.refusal.proofs.first_refused.Tie as tie
 
-enum-told : tie.Need-enum-told
-enum-told c = search needs
-
-enum-known-a : tie.Need-enum-known-a
-enum-known-a c = search needs
-
-returns : tie.Need-returns
-returns c = search needs
-
 returns-2 : tie.Need-returns-2
 returns-2 c = simp (c .before .a .given .1)
 
 pub first-refused-spec : {M : Type 1} → statement M
-first-refused-spec = tie.close (tie.spec enum-told enum-known-a returns returns-2)
+first-refused-spec = tie.close (tie.spec (λ c. search needs) (λ c. search needs) (λ c. search needs) returns-2)

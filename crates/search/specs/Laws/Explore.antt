@@ -13,6 +13,7 @@ use borrow.Author.Tests.{le-leb, lt-leb, ne-eqb, lt-ltb}
 use lib.ListN.{length, getD, take, length-map}
 use lib.Seq.{take-suc, take-all}
 use lib.Dec.{ltb}
+use Rattle.postman.specs.Laws.Contradiction.{zero-is-one}
 use Rattle.postman.specs.Lists.{upFrom, delta}
 use Rattle.postman.specs.Plan.{Plan, requiredArcs}
 use Rattle.postman.specs.Required.{required}
@@ -117,7 +118,7 @@ module _ (g : Progress) (n least : ℕ) where
   ]
     where
       different : true ≡ false → ⊥
-      different e = let x : _≡_ {A = ℕ} 0 1 = cc in omega arith
+      different e = zero-is-one (cc)
 
       all : g .skip < n → g .left ≢ 0 → least < g .cost → isEntered g n least ≡ true
       all a b d = rw (lt-leb n (g .skip) a, ne-eqb (g .left) 0 b) (lt-ltb least (g .cost) d)
@@ -125,7 +126,7 @@ module _ (g : Progress) (n least : ℕ) where
   pub is-entered : isEntered g n least ≡ true → g .skip < n
   is-entered e = elim (decLe n (g .skip)) [
     | yes a ↦ absurd
-        (let x : _≡_ {A = Bool} false true = sym (rw (le-leb n (g .skip) a) refl) ∙ e in let y : _≡_ {A = ℕ} 0 1 = cc in omega arith)
+        (let x : _≡_ {A = Bool} false true = sym (rw (le-leb n (g .skip) a) refl) ∙ e in zero-is-one (cc))
     | no a ↦ omega arith
   ]
 

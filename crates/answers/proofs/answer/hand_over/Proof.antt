@@ -7,30 +7,6 @@ use borrow.Author.Needs.{needs}
 use Rattle.answers.proofs.answer.hand_over.Statement.{statement}
 use Rattle.answers.proofs.answer.hand_over.Tie as tie
 
-enum-told : tie.Need-enum-told
-enum-told c = search needs
-
-words-requires : tie.Need-words-requires
-words-requires c κs = search needs
-
-put-words-requires : tie.Need-put-words-requires
-put-words-requires c κs = search needs
-
-put-multipliers-requires : tie.Need-put-multipliers-requires
-put-multipliers-requires c κs = search needs
-
-enum-known-verdict : tie.Need-enum-known-verdict
-enum-known-verdict c = search needs
-
-refused-number-requires : tie.Need-refused-number-requires
-refused-number-requires c κs = search needs
-
-same-length : tie.Need-same-length
-same-length c = search needs
-
-same-length-2 : tie.Need-same-length-2
-same-length-2 c = search needs
-
 returns : tie.Need-returns
 returns c =
     handed _ _ _ _ _ _ (ap verdictNumber (c .before .before .before .before .before .before .before .before .before .enum-told .given .1)) (c .before .before .before .before .before .before .before .before .words .ensures) (c .before .before .before .before .before .before .put-words .ensures) (c .before .put-multipliers .ensures)
@@ -42,13 +18,13 @@ pub hand-over-spec : {M : Type 1} → statement M
 hand-over-spec =
     tie.close
     (tie.spec
-    enum-told
-    words-requires
-    put-words-requires
-    put-multipliers-requires
-    enum-known-verdict
-    refused-number-requires
-    same-length
-    same-length-2
+    (λ c. search needs)
+    (λ c κs. search needs)
+    (λ c κs. search needs)
+    (λ c κs. search needs)
+    (λ c. search needs)
+    (λ c κs. search needs)
+    (λ c. search needs)
+    (λ c. search needs)
     returns
     returns-2)

@@ -13,29 +13,8 @@ Inv-loop lent₀ words n i₀ lent i = IsPut words lent₀ 6 lent n i
 abbrev μ-loop : tie.MeasureT-loop
 μ-loop lent₀ words n i₀ lent i = n - i
 
-at-most-requires : tie.Need-at-most-requires Inv-loop μ-loop
-at-most-requires c κs = search needs
-
 loop-holds : tie.Need-loop-holds Inv-loop μ-loop
 loop-holds c = put-start _ _ _ _ (search needs) (c .at-most .ensures)
-
-mul-lent : tie.Need-mul-lent Inv-loop μ-loop
-mul-lent c = search needs
-
-array-read-lent : tie.Need-array-read-lent Inv-loop μ-loop
-array-read-lent c = search needs
-
-mul-lent-2 : tie.Need-mul-lent-2 Inv-loop μ-loop
-mul-lent-2 c = search needs
-
-slice-write-lent : tie.Need-slice-write-lent Inv-loop μ-loop
-slice-write-lent c = search needs
-
-add-i : tie.Need-add-i Inv-loop μ-loop
-add-i c = search needs
-
-loop-less : tie.Need-loop-less Inv-loop μ-loop
-loop-less c = search needs
 
 loop-again : tie.Need-loop-again Inv-loop μ-loop
 loop-again c = put-more _ _ _ 0 _ _ _ _ refl (c .before .loop .inv) (omega arith)
@@ -52,14 +31,14 @@ put-words-spec =
     (tie.spec
     Inv-loop
     μ-loop
-    at-most-requires
+    (λ c κs. search needs)
     loop-holds
-    mul-lent
-    array-read-lent
-    mul-lent-2
-    slice-write-lent
-    add-i
-    loop-less
+    (λ c. search needs)
+    (λ c. search needs)
+    (λ c. search needs)
+    (λ c. search needs)
+    (λ c. search needs)
+    (λ c. search needs)
     loop-again
     same-length
     returns)

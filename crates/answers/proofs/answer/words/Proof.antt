@@ -8,18 +8,6 @@ use borrow.Author.Needs.{needs}
 use Rattle.answers.proofs.answer.words.Statement.{statement}
 use Rattle.answers.proofs.answer.words.Tie as tie
 
-magnitude-requires : tie.Need-magnitude-requires
-magnitude-requires c κs = search needs
-
-cast-t4 : tie.Need-cast-t4
-cast-t4 c = search needs
-
-cast-t5 : tie.Need-cast-t5
-cast-t5 c = search needs
-
-cast-t6 : tie.Need-cast-t6
-cast-t6 c = search needs
-
 returns : tie.Need-returns
 returns c =
     let r = c .before .before .before .before .before .args .r in
@@ -27,4 +15,4 @@ returns c =
     words-are r _ (c .before .before .before .magnitude .ensures ∙ ap natAbs b)
 
 pub words-spec : {M : Type 1} → statement M
-words-spec = tie.close (tie.spec magnitude-requires cast-t4 cast-t5 cast-t6 returns)
+words-spec = tie.close (tie.spec (λ c κs. search needs) (λ c. search needs) (λ c. search needs) (λ c. search needs) returns)

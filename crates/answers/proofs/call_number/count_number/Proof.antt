@@ -6,21 +6,6 @@ use borrow.Author.Needs.{needs}
 use Rattle.answers.proofs.call_number.count_number.Statement.{statement}
 use Rattle.answers.proofs.call_number.count_number.Tie as tie
 
-enum-known-c : tie.Need-enum-known-c
-enum-known-c c = search needs
-
-cast-result : tie.Need-cast-result
-cast-result c = search needs
-
-enum-told : tie.Need-enum-told
-enum-told c = search needs
-
-enum-known-c-2 : tie.Need-enum-known-c-2
-enum-known-c-2 c = search needs
-
-refused-number-requires : tie.Need-refused-number-requires
-refused-number-requires c κs = search needs
-
 returns : tie.Need-returns
 returns c = rw (c .before .c .given .1) (plain64 _ (omega (arith, c .known-told .given)))
 
@@ -34,11 +19,11 @@ pub count-number-spec : {M : Type 1} → statement M
 count-number-spec =
     tie.close
     (tie.spec
-    enum-known-c
-    cast-result
-    enum-told
-    enum-known-c-2
-    refused-number-requires
+    (λ c. search needs)
+    (λ c. search needs)
+    (λ c. search needs)
+    (λ c. search needs)
+    (λ c κs. search needs)
     returns
     returns-2
     returns-3)

@@ -11,36 +11,12 @@ use borrow.Author.Needs.{needs}
 use Rattle.answers.proofs.cars_number.cars_number.Statement.{statement}
 use Rattle.answers.proofs.cars_number.cars_number.Tie as tie
 
-own-number-requires : tie.Need-own-number-requires
-own-number-requires c κs = search needs
-
-enum-told : tie.Need-enum-told
-enum-told c = search needs
-
-cast-result : tie.Need-cast-result
-cast-result c = search needs
-
-enum-known-first : tie.Need-enum-known-first
-enum-known-first c = search needs
-
-refusal-number-requires : tie.Need-refusal-number-requires
-refusal-number-requires c κs = search needs
-
-reaches-both-requires : tie.Need-reaches-both-requires
-reaches-both-requires c κs = search needs
-
-refused-number-requires : tie.Need-refused-number-requires
-refused-number-requires c κs = search needs
-
 returns : tie.Need-returns
 returns c =
     let k = c .before .before .before in
     let f = k .before .before in
     let t = sym (ap reachesBoth (k .refusal-number .ensures)) ∙ sym (c .before .before .reaches-both .ensures) ∙ c .before .if1 .taken in
     both-refused _ _ _ (f .before .before .own-number .ensures) _ (ap verdictNumber (f .first .given .1)) t _ (back64 _ (c .refused-number .ok) ∙ c .refused-number .ensures)
-
-pair-number-requires : tie.Need-pair-number-requires
-pair-number-requires c κs = search needs
 
 returns-2 : tie.Need-returns-2
 returns-2 c =
@@ -60,14 +36,14 @@ pub cars-number-spec : {M : Type 1} → statement M
 cars-number-spec =
     tie.close
     (tie.spec
-    own-number-requires
-    enum-told
-    cast-result
-    enum-known-first
-    refusal-number-requires
-    reaches-both-requires
-    refused-number-requires
+    (λ c κs. search needs)
+    (λ c. search needs)
+    (λ c. search needs)
+    (λ c. search needs)
+    (λ c κs. search needs)
+    (λ c κs. search needs)
+    (λ c κs. search needs)
     returns
-    pair-number-requires
+    (λ c κs. search needs)
     returns-2
     returns-3)

@@ -6,15 +6,6 @@ use borrow.Author.Needs.{needs}
 use Rattle.answers.proofs.cars_number.own_number.Statement.{statement}
 use Rattle.answers.proofs.cars_number.own_number.Tie as tie
 
-enum-told : tie.Need-enum-told
-enum-told c = search needs
-
-enum-known-v : tie.Need-enum-known-v
-enum-known-v c = search needs
-
-refusal-number-requires : tie.Need-refusal-number-requires
-refusal-number-requires c κs = search needs
-
 returns : tie.Need-returns
 returns c = rw (c .enum-told .given .1)
 
@@ -23,4 +14,4 @@ returns-2 c = rw (c .before .before .v .given .1) (c .refusal-number .ensures)
 
 pub own-number-spec : {M : Type 1} → statement M
 own-number-spec =
-    tie.close (tie.spec enum-told enum-known-v refusal-number-requires returns returns-2)
+    tie.close (tie.spec (λ c. search needs) (λ c. search needs) (λ c κs. search needs) returns returns-2)

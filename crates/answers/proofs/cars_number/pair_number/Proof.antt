@@ -6,17 +6,8 @@ use borrow.Author.Needs.{needs}
 use Rattle.answers.proofs.cars_number.pair_number.Statement.{statement}
 use Rattle.answers.proofs.cars_number.pair_number.Tie as tie
 
-mul-n : tie.Need-mul-n
-mul-n c = search needs
-
-add-n : tie.Need-add-n
-add-n c = search needs
-
-cast-result : tie.Need-cast-result
-cast-result c = search needs
-
 returns : tie.Need-returns
 returns c = plain64 _ (omega arith)
 
 pub pair-number-spec : {M : Type 1} → statement M
-pair-number-spec = tie.close (tie.spec mul-n add-n cast-result returns)
+pair-number-spec = tie.close (tie.spec (λ c. search needs) (λ c. search needs) (λ c. search needs) returns)

@@ -5,9 +5,6 @@ use borrow.Author.Needs.{needs}
 use Rattle.answers.proofs.file_number.edition_of.Statement.{statement}
 use Rattle.answers.proofs.file_number.edition_of.Tie as tie
 
-cast-result : tie.Need-cast-result
-cast-result c = search needs
-
 returns : tie.Need-returns
 returns c = let t = lt-ltb _ _ (c .if1 .taken) in rw t refl
 
@@ -15,4 +12,4 @@ returns-2 : tie.Need-returns-2
 returns-2 c = let t = le-ltb _ _ (c .if1 .left) in rw t refl
 
 pub edition-of-spec : {M : Type 1} → statement M
-edition-of-spec = tie.close (tie.spec cast-result returns returns-2)
+edition-of-spec = tie.close (tie.spec (λ c. search needs) returns returns-2)

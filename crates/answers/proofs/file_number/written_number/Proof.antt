@@ -7,17 +7,8 @@ use borrow.Author.Needs.{needs}
 use Rattle.answers.proofs.file_number.written_number.Statement.{statement}
 use Rattle.answers.proofs.file_number.written_number.Tie as tie
 
-enum-known-w : tie.Need-enum-known-w
-enum-known-w c = search needs
-
 cast-result : tie.Need-cast-result
 cast-result c = let h = c .before .before .before .pre (c .before .w .given .0 .0) (ap writtenAnswer (c .before .w .given .1)) in search needs
-
-enum-known-w-2 : tie.Need-enum-known-w-2
-enum-known-w-2 c = search needs
-
-refused-number-requires : tie.Need-refused-number-requires
-refused-number-requires c κs = search needs
 
 returns : tie.Need-returns
 returns c =
@@ -30,4 +21,4 @@ returns-2 c = rw (c .before .before .w2 .given .1) (back64 _ (c .refused-number 
 pub written-number-spec : {M : Type 1} → statement M
 written-number-spec =
     tie.close
-    (tie.spec enum-known-w cast-result enum-known-w-2 refused-number-requires returns returns-2)
+    (tie.spec (λ c. search needs) cast-result (λ c. search needs) (λ c κs. search needs) returns returns-2)

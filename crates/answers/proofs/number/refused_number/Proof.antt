@@ -9,12 +9,6 @@ use borrow.Author.Needs.{needs}
 use Rattle.answers.proofs.number.refused_number.Statement.{statement}
 use Rattle.answers.proofs.number.refused_number.Tie as tie
 
-refusal-number-requires : tie.Need-refusal-number-requires
-refusal-number-requires c κs = search needs
-
-cast-result : tie.Need-cast-result
-cast-result c = search needs
-
 sub-result : tie.Need-sub-result
 sub-result c =
     let h : c .refusal-number .result < 2 ^ 63 = omega (arith, c .refusal-number .ok) in
@@ -26,4 +20,4 @@ returns c =
     toZ-ofZ (sub-result c) ∙ simp plain64 (+ℤ-idl (negℤ (pos (c .refusal-number .result))) ∙ ap (λ k. negℤ (pos k)) (c .refusal-number .ensures))
 
 pub refused-number-spec : {M : Type 1} → statement M
-refused-number-spec = tie.close (tie.spec refusal-number-requires cast-result sub-result returns)
+refused-number-spec = tie.close (tie.spec (λ c κs. search needs) (λ c. search needs) sub-result returns)

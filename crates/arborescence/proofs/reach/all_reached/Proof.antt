@@ -17,18 +17,12 @@ Inv-loop sets k all r₀ j₀ r j = (1 ≤ k) × (j ≤ k) × (k ≤ 8) × (all 
 abbrev μ-loop : tie.MeasureT-loop
 μ-loop sets k all r₀ j₀ r j = k - j
 
-single-requires : tie.Need-single-requires Inv-loop μ-loop
-single-requires c κs = search needs
-
 sub-all : tie.Need-sub-all Inv-loop μ-loop
 sub-all c = omega (arith, c .single .ensures, pow-pos (c .before .args .k))
 
 loop-holds : tie.Need-loop-holds Inv-loop μ-loop
 unfolding sweeps
 loop-holds c = (omega arith, omega arith, omega arith, ap (λ s. s - 1) (c .single .ensures), refl)
-
-swept-requires : tie.Need-swept-requires Inv-loop μ-loop
-swept-requires c κs = search needs
 
 returns : tie.Need-returns Inv-loop μ-loop
 returns c = let v = c .before .before .before .loop in
@@ -37,12 +31,6 @@ returns c = let v = c .before .before .before .loop in
 returns-2 : tie.Need-returns-2 Inv-loop μ-loop
 returns-2 c = let v = c .before .before .before .before .loop in
     sym (stop-still _ _ (v .j) _ _ (v .inv .0) (c .before .before .before .loop-test .taken) (v .inv .4) (c .before .before .swept .ensures) (c .if2 .taken) (λ e. c .before .if1 .left (e ∙ sym (v .inv .3))))
-
-add-j : tie.Need-add-j Inv-loop μ-loop
-add-j c = search needs
-
-loop-less : tie.Need-loop-less Inv-loop μ-loop
-loop-less c = search needs
 
 loop-again : tie.Need-loop-again Inv-loop μ-loop
 unfolding sweeps
@@ -59,13 +47,13 @@ all-reached-spec =
     (tie.spec
     Inv-loop
     μ-loop
-    single-requires
+    (λ c κs. search needs)
     sub-all
     loop-holds
-    swept-requires
+    (λ c κs. search needs)
     returns
     returns-2
-    add-j
-    loop-less
+    (λ c. search needs)
+    (λ c. search needs)
     loop-again
     returns-3)

@@ -9,12 +9,9 @@ returns : tie.Need-returns
 unfolding enter
 returns c = rw (eq-eqb _ 0 (c .if1 .taken))
 
-single-requires : tie.Need-single-requires
-single-requires c κs = search needs
-
 returns-2 : tie.Need-returns-2
 unfolding enter
 returns-2 c = rw (ne-eqb _ 0 (c .before .if1 .left), c .single .ensures)
 
 pub entered-spec : {M : Type 1} → statement M
-entered-spec = tie.close (tie.spec returns single-requires returns-2)
+entered-spec = tie.close (tie.spec returns (λ c κs. search needs) returns-2)

@@ -19,21 +19,6 @@ loop-holds : tie.Need-loop-holds Inv-loop μ-loop
 unfolding sweep
 loop-holds c = (omega arith, omega arith, omega arith, refl)
 
-mul-entered : tie.Need-mul-entered Inv-loop μ-loop
-mul-entered c = search needs
-
-element-copy-out-entered : tie.Need-element-copy-out-entered Inv-loop μ-loop
-element-copy-out-entered c = search needs
-
-entered-requires : tie.Need-entered-requires Inv-loop μ-loop
-entered-requires c κs = search needs
-
-add-j : tie.Need-add-j Inv-loop μ-loop
-add-j c = search needs
-
-loop-less : tie.Need-loop-less Inv-loop μ-loop
-loop-less c = search needs
-
 loop-again : tie.Need-loop-again Inv-loop μ-loop
 loop-again c = let v = c .before .before .before .loop in
     let l = v .inv .0 in
@@ -50,10 +35,10 @@ swept-spec =
     Inv-loop
     μ-loop
     loop-holds
-    mul-entered
-    element-copy-out-entered
-    entered-requires
-    add-j
-    loop-less
+    (λ c. search needs)
+    (λ c. search needs)
+    (λ c κs. search needs)
+    (λ c. search needs)
+    (λ c. search needs)
     loop-again
     returns)

@@ -12,24 +12,6 @@ use borrow.Author.Needs.{needs}
 use Rattle.arc_rules.proofs.rules.arc_verdict.Statement.{statement}
 use Rattle.arc_rules.proofs.rules.arc_verdict.Tie as tie
 
-ends-verdict-requires : tie.Need-ends-verdict-requires
-ends-verdict-requires c κs = search needs
-
-is-must-requires : tie.Need-is-must-requires
-is-must-requires c κs = search needs
-
-price-verdict-requires : tie.Need-price-verdict-requires
-price-verdict-requires c κs = search needs
-
-standing-verdict-requires : tie.Need-standing-verdict-requires
-standing-verdict-requires c κs = search needs
-
-first-refused-requires : tie.Need-first-refused-requires
-first-refused-requires c κs = search needs
-
-first-refused-requires-2 : tie.Need-first-refused-requires-2
-first-refused-requires-2 c κs = search needs
-
 returns : tie.Need-returns
 unfolding firstRefusal
 returns c =
@@ -46,10 +28,10 @@ pub arc-verdict-spec : {M : Type 1} → statement M
 arc-verdict-spec =
     tie.close
     (tie.spec
-    ends-verdict-requires
-    is-must-requires
-    price-verdict-requires
-    standing-verdict-requires
-    first-refused-requires
-    first-refused-requires-2
+    (λ c κs. search needs)
+    (λ c κs. search needs)
+    (λ c κs. search needs)
+    (λ c κs. search needs)
+    (λ c κs. search needs)
+    (λ c κs. search needs)
     returns)

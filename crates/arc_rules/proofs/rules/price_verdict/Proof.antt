@@ -4,9 +4,6 @@ use borrow.Author.Needs.{needs}
 use Rattle.arc_rules.proofs.rules.price_verdict.Statement.{statement}
 use Rattle.arc_rules.proofs.rules.price_verdict.Tie as tie
 
-is-mispriced-requires : tie.Need-is-mispriced-requires
-is-mispriced-requires c κs = search needs
-
 returns : tie.Need-returns
 returns c = simp (sym (c .before .is-mispriced .ensures) ∙ c .if1 .taken)
 
@@ -14,4 +11,4 @@ returns-2 : tie.Need-returns-2
 returns-2 c = simp (sym (c .before .is-mispriced .ensures) ∙ c .if1 .left)
 
 pub price-verdict-spec : {M : Type 1} → statement M
-price-verdict-spec = tie.close (tie.spec is-mispriced-requires returns returns-2)
+price-verdict-spec = tie.close (tie.spec (λ c κs. search needs) returns returns-2)

@@ -8,18 +8,6 @@ use borrow.Author.Needs.{needs}
 use Rattle.arc_rules.proofs.verdicts.all_records_verdict.Statement.{statement}
 use Rattle.arc_rules.proofs.verdicts.all_records_verdict.Tie as tie
 
-records-verdict-requires : tie.Need-records-verdict-requires
-records-verdict-requires c κs = search needs
-
-enum-told : tie.Need-enum-told
-enum-told c = search needs
-
-repeated-verdict-requires : tie.Need-repeated-verdict-requires
-repeated-verdict-requires c κs = search needs
-
-enum-known-r : tie.Need-enum-known-r
-enum-known-r c = search needs
-
 returns : tie.Need-returns
 returns c =
     let a = c .before .before .before .before .args in
@@ -36,9 +24,9 @@ pub all-records-verdict-spec : {M : Type 1} → statement M
 all-records-verdict-spec =
     tie.close
     (tie.spec
-    records-verdict-requires
-    enum-told
-    repeated-verdict-requires
-    enum-known-r
+    (λ c κs. search needs)
+    (λ c. search needs)
+    (λ c κs. search needs)
+    (λ c. search needs)
     returns
     returns-2)

@@ -21,33 +21,12 @@ loop-holds c =
     let a = c .args in
     (omega arith, none-before-first (arcConditions (a .edition) (a .n)) (recordAt (a .t4)) (a .m))
 
-mul-a : tie.Need-mul-a Inv-loop μ-loop
-mul-a c = search needs
-
-array-copy-out-a : tie.Need-array-copy-out-a Inv-loop μ-loop
-array-copy-out-a c = search needs
-
-record-verdict-requires : tie.Need-record-verdict-requires Inv-loop μ-loop
-record-verdict-requires c κs = search needs
-
-enum-told : tie.Need-enum-told Inv-loop μ-loop
-enum-told c = search needs
-
-enum-known-r : tie.Need-enum-known-r Inv-loop μ-loop
-enum-known-r c = search needs
-
 returns : tie.Need-returns Inv-loop μ-loop
 returns c =
     let a = c .before .before .before .before .before .before .before .args in
     let l = c .before .before .before .before .before .before .loop in
     let call = c .before .before .before .record-verdict in
     refused-here (arcConditions (a .edition) (a .n)) (recordAt (a .t4)) (a .m) (l .k) _ (omega arith) (l .inv .1) (sym (call .ensures) ∙ ap verdictNumber (c .before .r .given .1))
-
-add-k : tie.Need-add-k Inv-loop μ-loop
-add-k c = search needs
-
-loop-less : tie.Need-loop-less Inv-loop μ-loop
-loop-less c = search needs
 
 loop-again : tie.Need-loop-again Inv-loop μ-loop
 loop-again c =
@@ -71,13 +50,13 @@ records-verdict-spec =
     Inv-loop
     μ-loop
     loop-holds
-    mul-a
-    array-copy-out-a
-    record-verdict-requires
-    enum-told
-    enum-known-r
+    (λ c. search needs)
+    (λ c. search needs)
+    (λ c κs. search needs)
+    (λ c. search needs)
+    (λ c. search needs)
     returns
-    add-k
-    loop-less
+    (λ c. search needs)
+    (λ c. search needs)
     loop-again
     returns-2)

@@ -6,21 +6,6 @@ use borrow.Author.Needs.{needs}
 use Rattle.ascent.proofs.relax.ask.Statement.{statement}
 use Rattle.ascent.proofs.relax.ask.Tie as tie
 
-element-copy-out-if1 : tie.Need-element-copy-out-if1
-element-copy-out-if1 c = search needs
-
-element-write-marks : tie.Need-element-write-marks
-element-write-marks c = search needs
-
-mul-capped : tie.Need-mul-capped
-mul-capped c = search needs
-
-element-copy-out-capped : tie.Need-element-copy-out-capped
-element-copy-out-capped c = search needs
-
-capped-requires : tie.Need-capped-requires
-capped-requires c κs = search needs
-
 move-all-requires : tie.Need-move-all-requires
 move-all-requires c κs =
     let s = c .before .before .before .before .before .before .before in
@@ -43,11 +28,11 @@ pub ask-spec : {M : Type 1} → statement M
 ask-spec =
     tie.close
     (tie.spec
-    element-copy-out-if1
-    element-write-marks
-    mul-capped
-    element-copy-out-capped
-    capped-requires
+    (λ c. search needs)
+    (λ c. search needs)
+    (λ c. search needs)
+    (λ c. search needs)
+    (λ c κs. search needs)
     move-all-requires
     returns
     returns-2)

@@ -7,20 +7,11 @@ use borrow.Author.Needs.{needs}
 use Rattle.ascent.proofs.relax.asked.Statement.{statement}
 use Rattle.ascent.proofs.relax.asked.Tie as tie
 
-ahead-requires : tie.Need-ahead-requires
-ahead-requires c κs = search needs
-
-cast-result : tie.Need-cast-result
-cast-result c = search needs
-
 add-result : tie.Need-add-result
 add-result c = simp zz (omega (arith, z, simp zz at (c .before .before .pre)))
 
 returns : tie.Need-returns
 returns c = rw (sym (c .before .ahead .ensures) ∙ c .if1 .taken) (toZ-ofZ (add-result c) ∙ simp zz (omega (arith, z)))
-
-cast-result-2 : tie.Need-cast-result-2
-cast-result-2 c = search needs
 
 sub-result : tie.Need-sub-result
 sub-result c = simp zz (omega (arith, z, simp zz at (c .before .before .pre)))
@@ -31,4 +22,4 @@ returns-2 c = rw (sym (c .before .ahead .ensures) ∙ c .if1 .left) (toZ-ofZ (su
 pub asked-spec : {M : Type 1} → statement M
 asked-spec =
     tie.close
-    (tie.spec ahead-requires cast-result add-result returns cast-result-2 sub-result returns-2)
+    (tie.spec (λ c κs. search needs) (λ c. search needs) add-result returns (λ c. search needs) sub-result returns-2)

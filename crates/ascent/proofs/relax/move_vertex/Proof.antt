@@ -6,59 +6,8 @@ use borrow.Author.Needs.{needs}
 use Rattle.ascent.proofs.relax.move_vertex.Statement.{statement}
 use Rattle.ascent.proofs.relax.move_vertex.Tie as tie
 
-place-requires : tie.Need-place-requires
-place-requires c κs = search needs
-
-mul-back : tie.Need-mul-back
-mul-back c = search needs
-
-element-copy-out-back : tie.Need-element-copy-out-back
-element-copy-out-back c = search needs
-
-mul-asked : tie.Need-mul-asked
-mul-asked c = search needs
-
-mul-asked-2 : tie.Need-mul-asked-2
-mul-asked-2 c = search needs
-
-index-1-asked : tie.Need-index-1-asked
-index-1-asked c = search needs
-
-index-2-asked : tie.Need-index-2-asked
-index-2-asked c = search needs
-
-mul-asked-3 : tie.Need-mul-asked-3
-mul-asked-3 c = search needs
-
-mul-asked-4 : tie.Need-mul-asked-4
-mul-asked-4 c = search needs
-
-index-1-asked-2 : tie.Need-index-1-asked-2
-index-1-asked-2 c = search needs
-
-index-2-asked-2 : tie.Need-index-2-asked-2
-index-2-asked-2 c = search needs
-
 asked-requires : tie.Need-asked-requires
 asked-requires c κs = let s = c .before .before .before .before in simp (back64, s .fits .base .sfits) (s .pre .2)
-
-mul-overtakes : tie.Need-mul-overtakes
-mul-overtakes c = search needs
-
-element-copy-out-overtakes : tie.Need-element-copy-out-overtakes
-element-copy-out-overtakes c = search needs
-
-overtakes-requires : tie.Need-overtakes-requires
-overtakes-requires c κs = search needs
-
-mul-c : tie.Need-mul-c
-mul-c c = search needs
-
-element-set-from-c : tie.Need-element-set-from-c
-element-set-from-c c = search needs
-
-element-write-marks : tie.Need-element-write-marks
-element-write-marks c = search needs
 
 returns : tie.Need-returns
 returns c =
@@ -82,23 +31,23 @@ pub move-vertex-spec : {M : Type 1} → statement M
 move-vertex-spec =
     tie.close
     (tie.spec
-    place-requires
-    mul-back
-    element-copy-out-back
-    mul-asked
-    mul-asked-2
-    index-1-asked
-    index-2-asked
-    mul-asked-3
-    mul-asked-4
-    index-1-asked-2
-    index-2-asked-2
+    (λ c κs. search needs)
+    (λ c. search needs)
+    (λ c. search needs)
+    (λ c. search needs)
+    (λ c. search needs)
+    (λ c. search needs)
+    (λ c. search needs)
+    (λ c. search needs)
+    (λ c. search needs)
+    (λ c. search needs)
+    (λ c. search needs)
     asked-requires
-    mul-overtakes
-    element-copy-out-overtakes
-    overtakes-requires
-    mul-c
-    element-set-from-c
-    element-write-marks
+    (λ c. search needs)
+    (λ c. search needs)
+    (λ c κs. search needs)
+    (λ c. search needs)
+    (λ c. search needs)
+    (λ c. search needs)
     returns
     returns-2)

@@ -20,34 +20,16 @@ abbrev μ-loop : tie.MeasureT-loop
 loop-holds : tie.Need-loop-holds Inv-loop μ-loop
 loop-holds c = (omega arith, sweeps-start _ _ _ _ _)
 
-all-closed-requires : tie.Need-all-closed-requires Inv-loop μ-loop
-all-closed-requires c κs = search needs
-
-capped-all-requires : tie.Need-capped-all-requires Inv-loop μ-loop
-capped-all-requires c κs = search needs
-
 returns : tie.Need-returns Inv-loop μ-loop
 returns c =
     let at = c .before .before .before .before .before .before in
     let vs = at .before .before .args .vs .now in
     c .capped-all .ensures ∙ ap (λ (x : List ℤ). cappedAll x vs) (sym (sweeps-end _ _ _ _ _ _ _ (sym (c .before .before .before .all-closed .ensures) ∙ c .before .before .if1 .taken))) ∙ at .loop .inv .1
 
-sweep-requires : tie.Need-sweep-requires Inv-loop μ-loop
-sweep-requires c κs = search needs
-
-add-k : tie.Need-add-k Inv-loop μ-loop
-add-k c = search needs
-
-loop-less : tie.Need-loop-less Inv-loop μ-loop
-loop-less c = search needs
-
 loop-again : tie.Need-loop-again Inv-loop μ-loop
 loop-again c =
     let at = c .before .before .before .before .before .before .before in
     (omega arith, sweeps-more _ _ _ _ (at .loop .k) _ _ (at .loop .inv .1) (c .before .before .before .before .before .before .loop-test .taken) (sym (c .before .before .before .before .all-closed .ensures) ∙ c .before .before .before .if1 .left) (c .sweep .ensures))
-
-capped-all-requires-2 : tie.Need-capped-all-requires-2 Inv-loop μ-loop
-capped-all-requires-2 c κs = search needs
 
 returns-2 : tie.Need-returns-2 Inv-loop μ-loop
 returns-2 c =
@@ -62,12 +44,12 @@ settle-spec =
     Inv-loop
     μ-loop
     loop-holds
-    all-closed-requires
-    capped-all-requires
+    (λ c κs. search needs)
+    (λ c κs. search needs)
     returns
-    sweep-requires
-    add-k
-    loop-less
+    (λ c κs. search needs)
+    (λ c. search needs)
+    (λ c. search needs)
     loop-again
-    capped-all-requires-2
+    (λ c κs. search needs)
     returns-2)

@@ -20,27 +20,9 @@ Inv-loop d x component vs i m₀ at₀ row xi b₀ m at b = (b ≤ length vs) ×
 abbrev μ-loop : tie.MeasureT-loop
 μ-loop d x component vs i m₀ at₀ row xi b₀ m at b = length vs - b
 
-part-of-requires : tie.Need-part-of-requires Inv-loop μ-loop
-part-of-requires c κs = search needs
-
-mul-row : tie.Need-mul-row Inv-loop μ-loop
-mul-row c = search needs
-
-mul-xi : tie.Need-mul-xi Inv-loop μ-loop
-mul-xi c = search needs
-
-element-copy-out-xi : tie.Need-element-copy-out-xi Inv-loop μ-loop
-element-copy-out-xi c = search needs
-
 loop-holds : tie.Need-loop-holds Inv-loop μ-loop
 unfolding turns
 loop-holds c = (omega arith, ap (λ n. n * 8) (c .before .part-of .ensures .0), back64 _ (c .xi .given), refl)
-
-vertex-requires : tie.Need-vertex-requires Inv-loop μ-loop
-vertex-requires c κs = search needs
-
-wide-requires : tie.Need-wide-requires Inv-loop μ-loop
-wide-requires c κs = search needs
 
 offer-pair-requires : tie.Need-offer-pair-requires Inv-loop μ-loop
 offer-pair-requires c κs =
@@ -49,12 +31,6 @@ offer-pair-requires c κs =
     let w = c .before .before .wide .ensures in
     let v = c .before .before .before .vertex .ensures .1 in
     (s .pre .0, omega arith, at .loop .inv .1, at .loop .inv .2, s .pre .2)
-
-add-b : tie.Need-add-b Inv-loop μ-loop
-add-b c = search needs
-
-loop-less : tie.Need-loop-less Inv-loop μ-loop
-loop-less c = search needs
 
 loop-again : tie.Need-loop-again Inv-loop μ-loop
 loop-again c =
@@ -77,15 +53,15 @@ offer-from-spec =
     (tie.spec
     Inv-loop
     μ-loop
-    part-of-requires
-    mul-row
-    mul-xi
-    element-copy-out-xi
+    (λ c κs. search needs)
+    (λ c. search needs)
+    (λ c. search needs)
+    (λ c. search needs)
     loop-holds
-    vertex-requires
-    wide-requires
+    (λ c κs. search needs)
+    (λ c κs. search needs)
     offer-pair-requires
-    add-b
-    loop-less
+    (λ c. search needs)
+    (λ c. search needs)
     loop-again
     returns)

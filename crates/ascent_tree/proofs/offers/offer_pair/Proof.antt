@@ -13,62 +13,11 @@ use borrow.Author.Needs.{needs}
 use Rattle.ascent_tree.proofs.offers.offer_pair.Statement.{statement}
 use Rattle.ascent_tree.proofs.offers.offer_pair.Tie as tie
 
-part-of-requires : tie.Need-part-of-requires
-part-of-requires c κs = search needs
-
-add-l : tie.Need-add-l
-add-l c = search needs
-
-mul-reduced : tie.Need-mul-reduced
-mul-reduced c = search needs
-
-mul-reduced-2 : tie.Need-mul-reduced-2
-mul-reduced-2 c = search needs
-
-index-1-reduced : tie.Need-index-1-reduced
-index-1-reduced c = search needs
-
-index-2-reduced : tie.Need-index-2-reduced
-index-2-reduced c = search needs
-
-mul-reduced-3 : tie.Need-mul-reduced-3
-mul-reduced-3 c = search needs
-
-element-copy-out-reduced : tie.Need-element-copy-out-reduced
-element-copy-out-reduced c = search needs
-
 reduced-requires : tie.Need-reduced-requires
 reduced-requires c κs =
     let s = c .before .before .before in
     let a = subst⁻¹ (Within beyond) (s .pre .3) (s .pre .4 (s .args .i) (s .pre .0)) in
     (simp (back64, s .fits .xi .sfits) a, simp (back64, c .reduced-arg2 .given) (s .pre .4 (s .args .j) (s .pre .1)))
-
-mul-if1 : tie.Need-mul-if1
-mul-if1 c = search needs
-
-element-copy-out-if1 : tie.Need-element-copy-out-if1
-element-copy-out-if1 c = search needs
-
-mul-c : tie.Need-mul-c
-mul-c c = search needs
-
-element-set-from-c : tie.Need-element-set-from-c
-element-set-from-c c = search needs
-
-mul-at : tie.Need-mul-at
-mul-at c = search needs
-
-add-at : tie.Need-add-at
-add-at c = search needs
-
-cast-at : tie.Need-cast-at
-cast-at c = search needs
-
-mul-at-2 : tie.Need-mul-at-2
-mul-at-2 c = search needs
-
-element-write-at : tie.Need-element-write-at
-element-write-at c = search needs
 
 -- the cost is that of the pair
 cost-is : (c : tie.After-reduced) → toZ w64 (ofZ w64 (c .reduced .result)) ≡ costOf (c .before .before .before .before .args .d .now) (c .before .before .before .before .args .x .now) (c .before .before .before .before .args .component .now) (c .before .before .before .before .args .i) (c .before .before .before .before .args .j)
@@ -95,23 +44,23 @@ pub offer-pair-spec : {M : Type 1} → statement M
 offer-pair-spec =
     tie.close
     (tie.spec
-    part-of-requires
-    add-l
-    mul-reduced
-    mul-reduced-2
-    index-1-reduced
-    index-2-reduced
-    mul-reduced-3
-    element-copy-out-reduced
+    (λ c κs. search needs)
+    (λ c. search needs)
+    (λ c. search needs)
+    (λ c. search needs)
+    (λ c. search needs)
+    (λ c. search needs)
+    (λ c. search needs)
+    (λ c. search needs)
     reduced-requires
-    mul-if1
-    element-copy-out-if1
-    mul-c
-    element-set-from-c
-    mul-at
-    add-at
-    cast-at
-    mul-at-2
-    element-write-at
+    (λ c. search needs)
+    (λ c. search needs)
+    (λ c. search needs)
+    (λ c. search needs)
+    (λ c. search needs)
+    (λ c. search needs)
+    (λ c. search needs)
+    (λ c. search needs)
+    (λ c. search needs)
     returns
     returns-2)

@@ -5,9 +5,6 @@ use borrow.Author.Needs.{needs}
 use Rattle.ascent_tree.proofs.tree.better.Statement.{statement}
 use Rattle.ascent_tree.proofs.tree.better.Tie as tie
 
-is-in-requires : tie.Need-is-in-requires
-is-in-requires c κs = search needs
-
 returns : tie.Need-returns
 returns c = rw (sym (c .before .is-in .ensures) ∙ c .if1 .taken)
 
@@ -17,4 +14,4 @@ returns-2 c =
     rw (sym (c .before .is-in .ensures) ∙ c .if1 .left) (simp (back64, s .fits .c .sfits, s .fits .old .sfits))
 
 pub better-spec : {M : Type 1} → statement M
-better-spec = tie.close (tie.spec is-in-requires returns returns-2)
+better-spec = tie.close (tie.spec (λ c κs. search needs) returns returns-2)

@@ -5,11 +5,8 @@ use borrow.Author.Needs.{needs}
 use Rattle.ascent_tree.proofs.tree.bit.Statement.{statement}
 use Rattle.ascent_tree.proofs.tree.bit.Tie as tie
 
-single-requires : tie.Need-single-requires
-single-requires c κs = search needs
-
 returns : tie.Need-returns
 returns c = let e = c .single .ensures in let l = pow-mono {i = c .before .args .q} {j = 7} (omega arith) in let p = pow-pos (c .before .args .q) in (e, omega arith, omega arith)
 
 pub bit-spec : {M : Type 1} → statement M
-bit-spec = tie.close (tie.spec single-requires returns)
+bit-spec = tie.close (tie.spec (λ c κs. search needs) returns)

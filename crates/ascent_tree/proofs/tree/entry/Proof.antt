@@ -28,42 +28,9 @@ Inv-loop m s q r₀ low₀ p₀ r low p = (p ≤ 8) × (r < 8) × (toZ w64 low �
 abbrev μ-loop : tie.MeasureT-loop
 μ-loop m s q r₀ low₀ p₀ r low p = 8 - p
 
-mul-low : tie.Need-mul-low Inv-loop μ-loop
-mul-low c = search needs
-
-element-copy-out-low : tie.Need-element-copy-out-low Inv-loop μ-loop
-element-copy-out-low c = search needs
-
 loop-holds : tie.Need-loop-holds Inv-loop μ-loop
 unfolding turns
 loop-holds c = let s = c .before .args in let e : s .q ≡ 0 * 8 + s .q = omega arith in (omega arith, omega arith, back64 _ (c .low .given) ∙ ap (λ n. getD (s .m .now) n (pos 0)) e, refl)
-
-mul-c : tie.Need-mul-c Inv-loop μ-loop
-mul-c c = search needs
-
-add-c : tie.Need-add-c Inv-loop μ-loop
-add-c c = search needs
-
-mul-c-2 : tie.Need-mul-c-2 Inv-loop μ-loop
-mul-c-2 c = search needs
-
-element-copy-out-c : tie.Need-element-copy-out-c Inv-loop μ-loop
-element-copy-out-c c = search needs
-
-undercuts-requires : tie.Need-undercuts-requires Inv-loop μ-loop
-undercuts-requires c κs = search needs
-
-pick-requires : tie.Need-pick-requires Inv-loop μ-loop
-pick-requires c κs = search needs
-
-pick-component-requires : tie.Need-pick-component-requires Inv-loop μ-loop
-pick-component-requires c κs = search needs
-
-add-p : tie.Need-add-p Inv-loop μ-loop
-add-p c = search needs
-
-loop-less : tie.Need-loop-less Inv-loop μ-loop
-loop-less c = search needs
 
 loop-again : tie.Need-loop-again Inv-loop μ-loop
 loop-again c =
@@ -90,17 +57,17 @@ entry-spec =
     (tie.spec
     Inv-loop
     μ-loop
-    mul-low
-    element-copy-out-low
+    (λ c. search needs)
+    (λ c. search needs)
     loop-holds
-    mul-c
-    add-c
-    mul-c-2
-    element-copy-out-c
-    undercuts-requires
-    pick-requires
-    pick-component-requires
-    add-p
-    loop-less
+    (λ c. search needs)
+    (λ c. search needs)
+    (λ c. search needs)
+    (λ c. search needs)
+    (λ c κs. search needs)
+    (λ c κs. search needs)
+    (λ c κs. search needs)
+    (λ c. search needs)
+    (λ c. search needs)
     loop-again
     returns)

@@ -16,27 +16,9 @@ Inv-loop m i cost₀ from₀ s a₀ cost from a =
 abbrev μ-loop : tie.MeasureT-loop
 μ-loop m i cost₀ from₀ s a₀ cost from a = 7 - a
 
-mul-s : tie.Need-mul-s Inv-loop μ-loop
-mul-s c = search needs
-
-add-s : tie.Need-add-s Inv-loop μ-loop
-add-s c = search needs
-
 loop-holds : tie.Need-loop-holds Inv-loop μ-loop
 unfolding turns
 loop-holds c = (omega arith, refl, refl)
-
-add-enter-new : tie.Need-add-enter-new Inv-loop μ-loop
-add-enter-new c = search needs
-
-enter-new-requires : tie.Need-enter-new-requires Inv-loop μ-loop
-enter-new-requires c κs = search needs
-
-add-a : tie.Need-add-a Inv-loop μ-loop
-add-a c = search needs
-
-loop-less : tie.Need-loop-less Inv-loop μ-loop
-loop-less c = search needs
 
 loop-again : tie.Need-loop-again Inv-loop μ-loop
 loop-again c =
@@ -58,12 +40,12 @@ extend-spec =
     (tie.spec
     Inv-loop
     μ-loop
-    mul-s
-    add-s
+    (λ c. search needs)
+    (λ c. search needs)
     loop-holds
-    add-enter-new
-    enter-new-requires
-    add-a
-    loop-less
+    (λ c. search needs)
+    (λ c κs. search needs)
+    (λ c. search needs)
+    (λ c. search needs)
     loop-again
     returns)

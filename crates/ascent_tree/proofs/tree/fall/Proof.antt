@@ -15,12 +15,6 @@ use Rattle.ascent_tree.proofs.tree.fall.Tie as tie
 fits : (a : ℤ) (n : ℕ) → Within beyond a → n ≤ beyond → SFits w64 (a -ℤ pos n)
 fits a n h l = simp zz (omega (arith, z))
 
-capped-requires : tie.Need-capped-requires
-capped-requires c κs = search needs
-
-cast-result : tie.Need-cast-result
-cast-result c = search needs
-
 sub-result : tie.Need-sub-result
 sub-result c =
     let l : c .before .args .s < 2 ^ 63 = omega arith in
@@ -33,4 +27,4 @@ returns c =
     toZ-ofZ (sub-result c) ∙ simp (plain64, back64, c .capped .ok) (ap (λ (x : ℤ). x -ℤ pos (c .before .args .s)) e)
 
 pub fall-spec : {M : Type 1} → statement M
-fall-spec = tie.close (tie.spec capped-requires cast-result sub-result returns)
+fall-spec = tie.close (tie.spec (λ c κs. search needs) (λ c. search needs) sub-result returns)

@@ -19,21 +19,9 @@ Inv-loop m n cost₀ from₀ i₀ cost from i =
 abbrev μ-loop : tie.MeasureT-loop
 μ-loop m n cost₀ from₀ i₀ cost from i = n - i
 
-array-set-of-cost : tie.Need-array-set-of-cost Inv-loop μ-loop
-array-set-of-cost c = search needs
-
 loop-holds : tie.Need-loop-holds Inv-loop μ-loop
 unfolding turns
 loop-holds c = (omega arith, omega arith, refl)
-
-extend-requires : tie.Need-extend-requires Inv-loop μ-loop
-extend-requires c κs = search needs
-
-add-i : tie.Need-add-i Inv-loop μ-loop
-add-i c = search needs
-
-loop-less : tie.Need-loop-less Inv-loop μ-loop
-loop-less c = search needs
 
 loop-again : tie.Need-loop-again Inv-loop μ-loop
 loop-again c =
@@ -50,10 +38,10 @@ grow-spec =
     (tie.spec
     Inv-loop
     μ-loop
-    array-set-of-cost
+    (λ c. search needs)
     loop-holds
-    extend-requires
-    add-i
-    loop-less
+    (λ c κs. search needs)
+    (λ c. search needs)
+    (λ c. search needs)
     loop-again
     returns)

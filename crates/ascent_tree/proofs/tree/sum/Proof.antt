@@ -14,12 +14,6 @@ use Rattle.ascent_tree.proofs.tree.sum.Tie as tie
 fits : (a b : ℤ) → Within beyond a → Within beyond b → SFits w64 (a +ℤ b)
 fits a b h k = simp zz (omega (arith, z))
 
-capped-requires : tie.Need-capped-requires
-capped-requires c κs = search needs
-
-capped-requires-2 : tie.Need-capped-requires-2
-capped-requires-2 c κs = search needs
-
 add-result : tie.Need-add-result
 add-result c = let a = c .before .capped in let b = c .capped2 in simp (back64, a .ok, b .ok) (fits (a .result) (b .result) (a .ensures .1) (b .ensures .1))
 
@@ -33,4 +27,4 @@ returns c =
     toZ-ofZ (add-result c) ∙ simp (back64, a .ok, b .ok) (ap₂ _+ℤ_ e f)
 
 pub sum-spec : {M : Type 1} → statement M
-sum-spec = tie.close (tie.spec capped-requires capped-requires-2 add-result returns)
+sum-spec = tie.close (tie.spec (λ c κs. search needs) (λ c κs. search needs) add-result returns)

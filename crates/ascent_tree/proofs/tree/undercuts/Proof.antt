@@ -5,9 +5,6 @@ use borrow.Author.Needs.{needs}
 use Rattle.ascent_tree.proofs.tree.undercuts.Statement.{statement}
 use Rattle.ascent_tree.proofs.tree.undercuts.Tie as tie
 
-is-in-requires : tie.Need-is-in-requires
-is-in-requires c κs = search needs
-
 returns : tie.Need-returns
 returns c =
     let s = c .before .before in
@@ -18,4 +15,4 @@ returns-2 c =
     rw (sym (c .before .is-in .ensures) ∙ c .if1 .left)
 
 pub undercuts-spec : {M : Type 1} → statement M
-undercuts-spec = tie.close (tie.spec is-in-requires returns returns-2)
+undercuts-spec = tie.close (tie.spec (λ c κs. search needs) returns returns-2)

@@ -8,27 +8,6 @@ use Rattle.ascent_tree.proofs.tree.walk_back.Tie as tie
 returns : tie.Need-returns
 returns c = (walk-end (c .before .args .from .now) (c .before .args .at .now) (c .before .args .s) (c .before .args .x .now) (c .before .args .t) (c .if1 .taken), omega arith)
 
-element-copy-out-wide : tie.Need-element-copy-out-wide
-element-copy-out-wide c = search needs
-
-wide-requires : tie.Need-wide-requires
-wide-requires c κs = search needs
-
-mul-shift : tie.Need-mul-shift
-mul-shift c = search needs
-
-element-copy-out-shift : tie.Need-element-copy-out-shift
-element-copy-out-shift c = search needs
-
-shift-requires : tie.Need-shift-requires
-shift-requires c κs = search needs
-
-bit-requires : tie.Need-bit-requires
-bit-requires c κs = search needs
-
-monus-requires : tie.Need-monus-requires
-monus-requires c κs = search needs
-
 returns-2 : tie.Need-returns-2
 returns-2 c = let m = c .monus .ensures in (walk-is (c .before .before .before .before .before .before .before .before .args .from .now) (c .before .before .before .before .before .before .before .before .args .at .now) (c .before .before .before .before .before .before .before .before .args .s) (c .before .before .before .before .before .before .before .before .args .x .now) (c .before .before .before .before .before .before .before .before .args .t) (c .before .before .before .before .before .before .before .if1 .left) (c .before .before .before .before .before .wide .ensures) (c .before .before .shift .ensures) (c .before .bit .ensures .0) (c .monus .ensures), omega arith)
 
@@ -37,11 +16,11 @@ walk-back-spec =
     tie.close
     (tie.spec
     returns
-    element-copy-out-wide
-    wide-requires
-    mul-shift
-    element-copy-out-shift
-    shift-requires
-    bit-requires
-    monus-requires
+    (λ c. search needs)
+    (λ c κs. search needs)
+    (λ c. search needs)
+    (λ c. search needs)
+    (λ c κs. search needs)
+    (λ c κs. search needs)
+    (λ c κs. search needs)
     returns-2)

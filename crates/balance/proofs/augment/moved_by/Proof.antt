@@ -7,17 +7,11 @@ use borrow.Author.Needs.{needs}
 use Rattle.balance.proofs.augment.moved_by.Statement.{statement}
 use Rattle.balance.proofs.augment.moved_by.Tie as tie
 
-sub-result : tie.Need-sub-result
-sub-result c = search needs
-
 returns : tie.Need-returns
 returns c = (rw (lt-ltb 0 (c .before .args .back) (omega arith)), inl (omega arith))
-
-add-result : tie.Need-add-result
-add-result c = search needs
 
 returns-2 : tie.Need-returns-2
 returns-2 c = (rw (le-ltb 0 (c .before .args .back) (omega arith)), inr refl)
 
 pub moved-by-spec : {M : Type 1} → statement M
-moved-by-spec = tie.close (tie.spec sub-result returns add-result returns-2)
+moved-by-spec = tie.close (tie.spec (λ c. search needs) returns (λ c. search needs) returns-2)

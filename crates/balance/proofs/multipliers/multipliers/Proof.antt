@@ -22,9 +22,6 @@ search-towards-requires c κs =
     let r = start .pre .0 .small (start .args .root) (start .pre .3) in
     (r, r, start .pre .3, levels-small (cell (start .args .d .now)) (start .args .vs .now) (start .pre .0) (stateOf (start .args .t1)) (start .pre .1) (start .pre .2), vertices-small (cell (start .args .d .now)) (start .args .vs .now) (start .pre .0), start .pre .0 .size)
 
-wide-requires : tie.Need-wide-requires
-wide-requires c κs = search needs
-
 true-costs-requires : tie.Need-true-costs-requires
 true-costs-requires c κs =
     let start = c .before .before .before .before .before .before .before .before .before .before in
@@ -45,4 +42,4 @@ returns c =
 
 pub multipliers-spec : {M : Type 1} → statement M
 multipliers-spec =
-    tie.close (tie.spec search-towards-requires wide-requires true-costs-requires returns)
+    tie.close (tie.spec search-towards-requires (λ c κs. search needs) true-costs-requires returns)

@@ -20,42 +20,9 @@ Inv-loop x u vs root base r₀ a₀ r a =
 abbrev μ-loop : tie.MeasureT-loop
 μ-loop x u vs root base r₀ a₀ r a = length vs - a
 
-level-requires : tie.Need-level-requires Inv-loop μ-loop
-level-requires c κs = search needs
-
 loop-holds : tie.Need-loop-holds Inv-loop μ-loop
 unfolding fold
 loop-holds c = (omega arith, refl)
-
-vertex-requires : tie.Need-vertex-requires Inv-loop μ-loop
-vertex-requires c κs = search needs
-
-wide-requires : tie.Need-wide-requires Inv-loop μ-loop
-wide-requires c κs = search needs
-
-level-requires-2 : tie.Need-level-requires-2 Inv-loop μ-loop
-level-requires-2 c κs = search needs
-
-level-requires-3 : tie.Need-level-requires-3 Inv-loop μ-loop
-level-requires-3 c κs = search needs
-
-add-difference : tie.Need-add-difference Inv-loop μ-loop
-add-difference c = search needs
-
-difference-requires : tie.Need-difference-requires Inv-loop μ-loop
-difference-requires c κs = search needs
-
-mul-r : tie.Need-mul-r Inv-loop μ-loop
-mul-r c = search needs
-
-array-set-from-r : tie.Need-array-set-from-r Inv-loop μ-loop
-array-set-from-r c = search needs
-
-add-a : tie.Need-add-a Inv-loop μ-loop
-add-a c = search needs
-
-loop-less : tie.Need-loop-less Inv-loop μ-loop
-loop-less c = search needs
 
 loop-again : tie.Need-loop-again Inv-loop μ-loop
 loop-again c =
@@ -87,17 +54,17 @@ true-costs-spec =
     (tie.spec
     Inv-loop
     μ-loop
-    level-requires
+    (λ c κs. search needs)
     loop-holds
-    vertex-requires
-    wide-requires
-    level-requires-2
-    level-requires-3
-    add-difference
-    difference-requires
-    mul-r
-    array-set-from-r
-    add-a
-    loop-less
+    (λ c κs. search needs)
+    (λ c κs. search needs)
+    (λ c κs. search needs)
+    (λ c κs. search needs)
+    (λ c. search needs)
+    (λ c κs. search needs)
+    (λ c. search needs)
+    (λ c. search needs)
+    (λ c. search needs)
+    (λ c. search needs)
     loop-again
     returns)

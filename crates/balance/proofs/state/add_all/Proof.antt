@@ -24,12 +24,6 @@ loop-holds c =
     let s = c .before .before .before .before .before in
     (omega arith, s .pre .1, omega arith, refl)
 
-shared-slice-read-add-in : tie.Need-shared-slice-read-add-in Inv-loop μ-loop
-shared-slice-read-add-in c = search needs
-
-shared-slice-read-add-in-2 : tie.Need-shared-slice-read-add-in-2 Inv-loop μ-loop
-shared-slice-read-add-in-2 c = search needs
-
 add-in-requires : tie.Need-add-in-requires Inv-loop μ-loop
 add-in-requires c κs =
     let at = c .before .before .before .before .before in
@@ -41,15 +35,6 @@ add-in-requires c κs =
       s .pre .4 (at .loop .k) l,
       s .pre .5 (at .loop .k) (omega (arith, s .pre .2)),
     )
-
-add-count : tie.Need-add-count Inv-loop μ-loop
-add-count c = search needs
-
-add-k : tie.Need-add-k Inv-loop μ-loop
-add-k c = search needs
-
-loop-less : tie.Need-loop-less Inv-loop μ-loop
-loop-less c = search needs
 
 loop-again : tie.Need-loop-again Inv-loop μ-loop
 loop-again c =
@@ -82,11 +67,11 @@ add-all-spec =
     Inv-loop
     μ-loop
     loop-holds
-    shared-slice-read-add-in
-    shared-slice-read-add-in-2
+    (λ c. search needs)
+    (λ c. search needs)
     add-in-requires
-    add-count
-    add-k
-    loop-less
+    (λ c. search needs)
+    (λ c. search needs)
+    (λ c. search needs)
     loop-again
     returns)

@@ -6,9 +6,6 @@ use borrow.Author.Needs.{needs}
 use Rattle.balance.proofs.state.add_in.Statement.{statement}
 use Rattle.balance.proofs.state.add_in.Tie as tie
 
-price-requires : tie.Need-price-requires
-price-requires c κs = search needs
-
 augment-along-requires : tie.Need-augment-along-requires
 augment-along-requires c κs =
     let s = c .before .before .before .before .before .before in (
@@ -24,4 +21,4 @@ returns c =
     add-made (cell (s .args .d .now)) (s .args .vs .now) (stateIn (s .args .f .now) (s .args .u .now) (s .args .cost) (s .args .count)) (s .args .tail) (s .args .head) (c .before .before .before .before .price .ensures) (c .augment-along .ensures)
 
 pub add-in-spec : {M : Type 1} → statement M
-add-in-spec = tie.close (tie.spec price-requires augment-along-requires returns)
+add-in-spec = tie.close (tie.spec (λ c κs. search needs) augment-along-requires returns)

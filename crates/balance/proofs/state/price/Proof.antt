@@ -13,9 +13,6 @@ use borrow.Author.Needs.{needs}
 use Rattle.balance.proofs.state.price.Statement.{statement}
 use Rattle.balance.proofs.state.price.Tie as tie
 
-settled-by-requires : tie.Need-settled-by-requires
-settled-by-requires c κs = search needs
-
 search-towards-requires : tie.Need-search-towards-requires
 search-towards-requires c κs =
     let s = c .before .before in (
@@ -26,15 +23,6 @@ search-towards-requires c κs =
       vertices-small (cell (s .args .d .now)) (s .args .vs .now) (s .pre .0),
       subst⁻¹ (λ n. n ≤ 64) (c .settled-by .ensures) (cond-ind (eqb (s .args .tail) (s .args .head)) 1 (length (s .args .vs .now)) (λ n. n ≤ 64) (λ y. omega arith) (λ y. s .pre .0 .size)),
     )
-
-wide-requires : tie.Need-wide-requires
-wide-requires c κs = search needs
-
-wide-requires-2 : tie.Need-wide-requires-2
-wide-requires-2 c κs = search needs
-
-mul-most : tie.Need-mul-most
-mul-most c = search needs
 
 array-read-most : tie.Need-array-read-most
 array-read-most c =
@@ -49,9 +37,6 @@ raise-by-requires c κs =
       vertices-small (cell (s .args .d .now)) (s .args .vs .now) (s .pre .0),
     )
 
-mul-sum : tie.Need-mul-sum
-mul-sum c = search needs
-
 array-read-sum : tie.Need-array-read-sum
 array-read-sum c =
     let s = c .before .before .before .before .before .before .before .before .before in
@@ -63,16 +48,10 @@ add-sum c =
     let h = c .before .before .before .wide in
     record { fits = subst⁻¹ (λ (u : List ℕ). s .args .cost + getD u (h .result) 0 < 18446744073709551616) (c .raise-by .ensures) (sum-small (cell (s .args .d .now)) (s .args .vs .now) (s .pre .0) (stateIn (s .args .f .now) (s .args .u .now) (s .args .cost) (s .args .count)) (s .pre .1) (s .pre .2) (s .args .tail) (s .args .head) (s .pre .3) (s .pre .4) (way-found (cell (s .args .d .now)) (s .args .vs .now) (s .pre .0) (stateIn (s .args .f .now) (s .args .u .now) (s .args .cost) (s .args .count)) (s .pre .1) (s .pre .2) (s .args .tail) (s .args .head) (s .pre .3) (s .pre .4) (c .before .before .before .before .before .before .search-towards .ensures) (c .before .before .before .before .before .before .before .settled-by .ensures)) (h .ensures)) }
 
-mul-monus : tie.Need-mul-monus
-mul-monus c = search needs
-
 array-read-monus : tie.Need-array-read-monus
 array-read-monus c =
     let s = c .before .before .before .before .before .before .before .before .before in
     omega (arith, c .before .before .wide2 .ensures, s .pre .0 .small (s .args .tail) (s .pre .3))
-
-monus-requires : tie.Need-monus-requires
-monus-requires c κs = search needs
 
 returns : tie.Need-returns
 returns c =
@@ -83,17 +62,17 @@ pub price-spec : {M : Type 1} → statement M
 price-spec =
     tie.close
     (tie.spec
-    settled-by-requires
+    (λ c κs. search needs)
     search-towards-requires
-    wide-requires
-    wide-requires-2
-    mul-most
+    (λ c κs. search needs)
+    (λ c κs. search needs)
+    (λ c. search needs)
     array-read-most
     raise-by-requires
-    mul-sum
+    (λ c. search needs)
     array-read-sum
     add-sum
-    mul-monus
+    (λ c. search needs)
     array-read-monus
-    monus-requires
+    (λ c κs. search needs)
     returns)

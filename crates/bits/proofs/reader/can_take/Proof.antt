@@ -11,14 +11,8 @@ returns c = let a = c .before .args in too-wide (a .file .now) (a .at) (a .width
 returns-2 : tie.Need-returns-2
 returns-2 c = let a = c .before .before .args in too-far (a .file .now) (a .at) (a .width) (omega arith) (omega arith)
 
-add-result : tie.Need-add-result
-add-result c = search needs
-
-add-result-2 : tie.Need-add-result-2
-add-result-2 c = search needs
-
 returns-3 : tie.Need-returns-3
 returns-3 c = let a = c .before .before .args in if-it-ends (a .file .now) (a .at) (a .width) (omega arith) (omega arith)
 
 pub can-take-spec : {M : Type 1} → statement M
-can-take-spec = tie.close (tie.spec returns returns-2 add-result add-result-2 returns-3)
+can-take-spec = tie.close (tie.spec returns returns-2 (λ c. search needs) (λ c. search needs) returns-3)

@@ -6,9 +6,6 @@ use borrow.Author.Needs.{needs}
 use Rattle.bits.proofs.reader.field_from.Statement.{statement}
 use Rattle.bits.proofs.reader.field_from.Tie as tie
 
-can-take-requires : tie.Need-can-take-requires
-can-take-requires c κs = search needs
-
 field-requires : tie.Need-field-requires
 field-requires c κs = let a = c .before .before .before .args in takes-within (a .file .now) (a .at) (a .width) (sym (c .before .can-take .ensures) ∙ c .if1 .taken)
 
@@ -28,4 +25,4 @@ returns-2 : tie.Need-returns-2
 returns-2 c = let a = c .before .before .before .args in nothing-taken (a .file .now) (a .at) (a .width) (sym (c .before .can-take .ensures) ∙ c .if1 .left)
 
 pub field-from-spec : {M : Type 1} → statement M
-field-from-spec = tie.close (tie.spec can-take-requires field-requires add-t6 returns returns-2)
+field-from-spec = tie.close (tie.spec (λ c κs. search needs) field-requires add-t6 returns returns-2)

@@ -15,15 +15,6 @@ add-in-requires c κs =
     let l = s .pre .0 .link in
     (l .metric, l .certified, omega (arith, l .room), l .tail-in, l .head-in)
 
-wide-requires : tie.Need-wide-requires
-wide-requires c κs = search needs
-
-wide-requires-2 : tie.Need-wide-requires-2
-wide-requires-2 c κs = search needs
-
-wide-requires-3 : tie.Need-wide-requires-3
-wide-requires-3 c κs = search needs
-
 merge-requires : tie.Need-merge-requires
 merge-requires c κs =
     let s = c .before .before .before .before .before .before .before .before .before .before .before .before .before in
@@ -86,9 +77,6 @@ index-2-long c =
     let l : c .before .before .before .before .before .wide2 .result < 64 = omega (arith, c .before .before .before .before .before .wide2 .ensures, q .metric .small _ (q .head-in)) in
     search needs
 
-long-requires : tie.Need-long-requires
-long-requires c κs = search needs
-
 add-t34 : tie.Need-add-t34
 add-t34 c =
     let s = c .before .before .before .before .before .before .before .before .before .before .before .before .before .before .before .before .before .before .before .before in
@@ -96,9 +84,6 @@ add-t34 c =
     let e = c .before .long .ensures ∙ ap₂ (cell (s .args .d .now)) (c .before .before .before .before .before .before .before .before .before .wide .ensures) (c .before .before .before .before .before .before .before .before .wide2 .ensures) in
     let l : s .args .b .fixed + c .before .long .result ≤ 105000000 = omega (arith, s .pre .0 .fixed-small, q .metric .bound _ _ (q .tail-in) (q .head-in), e) in
     search needs
-
-renamed-requires : tie.Need-renamed-requires
-renamed-requires c κs = search needs
 
 add-counts : tie.Need-add-counts
 add-counts c =
@@ -135,9 +120,9 @@ below-spec =
     tie.close
     (tie.spec
     add-in-requires
-    wide-requires
-    wide-requires-2
-    wide-requires-3
+    (λ c κs. search needs)
+    (λ c κs. search needs)
+    (λ c κs. search needs)
     merge-requires
     add-t20
     sub-placed
@@ -149,9 +134,9 @@ below-spec =
     mul-long-2
     index-1-long
     index-2-long
-    long-requires
+    (λ c κs. search needs)
     add-t34
-    renamed-requires
+    (λ c κs. search needs)
     add-counts
     counts-requires
     returns)

@@ -6,24 +6,6 @@ use borrow.Author.Needs.{needs}
 use Rattle.branches.proofs.candidate.candidate_at.Statement.{statement}
 use Rattle.branches.proofs.candidate.candidate_at.Tie as tie
 
-element-copy-out-wide : tie.Need-element-copy-out-wide
-element-copy-out-wide c = search needs
-
-wide-requires : tie.Need-wide-requires
-wide-requires c κs = search needs
-
-array-read-name : tie.Need-array-read-name
-array-read-name c = search needs
-
-wide-requires-2 : tie.Need-wide-requires-2
-wide-requires-2 c κs = search needs
-
-element-copy-out-t14 : tie.Need-element-copy-out-t14
-element-copy-out-t14 c = search needs
-
-element-copy-out-t21 : tie.Need-element-copy-out-t21
-element-copy-out-t21 c = search needs
-
 -- the name is below 8
 small : tie.Need-array-read-t25
 small c =
@@ -51,12 +33,12 @@ pub candidate-at-spec : {M : Type 1} → statement M
 candidate-at-spec =
     tie.close
     (tie.spec
-    element-copy-out-wide
-    wide-requires
-    array-read-name
-    wide-requires-2
-    element-copy-out-t14
-    element-copy-out-t21
+    (λ c. search needs)
+    (λ c κs. search needs)
+    (λ c. search needs)
+    (λ c κs. search needs)
+    (λ c. search needs)
+    (λ c. search needs)
     mul-t22
     array-read-t25
     returns)

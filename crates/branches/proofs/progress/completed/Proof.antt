@@ -4,14 +4,8 @@ use borrow.Author.Needs.{needs}
 use Rattle.branches.proofs.progress.completed.Statement.{statement}
 use Rattle.branches.proofs.progress.completed.Tie as tie
 
-kept-requires : tie.Need-kept-requires
-kept-requires c κs = search needs
-
-passed-requires : tie.Need-passed-requires
-passed-requires c κs = search needs
-
 returns : tie.Need-returns
 returns c = λ m. c .passed .ensures m ∙ c .before .kept .ensures m
 
 pub completed-spec : {M : Type 1} → statement M
-completed-spec = tie.close (tie.spec kept-requires passed-requires returns)
+completed-spec = tie.close (tie.spec (λ c κs. search needs) (λ c κs. search needs) returns)

@@ -9,19 +9,13 @@ use Rattle.budget.proofs.Budget.new.Tie as tie
 returns : tie.Need-returns
 returns c = too-low _ (c .if1 .taken)
 
-cast-if2 : tie.Need-cast-if2
-cast-if2 c = search needs
-
 returns-2 : tie.Need-returns-2
 unfolding highestBudget
 returns-2 c = too-high _ (omega arith)
-
-cast-t4 : tie.Need-cast-t4
-cast-t4 c = search needs
 
 returns-3 : tie.Need-returns-3
 unfolding highestBudget
 returns-3 c = within _ (omega arith) (omega arith)
 
 pub new-spec : {M : Type 1} → statement M
-new-spec = tie.close (tie.spec returns cast-if2 returns-2 cast-t4 returns-3)
+new-spec = tie.close (tie.spec returns (λ c. search needs) returns-2 (λ c. search needs) returns-3)

@@ -15,11 +15,5 @@ solve-requires c κs =
     let s = c .before .before .before in
     (c .before .prepare .ensures, s .pre .1 .0, s .pre .1 .1, s .pre .1 .2)
 
-same-length : tie.Need-same-length
-same-length c = search needs
-
-returns : tie.Need-returns
-returns c = search needs
-
 pub answer-spec : {M : Type 1} → statement M
-answer-spec = tie.close (tie.spec prepare-requires solve-requires same-length returns)
+answer-spec = tie.close (tie.spec prepare-requires solve-requires (λ c. search needs) (λ c. search needs))

@@ -10,15 +10,6 @@ returns : tie.Need-returns
 unfolding sheetPlaces
 returns c = sheet-refused _ _ (c .if1 .taken)
 
-new-requires : tie.Need-new-requires
-new-requires c κs = search needs
-
-enum-told : tie.Need-enum-told
-enum-told c = search needs
-
-enum-known-b : tie.Need-enum-known-b
-enum-known-b c = search needs
-
 returns-2 : tie.Need-returns-2
 unfolding sheetPlaces
 returns-2 c = budget-refused _ _ (c .before .before .before .if1 .left) (sym (c .before .before .new .ensures) ∙ c .enum-told .given .1)
@@ -29,4 +20,4 @@ returns-3 c = lent-good _ _ _ (c .before .before .before .before .if1 .left) (sy
 
 pub lent-verdict-spec : {M : Type 1} → statement M
 lent-verdict-spec =
-    tie.close (tie.spec returns new-requires enum-told enum-known-b returns-2 returns-3)
+    tie.close (tie.spec returns (λ c κs. search needs) (λ c. search needs) (λ c. search needs) returns-2 returns-3)

@@ -6,18 +6,6 @@ use borrow.Author.Needs.{needs}
 use Rattle.call_steps.proofs.steps.plan_measured.Statement.{statement}
 use Rattle.call_steps.proofs.steps.plan_measured.Tie as tie
 
-network-verdict-requires : tie.Need-network-verdict-requires
-network-verdict-requires c κs = search needs
-
-enum-known-r : tie.Need-enum-known-r
-enum-known-r c = search needs
-
-refused-requires : tie.Need-refused-requires
-refused-requires c κs = search needs
-
-enum-told : tie.Need-enum-told
-enum-told c = search needs
-
 answer-requires : tie.Need-answer-requires
 answer-requires c κs =
     let s = c .before .before .before .before .before in
@@ -29,9 +17,6 @@ returns c =
     let v = c .before .before .before .before .network-verdict .ensures in
     refused-planned _ _ _ _ _ _ (c .refused .ensures) (sym v ∙ ap verdictNumber (c .before .before .r .given .1))
 
-same-length : tie.Need-same-length
-same-length c = search needs
-
 returns-2 : tie.Need-returns-2
 returns-2 c =
     let v = c .before .before .before .before .before .before .network-verdict .ensures in
@@ -41,11 +26,11 @@ pub plan-measured-spec : {M : Type 1} → statement M
 plan-measured-spec =
     tie.close
     (tie.spec
-    network-verdict-requires
-    enum-known-r
-    refused-requires
-    enum-told
+    (λ c κs. search needs)
+    (λ c. search needs)
+    (λ c κs. search needs)
+    (λ c. search needs)
     answer-requires
     returns
-    same-length
+    (λ c. search needs)
     returns-2)

@@ -8,12 +8,6 @@ use borrow.Author.Needs.{needs}
 use Rattle.call_steps.proofs.steps.plan_read.Statement.{statement}
 use Rattle.call_steps.proofs.steps.plan_read.Tie as tie
 
-table-requires : tie.Need-table-requires
-table-requires c κs = search needs
-
-table-of-requires : tie.Need-table-of-requires
-table-of-requires c κs = search needs
-
 plan-tabled-requires : tie.Need-plan-tabled-requires
 plan-tabled-requires c κs =
     let s = c .before .before .before .before .before .before .before in
@@ -23,11 +17,8 @@ plan-tabled-requires c κs =
     let long : length (t .result) ≡ 64 = t .ok .1 .0 .1 in
     ((s .pre .0, table-is _ (t .result) long (λ i l. rows (t .result) (t .ok .0) (t .ok .1 .1) i (omega arith)) d, w .ensures), (s .pre .1, s .pre .2))
 
-same-length : tie.Need-same-length
-same-length c = search needs
-
 returns : tie.Need-returns
 returns c = c .before .before .plan-tabled .ensures
 
 pub plan-read-spec : {M : Type 1} → statement M
-plan-read-spec = tie.close (tie.spec table-requires table-of-requires plan-tabled-requires same-length returns)
+plan-read-spec = tie.close (tie.spec (λ c κs. search needs) (λ c κs. search needs) plan-tabled-requires (λ c. search needs) returns)

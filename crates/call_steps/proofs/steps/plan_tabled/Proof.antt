@@ -14,13 +14,10 @@ plan-measured-requires c κs =
     let s = c .before .before .before in
     (record { well-formed = s .pre .0 .0; distances = s .pre .0 .1; network = c .before .network-of .ensures }, s .pre .1 .0, s .pre .1 .1, s .pre .0 .2)
 
-same-length : tie.Need-same-length
-same-length c = search needs
-
 returns : tie.Need-returns
 returns c =
     let n = c .before .before .before .before .network-of in
     planned-as _ _ _ _ _ _ _ _ refl (measured-refusal _ (n .result) (n .ensures)) (c .before .before .plan-measured .ensures)
 
 pub plan-tabled-spec : {M : Type 1} → statement M
-plan-tabled-spec = tie.close (tie.spec network-of-requires plan-measured-requires same-length returns)
+plan-tabled-spec = tie.close (tie.spec network-of-requires plan-measured-requires (λ c. search needs) returns)

@@ -17,35 +17,8 @@ Inv-loop marks plan arcs₀ m k₀ arcs k = (m ≡ plan .m) × (length marks ≡
 abbrev μ-loop : tie.MeasureT-loop
 μ-loop marks plan arcs₀ m k₀ arcs k = m - k
 
-cast-m : tie.Need-cast-m Inv-loop μ-loop
-cast-m c = search needs
-
 loop-holds : tie.Need-loop-holds Inv-loop μ-loop
 loop-holds c = (refl, c .before .pre .1, omega arith, prefix-none 256 zeroRecord _ zeroRecord)
-
-shared-slice-read-marked : tie.Need-shared-slice-read-marked Inv-loop μ-loop
-shared-slice-read-marked c = search needs
-
-mul-marked : tie.Need-mul-marked Inv-loop μ-loop
-mul-marked c = search needs
-
-element-copy-out-marked : tie.Need-element-copy-out-marked Inv-loop μ-loop
-element-copy-out-marked c = search needs
-
-marked-requires : tie.Need-marked-requires Inv-loop μ-loop
-marked-requires c κs = search needs
-
-mul-arcs : tie.Need-mul-arcs Inv-loop μ-loop
-mul-arcs c = search needs
-
-array-set-from-arcs : tie.Need-array-set-from-arcs Inv-loop μ-loop
-array-set-from-arcs c = search needs
-
-add-k : tie.Need-add-k Inv-loop μ-loop
-add-k c = search needs
-
-loop-less : tie.Need-loop-less Inv-loop μ-loop
-loop-less c = search needs
 
 loop-again : tie.Need-loop-again Inv-loop μ-loop
 loop-again c =
@@ -59,4 +32,4 @@ returns c = let v = c .before in plan-marked _ _ (v .loop .arcs) (v .loop .k) (v
 pub car-plan-spec : {M : Type 1} → statement M
 car-plan-spec =
     tie.close
-    (tie.spec Inv-loop μ-loop cast-m loop-holds shared-slice-read-marked mul-marked element-copy-out-marked marked-requires mul-arcs array-set-from-arcs add-k loop-less loop-again returns)
+    (tie.spec Inv-loop μ-loop (λ c. search needs) loop-holds (λ c. search needs) (λ c. search needs) (λ c. search needs) (λ c κs. search needs) (λ c. search needs) (λ c. search needs) (λ c. search needs) (λ c. search needs) loop-again returns)

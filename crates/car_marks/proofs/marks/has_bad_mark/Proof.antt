@@ -16,37 +16,16 @@ Inv-loop marks plan m k₀ k = (m ≡ plan .m) × (length marks ≡ m) × (k ≤
 abbrev μ-loop : tie.MeasureT-loop
 μ-loop marks plan m k₀ k = m - k
 
-cast-m : tie.Need-cast-m Inv-loop μ-loop
-cast-m c = search needs
-
 returns : tie.Need-returns Inv-loop μ-loop
 returns c = wrong-length _ _ (c .if1 .taken)
 
 loop-holds : tie.Need-loop-holds Inv-loop μ-loop
 loop-holds c = (refl, c .if1 .left, omega arith, λ i l. absurd (omega arith))
 
-shared-slice-read-is-bad-mark : tie.Need-shared-slice-read-is-bad-mark Inv-loop μ-loop
-shared-slice-read-is-bad-mark c = search needs
-
-mul-is-bad-mark : tie.Need-mul-is-bad-mark Inv-loop μ-loop
-mul-is-bad-mark c = search needs
-
-element-copy-out-is-bad-mark : tie.Need-element-copy-out-is-bad-mark Inv-loop μ-loop
-element-copy-out-is-bad-mark c = search needs
-
-is-bad-mark-requires : tie.Need-is-bad-mark-requires Inv-loop μ-loop
-is-bad-mark-requires c κs = search needs
-
 returns-2 : tie.Need-returns-2 Inv-loop μ-loop
 returns-2 c =
     let v = c .before .before .before .before .before in
     bad-found _ _ (v .loop .k) (omega arith) (sym (c .before .is-bad-mark .ensures) ∙ c .if2 .taken)
-
-add-k : tie.Need-add-k Inv-loop μ-loop
-add-k c = search needs
-
-loop-less : tie.Need-loop-less Inv-loop μ-loop
-loop-less c = search needs
 
 loop-again : tie.Need-loop-again Inv-loop μ-loop
 loop-again c =
@@ -60,4 +39,4 @@ returns-3 c = let v = c .before in none-found _ _ (v .loop .inv .1 ∙ v .loop .
 pub has-bad-mark-spec : {M : Type 1} → statement M
 has-bad-mark-spec =
     tie.close
-    (tie.spec Inv-loop μ-loop cast-m returns loop-holds shared-slice-read-is-bad-mark mul-is-bad-mark element-copy-out-is-bad-mark is-bad-mark-requires returns-2 add-k loop-less loop-again returns-3)
+    (tie.spec Inv-loop μ-loop (λ c. search needs) returns loop-holds (λ c. search needs) (λ c. search needs) (λ c. search needs) (λ c κs. search needs) returns-2 (λ c. search needs) (λ c. search needs) loop-again returns-3)

@@ -9,9 +9,6 @@ use Rattle.car_marks.proofs.marks.is_bad_mark.Tie as tie
 returns : tie.Need-returns
 returns c = above-one _ _ (c .if1 .taken)
 
-is-open-requires : tie.Need-is-open-requires
-is-open-requires c κs = search needs
-
 returns-2 : tie.Need-returns-2
 returns-2 c = ap not (c .is-open .ensures) ∙ one-by-closed _ _ (c .before .before .if1 .left) (c .before .if2 .taken)
 
@@ -19,4 +16,4 @@ returns-3 : tie.Need-returns-3
 returns-3 c = zero-good _ _ (c .before .if1 .left) (c .if2 .left)
 
 pub is-bad-mark-spec : {M : Type 1} → statement M
-is-bad-mark-spec = tie.close (tie.spec returns is-open-requires returns-2 returns-3)
+is-bad-mark-spec = tie.close (tie.spec returns (λ c κs. search needs) returns-2 returns-3)

@@ -5,15 +5,6 @@ use borrow.Author.Needs.{needs}
 use Rattle.car_marks.proofs.marks.marked.Statement.{statement}
 use Rattle.car_marks.proofs.marks.marked.Tie as tie
 
-is-open-requires : tie.Need-is-open-requires
-is-open-requires c κs = search needs
-
-marked-standing-requires : tie.Need-marked-standing-requires
-marked-standing-requires c κs = search needs
-
-marked-service-requires : tie.Need-marked-service-requires
-marked-service-requires c κs = search needs
-
 returns : tie.Need-returns
 returns c =
     open-marked _ _ _ _ (sym (c .before .before .before .is-open .ensures) ∙ c .before .before .if1 .taken)
@@ -23,4 +14,4 @@ returns-2 : tie.Need-returns-2
 returns-2 c = closed-marked _ _ (sym (c .before .is-open .ensures) ∙ c .if1 .left)
 
 pub marked-spec : {M : Type 1} → statement M
-marked-spec = tie.close (tie.spec is-open-requires marked-standing-requires marked-service-requires returns returns-2)
+marked-spec = tie.close (tie.spec (λ c κs. search needs) (λ c κs. search needs) (λ c κs. search needs) returns returns-2)

@@ -1,6 +1,6 @@
--- One level of Edmonds' recursion: the entries make a tree, or the smaller picture has fewer components, and its least cost with what was paid is the answer.
+-- One level of Edmonds' recursion: the entries make a tree, or the contracted matrix has fewer components, and its least cost with what was paid is the answer.
 use Rattle.cheapest_tree.specs.Cheapest.{IsCheapest}
-use Rattle.cheapest_tree.specs.Laws.Picture.{marked-start}
+use Rattle.cheapest_tree.specs.Laws.CostMatrix.{marked-start}
 use Rattle.cheapest_tree.specs.Laws.Solve.{cost-within, cheapest-within, are-entries, solve-tree, Smaller, smaller}
 use Rattle.integers.specs.Linear.{z, zz, back64}
 use mir.Facts.{toZ-ofZ}
@@ -8,7 +8,7 @@ use mir.Val.{toZ, ofZ}
 use mir.Syntax.{w64}
 use lib.Signed.{_≤ℤ_}
 use lib.IntN.{ℤ, pos, _+ℤ_}
-use Rattle.cheapest_tree.specs.Picture.{othersIn, matrixOf, entryOf}
+use Rattle.cheapest_tree.specs.CostMatrix.{othersIn, matrixOf, entryOf}
 use lib.ListN.{length}
 use native.Mathlib.Omega.{arith}
 use mathlib.Core.Path.{_≡_, ap₂, _∙_, subst, subst⁻¹}
@@ -115,7 +115,7 @@ solve-remaining-requires : (t : ℕ) → solve-lts.Need-remaining-requires (clai
 solve-remaining-requires t c κs = search needs
 
 solve-solve-requires : (t : ℕ) → solve-lts.Need-solve-requires (claims t) (solve-at t) solve.Post
-solve-solve-requires t c κs = (subst (λ x. length (othersIn (c .remaining .result)) < x) (start t c .pre .0) (shrunk t c .fewer), shrunk t c .picture)
+solve-solve-requires t c κs = (subst (λ x. length (othersIn (c .remaining .result)) < x) (start t c .pre .0) (shrunk t c .fewer), shrunk t c .matrix)
 
 solve-add-result : (t : ℕ) → solve-lts.Need-add-result (claims t) (solve-at t) solve.Post
 solve-add-result t c =
@@ -126,7 +126,7 @@ solve-add-result t c =
     let a = cost-within (s .args .t1) (s .args .left) (s .pre .1) (entryOf (e .result)) (are-entries (s .args .t1) (s .args .left) (s .pre .1) (e .result) (sized t s) (e .ensures) .inside) in
     let a0 : pos 0 ≤ℤ p .result = subst⁻¹ (λ (x : ℤ). pos 0 ≤ℤ x) (p .ensures) (a .0) in
     let a1 : p .result ≤ℤ pos 57801870 = subst⁻¹ (λ (x : ℤ). x ≤ℤ pos 57801870) (p .ensures) (a .1) in
-    let r = cheapest-within (b .before .contracted .result) (b .remaining .result) (shrunk t b .picture) (c .solve .result) (c .solve .ensures) in
+    let r = cheapest-within (b .before .contracted .result) (b .remaining .result) (shrunk t b .matrix) (c .solve .result) (c .solve .ensures) in
     let r0 = r .0 in
     let r1 = r .1 in
     simp (back64, p .ok, c .solve .ok) (simp zz (omega (arith, z)))

@@ -1,5 +1,5 @@
 -- After i turns y is where i entries lead.
-use Rattle.cheapest_tree.specs.Picture.{entryOf}
+use Rattle.cheapest_tree.specs.CostMatrix.{entryOf}
 use Rattle.cheapest_tree.specs.Laws.Iterates.{iterate-last}
 use Rattle.postman.specs.Lists.{iterate}
 use native.Mathlib.Numerals.{add-one}
@@ -20,18 +20,6 @@ loop-holds : tie.Need-loop-holds Inv-loop μ-loop
 unfolding iterate
 loop-holds c = (omega arith, c .pre .0, refl)
 
-mul-y : tie.Need-mul-y Inv-loop μ-loop
-mul-y c = search needs
-
-array-read-y : tie.Need-array-read-y Inv-loop μ-loop
-array-read-y c = search needs
-
-add-i : tie.Need-add-i Inv-loop μ-loop
-add-i c = search needs
-
-loop-less : tie.Need-loop-less Inv-loop μ-loop
-loop-less c = search needs
-
 loop-again : tie.Need-loop-again Inv-loop μ-loop
 loop-again c = let v = c .before .loop in let s = c .before .before in (omega arith, s .pre .1 (v .y) (v .inv .1), ap (entryOf (s .args .t1)) (v .inv .2) ∙ sym (iterate-last (v .i) (entryOf (s .args .t1)) (s .args .x)) ∙ rw add-one)
 
@@ -41,4 +29,4 @@ returns c = let v = c .before .loop in let e : v .i ≡ 8 = omega arith in (v .i
 pub back-spec : {M : Type 1} → statement M
 back-spec =
     tie.close
-    (tie.spec Inv-loop μ-loop loop-holds mul-y array-read-y add-i loop-less loop-again returns)
+    (tie.spec Inv-loop μ-loop loop-holds (λ c. search needs) (λ c. search needs) (λ c. search needs) (λ c. search needs) loop-again returns)

@@ -1,6 +1,6 @@
 -- After the turns for members below x, r is a cheapest of those.
-use Rattle.cheapest_tree.specs.Laws.Picture.{best-more}
-use Rattle.cheapest_tree.specs.Picture.{lineOf, IsBest}
+use Rattle.cheapest_tree.specs.Laws.CostMatrix.{best-more}
+use Rattle.cheapest_tree.specs.CostMatrix.{lineOf, IsBest}
 use native.Mathlib.Omega.{arith}
 use Prim.Native.Nat.{_-_, _≤_}
 use mathlib.Core.Path.{_≡_}
@@ -17,17 +17,8 @@ abbrev μ-loop : tie.MeasureT-loop
 loop-holds : tie.Need-loop-holds Inv-loop μ-loop
 loop-holds c = (omega arith, record { in-range = c .pre .1; allowed = c .pre .2; cheapest = λ x b m. absurd (omega arith) })
 
-array-read-cheaper : tie.Need-array-read-cheaper Inv-loop μ-loop
-array-read-cheaper c = search needs
-
 cheaper-requires : tie.Need-cheaper-requires Inv-loop μ-loop
 cheaper-requires c κs = let v = c .before .loop in (c .before .before .pre .0, v .inv .1 .in-range, c .loop-test .taken)
-
-add-x : tie.Need-add-x Inv-loop μ-loop
-add-x c = search needs
-
-loop-less : tie.Need-loop-less Inv-loop μ-loop
-loop-less c = search needs
 
 loop-again : tie.Need-loop-again Inv-loop μ-loop
 loop-again c = let v = c .before .before .loop in let t = c .before .loop-test .taken in (omega arith, best-more _ _ (v .x) (v .r) _ t (v .inv .1) (c .cheaper .ensures))
@@ -42,9 +33,9 @@ best-spec =
     Inv-loop
     μ-loop
     loop-holds
-    array-read-cheaper
+    (λ c. search needs)
     cheaper-requires
-    add-x
-    loop-less
+    (λ c. search needs)
+    (λ c. search needs)
     loop-again
     returns)

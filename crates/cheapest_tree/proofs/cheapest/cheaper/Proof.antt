@@ -1,6 +1,7 @@
 -- Each way out compares the two costs, or x may not be taken.
-use Rattle.cheapest_tree.specs.Laws.Picture.{lt-le, nlt-le}
-use Rattle.cheapest_tree.specs.Picture.{lineOf}
+use Rattle.postman.specs.Laws.Contradiction.{zero-is-one}
+use Rattle.cheapest_tree.specs.Laws.CostMatrix.{lt-le, nlt-le}
+use Rattle.cheapest_tree.specs.CostMatrix.{lineOf}
 use Rattle.integers.specs.Linear.{back64}
 use lib.Signed.{ltZ, _≤ℤ_, ≤ℤ-refl}
 use mathlib.Core.Bool.{true, false}
@@ -11,24 +12,6 @@ use mathlib.Core.Path.{_≡_, refl}
 use borrow.Author.Needs.{needs}
 use Rattle.cheapest_tree.proofs.cheapest.cheaper.Statement.{statement}
 use Rattle.cheapest_tree.proofs.cheapest.cheaper.Tie as tie
-
-place-requires : tie.Need-place-requires
-place-requires c κs = search needs
-
-place-requires-2 : tie.Need-place-requires-2
-place-requires-2 c κs = search needs
-
-mul-if2 : tie.Need-mul-if2
-mul-if2 c = search needs
-
-element-copy-out-if2 : tie.Need-element-copy-out-if2
-element-copy-out-if2 c = search needs
-
-mul-if2-2 : tie.Need-mul-if2-2
-mul-if2-2 c = search needs
-
-element-copy-out-if2-2 : tie.Need-element-copy-out-if2-2
-element-copy-out-if2-2 c = search needs
 
 returns : tie.Need-returns
 returns c =
@@ -49,18 +32,18 @@ returns-2 c =
     record { old = ≤ℤ-refl _; new = λ m. nlt-le _ _ t; among = inl refl }
 
 returns-3 : tie.Need-returns-3
-returns-3 c = let f = c .if1 .left in record { old = ≤ℤ-refl _; new = λ m. (let y : _≡_ {A = ℕ} 0 1 = cc in absurd (omega arith)); among = inl refl }
+returns-3 c = let f = c .if1 .left in record { old = ≤ℤ-refl _; new = λ m. (zero-is-one (cc)); among = inl refl }
 
 pub cheaper-spec : {M : Type 1} → statement M
 cheaper-spec =
     tie.close
     (tie.spec
-    place-requires
-    place-requires-2
-    mul-if2
-    element-copy-out-if2
-    mul-if2-2
-    element-copy-out-if2-2
+    (λ c κs. search needs)
+    (λ c κs. search needs)
+    (λ c. search needs)
+    (λ c. search needs)
+    (λ c. search needs)
+    (λ c. search needs)
     returns
     returns-2
     returns-3)

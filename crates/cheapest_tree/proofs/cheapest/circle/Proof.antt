@@ -1,6 +1,6 @@
 -- After i turns the components that i entries pass are marked, and x is the next.
-use Rattle.cheapest_tree.specs.Laws.Picture.{marked-none, marked-more}
-use Rattle.cheapest_tree.specs.Picture.{entryOf, IsMarked}
+use Rattle.cheapest_tree.specs.Laws.CostMatrix.{marked-none, marked-more}
+use Rattle.cheapest_tree.specs.CostMatrix.{entryOf, IsMarked}
 use Rattle.cheapest_tree.specs.Laws.Iterates.{iterate-last}
 use Rattle.postman.specs.Lists.{iterate}
 use native.Mathlib.Numerals.{add-one}
@@ -22,21 +22,6 @@ loop-holds : tie.Need-loop-holds Inv-loop μ-loop
 unfolding iterate
 loop-holds c = (omega arith, c .pre .0, refl, refl, marked-none _ _)
 
-array-write-on : tie.Need-array-write-on Inv-loop μ-loop
-array-write-on c = search needs
-
-mul-x : tie.Need-mul-x Inv-loop μ-loop
-mul-x c = search needs
-
-array-read-x : tie.Need-array-read-x Inv-loop μ-loop
-array-read-x c = search needs
-
-add-i : tie.Need-add-i Inv-loop μ-loop
-add-i c = search needs
-
-loop-less : tie.Need-loop-less Inv-loop μ-loop
-loop-less c = search needs
-
 loop-again : tie.Need-loop-again Inv-loop μ-loop
 loop-again c = let v = c .before .loop in let s = c .before .before in let k = v .inv .2 in let b = v .inv .1 in (omega arith, s .pre .1 (v .x) (v .inv .1), search needs, ap (entryOf (s .args .t1)) (v .inv .3) ∙ sym (iterate-last (v .i) (entryOf (s .args .t1)) (s .args .y)) ∙ rw add-one, marked-more _ _ (v .i) (v .on) (v .x) (omega arith) (v .inv .3) (v .inv .4))
 
@@ -50,10 +35,10 @@ circle-spec =
     Inv-loop
     μ-loop
     loop-holds
-    array-write-on
-    mul-x
-    array-read-x
-    add-i
-    loop-less
+    (λ c. search needs)
+    (λ c. search needs)
+    (λ c. search needs)
+    (λ c. search needs)
+    (λ c. search needs)
     loop-again
     returns)

@@ -1,6 +1,6 @@
 -- After i turns the first i costs are there.
-use Rattle.cheapest_tree.specs.Laws.Picture.{shrunk-more}
-use Rattle.cheapest_tree.specs.Picture.{IsShrunk}
+use Rattle.cheapest_tree.specs.Laws.CostMatrix.{shrunk-more}
+use Rattle.cheapest_tree.specs.CostMatrix.{IsShrunk}
 use Rattle.integers.specs.Linear.{back64}
 use lib.ListN.{length}
 use native.Mathlib.Omega.{arith}
@@ -22,23 +22,8 @@ loop-holds c = (omega arith, refl, record { each = λ i l. absurd (omega arith) 
 source-place-requires : tie.Need-source-place-requires Inv-loop μ-loop
 source-place-requires c κs = let s = c .before .before in let t = c .loop-test .taken in (s .pre .0, omega arith, omega arith, s .pre .1)
 
-mul-m : tie.Need-mul-m Inv-loop μ-loop
-mul-m c = search needs
-
 element-copy-out-m : tie.Need-element-copy-out-m Inv-loop μ-loop
 element-copy-out-m c = let h = c .source-place .ensures .in-range in search needs
-
-mul-m-2 : tie.Need-mul-m-2 Inv-loop μ-loop
-mul-m-2 c = search needs
-
-array-set-from-m : tie.Need-array-set-from-m Inv-loop μ-loop
-array-set-from-m c = search needs
-
-add-i : tie.Need-add-i Inv-loop μ-loop
-add-i c = search needs
-
-loop-less : tie.Need-loop-less Inv-loop μ-loop
-loop-less c = search needs
 
 loop-again : tie.Need-loop-again Inv-loop μ-loop
 loop-again c = let v = c .before .before .before .loop in let t = c .before .before .loop-test .taken in let k = v .inv .1 in (omega arith, search needs, shrunk-more _ _ _ (v .i) (v .m) _ _ (omega arith) (v .inv .2) (c .before .source-place .ensures) (back64 _ (c .m .given)))
@@ -54,11 +39,11 @@ contracted-spec =
     μ-loop
     loop-holds
     source-place-requires
-    mul-m
+    (λ c. search needs)
     element-copy-out-m
-    mul-m-2
-    array-set-from-m
-    add-i
-    loop-less
+    (λ c. search needs)
+    (λ c. search needs)
+    (λ c. search needs)
+    (λ c. search needs)
     loop-again
     returns)

@@ -1,7 +1,7 @@
 -- After the turns for components below q, theirs are found.
 use lib.ListN.{getD-replicate}
-use Rattle.cheapest_tree.specs.Laws.Picture.{entries-more}
-use Rattle.cheapest_tree.specs.Picture.{HasEntries}
+use Rattle.cheapest_tree.specs.Laws.CostMatrix.{entries-more}
+use Rattle.cheapest_tree.specs.CostMatrix.{HasEntries}
 use lib.ListN.{length}
 use native.Mathlib.Omega.{arith}
 use Prim.Native.Nat.{_-_, _≤_, _<_}
@@ -22,18 +22,6 @@ loop-holds c = (omega arith, omega arith, refl, record { root = refl; in-range =
 entry-requires : tie.Need-entry-requires Inv-loop μ-loop
 entry-requires c κs = let v = c .before .loop in (v .inv .0, c .loop-test .taken, c .before .before .pre)
 
-mul-e : tie.Need-mul-e Inv-loop μ-loop
-mul-e c = search needs
-
-array-write-e : tie.Need-array-write-e Inv-loop μ-loop
-array-write-e c = search needs
-
-add-q : tie.Need-add-q Inv-loop μ-loop
-add-q c = search needs
-
-loop-less : tie.Need-loop-less Inv-loop μ-loop
-loop-less c = search needs
-
 loop-again : tie.Need-loop-again Inv-loop μ-loop
 loop-again c = let v = c .before .before .loop in let t = c .before .loop-test .taken in (omega arith, omega arith, search needs, entries-more _ _ (v .q) (v .e) _ (v .inv .0) t (v .inv .2) (v .inv .3) (c .entry .ensures .0) (c .entry .ensures .1))
 
@@ -48,9 +36,9 @@ entries-spec =
     μ-loop
     loop-holds
     entry-requires
-    mul-e
-    array-write-e
-    add-q
-    loop-less
+    (λ c. search needs)
+    (λ c. search needs)
+    (λ c. search needs)
+    (λ c. search needs)
     loop-again
     returns)

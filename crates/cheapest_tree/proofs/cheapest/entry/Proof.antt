@@ -3,23 +3,12 @@ use native.Mathlib.Omega.{arith}
 use Prim.Native.Nat.{ℕ}
 use mathlib.Core.Path.{_≡_}
 use borrow.Author.Needs.{needs}
+use Rattle.postman.specs.Laws.Contradiction.{zero-is-one}
 use Rattle.cheapest_tree.proofs.cheapest.entry.Statement.{statement}
 use Rattle.cheapest_tree.proofs.cheapest.entry.Tie as tie
 
-array-read-if1 : tie.Need-array-read-if1
-array-read-if1 c = search needs
-
-array-write-may : tie.Need-array-write-may
-array-write-may c = search needs
-
-best-requires : tie.Need-best-requires
-best-requires c κs = search needs
-
-returns : tie.Need-returns
-returns c = search needs
-
 returns-2 : tie.Need-returns-2
-returns-2 c = let f = c .if1 .left in (omega arith, λ t. (let y : _≡_ {A = ℕ} 0 1 = cc in absurd (omega arith)))
+returns-2 c = let f = c .if1 .left in (omega arith, λ t. (zero-is-one (cc)))
 
 pub entry-spec : {M : Type 1} → statement M
-entry-spec = tie.close (tie.spec array-read-if1 array-write-may best-requires returns returns-2)
+entry-spec = tie.close (tie.spec (λ c. search needs) (λ c. search needs) (λ c κs. search needs) (λ c. search needs) returns-2)

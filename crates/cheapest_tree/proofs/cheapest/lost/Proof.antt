@@ -1,5 +1,5 @@
 -- From every component below q going back arrives.
-use Rattle.cheapest_tree.specs.Picture.{entryOf}
+use Rattle.cheapest_tree.specs.CostMatrix.{entryOf}
 use native.Mathlib.Decide.{ℕ-discrete}
 use Rattle.postman.specs.Lists.{iterate}
 use mathlib.Core.Bool.{Bool, true, false}
@@ -20,9 +20,6 @@ abbrev μ-loop : tie.MeasureT-loop
 loop-holds : tie.Need-loop-holds Inv-loop μ-loop
 loop-holds c = (omega arith, omega arith, λ x p l h. absurd (omega arith))
 
-array-read-astray : tie.Need-array-read-astray Inv-loop μ-loop
-array-read-astray c = search needs
-
 astray-requires : tie.Need-astray-requires Inv-loop μ-loop
 astray-requires c κs = (c .loop-test .taken, c .before .before .pre)
 
@@ -42,12 +39,6 @@ returns c =
     on : (b : Bool) → getD (c .before .before .before .before .args .t1) (c .before .before .before .loop .q) false ≡ b → getD (c .before .before .before .before .args .t1) (c .before .before .before .loop .q) false ≡ true
     on true e = e
     on false e = absurd (c .if1 .taken (c .before .astray .ensures .2 e))
-
-add-q : tie.Need-add-q Inv-loop μ-loop
-add-q c = search needs
-
-loop-less : tie.Need-loop-less Inv-loop μ-loop
-loop-less c = search needs
 
 loop-again : tie.Need-loop-again Inv-loop μ-loop
 loop-again c =
@@ -71,10 +62,10 @@ lost-spec =
     Inv-loop
     μ-loop
     loop-holds
-    array-read-astray
+    (λ c. search needs)
     astray-requires
     returns
-    add-q
-    loop-less
+    (λ c. search needs)
+    (λ c. search needs)
     loop-again
     returns-2)

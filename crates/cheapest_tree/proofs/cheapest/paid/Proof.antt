@@ -1,5 +1,5 @@
 -- s is what the components from q on pay.
-use Rattle.cheapest_tree.specs.Laws.Picture.{Paid, paid-none, paid-more, payments, payments-all}
+use Rattle.cheapest_tree.specs.Laws.CostMatrix.{Paid, paid-none, paid-more, payments, payments-all}
 use Rattle.integers.specs.Linear.{z, zz, back64}
 use mir.Facts.{toZ-ofZ}
 use mir.Val.{toZ, ofZ}
@@ -21,9 +21,6 @@ abbrev μ-loop : tie.MeasureT-loop
 loop-holds : tie.Need-loop-holds Inv-loop μ-loop
 loop-holds c = (omega arith, omega arith, paid-none _ _ _)
 
-sub-q : tie.Need-sub-q Inv-loop μ-loop
-sub-q c = search needs
-
 pay-requires : tie.Need-pay-requires Inv-loop μ-loop
 pay-requires c κs = let s = c .before .before in let v = c .before .loop in let t = c .loop-test .taken in (omega arith, s .pre .1 .in-range (v .q - 1) (omega arith))
 
@@ -34,9 +31,6 @@ add-s c =
     let m = paid-more _ _ _ (s .pre .0) (s .pre .1) (v .q) (c .before .loop-test .taken) (v .inv .1) _ _ (c .pay .ensures) (v .inv .2) in
     let h = m .high in
     simp (back64, c .pay .ok) (simp zz (omega (arith, z, simp zz at (m .low), simp zz at h)))
-
-loop-less : tie.Need-loop-less Inv-loop μ-loop
-loop-less c = search needs
 
 loop-again : tie.Need-loop-again Inv-loop μ-loop
 loop-again c =
@@ -56,4 +50,4 @@ returns c = let v = c .before .loop in let s = c .before .before in let e : v .q
 pub paid-spec : {M : Type 1} → statement M
 paid-spec =
     tie.close
-    (tie.spec Inv-loop μ-loop loop-holds sub-q pay-requires add-s loop-less loop-again returns)
+    (tie.spec Inv-loop μ-loop loop-holds (λ c. search needs) pay-requires add-s (λ c. search needs) loop-again returns)

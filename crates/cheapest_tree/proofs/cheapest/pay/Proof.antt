@@ -4,27 +4,6 @@ use borrow.Author.Needs.{needs}
 use Rattle.cheapest_tree.proofs.cheapest.pay.Statement.{statement}
 use Rattle.cheapest_tree.proofs.cheapest.pay.Tie as tie
 
-array-read-if1 : tie.Need-array-read-if1
-array-read-if1 c = search needs
-
-mul-p : tie.Need-mul-p
-mul-p c = search needs
-
-array-read-p : tie.Need-array-read-p
-array-read-p c = search needs
-
-mul-result : tie.Need-mul-result
-mul-result c = search needs
-
-add-result : tie.Need-add-result
-add-result c = search needs
-
-mul-result-2 : tie.Need-mul-result-2
-mul-result-2 c = search needs
-
-element-copy-out-result : tie.Need-element-copy-out-result
-element-copy-out-result c = search needs
-
 returns : tie.Need-returns
 returns c = rw (c .before .if1 .taken) (back64 _ (c .result .given))
 
@@ -35,12 +14,12 @@ pub pay-spec : {M : Type 1} → statement M
 pay-spec =
     tie.close
     (tie.spec
-    array-read-if1
-    mul-p
-    array-read-p
-    mul-result
-    add-result
-    mul-result-2
-    element-copy-out-result
+    (λ c. search needs)
+    (λ c. search needs)
+    (λ c. search needs)
+    (λ c. search needs)
+    (λ c. search needs)
+    (λ c. search needs)
+    (λ c. search needs)
     returns
     returns-2)

@@ -1,7 +1,7 @@
 -- After i turns the first i costs are reduced.
 use Rattle.postman.specs.Laws.Lists.{filled-more}
-use Rattle.cheapest_tree.specs.Laws.Picture.{pay-within}
-use Rattle.cheapest_tree.specs.Picture.{payOf, less}
+use Rattle.cheapest_tree.specs.Laws.CostMatrix.{pay-within}
+use Rattle.cheapest_tree.specs.CostMatrix.{payOf, less}
 use Rattle.integers.specs.Linear.{back64}
 use mir.Val.{toZ, ofZ}
 use mir.Syntax.{w64}
@@ -23,36 +23,18 @@ abbrev μ-loop : tie.MeasureT-loop
 loop-holds : tie.Need-loop-holds Inv-loop μ-loop
 loop-holds c = (omega arith, refl, λ m l. absurd (omega arith))
 
-mul-lesser : tie.Need-mul-lesser Inv-loop μ-loop
-mul-lesser c = search needs
-
-element-copy-out-lesser : tie.Need-element-copy-out-lesser Inv-loop μ-loop
-element-copy-out-lesser c = search needs
-
 pay-requires : tie.Need-pay-requires Inv-loop μ-loop
 pay-requires c κs = let s = c .before .before .before in (omega arith, s .pre .1 .in-range _ (omega arith))
 
-lesser-requires : tie.Need-lesser-requires Inv-loop μ-loop
-lesser-requires c κs =
+cost-less-requires : tie.Need-cost-less-requires Inv-loop μ-loop
+cost-less-requires c κs =
     let s = c .before .before .before .before in
     let v = c .before .before .before .loop in
     let t = c .before .before .loop-test .taken in
     let a = pay-within (s .args .w .now) (s .args .left) (s .args .e) (s .pre .0) (v .i % 8) (omega arith) (s .pre .1 .in-range (v .i % 8) (omega arith)) in
     let f = back64 (c .pay .result) (c .pay .ok) ∙ c .pay .ensures in
-    let g : toZ w64 (ofZ w64 (getD (s .args .w .now) (v .i) (pos 0))) ≡ getD (s .args .w .now) (v .i) (pos 0) = back64 _ (c .before .lesser-arg .given) in
+    let g : toZ w64 (ofZ w64 (getD (s .args .w .now) (v .i) (pos 0))) ≡ getD (s .args .w .now) (v .i) (pos 0) = back64 _ (c .before .cost-less-arg .given) in
     (rw g (s .pre .0 .low (v .i) t), rw g (s .pre .0 .high (v .i) t), rw f (a .0), rw f (a .1))
-
-mul-v : tie.Need-mul-v Inv-loop μ-loop
-mul-v c = search needs
-
-array-set-from-v : tie.Need-array-set-from-v Inv-loop μ-loop
-array-set-from-v c = search needs
-
-add-i : tie.Need-add-i Inv-loop μ-loop
-add-i c = search needs
-
-loop-less : tie.Need-loop-less Inv-loop μ-loop
-loop-less c = search needs
 
 loop-again : tie.Need-loop-again Inv-loop μ-loop
 loop-again c =
@@ -60,12 +42,12 @@ loop-again c =
     let v = c .before .before .before .before .loop in
     let t = c .before .before .before .loop-test .taken in
     let f = back64 (c .before .pay .result) (c .before .pay .ok) ∙ c .before .pay .ensures in
-    let g : toZ w64 (ofZ w64 (getD (s .args .w .now) (v .i) (pos 0))) ≡ getD (s .args .w .now) (v .i) (pos 0) = back64 _ (c .before .before .lesser-arg .given) in
+    let g : toZ w64 (ofZ w64 (getD (s .args .w .now) (v .i) (pos 0))) ≡ getD (s .args .w .now) (v .i) (pos 0) = back64 _ (c .before .before .cost-less-arg .given) in
     let h = v .inv .1 in (
       omega arith,
       search needs,
       filled-more (pos 0) (λ m. less (getD (s .args .w .now) m (pos 0)) (payOf (s .args .w .now) (s .args .left) (s .args .e) (m % 8))) (v .v) (v .i) _ (omega arith) (v .inv .2)
-          (back64 _ (c .lesser .ok) ∙ c .lesser .ensures ∙ ap₂ less g f),
+          (back64 _ (c .cost-less .ok) ∙ c .cost-less .ensures ∙ ap₂ less g f),
     )
 
 returns : tie.Need-returns Inv-loop μ-loop
@@ -78,13 +60,13 @@ reduced-spec =
     Inv-loop
     μ-loop
     loop-holds
-    mul-lesser
-    element-copy-out-lesser
+    (λ c. search needs)
+    (λ c. search needs)
     pay-requires
-    lesser-requires
-    mul-v
-    array-set-from-v
-    add-i
-    loop-less
+    cost-less-requires
+    (λ c. search needs)
+    (λ c. search needs)
+    (λ c. search needs)
+    (λ c. search needs)
     loop-again
     returns)

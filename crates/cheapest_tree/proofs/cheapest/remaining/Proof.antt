@@ -1,6 +1,6 @@
 -- After x turns the first x places are filled.
 use Rattle.postman.specs.Laws.Lists.{filled-more}
-use Rattle.cheapest_tree.specs.Picture.{keptOf}
+use Rattle.cheapest_tree.specs.CostMatrix.{keptOf}
 use mathlib.Core.Bool.{false}
 use lib.ListN.{length, getD}
 use native.Mathlib.Omega.{arith}
@@ -19,24 +19,6 @@ abbrev μ-loop : tie.MeasureT-loop
 loop-holds : tie.Need-loop-holds Inv-loop μ-loop
 loop-holds c = let k : length (c .args .t1) ≡ 8 = search needs in (omega arith, k, λ m l. absurd (omega arith))
 
-array-read-kept : tie.Need-array-read-kept Inv-loop μ-loop
-array-read-kept c = search needs
-
-array-read-kept-2 : tie.Need-array-read-kept-2 Inv-loop μ-loop
-array-read-kept-2 c = search needs
-
-kept-requires : tie.Need-kept-requires Inv-loop μ-loop
-kept-requires c κs = search needs
-
-array-write-l : tie.Need-array-write-l Inv-loop μ-loop
-array-write-l c = search needs
-
-add-x : tie.Need-add-x Inv-loop μ-loop
-add-x c = search needs
-
-loop-less : tie.Need-loop-less Inv-loop μ-loop
-loop-less c = search needs
-
 loop-again : tie.Need-loop-again Inv-loop μ-loop
 loop-again c = let v = c .before .before .loop in let s = c .before .before .before in let t = c .before .loop-test .taken in let k = v .inv .1 in (omega arith, search needs, filled-more false (keptOf (s .args .t1) (s .args .t2) (s .args .c)) (v .l) (v .x) _ (omega arith) (v .inv .2) (c .kept .ensures))
 
@@ -50,11 +32,11 @@ remaining-spec =
     Inv-loop
     μ-loop
     loop-holds
-    array-read-kept
-    array-read-kept-2
-    kept-requires
-    array-write-l
-    add-x
-    loop-less
+    (λ c. search needs)
+    (λ c. search needs)
+    (λ c κs. search needs)
+    (λ c. search needs)
+    (λ c. search needs)
+    (λ c. search needs)
     loop-again
     returns)

@@ -5,9 +5,6 @@ use borrow.Author.Needs.{needs}
 use Rattle.cheapest_tree.proofs.cheapest.source_place.Statement.{statement}
 use Rattle.cheapest_tree.proofs.cheapest.source_place.Tie as tie
 
-mul-result : tie.Need-mul-result
-mul-result c = search needs
-
 best-requires : tie.Need-best-requires
 best-requires c κs = let s = c .before in (s .pre .1, s .pre .0, s .pre .3)
 
@@ -29,12 +26,6 @@ add-result-2 c = let h = c .best2 .ensures .in-range in search needs
 returns-2 : tie.Need-returns-2
 returns-2 c = let h = c .best2 .ensures .in-range in let p = c .before .before .before .pre in record { in-range = omega arith; into = λ e. absurd (c .before .before .if1 .left e); from = λ n e. (_, c .best2 .ensures, refl); same = λ n m. absurd (m (c .before .if2 .taken)) }
 
-mul-result-3 : tie.Need-mul-result-3
-mul-result-3 c = search needs
-
-add-result-3 : tie.Need-add-result-3
-add-result-3 c = search needs
-
 returns-3 : tie.Need-returns-3
 returns-3 c = let p = c .before .before .pre in record { in-range = omega arith; into = λ e. absurd (c .before .if1 .left e); from = λ n e. absurd (c .if2 .left e); same = λ n m. refl }
 
@@ -42,7 +33,7 @@ pub source-place-spec : {M : Type 1} → statement M
 source-place-spec =
     tie.close
     (tie.spec
-    mul-result
+    (λ c. search needs)
     best-requires
     add-result
     returns
@@ -50,6 +41,6 @@ source-place-spec =
     mul-result-2
     add-result-2
     returns-2
-    mul-result-3
-    add-result-3
+    (λ c. search needs)
+    (λ c. search needs)
     returns-3)

@@ -7,14 +7,5 @@ use Rattle.circuit.proofs.places.write.Tie as tie
 chain-of-requires : tie.Need-chain-of-requires
 chain-of-requires c κs = let s = c .before .before .before .before .before in chain-ready (s .args .arcs .now) (s .args .weights .now) (s .pre .0 .0)
 
-write-legs-requires : tie.Need-write-legs-requires
-write-legs-requires c κs = search needs
-
-same-length : tie.Need-same-length
-same-length c = search needs
-
-returns : tie.Need-returns
-returns c = search needs
-
 pub write-spec : {M : Type 1} → statement M
-write-spec = tie.close (tie.spec chain-of-requires write-legs-requires same-length returns)
+write-spec = tie.close (tie.spec chain-of-requires (λ c κs. search needs) (λ c. search needs) (λ c. search needs))

@@ -15,26 +15,11 @@ use borrow.Author.Needs.{needs}
 use Rattle.circuit.proofs.places.write_leg.Statement.{statement}
 use Rattle.circuit.proofs.places.write_leg.Tie as tie
 
-mul-places : tie.Need-mul-places
-mul-places c = search needs
-
-shared-slice-read-places : tie.Need-shared-slice-read-places
-shared-slice-read-places c = search needs
-
-mul-places-2 : tie.Need-mul-places-2
-mul-places-2 c = search needs
-
 slice-write-places : tie.Need-slice-write-places
 slice-write-places c =
     let s = c .before .before .before .before .before .before in
     let a = s .args in
     number-room (shortestPath (planIn (length (a .weights .now)) (a .arcs .now))) (a .numbers .now) (a .tails .now) (a .heads .now) (a .e) (length (a .places .now)) (a .at) (c .before .if1 .taken) (s .pre .1 .1)
-
-add-result : tie.Need-add-result
-add-result c = search needs
-
-same-length : tie.Need-same-length
-same-length c = search needs
 
 returns : tie.Need-returns
 returns c =
@@ -42,18 +27,6 @@ returns c =
     let a = s .args in
     let r = number-room (shortestPath (planIn (length (a .weights .now)) (a .arcs .now))) (a .numbers .now) (a .tails .now) (a .heads .now) (a .e) (length (a .places .now)) (a .at) (c .before .if1 .taken) (s .pre .1 .1) in
     number-written (shortestPath (planIn (length (a .weights .now)) (a .arcs .now))) (a .numbers .now) (a .tails .now) (a .heads .now) (a .e) (a .places .now) (a .at) (c .before .if1 .taken) r
-
-shared-slice-read-wide8 : tie.Need-shared-slice-read-wide8
-shared-slice-read-wide8 c = search needs
-
-wide8-requires : tie.Need-wide8-requires
-wide8-requires c κs = search needs
-
-shared-slice-read-wide8-2 : tie.Need-shared-slice-read-wide8-2
-shared-slice-read-wide8-2 c = search needs
-
-wide8-requires-2 : tie.Need-wide8-requires-2
-wide8-requires-2 c κs = search needs
 
 column-to-requires : tie.Need-column-to-requires
 column-to-requires c κs =
@@ -95,9 +68,6 @@ path-requires c κs =
     (subst⁻¹ (λ z. z < p .n) u (r .from)) (subst⁻¹ (λ z. z < p .n) v (r .to)) (subst₂ (λ x y. distance p x y < noPath) (sym u) (sym v) (r .linked))
     (subst⁻¹ (λ (z : List ℕ). a .at + length z ≤ length (a .places .now)) q (s .pre .1 .1))
 
-same-length-2 : tie.Need-same-length-2
-same-length-2 c = search needs
-
 returns-2 : tie.Need-returns-2
 returns-2 c =
     let s = c .before .before .before .before .before .before .before .before .before .before .before .before .before .before .before in
@@ -113,20 +83,20 @@ pub write-leg-spec : {M : Type 1} → statement M
 write-leg-spec =
     tie.close
     (tie.spec
-    mul-places
-    shared-slice-read-places
-    mul-places-2
+    (λ c. search needs)
+    (λ c. search needs)
+    (λ c. search needs)
     slice-write-places
-    add-result
-    same-length
+    (λ c. search needs)
+    (λ c. search needs)
     returns
-    shared-slice-read-wide8
-    wide8-requires
-    shared-slice-read-wide8-2
-    wide8-requires-2
+    (λ c. search needs)
+    (λ c κs. search needs)
+    (λ c. search needs)
+    (λ c κs. search needs)
     column-to-requires
     array-share-prefix-column
     slice-aggregate-path
     path-requires
-    same-length-2
+    (λ c. search needs)
     returns-2)

@@ -22,15 +22,6 @@ loop-holds c =
     let a = c .before .before .before .before .before .args in
     (omega arith, to-none (shortestPath (planIn (length (a .weights .now)) (a .arcs .now))) (a .numbers .now) (a .tails .now) (a .heads .now) (a .order .now) (a .places .now))
 
-mul-wide : tie.Need-mul-wide Inv-loop μ-loop
-mul-wide c = search needs
-
-shared-slice-read-wide : tie.Need-shared-slice-read-wide Inv-loop μ-loop
-shared-slice-read-wide c = search needs
-
-wide-requires : tie.Need-wide-requires Inv-loop μ-loop
-wide-requires c κs = search needs
-
 write-leg-requires : tie.Need-write-leg-requires Inv-loop μ-loop
 write-leg-requires c κs =
     let s = c .before .before .before .before .before .before .before .before .before .before in
@@ -44,12 +35,6 @@ write-leg-requires c κs =
         to-room (shortestPath (planIn (length (a .weights .now)) (a .arcs .now))) (a .numbers .now) (a .tails .now) (a .heads .now) (a .order .now) (a .places .now) (l .x) (l .at) (l .places) t (s .pre .1 .1 .1) (l .inv .1) (c .before .wide .result) e,
       ),
     )
-
-add-x : tie.Need-add-x Inv-loop μ-loop
-add-x c = search needs
-
-loop-less : tie.Need-loop-less Inv-loop μ-loop
-loop-less c = search needs
 
 loop-again : tie.Need-loop-again Inv-loop μ-loop
 loop-again c =
@@ -81,12 +66,12 @@ write-legs-spec =
     Inv-loop
     μ-loop
     loop-holds
-    mul-wide
-    shared-slice-read-wide
-    wide-requires
+    (λ c. search needs)
+    (λ c. search needs)
+    (λ c κs. search needs)
     write-leg-requires
-    add-x
-    loop-less
+    (λ c. search needs)
+    (λ c. search needs)
     loop-again
     same-length
     returns)

@@ -19,17 +19,8 @@ use borrow.Author.Needs.{needs}
 use Rattle.circuit.proofs.tour.write_circuit.Statement.{statement}
 use Rattle.circuit.proofs.tour.write_circuit.Tie as tie
 
-arrange-requires : tie.Need-arrange-requires
-arrange-requires c κs = search needs
-
 rows-of-requires : tie.Need-rows-of-requires
 rows-of-requires c κs = let s = c .before .before .before .before .before .before .before .before .before in record-arcs (s .args .plan) (s .pre .0 .0)
-
-cast-m : tie.Need-cast-m
-cast-m c = search needs
-
-cast-n : tie.Need-cast-n
-cast-n c = search needs
 
 array-share-prefix-arcs : tie.Need-array-share-prefix-arcs
 array-share-prefix-arcs c = let s = c .before .before .before .before .before .before .before .before .before .before .before .before .before in let m = record-arcs (s .args .plan) (s .pre .0 .0) in let l = made-long _ _ (c .before .before .before .rows-of .ensures) in omega arith
@@ -61,12 +52,6 @@ write-requires c κs =
       ),
     )
 
-same-length : tie.Need-same-length
-same-length c = search needs
-
-same-length-2 : tie.Need-same-length-2
-same-length-2 c = search needs
-
 returns : tie.Need-returns
 returns c =
     let s = c .before .before .before .before .before .before .before .before .before .before .before .before .before .before .before .before .before .before .before .before in
@@ -83,14 +68,14 @@ pub write-circuit-spec : {M : Type 1} → statement M
 write-circuit-spec =
     tie.close
     (tie.spec
-    arrange-requires
+    (λ c κs. search needs)
     rows-of-requires
-    cast-m
-    cast-n
+    (λ c. search needs)
+    (λ c. search needs)
     array-share-prefix-arcs
     slice-aggregate-write
     slice-aggregate-write-2
     write-requires
-    same-length
-    same-length-2
+    (λ c. search needs)
+    (λ c. search needs)
     returns)

@@ -72,9 +72,6 @@ write-circuit-requires c κs =
     let q = s .pre .1 .1 in
     (s .pre .0, ((f, length-take-le _ (replicate {A = ℕ} 526 0) (omega arith) ∙ n, r .eulerian), (r .have-paths, omega arith)))
 
-same-length : tie.Need-same-length
-same-length c = search needs
-
 returns : tie.Need-returns
 returns c =
     let s = c .before .before .before .before .before .before .before .before .before .before .before .before .before .before .before .before in
@@ -96,5 +93,5 @@ write-tour-spec =
     array-borrow-prefix-order
     slice-aggregate-write-circuit-4
     write-circuit-requires
-    same-length
+    (λ c. search needs)
     returns)

@@ -16,12 +16,6 @@ numbered : (r : List Bool) (labels below : List ℕ) (all v x : ℕ) → getD la
     → all ≡ rootsBelow r labels 64 → x ≡ cond (getD r v false) (getD below (getD labels v 0) 0) all → x ≡ numberOf r labels v
 numbered r labels below all v x l h e f = f ∙ ap₂ (λ (a b : ℕ). cond (getD r v false) a b) (h (getD labels v 0) l) e
 
-labels-of-requires : tie.Need-labels-of-requires
-labels-of-requires c κs = search needs
-
-ranks-of-requires : tie.Need-ranks-of-requires
-ranks-of-requires c κs = search needs
-
 numbers-requires : tie.Need-numbers-requires
 numbers-requires c κs = λ v l. let e = c .before .before .labels-of .ensures .low v l in omega arith
 
@@ -39,4 +33,4 @@ returns c =
 
 pub components-of-spec : {M : Type 1} → statement M
 components-of-spec =
-    tie.close (tie.spec labels-of-requires ranks-of-requires numbers-requires returns)
+    tie.close (tie.spec (λ c κs. search needs) (λ c κs. search needs) numbers-requires returns)

@@ -16,29 +16,8 @@ abbrev μ-loop : tie.MeasureT-loop
 loop-holds : tie.Need-loop-holds Inv-loop μ-loop
 loop-holds c = prefix-none 64 0 _ 0
 
-array-read-chosen : tie.Need-array-read-chosen Inv-loop μ-loop
-array-read-chosen c = search needs
-
-array-read-chosen-2 : tie.Need-array-read-chosen-2 Inv-loop μ-loop
-array-read-chosen-2 c = search needs
-
-cast-chosen : tie.Need-cast-chosen Inv-loop μ-loop
-cast-chosen c = search needs
-
 array-read-chosen-3 : tie.Need-array-read-chosen-3 Inv-loop μ-loop
 array-read-chosen-3 c = c .before .before .pre (c .before .loop .v) (c .loop-test .taken)
-
-chosen-requires : tie.Need-chosen-requires Inv-loop μ-loop
-chosen-requires c κs = search needs
-
-array-write-of : tie.Need-array-write-of Inv-loop μ-loop
-array-write-of c = search needs
-
-add-v : tie.Need-add-v Inv-loop μ-loop
-add-v c = search needs
-
-loop-less : tie.Need-loop-less Inv-loop μ-loop
-loop-less c = search needs
 
 loop-again : tie.Need-loop-again Inv-loop μ-loop
 loop-again c = let v = c .before .before in prefix-more 64 0 _ (v .loop .of) (v .loop .v) _ (v .loop .inv) (c .before .loop-test .taken) (c .chosen .ensures)
@@ -53,13 +32,13 @@ numbers-spec =
     Inv-loop
     μ-loop
     loop-holds
-    array-read-chosen
-    array-read-chosen-2
-    cast-chosen
+    (λ c. search needs)
+    (λ c. search needs)
+    (λ c. search needs)
     array-read-chosen-3
-    chosen-requires
-    array-write-of
-    add-v
-    loop-less
+    (λ c κs. search needs)
+    (λ c. search needs)
+    (λ c. search needs)
+    (λ c. search needs)
     loop-again
     returns)

@@ -21,8 +21,5 @@ returns c = own _ _ (c .before .if1 .taken) (c .if2 .taken)
 returns-2 : tie.Need-returns-2
 returns-2 c = other _ _ (c .before .if1 .taken) (c .if2 .left)
 
-returns-3 : tie.Need-returns-3
-returns-3 c = search needs
-
 pub opens-spec : {M : Type 1} → statement M
-opens-spec = tie.close (tie.spec returns returns-2 returns-3)
+opens-spec = tie.close (tie.spec returns returns-2 (λ c. search needs))

@@ -33,30 +33,12 @@ abbrev μ-loop : tie.MeasureT-loop
 loop-holds : tie.Need-loop-holds Inv-loop μ-loop
 loop-holds c = (omega arith, no-roots _ _, prefix-none 64 0 _ 0)
 
-array-write-below : tie.Need-array-write-below Inv-loop μ-loop
-array-write-below c = search needs
-
-array-read-opens : tie.Need-array-read-opens Inv-loop μ-loop
-array-read-opens c = search needs
-
-array-read-opens-2 : tie.Need-array-read-opens-2 Inv-loop μ-loop
-array-read-opens-2 c = search needs
-
-opens-requires : tie.Need-opens-requires Inv-loop μ-loop
-opens-requires c κs = search needs
-
 add-all : tie.Need-add-all Inv-loop μ-loop
 add-all c =
     let v = c .before .before in
     let e = c .opens .ensures in
     let b = at-most-one (isRoot (v .before .args .t1) (v .before .args .t2) (v .loop .v)) in
     omega arith
-
-add-v : tie.Need-add-v Inv-loop μ-loop
-add-v c = search needs
-
-loop-less : tie.Need-loop-less Inv-loop μ-loop
-loop-less c = search needs
 
 loop-again : tie.Need-loop-again Inv-loop μ-loop
 loop-again c =
@@ -80,12 +62,12 @@ ranks-of-spec =
     Inv-loop
     μ-loop
     loop-holds
-    array-write-below
-    array-read-opens
-    array-read-opens-2
-    opens-requires
+    (λ c. search needs)
+    (λ c. search needs)
+    (λ c. search needs)
+    (λ c κs. search needs)
     add-all
-    add-v
-    loop-less
+    (λ c. search needs)
+    (λ c. search needs)
     loop-again
     returns)

@@ -26,17 +26,8 @@ Inv-loop plan labels₀ m k₀ labels k = (m ≡ plan .m) × (k ≤ m) × Labell
 abbrev μ-loop : tie.MeasureT-loop
 μ-loop plan labels₀ m k₀ labels k = m - k
 
-own-labels-requires : tie.Need-own-labels-requires Inv-loop μ-loop
-own-labels-requires c κs = search needs
-
-cast-m : tie.Need-cast-m Inv-loop μ-loop
-cast-m c = search needs
-
 loop-holds : tie.Need-loop-holds Inv-loop μ-loop
 loop-holds c = (refl, omega arith, labelled-none (planValue (c .before .args .t1)) (c .before .pre) _ (c .own-labels .ensures .0) (c .own-labels .ensures .1))
-
-mul-merged : tie.Need-mul-merged Inv-loop μ-loop
-mul-merged c = search needs
 
 element-copy-out-merged : tie.Need-element-copy-out-merged Inv-loop μ-loop
 element-copy-out-merged c = omega (arith, record-arcs (c .before .before .before .args .t1) (c .before .before .before .pre))
@@ -47,12 +38,6 @@ merged-requires c κs =
     let s = v .before .before in
     let e = record-ends (s .args .t1) (s .pre) (v .loop .k) (omega arith) in
     (e .0, e .1, v .loop .inv .2 .size)
-
-add-k : tie.Need-add-k Inv-loop μ-loop
-add-k c = search needs
-
-loop-less : tie.Need-loop-less Inv-loop μ-loop
-loop-less c = search needs
 
 loop-again : tie.Need-loop-again Inv-loop μ-loop
 loop-again c =
@@ -77,13 +62,13 @@ labels-of-spec =
     (tie.spec
     Inv-loop
     μ-loop
-    own-labels-requires
-    cast-m
+    (λ c κs. search needs)
+    (λ c. search needs)
     loop-holds
-    mul-merged
+    (λ c. search needs)
     element-copy-out-merged
     merged-requires
-    add-k
-    loop-less
+    (λ c. search needs)
+    (λ c. search needs)
     loop-again
     returns)

@@ -17,31 +17,10 @@ into-head x y l f g h = rw (f, le-ltb x y g) h
 kept : {b : Bool} (n l : ℕ) → b ≡ false → l ≡ cond b n l
 kept n l f = rw f
 
-is-required-requires : tie.Need-is-required-requires
-is-required-requires c κs = search needs
-
-cast-x : tie.Need-cast-x
-cast-x c = search needs
-
-array-read-x : tie.Need-array-read-x
-array-read-x c = search needs
-
-cast-y : tie.Need-cast-y
-cast-y c = search needs
-
-array-read-y : tie.Need-array-read-y
-array-read-y c = search needs
-
-rename-all-requires : tie.Need-rename-all-requires
-rename-all-requires c κs = search needs
-
 returns : tie.Need-returns
 returns c =
     let s = c .before .before .before .before in
     (c .rename-all .ensures .0, λ v l. into-tail _ _ _ (sym (s .before .is-required .ensures) ∙ s .if1 .taken) (c .before .if2 .taken) (c .rename-all .ensures .1 v l))
-
-rename-all-requires-2 : tie.Need-rename-all-requires-2
-rename-all-requires-2 c κs = search needs
 
 returns-2 : tie.Need-returns-2
 returns-2 c =
@@ -55,13 +34,13 @@ pub merged-spec : {M : Type 1} → statement M
 merged-spec =
     tie.close
     (tie.spec
-    is-required-requires
-    cast-x
-    array-read-x
-    cast-y
-    array-read-y
-    rename-all-requires
+    (λ c κs. search needs)
+    (λ c. search needs)
+    (λ c. search needs)
+    (λ c. search needs)
+    (λ c. search needs)
+    (λ c κs. search needs)
     returns
-    rename-all-requires-2
+    (λ c κs. search needs)
     returns-2
     returns-3)

@@ -15,18 +15,6 @@ abbrev μ-loop : tie.MeasureT-loop
 loop-holds : tie.Need-loop-holds Inv-loop μ-loop
 loop-holds c = prefix-none 64 0 _ 0
 
-cast-labels : tie.Need-cast-labels Inv-loop μ-loop
-cast-labels c = search needs
-
-array-write-labels : tie.Need-array-write-labels Inv-loop μ-loop
-array-write-labels c = search needs
-
-add-v : tie.Need-add-v Inv-loop μ-loop
-add-v c = search needs
-
-loop-less : tie.Need-loop-less Inv-loop μ-loop
-loop-less c = search needs
-
 loop-again : tie.Need-loop-again Inv-loop μ-loop
 loop-again c = let v = c .before in prefix-more 64 0 _ (v .loop .labels) (v .loop .v) _ (v .loop .inv) (c .loop-test .taken) refl
 
@@ -40,9 +28,9 @@ own-labels-spec =
     Inv-loop
     μ-loop
     loop-holds
-    cast-labels
-    array-write-labels
-    add-v
-    loop-less
+    (λ c. search needs)
+    (λ c. search needs)
+    (λ c. search needs)
+    (λ c. search needs)
     loop-again
     returns)

@@ -16,21 +16,6 @@ abbrev μ-loop : tie.MeasureT-loop
 loop-holds : tie.Need-loop-holds Inv-loop μ-loop
 loop-holds c = prefix-none 64 0 _ 0
 
-array-read-renamed : tie.Need-array-read-renamed Inv-loop μ-loop
-array-read-renamed c = search needs
-
-renamed-requires : tie.Need-renamed-requires Inv-loop μ-loop
-renamed-requires c κs = search needs
-
-array-write-new : tie.Need-array-write-new Inv-loop μ-loop
-array-write-new c = search needs
-
-add-v : tie.Need-add-v Inv-loop μ-loop
-add-v c = search needs
-
-loop-less : tie.Need-loop-less Inv-loop μ-loop
-loop-less c = search needs
-
 loop-again : tie.Need-loop-again Inv-loop μ-loop
 loop-again c = let v = c .before .before in prefix-more 64 0 _ (v .loop .new) (v .loop .v) _ (v .loop .inv) (c .before .loop-test .taken) (c .renamed .ensures)
 
@@ -44,10 +29,10 @@ rename-all-spec =
     Inv-loop
     μ-loop
     loop-holds
-    array-read-renamed
-    renamed-requires
-    array-write-new
-    add-v
-    loop-less
+    (λ c. search needs)
+    (λ c κs. search needs)
+    (λ c. search needs)
+    (λ c. search needs)
+    (λ c. search needs)
     loop-again
     returns)

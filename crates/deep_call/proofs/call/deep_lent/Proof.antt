@@ -8,18 +8,6 @@ use borrow.Author.Needs.{needs}
 use Rattle.deep_call.proofs.call.deep_lent.Statement.{statement}
 use Rattle.deep_call.proofs.call.deep_lent.Tie as tie
 
-lent-verdict-requires : tie.Need-lent-verdict-requires
-lent-verdict-requires c κs = search needs
-
-enum-known-r : tie.Need-enum-known-r
-enum-known-r c = search needs
-
-refused-requires : tie.Need-refused-requires
-refused-requires c κs = search needs
-
-enum-told : tie.Need-enum-told
-enum-told c = search needs
-
 cast-deep-within : tie.Need-cast-deep-within
 cast-deep-within c =
     let h = small-budget _ _ (sym (c .before .before .lent-verdict .ensures) ∙ ap verdictNumber (c .enum-told .given .1)) in
@@ -35,9 +23,6 @@ returns c =
     let v = c .before .before .before .before .lent-verdict .ensures in
     step-refused _ _ _ _ _ _ _ _ (c .refused .ensures) (sym v ∙ ap verdictNumber (c .before .before .r .given .1))
 
-same-length : tie.Need-same-length
-same-length c = search needs
-
 returns-2 : tie.Need-returns-2
 returns-2 c =
     let v = c .before .before .before .before .before .before .lent-verdict .ensures in
@@ -47,12 +32,12 @@ pub deep-lent-spec : {M : Type 1} → statement M
 deep-lent-spec =
     tie.close
     (tie.spec
-    lent-verdict-requires
-    enum-known-r
-    refused-requires
-    enum-told
+    (λ c κs. search needs)
+    (λ c. search needs)
+    (λ c κs. search needs)
+    (λ c. search needs)
     cast-deep-within
     deep-within-requires
     returns
-    same-length
+    (λ c. search needs)
     returns-2)

@@ -9,20 +9,8 @@ use borrow.Author.Needs.{needs}
 use Rattle.deep_call.proofs.call.deep_within.Statement.{statement}
 use Rattle.deep_call.proofs.call.deep_within.Tie as tie
 
-bad-rounds-requires : tie.Need-bad-rounds-requires
-bad-rounds-requires c κs = search needs
-
-refused-requires : tie.Need-refused-requires
-refused-requires c κs = search needs
-
 returns : tie.Need-returns
 returns c = step-refused _ _ _ _ _ _ _ _ (c .refused .ensures) (rounds-refused _ (sym (c .before .before .bad-rounds .ensures) ∙ c .before .if1 .taken))
-
-table-requires : tie.Need-table-requires
-table-requires c κs = search needs
-
-table-of-requires : tie.Need-table-of-requires
-table-of-requires c κs = search needs
 
 plan-deep-requires : tie.Need-plan-deep-requires
 plan-deep-requires c κs = let s = c .before .before .before .before .before .before .before .before .before in
@@ -34,9 +22,6 @@ plan-deep-requires c κs = let s = c .before .before .before .before .before .be
     let e = table-is _ (t .result) long (λ i l. rows (t .result) (t .ok .0) (t .ok .1 .1) i (omega arith)) d in
     ((record { well-formed = s .pre .0; distances = e; weights-are = w .ensures }, s .pre .3), (s .pre .1, s .pre .2, r .0, r .1))
 
-same-length : tie.Need-same-length
-same-length c = search needs
-
 returns-2 : tie.Need-returns-2
 returns-2 c = step-on _ _ _ _ _ _ _ _ (rounds-good _ (sym (c .before .before .before .before .before .before .before .before .before .before .bad-rounds .ensures) ∙ c .before .before .before .before .before .before .before .before .before .if1 .left)) (last-deep _ _ _ _ _ _ (c .before .before .before .before .before .before .before .before .before .before .before .before .pre .0) (c .before .before .plan-deep .ensures))
 
@@ -44,11 +29,11 @@ pub deep-within-spec : {M : Type 1} → statement M
 deep-within-spec =
     tie.close
     (tie.spec
-    bad-rounds-requires
-    refused-requires
+    (λ c κs. search needs)
+    (λ c κs. search needs)
     returns
-    table-requires
-    table-of-requires
+    (λ c κs. search needs)
+    (λ c κs. search needs)
     plan-deep-requires
-    same-length
+    (λ c. search needs)
     returns-2)

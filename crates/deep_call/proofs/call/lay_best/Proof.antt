@@ -21,9 +21,6 @@ closed-requires c κs = let s = c .before .before .before .before .before .befor
     let b = s .pre .1 in
     cost-fits _ (t .0 .well-formed) (t .1) _ (b .0) (b .1) _ _ (omega arith) (t .2)
 
-same-length : tie.Need-same-length
-same-length c = search needs
-
 returns : tie.Need-returns
 returns c = let s = c .before .before .before .before .before .before .before .before .before .before .before .before in
     let t = s .pre .0 in
@@ -33,4 +30,4 @@ returns c = let s = c .before .before .before .before .before .before .before .b
     laid-best _ (t .0 .well-formed) (t .1) _ (b .0) (b .1) _ (b .2) (s .args .d .kept) (t .2) _ _ (a .result) (a .ensures .0) (a .ensures .1) (a .ensures .2) _ _ f (c .before .closed .ensures)
 
 pub lay-best-spec : {M : Type 1} → statement M
-lay-best-spec = tie.close (tie.spec lay-under-requires closed-requires same-length returns)
+lay-best-spec = tie.close (tie.spec lay-under-requires closed-requires (λ c. search needs) returns)

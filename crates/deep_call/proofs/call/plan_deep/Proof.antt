@@ -6,18 +6,6 @@ use borrow.Author.Needs.{needs}
 use Rattle.deep_call.proofs.call.plan_deep.Statement.{statement}
 use Rattle.deep_call.proofs.call.plan_deep.Tie as tie
 
-plan-verdict-requires : tie.Need-plan-verdict-requires
-plan-verdict-requires c κs = search needs
-
-enum-known-r : tie.Need-enum-known-r
-enum-known-r c = search needs
-
-refused-requires : tie.Need-refused-requires
-refused-requires c κs = search needs
-
-enum-told : tie.Need-enum-told
-enum-told c = search needs
-
 first-round-requires : tie.Need-first-round-requires
 first-round-requires c κs = let s = c .before .before .before .before in
     let t = s .pre .0 .0 in
@@ -37,9 +25,6 @@ lay-best-requires c κs = let s = c .before .before .before .before .before .bef
 returns : tie.Need-returns
 returns c = refused-deep _ _ _ _ _ _ _ (c .refused .ensures) (sym (c .before .before .before .before .plan-verdict .ensures) ∙ ap verdictNumber (c .before .before .r .given .1))
 
-same-length : tie.Need-same-length
-same-length c = search needs
-
 returns-2 : tie.Need-returns-2
 returns-2 c = deep-as _ _ _ _ _ _ _ _ _ refl (sym (sym (c .before .before .before .before .before .before .before .before .plan-verdict .ensures) ∙ ap verdictNumber (c .before .before .before .before .before .before .enum-told .given .1))) (c .before .before .lay-best .ensures)
 
@@ -47,13 +32,13 @@ pub plan-deep-spec : {M : Type 1} → statement M
 plan-deep-spec =
     tie.close
     (tie.spec
-    plan-verdict-requires
-    enum-known-r
-    refused-requires
-    enum-told
+    (λ c κs. search needs)
+    (λ c. search needs)
+    (λ c κs. search needs)
+    (λ c. search needs)
     first-round-requires
     deepen-requires
     lay-best-requires
     returns
-    same-length
+    (λ c. search needs)
     returns-2)

@@ -26,12 +26,6 @@ loop-holds : tie.Need-loop-holds Inv-loop μ-loop
 unfolding fold
 loop-holds c = (omega arith, c .before .pre .0, refl)
 
-vertex-requires : tie.Need-vertex-requires Inv-loop μ-loop
-vertex-requires c κs = search needs
-
-wide-requires : tie.Need-wide-requires Inv-loop μ-loop
-wide-requires c κs = search needs
-
 bypass-by-requires : tie.Need-bypass-by-requires Inv-loop μ-loop
 bypass-by-requires c κs =
     let at = c .before .before .before .before in
@@ -44,12 +38,6 @@ bypass-by-requires c κs =
       at .loop .inv .1 .small _ mc,
       bypass-room (start .args .vs .now) (at .loop .f) (start .args .a) (start .args .b) _ (start .pre .3) (start .pre .2) mc (at .loop .inv .1),
     )
-
-add-k : tie.Need-add-k Inv-loop μ-loop
-add-k c = search needs
-
-loop-less : tie.Need-loop-less Inv-loop μ-loop
-loop-less c = search needs
 
 loop-again : tie.Need-loop-again Inv-loop μ-loop
 loop-again c =
@@ -77,10 +65,10 @@ bypass-from-spec =
     Inv-loop
     μ-loop
     loop-holds
-    vertex-requires
-    wide-requires
+    (λ c κs. search needs)
+    (λ c κs. search needs)
     bypass-by-requires
-    add-k
-    loop-less
+    (λ c. search needs)
+    (λ c. search needs)
     loop-again
     returns)

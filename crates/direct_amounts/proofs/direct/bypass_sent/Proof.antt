@@ -34,12 +34,6 @@ element-copy-out-if1 c =
     let b = s .pre .0 .small (s .args .b) (s .pre .2) in
     omega arith
 
-bypass-from-requires : tie.Need-bypass-from-requires
-bypass-from-requires c κs = search needs
-
-returns : tie.Need-returns
-returns c = search needs
-
 returns-2 : tie.Need-returns-2
 returns-2 c =
     let s = c .before .before .before in
@@ -53,6 +47,6 @@ bypass-sent-spec =
     add-if1
     mul-if1-2
     element-copy-out-if1
-    bypass-from-requires
-    returns
+    (λ c κs. search needs)
+    (λ c. search needs)
     returns-2)

@@ -26,12 +26,6 @@ loop-holds : tie.Need-loop-holds Inv-loop μ-loop
 unfolding fold
 loop-holds c = (omega arith, c .before .pre .0, refl)
 
-vertex-requires : tie.Need-vertex-requires Inv-loop μ-loop
-vertex-requires c κs = search needs
-
-wide-requires : tie.Need-wide-requires Inv-loop μ-loop
-wide-requires c κs = search needs
-
 bypass-sent-requires : tie.Need-bypass-sent-requires Inv-loop μ-loop
 bypass-sent-requires c κs =
     let at = c .before .before .before .before in
@@ -39,12 +33,6 @@ bypass-sent-requires c κs =
     let l = c .before .before .before .loop-test .taken in
     let e = c .before .wide .ensures ∙ c .before .before .vertex .ensures .0 in
     (at .loop .inv .1, start .pre .1, start .pre .2, subst⁻¹ (λ n. List·Memᴰ n (start .args .vs .now)) e (getD-mem (start .args .vs .now) 0 (at .loop .k) l))
-
-add-k : tie.Need-add-k Inv-loop μ-loop
-add-k c = search needs
-
-loop-less : tie.Need-loop-less Inv-loop μ-loop
-loop-less c = search needs
 
 loop-again : tie.Need-loop-again Inv-loop μ-loop
 loop-again c =
@@ -72,10 +60,10 @@ bypass-vertex-spec =
     Inv-loop
     μ-loop
     loop-holds
-    vertex-requires
-    wide-requires
+    (λ c κs. search needs)
+    (λ c κs. search needs)
     bypass-sent-requires
-    add-k
-    loop-less
+    (λ c. search needs)
+    (λ c. search needs)
     loop-again
     returns)

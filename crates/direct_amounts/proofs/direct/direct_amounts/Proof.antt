@@ -34,9 +34,6 @@ vertex-requires c κs =
     let start = c .before .before .before .before in
     (c .loop-test .taken, vertices-small (cell (start .args .d .now)) (start .args .vs .now) (start .pre .0))
 
-wide-requires : tie.Need-wide-requires Inv-loop μ-loop
-wide-requires c κs = search needs
-
 bypass-vertex-requires : tie.Need-bypass-vertex-requires Inv-loop μ-loop
 bypass-vertex-requires c κs =
     let at = c .before .before .before .before in
@@ -44,12 +41,6 @@ bypass-vertex-requires c κs =
     let l = c .before .before .before .loop-test .taken in
     let e = c .before .wide .ensures ∙ c .before .before .vertex .ensures .0 in
     (at .loop .inv .1, vertices-small (cell (start .args .d .now)) (start .args .vs .now) (start .pre .0), subst⁻¹ (λ n. List·Memᴰ n (start .args .vs .now)) e (getD-mem (start .args .vs .now) 0 (at .loop .k) l))
-
-add-k : tie.Need-add-k Inv-loop μ-loop
-add-k c = search needs
-
-loop-less : tie.Need-loop-less Inv-loop μ-loop
-loop-less c = search needs
 
 loop-again : tie.Need-loop-again Inv-loop μ-loop
 loop-again c =
@@ -78,9 +69,9 @@ direct-amounts-spec =
     μ-loop
     loop-holds
     vertex-requires
-    wide-requires
+    (λ c κs. search needs)
     bypass-vertex-requires
-    add-k
-    loop-less
+    (λ c. search needs)
+    (λ c. search needs)
     loop-again
     returns)

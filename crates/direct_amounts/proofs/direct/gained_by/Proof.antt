@@ -5,9 +5,6 @@ use borrow.Author.Needs.{needs}
 use Rattle.direct_amounts.proofs.direct.gained_by.Statement.{statement}
 use Rattle.direct_amounts.proofs.direct.gained_by.Tie as tie
 
-add-result : tie.Need-add-result
-add-result c = search needs
-
 returns : tie.Need-returns
 returns c = rw (eq-eqb (c .before .args .a) (c .before .args .c) (omega arith))
 
@@ -15,4 +12,4 @@ returns-2 : tie.Need-returns-2
 returns-2 c = rw (ne-eqb (c .before .args .a) (c .before .args .c) (λ e. omega arith))
 
 pub gained-by-spec : {M : Type 1} → statement M
-gained-by-spec = tie.close (tie.spec add-result returns returns-2)
+gained-by-spec = tie.close (tie.spec (λ c. search needs) returns returns-2)

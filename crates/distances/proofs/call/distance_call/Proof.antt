@@ -9,15 +9,6 @@ use borrow.Author.Needs.{needs}
 use Rattle.distances.proofs.call.distance_call.Statement.{statement}
 use Rattle.distances.proofs.call.distance_call.Tie as tie
 
-read-plan-requires : tie.Need-read-plan-requires
-read-plan-requires c κs = search needs
-
-enum-known-verdict : tie.Need-enum-known-verdict
-enum-known-verdict c = search needs
-
-enum-told : tie.Need-enum-told
-enum-told c = search needs
-
 plan-distances-requires : tie.Need-plan-distances-requires
 plan-distances-requires c κs =
     let r = c .before .before .before .before .read-plan in
@@ -30,9 +21,6 @@ returns c =
     let e = sym (r .ensures .verdict) ∙ ap verdictNumber (c .before .verdict .given .1) in
     refused-call _ _ _ (c .before .verdict .given .0 .0) e
 
-same-length : tie.Need-same-length
-same-length c = search needs
-
 returns-2 : tie.Need-returns-2
 returns-2 c =
     let v = c .before .before .before .before in
@@ -44,10 +32,10 @@ pub distance-call-spec : {M : Type 1} → statement M
 distance-call-spec =
     tie.close
     (tie.spec
-    read-plan-requires
-    enum-known-verdict
-    enum-told
+    (λ c κs. search needs)
+    (λ c. search needs)
+    (λ c. search needs)
     plan-distances-requires
     returns
-    same-length
+    (λ c. search needs)
     returns-2)

@@ -7,18 +7,6 @@ use borrow.Author.Needs.{needs}
 use Rattle.distances.proofs.call.plan_distances.Statement.{statement}
 use Rattle.distances.proofs.call.plan_distances.Tie as tie
 
-cast-pairs-verdict : tie.Need-cast-pairs-verdict
-cast-pairs-verdict c = search needs
-
-pairs-verdict-requires : tie.Need-pairs-verdict-requires
-pairs-verdict-requires c κs = search needs
-
-enum-known-r : tie.Need-enum-known-r
-enum-known-r c = search needs
-
-enum-told : tie.Need-enum-told
-enum-told c = search needs
-
 put-entries-requires : tie.Need-put-entries-requires
 put-entries-requires c κs =
     let s = c .before .before .before .before .before .before in
@@ -33,9 +21,6 @@ returns c =
     let e = pairs-refusal (a .plan) (a .pairs .now) _ (c .before .before .before .pairs-verdict .ensures) ∙ ap verdictNumber (c .before .r .given .1) in
     refused-page _ _ _ _ _ e
 
-same-length : tie.Need-same-length
-same-length c = search needs
-
 returns-2 : tie.Need-returns-2
 returns-2 c =
     let v = c .before .before .before .before in
@@ -48,11 +33,11 @@ pub plan-distances-spec : {M : Type 1} → statement M
 plan-distances-spec =
     tie.close
     (tie.spec
-    cast-pairs-verdict
-    pairs-verdict-requires
-    enum-known-r
-    enum-told
+    (λ c. search needs)
+    (λ c κs. search needs)
+    (λ c. search needs)
+    (λ c. search needs)
     put-entries-requires
     returns
-    same-length
+    (λ c. search needs)
     returns-2)

@@ -4,16 +4,10 @@ use borrow.Author.Needs.{needs}
 use Rattle.distances.proofs.entries.search.Statement.{statement}
 use Rattle.distances.proofs.entries.search.Tie as tie
 
-row-requires : tie.Need-row-requires
-row-requires c κs = search needs
-
 put-row-requires : tie.Need-put-row-requires
 put-row-requires c κs =
     let p = c .before .before .before .before .before .pre in
     (pairs-within _ 64 _ (p .0 .vertices) (p .1), p .2)
-
-same-length : tie.Need-same-length
-same-length c = search needs
 
 returns : tie.Need-returns
 returns c =
@@ -22,4 +16,4 @@ returns c =
     row-put _ _ (row .result) _ _ _ (s .pre .0 .vertices) (s .pre .1) (row .ensures) (c .before .before .put-row .ensures)
 
 pub search-spec : {M : Type 1} → statement M
-search-spec = tie.close (tie.spec row-requires put-row-requires same-length returns)
+search-spec = tie.close (tie.spec (λ c κs. search needs) put-row-requires (λ c. search needs) returns)

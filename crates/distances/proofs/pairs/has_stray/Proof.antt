@@ -23,25 +23,10 @@ returns c = many-stray _ _ (c .if1 .taken)
 loop-holds : tie.Need-loop-holds Inv-loop μ-loop
 loop-holds c = (refl, omega arith, λ j l. absurd (omega arith))
 
-mul-is-stray : tie.Need-mul-is-stray Inv-loop μ-loop
-mul-is-stray c = search needs
-
-shared-slice-read-is-stray : tie.Need-shared-slice-read-is-stray Inv-loop μ-loop
-shared-slice-read-is-stray c = search needs
-
-is-stray-requires : tie.Need-is-stray-requires Inv-loop μ-loop
-is-stray-requires c κs = search needs
-
 returns-2 : tie.Need-returns-2 Inv-loop μ-loop
 returns-2 c =
     let v = c .before .before .before .before in
     stray-found _ _ (v .before .if1 .left) (v .loop .k) (omega arith) (sym (c .before .is-stray .ensures) ∙ c .if2 .taken)
-
-add-k : tie.Need-add-k Inv-loop μ-loop
-add-k c = search needs
-
-loop-less : tie.Need-loop-less Inv-loop μ-loop
-loop-less c = search needs
 
 loop-again : tie.Need-loop-again Inv-loop μ-loop
 loop-again c =
@@ -62,11 +47,11 @@ has-stray-spec =
     μ-loop
     returns
     loop-holds
-    mul-is-stray
-    shared-slice-read-is-stray
-    is-stray-requires
+    (λ c. search needs)
+    (λ c. search needs)
+    (λ c κs. search needs)
     returns-2
-    add-k
-    loop-less
+    (λ c. search needs)
+    (λ c. search needs)
     loop-again
     returns-3)

@@ -7,14 +7,8 @@ use borrow.Author.Needs.{needs}
 use Rattle.distances.proofs.pairs.is_stray.Statement.{statement}
 use Rattle.distances.proofs.pairs.is_stray.Tie as tie
 
-first-requires : tie.Need-first-requires
-first-requires c κs = search needs
-
 returns : tie.Need-returns
 returns c = first-stray _ _ (omega (arith, c .before .first .ensures, c .if1 .taken))
-
-second-requires : tie.Need-second-requires
-second-requires c κs = search needs
 
 returns-2 : tie.Need-returns-2
 returns-2 c =
@@ -22,4 +16,4 @@ returns-2 c =
     ap (leb (a .n)) (c .second .ensures) ∙ second-stray (a .n) (a .x) (omega (arith, c .before .before .first .ensures, c .before .if1 .left))
 
 pub is-stray-spec : {M : Type 1} → statement M
-is-stray-spec = tie.close (tie.spec first-requires returns second-requires returns-2)
+is-stray-spec = tie.close (tie.spec (λ c κs. search needs) returns (λ c κs. search needs) returns-2)

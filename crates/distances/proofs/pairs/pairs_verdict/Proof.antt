@@ -5,9 +5,6 @@ use borrow.Author.Needs.{needs}
 use Rattle.distances.proofs.pairs.pairs_verdict.Statement.{statement}
 use Rattle.distances.proofs.pairs.pairs_verdict.Tie as tie
 
-has-stray-requires : tie.Need-has-stray-requires
-has-stray-requires c κs = search needs
-
 returns : tie.Need-returns
 returns c = stray-refused _ _ _ (sym (c .before .has-stray .ensures) ∙ c .if1 .taken)
 
@@ -18,4 +15,4 @@ returns-3 : tie.Need-returns-3
 returns-3 c = pairs-good _ _ _ (sym (c .before .before .has-stray .ensures) ∙ c .before .if1 .left) (c .if2 .left)
 
 pub pairs-verdict-spec : {M : Type 1} → statement M
-pairs-verdict-spec = tie.close (tie.spec has-stray-requires returns returns-2 returns-3)
+pairs-verdict-spec = tie.close (tie.spec (λ c κs. search needs) returns returns-2 returns-3)

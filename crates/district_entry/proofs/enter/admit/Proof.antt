@@ -19,26 +19,8 @@ returns c =
     let t = c .if1 .taken in
     refused-entered (s .args .m) _ (s .args .budget) Full (entry-full _ (s .args .budget) (lineOf (s .args .m)) (s .pre) (omega arith))
 
-lowest-free-requires : tie.Need-lowest-free-requires
-lowest-free-requires c κs = search needs
-
-lined-up-requires : tie.Need-lined-up-requires
-lined-up-requires c κs = search needs
-
 kept-requires : tie.Need-kept-requires
 kept-requires c κs = let s = c .before .before .before .before .before in short-file _ (s .args .budget) (s .pre)
-
-nothing-held-requires : tie.Need-nothing-held-requires
-nothing-held-requires c κs = search needs
-
-mul-line : tie.Need-mul-line
-mul-line c = search needs
-
-array-set-from-line : tie.Need-array-set-from-line
-array-set-from-line c = search needs
-
-add-t16 : tie.Need-add-t16
-add-t16 c = search needs
 
 returns-2 : tie.Need-returns-2
 returns-2 c =
@@ -59,11 +41,11 @@ admit-spec =
     tie.close
     (tie.spec
     returns
-    lowest-free-requires
-    lined-up-requires
+    (λ c κs. search needs)
+    (λ c κs. search needs)
     kept-requires
-    nothing-held-requires
-    mul-line
-    array-set-from-line
-    add-t16
+    (λ c κs. search needs)
+    (λ c. search needs)
+    (λ c. search needs)
+    (λ c. search needs)
     returns-2)

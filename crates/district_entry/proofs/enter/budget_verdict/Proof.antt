@@ -5,15 +5,6 @@ use borrow.Author.Needs.{needs}
 use Rattle.district_entry.proofs.enter.budget_verdict.Statement.{statement}
 use Rattle.district_entry.proofs.enter.budget_verdict.Tie as tie
 
-new-requires : tie.Need-new-requires
-new-requires c κs = search needs
-
-enum-told : tie.Need-enum-told
-enum-told c = search needs
-
-enum-known-b : tie.Need-enum-known-b
-enum-known-b c = search needs
-
 parts-verdict-requires : tie.Need-parts-verdict-requires
 parts-verdict-requires c κs = c .before .before .before .before .pre
 
@@ -27,9 +18,9 @@ pub budget-verdict-spec : {M : Type 1} → statement M
 budget-verdict-spec =
     tie.close
     (tie.spec
-    new-requires
-    enum-told
-    enum-known-b
+    (λ c κs. search needs)
+    (λ c. search needs)
+    (λ c. search needs)
     parts-verdict-requires
     returns
     returns-2)

@@ -10,15 +10,6 @@ use borrow.Author.Needs.{needs}
 use Rattle.district_entry.proofs.enter.call_verdict.Statement.{statement}
 use Rattle.district_entry.proofs.enter.call_verdict.Tie as tie
 
-read-plan-requires : tie.Need-read-plan-requires
-read-plan-requires c κs = search needs
-
-enum-known-verdict : tie.Need-enum-known-verdict
-enum-known-verdict c = search needs
-
-enum-told : tie.Need-enum-told
-enum-told c = search needs
-
 budget-verdict-requires : tie.Need-budget-verdict-requires
 budget-verdict-requires c κs =
     let r = c .before .before .before .read-plan in
@@ -41,9 +32,9 @@ pub call-verdict-spec : {M : Type 1} → statement M
 call-verdict-spec =
     tie.close
     (tie.spec
-    read-plan-requires
-    enum-known-verdict
-    enum-told
+    (λ c κs. search needs)
+    (λ c. search needs)
+    (λ c. search needs)
     budget-verdict-requires
     returns
     returns-2)

@@ -6,15 +6,6 @@ use borrow.Author.Needs.{needs}
 use Rattle.district_entry.proofs.enter.enter.Statement.{statement}
 use Rattle.district_entry.proofs.enter.enter.Tie as tie
 
-call-verdict-requires : tie.Need-call-verdict-requires
-call-verdict-requires c κs = search needs
-
-enum-known-r : tie.Need-enum-known-r
-enum-known-r c = search needs
-
-enum-told : tie.Need-enum-told
-enum-told c = search needs
-
 cast-admit : tie.Need-cast-admit
 cast-admit c =
     let h = part-limits _ _ (sym (c .before .before .call-verdict .ensures) ∙ ap verdictNumber (c .enum-told .given .1)) .1 in
@@ -28,17 +19,14 @@ returns c =
     let v = c .before .before .before .call-verdict .ensures in
     refused-entered _ _ _ _ (entry-refused _ _ _ _ (sym v ∙ ap verdictNumber (c .before .r .given .1)))
 
-returns-2 : tie.Need-returns-2
-returns-2 c = search needs
-
 pub enter-spec : {M : Type 1} → statement M
 enter-spec =
     tie.close
     (tie.spec
-    call-verdict-requires
-    enum-known-r
-    enum-told
+    (λ c κs. search needs)
+    (λ c. search needs)
+    (λ c. search needs)
     cast-admit
     admit-requires
     returns
-    returns-2)
+    (λ c. search needs))

@@ -9,18 +9,12 @@ use Rattle.district_entry.proofs.enter.parts_verdict.Tie as tie
 table-requires : tie.Need-table-requires
 table-requires c κs = c .pre
 
-table-of-requires : tie.Need-table-of-requires
-table-of-requires c κs = search needs
-
 network-of-requires : tie.Need-network-of-requires
 network-of-requires c κs =
     let t = c .before .table-of in
     let w = c .before .before .before .table in
     let s = c .before .before .before .before in
     (s .pre, table-costs _ (s .pre) (w .result) (t .result) (w .ensures) (t .ensures))
-
-network-verdict-requires : tie.Need-network-verdict-requires
-network-verdict-requires c κs = search needs
 
 returns : tie.Need-returns
 returns c = let n = c .before .network-of in c .network-verdict .ensures ∙ measured-refusal _ (n .result) (n .ensures)
@@ -30,7 +24,7 @@ parts-verdict-spec =
     tie.close
     (tie.spec
     table-requires
-    table-of-requires
+    (λ c κs. search needs)
     network-of-requires
-    network-verdict-requires
+    (λ c κs. search needs)
     returns)

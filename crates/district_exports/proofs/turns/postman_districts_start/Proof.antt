@@ -10,22 +10,10 @@ use borrow.Author.Needs.{needs}
 use Rattle.district_exports.proofs.turns.postman_districts_start.Statement.{statement}
 use Rattle.district_exports.proofs.turns.postman_districts_start.Tie as tie
 
-refused-number-requires : tie.Need-refused-number-requires
-refused-number-requires c κs = search needs
-
 returns : tie.Need-returns
 returns c =
     let l = c .before .if1 .taken in
     record { started = λ h. absurd (omega arith); short = λ h. (back64 _ (c .refused-number .ok) ∙ c .refused-number .ensures, refl) }
-
-slice-aggregate-put-bytes : tie.Need-slice-aggregate-put-bytes
-slice-aggregate-put-bytes c = search needs
-
-put-bytes-requires : tie.Need-put-bytes-requires
-put-bytes-requires c κs = search needs
-
-same-length : tie.Need-same-length
-same-length c = search needs
 
 returns-2 : tie.Need-returns-2
 returns-2 c =
@@ -36,9 +24,9 @@ pub postman-districts-start-spec : {M : Type 1} → statement M
 postman-districts-start-spec =
     tie.close
     (tie.spec
-    refused-number-requires
+    (λ c κs. search needs)
     returns
-    slice-aggregate-put-bytes
-    put-bytes-requires
-    same-length
+    (λ c. search needs)
+    (λ c κs. search needs)
+    (λ c. search needs)
     returns-2)

@@ -7,23 +7,8 @@ use borrow.Author.Needs.{needs}
 use Rattle.district_exports.proofs.turns.postman_enter.Statement.{statement}
 use Rattle.district_exports.proofs.turns.postman_enter.Tie as tie
 
-refused-number-requires : tie.Need-refused-number-requires
-refused-number-requires c κs = search needs
-
 returns : tie.Need-returns
 returns c = entry-short _ _ _ _ (c .before .if1 .taken) (back64 _ (c .refused-number .ok) ∙ c .refused-number .ensures)
-
-load-machine-requires : tie.Need-load-machine-requires
-load-machine-requires c κs = search needs
-
-enter-requires : tie.Need-enter-requires
-enter-requires c κs = search needs
-
-store-entered-requires : tie.Need-store-entered-requires
-store-entered-requires c κs = search needs
-
-same-length : tie.Need-same-length
-same-length c = search needs
 
 returns-2 : tie.Need-returns-2
 returns-2 c =
@@ -36,10 +21,10 @@ pub postman-enter-spec : {M : Type 1} → statement M
 postman-enter-spec =
     tie.close
     (tie.spec
-    refused-number-requires
+    (λ c κs. search needs)
     returns
-    load-machine-requires
-    enter-requires
-    store-entered-requires
-    same-length
+    (λ c κs. search needs)
+    (λ c κs. search needs)
+    (λ c κs. search needs)
+    (λ c. search needs)
     returns-2)

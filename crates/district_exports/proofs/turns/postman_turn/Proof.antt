@@ -7,32 +7,8 @@ use borrow.Author.Needs.{needs}
 use Rattle.district_exports.proofs.turns.postman_turn.Statement.{statement}
 use Rattle.district_exports.proofs.turns.postman_turn.Tie as tie
 
-refused-number-requires : tie.Need-refused-number-requires
-refused-number-requires c κs = search needs
-
 returns : tie.Need-returns
 returns c = turn-short _ _ _ _ _ (c .before .if1 .taken) (back64 _ (c .refused-number .ok) ∙ c .refused-number .ensures)
-
-load-machine-requires : tie.Need-load-machine-requires
-load-machine-requires c κs = search needs
-
-turn-requires : tie.Need-turn-requires
-turn-requires c κs = search needs
-
-hand-turn-over-requires : tie.Need-hand-turn-over-requires
-hand-turn-over-requires c κs = search needs
-
-same-length : tie.Need-same-length
-same-length c = search needs
-
-same-length-2 : tie.Need-same-length-2
-same-length-2 c = search needs
-
-same-length-3 : tie.Need-same-length-3
-same-length-3 c = search needs
-
-same-length-4 : tie.Need-same-length-4
-same-length-4 c = search needs
 
 returns-2 : tie.Need-returns-2
 returns-2 c =
@@ -45,13 +21,13 @@ pub postman-turn-spec : {M : Type 1} → statement M
 postman-turn-spec =
     tie.close
     (tie.spec
-    refused-number-requires
+    (λ c κs. search needs)
     returns
-    load-machine-requires
-    turn-requires
-    hand-turn-over-requires
-    same-length
-    same-length-2
-    same-length-3
-    same-length-4
+    (λ c κs. search needs)
+    (λ c κs. search needs)
+    (λ c κs. search needs)
+    (λ c. search needs)
+    (λ c. search needs)
+    (λ c. search needs)
+    (λ c. search needs)
     returns-2)

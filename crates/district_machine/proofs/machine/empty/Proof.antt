@@ -6,11 +6,8 @@ use borrow.Author.Needs.{needs}
 use Rattle.district_machine.proofs.machine.empty.Statement.{statement}
 use Rattle.district_machine.proofs.machine.empty.Tie as tie
 
-no-district-requires : tie.Need-no-district-requires
-no-district-requires c κs = search needs
-
 returns : tie.Need-returns
 returns c = ap (λ (d : District). record { line = replicate 8 d; waiting = 0 }) (c .no-district .ensures)
 
 pub empty-spec : {M : Type 1} → statement M
-empty-spec = tie.close (tie.spec no-district-requires returns)
+empty-spec = tie.close (tie.spec (λ c κs. search needs) returns)

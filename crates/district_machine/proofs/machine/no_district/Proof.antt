@@ -6,11 +6,8 @@ use borrow.Author.Needs.{needs}
 use Rattle.district_machine.proofs.machine.no_district.Statement.{statement}
 use Rattle.district_machine.proofs.machine.no_district.Tie as tie
 
-nothing-held-requires : tie.Need-nothing-held-requires
-nothing-held-requires c κs = search needs
-
 returns : tie.Need-returns
 returns c = ap (λ (g : Reached). record { place = 0; bytes = replicate 1475 0; length = 0; budget = 0; held = g }) (c .nothing-held .ensures)
 
 pub no-district-spec : {M : Type 1} → statement M
-no-district-spec = tie.close (tie.spec nothing-held-requires returns)
+no-district-spec = tie.close (tie.spec (λ c κs. search needs) returns)

@@ -20,15 +20,6 @@ abbrev μ-loop : tie.MeasureT-loop
 loop-holds : tie.Need-loop-holds Inv-loop μ-loop
 loop-holds c = (c .pre, omega arith, λ j l. absurd (omega arith))
 
-mul-place-of : tie.Need-mul-place-of Inv-loop μ-loop
-mul-place-of c = search needs
-
-array-copy-out-place-of : tie.Need-array-copy-out-place-of Inv-loop μ-loop
-array-copy-out-place-of c = search needs
-
-place-of-requires : tie.Need-place-of-requires Inv-loop μ-loop
-place-of-requires c κs = search needs
-
 returns : tie.Need-returns Inv-loop μ-loop
 returns c =
     let v = c .before .before .before .before in
@@ -37,12 +28,6 @@ returns c =
     let few = v .loop .inv .0 in
     let t = c .before .before .before .loop-test .taken in
     sym (some-taken (s .args .q) (s .args .t1) (s .args .n) (v .loop .i) t (omega arith) (sym (c .before .place-of .ensures) ∙ c .if1 .taken))
-
-add-i : tie.Need-add-i Inv-loop μ-loop
-add-i c = search needs
-
-loop-less : tie.Need-loop-less Inv-loop μ-loop
-loop-less c = search needs
 
 loop-again : tie.Need-loop-again Inv-loop μ-loop
 loop-again c =
@@ -67,11 +52,11 @@ is-taken-spec =
     Inv-loop
     μ-loop
     loop-holds
-    mul-place-of
-    array-copy-out-place-of
-    place-of-requires
+    (λ c. search needs)
+    (λ c. search needs)
+    (λ c κs. search needs)
     returns
-    add-i
-    loop-less
+    (λ c. search needs)
+    (λ c. search needs)
     loop-again
     returns-2)

@@ -17,35 +17,11 @@ Inv-loop from n line next₀ i₀ next i = (from + n ≤ 8) × (i ≤ n) × (len
 abbrev μ-loop : tie.MeasureT-loop
 μ-loop from n line next₀ i₀ next i = n - i
 
-no-district-requires : tie.Need-no-district-requires Inv-loop μ-loop
-no-district-requires c κs = search needs
-
 loop-holds : tie.Need-loop-holds Inv-loop μ-loop
 loop-holds c =
     let s = c .before in
     let long : length (s .args .t1) ≡ 8 = search (needs, s .good) in
     (s .pre, omega arith, long, subst⁻¹ (λ (z : District). IsPadded noDistrict 8 emptyDistrict (λ j. getD (s .args .t1) (s .args .from + j) noDistrict) (replicate 8 z) 0) (c .no-district .ensures) (padded-none noDistrict 8 emptyDistrict _))
-
-add-d : tie.Need-add-d Inv-loop μ-loop
-add-d c = search needs
-
-mul-d : tie.Need-mul-d Inv-loop μ-loop
-mul-d c = search needs
-
-array-copy-out-d : tie.Need-array-copy-out-d Inv-loop μ-loop
-array-copy-out-d c = search needs
-
-mul-next : tie.Need-mul-next Inv-loop μ-loop
-mul-next c = search needs
-
-array-set-from-next : tie.Need-array-set-from-next Inv-loop μ-loop
-array-set-from-next c = search needs
-
-add-i : tie.Need-add-i Inv-loop μ-loop
-add-i c = search needs
-
-loop-less : tie.Need-loop-less Inv-loop μ-loop
-loop-less c = search needs
 
 loop-again : tie.Need-loop-again Inv-loop μ-loop
 loop-again c =
@@ -74,14 +50,14 @@ lined-up-spec =
     (tie.spec
     Inv-loop
     μ-loop
-    no-district-requires
+    (λ c κs. search needs)
     loop-holds
-    add-d
-    mul-d
-    array-copy-out-d
-    mul-next
-    array-set-from-next
-    add-i
-    loop-less
+    (λ c. search needs)
+    (λ c. search needs)
+    (λ c. search needs)
+    (λ c. search needs)
+    (λ c. search needs)
+    (λ c. search needs)
+    (λ c. search needs)
     loop-again
     returns)

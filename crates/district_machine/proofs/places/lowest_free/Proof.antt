@@ -28,12 +28,6 @@ lowest-with-requires c κs =
     let i = c .before .loop .inv in
     (i .0, c .loop-test .taken, i .3)
 
-add-q : tie.Need-add-q Inv-loop μ-loop
-add-q c = search needs
-
-loop-less : tie.Need-loop-less Inv-loop μ-loop
-loop-less c = search needs
-
 loop-again : tie.Need-loop-again Inv-loop μ-loop
 loop-again c =
     let i = c .before .before .loop .inv in
@@ -52,4 +46,4 @@ returns c =
 pub lowest-free-spec : {M : Type 1} → statement M
 lowest-free-spec =
     tie.close
-    (tie.spec Inv-loop μ-loop loop-holds lowest-with-requires add-q loop-less loop-again returns)
+    (tie.spec Inv-loop μ-loop loop-holds lowest-with-requires (λ c. search needs) (λ c. search needs) loop-again returns)

@@ -21,9 +21,6 @@ use Rattle.district_turn.proofs.held.is_holding.Tie as tie
 returns : tie.Need-returns
 returns c = let s = c .before .before in sym (holding-first (planValue (s .args .plan)) (s .args .g) (c .if1 .taken))
 
-cast-k : tie.Need-cast-k
-cast-k c = search needs
-
 is-tree-requires : tie.Need-is-tree-requires
 is-tree-requires c κs = component-range _ _ _ (c .before .before .before .before .before .before .before .before .before .before .pre)
 
@@ -91,7 +88,7 @@ is-holding-spec =
     tie.close
     (tie.spec
     returns
-    cast-k
+    (λ c. search needs)
     is-tree-requires
     returns-2
     sub-n

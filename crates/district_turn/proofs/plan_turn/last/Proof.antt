@@ -9,12 +9,6 @@ conclude-requires c κs =
     let s = c .before .before .before .before in
     s .pre
 
-finished-requires : tie.Need-finished-requires
-finished-requires c κs = search needs
-
-same-length : tie.Need-same-length
-same-length c = search needs
-
 returns : tie.Need-returns
 returns c =
     let e = c .before .before .before .conclude .ensures in
@@ -22,4 +16,4 @@ returns c =
     ((f .0, f .1, f .2 ∙ e .planned), e .sheet)
 
 pub last-spec : {M : Type 1} → statement M
-last-spec = tie.close (tie.spec conclude-requires finished-requires same-length returns)
+last-spec = tie.close (tie.spec conclude-requires (λ c κs. search needs) (λ c. search needs) returns)

@@ -15,11 +15,5 @@ turn-prepared-requires c κs =
     let s = c .before .before .before in
     (c .before .prepare .ensures, s .pre .0 .2, s .pre .1 .0, s .pre .1 .1, s .pre .1 .2)
 
-same-length : tie.Need-same-length
-same-length c = search needs
-
-returns : tie.Need-returns
-returns c = search needs
-
 pub turn-accepted-spec : {M : Type 1} → statement M
-turn-accepted-spec = tie.close (tie.spec prepare-requires turn-prepared-requires same-length returns)
+turn-accepted-spec = tie.close (tie.spec prepare-requires turn-prepared-requires (λ c. search needs) (λ c. search needs))

@@ -7,18 +7,6 @@ use borrow.Author.Needs.{needs}
 use Rattle.district_turn.proofs.plan_turn.turn_measured.Statement.{statement}
 use Rattle.district_turn.proofs.plan_turn.turn_measured.Tie as tie
 
-network-verdict-requires : tie.Need-network-verdict-requires
-network-verdict-requires c κs = search needs
-
-enum-known-r : tie.Need-enum-known-r
-enum-known-r c = search needs
-
-stuck-requires : tie.Need-stuck-requires
-stuck-requires c κs = search needs
-
-enum-told : tie.Need-enum-told
-enum-told c = search needs
-
 turn-accepted-requires : tie.Need-turn-accepted-requires
 turn-accepted-requires c κs =
     let s = c .before .before .before .before .before in
@@ -31,9 +19,6 @@ returns c =
     let v = c .before .before .before .before .network-verdict .ensures in
     is-stuck _ _ _ _ _ _ (and-first _ _ (ap isGood (sym v ∙ ap verdictNumber (c .before .before .r .given .1)))) (c .stuck .ensures .0) (c .stuck .ensures .1)
 
-same-length : tie.Need-same-length
-same-length c = search needs
-
 returns-2 : tie.Need-returns-2
 returns-2 c =
     let v = c .before .before .before .before .before .before .network-verdict .ensures in
@@ -41,4 +26,4 @@ returns-2 c =
     as-good _ _ _ _ _ _ _ _ e (c .before .before .turn-accepted .ensures)
 
 pub turn-measured-spec : {M : Type 1} → statement M
-turn-measured-spec = tie.close (tie.spec network-verdict-requires enum-known-r stuck-requires enum-told turn-accepted-requires returns same-length returns-2)
+turn-measured-spec = tie.close (tie.spec (λ c κs. search needs) (λ c. search needs) (λ c κs. search needs) (λ c. search needs) turn-accepted-requires returns (λ c. search needs) returns-2)

@@ -16,23 +16,11 @@ use borrow.Author.Needs.{needs, length-unmapped}
 use Rattle.district_turn.proofs.plan_turn.turn_prepared.Statement.{statement}
 use Rattle.district_turn.proofs.plan_turn.turn_prepared.Tie as tie
 
-is-holding-requires : tie.Need-is-holding-requires
-is-holding-requires c κs = search needs
-
-unfinished-requires : tie.Need-unfinished-requires
-unfinished-requires c κs = search needs
-
 returns : tie.Need-returns
 returns c =
     let s = c .before .before .before .before in
     let t = c .before .before .is-holding in
     is-stuck (planValue (s .args .plan)) (s .args .budget) (s .args .g) _ _ (c .unfinished .result) (and-first _ _ (sym (t .ensures) ∙ was-false (t .result) (c .before .if1 .taken))) (c .unfinished .ensures .0) (c .unfinished .ensures .1)
-
-resume-requires : tie.Need-resume-requires
-resume-requires c κs = search needs
-
-unfinished-requires-2 : tie.Need-unfinished-requires-2
-unfinished-requires-2 c κs = search needs
 
 returns-2 : tie.Need-returns-2
 returns-2 c =
@@ -41,17 +29,11 @@ returns-2 c =
     let x = c .before .before .before .before .resume in
     is-stuck (planValue (s .args .plan)) (s .args .budget) (s .args .g) _ _ (c .unfinished2 .result) (none-left _ (b .plannable) (b .few) (s .args .budget) (s .pre .2) (s .args .g) (x .result) (x .ensures) (c .before .if2 .taken)) (c .unfinished2 .ensures .0) (c .unfinished2 .ensures .1)
 
-cast-k : tie.Need-cast-k
-cast-k c = search needs
-
 sub-kept : tie.Need-sub-kept
 sub-kept c = component-range _ _ _ (c .before .before .before .before .before .before .before .before .before .before .before .pre .0) .0
 
 kept-requires : tie.Need-kept-requires
 kept-requires c κs = let k = component-range _ _ _ (c .before .before .before .before .before .before .before .before .before .before .before .pre .0) .1 in omega arith
-
-unfinished-requires-3 : tie.Need-unfinished-requires-3
-unfinished-requires-3 c κs = search needs
 
 returns-3 : tie.Need-returns-3
 returns-3 c =
@@ -90,9 +72,6 @@ last-requires c κs =
     let lh : length (r .heads) ≡ 8 = length-unmapped ℕ (r .heads) 8 (x .ok .1 .1 .1 .1 .0 .1 .0 .1) in
     (s .pre .0, after-tree p (b .plannable) (b .few) (s .args .budget) (s .pre .2) g r h lt lh i some, after-small p (b .plannable) (b .few) (s .args .budget) (s .pre .2) g r h lt lh i some, s .pre .3, s .pre .4)
 
-same-length : tie.Need-same-length
-same-length c = search needs
-
 returns-4 : tie.Need-returns-4
 returns-4 c =
     let s = c .before .before .before .before .before .before .before .before .before .before .before .before .before in
@@ -114,17 +93,17 @@ pub turn-prepared-spec : {M : Type 1} → statement M
 turn-prepared-spec =
     tie.close
     (tie.spec
-    is-holding-requires
-    unfinished-requires
+    (λ c κs. search needs)
+    (λ c κs. search needs)
     returns
-    resume-requires
-    unfinished-requires-2
+    (λ c κs. search needs)
+    (λ c κs. search needs)
     returns-2
-    cast-k
+    (λ c. search needs)
     sub-kept
     kept-requires
-    unfinished-requires-3
+    (λ c κs. search needs)
     returns-3
     last-requires
-    same-length
+    (λ c. search needs)
     returns-4)

@@ -8,12 +8,6 @@ use borrow.Author.Needs.{needs}
 use Rattle.district_turn.proofs.plan_turn.turn_read.Statement.{statement}
 use Rattle.district_turn.proofs.plan_turn.turn_read.Tie as tie
 
-table-requires : tie.Need-table-requires
-table-requires c κs = search needs
-
-table-of-requires : tie.Need-table-of-requires
-table-of-requires c κs = search needs
-
 turn-tabled-requires : tie.Need-turn-tabled-requires
 turn-tabled-requires c κs =
     let s = c .before .before .before .before .before .before .before in
@@ -23,11 +17,8 @@ turn-tabled-requires c κs =
     let long : length (t .result) ≡ 64 = t .ok .1 .0 .1 in
     ((s .pre .0, table-is _ (t .result) long (λ i l. rows (t .result) (t .ok .0) (t .ok .1 .1) i (omega arith)) d, w .ensures), (s .pre .1, s .pre .2, s .pre .3))
 
-same-length : tie.Need-same-length
-same-length c = search needs
-
 returns : tie.Need-returns
 returns c = c .before .before .turn-tabled .ensures
 
 pub turn-read-spec : {M : Type 1} → statement M
-turn-read-spec = tie.close (tie.spec table-requires table-of-requires turn-tabled-requires same-length returns)
+turn-read-spec = tie.close (tie.spec (λ c κs. search needs) (λ c κs. search needs) turn-tabled-requires (λ c. search needs) returns)

@@ -13,9 +13,6 @@ turn-measured-requires c κs =
     let s = c .before .before .before in
     (record { well-formed = s .pre .0 .0; distances = s .pre .0 .1; network = c .before .network-of .ensures }, s .pre .1 .0, s .pre .1 .1, s .pre .0 .2, s .pre .1 .2)
 
-same-length : tie.Need-same-length
-same-length c = search needs
-
 returns : tie.Need-returns
 returns c =
     let n = c .before .before .before .before .network-of in
@@ -23,4 +20,4 @@ returns c =
     rw (measured-refusal _ (n .result) (n .ensures)) at t
 
 pub turn-tabled-spec : {M : Type 1} → statement M
-turn-tabled-spec = tie.close (tie.spec network-of-requires turn-measured-requires same-length returns)
+turn-tabled-spec = tie.close (tie.spec network-of-requires turn-measured-requires (λ c. search needs) returns)

@@ -6,12 +6,6 @@ use borrow.Author.Needs.{needs}
 use Rattle.districts.proofs.turn.left.Statement.{statement}
 use Rattle.districts.proofs.turn.left.Tie as tie
 
-sub-n : tie.Need-sub-n
-sub-n c = search needs
-
-lined-up-requires : tie.Need-lined-up-requires
-lined-up-requires c κs = search needs
-
 returns : tie.Need-returns
 returns c =
     let s = c .before .before .before in
@@ -19,4 +13,4 @@ returns c =
     others-are (s .args .m) (c .lined-up .result) long (s .pre .0) (s .pre .1) (c .lined-up .ensures)
 
 pub left-spec : {M : Type 1} → statement M
-left-spec = tie.close (tie.spec sub-n lined-up-requires returns)
+left-spec = tie.close (tie.spec (λ c. search needs) (λ c κs. search needs) returns)

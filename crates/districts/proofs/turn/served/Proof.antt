@@ -12,20 +12,11 @@ use borrow.Author.Needs.{needs}
 use Rattle.districts.proofs.turn.served.Statement.{statement}
 use Rattle.districts.proofs.turn.served.Tie as tie
 
-stuck-requires : tie.Need-stuck-requires
-stuck-requires c κs = search needs
-
 returns : tie.Need-returns
 returns c = is-stuck _ _ _ _ _ _ (too-long _ (c .before .if1 .taken)) (c .stuck .ensures .0) (c .stuck .ensures .1)
 
-stuck-requires-2 : tie.Need-stuck-requires-2
-stuck-requires-2 c κs = search needs
-
 returns-2 : tie.Need-returns-2
 returns-2 c = is-stuck _ _ _ _ _ _ (too-dear _ (c .before .if2 .taken)) (c .stuck2 .ensures .0) (c .stuck2 .ensures .1)
-
-stuck-requires-3 : tie.Need-stuck-requires-3
-stuck-requires-3 c κs = search needs
 
 returns-3 : tie.Need-returns-3
 returns-3 c = is-stuck _ _ _ _ _ _ (all-tried _ (c .before .if3 .taken)) (c .stuck3 .ensures .0) (c .stuck3 .ensures .1)
@@ -45,18 +36,6 @@ slice-aggregate-read-plan c =
     let n = length-take (s .args .d .length) (s .args .d .bytes) in
     omega arith
 
-read-plan-requires : tie.Need-read-plan-requires
-read-plan-requires c κs = search needs
-
-enum-known-verdict : tie.Need-enum-known-verdict
-enum-known-verdict c = search needs
-
-stuck-requires-4 : tie.Need-stuck-requires-4
-stuck-requires-4 c κs = search needs
-
-enum-told : tie.Need-enum-told
-enum-told c = search needs
-
 turn-read-requires : tie.Need-turn-read-requires
 turn-read-requires c κs =
     let r = c .before .before .before .before .read-plan in
@@ -70,9 +49,6 @@ returns-4 c =
     let r = c .before .before .before .before .before .read-plan in
     let v = sym (r .ensures .verdict) ∙ ap verdictNumber (c .before .before .verdict .given .1) in
     is-stuck _ _ _ _ _ _ (unread _ _ v) (c .stuck4 .ensures .0) (c .stuck4 .ensures .1)
-
-same-length : tie.Need-same-length
-same-length c = search needs
 
 returns-5 : tie.Need-returns-5
 returns-5 c =
@@ -88,19 +64,19 @@ pub served-spec : {M : Type 1} → statement M
 served-spec =
     tie.close
     (tie.spec
-    stuck-requires
+    (λ c κs. search needs)
     returns
-    stuck-requires-2
+    (λ c κs. search needs)
     returns-2
-    stuck-requires-3
+    (λ c κs. search needs)
     returns-3
     array-share-prefix-bytes
     slice-aggregate-read-plan
-    read-plan-requires
-    enum-known-verdict
-    stuck-requires-4
-    enum-told
+    (λ c κs. search needs)
+    (λ c. search needs)
+    (λ c κs. search needs)
+    (λ c. search needs)
     turn-read-requires
     returns-4
-    same-length
+    (λ c. search needs)
     returns-5)

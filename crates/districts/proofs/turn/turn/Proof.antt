@@ -14,24 +14,12 @@ use borrow.Author.Needs.{needs}
 use Rattle.districts.proofs.turn.turn.Statement.{statement}
 use Rattle.districts.proofs.turn.turn.Tie as tie
 
-so-far-requires : tie.Need-so-far-requires
-so-far-requires c κs = search needs
-
-still-requires : tie.Need-still-requires
-still-requires c κs = search needs
-
 returns : tie.Need-returns
 returns c =
     let s = c .before .before .before .before in
     let m = s .args .m in
     let long : length (s .args .m .line) ≡ 8 = array-length _ (s .args .m .line) 8 (s .good .0 .1 .1 .0 .1 .0 .1) in
     turned-as m _ _ (c .still .result) nobody (none-met m _ (c .before .if1 .taken)) (c .still .ensures .0) (c .still .ensures .1 ∙ c .before .before .so-far .ensures) (c .still .ensures .2) refl
-
-refused-requires : tie.Need-refused-requires
-refused-requires c κs = search needs
-
-still-requires-2 : tie.Need-still-requires-2
-still-requires-2 c κs = search needs
 
 returns-2 : tie.Need-returns-2
 unfolding sheetPlaces
@@ -45,9 +33,6 @@ returns-2 c =
     let ahead = ahead-is m long some in
     turned-as m _ _ (c .still2 .result) shortSheet (short-met m f ds ahead _ (c .before .before .if2 .taken)) (c .still2 .ensures .0) (c .still2 .ensures .1 ∙ c .before .refused .ensures) (c .still2 .ensures .2) refl
 
-still-requires-3 : tie.Need-still-requires-3
-still-requires-3 c κs = search needs
-
 returns-3 : tie.Need-returns-3
 unfolding sheetPlaces
 returns-3 c =
@@ -60,12 +45,6 @@ returns-3 c =
     let ahead = ahead-is m long some in
     turned-as m _ _ (c .still3 .result) stuck (crowd-met m f ds ahead _ (c .before .before .if2 .left) (c .before .if3 .taken)) (c .still3 .ensures .0) (c .still3 .ensures .1 ∙ c .before .before .before .before .so-far .ensures) (c .still3 .ensures .2) refl
 
-array-copy-out-d : tie.Need-array-copy-out-d
-array-copy-out-d c = search needs
-
-left-requires : tie.Need-left-requires
-left-requires c κs = search needs
-
 has-own-place-requires : tie.Need-has-own-place-requires
 has-own-place-requires c κs =
     let s = c .before .before .before .before .before .before .before .before in
@@ -75,9 +54,6 @@ has-own-place-requires c κs =
     let most : m .waiting ≤ 8 = c .before .before .before .if3 .left in
     let l = others-few m (c .left .result) long some most (c .left .ensures) in
     omega arith
-
-still-requires-4 : tie.Need-still-requires-4
-still-requires-4 c κs = search needs
 
 returns-4 : tie.Need-returns-4
 unfolding sheetPlaces
@@ -96,12 +72,6 @@ returns-4 c =
 served-requires : tie.Need-served-requires
 unfolding sheetPlaces
 served-requires c κs = c .before .before .before .before .before .before .before .if2 .left
-
-still-requires-5 : tie.Need-still-requires-5
-still-requires-5 c κs = search needs
-
-same-length : tie.Need-same-length
-same-length c = search needs
 
 returns-5 : tie.Need-returns-5
 unfolding sheetPlaces
@@ -126,9 +96,6 @@ after-requires c κs =
     let most : m .waiting ≤ 8 = c .before .before .before .before .before .before .before .before .before .before .before .if3 .left in
     others-few m (c .before .before .before .before .before .before .before .before .left .result) long some most (c .before .before .before .before .before .before .before .before .left .ensures)
 
-same-length-2 : tie.Need-same-length-2
-same-length-2 c = search needs
-
 returns-6 : tie.Need-returns-6
 unfolding sheetPlaces
 returns-6 c =
@@ -150,23 +117,23 @@ pub turn-spec : {M : Type 1} → statement M
 turn-spec =
     tie.close
     (tie.spec
-    so-far-requires
-    still-requires
+    (λ c κs. search needs)
+    (λ c κs. search needs)
     returns
-    refused-requires
-    still-requires-2
+    (λ c κs. search needs)
+    (λ c κs. search needs)
     returns-2
-    still-requires-3
+    (λ c κs. search needs)
     returns-3
-    array-copy-out-d
-    left-requires
+    (λ c. search needs)
+    (λ c κs. search needs)
     has-own-place-requires
-    still-requires-4
+    (λ c κs. search needs)
     returns-4
     served-requires
-    still-requires-5
-    same-length
+    (λ c κs. search needs)
+    (λ c. search needs)
     returns-5
     after-requires
-    same-length-2
+    (λ c. search needs)
     returns-6)

@@ -7,9 +7,6 @@ use borrow.Author.Needs.{needs}
 use Rattle.drive_output.proofs.output.flush.Statement.{statement}
 use Rattle.drive_output.proofs.output.flush.Tie as tie
 
-array-share-prefix-space : tie.Need-array-share-prefix-space
-array-share-prefix-space c = search needs
-
 slice-aggregate-write : tie.Need-slice-aggregate-write
 slice-aggregate-write c =
     let s = c .before in
@@ -17,13 +14,7 @@ slice-aggregate-write c =
     let few = s .pre in
     sym (length-take-le (s .args .waiting) (s .args .t1) (omega arith))
 
-write-requires : tie.Need-write-requires
-write-requires c κs = search needs
-
-returns : tie.Need-returns
-returns c = search needs
-
 pub flush-spec : {M : Type 1} → statement M
 flush-spec =
     tie.close
-    (tie.spec array-share-prefix-space slice-aggregate-write write-requires returns)
+    (tie.spec (λ c. search needs) slice-aggregate-write (λ c κs. search needs) (λ c. search needs))

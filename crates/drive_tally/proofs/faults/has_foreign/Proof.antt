@@ -19,17 +19,8 @@ abbrev μ-loop : tie.MeasureT-loop
 loop-holds : tie.Need-loop-holds Inv-loop μ-loop
 loop-holds c = (refl, omega arith, refl)
 
-mul-is-foreign : tie.Need-mul-is-foreign Inv-loop μ-loop
-mul-is-foreign c = search needs
-
-shared-slice-read-is-foreign : tie.Need-shared-slice-read-is-foreign Inv-loop μ-loop
-shared-slice-read-is-foreign c = search needs
-
 cast-is-foreign : tie.Need-cast-is-foreign Inv-loop μ-loop
 cast-is-foreign c = omega (arith, c .shared-slice-known2 .given (c .before .before .loop .i))
-
-is-foreign-requires : tie.Need-is-foreign-requires Inv-loop μ-loop
-is-foreign-requires c κs = search needs
 
 returns : tie.Need-returns Inv-loop μ-loop
 unfolding hasForeign
@@ -37,12 +28,6 @@ returns c =
     let v = c .before .before .before .before in
     let s = v .before .before .args in
     one-found (isForeign (planOver (s .arcs .now))) (s .places .now) (v .loop .i) (omega arith) (v .loop .inv .2) (sym (c .before .is-foreign .ensures) ∙ c .if1 .taken)
-
-add-i : tie.Need-add-i Inv-loop μ-loop
-add-i c = search needs
-
-loop-less : tie.Need-loop-less Inv-loop μ-loop
-loop-less c = search needs
 
 loop-again : tie.Need-loop-again Inv-loop μ-loop
 loop-again c =
@@ -65,12 +50,12 @@ has-foreign-spec =
     Inv-loop
     μ-loop
     loop-holds
-    mul-is-foreign
-    shared-slice-read-is-foreign
+    (λ c. search needs)
+    (λ c. search needs)
     cast-is-foreign
-    is-foreign-requires
+    (λ c κs. search needs)
     returns
-    add-i
-    loop-less
+    (λ c. search needs)
+    (λ c. search needs)
     loop-again
     returns-2)

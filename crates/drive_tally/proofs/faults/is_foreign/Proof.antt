@@ -7,17 +7,8 @@ use Rattle.drive_tally.proofs.faults.is_foreign.Tie as tie
 returns : tie.Need-returns
 returns c = foreign-past (c .before .args .arcs .now) (c .before .args .k) (c .if1 .taken)
 
-mul-result : tie.Need-mul-result
-mul-result c = search needs
-
-index-1-result : tie.Need-index-1-result
-index-1-result c = search needs
-
-index-2-result : tie.Need-index-2-result
-index-2-result c = search needs
-
 returns-2 : tie.Need-returns-2
 returns-2 c = foreign-row (c .before .before .args .arcs .now) (c .before .before .args .k) (c .before .if1 .left)
 
 pub is-foreign-spec : {M : Type 1} → statement M
-is-foreign-spec = tie.close (tie.spec returns mul-result index-1-result index-2-result returns-2)
+is-foreign-spec = tie.close (tie.spec returns (λ c. search needs) (λ c. search needs) (λ c. search needs) returns-2)

@@ -22,9 +22,6 @@ abbrev μ-loop : tie.MeasureT-loop
 returns : tie.Need-returns Inv-loop μ-loop
 returns c = no-gap-none (planOver (c .before .args .arcs .now)) (c .before .args .places .now) (c .if1 .taken)
 
-shared-slice-read-first : tie.Need-shared-slice-read-first Inv-loop μ-loop
-shared-slice-read-first c = search needs
-
 cast-first : tie.Need-cast-first Inv-loop μ-loop
 cast-first c = omega (arith, c .shared-slice-known .given 0)
 
@@ -38,9 +35,6 @@ index-1-start c =
     let s = c .before .before in
     omega (arith, place-row (s .args .arcs .now) (s .args .places .now) (s .pre) 0 (omega arith))
 
-index-2-start : tie.Need-index-2-start Inv-loop μ-loop
-index-2-start c = search needs
-
 mul-v : tie.Need-mul-v Inv-loop μ-loop
 mul-v c =
     let s = c .before .before .before in
@@ -51,9 +45,6 @@ index-1-v c =
     let s = c .before .before .before in
     omega (arith, place-row (s .args .arcs .now) (s .args .places .now) (s .pre) 0 (omega arith))
 
-index-2-v : tie.Need-index-2-v Inv-loop μ-loop
-index-2-v c = search needs
-
 loop-holds : tie.Need-loop-holds Inv-loop μ-loop
 loop-holds c =
     let s = c .before .before .before .before in
@@ -61,12 +52,6 @@ loop-holds c =
     let w = s .args .places .now in
     let l : 0 < length w = omega arith in
     (refl, omega arith, omega arith, subst (λ v. NoGapBefore p w v 1) (ap (λ (a : Arc). a .head) (place-arc (s .args .arcs .now) w (s .pre) 0 l)) (no-gap-start p w l))
-
-mul-k : tie.Need-mul-k Inv-loop μ-loop
-mul-k c = search needs
-
-shared-slice-read-k : tie.Need-shared-slice-read-k Inv-loop μ-loop
-shared-slice-read-k c = search needs
 
 cast-k : tie.Need-cast-k Inv-loop μ-loop
 cast-k c = omega (arith, c .shared-slice-known2 .given (c .before .before .loop .i))
@@ -84,9 +69,6 @@ index-1-if2 c =
     let s = c .before .before .before .before .before .before .before in
     let e = v .loop .inv .0 in
     omega (arith, place-row (s .args .arcs .now) (s .args .places .now) (s .pre) (v .loop .i) (omega arith))
-
-index-2-if2 : tie.Need-index-2-if2 Inv-loop μ-loop
-index-2-if2 c = search needs
 
 returns-2 : tie.Need-returns-2 Inv-loop μ-loop
 returns-2 c =
@@ -110,15 +92,6 @@ index-1-v-2 c =
     let s = c .before .before .before .before .before .before .before .before .before in
     let e = v .loop .inv .0 in
     omega (arith, place-row (s .args .arcs .now) (s .args .places .now) (s .pre) (v .loop .i) (omega arith))
-
-index-2-v-2 : tie.Need-index-2-v-2 Inv-loop μ-loop
-index-2-v-2 c = search needs
-
-add-i : tie.Need-add-i Inv-loop μ-loop
-add-i c = search needs
-
-loop-less : tie.Need-loop-less Inv-loop μ-loop
-loop-less c = search needs
 
 loop-again : tie.Need-loop-again Inv-loop μ-loop
 loop-again c =
@@ -149,26 +122,26 @@ is-unjoined-spec =
     Inv-loop
     μ-loop
     returns
-    shared-slice-read-first
+    (λ c. search needs)
     cast-first
     mul-start
     index-1-start
-    index-2-start
+    (λ c. search needs)
     mul-v
     index-1-v
-    index-2-v
+    (λ c. search needs)
     loop-holds
-    mul-k
-    shared-slice-read-k
+    (λ c. search needs)
+    (λ c. search needs)
     cast-k
     mul-if2
     index-1-if2
-    index-2-if2
+    (λ c. search needs)
     returns-2
     mul-v-2
     index-1-v-2
-    index-2-v-2
-    add-i
-    loop-less
+    (λ c. search needs)
+    (λ c. search needs)
+    (λ c. search needs)
     loop-again
     returns-3)

@@ -19,12 +19,6 @@ abbrev μ-loop : tie.MeasureT-loop
 loop-holds : tie.Need-loop-holds Inv-loop μ-loop
 loop-holds c = (refl, omega arith, tallied-start (planOver (c .before .args .arcs .now)) (c .before .args .places .now) _ (c .before .pre .1 .2))
 
-mul-k : tie.Need-mul-k Inv-loop μ-loop
-mul-k c = search needs
-
-shared-slice-read-k : tie.Need-shared-slice-read-k Inv-loop μ-loop
-shared-slice-read-k c = search needs
-
 cast-k : tie.Need-cast-k Inv-loop μ-loop
 cast-k c = omega (arith, c .shared-slice-known2 .given (c .before .before .loop .i))
 
@@ -42,9 +36,6 @@ index-1-pass-cost c =
     let e = v .inv .0 in
     omega (arith, place-row (s .args .arcs .now) (s .args .places .now) (s .pre .0) (v .i) (omega arith))
 
-index-2-pass-cost : tie.Need-index-2-pass-cost Inv-loop μ-loop
-index-2-pass-cost c = search needs
-
 mul-pass-cost-2 : tie.Need-mul-pass-cost-2 Inv-loop μ-loop
 mul-pass-cost-2 c =
     let v = c .before .before .before .loop in
@@ -59,18 +50,12 @@ index-1-pass-cost-2 c =
     let e = v .inv .0 in
     omega (arith, place-row (s .args .arcs .now) (s .args .places .now) (s .pre .0) (v .i) (omega arith))
 
-index-2-pass-cost-2 : tie.Need-index-2-pass-cost-2 Inv-loop μ-loop
-index-2-pass-cost-2 c = search needs
-
 array-read-pass-cost : tie.Need-array-read-pass-cost Inv-loop μ-loop
 array-read-pass-cost c =
     let v = c .before .before .before .before .loop in
     let s = c .before .before .before .before .before .before in
     let e = v .inv .0 in
     omega (arith, place-row (s .args .arcs .now) (s .args .places .now) (s .pre .0) (v .i) (omega arith), s .pre .1 .0, v .inv .2 .flags-are .long)
-
-pass-cost-requires : tie.Need-pass-cost-requires Inv-loop μ-loop
-pass-cost-requires c κs = search needs
 
 add-cost : tie.Need-add-cost Inv-loop μ-loop
 add-cost c =
@@ -87,12 +72,6 @@ array-write-due c =
     let s = c .before .before .before .before .before .before .before in
     let e = v .inv .0 in
     omega (arith, place-row (s .args .arcs .now) (s .args .places .now) (s .pre .0) (v .i) (omega arith), s .pre .1 .0, v .inv .2 .flags-are .long)
-
-add-i : tie.Need-add-i Inv-loop μ-loop
-add-i c = search needs
-
-loop-less : tie.Need-loop-less Inv-loop μ-loop
-loop-less c = search needs
 
 loop-again : tie.Need-loop-again Inv-loop μ-loop
 loop-again c =
@@ -118,20 +97,20 @@ priced-spec =
     Inv-loop
     μ-loop
     loop-holds
-    mul-k
-    shared-slice-read-k
+    (λ c. search needs)
+    (λ c. search needs)
     cast-k
     mul-pass-cost
     index-1-pass-cost
-    index-2-pass-cost
+    (λ c. search needs)
     mul-pass-cost-2
     index-1-pass-cost-2
-    index-2-pass-cost-2
+    (λ c. search needs)
     array-read-pass-cost
-    pass-cost-requires
+    (λ c κs. search needs)
     add-cost
     array-write-due
-    add-i
-    loop-less
+    (λ c. search needs)
+    (λ c. search needs)
     loop-again
     returns)

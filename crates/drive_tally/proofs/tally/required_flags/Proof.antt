@@ -17,24 +17,6 @@ abbrev μ-loop : tie.MeasureT-loop
 loop-holds : tie.Need-loop-holds Inv-loop μ-loop
 loop-holds c = (refl, omega arith, none-flagged (c .args .arcs .now))
 
-mul-due : tie.Need-mul-due Inv-loop μ-loop
-mul-due c = search needs
-
-index-1-due : tie.Need-index-1-due Inv-loop μ-loop
-index-1-due c = search needs
-
-index-2-due : tie.Need-index-2-due Inv-loop μ-loop
-index-2-due c = search needs
-
-array-write-due : tie.Need-array-write-due Inv-loop μ-loop
-array-write-due c = search needs
-
-add-k : tie.Need-add-k Inv-loop μ-loop
-add-k c = search needs
-
-loop-less : tie.Need-loop-less Inv-loop μ-loop
-loop-less c = search needs
-
 loop-again : tie.Need-loop-again Inv-loop μ-loop
 loop-again c =
     let v = c .before .before .loop in
@@ -56,11 +38,11 @@ required-flags-spec =
     Inv-loop
     μ-loop
     loop-holds
-    mul-due
-    index-1-due
-    index-2-due
-    array-write-due
-    add-k
-    loop-less
+    (λ c. search needs)
+    (λ c. search needs)
+    (λ c. search needs)
+    (λ c. search needs)
+    (λ c. search needs)
+    (λ c. search needs)
     loop-again
     returns)

@@ -18,21 +18,6 @@ abbrev μ-loop : tie.MeasureT-loop
 loop-holds : tie.Need-loop-holds Inv-loop μ-loop
 loop-holds c = (refl, paste-start _ _ _ _ (omega arith) (c .pre))
 
-shared-slice-read-lent : tie.Need-shared-slice-read-lent Inv-loop μ-loop
-shared-slice-read-lent c = search needs
-
-add-lent : tie.Need-add-lent Inv-loop μ-loop
-add-lent c = search needs
-
-slice-write-lent : tie.Need-slice-write-lent Inv-loop μ-loop
-slice-write-lent c = search needs
-
-add-i : tie.Need-add-i Inv-loop μ-loop
-add-i c = search needs
-
-loop-less : tie.Need-loop-less Inv-loop μ-loop
-loop-less c = search needs
-
 loop-again : tie.Need-loop-again Inv-loop μ-loop
 loop-again c = let i = c .before .before .loop .inv in (i .0, paste-more _ _ _ _ 0 _ _ _ _ refl refl (omega arith) (i .1))
 
@@ -51,11 +36,11 @@ put-bytes-spec =
     Inv-loop
     μ-loop
     loop-holds
-    shared-slice-read-lent
-    add-lent
-    slice-write-lent
-    add-i
-    loop-less
+    (λ c. search needs)
+    (λ c. search needs)
+    (λ c. search needs)
+    (λ c. search needs)
+    (λ c. search needs)
     loop-again
     same-length
     returns)

@@ -4,24 +4,6 @@ use borrow.Author.Needs.{needs}
 use Rattle.encoding.proofs.number_bytes.put_word.Statement.{statement}
 use Rattle.encoding.proofs.number_bytes.put_word.Tie as tie
 
-cast-put-number : tie.Need-cast-put-number
-cast-put-number c = search needs
-
-put-number-requires : tie.Need-put-number-requires
-put-number-requires c κs = search needs
-
-add-put-number : tie.Need-add-put-number
-add-put-number c = search needs
-
-cast-put-number-2 : tie.Need-cast-put-number-2
-cast-put-number-2 c = search needs
-
-put-number-requires-2 : tie.Need-put-number-requires-2
-put-number-requires-2 c κs = search needs
-
-same-length : tie.Need-same-length
-same-length c = search needs
-
 returns : tie.Need-returns
 returns c = let s = c .before .before .before .before .before .before .before .before .before in put-word _ _ (s .args .k) (s .pre) _ _ (c .before .before .before .before .before .before .put-number .ensures) (c .before .before .put-number2 .ensures)
 
@@ -29,10 +11,10 @@ pub put-word-spec : {M : Type 1} → statement M
 put-word-spec =
     tie.close
     (tie.spec
-    cast-put-number
-    put-number-requires
-    add-put-number
-    cast-put-number-2
-    put-number-requires-2
-    same-length
+    (λ c. search needs)
+    (λ c κs. search needs)
+    (λ c. search needs)
+    (λ c. search needs)
+    (λ c κs. search needs)
+    (λ c. search needs)
     returns)

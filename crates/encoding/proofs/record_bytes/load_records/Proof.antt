@@ -18,35 +18,11 @@ Inv-loop lent count arcs₀ k₀ arcs k = (k ≤ count) × (count ≤ 256) × (c
 abbrev μ-loop : tie.MeasureT-loop
 μ-loop lent count arcs₀ k₀ arcs k = count - k
 
-at-most-requires : tie.Need-at-most-requires Inv-loop μ-loop
-at-most-requires c κs = search needs
-
-no-records-requires : tie.Need-no-records-requires Inv-loop μ-loop
-no-records-requires c κs = search needs
-
 loop-holds : tie.Need-loop-holds Inv-loop μ-loop
 loop-holds c =
     let n = length (c .before .before .before .args .lent .now) / 7 in
     let e = c .before .at-most .ensures in
     (omega arith, omega (arith, e, at-most-le n 256), omega (arith, e, at-most-fits n 256), refl)
-
-mul-record-at : tie.Need-mul-record-at Inv-loop μ-loop
-mul-record-at c = search needs
-
-record-at-requires : tie.Need-record-at-requires Inv-loop μ-loop
-record-at-requires c κs = search needs
-
-mul-arcs : tie.Need-mul-arcs Inv-loop μ-loop
-mul-arcs c = search needs
-
-array-set-from-arcs : tie.Need-array-set-from-arcs Inv-loop μ-loop
-array-set-from-arcs c = search needs
-
-add-k : tie.Need-add-k Inv-loop μ-loop
-add-k c = search needs
-
-loop-less : tie.Need-loop-less Inv-loop μ-loop
-loop-less c = search needs
 
 loop-again : tie.Need-loop-again Inv-loop μ-loop
 loop-again c =
@@ -74,14 +50,14 @@ load-records-spec =
     (tie.spec
     Inv-loop
     μ-loop
-    at-most-requires
-    no-records-requires
+    (λ c κs. search needs)
+    (λ c κs. search needs)
     loop-holds
-    mul-record-at
-    record-at-requires
-    mul-arcs
-    array-set-from-arcs
-    add-k
-    loop-less
+    (λ c. search needs)
+    (λ c κs. search needs)
+    (λ c. search needs)
+    (λ c. search needs)
+    (λ c. search needs)
+    (λ c. search needs)
     loop-again
     returns)

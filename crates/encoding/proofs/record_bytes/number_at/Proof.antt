@@ -5,17 +5,8 @@ use borrow.Author.Needs.{needs}
 use Rattle.encoding.proofs.record_bytes.number_at.Statement.{statement}
 use Rattle.encoding.proofs.record_bytes.number_at.Tie as tie
 
-shared-slice-read-high : tie.Need-shared-slice-read-high
-shared-slice-read-high c = search needs
-
 cast-high : tie.Need-cast-high
 cast-high c = omega (arith, c .shared-slice-known .given (c .before .args .at))
-
-add-low : tie.Need-add-low
-add-low c = search needs
-
-shared-slice-read-low : tie.Need-shared-slice-read-low
-shared-slice-read-low c = search needs
 
 cast-low : tie.Need-cast-low
 cast-low c = omega (arith, c .shared-slice-known2 .given (c .before .before .args .at + 1))
@@ -26,18 +17,15 @@ mul-result c = omega (arith, c .shared-slice-known2 .given (c .before .before .a
 add-result : tie.Need-add-result
 add-result c = omega (arith, c .shared-slice-known2 .given (c .before .before .args .at), c .shared-slice-known2 .given (c .before .before .args .at + 1))
 
-returns : tie.Need-returns
-returns c = search needs
-
 pub number-at-spec : {M : Type 1} → statement M
 number-at-spec =
     tie.close
     (tie.spec
-    shared-slice-read-high
+    (λ c. search needs)
     cast-high
-    add-low
-    shared-slice-read-low
+    (λ c. search needs)
+    (λ c. search needs)
     cast-low
     mul-result
     add-result
-    returns)
+    (λ c. search needs))

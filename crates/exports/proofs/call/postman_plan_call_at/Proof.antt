@@ -4,21 +4,6 @@ use borrow.Author.Needs.{needs}
 use Rattle.exports.proofs.call.postman_plan_call_at.Statement.{statement}
 use Rattle.exports.proofs.call.postman_plan_call_at.Tie as tie
 
-plan-call-at-requires : tie.Need-plan-call-at-requires
-plan-call-at-requires c κs = search needs
-
-hand-over-requires : tie.Need-hand-over-requires
-hand-over-requires c κs = search needs
-
-same-length : tie.Need-same-length
-same-length c = search needs
-
-same-length-2 : tie.Need-same-length-2
-same-length-2 c = search needs
-
-same-length-3 : tie.Need-same-length-3
-same-length-3 c = search needs
-
 returns : tie.Need-returns
 returns c =
     let r = c .before .before .before .before .before .before .before .before .plan-call-at in
@@ -28,9 +13,9 @@ pub postman-plan-call-at-spec : {M : Type 1} → statement M
 postman-plan-call-at-spec =
     tie.close
     (tie.spec
-    plan-call-at-requires
-    hand-over-requires
-    same-length
-    same-length-2
-    same-length-3
+    (λ c κs. search needs)
+    (λ c κs. search needs)
+    (λ c. search needs)
+    (λ c. search needs)
+    (λ c. search needs)
     returns)

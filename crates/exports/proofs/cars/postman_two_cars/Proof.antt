@@ -6,36 +6,6 @@ use borrow.Author.Needs.{needs}
 use Rattle.exports.proofs.cars.postman_two_cars.Statement.{statement}
 use Rattle.exports.proofs.cars.postman_two_cars.Tie as tie
 
-two-cars-requires : tie.Need-two-cars-requires
-two-cars-requires c κs = search needs
-
-hand-over-requires : tie.Need-hand-over-requires
-hand-over-requires c κs = search needs
-
-hand-over-requires-2 : tie.Need-hand-over-requires-2
-hand-over-requires-2 c κs = search needs
-
-cars-number-requires : tie.Need-cars-number-requires
-cars-number-requires c κs = search needs
-
-same-length : tie.Need-same-length
-same-length c = search needs
-
-same-length-2 : tie.Need-same-length-2
-same-length-2 c = search needs
-
-same-length-3 : tie.Need-same-length-3
-same-length-3 c = search needs
-
-same-length-4 : tie.Need-same-length-4
-same-length-4 c = search needs
-
-same-length-5 : tie.Need-same-length-5
-same-length-5 c = search needs
-
-same-length-6 : tie.Need-same-length-6
-same-length-6 c = search needs
-
 returns : tie.Need-returns
 returns c =
     let b = c .before .before .before .before in
@@ -53,14 +23,14 @@ pub postman-two-cars-spec : {M : Type 1} → statement M
 postman-two-cars-spec =
     tie.close
     (tie.spec
-    two-cars-requires
-    hand-over-requires
-    hand-over-requires-2
-    cars-number-requires
-    same-length
-    same-length-2
-    same-length-3
-    same-length-4
-    same-length-5
-    same-length-6
+    (λ c κs. search needs)
+    (λ c κs. search needs)
+    (λ c κs. search needs)
+    (λ c κs. search needs)
+    (λ c. search needs)
+    (λ c. search needs)
+    (λ c. search needs)
+    (λ c. search needs)
+    (λ c. search needs)
+    (λ c. search needs)
     returns)

@@ -12,27 +12,12 @@ use borrow.Author.Needs.{needs}
 use Rattle.file_exports.proofs.codec.postman_read_plan.Statement.{statement}
 use Rattle.file_exports.proofs.codec.postman_read_plan.Tie as tie
 
-read-plan-requires : tie.Need-read-plan-requires
-read-plan-requires c κs = search needs
-
-room-answer-requires : tie.Need-room-answer-requires
-room-answer-requires c κs = search needs
-
-arcs-read-requires : tie.Need-arcs-read-requires
-arcs-read-requires c κs = search needs
-
 store-arcs-requires : tie.Need-store-arcs-requires
 store-arcs-requires c κs =
     let a = c .before .before .before .before .before .before .before .before .args in
     let p = c .before .before .before .before .before .read-plan in
     let r = c .before .before .before .before .room-answer in
     rw (c .before .arcs-read .ensures) (lent-room (a .plan .now) (a .records .now) (p .result) (p .ensures) (r .result) (r .ensures))
-
-read-number-requires : tie.Need-read-number-requires
-read-number-requires c κs = search needs
-
-same-length : tie.Need-same-length
-same-length c = search needs
 
 returns : tie.Need-returns
 returns c =
@@ -53,10 +38,10 @@ pub postman-read-plan-spec : {M : Type 1} → statement M
 postman-read-plan-spec =
     tie.close
     (tie.spec
-    read-plan-requires
-    room-answer-requires
-    arcs-read-requires
+    (λ c κs. search needs)
+    (λ c κs. search needs)
+    (λ c κs. search needs)
     store-arcs-requires
-    read-number-requires
-    same-length
+    (λ c κs. search needs)
+    (λ c. search needs)
     returns)

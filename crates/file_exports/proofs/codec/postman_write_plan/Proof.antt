@@ -7,23 +7,8 @@ use borrow.Author.Needs.{needs}
 use Rattle.file_exports.proofs.codec.postman_write_plan.Statement.{statement}
 use Rattle.file_exports.proofs.codec.postman_write_plan.Tie as tie
 
-load-records-requires : tie.Need-load-records-requires
-load-records-requires c κs = search needs
-
-edition-of-requires : tie.Need-edition-of-requires
-edition-of-requires c κs = search needs
-
-vertices-of-requires : tie.Need-vertices-of-requires
-vertices-of-requires c κs = search needs
-
-write-arcs-requires : tie.Need-write-arcs-requires
-write-arcs-requires c κs = search needs
-
 written-number-requires : tie.Need-written-number-requires
 written-number-requires c κs = λ k e. length-small _ _ _ k (sym e ∙ c .before .before .write-arcs .ensures .0)
-
-same-length : tie.Need-same-length
-same-length c = search needs
 
 returns : tie.Need-returns
 returns c =
@@ -40,10 +25,10 @@ pub postman-write-plan-spec : {M : Type 1} → statement M
 postman-write-plan-spec =
     tie.close
     (tie.spec
-    load-records-requires
-    edition-of-requires
-    vertices-of-requires
-    write-arcs-requires
+    (λ c κs. search needs)
+    (λ c κs. search needs)
+    (λ c κs. search needs)
+    (λ c κs. search needs)
     written-number-requires
-    same-length
+    (λ c. search needs)
     returns)

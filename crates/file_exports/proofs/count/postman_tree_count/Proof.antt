@@ -9,14 +9,8 @@ use borrow.Author.Needs.{needs}
 use Rattle.file_exports.proofs.count.postman_tree_count.Statement.{statement}
 use Rattle.file_exports.proofs.count.postman_tree_count.Tie as tie
 
-count-call-requires : tie.Need-count-call-requires
-count-call-requires c κs = search needs
-
-count-number-requires : tie.Need-count-number-requires
-count-number-requires c κs = search needs
-
 returns : tie.Need-returns
 returns c = back64 _ (c .count-number .ok) ∙ c .count-number .ensures ∙ ap (λ (a : Answer TreeCount). oneNumber (countOf a)) (c .before .count-call .ensures)
 
 pub postman-tree-count-spec : {M : Type 1} → statement M
-postman-tree-count-spec = tie.close (tie.spec count-call-requires count-number-requires returns)
+postman-tree-count-spec = tie.close (tie.spec (λ c κs. search needs) (λ c κs. search needs) returns)

@@ -6,15 +6,6 @@ use borrow.Author.Needs.{needs}
 use Rattle.file_exports.proofs.distance.postman_distances.Statement.{statement}
 use Rattle.file_exports.proofs.distance.postman_distances.Tie as tie
 
-distance-call-requires : tie.Need-distance-call-requires
-distance-call-requires c κs = search needs
-
-searched-number-requires : tie.Need-searched-number-requires
-searched-number-requires c κs = search needs
-
-same-length : tie.Need-same-length
-same-length c = search needs
-
 returns : tie.Need-returns
 returns c =
     let d = c .before .before .before .distance-call in
@@ -22,4 +13,4 @@ returns c =
 
 pub postman-distances-spec : {M : Type 1} → statement M
 postman-distances-spec =
-    tie.close (tie.spec distance-call-requires searched-number-requires same-length returns)
+    tie.close (tie.spec (λ c κs. search needs) (λ c κs. search needs) (λ c. search needs) returns)

@@ -6,14 +6,8 @@ use borrow.Author.Needs.{needs}
 use Rattle.file_exports.proofs.judging.postman_judge.Statement.{statement}
 use Rattle.file_exports.proofs.judging.postman_judge.Tie as tie
 
-judge-requires : tie.Need-judge-requires
-judge-requires c κs = search needs
-
-judged-number-requires : tie.Need-judged-number-requires
-judged-number-requires c κs = search needs
-
 returns : tie.Need-returns
 returns c = back64 _ (c .judged-number .ok) ∙ c .judged-number .ensures ∙ ap oneNumber (c .before .judge .ensures .answer-is)
 
 pub postman-judge-spec : {M : Type 1} → statement M
-postman-judge-spec = tie.close (tie.spec judge-requires judged-number-requires returns)
+postman-judge-spec = tie.close (tie.spec (λ c κs. search needs) (λ c κs. search needs) returns)

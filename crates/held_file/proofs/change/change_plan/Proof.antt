@@ -10,23 +10,11 @@ use borrow.Author.Needs.{needs}
 use Rattle.held_file.proofs.change.change_plan.Statement.{statement}
 use Rattle.held_file.proofs.change.change_plan.Tie as tie
 
-cast-m : tie.Need-cast-m
-cast-m c = search needs
-
-not-written-requires : tie.Need-not-written-requires
-not-written-requires c κs = search needs
-
 returns : tie.Need-returns
 returns c =
     let a = c .before .before .before .args in
     let m = plan-length (a .plan) in
     refused-held _ _ _ _ (foreign-arc (a .edition) (planValue (a .plan)) (changeOf (a .arc) (a .cost) (a .service) (a .standing)) (omega arith)) (c .not-written .ensures)
-
-changed-plan-requires : tie.Need-changed-plan-requires
-changed-plan-requires c κs = search needs
-
-write-held-requires : tie.Need-write-held-requires
-write-held-requires c κs = search needs
 
 returns-2 : tie.Need-returns-2
 returns-2 c =
@@ -39,9 +27,9 @@ pub change-plan-spec : {M : Type 1} → statement M
 change-plan-spec =
     tie.close
     (tie.spec
-    cast-m
-    not-written-requires
+    (λ c. search needs)
+    (λ c κs. search needs)
     returns
-    changed-plan-requires
-    write-held-requires
+    (λ c κs. search needs)
+    (λ c κs. search needs)
     returns-2)

@@ -12,9 +12,6 @@ use borrow.Author.Needs.{needs, length-unmapped}
 use Rattle.held_file.proofs.change.changed_file.Statement.{statement}
 use Rattle.held_file.proofs.change.changed_file.Tie as tie
 
-held-length-requires : tie.Need-held-length-requires
-held-length-requires c κs = search needs
-
 array-share-prefix-file : tie.Need-array-share-prefix-file
 array-share-prefix-file c =
     let s = c .before .before in
@@ -30,18 +27,6 @@ slice-aggregate-read-plan c =
     let e = c .before .before .held-length .ensures in
     let long : length (s .args .held .file) ≡ 1475 = length-unmapped ℕ (s .args .held .file) 1475 (s .good .0 .1 .1 .1 .0 .1 .0 .1) in
     sym (length-take-le _ (s .args .held .file) (omega arith))
-
-read-plan-requires : tie.Need-read-plan-requires
-read-plan-requires c κs = search needs
-
-enum-known-verdict : tie.Need-enum-known-verdict
-enum-known-verdict c = search needs
-
-not-written-requires : tie.Need-not-written-requires
-not-written-requires c κs = search needs
-
-enum-told : tie.Need-enum-told
-enum-told c = search needs
 
 change-plan-requires : tie.Need-change-plan-requires
 change-plan-requires c κs =
@@ -66,13 +51,13 @@ pub changed-file-spec : {M : Type 1} → statement M
 changed-file-spec =
     tie.close
     (tie.spec
-    held-length-requires
+    (λ c κs. search needs)
     array-share-prefix-file
     slice-aggregate-read-plan
-    read-plan-requires
-    enum-known-verdict
-    not-written-requires
-    enum-told
+    (λ c κs. search needs)
+    (λ c. search needs)
+    (λ c κs. search needs)
+    (λ c. search needs)
     change-plan-requires
     returns
     returns-2)

@@ -8,18 +8,6 @@ use borrow.Author.Needs.{needs}
 use Rattle.held_file.proofs.change.changed_plan.Statement.{statement}
 use Rattle.held_file.proofs.change.changed_plan.Tie as tie
 
-mul-old : tie.Need-mul-old
-mul-old c = search needs
-
-element-copy-out-old : tie.Need-element-copy-out-old
-element-copy-out-old c = search needs
-
-mul-new : tie.Need-mul-new
-mul-new c = search needs
-
-element-set-from-new : tie.Need-element-set-from-new
-element-set-from-new c = search needs
-
 returns : tie.Need-returns
 returns c =
     let s = c .before in
@@ -30,4 +18,4 @@ returns c =
     changed-value (a .t1) (changeOf (a .k) (a .cost) (a .service) (a .standing)) l (omega arith)
 
 pub changed-plan-spec : {M : Type 1} → statement M
-changed-plan-spec = tie.close (tie.spec mul-old element-copy-out-old mul-new element-set-from-new returns)
+changed-plan-spec = tie.close (tie.spec (λ c. search needs) (λ c. search needs) (λ c. search needs) (λ c. search needs) returns)

@@ -5,12 +5,9 @@ use borrow.Author.Needs.{needs}
 use Rattle.held_file.proofs.file.not_written.Statement.{statement}
 use Rattle.held_file.proofs.file.not_written.Tie as tie
 
-no-file-requires : tie.Need-no-file-requires
-no-file-requires c κs = search needs
-
 returns : tie.Need-returns
 unfolding unless
 returns c = record { verdict = refl; held = c .no-file .ensures }
 
 pub not-written-spec : {M : Type 1} → statement M
-not-written-spec = tie.close (tie.spec no-file-requires returns)
+not-written-spec = tie.close (tie.spec (λ c κs. search needs) returns)

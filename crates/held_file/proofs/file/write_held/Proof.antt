@@ -10,27 +10,12 @@ use borrow.Author.Needs.{needs}
 use Rattle.held_file.proofs.file.write_held.Statement.{statement}
 use Rattle.held_file.proofs.file.write_held.Tie as tie
 
-slice-aggregate-write-plan : tie.Need-slice-aggregate-write-plan
-slice-aggregate-write-plan c = search needs
-
-write-plan-requires : tie.Need-write-plan-requires
-write-plan-requires c κs = search needs
-
-enum-known-n : tie.Need-enum-known-n
-enum-known-n c = search needs
-
 cast-t11 : tie.Need-cast-t11
 cast-t11 c =
     let call = c .before .before .before .before .write-plan in
     let a = c .before .before .before .before .before .before .args in
     let l = length-held (a .edition) (planValue (a .plan)) (c .before .n .given .0 .0) (ap writtenAnswer (sym (c .before .n .given .1)) ∙ call .ensures .0) in
     search needs
-
-enum-known-r : tie.Need-enum-known-r
-enum-known-r c = search needs
-
-not-written-requires : tie.Need-not-written-requires
-not-written-requires c κs = search needs
 
 returns : tie.Need-returns
 returns c =
@@ -49,11 +34,11 @@ pub write-held-spec : {M : Type 1} → statement M
 write-held-spec =
     tie.close
     (tie.spec
-    slice-aggregate-write-plan
-    write-plan-requires
-    enum-known-n
+    (λ c. search needs)
+    (λ c κs. search needs)
+    (λ c. search needs)
     cast-t11
-    enum-known-r
-    not-written-requires
+    (λ c. search needs)
+    (λ c κs. search needs)
     returns
     returns-2)

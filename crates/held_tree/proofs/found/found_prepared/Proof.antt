@@ -8,9 +8,6 @@ use borrow.Author.Needs.{needs}
 use Rattle.held_tree.proofs.found.found_prepared.Statement.{statement}
 use Rattle.held_tree.proofs.found.found_prepared.Tie as tie
 
-go-on-requires : tie.Need-go-on-requires
-go-on-requires c κs = search needs
-
 floor-found-requires : tie.Need-floor-found-requires
 floor-found-requires c κs =
     let s = c .before .before in
@@ -32,4 +29,4 @@ returns c =
     }
 
 pub found-prepared-spec : {M : Type 1} → statement M
-found-prepared-spec = tie.close (tie.spec go-on-requires floor-found-requires returns)
+found-prepared-spec = tie.close (tie.spec (λ c κs. search needs) floor-found-requires returns)

@@ -13,11 +13,5 @@ prepare-requires c κs =
     let s = c .before in
     (known-tabled _ _ (s .pre .0) (s .pre .1) (s .pre .2) _ (c .network-of .ensures), c .network-of .ensures)
 
-found-prepared-requires : tie.Need-found-prepared-requires
-found-prepared-requires c κs = search needs
-
-returns : tie.Need-returns
-returns c = search needs
-
 pub found-tabled-spec : {M : Type 1} → statement M
-found-tabled-spec = tie.close (tie.spec network-of-requires prepare-requires found-prepared-requires returns)
+found-tabled-spec = tie.close (tie.spec network-of-requires prepare-requires (λ c κs. search needs) (λ c. search needs))

@@ -9,11 +9,8 @@ use Rattle.held_tree.proofs.found.plan_verdict.Tie as tie
 network-of-requires : tie.Need-network-of-requires
 network-of-requires c κs = (c .pre .0, is-table _ _ (c .pre .1))
 
-network-verdict-requires : tie.Need-network-verdict-requires
-network-verdict-requires c κs = search needs
-
 returns : tie.Need-returns
 returns c = c .network-verdict .ensures ∙ measured-refusal _ (c .before .network-of .result) (c .before .network-of .ensures)
 
 pub plan-verdict-spec : {M : Type 1} → statement M
-plan-verdict-spec = tie.close (tie.spec network-of-requires network-verdict-requires returns)
+plan-verdict-spec = tie.close (tie.spec network-of-requires (λ c κs. search needs) returns)

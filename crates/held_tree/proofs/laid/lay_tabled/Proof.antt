@@ -18,13 +18,10 @@ lay-held-requires c κs =
     let s = c .before .before .before .before in
     (c .before .prepare .ensures, s .pre .4, s .pre .5, s .pre .2)
 
-same-length : tie.Need-same-length
-same-length c = search needs
-
 returns : tie.Need-returns
 returns c =
     let e = c .before .before .lay-held .ensures in
     (e .0, e .1, c .before .before .before .before .before .network-of .ensures .components .all)
 
 pub lay-tabled-spec : {M : Type 1} → statement M
-lay-tabled-spec = tie.close (tie.spec network-of-requires prepare-requires lay-held-requires same-length returns)
+lay-tabled-spec = tie.close (tie.spec network-of-requires prepare-requires lay-held-requires (λ c. search needs) returns)

@@ -18,12 +18,6 @@ Inv-loop tails heads order₀ used₀ hints₀ depth₀ start₀ order used hint
 abbrev μ-loop : tie.MeasureT-loop
 μ-loop tails heads order₀ used₀ hints₀ depth₀ start₀ order used hints depth start = 2 * start - depth
 
-array-write-used : tie.Need-array-write-used Inv-loop μ-loop
-array-write-used c = search needs
-
-slice-write-order : tie.Need-slice-write-order Inv-loop μ-loop
-slice-write-order c = search needs
-
 loop-holds : tie.Need-loop-holds Inv-loop μ-loop
 loop-holds c =
     let s = c .before .before .before in
@@ -34,20 +28,11 @@ loop-holds c =
       hints-none (a .tails .now) _,
     )
 
-advance-requires : tie.Need-advance-requires Inv-loop μ-loop
-advance-requires c κs = search needs
-
-loop-less : tie.Need-loop-less Inv-loop μ-loop
-loop-less c = search needs
-
 loop-again : tie.Need-loop-again Inv-loop μ-loop
 loop-again c =
     let e = c .before .before .advance .ensures in
     let l = c .before .before .before .before .before .before .before .loop in
     (e .0 .held, l .inv .1 ∙ run-step _ _ _ _ _ _ _ _ _ (e .0), e .1)
-
-same-length : tie.Need-same-length Inv-loop μ-loop
-same-length c = search needs
 
 returns : tie.Need-returns Inv-loop μ-loop
 returns c =
@@ -64,11 +49,11 @@ arrange-spec =
     (tie.spec
     Inv-loop
     μ-loop
-    array-write-used
-    slice-write-order
+    (λ c. search needs)
+    (λ c. search needs)
     loop-holds
-    advance-requires
-    loop-less
+    (λ c κs. search needs)
+    (λ c. search needs)
     loop-again
-    same-length
+    (λ c. search needs)
     returns)

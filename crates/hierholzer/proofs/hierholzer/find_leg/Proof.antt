@@ -9,18 +9,6 @@ use borrow.Author.Needs.{needs}
 use Rattle.hierholzer.proofs.hierholzer.find_leg.Statement.{statement}
 use Rattle.hierholzer.proofs.hierholzer.find_leg.Tie as tie
 
-wide8-requires : tie.Need-wide8-requires
-wide8-requires c κs = search needs
-
-mul-wide : tie.Need-mul-wide
-mul-wide c = search needs
-
-element-copy-out-wide : tie.Need-element-copy-out-wide
-element-copy-out-wide c = search needs
-
-wide-requires : tie.Need-wide-requires
-wide-requires c κs = search needs
-
 next-leg-requires : tie.Need-next-leg-requires
 next-leg-requires c κs =
     let s = c .before .before .before .before in
@@ -38,12 +26,6 @@ cast-hints c =
     let n = s .pre .0 in
     omega arith
 
-mul-hints : tie.Need-mul-hints
-mul-hints c = search needs
-
-element-write-hints : tie.Need-element-write-hints
-element-write-hints c = search needs
-
 returns : tie.Need-returns
 returns c =
     let s = c .before .before .before .before .before in
@@ -55,12 +37,12 @@ pub find-leg-spec : {M : Type 1} → statement M
 find-leg-spec =
     tie.close
     (tie.spec
-    wide8-requires
-    mul-wide
-    element-copy-out-wide
-    wide-requires
+    (λ c κs. search needs)
+    (λ c. search needs)
+    (λ c. search needs)
+    (λ c κs. search needs)
     next-leg-requires
     cast-hints
-    mul-hints
-    element-write-hints
+    (λ c. search needs)
+    (λ c. search needs)
     returns)

@@ -21,15 +21,6 @@ abbrev μ-loop : tie.MeasureT-loop
 loop-holds : tie.Need-loop-holds Inv-loop μ-loop
 loop-holds c = let s = c .before in (s .pre .1, s .pre .2)
 
-shared-slice-read-is-unused : tie.Need-shared-slice-read-is-unused Inv-loop μ-loop
-shared-slice-read-is-unused c = search needs
-
-element-copy-out-is-unused : tie.Need-element-copy-out-is-unused Inv-loop μ-loop
-element-copy-out-is-unused c = search needs
-
-is-unused-requires : tie.Need-is-unused-requires Inv-loop μ-loop
-is-unused-requires c κs = search needs
-
 returns : tie.Need-returns Inv-loop μ-loop
 unfolding firstUnused isUnused
 returns c =
@@ -37,12 +28,6 @@ returns c =
     let l = c .before .before .before .before .before .loop in
     sym (first-at (isUnused (a .tails .now) (a .used .now) (a .v)) (length (a .tails .now)) (l .e) (c .before .before .before .before .loop-test .taken)
     (subst⁻¹ T (sym (c .before .is-unused .ensures) ∙ c .if1 .taken) tt) (l .inv .1))
-
-add-e : tie.Need-add-e Inv-loop μ-loop
-add-e c = search needs
-
-loop-less : tie.Need-loop-less Inv-loop μ-loop
-loop-less c = search needs
 
 loop-again : tie.Need-loop-again Inv-loop μ-loop
 unfolding isUnused
@@ -63,11 +48,11 @@ next-leg-spec =
     Inv-loop
     μ-loop
     loop-holds
-    shared-slice-read-is-unused
-    element-copy-out-is-unused
-    is-unused-requires
+    (λ c. search needs)
+    (λ c. search needs)
+    (λ c κs. search needs)
     returns
-    add-e
-    loop-less
+    (λ c. search needs)
+    (λ c. search needs)
     loop-again
     returns-2)

@@ -18,15 +18,6 @@ long-list-requires c κs = c .if1 .taken
 returns : tie.Need-returns
 returns c = is-judged _ _ _ (long-answer _ _ _ (c .long-list .ensures))
 
-read-plan-requires : tie.Need-read-plan-requires
-read-plan-requires c κs = search needs
-
-enum-known-verdict : tie.Need-enum-known-verdict
-enum-known-verdict c = search needs
-
-enum-told : tie.Need-enum-told
-enum-told c = search needs
-
 judge-plan-requires : tie.Need-judge-plan-requires
 unfolding highestPlaces
 judge-plan-requires c κs =
@@ -53,9 +44,9 @@ judge-spec =
     (tie.spec
     long-list-requires
     returns
-    read-plan-requires
-    enum-known-verdict
-    enum-told
+    (λ c κs. search needs)
+    (λ c. search needs)
+    (λ c. search needs)
     judge-plan-requires
     returns-2
     returns-3)

@@ -7,12 +7,6 @@ use borrow.Author.Needs.{needs}
 use Rattle.judge.proofs.call.judge_arcs.Statement.{statement}
 use Rattle.judge.proofs.call.judge_arcs.Tie as tie
 
-required-flags-requires : tie.Need-required-flags-requires
-required-flags-requires c κs = search needs
-
-has-flag-requires : tie.Need-has-flag-requires
-has-flag-requires c κs = search needs
-
 judge-list-requires : tie.Need-judge-list-requires
 judge-list-requires c κs = (c .before .before .before .before .pre .0, c .before .before .before .before .pre .1, c .before .before .required-flags .ensures)
 
@@ -25,4 +19,4 @@ returns-2 c = idle-answer _ _ (has-required _ _ (c .before .before .required-fla
 pub judge-arcs-spec : {M : Type 1} → statement M
 judge-arcs-spec =
     tie.close
-    (tie.spec required-flags-requires has-flag-requires judge-list-requires returns returns-2)
+    (tie.spec (λ c κs. search needs) (λ c κs. search needs) judge-list-requires returns returns-2)

@@ -6,9 +6,6 @@ use borrow.Author.Needs.{needs}
 use Rattle.judge.proofs.call.judge_list.Statement.{statement}
 use Rattle.judge.proofs.call.judge_list.Tie as tie
 
-has-foreign-requires : tie.Need-has-foreign-requires
-has-foreign-requires c κs = search needs
-
 returns : tie.Need-returns
 returns c = foreign-answer _ _ (sym (c .before .has-foreign .ensures) ∙ c .if1 .taken)
 
@@ -21,9 +18,6 @@ returns-2 c = unjoined-answer _ _ (sym (c .before .before .before .has-foreign .
 priced-requires : tie.Need-priced-requires
 priced-requires c κs = (sym (c .before .before .before .has-foreign .ensures) ∙ c .before .before .if1 .left, c .before .before .before .before .before .pre)
 
-has-flag-requires : tie.Need-has-flag-requires
-has-flag-requires c κs = search needs
-
 returns-3 : tie.Need-returns-3
 returns-3 c = missed-answer _ _ (sym (c .before .before .before .before .before .before .before .has-foreign .ensures) ∙ c .before .before .before .before .before .before .if1 .left) (sym (c .before .before .before .before .before .is-unjoined .ensures) ∙ c .before .before .before .before .if2 .left) (sym (c .before .before .before .priced .ensures .left) ∙ sym (c .before .has-flag .ensures) ∙ c .if3 .taken)
 
@@ -34,11 +28,11 @@ pub judge-list-spec : {M : Type 1} → statement M
 judge-list-spec =
     tie.close
     (tie.spec
-    has-foreign-requires
+    (λ c κs. search needs)
     returns
     is-unjoined-requires
     returns-2
     priced-requires
-    has-flag-requires
+    (λ c κs. search needs)
     returns-3
     returns-4)

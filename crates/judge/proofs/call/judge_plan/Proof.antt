@@ -12,9 +12,6 @@ use Rattle.judge.proofs.call.judge_plan.Tie as tie
 rows-of-requires : tie.Need-rows-of-requires
 rows-of-requires c κs = record-arcs _ (c .before .pre .0)
 
-cast-m : tie.Need-cast-m
-cast-m c = search needs
-
 array-share-prefix-rows : tie.Need-array-share-prefix-rows
 array-share-prefix-rows c = omega (arith, record-arcs _ (c .before .before .before .pre .0), made-long _ _ (c .before .rows-of .ensures))
 
@@ -40,7 +37,7 @@ judge-plan-spec =
     tie.close
     (tie.spec
     rows-of-requires
-    cast-m
+    (λ c. search needs)
     array-share-prefix-rows
     slice-aggregate-judge-arcs
     judge-arcs-requires

@@ -9,12 +9,6 @@ use Rattle.judge.proofs.call.long_list.Tie as tie
 returns : tie.Need-returns
 returns c = torn-first _ _ (c .before .before .pre) (c .if1 .taken)
 
-file-edition-requires : tie.Need-file-edition-requires
-file-edition-requires c κs = search needs
-
-is-edition-requires : tie.Need-is-edition-requires
-is-edition-requires c κs = search needs
-
 returns-2 : tie.Need-returns-2
 returns-2 c = extent-then _ _ (c .before .before .before .before .before .pre) (c .before .before .before .if1 .left) (ap isEdition (sym (c .before .before .file-edition .ensures)) ∙ sym (c .before .is-edition .ensures) ∙ c .if2 .taken)
 
@@ -23,4 +17,4 @@ returns-3 c = edition-next _ _ (c .before .before .before .before .before .pre) 
 
 pub long-list-spec : {M : Type 1} → statement M
 long-list-spec =
-    tie.close (tie.spec returns file-edition-requires is-edition-requires returns-2 returns-3)
+    tie.close (tie.spec returns (λ c κs. search needs) (λ c κs. search needs) returns-2 returns-3)

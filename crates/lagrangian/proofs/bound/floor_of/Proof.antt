@@ -10,9 +10,6 @@ use borrow.Author.Needs.{needs}
 use Rattle.lagrangian.proofs.bound.floor_of.Statement.{statement}
 use Rattle.lagrangian.proofs.bound.floor_of.Tie as tie
 
-cast-result : tie.Need-cast-result
-cast-result c = search needs
-
 returns : tie.Need-returns
 returns c =
     let e : c .before .args .whole ≡ true = c .if1 .taken in
@@ -21,9 +18,6 @@ returns c =
 
 lagrangian-requires : tie.Need-lagrangian-requires
 lagrangian-requires c κs = c .before .before .pre .0
-
-larger-requires : tie.Need-larger-requires
-larger-requires c κs = search needs
 
 returns-2 : tie.Need-returns-2
 returns-2 c =
@@ -36,8 +30,8 @@ pub floor-of-spec : {M : Type 1} → statement M
 floor-of-spec =
     tie.close
     (tie.spec
-    cast-result
+    (λ c. search needs)
     returns
     lagrangian-requires
-    larger-requires
+    (λ c κs. search needs)
     returns-2)

@@ -21,18 +21,6 @@ abbrev μ-loop : tie.MeasureT-loop
 loop-holds : tie.Need-loop-holds Inv-loop μ-loop
 loop-holds c = (omega arith, sym (price-none _ _))
 
-mul-plus : tie.Need-mul-plus Inv-loop μ-loop
-mul-plus c = search needs
-
-element-copy-out-plus : tie.Need-element-copy-out-plus Inv-loop μ-loop
-element-copy-out-plus c = search needs
-
-mul-plus-2 : tie.Need-mul-plus-2 Inv-loop μ-loop
-mul-plus-2 c = search needs
-
-element-copy-out-plus-2 : tie.Need-element-copy-out-plus-2 Inv-loop μ-loop
-element-copy-out-plus-2 c = search needs
-
 plus-requires : tie.Need-plus-requires Inv-loop μ-loop
 plus-requires c κs =
     let at = c .before .before .before in
@@ -40,12 +28,6 @@ plus-requires c κs =
     let l = c .before .before .loop-test .taken in
     let v = at .loop .inv in
     (subst⁻¹ (Within 67644702720) (v .1) (price-small _ _ (s .pre .0) (s .pre .1) (at .loop .i) (v .0)), simp (back64, c .before .plus-arg .given) (s .pre .0 (at .loop .i) l), simp (back64, c .plus-arg2 .given) (s .pre .1 (at .loop .i) l))
-
-add-i : tie.Need-add-i Inv-loop μ-loop
-add-i c = search needs
-
-loop-less : tie.Need-loop-less Inv-loop μ-loop
-loop-less c = search needs
 
 loop-again : tie.Need-loop-again Inv-loop μ-loop
 loop-again c =
@@ -71,12 +53,12 @@ price-spec =
     Inv-loop
     μ-loop
     loop-holds
-    mul-plus
-    element-copy-out-plus
-    mul-plus-2
-    element-copy-out-plus-2
+    (λ c. search needs)
+    (λ c. search needs)
+    (λ c. search needs)
+    (λ c. search needs)
     plus-requires
-    add-i
-    loop-less
+    (λ c. search needs)
+    (λ c. search needs)
     loop-again
     returns)

@@ -8,9 +8,6 @@ use borrow.Author.Needs.{needs}
 use Rattle.lagrangian.proofs.bound.total.Statement.{statement}
 use Rattle.lagrangian.proofs.bound.total.Tie as tie
 
-cast-result : tie.Need-cast-result
-cast-result c = search needs
-
 add-result : tie.Need-add-result
 add-result c =
     let h : c .args .required-cost < 2 ^ 63 = omega arith in
@@ -27,4 +24,4 @@ returns c =
     toZ-ofZ (add-result-2 c) ∙ simp (toZ-ofZ (add-result c)) (simp (plain64, back64, c .fits .price .sfits, c .fits .cheapest .sfits))
 
 pub total-spec : {M : Type 1} → statement M
-total-spec = tie.close (tie.spec cast-result add-result add-result-2 returns)
+total-spec = tie.close (tie.spec (λ c. search needs) add-result add-result-2 returns)

@@ -16,29 +16,8 @@ Inv-loop machine line₀ k₀ line k = (districtsBytes ≤ length machine) × Pr
 abbrev μ-loop : tie.MeasureT-loop
 μ-loop machine line₀ k₀ line k = 8 - k
 
-load-district-requires : tie.Need-load-district-requires Inv-loop μ-loop
-load-district-requires c κs = search needs
-
 loop-holds : tie.Need-loop-holds Inv-loop μ-loop
 loop-holds c = (c .before .before .pre, first-loaded _ noDistrict _ (c .load-district .ensures))
-
-mul-load-district : tie.Need-mul-load-district Inv-loop μ-loop
-mul-load-district c = search needs
-
-load-district-requires-2 : tie.Need-load-district-requires-2 Inv-loop μ-loop
-load-district-requires-2 c κs = search needs
-
-mul-line : tie.Need-mul-line Inv-loop μ-loop
-mul-line c = search needs
-
-array-set-from-line : tie.Need-array-set-from-line Inv-loop μ-loop
-array-set-from-line c = search needs
-
-add-k : tie.Need-add-k Inv-loop μ-loop
-add-k c = search needs
-
-loop-less : tie.Need-loop-less Inv-loop μ-loop
-loop-less c = search needs
 
 loop-again : tie.Need-loop-again Inv-loop μ-loop
 loop-again c =
@@ -54,13 +33,13 @@ load-line-spec =
     (tie.spec
     Inv-loop
     μ-loop
-    load-district-requires
+    (λ c κs. search needs)
     loop-holds
-    mul-load-district
-    load-district-requires-2
-    mul-line
-    array-set-from-line
-    add-k
-    loop-less
+    (λ c. search needs)
+    (λ c κs. search needs)
+    (λ c. search needs)
+    (λ c. search needs)
+    (λ c. search needs)
+    (λ c. search needs)
     loop-again
     returns)

@@ -9,20 +9,8 @@ use borrow.Author.Needs.{needs, length-unmapped}
 use Rattle.machine_bytes.proofs.machine_bytes.store_district.Statement.{statement}
 use Rattle.machine_bytes.proofs.machine_bytes.store_district.Tie as tie
 
-slice-write-machine : tie.Need-slice-write-machine
-slice-write-machine c = search needs
-
-add-put-long : tie.Need-add-put-long
-add-put-long c = search needs
-
 put-long-requires : tie.Need-put-long-requires
 put-long-requires c κs = simp length-set (omega arith)
-
-add-put-bytes : tie.Need-add-put-bytes
-add-put-bytes c = search needs
-
-slice-aggregate-put-bytes : tie.Need-slice-aggregate-put-bytes
-slice-aggregate-put-bytes c = search needs
 
 put-bytes-requires : tie.Need-put-bytes-requires
 put-bytes-requires c κs =
@@ -31,17 +19,11 @@ put-bytes-requires c κs =
     let k = length-set (s .args .machine .now) (s .args .at) (s .args .d .place) in
     omega arith
 
-add-put-word : tie.Need-add-put-word
-add-put-word c = search needs
-
 put-word-requires : tie.Need-put-word-requires
 put-word-requires c κs =
     let s = c .before .before .before .before .before .before .before .before .before .before .before .before .before in
     let k = length-set (s .args .machine .now) (s .args .at) (s .args .d .place) in
     omega arith
-
-add-store-reached : tie.Need-add-store-reached
-add-store-reached c = search needs
 
 store-reached-requires : tie.Need-store-reached-requires
 store-reached-requires c κs =
@@ -67,15 +49,15 @@ pub store-district-spec : {M : Type 1} → statement M
 store-district-spec =
     tie.close
     (tie.spec
-    slice-write-machine
-    add-put-long
+    (λ c. search needs)
+    (λ c. search needs)
     put-long-requires
-    add-put-bytes
-    slice-aggregate-put-bytes
+    (λ c. search needs)
+    (λ c. search needs)
     put-bytes-requires
-    add-put-word
+    (λ c. search needs)
     put-word-requires
-    add-store-reached
+    (λ c. search needs)
     store-reached-requires
     same-length
     returns)

@@ -5,15 +5,6 @@ use borrow.Author.Needs.{needs}
 use Rattle.machine_bytes.proofs.machine_bytes.store_machine.Statement.{statement}
 use Rattle.machine_bytes.proofs.machine_bytes.store_machine.Tie as tie
 
-store-line-requires : tie.Need-store-line-requires
-store-line-requires c κs = search needs
-
-put-long-requires : tie.Need-put-long-requires
-put-long-requires c κs = search needs
-
-same-length : tie.Need-same-length
-same-length c = search needs
-
 returns : tie.Need-returns
 returns c =
     let s = c .before .before .before .before .before .before .before .before .before .before in
@@ -22,4 +13,4 @@ returns c =
     (z, stored-machine (s .args .m) z _ _ _ (s .pre) (l .2) (c .before .before .put-long .ensures))
 
 pub store-machine-spec : {M : Type 1} → statement M
-store-machine-spec = tie.close (tie.spec store-line-requires put-long-requires same-length returns)
+store-machine-spec = tie.close (tie.spec (λ c κs. search needs) (λ c κs. search needs) (λ c. search needs) returns)

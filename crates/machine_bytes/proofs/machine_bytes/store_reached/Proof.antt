@@ -9,35 +9,17 @@ use borrow.Author.Needs.{needs, length-unmapped}
 use Rattle.machine_bytes.proofs.machine_bytes.store_reached.Statement.{statement}
 use Rattle.machine_bytes.proofs.machine_bytes.store_reached.Tie as tie
 
-put-long-requires : tie.Need-put-long-requires
-put-long-requires c κs = search needs
-
-add-put-bytes : tie.Need-add-put-bytes
-add-put-bytes c = search needs
-
 slice-aggregate-put-bytes : tie.Need-slice-aggregate-put-bytes
 slice-aggregate-put-bytes c = let s = c .before .before .before .before .before .before .before .before .before in sym (length-unmapped ℕ (s .args .g .tails) 8 (s .good .1 .1 .0 .1 .1 .1 .0 .1 .0 .1))
 
 put-bytes-requires : tie.Need-put-bytes-requires
 put-bytes-requires c κs = let s = c .before .before .before .before .before .before .before .before .before in let f : length (s .args .g .tails) ≡ 8 = length-unmapped ℕ (s .args .g .tails) 8 (s .good .1 .1 .0 .1 .1 .1 .0 .1 .0 .1) in omega arith
 
-add-put-bytes-2 : tie.Need-add-put-bytes-2
-add-put-bytes-2 c = search needs
-
 slice-aggregate-put-bytes-2 : tie.Need-slice-aggregate-put-bytes-2
 slice-aggregate-put-bytes-2 c = let s = c .before .before .before .before .before .before .before .before .before .before .before .before .before .before in sym (length-unmapped ℕ (s .args .g .heads) 8 (s .good .1 .1 .0 .1 .1 .1 .1 .0 .1 .0 .1))
 
 put-bytes-requires-2 : tie.Need-put-bytes-requires-2
 put-bytes-requires-2 c κs = let s = c .before .before .before .before .before .before .before .before .before .before .before .before .before .before in let f : length (s .args .g .heads) ≡ 8 = length-unmapped ℕ (s .args .g .heads) 8 (s .good .1 .1 .0 .1 .1 .1 .1 .0 .1 .0 .1) in omega arith
-
-add-put-word : tie.Need-add-put-word
-add-put-word c = search needs
-
-put-word-requires : tie.Need-put-word-requires
-put-word-requires c κs = search needs
-
-same-length : tie.Need-same-length
-same-length c = search needs
 
 returns : tie.Need-returns
 returns c =
@@ -50,14 +32,14 @@ pub store-reached-spec : {M : Type 1} → statement M
 store-reached-spec =
     tie.close
     (tie.spec
-    put-long-requires
-    add-put-bytes
+    (λ c κs. search needs)
+    (λ c. search needs)
     slice-aggregate-put-bytes
     put-bytes-requires
-    add-put-bytes-2
+    (λ c. search needs)
     slice-aggregate-put-bytes-2
     put-bytes-requires-2
-    add-put-word
-    put-word-requires
-    same-length
+    (λ c. search needs)
+    (λ c κs. search needs)
+    (λ c. search needs)
     returns)

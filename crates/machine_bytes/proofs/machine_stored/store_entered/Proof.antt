@@ -7,24 +7,6 @@ use borrow.Author.Needs.{needs}
 use Rattle.machine_bytes.proofs.machine_stored.store_entered.Statement.{statement}
 use Rattle.machine_bytes.proofs.machine_stored.store_entered.Tie as tie
 
-enum-known-answer : tie.Need-enum-known-answer
-enum-known-answer c = search needs
-
-store-machine-requires : tie.Need-store-machine-requires
-store-machine-requires c κs = search needs
-
-cast-result : tie.Need-cast-result
-cast-result c = search needs
-
-enum-known-answer-2 : tie.Need-enum-known-answer-2
-enum-known-answer-2 c = search needs
-
-refused-number-requires : tie.Need-refused-number-requires
-refused-number-requires c κs = search needs
-
-same-length : tie.Need-same-length
-same-length c = search needs
-
 returns : tie.Need-returns
 returns c =
     let m = c .before .before .store-machine .ensures in
@@ -37,11 +19,11 @@ pub store-entered-spec : {M : Type 1} → statement M
 store-entered-spec =
     tie.close
     (tie.spec
-    enum-known-answer
-    store-machine-requires
-    cast-result
-    enum-known-answer-2
-    refused-number-requires
-    same-length
+    (λ c. search needs)
+    (λ c κs. search needs)
+    (λ c. search needs)
+    (λ c. search needs)
+    (λ c κs. search needs)
+    (λ c. search needs)
     returns
     returns-2)

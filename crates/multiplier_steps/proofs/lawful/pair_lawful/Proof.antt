@@ -6,42 +6,6 @@ use borrow.Author.Needs.{needs}
 use Rattle.multiplier_steps.proofs.lawful.pair_lawful.Statement.{statement}
 use Rattle.multiplier_steps.proofs.lawful.pair_lawful.Tie as tie
 
-mul-pass : tie.Need-mul-pass
-mul-pass c = search needs
-
-mul-pass-2 : tie.Need-mul-pass-2
-mul-pass-2 c = search needs
-
-index-1-pass : tie.Need-index-1-pass
-index-1-pass c = search needs
-
-index-2-pass : tie.Need-index-2-pass
-index-2-pass c = search needs
-
-mul-pass-3 : tie.Need-mul-pass-3
-mul-pass-3 c = search needs
-
-add-pass : tie.Need-add-pass
-add-pass c = search needs
-
-mul-pass-4 : tie.Need-mul-pass-4
-mul-pass-4 c = search needs
-
-element-copy-out-pass : tie.Need-element-copy-out-pass
-element-copy-out-pass c = search needs
-
-mul-pass-5 : tie.Need-mul-pass-5
-mul-pass-5 c = search needs
-
-element-copy-out-pass-2 : tie.Need-element-copy-out-pass-2
-element-copy-out-pass-2 c = search needs
-
-mul-pass-6 : tie.Need-mul-pass-6
-mul-pass-6 c = search needs
-
-element-copy-out-pass-3 : tie.Need-element-copy-out-pass-3
-element-copy-out-pass-3 c = search needs
-
 pass-requires : tie.Need-pass-requires
 pass-requires c κs =
     let s = c .before .before .before .before .before in
@@ -60,18 +24,18 @@ pub pair-lawful-spec : {M : Type 1} → statement M
 pair-lawful-spec =
     tie.close
     (tie.spec
-    mul-pass
-    mul-pass-2
-    index-1-pass
-    index-2-pass
-    mul-pass-3
-    add-pass
-    mul-pass-4
-    element-copy-out-pass
-    mul-pass-5
-    element-copy-out-pass-2
-    mul-pass-6
-    element-copy-out-pass-3
+    (λ c. search needs)
+    (λ c. search needs)
+    (λ c. search needs)
+    (λ c. search needs)
+    (λ c. search needs)
+    (λ c. search needs)
+    (λ c. search needs)
+    (λ c. search needs)
+    (λ c. search needs)
+    (λ c. search needs)
+    (λ c. search needs)
+    (λ c. search needs)
     pass-requires
     returns
     returns-2)

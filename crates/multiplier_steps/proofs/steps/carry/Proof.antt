@@ -16,9 +16,6 @@ use Rattle.multiplier_steps.proofs.steps.carry.Tie as tie
 less-requires : tie.Need-less-requires
 less-requires c κs = simp (back64, c .fits .x .sfits, c .fits .before .sfits) (c .pre .1, c .pre .2)
 
-half-requires : tie.Need-half-requires
-half-requires c κs = search needs
-
 difference-small : (a b : ℤ) → Within beyond a → Within beyond b → Within 2199023255552 (a -ℤ b)
 difference-small a b h k = record { low = simp zl (omega (arith, z)); high = simp zl (omega (arith, z)) }
 
@@ -44,4 +41,4 @@ returns c =
     toZ-ofZ (add-result c) ∙ simp (back64, s .fits .y .sfits) (ap (λ (h : ℤ). s .args .y +ℤ h) (half-of c))
 
 pub carry-spec : {M : Type 1} → statement M
-carry-spec = tie.close (tie.spec less-requires half-requires add-result returns)
+carry-spec = tie.close (tie.spec less-requires (λ c κs. search needs) add-result returns)

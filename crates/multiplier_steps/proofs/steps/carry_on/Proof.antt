@@ -22,51 +22,12 @@ loop-holds : tie.Need-loop-holds Inv-loop μ-loop
 unfolding turns
 loop-holds c = (omega arith, refl)
 
-vertex-requires : tie.Need-vertex-requires Inv-loop μ-loop
-vertex-requires c κs = search needs
-
-wide-requires : tie.Need-wide-requires Inv-loop μ-loop
-wide-requires c κs = search needs
-
-mul-capped : tie.Need-mul-capped Inv-loop μ-loop
-mul-capped c = search needs
-
-array-copy-out-capped : tie.Need-array-copy-out-capped Inv-loop μ-loop
-array-copy-out-capped c = search needs
-
-capped-requires : tie.Need-capped-requires Inv-loop μ-loop
-capped-requires c κs = search needs
-
-mul-carry : tie.Need-mul-carry Inv-loop μ-loop
-mul-carry c = search needs
-
-element-copy-out-carry : tie.Need-element-copy-out-carry Inv-loop μ-loop
-element-copy-out-carry c = search needs
-
-mul-carry-2 : tie.Need-mul-carry-2 Inv-loop μ-loop
-mul-carry-2 c = search needs
-
-element-copy-out-carry-2 : tie.Need-element-copy-out-carry-2 Inv-loop μ-loop
-element-copy-out-carry-2 c = search needs
-
 carry-requires : tie.Need-carry-requires Inv-loop μ-loop
 carry-requires c κs =
     let s = c .before .before .before .before .before .before .before .before .before in
     let v = c .before .before .before .before .wide .ensures in
     let w = c .before .before .before .before .before .vertex .ensures .1 in
     (simp (back64, c .before .before .capped .ok) (c .before .before .capped .ensures .1), simp (back64, c .before .carry-arg .given) (s .pre .1 (c .before .before .before .before .wide .result) (omega arith)), simp (back64, c .carry-arg2 .given) (s .pre .2 (c .before .before .before .before .wide .result) (omega arith)))
-
-mul-z : tie.Need-mul-z Inv-loop μ-loop
-mul-z c = search needs
-
-array-set-from-z : tie.Need-array-set-from-z Inv-loop μ-loop
-array-set-from-z c = search needs
-
-add-a : tie.Need-add-a Inv-loop μ-loop
-add-a c = search needs
-
-loop-less : tie.Need-loop-less Inv-loop μ-loop
-loop-less c = search needs
 
 loop-again : tie.Need-loop-again Inv-loop μ-loop
 loop-again c =
@@ -91,19 +52,19 @@ carry-on-spec =
     Inv-loop
     μ-loop
     loop-holds
-    vertex-requires
-    wide-requires
-    mul-capped
-    array-copy-out-capped
-    capped-requires
-    mul-carry
-    element-copy-out-carry
-    mul-carry-2
-    element-copy-out-carry-2
+    (λ c κs. search needs)
+    (λ c κs. search needs)
+    (λ c. search needs)
+    (λ c. search needs)
+    (λ c κs. search needs)
+    (λ c. search needs)
+    (λ c. search needs)
+    (λ c. search needs)
+    (λ c. search needs)
     carry-requires
-    mul-z
-    array-set-from-z
-    add-a
-    loop-less
+    (λ c. search needs)
+    (λ c. search needs)
+    (λ c. search needs)
+    (λ c. search needs)
     loop-again
     returns)

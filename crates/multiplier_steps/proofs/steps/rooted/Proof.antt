@@ -18,33 +18,9 @@ Inv-loop x vs root base u₀ a₀ u a = (a ≤ length vs) × (u ≡ turns (λ r 
 abbrev μ-loop : tie.MeasureT-loop
 μ-loop x vs root base u₀ a₀ u a = length vs - a
 
-vertex-requires : tie.Need-vertex-requires Inv-loop μ-loop
-vertex-requires c κs = search needs
-
-wide-requires : tie.Need-wide-requires Inv-loop μ-loop
-wide-requires c κs = search needs
-
-mul-base : tie.Need-mul-base Inv-loop μ-loop
-mul-base c = search needs
-
-element-copy-out-base : tie.Need-element-copy-out-base Inv-loop μ-loop
-element-copy-out-base c = search needs
-
 loop-holds : tie.Need-loop-holds Inv-loop μ-loop
 unfolding turns
 loop-holds c = (omega arith, refl)
-
-vertex-requires-2 : tie.Need-vertex-requires-2 Inv-loop μ-loop
-vertex-requires-2 c κs = search needs
-
-wide-requires-2 : tie.Need-wide-requires-2 Inv-loop μ-loop
-wide-requires-2 c κs = search needs
-
-mul-less : tie.Need-mul-less Inv-loop μ-loop
-mul-less c = search needs
-
-element-copy-out-less : tie.Need-element-copy-out-less Inv-loop μ-loop
-element-copy-out-less c = search needs
 
 less-requires : tie.Need-less-requires Inv-loop μ-loop
 less-requires c κs =
@@ -55,18 +31,6 @@ less-requires c κs =
     let p = at .before .before .wide .ensures in
     let q = at .before .before .before .vertex .ensures .1 in
     (simp (back64, c .less-arg .given) (s .pre .2 (c .before .wide2 .result) (omega arith)), simp (back64, at .before .base .given) (s .pre .2 (at .before .before .wide .result) (omega arith)))
-
-mul-u : tie.Need-mul-u Inv-loop μ-loop
-mul-u c = search needs
-
-array-set-from-u : tie.Need-array-set-from-u Inv-loop μ-loop
-array-set-from-u c = search needs
-
-add-a : tie.Need-add-a Inv-loop μ-loop
-add-a c = search needs
-
-loop-less : tie.Need-loop-less Inv-loop μ-loop
-loop-less c = search needs
 
 loop-again : tie.Need-loop-again Inv-loop μ-loop
 loop-again c =
@@ -89,19 +53,19 @@ rooted-spec =
     (tie.spec
     Inv-loop
     μ-loop
-    vertex-requires
-    wide-requires
-    mul-base
-    element-copy-out-base
+    (λ c κs. search needs)
+    (λ c κs. search needs)
+    (λ c. search needs)
+    (λ c. search needs)
     loop-holds
-    vertex-requires-2
-    wide-requires-2
-    mul-less
-    element-copy-out-less
+    (λ c κs. search needs)
+    (λ c κs. search needs)
+    (λ c. search needs)
+    (λ c. search needs)
     less-requires
-    mul-u
-    array-set-from-u
-    add-a
-    loop-less
+    (λ c. search needs)
+    (λ c. search needs)
+    (λ c. search needs)
+    (λ c. search needs)
     loop-again
     returns)

@@ -18,42 +18,9 @@ Inv-loop d vs root most₀ a₀ most a =
 abbrev μ-loop : tie.MeasureT-loop
 μ-loop d vs root most₀ a₀ most a = length vs - a
 
-vertex-requires : tie.Need-vertex-requires Inv-loop μ-loop
-vertex-requires c κs = search needs
-
-wide-requires : tie.Need-wide-requires Inv-loop μ-loop
-wide-requires c κs = search needs
-
 loop-holds : tie.Need-loop-holds Inv-loop μ-loop
 unfolding turns
 loop-holds c = (omega arith, refl)
-
-vertex-requires-2 : tie.Need-vertex-requires-2 Inv-loop μ-loop
-vertex-requires-2 c κs = search needs
-
-wide-requires-2 : tie.Need-wide-requires-2 Inv-loop μ-loop
-wide-requires-2 c κs = search needs
-
-mul-further : tie.Need-mul-further Inv-loop μ-loop
-mul-further c = search needs
-
-mul-further-2 : tie.Need-mul-further-2 Inv-loop μ-loop
-mul-further-2 c = search needs
-
-index-1-further : tie.Need-index-1-further Inv-loop μ-loop
-index-1-further c = search needs
-
-index-2-further : tie.Need-index-2-further Inv-loop μ-loop
-index-2-further c = search needs
-
-further-requires : tie.Need-further-requires Inv-loop μ-loop
-further-requires c κs = search needs
-
-add-a : tie.Need-add-a Inv-loop μ-loop
-add-a c = search needs
-
-loop-less : tie.Need-loop-less Inv-loop μ-loop
-loop-less c = search needs
 
 loop-again : tie.Need-loop-again Inv-loop μ-loop
 loop-again c =
@@ -74,17 +41,17 @@ span-spec =
     (tie.spec
     Inv-loop
     μ-loop
-    vertex-requires
-    wide-requires
+    (λ c κs. search needs)
+    (λ c κs. search needs)
     loop-holds
-    vertex-requires-2
-    wide-requires-2
-    mul-further
-    mul-further-2
-    index-1-further
-    index-2-further
-    further-requires
-    add-a
-    loop-less
+    (λ c κs. search needs)
+    (λ c κs. search needs)
+    (λ c. search needs)
+    (λ c. search needs)
+    (λ c. search needs)
+    (λ c. search needs)
+    (λ c κs. search needs)
+    (λ c. search needs)
+    (λ c. search needs)
     loop-again
     returns)

@@ -31,12 +31,6 @@ loop-holds c = (omega arith, c .begun .ensures .1, λ p h. refl)
 climb-requires : tie.Need-climb-requires Inv-loop μ-loop
 climb-requires c κs = let s = c .before .before .before .before in ((s .pre .0, s .pre .1), c .before .loop .inv .1)
 
-add-i : tie.Need-add-i Inv-loop μ-loop
-add-i c = search needs
-
-loop-less : tie.Need-loop-less Inv-loop μ-loop
-loop-less c = search needs
-
 loop-again : tie.Need-loop-again Inv-loop μ-loop
 loop-again c =
     let at = c .before .before in
@@ -56,7 +50,7 @@ ascend-spec =
     begun-requires
     loop-holds
     climb-requires
-    add-i
-    loop-less
+    (λ c. search needs)
+    (λ c. search needs)
     loop-again
     returns)

@@ -17,9 +17,6 @@ lagrangian-requires c κs =
     let s = c .before .before .before .before .before .before .before .before .before .before in
     (s .pre .0 .0, lawful-priced _ _ _ _ _ _ _ _ _ (s .pre .0 .1) _ (s .pre .1) (c .before .before .before .before .are-lawful .ensures) (c .before .before .before .if1 .taken) _ (c .before .rooted .ensures))
 
-exceeds-requires : tie.Need-exceeds-requires
-exceeds-requires c κs = search needs
-
 returns : tie.Need-returns
 returns c =
     let r = c .before .before .before .before .before in
@@ -53,7 +50,7 @@ attempt-spec =
     are-lawful-requires
     rooted-requires
     lagrangian-requires
-    exceeds-requires
+    (λ c κs. search needs)
     returns
     returns-2
     returns-3)

@@ -14,12 +14,6 @@ lagrangian-requires c κs = let s = c .before .before in (s .pre .0, greatest-pr
 span-requires : tie.Need-span-requires
 span-requires c κs = let s = c .before .before .before in (vertices-low _ _ _ _ _ _ _ _ _ (s .pre .1), some-vertices _ _ _ _ _ _ _ _ _ (s .pre .1))
 
-add-lesser : tie.Need-add-lesser
-add-lesser c = search needs
-
-lesser-requires : tie.Need-lesser-requires
-lesser-requires c κs = search needs
-
 returns : tie.Need-returns
 returns c =
     let l = c .before .before .lagrangian in
@@ -31,4 +25,4 @@ returns c =
 
 pub begun-spec : {M : Type 1} → statement M
 begun-spec =
-    tie.close (tie.spec lagrangian-requires span-requires add-lesser lesser-requires returns)
+    tie.close (tie.spec lagrangian-requires span-requires (λ c. search needs) (λ c κs. search needs) returns)

@@ -27,12 +27,6 @@ step-requires c κs =
 attempt-above-requires : tie.Need-attempt-above-requires
 attempt-above-requires c κs = let s = c .before .before .before .before .before .before .before .before in (s .pre .0, s .pre .1 .multipliers)
 
-larger-requires : tie.Need-larger-requires
-larger-requires c κs = search needs
-
-sub-t25 : tie.Need-sub-t25
-sub-t25 c = search needs
-
 returns-2 : tie.Need-returns-2
 returns-2 c =
     let m = c .before .before .before in
@@ -49,4 +43,4 @@ returns-2 c =
 pub climb-spec : {M : Type 1} → statement M
 climb-spec =
     tie.close
-    (tie.spec returns step-requires attempt-above-requires larger-requires sub-t25 returns-2)
+    (tie.spec returns step-requires attempt-above-requires (λ c κs. search needs) (λ c. search needs) returns-2)

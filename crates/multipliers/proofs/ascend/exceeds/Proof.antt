@@ -3,8 +3,5 @@ use borrow.Author.Needs.{needs}
 use Rattle.multipliers.proofs.ascend.exceeds.Statement.{statement}
 use Rattle.multipliers.proofs.ascend.exceeds.Tie as tie
 
-returns : tie.Need-returns
-returns c = search needs
-
 pub exceeds-spec : {M : Type 1} → statement M
-exceeds-spec = tie.close (tie.spec returns)
+exceeds-spec = tie.close (tie.spec (λ c. search needs))

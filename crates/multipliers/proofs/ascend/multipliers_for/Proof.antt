@@ -10,9 +10,6 @@ use borrow.Author.Needs.{needs, length-unmapped}
 use Rattle.multipliers.proofs.ascend.multipliers_for.Statement.{statement}
 use Rattle.multipliers.proofs.ascend.multipliers_for.Tie as tie
 
-cast-k : tie.Need-cast-k
-cast-k c = search needs
-
 ascend-requires : tie.Need-ascend-requires
 ascend-requires c κs =
     let s = c .before .before .before .before .before .before .before .before .before in
@@ -29,4 +26,4 @@ returns c =
     (e .0 ∙ ascended-is _ _ _ _ _ _ _ _ _ (a .1) l _ (a .2), e .1)
 
 pub multipliers-for-spec : {M : Type 1} → statement M
-multipliers-for-spec = tie.close (tie.spec cast-k ascend-requires returns)
+multipliers-for-spec = tie.close (tie.spec (λ c. search needs) ascend-requires returns)

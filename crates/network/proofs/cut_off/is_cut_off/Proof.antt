@@ -22,24 +22,12 @@ abbrev μ-loop : tie.MeasureT-loop
 loop-holds : tie.Need-loop-holds Inv-loop μ-loop
 loop-holds c = (omega arith, λ k l. absurd (omega arith))
 
-array-read-if1 : tie.Need-array-read-if1 Inv-loop μ-loop
-array-read-if1 c = search needs
-
-misses-requires : tie.Need-misses-requires Inv-loop μ-loop
-misses-requires c κs = search needs
-
 returns : tie.Need-returns Inv-loop μ-loop
 unfolding cutsOff
 returns c =
     let v = c .before .before .before .before in
     let s = v .before .args in
     sym (some-below (isCut (s .d .now) (s .t2)) 64 (v .loop .i) (omega arith) (both (c .before .before .if1 .taken) (sym (c .before .misses .ensures) ∙ c .if2 .taken)))
-
-add-i : tie.Need-add-i Inv-loop μ-loop
-add-i c = search needs
-
-loop-less : tie.Need-loop-less Inv-loop μ-loop
-loop-less c = search needs
 
 loop-again : tie.Need-loop-again Inv-loop μ-loop
 loop-again c =
@@ -67,10 +55,10 @@ is-cut-off-spec =
     Inv-loop
     μ-loop
     loop-holds
-    array-read-if1
-    misses-requires
+    (λ c. search needs)
+    (λ c κs. search needs)
     returns
-    add-i
-    loop-less
+    (λ c. search needs)
+    (λ c. search needs)
     loop-again
     returns-2)

@@ -10,26 +10,8 @@ use borrow.Author.Needs.{needs}
 use Rattle.network.proofs.network.network_of.Statement.{statement}
 use Rattle.network.proofs.network.network_of.Tie as tie
 
-required-requires : tie.Need-required-requires
-required-requires c κs = search needs
-
-components-of-requires : tie.Need-components-of-requires
-components-of-requires c κs = search needs
-
-pairs-requires : tie.Need-pairs-requires
-pairs-requires c κs = search needs
-
 thin-requires : tie.Need-thin-requires
 thin-requires c κs = c .pairs .ensures .0
-
-imbalance-requires : tie.Need-imbalance-requires
-imbalance-requires c κs = search needs
-
-required-cost-requires : tie.Need-required-cost-requires
-required-cost-requires c κs = search needs
-
-is-cut-off-requires : tie.Need-is-cut-off-requires
-is-cut-off-requires c κs = search needs
 
 returns : tie.Need-returns
 returns c =
@@ -51,11 +33,11 @@ pub network-of-spec : {M : Type 1} → statement M
 network-of-spec =
     tie.close
     (tie.spec
-    required-requires
-    components-of-requires
-    pairs-requires
+    (λ c κs. search needs)
+    (λ c κs. search needs)
+    (λ c κs. search needs)
     thin-requires
-    imbalance-requires
-    required-cost-requires
-    is-cut-off-requires
+    (λ c κs. search needs)
+    (λ c κs. search needs)
+    (λ c κs. search needs)
     returns)

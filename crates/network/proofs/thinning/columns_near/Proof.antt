@@ -18,42 +18,6 @@ loop-holds : tie.Need-loop-holds Inv-loop μ-loop
 loop-holds c =
     prefix-none 4096 0 _ 0
 
-mul-near : tie.Need-mul-near Inv-loop μ-loop
-mul-near c = search needs
-
-add-near : tie.Need-add-near Inv-loop μ-loop
-add-near c = search needs
-
-element-copy-out-near : tie.Need-element-copy-out-near Inv-loop μ-loop
-element-copy-out-near c = search needs
-
-mul-near-2 : tie.Need-mul-near-2 Inv-loop μ-loop
-mul-near-2 c = search needs
-
-mul-near-3 : tie.Need-mul-near-3 Inv-loop μ-loop
-mul-near-3 c = search needs
-
-index-1-near : tie.Need-index-1-near Inv-loop μ-loop
-index-1-near c = search needs
-
-index-2-near : tie.Need-index-2-near Inv-loop μ-loop
-index-2-near c = search needs
-
-near-requires : tie.Need-near-requires Inv-loop μ-loop
-near-requires c κs = search needs
-
-mul-columns : tie.Need-mul-columns Inv-loop μ-loop
-mul-columns c = search needs
-
-array-write-columns : tie.Need-array-write-columns Inv-loop μ-loop
-array-write-columns c = search needs
-
-add-x : tie.Need-add-x Inv-loop μ-loop
-add-x c = search needs
-
-loop-less : tie.Need-loop-less Inv-loop μ-loop
-loop-less c = search needs
-
 loop-again : tie.Need-loop-again Inv-loop μ-loop
 loop-again c =
     let v = c .before .before .before .before in
@@ -71,17 +35,17 @@ columns-near-spec =
     Inv-loop
     μ-loop
     loop-holds
-    mul-near
-    add-near
-    element-copy-out-near
-    mul-near-2
-    mul-near-3
-    index-1-near
-    index-2-near
-    near-requires
-    mul-columns
-    array-write-columns
-    add-x
-    loop-less
+    (λ c. search needs)
+    (λ c. search needs)
+    (λ c. search needs)
+    (λ c. search needs)
+    (λ c. search needs)
+    (λ c. search needs)
+    (λ c. search needs)
+    (λ c κs. search needs)
+    (λ c. search needs)
+    (λ c. search needs)
+    (λ c. search needs)
+    (λ c. search needs)
     loop-again
     returns)

@@ -5,9 +5,6 @@ use borrow.Author.Needs.{needs}
 use Rattle.network.proofs.thinning.is_short.Statement.{statement}
 use Rattle.network.proofs.thinning.is_short.Tie as tie
 
-ways-requires : tie.Need-ways-requires
-ways-requires c κs = search needs
-
 returns : tie.Need-returns
 returns c =
     let a = c .before .before .args in
@@ -19,4 +16,4 @@ returns-2 c =
     far-test (a .row .now) (a .columns .now) (a .j) (a .a) (omega arith)
 
 pub is-short-spec : {M : Type 1} → statement M
-is-short-spec = tie.close (tie.spec ways-requires returns returns-2)
+is-short-spec = tie.close (tie.spec (λ c κs. search needs) returns returns-2)

@@ -36,40 +36,10 @@ loop2-holds c =
     let v = c .before .loop in
     (omega arith, omega arith, filled-at false _ (v .held) _ (omega arith) (v .inv .1))
 
-array-read-is-pair : tie.Need-array-read-is-pair Inv-loop2 μ-loop2 Inv-loop μ-loop
-array-read-is-pair c = search needs
-
-array-read-is-pair-2 : tie.Need-array-read-is-pair-2 Inv-loop2 μ-loop2 Inv-loop μ-loop
-array-read-is-pair-2 c = search needs
-
-is-pair-requires : tie.Need-is-pair-requires Inv-loop2 μ-loop2 Inv-loop μ-loop
-is-pair-requires c κs = search needs
-
-mul-held : tie.Need-mul-held Inv-loop2 μ-loop2 Inv-loop μ-loop
-mul-held c = search needs
-
-add-held : tie.Need-add-held Inv-loop2 μ-loop2 Inv-loop μ-loop
-add-held c = search needs
-
-array-write-held : tie.Need-array-write-held Inv-loop2 μ-loop2 Inv-loop μ-loop
-array-write-held c = search needs
-
-add-j : tie.Need-add-j Inv-loop2 μ-loop2 Inv-loop μ-loop
-add-j c = search needs
-
-loop2-less : tie.Need-loop2-less Inv-loop2 μ-loop2 Inv-loop μ-loop
-loop2-less c = search needs
-
 loop2-again : tie.Need-loop2-again Inv-loop2 μ-loop2 Inv-loop μ-loop
 loop2-again c =
     let v = c .before .before .loop2 in
     (v .inv .0, omega arith, filled-store false _ (v .held) _ _ (omega arith) (omega arith) (v .inv .2) _ (c .is-pair .ensures))
-
-add-i : tie.Need-add-i Inv-loop2 μ-loop2 Inv-loop μ-loop
-add-i c = search needs
-
-loop-less : tie.Need-loop-less Inv-loop2 μ-loop2 Inv-loop μ-loop
-loop-less c = search needs
 
 loop-again : tie.Need-loop-again Inv-loop2 μ-loop2 Inv-loop μ-loop
 loop-again c =
@@ -89,16 +59,16 @@ pairs-spec =
     μ-loop
     loop-holds
     loop2-holds
-    array-read-is-pair
-    array-read-is-pair-2
-    is-pair-requires
-    mul-held
-    add-held
-    array-write-held
-    add-j
-    loop2-less
+    (λ c. search needs)
+    (λ c. search needs)
+    (λ c κs. search needs)
+    (λ c. search needs)
+    (λ c. search needs)
+    (λ c. search needs)
+    (λ c. search needs)
+    (λ c. search needs)
     loop2-again
-    add-i
-    loop-less
+    (λ c. search needs)
+    (λ c. search needs)
     loop-again
     returns)

@@ -73,12 +73,6 @@ pair-holds :
 pair-holds c =
     (c .before .loop2 .inv .2, refl)
 
-mul-pair : tie.Need-mul-pair Inv-loop3 μ-loop3 Inv-pair μ-pair Inv-loop2 μ-loop2 Inv-loop μ-loop
-mul-pair c = search needs
-
-add-pair : tie.Need-add-pair Inv-loop3 μ-loop3 Inv-pair μ-pair Inv-loop2 μ-loop2 Inv-loop μ-loop
-add-pair c = search needs
-
 array-read-pair :
     tie.Need-array-read-pair Inv-loop3 μ-loop3 Inv-pair μ-pair Inv-loop2 μ-loop2 Inv-loop μ-loop
 array-read-pair c = search needs
@@ -165,38 +159,17 @@ splits-requires :
     tie.Need-splits-requires Inv-loop3 μ-loop3 Inv-pair μ-pair Inv-loop2 μ-loop2 Inv-loop μ-loop
 splits-requires c κs = search needs
 
-mul-if3 : tie.Need-mul-if3 Inv-loop3 μ-loop3 Inv-pair μ-pair Inv-loop2 μ-loop2 Inv-loop μ-loop
-mul-if3 c = search needs
-
-add-if3 : tie.Need-add-if3 Inv-loop3 μ-loop3 Inv-pair μ-pair Inv-loop2 μ-loop2 Inv-loop μ-loop
-add-if3 c = search needs
-
 array-read-if3 :
     tie.Need-array-read-if3 Inv-loop3 μ-loop3 Inv-pair μ-pair Inv-loop2 μ-loop2 Inv-loop μ-loop
 array-read-if3 c = search needs
-
-mul-if4 : tie.Need-mul-if4 Inv-loop3 μ-loop3 Inv-pair μ-pair Inv-loop2 μ-loop2 Inv-loop μ-loop
-mul-if4 c = search needs
-
-add-if4 : tie.Need-add-if4 Inv-loop3 μ-loop3 Inv-pair μ-pair Inv-loop2 μ-loop2 Inv-loop μ-loop
-add-if4 c = search needs
 
 array-read-if4 :
     tie.Need-array-read-if4 Inv-loop3 μ-loop3 Inv-pair μ-pair Inv-loop2 μ-loop2 Inv-loop μ-loop
 array-read-if4 c = search needs
 
-mul-held : tie.Need-mul-held Inv-loop3 μ-loop3 Inv-pair μ-pair Inv-loop2 μ-loop2 Inv-loop μ-loop
-mul-held c = search needs
-
-add-held : tie.Need-add-held Inv-loop3 μ-loop3 Inv-pair μ-pair Inv-loop2 μ-loop2 Inv-loop μ-loop
-add-held c = search needs
-
 array-write-held :
     tie.Need-array-write-held Inv-loop3 μ-loop3 Inv-pair μ-pair Inv-loop2 μ-loop2 Inv-loop μ-loop
 array-write-held c = search needs
-
-add-k : tie.Need-add-k Inv-loop3 μ-loop3 Inv-pair μ-pair Inv-loop2 μ-loop2 Inv-loop μ-loop
-add-k c = search needs
 
 loop3-less :
     tie.Need-loop3-less Inv-loop3 μ-loop3 Inv-pair μ-pair Inv-loop2 μ-loop2 Inv-loop μ-loop
@@ -220,9 +193,6 @@ loop3-again c =
     (λ w. more (via-first d (v .held) i j (v .k) (w .1 .left)))
     (λ w. more (via-long d (v .held) i j (v .k) (sym (c .before .splits .ensures) ∙ w .left))))
     (c .if2 .came)
-
-add-j : tie.Need-add-j Inv-loop3 μ-loop3 Inv-pair μ-pair Inv-loop2 μ-loop2 Inv-loop μ-loop
-add-j c = search needs
 
 loop2-less :
     tie.Need-loop2-less Inv-loop3 μ-loop3 Inv-pair μ-pair Inv-loop2 μ-loop2 Inv-loop μ-loop
@@ -268,12 +238,6 @@ loop2-again c =
     done (l .held) (l .held) (l .inv .2) (turn-keeps d (l .held) i j none) (l .inv .1) (subst⁻¹ (Fewer (t .args .t2)) (l .inv .2) few) (w .8))))
     (c .pair-test .came)
 
-add-i : tie.Need-add-i Inv-loop3 μ-loop3 Inv-pair μ-pair Inv-loop2 μ-loop2 Inv-loop μ-loop
-add-i c = search needs
-
-loop-less : tie.Need-loop-less Inv-loop3 μ-loop3 Inv-pair μ-pair Inv-loop2 μ-loop2 Inv-loop μ-loop
-loop-less c = search needs
-
 loop-again :
     tie.Need-loop-again Inv-loop3 μ-loop3 Inv-pair μ-pair Inv-loop2 μ-loop2 Inv-loop μ-loop
 loop-again c =
@@ -304,8 +268,8 @@ thin-spec =
     row-near-requires
     loop2-holds
     pair-holds
-    mul-pair
-    add-pair
+    (λ c. search needs)
+    (λ c. search needs)
     array-read-pair
     mul-is-short
     mul-is-short-2
@@ -326,22 +290,22 @@ thin-spec =
     index-1-splits-3
     index-2-splits-3
     splits-requires
-    mul-if3
-    add-if3
+    (λ c. search needs)
+    (λ c. search needs)
     array-read-if3
-    mul-if4
-    add-if4
+    (λ c. search needs)
+    (λ c. search needs)
     array-read-if4
-    mul-held
-    add-held
+    (λ c. search needs)
+    (λ c. search needs)
     array-write-held
-    add-k
+    (λ c. search needs)
     loop3-less
     loop3-again
-    add-j
+    (λ c. search needs)
     loop2-less
     loop2-again
-    add-i
-    loop-less
+    (λ c. search needs)
+    (λ c. search needs)
     loop-again
     returns)

@@ -17,42 +17,15 @@ loop-holds : tie.Need-loop-holds Inv-loop μ-loop
 loop-holds c =
     let a = c .args in (omega arith, omega arith, sym (ways-none (a .row .now) (a .columns .now) (a .j) (a .a)))
 
-mul-one : tie.Need-mul-one Inv-loop μ-loop
-mul-one c = search needs
-
-element-copy-out-one : tie.Need-element-copy-out-one Inv-loop μ-loop
-element-copy-out-one c = search needs
-
-mul-one-2 : tie.Need-mul-one-2 Inv-loop μ-loop
-mul-one-2 c = search needs
-
-add-one : tie.Need-add-one Inv-loop μ-loop
-add-one c = search needs
-
-mul-one-3 : tie.Need-mul-one-3 Inv-loop μ-loop
-mul-one-3 c = search needs
-
-element-copy-out-one-2 : tie.Need-element-copy-out-one-2 Inv-loop μ-loop
-element-copy-out-one-2 c = search needs
-
 add-one-2 : tie.Need-add-one-2 Inv-loop μ-loop
 add-one-2 c =
     let v = c .before .before .before in
     let b = v .before .pre .1 (v .loop .k) (omega arith) in
     omega arith
 
-one-requires : tie.Need-one-requires Inv-loop μ-loop
-one-requires c κs = search needs
-
 add-n : tie.Need-add-n Inv-loop μ-loop
 add-n c =
     omega arith
-
-add-k : tie.Need-add-k Inv-loop μ-loop
-add-k c = search needs
-
-loop-less : tie.Need-loop-less Inv-loop μ-loop
-loop-less c = search needs
 
 loop-again : tie.Need-loop-again Inv-loop μ-loop
 loop-again c =
@@ -75,16 +48,16 @@ ways-spec =
     Inv-loop
     μ-loop
     loop-holds
-    mul-one
-    element-copy-out-one
-    mul-one-2
-    add-one
-    mul-one-3
-    element-copy-out-one-2
+    (λ c. search needs)
+    (λ c. search needs)
+    (λ c. search needs)
+    (λ c. search needs)
+    (λ c. search needs)
+    (λ c. search needs)
     add-one-2
-    one-requires
+    (λ c κs. search needs)
     add-n
-    add-k
-    loop-less
+    (λ c. search needs)
+    (λ c. search needs)
     loop-again
     returns)

@@ -9,9 +9,6 @@ use borrow.Author.Needs.{needs, length-unmapped}
 use Rattle.open_plan.proofs.call.ask.Statement.{statement}
 use Rattle.open_plan.proofs.call.ask.Tie as tie
 
-held-length-requires : tie.Need-held-length-requires
-held-length-requires c κs = search needs
-
 array-share-prefix-file : tie.Need-array-share-prefix-file
 array-share-prefix-file c =
     let s = c .before .before .before .before .before in
@@ -28,12 +25,6 @@ slice-aggregate-plan-call-at c =
     let long : length (s .args .state .plan .file) ≡ 1475 = length-unmapped ℕ (s .args .state .plan .file) 1475 (s .good .0 .1 .1 .0 .1 .1 .1 .0 .1 .0 .1) in
     sym (length-take-le _ (s .args .state .plan .file) (omega arith))
 
-plan-call-at-requires : tie.Need-plan-call-at-requires
-plan-call-at-requires c κs = search needs
-
-same-length : tie.Need-same-length
-same-length c = search needs
-
 returns : tie.Need-returns
 returns c = rw (c .before .before .before .before .before .before .held-length .ensures) at (c .before .before .plan-call-at .ensures)
 
@@ -41,9 +32,9 @@ pub ask-spec : {M : Type 1} → statement M
 ask-spec =
     tie.close
     (tie.spec
-    held-length-requires
+    (λ c κs. search needs)
     array-share-prefix-file
     slice-aggregate-plan-call-at
-    plan-call-at-requires
-    same-length
+    (λ c κs. search needs)
+    (λ c. search needs)
     returns)

@@ -8,24 +8,6 @@ use borrow.Author.Needs.{needs}
 use Rattle.open_plan.proofs.call.change.Statement.{statement}
 use Rattle.open_plan.proofs.call.change.Tie as tie
 
-changed-file-requires : tie.Need-changed-file-requires
-changed-file-requires c κs = search needs
-
-with-plan-requires : tie.Need-with-plan-requires
-with-plan-requires c κs = search needs
-
-enum-told : tie.Need-enum-told
-enum-told c = search needs
-
-accepted-requires : tie.Need-accepted-requires
-accepted-requires c κs = search needs
-
-enum-known-verdict : tie.Need-enum-known-verdict
-enum-known-verdict c = search needs
-
-refused-requires : tie.Need-refused-requires
-refused-requires c κs = search needs
-
 returns : tie.Need-returns
 returns c =
     let w = c .before .before .before .before .before .changed-file in
@@ -43,11 +25,11 @@ pub change-spec : {M : Type 1} → statement M
 change-spec =
     tie.close
     (tie.spec
-    changed-file-requires
-    with-plan-requires
-    enum-told
-    accepted-requires
-    enum-known-verdict
-    refused-requires
+    (λ c κs. search needs)
+    (λ c κs. search needs)
+    (λ c. search needs)
+    (λ c κs. search needs)
+    (λ c. search needs)
+    (λ c κs. search needs)
     returns
     returns-2)

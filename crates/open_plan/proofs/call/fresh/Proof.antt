@@ -8,12 +8,9 @@ use borrow.Author.Needs.{needs}
 use Rattle.open_plan.proofs.call.fresh.Statement.{statement}
 use Rattle.open_plan.proofs.call.fresh.Tie as tie
 
-no-file-requires : tie.Need-no-file-requires
-no-file-requires c κs = search needs
-
 returns : tie.Need-returns
 unfolding freshState
 returns c = ap {B = OpenPlan} (λ (h : Held). record { plan = c .before .args .file; marks = replicate 4 h }) (c .no-file .ensures)
 
 pub fresh-spec : {M : Type 1} → statement M
-fresh-spec = tie.close (tie.spec no-file-requires returns)
+fresh-spec = tie.close (tie.spec (λ c κs. search needs) returns)

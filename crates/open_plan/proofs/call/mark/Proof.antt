@@ -4,20 +4,8 @@ use borrow.Author.Needs.{needs}
 use Rattle.open_plan.proofs.call.mark.Statement.{statement}
 use Rattle.open_plan.proofs.call.mark.Tie as tie
 
-refused-requires : tie.Need-refused-requires
-refused-requires c κs = search needs
-
 returns : tie.Need-returns
 returns c = moved-not _ _ _ _ (mark-above (c .before .before .args .state) _ (c .before .if1 .taken)) (c .refused .ensures)
-
-mul-held : tie.Need-mul-held
-mul-held c = search needs
-
-element-set-from-held : tie.Need-element-set-from-held
-element-set-from-held c = search needs
-
-accepted-requires : tie.Need-accepted-requires
-accepted-requires c κs = search needs
 
 returns-2 : tie.Need-returns-2
 returns-2 c = moved-on _ _ _ (mark-good (c .before .before .before .args .state) _ (c .before .before .if1 .left)) (c .accepted .ensures)
@@ -26,9 +14,9 @@ pub mark-spec : {M : Type 1} → statement M
 mark-spec =
     tie.close
     (tie.spec
-    refused-requires
+    (λ c κs. search needs)
     returns
-    mul-held
-    element-set-from-held
-    accepted-requires
+    (λ c. search needs)
+    (λ c. search needs)
+    (λ c κs. search needs)
     returns-2)

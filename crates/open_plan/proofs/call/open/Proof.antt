@@ -8,32 +8,8 @@ use borrow.Author.Needs.{needs}
 use Rattle.open_plan.proofs.call.open.Statement.{statement}
 use Rattle.open_plan.proofs.call.open.Tie as tie
 
-file-verdict-requires : tie.Need-file-verdict-requires
-file-verdict-requires c κs = search needs
-
-enum-told : tie.Need-enum-told
-enum-told c = search needs
-
 hold-requires : tie.Need-hold-requires
 hold-requires c κs = file-short _ (sym (c .before .before .file-verdict .ensures) ∙ ap verdictNumber (c .enum-told .given .1))
-
-fresh-requires : tie.Need-fresh-requires
-fresh-requires c κs = search needs
-
-accepted-requires : tie.Need-accepted-requires
-accepted-requires c κs = search needs
-
-enum-known-r : tie.Need-enum-known-r
-enum-known-r c = search needs
-
-no-file-requires : tie.Need-no-file-requires
-no-file-requires c κs = search needs
-
-fresh-requires-2 : tie.Need-fresh-requires-2
-fresh-requires-2 c κs = search needs
-
-refused-requires : tie.Need-refused-requires
-refused-requires c κs = search needs
 
 returns : tie.Need-returns
 returns c =
@@ -49,14 +25,14 @@ pub open-spec : {M : Type 1} → statement M
 open-spec =
     tie.close
     (tie.spec
-    file-verdict-requires
-    enum-told
+    (λ c κs. search needs)
+    (λ c. search needs)
     hold-requires
-    fresh-requires
-    accepted-requires
-    enum-known-r
-    no-file-requires
-    fresh-requires-2
-    refused-requires
+    (λ c κs. search needs)
+    (λ c κs. search needs)
+    (λ c. search needs)
+    (λ c κs. search needs)
+    (λ c κs. search needs)
+    (λ c κs. search needs)
     returns
     returns-2)

@@ -25,21 +25,6 @@ loop-holds c =
     let z = length-replicate {A = ℕ} 1475 0 in
     (p, paste-start zeros 0 (drop (a .at) (a .state .now)) 1475 (omega arith) (omega arith))
 
-add-file : tie.Need-add-file Inv-loop μ-loop
-add-file c = search needs
-
-shared-slice-read-file : tie.Need-shared-slice-read-file Inv-loop μ-loop
-shared-slice-read-file c = search needs
-
-array-write-file : tie.Need-array-write-file Inv-loop μ-loop
-array-write-file c = search needs
-
-add-i : tie.Need-add-i Inv-loop μ-loop
-add-i c = search needs
-
-loop-less : tie.Need-loop-less Inv-loop μ-loop
-loop-less c = search needs
-
 loop-again : tie.Need-loop-again Inv-loop μ-loop
 loop-again c =
     let v = c .before .before in
@@ -60,10 +45,10 @@ load-file-spec =
     Inv-loop
     μ-loop
     loop-holds
-    add-file
-    shared-slice-read-file
-    array-write-file
-    add-i
-    loop-less
+    (λ c. search needs)
+    (λ c. search needs)
+    (λ c. search needs)
+    (λ c. search needs)
+    (λ c. search needs)
     loop-again
     returns)

@@ -10,18 +10,6 @@ use borrow.Author.Needs.{needs}
 use Rattle.open_plan_bytes.proofs.state_bytes.short_number.Statement.{statement}
 use Rattle.open_plan_bytes.proofs.state_bytes.short_number.Tie as tie
 
-enum-told : tie.Need-enum-told
-enum-told c = search needs
-
-refused-number-requires : tie.Need-refused-number-requires
-refused-number-requires c κs = search needs
-
-enum-known-v : tie.Need-enum-known-v
-enum-known-v c = search needs
-
-refused-number-requires-2 : tie.Need-refused-number-requires-2
-refused-number-requires-2 c κs = search needs
-
 returns : tie.Need-returns
 unfolding answer
 returns c = back64 _ (c .refused-number .ok) ∙ c .refused-number .ensures ∙ ap (λ (v : Verdict). oneNumber (answer (orElse (verdictNumber v) (some 8)) 0)) (sym (c .before .enum-told .given .1))
@@ -34,9 +22,9 @@ pub short-number-spec : {M : Type 1} → statement M
 short-number-spec =
     tie.close
     (tie.spec
-    enum-told
-    refused-number-requires
-    enum-known-v
-    refused-number-requires-2
+    (λ c. search needs)
+    (λ c κs. search needs)
+    (λ c. search needs)
+    (λ c κs. search needs)
     returns
     returns-2)

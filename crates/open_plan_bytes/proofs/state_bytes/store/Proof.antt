@@ -4,36 +4,6 @@ use borrow.Author.Needs.{needs}
 use Rattle.open_plan_bytes.proofs.state_bytes.store.Statement.{statement}
 use Rattle.open_plan_bytes.proofs.state_bytes.store.Tie as tie
 
-element-copy-out-first : tie.Need-element-copy-out-first
-element-copy-out-first c = search needs
-
-element-copy-out-second : tie.Need-element-copy-out-second
-element-copy-out-second c = search needs
-
-element-copy-out-third : tie.Need-element-copy-out-third
-element-copy-out-third c = search needs
-
-element-copy-out-fourth : tie.Need-element-copy-out-fourth
-element-copy-out-fourth c = search needs
-
-store-held-requires : tie.Need-store-held-requires
-store-held-requires c κs = search needs
-
-store-held-requires-2 : tie.Need-store-held-requires-2
-store-held-requires-2 c κs = search needs
-
-store-held-requires-3 : tie.Need-store-held-requires-3
-store-held-requires-3 c κs = search needs
-
-store-held-requires-4 : tie.Need-store-held-requires-4
-store-held-requires-4 c κs = search needs
-
-store-held-requires-5 : tie.Need-store-held-requires-5
-store-held-requires-5 c κs = search needs
-
-same-length : tie.Need-same-length
-same-length c = search needs
-
 returns : tie.Need-returns
 returns c =
     let e = c .before .before in
@@ -48,14 +18,14 @@ pub store-spec : {M : Type 1} → statement M
 store-spec =
     tie.close
     (tie.spec
-    element-copy-out-first
-    element-copy-out-second
-    element-copy-out-third
-    element-copy-out-fourth
-    store-held-requires
-    store-held-requires-2
-    store-held-requires-3
-    store-held-requires-4
-    store-held-requires-5
-    same-length
+    (λ c. search needs)
+    (λ c. search needs)
+    (λ c. search needs)
+    (λ c. search needs)
+    (λ c κs. search needs)
+    (λ c κs. search needs)
+    (λ c κs. search needs)
+    (λ c κs. search needs)
+    (λ c κs. search needs)
+    (λ c. search needs)
     returns)

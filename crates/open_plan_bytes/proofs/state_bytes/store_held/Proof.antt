@@ -9,23 +9,11 @@ use borrow.Author.Needs.{needs, length-unmapped}
 use Rattle.open_plan_bytes.proofs.state_bytes.store_held.Statement.{statement}
 use Rattle.open_plan_bytes.proofs.state_bytes.store_held.Tie as tie
 
-put-number-requires : tie.Need-put-number-requires
-put-number-requires c κs = search needs
-
-add-put-bytes : tie.Need-add-put-bytes
-add-put-bytes c = search needs
-
-slice-aggregate-put-bytes : tie.Need-slice-aggregate-put-bytes
-slice-aggregate-put-bytes c = search needs
-
 put-bytes-requires : tie.Need-put-bytes-requires
 put-bytes-requires c κs =
     let s = c .before .before .before .before .before .before .before .before in
     let f : length (s .args .h .file) ≡ 1475 = length-unmapped ℕ (s .args .h .file) 1475 (s .good .1 .1 .0 .1 .1 .1 .0 .1 .0 .1) in
     omega arith
-
-same-length : tie.Need-same-length
-same-length c = search needs
 
 returns : tie.Need-returns
 returns c =
@@ -36,4 +24,4 @@ returns c =
     (long, put-next _ _ (numberBytes (h .length)) (h .file) 2 1475 refl long (omega arith) _ _ (c .before .before .before .before .before .before .before .put-number .ensures) (c .before .before .put-bytes .ensures))
 
 pub store-held-spec : {M : Type 1} → statement M
-store-held-spec = tie.close (tie.spec put-number-requires add-put-bytes slice-aggregate-put-bytes put-bytes-requires same-length returns)
+store-held-spec = tie.close (tie.spec (λ c κs. search needs) (λ c. search needs) (λ c. search needs) put-bytes-requires (λ c. search needs) returns)

@@ -7,21 +7,6 @@ use borrow.Author.Needs.{needs}
 use Rattle.open_plan_bytes.proofs.state_bytes.store_moved.Statement.{statement}
 use Rattle.open_plan_bytes.proofs.state_bytes.store_moved.Tie as tie
 
-enum-told : tie.Need-enum-told
-enum-told c = search needs
-
-store-requires : tie.Need-store-requires
-store-requires c κs = search needs
-
-enum-known-verdict : tie.Need-enum-known-verdict
-enum-known-verdict c = search needs
-
-refused-number-requires : tie.Need-refused-number-requires
-refused-number-requires c κs = search needs
-
-same-length : tie.Need-same-length
-same-length c = search needs
-
 returns : tie.Need-returns
 returns c = stored-accepted _ _ _ (ap verdictNumber (c .before .before .before .before .enum-told .given .1)) (c .before .before .store .ensures)
 
@@ -32,10 +17,10 @@ pub store-moved-spec : {M : Type 1} → statement M
 store-moved-spec =
     tie.close
     (tie.spec
-    enum-told
-    store-requires
-    enum-known-verdict
-    refused-number-requires
-    same-length
+    (λ c. search needs)
+    (λ c κs. search needs)
+    (λ c. search needs)
+    (λ c κs. search needs)
+    (λ c. search needs)
     returns
     returns-2)

@@ -8,31 +8,10 @@ use borrow.Author.Needs.{needs}
 use Rattle.open_plan_exports.proofs.editing.postman_ask.Statement.{statement}
 use Rattle.open_plan_exports.proofs.editing.postman_ask.Tie as tie
 
-refused-number-requires : tie.Need-refused-number-requires
-refused-number-requires c κs = search needs
-
 returns : tie.Need-returns
 returns c =
     let l = c .before .if1 .taken in
     record { asked = λ h. absurd (omega arith); short = λ h. (back64 _ (c .refused-number .ok) ∙ c .refused-number .ensures, refl, refl, refl) }
-
-load-requires : tie.Need-load-requires
-load-requires c κs = search needs
-
-ask-requires : tie.Need-ask-requires
-ask-requires c κs = search needs
-
-hand-over-requires : tie.Need-hand-over-requires
-hand-over-requires c κs = search needs
-
-same-length : tie.Need-same-length
-same-length c = search needs
-
-same-length-2 : tie.Need-same-length-2
-same-length-2 c = search needs
-
-same-length-3 : tie.Need-same-length-3
-same-length-3 c = search needs
 
 returns-2 : tie.Need-returns-2
 returns-2 c =
@@ -50,12 +29,12 @@ pub postman-ask-spec : {M : Type 1} → statement M
 postman-ask-spec =
     tie.close
     (tie.spec
-    refused-number-requires
+    (λ c κs. search needs)
     returns
-    load-requires
-    ask-requires
-    hand-over-requires
-    same-length
-    same-length-2
-    same-length-3
+    (λ c κs. search needs)
+    (λ c κs. search needs)
+    (λ c κs. search needs)
+    (λ c. search needs)
+    (λ c. search needs)
+    (λ c. search needs)
     returns-2)

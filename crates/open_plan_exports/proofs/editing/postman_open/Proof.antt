@@ -7,20 +7,8 @@ use borrow.Author.Needs.{needs}
 use Rattle.open_plan_exports.proofs.editing.postman_open.Statement.{statement}
 use Rattle.open_plan_exports.proofs.editing.postman_open.Tie as tie
 
-open-requires : tie.Need-open-requires
-open-requires c κs = search needs
-
-short-number-requires : tie.Need-short-number-requires
-short-number-requires c κs = search needs
-
 returns : tie.Need-returns
 returns c = let o = c .before .before .«open» in opened-short _ _ _ (o .result) (o .ensures) (c .before .if1 .taken) (back64 _ (c .short-number .ok) ∙ c .short-number .ensures)
-
-store-moved-requires : tie.Need-store-moved-requires
-store-moved-requires c κs = search needs
-
-same-length : tie.Need-same-length
-same-length c = search needs
 
 returns-2 : tie.Need-returns-2
 returns-2 c =
@@ -32,9 +20,9 @@ pub postman-open-spec : {M : Type 1} → statement M
 postman-open-spec =
     tie.close
     (tie.spec
-    open-requires
-    short-number-requires
+    (λ c κs. search needs)
+    (λ c κs. search needs)
     returns
-    store-moved-requires
-    same-length
+    (λ c κs. search needs)
+    (λ c. search needs)
     returns-2)

@@ -7,23 +7,8 @@ use borrow.Author.Needs.{needs}
 use Rattle.open_plan_exports.proofs.editing.postman_return.Statement.{statement}
 use Rattle.open_plan_exports.proofs.editing.postman_return.Tie as tie
 
-refused-number-requires : tie.Need-refused-number-requires
-refused-number-requires c κs = search needs
-
 returns : tie.Need-returns
 returns c = moved-short _ _ _ (c .before .if1 .taken) (back64 _ (c .refused-number .ok) ∙ c .refused-number .ensures)
-
-load-requires : tie.Need-load-requires
-load-requires c κs = search needs
-
-return-to-requires : tie.Need-return-to-requires
-return-to-requires c κs = search needs
-
-store-moved-requires : tie.Need-store-moved-requires
-store-moved-requires c κs = search needs
-
-same-length : tie.Need-same-length
-same-length c = search needs
 
 returns-2 : tie.Need-returns-2
 returns-2 c =
@@ -36,10 +21,10 @@ pub postman-return-spec : {M : Type 1} → statement M
 postman-return-spec =
     tie.close
     (tie.spec
-    refused-number-requires
+    (λ c κs. search needs)
     returns
-    load-requires
-    return-to-requires
-    store-moved-requires
-    same-length
+    (λ c κs. search needs)
+    (λ c κs. search needs)
+    (λ c κs. search needs)
+    (λ c. search needs)
     returns-2)

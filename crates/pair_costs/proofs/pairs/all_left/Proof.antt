@@ -19,15 +19,6 @@ abbrev μ-loop : tie.MeasureT-loop
 loop-holds : tie.Need-loop-holds Inv-loop μ-loop
 loop-holds c = (omega arith, refl, λ m l. absurd (omega arith))
 
-array-write-left : tie.Need-array-write-left Inv-loop μ-loop
-array-write-left c = search needs
-
-add-q : tie.Need-add-q Inv-loop μ-loop
-add-q c = search needs
-
-loop-less : tie.Need-loop-less Inv-loop μ-loop
-loop-less c = search needs
-
 loop-again : tie.Need-loop-again Inv-loop μ-loop
 loop-again c = let v = c .before .loop in let t = c .loop-test .taken in let h = v .inv .1 in (omega arith, search needs, filled-more false (λ m. ltb m (c .before .before .args .k)) (v .left) (v .q) _ (omega arith) (v .inv .2) refl)
 
@@ -37,4 +28,4 @@ returns c = let v = c .before .loop in λ q l. v .inv .2 q (omega arith)
 pub all-left-spec : {M : Type 1} → statement M
 all-left-spec =
     tie.close
-    (tie.spec Inv-loop μ-loop loop-holds array-write-left add-q loop-less loop-again returns)
+    (tie.spec Inv-loop μ-loop loop-holds (λ c. search needs) (λ c. search needs) (λ c. search needs) loop-again returns)

@@ -1,19 +1,13 @@
 -- The least over pairs is the least over links.
-use Rattle.pair_costs.specs.Laws.PairCosts.{answer, first-picture}
+use Rattle.pair_costs.specs.Laws.PairCosts.{answer, first-matrix}
 use Rattle.integers.specs.Linear.{back64}
 use mathlib.Core.Path.{_∙_}
 use borrow.Author.Needs.{needs}
 use Rattle.pair_costs.proofs.pairs.cheapest_arborescence.Statement.{statement}
 use Rattle.pair_costs.proofs.pairs.cheapest_arborescence.Tie as tie
 
-pair-costs-requires : tie.Need-pair-costs-requires
-pair-costs-requires c κs = search needs
-
-all-left-requires : tie.Need-all-left-requires
-all-left-requires c κs = search needs
-
 solve-requires : tie.Need-solve-requires
-solve-requires c κs = let s = c .before .before in first-picture _ _ _ _ (s .pre .2) (s .args .k) (s .pre .0) _ (c .before .pair-costs .ensures) _ (c .all-left .ensures)
+solve-requires c κs = let s = c .before .before in first-matrix _ _ _ _ (s .pre .2) (s .args .k) (s .pre .0) _ (c .before .pair-costs .ensures) _ (c .all-left .ensures)
 
 returns : tie.Need-returns
 returns c =
@@ -22,4 +16,4 @@ returns c =
 
 pub cheapest-arborescence-spec : {M : Type 1} → statement M
 cheapest-arborescence-spec =
-    tie.close (tie.spec pair-costs-requires all-left-requires solve-requires returns)
+    tie.close (tie.spec (λ c κs. search needs) (λ c κs. search needs) solve-requires returns)

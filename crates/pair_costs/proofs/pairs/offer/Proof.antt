@@ -5,12 +5,6 @@ use borrow.Author.Needs.{needs}
 use Rattle.pair_costs.proofs.pairs.offer.Statement.{statement}
 use Rattle.pair_costs.proofs.pairs.offer.Tie as tie
 
-element-copy-out-if1 : tie.Need-element-copy-out-if1
-element-copy-out-if1 c = search needs
-
-element-copy-out-if2 : tie.Need-element-copy-out-if2
-element-copy-out-if2 c = search needs
-
 cost-requires : tie.Need-cost-requires
 cost-requires c κs = c .before .before .before .before .pre
 
@@ -26,4 +20,4 @@ returns-3 c = rw (c .if1 .left)
 pub offer-spec : {M : Type 1} → statement M
 offer-spec =
     tie.close
-    (tie.spec element-copy-out-if1 element-copy-out-if2 cost-requires returns returns-2 returns-3)
+    (tie.spec (λ c. search needs) (λ c. search needs) cost-requires returns returns-2 returns-3)

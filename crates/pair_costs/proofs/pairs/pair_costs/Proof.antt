@@ -35,20 +35,11 @@ array-copy-out-lesser c = let h = c .place .ensures .0 in let k = c .before .bef
 offer-requires : tie.Need-offer-requires Inv-loop μ-loop
 offer-requires c κs = let t = c .before .before .loop-test .taken in let s = c .before .before .before .before in (omega arith, omega arith, s .pre .small _ (omega arith), s .pre .small _ (omega arith))
 
-lesser-requires : tie.Need-lesser-requires Inv-loop μ-loop
-lesser-requires c κs = search needs
-
 mul-m : tie.Need-mul-m Inv-loop μ-loop
 mul-m c = let h = c .before .before .before .place .ensures .0 in search needs
 
 array-set-from-m : tie.Need-array-set-from-m Inv-loop μ-loop
 array-set-from-m c = let h = c .before .before .before .place .ensures .0 in let k = c .before .before .before .before .before .loop .inv .1 in search needs
-
-add-l : tie.Need-add-l Inv-loop μ-loop
-add-l c = search needs
-
-loop-less : tie.Need-loop-less Inv-loop μ-loop
-loop-less c = search needs
 
 loop-again : tie.Need-loop-again Inv-loop μ-loop
 loop-again c =
@@ -83,10 +74,10 @@ pair-costs-spec =
     mul-lesser
     array-copy-out-lesser
     offer-requires
-    lesser-requires
+    (λ c κs. search needs)
     mul-m
     array-set-from-m
-    add-l
-    loop-less
+    (λ c. search needs)
+    (λ c. search needs)
     loop-again
     returns)

@@ -7,9 +7,6 @@ use borrow.Author.Needs.{needs}
 use Rattle.pair_costs.proofs.pairs.reduced.Statement.{statement}
 use Rattle.pair_costs.proofs.pairs.reduced.Tie as tie
 
-cast-result : tie.Need-cast-result
-cast-result c = search needs
-
 sub-result : tie.Need-sub-result
 sub-result c = simp zz (omega (arith, z, simp zz at (c .pre .0), simp zz at (c .pre .1)))
 
@@ -20,4 +17,4 @@ returns : tie.Need-returns
 returns c = toZ-ofZ (add-result c) ∙ simp (toZ-ofZ (sub-result c)) (simp zz (omega (arith, z)))
 
 pub reduced-spec : {M : Type 1} → statement M
-reduced-spec = tie.close (tie.spec cast-result sub-result add-result returns)
+reduced-spec = tie.close (tie.spec (λ c. search needs) sub-result add-result returns)

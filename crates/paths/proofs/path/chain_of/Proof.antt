@@ -23,26 +23,8 @@ Inv-loop arcs k₀ chain₀ k chain = IsChainFrom arcs chain k
 abbrev μ-loop : tie.MeasureT-loop
 μ-loop arcs k₀ chain₀ k chain = k
 
-cast-chain : tie.Need-cast-chain Inv-loop μ-loop
-cast-chain c = search needs
-
 loop-holds : tie.Need-loop-holds Inv-loop μ-loop
 loop-holds c = chain-none _
-
-sub-k : tie.Need-sub-k Inv-loop μ-loop
-sub-k c = search needs
-
-mul-wide : tie.Need-mul-wide Inv-loop μ-loop
-mul-wide c = search needs
-
-index-1-wide : tie.Need-index-1-wide Inv-loop μ-loop
-index-1-wide c = search needs
-
-index-2-wide : tie.Need-index-2-wide Inv-loop μ-loop
-index-2-wide c = search needs
-
-wide-requires : tie.Need-wide-requires Inv-loop μ-loop
-wide-requires c κs = search needs
 
 mul-chain : tie.Need-mul-chain Inv-loop μ-loop
 mul-chain c =
@@ -56,18 +38,6 @@ array-read-chain c =
     let s = v .before in
     omega (arith, low (s .args .arcs .now) (s .pre .1) (v .loop .inv) (c .before .before .loop-test .taken) (c .wide .ensures))
 
-add-chain : tie.Need-add-chain Inv-loop μ-loop
-add-chain c = search needs
-
-mul-chain-2 : tie.Need-mul-chain-2 Inv-loop μ-loop
-mul-chain-2 c = search needs
-
-array-write-chain : tie.Need-array-write-chain Inv-loop μ-loop
-array-write-chain c = search needs
-
-cast-chain-2 : tie.Need-cast-chain-2 Inv-loop μ-loop
-cast-chain-2 c = search needs
-
 mul-chain-3 : tie.Need-mul-chain-3 Inv-loop μ-loop
 mul-chain-3 c =
     let v = c .before .before .before in
@@ -79,9 +49,6 @@ array-write-chain-2 c =
     let v = c .before .before .before in
     let s = v .before in
     omega (arith, low (s .args .arcs .now) (s .pre .1) (v .loop .inv) (c .before .before .loop-test .taken) (c .wide .ensures))
-
-loop-less : tie.Need-loop-less Inv-loop μ-loop
-loop-less c = search needs
 
 loop-again : tie.Need-loop-again Inv-loop μ-loop
 loop-again c =
@@ -100,21 +67,21 @@ chain-of-spec =
     (tie.spec
     Inv-loop
     μ-loop
-    cast-chain
+    (λ c. search needs)
     loop-holds
-    sub-k
-    mul-wide
-    index-1-wide
-    index-2-wide
-    wide-requires
+    (λ c. search needs)
+    (λ c. search needs)
+    (λ c. search needs)
+    (λ c. search needs)
+    (λ c κs. search needs)
     mul-chain
     array-read-chain
-    add-chain
-    mul-chain-2
-    array-write-chain
-    cast-chain-2
+    (λ c. search needs)
+    (λ c. search needs)
+    (λ c. search needs)
+    (λ c. search needs)
     mul-chain-3
     array-write-chain-2
-    loop-less
+    (λ c. search needs)
     loop-again
     returns)

@@ -18,30 +18,6 @@ abbrev μ-loop : tie.MeasureT-loop
 loop-holds : tie.Need-loop-holds Inv-loop μ-loop
 loop-holds c = (refl, omega arith, prefix-none 64 0 _ 0)
 
-mul-column : tie.Need-mul-column Inv-loop μ-loop
-mul-column c = search needs
-
-mul-column-2 : tie.Need-mul-column-2 Inv-loop μ-loop
-mul-column-2 c = search needs
-
-index-1-column : tie.Need-index-1-column Inv-loop μ-loop
-index-1-column c = search needs
-
-index-2-column : tie.Need-index-2-column Inv-loop μ-loop
-index-2-column c = search needs
-
-mul-column-3 : tie.Need-mul-column-3 Inv-loop μ-loop
-mul-column-3 c = search needs
-
-array-write-column : tie.Need-array-write-column Inv-loop μ-loop
-array-write-column c = search needs
-
-add-i : tie.Need-add-i Inv-loop μ-loop
-add-i c = search needs
-
-loop-less : tie.Need-loop-less Inv-loop μ-loop
-loop-less c = search needs
-
 loop-again : tie.Need-loop-again Inv-loop μ-loop
 loop-again c =
     let v = c .before .before in
@@ -61,13 +37,13 @@ column-to-spec =
     Inv-loop
     μ-loop
     loop-holds
-    mul-column
-    mul-column-2
-    index-1-column
-    index-2-column
-    mul-column-3
-    array-write-column
-    add-i
-    loop-less
+    (λ c. search needs)
+    (λ c. search needs)
+    (λ c. search needs)
+    (λ c. search needs)
+    (λ c. search needs)
+    (λ c. search needs)
+    (λ c. search needs)
+    (λ c. search needs)
     loop-again
     returns)

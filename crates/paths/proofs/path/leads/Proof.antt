@@ -21,15 +21,6 @@ third-made t e g = rw (← e, g)
 third-passed-by : {f x : Bool} (t : Bool) → f ≡ x → f ≡ false → f ≡ (x && t)
 third-passed-by t e g = rw (← e, g)
 
-mul-result : tie.Need-mul-result
-mul-result c = search needs
-
-add-result : tie.Need-add-result
-add-result c = search needs
-
-add-result-2 : tie.Need-add-result-2
-add-result-2 c = search needs
-
 returns : tie.Need-returns
 returns c =
     let s = c .before .before .args in
@@ -49,4 +40,4 @@ returns-2 c =
     (c .if2 .left)
 
 pub leads-spec : {M : Type 1} → statement M
-leads-spec = tie.close (tie.spec mul-result add-result add-result-2 returns returns-2)
+leads-spec = tie.close (tie.spec (λ c. search needs) (λ c. search needs) (λ c. search needs) returns returns-2)

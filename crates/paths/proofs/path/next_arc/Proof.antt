@@ -28,9 +28,6 @@ Inv-loop arcs chain column v m best₀ k₀ best k = (m ≡ length arcs) × Meet
 abbrev μ-loop : tie.MeasureT-loop
 μ-loop arcs chain column v m best₀ k₀ best k = length arcs - k
 
-mul-wide : tie.Need-mul-wide Inv-loop μ-loop
-mul-wide c = search needs
-
 element-copy-out-wide : tie.Need-element-copy-out-wide Inv-loop μ-loop
 element-copy-out-wide c =
     let p = c .before .pre in
@@ -38,54 +35,12 @@ element-copy-out-wide c =
     let m = rows-vertices (length (c .before .args .column .now)) (c .before .args .arcs .now) in
     omega arith
 
-wide-requires : tie.Need-wide-requires Inv-loop μ-loop
-wide-requires c κs = search needs
-
 loop-holds : tie.Need-loop-holds Inv-loop μ-loop
 loop-holds c =
     let s = c .before .before .before in
     let n = s .pre .0 .vertices in
     let m = rows-vertices (length (s .args .column .now)) (s .args .arcs .now) in
     (refl, meets-none (s .args .arcs .now) (s .args .column .now) (s .args .v) (c .wide .ensures ∙ s .pre .1 .first (s .args .v) (omega arith)))
-
-mul-wide-2 : tie.Need-mul-wide-2 Inv-loop μ-loop
-mul-wide-2 c = search needs
-
-index-1-wide : tie.Need-index-1-wide Inv-loop μ-loop
-index-1-wide c = search needs
-
-index-2-wide : tie.Need-index-2-wide Inv-loop μ-loop
-index-2-wide c = search needs
-
-wide-requires-2 : tie.Need-wide-requires-2 Inv-loop μ-loop
-wide-requires-2 c κs = search needs
-
-mul-leads : tie.Need-mul-leads Inv-loop μ-loop
-mul-leads c = search needs
-
-index-1-leads : tie.Need-index-1-leads Inv-loop μ-loop
-index-1-leads c = search needs
-
-index-2-leads : tie.Need-index-2-leads Inv-loop μ-loop
-index-2-leads c = search needs
-
-mul-leads-2 : tie.Need-mul-leads-2 Inv-loop μ-loop
-mul-leads-2 c = search needs
-
-index-1-leads-2 : tie.Need-index-1-leads-2 Inv-loop μ-loop
-index-1-leads-2 c = search needs
-
-index-2-leads-2 : tie.Need-index-2-leads-2 Inv-loop μ-loop
-index-2-leads-2 c = search needs
-
-mul-leads-3 : tie.Need-mul-leads-3 Inv-loop μ-loop
-mul-leads-3 c = search needs
-
-index-1-leads-3 : tie.Need-index-1-leads-3 Inv-loop μ-loop
-index-1-leads-3 c = search needs
-
-index-2-leads-3 : tie.Need-index-2-leads-3 Inv-loop μ-loop
-index-2-leads-3 c = search needs
 
 mul-leads-4 : tie.Need-mul-leads-4 Inv-loop μ-loop
 mul-leads-4 c =
@@ -109,24 +64,6 @@ shared-slice-read-leads c =
     let e = c .before .before .before .before .wide2 .ensures in
     omega arith
 
-mul-leads-5 : tie.Need-mul-leads-5 Inv-loop μ-loop
-mul-leads-5 c = search needs
-
-shared-slice-read-leads-2 : tie.Need-shared-slice-read-leads-2 Inv-loop μ-loop
-shared-slice-read-leads-2 c = search needs
-
-leads-requires : tie.Need-leads-requires Inv-loop μ-loop
-leads-requires c κs = search needs
-
-taken-requires : tie.Need-taken-requires Inv-loop μ-loop
-taken-requires c κs = search needs
-
-add-wide : tie.Need-add-wide Inv-loop μ-loop
-add-wide c = search needs
-
-mul-wide-3 : tie.Need-mul-wide-3 Inv-loop μ-loop
-mul-wide-3 c = search needs
-
 element-copy-out-wide-2 : tie.Need-element-copy-out-wide-2 Inv-loop μ-loop
 element-copy-out-wide-2 c =
     let v = c .before .before .before .before .before .before .before .before .before .before in
@@ -135,9 +72,6 @@ element-copy-out-wide-2 c =
     let n = s .pre .0 .arc-count in
     let m = rows-length (length (s .args .column .now)) (s .args .arcs .now) in
     omega arith
-
-wide-requires-3 : tie.Need-wide-requires-3 Inv-loop μ-loop
-wide-requires-3 c κs = search needs
 
 loop-less : tie.Need-loop-less Inv-loop μ-loop
 loop-less c =
@@ -172,33 +106,33 @@ next-arc-spec =
     (tie.spec
     Inv-loop
     μ-loop
-    mul-wide
+    (λ c. search needs)
     element-copy-out-wide
-    wide-requires
+    (λ c κs. search needs)
     loop-holds
-    mul-wide-2
-    index-1-wide
-    index-2-wide
-    wide-requires-2
-    mul-leads
-    index-1-leads
-    index-2-leads
-    mul-leads-2
-    index-1-leads-2
-    index-2-leads-2
-    mul-leads-3
-    index-1-leads-3
-    index-2-leads-3
+    (λ c. search needs)
+    (λ c. search needs)
+    (λ c. search needs)
+    (λ c κs. search needs)
+    (λ c. search needs)
+    (λ c. search needs)
+    (λ c. search needs)
+    (λ c. search needs)
+    (λ c. search needs)
+    (λ c. search needs)
+    (λ c. search needs)
+    (λ c. search needs)
+    (λ c. search needs)
     mul-leads-4
     shared-slice-read-leads
-    mul-leads-5
-    shared-slice-read-leads-2
-    leads-requires
-    taken-requires
-    add-wide
-    mul-wide-3
+    (λ c. search needs)
+    (λ c. search needs)
+    (λ c κs. search needs)
+    (λ c κs. search needs)
+    (λ c. search needs)
+    (λ c. search needs)
     element-copy-out-wide-2
-    wide-requires-3
+    (λ c κs. search needs)
     loop-less
     loop-again
     returns)

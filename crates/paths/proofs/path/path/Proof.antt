@@ -109,12 +109,6 @@ index-1-wide c =
     let s = v .before .before .before in
     number (s .args .column .now) (s .args .arcs .now) (s .pre .0 .0) (v .loop .inv) (c .before .loop-test .taken) (s .pre .0 .1) (c .next-arc .ensures)
 
-index-2-wide : tie.Need-index-2-wide Inv-loop μ-loop
-index-2-wide c = search needs
-
-wide-requires : tie.Need-wide-requires Inv-loop μ-loop
-wide-requires c κs = search needs
-
 add-to : tie.Need-add-to Inv-loop μ-loop
 unfolding shortestPath
 add-to c =
@@ -159,8 +153,8 @@ path-spec =
     slice-write-places
     mul-wide
     index-1-wide
-    index-2-wide
-    wide-requires
+    (λ c. search needs)
+    (λ c κs. search needs)
     add-to
     loop-less
     loop-again

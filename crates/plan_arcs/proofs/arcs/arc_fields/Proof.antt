@@ -13,27 +13,6 @@ use borrow.Author.Needs.{needs}
 use Rattle.plan_arcs.proofs.arcs.arc_fields.Statement.{statement}
 use Rattle.plan_arcs.proofs.arcs.arc_fields.Tie as tie
 
-file-bits-requires : tie.Need-file-bits-requires
-file-bits-requires c κs = search needs
-
-take-at-requires : tie.Need-take-at-requires
-take-at-requires c κs = search needs
-
-take-at-requires-2 : tie.Need-take-at-requires-2
-take-at-requires-2 c κs = search needs
-
-take-at-requires-3 : tie.Need-take-at-requires-3
-take-at-requires-3 c κs = search needs
-
-take-at-requires-4 : tie.Need-take-at-requires-4
-take-at-requires-4 c κs = search needs
-
-field-standing-requires : tie.Need-field-standing-requires
-field-standing-requires c κs = search needs
-
-is-must-requires : tie.Need-is-must-requires
-is-must-requires c κs = search needs
-
 read-service-requires : tie.Need-read-service-requires
 read-service-requires c κs =
     let a = c .before .before .before .before .before .before .before .before .args in
@@ -71,12 +50,12 @@ pub arc-fields-spec : {M : Type 1} → statement M
 arc-fields-spec =
     tie.close
     (tie.spec
-    file-bits-requires
-    take-at-requires
-    take-at-requires-2
-    take-at-requires-3
-    take-at-requires-4
-    field-standing-requires
-    is-must-requires
+    (λ c κs. search needs)
+    (λ c κs. search needs)
+    (λ c κs. search needs)
+    (λ c κs. search needs)
+    (λ c κs. search needs)
+    (λ c κs. search needs)
+    (λ c κs. search needs)
     read-service-requires
     returns)

@@ -5,17 +5,8 @@ use borrow.Author.Needs.{needs}
 use Rattle.plan_arcs.proofs.arcs.field_standing.Statement.{statement}
 use Rattle.plan_arcs.proofs.arcs.field_standing.Tie as tie
 
-returns : tie.Need-returns
-returns c = search needs
-
-returns-2 : tie.Need-returns-2
-returns-2 c = search needs
-
-returns-3 : tie.Need-returns-3
-returns-3 c = search needs
-
 returns-4 : tie.Need-returns-4
 returns-4 c = standing-above (c .before .args .f) (omega arith)
 
 pub field-standing-spec : {M : Type 1} → statement M
-field-standing-spec = tie.close (tie.spec returns returns-2 returns-3 returns-4)
+field-standing-spec = tie.close (tie.spec (λ c. search needs) (λ c. search needs) (λ c. search needs) returns-4)

@@ -5,21 +5,9 @@ use borrow.Author.Needs.{needs}
 use Rattle.plan_arcs.proofs.arcs.file_bits.Statement.{statement}
 use Rattle.plan_arcs.proofs.arcs.file_bits.Tie as tie
 
-mul-result : tie.Need-mul-result
-mul-result c = search needs
-
-add-result : tie.Need-add-result
-add-result c = search needs
-
 returns : tie.Need-returns
 unfolding arcWidth fileBits
 returns c = simp (eq-eqb _ _ (c .if1 .taken))
-
-mul-result-2 : tie.Need-mul-result-2
-mul-result-2 c = search needs
-
-add-result-2 : tie.Need-add-result-2
-add-result-2 c = search needs
 
 returns-2 : tie.Need-returns-2
 unfolding arcWidth fileBits
@@ -27,4 +15,4 @@ returns-2 c = simp (ne-eqb _ _ (c .if1 .left))
 
 pub file-bits-spec : {M : Type 1} → statement M
 file-bits-spec =
-    tie.close (tie.spec mul-result add-result returns mul-result-2 add-result-2 returns-2)
+    tie.close (tie.spec (λ c. search needs) (λ c. search needs) returns (λ c. search needs) (λ c. search needs) returns-2)

@@ -9,12 +9,6 @@ use borrow.Author.Needs.{needs}
 use Rattle.plan_arcs.proofs.arcs.read_service.Statement.{statement}
 use Rattle.plan_arcs.proofs.arcs.read_service.Tie as tie
 
-add-take-at : tie.Need-add-take-at
-add-take-at c = search needs
-
-take-at-requires : tie.Need-take-at-requires
-take-at-requires c κs = search needs
-
 returns : tie.Need-returns
 returns c =
     let a = c .before .before .before .args in
@@ -22,12 +16,9 @@ returns c =
     let wide = second-width (a .edition) second in
     simp second (c .take-at .ensures .0 ∙ taken (a .s .now) (a .at + 30) 16 (omega arith, omega (arith, wide), omega arith) .0)
 
-implied-service-requires : tie.Need-implied-service-requires
-implied-service-requires c κs = search needs
-
 returns-2 : tie.Need-returns-2
 returns-2 c = simp (ne-eqb _ _ (c .before .if1 .left)) (c .implied-service .ensures)
 
 pub read-service-spec : {M : Type 1} → statement M
 read-service-spec =
-    tie.close (tie.spec add-take-at take-at-requires returns implied-service-requires returns-2)
+    tie.close (tie.spec (λ c. search needs) (λ c κs. search needs) returns (λ c κs. search needs) returns-2)

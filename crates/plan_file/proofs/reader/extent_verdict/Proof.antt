@@ -14,24 +14,12 @@ use borrow.Author.Needs.{needs}
 use Rattle.plan_file.proofs.reader.extent_verdict.Statement.{statement}
 use Rattle.plan_file.proofs.reader.extent_verdict.Tie as tie
 
-take-at-requires : tie.Need-take-at-requires
-take-at-requires c κs = search needs
-
-is-outside-requires : tie.Need-is-outside-requires
-is-outside-requires c κs = search needs
-
 returns : tie.Need-returns
 returns c =
     let a = c .before .before .before .before .args in
     let extent : isOutside (fieldAt (a .s .now) 4 7) 1 64 ≡ true =
     ap (λ (n : ℕ). isOutside n 1 64) (sym (c .before .before .take-at .ensures .0 ∙ header-taken (a .s .now) 4 7 (omega arith) (omega arith) (omega arith))) ∙ sym (c .before .is-outside .ensures) ∙ c .if1 .taken in
     rw (extent-refusal (a .s .now) (a .edition)) (simp extent)
-
-take-at-requires-2 : tie.Need-take-at-requires-2
-take-at-requires-2 c κs = search needs
-
-is-outside-requires-2 : tie.Need-is-outside-requires-2
-is-outside-requires-2 c κs = search needs
 
 returns-2 : tie.Need-returns-2
 returns-2 c =
@@ -41,9 +29,6 @@ returns-2 c =
     let extent : isOutside (fieldAt (a .s .now) 11 9) 1 256 ≡ true =
     ap (λ (m : ℕ). isOutside m 1 256) (sym (c .before .before .take-at2 .ensures .0 ∙ header-taken (a .s .now) 11 9 (omega arith) (omega arith) (omega arith))) ∙ sym (c .before .is-outside2 .ensures) ∙ c .if2 .taken in
     rw (extent-refusal (a .s .now) (a .edition)) (simp (vertices, extent))
-
-cast-margin-verdict : tie.Need-cast-margin-verdict
-cast-margin-verdict c = search needs
 
 margin-verdict-requires : tie.Need-margin-verdict-requires
 margin-verdict-requires c κs = inside (c .before .before .take-at2 .result .field) 1 256 (sym (c .before .is-outside2 .ensures) ∙ c .if2 .left) .1
@@ -66,12 +51,12 @@ pub extent-verdict-spec : {M : Type 1} → statement M
 extent-verdict-spec =
     tie.close
     (tie.spec
-    take-at-requires
-    is-outside-requires
+    (λ c κs. search needs)
+    (λ c κs. search needs)
     returns
-    take-at-requires-2
-    is-outside-requires-2
+    (λ c κs. search needs)
+    (λ c κs. search needs)
     returns-2
-    cast-margin-verdict
+    (λ c. search needs)
     margin-verdict-requires
     returns-3)

@@ -10,12 +10,6 @@ use borrow.Author.Needs.{needs}
 use Rattle.plan_file.proofs.reader.file_arc.Statement.{statement}
 use Rattle.plan_file.proofs.reader.file_arc.Tie as tie
 
-file-edition-requires : tie.Need-file-edition-requires
-file-edition-requires c κs = search needs
-
-has-arc-requires : tie.Need-has-arc-requires
-has-arc-requires c κs = search needs
-
 read-arc-requires : tie.Need-read-arc-requires
 read-arc-requires c κs = let a = c .before .before .before .before .args in has-within (a .s .now) (c .before .before .file-edition .result) (a .k) (sym (c .before .has-arc .ensures) ∙ c .if1 .taken)
 
@@ -36,4 +30,4 @@ returns-2 c =
 
 pub file-arc-spec : {M : Type 1} → statement M
 file-arc-spec =
-    tie.close (tie.spec file-edition-requires has-arc-requires read-arc-requires returns returns-2)
+    tie.close (tie.spec (λ c κs. search needs) (λ c κs. search needs) read-arc-requires returns returns-2)

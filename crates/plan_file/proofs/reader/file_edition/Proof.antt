@@ -8,9 +8,6 @@ use borrow.Author.Needs.{needs}
 use Rattle.plan_file.proofs.reader.file_edition.Statement.{statement}
 use Rattle.plan_file.proofs.reader.file_edition.Tie as tie
 
-take-at-requires : tie.Need-take-at-requires
-take-at-requires c κs = search needs
-
 cast-result : tie.Need-cast-result
 cast-result c = omega (arith, c .take-at .ensures .0 ∙ first-taken (c .before .before .args .s .now), field-lt (c .before .before .args .s .now) 0 4)
 
@@ -19,4 +16,4 @@ unfolding edition
 returns c = c .take-at .ensures .0 ∙ first-taken (c .before .before .args .s .now)
 
 pub file-edition-spec : {M : Type 1} → statement M
-file-edition-spec = tie.close (tie.spec take-at-requires cast-result returns)
+file-edition-spec = tie.close (tie.spec (λ c κs. search needs) cast-result returns)

@@ -8,9 +8,6 @@ use borrow.Author.Needs.{needs}
 use Rattle.plan_file.proofs.reader.file_length.Statement.{statement}
 use Rattle.plan_file.proofs.reader.file_length.Tie as tie
 
-file-bits-requires : tie.Need-file-bits-requires
-file-bits-requires c κs = search needs
-
 add-result : tie.Need-add-result
 add-result c = omega (arith, c .file-bits .ensures, bits-limit (c .before .args .edition) (c .before .args .m) (c .before .pre) .1)
 
@@ -19,4 +16,4 @@ unfolding fileLength
 returns c = ap (λ (b : ℕ). (b + 7) / 8) (c .file-bits .ensures)
 
 pub file-length-spec : {M : Type 1} → statement M
-file-length-spec = tie.close (tie.spec file-bits-requires add-result returns)
+file-length-spec = tie.close (tie.spec (λ c κs. search needs) add-result returns)

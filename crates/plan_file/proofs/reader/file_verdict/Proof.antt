@@ -3,11 +3,8 @@ use borrow.Author.Needs.{needs}
 use Rattle.plan_file.proofs.reader.file_verdict.Statement.{statement}
 use Rattle.plan_file.proofs.reader.file_verdict.Tie as tie
 
-read-plan-requires : tie.Need-read-plan-requires
-read-plan-requires c κs = search needs
-
 returns : tie.Need-returns
 returns c = c .read-plan .ensures .verdict
 
 pub file-verdict-spec : {M : Type 1} → statement M
-file-verdict-spec = tie.close (tie.spec read-plan-requires returns)
+file-verdict-spec = tie.close (tie.spec (λ c κs. search needs) returns)

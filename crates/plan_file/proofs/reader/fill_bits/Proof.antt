@@ -9,21 +9,12 @@ use borrow.Author.Needs.{needs}
 use Rattle.plan_file.proofs.reader.fill_bits.Statement.{statement}
 use Rattle.plan_file.proofs.reader.fill_bits.Tie as tie
 
-file-bits-requires : tie.Need-file-bits-requires
-file-bits-requires c κs = search needs
-
-file-length-requires : tie.Need-file-length-requires
-file-length-requires c κs = search needs
-
 mul-end : tie.Need-mul-end
 mul-end c = omega (arith, c .file-length .ensures, fileLength-le (c .before .before .before .args .edition) (c .before .before .before .args .m) (c .before .before .before .pre .0))
 
 sub-take-at : tie.Need-sub-take-at
 unfolding fileLength
 sub-take-at c = omega (arith, c .file-length .ensures, c .before .file-bits .ensures)
-
-take-at-requires : tie.Need-take-at-requires
-take-at-requires c κs = search needs
 
 -- the bits lie within the file
 returns : tie.Need-returns
@@ -41,4 +32,4 @@ returns c =
 pub fill-bits-spec : {M : Type 1} → statement M
 fill-bits-spec =
     tie.close
-    (tie.spec file-bits-requires file-length-requires mul-end sub-take-at take-at-requires returns)
+    (tie.spec (λ c κs. search needs) (λ c κs. search needs) mul-end sub-take-at (λ c κs. search needs) returns)

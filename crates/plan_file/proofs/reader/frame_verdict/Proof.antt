@@ -17,15 +17,6 @@ returns c =
     let s = c .before .before .args .s .now in
     rw (frame-refusal s) (simp (lt-ltb (length s) 3 (c .if1 .taken)))
 
-file-edition-requires : tie.Need-file-edition-requires
-file-edition-requires c κs = search needs
-
-is-edition-requires : tie.Need-is-edition-requires
-is-edition-requires c κs = search needs
-
-extent-verdict-requires : tie.Need-extent-verdict-requires
-extent-verdict-requires c κs = search needs
-
 returns-2 : tie.Need-returns-2
 returns-2 c =
     let s = c .before .before .before .before .before .before .args .s .now in
@@ -44,8 +35,8 @@ frame-verdict-spec =
     tie.close
     (tie.spec
     returns
-    file-edition-requires
-    is-edition-requires
-    extent-verdict-requires
+    (λ c κs. search needs)
+    (λ c κs. search needs)
+    (λ c κs. search needs)
     returns-2
     returns-3)

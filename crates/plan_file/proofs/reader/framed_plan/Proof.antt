@@ -15,15 +15,6 @@ use borrow.Author.Needs.{needs}
 use Rattle.plan_file.proofs.reader.framed_plan.Statement.{statement}
 use Rattle.plan_file.proofs.reader.framed_plan.Tie as tie
 
-file-edition-requires : tie.Need-file-edition-requires
-file-edition-requires c κs = search needs
-
-take-at-requires : tie.Need-take-at-requires
-take-at-requires c κs = search needs
-
-take-at-requires-2 : tie.Need-take-at-requires-2
-take-at-requires-2 c κs = search needs
-
 -- n and m are those of the file
 vertices : (s : List ℕ) (x : ℕ) → firstRefusal (frameConditions s) ≡ none → x ≡ takenField s 4 7 → x ≡ vertexCount s
 unfolding vertexCount
@@ -32,9 +23,6 @@ vertices s x e f = f ∙ header-taken s 4 7 (framed s e .0) (omega arith) (omega
 arcs : (s : List ℕ) (x : ℕ) → firstRefusal (frameConditions s) ≡ none → x ≡ takenField s 11 9 → x ≡ arcCount s
 unfolding arcCount
 arcs s x e f = f ∙ header-taken s 11 9 (framed s e .0) (omega arith) (omega arith)
-
-cast-read-arcs : tie.Need-cast-read-arcs
-cast-read-arcs c = search needs
 
 read-arcs-requires : tie.Need-read-arcs-requires
 read-arcs-requires c κs =
@@ -67,10 +55,10 @@ pub framed-plan-spec : {M : Type 1} → statement M
 framed-plan-spec =
     tie.close
     (tie.spec
-    file-edition-requires
-    take-at-requires
-    take-at-requires-2
-    cast-read-arcs
+    (λ c κs. search needs)
+    (λ c κs. search needs)
+    (λ c κs. search needs)
+    (λ c. search needs)
     read-arcs-requires
     cast-t8
     cast-t9

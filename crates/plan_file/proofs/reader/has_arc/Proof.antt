@@ -10,12 +10,6 @@ use Rattle.plan_file.proofs.reader.has_arc.Tie as tie
 returns : tie.Need-returns
 returns c = let a = c .before .before .args in beyond (a .s .now) (a .edition) (a .k) (omega arith)
 
-add-file-bits : tie.Need-add-file-bits
-add-file-bits c = search needs
-
-file-bits-requires : tie.Need-file-bits-requires
-file-bits-requires c κs = search needs
-
 add-result : tie.Need-add-result
 add-result c =
     let a = c .before .before .before .args in
@@ -25,4 +19,4 @@ returns-2 : tie.Need-returns-2
 returns-2 c = let a = c .before .before .before .args in by-length (a .s .now) (a .edition) (a .k) (omega arith) (c .file-bits .result) (c .file-bits .ensures)
 
 pub has-arc-spec : {M : Type 1} → statement M
-has-arc-spec = tie.close (tie.spec returns add-file-bits file-bits-requires add-result returns-2)
+has-arc-spec = tie.close (tie.spec returns (λ c. search needs) (λ c κs. search needs) add-result returns-2)

@@ -11,9 +11,6 @@ use borrow.Author.Needs.{needs}
 use Rattle.plan_file.proofs.reader.margin_verdict.Statement.{statement}
 use Rattle.plan_file.proofs.reader.margin_verdict.Tie as tie
 
-file-length-requires : tie.Need-file-length-requires
-file-length-requires c κs = search needs
-
 returns : tie.Need-returns
 unfolding marginConditions firstRefusal
 returns c =
@@ -28,9 +25,6 @@ returns-2 c =
     let long : fileLength (a .edition) (a .m) ≤ length (a .s .now) = omega (arith, c .before .before .file-length .ensures) in
     let over : fileLength (a .edition) (a .m) < length (a .s .now) = omega (arith, c .before .before .file-length .ensures) in
     simp (le-ltb _ _ long, lt-ltb _ _ over)
-
-fill-bits-requires : tie.Need-fill-bits-requires
-fill-bits-requires c κs = search needs
 
 returns-3 : tie.Need-returns-3
 unfolding marginConditions firstRefusal
@@ -56,9 +50,9 @@ pub margin-verdict-spec : {M : Type 1} → statement M
 margin-verdict-spec =
     tie.close
     (tie.spec
-    file-length-requires
+    (λ c κs. search needs)
     returns
     returns-2
-    fill-bits-requires
+    (λ c κs. search needs)
     returns-3
     returns-4)

@@ -8,9 +8,6 @@ use borrow.Author.Needs.{needs}
 use Rattle.plan_file.proofs.reader.read_arc.Statement.{statement}
 use Rattle.plan_file.proofs.reader.read_arc.Tie as tie
 
-arc-fields-requires : tie.Need-arc-fields-requires
-arc-fields-requires c κs = search needs
-
 cast-t5 : tie.Need-cast-t5
 cast-t5 c =
     let a = c .before .before .before .args in
@@ -46,4 +43,4 @@ returns c = ap recordOf (c .before .before .before .before .before .arc-fields .
 
 pub read-arc-spec : {M : Type 1} → statement M
 read-arc-spec =
-    tie.close (tie.spec arc-fields-requires cast-t5 cast-t6 cast-t7 cast-t8 cast-t9 returns)
+    tie.close (tie.spec (λ c κs. search needs) cast-t5 cast-t6 cast-t7 cast-t8 cast-t9 returns)

@@ -29,18 +29,6 @@ read-arc-requires c κs =
     let l = c .before .loop in
     (omega arith, omega (arith, bits-within (a .edition) (l .k) (a .m) (omega arith)))
 
-mul-arcs : tie.Need-mul-arcs Inv-loop μ-loop
-mul-arcs c = search needs
-
-array-set-from-arcs : tie.Need-array-set-from-arcs Inv-loop μ-loop
-array-set-from-arcs c = search needs
-
-add-k : tie.Need-add-k Inv-loop μ-loop
-add-k c = search needs
-
-loop-less : tie.Need-loop-less Inv-loop μ-loop
-loop-less c = search needs
-
 loop-again : tie.Need-loop-again Inv-loop μ-loop
 loop-again c =
     let f = arcOf (c .before .before .before .before .args .s .now) (c .before .before .before .before .args .edition) in
@@ -58,9 +46,9 @@ read-arcs-spec =
     μ-loop
     loop-holds
     read-arc-requires
-    mul-arcs
-    array-set-from-arcs
-    add-k
-    loop-less
+    (λ c. search needs)
+    (λ c. search needs)
+    (λ c. search needs)
+    (λ c. search needs)
     loop-again
     returns)

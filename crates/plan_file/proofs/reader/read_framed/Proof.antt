@@ -6,28 +6,10 @@ use borrow.Author.Needs.{needs}
 use Rattle.plan_file.proofs.reader.read_framed.Statement.{statement}
 use Rattle.plan_file.proofs.reader.read_framed.Tie as tie
 
-file-edition-requires : tie.Need-file-edition-requires
-file-edition-requires c κs = search needs
-
-framed-plan-requires : tie.Need-framed-plan-requires
-framed-plan-requires c κs = search needs
-
-cast-all-records-verdict : tie.Need-cast-all-records-verdict
-cast-all-records-verdict c = search needs
-
 all-records-verdict-requires : tie.Need-all-records-verdict-requires
 all-records-verdict-requires c κs =
     let start = c .before .before .before .before .before in
     few-arcs (start .args .s .now) (start .pre) _ (c .before .before .before .file-edition .ensures) _ (c .before .before .framed-plan .ensures)
-
-enum-told : tie.Need-enum-told
-enum-told c = search needs
-
-enum-known-r : tie.Need-enum-known-r
-enum-known-r c = search needs
-
-refused-requires : tie.Need-refused-requires
-refused-requires c κs = search needs
 
 returns : tie.Need-returns
 returns c =
@@ -51,12 +33,12 @@ pub read-framed-spec : {M : Type 1} → statement M
 read-framed-spec =
     tie.close
     (tie.spec
-    file-edition-requires
-    framed-plan-requires
-    cast-all-records-verdict
+    (λ c κs. search needs)
+    (λ c κs. search needs)
+    (λ c. search needs)
     all-records-verdict-requires
-    enum-told
-    enum-known-r
-    refused-requires
+    (λ c. search needs)
+    (λ c. search needs)
+    (λ c κs. search needs)
     returns
     returns-2)

@@ -6,20 +6,8 @@ use borrow.Author.Needs.{needs}
 use Rattle.plan_file.proofs.reader.read_plan.Statement.{statement}
 use Rattle.plan_file.proofs.reader.read_plan.Tie as tie
 
-frame-verdict-requires : tie.Need-frame-verdict-requires
-frame-verdict-requires c κs = search needs
-
-enum-told : tie.Need-enum-told
-enum-told c = search needs
-
 read-framed-requires : tie.Need-read-framed-requires
 read-framed-requires c κs = sym (c .before .before .frame-verdict .ensures) ∙ ap verdictNumber (c .enum-told .given .1)
-
-enum-known-r : tie.Need-enum-known-r
-enum-known-r c = search needs
-
-refused-requires : tie.Need-refused-requires
-refused-requires c κs = search needs
 
 returns : tie.Need-returns
 returns c = c .read-framed .ensures
@@ -32,4 +20,4 @@ returns-2 c =
 
 pub read-plan-spec : {M : Type 1} → statement M
 read-plan-spec =
-    tie.close (tie.spec frame-verdict-requires enum-told read-framed-requires enum-known-r refused-requires returns returns-2)
+    tie.close (tie.spec (λ c κs. search needs) (λ c. search needs) read-framed-requires (λ c. search needs) (λ c κs. search needs) returns returns-2)

@@ -3,11 +3,8 @@ use borrow.Author.Needs.{needs}
 use Rattle.plan_file.proofs.reader.refused.Statement.{statement}
 use Rattle.plan_file.proofs.reader.refused.Tie as tie
 
-no-plan-requires : tie.Need-no-plan-requires
-no-plan-requires c κs = search needs
-
 returns : tie.Need-returns
 returns c = rw (c .no-plan .ensures)
 
 pub refused-spec : {M : Type 1} → statement M
-refused-spec = tie.close (tie.spec no-plan-requires returns)
+refused-spec = tie.close (tie.spec (λ c κs. search needs) returns)

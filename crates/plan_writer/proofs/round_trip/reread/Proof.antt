@@ -9,15 +9,6 @@ use borrow.Author.Needs.{needs}
 use Rattle.plan_writer.proofs.round_trip.reread.Statement.{statement}
 use Rattle.plan_writer.proofs.round_trip.reread.Tie as tie
 
-slice-aggregate-write-plan : tie.Need-slice-aggregate-write-plan
-slice-aggregate-write-plan c = search needs
-
-write-plan-requires : tie.Need-write-plan-requires
-write-plan-requires c κs = search needs
-
-enum-known-n : tie.Need-enum-known-n
-enum-known-n c = search needs
-
 array-share-prefix-bytes : tie.Need-array-share-prefix-bytes
 array-share-prefix-bytes c =
     let call = c .before .before .before .before .write-plan in
@@ -31,15 +22,6 @@ slice-aggregate-read-plan c =
     let given = ap writtenAnswer (sym (c .before .before .n .given .1)) ∙ call .ensures .0 in
     let file = written-file (c .before .before .before .before .before .before .before .args .edition) (planValue (c .before .before .before .before .before .before .before .args .p)) _ (call .last .1 .1 .0) (c .before .before .n .given .0 .0) given (call .ensures .1) in
     sym (length-take-le (c .before .before .n .given .0 .0) (call .last .1 .1 .0) (file .0))
-
-read-plan-requires : tie.Need-read-plan-requires
-read-plan-requires c κs = search needs
-
-enum-known-r : tie.Need-enum-known-r
-enum-known-r c = search needs
-
-no-plan-requires : tie.Need-no-plan-requires
-no-plan-requires c κs = search needs
 
 returns : tie.Need-returns
 returns c =
@@ -64,13 +46,13 @@ pub reread-spec : {M : Type 1} → statement M
 reread-spec =
     tie.close
     (tie.spec
-    slice-aggregate-write-plan
-    write-plan-requires
-    enum-known-n
+    (λ c. search needs)
+    (λ c κs. search needs)
+    (λ c. search needs)
     array-share-prefix-bytes
     slice-aggregate-read-plan
-    read-plan-requires
-    enum-known-r
-    no-plan-requires
+    (λ c κs. search needs)
+    (λ c. search needs)
+    (λ c κs. search needs)
     returns
     returns-2)

@@ -11,39 +11,18 @@ use borrow.Author.Needs.{needs}
 use Rattle.plan_writer.proofs.writer.content_verdict.Statement.{statement}
 use Rattle.plan_writer.proofs.writer.content_verdict.Tie as tie
 
-cast-is-outside : tie.Need-cast-is-outside
-cast-is-outside c = search needs
-
-is-outside-requires : tie.Need-is-outside-requires
-is-outside-requires c κs = search needs
-
 returns : tie.Need-returns
 returns c =
     let a = c .before .before .args in
     sym (extent-n (a .edition) (a .p) (a .room) (c .before .before .pre) (sym (c .before .is-outside .ensures) ∙ c .if1 .taken))
-
-cast-is-outside-2 : tie.Need-cast-is-outside-2
-cast-is-outside-2 c = search needs
-
-is-outside-requires-2 : tie.Need-is-outside-requires-2
-is-outside-requires-2 c κs = search needs
 
 returns-2 : tie.Need-returns-2
 returns-2 c =
     let a = c .before .before .before .before .args in
     sym (extent-m (a .edition) (a .p) (a .room) (c .before .before .before .before .pre) (sym (c .before .before .before .is-outside .ensures) ∙ c .before .before .if1 .left) (sym (c .before .is-outside2 .ensures) ∙ c .if2 .taken))
 
-cast-all-records-verdict : tie.Need-cast-all-records-verdict
-cast-all-records-verdict c = search needs
-
 all-records-verdict-requires : tie.Need-all-records-verdict-requires
 all-records-verdict-requires c κs = inside (c .before .before .before .before .before .args .p .m) 1 256 (sym (c .before .before .is-outside2 .ensures) ∙ c .before .if2 .left) .1
-
-enum-told : tie.Need-enum-told
-enum-told c = search needs
-
-cast-file-length : tie.Need-cast-file-length
-cast-file-length c = search needs
 
 file-length-requires : tie.Need-file-length-requires
 file-length-requires c κs = inside (c .before .before .before .before .before .before .before .before .args .p .m) 1 256 (sym (c .before .before .before .before .before .is-outside2 .ensures) ∙ c .before .before .before .before .if2 .left) .1
@@ -56,9 +35,6 @@ returns-3 c =
     sym
     (of-room (a .edition) (a .p) (a .room) (c .before .before .before .before .before .before .before .before .before .before .pre) (sym (c .before .before .before .before .before .before .before .before .before .is-outside .ensures) ∙ c .before .before .before .before .before .before .before .before .if1 .left) (sym (c .before .before .before .before .before .before .before .is-outside2 .ensures) ∙ c .before .before .before .before .before .before .if2 .left) records
     ∙ simp (lt-ltb (a .room) (fileLength (a .edition) (a .p .m)) short))
-
-enum-known-r : tie.Need-enum-known-r
-enum-known-r c = search needs
 
 returns-4 : tie.Need-returns-4
 returns-4 c =
@@ -79,18 +55,18 @@ pub content-verdict-spec : {M : Type 1} → statement M
 content-verdict-spec =
     tie.close
     (tie.spec
-    cast-is-outside
-    is-outside-requires
+    (λ c. search needs)
+    (λ c κs. search needs)
     returns
-    cast-is-outside-2
-    is-outside-requires-2
+    (λ c. search needs)
+    (λ c κs. search needs)
     returns-2
-    cast-all-records-verdict
+    (λ c. search needs)
     all-records-verdict-requires
-    enum-told
-    cast-file-length
+    (λ c. search needs)
+    (λ c. search needs)
     file-length-requires
     returns-3
-    enum-known-r
+    (λ c. search needs)
     returns-4
     returns-5)

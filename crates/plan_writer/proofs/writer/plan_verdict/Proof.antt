@@ -5,14 +5,8 @@ use borrow.Author.Needs.{needs}
 use Rattle.plan_writer.proofs.writer.plan_verdict.Statement.{statement}
 use Rattle.plan_writer.proofs.writer.plan_verdict.Tie as tie
 
-is-edition-requires : tie.Need-is-edition-requires
-is-edition-requires c κs = search needs
-
 content-verdict-requires : tie.Need-content-verdict-requires
 content-verdict-requires c κs = sym (c .before .is-edition .ensures) ∙ c .if1 .taken
-
-returns : tie.Need-returns
-returns c = search needs
 
 returns-2 : tie.Need-returns-2
 returns-2 c =
@@ -21,4 +15,4 @@ returns-2 c =
 
 pub plan-verdict-spec : {M : Type 1} → statement M
 plan-verdict-spec =
-    tie.close (tie.spec is-edition-requires content-verdict-requires returns returns-2)
+    tie.close (tie.spec (λ c κs. search needs) content-verdict-requires (λ c. search needs) returns-2)

@@ -16,29 +16,17 @@ put-core-requires c κs =
     let a = c .before .before .args in
     (omega (arith, width-le (a .edition) .0), omega arith)
 
-add-put-field : tie.Need-add-put-field
-add-put-field c = search needs
-
-cast-put-field : tie.Need-cast-put-field
-cast-put-field c = search needs
-
 put-field-requires : tie.Need-put-field-requires
 put-field-requires c κs =
     let a = c .before .before .before .before .before .before .before .before .args in
     let wide = second-width (a .edition) (eq-eqb _ _ (c .before .before .if1 .taken)) in
     (omega arith, omega (arith, wide, c .before .before .before .before .before .put-core .kept .0), omega arith)
 
-same-length : tie.Need-same-length
-same-length c = search needs
-
 returns : tie.Need-returns
 unfolding putArc
 returns c =
     let a = c .before .before .before .before .before .before .before .before .before .before .before .args in
     simp (eq-eqb (a .edition) 2 (c .before .before .before .before .before .if1 .taken)) (c .before .before .put-field .ensures ∙ ap (λ (s : List ℕ). putField s (a .at + 30) 16 (a .a .service)) (c .before .before .before .before .before .before .before .before .put-core .ensures))
-
-same-length-2 : tie.Need-same-length-2
-same-length-2 c = search needs
 
 returns-2 : tie.Need-returns-2
 unfolding putArc
@@ -49,10 +37,10 @@ put-arc-spec =
     tie.close
     (tie.spec
     put-core-requires
-    add-put-field
-    cast-put-field
+    (λ c. search needs)
+    (λ c. search needs)
     put-field-requires
-    same-length
+    (λ c. search needs)
     returns
-    same-length-2
+    (λ c. search needs)
     returns-2)

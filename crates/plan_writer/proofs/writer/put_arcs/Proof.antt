@@ -23,27 +23,12 @@ loop-holds : tie.Need-loop-holds Inv-loop μ-loop
 unfolding putArcs
 loop-holds c = (omega arith, refl, refl)
 
-mul-a : tie.Need-mul-a Inv-loop μ-loop
-mul-a c = search needs
-
-array-copy-out-a : tie.Need-array-copy-out-a Inv-loop μ-loop
-array-copy-out-a c = search needs
-
-file-bits-requires : tie.Need-file-bits-requires Inv-loop μ-loop
-file-bits-requires c κs = search needs
-
 put-arc-requires : tie.Need-put-arc-requires Inv-loop μ-loop
 put-arc-requires c κs =
     let a = c .before .before .before .before .before .before .args in
     let l = c .before .before .before .before .loop in
     let w = arc-within (a .edition) (l .k) _ _ (c .before .file-bits .ensures) (omega arith) (bits-within (a .edition) (l .k) (a .m) (omega arith)) in
     (omega (arith, w .2, l .inv .1), w .0)
-
-add-k : tie.Need-add-k Inv-loop μ-loop
-add-k c = search needs
-
-loop-less : tie.Need-loop-less Inv-loop μ-loop
-loop-less c = search needs
 
 loop-again : tie.Need-loop-again Inv-loop μ-loop
 unfolding putArcs
@@ -70,12 +55,12 @@ put-arcs-spec =
     Inv-loop
     μ-loop
     loop-holds
-    mul-a
-    array-copy-out-a
-    file-bits-requires
+    (λ c. search needs)
+    (λ c. search needs)
+    (λ c κs. search needs)
     put-arc-requires
-    add-k
-    loop-less
+    (λ c. search needs)
+    (λ c. search needs)
     loop-again
     same-length
     returns)

@@ -8,42 +8,6 @@ use borrow.Author.Needs.{needs}
 use Rattle.plan_writer.proofs.writer.put_core.Statement.{statement}
 use Rattle.plan_writer.proofs.writer.put_core.Tie as tie
 
-cast-put-field : tie.Need-cast-put-field
-cast-put-field c = search needs
-
-put-field-requires : tie.Need-put-field-requires
-put-field-requires c κs = search needs
-
-add-put-field : tie.Need-add-put-field
-add-put-field c = search needs
-
-cast-put-field-2 : tie.Need-cast-put-field-2
-cast-put-field-2 c = search needs
-
-put-field-requires-2 : tie.Need-put-field-requires-2
-put-field-requires-2 c κs = search needs
-
-add-put-field-2 : tie.Need-add-put-field-2
-add-put-field-2 c = search needs
-
-cast-put-field-3 : tie.Need-cast-put-field-3
-cast-put-field-3 c = search needs
-
-put-field-requires-3 : tie.Need-put-field-requires-3
-put-field-requires-3 c κs = search needs
-
-add-put-field-3 : tie.Need-add-put-field-3
-add-put-field-3 c = search needs
-
-cast-put-field-4 : tie.Need-cast-put-field-4
-cast-put-field-4 c = search needs
-
-put-field-requires-4 : tie.Need-put-field-requires-4
-put-field-requires-4 c κs = search needs
-
-same-length : tie.Need-same-length
-same-length c = search needs
-
 returns : tie.Need-returns
 unfolding putCore
 returns c =
@@ -58,16 +22,16 @@ pub put-core-spec : {M : Type 1} → statement M
 put-core-spec =
     tie.close
     (tie.spec
-    cast-put-field
-    put-field-requires
-    add-put-field
-    cast-put-field-2
-    put-field-requires-2
-    add-put-field-2
-    cast-put-field-3
-    put-field-requires-3
-    add-put-field-3
-    cast-put-field-4
-    put-field-requires-4
-    same-length
+    (λ c. search needs)
+    (λ c κs. search needs)
+    (λ c. search needs)
+    (λ c. search needs)
+    (λ c κs. search needs)
+    (λ c. search needs)
+    (λ c. search needs)
+    (λ c κs. search needs)
+    (λ c. search needs)
+    (λ c. search needs)
+    (λ c κs. search needs)
+    (λ c. search needs)
     returns)

@@ -12,28 +12,10 @@ use borrow.Author.Needs.{needs}
 use Rattle.plan_writer.proofs.writer.put_plan.Statement.{statement}
 use Rattle.plan_writer.proofs.writer.put_plan.Tie as tie
 
-cast-file-length : tie.Need-cast-file-length
-cast-file-length c = search needs
-
-file-length-requires : tie.Need-file-length-requires
-file-length-requires c κs = search needs
-
-clear-requires : tie.Need-clear-requires
-clear-requires c κs = search needs
-
-cast-put-header : tie.Need-cast-put-header
-cast-put-header c = search needs
-
-cast-put-header-2 : tie.Need-cast-put-header-2
-cast-put-header-2 c = search needs
-
 put-header-requires : tie.Need-put-header-requires
 put-header-requires c κs =
     let a = c .before .before .before .before .before .before .before .before .args in
     omega (arith, c .before .before .before .clear .kept .0, c .before .before .before .before .before .before .before .before .pre, bits-fit (a .edition) (a .p .m), bits-least (a .edition) (a .p .m))
-
-cast-put-arcs : tie.Need-cast-put-arcs
-cast-put-arcs c = search needs
 
 put-arcs-requires : tie.Need-put-arcs-requires
 put-arcs-requires c κs =
@@ -41,9 +23,6 @@ put-arcs-requires c κs =
       a .pre .0,
       omega (arith, c .before .before .before .put-header .kept .0, c .before .before .before .before .before .before .before .clear .kept .0, a .pre .1, bits-fit (a .args .edition) (a .args .p .m)),
     )
-
-same-length : tie.Need-same-length
-same-length c = search needs
 
 returns : tie.Need-returns
 unfolding planValue
@@ -63,13 +42,13 @@ pub put-plan-spec : {M : Type 1} → statement M
 put-plan-spec =
     tie.close
     (tie.spec
-    cast-file-length
-    file-length-requires
-    clear-requires
-    cast-put-header
-    cast-put-header-2
+    (λ c. search needs)
+    (λ c κs. search needs)
+    (λ c κs. search needs)
+    (λ c. search needs)
+    (λ c. search needs)
     put-header-requires
-    cast-put-arcs
+    (λ c. search needs)
     put-arcs-requires
-    same-length
+    (λ c. search needs)
     returns)

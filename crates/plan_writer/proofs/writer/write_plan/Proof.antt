@@ -14,12 +14,6 @@ use borrow.Author.Needs.{needs}
 use Rattle.plan_writer.proofs.writer.write_plan.Statement.{statement}
 use Rattle.plan_writer.proofs.writer.write_plan.Tie as tie
 
-plan-verdict-requires : tie.Need-plan-verdict-requires
-plan-verdict-requires c κs = search needs
-
-enum-told : tie.Need-enum-told
-enum-told c = search needs
-
 put-plan-requires : tie.Need-put-plan-requires
 put-plan-requires c κs =
     let a = c .before .before .before .before .before .args in
@@ -27,20 +21,11 @@ put-plan-requires c κs =
     let count = length-value (a .p) in
     (omega (arith, few-arcs (a .edition) (planValue (a .p)) _ accepted), rw count at (accepted-is-writable (a .edition) (planValue (a .p)) _ accepted .enough))
 
-cast-file-length : tie.Need-cast-file-length
-cast-file-length c = search needs
-
 file-length-requires : tie.Need-file-length-requires
 file-length-requires c κs =
     let a = c .before .before .before .before .before .before .before .before .args in
     let accepted = sym (c .before .before .before .before .before .before .plan-verdict .ensures) ∙ ap verdictNumber (c .before .before .before .before .enum-told .given .1) in
     omega (arith, few-arcs (a .edition) (planValue (a .p)) _ accepted, length-value (a .p))
-
-enum-known-r : tie.Need-enum-known-r
-enum-known-r c = search needs
-
-same-length : tie.Need-same-length
-same-length c = search needs
 
 returns : tie.Need-returns
 returns c =
@@ -67,12 +52,12 @@ pub write-plan-spec : {M : Type 1} → statement M
 write-plan-spec =
     tie.close
     (tie.spec
-    plan-verdict-requires
-    enum-told
+    (λ c κs. search needs)
+    (λ c. search needs)
     put-plan-requires
-    cast-file-length
+    (λ c. search needs)
     file-length-requires
-    enum-known-r
-    same-length
+    (λ c. search needs)
+    (λ c. search needs)
     returns
     returns-2)

@@ -15,12 +15,6 @@ room : {s : State} {n : ℕ} → s ≡ emptyState → n ≤ 1000 → s .count + 
 unfolding emptyState
 room {n = n} e l = subst⁻¹ (λ (s : State). s .count + n ≤ 1000) e (omega arith)
 
-gather-requires : tie.Need-gather-requires
-gather-requires c κs = search needs
-
-empty-requires : tie.Need-empty-requires
-empty-requires c κs = search needs
-
 array-share-prefix-tails : tie.Need-array-share-prefix-tails
 array-share-prefix-tails c = prefixes (c .before .gather .ensures) .tails-le
 
@@ -51,8 +45,8 @@ pub base-state-spec : {M : Type 1} → statement M
 base-state-spec =
     tie.close
     (tie.spec
-    gather-requires
-    empty-requires
+    (λ c κs. search needs)
+    (λ c κs. search needs)
     array-share-prefix-tails
     slice-aggregate-add-all
     array-share-prefix-heads

@@ -8,12 +8,6 @@ use borrow.Author.Needs.{needs}
 use Rattle.preparation.proofs.prepare.prepare.Statement.{statement}
 use Rattle.preparation.proofs.prepare.prepare.Tie as tie
 
-vertices-of-requires : tie.Need-vertices-of-requires
-vertices-of-requires c κs = search needs
-
-array-share-prefix-list : tie.Need-array-share-prefix-list
-array-share-prefix-list c = search needs
-
 slice-aggregate-vs : tie.Need-slice-aggregate-vs
 slice-aggregate-vs c =
     let v = c .before .before .vertices-of in
@@ -54,8 +48,8 @@ pub prepare-spec : {M : Type 1} → statement M
 prepare-spec =
     tie.close
     (tie.spec
-    vertices-of-requires
-    array-share-prefix-list
+    (λ c κs. search needs)
+    (λ c. search needs)
     slice-aggregate-vs
     base-state-requires
     multipliers-of-requires

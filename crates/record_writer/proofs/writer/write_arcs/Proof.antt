@@ -6,21 +6,12 @@ use borrow.Author.Needs.{needs}
 use Rattle.record_writer.proofs.writer.write_arcs.Statement.{statement}
 use Rattle.record_writer.proofs.writer.write_arcs.Tie as tie
 
-at-most-requires : tie.Need-at-most-requires
-at-most-requires c κs = search needs
-
 cast-t8 : tie.Need-cast-t8
 cast-t8 c = omega (arith, c .at-most .ensures, at-most-le (c .before .before .args .m) 257)
-
-write-plan-requires : tie.Need-write-plan-requires
-write-plan-requires c κs = search needs
-
-same-length : tie.Need-same-length
-same-length c = search needs
 
 returns : tie.Need-returns
 returns c = let count = c .before .before .before .before .at-most .ensures in rw (sym count) (c .before .before .write-plan .ensures)
 
 pub write-arcs-spec : {M : Type 1} → statement M
 write-arcs-spec =
-    tie.close (tie.spec at-most-requires cast-t8 write-plan-requires same-length returns)
+    tie.close (tie.spec (λ c κs. search needs) cast-t8 (λ c κs. search needs) (λ c. search needs) returns)

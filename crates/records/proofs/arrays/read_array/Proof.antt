@@ -11,9 +11,6 @@ use borrow.Author.Needs.{needs}
 use Rattle.records.proofs.arrays.read_array.Statement.{statement}
 use Rattle.records.proofs.arrays.read_array.Tie as tie
 
-at-most-requires : tie.Need-at-most-requires
-at-most-requires c κs = search needs
-
 read-first-requires : tie.Need-read-first-requires
 read-first-requires c κs = rw (c .at-most .ensures) (at-most-le (c .before .before .args .room) 257)
 
@@ -30,4 +27,4 @@ returns c =
     )
 
 pub read-array-spec : {M : Type 1} → statement M
-read-array-spec = tie.close (tie.spec at-most-requires read-first-requires returns)
+read-array-spec = tie.close (tie.spec (λ c κs. search needs) read-first-requires returns)

@@ -11,14 +11,8 @@ use borrow.Author.Needs.{needs}
 use Rattle.records.proofs.arrays.write_array.Statement.{statement}
 use Rattle.records.proofs.arrays.write_array.Tie as tie
 
-at-most-requires : tie.Need-at-most-requires
-at-most-requires c κs = search needs
-
 write-first-requires : tie.Need-write-first-requires
 write-first-requires c κs = rw (c .before .at-most .ensures) (at-most-le (c .before .before .before .args .m) 257)
-
-same-length : tie.Need-same-length
-same-length c = search needs
 
 returns : tie.Need-returns
 returns c =
@@ -32,4 +26,4 @@ returns c =
     )
 
 pub write-array-spec : {M : Type 1} → statement M
-write-array-spec = tie.close (tie.spec at-most-requires write-first-requires same-length returns)
+write-array-spec = tie.close (tie.spec (λ c κs. search needs) write-first-requires (λ c. search needs) returns)

@@ -5,16 +5,10 @@ use borrow.Author.Needs.{needs}
 use Rattle.records.proofs.reader.read_answer.Statement.{statement}
 use Rattle.records.proofs.reader.read_answer.Tie as tie
 
-read-plan-requires : tie.Need-read-plan-requires
-read-plan-requires c κs = search needs
-
-room-answer-requires : tie.Need-room-answer-requires
-room-answer-requires c κs = search needs
-
 returns : tie.Need-returns
 returns c =
     let a = c .before .before .before .args in
     c .room-answer .ensures ∙ room-answer (a .bytes .now) (a .room) _ (c .before .read-plan .ensures)
 
 pub read-answer-spec : {M : Type 1} → statement M
-read-answer-spec = tie.close (tie.spec read-plan-requires room-answer-requires returns)
+read-answer-spec = tie.close (tie.spec (λ c κs. search needs) (λ c κs. search needs) returns)

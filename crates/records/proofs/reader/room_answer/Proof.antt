@@ -5,19 +5,10 @@ use borrow.Author.Needs.{needs}
 use Rattle.records.proofs.reader.room_answer.Statement.{statement}
 use Rattle.records.proofs.reader.room_answer.Tie as tie
 
-enum-told : tie.Need-enum-told
-enum-told c = search needs
-
-cast-if1 : tie.Need-cast-if1
-cast-if1 c = search needs
-
 returns : tie.Need-returns
 returns c =
     let a = c .before .before .before .before .args in
     too-short (a .reading) (a .room) (c .before .enum-told .given .1) (c .if1 .taken)
-
-enum-known-verdict : tie.Need-enum-known-verdict
-enum-known-verdict c = search needs
 
 returns-2 : tie.Need-returns-2
 returns-2 c =
@@ -31,4 +22,4 @@ returns-3 c =
 
 pub room-answer-spec : {M : Type 1} → statement M
 room-answer-spec =
-    tie.close (tie.spec enum-told cast-if1 returns enum-known-verdict returns-2 returns-3)
+    tie.close (tie.spec (λ c. search needs) (λ c. search needs) returns (λ c. search needs) returns-2 returns-3)

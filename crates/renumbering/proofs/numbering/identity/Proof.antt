@@ -17,18 +17,6 @@ abbrev μ-loop : tie.MeasureT-loop
 loop-holds : tie.Need-loop-holds Inv-loop μ-loop
 loop-holds c = (omega arith, prefix-none 64 0 _ 0)
 
-cast-to : tie.Need-cast-to Inv-loop μ-loop
-cast-to c = search needs
-
-array-write-to : tie.Need-array-write-to Inv-loop μ-loop
-array-write-to c = search needs
-
-add-v : tie.Need-add-v Inv-loop μ-loop
-add-v c = search needs
-
-loop-less : tie.Need-loop-less Inv-loop μ-loop
-loop-less c = search needs
-
 loop-again : tie.Need-loop-again Inv-loop μ-loop
 loop-again c = let l = c .before .loop in (omega arith, prefix-more 64 0 _ (l .to) (l .v) _ (l .inv .1) (omega arith) refl)
 
@@ -38,4 +26,4 @@ returns c = let l = c .before .loop in unchanged-by (l .to) (l .inv .1 .long) (�
 pub identity-spec : {M : Type 1} → statement M
 identity-spec =
     tie.close
-    (tie.spec Inv-loop μ-loop loop-holds cast-to array-write-to add-v loop-less loop-again returns)
+    (tie.spec Inv-loop μ-loop loop-holds (λ c. search needs) (λ c. search needs) (λ c. search needs) (λ c. search needs) loop-again returns)

@@ -5,11 +5,8 @@ use borrow.Author.Needs.{needs}
 use Rattle.renumbering.proofs.renumbered.entry.Statement.{statement}
 use Rattle.renumbering.proofs.renumbered.entry.Tie as tie
 
-element-copy-out-result : tie.Need-element-copy-out-result
-element-copy-out-result c = search needs
-
 returns : tie.Need-returns
 returns c = let s = c .before in in-place (s .args .numbers .now) (s .args .v) 0 _ (omega arith)
 
 pub entry-spec : {M : Type 1} → statement M
-entry-spec = tie.close (tie.spec element-copy-out-result returns)
+entry-spec = tie.close (tie.spec (λ c. search needs) returns)

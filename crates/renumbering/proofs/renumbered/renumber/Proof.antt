@@ -18,14 +18,8 @@ Inv-loop to plan arcs₀ m k₀ arcs k = (m ≡ plan .m) × (k ≤ m) × HoldMad
 abbrev μ-loop : tie.MeasureT-loop
 μ-loop to plan arcs₀ m k₀ arcs k = m - k
 
-cast-m : tie.Need-cast-m Inv-loop μ-loop
-cast-m c = search needs
-
 loop-holds : tie.Need-loop-holds Inv-loop μ-loop
 loop-holds c = (refl, omega arith, prefix-none 256 zeroRecord _ zeroRecord)
-
-mul-renumber-arc : tie.Need-mul-renumber-arc Inv-loop μ-loop
-mul-renumber-arc c = search needs
 
 element-copy-out-renumber-arc : tie.Need-element-copy-out-renumber-arc Inv-loop μ-loop
 element-copy-out-renumber-arc c = let h = record-arcs _ (c .before .before .pre .0) in search needs
@@ -33,17 +27,8 @@ element-copy-out-renumber-arc c = let h = record-arcs _ (c .before .before .pre 
 renumber-arc-requires : tie.Need-renumber-arc-requires Inv-loop μ-loop
 renumber-arc-requires c κs = let s = c .before .before .before in let e = record-ends _ (s .pre .0) (c .before .before .loop .k) (omega arith) in (e .0, e .1, s .pre .1)
 
-mul-arcs : tie.Need-mul-arcs Inv-loop μ-loop
-mul-arcs c = search needs
-
 array-set-from-arcs : tie.Need-array-set-from-arcs Inv-loop μ-loop
 array-set-from-arcs c = let h = record-arcs _ (c .before .before .before .before .pre .0) in omega arith
-
-add-k : tie.Need-add-k Inv-loop μ-loop
-add-k c = search needs
-
-loop-less : tie.Need-loop-less Inv-loop μ-loop
-loop-less c = search needs
 
 loop-again : tie.Need-loop-again Inv-loop μ-loop
 loop-again c = let v = c .before .before .before in (refl, omega arith, prefix-more 256 zeroRecord _ (v .loop .arcs) (v .loop .k) _ (v .loop .inv .2) (let h = record-arcs _ (v .before .pre .0) in omega arith) (c .renumber-arc .ensures))
@@ -57,14 +42,14 @@ renumber-spec =
     (tie.spec
     Inv-loop
     μ-loop
-    cast-m
+    (λ c. search needs)
     loop-holds
-    mul-renumber-arc
+    (λ c. search needs)
     element-copy-out-renumber-arc
     renumber-arc-requires
-    mul-arcs
+    (λ c. search needs)
     array-set-from-arcs
-    add-k
-    loop-less
+    (λ c. search needs)
+    (λ c. search needs)
     loop-again
     returns)

@@ -20,32 +20,8 @@ abbrev μ-loop : tie.MeasureT-loop
 loop-holds : tie.Need-loop-holds Inv-loop μ-loop
 loop-holds c = (omega arith, length-replicate 64 (replicate {A = ℕ} 64 0), λ a l. absurd (omega arith))
 
-entry-requires : tie.Need-entry-requires Inv-loop μ-loop
-entry-requires c κs = search needs
-
-wide-requires : tie.Need-wide-requires Inv-loop μ-loop
-wide-requires c κs = search needs
-
-mul-found : tie.Need-mul-found Inv-loop μ-loop
-mul-found c = search needs
-
 element-copy-out-found : tie.Need-element-copy-out-found Inv-loop μ-loop
 element-copy-out-found c = let s = c .before .before .before in let e = c .before .entry .ensures in let w = c .wide .ensures in omega (arith, s .before .pre .1 (s .loop .i) (omega arith))
-
-renumber-row-requires : tie.Need-renumber-row-requires Inv-loop μ-loop
-renumber-row-requires c κs = search needs
-
-mul-t : tie.Need-mul-t Inv-loop μ-loop
-mul-t c = search needs
-
-array-set-from-t : tie.Need-array-set-from-t Inv-loop μ-loop
-array-set-from-t c = search needs
-
-add-i : tie.Need-add-i Inv-loop μ-loop
-add-i c = search needs
-
-loop-less : tie.Need-loop-less Inv-loop μ-loop
-loop-less c = search needs
 
 loop-again : tie.Need-loop-again Inv-loop μ-loop
 loop-again c = let s = c .before .before .before .before .before in
@@ -65,14 +41,14 @@ renumber-table-spec =
     Inv-loop
     μ-loop
     loop-holds
-    entry-requires
-    wide-requires
-    mul-found
+    (λ c κs. search needs)
+    (λ c κs. search needs)
+    (λ c. search needs)
     element-copy-out-found
-    renumber-row-requires
-    mul-t
-    array-set-from-t
-    add-i
-    loop-less
+    (λ c κs. search needs)
+    (λ c. search needs)
+    (λ c. search needs)
+    (λ c. search needs)
+    (λ c. search needs)
     loop-again
     returns)

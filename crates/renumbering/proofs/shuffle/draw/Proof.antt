@@ -8,18 +8,6 @@ use borrow.Author.Needs.{needs}
 use Rattle.renumbering.proofs.shuffle.draw.Statement.{statement}
 use Rattle.renumbering.proofs.shuffle.draw.Tie as tie
 
-next-requires : tie.Need-next-requires
-next-requires c κs = search needs
-
-rem-i : tie.Need-rem-i
-rem-i c = search needs
-
-div-j : tie.Need-div-j
-div-j c = search needs
-
-rem-j : tie.Need-rem-j
-rem-j c = search needs
-
 exchange-requires : tie.Need-exchange-requires
 exchange-requires c κs = let s = c .before .before in
     let r = c .before .next .result in
@@ -31,4 +19,4 @@ returns : tie.Need-returns
 returns c = drawn-as _ _ _ _ (c .before .before .next .ensures .0) (c .exchange .ensures)
 
 pub draw-spec : {M : Type 1} → statement M
-draw-spec = tie.close (tie.spec next-requires rem-i div-j rem-j exchange-requires returns)
+draw-spec = tie.close (tie.spec (λ c κs. search needs) (λ c. search needs) (λ c. search needs) (λ c. search needs) exchange-requires returns)

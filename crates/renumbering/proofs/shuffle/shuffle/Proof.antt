@@ -20,12 +20,6 @@ loop-holds c = (omega arith, none-shuffled _ _ (c .pre .0) (c .pre .3))
 draw-requires : tie.Need-draw-requires Inv-loop μ-loop
 draw-requires c κs = let s = c .before .before in let i = c .before .loop .inv .1 in (i .numbering, s .pre .1, s .pre .2, i .random-in)
 
-add-i : tie.Need-add-i Inv-loop μ-loop
-add-i c = search needs
-
-loop-less : tie.Need-loop-less Inv-loop μ-loop
-loop-less c = search needs
-
 loop-again : tie.Need-loop-again Inv-loop μ-loop
 loop-again c = let s = c .before .before .before in let l = c .before .before .loop in (omega arith, one-shuffled _ _ (s .pre .1) (s .pre .2) (l .i) (l .r) _ (l .inv .1) (c .draw .ensures))
 
@@ -35,4 +29,4 @@ returns c = let s = c .before .before in let l = c .before .loop in l .inv .1 .s
 pub shuffle-spec : {M : Type 1} → statement M
 shuffle-spec =
     tie.close
-    (tie.spec Inv-loop μ-loop loop-holds draw-requires add-i loop-less loop-again returns)
+    (tie.spec Inv-loop μ-loop loop-holds draw-requires (λ c. search needs) (λ c. search needs) loop-again returns)

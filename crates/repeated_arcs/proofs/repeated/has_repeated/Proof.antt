@@ -16,20 +16,8 @@ Inv-loop m numbers k₀ k = (k ≤ m) × ((i : ℕ) → i < k → (j : ℕ) → 
 abbrev μ-loop : tie.MeasureT-loop
 μ-loop m numbers k₀ k = m - k
 
-packed-arcs-requires : tie.Need-packed-arcs-requires Inv-loop μ-loop
-packed-arcs-requires c κs = search needs
-
 loop-holds : tie.Need-loop-holds Inv-loop μ-loop
 loop-holds c = (omega arith, λ i l. absurd (omega arith))
-
-mul-x : tie.Need-mul-x Inv-loop μ-loop
-mul-x c = search needs
-
-array-read-x : tie.Need-array-read-x Inv-loop μ-loop
-array-read-x c = search needs
-
-stands-before-requires : tie.Need-stands-before-requires Inv-loop μ-loop
-stands-before-requires c κs = search needs
 
 returns : tie.Need-returns Inv-loop μ-loop
 returns c =
@@ -38,12 +26,6 @@ returns c =
     let p = n .ensures .1 in
     let r = c .before .stands-before .ensures .0 (c .if1 .taken) in
     found (recordAt (v .before .before .args .arcs)) (v .before .before .args .m) (n .result) (λ k l. p k l .1) (λ k l. p k l .0) (r .0) (v .loop .k) (r .1) (omega arith) (r .2)
-
-add-k : tie.Need-add-k Inv-loop μ-loop
-add-k c = search needs
-
-loop-less : tie.Need-loop-less Inv-loop μ-loop
-loop-less c = search needs
 
 loop-again : tie.Need-loop-again Inv-loop μ-loop
 loop-again c =
@@ -63,13 +45,13 @@ has-repeated-spec =
     (tie.spec
     Inv-loop
     μ-loop
-    packed-arcs-requires
+    (λ c κs. search needs)
     loop-holds
-    mul-x
-    array-read-x
-    stands-before-requires
+    (λ c. search needs)
+    (λ c. search needs)
+    (λ c κs. search needs)
     returns
-    add-k
-    loop-less
+    (λ c. search needs)
+    (λ c. search needs)
     loop-again
     returns-2)

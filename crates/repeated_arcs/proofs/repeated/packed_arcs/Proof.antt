@@ -19,27 +19,6 @@ abbrev μ-loop : tie.MeasureT-loop
 loop-holds : tie.Need-loop-holds Inv-loop μ-loop
 loop-holds c = (omega arith, prefix-none 256 0 _ 0, λ j l. absurd (omega arith))
 
-mul-packed : tie.Need-mul-packed Inv-loop μ-loop
-mul-packed c = search needs
-
-array-copy-out-packed : tie.Need-array-copy-out-packed Inv-loop μ-loop
-array-copy-out-packed c = search needs
-
-packed-requires : tie.Need-packed-requires Inv-loop μ-loop
-packed-requires c κs = search needs
-
-mul-numbers : tie.Need-mul-numbers Inv-loop μ-loop
-mul-numbers c = search needs
-
-array-write-numbers : tie.Need-array-write-numbers Inv-loop μ-loop
-array-write-numbers c = search needs
-
-add-k : tie.Need-add-k Inv-loop μ-loop
-add-k c = search needs
-
-loop-less : tie.Need-loop-less Inv-loop μ-loop
-loop-less c = search needs
-
 loop-again : tie.Need-loop-again Inv-loop μ-loop
 loop-again c =
     let v = c .before .before .before in
@@ -60,12 +39,12 @@ packed-arcs-spec =
     Inv-loop
     μ-loop
     loop-holds
-    mul-packed
-    array-copy-out-packed
-    packed-requires
-    mul-numbers
-    array-write-numbers
-    add-k
-    loop-less
+    (λ c. search needs)
+    (λ c. search needs)
+    (λ c κs. search needs)
+    (λ c. search needs)
+    (λ c. search needs)
+    (λ c. search needs)
+    (λ c. search needs)
     loop-again
     returns)

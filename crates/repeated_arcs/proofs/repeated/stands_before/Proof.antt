@@ -6,11 +6,12 @@ use native.Mathlib.Omega.{arith}
 use borrow.Author.Count.{below-more}
 use lib.ListN.{getD}
 use borrow.Author.Needs.{needs}
+use Rattle.postman.specs.Laws.Contradiction.{zero-is-one}
 use Rattle.repeated_arcs.proofs.repeated.stands_before.Statement.{statement}
 use Rattle.repeated_arcs.proofs.repeated.stands_before.Tie as tie
 
 true-ne-false : true ≡ false → ⊥
-true-ne-false e = let z : _≡_ {A = ℕ} 0 1 = cc in omega arith
+true-ne-false e = zero-is-one (cc)
 
 abbrev Inv-loop : tie.InvT-loop
 Inv-loop numbers n x j₀ j = (j ≤ n) × ((i : ℕ) → i < j → getD numbers i 0 ≡ x → ⊥)
@@ -18,25 +19,10 @@ Inv-loop numbers n x j₀ j = (j ≤ n) × ((i : ℕ) → i < j → getD numbers
 abbrev μ-loop : tie.MeasureT-loop
 μ-loop numbers n x j₀ j = n - j
 
-loop-holds : tie.Need-loop-holds Inv-loop μ-loop
-loop-holds c = search needs
-
-mul-if1 : tie.Need-mul-if1 Inv-loop μ-loop
-mul-if1 c = search needs
-
-element-copy-out-if1 : tie.Need-element-copy-out-if1 Inv-loop μ-loop
-element-copy-out-if1 c = search needs
-
 returns : tie.Need-returns Inv-loop μ-loop
 returns c =
     let v = c .before .before .before in
     (λ e. (v .loop .j, omega arith, c .if1 .taken), λ e. absurd (true-ne-false e))
-
-add-j : tie.Need-add-j Inv-loop μ-loop
-add-j c = search needs
-
-loop-less : tie.Need-loop-less Inv-loop μ-loop
-loop-less c = search needs
 
 loop-again : tie.Need-loop-again Inv-loop μ-loop
 loop-again c =
@@ -54,11 +40,11 @@ stands-before-spec =
     (tie.spec
     Inv-loop
     μ-loop
-    loop-holds
-    mul-if1
-    element-copy-out-if1
+    (λ c. search needs)
+    (λ c. search needs)
+    (λ c. search needs)
     returns
-    add-j
-    loop-less
+    (λ c. search needs)
+    (λ c. search needs)
     loop-again
     returns-2)

@@ -5,9 +5,6 @@ use borrow.Author.Needs.{needs}
 use Rattle.required.proofs.required_sum.counted.Statement.{statement}
 use Rattle.required.proofs.required_sum.counted.Tie as tie
 
-is-required-requires : tie.Need-is-required-requires
-is-required-requires c κs = search needs
-
 returns : tie.Need-returns
 returns c =
     (rw (sym (c .before .is-required .ensures) ∙ c .if1 .taken), omega arith)
@@ -17,4 +14,4 @@ returns-2 c =
     (rw (sym (c .before .is-required .ensures) ∙ c .if1 .left), omega arith)
 
 pub counted-spec : {M : Type 1} → statement M
-counted-spec = tie.close (tie.spec is-required-requires returns returns-2)
+counted-spec = tie.close (tie.spec (λ c κs. search needs) returns returns-2)

@@ -24,24 +24,15 @@ Inv-loop heads plan counts₀ m k₀ counts k = Degrees heads plan m k counts
 abbrev μ-loop : tie.MeasureT-loop
 μ-loop heads plan counts₀ m k₀ counts k = m - k
 
-cast-m : tie.Need-cast-m Inv-loop μ-loop
-cast-m c = search needs
-
 loop-holds : tie.Need-loop-holds Inv-loop μ-loop
 loop-holds c =
     degrees-none (c .args .heads) (c .args .t1)
-
-mul-a : tie.Need-mul-a Inv-loop μ-loop
-mul-a c = search needs
 
 element-copy-out-a : tie.Need-element-copy-out-a Inv-loop μ-loop
 element-copy-out-a c =
     let v = c .before in
     let a = v .loop .inv .all in
     omega (arith, record-arcs (v .before .args .t1) (v .before .pre))
-
-end-of-requires : tie.Need-end-of-requires Inv-loop μ-loop
-end-of-requires c κs = search needs
 
 mul-counts : tie.Need-mul-counts Inv-loop μ-loop
 mul-counts c =
@@ -58,9 +49,6 @@ array-read-counts c =
     let a = v .loop .inv .all in
     let l = end-low (s .args .heads) (s .args .t1) (s .pre) (v .loop .k) (omega arith) (c .end-of .ensures) in
     omega arith
-
-counted-requires : tie.Need-counted-requires Inv-loop μ-loop
-counted-requires c κs = search needs
 
 add-counts : tie.Need-add-counts Inv-loop μ-loop
 add-counts c =
@@ -88,12 +76,6 @@ array-write-counts c =
     let l = end-low (s .args .heads) (s .args .t1) (s .pre) (v .loop .k) (omega arith) (c .before .end-of .ensures) in
     omega arith
 
-add-k : tie.Need-add-k Inv-loop μ-loop
-add-k c = search needs
-
-loop-less : tie.Need-loop-less Inv-loop μ-loop
-loop-less c = search needs
-
 loop-again : tie.Need-loop-again Inv-loop μ-loop
 loop-again c =
     let v = c .before .before .before .before in
@@ -116,18 +98,18 @@ degrees-spec =
     (tie.spec
     Inv-loop
     μ-loop
-    cast-m
+    (λ c. search needs)
     loop-holds
-    mul-a
+    (λ c. search needs)
     element-copy-out-a
-    end-of-requires
+    (λ c κs. search needs)
     mul-counts
     array-read-counts
-    counted-requires
+    (λ c κs. search needs)
     add-counts
     mul-counts-2
     array-write-counts
-    add-k
-    loop-less
+    (λ c. search needs)
+    (λ c. search needs)
     loop-again
     returns)

@@ -8,12 +8,6 @@ use borrow.Author.Needs.{needs}
 use Rattle.required.proofs.required_sum.difference.Statement.{statement}
 use Rattle.required.proofs.required_sum.difference.Tie as tie
 
-cast-result : tie.Need-cast-result
-cast-result c = search needs
-
-cast-result-2 : tie.Need-cast-result-2
-cast-result-2 c = search needs
-
 sub-result : tie.Need-sub-result
 sub-result c =
     let h : c .args .into < 2 ^ 63 = omega arith in
@@ -27,4 +21,4 @@ returns c =
     toZ-ofZ (sub-result c) ∙ simp plain64
 
 pub difference-spec : {M : Type 1} → statement M
-difference-spec = tie.close (tie.spec cast-result cast-result-2 sub-result returns)
+difference-spec = tie.close (tie.spec (λ c. search needs) (λ c. search needs) sub-result returns)

@@ -28,45 +28,15 @@ Inv-loop into out d₀ v₀ d v = Prefix 64 (pos 0) (λ u. pos (getD into u 0) -
 abbrev μ-loop : tie.MeasureT-loop
 μ-loop into out d₀ v₀ d v = 64 - v
 
-degrees-requires : tie.Need-degrees-requires Inv-loop μ-loop
-degrees-requires c κs = search needs
-
-degrees-requires-2 : tie.Need-degrees-requires-2 Inv-loop μ-loop
-degrees-requires-2 c κs = search needs
-
 loop-holds : tie.Need-loop-holds Inv-loop μ-loop
 loop-holds c =
     prefix-none 64 (pos 0) _ (pos 0)
-
-mul-difference : tie.Need-mul-difference Inv-loop μ-loop
-mul-difference c = search needs
-
-array-read-difference : tie.Need-array-read-difference Inv-loop μ-loop
-array-read-difference c = search needs
-
-mul-difference-2 : tie.Need-mul-difference-2 Inv-loop μ-loop
-mul-difference-2 c = search needs
-
-array-read-difference-2 : tie.Need-array-read-difference-2 Inv-loop μ-loop
-array-read-difference-2 c = search needs
 
 difference-requires : tie.Need-difference-requires Inv-loop μ-loop
 difference-requires c κs =
     let v = c .before in
     let t = c .loop-test .taken in
     (v .before .before .degrees .ensures (v .loop .v) t .1, v .before .degrees2 .ensures (v .loop .v) t .1)
-
-mul-d : tie.Need-mul-d Inv-loop μ-loop
-mul-d c = search needs
-
-array-set-from-d : tie.Need-array-set-from-d Inv-loop μ-loop
-array-set-from-d c = search needs
-
-add-v : tie.Need-add-v Inv-loop μ-loop
-add-v c = search needs
-
-loop-less : tie.Need-loop-less Inv-loop μ-loop
-loop-less c = search needs
 
 loop-again : tie.Need-loop-again Inv-loop μ-loop
 loop-again c =
@@ -89,17 +59,17 @@ imbalance-spec =
     (tie.spec
     Inv-loop
     μ-loop
-    degrees-requires
-    degrees-requires-2
+    (λ c κs. search needs)
+    (λ c κs. search needs)
     loop-holds
-    mul-difference
-    array-read-difference
-    mul-difference-2
-    array-read-difference-2
+    (λ c. search needs)
+    (λ c. search needs)
+    (λ c. search needs)
+    (λ c. search needs)
     difference-requires
-    mul-d
-    array-set-from-d
-    add-v
-    loop-less
+    (λ c. search needs)
+    (λ c. search needs)
+    (λ c. search needs)
+    (λ c. search needs)
     loop-again
     returns)

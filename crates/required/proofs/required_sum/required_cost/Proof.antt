@@ -17,20 +17,11 @@ Inv-loop plan sum₀ m k₀ sum k = Summed (λ a. a .service) 65535 plan m k sum
 abbrev μ-loop : tie.MeasureT-loop
 μ-loop plan sum₀ m k₀ sum k = m - k
 
-cast-m : tie.Need-cast-m Inv-loop μ-loop
-cast-m c = search needs
-
 loop-holds : tie.Need-loop-holds Inv-loop μ-loop
 loop-holds c = summed-none (λ a. a .service) 65535 (c .args .t1)
 
-mul-charge : tie.Need-mul-charge Inv-loop μ-loop
-mul-charge c = search needs
-
 element-copy-out-charge : tie.Need-element-copy-out-charge Inv-loop μ-loop
 element-copy-out-charge c = omega (arith, record-arcs (c .before .before .args .t1) (c .before .before .pre))
-
-charge-requires : tie.Need-charge-requires Inv-loop μ-loop
-charge-requires c κs = search needs
 
 add-sum : tie.Need-add-sum Inv-loop μ-loop
 add-sum c =
@@ -39,12 +30,6 @@ add-sum c =
     let m = record-arcs (s .args .t1) (s .pre) in
     let o = term-le (s .args .t1) (s .pre) (dear _) (v .loop .inv) (omega arith) (c .charge .ensures) in
     omega arith
-
-add-k : tie.Need-add-k Inv-loop μ-loop
-add-k c = search needs
-
-loop-less : tie.Need-loop-less Inv-loop μ-loop
-loop-less c = search needs
 
 loop-again : tie.Need-loop-again Inv-loop μ-loop
 loop-again c =
@@ -61,13 +46,13 @@ required-cost-spec =
     (tie.spec
     Inv-loop
     μ-loop
-    cast-m
+    (λ c. search needs)
     loop-holds
-    mul-charge
+    (λ c. search needs)
     element-copy-out-charge
-    charge-requires
+    (λ c κs. search needs)
     add-sum
-    add-k
-    loop-less
+    (λ c. search needs)
+    (λ c. search needs)
     loop-again
     returns)

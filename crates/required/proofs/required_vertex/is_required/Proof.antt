@@ -17,31 +17,16 @@ Inv-loop v plan m k₀ k = (m ≡ plan .m) × (k ≤ m) × ((i : ℕ) → i < k 
 abbrev μ-loop : tie.MeasureT-loop
 μ-loop v plan m k₀ k = m - k
 
-cast-m : tie.Need-cast-m Inv-loop μ-loop
-cast-m c = search needs
-
 loop-holds : tie.Need-loop-holds Inv-loop μ-loop
 loop-holds c = (refl, omega arith, λ i l. absurd (omega arith))
 
-mul-touches : tie.Need-mul-touches Inv-loop μ-loop
-mul-touches c = search needs
-
 element-copy-out-touches : tie.Need-element-copy-out-touches Inv-loop μ-loop
 element-copy-out-touches c = omega (arith, record-arcs (c .before .before .args .t1) (c .before .before .pre))
-
-touches-requires : tie.Need-touches-requires Inv-loop μ-loop
-touches-requires c κs = search needs
 
 returns : tie.Need-returns Inv-loop μ-loop
 returns c =
     let v = c .before .before .before .before in
     required-some (v .before .args .t1) (v .before .args .v) (v .loop .k) (omega arith) (sym (c .before .touches .ensures) ∙ c .if1 .taken)
-
-add-k : tie.Need-add-k Inv-loop μ-loop
-add-k c = search needs
-
-loop-less : tie.Need-loop-less Inv-loop μ-loop
-loop-less c = search needs
 
 loop-again : tie.Need-loop-again Inv-loop μ-loop
 loop-again c =
@@ -59,13 +44,13 @@ is-required-spec =
     (tie.spec
     Inv-loop
     μ-loop
-    cast-m
+    (λ c. search needs)
     loop-holds
-    mul-touches
+    (λ c. search needs)
     element-copy-out-touches
-    touches-requires
+    (λ c κs. search needs)
     returns
-    add-k
-    loop-less
+    (λ c. search needs)
+    (λ c. search needs)
     loop-again
     returns-2)

@@ -17,18 +17,6 @@ abbrev μ-loop : tie.MeasureT-loop
 loop-holds : tie.Need-loop-holds Inv-loop μ-loop
 loop-holds c = prefix-none 64 false _ false
 
-is-required-requires : tie.Need-is-required-requires Inv-loop μ-loop
-is-required-requires c κs = search needs
-
-array-write-flags : tie.Need-array-write-flags Inv-loop μ-loop
-array-write-flags c = search needs
-
-add-v : tie.Need-add-v Inv-loop μ-loop
-add-v c = search needs
-
-loop-less : tie.Need-loop-less Inv-loop μ-loop
-loop-less c = search needs
-
 loop-again : tie.Need-loop-again Inv-loop μ-loop
 loop-again c = let v = c .before .before in prefix-more 64 false _ (v .loop .flags) (v .loop .v) _ (v .loop .inv) (c .before .loop-test .taken) (c .is-required .ensures)
 
@@ -42,9 +30,9 @@ required-spec =
     Inv-loop
     μ-loop
     loop-holds
-    is-required-requires
-    array-write-flags
-    add-v
-    loop-less
+    (λ c κs. search needs)
+    (λ c. search needs)
+    (λ c. search needs)
+    (λ c. search needs)
     loop-again
     returns)

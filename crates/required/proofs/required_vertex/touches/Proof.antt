@@ -18,17 +18,8 @@ at-head {t = t} {v = v} x e n = rw (e, ne-eqb t v n)
 nowhere : {b : Bool} (x : Bool) → b ≡ false → false ≡ (b && x)
 nowhere x e = rw e
 
-is-required-requires : tie.Need-is-required-requires
-is-required-requires c κs = search needs
-
-cast-if2 : tie.Need-cast-if2
-cast-if2 c = search needs
-
 returns : tie.Need-returns
 returns c = at-tail _ (sym (c .before .before .before .is-required .ensures) ∙ c .before .before .if1 .taken) (c .if2 .taken)
-
-cast-result : tie.Need-cast-result
-cast-result c = search needs
 
 returns-2 : tie.Need-returns-2
 returns-2 c = at-head _ (sym (c .before .before .before .before .is-required .ensures) ∙ c .before .before .before .if1 .taken) (c .before .if2 .left)
@@ -38,4 +29,4 @@ returns-3 c = nowhere _ (sym (c .before .is-required .ensures) ∙ c .if1 .left)
 
 pub touches-spec : {M : Type 1} → statement M
 touches-spec =
-    tie.close (tie.spec is-required-requires cast-if2 returns cast-result returns-2 returns-3)
+    tie.close (tie.spec (λ c κs. search needs) (λ c. search needs) returns (λ c. search needs) returns-2 returns-3)

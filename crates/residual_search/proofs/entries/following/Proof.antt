@@ -5,11 +5,8 @@ use borrow.Author.Needs.{needs}
 use Rattle.residual_search.proofs.entries.following.Statement.{statement}
 use Rattle.residual_search.proofs.entries.following.Tie as tie
 
-element-copy-out-result : tie.Need-element-copy-out-result
-element-copy-out-result c = search needs
-
 returns : tie.Need-returns
 returns c = (refl, omega (arith, c .before .pre .1 (c .before .args .v)))
 
 pub following-spec : {M : Type 1} → statement M
-following-spec = tie.close (tie.spec element-copy-out-result returns)
+following-spec = tie.close (tie.spec (λ c. search needs) returns)

@@ -5,11 +5,8 @@ use borrow.Author.Needs.{needs}
 use Rattle.residual_search.proofs.entries.vertex.Statement.{statement}
 use Rattle.residual_search.proofs.entries.vertex.Tie as tie
 
-shared-slice-read-result : tie.Need-shared-slice-read-result
-shared-slice-read-result c = search needs
-
 returns : tie.Need-returns
 returns c = (refl, omega (arith, c .before .pre .1 (c .before .args .a)))
 
 pub vertex-spec : {M : Type 1} → statement M
-vertex-spec = tie.close (tie.spec shared-slice-read-result returns)
+vertex-spec = tie.close (tie.spec (λ c. search needs) returns)

@@ -10,21 +10,6 @@ use borrow.Author.Needs.{needs}
 use Rattle.residual_search.proofs.search.relax_at.Statement.{statement}
 use Rattle.residual_search.proofs.search.relax_at.Tie as tie
 
-mul-old : tie.Need-mul-old
-mul-old c = search needs
-
-element-copy-out-old : tie.Need-element-copy-out-old
-element-copy-out-old c = search needs
-
-mul-x : tie.Need-mul-x
-mul-x c = search needs
-
-element-write-x : tie.Need-element-write-x
-element-write-x c = search needs
-
-element-write-next : tie.Need-element-write-next
-element-write-next c = search needs
-
 returns : tie.Need-returns
 returns c =
     let s = c .before .before in
@@ -49,10 +34,10 @@ pub relax-at-spec : {M : Type 1} → statement M
 relax-at-spec =
     tie.close
     (tie.spec
-    mul-old
-    element-copy-out-old
-    mul-x
-    element-write-x
-    element-write-next
+    (λ c. search needs)
+    (λ c. search needs)
+    (λ c. search needs)
+    (λ c. search needs)
+    (λ c. search needs)
     returns
     returns-2)

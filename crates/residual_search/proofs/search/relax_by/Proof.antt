@@ -34,33 +34,6 @@ Inv-loop d f u vs w base goal rank x₀ next₀ uw w8 end last best₀ low₀ a�
 abbrev μ-loop : tie.MeasureT-loop
 μ-loop d f u vs w base goal rank x₀ next₀ uw w8 end last best₀ low₀ a₀ x next best low a = length vs - a
 
-level-requires : tie.Need-level-requires Inv-loop μ-loop
-level-requires c κs = search needs
-
-cast-w8 : tie.Need-cast-w8 Inv-loop μ-loop
-cast-w8 c = search needs
-
-wide-requires : tie.Need-wide-requires Inv-loop μ-loop
-wide-requires c κs = search needs
-
-distance-by-requires : tie.Need-distance-by-requires Inv-loop μ-loop
-distance-by-requires c κs = search needs
-
-mul-lesser : tie.Need-mul-lesser Inv-loop μ-loop
-mul-lesser c = search needs
-
-element-copy-out-lesser : tie.Need-element-copy-out-lesser Inv-loop μ-loop
-element-copy-out-lesser c = search needs
-
-lesser-requires : tie.Need-lesser-requires Inv-loop μ-loop
-lesser-requires c κs = search needs
-
-element-copy-out-open-distance : tie.Need-element-copy-out-open-distance Inv-loop μ-loop
-element-copy-out-open-distance c = search needs
-
-open-distance-requires : tie.Need-open-distance-requires Inv-loop μ-loop
-open-distance-requires c κs = search needs
-
 loop-holds : tie.Need-loop-holds Inv-loop μ-loop
 unfolding fold
 loop-holds c =
@@ -75,35 +48,8 @@ loop-holds c =
           (c .open-distance .ensures)),
     )
 
-vertex-requires : tie.Need-vertex-requires Inv-loop μ-loop
-vertex-requires c κs = search needs
-
-wide-requires-2 : tie.Need-wide-requires-2 Inv-loop μ-loop
-wide-requires-2 c κs = search needs
-
-distance-by-requires-2 : tie.Need-distance-by-requires-2 Inv-loop μ-loop
-distance-by-requires-2 c κs = search needs
-
-relax-at-requires : tie.Need-relax-at-requires Inv-loop μ-loop
-relax-at-requires c κs = search needs
-
-element-copy-out-open-distance-2 : tie.Need-element-copy-out-open-distance-2 Inv-loop μ-loop
-element-copy-out-open-distance-2 c = search needs
-
-open-distance-requires-2 : tie.Need-open-distance-requires-2 Inv-loop μ-loop
-open-distance-requires-2 c κs = search needs
-
-chosen-requires : tie.Need-chosen-requires Inv-loop μ-loop
-chosen-requires c κs = search needs
-
-lesser-requires-2 : tie.Need-lesser-requires-2 Inv-loop μ-loop
-lesser-requires-2 c κs = search needs
-
 add-a : tie.Need-add-a Inv-loop μ-loop
 add-a c = search (needs, c .before .before .before .before .before .before .before .before .before .before .loop-test .taken, c .before .before .before .before .before .before .before .before .before .before .before .before .before .before .before .before .before .before .before .before .good)
-
-loop-less : tie.Need-loop-less Inv-loop μ-loop
-loop-less c = search needs
 
 loop-again : tie.Need-loop-again Inv-loop μ-loop
 loop-again c =
@@ -148,25 +94,25 @@ relax-by-spec =
     (tie.spec
     Inv-loop
     μ-loop
-    level-requires
-    cast-w8
-    wide-requires
-    distance-by-requires
-    mul-lesser
-    element-copy-out-lesser
-    lesser-requires
-    element-copy-out-open-distance
-    open-distance-requires
+    (λ c κs. search needs)
+    (λ c. search needs)
+    (λ c κs. search needs)
+    (λ c κs. search needs)
+    (λ c. search needs)
+    (λ c. search needs)
+    (λ c κs. search needs)
+    (λ c. search needs)
+    (λ c κs. search needs)
     loop-holds
-    vertex-requires
-    wide-requires-2
-    distance-by-requires-2
-    relax-at-requires
-    element-copy-out-open-distance-2
-    open-distance-requires-2
-    chosen-requires
-    lesser-requires-2
+    (λ c κs. search needs)
+    (λ c κs. search needs)
+    (λ c κs. search needs)
+    (λ c κs. search needs)
+    (λ c. search needs)
+    (λ c κs. search needs)
+    (λ c κs. search needs)
+    (λ c κs. search needs)
     add-a
-    loop-less
+    (λ c. search needs)
     loop-again
     returns)

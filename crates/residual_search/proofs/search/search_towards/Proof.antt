@@ -21,15 +21,6 @@ Inv-loop d f u vs t goal most x₀ next₀ rank₀ target w₀ k₀ x next rank 
 abbrev μ-loop : tie.MeasureT-loop
 μ-loop d f u vs t goal most x₀ next₀ rank₀ target w₀ k₀ x next rank w k = most - k
 
-wide-requires : tie.Need-wide-requires Inv-loop μ-loop
-wide-requires c κs = search needs
-
-array-write-rank : tie.Need-array-write-rank Inv-loop μ-loop
-array-write-rank c = search needs
-
-relax-by-requires : tie.Need-relax-by-requires Inv-loop μ-loop
-relax-by-requires c κs = search needs
-
 loop-holds : tie.Need-loop-holds Inv-loop μ-loop
 loop-holds c =
     let start = c .before .before .before .before .before .before in (
@@ -41,27 +32,6 @@ loop-holds c =
       until-start (residualLength (cell (start .args .d .now)) (start .args .f .now) (start .args .u .now)) (start .args .vs .now) (start .args .t) (start .args .goal) (start .args .most)
           (c .before .before .before .before .wide .ensures) (c .relax-by .ensures .0) (c .relax-by .ensures .1),
     )
-
-wide-requires-2 : tie.Need-wide-requires-2 Inv-loop μ-loop
-wide-requires-2 c κs = search needs
-
-level-requires : tie.Need-level-requires Inv-loop μ-loop
-level-requires c κs = search needs
-
-add-k : tie.Need-add-k Inv-loop μ-loop
-add-k c = search needs
-
-cast-rank : tie.Need-cast-rank Inv-loop μ-loop
-cast-rank c = search needs
-
-array-write-rank-2 : tie.Need-array-write-rank-2 Inv-loop μ-loop
-array-write-rank-2 c = search needs
-
-relax-by-requires-2 : tie.Need-relax-by-requires-2 Inv-loop μ-loop
-relax-by-requires-2 c κs = search needs
-
-loop-less : tie.Need-loop-less Inv-loop μ-loop
-loop-less c = search needs
 
 loop-again : tie.Need-loop-again Inv-loop μ-loop
 loop-again c =
@@ -99,17 +69,17 @@ search-towards-spec =
     (tie.spec
     Inv-loop
     μ-loop
-    wide-requires
-    array-write-rank
-    relax-by-requires
+    (λ c κs. search needs)
+    (λ c. search needs)
+    (λ c κs. search needs)
     loop-holds
-    wide-requires-2
-    level-requires
-    add-k
-    cast-rank
-    array-write-rank-2
-    relax-by-requires-2
-    loop-less
+    (λ c κs. search needs)
+    (λ c κs. search needs)
+    (λ c. search needs)
+    (λ c. search needs)
+    (λ c. search needs)
+    (λ c κs. search needs)
+    (λ c. search needs)
     loop-again
     returns
     returns-2)

@@ -4,11 +4,8 @@ use borrow.Author.Needs.{needs}
 use Rattle.rounds.proofs.kept.count.Statement.{statement}
 use Rattle.rounds.proofs.kept.count.Tie as tie
 
-add-t8 : tie.Need-add-t8
-add-t8 c = search needs
-
 returns : tie.Need-returns
 returns c = let s = c .before .before .before .before .before .before in counted-as (s .args .k) _ _ _ (search needs)
 
 pub count-spec : {M : Type 1} → statement M
-count-spec = tie.close (tie.spec add-t8 returns)
+count-spec = tie.close (tie.spec (λ c. search needs) returns)

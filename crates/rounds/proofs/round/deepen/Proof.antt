@@ -34,9 +34,6 @@ returns c = let l = c .before .before .before .before .before .loop in
     let f : toZ w64 (ofZ w64 (l .d .kept .floor)) ≡ l .d .kept .floor = search needs in
     (ended _ _ (l .i) _ (l .d .kept) (l .inv .0) (l .inv .1) (l .inv .2) (closed-as (l .d .kept) _ _ _ f (c .before .closed .ensures) (c .if1 .taken)), l .inv .3)
 
-add-next-round : tie.Need-add-next-round Inv-loop μ-loop
-add-next-round c = search needs
-
 next-round-requires : tie.Need-next-round-requires Inv-loop μ-loop
 next-round-requires c κs = let s = c .before .before .before .before .before .before in
     let l = c .before .before .before .before .before .loop in
@@ -45,12 +42,6 @@ next-round-requires c κs = let s = c .before .before .before .before .before .b
       (s .pre .0 .0, s .pre .0 .1, subst⁻¹ (GoesOn _) (l .inv .2) (goes-on _ (a .0) (a .1) _ (b .0) (b .1) (l .i - 1) (omega arith)), l .inv .3),
       (b .0, b .1),
     )
-
-add-i : tie.Need-add-i Inv-loop μ-loop
-add-i c = search needs
-
-loop-less : tie.Need-loop-less Inv-loop μ-loop
-loop-less c = search needs
 
 loop-again : tie.Need-loop-again Inv-loop μ-loop
 loop-again c = let l = c .before .before .before .before .before .before .loop in
@@ -69,9 +60,9 @@ deepen-spec =
     loop-holds
     closed-requires
     returns
-    add-next-round
+    (λ c. search needs)
     next-round-requires
-    add-i
-    loop-less
+    (λ c. search needs)
+    (λ c. search needs)
     loop-again
     returns-2)

@@ -9,17 +9,11 @@ use borrow.Author.Needs.{needs}
 use Rattle.rounds.proofs.round.first_round.Statement.{statement}
 use Rattle.rounds.proofs.round.first_round.Tie as tie
 
-nothing-requires : tie.Need-nothing-requires
-nothing-requires c κs = search needs
-
 found-tabled-requires : tie.Need-found-tabled-requires
 found-tabled-requires c κs = let s = c .before in
     let a = plan-accepted _ (s .pre .0 .well-formed) (s .pre .1) in
     let l = s .pre .3 in
     (s .pre .0 .well-formed, s .pre .0 .distances, s .pre .1, first _ (a .0) _ _ (c .nothing .ensures) (s .pre .2) (omega arith))
-
-begin-requires : tie.Need-begin-requires
-begin-requires c κs = search needs
 
 returns : tie.Need-returns
 returns c =
@@ -28,4 +22,4 @@ returns c =
     (e, first-held _ _ _ (a .result) (a .ensures) e refl refl)
 
 pub first-round-spec : {M : Type 1} → statement M
-first-round-spec = tie.close (tie.spec nothing-requires found-tabled-requires begin-requires returns)
+first-round-spec = tie.close (tie.spec (λ c κs. search needs) found-tabled-requires (λ c κs. search needs) returns)

@@ -8,20 +8,8 @@ use borrow.Author.Needs.{needs}
 use Rattle.rounds.proofs.round.kept_of.Statement.{statement}
 use Rattle.rounds.proofs.round.kept_of.Tie as tie
 
-no-dearer-requires : tie.Need-no-dearer-requires
-no-dearer-requires c κs = search needs
-
 carry-requires : tie.Need-carry-requires
 carry-requires c κs = let s = c .before .before .before .before .before .before .before in s .pre .2
-
-tighter-requires : tie.Need-tighter-requires
-tighter-requires c κs = search needs
-
-left-of-requires : tie.Need-left-of-requires
-left-of-requires c κs = search needs
-
-nearer-requires : tie.Need-nearer-requires
-nearer-requires c κs = search needs
 
 count-requires : tie.Need-count-requires
 count-requires c κs = let s = c .before .before .before .before .before .before .before .before .before .before .before .before in
@@ -42,10 +30,10 @@ pub kept-of-spec : {M : Type 1} → statement M
 kept-of-spec =
     tie.close
     (tie.spec
-    no-dearer-requires
+    (λ c κs. search needs)
     carry-requires
-    tighter-requires
-    left-of-requires
-    nearer-requires
+    (λ c κs. search needs)
+    (λ c κs. search needs)
+    (λ c κs. search needs)
     count-requires
     returns)

@@ -11,12 +11,6 @@ use borrow.Author.Needs.{needs}
 use Rattle.rounds.proofs.round.next_round.Statement.{statement}
 use Rattle.rounds.proofs.round.next_round.Tie as tie
 
-choose-requires : tie.Need-choose-requires
-choose-requires c κs = search needs
-
-start-of-requires : tie.Need-start-of-requires
-start-of-requires c κs = search needs
-
 found-under-requires : tie.Need-found-under-requires
 found-under-requires c κs = let s = c .before .before .before .before .before .before in
     let t = s .pre .0 in
@@ -44,15 +38,6 @@ kept-of-requires c κs = let s = c .before .before .before .before .before .befo
     let f = few-tried _ _ (c .before .before .before .found-under .result) (g .1 .few-tries) (c .before .before .before .found-under .ensures) in
     (t .2 .few-trees, omega arith, inside-to _ (t .0 .well-formed) _ (g .1 .numbers))
 
-left-of-requires : tie.Need-left-of-requires
-left-of-requires c κs = search needs
-
-chosen-of-requires : tie.Need-chosen-of-requires
-chosen-of-requires c κs = search needs
-
-chosen-of-requires-2 : tie.Need-chosen-of-requires-2
-chosen-of-requires-2 c κs = search needs
-
 returns : tie.Need-returns
 returns c = let s = c .before .before .before .before .before .before .before .before .before .before .before .before .before .before in
     let t = s .pre .0 in
@@ -72,12 +57,12 @@ pub next-round-spec : {M : Type 1} → statement M
 next-round-spec =
     tie.close
     (tie.spec
-    choose-requires
-    start-of-requires
+    (λ c κs. search needs)
+    (λ c κs. search needs)
     found-under-requires
     sub-kept-of
     kept-of-requires
-    left-of-requires
-    chosen-of-requires
-    chosen-of-requires-2
+    (λ c κs. search needs)
+    (λ c κs. search needs)
+    (λ c κs. search needs)
     returns)

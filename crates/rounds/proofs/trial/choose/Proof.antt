@@ -4,17 +4,11 @@ use borrow.Author.Needs.{needs}
 use Rattle.rounds.proofs.trial.choose.Statement.{statement}
 use Rattle.rounds.proofs.trial.choose.Tie as tie
 
-further-requires : tie.Need-further-requires
-further-requires c κs = search needs
-
 returns : tie.Need-returns
 returns c = goes-on-as _ _ _ _ _ (c .before .if1 .taken) (c .further .ensures)
-
-exchanges-requires : tie.Need-exchanges-requires
-exchanges-requires c κs = search needs
 
 returns-2 : tie.Need-returns-2
 returns-2 c = anew-as _ _ _ _ _ (c .before .if1 .left) (c .exchanges .ensures)
 
 pub choose-spec : {M : Type 1} → statement M
-choose-spec = tie.close (tie.spec further-requires returns exchanges-requires returns-2)
+choose-spec = tie.close (tie.spec (λ c κs. search needs) returns (λ c κs. search needs) returns-2)

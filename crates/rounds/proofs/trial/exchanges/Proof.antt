@@ -8,12 +8,6 @@ use borrow.Author.Needs.{needs}
 use Rattle.rounds.proofs.trial.exchanges.Statement.{statement}
 use Rattle.rounds.proofs.trial.exchanges.Tie as tie
 
-numbers-of-requires : tie.Need-numbers-of-requires
-numbers-of-requires c κs = search needs
-
-cast-n : tie.Need-cast-n
-cast-n c = search needs
-
 shuffle-requires : tie.Need-shuffle-requires
 shuffle-requires c κs = let s = c .before .before in
     let n = record-vertices _ (s .pre .0) in
@@ -24,4 +18,4 @@ returns : tie.Need-returns
 returns c = let s = c .before .before .before .before in exchanged-as _ _ (s .args .k) _ _ (c .before .before .before .numbers-of .ensures) (c .before .shuffle .ensures)
 
 pub exchanges-spec : {M : Type 1} → statement M
-exchanges-spec = tie.close (tie.spec numbers-of-requires cast-n shuffle-requires returns)
+exchanges-spec = tie.close (tie.spec (λ c κs. search needs) (λ c. search needs) shuffle-requires returns)

@@ -5,12 +5,9 @@ use borrow.Author.Needs.{needs}
 use Rattle.rounds.proofs.trial.further.Statement.{statement}
 use Rattle.rounds.proofs.trial.further.Tie as tie
 
-add-t6 : tie.Need-add-t6
-add-t6 c = search needs
-
 returns : tie.Need-returns
 unfolding goneOn
 returns c = refl
 
 pub further-spec : {M : Type 1} → statement M
-further-spec = tie.close (tie.spec add-t6 returns)
+further-spec = tie.close (tie.spec (λ c. search needs) returns)

@@ -49,9 +49,6 @@ lay-tabled-requires c κs = let s = c .before .before .before .before .before .b
       s .pre .4,
     )
 
-same-length : tie.Need-same-length
-same-length c = search needs
-
 returns : tie.Need-returns
 returns c = let s = c .before .before .before .before .before .before .before .before .before .before .before .before .before .before .before .before .before .before in
     let v = c .before .before .before .before .before .before .before .before .before .before .before .before .renumber .ensures in
@@ -67,5 +64,5 @@ lay-under-spec =
     renumber-table-requires
     renumber-table-requires-2
     lay-tabled-requires
-    same-length
+    (λ c. search needs)
     returns)

@@ -7,17 +7,11 @@ use borrow.Author.Needs.{needs}
 use Rattle.search.proofs.explore.goes_into.Statement.{statement}
 use Rattle.search.proofs.explore.goes_into.Tie as tie
 
-reduced-requires : tie.Need-reduced-requires
-reduced-requires c κs = search needs
-
 add-least : tie.Need-add-least
 add-least c =
     let s = c .before .before .before .before .before .before in
     let l : s .args .e .pricing .bound + c .before .reduced .result ≤ 3200000000000 = omega (arith, s .pre .1, c .before .reduced .ensures .1) in
     search needs
-
-entered-requires : tie.Need-entered-requires
-entered-requires c κs = search needs
 
 returns : tie.Need-returns
 returns c =
@@ -26,4 +20,4 @@ returns c =
     c .entered .ensures ∙ ap (λ x. isEntered (e .progress) (s .args .c .trees) (e .pricing .bound + x)) (c .before .before .reduced .ensures .0)
 
 pub goes-into-spec : {M : Type 1} → statement M
-goes-into-spec = tie.close (tie.spec reduced-requires add-least entered-requires returns)
+goes-into-spec = tie.close (tie.spec (λ c κs. search needs) add-least (λ c κs. search needs) returns)

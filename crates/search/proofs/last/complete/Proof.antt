@@ -21,12 +21,6 @@ price-requires c κs =
     let l = s .pre .link in
     (l .metric, l .certified, omega (arith, l .room), l .tail-in, l .head-in)
 
-wide-requires : tie.Need-wide-requires
-wide-requires c κs = search needs
-
-wide-requires-2 : tie.Need-wide-requires-2
-wide-requires-2 c κs = search needs
-
 mul-long : tie.Need-mul-long
 mul-long c =
     let s = c .before .before .before .before .before .before .before in
@@ -54,9 +48,6 @@ index-2-long c =
     let q = s .pre .link in
     let l : c .wide2 .result < 64 = omega (arith, c .wide2 .ensures, q .metric .small _ (q .head-in)) in
     search needs
-
-long-requires : tie.Need-long-requires
-long-requires c κs = search needs
 
 add-cost : tie.Need-add-cost
 add-cost c =
@@ -90,9 +81,6 @@ placed-requires-2 c κs =
     let s = c .before .before .before .before .before .before .before .before .before .before .before .before .before .before in
     omega (arith, s .pre .one, s .pre .few)
 
-completed-requires : tie.Need-completed-requires
-completed-requires c κs = search needs
-
 levelled-requires : tie.Need-levelled-requires
 levelled-requires c κs =
     let s = c .before .before .before .before .before .before .before .before .before .before .before .before .before .before .before .before in
@@ -118,19 +106,19 @@ complete-spec =
     tie.close
     (tie.spec
     price-requires
-    wide-requires
-    wide-requires-2
+    (λ c κs. search needs)
+    (λ c κs. search needs)
     mul-long
     mul-long-2
     index-1-long
     index-2-long
-    long-requires
+    (λ c κs. search needs)
     add-cost
     add-cost-2
     sub-placed
     placed-requires
     sub-placed-2
     placed-requires-2
-    completed-requires
+    (λ c κs. search needs)
     levelled-requires
     returns)

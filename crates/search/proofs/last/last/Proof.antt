@@ -119,9 +119,6 @@ add-least c =
     let l : b .fixed + b .balancing + c .reduced .result ≤ 3100000000000 = omega (arith, c .reduced .ensures .1) in
     search needs
 
-entered-requires : tie.Need-entered-requires Inv-loop μ-loop
-entered-requires c κs = search needs
-
 complete-requires : tie.Need-complete-requires Inv-loop μ-loop
 complete-requires c κs =
     let s = c .before .before .before .before .before .before .before .before .before .before .before .before .before .before .before in
@@ -131,9 +128,6 @@ complete-requires c κs =
     let i = v .inv .3 _ h (s .pre .0 .2) in
     can-complete b h (v .w) (i .0) (v .x) (v .inv .0) (c .before .before .before .before .before .before .loop-test .taken) (c .before .before .before .before .before .candidate-at .result) (c .before .before .before .before .before .candidate-at .ensures)
 
-passed-requires : tie.Need-passed-requires Inv-loop μ-loop
-passed-requires c κs = search needs
-
 add-x : tie.Need-add-x Inv-loop μ-loop
 add-x c =
     let s = c .before .before .before .before .before .before .before .before .before .before .before .before .before .before in
@@ -142,9 +136,6 @@ add-x c =
     let v = c .before .before .before .before .before .before .loop in
     let t = c .before .before .before .before .before .loop-test .taken in
     search needs
-
-loop-less : tie.Need-loop-less Inv-loop μ-loop
-loop-less c = search needs
 
 loop-again : tie.Need-loop-again Inv-loop μ-loop
 loop-again c =
@@ -178,9 +169,6 @@ loop-again c =
       λ p h br. (both p h br .0, subst (λ n. IsExplored p (branches h b br (take n (candidates p (b .a)))) (s .args .g) (c .if1 .r)) e (both p h br .1)),
     )
 
-ended-requires : tie.Need-ended-requires Inv-loop μ-loop
-ended-requires c κs = search needs
-
 returns : tie.Need-returns Inv-loop μ-loop
 returns c =
     let s = c .before .before .before .before .before .before .before .before .before .before in
@@ -210,11 +198,11 @@ last-spec =
     candidate-at-requires
     reduced-requires
     add-least
-    entered-requires
+    (λ c κs. search needs)
     complete-requires
-    passed-requires
+    (λ c κs. search needs)
     add-x
-    loop-less
+    (λ c. search needs)
     loop-again
-    ended-requires
+    (λ c κs. search needs)
     returns)

@@ -16,9 +16,6 @@ add-completed c =
     let l : b .fixed + b .balancing ≤ 3000000000000 = omega arith in
     search needs
 
-completed-requires : tie.Need-completed-requires
-completed-requires c κs = search needs
-
 returns : tie.Need-returns
 returns c =
     let s = c .before .before .before .before .before .before .before in
@@ -33,4 +30,4 @@ returns-2 : tie.Need-returns-2
 returns-2 c = λ p h is. c .before .explore .ensures p h is .0
 
 pub advance-spec : {M : Type 1} → statement M
-advance-spec = tie.close (tie.spec add-completed completed-requires returns explore-requires returns-2)
+advance-spec = tie.close (tie.spec add-completed (λ c κs. search needs) returns explore-requires returns-2)

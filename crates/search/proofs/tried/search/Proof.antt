@@ -17,9 +17,6 @@ advance-requires c κs =
     let l = s .fits .budget in
     ((s .pre .0 .0, s .pre .0 .1, s .pre .0 .2 .branch), omega (arith, l .fits))
 
-lesser-requires : tie.Need-lesser-requires
-lesser-requires c κs = search needs
-
 returns : tie.Need-returns
 returns c =
     let s = c .before .before .before .before .before .before .before .before in
@@ -27,4 +24,4 @@ returns c =
     λ p h is. searched h (s .args .b) is (s .args .budget) (s .pre .1) small _ (c .before .before .before .advance .result) (c .before .before .before .before .number .result) _ refl refl refl (c .before .before .before .advance .ensures p h (is .branch)) (c .before .before .before .before .number .ensures) refl refl refl (c .lesser .ensures) refl
 
 pub search-spec : {M : Type 1} → statement M
-search-spec = tie.close (tie.spec number-requires advance-requires lesser-requires returns)
+search-spec = tie.close (tie.spec number-requires advance-requires (λ c κs. search needs) returns)

@@ -18,51 +18,6 @@ loop-holds : tie.Need-loop-holds Inv-loop μ-loop
 loop-holds c =
     changed-none (rowFrom (c .args .c .now)) _ (c .args .c .now) (c .pre .2) (λ j l. refl)
 
-mul-shorter : tie.Need-mul-shorter Inv-loop μ-loop
-mul-shorter c = search needs
-
-add-shorter : tie.Need-add-shorter Inv-loop μ-loop
-add-shorter c = search needs
-
-mul-shorter-2 : tie.Need-mul-shorter-2 Inv-loop μ-loop
-mul-shorter-2 c = search needs
-
-element-copy-out-shorter : tie.Need-element-copy-out-shorter Inv-loop μ-loop
-element-copy-out-shorter c = search needs
-
-mul-shorter-3 : tie.Need-mul-shorter-3 Inv-loop μ-loop
-mul-shorter-3 c = search needs
-
-add-shorter-2 : tie.Need-add-shorter-2 Inv-loop μ-loop
-add-shorter-2 c = search needs
-
-mul-shorter-4 : tie.Need-mul-shorter-4 Inv-loop μ-loop
-mul-shorter-4 c = search needs
-
-element-copy-out-shorter-2 : tie.Need-element-copy-out-shorter-2 Inv-loop μ-loop
-element-copy-out-shorter-2 c = search needs
-
-shorter-requires : tie.Need-shorter-requires Inv-loop μ-loop
-shorter-requires c κs = search needs
-
-mul-c : tie.Need-mul-c Inv-loop μ-loop
-mul-c c = search needs
-
-add-c : tie.Need-add-c Inv-loop μ-loop
-add-c c = search needs
-
-mul-c-2 : tie.Need-mul-c-2 Inv-loop μ-loop
-mul-c-2 c = search needs
-
-element-write-c : tie.Need-element-write-c Inv-loop μ-loop
-element-write-c c = search needs
-
-add-i : tie.Need-add-i Inv-loop μ-loop
-add-i c = search needs
-
-loop-less : tie.Need-loop-less Inv-loop μ-loop
-loop-less c = search needs
-
 loop-again : tie.Need-loop-again Inv-loop μ-loop
 loop-again c =
     let v = c .before .before .before .before in
@@ -83,20 +38,20 @@ relax-all-spec =
     Inv-loop
     μ-loop
     loop-holds
-    mul-shorter
-    add-shorter
-    mul-shorter-2
-    element-copy-out-shorter
-    mul-shorter-3
-    add-shorter-2
-    mul-shorter-4
-    element-copy-out-shorter-2
-    shorter-requires
-    mul-c
-    add-c
-    mul-c-2
-    element-write-c
-    add-i
-    loop-less
+    (λ c. search needs)
+    (λ c. search needs)
+    (λ c. search needs)
+    (λ c. search needs)
+    (λ c. search needs)
+    (λ c. search needs)
+    (λ c. search needs)
+    (λ c. search needs)
+    (λ c κs. search needs)
+    (λ c. search needs)
+    (λ c. search needs)
+    (λ c. search needs)
+    (λ c. search needs)
+    (λ c. search needs)
+    (λ c. search needs)
     loop-again
     returns)

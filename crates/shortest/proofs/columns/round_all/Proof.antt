@@ -21,29 +21,14 @@ Inv-loop c₀ plan m k₀ c k = (m ≡ plan .m) × (k ≤ m) × (length c ≡ 40
 abbrev μ-loop : tie.MeasureT-loop
 μ-loop c₀ plan m k₀ c k = m - k
 
-cast-m : tie.Need-cast-m Inv-loop μ-loop
-cast-m c = search needs
-
 loop-holds : tie.Need-loop-holds Inv-loop μ-loop
 unfolding relaxArcs
 loop-holds c = (refl, omega arith, c .pre .1, λ i l. refl)
-
-mul-a : tie.Need-mul-a Inv-loop μ-loop
-mul-a c = search needs
 
 element-copy-out-a : tie.Need-element-copy-out-a Inv-loop μ-loop
 element-copy-out-a c =
     let s = c .before .before in
     omega (arith, record-arcs (s .args .t1) (s .pre .0))
-
-arc-weight-requires : tie.Need-arc-weight-requires Inv-loop μ-loop
-arc-weight-requires c κs = search needs
-
-cast-relax-all : tie.Need-cast-relax-all Inv-loop μ-loop
-cast-relax-all c = search needs
-
-cast-relax-all-2 : tie.Need-cast-relax-all-2 Inv-loop μ-loop
-cast-relax-all-2 c = search needs
 
 relax-all-requires : tie.Need-relax-all-requires Inv-loop μ-loop
 relax-all-requires c κs =
@@ -51,12 +36,6 @@ relax-all-requires c κs =
     let s = v .before in
     let e = record-ends (s .args .t1) (s .pre .0) (v .loop .k) (omega arith) in
     (omega arith, omega arith, v .loop .inv .2)
-
-add-k : tie.Need-add-k Inv-loop μ-loop
-add-k c = search needs
-
-loop-less : tie.Need-loop-less Inv-loop μ-loop
-loop-less c = search needs
 
 loop-again : tie.Need-loop-again Inv-loop μ-loop
 loop-again c =
@@ -83,15 +62,15 @@ round-all-spec =
     (tie.spec
     Inv-loop
     μ-loop
-    cast-m
+    (λ c. search needs)
     loop-holds
-    mul-a
+    (λ c. search needs)
     element-copy-out-a
-    arc-weight-requires
-    cast-relax-all
-    cast-relax-all-2
+    (λ c κs. search needs)
+    (λ c. search needs)
+    (λ c. search needs)
     relax-all-requires
-    add-k
-    loop-less
+    (λ c. search needs)
+    (λ c. search needs)
     loop-again
     returns)

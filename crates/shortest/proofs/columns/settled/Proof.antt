@@ -21,9 +21,6 @@ Inv-loop plan c₀ n k₀ c k = (n ≡ plan .n) × (1 ≤ k) × (k ≤ n) × (le
 abbrev μ-loop : tie.MeasureT-loop
 μ-loop plan c₀ n k₀ c k = n - k
 
-start-requires : tie.Need-start-requires Inv-loop μ-loop
-start-requires c κs = search needs
-
 loop-holds : tie.Need-loop-holds Inv-loop μ-loop
 loop-holds c =
     let s = c .before in
@@ -36,21 +33,12 @@ round-all-requires c κs =
     let v = c .before .before in
     (v .before .before .pre, v .loop .inv .3)
 
-same-all-requires : tie.Need-same-all-requires Inv-loop μ-loop
-same-all-requires c κs = search needs
-
 returns : tie.Need-returns Inv-loop μ-loop
 returns c =
     let v = c .before .before .before .before .before .before .before in
     let s = v .before .before in
     λ i l. settled-row (weighted (planValue (s .args .plan))) (is-weighted (planValue (s .args .plan)) (s .pre)) i (v .loop .k - 1) (rowFrom (v .loop .c) i) _ (v .loop .inv .4 i l) (c .before .before .before .before .round-all .ensures .1 i l)
     (same-entries _ (v .loop .c) (sym (c .before .same-all .ensures) ∙ c .if1 .taken) i l)
-
-add-k : tie.Need-add-k Inv-loop μ-loop
-add-k c = search needs
-
-loop-less : tie.Need-loop-less Inv-loop μ-loop
-loop-less c = search needs
 
 loop-again : tie.Need-loop-again Inv-loop μ-loop
 loop-again c =
@@ -77,12 +65,12 @@ settled-spec =
     (tie.spec
     Inv-loop
     μ-loop
-    start-requires
+    (λ c κs. search needs)
     loop-holds
     round-all-requires
-    same-all-requires
+    (λ c κs. search needs)
     returns
-    add-k
-    loop-less
+    (λ c. search needs)
+    (λ c. search needs)
     loop-again
     returns-2)

@@ -4,14 +4,8 @@ use borrow.Author.Needs.{needs}
 use Rattle.shortest.proofs.distance.row.Statement.{statement}
 use Rattle.shortest.proofs.distance.row.Tie as tie
 
-row-requires : tie.Need-row-requires
-row-requires c κs = search needs
-
-row-of-requires : tie.Need-row-of-requires
-row-of-requires c κs = search needs
-
 returns : tie.Need-returns
 returns c = row-costs _ (c .before .before .pre .0) _ (c .before .row .result) (c .row-of .result) (c .before .row .ensures) (c .row-of .ensures)
 
 pub row-spec : {M : Type 1} → statement M
-row-spec = tie.close (tie.spec row-requires row-of-requires returns)
+row-spec = tie.close (tie.spec (λ c κs. search needs) (λ c κs. search needs) returns)

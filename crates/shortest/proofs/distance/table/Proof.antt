@@ -4,14 +4,8 @@ use borrow.Author.Needs.{needs}
 use Rattle.shortest.proofs.distance.table.Statement.{statement}
 use Rattle.shortest.proofs.distance.table.Tie as tie
 
-table-requires : tie.Need-table-requires
-table-requires c κs = search needs
-
-table-of-requires : tie.Need-table-of-requires
-table-of-requires c κs = search needs
-
 returns : tie.Need-returns
 returns c = table-costs _ (c .before .before .before .pre) (c .before .before .table .result) (c .table-of .result) (c .before .before .table .ensures) (c .table-of .ensures)
 
 pub table-spec : {M : Type 1} → statement M
-table-spec = tie.close (tie.spec table-requires table-of-requires returns)
+table-spec = tie.close (tie.spec (λ c κs. search needs) (λ c κs. search needs) returns)

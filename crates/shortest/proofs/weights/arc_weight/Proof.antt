@@ -8,18 +8,6 @@ use Rattle.shortest.specs.Relaxation.{weight}
 use Rattle.shortest.proofs.weights.arc_weight.Statement.{statement}
 use Rattle.shortest.proofs.weights.arc_weight.Tie as tie
 
-is-open-requires : tie.Need-is-open-requires
-is-open-requires c κs = search needs
-
-cast-result : tie.Need-cast-result
-cast-result c = search needs
-
-mul-result : tie.Need-mul-result
-mul-result c = search needs
-
-add-result : tie.Need-add-result
-add-result c = search needs
-
 returns : tie.Need-returns
 unfolding weight noPath
 returns c = sym (ap (λ b. cond b (64 * c .before .before .before .args .a .cost + 1) noPath) (sym (c .before .before .is-open .ensures) ∙ c .before .if1 .taken))
@@ -29,4 +17,4 @@ unfolding weight noPath
 returns-2 c = sym (ap (λ b. cond b (64 * c .before .before .args .a .cost + 1) noPath) (sym (c .before .is-open .ensures) ∙ c .if1 .left))
 
 pub arc-weight-spec : {M : Type 1} → statement M
-arc-weight-spec = tie.close (tie.spec is-open-requires cast-result mul-result add-result returns returns-2)
+arc-weight-spec = tie.close (tie.spec (λ c κs. search needs) (λ c. search needs) (λ c. search needs) (λ c. search needs) returns returns-2)

@@ -20,29 +20,14 @@ Inv-loop plan next₀ m k₀ next k = (m ≡ plan .m) × (k ≤ m) × (next ≡ 
 abbrev μ-loop : tie.MeasureT-loop
 μ-loop plan next₀ m k₀ next k = m - k
 
-cast-m : tie.Need-cast-m Inv-loop μ-loop
-cast-m c = search needs
-
 loop-holds : tie.Need-loop-holds Inv-loop μ-loop
 unfolding relaxArcs
 loop-holds c = (refl, omega arith, refl)
-
-mul-a : tie.Need-mul-a Inv-loop μ-loop
-mul-a c = search needs
 
 element-copy-out-a : tie.Need-element-copy-out-a Inv-loop μ-loop
 element-copy-out-a c =
     let s = c .before .before in
     omega (arith, record-arcs (s .args .t1) (s .pre))
-
-cast-t : tie.Need-cast-t Inv-loop μ-loop
-cast-t c = search needs
-
-cast-h : tie.Need-cast-h Inv-loop μ-loop
-cast-h c = search needs
-
-mul-shorter : tie.Need-mul-shorter Inv-loop μ-loop
-mul-shorter c = search needs
 
 array-read-shorter : tie.Need-array-read-shorter Inv-loop μ-loop
 array-read-shorter c =
@@ -50,35 +35,17 @@ array-read-shorter c =
     let e = record-ends (v .before .args .t1) (v .before .pre) (v .loop .k) (omega arith) in
     omega arith
 
-arc-weight-requires : tie.Need-arc-weight-requires Inv-loop μ-loop
-arc-weight-requires c κs = search needs
-
-mul-shorter-2 : tie.Need-mul-shorter-2 Inv-loop μ-loop
-mul-shorter-2 c = search needs
-
 array-read-shorter-2 : tie.Need-array-read-shorter-2 Inv-loop μ-loop
 array-read-shorter-2 c =
     let v = c .before .before .before .before .before in
     let e = record-ends (v .before .args .t1) (v .before .pre) (v .loop .k) (omega arith) in
     omega arith
 
-shorter-requires : tie.Need-shorter-requires Inv-loop μ-loop
-shorter-requires c κs = search needs
-
-mul-next : tie.Need-mul-next Inv-loop μ-loop
-mul-next c = search needs
-
 array-write-next : tie.Need-array-write-next Inv-loop μ-loop
 array-write-next c =
     let v = c .before .before .before .before .before .before in
     let e = record-ends (v .before .args .t1) (v .before .pre) (v .loop .k) (omega arith) in
     omega arith
-
-add-k : tie.Need-add-k Inv-loop μ-loop
-add-k c = search needs
-
-loop-less : tie.Need-loop-less Inv-loop μ-loop
-loop-less c = search needs
 
 loop-again : tie.Need-loop-again Inv-loop μ-loop
 loop-again c =
@@ -100,21 +67,21 @@ round-spec =
     (tie.spec
     Inv-loop
     μ-loop
-    cast-m
+    (λ c. search needs)
     loop-holds
-    mul-a
+    (λ c. search needs)
     element-copy-out-a
-    cast-t
-    cast-h
-    mul-shorter
+    (λ c. search needs)
+    (λ c. search needs)
+    (λ c. search needs)
     array-read-shorter
-    arc-weight-requires
-    mul-shorter-2
+    (λ c κs. search needs)
+    (λ c. search needs)
     array-read-shorter-2
-    shorter-requires
-    mul-next
+    (λ c κs. search needs)
+    (λ c. search needs)
     array-write-next
-    add-k
-    loop-less
+    (λ c. search needs)
+    (λ c. search needs)
     loop-again
     returns)

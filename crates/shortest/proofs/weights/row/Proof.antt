@@ -19,21 +19,9 @@ Inv-loop plan source now₀ n k₀ now k = (n ≡ plan .n) × (1 ≤ k) × (k �
 abbrev μ-loop : tie.MeasureT-loop
 μ-loop plan source now₀ n k₀ now k = n - k
 
-mul-now : tie.Need-mul-now Inv-loop μ-loop
-mul-now c = search needs
-
-array-write-now : tie.Need-array-write-now Inv-loop μ-loop
-array-write-now c = search needs
-
 loop-holds : tie.Need-loop-holds Inv-loop μ-loop
 unfolding startRow noPath
 loop-holds c = let n = record-vertices (c .args .plan) (c .pre .0) in (refl, omega arith, omega arith, rounds-none (weighted (planValue (c .args .plan))) (is-weighted (planValue (c .args .plan)) (c .pre .0)) (c .args .source) (c .pre .1))
-
-round-requires : tie.Need-round-requires Inv-loop μ-loop
-round-requires c κs = search needs
-
-same-requires : tie.Need-same-requires Inv-loop μ-loop
-same-requires c κs = search needs
 
 returns : tie.Need-returns Inv-loop μ-loop
 returns c =
@@ -41,12 +29,6 @@ returns c =
     let s = v .before in
     settled-row (weighted (planValue (s .args .plan))) (is-weighted (planValue (s .args .plan)) (s .pre .0)) (s .args .source) (v .loop .k - 1) (v .loop .now) _ (v .loop .inv .3) (c .before .before .before .before .round .ensures)
     (c .before .same .ensures .0 (c .if1 .taken))
-
-add-k : tie.Need-add-k Inv-loop μ-loop
-add-k c = search needs
-
-loop-less : tie.Need-loop-less Inv-loop μ-loop
-loop-less c = search needs
 
 loop-again : tie.Need-loop-again Inv-loop μ-loop
 loop-again c =
@@ -72,13 +54,13 @@ row-spec =
     (tie.spec
     Inv-loop
     μ-loop
-    mul-now
-    array-write-now
+    (λ c. search needs)
+    (λ c. search needs)
     loop-holds
-    round-requires
-    same-requires
+    (λ c κs. search needs)
+    (λ c κs. search needs)
     returns
-    add-k
-    loop-less
+    (λ c. search needs)
+    (λ c. search needs)
     loop-again
     returns-2)

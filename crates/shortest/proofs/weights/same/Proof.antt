@@ -5,6 +5,7 @@ use native.Mathlib.Omega.{arith}
 use borrow.Author.Count.{below-more}
 use lib.ListN.{getD}
 use borrow.Author.Needs.{needs}
+use Rattle.postman.specs.Laws.Contradiction.{zero-is-one}
 use Rattle.shortest.proofs.weights.same.Statement.{statement}
 use Rattle.shortest.proofs.weights.same.Tie as tie
 
@@ -14,32 +15,11 @@ Inv-loop a b j₀ j = (j ≤ 64) × ((i : ℕ) → i < j → getD a i 0 ≡ getD
 abbrev μ-loop : tie.MeasureT-loop
 μ-loop a b j₀ j = 64 - j
 
-loop-holds : tie.Need-loop-holds Inv-loop μ-loop
-loop-holds c = search needs
-
-mul-if1 : tie.Need-mul-if1 Inv-loop μ-loop
-mul-if1 c = search needs
-
-element-copy-out-if1 : tie.Need-element-copy-out-if1 Inv-loop μ-loop
-element-copy-out-if1 c = search needs
-
-mul-if1-2 : tie.Need-mul-if1-2 Inv-loop μ-loop
-mul-if1-2 c = search needs
-
-element-copy-out-if1-2 : tie.Need-element-copy-out-if1-2 Inv-loop μ-loop
-element-copy-out-if1-2 c = search needs
-
 returns : tie.Need-returns Inv-loop μ-loop
 returns c = (
-  λ e j l. absurd (let z : _≡_ {A = ℕ} 0 1 = cc in omega arith),
+  λ e j l. zero-is-one (cc),
   λ h. absurd (c .if1 .taken (h (c .before .before .before .before .loop .j) (c .before .before .before .loop-test .taken))),
 )
-
-add-j : tie.Need-add-j Inv-loop μ-loop
-add-j c = search needs
-
-loop-less : tie.Need-loop-less Inv-loop μ-loop
-loop-less c = search needs
 
 loop-again : tie.Need-loop-again Inv-loop μ-loop
 loop-again c = let v = c .before .before .before .before .loop in (omega arith, below-more _ (v .j) (v .inv .1) (c .if1 .left))
@@ -53,13 +33,13 @@ same-spec =
     (tie.spec
     Inv-loop
     μ-loop
-    loop-holds
-    mul-if1
-    element-copy-out-if1
-    mul-if1-2
-    element-copy-out-if1-2
+    (λ c. search needs)
+    (λ c. search needs)
+    (λ c. search needs)
+    (λ c. search needs)
+    (λ c. search needs)
     returns
-    add-j
-    loop-less
+    (λ c. search needs)
+    (λ c. search needs)
     loop-again
     returns-2)

@@ -6,15 +6,6 @@ use Rattle.shortest.specs.Relaxation.{shorter}
 use Rattle.shortest.proofs.weights.shorter.Statement.{statement}
 use Rattle.shortest.proofs.weights.shorter.Tie as tie
 
-sub-if1 : tie.Need-sub-if1
-sub-if1 c = search needs
-
-add-if2 : tie.Need-add-if2
-add-if2 c = search needs
-
-add-result : tie.Need-add-result
-add-result c = search needs
-
 returns : tie.Need-returns
 unfolding shorter noPath
 returns c = omega arith
@@ -28,4 +19,4 @@ unfolding shorter noPath
 returns-3 c = omega arith
 
 pub shorter-spec : {M : Type 1} → statement M
-shorter-spec = tie.close (tie.spec sub-if1 add-if2 add-result returns returns-2 returns-3)
+shorter-spec = tie.close (tie.spec (λ c. search needs) (λ c. search needs) (λ c. search needs) returns returns-2 returns-3)

@@ -16,27 +16,9 @@ Inv-loop c t₀ i₀ t i = Prefix 64 [] (rowFrom c) t i
 abbrev μ-loop : tie.MeasureT-loop
 μ-loop c t₀ i₀ t i = 64 - i
 
-settled-requires : tie.Need-settled-requires Inv-loop μ-loop
-settled-requires c κs = search needs
-
 loop-holds : tie.Need-loop-holds Inv-loop μ-loop
 loop-holds c =
     prefix-none 64 [] _ (replicate {A = ℕ} 64 0)
-
-row-from-requires : tie.Need-row-from-requires Inv-loop μ-loop
-row-from-requires c κs = search needs
-
-mul-t : tie.Need-mul-t Inv-loop μ-loop
-mul-t c = search needs
-
-array-set-from-t : tie.Need-array-set-from-t Inv-loop μ-loop
-array-set-from-t c = search needs
-
-add-i : tie.Need-add-i Inv-loop μ-loop
-add-i c = search needs
-
-loop-less : tie.Need-loop-less Inv-loop μ-loop
-loop-less c = search needs
 
 loop-again : tie.Need-loop-again Inv-loop μ-loop
 loop-again c =
@@ -54,12 +36,12 @@ table-spec =
     (tie.spec
     Inv-loop
     μ-loop
-    settled-requires
+    (λ c κs. search needs)
     loop-holds
-    row-from-requires
-    mul-t
-    array-set-from-t
-    add-i
-    loop-less
+    (λ c κs. search needs)
+    (λ c. search needs)
+    (λ c. search needs)
+    (λ c. search needs)
+    (λ c. search needs)
     loop-again
     returns)

@@ -28,12 +28,6 @@ returns c =
     let v = c .before .before .before in
     window-found _ _ (v .loop .k) (omega arith) (sym (c .before .is-bad-window .ensures) ∙ c .if1 .taken)
 
-add-k : tie.Need-add-k Inv-loop μ-loop
-add-k c = search needs
-
-loop-less : tie.Need-loop-less Inv-loop μ-loop
-loop-less c = search needs
-
 loop-again : tie.Need-loop-again Inv-loop μ-loop
 loop-again c =
     let v = c .before .before .before in
@@ -52,7 +46,7 @@ any-bad-window-spec =
     loop-holds
     is-bad-window-requires
     returns
-    add-k
-    loop-less
+    (λ c. search needs)
+    (λ c. search needs)
     loop-again
     returns-2)

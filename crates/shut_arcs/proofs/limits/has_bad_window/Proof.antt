@@ -17,9 +17,6 @@ returns-3 c = odd-length _ _ _ (c .before .before .if1 .left) (c .before .if2 .l
 returns-4 : tie.Need-returns-4
 returns-4 c = many-windows _ _ _ (c .before .before .before .if1 .left) (c .before .before .if2 .left) (c .before .if3 .left) (c .if4 .taken)
 
-any-bad-window-requires : tie.Need-any-bad-window-requires
-any-bad-window-requires c κs = search needs
-
 returns-5 : tie.Need-returns-5
 returns-5 c =
     c .any-bad-window .ensures
@@ -27,4 +24,4 @@ returns-5 c =
 
 pub has-bad-window-spec : {M : Type 1} → statement M
 has-bad-window-spec =
-    tie.close (tie.spec returns returns-2 returns-3 returns-4 any-bad-window-requires returns-5)
+    tie.close (tie.spec returns returns-2 returns-3 returns-4 (λ c κs. search needs) returns-5)

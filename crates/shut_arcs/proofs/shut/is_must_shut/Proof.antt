@@ -5,12 +5,6 @@ use borrow.Author.Needs.{needs}
 use Rattle.shut_arcs.proofs.shut.is_must_shut.Statement.{statement}
 use Rattle.shut_arcs.proofs.shut.is_must_shut.Tie as tie
 
-is-required-requires : tie.Need-is-required-requires
-is-required-requires c κs = search needs
-
-is-shut-requires : tie.Need-is-shut-requires
-is-shut-requires c κs = search needs
-
 returns : tie.Need-returns
 returns c = both _ _ _ (sym (c .before .before .is-required .ensures) ∙ c .before .if1 .taken) (c .is-shut .ensures)
 
@@ -18,4 +12,4 @@ returns-2 : tie.Need-returns-2
 returns-2 c = not-both _ _ (sym (c .before .is-required .ensures) ∙ c .if1 .left)
 
 pub is-must-shut-spec : {M : Type 1} → statement M
-is-must-shut-spec = tie.close (tie.spec is-required-requires is-shut-requires returns returns-2)
+is-must-shut-spec = tie.close (tie.spec (λ c κs. search needs) (λ c κs. search needs) returns returns-2)

@@ -30,12 +30,6 @@ returns c =
     let v = c .before .before .before in
     window-found _ _ (v .loop .j) (omega arith) (sym (c .before .window-shuts .ensures) ∙ c .if1 .taken)
 
-add-j : tie.Need-add-j Inv-loop μ-loop
-add-j c = search needs
-
-loop-less : tie.Need-loop-less Inv-loop μ-loop
-loop-less c = search needs
-
 loop-again : tie.Need-loop-again Inv-loop μ-loop
 loop-again c =
     let v = c .before .before .before in
@@ -55,7 +49,7 @@ is-shut-spec =
     loop-holds
     window-shuts-requires
     returns
-    add-j
-    loop-less
+    (λ c. search needs)
+    (λ c. search needs)
     loop-again
     returns-2)

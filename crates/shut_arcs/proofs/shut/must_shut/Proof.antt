@@ -18,31 +18,13 @@ Inv-loop windows weekday minute plan m k₀ k =
 abbrev μ-loop : tie.MeasureT-loop
 μ-loop windows weekday minute plan m k₀ k = m - k
 
-cast-m : tie.Need-cast-m Inv-loop μ-loop
-cast-m c = search needs
-
 loop-holds : tie.Need-loop-holds Inv-loop μ-loop
 loop-holds c = (refl, omega arith, λ i l. absurd (omega arith))
-
-mul-is-must-shut : tie.Need-mul-is-must-shut Inv-loop μ-loop
-mul-is-must-shut c = search needs
-
-element-copy-out-is-must-shut : tie.Need-element-copy-out-is-must-shut Inv-loop μ-loop
-element-copy-out-is-must-shut c = search needs
-
-is-must-shut-requires : tie.Need-is-must-shut-requires Inv-loop μ-loop
-is-must-shut-requires c κs = search needs
 
 returns : tie.Need-returns Inv-loop μ-loop
 returns c =
     let v = c .before .before .before .before in
     must-found _ _ _ (v .loop .k) (omega arith) (sym (c .before .is-must-shut .ensures) ∙ c .if1 .taken)
-
-add-k : tie.Need-add-k Inv-loop μ-loop
-add-k c = search needs
-
-loop-less : tie.Need-loop-less Inv-loop μ-loop
-loop-less c = search needs
 
 loop-again : tie.Need-loop-again Inv-loop μ-loop
 loop-again c =
@@ -59,13 +41,13 @@ must-shut-spec =
     (tie.spec
     Inv-loop
     μ-loop
-    cast-m
+    (λ c. search needs)
     loop-holds
-    mul-is-must-shut
-    element-copy-out-is-must-shut
-    is-must-shut-requires
+    (λ c. search needs)
+    (λ c. search needs)
+    (λ c κs. search needs)
     returns
-    add-k
-    loop-less
+    (λ c. search needs)
+    (λ c. search needs)
     loop-again
     returns-2)

@@ -18,35 +18,8 @@ Inv-loop windows weekday minute plan arcs₀ m k₀ arcs k = (m ≡ plan .m) × 
 abbrev μ-loop : tie.MeasureT-loop
 μ-loop windows weekday minute plan arcs₀ m k₀ arcs k = m - k
 
-cast-m : tie.Need-cast-m Inv-loop μ-loop
-cast-m c = search needs
-
 loop-holds : tie.Need-loop-holds Inv-loop μ-loop
 loop-holds c = (refl, omega arith, prefix-none 256 zeroRecord _ zeroRecord)
-
-is-shut-requires : tie.Need-is-shut-requires Inv-loop μ-loop
-is-shut-requires c κs = search needs
-
-mul-closed-if : tie.Need-mul-closed-if Inv-loop μ-loop
-mul-closed-if c = search needs
-
-element-copy-out-closed-if : tie.Need-element-copy-out-closed-if Inv-loop μ-loop
-element-copy-out-closed-if c = search needs
-
-closed-if-requires : tie.Need-closed-if-requires Inv-loop μ-loop
-closed-if-requires c κs = search needs
-
-mul-arcs : tie.Need-mul-arcs Inv-loop μ-loop
-mul-arcs c = search needs
-
-array-set-from-arcs : tie.Need-array-set-from-arcs Inv-loop μ-loop
-array-set-from-arcs c = search needs
-
-add-k : tie.Need-add-k Inv-loop μ-loop
-add-k c = search needs
-
-loop-less : tie.Need-loop-less Inv-loop μ-loop
-loop-less c = search needs
 
 loop-again : tie.Need-loop-again Inv-loop μ-loop
 loop-again c =
@@ -64,15 +37,15 @@ plan-at-spec =
     (tie.spec
     Inv-loop
     μ-loop
-    cast-m
+    (λ c. search needs)
     loop-holds
-    is-shut-requires
-    mul-closed-if
-    element-copy-out-closed-if
-    closed-if-requires
-    mul-arcs
-    array-set-from-arcs
-    add-k
-    loop-less
+    (λ c κs. search needs)
+    (λ c. search needs)
+    (λ c. search needs)
+    (λ c κs. search needs)
+    (λ c. search needs)
+    (λ c. search needs)
+    (λ c. search needs)
+    (λ c. search needs)
     loop-again
     returns)

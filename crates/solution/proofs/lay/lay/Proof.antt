@@ -37,9 +37,6 @@ write-tour-requires c κs =
     let a = amounts-are _ _ _ _ b _ _ t (stateOf (full .result)) (full .ensures) (laid .result) (laid .ensures) in
     ((b .known .plannable .well-formed, s .pre .3), ((t .same, amounts-complete _ _ _ _ b _ _ t _ a), s .pre .2))
 
-same-length : tie.Need-same-length
-same-length c = search needs
-
 returns : tie.Need-returns
 returns c =
     let s = c .before .before .before .before .before .before .before .before .before .before .before .before .before in
@@ -58,5 +55,5 @@ lay-spec =
     slice-aggregate-direct-amounts
     direct-amounts-requires
     write-tour-requires
-    same-length
+    (λ c. search needs)
     returns)

@@ -18,9 +18,6 @@ use borrow.Author.Needs.{needs}
 use Rattle.solution.proofs.lay.lay_held.Statement.{statement}
 use Rattle.solution.proofs.lay.lay_held.Tie as tie
 
-cast-k : tie.Need-cast-k
-cast-k c = search needs
-
 sub-n : tie.Need-sub-n
 sub-n c = component-range _ _ _ (c .before .before .before .pre .0) .0
 
@@ -61,9 +58,6 @@ lay-requires c κs =
     let m : componentCount p - 1 ≡ s .args .r .network .components - 1 = ap (λ n. n - 1) (sym (s .pre .0 .network .components .all)) in
     (s .pre .0, subst (λ n. IsTree p (take n (s .args .t5)) (take n (s .args .t6))) m (s .pre .1 .tree), s .pre .2, s .pre .3)
 
-same-length : tie.Need-same-length
-same-length c = search needs
-
 returns : tie.Need-returns
 returns c =
     let s = c .before .before .before .before .before .before .before .before .before in
@@ -77,12 +71,12 @@ pub lay-held-spec : {M : Type 1} → statement M
 lay-held-spec =
     tie.close
     (tie.spec
-    cast-k
+    (λ c. search needs)
     sub-n
     array-share-prefix-tails
     slice-aggregate-lay
     array-share-prefix-heads
     slice-aggregate-lay-2
     lay-requires
-    same-length
+    (λ c. search needs)
     returns)

@@ -19,9 +19,6 @@ floor-found-requires c κs =
     let s = c .before .before .before .before .before .before .before .before .before in
     (s .pre .0, s .pre .2)
 
-same-length : tie.Need-same-length
-same-length c = search needs
-
 returns : tie.Need-returns
 returns c =
     let s = c .before .before .before .before .before .before .before .before .before .before in
@@ -37,4 +34,4 @@ returns c =
     }
 
 pub conclude-spec : {M : Type 1} → statement M
-conclude-spec = tie.close (tie.spec lay-held-requires floor-found-requires same-length returns)
+conclude-spec = tie.close (tie.spec lay-held-requires floor-found-requires (λ c. search needs) returns)

@@ -16,9 +16,6 @@ use borrow.Author.Needs.{needs, length-unmapped}
 use Rattle.solution.proofs.solve.floor_found.Statement.{statement}
 use Rattle.solution.proofs.solve.floor_found.Tie as tie
 
-cast-k : tie.Need-cast-k
-cast-k c = search needs
-
 floor-of-requires : tie.Need-floor-of-requires
 floor-of-requires c κs =
     let s = c .before .before .before .before .before .before .before .before .before in
@@ -40,4 +37,4 @@ returns c =
     ∙ ap (λ (u : List ℤ). cond w (pos k) (maxℤ (lagrangianBound p (λ i. pos 0)) (lagrangianBound p (λ i. getD u i (pos 0))))) (s .pre .0 .multipliers-are)
 
 pub floor-found-spec : {M : Type 1} → statement M
-floor-found-spec = tie.close (tie.spec cast-k floor-of-requires returns)
+floor-found-spec = tie.close (tie.spec (λ c. search needs) floor-of-requires returns)

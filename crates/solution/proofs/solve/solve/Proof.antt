@@ -18,9 +18,6 @@ conclude-requires c κs =
     let e = r .ensures .cost in
     (s .pre .0, best-held _ (b .plannable) (b .few) _ (s .pre .1) _ _ (r .ensures .links), omega arith, s .pre .2, s .pre .3)
 
-same-length : tie.Need-same-length
-same-length c = search needs
-
 returns : tie.Need-returns
 returns c =
     let r = c .before .before .before .before .best in
@@ -29,4 +26,4 @@ returns c =
     concluded-planned _ (b .plannable) (b .few) _ (s .pre .1) (r .result) _ _ _ (r .ensures) (c .before .before .conclude .ensures)
 
 pub solve-spec : {M : Type 1} → statement M
-solve-spec = tie.close (tie.spec best-requires conclude-requires same-length returns)
+solve-spec = tie.close (tie.spec best-requires conclude-requires (λ c. search needs) returns)

@@ -21,18 +21,6 @@ loop-holds : tie.Need-loop-holds Inv-loop μ-loop
 unfolding unitsBelow below flatMap
 loop-holds c = (omega arith, added-none (c .args .at) (c .args .tails .now) (c .args .heads .now))
 
-mul-wide : tie.Need-mul-wide Inv-loop μ-loop
-mul-wide c = search needs
-
-element-copy-out-wide : tie.Need-element-copy-out-wide Inv-loop μ-loop
-element-copy-out-wide c = search needs
-
-wide-requires : tie.Need-wide-requires Inv-loop μ-loop
-wide-requires c κs = search needs
-
-cast-fill : tie.Need-cast-fill Inv-loop μ-loop
-cast-fill c = search needs
-
 fill-requires : tie.Need-fill-requires Inv-loop μ-loop
 fill-requires c κs =
     let s = c .before .before .before .before .before in
@@ -43,9 +31,6 @@ fill-requires c κs =
     let k = w .ensures in
     let p = s .pre .2 in
     (l .inv .1 .tails-are .same ∙ s .pre .0, omega arith)
-
-cast-fill-2 : tie.Need-cast-fill-2 Inv-loop μ-loop
-cast-fill-2 c = search needs
 
 fill-requires-2 : tie.Need-fill-requires-2 Inv-loop μ-loop
 fill-requires-2 c κs =
@@ -68,12 +53,6 @@ add-to c =
     let k = w .ensures in
     let p = s .pre .2 in
     record { fits = omega arith }
-
-add-x : tie.Need-add-x Inv-loop μ-loop
-add-x c = search needs
-
-loop-less : tie.Need-loop-less Inv-loop μ-loop
-loop-less c = search needs
 
 loop-again : tie.Need-loop-again Inv-loop μ-loop
 loop-again c =
@@ -100,15 +79,15 @@ add-units-spec =
     Inv-loop
     μ-loop
     loop-holds
-    mul-wide
-    element-copy-out-wide
-    wide-requires
-    cast-fill
+    (λ c. search needs)
+    (λ c. search needs)
+    (λ c κs. search needs)
+    (λ c. search needs)
     fill-requires
-    cast-fill-2
+    (λ c. search needs)
     fill-requires-2
     add-to
-    add-x
-    loop-less
+    (λ c. search needs)
+    (λ c. search needs)
     loop-again
     returns)

@@ -5,9 +5,6 @@ use borrow.Author.Needs.{needs}
 use Rattle.tour_legs.proofs.legs.counted.Statement.{statement}
 use Rattle.tour_legs.proofs.legs.counted.Tie as tie
 
-is-required-requires : tie.Need-is-required-requires
-is-required-requires c κs = search needs
-
 returns : tie.Need-returns
 returns c = ap (λ b. cond b 1 0) (sym (c .if1 .taken) ∙ c .before .is-required .ensures)
 
@@ -15,4 +12,4 @@ returns-2 : tie.Need-returns-2
 returns-2 c = ap (λ b. cond b 1 0) (sym (c .if1 .left) ∙ c .before .is-required .ensures)
 
 pub counted-spec : {M : Type 1} → statement M
-counted-spec = tie.close (tie.spec is-required-requires returns returns-2)
+counted-spec = tie.close (tie.spec (λ c κs. search needs) returns returns-2)

@@ -19,35 +19,8 @@ Inv-loop numbers₀ tails₀ heads₀ plan m c₀ k₀ numbers tails heads c k =
 abbrev μ-loop : tie.MeasureT-loop
 μ-loop numbers₀ tails₀ heads₀ plan m c₀ k₀ numbers tails heads c k = m - k
 
-cast-m : tie.Need-cast-m Inv-loop μ-loop
-cast-m c = search needs
-
 loop-holds : tie.Need-loop-holds Inv-loop μ-loop
 loop-holds c = (refl, omega arith, record-arcs (c .args .t1) (c .pre .0), omega arith, noted-none (planValue (c .args .t1)) _ _ _ (c .pre .1) (c .pre .2) (c .pre .3))
-
-mul-a : tie.Need-mul-a Inv-loop μ-loop
-mul-a c = search needs
-
-element-copy-out-a : tie.Need-element-copy-out-a Inv-loop μ-loop
-element-copy-out-a c = search needs
-
-cast-numbers : tie.Need-cast-numbers Inv-loop μ-loop
-cast-numbers c = search needs
-
-mul-numbers : tie.Need-mul-numbers Inv-loop μ-loop
-mul-numbers c = search needs
-
-element-write-numbers : tie.Need-element-write-numbers Inv-loop μ-loop
-element-write-numbers c = search needs
-
-element-write-tails : tie.Need-element-write-tails Inv-loop μ-loop
-element-write-tails c = search needs
-
-element-write-heads : tie.Need-element-write-heads Inv-loop μ-loop
-element-write-heads c = search needs
-
-counted-requires : tie.Need-counted-requires Inv-loop μ-loop
-counted-requires c κs = search needs
 
 add-c : tie.Need-add-c Inv-loop μ-loop
 add-c c =
@@ -57,12 +30,6 @@ add-c c =
     let e = c .counted .ensures in
     let i = l .inv in
     record { fits = omega arith }
-
-add-k : tie.Need-add-k Inv-loop μ-loop
-add-k c = search needs
-
-loop-less : tie.Need-loop-less Inv-loop μ-loop
-loop-less c = search needs
 
 loop-again : tie.Need-loop-again Inv-loop μ-loop
 loop-again c =
@@ -95,18 +62,18 @@ gather-spec =
     (tie.spec
     Inv-loop
     μ-loop
-    cast-m
+    (λ c. search needs)
     loop-holds
-    mul-a
-    element-copy-out-a
-    cast-numbers
-    mul-numbers
-    element-write-numbers
-    element-write-tails
-    element-write-heads
-    counted-requires
+    (λ c. search needs)
+    (λ c. search needs)
+    (λ c. search needs)
+    (λ c. search needs)
+    (λ c. search needs)
+    (λ c. search needs)
+    (λ c. search needs)
+    (λ c κs. search needs)
     add-c
-    add-k
-    loop-less
+    (λ c. search needs)
+    (λ c. search needs)
     loop-again
     returns)

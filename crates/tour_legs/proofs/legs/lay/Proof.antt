@@ -4,21 +4,6 @@ use borrow.Author.Needs.{needs}
 use Rattle.tour_legs.proofs.legs.lay.Statement.{statement}
 use Rattle.tour_legs.proofs.legs.lay.Tie as tie
 
-gather-requires : tie.Need-gather-requires
-gather-requires c κs = search needs
-
-copy-requires : tie.Need-copy-requires
-copy-requires c κs = search needs
-
-copy-requires-2 : tie.Need-copy-requires-2
-copy-requires-2 c κs = search needs
-
-add-add-units : tie.Need-add-add-units
-add-add-units c = search needs
-
-add-units-requires : tie.Need-add-units-requires
-add-units-requires c κs = search needs
-
 returns : tie.Need-returns
 returns c =
     let s = c .before .before .before .before .before .before .before .before .before .before .before .before .before in
@@ -29,9 +14,9 @@ pub lay-spec : {M : Type 1} → statement M
 lay-spec =
     tie.close
     (tie.spec
-    gather-requires
-    copy-requires
-    copy-requires-2
-    add-add-units
-    add-units-requires
+    (λ c κs. search needs)
+    (λ c κs. search needs)
+    (λ c κs. search needs)
+    (λ c. search needs)
+    (λ c κs. search needs)
     returns)

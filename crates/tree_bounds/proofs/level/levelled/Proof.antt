@@ -20,9 +20,6 @@ shared-slice-read-wide : tie.Need-shared-slice-read-wide Inv-loop μ-loop
 shared-slice-read-wide c =
     let l = c .before .before .pre .1 in search needs
 
-wide-requires : tie.Need-wide-requires Inv-loop μ-loop
-wide-requires c κs = search needs
-
 mul-low : tie.Need-mul-low Inv-loop μ-loop
 mul-low c =
     let s = c .before .before .before in
@@ -40,12 +37,6 @@ array-read-low c =
 loop-holds : tie.Need-loop-holds Inv-loop μ-loop
 loop-holds c =
     let s = c .before .before .before in (levelled-start (s .args .t1) (s .args .vs .now) _ refl (λ v. zero-at {A = ℕ} 64 v 0), omega arith)
-
-shared-slice-read-wide-2 : tie.Need-shared-slice-read-wide-2 Inv-loop μ-loop
-shared-slice-read-wide-2 c = search needs
-
-wide-requires-2 : tie.Need-wide-requires-2 Inv-loop μ-loop
-wide-requires-2 c κs = search needs
 
 mul-level : tie.Need-mul-level Inv-loop μ-loop
 mul-level c =
@@ -87,12 +78,6 @@ array-write-r c =
     let l : c .before .wide2 .result < 64 = omega (arith, b .0, c .before .wide2 .ensures) in
     l
 
-add-k : tie.Need-add-k Inv-loop μ-loop
-add-k c = search needs
-
-loop-less : tie.Need-loop-less Inv-loop μ-loop
-loop-less c = search needs
-
 loop-again : tie.Need-loop-again Inv-loop μ-loop
 loop-again c =
     let at = c .before .before .before .before in
@@ -120,18 +105,18 @@ levelled-spec =
     Inv-loop
     μ-loop
     shared-slice-read-wide
-    wide-requires
+    (λ c κs. search needs)
     mul-low
     array-read-low
     loop-holds
-    shared-slice-read-wide-2
-    wide-requires-2
+    (λ c. search needs)
+    (λ c κs. search needs)
     mul-level
     array-read-level
     level-requires
     mul-r
     array-write-r
-    add-k
-    loop-less
+    (λ c. search needs)
+    (λ c. search needs)
     loop-again
     returns)

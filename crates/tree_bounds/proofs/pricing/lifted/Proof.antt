@@ -8,12 +8,6 @@ use borrow.Author.Needs.{needs}
 use Rattle.tree_bounds.proofs.pricing.lifted.Statement.{statement}
 use Rattle.tree_bounds.proofs.pricing.lifted.Tie as tie
 
-wide-requires : tie.Need-wide-requires
-wide-requires c κs = search needs
-
-wide-requires-2 : tie.Need-wide-requires-2
-wide-requires-2 c κs = search needs
-
 mul-more : tie.Need-mul-more
 mul-more c =
     let s = c .before .before .before in
@@ -88,8 +82,8 @@ pub lifted-spec : {M : Type 1} → statement M
 lifted-spec =
     tie.close
     (tie.spec
-    wide-requires
-    wide-requires-2
+    (λ c κs. search needs)
+    (λ c κs. search needs)
     mul-more
     array-read-more
     add-more

@@ -15,12 +15,6 @@ use Rattle.tree_bounds.proofs.reduced.long.Reads as long-reads
 abbrev callees : lts.Claims
 callees = (wide-reads.Asked, wide-reads.Learnt, long-reads.Asked, long-reads.Learnt)
 
-wide-requires : tie.Need-wide-requires
-wide-requires c κs = search needs
-
-wide-requires-2 : tie.Need-wide-requires-2
-wide-requires-2 c κs = search needs
-
 -- the vertices are below 64
 small-tail : tie.Need-index-1-long
 small-tail c = let s = c .before .before in omega (arith, s .pre .tail, c .before .wide .ensures)
@@ -33,9 +27,6 @@ mul-long c = let h = small-tail c in search needs
 
 mul-long-2 : tie.Need-mul-long-2
 mul-long-2 c = let h = small-head c in search needs
-
-long-requires : tie.Need-long-requires
-long-requires c κs = search needs
 
 mul-result : tie.Need-mul-result
 mul-result c = let s = c .before .before .before .before in let h : c .before .before .wide2 .result < 64 = omega (arith, s .pre .head, c .before .before .wide2 .ensures) in search needs
@@ -84,13 +75,13 @@ pub reduced-spec : {M : Type 1} → statement M
 reduced-spec =
     tie.close
     (tie.spec
-    wide-requires
-    wide-requires-2
+    (λ c κs. search needs)
+    (λ c κs. search needs)
     mul-long
     mul-long-2
     small-tail
     small-head
-    long-requires
+    (λ c κs. search needs)
     mul-result
     element-copy-out-result
     add-result

@@ -21,9 +21,6 @@ abbrev μ-loop : tie.MeasureT-loop
 shared-slice-read-wide : tie.Need-shared-slice-read-wide Inv-loop μ-loop
 shared-slice-read-wide c = let l = c .before .before .pre .1 in search needs
 
-wide-requires : tie.Need-wide-requires Inv-loop μ-loop
-wide-requires c κs = search needs
-
 -- the first vertex is below 64
 first-small : tie.Need-element-copy-out-low Inv-loop μ-loop
 first-small c = let s = c .before .before .before in let b = s .pre .0 0 (s .pre .1) in omega (arith, b .0, c .wide .ensures)
@@ -33,12 +30,6 @@ mul-low c = let h = first-small c in search needs
 
 loop-holds : tie.Need-loop-holds Inv-loop μ-loop
 loop-holds c = let s = c .before .before .before .before in (shifted-start (s .args .u .now) (s .args .vs .now) _ refl (λ v. zero-at 64 v 0), omega arith)
-
-shared-slice-read-wide-2 : tie.Need-shared-slice-read-wide-2 Inv-loop μ-loop
-shared-slice-read-wide-2 c = search needs
-
-wide-requires-2 : tie.Need-wide-requires-2 Inv-loop μ-loop
-wide-requires-2 c κs = search needs
 
 vertex-small : tie.Need-element-copy-out-risen Inv-loop μ-loop
 vertex-small c =
@@ -63,12 +54,6 @@ mul-r c = let h = vertex-small (c .before .before) in search needs
 
 array-write-r : tie.Need-array-write-r Inv-loop μ-loop
 array-write-r c = vertex-small (c .before .before)
-
-add-k : tie.Need-add-k Inv-loop μ-loop
-add-k c = search needs
-
-loop-less : tie.Need-loop-less Inv-loop μ-loop
-loop-less c = search needs
 
 loop-again : tie.Need-loop-again Inv-loop μ-loop
 loop-again c =
@@ -96,18 +81,18 @@ shifted-spec =
     Inv-loop
     μ-loop
     shared-slice-read-wide
-    wide-requires
+    (λ c κs. search needs)
     mul-low
     first-small
     loop-holds
-    shared-slice-read-wide-2
-    wide-requires-2
+    (λ c. search needs)
+    (λ c κs. search needs)
     mul-risen
     vertex-small
     risen-requires
     mul-r
     array-write-r
-    add-k
-    loop-less
+    (λ c. search needs)
+    (λ c. search needs)
     loop-again
     returns)

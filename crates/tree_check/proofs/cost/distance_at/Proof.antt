@@ -6,12 +6,6 @@ use borrow.Author.Needs.{needs}
 use Rattle.tree_check.proofs.cost.distance_at.Statement.{statement}
 use Rattle.tree_check.proofs.cost.distance_at.Tie as tie
 
-wide-requires : tie.Need-wide-requires
-wide-requires c κs = search needs
-
-wide-requires-2 : tie.Need-wide-requires-2
-wide-requires-2 c κs = search needs
-
 index-1-long : tie.Need-index-1-long
 index-1-long c = let s = c .before .before in omega (arith, s .pre .0, c .before .wide .ensures)
 
@@ -24,9 +18,6 @@ mul-long c = let h = index-1-long c in search needs
 mul-long-2 : tie.Need-mul-long-2
 mul-long-2 c = let h = index-2-long c in search needs
 
-long-requires : tie.Need-long-requires
-long-requires c κs = search needs
-
 returns : tie.Need-returns
 returns c =
     let s = c .before .before .before .before in
@@ -35,4 +26,4 @@ returns c =
 pub distance-at-spec : {M : Type 1} → statement M
 distance-at-spec =
     tie.close
-    (tie.spec wide-requires wide-requires-2 mul-long mul-long-2 index-1-long index-2-long long-requires returns)
+    (tie.spec (λ c κs. search needs) (λ c κs. search needs) mul-long mul-long-2 index-1-long index-2-long (λ c κs. search needs) returns)

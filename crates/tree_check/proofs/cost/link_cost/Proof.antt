@@ -21,12 +21,6 @@ abbrev μ-loop : tie.MeasureT-loop
 loop-holds : tie.Need-loop-holds Inv-loop μ-loop
 loop-holds c = let s = c .before .before in (refl, omega arith, s .pre .2, s .pre .0, s .pre .1, s .pre .3, sym (cost-none (s .args .d .now) (s .args .tails .now) (s .args .heads .now)))
 
-shared-slice-read-distance-at : tie.Need-shared-slice-read-distance-at Inv-loop μ-loop
-shared-slice-read-distance-at c = search needs
-
-shared-slice-read-distance-at-2 : tie.Need-shared-slice-read-distance-at-2 Inv-loop μ-loop
-shared-slice-read-distance-at-2 c = search needs
-
 distance-at-requires : tie.Need-distance-at-requires Inv-loop μ-loop
 distance-at-requires c κs =
     let v = c .before .before .before in
@@ -49,12 +43,6 @@ add-cost c =
     let x = c .distance-at .ensures in
     let l : v .loop .cost + c .distance-at .result ≤ 1131527310 = omega arith in
     search needs
-
-add-i : tie.Need-add-i Inv-loop μ-loop
-add-i c = search needs
-
-loop-less : tie.Need-loop-less Inv-loop μ-loop
-loop-less c = search needs
 
 loop-again : tie.Need-loop-again Inv-loop μ-loop
 loop-again c =
@@ -81,11 +69,11 @@ link-cost-spec =
     Inv-loop
     μ-loop
     loop-holds
-    shared-slice-read-distance-at
-    shared-slice-read-distance-at-2
+    (λ c. search needs)
+    (λ c. search needs)
     distance-at-requires
     add-cost
-    add-i
-    loop-less
+    (λ c. search needs)
+    (λ c. search needs)
     loop-again
     returns)

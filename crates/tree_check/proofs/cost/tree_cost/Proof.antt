@@ -8,9 +8,6 @@ use borrow.Author.Needs.{needs}
 use Rattle.tree_check.proofs.cost.tree_cost.Statement.{statement}
 use Rattle.tree_check.proofs.cost.tree_cost.Tie as tie
 
-with-links-requires : tie.Need-with-links-requires
-with-links-requires c κs = search needs
-
 link-cost-requires : tie.Need-link-cost-requires
 link-cost-requires c κs =
     let s = c .before .before .before in
@@ -59,4 +56,4 @@ returns c =
     ap₂ _+_ (ap₂ _+_ (s .pre .0 .network .required-cost) y) z ∙ whole-cost _ _ _ _ b _ _ t
 
 pub tree-cost-spec : {M : Type 1} → statement M
-tree-cost-spec = tie.close (tie.spec with-links-requires link-cost-requires add-result add-result-2 returns)
+tree-cost-spec = tie.close (tie.spec (λ c κs. search needs) link-cost-requires add-result add-result-2 returns)

@@ -11,38 +11,11 @@ returns c = let l = c .if1 .taken in says-no (λ e. let a = e .tail-in in absurd
 returns-2 : tie.Need-returns-2
 returns-2 c = let l = c .if2 .taken in says-no (λ e. let a = e .head-in in absurd (omega arith))
 
-wide-requires : tie.Need-wide-requires
-wide-requires c κs = search needs
-
-wide-requires-2 : tie.Need-wide-requires-2
-wide-requires-2 c κs = search needs
-
-mul-if3 : tie.Need-mul-if3
-mul-if3 c = search needs
-
-add-if3 : tie.Need-add-if3
-add-if3 c = search needs
-
-element-copy-out-if3 : tie.Need-element-copy-out-if3
-element-copy-out-if3 c = search needs
-
 returns-3 : tie.Need-returns-3
 returns-3 c = let w = c .before .before in not-link _ _ _ _ _ _ _ (w .before .wide .ensures) (w .wide2 .ensures) (c .if3 .taken)
 
-element-copy-out-wide : tie.Need-element-copy-out-wide
-element-copy-out-wide c = search needs
-
-wide-requires-3 : tie.Need-wide-requires-3
-wide-requires-3 c κs = search needs
-
 returns-4 : tie.Need-returns-4
 returns-4 c = let w = c .before .before .before .before .before in other-head _ _ _ _ _ _ _ (w .wide2 .ensures) (c .before .wide3 .ensures) (c .if4 .taken)
-
-element-copy-out-wide-2 : tie.Need-element-copy-out-wide-2
-element-copy-out-wide-2 c = search needs
-
-wide-requires-4 : tie.Need-wide-requires-4
-wide-requires-4 c κs = search needs
 
 returns-5 : tie.Need-returns-5
 returns-5 c =
@@ -59,15 +32,15 @@ enters-spec =
     (tie.spec
     returns
     returns-2
-    wide-requires
-    wide-requires-2
-    mul-if3
-    add-if3
-    element-copy-out-if3
+    (λ c κs. search needs)
+    (λ c κs. search needs)
+    (λ c. search needs)
+    (λ c. search needs)
+    (λ c. search needs)
     returns-3
-    element-copy-out-wide
-    wide-requires-3
+    (λ c. search needs)
+    (λ c κs. search needs)
     returns-4
-    element-copy-out-wide-2
-    wide-requires-4
+    (λ c. search needs)
+    (λ c κs. search needs)
     returns-5)

@@ -17,21 +17,6 @@ abbrev μ-loop : tie.MeasureT-loop
 loop-holds : tie.Need-loop-holds Inv-loop μ-loop
 loop-holds c = (omega arith, c .pre .0, c .pre .1, refl, λ j one l. absurd (omega arith))
 
-sub-t : tie.Need-sub-t Inv-loop μ-loop
-sub-t c = search needs
-
-array-read-t : tie.Need-array-read-t Inv-loop μ-loop
-array-read-t c = search needs
-
-sub-enters : tie.Need-sub-enters Inv-loop μ-loop
-sub-enters c = search needs
-
-array-read-enters : tie.Need-array-read-enters Inv-loop μ-loop
-array-read-enters c = search needs
-
-enters-requires : tie.Need-enters-requires Inv-loop μ-loop
-enters-requires c κs = search needs
-
 returns : tie.Need-returns Inv-loop μ-loop
 returns c =
     let l = c .before .before .before .loop in
@@ -43,18 +28,6 @@ source-set-requires c κs =
     let l = c .before .before .before .loop in
     let s = c .before .before .before .before in
     right-link (s .args .links .now) (s .args .component .now) (s .args .t1) (s .args .t2) (l .q) (c .before .enters .result) (c .before .enters .ensures) (c .if1 .left) .tail-in
-
-mul-sets : tie.Need-mul-sets Inv-loop μ-loop
-mul-sets c = search needs
-
-array-write-sets : tie.Need-array-write-sets Inv-loop μ-loop
-array-write-sets c = search needs
-
-add-q : tie.Need-add-q Inv-loop μ-loop
-add-q c = search needs
-
-loop-less : tie.Need-loop-less Inv-loop μ-loop
-loop-less c = search needs
 
 loop-again : tie.Need-loop-again Inv-loop μ-loop
 loop-again c =
@@ -84,17 +57,17 @@ is-tree-spec =
     Inv-loop
     μ-loop
     loop-holds
-    sub-t
-    array-read-t
-    sub-enters
-    array-read-enters
-    enters-requires
+    (λ c. search needs)
+    (λ c. search needs)
+    (λ c. search needs)
+    (λ c. search needs)
+    (λ c κs. search needs)
     returns
     source-set-requires
-    mul-sets
-    array-write-sets
-    add-q
-    loop-less
+    (λ c. search needs)
+    (λ c. search needs)
+    (λ c. search needs)
+    (λ c. search needs)
     loop-again
     all-reached-requires
     returns-2)

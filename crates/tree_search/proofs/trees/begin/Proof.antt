@@ -14,12 +14,6 @@ use Rattle.tree_search.proofs.trees.begin.Tie as tie
 of-network-requires : tie.Need-of-network-requires
 of-network-requires c κs = component-range _ _ _ (c .before .before .before .before .before .pre)
 
-entries-of-requires : tie.Need-entries-of-requires
-entries-of-requires c κs = search needs
-
-cast-k : tie.Need-cast-k
-cast-k c = search needs
-
 array-share-prefix-list : tie.Need-array-share-prefix-list
 array-share-prefix-list c = vertices-fit _ _ _ (c .before .before .before .before .before .before .before .before .before .before .before .before .pre)
 
@@ -61,8 +55,8 @@ begin-spec =
     tie.close
     (tie.spec
     of-network-requires
-    entries-of-requires
-    cast-k
+    (λ c κs. search needs)
+    (λ c. search needs)
     array-share-prefix-list
     slice-aggregate-root
     root-requires

@@ -3,14 +3,8 @@ use borrow.Author.Needs.{needs}
 use Rattle.tree_search.proofs.trees.best.Statement.{statement}
 use Rattle.tree_search.proofs.trees.best.Tie as tie
 
-begin-requires : tie.Need-begin-requires
-begin-requires c κs = search needs
-
-searched-requires : tie.Need-searched-requires
-searched-requires c κs = search needs
-
 returns : tie.Need-returns
 returns c = c .searched .ensures
 
 pub best-spec : {M : Type 1} → statement M
-best-spec = tie.close (tie.spec begin-requires searched-requires returns)
+best-spec = tie.close (tie.spec (λ c κs. search needs) (λ c κs. search needs) returns)

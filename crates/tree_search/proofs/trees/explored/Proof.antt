@@ -12,9 +12,6 @@ use borrow.Author.Needs.{needs}
 use Rattle.tree_search.proofs.trees.explored.Statement.{statement}
 use Rattle.tree_search.proofs.trees.explored.Tie as tie
 
-cast-k : tie.Need-cast-k
-cast-k c = search needs
-
 array-share-prefix-list : tie.Need-array-share-prefix-list
 array-share-prefix-list c = vertices-fit _ _ _ (c .before .before .before .before .before .before .before .before .before .before .before .before .before .pre .0)
 
@@ -34,4 +31,4 @@ returns c =
     c .advance .ensures _ (b .prepared) (b .root .branch) ∙ ap (advance (completionCost (planValue (s .args .plan))) (heldIn m (s .args .g))) (root-trees (b .prepared) (s .args .s .root) (b .root))
 
 pub explored-spec : {M : Type 1} → statement M
-explored-spec = tie.close (tie.spec cast-k array-share-prefix-list slice-aggregate-advance advance-requires returns)
+explored-spec = tie.close (tie.spec (λ c. search needs) array-share-prefix-list slice-aggregate-advance advance-requires returns)

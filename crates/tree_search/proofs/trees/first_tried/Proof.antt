@@ -4,11 +4,8 @@ use borrow.Author.Needs.{needs}
 use Rattle.tree_search.proofs.trees.first_tried.Statement.{statement}
 use Rattle.tree_search.proofs.trees.first_tried.Tie as tie
 
-searched-requires : tie.Need-searched-requires
-searched-requires c κs = search needs
-
 returns : tie.Need-returns
 returns c = let b = c .before .before in (refl, b .searched .ensures .cost, b .searched .ensures .links)
 
 pub first-tried-spec : {M : Type 1} → statement M
-first-tried-spec = tie.close (tie.spec searched-requires returns)
+first-tried-spec = tie.close (tie.spec (λ c κs. search needs) returns)

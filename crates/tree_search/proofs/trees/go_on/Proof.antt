@@ -9,9 +9,6 @@ use borrow.Author.Needs.{needs}
 use Rattle.tree_search.proofs.trees.go_on.Statement.{statement}
 use Rattle.tree_search.proofs.trees.go_on.Tie as tie
 
-begin-requires : tie.Need-begin-requires
-begin-requires c κs = search needs
-
 total-of-requires : tie.Need-total-of-requires
 total-of-requires c κs = c .begin .ensures .number
 
@@ -58,4 +55,4 @@ returns c =
     )
 
 pub go-on-spec : {M : Type 1} → statement M
-go-on-spec = tie.close (tie.spec begin-requires total-of-requires sub-more tried-on-requires returns)
+go-on-spec = tie.close (tie.spec (λ c κs. search needs) total-of-requires sub-more tried-on-requires returns)

@@ -10,14 +10,8 @@ use borrow.Author.Needs.{needs}
 use Rattle.tree_search.proofs.trees.resume.Statement.{statement}
 use Rattle.tree_search.proofs.trees.resume.Tie as tie
 
-begin-requires : tie.Need-begin-requires
-begin-requires c κs = search needs
-
 total-of-requires : tie.Need-total-of-requires
 total-of-requires c κs = c .begin .ensures .number
-
-turn-of-requires : tie.Need-turn-of-requires
-turn-of-requires c κs = search needs
 
 tried-on-requires : tie.Need-tried-on-requires
 tried-on-requires c κs =
@@ -47,4 +41,4 @@ returns c =
     }
 
 pub resume-spec : {M : Type 1} → statement M
-resume-spec = tie.close (tie.spec begin-requires total-of-requires turn-of-requires tried-on-requires returns)
+resume-spec = tie.close (tie.spec (λ c κs. search needs) total-of-requires (λ c κs. search needs) tried-on-requires returns)

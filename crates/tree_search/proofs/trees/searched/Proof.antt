@@ -5,9 +5,6 @@ use borrow.Author.Needs.{needs}
 use Rattle.tree_search.proofs.trees.searched.Statement.{statement}
 use Rattle.tree_search.proofs.trees.searched.Tie as tie
 
-cast-k : tie.Need-cast-k
-cast-k c = search needs
-
 array-share-prefix-list : tie.Need-array-share-prefix-list
 array-share-prefix-list c = vertices-fit _ _ _ (c .before .before .before .before .before .before .before .before .before .before .before .before .before .pre .0)
 
@@ -25,4 +22,4 @@ returns c =
     c .search .ensures _ (s .pre .1 .prepared) (s .pre .1 .root)
 
 pub searched-spec : {M : Type 1} → statement M
-searched-spec = tie.close (tie.spec cast-k array-share-prefix-list slice-aggregate-search search-requires returns)
+searched-spec = tie.close (tie.spec (λ c. search needs) array-share-prefix-list slice-aggregate-search search-requires returns)

@@ -8,9 +8,6 @@ use borrow.Author.Needs.{needs}
 use Rattle.tree_search.proofs.trees.total_of.Statement.{statement}
 use Rattle.tree_search.proofs.trees.total_of.Tie as tie
 
-lesser-requires : tie.Need-lesser-requires
-lesser-requires c κs = search needs
-
 returns : tie.Need-returns
 returns c =
     let s = c .before in
@@ -19,4 +16,4 @@ returns c =
     (total-is p (s .args .budget) (s .args .number) small (s .pre) _ (c .lesser .ensures), whole-is p (s .args .budget) (s .args .number) small (s .pre))
 
 pub total-of-spec : {M : Type 1} → statement M
-total-of-spec = tie.close (tie.spec lesser-requires returns)
+total-of-spec = tie.close (tie.spec (λ c κs. search needs) returns)

@@ -23,18 +23,12 @@ returns c =
     let x = first-on _ (s .pre .0 .0 .base .known .plannable) (s .args .g .cost) _ (s .args .g .tried) (s .args .more) e in
     (omega arith, f .1 ∙ sym (ap (λ (h : Held). h .cost) x), f .2 ∙ sym (ap (λ (h : Held). h .links) x))
 
-cast-skip : tie.Need-cast-skip
-cast-skip c = search needs
-
 explored-requires : tie.Need-explored-requires
 explored-requires c κs =
     let s = c .before .before .before .before .before in
     let a = s .pre .1 .1 in
     let b = s .pre .1 .2 in
     (s .pre .0 .0, s .pre .0 .1, omega arith)
-
-add-tried : tie.Need-add-tried
-add-tried c = search needs
 
 returns-2 : tie.Need-returns-2
 returns-2 c =
@@ -45,4 +39,4 @@ returns-2 c =
     (refl, ap (λ (h : Held). h .cost) e, ap (λ (h : Held). h .links) e)
 
 pub tried-on-spec : {M : Type 1} → statement M
-tried-on-spec = tie.close (tie.spec first-tried-requires returns cast-skip explored-requires add-tried returns-2)
+tried-on-spec = tie.close (tie.spec first-tried-requires returns (λ c. search needs) explored-requires (λ c. search needs) returns-2)

@@ -7,18 +7,6 @@ use borrow.Author.Needs.{needs}
 use Rattle.two_cars.proofs.call.plan_car.Statement.{statement}
 use Rattle.two_cars.proofs.call.plan_car.Tie as tie
 
-lent-verdict-requires : tie.Need-lent-verdict-requires
-lent-verdict-requires c κs = search needs
-
-enum-known-r : tie.Need-enum-known-r
-enum-known-r c = search needs
-
-refused-requires : tie.Need-refused-requires
-refused-requires c κs = search needs
-
-enum-told : tie.Need-enum-told
-enum-told c = search needs
-
 cast-plan-marked : tie.Need-cast-plan-marked
 cast-plan-marked c =
     let h = small-budget _ _ (sym (c .before .before .lent-verdict .ensures) ∙ ap verdictNumber (c .enum-told .given .1)) in
@@ -34,9 +22,6 @@ returns c =
     let v = c .before .before .before .before .lent-verdict .ensures in
     step-refused _ _ _ _ _ _ _ (c .refused .ensures) (sym v ∙ ap verdictNumber (c .before .before .r .given .1))
 
-same-length : tie.Need-same-length
-same-length c = search needs
-
 returns-2 : tie.Need-returns-2
 returns-2 c =
     let v = c .before .before .before .before .before .before .lent-verdict .ensures in
@@ -45,4 +30,4 @@ returns-2 c =
 pub plan-car-spec : {M : Type 1} → statement M
 plan-car-spec =
     tie.close
-    (tie.spec lent-verdict-requires enum-known-r refused-requires enum-told cast-plan-marked plan-marked-requires returns same-length returns-2)
+    (tie.spec (λ c κs. search needs) (λ c. search needs) (λ c κs. search needs) (λ c. search needs) cast-plan-marked plan-marked-requires returns (λ c. search needs) returns-2)

@@ -15,9 +15,6 @@ use Rattle.two_cars.proofs.call.plan_marked.Tie as tie
 has-bad-mark-requires : tie.Need-has-bad-mark-requires
 has-bad-mark-requires c κs = record-arcs _ (c .before .before .pre .0 .0)
 
-refused-requires : tie.Need-refused-requires
-refused-requires c κs = search needs
-
 car-plan-requires : tie.Need-car-plan-requires
 car-plan-requires c κs =
     let s = c .before .before .before .before in
@@ -38,9 +35,6 @@ plan-tabled-requires c κs =
 returns : tie.Need-returns
 returns c = step-refused _ _ _ _ _ _ _ (c .refused .ensures) (marks-refused _ _ (sym (c .before .before .has-bad-mark .ensures) ∙ c .before .if1 .taken))
 
-same-length : tie.Need-same-length
-same-length c = search needs
-
 returns-2 : tie.Need-returns-2
 returns-2 c =
     let p = c .before .before .before .before in
@@ -49,4 +43,4 @@ returns-2 c =
 
 pub plan-marked-spec : {M : Type 1} → statement M
 plan-marked-spec =
-    tie.close (tie.spec has-bad-mark-requires refused-requires returns car-plan-requires plan-tabled-requires same-length returns-2)
+    tie.close (tie.spec has-bad-mark-requires (λ c κs. search needs) returns car-plan-requires plan-tabled-requires (λ c. search needs) returns-2)

@@ -13,29 +13,11 @@ use borrow.Author.Needs.{needs}
 use Rattle.two_cars.proofs.call.two_cars.Statement.{statement}
 use Rattle.two_cars.proofs.call.two_cars.Tie as tie
 
-read-plan-requires : tie.Need-read-plan-requires
-read-plan-requires c κs = search needs
-
-enum-known-verdict : tie.Need-enum-known-verdict
-enum-known-verdict c = search needs
-
-refused-requires : tie.Need-refused-requires
-refused-requires c κs = search needs
-
-refused-requires-2 : tie.Need-refused-requires-2
-refused-requires-2 c κs = search needs
-
-enum-told : tie.Need-enum-told
-enum-told c = search needs
-
 table-requires : tie.Need-table-requires
 table-requires c κs =
     let r = c .before .before .before .read-plan in
     let e = sym (r .ensures .verdict) ∙ ap verdictNumber (c .enum-told .given .1) in
     subst⁻¹ WellFormed (accepted-value _ (r .result) (r .ensures) e) (file-accepted _ e)
-
-table-of-requires : tie.Need-table-of-requires
-table-of-requires c κs = search needs
 
 plan-car-requires : tie.Need-plan-car-requires
 plan-car-requires c κs =
@@ -61,12 +43,6 @@ returns c =
       second = is-car _ _ _ _ _ _ (file-refused-for _ _ _ _ _ _ _ (c .refused2 .ensures) refl v);
     }
 
-same-length : tie.Need-same-length
-same-length c = search needs
-
-same-length-2 : tie.Need-same-length-2
-same-length-2 c = search needs
-
 returns-2 : tie.Need-returns-2
 returns-2 c =
     let b = c .before .before in
@@ -83,16 +59,16 @@ pub two-cars-spec : {M : Type 1} → statement M
 two-cars-spec =
     tie.close
     (tie.spec
-    read-plan-requires
-    enum-known-verdict
-    refused-requires
-    refused-requires-2
-    enum-told
+    (λ c κs. search needs)
+    (λ c. search needs)
+    (λ c κs. search needs)
+    (λ c κs. search needs)
+    (λ c. search needs)
     table-requires
-    table-of-requires
+    (λ c κs. search needs)
     plan-car-requires
     plan-car-requires-2
     returns
-    same-length
-    same-length-2
+    (λ c. search needs)
+    (λ c. search needs)
     returns-2)

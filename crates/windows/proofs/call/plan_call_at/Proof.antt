@@ -9,18 +9,6 @@ use borrow.Author.Needs.{needs}
 use Rattle.windows.proofs.call.plan_call_at.Statement.{statement}
 use Rattle.windows.proofs.call.plan_call_at.Tie as tie
 
-read-plan-requires : tie.Need-read-plan-requires
-read-plan-requires c κs = search needs
-
-enum-known-verdict : tie.Need-enum-known-verdict
-enum-known-verdict c = search needs
-
-refused-requires : tie.Need-refused-requires
-refused-requires c κs = search needs
-
-enum-told : tie.Need-enum-told
-enum-told c = search needs
-
 plan-lent-requires : tie.Need-plan-lent-requires
 plan-lent-requires c κs =
     let r = c .before .before .before .before .read-plan in
@@ -33,9 +21,6 @@ returns c =
     let v = sym (r .ensures .verdict) ∙ ap verdictNumber (c .before .before .verdict .given .1) in
     is-call-at _ _ _ _ _ _ _ (file-refused-at _ _ _ _ _ _ _ _ (c .refused .ensures) refl v)
 
-same-length : tie.Need-same-length
-same-length c = search needs
-
 returns-2 : tie.Need-returns-2
 returns-2 c =
     let r = c .before .before .before .before .before .before .before .read-plan in
@@ -46,11 +31,11 @@ pub plan-call-at-spec : {M : Type 1} → statement M
 plan-call-at-spec =
     tie.close
     (tie.spec
-    read-plan-requires
-    enum-known-verdict
-    refused-requires
-    enum-told
+    (λ c κs. search needs)
+    (λ c. search needs)
+    (λ c κs. search needs)
+    (λ c. search needs)
     plan-lent-requires
     returns
-    same-length
+    (λ c. search needs)
     returns-2)

@@ -12,15 +12,6 @@ use Rattle.windows.proofs.call.plan_departing.Tie as tie
 windows-verdict-requires : tie.Need-windows-verdict-requires
 windows-verdict-requires c κs = record-arcs _ (c .before .before .pre .0)
 
-enum-known-r : tie.Need-enum-known-r
-enum-known-r c = search needs
-
-refused-requires : tie.Need-refused-requires
-refused-requires c κs = search needs
-
-enum-told : tie.Need-enum-told
-enum-told c = search needs
-
 plan-at-requires : tie.Need-plan-at-requires
 plan-at-requires c κs = record-arcs _ (c .before .before .before .before .before .pre .0)
 
@@ -34,9 +25,6 @@ returns c =
     let v = c .before .before .before .before .windows-verdict .ensures in
     step-refused _ _ _ _ _ _ _ (c .refused .ensures) (sym v ∙ ap verdictNumber (c .before .before .r .given .1))
 
-same-length : tie.Need-same-length
-same-length c = search needs
-
 returns-2 : tie.Need-returns-2
 returns-2 c =
     let w = c .before .before .before .before .before .before .before in
@@ -48,11 +36,11 @@ plan-departing-spec =
     tie.close
     (tie.spec
     windows-verdict-requires
-    enum-known-r
-    refused-requires
-    enum-told
+    (λ c. search needs)
+    (λ c κs. search needs)
+    (λ c. search needs)
     plan-at-requires
     plan-read-requires
     returns
-    same-length
+    (λ c. search needs)
     returns-2)

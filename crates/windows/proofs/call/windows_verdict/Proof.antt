@@ -5,17 +5,8 @@ use borrow.Author.Needs.{needs}
 use Rattle.windows.proofs.call.windows_verdict.Statement.{statement}
 use Rattle.windows.proofs.call.windows_verdict.Tie as tie
 
-cast-m : tie.Need-cast-m
-cast-m c = search needs
-
-has-bad-window-requires : tie.Need-has-bad-window-requires
-has-bad-window-requires c κs = search needs
-
 returns : tie.Need-returns
 returns c = bad-refused _ _ _ (sym (c .before .has-bad-window .ensures) ∙ c .if1 .taken)
-
-must-shut-requires : tie.Need-must-shut-requires
-must-shut-requires c κs = search needs
 
 returns-2 : tie.Need-returns-2
 returns-2 c =
@@ -30,4 +21,4 @@ returns-3 c =
 pub windows-verdict-spec : {M : Type 1} → statement M
 windows-verdict-spec =
     tie.close
-    (tie.spec cast-m has-bad-window-requires returns must-shut-requires returns-2 returns-3)
+    (tie.spec (λ c. search needs) (λ c κs. search needs) returns (λ c κs. search needs) returns-2 returns-3)

@@ -1,4 +1,4 @@
--- What the arrays of a picture say of its trees.
+-- What the arrays of a matrix of costs say of its trees.
 use mathlib.Core.Path.{_≡_, refl, sym, ap, ap₂, _∙_, subst⁻¹}
 use mathlib.Core.Logic.{inl, inr, _≢_}
 use mathlib.Core.Bool.{Bool, true, false, cond}
@@ -11,12 +11,13 @@ use lib.Seq.{getD-set-same, getD-set-other}
 use lib.Dec.{T-not}
 use lib.IntN.{ℤ, pos, _+ℤ_, _-ℤ_}
 use lib.Signed.{ltZ, _≤ℤ_, ≤ℤ-refl}
+use Rattle.postman.specs.Laws.Contradiction.{zero-is-one}
 use Rattle.integers.specs.Linear.{z, zl}
 use Rattle.postman.specs.Lists.{select, upFrom, sumOfℤ, iterate}
 use Rattle.postman.specs.Laws.Tests.{cond-ind, test, is-true, is-false}
 use Rattle.postman.specs.Laws.SignedSum.{≤ℤ-trans}
 use Rattle.cheapest_tree.specs.Cheapest.{treeCost}
-use Rattle.cheapest_tree.specs.Picture.{matrixOf, othersIn, highest, IsPicture, less, lineOf, IsCheaper, IsBest, HasEntries, entryOf, payOf, IsMarked, IsPlace, IsShrunk}
+use Rattle.cheapest_tree.specs.CostMatrix.{matrixOf, othersIn, highest, IsCostMatrix, less, lineOf, IsCheaper, IsBest, HasEntries, entryOf, payOf, IsMarked, IsPlace, IsShrunk}
 
 pub lt-le : (a b : ℤ) → ltZ a b ≡ true → a ≤ℤ b
 lt-le a b e = omega (arith, z)
@@ -90,7 +91,7 @@ module _ (w : List ℤ) (left : List Bool) (e : List ℕ) where
   unfolding payments treeCost othersIn
   payments-all = refl
 
-  pub pay-within : IsPicture w left → (q : ℕ) → q < 8 → getD e q 0 < 8 → (pos 0 ≤ℤ payOf w left e q) × (payOf w left e q ≤ℤ pos highest)
+  pub pay-within : IsCostMatrix w left → (q : ℕ) → q < 8 → getD e q 0 < 8 → (pos 0 ≤ℤ payOf w left e q) × (payOf w left e q ≤ℤ pos highest)
   pay-within p q l b =
       cond-ind (getD left q false) (getD w (getD e q 0 * 8 + q) (pos 0)) (pos 0) (λ x. (pos 0 ≤ℤ x) × (x ≤ℤ pos highest))
       (λ t. (p .low (getD e q 0 * 8 + q) (omega arith), p .high (getD e q 0 * 8 + q) (omega arith)))
@@ -106,7 +107,7 @@ module _ (w : List ℤ) (left : List Bool) (e : List ℕ) where
   paid-none = record { sum = sym payments-end; low = ≤ℤ-refl (pos 0); high = ≤ℤ-refl (pos 0) }
 
   -- one component more
-  pub paid-more : IsPicture w left → HasEntries w left 8 e → (q : ℕ) → 1 < q → q ≤ 8 → (r s : ℤ) → r ≡ payOf w left e (q - 1) → Paid q s
+  pub paid-more : IsCostMatrix w left → HasEntries w left 8 e → (q : ℕ) → 1 < q → q ≤ 8 → (r s : ℤ) → r ≡ payOf w left e (q - 1) → Paid q s
       → Paid (q - 1) (r +ℤ s)
   paid-more p h q l m r s er i =
       let a = pay-within p (q - 1) (omega arith) (h .in-range (q - 1) (omega arith)) in
@@ -135,7 +136,7 @@ less-within a m l h k = elim (test (ltZ a m)) [
 
 pub marked-none : (e : List ℕ) (y : ℕ) → IsMarked e y 0 (replicate 8 false)
 marked-none e y = record {
-  sound = λ x h. (let f = all-false x in let z : _≡_ {A = ℕ} 0 1 = cc in absurd (omega arith));
+  sound = λ x h. (let f = all-false x in zero-is-one (cc));
   complete = λ i l. absurd (omega arith);
 }
   where
@@ -163,7 +164,7 @@ marked-more e y i on x l s h = record {
     before : (j : ℕ) → j < i + 1 → iterate j (entryOf e) y ≢ x → j < i
     before j b o = elim (ℕ-discrete j i) [ yes a ↦ absurd (o (ap (λ u. iterate u (entryOf e) y) a ∙ sym s)) | no a ↦ omega arith ]
 
--- ---- the smaller picture
+-- ---- the contracted matrix
 
 pub shrunk-more : (v : List ℤ) (on : List Bool) (c i : ℕ) (m : List ℤ) (r : ℕ) (a : ℤ) → i < length m → IsShrunk v on c i m
     → IsPlace v on c (i / 8) (i % 8) r → a ≡ getD v r (pos 0)

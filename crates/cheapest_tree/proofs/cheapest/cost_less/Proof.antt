@@ -1,11 +1,11 @@
 -- The two cases of the definition; the difference of two costs fits.
-use Rattle.cheapest_tree.specs.Picture.{less}
+use Rattle.cheapest_tree.specs.CostMatrix.{less}
 use Rattle.integers.specs.Linear.{z, zz, back64}
 use mir.Facts.{toZ-ofZ}
 use native.Mathlib.Omega.{arith}
 use mathlib.Core.Path.{_∙_}
-use Rattle.cheapest_tree.proofs.cheapest.lesser.Statement.{statement}
-use Rattle.cheapest_tree.proofs.cheapest.lesser.Tie as tie
+use Rattle.cheapest_tree.proofs.cheapest.cost_less.Statement.{statement}
+use Rattle.cheapest_tree.proofs.cheapest.cost_less.Tie as tie
 
 returns : tie.Need-returns
 unfolding less
@@ -18,5 +18,5 @@ returns-2 : tie.Need-returns-2
 unfolding less
 returns-2 c = toZ-ofZ (sub-result c) ∙ simp (back64, c .before .fits .a .sfits, c .before .fits .m .sfits) (rw (simp (back64, c .before .fits .a .sfits, c .before .fits .m .sfits) at (c .if1 .left)))
 
-pub lesser-spec : {M : Type 1} → statement M
-lesser-spec = tie.close (tie.spec returns sub-result returns-2)
+pub cost-less-spec : {M : Type 1} → statement M
+cost-less-spec = tie.close (tie.spec returns sub-result returns-2)

@@ -1,4 +1,4 @@
--- A picture in arrays: 8 rows of 8 costs, and which components are left. Component 0 always is.
+-- A matrix of costs in arrays, 8 rows of 8, and which components are left (document 01's picture). Component 0 always is.
 use mathlib.Core.Path.{_≡_}
 use mathlib.Core.Logic.{_⊎_, _≢_}
 use mathlib.Core.Bool.{Bool, true, false, not, cond, _&&_, _||_}
@@ -23,7 +23,7 @@ othersIn left = select (λ q. getD left q false) (upFrom 1 7)
 abbrev pub highest : ℕ
 highest = 8257410
 
-pub record IsPicture (w : List ℤ) (left : List Bool) : Type 0 where
+pub record IsCostMatrix (w : List ℤ) (left : List Bool) : Type 0 where
   pub low : (i : ℕ) → i < 64 → pos 0 ≤ℤ getD w i (pos 0)
   pub high : (i : ℕ) → i < 64 → getD w i (pos 0) ≤ℤ pos highest
   pub root : getD left 0 false ≡ true
@@ -82,7 +82,7 @@ pub record IsPlace (v : List ℤ) (on : List Bool) (c s t r : ℕ) : Type 0 wher
   pub from : t ≢ c → s ≡ c → (x : ℕ) × IsBest (lineOf v false t) on 8 x × (r ≡ x * 8 + t)
   pub same : t ≢ c → s ≢ c → r ≡ s * 8 + t
 
--- the costs of the smaller picture
+-- the costs of the contracted matrix
 pub record IsShrunk (v : List ℤ) (on : List Bool) (c n : ℕ) (m : List ℤ) : Type 0 where
   pub each : (i : ℕ) → i < n → (r : ℕ) × IsPlace v on c (i / 8) (i % 8) r × (getD m i (pos 0) ≡ getD v r (pos 0))
 
