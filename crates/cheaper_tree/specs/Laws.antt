@@ -1,0 +1,3 @@
+-- What is proved about the definitions.
+pub mod Compared
+pub mod Improved
