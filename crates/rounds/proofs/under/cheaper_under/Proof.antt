@@ -6,11 +6,11 @@ use Rattle.postman.specs.Plan.{Plan, WellFormed}
 use Rattle.multipliers.specs.Tour.{tableOf}
 use Rattle.multipliers.specs.Laws.Table.{rows}
 use Rattle.call_steps.specs.Refusals.{planRefusal}
-use Rattle.held_tree.specs.Found.{IsFound, CanGoOn}
-use Rattle.rounds.specs.Laws.Tables.{inside-from, under-well-formed, under-refusal, under-table}
+use Rattle.cheaper_tree.specs.Cheaper.{CanImprove, IsCheaper}
+use Rattle.round_rule.specs.Laws.Tables.{inside-from, under-well-formed, under-refusal, under-table}
 use borrow.Author.Needs.{needs}
-use Rattle.rounds.proofs.under.found_under.Statement.{statement}
-use Rattle.rounds.proofs.under.found_under.Tie as tie
+use Rattle.rounds.proofs.under.cheaper_under.Statement.{statement}
+use Rattle.rounds.proofs.under.cheaper_under.Tie as tie
 
 renumber-requires : tie.Need-renumber-requires
 renumber-requires c κs = let s = c .before .before .before .before in (s .pre .0 .well-formed, s .pre .2 .numbers .long-to)
@@ -18,8 +18,8 @@ renumber-requires c κs = let s = c .before .before .before .before in (s .pre .
 renumber-table-requires : tie.Need-renumber-table-requires
 renumber-table-requires c κs = let s = c .before .before .before .before .before .before in inside-from _ (s .pre .0 .well-formed) _ (s .pre .2 .numbers)
 
-found-tabled-requires : tie.Need-found-tabled-requires
-found-tabled-requires c κs = let s = c .before .before .before .before .before .before .before .before in
+cheaper-tabled-requires : tie.Need-cheaper-tabled-requires
+cheaper-tabled-requires c κs = let s = c .before .before .before .before .before .before .before .before in
     let ok = s .pre .0 .well-formed in
     let x = s .pre .2 .numbers in
     let v = c .before .before .before .renumber .ensures in
@@ -29,12 +29,12 @@ found-tabled-requires c κs = let s = c .before .before .before .before .before 
       subst⁻¹ WellFormed v (under-well-formed _ ok _ x),
       subst⁻¹ (λ (r : Plan). t .result ≡ tableOf r) v d,
       ap planRefusal v ∙ under-refusal _ ok _ x ∙ s .pre .1,
-      subst⁻¹ (λ (r : Plan). CanGoOn r (s .args .x .tries) (s .args .g)) v (s .pre .3),
+      subst⁻¹ (λ (r : Plan). CanImprove r (s .args .cost) (s .args .before) (s .args .x .tries)) v (s .pre .3),
     )
 
 returns : tie.Need-returns
-returns c = let s = c .before .before .before .before .before .before .before .before .before in subst (λ (r : Plan). IsFound r (s .args .x .tries) (c .found-tabled .result)) (c .before .before .before .before .renumber .ensures) (c .found-tabled .ensures)
+returns c = let s = c .before .before .before .before .before .before .before .before .before in subst (λ (r : Plan). IsCheaper r (s .args .cost) (s .args .x .tries) (c .cheaper-tabled .result)) (c .before .before .before .before .renumber .ensures) (c .cheaper-tabled .ensures)
 
-pub found-under-spec : {M : Type 1} → statement M
-found-under-spec =
-    tie.close (tie.spec renumber-requires renumber-table-requires found-tabled-requires returns)
+pub cheaper-under-spec : {M : Type 1} → statement M
+cheaper-under-spec =
+    tie.close (tie.spec renumber-requires renumber-table-requires cheaper-tabled-requires returns)
