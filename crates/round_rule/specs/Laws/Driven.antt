@@ -1,13 +1,12 @@
 -- THE COST THAT IS KEPT IS A DRIVE'S: the drive of a round is one of the plan itself, at its cost; so where all trees of some numbering are
 -- tried, the least of them costs no more.
-use mathlib.Core.Path.{_≡_, subst}
+use mathlib.Core.Path.{subst}
 use mathlib.Core.List.{List}
 use Prim.Native.Nat.{ℕ, _≤_}
 use lib.Dec.{T}
 use Rattle.postman.specs.Plan.{Plan}
-use Rattle.postman.specs.Tour.{tourCost}
 use Rattle.postman.specs.Component.{componentCount}
-use Rattle.postman.specs.PlanCall.{bestCost, isWhole}
+use Rattle.postman.specs.PlanCall.{isWhole}
 use Rattle.postman.specs.Guarantee.{Guarantee}
 use Rattle.postman.specs.Renumbering.{numberIn, IsRenumberedTour}
 use Rattle.postman.specs.Steps.{Plannable}
@@ -24,25 +23,22 @@ use Rattle.round_rule.specs.Laws.Tables.{under-few, under-plannable}
 use Rattle.round_rule.specs.Laws.Kept.{uOf, under-multipliers}
 
 module _ (p : Plan) (ok : Plannable p) (few : componentCount p ≤ 8) (x : Trial) (h : IsTrial p x) where
-  abbrev driven : Plan
-  driven = under p (x .numbering)
+  abbrev q : Plan
+  q = under p (x .numbering)
 
   abbrev w : List ℕ
-  w = tourOf driven (x .tries)
+  w = tourOf q (x .tries)
 
-  pub told : IsRenumberedTour p (numberIn (x .numbering .to)) (x .tries) w
-  told =
+  pub driven : IsRenumberedTour p (numberIn (x .numbering .to)) (x .tries) w
+  driven =
       tour-back p (h .numbers .numbers) (x .tries) w
-      (answer-tour driven (under-plannable p ok (x .numbering) (h .numbers)) (under-few p (ok .well-formed) (x .numbering) (h .numbers) few)
+      (answer-tour q (under-plannable p ok (x .numbering) (h .numbers)) (under-few p (ok .well-formed) (x .numbering) (h .numbers) few)
       (x .tries) (h .some-tries))
-
-  pub told-cost : tourCost p w ≡ costOf p x
-  told-cost = told .costs
 
   pub whole-least : (y : Trial) → IsTrial p y → T (isWhole (under p (y .numbering)) (y .tries)) → costOf p y ≤ costOf p x
   whole-least y g t =
-      let q = under p (y .numbering) in
-      let u = uOf (multipliersFor q) in
-      let s : Guarantee q (y .tries) u = guaranteed q (under-plannable p ok (y .numbering) (g .numbers)) (y .tries) (g .some-tries) u
+      let r = under p (y .numbering) in
+      let u = uOf (multipliersFor r) in
+      let s : Guarantee r (y .tries) u = guaranteed r (under-plannable p ok (y .numbering) (g .numbers)) (y .tries) (g .some-tries) u
       (under-multipliers p ok few (y .numbering) (g .numbers)) in
-      subst (λ c. costOf p y ≤ c) told-cost (least-cost p (g .numbers .numbers) (y .tries) u s t w (told .tour))
+      subst (λ c. costOf p y ≤ c) (driven .costs) (least-cost p (g .numbers .numbers) (y .tries) u s t w (driven .tour))
