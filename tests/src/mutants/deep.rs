@@ -38,14 +38,32 @@ wrong_rounds! {
     }
 
     NeverOn violates [EachRound] {
-        fn goes_on(&self, _round: u32) -> bool {
+        fn goes_on(&self, _round: u32, _left: u64) -> bool {
             false
         }
     }
 
     AlwaysOn violates [EachRound] {
-        fn goes_on(&self, _round: u32) -> bool {
+        fn goes_on(&self, _round: u32, _left: u64) -> bool {
             true
+        }
+    }
+
+    OnWhateverIsLeft violates [EachRound] {
+        fn goes_on(&self, round: u32, _left: u64) -> bool {
+            round.is_multiple_of(2)
+        }
+    }
+
+    OnWhereFewAreLeft violates [EachRound] {
+        fn goes_on(&self, round: u32, left: u64) -> bool {
+            round.is_multiple_of(2) && left <= 100_000_000
+        }
+    }
+
+    LastOfEqualsKept violates [EachRound] {
+        fn keeps(&self, cost: u64, least: u64) -> bool {
+            cost <= least
         }
     }
 

@@ -38,7 +38,7 @@ use Rattle.solution.specs.Laws.Answered.{cost-is, floor-is, is-answer, summary-
 use Rattle.round_rule.specs.declared.kept.Kept.{Kept}
 use Rattle.round_rule.specs.Rounds.{under, floorOf, isClosed, kept, deepSummary, deepTour}
 use Rattle.deep_call.specs.Contract.{boundUnder, multipliersUnless, IsDeepAnswer, IsDeep}
-use Rattle.round_rule.specs.Laws.Tables.{under-few, under-plannable}
+use Rattle.round_rule.specs.Laws.Tables.{under-plannable}
 use Rattle.round_rule.specs.Trial.{IsTrial}
 use Rattle.round_rule.specs.Laws.Driven.{driven}
 use Rattle.round_rule.specs.Laws.Kept.{uOf, IsKept, after-kept, under-multipliers}
