@@ -61,12 +61,6 @@ wrong_rounds! {
         }
     }
 
-    LastOfEqualsKept violates [EachRound] {
-        fn keeps(&self, cost: u64, least: u64) -> bool {
-            cost <= least
-        }
-    }
-
     BegunAgain violates [EachRound, Stated] {
         fn trees(&self, budget: u64, _tried: u64) -> u64 {
             budget
