@@ -1,9 +1,9 @@
 -- THE ROUNDS. Each is the plan call on the plan under a numbering of its vertices, with so many trees; arcs keep their numbers, so that its
 -- drive is one of the file's plan, at its cost, and its floor is under every drive of that plan. Of all rounds the least cost and the
--- greatest floor are kept, and the numbering of which the fewest trees are left: every second round goes on there, until none is left. What
--- is kept after so many rounds is a function of the plan and the budget. A tree that costs no less than what is kept changes nothing, so
--- that no round has to look for one.
-use mathlib.Core.Bool.{Bool, true, false, cond}
+-- greatest floor are kept, and the numbering of which the fewest trees are left, where rounds go on until none is left. What is kept after
+-- so many rounds is a function of the plan and the budget. A tree that costs no less than what is kept changes nothing, so that no round
+-- has to look for one.
+use mathlib.Core.Bool.{Bool, false, cond}
 use mathlib.Core.List.{List}
 use Prim.Native.Nat.{ℕ, zero, suc, _+_, _-_, _%_, min}
 use lib.ListN.{getD}
@@ -146,10 +146,10 @@ isClosed k = leZ (pos (k .cost)) (k .floor)
 
 -- ---- the rounds
 
--- Round 2, 4, 6 and so on goes on with the search that is kept, by how many trees are left of it: if 100 rounds could try them, or if all
--- rounds together could not. Between the two, fewer trees are looked for first.
+-- Whether a round goes on with the search that is kept, by how many trees are left of it: every second, if 100 rounds could try them; every
+-- eighth, if all rounds together could not. Between the two, fewer trees are looked for first.
 unfoldable pub goesOn : ℕ → ℕ → Bool
-goesOn round left = cond (eqb (round % 2) 0) (cond (leb left 100000000) true (ltb 1000000000 left)) false
+goesOn round left = cond (leb left 100000000) (eqb (round % 2) 0) (cond (leb left 1000000000) false (eqb (round % 8) 0))
 
 -- It tries as many trees more as the budget says.
 unfoldable pub goneOn : ℕ → Kept → Chosen

@@ -28,13 +28,13 @@ pub struct Chosen {
 fn goes_on(round: u32, left: u64) -> bool
     ensures { λ r. ⌜ r ≡ goesOn round left ⌝ }
 {
-    if round % 2 != 0 {
+    if left <= 100_000_000 {
+        return round % 2 == 0;
+    }
+    if left <= 1_000_000_000 {
         return false;
     }
-    if left <= 100_000_000 {
-        return true;
-    }
-    1_000_000_000 < left
+    round % 8 == 0
 }
 
 // A round that goes on: the next trees of the search that is kept.

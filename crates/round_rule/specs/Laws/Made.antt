@@ -6,8 +6,8 @@ use mathlib.Core.List.{List}
 use mathlib.Core.Option.{none}
 use Prim.Native.Nat.{ℕ, suc, _+_, _-_, _%_, _≤_, _<_, min}
 use native.Mathlib.Omega.{arith}
-use borrow.Author.Tests.{le-leb, lt-leb, lt-ltb, le-ltb, eq-eqb, ne-eqb}
-use lib.Dec.{leb, ltb}
+use borrow.Author.Tests.{le-leb, lt-leb, lt-ltb, le-ltb}
+use lib.Dec.{eqb, leb}
 use lib.IntN.{ℤ, pos}
 use lib.Signed.{leZ, ltZ}
 use Rattle.postman.specs.Plan.{Plan, WellFormed}
@@ -108,17 +108,17 @@ exchanged-as r budget k x d g e =
 
 -- whether a round goes on
 module _ (round left : ℕ) where
-  pub odd-not : round % 2 ≢ 0 → false ≡ goesOn round left
+  pub few-on : left ≤ 100000000 → eqb (round % 2) 0 ≡ goesOn round left
   unfolding goesOn
-  odd-not n = let t = ne-eqb (round % 2) 0 n in rw t refl
+  few-on l = let t = le-leb left 100000000 l in rw t refl
 
-  pub few-goes-on : round % 2 ≡ 0 → left ≤ 100000000 → true ≡ goesOn round left
+  pub none-on : 100000000 < left → left ≤ 1000000000 → false ≡ goesOn round left
   unfolding goesOn
-  few-goes-on e l = let t = eq-eqb (round % 2) 0 e in let b = le-leb left 100000000 l in rw (t, b) refl
+  none-on l m = let t = lt-leb left 100000000 l in let b = le-leb left 1000000000 m in rw (t, b) refl
 
-  pub many-goes-on : round % 2 ≡ 0 → 100000000 < left → ltb 1000000000 left ≡ goesOn round left
+  pub many-on : 1000000000 < left → eqb (round % 8) 0 ≡ goesOn round left
   unfolding goesOn
-  many-goes-on e l = let t = eq-eqb (round % 2) 0 e in let b = lt-leb left 100000000 l in rw (t, b) refl
+  many-on l = let t = lt-leb left 100000000 (omega arith) in let b = lt-leb left 1000000000 l in rw (t, b) refl
 
 module _ (p : Plan) (budget round : ℕ) (k : Kept) (c : Chosen) (b : Bool) (is : b ≡ goesOn round (k .left)) where
   pub goes-on-as : b ≡ true → c ≡ goneOn budget k → c ≡ nextRound p budget round k
