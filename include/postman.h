@@ -233,12 +233,12 @@ int64_t postman_plan_call(const uint8_t *plan, size_t plan_len, uint64_t budget,
  * minus a refusal: 1 to 13, or 23.
  *
  * The first round is the plan call. Rounds 2, 4, 6 and so on go on with the search of which the fewest trees are left, by
- * `budget` trees, unless these are more than 100,000,000 and no more than 1,000,000,000; every other round numbers the
- * vertices anew, by two exchanges of the numbers of that search, or of the cheapest drive where more than 1,000,000,000 are
- * left, and tries `budget`. Of equal drives the first is kept. It ends as soon as floor and cost meet. The drive is never
- * dearer and the floor never lower than the plan call's with the same budget, and more rounds are never worse. The words are
- * as in a plan call, but for two: POSTMAN_WHOLE is 1 if floor and cost are equal, and then no drive is cheaper;
- * POSTMAN_TREES are the trees of all rounds, at most 1,000,000,000.
+ * `budget` trees, if these are at most 100,000,000; if they are more than 1,000,000,000, rounds 8, 16, 24 and so on do. Every
+ * other round numbers the vertices anew, by two exchanges of the numbers of that search, or of the cheapest drive where more
+ * than 1,000,000,000 are left, and tries `budget`. Of equal drives the first is kept. It ends as soon as floor and cost meet.
+ * The drive is never dearer and the floor never lower than the plan call's with the same budget, and more rounds are never
+ * worse. The words are as in a plan call, but for two: POSTMAN_WHOLE is 1 if floor and cost are equal, and then no drive is
+ * cheaper; POSTMAN_TREES are the trees of all rounds, at most 1,000,000,000.
  */
 int64_t postman_deep_call(const uint8_t *plan, size_t plan_len, uint64_t budget, uint32_t rounds, uint16_t *sheet,
                           size_t sheet_len, uint64_t *answer, size_t answer_len, int64_t *multipliers,

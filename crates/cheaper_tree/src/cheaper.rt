@@ -77,7 +77,13 @@ fn cheaper_measured(
 }
 
 // The same, from the table of the plan's distances.
-pub fn cheaper_tabled(plan: Plan, table: &[[u32; 64]; 64], cost: u64, before: u32, tries: u32) -> Found
+pub fn cheaper_tabled(
+    plan: Plan,
+    table: &[[u32; 64]; 64],
+    cost: u64,
+    before: u32,
+    tries: u32,
+) -> Found
     requires { ⌜ WellFormed (planValue plan) × (now table ≡ tableOf (planValue plan)) × (planRefusal (planValue plan) ≡ none)
         × CanImprove (planValue plan) cost before tries ⌝ }
     ensures { λ r. ⌜ IsCheaper (planValue plan) cost tries r ⌝ }

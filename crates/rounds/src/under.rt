@@ -26,7 +26,13 @@ ghost use Rattle.round_rule.specs.Trial.{IsTrial};
 ghost use Rattle.rounds.specs.Tabled.{HasTable, IsTabled};
 
 // A tree that is cheaper than what is known, among so many under a numbering of which the first have none.
-pub(crate) fn cheaper_under(plan: Plan, table: &[[u32; 64]; 64], x: Trial, cost: u64, before: u32) -> Found
+pub(crate) fn cheaper_under(
+    plan: Plan,
+    table: &[[u32; 64]; 64],
+    x: Trial,
+    cost: u64,
+    before: u32,
+) -> Found
     requires { ⌜ HasTable (planValue plan) (now table) × (planRefusal (planValue plan) ≡ none) × IsTrial (planValue plan) x
         × CanImprove (under (planValue plan) (x .numbering)) cost before (x .tries) ⌝ }
     ensures { λ r. ⌜ IsCheaper (under (planValue plan) (x .numbering)) cost (x .tries) r ⌝ }

@@ -55,9 +55,9 @@ wrong_rounds! {
         }
     }
 
-    OnWhereFewAreLeft violates [EachRound] {
+    OnAsOftenWhereManyAreLeft violates [EachRound] {
         fn goes_on(&self, round: u32, left: u64) -> bool {
-            round.is_multiple_of(2) && left <= 100_000_000
+            round.is_multiple_of(2) && !(100_000_001..=1_000_000_000).contains(&left)
         }
     }
 

@@ -72,7 +72,7 @@ fn bests(rounds: &[Round]) -> Option<(u64, u64)> {
 
 /// Whether a round goes on with the search of which so many trees, the fewest, are left; none are before the first.
 fn goes_on(round: u32, fewest: Option<u64>) -> bool {
-    fewest.is_some_and(|left| round % 2 == 0 && !(100_000_001..=1_000_000_000).contains(&left))
+    fewest.is_some_and(|left| left <= 100_000_000 && round % 2 == 0 || left > 1_000_000_000 && round % 8 == 0)
 }
 
 /// The rounds of a deep call on a plan that is not refused, up to the one at which floor and cost meet. `solve` gives what the plan call answers.
@@ -145,7 +145,8 @@ mod tests {
         assert_eq!(vertices_of(2, &other), [3, 4, 1, 0, 2]);
         assert_eq!(vertices_of(0, &[0]), [0]);
         let on = |round| [None, Some(0), Some(100_000_000), Some(100_000_001), Some(1_000_000_000), Some(1 << 32)].map(|left| goes_on(round, left));
-        assert_eq!(on(2), [false, true, true, false, false, true]);
+        assert_eq!(on(8), [false, true, true, false, false, true]);
+        assert_eq!(on(6), [false, true, true, false, false, false]);
         assert_eq!(on(3), [false; 6]);
         let mut third: Vec<usize> = (0..64).collect();
         [(15, 50), (31, 34), (34, 31), (50, 15)].iter().for_each(|&(number, vertex)| third[number] = vertex);

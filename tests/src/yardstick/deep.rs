@@ -30,9 +30,14 @@ pub trait Rounds {
         (0..n).collect()
     }
 
-    /// Whether a round goes on with the search that is kept, of which so many trees are left: 100 rounds could try them, or all together could not.
+    /// Whether a round goes on with the search that is kept, of which so many trees are left: every second if 100 rounds could try them, every eighth
+    /// if all together could not.
     fn goes_on(&self, round: u32, left: u64) -> bool {
-        round.is_multiple_of(2) && (left <= 100_000_000 || left > 1_000_000_000)
+        match left {
+            ..=100_000_000 => round.is_multiple_of(2),
+            ..=1_000_000_000 => false,
+            _ => round.is_multiple_of(8),
+        }
     }
 
     /// The trees of a round that does, in all, where so many were tried.

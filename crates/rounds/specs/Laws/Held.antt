@@ -45,9 +45,9 @@ module _ (p : Plan) (ok : Plannable p) (few : componentCount p ≤ 8) (budget ro
   before =
       cond-ind (goesOn round (k .left)) (goneOn budget k) (exchangedBy p budget k) Before
       (λ t.
-        let m = k .base .tries in
-        let e : m + budget - budget ≡ m = omega arith in
-        (omega arith, λ o. subst⁻¹ (λ n. k .cost ≤ bestCost (under p (k .base .numbering)) n) e (on .least)))
+      let m = k .base .tries in
+      let e : m + budget - budget ≡ m = omega arith in
+      (omega arith, λ o. subst⁻¹ (λ n. k .cost ≤ bestCost (under p (k .base .numbering)) n) e (on .least)))
       (λ t. (omega arith, λ o. absurd (omega arith)))
 
   pub cost-low : k .cost ≤ 1131527310
