@@ -148,8 +148,8 @@ isClosed k = leZ (pos (k .cost)) (k .floor)
 
 -- Whether a round goes on with the search that is kept, by how many trees are left of it: every second, if 100 rounds could try them; every
 -- eighth, if all rounds together could not. Between the two, fewer trees are looked for first.
-unfoldable pub goesOn : ℕ → ℕ → Bool
-goesOn round left = cond (leb left 100000000) (eqb (round % 2) 0) (cond (leb left 1000000000) false (eqb (round % 8) 0))
+unfoldable pub isGoneOn : ℕ → ℕ → Bool
+isGoneOn round left = cond (leb left 100000000) (eqb (round % 2) 0) (cond (leb left 1000000000) false (eqb (round % 8) 0))
 
 -- It tries as many trees more as the budget says.
 unfoldable pub goneOn : ℕ → Kept → Chosen
@@ -167,8 +167,8 @@ exchangedBy p budget k =
     record { trial = record { numbering = d .numbering; tries = budget }; random = d .random }
 
 unfoldable pub nextRound : Plan → ℕ → ℕ → Kept → Chosen
-unfolding goesOn goneOn exchangedBy
-nextRound p budget round k = cond (goesOn round (k .left)) (goneOn budget k) (exchangedBy p budget k)
+unfolding isGoneOn goneOn exchangedBy
+nextRound p budget round k = cond (isGoneOn round (k .left)) (goneOn budget k) (exchangedBy p budget k)
 
 -- A round: its cost, its floor, its multipliers carried back, the trees that are left, and those that it tries.
 unfoldable pub roundWith : Plan → ℕ → Chosen → Kept → Kept

@@ -9,7 +9,7 @@ ghost use mathlib.Core.Path.{_≡_};
 ghost use Prim.Native.Nat.{_≤_};
 ghost use Rattle.postman.specs.Plan.{WellFormed};
 ghost use Rattle.plan.specs.Records.{planValue};
-ghost use Rattle.round_rule.specs.Rounds.{goesOn, goneOn, numbersOf, exchangedBy, nextRound};
+ghost use Rattle.round_rule.specs.Rounds.{isGoneOn, goneOn, numbersOf, exchangedBy, nextRound};
 ghost use Rattle.round_rule.specs.Trial.{GoesOn};
 
 // A numbering, and how many trees are tried under it in all.
@@ -26,7 +26,7 @@ pub struct Chosen {
 
 // Whether a round goes on with the search that is kept, of which so many trees are left.
 fn goes_on(round: u32, left: u64) -> bool
-    ensures { λ r. ⌜ r ≡ goesOn round left ⌝ }
+    ensures { λ r. ⌜ r ≡ isGoneOn round left ⌝ }
 {
     if left <= 100_000_000 {
         return round % 2 == 0;

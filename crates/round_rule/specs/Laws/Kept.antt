@@ -36,7 +36,7 @@ use Rattle.renumbering.specs.Laws.Shuffle.{shuffled-numbering, shuffled-random}
 use Rattle.round_rule.specs.declared.kept.Kept.{Kept}
 use Rattle.round_rule.specs.declared.trial.Trial.{Trial}
 use Rattle.round_rule.specs.declared.trial.Chosen.{Chosen}
-use Rattle.round_rule.specs.Rounds.{under, floorOf, costOf, floorUnder, carriedBack, leftOf, newTrees, begun, withDrive, withFloor, withBase, counted, isClosed, goesOn, goneOn, numbersOf, exchangedBy, nextRound, roundWith, nextKept, keptAfter}
+use Rattle.round_rule.specs.Rounds.{under, floorOf, costOf, floorUnder, carriedBack, leftOf, newTrees, begun, withDrive, withFloor, withBase, counted, isClosed, isGoneOn, goneOn, numbersOf, exchangedBy, nextRound, roundWith, nextKept, keptAfter}
 use Rattle.round_rule.specs.Trial.{IsTrial, GoesOn}
 use Rattle.round_rule.specs.Laws.Tables.{under-few, under-plannable}
 
@@ -137,7 +137,7 @@ module _ (p : Plan) (ok : WellFormed p) (budget : ℕ) (some-trees : 1 ≤ budge
   unfolding nextRound goneOn exchangedBy
   chosen-trial most small few =
       let d : Drawn = record { numbering = numbersOf k; random = k .random } in
-      cond-ind (goesOn round (k .left)) (goneOn budget k) (exchangedBy p budget k)
+      cond-ind (isGoneOn round (k .left)) (goneOn budget k) (exchangedBy p budget k)
       (λ c. IsTrial p (c .trial) × (c .trial .tries ≤ most + 1000000) × (c .random < modulus))
       (λ t. (record { numbers = numbers; some-tries = omega arith; few-tries = omega arith }, omega arith, random))
       (λ t. (

@@ -32,7 +32,7 @@ use Rattle.renumbering.specs.Renumbered.{carriedIn}
 use Rattle.round_rule.specs.declared.kept.Kept.{Kept}
 use Rattle.round_rule.specs.declared.trial.Trial.{Trial}
 use Rattle.round_rule.specs.declared.trial.Chosen.{Chosen}
-use Rattle.round_rule.specs.Rounds.{under, floorOf, costOf, floorUnder, carriedBack, leftOf, newTrees, begun, withDrive, withFloor, withBase, counted, isClosed, goesOn, goneOn, numbersOf, exchangedBy, nextRound, roundWith, nextKept, keptAfter}
+use Rattle.round_rule.specs.Rounds.{under, floorOf, costOf, floorUnder, carriedBack, leftOf, newTrees, begun, withDrive, withFloor, withBase, counted, isClosed, isGoneOn, goneOn, numbersOf, exchangedBy, nextRound, roundWith, nextKept, keptAfter}
 use Rattle.round_rule.specs.Trial.{IsTrial}
 use Rattle.round_rule.specs.Laws.Tables.{plan-accepted, under-few, under-plannable}
 use Rattle.round_rule.specs.Laws.Kept.{IsKept, after-kept, closed-stays, one-round, tried-few, trees-same}
@@ -108,19 +108,19 @@ exchanged-as r budget k x d g e =
 
 -- whether a round goes on
 module _ (round left : ℕ) where
-  pub few-on : left ≤ 100000000 → eqb (round % 2) 0 ≡ goesOn round left
-  unfolding goesOn
+  pub few-on : left ≤ 100000000 → eqb (round % 2) 0 ≡ isGoneOn round left
+  unfolding isGoneOn
   few-on l = let t = le-leb left 100000000 l in rw t refl
 
-  pub none-on : 100000000 < left → left ≤ 1000000000 → false ≡ goesOn round left
-  unfolding goesOn
+  pub none-on : 100000000 < left → left ≤ 1000000000 → false ≡ isGoneOn round left
+  unfolding isGoneOn
   none-on l m = let t = lt-leb left 100000000 l in let b = le-leb left 1000000000 m in rw (t, b) refl
 
-  pub many-on : 1000000000 < left → eqb (round % 8) 0 ≡ goesOn round left
-  unfolding goesOn
+  pub many-on : 1000000000 < left → eqb (round % 8) 0 ≡ isGoneOn round left
+  unfolding isGoneOn
   many-on l = let t = lt-leb left 100000000 (omega arith) in let b = lt-leb left 1000000000 l in rw (t, b) refl
 
-module _ (p : Plan) (budget round : ℕ) (k : Kept) (c : Chosen) (b : Bool) (is : b ≡ goesOn round (k .left)) where
+module _ (p : Plan) (budget round : ℕ) (k : Kept) (c : Chosen) (b : Bool) (is : b ≡ isGoneOn round (k .left)) where
   pub goes-on-as : b ≡ true → c ≡ goneOn budget k → c ≡ nextRound p budget round k
   unfolding nextRound
   goes-on-as e f = let t = sym is ∙ e in rw t f

@@ -23,7 +23,7 @@ use Rattle.cheaper_tree.specs.Cheaper.{CanImprove, IsCheaper}
 use Rattle.round_rule.specs.declared.kept.Kept.{Kept}
 use Rattle.round_rule.specs.declared.trial.Trial.{Trial}
 use Rattle.round_rule.specs.declared.trial.Chosen.{Chosen}
-use Rattle.round_rule.specs.Rounds.{under, costOf, begun, withDrive, withFloor, withBase, counted, goesOn, goneOn, exchangedBy, nextRound, keptAfter}
+use Rattle.round_rule.specs.Rounds.{under, costOf, begun, withDrive, withFloor, withBase, counted, isGoneOn, goneOn, exchangedBy, nextRound, keptAfter}
 use Rattle.round_rule.specs.Trial.{IsTrial, GoesOn}
 use Rattle.round_rule.specs.Laws.Tables.{under-few, under-plannable}
 use Rattle.round_rule.specs.Laws.Kept.{under-unchanged, chosen-trial}
@@ -43,7 +43,7 @@ module _ (p : Plan) (ok : Plannable p) (few : componentCount p ≤ 8) (budget ro
   before : Before (nextRound p budget round k)
   unfolding nextRound goneOn exchangedBy
   before =
-      cond-ind (goesOn round (k .left)) (goneOn budget k) (exchangedBy p budget k) Before
+      cond-ind (isGoneOn round (k .left)) (goneOn budget k) (exchangedBy p budget k) Before
       (λ t.
       let m = k .base .tries in
       let e : m + budget - budget ≡ m = omega arith in
