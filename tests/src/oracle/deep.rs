@@ -144,7 +144,10 @@ mod tests {
         assert_eq!(vertices_of(0, &own), [0, 4, 2, 1, 3]);
         assert_eq!(vertices_of(2, &other), [3, 4, 1, 0, 2]);
         assert_eq!(vertices_of(0, &[0]), [0]);
-        let on = |round| [None, Some(0), Some(100_000_000), Some(100_000_001), Some(1_000_000_000), Some(1 << 32)].map(|left| goes_on(round, left));
+        let on = |round| {
+            [None, Some(0), Some(100_000_000), Some(100_000_001), Some(1_000_000_000), Some(1 << 32)]
+                .map(|left| goes_on(round, left))
+        };
         assert_eq!(on(8), [false, true, true, false, false, true]);
         assert_eq!(on(6), [false, true, true, false, false, false]);
         assert_eq!(on(3), [false; 6]);
