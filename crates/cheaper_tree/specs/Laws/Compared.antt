@@ -1,4 +1,4 @@
--- Two searches over the same trees, of which one begins with less: they find the same, or the first finds nothing and the other nothing less.
+-- Two searches over the same trees, one beginning with less: they find the same, or it finds nothing and the other nothing less.
 use mathlib.Core.Path.{_≡_, refl, ap, _∙_, subst⁻¹}
 use mathlib.Core.Logic.{_⊎_, inl, inr}
 use mathlib.Core.List.{List, [], _∷_, List·Memᴰ, List·Memᴰ·cases-cons}

@@ -88,7 +88,10 @@ module _ (p : Plan) (ok : Plannable p) (few : componentCount p ≤ 8) where
       subst (Agree c (advance f (held c l m n) ts)) (goes-on f high [] m n ts (omega arith))
       (agree f c (h .cost) l (h .links) m n ts (begins-below c m low (omega arith) least)) in
       elim a [
-        | inl same ↦ ((λ x. (same .0 ∙ all .0, same .1 ∙ all .1)), λ x. (let b = same .0 ∙ all .0 in let d = lower f (held c l m n) ts in omega arith))
+        | inl same ↦
+            let e = same .0 ∙ all .0 in
+            let b = lower f (held c l m n) ts in
+            ((λ x. (e, same .1 ∙ all .1)), λ x. omega arith)
         | inr none ↦ ((λ x. (let b = none .1 in let d = all .0 in absurd (omega arith))), λ x. none .0)
       ]
 
@@ -107,7 +110,8 @@ module _ (p : Plan) (ok : Plannable p) (few : componentCount p ≤ 8) where
       ((λ x. let b = g .0 (omega arith) in (b .0 ∙ cost, b .1 ∙ tree)), λ x. g .1 (omega arith))
 
 -- the floor: where all trees are tried, what is found or known is the least
-module _ (p : Plan) (cost tries : ℕ) (s : Searched) (h : IsImproved p cost tries s) (least : T (isWhole p tries) → bestCost p tries ≤ cost) where
+module _ (p : Plan) (cost tries : ℕ) (s : Searched) (h : IsImproved p cost tries s)
+    (least : T (isWhole p tries) → bestCost p tries ≤ cost) where
   whole-cost : T (isWhole p tries) → s .cost ≡ bestCost p tries
   whole-cost t = elim (decLt (bestCost p tries) cost) [
     | yes l ↦ h .cheaper l .0
@@ -120,7 +124,8 @@ module _ (p : Plan) (cost tries : ℕ) (s : Searched) (h : IsImproved p cost tri
       let b : ℤ = maxℤ (lagrangianBound p (λ i. pos 0)) (lagrangianBound p (λ i. getD (multipliersFor p) i (pos 0))) in
       ap (λ w. cond w (pos (s .cost)) b) (h .whole) ∙ at (isWhole p tries) b (λ t. ap pos (whole-cost t))
     where
-      at : (w : Bool) (b : ℤ) → (T w → pos (s .cost) ≡ pos (bestCost p tries)) → cond w (pos (s .cost)) b ≡ cond w (pos (bestCost p tries)) b
+      at : (w : Bool) (b : ℤ) → (T w → pos (s .cost) ≡ pos (bestCost p tries))
+          → cond w (pos (s .cost)) b ≡ cond w (pos (bestCost p tries)) b
       at true b e = e tt
       at false b e = refl
 
