@@ -72,7 +72,11 @@ fn bests(rounds: &[Round]) -> Option<(u64, u64)> {
 
 /// Whether a round goes on with the search of which so many trees, the fewest, are left; none are before the first.
 fn goes_on(round: u32, fewest: Option<u64>) -> bool {
-    fewest.is_some_and(|left| left <= 100_000_000 && round % 2 == 0 || left > 1_000_000_000 && round % 8 == 0)
+    let is_turn = |left| match (left > 100_000_000, left > 1_000_000_000) {
+        (false, _) => round.is_multiple_of(2),
+        (true, far) => far && round.is_multiple_of(8),
+    };
+    fewest.is_some_and(is_turn)
 }
 
 /// The rounds of a deep call on a plan that is not refused, up to the one at which floor and cost meet. `solve` gives what the plan call answers.

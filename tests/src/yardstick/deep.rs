@@ -34,8 +34,8 @@ pub trait Rounds {
     /// if all together could not.
     fn goes_on(&self, round: u32, left: u64) -> bool {
         match left {
-            ..=100_000_000 => round.is_multiple_of(2),
-            ..=1_000_000_000 => false,
+            0..=100_000_000 => round.is_multiple_of(2),
+            100_000_001..=1_000_000_000 => false,
             _ => round.is_multiple_of(8),
         }
     }
