@@ -37,7 +37,7 @@ extern "C" {
 /*
  * The bytes of stack that a thread needs for any of the calls. With less a call may end the process; on 128 KiB the plan
  * call does. Measured on x86-64 as the least stack of a thread on which the call works, in KiB: postman_turn 276,
- * postman_ask 260, postman_deep_call 256, postman_two_cars 200, postman_plan_call_at 196, postman_plan_call and
+ * postman_ask 260, postman_deep_call 240, postman_two_cars 200, postman_plan_call_at 196, postman_plan_call and
  * postman_short_call 196, postman_enter 184, postman_tree_count 96, and all others at most 28.
  */
 #define POSTMAN_STACK_BYTES 524288
