@@ -37,7 +37,7 @@ extern "C" {
 /*
  * The bytes of stack that a thread needs for any of the calls. With less a call may end the process; on 128 KiB the plan
  * call does. Measured on x86-64 as the least stack of a thread on which the call works, in KiB: postman_turn 292,
- * postman_deep_call 276, postman_ask 260, postman_two_cars 204, postman_plan_call_at 200, postman_plan_call and
+ * postman_ask 260, postman_deep_call 228, postman_two_cars 204, postman_plan_call_at 200, postman_plan_call and
  * postman_short_call 196, postman_enter 184, postman_tree_count 96, and all others at most 28.
  */
 #define POSTMAN_STACK_BYTES 524288
@@ -233,9 +233,10 @@ int64_t postman_plan_call(const uint8_t *plan, size_t plan_len, uint64_t budget,
  * minus a refusal: 1 to 13, or 23.
  *
  * The first round is the plan call. Rounds 2, 4, 6 and so on go on with the search of which the fewest trees are left, by
- * `budget` trees; every other round numbers the vertices anew, by two exchanges of the numbers of that search, or of the
- * cheapest drive where more than 1,000,000,000 are left, and tries `budget`. It ends as soon as floor and cost meet. The
- * drive is never dearer and the floor never lower than the plan call's with the same budget, and more rounds are never
+ * `budget` trees, if these are at most 100,000,000; if they are more than 1,000,000,000, rounds 8, 16, 24 and so on do. Every
+ * other round numbers the vertices anew, by two exchanges of the numbers of that search, or of the cheapest drive where more
+ * than 1,000,000,000 are left, and tries `budget`. Of equal drives the first is kept. It ends as soon as floor and cost meet.
+ * The drive is never dearer and the floor never lower than the plan call's with the same budget, and more rounds are never
  * worse. The words are as in a plan call, but for two: POSTMAN_WHOLE is 1 if floor and cost are equal, and then no drive is
  * cheaper; POSTMAN_TREES are the trees of all rounds, at most 1,000,000,000.
  */

@@ -94,8 +94,8 @@ pub fn plan_call(file: &[u8], budget: u64) -> Result<Answer, Refusal> {
     answered(|sheet, answer, multipliers| raw::plan_call(file, budget, sheet, answer, multipliers))
 }
 
-/// Lays a drive for a plan file by rounds of the plan call, from 1 to 1,000, of which the cheapest drive and the highest floor are answered: rounds
-/// 2, 4, 6 and so on go on where the fewest trees are left, with `budget` more, and every other round after the first numbers the vertices anew. It
+/// Lays a drive for a plan file by rounds of the plan call, from 1 to 1,000, of which the cheapest drive and the highest floor are answered: some
+/// go on where the fewest trees are left, with `budget` more, every second where few are, and all others after the first number the vertices anew. It
 /// ends as soon as floor and cost meet, which `whole` says; `trees` are those of all rounds. Never dearer, and its floor never lower, than
 /// [`plan_call`] with that budget; more rounds are never worse. Refuses with 1 to 7, 9 to 13 and 23.
 ///

@@ -24,7 +24,7 @@ use Rattle.solution.specs.declared.Planned.{Planned}
 use Rattle.solution.specs.Planned.{summaryOf, multipliersOf, countUnless}
 use Rattle.renumbering.specs.declared.numbering.Numbering.{Numbering}
 use Rattle.renumbering.specs.Numbering.{IsNumberingOf}
-use Rattle.rounds.specs.Rounds.{under, kept, deepSummary, deepTour}
+use Rattle.round_rule.specs.Rounds.{under, kept, deepSummary, deepTour}
 use Rattle.deep_call.specs.Refusals.{earlierConditionsIn, deepRefusal}
 
 -- The larger of L(0) and L(u) of the plan under a numbering, with the u of the plan carried into it.

@@ -1,2 +1,3 @@
 -- What is proved about the definitions.
 pub mod Found
+pub mod Cheaper

@@ -1,5 +1,3 @@
 -- What is proved about the definitions.
-pub mod Tables
-pub mod Kept
+pub mod Round
 pub mod Held
-pub mod Made

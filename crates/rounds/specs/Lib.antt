@@ -1,5 +1,4 @@
--- The rounds, and what is kept of them.
-pub mod Rounds
+-- What the rounds are made over, and what is held.
 pub mod Tabled
 pub mod Held
 -- What is proved about them.

@@ -1,6 +1,4 @@
 // The rounds of the deep call, each the plan call under another numbering of the vertices or with the next trees, of which
-// the best drive and the best floor are kept.
-pub mod kept; // what the rounds so far have found
-mod trial; // what a round is made with
+// the best drive and the best floor are kept. A round looks only for a drive that is cheaper.
 pub mod under; // a plan under a numbering
 pub mod round; // one round after another

@@ -1,82 +1,45 @@
 // One round after another.
 // Steps for other crates, which ask something of their caller.
-use crate::kept::Kept;
-use crate::kept::begin;
-use crate::kept::closed;
-use crate::kept::count;
-use crate::kept::left_of;
-use crate::kept::nearer;
-use crate::kept::no_dearer;
-use crate::kept::tighter;
-use crate::trial::Chosen;
-use crate::trial::choose;
-use crate::under::found_under;
-use held_tree::found::Found;
+use crate::under::cheaper_under;
 use held_tree::found::found_tabled;
 use held_tree::found::nothing;
 use plan::Plan;
-use renumbering::renumbered::carry;
+use round_rule::kept::Kept;
+use round_rule::kept::begin;
+use round_rule::kept::closed;
+use round_rule::kept::kept_of;
+use round_rule::trial::choose;
+use search::tried::lesser;
 use tree_search::trees::Reached;
 ghost use mathlib.Core.Path.{_≡_};
 ghost use mathlib.Core.Bool.{cond};
 ghost use mathlib.Core.Option.{none};
-ghost use Prim.Native.Nat.{_-_, _%_, _≤_};
-ghost use lib.Dec.{eqb, leb};
+ghost use Prim.Native.Nat.{_-_, _≤_};
+ghost use lib.Dec.{ltb};
 ghost use Rattle.plan.specs.Records.{planValue};
 ghost use Rattle.call_steps.specs.Refusals.{planRefusal};
-ghost use Rattle.renumbering.specs.Renumbered.{carriedIn, Inside};
-ghost use Rattle.rounds.specs.Rounds.{withDrive, withFloor, withBase, counted, nextKept, keptAfter};
-ghost use Rattle.rounds.specs.Tabled.{HasTable, GoesOn};
-ghost use Rattle.rounds.specs.Held.{IsHeld, IsBefore};
+ghost use Rattle.round_rule.specs.Rounds.{nextKept, keptAfter};
+ghost use Rattle.round_rule.specs.Trial.{GoesOn};
+ghost use Rattle.rounds.specs.Tabled.{HasTable};
+ghost use Rattle.rounds.specs.Held.{IsHeld};
 
-// What is kept, with the best trees of the search that is gone on with and of the drive.
+// What is kept, with the tree of the drive.
 pub struct Deep {
     pub kept: Kept,
-    pub base: Reached,
     pub drive: Reached,
 }
 
-// What a round begins with: the search that is held where it goes on, else nothing.
-fn start_of(round: u32, base: Reached) -> Reached
-    ensures { λ r. ⌜ IsBefore round base r ⌝ }
-{
-    if round % 2 == 0 {
-        return base;
-    }
-    nothing()
-}
-
-// The first of two where a number is no larger than another.
+// The first of two where a number is smaller than another.
 fn chosen_of(a: u64, b: u64, new: Reached, old: Reached) -> Reached
-    ensures { λ r. ⌜ r ≡ cond (leb a b) new old ⌝ }
+    ensures { λ r. ⌜ r ≡ cond (ltb a b) new old ⌝ }
 {
-    if b < a {
-        return old;
+    if a < b {
+        return new;
     }
-    new
+    old
 }
 
-// What is kept of a round.
-fn kept_of(k: Kept, c: Chosen, a: Found, trees: u32) -> Kept
-    requires { ⌜ (k .trees ≤ 1000000000) × (trees ≤ 1000000000) × Inside (c .trial .numbering .to) ⌝ }
-    ensures { λ r.
-        ⌜ r ≡ counted trees (c .random)
-        (withBase (c .trial) (a .number - c .trial .tries)
-        (withFloor (c .trial) (a .floor) (carriedIn (c .trial .numbering .to) (a .multipliers))
-        (withDrive (c .trial) (a .best .cost) k))) ⌝ }
-{
-    let x = c.trial;
-    let numbering = x.numbering;
-    let numbers = numbering.to;
-    let u = a.multipliers;
-    let best = a.best;
-    let d = no_dearer(k, x, best.cost);
-    let t = tighter(d, x, a.floor, carry(u, &numbers));
-    let f = nearer(t, x, left_of(a.number, x.tries));
-    count(f, trees, c.random)
-}
-
-// The next round.
+// The next round: a tree that is cheaper than the drive that is kept, among those that were not tried under its numbering.
 fn next_round(plan: Plan, table: &[[u32; 64]; 64], budget: u32, round: u32, d: Deep) -> Deep
     requires { ⌜ HasTable (planValue plan) (now table) × (planRefusal (planValue plan) ≡ none) × GoesOn (planValue plan) (d .kept)
         × IsHeld (planValue plan) d ⌝ }
@@ -84,18 +47,16 @@ fn next_round(plan: Plan, table: &[[u32; 64]; 64], budget: u32, round: u32, d: D
     ensures { λ r. ⌜ (r .kept ≡ nextKept (planValue plan) budget round (d .kept)) × IsHeld (planValue plan) r ⌝ }
 {
     let k = d.kept;
-    let base = d.base;
     let drive = d.drive;
     let c = choose(plan, budget, round, k);
     let x = c.trial;
-    let g = start_of(round, base);
-    let a = found_under(plan, table, x, g);
+    let before = x.tries - budget;
+    let a = cheaper_under(plan, table, x, k.cost, before);
     let best = a.best;
-    let kept = kept_of(k, c, a, best.tried - g.tried);
-    let left = left_of(a.number, x.tries);
+    let old = lesser(a.number, before);
+    let kept = kept_of(k, c, a, best.tried - old);
     Deep {
         kept: kept,
-        base: chosen_of(left, k.left, best, base),
         drive: chosen_of(best.cost, k.cost, best, drive),
     }
 }
@@ -110,7 +71,6 @@ pub fn first_round(plan: Plan, table: &[[u32; 64]; 64], budget: u32) -> Deep
     let kept = begin(a, budget);
     Deep {
         kept: kept,
-        base: best,
         drive: best,
     }
 }

@@ -1,13 +1,13 @@
 // The search and the drive of a plan under a numbering, over the tables of the file's plan, which are renumbered and not computed again.
 // Steps for other crates, which ask something of their caller.
-use crate::trial::Trial;
+use held_tree::cheaper::cheaper_tabled;
 use held_tree::found::Found;
-use held_tree::found::found_tabled;
 use held_tree::laid::Laid;
 use held_tree::laid::lay_tabled;
 use plan::Plan;
 use renumbering::renumbered::renumber;
 use renumbering::renumbered::renumber_table;
+use round_rule::trial::Trial;
 use tree_search::trees::Reached;
 ghost use mathlib.Core.Path.{_≡_};
 ghost use mathlib.Core.Option.{none};
@@ -19,25 +19,34 @@ ghost use Rattle.plan.specs.Records.{planValue};
 ghost use Rattle.tour_legs.specs.Tour.{written};
 ghost use Rattle.multipliers.specs.Tour.{tourOf};
 ghost use Rattle.call_steps.specs.Refusals.{planRefusal};
-ghost use Rattle.held_tree.specs.Found.{IsBest, IsFound, CanGoOn};
-ghost use Rattle.rounds.specs.Rounds.{under};
-ghost use Rattle.rounds.specs.Tabled.{HasTable, IsTabled, IsTrial};
+ghost use Rattle.held_tree.specs.Found.{IsBest};
+ghost use Rattle.tree_search.specs.Improved.{CanImprove};
+ghost use Rattle.held_tree.specs.Cheaper.{IsCheaper};
+ghost use Rattle.round_rule.specs.Rounds.{under};
+ghost use Rattle.round_rule.specs.Trial.{IsTrial};
+ghost use Rattle.rounds.specs.Tabled.{HasTable, IsTabled};
 
-// So many trees under a numbering, from those that were tried.
-pub(crate) fn found_under(plan: Plan, table: &[[u32; 64]; 64], x: Trial, g: Reached) -> Found
+// A tree that is cheaper than what is known, among so many under a numbering of which the first have none.
+pub(crate) fn cheaper_under(
+    plan: Plan,
+    table: &[[u32; 64]; 64],
+    x: Trial,
+    cost: u64,
+    before: u32,
+) -> Found
     requires { ⌜ HasTable (planValue plan) (now table) × (planRefusal (planValue plan) ≡ none) × IsTrial (planValue plan) x
-        × CanGoOn (under (planValue plan) (x .numbering)) (x .tries) g ⌝ }
-    ensures { λ r. ⌜ IsFound (under (planValue plan) (x .numbering)) (x .tries) r ⌝ }
+        × CanImprove (under (planValue plan) (x .numbering)) cost before (x .tries) ⌝ }
+    ensures { λ r. ⌜ IsCheaper (under (planValue plan) (x .numbering)) cost (x .tries) r ⌝ }
 {
     let numbering = x.numbering;
     let to = numbering.to;
     let from = numbering.from;
     let q = renumber(plan, &to);
     let d = renumber_table(table, &from);
-    found_tabled(q, &d, x.tries, g)
+    cheaper_tabled(q, &d, cost, before, x.tries)
 }
 
-// The drive of the best of them.
+// The drive of the best of so many.
 pub fn lay_under(
     plan: Plan,
     table: &[[u32; 64]; 64],

@@ -2,3 +2,5 @@
 pub mod BestTree
 pub mod Begun
 pub mod Resumed
+pub mod Compared
+pub mod Improved

@@ -1,4 +1,5 @@
 pub mod Begun
 pub mod Resumed
+pub mod Improved
 -- What is proved about them.
 pub mod Laws

@@ -46,16 +46,16 @@ pub struct Further {
 }
 
 // What a search begins with: the candidates in order, the branch of all trees, and how many they are.
-struct Begun {
+pub(crate) struct Begun {
     candidates: Candidates,
     root: Branch,
-    number: u64,
+    pub(crate) number: u64,
 }
 
 // How many trees are tried in all, and whether these are all there are.
-struct Total {
-    trees: u32,
-    whole: bool,
+pub(crate) struct Total {
+    pub(crate) trees: u32,
+    pub(crate) whole: bool,
 }
 
 // What is held before the first tree.
@@ -72,7 +72,7 @@ pub fn nothing_held() -> Reached
 
 // The root's potentials are the multipliers that are answered. The trees are counted once: how many
 // each branch below the root has, and their sum.
-fn begin(plan: Plan, table: &[[u32; 64]; 64], r: Preparation) -> Begun
+pub(crate) fn begin(plan: Plan, table: &[[u32; 64]; 64], r: Preparation) -> Begun
     requires { ⌜ IsPreparation (planValue plan) (now table) r ⌝ }
     ensures { λ x. ⌜ IsBegun (planValue plan) (now (table .entry)) r x ⌝ }
 {
@@ -141,7 +141,13 @@ pub fn best(plan: Plan, table: &[[u32; 64]; 64], r: Preparation, budget: u32) ->
 }
 
 // The trees from the root on: those to skip, then those that are left to be tried.
-fn explored(plan: Plan, table: &[[u32; 64]; 64], r: Preparation, s: Begun, g: Progress) -> Progress
+pub(crate) fn explored(
+    plan: Plan,
+    table: &[[u32; 64]; 64],
+    r: Preparation,
+    s: Begun,
+    g: Progress,
+) -> Progress
     requires { ⌜ IsPreparation (planValue plan) (now table) r × IsBegun (planValue plan) (now table) r s × IsShort g ⌝ }
     ensures { λ x. ⌜ IsExplored (planValue plan) (arborescences (planValue plan)) g x ⌝ }
 {
@@ -241,7 +247,7 @@ fn tried_on(
 }
 
 // How many trees are tried in all, and whether these are all there are, from how many there are.
-fn total_of(plan: Plan, number: u64, budget: u32) -> Total
+pub(crate) fn total_of(plan: Plan, number: u64, budget: u32) -> Total
     requires { ⌜ number ≡ min (arborescenceCount (planValue plan)) cap ⌝ }
     ensures { λ x. ⌜ (x .trees ≡ triedCount (planValue plan) budget) × (x .whole ≡ isWhole (planValue plan) budget) ⌝ }
 {

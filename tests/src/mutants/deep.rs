@@ -38,14 +38,26 @@ wrong_rounds! {
     }
 
     NeverOn violates [EachRound] {
-        fn goes_on(&self, _round: u32) -> bool {
+        fn goes_on(&self, _round: u32, _left: u64) -> bool {
             false
         }
     }
 
     AlwaysOn violates [EachRound] {
-        fn goes_on(&self, _round: u32) -> bool {
+        fn goes_on(&self, _round: u32, _left: u64) -> bool {
             true
+        }
+    }
+
+    OnWhateverIsLeft violates [EachRound] {
+        fn goes_on(&self, round: u32, _left: u64) -> bool {
+            round.is_multiple_of(2)
+        }
+    }
+
+    OnAsOftenWhereManyAreLeft violates [EachRound] {
+        fn goes_on(&self, round: u32, left: u64) -> bool {
+            round.is_multiple_of(2) && !(100_000_001..=1_000_000_000).contains(&left)
         }
     }
 

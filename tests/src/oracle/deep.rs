@@ -45,14 +45,10 @@ fn drawn(k: u32) -> u64 {
     }
 }
 
-/// The vertices by their numbers in a round, from those of the search that is kept before it: rounds 3, 5, 7 and so on exchange two numbers twice. The exchanges
-/// are undone from the last to the first.
-pub fn vertices_of(round: u32, kept: &[usize]) -> Vec<usize> {
-    if round < 3 || round.is_multiple_of(2) {
-        return kept.to_vec();
-    }
+/// The vertices by their numbers after two exchanges, before which so many numbers were drawn. The exchanges are undone from the last to the first.
+pub fn vertices_of(before: u32, kept: &[usize]) -> Vec<usize> {
     let n = kept.len() as u64;
-    let pairs = [round - 2, round - 1].map(drawn).map(|number| ((number % n) as usize, (number / n % n) as usize));
+    let pairs = [before + 1, before + 2].map(drawn).map(|number| ((number % n) as usize, (number / n % n) as usize));
     let exchanged = |i: usize, &(a, b): &(usize, usize)| match i {
         _ if i == a => b,
         _ if i == b => a,
@@ -74,9 +70,19 @@ fn bests(rounds: &[Round]) -> Option<(u64, u64)> {
     Some((cost, floor))
 }
 
+/// Whether a round goes on with the search of which so many trees, the fewest, are left; none are before the first.
+fn goes_on(round: u32, fewest: Option<u64>) -> bool {
+    let is_turn = |left| match (left > 100_000_000, left > 1_000_000_000) {
+        (false, _) => round.is_multiple_of(2),
+        (true, far) => far && round.is_multiple_of(8),
+    };
+    fewest.is_some_and(is_turn)
+}
+
 /// The rounds of a deep call on a plan that is not refused, up to the one at which floor and cost meet. `solve` gives what the plan call answers.
 pub fn rounds(plan: &Plan, budget: u64, most: u32, solve: &dyn Fn(&Plan, u64) -> Answer) -> Vec<Round> {
     let mut rounds: Vec<Round> = Vec::new();
+    let mut numbers_drawn = 0;
     for round in 1..=most {
         let least = bests(&rounds);
         if least.is_some_and(|(cost, floor)| cost == floor) {
@@ -85,12 +91,18 @@ pub fn rounds(plan: &Plan, budget: u64, most: u32, solve: &dyn Fn(&Plan, u64) ->
         // The last of those of which the fewest trees are left.
         let fewest = rounds.iter().map(|round| round.left).min();
         let kept = rounds.iter().rev().find(|round| Some(round.left) == fewest);
-        // Where more are left than all rounds together can try, the last of the cheapest rounds is what the exchanges begin with.
-        let is_far = round % 2 == 1 && fewest.is_some_and(|left| left > 1_000_000_000);
-        let cheapest = rounds.iter().rev().find(|round| Some(round.answer.cost) == least.map(|(cost, _)| cost));
-        let own: Vec<usize> = (0..plan.n).collect();
-        let vertices = vertices_of(round, if is_far { cheapest } else { kept }.map_or(&own, |round| &round.vertices));
-        let before = kept.filter(|_| round % 2 == 0).map_or(0, |kept| kept.trees);
+        // Where more are left than all rounds together can try, the first of the cheapest rounds is what the exchanges begin with.
+        let is_far = fewest.is_some_and(|left| left > 1_000_000_000);
+        let cheapest = rounds.iter().find(|round| Some(round.answer.cost) == least.map(|(cost, _)| cost));
+        let (vertices, before) = match kept {
+            None => ((0..plan.n).collect(), 0),
+            Some(kept) if goes_on(round, fewest) => (kept.vertices.clone(), kept.trees),
+            Some(kept) => {
+                let from = if is_far { cheapest.expect("a round before") } else { kept };
+                numbers_drawn += 2;
+                (vertices_of(numbers_drawn - 2, &from.vertices), 0)
+            }
+        };
         let trees = before + budget;
         let other = with_numbers(plan, &vertices);
         let mut answer = solve(&other, trees);
@@ -133,13 +145,19 @@ mod tests {
     #[test]
     fn numbers_of_the_first_rounds() {
         let (own, other) = ([0, 1, 2, 3, 4], [3, 1, 4, 0, 2]);
-        [1, 2, 4, 1_000].iter().for_each(|&round| assert_eq!(vertices_of(round, &other), other));
-        assert_eq!(vertices_of(3, &own), [0, 4, 2, 1, 3]);
-        assert_eq!(vertices_of(5, &other), [3, 4, 1, 0, 2]);
-        assert_eq!(vertices_of(3, &[0]), [0]);
+        assert_eq!(vertices_of(0, &own), [0, 4, 2, 1, 3]);
+        assert_eq!(vertices_of(2, &other), [3, 4, 1, 0, 2]);
+        assert_eq!(vertices_of(0, &[0]), [0]);
+        let on = |round| {
+            [None, Some(0), Some(100_000_000), Some(100_000_001), Some(1_000_000_000), Some(1 << 32)]
+                .map(|left| goes_on(round, left))
+        };
+        assert_eq!(on(8), [false, true, true, false, false, true]);
+        assert_eq!(on(6), [false, true, true, false, false, false]);
+        assert_eq!(on(3), [false; 6]);
         let mut third: Vec<usize> = (0..64).collect();
         [(15, 50), (31, 34), (34, 31), (50, 15)].iter().for_each(|&(number, vertex)| third[number] = vertex);
-        assert_eq!(vertices_of(3, &(0..64).collect::<Vec<usize>>()), third);
+        assert_eq!(vertices_of(0, &(0..64).collect::<Vec<usize>>()), third);
         assert_eq!(drawn(8), 854_716_505);
     }
 }

@@ -30,9 +30,14 @@ pub trait Rounds {
         (0..n).collect()
     }
 
-    /// Whether a round goes on with the search that is kept.
-    fn goes_on(&self, round: u32) -> bool {
-        round.is_multiple_of(2)
+    /// Whether a round goes on with the search that is kept, of which so many trees are left: every second if 100 rounds could try them, every eighth
+    /// if all together could not.
+    fn goes_on(&self, round: u32, left: u64) -> bool {
+        match left {
+            0..=100_000_000 => round.is_multiple_of(2),
+            100_000_001..=1_000_000_000 => false,
+            _ => round.is_multiple_of(8),
+        }
     }
 
     /// The trees of a round that does, in all, where so many were tried.
@@ -80,7 +85,7 @@ pub trait Rounds {
 
     /// Whether a round's drive is kept, by its cost and the least before it.
     fn keeps(&self, cost: u64, least: u64) -> bool {
-        cost <= least
+        cost < least
     }
 
     /// Whether a round's floor and multipliers are kept, by the floor and the highest before it.
@@ -127,7 +132,7 @@ struct Kept {
 
 /// The numbers of a round, and its trees. What was drawn before goes on.
 fn numbers<R: Rounds>(rules: &R, round: u32, budget: u64, kept: &Kept, random: &mut u64) -> (Order, u64) {
-    if rules.goes_on(round) {
+    if rules.goes_on(round, kept.left) {
         return (kept.order.clone(), rules.trees(budget, kept.tried));
     }
     let mut order = if rules.is_far(kept.left) { kept.drive_order.clone() } else { kept.order.clone() };

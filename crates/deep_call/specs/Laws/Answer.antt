@@ -20,7 +20,7 @@ use Rattle.postman.specs.Required.{requiredCost}
 use Rattle.postman.specs.Balancing.{leastBalancing}
 use Rattle.postman.specs.Component.{componentCount}
 use Rattle.postman.specs.LagrangianBound.{Multipliers, AreMultipliers, lagrangianBound}
-use Rattle.postman.specs.PlanCall.{Summary, summary, fields, triedCount, bestCost, lowerBound, isWhole, IsAnswerTour}
+use Rattle.postman.specs.PlanCall.{Summary, summary, fields, triedCount, bestCost, lowerBound, isWhole}
 use Rattle.postman.specs.Guarantee.{Guarantee}
 use Rattle.postman.specs.Renumbering.{numberIn, carried, IsRenumberedTour}
 use Rattle.postman.specs.Lists.{maxℤ}
@@ -28,43 +28,32 @@ use Rattle.postman.specs.Laws.Tests.{test}
 use Rattle.postman.specs.Steps.{Plannable}
 use Rattle.postman.specs.Laws.Optimality.{guaranteed}
 use Rattle.postman.specs.Laws.RenumberedMultipliers.{multipliers-back, carried-again, below-tours, least-cost, above-balancing}
-use Rattle.postman.specs.Laws.RenumberedDrive.{tour-back}
 use Rattle.multipliers.specs.Ascent.{multipliersFor}
 use Rattle.multipliers.specs.Tour.{tourOf}
-use Rattle.multipliers.specs.Laws.Tour.{answer-tour}
 use Rattle.tour_legs.specs.Tour.{written}
 use Rattle.refusal.specs.Verdict.{verdictNumber}
 use Rattle.solution.specs.declared.Planned.{Planned}
 use Rattle.solution.specs.Planned.{summaryOf, multipliersOf, countUnless, IsPlanned}
 use Rattle.solution.specs.Laws.Answered.{cost-is, floor-is, is-answer, summary-given}
-use Rattle.rounds.specs.declared.kept.Kept.{Kept}
-use Rattle.rounds.specs.Rounds.{under, floorOf, isClosed, kept, deepSummary, deepTour}
+use Rattle.round_rule.specs.declared.kept.Kept.{Kept}
+use Rattle.round_rule.specs.Rounds.{under, floorOf, isClosed, kept, deepSummary, deepTour}
 use Rattle.deep_call.specs.Contract.{boundUnder, multipliersUnless, IsDeepAnswer, IsDeep}
-use Rattle.rounds.specs.Laws.Tables.{under-few, under-plannable}
-use Rattle.rounds.specs.Laws.Kept.{uOf, IsKept, after-kept, under-multipliers}
+use Rattle.round_rule.specs.Laws.Tables.{under-plannable}
+use Rattle.round_rule.specs.Trial.{IsTrial}
+use Rattle.round_rule.specs.Laws.Driven.{driven}
+use Rattle.round_rule.specs.Laws.Kept.{uOf, IsKept, after-kept, under-multipliers}
 
 module _ (p : Plan) (ok : Plannable p) (few : componentCount p ≤ 8) (r : ℕ) (k : Kept) (h : IsKept p r k) where
   -- ---- the drive
 
-  abbrev π : ℕ → ℕ
-  π = numberIn (k .drive .numbering .to)
-
-  abbrev driven : Plan
-  driven = under p (k .drive .numbering)
-
-  abbrev tries : ℕ
-  tries = k .drive .tries
-
   abbrev w : List ℕ
-  w = tourOf driven tries
+  w = tourOf (under p (k .drive .numbering)) (k .drive .tries)
 
-  answer-under : IsAnswerTour driven tries w
-  answer-under =
-      answer-tour driven (under-plannable p ok (k .drive .numbering) (h .drive-numbering))
-      (under-few p (ok .well-formed) (k .drive .numbering) (h .drive-numbering) few) tries (h .drive-tries)
+  drive-trial : IsTrial p (k .drive)
+  drive-trial = record { numbers = h .drive-numbering; some-tries = h .drive-tries; few-tries = h .drive-few }
 
-  pub told : IsRenumberedTour p π tries w
-  told = tour-back p (h .drive-numbering .numbers) tries w answer-under
+  pub told : IsRenumberedTour p (numberIn (k .drive .numbering .to)) (k .drive .tries) w
+  told = driven p ok few (k .drive) drive-trial
 
   pub told-cost : tourCost p w ≡ k .cost
   told-cost = told .costs ∙ sym (h .cost-is)

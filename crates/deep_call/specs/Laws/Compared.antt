@@ -28,12 +28,12 @@ use Rattle.solution.specs.declared.Planned.{Planned}
 use Rattle.solution.specs.Planned.{summaryOf, countUnless, IsPlanned}
 use Rattle.solution.specs.Laws.Answered.{cost-is, floor-is}
 use Rattle.planner.specs.Contract.{IsPlanCall}
-use Rattle.rounds.specs.declared.kept.Kept.{Kept}
-use Rattle.rounds.specs.Rounds.{under, floorOf, begun, isClosed, keptAfter, kept, deepSummary, deepTour}
+use Rattle.round_rule.specs.declared.kept.Kept.{Kept}
+use Rattle.round_rule.specs.Rounds.{under, floorOf, begun, isClosed, keptAfter, kept, deepSummary, deepTour}
 use Rattle.deep_call.specs.Refusals.{highestRounds, roundConditions, earlierConditionsIn, deepRefusal}
 use Rattle.deep_call.specs.Contract.{multipliersUnless, IsDeep, IsDeepCall}
 use Rattle.deep_call.specs.Compared.{SameButWhole, NoWorse, Deepens}
-use Rattle.rounds.specs.Laws.Kept.{under-unchanged, more-better, closed-stays}
+use Rattle.round_rule.specs.Laws.Kept.{under-unchanged, more-better, closed-stays}
 use Rattle.deep_call.specs.Laws.Answer.{is-tried}
 use Rattle.deep_call.specs.Laws.Call.{as-call-refusal, rounds-good, rounds-accepted}
 

@@ -16,10 +16,10 @@ use Rattle.multipliers.specs.Tour.{tourOf}
 use Rattle.refusal.specs.declared.Verdict.the-variants.{Accepted}
 use Rattle.call_steps.specs.Refusals.{planRefusal}
 use Rattle.held_tree.specs.declared.laid.Laid.{Laid}
-use Rattle.rounds.specs.declared.kept.Kept.{Kept}
-use Rattle.rounds.specs.Rounds.{under, isClosed, keptAfter, kept, deepSummary, deepTour}
-use Rattle.rounds.specs.Laws.Tables.{plan-accepted}
-use Rattle.rounds.specs.Laws.Made.{is-kept-after}
+use Rattle.round_rule.specs.declared.kept.Kept.{Kept}
+use Rattle.round_rule.specs.Rounds.{under, isClosed, keptAfter, kept, deepSummary, deepTour}
+use Rattle.round_rule.specs.Laws.Tables.{plan-accepted}
+use Rattle.rounds.specs.Laws.Round.{is-kept-after}
 use Rattle.deep_call.specs.Contract.{IsDeep}
 use Rattle.deep_call.specs.Laws.Answer.{is-deep}
 

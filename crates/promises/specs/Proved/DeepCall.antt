@@ -6,7 +6,7 @@ use Prim.Native.Nat.{ℕ}
 use Rattle.postman.specs.Refusal.{unless}
 use Rattle.postman.specs.PlanFile.{planOf}
 use Rattle.tour_legs.specs.Tour.{written}
-use Rattle.rounds.specs.Rounds.{deepTour}
+use Rattle.round_rule.specs.Rounds.{deepTour}
 use Rattle.deep_call.specs.Contract.{IsDeepAnswer}
 use Rattle.deep_call.specs.Laws.Theorem.{one-round, beyond-plan-call, more-rounds, passes-the-judge}
 use Rattle.promises.specs.Demands.{Accepted}

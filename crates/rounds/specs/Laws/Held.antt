@@ -1,92 +1,84 @@
--- What a round begins with is the best of the trees before its own, and what it leaves is held again.
-use mathlib.Core.Path.{_≡_, refl, sym, ap, _∙_, subst, subst⁻¹}
-use mathlib.Core.Logic.{_≢_}
+-- What a round asks holds of what is kept, and the tree that it leaves is held again.
+use mathlib.Core.Path.{_≡_, refl, ap, _∙_, subst⁻¹}
 use mathlib.Core.Bool.{Bool, true, false, cond}
 use mathlib.Core.List.{List}
-use Prim.Native.Nat.{ℕ, _+_, _-_, _%_, _≤_}
-use native.Mathlib.Decide.{ℕ-discrete}
+use Prim.Native.Nat.{ℕ, _+_, _-_, _≤_, _<_}
+use native.Mathlib.Decide.{decLt}
 use native.Mathlib.Omega.{arith}
-use borrow.Author.Tests.{eq-eqb, ne-eqb}
-use lib.Dec.{leb}
+use lib.Dec.{T, leb, ltb, ltb→lt}
 use lib.IntN.{ℤ}
 use lib.Signed.{ltZ}
 use Rattle.postman.specs.Plan.{Plan}
 use Rattle.postman.specs.Component.{componentCount}
-use Rattle.postman.specs.PlanCall.{triedCount}
+use Rattle.postman.specs.PlanCall.{bestCost}
 use Rattle.postman.specs.Laws.Tests.{cond-ind}
 use Rattle.postman.specs.Steps.{Plannable}
 use Rattle.branches.specs.Links.{linksIn}
 use Rattle.multipliers.specs.Tour.{driveOf, tourOf}
-use Rattle.renumbering.specs.declared.shuffle.Drawn.{Drawn}
-use Rattle.renumbering.specs.Numbering.{unchanged}
-use Rattle.renumbering.specs.Shuffle.{shuffled}
-use Rattle.renumbering.specs.Laws.Shuffle.{shuffled-numbering}
 use Rattle.tree_search.specs.declared.trees.Reached.{Reached}
+use Rattle.tree_search.specs.Laws.BestTree.{cost-small}
 use Rattle.held_tree.specs.declared.found.Found.{Found}
-use Rattle.held_tree.specs.Found.{IsBest, IsFound, CanGoOn}
-use Rattle.held_tree.specs.Laws.Found.{later, first}
-use Rattle.rounds.specs.declared.kept.Kept.{Kept}
+use Rattle.held_tree.specs.Found.{IsBest, IsFound}
+use Rattle.tree_search.specs.Improved.{CanImprove}
+use Rattle.held_tree.specs.Cheaper.{IsCheaper}
+use Rattle.round_rule.specs.declared.kept.Kept.{Kept}
+use Rattle.round_rule.specs.declared.trial.Trial.{Trial}
+use Rattle.round_rule.specs.declared.trial.Chosen.{Chosen}
+use Rattle.round_rule.specs.Rounds.{under, costOf, begun, withDrive, withFloor, withBase, counted, isGoneOn, goneOn, exchangedBy, nextRound, keptAfter}
+use Rattle.round_rule.specs.Trial.{IsTrial, GoesOn}
+use Rattle.round_rule.specs.Laws.Tables.{under-few, under-plannable}
+use Rattle.round_rule.specs.Laws.Kept.{under-unchanged, chosen-trial}
+use Rattle.round_rule.specs.Laws.Driven.{whole-least}
 use Rattle.rounds.specs.declared.round.Deep.{Deep}
-use Rattle.rounds.specs.declared.trial.Trial.{Trial}
-use Rattle.rounds.specs.declared.trial.Chosen.{Chosen}
-use Rattle.rounds.specs.Rounds.{under, begun, withDrive, withFloor, withBase, counted, goneOn, numbersOf, exchangedBy, nextRound, keptAfter}
-use Rattle.rounds.specs.Tabled.{IsTrial, GoesOn}
-use Rattle.rounds.specs.Held.{IsHeld, IsBefore}
-use Rattle.rounds.specs.Laws.Tables.{under-plannable}
-use Rattle.rounds.specs.Laws.Kept.{under-unchanged, numbers-kept, chosen-trial}
+use Rattle.rounds.specs.Held.{IsHeld}
 
-none-tried : (q : Plan) (budget : ℕ) → 0 ≡ triedCount q (budget - budget)
-unfolding triedCount
-none-tried q budget = omega arith
+-- ---- what a round asks
 
--- ---- what a round begins with
+module _ (p : Plan) (ok : Plannable p) (few : componentCount p ≤ 8) (budget round : ℕ) (some-trees : 1 ≤ budget) (low : budget ≤ 1000000)
+    (k : Kept) (on : GoesOn p k) where
+  -- the trees before its own: none, or those of the search that is kept, of which none costs less
+  abbrev Before : Chosen → Type 0
+  Before c = (budget ≤ c .trial .tries)
+      × (1 ≤ c .trial .tries - budget → k .cost ≤ bestCost (under p (c .trial .numbering)) (c .trial .tries - budget))
 
-module _ (p : Plan) (ok : Plannable p) (budget round : ℕ) (some-trees : 1 ≤ budget) (low : budget ≤ 1000000) (k : Kept) (on : GoesOn p k)
-    (held g : Reached)
-    (best : IsBest (under p (k .base .numbering)) (k .base .tries) held) (b : IsBefore round held g) where
-  abbrev pub Begins : Chosen → Type 0
-  Begins c = (g .tried ≡ triedCount (under p (c .trial .numbering)) (c .trial .tries - budget))
-      × CanGoOn (under p (c .trial .numbering)) (c .trial .tries) g
-
-  on-begins : round % 2 ≡ 0 → Begins (goneOn budget k)
-  unfolding goneOn
-  on-begins e =
-      let q = under p (k .base .numbering) in
+  before : Before (nextRound p budget round k)
+  unfolding nextRound goneOn exchangedBy
+  before =
+      cond-ind (isGoneOn round (k .left)) (goneOn budget k) (exchangedBy p budget k) Before
+      (λ t.
       let m = k .base .tries in
-      let few = on .few-tries in
-      let same : m ≡ m + budget - budget = omega arith in
-      let h = subst⁻¹ (IsBest q m) (b .0 e) best in (
-        h .tried-is
-            ∙ ap (triedCount q) same,
-        later q (under-plannable p ok (k .base .numbering) (on .numbering)) m (m + budget) g h (omega arith) (omega arith) (omega arith),
-      )
+      let e : m + budget - budget ≡ m = omega arith in
+      (omega arith, λ o. subst⁻¹ (λ n. k .cost ≤ bestCost (under p (k .base .numbering)) n) e (on .least)))
+      (λ t. (omega arith, λ o. absurd (omega arith)))
 
-  anew-begins : round % 2 ≢ 0 → Begins (exchangedBy p budget k)
-  unfolding exchangedBy
-  anew-begins n =
-      let d : Drawn = record { numbering = numbersOf k; random = k .random } in
-      let y = shuffled (p .n) d 2 .numbering in
-      let h = shuffled-numbering (p .n) (ok .well-formed .some-vertex) (ok .well-formed .vertices) d 2
-      (numbers-kept (p .n) k (on .numbering) (on .drive-numbering)) in
-      (b .1 n ∙ none-tried (under p y) budget, first (under p y) (under-plannable p ok y h) budget g (b .1 n) some-trees (omega arith))
+  pub cost-low : k .cost ≤ 1131527310
+  cost-low =
+      let x = k .drive in
+      let h = on .drive in
+      let e = on .cost-is in
+      let l = cost-small (under p (x .numbering)) (under-plannable p ok (x .numbering) (h .numbers))
+      (under-few p (ok .well-formed) (x .numbering) (h .numbers) few) (x .tries) (h .some-tries) in
+      omega arith
 
-  goes : round % 2 ≡ 0 → nextRound p budget round k ≡ goneOn budget k
-  unfolding nextRound
-  goes e = let t = eq-eqb (round % 2) 0 e in rw t refl
-
-  anew : round % 2 ≢ 0 → nextRound p budget round k ≡ exchangedBy p budget k
-  unfolding nextRound
-  anew n = let t = ne-eqb (round % 2) 0 n in rw t refl
-
-  begins : Begins (nextRound p budget round k)
-  begins = elim
-      (ℕ-discrete (round % 2) 0) [ yes e ↦ subst⁻¹ Begins (goes e) (on-begins e) | no n ↦ subst⁻¹ Begins (anew n) (anew-begins n) ]
-
-  pub chosen-begins : (c : Chosen) → c ≡ nextRound p budget round k → Begins c × IsTrial p (c .trial)
-  chosen-begins c e =
-      let t = chosen-trial p (ok .well-formed) budget some-trees low round k (on .numbering) (on .drive-numbering)
+  pub round-asks : (c : Chosen) → c ≡ nextRound p budget round k → (budget ≤ c .trial .tries) × IsTrial p (c .trial)
+      × CanImprove (under p (c .trial .numbering)) (k .cost) (c .trial .tries - budget) (c .trial .tries)
+  round-asks c e =
+      let n = chosen-trial p (ok .well-formed) budget some-trees low round k (on .numbering) (on .drive .numbers)
       (on .random-in) 999000000 (omega arith) (on .few-tries) in
-      subst⁻¹ (λ (c : Chosen). Begins c × IsTrial p (c .trial)) e (begins, t .0)
+      let b = subst⁻¹ Before e before in
+      let t = subst⁻¹ (λ (c : Chosen). IsTrial p (c .trial)) e (n .0) in
+      let l = cost-low in (
+        b .0,
+        t,
+        record {
+          some-tries = t .some-tries;
+          few-tries = t .few-tries;
+          within = omega arith;
+          low = omega arith;
+          none-before = b .1;
+          whole-least = λ w. (let a = whole-least p ok few (k .drive) (on .drive) (c .trial) t w in let d = on .cost-is in omega arith);
+        },
+      )
 
 -- ---- what it leaves
 
@@ -94,32 +86,31 @@ abbrev BestOf : Plan → Trial → Reached → Type 0
 BestOf p x g = IsBest (under p (x .numbering)) (x .tries) g
 
 module _ (x : Trial) (k : Kept) where
-  floor-left : (f : ℤ) (u : List ℤ)
-      → (withFloor x f u k .drive ≡ k .drive) × (withFloor x f u k .base ≡ k .base) × (withFloor x f u k .left ≡ k .left)
+  floor-drive : (f : ℤ) (u : List ℤ) → withFloor x f u k .drive ≡ k .drive
   unfolding withFloor
-  floor-left f u =
-      cond-ind (ltZ (k .floor) f) _ k (λ m. (m .drive ≡ k .drive) × (m .base ≡ k .base) × (m .left ≡ k .left)) (λ t. (refl, refl, refl))
-      (λ t. (refl, refl, refl))
+  floor-drive f u = cond-ind (ltZ (k .floor) f) _ k (λ m. m .drive ≡ k .drive) (λ t. refl) (λ t. refl)
 
-  drive-left : (cost : ℕ) → (withDrive x cost k .base ≡ k .base) × (withDrive x cost k .left ≡ k .left)
-  unfolding withDrive
-  drive-left cost =
-      cond-ind (leb cost (k .cost)) _ k (λ m. (m .base ≡ k .base) × (m .left ≡ k .left)) (λ t. (refl, refl)) (λ t. (refl, refl))
-
-  base-left : (left : ℕ) → withBase x left k .drive ≡ k .drive
+  base-drive : (left : ℕ) → withBase x left k .drive ≡ k .drive
   unfolding withBase
-  base-left left = cond-ind (leb left (k .left)) _ k (λ m. m .drive ≡ k .drive) (λ t. refl) (λ t. refl)
+  base-drive left = cond-ind (leb left (k .left)) _ k (λ m. m .drive ≡ k .drive) (λ t. refl) (λ t. refl)
 
-module _ (p : Plan) (x : Trial) (new old : Reached) (h : BestOf p x new) (k : Kept) where
-  drive-best : (cost : ℕ) → BestOf p (k .drive) old → BestOf p (withDrive x cost k .drive) (cond (leb cost (k .cost)) new old)
+module _ (p : Plan) (x : Trial) (k : Kept) (a : Found) (i : IsCheaper (under p (x .numbering)) (k .cost) (x .tries) a) where
+  is-best : a .best .cost < k .cost → BestOf p x (a .best)
+  is-best l = elim (decLt (costOf p x) (k .cost)) [
+    | yes m ↦ i .cheaper m
+    | no m ↦ (let e = i .none-cheaper (omega arith) in absurd (omega arith))
+  ]
+
+  drive-best : (old : Reached) → BestOf p (k .drive) old
+      → BestOf p (withDrive x (a .best .cost) k .drive) (cond (ltb (a .best .cost) (k .cost)) (a .best) old)
   unfolding withDrive
-  drive-best cost g = at (leb cost (k .cost))
+  drive-best old g = at (ltb (a .best .cost) (k .cost)) (λ t. is-best (ltb→lt (a .best .cost) (k .cost) t))
     where
-      at : (t : Bool)
+      at : (t : Bool) → (T t → BestOf p x (a .best))
           → BestOf p (cond t
           (record {
             drive = x;
-            cost = cost;
+            cost = a .best .cost;
             bound = k .bound;
             floor = k .floor;
             multipliers = k .multipliers;
@@ -127,54 +118,22 @@ module _ (p : Plan) (x : Trial) (new old : Reached) (h : BestOf p x new) (k : Ke
             left = k .left;
             trees = k .trees;
             random = k .random;
-          }) k .drive) (cond t new old)
-      at true = h
-      at false = g
+          }) k .drive) (cond t (a .best) old)
+      at true h = h tt
+      at false h = g
 
-  base-best : (left : ℕ) → BestOf p (k .base) old → BestOf p (withBase x left k .base) (cond (leb left (k .left)) new old)
-  unfolding withBase
-  base-best left g = at (leb left (k .left))
-    where
-      at : (t : Bool)
-          → BestOf p (cond t
-          (record {
-            drive = k .drive;
-            cost = k .cost;
-            bound = k .bound;
-            floor = k .floor;
-            multipliers = k .multipliers;
-            base = x;
-            left = left;
-            trees = k .trees;
-            random = k .random;
-          }) k .base) (cond t new old)
-      at true = h
-      at false = g
-
-pub next-held : (p : Plan) (d r : Deep) (x : Trial) (a : Found) (cost left trees random : ℕ) (f : ℤ) (u : List ℤ) → IsHeld p d
-    → IsFound (under p (x .numbering)) (x .tries) a
-    → r .kept ≡ counted trees random (withBase x left (withFloor x f u (withDrive x cost (d .kept))))
-    → r .base ≡ cond (leb left (d .kept .left)) (a .best) (d .base) → r .drive ≡ cond (leb cost (d .kept .cost)) (a .best) (d .drive)
-    → IsHeld p r
+pub next-held : (p : Plan) (d r : Deep) (x : Trial) (a : Found) (left trees random : ℕ) (f : ℤ) (u : List ℤ) → IsHeld p d
+    → IsCheaper (under p (x .numbering)) (d .kept .cost) (x .tries) a
+    → r .kept ≡ counted trees random (withBase x left (withFloor x f u (withDrive x (a .best .cost) (d .kept))))
+    → r .drive ≡ cond (ltb (a .best .cost) (d .kept .cost)) (a .best) (d .drive) → IsHeld p r
 unfolding counted
-next-held p d r x a cost left trees random f u h i ek eb ed =
+next-held p d r x a left trees random f u h i ek ed =
     let k = d .kept in
-    let m = withDrive x cost k in
+    let m = withDrive x (a .best .cost) k in
     let n = withFloor x f u m in
-    let s = floor-left x m f u in
-    let t = drive-left x k cost in
-    let same : n .left ≡ k .left = s .2 ∙ t .1 in
-    let b = base-best p x (a .best) (d .base) (i .best-is) n left
-    (subst⁻¹ (λ (y : Trial). BestOf p y (d .base)) (s .1 ∙ t .0) (h .base-is)) in
-    let b′ = subst (λ l. BestOf p (withBase x left n .base) (cond (leb left l) (a .best) (d .base))) same b in
-    let e = drive-best p x (a .best) (d .drive) (i .best-is) k cost (h .drive-is) in
-    let e′ = subst⁻¹ (λ (y : Trial). BestOf p y (cond (leb cost (k .cost)) (a .best) (d .drive))) (base-left x n left ∙ s .0) e in
-    record {
-      base-is = subst⁻¹ (λ (g : Reached). BestOf p (r .kept .base) g) eb
-          (subst⁻¹ (λ (k′ : Kept). BestOf p (k′ .base) (cond (leb left (k .left)) (a .best) (d .base))) ek b′);
-      drive-is = subst⁻¹ (λ (g : Reached). BestOf p (r .kept .drive) g) ed
-          (subst⁻¹ (λ (k′ : Kept). BestOf p (k′ .drive) (cond (leb cost (k .cost)) (a .best) (d .drive))) ek e′);
-    }
+    let e : r .kept .drive ≡ m .drive = ap (λ (k : Kept). k .drive) ek ∙ base-drive x n left ∙ floor-drive x m f u in
+    subst⁻¹ (λ (y : Trial). BestOf p y (r .drive)) e
+    (subst⁻¹ (λ (g : Reached). BestOf p (m .drive) g) ed (drive-best p x k a i (d .drive) h))
 
 -- ---- the drive that is laid
 
@@ -186,12 +145,9 @@ laid-as q r tries g e h =
 
 -- ---- the first round
 
-pub first-held : (p : Plan) (budget : ℕ) (r : Deep) (a : Found) → IsFound p budget a → r .kept ≡ keptAfter p budget 0 → r .base ≡ a .best
-    → r .drive ≡ a .best → IsHeld p r
+pub first-held : (p : Plan) (budget : ℕ) (r : Deep) (a : Found) → IsFound p budget a → r .kept ≡ keptAfter p budget 0 → r .drive ≡ a .best
+    → IsHeld p r
 unfolding keptAfter begun
-first-held p budget r a i ek eb ed =
+first-held p budget r a i ek ed =
     let h = subst⁻¹ (λ (q : Plan). IsBest q budget (a .best)) (under-unchanged p) (i .best-is) in
-    record {
-      base-is = subst⁻¹ (λ (g : Reached). BestOf p (r .kept .base) g) eb (subst⁻¹ (λ (k : Kept). BestOf p (k .base) (a .best)) ek h);
-      drive-is = subst⁻¹ (λ (g : Reached). BestOf p (r .kept .drive) g) ed (subst⁻¹ (λ (k : Kept). BestOf p (k .drive) (a .best)) ek h);
-    }
+    subst⁻¹ (λ (g : Reached). BestOf p (r .kept .drive) g) ed (subst⁻¹ (λ (k : Kept). BestOf p (k .drive) (a .best)) ek h)

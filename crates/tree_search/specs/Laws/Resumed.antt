@@ -70,6 +70,10 @@ pub tried-within : (p : Plan) (budget : ℕ) → triedCount p budget ≤ budget
 unfolding triedCount
 tried-within p budget = omega arith
 
+pub tried-grows : (p : Plan) (m n : ℕ) → m ≤ n → triedCount p m ≤ triedCount p n
+unfolding triedCount
+tried-grows p m n l = omega arith
+
 some-of : (m : ℕ) → (m ≡ 0 → ⊥) → 1 ≤ m
 some-of m o = omega (arith, o)
 

@@ -3,7 +3,7 @@ use native.Mathlib.Omega.{arith}
 use mathlib.Core.Path.{_≡_}
 use mir.Val.{toZ, ofZ}
 use mir.Syntax.{w64}
-use Rattle.rounds.specs.Laws.Made.{cost-fits, kept-trial}
+use Rattle.rounds.specs.Laws.Round.{cost-fits, kept-trial}
 use Rattle.deep_call.specs.Laws.Laid.{laid-best}
 use borrow.Author.Needs.{needs}
 use Rattle.deep_call.proofs.call.lay_best.Statement.{statement}
@@ -13,7 +13,7 @@ lay-under-requires : tie.Need-lay-under-requires
 lay-under-requires c κs = let s = c .before .before .before .before .before in
     let t = s .pre .0 in
     let b = s .pre .1 in
-    (t .0, t .1, kept-trial _ (t .0 .well-formed) (t .1) _ (b .0) (b .1) _ _ (omega arith) (t .2), t .3 .drive-is, t .4)
+    (t .0, t .1, kept-trial _ (t .0 .well-formed) (t .1) _ (b .0) (b .1) _ _ (omega arith) (t .2), t .3, t .4)
 
 closed-requires : tie.Need-closed-requires
 closed-requires c κs = let s = c .before .before .before .before .before .before .before .before .before .before in

@@ -3,14 +3,14 @@ use mir.Val.{toZ, ofZ}
 use mir.Syntax.{w64}
 use mathlib.Core.Path.{_≡_, ap, _∙_, subst⁻¹}
 use native.Mathlib.Omega.{arith}
-use Rattle.rounds.specs.Tabled.{GoesOn}
+use Rattle.round_rule.specs.Trial.{GoesOn}
 use Rattle.rounds.specs.Held.{IsHeld}
-use Rattle.rounds.specs.Laws.Tables.{plan-accepted}
-use Rattle.rounds.specs.Laws.Kept.{goes-on}
-use Rattle.rounds.specs.Laws.Made.{closed-as, deeper, ended, cost-fits}
+use Rattle.round_rule.specs.Laws.Tables.{plan-accepted}
+use Rattle.round_rule.specs.Laws.Kept.{goes-on}
+use Rattle.rounds.specs.Laws.Round.{closed-as, deeper, ended, cost-fits}
 use Prim.Native.Nat.{_-_, _≤_}
 use Rattle.plan.specs.Records.{planValue}
-use Rattle.rounds.specs.Rounds.{keptAfter}
+use Rattle.round_rule.specs.Rounds.{keptAfter}
 use borrow.Author.Needs.{needs}
 use Rattle.rounds.proofs.round.deepen.Statement.{statement}
 use Rattle.rounds.proofs.round.deepen.Tie as tie

@@ -2,8 +2,8 @@
 use mathlib.Core.Path.{refl}
 use native.Mathlib.Omega.{arith}
 use Rattle.held_tree.specs.Laws.Found.{first}
-use Rattle.rounds.specs.Laws.Tables.{plan-accepted}
-use Rattle.rounds.specs.Laws.Made.{first-kept}
+use Rattle.round_rule.specs.Laws.Tables.{plan-accepted}
+use Rattle.rounds.specs.Laws.Round.{first-kept}
 use Rattle.rounds.specs.Laws.Held.{first-held}
 use borrow.Author.Needs.{needs}
 use Rattle.rounds.proofs.round.first_round.Statement.{statement}
@@ -19,7 +19,7 @@ returns : tie.Need-returns
 returns c =
     let a = c .before .before .found-tabled in
     let e = first-kept _ _ (a .result) _ (a .ensures) (c .begin .ensures) in
-    (e, first-held _ _ _ (a .result) (a .ensures) e refl refl)
+    (e, first-held _ _ _ (a .result) (a .ensures) e refl)
 
 pub first-round-spec : {M : Type 1} → statement M
 first-round-spec = tie.close (tie.spec (λ c κs. search needs) found-tabled-requires (λ c κs. search needs) returns)

@@ -14,7 +14,7 @@ use Rattle.multipliers.specs.Laws.Table.{rows}
 use Rattle.call_steps.specs.Refusals.{planRefusal}
 use Rattle.tree_search.specs.Resumed.{HoldsTree}
 use Rattle.held_tree.specs.Laws.Found.{best-holds}
-use Rattle.rounds.specs.Laws.Tables.{plan-accepted, inside-from, under-well-formed, under-refusal, under-few, under-table, under-weights, under-plannable}
+use Rattle.round_rule.specs.Laws.Tables.{plan-accepted, inside-from, under-well-formed, under-refusal, under-few, under-table, under-weights, under-plannable}
 use Rattle.rounds.specs.Laws.Held.{laid-as}
 use borrow.Author.Needs.{needs}
 use Rattle.rounds.proofs.under.lay_under.Statement.{statement}

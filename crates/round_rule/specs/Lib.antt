@@ -1,0 +1,5 @@
+-- The rounds, and what is kept of them.
+pub mod Rounds
+pub mod Trial
+-- What is proved about them.
+pub mod Laws
