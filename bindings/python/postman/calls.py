@@ -39,10 +39,10 @@ def plan_call(file: File, budget: int) -> Answer:
 def deep_call(file: File, budget: int, rounds: int) -> Answer:
     """Lays a drive by rounds of the plan call, from 1 to 1,000: the cheapest drive and the highest floor of them.
 
-    Some rounds go on where the fewest trees are left, with `budget` more, every second where few are, and all others
-    after the first number the vertices anew. It ends as soon as floor and cost meet, which `whole` says; `trees` are those of all rounds. Never
-    dearer, and its floor never lower, than `plan_call` with that budget; more rounds are never worse. Refuses with 1 to
-    7, 9 to 13 and 23.
+    Some rounds go on where the fewest trees are left, with `budget` more; all others after the first number the
+    vertices anew. It ends as soon as floor and cost meet, which `whole` says; `trees` are those of all rounds. Never
+    dearer, and its floor never lower, than `plan_call` with that budget; more rounds are never worse. Refuses with 1
+    to 7, 9 to 13 and 23.
 
     >>> answer = deep_call(bytes.fromhex("10402001400141000003"), 10_000, 100)
     >>> answer.drive, answer.cost, answer.floor, answer.whole
