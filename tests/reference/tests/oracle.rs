@@ -1,15 +1,14 @@
-//! The oracle is held to document 01's numbers, and its algorithms to plainer ones. Nothing here asks the library, so it runs without.
-#![cfg(not(feature = "proved"))]
+//! The oracle is held to document 01's numbers, and its algorithms to plainer ones.
 
-use postman_tests::instances::{checked, many_paths, random_plan, Shape};
-use postman_tests::oracle::*;
-use postman_tests::plan::{Arc, Plan, CLOSED, LONGEST_FILE, MOST_VERTICES, OPTIONAL, REQUIRED, SHEET_PLACES};
-use postman_tests::planner::Planner;
-use postman_tests::random::Random;
-use postman_tests::suite::{
+use reference::instances::{checked, many_paths, random_plan, Shape};
+use reference::oracle::*;
+use reference::plan::{Arc, Plan, CLOSED, LONGEST_FILE, MOST_VERTICES, OPTIONAL, REQUIRED, SHEET_PLACES};
+use reference::planner::Planner;
+use reference::random::Random;
+use reference::suite::{
     case_a, case_b, case_c, funnels, matrices, refused_files, spelt_files, tables, FILE_A, FILE_A_CHECKED,
 };
-use postman_tests::yardstick::{cheapest_arborescence, Entries, Yardstick};
+use reference::yardstick::{cheapest_arborescence, Entries, Yardstick};
 
 const SEED: u64 = 70_000;
 
