@@ -1,20 +1,16 @@
-//! Tests and benchmarks of the survey drive's planner, from Rust.
-//!
-//! [`planner`] says what a planner is; [`yardstick`] is one, [`oracle`] knows what every planner has to answer,
-//! [`properties`] compares the two on [`instances`].
+//! Tests and benchmarks of the survey drive's planner, from Rust: the [`reference`], and the library behind its traits.
 
-// Loops over vertices read best with the vertex as index.
-#![allow(clippy::needless_range_loop)]
+#[cfg(feature = "proved")]
+mod proved;
 
-pub mod instances;
-pub mod mutants;
-pub mod oracle;
-pub mod plan;
-pub mod planner;
-pub mod properties;
-pub mod random;
-pub mod suite;
-pub mod yardstick;
+pub use reference::{instances, mutants, oracle, plan, properties, random, suite, yardstick};
+
+/// What a planner is, and the library as one, if it is linked.
+pub mod planner {
+    #[cfg(feature = "proved")]
+    pub use crate::proved::Proved;
+    pub use reference::planner::*;
+}
 
 // The examples of the documents are run with the other examples in documentation.
 #[cfg(all(doctest, feature = "proved"))]

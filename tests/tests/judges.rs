@@ -5,7 +5,7 @@ use postman_tests::plan::SHEET_PLACES;
 use postman_tests::planner::{refusal, Car, CarsCall, Judge, Planner};
 use postman_tests::properties::Findings;
 use postman_tests::random::setting;
-use postman_tests::{suite, yardstick::Yardstick};
+use postman_tests::suite;
 
 fn seed() -> u64 {
     setting("SEED", 90_000)
@@ -65,7 +65,8 @@ macro_rules! held_to_all {
     };
 }
 
-held_to_all!(yardstick, Yardstick);
+#[cfg(not(feature = "proved"))]
+held_to_all!(yardstick, postman_tests::yardstick::Yardstick);
 #[cfg(feature = "proved")]
 held_to_all!(proved, postman_tests::planner::Proved);
 

@@ -206,10 +206,12 @@ macro_rules! held_to_all {
     };
 }
 
+#[cfg(not(feature = "proved"))]
 held_to_all!(yardstick, Yardstick);
 #[cfg(feature = "proved")]
 held_to_all!(proved, postman_tests::planner::Proved);
 
+#[cfg(not(feature = "proved"))]
 #[test]
 fn yardstick_in_rounds() {
     deep("yardstick in rounds", &Yardstick, &Yardstick);

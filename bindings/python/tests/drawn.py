@@ -1,4 +1,4 @@
-"""Towns drawn by the rules of tests/src/instances/drawn.rs.
+"""Towns drawn by the rules of tests/reference/src/instances/drawn.rs.
 
 `python3 drawn.py FOLDER COUNT [SEED]` writes so many as plan files, from this seed on.
 """
@@ -17,7 +17,7 @@ BITS = 2**64 - 1
 
 
 class Random:
-    """SplitMix64 (Steele, Lea, Flood), as tests/src/random.rs has it."""
+    """SplitMix64 (Steele, Lea, Flood), as tests/reference/src/random.rs has it."""
 
     def __init__(self, seed: int) -> None:
         self.state = seed

@@ -3,10 +3,12 @@
 //! The planners take turns. A time is the processor's, not the clock's, so that other work on the machine counts little, and it is the least of several
 //! runs; beside it stands how far the slowest run was above it, which is the machine's noise. The sheet is cleared before each run, outside the time.
 
-use postman_tests::instances::{adverse_ring, crossing, even, fullest, joined, longest, towns};
+use postman_tests::instances::{adverse_ring, checked, crossing, even, fullest, joined, longest, towns};
 use postman_tests::oracle::{count_trees, file_of, own_marks, parse, Graph};
 use postman_tests::plan::{Arc, Plan, MOST_PAIRS, MOST_PLACES, REQUIRED, SHEET_PLACES};
-use postman_tests::planner::{Answer, Car, CarsCall, Codec, Counter, DistanceCall, Judge, Planner};
+use postman_tests::planner::{
+    Answer, Call, Car, CarsCall, Change, Codec, Counter, DistanceCall, Editor, Judge, Planner,
+};
 use postman_tests::yardstick::{Counting, Yardstick};
 use std::time::{Duration, Instant};
 
@@ -122,14 +124,44 @@ fn counts() {
     }
 }
 
-/// The whole plan call on the plan of the longest drive: one tree, so that what is not fixed is the writing.
-fn longest_drive(planners: &[(&str, Box<dyn Planner>)]) {
-    let file = file_of(&longest());
+/// A ring of which one arc is a must arc.
+fn ring_of_one() -> Plan {
+    let mut ring = adverse_ring();
+    let Arc { tail, head, cost, .. } = ring.arcs[0];
+    ring.arcs[0] = Arc::new(tail.into(), head.into(), REQUIRED, cost);
+    ring
+}
+
+/// The whole plan call at one tree: what it does whatever the number of trees.
+fn one_tree(planners: &[(&str, Box<dyn Planner>)]) {
     let mut sheet = vec![0; SHEET_PLACES];
-    for (name, planner) in planners {
-        let mut places = 0;
-        let time = microseconds(|| places = planner.plan_call(&file, 1, &mut sheet).expect("a good plan").places);
-        println!("a drive of {places} places: {name:<10} {:>6.2} ms", time / 1e3);
+    for (plan_name, plan) in towns().into_iter().chain([("the longest drive", longest()), ("a ring", ring_of_one())]) {
+        let file = file_of(&plan);
+        for (name, planner) in planners {
+            let mut places = 0;
+            let time = microseconds(|| places = planner.plan_call(&file, 1, &mut sheet).expect("a good plan").places);
+            println!("{plan_name} at one tree, {places} places: {name:<10} {time:>7.1} µs");
+        }
+    }
+}
+
+/// An open plan of 256 arcs in both editions: opening it, a change, a mark and a return.
+fn open_plans() {
+    let editors: Vec<(&str, Box<dyn Editor>)> = vec![
+        ("yardstick", Box::new(Yardstick)),
+        #[cfg(feature = "proved")]
+        ("proved", Box::new(postman_tests::planner::Proved)),
+    ];
+    for plan in [fullest(), checked(fullest(), |_, cost| cost)] {
+        let (edition, file) = (plan.edition, file_of(&plan));
+        for (name, editor) in &editors {
+            let opening = microseconds(|| assert!(editor.open(&file).is_ok()));
+            let mut open = editor.open(&file).expect("a good plan");
+            let mut time = |call| microseconds(|| assert_eq!(open.call(call), Ok(())));
+            let change = time(Call::Change(Change { arc: 255, cost: 1, checking: 1, standing: REQUIRED }));
+            let (mark, back) = (time(Call::Mark(0)), time(Call::Return(0)));
+            println!("an open plan in edition {edition}: opened {opening:.1} µs, a change {change:.1}, a mark {mark:.1}, a return {back:.1}: {name}");
+        }
     }
 }
 
@@ -165,10 +197,7 @@ fn cars() {
         ("proved", Box::new(postman_tests::planner::Proved)),
     ];
     let (mut sheet, mut other) = (vec![0; SHEET_PLACES], vec![0; SHEET_PLACES]);
-    let mut ring = adverse_ring();
-    let Arc { tail, head, cost, .. } = ring.arcs[0];
-    ring.arcs[0] = Arc::new(tail.into(), head.into(), REQUIRED, cost);
-    for (plan_name, plan) in towns().into_iter().chain([("a ring, one must arc", ring)]) {
+    for (plan_name, plan) in towns().into_iter().chain([("a ring, one must arc", ring_of_one())]) {
         let (file, marks) = (file_of(&plan), own_marks(&plan));
         for ((name, call), (_, planner)) in calls.iter().zip(planners()) {
             let both = microseconds(|| {
@@ -287,7 +316,8 @@ fn main() {
         counts();
         judging();
         cars();
-        longest_drive(&planners());
+        one_tree(&planners());
+        open_plans();
         #[cfg(feature = "proved")]
         towns.iter().chain(&slow_plans()).for_each(|(name, plan)| turns(name, plan));
     }

@@ -2,13 +2,13 @@
 
 mod districts;
 
-use super::{
+use crate::planner::{
     Answer, Call, Car, CarsAnswer, CarsCall, Change, Codec, Counter, DeepCall, DepartureCall, DistanceCall, Editor,
     Judge, OpenPlan, Planner, Refusal, TreeCount,
 };
-use crate::plan::{Arc, Departure, MOST_VERTICES};
 use postman::limits::{ANSWER_WORDS, OPEN_BYTES, RECORD_BYTES};
 use postman::raw;
+use reference::plan::{Arc, Departure, MOST_VERTICES};
 
 /// The proved library.
 #[derive(Clone, Copy, Default, Debug)]
@@ -155,46 +155,5 @@ impl OpenPlan for Open {
 impl Judge for Proved {
     fn judge(&self, plan: &[u8], places: &[u16]) -> Result<u64, Refusal> {
         raw::judge(plan, places).map_err(postman::Refusal::number)
-    }
-}
-
-#[cfg(test)]
-mod tests {
-    use super::*;
-    use crate::plan::LONGEST_FILE;
-
-    /// What `Proved` lends on its own account are lent slices too: a refusal changes none.
-    #[test]
-    fn refusals_keep_what_is_lent() {
-        let mut sheet = [0xA5A5; 9];
-        let mut answer = [0xA5A5_A5A5_A5A5_A5A5; ANSWER_WORDS];
-        let mut multipliers = [-0x5A5A_5A5A; MOST_VERTICES];
-        let mut record = [0xA5; RECORD_BYTES];
-        let mut bytes = [0xA5; LONGEST_FILE];
-        let file = [0x30, 0x40, 0x20]; // edition 3
-        let edition = postman::Refusal::Edition;
-        assert_eq!(raw::plan_call(&file, 1, &mut sheet, &mut answer, &mut multipliers), Err(edition));
-        assert_eq!(raw::deep_call(&file, 1, 1, &mut sheet, &mut answer, &mut multipliers), Err(edition));
-        assert_eq!(raw::short_call(&file, &mut sheet, &mut answer, &mut multipliers), Err(edition));
-        assert_eq!(raw::read_plan(&file, &mut record), Err(edition));
-        let mut others = (sheet, answer, multipliers);
-        let mut cars = |file: &[u8], budget| {
-            let (marks, sheet, answer, multipliers) = (&[1, 0][..], &mut sheet, &mut answer, &mut multipliers);
-            let first = raw::Car { marks, budget, sheet, answer, multipliers };
-            let (sheet, answer, multipliers) = (&mut others.0, &mut others.1, &mut others.2);
-            raw::two_cars(file, first, raw::Car { marks, budget, sheet, answer, multipliers })
-        };
-        assert_eq!(cars(&file, 1), Err(edition));
-        let short = Err(postman::Refusal::ShortSheet);
-        assert_eq!(cars(&[0x10, 0x40, 0x20, 0x01, 0x40, 0x01, 0x41, 0x00, 0x00, 0x03], 1), Ok([short, short]));
-        assert_eq!(others, (sheet, answer, multipliers));
-        let records = [0, 0, 0, 0, 1, 0, 0];
-        assert_eq!(raw::write_plan(3, 1, &records, &mut bytes), Err(edition));
-        assert_eq!(raw::write_plan(1, 65, &records, &mut bytes), Err(postman::Refusal::Extent));
-        assert_eq!(sheet, [0xA5A5; 9]);
-        assert_eq!(answer, [0xA5A5_A5A5_A5A5_A5A5; ANSWER_WORDS]);
-        assert_eq!(multipliers, [-0x5A5A_5A5A; MOST_VERTICES]);
-        assert_eq!(record, [0xA5; RECORD_BYTES]);
-        assert_eq!(bytes, [0xA5; LONGEST_FILE]);
     }
 }

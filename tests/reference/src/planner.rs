@@ -1,9 +1,9 @@
 //! What a planner is, for the tests: traits over slices, the answer, and the refusals by number.
 //!
-//! With the feature `proved`, `Proved` is the proved library behind these traits, and can stand for `Yardstick` here:
+//! The tests have the proved library behind these traits too, `Proved`, which can stand for `Yardstick` here:
 //!
 //! ```
-//! use postman_tests::{plan::SHEET_PLACES, planner::Planner, yardstick::Yardstick};
+//! use reference::{plan::SHEET_PLACES, planner::Planner, yardstick::Yardstick};
 //!
 //! let file = [0x10, 0x40, 0x20, 0x01, 0x40, 0x01, 0x41, 0x00, 0x00, 0x03];
 //! let mut sheet = vec![0; SHEET_PLACES];
@@ -19,15 +19,11 @@ mod counter;
 mod deep;
 mod districts;
 mod editor;
-#[cfg(feature = "proved")]
-mod proved;
 pub use cars::{Car, CarsAnswer, CarsCall};
 pub use counter::{Counter, TreeCount};
 pub use deep::DeepCall;
 pub use districts::{Districts, Machine, Turn};
 pub use editor::{Call, Change, Editor, OpenPlan};
-#[cfg(feature = "proved")]
-pub use proved::Proved;
 
 /// A refusal, by its number.
 pub type Refusal = u32;

@@ -1,12 +1,12 @@
 //! The test of the tests: every wrong planner is caught by the suite, by the properties that it violates; and every property of the suite
 //! catches some wrong planner.
 
-use postman_tests::instances::Shape;
-use postman_tests::mutants::{cars, codecs, counters, deep, departures, districts, editors, judges, pages, planners};
-use postman_tests::oracle::Effort;
-use postman_tests::properties::{Case, Findings, Property, PROPERTIES};
-use postman_tests::suite;
-use postman_tests::yardstick::Yardstick;
+use reference::instances::Shape;
+use reference::mutants::{cars, codecs, counters, deep, departures, districts, editors, judges, pages, planners};
+use reference::oracle::Effort;
+use reference::properties::{Case, Findings, Property, PROPERTIES};
+use reference::suite;
+use reference::yardstick::Yardstick;
 
 const SEED: u64 = 50_000;
 

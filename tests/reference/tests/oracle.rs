@@ -1,14 +1,14 @@
 //! The oracle is held to document 01's numbers, and its algorithms to plainer ones.
 
-use postman_tests::instances::{checked, many_paths, random_plan, Shape};
-use postman_tests::oracle::*;
-use postman_tests::plan::{Arc, Plan, CLOSED, LONGEST_FILE, MOST_VERTICES, OPTIONAL, REQUIRED, SHEET_PLACES};
-use postman_tests::planner::Planner;
-use postman_tests::random::Random;
-use postman_tests::suite::{
+use reference::instances::{checked, many_paths, random_plan, Shape};
+use reference::oracle::*;
+use reference::plan::{Arc, Plan, CLOSED, LONGEST_FILE, MOST_VERTICES, OPTIONAL, REQUIRED, SHEET_PLACES};
+use reference::planner::Planner;
+use reference::random::Random;
+use reference::suite::{
     case_a, case_b, case_c, funnels, matrices, refused_files, spelt_files, tables, FILE_A, FILE_A_CHECKED,
 };
-use postman_tests::yardstick::{cheapest_arborescence, Entries, Yardstick};
+use reference::yardstick::{cheapest_arborescence, Entries, Yardstick};
 
 const SEED: u64 = 70_000;
 
@@ -291,4 +291,24 @@ fn fewest_paths_are_the_first_of_all() {
         }
     }
     assert!(looked > 10_000 && tied > 2_000, "{tied} of {looked} have several");
+}
+
+/// The numbers that rounds draw, worked out by hand and by another program.
+#[test]
+fn numbers_of_the_first_rounds() {
+    let (own, other) = ([0, 1, 2, 3, 4], [3, 1, 4, 0, 2]);
+    assert_eq!(vertices_of(0, &own), [0, 4, 2, 1, 3]);
+    assert_eq!(vertices_of(2, &other), [3, 4, 1, 0, 2]);
+    assert_eq!(vertices_of(0, &[0]), [0]);
+    let on = |round| {
+        [None, Some(0), Some(100_000_000), Some(100_000_001), Some(1_000_000_000), Some(1 << 32)]
+            .map(|left| goes_on(round, left))
+    };
+    assert_eq!(on(8), [false, true, true, false, false, true]);
+    assert_eq!(on(6), [false, true, true, false, false, false]);
+    assert_eq!(on(3), [false; 6]);
+    let mut third: Vec<usize> = (0..64).collect();
+    [(15, 50), (31, 34), (34, 31), (50, 15)].iter().for_each(|&(number, vertex)| third[number] = vertex);
+    assert_eq!(vertices_of(0, &(0..64).collect::<Vec<usize>>()), third);
+    assert_eq!(drawn(8), 854_716_505);
 }

@@ -36,7 +36,7 @@ mod windows;
 
 pub use balancing::{assignment, greatest_multipliers, Assignment};
 pub use bound::{cheapest_tree, lagrangian_bound};
-pub use deep::{best_of, bounds_by_root, deep_refusal, rounds, vertices_of, with_numbers, Round};
+pub use deep::{best_of, bounds_by_root, deep_refusal, drawn, goes_on, rounds, vertices_of, with_numbers, Round};
 pub use file::{file_of, is_long_enough, parse, read_refusal, write_refusal};
 pub use graph::{judge, Graph, INFINITE};
 pub use history::History;

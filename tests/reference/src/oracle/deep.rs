@@ -36,7 +36,7 @@ pub fn with_numbers(plan: &Plan, vertices: &[usize]) -> Plan {
 }
 
 /// The generator's k-th number: 48,271 to the power of k, modulo 2³¹ − 1.
-fn drawn(k: u32) -> u64 {
+pub fn drawn(k: u32) -> u64 {
     const MODULUS: u64 = (1 << 31) - 1;
     match k {
         0 => 1,
@@ -71,7 +71,7 @@ fn bests(rounds: &[Round]) -> Option<(u64, u64)> {
 }
 
 /// Whether a round goes on with the search of which so many trees, the fewest, are left; none are before the first.
-fn goes_on(round: u32, fewest: Option<u64>) -> bool {
+pub fn goes_on(round: u32, fewest: Option<u64>) -> bool {
     let is_turn = |left| match (left > 100_000_000, left > 1_000_000_000) {
         (false, _) => round.is_multiple_of(2),
         (true, far) => far && round.is_multiple_of(8),
@@ -135,29 +135,4 @@ pub fn bounds_by_root(graph: &Graph, u: &[i64; MOST_VERTICES]) -> Vec<i64> {
         lagrangian_bound(&rooted, &[0; MOST_VERTICES]).max(lagrangian_bound(&rooted, &carried))
     };
     (0..graph.parts).map(bound).collect()
-}
-
-#[cfg(test)]
-mod tests {
-    use super::*;
-
-    /// Worked out by hand and by another program.
-    #[test]
-    fn numbers_of_the_first_rounds() {
-        let (own, other) = ([0, 1, 2, 3, 4], [3, 1, 4, 0, 2]);
-        assert_eq!(vertices_of(0, &own), [0, 4, 2, 1, 3]);
-        assert_eq!(vertices_of(2, &other), [3, 4, 1, 0, 2]);
-        assert_eq!(vertices_of(0, &[0]), [0]);
-        let on = |round| {
-            [None, Some(0), Some(100_000_000), Some(100_000_001), Some(1_000_000_000), Some(1 << 32)]
-                .map(|left| goes_on(round, left))
-        };
-        assert_eq!(on(8), [false, true, true, false, false, true]);
-        assert_eq!(on(6), [false, true, true, false, false, false]);
-        assert_eq!(on(3), [false; 6]);
-        let mut third: Vec<usize> = (0..64).collect();
-        [(15, 50), (31, 34), (34, 31), (50, 15)].iter().for_each(|&(number, vertex)| third[number] = vertex);
-        assert_eq!(vertices_of(0, &(0..64).collect::<Vec<usize>>()), third);
-        assert_eq!(drawn(8), 854_716_505);
-    }
 }
