@@ -1,6 +1,5 @@
 // A tree that costs less than a drive that is known, among so many trees of a plan of which the first have none; and the floor.
 // Steps for other crates, which ask something of their caller.
-use crate::found::Found;
 use plan::Plan;
 use preparation::prepare::Preparation;
 use preparation::prepare::prepare;
@@ -16,6 +15,14 @@ ghost use Rattle.call_steps.specs.Refusals.{planRefusal};
 ghost use Rattle.preparation.specs.Preparation.{IsPreparation};
 ghost use Rattle.tree_search.specs.Improved.{CanImprove};
 ghost use Rattle.held_tree.specs.Cheaper.{IsCheaper};
+
+// The best tree and how many were tried, the floor, the multipliers, and how many trees there are, by a count that ends at 4,294,967,296.
+pub struct Found {
+    pub best: Reached,
+    pub floor: i64,
+    pub multipliers: [i64; 64],
+    pub number: u64,
+}
 
 // Of a plan that is prepared.
 fn cheaper_prepared(

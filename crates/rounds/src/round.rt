@@ -1,8 +1,7 @@
 // One round after another.
 // Steps for other crates, which ask something of their caller.
 use crate::under::cheaper_under;
-use held_tree::found::found_tabled;
-use held_tree::found::nothing;
+use held_tree::cheaper::cheaper_tabled;
 use plan::Plan;
 use round_rule::kept::Kept;
 use round_rule::kept::begin;
@@ -61,12 +60,12 @@ fn next_round(plan: Plan, table: &[[u32; 64]; 64], budget: u32, round: u32, d: D
     }
 }
 
-// The first round, which is the plan call's but for its drive.
+// The first round, which is the plan call's but for its drive. No tree costs as much as 4,000,000,000,000.
 pub fn first_round(plan: Plan, table: &[[u32; 64]; 64], budget: u32) -> Deep
     requires { ⌜ HasTable (planValue plan) (now table) × (planRefusal (planValue plan) ≡ none) × (1 ≤ budget) × (budget ≤ 1000000) ⌝ }
     ensures { λ r. ⌜ (r .kept ≡ keptAfter (planValue plan) budget 0) × IsHeld (planValue plan) r ⌝ }
 {
-    let a = found_tabled(plan, table, budget, nothing());
+    let a = cheaper_tabled(plan, table, 4_000_000_000_000, 0, budget);
     let best = a.best;
     let kept = begin(a, budget);
     Deep {

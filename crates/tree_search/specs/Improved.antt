@@ -9,13 +9,17 @@ use Rattle.postman.specs.PlanCall.{triedCount, isWhole, bestCost, bestArboresce
 use Rattle.branches.specs.Links.{linksIn}
 use Rattle.search.specs.declared.tried.Searched.{Searched}
 
+-- No tree costs as much: what is known where no tree was tried.
+abbrev pub aboveCosts : ℕ
+aboveCosts = 4000000000000
+
 -- What is asked: none of the first `before` trees costs less than `cost`; and where all trees are tried, the least costs no more, as it is
 -- where `cost` is that of a drive.
 pub record CanImprove (p : Plan) (cost before tries : ℕ) : Type 0 where
   pub some-tries : 1 ≤ tries
   pub few-tries : tries ≤ 1000000000
   pub within : before ≤ tries
-  pub low : cost ≤ 4000000000000
+  pub low : cost ≤ aboveCosts
   pub none-before : 1 ≤ before → cost ≤ bestCost p before
   pub whole-least : T (isWhole p tries) → bestCost p tries ≤ cost
 

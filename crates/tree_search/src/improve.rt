@@ -1,6 +1,5 @@
 // A tree that costs less than what is known: branches that cannot have one are pruned from the first tree on.
 // Steps for other crates, which ask something of their caller.
-use crate::trees::Further;
 use crate::trees::begin;
 use crate::trees::explored;
 use crate::trees::total_of;
@@ -16,6 +15,12 @@ ghost use Rattle.small_counts.specs.Matrix.{cap};
 ghost use Rattle.preparation.specs.Preparation.{IsPreparation};
 ghost use Rattle.tree_search.specs.Improved.{CanImprove, IsImproved};
 
+// The best of so many trees, and how many trees there are, by a count that ends at 4,294,967,296.
+pub struct Improved {
+    pub found: Searched,
+    pub number: u64,
+}
+
 // A tree that costs less than `cost`, among so many trees, of which the first `before` have none.
 pub fn improve(
     plan: Plan,
@@ -24,7 +29,7 @@ pub fn improve(
     cost: u64,
     before: u32,
     tries: u32,
-) -> Further
+) -> Improved
     requires { ⌜ IsPreparation (planValue plan) (now table) r × CanImprove (planValue plan) cost before tries ⌝ }
     ensures { λ x.
         ⌜ IsImproved (planValue plan) cost tries (x .found) × (x .number ≡ min (arborescenceCount (planValue plan)) cap) ⌝ }
@@ -49,7 +54,7 @@ pub fn improve(
         tried: total.trees,
         whole: total.whole,
     };
-    Further {
+    Improved {
         found: found,
         number: s.number,
     }

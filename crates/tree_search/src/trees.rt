@@ -19,7 +19,7 @@ ghost use Rattle.search.specs.Contracts.{IsExplored, IsSearched};
 ghost use Rattle.branches.specs.Holding.{IsShort};
 ghost use Rattle.preparation.specs.Preparation.{IsPreparation};
 ghost use Rattle.tree_search.specs.Begun.{IsBegun};
-ghost use Rattle.tree_search.specs.Resumed.{nothingHeld, turnOf, triedOn, linksBy, IsResumed, IsReachedBy};
+ghost use Rattle.tree_search.specs.Resumed.{nothingHeld, turnOf, triedOn, linksBy, IsResumed};
 
 // How far a search is: the best so far, and how many trees were tried.
 pub struct Reached {
@@ -37,12 +37,6 @@ pub struct Resumed {
     pub tried: u32,
     pub total: u32,
     pub whole: bool,
-}
-
-// The best of so many trees, and how many trees there are, by a count that ends at 4,294,967,296.
-pub struct Further {
-    pub found: Searched,
-    pub number: u64,
 }
 
 // What a search begins with: the candidates in order, the branch of all trees, and how many they are.
@@ -281,30 +275,5 @@ pub fn resume(
         tried: x.tried,
         total: total.trees,
         whole: total.whole,
-    }
-}
-
-// A search that goes on until so many trees are tried in all, or all that there are. None of those that were tried is tried again.
-pub fn go_on(plan: Plan, table: &[[u32; 64]; 64], r: Preparation, tries: u32, g: Reached) -> Further
-    requires { ⌜ IsPreparation (planValue plan) (now table) r ⌝ }
-    requires { ⌜ (1 ≤ tries) × (tries ≤ 1000000000) × IsReachedBy (planValue plan) g × (g .tried ≤ triedCount (planValue plan) tries) ⌝ }
-    ensures { λ x. ⌜ IsSearched (planValue plan) tries (x .found) × (x .number ≡ min (arborescenceCount (planValue plan)) cap) ⌝ }
-{
-    let s = begin(plan, table, r);
-    let total = total_of(plan, s.number, tries);
-    let more = total.trees - g.tried;
-    let x = tried_on(plan, table, r, s, g, more);
-    let ts = x.tails;
-    let hs = x.heads;
-    let found = Searched {
-        cost: x.cost,
-        tails: ts,
-        heads: hs,
-        tried: total.trees,
-        whole: total.whole,
-    };
-    Further {
-        found: found,
-        number: s.number,
     }
 }

@@ -21,8 +21,7 @@ use Rattle.plan.specs.Laws.Records.{plan-vertices}
 use Rattle.small_counts.specs.Matrix.{cap}
 use Rattle.multipliers.specs.Ascent.{multipliersFor}
 use Rattle.tree_search.specs.Laws.BestTree.{cost-small}
-use Rattle.held_tree.specs.declared.found.Found.{Found}
-use Rattle.held_tree.specs.Found.{IsFound}
+use Rattle.held_tree.specs.declared.cheaper.Found.{Found}
 use Rattle.call_steps.specs.Refusals.{planRefusal}
 use Rattle.renumbering.specs.declared.numbering.Numbering.{Numbering}
 use Rattle.renumbering.specs.declared.shuffle.Drawn.{Drawn}
