@@ -107,17 +107,6 @@ module _ (p : Plan) (table : List (List ℕ)) (vs : List ℕ) (base : State) (b 
       ∙ ap (λ (v : List ℕ). multipliers (cell (tableOf p)) v base (root p)) (b .known .vertices)
       ∙ ap (λ (s : State). multipliers (cell (tableOf p)) (required p) s (root p)) (b .base-is)
 
-  -- multipliers that pass the test are lawful, once that of the root is taken off
-  pub lawful-rooted : (x : List ℤ) → AreSmall beyond x → T (areLawful table (base .amounts) x vs) → Rooted p (rooted x vs)
-  lawful-rooted x small h =
-      let d : T (areLawful (tableOf p) (base .amounts) x vs) =
-      subst (λ (t : List (List ℕ)). T (areLawful t (base .amounts) x vs)) (b .known .distances) h in
-      let v : T (areLawful (tableOf p) (base .amounts) x (required p)) =
-      subst (λ (vs : List ℕ). T (areLawful (tableOf p) (base .amounts) x vs)) (b .known .vertices) d in
-      let s = subst (λ (s : State). T (areLawful (tableOf p) (s .amounts) x (required p))) (b .base-is) v in
-      subst⁻¹ (λ (vs : List ℕ). Rooted p (rooted x vs)) (b .known .vertices)
-      (lawful-at-root p (b .known .plannable) (b .known .few) x small s)
-
 module _ (p : Plan) (table : List (List ℕ)) (vs : List ℕ) (base : State) (b : IsBase p table vs base) (u : List ℤ) (e : Rooted p u) where
   abbrev ok : Plannable p
   ok = b .known .plannable
