@@ -8,7 +8,7 @@ use round_rule::kept::begin;
 use round_rule::kept::closed;
 use round_rule::kept::kept_of;
 use round_rule::trial::choose;
-use search::tried::lesser;
+use tree_search::begin::tried_count;
 use tree_search::trees::Reached;
 ghost use mathlib.Core.Path.{_≡_};
 ghost use mathlib.Core.Bool.{cond};
@@ -52,7 +52,7 @@ fn next_round(plan: Plan, table: &[[u32; 64]; 64], budget: u32, round: u32, d: D
     let before = x.tries - budget;
     let a = cheaper_under(plan, table, x, k.cost, before);
     let best = a.best;
-    let old = lesser(a.number, before);
+    let old = tried_count(a.number, before);
     let kept = kept_of(k, c, a, best.tried - old);
     Deep {
         kept: kept,

@@ -13,7 +13,7 @@ use Rattle.postman.specs.Component.{componentCount}
 use Rattle.postman.specs.LagrangianBound.{lagrangianBound}
 use Rattle.postman.specs.PlanCall.{isWhole, bestCost, lowerBound}
 use Rattle.postman.specs.Steps.{Plannable}
-use Rattle.search.specs.declared.tried.Searched.{Searched}
+use Rattle.tree_search.specs.declared.improve.Searched.{Searched}
 use Rattle.multipliers.specs.Ascent.{multipliersFor}
 use Rattle.tree_search.specs.declared.trees.Reached.{Reached}
 use Rattle.tree_search.specs.Resumed.{HoldsTree}

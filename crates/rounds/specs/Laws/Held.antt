@@ -71,7 +71,7 @@ module _ (p : Plan) (ok : Plannable p) (few : componentCount p ≤ 8) (budget ro
         t,
         record {
           some-tries = t .some-tries;
-          few-tries = t .few-tries;
+          few-tries = (let a = t .few-tries in omega arith);
           within = omega arith;
           low = omega arith;
           none-before = b .1;

@@ -20,10 +20,11 @@ use Rattle.postman.specs.Laws.Optimality.{some-arborescence}
 use Rattle.postman.specs.Laws.Search.{best-value}
 use Rattle.branches.specs.Progress.{Held, held, advance}
 use Rattle.branches.specs.Laws.Progress.{tried-first, passed-over, goes-on}
-use Rattle.search.specs.declared.tried.Searched.{Searched}
+use Rattle.small_counts.specs.Matrix.{cap}
+use Rattle.tree_search.specs.declared.improve.Searched.{Searched}
 use Rattle.tree_search.specs.Laws.BestTree.{tree-small, cost-small}
 use Rattle.tree_search.specs.Laws.Resumed.{tried-cost, tried-tree, some-tried, tried-few}
-use Rattle.tree_search.specs.Improved.{aboveCosts, CanImprove, IsImproved}
+use Rattle.tree_search.specs.Improved.{aboveCosts, CanImprove, IsImproved, IsSearched}
 use Rattle.tree_search.specs.Laws.Compared.{Agree, lower, agree}
 
 some-before : (p : Plan) (before m : ℕ) → 1 ≤ m → m ≡ triedCount p before → 1 ≤ before
@@ -105,7 +106,7 @@ module _ (p : Plan) (ok : Plannable p) (few : componentCount p ≤ 8) where
   pub best-below : (tries : ℕ) → 1 ≤ tries → bestCost p tries < aboveCosts
   best-below tries one = let a = cost-small p ok few tries one in omega arith
 
-  pub can-begin : (tries : ℕ) → 1 ≤ tries → tries ≤ 1000000000 → CanImprove p aboveCosts 0 tries
+  pub can-begin : (tries : ℕ) → 1 ≤ tries → tries < cap → CanImprove p aboveCosts 0 tries
   can-begin tries one low =
       let a = best-below tries one in
       record {
@@ -116,6 +117,10 @@ module _ (p : Plan) (ok : Plannable p) (few : componentCount p ≤ 8) where
         none-before = λ o. absurd (omega arith);
         whole-least = λ w. omega arith;
       }
+
+  pub first-searched : (tries : ℕ) → 1 ≤ tries → (s : Searched) → IsImproved p aboveCosts tries s → IsSearched p tries s
+  first-searched tries one s h = let b = h .cheaper (best-below tries one) in
+      record { cost = b .0; tried = h .tried; whole = h .whole; links = b .1 }
 
 -- what is found is no more than what was known
 pub no-dearer : (p : Plan) (cost tries : ℕ) (s : Searched) → IsImproved p cost tries s → s .cost ≤ cost
