@@ -144,7 +144,8 @@ module _ {p : Plan} {table : List (List ℕ)} {f vs : List ℕ} {s : Setting} (h
 
   components-are : s .component ≡ componentsOf p
   unfolding componentsOf below
-  components-are = filled (component p) 0 (s .component) 0 64 (h .component-long) (λ j m. h .components .each j m ∙ ap (component p) (omega arith))
+  components-are =
+      filled (component p) 0 (s .component) 0 64 (h .component-long) (λ j m. h .components .each j m ∙ ap (component p) (omega arith))
 
   pub lawful-as : (x : List ℤ) → areLawful table f x vs ≡ isLawful p x
   lawful-as x = lists-are Bool (λ t f v. areLawful t f x v)

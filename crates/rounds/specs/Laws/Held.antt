@@ -144,8 +144,8 @@ laid-as q r tries g e h =
 
 -- ---- the first round
 
-pub first-held : (p : Plan) (budget : ℕ) (r : Deep) (a : Found) → IsBest p budget (a .best) → r .kept ≡ keptAfter p budget 0 → r .drive ≡ a .best
-    → IsHeld p r
+pub first-held : (p : Plan) (budget : ℕ) (r : Deep) (a : Found) → IsBest p budget (a .best) → r .kept ≡ keptAfter p budget 0
+    → r .drive ≡ a .best → IsHeld p r
 unfolding keptAfter begun
 first-held p budget r a i ek ed =
     let h = subst⁻¹ (λ (q : Plan). IsBest q budget (a .best)) (under-unchanged p) i in
