@@ -1,7 +1,6 @@
 -- The arrays hold the network of the plan.
-use mathlib.Core.Path.{_≡_, ap}
+use mathlib.Core.Path.{ap}
 use mathlib.Core.Bool.{Bool}
-use lib.ListN.{length}
 use Prim.Native.Nat.{ℕ}
 use Rattle.residual_search.specs.Step.{State}
 use Rattle.plan.specs.Records.{planValue}

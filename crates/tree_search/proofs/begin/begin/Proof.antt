@@ -1,7 +1,6 @@
 -- The candidates, the state, the multipliers and the entries are what the search asks.
 use mathlib.Core.Path.{ap, _∙_}
 use Prim.Native.Nat.{min}
-use native.Mathlib.Omega.{arith}
 use Rattle.plan.specs.Records.{planValue}
 use Rattle.small_counts.specs.Matrix.{cap}
 use Rattle.search.specs.Laws.Tried.{countable, root-count}

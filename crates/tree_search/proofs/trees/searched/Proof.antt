@@ -3,7 +3,6 @@ use native.Mathlib.Omega.{arith}
 use Prim.Native.Nat.{_<_}
 use Rattle.small_counts.specs.Matrix.{cap}
 use Rattle.tree_search.specs.Laws.Improved.{can-begin, first-searched}
-use borrow.Author.Needs.{needs}
 use Rattle.tree_search.proofs.trees.searched.Statement.{statement}
 use Rattle.tree_search.proofs.trees.searched.Tie as tie
 
