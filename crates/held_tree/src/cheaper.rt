@@ -4,6 +4,7 @@ use plan::Plan;
 use preparation::prepare::Preparation;
 use preparation::prepare::prepare;
 use solution::solve::floor_found;
+use tree_search::begin::begin;
 use tree_search::improve::improve;
 use tree_search::trees::Reached;
 ghost use mathlib.Core.Path.{_≡_};
@@ -36,8 +37,8 @@ fn cheaper_prepared(
     requires { ⌜ IsPreparation (planValue plan) (now table) r × CanImprove (planValue plan) cost before tries ⌝ }
     ensures { λ x. ⌜ IsCheaper (planValue plan) cost tries x ⌝ }
 {
-    let f = improve(plan, table, r, cost, before, tries);
-    let s = f.found;
+    let b = begin(plan, table, r);
+    let s = improve(plan, table, r, b, cost, before, tries);
     let floor = floor_found(plan, table, r, s.whole, s.cost);
     let ts = s.tails;
     let hs = s.heads;
@@ -52,7 +53,7 @@ fn cheaper_prepared(
         best: best,
         floor: floor,
         multipliers: u,
-        number: f.number,
+        number: b.number,
     }
 }
 

@@ -19,10 +19,10 @@ ghost use Rattle.preparation.specs.Preparation.{IsPreparation};
 ghost use Rattle.tree_search.specs.Begun.{IsBegun};
 
 // What a search begins with: the candidates in order, the branch of all trees, and how many they are.
-pub(crate) struct Begun {
+pub struct Begun {
     candidates: Candidates,
     root: Branch,
-    pub(crate) number: u64,
+    pub number: u64,
 }
 
 // How many trees are tried in all, and whether these are all there are.
@@ -33,7 +33,7 @@ pub(crate) struct Total {
 
 // The root's potentials are the multipliers that are answered. The trees are counted once: how many
 // each branch below the root has, and their sum.
-pub(crate) fn begin(plan: Plan, table: &[[u32; 64]; 64], r: Preparation) -> Begun
+pub fn begin(plan: Plan, table: &[[u32; 64]; 64], r: Preparation) -> Begun
     requires { ⌜ IsPreparation (planValue plan) (now table) r ⌝ }
     ensures { λ x. ⌜ IsBegun (planValue plan) (now (table .entry)) r x ⌝ }
 {

@@ -1,17 +1,12 @@
 // A tree that costs less than what is known: branches that cannot have one are pruned from the first tree on.
 // Steps for other crates, which ask something of their caller.
 use crate::begin::Begun;
-use crate::begin::begin;
 use crate::begin::explored;
 use crate::begin::total_of;
 use branches::progress::Progress;
 use plan::Plan;
 use preparation::prepare::Preparation;
-ghost use mathlib.Core.Path.{_≡_};
-ghost use Prim.Native.Nat.{min};
 ghost use Rattle.plan.specs.Records.{planValue};
-ghost use Rattle.postman.specs.Arborescence.{arborescenceCount};
-ghost use Rattle.small_counts.specs.Matrix.{cap};
 ghost use Rattle.preparation.specs.Preparation.{IsPreparation};
 ghost use Rattle.tree_search.specs.Begun.{IsBegun};
 ghost use Rattle.tree_search.specs.Improved.{CanImprove, IsImproved};
@@ -25,14 +20,8 @@ pub struct Searched {
     pub whole: bool,
 }
 
-// The best of so many trees, and how many trees there are, by a count that ends at 4,294,967,296.
-pub struct Counted {
-    pub found: Searched,
-    pub number: u64,
-}
-
 // A tree that costs less than `cost`, among so many trees, of which the first `before` have none.
-pub(crate) fn improved(
+pub fn improve(
     plan: Plan,
     table: &[[u32; 64]; 64],
     r: Preparation,
@@ -63,26 +52,5 @@ pub(crate) fn improved(
         heads: hs,
         tried: total.trees,
         whole: total.whole,
-    }
-}
-
-// The same, from a plan's preparation.
-pub fn improve(
-    plan: Plan,
-    table: &[[u32; 64]; 64],
-    r: Preparation,
-    cost: u64,
-    before: u32,
-    tries: u32,
-) -> Counted
-    requires { ⌜ IsPreparation (planValue plan) (now table) r × CanImprove (planValue plan) cost before tries ⌝ }
-    ensures { λ x.
-        ⌜ IsImproved (planValue plan) cost tries (x .found) × (x .number ≡ min (arborescenceCount (planValue plan)) cap) ⌝ }
-{
-    let s = begin(plan, table, r);
-    let found = improved(plan, table, r, s, cost, before, tries);
-    Counted {
-        found: found,
-        number: s.number,
     }
 }

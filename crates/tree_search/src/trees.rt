@@ -5,7 +5,7 @@ use crate::begin::begin;
 use crate::begin::explored;
 use crate::begin::total_of;
 use crate::improve::Searched;
-use crate::improve::improved;
+use crate::improve::improve;
 use branches::progress::Progress;
 use plan::Plan;
 use preparation::prepare::Preparation;
@@ -53,7 +53,7 @@ fn searched(plan: Plan, table: &[[u32; 64]; 64], r: Preparation, s: Begun, budge
     requires { ⌜ IsPreparation (planValue plan) (now table) r × IsBegun (planValue plan) (now table) r s × (1 ≤ budget) ⌝ }
     ensures { λ x. ⌜ IsSearched (planValue plan) budget x ⌝ }
 {
-    improved(plan, table, r, s, 4_000_000_000_000, 0, budget)
+    improve(plan, table, r, s, 4_000_000_000_000, 0, budget)
 }
 
 // The first tree of least cost among those tried.

@@ -6,8 +6,8 @@ use Rattle.tree_search.specs.Laws.Improved.{can-begin, first-searched}
 use Rattle.tree_search.proofs.trees.searched.Statement.{statement}
 use Rattle.tree_search.proofs.trees.searched.Tie as tie
 
-improved-requires : tie.Need-improved-requires
-improved-requires c κs =
+improve-requires : tie.Need-improve-requires
+improve-requires c κs =
     let k = c .pre .0 .base .known in
     let small : c .args .budget < cap = (let l = c .fits .budget in omega (arith, l .fits)) in
     (c .pre .0, c .pre .1, can-begin _ (k .plannable) (k .few) _ (c .pre .2) small)
@@ -16,7 +16,7 @@ returns : tie.Need-returns
 returns c =
     let s = c .before in
     let k = s .pre .0 .base .known in
-    first-searched _ (k .plannable) (k .few) _ (s .pre .2) _ (c .improved .ensures)
+    first-searched _ (k .plannable) (k .few) _ (s .pre .2) _ (c .improve .ensures)
 
 pub searched-spec : {M : Type 1} → statement M
-searched-spec = tie.close (tie.spec improved-requires returns)
+searched-spec = tie.close (tie.spec improve-requires returns)
