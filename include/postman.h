@@ -37,8 +37,8 @@ extern "C" {
 /*
  * The bytes of stack that a thread needs for any of the calls. With less a call may end the process; on 128 KiB the plan
  * call does. Measured on x86-64 as the least stack of a thread on which the call works, in KiB: postman_turn 292,
- * postman_ask 260, postman_deep_call 228, postman_two_cars 204, postman_plan_call_at 200, postman_plan_call and
- * postman_short_call 196, postman_enter 184, postman_tree_count 96, and all others at most 28.
+ * postman_ask 260, postman_deep_call 240, postman_two_cars 192, postman_plan_call_at 188, postman_plan_call and
+ * postman_short_call 184, postman_enter 184, postman_tree_count 96, and all others at most 28.
  */
 #define POSTMAN_STACK_BYTES 524288
 

@@ -1,7 +1,7 @@
 // The deep call: the refusals in their order, then the rounds, and the best drive of them.
 use call_steps::steps::lent_verdict;
 use call_steps::steps::refused;
-use held_tree::found::plan_verdict;
+use held_tree::verdict::plan_verdict;
 use plan::Plan;
 use refusal::Refusal;
 use refusal::Verdict;

@@ -5,11 +5,18 @@ use lib.ListN.{getD}
 use lib.IntN.{pos}
 use Rattle.postman.specs.Plan.{Plan}
 use Rattle.postman.specs.Arborescence.{arborescenceCount}
-use Rattle.postman.specs.PlanCall.{triedCount, bestCost, lowerBound}
+use Rattle.postman.specs.PlanCall.{triedCount, bestCost, bestArborescence, lowerBound}
 use Rattle.small_counts.specs.Matrix.{cap}
 use Rattle.multipliers.specs.Ascent.{multipliersFor}
-use Rattle.held_tree.specs.declared.found.Found.{Found}
-use Rattle.held_tree.specs.Found.{IsBest}
+use Rattle.tree_search.specs.declared.trees.Reached.{Reached}
+use Rattle.tree_search.specs.Resumed.{linksBy}
+use Rattle.held_tree.specs.declared.cheaper.Found.{Found}
+
+-- The best of the first `tries` trees, or of all, and how many these are.
+pub record IsBest (p : Plan) (tries : ℕ) (g : Reached) : Type 0 where
+  pub tried-is : g .tried ≡ triedCount p tries
+  pub cost-is : g .cost ≡ bestCost p tries
+  pub links-are : linksBy p g ≡ bestArborescence p tries
 
 -- The best of the first `tries` trees, or of all, if it costs less; else the cost that is known. Beside it the floor that the plan call
 -- answers, its multipliers, and how many trees there are.

@@ -1,3 +1,2 @@
 -- What is proved about the definitions.
-pub mod Found
 pub mod Cheaper

@@ -1,5 +1,4 @@
--- What a search that is held has found, and what going on with it asks.
-pub mod Found
+-- What a search finds.
 pub mod Cheaper
 -- What is proved about it.
 pub mod Laws

@@ -1,10 +1,10 @@
 // A tree that costs less than a drive that is known, among so many trees of a plan of which the first have none; and the floor.
 // Steps for other crates, which ask something of their caller.
-use crate::found::Found;
 use plan::Plan;
 use preparation::prepare::Preparation;
 use preparation::prepare::prepare;
 use solution::solve::floor_found;
+use tree_search::begin::begin;
 use tree_search::improve::improve;
 use tree_search::trees::Reached;
 ghost use mathlib.Core.Path.{_≡_};
@@ -16,6 +16,14 @@ ghost use Rattle.call_steps.specs.Refusals.{planRefusal};
 ghost use Rattle.preparation.specs.Preparation.{IsPreparation};
 ghost use Rattle.tree_search.specs.Improved.{CanImprove};
 ghost use Rattle.held_tree.specs.Cheaper.{IsCheaper};
+
+// The best tree and how many were tried, the floor, the multipliers, and how many trees there are, by a count that ends at 4,294,967,296.
+pub struct Found {
+    pub best: Reached,
+    pub floor: i64,
+    pub multipliers: [i64; 64],
+    pub number: u64,
+}
 
 // Of a plan that is prepared.
 fn cheaper_prepared(
@@ -29,8 +37,8 @@ fn cheaper_prepared(
     requires { ⌜ IsPreparation (planValue plan) (now table) r × CanImprove (planValue plan) cost before tries ⌝ }
     ensures { λ x. ⌜ IsCheaper (planValue plan) cost tries x ⌝ }
 {
-    let f = improve(plan, table, r, cost, before, tries);
-    let s = f.found;
+    let b = begin(plan, table, r);
+    let s = improve(plan, table, r, b, cost, before, tries);
     let floor = floor_found(plan, table, r, s.whole, s.cost);
     let ts = s.tails;
     let hs = s.heads;
@@ -45,7 +53,7 @@ fn cheaper_prepared(
         best: best,
         floor: floor,
         multipliers: u,
-        number: f.number,
+        number: b.number,
     }
 }
 

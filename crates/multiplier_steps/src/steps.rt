@@ -95,18 +95,12 @@ pub fn carry_on(y: [i64; 64], x: &[i64; 64], before: &[i64; 64], vs: &[u8]) -> [
     z
 }
 
-// The larger of two.
-fn larger(a: u64, b: u64) -> u64
-    ensures { λ r. ⌜ r ≡ max a b ⌝ }
-{
-    if a < b { b } else { a }
-}
-
 // The larger of a number and a distance.
 fn further(most: u64, d: u32) -> u64
     ensures { λ r. ⌜ r ≡ max most d ⌝ }
 {
-    larger(most, d as u64)
+    let far = d as u64;
+    if most < far { far } else { most }
 }
 
 // The largest distance to the first vertex.

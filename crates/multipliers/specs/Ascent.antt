@@ -34,67 +34,31 @@ pub record Climb : Type 0 where
   pub stride : ℕ
   pub done : Bool
 
-module _ (p : Plan) where
-  -- L(u)
-  abbrev pub boundOf : List ℤ → ℤ
-  boundOf u = lagrangianBound p (multipliersIn u)
-
-  module _ (d : List (List ℕ)) (f vs components : List ℕ) (k : ℕ) where
-    abbrev pub taken : Climb → List ℤ → ℤ → Climb
-    taken c u l =
-        record {
-          multipliers = c .multipliers;
-          before = c .before;
-          best = u;
-          bound = l;
-          value = c .value;
-          stride = c .stride;
-          done = c .done;
-        }
-
-    -- The multipliers, 0 at the root, are the best so far, where they are lawful and their bound is larger.
-    unfoldable pub attempt : Climb → Climb
-    unfolding areLawful rooted lagrangianBound
-    attempt c =
-        cond (areLawful d f (c .multipliers) vs && ltZ (c .bound) (boundOf (rooted (c .multipliers) vs)))
-        (taken c (rooted (c .multipliers) vs) (boundOf (rooted (c .multipliers) vs))) c
-
-    -- A step from c, at which the tree costs `value`. A ninth of the step's length is lost.
-    abbrev pub moved : Climb → Climb → Step → Climb
-    moved c b s =
-        record {
-          multipliers = s .multipliers;
-          before = c .multipliers;
-          best = b .best;
-          bound = b .bound;
-          value = maxℤ (c .value) (s .value);
-          stride = c .stride - c .stride / 9;
-          done = s .balanced;
-        }
-
-    -- Step i, unless a tree was balanced. Brought back from above and from below by turns.
-    unfoldable pub climb : Climb → ℕ → Climb
-    unfolding attempt step
-    climb c i =
-        let s = step d f vs components k (eqb (i % 2) 1) (c .stride) (c .multipliers) (c .before) in
-        cond (c .done) c (moved c (cond (ltZ (c .value) (s .value)) (attempt c) c) s)
-
-    unfoldable pub begin : List ℤ → Climb
-    unfolding lagrangianBound span
-    begin u = record {
-      multipliers = u;
-      before = u;
+-- Other multipliers are the best so far, with their bound.
+abbrev pub taken : Climb → List ℤ → ℤ → Climb
+taken c u l =
+    record {
+      multipliers = c .multipliers;
+      before = c .before;
       best = u;
-      bound = boundOf u;
-      value = pos 0;
-      stride = min (span d vs / 24 + 1) beyond;
-      done = false;
+      bound = l;
+      value = c .value;
+      stride = c .stride;
+      done = c .done;
     }
 
-    -- Of all multipliers met, the first with the largest L(u).
-    unfoldable pub ascent : List ℤ → List ℤ
-    unfolding turns climb begin
-    ascent u = turns climb (begin u) 20 .best
+-- A step from c, at which the tree costs `value`. A ninth of the step's length is lost.
+abbrev pub moved : Climb → Climb → Step → Climb
+moved c b s =
+    record {
+      multipliers = s .multipliers;
+      before = c .multipliers;
+      best = b .best;
+      bound = b .bound;
+      value = maxℤ (c .value) (s .value);
+      stride = c .stride - c .stride / 9;
+      done = s .balanced;
+    }
 
 -- The component of each vertex.
 unfoldable pub componentsOf : Plan → List ℕ
@@ -106,8 +70,50 @@ unfoldable pub greatestOf : Plan → List ℤ
 unfolding multipliers balance required root tableOf
 greatestOf p = multipliers (cell (tableOf p)) (required p) (balance (cell (tableOf p)) p []) (root p)
 
--- THE MULTIPLIERS THAT ARE ANSWERED.
-unfoldable pub multipliersFor : Plan → List ℤ
-unfolding ascent tableOf balance required componentsOf componentCount greatestOf
-multipliersFor p =
-    ascent p (tableOf p) (balance (cell (tableOf p)) p [] .amounts) (required p) (componentsOf p) (componentCount p) (greatestOf p)
+module _ (p : Plan) where
+  -- L(u)
+  abbrev pub boundOf : List ℤ → ℤ
+  boundOf u = lagrangianBound p (multipliersIn u)
+
+  -- The amounts of the required arcs; whether multipliers are lawful; these, once that of the root is taken off; and a step from c.
+  abbrev pub amountsOf : List ℕ
+  amountsOf = balance (cell (tableOf p)) p [] .amounts
+
+  abbrev pub isLawful : List ℤ → Bool
+  isLawful x = areLawful (tableOf p) amountsOf x (required p)
+
+  abbrev pub fromRoot : List ℤ → List ℤ
+  fromRoot x = rooted x (required p)
+
+  abbrev pub stepFrom : Climb → ℕ → Step
+  stepFrom c i =
+      step (tableOf p) amountsOf (required p) (componentsOf p) (componentCount p) (eqb (i % 2) 1) (c .stride) (c .multipliers) (c .before)
+
+  -- The multipliers, 0 at the root, are the best so far, where they are lawful and their bound is larger.
+  unfoldable pub attempt : Climb → Climb
+  unfolding areLawful rooted lagrangianBound tableOf balance required
+  attempt c =
+      let u = fromRoot (c .multipliers) in
+      cond (isLawful (c .multipliers) && ltZ (c .bound) (boundOf u)) (taken c u (boundOf u)) c
+
+  -- Step i, unless a tree was balanced. Brought back from above and from below by turns.
+  unfoldable pub climb : Climb → ℕ → Climb
+  unfolding attempt step tableOf balance required componentsOf componentCount
+  climb c i = let s = stepFrom c i in cond (c .done) c (moved c (cond (ltZ (c .value) (s .value)) (attempt c) c) s)
+
+  unfoldable pub begin : Climb
+  unfolding lagrangianBound span tableOf required greatestOf
+  begin = record {
+    multipliers = greatestOf p;
+    before = greatestOf p;
+    best = greatestOf p;
+    bound = boundOf (greatestOf p);
+    value = pos 0;
+    stride = min (span (tableOf p) (required p) / 24 + 1) beyond;
+    done = false;
+  }
+
+  -- THE MULTIPLIERS THAT ARE ANSWERED: of all met, the first with the largest L(u).
+  unfoldable pub multipliersFor : List ℤ
+  unfolding turns climb begin
+  multipliersFor = turns climb begin 20 .best

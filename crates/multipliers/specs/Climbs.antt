@@ -4,7 +4,7 @@ use Rattle.residual_search.specs.Search.{beyond}
 use Rattle.multiplier_steps.specs.Steps.{AreSmall}
 use Rattle.multipliers.specs.declared.ascend.Best.{Best}
 use Rattle.multipliers.specs.declared.ascend.Stage.{Stage}
-use Rattle.multipliers.specs.Ascent.{Climb}
+use Rattle.multipliers.specs.Ascent.{Climb, taken}
 
 abbrev pub climbOf : Stage → Climb
 climbOf c = record {
@@ -19,16 +19,7 @@ climbOf c = record {
 
 -- The same, with the best multipliers and their bound in place of its own.
 abbrev pub holding : Stage → Best → Climb
-holding c b =
-    record {
-      multipliers = c .multipliers;
-      before = c .before;
-      best = b .multipliers;
-      bound = b .bound;
-      value = c .value;
-      stride = c .stride;
-      done = c .done;
-    }
+holding c b = taken (climbOf c) (b .multipliers) (b .bound)
 
 -- It can be gone on with: no sum of a step overflows.
 pub record CanStep (c : Stage) : Type 0 where

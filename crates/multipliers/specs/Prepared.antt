@@ -1,6 +1,5 @@
 -- What is known of a plan once it is prepared.
 use mathlib.Core.Path.{_≡_}
-use mathlib.Core.Bool.{Bool}
 use mathlib.Core.List.{List, []}
 use Prim.Native.Nat.{ℕ, _≤_}
 use lib.ListN.{length}
@@ -16,7 +15,10 @@ use Rattle.tour_legs.specs.Filled.{linksOf}
 use Rattle.network.specs.declared.network.Network.{Network}
 use Rattle.required.specs.Contracts.{IsImbalance, IsRequiredFlags, IsComponents}
 use Rattle.network.specs.Network.{IsNetwork}
+use Rattle.lagrangian.specs.Priced.{IsPriced}
+use Rattle.multipliers.specs.declared.ascend.Setting.{Setting}
 use Rattle.multipliers.specs.Tour.{tableOf}
+use Rattle.multipliers.specs.Ascent.{amountsOf}
 
 -- The table of the distances of a plan that was read, and its network.
 pub record IsMeasured (p : Plan) (table : List (List ℕ)) (net : Network) : Type 0 where
@@ -36,16 +38,20 @@ pub record IsBase (p : Plan) (table : List (List ℕ)) (vs : List ℕ) (base : S
   pub known : IsKnown p table vs
   pub base-is : base ≡ balance (cell (tableOf p)) p []
 
--- With the amounts of that state, its network in arrays, R and D.
-pub record IsPrepared (p : Plan) (table : List (List ℕ)) (amounts vs component : List ℕ) (flags : List Bool) (k r : ℕ)
-    (d : List ℤ) : Type 0 where
+-- With the amounts of that state, and what the ascent reads of its network.
+pub record IsPrepared (p : Plan) (table : List (List ℕ)) (amounts vs : List ℕ) (s : Setting) : Type 0 where
   pub known : IsKnown p table vs
-  pub amounts-are : amounts ≡ balance (cell (tableOf p)) p [] .amounts
-  pub long : length flags ≡ 64
-  pub required-flags : IsRequiredFlags p flags
-  pub components : IsComponents p component k
-  pub cost : r ≡ requiredCost p
-  pub imbalance : IsImbalance p d
+  pub amounts-are : amounts ≡ amountsOf p
+  pub required-long : length (s .required) ≡ 64
+  pub required-flags : IsRequiredFlags p (s .required)
+  pub component-long : length (s .component) ≡ 64
+  pub components : IsComponents p (s .component) (s .components)
+  pub cost : s .«required_cost» ≡ requiredCost p
+  pub imbalance : IsImbalance p (s .imbalance)
+
+-- What L(u) asks.
+abbrev pub IsPricedIn : Plan → List (List ℕ) → Setting → List ℤ → Type 0
+IsPricedIn p table s u = IsPriced p table u (s .component) (s .required) (s .components) (s .«required_cost») (s .imbalance)
 
 -- Tails and heads of the links of an arborescence.
 pub record IsTree (p : Plan) (tails heads : List ℕ) : Type 0 where

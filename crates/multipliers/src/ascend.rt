@@ -1,5 +1,5 @@
 // The multipliers that are answered: steps from the greatest ones on, of which the first with the largest bound is kept.
-// What is read at each step is lent: f are the amounts of the state of the required arcs; cost is R, and imbalance is D.
+// What is large and read at each step is lent: f are the amounts of the state of the required arcs.
 // Steps for other crates, which ask something of their caller.
 use balance::state::Balance;
 use lagrangian::bound::lagrangian;
@@ -19,9 +19,18 @@ ghost use Rattle.postman.specs.Steps.{cell};
 ghost use Rattle.balance.specs.Multipliers.{multipliers};
 ghost use Rattle.balance.specs.Records.{stateOf};
 ghost use Rattle.network.specs.Network.{IsNetwork};
-ghost use Rattle.multipliers.specs.Prepared.{IsBase, IsPrepared};
-ghost use Rattle.multipliers.specs.Ascent.{attempt as attemptOf, climb as climbOnce, begin, ascent as ascentOf, greatestOf, multipliersFor, boundOf};
+ghost use Rattle.multipliers.specs.Prepared.{IsBase, IsPrepared, IsPricedIn};
+ghost use Rattle.multipliers.specs.Ascent.{attempt as attemptOf, climb as climbOnce, begin, greatestOf, multipliersFor, boundOf};
 ghost use Rattle.multipliers.specs.Climbs.{climbOf, holding, CanStep};
+
+// What the steps read of the network: the component of each vertex, whether it is required, the number of components, R and D.
+pub(crate) struct Setting {
+    component: [u8; 64],
+    required: [bool; 64],
+    components: usize,
+    required_cost: u64,
+    imbalance: [i64; 64],
+}
 
 // Where an ascent stands.
 pub struct Stage {
@@ -47,23 +56,30 @@ fn exceeds(a: i64, b: i64) -> bool
     b < a
 }
 
+// L(u).
+fn bound_at(table: &[[u32; 64]; 64], s: Setting, u: &[i64; 64]) -> i64
+    requires { ⌜ ((p : «a-plan») × IsPricedIn p (now table) s (now u)) ⌝ }
+    ensures { λ r. ⌜ ((p : «a-plan») → IsPricedIn p (now (table .entry)) s (now (u .entry)) → r ≡ boundOf p (now (u .entry))) ⌝ }
+{
+    let component = s.component;
+    let required = s.required;
+    let imbalance = s.imbalance;
+    lagrangian(
+        table,
+        u,
+        &component,
+        &required,
+        s.components,
+        s.required_cost,
+        &imbalance,
+    )
+}
+
 // The multipliers, 0 at the root, are the best so far, where they are lawful and their bound is larger.
-fn attempt(
-    table: &[[u32; 64]; 64],
-    f: &[u16; 4096],
-    vs: &[u8],
-    component: &[u8; 64],
-    flags: &[bool; 64],
-    k: usize,
-    cost: u64,
-    imbalance: &[i64; 64],
-    c: Stage,
-) -> Best
-    requires { ⌜ ((p : «a-plan») × IsPrepared p (now table) (now f) (now vs) (now component) (now flags) k cost (now imbalance))
-        × AreSmall beyond (c .multipliers) ⌝ }
-    ensures { λ r. ⌜ ((p : «a-plan») → IsPrepared p (now (table .entry)) (now (f .entry)) (now (vs .entry)) (now (component .entry)) (now
-        (flags .entry)) k cost (now (imbalance .entry))
-        → holding c r ≡ attemptOf p (now (table .entry)) (now (f .entry)) (now (vs .entry)) (now (component .entry)) k (climbOf c)) ⌝ }
+fn attempt(table: &[[u32; 64]; 64], f: &[u16; 4096], vs: &[u8], s: Setting, c: Stage) -> Best
+    requires { ⌜ ((p : «a-plan») × IsPrepared p (now table) (now f) (now vs) s) × AreSmall beyond (c .multipliers) ⌝ }
+    ensures { λ r. ⌜ ((p : «a-plan») → IsPrepared p (now (table .entry)) (now (f .entry)) (now (vs .entry)) s
+        → holding c r ≡ attemptOf p (climbOf c)) ⌝ }
 {
     let x = c.multipliers;
     let best = c.best;
@@ -73,7 +89,7 @@ fn attempt(
     };
     if multiplier_steps::lawful::are_lawful(table, f, vs, &x) {
         let u = multiplier_steps::steps::rooted(&x, vs);
-        let l = lagrangian(table, &u, component, flags, k, cost, imbalance);
+        let l = bound_at(table, s, &u);
         if exceeds(l, c.bound) {
             return Best {
                 multipliers: u,
@@ -89,24 +105,16 @@ fn attempt_above(
     table: &[[u32; 64]; 64],
     f: &[u16; 4096],
     vs: &[u8],
-    component: &[u8; 64],
-    flags: &[bool; 64],
-    k: usize,
-    cost: u64,
-    imbalance: &[i64; 64],
+    s: Setting,
     c: Stage,
     value: i64,
 ) -> Best
-    requires { ⌜ ((p : «a-plan») × IsPrepared p (now table) (now f) (now vs) (now component) (now flags) k cost (now imbalance))
-        × AreSmall beyond (c .multipliers) ⌝ }
-    ensures { λ r. ⌜ ((p : «a-plan») → IsPrepared p (now (table .entry)) (now (f .entry)) (now (vs .entry)) (now (component .entry)) (now
-        (flags .entry)) k cost (now (imbalance .entry))
-        → holding c r
-        ≡ cond (ltZ (c .value) value)
-        (attemptOf p (now (table .entry)) (now (f .entry)) (now (vs .entry)) (now (component .entry)) k (climbOf c)) (climbOf c)) ⌝ }
+    requires { ⌜ ((p : «a-plan») × IsPrepared p (now table) (now f) (now vs) s) × AreSmall beyond (c .multipliers) ⌝ }
+    ensures { λ r. ⌜ ((p : «a-plan») → IsPrepared p (now (table .entry)) (now (f .entry)) (now (vs .entry)) s
+        → holding c r ≡ cond (ltZ (c .value) value) (attemptOf p (climbOf c)) (climbOf c)) ⌝ }
 {
     if c.value < value {
-        return attempt(table, f, vs, component, flags, k, cost, imbalance, c);
+        return attempt(table, f, vs, s, c);
     }
     let best = c.best;
     Best {
@@ -120,19 +128,13 @@ fn climb(
     table: &[[u32; 64]; 64],
     f: &[u16; 4096],
     vs: &[u8],
-    component: &[u8; 64],
-    flags: &[bool; 64],
-    k: usize,
-    cost: u64,
-    imbalance: &[i64; 64],
+    s: Setting,
     c: Stage,
     i: usize,
 ) -> Stage
-    requires { ⌜ ((p : «a-plan») × IsPrepared p (now table) (now f) (now vs) (now component) (now flags) k cost (now imbalance))
-        × CanStep c ⌝ }
-    ensures { λ r. ⌜ ((p : «a-plan») → IsPrepared p (now (table .entry)) (now (f .entry)) (now (vs .entry)) (now (component .entry)) (now
-        (flags .entry)) k cost (now (imbalance .entry))
-        → climbOf r ≡ climbOnce p (now (table .entry)) (now (f .entry)) (now (vs .entry)) (now (component .entry)) k (climbOf c) i)
+    requires { ⌜ ((p : «a-plan») × IsPrepared p (now table) (now f) (now vs) s) × CanStep c ⌝ }
+    ensures { λ r. ⌜ ((p : «a-plan») → IsPrepared p (now (table .entry)) (now (f .entry)) (now (vs .entry)) s
+        → climbOf r ≡ climbOnce p (climbOf c) i)
         × CanStep r ⌝ }
 {
     if c.done {
@@ -141,22 +143,22 @@ fn climb(
     let x = c.multipliers;
     let before = c.before;
     let up = i % 2 == 1;
-    let s = ascent::step::step(table, f, vs, component, k, up, c.stride, &x, &before);
-    let b = attempt_above(
+    let component = s.component;
+    let n = ascent::step::step(
         table,
         f,
         vs,
-        component,
-        flags,
-        k,
-        cost,
-        imbalance,
-        c,
-        s.value,
+        &component,
+        s.components,
+        up,
+        c.stride,
+        &x,
+        &before,
     );
-    let next = s.multipliers;
+    let b = attempt_above(table, f, vs, s, c, n.value);
+    let next = n.multipliers;
     let best = b.multipliers;
-    let value = larger(c.value, s.value);
+    let value = larger(c.value, n.value);
     Stage {
         multipliers: next,
         before: x,
@@ -164,30 +166,17 @@ fn climb(
         bound: b.bound,
         value: value,
         stride: c.stride - c.stride / 9,
-        done: s.balanced,
+        done: n.balanced,
     }
 }
 
 // Before the first step.
-fn begun(
-    table: &[[u32; 64]; 64],
-    f: &[u16; 4096],
-    vs: &[u8],
-    component: &[u8; 64],
-    flags: &[bool; 64],
-    k: usize,
-    cost: u64,
-    imbalance: &[i64; 64],
-    u: [i64; 64],
-) -> Stage
-    requires { ⌜
-        ((p : «a-plan») × IsPrepared p (now table) (now f) (now vs) (now component) (now flags) k cost (now imbalance)
-        × (u ≡ greatestOf p)) ⌝ }
-    ensures { λ r. ⌜ ((p : «a-plan») → IsPrepared p (now (table .entry)) (now (f .entry)) (now (vs .entry)) (now (component .entry)) (now
-        (flags .entry)) k cost (now (imbalance .entry)) → u ≡ greatestOf p
-        → climbOf r ≡ begin p (now (table .entry)) (now (f .entry)) (now (vs .entry)) (now (component .entry)) k u) × CanStep r ⌝ }
+fn begun(table: &[[u32; 64]; 64], f: &[u16; 4096], vs: &[u8], s: Setting, u: [i64; 64]) -> Stage
+    requires { ⌜ ((p : «a-plan») × IsPrepared p (now table) (now f) (now vs) s × (u ≡ greatestOf p)) ⌝ }
+    ensures { λ r. ⌜ ((p : «a-plan») → IsPrepared p (now (table .entry)) (now (f .entry)) (now (vs .entry)) s → u ≡ greatestOf p
+        → climbOf r ≡ begin p) × CanStep r ⌝ }
 {
-    let l = lagrangian(table, &u, component, flags, k, cost, imbalance);
+    let l = bound_at(table, s, &u);
     let far = multiplier_steps::steps::span(table, vs);
     let stride = lesser(far / 24 + 1, 1099511627776);
     Stage {
@@ -206,24 +195,16 @@ pub(crate) fn ascend(
     table: &[[u32; 64]; 64],
     f: &[u16; 4096],
     vs: &[u8],
-    component: &[u8; 64],
-    flags: &[bool; 64],
-    k: usize,
-    cost: u64,
-    imbalance: &[i64; 64],
+    s: Setting,
     u: [i64; 64],
 ) -> Best
-    requires { ⌜
-        ((p : «a-plan») × IsPrepared p (now table) (now f) (now vs) (now component) (now flags) k cost (now imbalance)
-        × (u ≡ greatestOf p)) ⌝ }
-    ensures { λ r. ⌜ ((p : «a-plan») → IsPrepared p (now (table .entry)) (now (f .entry)) (now (vs .entry)) (now (component .entry)) (now
-        (flags .entry)) k cost (now (imbalance .entry)) → u ≡ greatestOf p
-        → (r .multipliers ≡ ascentOf p (now (table .entry)) (now (f .entry)) (now (vs .entry)) (now (component .entry)) k u)
-        × (r .bound ≡ boundOf p (r .multipliers))) ⌝ }
+    requires { ⌜ ((p : «a-plan») × IsPrepared p (now table) (now f) (now vs) s × (u ≡ greatestOf p)) ⌝ }
+    ensures { λ r. ⌜ ((p : «a-plan») → IsPrepared p (now (table .entry)) (now (f .entry)) (now (vs .entry)) s → u ≡ greatestOf p
+        → (r .multipliers ≡ multipliersFor p) × (r .bound ≡ boundOf p (r .multipliers))) ⌝ }
 {
-    let mut c = begun(table, f, vs, component, flags, k, cost, imbalance, u);
+    let mut c = begun(table, f, vs, s, u);
     for i in 0..20usize {
-        let next = climb(table, f, vs, component, flags, k, cost, imbalance, c, i);
+        let next = climb(table, f, vs, s, c, i);
         c = next;
     }
     let best = c.best;
@@ -248,19 +229,15 @@ pub fn multipliers_for(
 {
     let amounts = base.amounts;
     let component = net.component;
-    let flags = net.required;
-    let parts = net.components;
-    let k = parts as usize;
+    let required = net.required;
+    let components = net.components;
     let imbalance = net.imbalance;
-    ascend(
-        table,
-        &amounts,
-        vs,
-        &component,
-        &flags,
-        k,
-        net.required_cost,
-        &imbalance,
-        u,
-    )
+    let s = Setting {
+        component: component,
+        required: required,
+        components: components as usize,
+        required_cost: net.required_cost,
+        imbalance: imbalance,
+    };
+    ascend(table, &amounts, vs, s, u)
 }

@@ -59,7 +59,8 @@ fn place(component: &[u8; 64], required: &[bool; 64], i: usize, j: usize) -> usi
     0
 }
 
-fn lesser(a: i64, b: i64) -> i64
+// The lesser of two costs.
+fn lesser_cost(a: i64, b: i64) -> i64
     ensures { λ r. ⌜ IsLesser a b r ⌝ }
 {
     if a < b { a } else { b }
@@ -78,7 +79,7 @@ fn pair_costs(
     let mut m = [HIGHEST; 64];
     for l in 0..4096usize {
         let x = place(component, required, l / 64, l % 64);
-        m[x] = lesser(m[x], offer(d, u, required, l / 64, l % 64));
+        m[x] = lesser_cost(m[x], offer(d, u, required, l / 64, l % 64));
     }
     m
 }

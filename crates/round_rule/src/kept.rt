@@ -2,7 +2,7 @@
 // Steps for other crates, which ask something of their caller.
 use crate::trial::Chosen;
 use crate::trial::Trial;
-use held_tree::found::Found;
+use held_tree::cheaper::Found;
 use renumbering::numbering::identity;
 use renumbering::renumbered::carry;
 ghost use mathlib.Core.Path.{_≡_};

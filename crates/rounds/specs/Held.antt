@@ -1,6 +1,6 @@
 -- The tree that is held beside what is kept.
 use Rattle.postman.specs.Plan.{Plan}
-use Rattle.held_tree.specs.Found.{IsBest}
+use Rattle.held_tree.specs.Cheaper.{IsBest}
 use Rattle.rounds.specs.declared.round.Deep.{Deep}
 use Rattle.round_rule.specs.Rounds.{under}
 

@@ -1,15 +1,14 @@
 // One round after another.
 // Steps for other crates, which ask something of their caller.
 use crate::under::cheaper_under;
-use held_tree::found::found_tabled;
-use held_tree::found::nothing;
+use held_tree::cheaper::cheaper_tabled;
 use plan::Plan;
 use round_rule::kept::Kept;
 use round_rule::kept::begin;
 use round_rule::kept::closed;
 use round_rule::kept::kept_of;
 use round_rule::trial::choose;
-use search::tried::lesser;
+use tree_search::begin::tried_count;
 use tree_search::trees::Reached;
 ghost use mathlib.Core.Path.{_≡_};
 ghost use mathlib.Core.Bool.{cond};
@@ -53,7 +52,7 @@ fn next_round(plan: Plan, table: &[[u32; 64]; 64], budget: u32, round: u32, d: D
     let before = x.tries - budget;
     let a = cheaper_under(plan, table, x, k.cost, before);
     let best = a.best;
-    let old = lesser(a.number, before);
+    let old = tried_count(a.number, before);
     let kept = kept_of(k, c, a, best.tried - old);
     Deep {
         kept: kept,
@@ -61,12 +60,12 @@ fn next_round(plan: Plan, table: &[[u32; 64]; 64], budget: u32, round: u32, d: D
     }
 }
 
-// The first round, which is the plan call's but for its drive.
+// The first round, which is the plan call's but for its drive. No tree costs as much as 4,000,000,000,000.
 pub fn first_round(plan: Plan, table: &[[u32; 64]; 64], budget: u32) -> Deep
     requires { ⌜ HasTable (planValue plan) (now table) × (planRefusal (planValue plan) ≡ none) × (1 ≤ budget) × (budget ≤ 1000000) ⌝ }
     ensures { λ r. ⌜ (r .kept ≡ keptAfter (planValue plan) budget 0) × IsHeld (planValue plan) r ⌝ }
 {
-    let a = found_tabled(plan, table, budget, nothing());
+    let a = cheaper_tabled(plan, table, 4_000_000_000_000, 0, budget);
     let best = a.best;
     let kept = begin(a, budget);
     Deep {

@@ -1,7 +1,7 @@
 // The search and the drive of a plan under a numbering, over the tables of the file's plan, which are renumbered and not computed again.
 // Steps for other crates, which ask something of their caller.
+use held_tree::cheaper::Found;
 use held_tree::cheaper::cheaper_tabled;
-use held_tree::found::Found;
 use held_tree::laid::Laid;
 use held_tree::laid::lay_tabled;
 use plan::Plan;
@@ -19,9 +19,8 @@ ghost use Rattle.plan.specs.Records.{planValue};
 ghost use Rattle.tour_legs.specs.Tour.{written};
 ghost use Rattle.multipliers.specs.Tour.{tourOf};
 ghost use Rattle.call_steps.specs.Refusals.{planRefusal};
-ghost use Rattle.held_tree.specs.Found.{IsBest};
 ghost use Rattle.tree_search.specs.Improved.{CanImprove};
-ghost use Rattle.held_tree.specs.Cheaper.{IsCheaper};
+ghost use Rattle.held_tree.specs.Cheaper.{IsBest, IsCheaper};
 ghost use Rattle.round_rule.specs.Rounds.{under};
 ghost use Rattle.round_rule.specs.Trial.{IsTrial};
 ghost use Rattle.rounds.specs.Tabled.{HasTable, IsTabled};

@@ -7,14 +7,12 @@ use Rattle.postman.specs.Plan.{Plan}
 use Rattle.postman.specs.Link.{Link}
 use Rattle.postman.specs.Component.{componentCount}
 use Rattle.postman.specs.Balancing.{heads, tails, completionCost}
-use Rattle.postman.specs.PlanCall.{triedCount, isWhole, bestCost, bestArborescence}
 use Rattle.postman.specs.Steps.{cell}
 use Rattle.residual_search.specs.Step.{add}
 use Rattle.branches.specs.declared.branch.Branch.{Branch}
 use Rattle.search.specs.declared.last.Completed.{Completed}
 use Rattle.tree_bounds.specs.declared.pricing.Pricing.{Pricing}
 use Rattle.branches.specs.declared.progress.Progress.{Progress}
-use Rattle.search.specs.declared.tried.Searched.{Searched}
 use Rattle.branches.specs.Links.{linksIn}
 use Rattle.branches.specs.Progress.{tryTree, advance}
 use Rattle.tree_bounds.specs.Bound.{Low}
@@ -52,9 +50,3 @@ pub record IsBranchPriced (p : Plan) (table : List (List ℕ)) (b : Branch) (r :
 -- The trees ts were gone through.
 abbrev pub IsExplored : Plan → List (List Link) → Progress → Progress → Type 0
 IsExplored p ts before after = heldIn (componentCount p - 1) after ≡ advance (completionCost p) (heldIn (componentCount p - 1) before) ts
-
-pub record IsSearched (p : Plan) (budget : ℕ) (r : Searched) : Type 0 where
-  pub cost : r .cost ≡ bestCost p budget
-  pub tried : r .tried ≡ triedCount p budget
-  pub whole : r .whole ≡ isWhole p budget
-  pub links : linksIn (componentCount p - 1) (r .tails) (r .heads) ≡ bestArborescence p budget

@@ -1,4 +1,4 @@
-// All trees in document 01's order, at most as many as the budget: the first of least completion cost is kept.
+// All trees in document 01's order: how many they are, and going through them.
 // Steps for other crates, which ask something of their caller.
 use crate::explore::explore;
 use branches::branch::Branch;
@@ -12,18 +12,9 @@ ghost use Rattle.postman.specs.Plan.{Plan};
 ghost use Rattle.small_counts.specs.Recursion.{countTrees};
 ghost use Rattle.small_counts.specs.Matrix.{entriesOf, cap, AreFew, AreCounts};
 ghost use Rattle.tree_bounds.specs.Prepared.{Prepared};
-ghost use Rattle.search.specs.Contracts.{IsExplored, IsSearched};
-ghost use Rattle.branches.specs.Branches.{IsBranch, treesIn, IsRoot};
+ghost use Rattle.search.specs.Contracts.{IsExplored};
+ghost use Rattle.branches.specs.Branches.{IsBranch, treesIn};
 ghost use Rattle.branches.specs.Holding.{IsShort};
-
-// The first arborescence of least completion cost among those tried, how many were, and whether these are all.
-pub struct Searched {
-    pub cost: u64,
-    pub tails: [u8; 8],
-    pub heads: [u8; 8],
-    pub tried: u32,
-    pub whole: bool,
-}
 
 // How many trees there are, from the counts below the root: one where no component is to be chosen for.
 pub fn number(counts: [u64; 8], entries: [u32; 64], k: usize) -> u64
@@ -34,16 +25,6 @@ pub fn number(counts: [u64; 8], entries: [u32; 64], k: usize) -> u64
         return 1;
     }
     total(counts, entries, 1, k)
-}
-
-// How many of n trees are tried.
-pub fn lesser(n: u64, budget: u32) -> u32
-    ensures { λ r. ⌜ r ≡ min budget n ⌝ }
-{
-    if n < budget as u64 {
-        return n as u32;
-    }
-    budget
 }
 
 // The trees of a branch are gone through; the branch is one tree where no component is left to be chosen for.
@@ -74,46 +55,4 @@ pub fn advance(
     }
     let e = explore(g, b, f, d, vs, start, source, tails, heads, k);
     e.progress
-}
-
-// The trees from the root on, at most `budget` of them. No tree costs as much as 4,000,000,000,000.
-pub fn search(
-    b: Branch,
-    f: &[u16; 4096],
-    d: &[[u32; 64]; 64],
-    vs: &[u8],
-    start: &[usize; 9],
-    source: &[u8; 4096],
-    tails: &[u8; 4096],
-    heads: &[u8; 4096],
-    k: usize,
-    budget: u32,
-) -> Searched
-    requires { ⌜ ((p : Plan) × Prepared p (now d) (now vs) (now start) (now source) (now tails) (now heads) k × IsRoot p (now d) (now f) b)
-        × (1 ≤ budget) ⌝ }
-    ensures { λ r.
-        ⌜ ((p : Plan)
-        → Prepared p (now (d .entry)) (now (vs .entry)) (now (start .entry)) (now (source .entry)) (now (tails .entry))
-        (now (heads .entry)) k → IsRoot p (now (d .entry)) (now (f .entry)) b → IsSearched p budget r) ⌝ }
-{
-    let entries = b.entries;
-    let counts = b.counts;
-    let n = number(counts, entries, k);
-    let none = Progress {
-        cost: 4_000_000_000_000,
-        tails: [0; 8],
-        heads: [0; 8],
-        skip: 0,
-        left: budget as u64,
-    };
-    let r = advance(none, b, f, d, vs, start, source, tails, heads, k);
-    let ts = r.tails;
-    let hs = r.heads;
-    Searched {
-        cost: r.cost,
-        tails: ts,
-        heads: hs,
-        tried: lesser(n, budget),
-        whole: n <= budget as u64,
-    }
 }

@@ -12,7 +12,7 @@ use Rattle.postman.specs.Component.{componentCount}
 use Rattle.postman.specs.LagrangianBound.{lagrangianBound}
 use Rattle.tour_legs.specs.Tour.{written}
 use Rattle.branches.specs.Links.{linksIn}
-use Rattle.search.specs.declared.tried.Searched.{Searched}
+use Rattle.tree_search.specs.declared.improve.Searched.{Searched}
 use Rattle.refusal.specs.declared.Verdict.the-variants.{Accepted}
 use Rattle.multipliers.specs.Tour.{driveOf}
 use Rattle.multipliers.specs.Ascent.{multipliersFor}

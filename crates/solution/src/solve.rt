@@ -6,7 +6,7 @@ use lagrangian::bound::floor_of;
 use plan::Plan;
 use preparation::prepare::Preparation;
 use refusal::Verdict;
-use search::tried::Searched;
+use tree_search::improve::Searched;
 use tree_search::trees::best;
 ghost use mathlib.Core.Path.{_≡_};
 ghost use mathlib.Core.Option.{none};

@@ -9,7 +9,7 @@ use Rattle.tree_bounds.specs.Prepared.{Prepared}
 use Rattle.branches.specs.Branches.{IsRoot}
 use Rattle.preparation.specs.declared.prepare.Preparation.{Preparation}
 use Rattle.preparation.specs.Preparation.{verticesIn}
-use Rattle.tree_search.specs.declared.trees.Begun.{Begun}
+use Rattle.tree_search.specs.declared.begin.Begun.{Begun}
 
 -- The candidates of the components in order, the branch that has no choice yet, beside the amounts of the required arcs, and the number
 -- of all trees, by a count that ends at the cap.

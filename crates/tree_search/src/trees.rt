@@ -1,25 +1,22 @@
 // The trees of a plan that is not refused, in order, at most as many as the budget.
 // Steps for other crates, which ask something of their caller.
-use branches::branch::Branch;
+use crate::begin::Begun;
+use crate::begin::begin;
+use crate::begin::explored;
+use crate::begin::total_of;
+use crate::improve::Searched;
+use crate::improve::improve;
 use branches::progress::Progress;
-use candidates::Candidates;
 use plan::Plan;
 use preparation::prepare::Preparation;
-use search::tried::Searched;
-use search::tried::lesser;
-use search::tried::number;
-use tree_count::entries::entries_of;
 ghost use mathlib.Core.Path.{_≡_};
-ghost use Prim.Native.Nat.{_≤_, _+_, min};
+ghost use Prim.Native.Nat.{_≤_, _+_};
 ghost use Rattle.plan.specs.Records.{planValue};
-ghost use Rattle.postman.specs.Arborescence.{arborescences, arborescenceCount};
-ghost use Rattle.postman.specs.PlanCall.{triedCount, isWhole, bestCost, bestArborescence};
-ghost use Rattle.small_counts.specs.Matrix.{cap};
-ghost use Rattle.search.specs.Contracts.{IsExplored, IsSearched};
-ghost use Rattle.branches.specs.Holding.{IsShort};
+ghost use Rattle.postman.specs.PlanCall.{bestCost, bestArborescence};
 ghost use Rattle.preparation.specs.Preparation.{IsPreparation};
 ghost use Rattle.tree_search.specs.Begun.{IsBegun};
-ghost use Rattle.tree_search.specs.Resumed.{nothingHeld, turnOf, triedOn, linksBy, IsResumed, IsReachedBy};
+ghost use Rattle.tree_search.specs.Improved.{IsSearched};
+ghost use Rattle.tree_search.specs.Resumed.{nothingHeld, turnOf, triedOn, linksBy, IsResumed};
 
 // How far a search is: the best so far, and how many trees were tried.
 pub struct Reached {
@@ -39,25 +36,6 @@ pub struct Resumed {
     pub whole: bool,
 }
 
-// The best of so many trees, and how many trees there are, by a count that ends at 4,294,967,296.
-pub struct Further {
-    pub found: Searched,
-    pub number: u64,
-}
-
-// What a search begins with: the candidates in order, the branch of all trees, and how many they are.
-pub(crate) struct Begun {
-    candidates: Candidates,
-    root: Branch,
-    pub(crate) number: u64,
-}
-
-// How many trees are tried in all, and whether these are all there are.
-pub(crate) struct Total {
-    pub(crate) trees: u32,
-    pub(crate) whole: bool,
-}
-
 // What is held before the first tree.
 pub fn nothing_held() -> Reached
     ensures { λ r. ⌜ r ≡ nothingHeld ⌝ }
@@ -70,65 +48,12 @@ pub fn nothing_held() -> Reached
     }
 }
 
-// The root's potentials are the multipliers that are answered. The trees are counted once: how many
-// each branch below the root has, and their sum.
-pub(crate) fn begin(plan: Plan, table: &[[u32; 64]; 64], r: Preparation) -> Begun
-    requires { ⌜ IsPreparation (planValue plan) (now table) r ⌝ }
-    ensures { λ x. ⌜ IsBegun (planValue plan) (now (table .entry)) r x ⌝ }
-{
-    let v = r.vertices;
-    let list = v.list;
-    let count = v.count;
-    let net = r.network;
-    let base = r.base;
-    let u = r.multipliers;
-    let c = candidates::of_network(net);
-    let links = net.links;
-    let component = net.component;
-    let entries = entries_of(&links, &component);
-    let k = net.components as usize;
-    let cost = net.required_cost;
-    let b = branches::branch::root(&list[..count], k, base, &u, cost, entries);
-    let counts = b.counts;
-    let own = b.entries;
-    let n = number(counts, own, k);
-    Begun {
-        candidates: c,
-        root: b,
-        number: n,
-    }
-}
-
-// The trees from the root on, at most as many as the budget.
+// The first trees, at most as many as the budget. No tree costs as much as 4,000,000,000,000.
 fn searched(plan: Plan, table: &[[u32; 64]; 64], r: Preparation, s: Begun, budget: u32) -> Searched
     requires { ⌜ IsPreparation (planValue plan) (now table) r × IsBegun (planValue plan) (now table) r s × (1 ≤ budget) ⌝ }
     ensures { λ x. ⌜ IsSearched (planValue plan) budget x ⌝ }
 {
-    let v = r.vertices;
-    let list = v.list;
-    let count = v.count;
-    let net = r.network;
-    let k = net.components as usize;
-    let base = r.base;
-    let f = base.amounts;
-    let b = s.root;
-    let c = s.candidates;
-    let start = c.start;
-    let source = c.source;
-    let tails = c.tails;
-    let heads = c.heads;
-    search::tried::search(
-        b,
-        &f,
-        table,
-        &list[..count],
-        &start,
-        &source,
-        &tails,
-        &heads,
-        k,
-        budget,
-    )
+    improve(plan, table, r, s, 4_000_000_000_000, 0, budget)
 }
 
 // The first tree of least cost among those tried.
@@ -138,44 +63,6 @@ pub fn best(plan: Plan, table: &[[u32; 64]; 64], r: Preparation, budget: u32) ->
 {
     let s = begin(plan, table, r);
     searched(plan, table, r, s, budget)
-}
-
-// The trees from the root on: those to skip, then those that are left to be tried.
-pub(crate) fn explored(
-    plan: Plan,
-    table: &[[u32; 64]; 64],
-    r: Preparation,
-    s: Begun,
-    g: Progress,
-) -> Progress
-    requires { ⌜ IsPreparation (planValue plan) (now table) r × IsBegun (planValue plan) (now table) r s × IsShort g ⌝ }
-    ensures { λ x. ⌜ IsExplored (planValue plan) (arborescences (planValue plan)) g x ⌝ }
-{
-    let v = r.vertices;
-    let list = v.list;
-    let count = v.count;
-    let net = r.network;
-    let k = net.components as usize;
-    let base = r.base;
-    let f = base.amounts;
-    let b = s.root;
-    let c = s.candidates;
-    let start = c.start;
-    let source = c.source;
-    let tails = c.tails;
-    let heads = c.heads;
-    search::tried::advance(
-        g,
-        b,
-        &f,
-        table,
-        &list[..count],
-        &start,
-        &source,
-        &tails,
-        &heads,
-        k,
-    )
 }
 
 // "takes 1,000 trees or the rest of T"
@@ -246,17 +133,6 @@ fn tried_on(
     }
 }
 
-// How many trees are tried in all, and whether these are all there are, from how many there are.
-pub(crate) fn total_of(plan: Plan, number: u64, budget: u32) -> Total
-    requires { ⌜ number ≡ min (arborescenceCount (planValue plan)) cap ⌝ }
-    ensures { λ x. ⌜ (x .trees ≡ triedCount (planValue plan) budget) × (x .whole ≡ isWhole (planValue plan) budget) ⌝ }
-{
-    Total {
-        trees: lesser(number, budget),
-        whole: number <= budget as u64,
-    }
-}
-
 // One turn.
 pub fn resume(
     plan: Plan,
@@ -281,30 +157,5 @@ pub fn resume(
         tried: x.tried,
         total: total.trees,
         whole: total.whole,
-    }
-}
-
-// A search that goes on until so many trees are tried in all, or all that there are. None of those that were tried is tried again.
-pub fn go_on(plan: Plan, table: &[[u32; 64]; 64], r: Preparation, tries: u32, g: Reached) -> Further
-    requires { ⌜ IsPreparation (planValue plan) (now table) r ⌝ }
-    requires { ⌜ (1 ≤ tries) × (tries ≤ 1000000000) × IsReachedBy (planValue plan) g × (g .tried ≤ triedCount (planValue plan) tries) ⌝ }
-    ensures { λ x. ⌜ IsSearched (planValue plan) tries (x .found) × (x .number ≡ min (arborescenceCount (planValue plan)) cap) ⌝ }
-{
-    let s = begin(plan, table, r);
-    let total = total_of(plan, s.number, tries);
-    let more = total.trees - g.tried;
-    let x = tried_on(plan, table, r, s, g, more);
-    let ts = x.tails;
-    let hs = x.heads;
-    let found = Searched {
-        cost: x.cost,
-        tails: ts,
-        heads: hs,
-        tried: total.trees,
-        whole: total.whole,
-    };
-    Further {
-        found: found,
-        number: s.number,
     }
 }

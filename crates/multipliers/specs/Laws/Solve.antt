@@ -1,6 +1,6 @@
 -- From a prepared plan to what the search and the bounds ask: the greatest multipliers are lawful, and so are those that pass
 -- the test, once that of the root is taken off.
-use mathlib.Core.Path.{_≡_, sym, ap, _∙_, subst, subst⁻¹}
+use mathlib.Core.Path.{_≡_, sym, ap, _∙_, subst⁻¹}
 use mathlib.Core.Bool.{Bool}
 use mathlib.Core.List.{List, [], List·Memᴰ, List·Memᴰ·head, List·Memᴰ·tail}
 use Prim.Native.Nat.{ℕ, _≤_, _<_}
@@ -106,17 +106,6 @@ module _ (p : Plan) (table : List (List ℕ)) (vs : List ℕ) (base : State) (b 
       e ∙ ap (λ (x : List (List ℕ)). multipliers (cell x) vs base (root p)) (b .known .distances)
       ∙ ap (λ (v : List ℕ). multipliers (cell (tableOf p)) v base (root p)) (b .known .vertices)
       ∙ ap (λ (s : State). multipliers (cell (tableOf p)) (required p) s (root p)) (b .base-is)
-
-  -- multipliers that pass the test are lawful, once that of the root is taken off
-  pub lawful-rooted : (x : List ℤ) → AreSmall beyond x → T (areLawful table (base .amounts) x vs) → Rooted p (rooted x vs)
-  lawful-rooted x small h =
-      let d : T (areLawful (tableOf p) (base .amounts) x vs) =
-      subst (λ (t : List (List ℕ)). T (areLawful t (base .amounts) x vs)) (b .known .distances) h in
-      let v : T (areLawful (tableOf p) (base .amounts) x (required p)) =
-      subst (λ (vs : List ℕ). T (areLawful (tableOf p) (base .amounts) x vs)) (b .known .vertices) d in
-      let s = subst (λ (s : State). T (areLawful (tableOf p) (s .amounts) x (required p))) (b .base-is) v in
-      subst⁻¹ (λ (vs : List ℕ). Rooted p (rooted x vs)) (b .known .vertices)
-      (lawful-at-root p (b .known .plannable) (b .known .few) x small s)
 
 module _ (p : Plan) (table : List (List ℕ)) (vs : List ℕ) (base : State) (b : IsBase p table vs base) (u : List ℤ) (e : Rooted p u) where
   abbrev ok : Plannable p

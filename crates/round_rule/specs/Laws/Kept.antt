@@ -1,7 +1,7 @@
 -- What is kept: the cost is that of the plan under its numbering, and so is the floor, with its multipliers carried back; and the cost is
 -- no more than that of the round which the floor is from.
 use mathlib.Core.Path.{_≡_, refl, sym, ap, fun-ext, _∙_, subst, subst⁻¹}
-use mathlib.Core.Bool.{true, false, not, cond}
+use mathlib.Core.Bool.{true, false}
 use mathlib.Core.List.{List, map}
 use Prim.Native.Nat.{ℕ, zero, suc, _+_, _-_, _*_, _≤_, _<_}
 use native.Mathlib.Decide.{decLe}
@@ -14,7 +14,6 @@ use lib.Signed.{_≤ℤ_, ltZ, ltZ-yes}
 use Rattle.integers.specs.Linear.{z}
 use Rattle.postman.specs.Lists.{upFrom, below}
 use Rattle.postman.specs.Plan.{Plan, WellFormed}
-use Rattle.postman.specs.Required.{required}
 use Rattle.postman.specs.Component.{componentCount}
 use Rattle.postman.specs.LagrangianBound.{Multipliers, AreMultipliers}
 use Rattle.postman.specs.PlanCall.{bestCost, triedCount}

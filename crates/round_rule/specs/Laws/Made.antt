@@ -1,29 +1,18 @@
 -- What the code makes is what the definitions say: over the values that its functions answer.
-use mathlib.Core.Path.{_≡_, refl, sym, ap, ap₂, _∙_, subst⁻¹}
-use mathlib.Core.Bool.{Bool, true, false, cond}
-use mathlib.Core.Logic.{_≢_}
+use mathlib.Core.Path.{_≡_, refl, sym, ap, _∙_, subst⁻¹}
+use mathlib.Core.Bool.{Bool, true, false}
 use mathlib.Core.List.{List}
-use mathlib.Core.Option.{none}
-use Prim.Native.Nat.{ℕ, suc, _+_, _-_, _%_, _≤_, _<_, min}
+use Prim.Native.Nat.{ℕ, _+_, _-_, _%_, _≤_, _<_}
 use native.Mathlib.Omega.{arith}
 use borrow.Author.Tests.{le-leb, lt-leb, lt-ltb, le-ltb}
-use lib.Dec.{eqb, leb}
-use lib.IntN.{ℤ, pos}
-use lib.Signed.{leZ, ltZ}
-use Rattle.postman.specs.Plan.{Plan, WellFormed}
-use Rattle.postman.specs.Component.{componentCount}
-use Rattle.postman.specs.Arborescence.{arborescenceCount}
-use Rattle.postman.specs.PlanCall.{bestCost, triedCount}
-use Rattle.postman.specs.Steps.{Plannable}
+use lib.Dec.{eqb}
+use lib.IntN.{ℤ}
+use lib.Signed.{ltZ}
+use Rattle.postman.specs.Plan.{Plan}
 use Rattle.plan.specs.declared.Plan.{Plan as PlanRecord}
 use Rattle.plan.specs.Records.{planValue}
 use Rattle.plan.specs.Laws.Records.{plan-vertices}
-use Rattle.small_counts.specs.Matrix.{cap}
-use Rattle.multipliers.specs.Ascent.{multipliersFor}
-use Rattle.tree_search.specs.Laws.BestTree.{cost-small}
-use Rattle.held_tree.specs.declared.found.Found.{Found}
-use Rattle.held_tree.specs.Found.{IsFound}
-use Rattle.call_steps.specs.Refusals.{planRefusal}
+use Rattle.held_tree.specs.declared.cheaper.Found.{Found}
 use Rattle.renumbering.specs.declared.numbering.Numbering.{Numbering}
 use Rattle.renumbering.specs.declared.shuffle.Drawn.{Drawn}
 use Rattle.renumbering.specs.Numbering.{unchanged}
@@ -32,10 +21,8 @@ use Rattle.renumbering.specs.Renumbered.{carriedIn}
 use Rattle.round_rule.specs.declared.kept.Kept.{Kept}
 use Rattle.round_rule.specs.declared.trial.Trial.{Trial}
 use Rattle.round_rule.specs.declared.trial.Chosen.{Chosen}
-use Rattle.round_rule.specs.Rounds.{under, floorOf, costOf, floorUnder, carriedBack, leftOf, newTrees, begun, withDrive, withFloor, withBase, counted, isClosed, isGoneOn, goneOn, numbersOf, exchangedBy, nextRound, roundWith, nextKept, keptAfter}
-use Rattle.round_rule.specs.Trial.{IsTrial}
-use Rattle.round_rule.specs.Laws.Tables.{plan-accepted, under-few, under-plannable}
-use Rattle.round_rule.specs.Laws.Kept.{IsKept, after-kept, closed-stays, one-round, tried-few, trees-same}
+use Rattle.round_rule.specs.Rounds.{begun, withDrive, withFloor, withBase, counted, isGoneOn, goneOn, numbersOf, exchangedBy, nextRound}
+use Rattle.round_rule.specs.Laws.Kept.{trees-same}
 
 abbrev keptOf : Trial → ℕ → Trial → ℤ → List ℤ → Trial → ℕ → ℕ → ℕ → Kept
 keptOf x c y f u b l t r = record { drive = x; cost = c; bound = y; floor = f; multipliers = u; base = b; left = l; trees = t; random = r }

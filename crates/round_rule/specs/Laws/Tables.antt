@@ -1,12 +1,12 @@
 -- The plan under a numbering: it is well formed, refused as the plan is, and its tables are the plan's, renumbered.
-use mathlib.Core.Path.{_≡_, sym, ap, _∙_, subst, subst⁻¹}
-use mathlib.Core.List.{List, [], _∷_, map}
+use mathlib.Core.Path.{_≡_, sym, ap, _∙_, subst⁻¹}
+use mathlib.Core.List.{List, [], _∷_}
 use mathlib.Core.Option.{none}
 use mathlib.Core.Logic.{_≢_}
 use Prim.Native.Nat.{ℕ, _≤_, _<_}
 use native.Mathlib.Omega.{arith}
 use lib.ListN.{length, getD}
-use lib.Dec.{T, eqb, ltb, nltb→le}
+use lib.Dec.{eqb, ltb, nltb→le}
 use Rattle.postman.specs.Plan.{Arc, Plan, WellFormed, requiredArcs}
 use Rattle.postman.specs.Refusal.{firstRefusal}
 use Rattle.postman.specs.Component.{componentCount}

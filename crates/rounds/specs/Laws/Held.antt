@@ -17,10 +17,9 @@ use Rattle.branches.specs.Links.{linksIn}
 use Rattle.multipliers.specs.Tour.{driveOf, tourOf}
 use Rattle.tree_search.specs.declared.trees.Reached.{Reached}
 use Rattle.tree_search.specs.Laws.BestTree.{cost-small}
-use Rattle.held_tree.specs.declared.found.Found.{Found}
-use Rattle.held_tree.specs.Found.{IsBest, IsFound}
+use Rattle.held_tree.specs.declared.cheaper.Found.{Found}
 use Rattle.tree_search.specs.Improved.{CanImprove}
-use Rattle.held_tree.specs.Cheaper.{IsCheaper}
+use Rattle.held_tree.specs.Cheaper.{IsBest, IsCheaper}
 use Rattle.round_rule.specs.declared.kept.Kept.{Kept}
 use Rattle.round_rule.specs.declared.trial.Trial.{Trial}
 use Rattle.round_rule.specs.declared.trial.Chosen.{Chosen}
@@ -72,7 +71,7 @@ module _ (p : Plan) (ok : Plannable p) (few : componentCount p ≤ 8) (budget ro
         t,
         record {
           some-tries = t .some-tries;
-          few-tries = t .few-tries;
+          few-tries = (let a = t .few-tries in omega arith);
           within = omega arith;
           low = omega arith;
           none-before = b .1;
@@ -145,9 +144,9 @@ laid-as q r tries g e h =
 
 -- ---- the first round
 
-pub first-held : (p : Plan) (budget : ℕ) (r : Deep) (a : Found) → IsFound p budget a → r .kept ≡ keptAfter p budget 0 → r .drive ≡ a .best
-    → IsHeld p r
+pub first-held : (p : Plan) (budget : ℕ) (r : Deep) (a : Found) → IsBest p budget (a .best) → r .kept ≡ keptAfter p budget 0
+    → r .drive ≡ a .best → IsHeld p r
 unfolding keptAfter begun
 first-held p budget r a i ek ed =
-    let h = subst⁻¹ (λ (q : Plan). IsBest q budget (a .best)) (under-unchanged p) (i .best-is) in
+    let h = subst⁻¹ (λ (q : Plan). IsBest q budget (a .best)) (under-unchanged p) i in
     subst⁻¹ (λ (g : Reached). BestOf p (r .kept .drive) g) ed (subst⁻¹ (λ (k : Kept). BestOf p (k .drive) (a .best)) ek h)

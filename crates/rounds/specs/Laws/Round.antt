@@ -20,9 +20,8 @@ use Rattle.multipliers.specs.Ascent.{multipliersFor}
 use Rattle.tree_search.specs.declared.trees.Reached.{Reached}
 use Rattle.tree_search.specs.Laws.BestTree.{cost-small}
 use Rattle.tree_search.specs.Laws.Resumed.{total-is}
-use Rattle.held_tree.specs.declared.found.Found.{Found}
-use Rattle.held_tree.specs.Found.{IsFound}
-use Rattle.held_tree.specs.Cheaper.{IsCheaper}
+use Rattle.held_tree.specs.declared.cheaper.Found.{Found}
+use Rattle.held_tree.specs.Cheaper.{IsBest, IsCheaper}
 use Rattle.call_steps.specs.Refusals.{planRefusal}
 use Rattle.renumbering.specs.Renumbered.{carriedIn}
 use Rattle.round_rule.specs.declared.kept.Kept.{Kept}
@@ -95,17 +94,17 @@ few-tried q cost tries a low h = let t = tried-few q tries in let e = h .tried-i
 
 -- ---- all rounds
 
-pub first-kept : (p : Plan) (budget : ℕ) (a : Found) (k : Kept) → IsFound p budget a
+pub first-kept : (p : Plan) (budget cost : ℕ) (a : Found) (k : Kept) → IsCheaper p cost budget a → IsBest p budget (a .best)
     → k ≡ begun budget (a .best .cost) (a .floor) (a .multipliers) (a .number - budget) (a .best .tried) → k ≡ keptAfter p budget 0
 unfolding keptAfter leftOf floorOf
-first-kept p budget a k h e =
+first-kept p budget cost a k h b e =
     let l = min (arborescenceCount p) cap - budget in
     e
-    ∙ ap (λ (n : ℕ). begun budget n (a .floor) (a .multipliers) (a .number - budget) (a .best .tried)) (h .best-is .cost-is)
+    ∙ ap (λ (n : ℕ). begun budget n (a .floor) (a .multipliers) (a .number - budget) (a .best .tried)) (b .cost-is)
     ∙ ap (λ (f : ℤ). begun budget (bestCost p budget) f (a .multipliers) (a .number - budget) (a .best .tried)) (h .floor-is)
     ∙ ap (λ (u : List ℤ). begun budget (bestCost p budget) (floorOf p budget) u (a .number - budget) (a .best .tried)) (h .multipliers-are)
     ∙ ap (λ (n : ℕ). begun budget (bestCost p budget) (floorOf p budget) (multipliersFor p) (n - budget) (a .best .tried)) (h .number-is)
-    ∙ ap (λ (n : ℕ). begun budget (bestCost p budget) (floorOf p budget) (multipliersFor p) l n) (h .best-is .tried-is)
+    ∙ ap (λ (n : ℕ). begun budget (bestCost p budget) (floorOf p budget) (multipliersFor p) l n) (h .tried-is)
 
 pub closed-as : (k : Kept) (b v : Bool) (f : ℤ) → f ≡ k .floor → b ≡ leZ (pos (k .cost)) f → b ≡ v → isClosed k ≡ v
 unfolding isClosed

@@ -18,8 +18,8 @@ use Rattle.postman.specs.PlanCall.{Summary, summary, fields, triedCount, isWhol
 use Rattle.postman.specs.Steps.{Plannable}
 use Rattle.postman.specs.Laws.Optimality.{guaranteed}
 use Rattle.tour_legs.specs.Tour.{written}
-use Rattle.search.specs.declared.tried.Searched.{Searched}
-use Rattle.search.specs.Contracts.{IsSearched}
+use Rattle.tree_search.specs.declared.improve.Searched.{Searched}
+use Rattle.tree_search.specs.Improved.{IsSearched}
 use Rattle.solution.specs.declared.Planned.{Planned}
 use Rattle.refusal.specs.Verdict.{verdictNumber}
 use Rattle.multipliers.specs.Tour.{driveOf, tourOf}

@@ -15,11 +15,11 @@ use Rattle.multipliers.proofs.ascend.ascend.Statement.{statement}
 use Rattle.multipliers.proofs.ascend.ascend.Tie as tie
 
 abbrev Inv-loop : tie.InvT-loop
-Inv-loop table f vs component flags k cost imbalance c₀ i₀ c i =
-    (i ≤ 20) × CanStep c × ((p : Plan) → IsPrepared p table f vs component flags k cost imbalance → climbOf c ≡ turns (climb p table f vs component k) (climbOf c₀) i)
+Inv-loop table f vs s c₀ i₀ c i =
+    (i ≤ 20) × CanStep c × ((p : Plan) → IsPrepared p table f vs s → climbOf c ≡ turns (climb p) (climbOf c₀) i)
 
 abbrev μ-loop : tie.MeasureT-loop
-μ-loop table f vs component flags k cost imbalance c₀ i₀ c i = 20 - i
+μ-loop table f vs s c₀ i₀ c i = 20 - i
 
 begun-requires : tie.Need-begun-requires Inv-loop μ-loop
 begun-requires c κs = c .before .pre
@@ -39,7 +39,7 @@ loop-again c =
 returns : tie.Need-returns Inv-loop μ-loop
 returns c =
     let at = c .before .before .before in
-    λ p h e. ascent-is _ _ _ _ _ _ _ (at .loop .i) (at .before .begun .ensures .0 p h e) (at .loop .inv .2 p h) (at .loop .inv .0) (omega arith) (back64 _ (c .struct-told .given .1 .1 .1 .0 .1))
+    λ p h e. ascent-is _ (at .loop .i) (at .before .begun .ensures .0 p h e) (at .loop .inv .2 p h) (at .loop .inv .0) (omega arith) (back64 _ (c .struct-told .given .1 .1 .1 .0 .1))
 
 pub ascend-spec : {M : Type 1} → statement M
 ascend-spec =

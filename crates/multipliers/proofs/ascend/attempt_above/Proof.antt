@@ -1,7 +1,4 @@
 -- By the test.
-use mathlib.Core.Path.{_≡_}
-use mathlib.Core.Bool.{true, false}
-use lib.Signed.{ltZ}
 use Rattle.integers.specs.Linear.{back64}
 use Rattle.multipliers.specs.Laws.Climb.{held-is}
 use Rattle.multipliers.proofs.ascend.attempt_above.Statement.{statement}

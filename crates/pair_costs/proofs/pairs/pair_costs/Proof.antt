@@ -26,11 +26,11 @@ loop-holds c = (omega arith, refl, offers-none _ _ _ _)
 place-requires : tie.Need-place-requires Inv-loop μ-loop
 place-requires c κs = let t = c .loop-test .taken in (omega arith, omega arith, c .before .before .pre .in-range)
 
-mul-lesser : tie.Need-mul-lesser Inv-loop μ-loop
-mul-lesser c = let h = c .place .ensures .0 in search needs
+mul-lesser-cost : tie.Need-mul-lesser-cost Inv-loop μ-loop
+mul-lesser-cost c = let h = c .place .ensures .0 in search needs
 
-array-copy-out-lesser : tie.Need-array-copy-out-lesser Inv-loop μ-loop
-array-copy-out-lesser c = let h = c .place .ensures .0 in let k = c .before .before .loop .inv .1 in omega arith
+array-copy-out-lesser-cost : tie.Need-array-copy-out-lesser-cost Inv-loop μ-loop
+array-copy-out-lesser-cost c = let h = c .place .ensures .0 in let k = c .before .before .loop .inv .1 in omega arith
 
 offer-requires : tie.Need-offer-requires Inv-loop μ-loop
 offer-requires c κs = let t = c .before .before .loop-test .taken in let s = c .before .before .before .before in (omega arith, omega arith, s .pre .small _ (omega arith), s .pre .small _ (omega arith))
@@ -50,14 +50,14 @@ loop-again c =
     let d = s .args .d .now in
     let u = s .args .u .now in
     let r = s .args .required .now in
-    let f : toZ w64 (ofZ w64 (getD (v .m) (x .result) (pos 0))) ≡ getD (v .m) (x .result) (pos 0) = back64 _ (c .before .before .lesser-arg .given) in
+    let f : toZ w64 (ofZ w64 (getD (v .m) (x .result) (pos 0))) ≡ getD (v .m) (x .result) (pos 0) = back64 _ (c .before .before .lesser-cost-arg .given) in
     let g : toZ w64 (ofZ w64 (c .before .offer .result)) ≡ offerOf d u r (v .l / 64) (v .l % 64) = back64 (c .before .offer .result) (c .before .offer .ok) ∙ c .before .offer .ensures in
-    let q : IsLesser (getD (v .m) (x .result) (pos 0)) (offerOf d u r (v .l / 64) (v .l % 64)) (c .lesser .result) = rw (← f, ← g) (c .lesser .ensures) in
-    let k : toZ w64 (ofZ w64 (c .lesser .result)) ≡ c .lesser .result = back64 (c .lesser .result) (c .lesser .ok) in (
+    let q : IsLesser (getD (v .m) (x .result) (pos 0)) (offerOf d u r (v .l / 64) (v .l % 64)) (c .lesser-cost .result) = rw (← f, ← g) (c .lesser-cost .ensures) in
+    let k : toZ w64 (ofZ w64 (c .lesser-cost .result)) ≡ c .lesser-cost .result = back64 (c .lesser-cost .result) (c .lesser-cost .ok) in (
       omega arith,
       search needs,
       rw k
-          (offers-more d u (s .args .component .now) r (s .pre) (v .l) t (v .m) (v .inv .2) (x .result) (v .inv .1) (x .ensures .0) (x .ensures .1) (c .lesser .result) q),
+          (offers-more d u (s .args .component .now) r (s .pre) (v .l) t (v .m) (v .inv .2) (x .result) (v .inv .1) (x .ensures .0) (x .ensures .1) (c .lesser-cost .result) q),
     )
 
 returns : tie.Need-returns Inv-loop μ-loop
@@ -71,8 +71,8 @@ pair-costs-spec =
     μ-loop
     loop-holds
     place-requires
-    mul-lesser
-    array-copy-out-lesser
+    mul-lesser-cost
+    array-copy-out-lesser-cost
     offer-requires
     (λ c κs. search needs)
     mul-m

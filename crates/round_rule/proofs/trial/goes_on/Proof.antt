@@ -1,7 +1,6 @@
 -- The cases of the definition.
 use native.Mathlib.Omega.{arith}
 use Rattle.round_rule.specs.Laws.Made.{few-on, none-on, many-on}
-use borrow.Author.Needs.{needs}
 use Rattle.round_rule.proofs.trial.goes_on.Statement.{statement}
 use Rattle.round_rule.proofs.trial.goes_on.Tie as tie
 

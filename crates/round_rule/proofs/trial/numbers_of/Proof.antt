@@ -2,7 +2,6 @@
 use mathlib.Core.Path.{refl}
 use native.Mathlib.Omega.{arith}
 use Rattle.round_rule.specs.Laws.Made.{drive-numbers, base-numbers}
-use borrow.Author.Needs.{needs}
 use Rattle.round_rule.proofs.trial.numbers_of.Statement.{statement}
 use Rattle.round_rule.proofs.trial.numbers_of.Tie as tie
 

@@ -34,7 +34,7 @@ sub-kept-of c =
     let h = c .before .before .before .before .before .before .choose in
     let g = round-asks _ (a .0) (a .1) _ (s .args .round) (b .0) (b .1) (s .args .d .kept) (t .2) _ (h .ensures) in
     let f = c .before .before .before .cheaper-under in
-    old-fewer _ _ _ _ (f .result) (f .ensures) (g .2 .within) (g .2 .few-tries) _ (c .before .lesser .ensures)
+    old-fewer _ _ _ _ (f .result) (f .ensures) (g .2 .within) (g .1 .few-tries) _ (c .before .tried-count .ensures)
 
 kept-of-requires : tie.Need-kept-of-requires
 kept-of-requires c κs =
@@ -45,7 +45,7 @@ kept-of-requires c κs =
     let h = c .before .before .before .before .before .before .choose in
     let g = round-asks _ (a .0) (a .1) _ (s .args .round) (b .0) (b .1) (s .args .d .kept) (t .2) _ (h .ensures) in
     let f = c .before .before .before .cheaper-under in
-    let l = few-tried _ _ _ (f .result) (g .2 .few-tries) (f .ensures) in
+    let l = few-tried _ _ _ (f .result) (g .1 .few-tries) (f .ensures) in
     (t .2 .few-trees, omega arith, inside-to _ (t .0 .well-formed) _ (g .1 .numbers))
 
 returns : tie.Need-returns
@@ -58,9 +58,9 @@ returns c =
     let g = round-asks _ (a .0) (a .1) _ (s .args .round) (b .0) (b .1) (s .args .d .kept) (t .2) _ (h .ensures) in
     let d = s .args .d in
     let f = c .before .before .before .before .before .cheaper-under in
-    let o = c .before .before .before .lesser in
+    let o = c .before .before .before .tried-count in
     let k = c .before .kept-of in
-    let e = old-tried _ _ _ _ (f .result) (f .ensures) (g .2 .within) (g .2 .few-tries) _ (o .ensures) in (
+    let e = old-tried _ _ _ _ (f .result) (f .ensures) (g .2 .within) (g .1 .few-tries) _ (o .ensures) in (
       next-as _ _ _ (d .kept) (h .result) (f .result) (o .result) (k .result) (h .ensures) (f .ensures) e (k .ensures),
       next-held (planValue (s .args .plan)) d _ (h .result .trial) (f .result) _ _ _ _ _ (t .3) (f .ensures) (k .ensures) (c .chosen-of .ensures),
     )

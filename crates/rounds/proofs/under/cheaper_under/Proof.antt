@@ -9,7 +9,6 @@ use Rattle.call_steps.specs.Refusals.{planRefusal}
 use Rattle.tree_search.specs.Improved.{CanImprove}
 use Rattle.held_tree.specs.Cheaper.{IsCheaper}
 use Rattle.round_rule.specs.Laws.Tables.{inside-from, under-well-formed, under-refusal, under-table}
-use borrow.Author.Needs.{needs}
 use Rattle.rounds.proofs.under.cheaper_under.Statement.{statement}
 use Rattle.rounds.proofs.under.cheaper_under.Tie as tie
 

@@ -1,15 +1,14 @@
 -- The candidates, the state, the multipliers and the entries are what the search asks.
 use mathlib.Core.Path.{ap, _∙_}
 use Prim.Native.Nat.{min}
-use native.Mathlib.Omega.{arith}
 use Rattle.plan.specs.Records.{planValue}
 use Rattle.small_counts.specs.Matrix.{cap}
 use Rattle.search.specs.Laws.Tried.{countable, root-count}
 use Rattle.preparation.specs.Laws.Preparation.{vertices-fit, vertices-length, component-range}
 use Rattle.tree_search.specs.Laws.Begun.{search-prepared, search-given}
 use borrow.Author.Needs.{needs}
-use Rattle.tree_search.proofs.trees.begin.Statement.{statement}
-use Rattle.tree_search.proofs.trees.begin.Tie as tie
+use Rattle.tree_search.proofs.begin.begin.Statement.{statement}
+use Rattle.tree_search.proofs.begin.begin.Tie as tie
 
 of-network-requires : tie.Need-of-network-requires
 of-network-requires c κs = component-range _ _ _ (c .before .before .before .before .before .pre)

@@ -3,8 +3,8 @@ use mathlib.Core.Path.{_∙_}
 use Rattle.multipliers.specs.Laws.Tour.{is-table}
 use Rattle.call_steps.specs.Laws.Call.{measured-refusal}
 use borrow.Author.Needs.{needs}
-use Rattle.held_tree.proofs.found.plan_verdict.Statement.{statement}
-use Rattle.held_tree.proofs.found.plan_verdict.Tie as tie
+use Rattle.held_tree.proofs.verdict.plan_verdict.Statement.{statement}
+use Rattle.held_tree.proofs.verdict.plan_verdict.Tie as tie
 
 network-of-requires : tie.Need-network-of-requires
 network-of-requires c κs = (c .pre .0, is-table _ _ (c .pre .1))

@@ -9,8 +9,8 @@ use Rattle.branches.specs.Holding.{heldIn}
 use Rattle.search.specs.Laws.Tried.{root-trees}
 use Rattle.preparation.specs.Laws.Preparation.{vertices-fit, vertices-length}
 use borrow.Author.Needs.{needs}
-use Rattle.tree_search.proofs.trees.explored.Statement.{statement}
-use Rattle.tree_search.proofs.trees.explored.Tie as tie
+use Rattle.tree_search.proofs.begin.explored.Statement.{statement}
+use Rattle.tree_search.proofs.begin.explored.Tie as tie
 
 array-share-prefix-list : tie.Need-array-share-prefix-list
 array-share-prefix-list c = vertices-fit _ _ _ (c .before .before .before .before .before .before .before .before .before .before .before .before .before .pre .0)
