@@ -7,7 +7,7 @@ use lib.ListN.{length}
 use Rattle.postman.specs.Refusal.{firstRefusal}
 use Rattle.postman.specs.PlanFile.{fileConditions, isOutside, planOf}
 use Rattle.postman.specs.PlanCall.{highestBudget, budgetConditions, lastConditions}
-use Rattle.district_turn.specs.Padded.{padded}
+use Rattle.held_file.specs.Padded.{padded}
 use Rattle.district_machine.specs.declared.machine.District.{District as DistrictRecord}
 use Rattle.district_machine.specs.declared.machine.Machine.{Machine}
 use Rattle.district_entry.specs.declared.enter.Admission.the-variants.{At}

@@ -23,8 +23,8 @@ use Rattle.refusal.specs.Verdict.{refusalNumber}
 use Rattle.call_steps.specs.Refusals.{budgetRefusal}
 use Rattle.call_steps.specs.Laws.Call.{parts-refusal}
 use Rattle.planner.specs.Laws.LongFile.{long-refused}
-use Rattle.district_turn.specs.Padded.{padded}
-use Rattle.district_turn.specs.Laws.Padded.{padded-set}
+use Rattle.held_file.specs.Padded.{padded}
+use Rattle.held_file.specs.Laws.Padded.{padded-set}
 use Rattle.district_machine.specs.declared.machine.District.{District as DistrictRecord}
 use Rattle.district_machine.specs.declared.machine.Machine.{Machine}
 use Rattle.district_entry.specs.declared.enter.Admission.the-variants.{At, Refused}
