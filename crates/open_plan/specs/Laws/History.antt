@@ -56,7 +56,7 @@ module _ (e : ℕ) (p : Plan) (w : Writable e p) where
   pub is-file-of : IsFileOf e p (heldOf (fileOf e p))
   is-file-of =
       let can = accepted-is-writable e p longestFile (w .accepted) in
-      let f = held-file (fileOf e p) file-fits in
+      let f = held-file (fileOf e p) in
       record {
         file = f;
         reads = rw f (file-is-accepted (fileOf e p) (is-file e p well (can .edition-in) (can .arcs-in)));
@@ -89,7 +89,7 @@ unfolding heldOf
 no-length h q = ap (λ (x : Held). x .length) q
 
 pub keeps-mark : (e : ℕ) (o : Option Plan) (h : Held) → KeepsMark e o h → IsMarkOf e o h
-keeps-mark e none h q = ap fileIn q ∙ held-file [] (omega arith)
+keeps-mark e none h q = ap fileIn q ∙ held-file []
 keeps-mark e (some p) h k = keeps-file e p h k
 
 pub mark-size : (e : ℕ) (o : Option Plan) (h : Held) → KeepsMark e o h → length (h .file) ≡ longestFile
