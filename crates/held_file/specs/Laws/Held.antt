@@ -61,12 +61,16 @@ pub held-file : (file : List ℕ) → fileIn (heldOf file) ≡ file
 unfolding heldOf
 held-file file = take-append-seam file (replicate (longestFile - length file) 0)
 
-pub held-size : (file : List ℕ) → length file ≤ longestFile → length (heldOf file .file) ≡ longestFile
+-- An array of 1,475 bytes, and a length that is no more.
+abbrev pub IsShort : Held → Type 0
+IsShort h = (length (h .file) ≡ longestFile) × (h .length ≤ longestFile)
+
+pub held-size : (file : List ℕ) → length file ≤ longestFile → IsShort (heldOf file)
 unfolding heldOf
 held-size file h =
     let a = length-append file (replicate (longestFile - length file) 0) in
     let z = length-replicate {A = ℕ} (longestFile - length file) 0 in
-    omega arith
+    (omega arith, h)
 
 -- Its bytes, as many as its length says or all of them, are the file.
 pub held-part : (h : Held) (n : ℕ) → length (h .file) ≡ longestFile → n ≡ atMost (h .length) longestFile
