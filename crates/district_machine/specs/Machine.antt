@@ -40,4 +40,10 @@ emptyMachine = machineOf []
 
 -- What is read past the eighth district. (No call does.)
 abbrev pub noDistrict : DistrictRecord
-noDistrict = record { place = 0; plan = record { length = 0; file = [] }; budget = 0; held = record { cost = 0; tails = []; heads = []; tried = 0 } }
+noDistrict =
+    record {
+      place = 0;
+      plan = record { length = 0; file = [] };
+      budget = 0;
+      held = record { cost = 0; tails = []; heads = []; tried = 0 };
+    }

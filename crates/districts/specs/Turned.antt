@@ -37,7 +37,8 @@ hasOwnPlace d ds = ltb (d .place) 8 && not (occurs (d .place) (places (map distr
 -- Its file is read, and its budget is within its limits.
 unfoldable pub isReadable : DistrictRecord → Bool
 unfolding firstRefusal fileConditions isOutside highestBudget isGood
-isReadable d = leb (d .plan .length) 1475 && (not (isOutside (d .budget) 1 highestBudget) && isGood (firstRefusal (fileConditions (bytesOf d))))
+isReadable d =
+    leb (d .plan .length) 1475 && (not (isOutside (d .budget) 1 highestBudget) && isGood (firstRefusal (fileConditions (bytesOf d))))
 
 -- Its plan has drives, and it holds a tree and its cost, or has tried none; and some tree is left to be tried.
 abbrev pub canBeServed : DistrictRecord → Bool

@@ -165,7 +165,8 @@ module _ (d : DistrictRecord) where
       let x : ltb (d .budget) 1 ≡ false = le-ltb (d .budget) 1 o in
       let y : ltb 1000000 (d .budget) ≡ false = le-ltb 1000000 (d .budget) b in
       let z : not outside ≡ true = rw (x, y) refl in
-      and-yes (leb (d .plan .length) 1475) (not outside && read) (le-leb (d .plan .length) 1475 n) (and-yes (not outside) read z (ap isGood e))
+      and-yes (leb (d .plan .length) 1475) (not outside && read) (le-leb (d .plan .length) 1475 n)
+      (and-yes (not outside) read z (ap isGood e))
 
   -- its plan is read
   pub turn-by-file : (p : Plan) (old new : List ℕ) (r : DistrictTurn) → p ≡ planBy d → isReadable d ≡ true

@@ -1,5 +1,5 @@
 -- Files by value: written over zeros, read, and lent.
-use mathlib.Core.Path.{_≡_, refl, sym, ap, _∙_}
+use mathlib.Core.Path.{_≡_, sym, ap, _∙_}
 use mathlib.Core.List.{List, [], _++_, append-nil}
 use mathlib.Core.Option.{Option, none, some}
 use Prim.Native.Nat.{ℕ, zero, suc, _+_, _-_, _≤_}
@@ -11,7 +11,7 @@ use Rattle.postman.specs.Refusal.{firstRefusal, unless, given}
 use Rattle.postman.specs.PlanFile.{edition, arcCount, fileOf, fileLength, fileConditions, writeRefusal, writeAnswer, bytesAfter}
 use Rattle.postman.specs.OpenPlan.{longestFile}
 use Rattle.postman.specs.Laws.FileLength.{fileLength-le}
-use Rattle.postman.specs.Laws.Acceptance.{accepted-is-file, accepted-is-writable}
+use Rattle.postman.specs.Laws.Acceptance.{accepted-is-file}
 use Rattle.postman.specs.Laws.PlanFile.{length-fileOf}
 use Rattle.plan_writer.specs.Laws.Writing.{length-given, given-bytes}
 use Rattle.record_writer.specs.Writing.{atMost}

@@ -5,7 +5,7 @@ use mathlib.Core.List.{List, [], _∷_, _++_, flatMap, List·Memᴰ, List·Mem�
 use Prim.Native.Nat.{ℕ, zero, suc, _+_, _*_}
 use native.Mathlib.Nat.{suc-mul}
 use native.Mathlib.Omega.{arith}
-use lib.ListN.{length, replicate, replicate-append-replicate}
+use lib.ListN.{replicate, replicate-append-replicate}
 use Rattle.encoding.specs.NumberBytes.{wordBytes, longBytes}
 use Rattle.held_file.specs.Held.{heldOf}
 use Rattle.held_file.specs.Laws.Held.{held-size}
