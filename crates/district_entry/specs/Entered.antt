@@ -3,11 +3,10 @@ use mathlib.Core.Path.{_≡_}
 use mathlib.Core.List.{List, [], _∷_, _++_}
 use mathlib.Core.Option.{Option, none, some}
 use Prim.Native.Nat.{ℕ}
-use lib.ListN.{length}
 use Rattle.postman.specs.Refusal.{firstRefusal}
 use Rattle.postman.specs.PlanFile.{fileConditions, isOutside, planOf}
 use Rattle.postman.specs.PlanCall.{highestBudget, budgetConditions, lastConditions}
-use Rattle.district_turn.specs.Padded.{padded}
+use Rattle.held_file.specs.Held.{heldOf}
 use Rattle.district_machine.specs.declared.machine.District.{District as DistrictRecord}
 use Rattle.district_machine.specs.declared.machine.Machine.{Machine}
 use Rattle.district_entry.specs.declared.enter.Admission.the-variants.{At}
@@ -22,10 +21,9 @@ unfoldable pub callPart : List ℕ → ℕ → Option ℕ
 unfolding firstRefusal fileConditions isOutside highestBudget planOf
 callPart bytes budget = firstRefusal (fileConditions bytes ++ (budgetConditions budget ++ lastConditions (planOf bytes)))
 
--- A district that enters: its plan, and zeros behind it; no tree was tried.
+-- A district that enters: no tree was tried.
 abbrev pub entrant : ℕ → List ℕ → ℕ → DistrictRecord
-entrant place bytes budget =
-    record { place = place; bytes = padded 1475 0 bytes; length = length bytes; budget = budget; held = nothingHeld }
+entrant place bytes budget = record { place = place; plan = heldOf bytes; budget = budget; held = nothingHeld }
 
 -- In a refused entry "nothing moves".
 unfoldable pub movedUnless : Option ℕ → Machine → Machine → Machine

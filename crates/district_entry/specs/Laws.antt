@@ -1,4 +1,3 @@
 -- What is proved about them.
 pub mod Line
-pub mod Entry
 pub mod Entered

@@ -4,9 +4,9 @@ use budget::Checked;
 use call_steps::steps::network_verdict;
 use district_machine::machine::District;
 use district_machine::machine::Machine;
-use district_machine::places::kept;
 use district_machine::places::lined_up;
 use district_machine::places::lowest_free;
+use held_file::file::hold;
 use plan::Plan;
 use refusal::Refusal;
 use refusal::Verdict;
@@ -81,12 +81,11 @@ fn admit(m: Machine, bytes: &[u8], budget: u32) -> Entered
     let before = m.line;
     let place = lowest_free(before, n);
     let mut line = lined_up(before, 0, n);
-    let copy = kept(bytes);
+    let file = hold(bytes);
     let held = nothing_held();
     let d = District {
         place: place,
-        bytes: copy,
-        length: bytes.len(),
+        plan: file,
         budget: budget,
         held: held,
     };

@@ -1,14 +1,15 @@
 // The machine: up to eight districts, by value. "Empty at first."
+use held_file::Held;
+use held_file::file::no_file;
 use tree_search::trees::Reached;
 use tree_search::trees::nothing_held;
 ghost use mathlib.Core.Path.{_≡_};
 ghost use Rattle.district_machine.specs.Machine.{emptyDistrict, emptyMachine};
 
-// A district that is not finished: its place; its plan, in the first `length` bytes; its budget; and how far it is.
+// A district that is not finished: its place; its plan, as a file; its budget; and how far it is.
 pub struct District {
     pub place: u8,
-    pub bytes: [u8; 1475],
-    pub length: usize,
+    pub plan: Held,
     pub budget: u32,
     pub held: Reached,
 }
@@ -23,11 +24,11 @@ pub struct Machine {
 pub(crate) fn no_district() -> District
     ensures { λ r. ⌜ r ≡ emptyDistrict ⌝ }
 {
+    let plan = no_file();
     let held = nothing_held();
     District {
         place: 0,
-        bytes: [0u8; 1475],
-        length: 0,
+        plan: plan,
         budget: 0,
         held: held,
     }

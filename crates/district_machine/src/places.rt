@@ -1,14 +1,14 @@
-// The places of a line, its districts from one of them on, and the bytes of a plan.
+// The places of a line, and its districts from one of them on.
 // Steps for other crates, which ask something of their caller.
 use crate::machine::District;
 use crate::machine::no_district;
 ghost use mathlib.Core.Path.{_≡_};
 ghost use Prim.Native.Nat.{_+_, _≤_, _<_};
-ghost use lib.ListN.{length, take, drop};
+ghost use lib.ListN.{take, drop};
 ghost use Rattle.postman.specs.Lists.{occurs};
 ghost use Rattle.postman.specs.Districts.{places, lowestFree};
 ghost use Rattle.district_machine.specs.Places.{lowestBelow};
-ghost use Rattle.district_turn.specs.Padded.{padded};
+ghost use Rattle.held_file.specs.Padded.{padded};
 ghost use Rattle.district_machine.specs.Machine.{emptyDistrict, districtsIn};
 
 fn place_of(d: District) -> u8
@@ -69,17 +69,4 @@ pub fn lined_up(line: [District; 8], from: usize, n: usize) -> [District; 8]
         next[i] = d;
     }
     next
-}
-
-// The bytes of a plan, zeros behind them.
-pub fn kept(bytes: &[u8]) -> [u8; 1475]
-    requires { ⌜ length (now bytes) ≤ 1475 ⌝ }
-    ensures { λ r. ⌜ r ≡ padded 1475 0 (now (bytes .entry)) ⌝ }
-{
-    let mut r = [0u8; 1475];
-    let n = bytes.len();
-    for i in 0..n {
-        r[i] = bytes[i];
-    }
-    r
 }

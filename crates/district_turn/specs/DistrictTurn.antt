@@ -23,7 +23,7 @@ use Rattle.postman.specs.Districts.{turnTrees}
 use Rattle.tree_search.specs.Resumed.{afterTurn, linksBy, heldAfter}
 use Rattle.solution.specs.Concluded.{concluded}
 use Rattle.district_turn.specs.declared.plan_turn.DistrictTurn.{DistrictTurn}
-use Rattle.district_turn.specs.Padded.{padded}
+use Rattle.held_file.specs.Padded.{padded}
 use Rattle.postman.specs.Refusal.{isGood}
 
 -- ---- whether it can be gone on with

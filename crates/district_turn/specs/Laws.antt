@@ -1,5 +1,4 @@
 -- What is proved about the definitions.
-pub mod Padded
 pub mod HeldTree
 pub mod DistrictTurn
 pub mod Holding

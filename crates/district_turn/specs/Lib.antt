@@ -1,4 +1,3 @@
-pub mod Padded
 pub mod DistrictTurn
 -- What is proved about them.
 pub mod Laws

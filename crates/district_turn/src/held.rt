@@ -10,7 +10,7 @@ ghost use Prim.Native.Nat.{_≤_};
 ghost use lib.ListN.{take};
 ghost use Rattle.plan.specs.Records.{planValue};
 ghost use Rattle.preparation.specs.Preparation.{IsPreparation};
-ghost use Rattle.district_turn.specs.Padded.{padded};
+ghost use Rattle.held_file.specs.Padded.{padded};
 ghost use Rattle.district_turn.specs.DistrictTurn.{isHolding};
 
 pub(crate) fn is_holding(plan: Plan, table: &[[u32; 64]; 64], r: Preparation, g: Reached) -> bool

@@ -32,7 +32,7 @@ ghost use Rattle.postman.specs.Plan.{WellFormed};
 ghost use Rattle.preparation.specs.Preparation.{IsPreparation};
 ghost use Rattle.tree_search.specs.Resumed.{HoldsTree};
 ghost use Rattle.solution.specs.Concluded.{concluded};
-ghost use Rattle.district_turn.specs.Padded.{padded};
+ghost use Rattle.held_file.specs.Padded.{padded};
 ghost use Rattle.postman.specs.Refusal.{isGood};
 ghost use Rattle.district_turn.specs.DistrictTurn.{isResumable, canGoOn, soFar, IsDistrictTurn};
 

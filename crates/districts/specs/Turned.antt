@@ -37,7 +37,8 @@ hasOwnPlace d ds = ltb (d .place) 8 && not (occurs (d .place) (places (map distr
 -- Its file is read, and its budget is within its limits.
 unfoldable pub isReadable : DistrictRecord → Bool
 unfolding firstRefusal fileConditions isOutside highestBudget isGood
-isReadable d = leb (d .length) 1475 && (not (isOutside (d .budget) 1 highestBudget) && isGood (firstRefusal (fileConditions (bytesOf d))))
+isReadable d =
+    leb (d .plan .length) 1475 && (not (isOutside (d .budget) 1 highestBudget) && isGood (firstRefusal (fileConditions (bytesOf d))))
 
 -- Its plan has drives, and it holds a tree and its cost, or has tried none; and some tree is left to be tried.
 abbrev pub canBeServed : DistrictRecord → Bool
@@ -68,7 +69,7 @@ meeting m sheet = meetingIn (m .waiting) sheet (waitingIn m)
 
 -- "Then it goes to the back", with what it holds now.
 abbrev pub heldNow : DistrictRecord → Reached → DistrictRecord
-heldNow d g = record { place = d .place; bytes = d .bytes; length = d .length; budget = d .budget; held = g }
+heldNow d g = record { place = d .place; plan = d .plan; budget = d .budget; held = g }
 
 abbrev pub reachedNow : DistrictRecord → Reached
 reachedNow d = reachedAfter (planBy d) (d .budget) (d .held)

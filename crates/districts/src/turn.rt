@@ -55,8 +55,8 @@ fn served(d: District, sheet: &mut [u16]) -> DistrictTurn
     ensures { λ r. ⌜ IsDistrictTurn (planBy d) (d .budget) (d .held) (canBeServed d) (now (sheet .entry)) (now (sheet .exit)) r ⌝ }
 {
     let held = d.held;
-    let bytes = d.bytes;
-    let n = d.length;
+    let file = d.plan.file;
+    let n = d.plan.length;
     if 1475 < n {
         return stuck(held);
     }
@@ -66,7 +66,7 @@ fn served(d: District, sheet: &mut [u16]) -> DistrictTurn
     if d.budget <= held.tried {
         return stuck(held);
     }
-    let reading = plan_file::reader::read_plan(&bytes[..n]);
+    let reading = plan_file::reader::read_plan(&file[..n]);
     let plan = reading.plan;
     let verdict = reading.verdict;
     match verdict {
@@ -95,11 +95,10 @@ fn gone_on(others: Machine, d: District, held: Reached) -> Machine
     ensures { λ r. ⌜ ((ds : List DistrictRecord) → others ≡ machineOf ds → r ≡ machineOf (ds ++ heldNow d held ∷ [])) ⌝ }
 {
     let mut line = others.line;
-    let bytes = d.bytes;
+    let plan = d.plan;
     let back = District {
         place: d.place,
-        bytes: bytes,
-        length: d.length,
+        plan: plan,
         budget: d.budget,
         held: held,
     };

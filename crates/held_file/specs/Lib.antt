@@ -1,3 +1,4 @@
+pub mod Padded
 pub mod Held
 pub mod Change
 -- What is proved about them.

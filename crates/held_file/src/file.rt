@@ -12,19 +12,18 @@ ghost use mathlib.Core.Path.{_≡_};
 ghost use mathlib.Core.List.{[]};
 ghost use mathlib.Core.Option.{some};
 ghost use Prim.Native.Nat.{_≤_};
-ghost use lib.ListN.{length};
+ghost use lib.ListN.{length, take};
 ghost use Rattle.postman.specs.PlanFile.{fileOf, writeRefusal};
 ghost use Rattle.postman.specs.OpenPlan.{longestFile};
 ghost use Rattle.plan.specs.Records.{planValue};
 ghost use Rattle.refusal.specs.Verdict.{refusalNumber};
-ghost use Rattle.record_writer.specs.Writing.{atMost};
-ghost use Rattle.held_file.specs.Held.{heldOf, IsHeld};
+ghost use Rattle.held_file.specs.Held.{fileIn, heldOf, IsHeld};
 
-// The length of the file that is held; a number above 1,475 counts as 1,475.
+// How many of its bytes are the file that is held; a length above 1,475 counts as 1,475.
 pub fn held_length(h: Held) -> usize
-    ensures { λ r. ⌜ r ≡ atMost (h .length) longestFile ⌝ }
+    ensures { λ r. ⌜ (r ≤ length (h .file)) × (take r (h .file) ≡ fileIn h) ⌝ }
 {
-    at_most(h.length as usize, 1_475)
+    at_most(h.length, 1_475)
 }
 
 // No file.
@@ -48,7 +47,7 @@ pub fn hold(file: &[u8]) -> Held
         bytes[i] = file[i];
     }
     Held {
-        length: n as u16,
+        length: n,
         file: bytes,
     }
 }
@@ -73,7 +72,7 @@ pub fn write_held(edition: u8, plan: Plan) -> Rewritten
         Written::Length(n) => Rewritten {
             verdict: Verdict::Accepted,
             held: Held {
-                length: n as u16,
+                length: n,
                 file: bytes,
             },
         },

@@ -4,6 +4,7 @@ use mathlib.Core.List.{List, [], _∷_, _++_, map, flatMap, List·Memᴰ}
 use Prim.Native.Nat.{ℕ, _+_, _*_}
 use lib.ListN.{length, getD, take, drop}
 use Rattle.postman.specs.Lists.{below}
+use Rattle.held_file.specs.Held.{heldAt}
 use Rattle.tree_search.specs.declared.trees.Reached.{Reached}
 use Rattle.district_machine.specs.declared.machine.District.{District}
 use Rattle.district_machine.specs.declared.machine.Machine.{Machine}
@@ -33,15 +34,14 @@ abbrev pub districtIn : List ℕ → ℕ → District
 districtIn bytes i =
     record {
       place = getD bytes i 0;
-      bytes = take 1475 (drop (i + 9) bytes);
-      length = longIn bytes (i + 1);
+      plan = heldAt bytes (i + 9) (longIn bytes (i + 1));
       budget = wordIn bytes (i + 1484);
       held = reachedIn bytes (i + 1488);
     }
 
 unfoldable pub districtBytes : District → List ℕ
 unfolding wordBytes longBytes reachedBytes
-districtBytes d = (d .place ∷ []) ++ longBytes (d .length) ++ d .bytes ++ wordBytes (d .budget) ++ reachedBytes (d .held)
+districtBytes d = (d .place ∷ []) ++ longBytes (d .plan .length) ++ d .plan .file ++ wordBytes (d .budget) ++ reachedBytes (d .held)
 
 -- The machine that is lent. Whatever the bytes are, they are one.
 abbrev pub machineIn : List ℕ → Machine
@@ -57,7 +57,7 @@ pub record IsReachedSized (g : Reached) : Type 0 where
   pub heads : length (g .heads) ≡ 8
 
 pub record IsDistrictSized (d : District) : Type 0 where
-  pub file : length (d .bytes) ≡ 1475
+  pub file : length (d .plan .file) ≡ 1475
   pub held : IsReachedSized (d .held)
 
 abbrev pub AreSized : List District → Type 0

@@ -17,7 +17,8 @@ use encoding::number_bytes::put_bytes;
 use encoding::number_bytes::put_long;
 use encoding::number_bytes::put_word;
 use encoding::number_bytes::word_at;
-use open_plan_bytes::state_bytes::load_file;
+use held_file::file_bytes::load_file;
+use held_file::file_bytes::store_file;
 use tree_search::trees::Reached;
 
 // What a district holds of the trees tried, from `at` on.
@@ -44,13 +45,12 @@ fn load_district(machine: &[u8], at: usize) -> District
 {
     let place = machine[at];
     let length = long_at(machine, at + 1) as usize;
-    let file = load_file(machine, at + 9);
+    let plan = load_file(machine, at + 9, length);
     let budget = word_at(machine, at + 1_484);
     let held = load_reached(machine, at + 1_488);
     District {
         place: place,
-        bytes: file,
-        length: length,
+        plan: plan,
         budget: budget,
         held: held,
     }
@@ -98,11 +98,11 @@ fn store_district(machine: &mut [u8], at: usize, d: District)
     requires { ⌜ at + 1516 ≤ length (now machine) ⌝ }
     ensures { λ _. ⌜ IsDistrictSized d × (now (machine .exit) ≡ putAt (now (machine .entry)) at (districtBytes d)) ⌝ }
 {
-    let bytes = d.bytes;
+    let plan = d.plan;
     let held = d.held;
     machine[at] = d.place;
-    put_long(machine, at + 1, d.length as u64);
-    put_bytes(machine, at + 9, &bytes);
+    put_long(machine, at + 1, plan.length as u64);
+    store_file(machine, at + 9, plan);
     put_word(machine, at + 1_484, d.budget);
     store_reached(machine, at + 1_488, held);
 }

@@ -1,12 +1,13 @@
 -- A state of an open plan, lent: five files one after the other, and a call's answer in a number and these bytes.
 use mathlib.Core.Path.{_≡_}
 use mathlib.Core.List.{List, [], _∷_, _++_}
-use Prim.Native.Nat.{ℕ, _+_}
+use Prim.Native.Nat.{ℕ, _+_, _%_}
 use lib.IntN.{ℤ}
-use lib.ListN.{length, take, drop}
+use lib.ListN.{drop}
 use Rattle.postman.specs.Refusal.{answer, unless}
 use Rattle.refusal.specs.Verdict.{verdictNumber}
 use Rattle.held_file.specs.declared.Held.{Held}
+use Rattle.held_file.specs.Held.{heldAt}
 use Rattle.open_plan.specs.declared.OpenPlan.{OpenPlan}
 use Rattle.open_plan.specs.declared.Moved.{Moved}
 use Rattle.open_plan.specs.State.{markIn}
@@ -20,10 +21,11 @@ openBytes = 7385
 
 -- The file that is held from byte i on: the two bytes of its length, the high one first, and 1,475 bytes.
 abbrev pub heldIn : List ℕ → ℕ → Held
-heldIn bytes i = record { length = numberIn bytes i; file = take 1475 (drop (i + 2) bytes) }
+heldIn bytes i = heldAt bytes (i + 2) (numberIn bytes i)
 
+-- Every length that was lent, and that of every file, is below 65,536.
 abbrev pub heldBytes : Held → List ℕ
-heldBytes h = numberBytes (h .length) ++ h .file
+heldBytes h = numberBytes (h .length % 65536) ++ h .file
 
 -- The open plan that is lent: its own file, then those of marks 0 to 3. Whatever the bytes are, they are one.
 abbrev pub openIn : List ℕ → OpenPlan

@@ -3,7 +3,7 @@
 ghost use mathlib.Core.Path.{_≡_};
 ghost use mathlib.Core.List.{_++_};
 ghost use Prim.Native.Nat.{_+_, _≤_};
-ghost use lib.ListN.{length, take, drop};
+ghost use lib.ListN.{length, drop};
 ghost use mathlib.Core.Option.{some};
 ghost use Rattle.postman.specs.Refusal.{answer};
 ghost use Rattle.refusal.specs.Verdict.{verdictNumber, orElse};
@@ -11,38 +11,23 @@ ghost use Rattle.answers.specs.Number.{oneNumber};
 ghost use Rattle.encoding.specs.NumberBytes.{putAt};
 ghost use Rattle.open_plan_bytes.specs.StateBytes.{openBytes, heldIn, heldBytes, openIn, stateBytes, IsStored};
 use answers::number::refused_number;
-use encoding::number_bytes::put_bytes;
 use encoding::number_bytes::put_number;
 use encoding::record_bytes::number_at;
 use held_file::Held;
+use held_file::file_bytes::load_file;
+use held_file::file_bytes::store_file;
 use open_plan::Moved;
 use open_plan::OpenPlan;
 use refusal::Refusal;
 use refusal::Verdict;
-
-// The 1,475 bytes from `at` on.
-pub fn load_file(state: &[u8], at: usize) -> [u8; 1475]
-    requires { ⌜ at + 1475 ≤ length (now state) ⌝ }
-    ensures { λ r. ⌜ r ≡ take 1475 (drop at (now (state .entry))) ⌝ }
-{
-    let mut file = [0u8; 1475];
-    for i in 0..1475 {
-        file[i] = state[at + i];
-    }
-    file
-}
 
 // The file that is held from `at` on.
 fn load_held(state: &[u8], at: usize) -> Held
     requires { ⌜ at + 1477 ≤ length (now state) ⌝ }
     ensures { λ r. ⌜ r ≡ heldIn (now (state .entry)) at ⌝ }
 {
-    let length = number_at(state, at);
-    let file = load_file(state, at + 2);
-    Held {
-        length: length,
-        file: file,
-    }
+    let length = number_at(state, at) as usize;
+    load_file(state, at + 2, length)
 }
 
 // The open plan that is lent.
@@ -61,14 +46,13 @@ pub fn load(state: &[u8]) -> OpenPlan
     }
 }
 
-// A file, with its length before it.
+// A file, with its length before it. Every length that was loaded, and that of every file, has room in two bytes.
 fn store_held(state: &mut [u8], at: usize, h: Held)
     requires { ⌜ at + 1477 ≤ length (now state) ⌝ }
     ensures { λ _. ⌜ (length (h .file) ≡ 1475) × (now (state .exit) ≡ putAt (now (state .entry)) at (heldBytes h)) ⌝ }
 {
-    let file = h.file;
-    put_number(state, at, h.length);
-    put_bytes(state, at + 2, &file);
+    put_number(state, at, (h.length % 65_536) as u16);
+    store_file(state, at + 2, h);
 }
 
 // The open plan and its marks.

@@ -1,38 +1,36 @@
 -- An entry. The plan call's conditions but 8 stand before 22; where none applies the district goes behind the last one.
 use mathlib.Core.Path.{_≡_, refl, sym, ap, _∙_}
-use mathlib.Core.Logic.{inl, inr}
 use mathlib.Core.List.{List, [], _∷_, _++_, append-assoc}
 use mathlib.Core.Option.{Option, none, some, Option·some-ne-none}
 use Prim.Native.Nat.{ℕ, _+_, _-_, _≤_, _<_}
 use native.Mathlib.Omega.{arith}
 use borrow.Author.Tests.{le-leb, lt-leb}
-use lib.ListN.{length, set, replicate, length-append}
-use lib.Seq.{take-append-seam, length-take-le}
-use lib.Dec.{T-not, leb, leb→le, nleb→lt}
+use lib.ListN.{length, set, length-append}
+use lib.Seq.{length-take-le}
+use lib.Dec.{T-not, leb}
 use Rattle.postman.specs.Laws.Contradiction.{zero-is-one}
 use Rattle.postman.specs.Plan.{WellFormed}
 use Rattle.postman.specs.Refusal.{Conditions, firstRefusal}
 use Rattle.postman.specs.PlanFile.{fileConditions, isOutside, planOf}
-use Rattle.postman.specs.PlanCall.{highestBudget, sheetPlaces, lastConditions}
+use Rattle.postman.specs.PlanCall.{highestBudget, lastConditions}
 use Rattle.postman.specs.Laws.Lists.{map-append}
 use Rattle.postman.specs.Laws.Refusal.{first-on, first-stop}
 use Rattle.postman.specs.Laws.Acceptance.{file-accepted, inside}
-use Rattle.postman.specs.Laws.Tests.{test, is-false}
+use Rattle.postman.specs.Laws.Tests.{is-false}
 use Rattle.refusal.specs.declared.Refusal.{Refusal}
 use Rattle.refusal.specs.Verdict.{refusalNumber}
 use Rattle.call_steps.specs.Refusals.{budgetRefusal}
 use Rattle.call_steps.specs.Laws.Call.{parts-refusal}
-use Rattle.planner.specs.Laws.LongFile.{long-refused}
-use Rattle.district_turn.specs.Padded.{padded}
-use Rattle.district_turn.specs.Laws.Padded.{padded-set}
+use Rattle.held_file.specs.Padded.{padded}
+use Rattle.held_file.specs.Laws.Held.{held-file, file-short}
+use Rattle.held_file.specs.Laws.Padded.{padded-set}
 use Rattle.district_machine.specs.declared.machine.District.{District as DistrictRecord}
 use Rattle.district_machine.specs.declared.machine.Machine.{Machine}
 use Rattle.district_entry.specs.declared.enter.Admission.the-variants.{At, Refused}
 use Rattle.postman.specs.Districts.{District, district, Line, entryConditions, entryRefusal, lowestFree, enter}
 use Rattle.district_machine.specs.Machine.{districtOf, waitingIn, lineOf, emptyDistrict, machineOf}
 use Rattle.district_entry.specs.Entered.{callPart, entrant, movedUnless, afterEntry, IsEntered}
-use Rattle.district_entry.specs.Laws.Line.{later, enter-refused, enter-accepted}
-use Rattle.district_entry.specs.Laws.Entry.{call-good}
+use Rattle.district_entry.specs.Laws.Line.{parts, later, enter-refused, enter-accepted}
 use Rattle.district_machine.specs.Laws.Held.{room, machine-is, line-is}
 
 -- ---- the refusals in their order
@@ -96,12 +94,7 @@ module _ (bytes : List ℕ) (budget : ℕ) (e : callPart bytes budget ≡ none) 
   part-limits = inside budget 1 highestBudget (is-false (T-not (isOutside budget 1 highestBudget) (later [] bytes budget alone .0)))
 
   pub short-file : length bytes ≤ 1475
-  short-file = elim (test (leb (length bytes) 1475)) [
-    | inl t ↦ leb→le (length bytes) 1475 t
-    | inr t ↦ (let l = nleb→lt (length bytes) 1475 t in
-        let long = long-refused bytes (omega arith) budget sheetPlaces in
-        absurd (Option·some-ne-none _ (sym (long .1) ∙ call-good [] bytes budget alone sheetPlaces (omega arith))))
-  ]
+  short-file = file-short bytes (parts [] bytes budget alone .0)
 
 -- ---- a refused entry
 
@@ -126,7 +119,7 @@ unfolding movedUnless
 entry-moves m bytes budget f = rw f refl
 
 pub entrant-is : (q : ℕ) (bytes : List ℕ) (budget : ℕ) → districtOf (entrant q bytes budget) ≡ district q bytes budget 0
-entrant-is q bytes budget = ap (λ (b : List ℕ). district q b budget 0) (take-append-seam bytes (replicate (1475 - length bytes) 0))
+entrant-is q bytes budget = ap (λ (b : List ℕ). district q b budget 0) (held-file bytes)
 
 -- THE DISTRICT IS AT THE BACK
 pub admitted : (m : Machine) (bytes : List ℕ) (budget place : ℕ) → length (m .line) ≡ 8 → m .waiting < 8 → place ≡ lowestFree (lineOf m)

@@ -19,6 +19,8 @@ use Rattle.postman.specs.Laws.Refusal.{accepted-cons, accepted-append}
 use Rattle.postman.specs.Laws.Acceptance.{file-accepted, inside}
 use Rattle.postman.specs.Steps.{Plannable}
 use Rattle.postman.specs.Laws.Optimality.{some-arborescence}
+use Rattle.call_steps.specs.Refusals.{planRefusal}
+use Rattle.call_steps.specs.Laws.Call.{parts-refusal}
 use Rattle.postman.specs.Districts.{District, district, Line, entryConditions, entryRefusal, lowestFree, enter, total, goneOn, finishes, turn}
 use Rattle.postman.specs.DistrictRuns.{Waits}
 
@@ -56,8 +58,11 @@ module _ (l : Line) (bytes : List ℕ) (budget : ℕ) (e : entryRefusal l bytes 
   pub later : T (not (isOutside budget 1 highestBudget)) × (firstRefusal (lastConditions p ++ full) ≡ none)
   later = accepted-cons (isOutside budget 1 highestBudget) 9 (lastConditions p ++ full) (parts .1)
 
-  pub ends : (firstRefusal (lastConditions p) ≡ none) × (firstRefusal full ≡ none)
+  ends : (firstRefusal (lastConditions p) ≡ none) × (firstRefusal full ≡ none)
   ends = accepted-append (lastConditions p) full (later .1)
+
+  pub plan-good : planRefusal p ≡ none
+  plan-good = sym (parts-refusal p (file-accepted bytes (parts .0))) ∙ ends .0
 
   pub room : length l < 8
   room = nleb→lt 8 (length l) (accepted-cons (leb 8 (length l)) 22 [] (ends .1) .0)

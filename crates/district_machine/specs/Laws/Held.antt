@@ -10,8 +10,8 @@ use lib.Seq.{length-take-le, take-append-seam}
 use lib.Dec.{eqb, eqb→eq}
 use Rattle.postman.specs.Lists.{occurs, anyOf}
 use Rattle.postman.specs.Laws.Tests.{is-true, is-false, eqb-same}
-use Rattle.district_turn.specs.Padded.{padded}
-use Rattle.district_turn.specs.Laws.Padded.{padded-set}
+use Rattle.held_file.specs.Padded.{padded}
+use Rattle.held_file.specs.Laws.Padded.{padded-set}
 use Rattle.district_machine.specs.declared.machine.District.{District as DistrictRecord}
 use Rattle.postman.specs.Districts.{places}
 use Rattle.district_machine.specs.declared.machine.Machine.{Machine}

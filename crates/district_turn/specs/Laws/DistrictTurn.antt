@@ -40,7 +40,7 @@ use Rattle.solution.specs.Concluded.{concluded}
 use Rattle.tree_search.specs.Laws.BestTree.{tree-small}
 use Rattle.tree_search.specs.Laws.Resumed.{IsPriced, on-priced}
 use Rattle.tree_check.specs.Tree.{IsHeldTree}
-use Rattle.district_turn.specs.Padded.{padded}
+use Rattle.held_file.specs.Padded.{padded}
 use Rattle.district_turn.specs.Laws.Clash.{clash}
 use Rattle.tree_check.specs.Laws.Tree.{Says}
 use Rattle.district_turn.specs.Laws.HeldTree.{sound, passes}

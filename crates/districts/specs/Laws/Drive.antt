@@ -56,7 +56,7 @@ module _ (d : DistrictRecord) (can : canBeServed d ≡ true) where
   file : firstRefusal (fileConditions (bytesOf d)) ≡ none
   unfolding isReadable
   file =
-      let a = and-parts (leb (d .length) 1475)
+      let a = and-parts (leb (d .plan .length) 1475)
       (not (isOutside (d .budget) 1 highestBudget) && isGood (firstRefusal (fileConditions (bytesOf d)))) (both .0) in
       good-none (firstRefusal (fileConditions (bytesOf d)))
       (and-parts (not (isOutside (d .budget) 1 highestBudget)) (isGood (firstRefusal (fileConditions (bytesOf d)))) (a .1) .1)

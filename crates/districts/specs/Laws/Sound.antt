@@ -10,8 +10,7 @@ use Prim.Native.Nat.{ℕ, _+_, _-_, _≤_, _<_, min}
 use native.Mathlib.Decide.{ℕ-discrete, decLt}
 use native.Mathlib.Omega.{arith}
 use borrow.Author.Tests.{leb-true, leb-false, lt-ltb, eq-eqb}
-use lib.ListN.{length, length-append, length-map, take, replicate}
-use lib.Seq.{take-append-seam}
+use lib.ListN.{length, length-append, length-map, take}
 use lib.Dec.{eqb, ltb}
 use Rattle.postman.specs.Lists.{minimum, argmin, occurs}
 use Rattle.postman.specs.Plan.{Plan, WellFormed}
@@ -39,22 +38,23 @@ use Rattle.tree_search.specs.Laws.BestTree.{best-tree}
 use Rattle.tree_search.specs.Laws.Resumed.{best-after, tried-few}
 use Rattle.district_turn.specs.DistrictTurn.{isTree, isHolding, isResumable, canGoOn, isLast, lastAnswer, lastSheet}
 use Rattle.district_turn.specs.Laws.DistrictTurn.{of-arborescence, holding-first, holding-later, and-yes, padded-links}
+use Rattle.held_file.specs.Held.{heldOf}
+use Rattle.held_file.specs.Laws.Held.{held-file}
 use Rattle.district_machine.specs.declared.machine.District.{District as DistrictRecord}
 use Rattle.district_machine.specs.declared.machine.Machine.{Machine}
 use Rattle.postman.specs.Districts.{District, district, Line, places, entryRefusal, lowestFree, total, goneOn, finishes}
 use Rattle.district_machine.specs.Machine.{bytesOf, districtOf, waitingIn, lineOf, machineOf}
 use Rattle.district_entry.specs.Entered.{entrant, afterEntry}
 use Rattle.districts.specs.Turned.{planBy, hasOwnPlace, isReadable, canBeServed, nobody, shortSheet, goesOn, leaves, meetingIn, meeting, heldNow, reachedNow}
-use Rattle.district_entry.specs.Laws.Line.{plan-ok, parts, some-total, Apart}
+use Rattle.district_entry.specs.Laws.Line.{plan-ok, parts, plan-good, some-total, Apart}
 use Rattle.district_entry.specs.Laws.Line as line
-use Rattle.district_entry.specs.Laws.Entry.{plan-good}
 use Rattle.district_machine.specs.Laws.Held.{waiting-are}
 use Rattle.district_entry.specs.Laws.Entered.{entry-stays, entry-moves, entrant-is, call-part, part-limits, short-file}
 use Rattle.districts.specs.Laws.Turned.{short-met, last-met, going-met, readable}
 
 -- A district that was let in and is not finished: it holds the best of the trees that it has tried.
 pub record IsUnderWay (d : DistrictRecord) : Type 0 where
-  pub fits : d .length ≤ 1475
+  pub fits : d .plan .length ≤ 1475
   pub file : firstRefusal (fileConditions (bytesOf d)) ≡ none
   pub some-budget : 1 ≤ d .budget
   pub most-budget : d .budget ≤ 1000000
@@ -200,8 +200,9 @@ module _ (m : Machine) (h : IsSound m) (bytes : List ℕ) (budget : ℕ) where
   x = entrant (lowestFree (lineOf m)) bytes budget
 
   entrant-under-way : entryRefusal (lineOf m) bytes budget ≡ none → length bytes ≤ 1475 → IsUnderWay x
+  unfolding heldOf
   entrant-under-way e fits =
-      let same = take-append-seam bytes (replicate (1475 - length bytes) 0) in
+      let same = held-file bytes in
       let one = part-limits bytes budget (call-part bytes budget (lineOf m) e) in
       record {
         fits = fits;

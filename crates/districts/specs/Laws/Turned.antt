@@ -135,16 +135,16 @@ module _ (d : DistrictRecord) where
   not-readable : isReadable d ≡ false → canBeServed d ≡ false
   not-readable e = and-first (isReadable d) (canGoOn (planBy d) (d .budget) (d .held)) e
 
-  pub too-long : 1475 < d .length → canBeServed d ≡ false
+  pub too-long : 1475 < d .plan .length → canBeServed d ≡ false
   unfolding isReadable
-  too-long l = not-readable (and-first (leb (d .length) 1475) (not outside && read) (lt-leb (d .length) 1475 l))
+  too-long l = not-readable (and-first (leb (d .plan .length) 1475) (not outside && read) (lt-leb (d .plan .length) 1475 l))
 
   pub too-dear : 1000000 < d .budget → canBeServed d ≡ false
   unfolding isReadable isOutside highestBudget
   too-dear l =
       let t : ltb 1000000 (d .budget) ≡ true = lt-ltb 1000000 (d .budget) l in
       let o : outside ≡ true = rw (t, or-true (ltb (d .budget) 1)) refl in
-      not-readable (and-no (leb (d .length) 1475) (not outside && read) (and-first (not outside) read (ap not o)))
+      not-readable (and-no (leb (d .plan .length) 1475) (not outside && read) (and-first (not outside) read (ap not o)))
 
   pub all-tried : d .budget ≤ d .held .tried → canBeServed d ≡ false
   unfolding triedCount
@@ -156,16 +156,17 @@ module _ (d : DistrictRecord) where
 
   pub unread : (k : ℕ) → firstRefusal (fileConditions (bytesOf d)) ≡ some k → canBeServed d ≡ false
   unfolding isReadable isGood
-  unread k e = not-readable (and-no (leb (d .length) 1475) (not outside && read) (and-no (not outside) read (ap isGood e)))
+  unread k e = not-readable (and-no (leb (d .plan .length) 1475) (not outside && read) (and-no (not outside) read (ap isGood e)))
 
-  pub readable : d .length ≤ 1475 → 1 ≤ d .budget → d .budget ≤ 1000000 → firstRefusal (fileConditions (bytesOf d)) ≡ none
+  pub readable : d .plan .length ≤ 1475 → 1 ≤ d .budget → d .budget ≤ 1000000 → firstRefusal (fileConditions (bytesOf d)) ≡ none
       → isReadable d ≡ true
   unfolding isReadable isGood isOutside highestBudget
   readable n o b e =
       let x : ltb (d .budget) 1 ≡ false = le-ltb (d .budget) 1 o in
       let y : ltb 1000000 (d .budget) ≡ false = le-ltb 1000000 (d .budget) b in
       let z : not outside ≡ true = rw (x, y) refl in
-      and-yes (leb (d .length) 1475) (not outside && read) (le-leb (d .length) 1475 n) (and-yes (not outside) read z (ap isGood e))
+      and-yes (leb (d .plan .length) 1475) (not outside && read) (le-leb (d .plan .length) 1475 n)
+      (and-yes (not outside) read z (ap isGood e))
 
   -- its plan is read
   pub turn-by-file : (p : Plan) (old new : List ℕ) (r : DistrictTurn) → p ≡ planBy d → isReadable d ≡ true

@@ -3,10 +3,9 @@ use mathlib.Core.Path.{_≡_, sym, _∙_, subst}
 use mathlib.Core.List.{List, []}
 use mathlib.Core.Option.{none, some}
 use Prim.Native.Nat.{ℕ, _≤_}
-use lib.ListN.{take}
 use Rattle.postman.specs.Plan.{WellFormed}
 use Rattle.postman.specs.PlanFile.{edition, fileOf}
-use Rattle.postman.specs.OpenPlan.{Change, changedPlan, changeRefusal, longestFile}
+use Rattle.postman.specs.OpenPlan.{Change, changedPlan, changeRefusal}
 use Rattle.plan.specs.Records.{planValue}
 use Rattle.plan.specs.Laws.Records.{record-arcs}
 use Rattle.postman.specs.Laws.Acceptance.{file-accepted}
@@ -14,17 +13,11 @@ use Rattle.plan_file.specs.declared.Reading.{Reading}
 use Rattle.plan_file.specs.Reading.{IsReading}
 use Rattle.plan_file.specs.Laws.Reading.{accepted-edition, accepted-value}
 use Rattle.refusal.specs.Verdict.{verdictNumber}
-use Rattle.record_writer.specs.Writing.{atMost}
-use Rattle.held_file.specs.declared.Held.{Held}
 use Rattle.held_file.specs.declared.Rewritten.{Rewritten}
-use Rattle.held_file.specs.Held.{fileIn, IsHeld}
+use Rattle.held_file.specs.Held.{IsHeld}
 use Rattle.held_file.specs.Change.{changedFile, fileChangeRefusal}
 use Rattle.held_file.specs.Laws.Held.{refused-held}
 use Rattle.held_file.specs.Laws.Change.{unread, read-on, changed-file}
-
-pub reading-of : (h : Held) (n : ℕ) (r : Reading) → n ≡ atMost (h .length) longestFile → IsReading (take n (h .file)) r
-    → IsReading (fileIn h) r
-reading-of h n r e i = subst (λ (k : ℕ). IsReading (take k (h .file)) r) e i
 
 module _ (bytes : List ℕ) (r : Reading) (i : IsReading bytes r) where
   pub few-records : verdictNumber (r .verdict) ≡ none → r .plan .m ≤ 256

@@ -5,8 +5,10 @@ use mathlib.Core.List.{List, [], _∷_, _++_, flatMap, List·Memᴰ, List·Mem�
 use Prim.Native.Nat.{ℕ, zero, suc, _+_, _*_}
 use native.Mathlib.Nat.{suc-mul}
 use native.Mathlib.Omega.{arith}
-use lib.ListN.{length, replicate, length-replicate, replicate-append-replicate}
+use lib.ListN.{replicate, replicate-append-replicate}
 use Rattle.encoding.specs.NumberBytes.{wordBytes, longBytes}
+use Rattle.held_file.specs.Held.{heldOf}
+use Rattle.held_file.specs.Laws.Held.{held-size}
 use Rattle.district_machine.specs.declared.machine.District.{District}
 use Rattle.district_machine.specs.declared.machine.Machine.{Machine}
 use Rattle.district_machine.specs.Machine.{emptyDistrict, emptyMachine}
@@ -33,7 +35,7 @@ reached-zeros =
     ∙ more-zeros _ 24 4 (more-zeros _ 16 8 (more-zeros _ 8 8 refl))
 
 district-zeros : districtBytes emptyDistrict ≡ replicate 1516 0
-unfolding districtBytes
+unfolding districtBytes heldOf
 district-zeros =
     ap₂ (λ (x y : List ℕ). (0 ∷ []) ++ x ++ replicate 1475 0 ++ y ++ reachedBytes nothingHeld) long-zeros word-zeros
     ∙ ap (λ (z : List ℕ). (0 ∷ []) ++ replicate 8 0 ++ replicate 1475 0 ++ replicate 4 0 ++ z) reached-zeros
@@ -52,7 +54,7 @@ unfolding machineBytes
 empty-zeros = ap (λ (x : List ℕ). flatMap districtBytes (replicate 8 emptyDistrict) ++ x) long-zeros ∙ more-zeros _ 12128 8 (line-zeros 8)
 
 empty-sized : IsDistrictSized emptyDistrict
-empty-sized = record { file = length-replicate {A = ℕ} 1475 0; held = record { tails = refl; heads = refl } }
+empty-sized = record { file = held-size [] (omega arith) .0; held = record { tails = refl; heads = refl } }
 
 each-sized : (n : ℕ) (d : District) → List·Memᴰ d (replicate n emptyDistrict) → IsDistrictSized d
 each-sized zero d m = elim m [ ]

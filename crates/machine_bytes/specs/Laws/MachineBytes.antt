@@ -11,6 +11,7 @@ use lib.Seq.{take-suc, take-all, ext-getD, length-take-le}
 use Rattle.postman.specs.Lists.{below}
 use Rattle.postman.specs.Laws.Below.{length-map-below, getD-map-below}
 use Rattle.plan.specs.Laws.Prefix.{Prefix, prefix-all}
+use Rattle.held_file.specs.Laws.Held.{file-back}
 use Rattle.tree_search.specs.declared.trees.Reached.{Reached}
 use Rattle.district_machine.specs.declared.machine.District.{District}
 use Rattle.district_machine.specs.declared.machine.Machine.{Machine}
@@ -76,10 +77,10 @@ module _ (d : District) (z : IsDistrictSized d) where
   to-length = d .place ∷ []
 
   abbrev to-file : List ℕ
-  to-file = to-length ++ longBytes (d .length)
+  to-file = to-length ++ longBytes (d .plan .length)
 
   abbrev to-budget : List ℕ
-  to-budget = to-file ++ d .bytes
+  to-budget = to-file ++ d .plan .file
 
   abbrev to-held : List ℕ
   to-held = to-budget ++ wordBytes (d .budget)
@@ -89,10 +90,10 @@ module _ (d : District) (z : IsDistrictSized d) where
   all-fields = refl
 
   length-file : length to-file ≡ 9
-  length-file = length-append to-length (longBytes (d .length)) ∙ ap (λ (k : ℕ). 1 + k) (length-long (d .length))
+  length-file = length-append to-length (longBytes (d .plan .length)) ∙ ap (λ (k : ℕ). 1 + k) (length-long (d .plan .length))
 
   length-budget : length to-budget ≡ 1484
-  length-budget = length-append to-file (d .bytes) ∙ ap₂ (λ (j k : ℕ). j + k) length-file (z .file)
+  length-budget = length-append to-file (d .plan .file) ∙ ap₂ (λ (j k : ℕ). j + k) length-file (z .file)
 
   length-held : length to-held ≡ 1488
   length-held = length-append to-budget (wordBytes (d .budget)) ∙ ap₂ (λ (j k : ℕ). j + k) length-budget (length-word (d .budget))
@@ -103,14 +104,14 @@ module _ (d : District) (z : IsDistrictSized d) where
       ∙ ap₂ (λ (j k : ℕ). j + k) length-held (length-reached (d .held) (z .held))
 
   pub stored-district : (l : List ℕ) (i : ℕ) → i + 1516 ≤ length l → (x₁ x₂ x₃ x₄ : List ℕ)
-      → x₁ ≡ putAt (set l i (d .place)) (i + 1) (longBytes (d .length))
-      → x₂ ≡ putAt x₁ (i + 9) (d .bytes)
+      → x₁ ≡ putAt (set l i (d .place)) (i + 1) (longBytes (d .plan .length))
+      → x₂ ≡ putAt x₁ (i + 9) (d .plan .file)
       → x₃ ≡ putAt x₂ (i + 1484) (wordBytes (d .budget))
       → x₄ ≡ putAt x₃ (i + 1488) (reachedBytes (d .held))
       → x₄ ≡ putAt l i (districtBytes d)
   stored-district l i room x₁ x₂ x₃ x₄ e₁ e₂ e₃ e₄ =
       let p₀ = put-byte l i (d .place) (omega arith) in
-      let p₁ = put-next l i to-length _ 1 8 refl (length-long (d .length)) (omega arith) _ x₁ p₀ e₁ in
+      let p₁ = put-next l i to-length _ 1 8 refl (length-long (d .plan .length)) (omega arith) _ x₁ p₀ e₁ in
       let p₂ = put-next l i to-file _ 9 1475 length-file (z .file) (omega arith) x₁ x₂ p₁ e₂ in
       let p₃ = put-next l i to-budget _ 1484 4 length-budget (length-word (d .budget)) (omega arith) x₂ x₃ p₂ e₃ in
       put-next l i to-held _ 1488 28 length-held (length-reached (d .held) (z .held)) (omega arith) x₃ x₄ p₃ e₄
@@ -123,11 +124,11 @@ module _ (d : District) (z : IsDistrictSized d) where
       let s₂ = first to-budget _ s₃ in
       let s₁ = first to-file _ s₂ in
       let place = byte-back (d .place) (first to-length _ s₁) in
-      let size = long-back (d .length) (second to-length _ (i + 1) refl s₁) in
-      let file = bytes-back (d .bytes) 1475 (z .file) (second to-file _ (i + 9) (at i length-file) s₂) in
+      let size = long-back (d .plan .length) (second to-length _ (i + 1) refl s₁) in
+      let plan = file-back (d .plan) (z .file) _ size (second to-file _ (i + 9) (at i length-file) s₂) in
       let budget = word-back (d .budget) (second to-budget _ (i + 1484) (at i length-budget) s₃) in
       let held = reached-back (d .held) (z .held) (second to-held _ (i + 1488) (at i length-held) s₄) in
-      λ j. record { place = place j; bytes = file j; length = size j; budget = budget j; held = held j }
+      λ j. record { place = place j; plan = plan j; budget = budget j; held = held j }
 
 -- ---- districts one after the other
 

@@ -1,7 +1,7 @@
 -- Each call takes a state that stands for an open plan to one that stands for the open plan after the call, and is refused alike. The
 -- state holds, for each plan, the file written from it; such a file reads back to its edition and its plan, so that what a call finds by
 -- reading is what the definitions say of the plan.
-use mathlib.Core.Path.{_≡_, refl, sym, ap, _∙_, subst}
+use mathlib.Core.Path.{_≡_, refl, sym, ap, _∙_, subst, subst⁻¹}
 use mathlib.Core.Logic.{_≢_}
 use mathlib.Core.Bool.{Bool, true, false, cond}
 use mathlib.Core.List.{List, [], List·Memᴰ}
@@ -30,7 +30,7 @@ use Rattle.open_plan.specs.State.{freshState, markIn, refusalOf, next}
 use Rattle.held_file.specs.Change.{changedFile, fileChangeRefusal}
 use Rattle.open_plan.specs.Contract.{IsMoved}
 use Rattle.open_plan.specs.Run.{Fits, IsFileOf, IsMarkOf, StandsFor}
-use Rattle.held_file.specs.Laws.Held.{held-file, held-size, file-short}
+use Rattle.held_file.specs.Laws.Held.{IsShort, held-file, held-size, file-short}
 use Rattle.held_file.specs.Laws.Change.{read-on, changed-file}
 
 -- ---- a plan that can be written, and the file that is held for it
@@ -56,7 +56,7 @@ module _ (e : ℕ) (p : Plan) (w : Writable e p) where
   pub is-file-of : IsFileOf e p (heldOf (fileOf e p))
   is-file-of =
       let can = accepted-is-writable e p longestFile (w .accepted) in
-      let f = held-file (fileOf e p) file-fits in
+      let f = held-file (fileOf e p) in
       record {
         file = f;
         reads = rw f (file-is-accepted (fileOf e p) (is-file e p well (can .edition-in) (can .arcs-in)));
@@ -75,8 +75,8 @@ module _ (e : ℕ) (p : Plan) (h : Held) (k : Keeps e p h) where
   pub keeps-some : h .length ≢ 0
   keeps-some z = held-length e p (k .writable) (ap (λ (x : Held). x .length) (sym (k .held)) ∙ z)
 
-  pub keeps-size : length (h .file) ≡ longestFile
-  keeps-size = ap (λ (x : Held). length (x .file)) (k .held) ∙ held-size (fileOf e p) (file-fits e p (k .writable))
+  pub keeps-size : IsShort h
+  keeps-size = subst⁻¹ IsShort (k .held) (held-size (fileOf e p) (file-fits e p (k .writable)))
 
 -- ---- marks
 
@@ -89,11 +89,11 @@ unfolding heldOf
 no-length h q = ap (λ (x : Held). x .length) q
 
 pub keeps-mark : (e : ℕ) (o : Option Plan) (h : Held) → KeepsMark e o h → IsMarkOf e o h
-keeps-mark e none h q = ap fileIn q ∙ held-file [] (omega arith)
+keeps-mark e none h q = ap fileIn q ∙ held-file []
 keeps-mark e (some p) h k = keeps-file e p h k
 
-pub mark-size : (e : ℕ) (o : Option Plan) (h : Held) → KeepsMark e o h → length (h .file) ≡ longestFile
-mark-size e none h q = ap (λ (x : Held). length (x .file)) q ∙ held-size [] (omega arith)
+pub mark-size : (e : ℕ) (o : Option Plan) (h : Held) → KeepsMark e o h → IsShort h
+mark-size e none h q = subst⁻¹ IsShort q (held-size [] (omega arith))
 mark-size e (some p) h k = keeps-size e p h k
 
 pub record Stands (e : ℕ) (o : Open) (s : OpenPlan) : Type 0 where

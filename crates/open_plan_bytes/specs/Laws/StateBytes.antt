@@ -1,6 +1,6 @@
 -- A state that is lent: five files one after the other, since each is stored where the one before it ended.
 use mathlib.Core.Path.{_≡_, sym, ap, _∙_, subst, subst⁻¹}
-use mathlib.Core.List.{List, [], _++_, append-nil}
+use mathlib.Core.List.{List, _++_}
 use mathlib.Core.Option.{Option, none, some}
 use Prim.Native.Nat.{ℕ, _+_, _^_, _≤_, _<_}
 use native.Mathlib.Omega.{arith}
@@ -9,26 +9,17 @@ use mir.Syntax.{w64}
 use lib.Signed.{mag}
 use Rattle.integers.specs.Linear.{back64}
 use lib.IntN.{ℤ, pos, negℤ}
-use lib.ListN.{length, take, drop, length-append, length-replicate, drop-of-length-le}
-use lib.Seq.{paste}
+use lib.ListN.{length, drop, length-append}
 use Rattle.postman.specs.Refusal.{answer, unless}
 use Rattle.refusal.specs.Verdict.{verdictNumber}
 use Rattle.held_file.specs.declared.Held.{Held}
 use Rattle.open_plan.specs.declared.OpenPlan.{OpenPlan}
 use Rattle.open_plan.specs.declared.Moved.{Moved}
 use Rattle.open_plan.specs.State.{markIn}
-use Rattle.held_file.specs.Laws.Held.{zeros, over-zeros}
 use Rattle.answers.specs.Number.{oneNumber}
 use Rattle.encoding.specs.NumberBytes.{putAt}
 use Rattle.encoding.specs.Laws.NumberBytes.{put-next, put-start}
 use Rattle.open_plan_bytes.specs.StateBytes.{openBytes, heldBytes, stateBytes, IsStored}
-
--- 1,475 bytes that were copied over zeros are these bytes
-pub loaded-file : (bytes file : List ℕ) → 1475 ≤ length bytes → file ≡ paste zeros 0 bytes 1475 → file ≡ take 1475 bytes
-loaded-file bytes file l e =
-    let z = length-replicate {A = ℕ} 1475 0 in
-    let none-left : drop 1475 zeros ≡ [] = drop-of-length-le zeros {i = 1475} (omega arith) in
-    e ∙ over-zeros bytes 1475 ∙ ap (λ (r : List ℕ). take 1475 bytes ++ r) none-left ∙ append-nil (take 1475 bytes)
 
 -- five files one after the other
 pub stored-state : (s : OpenPlan) (l l₁ l₂ l₃ l₄ l₅ : List ℕ) → openBytes ≤ length l

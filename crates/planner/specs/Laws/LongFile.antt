@@ -72,10 +72,6 @@ module _ (bytes : List ℕ) (long : 1476 ≤ length bytes) where
       → callRefusal bytes budget places ≡ some (longRefusal (edition bytes) (fieldAt bytes 4 7) (fieldAt bytes 11 9))
   call-long budget places = file-refused bytes budget places _ file-long
 
-  -- A file longer than the longest plan is refused.
-  pub long-refused : (budget places : ℕ) → (r : ℕ) × (callRefusal bytes budget places ≡ some r)
-  long-refused budget places = (_, call-long budget places)
-
 -- A file longer than the longest plan is refused for what its first 1,476 bytes hold, whatever follows them.
 pub long-file : (bytes : List ℕ) (budget places k : ℕ) → 1476 ≤ k → k ≤ length bytes
     → callRefusal (take k bytes) budget places ≡ callRefusal bytes budget places

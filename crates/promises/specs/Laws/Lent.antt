@@ -2,32 +2,34 @@
 -- before it has the length of the files before it.
 use mathlib.Core.Path.{_≡_, refl, ap, _∙_}
 use mathlib.Core.List.{List, [], _∷_, _++_}
-use Prim.Native.Nat.{ℕ, _+_, _≤_}
+use Prim.Native.Nat.{ℕ, _+_, _%_, _≤_}
 use native.Mathlib.Omega.{arith}
 use lib.ListN.{length, getD, length-append}
 use Rattle.postman.specs.OpenPlan.{Open}
 use Rattle.held_file.specs.declared.Held.{Held}
+use Rattle.held_file.specs.Laws.Held.{IsShort, file-back}
 use Rattle.open_plan.specs.declared.OpenPlan.{OpenPlan}
 use Rattle.open_plan.specs.State.{markIn}
 use Rattle.open_plan.specs.Laws.History.{Stands, keeps-size, mark-size}
 use Rattle.encoding.specs.NumberBytes.{numberBytes}
-use Rattle.encoding.specs.Laws.NumberBytes.{IsAt, first, second, number-back, bytes-back}
+use Rattle.encoding.specs.Laws.NumberBytes.{IsAt, first, second, number-back}
 use Rattle.open_plan_bytes.specs.StateBytes.{openBytes, heldIn, heldBytes, openIn, stateBytes}
 
-held-back : (h : Held) → length (h .file) ≡ 1475 → {all : List ℕ} {i : ℕ} → IsAt all i (heldBytes h) → heldIn all i ≡ h
-held-back h long {all} {i} s =
-    let number = number-back (h .length) (first (numberBytes (h .length)) (h .file) s) in
-    let file = bytes-back (h .file) 1475 long (second (numberBytes (h .length)) (h .file) (i + 2) refl s) in
-    λ j. record { length = number j; file = file j }
+held-back : (h : Held) → IsShort h → {all : List ℕ} {i : ℕ} → IsAt all i (heldBytes h) → heldIn all i ≡ h
+held-back h short {all} {i} s =
+    let n = h .length % 65536 in
+    let few = short .1 in
+    let number = number-back n (first (numberBytes n) (h .file) s) in
+    file-back h (short .0) _ (number ∙ (let e : n ≡ h .length = omega arith in e)) (second (numberBytes n) (h .file) (i + 2) refl s)
 
--- what the types say of a state: four marks, and files of 1,475 bytes
+-- a state that stands for an open plan has four marks, and files whose lengths have room in two bytes
 pub record Sized (s : OpenPlan) : Type 0 where
-  pub plan-file : length (s .plan .file) ≡ 1475
+  pub plan-file : IsShort (s .plan)
   pub four : length (s .marks) ≡ 4
-  pub mark-0 : length (markIn s 0 .file) ≡ 1475
-  pub mark-1 : length (markIn s 1 .file) ≡ 1475
-  pub mark-2 : length (markIn s 2 .file) ≡ 1475
-  pub mark-3 : length (markIn s 3 .file) ≡ 1475
+  pub mark-0 : IsShort (markIn s 0)
+  pub mark-1 : IsShort (markIn s 1)
+  pub mark-2 : IsShort (markIn s 2)
+  pub mark-3 : IsShort (markIn s 3)
 
 pub stands-sized : (e : ℕ) (o : Open) (s : OpenPlan) → Stands e o s → Sized s
 stands-sized e o s h = record {
@@ -65,10 +67,10 @@ module _ (s : OpenPlan) (sized : Sized s) (rest : List ℕ) where
 
   bytes-long : (length p ≡ 1477) × (length (p ++ m₀) ≡ 2954) × (length (p ++ m₀ ++ m₁) ≡ 4431) × (length (p ++ m₀ ++ m₁ ++ m₂) ≡ 5908)
   bytes-long =
-      let a = sized .plan-file in
-      let b = sized .mark-0 in
-      let c = sized .mark-1 in
-      let d = sized .mark-2 in
+      let a = sized .plan-file .0 in
+      let b = sized .mark-0 .0 in
+      let c = sized .mark-1 .0 in
+      let d = sized .mark-2 .0 in
       let e = length-append p m₀ in
       let f = length-append (p ++ m₀) m₁ in
       let g = length-append (p ++ m₀ ++ m₁) m₂ in
@@ -80,7 +82,7 @@ module _ (s : OpenPlan) (sized : Sized s) (rest : List ℕ) where
       let l = bytes-long .3 in
       let a = length-append (p ++ m₀ ++ m₁ ++ m₂) m₃ in
       let b = length-append (p ++ m₀ ++ m₁ ++ m₂ ++ m₃) rest in
-      let d = sized .mark-3 in
+      let d = sized .mark-3 .0 in
       omega arith
 
   -- THE LAW: a state that was stored is lent again

@@ -19,8 +19,8 @@ returns c =
     let t = c .if1 .taken in
     refused-entered (s .args .m) _ (s .args .budget) Full (entry-full _ (s .args .budget) (lineOf (s .args .m)) (s .pre) (omega arith))
 
-kept-requires : tie.Need-kept-requires
-kept-requires c κs = let s = c .before .before .before .before .before in short-file _ (s .args .budget) (s .pre)
+hold-requires : tie.Need-hold-requires
+hold-requires c κs = let s = c .before .before .before .before .before in short-file _ (s .args .budget) (s .pre)
 
 returns-2 : tie.Need-returns-2
 returns-2 c =
@@ -29,11 +29,11 @@ returns-2 c =
     let few = c .before .before .before .before .before .if1 .left in
     let q = c .before .before .before .lowest-free in
     let l = c .before .before .lined-up in
-    let b = c .before .kept .ensures in
+    let b = c .before .hold .ensures in
     let h = c .nothing-held .ensures in
     let bytes = s .args .bytes .now in
-    let same : record { place = q .result; bytes = c .before .kept .result; length = length bytes; budget = s .args .budget; held = c .nothing-held .result } ≡ entrant (q .result) bytes (s .args .budget)
-    = λ i. record { place = q .result; bytes = b i; length = length bytes; budget = s .args .budget; held = h i } in
+    let same : record { place = q .result; plan = c .before .hold .result; budget = s .args .budget; held = c .nothing-held .result } ≡ entrant (q .result) bytes (s .args .budget)
+    = λ i. record { place = q .result; plan = b i; budget = s .args .budget; held = h i } in
     admitted (s .args .m) bytes (s .args .budget) (q .result) long (omega arith) (q .ensures) (s .pre) (l .result) _ (l .ensures) same
 
 pub admit-spec : {M : Type 1} → statement M
@@ -43,7 +43,7 @@ admit-spec =
     returns
     (λ c κs. search needs)
     (λ c κs. search needs)
-    kept-requires
+    hold-requires
     (λ c κs. search needs)
     (λ c. search needs)
     (λ c. search needs)

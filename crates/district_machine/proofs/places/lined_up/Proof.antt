@@ -4,7 +4,7 @@ use Prim.Native.Nat.{_+_, _-_, _≤_}
 use native.Mathlib.Omega.{arith}
 use lib.ListN.{length, getD, take, drop, replicate, length-drop}
 use lib.Seq.{length-take-le, getD-take, getD-drop}
-use Rattle.district_turn.specs.Laws.Padded.{IsPadded, padded-none, padded-more, padded-is}
+use Rattle.held_file.specs.Laws.Padded.{IsPadded, padded-none, padded-more, padded-is}
 use Rattle.district_machine.specs.declared.machine.District.{District}
 use Rattle.district_machine.specs.Machine.{emptyDistrict, noDistrict}
 use borrow.Author.Needs.{needs}

@@ -4,7 +4,7 @@ use Prim.Native.Nat.{_-_, _≤_}
 use native.Mathlib.Omega.{arith}
 use lib.ListN.{length, getD, take}
 use lib.Seq.{length-take-le, getD-take}
-use Rattle.district_turn.specs.Laws.Padded.{IsPadded, padded-none, padded-more, padded-is}
+use Rattle.held_file.specs.Laws.Padded.{IsPadded, padded-none, padded-more, padded-is}
 use borrow.Author.Needs.{needs}
 use Rattle.district_turn.proofs.held.first_of.Statement.{statement}
 use Rattle.district_turn.proofs.held.first_of.Tie as tie

@@ -21,19 +21,19 @@ returns-2 c = is-stuck _ _ _ _ _ _ (too-dear _ (c .before .if2 .taken)) (c .stuc
 returns-3 : tie.Need-returns-3
 returns-3 c = is-stuck _ _ _ _ _ _ (all-tried _ (c .before .if3 .taken)) (c .stuck3 .ensures .0) (c .stuck3 .ensures .1)
 
-array-share-prefix-bytes : tie.Need-array-share-prefix-bytes
-array-share-prefix-bytes c =
+array-share-prefix-file : tie.Need-array-share-prefix-file
+array-share-prefix-file c =
     let s = c .before .before .before .before .before .before .before .before .before in
-    let long : length (s .args .d .bytes) ≡ 1475 = search (needs, s .good) in
+    let long : length (s .args .d .plan .file) ≡ 1475 = search (needs, s .good) in
     let l = c .before .before .before .before .before .if1 .left in
     omega arith
 
 slice-aggregate-read-plan : tie.Need-slice-aggregate-read-plan
 slice-aggregate-read-plan c =
     let s = c .before .before .before .before .before .before .before .before .before .before in
-    let long : length (s .args .d .bytes) ≡ 1475 = search (needs, s .good) in
+    let long : length (s .args .d .plan .file) ≡ 1475 = search (needs, s .good) in
     let l = c .before .before .before .before .before .before .if1 .left in
-    let n = length-take (s .args .d .length) (s .args .d .bytes) in
+    let n = length-take (s .args .d .plan .length) (s .args .d .plan .file) in
     omega arith
 
 turn-read-requires : tie.Need-turn-read-requires
@@ -70,7 +70,7 @@ served-spec =
     returns-2
     (λ c κs. search needs)
     returns-3
-    array-share-prefix-bytes
+    array-share-prefix-file
     slice-aggregate-read-plan
     (λ c κs. search needs)
     (λ c. search needs)

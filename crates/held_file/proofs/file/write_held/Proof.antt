@@ -2,20 +2,12 @@
 use mathlib.Core.Path.{_∙_, sym, ap}
 use lib.ListN.{length-replicate}
 use Prim.Native.Nat.{ℕ}
-use Rattle.plan.specs.Records.{planValue}
 use Rattle.plan_writer.specs.Writing.{writtenAnswer}
 use Rattle.plan_writer.specs.Laws.Writing.{refusal-given}
-use Rattle.held_file.specs.Laws.Held.{zeros, length-held, written-held, refused-held}
+use Rattle.held_file.specs.Laws.Held.{zeros, written-held, refused-held}
 use borrow.Author.Needs.{needs}
 use Rattle.held_file.proofs.file.write_held.Statement.{statement}
 use Rattle.held_file.proofs.file.write_held.Tie as tie
-
-cast-t11 : tie.Need-cast-t11
-cast-t11 c =
-    let call = c .before .before .before .before .write-plan in
-    let a = c .before .before .before .before .before .before .args in
-    let l = length-held (a .edition) (planValue (a .plan)) (c .before .n .given .0 .0) (ap writtenAnswer (sym (c .before .n .given .1)) ∙ call .ensures .0) in
-    search needs
 
 returns : tie.Need-returns
 returns c =
@@ -37,7 +29,6 @@ write-held-spec =
     (λ c. search needs)
     (λ c κs. search needs)
     (λ c. search needs)
-    cast-t11
     (λ c. search needs)
     (λ c κs. search needs)
     returns

@@ -1,5 +1,8 @@
 -- Field by field.
+use mathlib.Core.Path.{ap, _∙_}
+use Prim.Native.Nat.{_+_}
 use lib.ListN.{getD}
+use Rattle.held_file.specs.Held.{heldAt}
 use borrow.Author.Needs.{needs}
 use Rattle.machine_bytes.proofs.machine_bytes.load_district.Statement.{statement}
 use Rattle.machine_bytes.proofs.machine_bytes.load_district.Tie as tie
@@ -8,10 +11,10 @@ returns : tie.Need-returns
 returns c =
     let s = c .before .before .before .before .before .before in
     let size = c .before .before .before .long-at .ensures in
-    let file = c .before .before .load-file .ensures in
+    let plan = c .before .before .load-file .ensures ∙ ap (heldAt (s .args .machine .now) (s .args .at + 9)) size in
     let budget = c .before .word-at .ensures in
     let held = c .load-reached .ensures in
-    λ j. record { place = getD (s .args .machine .now) (s .args .at) 0; bytes = file j; length = size j; budget = budget j; held = held j }
+    λ j. record { place = getD (s .args .machine .now) (s .args .at) 0; plan = plan j; budget = budget j; held = held j }
 
 pub load-district-spec : {M : Type 1} → statement M
 load-district-spec =

@@ -7,7 +7,7 @@ use native.Mathlib.Decide.{ℕ-discrete, decLt}
 use native.Mathlib.Omega.{arith}
 use lib.ListN.{length, getD, set, replicate, length-set, length-replicate, length-append, getD-replicate, List·getD-append}
 use lib.Seq.{getD-set-same, getD-set-other, ext-getD}
-use Rattle.district_turn.specs.Padded.{padded}
+use Rattle.held_file.specs.Padded.{padded}
 
 -- d is what is read past an end.
 pub record IsPadded {A : Type 0} (d : A) (n : ℕ) (z : A) (f : ℕ → A) (r : List A) (i : ℕ) : Type 0 where
