@@ -12,7 +12,7 @@ ghost use Rattle.plan.specs.Rows.{planIn};
 ghost use Rattle.paths.specs.ShortestPath.{shortestPath};
 ghost use Rattle.paths.specs.Leaving.{IsChain};
 ghost use Rattle.shortest.specs.Contracts.{AreRows, overwrite};
-ghost use Rattle.tour_legs.specs.Tour.{legPlaces, placesOf, written, HavePaths};
+ghost use Rattle.drive_legs.specs.Drive.{legPlaces, placesOf, written, HavePaths};
 
 // Writes leg e into the places from `at` on, and answers the place after it.
 fn write_leg(

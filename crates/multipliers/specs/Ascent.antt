@@ -21,7 +21,7 @@ use Rattle.multiplier_steps.specs.Turns.{turns}
 use Rattle.multiplier_steps.specs.Steps.{rooted, span}
 use Rattle.ascent.specs.Step.{Step, step}
 use Rattle.multiplier_steps.specs.Lawful.{areLawful}
-use Rattle.multipliers.specs.Tour.{tableOf}
+use Rattle.multipliers.specs.Drive.{tableOf}
 
 -- Where an ascent stands: the multipliers and those before the last step, the best multipliers met and their bound, the largest cost of a
 -- tree met, the length of the next step, and whether a tree was balanced.

@@ -29,7 +29,7 @@ use Rattle.network.specs.declared.network.Network.{Network}
 use Rattle.network.specs.Network.{IsNetwork}
 use Rattle.solution.specs.declared.Planned.{Planned}
 use Rattle.call_steps.specs.Refusals.{networkRefusal, planRefusal, budgetRefusal, sheetRefusal}
-use Rattle.multipliers.specs.Tour.{tableOf}
+use Rattle.multipliers.specs.Drive.{tableOf}
 use Rattle.multipliers.specs.Prepared.{IsMeasured, IsKnown}
 use Rattle.solution.specs.Planned.{IsPlanned}
 use Rattle.call_steps.specs.Laws.Idle.{idle}

@@ -7,8 +7,8 @@ use native.Mathlib.Omega.{arith}
 use lib.ListN.{length, getD, take, drop, set, length-append, length-drop, take-append-drop}
 use lib.Seq.{take-append-seam, drop-append-add, drop-drop, set-split, take-length}
 use Rattle.shortest.specs.Contracts.{overwrite}
-use Rattle.tour_legs.specs.Tour.{legPlaces, placesOf, written}
-use Rattle.tour_legs.specs.Laws.Tour.{places-number, places-path}
+use Rattle.drive_legs.specs.Drive.{legPlaces, placesOf, written}
+use Rattle.drive_legs.specs.Laws.Drive.{places-number, places-path}
 use Rattle.hierholzer.specs.Laws.Lists.{append-nil, flat-append, take-one}
 
 module _ (path : ℕ → ℕ → List ℕ) (numbers tails heads : List ℕ) where

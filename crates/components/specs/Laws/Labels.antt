@@ -11,7 +11,7 @@ use lib.ListN.{length, getD}
 use lib.Seq.{ext-getD}
 use lib.Dec.{T, eqb, ltb, eqb→eq, ltb→lt, lt→ltb, T-not}
 use Rattle.postman.specs.Plan.{Arc, Plan, isRequiredArc, arcAt, requiredArcs, WellFormed}
-use Rattle.postman.specs.Tour.{IsWalk}
+use Rattle.postman.specs.Drive.{IsWalk}
 use Rattle.postman.specs.Required.{required}
 use Rattle.postman.specs.Component.{bothWays, component}
 use Rattle.postman.specs.Laws.Tests.{test, cond-ind, eqb-other}

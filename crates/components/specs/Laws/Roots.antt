@@ -11,7 +11,7 @@ use lib.ListN.{length, getD}
 use lib.Dec.{T, eqb, ltb, eqb→eq, ltb→lt, lt→ltb, T-not, not-T}
 use Rattle.postman.specs.Lists.{select, below, anyOf}
 use Rattle.postman.specs.Plan.{Plan, arcAt, requiredArcs, WellFormed}
-use Rattle.postman.specs.Tour.{IsWalk}
+use Rattle.postman.specs.Drive.{IsWalk}
 use Rattle.postman.specs.Required.{isRequired, required}
 use Rattle.postman.specs.Component.{joined, lowest, component, componentCount}
 use Rattle.postman.specs.Laws.Tests.{test, same-test, and-both, and-parts, eqb-same}

@@ -29,13 +29,13 @@ use Rattle.district_turn.specs.DistrictTurn.{sameLinks, isTree, isHoldin
 use Rattle.district_turn.specs.declared.plan_turn.DistrictTurn.{DistrictTurn}
 use Rattle.postman.specs.Steps.{Plannable}
 use Rattle.required.specs.Contracts.{IsLinks, IsComponents}
-use Rattle.tour_legs.specs.Filled.{linksOf}
-use Rattle.tour_legs.specs.Laws.Laid.{links-tails, links-heads}
+use Rattle.drive_legs.specs.Filled.{linksOf}
+use Rattle.drive_legs.specs.Laws.Laid.{links-tails, links-heads}
 use Rattle.branches.specs.Links.{linksIn}
 use Rattle.branches.specs.Progress.{held}
 use Rattle.multipliers.specs.Laws.Lay.{arcs-links}
-use Rattle.tour_legs.specs.Tour.{written}
-use Rattle.multipliers.specs.Tour.{driveOf}
+use Rattle.drive_legs.specs.Drive.{written}
+use Rattle.multipliers.specs.Drive.{treeDrive}
 use Rattle.solution.specs.Concluded.{concluded}
 use Rattle.tree_search.specs.Laws.BestTree.{tree-small}
 use Rattle.tree_search.specs.Laws.Resumed.{IsPriced, on-priced}
@@ -234,8 +234,8 @@ module _ (p : Plan) (ok : Plannable p) (few : componentCount p ≤ 8) (budget : 
   pub answered-after : concluded p (linksIn m (r .tails) (r .heads)) (r .cost) (r .total) (r .whole) ≡ lastAnswer p budget g
   answered-after = λ i. concluded p (h .links-are i) (h .cost-is i) (h .total i) (h .whole i)
 
-  pub written-after : (old : List ℕ) → written (driveOf p (linksIn m (r .tails) (r .heads))) old ≡ lastSheet p budget g old
-  written-after old = ap (λ (t : List Link). written (driveOf p t) old) (h .links-are)
+  pub written-after : (old : List ℕ) → written (treeDrive p (linksIn m (r .tails) (r .heads))) old ≡ lastSheet p budget g old
+  written-after old = ap (λ (t : List Link). written (treeDrive p t) old) (h .links-are)
 
 -- ---- links that are kept are held
 

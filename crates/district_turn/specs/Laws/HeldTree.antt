@@ -21,8 +21,8 @@ use Rattle.postman.specs.Laws.Iteration.{settle}
 use Rattle.required.specs.Contracts.{IsLinks, IsComponents}
 use Rattle.arborescence.specs.BitSet.{Has, has-single, single-has}
 use Rattle.arborescence.specs.Laws.Reach.{Arrives, reached-arrives, arrives-reaches, same-steps}
-use Rattle.tour_legs.specs.Filled.{linksOf}
-use Rattle.tour_legs.specs.Laws.Laid.{links-length}
+use Rattle.drive_legs.specs.Filled.{linksOf}
+use Rattle.drive_legs.specs.Laws.Laid.{links-length}
 use Rattle.tree_search.specs.Resumed.{HoldsTree}
 use Rattle.tree_check.specs.Tree.{IsEntry, sourceSet, IsHeldTree}
 

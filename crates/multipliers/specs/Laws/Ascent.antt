@@ -31,7 +31,7 @@ use Rattle.multiplier_steps.specs.Turns.{turns}
 use Rattle.multiplier_steps.specs.Steps.{AreSmall, rooted, span}
 use Rattle.multiplier_steps.specs.Lawful.{areLawful}
 use Rattle.multiplier_steps.specs.Laws.Turns.{turns-keep}
-use Rattle.multipliers.specs.Tour.{tableOf}
+use Rattle.multipliers.specs.Drive.{tableOf}
 use Rattle.multipliers.specs.declared.ascend.Setting.{Setting}
 use Rattle.multipliers.specs.Ascent.{Climb, boundOf, amountsOf, isLawful, fromRoot, stepFrom, attempt, climb, begin, componentsOf, greatestOf, multipliersFor}
 use Rattle.multipliers.specs.Prepared.{IsKnown, IsPrepared, IsPricedIn}

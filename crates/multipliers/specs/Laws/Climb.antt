@@ -13,7 +13,7 @@ use Rattle.residual_search.specs.Search.{beyond}
 use Rattle.multiplier_steps.specs.Turns.{turns}
 use Rattle.multiplier_steps.specs.Steps.{span}
 use Rattle.ascent.specs.Step.{Step}
-use Rattle.multipliers.specs.Tour.{tableOf}
+use Rattle.multipliers.specs.Drive.{tableOf}
 use Rattle.multipliers.specs.Ascent.{Climb, boundOf, taken, moved, isLawful, fromRoot, stepFrom, attempt, climb, begin, greatestOf, multipliersFor}
 use Rattle.multipliers.specs.Laws.Ascent.{ascent-bounded}
 

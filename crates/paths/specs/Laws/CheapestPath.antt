@@ -13,7 +13,7 @@ use lib.ListN.{length}
 use lib.Dec.{T, eqb, ltb, eqb→eq, lt→ltb, ltb→lt, not-T}
 use Rattle.postman.specs.Lists.{select, below, occurrences}
 use Rattle.postman.specs.Plan.{Plan, isOpen, arcAt}
-use Rattle.postman.specs.Tour.{IsWalk, walkCost}
+use Rattle.postman.specs.Drive.{IsWalk, walkCost}
 use Rattle.postman.specs.Distance.{noPath, distance}
 use Rattle.postman.specs.FewestPath.{isBefore}
 use Rattle.postman.specs.Laws.Tests.{cond-ind, and-both, and-parts, eqb-same, eqb-other}

@@ -9,7 +9,7 @@ use lib.ListN.{length, length-map}
 use lib.Dec.{T, ltb}
 use Rattle.postman.specs.Lists.{below, iterate}
 use Rattle.postman.specs.Plan.{Arc, Plan, arcAt}
-use Rattle.postman.specs.Tour.{IsWalk}
+use Rattle.postman.specs.Drive.{IsWalk}
 use Rattle.postman.specs.Laws.Membership.{map-mem, below-mem, length-below, getD-map-upFrom}
 use Rattle.postman.specs.Laws.Distance.{InPlan, cut}
 

@@ -12,7 +12,7 @@ use lib.Seq.{getD-append-seam}
 use lib.Dec.{T, eqb, eqb→eq, eqb-refl, lt→ltb}
 use Rattle.postman.specs.Lists.{select, below, upFrom, sumOf, occurrences}
 use Rattle.postman.specs.Plan.{Arc, Plan, isOpen, isRequiredArc, arcAt, requiredArcs, requiredNumbers}
-use Rattle.postman.specs.Tour.{walkCost}
+use Rattle.postman.specs.Drive.{walkCost}
 use Rattle.postman.specs.Required.{isRequired, required, requiredCost}
 use Rattle.postman.specs.Laws.Tests.{or-left, or-right, or-cases}
 use Rattle.postman.specs.Laws.Membership.{mem-select, select-mem, getD-mem, mem-getD, anyOf-mem, anyOf-at, mem-below, below-mem}

@@ -10,7 +10,7 @@ use lib.ListN.{length, getD, take, drop}
 use lib.Seq.{take-append-seam}
 use Rattle.postman.specs.Refusal.{unless}
 use Rattle.refusal.specs.Verdict.{verdictNumber}
-use Rattle.tour_legs.specs.Tour.{written}
+use Rattle.drive_legs.specs.Drive.{written}
 use Rattle.solution.specs.declared.Planned.{Planned}
 use Rattle.answers.specs.Answer.{wordsOf, putFirst}
 use Rattle.answers.specs.Laws.Answer.{put-at, answered-zero}

@@ -21,9 +21,9 @@ use Rattle.postman.specs.Laws.RenumberedDistance.{table-renumbered}
 use Rattle.postman.specs.Laws.RenumberedComponents.{count-renumbered, last-renumbered, plannable-renumbered}
 use Rattle.shortest.specs.Weight.{heavy, weighted}
 use Rattle.shortest.specs.Contracts.{IsTable, AreWeights}
-use Rattle.multipliers.specs.Tour.{tableOf}
+use Rattle.multipliers.specs.Drive.{tableOf}
 use Rattle.multipliers.specs.Laws.Table.{table-is}
-use Rattle.multipliers.specs.Laws.Tour.{is-table}
+use Rattle.multipliers.specs.Laws.Drive.{is-table}
 use Rattle.call_steps.specs.Refusals.{planRefusal}
 use Rattle.call_steps.specs.Laws.Call.{parts-refusal}
 use Rattle.renumbering.specs.declared.numbering.Numbering.{Numbering}

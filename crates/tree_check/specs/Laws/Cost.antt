@@ -18,10 +18,10 @@ use Rattle.residual_search.specs.Step.{State}
 use Rattle.balance.specs.Balance.{balance}
 use Rattle.balance.specs.Invariant.{AllIn}
 use Rattle.direct_amounts.specs.Laws.Plan.{balance-least}
-use Rattle.tour_legs.specs.Filled.{linksOf}
-use Rattle.multipliers.specs.Tour.{tableOf}
+use Rattle.drive_legs.specs.Filled.{linksOf}
+use Rattle.multipliers.specs.Drive.{tableOf}
 use Rattle.multipliers.specs.Prepared.{IsBase, IsTree}
-use Rattle.multipliers.specs.Laws.Tour.{agrees}
+use Rattle.multipliers.specs.Laws.Drive.{agrees}
 use Rattle.multipliers.specs.Laws.Lay.{tree-joined, tree-short, tails-in, heads-in}
 use Rattle.tree_search.specs.Laws.BestTree.{tree-small}
 use Rattle.tree_check.specs.Cost.{tableCost, AreVertices}

@@ -24,7 +24,7 @@ use Rattle.plan_file.specs.declared.Reading.{Reading}
 use Rattle.plan_file.specs.Reading.{IsReading}
 use Rattle.plan_file.specs.Laws.Reading.{accepted-value}
 use Rattle.solution.specs.declared.Planned.{Planned}
-use Rattle.multipliers.specs.Tour.{tableOf}
+use Rattle.multipliers.specs.Drive.{tableOf}
 use Rattle.solution.specs.Planned.{IsPlanned}
 use Rattle.call_steps.specs.Refused.{refusedWith}
 use Rattle.call_steps.specs.Laws.Call.{refused-planned, planned-as}

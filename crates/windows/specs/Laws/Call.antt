@@ -1,5 +1,5 @@
 -- The verdict of the windows is the first of their conditions that applies. From the contract over the plan at the departure, what is said
--- of the file's plan: its tours are those that avoid the arcs shut, at equal costs.
+-- of the file's plan: its drives are those that avoid the arcs shut, at equal costs.
 use mathlib.Core.Path.{_≡_, refl, sym, ap, _∙_, subst}
 use mathlib.Core.List.{List, _++_}
 use mathlib.Core.Bool.{Bool, true, false, not, cond}
@@ -13,11 +13,11 @@ use Rattle.postman.specs.Plan.{Plan}
 use Rattle.postman.specs.Refusal.{firstRefusal}
 use Rattle.postman.specs.PlanFile.{fileConditions, planOf}
 use Rattle.postman.specs.PlanCall.{callConditions, lastConditions}
-use Rattle.postman.specs.Tour.{IsTour, tourCost}
+use Rattle.postman.specs.Drive.{IsDrive, driveCost}
 use Rattle.postman.specs.Windows.{Departure, windowsIn, planAt, Avoids, hasBadWindow, isMustShut, windowConditions, callRefusalAt}
 use Rattle.postman.specs.Laws.Theorem.{cut-off-at}
 use Rattle.postman.specs.Laws.Refusal.{first-on, first-stop}
-use Rattle.postman.specs.Laws.Windows.{tours, same-tour-cost, call-accepted-at, at-order}
+use Rattle.postman.specs.Laws.Windows.{drives, same-drive-cost, call-accepted-at, at-order}
 use Rattle.plan.specs.Records.{planValue}
 use Rattle.plan.specs.declared.Plan.{Plan as PlanRecord}
 use Rattle.plan.specs.Laws.Records.{plan-length}
@@ -30,7 +30,7 @@ use Rattle.solution.specs.declared.Planned.{Planned}
 use Rattle.solution.specs.Planned.{IsPlanned}
 use Rattle.call_steps.specs.Refused.{refusedWith}
 use Rattle.call_steps.specs.Laws.Call.{refused-planned, planned-as}
-use Rattle.solution.specs.Laws.Answered.{accepted, cost-is, floor-is, tour-written}
+use Rattle.solution.specs.Laws.Answered.{accepted, cost-is, floor-is, drive-written}
 use Rattle.windows.specs.Contract.{IsPlanCallAt}
 
 -- ---- 19 and 20
@@ -71,18 +71,18 @@ module _ (bytes : List ℕ) (budget : ℕ) (numbers : List ℕ) (d : Departure) 
     open-must : T (not (isMustShut p (windowsIn numbers) d))
     open-must = call-accepted-at bytes budget (length old) numbers d (accepted _ _ _ _ _ _ i e) .none-shut
 
-    floor-below : (w : List ℕ) → IsTour p w → Avoids (windowsIn numbers) d w → r .floor ≤ℤ pos (tourCost p w)
+    floor-below : (w : List ℕ) → IsDrive p w → Avoids (windowsIn numbers) d w → r .floor ≤ℤ pos (driveCost p w)
     floor-below w t a =
-        let l = i .answered (accepted _ _ _ _ _ _ i e) .guarantee .below-every-tour w
-        (tours p (windowsIn numbers) d open-must w .1 (t, a)) in
-        subst (λ c. r .floor ≤ℤ pos c) (same-tour-cost p (windowsIn numbers) d open-must w) (rw (floor-is _ _ _ _ _ _ i e) l)
+        let l = i .answered (accepted _ _ _ _ _ _ i e) .guarantee .below-every-drive w
+        (drives p (windowsIn numbers) d open-must w .1 (t, a)) in
+        subst (λ c. r .floor ≤ℤ pos c) (same-drive-cost p (windowsIn numbers) d open-must w) (rw (floor-is _ _ _ _ _ _ i e) l)
 
-    written-is : IsTour p (take (r .places) new) × Avoids (windowsIn numbers) d (take (r .places) new)
-    written-is = tours p (windowsIn numbers) d open-must (take (r .places) new) .0 (tour-written _ _ _ _ _ _ i e .tour)
+    written-is : IsDrive p (take (r .places) new) × Avoids (windowsIn numbers) d (take (r .places) new)
+    written-is = drives p (windowsIn numbers) d open-must (take (r .places) new) .0 (drive-written _ _ _ _ _ _ i e .drive)
 
-    written-costs : tourCost p (take (r .places) new) ≡ r .cost
+    written-costs : driveCost p (take (r .places) new) ≡ r .cost
     written-costs =
-        sym (same-tour-cost p (windowsIn numbers) d open-must (take (r .places) new)) ∙ tour-written _ _ _ _ _ _ i e .costs
+        sym (same-drive-cost p (windowsIn numbers) d open-must (take (r .places) new)) ∙ drive-written _ _ _ _ _ _ i e .costs
         ∙ sym (cost-is _ _ _ _ _ _ i e)
 
   pub is-call-at : Called → IsPlanCallAt bytes budget numbers d old new r
@@ -91,8 +91,8 @@ module _ (bytes : List ℕ) (budget : ℕ) (numbers : List ℕ) (d : Departure) 
       record {
         planned = i;
         cut-off = ((λ e. c .0 (sym (i .verdict) ∙ e)), (λ h. i .verdict ∙ c .1 h));
-        below-every-tour = floor-below i;
-        written-tour = λ e. written-is i e .0;
+        below-every-drive = floor-below i;
+        written-drive = λ e. written-is i e .0;
         written-avoids = λ e. written-is i e .1;
         written-cost = written-costs i;
       }
