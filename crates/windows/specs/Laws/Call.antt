@@ -1,22 +1,21 @@
 -- The verdict of the windows is the first of their conditions that applies. From the contract over the plan at the departure, what is said
 -- of the file's plan: its drives are those that avoid the arcs shut, at equal costs.
-use mathlib.Core.Path.{_≡_, refl, sym, ap, _∙_, subst}
+use mathlib.Core.Path.{_≡_, refl, sym, _∙_, subst}
 use mathlib.Core.List.{List, _++_}
 use mathlib.Core.Bool.{Bool, true, false, not, cond}
-use mathlib.Core.Option.{none, some}
+use mathlib.Core.Option.{Option, none, some}
 use Prim.Native.Nat.{ℕ, _≤_}
 use lib.ListN.{length, take}
 use lib.IntN.{pos}
 use lib.Signed.{_≤ℤ_}
 use lib.Dec.{T}
 use Rattle.postman.specs.Plan.{Plan}
-use Rattle.postman.specs.Refusal.{firstRefusal}
+use Rattle.postman.specs.Refusal.{Conditions, firstRefusal}
 use Rattle.postman.specs.PlanFile.{fileConditions, planOf}
 use Rattle.postman.specs.PlanCall.{callConditions, lastConditions}
 use Rattle.postman.specs.Drive.{IsDrive, driveCost}
 use Rattle.postman.specs.Windows.{Departure, windowsIn, planAt, Avoids, hasBadWindow, isMustShut, windowConditions, callRefusalAt}
 use Rattle.postman.specs.Laws.Theorem.{cut-off-at}
-use Rattle.postman.specs.Laws.Refusal.{first-on, first-stop}
 use Rattle.postman.specs.Laws.Windows.{drives, same-drive-cost, call-accepted-at, at-order}
 use Rattle.plan.specs.Records.{planValue}
 use Rattle.plan.specs.declared.Plan.{Plan as PlanRecord}
@@ -29,7 +28,8 @@ use Rattle.plan_file.specs.Laws.Reading.{accepted-value}
 use Rattle.solution.specs.declared.Planned.{Planned}
 use Rattle.solution.specs.Planned.{IsPlanned}
 use Rattle.call_steps.specs.Refused.{refusedWith}
-use Rattle.call_steps.specs.Laws.Call.{refused-planned, planned-as}
+use Rattle.call_steps.specs.Laws.Refused.{is-refused}
+use Rattle.call_steps.specs.Laws.Answer.{read-answer, file-refused-answer}
 use Rattle.solution.specs.Laws.Answered.{accepted, cost-is, floor-is, drive-written}
 use Rattle.windows.specs.Contract.{IsPlanCallAt}
 
@@ -64,8 +64,15 @@ module _ (bytes : List ℕ) (budget : ℕ) (numbers : List ℕ) (d : Departure) 
   abbrev q : Plan
   q = planAt p (windowsIn numbers) d
 
+  abbrev Answered : Plan → Option ℕ → List ℕ → Planned → Type 0
+  Answered p o new x = IsPlanned p budget o old new x
+
+  -- the conditions after the file's
+  abbrev later : Plan → Conditions
+  later p = callConditions budget (length old) ++ (windowConditions p numbers d ++ lastConditions (planAt p (windowsIn numbers) d))
+
   abbrev Called : Type 0
-  Called = IsPlanned q budget (callRefusalAt bytes budget (length old) numbers d) old new r
+  Called = Answered q (callRefusalAt bytes budget (length old) numbers d) new r
 
   module _ (i : Called) (e : verdictNumber (r .verdict) ≡ none) where
     open-must : T (not (isMustShut p (windowsIn numbers) d))
@@ -101,22 +108,13 @@ module _ (bytes : List ℕ) (budget : ℕ) (numbers : List ℕ) (d : Departure) 
   pub file-refused-at : (x : Refusal) → r ≡ refusedWith x → old ≡ new → firstRefusal (fileConditions bytes) ≡ some (refusalNumber x)
       → Called
   file-refused-at x h s e =
-      subst (λ (new : List ℕ). IsPlanned q budget (callRefusalAt bytes budget (length old) numbers d) old new r) s
-      (refused-planned q budget _ old x r h (at-order bytes budget (length old) numbers d ∙ first-stop (fileConditions bytes) _ _ e))
+      subst (λ (new : List ℕ). Answered q (callRefusalAt bytes budget (length old) numbers d) new r) s
+      (file-refused-answer Answered old (λ p x. is-refused p budget old x) bytes q (later p) _ x r
+      (at-order bytes budget (length old) numbers d) e h)
 
   -- one that is not gives its plan
   pub read-planned-at : (x : Reading) → IsReading bytes x → firstRefusal (fileConditions bytes) ≡ none
-      → IsPlanned (planAt (planValue (x .plan)) (windowsIn numbers) d) budget
-      (firstRefusal
-      (callConditions budget (length old)
-      ++ (windowConditions (planValue (x .plan)) numbers d ++ lastConditions (planAt (planValue (x .plan)) (windowsIn numbers) d))))
-      old new r
-      → Called
+      → Answered (planAt (planValue (x .plan)) (windowsIn numbers) d) (firstRefusal (later (planValue (x .plan)))) new r → Called
   read-planned-at x h e i =
-      let v = accepted-value bytes x h e in
-      planned-as _ q budget _ _ old new r (ap (λ (p : Plan). planAt p (windowsIn numbers) d) v)
-      (ap
-      (λ (p : Plan). firstRefusal
-      (callConditions budget (length old) ++ (windowConditions p numbers d ++ lastConditions (planAt p (windowsIn numbers) d)))) v
-      ∙ sym (at-order bytes budget (length old) numbers d ∙ first-on (fileConditions bytes) _ e))
-      i
+      read-answer Answered bytes (planValue (x .plan)) (λ p. planAt p (windowsIn numbers) d) later _ new r
+      (at-order bytes budget (length old) numbers d) e (accepted-value bytes x h e) i
