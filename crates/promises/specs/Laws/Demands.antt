@@ -2,7 +2,7 @@
 use mathlib.Core.Path.{_≡_, sym, ap, ap₂, _∙_, subst}
 use mathlib.Core.Bool.{Bool, not}
 use mathlib.Core.List.{List}
-use mathlib.Core.Option.{Option, none, some}
+use mathlib.Core.Option.{Option, some}
 use Prim.Native.Nat.{ℕ}
 use lib.ListN.{length, drop}
 use lib.Seq.{drop-append-seam}
@@ -21,7 +21,7 @@ use Rattle.multipliers.specs.Drive.{driveOf}
 use Rattle.multipliers.specs.Ascent.{multipliersFor}
 use Rattle.solution.specs.declared.Planned.{Planned}
 use Rattle.solution.specs.Planned.{summaryOf, multipliersOf, countUnless, IsPlanned}
-use Rattle.solution.specs.Laws.Answered.{is-answer, summary-given, floor-is, count-is, places-count, drive-written}
+use Rattle.solution.specs.Laws.Answered.{is-answer, sheet-is, summary-given, floor-is, count-is, places-count, drive-written}
 use Rattle.two_cars.specs.Contract.{IsCar}
 use Rattle.promises.specs.Demands.{Refuses, Accepted, Drives, Bounds}
 
@@ -47,13 +47,6 @@ module _ {p : Plan} {budget : ℕ} {refusal : Option ℕ} {old new : List ℕ} {
   }
 
   module _ (good : Accepted r) where
-    refused-not : refusal ≡ none
-    refused-not = sym (i .verdict) ∙ good
-
-    sheet-is : new ≡ written (driveOf p budget) old
-    unfolding unless
-    sheet-is = i .sheet ∙ ap (λ (o : Option ℕ). unless o (written (driveOf p budget) old) old) refused-not
-
     fields-are : summaryOf r ≡ summary p budget (multipliersOf r)
     fields-are = summary-given p budget refusal old new r i good
 
@@ -64,7 +57,7 @@ module _ {p : Plan} {budget : ℕ} {refusal : Option ℕ} {old new : List ℕ} {
     later-kept =
         let d = driveOf p budget in
         let c = count-is p budget refusal old new r i good in
-        ap₂ drop c sheet-is ∙ drop-append-seam d (drop (length d) old) ∙ ap (λ (k : ℕ). drop k old) (sym c)
+        ap₂ drop c (sheet-is p budget refusal old new r i good) ∙ drop-append-seam d (drop (length d) old) ∙ ap (λ (k : ℕ). drop k old) (sym c)
 
     pub drives : Drives p budget old new r
     unfolding summary

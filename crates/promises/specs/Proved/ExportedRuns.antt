@@ -4,11 +4,11 @@ use Rattle.promises.specs.ExportedRuns.{LentHistory, AskHandsOver, Short
 use Rattle.promises.specs.Laws.HistoryTheorem.{lent-history}
 use Rattle.promises.specs.Laws.AskedTheorem.{both-accepted, asked-again-lent}
 use Rattle.promises.specs.Laws.TurnsTheorem.{lent-entry, lent-empty, lent-short, lent-going, lent-last}
-use Rattle.promises.specs.Laws.Runs.{ran-lent, same-slices}
+use Rattle.promises.specs.Laws.Slices.{same-slices}
 
 pub history : LentHistory
 history file bytes o cs last numbers run =
-    lent-history file bytes (o .after) (o .number) (o .small) (o .contract) (o .zero) cs last numbers (ran-lent run)
+    lent-history file bytes (o .after) (o .number) (o .small) (o .contract) (o .zero) cs last numbers run
 
 pub ask : AskHandsOver
 ask state budget windows d old after n x long = let y = x .asked long in
@@ -20,14 +20,14 @@ short-state state budget windows d old after n x few = let y = x .short few in (
 pub both-are-accepted : BothAccepted
 both-are-accepted file bytes x =
     let o = x .opening in
-    both-accepted file bytes _ _ (o .small) (o .contract) (o .zero) _ _ _ (ran-lent (x .come)) (x .k) (x .good) _ _ (x .set-at) _ _ _
-    (ran-lent (x .gone)) (x .not-again) _ _ (x .back)
+    both-accepted file bytes _ _ (o .small) (o .contract) (o .zero) _ _ _ (x .come) (x .k) (x .good) _ _ (x .set-at) _ _ _
+    (x .gone) (x .not-again) _ _ (x .back)
 
 pub asked-again : AskedAgain
 asked-again file bytes x =
     let o = x .opening in
-    asked-again-lent file bytes _ _ (o .small) (o .contract) (o .zero) _ _ _ (ran-lent (x .come)) (x .k) (x .good) _ _ (x .set-at) _ _ _
-    (ran-lent (x .gone)) (x .not-again) _ _ (x .back)
+    asked-again-lent file bytes _ _ (o .small) (o .contract) (o .zero) _ _ _ (x .come) (x .k) (x .good) _ _ (x .set-at) _ _ _
+    (x .gone) (x .not-again) _ _ (x .back)
 
 pub entry : LentEntry
 entry = lent-entry

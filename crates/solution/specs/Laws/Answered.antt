@@ -42,7 +42,7 @@ module _ (p : Plan) (budget : ℕ) (refusal : Option ℕ) (old new : List ℕ) (
   pub floor-above : pos 0 ≤ℤ r .floor
   floor-above = let l = is-answer .guarantee .above-balancing in let f = floor-is in omega (arith, z)
 
-  sheet-is : new ≡ written (driveOf p budget) old
+  pub sheet-is : new ≡ written (driveOf p budget) old
   unfolding unless
   sheet-is = i .sheet ∙ ap (λ (o : Option ℕ). unless o (written (driveOf p budget) old) old) accepted
 
