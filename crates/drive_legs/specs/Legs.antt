@@ -1,7 +1,7 @@
 -- The legs of a drive: each required arc once, each link of an arborescence once, and each unit of the amounts that balance them once.
 use mathlib.Core.Bool.{not}
 use mathlib.Core.List.{List, _++_, map, flatMap, List·Memᴰ}
-use Prim.Native.Nat.{ℕ, _+_, _/_, _%_, _≤_, _<_}
+use Prim.Native.Nat.{ℕ, _+_, _≤_, _<_}
 use lib.ListN.{length, getD, replicate}
 use lib.Dec.{T}
 use Rattle.postman.specs.Lists.{below}
@@ -12,12 +12,9 @@ use Rattle.postman.specs.Component.{componentCount}
 use Rattle.postman.specs.PlanCall.{isCutOff}
 use Rattle.postman.specs.Arborescence.{IsArborescence}
 use Rattle.postman.specs.Balancing.{imbalance, IsBalancing}
-use Rattle.postman.specs.Steps.{amount}
+use Rattle.postman.specs.Steps.{amount, pairAt}
 
--- The pair of vertices in place x, and its units.
-abbrev pub pairAt : ℕ → Link
-pairAt x = record { tail = x / 64; head = x % 64 }
-
+-- The units of the pairs of vertices, by their places.
 unfoldable pub unitsBelow : ℕ → List ℕ → List Link
 unitsBelow n amounts = flatMap (λ x. replicate (getD amounts x 0) (pairAt x)) (below n)
 

@@ -35,8 +35,8 @@ pub record Climb : Type 0 where
   pub done : Bool
 
 -- Other multipliers are the best so far, with their bound.
-abbrev pub taken : Climb → List ℤ → ℤ → Climb
-taken c u l =
+abbrev pub improved : Climb → List ℤ → ℤ → Climb
+improved c u l =
     record {
       multipliers = c .multipliers;
       before = c .before;
@@ -75,7 +75,7 @@ module _ (p : Plan) where
   abbrev pub boundOf : List ℤ → ℤ
   boundOf u = lagrangianBound p (multipliersIn u)
 
-  -- The amounts of the required arcs; whether multipliers are lawful; these, once that of the root is taken off; and a step from c.
+  -- The amounts of the required arcs; whether multipliers are lawful; these, once that of the root is improved off; and a step from c.
   abbrev pub amountsOf : List ℕ
   amountsOf = balance (cell (tableOf p)) p [] .amounts
 
@@ -94,7 +94,7 @@ module _ (p : Plan) where
   unfolding areLawful rooted lagrangianBound tableOf balance required
   attempt c =
       let u = fromRoot (c .multipliers) in
-      cond (isLawful (c .multipliers) && ltZ (c .bound) (boundOf u)) (taken c u (boundOf u)) c
+      cond (isLawful (c .multipliers) && ltZ (c .bound) (boundOf u)) (improved c u (boundOf u)) c
 
   -- Step i, unless a tree was balanced. Brought back from above and from below by turns.
   unfoldable pub climb : Climb → ℕ → Climb

@@ -23,13 +23,14 @@ use Rattle.postman.specs.Laws.Occurrences.{occurrences-append, delta-sym}
 use Rattle.postman.specs.Laws.FewestPath.{fewest-once}
 use Rattle.postman.specs.Laws.Assignment.{weight}
 use Rattle.postman.specs.Laws.LinkLegs.{ends}
-use Rattle.hierholzer.specs.Laws.Lists.{upFrom-append}
 use Rattle.drive_legs.specs.Laws.Units.{units-pair}
 use Rattle.postman.specs.Steps.{amount}
+use Rattle.postman.specs.Laws.Selection.{upFrom-append}
+use Rattle.postman.specs.Arborescence.{noLink}
 use Rattle.drive_legs.specs.Legs.{units, legTails, legHeads, Completes}
 use Rattle.drive_legs.specs.Drive.{placesOf, driveBy, ArePaths}
 use Rattle.drive_legs.specs.Laws.Legs.{leg-at, leg-ends}
-use Rattle.drive_legs.specs.Laws.Drive.{sum-by, sum-le, sum-map-append, noLink, others, at-other, places, places-arc, places-other, legs-sum, order, order-circuit, order-lt, leg-path}
+use Rattle.drive_legs.specs.Laws.Drive.{sum-by, sum-le, sum-map-append, others, at-other, places, places-arc, places-other, legs-sum, order, order-circuit, order-lt, leg-path}
 
 -- ---- a list of lists, one after the other
 

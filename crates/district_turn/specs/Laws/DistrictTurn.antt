@@ -38,7 +38,7 @@ use Rattle.drive_legs.specs.Drive.{written}
 use Rattle.multipliers.specs.Drive.{treeDrive}
 use Rattle.solution.specs.Concluded.{concluded}
 use Rattle.tree_search.specs.Laws.BestTree.{tree-small}
-use Rattle.tree_search.specs.Laws.Resumed.{IsPriced, on-priced}
+use Rattle.tree_search.specs.Laws.Resumed.{HoldsCost, on-priced}
 use Rattle.tree_check.specs.Tree.{IsHeldTree}
 use Rattle.held_file.specs.Padded.{padded}
 use Rattle.district_turn.specs.Laws.Clash.{clash}
@@ -182,7 +182,7 @@ module _ (p : Plan) (ok : Plannable p) (few : componentCount p ≤ 8) (budget : 
   at-end l m = let a = h .total in let b = h .tried in le-leb (triedCount p budget) (g .tried + 1000) (omega arith)
 
   -- a tree and its cost
-  pub priced-after : isHolding p g ≡ true → g .tried < r .total → IsPriced p ok (heldAfter p budget g)
+  pub priced-after : isHolding p g ≡ true → g .tried < r .total → HoldsCost p ok (heldAfter p budget g)
   priced-after i l =
       let a = h .total in
       on-priced p ok few (g .cost) (linksBy p g) (g .tried) (min 1000 (triedCount p budget - g .tried)) (omega arith) (held-priced p g 0 i)

@@ -26,7 +26,7 @@ use Rattle.call_steps.specs.Laws.Call.{parts-refusal}
 use Rattle.solution.specs.declared.Planned.{Planned}
 use Rattle.tree_search.specs.declared.trees.Reached.{Reached}
 use Rattle.tree_search.specs.Resumed.{linksBy, heldAfter}
-use Rattle.tree_search.specs.Laws.Resumed.{IsPriced, on-priced}
+use Rattle.tree_search.specs.Laws.Resumed.{HoldsCost, on-priced}
 use Rattle.district_turn.specs.DistrictTurn.{isHolding, isResumable, canGoOn, isLast, lastAnswer, lastSheet}
 use Rattle.district_turn.specs.Laws.DistrictTurn.{held-priced}
 use Rattle.district_machine.specs.declared.machine.District.{District as DistrictRecord}
@@ -73,7 +73,7 @@ module _ (d : DistrictRecord) (can : canBeServed d ≡ true) where
   parts : T (isHolding p g) × T (ltb (g .tried) (triedCount p (d .budget)))
   parts = and-parts (isHolding p g) (ltb (g .tried) (triedCount p (d .budget))) (go .1)
 
-  priced : IsPriced p (plan .0) (heldAfter p (d .budget) g)
+  priced : HoldsCost p (plan .0) (heldAfter p (d .budget) g)
   priced =
       let l = ltb→lt (g .tried) (triedCount p (d .budget)) (parts .1) in
       on-priced p (plan .0) (plan .1) (g .cost) (linksBy p g) (g .tried) (min 1000 (triedCount p (d .budget) - g .tried)) (omega arith)

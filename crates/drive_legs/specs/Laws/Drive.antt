@@ -2,7 +2,7 @@
 -- is a leg. Its plain cost and its length are those of the legs, which the circuit only puts in another order.
 use mathlib.Core.Path.{_≡_, refl, sym, ap, ap₂, _∙_, subst, subst⁻¹}
 use mathlib.Core.Bool.{Bool, true, false, cond}
-use mathlib.Core.List.{List, [], _∷_, _++_, map, flatMap, List·Memᴰ, List·Memᴰ·head, List·Memᴰ·tail, List·Memᴰ·not-nil}
+use mathlib.Core.List.{List, [], _∷_, _++_, map, flatMap, List·Memᴰ, List·Memᴰ·head, List·Memᴰ·tail, List·Memᴰ·not-nil, map-append, map-map}
 use Prim.Native.Nat.{ℕ, zero, suc, _+_, _*_, _≤_, _<_}
 use native.Mathlib.Nat.{zero-add, add-zero, suc-mul, zero-mul}
 use native.Mathlib.Decide.{decLe}
@@ -24,12 +24,13 @@ use Rattle.postman.specs.Laws.Pick.{permutation-mem}
 use Rattle.postman.specs.Laws.Distance.{walk-append, cost-append}
 use Rattle.postman.specs.Laws.Required.{required-open, numbers-mem, mem-numbers, numbers-arcs, numbers-field, sum-cost}
 use Rattle.postman.specs.Laws.LinkLegs.{link-weight}
+use Rattle.postman.specs.Laws.Selection.{upFrom-append}
+use Rattle.postman.specs.Arborescence.{noLink}
 use Rattle.hierholzer.specs.Circuit.{circuit}
 use Rattle.hierholzer.specs.Eulerian.{Joined, IsCircuit}
 use Rattle.drive_legs.specs.Legs.{units, arcLeg, legs, legTails, legHeads, Completes}
 use Rattle.drive_legs.specs.Drive.{legPlaces, placesOf, driveBy, IsPath, ArePaths}
 use Rattle.drive_legs.specs.Laws.Sum.{permutation-sum}
-use Rattle.hierholzer.specs.Laws.Lists.{map-append, map-map, upFrom-append}
 use Rattle.hierholzer.specs.Laws.Counting.{mem-of-permutation}
 use Rattle.drive_legs.specs.Laws.Units.{weight-append, units-weight}
 use Rattle.drive_legs.specs.Laws.Few.{few-numbers, few-others}
@@ -101,9 +102,6 @@ sum-le f c a (suc n) h =
     let e = suc-mul n c in
     omega arith
 
-abbrev pub noLink : Link
-noLink = record { tail = 0; head = 0 }
-
 module _ (p : Plan) (t : List Link) (amounts : List ℕ) where
   abbrev pub numbers : List ℕ
   numbers = requiredNumbers p
@@ -119,7 +117,7 @@ module _ (p : Plan) (t : List Link) (amounts : List ℕ) where
     unfolding legs
     split =
         map-append f (map arcLeg (requiredArcs p)) others
-        ∙ ap (λ l. l ++ map f others) (map-map arcLeg f (requiredArcs p) ∙ sym (numbers-field p (λ a. f (arcLeg a))))
+        ∙ ap (λ l. l ++ map f others) (map-map f arcLeg (requiredArcs p) ∙ sym (numbers-field p (λ a. f (arcLeg a))))
 
     first-length : length (map (λ k. f (arcLeg (arcAt (p .arcs) k))) numbers) ≡ length numbers
     first-length = length-map numbers (λ k. f (arcLeg (arcAt (p .arcs) k)))

@@ -2,7 +2,7 @@
 -- are no more than the required arcs and links.
 use mathlib.Core.Path.{_≡_, refl, sym, ap, ap₂, _∙_}
 use mathlib.Core.List.{List, [], _∷_, map, List·Memᴰ}
-use Prim.Native.Nat.{ℕ, _+_, _≤_, _<_}
+use Prim.Native.Nat.{ℕ, _+_, _≤_}
 use native.Mathlib.Nat.{mul-one}
 use native.Mathlib.Decide.{decLe}
 use native.Mathlib.Omega.{arith}
@@ -16,12 +16,12 @@ use Rattle.postman.specs.Balancing.{heads, tails, imbalance, sumOver, IsBalanci
 use Rattle.postman.specs.Laws.Membership.{length-below}
 use Rattle.postman.specs.Laws.Occurrences.{delta-sym}
 use Rattle.postman.specs.Laws.Sum.{sum-cong, sum-le, sum-zero, sum-some, sum-add}
-use Rattle.postman.specs.Laws.Required.{required-once, required-lt, numbers-arcs}
+use Rattle.postman.specs.Laws.Required.{required-once, numbers-arcs, required-below}
 use Rattle.postman.specs.Laws.Assignment.{weight}
 use Rattle.postman.specs.Laws.LinkLegs.{ends}
 use Rattle.postman.specs.Steps.{amount}
+use Rattle.postman.specs.Laws.Selection.{select-length}
 use Rattle.drive_legs.specs.Legs.{units, Completes}
-use Rattle.hierholzer.specs.Laws.Lists.{select-length}
 use Rattle.drive_legs.specs.Laws.Units.{units-weight}
 
 weight-length : (ls : List Link) → weight (λ i j. 1) (ends ls) ≡ length ls
@@ -54,9 +54,6 @@ few-numbers p =
     omega arith
 
 module _ (p : Plan) (ok : WellFormed p) (t : List Link) (amounts : List ℕ) (h : Completes p t amounts) where
-  required-small : {i : ℕ} → List·Memᴰ i (required p) → i < 64
-  required-small m = let a = required-lt p m in let b = ok .vertices in omega arith
-
   sent-le : (i : ℕ) → List·Memᴰ i (required p) → sumOver (required p) (λ j. amount amounts i j) ≤ occurrences i (heads p t)
   unfolding IsBalancing imbalance
   sent-le i m =
@@ -69,7 +66,8 @@ module _ (p : Plan) (ok : WellFormed p) (t : List Link) (amounts : List ℕ) (h 
           | yes y ↦ (
               let a = sum-some vs (λ j. f i j) x in
               let b = sum-some vs (λ j. f j i) y in
-              absurd (h .direct (b .0) i (a .0) (required-small (b .1)) (required-small m) (required-small (a .1)) (b .2) (a .2)))
+              absurd (h .direct (b .0) i (a .0) (required-below p ok (b .1)) (required-below p ok m) (required-below p ok (a .1)) (b .2)
+              (a .2)))
           | no y ↦ omega arith
         ]
         | no x ↦ omega arith

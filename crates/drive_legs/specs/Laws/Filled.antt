@@ -1,6 +1,6 @@
 -- Stores at the end of the part that is filled.
 use mathlib.Core.Path.{_≡_, refl, sym, ap, _∙_, subst, subst⁻¹}
-use mathlib.Core.List.{List, [], _∷_, _++_, map, flatMap, append-assoc}
+use mathlib.Core.List.{List, [], _∷_, _++_, map, flatMap, append-assoc, map-append, append-nil}
 use Prim.Native.Nat.{ℕ, suc, _+_, _-_, _/_, _%_, _≤_, _<_}
 use native.Mathlib.Nat.{add-zero, zero-add}
 use native.Mathlib.Omega.{arith}
@@ -8,9 +8,12 @@ use lib.ListN.{length, getD, take, set, replicate, replicate-append-replicate, l
 use lib.Seq.{take-suc-set}
 use Rattle.postman.specs.Lists.{below, upFrom}
 use Rattle.postman.specs.Link.{Link}
-use Rattle.drive_legs.specs.Legs.{pairAt, unitsBelow, units}
+use Rattle.postman.specs.Laws.Lists.{flatMap-append}
+use Rattle.postman.specs.Laws.Selection.{upFrom-append}
+use Rattle.postman.specs.Steps.{pairAt}
+use Rattle.drive_legs.specs.Legs.{unitsBelow, units}
 use Rattle.drive_legs.specs.Filled.{Extends, Added}
-use Rattle.hierholzer.specs.Laws.Lists.{append-nil, map-append, flat-append, upFrom-append, map-replicate}
+use Rattle.hierholzer.specs.Laws.Lists.{map-replicate}
 
 pub extends-none : (old : List ℕ) (n : ℕ) → take (n + 0) old ≡ take n old ++ []
 extends-none old n = ap (λ z. take z old) (add-zero n) ∙ sym (append-nil (take n old))
@@ -69,14 +72,14 @@ units-more : (amounts : List ℕ) (x : ℕ) → unitsBelow (x + 1) amounts ≡ u
 unfolding unitsBelow below flatMap
 units-more amounts x =
     let f : ℕ → List Link = λ x. replicate (getD amounts x 0) (pairAt x) in
-    ap (flatMap f) (upFrom-append 0 x 1 ∙ ap (λ z. upFrom 0 x ++ z ∷ []) (zero-add x)) ∙ flat-append f (upFrom 0 x) (x ∷ [])
+    ap (flatMap f) (upFrom-append 0 x 1 ∙ ap (λ z. upFrom 0 x ++ z ∷ []) (zero-add x)) ∙ flatMap-append f (upFrom 0 x) (x ∷ [])
     ∙ ap (λ z. flatMap f (upFrom 0 x) ++ z) (append-nil (f x))
 
 units-upTo : (amounts : List ℕ) (x d : ℕ) → length (unitsBelow x amounts) ≤ length (unitsBelow (x + d) amounts)
 unfolding unitsBelow below
 units-upTo amounts x d =
     let f : ℕ → List Link = λ x. replicate (getD amounts x 0) (pairAt x) in
-    let e = ap length (ap (flatMap f) (upFrom-append 0 x d) ∙ flat-append f (upFrom 0 x) (upFrom (0 + x) d)) in
+    let e = ap length (ap (flatMap f) (upFrom-append 0 x d) ∙ flatMap-append f (upFrom 0 x) (upFrom (0 + x) d)) in
     let l = length-append (flatMap f (upFrom 0 x)) (flatMap f (upFrom (0 + x) d)) in
     omega arith
 

@@ -1,6 +1,6 @@
 -- The required arcs, the links and the units, laid one after the other, are the legs.
 use mathlib.Core.Path.{_≡_, refl, sym, ap, ap₂, _∙_, subst}
-use mathlib.Core.List.{List, [], _∷_, _++_, map, append-assoc}
+use mathlib.Core.List.{List, [], _∷_, _++_, map, append-assoc, map-append}
 use Prim.Native.Nat.{ℕ, _+_, _≤_}
 use native.Mathlib.Omega.{arith}
 use lib.ListN.{length, take, length-map, length-append, length-take}
@@ -8,7 +8,6 @@ use Rattle.postman.specs.Plan.{Plan, arcAt, requiredNumbers}
 use Rattle.postman.specs.Link.{Link}
 use Rattle.drive_legs.specs.Legs.{units, arcLeg, legs, legTails, legHeads}
 use Rattle.drive_legs.specs.Filled.{Extends, Added, linksOf, Noted, Laid}
-use Rattle.hierholzer.specs.Laws.Lists.{map-append}
 use Rattle.drive_legs.specs.Laws.Drive.{split, legs-count}
 
 pub links-tails : (ts hs : List ℕ) → length hs ≡ length ts → map (λ l. l .tail) (linksOf ts hs) ≡ ts

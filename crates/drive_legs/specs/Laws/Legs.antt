@@ -4,7 +4,7 @@
 use mathlib.Core.Path.{_≡_, refl, sym, ap, ap₂, _∙_, subst, subst⁻¹}
 use mathlib.Core.Logic.{inl, inr}
 use mathlib.Core.Bool.{Bool}
-use mathlib.Core.List.{List, [], _∷_, _++_, map, List·Memᴰ, List·Memᴰ·append-cases, Memᴰ·append-left, Memᴰ·append-right}
+use mathlib.Core.List.{List, [], _∷_, _++_, map, List·Memᴰ, List·Memᴰ·append-cases, Memᴰ·append-left, Memᴰ·append-right, map-append, map-map}
 use Prim.Native.Nat.{ℕ, zero, suc, _+_, _*_, _/_, _%_, _<_}
 use native.Mathlib.Nat.{mul-one, mul-zero}
 use native.Mathlib.Decide.{decLe}
@@ -18,7 +18,7 @@ use Rattle.postman.specs.Drive.{IsWalk}
 use Rattle.postman.specs.Required.{required}
 use Rattle.postman.specs.Link.{Link}
 use Rattle.postman.specs.Component.{component, componentCount}
-use Rattle.postman.specs.Arborescence.{linkAt, parent}
+use Rattle.postman.specs.Arborescence.{linkAt, parent, noLink}
 use Rattle.postman.specs.Balancing.{heads, tails, imbalance, sumOver, IsBalancing}
 use Rattle.postman.specs.Laws.Membership.{getD-mem, mem-getD, mem-map, map-mem, flatMap-mem, below-mem}
 use Rattle.postman.specs.Laws.Occurrences.{mem-of-occurrences, occurrences-of-mem, occurrences-append}
@@ -30,9 +30,9 @@ use Rattle.postman.specs.Laws.Arborescence.{joins}
 use Rattle.postman.specs.Laws.Balancing.{within-heads, within-tails}
 use Rattle.postman.specs.Laws.LinkLegs.{ends, ends-heads, ends-tails}
 use Rattle.hierholzer.specs.Eulerian.{Eulerian}
-use Rattle.postman.specs.Steps.{amount}
-use Rattle.drive_legs.specs.Legs.{pairAt, unitsBelow, units, arcLeg, legs, legTails, legHeads, Completes}
-use Rattle.hierholzer.specs.Laws.Lists.{map-append, map-map, replicate-mem}
+use Rattle.postman.specs.Steps.{amount, pairAt}
+use Rattle.drive_legs.specs.Legs.{unitsBelow, units, arcLeg, legs, legTails, legHeads, Completes}
+use Rattle.hierholzer.specs.Laws.Lists.{replicate-mem}
 use Rattle.drive_legs.specs.Laws.Units.{units-out, units-into}
 use Rattle.drive_legs.specs.Laws.Cut.{entered-too}
 
@@ -52,7 +52,7 @@ module _ (p : Plan) (ok : WellFormed p) (t : List Link) (amounts : List ℕ) (h 
       let a = occurrences-append v rs (map f t) in
       let b : occurrences v (map f (legs p t amounts)) ≡ occurrences v (rs ++ (map f t ++ map f us))
       = ap (occurrences v)
-      (map-append f (map arcLeg (requiredArcs p)) (t ++ us) ∙ ap₂ _++_ (map-map arcLeg f (requiredArcs p)) (map-append f t us)) in
+      (map-append f (map arcLeg (requiredArcs p)) (t ++ us) ∙ ap₂ _++_ (map-map f arcLeg (requiredArcs p)) (map-append f t us)) in
       let c = occurrences-append v rs (map f t ++ map f us) in
       let d = occurrences-append v (map f t) (map f us) in
       omega arith
@@ -103,9 +103,6 @@ module _ (p : Plan) (ok : WellFormed p) (t : List Link) (amounts : List ℕ) (h 
       ]
 
   -- ---- connected
-
-  abbrev noLink : Link
-  noLink = record { tail = 0; head = 0 }
 
   -- a leg by its number
   leg-number : {l : Link} → List·Memᴰ l (legs p t amounts)

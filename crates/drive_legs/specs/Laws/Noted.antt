@@ -1,7 +1,7 @@
 -- The required arcs, noted one by one: an arc is stored in any case, and counted if it is required.
 use mathlib.Core.Path.{_≡_, refl, sym, ap, _∙_, subst, subst⁻¹}
 use mathlib.Core.Bool.{Bool, true, false, cond}
-use mathlib.Core.List.{List, [], _∷_, _++_, map}
+use mathlib.Core.List.{List, [], _∷_, _++_, map, map-append, append-nil}
 use Prim.Native.Nat.{ℕ, _+_, _≤_, _<_}
 use native.Mathlib.Nat.{add-zero, zero-add}
 use native.Mathlib.Numerals.{add-one}
@@ -10,8 +10,8 @@ use lib.ListN.{length, take, set, length-set, length-append}
 use lib.Seq.{take-suc-set, take-set-le}
 use Rattle.postman.specs.Lists.{select, upFrom, below}
 use Rattle.postman.specs.Plan.{Arc, Plan, isRequiredArc, arcAt, requiredNumbers}
+use Rattle.postman.specs.Laws.Selection.{select-append, upFrom-append}
 use Rattle.drive_legs.specs.Filled.{Noted, numbersBelow}
-use Rattle.hierholzer.specs.Laws.Lists.{append-nil, map-append, select-append, upFrom-append}
 
 abbrev kept : Bool → ℕ → List ℕ
 kept true k = k ∷ []

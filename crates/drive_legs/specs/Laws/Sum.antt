@@ -10,7 +10,7 @@ use Rattle.postman.specs.Balancing.{sumOver}
 use Rattle.postman.specs.Laws.Tests.{cond-ind}
 use Rattle.postman.specs.Laws.Sum.{sum-append}
 use Rattle.postman.specs.Steps.{Permutation, Pick, here, there, none, more}
-use Rattle.hierholzer.specs.Laws.Lists.{upFrom-append}
+use Rattle.postman.specs.Laws.Selection.{upFrom-append}
 
 -- terms that fail the test are 0
 pub sum-select : (f : ℕ → Bool) (vs : List ℕ) (g : ℕ → ℕ) → ((i : ℕ) → List·Memᴰ i vs → T (not (f i)) → g i ≡ 0)

@@ -17,10 +17,10 @@ use Rattle.postman.specs.Laws.Sum.{sum-cong, sum-cong-mem, sum-none, sum-some, 
 use Rattle.postman.specs.Laws.Required.{required-lt, required-once}
 use Rattle.postman.specs.Laws.Assignment.{weight}
 use Rattle.postman.specs.Laws.LinkLegs.{ends}
-use Rattle.postman.specs.Steps.{amount}
-use Rattle.drive_legs.specs.Legs.{pairAt, unitsBelow, units}
+use Rattle.postman.specs.Steps.{amount, pairAt}
+use Rattle.postman.specs.Laws.Selection.{upFrom-append}
+use Rattle.drive_legs.specs.Legs.{unitsBelow, units}
 use Rattle.drive_legs.specs.Laws.Sum.{sum-select, flat-sum}
-use Rattle.hierholzer.specs.Laws.Lists.{upFrom-append}
 
 pub weight-append : (w : ℕ → ℕ → ℕ) (ls ms : List Link) → weight w (ends (ls ++ ms)) ≡ weight w (ends ls) + weight w (ends ms)
 unfolding weight ends

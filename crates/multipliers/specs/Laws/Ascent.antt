@@ -2,7 +2,7 @@
 -- ascent keeps that of the best it has met, whatever multipliers it goes to.
 use mathlib.Core.Path.{_≡_, refl, sym, ap, _∙_, subst, subst⁻¹}
 use mathlib.Core.Bool.{Bool, true, _&&_}
-use mathlib.Core.List.{List, [], List·Memᴰ}
+use mathlib.Core.List.{List, []}
 use Prim.Native.Nat.{ℕ, _%_, _≤_, _<_}
 use native.Mathlib.Omega.{arith}
 use lib.ListN.{length}
@@ -19,11 +19,11 @@ use Rattle.postman.specs.PlanCall.{root}
 use Rattle.postman.specs.Laws.Tests.{cond-ind, and-parts}
 use Rattle.postman.specs.Laws.Multiplier.{greatest-unique}
 use Rattle.postman.specs.Steps.{Plannable, cell}
+use Rattle.postman.specs.Laws.Required.{required-below}
 use Rattle.residual_search.specs.Search.{beyond}
 use Rattle.balance.specs.Balance.{balance}
 use Rattle.residual_search.specs.Bounds.{AtMost}
 use Rattle.balance.specs.Laws.Step.{vertices-small}
-use Rattle.direct_amounts.specs.Laws.Plan.{plan-metric}
 use Rattle.pair_costs.specs.PairCosts.{multipliersIn}
 use Rattle.ascent.specs.Step.{Step, step}
 use Rattle.ascent.specs.Laws.Bodies.{step-small}
@@ -70,7 +70,7 @@ module _ (p : Plan) (ok : Plannable p) (few : componentCount p ≤ 8) where
     pub small : AreSmall beyond (c .multipliers)
 
   low : (i : ℕ) → List·Memᴰ i (required p) → i < 64
-  low = plan-metric p (ok .well-formed) (ok .connected) .small
+  low i m = required-below p (ok .well-formed) m
 
   -- lawful multipliers that are 0 at the root are small
   pub rooted-small : (u : List ℤ) → Rooted p u → AreSmall beyond u

@@ -18,7 +18,7 @@ use Rattle.postman.specs.Arborescence.{IsArborescence, arborescences}
 use Rattle.postman.specs.Balancing.{balancingCost, leastBalancing, completionCost}
 use Rattle.postman.specs.PlanCall.{triedCount, bestArborescence, IsAnswerDrive}
 use Rattle.postman.specs.Laws.Membership.{getD-map-upFrom}
-use Rattle.postman.specs.Laws.Required.{required-lt}
+use Rattle.postman.specs.Laws.Required.{required-below}
 use Rattle.postman.specs.Steps.{Joins, Plannable, cell, amount}
 use Rattle.postman.specs.Laws.Arborescence.{arborescences-mem, joins}
 use Rattle.postman.specs.Laws.Optimality.{some-arborescence}
@@ -56,11 +56,8 @@ module _ (p : Plan) (ok : Plannable p) (few : componentCount p ≤ 8) where
   abbrev d : ℕ → ℕ → ℕ
   d = cell (tableOf p)
 
-  small : (i : ℕ) → List·Memᴰ i (required p) → i < 64
-  small i m = let a = required-lt p m in let b = ok .well-formed .vertices in omega arith
-
   pub agrees : (i j : ℕ) → List·Memᴰ i (required p) → List·Memᴰ j (required p) → d i j ≡ distance p i j
-  agrees i j mi mj = table-at p i j (small i mi) (small j mj)
+  agrees i j mi mj = table-at p i j (required-below p (ok .well-formed) mi) (required-below p (ok .well-formed) mj)
 
   module _ (t : List Link) (tree : IsArborescence p t) where
     joined : Joins p t
@@ -81,7 +78,7 @@ module _ (p : Plan) (ok : Plannable p) (few : componentCount p ≤ 8) where
         let ok′ = ok .well-formed in
         let c = ok .connected in
         let l = few-arcs p ok′ c d agrees t joined short in
-        among-direct (required p) small (s .amounts)
+        among-direct (required p) (λ i m. required-below p (ok .well-formed) m) (s .amounts)
         (among-all d (required p) (table-metric p ok′ c d agrees) (requiredEnds p ++ t) empty (inside p ok′ c d agrees t joined short)
         (empty-certified d (required p)) (omega arith) (among-empty (required p)))
 

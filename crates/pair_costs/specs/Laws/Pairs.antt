@@ -5,7 +5,7 @@
 use mathlib.Core.Path.{_≡_, refl, sym, ap, ap₂, _∙_, subst, subst⁻¹}
 use mathlib.Core.Logic.{_⊎_, inl, inr, _≢_}
 use mathlib.Core.Bool.{cond}
-use mathlib.Core.List.{List, [], _∷_, map, flatMap, List·Memᴰ, List·Memᴰ·head, List·Memᴰ·tail, List·Memᴰ·cases-cons, List·Memᴰ·eq-of-singleton}
+use mathlib.Core.List.{List, [], _∷_, map, flatMap, List·Memᴰ, List·Memᴰ·head, List·Memᴰ·tail, List·Memᴰ·cases-cons, List·Memᴰ·eq-of-singleton, map-map}
 use Prim.Native.Nat.{ℕ, zero, suc, _+_, _-_, _≤_, _<_}
 use native.Mathlib.Nat.{le-refl}
 use native.Mathlib.Numerals.{one-add}
@@ -20,7 +20,7 @@ use Rattle.postman.specs.Lists.{upFrom, below, iterate, sumOfℤ}
 use Rattle.postman.specs.Plan.{Plan, WellFormed}
 use Rattle.postman.specs.Link.{Link, links}
 use Rattle.postman.specs.Component.{component, componentCount}
-use Rattle.postman.specs.Arborescence.{linkAt, parent, Enters, IsArborescence, arborescences}
+use Rattle.postman.specs.Arborescence.{linkAt, parent, Enters, IsArborescence, arborescences, noLink}
 use Rattle.postman.specs.LagrangianBound.{Multipliers, reducedCost, reducedSum, cheapestArborescence}
 use Rattle.postman.specs.Laws.Tests.{cond-ind}
 use Rattle.postman.specs.Laws.Membership.{mem-upFrom, upFrom-mem, length-upFrom, getD-map-upFrom, mem-flatMap, flatMap-mem, mem-getD}
@@ -37,12 +37,9 @@ use Rattle.postman.specs.Steps.{Feasible}
 use Rattle.postman.specs.Laws.LagrangianBound.{cheapest-le, cheapest-at}
 use Rattle.cheapest_tree.specs.Cheapest.{Matrix, AreOthers, IsRootedTree, treeCost, IsCheapest}
 use Rattle.pair_costs.specs.Pairs.{IsPairMatrix, othersOf}
-use Rattle.postman.specs.Laws.Lists.{map-map, by-place}
+use Rattle.postman.specs.Laws.Lists.{by-place}
 use Rattle.cheapest_tree.specs.Laws.Iterates.{stepsTo, steps-fall}
 use Rattle.cheapest_tree.specs.Laws.Edmonds.{sum-mono, parent-other}
-
-abbrev noLink : Link
-noLink = record { tail = 0; head = 0 }
 
 -- ---- one more value of a function
 

@@ -12,7 +12,7 @@ use Rattle.postman.specs.Plan.{Plan}
 use Rattle.postman.specs.Required.{required}
 use Rattle.postman.specs.Link.{Link, links}
 use Rattle.postman.specs.Component.{component, componentCount}
-use Rattle.postman.specs.Arborescence.{linkAt, parent, Enters, IsArborescence, candidates, arrives, arborescences}
+use Rattle.postman.specs.Arborescence.{linkAt, parent, Enters, IsArborescence, candidates, arrives, arborescences, noLink}
 use Rattle.postman.specs.Laws.Tests.{and-both, and-parts, eqb-same, eqb-other}
 use Rattle.postman.specs.Laws.Membership.{mem-select, select-mem, allOf-mem, allOf-at, mem-below, below-mem, mem-choices, choices-mem, mem-getD}
 use Rattle.postman.specs.Laws.Distance.{InPlan}
@@ -35,9 +35,6 @@ module _ (p : Plan) (q : ℕ) {l : Link} where
       mem-select (λ l. eqb (component p (l .head)) q && not (eqb (component p (l .tail)) q)) (e .is-link)
       (and-both (eqb (component p (l .head)) q) (not (eqb (component p (l .tail)) q)) (eqb-same (e .head))
       (not-T (eqb (component p (l .tail)) q) (λ u. e .tail (eqb→eq (component p (l .tail)) q u))))
-
-abbrev noLink : Link
-noLink = record { tail = 0; head = 0 }
 
 module _ (p : Plan) {t : List Link} where
   pub arborescences-mem : List·Memᴰ t (arborescences p) → IsArborescence p t

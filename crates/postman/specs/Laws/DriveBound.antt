@@ -26,7 +26,7 @@ use Rattle.postman.specs.Laws.Assignment.{weight, legs-le}
 use Rattle.postman.specs.Laws.Balancing.{same-length}
 use Rattle.postman.specs.Laws.Arborescence.{mem-arborescences, joins}
 use Rattle.postman.specs.Laws.LinkLegs.{ends, Without, without-weight, extract, ends-heads, ends-tails, chain-weight, link-weight}
-use Rattle.postman.specs.Laws.Route.{Move, link, arc, linksOf, arcsOf, IsRoute, routeCost, drive-route}
+use Rattle.postman.specs.Laws.Route.{Move, link, arc, routeLinks, routeArcs, IsRoute, routeCost, drive-route}
 use Rattle.postman.specs.Laws.Entries.{entry, entries, Good, follow}
 use Rattle.postman.specs.Laws.DriveCost.{drive-cost}
 
@@ -40,8 +40,8 @@ permutation-cost arcs (more q s) = let h = permutation-cost arcs s in let k = pi
 
 -- what a route enters it leaves, but for its two ends
 route-balance : (p : Plan) (v i j : ℕ) (ms : List Move) → IsRoute p i ms j
-    → weight (λ a b. delta v b) (ends (linksOf ms)) + occurrences v (map (λ k. arcAt (p .arcs) k .head) (arcsOf ms)) + delta v i
-    ≡ weight (λ a b. delta v a) (ends (linksOf ms)) + occurrences v (map (λ k. arcAt (p .arcs) k .tail) (arcsOf ms)) + delta v j
+    → weight (λ a b. delta v b) (ends (routeLinks ms)) + occurrences v (map (λ k. arcAt (p .arcs) k .head) (routeArcs ms)) + delta v i
+    ≡ weight (λ a b. delta v a) (ends (routeLinks ms)) + occurrences v (map (λ k. arcAt (p .arcs) k .tail) (routeArcs ms)) + delta v j
 unfolding weight ends occurrences
 route-balance p v i j [] h = let e = ap (delta v) h in omega arith
 route-balance p v i j (link l ∷ ms) h = let r = route-balance p v (l .head) j ms (h .2) in let e = ap (delta v) (h .0) in omega arith
@@ -63,9 +63,9 @@ arc-in p ok q l =
     )
 
 module _ (p : Plan) (ok : InPlan p) (ms : List Move) (x : ℕ) (route : IsRoute p x ms x)
-    (perm : Permutation (arcsOf ms) (requiredNumbers p)) (root : component p x ≡ 0) where
+    (perm : Permutation (routeArcs ms) (requiredNumbers p)) (root : component p x ≡ 0) where
   abbrev whole : List Link
-  whole = linksOf ms
+  whole = routeLinks ms
 
   abbrev k : ℕ
   k = componentCount p
@@ -146,7 +146,7 @@ arborescence-of-drive p ok j some w h =
     let b = completion-le p i (r .0) x (r .1) (r .3) (a .2) in
     let c = r .2 in
     let d = drive-cost p h in (
-      entries p (linksOf (r .0)),
+      entries p (routeLinks (r .0)),
       mem-arborescences p i (is-arborescence p i (r .0) x (r .1) (r .3) (a .2)),
       omega arith,
     )

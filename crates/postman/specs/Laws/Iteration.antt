@@ -13,7 +13,7 @@ use Rattle.postman.specs.Drive.{IsWalk}
 use Rattle.postman.specs.Laws.Membership.{map-mem, below-mem, length-below, getD-map-upFrom}
 use Rattle.postman.specs.Laws.Distance.{InPlan, cut}
 
-iterate-add : (a b : ℕ) (f : ℕ → ℕ) (x : ℕ) → iterate (a + b) f x ≡ iterate b f (iterate a f x)
+pub iterate-add : (a b : ℕ) (f : ℕ → ℕ) (x : ℕ) → iterate (a + b) f x ≡ iterate b f (iterate a f x)
 unfolding iterate
 iterate-add zero b f x = ap (λ n. iterate n f x) (zero-add b)
 iterate-add (suc a) b f x = ap (λ n. iterate n f x) (suc-add a b) ∙ iterate-add a b f (f x)

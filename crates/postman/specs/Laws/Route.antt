@@ -24,15 +24,15 @@ pub data Move : Type 0 where
   link : Link → Move
   arc : ℕ → Move
 
-abbrev pub linksOf : List Move → List Link
-linksOf [] = []
-linksOf (link l ∷ ms) = l ∷ linksOf ms
-linksOf (arc k ∷ ms) = linksOf ms
+abbrev pub routeLinks : List Move → List Link
+routeLinks [] = []
+routeLinks (link l ∷ ms) = l ∷ routeLinks ms
+routeLinks (arc k ∷ ms) = routeLinks ms
 
-abbrev pub arcsOf : List Move → List ℕ
-arcsOf [] = []
-arcsOf (link l ∷ ms) = arcsOf ms
-arcsOf (arc k ∷ ms) = k ∷ arcsOf ms
+abbrev pub routeArcs : List Move → List ℕ
+routeArcs [] = []
+routeArcs (link l ∷ ms) = routeArcs ms
+routeArcs (arc k ∷ ms) = k ∷ routeArcs ms
 
 module _ (p : Plan) where
   abbrev pub source : Move → ℕ
@@ -52,10 +52,10 @@ module _ (p : Plan) where
   IsRoute i (m ∷ ms) j = (source m ≡ i) × Fine m × IsRoute (target m) ms j
 
   abbrev pub routeCost : List Move → ℕ
-  routeCost ms = chainCost p (linksOf ms) + walkCost (p .arcs) (arcsOf ms)
+  routeCost ms = chainCost p (routeLinks ms) + walkCost (p .arcs) (routeArcs ms)
 
   abbrev pub Route : ℕ → ℕ → List ℕ → ℕ → Type 0
-  Route i j ks c = (ms : List Move) × IsRoute i ms j × (routeCost ms ≤ c) × Permutation (arcsOf ms) ks
+  Route i j ks c = (ms : List Move) × IsRoute i ms j × (routeCost ms ≤ c) × Permutation (routeArcs ms) ks
 
 module _ (p : Plan) (ok : WellFormed p) where
   ends : InPlan p

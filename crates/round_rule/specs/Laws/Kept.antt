@@ -38,6 +38,7 @@ use Rattle.round_rule.specs.declared.trial.Chosen.{Chosen}
 use Rattle.round_rule.specs.Rounds.{under, floorOf, costOf, floorUnder, carriedBack, leftOf, newTrees, begun, withDrive, withFloor, withBase, counted, haveMet, isGoneOn, goneOn, numbersOf, exchangedBy, nextRound, roundWith, nextKept, keptAfter}
 use Rattle.round_rule.specs.Trial.{IsTrial, GoesOn}
 use Rattle.round_rule.specs.Laws.Tables.{under-few, under-plannable}
+use Rattle.tree_search.specs.Laws.Resumed.{tried-within}
 
 -- u of a plan, as a function
 abbrev pub uOf : List ℤ → Multipliers
@@ -95,10 +96,6 @@ pub record IsKept (p : Plan) (r : ℕ) (k : Kept) : Type 0 where
   pub random-in : k .random < modulus
 
 -- a round tries no more trees than it may
-pub tried-few : (q : Plan) (tries : ℕ) → triedCount q tries ≤ tries
-unfolding triedCount
-tried-few q tries = omega arith
-
 pub new-few : (q : Plan) (budget tries : ℕ) → newTrees q budget tries ≤ budget
 unfolding newTrees triedCount
 new-few q budget tries = omega arith
@@ -157,7 +154,7 @@ module _ (p : Plan) (ok : Plannable p) (few : componentCount p ≤ 8) (budget : 
   begun-kept =
       let same = sym (under-unchanged p) in
       let n = unchanged-numbering (p .n) in
-      let t = tried-few p budget in
+      let t = tried-within p budget in
       record {
         drive-numbering = n;
         drive-tries = some-trees;

@@ -1,6 +1,6 @@
 -- The plan under a numbering: it is well formed, refused as the plan is, and its tables are the plan's, renumbered.
 use mathlib.Core.Path.{_≡_, sym, ap, _∙_, subst⁻¹}
-use mathlib.Core.List.{List, [], _∷_}
+use mathlib.Core.List.{List, [], _∷_, map-map}
 use mathlib.Core.Option.{none}
 use mathlib.Core.Logic.{_≢_}
 use Prim.Native.Nat.{ℕ, _≤_, _<_}
@@ -12,7 +12,6 @@ use Rattle.postman.specs.Refusal.{firstRefusal}
 use Rattle.postman.specs.Component.{componentCount}
 use Rattle.postman.specs.PlanCall.{isCutOff, partsConditions}
 use Rattle.postman.specs.Renumbering.{numberIn, renumberedArc, renumbered}
-use Rattle.postman.specs.Laws.Lists.{map-map}
 use Rattle.postman.specs.Laws.Tests.{eqb-other}
 use Rattle.postman.specs.Laws.Refusal.{accepted-cons, accepted-append}
 use Rattle.postman.specs.Steps.{Plannable}

@@ -30,7 +30,7 @@ use Rattle.round_rule.specs.declared.trial.Chosen.{Chosen}
 use Rattle.round_rule.specs.Rounds.{under, floorOf, costOf, floorUnder, carriedBack, leftOf, newTrees, begun, withDrive, withFloor, withBase, counted, haveMet, nextRound, roundWith, nextKept, keptAfter}
 use Rattle.round_rule.specs.Trial.{IsTrial}
 use Rattle.round_rule.specs.Laws.Tables.{plan-accepted, under-few, under-plannable}
-use Rattle.round_rule.specs.Laws.Kept.{IsKept, after-kept, met-stays, one-round, tried-few}
+use Rattle.round_rule.specs.Laws.Kept.{IsKept, after-kept, met-stays, one-round}
 use Rattle.round_rule.specs.Laws.Made.{keptFrom, drive-left}
 
 -- one of two, by two numbers
@@ -90,7 +90,7 @@ module _ (q : Plan) (cost before tries : ℕ) (a : Found) (h : IsCheaper q cost 
   old-fewer = let o = old-tried in let t = h .tried-is in omega arith
 
 pub few-tried : (q : Plan) (cost tries : ℕ) (a : Found) → tries ≤ 1000000000 → IsCheaper q cost tries a → a .best .tried ≤ 1000000000
-few-tried q cost tries a low h = let t = tried-few q tries in let e = h .tried-is in omega arith
+few-tried q cost tries a low h = let t = tried-within q tries in let e = h .tried-is in omega arith
 
 -- ---- all rounds
 
