@@ -4,7 +4,7 @@ use Rattle.promises.specs.ExportedRuns.{LentHistory, AskHandsOver, Short
 use Rattle.promises.specs.Laws.HistoryTheorem.{lent-history}
 use Rattle.promises.specs.Laws.AskedTheorem.{both-accepted, asked-again-lent}
 use Rattle.promises.specs.Laws.TurnsTheorem.{lent-entry, lent-empty, lent-short, lent-going, lent-last}
-use Rattle.promises.specs.Laws.Slices.{same-slices}
+use Rattle.promises.specs.Laws.Slices.{slices-same}
 
 pub history : LentHistory
 history file bytes o cs last numbers run =
@@ -15,7 +15,7 @@ ask state budget windows d old after n x long = let y = x .asked long in
     (record { after = after .sheet; answer = y .answer; contract = y .called }, refl, y .handed-over)
 
 pub short-state : ShortState
-short-state state budget windows d old after n x few = let y = x .short few in (y .0, same-slices (y .1) (y .2) (y .3))
+short-state state budget windows d old after n x few = let y = x .short few in (y .0, slices-same (y .1) (y .2) (y .3))
 
 pub both-are-accepted : BothAccepted
 both-are-accepted file bytes x =
@@ -34,11 +34,11 @@ entry = lent-entry
 
 pub nobody : LentEmpty
 nobody es old t e = let x = lent-empty es (t .bytes) (t .led) _ _ _ _ _ _ _ _ (t .contract) e in
-    (x .0, x .1 .0, same-slices (x .1 .1) (x .1 .2) (x .1 .3))
+    (x .0, x .1 .0, slices-same (x .1 .1) (x .1 .2) (x .1 .3))
 
 pub short : LentShort
 short es old t d l e few = let x = lent-short es (t .bytes) (t .led) _ _ _ _ _ _ _ _ (t .contract) d l e few in
-    (x .0, x .1 .0, same-slices (x .1 .1) (x .1 .2) (x .1 .3))
+    (x .0, x .1 .0, slices-same (x .1 .1) (x .1 .2) (x .1 .3))
 
 pub going : LentGoing
 going es old t d l e long f = let x = lent-going es (t .bytes) (t .led) _ _ _ _ _ _ _ _ (t .contract) d l e long f in
@@ -47,4 +47,4 @@ going es old t d l e long f = let x = lent-going es (t .bytes) (t .led) _ _ _ _ 
 pub last : LentLast
 last es old t d l e long f c =
     let x = lent-last es (t .bytes) (t .led) _ _ _ _ _ _ _ _ (t .contract) d l e long f _ _ _ _ (c .contract) in
-    (x .0, x .1, same-slices (x .2) (x .3) (x .4))
+    (x .0, x .1, slices-same (x .2) (x .3) (x .4))
