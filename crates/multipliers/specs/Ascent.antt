@@ -75,7 +75,7 @@ module _ (p : Plan) where
   abbrev pub boundOf : List ℤ → ℤ
   boundOf u = lagrangianBound p (multipliersIn u)
 
-  -- The amounts of the required arcs; whether multipliers are lawful; these, once that of the root is improved off; and a step from c.
+  -- The amounts of the required arcs; whether multipliers are lawful; these, once that of the root is taken off; and a step from c.
   abbrev pub amountsOf : List ℕ
   amountsOf = balance (cell (tableOf p)) p [] .amounts
 

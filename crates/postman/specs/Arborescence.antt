@@ -12,13 +12,9 @@ use Rattle.postman.specs.Plan.{Plan}
 use Rattle.postman.specs.Link.{Link, links}
 use Rattle.postman.specs.Component.{component, componentCount}
 
--- What is read beyond the end of a list of links.
-abbrev pub noLink : Link
-noLink = record { tail = 0; head = 0 }
-
 -- Document 01's words, as a property of a list t that holds the links into components 1, 2, and so on.
 abbrev pub linkAt : List Link → ℕ → Link
-linkAt t q = getD t q noLink
+linkAt t q = getD t q (record { tail = 0; head = 0 })
 
 -- The component that the link into component q comes from; component 0 stays.
 unfoldable pub parent : Plan → List Link → ℕ → ℕ

@@ -39,6 +39,10 @@ amount f i j = getD f (i * 64 + j) 0
 abbrev pub pairAt : ℕ → Link
 pairAt x = record { tail = x / 64; head = x % 64 }
 
+-- What is read beyond the end of a list of links.
+abbrev pub noLink : Link
+noLink = record { tail = 0; head = 0 }
+
 -- ---- plans
 
 -- A plan that the call does not refuse, as far as bounds go.

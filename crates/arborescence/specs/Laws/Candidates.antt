@@ -7,7 +7,8 @@ use native.Mathlib.Omega.{arith}
 use Rattle.postman.specs.Lists.{allOf}
 use Rattle.postman.specs.Plan.{Plan}
 use Rattle.postman.specs.Component.{componentCount}
-use Rattle.postman.specs.Arborescence.{candidates, noLink}
+use Rattle.postman.specs.Arborescence.{candidates}
+use Rattle.postman.specs.Steps.{noLink}
 use Rattle.postman.specs.Laws.Membership.{getD-mem}
 use Rattle.postman.specs.Laws.Distance.{InPlan}
 use Rattle.postman.specs.Laws.Component.{component-lt}

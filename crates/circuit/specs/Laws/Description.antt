@@ -24,9 +24,8 @@ use Rattle.postman.specs.Laws.FewestPath.{fewest-once}
 use Rattle.postman.specs.Laws.Assignment.{weight}
 use Rattle.postman.specs.Laws.LinkLegs.{ends}
 use Rattle.drive_legs.specs.Laws.Units.{units-pair}
-use Rattle.postman.specs.Steps.{amount}
+use Rattle.postman.specs.Steps.{amount, noLink}
 use Rattle.postman.specs.Laws.Selection.{upFrom-append}
-use Rattle.postman.specs.Arborescence.{noLink}
 use Rattle.drive_legs.specs.Legs.{units, legTails, legHeads, Completes}
 use Rattle.drive_legs.specs.Drive.{placesOf, driveBy, ArePaths}
 use Rattle.drive_legs.specs.Laws.Legs.{leg-at, leg-ends}

@@ -18,7 +18,7 @@ use Rattle.postman.specs.Drive.{IsWalk}
 use Rattle.postman.specs.Required.{required}
 use Rattle.postman.specs.Link.{Link}
 use Rattle.postman.specs.Component.{component, componentCount}
-use Rattle.postman.specs.Arborescence.{linkAt, parent, noLink}
+use Rattle.postman.specs.Arborescence.{linkAt, parent}
 use Rattle.postman.specs.Balancing.{heads, tails, imbalance, sumOver, IsBalancing}
 use Rattle.postman.specs.Laws.Membership.{getD-mem, mem-getD, mem-map, map-mem, flatMap-mem, below-mem}
 use Rattle.postman.specs.Laws.Occurrences.{mem-of-occurrences, occurrences-of-mem, occurrences-append}
@@ -30,7 +30,7 @@ use Rattle.postman.specs.Laws.Arborescence.{joins}
 use Rattle.postman.specs.Laws.Balancing.{within-heads, within-tails}
 use Rattle.postman.specs.Laws.LinkLegs.{ends, ends-heads, ends-tails}
 use Rattle.hierholzer.specs.Eulerian.{Eulerian}
-use Rattle.postman.specs.Steps.{amount, pairAt}
+use Rattle.postman.specs.Steps.{amount, pairAt, noLink}
 use Rattle.drive_legs.specs.Legs.{unitsBelow, units, arcLeg, legs, legTails, legHeads, Completes}
 use Rattle.hierholzer.specs.Laws.Lists.{replicate-mem}
 use Rattle.drive_legs.specs.Laws.Units.{units-out, units-into}

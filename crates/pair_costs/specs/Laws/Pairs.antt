@@ -20,7 +20,7 @@ use Rattle.postman.specs.Lists.{upFrom, below, iterate, sumOfℤ}
 use Rattle.postman.specs.Plan.{Plan, WellFormed}
 use Rattle.postman.specs.Link.{Link, links}
 use Rattle.postman.specs.Component.{component, componentCount}
-use Rattle.postman.specs.Arborescence.{linkAt, parent, Enters, IsArborescence, arborescences, noLink}
+use Rattle.postman.specs.Arborescence.{linkAt, parent, Enters, IsArborescence, arborescences}
 use Rattle.postman.specs.LagrangianBound.{Multipliers, reducedCost, reducedSum, cheapestArborescence}
 use Rattle.postman.specs.Laws.Tests.{cond-ind}
 use Rattle.postman.specs.Laws.Membership.{mem-upFrom, upFrom-mem, length-upFrom, getD-map-upFrom, mem-flatMap, flatMap-mem, mem-getD}
@@ -33,7 +33,7 @@ use Rattle.postman.specs.Laws.LinkLegs.{Without, done, next, extract}
 use Rattle.postman.specs.Laws.Iteration.{settle}
 use Rattle.postman.specs.Laws.Arborescence.{arborescences-mem, mem-arborescences}
 use Rattle.postman.specs.Laws.SignedSum.{≤ℤ-trans, ≤ℤ-antisym, sum-append, sum-nonneg, sum-pick}
-use Rattle.postman.specs.Steps.{Feasible}
+use Rattle.postman.specs.Steps.{Feasible, noLink}
 use Rattle.postman.specs.Laws.LagrangianBound.{cheapest-le, cheapest-at}
 use Rattle.cheapest_tree.specs.Cheapest.{Matrix, AreOthers, IsRootedTree, treeCost, IsCheapest}
 use Rattle.pair_costs.specs.Pairs.{IsPairMatrix, othersOf}

@@ -12,14 +12,14 @@ use Rattle.postman.specs.Plan.{Plan}
 use Rattle.postman.specs.Required.{required}
 use Rattle.postman.specs.Link.{Link, links}
 use Rattle.postman.specs.Component.{component, componentCount}
-use Rattle.postman.specs.Arborescence.{linkAt, parent, Enters, IsArborescence, candidates, arrives, arborescences, noLink}
+use Rattle.postman.specs.Arborescence.{linkAt, parent, Enters, IsArborescence, candidates, arrives, arborescences}
 use Rattle.postman.specs.Laws.Tests.{and-both, and-parts, eqb-same, eqb-other}
 use Rattle.postman.specs.Laws.Membership.{mem-select, select-mem, allOf-mem, allOf-at, mem-below, below-mem, mem-choices, choices-mem, mem-getD}
 use Rattle.postman.specs.Laws.Distance.{InPlan}
 use Rattle.postman.specs.Laws.Component.{component-lt}
 use Rattle.postman.specs.Laws.Link.{link-ends}
 use Rattle.postman.specs.Laws.Iteration.{settle}
-use Rattle.postman.specs.Steps.{Joins}
+use Rattle.postman.specs.Steps.{Joins, noLink}
 
 module _ (p : Plan) (q : ℕ) {l : Link} where
   pub candidates-mem : List·Memᴰ l (candidates p q) → Enters p q l

@@ -14,7 +14,8 @@ use Rattle.postman.specs.Lists.{select, upFrom, choices, occurrences}
 use Rattle.postman.specs.Plan.{Plan}
 use Rattle.postman.specs.Link.{Link}
 use Rattle.postman.specs.Component.{component, componentCount}
-use Rattle.postman.specs.Arborescence.{candidates, arborescences, noLink}
+use Rattle.postman.specs.Arborescence.{candidates, arborescences}
+use Rattle.postman.specs.Steps.{noLink}
 use Rattle.postman.specs.Laws.Tests.{is-true, eqb-same}
 use Rattle.postman.specs.Laws.Membership.{mem-map, map-mem, select-cong, mem-getD, choices-mem, upFrom-mem}
 use Rattle.postman.specs.Laws.Distance.{InPlan}

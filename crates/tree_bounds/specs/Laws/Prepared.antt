@@ -12,11 +12,11 @@ use Rattle.postman.specs.Required.{required, requiredCost}
 use Rattle.postman.specs.Distance.{distance}
 use Rattle.postman.specs.Link.{Link}
 use Rattle.postman.specs.Component.{component, componentCount}
-use Rattle.postman.specs.Arborescence.{linkAt, candidates, noLink}
+use Rattle.postman.specs.Arborescence.{linkAt, candidates}
 use Rattle.postman.specs.Laws.Tests.{cond-ind}
 use Rattle.postman.specs.Laws.Distance.{InPlan, bounded}
 use Rattle.postman.specs.Laws.Required.{required-below}
-use Rattle.postman.specs.Steps.{Joins, cell}
+use Rattle.postman.specs.Steps.{Joins, cell, noLink}
 use Rattle.postman.specs.Laws.Membership.{getD-mem, mem-getD, choices-mem}
 use Rattle.postman.specs.Laws.Link.{link-ends}
 use Rattle.postman.specs.Laws.Arborescence.{candidates-mem}
