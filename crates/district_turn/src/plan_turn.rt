@@ -112,7 +112,8 @@ fn last(
         (x .whole)) ⌝ }
     ensures { λ y.
         ⌜ now (sheet .exit)
-        ≡ written (treeDrive (planValue plan) (linksIn (componentCount (planValue plan) - 1) (x .tails) (x .heads))) (now (sheet .entry)) ⌝ }
+        ≡ written (treeDrive (planValue plan) (linksIn (componentCount (planValue plan) - 1) (x .tails) (x .heads)))
+        (now (sheet .entry)) ⌝ }
 {
     let ts = x.tails;
     let hs = x.heads;

@@ -35,6 +35,7 @@ pub record IsJudged (bytes w : List ℕ) (r : Judged) : Type 0 where
   -- the cost, or the first refusal that applies
   pub answer-is : judgedAnswer r ≡ judgeAnswer bytes w
   -- "Where 1 to 7, 10 and 13 don't apply, it returns the cost exactly when the list is a drive by the definition"
-  pub exactly : firstRefusal (unjudgedConditions bytes (length w)) ≡ none → ((c : ℕ) × (judgedAnswer r ≡ given c)) ↔ IsDrive (planOf bytes) w
+  pub exactly : firstRefusal (unjudgedConditions bytes (length w)) ≡ none
+      → ((c : ℕ) × (judgedAnswer r ≡ given c)) ↔ IsDrive (planOf bytes) w
   -- a cost is that of a drive, whatever applies
   pub costs : (c : ℕ) → judgedAnswer r ≡ given c → IsDrive (planOf bytes) w × (c ≡ driveCost (planOf bytes) w)

@@ -54,7 +54,8 @@ fn best_of(passed: bool, k: usize, best: usize) -> usize
 // The lowest numbered arc with which a lightest path from v begins, to the vertex of the column. The arcs that leave v are met in ascending
 // order, so that the first that is taken is the last that is met.
 fn next_arc(arcs: &[[u16; 5]], chain: &[u16; 320], column: &[u32], v: usize) -> usize
-    requires { ⌜ WellFormed (planIn (length (now column)) (now arcs)) × IsLeavingChain (now arcs) (now chain) × (v < length (now column)) ⌝ }
+    requires { ⌜ WellFormed (planIn (length (now column)) (now arcs)) × IsLeavingChain (now arcs) (now chain)
+        × (v < length (now column)) ⌝ }
     ensures { λ r. ⌜ r ≡ nextIn (now (arcs .entry)) (now (column .entry)) v ⌝ }
 {
     let m = arcs.len();

@@ -105,7 +105,8 @@ fn backed_up(
 ) -> Explored
     requires { ⌜ ((p : Plan) × (vs : List ℕ) × (source : List ℕ) × (f : List ℕ)
         × Prepared p (now d) vs (now start) source (now tails) (now heads) k × IsBranch p (now d) f b
-        × Prices p (now d) (chosenIn b) (b .a) (e .pricing) × Prices p (now d) (chosenIn b ++ candidateLink c ∷ []) (b .a + 1) (under .pricing))
+        × Prices p (now d) (chosenIn b) (b .a) (e .pricing)
+        × Prices p (now d) (chosenIn b ++ candidateLink c ∷ []) (b .a + 1) (under .pricing))
         × (b .a < k) × (c .tail < 64) × (c .head < 64) ⌝ }
     ensures { λ r. ⌜ (r .progress ≡ under .progress)
         × ((p : Plan) (vs source f : List ℕ) → Prepared p (now (d .entry)) vs (now (start .entry)) source (now (tails .entry)) (now

@@ -31,7 +31,8 @@ module _ (path : ℕ → ℕ → List ℕ) (numbers tails heads : List ℕ) wher
   unfolding placesOf
   places-part order x =
       let f = legPlaces path numbers tails heads in
-      let e = ap (λ z. length (flatMap f z)) (sym (take-append-drop x order)) ∙ ap length (flatMap-append f (take x order) (drop x order)) in
+      let e = ap (λ z. length (flatMap f z)) (sym (take-append-drop x order))
+      ∙ ap length (flatMap-append f (take x order) (drop x order)) in
       let l = length-append (flatMap f (take x order)) (flatMap f (drop x order)) in
       omega arith
 

@@ -1,4 +1,5 @@
--- Calls compared. After one round what is kept is what the plan call answers; after more it is no worse, and once floor and cost have met it stays.
+-- Calls compared. After one round what is kept is what the plan call answers; after more it is no worse, and once floor and cost have met
+-- it stays.
 use mathlib.Core.Path.{_≡_, refl, sym, ap, ap₂, _∙_, subst}
 use mathlib.Core.Bool.{true}
 use mathlib.Core.List.{List, [], _∷_}

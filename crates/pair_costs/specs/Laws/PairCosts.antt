@@ -180,7 +180,8 @@ module _ (d : List (List ℕ)) (u : List ℤ) (c : List ℕ) (r : List Bool) (ok
                   let j = getD (lowest p) t 0 in
                   let q : IsPair p s t i j = record { tail = v .0; head = w .0; from = v .1; to = w .1 } in
                   let g = pair-least s t i j q in
-                  let z = ok .high i j (required-below p wf (v .0)) (required-below p wf (w .0)) (net .required-is i (v .0)) (net .required-is j (w .0)) in
+                  let z = ok .high i j (required-below p wf (v .0)) (required-below p wf (w .0)) (net .required-is i (v .0))
+                  (net .required-is j (w .0)) in
                   (i, j, q, ≤ℤ-antisym g (subst⁻¹ (λ (a : ℤ). costOf d u i j ≤ℤ a) f z) ∙ pair-cost i j (v .0) (w .0))
             ]
 

@@ -1,5 +1,5 @@
--- A plan with a required arc has a drive exactly when it is not cut off. A drive leads from any required vertex to any other; conversely the
--- required arcs, in file order, are joined by shortest paths.
+-- A plan with a required arc has a drive exactly when it is not cut off. A drive leads from any required vertex to any other; conversely
+-- the required arcs, in file order, are joined by shortest paths.
 use mathlib.Core.Path.{refl, subst, subst⁻¹}
 use mathlib.Core.Logic.{inl, inr}
 use mathlib.Core.Bool.{not}

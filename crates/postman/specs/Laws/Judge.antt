@@ -1,6 +1,6 @@
--- A list of arcs has no fault exactly when it is a drive: a number that is not foreign is that of an open arc, arcs without a gap are a walk
--- that ends where it began, and a required arc that is not missed occurs. Each by induction on the list. Hence the list is judged to cost
--- something exactly when it is a drive, where nothing before its faults applies.
+-- A list of arcs has no fault exactly when it is a drive: a number that is not foreign is that of an open arc, arcs without a gap are
+-- a walk that ends where it began, and a required arc that is not missed occurs. Each by induction on the list. Hence the list is judged
+-- to cost something exactly when it is a drive, where nothing before its faults applies.
 use mathlib.Core.Path.{_≡_, refl, sym, ap, _∙_, subst⁻¹}
 use mathlib.Core.Logic.{_↔_}
 use mathlib.Core.Bool.{Bool, true, false, not, cond, _||_}
@@ -194,7 +194,8 @@ module _ (bytes w : List ℕ) where
   unfolding judgeAnswer
   drive-judged e h = answer-given (judgeRefusal bytes w) (driveCost p w) (judged e .1 h)
 
-  -- so does every drive of at most 65,535 places of a file that reads, with some required arc; and of one that the plan call does not refuse
+  -- so does every drive of at most 65,535 places of a file that reads, with some required arc; and of one that the plan call does not
+  -- refuse
   pub file-judged : firstRefusal (fileConditions bytes) ≡ none → 0 < length (requiredArcs p) → length w ≤ highestPlaces → IsDrive p w
       → judgeAnswer bytes w ≡ given (driveCost p w)
   file-judged f s l h = drive-judged (accepted-unjudged bytes (length w) (lent-short bytes (length w) l ∙ f) s) h

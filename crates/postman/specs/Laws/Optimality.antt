@@ -62,7 +62,8 @@ module _ (p : Plan) (budget : ℕ) where
       take-all (triedCount p budget) (arborescences p) (omega arith)
 
 module _ (p : Plan) (ok : Plannable p) where
-  pub drive-arborescence : (w : List ℕ) → IsDrive p w → (t : List Link) × List·Memᴰ t (arborescences p) × (completionCost p t ≤ driveCost p w)
+  pub drive-arborescence : (w : List ℕ) → IsDrive p w
+      → (t : List Link) × List·Memᴰ t (arborescences p) × (completionCost p t ≤ driveCost p w)
   drive-arborescence w h = let k = some-required p (ok .some-arc) in arborescence-of-drive p (ok .well-formed) (k .0) (k .1) w h
 
   -- N ≥ 1

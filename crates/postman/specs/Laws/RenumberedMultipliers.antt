@@ -61,7 +61,8 @@ module _ (p : Plan) {π σ : ℕ → ℕ} (h : IsNumbering (p .n) π σ) (u : Mu
 module _ (p : Plan) {π σ : ℕ → ℕ} (h : IsNumbering (p .n) π σ) (budget : ℕ) (u : Multipliers)
     (g : Guarantee (renumbered p π) budget u) where
   pub below-drives : (w : List ℕ) → IsDrive p w → lowerBound (renumbered p π) budget u ≤ℤ pos (driveCost p w)
-  below-drives w t = subst (λ c. lowerBound (renumbered p π) budget u ≤ℤ pos c) (drive-cost p π w) (g .below-every-drive w (drives p h w .1 t))
+  below-drives w t =
+      subst (λ c. lowerBound (renumbered p π) budget u ≤ℤ pos c) (drive-cost p π w) (g .below-every-drive w (drives p h w .1 t))
 
   -- where all trees were tried, no drive is cheaper
   pub least-cost : T (isWhole (renumbered p π) budget) → (w : List ℕ) → IsDrive p w → bestCost (renumbered p π) budget ≤ driveCost p w

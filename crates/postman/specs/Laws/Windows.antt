@@ -1,6 +1,6 @@
 -- The plan at a departure. It has the arcs of the plan that it is made from, with the same ends and costs; an arc of it may be driven
 -- exactly if it may be driven there and is not shut. So it is well formed, and its walks are the walks that avoid the arcs shut. Where no
--- required arc is shut, it has the same required arcs: its drives are the drives that avoid the arcs shut, and a list of arcs costs the same
+-- required arc is shut, it has the same required arcs: its drives are those that avoid the arcs shut, and a list of arcs costs the same
 -- in both. With no window it is the plan itself, and the call's refusal is the plan call's.
 use mathlib.Core.Path.{_≡_, refl, sym, ap, _∙_, subst, subst⁻¹}
 use mathlib.Core.Logic.{_↔_, inl, inr}

@@ -57,7 +57,8 @@ module _ {p : Plan} {budget : ℕ} {refusal : Option ℕ} {old new : List ℕ} {
     later-kept =
         let d = driveOf p budget in
         let c = count-is p budget refusal old new r i good in
-        ap₂ drop c (sheet-is p budget refusal old new r i good) ∙ drop-append-seam d (drop (length d) old) ∙ ap (λ (k : ℕ). drop k old) (sym c)
+        ap₂ drop c (sheet-is p budget refusal old new r i good) ∙ drop-append-seam d (drop (length d) old)
+        ∙ ap (λ (k : ℕ). drop k old) (sym c)
 
     pub drives : Drives p budget old new r
     unfolding summary

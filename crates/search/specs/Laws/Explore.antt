@@ -515,7 +515,8 @@ module _ {p : Plan} {table : List (List ℕ)} {vs start source tails heads : Lis
         pub next-branch : (n .a < componentCount p → AreCounts (n .entries) (n .a) (componentCount p) (n .counts)) → IsBranch p table a n
         next-branch = below-branch h b is more there mem apart a n below-there
 
-        pub next-prices : (q : Pricing) → Prices p table (chosenIn n) (n .a) q → Prices p table (chosenIn b ++ candidateLink c ∷ []) (b .a + 1) q
+        pub next-prices : (q : Pricing) → Prices p table (chosenIn n) (n .a) q
+            → Prices p table (chosenIn b ++ candidateLink c ∷ []) (b .a + 1) q
         next-prices q x =
             let link : there ≡ candidateLink c = ap₂ (λ t z. record { tail = t; head = z }) (sym tail-is) (sym head-is) in
             subst (λ n. Prices p table (chosenIn b ++ candidateLink c ∷ []) n q) (below .next)

@@ -47,8 +47,8 @@ pub tree-small : (p : Plan) → Plannable p → componentCount p ≤ 8 → (t : 
 unfolding sheetPlaces driveCost
 tree-small p ok few t tree =
     let r = tree-drive p ok few t tree in
-    let a = passes-small (p .n) (p .arcs) (ok .well-formed .each) (r .0 .drive .start) (r .0 .drive .start) (treeDrive p t) (requiredNumbers p)
-    (r .0 .drive .leads-back) in
+    let a = passes-small (p .n) (p .arcs) (ok .well-formed .each) (r .0 .drive .start) (r .0 .drive .start) (treeDrive p t)
+    (requiredNumbers p) (r .0 .drive .leads-back) in
     let b = mul-le-mul-right {m = length (treeDrive p t)} {n = 17266} 65535 (r .0 .short) in
     let c = r .1 in
     omega arith
