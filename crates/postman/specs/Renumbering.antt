@@ -45,9 +45,10 @@ renumberedTree π t = map (renumberedLink π) t
 abbrev pub carried : (ℕ → ℕ) → Multipliers → Multipliers
 carried π u v = u (π v)
 
--- The drive that the plan call lays for the plan renumbered, told of the plan itself, as `IsAnswerDrive` tells of the plan call's: a drive
--- of the plan, at the cost of the plan renumbered, with tree and amounts between the plan's own vertices. Its tree has its place among those
--- tried of the plan renumbered: which pairs are links, and which part is part 0, goes by the numbers, so of the plan itself it may be none.
+-- The drive that the plan call lays for the plan renumbered, told of the plan itself, as `IsAnswerDrive` tells of the plan call's: a
+-- drive of the plan, at the cost of the plan renumbered, with tree and amounts between the plan's own vertices. Its tree has its place
+-- among those tried of the plan renumbered: which pairs are links, and which part is part 0, goes by the numbers, so of the plan
+-- itself it may be none.
 pub record IsRenumberedDrive (p : Plan) (π : ℕ → ℕ) (budget : ℕ) (w : List ℕ) : Type 0 where
   pub drive : IsDrive p w
   pub costs : driveCost p w ≡ bestCost (renumbered p π) budget
