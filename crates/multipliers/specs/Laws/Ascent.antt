@@ -69,9 +69,6 @@ module _ (p : Plan) (ok : Plannable p) (few : componentCount p ≤ 8) where
     pub above : boundOf p (greatestOf p) ≤ℤ c .bound
     pub small : AreSmall beyond (c .multipliers)
 
-  low : (i : ℕ) → List·Memᴰ i (required p) → i < 64
-  low i m = required-below p (ok .well-formed) m
-
   -- lawful multipliers that are 0 at the root are small
   pub rooted-small : (u : List ℤ) → Rooted p u → AreSmall beyond u
   rooted-small u r v l =
@@ -106,7 +103,7 @@ module _ (p : Plan) (ok : Plannable p) (few : componentCount p ≤ 8) where
         rooted = b .rooted;
         bound-is = b .bound-is;
         above = b .above;
-        small = step-small (tableOf p) (amountsOf p) (required p) (eqb (i % 2) 1) low (componentsOf p) (componentCount p) (c .stride)
+        small = step-small (tableOf p) (amountsOf p) (required p) (eqb (i % 2) 1) (λ v m. required-below p (ok .well-formed) m) (componentsOf p) (componentCount p) (c .stride)
             (c .multipliers) (c .before);
       })
 
