@@ -103,8 +103,8 @@ module _ (p : Plan) (ok : Plannable p) (few : componentCount p ≤ 8) where
         rooted = b .rooted;
         bound-is = b .bound-is;
         above = b .above;
-        small = step-small (tableOf p) (amountsOf p) (required p) (eqb (i % 2) 1) (λ v m. required-below p (ok .well-formed) m) (componentsOf p) (componentCount p) (c .stride)
-            (c .multipliers) (c .before);
+        small = step-small (tableOf p) (amountsOf p) (required p) (eqb (i % 2) 1) (λ v m. required-below p (ok .well-formed) m)
+            (componentsOf p) (componentCount p) (c .stride) (c .multipliers) (c .before);
       })
 
   ascent-kept : Kept (turns (climb p) (begin p) 20)
