@@ -19,7 +19,7 @@ use Rattle.small_counts.specs.Matrix.{cap}
 use Rattle.multipliers.specs.Ascent.{multipliersFor}
 use Rattle.tree_search.specs.declared.trees.Reached.{Reached}
 use Rattle.tree_search.specs.Laws.BestTree.{cost-small}
-use Rattle.tree_search.specs.Laws.Resumed.{total-is}
+use Rattle.tree_search.specs.Laws.Resumed.{total-is, tried-within}
 use Rattle.held_tree.specs.declared.cheaper.Found.{Found}
 use Rattle.held_tree.specs.Cheaper.{IsBest, IsCheaper}
 use Rattle.call_steps.specs.Refusals.{planRefusal}
