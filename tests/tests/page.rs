@@ -232,5 +232,13 @@ fn contracts_and_definitions_cite_no_laws() {
 fn no_more_is_believed_than_may_be() {
     let script = crates().join("../tools/believed");
     let output = Command::new("python3").arg(script).arg("--check").output().expect("python3");
-    assert!(output.status.success(), "{}", String::from_utf8_lossy(&output.stdout));
+    let told = String::from_utf8_lossy(&output.stdout);
+    assert!(output.status.success(), "{told}");
+    let lines = |what: &str| -> String {
+        let row = told.lines().find_map(|line| line.strip_prefix(what)).expect(what);
+        row.split_whitespace().nth(2).expect("a number of lines").to_string()
+    };
+    let [call, all, with_c] = ["PlanCall ", "all Rattle calls ", "with the C layer "].map(lines);
+    let said = format!("{call} for the plan call, {all} for all calls in Rattle, {with_c} with the C layer");
+    assert!(read(&crates().join("../docs/GUIDE.md")).contains(&said), "GUIDE.md has not: {said}");
 }

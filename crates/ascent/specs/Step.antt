@@ -8,7 +8,7 @@ use lib.IntN.{ℤ, pos}
 use lib.ListN.{length, getD}
 use lib.Signed.{leZ}
 use Rattle.multiplier_steps.specs.Turns.{turns}
-use Rattle.multiplier_steps.specs.Steps.{carried}
+use Rattle.multiplier_steps.specs.Steps.{carriedOn}
 use Rattle.ascent.specs.Relax.{settled}
 use Rattle.ascent_tree.specs.Offers.{offers}
 use Rattle.ascent_tree.specs.Tree.{grown, along}
@@ -23,19 +23,19 @@ pub record Step : Type 0 where
 abbrev pub isSame : ℤ → ℤ → Bool
 isSame a b = leZ a b && leZ b a
 
-unfoldable pub areSame : List ℕ → List ℤ → List ℤ → Bool
+unfoldable pub areUnmoved : List ℕ → List ℤ → List ℤ → Bool
 unfolding turns
-areSame vs x y = turns (λ b a. b && isSame (getD x (getD vs a 0) (pos 0)) (getD y (getD vs a 0) (pos 0))) true (length vs)
+areUnmoved vs x y = turns (λ b a. b && isSame (getD x (getD vs a 0) (pos 0)) (getD y (getD vs a 0) (pos 0))) true (length vs)
 
 module _ (d : List (List ℕ)) (f vs component : List ℕ) (k : ℕ) (up : Bool) (s : ℕ) (x before : List ℤ) where
   unfoldable pub step : Step
-  unfolding offers grown along carried settled areSame
+  unfolding offers grown along carriedOn settled areUnmoved
   step =
       let o = offers d x component vs in
       let t = grown (o .0) (2 ^ (k - 1)) in
       let y = along (t .1) (o .1) s x (2 ^ (k - 1) - 1) in
       record {
-        multipliers = settled d f up vs (carried vs y x before);
+        multipliers = settled d f up vs (carriedOn vs y x before);
         value = getD (t .0) (2 ^ (k - 1) - 1) (pos 0);
-        balanced = areSame vs y x;
+        balanced = areUnmoved vs y x;
       }

@@ -15,7 +15,7 @@ ghost use lib.Signed.{leZ};
 ghost use Rattle.residual_search.specs.Bounds.{AtMost};
 ghost use Rattle.residual_search.specs.Search.{beyond};
 ghost use Rattle.multiplier_steps.specs.Steps.{AreSmall};
-ghost use Rattle.ascent.specs.Step.{areSame, step as stepFrom};
+ghost use Rattle.ascent.specs.Step.{areUnmoved, step as stepFrom};
 ghost use Rattle.ascent.specs.Records.{stepOf};
 
 // The multipliers after a step, the cost of the tree at those before it, and whether that tree is balanced.
@@ -40,7 +40,7 @@ fn both(b: bool, x: i64, y: i64) -> bool
 // Whether two lists of multipliers are the same.
 fn same(vs: &[u8], x: &[i64; 64], y: &[i64; 64]) -> bool
     requires { ⌜ AtMost 63 (now vs) ⌝ }
-    ensures { λ r. ⌜ r ≡ areSame (now (vs .entry)) (now (x .entry)) (now (y .entry)) ⌝ }
+    ensures { λ r. ⌜ r ≡ areUnmoved (now (vs .entry)) (now (x .entry)) (now (y .entry)) ⌝ }
 {
     let mut b = true;
     let mut a: usize = 0;

@@ -4,10 +4,10 @@ use mathlib.Core.Bool.{Bool, cond}
 use mathlib.Core.List.{List}
 use Prim.Native.Nat.{ℕ, _+_, _*_, _%_}
 use lib.ListN.{length, getD, set, replicate}
-use lib.IntN.{ℤ, pos, _+ℤ_, _-ℤ_}
+use lib.IntN.{ℤ, pos}
 use lib.Signed.{ltZ}
 use Rattle.residual_search.specs.Search.{beyond}
-use Rattle.postman.specs.Steps.{cell}
+use Rattle.pair_costs.specs.PairCosts.{costOf}
 use Rattle.multiplier_steps.specs.Turns.{turns}
 
 abbrev pub Offers : Type 0
@@ -17,19 +17,15 @@ abbrev pub part : List ℕ → ℕ → ℕ
 part component v = getD component v 0 % 8
 
 module _ (d : List (List ℕ)) (x : List ℤ) (component : List ℕ) where
-  -- "d(i,j) − u(i) + u(j)"
-  abbrev pub costOf : ℕ → ℕ → ℤ
-  costOf i j = pos (cell d i j) -ℤ getD x i (pos 0) +ℤ getD x j (pos 0)
-
   abbrev pub entryFor : ℕ → ℕ → ℕ
   entryFor i j = part component i * 8 + part component j
 
   -- The pair from i to j is offered.
   abbrev pub isCheaper : Offers → ℕ → ℕ → Bool
-  isCheaper s i j = ltZ (costOf i j) (getD (s .0) (entryFor i j) (pos 0))
+  isCheaper s i j = ltZ (costOf d x i j) (getD (s .0) (entryFor i j) (pos 0))
 
   abbrev pub offer : ℕ → Offers → ℕ → Offers
-  offer i s j = cond (isCheaper s i j) (set (s .0) (entryFor i j) (costOf i j), set (s .1) (entryFor i j) (i * 64 + j)) s
+  offer i s j = cond (isCheaper s i j) (set (s .0) (entryFor i j) (costOf d x i j), set (s .1) (entryFor i j) (i * 64 + j)) s
 
   module _ (vs : List ℕ) where
     unfoldable pub offersFrom : Offers → ℕ → Offers

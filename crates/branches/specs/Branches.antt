@@ -112,8 +112,8 @@ repricedBranch b w = record {
   counts = b .counts;
 }
 
-abbrev pub linkOf : Candidate → Link
-linkOf c = record { tail = c .tail; head = c .head }
+abbrev pub candidateLink : Candidate → Link
+candidateLink c = record { tail = c .tail; head = c .head }
 
 -- The trees of a branch, in order.
 unfoldable pub treesIn : Plan → Branch → List (List Link)

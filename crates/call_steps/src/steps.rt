@@ -19,7 +19,7 @@ ghost use Rattle.postman.specs.PlanCall.{sheetPlaces, callConditions};
 ghost use Rattle.plan.specs.Records.{planValue};
 ghost use Rattle.shortest.specs.Contracts.{AreWeights};
 ghost use Rattle.refusal.specs.Verdict.{verdictNumber};
-ghost use Rattle.multipliers.specs.Tour.{tableOf};
+ghost use Rattle.multipliers.specs.Drive.{tableOf};
 ghost use Rattle.multipliers.specs.Prepared.{IsMeasured};
 ghost use Rattle.solution.specs.Planned.{IsPlanned};
 ghost use Rattle.call_steps.specs.Refusals.{networkRefusal, planRefusal};

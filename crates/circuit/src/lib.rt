@@ -1,3 +1,3 @@
-// One closed walk through the legs of a tour.
+// One closed walk through the legs of a drive.
 pub mod places; // the places of the legs
-pub mod tour; // the tour, written
+pub mod drive; // the drive, written

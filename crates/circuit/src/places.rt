@@ -10,9 +10,9 @@ ghost use lib.ListN.{length, getD};
 ghost use Rattle.postman.specs.Plan.{WellFormed};
 ghost use Rattle.plan.specs.Rows.{planIn};
 ghost use Rattle.paths.specs.ShortestPath.{shortestPath};
-ghost use Rattle.paths.specs.Leaving.{IsChain};
+ghost use Rattle.paths.specs.Leaving.{IsLeavingChain};
 ghost use Rattle.shortest.specs.Contracts.{AreRows, overwrite};
-ghost use Rattle.tour_legs.specs.Tour.{legPlaces, placesOf, written, HavePaths};
+ghost use Rattle.drive_legs.specs.Drive.{legPlaces, placesOf, written, HavePaths};
 
 // Writes leg e into the places from `at` on, and answers the place after it.
 fn write_leg(
@@ -27,7 +27,7 @@ fn write_leg(
     at: usize,
 ) -> usize
     requires { ⌜ WellFormed (planIn (length (now weights)) (now arcs)) × AreRows (planIn (length (now weights)) (now arcs)) (now weights)
-        × IsChain (now arcs) (now chain) ⌝ }
+        × IsLeavingChain (now arcs) (now chain) ⌝ }
     requires { ⌜ (e < length (now tails)) × (length (now heads) ≡ length (now tails))
         × HavePaths (planIn (length (now weights)) (now arcs)) (now numbers) (now tails) (now heads) ⌝ }
     requires { ⌜ at + length (legPlaces (shortestPath (planIn (length (now weights)) (now arcs))) (now numbers) (now tails) (now heads) e)
@@ -66,7 +66,7 @@ fn write_legs(
     places: &mut [u16],
 ) -> usize
     requires { ⌜ WellFormed (planIn (length (now weights)) (now arcs)) × AreRows (planIn (length (now weights)) (now arcs)) (now weights)
-        × IsChain (now arcs) (now chain) ⌝ }
+        × IsLeavingChain (now arcs) (now chain) ⌝ }
     requires { ⌜ ((x : ℕ) → x < length (now order) → getD (now order) x 0 < length (now tails)) ⌝ }
     requires { ⌜ (length (now heads) ≡ length (now tails))
         × HavePaths (planIn (length (now weights)) (now arcs)) (now numbers) (now tails) (now heads) ⌝ }

@@ -27,6 +27,6 @@ pub record NoWorse (r s : Planned) : Type 0 where
 -- s is the answer after more rounds. Where floor and cost have met, more rounds change nothing.
 pub record Deepens (r s : Planned) (new new′ : List ℕ) : Type 0 where
   pub no-worse : NoWorse r s
-  pub closed-fields : T (r .whole) → summaryOf s ≡ summaryOf r
-  pub closed-multipliers : T (r .whole) → s .multipliers ≡ r .multipliers
-  pub closed-drive : T (r .whole) → take (s .places) new′ ≡ take (r .places) new
+  pub met-fields : T (r .whole) → summaryOf s ≡ summaryOf r
+  pub met-multipliers : T (r .whole) → s .multipliers ≡ r .multipliers
+  pub met-drive : T (r .whole) → take (s .places) new′ ≡ take (r .places) new

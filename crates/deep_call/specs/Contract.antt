@@ -12,19 +12,19 @@ use Rattle.postman.specs.Lists.{maxℤ}
 use Rattle.postman.specs.Plan.{Plan}
 use Rattle.postman.specs.Refusal.{firstRefusal, answer, unless}
 use Rattle.postman.specs.PlanFile.{planOf}
-use Rattle.postman.specs.Tour.{IsTour, tourCost}
+use Rattle.postman.specs.Drive.{IsDrive, driveCost}
 use Rattle.postman.specs.Required.{requiredCost}
 use Rattle.postman.specs.Balancing.{leastBalancing}
 use Rattle.postman.specs.LagrangianBound.{Multipliers, AreMultipliers, lagrangianBound}
 use Rattle.postman.specs.PlanCall.{fields}
-use Rattle.postman.specs.Renumbering.{numberIn, carried, IsRenumberedTour}
-use Rattle.tour_legs.specs.Tour.{written}
+use Rattle.postman.specs.Renumbering.{numberIn, carried, IsRenumberedDrive}
+use Rattle.drive_legs.specs.Drive.{written}
 use Rattle.refusal.specs.Verdict.{verdictNumber}
 use Rattle.solution.specs.declared.Planned.{Planned}
 use Rattle.solution.specs.Planned.{summaryOf, multipliersOf, countUnless}
 use Rattle.renumbering.specs.declared.numbering.Numbering.{Numbering}
 use Rattle.renumbering.specs.Numbering.{IsNumberingOf}
-use Rattle.round_rule.specs.Rounds.{under, kept, deepSummary, deepTour}
+use Rattle.round_rule.specs.Rounds.{under, kept, deepSummary, deepDrive}
 use Rattle.deep_call.specs.Refusals.{earlierConditionsIn, deepRefusal}
 
 -- The larger of L(0) and L(u) of the plan under a numbering, with the u of the plan carried into it.
@@ -37,11 +37,11 @@ pub record IsDeepAnswer (p : Plan) (budget rounds : ℕ) (new : List ℕ) (r : P
   pub drive-numbering : IsNumberingOf (p .n) (kept p budget rounds .drive .numbering)
   pub bound-numbering : IsNumberingOf (p .n) (kept p budget rounds .bound .numbering)
   -- the written places are a drive, the lowest must arc first, of exactly the cost answered, and described as the plan call's drive is
-  pub drive : IsRenumberedTour p (numberIn (kept p budget rounds .drive .numbering .to)) (kept p budget rounds .drive .tries)
+  pub drive : IsRenumberedDrive p (numberIn (kept p budget rounds .drive .numbering .to)) (kept p budget rounds .drive .tries)
       (take (r .places) new)
-  pub costs : tourCost p (take (r .places) new) ≡ r .cost
+  pub costs : driveCost p (take (r .places) new) ≡ r .cost
   -- no drive of any length costs less than the floor
-  pub below-every-tour : (w : List ℕ) → IsTour p w → r .floor ≤ℤ pos (tourCost p w)
+  pub below-every-drive : (w : List ℕ) → IsDrive p w → r .floor ≤ℤ pos (driveCost p w)
   -- the floor is at least R + Z
   pub above-balancing : pos (requiredCost p + leastBalancing p []) ≤ℤ r .floor
   -- u meets document 01's two conditions
@@ -50,7 +50,7 @@ pub record IsDeepAnswer (p : Plan) (budget rounds : ℕ) (new : List ℕ) (r : P
   pub floor-from : (r .floor ≡ pos (r .cost)) ⊎ (r .floor ≡ boundUnder p (kept p budget rounds .bound .numbering) (multipliersOf r))
   -- whole says that floor and cost are equal, and then no drive is cheaper
   pub whole-says : T (r .whole) ↔ (r .floor ≡ pos (r .cost))
-  pub whole-least : T (r .whole) → (w : List ℕ) → IsTour p w → r .cost ≤ tourCost p w
+  pub whole-least : T (r .whole) → (w : List ℕ) → IsDrive p w → r .cost ≤ driveCost p w
 
 -- u, 0 everywhere in a refusal.
 unfoldable pub multipliersUnless : Option ℕ → List ℤ → List ℤ
@@ -66,8 +66,8 @@ pub record IsDeep (p : Plan) (budget rounds : ℕ) (refusal : Option ℕ) (old n
   pub summary-is : summaryOf r ≡ fields (answer refusal (deepSummary p budget rounds))
   pub multipliers-are : r .multipliers ≡ multipliersUnless refusal (kept p budget rounds .multipliers)
   -- the sheet: the drive from its start, later places untouched; in a refusal as it was
-  pub sheet : new ≡ unless refusal (written (deepTour p budget rounds) old) old
-  pub places-are : r .places ≡ countUnless refusal (length (deepTour p budget rounds))
+  pub sheet : new ≡ unless refusal (written (deepDrive p budget rounds) old) old
+  pub places-are : r .places ≡ countUnless refusal (length (deepDrive p budget rounds))
   pub answered : refusal ≡ none → IsDeepAnswer p budget rounds new r
 
 -- THE DEEP CALL on any bytes, any budget, any number of rounds and any sheet. 12 is given exactly when no
@@ -76,4 +76,4 @@ pub record IsDeepCall (bytes : List ℕ) (budget rounds : ℕ) (old new : List �
   pub deep : IsDeep (planOf bytes) budget rounds (deepRefusal bytes budget rounds (length old)) old new r
   pub cut-off
       : (verdictNumber (r .verdict) ≡ some 12)
-      ↔ ((firstRefusal (earlierConditionsIn bytes budget rounds (length old)) ≡ none) × ((w : List ℕ) → IsTour (planOf bytes) w → ⊥))
+      ↔ ((firstRefusal (earlierConditionsIn bytes budget rounds (length old)) ≡ none) × ((w : List ℕ) → IsDrive (planOf bytes) w → ⊥))

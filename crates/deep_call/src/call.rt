@@ -5,7 +5,7 @@ use held_tree::verdict::plan_verdict;
 use plan::Plan;
 use refusal::Refusal;
 use refusal::Verdict;
-use round_rule::kept::closed;
+use round_rule::kept::have_met;
 use rounds::round::Deep;
 use rounds::round::deepen;
 use rounds::round::first_round;
@@ -48,7 +48,7 @@ fn lay_best(
     let g = d.drive;
     let a = lay_under(plan, table, weights, x, g, sheet);
     let u = k.multipliers;
-    let whole = closed(k.cost, k.floor);
+    let whole = have_met(k.cost, k.floor);
     Planned {
         verdict: Verdict::Accepted,
         places: a.places,

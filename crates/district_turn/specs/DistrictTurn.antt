@@ -13,8 +13,8 @@ use Rattle.postman.specs.Link.{Link, joins}
 use Rattle.postman.specs.Arborescence.{arborescences}
 use Rattle.postman.specs.Balancing.{completionCost}
 use Rattle.postman.specs.PlanCall.{triedCount, isWhole}
-use Rattle.tour_legs.specs.Tour.{written}
-use Rattle.multipliers.specs.Tour.{driveOf}
+use Rattle.drive_legs.specs.Drive.{written}
+use Rattle.multipliers.specs.Drive.{treeDrive}
 use Rattle.call_steps.specs.Refusals.{planRefusal}
 use Rattle.refusal.specs.declared.Verdict.the-variants.{Accepted}
 use Rattle.solution.specs.declared.Planned.{Planned}
@@ -85,7 +85,7 @@ abbrev pub lastAnswer : Plan → ℕ → Reached → Planned
 lastAnswer p budget g = concluded p (heldAfter p budget g .links) (heldAfter p budget g .cost) (triedCount p budget) (isWhole p budget)
 
 abbrev pub lastSheet : Plan → ℕ → Reached → List ℕ → List ℕ
-lastSheet p budget g old = written (driveOf p (heldAfter p budget g .links)) old
+lastSheet p budget g old = written (treeDrive p (heldAfter p budget g .links)) old
 
 -- The turn of a district, where `can` says whether it can be gone on with.
 pub record IsDistrictTurn (p : Plan) (budget : ℕ) (g : Reached) (can : Bool) (old new : List ℕ) (r : DistrictTurn) : Type 0 where

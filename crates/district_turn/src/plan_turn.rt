@@ -24,10 +24,10 @@ ghost use Rattle.postman.specs.PlanCall.{sheetPlaces};
 ghost use Rattle.plan.specs.Records.{planValue};
 ghost use Rattle.shortest.specs.Contracts.{AreWeights};
 ghost use Rattle.branches.specs.Links.{linksIn};
-ghost use Rattle.tour_legs.specs.Tour.{written};
+ghost use Rattle.drive_legs.specs.Drive.{written};
 ghost use Rattle.multipliers.specs.Prepared.{IsMeasured};
 ghost use Rattle.call_steps.specs.Refusals.{networkRefusal};
-ghost use Rattle.multipliers.specs.Tour.{tableOf, driveOf};
+ghost use Rattle.multipliers.specs.Drive.{tableOf, treeDrive};
 ghost use Rattle.postman.specs.Plan.{WellFormed};
 ghost use Rattle.preparation.specs.Preparation.{IsPreparation};
 ghost use Rattle.tree_search.specs.Resumed.{HoldsTree};
@@ -112,7 +112,8 @@ fn last(
         (x .whole)) ⌝ }
     ensures { λ y.
         ⌜ now (sheet .exit)
-        ≡ written (driveOf (planValue plan) (linksIn (componentCount (planValue plan) - 1) (x .tails) (x .heads))) (now (sheet .entry)) ⌝ }
+        ≡ written (treeDrive (planValue plan) (linksIn (componentCount (planValue plan) - 1) (x .tails) (x .heads)))
+        (now (sheet .entry)) ⌝ }
 {
     let ts = x.tails;
     let hs = x.heads;

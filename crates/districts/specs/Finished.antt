@@ -5,10 +5,10 @@ use mathlib.Core.List.{List}
 use Prim.Native.Nat.{ℕ, _≤_}
 use lib.ListN.{length, take}
 use Rattle.postman.specs.Plan.{Plan}
-use Rattle.postman.specs.Tour.{IsTour, tourCost}
+use Rattle.postman.specs.Drive.{IsDrive, driveCost}
 use Rattle.solution.specs.declared.Planned.{Planned}
 
 pub record HoldsDrive (p : Plan) (new : List ℕ) (r : Planned) : Type 0 where
   pub fits : r .places ≤ length new
-  pub tour : IsTour p (take (r .places) new)
-  pub costs : tourCost p (take (r .places) new) ≡ r .cost
+  pub drive : IsDrive p (take (r .places) new)
+  pub costs : driveCost p (take (r .places) new) ≡ r .cost

@@ -7,7 +7,7 @@ use lib.ListN.{length, getD}
 use lib.Dec.{eqb}
 use Rattle.postman.specs.Lists.{anyOf, below}
 use Rattle.postman.specs.Plan.{Plan}
-use Rattle.postman.specs.Tour.{tourCost}
+use Rattle.postman.specs.Drive.{driveCost}
 use Rattle.postman.specs.Judge.{isMissed}
 use Rattle.drive_tally.specs.declared.tally.Tally.{Tally}
 
@@ -22,5 +22,5 @@ hasFlag flags = anyOf (λ k. getD flags k false) (below 256)
 
 -- The cost of the list, and a flag where a must arc was missed.
 pub record IsTally (p : Plan) (w : List ℕ) (r : Tally) : Type 0 where
-  pub costs : r .cost ≡ tourCost p w
+  pub costs : r .cost ≡ driveCost p w
   pub left : hasFlag (r .due) ≡ isMissed p w

@@ -6,7 +6,7 @@ ghost use mathlib.Core.Bool.{false, cond};
 ghost use Prim.Native.Nat.{_≤_, _<_, _^_};
 ghost use lib.ListN.{length};
 ghost use Rattle.postman.specs.Plan.{requiredNumbers};
-ghost use Rattle.postman.specs.Tour.{tourCost};
+ghost use Rattle.postman.specs.Drive.{driveCost};
 ghost use Rattle.postman.specs.Judge.{hasForeign};
 ghost use Rattle.drive_tally.specs.Rows.{planOver};
 ghost use Rattle.drive_tally.specs.Tally.{AreDue, hasFlag, IsTally};
@@ -53,7 +53,7 @@ fn pass_cost(cost: u16, service: u16, due: bool) -> u32
 // The cost of the list, and the flags of the must arcs that are still due at its end.
 pub fn priced(arcs: &[[u16; 5]], required: [bool; 256], places: &[u16]) -> Tally
     requires { ⌜ hasForeign (planOver (now arcs)) (now places) ≡ false ⌝ }
-    requires { ⌜ (length (now arcs) ≤ 256) × (tourCost (planOver (now arcs)) (now places) < 2 ^ 32)
+    requires { ⌜ (length (now arcs) ≤ 256) × (driveCost (planOver (now arcs)) (now places) < 2 ^ 32)
         × AreDue required (requiredNumbers (planOver (now arcs))) ⌝ }
     ensures { λ r. ⌜ IsTally (planOver (now (arcs .entry))) (now (places .entry)) r ⌝ }
 {

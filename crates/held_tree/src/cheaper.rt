@@ -11,7 +11,7 @@ ghost use mathlib.Core.Path.{_≡_};
 ghost use mathlib.Core.Option.{none};
 ghost use Rattle.postman.specs.Plan.{WellFormed};
 ghost use Rattle.plan.specs.Records.{planValue};
-ghost use Rattle.multipliers.specs.Tour.{tableOf};
+ghost use Rattle.multipliers.specs.Drive.{tableOf};
 ghost use Rattle.call_steps.specs.Refusals.{planRefusal};
 ghost use Rattle.preparation.specs.Preparation.{IsPreparation};
 ghost use Rattle.tree_search.specs.Improved.{CanImprove};

@@ -13,8 +13,8 @@ ghost use Rattle.postman.specs.PlanCall.{sheetPlaces};
 ghost use Rattle.plan.specs.Records.{planValue};
 ghost use Rattle.shortest.specs.Contracts.{AreWeights};
 ghost use Rattle.branches.specs.Links.{linksIn};
-ghost use Rattle.tour_legs.specs.Tour.{written};
-ghost use Rattle.multipliers.specs.Tour.{tableOf, driveOf};
+ghost use Rattle.drive_legs.specs.Drive.{written};
+ghost use Rattle.multipliers.specs.Drive.{tableOf, treeDrive};
 ghost use Rattle.call_steps.specs.Refusals.{planRefusal};
 ghost use Rattle.tree_search.specs.Resumed.{HoldsTree};
 
@@ -35,9 +35,9 @@ pub fn lay_tabled(
 ) -> Laid
     requires { ⌜ WellFormed (planValue plan) × (now table ≡ tableOf (planValue plan)) × AreWeights (planValue plan) (now weights)
         × (planRefusal (planValue plan) ≡ none) × HoldsTree (planValue plan) tails heads × (sheetPlaces ≤ length (now sheet)) ⌝ }
-    ensures { λ r. ⌜ (now (sheet .exit) ≡ written (driveOf (planValue plan)
+    ensures { λ r. ⌜ (now (sheet .exit) ≡ written (treeDrive (planValue plan)
         (linksIn (componentCount (planValue plan) - 1) tails heads)) (now (sheet .entry)))
-        × (r .places ≡ length (driveOf (planValue plan) (linksIn (componentCount (planValue plan) - 1) tails heads)))
+        × (r .places ≡ length (treeDrive (planValue plan) (linksIn (componentCount (planValue plan) - 1) tails heads)))
         × (r .parts ≡ componentCount (planValue plan)) ⌝ }
 {
     let net = network::network::network_of(plan, table);

@@ -7,7 +7,7 @@ ghost use mathlib.Core.Path.{_≡_};
 ghost use Rattle.postman.specs.Plan.{WellFormed};
 ghost use Rattle.plan.specs.Records.{planValue};
 ghost use Rattle.refusal.specs.Verdict.{verdictNumber};
-ghost use Rattle.multipliers.specs.Tour.{tableOf};
+ghost use Rattle.multipliers.specs.Drive.{tableOf};
 ghost use Rattle.call_steps.specs.Refusals.{planRefusal};
 
 // By its network.

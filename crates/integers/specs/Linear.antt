@@ -334,6 +334,10 @@ pub abs-pn : (a : ℤ) → natAbs a ≡ P a + N a
 abs-pn (pos n) = omega arith
 abs-pn (negsuc n) = omega arith
 
+pub abs-neg : (n : ℕ) → natAbs (negℤ (pos n)) ≡ n
+abs-neg zero = refl
+abs-neg (suc n) = refl
+
 pub abs-k : (a : ℤ) (m : ℕ) → (natAbs a ≤ m) ↔ ((a ≤ℤ pos m) × (negℤ (pos m) ≤ℤ a))
 abs-k (pos n) m = simp zl ((λ h. omega arith), (λ h. omega arith))
 abs-k (negsuc n) m = simp zl ((λ h. omega arith), (λ h. omega arith))

@@ -10,7 +10,7 @@ use lib.Dec.{eqb}
 use Rattle.postman.specs.Plan.{Plan, requiredArcs}
 use Rattle.postman.specs.Refusal.{firstRefusal, Answer, refused, given, answer}
 use Rattle.postman.specs.PlanFile.{planOf}
-use Rattle.postman.specs.Tour.{IsTour, tourCost}
+use Rattle.postman.specs.Drive.{IsDrive, driveCost}
 use Rattle.postman.specs.Judge.{faultConditions, unjudgedConditions, judgeAnswer}
 use Rattle.refusal.specs.Verdict.{refusalNumber}
 use Rattle.judge.specs.declared.Judged.{Judged}
@@ -23,8 +23,8 @@ judgedAnswer (Refused r) = refused (refusalNumber r)
 
 -- The answer of a plan that was read: from 14 on, and from 10 on.
 unfoldable pub listAnswer : Plan → List ℕ → Answer ℕ
-unfolding answer firstRefusal faultConditions tourCost
-listAnswer p w = answer (firstRefusal (faultConditions p w)) (tourCost p w)
+unfolding answer firstRefusal faultConditions driveCost
+listAnswer p w = answer (firstRefusal (faultConditions p w)) (driveCost p w)
 
 unfoldable pub planAnswer : Plan → List ℕ → Answer ℕ
 unfolding listAnswer requiredArcs
@@ -35,6 +35,7 @@ pub record IsJudged (bytes w : List ℕ) (r : Judged) : Type 0 where
   -- the cost, or the first refusal that applies
   pub answer-is : judgedAnswer r ≡ judgeAnswer bytes w
   -- "Where 1 to 7, 10 and 13 don't apply, it returns the cost exactly when the list is a drive by the definition"
-  pub exactly : firstRefusal (unjudgedConditions bytes (length w)) ≡ none → ((c : ℕ) × (judgedAnswer r ≡ given c)) ↔ IsTour (planOf bytes) w
+  pub exactly : firstRefusal (unjudgedConditions bytes (length w)) ≡ none
+      → ((c : ℕ) × (judgedAnswer r ≡ given c)) ↔ IsDrive (planOf bytes) w
   -- a cost is that of a drive, whatever applies
-  pub costs : (c : ℕ) → judgedAnswer r ≡ given c → IsTour (planOf bytes) w × (c ≡ tourCost (planOf bytes) w)
+  pub costs : (c : ℕ) → judgedAnswer r ≡ given c → IsDrive (planOf bytes) w × (c ≡ driveCost (planOf bytes) w)

@@ -18,7 +18,7 @@ ghost use Prim.Native.Nat.{_≤_, _<_, _^_};
 ghost use lib.ListN.{length};
 ghost use Rattle.postman.specs.Plan.{WellFormed, requiredNumbers};
 ghost use Rattle.postman.specs.Refusal.{firstRefusal};
-ghost use Rattle.postman.specs.Tour.{tourCost};
+ghost use Rattle.postman.specs.Drive.{driveCost};
 ghost use Rattle.postman.specs.Judge.{highestPlaces, lentConditions};
 ghost use Rattle.plan.specs.Records.{planValue};
 ghost use Rattle.refusal.specs.Verdict.{refusalNumber};
@@ -28,7 +28,7 @@ ghost use Rattle.judge.specs.Contract.{judgedAnswer, listAnswer, planAns
 
 // 14, 15 and 16, then the cost.
 fn judge_list(arcs: &[[u16; 5]], required: [bool; 256], places: &[u16]) -> Judged
-    requires { ⌜ (length (now arcs) ≤ 256) × (tourCost (planOver (now arcs)) (now places) < 2 ^ 32)
+    requires { ⌜ (length (now arcs) ≤ 256) × (driveCost (planOver (now arcs)) (now places) < 2 ^ 32)
         × AreDue required (requiredNumbers (planOver (now arcs))) ⌝ }
     ensures { λ r. ⌜ judgedAnswer r ≡ listAnswer (planOver (now (arcs .entry))) (now (places .entry)) ⌝ }
 {
@@ -48,7 +48,7 @@ fn judge_list(arcs: &[[u16; 5]], required: [bool; 256], places: &[u16]) -> Judge
 
 // 10, then the rest.
 fn judge_arcs(arcs: &[[u16; 5]], places: &[u16]) -> Judged
-    requires { ⌜ (length (now arcs) ≤ 256) × (tourCost (planOver (now arcs)) (now places) < 2 ^ 32) ⌝ }
+    requires { ⌜ (length (now arcs) ≤ 256) × (driveCost (planOver (now arcs)) (now places) < 2 ^ 32) ⌝ }
     ensures { λ r. ⌜ judgedAnswer r ≡ planAnswer (planOver (now (arcs .entry))) (now (places .entry)) ⌝ }
 {
     let required = required_flags(arcs);

@@ -34,9 +34,9 @@ rooted x vs =
 abbrev pub carriedTo : ℤ → ℤ → ℤ → ℤ
 carriedTo y x before = y +ℤ shrZ (x -ℤ before) 2
 
-unfoldable pub carried : List ℕ → List ℤ → List ℤ → List ℤ → List ℤ
+unfoldable pub carriedOn : List ℕ → List ℤ → List ℤ → List ℤ → List ℤ
 unfolding turns
-carried vs y x before =
+carriedOn vs y x before =
     turns (λ s a. set s (getD vs a 0)
     (carriedTo (capped (getD y (getD vs a 0) (pos 0))) (getD x (getD vs a 0) (pos 0)) (getD before (getD vs a 0) (pos 0)))) y
     (length vs)

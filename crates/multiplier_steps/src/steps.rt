@@ -10,7 +10,7 @@ ghost use lib.Signed.{shrZ};
 ghost use Rattle.integers.specs.Linear.{Within};
 ghost use Rattle.residual_search.specs.Bounds.{AtMost};
 ghost use Rattle.residual_search.specs.Search.{beyond};
-ghost use Rattle.multiplier_steps.specs.Steps.{AreSmall, capped as cappedTo, cappedAll, rooted as rootedAt, carriedTo, carried, span as largest};
+ghost use Rattle.multiplier_steps.specs.Steps.{AreSmall, capped as cappedTo, cappedAll, rooted as rootedAt, carriedTo, carriedOn, span as largest};
 
 // A number, no further from 0 than 2 to the 40.
 pub fn capped(a: i64) -> i64
@@ -83,7 +83,7 @@ fn carry(y: i64, x: i64, before: i64) -> i64
 // The multipliers y, with half of the change from `before` to x once more.
 pub fn carry_on(y: [i64; 64], x: &[i64; 64], before: &[i64; 64], vs: &[u8]) -> [i64; 64]
     requires { ⌜ AtMost 63 (now vs) × AreSmall beyond (now x) × AreSmall beyond (now before) ⌝ }
-    ensures { λ r. ⌜ r ≡ carried (now (vs .entry)) y (now (x .entry)) (now (before .entry)) ⌝ }
+    ensures { λ r. ⌜ r ≡ carriedOn (now (vs .entry)) y (now (x .entry)) (now (before .entry)) ⌝ }
 {
     let mut z = y;
     let mut a: usize = 0;

@@ -21,7 +21,7 @@ use Rattle.multiplier_steps.specs.Turns.{turns}
 use Rattle.multiplier_steps.specs.Steps.{rooted, span}
 use Rattle.ascent.specs.Step.{Step, step}
 use Rattle.multiplier_steps.specs.Lawful.{areLawful}
-use Rattle.multipliers.specs.Tour.{tableOf}
+use Rattle.multipliers.specs.Drive.{tableOf}
 
 -- Where an ascent stands: the multipliers and those before the last step, the best multipliers met and their bound, the largest cost of a
 -- tree met, the length of the next step, and whether a tree was balanced.
@@ -35,8 +35,8 @@ pub record Climb : Type 0 where
   pub done : Bool
 
 -- Other multipliers are the best so far, with their bound.
-abbrev pub taken : Climb → List ℤ → ℤ → Climb
-taken c u l =
+abbrev pub improved : Climb → List ℤ → ℤ → Climb
+improved c u l =
     record {
       multipliers = c .multipliers;
       before = c .before;
@@ -94,7 +94,7 @@ module _ (p : Plan) where
   unfolding areLawful rooted lagrangianBound tableOf balance required
   attempt c =
       let u = fromRoot (c .multipliers) in
-      cond (isLawful (c .multipliers) && ltZ (c .bound) (boundOf u)) (taken c u (boundOf u)) c
+      cond (isLawful (c .multipliers) && ltZ (c .bound) (boundOf u)) (improved c u (boundOf u)) c
 
   -- Step i, unless a tree was balanced. Brought back from above and from below by turns.
   unfoldable pub climb : Climb → ℕ → Climb

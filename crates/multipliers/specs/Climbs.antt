@@ -4,7 +4,7 @@ use Rattle.residual_search.specs.Search.{beyond}
 use Rattle.multiplier_steps.specs.Steps.{AreSmall}
 use Rattle.multipliers.specs.declared.ascend.Best.{Best}
 use Rattle.multipliers.specs.declared.ascend.Stage.{Stage}
-use Rattle.multipliers.specs.Ascent.{Climb, taken}
+use Rattle.multipliers.specs.Ascent.{Climb, improved}
 
 abbrev pub climbOf : Stage → Climb
 climbOf c = record {
@@ -19,7 +19,7 @@ climbOf c = record {
 
 -- The same, with the best multipliers and their bound in place of its own.
 abbrev pub holding : Stage → Best → Climb
-holding c b = taken (climbOf c) (b .multipliers) (b .bound)
+holding c b = improved (climbOf c) (b .multipliers) (b .bound)
 
 -- It can be gone on with: no sum of a step overflows.
 pub record CanStep (c : Stage) : Type 0 where

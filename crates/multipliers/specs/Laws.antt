@@ -1,5 +1,5 @@
 -- What is proved about the definitions.
-pub mod Tour
+pub mod Drive
 pub mod Lay
 pub mod Table
 pub mod Solve

@@ -1,4 +1,4 @@
-pub mod Tour
+pub mod Drive
 pub mod Prepared
 pub mod Ascent
 pub mod Climbs

@@ -11,13 +11,13 @@ use Rattle.postman.specs.Arborescence.{IsArborescence}
 use Rattle.postman.specs.Steps.{Plannable, cell}
 use Rattle.residual_search.specs.Step.{State}
 use Rattle.balance.specs.Balance.{balance}
-use Rattle.tour_legs.specs.Filled.{linksOf}
+use Rattle.drive_legs.specs.Filled.{linksOf}
 use Rattle.network.specs.declared.network.Network.{Network}
 use Rattle.required.specs.Contracts.{IsImbalance, IsRequiredFlags, IsComponents}
 use Rattle.network.specs.Network.{IsNetwork}
 use Rattle.lagrangian.specs.Priced.{IsPriced}
 use Rattle.multipliers.specs.declared.ascend.Setting.{Setting}
-use Rattle.multipliers.specs.Tour.{tableOf}
+use Rattle.multipliers.specs.Drive.{tableOf}
 use Rattle.multipliers.specs.Ascent.{amountsOf}
 
 -- The table of the distances of a plan that was read, and its network.

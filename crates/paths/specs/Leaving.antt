@@ -21,7 +21,7 @@ unfolding firstIndex upFrom
 leavingFrom rows v k = k + firstIndex (leaves rows v) (upFrom k (length rows - k))
 
 -- In place v the first arc that leaves v; in place 64 + k the next one after arc k that leaves the same vertex.
-pub record IsChain (rows : List (List ℕ)) (chain : List ℕ) : Type 0 where
+pub record IsLeavingChain (rows : List (List ℕ)) (chain : List ℕ) : Type 0 where
   pub long : length chain ≡ 320
   pub first : (v : ℕ) → v < 64 → getD chain v 0 ≡ leavingFrom rows v 0
   pub next : (k : ℕ) → k < length rows → getD chain (64 + k) 0 ≡ leavingFrom rows (tailOf rows k) (k + 1)

@@ -11,7 +11,7 @@ ghost use Rattle.postman.specs.Plan.{WellFormed};
 ghost use Rattle.postman.specs.Distance.{noPath, distance};
 ghost use Rattle.plan.specs.Rows.{planIn};
 ghost use Rattle.paths.specs.ShortestPath.{nextIn, shortestPath};
-ghost use Rattle.paths.specs.Leaving.{tailOf, IsChain};
+ghost use Rattle.paths.specs.Leaving.{tailOf, IsLeavingChain};
 ghost use Rattle.shortest.specs.Contracts.{IsColumn, overwrite};
 
 // Whether an arc is open, leaves v, and leads on at just the weight that is left.
@@ -31,7 +31,7 @@ fn wide(x: u16) -> usize
 // arc k. Made from the last arc to the first.
 pub fn chain_of(arcs: &[[u16; 5]]) -> [u16; 320]
     requires { ⌜ (length (now arcs) ≤ 256) × ((k : ℕ) → k < length (now arcs) → tailOf (now arcs) k < 64) ⌝ }
-    ensures { λ r. ⌜ IsChain (now (arcs .entry)) r ⌝ }
+    ensures { λ r. ⌜ IsLeavingChain (now (arcs .entry)) r ⌝ }
 {
     let mut k = arcs.len();
     let mut chain = [k as u16; 320];
@@ -45,7 +45,7 @@ pub fn chain_of(arcs: &[[u16; 5]]) -> [u16; 320]
 }
 
 // k where it passed, else the best so far.
-fn taken(passed: bool, k: usize, best: usize) -> usize
+fn best_of(passed: bool, k: usize, best: usize) -> usize
     ensures { λ r. ⌜ r ≡ cond passed k best ⌝ }
 {
     if passed { k } else { best }
@@ -54,7 +54,8 @@ fn taken(passed: bool, k: usize, best: usize) -> usize
 // The lowest numbered arc with which a lightest path from v begins, to the vertex of the column. The arcs that leave v are met in ascending
 // order, so that the first that is taken is the last that is met.
 fn next_arc(arcs: &[[u16; 5]], chain: &[u16; 320], column: &[u32], v: usize) -> usize
-    requires { ⌜ WellFormed (planIn (length (now column)) (now arcs)) × IsChain (now arcs) (now chain) × (v < length (now column)) ⌝ }
+    requires { ⌜ WellFormed (planIn (length (now column)) (now arcs)) × IsLeavingChain (now arcs) (now chain)
+        × (v < length (now column)) ⌝ }
     ensures { λ r. ⌜ r ≡ nextIn (now (arcs .entry)) (now (column .entry)) v ⌝ }
 {
     let m = arcs.len();
@@ -62,7 +63,7 @@ fn next_arc(arcs: &[[u16; 5]], chain: &[u16; 320], column: &[u32], v: usize) -> 
     let mut k = wide(chain[v]);
     while k < best {
         let h = wide(arcs[k][1]);
-        best = taken(
+        best = best_of(
             leads(arcs[k][0], arcs[k][2], arcs[k][3], v, column[h], column[v]),
             k,
             best,
@@ -83,7 +84,7 @@ pub fn path(
     at: usize,
 ) -> usize
     requires { ⌜ WellFormed (planIn (length (now column)) (now arcs)) × IsColumn (planIn (length (now column)) (now arcs)) j (now column)
-        × IsChain (now arcs) (now chain) ⌝ }
+        × IsLeavingChain (now arcs) (now chain) ⌝ }
     requires { ⌜ (i < length (now column)) × (j < length (now column))
         × (distance (planIn (length (now column)) (now arcs)) i j < noPath) ⌝ }
     requires { ⌜ at + length (shortestPath (planIn (length (now column)) (now arcs)) i j) ≤ length (now places) ⌝ }

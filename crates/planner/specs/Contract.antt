@@ -6,7 +6,7 @@ use mathlib.Core.Option.{none, some}
 use Prim.Native.Nat.{ℕ}
 use lib.ListN.{length}
 use Rattle.postman.specs.Refusal.{firstRefusal}
-use Rattle.postman.specs.Tour.{IsTour}
+use Rattle.postman.specs.Drive.{IsDrive}
 use Rattle.postman.specs.PlanFile.{planOf}
 use Rattle.postman.specs.PlanCall.{callRefusal, earlierConditions}
 use Rattle.solution.specs.declared.Planned.{Planned}
@@ -18,4 +18,4 @@ pub record IsPlanCall (bytes : List ℕ) (budget : ℕ) (old new : List ℕ) (r 
   pub planned : IsPlanned (planOf bytes) budget (callRefusal bytes budget (length old)) old new r
   pub cut-off
       : (verdictNumber (r .verdict) ≡ some 12)
-      ↔ ((firstRefusal (earlierConditions bytes budget (length old)) ≡ none) × ((w : List ℕ) → IsTour (planOf bytes) w → ⊥))
+      ↔ ((firstRefusal (earlierConditions bytes budget (length old)) ≡ none) × ((w : List ℕ) → IsDrive (planOf bytes) w → ⊥))

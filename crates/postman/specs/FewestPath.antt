@@ -7,7 +7,7 @@ use Prim.Native.Nat.{ℕ, _≤_}
 use lib.ListN.{length}
 use lib.Dec.{T, eqb, ltb}
 use Rattle.postman.specs.Plan.{Arc, Plan, arcAt}
-use Rattle.postman.specs.Tour.{IsWalk, walkCost}
+use Rattle.postman.specs.Drive.{IsWalk, walkCost}
 
 -- Whether a list comes before another, compared from the front.
 unfoldable pub isBefore : List ℕ → List ℕ → Bool

@@ -1,4 +1,4 @@
--- Judging a tour that another house laid: the cost of a list of arc numbers, or the first fault of it.
+-- Judging a drive that another house laid: the cost of a list of arc numbers, or the first fault of it.
 use mathlib.Core.Bool.{Bool, false, not, _||_}
 use mathlib.Core.List.{List, [], _∷_, _++_}
 use mathlib.Core.Option.{Option}
@@ -9,7 +9,7 @@ use Rattle.postman.specs.Lists.{anyOf}
 use Rattle.postman.specs.Plan.{Arc, Plan, isOpen, arcAt, requiredArcs, requiredNumbers}
 use Rattle.postman.specs.Refusal.{Conditions, firstRefusal, Answer, answer}
 use Rattle.postman.specs.PlanFile.{edition, vertexCount, arcCount, planOf, editionConditions, extentConditions, bodyConditions, fileConditionsWith}
-use Rattle.postman.specs.Tour.{tourCost}
+use Rattle.postman.specs.Drive.{driveCost}
 
 -- ---- the faults of a list
 
@@ -63,5 +63,5 @@ judgeRefusal bytes w = firstRefusal (unjudgedConditions bytes (length w) ++ faul
 
 -- "It returns the cost exactly when the list is a drive by the definition, and otherwise names the first fault." `Laws.Judge`: so it does.
 unfoldable pub judgeAnswer : List ℕ → List ℕ → Answer ℕ
-unfolding answer judgeRefusal tourCost planOf
-judgeAnswer bytes w = answer (judgeRefusal bytes w) (tourCost (planOf bytes) w)
+unfolding answer judgeRefusal driveCost planOf
+judgeAnswer bytes w = answer (judgeRefusal bytes w) (driveCost (planOf bytes) w)

@@ -27,8 +27,8 @@ pub mod Route
 pub mod Entries
 pub mod Arborescence
 pub mod LinkLegs
-pub mod TourCost
-pub mod TourBound
+pub mod DriveCost
+pub mod DriveBound
 pub mod SignedSum
 pub mod LagrangianBound
 pub mod Multiplier
@@ -49,10 +49,10 @@ pub mod Marks
 pub mod Copy
 pub mod FirstNumber
 pub mod Renumbering
-pub mod RenumberedTour
+pub mod RenumberedDrive
 pub mod RenumberedDistance
 pub mod RenumberedComponents
 pub mod RenumberedBalancing
 pub mod RenumberedMultipliers
-pub mod RenumberedDrive
+pub mod RenumberedDescription
 pub mod Theorem

@@ -4,7 +4,7 @@ pub mod Plan
 pub mod BitField
 pub mod Refusal
 pub mod PlanFile
-pub mod Tour
+pub mod Drive
 pub mod Required
 pub mod Distance
 pub mod FewestPath

@@ -38,14 +38,14 @@ isVia p held l k =
     isHeld held (l .tail) k && isHeld held k (l .head) && eqb (distance p (l .tail) (l .head)) (distance p (l .tail) k + distance p k (l .head))
 
 -- The pairs held once l has had its turn; and once the pairs ls have had theirs, one after the other.
-unfoldable pub heldAfter : Plan → List Link → Link → List Link
+unfoldable pub pairsAfter : Plan → List Link → Link → List Link
 unfolding anyOf isVia required select
-heldAfter p held l = cond (anyOf (isVia p held l) (required p)) (select (λ m. not (joins (l .tail) (l .head) m)) held) held
+pairsAfter p held l = cond (anyOf (isVia p held l) (required p)) (select (λ m. not (joins (l .tail) (l .head) m)) held) held
 
 unfoldable pub thinned : Plan → List Link → List Link → List Link
-unfolding heldAfter
+unfolding pairsAfter
 thinned p held [] = held
-thinned p held (l ∷ ls) = thinned p (heldAfter p held l) ls
+thinned p held (l ∷ ls) = thinned p (pairsAfter p held l) ls
 
 unfoldable pub links : Plan → List Link
 unfolding thinned properPairs

@@ -11,7 +11,7 @@ use Rattle.postman.specs.Lists.{anyOf, minimum, maxℤ, argmin}
 use Rattle.postman.specs.Plan.{Plan, requiredArcs, requiredNumbers}
 use Rattle.postman.specs.Refusal.{Conditions, firstRefusal, Answer, given, refused}
 use Rattle.postman.specs.PlanFile.{fileConditions, isOutside, planOf}
-use Rattle.postman.specs.Tour.{tourCost, IsTour}
+use Rattle.postman.specs.Drive.{driveCost, IsDrive}
 use Rattle.postman.specs.Required.{required}
 use Rattle.postman.specs.Distance.{distance, hasPath}
 use Rattle.postman.specs.Link.{Link}
@@ -124,9 +124,9 @@ root p = getD (required p) 0 0
 -- "The written places are a drive of that cost whose first arc is the lowest must arc; which such drive, of at most 17,266
 -- places, is free." It is laid from one of the trees tried, of least cost, and from amounts that balance it at the least cost.
 -- This is all that has to be believed of the drive.
-pub record IsAnswerTour (p : Plan) (budget : ℕ) (w : List ℕ) : Type 0 where
-  pub tour : IsTour p w
-  pub costs : tourCost p w ≡ bestCost p budget
+pub record IsAnswerDrive (p : Plan) (budget : ℕ) (w : List ℕ) : Type 0 where
+  pub drive : IsDrive p w
+  pub costs : driveCost p w ≡ bestCost p budget
   pub nonempty : 0 < length w
   pub first : getD w 0 0 ≡ getD (requiredNumbers p) 0 0
   pub short : length w ≤ sheetPlaces

@@ -5,7 +5,7 @@ use mathlib.Core.List.{List, map, List·Memᴰ}
 use Prim.Native.Nat.{ℕ, _≤_, _<_}
 use lib.ListN.{length, getD, take}
 use Rattle.postman.specs.Plan.{Arc, Plan, requiredNumbers}
-use Rattle.postman.specs.Tour.{tourCost, IsTour}
+use Rattle.postman.specs.Drive.{driveCost, IsDrive}
 use Rattle.postman.specs.Required.{required}
 use Rattle.postman.specs.Distance.{distance}
 use Rattle.postman.specs.Link.{Link}
@@ -45,12 +45,13 @@ renumberedTree π t = map (renumberedLink π) t
 abbrev pub carried : (ℕ → ℕ) → Multipliers → Multipliers
 carried π u v = u (π v)
 
--- The drive that the plan call lays for the plan renumbered, told of the plan itself, as `IsAnswerTour` tells of the plan call's: a tour of
--- the plan, at the cost of the plan renumbered, with tree and amounts between the plan's own vertices. Its tree has its place among those
--- tried of the plan renumbered: which pairs are links, and which part is part 0, goes by the numbers, so of the plan itself it may be none.
-pub record IsRenumberedTour (p : Plan) (π : ℕ → ℕ) (budget : ℕ) (w : List ℕ) : Type 0 where
-  pub tour : IsTour p w
-  pub costs : tourCost p w ≡ bestCost (renumbered p π) budget
+-- The drive that the plan call lays for the plan renumbered, told of the plan itself, as `IsAnswerDrive` tells of the plan call's: a
+-- drive of the plan, at the cost of the plan renumbered, with tree and amounts between the plan's own vertices. Its tree has its place
+-- among those tried of the plan renumbered: which pairs are links, and which part is part 0, goes by the numbers, so of the plan
+-- itself it may be none.
+pub record IsRenumberedDrive (p : Plan) (π : ℕ → ℕ) (budget : ℕ) (w : List ℕ) : Type 0 where
+  pub drive : IsDrive p w
+  pub costs : driveCost p w ≡ bestCost (renumbered p π) budget
   pub nonempty : 0 < length w
   pub first : getD w 0 0 ≡ getD (requiredNumbers p) 0 0
   pub short : length w ≤ sheetPlaces

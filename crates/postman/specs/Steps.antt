@@ -2,7 +2,7 @@
 use mathlib.Core.Path.{_≡_}
 use mathlib.Core.Bool.{not}
 use mathlib.Core.List.{List, [], _∷_, List·Memᴰ}
-use Prim.Native.Nat.{ℕ, _+_, _*_, _≤_, _<_}
+use Prim.Native.Nat.{ℕ, _+_, _*_, _/_, _%_, _≤_, _<_}
 use lib.ListN.{length, getD}
 use lib.Dec.{T}
 use lib.IntN.{ℤ, pos}
@@ -34,6 +34,14 @@ cell d i j = getD (getD d i []) j 0
 
 abbrev pub amount : List ℕ → ℕ → ℕ → ℕ
 amount f i j = getD f (i * 64 + j) 0
+
+-- The pair of vertices in place x of 4096, which ascends as (tail, head) does.
+abbrev pub pairAt : ℕ → Link
+pairAt x = record { tail = x / 64; head = x % 64 }
+
+-- What is read beyond the end of a list of links.
+abbrev pub noLink : Link
+noLink = record { tail = 0; head = 0 }
 
 -- ---- plans
 

@@ -56,7 +56,7 @@ unfoldable pub planAt : Plan → List Window → Departure → Plan
 unfolding closedIf isShut below
 planAt p windows d = record { n = p .n; arcs = map (λ k. closedIf (isShut windows d k) (arcAt (p .arcs) k)) (below (length (p .arcs))) }
 
--- Tours "that avoid arcs shut at departure". `Laws.Windows`: where no must arc is shut, the tours of that plan are the tours of the
+-- Drives "that avoid arcs shut at departure". `Laws.Windows`: where no must arc is shut, the drives of that plan are the drives of the
 -- file's plan that avoid them, at equal costs.
 abbrev pub Avoids : List Window → Departure → List ℕ → Type 0
 Avoids windows d w = (k : ℕ) → List·Memᴰ k w → T (not (isShut windows d k))

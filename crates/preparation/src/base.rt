@@ -7,7 +7,7 @@ ghost use Rattle.plan.specs.Records.{planValue};
 ghost use Rattle.balance.specs.Records.{stateOf};
 ghost use Rattle.postman.specs.Steps.{cell};
 ghost use Rattle.balance.specs.Balance.{balance as balanceOf};
-ghost use Rattle.multipliers.specs.Tour.{tableOf};
+ghost use Rattle.multipliers.specs.Drive.{tableOf};
 ghost use Rattle.balance.specs.Multipliers.{multipliers};
 ghost use Rattle.postman.specs.PlanCall.{root};
 ghost use Rattle.multipliers.specs.Prepared.{IsKnown, IsBase};
@@ -20,7 +20,7 @@ pub(crate) fn base_state(plan: Plan, table: &[[u32; 64]; 64], vs: &[u8]) -> Bala
     let mut numbers = [0u16; 256];
     let mut tails = [0u8; 526];
     let mut heads = [0u8; 526];
-    let c = tour_legs::legs::gather(plan, &mut numbers, &mut tails, &mut heads);
+    let c = drive_legs::legs::gather(plan, &mut numbers, &mut tails, &mut heads);
     let none = balance::state::empty();
     balance::state::add_all(none, table, vs, &tails[..c], &heads[..c])
 }

@@ -8,8 +8,8 @@ ghost use Rattle.plan.specs.Records.{planValue};
 ghost use Rattle.postman.specs.Steps.{cell};
 ghost use Rattle.balance.specs.Records.{stateOf};
 ghost use Rattle.balance.specs.Balance.{balance as balanceOf};
-ghost use Rattle.tour_legs.specs.Filled.{linksOf};
-ghost use Rattle.multipliers.specs.Tour.{tableOf};
+ghost use Rattle.drive_legs.specs.Filled.{linksOf};
+ghost use Rattle.multipliers.specs.Drive.{tableOf};
 ghost use Rattle.multipliers.specs.Prepared.{IsTree};
 ghost use Rattle.preparation.specs.Preparation.{IsPreparation};
 

@@ -12,7 +12,7 @@ use lib.Dec.{T}
 use Rattle.postman.specs.Plan.{requiredNumbers}
 use Rattle.postman.specs.Refusal.{firstRefusal, given}
 use Rattle.postman.specs.PlanFile.{planOf}
-use Rattle.postman.specs.Tour.{IsTour, tourCost}
+use Rattle.postman.specs.Drive.{IsDrive, driveCost}
 use Rattle.postman.specs.Required.{requiredCost}
 use Rattle.postman.specs.Balancing.{leastBalancing}
 use Rattle.postman.specs.LagrangianBound.{AreMultipliers}
@@ -45,19 +45,19 @@ Untouched = (bytes : List ℕ) (budget rounds : ℕ) (sheet : List ℕ) (c : Dee
 abbrev pub CutOff : Type 0
 CutOff = (bytes : List ℕ) (budget rounds : ℕ) (sheet : List ℕ) (c : Deep bytes budget rounds sheet)
     → (verdictNumber (c .answer .verdict) ≡ some 12)
-    ↔ ((firstRefusal (earlierConditionsIn bytes budget rounds (length sheet)) ≡ none) × ((w : List ℕ) → IsTour (planOf bytes) w → ⊥))
+    ↔ ((firstRefusal (earlierConditionsIn bytes budget rounds (length sheet)) ≡ none) × ((w : List ℕ) → IsDrive (planOf bytes) w → ⊥))
 
 -- The written places are a drive of the file's plan, of exactly the cost answered, the lowest must arc first.
 abbrev pub Written : Type 0
 Written = (bytes : List ℕ) (budget rounds : ℕ) (sheet : List ℕ) (c : Deep bytes budget rounds sheet) → Accepted (c .answer)
-    → IsTour (planOf bytes) (take (c .answer .places) (c .after))
-    × (tourCost (planOf bytes) (take (c .answer .places) (c .after)) ≡ c .answer .cost)
+    → IsDrive (planOf bytes) (take (c .answer .places) (c .after))
+    × (driveCost (planOf bytes) (take (c .answer .places) (c .after)) ≡ c .answer .cost)
     × (getD (take (c .answer .places) (c .after)) 0 0 ≡ getD (requiredNumbers (planOf bytes)) 0 0)
 
 -- No drive of any length costs less than the floor, which is at least R + Z.
 abbrev pub Floor : Type 0
 Floor = (bytes : List ℕ) (budget rounds : ℕ) (sheet : List ℕ) (c : Deep bytes budget rounds sheet) → Accepted (c .answer)
-    → ((w : List ℕ) → IsTour (planOf bytes) w → c .answer .floor ≤ℤ pos (tourCost (planOf bytes) w))
+    → ((w : List ℕ) → IsDrive (planOf bytes) w → c .answer .floor ≤ℤ pos (driveCost (planOf bytes) w))
     × (pos (requiredCost (planOf bytes) + leastBalancing (planOf bytes) []) ≤ℤ c .answer .floor)
 
 -- u meets document 01's two conditions, for the file's plan.
@@ -69,7 +69,7 @@ OwnMultipliers = (bytes : List ℕ) (budget rounds : ℕ) (sheet : List ℕ) (c 
 abbrev pub Whole : Type 0
 Whole = (bytes : List ℕ) (budget rounds : ℕ) (sheet : List ℕ) (c : Deep bytes budget rounds sheet) → Accepted (c .answer)
     → (T (c .answer .whole) ↔ (c .answer .floor ≡ pos (c .answer .cost)))
-    × (T (c .answer .whole) → (w : List ℕ) → IsTour (planOf bytes) w → c .answer .cost ≤ tourCost (planOf bytes) w)
+    × (T (c .answer .whole) → (w : List ℕ) → IsDrive (planOf bytes) w → c .answer .cost ≤ driveCost (planOf bytes) w)
 
 -- One round is the plan call, but for what whole says.
 abbrev pub OneRound : Type 0

@@ -10,12 +10,12 @@ use lib.IntN.{pos}
 use lib.Signed.{_≤ℤ_}
 use Rattle.postman.specs.Lists.{maxℤ}
 use Rattle.postman.specs.Plan.{Plan}
-use Rattle.postman.specs.Tour.{IsTour, tourCost}
+use Rattle.postman.specs.Drive.{IsDrive, driveCost}
 use Rattle.postman.specs.Required.{requiredCost}
 use Rattle.postman.specs.Component.{componentCount}
 use Rattle.postman.specs.Balancing.{leastBalancing}
 use Rattle.postman.specs.LagrangianBound.{AreMultipliers, lagrangianBound}
-use Rattle.postman.specs.PlanCall.{triedCount, isWhole, bestCost, IsAnswerTour}
+use Rattle.postman.specs.PlanCall.{triedCount, isWhole, bestCost, IsAnswerDrive}
 use Rattle.refusal.specs.Verdict.{verdictNumber}
 use Rattle.solution.specs.declared.Planned.{Planned}
 use Rattle.solution.specs.Planned.{multipliersOf}
@@ -44,7 +44,7 @@ pub record Drives (p : Plan) (budget : ℕ) (old new : List ℕ) (r : Planned) :
   pub parts : r .parts ≡ componentCount p
   -- "The written places are a drive of that cost whose first arc is the lowest must arc; which such drive, of at most 17,266 places, is
   -- free."
-  pub drive : IsAnswerTour p budget (take (r .places) new)
+  pub drive : IsAnswerDrive p budget (take (r .places) new)
   -- "Places written is a count." "Later places of the sheet are untouched."
   pub count : length (take (r .places) new) ≡ r .places
   pub later : drop (r .places) new ≡ drop (r .places) old
@@ -58,7 +58,7 @@ pub record Bounds (p : Plan) (r : Planned) : Type 0 where
   pub floor-partial : r .whole ≡ false → r .floor ≡ maxℤ (lagrangianBound p (λ i. pos 0)) (lagrangianBound p (multipliersOf r))
   -- Every list of arcs, of any length, that is a drive costs at least the floor; and where all trees were tried, none is cheaper than the
   -- one written.
-  pub below-every-drive : (w : List ℕ) → IsTour p w → r .floor ≤ℤ pos (tourCost p w)
-  pub whole-least : r .whole ≡ true → (w : List ℕ) → IsTour p w → r .cost ≤ tourCost p w
+  pub below-every-drive : (w : List ℕ) → IsDrive p w → r .floor ≤ℤ pos (driveCost p w)
+  pub whole-least : r .whole ≡ true → (w : List ℕ) → IsDrive p w → r .cost ≤ driveCost p w
   -- It is no idle number: at least R + Z.
   pub above-balancing : pos (requiredCost p + leastBalancing p []) ≤ℤ r .floor

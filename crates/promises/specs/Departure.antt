@@ -11,7 +11,7 @@ use lib.Signed.{_≤ℤ_}
 use lib.Dec.{T}
 use Rattle.postman.specs.Refusal.{firstRefusal}
 use Rattle.postman.specs.PlanFile.{planOf}
-use Rattle.postman.specs.Tour.{IsTour, tourCost}
+use Rattle.postman.specs.Drive.{IsDrive, driveCost}
 use Rattle.postman.specs.Windows.{Departure, windowsIn, planAt, Avoids, isBadDeparture, earlierConditionsAt, callRefusalAt}
 use Rattle.solution.specs.declared.Planned.{Planned}
 use Rattle.solution.specs.RaisedBudget.{Buys}
@@ -35,7 +35,7 @@ abbrev pub CutOff : Type 0
 CutOff = (bytes : List ℕ) (budget places : ℕ) (windows : List ℕ) (d : Departure)
     → (callRefusalAt bytes budget places windows d ≡ some 12)
     ↔ ((firstRefusal (earlierConditionsAt bytes budget places windows d) ≡ none)
-    × ((w : List ℕ) → IsTour (planOf bytes) w → Avoids (windowsIn windows) d w → ⊥))
+    × ((w : List ℕ) → IsDrive (planOf bytes) w → Avoids (windowsIn windows) d w → ⊥))
 
 -- DEMAND 2: "A window of that weekday shuts its arc when from ≤ t < to. The arc then counts as closed for that plan call."
 abbrev pub SecondDemand : Type 0
@@ -46,9 +46,9 @@ SecondDemand = (bytes : List ℕ) (budget : ℕ) (windows : List ℕ) (d : Depar
 abbrev pub WrittenAvoids : Type 0
 WrittenAvoids = (bytes : List ℕ) (budget : ℕ) (windows : List ℕ) (d : Departure) (sheet : List ℕ) (c : CallAt bytes budget windows d sheet)
     → Accepted (c .answer)
-    → IsTour (planOf bytes) (take (c .answer .places) (c .after))
+    → IsDrive (planOf bytes) (take (c .answer .places) (c .after))
     × Avoids (windowsIn windows) d (take (c .answer .places) (c .after))
-    × (tourCost (planOf bytes) (take (c .answer .places) (c .after)) ≡ c .answer .cost)
+    × (driveCost (planOf bytes) (take (c .answer .places) (c .after)) ≡ c .answer .cost)
 
 -- DEMAND 3
 abbrev pub ThirdDemand : Type 0
@@ -60,7 +60,7 @@ abbrev pub FloorOfAvoiding : Type 0
 FloorOfAvoiding = (bytes : List ℕ) (budget : ℕ) (windows : List ℕ) (d : Departure) (sheet : List ℕ)
     (c : CallAt bytes budget windows d sheet)
     → Accepted (c .answer)
-    → (w : List ℕ) → IsTour (planOf bytes) w → Avoids (windowsIn windows) d w → c .answer .floor ≤ℤ pos (tourCost (planOf bytes) w)
+    → (w : List ℕ) → IsDrive (planOf bytes) w → Avoids (windowsIn windows) d w → c .answer .floor ≤ℤ pos (driveCost (planOf bytes) w)
 
 -- Two calls on the same answer the same, and leave the same sheet.
 abbrev pub OneAnswer : Type 0

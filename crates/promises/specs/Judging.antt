@@ -9,7 +9,7 @@ use lib.IntN.{pos}
 use lib.Signed.{_≤ℤ_}
 use Rattle.postman.specs.Refusal.{firstRefusal, refused, given}
 use Rattle.postman.specs.PlanFile.{planOf}
-use Rattle.postman.specs.Tour.{IsTour, tourCost}
+use Rattle.postman.specs.Drive.{IsDrive, driveCost}
 use Rattle.postman.specs.Windows.{Departure}
 use Rattle.postman.specs.Marks.{ownMarks}
 use Rattle.postman.specs.Judge.{unjudgedConditions, judgeRefusal}
@@ -34,12 +34,12 @@ Refusals = (bytes w : List ℕ) (j : Judging bytes w) (k : ℕ) → (judgedAnswe
 -- first fault."
 abbrev pub Exactly : Type 0
 Exactly = (bytes w : List ℕ) (j : Judging bytes w) → firstRefusal (unjudgedConditions bytes (length w)) ≡ none
-    → ((c : ℕ) × (judgedAnswer (j .answer) ≡ given c)) ↔ IsTour (planOf bytes) w
+    → ((c : ℕ) × (judgedAnswer (j .answer) ≡ given c)) ↔ IsDrive (planOf bytes) w
 
 -- A cost that is returned is a drive's, and its price.
 abbrev pub Costs : Type 0
 Costs = (bytes w : List ℕ) (j : Judging bytes w) (c : ℕ) → judgedAnswer (j .answer) ≡ given c
-    → IsTour (planOf bytes) w × (c ≡ tourCost (planOf bytes) w)
+    → IsDrive (planOf bytes) w × (c ≡ driveCost (planOf bytes) w)
 
 -- "Every drive the planner writes must pass with the cost it printed": the plan call's, and so the short call's;
 abbrev pub WrittenPasses : Type 0

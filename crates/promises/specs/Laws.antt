@@ -16,7 +16,7 @@ pub mod Page
 pub mod Judged
 pub mod Districts
 pub mod Codec
-pub mod Runs
+pub mod Slices
 pub mod OneAnswerTheorem
 pub mod HistoryTheorem
 pub mod AskedTheorem

@@ -7,7 +7,7 @@ use Prim.Native.Nat.{ℕ, _≤_}
 use lib.ListN.{length}
 use Rattle.postman.specs.Refusal.{firstRefusal}
 use Rattle.postman.specs.PlanFile.{planOf}
-use Rattle.postman.specs.Tour.{IsTour}
+use Rattle.postman.specs.Drive.{IsDrive}
 use Rattle.postman.specs.PlanCall.{defaultBudget, earlierConditions, callRefusal}
 use Rattle.solution.specs.declared.Planned.{Planned}
 use Rattle.solution.specs.RaisedBudget.{Buys}
@@ -30,7 +30,7 @@ FirstDemand = (bytes : List ℕ) (budget : ℕ) (sheet : List ℕ) (c : Call byt
 abbrev pub CutOff : Type 0
 CutOff = (bytes : List ℕ) (budget places : ℕ)
     → (callRefusal bytes budget places ≡ some 12)
-    ↔ ((firstRefusal (earlierConditions bytes budget places) ≡ none) × ((w : List ℕ) → IsTour (planOf bytes) w → ⊥))
+    ↔ ((firstRefusal (earlierConditions bytes budget places) ≡ none) × ((w : List ℕ) → IsDrive (planOf bytes) w → ⊥))
 
 -- DEMAND 2
 abbrev pub SecondDemand : Type 0

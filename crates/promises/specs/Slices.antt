@@ -7,7 +7,7 @@ use lib.ListN.{length, getD, take}
 use Rattle.postman.specs.Refusal.{unless}
 use Rattle.postman.specs.Windows.{Departure}
 use Rattle.refusal.specs.Verdict.{verdictNumber}
-use Rattle.tour_legs.specs.Tour.{written}
+use Rattle.drive_legs.specs.Drive.{written}
 use Rattle.solution.specs.declared.Planned.{Planned}
 use Rattle.answers.specs.Answer.{putFirst, IsHandedOver}
 use Rattle.exports.specs.Call.{IsExportedCall, IsExportedCallAt}

@@ -7,7 +7,7 @@ use Prim.Native.Nat.{ℕ, _≤_}
 use lib.ListN.{length}
 use Rattle.postman.specs.Refusal.{firstRefusal}
 use Rattle.postman.specs.PlanFile.{fileConditions, planOf}
-use Rattle.postman.specs.Tour.{IsTour}
+use Rattle.postman.specs.Drive.{IsDrive}
 use Rattle.postman.specs.Marks.{carPlan, ownMarks, earlierConditionsFor, carRefusal}
 use Rattle.refusal.specs.Verdict.{verdictNumber}
 use Rattle.solution.specs.declared.Planned.{Planned}
@@ -66,7 +66,7 @@ abbrev pub CutOff : Type 0
 CutOff = (bytes : List ℕ) (g : Given) (c : Car bytes g)
     → (verdictNumber (c .answer .verdict) ≡ some 12)
     ↔ ((firstRefusal (earlierConditionsFor bytes (g .budget) (length (g .sheet)) (g .marks)) ≡ none)
-    × ((w : List ℕ) → IsTour (carPlan (planOf bytes) (g .marks)) w → ⊥))
+    × ((w : List ℕ) → IsDrive (carPlan (planOf bytes) (g .marks)) w → ⊥))
 
 -- DEMAND 2: its own list of must marks "replaces the plan's must marks (a plain arc if unmarked)"
 abbrev pub SecondDemand : Type 0

@@ -17,7 +17,7 @@ use Rattle.postman.specs.Arborescence.{arborescenceCount}
 use Rattle.postman.specs.PlanCall.{Summary, bestCost, lowerBound, triedCount}
 use Rattle.small_counts.specs.Matrix.{cap}
 use Rattle.multipliers.specs.Ascent.{multipliersFor}
-use Rattle.multipliers.specs.Tour.{tourOf}
+use Rattle.multipliers.specs.Drive.{driveOf}
 use Rattle.renumbering.specs.declared.numbering.Numbering.{Numbering}
 use Rattle.renumbering.specs.Numbering.{unchanged}
 use Rattle.renumbering.specs.Shuffle.{shuffled}
@@ -141,8 +141,8 @@ counted trees random k =
     }
 
 -- Whether floor and cost meet.
-unfoldable pub isClosed : Kept → Bool
-isClosed k = leZ (pos (k .cost)) (k .floor)
+unfoldable pub haveMet : Kept → Bool
+haveMet k = leZ (pos (k .cost)) (k .floor)
 
 -- ---- the rounds
 
@@ -185,10 +185,10 @@ nextKept p budget round k = roundWith p budget (nextRound p budget round k) k
 
 -- What is kept after the first round and r more; the next one is round r + 2. It ends as soon as floor and cost meet.
 unfoldable pub keptAfter : Plan → ℕ → ℕ → Kept
-unfolding begun bestCost floorOf multipliersFor leftOf triedCount isClosed nextKept
+unfolding begun bestCost floorOf multipliersFor leftOf triedCount haveMet nextKept
 keptAfter p budget zero = begun budget (bestCost p budget) (floorOf p budget) (multipliersFor p) (leftOf p budget) (triedCount p budget)
 keptAfter p budget (suc r) =
-    cond (isClosed (keptAfter p budget r)) (keptAfter p budget r) (nextKept p budget (r + 2) (keptAfter p budget r))
+    cond (haveMet (keptAfter p budget r)) (keptAfter p budget r) (nextKept p budget (r + 2) (keptAfter p budget r))
 
 -- ---- the answer
 
@@ -198,13 +198,13 @@ unfolding keptAfter
 kept p budget rounds = keptAfter p budget (rounds - 1)
 
 unfoldable pub deepSummary : Plan → ℕ → ℕ → Summary
-unfolding kept isClosed componentCount
+unfolding kept haveMet componentCount
 deepSummary p budget rounds =
     let k = kept p budget rounds in
-    record { cost = k .cost; floor = k .floor; trees = k .trees; whole = isClosed k; parts = componentCount p }
+    record { cost = k .cost; floor = k .floor; trees = k .trees; whole = haveMet k; parts = componentCount p }
 
-unfoldable pub deepTour : Plan → ℕ → ℕ → List ℕ
-unfolding kept tourOf
-deepTour p budget rounds =
+unfoldable pub deepDrive : Plan → ℕ → ℕ → List ℕ
+unfolding kept driveOf
+deepDrive p budget rounds =
     let x = kept p budget rounds .drive in
-    tourOf (under p (x .numbering)) (x .tries)
+    driveOf (under p (x .numbering)) (x .tries)

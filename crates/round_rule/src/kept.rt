@@ -173,7 +173,7 @@ pub fn kept_of(k: Kept, c: Chosen, a: Found, trees: u32) -> Kept
 }
 
 // Whether floor and cost meet.
-pub fn closed(cost: u64, floor: i64) -> bool
+pub fn have_met(cost: u64, floor: i64) -> bool
     requires { ⌜ cost ≤ 4611686018427387904 ⌝ }
     ensures { λ r. ⌜ r ≡ leZ (pos cost) floor ⌝ }
 {

@@ -4,7 +4,7 @@ use mathlib.Core.List.{List}
 use Prim.Native.Nat.{ℕ}
 use Rattle.postman.specs.Plan.{Plan, WellFormed}
 use Rattle.shortest.specs.Contracts.{AreWeights}
-use Rattle.multipliers.specs.Tour.{tableOf}
+use Rattle.multipliers.specs.Drive.{tableOf}
 
 -- The distances of a plan that is well formed.
 pub record HasTable (p : Plan) (table : List (List ℕ)) : Type 0 where

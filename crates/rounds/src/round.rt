@@ -5,7 +5,7 @@ use held_tree::cheaper::cheaper_tabled;
 use plan::Plan;
 use round_rule::kept::Kept;
 use round_rule::kept::begin;
-use round_rule::kept::closed;
+use round_rule::kept::have_met;
 use round_rule::kept::kept_of;
 use round_rule::trial::choose;
 use tree_search::begin::tried_count;
@@ -84,7 +84,7 @@ pub fn deepen(plan: Plan, table: &[[u32; 64]; 64], budget: u32, rounds: u32, fir
     let mut d = first;
     for i in 1..rounds {
         let k = d.kept;
-        if closed(k.cost, k.floor) {
+        if have_met(k.cost, k.floor) {
             return d;
         }
         let next = next_round(plan, table, budget, i + 1, d);

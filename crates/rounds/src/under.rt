@@ -16,8 +16,8 @@ ghost use lib.ListN.{length};
 ghost use Rattle.postman.specs.PlanCall.{sheetPlaces};
 ghost use Rattle.postman.specs.Component.{componentCount};
 ghost use Rattle.plan.specs.Records.{planValue};
-ghost use Rattle.tour_legs.specs.Tour.{written};
-ghost use Rattle.multipliers.specs.Tour.{tourOf};
+ghost use Rattle.drive_legs.specs.Drive.{written};
+ghost use Rattle.multipliers.specs.Drive.{driveOf};
 ghost use Rattle.call_steps.specs.Refusals.{planRefusal};
 ghost use Rattle.tree_search.specs.Improved.{CanImprove};
 ghost use Rattle.held_tree.specs.Cheaper.{IsBest, IsCheaper};
@@ -57,8 +57,8 @@ pub fn lay_under(
     requires { ⌜ IsTabled (planValue plan) (now table) (now weights) × (planRefusal (planValue plan) ≡ none) × IsTrial (planValue plan) x
         × IsBest (under (planValue plan) (x .numbering)) (x .tries) g × (sheetPlaces ≤ length (now sheet)) ⌝ }
     ensures { λ r.
-        ⌜ (now (sheet .exit) ≡ written (tourOf (under (planValue plan) (x .numbering)) (x .tries)) (now (sheet .entry)))
-        × (r .places ≡ length (tourOf (under (planValue plan) (x .numbering)) (x .tries)))
+        ⌜ (now (sheet .exit) ≡ written (driveOf (under (planValue plan) (x .numbering)) (x .tries)) (now (sheet .entry)))
+        × (r .places ≡ length (driveOf (under (planValue plan) (x .numbering)) (x .tries)))
         × (r .parts ≡ componentCount (under (planValue plan) (x .numbering))) ⌝ }
 {
     let numbering = x.numbering;

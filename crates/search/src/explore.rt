@@ -19,7 +19,7 @@ ghost use Rattle.tree_bounds.specs.Bound.{reducedBy};
 ghost use Rattle.branches.specs.Progress.{passOver};
 ghost use Rattle.tree_bounds.specs.Prepared.{Prepared};
 ghost use Rattle.search.specs.Contracts.{IsExplored, IsBranchPriced};
-ghost use Rattle.branches.specs.Branches.{IsBranch, chosenIn, linkOf, treesIn};
+ghost use Rattle.branches.specs.Branches.{IsBranch, chosenIn, candidateLink, treesIn};
 ghost use Rattle.branches.specs.Holding.{heldIn, isEntered, IsShort};
 ghost use Rattle.tree_bounds.specs.Pricing.{Prices};
 ghost use Rattle.tree_bounds.specs.Reducible.{CanReduce};
@@ -105,12 +105,13 @@ fn backed_up(
 ) -> Explored
     requires { ⌜ ((p : Plan) × (vs : List ℕ) × (source : List ℕ) × (f : List ℕ)
         × Prepared p (now d) vs (now start) source (now tails) (now heads) k × IsBranch p (now d) f b
-        × Prices p (now d) (chosenIn b) (b .a) (e .pricing) × Prices p (now d) (chosenIn b ++ linkOf c ∷ []) (b .a + 1) (under .pricing))
+        × Prices p (now d) (chosenIn b) (b .a) (e .pricing)
+        × Prices p (now d) (chosenIn b ++ candidateLink c ∷ []) (b .a + 1) (under .pricing))
         × (b .a < k) × (c .tail < 64) × (c .head < 64) ⌝ }
     ensures { λ r. ⌜ (r .progress ≡ under .progress)
         × ((p : Plan) (vs source f : List ℕ) → Prepared p (now (d .entry)) vs (now (start .entry)) source (now (tails .entry)) (now
         (heads .entry)) k → IsBranch p (now (d .entry)) f b → Prices p (now (d .entry)) (chosenIn b) (b .a) (e .pricing)
-        → Prices p (now (d .entry)) (chosenIn b ++ linkOf c ∷ []) (b .a + 1) (under .pricing)
+        → Prices p (now (d .entry)) (chosenIn b ++ candidateLink c ∷ []) (b .a + 1) (under .pricing)
         → IsBranchPriced p (now (d .entry)) b (r .pricing)) ⌝ }
 {
     let old = e.pricing;

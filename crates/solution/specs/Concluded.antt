@@ -10,11 +10,11 @@ use Rattle.postman.specs.Plan.{Plan}
 use Rattle.postman.specs.Link.{Link}
 use Rattle.postman.specs.Component.{componentCount}
 use Rattle.postman.specs.LagrangianBound.{lagrangianBound}
-use Rattle.tour_legs.specs.Tour.{written}
+use Rattle.drive_legs.specs.Drive.{written}
 use Rattle.branches.specs.Links.{linksIn}
 use Rattle.tree_search.specs.declared.improve.Searched.{Searched}
 use Rattle.refusal.specs.declared.Verdict.the-variants.{Accepted}
-use Rattle.multipliers.specs.Tour.{driveOf}
+use Rattle.multipliers.specs.Drive.{treeDrive}
 use Rattle.multipliers.specs.Ascent.{multipliersFor}
 use Rattle.solution.specs.declared.Planned.{Planned}
 
@@ -27,7 +27,7 @@ floorWith p whole cost =
 abbrev pub concluded : Plan → List Link → ℕ → ℕ → Bool → Planned
 concluded p t cost trees whole = record {
   verdict = Accepted;
-  places = length (driveOf p t);
+  places = length (treeDrive p t);
   cost = cost;
   floor = floorWith p whole cost;
   trees = trees;
@@ -42,4 +42,4 @@ linksFound p s = linksIn (componentCount p - 1) (s .tails) (s .heads)
 -- The drive of the tree stands on the sheet from its start, and later places are untouched.
 pub record IsConcluded (p : Plan) (s : Searched) (old new : List ℕ) (r : Planned) : Type 0 where
   pub planned : r ≡ concluded p (linksFound p s) (s .cost) (s .tried) (s .whole)
-  pub sheet : new ≡ written (driveOf p (linksFound p s)) old
+  pub sheet : new ≡ written (treeDrive p (linksFound p s)) old

@@ -9,13 +9,13 @@ use lib.Signed.{_≤ℤ_}
 use Rattle.postman.specs.Plan.{Plan}
 use Rattle.postman.specs.Refusal.{answer, unless}
 use Rattle.postman.specs.LagrangianBound.{Multipliers, AreMultipliers, AreGreatest, lagrangianBound}
-use Rattle.postman.specs.PlanCall.{Summary, summary, fields, root, IsAnswerTour}
+use Rattle.postman.specs.PlanCall.{Summary, summary, fields, root, IsAnswerDrive}
 use Rattle.postman.specs.Guarantee.{Guarantee}
 use Rattle.postman.specs.Steps.{Plannable}
-use Rattle.tour_legs.specs.Tour.{written}
+use Rattle.drive_legs.specs.Drive.{written}
 use Rattle.solution.specs.declared.Planned.{Planned}
 use Rattle.refusal.specs.Verdict.{verdictNumber}
-use Rattle.multipliers.specs.Tour.{tourOf}
+use Rattle.multipliers.specs.Drive.{driveOf}
 use Rattle.multipliers.specs.Ascent.{multipliersFor}
 
 -- The fields of the answer, as document 01's.
@@ -39,7 +39,7 @@ pub record IsAnswer (p : Plan) (budget : ℕ) (r : Planned) : Type 0 where
   pub multipliers : AreMultipliers p (multipliersOf r)
   pub multipliers-are : r .multipliers ≡ multipliersFor p
   pub above-greatest : (v : Multipliers) → AreGreatest p (root p) v → lagrangianBound p v ≤ℤ lagrangianBound p (multipliersOf r)
-  pub tour : IsAnswerTour p budget (tourOf p budget)
+  pub drive : IsAnswerDrive p budget (driveOf p budget)
   pub guarantee : Guarantee p budget (multipliersOf r)
 
 -- The call on a plan and a budget, where `refusal` is what it is refused for; old and new are the sheet at entry and at exit.
@@ -49,8 +49,8 @@ pub record IsPlanned (p : Plan) (budget : ℕ) (refusal : Option ℕ) (old new :
   -- cost, floor, trees tried, whole and k; 0 and no in a refusal
   pub summary-is : summaryOf r ≡ fields (answer refusal (summary p budget (multipliersOf r)))
   -- the sheet: the drive from its start, later places untouched; in a refusal as it was
-  pub sheet : new ≡ unless refusal (written (tourOf p budget) old) old
-  pub places-are : r .places ≡ countUnless refusal (length (tourOf p budget))
+  pub sheet : new ≡ unless refusal (written (driveOf p budget) old) old
+  pub places-are : r .places ≡ countUnless refusal (length (driveOf p budget))
   -- u is 0 everywhere in a refusal
   pub no-multipliers : (k : ℕ) → refusal ≡ some k → r .multipliers ≡ replicate 64 (pos 0)
   pub answered : refusal ≡ none → IsAnswer p budget r

@@ -11,9 +11,9 @@ ghost use Rattle.plan.specs.Records.{planValue};
 ghost use Rattle.shortest.specs.Contracts.{AreWeights};
 ghost use Rattle.postman.specs.Component.{componentCount};
 ghost use Rattle.branches.specs.Links.{linksIn};
-ghost use Rattle.tour_legs.specs.Filled.{linksOf};
-ghost use Rattle.tour_legs.specs.Tour.{written};
-ghost use Rattle.multipliers.specs.Tour.{driveOf};
+ghost use Rattle.drive_legs.specs.Filled.{linksOf};
+ghost use Rattle.drive_legs.specs.Drive.{written};
+ghost use Rattle.multipliers.specs.Drive.{treeDrive};
 ghost use Rattle.multipliers.specs.Prepared.{IsTree};
 ghost use Rattle.preparation.specs.Preparation.{IsPreparation};
 ghost use Rattle.tree_search.specs.Resumed.{HoldsTree};
@@ -33,15 +33,15 @@ fn lay(
         × (sheetPlaces ≤ length (now sheet)) × AreWeights (planValue plan) (now weights) ⌝ }
     ensures { λ x.
         ⌜ now (sheet .exit)
-        ≡ written (driveOf (planValue plan) (linksOf (now (tails .entry)) (now (heads .entry)))) (now (sheet .entry)) ⌝ }
-    ensures { λ x. ⌜ x ≡ length (driveOf (planValue plan) (linksOf (now (tails .entry)) (now (heads .entry)))) ⌝ }
+        ≡ written (treeDrive (planValue plan) (linksOf (now (tails .entry)) (now (heads .entry)))) (now (sheet .entry)) ⌝ }
+    ensures { λ x. ⌜ x ≡ length (treeDrive (planValue plan) (linksOf (now (tails .entry)) (now (heads .entry)))) ⌝ }
 {
     let full = with_links(plan, table, r, tails, heads);
     let v = r.vertices;
     let list = v.list;
     let n = v.count;
     let amounts = direct_amounts::direct::direct_amounts(full, table, &list[..n]);
-    circuit::tour::write_tour(plan, weights, tails, heads, &amounts, sheet)
+    circuit::drive::write_drive(plan, weights, tails, heads, &amounts, sheet)
 }
 
 // The same of a tree that is held in arrays.
@@ -58,8 +58,8 @@ pub fn lay_held(
         × (sheetPlaces ≤ length (now sheet)) × AreWeights (planValue plan) (now weights) ⌝ }
     ensures { λ x.
         ⌜ now (sheet .exit)
-        ≡ written (driveOf (planValue plan) (linksIn (componentCount (planValue plan) - 1) tails heads)) (now (sheet .entry)) ⌝ }
-    ensures { λ x. ⌜ x ≡ length (driveOf (planValue plan) (linksIn (componentCount (planValue plan) - 1) tails heads)) ⌝ }
+        ≡ written (treeDrive (planValue plan) (linksIn (componentCount (planValue plan) - 1) tails heads)) (now (sheet .entry)) ⌝ }
+    ensures { λ x. ⌜ x ≡ length (treeDrive (planValue plan) (linksIn (componentCount (planValue plan) - 1) tails heads)) ⌝ }
 {
     let net = r.network;
     let k = net.components as usize;

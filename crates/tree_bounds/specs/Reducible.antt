@@ -22,11 +22,15 @@ pub record Spread (u low : ℤ) : Type 0 where
   pub above : pos 0 ≤ℤ (u -ℤ low +ℤ pos 4128705)
   pub below : pos 0 ≤ℤ (low -ℤ u +ℤ pos 4128705)
 
--- The multipliers of the first n of vs, from that of the first on, and raised so that none is negative.
-pub record AreShifted (u : List ℤ) (vs : List ℕ) (n : ℕ) (w : List ℕ) : Type 0 where
+-- What stands in w for the first n of vs is told by a fact of each vertex, and no more than 8,257,410.
+pub record ArePut (fact : ℕ → ℕ → Type 0) (vs : List ℕ) (n : ℕ) (w : List ℕ) : Type 0 where
   pub size : length w ≡ 64
-  pub each : (k : ℕ) → k < n → pos (getD w (getD vs k 0) 0) ≡ getD u (getD vs k 0) (pos 0) -ℤ getD u (getD vs 0 0) (pos 0) +ℤ pos 4128705
+  pub each : (k : ℕ) → k < n → fact (getD vs k 0) (getD w (getD vs k 0) 0)
   pub low : (v : ℕ) → getD w v 0 ≤ 8257410
+
+-- The multipliers of the first n of vs, from that of the first on, and raised so that none is negative.
+abbrev pub AreShifted : List ℤ → List ℕ → ℕ → List ℕ → Type 0
+AreShifted u vs n w = ArePut (λ v x. pos x ≡ getD u v (pos 0) -ℤ getD u (getD vs 0 0) (pos 0) +ℤ pos 4128705) vs n w
 
 -- The candidates at the places from `from` to `to` have reduced costs, and r is at most each of them.
 abbrev pub AreReducible : List (List ℕ) → List ℕ → List ℕ → List ℕ → ℕ → ℕ → Type 0
@@ -45,11 +49,9 @@ pub record CanRest (table : List (List ℕ)) (pot start tails heads : List ℕ) 
   pub fits : (q : ℕ) → a ≤ q → q < k → getD start (q + 1) 0 ≤ 4096
   pub each : (q : ℕ) → a ≤ q → q < k → AreReducible table pot tails heads (getD start q 0) (getD start (q + 1) 0)
 
--- The potentials u of the first n of vs, from that of the first on, and raised so that none is negative.
-pub record AreLevelled (u vs : List ℕ) (n : ℕ) (w : List ℕ) : Type 0 where
-  pub size : length w ≡ 64
-  pub each : (k : ℕ) → k < n → getD w (getD vs k 0) 0 + getD u (getD vs 0 0) 0 ≡ getD u (getD vs k 0) 0 + 4128705
-  pub low : (v : ℕ) → getD w v 0 ≤ 8257410
+-- The potentials u of the first n of vs, likewise.
+abbrev pub AreLevelled : List ℕ → List ℕ → ℕ → List ℕ → Type 0
+AreLevelled u vs n w = ArePut (λ v x. x + getD u (getD vs 0 0) 0 ≡ getD u v 0 + 4128705) vs n w
 
 -- Two potentials are no further apart than 63 arcs of cost 65,535, and small.
 pub record Near (u first : ℕ) : Type 0 where

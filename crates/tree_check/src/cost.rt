@@ -12,7 +12,7 @@ ghost use lib.ListN.{length, getD};
 ghost use Rattle.postman.specs.Balancing.{completionCost};
 ghost use Rattle.plan.specs.Records.{planValue};
 ghost use Rattle.postman.specs.Steps.{cell};
-ghost use Rattle.tour_legs.specs.Filled.{linksOf};
+ghost use Rattle.drive_legs.specs.Filled.{linksOf};
 ghost use Rattle.multipliers.specs.Prepared.{IsTree};
 ghost use Rattle.preparation.specs.Preparation.{IsPreparation};
 ghost use Rattle.tree_check.specs.Cost.{tableCost, AreVertices};

@@ -7,7 +7,7 @@ use Prim.Native.Nat.{ℕ}
 use lib.ListN.{length}
 use Rattle.postman.specs.Refusal.{firstRefusal}
 use Rattle.postman.specs.PlanFile.{planOf}
-use Rattle.postman.specs.Tour.{IsTour}
+use Rattle.postman.specs.Drive.{IsDrive}
 use Rattle.postman.specs.Marks.{carPlan, earlierConditionsFor, carRefusal}
 use Rattle.refusal.specs.Verdict.{verdictNumber}
 use Rattle.solution.specs.declared.Planned.{Planned}
@@ -21,7 +21,7 @@ pub record IsCar (bytes marks : List ℕ) (budget : ℕ) (old new : List ℕ) (r
   pub cut-off
       : (verdictNumber (r .verdict) ≡ some 12)
       ↔ ((firstRefusal (earlierConditionsFor bytes budget (length old) marks) ≡ none)
-      × ((w : List ℕ) → IsTour (carPlan (planOf bytes) marks) w → ⊥))
+      × ((w : List ℕ) → IsDrive (carPlan (planOf bytes) marks) w → ⊥))
 
 -- THE CALL FOR TWO CARS on any bytes, and any marks, budgets and sheets.
 pub record IsTwoCars (bytes : List ℕ) (marks₁ : List ℕ) (budget₁ : ℕ) (old₁ new₁ : List ℕ) (marks₂ : List ℕ) (budget₂ : ℕ)

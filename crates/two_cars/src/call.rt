@@ -19,7 +19,7 @@ ghost use Rattle.postman.specs.PlanCall.{sheetPlaces, callConditions, lastCondi
 ghost use Rattle.postman.specs.Marks.{carPlan, markConditions};
 ghost use Rattle.plan.specs.Records.{planValue};
 ghost use Rattle.shortest.specs.Contracts.{AreWeights};
-ghost use Rattle.multipliers.specs.Tour.{tableOf};
+ghost use Rattle.multipliers.specs.Drive.{tableOf};
 ghost use Rattle.solution.specs.Planned.{IsPlanned};
 ghost use Rattle.two_cars.specs.Contract.{IsTwoCars};
 

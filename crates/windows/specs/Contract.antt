@@ -9,7 +9,7 @@ use lib.IntN.{pos}
 use lib.Signed.{_≤ℤ_}
 use Rattle.postman.specs.Refusal.{firstRefusal}
 use Rattle.postman.specs.PlanFile.{planOf}
-use Rattle.postman.specs.Tour.{IsTour, tourCost}
+use Rattle.postman.specs.Drive.{IsDrive, driveCost}
 use Rattle.postman.specs.Windows.{Departure, windowsIn, planAt, Avoids, earlierConditionsAt, callRefusalAt}
 use Rattle.refusal.specs.Verdict.{verdictNumber}
 use Rattle.solution.specs.declared.Planned.{Planned}
@@ -23,12 +23,12 @@ pub record IsPlanCallAt (bytes : List ℕ) (budget : ℕ) (numbers : List ℕ) (
   pub cut-off
       : (verdictNumber (r .verdict) ≡ some 12)
       ↔ ((firstRefusal (earlierConditionsAt bytes budget (length old) numbers d) ≡ none)
-      × ((w : List ℕ) → IsTour (planOf bytes) w → Avoids (windowsIn numbers) d w → ⊥))
+      × ((w : List ℕ) → IsDrive (planOf bytes) w → Avoids (windowsIn numbers) d w → ⊥))
   -- "The floor is over drives that avoid arcs shut at departure": each drive of the file's plan that does costs at least the floor
-  pub below-every-tour
-      : verdictNumber (r .verdict) ≡ none → (w : List ℕ) → IsTour (planOf bytes) w → Avoids (windowsIn numbers) d w
-      → r .floor ≤ℤ pos (tourCost (planOf bytes) w)
+  pub below-every-drive
+      : verdictNumber (r .verdict) ≡ none → (w : List ℕ) → IsDrive (planOf bytes) w → Avoids (windowsIn numbers) d w
+      → r .floor ≤ℤ pos (driveCost (planOf bytes) w)
   -- and the places written are one of them, of the cost
-  pub written-tour : verdictNumber (r .verdict) ≡ none → IsTour (planOf bytes) (take (r .places) new)
+  pub written-drive : verdictNumber (r .verdict) ≡ none → IsDrive (planOf bytes) (take (r .places) new)
   pub written-avoids : verdictNumber (r .verdict) ≡ none → Avoids (windowsIn numbers) d (take (r .places) new)
-  pub written-cost : verdictNumber (r .verdict) ≡ none → tourCost (planOf bytes) (take (r .places) new) ≡ r .cost
+  pub written-cost : verdictNumber (r .verdict) ≡ none → driveCost (planOf bytes) (take (r .places) new) ≡ r .cost

@@ -3,14 +3,14 @@ use mathlib.Core.Path.{_≡_, refl, sym, ap, _∙_, subst⁻¹}
 use mathlib.Core.Bool.{Bool, true, false, cond}
 use mathlib.Core.List.{List, [], _∷_}
 use mathlib.Core.Option.{Option, none, some}
-use Prim.Native.Nat.{ℕ, zero, suc, _+_, _^_, _≤_, _<_}
+use Prim.Native.Nat.{ℕ, _+_, _^_, _≤_, _<_}
 use native.Mathlib.Omega.{arith}
 use native.Mathlib.Numerals.{add-one}
 use borrow.Author.Tests.{ltb-true, ltb-false}
 use mir.Val.{boolByte, toZ, ofZ}
 use mir.Syntax.{w64}
 use lib.Signed.{mag}
-use Rattle.integers.specs.Linear.{back64}
+use Rattle.integers.specs.Linear.{back64, abs-neg}
 use lib.Dec.{ltb}
 use lib.IntN.{ℤ, pos, negℤ, natAbs}
 use lib.ListN.{length, getD, set, take, drop, length-set, length-take, List·getD-append}
@@ -107,10 +107,6 @@ pub answered-zero : (v : Verdict) → oneNumber (answer (verdictNumber v) 0) ≡
 unfolding answer
 answered-zero Accepted e = refl
 answered-zero (Refused r) e = let a = some-number r .0 in let b = ap natAbs e in let c = abs-neg (refusalNumber r) in absurd (omega arith)
-  where
-    abs-neg : (k : ℕ) → natAbs (negℤ (pos k)) ≡ k
-    abs-neg zero = refl
-    abs-neg (suc k) = refl
 
 pub words-are : (r : Planned) (f : ℕ) → f ≡ natAbs (r .floor)
     → r .places ∷ r .cost ∷ f ∷ r .trees ∷ boolByte (r .whole) ∷ r .parts ∷ [] ≡ wordsOf r

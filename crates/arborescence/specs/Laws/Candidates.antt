@@ -6,9 +6,9 @@ use Prim.Native.Nat.{ℕ, _≤_, _<_}
 use native.Mathlib.Omega.{arith}
 use Rattle.postman.specs.Lists.{allOf}
 use Rattle.postman.specs.Plan.{Plan}
-use Rattle.postman.specs.Link.{Link}
 use Rattle.postman.specs.Component.{componentCount}
 use Rattle.postman.specs.Arborescence.{candidates}
+use Rattle.postman.specs.Steps.{noLink}
 use Rattle.postman.specs.Laws.Membership.{getD-mem}
 use Rattle.postman.specs.Laws.Distance.{InPlan}
 use Rattle.postman.specs.Laws.Component.{component-lt}
@@ -21,9 +21,6 @@ pub allOf-cong : {A : Type 0} (f f′ : A → Bool) (xs : List A) → ((x : A) �
 unfolding allOf
 allOf-cong f f′ [] h = refl
 allOf-cong f f′ (x ∷ xs) h = ap₂ _&&_ (h x (List·Memᴰ·head refl)) (allOf-cong f f′ xs (λ y m. h y (List·Memᴰ·tail m)))
-
-abbrev noLink : Link
-noLink = record { tail = 0; head = 0 }
 
 pub are-sources : (p : Plan) → InPlan p → 1 ≤ componentCount p → (c : Sources) → AreCandidates p c → AreSources c
 are-sources p ok nonempty c are = let n = are .components in record { some-component = omega arith; inside = inside }

@@ -9,12 +9,12 @@ use lib.IntN.{ℤ, pos}
 use lib.ListN.{getD, set, replicate}
 use Rattle.residual_search.specs.Search.{beyond}
 use Rattle.postman.specs.Steps.{cell}
-use Rattle.multiplier_steps.specs.Steps.{AreSmall, capped, cappedAll, carried}
+use Rattle.multiplier_steps.specs.Steps.{AreSmall, capped, cappedAll, carriedOn}
 use Rattle.multiplier_steps.specs.Laws.Steps.{all-small}
 use Rattle.ascent.specs.Relax.{backPlace, asks, overtakes, demand, moveVertex, moveAll, ask, sweep, areClosed, sweeps, settled}
 use Rattle.ascent_tree.specs.Offers.{Offers, offers}
 use Rattle.ascent_tree.specs.Tree.{Sets, grown, along}
-use Rattle.ascent.specs.Step.{Step, areSame, step}
+use Rattle.ascent.specs.Step.{Step, areUnmoved, step}
 
 -- a multiplier that changes, and one that does not
 module _ (d : List (List ℕ)) (f : List ℕ) (up : Bool) (w : ℕ) (base : ℤ) (x : List ℤ) (marks : List ℕ) (v : ℕ) {p : ℕ} {c : ℤ} {b : Bool}
@@ -77,25 +77,25 @@ module _ (d : List (List ℕ)) (f : List ℕ) (up : Bool) (vs : List ℕ) where
 -- ---- the step
 
 module _ (d : List (List ℕ)) (f vs component : List ℕ) (k : ℕ) (up : Bool) (s : ℕ) (x before : List ℤ) where
-  abbrev taken : List ℤ → ℤ → Bool → Step
-  taken u l b = record { multipliers = u; value = l; balanced = b }
+  abbrev stepWith : List ℤ → ℤ → Bool → Step
+  stepWith u l b = record { multipliers = u; value = l; balanced = b }
 
   -- a step by the tree that the sets t have, along the pairs
   abbrev by : Sets → List ℕ → ℕ → Step
   by t pairs n =
-      taken (settled d f up vs (carried vs (along (t .1) pairs s x (n - 1)) x before)) (getD (t .0) (n - 1) (pos 0))
-      (areSame vs (along (t .1) pairs s x (n - 1)) x)
+      stepWith (settled d f up vs (carriedOn vs (along (t .1) pairs s x (n - 1)) x before)) (getD (t .0) (n - 1) (pos 0))
+      (areUnmoved vs (along (t .1) pairs s x (n - 1)) x)
 
   pub step-is : {costs cost y z multipliers : List ℤ} {pairs from : List ℕ} {n : ℕ} {l : ℤ} {b : Bool}
       → (costs, pairs) ≡ offers d x component vs → n ≡ 2 ^ (k - 1) → (cost, from) ≡ grown costs n
-      → y ≡ along from pairs s x (n - 1) → b ≡ areSame vs y x → z ≡ carried vs y x before → multipliers ≡ settled d f up vs z
+      → y ≡ along from pairs s x (n - 1) → b ≡ areUnmoved vs y x → z ≡ carriedOn vs y x before → multipliers ≡ settled d f up vs z
       → l ≡ getD cost (n - 1) (pos 0)
-      → taken multipliers l b ≡ step d f vs component k up s x before
+      → stepWith multipliers l b ≡ step d f vs component k up s x before
   unfolding step
   step-is {costs} {cost} {y} {z} {multipliers} {pairs} {from} {n} {l} {b} eo en eg ey eb ez eh el =
-      ap (λ (u : List ℤ). taken u l b) (eh ∙ ap (settled d f up vs) (ez ∙ ap (λ (y : List ℤ). carried vs y x before) ey))
-      ∙ ap₂ (λ (l : ℤ) (b : Bool). taken (settled d f up vs (carried vs (along from pairs s x (n - 1)) x before)) l b) el
-      (eb ∙ ap (λ (y : List ℤ). areSame vs y x) ey)
+      ap (λ (u : List ℤ). stepWith u l b) (eh ∙ ap (settled d f up vs) (ez ∙ ap (λ (y : List ℤ). carriedOn vs y x before) ey))
+      ∙ ap₂ (λ (l : ℤ) (b : Bool). stepWith (settled d f up vs (carriedOn vs (along from pairs s x (n - 1)) x before)) l b) el
+      (eb ∙ ap (λ (y : List ℤ). areUnmoved vs y x) ey)
       ∙ ap (λ (t : Sets). by t pairs n) eg
       ∙ ap (λ (o : Offers). by (grown (o .0) n) (o .1) n) eo
       ∙ ap (λ (n : ℕ). by (grown (offers d x component vs .0) n) (offers d x component vs .1) n) en
@@ -111,4 +111,4 @@ module _ (d : List (List ℕ)) (f vs : List ℕ) (up : Bool) (small : (i : ℕ) 
   unfolding step
   step-small component k s x before =
       let o = offers d x component vs in
-      settled-small (carried vs (along (grown (o .0) (2 ^ (k - 1)) .1) (o .1) s x (2 ^ (k - 1) - 1)) x before)
+      settled-small (carriedOn vs (along (grown (o .0) (2 ^ (k - 1)) .1) (o .1) s x (2 ^ (k - 1) - 1)) x before)

@@ -9,12 +9,13 @@ use lib.ListN.{getD, set}
 use lib.IntN.{ℤ, pos, _+ℤ_, _-ℤ_}
 use lib.Signed.{ltZ}
 use Rattle.multiplier_steps.specs.Steps.{capped}
-use Rattle.ascent_tree.specs.Offers.{part, costOf, isCheaper, offer}
+use Rattle.ascent_tree.specs.Offers.{part, isCheaper, offer}
 use Rattle.ascent_tree.specs.Tree.{holds, joined, isBetter, entry, enter, shifted, walkBack}
+use Rattle.pair_costs.specs.PairCosts.{costOf}
 
 -- a pair that is cheaper is noted; one that is not leaves all as it stands
 module _ (d : List (List ℕ)) (x : List ℤ) (component : List ℕ) (i : ℕ) (m : List ℤ) (at : List ℕ) (j : ℕ) {row pj : ℕ} {c : ℤ}
-    (er : row ≡ part component i * 8) (ej : pj ≡ part component j) (ec : c ≡ costOf d x component i j) where
+    (er : row ≡ part component i * 8) (ej : pj ≡ part component j) (ec : c ≡ costOf d x i j) where
   place-is : row + pj ≡ part component i * 8 + part component j
   place-is = ap₂ _+_ er ej
 

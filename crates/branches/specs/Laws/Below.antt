@@ -1,7 +1,7 @@
 -- The branch below a branch is a branch: a link moves from what is to come to what is known, in the state, in the costs and in the names.
 use mathlib.Core.Path.{_≡_, refl, sym, ap, ap₂, _∙_, subst, subst⁻¹}
 use mathlib.Core.Logic.{_≢_, inl, inr}
-use mathlib.Core.List.{List, [], _∷_, _++_, map, List·Memᴰ, List·Memᴰ·head, List·Memᴰ·tail, List·Memᴰ·cases-cons, List·Memᴰ·append-cases, List·Memᴰ·eq-of-singleton, append-assoc}
+use mathlib.Core.List.{List, [], _∷_, _++_, map, List·Memᴰ, List·Memᴰ·head, List·Memᴰ·tail, List·Memᴰ·cases-cons, List·Memᴰ·append-cases, List·Memᴰ·eq-of-singleton, append-assoc, map-append, map-map}
 use Prim.Native.Nat.{ℕ, zero, suc, _+_, _*_, _-_, _^_, _≤_, _<_}
 use native.Mathlib.Omega.{arith}
 use lib.ListN.{length, set, length-set}
@@ -16,7 +16,7 @@ use Rattle.postman.specs.Balancing.{heads as heads-of, tails as tails-of, linkC
 use Rattle.postman.specs.Steps.{Joins, cell}
 use Rattle.postman.specs.Laws.Balancing.{within-heads, within-tails}
 use Rattle.postman.specs.Laws.Membership.{upFrom-mem, mem-upFrom}
-use Rattle.postman.specs.Laws.Lists.{map-cong, map-map, map-append}
+use Rattle.postman.specs.Laws.Lists.{map-cong}
 use Rattle.residual_search.specs.Step.{State, add, addAll, arcsOf}
 use Rattle.balance.specs.Invariant.{Metric, Certified, Counted}
 use Rattle.balance.specs.Laws.Arcs.{all-counted}

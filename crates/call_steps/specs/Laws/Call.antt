@@ -1,6 +1,6 @@
 -- The refusals in their order. Each test of the code is a condition of the definition, and where the conditions before it do not
 -- apply, the first that applies is among the rest.
-use mathlib.Core.Path.{_≡_, refl, sym, ap, _∙_, subst, subst⁻¹}
+use mathlib.Core.Path.{_≡_, refl, sym, ap, _∙_}
 use mathlib.Core.Bool.{Bool, true, false, not, cond}
 use mathlib.Core.List.{List, [], _∷_, _++_}
 use mathlib.Core.Logic.{_≢_}
@@ -29,11 +29,12 @@ use Rattle.network.specs.declared.network.Network.{Network}
 use Rattle.network.specs.Network.{IsNetwork}
 use Rattle.solution.specs.declared.Planned.{Planned}
 use Rattle.call_steps.specs.Refusals.{networkRefusal, planRefusal, budgetRefusal, sheetRefusal}
-use Rattle.multipliers.specs.Tour.{tableOf}
+use Rattle.multipliers.specs.Drive.{tableOf}
 use Rattle.multipliers.specs.Prepared.{IsMeasured, IsKnown}
 use Rattle.solution.specs.Planned.{IsPlanned}
 use Rattle.call_steps.specs.Laws.Idle.{idle}
 use Rattle.call_steps.specs.Refused.{refusedWith}
+use Rattle.call_steps.specs.Laws.Answer.{answer-as, refused-answer}
 use Rattle.call_steps.specs.Laws.Refused.{is-refused}
 
 -- ---- 10, 11 and 12
@@ -105,10 +106,8 @@ sheet-long p budget places l = rw (le-ltb places sheetPlaces l)
 pub refused-planned : (p : Plan) (budget : ℕ) (o : Option ℕ) (old : List ℕ) (r : Refusal) (x : Planned) → x ≡ refusedWith r
     → o ≡ some (refusalNumber r) → IsPlanned p budget o old old x
 refused-planned p budget o old r x e h =
-    subst⁻¹ (λ (x : Planned). IsPlanned p budget o old old x) e
-    (subst⁻¹ (λ (o : Option ℕ). IsPlanned p budget o old old (refusedWith r)) h (is-refused p budget old r))
+    refused-answer (λ p o new x. IsPlanned p budget o old new x) old (λ p r. is-refused p budget old r) p o r x e h
 
 pub planned-as : (p q : Plan) (budget : ℕ) (o o′ : Option ℕ) (old new : List ℕ) (x : Planned) → p ≡ q → o ≡ o′
     → IsPlanned p budget o old new x → IsPlanned q budget o′ old new x
-planned-as p q budget o o′ old new x e h i =
-    subst (λ (q : Plan). IsPlanned q budget o′ old new x) e (subst (λ (o : Option ℕ). IsPlanned p budget o old new x) h i)
+planned-as p q budget o o′ old new x e h i = answer-as (λ p o new x. IsPlanned p budget o old new x) p q o o′ new x e h i

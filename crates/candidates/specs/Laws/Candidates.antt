@@ -20,7 +20,8 @@ use Rattle.required.specs.Contracts.{IsLinks, IsComponents}
 use Rattle.postman.specs.Laws.Selection.{select-select}
 use Rattle.postman.specs.Laws.Lists.{select-map}
 use Rattle.candidates.specs.Places.{isCandidate, placesOf}
-use Rattle.postman.specs.Laws.Pairs.{linkOf, pairs-are, bothPass, pairs-select}
+use Rattle.postman.specs.Laws.Pairs.{pairs-are, bothPass, pairs-select}
+use Rattle.postman.specs.Steps.{pairAt}
 use Rattle.required.specs.Laws.RequiredVertex.{of-required}
 use Rattle.network.specs.Laws.Vertices.{required-of-64}
 
@@ -53,7 +54,7 @@ module _ (p : Plan) (ok : WellFormed p) where
       (and-both (isRequired p i) (isRequired p j) (of-required p ok (e .0)) (of-required p ok (e .1))) t)
 
   module _ (flags : List Bool) (of : List ℕ) (count : ℕ) (are : IsLinks p flags) (known : IsComponents p of count) where
-    at-place : (q x : ℕ) → x < 4096 → (isPair (linkOf x) && crosses q (linkOf x)) ≡ isCandidate flags of q x
+    at-place : (q x : ℕ) → x < 4096 → (isPair (pairAt x) && crosses q (pairAt x)) ≡ isCandidate flags of q x
     at-place q x l =
         let i : x / 64 < 64 = omega arith in
         let j : x % 64 < 64 = omega arith in
@@ -61,9 +62,9 @@ module _ (p : Plan) (ok : WellFormed p) where
         ap₂ _&&_ (is-pair (x / 64) (x % 64) ∙ sym (are (x / 64) (x % 64) i j) ∙ ap (λ y. getD flags y false) e)
         (ap₂ (λ h t. eqb h q && not (eqb t q)) (sym (known .each (x % 64) j)) (sym (known .each (x / 64) i)))
 
-    pub candidates-are : (q : ℕ) → candidates p q ≡ map linkOf (placesOf flags of q)
+    pub candidates-are : (q : ℕ) → candidates p q ≡ map pairAt (placesOf flags of q)
     unfolding placesOf
     candidates-are q =
         from-pairs q
         ∙ ap (select (λ l. isPair l && crosses q l)) pairs-are
-        ∙ select-map (λ l. isPair l && crosses q l) (isCandidate flags of q) linkOf (below 4096) (λ x m. at-place q x (below-mem m))
+        ∙ select-map (λ l. isPair l && crosses q l) (isCandidate flags of q) pairAt (below 4096) (λ x m. at-place q x (below-mem m))

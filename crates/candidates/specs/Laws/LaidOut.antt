@@ -10,12 +10,12 @@ use Rattle.postman.specs.Link.{Link}
 use Rattle.postman.specs.Component.{component, componentCount}
 use Rattle.postman.specs.Arborescence.{linkAt, candidates}
 use Rattle.postman.specs.Laws.Distance.{bounded}
+use Rattle.postman.specs.Steps.{pairAt}
 use Rattle.required.specs.Contracts.{IsLinks, IsComponents}
 use Rattle.arborescence.specs.Layout.{laidOut, IsLayout}
 use Rattle.arborescence.specs.Candidates.{AreCandidates}
 use Rattle.arborescence.specs.Laws.Candidates.{are-sources}
 use Rattle.candidates.specs.declared.Candidates.{Candidates}
-use Rattle.postman.specs.Laws.Pairs.{linkOf}
 use Rattle.candidates.specs.Places.{placesOf, placesBefore, HaveEnds}
 use Rattle.candidates.specs.LaidOut.{AreLaidOut}
 use Rattle.candidates.specs.Laws.Places.{before-fits, before-length, before-at, before-place}
@@ -50,10 +50,10 @@ module _ (p : Plan) (ok : WellFormed p) (links : List Bool) (of : List ℕ) (k :
       omega arith
 
   count-is : (q : ℕ) → length (candidates p q) ≡ length (places q)
-  count-is q = ap length (candidates-are p ok links of k are known q) ∙ length-map (places q) linkOf
+  count-is q = ap length (candidates-are p ok links of k are known q) ∙ length-map (places q) pairAt
 
-  link-is : (q i : ℕ) → linkAt (candidates p q) i ≡ linkOf (getD (places q) i 0)
-  link-is q i = ap (λ (l : List Link). linkAt l i) (candidates-are p ok links of k are known q) ∙ List·getD-map linkOf (places q) i 0
+  link-is : (q i : ℕ) → linkAt (candidates p q) i ≡ pairAt (getD (places q) i 0)
+  link-is q i = ap (λ (l : List Link). linkAt l i) (candidates-are p ok links of k are known q) ∙ List·getD-map pairAt (places q) i 0
 
   module _ (q i : ℕ) (a : 1 ≤ q) (l : q < componentCount p) (b : i < length (candidates p q)) where
     abbrev place : ℕ

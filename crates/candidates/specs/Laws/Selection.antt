@@ -46,12 +46,6 @@ pub at-most-one : (b : Bool) → one b ≤ 1
 at-most-one true = omega arith
 at-most-one false = omega arith
 
-pub select-length : {A : Type 0} (f : A → Bool) (xs : List A) → length (select f xs) ≤ length xs
-unfolding select
-select-length f [] = omega arith
-select-length f (x ∷ xs) = let h = select-length f xs in let e = length-cond (f x) x (select f xs) in let b = at-most-one (f x) in
-    omega arith
-
 -- what passes one of two tests that exclude each other
 pub disjoint-length : (f g h : ℕ → Bool) (xs : List ℕ) → ((x : ℕ) → one (f x) + one (g x) ≤ one (h x))
     → length (select f xs) + length (select g xs) ≤ length (select h xs)

@@ -11,8 +11,9 @@ use lib.Dec.{T, eqb, eqb→eq, T-not, not-T}
 use Rattle.postman.specs.Lists.{select, below, iterate}
 use Rattle.postman.specs.Laws.Tests.{cond-ind, or-cases}
 use Rattle.postman.specs.Laws.Membership.{mem-map, map-mem, mem-below}
+use Rattle.postman.specs.Laws.Iteration.{iterate-add}
 use Rattle.cheapest_tree.specs.Cheapest.{AreOthers, IsRootedTree, IsCircle, isAmong, shrunk}
-use Rattle.cheapest_tree.specs.Laws.Iterates.{iterate-add, iterate-last, stepsTo, steps-fall, goes-round, reduce}
+use Rattle.cheapest_tree.specs.Laws.Iterates.{iterate-last, stepsTo, steps-fall, goes-round, reduce}
 use Rattle.cheapest_tree.specs.Laws.Edmonds.{among-of}
 
 -- the components that n steps pass

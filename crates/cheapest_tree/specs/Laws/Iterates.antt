@@ -12,11 +12,7 @@ use lib.Dec.{T, eqb, eqb→eq, T-not}
 use Rattle.postman.specs.Lists.{below, upFrom, iterate, firstIndex}
 use Rattle.postman.specs.Laws.Tests.{cond-ind, eqb-same}
 use Rattle.postman.specs.Laws.Pick.{pick-of-mem, pick-length, pick-cases}
-
-pub iterate-add : (a b : ℕ) (f : ℕ → ℕ) (x : ℕ) → iterate (a + b) f x ≡ iterate b f (iterate a f x)
-unfolding iterate
-iterate-add zero b f x = ap (λ n. iterate n f x) (zero-add b)
-iterate-add (suc a) b f x = ap (λ n. iterate n f x) (suc-add a b) ∙ iterate-add a b f (f x)
+use Rattle.postman.specs.Laws.Iteration.{iterate-add}
 
 pub iterate-last : (n : ℕ) (f : ℕ → ℕ) (x : ℕ) → iterate (suc n) f x ≡ f (iterate n f x)
 unfolding iterate

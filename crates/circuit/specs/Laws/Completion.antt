@@ -1,4 +1,4 @@
--- The tour that is written completes the arborescence: its paths are those of fewest arcs, at most n − 1, and there is one for each leg.
+-- The drive that is written completes the arborescence: its paths are those of fewest arcs, at most n − 1, and there is one for each leg.
 -- One pass of each required arc is exchanged for the one that checks it.
 use mathlib.Core.Path.{_≡_, refl, sym, ap, _∙_, subst⁻¹, subst₃}
 use mathlib.Core.Bool.{not}
@@ -9,7 +9,7 @@ use lib.ListN.{length, take, length-append}
 use lib.Dec.{T, ltb→lt}
 use Rattle.postman.specs.Lists.{anyOf}
 use Rattle.postman.specs.Plan.{Plan, requiredNumbers, WellFormed}
-use Rattle.postman.specs.Tour.{tourCost}
+use Rattle.postman.specs.Drive.{driveCost}
 use Rattle.postman.specs.Required.{required, requiredCost}
 use Rattle.postman.specs.Distance.{noPath, distance, hasPath}
 use Rattle.postman.specs.Link.{Link}
@@ -18,20 +18,20 @@ use Rattle.postman.specs.PlanCall.{isCutOff, sheetPlaces}
 use Rattle.postman.specs.Laws.Tests.{not-not}
 use Rattle.postman.specs.Laws.Membership.{anyOf-not}
 use Rattle.postman.specs.Laws.Required.{required-lt}
-use Rattle.postman.specs.Laws.TourCost.{tour-cost}
+use Rattle.postman.specs.Laws.DriveCost.{drive-cost}
 use Rattle.paths.specs.ShortestPath.{shortestPath}
 use Rattle.paths.specs.Laws.ShortestPath.{shortest-path}
 use Rattle.postman.specs.Steps.{amount}
-use Rattle.tour_legs.specs.Legs.{units, legTails, legHeads, Completes}
-use Rattle.tour_legs.specs.Tour.{placesOf, tourBy, tour, ArePaths, HavePaths, IsCompletion}
+use Rattle.drive_legs.specs.Legs.{units, legTails, legHeads, Completes}
+use Rattle.drive_legs.specs.Drive.{placesOf, driveBy, drive, ArePaths, HavePaths, IsCompletion}
 use Rattle.hierholzer.specs.Circuit.{circuit}
 use Rattle.hierholzer.specs.Eulerian.{Eulerian}
-use Rattle.tour_legs.specs.Filled.{Laid}
-use Rattle.tour_legs.specs.Laws.Legs.{leg-at, leg-ends, legs-length, eulerian}
-use Rattle.tour_legs.specs.Laws.Laid.{prefix-length}
-use Rattle.tour_legs.specs.Laws.Few.{few-others, few-numbers}
+use Rattle.drive_legs.specs.Filled.{Laid}
+use Rattle.drive_legs.specs.Laws.Legs.{leg-at, leg-ends, legs-length, eulerian}
+use Rattle.drive_legs.specs.Laws.Laid.{prefix-length}
+use Rattle.drive_legs.specs.Laws.Few.{few-others, few-numbers}
 use Rattle.circuit.specs.Laws.Description.{is-laid}
-use Rattle.tour_legs.specs.Laws.Tour.{legs-count, is-tour, plain-cost, tour-length, tour-first}
+use Rattle.drive_legs.specs.Laws.Drive.{legs-count, is-drive, plain-cost, drive-length, drive-first}
 
 module _ (p : Plan) (ok : WellFormed p) (linked : T (not (isCutOff p))) where
   pub has-path : {i j : ℕ} → List·Memᴰ i (required p) → List·Memᴰ j (required p) → distance p i j < noPath
@@ -48,24 +48,24 @@ module _ (p : Plan) (ok : WellFormed p) (linked : T (not (isCutOff p))) where
       record { fewest-path = s .fewest-path; costs = s .costs; short = omega arith }
 
 module _ (p : Plan) (ok : WellFormed p) (t : List Link) (amounts : List ℕ) (h : Completes p t amounts) where
-  pub completion : IsCompletion p t amounts (tour p t amounts)
-  unfolding tour sheetPlaces
+  pub completion : IsCompletion p t amounts (drive p t amounts)
+  unfolding drive sheetPlaces
   completion =
       let paths = are-paths p ok (h .linked) in
-      let f = tour-first p ok t amounts h (shortestPath p) paths in
-      let w = is-tour p ok t amounts h (shortestPath p) paths in
+      let f = drive-first p ok t amounts h (shortestPath p) paths in
+      let w = is-drive p ok t amounts h (shortestPath p) paths in
       record {
-        tour = w;
-        costs = omega (arith, plain-cost p ok t amounts h (shortestPath p) paths, tour-cost p w);
+        drive = w;
+        costs = omega (arith, plain-cost p ok t amounts h (shortestPath p) paths, drive-cost p w);
         nonempty = f .0;
         first = f .1;
-        short = tour-length p ok t amounts h (shortestPath p) paths;
+        short = drive-length p ok t amounts h (shortestPath p) paths;
         laid = is-laid p ok t amounts h (shortestPath p) paths;
       }
 
   -- least amounts give the cost of the arborescence's completion
   pub completes-at-least-cost : balancingCost (required p) (distance p) (amount amounts) ≡ leastBalancing p t
-      → tourCost p (tour p t amounts) ≡ completionCost p t
+      → driveCost p (drive p t amounts) ≡ completionCost p t
   unfolding completionCost
   completes-at-least-cost e = completion .costs ∙ ap (λ z. requiredCost p + linkCost p t + z) e
 
@@ -87,11 +87,11 @@ module _ (p : Plan) (ok : WellFormed p) (t : List Link) (amounts : List ℕ) (h 
     pub few : length tails ≤ 526
     pub eulerian : Eulerian tails heads
     pub have-paths : HavePaths p numbers tails heads
-    pub written : placesOf (shortestPath p) numbers tails heads (circuit tails heads) ≡ tour p t amounts
+    pub written : placesOf (shortestPath p) numbers tails heads (circuit tails heads) ≡ drive p t amounts
 
   pub ready : (numbers tails heads : List ℕ) → numbers ≡ requiredNumbers p → tails ≡ legTails p t amounts → heads ≡ legHeads p t amounts
       → Ready numbers tails heads
-  unfolding tour tourBy
+  unfolding drive driveBy
   ready numbers tails heads a b c =
       subst₃ Ready (sym a) (sym b) (sym c)
       record {

@@ -1,4 +1,4 @@
--- The tour's description: its legs in the order of the circuit. Each leg is in the circuit once, so each required arc is a leg of its own
+-- The drive's description: its legs in the order of the circuit. Each leg is in the circuit once, so each required arc is a leg of its own
 -- once, each link of the tree has one leg, and each pair of vertices as many as its amount says; a leg that is no required arc is the path
 -- of fewest arcs between its ends, which are required.
 use mathlib.Core.Path.{_≡_, refl, sym, ap, ap₂, _∙_, subst⁻¹}
@@ -23,13 +23,13 @@ use Rattle.postman.specs.Laws.Occurrences.{occurrences-append, delta-sym}
 use Rattle.postman.specs.Laws.FewestPath.{fewest-once}
 use Rattle.postman.specs.Laws.Assignment.{weight}
 use Rattle.postman.specs.Laws.LinkLegs.{ends}
-use Rattle.hierholzer.specs.Laws.Lists.{upFrom-append}
-use Rattle.tour_legs.specs.Laws.Units.{units-pair}
-use Rattle.postman.specs.Steps.{amount}
-use Rattle.tour_legs.specs.Legs.{units, legTails, legHeads, Completes}
-use Rattle.tour_legs.specs.Tour.{placesOf, tourBy, ArePaths}
-use Rattle.tour_legs.specs.Laws.Legs.{leg-at, leg-ends}
-use Rattle.tour_legs.specs.Laws.Tour.{sum-by, sum-le, sum-map-append, noLink, others, at-other, places, places-arc, places-other, legs-sum, order, order-circuit, order-lt, leg-path}
+use Rattle.drive_legs.specs.Laws.Units.{units-pair}
+use Rattle.postman.specs.Steps.{amount, noLink}
+use Rattle.postman.specs.Laws.Selection.{upFrom-append}
+use Rattle.drive_legs.specs.Legs.{units, legTails, legHeads, Completes}
+use Rattle.drive_legs.specs.Drive.{placesOf, driveBy, ArePaths}
+use Rattle.drive_legs.specs.Laws.Legs.{leg-at, leg-ends}
+use Rattle.drive_legs.specs.Laws.Drive.{sum-by, sum-le, sum-map-append, others, at-other, places, places-arc, places-other, legs-sum, order, order-circuit, order-lt, leg-path}
 
 -- ---- a list of lists, one after the other
 
@@ -267,8 +267,8 @@ module _ (p : Plan) (ok : WellFormed p) (t : List Link) (amounts : List ℕ) (h 
   leg-follows : (e : ℕ) → e < length (legTails p t amounts) → Follows (leg e)
   leg-follows e l = leg-cases Follows e (λ g. tt) (λ g k. way-follows e l) (λ g. way-follows e l)
 
-  pub is-laid : IsLaid p t (amount amounts) (tourBy path p t amounts)
-  unfolding tourBy placesOf
+  pub is-laid : IsLaid p t (amount amounts) (driveBy path p t amounts)
+  unfolding driveBy placesOf
   is-laid = record {
     legs = map leg (order p ok t amounts h path paths);
     places = flat-map leg placesOfLeg (places p t amounts path) leg-places (order p ok t amounts h path paths);

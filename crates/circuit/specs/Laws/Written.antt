@@ -1,15 +1,16 @@
 -- Legs written one after the other.
 use mathlib.Core.Path.{_≡_, refl, sym, ap, ap₂, _∙_}
-use mathlib.Core.List.{List, [], _∷_, _++_, flatMap, append-assoc}
+use mathlib.Core.List.{List, [], _∷_, _++_, flatMap, append-assoc, append-nil}
 use Prim.Native.Nat.{ℕ, _+_, _≤_, _<_}
 use native.Mathlib.Numerals.{add-one}
 use native.Mathlib.Omega.{arith}
 use lib.ListN.{length, getD, take, drop, set, length-append, length-drop, take-append-drop}
 use lib.Seq.{take-append-seam, drop-append-add, drop-drop, set-split, take-length}
+use Rattle.postman.specs.Laws.Lists.{flatMap-append}
 use Rattle.shortest.specs.Contracts.{overwrite}
-use Rattle.tour_legs.specs.Tour.{legPlaces, placesOf, written}
-use Rattle.tour_legs.specs.Laws.Tour.{places-number, places-path}
-use Rattle.hierholzer.specs.Laws.Lists.{append-nil, flat-append, take-one}
+use Rattle.drive_legs.specs.Drive.{legPlaces, placesOf, written}
+use Rattle.drive_legs.specs.Laws.Drive.{places-number, places-path}
+use Rattle.hierholzer.specs.Laws.Lists.{take-one}
 
 module _ (path : ℕ → ℕ → List ℕ) (numbers tails heads : List ℕ) where
   -- ---- one leg more
@@ -20,7 +21,7 @@ module _ (path : ℕ → ℕ → List ℕ) (numbers tails heads : List ℕ) wher
   unfolding placesOf flatMap
   places-more order x l =
       ap (flatMap (legPlaces path numbers tails heads)) (sym (take-one order x l))
-      ∙ flat-append (legPlaces path numbers tails heads) (take x order) (getD order x 0 ∷ [])
+      ∙ flatMap-append (legPlaces path numbers tails heads) (take x order) (getD order x 0 ∷ [])
       ∙ ap (λ z. flatMap (legPlaces path numbers tails heads) (take x order) ++ z)
       (append-nil (legPlaces path numbers tails heads (getD order x 0)))
 
@@ -30,7 +31,8 @@ module _ (path : ℕ → ℕ → List ℕ) (numbers tails heads : List ℕ) wher
   unfolding placesOf
   places-part order x =
       let f = legPlaces path numbers tails heads in
-      let e = ap (λ z. length (flatMap f z)) (sym (take-append-drop x order)) ∙ ap length (flat-append f (take x order) (drop x order)) in
+      let e = ap (λ z. length (flatMap f z)) (sym (take-append-drop x order))
+      ∙ ap length (flatMap-append f (take x order) (drop x order)) in
       let l = length-append (flatMap f (take x order)) (flatMap f (drop x order)) in
       omega arith
 

@@ -11,18 +11,16 @@ use lib.ListN.{length, getD}
 use lib.Seq.{ext-getD}
 use lib.Dec.{T, eqb, ltb, eqb→eq, ltb→lt, lt→ltb, T-not}
 use Rattle.postman.specs.Plan.{Arc, Plan, isRequiredArc, arcAt, requiredArcs, WellFormed}
-use Rattle.postman.specs.Tour.{IsWalk}
+use Rattle.postman.specs.Drive.{IsWalk}
 use Rattle.postman.specs.Required.{required}
 use Rattle.postman.specs.Component.{bothWays, component}
-use Rattle.postman.specs.Laws.Tests.{test, cond-ind, eqb-other}
+use Rattle.postman.specs.Laws.Tests.{test, cond-ind, eqb-other, is-true, of-not}
 use Rattle.postman.specs.Laws.Membership.{select-mem, getD-mem, mem-getD}
 use Rattle.postman.specs.Laws.Distance.{InPlan, bounded}
 use Rattle.postman.specs.Steps.{IsRequiredNumber}
-use Rattle.postman.specs.Laws.Required.{required-mem, number-ends}
+use Rattle.postman.specs.Laws.Required.{required-mem, number-ends, required-below}
 use Rattle.postman.specs.Laws.Component.{undirected, component-walk, arc-component}
 use Rattle.components.specs.Labels.{rename, mergeLabel, labelAfter, Labelled}
-use Rattle.required.specs.Laws.Search.{is-true, is-false}
-use Rattle.required.specs.Laws.RequiredVertex.{required-below}
 
 -- what holds of both ways along each arc holds of each arc of the graph without direction
 pub both-ways : (Q : ℕ → ℕ → Type 0) {x : Arc} (arcs : List Arc)
@@ -147,7 +145,7 @@ module _ (p : Plan) (ok : WellFormed p) where
                   let q : y ≤ x = not-below x y u in
                   let g : (v : ℕ) → v < 64 → getD new v 0 ≡ rename x y (getD labels v 0) =
                   λ v g. merged v g
-                  ∙ ap (λ b. cond b (rename y x (getD labels v 0)) (rename x y (getD labels v 0))) (is-false {b = ltb x y} u)
+                  ∙ ap (λ b. cond b (rename y x (getD labels v 0)) (rename x y (getD labels v 0))) (of-not {b = ltb x y} u)
                   in
                   labelled-more k new
                   (labelled-renamed k x y labels new h q (wh .0) (wh .1 ∙ sym e ∙ sym (wt .1)) (h .root (a .head) hh) size g)
@@ -155,7 +153,7 @@ module _ (p : Plan) (ok : WellFormed p) where
             ]
         | inr t ↦
             let same : (v : ℕ) → v < 64 → getD new v 0 ≡ getD labels v 0 =
-            λ v g. at v g ∙ ap (λ b. cond b (mergeLabel x y (getD labels v 0)) (getD labels v 0)) (is-false {b = isRequiredArc a} t)
+            λ v g. at v g ∙ ap (λ b. cond b (mergeLabel x y (getD labels v 0)) (getD labels v 0)) (of-not {b = isRequiredArc a} t)
             in
             labelled-more k new (labelled-same k labels new h size same) (λ n. absurd (T-not (isRequiredArc a) t (n .must)))
       ]

@@ -11,19 +11,18 @@ use lib.ListN.{length, getD}
 use lib.Dec.{T, eqb, ltb, eqb→eq, ltb→lt, lt→ltb, T-not, not-T}
 use Rattle.postman.specs.Lists.{select, below, anyOf}
 use Rattle.postman.specs.Plan.{Plan, arcAt, requiredArcs, WellFormed}
-use Rattle.postman.specs.Tour.{IsWalk}
+use Rattle.postman.specs.Drive.{IsWalk}
 use Rattle.postman.specs.Required.{isRequired, required}
 use Rattle.postman.specs.Component.{joined, lowest, component, componentCount}
-use Rattle.postman.specs.Laws.Tests.{test, same-test, and-both, and-parts, eqb-same}
+use Rattle.postman.specs.Laws.Tests.{test, same-test, and-both, and-parts, eqb-same, is-true, of-not}
 use Rattle.postman.specs.Laws.Membership.{select-mem, select-cong, getD-mem, anyOf-mem, anyOf-at, below-mem}
 use Rattle.postman.specs.Laws.Distance.{InPlan, bounded}
-use Rattle.postman.specs.Laws.Required.{required-ends, required-lt}
+use Rattle.postman.specs.Laws.Required.{required-ends, required-lt, required-below}
 use Rattle.postman.specs.Laws.Component.{undirected, joined-walk, walk-joined, walk-component, component-walk, component-at}
 use Rattle.postman.specs.Laws.FirstNumber.{index-none}
 use Rattle.required.specs.Contracts.{IsRequiredFlags}
 use Rattle.components.specs.Labels.{Labelled, isRoot, rootsBelow, numberOf}
-use Rattle.required.specs.Laws.Search.{is-true, is-false}
-use Rattle.required.specs.Laws.RequiredVertex.{required-of, of-required, required-below}
+use Rattle.required.specs.Laws.RequiredVertex.{required-of, of-required}
 use Rattle.postman.specs.Laws.Selection.{select-select, select-past, select-place}
 use Rattle.components.specs.Laws.Labels.{both-ways, component-label}
 
@@ -50,7 +49,7 @@ module _ (p : Plan) (ok : WellFormed p) where
   unfolding component componentCount lowest
   component-none v n =
       index-none (λ r. joined p r v) (lowest p) (λ r m.
-      is-false {b = joined p r v} (not-T (joined p r v) (λ t.
+      of-not {b = joined p r v} (not-T (joined p r v) (λ t.
       let w = joined-walk p ends r v t in
       let q = select-mem (λ v. not (anyOf (λ u. ltb u v && joined p u v) (required p))) (required p) m .0 in
       T-not (isRequired p v) n (of-required p ok (walk-required (w .0) r v q (w .1))))))
@@ -96,7 +95,7 @@ module _ (p : Plan) (ok : WellFormed p) where
     roots-count =
         ap length (select-past (isRoot r labels) (p .n) 64 (ok .vertices) (λ v g l.
         ap (λ b. b && eqb (getD labels v 0) v)
-        (flags v l ∙ is-false {b = isRequired p v}
+        (flags v l ∙ of-not {b = isRequired p v}
         (not-T (isRequired p v) (λ t. let n = required-lt p (required-of p ok t) in omega arith))))
         ∙ sym lowest-roots)
 
@@ -125,6 +124,6 @@ module _ (p : Plan) (ok : WellFormed p) where
           ap (λ b. cond b (rootsBelow r labels (getD labels v 0)) (rootsBelow r labels 64)) (flags v l ∙ is-true {b = isRequired p v} t)
           ∙ root-component (required-of p ok t)
       | inr t ↦
-          ap (λ b. cond b (rootsBelow r labels (getD labels v 0)) (rootsBelow r labels 64)) (flags v l ∙ is-false {b = isRequired p v} t)
+          ap (λ b. cond b (rootsBelow r labels (getD labels v 0)) (rootsBelow r labels 64)) (flags v l ∙ of-not {b = isRequired p v} t)
           ∙ roots-count ∙ sym (component-none v t)
     ]

@@ -1,13 +1,13 @@
 -- The chain of refusals, and the whole call: as the plan call's, with 23 between 9 and 10.
-use mathlib.Core.Path.{_≡_, refl, sym, ap, _∙_, subst, subst⁻¹}
-use mathlib.Core.Bool.{Bool, true, false, not}
+use mathlib.Core.Path.{_≡_, refl, sym, ap, _∙_, subst}
+use mathlib.Core.Bool.{true, false}
 use mathlib.Core.List.{List, [], _∷_, _++_}
 use mathlib.Core.Option.{Option, none, some, Option·some-ne-none}
 use Prim.Native.Nat.{ℕ, _≤_, _<_}
 use native.Mathlib.Omega.{arith}
 use borrow.Author.Tests.{lt-ltb, le-ltb}
 use lib.ListN.{length}
-use lib.Dec.{T, ltb}
+use lib.Dec.{ltb}
 use Rattle.postman.specs.Plan.{Plan, WellFormed}
 use Rattle.postman.specs.Refusal.{Conditions, firstRefusal, answer, unless}
 use Rattle.postman.specs.PlanFile.{fileConditions, isOutside, planOf}
@@ -15,6 +15,7 @@ use Rattle.postman.specs.PlanCall.{callConditions, lastConditions, callRefusal,
 use Rattle.postman.specs.Laws.Theorem.{last-cut-off}
 use Rattle.postman.specs.Laws.Acceptance.{inside, before-accepted, file-accepted}
 use Rattle.postman.specs.Laws.Refusal.{Other, accepted-cons, first-on, first-stop, before-order, before-other, own-passed}
+use Rattle.postman.specs.Laws.Tests.{of-not}
 use Rattle.plan.specs.Records.{planValue}
 use Rattle.refusal.specs.declared.Refusal.{Refusal}
 use Rattle.refusal.specs.Verdict.{refusalNumber}
@@ -26,6 +27,7 @@ use Rattle.solution.specs.Planned.{countUnless}
 use Rattle.call_steps.specs.Refusals.{planRefusal}
 use Rattle.call_steps.specs.Refused.{refusedWith}
 use Rattle.call_steps.specs.Laws.Call.{parts-refusal}
+use Rattle.call_steps.specs.Laws.Answer.{answer-as, refused-answer, read-answer, file-refused-answer}
 use Rattle.deep_call.specs.Refusals.{highestRounds, roundConditions, earlierConditionsIn, deepRefusal}
 use Rattle.deep_call.specs.Contract.{multipliersUnless, IsDeep, IsDeepCall}
 
@@ -34,7 +36,7 @@ use Rattle.deep_call.specs.Contract.{multipliersUnless, IsDeep, IsDeepCa
 pub deep-as : (p q : Plan) (budget rounds : ℕ) (o o′ : Option ℕ) (old new : List ℕ) (x : Planned) → p ≡ q → o ≡ o′
     → IsDeep p budget rounds o old new x → IsDeep q budget rounds o′ old new x
 deep-as p q budget rounds o o′ old new x e h i =
-    subst (λ (q : Plan). IsDeep q budget rounds o′ old new x) e (subst (λ (o : Option ℕ). IsDeep p budget rounds o old new x) h i)
+    answer-as (λ p o new x. IsDeep p budget rounds o old new x) p q o o′ new x e h i
 
 is-refused : (p : Plan) (budget rounds : ℕ) (old : List ℕ) (r : Refusal)
     → IsDeep p budget rounds (some (refusalNumber r)) old old (refusedWith r)
@@ -51,8 +53,7 @@ is-refused p budget rounds old r = record {
 pub refused-deep : (p : Plan) (budget rounds : ℕ) (o : Option ℕ) (old : List ℕ) (r : Refusal) (x : Planned) → x ≡ refusedWith r
     → o ≡ some (refusalNumber r) → IsDeep p budget rounds o old old x
 refused-deep p budget rounds o old r x e h =
-    subst⁻¹ (λ (x : Planned). IsDeep p budget rounds o old old x) e
-    (subst⁻¹ (λ (o : Option ℕ). IsDeep p budget rounds o old old (refusedWith r)) h (is-refused p budget rounds old r))
+    refused-answer (λ p o new x. IsDeep p budget rounds o old new x) old (λ p r. is-refused p budget rounds old r) p o r x e h
 
 pub step-refused : (p : Plan) (budget rounds : ℕ) (cs ds : Conditions) (old : List ℕ) (r : Refusal) (x : Planned) → x ≡ refusedWith r
     → firstRefusal cs ≡ some (refusalNumber r)
@@ -65,9 +66,6 @@ pub step-on : (p : Plan) (budget rounds : ℕ) (cs ds : Conditions) (old new : L
 step-on p budget rounds cs ds old new x h i = deep-as p p budget rounds _ _ old new x refl (sym (first-on cs ds h)) i
 
 -- ---- 23
-
-of-false : (b : Bool) → T (not b) → b ≡ false
-of-false false t = refl
 
 module _ (rounds : ℕ) where
   pub few-rounds : rounds < 1 → true ≡ isOutside rounds 1 highestRounds
@@ -92,7 +90,7 @@ module _ (rounds : ℕ) where
 
   pub rounds-accepted : firstRefusal (roundConditions rounds) ≡ none → rounds ≤ 1000
   unfolding roundConditions highestRounds
-  rounds-accepted e = inside rounds 1 1000 (of-false _ (accepted-cons _ _ _ e .0)) .1
+  rounds-accepted e = inside rounds 1 1000 (of-not (accepted-cons _ _ _ e .0)) .1
 
   pub rounds-other : Other 12 (roundConditions rounds)
   unfolding roundConditions
@@ -112,8 +110,15 @@ module _ (bytes : List ℕ) (budget rounds : ℕ) (old new : List ℕ) (r : Plan
   abbrev own : Conditions
   own = roundConditions rounds
 
+  abbrev Answered : Plan → Option ℕ → List ℕ → Planned → Type 0
+  Answered p o new x = IsDeep p budget rounds o old new x
+
+  -- the conditions after the file's
+  abbrev later : Plan → Conditions
+  later p = callConditions budget (length old) ++ (own ++ lastConditions p)
+
   abbrev Called : Type 0
-  Called = IsDeep p budget rounds (deepRefusal bytes budget rounds (length old)) old new r
+  Called = Answered p (deepRefusal bytes budget rounds (length old)) new r
 
   conditions : deepRefusal bytes budget rounds (length old)
       ≡ firstRefusal (earlierConditionsIn bytes budget rounds (length old) ++ (isCutOff p, 12) ∷ [])
@@ -125,7 +130,7 @@ module _ (bytes : List ℕ) (budget rounds : ℕ) (old new : List ℕ) (r : Plan
   other = before-other bytes budget (length old) own p (rounds-other rounds)
 
   order : deepRefusal bytes budget rounds (length old)
-      ≡ firstRefusal (fileConditions bytes ++ (callConditions budget (length old) ++ (own ++ lastConditions p)))
+      ≡ firstRefusal (fileConditions bytes ++ later p)
   unfolding deepRefusal earlierConditionsIn
   order = ap firstRefusal (before-order bytes budget (length old) own p ((isCutOff p, 12) ∷ []))
 
@@ -141,18 +146,14 @@ module _ (bytes : List ℕ) (budget rounds : ℕ) (old new : List ℕ) (r : Plan
   pub file-refused-deep : (x : Refusal) → r ≡ refusedWith x → old ≡ new → firstRefusal (fileConditions bytes) ≡ some (refusalNumber x)
       → Called
   file-refused-deep x h s e =
-      subst (λ (new : List ℕ). IsDeep p budget rounds (deepRefusal bytes budget rounds (length old)) old new r) s
-      (refused-deep p budget rounds _ old x r h (order ∙ first-stop (fileConditions bytes) _ _ e))
+      subst (λ (new : List ℕ). Answered p (deepRefusal bytes budget rounds (length old)) new r) s
+      (file-refused-answer Answered old (λ p x. is-refused p budget rounds old x) bytes p (later p) _ x r order e h)
 
   -- one that is not gives its plan
   pub read-deep : (x : Reading) → IsReading bytes x → firstRefusal (fileConditions bytes) ≡ none
-      → IsDeep (planValue (x .plan)) budget rounds
-      (firstRefusal (callConditions budget (length old) ++ (own ++ lastConditions (planValue (x .plan))))) old new r → Called
+      → Answered (planValue (x .plan)) (firstRefusal (later (planValue (x .plan)))) new r → Called
   read-deep x h e i =
-      let v = accepted-value bytes x h e in
-      deep-as _ p budget rounds _ _ old new r v
-      (ap (λ (p : Plan). firstRefusal (callConditions budget (length old) ++ (own ++ lastConditions p))) v
-      ∙ sym (order ∙ first-on (fileConditions bytes) _ e)) i
+      read-answer Answered bytes (planValue (x .plan)) (λ p. p) later _ new r order e (accepted-value bytes x h e) i
 
   -- with one round nothing but the plan call's refusals is left
   pub as-call-refusal : firstRefusal own ≡ none → deepRefusal bytes budget rounds (length old) ≡ callRefusal bytes budget (length old)

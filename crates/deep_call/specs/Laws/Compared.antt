@@ -1,41 +1,37 @@
--- Calls compared. After one round what is kept is what the plan call answers; after more it is no worse, and once closed it stays.
-use mathlib.Core.Path.{_≡_, refl, sym, ap, ap₂, _∙_, subst, subst⁻¹}
-use mathlib.Core.Bool.{Bool, true}
+-- Calls compared. After one round what is kept is what the plan call answers; after more it is no worse, and once floor and cost have met
+-- it stays.
+use mathlib.Core.Path.{_≡_, refl, sym, ap, ap₂, _∙_, subst}
+use mathlib.Core.Bool.{true}
 use mathlib.Core.List.{List, [], _∷_}
 use mathlib.Core.Option.{Option, none, some}
 use Prim.Native.Nat.{ℕ, _+_, _-_, _≤_}
 use native.Mathlib.Omega.{arith}
 use lib.ListN.{length, take, drop}
 use lib.Seq.{take-append-seam}
-use lib.Dec.{T}
 use lib.IntN.{ℤ}
 use lib.Signed.{_≤ℤ_}
 use Rattle.postman.specs.Plan.{Plan}
-use Rattle.postman.specs.Refusal.{given, firstRefusal, answer, unless}
+use Rattle.postman.specs.Refusal.{firstRefusal, answer, unless}
 use Rattle.postman.specs.PlanFile.{fileConditions, isOutside, planOf}
 use Rattle.postman.specs.Component.{componentCount}
-use Rattle.postman.specs.Judge.{highestPlaces, judgeAnswer}
-use Rattle.postman.specs.Laws.Judge.{file-judged}
-use Rattle.postman.specs.PlanCall.{Summary, summary, fields, bestCost, triedCount, highestBudget, isCutOff, sheetPlaces}
+use Rattle.postman.specs.PlanCall.{Summary, summary, fields, bestCost, triedCount, highestBudget, isCutOff}
 use Rattle.postman.specs.Laws.Refusal.{accepted-cons, accepted-append}
 use Rattle.postman.specs.Laws.Acceptance.{before-accepted, file-accepted}
 use Rattle.postman.specs.Steps.{Plannable}
 use Rattle.multipliers.specs.Ascent.{multipliersFor}
-use Rattle.multipliers.specs.Tour.{tourOf}
-use Rattle.tour_legs.specs.Tour.{written}
-use Rattle.refusal.specs.Verdict.{verdictNumber}
+use Rattle.multipliers.specs.Drive.{driveOf}
+use Rattle.drive_legs.specs.Drive.{written}
 use Rattle.solution.specs.declared.Planned.{Planned}
 use Rattle.solution.specs.Planned.{summaryOf, countUnless, IsPlanned}
 use Rattle.solution.specs.Laws.Answered.{cost-is, floor-is}
-use Rattle.planner.specs.Contract.{IsPlanCall}
 use Rattle.round_rule.specs.declared.kept.Kept.{Kept}
-use Rattle.round_rule.specs.Rounds.{under, floorOf, begun, isClosed, keptAfter, kept, deepSummary, deepTour}
+use Rattle.round_rule.specs.Rounds.{under, floorOf, begun, haveMet, keptAfter, kept, deepSummary, deepDrive}
 use Rattle.deep_call.specs.Refusals.{highestRounds, roundConditions, earlierConditionsIn, deepRefusal}
-use Rattle.deep_call.specs.Contract.{multipliersUnless, IsDeep, IsDeepCall}
-use Rattle.deep_call.specs.Compared.{SameButWhole, NoWorse, Deepens}
-use Rattle.round_rule.specs.Laws.Kept.{under-unchanged, more-better, closed-stays}
+use Rattle.deep_call.specs.Contract.{multipliersUnless, IsDeep}
+use Rattle.deep_call.specs.Compared.{SameButWhole}
+use Rattle.round_rule.specs.Laws.Kept.{under-unchanged, more-better, met-stays}
 use Rattle.deep_call.specs.Laws.Answer.{is-tried}
-use Rattle.deep_call.specs.Laws.Call.{as-call-refusal, rounds-good, rounds-accepted}
+use Rattle.deep_call.specs.Laws.Call.{rounds-good, rounds-accepted}
 
 -- ---- what is read off an answer that is no refusal
 
@@ -52,7 +48,7 @@ module _ (p : Plan) (budget rounds : ℕ) (old new : List ℕ) (r : Planned) (i 
   unfolding deepSummary
   floor-deep = ap (λ (x : Summary). x .floor) summary-deep
 
-  pub whole-deep : r .whole ≡ isClosed (kept p budget rounds)
+  pub whole-deep : r .whole ≡ haveMet (kept p budget rounds)
   unfolding deepSummary
   whole-deep = ap (λ (x : Summary). x .whole) summary-deep
 
@@ -60,10 +56,10 @@ module _ (p : Plan) (budget rounds : ℕ) (old new : List ℕ) (r : Planned) (i 
   unfolding multipliersUnless
   multipliers-deep = i .multipliers-are
 
-  pub drive-deep : take (r .places) new ≡ deepTour p budget rounds
+  pub drive-deep : take (r .places) new ≡ deepDrive p budget rounds
   unfolding unless countUnless written
   drive-deep =
-      ap₂ take (i .places-are) (i .sheet) ∙ take-append-seam (deepTour p budget rounds) (drop (length (deepTour p budget rounds)) old)
+      ap₂ take (i .places-are) (i .sheet) ∙ take-append-seam (deepDrive p budget rounds) (drop (length (deepDrive p budget rounds)) old)
 
 -- ---- a call that is not refused
 
@@ -103,9 +99,9 @@ module _ (bytes : List ℕ) (budget rounds places : ℕ) (e : deepRefusal bytes 
 -- ---- one round
 
 module _ (p : Plan) (budget : ℕ) where
-  pub first-tour : deepTour p budget 1 ≡ tourOf p budget
-  unfolding deepTour kept keptAfter begun
-  first-tour = ap (λ (q : Plan). tourOf q budget) (under-unchanged p)
+  pub first-drive : deepDrive p budget 1 ≡ driveOf p budget
+  unfolding deepDrive kept keptAfter begun
+  first-drive = ap (λ (q : Plan). driveOf q budget) (under-unchanged p)
 
   pub first-cost : kept p budget 1 .cost ≡ bestCost p budget
   unfolding kept keptAfter begun
@@ -128,20 +124,20 @@ module _ (p : Plan) (budget : ℕ) where
   first-multipliers = refl
 
   module _ (old new new′ : List ℕ) (r s : Planned) where
-    same : (o : Option ℕ) → IsDeep p budget 1 o old new r → IsPlanned p budget o old new′ s → SameButWhole r s × (new ≡ new′)
+    pub same : (o : Option ℕ) → IsDeep p budget 1 o old new r → IsPlanned p budget o old new′ s → SameButWhole r s × (new ≡ new′)
     unfolding answer fields unless countUnless multipliersUnless summary
     same none i j =
         let t = is-tried p budget none old new′ s j refl in (
           record {
             refusal = i .verdict ∙ sym (j .verdict);
-            places = i .places-are ∙ ap length first-tour ∙ sym (j .places-are);
+            places = i .places-are ∙ ap length first-drive ∙ sym (j .places-are);
             cost = cost-deep p budget 1 old new r i ∙ first-cost ∙ sym (t .cost-is);
             floor = floor-deep p budget 1 old new r i ∙ first-floor ∙ sym (t .floor-is);
             trees = ap (λ (x : Summary). x .trees) (i .summary-is) ∙ first-trees ∙ sym (t .trees-are);
             parts = ap (λ (x : Summary). x .parts) (i .summary-is) ∙ first-parts ∙ sym (ap (λ (x : Summary). x .parts) (j .summary-is));
             multipliers = i .multipliers-are ∙ first-multipliers ∙ sym (t .multipliers-are);
           },
-          i .sheet ∙ ap (λ (w : List ℕ). written w old) first-tour ∙ sym (j .sheet),
+          i .sheet ∙ ap (λ (w : List ℕ). written w old) first-drive ∙ sym (j .sheet),
         )
     same (some k) i j = (
       record {
@@ -156,21 +152,14 @@ module _ (p : Plan) (budget : ℕ) where
       i .sheet ∙ sym (j .sheet),
     )
 
-one-good : firstRefusal (roundConditions 1) ≡ none
+pub one-good : firstRefusal (roundConditions 1) ≡ none
 unfolding isOutside highestRounds
 one-good = rounds-good 1 refl
-
-pub first-same : (bytes : List ℕ) (budget : ℕ) (old new new′ : List ℕ) (r s : Planned) → IsDeepCall bytes budget 1 old new r
-    → IsPlanCall bytes budget old new′ s → SameButWhole r s × (new ≡ new′)
-first-same bytes budget old new new′ r s d c =
-    same (planOf bytes) budget old new new′ r s _
-    (subst (λ (o : Option ℕ). IsDeep (planOf bytes) budget 1 o old new r) (as-call-refusal bytes budget 1 old new r one-good) (d .deep))
-    (c .planned)
 
 -- ---- more rounds
 
 module _ (bytes : List ℕ) (budget y : ℕ) (a : DeepAccepted bytes budget y) where
-  kept-better : (x : ℕ) → x ≤ y
+  pub kept-better : (x : ℕ) → x ≤ y
       → (kept (planOf bytes) budget y .cost ≤ kept (planOf bytes) budget x .cost)
       × (kept (planOf bytes) budget x .floor ≤ℤ kept (planOf bytes) budget y .floor)
   unfolding kept
@@ -182,7 +171,7 @@ module _ (bytes : List ℕ) (budget y : ℕ) (a : DeepAccepted bytes budget y) w
       (let f = a .few-rounds in omega arith))
 
   -- from the first round on, which no rounds at all would leave too
-  from-first : (kept (planOf bytes) budget y .cost ≤ kept (planOf bytes) budget 1 .cost)
+  pub from-first : (kept (planOf bytes) budget y .cost ≤ kept (planOf bytes) budget 1 .cost)
       × (kept (planOf bytes) budget 1 .floor ≤ℤ kept (planOf bytes) budget y .floor)
   unfolding kept
   from-first =
@@ -191,76 +180,17 @@ module _ (bytes : List ℕ) (budget y : ℕ) (a : DeepAccepted bytes budget y) w
       × (keptAfter (planOf bytes) budget 0 .floor ≤ℤ keptAfter (planOf bytes) budget n .floor)) e
       (more-better (planOf bytes) (a .plannable) (a .few) budget (a .some-budget) (a .low) 0 (y - 1) (let f = a .few-rounds in omega arith))
 
-is-true : (b : Bool) → T b → b ≡ true
-is-true true t = refl
-
-same-summary : (p : Plan) (budget x y : ℕ) → kept p budget y ≡ kept p budget x → deepSummary p budget y ≡ deepSummary p budget x
+pub same-summary : (p : Plan) (budget x y : ℕ) → kept p budget y ≡ kept p budget x → deepSummary p budget y ≡ deepSummary p budget x
 unfolding deepSummary
 same-summary p budget x y e =
-    ap (λ (k : Kept). record { cost = k .cost; floor = k .floor; trees = k .trees; whole = isClosed k; parts = componentCount p }) e
+    ap (λ (k : Kept). record { cost = k .cost; floor = k .floor; trees = k .trees; whole = haveMet k; parts = componentCount p }) e
 
-same-tour : (p : Plan) (budget x y : ℕ) → kept p budget y ≡ kept p budget x → deepTour p budget y ≡ deepTour p budget x
-unfolding deepTour
-same-tour p budget x y e = ap (λ (k : Kept). tourOf (under p (k .drive .numbering)) (k .drive .tries)) e
+pub same-drive : (p : Plan) (budget x y : ℕ) → kept p budget y ≡ kept p budget x → deepDrive p budget y ≡ deepDrive p budget x
+unfolding deepDrive
+same-drive p budget x y e = ap (λ (k : Kept). driveOf (under p (k .drive .numbering)) (k .drive .tries)) e
 
-kept-closed : (p : Plan) (budget x y : ℕ) → x ≤ y → isClosed (kept p budget x) ≡ true → kept p budget y ≡ kept p budget x
+pub kept-met : (p : Plan) (budget x y : ℕ) → x ≤ y → haveMet (kept p budget x) ≡ true → kept p budget y ≡ kept p budget x
 unfolding kept
-kept-closed p budget x y l c =
+kept-met p budget x y l c =
     let e : (y - 1) - (x - 1) + (x - 1) ≡ y - 1 = omega arith in
-    ap (keptAfter p budget) (sym e) ∙ closed-stays p budget (x - 1) ((y - 1) - (x - 1)) c
-
-pub first-no-worse : (bytes : List ℕ) (budget rounds : ℕ) (old new old′ new′ : List ℕ) (r s : Planned) → IsPlanCall bytes budget old new r
-    → IsDeepCall bytes budget rounds old′ new′ s
-    → verdictNumber (r .verdict) ≡ none → verdictNumber (s .verdict) ≡ none → NoWorse r s
-first-no-worse bytes budget rounds old new old′ new′ r s c d good-c good-d =
-    let p = planOf bytes in
-    let e = sym (d .deep .verdict) ∙ good-d in
-    let i = subst (λ (o : Option ℕ). IsDeep p budget rounds o old′ new′ s) e (d .deep) in
-    let t = is-tried p budget _ old new r (c .planned) (sym (c .planned .verdict) ∙ good-c) in
-    let b = from-first bytes budget rounds (deep-accepted bytes budget rounds (length old′) e) in
-    record {
-      no-dearer = subst⁻¹ (λ x. s .cost ≤ x) (t .cost-is ∙ sym (first-cost p budget))
-          (subst⁻¹ (λ x. x ≤ kept p budget 1 .cost) (cost-deep p budget rounds old′ new′ s i) (b .0));
-      no-lower = subst⁻¹ (λ x. x ≤ℤ s .floor) (t .floor-is ∙ sym (first-floor p budget))
-          (subst⁻¹ (λ x. kept p budget 1 .floor ≤ℤ x) (floor-deep p budget rounds old′ new′ s i) (b .1));
-    }
-
-pub deepens : (bytes : List ℕ) (budget a b : ℕ) → a ≤ b → (old new old′ new′ : List ℕ) (r s : Planned)
-    → IsDeepCall bytes budget a old new r → IsDeepCall bytes budget b old′ new′ s
-    → verdictNumber (r .verdict) ≡ none → verdictNumber (s .verdict) ≡ none → Deepens r s new new′
-deepens bytes budget a b more old new old′ new′ r s x y good-x good-y =
-    let p = planOf bytes in
-    let ex = sym (x .deep .verdict) ∙ good-x in
-    let ey = sym (y .deep .verdict) ∙ good-y in
-    let i = subst (λ (o : Option ℕ). IsDeep p budget a o old new r) ex (x .deep) in
-    let j = subst (λ (o : Option ℕ). IsDeep p budget b o old′ new′ s) ey (y .deep) in
-    let g = kept-better bytes budget b (deep-accepted bytes budget b (length old′) ey) a more in
-    let met : T (r .whole) → kept p budget b ≡ kept p budget a =
-    λ t. kept-closed p budget a b more (sym (whole-deep p budget a old new r i) ∙ is-true (r .whole) t) in
-    record {
-      no-worse = record {
-        no-dearer = subst⁻¹ (λ c. s .cost ≤ c) (cost-deep p budget a old new r i)
-            (subst⁻¹ (λ c. c ≤ kept p budget a .cost) (cost-deep p budget b old′ new′ s j) (g .0));
-        no-lower = subst⁻¹ (λ f. f ≤ℤ s .floor) (floor-deep p budget a old new r i)
-            (subst⁻¹ (λ f. kept p budget a .floor ≤ℤ f) (floor-deep p budget b old′ new′ s j) (g .1));
-      };
-      closed-fields =
-          λ t. summary-deep p budget b old′ new′ s j ∙ same-summary p budget a b (met t) ∙ sym (summary-deep p budget a old new r i);
-      closed-multipliers =
-          λ t. multipliers-deep p budget b old′ new′ s j ∙ ap (λ (k : Kept). k .multipliers) (met t)
-          ∙ sym (multipliers-deep p budget a old new r i);
-      closed-drive = λ t. drive-deep p budget b old′ new′ s j ∙ same-tour p budget a b (met t) ∙ sym (drive-deep p budget a old new r i);
-    }
-
--- ---- the judge
-
-pub deep-judged : (bytes : List ℕ) (budget rounds : ℕ) (old new : List ℕ) (r : Planned) → IsDeepCall bytes budget rounds old new r
-    → verdictNumber (r .verdict) ≡ none
-    → judgeAnswer bytes (take (r .places) new) ≡ given (r .cost)
-unfolding highestPlaces sheetPlaces
-deep-judged bytes budget rounds old new r d good =
-    let e = sym (d .deep .verdict) ∙ good in
-    let a = deep-accepted bytes budget rounds (length old) e in
-    let t = d .deep .answered e in
-    let l = t .drive .short in
-    file-judged bytes (take (r .places) new) (a .file) (a .plannable .some-arc) (omega arith) (t .drive .tour) ∙ ap given (t .costs)
+    ap (keptAfter p budget) (sym e) ∙ met-stays p budget (x - 1) ((y - 1) - (x - 1)) c

@@ -11,13 +11,13 @@ use lib.Signed.{leZ}
 use Rattle.postman.specs.Plan.{Plan, WellFormed}
 use Rattle.postman.specs.Component.{componentCount}
 use Rattle.postman.specs.Laws.RenumberedComponents.{count-renumbered}
-use Rattle.tour_legs.specs.Tour.{written}
-use Rattle.multipliers.specs.Tour.{tourOf}
+use Rattle.drive_legs.specs.Drive.{written}
+use Rattle.multipliers.specs.Drive.{driveOf}
 use Rattle.refusal.specs.declared.Verdict.the-variants.{Accepted}
 use Rattle.call_steps.specs.Refusals.{planRefusal}
 use Rattle.held_tree.specs.declared.laid.Laid.{Laid}
 use Rattle.round_rule.specs.declared.kept.Kept.{Kept}
-use Rattle.round_rule.specs.Rounds.{under, isClosed, keptAfter, kept, deepSummary, deepTour}
+use Rattle.round_rule.specs.Rounds.{under, haveMet, keptAfter, kept, deepSummary, deepDrive}
 use Rattle.round_rule.specs.Laws.Tables.{plan-accepted}
 use Rattle.rounds.specs.Laws.Round.{is-kept-after}
 use Rattle.deep_call.specs.Contract.{IsDeep}
@@ -25,8 +25,8 @@ use Rattle.deep_call.specs.Laws.Answer.{is-deep}
 
 module _ (p : Plan) (ok : WellFormed p) (accepted : planRefusal p ≡ none) (budget : ℕ) (some-trees : 1 ≤ budget) (low : budget ≤ 1000000)
     (rounds : ℕ) (few-rounds : rounds ≤ 1000) (k : Kept) (e : k ≡ keptAfter p budget (rounds - 1)) (old new : List ℕ) (a : Laid)
-    (sheet : new ≡ written (tourOf (under p (k .drive .numbering)) (k .drive .tries)) old)
-    (places : a .places ≡ length (tourOf (under p (k .drive .numbering)) (k .drive .tries)))
+    (sheet : new ≡ written (driveOf (under p (k .drive .numbering)) (k .drive .tries)) old)
+    (places : a .places ≡ length (driveOf (under p (k .drive .numbering)) (k .drive .tries)))
     (parts : a .parts ≡ componentCount (under p (k .drive .numbering))) where
   as-kept : k ≡ kept p budget rounds
   unfolding kept
@@ -36,13 +36,13 @@ module _ (p : Plan) (ok : WellFormed p) (accepted : planRefusal p ≡ none) (bud
   parts-are = parts
       ∙ count-renumbered p ok (is-kept-after p ok accepted budget some-trees low (rounds - 1) k (omega arith) e .drive-numbering .numbers)
 
-  tour-is : tourOf (under p (k .drive .numbering)) (k .drive .tries) ≡ deepTour p budget rounds
-  unfolding deepTour
-  tour-is = ap (λ (k : Kept). tourOf (under p (k .drive .numbering)) (k .drive .tries)) as-kept
+  laid-drive : driveOf (under p (k .drive .numbering)) (k .drive .tries) ≡ deepDrive p budget rounds
+  unfolding deepDrive
+  laid-drive = ap (λ (k : Kept). driveOf (under p (k .drive .numbering)) (k .drive .tries)) as-kept
 
   fields-are : (f : ℤ) (b : Bool) → f ≡ k .floor → b ≡ leZ (pos (k .cost)) f
       → record { cost = k .cost; floor = f; trees = k .trees; whole = b; parts = a .parts } ≡ deepSummary p budget rounds
-  unfolding deepSummary isClosed
+  unfolding deepSummary haveMet
   fields-are f b ef eb =
       (λ j. record { cost = k .cost; floor = ef j; trees = k .trees; whole = (eb ∙ ap (leZ (pos (k .cost))) ef) j; parts = parts-are j })
       ∙ ap (λ (k : Kept). record {
@@ -67,5 +67,5 @@ module _ (p : Plan) (ok : WellFormed p) (accepted : planRefusal p ≡ none) (bud
       })
   laid-best f b ef eb =
       let ac = plan-accepted p ok accepted in
-      is-deep p (ac .0) (ac .1) budget some-trees low rounds few-rounds old new _ (sheet ∙ ap (λ (w : List ℕ). written w old) tour-is)
-      (places ∙ ap length tour-is) refl (fields-are f b ef eb) (ap (λ (k : Kept). k .multipliers) as-kept)
+      is-deep p (ac .0) (ac .1) budget some-trees low rounds few-rounds old new _ (sheet ∙ ap (λ (w : List ℕ). written w old) laid-drive)
+      (places ∙ ap length laid-drive) refl (fields-are f b ef eb) (ap (λ (k : Kept). k .multipliers) as-kept)

@@ -1,18 +1,18 @@
 -- For a plan that is not cut off: the state that counts its required arcs and the links of t holds a least balancing and its cost, and the
 -- multipliers drawn from the state of no link are the greatest.
-use mathlib.Core.Path.{_≡_, refl, sym, ap, ap₂, _∙_, subst₂, subst⁻¹, fun-ext}
+use mathlib.Core.Path.{_≡_, refl, sym, ap, _∙_, subst₂, subst⁻¹}
 use mathlib.Core.Logic.{_⊎_, inl, inr}
-use mathlib.Core.Bool.{Bool, not}
+use mathlib.Core.Bool.{not}
 use mathlib.Core.List.{List, [], _∷_, _++_, map, List·Memᴰ, List·Memᴰ·head, List·Memᴰ·tail, List·Memᴰ·not-nil, List·Memᴰ·append-cases}
-use Prim.Native.Nat.{ℕ, suc, _+_, _*_, _-_, _≤_, _<_}
+use Prim.Native.Nat.{ℕ, _+_, _*_, _-_, _≤_, _<_}
 use native.Mathlib.Nat.{mul-le-mul-right, zero-mul, suc-mul}
 use native.Mathlib.Omega.{arith}
 use lib.ListN.{length, getD, length-map, length-append}
-use lib.IntN.{ℤ, pos, natAbs, _+ℤ_, _-ℤ_, _*ℤ_}
+use lib.IntN.{ℤ, pos, natAbs, _+ℤ_}
 use lib.Signed.{_≤ℤ_}
 use lib.Dec.{T}
-use Rattle.integers.specs.Linear.{z, zl, zm, pos-abs}
-use Rattle.postman.specs.Lists.{select, below, sumOfℤ, occurrences}
+use Rattle.integers.specs.Linear.{z, zl, pos-abs}
+use Rattle.postman.specs.Lists.{select, below, sumOfℤ}
 use Rattle.postman.specs.Plan.{Arc, Plan, isRequiredArc, requiredArcs, WellFormed}
 use Rattle.postman.specs.Required.{isRequired, required}
 use Rattle.postman.specs.Distance.{distance}
@@ -20,16 +20,16 @@ use Rattle.postman.specs.Link.{Link}
 use Rattle.postman.specs.Balancing.{heads, tails, imbalance, sumOver, IsBalancing, balancingCost, leastBalancing}
 use Rattle.postman.specs.LagrangianBound.{Multipliers, reducedCost, priceOfImbalance, AreMultipliers, AreGreatest}
 use Rattle.postman.specs.PlanCall.{isCutOff}
-use Rattle.postman.specs.Laws.Tests.{cond-ind}
 use Rattle.postman.specs.Laws.Membership.{map-mem, length-below}
 use Rattle.postman.specs.Laws.Occurrences.{mem?}
 use Rattle.postman.specs.Laws.Distance.{InPlan, bounded, triangle, distance-self, distance-bound}
-use Rattle.postman.specs.Laws.Required.{required-lt, required-once, required-ends}
+use Rattle.postman.specs.Laws.Required.{required-lt, required-once, required-ends, required-below}
 use Rattle.postman.specs.Laws.Amounts.{Within, difference}
 use Rattle.postman.specs.Steps.{Joins, amount}
 use Rattle.postman.specs.Laws.Balancing.{within-heads, within-tails, same-length}
 use Rattle.postman.specs.Laws.Existence.{linked}
-use Rattle.postman.specs.Laws.SignedSum.{sum-sub, sum-occurrences}
+use Rattle.postman.specs.Laws.Selection.{select-length}
+use Rattle.postman.specs.Laws.LagrangianBound.{price-split}
 use Rattle.balance.specs.Optimality.{ArePotentials, Tight, sent, received}
 use Rattle.residual_search.specs.Step.{State, potential, empty, add, addAll}
 use Rattle.balance.specs.Multipliers.{multipliers}
@@ -53,20 +53,6 @@ signed-shift (x ∷ xs) v q c h =
     let e = suc-mul (length xs) c in
     simp zl (omega (arith, z, simp zl at a, simp zl at b))
 
--- the sum of u(i) × D(i), with the links counted, is the sum of u over the heads less that over the tails
-price-ends : (p : Plan) → InPlan p → (t : List Link) → Joins p t → (u : Multipliers)
-    → sumOfℤ (map (λ i. u i *ℤ imbalance p t i) (required p)) ≡ sumOfℤ (map u (heads p t)) -ℤ sumOfℤ (map u (tails p t))
-unfolding imbalance
-price-ends p ok t j u =
-    ap (λ (f : ℕ → ℤ). sumOfℤ (map f (required p)))
-    (fun-ext (λ i. times-sub (u i) (pos (occurrences i (heads p t))) (pos (occurrences i (tails p t)))))
-    ∙ sum-sub (λ i. u i *ℤ pos (occurrences i (heads p t))) (λ i. u i *ℤ pos (occurrences i (tails p t))) (required p)
-    ∙ ap₂ _-ℤ_ (sum-occurrences u (required p) (heads p t) (within-heads p ok t j))
-    (sum-occurrences u (required p) (tails p t) (within-tails p ok t j))
-  where
-    times-sub : (a b c : ℤ) → a *ℤ (b -ℤ c) ≡ a *ℤ b -ℤ a *ℤ c
-    times-sub a b c = simp zm
-
 -- ---- the links after the required arcs
 
 add-append : (d : ℕ → ℕ → ℕ) (vs : List ℕ) (s : State) (xs ys : List Link) → addAll d vs s (xs ++ ys) ≡ addAll d vs (addAll d vs s xs) ys
@@ -76,16 +62,9 @@ add-append d vs s (x ∷ xs) ys = add-append d vs (add d vs s (x .tail) (x .head
 
 -- ---- the required vertices are as a state asks
 
-length-select : {A : Type 0} (g : A → Bool) (xs : List A) → length (select g xs) ≤ length xs
-unfolding select
-length-select g [] = omega arith
-length-select g (x ∷ xs) =
-    let h = length-select g xs in
-    cond-ind (g x) (x ∷ select g xs) (select g xs) (λ l. length l ≤ suc (length xs)) (λ t. omega arith) (λ t. omega arith)
-
 required-size : (p : Plan) → length (required p) ≤ p .n
 unfolding required
-required-size p = let a = length-select (isRequired p) (below (p .n)) in let b = length-below (p .n) in omega arith
+required-size p = let a = select-length (isRequired p) (below (p .n)) in let b = length-below (p .n) in omega arith
 
 module _ (p : Plan) (ok : WellFormed p) (connected : T (not (isCutOff p))) where
   ends : InPlan p
@@ -95,7 +74,7 @@ module _ (p : Plan) (ok : WellFormed p) (connected : T (not (isCutOff p))) where
   plan-metric = record {
     once = required-once p;
     size = (let a = required-size p in let b = ok .vertices in omega arith);
-    small = λ i m. (let a = required-lt p m in let b = ok .vertices in omega arith);
+    small = λ i m. required-below p ok m;
     bound = λ i j mi mj. (
         let w = linked p ok connected mi mj in
         let a = distance-bound p ends 65535 (bounded ok .costs) i j (w .0) (required-lt p mi) (w .1) in
@@ -163,7 +142,7 @@ module _ (p : Plan) (ok : WellFormed p) (connected : T (not (isCutOff p))) where
       few-arcs =
           let a = length-append (map (λ (a : Arc). record { tail = a .tail; head = a .head }) (select isRequiredArc (p .arcs))) t in
           let b = length-map {B = Link} (select isRequiredArc (p .arcs)) (λ (a : Arc). record { tail = a .tail; head = a .head }) in
-          let c = length-select isRequiredArc (p .arcs) in
+          let c = select-length isRequiredArc (p .arcs) in
           let e = ok .arc-count in
           omega arith
 
@@ -265,7 +244,7 @@ module _ (p : Plan) (ok : WellFormed p) (connected : T (not (isCutOff p))) where
         → priceOfImbalance p v +ℤ pos (sumOver (tails p []) q) ≡ pos (sumOver (heads p []) q)
     unfolding priceOfImbalance
     price-from v q c h =
-        let e = price-ends p ends [] none v in
+        let e = price-split p v ends [] none in
         let a = signed-shift (heads p []) v q c (λ i m. h i (within-heads p ends [] none .among i m)) in
         let b = signed-shift (tails p []) v q c (λ i m. h i (within-tails p ends [] none .among i m)) in
         let l = ap (λ n. n * c) (same-length p ends [] none) in

@@ -1,6 +1,6 @@
 -- An entry. The plan call's conditions but 8 stand before 22; where none applies the district goes behind the last one.
 use mathlib.Core.Path.{_≡_, refl, sym, ap, _∙_}
-use mathlib.Core.List.{List, [], _∷_, _++_, append-assoc}
+use mathlib.Core.List.{List, [], _∷_, _++_, append-assoc, map-append}
 use mathlib.Core.Option.{Option, none, some, Option·some-ne-none}
 use Prim.Native.Nat.{ℕ, _+_, _-_, _≤_, _<_}
 use native.Mathlib.Omega.{arith}
@@ -13,7 +13,6 @@ use Rattle.postman.specs.Plan.{WellFormed}
 use Rattle.postman.specs.Refusal.{Conditions, firstRefusal}
 use Rattle.postman.specs.PlanFile.{fileConditions, isOutside, planOf}
 use Rattle.postman.specs.PlanCall.{highestBudget, lastConditions}
-use Rattle.postman.specs.Laws.Lists.{map-append}
 use Rattle.postman.specs.Laws.Refusal.{first-on, first-stop}
 use Rattle.postman.specs.Laws.Acceptance.{file-accepted, inside}
 use Rattle.postman.specs.Laws.Tests.{is-false}

@@ -29,16 +29,16 @@ use Rattle.district_turn.specs.DistrictTurn.{sameLinks, isTree, isHoldin
 use Rattle.district_turn.specs.declared.plan_turn.DistrictTurn.{DistrictTurn}
 use Rattle.postman.specs.Steps.{Plannable}
 use Rattle.required.specs.Contracts.{IsLinks, IsComponents}
-use Rattle.tour_legs.specs.Filled.{linksOf}
-use Rattle.tour_legs.specs.Laws.Laid.{links-tails, links-heads}
+use Rattle.drive_legs.specs.Filled.{linksOf}
+use Rattle.drive_legs.specs.Laws.Laid.{links-tails, links-heads}
 use Rattle.branches.specs.Links.{linksIn}
 use Rattle.branches.specs.Progress.{held}
 use Rattle.multipliers.specs.Laws.Lay.{arcs-links}
-use Rattle.tour_legs.specs.Tour.{written}
-use Rattle.multipliers.specs.Tour.{driveOf}
+use Rattle.drive_legs.specs.Drive.{written}
+use Rattle.multipliers.specs.Drive.{treeDrive}
 use Rattle.solution.specs.Concluded.{concluded}
 use Rattle.tree_search.specs.Laws.BestTree.{tree-small}
-use Rattle.tree_search.specs.Laws.Resumed.{IsPriced, on-priced}
+use Rattle.tree_search.specs.Laws.Resumed.{HoldsCost, on-priced}
 use Rattle.tree_check.specs.Tree.{IsHeldTree}
 use Rattle.held_file.specs.Padded.{padded}
 use Rattle.district_turn.specs.Laws.Clash.{clash}
@@ -182,7 +182,7 @@ module _ (p : Plan) (ok : Plannable p) (few : componentCount p ≤ 8) (budget : 
   at-end l m = let a = h .total in let b = h .tried in le-leb (triedCount p budget) (g .tried + 1000) (omega arith)
 
   -- a tree and its cost
-  pub priced-after : isHolding p g ≡ true → g .tried < r .total → IsPriced p ok (heldAfter p budget g)
+  pub priced-after : isHolding p g ≡ true → g .tried < r .total → HoldsCost p ok (heldAfter p budget g)
   priced-after i l =
       let a = h .total in
       on-priced p ok few (g .cost) (linksBy p g) (g .tried) (min 1000 (triedCount p budget - g .tried)) (omega arith) (held-priced p g 0 i)
@@ -234,8 +234,8 @@ module _ (p : Plan) (ok : Plannable p) (few : componentCount p ≤ 8) (budget : 
   pub answered-after : concluded p (linksIn m (r .tails) (r .heads)) (r .cost) (r .total) (r .whole) ≡ lastAnswer p budget g
   answered-after = λ i. concluded p (h .links-are i) (h .cost-is i) (h .total i) (h .whole i)
 
-  pub written-after : (old : List ℕ) → written (driveOf p (linksIn m (r .tails) (r .heads))) old ≡ lastSheet p budget g old
-  written-after old = ap (λ (t : List Link). written (driveOf p t) old) (h .links-are)
+  pub written-after : (old : List ℕ) → written (treeDrive p (linksIn m (r .tails) (r .heads))) old ≡ lastSheet p budget g old
+  written-after old = ap (λ (t : List Link). written (treeDrive p t) old) (h .links-are)
 
 -- ---- links that are kept are held
 

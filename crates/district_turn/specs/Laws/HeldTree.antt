@@ -14,15 +14,15 @@ use Rattle.postman.specs.Required.{required}
 use Rattle.postman.specs.Component.{component, componentCount}
 use Rattle.postman.specs.Arborescence.{linkAt, parent, Enters, IsArborescence}
 use Rattle.postman.specs.Laws.Tests.{of-true, is-true}
-use Rattle.postman.specs.Laws.Required.{required-lt}
+use Rattle.postman.specs.Laws.Required.{required-below}
 use Rattle.postman.specs.Laws.Component.{component-lt}
 use Rattle.postman.specs.Laws.Distance.{InPlan, bounded}
 use Rattle.postman.specs.Laws.Iteration.{settle}
 use Rattle.required.specs.Contracts.{IsLinks, IsComponents}
 use Rattle.arborescence.specs.BitSet.{Has, has-single, single-has}
 use Rattle.arborescence.specs.Laws.Reach.{Arrives, reached-arrives, arrives-reaches, same-steps}
-use Rattle.tour_legs.specs.Filled.{linksOf}
-use Rattle.tour_legs.specs.Laws.Laid.{links-length}
+use Rattle.drive_legs.specs.Filled.{linksOf}
+use Rattle.drive_legs.specs.Laws.Laid.{links-length}
 use Rattle.tree_search.specs.Resumed.{HoldsTree}
 use Rattle.tree_check.specs.Tree.{IsEntry, sourceSet, IsHeldTree}
 
@@ -134,10 +134,10 @@ module _ (p : Plan) (w : WellFormed p) (flags : List Bool) (of : List ℕ) (k : 
     ends-at q l = link-ends p (entered-at q l .is-link)
 
     tail-small : (q : ℕ) → q < m → tail q < 64
-    tail-small q l = let x = required-lt p (ends-at q l .0) in let y = w .vertices in omega arith
+    tail-small q l = required-below p w (ends-at q l .0)
 
     head-small : (q : ℕ) → q < m → head q < 64
-    head-small q l = let x = required-lt p (ends-at q l .1) in let y = w .vertices in omega arith
+    head-small q l = required-below p w (ends-at q l .1)
 
     is-entry : (q : ℕ) → q < m → IsEntry flags of (tail q) (head q) (suc q)
     is-entry q l =

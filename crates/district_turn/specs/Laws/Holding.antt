@@ -9,7 +9,7 @@ use Rattle.postman.specs.Plan.{Plan}
 use Rattle.postman.specs.Component.{componentCount}
 use Rattle.postman.specs.Balancing.{completionCost}
 use Rattle.branches.specs.Links.{linksIn}
-use Rattle.tour_legs.specs.Filled.{linksOf}
+use Rattle.drive_legs.specs.Filled.{linksOf}
 use Rattle.multipliers.specs.Prepared.{IsTree}
 use Rattle.multipliers.specs.Laws.Lay.{arcs-links}
 use Rattle.preparation.specs.declared.prepare.Preparation.{Preparation}

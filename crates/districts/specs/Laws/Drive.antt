@@ -12,21 +12,21 @@ use lib.Seq.{take-append-seam}
 use Rattle.postman.specs.Plan.{Plan, WellFormed}
 use Rattle.postman.specs.Refusal.{firstRefusal, isGood}
 use Rattle.postman.specs.PlanFile.{fileConditions, isOutside}
-use Rattle.postman.specs.Tour.{IsTour, tourCost}
+use Rattle.postman.specs.Drive.{IsDrive, driveCost}
 use Rattle.postman.specs.Component.{componentCount}
 use Rattle.postman.specs.PlanCall.{sheetPlaces, highestBudget, triedCount}
 use Rattle.postman.specs.Laws.Acceptance.{file-accepted}
 use Rattle.postman.specs.Steps.{Plannable}
 use Rattle.postman.specs.Laws.Tests.{and-parts, of-true, is-true}
-use Rattle.tour_legs.specs.Tour.{written}
-use Rattle.multipliers.specs.Tour.{driveOf}
-use Rattle.multipliers.specs.Laws.Tour.{tree-tour}
+use Rattle.drive_legs.specs.Drive.{written}
+use Rattle.multipliers.specs.Drive.{treeDrive}
+use Rattle.multipliers.specs.Laws.Drive.{tree-drive}
 use Rattle.call_steps.specs.Refusals.{planRefusal}
 use Rattle.call_steps.specs.Laws.Call.{parts-refusal}
 use Rattle.solution.specs.declared.Planned.{Planned}
 use Rattle.tree_search.specs.declared.trees.Reached.{Reached}
 use Rattle.tree_search.specs.Resumed.{linksBy, heldAfter}
-use Rattle.tree_search.specs.Laws.Resumed.{IsPriced, on-priced}
+use Rattle.tree_search.specs.Laws.Resumed.{HoldsCost, on-priced}
 use Rattle.district_turn.specs.DistrictTurn.{isHolding, isResumable, canGoOn, isLast, lastAnswer, lastSheet}
 use Rattle.district_turn.specs.Laws.DistrictTurn.{held-priced}
 use Rattle.district_machine.specs.declared.machine.District.{District as DistrictRecord}
@@ -73,24 +73,24 @@ module _ (d : DistrictRecord) (can : canBeServed d ≡ true) where
   parts : T (isHolding p g) × T (ltb (g .tried) (triedCount p (d .budget)))
   parts = and-parts (isHolding p g) (ltb (g .tried) (triedCount p (d .budget))) (go .1)
 
-  priced : IsPriced p (plan .0) (heldAfter p (d .budget) g)
+  priced : HoldsCost p (plan .0) (heldAfter p (d .budget) g)
   priced =
       let l = ltb→lt (g .tried) (triedCount p (d .budget)) (parts .1) in
       on-priced p (plan .0) (plan .1) (g .cost) (linksBy p g) (g .tried) (min 1000 (triedCount p (d .budget) - g .tried)) (omega arith)
       (held-priced p g 0 (is-true (parts .0)))
 
   abbrev drive : List ℕ
-  drive = driveOf p (heldAfter p (d .budget) g .links)
+  drive = treeDrive p (heldAfter p (d .budget) g .links)
 
   pub last-drive : (old : List ℕ) → HoldsDrive p (lastSheet p (d .budget) g old) (lastAnswer p (d .budget) g)
   unfolding written
   last-drive old =
-      let t = tree-tour p (plan .0) (plan .1) (heldAfter p (d .budget) g .links) (priced .0) in
+      let t = tree-drive p (plan .0) (plan .1) (heldAfter p (d .budget) g .links) (priced .0) in
       let e = take-append-seam drive (drop (length drive) old) in
       record {
         fits = (let n = length-append drive (drop (length drive) old) in omega arith);
-        tour = subst⁻¹ (IsTour p) e (t .0 .tour);
-        costs = ap (tourCost p) e ∙ t .1 ∙ sym (priced .1);
+        drive = subst⁻¹ (IsDrive p) e (t .0 .drive);
+        costs = ap (driveCost p) e ∙ t .1 ∙ sym (priced .1);
       }
 
 -- WHATEVER THE MACHINE

@@ -12,12 +12,12 @@ use native.Mathlib.Omega.{arith}
 use borrow.Author.Tests.{leb-true, leb-false, lt-ltb, eq-eqb}
 use lib.ListN.{length, length-append, length-map, take}
 use lib.Dec.{eqb, ltb}
-use Rattle.postman.specs.Lists.{minimum, argmin, occurs}
+use Rattle.postman.specs.Lists.{occurs}
 use Rattle.postman.specs.Plan.{Plan, WellFormed}
 use Rattle.postman.specs.Refusal.{firstRefusal, isGood}
 use Rattle.postman.specs.PlanFile.{fileConditions, planOf}
 use Rattle.postman.specs.Component.{componentCount}
-use Rattle.postman.specs.Arborescence.{IsArborescence, arborescences, arborescenceCount}
+use Rattle.postman.specs.Arborescence.{IsArborescence}
 use Rattle.postman.specs.Balancing.{completionCost}
 use Rattle.postman.specs.PlanCall.{sheetPlaces, triedCount, isWhole, bestCost, bestArborescence}
 use Rattle.postman.specs.Laws.Acceptance.{file-accepted}
@@ -35,7 +35,7 @@ use Rattle.tree_search.specs.Resumed.{linksBy, heldAfter, IsReachedBy}
 use Rattle.solution.specs.Planned.{IsPlanned}
 use Rattle.solution.specs.Laws.Answer.{concluded-best}
 use Rattle.tree_search.specs.Laws.BestTree.{best-tree}
-use Rattle.tree_search.specs.Laws.Resumed.{best-after, tried-few}
+use Rattle.tree_search.specs.Laws.Resumed.{best-after, tried-few, tried-cost, tried-tree}
 use Rattle.district_turn.specs.DistrictTurn.{isTree, isHolding, isResumable, canGoOn, isLast, lastAnswer, lastSheet}
 use Rattle.district_turn.specs.Laws.DistrictTurn.{of-arborescence, holding-first, holding-later, and-yes, padded-links}
 use Rattle.held_file.specs.Held.{heldOf}
@@ -74,20 +74,6 @@ sound-of ds few h = record {
   exact = ap machineOf (sym (waiting-are ds));
   each = λ d x. h d (subst (λ (y : List DistrictRecord). List·Memᴰ d y) (waiting-are ds) x);
 }
-
--- ---- T trees are tried either way
-
-same-cost : (p : Plan) (budget : ℕ) → bestCost p (triedCount p budget) ≡ bestCost p budget
-unfolding bestCost triedCount
-same-cost p budget =
-    ap (λ n. minimum (map (completionCost p) (take n (arborescences p))))
-    (let e : min (min budget (arborescenceCount p)) (arborescenceCount p) ≡ min budget (arborescenceCount p) = omega arith in e)
-
-same-tree : (p : Plan) (budget : ℕ) → bestArborescence p (triedCount p budget) ≡ bestArborescence p budget
-unfolding bestArborescence triedCount
-same-tree p budget =
-    ap (λ n. argmin (completionCost p) [] (take n (arborescences p)))
-    (let e : min (min budget (arborescenceCount p)) (arborescenceCount p) ≡ min budget (arborescenceCount p) = omega arith in e)
 
 -- ---- a district under way
 
@@ -154,7 +140,7 @@ module _ (d : DistrictRecord) (u : IsUnderWay d) where
       let e : n ≡ triedCount p (d .budget) = omega arith in
       concluded-best p ok few8 (d .budget) (u .some-budget) (heldAfter p (d .budget) g .links) (heldAfter p (d .budget) g .cost)
       (triedCount p (d .budget)) (isWhole p (d .budget)) old new
-      (best .1 ∙ ap (bestArborescence p) e ∙ same-tree p (d .budget)) (best .0 ∙ ap (bestCost p) e ∙ same-cost p (d .budget)) refl refl h
+      (best .1 ∙ ap (bestArborescence p) e ∙ tried-tree p (d .budget)) (best .0 ∙ ap (bestCost p) e ∙ tried-cost p (d .budget)) refl refl h
 
   -- ANOTHER ONE
   module _ (f : finishes (districtOf d) ≡ false) where

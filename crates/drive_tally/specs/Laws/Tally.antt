@@ -13,7 +13,7 @@ use lib.Seq.{getD-set-same, getD-set-other}
 use lib.Dec.{T, T-not, not-T, eqb, eqb→eq, eqb-refl}
 use Rattle.postman.specs.Lists.{select, anyOf, below}
 use Rattle.postman.specs.Plan.{Arc, Plan, arcAt, requiredArcs, requiredNumbers}
-use Rattle.postman.specs.Tour.{tourCostDue, tourCost}
+use Rattle.postman.specs.Drive.{driveCostDue, driveCost}
 use Rattle.postman.specs.Judge.{hasForeign, isMissed}
 use Rattle.postman.specs.Laws.Tests.{same-test, not-or, is-false, is-true, of-true, eqb-other}
 use Rattle.postman.specs.Laws.Membership.{mem-select, select-mem, anyOf-mem, anyOf-at, mem-below, below-mem}
@@ -180,16 +180,16 @@ module _ (k : ℕ) where
 
   -- what a pass costs, and the rest
   pass-due : (arcs : List Arc) (w due : List ℕ)
-      → tourCostDue arcs due (k ∷ w)
-      ≡ cond (anyOf (eqb k) due) (arcAt arcs k .service) (arcAt arcs k .cost) + tourCostDue arcs (without k due) w
-  unfolding tourCostDue
+      → driveCostDue arcs due (k ∷ w)
+      ≡ cond (anyOf (eqb k) due) (arcAt arcs k .service) (arcAt arcs k .cost) + driveCostDue arcs (without k due) w
+  unfolding driveCostDue
   pass-due arcs w due = at (anyOf (eqb k) due) refl
     where
       at : (b : Bool) → anyOf (eqb k) due ≡ b
-          → cond b (arcAt arcs k .service + tourCostDue arcs (without k due) w) (arcAt arcs k .cost + tourCostDue arcs due w)
-          ≡ cond b (arcAt arcs k .service) (arcAt arcs k .cost) + tourCostDue arcs (without k due) w
+          → cond b (arcAt arcs k .service + driveCostDue arcs (without k due) w) (arcAt arcs k .cost + driveCostDue arcs due w)
+          ≡ cond b (arcAt arcs k .service) (arcAt arcs k .cost) + driveCostDue arcs (without k due) w
       at true e = refl
-      at false e = ap (λ (l : List ℕ). arcAt arcs k .cost + tourCostDue arcs l w) (sym (without-absent due e))
+      at false e = ap (λ (l : List ℕ). arcAt arcs k .cost + driveCostDue arcs l w) (sym (without-absent due e))
 
   cleared : (flags : List Bool) (due : List ℕ) → k < 256 → AreDue flags due → AreDue (set flags k false) (without k due)
   cleared flags due l h = record {
@@ -206,11 +206,11 @@ module _ (p : Plan) (w : List ℕ) where
   pub record IsTallied (flags : List Bool) (cost i : ℕ) : Type 0 where
     pub due : List ℕ
     pub flags-are : AreDue flags due
-    pub costs : cost + tourCostDue (p .arcs) due (drop i w) ≡ tourCost p w
+    pub costs : cost + driveCostDue (p .arcs) due (drop i w) ≡ driveCost p w
     pub left : anyOf (λ k. not (anyOf (eqb k) (drop i w))) due ≡ isMissed p w
 
   pub tallied-start : (flags : List Bool) → AreDue flags (requiredNumbers p) → IsTallied flags 0 0
-  unfolding tourCost isMissed
+  unfolding driveCost isMissed
   tallied-start flags h = record { due = requiredNumbers p; flags-are = h; costs = omega arith; left = refl }
 
   module _ (flags : List Bool) (cost i : ℕ) (l : i < length w) (h : IsTallied flags cost i) where
@@ -220,16 +220,16 @@ module _ (p : Plan) (w : List ℕ) where
     abbrev passCost : ℕ
     passCost = cond (getD flags k false) (arcAt (p .arcs) k .service) (arcAt (p .arcs) k .cost)
 
-    spent : cost + (passCost + tourCostDue (p .arcs) (without k (h .due)) (drop (i + 1) w)) ≡ tourCost p w
+    spent : cost + (passCost + driveCostDue (p .arcs) (without k (h .due)) (drop (i + 1) w)) ≡ driveCost p w
     spent =
         ap (λ b. cost
         + (cond b (arcAt (p .arcs) k .service) (arcAt (p .arcs) k .cost)
-        + tourCostDue (p .arcs) (without k (h .due)) (drop (i + 1) w))) (h .flags-are .flag k)
+        + driveCostDue (p .arcs) (without k (h .due)) (drop (i + 1) w))) (h .flags-are .flag k)
         ∙ ap (λ c. cost + c)
-        (sym (pass-due k (p .arcs) (drop (i + 1) w) (h .due)) ∙ ap (tourCostDue (p .arcs) (h .due)) (sym (places-from w i l)))
+        (sym (pass-due k (p .arcs) (drop (i + 1) w) (h .due)) ∙ ap (driveCostDue (p .arcs) (h .due)) (sym (places-from w i l)))
         ∙ h .costs
 
-    tallied-room : cost + passCost ≤ tourCost p w
+    tallied-room : cost + passCost ≤ driveCost p w
     tallied-room = let e = spent in omega arith
 
     tallied-next : k < 256 → IsTallied (set flags k false) (cost + passCost) (i + 1)
@@ -242,18 +242,18 @@ module _ (p : Plan) (w : List ℕ) where
     }
 
   pub tallied-end : (r : Tally) (i : ℕ) → length w ≤ i → IsTallied (r .due) (r .cost) i → IsTally p w r
-  unfolding tourCostDue anyOf
+  unfolding driveCostDue anyOf
   tallied-end r i l h =
       let e = no-places w i l in
       let c = nothing-left (h .due) in
       record {
-        costs = sym (nothing-due (p .arcs) (h .due) (r .cost)) ∙ ap (λ (u : List ℕ). r .cost + tourCostDue (p .arcs) (h .due) u) (sym e)
+        costs = sym (nothing-due (p .arcs) (h .due) (r .cost)) ∙ ap (λ (u : List ℕ). r .cost + driveCostDue (p .arcs) (h .due) u) (sym e)
             ∙ h .costs;
         left = has-due (r .due) (h .due) (h .flags-are) ∙ sym c ∙ ap (λ (u : List ℕ). anyOf (λ k. not (anyOf (eqb k) u)) (h .due)) (sym e)
             ∙ h .left;
       }
     where
-      nothing-due : (arcs : List Arc) (due : List ℕ) (c : ℕ) → c + tourCostDue arcs due [] ≡ c
+      nothing-due : (arcs : List Arc) (due : List ℕ) (c : ℕ) → c + driveCostDue arcs due [] ≡ c
       nothing-due arcs due c = omega arith
 
       nothing-left : (due : List ℕ) → anyOf (λ k. not (anyOf (eqb k) [])) due ≡ not (eqb (length due) 0)
@@ -271,8 +271,8 @@ module _ (rows : List (List ℕ)) (w : List ℕ) (known : hasForeign (planOver r
   paid : cond (getD flags at false) (arcAt (planOver rows .arcs) at .service) (arcAt (planOver rows .arcs) at .cost) ≡ x
   paid = ap (λ (a : Arc). cond (getD flags at false) (a .service) (a .cost)) (place-arc rows w known i l) ∙ sym e
 
-  pub tally-room : cost + x ≤ tourCost (planOver rows) w
-  tally-room = subst (λ x. cost + x ≤ tourCost (planOver rows) w) paid (tallied-room (planOver rows) w flags cost i l h)
+  pub tally-room : cost + x ≤ driveCost (planOver rows) w
+  tally-room = subst (λ x. cost + x ≤ driveCost (planOver rows) w) paid (tallied-room (planOver rows) w flags cost i l h)
 
   pub tally-more : at < 256 → IsTallied (planOver rows) w (set flags at false) (cost + x) (i + 1)
   tally-more m =

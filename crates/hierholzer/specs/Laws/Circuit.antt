@@ -5,7 +5,7 @@
 use mathlib.Core.Path.{_≡_, refl, sym, ap, _∙_, subst⁻¹}
 use mathlib.Core.Logic.{inl, inr}
 use mathlib.Core.Bool.{Bool}
-use mathlib.Core.List.{List, [], _∷_, _++_, map, List·Memᴰ, List·Memᴰ·head, List·Memᴰ·tail, List·Memᴰ·cases-cons, List·Memᴰ·not-nil}
+use mathlib.Core.List.{List, [], _∷_, _++_, map, List·Memᴰ, List·Memᴰ·head, List·Memᴰ·tail, List·Memᴰ·cases-cons, List·Memᴰ·not-nil, map-append}
 use Prim.Native.Nat.{ℕ, zero, suc, _+_, _-_, _*_, _≤_, _<_}
 use native.Mathlib.Decide.{decLe}
 use native.Mathlib.Omega.{arith}
@@ -15,9 +15,9 @@ use Rattle.postman.specs.Lists.{below, anyOf, delta, occurrences}
 use Rattle.postman.specs.Laws.Tests.{cond-ind, eqb-same}
 use Rattle.postman.specs.Laws.Membership.{anyOf-mem, anyOf-at, getD-mem, below-mem, length-below}
 use Rattle.postman.specs.Laws.Occurrences.{delta-yes, delta-pos, occurrences-append, mem-of-occurrences, occurrences-of-mem}
+use Rattle.postman.specs.Laws.Lists.{by-place}
 use Rattle.hierholzer.specs.Circuit.{CircuitState, nextLeg, step, run, circuit}
 use Rattle.hierholzer.specs.Eulerian.{Eulerian, Joined, IsCircuit}
-use Rattle.hierholzer.specs.Laws.Lists.{by-numbers, map-append}
 use Rattle.hierholzer.specs.Laws.Counting.{map-le, permutation, permutation-length, mem-of-permutation, below-once, below-none, below-lt}
 use Rattle.hierholzer.specs.Laws.Unused.{Tidy, tidy-length, tidy-more, Free, next-free, Spent, next-none}
 
@@ -75,8 +75,8 @@ module _ (tails heads : List ℕ) where
         let a = trail-balance v r w v h in
         let c = joined-balance v b d r j in
         let one = delta-yes {i = v} refl in
-        let outs = ap (occurrences v) (by-numbers tails) in
-        let ins = ap (λ n. occurrences v (map head (below n))) (sym ends) ∙ ap (occurrences v) (by-numbers heads) in
+        let outs = ap (occurrences v) (by-place 0 tails) in
+        let ins = ap (λ n. occurrences v (map head (below n))) (sym ends) ∙ ap (occurrences v) (by-place 0 heads) in
         let e = balanced v in
         delta-pos v b (omega arith)
 

@@ -13,11 +13,11 @@ use lib.Dec.{eqb}
 use Rattle.postman.specs.Plan.{Arc, Plan, arcAt, requiredArcs, requiredNumbers, WellFormed}
 use Rattle.postman.specs.Refusal.{firstRefusal, refused, given, answer}
 use Rattle.postman.specs.PlanFile.{edition, isEdition, fileConditions, planOf}
-use Rattle.postman.specs.Tour.{tourCost}
+use Rattle.postman.specs.Drive.{driveCost}
 use Rattle.postman.specs.Judge.{isForeign, hasForeign, isUnjoined, isMissed, faultConditions, highestPlaces, lentConditions, judgeRefusal, judgeAnswer}
 use Rattle.postman.specs.Laws.Membership.{getD-mem}
 use Rattle.postman.specs.Laws.Refusal.{first-on, first-stop, answer-refused}
-use Rattle.postman.specs.Laws.Judge.{lent-short, lent-long, judge-conditions, judged-cost, tour-judged, tour-cost-small}
+use Rattle.postman.specs.Laws.Judge.{lent-short, lent-long, judge-conditions, judged-cost, drive-judged, drive-cost-small}
 use Rattle.plan.specs.Rows.{planIn}
 use Rattle.judge.specs.declared.Judged.{Judged}
 use Rattle.drive_tally.specs.Rows.{planOver}
@@ -38,7 +38,7 @@ module _ (p : Plan) (w : List ℕ) where
   unfolding listAnswer faultConditions firstRefusal answer
   missed-answer f u m = rw (f, u, m) refl
 
-  pub cost-answer : hasForeign p w ≡ false → isUnjoined p w ≡ false → isMissed p w ≡ false → given (tourCost p w) ≡ listAnswer p w
+  pub cost-answer : hasForeign p w ≡ false → isUnjoined p w ≡ false → isMissed p w ≡ false → given (driveCost p w) ≡ listAnswer p w
   unfolding listAnswer faultConditions firstRefusal answer
   cost-answer f u m = rw (f, u, m) refl
 
@@ -56,7 +56,7 @@ module _ (p : Plan) (w : List ℕ) where
 
 -- nothing goes by the number of vertices
 by-arcs : (p : Plan) (w : List ℕ) → planAnswer p w ≡ planAnswer (record { n = 0; arcs = p .arcs }) w
-unfolding planAnswer listAnswer requiredArcs requiredNumbers faultConditions hasForeign isForeign isUnjoined isMissed tourCost
+unfolding planAnswer listAnswer requiredArcs requiredNumbers faultConditions hasForeign isForeign isUnjoined isMissed driveCost
 by-arcs p [] = refl
 by-arcs p (k ∷ w) = refl
 
@@ -76,9 +76,9 @@ module _ (n : ℕ) (rows : List (List ℕ)) (p : Plan) (e : planIn n rows ≡ p)
   ]
 
   -- the sum does not leave its 32 bits
-  pub rows-cost : WellFormed p → (w : List ℕ) → length w ≤ highestPlaces → tourCost (planOver rows) w < 2 ^ 32
+  pub rows-cost : WellFormed p → (w : List ℕ) → length w ≤ highestPlaces → driveCost (planOver rows) w < 2 ^ 32
   rows-cost ok w l =
-      tour-cost-small (planOver rows)
+      drive-cost-small (planOver rows)
       (λ k. subst (λ (arcs : List Arc). (arcAt arcs k .cost ≤ 65535) × (arcAt arcs k .service ≤ 65535)) (sym arcs-same)
       (costs-fit ok k)) w l
 
@@ -88,7 +88,7 @@ module _ (bytes w : List ℕ) where
   refused-at : (r : ℕ) → firstRefusal (lentConditions bytes (length w)) ≡ some r → refused r ≡ judgeAnswer bytes w
   unfolding judgeAnswer
   refused-at r e =
-      sym (answer-refused (judgeRefusal bytes w) (tourCost (planOf bytes) w) r
+      sym (answer-refused (judgeRefusal bytes w) (driveCost (planOf bytes) w) r
       (judge-conditions bytes w ∙ first-stop (lentConditions bytes (length w)) _ r e))
 
   -- a list that is too long, and a file that is refused
@@ -103,8 +103,8 @@ module _ (bytes w : List ℕ) where
       → planAnswer (planOf bytes) w ≡ judgeAnswer bytes w
   unfolding planAnswer listAnswer judgeAnswer firstRefusal answer
   good-answer l e =
-      at (eqb (length (requiredArcs (planOf bytes))) 0) (firstRefusal (faultConditions (planOf bytes) w)) (tourCost (planOf bytes) w)
-      ∙ ap (λ (o : Option ℕ). answer o (tourCost (planOf bytes) w))
+      at (eqb (length (requiredArcs (planOf bytes))) 0) (firstRefusal (faultConditions (planOf bytes) w)) (driveCost (planOf bytes) w)
+      ∙ ap (λ (o : Option ℕ). answer o (driveCost (planOf bytes) w))
       (sym (judge-conditions bytes w ∙ first-on (lentConditions bytes (length w)) _ (lent-short bytes (length w) l ∙ e)))
     where
       at : (b : Bool) (o : Option ℕ) (c : ℕ) → cond b (refused 10) (answer o c) ≡ answer (cond b (some 10) o) c
@@ -116,7 +116,7 @@ module _ (bytes w : List ℕ) where
   pub is-judged : (r : Judged) → judgedAnswer r ≡ judgeAnswer bytes w → IsJudged bytes w r
   is-judged r e = record {
     answer-is = e;
-    exactly = λ h. ((λ g. judged-cost bytes w (g .0) (sym e ∙ g .1) .0), (λ t. (tourCost (planOf bytes) w, e ∙ tour-judged bytes w h t)));
+    exactly = λ h. ((λ g. judged-cost bytes w (g .0) (sym e ∙ g .1) .0), (λ t. (driveCost (planOf bytes) w, e ∙ drive-judged bytes w h t)));
     costs = λ c g. judged-cost bytes w c (sym e ∙ g);
   }
 

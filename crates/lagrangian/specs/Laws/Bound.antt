@@ -23,7 +23,7 @@ use Rattle.postman.specs.Laws.Tests.{is-true}
 use Rattle.postman.specs.Laws.Membership.{select-mem, mem-select, mem-below}
 use Rattle.postman.specs.Laws.Occurrences.{mem?}
 use Rattle.postman.specs.Laws.Distance.{bounded}
-use Rattle.postman.specs.Laws.Required.{required-lt}
+use Rattle.postman.specs.Laws.Required.{required-below}
 use Rattle.postman.specs.Laws.Component.{component-lt}
 use Rattle.postman.specs.Steps.{Joins, Feasible, Plannable}
 use Rattle.postman.specs.Laws.Arborescence.{arborescences-mem, joins}
@@ -45,11 +45,7 @@ use Rattle.lagrangian.specs.Laws.Price.{price-is, imbalance-small}
 module _ (p : Plan) (flags : List Bool) (h : (v : ℕ) → v < 64 → getD flags v false ≡ isRequired p v) (ok : WellFormed p) where
   flag-of : (v : ℕ) → List·Memᴰ v (required p) → getD flags v false ≡ true
   unfolding required
-  flag-of v m =
-      let l = required-lt p m in
-      let b = ok .vertices in
-      let t = select-mem (isRequired p) (below (p .n)) m .1 in
-      h v (omega arith) ∙ is-true t
+  flag-of v m = h v (required-below p ok m) ∙ is-true (select-mem (isRequired p) (below (p .n)) m .1)
 
 -- |u| is at most a distance, where u is 0 at a required vertex
 pub multipliers-near : (p : Plan) → Plannable p → (u : Multipliers) → Feasible p u
@@ -122,14 +118,14 @@ module _ (p : Plan) (table : List (List ℕ)) (u : List ℤ) (c : List ℕ) (fla
     pub is-network : HoldsNetwork p table c flags k
     is-network = record {
       components = h .components .all;
-      distances = λ i j mi mj. h .distances i j (small i mi) (small j mj);
-      component-of = λ i m. h .components .each i (small i m);
+      distances = λ i j mi mj. h .distances i j (small mi) (small mj);
+      component-of = λ i m. h .components .each i (small m);
       is-required = member;
       required-is = λ i m. flag-of p flags (h .required-flags) (h .plannable .well-formed) i m;
     }
       where
-        small : (i : ℕ) → List·Memᴰ i (required p) → i < 64
-        small = metric .small
+        small : {i : ℕ} → List·Memᴰ i (required p) → i < 64
+        small = required-below p (h .plannable .well-formed)
 
   -- ---- A(u) is small
 

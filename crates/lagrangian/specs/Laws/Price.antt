@@ -6,10 +6,10 @@ use mathlib.Core.List.{List, [], _∷_, _++_, map, append-nil, List·Memᴰ, Lis
 use Prim.Native.Nat.{ℕ, zero, suc, _+_, _*_, _≤_, _<_}
 use native.Mathlib.Omega.{arith}
 use lib.ListN.{length, getD, length-map}
-use lib.Dec.{T, T-not, eqb}
+use lib.Dec.{T, T-not}
 use lib.IntN.{ℤ, pos, natAbs, _+ℤ_, _*ℤ_, zero-*ℤ}
 use Rattle.integers.specs.Linear.{z, zl, Within, within-abs, abs-within, abs-add, mul-abs}
-use Rattle.postman.specs.Lists.{select, sumOfℤ, below, delta, occurrences}
+use Rattle.postman.specs.Lists.{select, sumOfℤ, below}
 use Rattle.postman.specs.Plan.{Plan, WellFormed, isRequiredArc, requiredArcs}
 use Rattle.postman.specs.Required.{required, isRequired}
 use Rattle.postman.specs.Balancing.{heads, tails, imbalance}
@@ -17,9 +17,10 @@ use Rattle.postman.specs.LagrangianBound.{priceOfImbalance}
 use Rattle.postman.specs.Laws.Tests.{cond-ind}
 use Rattle.postman.specs.Laws.Membership.{select-mem, below-mem}
 use Rattle.postman.specs.Laws.Below.{map-below-more}
+use Rattle.postman.specs.Laws.Selection.{select-length}
+use Rattle.postman.specs.Laws.Occurrences.{occurrences-few}
 use Rattle.required.specs.Contracts.{IsImbalance}
 use Rattle.network.specs.Laws.Vertices.{required-of-64}
-use Rattle.candidates.specs.Laws.Selection.{select-length}
 use Rattle.pair_costs.specs.PairCosts.{multipliersIn}
 use Rattle.multiplier_steps.specs.Steps.{AreSmall}
 use Rattle.lagrangian.specs.Price.{priceOf}
@@ -61,12 +62,6 @@ module _ (u d : List ℤ) where
     price-small i l = abs-within 67644702720 (priceOf u d i) (let a = price-size i l in omega arith)
 
 -- ---- D is small
-
-occurrences-few : (i : ℕ) (xs : List ℕ) → occurrences i xs ≤ length xs
-unfolding occurrences delta
-occurrences-few i [] = omega arith
-occurrences-few i (x ∷ xs) = let h = occurrences-few i xs in
-    cond-ind (eqb i x) 1 0 (λ n. n + occurrences i xs ≤ suc (length xs)) (λ t. omega arith) (λ t. omega arith)
 
 module _ (p : Plan) (ok : WellFormed p) where
   arcs-few : length (requiredArcs p) ≤ 256

@@ -19,8 +19,8 @@ module _ {S : Type 0} (g : S → ℕ → S) (s : S) where
   more i = ap (turns g s) (add-one i)
 
   -- one turn more
-  pub turn : (i : ℕ) {r r′ : S} → r ≡ turns g s i → r′ ≡ g r i → r′ ≡ turns g s (i + 1)
-  turn i inv e = e ∙ ap (λ (q : S). g q i) inv ∙ sym (more i)
+  pub next-turn : (i : ℕ) {r r′ : S} → r ≡ turns g s i → r′ ≡ g r i → r′ ≡ turns g s (i + 1)
+  next-turn i inv e = e ∙ ap (λ (q : S). g q i) inv ∙ sym (more i)
 
   -- the loop ends
   pub end : (i : ℕ) {n : ℕ} {r : S} → r ≡ turns g s i → i ≤ n → n ≤ i → r ≡ turns g s n
@@ -33,7 +33,7 @@ module _ {S : Type 0} (g : S → ℕ → S) (vs : List ℕ) (s : S) where
 
   pub turn-at : (i : ℕ) {v : ℕ} {r r′ : S} → r ≡ turns (λ r a. g r (getD vs a 0)) s i → v ≡ getD vs i 0 → r′ ≡ g r v
       → r′ ≡ turns (λ r a. g r (getD vs a 0)) s (i + 1)
-  turn-at i {v} {r} inv ev e = turn at s i inv (e ∙ ap (g r) ev)
+  turn-at i {v} {r} inv ev e = next-turn at s i inv (e ∙ ap (g r) ev)
 
 -- what each turn keeps
 pub turns-keep : {S : Type 0} (g : S → ℕ → S) (Q : S → Type 0) → ((s : S) (i : ℕ) → Q s → Q (g s i)) → (s : S) → Q s → (n : ℕ)

@@ -2,7 +2,7 @@
 -- ascent keeps that of the best it has met, whatever multipliers it goes to.
 use mathlib.Core.Path.{_≡_, refl, sym, ap, _∙_, subst, subst⁻¹}
 use mathlib.Core.Bool.{Bool, true, _&&_}
-use mathlib.Core.List.{List, [], List·Memᴰ}
+use mathlib.Core.List.{List, []}
 use Prim.Native.Nat.{ℕ, _%_, _≤_, _<_}
 use native.Mathlib.Omega.{arith}
 use lib.ListN.{length}
@@ -19,11 +19,11 @@ use Rattle.postman.specs.PlanCall.{root}
 use Rattle.postman.specs.Laws.Tests.{cond-ind, and-parts}
 use Rattle.postman.specs.Laws.Multiplier.{greatest-unique}
 use Rattle.postman.specs.Steps.{Plannable, cell}
+use Rattle.postman.specs.Laws.Required.{required-below}
 use Rattle.residual_search.specs.Search.{beyond}
 use Rattle.balance.specs.Balance.{balance}
 use Rattle.residual_search.specs.Bounds.{AtMost}
 use Rattle.balance.specs.Laws.Step.{vertices-small}
-use Rattle.direct_amounts.specs.Laws.Plan.{plan-metric}
 use Rattle.pair_costs.specs.PairCosts.{multipliersIn}
 use Rattle.ascent.specs.Step.{Step, step}
 use Rattle.ascent.specs.Laws.Bodies.{step-small}
@@ -31,7 +31,7 @@ use Rattle.multiplier_steps.specs.Turns.{turns}
 use Rattle.multiplier_steps.specs.Steps.{AreSmall, rooted, span}
 use Rattle.multiplier_steps.specs.Lawful.{areLawful}
 use Rattle.multiplier_steps.specs.Laws.Turns.{turns-keep}
-use Rattle.multipliers.specs.Tour.{tableOf}
+use Rattle.multipliers.specs.Drive.{tableOf}
 use Rattle.multipliers.specs.declared.ascend.Setting.{Setting}
 use Rattle.multipliers.specs.Ascent.{Climb, boundOf, amountsOf, isLawful, fromRoot, stepFrom, attempt, climb, begin, componentsOf, greatestOf, multipliersFor}
 use Rattle.multipliers.specs.Prepared.{IsKnown, IsPrepared, IsPricedIn}
@@ -69,9 +69,6 @@ module _ (p : Plan) (ok : Plannable p) (few : componentCount p ≤ 8) where
     pub above : boundOf p (greatestOf p) ≤ℤ c .bound
     pub small : AreSmall beyond (c .multipliers)
 
-  low : (i : ℕ) → List·Memᴰ i (required p) → i < 64
-  low = plan-metric p (ok .well-formed) (ok .connected) .small
-
   -- lawful multipliers that are 0 at the root are small
   pub rooted-small : (u : List ℤ) → Rooted p u → AreSmall beyond u
   rooted-small u r v l =
@@ -106,8 +103,8 @@ module _ (p : Plan) (ok : Plannable p) (few : componentCount p ≤ 8) where
         rooted = b .rooted;
         bound-is = b .bound-is;
         above = b .above;
-        small = step-small (tableOf p) (amountsOf p) (required p) (eqb (i % 2) 1) low (componentsOf p) (componentCount p) (c .stride)
-            (c .multipliers) (c .before);
+        small = step-small (tableOf p) (amountsOf p) (required p) (eqb (i % 2) 1) (λ v m. required-below p (ok .well-formed) m)
+            (componentsOf p) (componentCount p) (c .stride) (c .multipliers) (c .before);
       })
 
   ascent-kept : Kept (turns (climb p) (begin p) 20)

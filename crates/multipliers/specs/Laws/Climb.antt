@@ -13,17 +13,17 @@ use Rattle.residual_search.specs.Search.{beyond}
 use Rattle.multiplier_steps.specs.Turns.{turns}
 use Rattle.multiplier_steps.specs.Steps.{span}
 use Rattle.ascent.specs.Step.{Step}
-use Rattle.multipliers.specs.Tour.{tableOf}
-use Rattle.multipliers.specs.Ascent.{Climb, boundOf, taken, moved, isLawful, fromRoot, stepFrom, attempt, climb, begin, greatestOf, multipliersFor}
+use Rattle.multipliers.specs.Drive.{tableOf}
+use Rattle.multipliers.specs.Ascent.{Climb, boundOf, improved, moved, isLawful, fromRoot, stepFrom, attempt, climb, begin, greatestOf, multipliersFor}
 use Rattle.multipliers.specs.Laws.Ascent.{ascent-bounded}
 
 -- its own best in place of its best
-pub held-is : (c : Climb) {m : ℤ} → m ≡ c .bound → taken c (c .best) m ≡ c
-held-is c e = ap (taken c (c .best)) e
+pub held-is : (c : Climb) {m : ℤ} → m ≡ c .bound → improved c (c .best) m ≡ c
+held-is c e = ap (improved c (c .best)) e
 
 module _ (p : Plan) where
   pub attempt-none : (c : Climb) {b : Bool} {m : ℤ} → b ≡ isLawful p (c .multipliers) → b ≡ false → m ≡ c .bound
-      → taken c (c .best) m ≡ attempt p c
+      → improved c (c .best) m ≡ attempt p c
   unfolding attempt
   attempt-none c e n em = held-is c em ∙ rw (sym e ∙ n)
 
@@ -32,14 +32,14 @@ module _ (p : Plan) where
     by-bound : (v : Bool) → t ≡ v → ltZ (c .bound) (boundOf p (fromRoot p (c .multipliers))) ≡ v
     by-bound v n = ap (λ (u : List ℤ). ltZ (c .bound) (boundOf p u)) (sym eu) ∙ ap (ltZ (c .bound)) (sym el) ∙ sym et ∙ n
 
-    pub attempt-low : {m : ℤ} → t ≡ false → m ≡ c .bound → taken c (c .best) m ≡ attempt p c
+    pub attempt-low : {m : ℤ} → t ≡ false → m ≡ c .bound → improved c (c .best) m ≡ attempt p c
     unfolding attempt
     attempt-low n em = held-is c em ∙ rw (sym e ∙ y, by-bound false n)
 
-    pub attempt-more : {m : ℤ} → t ≡ true → m ≡ l → taken c u m ≡ attempt p c
+    pub attempt-more : {m : ℤ} → t ≡ true → m ≡ l → improved c u m ≡ attempt p c
     unfolding attempt
     attempt-more n em =
-        ap (taken c u) (em ∙ el) ∙ ap (λ (u : List ℤ). taken c u (boundOf p u)) eu ∙ rw (sym e ∙ y, by-bound true n)
+        ap (improved c u) (em ∙ el) ∙ ap (λ (u : List ℤ). improved c u (boundOf p u)) eu ∙ rw (sym e ∙ y, by-bound true n)
 
   pub climb-done : (c : Climb) (i : ℕ) → c .done ≡ true → c ≡ climb p c i
   unfolding climb

@@ -20,13 +20,13 @@ use Rattle.balance.specs.Invariant.{Metric, Certified, AllIn}
 use Rattle.direct_amounts.specs.Direct.{direct}
 use Rattle.direct_amounts.specs.Laws.Plan.{table-metric, balance-certified, balance-room}
 use Rattle.shortest.specs.Contracts.{IsTable}
-use Rattle.tour_legs.specs.Legs.{Completes}
-use Rattle.tour_legs.specs.Filled.{linksOf, Noted}
-use Rattle.tour_legs.specs.Laws.Few.{few-numbers}
-use Rattle.tour_legs.specs.Laws.Laid.{links-tails, links-heads, links-length, prefix-length, prefix-le}
-use Rattle.multipliers.specs.Tour.{tableOf, amountsOf}
+use Rattle.drive_legs.specs.Legs.{Completes}
+use Rattle.drive_legs.specs.Filled.{linksOf, Noted}
+use Rattle.drive_legs.specs.Laws.Few.{few-numbers}
+use Rattle.drive_legs.specs.Laws.Laid.{links-tails, links-heads, links-length, prefix-length, prefix-le}
+use Rattle.multipliers.specs.Drive.{tableOf, amountsOf}
 use Rattle.multipliers.specs.Prepared.{IsKnown, IsBase, IsTree}
-use Rattle.multipliers.specs.Laws.Tour.{is-table, agrees, completes}
+use Rattle.multipliers.specs.Laws.Drive.{is-table, agrees, completes}
 
 -- the two ways to pair tails with heads
 pub arcs-links : (ts hs : List ℕ) → arcsOf ts hs ≡ linksOf ts hs

@@ -40,11 +40,11 @@ use Rattle.tree_count.specs.Laws.Plan.{sources}
 use Rattle.tree_count.specs.Laws.Entries.{all-few, entry-is}
 use Rattle.tree_bounds.specs.Prepared.{Prepared}
 use Rattle.branches.specs.Branches.{AreGiven}
-use Rattle.multipliers.specs.Tour.{tableOf}
+use Rattle.multipliers.specs.Drive.{tableOf}
 use Rattle.multipliers.specs.Prepared.{IsBase}
 use Rattle.lagrangian.specs.Priced.{IsPriced}
 use Rattle.multipliers.specs.Ascent.{greatestOf}
-use Rattle.multipliers.specs.Laws.Tour.{agrees}
+use Rattle.multipliers.specs.Laws.Drive.{agrees}
 use Rattle.multipliers.specs.Laws.Lay.{base-table}
 
 nonempty : {x : ℕ} {xs : List ℕ} → List·Memᴰ x xs → 0 < length xs

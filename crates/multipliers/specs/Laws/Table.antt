@@ -14,7 +14,7 @@ use Rattle.postman.specs.Lists.{upFrom, below}
 use Rattle.postman.specs.Plan.{Plan}
 use Rattle.postman.specs.Distance.{distance}
 use Rattle.shortest.specs.Contracts.{IsTable}
-use Rattle.multipliers.specs.Tour.{tableOf}
+use Rattle.multipliers.specs.Drive.{tableOf}
 
 module _ {A : Type 0} (f : ℕ → A) (z : A) where
   pub filled : (xs : List A) (b n : ℕ) → length xs ≡ n → ((j : ℕ) → j < n → getD xs j z ≡ f (b + j)) → xs ≡ map f (upFrom b n)

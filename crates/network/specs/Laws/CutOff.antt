@@ -18,8 +18,9 @@ use Rattle.postman.specs.Laws.Distance.{bounded, distance-le-noPath}
 use Rattle.shortest.specs.Contracts.{IsTable}
 use Rattle.required.specs.Contracts.{IsRequiredFlags}
 use Rattle.postman.specs.Steps.{cell}
+use Rattle.postman.specs.Laws.Required.{required-below}
 use Rattle.network.specs.CutOff.{hasNoPath, missesSome, isCut, cutsOff}
-use Rattle.required.specs.Laws.RequiredVertex.{required-of, of-required, required-below}
+use Rattle.required.specs.Laws.RequiredVertex.{required-of, of-required}
 
 module _ (p : Plan) (ok : WellFormed p) (d : List (List ℕ)) (r : List Bool) (known : IsTable p d) (flags : IsRequiredFlags p r) where
   -- a vertex is flagged exactly where it is required

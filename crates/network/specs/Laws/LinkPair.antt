@@ -3,7 +3,7 @@
 use mathlib.Core.Path.{_≡_, refl, sym, ap, ap₂, _∙_, subst, subst⁻¹}
 use mathlib.Core.Logic.{_≢_, inl, inr}
 use mathlib.Core.Bool.{Bool, true, false, not, cond, _&&_}
-use mathlib.Core.List.{List, [], _∷_, _++_, map, List·Memᴰ}
+use mathlib.Core.List.{List, [], _∷_, _++_, map, List·Memᴰ, map-append}
 use Prim.Native.Nat.{ℕ, zero, suc, _+_, _*_, _-_, _/_, _%_, _<_, _≤_}
 use native.Mathlib.Omega.{arith}
 use lib.ListN.{length, getD, set, length-set}
@@ -13,18 +13,18 @@ use Rattle.postman.specs.Lists.{select, anyOf, below, upFrom}
 use Rattle.postman.specs.Plan.{Plan, WellFormed}
 use Rattle.postman.specs.Required.{isRequired, required}
 use Rattle.postman.specs.Distance.{distance}
-use Rattle.postman.specs.Link.{Link, pairs, properPairs, joins, isHeld, isVia, heldAfter, thinned, links}
+use Rattle.postman.specs.Link.{Link, pairs, properPairs, joins, isHeld, isVia, pairsAfter, thinned, links}
 use Rattle.postman.specs.Laws.Tests.{cond-ind, test, same-test, is-true, is-false, and-both, and-parts, eqb-other}
 use Rattle.postman.specs.Laws.Membership.{anyOf-mem, anyOf-at, mem-below, below-mem}
 use Rattle.postman.specs.Laws.Selection.{below-split}
-use Rattle.postman.specs.Laws.Lists.{map-append}
 use Rattle.postman.specs.Laws.Link.{link, joined, joins-same, held-mem, mem-held, AreProper, proper, mem-proper, turn-mem, mem-turn, turn-gone, turn-stays, turn-proper, via, via-other, thinned-append, thinned-skip}
-use Rattle.postman.specs.Laws.Pairs.{linkOf, pairs-are, bothPass, pairs-select}
+use Rattle.postman.specs.Laws.Pairs.{pairs-are, bothPass, pairs-select}
 use Rattle.shortest.specs.Contracts.{IsTable}
 use Rattle.required.specs.Contracts.{IsRequiredFlags}
-use Rattle.postman.specs.Steps.{cell}
+use Rattle.postman.specs.Steps.{cell, pairAt}
+use Rattle.postman.specs.Laws.Required.{required-below}
 use Rattle.network.specs.Thinning.{flag, isPair, between, turnAt, rowsThinned}
-use Rattle.required.specs.Laws.RequiredVertex.{required-of, of-required, required-below}
+use Rattle.required.specs.Laws.RequiredVertex.{required-of, of-required}
 use Rattle.network.specs.Laws.Vertices.{required-of-64}
 use Rattle.network.specs.Laws.CutOff.{flagged, flag-of}
 use Rattle.network.specs.Laws.Thinning.{placesThinned, rows-places}
@@ -35,19 +35,19 @@ module _ (p : Plan) (held : List Link) (i j a b : ℕ) where
   abbrev goes : Bool
   goes = anyOf (isVia p held (link i j)) (required p)
 
-  list-turn : isHeld (heldAfter p held (link i j)) a b ≡ (isHeld held a b && not (goes && joins i j (link a b)))
+  list-turn : isHeld (pairsAfter p held (link i j)) a b ≡ (isHeld held a b && not (goes && joins i j (link a b)))
   list-turn =
-      same-test (isHeld (heldAfter p held (link i j)) a b) (isHeld held a b && not (goes && joins i j (link a b)))
+      same-test (isHeld (pairsAfter p held (link i j)) a b) (isHeld held a b && not (goes && joins i j (link a b)))
       (λ t.
-      let m = held-mem (heldAfter p held (link i j)) a b t in
+      let m = held-mem (pairsAfter p held (link i j)) a b t in
       and-both (isHeld held a b) (not (goes && joins i j (link a b))) (mem-held held a b (turn-mem p held (link i j) m))
       (not-T (goes && joins i j (link a b)) (λ u.
       let c = and-parts goes (joins i j (link a b)) u in
-      turn-gone p held (link i j) (c .0) (subst (λ (l : Link). List·Memᴰ l (heldAfter p held (link i j))) (joined (c .1)) m))))
+      turn-gone p held (link i j) (c .0) (subst (λ (l : Link). List·Memᴰ l (pairsAfter p held (link i j))) (joined (c .1)) m))))
       (λ t.
       let c = and-parts (isHeld held a b) (not (goes && joins i j (link a b))) t in
       let m = held-mem held a b (c .0) in
-      mem-held (heldAfter p held (link i j)) a b (elim (test goes) [
+      mem-held (pairsAfter p held (link i j)) a b (elim (test goes) [
         | inl g ↦ mem-turn p held (link i j) m
             (λ e. T-not (goes && joins i j (link a b)) (c .1) (and-both goes (joins i j (link a b)) g (joins-same e)))
         | inr g ↦ subst⁻¹ (List·Memᴰ (link a b)) (turn-stays p held (link i j) g) m
@@ -133,7 +133,7 @@ module _ (p : Plan) (ok : WellFormed p) (d : List (List ℕ)) (r : List Bool) (k
     turn-size = cond-ind (flag h i j && anyOf (between d h i j) (below 64)) (set h (i * 64 + j) false) h (λ t. length t ≡ 4096)
         (λ t. length-set h (i * 64 + j) false ∙ g .size) (λ t. g .size)
 
-    turn-agrees : Agree (turnAt d h i j) (heldAfter p held (link i j))
+    turn-agrees : Agree (turnAt d h i j) (pairsAfter p held (link i j))
     turn-agrees = record {
       size = turn-size;
       are-proper = turn-proper p held (link i j) (g .are-proper);
@@ -165,25 +165,25 @@ module _ (p : Plan) (ok : WellFormed p) (d : List (List ℕ)) (r : List Bool) (k
 
   -- one place after the other
   module _ (h : List Bool) (held : List Link) (g : Agree h held) where
-    one-more : (n : ℕ) → thinned p held (map linkOf (below (suc n))) ≡ heldAfter p (thinned p held (map linkOf (below n))) (linkOf n)
+    one-more : (n : ℕ) → thinned p held (map pairAt (below (suc n))) ≡ pairsAfter p (thinned p held (map pairAt (below n))) (pairAt n)
     unfolding thinned upFrom
     one-more n =
         let e : suc n - n ≡ 1 = omega arith in
-        ap (λ (l : List ℕ). thinned p held (map linkOf l)) (below-split n (suc n) (omega arith) ∙ ap (λ x. below n ++ upFrom n x) e)
-        ∙ ap (thinned p held) (map-append linkOf (below n) (n ∷ []))
-        ∙ thinned-append p held (map linkOf (below n)) (linkOf n ∷ [])
+        ap (λ (l : List ℕ). thinned p held (map pairAt l)) (below-split n (suc n) (omega arith) ∙ ap (λ x. below n ++ upFrom n x) e)
+        ∙ ap (thinned p held) (map-append pairAt (below n) (n ∷ []))
+        ∙ thinned-append p held (map pairAt (below n)) (pairAt n ∷ [])
 
-    after : (n : ℕ) → n ≤ 4096 → Agree (placesThinned d h n) (thinned p held (map linkOf (below n)))
+    after : (n : ℕ) → n ≤ 4096 → Agree (placesThinned d h n) (thinned p held (map pairAt (below n)))
     unfolding placesThinned thinned below upFrom
     after zero l = g
     after (suc n) l =
         let a : n / 64 < 64 = omega arith in
         let b : n % 64 < 64 = omega arith in
         subst⁻¹ (Agree (placesThinned d h (suc n))) (one-more n)
-        (turn-agrees (placesThinned d h n) (thinned p held (map linkOf (below n))) (after n (omega arith)) (n / 64) (n % 64) a b)
+        (turn-agrees (placesThinned d h n) (thinned p held (map pairAt (below n))) (after n (omega arith)) (n / 64) (n % 64) a b)
 
   -- the run over all places is the run over the pairs
-  all-places : links p ≡ thinned p (properPairs p) (map linkOf (below 4096))
+  all-places : links p ≡ thinned p (properPairs p) (map pairAt (below 4096))
   unfolding links properPairs
   all-places =
       thinned-skip p (λ l. not (eqb (l .tail) (l .head))) (properPairs p) (pairs (required p))

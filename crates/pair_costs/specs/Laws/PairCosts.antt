@@ -23,7 +23,7 @@ use Rattle.postman.specs.LagrangianBound.{reducedCost, cheapestArborescence}
 use Rattle.postman.specs.Steps.{Feasible}
 use Rattle.postman.specs.Laws.Membership.{upFrom-mem}
 use Rattle.postman.specs.Laws.Distance.{bounded}
-use Rattle.postman.specs.Laws.Required.{required-lt}
+use Rattle.postman.specs.Laws.Required.{required-below}
 use Rattle.postman.specs.Laws.Component.{component-at}
 use Rattle.postman.specs.Laws.SignedSum.{≤ℤ-trans, ≤ℤ-antisym}
 use Rattle.cheapest_tree.specs.Cheapest.{IsCheapest}
@@ -124,9 +124,6 @@ module _ (d : List (List ℕ)) (u : List ℤ) (c : List ℕ) (r : List Bool) (ok
 
   module _ (p : Plan) (wf : WellFormed p) (k : ℕ) (few : k ≤ 8) (net : HoldsNetwork p d c r k) (m : List ℤ)
       (h : AreLeastOffers d u c r 4096 m) where
-    vertex-lt : {i : ℕ} → List·Memᴰ i (required p) → i < 64
-    vertex-lt n = let a = required-lt p n in let b = wf .vertices in omega arith
-
     pair-cost : (i j : ℕ) → List·Memᴰ i (required p) → List·Memᴰ j (required p) → costOf d u i j ≡ reducedCost p (multipliersIn u) i j
     unfolding reducedCost
     pair-cost i j a b = ap (λ n. pos n -ℤ getD u i (pos 0) +ℤ getD u j (pos 0)) (net .distances i j a b)
@@ -139,8 +136,8 @@ module _ (d : List (List ℕ)) (u : List ℤ) (c : List ℕ) (r : List Bool) (ok
 
     pair-least : (s t i j : ℕ) → IsPair p s t i j → matrixOf m s t ≤ℤ costOf d u i j
     pair-least s t i j q =
-        let a = vertex-lt (q .tail) in
-        let b = vertex-lt (q .head) in
+        let a = required-below p wf (q .tail) in
+        let b = required-below p wf (q .head) in
         let x : (i * 64 + j) / 64 ≡ i = omega arith in
         let y : (i * 64 + j) % 64 ≡ j = omega arith in
         let t₀ = both-required i j (q .tail) (q .head) in
@@ -183,7 +180,8 @@ module _ (d : List (List ℕ)) (u : List ℤ) (c : List ℕ) (r : List Bool) (ok
                   let j = getD (lowest p) t 0 in
                   let q : IsPair p s t i j = record { tail = v .0; head = w .0; from = v .1; to = w .1 } in
                   let g = pair-least s t i j q in
-                  let z = ok .high i j (vertex-lt (v .0)) (vertex-lt (w .0)) (net .required-is i (v .0)) (net .required-is j (w .0)) in
+                  let z = ok .high i j (required-below p wf (v .0)) (required-below p wf (w .0)) (net .required-is i (v .0))
+                  (net .required-is j (w .0)) in
                   (i, j, q, ≤ℤ-antisym g (subst⁻¹ (λ (a : ℤ). costOf d u i j ≤ℤ a) f z) ∙ pair-cost i j (v .0) (w .0))
             ]
 

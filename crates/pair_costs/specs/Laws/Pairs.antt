@@ -5,7 +5,7 @@
 use mathlib.Core.Path.{_≡_, refl, sym, ap, ap₂, _∙_, subst, subst⁻¹}
 use mathlib.Core.Logic.{_⊎_, inl, inr, _≢_}
 use mathlib.Core.Bool.{cond}
-use mathlib.Core.List.{List, [], _∷_, map, flatMap, List·Memᴰ, List·Memᴰ·head, List·Memᴰ·tail, List·Memᴰ·cases-cons, List·Memᴰ·eq-of-singleton}
+use mathlib.Core.List.{List, [], _∷_, map, flatMap, List·Memᴰ, List·Memᴰ·head, List·Memᴰ·tail, List·Memᴰ·cases-cons, List·Memᴰ·eq-of-singleton, map-map}
 use Prim.Native.Nat.{ℕ, zero, suc, _+_, _-_, _≤_, _<_}
 use native.Mathlib.Nat.{le-refl}
 use native.Mathlib.Numerals.{one-add}
@@ -33,16 +33,13 @@ use Rattle.postman.specs.Laws.LinkLegs.{Without, done, next, extract}
 use Rattle.postman.specs.Laws.Iteration.{settle}
 use Rattle.postman.specs.Laws.Arborescence.{arborescences-mem, mem-arborescences}
 use Rattle.postman.specs.Laws.SignedSum.{≤ℤ-trans, ≤ℤ-antisym, sum-append, sum-nonneg, sum-pick}
-use Rattle.postman.specs.Steps.{Feasible}
+use Rattle.postman.specs.Steps.{Feasible, noLink}
 use Rattle.postman.specs.Laws.LagrangianBound.{cheapest-le, cheapest-at}
 use Rattle.cheapest_tree.specs.Cheapest.{Matrix, AreOthers, IsRootedTree, treeCost, IsCheapest}
 use Rattle.pair_costs.specs.Pairs.{IsPairMatrix, othersOf}
-use Rattle.postman.specs.Laws.Lists.{map-map, by-place}
+use Rattle.postman.specs.Laws.Lists.{by-place}
 use Rattle.cheapest_tree.specs.Laws.Iterates.{stepsTo, steps-fall}
 use Rattle.cheapest_tree.specs.Laws.Edmonds.{sum-mono, parent-other}
-
-abbrev noLink : Link
-noLink = record { tail = 0; head = 0 }
 
 -- ---- one more value of a function
 

@@ -13,7 +13,7 @@ use lib.ListN.{length}
 use lib.Dec.{T, eqb, ltb, eqb→eq, lt→ltb, ltb→lt, not-T}
 use Rattle.postman.specs.Lists.{select, below, occurrences}
 use Rattle.postman.specs.Plan.{Plan, isOpen, arcAt}
-use Rattle.postman.specs.Tour.{IsWalk, walkCost}
+use Rattle.postman.specs.Drive.{IsWalk, walkCost}
 use Rattle.postman.specs.Distance.{noPath, distance}
 use Rattle.postman.specs.FewestPath.{isBefore}
 use Rattle.postman.specs.Laws.Tests.{cond-ind, and-both, and-parts, eqb-same, eqb-other}
@@ -24,7 +24,8 @@ use Rattle.postman.specs.Laws.Distance.{InPlan, distance-self, distance-le, dis
 use Rattle.paths.specs.ShortestPath.{begins, nextArc, pathWithin, cheapestPath}
 use Rattle.shortest.specs.Weight.{entered}
 use Rattle.postman.specs.Laws.FirstNumber.{first-lt, first-le, first-test}
-use Rattle.paths.specs.Laws.Rank.{select-lt, select-all}
+use Rattle.postman.specs.Laws.Selection.{select-length}
+use Rattle.paths.specs.Laws.Rank.{select-lt}
 use Rattle.shortest.specs.Laws.Weight.{IsWeighted}
 
 -- what a number that begins a cheapest path says
@@ -109,7 +110,7 @@ module _ (p : Plan) (ok : IsWeighted p) where
   rank-lt j v l =
       let a = select-lt (λ x. ltb (distance p x j) (distance p v j)) (λ x. true) (λ x t. tt) (mem-below l) tt
       (not-T (ltb (distance p v j) (distance p v j)) (λ t. let g = ltb→lt (distance p v j) (distance p v j) t in omega arith)) in
-      let b = select-all (λ x. true) (below (p .n)) in
+      let b = select-length (λ x. true) (below (p .n)) in
       let e = length-below (p .n) in
       omega arith
 

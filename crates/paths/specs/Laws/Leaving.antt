@@ -13,7 +13,7 @@ use lib.Seq.{getD-set-same, getD-set-other}
 use Rattle.postman.specs.Lists.{firstIndex, upFrom}
 use Rattle.postman.specs.Plan.{isOpen}
 use Rattle.plan.specs.Rows.{arcIn}
-use Rattle.paths.specs.Leaving.{tailOf, leaves, leavingFrom, IsChain}
+use Rattle.paths.specs.Leaving.{tailOf, leaves, leavingFrom, IsLeavingChain}
 use Rattle.paths.specs.ShortestPath.{beginsIn, nextIn}
 use Rattle.postman.specs.Laws.FirstNumber.{first-at, first-none}
 
@@ -130,7 +130,7 @@ chain-more rows chain k t few l s e h =
       ];
     }
 
-pub chain-all : (rows : List (List ℕ)) (chain : List ℕ) → IsChainFrom rows chain 0 → IsChain rows chain
+pub chain-all : (rows : List (List ℕ)) (chain : List ℕ) → IsChainFrom rows chain 0 → IsLeavingChain rows chain
 chain-all rows chain h = record { long = h .long; first = h .first; next = λ k l. h .next k (omega arith) l }
 
 -- ---- a search along the arcs that leave v: `best` is the lowest met so far that begins a path, and k is the next to be met

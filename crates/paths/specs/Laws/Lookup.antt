@@ -18,7 +18,7 @@ use Rattle.plan.specs.Rows.{arcIn, planIn}
 use Rattle.plan.specs.Laws.Records.{plan-vertices, record-vertices}
 use Rattle.plan.specs.Laws.Rows.{rows-length, rows-vertices, row-arc}
 use Rattle.paths.specs.ShortestPath.{begins, nextArc, beginsIn, nextIn, shortestPath}
-use Rattle.paths.specs.Leaving.{tailOf, IsChain}
+use Rattle.paths.specs.Leaving.{tailOf, IsLeavingChain}
 use Rattle.shortest.specs.Contracts.{IsColumn, AreRows, AreWeights}
 use Rattle.shortest.specs.Weight.{heavy, weighted}
 use Rattle.shortest.specs.Laws.Weight.{heavy-at}
@@ -95,12 +95,12 @@ module _ (arcs table : List (List ℕ)) (column : List ℕ) (long : length colum
       getD-take (length table) column i 0 g ∙ entries i g ∙ rows i j h l
 
   -- what a lookup asks, of a path that the plan of the table has; and what it then writes is that path
-  pub taken-ready : (i j room at : ℕ) (chain : List ℕ) → IsChain arcs chain → AreRows (planIn (length table) arcs) table
+  pub taken-ready : (i j room at : ℕ) (chain : List ℕ) → IsLeavingChain arcs chain → AreRows (planIn (length table) arcs) table
       → ((i : ℕ) → i < length table → getD column i 0 ≡ getD (getD table i []) j 0)
       → i < planIn (length table) arcs .n → j < planIn (length table) arcs .n → distance (planIn (length table) arcs) i j < noPath
       → at + length (shortestPath (planIn (length table) arcs) i j) ≤ room
       → let n = length (take (length table) column) in
-      (WellFormed (planIn n arcs) × IsColumn (planIn n arcs) j (take (length table) column) × IsChain arcs chain)
+      (WellFormed (planIn n arcs) × IsColumn (planIn n arcs) j (take (length table) column) × IsLeavingChain arcs chain)
       × (((i < n) × (j < n) × (distance (planIn n arcs) i j < noPath)) × (at + length (shortestPath (planIn n arcs) i j) ≤ room))
   taken-ready i j room at chain linked-arcs rows entries from to linked fits =
       let v = rows-vertices (length table) arcs in

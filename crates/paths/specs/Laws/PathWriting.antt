@@ -10,7 +10,7 @@ use lib.ListN.{length, set, take, drop, length-set, length-append, take-append-d
 use lib.Seq.{take-suc-set, drop-set-lt, drop-drop}
 use lib.Dec.{eqb, eqb→eq}
 use Rattle.postman.specs.Plan.{Plan, arcAt}
-use Rattle.postman.specs.Tour.{IsWalk}
+use Rattle.postman.specs.Drive.{IsWalk}
 use Rattle.postman.specs.Distance.{noPath, distance}
 use Rattle.postman.specs.Laws.Tests.{cond-ind, eqb-other}
 use Rattle.postman.specs.Laws.Membership.{getD-mem}

@@ -34,9 +34,3 @@ module _ {A : Type 0} (f g : A → Bool) (implies : (x : A) → T (f x) → T (g
       (λ v. cond-ind (g y) (y ∷ select g xs) (select g xs) (λ l. suc (length (select f xs)) < length l) (λ w. omega arith)
       (λ w. absurd (T-not (g y) w (implies y v))))
       (λ v. cond-ind (g y) (y ∷ select g xs) (select g xs) (λ l. length (select f xs) < length l) (λ w. omega arith) (λ w. r))
-
-pub select-all : {A : Type 0} (f : A → Bool) (xs : List A) → length (select f xs) ≤ length xs
-unfolding select
-select-all f [] = zero-le
-select-all f (x ∷ xs) = let r = select-all f xs in
-    cond-ind (f x) (x ∷ select f xs) (select f xs) (λ l. length l ≤ suc (length xs)) (λ t. omega arith) (λ t. omega arith)

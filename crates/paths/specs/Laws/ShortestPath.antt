@@ -7,7 +7,7 @@ use native.Mathlib.Omega.{arith}
 use lib.ListN.{length}
 use Rattle.postman.specs.Lists.{occurrences}
 use Rattle.postman.specs.Plan.{Plan, WellFormed}
-use Rattle.postman.specs.Tour.{IsWalk, walkCost}
+use Rattle.postman.specs.Drive.{IsWalk, walkCost}
 use Rattle.postman.specs.Distance.{noPath, distance}
 use Rattle.postman.specs.FewestPath.{IsFewestPath}
 use Rattle.postman.specs.Laws.Distance.{bounded, distance-le}

@@ -20,7 +20,8 @@ use Rattle.solution.specs.declared.Planned.{Planned}
 use Rattle.call_steps.specs.Refusals.{budgetRefusal, sheetRefusal}
 use Rattle.planner.specs.Contract.{IsPlanCall}
 use Rattle.solution.specs.Planned.{IsPlanned}
-use Rattle.call_steps.specs.Laws.Call.{parts-refusal, planned-as}
+use Rattle.call_steps.specs.Laws.Call.{parts-refusal}
+use Rattle.call_steps.specs.Laws.Answer.{read-answer}
 
 module _ (bytes : List ℕ) (budget places : ℕ) where
   abbrev p : Plan
@@ -56,10 +57,9 @@ pub read-planned : (bytes : List ℕ) (budget : ℕ) (old new : List ℕ) (x : P
     (firstRefusal (callConditions budget (length old) ++ lastConditions (planValue (r .plan)))) old new x
     → IsPlanned (planOf bytes) budget (callRefusal bytes budget (length old)) old new x
 read-planned bytes budget old new x r h e i =
-    let v = accepted-value bytes r h e in
-    planned-as _ _ _ _ _ _ _ _ v
-    (ap (λ (p : Plan). firstRefusal (callConditions budget (length old) ++ lastConditions p)) v
-    ∙ sym (file-on bytes budget (length old) e)) i
+    read-answer (λ p o new x. IsPlanned p budget o old new x) bytes (planValue (r .plan)) (λ p. p)
+    (λ p. callConditions budget (length old) ++ lastConditions p) _ new x
+    (all-conditions bytes budget (length old)) e (accepted-value bytes r h e) i
 
 pub is-call : (bytes : List ℕ) (budget : ℕ) (old new : List ℕ) (r : Planned)
     → IsPlanned (planOf bytes) budget (callRefusal bytes budget (length old)) old new r → IsPlanCall bytes budget old new r

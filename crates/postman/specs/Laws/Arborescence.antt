@@ -19,7 +19,7 @@ use Rattle.postman.specs.Laws.Distance.{InPlan}
 use Rattle.postman.specs.Laws.Component.{component-lt}
 use Rattle.postman.specs.Laws.Link.{link-ends}
 use Rattle.postman.specs.Laws.Iteration.{settle}
-use Rattle.postman.specs.Steps.{Joins}
+use Rattle.postman.specs.Steps.{Joins, noLink}
 
 module _ (p : Plan) (q : ℕ) {l : Link} where
   pub candidates-mem : List·Memᴰ l (candidates p q) → Enters p q l
@@ -35,9 +35,6 @@ module _ (p : Plan) (q : ℕ) {l : Link} where
       mem-select (λ l. eqb (component p (l .head)) q && not (eqb (component p (l .tail)) q)) (e .is-link)
       (and-both (eqb (component p (l .head)) q) (not (eqb (component p (l .tail)) q)) (eqb-same (e .head))
       (not-T (eqb (component p (l .tail)) q) (λ u. e .tail (eqb→eq (component p (l .tail)) q u))))
-
-abbrev noLink : Link
-noLink = record { tail = 0; head = 0 }
 
 module _ (p : Plan) {t : List Link} where
   pub arborescences-mem : List·Memᴰ t (arborescences p) → IsArborescence p t

@@ -12,7 +12,7 @@ use lib.ListN.{getD}
 use lib.Dec.{T, ltb, T-not, not-T, lt→ltb, ltb→lt}
 use Rattle.postman.specs.Lists.{anyOf, below}
 use Rattle.postman.specs.Plan.{Arc, Plan, isRequiredArc, arcAt, requiredArcs}
-use Rattle.postman.specs.Tour.{IsWalk, walkCost}
+use Rattle.postman.specs.Drive.{IsWalk, walkCost}
 use Rattle.postman.specs.Required.{isRequired, required}
 use Rattle.postman.specs.Distance.{noPath, distance, hasPath}
 use Rattle.postman.specs.Component.{bothWays, requiredGraph, joined, lowest, component, componentCount}

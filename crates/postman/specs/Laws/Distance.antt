@@ -12,7 +12,7 @@ use lib.ListN.{length}
 use lib.Dec.{T, eqb, eqb→eq, T-not, ltb→lt, lt→ltb}
 use Rattle.postman.specs.Lists.{below, least}
 use Rattle.postman.specs.Plan.{Arc, Plan, isOpen, arcAt, WellFormed}
-use Rattle.postman.specs.Tour.{IsWalk, walkCost}
+use Rattle.postman.specs.Drive.{IsWalk, walkCost}
 use Rattle.postman.specs.Distance.{noPath, arcsFrom, distanceWithin, distance, hasPath}
 use Rattle.postman.specs.Laws.Tests.{cond-ind, and-both, and-parts, eqb-same}
 use Rattle.postman.specs.Laws.Membership.{mem-select, select-mem, getD-mem, mem-getD, mem-below, length-below}

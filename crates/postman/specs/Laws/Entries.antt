@@ -20,7 +20,7 @@ use Rattle.postman.specs.Laws.Distance.{InPlan}
 use Rattle.postman.specs.Laws.Required.{required-mem}
 use Rattle.postman.specs.Laws.Component.{component-lt, arc-component}
 use Rattle.postman.specs.Laws.Link.{link-ends}
-use Rattle.postman.specs.Laws.Route.{Move, link, arc, linksOf, arcsOf, IsRoute}
+use Rattle.postman.specs.Laws.Route.{Move, link, arc, routeLinks, routeArcs, IsRoute}
 
 -- the first link that passes a test
 first : (Link → Bool) → List Link → Link
@@ -83,20 +83,20 @@ module _ (p : Plan) (ok : InPlan p) (whole : List Link) where
       }
 
   -- the components that a route enters
-  pub follow : (ms : List Move) (pre : List Link) (qs : List ℕ) (i e : ℕ) → IsRoute p i ms e → whole ≡ pre ++ linksOf ms
+  pub follow : (ms : List Move) (pre : List Link) (qs : List ℕ) (i e : ℕ) → IsRoute p i ms e → whole ≡ pre ++ routeLinks ms
       → Entered p whole pre qs
       → ((q : ℕ) → List·Memᴰ q qs → Good p whole q) → List·Memᴰ (component p i) qs → List·Memᴰ 0 qs
       → (rs : List ℕ) × ((q : ℕ) → List·Memᴰ q rs → Good p whole q) × ((q : ℕ) → List·Memᴰ q qs → List·Memᴰ q rs)
-      × ((k : ℕ) → List·Memᴰ k (arcsOf ms) → List·Memᴰ (component p (arcAt (p .arcs) k .tail)) rs)
+      × ((k : ℕ) → List·Memᴰ k (routeArcs ms) → List·Memᴰ (component p (arcAt (p .arcs) k .tail)) rs)
   follow [] pre qs i e h w en g mi z = (qs, g, (λ q m. m), λ k m. absurd (List·Memᴰ·not-nil m))
   follow (link l ∷ ms) pre qs i e h w en g mi z =
       let mt = Memᴰ·cast (ap (component p) (h .0)) mi in
-      let w′ = w ∙ sym (append-assoc pre (l ∷ []) (linksOf ms)) in
+      let w′ = w ∙ sym (append-assoc pre (l ∷ []) (routeLinks ms)) in
       elim (mem? (component p (l .head)) qs) [
         | inl m ↦ follow ms (pre ++ l ∷ []) qs (l .head) e (h .2) w′ (grow pre l qs en m) g m z
         | inr n ↦
             let q = component p (l .head) in
-            let f = step-link pre (linksOf ms) l qs w (h .1) en g mt n (λ x. n (Memᴰ·cast x z)) in
+            let f = step-link pre (routeLinks ms) l qs w (h .1) en g mt n (λ x. n (Memᴰ·cast x z)) in
             let r = follow ms (pre ++ l ∷ []) (q ∷ qs) (l .head) e (h .2) w′
             (grow pre l (q ∷ qs) (λ m k. List·Memᴰ·tail (en m k)) (List·Memᴰ·head refl))
             (λ x m. elim (List·Memᴰ·cases-cons m) [ inl y ↦ subst⁻¹ (Good p whole) y f | inr m′ ↦ g x m′ ]) (List·Memᴰ·head refl)

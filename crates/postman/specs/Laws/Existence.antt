@@ -1,5 +1,5 @@
--- A plan with a required arc has a tour exactly when it is not cut off. A tour leads from any required vertex to any other; conversely the
--- required arcs, in file order, are joined by shortest paths.
+-- A plan with a required arc has a drive exactly when it is not cut off. A drive leads from any required vertex to any other; conversely
+-- the required arcs, in file order, are joined by shortest paths.
 use mathlib.Core.Path.{refl, subst, subst⁻¹}
 use mathlib.Core.Logic.{inl, inr}
 use mathlib.Core.Bool.{not}
@@ -9,7 +9,7 @@ use lib.ListN.{length}
 use lib.Dec.{T, T-not}
 use Rattle.postman.specs.Lists.{anyOf}
 use Rattle.postman.specs.Plan.{Arc, Plan, isRequiredArc, arcAt, requiredNumbers, requiredArcs, WellFormed}
-use Rattle.postman.specs.Tour.{IsWalk, IsTour}
+use Rattle.postman.specs.Drive.{IsWalk, IsDrive}
 use Rattle.postman.specs.Required.{required}
 use Rattle.postman.specs.Distance.{hasPath}
 use Rattle.postman.specs.PlanCall.{isCutOff}
@@ -20,12 +20,12 @@ use Rattle.postman.specs.Laws.Walk.{Leads, join, around}
 use Rattle.postman.specs.Steps.{IsRequiredNumber}
 use Rattle.postman.specs.Laws.Required.{required-arc-of, required-lt, required-open, number-ends, numbers-mem, mem-numbers}
 
--- from a required vertex a tour leads to its start, and back
-reach : (p : Plan) {w : List ℕ} (h : IsTour p w) {v : ℕ} → List·Memᴰ v (required p)
+-- from a required vertex a drive leads to its start, and back
+reach : (p : Plan) {w : List ℕ} (h : IsDrive p w) {v : ℕ} → List·Memᴰ v (required p)
     → Leads (p .arcs) v (h .start) × Leads (p .arcs) (h .start) v
 reach p h {v} m =
     let r = required-arc-of p m in
-    let a = around (p .arcs) (h .start) (h .start) (h .covers (r .0) (r .1 .number) (r .1 .must)) (h .closed) in
+    let a = around (p .arcs) (h .start) (h .start) (h .covers (r .0) (r .1 .number) (r .1 .must)) (h .leads-back) in
     elim (r .2) [
       | inl e ↦ (
         subst (λ z. Leads (p .arcs) z (h .start)) e (join (p .arcs) (a .1) (a .2)),
@@ -47,10 +47,10 @@ some-required p h =
     (x .0, record { number = x .1; must = subst⁻¹ (λ (b : Arc). T (isRequiredArc b)) (x .2) (s .1) })
 
 module _ (p : Plan) (ok : WellFormed p) where
-  -- cut off: there is no tour
-  pub no-tour : T (isCutOff p) → (w : List ℕ) → IsTour p w → ⊥
+  -- cut off: there is no drive
+  pub no-drive : T (isCutOff p) → (w : List ℕ) → IsDrive p w → ⊥
   unfolding isCutOff
-  no-tour t w h =
+  no-drive t w h =
       let r = anyOf-at (λ i. anyOf (λ j. not (hasPath p i j)) (required p)) (required p) t in
       let s = anyOf-at (λ j. not (hasPath p (r .0) j)) (required p) (r .2) in
       let l = join (p .arcs) (reach p h (r .1) .0) (reach p h (s .1) .1) in
@@ -84,15 +84,15 @@ module _ (p : Plan) (ok : WellFormed p) where
               (elim (List·Memᴰ·cases-cons m) [ inl q ↦ List·Memᴰ·head q | inr n ↦ List·Memᴰ·tail (r .2 l n) ]),
         )
 
-    pub a-tour : 0 < length (requiredArcs p) → (w : List ℕ) × IsTour p w
-    a-tour some =
+    pub a-drive : 0 < length (requiredArcs p) → (w : List ℕ) × IsDrive p w
+    a-drive some =
         let k = some-required p some in
         let s = number-ends p (bounded ok .ends) (k .1) .0 in
         let r = through s (requiredNumbers p) (λ j n. numbers-mem p n) (arcAt (p .arcs) (k .0) .tail) s in (
           r .0,
           record {
             start = arcAt (p .arcs) (k .0) .tail;
-            closed = r .1;
+            leads-back = r .1;
             covers = λ j l m. r .2 j (mem-numbers p (record { number = l; must = m }));
           },
         )

@@ -12,7 +12,7 @@ use lib.ListN.{length}
 use lib.Dec.{T, T-not, not-T, eqb, ltb, nltb→le, eqb→eq, ltb→lt}
 use Rattle.postman.specs.Lists.{occurrences}
 use Rattle.postman.specs.Plan.{Arc, Plan, arcAt}
-use Rattle.postman.specs.Tour.{IsWalk, walkCost}
+use Rattle.postman.specs.Drive.{IsWalk, walkCost}
 use Rattle.postman.specs.FewestPath.{isBefore, IsFewestPath, visited}
 use Rattle.postman.specs.Laws.Tests.{and-both, and-parts, or-cases, not-or, eqb-same}
 use Rattle.postman.specs.Laws.Occurrences.{delta-yes, delta-no, delta-le}

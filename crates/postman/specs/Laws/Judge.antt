@@ -1,6 +1,6 @@
--- A list of arcs has no fault exactly when it is a tour: a number that is not foreign is that of an open arc, arcs without a gap are a walk
--- that ends where it began, and a required arc that is not missed occurs. Each by induction on the list. Hence the list is judged to cost
--- something exactly when it is a tour, where nothing before its faults applies.
+-- A list of arcs has no fault exactly when it is a drive: a number that is not foreign is that of an open arc, arcs without a gap are
+-- a walk that ends where it began, and a required arc that is not missed occurs. Each by induction on the list. Hence the list is judged
+-- to cost something exactly when it is a drive, where nothing before its faults applies.
 use mathlib.Core.Path.{_≡_, refl, sym, ap, _∙_, subst⁻¹}
 use mathlib.Core.Logic.{_↔_}
 use mathlib.Core.Bool.{Bool, true, false, not, cond, _||_}
@@ -16,7 +16,7 @@ use Rattle.postman.specs.Lists.{select, anyOf}
 use Rattle.postman.specs.Plan.{Arc, Plan, isOpen, isRequiredArc, arcAt, requiredArcs, requiredNumbers}
 use Rattle.postman.specs.Refusal.{firstRefusal, given}
 use Rattle.postman.specs.PlanFile.{edition, vertexCount, arcCount, isEdition, isOutside, editionConditions, extentConditions, fileConditions, planOf}
-use Rattle.postman.specs.Tour.{IsWalk, IsTour, tourCostDue, tourCost}
+use Rattle.postman.specs.Drive.{IsWalk, IsDrive, driveCostDue, driveCost}
 use Rattle.postman.specs.PlanCall.{callRefusal}
 use Rattle.postman.specs.Judge.{isForeign, hasForeign, isBroken, isUnjoined, isMissed, faultConditions, highestPlaces, lentConditions, unjudgedConditions, judgeRefusal, judgeAnswer}
 use Rattle.postman.specs.Laws.Tests.{cond-ind, not-or, not-not, eqb-same}
@@ -88,28 +88,28 @@ module _ (p : Plan) where
     pub joined : T (not (isUnjoined p w))
     pub complete : T (not (isMissed p w))
 
-  faultless-tour : (w : List ℕ) → IsFaultless w → IsTour p w
+  faultless-drive : (w : List ℕ) → IsFaultless w → IsDrive p w
   unfolding isUnjoined hasForeign anyOf
-  faultless-tour [] h = record { start = 0; closed = refl; covers = covers [] (h .complete) }
-  faultless-tour (k ∷ w) h =
+  faultless-drive [] h = record { start = 0; leads-back = refl; covers = covers [] (h .complete) }
+  faultless-drive (k ∷ w) h =
       let a = arcAt (p .arcs) k in
       let x = not-or (isForeign p k) (anyOf (isForeign p) w) (h .known) in
       let d = driven k (x .0) in
       record {
         start = a .tail;
-        closed = (d .0, d .1, refl, joined-walk (a .head) w (a .tail) (x .1) (h .joined));
+        leads-back = (d .0, d .1, refl, joined-walk (a .head) w (a .tail) (x .1) (h .joined));
         covers = covers (k ∷ w) (h .complete);
       }
 
-  tour-faultless : (w : List ℕ) → IsTour p w → IsFaultless w
+  drive-faultless : (w : List ℕ) → IsDrive p w → IsFaultless w
   unfolding isUnjoined
-  tour-faultless [] h =
-      record { known = walk-joined (h .start) [] (h .start) (h .closed) .0; joined = tt; complete = not-missed [] (h .covers) }
-  tour-faultless (k ∷ w) h =
+  drive-faultless [] h =
+      record { known = walk-joined (h .start) [] (h .start) (h .leads-back) .0; joined = tt; complete = not-missed [] (h .covers) }
+  drive-faultless (k ∷ w) h =
       let a = arcAt (p .arcs) k in
       record {
-        known = walk-joined (h .start) (k ∷ w) (h .start) (h .closed) .0;
-        joined = walk-joined (a .head) w (a .tail) (subst⁻¹ (λ z. IsWalk (p .arcs) (a .head) w z) (h .closed .2) (h .closed .3)) .1;
+        known = walk-joined (h .start) (k ∷ w) (h .start) (h .leads-back) .0;
+        joined = walk-joined (a .head) w (a .tail) (subst⁻¹ (λ z. IsWalk (p .arcs) (a .head) w z) (h .leads-back .2) (h .leads-back .3)) .1;
         complete = not-missed (k ∷ w) (h .covers);
       }
 
@@ -126,9 +126,9 @@ module _ (p : Plan) where
   faultless-accepted w h =
       cons-accepted _ _ _ (h .known) (cons-accepted _ _ _ (h .joined) (cons-accepted _ _ _ (h .complete) nothing-refused))
 
-  -- no fault applies exactly when the list is a tour
-  pub faultless : (w : List ℕ) → (firstRefusal (faultConditions p w) ≡ none) ↔ IsTour p w
-  faultless w = (λ e. faultless-tour w (accepted-faultless w e), λ h. faultless-accepted w (tour-faultless w h))
+  -- no fault applies exactly when the list is a drive
+  pub faultless : (w : List ℕ) → (firstRefusal (faultConditions p w) ≡ none) ↔ IsDrive p w
+  faultless w = (λ e. faultless-drive w (accepted-faultless w e), λ h. faultless-accepted w (drive-faultless w h))
 
 -- ---- the refusals before the faults
 
@@ -174,33 +174,34 @@ module _ (bytes w : List ℕ) where
   judge-conditions =
       ap firstRefusal (append-assoc (lentConditions bytes (length w)) ((eqb (length (requiredArcs p)) 0, 10) ∷ []) (faultConditions p w))
 
-  -- THE LAW: nothing is refused exactly when the list is a tour
-  pub judged : firstRefusal (unjudgedConditions bytes (length w)) ≡ none → (judgeRefusal bytes w ≡ none) ↔ IsTour p w
+  -- THE LAW: nothing is refused exactly when the list is a drive
+  pub judged : firstRefusal (unjudgedConditions bytes (length w)) ≡ none → (judgeRefusal bytes w ≡ none) ↔ IsDrive p w
   unfolding judgeRefusal
   judged e =
       let same = first-on (unjudgedConditions bytes (length w)) (faultConditions p w) e in
       let f = faultless p w in
       (λ h. f .0 (sym same ∙ h), λ h. same ∙ f .1 h)
 
-  -- a cost is that of a tour, for every list of any length
-  pub judged-cost : (c : ℕ) → judgeAnswer bytes w ≡ given c → IsTour p w × (c ≡ tourCost p w)
+  -- a cost is that of a drive, for every list of any length
+  pub judged-cost : (c : ℕ) → judgeAnswer bytes w ≡ given c → IsDrive p w × (c ≡ driveCost p w)
   unfolding judgeAnswer judgeRefusal
   judged-cost c h =
-      let r = was-given (judgeRefusal bytes w) (tourCost p w) c (sym h) in
+      let r = was-given (judgeRefusal bytes w) (driveCost p w) c (sym h) in
       (faultless p w .0 (accepted-append (unjudgedConditions bytes (length w)) (faultConditions p w) (r .0) .1), r .1)
 
-  -- and a tour is given its cost
-  pub tour-judged : firstRefusal (unjudgedConditions bytes (length w)) ≡ none → IsTour p w → judgeAnswer bytes w ≡ given (tourCost p w)
+  -- and a drive is given its cost
+  pub drive-judged : firstRefusal (unjudgedConditions bytes (length w)) ≡ none → IsDrive p w → judgeAnswer bytes w ≡ given (driveCost p w)
   unfolding judgeAnswer
-  tour-judged e h = answer-given (judgeRefusal bytes w) (tourCost p w) (judged e .1 h)
+  drive-judged e h = answer-given (judgeRefusal bytes w) (driveCost p w) (judged e .1 h)
 
-  -- so does every tour of at most 65,535 places of a file that reads, with some required arc; and of one that the plan call does not refuse
-  pub file-judged : firstRefusal (fileConditions bytes) ≡ none → 0 < length (requiredArcs p) → length w ≤ highestPlaces → IsTour p w
-      → judgeAnswer bytes w ≡ given (tourCost p w)
-  file-judged f s l h = tour-judged (accepted-unjudged bytes (length w) (lent-short bytes (length w) l ∙ f) s) h
+  -- so does every drive of at most 65,535 places of a file that reads, with some required arc; and of one that the plan call does not
+  -- refuse
+  pub file-judged : firstRefusal (fileConditions bytes) ≡ none → 0 < length (requiredArcs p) → length w ≤ highestPlaces → IsDrive p w
+      → judgeAnswer bytes w ≡ given (driveCost p w)
+  file-judged f s l h = drive-judged (accepted-unjudged bytes (length w) (lent-short bytes (length w) l ∙ f) s) h
 
-  pub call-judged : (budget places : ℕ) → callRefusal bytes budget places ≡ none → length w ≤ highestPlaces → IsTour p w
-      → judgeAnswer bytes w ≡ given (tourCost p w)
+  pub call-judged : (budget places : ℕ) → callRefusal bytes budget places ≡ none → length w ≤ highestPlaces → IsDrive p w
+      → judgeAnswer bytes w ≡ given (driveCost p w)
   call-judged budget places e l h =
       file-judged (call-file bytes budget places e) (call-accepted bytes budget places e .earlier .some-required) l h
 
@@ -208,8 +209,8 @@ module _ (bytes w : List ℕ) where
 
 -- A pass costs at most 65,535, so that the cost of 65,535 places is below 2 to the 32.
 pub cost-due-le : (arcs : List Arc) → ((k : ℕ) → (arcAt arcs k .cost ≤ 65535) × (arcAt arcs k .service ≤ 65535)) → (w due : List ℕ)
-    → tourCostDue arcs due w ≤ 65535 * length w
-unfolding tourCostDue
+    → driveCostDue arcs due w ≤ 65535 * length w
+unfolding driveCostDue
 cost-due-le arcs h [] due = omega arith
 cost-due-le arcs h (k ∷ w) due =
     let a = h k .0 in
@@ -218,8 +219,8 @@ cost-due-le arcs h (k ∷ w) due =
     (λ t. (let r = cost-due-le arcs h w (select (λ j. not (eqb k j)) due) in omega arith))
     (λ t. (let r = cost-due-le arcs h w due in omega arith))
 
-pub tour-cost-small : (p : Plan) → ((k : ℕ) → (arcAt (p .arcs) k .cost ≤ 65535) × (arcAt (p .arcs) k .service ≤ 65535)) → (w : List ℕ)
+pub drive-cost-small : (p : Plan) → ((k : ℕ) → (arcAt (p .arcs) k .cost ≤ 65535) × (arcAt (p .arcs) k .service ≤ 65535)) → (w : List ℕ)
     → length w ≤ highestPlaces
-    → tourCost p w < 2 ^ 32
-unfolding tourCost highestPlaces
-tour-cost-small p h w l = let r = cost-due-le (p .arcs) h w (requiredNumbers p) in omega arith
+    → driveCost p w < 2 ^ 32
+unfolding driveCost highestPlaces
+drive-cost-small p h w l = let r = cost-due-le (p .arcs) h w (requiredNumbers p) in omega arith

@@ -14,7 +14,7 @@ use Rattle.postman.specs.Lists.{select, anyOf}
 use Rattle.postman.specs.Plan.{Plan, WellFormed}
 use Rattle.postman.specs.Required.{required}
 use Rattle.postman.specs.Distance.{distance}
-use Rattle.postman.specs.Link.{Link, pairs, properPairs, joins, isHeld, isVia, heldAfter, thinned, links}
+use Rattle.postman.specs.Link.{Link, pairs, properPairs, joins, isHeld, isVia, pairsAfter, thinned, links}
 use Rattle.postman.specs.Laws.Tests.{cond-ind, test, same-test, is-true, and-both, and-parts, eqb-same, eqb-other}
 use Rattle.postman.specs.Laws.Membership.{mem-select, select-mem, select-cong, anyOf-mem, anyOf-at, mem-map, map-mem, mem-flatMap, flatMap-mem}
 use Rattle.postman.specs.Laws.Selection.{select-select, select-all}
@@ -107,47 +107,47 @@ module _ (p : Plan) where
     abbrev goes : Bool
     goes = anyOf (isVia p held l) (required p)
 
-    pub turn-mem : {m : Link} → List·Memᴰ m (heldAfter p held l) → List·Memᴰ m held
-    unfolding heldAfter
+    pub turn-mem : {m : Link} → List·Memᴰ m (pairsAfter p held l) → List·Memᴰ m held
+    unfolding pairsAfter
     turn-mem {m} =
         cond-ind goes others held (λ h. List·Memᴰ m h → List·Memᴰ m held)
         (λ t h. select-mem (λ m. not (joins (l .tail) (l .head) m)) held h .0) (λ t h. h)
 
-    pub mem-turn : {m : Link} → List·Memᴰ m held → m ≢ l → List·Memᴰ m (heldAfter p held l)
-    unfolding heldAfter
+    pub mem-turn : {m : Link} → List·Memᴰ m held → m ≢ l → List·Memᴰ m (pairsAfter p held l)
+    unfolding pairsAfter
     mem-turn {m} h n =
         cond-ind goes others held (List·Memᴰ m)
         (λ t. mem-select (λ m. not (joins (l .tail) (l .head) m)) h (not-T (joins (l .tail) (l .head) m) (λ u. n (joined u))))
         (λ t. h)
 
-    pub turn-gone : T goes → List·Memᴰ l (heldAfter p held l) → ⊥
-    unfolding heldAfter
+    pub turn-gone : T goes → List·Memᴰ l (pairsAfter p held l) → ⊥
+    unfolding pairsAfter
     turn-gone g =
         cond-ind goes others held (λ h. List·Memᴰ l h → ⊥)
         (λ t h. T-not (joins (l .tail) (l .head) l) (select-mem (λ m. not (joins (l .tail) (l .head) m)) held h .1)
         (joins-same {i = l .tail} {j = l .head} {l = l} refl))
         (λ t h. T-not goes t g)
 
-    pub turn-stays : T (not goes) → heldAfter p held l ≡ held
-    unfolding heldAfter
+    pub turn-stays : T (not goes) → pairsAfter p held l ≡ held
+    unfolding pairsAfter
     turn-stays n = cond-ind goes others held (λ h. h ≡ held) (λ t. absurd (T-not goes n t)) (λ t. refl)
 
     -- the turn of a pair that is not held drops none
-    pub turn-none : (List·Memᴰ l held → ⊥) → heldAfter p held l ≡ held
-    unfolding heldAfter
+    pub turn-none : (List·Memᴰ l held → ⊥) → pairsAfter p held l ≡ held
+    unfolding pairsAfter
     turn-none n =
         cond-ind goes others held (λ h. h ≡ held)
         (λ t. select-all (λ m. not (joins (l .tail) (l .head) m)) held
         (λ m h. is-true (not-T (joins (l .tail) (l .head) m) (λ u. n (Memᴰ·cast (sym (joined u)) h)))))
         (λ t. refl)
 
-    turn-select : (f : Link → Bool) × (heldAfter p held l ≡ select f held)
-    unfolding heldAfter
+    turn-select : (f : Link → Bool) × (pairsAfter p held l ≡ select f held)
+    unfolding pairsAfter
     turn-select =
         cond-ind goes others held (λ h. (f : Link → Bool) × (h ≡ select f held)) (λ t. (λ m. not (joins (l .tail) (l .head) m), refl))
         (λ t. (λ m. true, sym (select-all (λ m. true) held (λ m h. refl))))
 
-    pub turn-proper : AreProper held → AreProper (heldAfter p held l)
+    pub turn-proper : AreProper held → AreProper (pairsAfter p held l)
     turn-proper h m n = h m (turn-mem n)
 
     -- a pair that is dropped goes by two others that are held
@@ -187,7 +187,7 @@ module _ (p : Plan) where
   Goal end l = ChainOf end (l .tail) (l .head)
 
   -- one turn: a pair that is dropped is a chain of two that stay
-  turn-chain : (held end : List Link) (x : Link) → AreProper held → ((l : Link) → List·Memᴰ l (heldAfter p held x) → Goal end l)
+  turn-chain : (held end : List Link) (x : Link) → AreProper held → ((l : Link) → List·Memᴰ l (pairsAfter p held x) → Goal end l)
       → (l : Link) → List·Memᴰ l held → Goal end l
   turn-chain held end x h rest l m = elim (test (joins (x .tail) (x .head) l)) [
     | inr t ↦ rest l (mem-turn held x m (λ e. T-not (joins (x .tail) (x .head) l) t (joins-same e)))
@@ -208,7 +208,7 @@ module _ (p : Plan) where
   unfolding thinned
   held-chain held [] h l m = (l ∷ [], (refl, m, refl), omega arith)
   held-chain held (x ∷ ls) h l m =
-      turn-chain held (thinned p (heldAfter p held x) ls) x h (λ k n. held-chain (heldAfter p held x) ls (turn-proper held x h) k n) l m
+      turn-chain held (thinned p (pairsAfter p held x) ls) x h (λ k n. held-chain (pairsAfter p held x) ls (turn-proper held x h) k n) l m
 
   -- ---- what is held at the end is a selection of what was held
 
@@ -217,7 +217,7 @@ module _ (p : Plan) where
   thinned-select held [] = (λ m. true, sym (select-all (λ m. true) held (λ m h. refl)))
   thinned-select held (l ∷ ls) =
       let a = turn-select held l in
-      let b = thinned-select (heldAfter p held l) ls in
+      let b = thinned-select (pairsAfter p held l) ls in
       (λ m. a .0 m && b .0 m, b .1 ∙ ap (select (b .0)) (a .1) ∙ select-select (b .0) (a .0) held)
 
   pub thinned-proper : (held ls : List Link) → AreProper held → AreProper (thinned p held ls)
@@ -226,7 +226,7 @@ module _ (p : Plan) where
   pub thinned-append : (held ls ms : List Link) → thinned p held (ls ++ ms) ≡ thinned p (thinned p held ls) ms
   unfolding thinned
   thinned-append held [] ms = refl
-  thinned-append held (l ∷ ls) ms = thinned-append (heldAfter p held l) ls ms
+  thinned-append held (l ∷ ls) ms = thinned-append (pairsAfter p held l) ls ms
 
   -- pairs that are not held need no turn
   pub thinned-skip : (f : Link → Bool) (held ls : List Link) → ((l : Link) → List·Memᴰ l held → T (f l))
@@ -234,8 +234,8 @@ module _ (p : Plan) where
   unfolding thinned select
   thinned-skip f held [] h = refl
   thinned-skip f held (l ∷ ls) h =
-      cond-ind (f l) (l ∷ select f ls) (select f ls) (λ ms. thinned p held ms ≡ thinned p (heldAfter p held l) ls)
-      (λ t. thinned-skip f (heldAfter p held l) ls (λ m n. h m (turn-mem held l n)))
+      cond-ind (f l) (l ∷ select f ls) (select f ls) (λ ms. thinned p held ms ≡ thinned p (pairsAfter p held l) ls)
+      (λ t. thinned-skip f (pairsAfter p held l) ls (λ m n. h m (turn-mem held l n)))
       (λ t. thinned-skip f held ls h ∙ ap (λ (k : List Link). thinned p k ls) (sym (turn-none held l (λ m. T-not (f l) t (h l m)))))
 
   pub links-proper : AreProper (links p)

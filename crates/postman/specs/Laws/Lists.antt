@@ -1,7 +1,7 @@
 -- Laws of `map`, `flatMap`, `select` and `anyOf`. By induction on the list.
 use mathlib.Core.Path.{_≡_, refl, sym, ap, ap₂, _∙_}
 use mathlib.Core.Bool.{Bool, cond, _||_}
-use mathlib.Core.List.{List, [], _∷_, _++_, map, flatMap, List·Memᴰ, List·Memᴰ·head, List·Memᴰ·tail, append-assoc}
+use mathlib.Core.List.{List, [], _∷_, _++_, map, flatMap, List·Memᴰ, List·Memᴰ·head, List·Memᴰ·tail, append-assoc, map-append}
 use Prim.Native.Nat.{ℕ, suc, _+_, _<_}
 use native.Mathlib.Decide.{ℕ-discrete}
 use native.Mathlib.Omega.{arith}
@@ -15,18 +15,16 @@ module _ {A B : Type 0} where
   map-cong f g [] h = refl
   map-cong f g (x ∷ xs) h = ap₂ _∷_ (h x (List·Memᴰ·head refl)) (map-cong f g xs (λ y m. h y (List·Memᴰ·tail m)))
 
-  pub map-map : {C : Type 0} (f : B → C) (g : A → B) (xs : List A) → map f (map g xs) ≡ map (λ x. f (g x)) xs
-  map-map f g [] = refl
-  map-map {C} f g (x ∷ xs) = ap (λ (l : List C). f (g x) ∷ l) (map-map f g xs)
-
-  pub map-append : (f : A → B) (xs ys : List A) → map f (xs ++ ys) ≡ map f xs ++ map f ys
-  map-append f [] ys = refl
-  map-append f (x ∷ xs) ys = ap (λ (l : List B). f x ∷ l) (map-append f xs ys)
-
   pub flatMap-map : {C : Type 0} (h : B → List C) (g : A → B) (xs : List A) → flatMap h (map g xs) ≡ flatMap (λ x. h (g x)) xs
   unfolding flatMap
   flatMap-map h g [] = refl
   flatMap-map {C} h g (x ∷ xs) = ap (λ (l : List C). h (g x) ++ l) (flatMap-map h g xs)
+
+  pub flatMap-append : (h : A → List B) (xs ys : List A) → flatMap h (xs ++ ys) ≡ flatMap h xs ++ flatMap h ys
+  unfolding flatMap
+  flatMap-append h [] ys = refl
+  flatMap-append h (x ∷ xs) ys =
+      ap (λ (l : List B). h x ++ l) (flatMap-append h xs ys) ∙ sym (append-assoc (h x) (flatMap h xs) (flatMap h ys))
 
   pub anyOf-map : (f : B → Bool) (g : A → B) (xs : List A) → anyOf f (map g xs) ≡ anyOf (λ x. f (g x)) xs
   unfolding anyOf

@@ -118,7 +118,7 @@ car-table p marks = fun-ext (λ i. fun-ext (λ j. car-distance p marks i j))
 -- ---- the plan's own marks
 
 -- just the must arcs have checking costs
-pub record IsPriced (a : Arc) : Type 0 where
+pub record HasOwnService (a : Arc) : Type 0 where
   pub required-priced : T (isRequiredArc a) → T (not (eqb (a .service) 0))
   pub others-not : T (not (isRequiredArc a)) → a .service ≡ 0
 
@@ -128,7 +128,7 @@ ownMark a = cond (isRequiredArc a) 1 0
 abbrev arcOf : ℕ → ℕ → ℕ → ℕ → ℕ → Arc
 arcOf t h s c v = record { tail = t; head = h; standing = s; cost = c; service = v }
 
-own-arc : (t h s c v : ℕ) → IsPriced (arcOf t h s c v) → marked (ownMark (arcOf t h s c v)) (arcOf t h s c v) ≡ arcOf t h s c v
+own-arc : (t h s c v : ℕ) → HasOwnService (arcOf t h s c v) → marked (ownMark (arcOf t h s c v)) (arcOf t h s c v) ≡ arcOf t h s c v
 unfolding marked markedService
 own-arc t h zero c v g = ap (arcOf t h 0 c) (sym (g .others-not tt))
 own-arc t h (suc zero) c v g =
@@ -148,7 +148,7 @@ own-good t h (suc (suc s)) c v =
 good-arc : (a : Arc) → isBadMark (ownMark a) a ≡ false
 good-arc a = own-good (a .tail) (a .head) (a .standing) (a .cost) (a .service)
 
-same-arc : (a : Arc) → IsPriced a → marked (ownMark a) a ≡ a
+same-arc : (a : Arc) → HasOwnService a → marked (ownMark a) a ≡ a
 same-arc a g = own-arc (a .tail) (a .head) (a .standing) (a .cost) (a .service) g
 
 module _ (p : Plan) where
@@ -176,7 +176,7 @@ module _ (p : Plan) where
             subst T g (r .2)
       ])
 
-  module _ (priced : (a : Arc) → List·Memᴰ a (p .arcs) → IsPriced a) where
+  module _ (priced : (a : Arc) → List·Memᴰ a (p .arcs) → HasOwnService a) where
     pub own-plan : carPlan p (ownMarks p) ≡ p
     unfolding carPlan
     own-plan = λ i. record { n = p .n; arcs = arcs-same i }
@@ -243,7 +243,7 @@ module _ (bytes : List ℕ) (budget places : ℕ) (marks : List ℕ) where
 
 -- THE PLAN'S OWN MARKS, of a file that is not refused: the plan is the file's, and the car's refusal is the plan call's
 module _ (bytes : List ℕ) (read : firstRefusal (fileConditions bytes) ≡ none) where
-  file-priced : (a : Arc) → List·Memᴰ a (planOf bytes .arcs) → IsPriced a
+  file-priced : (a : Arc) → List·Memᴰ a (planOf bytes .arcs) → HasOwnService a
   file-priced a m =
       let t = file-arcs bytes read a m .priced in
       record {

@@ -7,6 +7,7 @@ use Prim.Native.Nat.{ℕ, zero, suc, _+_, _≤_, _<_, zero-le}
 use native.Mathlib.Nat.{le-refl}
 use native.Mathlib.Decide.{decLe}
 use native.Mathlib.Omega.{arith}
+use lib.ListN.{length}
 use lib.Dec.{eqb, eqb→eq, T-not}
 use Rattle.postman.specs.Lists.{select, upFrom, delta, occurrences}
 use Rattle.postman.specs.Laws.Tests.{cond-ind, eqb-same}
@@ -66,6 +67,11 @@ pub occurrences-append : (i : ℕ) (xs ys : List ℕ) → occurrences i (xs ++ y
 unfolding occurrences
 occurrences-append i [] ys = omega arith
 occurrences-append i (x ∷ xs) ys = let h = occurrences-append i xs ys in omega arith
+
+pub occurrences-few : (i : ℕ) (xs : List ℕ) → occurrences i xs ≤ length xs
+unfolding occurrences
+occurrences-few i [] = omega arith
+occurrences-few i (x ∷ xs) = let h = occurrences-few i xs in let d = delta-le i x in omega arith
 
 pub occurrences-select : (i : ℕ) (f : ℕ → Bool) (xs : List ℕ) → occurrences i (select f xs) ≤ occurrences i xs
 unfolding select occurrences

@@ -1,4 +1,4 @@
--- The lower bound is below every tour. For any tour there is an arborescence whose completion costs no more; the cost is the least over
+-- The lower bound is below every drive. For any drive there is an arborescence whose completion costs no more; the cost is the least over
 -- arborescences where all are tried, and L(u) is at most the completion cost of each.
 use mathlib.Core.Path.{_≡_, refl, sym, ap, subst, subst⁻¹}
 use mathlib.Core.Bool.{Bool, true, false, not, cond}
@@ -15,7 +15,7 @@ use lib.Dec.{T, leb, leb→le, le→leb, T-not}
 use Rattle.integers.specs.Linear.{z}
 use Rattle.postman.specs.Lists.{minimum, maxℤ}
 use Rattle.postman.specs.Plan.{Plan}
-use Rattle.postman.specs.Tour.{tourCost, IsTour}
+use Rattle.postman.specs.Drive.{driveCost, IsDrive}
 use Rattle.postman.specs.Required.{requiredCost}
 use Rattle.postman.specs.Link.{Link}
 use Rattle.postman.specs.Arborescence.{arborescences, arborescenceCount}
@@ -27,8 +27,8 @@ use Rattle.postman.specs.Laws.Tests.{cond-ind}
 use Rattle.postman.specs.Laws.Membership.{mem-map, map-mem}
 use Rattle.postman.specs.Laws.Minimum.{minimum-le, minimum-at}
 use Rattle.postman.specs.Laws.Distance.{bounded}
-use Rattle.postman.specs.Laws.Existence.{some-required, a-tour}
-use Rattle.postman.specs.Laws.TourBound.{arborescence-of-tour}
+use Rattle.postman.specs.Laws.Existence.{some-required, a-drive}
+use Rattle.postman.specs.Laws.DriveBound.{arborescence-of-drive}
 use Rattle.postman.specs.Steps.{Feasible, Plannable}
 use Rattle.postman.specs.Laws.LagrangianBound.{bound-le, bound-ge, zero-feasible}
 use Rattle.postman.specs.Laws.SignedSum.{≤ℤ-trans, max-right, max-least}
@@ -62,30 +62,31 @@ module _ (p : Plan) (budget : ℕ) where
       take-all (triedCount p budget) (arborescences p) (omega arith)
 
 module _ (p : Plan) (ok : Plannable p) where
-  pub tour-arborescence : (w : List ℕ) → IsTour p w → (t : List Link) × List·Memᴰ t (arborescences p) × (completionCost p t ≤ tourCost p w)
-  tour-arborescence w h = let k = some-required p (ok .some-arc) in arborescence-of-tour p (ok .well-formed) (k .0) (k .1) w h
+  pub drive-arborescence : (w : List ℕ) → IsDrive p w
+      → (t : List Link) × List·Memᴰ t (arborescences p) × (completionCost p t ≤ driveCost p w)
+  drive-arborescence w h = let k = some-required p (ok .some-arc) in arborescence-of-drive p (ok .well-formed) (k .0) (k .1) w h
 
   -- N ≥ 1
   pub some-arborescence : 0 < arborescenceCount p
   unfolding arborescenceCount
   some-arborescence =
-      let w = a-tour p (ok .well-formed) (ok .connected) (ok .some-arc) in
-      nonempty (tour-arborescence (w .0) (w .1) .1)
+      let w = a-drive p (ok .well-formed) (ok .connected) (ok .some-arc) in
+      nonempty (drive-arborescence (w .0) (w .1) .1)
     where
       nonempty : {t : List Link} {ts : List (List Link)} → List·Memᴰ t ts → 0 < length ts
       nonempty (List·Memᴰ·head e) = omega arith
       nonempty (List·Memᴰ·tail m) = omega arith
 
-  -- all arborescences tried: no tour is cheaper
-  pub whole-le : (budget : ℕ) → T (isWhole p budget) → (w : List ℕ) → IsTour p w → bestCost p budget ≤ tourCost p w
+  -- all arborescences tried: no drive is cheaper
+  pub whole-le : (budget : ℕ) → T (isWhole p budget) → (w : List ℕ) → IsDrive p w → bestCost p budget ≤ driveCost p w
   whole-le budget t w h =
-      let r = tour-arborescence w h in
+      let r = drive-arborescence w h in
       le-trans (best-le p budget (subst⁻¹ (λ (ts : List (List Link)). List·Memᴰ (r .0) ts) (whole-all p budget t) (r .1))) (r .2)
 
   module _ (u : Multipliers) (feasible : Feasible p u) where
-    bound-tour : (w : List ℕ) → IsTour p w → lagrangianBound p u ≤ℤ pos (tourCost p w)
-    bound-tour w h =
-        let r = tour-arborescence w h in
+    bound-drive : (w : List ℕ) → IsDrive p w → lagrangianBound p u ≤ℤ pos (driveCost p w)
+    bound-drive w h =
+        let r = drive-arborescence w h in
         let a = bound-le p u (bounded (ok .well-formed) .ends) feasible (r .0) (r .1) in
         let b = r .2 in
         omega (arith, z)
@@ -106,9 +107,9 @@ module _ (p : Plan) (ok : Plannable p) where
       let best = bestCost p budget in
       let ge = bound-ge p u (bounded (ok .well-formed) .ends) h some-arborescence in
       record {
-        below-every-tour = λ w g. cond-ind (isWhole p budget) (pos best) (maxℤ L0 Lu) (λ x. x ≤ℤ pos (tourCost p w))
+        below-every-drive = λ w g. cond-ind (isWhole p budget) (pos best) (maxℤ L0 Lu) (λ x. x ≤ℤ pos (driveCost p w))
             (λ t. (let a = whole-le budget t w g in omega (arith, z)))
-            (λ t. max-least L0 Lu (pos (tourCost p w)) (bound-tour (λ i. pos 0) (zero-feasible p) w g) (bound-tour u (h .feasible) w g));
+            (λ t. max-least L0 Lu (pos (driveCost p w)) (bound-drive (λ i. pos 0) (zero-feasible p) w g) (bound-drive u (h .feasible) w g));
         whole-equal = λ t. pick-yes (isWhole p budget) (pos best) (maxℤ L0 Lu) t;
         whole-least = λ t w g. whole-le budget t w g;
         partial-equal = λ t. pick-no (isWhole p budget) (pos best) (maxℤ L0 Lu) t;

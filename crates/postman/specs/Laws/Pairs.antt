@@ -1,47 +1,44 @@
 -- The pairs of the vertices below 64, in order, are those of the places below 4096. By induction on the rows, and along a row.
 use mathlib.Core.Path.{_≡_, refl, sym, ap, ap₂, _∙_}
 use mathlib.Core.Bool.{Bool, true, false, cond, _&&_}
-use mathlib.Core.List.{List, [], _∷_, _++_, map, flatMap, append-nil, append-assoc}
+use mathlib.Core.List.{List, [], _∷_, _++_, map, flatMap, append-nil, append-assoc, map-append}
 use Prim.Native.Nat.{ℕ, zero, suc, _+_, _*_, _-_, _/_, _%_, _≤_}
 use native.Mathlib.Omega.{arith}
 use Rattle.postman.specs.Lists.{select, below, upFrom}
 use Rattle.postman.specs.Link.{Link, pairs}
 use Rattle.postman.specs.Laws.Link.{link}
 use Rattle.postman.specs.Laws.Selection.{select-none, below-split}
-use Rattle.postman.specs.Laws.Lists.{map-append, select-map, select-flatMap, flatMap-cong}
+use Rattle.postman.specs.Laws.Lists.{select-map, select-flatMap, flatMap-cong}
+use Rattle.postman.specs.Steps.{pairAt}
 
--- the pair at place x, which ascends as (tail, head) does
-abbrev pub linkOf : ℕ → Link
-linkOf x = record { tail = x / 64; head = x % 64 }
-
-row : (a b n : ℕ) → b + n ≤ 64 → map linkOf (upFrom (a * 64 + b) n) ≡ map (link a) (upFrom b n)
+row : (a b n : ℕ) → b + n ≤ 64 → map pairAt (upFrom (a * 64 + b) n) ≡ map (link a) (upFrom b n)
 unfolding upFrom
 row a b zero l = refl
 row a b (suc n) l =
     let d : (a * 64 + b) / 64 ≡ a = omega arith in
     let m : (a * 64 + b) % 64 ≡ b = omega arith in
     let e : suc (a * 64 + b) ≡ a * 64 + suc b = omega arith in
-    ap₂ _∷_ (ap₂ link d m) (ap (λ x. map linkOf (upFrom x n)) e ∙ row a (suc b) n (omega arith))
+    ap₂ _∷_ (ap₂ link d m) (ap (λ x. map pairAt (upFrom x n)) e ∙ row a (suc b) n (omega arith))
 
 flatMap-last : {A : Type 0} (h : ℕ → List A) (xs : List ℕ) (x : ℕ) → flatMap h (xs ++ x ∷ []) ≡ flatMap h xs ++ h x
 unfolding flatMap
 flatMap-last h [] x = append-nil (h x)
 flatMap-last {A} h (y ∷ xs) x = ap (λ (l : List A). h y ++ l) (flatMap-last h xs x) ∙ sym (append-assoc (h y) (flatMap h xs) (h x))
 
-rows : (n : ℕ) → map linkOf (below (n * 64)) ≡ flatMap (λ i. map (link i) (below 64)) (below n)
+rows : (n : ℕ) → map pairAt (below (n * 64)) ≡ flatMap (λ i. map (link i) (below 64)) (below n)
 unfolding upFrom flatMap below
 rows zero = refl
 rows (suc n) =
     let a : suc n * 64 - n * 64 ≡ 64 = omega arith in
     let b : suc n - n ≡ 1 = omega arith in
     let z : n * 64 ≡ n * 64 + 0 = omega arith in
-    ap (map linkOf) (below-split (n * 64) (suc n * 64) (omega arith) ∙ ap (λ x. below (n * 64) ++ upFrom (n * 64) x) a)
-    ∙ map-append linkOf (below (n * 64)) (upFrom (n * 64) 64)
-    ∙ ap₂ _++_ (rows n) (ap (λ x. map linkOf (upFrom x 64)) z ∙ row n 0 64 (omega arith))
+    ap (map pairAt) (below-split (n * 64) (suc n * 64) (omega arith) ∙ ap (λ x. below (n * 64) ++ upFrom (n * 64) x) a)
+    ∙ map-append pairAt (below (n * 64)) (upFrom (n * 64) 64)
+    ∙ ap₂ _++_ (rows n) (ap (λ x. map pairAt (upFrom x 64)) z ∙ row n 0 64 (omega arith))
     ∙ sym (ap (flatMap (λ i. map (link i) (below 64))) (below-split n (suc n) (omega arith) ∙ ap (λ x. below n ++ upFrom n x) b)
     ∙ flatMap-last (λ i. map (link i) (below 64)) (below n) n)
 
-pub pairs-are : pairs (below 64) ≡ map linkOf (below 4096)
+pub pairs-are : pairs (below 64) ≡ map pairAt (below 4096)
 unfolding pairs
 pairs-are = sym (rows 64)
 

@@ -3,7 +3,7 @@
 -- sum over the required vertices of one plan is one over those of the other: each is there once.
 use mathlib.Core.Path.{_≡_, refl, sym, ap, ap₂, _∙_}
 use mathlib.Core.Bool.{cond}
-use mathlib.Core.List.{List, [], _∷_, _++_, map, List·Memᴰ}
+use mathlib.Core.List.{List, [], _∷_, _++_, map, List·Memᴰ, map-append, map-map}
 use Prim.Native.Nat.{ℕ, _+_, _*_}
 use native.Mathlib.Nat.{mul-one}
 use lib.IntN.{pos, _-ℤ_}
@@ -15,7 +15,7 @@ use Rattle.postman.specs.Link.{Link}
 use Rattle.postman.specs.Balancing.{heads, tails, imbalance, sumOver, IsBalancing, balancingCost, assignment, leastBalancing, linkCost, completionCost}
 use Rattle.postman.specs.Renumbering.{IsNumbering, renumberedArc, renumbered, renumberedLink, renumberedTree}
 use Rattle.postman.specs.Laws.Membership.{map-mem}
-use Rattle.postman.specs.Laws.Lists.{map-cong, map-map, map-append}
+use Rattle.postman.specs.Laws.Lists.{map-cong}
 use Rattle.postman.specs.Laws.Sum.{sum-cong, sum-cong-mem, once, sum-occurrences}
 use Rattle.postman.specs.Laws.Required.{required-once}
 use Rattle.postman.specs.Laws.Renumbering.{eqb-number, renumbered-required, renumbered-cost}

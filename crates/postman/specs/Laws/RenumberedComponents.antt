@@ -25,7 +25,7 @@ use Rattle.postman.specs.Laws.Distance.{InPlan, bounded}
 use Rattle.postman.specs.Laws.Walk.{Leads}
 use Rattle.postman.specs.Laws.Component.{flat, undirected, component-lt, component-at, walk-component, component-walk}
 use Rattle.postman.specs.Laws.Renumbering.{eqb-number, inverse, renumbered-back, renumbered-well-formed, renumbered-required, renumbered-count}
-use Rattle.postman.specs.Laws.RenumberedTour.{walks}
+use Rattle.postman.specs.Laws.RenumberedDrive.{walks}
 use Rattle.postman.specs.Laws.RenumberedDistance.{path-renumbered}
 use Rattle.postman.specs.Steps.{Plannable}
 

@@ -1,144 +1,106 @@
--- A drive that is laid for the plan renumbered is laid for the plan, from the same legs between the vertices that had the new numbers: must
--- arcs and paths are lists of arc numbers, which are the same, and a path of fewest arcs stays one. So tree and amounts are carried back
--- with it.
+-- A walk of the plan is one of the plan renumbered, between the new numbers of its ends, and the other way round; so a list of arc numbers
+-- is a drive of one exactly when it is one of the other. Its cost goes by the arcs' numbers alone. By induction on the walk.
 use mathlib.Core.Path.{_≡_, refl, sym, ap, ap₂, _∙_, subst, subst⁻¹}
-use mathlib.Core.Bool.{_&&_}
-use mathlib.Core.List.{List, [], _∷_, map, flatMap, List·Memᴰ}
-use Prim.Native.Nat.{ℕ}
-use lib.ListN.{length, getD, take, length-map}
-use lib.Dec.{eqb}
-use Rattle.postman.specs.Lists.{select, occurrences}
-use Rattle.postman.specs.Plan.{Plan}
-use Rattle.postman.specs.Required.{required}
-use Rattle.postman.specs.Link.{Link, joins}
-use Rattle.postman.specs.Arborescence.{arborescences}
-use Rattle.postman.specs.Balancing.{imbalance, IsBalancing, leastBalancing, completionCost}
-use Rattle.postman.specs.Description.{Leg, mustArc, forLink, forUnit, placesOfLeg, mustArcOf, linkOf, unitOf, howOften, IsLegPath, IsLaid}
-use Rattle.postman.specs.PlanCall.{triedCount, IsAnswerTour}
-use Rattle.postman.specs.Renumbering.{IsNumbering, renumbered, renumberedLink, renumberedTree, IsRenumberedTour}
-use Rattle.postman.specs.Laws.Membership.{mem-map}
-use Rattle.postman.specs.Laws.Lists.{flatMap-map, flatMap-cong, map-flatMap, select-map}
-use Rattle.postman.specs.Laws.FewestPath.{fewest-once}
-use Rattle.postman.specs.Laws.Renumbering.{eqb-number, renumbered-numbers}
-use Rattle.postman.specs.Laws.RenumberedTour.{tours, tour-cost, fewest-back}
-use Rattle.postman.specs.Laws.RenumberedComponents.{requireds}
-use Rattle.postman.specs.Laws.RenumberedBalancing.{balancing-renumbered, completion-renumbered, amounts-back, amounts-cost}
+use mathlib.Core.Logic.{_↔_}
+use mathlib.Core.Bool.{not, cond}
+use mathlib.Core.List.{List, [], _∷_, map}
+use Prim.Native.Nat.{ℕ, _+_, _<_}
+use native.Mathlib.Omega.{arith}
+use lib.ListN.{length, length-map}
+use lib.Dec.{T, eqb}
+use Rattle.postman.specs.Lists.{select, anyOf}
+use Rattle.postman.specs.Plan.{Arc, Plan, isOpen, isRequiredArc, arcAt, requiredNumbers}
+use Rattle.postman.specs.Drive.{IsWalk, walkCost, IsDrive, driveCostDue, driveCost}
+use Rattle.postman.specs.FewestPath.{IsFewestPath}
+use Rattle.postman.specs.Renumbering.{IsNumbering, renumberedArc, renumbered}
+use Rattle.postman.specs.Laws.Renumbering.{one-to-one, arc-number, arc-same, renumbered-numbers}
 
--- ---- legs
+-- ---- walks
 
-renumberedLeg : (ℕ → ℕ) → Leg → Leg
-renumberedLeg π (mustArc k) = mustArc k
-renumberedLeg π (forLink i j w) = forLink (π i) (π j) w
-renumberedLeg π (forUnit i j w) = forUnit (π i) (π j) w
+module _ (arcs : List Arc) (π : ℕ → ℕ) where
+  abbrev others : List Arc
+  others = map (renumberedArc π) arcs
 
-module _ (π : ℕ → ℕ) (legs : List Leg) where
-  -- what a leg has that is no vertex is the same
-  legs-same : {B : Type 0} (f : Leg → List B) → ((l : Leg) → f (renumberedLeg π l) ≡ f l)
-      → flatMap f (map (renumberedLeg π) legs) ≡ flatMap f legs
-  legs-same f e = flatMap-map f (renumberedLeg π) legs ∙ flatMap-cong (λ l. f (renumberedLeg π l)) f legs (λ l m. e l)
+  walk-renumbered : (i j : ℕ) (w : List ℕ) → IsWalk arcs i w j → IsWalk others (π i) w (π j)
+  walk-renumbered i j [] h = ap π h
+  walk-renumbered i j (k ∷ w) h =
+      let e = length-map arcs (renumberedArc π) in
+      let l = h .0 in
+      subst⁻¹ (λ (a : Arc). (k < length others) × T (isOpen a) × (a .tail ≡ π i) × IsWalk others (a .head) w (π j))
+      (arc-number π arcs k (h .0))
+      (omega arith, h .1, ap π (h .2), walk-renumbered (arcAt arcs k .head) j w (h .3))
 
-  -- and its pair of vertices is renumbered
-  legs-pairs : (f : Leg → List Link) → ((l : Leg) → f (renumberedLeg π l) ≡ map (renumberedLink π) (f l))
-      → flatMap f (map (renumberedLeg π) legs) ≡ renumberedTree π (flatMap f legs)
-  legs-pairs f e =
-      flatMap-map f (renumberedLeg π) legs ∙ flatMap-cong (λ l. f (renumberedLeg π l)) (λ l. map (renumberedLink π) (f l)) legs (λ l m. e l)
-      ∙ sym (map-flatMap f (renumberedLink π) legs)
+  pub cost-renumbered : (w : List ℕ) → walkCost others w ≡ walkCost arcs w
+  cost-renumbered [] = refl
+  cost-renumbered (k ∷ w) = ap₂ _+_ (arc-same π (λ a. a .cost) (λ a. refl) arcs k) (cost-renumbered w)
 
-places-same : (π : ℕ → ℕ) (l : Leg) → placesOfLeg (renumberedLeg π l) ≡ placesOfLeg l
-unfolding placesOfLeg renumberedLeg
-places-same π (mustArc k) = refl
-places-same π (forLink i j w) = refl
-places-same π (forUnit i j w) = refl
+  due-renumbered : (due w : List ℕ) → driveCostDue others due w ≡ driveCostDue arcs due w
+  unfolding driveCostDue
+  due-renumbered due [] = refl
+  due-renumbered due (k ∷ w) =
+      let rest = select (λ j. not (eqb k j)) due in
+      ap₂ (cond (anyOf (eqb k) due))
+      (ap₂ _+_ (arc-same π (λ a. a .service) (λ a. refl) arcs k) (due-renumbered rest w))
+      (ap₂ _+_ (arc-same π (λ a. a .cost) (λ a. refl) arcs k) (due-renumbered due w))
 
-must-same : (π : ℕ → ℕ) (l : Leg) → mustArcOf (renumberedLeg π l) ≡ mustArcOf l
-unfolding mustArcOf renumberedLeg
-must-same π (mustArc k) = refl
-must-same π (forLink i j w) = refl
-must-same π (forUnit i j w) = refl
+  module _ {n : ℕ} {σ : ℕ → ℕ} (number : IsNumbering n π σ) where
+    walk-back : (i j : ℕ) (w : List ℕ) → IsWalk others (π i) w (π j) → IsWalk arcs i w j
+    walk-back i j [] h = one-to-one number h
+    walk-back i j (k ∷ w) h =
+        let e = length-map arcs (renumberedArc π) in
+        let m = h .0 in
+        let l : k < length arcs = omega arith in
+        let r = subst (λ (a : Arc). T (isOpen a) × (a .tail ≡ π i) × IsWalk others (a .head) w (π j)) (arc-number π arcs k l)
+        (h .1, h .2, h .3) in
+        (l, r .0, one-to-one number (r .1), walk-back (arcAt arcs k .head) j w (r .2))
 
-link-renumbered : (π : ℕ → ℕ) (l : Leg) → linkOf (renumberedLeg π l) ≡ map (renumberedLink π) (linkOf l)
-unfolding linkOf renumberedLeg
-link-renumbered π (mustArc k) = refl
-link-renumbered π (forLink i j w) = refl
-link-renumbered π (forUnit i j w) = refl
+    -- a walk of one exactly when of the other
+    pub walks : (i j : ℕ) (w : List ℕ) → IsWalk others (π i) w (π j) ↔ IsWalk arcs i w j
+    walks i j w = (walk-back i j w, walk-renumbered i j w)
 
-unit-renumbered : (π : ℕ → ℕ) (l : Leg) → unitOf (renumberedLeg π l) ≡ map (renumberedLink π) (unitOf l)
-unfolding unitOf renumberedLeg
-unit-renumbered π (mustArc k) = refl
-unit-renumbered π (forLink i j w) = refl
-unit-renumbered π (forUnit i j w) = refl
+-- ---- drives, and the path of fewest arcs
 
--- ---- there and back
-
-module _ {n : ℕ} {π σ : ℕ → ℕ} (h : IsNumbering n π σ) where
-  tree-again : (t : List Link) → renumberedTree π (renumberedTree σ t) ≡ t
-  tree-again [] = refl
-  tree-again (l ∷ t) = ap₂ _∷_ (ap₂ (λ (i j : ℕ). record { tail = i; head = j }) (h .forth (l .tail)) (h .forth (l .head))) (tree-again t)
-
-  legs-again : (legs : List Leg) → map (renumberedLeg π) (map (renumberedLeg σ) legs) ≡ legs
-  unfolding renumberedLeg
-  legs-again [] = refl
-  legs-again (mustArc k ∷ legs) = ap (λ (l : List Leg). mustArc k ∷ l) (legs-again legs)
-  legs-again (forLink i j w ∷ legs) = ap₂ _∷_ (ap₂ (λ (a b : ℕ). forLink a b w) (h .forth i) (h .forth j)) (legs-again legs)
-  legs-again (forUnit i j w ∷ legs) = ap₂ _∷_ (ap₂ (λ (a b : ℕ). forUnit a b w) (h .forth i) (h .forth j)) (legs-again legs)
-
-  leg-back : {l : Leg} (legs : List Leg) → List·Memᴰ l (map (renumberedLeg σ) legs) → List·Memᴰ (renumberedLeg π l) legs
-  leg-back {l} legs m = subst (λ (ls : List Leg). List·Memᴰ (renumberedLeg π l) ls) (legs-again legs) (mem-map (renumberedLeg π) m)
-
-  often-back : (i j : ℕ) (ls : List Link) → howOften i j (renumberedTree σ ls) ≡ howOften (π i) (π j) ls
-  unfolding howOften
-  often-back i j ls =
-      ap length (select-map (joins i j) (joins (π i) (π j)) (renumberedLink σ) ls
-      (λ l m. ap₂ _&&_ (turned (l .tail) i) (turned (l .head) j)))
-      ∙ length-map (select (joins (π i) (π j)) ls) (renumberedLink σ)
-    where
-      turned : (v i : ℕ) → eqb (σ v) i ≡ eqb v (π i)
-      turned v i = sym (eqb-number h (σ v) i) ∙ ap (λ z. eqb z (π i)) (h .forth v)
-
--- ---- the drive
+pub drive-cost : (p : Plan) (π : ℕ → ℕ) (w : List ℕ) → driveCost (renumbered p π) w ≡ driveCost p w
+unfolding driveCost
+drive-cost p π w =
+    due-renumbered (p .arcs) π (requiredNumbers (renumbered p π)) w
+    ∙ ap (λ (due : List ℕ). driveCostDue (p .arcs) due w) (renumbered-numbers p π)
 
 module _ (p : Plan) {π σ : ℕ → ℕ} (h : IsNumbering (p .n) π σ) where
   abbrev q : Plan
   q = renumbered p π
 
-  path-back : (i j : ℕ) (w : List ℕ) → IsLegPath q (π i) (π j) w → IsLegPath p i j w
-  path-back i j w l =
-      let f = fewest-back p h i j w (l .fewest-path) in
-      record { from = requireds p h i .0 (l .from); to = requireds p h j .0 (l .to); fewest-path = f; once = fewest-once p i j w f }
+  must-same : (k : ℕ) → isRequiredArc (arcAt (q .arcs) k) ≡ isRequiredArc (arcAt (p .arcs) k)
+  must-same k = arc-same π isRequiredArc (λ a. refl) (p .arcs) k
 
-  pub laid-back : (t : List Link) (f : ℕ → ℕ → ℕ) (w : List ℕ) → IsLaid q t f w → IsLaid p (renumberedTree σ t) (λ i j. f (π i) (π j)) w
-  unfolding renumberedLeg
-  laid-back t f w l =
-      let legs = l .legs in record {
-        legs = map (renumberedLeg σ) legs;
-        places = legs-same σ legs placesOfLeg (places-same σ) ∙ l .places;
-        must-arcs = λ k. ap (occurrences k) (legs-same σ legs mustArcOf (must-same σ)) ∙ l .must-arcs k
-            ∙ ap (occurrences k) (renumbered-numbers p π);
-        links = λ i j. ap (howOften i j) (legs-pairs σ legs linkOf (link-renumbered σ)) ∙ often-back h i j (flatMap linkOf legs)
-            ∙ l .links (π i) (π j) ∙ sym (often-back h i j t);
-        units = λ i j a b. ap (howOften i j) (legs-pairs σ legs unitOf (unit-renumbered σ)) ∙ often-back h i j (flatMap unitOf legs)
-            ∙ l .units (π i) (π j) (requireds p h i .1 a) (requireds p h j .1 b);
-        link-paths = λ i j v m. path-back i j v (l .link-paths (π i) (π j) v (leg-back h legs m));
-        unit-paths = λ i j v m. path-back i j v (l .unit-paths (π i) (π j) v (leg-back h legs m));
-      }
+  pub drives : (w : List ℕ) → IsDrive q w ↔ IsDrive p w
+  drives w = (back, into)
+    where
+      back : IsDrive q w → IsDrive p w
+      back t =
+          let e = length-map (p .arcs) (renumberedArc π) in record {
+            start = σ (t .start);
+            leads-back = walk-back (p .arcs) π h (σ (t .start)) (σ (t .start)) w
+                (subst⁻¹ (λ v. IsWalk (q .arcs) v w v) (h .forth (t .start)) (t .leads-back));
+            covers = λ k l m. t .covers k (omega arith) (subst⁻¹ T (must-same k) m);
+          }
 
-  pub tour-back : (budget : ℕ) (w : List ℕ) → IsAnswerTour q budget w → IsRenumberedTour p π budget w
-  tour-back budget w a =
-      let t = renumberedTree σ (a .tree) in
-      let e = tree-again h (a .tree) in
+      into : IsDrive p w → IsDrive q w
+      into t =
+          let e = length-map (p .arcs) (renumberedArc π) in record {
+            start = π (t .start);
+            leads-back = walk-renumbered (p .arcs) π (t .start) (t .start) w (t .leads-back);
+            covers = λ k l m. t .covers k (omega arith) (subst T (must-same k) m);
+          }
+
+  -- the lowest list among paths of fewest arcs goes by the arcs' numbers, which are the same
+  pub fewest-back : (i j : ℕ) (w : List ℕ) → IsFewestPath q (π i) (π j) w → IsFewestPath p i j w
+  fewest-back i j w f =
+      let cost : (v : List ℕ) → walkCost (q .arcs) v ≡ walkCost (p .arcs) v = cost-renumbered (p .arcs) π in
+      let into : (v : List ℕ) → IsWalk (p .arcs) i v j → IsWalk (q .arcs) (π i) v (π j) = walk-renumbered (p .arcs) π i j in
       record {
-        tour = tours p h w .0 (a .tour);
-        costs = sym (tour-cost p π w) ∙ a .costs;
-        nonempty = a .nonempty;
-        first = a .first ∙ ap (λ (ks : List ℕ). getD ks 0 0) (renumbered-numbers p π);
-        short = a .short;
-        tree = t;
-        tried = subst⁻¹ (λ (s : List Link). List·Memᴰ s (take (triedCount q budget) (arborescences q))) e (a .tried);
-        least = sym (completion-renumbered p h t) ∙ ap (λ (s : List Link). completionCost q s) e ∙ a .least;
-        amounts = λ i j. a .amounts (π i) (π j);
-        balances = amounts-back p h (a .amounts) t
-            (subst⁻¹ (λ (s : List Link). IsBalancing (required q) (imbalance q s) (a .amounts)) e (a .balances));
-        balances-least = sym (amounts-cost p h (a .amounts)) ∙ a .balances-least ∙ ap (leastBalancing q) (sym e)
-            ∙ balancing-renumbered p h t;
-        laid = laid-back (a .tree) (a .amounts) w (a .laid);
+        walk = walk-back (p .arcs) π h i j w (f .walk);
+        cheapest = λ v g. let a = f .cheapest v (into v g) in let b = cost v in let c = cost w in omega arith;
+        fewest = λ v g e. f .fewest v (into v g) (cost v ∙ e ∙ sym (cost w));
+        lowest = λ v g e l. f .lowest v (into v g) (cost v ∙ e ∙ sym (cost w)) l;
       }

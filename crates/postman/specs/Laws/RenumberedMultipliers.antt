@@ -1,6 +1,6 @@
 -- Multipliers of the plan renumbered, carried back, are multipliers of the plan: reduced costs are the same, and so is the sum of u(i) ×
 -- D(i), which is u's sum over the heads less that over the tails. So a lower bound of the plan renumbered is one of the plan: it has the
--- same tours, at the same costs, and the same R and Z.
+-- same drives, at the same costs, and the same R and Z.
 use mathlib.Core.Path.{_≡_, sym, ap, ap₂, _∙_, subst, fun-ext}
 use mathlib.Core.List.{List, [], map}
 use Prim.Native.Nat.{ℕ, _+_, _≤_}
@@ -9,7 +9,7 @@ use lib.Signed.{_≤ℤ_}
 use lib.Dec.{T}
 use Rattle.postman.specs.Lists.{sumOfℤ}
 use Rattle.postman.specs.Plan.{Plan, WellFormed}
-use Rattle.postman.specs.Tour.{IsTour, tourCost}
+use Rattle.postman.specs.Drive.{IsDrive, driveCost}
 use Rattle.postman.specs.Required.{requiredCost}
 use Rattle.postman.specs.Balancing.{heads, tails, leastBalancing}
 use Rattle.postman.specs.LagrangianBound.{Multipliers, reducedCost, priceOfImbalance, AreMultipliers}
@@ -20,7 +20,7 @@ use Rattle.postman.specs.Laws.Distance.{bounded}
 use Rattle.postman.specs.Laws.SignedSum.{sum-map}
 use Rattle.postman.specs.Laws.LagrangianBound.{price-split}
 use Rattle.postman.specs.Laws.Renumbering.{renumbered-well-formed, renumbered-cost}
-use Rattle.postman.specs.Laws.RenumberedTour.{tours, tour-cost}
+use Rattle.postman.specs.Laws.RenumberedDrive.{drives, drive-cost}
 use Rattle.postman.specs.Laws.RenumberedDistance.{distance-renumbered}
 use Rattle.postman.specs.Laws.RenumberedComponents.{requireds}
 use Rattle.postman.specs.Laws.RenumberedBalancing.{heads-renumbered, tails-renumbered, balancing-renumbered}
@@ -60,12 +60,13 @@ module _ (p : Plan) {π σ : ℕ → ℕ} (h : IsNumbering (p .n) π σ) (u : Mu
 
 module _ (p : Plan) {π σ : ℕ → ℕ} (h : IsNumbering (p .n) π σ) (budget : ℕ) (u : Multipliers)
     (g : Guarantee (renumbered p π) budget u) where
-  pub below-tours : (w : List ℕ) → IsTour p w → lowerBound (renumbered p π) budget u ≤ℤ pos (tourCost p w)
-  below-tours w t = subst (λ c. lowerBound (renumbered p π) budget u ≤ℤ pos c) (tour-cost p π w) (g .below-every-tour w (tours p h w .1 t))
+  pub below-drives : (w : List ℕ) → IsDrive p w → lowerBound (renumbered p π) budget u ≤ℤ pos (driveCost p w)
+  below-drives w t =
+      subst (λ c. lowerBound (renumbered p π) budget u ≤ℤ pos c) (drive-cost p π w) (g .below-every-drive w (drives p h w .1 t))
 
-  -- where all trees were tried, no tour is cheaper
-  pub least-cost : T (isWhole (renumbered p π) budget) → (w : List ℕ) → IsTour p w → bestCost (renumbered p π) budget ≤ tourCost p w
-  least-cost e w t = subst (λ c. bestCost (renumbered p π) budget ≤ c) (tour-cost p π w) (g .whole-least e w (tours p h w .1 t))
+  -- where all trees were tried, no drive is cheaper
+  pub least-cost : T (isWhole (renumbered p π) budget) → (w : List ℕ) → IsDrive p w → bestCost (renumbered p π) budget ≤ driveCost p w
+  least-cost e w t = subst (λ c. bestCost (renumbered p π) budget ≤ c) (drive-cost p π w) (g .whole-least e w (drives p h w .1 t))
 
   -- R + Z
   pub above-balancing : pos (requiredCost p + leastBalancing p []) ≤ℤ lowerBound (renumbered p π) budget u

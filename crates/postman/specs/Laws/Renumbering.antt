@@ -2,7 +2,7 @@
 -- formed, has the same required arcs with the same numbers and the same R, and renumbered back it is the plan. By induction on the list of
 -- arcs.
 use mathlib.Core.Path.{_≡_, refl, sym, ap, _∙_, subst⁻¹, fun-ext}
-use mathlib.Core.List.{List, [], _∷_, map}
+use mathlib.Core.List.{List, [], _∷_, map, map-map}
 use Prim.Native.Nat.{ℕ, zero, suc, _+_, _≤_, _<_}
 use native.Mathlib.Decide.{decLe}
 use native.Mathlib.Omega.{arith}
@@ -14,7 +14,7 @@ use Rattle.postman.specs.Required.{requiredCost}
 use Rattle.postman.specs.Renumbering.{IsNumbering, numberIn, renumberedArc, renumbered}
 use Rattle.postman.specs.Laws.Tests.{same-test, eqb-same}
 use Rattle.postman.specs.Laws.Membership.{map-mem, select-cong}
-use Rattle.postman.specs.Laws.Lists.{map-map, select-map}
+use Rattle.postman.specs.Laws.Lists.{select-map}
 
 -- ---- numberings
 

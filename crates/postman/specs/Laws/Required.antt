@@ -2,7 +2,7 @@
 use mathlib.Core.Path.{_≡_, refl, sym, ap, ap₂, _∙_, subst₂, subst⁻¹}
 use mathlib.Core.Logic.{_⊎_, inl, inr}
 use mathlib.Core.Bool.{Bool, true, false, cond, _||_}
-use mathlib.Core.List.{List, [], _∷_, _++_, map, List·Memᴰ, append-assoc}
+use mathlib.Core.List.{List, [], _∷_, _++_, map, map-map, List·Memᴰ, append-assoc}
 use Prim.Native.Nat.{ℕ, suc, _+_, _≤_, _<_}
 use native.Mathlib.Nat.{le-trans}
 use native.Mathlib.Numerals.{add-one}
@@ -11,8 +11,8 @@ use lib.ListN.{length, getD, length-append}
 use lib.Seq.{getD-append-seam}
 use lib.Dec.{T, eqb, eqb→eq, eqb-refl, lt→ltb}
 use Rattle.postman.specs.Lists.{select, below, upFrom, sumOf, occurrences}
-use Rattle.postman.specs.Plan.{Arc, Plan, isOpen, isRequiredArc, arcAt, requiredArcs, requiredNumbers}
-use Rattle.postman.specs.Tour.{walkCost}
+use Rattle.postman.specs.Plan.{Arc, Plan, isOpen, isRequiredArc, arcAt, requiredArcs, requiredNumbers, WellFormed}
+use Rattle.postman.specs.Drive.{walkCost}
 use Rattle.postman.specs.Required.{isRequired, required, requiredCost}
 use Rattle.postman.specs.Laws.Tests.{or-left, or-right, or-cases}
 use Rattle.postman.specs.Laws.Membership.{mem-select, select-mem, getD-mem, mem-getD, anyOf-mem, anyOf-at, mem-below, below-mem}
@@ -37,6 +37,9 @@ required-arc-of p {v} m =
 pub required-lt : (p : Plan) {v : ℕ} → List·Memᴰ v (required p) → v < p .n
 unfolding required
 required-lt p m = below-mem (select-mem (isRequired p) (below (p .n)) m .0)
+
+pub required-below : (p : Plan) → WellFormed p → {v : ℕ} → List·Memᴰ v (required p) → v < 64
+required-below p ok m = let l = required-lt p m in let n = ok .vertices in omega arith
 
 pub required-mem : (p : Plan) (k : ℕ) → IsRequiredNumber p k → List·Memᴰ (arcAt (p .arcs) k) (requiredArcs p)
 unfolding requiredArcs
@@ -108,10 +111,6 @@ by-number {A} f d pre (x ∷ xs) =
     (select (λ k. f (getD l k d)) (upFrom (suc (length pre)) (length xs))))
     ≡ cond (f x) (x ∷ select f xs) (select f xs)) (ap f y) (kept (f x) (λ k. getD l k d) (length pre) _ x (select f xs) y ih)
 
-map-map : {A B C : Type 0} (f : A → B) (g : B → C) (xs : List A) → map g (map f xs) ≡ map (λ x. g (f x)) xs
-map-map f g [] = refl
-map-map f g (x ∷ xs) = ap₂ _∷_ refl (map-map f g xs)
-
 pub sum-cost : (arcs : List Arc) (ks : List ℕ) → sumOf (map (λ k. arcAt arcs k .cost) ks) ≡ walkCost arcs ks
 unfolding sumOf
 sum-cost arcs [] = refl
@@ -122,7 +121,7 @@ unfolding requiredNumbers requiredArcs below
 numbers-arcs p = by-number isRequiredArc _ [] (p .arcs)
 
 pub numbers-field : (p : Plan) {B : Type 0} (g : Arc → B) → map (λ k. g (arcAt (p .arcs) k)) (requiredNumbers p) ≡ map g (requiredArcs p)
-numbers-field p g = sym (map-map (λ k. arcAt (p .arcs) k) g (requiredNumbers p)) ∙ ap (map g) (numbers-arcs p)
+numbers-field p g = sym (map-map g (λ k. arcAt (p .arcs) k) (requiredNumbers p)) ∙ ap (map g) (numbers-arcs p)
 
 pub numbers-service : (p : Plan) → sumOf (map (λ k. arcAt (p .arcs) k .service) (requiredNumbers p)) ≡ requiredCost p
 unfolding requiredCost

@@ -1,5 +1,5 @@
--- A tour as a route of links and required arcs: each required arc once, and the links between them cost no more than the
--- rest of the tour. Walk along the tour from a required arc, mark the first pass of each required arc, and replace each
+-- A drive as a route of links and required arcs: each required arc once, and the links between them cost no more than the
+-- rest of the drive. Walk along the drive from a required arc, mark the first pass of each required arc, and replace each
 -- stretch between two of them by its chain of links.
 use mathlib.Core.Path.{_≡_, refl, sym, ap, _∙_, subst, subst⁻¹}
 use mathlib.Core.Logic.{inl, inr}
@@ -10,7 +10,7 @@ use native.Mathlib.Decide.{decLe}
 use native.Mathlib.Omega.{arith}
 use Rattle.postman.specs.Lists.{occurrences}
 use Rattle.postman.specs.Plan.{Plan, arcAt, requiredNumbers, WellFormed}
-use Rattle.postman.specs.Tour.{IsWalk, walkCost, IsTour}
+use Rattle.postman.specs.Drive.{IsWalk, walkCost, IsDrive}
 use Rattle.postman.specs.Required.{required}
 use Rattle.postman.specs.Link.{Link, links}
 use Rattle.postman.specs.Steps.{Permutation, none, more, IsRequiredNumber}
@@ -24,15 +24,15 @@ pub data Move : Type 0 where
   link : Link → Move
   arc : ℕ → Move
 
-abbrev pub linksOf : List Move → List Link
-linksOf [] = []
-linksOf (link l ∷ ms) = l ∷ linksOf ms
-linksOf (arc k ∷ ms) = linksOf ms
+abbrev pub routeLinks : List Move → List Link
+routeLinks [] = []
+routeLinks (link l ∷ ms) = l ∷ routeLinks ms
+routeLinks (arc k ∷ ms) = routeLinks ms
 
-abbrev pub arcsOf : List Move → List ℕ
-arcsOf [] = []
-arcsOf (link l ∷ ms) = arcsOf ms
-arcsOf (arc k ∷ ms) = k ∷ arcsOf ms
+abbrev pub routeArcs : List Move → List ℕ
+routeArcs [] = []
+routeArcs (link l ∷ ms) = routeArcs ms
+routeArcs (arc k ∷ ms) = k ∷ routeArcs ms
 
 module _ (p : Plan) where
   abbrev pub source : Move → ℕ
@@ -52,10 +52,10 @@ module _ (p : Plan) where
   IsRoute i (m ∷ ms) j = (source m ≡ i) × Fine m × IsRoute (target m) ms j
 
   abbrev pub routeCost : List Move → ℕ
-  routeCost ms = chainCost p (linksOf ms) + walkCost (p .arcs) (arcsOf ms)
+  routeCost ms = chainCost p (routeLinks ms) + walkCost (p .arcs) (routeArcs ms)
 
   abbrev pub Route : ℕ → ℕ → List ℕ → ℕ → Type 0
-  Route i j ks c = (ms : List Move) × IsRoute i ms j × (routeCost ms ≤ c) × Permutation (arcsOf ms) ks
+  Route i j ks c = (ms : List Move) × IsRoute i ms j × (routeCost ms ≤ c) × Permutation (routeArcs ms) ks
 
 module _ (p : Plan) (ok : WellFormed p) where
   ends : InPlan p
@@ -152,12 +152,12 @@ module _ (p : Plan) (ok : WellFormed p) where
       widen v h u m =
           elim (List·Memᴰ·append-cases v m) [ inl a ↦ Memᴰ·append-left (h ∷ u) a | inr b ↦ Memᴰ·append-right v (List·Memᴰ·tail b) ]
 
-  -- a tour as a route from any required arc on
-  pub tour-route : {w : List ℕ} → IsTour p w → (k : ℕ) → IsRequiredNumber p k
+  -- a drive as a route from any required arc on
+  pub drive-route : {w : List ℕ} → IsDrive p w → (k : ℕ) → IsRequiredNumber p k
       → Route p (arcAt (p .arcs) k .tail) (arcAt (p .arcs) k .tail) (requiredNumbers p) (walkCost (p .arcs) w)
-  tour-route {w} h k f =
+  drive-route {w} h k f =
       let x = arcAt (p .arcs) k .tail in
-      let c = cut-at (h .start) (h .start) (h .covers k (f .number) (f .must)) (h .closed) in
+      let c = cut-at (h .start) (h .start) (h .covers k (f .number) (f .must)) (h .leads-back) in
       let e = number-ends p ends f .0 in
       let v = walk-append (p .arcs) x (h .start) x (c .1) (c .0) (c .3) (c .2) in
       let r = scan (c .1 ++ c .0) (requiredNumbers p) [] x x x v refl e e (numbers-once p)

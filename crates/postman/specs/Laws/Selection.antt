@@ -9,6 +9,7 @@ use native.Mathlib.Omega.{arith}
 use lib.ListN.{length, getD, length-append}
 use lib.Seq.{getD-append-seam}
 use Rattle.postman.specs.Lists.{select, below, upFrom}
+use Rattle.postman.specs.Laws.Tests.{cond-ind}
 use Rattle.postman.specs.Laws.Membership.{upFrom-mem}
 
 module _ {A : Type 0} where
@@ -20,6 +21,13 @@ module _ {A : Type 0} where
       chosen : (b : Bool) (x : A) (l m n : List A) → l ≡ m ++ n → cond b (x ∷ l) l ≡ cond b (x ∷ m) m ++ n
       chosen true x l m n e = ap (λ (k : List A). x ∷ k) e
       chosen false x l m n e = e
+
+  pub select-length : (f : A → Bool) (xs : List A) → length (select f xs) ≤ length xs
+  unfolding select
+  select-length f [] = omega arith
+  select-length f (x ∷ xs) =
+      let h = select-length f xs in
+      cond-ind (f x) (x ∷ select f xs) (select f xs) (λ l. length l ≤ suc (length xs)) (λ t. omega arith) (λ t. omega arith)
 
   pub select-select : (f g : A → Bool) (xs : List A) → select f (select g xs) ≡ select (λ x. g x && f x) xs
   unfolding select
@@ -42,7 +50,7 @@ module _ {A : Type 0} where
   select-all f [] h = refl
   select-all f (x ∷ xs) h = rw (h x (List·Memᴰ·head refl), select-all f xs (λ y m. h y (List·Memᴰ·tail m)))
 
-upFrom-append : (a m n : ℕ) → upFrom a (m + n) ≡ upFrom a m ++ upFrom (a + m) n
+pub upFrom-append : (a m n : ℕ) → upFrom a (m + n) ≡ upFrom a m ++ upFrom (a + m) n
 unfolding upFrom
 upFrom-append a zero n = let e : 0 + n ≡ n = omega arith in let g : a ≡ a + 0 = omega arith in ap (upFrom a) e ∙ ap (λ x. upFrom x n) g
 upFrom-append a (suc m) n =

@@ -55,6 +55,9 @@ is-true {b} t = same-test b true (λ x. tt) (λ x. t)
 pub is-false : {b : Bool} → (T b → ⊥) → b ≡ false
 is-false {b} n = same-test b false (λ x. n x) (λ x. absurd x)
 
+pub of-not : {b : Bool} → T (not b) → b ≡ false
+of-not {b} t = is-false (T-not b t)
+
 pub of-true : {b : Bool} → b ≡ true → T b
 of-true e = subst⁻¹ T e tt
 

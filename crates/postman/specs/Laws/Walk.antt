@@ -4,7 +4,7 @@ use mathlib.Core.List.{List, [], _∷_, _++_, List·Memᴰ, List·Memᴰ·head, 
 use Prim.Native.Nat.{ℕ}
 use lib.Dec.{T}
 use Rattle.postman.specs.Plan.{Arc, isOpen, arcAt}
-use Rattle.postman.specs.Tour.{IsWalk}
+use Rattle.postman.specs.Drive.{IsWalk}
 use Rattle.postman.specs.Laws.Membership.{mem-getD}
 use Rattle.postman.specs.Laws.Distance.{walk-append}
 

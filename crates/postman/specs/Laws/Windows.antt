@@ -1,6 +1,6 @@
 -- The plan at a departure. It has the arcs of the plan that it is made from, with the same ends and costs; an arc of it may be driven
 -- exactly if it may be driven there and is not shut. So it is well formed, and its walks are the walks that avoid the arcs shut. Where no
--- required arc is shut, it has the same required arcs: its tours are the tours that avoid the arcs shut, and a list of arcs costs the same
+-- required arc is shut, it has the same required arcs: its drives are those that avoid the arcs shut, and a list of arcs costs the same
 -- in both. With no window it is the plan itself, and the call's refusal is the plan call's.
 use mathlib.Core.Path.{_≡_, refl, sym, ap, _∙_, subst, subst⁻¹}
 use mathlib.Core.Logic.{_↔_, inl, inr}
@@ -18,7 +18,7 @@ use Rattle.postman.specs.Plan.{Arc, Plan, isOpen, isRequiredArc, arcAt, 
 use Rattle.postman.specs.Refusal.{Conditions, firstRefusal}
 use Rattle.postman.specs.PlanFile.{fileConditions, planOf}
 use Rattle.postman.specs.PlanCall.{callConditions, partsConditions, conditionsBefore, earlierConditions, callRefusal, isCutOff}
-use Rattle.postman.specs.Tour.{IsWalk, IsTour, tourCostDue, tourCost}
+use Rattle.postman.specs.Drive.{IsWalk, IsDrive, driveCostDue, driveCost}
 use Rattle.postman.specs.Windows.{Window, Departure, windowsIn, isShut, closedIf, planAt, Avoids, isBadDeparture, isBadLength, hasBadWindow, isMustShut, windowConditions, earlierConditionsAt, callRefusalAt}
 use Rattle.postman.specs.Laws.Tests.{cond-ind, test, and-both, and-parts, not-or, same-test, is-false}
 use Rattle.postman.specs.Laws.Membership.{select-cong, anyOf-at, anyOf-not, getD-mem, map-mem, below-mem}
@@ -157,7 +157,7 @@ module _ (p : Plan) (windows : List Window) (d : Departure) where
         subst⁻¹ (λ v. IsWalk (q .arcs) v w j) (same-head x) r,
       )
 
-  -- ---- tours, where no required arc is shut
+  -- ---- drives, where no required arc is shut
 
   module _ (none-shut : T (not (isMustShut p windows d))) where
     open-required : (k : ℕ) → k < length (p .arcs) → T (isRequiredArc (arcAt (p .arcs) k)) → T (not (shut k))
@@ -171,29 +171,29 @@ module _ (p : Plan) (windows : List Window) (d : Departure) where
         (λ t. and-parts (not (shut k)) (isRequiredArc (arcAt (p .arcs) k)) t .1)
         (λ t. and-both (not (shut k)) (isRequiredArc (arcAt (p .arcs) k)) (open-required k l t) t)
 
-    -- THE TOURS of the plan at a departure are the tours that avoid the arcs shut
-    pub tours : (w : List ℕ) → IsTour q w ↔ (IsTour p w × Avoids windows d w)
-    tours w = (there, back)
+    -- THE DRIVES of the plan at a departure are those that avoid the arcs shut
+    pub drives : (w : List ℕ) → IsDrive q w ↔ (IsDrive p w × Avoids windows d w)
+    drives w = (there, back)
       where
-        there : IsTour q w → IsTour p w × Avoids windows d w
+        there : IsDrive q w → IsDrive p w × Avoids windows d w
         there t =
-            let r = walk-avoids (t .start) w (t .start) (t .closed) in
+            let r = walk-avoids (t .start) w (t .start) (t .leads-back) in
             let e = at-length in (
               record {
                 start = t .start;
-                closed = r .0;
+                leads-back = r .0;
                 covers = λ k l m. t .covers k (omega arith) (subst⁻¹ T (same-required k l) m);
               },
               r .1,
             )
 
-        back : IsTour p w × Avoids windows d w → IsTour q w
+        back : IsDrive p w × Avoids windows d w → IsDrive q w
         back h =
             let t = h .0 in
             let e = at-length in
             record {
               start = t .start;
-              closed = avoiding-walk (t .start) w (t .start) (t .closed) (h .1);
+              leads-back = avoiding-walk (t .start) w (t .start) (t .leads-back) (h .1);
               covers = λ k l m. let g : k < length (p .arcs) = omega arith in t .covers k g (subst T (same-required k g) m);
             }
 
@@ -213,15 +213,15 @@ module _ (p : Plan) (windows : List Window) (d : Departure) where
         let f = ap length same-numbers in
         omega arith
 
-    same-due : (due w : List ℕ) → tourCostDue (q .arcs) due w ≡ tourCostDue (p .arcs) due w
-    unfolding tourCostDue
+    same-due : (due w : List ℕ) → driveCostDue (q .arcs) due w ≡ driveCostDue (p .arcs) due w
+    unfolding driveCostDue
     same-due due [] = refl
     same-due due (k ∷ w) = rw (same-service k, same-cost k, same-due (select (λ j. not (eqb k j)) due) w, same-due due w)
 
     -- and every list of arcs costs what it costs in the plan that it is made from
-    pub same-tour-cost : (w : List ℕ) → tourCost q w ≡ tourCost p w
-    unfolding tourCost
-    same-tour-cost w = ap (λ due. tourCostDue (q .arcs) due w) same-numbers ∙ same-due (requiredNumbers p) w
+    pub same-drive-cost : (w : List ℕ) → driveCost q w ≡ driveCost p w
+    unfolding driveCost
+    same-drive-cost w = ap (λ due. driveCostDue (q .arcs) due w) same-numbers ∙ same-due (requiredNumbers p) w
 
 -- ---- no windows
 

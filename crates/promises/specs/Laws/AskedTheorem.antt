@@ -22,7 +22,8 @@ use Rattle.open_plan.specs.Laws.Theorem.{history-more}
 use Rattle.open_plan.specs.Laws.History.{stands-for}
 use Rattle.open_plan_bytes.specs.StateBytes.{openIn}
 use Rattle.open_plan_exports.specs.Editing.{IsExportedOpen, IsExportedMove}
-use Rattle.promises.specs.Laws.HistoryTheorem.{RanLent, numberOf, Holds, lent-step, run-holds, opening-holds}
+use Rattle.promises.specs.ExportedRuns.{RanLent}
+use Rattle.promises.specs.Laws.HistoryTheorem.{numberOf, Holds, lent-step, run-holds, opening-holds}
 use Rattle.promises.specs.Slices.{Slices, IsCalledAt, IsAsked, LeaveOneAnswer}
 use Rattle.promises.specs.Laws.OneAnswer.{one-answer-at}
 

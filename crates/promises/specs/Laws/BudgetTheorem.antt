@@ -4,7 +4,7 @@
 use mathlib.Core.Path.{_≡_, refl, sym, ap, _∙_, subst}
 use mathlib.Core.Bool.{Bool, true, false, cond}
 use mathlib.Core.List.{List}
-use mathlib.Core.Option.{Option, none}
+use mathlib.Core.Option.{Option}
 use Prim.Native.Nat.{ℕ, _≤_, _<_}
 use native.Mathlib.Omega.{arith}
 use lib.IntN.{ℤ, pos, natAbs}
@@ -13,45 +13,27 @@ use lib.Seq.{paste}
 use borrow.Author.Tests.{le-ltb}
 use Rattle.integers.specs.Linear.{z, pos-abs}
 use Rattle.postman.specs.Plan.{Plan}
-use Rattle.postman.specs.Refusal.{unless}
 use Rattle.postman.specs.PlanFile.{planOf}
 use Rattle.postman.specs.Windows.{Departure}
 use Rattle.postman.specs.Marks.{carPlan, carRefusal}
-use Rattle.refusal.specs.Verdict.{verdictNumber}
 use Rattle.solution.specs.declared.Planned.{Planned}
 use Rattle.solution.specs.Planned.{IsPlanned}
 use Rattle.solution.specs.RaisedBudget.{Buys}
 use Rattle.solution.specs.Laws.Answered.{floor-above}
 use Rattle.planner.specs.Laws.Theorem.{raised-budget}
 use Rattle.answers.specs.Answer.{wordsOf, putFirst}
-use Rattle.answers.specs.Laws.Answer.{put-at, answered-zero}
 use Rattle.exports.specs.Cars.{Lent}
 use Rattle.promises.specs.Slices.{Slices, HandsOver, IsCalled, IsCalledAt, HasRoom, BuysLent}
+use Rattle.promises.specs.Laws.Slices.{not-refused, words-put, multipliers-put, word-is}
 use Rattle.promises.specs.Laws.CarsTheorem.{lentBy, leftTo, IsCarAnswered}
 
 -- ---- what is read of an answer that was handed over
 
-module _ (r : Planned) (old new : Slices) (n : ℤ) (x : HandsOver r old new n) (zero : n ≡ pos 0) where
-  not-refused : verdictNumber (r .verdict) ≡ none
-  not-refused = answered-zero (r .verdict) (sym (x .number-is) ∙ zero)
-
-  words-put : new .words ≡ putFirst (wordsOf r) (old .words)
-  unfolding unless
-  words-put = x .words-are ∙ ap (λ (o : Option ℕ). unless o (putFirst (wordsOf r) (old .words)) (old .words)) not-refused
-
-  multipliers-put : new .multipliers ≡ putFirst (r .multipliers) (old .multipliers)
-  unfolding unless
-  multipliers-put =
-      x .multipliers-are ∙ ap (λ (o : Option ℕ). unless o (putFirst (r .multipliers) (old .multipliers)) (old .multipliers)) not-refused
-
-  module _ (room : HasRoom old) where
-    word-is : (i : ℕ) → i < 6 → getD (new .words) i 0 ≡ getD (wordsOf r) i 0
-    word-is i l = ap (λ (w : List ℕ). getD w i 0) words-put ∙ put-at (wordsOf r) (old .words) 0 i (omega arith) l
-
-    all-words : take 6 (new .words) ≡ wordsOf r
-    all-words = ap (take 6) words-put
-        ∙ ap (λ (b : Bool). take 6 (paste (old .words) 0 (wordsOf r) (cond b (length (old .words)) 6)))
-        (le-ltb (length (old .words)) 6 room)
+module _ (r : Planned) (old new : Slices) (n : ℤ) (x : HandsOver r old new n) (zero : n ≡ pos 0) (room : HasRoom old) where
+  all-words : take 6 (new .words) ≡ wordsOf r
+  all-words = ap (take 6) (words-put r old new n x zero)
+      ∙ ap (λ (b : Bool). take 6 (paste (old .words) 0 (wordsOf r) (cond b (length (old .words)) 6)))
+      (le-ltb (length (old .words)) 6 room)
 
 flag : (b : Bool) (k : ℕ) → cond b 1 0 ≡ k → (k ≡ 0 → b ≡ false) × (k ≡ 1 → b ≡ true)
 flag true k e = (λ i. absurd (omega arith), λ i. refl)
@@ -69,10 +51,10 @@ module _ (p : Plan) (b c : ℕ) (more : b ≤ c) (f g : Option ℕ)
       (not-refused s old′ new′ m y zero′)
 
   word : (k : ℕ) → k < 6 → getD (new .words) k 0 ≡ getD (wordsOf r) k 0
-  word = word-is r old new n x zero room
+  word k l = word-is r old new n x zero k l (omega arith)
 
   word′ : (k : ℕ) → k < 6 → getD (new′ .words) k 0 ≡ getD (wordsOf s) k 0
-  word′ = word-is s old′ new′ m y zero′ room′
+  word′ k l = word-is s old′ new′ m y zero′ k l (omega arith)
 
   floors : natAbs (r .floor) ≤ natAbs (s .floor)
   floors =

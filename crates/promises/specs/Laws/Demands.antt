@@ -2,7 +2,7 @@
 use mathlib.Core.Path.{_≡_, sym, ap, ap₂, _∙_, subst}
 use mathlib.Core.Bool.{Bool, not}
 use mathlib.Core.List.{List}
-use mathlib.Core.Option.{Option, none, some}
+use mathlib.Core.Option.{Option, some}
 use Prim.Native.Nat.{ℕ}
 use lib.ListN.{length, drop}
 use lib.Seq.{drop-append-seam}
@@ -16,12 +16,12 @@ use Rattle.postman.specs.Laws.Tests.{of-true}
 use Rattle.postman.specs.Laws.Refusal.{first-stop}
 use Rattle.postman.specs.Laws.Marks.{car-order}
 use Rattle.refusal.specs.Verdict.{verdictNumber}
-use Rattle.tour_legs.specs.Tour.{written}
-use Rattle.multipliers.specs.Tour.{tourOf}
+use Rattle.drive_legs.specs.Drive.{written}
+use Rattle.multipliers.specs.Drive.{driveOf}
 use Rattle.multipliers.specs.Ascent.{multipliersFor}
 use Rattle.solution.specs.declared.Planned.{Planned}
 use Rattle.solution.specs.Planned.{summaryOf, multipliersOf, countUnless, IsPlanned}
-use Rattle.solution.specs.Laws.Answered.{is-answer, summary-given, floor-is, count-is, places-count, tour-written}
+use Rattle.solution.specs.Laws.Answered.{is-answer, sheet-is, summary-given, floor-is, count-is, places-count, drive-written}
 use Rattle.two_cars.specs.Contract.{IsCar}
 use Rattle.promises.specs.Demands.{Refuses, Accepted, Drives, Bounds}
 
@@ -34,7 +34,7 @@ module _ {p : Plan} {budget : ℕ} {refusal : Option ℕ} {old new : List ℕ} {
     number = i .verdict;
     number-only = λ k e.
         (let s = i .summary-is ∙ ap (λ (o : Option ℕ). fields (answer o (summary p budget (multipliersOf r)))) e in
-        let n = i .places-are ∙ ap (λ (o : Option ℕ). countUnless o (length (tourOf p budget))) e in (
+        let n = i .places-are ∙ ap (λ (o : Option ℕ). countUnless o (length (driveOf p budget))) e in (
           n,
           ap (λ (x : Summary). x .cost) s,
           ap (λ (x : Summary). x .floor) s,
@@ -43,17 +43,10 @@ module _ {p : Plan} {budget : ℕ} {refusal : Option ℕ} {old new : List ℕ} {
           ap (λ (x : Summary). x .parts) s,
           i .no-multipliers k e,
         ));
-    untouched = λ k e. i .sheet ∙ ap (λ (o : Option ℕ). unless o (written (tourOf p budget) old) old) e;
+    untouched = λ k e. i .sheet ∙ ap (λ (o : Option ℕ). unless o (written (driveOf p budget) old) old) e;
   }
 
   module _ (good : Accepted r) where
-    refused-not : refusal ≡ none
-    refused-not = sym (i .verdict) ∙ good
-
-    sheet-is : new ≡ written (tourOf p budget) old
-    unfolding unless
-    sheet-is = i .sheet ∙ ap (λ (o : Option ℕ). unless o (written (tourOf p budget) old) old) refused-not
-
     fields-are : summaryOf r ≡ summary p budget (multipliersOf r)
     fields-are = summary-given p budget refusal old new r i good
 
@@ -62,9 +55,10 @@ module _ {p : Plan} {budget : ℕ} {refusal : Option ℕ} {old new : List ℕ} {
     later-kept : drop (r .places) new ≡ drop (r .places) old
     unfolding written
     later-kept =
-        let d = tourOf p budget in
+        let d = driveOf p budget in
         let c = count-is p budget refusal old new r i good in
-        ap₂ drop c sheet-is ∙ drop-append-seam d (drop (length d) old) ∙ ap (λ (k : ℕ). drop k old) (sym c)
+        ap₂ drop c (sheet-is p budget refusal old new r i good) ∙ drop-append-seam d (drop (length d) old)
+        ∙ ap (λ (k : ℕ). drop k old) (sym c)
 
     pub drives : Drives p budget old new r
     unfolding summary
@@ -73,7 +67,7 @@ module _ {p : Plan} {budget : ℕ} {refusal : Option ℕ} {old new : List ℕ} {
       whole = ap (λ (s : Summary). s .whole) fields-are;
       cost = ap (λ (s : Summary). s .cost) fields-are;
       parts = ap (λ (s : Summary). s .parts) fields-are;
-      drive = tour-written p budget refusal old new r i good;
+      drive = drive-written p budget refusal old new r i good;
       count = sym (places-count p budget refusal old new r i good);
       later = later-kept;
     }
@@ -91,7 +85,7 @@ module _ {p : Plan} {budget : ℕ} {refusal : Option ℕ} {old new : List ℕ} {
           multipliers = a .multipliers;
           floor-whole = λ e. f ∙ g .whole-equal (of-true (sym w ∙ e)) ∙ sym (ap pos c);
           floor-partial = λ e. f ∙ g .partial-equal (subst (λ (b : Bool). T (not b)) (sym e ∙ w) tt);
-          below-every-drive = λ v t. rw f (g .below-every-tour v t);
+          below-every-drive = λ v t. rw f (g .below-every-drive v t);
           whole-least = λ e v t. rw c (g .whole-least (of-true (sym w ∙ e)) v t);
           above-balancing = rw f (g .above-balancing);
         }

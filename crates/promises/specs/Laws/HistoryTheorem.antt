@@ -21,16 +21,9 @@ use Rattle.answers.specs.Number.{oneNumber}
 use Rattle.open_plan_exports.specs.Editing.{moveRefusal, IsExportedOpen, IsExportedMove}
 use Rattle.open_plan_bytes.specs.StateBytes.{openBytes, openIn, stateBytes}
 use Rattle.open_plan_exports.specs.Laws.Editing.{has-room}
+use Rattle.promises.specs.ExportedRuns.{RanLent, ended, called}
 use Rattle.promises.specs.Laws.Opening.{zero-opened}
 use Rattle.promises.specs.Laws.Lent.{stands-sized, state-long, state-back}
-
--- A RUN over lent bytes: each call has the contract of its function, on the bytes that the call before it
--- left. The numbers are what the calls answer.
-pub data RanLent : List ℕ → List Call → List ℕ → List ℤ → Type 0 where
-  ended : (bytes : List ℕ) → RanLent bytes [] bytes []
-  called : (bytes last : List ℕ) (c : Call) (cs : List Call) (numbers : List ℤ) (bytes′ : List ℕ) (n : ℤ) → Fits c
-      → IsExportedMove c bytes bytes′ n → RanLent bytes′ cs last numbers
-      → RanLent bytes (c ∷ cs) last (n ∷ numbers)
 
 -- What a call answers by its refusal: 0, or minus the number.
 abbrev pub numberOf : Option ℕ → ℤ

@@ -22,7 +22,7 @@ use Rattle.postman.specs.Laws.Windows.{call-accepted-at, same-some}
 use Rattle.refusal.specs.Verdict.{verdictNumber}
 use Rattle.solution.specs.declared.Planned.{Planned}
 use Rattle.solution.specs.Planned.{IsPlanned}
-use Rattle.solution.specs.Laws.Answered.{accepted, is-answer, cost-is, floor-is, tour-written}
+use Rattle.solution.specs.Laws.Answered.{accepted, is-answer, cost-is, floor-is, drive-written}
 use Rattle.planner.specs.Contract.{IsPlanCall}
 use Rattle.windows.specs.Contract.{IsPlanCallAt}
 use Rattle.two_cars.specs.Contract.{IsCar}
@@ -71,9 +71,9 @@ planned-judged : (bytes : List ℕ) (budget : ℕ) (refusal : Option ℕ) (old n
     → callRefusal bytes budget (length old) ≡ none → judgeAnswer bytes (take (r .places) new) ≡ given (r .cost)
 unfolding highestPlaces sheetPlaces
 planned-judged bytes budget refusal old new r i good e =
-    let t = tour-written _ _ _ _ _ _ i good in
+    let t = drive-written _ _ _ _ _ _ i good in
     let l = t .short in
-    call-judged bytes (take (r .places) new) budget (length old) e (omega arith) (t .tour)
+    call-judged bytes (take (r .places) new) budget (length old) e (omega arith) (t .drive)
     ∙ ap given (t .costs ∙ sym (cost-is _ _ _ _ _ _ i good))
 
 call-passes : (bytes : List ℕ) (budget : ℕ) (old new : List ℕ) (r : Planned) → IsPlanCall bytes budget old new r
@@ -89,9 +89,9 @@ at-passes : (bytes : List ℕ) (budget : ℕ) (numbers : List ℕ) (d : Departur
 unfolding highestPlaces sheetPlaces
 at-passes bytes budget numbers d old new r call good =
     let a = call-accepted-at bytes budget (length old) numbers d (accepted _ _ _ _ _ _ (call .planned) good) in
-    let l = tour-written _ _ _ _ _ _ (call .planned) good .short in
+    let l = drive-written _ _ _ _ _ _ (call .planned) good .short in
     file-judged bytes (take (r .places) new) (a .before .file)
-    (same-some (planOf bytes) (windowsIn numbers) d (a .none-shut) (a .before .some-required)) (omega arith) (call .written-tour good)
+    (same-some (planOf bytes) (windowsIn numbers) d (a .none-shut) (a .before .some-required)) (omega arith) (call .written-drive good)
     ∙ ap given (call .written-cost good)
 
 -- ---- THE CALLS
@@ -120,7 +120,7 @@ module _ (bytes : List ℕ) (budget : ℕ) (old new : List ℕ) (r : Planned) (g
   floor-below call w j h c e =
       let t = h .costs c e in
       let f = floor-is _ _ _ _ _ _ (call .planned) good in
-      rw (f, t .1) (is-answer _ _ _ _ _ _ (call .planned) good .guarantee .below-every-tour w (t .0))
+      rw (f, t .1) (is-answer _ _ _ _ _ _ (call .planned) good .guarantee .below-every-drive w (t .0))
 
 -- a district's last turn, after every run of entries and turns: judged on the plan that it entered with
 module _ (es : List Event) (m : Machine) (h : Led es m) (d : District) (l : Line) (e : run es ≡ d ∷ l) (f : finishes d ≡ true)

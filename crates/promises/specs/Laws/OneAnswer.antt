@@ -12,8 +12,8 @@ use Rattle.postman.specs.Refusal.{answer, unless}
 use Rattle.postman.specs.PlanFile.{planOf}
 use Rattle.postman.specs.Windows.{Departure, windowsIn, planAt, callRefusalAt}
 use Rattle.refusal.specs.Verdict.{verdictNumber}
-use Rattle.tour_legs.specs.Tour.{written}
-use Rattle.multipliers.specs.Tour.{tourOf}
+use Rattle.drive_legs.specs.Drive.{written}
+use Rattle.multipliers.specs.Drive.{driveOf}
 use Rattle.solution.specs.declared.Planned.{Planned}
 use Rattle.solution.specs.Planned.{countUnless, IsPlanned}
 use Rattle.solution.specs.SameAnswer.{SameAnswer}
@@ -38,15 +38,15 @@ handed-as {r} {s} {words} {words′} {u} v w m h = record {
 
 module _ (p : Plan) (budget : ℕ) (o : Option ℕ) where
   abbrev drive : List ℕ
-  drive = unless o (tourOf p budget) []
+  drive = unless o (driveOf p budget) []
 
-  count : (q : Option ℕ) → countUnless q (length (tourOf p budget)) ≡ length (unless q (tourOf p budget) [])
+  count : (q : Option ℕ) → countUnless q (length (driveOf p budget)) ≡ length (unless q (driveOf p budget) [])
   unfolding countUnless unless
   count none = refl
   count (some k) = refl
 
   sheet-as : (q : Option ℕ) (old : List ℕ)
-      → unless q (written (tourOf p budget) old) old ≡ unless q (written (unless q (tourOf p budget) []) old) old
+      → unless q (written (driveOf p budget) old) old ≡ unless q (written (unless q (driveOf p budget) []) old) old
   unfolding unless
   sheet-as none old = refl
   sheet-as (some k) old = refl
@@ -67,7 +67,7 @@ module _ (p : Plan) (budget : ℕ) (o : Option ℕ) where
     -- the contract of the second answer on the first one's sheet
     same : SameAnswer r s
     same =
-        let k : IsPlanned p budget o (old .sheet) (unless o (written (tourOf p budget) (old .sheet)) (old .sheet)) s =
+        let k : IsPlanned p budget o (old .sheet) (unless o (written (driveOf p budget) (old .sheet)) (old .sheet)) s =
         record {
           verdict = j .verdict;
           summary-is = j .summary-is;

@@ -2,7 +2,7 @@
 -- both have room for; the same drive; and where all that was lent was the same, all is the same.
 use mathlib.Core.Path.{_≡_, sym, ap, ap₂, _∙_}
 use mathlib.Core.List.{List}
-use mathlib.Core.Option.{Option, none}
+use mathlib.Core.Option.{Option}
 use Prim.Native.Nat.{ℕ, _≤_, _<_}
 use native.Mathlib.Omega.{arith}
 use lib.IntN.{ℤ, pos}
@@ -10,29 +10,20 @@ use lib.ListN.{length, getD, take, drop}
 use lib.Seq.{take-append-seam}
 use Rattle.postman.specs.Refusal.{unless}
 use Rattle.refusal.specs.Verdict.{verdictNumber}
-use Rattle.tour_legs.specs.Tour.{written}
+use Rattle.drive_legs.specs.Drive.{written}
 use Rattle.solution.specs.declared.Planned.{Planned}
 use Rattle.answers.specs.Answer.{wordsOf, putFirst}
-use Rattle.answers.specs.Laws.Answer.{put-at, answered-zero}
 use Rattle.promises.specs.Slices.{Slices, driveIn, Leaves, LeaveOneAnswer}
+use Rattle.promises.specs.Laws.Slices.{slices-same, not-refused, word-is}
 
 -- what a call that is not refused leaves
 module _ {r : Planned} {drive : List ℕ} {old new : Slices} {n : ℤ} (x : Leaves r drive old new n) (zero : n ≡ pos 0) where
-  not-refused : verdictNumber (r .verdict) ≡ none
-  not-refused = answered-zero (r .verdict) (sym (x .handed-over .number-is) ∙ zero)
-
-  word-is : (i : ℕ) → i < 6 → i < length (old .words) → getD (new .words) i 0 ≡ getD (wordsOf r) i 0
-  unfolding unless
-  word-is i l m =
-      ap (λ (w : List ℕ). getD w i 0)
-      (x .handed-over .words-are ∙ ap (λ (o : Option ℕ). unless o (putFirst (wordsOf r) (old .words)) (old .words)) not-refused)
-      ∙ put-at (wordsOf r) (old .words) 0 i m l
-
   drive-is : r .places ≡ length drive → 1 ≤ length (old .words) → driveIn new ≡ drive
   unfolding unless written
   drive-is c l =
-      ap₂ take (word-is 0 (omega arith) (omega arith) ∙ c)
-      (x .sheet-is ∙ ap (λ (o : Option ℕ). unless o (written drive (old .sheet)) (old .sheet)) not-refused)
+      ap₂ take (word-is r old new n (x .handed-over) zero 0 (omega arith) (omega arith) ∙ c)
+      (x .sheet-is ∙ ap (λ (o : Option ℕ). unless o (written drive (old .sheet)) (old .sheet))
+      (not-refused r old new n (x .handed-over) zero))
       ∙ take-append-seam drive (drop (length drive) (old .sheet))
 
 module _ {old new old′ new′ : Slices} {n n′ : ℤ} (x : LeaveOneAnswer old new n old′ new′ n′) where
@@ -41,7 +32,9 @@ module _ {old new old′ new′ : Slices} {n n′ : ℤ} (x : LeaveOneAnswer old
 
   pub same-word : n ≡ pos 0 → (i : ℕ) → i < 6 → i < length (old .words) → i < length (old′ .words)
       → getD (new .words) i 0 ≡ getD (new′ .words) i 0
-  same-word zero i l m m′ = word-is (x .first) zero i l m ∙ sym (word-is (x .second) (sym one-number ∙ zero) i l m′)
+  same-word zero i l m m′ =
+      word-is (x .answer) old new n (x .first .handed-over) zero i l m
+      ∙ sym (word-is (x .answer) old′ new′ n′ (x .second .handed-over) (sym one-number ∙ zero) i l m′)
 
   pub same-drive : n ≡ pos 0 → 1 ≤ length (old .words) → 1 ≤ length (old′ .words) → driveIn new ≡ driveIn new′
   same-drive zero m m′ = drive-is (x .first) zero (x .counted) m ∙ sym (drive-is (x .second) (sym one-number ∙ zero) (x .counted) m′)
@@ -56,4 +49,4 @@ module _ {old new old′ new′ : Slices} {n n′ : ℤ} (x : LeaveOneAnswer old
       let u = x .first .handed-over .multipliers-are
       ∙ ap (λ (y : Slices). unless o (putFirst (r .multipliers) (y .multipliers)) (y .multipliers)) e
       ∙ sym (x .second .handed-over .multipliers-are) in
-      λ j. record { sheet = s j; words = w j; multipliers = u j }
+      slices-same s w u

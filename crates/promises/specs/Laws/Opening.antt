@@ -3,7 +3,7 @@ use mathlib.Core.Path.{_≡_, refl, sym, ap, _∙_}
 use mathlib.Core.Bool.{Bool, true, false, cond}
 use mathlib.Core.List.{List, [], _∷_, _++_, flatMap}
 use mathlib.Core.Option.{Option, none, some, Option·some-ne-none}
-use Prim.Native.Nat.{ℕ, zero, suc, _≤_}
+use Prim.Native.Nat.{ℕ, _≤_}
 use native.Mathlib.Omega.{arith}
 use lib.Dec.{ltb}
 use lib.IntN.{ℤ, pos, negℤ, natAbs}
@@ -15,6 +15,7 @@ use Rattle.refusal.specs.Verdict.{orElse}
 use Rattle.answers.specs.Number.{oneNumber}
 use Rattle.open_plan_bytes.specs.StateBytes.{openBytes}
 use Rattle.open_plan_exports.specs.Editing.{openRefusal, IsExportedOpen}
+use Rattle.integers.specs.Linear.{abs-neg}
 
 -- the conditions' numbers are 1 or more
 abbrev AreSome : Conditions → Type 0
@@ -52,10 +53,6 @@ first-some (c ∷ cs) h k e = at (c .0) e (first-some cs (h .1) k)
     at : (b : Bool) → cond b (some (c .1)) (firstRefusal cs) ≡ some k → (firstRefusal cs ≡ some k → 1 ≤ k) → 1 ≤ k
     at true q more = let x : c .1 ≡ k = cc in let l = h .0 in omega arith
     at false q more = more q
-
-abs-neg : (k : ℕ) → natAbs (negℤ (pos k)) ≡ k
-abs-neg zero = refl
-abs-neg (suc k) = refl
 
 pub zero-opened : (file bytes bytes′ : List ℕ) (n : ℤ) → IsExportedOpen file bytes bytes′ n → n ≡ pos 0 → openRefusal file bytes ≡ none
 unfolding answer

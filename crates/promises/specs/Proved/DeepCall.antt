@@ -5,8 +5,8 @@ use mathlib.Core.Option.{Option, none}
 use Prim.Native.Nat.{ℕ}
 use Rattle.postman.specs.Refusal.{unless}
 use Rattle.postman.specs.PlanFile.{planOf}
-use Rattle.tour_legs.specs.Tour.{written}
-use Rattle.round_rule.specs.Rounds.{deepTour}
+use Rattle.drive_legs.specs.Drive.{written}
+use Rattle.round_rule.specs.Rounds.{deepDrive}
 use Rattle.deep_call.specs.Contract.{IsDeepAnswer}
 use Rattle.deep_call.specs.Laws.Theorem.{one-round, beyond-plan-call, more-rounds, passes-the-judge}
 use Rattle.promises.specs.Demands.{Accepted}
@@ -23,16 +23,16 @@ refusal bytes budget rounds sheet c = c .contract .deep .verdict
 pub untouched : Untouched
 unfolding unless
 untouched bytes budget rounds sheet c k e =
-    c .contract .deep .sheet ∙ ap (λ (o : Option ℕ). unless o (written (deepTour (planOf bytes) budget rounds) sheet) sheet) e
+    c .contract .deep .sheet ∙ ap (λ (o : Option ℕ). unless o (written (deepDrive (planOf bytes) budget rounds) sheet) sheet) e
 
 pub cut-off : CutOff
 cut-off bytes budget rounds sheet c = c .contract .cut-off
 
 pub is-written : Written
-is-written bytes budget rounds sheet c good = let a = answered c good in (a .drive .tour, a .costs, a .drive .first)
+is-written bytes budget rounds sheet c good = let a = answered c good in (a .drive .drive, a .costs, a .drive .first)
 
 pub floor : Floor
-floor bytes budget rounds sheet c good = let a = answered c good in (a .below-every-tour, a .above-balancing)
+floor bytes budget rounds sheet c good = let a = answered c good in (a .below-every-drive, a .above-balancing)
 
 pub own-multipliers : OwnMultipliers
 own-multipliers bytes budget rounds sheet c good = answered c good .multipliers
@@ -56,7 +56,7 @@ pub deeper : MoreRounds
 deeper bytes budget rounds rounds′ sheet sheet′ c d more good good′ =
     let x = more-rounds bytes budget rounds rounds′ more sheet (c .after) sheet′ (d .after) (c .answer) (d .answer) (c .contract)
     (d .contract) good good′ in
-    (x .no-worse .no-dearer, x .no-worse .no-lower, x .closed-drive)
+    (x .no-worse .no-dearer, x .no-worse .no-lower, x .met-drive)
 
 pub written-passes : WrittenPasses
 written-passes bytes budget rounds sheet c good = passes-the-judge bytes budget rounds sheet (c .after) (c .answer) (c .contract) good

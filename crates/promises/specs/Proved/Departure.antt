@@ -16,13 +16,13 @@ second-demand bytes budget windows d sheet c = drives (c .contract .planned)
 
 pub written-avoids : WrittenAvoids
 written-avoids bytes budget windows d sheet c good =
-    (c .contract .written-tour good, c .contract .written-avoids good, c .contract .written-cost good)
+    (c .contract .written-drive good, c .contract .written-avoids good, c .contract .written-cost good)
 
 pub third-demand : ThirdDemand
 third-demand bytes budget windows d sheet c = bounds (c .contract .planned)
 
 pub floor-of-avoiding : FloorOfAvoiding
-floor-of-avoiding bytes budget windows d sheet c good = c .contract .below-every-tour good
+floor-of-avoiding bytes budget windows d sheet c good = c .contract .below-every-drive good
 
 pub one-answer : OneAnswer
 one-answer bytes budget windows d sheet c c′ = equal-calls (c .contract .planned) (c′ .contract .planned)

@@ -9,14 +9,14 @@ use lib.Dec.{T, eqb, eqb→eq}
 use Rattle.postman.specs.Lists.{select, below}
 use Rattle.postman.specs.Plan.{Arc, Plan, isRequiredArc, arcAt, requiredArcs, WellFormed}
 use Rattle.postman.specs.Required.{isRequired, required}
-use Rattle.postman.specs.Laws.Tests.{and-parts, or-cases}
+use Rattle.postman.specs.Laws.Tests.{and-parts, or-cases, is-true}
 use Rattle.postman.specs.Laws.Membership.{mem-select, select-mem, getD-mem, mem-getD, anyOf-at}
 use Rattle.postman.specs.Laws.Distance.{bounded}
-use Rattle.postman.specs.Laws.Required.{required-ends, required-lt}
+use Rattle.postman.specs.Laws.Required.{required-ends}
 use Rattle.plan.specs.declared.Plan.{Plan as PlanRecord}
 use Rattle.plan.specs.Records.{planValue, recordAt}
 use Rattle.plan.specs.Laws.Records.{plan-arc, plan-length}
-use Rattle.required.specs.Laws.Search.{is-true, any-some, any-none}
+use Rattle.required.specs.Laws.Search.{any-some, any-none}
 
 -- the arc is required, and v one of its ends
 abbrev pub touches : ℕ → Arc → Bool
@@ -58,6 +58,3 @@ module _ (p : Plan) (ok : WellFormed p) where
   pub of-required : {v : ℕ} → List·Memᴰ v (required p) → T (isRequired p v)
   unfolding required
   of-required m = select-mem (isRequired p) (below (p .n)) m .1
-
-  pub required-below : {v : ℕ} → List·Memᴰ v (required p) → v < 64
-  required-below m = let l = required-lt p m in let n = ok .vertices in omega arith

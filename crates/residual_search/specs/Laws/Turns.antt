@@ -79,10 +79,10 @@ pub augment-more : (next : List ℕ) (t : ℕ) (g : List ℕ) (k v : ℕ) {i w j
 augment-more next t g k v {i} {w} {j} {at} {amt} {r} inv l n ei ew ej eat eamt =
     let e : w ≡ getD next v 0 = ew ∙ ap (λ q. getD next q 0) ei in
     let e′ : j ≡ getD next v 0 = ej ∙ e in
-    let turn : set g at amt ≡ push g v (getD next v 0)
+    let pushed : set g at amt ≡ push g v (getD next v 0)
     = ap₂ (set g) eat eamt ∙ ap₂ (λ (p q : ℕ). push g p q) ei e′ in
     let m : 64 - k ≡ suc (64 - (k + 1)) = omega arith in
-    ap₂ (λ (f : List ℕ) (q : ℕ). augment next t (64 - (k + 1)) f q) turn e
+    ap₂ (λ (f : List ℕ) (q : ℕ). augment next t (64 - (k + 1)) f q) pushed e
     ∙ sym (augment-step next t (64 - (k + 1)) g v n)
     ∙ ap (λ q. augment next t q g v) (sym m)
     ∙ inv
@@ -138,10 +138,10 @@ module _ (ℓ : ℕ → ℕ → ℕ) (vs : List ℕ) (t goal : ℕ) where
   unfolding round settle
   until-more most k x next rank {w} {i} {base} {k′} inv l ew nw ei eb ex en ek =
       let m : most - k ≡ suc (most - (k + 1)) = omega arith in
-      let turn : made _ _ _ ≡ round ℓ vs t goal k (made x next rank)
+      let one : made _ _ _ ≡ round ℓ vs t goal k (made x next rank)
       = found-same (ex ∙ ap (λ q. relax ℓ vs i q (x, next) .0) eb) (en ∙ ap (λ q. relax ℓ vs i q (x, next) .1) eb) (ap (set rank i) ek)
       ∙ ap (λ q. settle ℓ vs t (k + 1) q (made x next rank)) (ei ∙ ew) in
-      ap (roundsUntil ℓ vs t goal (most - (k + 1)) (k + 1)) turn
+      ap (roundsUntil ℓ vs t goal (most - (k + 1)) (k + 1)) one
       ∙ sym (until-on (most - (k + 1)) k (made x next rank) (λ e. nw (ew ∙ e)))
       ∙ ap (λ n. roundsUntil ℓ vs t goal n k (made x next rank)) (sym m)
       ∙ inv

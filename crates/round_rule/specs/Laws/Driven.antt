@@ -8,14 +8,14 @@ use Rattle.postman.specs.Plan.{Plan}
 use Rattle.postman.specs.Component.{componentCount}
 use Rattle.postman.specs.PlanCall.{isWhole}
 use Rattle.postman.specs.Guarantee.{Guarantee}
-use Rattle.postman.specs.Renumbering.{numberIn, IsRenumberedTour}
+use Rattle.postman.specs.Renumbering.{numberIn, IsRenumberedDrive}
 use Rattle.postman.specs.Steps.{Plannable}
 use Rattle.postman.specs.Laws.Optimality.{guaranteed}
 use Rattle.postman.specs.Laws.RenumberedMultipliers.{least-cost}
-use Rattle.postman.specs.Laws.RenumberedDrive.{tour-back}
+use Rattle.postman.specs.Laws.RenumberedDescription.{drive-back}
 use Rattle.multipliers.specs.Ascent.{multipliersFor}
-use Rattle.multipliers.specs.Tour.{tourOf}
-use Rattle.multipliers.specs.Laws.Tour.{answer-tour}
+use Rattle.multipliers.specs.Drive.{driveOf}
+use Rattle.multipliers.specs.Laws.Drive.{answer-drive}
 use Rattle.round_rule.specs.declared.trial.Trial.{Trial}
 use Rattle.round_rule.specs.Rounds.{under, costOf}
 use Rattle.round_rule.specs.Trial.{IsTrial}
@@ -27,12 +27,12 @@ module _ (p : Plan) (ok : Plannable p) (few : componentCount p ≤ 8) (x : Trial
   q = under p (x .numbering)
 
   abbrev w : List ℕ
-  w = tourOf q (x .tries)
+  w = driveOf q (x .tries)
 
-  pub driven : IsRenumberedTour p (numberIn (x .numbering .to)) (x .tries) w
+  pub driven : IsRenumberedDrive p (numberIn (x .numbering .to)) (x .tries) w
   driven =
-      tour-back p (h .numbers .numbers) (x .tries) w
-      (answer-tour q (under-plannable p ok (x .numbering) (h .numbers)) (under-few p (ok .well-formed) (x .numbering) (h .numbers) few)
+      drive-back p (h .numbers .numbers) (x .tries) w
+      (answer-drive q (under-plannable p ok (x .numbering) (h .numbers)) (under-few p (ok .well-formed) (x .numbering) (h .numbers) few)
       (x .tries) (h .some-tries))
 
   pub whole-least : (y : Trial) → IsTrial p y → T (isWhole (under p (y .numbering)) (y .tries)) → costOf p y ≤ costOf p x
@@ -41,4 +41,4 @@ module _ (p : Plan) (ok : Plannable p) (few : componentCount p ≤ 8) (x : Trial
       let u = uOf (multipliersFor r) in
       let s : Guarantee r (y .tries) u = guaranteed r (under-plannable p ok (y .numbering) (g .numbers)) (y .tries) (g .some-tries) u
       (under-multipliers p ok few (y .numbering) (g .numbers)) in
-      subst (λ c. costOf p y ≤ c) (driven .costs) (least-cost p (g .numbers .numbers) (y .tries) u s t w (driven .tour))
+      subst (λ c. costOf p y ≤ c) (driven .costs) (least-cost p (g .numbers .numbers) (y .tries) u s t w (driven .drive))

@@ -35,9 +35,10 @@ use Rattle.renumbering.specs.Laws.Shuffle.{shuffled-numbering, shuffled-random}
 use Rattle.round_rule.specs.declared.kept.Kept.{Kept}
 use Rattle.round_rule.specs.declared.trial.Trial.{Trial}
 use Rattle.round_rule.specs.declared.trial.Chosen.{Chosen}
-use Rattle.round_rule.specs.Rounds.{under, floorOf, costOf, floorUnder, carriedBack, leftOf, newTrees, begun, withDrive, withFloor, withBase, counted, isClosed, isGoneOn, goneOn, numbersOf, exchangedBy, nextRound, roundWith, nextKept, keptAfter}
+use Rattle.round_rule.specs.Rounds.{under, floorOf, costOf, floorUnder, carriedBack, leftOf, newTrees, begun, withDrive, withFloor, withBase, counted, haveMet, isGoneOn, goneOn, numbersOf, exchangedBy, nextRound, roundWith, nextKept, keptAfter}
 use Rattle.round_rule.specs.Trial.{IsTrial, GoesOn}
 use Rattle.round_rule.specs.Laws.Tables.{under-few, under-plannable}
+use Rattle.tree_search.specs.Laws.Resumed.{tried-within}
 
 -- u of a plan, as a function
 abbrev pub uOf : List ℤ → Multipliers
@@ -95,10 +96,6 @@ pub record IsKept (p : Plan) (r : ℕ) (k : Kept) : Type 0 where
   pub random-in : k .random < modulus
 
 -- a round tries no more trees than it may
-pub tried-few : (q : Plan) (tries : ℕ) → triedCount q tries ≤ tries
-unfolding triedCount
-tried-few q tries = omega arith
-
 pub new-few : (q : Plan) (budget tries : ℕ) → newTrees q budget tries ≤ budget
 unfolding newTrees triedCount
 new-few q budget tries = omega arith
@@ -157,7 +154,7 @@ module _ (p : Plan) (ok : Plannable p) (few : componentCount p ≤ 8) (budget : 
   begun-kept =
       let same = sym (under-unchanged p) in
       let n = unchanged-numbering (p .n) in
-      let t = tried-few p budget in
+      let t = tried-within p budget in
       record {
         drive-numbering = n;
         drive-tries = some-trees;
@@ -351,7 +348,7 @@ module _ (p : Plan) (ok : Plannable p) (few : componentCount p ≤ 8) (budget : 
   unfolding keptAfter nextKept
   next-kept r l h =
       let k = keptAfter p budget r in
-      cond-ind (isClosed k) k _ (IsKept p (suc r)) (λ t. one-more r k h)
+      cond-ind (haveMet k) k _ (IsKept p (suc r)) (λ t. one-more r k h)
       (λ t. round-kept r (nextRound p budget (r + 2) k) k (chosen r k l h) h)
 
   pub after-kept : (r : ℕ) → r < 1000 → IsKept p r (keptAfter p budget r)
@@ -380,7 +377,7 @@ module _ (p : Plan) (ok : Plannable p) (few : componentCount p ≤ 8) (budget : 
   after-better r l =
       let k = keptAfter p budget r in
       let h = after-kept r (omega arith) in
-      cond-ind (isClosed k) k _ (λ m. (m .cost ≤ k .cost) × (k .floor ≤ℤ m .floor)) (λ t. (omega arith, omega (arith, z)))
+      cond-ind (haveMet k) k _ (λ m. (m .cost ≤ k .cost) × (k .floor ≤ℤ m .floor)) (λ t. (omega arith, omega (arith, z)))
       (λ t. round-better r (nextRound p budget (r + 2) k) k (chosen r k l h .trial))
 
   pub more-better : (r more : ℕ) → more + r < 1000
@@ -393,20 +390,20 @@ module _ (p : Plan) (ok : Plannable p) (few : componentCount p ≤ 8) (budget : 
       let e : suc more + r ≡ suc (more + r) = omega arith in
       rw e (omega arith, omega (arith, z))
 
--- once closed, nothing is changed
-closed-step : (p : Plan) (budget r : ℕ) → isClosed (keptAfter p budget r) ≡ true → keptAfter p budget (suc r) ≡ keptAfter p budget r
+-- once they have met, nothing is changed
+met-step : (p : Plan) (budget r : ℕ) → haveMet (keptAfter p budget r) ≡ true → keptAfter p budget (suc r) ≡ keptAfter p budget r
 unfolding keptAfter
-closed-step p budget r e = rw e refl
+met-step p budget r e = rw e refl
 
-pub closed-stays : (p : Plan) (budget r more : ℕ) → isClosed (keptAfter p budget r) ≡ true
+pub met-stays : (p : Plan) (budget r more : ℕ) → haveMet (keptAfter p budget r) ≡ true
     → keptAfter p budget (more + r) ≡ keptAfter p budget r
-closed-stays p budget r zero e = ap (keptAfter p budget) (zero-add r)
-closed-stays p budget r (suc more) e =
-    let h = closed-stays p budget r more e in
+met-stays p budget r zero e = ap (keptAfter p budget) (zero-add r)
+met-stays p budget r (suc more) e =
+    let h = met-stays p budget r more e in
     let s : suc more + r ≡ suc (more + r) = omega arith in
-    rw s (closed-step p budget (more + r) (ap isClosed h ∙ e) ∙ h)
+    rw s (met-step p budget (more + r) (ap haveMet h ∙ e) ∙ h)
 
-pub one-round : (p : Plan) (budget r : ℕ) → isClosed (keptAfter p budget r) ≡ false
+pub one-round : (p : Plan) (budget r : ℕ) → haveMet (keptAfter p budget r) ≡ false
     → keptAfter p budget (suc r) ≡ nextKept p budget (r + 2) (keptAfter p budget r)
 unfolding keptAfter
 one-round p budget r e = rw e refl

@@ -1,6 +1,6 @@
 -- The plan under a numbering: it is well formed, refused as the plan is, and its tables are the plan's, renumbered.
 use mathlib.Core.Path.{_≡_, sym, ap, _∙_, subst⁻¹}
-use mathlib.Core.List.{List, [], _∷_}
+use mathlib.Core.List.{List, [], _∷_, map-map}
 use mathlib.Core.Option.{none}
 use mathlib.Core.Logic.{_≢_}
 use Prim.Native.Nat.{ℕ, _≤_, _<_}
@@ -12,7 +12,6 @@ use Rattle.postman.specs.Refusal.{firstRefusal}
 use Rattle.postman.specs.Component.{componentCount}
 use Rattle.postman.specs.PlanCall.{isCutOff, partsConditions}
 use Rattle.postman.specs.Renumbering.{numberIn, renumberedArc, renumbered}
-use Rattle.postman.specs.Laws.Lists.{map-map}
 use Rattle.postman.specs.Laws.Tests.{eqb-other}
 use Rattle.postman.specs.Laws.Refusal.{accepted-cons, accepted-append}
 use Rattle.postman.specs.Steps.{Plannable}
@@ -21,9 +20,9 @@ use Rattle.postman.specs.Laws.RenumberedDistance.{table-renumbered}
 use Rattle.postman.specs.Laws.RenumberedComponents.{count-renumbered, last-renumbered, plannable-renumbered}
 use Rattle.shortest.specs.Weight.{heavy, weighted}
 use Rattle.shortest.specs.Contracts.{IsTable, AreWeights}
-use Rattle.multipliers.specs.Tour.{tableOf}
+use Rattle.multipliers.specs.Drive.{tableOf}
 use Rattle.multipliers.specs.Laws.Table.{table-is}
-use Rattle.multipliers.specs.Laws.Tour.{is-table}
+use Rattle.multipliers.specs.Laws.Drive.{is-table}
 use Rattle.call_steps.specs.Refusals.{planRefusal}
 use Rattle.call_steps.specs.Laws.Call.{parts-refusal}
 use Rattle.renumbering.specs.declared.numbering.Numbering.{Numbering}

@@ -14,7 +14,7 @@ use Rattle.postman.specs.PlanCall.{bestCost}
 use Rattle.postman.specs.Laws.Tests.{cond-ind}
 use Rattle.postman.specs.Steps.{Plannable}
 use Rattle.branches.specs.Links.{linksIn}
-use Rattle.multipliers.specs.Tour.{driveOf, tourOf}
+use Rattle.multipliers.specs.Drive.{treeDrive, driveOf}
 use Rattle.tree_search.specs.declared.trees.Reached.{Reached}
 use Rattle.tree_search.specs.Laws.BestTree.{cost-small}
 use Rattle.held_tree.specs.declared.cheaper.Found.{Found}
@@ -137,10 +137,10 @@ next-held p d r x a left trees random f u h i ek ed =
 -- ---- the drive that is laid
 
 pub laid-as : (q r : Plan) (tries : ℕ) (g : Reached) → q ≡ r → IsBest r tries g
-    → driveOf q (linksIn (componentCount q - 1) (g .tails) (g .heads)) ≡ tourOf r tries
-unfolding tourOf
+    → treeDrive q (linksIn (componentCount q - 1) (g .tails) (g .heads)) ≡ driveOf r tries
+unfolding driveOf
 laid-as q r tries g e h =
-    ap (λ (q : Plan). driveOf q (linksIn (componentCount q - 1) (g .tails) (g .heads))) e ∙ ap (driveOf r) (h .links-are)
+    ap (λ (q : Plan). treeDrive q (linksIn (componentCount q - 1) (g .tails) (g .heads))) e ∙ ap (treeDrive r) (h .links-are)
 
 -- ---- the first round
 

@@ -19,7 +19,7 @@ use Rattle.small_counts.specs.Matrix.{cap}
 use Rattle.multipliers.specs.Ascent.{multipliersFor}
 use Rattle.tree_search.specs.declared.trees.Reached.{Reached}
 use Rattle.tree_search.specs.Laws.BestTree.{cost-small}
-use Rattle.tree_search.specs.Laws.Resumed.{total-is}
+use Rattle.tree_search.specs.Laws.Resumed.{total-is, tried-within}
 use Rattle.held_tree.specs.declared.cheaper.Found.{Found}
 use Rattle.held_tree.specs.Cheaper.{IsBest, IsCheaper}
 use Rattle.call_steps.specs.Refusals.{planRefusal}
@@ -27,10 +27,10 @@ use Rattle.renumbering.specs.Renumbered.{carriedIn}
 use Rattle.round_rule.specs.declared.kept.Kept.{Kept}
 use Rattle.round_rule.specs.declared.trial.Trial.{Trial}
 use Rattle.round_rule.specs.declared.trial.Chosen.{Chosen}
-use Rattle.round_rule.specs.Rounds.{under, floorOf, costOf, floorUnder, carriedBack, leftOf, newTrees, begun, withDrive, withFloor, withBase, counted, isClosed, nextRound, roundWith, nextKept, keptAfter}
+use Rattle.round_rule.specs.Rounds.{under, floorOf, costOf, floorUnder, carriedBack, leftOf, newTrees, begun, withDrive, withFloor, withBase, counted, haveMet, nextRound, roundWith, nextKept, keptAfter}
 use Rattle.round_rule.specs.Trial.{IsTrial}
 use Rattle.round_rule.specs.Laws.Tables.{plan-accepted, under-few, under-plannable}
-use Rattle.round_rule.specs.Laws.Kept.{IsKept, after-kept, closed-stays, one-round, tried-few}
+use Rattle.round_rule.specs.Laws.Kept.{IsKept, after-kept, met-stays, one-round}
 use Rattle.round_rule.specs.Laws.Made.{keptFrom, drive-left}
 
 -- one of two, by two numbers
@@ -90,7 +90,7 @@ module _ (q : Plan) (cost before tries : ℕ) (a : Found) (h : IsCheaper q cost 
   old-fewer = let o = old-tried in let t = h .tried-is in omega arith
 
 pub few-tried : (q : Plan) (cost tries : ℕ) (a : Found) → tries ≤ 1000000000 → IsCheaper q cost tries a → a .best .tried ≤ 1000000000
-few-tried q cost tries a low h = let t = tried-few q tries in let e = h .tried-is in omega arith
+few-tried q cost tries a low h = let t = tried-within q tries in let e = h .tried-is in omega arith
 
 -- ---- all rounds
 
@@ -106,24 +106,24 @@ first-kept p budget cost a k h b e =
     ∙ ap (λ (n : ℕ). begun budget (bestCost p budget) (floorOf p budget) (multipliersFor p) (n - budget) (a .best .tried)) (h .number-is)
     ∙ ap (λ (n : ℕ). begun budget (bestCost p budget) (floorOf p budget) (multipliersFor p) l n) (h .tried-is)
 
-pub closed-as : (k : Kept) (b v : Bool) (f : ℤ) → f ≡ k .floor → b ≡ leZ (pos (k .cost)) f → b ≡ v → isClosed k ≡ v
-unfolding isClosed
-closed-as k b v f g e h = ap (leZ (pos (k .cost))) (sym g) ∙ sym e ∙ h
+pub met-as : (k : Kept) (b v : Bool) (f : ℤ) → f ≡ k .floor → b ≡ leZ (pos (k .cost)) f → b ≡ v → haveMet k ≡ v
+unfolding haveMet
+met-as k b v f g e h = ap (leZ (pos (k .cost))) (sym g) ∙ sym e ∙ h
 
 module _ (p : Plan) (budget : ℕ) where
-  pub deeper : (i : ℕ) (k s : Kept) → 1 ≤ i → k ≡ keptAfter p budget (i - 1) → isClosed k ≡ false → s ≡ nextKept p budget (i + 1) k
+  pub deeper : (i : ℕ) (k s : Kept) → 1 ≤ i → k ≡ keptAfter p budget (i - 1) → haveMet k ≡ false → s ≡ nextKept p budget (i + 1) k
       → s ≡ keptAfter p budget (i + 1 - 1)
   deeper i k s l e f g =
       let a : i + 1 ≡ i - 1 + 2 = omega arith in
       let b : suc (i - 1) ≡ i + 1 - 1 = omega arith in
       g ∙ ap (λ n. nextKept p budget n k) a ∙ ap (nextKept p budget (i - 1 + 2)) e
-      ∙ sym (one-round p budget (i - 1) (ap isClosed (sym e) ∙ f)) ∙ ap (keptAfter p budget) b
+      ∙ sym (one-round p budget (i - 1) (ap haveMet (sym e) ∙ f)) ∙ ap (keptAfter p budget) b
 
-  pub ended : (i rounds : ℕ) (k : Kept) → 1 ≤ i → i ≤ rounds → k ≡ keptAfter p budget (i - 1) → isClosed k ≡ true
+  pub ended : (i rounds : ℕ) (k : Kept) → 1 ≤ i → i ≤ rounds → k ≡ keptAfter p budget (i - 1) → haveMet k ≡ true
       → k ≡ keptAfter p budget (rounds - 1)
   ended i rounds k l m e f =
       let a : rounds - i + (i - 1) ≡ rounds - 1 = omega arith in
-      e ∙ sym (closed-stays p budget (i - 1) (rounds - i) (ap isClosed (sym e) ∙ f)) ∙ ap (keptAfter p budget) a
+      e ∙ sym (met-stays p budget (i - 1) (rounds - i) (ap haveMet (sym e) ∙ f)) ∙ ap (keptAfter p budget) a
 
 -- no cost that is kept is large
 cost-low : (p : Plan) → Plannable p → componentCount p ≤ 8 → (r : ℕ) (k : Kept) → IsKept p r k → k .cost ≤ 1131527310

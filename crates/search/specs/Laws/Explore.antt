@@ -4,7 +4,7 @@
 use mathlib.Core.Path.{_≡_, refl, sym, ap, ap₂, _∙_, subst, subst⁻¹}
 use mathlib.Core.Logic.{_≢_, _⊎_, inl, inr}
 use mathlib.Core.Bool.{Bool, true, false, cond}
-use mathlib.Core.List.{List, [], _∷_, _++_, map, flatMap, append-assoc, append-nil, List·Memᴰ, List·Memᴰ·head, List·Memᴰ·tail, List·Memᴰ·cases-cons}
+use mathlib.Core.List.{List, [], _∷_, _++_, map, flatMap, append-assoc, append-nil, List·Memᴰ, List·Memᴰ·head, List·Memᴰ·tail, List·Memᴰ·cases-cons, map-append, map-map}
 use Prim.Native.Nat.{ℕ, suc, _+_, _*_, _-_, _≤_, _<_, min}
 use native.Mathlib.Decide.{ℕ-discrete, decLe, decLt}
 use native.Mathlib.Numerals.{add-one}
@@ -24,7 +24,7 @@ use Rattle.postman.specs.Balancing.{heads as heads-of, tails as tails-of, sumOv
 use Rattle.postman.specs.Laws.Sum.{sum-append}
 use Rattle.postman.specs.Laws.Membership.{map-mem, mem-map, select-mem, upFrom-mem, mem-upFrom}
 use Rattle.postman.specs.Laws.Occurrences.{occurrences-of-mem}
-use Rattle.postman.specs.Laws.Lists.{map-cong, map-append, map-map}
+use Rattle.postman.specs.Laws.Lists.{map-cong, flatMap-append}
 use Rattle.postman.specs.Steps.{cell}
 use Rattle.residual_search.specs.Step.{State, add}
 use Rattle.direct_amounts.specs.Laws.Plan.{certified-least}
@@ -41,7 +41,7 @@ use Rattle.branches.specs.Progress.{Held, passOver, tryTree, advance, keep}
 use Rattle.tree_bounds.specs.Bound.{ArePotentials, Bounds, Low, reducedBy}
 use Rattle.tree_bounds.specs.Prepared.{Prepared}
 use Rattle.search.specs.Contracts.{IsBranchPriced, IsExplored}
-use Rattle.branches.specs.Branches.{chosenIn, namesIn, stateIn, CanGoBelow, IsBranch, IsBelow, IsCandidate, repricedBranch, linkOf, treesIn}
+use Rattle.branches.specs.Branches.{chosenIn, namesIn, stateIn, CanGoBelow, IsBranch, IsBelow, IsCandidate, repricedBranch, candidateLink, treesIn}
 use Rattle.branches.specs.Holding.{heldIn, isEntered, IsShort}
 use Rattle.tree_bounds.specs.Pricing.{Prices, IsLifted, IsBounded}
 use Rattle.tree_bounds.specs.Reducible.{CanReduce, CanLevel, AreLevelled}
@@ -53,12 +53,6 @@ use Rattle.search.specs.Laws.Kept.{can-level, cost-small, kept-branch}
 use Rattle.branches.specs.Laws.Below.{chosen-short, fixed-small, room, balancing-small, can-reduce, can-go-below, chosen-more, below-branch}
 
 -- ---- lists
-
-flatMap-append : {A B : Type 0} (f : A → List B) (xs ys : List A) → flatMap f (xs ++ ys) ≡ flatMap f xs ++ flatMap f ys
-unfolding flatMap
-flatMap-append f [] ys = refl
-flatMap-append {A} {B} f (x ∷ xs) ys =
-    ap (λ (l : List B). f x ++ l) (flatMap-append f xs ys) ∙ sym (append-assoc (f x) (flatMap f xs) (flatMap f ys))
 
 flatMap-one : {A B : Type 0} (f : A → List B) (x : A) → flatMap f (x ∷ []) ≡ f x
 unfolding flatMap
@@ -521,10 +515,11 @@ module _ {p : Plan} {table : List (List ℕ)} {vs start source tails heads : Lis
         pub next-branch : (n .a < componentCount p → AreCounts (n .entries) (n .a) (componentCount p) (n .counts)) → IsBranch p table a n
         next-branch = below-branch h b is more there mem apart a n below-there
 
-        pub next-prices : (q : Pricing) → Prices p table (chosenIn n) (n .a) q → Prices p table (chosenIn b ++ linkOf c ∷ []) (b .a + 1) q
+        pub next-prices : (q : Pricing) → Prices p table (chosenIn n) (n .a) q
+            → Prices p table (chosenIn b ++ candidateLink c ∷ []) (b .a + 1) q
         next-prices q x =
-            let link : there ≡ linkOf c = ap₂ (λ t z. record { tail = t; head = z }) (sym tail-is) (sym head-is) in
-            subst (λ n. Prices p table (chosenIn b ++ linkOf c ∷ []) n q) (below .next)
+            let link : there ≡ candidateLink c = ap₂ (λ t z. record { tail = t; head = z }) (sym tail-is) (sym head-is) in
+            subst (λ n. Prices p table (chosenIn b ++ candidateLink c ∷ []) n q) (below .next)
             (subst (λ (l : Link). Prices p table (chosenIn b ++ l ∷ []) (n .a) q) link
             (subst (λ (t : List Link). Prices p table t (n .a) q) (chosen-more h b is more there mem apart a n below-there) x))
 

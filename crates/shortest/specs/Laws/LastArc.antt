@@ -6,7 +6,7 @@ use native.Mathlib.Omega.{arith}
 use lib.ListN.{length}
 use lib.Dec.{T}
 use Rattle.postman.specs.Plan.{Arc, isOpen, arcAt}
-use Rattle.postman.specs.Tour.{IsWalk, walkCost}
+use Rattle.postman.specs.Drive.{IsWalk, walkCost}
 
 -- the walk w from i to j is a walk and then arc `last`
 pub record Ends (arcs : List Arc) (i : ℕ) (w : List ℕ) (j : ℕ) : Type 0 where

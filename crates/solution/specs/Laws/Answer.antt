@@ -14,24 +14,24 @@ use Rattle.postman.specs.Refusal.{answer, unless}
 use Rattle.postman.specs.Link.{Link}
 use Rattle.postman.specs.Component.{componentCount}
 use Rattle.postman.specs.LagrangianBound.{AreMultipliers, lagrangianBound}
-use Rattle.postman.specs.PlanCall.{Summary, summary, fields, triedCount, isWhole, bestCost, bestArborescence, lowerBound, IsAnswerTour}
+use Rattle.postman.specs.PlanCall.{Summary, summary, fields, triedCount, isWhole, bestCost, bestArborescence, lowerBound, IsAnswerDrive}
 use Rattle.postman.specs.Steps.{Plannable}
 use Rattle.postman.specs.Laws.Optimality.{guaranteed}
-use Rattle.tour_legs.specs.Tour.{written}
+use Rattle.drive_legs.specs.Drive.{written}
 use Rattle.tree_search.specs.declared.improve.Searched.{Searched}
 use Rattle.tree_search.specs.Improved.{IsSearched}
 use Rattle.solution.specs.declared.Planned.{Planned}
 use Rattle.refusal.specs.Verdict.{verdictNumber}
-use Rattle.multipliers.specs.Tour.{driveOf, tourOf}
+use Rattle.multipliers.specs.Drive.{treeDrive, driveOf}
 use Rattle.solution.specs.Planned.{summaryOf, multipliersOf, countUnless, IsPlanned}
 use Rattle.solution.specs.Concluded.{concluded, linksFound, IsConcluded}
 use Rattle.multipliers.specs.Ascent.{multipliersFor}
 use Rattle.multipliers.specs.Laws.Ascent.{answered-rooted, answered-above}
-use Rattle.multipliers.specs.Laws.Tour.{answer-tour}
+use Rattle.multipliers.specs.Laws.Drive.{answer-drive}
 
 module _ (p : Plan) (ok : Plannable p) (few : componentCount p ≤ 8) (budget : ℕ) (some : 1 ≤ budget) where
-  drive : IsAnswerTour p budget (tourOf p budget)
-  drive = answer-tour p ok few budget some
+  drive : IsAnswerDrive p budget (driveOf p budget)
+  drive = answer-drive p ok few budget some
 
   -- ---- the answer
 
@@ -40,7 +40,7 @@ module _ (p : Plan) (ok : Plannable p) (few : componentCount p ≤ 8) (budget : 
 
   pub is-planned : (old new : List ℕ) (r : Planned) → verdictNumber (r .verdict) ≡ none → r .multipliers ≡ multipliersFor p
       → summaryOf r ≡ summary p budget (multipliersOf r)
-      → new ≡ written (tourOf p budget) old → r .places ≡ length (tourOf p budget) → IsPlanned p budget none old new r
+      → new ≡ written (driveOf p budget) old → r .places ≡ length (driveOf p budget) → IsPlanned p budget none old new r
   unfolding answer fields unless countUnless
   is-planned old new r v g s w n = record {
     verdict = v;
@@ -55,7 +55,7 @@ module _ (p : Plan) (ok : Plannable p) (few : componentCount p ≤ 8) (budget : 
       multipliers-are = g;
       above-greatest =
           λ v h. subst⁻¹ (λ (u : List ℤ). lagrangianBound p v ≤ℤ lagrangianBound p (λ i. getD u i (pos 0))) g (answered-above p ok few v h);
-      tour = drive;
+      drive = drive;
       guarantee = guaranteed p ok budget some (multipliersOf r) (lawful r g);
     };
   }
@@ -80,14 +80,14 @@ module _ (p : Plan) (ok : Plannable p) (few : componentCount p ≤ 8) (budget : 
       ∙ ap (λ (k : ℕ). fieldsOf (bestCost p budget) (cond (isWhole p budget) (pos (bestCost p budget)) b) (triedCount p budget)
       (isWhole p budget) k) ek
 
-  laid-best : (t : List Link) → t ≡ bestArborescence p budget → driveOf p t ≡ tourOf p budget
-  unfolding tourOf
-  laid-best t e = ap (driveOf p) e
+  laid-best : (t : List Link) → t ≡ bestArborescence p budget → treeDrive p t ≡ driveOf p budget
+  unfolding driveOf
+  laid-best t e = ap (treeDrive p) e
 
   -- WHERE THE TREE THAT IS HELD IS THE BEST, THE ANSWER IS THE DEFINITION'S
   pub concluded-best : (t : List Link) (cost trees : ℕ) (whole : Bool) (old new : List ℕ) → t ≡ bestArborescence p budget
       → cost ≡ bestCost p budget → trees ≡ triedCount p budget → whole ≡ isWhole p budget
-      → new ≡ written (driveOf p t) old → IsPlanned p budget none old new (concluded p t cost trees whole)
+      → new ≡ written (treeDrive p t) old → IsPlanned p budget none old new (concluded p t cost trees whole)
   concluded-best t cost trees whole old new et ec en ew h =
       let x : Planned = concluded p t cost trees whole in
       let l = laid-best t et in

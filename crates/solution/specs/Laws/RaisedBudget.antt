@@ -22,7 +22,7 @@ use Rattle.refusal.specs.declared.Verdict.{Verdict}
 use Rattle.refusal.specs.declared.Verdict.the-variants.{Accepted, Refused}
 use Rattle.refusal.specs.Verdict.{verdictNumber, refusalNumber}
 use Rattle.solution.specs.declared.Planned.{Planned}
-use Rattle.multipliers.specs.Tour.{tourOf}
+use Rattle.multipliers.specs.Drive.{driveOf}
 use Rattle.solution.specs.Planned.{summaryOf, multipliersOf, IsPlanned}
 use Rattle.solution.specs.RaisedBudget.{Buys}
 use Rattle.solution.specs.Laws.Answered.{is-answer, summary-given, cost-is, floor-is, count-is, drive-is}
@@ -95,12 +95,12 @@ module _ (p : Plan) (b c : ℕ) (more : b ≤ c) (f g : Option ℕ) (old new old
     unfolding summary lowerBound
     same-summary = rw (same-whole, same-tried)
 
-    same-tour : tourOf p c ≡ tourOf p b
-    unfolding tourOf bestArborescence
-    same-tour = rw same-tried
+    same-drive : driveOf p c ≡ driveOf p b
+    unfolding driveOf bestArborescence
+    same-drive = rw same-tried
 
     same-places : s .places ≡ r .places
-    same-places = count-is p c g old′ new′ s at-c good-c ∙ ap length same-tour ∙ sym (count-is p b f old new r at-b good-b)
+    same-places = count-is p c g old′ new′ s at-c good-c ∙ ap length same-drive ∙ sym (count-is p b f old new r at-b good-b)
 
     same-fields : summaryOf s ≡ summaryOf r
     same-fields = summary-c ∙ same-summary ∙ sym (summary-given p b f old new r at-b good-b)
@@ -113,8 +113,8 @@ module _ (p : Plan) (b c : ℕ) (more : b ≤ c) (f g : Option ℕ) (old new old
         ∙ ap (λ (x : List ℤ). fromParts (r .verdict) (r .places) x (summaryOf s)) same-u
         ∙ ap (fromParts (r .verdict) (r .places) (r .multipliers)) same-fields
 
-    same-drive : take (s .places) new′ ≡ take (r .places) new
-    same-drive = drive-is p c g old′ new′ s at-c good-c ∙ same-tour ∙ sym (drive-is p b f old new r at-b good-b)
+    same-written : take (s .places) new′ ≡ take (r .places) new
+    same-written = drive-is p c g old′ new′ s at-c good-c ∙ same-drive ∙ sym (drive-is p b f old new r at-b good-b)
 
   pub buys : Buys r s new new′
   buys = record {
@@ -126,7 +126,7 @@ module _ (p : Plan) (b c : ℕ) (more : b ≤ c) (f g : Option ℕ) (old new old
     same-multipliers = same-u;
     partial-floors = λ eb ec. floor-c ∙ partial c (sym whole-c ∙ ec) ∙ sym (partial b (sym whole-b ∙ eb)) ∙ sym floor-b;
     whole-same = λ e. same-answer (of-true (sym whole-b ∙ e));
-    whole-drive = λ e. same-drive (of-true (sym whole-b ∙ e));
+    whole-drive = λ e. same-written (of-true (sym whole-b ∙ e));
   }
     where
       subst₂⁻¹ : {x x′ y y′ : ℤ} → x ≡ x′ → y ≡ y′ → x′ ≤ℤ y′ → x ≤ℤ y

@@ -2,7 +2,7 @@
 -- cost of each component is at most that of what is chosen for it.
 use mathlib.Core.Path.{_≡_, refl, ap, _∙_, subst, subst⁻¹}
 use mathlib.Core.Logic.{inl, inr}
-use mathlib.Core.List.{List, [], _∷_, _++_, map, flatMap, List·Memᴰ, List·Memᴰ·head, List·Memᴰ·tail, List·Memᴰ·append-cases}
+use mathlib.Core.List.{List, [], _∷_, _++_, map, flatMap, List·Memᴰ, List·Memᴰ·head, List·Memᴰ·tail, List·Memᴰ·append-cases, map-append}
 use Prim.Native.Nat.{ℕ, suc, _+_, _-_, _≤_, _<_}
 use native.Mathlib.Omega.{arith}
 use Rattle.postman.specs.Lists.{sumOf, choices, upFrom}
@@ -15,7 +15,6 @@ use Rattle.postman.specs.Arborescence.{candidates}
 use Rattle.postman.specs.Balancing.{heads, tails, sumOver, linkCost, leastBalancing, completionCost}
 use Rattle.postman.specs.Laws.Sum.{sum-append}
 use Rattle.postman.specs.Laws.Membership.{mem-map, mem-flatMap, flatMap-mem, map-mem}
-use Rattle.postman.specs.Laws.Lists.{map-append}
 use Rattle.postman.specs.Steps.{Joins, cell}
 use Rattle.postman.specs.Laws.Balancing.{within-heads, within-tails, same-length}
 use Rattle.residual_search.specs.Step.{potential}

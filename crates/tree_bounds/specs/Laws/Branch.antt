@@ -3,7 +3,7 @@
 use mathlib.Core.Path.{_≡_, refl, sym, ap, _∙_, subst, subst⁻¹}
 use mathlib.Core.Logic.{_≢_, inl, inr}
 use mathlib.Core.Bool.{Bool, true, false, cond}
-use mathlib.Core.List.{List, [], _∷_, map, flatMap, List·Memᴰ, List·Memᴰ·head, List·Memᴰ·tail, List·Memᴰ·cases-cons}
+use mathlib.Core.List.{List, [], _∷_, map, flatMap, List·Memᴰ, List·Memᴰ·head, List·Memᴰ·tail, List·Memᴰ·cases-cons, map-map}
 use Prim.Native.Nat.{ℕ, suc, _+_, _-_, _≤_, _<_}
 use native.Mathlib.Decide.{ℕ-discrete}
 use native.Mathlib.Omega.{arith}
@@ -15,10 +15,11 @@ use Rattle.postman.specs.Plan.{Plan}
 use Rattle.postman.specs.Link.{Link}
 use Rattle.postman.specs.Component.{component, componentCount}
 use Rattle.postman.specs.Arborescence.{candidates, arborescences}
+use Rattle.postman.specs.Steps.{noLink}
 use Rattle.postman.specs.Laws.Tests.{is-true, eqb-same}
 use Rattle.postman.specs.Laws.Membership.{mem-map, map-mem, select-cong, mem-getD, choices-mem, upFrom-mem}
 use Rattle.postman.specs.Laws.Distance.{InPlan}
-use Rattle.postman.specs.Laws.Lists.{map-cong, map-map, select-map, select-flatMap, flatMap-cong}
+use Rattle.postman.specs.Laws.Lists.{map-cong, select-map, select-flatMap, flatMap-cong}
 use Rattle.postman.specs.Laws.Selection.{select-none}
 use Rattle.small_counts.specs.Recursion.{merged, countTrees}
 use Rattle.small_counts.specs.Arrival.{renamed, formTree}
@@ -27,9 +28,6 @@ use Rattle.small_counts.specs.Laws.Choices.{passing, passing-map, choices-map}
 use Rattle.small_counts.specs.Laws.Recursion.{entriesIn, AreInside, occurrences-renamed, count-cong, alike, never, counts}
 use Rattle.tree_count.specs.Laws.Plan as plan
 use Rattle.tree_bounds.specs.Branch.{sourceBy, renamedBy, Named, sourcesBy, leftChoices, completions, entered}
-
-abbrev noLink : Link
-noLink = record { tail = 0; head = 0 }
 
 module _ (p : Plan) (ok : InPlan p) (some : 1 ≤ componentCount p) where
   abbrev k : ℕ

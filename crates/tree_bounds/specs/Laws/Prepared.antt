@@ -15,8 +15,8 @@ use Rattle.postman.specs.Component.{component, componentCount}
 use Rattle.postman.specs.Arborescence.{linkAt, candidates}
 use Rattle.postman.specs.Laws.Tests.{cond-ind}
 use Rattle.postman.specs.Laws.Distance.{InPlan, bounded}
-use Rattle.postman.specs.Laws.Required.{required-lt}
-use Rattle.postman.specs.Steps.{Joins, cell}
+use Rattle.postman.specs.Laws.Required.{required-below}
+use Rattle.postman.specs.Steps.{Joins, cell, noLink}
 use Rattle.postman.specs.Laws.Membership.{getD-mem, mem-getD, choices-mem}
 use Rattle.postman.specs.Laws.Link.{link-ends}
 use Rattle.postman.specs.Laws.Arborescence.{candidates-mem}
@@ -48,9 +48,6 @@ required-small p ok =
 
 -- ---- links chosen for components
 
-abbrev noLink : Link
-noLink = record { tail = 0; head = 0 }
-
 module _ (p : Plan) where
   pub candidate-ends : (q : ℕ) (l : Link) → List·Memᴰ l (candidates p q)
       → List·Memᴰ (l .tail) (required p) × List·Memᴰ (l .head) (required p)
@@ -77,10 +74,7 @@ module _ {p : Plan} {table : List (List ℕ)} {vs start source tails heads : Lis
 
   pub agrees : (i j : ℕ) → List·Memᴰ i (required p) → List·Memᴰ j (required p) → cell table i j ≡ distance p i j
   agrees i j mi mj =
-      let a = required-lt p mi in
-      let b = required-lt p mj in
-      let n = h .plannable .well-formed .vertices in
-      h .distances i j (omega arith) (omega arith)
+      h .distances i j (required-below p (h .plannable .well-formed) mi) (required-below p (h .plannable .well-formed) mj)
 
   pub metric : Metric (cell table) (required p)
   metric = table-metric p (h .plannable .well-formed) (h .plannable .connected) (cell table) agrees

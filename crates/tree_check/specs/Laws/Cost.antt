@@ -13,15 +13,15 @@ use Rattle.postman.specs.Required.{requiredCost}
 use Rattle.postman.specs.Distance.{distance}
 use Rattle.postman.specs.Balancing.{linkCost, leastBalancing, completionCost}
 use Rattle.postman.specs.Steps.{Joins, cell}
-use Rattle.postman.specs.Laws.Required.{required-lt}
+use Rattle.postman.specs.Laws.Required.{required-below}
 use Rattle.residual_search.specs.Step.{State}
 use Rattle.balance.specs.Balance.{balance}
 use Rattle.balance.specs.Invariant.{AllIn}
 use Rattle.direct_amounts.specs.Laws.Plan.{balance-least}
-use Rattle.tour_legs.specs.Filled.{linksOf}
-use Rattle.multipliers.specs.Tour.{tableOf}
+use Rattle.drive_legs.specs.Filled.{linksOf}
+use Rattle.multipliers.specs.Drive.{tableOf}
 use Rattle.multipliers.specs.Prepared.{IsBase, IsTree}
-use Rattle.multipliers.specs.Laws.Tour.{agrees}
+use Rattle.multipliers.specs.Laws.Drive.{agrees}
 use Rattle.multipliers.specs.Laws.Lay.{tree-joined, tree-short, tails-in, heads-in}
 use Rattle.tree_search.specs.Laws.BestTree.{tree-small}
 use Rattle.tree_check.specs.Cost.{tableCost, AreVertices}
@@ -69,11 +69,7 @@ module _ (p : Plan) (table : List (List ℕ)) (vs : List ℕ) (base : State) (b 
   joined = tree-joined p table vs base b ts hs tree
 
   vertices : (us : List ℕ) → AllIn vs us → AreVertices us
-  vertices us h i l =
-      let m = rw (b .known .vertices) at (h i l) in
-      let a = required-lt p m in
-      let n = b .known .plannable .well-formed .vertices in
-      omega arith
+  vertices us h i l = required-below p (b .known .plannable .well-formed) (rw (b .known .vertices) at (h i l))
 
   pub tails-small : AreVertices ts
   tails-small = vertices ts (tails-in p table vs base b ts hs tree)

@@ -9,7 +9,7 @@ use lib.ListN.{length, take, drop, take-append-drop, length-take}
 use lib.Dec.{eqb}
 use Rattle.postman.specs.Lists.{select, anyOf}
 use Rattle.postman.specs.Plan.{Arc, Plan, arcAt, requiredNumbers, IsArc}
-use Rattle.postman.specs.Tour.{IsWalk, tourCostDue, tourCost}
+use Rattle.postman.specs.Drive.{IsWalk, driveCostDue, driveCost}
 use Rattle.postman.specs.Link.{Link}
 use Rattle.postman.specs.Component.{componentCount}
 use Rattle.postman.specs.Arborescence.{IsArborescence, arborescences}
@@ -23,8 +23,8 @@ use Rattle.postman.specs.Laws.Optimality.{some-arborescence}
 use Rattle.postman.specs.Laws.Search.{best-mem, best-value}
 use Rattle.residual_search.specs.Step.{arcsOf}
 use Rattle.branches.specs.Links.{linksIn}
-use Rattle.multipliers.specs.Tour.{driveOf}
-use Rattle.multipliers.specs.Laws.Tour.{tree-tour}
+use Rattle.multipliers.specs.Drive.{treeDrive}
+use Rattle.multipliers.specs.Laws.Drive.{tree-drive}
 use Rattle.multipliers.specs.Laws.Lay.{arcs-links}
 use Rattle.tree_search.specs.Resumed.{HoldsTree}
 
@@ -32,8 +32,8 @@ use Rattle.tree_search.specs.Resumed.{HoldsTree}
 
 -- each pass costs at most 65,535, whether it is one that checks or not
 passes-small : (n : ℕ) (arcs : List Arc) → ((a : Arc) → List·Memᴰ a arcs → IsArc n a) → (i j : ℕ) (w due : List ℕ) → IsWalk arcs i w j
-    → tourCostDue arcs due w ≤ length w * 65535
-unfolding tourCostDue
+    → driveCostDue arcs due w ≤ length w * 65535
+unfolding driveCostDue
 passes-small n arcs h i j [] due g = omega arith
 passes-small n arcs h i j (k ∷ w) due g =
     let a = h (arcAt arcs k) (getD-mem arcs _ k (g .0)) in
@@ -44,12 +44,12 @@ passes-small n arcs h i j (k ∷ w) due g =
 
 -- no tree costs much
 pub tree-small : (p : Plan) → Plannable p → componentCount p ≤ 8 → (t : List Link) → IsArborescence p t → completionCost p t ≤ 1131527310
-unfolding sheetPlaces tourCost
+unfolding sheetPlaces driveCost
 tree-small p ok few t tree =
-    let r = tree-tour p ok few t tree in
-    let a = passes-small (p .n) (p .arcs) (ok .well-formed .each) (r .0 .tour .start) (r .0 .tour .start) (driveOf p t) (requiredNumbers p)
-    (r .0 .tour .closed) in
-    let b = mul-le-mul-right {m = length (driveOf p t)} {n = 17266} 65535 (r .0 .short) in
+    let r = tree-drive p ok few t tree in
+    let a = passes-small (p .n) (p .arcs) (ok .well-formed .each) (r .0 .drive .start) (r .0 .drive .start) (treeDrive p t)
+    (requiredNumbers p) (r .0 .drive .leads-back) in
+    let b = mul-le-mul-right {m = length (treeDrive p t)} {n = 17266} 65535 (r .0 .short) in
     let c = r .1 in
     omega arith
 

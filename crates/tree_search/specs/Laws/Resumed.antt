@@ -132,32 +132,32 @@ module _ (p : Plan) (ok : Plannable p) where
 
   -- ---- what is held is a tree and its cost, if it was one before or no tree was tried
 
-  abbrev pub IsPriced : Held → Type 0
-  IsPriced h = IsArborescence p (h .links) × (h .cost ≡ f (h .links))
+  abbrev pub HoldsCost : Held → Type 0
+  HoldsCost h = IsArborescence p (h .links) × (h .cost ≡ f (h .links))
 
-  tried-priced : (h : Held) (t : List Link) → IsArborescence p t → IsPriced h → IsPriced (tryTree f h t)
+  tried-priced : (h : Held) (t : List Link) → IsArborescence p t → HoldsCost h → HoldsCost (tryTree f h t)
   unfolding tryTree
   tried-priced h t a i = at (ltb 0 (h .skip)) (ltb 0 (h .left)) (ltb (f t) (h .cost))
     where
-      at : (x y z : Bool) → IsPriced (cond x (passOver h 1) (cond y (passOver (cond z (held (f t) t (h .skip) (h .left)) h) 1) h))
+      at : (x y z : Bool) → HoldsCost (cond x (passOver h 1) (cond y (passOver (cond z (held (f t) t (h .skip) (h .left)) h) 1) h))
       at true y z = i
       at false true true = (a, refl)
       at false true false = i
       at false false z = i
 
-  advance-priced : (h : Held) (us : List (List Link)) → ((t : List Link) → List·Memᴰ t us → IsArborescence p t) → IsPriced h
-      → IsPriced (advance f h us)
+  advance-priced : (h : Held) (us : List (List Link)) → ((t : List Link) → List·Memᴰ t us → IsArborescence p t) → HoldsCost h
+      → HoldsCost (advance f h us)
   unfolding advance
   advance-priced h [] a i = i
   advance-priced h (t ∷ us) a i =
       advance-priced (tryTree f h t) us (λ u m. a u (List·Memᴰ·tail m)) (tried-priced h t (a t (List·Memᴰ·head refl)) i)
 
-  pub on-priced : componentCount p ≤ 8 → (c : ℕ) (l : List Link) (m n : ℕ) → 1 ≤ m + n → (1 ≤ m → IsPriced (held c l m n))
-      → IsPriced (triedOn p c l m n)
+  pub on-priced : componentCount p ≤ 8 → (c : ℕ) (l : List Link) (m n : ℕ) → 1 ≤ m + n → (1 ≤ m → HoldsCost (held c l m n))
+      → HoldsCost (triedOn p c l m n)
   on-priced few c l m n one i = elim (ℕ-discrete m 0) [
-    | yes e ↦ subst⁻¹ IsPriced (first-on c l m n e)
+    | yes e ↦ subst⁻¹ HoldsCost (first-on c l m n e)
         (best-tree p ok few n (omega arith), sym (best-value p n (omega arith) (some-arborescence p ok)))
-    | no o ↦ subst⁻¹ IsPriced (later-on c l m n (some-of m o))
+    | no o ↦ subst⁻¹ HoldsCost (later-on c l m n (some-of m o))
         (advance-priced (held c l m n) ts (λ t x. arborescences-mem p x) (i (some-of m o)))
   ]
 

@@ -3,17 +3,16 @@
 use mathlib.Core.Path.{_≡_, refl, sym, ap, _∙_, subst}
 use mathlib.Core.Bool.{true, false}
 use mathlib.Core.List.{List, _++_, map}
-use mathlib.Core.Option.{none, some}
+use mathlib.Core.Option.{Option, none, some}
 use Prim.Native.Nat.{ℕ}
 use lib.ListN.{length}
 use Rattle.postman.specs.Lists.{below}
 use Rattle.postman.specs.Plan.{Plan}
-use Rattle.postman.specs.Refusal.{firstRefusal}
+use Rattle.postman.specs.Refusal.{Conditions, firstRefusal}
 use Rattle.postman.specs.PlanFile.{fileConditions, planOf}
 use Rattle.postman.specs.PlanCall.{callConditions, lastConditions}
 use Rattle.postman.specs.Marks.{hasBadMark, carPlan, markConditions, earlierConditionsFor, carRefusal}
 use Rattle.postman.specs.Laws.Theorem.{last-cut-off}
-use Rattle.postman.specs.Laws.Refusal.{first-on, first-stop}
 use Rattle.postman.specs.Laws.Marks.{car-roads, car-table, car-conditions, car-other, earlier-accepted-for, car-order}
 use Rattle.shortest.specs.Contracts.{AreWeights}
 use Rattle.shortest.specs.Laws.Roads.{weights-same}
@@ -24,10 +23,11 @@ use Rattle.plan_file.specs.declared.Reading.{Reading}
 use Rattle.plan_file.specs.Reading.{IsReading}
 use Rattle.plan_file.specs.Laws.Reading.{accepted-value}
 use Rattle.solution.specs.declared.Planned.{Planned}
-use Rattle.multipliers.specs.Tour.{tableOf}
+use Rattle.multipliers.specs.Drive.{tableOf}
 use Rattle.solution.specs.Planned.{IsPlanned}
 use Rattle.call_steps.specs.Refused.{refusedWith}
-use Rattle.call_steps.specs.Laws.Call.{refused-planned, planned-as}
+use Rattle.call_steps.specs.Laws.Refused.{is-refused}
+use Rattle.call_steps.specs.Laws.Answer.{read-answer, file-refused-answer}
 use Rattle.two_cars.specs.Contract.{IsCar}
 
 -- ---- the tables do not depend on marks
@@ -57,8 +57,15 @@ module _ (bytes marks : List ℕ) (budget : ℕ) (old new : List ℕ) (r : Plann
   abbrev car : Plan
   car = carPlan (planOf bytes) marks
 
+  abbrev Answered : Plan → Option ℕ → List ℕ → Planned → Type 0
+  Answered p o new x = IsPlanned p budget o old new x
+
+  -- the conditions after the file's
+  abbrev later : Plan → Conditions
+  later p = callConditions budget (length old) ++ (markConditions p marks ++ lastConditions (carPlan p marks))
+
   abbrev Called : Type 0
-  Called = IsPlanned car budget (carRefusal bytes budget (length old) marks) old new r
+  Called = Answered car (carRefusal bytes budget (length old) marks) new r
 
   pub is-car : Called → IsCar bytes marks budget old new r
   is-car i =
@@ -72,20 +79,13 @@ module _ (bytes marks : List ℕ) (budget : ℕ) (old new : List ℕ) (r : Plann
   pub file-refused-for : (x : Refusal) → r ≡ refusedWith x → old ≡ new → firstRefusal (fileConditions bytes) ≡ some (refusalNumber x)
       → Called
   file-refused-for x h s e =
-      subst (λ (new : List ℕ). IsPlanned car budget (carRefusal bytes budget (length old) marks) old new r) s
-      (refused-planned car budget _ old x r h (car-order bytes budget (length old) marks ∙ first-stop (fileConditions bytes) _ _ e))
+      subst (λ (new : List ℕ). Answered car (carRefusal bytes budget (length old) marks) new r) s
+      (file-refused-answer Answered old (λ p x. is-refused p budget old x) bytes car (later (planOf bytes)) _ x r
+      (car-order bytes budget (length old) marks) e h)
 
   -- one that is not gives its plan
   pub read-planned-for : (x : Reading) → IsReading bytes x → firstRefusal (fileConditions bytes) ≡ none
-      → IsPlanned (carPlan (planValue (x .plan)) marks) budget
-      (firstRefusal
-      (callConditions budget (length old)
-      ++ (markConditions (planValue (x .plan)) marks ++ lastConditions (carPlan (planValue (x .plan)) marks)))) old new r
-      → Called
+      → Answered (carPlan (planValue (x .plan)) marks) (firstRefusal (later (planValue (x .plan)))) new r → Called
   read-planned-for x h e i =
-      let v = accepted-value bytes x h e in
-      planned-as _ car budget _ _ old new r (ap (λ (p : Plan). carPlan p marks) v)
-      (ap (λ (p : Plan). firstRefusal
-      (callConditions budget (length old) ++ (markConditions p marks ++ lastConditions (carPlan p marks)))) v
-      ∙ sym (car-order bytes budget (length old) marks ∙ first-on (fileConditions bytes) _ e))
-      i
+      read-answer Answered bytes (planValue (x .plan)) (λ p. carPlan p marks) later _ new r (car-order bytes budget (length old) marks) e
+      (accepted-value bytes x h e) i

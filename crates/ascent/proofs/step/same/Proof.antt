@@ -8,7 +8,7 @@ use lib.ListN.{length, getD}
 use Rattle.integers.specs.Linear.{back64}
 use Rattle.multiplier_steps.specs.Laws.Turns.{turn-at, end}
 use Rattle.multiplier_steps.specs.Turns.{turns}
-use Rattle.ascent.specs.Step.{isSame, areSame}
+use Rattle.ascent.specs.Step.{isSame, areUnmoved}
 use borrow.Author.Needs.{needs}
 use Rattle.ascent.proofs.step.same.Statement.{statement}
 use Rattle.ascent.proofs.step.same.Tie as tie
@@ -34,7 +34,7 @@ loop-again c =
     )
 
 returns : tie.Need-returns Inv-loop μ-loop
-unfolding areSame
+unfolding areUnmoved
 returns c = end _ _ (c .before .loop .a) (c .before .loop .inv .1) (c .before .loop .inv .0) (c .loop-test .left)
 
 pub same-spec : {M : Type 1} → statement M

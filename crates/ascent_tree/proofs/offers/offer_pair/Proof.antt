@@ -7,11 +7,11 @@ use mir.Val.{toZ, ofZ}
 use Rattle.integers.specs.Linear.{back64, Within}
 use Rattle.residual_search.specs.Search.{beyond}
 use Rattle.postman.specs.Steps.{cell}
-use Rattle.ascent_tree.specs.Offers.{costOf}
 use Rattle.ascent_tree.specs.Laws.Grown.{offer-less, offer-not}
 use borrow.Author.Needs.{needs}
 use Rattle.ascent_tree.proofs.offers.offer_pair.Statement.{statement}
 use Rattle.ascent_tree.proofs.offers.offer_pair.Tie as tie
+use Rattle.pair_costs.specs.PairCosts.{costOf}
 
 reduced-requires : tie.Need-reduced-requires
 reduced-requires c κs =
@@ -20,7 +20,7 @@ reduced-requires c κs =
     (simp (back64, s .fits .xi .sfits) a, simp (back64, c .reduced-arg2 .given) (s .pre .4 (s .args .j) (s .pre .1)))
 
 -- the cost is that of the pair
-cost-is : (c : tie.After-reduced) → toZ w64 (ofZ w64 (c .reduced .result)) ≡ costOf (c .before .before .before .before .args .d .now) (c .before .before .before .before .args .x .now) (c .before .before .before .before .args .component .now) (c .before .before .before .before .args .i) (c .before .before .before .before .args .j)
+cost-is : (c : tie.After-reduced) → toZ w64 (ofZ w64 (c .reduced .result)) ≡ costOf (c .before .before .before .before .args .d .now) (c .before .before .before .before .args .x .now) (c .before .before .before .before .args .i) (c .before .before .before .before .args .j)
 cost-is c =
     let s = c .before .before .before .before in
     let e = simp (back64, s .fits .xi .sfits, c .before .reduced-arg2 .given) at (c .reduced .ensures) in

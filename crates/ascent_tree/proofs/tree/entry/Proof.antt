@@ -10,7 +10,7 @@ use lib.Signed.{ltZ}
 use mir.Syntax.{w64}
 use mir.Val.{toZ}
 use Rattle.integers.specs.Linear.{back64}
-use Rattle.multiplier_steps.specs.Laws.Turns.{turn, end}
+use Rattle.multiplier_steps.specs.Laws.Turns.{next-turn, end}
 use Rattle.ascent_tree.specs.Tree.{holds, cheaper, entry}
 use Rattle.multiplier_steps.specs.Turns.{turns}
 use borrow.Author.Needs.{needs}
@@ -43,7 +43,7 @@ loop-again c =
       omega arith,
       l .1,
       l .0,
-      turn (cheaper (start .args .m .now) (start .args .s) (start .args .q)) 0 (at .loop .p) (at .loop .inv .3)
+      next-turn (cheaper (start .args .m .now) (start .args .s) (start .args .q)) 0 (at .loop .p) (at .loop .inv .3)
           (c .pick-component .ensures ∙ ap (λ (b : Bool). cond b (at .loop .p) (at .loop .r)) (u ∙ ap (λ (n : ℤ). holds (start .args .s) (at .loop .p) && ltZ (getD (start .args .m .now) (at .loop .p * 8 + start .args .q) (pos 0)) n) (at .loop .inv .2))),
     )
 

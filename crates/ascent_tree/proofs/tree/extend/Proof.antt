@@ -2,7 +2,7 @@
 use mathlib.Core.Path.{_≡_, refl, ap, _∙_}
 use Prim.Native.Nat.{_+_, _*_, _-_, _≤_}
 use native.Mathlib.Omega.{arith}
-use Rattle.multiplier_steps.specs.Laws.Turns.{turn, end}
+use Rattle.multiplier_steps.specs.Laws.Turns.{next-turn, end}
 use Rattle.ascent_tree.specs.Tree.{enter, extend}
 use Rattle.multiplier_steps.specs.Turns.{turns}
 use borrow.Author.Needs.{needs}
@@ -26,7 +26,7 @@ loop-again c =
     let start = at .before in (
       omega arith,
       at .loop .inv .1,
-      turn (λ t a. enter (start .args .m .now) (2 * start .args .i + 1) t (a + 1)) (start .args .cost .now, start .args .from .now) (at .loop .a) (at .loop .inv .2)
+      next-turn (λ t a. enter (start .args .m .now) (2 * start .args .i + 1) t (a + 1)) (start .args .cost .now, start .args .from .now) (at .loop .a) (at .loop .inv .2)
           (c .enter-new .ensures ∙ ap (λ s. enter (start .args .m .now) s (at .loop .cost, at .loop .from) (at .loop .a + 1)) (at .loop .inv .1)),
     )
 

@@ -4,7 +4,7 @@ use lib.IntN.{ℤ}
 use mathlib.Core.Path.{_≡_, refl, ap}
 use Prim.Native.Nat.{ℕ, _-_, _≤_, _<_}
 use native.Mathlib.Omega.{arith}
-use Rattle.multiplier_steps.specs.Laws.Turns.{turn, end}
+use Rattle.multiplier_steps.specs.Laws.Turns.{next-turn, end}
 use Rattle.ascent_tree.specs.Tree.{walkBack, along}
 use Rattle.multiplier_steps.specs.Turns.{turns}
 use borrow.Author.Needs.{needs}
@@ -28,7 +28,7 @@ loop-again c =
     let start = at .before .before in (
       omega arith,
       c .walk-back .ensures .1,
-      turn (λ w a. walkBack (start .args .from .now) (start .args .at .now) (start .args .s) w) (start .args .x .now, start .args .t) (at .loop .a) (at .loop .inv .2) (c .walk-back .ensures .0),
+      next-turn (λ w a. walkBack (start .args .from .now) (start .args .at .now) (start .args .s) w) (start .args .x .now, start .args .t) (at .loop .a) (at .loop .inv .2) (c .walk-back .ensures .0),
     )
 
 returns : tie.Need-returns Inv-loop μ-loop

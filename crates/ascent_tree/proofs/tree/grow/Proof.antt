@@ -4,7 +4,7 @@ use Prim.Native.Nat.{_-_, _≤_}
 use native.Mathlib.Omega.{arith}
 use lib.IntN.{pos}
 use lib.ListN.{set, replicate}
-use Rattle.multiplier_steps.specs.Laws.Turns.{turn, end}
+use Rattle.multiplier_steps.specs.Laws.Turns.{next-turn, end}
 use Rattle.ascent_tree.specs.Tree.{extend, grown}
 use Rattle.multiplier_steps.specs.Turns.{turns}
 use Rattle.residual_search.specs.Search.{beyond}
@@ -26,7 +26,7 @@ loop-holds c = (omega arith, omega arith, refl)
 loop-again : tie.Need-loop-again Inv-loop μ-loop
 loop-again c =
     let at = c .before .before .before .before in
-    (omega arith, at .loop .inv .1, turn _ _ (at .loop .i) (at .loop .inv .2) (c .extend .ensures))
+    (omega arith, at .loop .inv .1, next-turn _ _ (at .loop .i) (at .loop .inv .2) (c .extend .ensures))
 
 returns : tie.Need-returns Inv-loop μ-loop
 unfolding grown

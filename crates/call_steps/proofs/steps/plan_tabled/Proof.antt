@@ -1,6 +1,6 @@
 -- The table is that of the definition, so it holds the distances, and the network's refusal is the plan's.
 use mathlib.Core.Path.{refl}
-use Rattle.multipliers.specs.Laws.Tour.{is-table}
+use Rattle.multipliers.specs.Laws.Drive.{is-table}
 use Rattle.call_steps.specs.Laws.Call.{measured-refusal, planned-as}
 use borrow.Author.Needs.{needs}
 use Rattle.call_steps.proofs.steps.plan_tabled.Statement.{statement}

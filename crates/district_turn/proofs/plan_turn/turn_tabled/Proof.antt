@@ -1,5 +1,5 @@
 -- The table is that of the definition, so it holds the distances, and the network's refusal is the plan's.
-use Rattle.multipliers.specs.Laws.Tour.{is-table}
+use Rattle.multipliers.specs.Laws.Drive.{is-table}
 use Rattle.call_steps.specs.Laws.Call.{measured-refusal}
 use borrow.Author.Needs.{needs}
 use Rattle.district_turn.proofs.plan_turn.turn_tabled.Statement.{statement}

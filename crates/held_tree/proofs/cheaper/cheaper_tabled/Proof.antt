@@ -1,5 +1,5 @@
 -- The table is that of the definition, so it holds the distances, and the plan can be prepared.
-use Rattle.multipliers.specs.Laws.Tour.{is-table}
+use Rattle.multipliers.specs.Laws.Drive.{is-table}
 use Rattle.call_steps.specs.Laws.Call.{known-tabled}
 use borrow.Author.Needs.{needs}
 use Rattle.held_tree.proofs.cheaper.cheaper_tabled.Statement.{statement}

@@ -1,6 +1,6 @@
 -- The network's refusal is the plan's.
 use mathlib.Core.Path.{_∙_}
-use Rattle.multipliers.specs.Laws.Tour.{is-table}
+use Rattle.multipliers.specs.Laws.Drive.{is-table}
 use Rattle.call_steps.specs.Laws.Call.{measured-refusal}
 use borrow.Author.Needs.{needs}
 use Rattle.held_tree.proofs.verdict.plan_verdict.Statement.{statement}

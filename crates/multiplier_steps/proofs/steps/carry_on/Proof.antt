@@ -7,7 +7,7 @@ use lib.ListN.{length, getD, set}
 use Rattle.integers.specs.Linear.{back64}
 use Rattle.multiplier_steps.specs.Laws.Turns.{turn-at, end}
 use Rattle.multiplier_steps.specs.Turns.{turns}
-use Rattle.multiplier_steps.specs.Steps.{capped, carriedTo, carried}
+use Rattle.multiplier_steps.specs.Steps.{capped, carriedTo, carriedOn}
 use borrow.Author.Needs.{needs}
 use Rattle.multiplier_steps.proofs.steps.carry_on.Statement.{statement}
 use Rattle.multiplier_steps.proofs.steps.carry_on.Tie as tie
@@ -42,7 +42,7 @@ loop-again c =
     )
 
 returns : tie.Need-returns Inv-loop μ-loop
-unfolding carried
+unfolding carriedOn
 returns c = end _ _ (c .before .loop .a) (c .before .loop .inv .1) (c .before .loop .inv .0) (c .loop-test .left)
 
 pub carry-on-spec : {M : Type 1} → statement M

@@ -3,7 +3,7 @@ use mathlib.Core.Path.{_≡_, refl}
 use Prim.Native.Nat.{_-_, _≤_}
 use native.Mathlib.Omega.{arith}
 use Rattle.integers.specs.Linear.{back64}
-use Rattle.multiplier_steps.specs.Laws.Turns.{turn}
+use Rattle.multiplier_steps.specs.Laws.Turns.{next-turn}
 use Rattle.multiplier_steps.specs.Turns.{turns}
 use Rattle.postman.specs.Plan.{Plan}
 use Rattle.multipliers.specs.Ascent.{climb}
@@ -34,7 +34,7 @@ climb-requires c κs = let s = c .before .before .before .before in ((s .pre .0,
 loop-again : tie.Need-loop-again Inv-loop μ-loop
 loop-again c =
     let at = c .before .before in
-    (omega arith, c .climb .ensures .1, λ p h. turn _ _ (at .loop .i) (at .loop .inv .2 p h) (c .climb .ensures .0 p h))
+    (omega arith, c .climb .ensures .1, λ p h. next-turn _ _ (at .loop .i) (at .loop .inv .2 p h) (c .climb .ensures .0 p h))
 
 returns : tie.Need-returns Inv-loop μ-loop
 returns c =

@@ -90,7 +90,7 @@ loop-again c =
     let e = c .wide3 .ensures ∙ s .pre .1 .next (v .loop .k) (omega arith) in
     let b = tested (s .args .arcs .now) (s .args .column .now) (s .args .v) (v .loop .k) (c .before .before .before .before .before .before .before .before .before .wide2 .ensures) (c .before .before .before .leads .ensures) in (
       refl,
-      subst⁻¹ (λ x. Meets (s .args .arcs .now) (s .args .column .now) (s .args .v) x (c .wide3 .result)) (c .before .before .taken .ensures)
+      subst⁻¹ (λ x. Meets (s .args .arcs .now) (s .args .column .now) (s .args .v) x (c .wide3 .result)) (c .before .before .best-of .ensures)
           (meets-more (s .args .arcs .now) (s .args .column .now) (s .args .v) (v .loop .inv .1) (omega arith) e (omega arith) (c .before .before .before .leads .result) b),
     )
 

@@ -4,7 +4,7 @@ use native.Mathlib.Omega.{arith}
 use borrow.Author.Tests.{eq-eqb, ne-eqb}
 use Prim.Native.Nat.{_+_}
 use Rattle.postman.specs.Laws.FileLength.{second-width}
-use Rattle.bits.specs.Laws.Taking.{taken}
+use Rattle.bits.specs.Laws.Taking.{taken-within}
 use borrow.Author.Needs.{needs}
 use Rattle.plan_arcs.proofs.arcs.read_service.Statement.{statement}
 use Rattle.plan_arcs.proofs.arcs.read_service.Tie as tie
@@ -14,7 +14,7 @@ returns c =
     let a = c .before .before .before .args in
     let second = eq-eqb _ _ (c .before .if1 .taken) in
     let wide = second-width (a .edition) second in
-    simp second (c .take-at .ensures .0 ∙ taken (a .s .now) (a .at + 30) 16 (omega arith, omega (arith, wide), omega arith) .0)
+    simp second (c .take-at .ensures .0 ∙ taken-within (a .s .now) (a .at + 30) 16 (omega arith, omega (arith, wide), omega arith) .0)
 
 returns-2 : tie.Need-returns-2
 returns-2 c = simp (ne-eqb _ _ (c .before .if1 .left)) (c .implied-service .ensures)

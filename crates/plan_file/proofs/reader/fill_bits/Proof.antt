@@ -4,7 +4,7 @@ use Prim.Native.Nat.{_*_, _-_}
 use native.Mathlib.Omega.{arith}
 use Rattle.postman.specs.PlanFile.{fileLength, fillBits}
 use Rattle.postman.specs.Laws.FileLength.{bits-limit, fileLength-le}
-use Rattle.bits.specs.Laws.Taking.{taken}
+use Rattle.bits.specs.Laws.Taking.{taken-within}
 use borrow.Author.Needs.{needs}
 use Rattle.plan_file.proofs.reader.fill_bits.Statement.{statement}
 use Rattle.plan_file.proofs.reader.fill_bits.Tie as tie
@@ -26,7 +26,7 @@ returns c =
     let b = c .before .before .file-bits .ensures in
     let begin = c .before .before .file-bits .result in
     let end = 8 * c .before .file-length .result in
-    let within = taken (a .s .now) begin (end - begin) (omega (arith, n, b), omega (arith, n, b, start .pre .1), omega (arith, b, bits-limit (a .edition) (a .m) (start .pre .0) .1)) in
+    let within = taken-within (a .s .now) begin (end - begin) (omega (arith, n, b), omega (arith, n, b, start .pre .1), omega (arith, b, bits-limit (a .edition) (a .m) (start .pre .0) .1)) in
     c .take-at .ensures .0 ∙ within .0 ∙ rw (n, b)
 
 pub fill-bits-spec : {M : Type 1} → statement M

@@ -1,4 +1,4 @@
--- The invariant: what is kept is that after the rounds so far, and its trees are held. Once closed it stays.
+-- The invariant: what is kept is that after the rounds so far, and its trees are held. Once floor and cost have met it stays.
 use mir.Val.{toZ, ofZ}
 use mir.Syntax.{w64}
 use mathlib.Core.Path.{_≡_, ap, _∙_, subst⁻¹}
@@ -7,7 +7,7 @@ use Rattle.round_rule.specs.Trial.{GoesOn}
 use Rattle.rounds.specs.Held.{IsHeld}
 use Rattle.round_rule.specs.Laws.Tables.{plan-accepted}
 use Rattle.round_rule.specs.Laws.Kept.{goes-on}
-use Rattle.rounds.specs.Laws.Round.{closed-as, deeper, ended, cost-fits}
+use Rattle.rounds.specs.Laws.Round.{met-as, deeper, ended, cost-fits}
 use Prim.Native.Nat.{_-_, _≤_}
 use Rattle.plan.specs.Records.{planValue}
 use Rattle.round_rule.specs.Rounds.{keptAfter}
@@ -24,15 +24,15 @@ abbrev μ-loop : tie.MeasureT-loop
 loop-holds : tie.Need-loop-holds Inv-loop μ-loop
 loop-holds c = (omega arith, c .pre .1 .2, c .pre .0 .2, c .pre .0 .3)
 
-closed-requires : tie.Need-closed-requires Inv-loop μ-loop
-closed-requires c κs = let s = c .before .before .before .before in
+have-met-requires : tie.Need-have-met-requires Inv-loop μ-loop
+have-met-requires c κs = let s = c .before .before .before .before in
     let b = s .pre .1 in
     cost-fits _ (s .pre .0 .0 .well-formed) (s .pre .0 .1) _ (b .0) (b .1) _ _ (omega arith) (c .before .before .before .loop .inv .2)
 
 returns : tie.Need-returns Inv-loop μ-loop
 returns c = let l = c .before .before .before .before .before .loop in
     let f : toZ w64 (ofZ w64 (l .d .kept .floor)) ≡ l .d .kept .floor = search needs in
-    (ended _ _ (l .i) _ (l .d .kept) (l .inv .0) (l .inv .1) (l .inv .2) (closed-as (l .d .kept) _ _ _ f (c .before .closed .ensures) (c .if1 .taken)), l .inv .3)
+    (ended _ _ (l .i) _ (l .d .kept) (l .inv .0) (l .inv .1) (l .inv .2) (met-as (l .d .kept) _ _ _ f (c .before .have-met .ensures) (c .if1 .taken)), l .inv .3)
 
 next-round-requires : tie.Need-next-round-requires Inv-loop μ-loop
 next-round-requires c κs = let s = c .before .before .before .before .before .before in
@@ -46,7 +46,7 @@ next-round-requires c κs = let s = c .before .before .before .before .before .b
 loop-again : tie.Need-loop-again Inv-loop μ-loop
 loop-again c = let l = c .before .before .before .before .before .before .loop in
     let f : toZ w64 (ofZ w64 (l .d .kept .floor)) ≡ l .d .kept .floor = search needs in
-    (omega arith, omega arith, deeper _ _ (l .i) (l .d .kept) _ (l .inv .0) (l .inv .2) (closed-as (l .d .kept) _ _ _ f (c .before .before .closed .ensures) (c .before .if1 .left)) (c .next-round .ensures .0), c .next-round .ensures .1)
+    (omega arith, omega arith, deeper _ _ (l .i) (l .d .kept) _ (l .inv .0) (l .inv .2) (met-as (l .d .kept) _ _ _ f (c .before .before .have-met .ensures) (c .before .if1 .left)) (c .next-round .ensures .0), c .next-round .ensures .1)
 
 returns-2 : tie.Need-returns-2 Inv-loop μ-loop
 returns-2 c = let s = c .before .before in let l = c .before .loop in (l .inv .2 ∙ ap (keptAfter (planValue (s .args .plan)) (s .args .budget)) (omega arith), l .inv .3)
@@ -58,7 +58,7 @@ deepen-spec =
     Inv-loop
     μ-loop
     loop-holds
-    closed-requires
+    have-met-requires
     returns
     (λ c. search needs)
     next-round-requires

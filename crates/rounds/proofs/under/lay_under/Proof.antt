@@ -8,8 +8,8 @@ use denote.Ref.{now}
 use Rattle.postman.specs.Plan.{Plan, WellFormed}
 use Rattle.postman.specs.Component.{componentCount}
 use Rattle.shortest.specs.Contracts.{AreWeights}
-use Rattle.tour_legs.specs.Tour.{written}
-use Rattle.multipliers.specs.Tour.{tableOf}
+use Rattle.drive_legs.specs.Drive.{written}
+use Rattle.multipliers.specs.Drive.{tableOf}
 use Rattle.multipliers.specs.Laws.Table.{rows}
 use Rattle.call_steps.specs.Refusals.{planRefusal}
 use Rattle.tree_search.specs.Resumed.{HoldsTree}

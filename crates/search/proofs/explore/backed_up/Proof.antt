@@ -2,7 +2,7 @@
 use mathlib.Core.Path.{refl}
 use Prim.Native.Nat.{_+_, _≤_}
 use native.Mathlib.Omega.{arith}
-use Rattle.branches.specs.Branches.{chosenIn, linkOf}
+use Rattle.branches.specs.Branches.{chosenIn, candidateLink}
 use Rattle.branches.specs.Laws.Root.{can-rest}
 use Rattle.branches.specs.Laws.Below.{fixed-small}
 use Rattle.search.specs.Laws.Explore.{lifted-prices, bounded-prices}
@@ -30,7 +30,7 @@ bounded-requires c κs =
     let b = s .args .b in
     let h = s .pre .0 .4 in
     let is = s .pre .0 .5 in
-    let q = lifted-prices (s .pre .0 .0) (s .args .d .now) (chosenIn b) (b .a) (linkOf (s .args .c)) (s .args .e .pricing) (s .args .under .pricing) (c .before .lifted .result) (s .pre .0 .6) (s .pre .0 .7) (c .before .lifted .ensures) in
+    let q = lifted-prices (s .pre .0 .0) (s .args .d .now) (chosenIn b) (b .a) (candidateLink (s .args .c)) (s .args .e .pricing) (s .args .under .pricing) (c .before .lifted .result) (s .pre .0 .6) (s .pre .0 .7) (c .before .lifted .ensures) in
     let f = fixed-small h b is in
     (can-rest h (c .before .lifted .result .potentials) (q .potentials) (b .a + 1) (omega arith) (let m = s .pre .1 in omega arith), omega (arith, q .small))
 
@@ -40,7 +40,7 @@ returns c =
     let b = s .args .b in (
       refl,
       λ p vs source f h is old new. bounded-prices h b is (c .before .before .lifted .result) _
-          (lifted-prices p (s .args .d .now) (chosenIn b) (b .a) (linkOf (s .args .c)) (s .args .e .pricing) (s .args .under .pricing) (c .before .before .lifted .result) old new (c .before .before .lifted .ensures)) (c .bounded .ensures),
+          (lifted-prices p (s .args .d .now) (chosenIn b) (b .a) (candidateLink (s .args .c)) (s .args .e .pricing) (s .args .under .pricing) (c .before .before .lifted .result) old new (c .before .before .lifted .ensures)) (c .bounded .ensures),
     )
 
 pub backed-up-spec : {M : Type 1} → statement M

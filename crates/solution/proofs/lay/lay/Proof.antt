@@ -27,8 +27,8 @@ direct-amounts-requires c κs =
     let r = state-room _ _ _ (b .known) _ j (omega arith) _ e in
     (base-metric _ _ _ (b .known), state-certified _ _ _ (b .known) _ j (omega arith) _ e, omega arith)
 
-write-tour-requires : tie.Need-write-tour-requires
-write-tour-requires c κs =
+write-drive-requires : tie.Need-write-drive-requires
+write-drive-requires c κs =
     let s = c .before .before .before .before .before .before .before .before .before .before in
     let b = s .pre .0 .base in
     let t = s .pre .1 in
@@ -42,7 +42,7 @@ returns c =
     let s = c .before .before .before .before .before .before .before .before .before .before .before .before .before in
     let full = c .before .before .before .before .before .before .before .before .before .with-links in
     let laid = c .before .before .before .before .before .direct-amounts in
-    let w = c .before .before .write-tour in
+    let w = c .before .before .write-drive in
     let a = amounts-are _ _ _ _ (s .pre .0 .base) _ _ (s .pre .1) (stateOf (full .result)) (full .ensures) (laid .result) (laid .ensures) in
     (rw a at (w .ensures .0), rw a at (w .ensures .1))
 
@@ -54,6 +54,6 @@ lay-spec =
     array-share-prefix-list
     slice-aggregate-direct-amounts
     direct-amounts-requires
-    write-tour-requires
+    write-drive-requires
     (λ c. search needs)
     returns)

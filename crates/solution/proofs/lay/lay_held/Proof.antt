@@ -8,9 +8,9 @@ use denote.Ref.{now}
 use Rattle.postman.specs.Link.{Link}
 use Rattle.postman.specs.Component.{componentCount}
 use Rattle.plan.specs.Records.{planValue}
-use Rattle.tour_legs.specs.Filled.{linksOf}
-use Rattle.tour_legs.specs.Tour.{written}
-use Rattle.multipliers.specs.Tour.{driveOf}
+use Rattle.drive_legs.specs.Filled.{linksOf}
+use Rattle.drive_legs.specs.Drive.{written}
+use Rattle.multipliers.specs.Drive.{treeDrive}
 use Rattle.multipliers.specs.Prepared.{IsTree}
 use Rattle.multipliers.specs.Laws.Lay.{arcs-links}
 use Rattle.preparation.specs.Laws.Preparation.{component-range}
@@ -65,7 +65,7 @@ returns c =
     let m : s .args .r .network .components - 1 ≡ componentCount p - 1 = ap (λ n. n - 1) (s .pre .0 .network .components .all) in
     let l = c .before .before .lay in
     let t = ap (λ n. linksOf (take n (s .args .t5)) (take n (s .args .t6))) m ∙ sym (arcs-links (take (componentCount p - 1) (s .args .t5)) (take (componentCount p - 1) (s .args .t6))) in
-    (l .ensures .0 ∙ ap (λ (t : List Link). written (driveOf p t) (now (s .args .sheet))) t, l .ensures .1 ∙ ap (λ (t : List Link). length (driveOf p t)) t)
+    (l .ensures .0 ∙ ap (λ (t : List Link). written (treeDrive p t) (now (s .args .sheet))) t, l .ensures .1 ∙ ap (λ (t : List Link). length (treeDrive p t)) t)
 
 pub lay-held-spec : {M : Type 1} → statement M
 lay-held-spec =

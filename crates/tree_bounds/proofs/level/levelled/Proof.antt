@@ -5,7 +5,7 @@ use native.Mathlib.Omega.{arith}
 use lib.ListN.{length, getD, set}
 use Rattle.residual_search.specs.Laws.Fill.{zero-at}
 use Rattle.tree_bounds.specs.Reducible.{Near, AreLevelled}
-use Rattle.tree_bounds.specs.Laws.Levelled.{levelled-start, levelled-more}
+use Rattle.tree_bounds.specs.Laws.Levelled.{put-start, put-more}
 use borrow.Author.Needs.{needs}
 use Rattle.tree_bounds.proofs.level.levelled.Statement.{statement}
 use Rattle.tree_bounds.proofs.level.levelled.Tie as tie
@@ -36,7 +36,7 @@ array-read-low c =
 
 loop-holds : tie.Need-loop-holds Inv-loop μ-loop
 loop-holds c =
-    let s = c .before .before .before in (levelled-start (s .args .t1) (s .args .vs .now) _ refl (λ v. zero-at {A = ℕ} 64 v 0), omega arith)
+    let s = c .before .before .before in (put-start _ (s .args .vs .now) _ refl (λ v. zero-at {A = ℕ} 64 v 0), omega arith)
 
 mul-level : tie.Need-mul-level Inv-loop μ-loop
 mul-level c =
@@ -88,7 +88,7 @@ loop-again c =
     let vs = s .args .vs .now in
     let e = ap (λ v. getD u v 0) (c .before .wide2 .ensures) in
     let f = ap (λ v. getD u v 0) (c .before .before .before .before .before .wide .ensures) in
-    let more = levelled-more u vs (at .loop .k) (at .loop .r) (c .level .result) (at .loop .inv .0) (b .0) (omega (arith, c .level .ensures .0, e, f)) (c .level .ensures .1) in
+    let more = put-more _ vs (at .loop .k) (at .loop .r) (c .level .result) (at .loop .inv .0) (b .0) (omega (arith, c .level .ensures .0, e, f)) (c .level .ensures .1) in
     (subst⁻¹ (λ v. AreLevelled u vs (at .loop .k + 1) (set (at .loop .r) v (c .level .result))) (c .before .wide2 .ensures) more, omega arith)
 
 returns : tie.Need-returns Inv-loop μ-loop

@@ -6,7 +6,7 @@ use lib.ListN.{length, getD, set}
 use lib.IntN.{pos}
 use Rattle.tree_bounds.specs.Reducible.{AreShifted}
 use Rattle.integers.specs.Linear.{back64}
-use Rattle.tree_bounds.specs.Laws.Reduced.{shifted-start, shifted-more}
+use Rattle.tree_bounds.specs.Laws.Levelled.{put-start, put-more}
 use Rattle.residual_search.specs.Laws.Fill.{zero-at}
 use borrow.Author.Needs.{needs}
 use Rattle.tree_bounds.proofs.reduced.shifted.Statement.{statement}
@@ -29,7 +29,7 @@ mul-low : tie.Need-mul-low Inv-loop μ-loop
 mul-low c = let h = first-small c in search needs
 
 loop-holds : tie.Need-loop-holds Inv-loop μ-loop
-loop-holds c = let s = c .before .before .before .before in (shifted-start (s .args .u .now) (s .args .vs .now) _ refl (λ v. zero-at 64 v 0), omega arith)
+loop-holds c = let s = c .before .before .before .before in (put-start _ (s .args .vs .now) _ refl (λ v. zero-at 64 v 0), omega arith)
 
 vertex-small : tie.Need-element-copy-out-risen Inv-loop μ-loop
 vertex-small c =
@@ -64,7 +64,7 @@ loop-again c =
     let vs = s .args .vs .now in
     let t = c .before .before .before .before .loop-test .taken in
     let e = rw (back64 (getD u (c .before .before .wide2 .result) (pos 0)) (c .before .risen-arg .given), back64 (getD u (l .before .wide .result) (pos 0)) (l .low .given), c .before .before .wide2 .ensures, l .before .wide .ensures) at (c .risen .ensures .0) in
-    let more = shifted-more u vs (at .loop .k) (at .loop .r) (c .risen .result) (at .loop .inv .0) (s .pre .0 (at .loop .k) t .0) e (c .risen .ensures .1) in
+    let more = put-more _ vs (at .loop .k) (at .loop .r) (c .risen .result) (at .loop .inv .0) (s .pre .0 (at .loop .k) t .0) e (c .risen .ensures .1) in
     (subst⁻¹ (λ v. AreShifted u vs (at .loop .k + 1) (set (at .loop .r) v (c .risen .result))) (c .before .before .wide2 .ensures) more, omega arith)
 
 returns : tie.Need-returns Inv-loop μ-loop

@@ -3,7 +3,7 @@ use mathlib.Core.Path.{_≡_, refl, sym, ap, ap₂, _∙_}
 use Prim.Native.Nat.{suc, _+_, _-_, _≤_}
 use native.Mathlib.Omega.{arith}
 use lib.ListN.{length, take}
-use Rattle.tour_legs.specs.Filled.{linksOf}
+use Rattle.drive_legs.specs.Filled.{linksOf}
 use Rattle.tree_check.specs.Cost.{tableCost, AreVertices}
 use Rattle.tree_check.specs.Laws.Cost.{cost-none, cost-more, cost-part, cost-all}
 use borrow.Author.Needs.{needs}

@@ -4,7 +4,7 @@ use Rattle.postman.specs.Plan.{Plan, WellFormed}
 use Rattle.postman.specs.Laws.Marks.{car-well-formed}
 use Rattle.plan.specs.Laws.Records.{record-arcs}
 use Rattle.shortest.specs.Contracts.{AreWeights}
-use Rattle.multipliers.specs.Tour.{tableOf}
+use Rattle.multipliers.specs.Drive.{tableOf}
 use Rattle.call_steps.specs.Laws.Chain.{step-refused, made-planned}
 use Rattle.car_marks.specs.Laws.Marks.{good-length}
 use Rattle.two_cars.specs.Laws.Call.{table-shared, weights-shared, marks-refused, marks-good}

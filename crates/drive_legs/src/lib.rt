@@ -1,0 +1,2 @@
+// The legs of a drive.
+pub mod legs; // the legs of a drive

@@ -1,5 +1,0 @@
--- The legs of a tour.
-pub mod Legs
-pub mod Tour
-pub mod Filled
-pub mod Laws
