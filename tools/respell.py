@@ -20,6 +20,8 @@ DEFINITION = re.compile(r"^[ \t]*(?:pub +)?(?:abbrev|unfoldable) +(?:pub +)?([^\
 MADE = re.compile(r"^(tie|goal|Need)\b")
 # Names that would fall together with another, and what they are called instead.
 OTHERWISE = {"isPos": "is_positive", "sameAnswer": "same_answers", "bitsOf-number": "bits_of_numbers"}
+# Declared with an argument in braces before their colon.
+BESIDE = {"firstIndex": "first_index", "argminFrom": "argmin_from", "candidatesOf": "candidates_of", "emptyState": "empty_state", "distWithin": "dist_within"}
 
 LINE_COMMENT = {".antt": "--", ".rt": "//"}
 
@@ -86,6 +88,7 @@ def main():
             q = turned(n, definitions)
             if q != n:
                 wanted[n] = q
+    wanted.update(BESIDE)
     for n, q in list(wanted.items()):
         if "-" in n and any(o != n and "-" not in o and p == q for o, p in wanted.items()):
             wanted[n] = q + "_lem"

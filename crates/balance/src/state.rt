@@ -3,7 +3,7 @@
 ghost use Rattle.std.specs.Prelude.{◌≡◌, ◌+◌, ◌<◌, ◌≤◌, length};
 ghost use mathlib.Core.List.{Memᴰ};
 ghost use Rattle.postman.specs.Steps.{cell};
-ghost use Rattle.residual_search.specs.Step.{state_in, empty as emptyState, add as addState, add_all as addAllStates, arcs_of, IsAdded};
+ghost use Rattle.residual_search.specs.Step.{state_in, empty as empty_state, add as addState, add_all as addAllStates, arcs_of, IsAdded};
 ghost use Rattle.balance.specs.Invariant.{Metric, Certified, AllIn, limit};
 ghost use Rattle.balance.specs.Records.{state_of};
 
@@ -24,7 +24,7 @@ pub struct Balance {
 
 // The state in which no arc is counted.
 pub fn empty() -> Balance
-    ensures { state_of result ≡ emptyState }
+    ensures { state_of result ≡ empty_state }
 {
     Balance {
         amounts: [0; 4096],

@@ -2,7 +2,7 @@
 -- tail to the eth head. Hierholzer's way: walk on from leg 0 by unused legs, always by the first there is; where there is none, the last
 -- leg of the walk has its final place, in front of those that were placed before it, and the walk goes on from its tail.
 use Rattle.std.specs.Prelude.{Bool, cond, ◌&&◌, List, [], ◌∷◌, ℕ, zero, suc, ◌+◌, ◌-◌, ◌*◌, length, get_or, eqb, ltb}
-use Rattle.postman.specs.Lists.{below, firstIndex, occurrences}
+use Rattle.postman.specs.Lists.{below, first_index, occurrences}
 
 -- The walk so far, its last leg first, and the end of the circuit.
 pub record CircuitState : Type 0 where
@@ -16,8 +16,8 @@ is_free tails walk placed v e = eqb (get_or tails e 0) v && eqb (occurrences e w
 
 -- The first such leg; the number of legs where there is none.
 unfoldable pub next_leg : List ℕ → List ℕ → List ℕ → ℕ → ℕ
-unfolding firstIndex is_free below
-next_leg tails walk placed v = firstIndex (is_free tails walk placed v) (below (length tails))
+unfolding first_index is_free below
+next_leg tails walk placed v = first_index (is_free tails walk placed v) (below (length tails))
 
 unfoldable pub step : List ℕ → List ℕ → List ℕ → List ℕ → CircuitState
 unfolding next_leg

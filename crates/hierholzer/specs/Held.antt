@@ -1,7 +1,7 @@
 -- How the code holds the circuit's state: one list of places for both lists, the walk from its start on, what is
 -- placed at its end; and a flag for each leg.
 use Rattle.std.specs.Prelude.{◌≡◌, Bool, not, ◌&&◌, List, [], ◌∷◌, ℕ, zero, suc, ◌+◌, ◌*◌, ◌≤◌, ◌<◌, length, get_or, drop, T, eqb}
-use Rattle.postman.specs.Lists.{below, firstIndex, occurrences}
+use Rattle.postman.specs.Lists.{below, first_index, occurrences}
 use Rattle.hierholzer.specs.Circuit.{step}
 
 -- The first n of the places, the last one first.
@@ -29,8 +29,8 @@ unfoldable pub is_unused : List ℕ → List ℕ → ℕ → ℕ → Bool
 is_unused tails used v e = eqb (get_or tails e 0) v && eqb (get_or used e 0) 0
 
 unfoldable pub first_unused : List ℕ → List ℕ → ℕ → ℕ
-unfolding firstIndex is_unused below
-first_unused tails used v = firstIndex (is_unused tails used v) (below (length tails))
+unfolding first_index is_unused below
+first_unused tails used v = first_index (is_unused tails used v) (below (length tails))
 
 -- A hint for each vertex: no leg out of it before its hint is unused.
 pub record Hints (tails used hints : List ℕ) : Type 0 where

@@ -1,7 +1,7 @@
 -- The path of a leg, as a function of the plan: at each vertex the lowest numbered arc that begins a cheapest path, by
 -- weights that count cost first and arcs second.
 use Rattle.std.specs.Prelude.{Bool, cond, ◌&&◌, List, [], ◌∷◌, ℕ, zero, suc, ◌+◌, ◌*◌, length, get_or, eqb}
-use Rattle.postman.specs.Lists.{firstIndex, below}
+use Rattle.postman.specs.Lists.{first_index, below}
 use Rattle.postman.specs.Plan.{Arc, Plan, is_open, arc_at}
 use Rattle.postman.specs.Distance.{distance}
 use Rattle.plan.specs.Rows.{arc_in}
@@ -16,8 +16,8 @@ begins p v j k =
 
 -- The lowest such number; m where there is none.
 unfoldable pub next_arc : Plan → ℕ → ℕ → ℕ
-unfolding begins firstIndex below
-next_arc p v j = firstIndex (begins p v j) (below (length p.arcs))
+unfolding begins first_index below
+next_arc p v j = first_index (begins p v j) (below (length p.arcs))
 
 -- The same number of the weighted plan, looked up among rows of arcs and a column of the weights to j. `Laws.Lookup`: they give the same.
 unfoldable pub begins_in : List (List ℕ) → List ℕ → ℕ → ℕ → Bool
@@ -26,8 +26,8 @@ begins_in rows column v k =
     && eqb (64 * (arc_in (get_or rows k [])).cost + 1 + get_or column (arc_in (get_or rows k [])).head 0) (get_or column v 0)
 
 unfoldable pub next_in : List (List ℕ) → List ℕ → ℕ → ℕ
-unfolding begins_in firstIndex below
-next_in rows column v = firstIndex (begins_in rows column v) (below (length rows))
+unfolding begins_in first_index below
+next_in rows column v = first_index (begins_in rows column v) (below (length rows))
 
 -- The path from v to j, of at most k arcs.
 unfoldable pub path_within : Plan → ℕ → ℕ → ℕ → List ℕ

@@ -1,6 +1,6 @@
 -- Components (document 01: parts): "the required vertices joined by must arcs, direction ignored; numbered from 0 by their lowest vertex".
 use Rattle.std.specs.Prelude.{Bool, not, ◌&&◌, List, [], ◌∷◌, ℕ, length, ltb}
-use Rattle.postman.specs.Lists.{select, any_of, firstIndex}
+use Rattle.postman.specs.Lists.{select, any_of, first_index}
 use Rattle.postman.specs.Plan.{Arc, Plan, required_arcs}
 use Rattle.postman.specs.Required.{required}
 use Rattle.postman.specs.Distance.{has_path}
@@ -34,5 +34,5 @@ component_count p = length (lowest p)
 
 -- The component of a vertex: the place of the lowest vertex that it is joined to.
 unfoldable pub component : Plan → ℕ → ℕ
-unfolding lowest firstIndex joined
-component p v = firstIndex (λ r. joined p r v) (lowest p)
+unfolding lowest first_index joined
+component p v = first_index (λ r. joined p r v) (lowest p)

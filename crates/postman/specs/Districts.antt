@@ -2,7 +2,7 @@
 -- first, lays drives for up to eight districts."
 use Rattle.std.specs.Prelude.{Bool, false, not, cond, List, [], ◌∷◌, ◌++◌, map, ℕ, ◌+◌, length, leb, ltb}
 use Rattle.std.proofs.Math.Option.{Option}
-use Rattle.postman.specs.Lists.{below, firstIndex, occurs}
+use Rattle.postman.specs.Lists.{below, first_index, occurs}
 use Rattle.postman.specs.Refusal.{Conditions, first_refusal, unless}
 use Rattle.postman.specs.PlanFile.{file_conditions, is_outside, plan_of}
 use Rattle.postman.specs.PlanCall.{highest_budget, budget_conditions, sheet_places, last_conditions, tried_count}
@@ -37,8 +37,8 @@ entry_refusal l bytes budget = first_refusal (entry_conditions l bytes budget)
 
 -- "entry answers the lowest free place, 0 to 7"
 unfoldable pub lowest_free : Line → ℕ
-unfolding firstIndex occurs below
-lowest_free l = firstIndex (λ q. not (occurs q (places l))) (below 8)
+unfolding first_index occurs below
+lowest_free l = first_index (λ q. not (occurs q (places l))) (below 8)
 
 -- "Each enters at the back of the line with its plan and a budget"; in a refused entry "nothing moves".
 unfoldable pub enter : Line → List ℕ → ℕ → Line

@@ -18,9 +18,9 @@ all_of f [] = true
 all_of f (x ∷ xs) = f x && all_of f xs
 
 -- The place of the first element that passes a test; the length where none does.
-unfoldable pub firstIndex {ℓ} : {A : Type ℓ} → (A → Bool) → List A → ℕ
-firstIndex f [] = 0
-firstIndex f (x ∷ xs) = cond (f x) 0 (suc (firstIndex f xs))
+unfoldable pub first_index {ℓ} : {A : Type ℓ} → (A → Bool) → List A → ℕ
+first_index f [] = 0
+first_index f (x ∷ xs) = cond (f x) 0 (suc (first_index f xs))
 
 -- The n numbers a, a + 1, and so on; the numbers 0 to n − 1.
 unfoldable pub up_from : ℕ → ℕ → List ℕ
@@ -52,14 +52,14 @@ minimum (x ∷ xs) = least x (λ y. y) xs
 
 -- The first element of least value: of x, the best so far, and a list, where an element replaces those before it only if its value is
 -- less; and of a list, d where there is none.
-unfoldable pub argminFrom {ℓ} : {A : Type ℓ} → (A → ℕ) → A → List A → A
-argminFrom f x [] = x
-argminFrom f x (y ∷ ys) = argminFrom f (cond (ltb (f y) (f x)) y x) ys
+unfoldable pub argmin_from {ℓ} : {A : Type ℓ} → (A → ℕ) → A → List A → A
+argmin_from f x [] = x
+argmin_from f x (y ∷ ys) = argmin_from f (cond (ltb (f y) (f x)) y x) ys
 
 unfoldable pub argmin {ℓ} : {A : Type ℓ} → (A → ℕ) → A → List A → A
-unfolding argminFrom
+unfolding argmin_from
 argmin f d [] = d
-argmin f d (x ∷ xs) = argminFrom f x xs
+argmin f d (x ∷ xs) = argmin_from f x xs
 
 -- The lesser and the greater of two integers, and the least integer of a list, 0 where there is none.
 unfoldable pub minℤ : ℤ → ℤ → ℤ

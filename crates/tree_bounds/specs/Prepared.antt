@@ -4,7 +4,7 @@ use Rattle.postman.specs.Plan.{Plan}
 use Rattle.postman.specs.Required.{required}
 use Rattle.postman.specs.Distance.{distance}
 use Rattle.postman.specs.Component.{component_count}
-use Rattle.postman.specs.Arborescence.{link_at, candidates as candidatesOf}
+use Rattle.postman.specs.Arborescence.{link_at, candidates as candidates_of}
 use Rattle.postman.specs.Steps.{Plannable}
 use Rattle.arborescence.specs.Layout.{laid_out, IsLayout}
 use Rattle.arborescence.specs.Candidates.{AreCandidates}
@@ -17,6 +17,6 @@ pub record Prepared (p : Plan) (table : List (List ℕ)) (vs start source tails 
   pub vertices : vs ≡ required p
   pub layout : IsLayout k start source
   pub candidates : AreCandidates p (laid_out k start source)
-  pub ends : (q i : ℕ) → 1 ≤ q → q < k → i < length (candidatesOf p q)
-      → (get_or tails (get_or start q 0 + i) 0 ≡ (link_at (candidatesOf p q) i).tail)
-      × (get_or heads (get_or start q 0 + i) 0 ≡ (link_at (candidatesOf p q) i).head)
+  pub ends : (q i : ℕ) → 1 ≤ q → q < k → i < length (candidates_of p q)
+      → (get_or tails (get_or start q 0 + i) 0 ≡ (link_at (candidates_of p q) i).tail)
+      × (get_or heads (get_or start q 0 + i) 0 ≡ (link_at (candidates_of p q) i).head)

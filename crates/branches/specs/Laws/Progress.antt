@@ -11,7 +11,7 @@ use Prim.Native.Nat.{ℕ, zero, suc, ◌+◌, ◌-◌, ◌≤◌, ◌<◌}
 use Rattle.std.proofs.Math.Decide.{dec_lt}
 use native.Mathlib.Omega.{arith}
 use Rattle.std.proofs.Math.ListN.{length}
-use Rattle.postman.specs.Lists.{argminFrom, argmin}
+use Rattle.postman.specs.Lists.{argmin_from, argmin}
 use Rattle.postman.specs.Link.{Link}
 use Rattle.branches.specs.Progress.{Held, held, pass_over, keep, try_tree, advance}
 
@@ -101,15 +101,15 @@ module _ (f : List Link → ℕ) where
   -- ---- from the start
 
   tried_from : (x : List Link) (n : ℕ) (ts : List (List Link)) → advance f (held (f x) x 0 n) ts
-      ≡ held (f (argminFrom f x (take n ts))) (argminFrom f x (take n ts)) 0 (n - length ts)
-  unfolding advance argminFrom
+      ≡ held (f (argmin_from f x (take n ts))) (argmin_from f x (take n ts)) 0 (n - length ts)
+  unfolding advance argmin_from
   tried_from x zero ts =
       passed_over (held (f x) x 0 0) ts (inr (inr refl))
       ∙ held_same refl (let e : 0 - length ts ≡ 0 = omega arith in e) (let e : 0 - (length ts - 0) ≡ 0 - length ts = omega arith in e)
       ∙ none ts
     where
       none : (ts : List (List Link))
-          → held (f x) x 0 (0 - length ts) ≡ held (f (argminFrom f x (take 0 ts))) (argminFrom f x (take 0 ts)) 0 (0 - length ts)
+          → held (f x) x 0 (0 - length ts) ≡ held (f (argmin_from f x (take 0 ts))) (argmin_from f x (take 0 ts)) 0 (0 - length ts)
       none [] = refl
       none (t ∷ ts) = refl
   tried_from x (suc n) [] = held_same refl refl (let e : suc n ≡ suc n - 0 = omega arith in e)
@@ -119,9 +119,9 @@ module _ (f : List Link → ℕ) where
     where
       next : (b : Bool)
           → ((y : List Link)
-          → advance f (held (f y) y 0 n) ts ≡ held (f (argminFrom f y (take n ts))) (argminFrom f y (take n ts)) 0 (n - length ts))
+          → advance f (held (f y) y 0 n) ts ≡ held (f (argmin_from f y (take n ts))) (argmin_from f y (take n ts)) 0 (n - length ts))
           → advance f (pass_over (cond b (held (f t) t 0 (suc n)) (held (f x) x 0 (suc n))) 1) ts
-          ≡ held (f (argminFrom f (cond b t x) (take n ts))) (argminFrom f (cond b t x) (take n ts)) 0 (suc n - suc (length ts))
+          ≡ held (f (argmin_from f (cond b t x) (take n ts))) (argmin_from f (cond b t x) (take n ts)) 0 (suc n - suc (length ts))
       next true law =
           ap (λ z. advance f (held (f t) t 0 z) ts) (let e : suc n - (1 - 0) ≡ n = omega arith in e) ∙ law t
           ∙ held_same refl refl (let e : n - length ts ≡ suc n - suc (length ts) = omega arith in e)

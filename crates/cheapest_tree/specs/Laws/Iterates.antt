@@ -9,7 +9,7 @@ use Prim.Native.Nat.{ℕ, zero, suc, ◌+◌, ◌-◌, ◌≤◌, ◌<◌}
 use Rattle.std.proofs.Math.Decide.{ℕ_discrete, dec_lt}
 use native.Mathlib.Omega.{arith}
 use Rattle.std.proofs.Math.Dec.{T, eqb, eqb→eq}
-use Rattle.postman.specs.Lists.{below, up_from, iterate, firstIndex}
+use Rattle.postman.specs.Lists.{below, up_from, iterate, first_index}
 use Rattle.postman.specs.Laws.Tests.{cond_ind, eqb_same}
 use Rattle.postman_laws.specs.Laws.Pick.{pick_of_mem, pick_length, pick_cases}
 use Rattle.postman_laws.specs.Laws.Iteration.{iterate_add}
@@ -21,16 +21,16 @@ iterate_last (suc n) f x = iterate_last n f (f x)
 
 -- ---- how many steps lead to a place
 
-index_from : (f : ℕ → Bool) (a n i : ℕ) → i < n → T (f (a + i)) → (firstIndex f (up_from a n) ≤ i) × T (f (a + firstIndex f (up_from a n)))
-unfolding firstIndex up_from
+index_from : (f : ℕ → Bool) (a n i : ℕ) → i < n → T (f (a + i)) → (first_index f (up_from a n) ≤ i) × T (f (a + first_index f (up_from a n)))
+unfolding first_index up_from
 index_from f a zero i l t = absurd (omega arith)
 index_from f a (suc n) zero l t =
-    cond_ind (f a) 0 (suc (firstIndex f (up_from (suc a) n))) (λ z. (z ≤ 0) × T (f (a + z)))
+    cond_ind (f a) 0 (suc (first_index f (up_from (suc a) n))) (λ z. (z ≤ 0) × T (f (a + z)))
     (λ u. (omega arith, subst⁻¹ (λ z. T (f z)) (add-zero a) u)) (λ u. absurd (T_not (f a) u (subst (λ z. T (f z)) (add-zero a) t)))
 index_from f a (suc n) (suc i) l t =
     let r = index_from f (suc a) n i (omega arith) (subst (λ z. T (f z)) (add-suc a i ∙ sym (suc-add a i)) t) in
     let b = r.0 in
-    let x = firstIndex f (up_from (suc a) n) in
+    let x = first_index f (up_from (suc a) n) in
     cond_ind (f a) 0 (suc x) (λ z. (z ≤ suc i) × T (f (a + z)))
     (λ u. (omega arith, subst⁻¹ (λ z. T (f z)) (add-zero a) u))
     (λ u. (omega arith, subst (λ z. T (f z)) (suc-add a x ∙ sym (add-suc a x)) r.1))
@@ -38,16 +38,16 @@ index_from f a (suc n) (suc i) l t =
 module _ (f : ℕ → ℕ) (z d : ℕ) where
   -- the least number of steps from x to z, where it is below d
   unfoldable pub steps_to : ℕ → ℕ
-  unfolding firstIndex below iterate
-  steps_to x = firstIndex (λ n. eqb (iterate n f x) z) (below d)
+  unfolding first_index below iterate
+  steps_to x = first_index (λ n. eqb (iterate n f x) z) (below d)
 
   pub steps_le : (x n : ℕ) → n < d → iterate n f x ≡ z → (steps_to x ≤ n) × (iterate (steps_to x) f x ≡ z)
   unfolding steps_to below
   steps_le x n l h =
       let g : ℕ → Bool = λ n. eqb (iterate n f x) z in
       let r = index_from g 0 d n l (subst⁻¹ (λ i. T (g i)) (zero-add n) (eqb_same h)) in
-      let e = eqb→eq (iterate (0 + firstIndex g (up_from 0 d)) f x) z r.1 in
-      (r.0, ap (λ i. iterate i f x) (sym (zero-add (firstIndex g (up_from 0 d)))) ∙ e)
+      let e = eqb→eq (iterate (0 + first_index g (up_from 0 d)) f x) z r.1 in
+      (r.0, ap (λ i. iterate i f x) (sym (zero-add (first_index g (up_from 0 d)))) ∙ e)
 
   -- a step brings it nearer
   pub steps_fall : (x n : ℕ) → n < d → iterate n f x ≡ z → x ≢ z → steps_to (f x) < steps_to x

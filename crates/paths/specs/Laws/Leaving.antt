@@ -7,7 +7,7 @@ use Rattle.std.proofs.Math.Decide.{ℕ_discrete, dec_le}
 use native.Mathlib.Omega.{arith}
 use Rattle.std.proofs.Math.ListN.{length}
 use Rattle.std.proofs.lemmas.List.{length-replicate, get_or-replicate}
-use Rattle.postman.specs.Lists.{firstIndex, up_from}
+use Rattle.postman.specs.Lists.{first_index, up_from}
 use Rattle.postman.specs.Plan.{is_open}
 use Rattle.plan.specs.Rows.{arc_in}
 use Rattle.paths.specs.Leaving.{tail_of, leaves, leaving_from, IsLeavingChain}
@@ -40,13 +40,13 @@ first_case : (f : ℕ → Bool) (k m r : ℕ) → k < m → IsFirstFrom f (k + 1
 first_case f k m r l h true e = subst (IsFirstFrom f k m) (omega arith) (first_here f k m (omega arith) e)
 first_case f k m r l h false e = subst (IsFirstFrom f k m) (omega arith) (first_later f k m (k + 1 + r) e h)
 
-first_from : (f : ℕ → Bool) (k m n : ℕ) → k + n ≡ m → IsFirstFrom f k m (k + firstIndex f (up_from k n))
-unfolding firstIndex up_from
+first_from : (f : ℕ → Bool) (k m n : ℕ) → k + n ≡ m → IsFirstFrom f k m (k + first_index f (up_from k n))
+unfolding first_index up_from
 first_from f k m zero e =
     record { from = omega arith; most = omega arith; skipped = λ i g h. absurd (omega arith); passes = λ l. absurd (omega arith) }
 first_from f k m (suc n) e =
-    first_case f k m (firstIndex f (up_from (suc k) n)) (omega arith)
-    (subst (λ x. IsFirstFrom f x m (x + firstIndex f (up_from (suc k) n))) (omega arith) (first_from f (suc k) m n (omega arith)))
+    first_case f k m (first_index f (up_from (suc k) n)) (omega arith)
+    (subst (λ x. IsFirstFrom f x m (x + first_index f (up_from (suc k) n))) (omega arith) (first_from f (suc k) m n (omega arith)))
     (f k) refl
 
 -- there is one such number

@@ -4,7 +4,7 @@ use Rattle.std.specs.Prelude.{◌≡◌, refl, Bool, ◌&&◌, List, [], ◌∷�
 use Rattle.std.proofs.Common.{sym, ◌∙◌, arith, length-take-le, get_or-take}
 use Rattle.std.proofs.Math.Path.{ap, subst⁻¹}
 use Rattle.std.proofs.lemmas.List.{length-map}
-use Rattle.postman.specs.Lists.{firstIndex, up_from, below}
+use Rattle.postman.specs.Lists.{first_index, up_from, below}
 use Rattle.postman.specs.Plan.{Arc, Plan, WellFormed, IsArc, is_open, arc_at}
 use Rattle.postman.specs.Distance.{no_path, distance}
 use Rattle.postman.specs.Laws.Membership.{get_d_mem}
@@ -20,8 +20,8 @@ use Rattle.shortest.specs.Weight.{heavy, weighted}
 use Rattle.shortest.specs.Laws.Weight.{heavy_at}
 
 -- the first index of two tests that agree
-first_same : (f g : ℕ → Bool) (a n : ℕ) → ((k : ℕ) → a ≤ k → k < a + n → f k ≡ g k) → firstIndex f (up_from a n) ≡ firstIndex g (up_from a n)
-unfolding firstIndex up_from
+first_same : (f g : ℕ → Bool) (a n : ℕ) → ((k : ℕ) → a ≤ k → k < a + n → f k ≡ g k) → first_index f (up_from a n) ≡ first_index g (up_from a n)
+unfolding first_index up_from
 first_same f g a zero h = refl
 first_same f g a (suc n) h =
     let e = h a (omega arith) (omega arith) in
@@ -58,7 +58,7 @@ module _ (n : ℕ) (rows : List (List ℕ)) (ok : WellFormed (plan_in n rows)) w
     next_same v h =
         first_same (begins_in rows column v) (begins (weighted (plan_in n rows)) v j) 0 (length rows)
         (λ k a b. begins_same v k h (omega arith))
-        ∙ ap (λ m. firstIndex (begins (weighted (plan_in n rows)) v j) (up_from 0 m))
+        ∙ ap (λ m. first_index (begins (weighted (plan_in n rows)) v j) (up_from 0 m))
         (sym (length-map (plan_in n rows).arcs heavy ∙ rows_length n rows))
 
 -- A column that was taken out of the rows of a table: of as many entries as there are rows, it is the column of the weights to j.

@@ -2,7 +2,7 @@
 use Rattle.std.specs.Prelude.{◌≡◌, refl, Bool, not, cond, ℕ, zero, suc, ◌≤◌, ◌<◌, length, get_or, T}
 use Rattle.std.proofs.Common.{ap, ap₂, subst, le_refl, le_trans, arith, T_not}
 use mathlib.Core.List.{List, [], ◌∷◌, Memᴰ}
-use Rattle.postman.specs.Lists.{select, up_from, firstIndex}
+use Rattle.postman.specs.Lists.{select, up_from, first_index}
 use Rattle.postman.specs.Laws.Tests.{cond_ind}
 
 -- the list ascends, from b or more on
@@ -38,34 +38,34 @@ ascends_lt b (x ∷ xs) q zero h k l = absurd (omega arith)
 ascends_lt b (x ∷ xs) zero (suc r) h k l = ascends_at (suc x) xs r h.1 (omega arith)
 ascends_lt b (x ∷ xs) (suc q) (suc r) h k l = ascends_lt (suc x) xs q r h.1 (omega arith) (omega arith)
 
-pub index_lt : (f : ℕ → Bool) {x : ℕ} {xs : List ℕ} → Memᴰ x xs → T (f x) → firstIndex f xs < length xs
-unfolding firstIndex
+pub index_lt : (f : ℕ → Bool) {x : ℕ} {xs : List ℕ} → Memᴰ x xs → T (f x) → first_index f xs < length xs
+unfolding first_index
 index_lt f (Memᴰ.head {x = y} {xs = ys} e) t =
-    cond_ind (f y) 0 (suc (firstIndex f ys)) (λ z. z < suc (length ys)) (λ u. omega arith)
+    cond_ind (f y) 0 (suc (first_index f ys)) (λ z. z < suc (length ys)) (λ u. omega arith)
     (λ u. absurd (T_not (f y) u (subst (λ z. T (f z)) e t)))
 index_lt f (Memᴰ.tail {x = y} {xs = ys} m) t =
     let r = index_lt f m t in
-    cond_ind (f y) 0 (suc (firstIndex f ys)) (λ z. z < suc (length ys)) (λ u. omega arith) (λ u. omega arith)
+    cond_ind (f y) 0 (suc (first_index f ys)) (λ z. z < suc (length ys)) (λ u. omega arith) (λ u. omega arith)
 
 pub index_at : (f : ℕ → Bool) (xs : List ℕ) (q : ℕ) → q < length xs → T (f (get_or xs q 0)) → ((r : ℕ) → r < q → T (not (f (get_or xs r 0))))
-    → firstIndex f xs ≡ q
-unfolding firstIndex
+    → first_index f xs ≡ q
+unfolding first_index
 index_at f [] q l t h = absurd (omega arith)
-index_at f (x ∷ xs) zero l t h = cond_ind (f x) 0 (suc (firstIndex f xs)) (λ z. z ≡ 0) (λ u. refl) (λ u. absurd (T_not (f x) u t))
+index_at f (x ∷ xs) zero l t h = cond_ind (f x) 0 (suc (first_index f xs)) (λ z. z ≡ 0) (λ u. refl) (λ u. absurd (T_not (f x) u t))
 index_at f (x ∷ xs) (suc q) l t h =
     let r = index_at f xs q (omega arith) t (λ r k. h (suc r) (omega arith)) in
-    cond_ind (f x) 0 (suc (firstIndex f xs)) (λ z. z ≡ suc q) (λ u. absurd (T_not (f x) (h 0 (omega arith)) u)) (λ u. ap suc r)
+    cond_ind (f x) 0 (suc (first_index f xs)) (λ z. z ≡ suc q) (λ u. absurd (T_not (f x) (h 0 (omega arith)) u)) (λ u. ap suc r)
 
-pub index_cong : (f g : ℕ → Bool) (xs : List ℕ) → ((x : ℕ) → Memᴰ x xs → f x ≡ g x) → firstIndex f xs ≡ firstIndex g xs
-unfolding firstIndex
+pub index_cong : (f g : ℕ → Bool) (xs : List ℕ) → ((x : ℕ) → Memᴰ x xs → f x ≡ g x) → first_index f xs ≡ first_index g xs
+unfolding first_index
 index_cong f g [] h = refl
 index_cong f g (x ∷ xs) h =
     ap₂ (λ (b : Bool) (n : ℕ). cond b 0 (suc n)) (h x (Memᴰ.head refl)) (index_cong f g xs (λ y m. h y (Memᴰ.tail m)))
 
 -- the element in that place passes
-pub index_test : (f : ℕ → Bool) (xs : List ℕ) → firstIndex f xs < length xs → T (f (get_or xs (firstIndex f xs) 0))
-unfolding firstIndex
+pub index_test : (f : ℕ → Bool) (xs : List ℕ) → first_index f xs < length xs → T (f (get_or xs (first_index f xs) 0))
+unfolding first_index
 index_test f [] = λ l. absurd (omega arith)
 index_test f (x ∷ xs) =
     let r = index_test f xs in
-    cond_ind (f x) 0 (suc (firstIndex f xs)) (λ z. z < suc (length xs) → T (f (get_or (x ∷ xs) z 0))) (λ t l. t) (λ t l. r (omega arith))
+    cond_ind (f x) 0 (suc (first_index f xs)) (λ z. z < suc (length xs) → T (f (get_or (x ∷ xs) z 0))) (λ t l. t) (λ t l. r (omega arith))

@@ -42,7 +42,7 @@ module _ (arcs : List Arc) where
       cond_ind (eqb i j) 0 (least no_path (via k j) (arcs_from arcs i)) (λ x. x ≡ 0) (λ t. refl)
       (λ t. absurd (T_not (eqb i j) t (eqb_same e)))
 
-  -- a walk of at most k arcs costs at least distWithin k
+  -- a walk of at most k arcs costs at least dist_within k
   pub within_le : (k i j : ℕ) (w : List ℕ) → IsWalk arcs i w j → length w ≤ k → distance_within arcs k i j ≤ walk_cost arcs w
   unfolding distance_within arcs_from
   within_le k i j [] e l = let z = self k i j e in omega arith
@@ -231,7 +231,7 @@ module _ (p : Plan) (ok : InPlan p) where
       let t = triangle (arc_at p.arcs k).tail (arc_at p.arcs k).head j in
       omega arith
 
--- a table e that is at most distWithin k, relaxed once along every arc, is at most distWithin (k + 1)
+-- a table e that is at most dist_within k, relaxed once along every arc, is at most dist_within (k + 1)
 pub relaxed : (arcs : List Arc) (k : ℕ) (e e' : ℕ → ℕ → ℕ) → ((i j : ℕ) → e i j ≤ distance_within arcs k i j) → ((i j : ℕ) → e' i j ≤ e i j)
     → ((a j : ℕ) → a < length arcs → T (is_open (arc_at arcs a)) → e' (arc_at arcs a).tail j ≤ (arc_at arcs a).cost + e (arc_at arcs a).head j)
     → (i j : ℕ) → e' i j ≤ distance_within arcs (suc k) i j

@@ -8,7 +8,7 @@ use mathlib.Core.List.Memᴰ
 use mathlib.Core.List.{List, [], ◌∷◌, map, Memᴰ}
 use native.Mathlib.Omega.{arith}
 use Rattle.std.proofs.Math.ListN.{length-take}
-use Rattle.postman.specs.Lists.{least, minimum, argminFrom, argmin}
+use Rattle.postman.specs.Lists.{least, minimum, argmin_from, argmin}
 use Rattle.postman.specs.Plan.{Plan}
 use Rattle.postman.specs.Link.{Link}
 use Rattle.postman.specs.Arborescence.{arborescences, arborescence_count}
@@ -33,19 +33,19 @@ module _ {A : Type 0} (f : A → ℕ) where
   least_base a b (x ∷ xs) = let h = least_base a b xs in omega arith
 
   -- its value is the least
-  pub argmin_from_value : (x : A) (xs : List A) → f (argminFrom f x xs) ≡ least (f x) f xs
-  unfolding argminFrom least
+  pub argmin_from_value : (x : A) (xs : List A) → f (argmin_from f x xs) ≡ least (f x) f xs
+  unfolding argmin_from least
   argmin_from_value x [] = refl
   argmin_from_value x (y ∷ ys) =
       argmin_from_value (better x y) ys ∙ ap (λ n. least n f ys) (better_value x y) ∙ least_base (f y) (f x) ys
 
-  pub argmin_from_mem : (x : A) (xs : List A) → Memᴰ (argminFrom f x xs) (x ∷ xs)
-  unfolding argminFrom
+  pub argmin_from_mem : (x : A) (xs : List A) → Memᴰ (argmin_from f x xs) (x ∷ xs)
+  unfolding argmin_from
   argmin_from_mem x [] = Memᴰ.head refl
   argmin_from_mem x (y ∷ ys) =
       elim (Memᴰ.cases_cons (argmin_from_mem (better x y) ys)) [
         | inl e ↦ cond_ind (ltb (f y) (f x)) y x
-            (λ w. argminFrom f (better x y) ys ≡ w → Memᴰ (argminFrom f (better x y) ys) (x ∷ y ∷ ys))
+            (λ w. argmin_from f (better x y) ys ≡ w → Memᴰ (argmin_from f (better x y) ys) (x ∷ y ∷ ys))
             (λ t q. Memᴰ.tail (Memᴰ.head q)) (λ t q. Memᴰ.head q) e
         | inr m ↦ Memᴰ.tail (Memᴰ.tail m)
       ]

@@ -2,7 +2,7 @@
 use mathlib.Core.Path.{◌≡◌, subst⁻¹}
 use Prim.Native.Nat.{ℕ, ◌+◌, ◌≤◌}
 use native.Mathlib.Omega.{arith}
-use Rattle.residual_search.specs.Step.{State, empty as emptyState}
+use Rattle.residual_search.specs.Step.{State, empty as empty_state}
 use Rattle.balance.specs.Invariant.{Certified}
 use Rattle.balance.specs.Laws.Arcs.{empty_certified}
 use Rattle.multipliers.specs.Laws.Lay.{base_metric, prefixes, is_gathered, base_from}
@@ -11,8 +11,8 @@ use Rattle.preparation.proofs.base.base_state.Statement.{statement}
 use Rattle.preparation.proofs.base.base_state.Tie as tie
 
 -- an empty state has room
-room : {s : State} {n : ℕ} → s ≡ emptyState → n ≤ 1000 → s.count + n ≤ 1000
-unfolding emptyState
+room : {s : State} {n : ℕ} → s ≡ empty_state → n ≤ 1000 → s.count + n ≤ 1000
+unfolding empty_state
 room {n = n} e l = subst⁻¹ (λ (s : State). s.count + n ≤ 1000) e (omega arith)
 
 array_share_prefix_tails : tie.Need-array-share-prefix-tails
