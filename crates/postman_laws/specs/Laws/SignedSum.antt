@@ -49,6 +49,7 @@ minimumℤ_le {x} (Memᴰ.head {x = y} {xs = []} e) = subst (λ w. y ≤ℤ w) (
 minimumℤ_le {x} (Memᴰ.head {x = y} {xs = w ∷ ws} e) =
     subst (λ v. minℤ y (minimumℤ (w ∷ ws)) ≤ℤ v) (sym e) (min_left y (minimumℤ (w ∷ ws)))
 minimumℤ_le (Memᴰ.tail {x = y} {xs = w ∷ ws} m) = ≤ℤ-trans (min_right y (minimumℤ (w ∷ ws))) (minimumℤ_le m)
+minimumℤ_le (Memᴰ.tail {x = y} {xs = []} m) = elim m [ ]
 
 pub minimumℤ_at : (xs : List ℤ) → 0 < length xs → Memᴰ (minimumℤ xs) xs
 unfolding minimumℤ minℤ
