@@ -1,5 +1,5 @@
 -- Sums and minima of lists of integers. By induction on the list.
-use Rattle.std.specs.Prelude.{◌≡◌, Bool, not, ℕ, ◌+◌, ◌*◌, ◌≤◌, ◌<◌, length, T, eqb, ℤ, ◌+ℤ◌, ◌-ℤ◌, ◌*ℤ◌, ◌≤ℤ◌}
+use Rattle.std.specs.Prelude.{◌≡◌, Bool, not, ℕ, ◌<◌, length, T, eqb, ℤ, ◌+ℤ◌, ◌-ℤ◌, ◌*ℤ◌, ◌≤ℤ◌}
 use Rattle.std.proofs.Math.Path.{refl, ap, fun_ext}
 use Rattle.std.proofs.Common.{sym, ap₂, ◌∙◌, subst, arith, eqb→eq}
 use mathlib.Core.List.{List, [], ◌∷◌, ◌++◌, map, Memᴰ}
