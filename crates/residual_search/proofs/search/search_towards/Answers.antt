@@ -37,7 +37,7 @@ loop-k-preserved c =
           c.loop-k.invariant.5
           c.loop-k-test.true
           c.loop-k.invariant.3
-          (eqb-false c.loop-k.w c.args.goal (not-true _ c.if-w-goal.true))
+          c.if-w-goal.true
           c.wide-i.ensures
           c.level-base.ensures.0
           c.relax_by-w-in-loop-k.ensures.0
