@@ -1,13 +1,11 @@
 -- What is left of the path after k steps, from where they led, leaves what the whole path does. Assumes nothing.
-use mathlib.Core.Path.{◌≡◌, refl, sym, ap, ◌∙◌}
+use mathlib.Core.Path.{◌≡◌, sym, ap, ◌∙◌}
 use mathlib.Core.Logic.{⊎_elim}
-use Prim.Native.Nat.{◌+◌, ◌*◌, ◌≤◌, ◌<◌, ◌-◌}
+use Prim.Native.Nat.{◌+◌, ◌*◌, ◌-◌}
 use native.Mathlib.Omega.{arith}
-use Rattle.residual_search.specs.Bounds.{AtMost}
 use Rattle.balance.specs.Invariant.{limit}
 use Rattle.residual_search.specs.Step.{augment}
 use Rattle.residual_search.specs.Laws.Turns.{augment_end, augment_more, at_most_more}
-use borrow.Author.Rules.{rules}
 use Rattle.balance.proofs.augment.augment_along.Goals as goal
 
 pub returns-then-v-t : goal.returns-then-v-t

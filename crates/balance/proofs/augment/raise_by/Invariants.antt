@@ -1,13 +1,8 @@
 -- The loop's state after a turns is the fold over the first a vertices. Assumes nothing.
-use mathlib.Core.Path.{◌≡◌, refl, ap, ap₂, ◌∙◌}
+use mathlib.Core.Path.{◌≡◌}
 use Prim.Native.Nat.{◌+◌, ◌≤◌, ◌-◌, min}
-use native.Mathlib.Omega.{arith}
 use lib.ListN.{length, get_or, set, take}
-use lib.Seq.{take_all}
 use Rattle.residual_search.specs.Fold.{fold}
-use Rattle.residual_search.specs.Step.{raise}
-use Rattle.residual_search.specs.Laws.Turns.{fill_more}
-use borrow.Author.Rules.{rules}
 use Rattle.balance.proofs.augment.raise_by.Given as goal
 
 abbrev pub invariant-loop-a : goal.invariant-loop-a

@@ -12,7 +12,6 @@ use Rattle.balance.specs.Records.{state_of}
 use Rattle.balance.specs.Laws.Step.{vertices_small, levels_small, residual_ground}
 use Rattle.residual_search.specs.Laws.Until.{until_whole}
 use Rattle.residual_search.specs.Laws.Turns.{search_low}
-use borrow.Author.Rules.{rules}
 use Rattle.balance.proofs.multipliers.multipliers.Goals as goal
 
 pub search_towards-found-requires : goal.search_towards-found-requires

@@ -1,15 +1,9 @@
 -- The loop's state after a turns is the fold over the first a vertices. Assumes nothing.
-use mathlib.Core.Path.{◌≡◌, refl, ap, ap₂, ◌∙◌}
-use Prim.Native.Nat.{ℕ, ◌+◌, ◌≤◌, ◌-◌}
-use native.Mathlib.Omega.{arith}
+use mathlib.Core.Path.{◌≡◌}
+use Prim.Native.Nat.{◌+◌, ◌≤◌, ◌-◌}
 use lib.ListN.{length, get_or, set, take, replicate}
-use lib.Seq.{take_all}
 use lib.IntN.{pos, ◌-ℤ◌}
-use Rattle.integers.specs.Linear.{back64}
 use Rattle.residual_search.specs.Fold.{fold}
-use Rattle.balance.specs.Multipliers.{from_root}
-use Rattle.residual_search.specs.Laws.Turns.{fill_more}
-use borrow.Author.Rules.{rules}
 use Rattle.balance.proofs.multipliers.true_costs.Given as goal
 
 abbrev pub invariant-loop-a : goal.invariant-loop-a

@@ -1,14 +1,10 @@
 -- The arcs left to add, from the state that the loop holds, lead to what all of them lead to. Assumes nothing.
-use mathlib.Core.Path.{◌≡◌, refl, sym, ap, ◌∙◌, subst⁻¹}
+use mathlib.Core.Path.{◌≡◌}
 use Prim.Native.Nat.{◌+◌, ◌≤◌, ◌-◌}
-use native.Mathlib.Omega.{arith}
-use lib.ListN.{length, get_or, drop}
+use lib.ListN.{length, drop}
 use Rattle.postman.specs.Steps.{cell}
-use Rattle.residual_search.specs.Step.{State, state_in, add_all, arcs_of}
+use Rattle.residual_search.specs.Step.{state_in, add_all, arcs_of}
 use Rattle.balance.specs.Invariant.{Certified}
-use Rattle.balance.specs.Laws.Step.{add_certified}
-use Rattle.residual_search.specs.Laws.Turns.{all_more, all_end, counted}
-use borrow.Author.Rules.{rules}
 use Rattle.balance.proofs.state.add_all.Given as goal
 
 abbrev pub invariant-loop-k : goal.invariant-loop-k

@@ -1,8 +1,7 @@
 -- The way is the price's, and the laws of the step give what the unit asks. Assumes nothing.
 use Rattle.postman.specs.Steps.{cell}
 use Rattle.residual_search.specs.Step.{state_in}
-use Rattle.balance.specs.Laws.Step.{amounts_small, add_made}
-use borrow.Author.Rules.{rules}
+use Rattle.balance.specs.Laws.Step.{add_made}
 use Rattle.balance.proofs.state.add_in.Goals as goal
 
 pub returns : goal.returns

@@ -9,27 +9,24 @@ use Rattle.postman.specs.Laws.Tests.{cond_ind}
 use Rattle.postman.specs.Steps.{cell}
 use Rattle.residual_search.specs.Step.{state_in}
 use Rattle.balance.specs.Laws.Step.{vertices_small, levels_small, way_found, most_small, sum_small, price_made}
-use borrow.Author.Rules.{rules}
 use Rattle.balance.proofs.state.price.Goals as goal
 
 pub search_towards-found-requires : goal.search_towards-found-requires
-search_towards-found-requires c =
-    (
-      c.requires.0.small c.args.tail c.requires.3,
-      c.requires.0.small c.args.head c.requires.4,
-      c.requires.4,
-      levels_small (cell c.args.d.now) c.args.vs.now c.requires.0 (state_in c.args.f.now c.args.u.now c.args.cost c.args.count) c.requires.1 c.requires.2,
-      vertices_small (cell c.args.d.now) c.args.vs.now c.requires.0,
-      subst⁻¹ (λ n. n ≤ 64) c.settled_by-last.ensures (cond_ind (eqb c.args.tail c.args.head) 1 (length c.args.vs.now) (λ n. n ≤ 64) (λ y. omega arith) (λ y. c.requires.0.size)),
-    )
+search_towards-found-requires c = (
+  c.requires.0.small c.args.tail c.requires.3,
+  c.requires.0.small c.args.head c.requires.4,
+  c.requires.4,
+  levels_small (cell c.args.d.now) c.args.vs.now c.requires.0 (state_in c.args.f.now c.args.u.now c.args.cost c.args.count) c.requires.1 c.requires.2,
+  vertices_small (cell c.args.d.now) c.args.vs.now c.requires.0,
+  subst⁻¹ (λ n. n ≤ 64) c.settled_by-last.ensures (cond_ind (eqb c.args.tail c.args.head) 1 (length c.args.vs.now) (λ n. n ≤ 64) (λ y. omega arith) (λ y. c.requires.0.size)),
+)
 
 pub raise_by-raised-requires : goal.raise_by-raised-requires
-raise_by-raised-requires c =
-    (
-      most_small (cell c.args.d.now) c.args.vs.now c.requires.0 (state_in c.args.f.now c.args.u.now c.args.cost c.args.count) c.requires.1 c.requires.2 c.args.tail c.args.head c.requires.3 c.requires.4 (way_found (cell c.args.d.now) c.args.vs.now c.requires.0 (state_in c.args.f.now c.args.u.now c.args.cost c.args.count) c.requires.1 c.requires.2 c.args.tail c.args.head c.requires.3 c.requires.4 c.search_towards-found.ensures c.settled_by-last.ensures) c.wide-h.ensures,
-      levels_small (cell c.args.d.now) c.args.vs.now c.requires.0 (state_in c.args.f.now c.args.u.now c.args.cost c.args.count) c.requires.1 c.requires.2,
-      vertices_small (cell c.args.d.now) c.args.vs.now c.requires.0,
-    )
+raise_by-raised-requires c = (
+  most_small (cell c.args.d.now) c.args.vs.now c.requires.0 (state_in c.args.f.now c.args.u.now c.args.cost c.args.count) c.requires.1 c.requires.2 c.args.tail c.args.head c.requires.3 c.requires.4 (way_found (cell c.args.d.now) c.args.vs.now c.requires.0 (state_in c.args.f.now c.args.u.now c.args.cost c.args.count) c.requires.1 c.requires.2 c.args.tail c.args.head c.requires.3 c.requires.4 c.search_towards-found.ensures c.settled_by-last.ensures) c.wide-h.ensures,
+  levels_small (cell c.args.d.now) c.args.vs.now c.requires.0 (state_in c.args.f.now c.args.u.now c.args.cost c.args.count) c.requires.1 c.requires.2,
+  vertices_small (cell c.args.d.now) c.args.vs.now c.requires.0,
+)
 
 pub overflow_add-sum : goal.overflow_add-sum
 overflow_add-sum c =

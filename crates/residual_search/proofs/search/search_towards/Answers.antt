@@ -31,7 +31,7 @@ loop-k-preserved c = (
       c.loop-k.invariant.5
       c.loop-k-test.true
       c.loop-k.invariant.3
-      c.if-w-goal.true
+      (omega arith)
       c.wide-i.ensures
       c.level-base.ensures.0
       c.relax_by-w-in-loop-k.ensures.0
