@@ -4,7 +4,7 @@ use Rattle.std.specs.Prelude.{◌≡◌, refl, ◌⊎◌, ◌≢◌, ℕ, zero, 
 use Rattle.std.proofs.Common.{sym, ap, ◌∙◌, inl, inr, pow-suc, mod-eq_of_lt, arith, pow_pos}
 use Rattle.std.proofs.Math.Decide.{ℕ_discrete}
 use Rattle.std.specs.Int.Bits.{bit_and, bit_or, and_step, or_step}
-use Rattle.std.proofs.Math.Pow.{pow_lt}
+use Rattle.std.proofs.Math.Pow.{pow-lt}
 
 unfoldable pub bit : ℕ → ℕ → ℕ
 bit s zero = s % 2
@@ -119,4 +119,4 @@ has_all (suc k) (suc x) l = ap (λ s. bit s x) half ∙ has_all k x (omega arith
 
 -- a bit as the machine shifts it
 pub shifted : (i : ℕ) → i < 64 → 1 * 2 ^ i % 18446744073709551616 ≡ 2 ^ i
-shifted i l = let h = pow_lt l in let e : 1 * 2 ^ i ≡ 2 ^ i = omega arith in mod-eq_of_lt (rw e h) ∙ e
+shifted i l = let h = pow-lt l in let e : 1 * 2 ^ i ≡ 2 ^ i = omega arith in mod-eq_of_lt (rw e h) ∙ e

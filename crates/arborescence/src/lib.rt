@@ -1,2 +1,4 @@
 // Which components are reached from component 0.
+#![tactic(auto)]
+
 pub mod reach;

@@ -1,5 +1,7 @@
 // Bit fields in bytes, the most significant bit first.
 // Steps for other crates, which ask something of their caller.
+#![tactic(auto)]
+
 ghost use Rattle.std.specs.Prelude.{◌≡◌, ◌+◌, ◌*◌, ◌^◌, ◌<◌, ◌≤◌, length};
 ghost use Rattle.postman.specs.BitField.{bit_at, field_at};
 ghost use Rattle.bits.specs.FieldUpdate.{with_bit, set_bit, put_field};

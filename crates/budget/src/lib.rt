@@ -1,4 +1,6 @@
 // The budget of the plan call: how many trees it tries at most.
+#![tactic(auto)]
+
 ghost use Rattle.std.specs.Prelude.{◌≡◌};
 ghost use Rattle.postman.specs.PlanCall.{default_budget};
 ghost use Rattle.budget.specs.Checks.{checked_of, InRange};

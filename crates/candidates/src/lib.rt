@@ -1,5 +1,7 @@
 // The candidate links of a network's components in arrays, one component after the other.
 // Steps for other crates, which ask something of their caller.
+#![tactic(auto)]
+
 ghost use Rattle.std.specs.Prelude.{◌≡◌, false, ◌++◌, ◌+◌, ◌/◌, ◌%◌, ◌≤◌, length, get_or, take};
 ghost use Rattle.postman.specs.Lists.{select, below};
 ghost use Rattle.postman.specs.Plan.{Plan, WellFormed};

@@ -1,2 +1,4 @@
 // A car's marks, and its plan.
+#![tactic(auto)]
+
 pub mod marks; // a car's marks, and its plan

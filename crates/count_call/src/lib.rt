@@ -1,4 +1,6 @@
 // The number of trees of a plan file.
+#![tactic(auto)]
+
 ghost use Rattle.std.specs.Prelude.{◌≡◌};
 ghost use Rattle.postman.specs.Plan.{Plan as «a-plan», WellFormed};
 ghost use Rattle.postman.specs.Refusal.{answer, given};

@@ -1,2 +1,4 @@
 // Eight districts in turn.
+#![tactic(auto)]
+
 pub mod turn; // a turn

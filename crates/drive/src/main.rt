@@ -1,4 +1,6 @@
 // `drive`: a plan on standard input, the drive and its floor on standard output, what went wrong on standard error.
+#![tactic(auto)]
+
 ghost use Rattle.std.specs.Prelude.{◌<◌, pos, ◌≤ℤ◌};
 
 use drive_output::message::{say, say_word};

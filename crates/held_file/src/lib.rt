@@ -1,4 +1,6 @@
 // A plan file by value, in a lent slice, and one of which an arc is changed. Steps for the calls of open plans and of districts.
+#![tactic(auto)]
+
 pub mod change; // one arc of a file changed
 pub mod file; // a plan file by value
 pub mod file_bytes; // its bytes in a lent slice

@@ -92,7 +92,7 @@ back w a h = eq_pn (to_z w (of_z w a)) a (to_z-of_z h)
 
 -- the same as an equation for `simp`, whose premise is listed: an element read, `c.v.given`; a parameter, `c.fits.x.sfits`
 pub back64 : (a : ℤ) → mag a < 2 ^ 63 → to_z w64 (of_z w64 a) ≡ a
-back64 a h = to_z-of_z (record { sfits = h })
+back64 a h = to_z-of_z {w = w64} (record { sfits = h })
 
 -- a u64 or a usize below 2 ^ 63 cast to an i64, for `simp`: the premise is a `let` in scope, or is listed
 pub plain64 : (n : ℕ) → n < 2 ^ 63 → to_z w64 n ≡ pos n

@@ -1,5 +1,7 @@
 // Signed numbers from unsigned ones, and back. The rule sets of `specs/` prove facts about them.
 // Steps for other crates, which ask something of their caller.
+#![tactic(auto)]
+
 ghost use Rattle.std.specs.Prelude.{◌≡◌, ◌≤◌, pos, nat_abs, ◌-ℤ◌};
 
 // a less b.

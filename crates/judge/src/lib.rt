@@ -1,4 +1,6 @@
 // Judging a drive that another house laid: its cost, or the first fault.
+#![tactic(auto)]
+
 pub mod call; // the judging call
 
 use refusal::Refusal;

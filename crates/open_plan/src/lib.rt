@@ -1,4 +1,6 @@
 // Marks to come back to: a plan that is open for changes, by value, with four marks that hold it as it was.
+#![tactic(auto)]
+
 pub mod call; // opening, changes, marks, returns and asking
 
 use held_file::Held;

@@ -1,2 +1,4 @@
 // A(u): the cheapest arborescence over all pairs between components.
+#![tactic(auto)]
+
 pub mod pairs;

@@ -1,2 +1,4 @@
 // The arcs of the path of fewest arcs.
+#![tactic(auto)]
+
 pub mod path; // the arcs of a shortest path

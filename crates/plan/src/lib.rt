@@ -1,4 +1,6 @@
 // The plan by value: what every layer above the plan file works on.
+#![tactic(auto)]
+
 pub mod rows; // the arcs as rows of numbers, which can be lent
 
 ghost use Rattle.std.specs.Prelude.{◌≡◌};

@@ -1,5 +1,7 @@
 // Plan files: the reader and the writer, by the bit layout that the crate `postman` defines.
 
+#![tactic(auto)]
+
 pub mod reader; // from bytes to a plan
 
 use plan::Plan;

@@ -1,4 +1,6 @@
 // Writing plan files, and their round trip.
+#![tactic(auto)]
+
 pub mod writer; // from a plan to bytes
 pub mod round_trip; // the two together
 

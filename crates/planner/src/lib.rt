@@ -1,2 +1,4 @@
 // The plan call.
+#![tactic(auto)]
+
 pub mod call; // the plan call and the short call

@@ -1,5 +1,5 @@
 -- Words of the contracts of steps, which one crate does for another. No statement that a user relies on names them.
-use Rattle.std.specs.Prelude.{◌≡◌, not, ℕ, ◌+◌, ◌*◌, ◌/◌, ◌%◌, ◌≤◌, ◌<◌, length, get_or, T, ℤ, pos, ◌≤ℤ◌}
+use Rattle.std.specs.Prelude.{◌≡◌, not, ℕ, ◌+◌, ◌*◌, ◌/◌, ◌%◌, ◌≤◌, ◌<◌, length, get_or, T, pos, ◌≤ℤ◌}
 use mathlib.Core.List.{List, [], ◌∷◌, Memᴰ}
 use Rattle.postman.specs.Plan.{Plan, WellFormed, arc_at, is_required_arc, required_arcs}
 use Rattle.postman.specs.Required.{required}

@@ -1,6 +1,8 @@
 // Plan files through lists of arc records, there and back. Each argument names a file: it is read into the first records of a
 // list, written from the list in both editions, and read back, into a list and by value. Before each call every record of a
 // list is nines, and every byte of a slice ee.
+#![tactic(auto)]
+
 use libc::STDOUT_FILENO;
 use plan::{Arc, Plan};
 use plan_file::reader::read_plan;

@@ -1,4 +1,6 @@
 // The answer of a plan that is not refused.
+#![tactic(auto)]
+
 pub mod lay; // the drive of a tree
 pub mod solve; // the answer of a plan that is not refused
 

@@ -1,4 +1,6 @@
 // Two cars on the streets of one plan, each with its own must arcs.
+#![tactic(auto)]
+
 pub mod call; // the call for two cars
 
 use solution::Planned;

@@ -10,7 +10,7 @@ use Rattle.std.proofs.Math.Decide.{ℕ_discrete, dec_le}
 use native.Mathlib.Omega.{arith}
 use Rattle.std.specs.Int.Bits.{bit_and, bit_or}
 use Rattle.std.proofs.lemmas.Nat.{or_lt}
-use Rattle.std.proofs.Math.Pow.{pow_pos, pow_lt}
+use Rattle.std.proofs.Math.Pow.{pow_pos, pow-lt}
 use Rattle.std.proofs.Math.Dec.{eqb, eqb→eq, eqb_refl}
 use Rattle.postman.specs.Lists.{iterate}
 use Rattle.postman.specs.Laws.Tests.{cond_ind, eqb_same, eqb_other}
@@ -50,7 +50,7 @@ enter_has m i s x =
 
 enter_lt : (k m i s : ℕ) → s < 2 ^ k → i < k → enter m i s < 2 ^ k
 unfolding enter
-enter_lt k m i s l h = cond_ind (eqb (bit_and s m) 0) s (bit_or s (2 ^ i)) (λ r. r < 2 ^ k) (λ t. l) (λ t. or_lt k s (2 ^ i) l (pow_lt h))
+enter_lt k m i s l h = cond_ind (eqb (bit_and s m) 0) s (bit_or s (2 ^ i)) (λ r. r < 2 ^ k) (λ t. l) (λ t. or_lt k s (2 ^ i) l (pow-lt h))
 
 -- two step functions that agree where the steps stay
 pub same_steps : (P : ℕ → Type 0) (f f' : ℕ → ℕ) → ((x : ℕ) → P x → P (f x)) → ((x : ℕ) → P x → f' x ≡ f x) → (m x : ℕ) → P x

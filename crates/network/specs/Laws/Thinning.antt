@@ -3,7 +3,7 @@ use Rattle.std.specs.Prelude.{◌≡◌, Bool, true, false, not, ◌&&◌, get_o
 use Rattle.std.proofs.Math.Path.{refl, sym, ap, ap₂, subst⁻¹}
 use Rattle.std.proofs.Common.{◌∙◌, subst, add-one, get_or-set_other, ltb→lt, eqb-true, lt-ltb}
 use mathlib.Core.List.{List, [], ◌∷◌}
-use Rattle.std.proofs.Math.Bool.{cond, and_false}
+use Rattle.std.proofs.Math.Bool.{cond, and-false}
 use Prim.Native.Nat.{ℕ, zero, suc, ◌+◌, ◌*◌, ◌/◌, ◌%◌, ◌<◌, ◌≤◌}
 use native.Mathlib.Omega.{arith}
 use Rattle.std.proofs.lemmas.Bool.{not-true}
@@ -19,7 +19,7 @@ pub no_left : {a : Bool} (b : Bool) → a ≡ false → (a && b) ≡ false
 no_left b e = rw e
 
 pub no_right : (a : Bool) {b : Bool} → b ≡ false → (a && b) ≡ false
-no_right a e = rw e (and_false a)
+no_right a e = rw e (and-false a)
 
 pub both : {a b : Bool} → a ≡ true → b ≡ true → (a && b) ≡ true
 both e f = rw (e, f)

@@ -149,10 +149,10 @@ pub record IsFile (bytes : List ℕ) : Type 0 where
   pub some_vertex : 1 ≤ vertex_count bytes
   pub vertices : vertex_count bytes ≤ 64
   pub some_arc : 1 ≤ arc_count bytes
-  pub arc_count_lem : arc_count bytes ≤ 256
+  pub arc_count_holds : arc_count bytes ≤ 256
   pub exact : length bytes ≡ file_length (edition bytes) (arc_count bytes)
   pub filled : fill_bits bytes (edition bytes) (arc_count bytes) ≡ 0
-  pub arcs_in_lem : first_refusal (plan_conditions (edition bytes) (plan_of bytes)) ≡ none
+  pub arcs_in_holds : first_refusal (plan_conditions (edition bytes) (plan_of bytes)) ≡ none
 
 -- the fields of an arc fit a record
 pub arc_record : (bytes : List ℕ) (e k : ℕ) → IsRecord (arc_of bytes e k)
@@ -212,7 +212,7 @@ module _ (bytes : List ℕ) where
         arc_count_holds = limits.3;
         exact = omega arith;
         filled = eqb→eq (fill_bits bytes e m) 0 (not_not (eqb (fill_bits bytes e m) 0) rest.1);
-        arcs_in_lem = fill.1;
+        arcs_in_holds = fill.1;
       }
 
   pub has_header : IsFile bytes → 3 ≤ length bytes
@@ -231,7 +231,7 @@ module _ (bytes : List ℕ) where
       (neither (ltb (file_length e m) (length bytes)) (not (eqb (fill_bits bytes e m) 0))
       (le→nltb (file_length e m) (length bytes) (omega arith))
       (not_not_T (eqb (fill_bits bytes e m) 0) (eqb_same f.filled)))
-      f.arcs_in)))))
+      f.arcs_in_holds)))))
 
   -- ---- the plan that a file holds
 
@@ -260,7 +260,7 @@ module _ (bytes : List ℕ) where
   is_file_well_formed : IsFile bytes → WellFormed (plan_of bytes)
   is_file_well_formed f =
       plan_well_formed e (plan_of bytes)
-      (rw (vertices_read, arcs_read_lem) (accepted_extent n m f.some_vertex f.vertices f.some_arc f.arc_count_holds)) f.arcs_in
+      (rw (vertices_read, arcs_read_lem) (accepted_extent n m f.some_vertex f.vertices f.some_arc f.arc_count_holds)) f.arcs_in_holds
       costs_read
 
   pub file_accepted : first_refusal (file_conditions bytes) ≡ none → WellFormed (plan_of bytes)
@@ -268,12 +268,12 @@ module _ (bytes : List ℕ) where
 
   -- a plan that was read has no two equal arcs
   pub file_distinct : first_refusal (file_conditions bytes) ≡ none → Distinct (plan_of bytes).arcs
-  file_distinct h = plan_distinct e (plan_of bytes) (accepted_is_file h).arcs_in
+  file_distinct h = plan_distinct e (plan_of bytes) (accepted_is_file h).arcs_in_holds
 
   -- and each of its arcs passed 5 to 7
   pub file_arcs : first_refusal (file_conditions bytes) ≡ none → (a : Arc) → Memᴰ a (plan_of bytes).arcs
       → IsFileArc e (plan_of bytes).n a
-  file_arcs h = arcs_accepted e (plan_of bytes) (plan_accepted e (plan_of bytes) (accepted_is_file h).arcs_in).0
+  file_arcs h = arcs_accepted e (plan_of bytes) (plan_accepted e (plan_of bytes) (accepted_is_file h).arcs_in_holds).0
 
   -- ---- reading
 
@@ -300,7 +300,7 @@ module _ (bytes : List ℕ) where
 pub record IsWritable (e : ℕ) (p : Plan) (room : ℕ) : Type 0 where
   pub edition_in : T (is_edition e)
   pub extent_in : first_refusal (extent_conditions p.n (length p.arcs)) ≡ none
-  pub arcs_in_lem : first_refusal (plan_conditions e p) ≡ none
+  pub arcs_in_holds : first_refusal (plan_conditions e p) ≡ none
   pub enough : file_length e (length p.arcs) ≤ room
 
 module _ (e : ℕ) (p : Plan) (room : ℕ) where
@@ -323,7 +323,7 @@ module _ (e : ℕ) (p : Plan) (room : ℕ) where
       record {
         edition_in = not_not (is_edition e) first.0;
         extent_in = both.0;
-        arcs_in_lem = both.1;
+        arcs_in_holds = both.1;
         enough = nltb→le room bytes_needed (accepted_cons _ _ _ all.1).0;
       }
 
@@ -332,7 +332,7 @@ module _ (e : ℕ) (p : Plan) (room : ℕ) where
 
   pub writable_well_formed : ((a : Arc) → Memᴰ a p.arcs → (a.cost ≤ 65535) × (a.service ≤ 65535)) → write_refusal e p room ≡ none
       → WellFormed p
-  writable_well_formed costs h = let w = accepted_is_writable h in plan_well_formed e p w.extent_in w.arcs_in costs
+  writable_well_formed costs h = let w = accepted_is_writable h in plan_well_formed e p w.extent_in w.arcs_in_holds costs
 
   pub write_accepted : ((a : Arc) → Memᴰ a p.arcs → IsRecord a) → write_refusal e p room ≡ none
       → WellFormed p × (file_length e (length p.arcs) ≤ room)

@@ -133,13 +133,13 @@ module _ (vs : List ℕ) where
       ∙ ap₂ ◌+◌ (one l.0 l.1 w m.0 m.1) (amounts_weight ls (λ k n. h k (Memᴰ.tail n)) w)
 
 -- a leg's ends are among the ends
-ends_of : (ls : Legs) (l : ℕ × ℕ) → Memᴰ l ls → (0 < weight (λ a b. delta l.0 a) ls) × (0 < weight (λ a b. delta l.1 b) ls)
+ends_of : (l : ℕ × ℕ) (ls : Legs) → Memᴰ l ls → (0 < weight (λ a b. delta l.0 a) ls) × (0 < weight (λ a b. delta l.1 b) ls)
 unfolding weight
-ends_of ls l (Memᴰ.head e) =
+ends_of l ls (Memᴰ.head e) =
     let s = delta_yes (ap (λ (q : ℕ × ℕ). q.0) e) in
     let t = delta_yes (ap (λ (q : ℕ × ℕ). q.1) e) in
     (omega arith, omega arith)
-ends_of ls l (Memᴰ.tail m) = let h = ends_of _ l m in (omega arith, omega arith)
+ends_of l ls (Memᴰ.tail m) = let h = ends_of l _ m in (omega arith, omega arith)
 
 module _ (d : ℕ → ℕ → ℕ) where
   -- some balancing costs just the assignment
@@ -151,7 +151,7 @@ module _ (d : ℕ → ℕ → ℕ) where
       let f = amounts p.legs in
       let single : (i : ℕ) → Memᴰ i vs → occurrences i vs ≡ 1 = λ i m. once ws.once m in
       let inside : Inside vs p.legs = λ l m. (
-      let e = ends_of p.legs l m in
+      let e = ends_of l p.legs m in
       let x = p.from l.0 in
       let y = p.to l.1 in (
         within_once ws l.0 (mem_of_occurrences l.0 ss (omega arith)),

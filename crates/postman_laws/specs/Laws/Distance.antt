@@ -148,7 +148,7 @@ InPlan p = (a : Arc) → Memᴰ a p.arcs → (a.tail < p.n) × (a.head < p.n)
 module _ (p : Plan) (ok : InPlan p) where
   heads_in : (i j : ℕ) (w : List ℕ) → IsWalk p.arcs i w j → HeadsIn p.arcs (below p.n) w
   heads_in i j [] h = tt
-  heads_in i j (k ∷ w) h = (mem_below (ok _ (get_d_mem p.arcs _ k h.0)).1, heads_in _ j w h.3)
+  heads_in i j (k ∷ w) h = (mem_below (ok _ (get_d_mem p.arcs _ k h.0)).1, heads_in (arc_at p.arcs k).head j w h.3)
 
   -- a walk can be cut to at most n - 1 arcs, at no more cost
   pub cut : (i j : ℕ) (w : List ℕ) → i < p.n → IsWalk p.arcs i w j → Short p.arcs (p.n - 1) i j (walk_cost p.arcs w)

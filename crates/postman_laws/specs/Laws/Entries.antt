@@ -5,7 +5,7 @@ use Rattle.std.proofs.Math.Path.{refl, ap, subst⁻¹}
 use Rattle.std.proofs.Common.{sym, ◌∙◌, inl, inr, one-add, arith, eqb→eq, T_not}
 use mathlib.Core.List.Memᴰ
 use mathlib.Core.List.{List, [], ◌∷◌, ◌++◌, map, Memᴰ, append_assoc}
-use Prim.Native.Nat.{ℕ, zero, suc, ◌+◌, ◌-◌, ◌<◌}
+use Prim.Native.Nat.{ℕ, zero, suc, ◌-◌, ◌<◌}
 use Rattle.std.proofs.Math.Dec.{eqb, eqb_refl, not_T}
 use Rattle.postman.specs.Lists.{up_from, iterate}
 use Rattle.postman.specs.Plan.{Plan, arc_at}

@@ -1,7 +1,7 @@
 -- A list of arcs has no fault exactly when it is a drive: a number that is not foreign is that of an open arc, arcs without a gap are
 -- a walk that ends where it began, and a required arc that is not missed occurs. Each by induction on the list. Hence the list is judged
 -- to cost something exactly when it is a drive, where nothing before its faults applies.
-use Rattle.std.specs.Prelude.{◌≡◌, ◌↔◌, Bool, ◌||◌, ℕ, ◌+◌, ◌*◌, ◌^◌, ◌≤◌, ◌<◌, length, T, eqb, leb, ltb}
+use Rattle.std.specs.Prelude.{◌≡◌, ◌↔◌, Bool, ◌||◌, ℕ, ◌*◌, ◌^◌, ◌≤◌, ◌<◌, length, T, eqb, leb, ltb}
 use Rattle.std.proofs.Math.Path.{refl, sym, ap, subst⁻¹}
 use Rattle.std.proofs.Common.{◌∙◌, arith, lt-ltb, le-ltb}
 use Rattle.std.proofs.Math.Bool.{true, false, not, cond}

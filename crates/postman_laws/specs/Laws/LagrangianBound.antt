@@ -4,7 +4,7 @@ use Rattle.std.specs.Prelude.{◌≡◌, refl, length, ℤ, ◌+ℤ◌, ◌*ℤ�
 use Rattle.std.proofs.Math.Path.{ap, ap₂, subst⁻¹, fun_ext}
 use Rattle.std.proofs.Common.{◌∙◌, arith}
 use mathlib.Core.List.{List, [], ◌∷◌, ◌++◌, map, Memᴰ}
-use Prim.Native.Nat.{ℕ, ◌+◌, ◌≤◌, ◌<◌}
+use Prim.Native.Nat.{ℕ, ◌+◌, ◌<◌}
 use Rattle.std.proofs.lemmas.List.{length-map}
 use Rattle.std.proofs.Math.IntN.{pos, ◌-ℤ◌}
 use Rattle.std.specs.Int.Signed.{≤ℤ_refl}

@@ -1,7 +1,7 @@
 -- The plan of a car. It has the arcs of the plan that it is made from, with the same ends and costs, and the same arcs may be driven: so it
 -- is well formed, and its distances are those of the plan, whatever the marks are. By the plan's own marks, where just its must arcs have
 -- checking costs, it is the plan itself, and the car's refusal is the plan call's.
-use Rattle.std.specs.Prelude.{◌≡◌, Bool, not, cond, ℕ, zero, suc, ◌+◌, ◌<◌, ◌≤◌, get_or, eqb}
+use Rattle.std.specs.Prelude.{◌≡◌, Bool, not, cond, ℕ, zero, suc, ◌<◌, ◌≤◌, get_or, eqb}
 use Rattle.std.proofs.Math.Path.{refl, sym, ap, fun_ext, subst, subst⁻¹}
 use Rattle.std.proofs.Common.{◌∙◌, le-ltb, ne_eqb, T_not}
 use Rattle.std.proofs.Math.Logic.{inl, inr}

@@ -294,7 +294,7 @@ module _ (e : ℕ) (p : Plan) where
             arc_count_holds = rw count_same w.arc_count_holds;
             exact = rw (edition_same t, count_same) (length_file_of e p);
             filled = rw (edition_same t, count_same) fill_same;
-            arcs_in_lem = rw (edition_same t, plan_same) accepted;
+            arcs_in_holds = rw (edition_same t, plan_same) accepted;
           }
 
 -- THE LAW: a plan that is written is read back, its edition too
@@ -305,8 +305,8 @@ read_written e p room small h =
     let w = (write_accepted e p room small h).0 in
     let g = accepted_is_writable e p room h in (
       edition_same e p g.edition_in,
-      plan_same e p w g.edition_in g.arcs_in,
-      λ records l. file_is_read (file_of e p) records (is_file e p w g.edition_in g.arcs_in) (rw (count_same e p w) l),
+      plan_same e p w g.edition_in g.arcs_in_holds,
+      λ records l. file_is_read (file_of e p) records (is_file e p w g.edition_in g.arcs_in_holds) (rw (count_same e p w) l),
     )
 
 -- ---- writing what was read
@@ -418,5 +418,5 @@ written_read bytes room small h =
     length_file_of e (plan_of bytes) ∙ ap (file_length e) (arcs_read_lem bytes) in
     let b = f.exact in (
       ext_get_or 0 (file_of e (plan_of bytes)) bytes (a ∙ sym b) (λ k l. same_byte bytes f k (small k) (omega arith)),
-      λ space h. accepted_write e (plan_of bytes) space f.edition_in w f.arcs_in (rw arcs_read_lem (omega arith)),
+      λ space h. accepted_write e (plan_of bytes) space f.edition_in w f.arcs_in_holds (rw arcs_read_lem (omega arith)),
     )

@@ -1,5 +1,5 @@
 -- The required vertices are the ends of the required arcs, each once. By what their definition selects.
-use Rattle.std.specs.Prelude.{◌≡◌, refl, ◌⊎◌, Bool, true, false, cond, ◌||◌, ℕ, suc, ◌+◌, ◌≤◌, ◌<◌, length, get_or, T, eqb}
+use Rattle.std.specs.Prelude.{◌≡◌, refl, ◌⊎◌, Bool, true, false, cond, ◌||◌, ℕ, suc, ◌≤◌, ◌<◌, length, get_or, T, eqb}
 use Rattle.std.proofs.Common.{sym, ap, ap₂, ◌∙◌, subst₂, inl, inr, le_trans, add-one, arith, length-append, eqb→eq, lt→ltb}
 use Rattle.std.proofs.Math.Path.{subst⁻¹}
 use mathlib.Core.List.{List, [], ◌∷◌, ◌++◌, map, map-map, Memᴰ, append_assoc}

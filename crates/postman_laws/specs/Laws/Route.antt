@@ -122,10 +122,10 @@ module _ (p : Plan) (ok : WellFormed p) where
   ]
 
   -- a walk, cut before one of its arcs
-  pub cut_at : (x y : ℕ) {k : ℕ} {w : List ℕ} → Memᴰ k w → IsWalk p.arcs x w y
+  pub cut_at : {k : ℕ} (x y : ℕ) {w : List ℕ} → Memᴰ k w → IsWalk p.arcs x w y
       → (u v : List ℕ) × IsWalk p.arcs x u (arc_at p.arcs k).tail × IsWalk p.arcs (arc_at p.arcs k).tail v y
       × (walk_cost p.arcs v + walk_cost p.arcs u ≡ walk_cost p.arcs w) × ((j : ℕ) → Memᴰ j w → Memᴰ j (v ++ u))
-  cut_at x y {k} (Memᴰ.head {x = h} {xs = w} e) g = (
+  cut_at {k} x y (Memᴰ.head {x = h} {xs = w} e) g = (
     [],
     h ∷ w,
     sym g.2 ∙ ap (λ z. (arc_at p.arcs z).tail) (sym e),
@@ -133,7 +133,7 @@ module _ (p : Plan) (ok : WellFormed p) where
     (omega arith),
     λ j m. Memᴰ.append_left [] m,
   )
-  cut_at x y {k} (Memᴰ.tail {x = h} {xs = w} n) g =
+  cut_at {k} x y (Memᴰ.tail {x = h} {xs = w} n) g =
       let r = cut_at (arc_at p.arcs h).head y n g.3 in
       let c = r.4 in (
         h ∷ r.0,

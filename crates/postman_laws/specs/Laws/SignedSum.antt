@@ -1,5 +1,5 @@
 -- Sums and minima of lists of integers. By induction on the list.
-use Rattle.std.specs.Prelude.{◌≡◌, Bool, not, ℕ, ◌+◌, ◌*◌, ◌≤◌, ◌<◌, length, T, eqb, ℤ, ◌+ℤ◌, ◌-ℤ◌, ◌*ℤ◌, ◌≤ℤ◌}
+use Rattle.std.specs.Prelude.{◌≡◌, Bool, not, ℕ, ◌<◌, length, T, eqb, ℤ, ◌+ℤ◌, ◌-ℤ◌, ◌*ℤ◌, ◌≤ℤ◌}
 use Rattle.std.proofs.Math.Path.{refl, ap, fun_ext}
 use Rattle.std.proofs.Common.{sym, ap₂, ◌∙◌, subst, arith, eqb→eq}
 use mathlib.Core.List.{List, [], ◌∷◌, ◌++◌, map, Memᴰ}
@@ -49,6 +49,7 @@ minimumℤ_le {x} (Memᴰ.head {x = y} {xs = []} e) = subst (λ w. y ≤ℤ w) (
 minimumℤ_le {x} (Memᴰ.head {x = y} {xs = w ∷ ws} e) =
     subst (λ v. minℤ y (minimumℤ (w ∷ ws)) ≤ℤ v) (sym e) (min_left y (minimumℤ (w ∷ ws)))
 minimumℤ_le (Memᴰ.tail {x = y} {xs = w ∷ ws} m) = ≤ℤ-trans (min_right y (minimumℤ (w ∷ ws))) (minimumℤ_le m)
+minimumℤ_le (Memᴰ.tail {x = y} {xs = []} m) = elim m [ ]
 
 pub minimumℤ_at : (xs : List ℤ) → 0 < length xs → Memᴰ (minimumℤ xs) xs
 unfolding minimumℤ minℤ

@@ -25,7 +25,7 @@ sum_le [] g h e = omega arith
 sum_le (v ∷ vs) g h e = let a = e v (Memᴰ.head refl) in let b = sum_le vs g h (λ i m. e i (Memᴰ.tail m)) in omega arith
 
 -- a term is at most the sum
-pub term_le : {vs : List ℕ} (g : ℕ → ℕ) {i : ℕ} → Memᴰ i vs → g i ≤ sum_over vs g
+pub term_le : {i : ℕ} {vs : List ℕ} (g : ℕ → ℕ) → Memᴰ i vs → g i ≤ sum_over vs g
 unfolding sum_over
 term_le g (Memᴰ.head {x = v} e) = let h = ap g e in omega arith
 term_le g (Memᴰ.tail m) = let h = term_le g m in omega arith

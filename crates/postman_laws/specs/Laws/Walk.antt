@@ -16,7 +16,7 @@ unfoldable pub join : (arcs : List Arc) {i j k : ℕ} → Leads arcs i j → Lea
 join arcs {i} {j} {k} a b = (a.0 ++ b.0, walk_append arcs i j k a.0 b.0 a.1 b.1)
 
 -- a walk around one of its arcs
-pub around : (arcs : List Arc) (x y : ℕ) {k : ℕ} {w : List ℕ} → Memᴰ k w → IsWalk arcs x w y
+pub around : (arcs : List Arc) {k : ℕ} (x y : ℕ) {w : List ℕ} → Memᴰ k w → IsWalk arcs x w y
     → Leads arcs x (arc_at arcs k).tail × Leads arcs (arc_at arcs k).tail (arc_at arcs k).head × Leads arcs (arc_at arcs k).head y
 around arcs x y (Memᴰ.head {x = h} {xs = w} e) g =
     subst⁻¹ (λ (z : ℕ). Leads arcs x (arc_at arcs z).tail × Leads arcs (arc_at arcs z).tail (arc_at arcs z).head

@@ -1,0 +1,16 @@
+-- After the turns for components below q, theirs are found.
+use lib.ListN.{get_or-replicate}
+use Rattle.cheapest_tree.specs.Laws.CostMatrix.{entries_more}
+use Rattle.cheapest_tree.specs.CostMatrix.{HasEntries}
+use lib.ListN.{length}
+use native.Mathlib.Omega.{arith}
+use Prim.Native.Nat.{◌-◌, ◌≤◌, ◌<◌}
+use mathlib.Core.Path.{◌≡◌, refl, subst⁻¹}
+use borrow.Author.Rules.{rules}
+use Rattle.cheapest_tree.proofs.cheapest.entries.Given as goal
+
+abbrev pub invariant-loop-q : goal.invariant-loop-q
+invariant-loop-q l = (1 ≤ l.q) × (l.q ≤ 8) × (length l.e ≡ 8) × HasEntries l.w l.left l.q l.e
+
+abbrev pub decreases-loop-q : goal.decreases-loop-q
+decreases-loop-q l = 8 - l.q
