@@ -2,4 +2,3 @@
 pub mod Tests
 pub mod Membership
 pub mod Repeated
-pub mod Numbering
