@@ -18,7 +18,7 @@ use Rattle.postman.specs.Marks.{car_refusal}
 use Rattle.postman.specs.Renumbering.{number_in, renumbered}
 use Rattle.postman.specs.Laws.Tests.{and_parts, is_true}
 use Rattle.postman.specs.Laws.Membership.{all_of_at}
-use Rattle.postman.specs.Laws.Repeated.{agree_equal}
+use Rattle.postman.proofs.Repeated.{agree_equal}
 use Rattle.postman.specs.Cases.{Claim, Means, Row, table, or_zero, bytes_refusal, car_refusal_of, writing_of, multipliers, file, refusal, refusal2, unreadable, car, writing, cramped, parts, link_count, trees, balancing, bound_at, cost_at, cost_under, whole_at, floor_at, floor_by, judged, fault}
 
 -- ---- the same claims, as tests that compute
