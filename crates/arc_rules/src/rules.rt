@@ -103,7 +103,7 @@ fn standing_verdict(standing: Standing) -> Verdict
 }
 
 // The fields of an arc.
-#[derive(Drop)]
+#[derive(Clone, Copy)]
 pub struct Fields {
     pub tail: u32,
     pub head: u32,

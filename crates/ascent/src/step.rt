@@ -16,7 +16,7 @@ use multiplier_steps::steps::carry_on;
 use residual_search::entries::vertex;
 
 // The multipliers after a step, the cost of the tree at those before it, and whether that tree is balanced.
-#[derive(Drop)]
+#[derive(Clone, Copy)]
 pub struct Stepped {
     pub multipliers: [i64; 64],
     pub value: i64,

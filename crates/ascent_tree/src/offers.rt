@@ -67,7 +67,7 @@ fn offer_from(
 }
 
 // The offers: reduced costs, which are signed, and the pairs that make them.
-#[derive(Drop)]
+#[derive(Clone, Copy)]
 pub struct Cheapest {
     pub costs: [i64; 64],
     pub pairs: [u16; 64],

@@ -128,7 +128,7 @@ fn extend(m: &[i64; 64], i: usize, cost: &mut [i64; 256], from: &mut [u8; 256])
 }
 
 // For each set the least cost, and the last entry.
-#[derive(Drop)]
+#[derive(Clone, Copy)]
 pub struct Sets {
     pub cost: [i64; 256],
     pub from: [u8; 256],

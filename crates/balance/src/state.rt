@@ -14,7 +14,7 @@ use residual_search::search::{search_towards, settled_by};
 
 // The amounts, at i * 64 + j what is sent from vertex i to vertex j, and the potentials that certify them, the
 // amounts' cost, and how many arcs were counted.
-#[derive(Drop)]
+#[derive(Clone, Copy)]
 pub struct Balance {
     pub amounts: [u16; 4096],
     pub potentials: [u64; 64],
@@ -35,7 +35,7 @@ pub fn empty() -> Balance
 }
 
 // What one arc more comes to: the next vertices on the way of its unit, the potentials raised, and the cost.
-#[derive(Drop)]
+#[derive(Clone, Copy)]
 pub struct Added {
     pub next: [u8; 64],
     pub potentials: [u64; 64],

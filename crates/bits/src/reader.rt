@@ -11,7 +11,7 @@ pub struct BitReader<'a> {
 }
 
 // A field, and the position after it.
-#[derive(Drop)]
+#[derive(Clone, Copy)]
 pub struct Taken {
     pub field: u32,
     pub at: usize,

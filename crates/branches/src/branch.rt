@@ -17,7 +17,7 @@ use tree_count::count::{counts, merge};
 // The links chosen; the potentials, the cost and the number of arcs of the required arcs balanced with them, of which the amounts are lent
 // beside the branch; R and the d of the links; which component each has become one with; how many entries each component has from each
 // other; and how many trees each branch below has.
-#[derive(Drop)]
+#[derive(Clone, Copy)]
 pub struct Branch {
     pub a: usize,
     pub tails: [u8; 8],

@@ -6,7 +6,7 @@ ghost use Rattle.branches.specs.Branches.{IsCandidate};
 use integers::wide;
 
 // Its link, its source by its new name, and how many trees the branch below has.
-#[derive(Drop)]
+#[derive(Clone, Copy)]
 pub struct Candidate {
     pub tail: u8,
     pub head: u8,

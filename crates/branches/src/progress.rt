@@ -6,7 +6,7 @@ ghost use Rattle.branches.specs.Holding.{held_in, is_entered};
 
 use residual_search::entries::monus;
 
-#[derive(Drop)]
+#[derive(Clone, Copy)]
 pub struct Progress {
     pub cost: u64,
     pub tails: [u8; 8],

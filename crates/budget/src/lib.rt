@@ -5,13 +5,13 @@ ghost use Rattle.std.specs.Prelude.{◌≡◌};
 ghost use Rattle.postman.specs.PlanCall.{default_budget};
 ghost use Rattle.budget.specs.Checks.{checked_of, InRange};
 
-#[derive(Drop)]
+#[derive(Clone, Copy)]
 pub struct Budget {
     pub trees: u32,
 }
 
 // A budget within its limits, or refusal 9.
-#[derive(Drop)]
+#[derive(Clone, Copy)]
 pub enum Checked {
     Good(Budget),
     Refused,

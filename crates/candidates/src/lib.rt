@@ -14,7 +14,7 @@ use network::network::Network;
 
 // ---- the required vertices
 
-#[derive(Drop)]
+#[derive(Clone, Copy)]
 pub struct Vertices {
     pub list: [u8; 64],
     pub count: usize,
@@ -40,7 +40,7 @@ pub fn vertices_of(required: [bool; 64]) -> Vertices
 
 // ---- the places of the candidates
 
-#[derive(Drop)]
+#[derive(Clone, Copy)]
 struct Places {
     list: [u16; 4096],
     count: usize,
@@ -78,7 +78,7 @@ fn scan(links: &[bool; 4096], component: &[u8; 64], q: usize, places: Places) ->
     }
 }
 
-#[derive(Drop)]
+#[derive(Clone, Copy)]
 struct Grouped {
     start: [usize; 9],
     list: [u16; 4096],
@@ -120,7 +120,7 @@ fn head_of(x: u16) -> u8
     (x % 64) as u8
 }
 
-#[derive(Drop)]
+#[derive(Clone, Copy)]
 struct Ends {
     source: [u8; 4096],
     tails: [u8; 4096],
@@ -149,7 +149,7 @@ fn ends_of(list: &[u16; 4096], component: &[u8; 64]) -> Ends
 
 // ---- all of it
 
-#[derive(Drop)]
+#[derive(Clone, Copy)]
 pub struct Candidates {
     // where the candidates of each component begin; those of component q end where those of q + 1 begin
     pub start: [usize; 9],

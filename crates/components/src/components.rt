@@ -22,7 +22,7 @@ fn opens(required: bool, label: u8, v: usize) -> u8
 }
 
 // How many roots are below each vertex, and how many there are.
-#[derive(Drop)]
+#[derive(Clone, Copy)]
 struct Ranks {
     below: [u8; 64],
     all: u8,
@@ -62,7 +62,7 @@ fn numbers(required: [bool; 64], labels: [u8; 64], below: [u8; 64], all: u8) -> 
 }
 
 // "Parts: the required vertices joined by must arcs, direction ignored; numbered from 0 by their lowest vertex. k is their number."
-#[derive(Drop)]
+#[derive(Clone, Copy)]
 pub struct Components {
     pub of: [u8; 64],
     pub count: u8,

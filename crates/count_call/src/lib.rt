@@ -16,7 +16,7 @@ use plan::Plan;
 use refusal::{Refusal, Verdict};
 
 // "Give the exact number of trees, counted without listing each, or the answer 'above 4,294,967,295' exactly when it is."
-#[derive(Drop)]
+#[derive(Clone, Copy)]
 pub enum Counted {
     Refused(Refusal),
     Known(u32),

@@ -8,7 +8,7 @@ pub mod call; // the distance call
 use refusal::Refusal;
 
 // What the distance call answers: the number of searches run, or the refusal.
-#[derive(Drop)]
+#[derive(Clone, Copy)]
 pub enum Searched {
     Searches(u16),
     Refused(Refusal),

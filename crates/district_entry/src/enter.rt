@@ -17,13 +17,13 @@ use refusal::{Refusal, Verdict};
 use tree_search::trees::nothing_held;
 
 // The place, or why there is none.
-#[derive(Drop)]
+#[derive(Clone, Copy)]
 pub enum Admission {
     At(u8),
     Refused(Refusal),
 }
 
-#[derive(Drop)]
+#[derive(Clone, Copy)]
 pub struct Entered {
     pub answer: Admission,
     pub machine: Machine,

@@ -7,7 +7,7 @@ use held_file::file::no_file;
 use tree_search::trees::{Reached, nothing_held};
 
 // A district that is not finished: its place; its plan, as a file; its budget; and how far it is.
-#[derive(Drop)]
+#[derive(Clone, Copy)]
 pub struct District {
     pub place: u8,
     pub plan: Held,
@@ -16,7 +16,7 @@ pub struct District {
 }
 
 // The districts in the order of the line, its front first: the first `waiting` of eight.
-#[derive(Drop)]
+#[derive(Clone, Copy)]
 pub struct Machine {
     pub line: [District; 8],
     pub waiting: usize,

@@ -32,7 +32,7 @@ use tree_search::trees::{Reached, Resumed, resume};
 
 // What a turn leaves: whether what was held could be gone on from; whether the district is finished; how far
 // it is, unless it is finished; and its answer.
-#[derive(Drop)]
+#[derive(Clone, Copy)]
 pub struct DistrictTurn {
     pub good: bool,
     pub done: bool,

@@ -16,7 +16,7 @@ use tree_search::trees::Reached;
 
 // What a turn met, and the place of the district that it went to. A machine that no entries and turns lead to may hold a front district
 // that cannot be gone on with: it is answered as an empty one.
-#[derive(Drop)]
+#[derive(Clone, Copy)]
 pub enum Outcome {
     Empty,
     ShortSheet,
@@ -24,7 +24,7 @@ pub enum Outcome {
     Finished(u8),
 }
 
-#[derive(Drop)]
+#[derive(Clone, Copy)]
 pub struct Turned {
     pub outcome: Outcome,
     pub planned: Planned,

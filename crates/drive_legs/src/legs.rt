@@ -88,7 +88,7 @@ pub fn gather(
 }
 
 // How many legs are required arcs, and how many there are.
-#[derive(Drop)]
+#[derive(Clone, Copy)]
 pub struct Counts {
     pub required: usize,
     pub legs: usize,

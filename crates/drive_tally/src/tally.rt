@@ -8,7 +8,7 @@ ghost use Rattle.postman.specs.Judge.{has_foreign};
 ghost use Rattle.drive_tally.specs.Rows.{plan_over};
 ghost use Rattle.drive_tally.specs.Tally.{AreDue, has_flag, IsTally};
 
-#[derive(Drop)]
+#[derive(Clone, Copy)]
 pub struct Tally {
     pub cost: u32,
     pub due: [bool; 256],

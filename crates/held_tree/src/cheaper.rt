@@ -18,7 +18,7 @@ use tree_search::improve::improve;
 use tree_search::trees::Reached;
 
 // The best tree and how many were tried, the floor, the multipliers, and how many trees there are, by a count that ends at 4,294,967,296.
-#[derive(Drop)]
+#[derive(Clone, Copy)]
 pub struct Found {
     pub best: Reached,
     pub floor: i64,

@@ -18,7 +18,7 @@ use preparation::prepare::prepare;
 use solution::lay::lay_held;
 
 // The places written, and the number of components.
-#[derive(Drop)]
+#[derive(Clone, Copy)]
 pub struct Laid {
     pub places: usize,
     pub parts: u8,

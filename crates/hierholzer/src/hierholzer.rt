@@ -8,7 +8,7 @@ ghost use Rattle.hierholzer.specs.Held.{HeldPath, Stepped, Hints, is_unused, fir
 use crate::widen::{wide, wide8};
 
 // How far the walk reaches from the start of the places, and where the placed legs begin.
-#[derive(Drop)]
+#[derive(Clone, Copy)]
 struct Progress {
     depth: usize,
     start: usize,

@@ -6,7 +6,7 @@ pub mod call; // the judging call
 use refusal::Refusal;
 
 // "It returns the cost exactly when the list is a drive by the definition, and otherwise names the first fault."
-#[derive(Drop)]
+#[derive(Clone, Copy)]
 pub enum Judged {
     Cost(u32),
     Refused(Refusal),

@@ -23,7 +23,7 @@ use plan::Plan;
 use residual_search::entries::lesser;
 
 // What the steps read of the network: the component of each vertex, whether it is required, the number of components, R and D.
-#[derive(Drop)]
+#[derive(Clone, Copy)]
 pub(crate) struct Setting {
     component: [u8; 64],
     required: [bool; 64],
@@ -33,7 +33,7 @@ pub(crate) struct Setting {
 }
 
 // Where an ascent stands.
-#[derive(Drop)]
+#[derive(Clone, Copy)]
 pub struct Stage {
     pub multipliers: [i64; 64],
     pub before: [i64; 64],
@@ -45,7 +45,7 @@ pub struct Stage {
 }
 
 // The best multipliers met, and their bound.
-#[derive(Drop)]
+#[derive(Clone, Copy)]
 pub struct Best {
     pub multipliers: [i64; 64],
     pub bound: i64,

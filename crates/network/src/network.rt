@@ -12,7 +12,7 @@ use plan::Plan;
 use required::required_sum::{imbalance, required_cost};
 use required::required_vertex::required;
 
-#[derive(Drop)]
+#[derive(Clone, Copy)]
 pub struct Network {
     // whether each vertex is required
     pub required: [bool; 64],

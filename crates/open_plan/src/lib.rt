@@ -7,14 +7,14 @@ use held_file::Held;
 use refusal::Verdict;
 
 // The open plan: its file, and the file that each mark holds.
-#[derive(Drop)]
+#[derive(Clone, Copy)]
 pub struct OpenPlan {
     pub plan: Held,
     pub marks: [Held; 4],
 }
 
 // What a call answers: the verdict, and the open plan then.
-#[derive(Drop)]
+#[derive(Clone, Copy)]
 pub struct Moved {
     pub verdict: Verdict,
     pub state: OpenPlan,

@@ -9,7 +9,7 @@ ghost use Rattle.plan.specs.Standings.{standing_of};
 ghost use Rattle.plan.specs.Records.{arc_value};
 
 // "A record has tail, head and standing of 8 bits each and a cost of 16"; and so has a service cost (document 02: the checking cost).
-#[derive(Drop)]
+#[derive(Clone, Copy)]
 pub struct Arc {
     pub tail: u8,
     pub head: u8,
@@ -19,7 +19,7 @@ pub struct Arc {
 }
 
 // n vertices, and m arcs in the records before the mth.
-#[derive(Drop)]
+#[derive(Clone, Copy)]
 pub struct Plan {
     pub n: u8,
     pub m: u16,
@@ -27,7 +27,7 @@ pub struct Plan {
 }
 
 // "Standing 0: may be driven; 1: must be driven; 2: closed […]; 3 is refused."
-#[derive(Drop)]
+#[derive(Clone, Copy)]
 pub enum Standing {
     May,
     Must,

@@ -8,7 +8,7 @@ use plan::Plan;
 use refusal::Verdict;
 
 // What reading answers. In a refusal the edition is 0, and the plan has no vertex and no arc.
-#[derive(Drop)]
+#[derive(Clone, Copy)]
 pub struct Reading {
     pub verdict: Verdict,
     pub edition: u8,

@@ -7,7 +7,7 @@ pub mod round_trip; // the two together
 use refusal::Refusal;
 
 // What writing answers: the file's length in bytes, or the refusal.
-#[derive(Drop)]
+#[derive(Clone, Copy)]
 pub enum Written {
     Length(usize),
     Refused(Refusal),

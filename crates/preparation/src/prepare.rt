@@ -14,7 +14,7 @@ use network::network::Network;
 use plan::Plan;
 
 // The required vertices, the network, the state of the required arcs, and the multipliers that are answered with L(u).
-#[derive(Drop)]
+#[derive(Clone, Copy)]
 pub struct Preparation {
     pub vertices: Vertices,
     pub network: Network,

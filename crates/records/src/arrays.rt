@@ -12,7 +12,7 @@ use plan_writer::Written;
 use record_writer::writer::{at_most, write_records};
 
 // One record more than a plan may have.
-#[derive(Drop)]
+#[derive(Clone, Copy)]
 pub struct Filled {
     pub read: Read,
     pub arcs: [Arc; 257],

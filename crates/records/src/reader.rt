@@ -12,7 +12,7 @@ use plan_file::reader::{file_arc, read_plan};
 use refusal::{Refusal, Verdict};
 
 // "It answers n and m", and "the edition too"; or the refusal.
-#[derive(Drop)]
+#[derive(Clone, Copy)]
 pub enum Read {
     Given(u8, u8, u16),
     Refused(Refusal),

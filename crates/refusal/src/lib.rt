@@ -6,7 +6,7 @@ ghost use Rattle.std.specs.Prelude.{◌≡◌};
 ghost use Rattle.refusal.specs.Verdict.{refusal_number, verdict_number, or_else};
 
 // "Numbers and their trade words."
-#[derive(Drop)]
+#[derive(Clone, Copy)]
 pub enum Refusal {
     Torn,
     Edition,
@@ -65,7 +65,7 @@ pub fn refusal_number(r: Refusal) -> u8
 }
 
 // Accepted, or the first refusal that applies.
-#[derive(Drop)]
+#[derive(Clone, Copy)]
 pub enum Verdict {
     Accepted,
     Refused(Refusal),

@@ -6,7 +6,7 @@ ghost use Rattle.renumbering.specs.Numbering.{IsNumberingOf, unchanged, exchange
 use integers::wide;
 
 // The new number of each vertex, and the vertex of each new number.
-#[derive(Drop)]
+#[derive(Clone, Copy)]
 pub struct Numbering {
     pub to: [u8; 64],
     pub from: [u8; 64],

@@ -7,7 +7,7 @@ ghost use Rattle.renumbering.specs.Shuffle.{modulus, following, drawn, shuffled}
 use crate::numbering::{Numbering, exchange};
 
 // A numbering, and where the generator stands.
-#[derive(Drop)]
+#[derive(Clone, Copy)]
 pub struct Drawn {
     pub numbering: Numbering,
     pub random: u64,

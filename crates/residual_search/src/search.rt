@@ -13,7 +13,7 @@ use crate::entries::{chosen, lesser, level, monus, vertex};
 use integers::wide;
 
 // The distances to a vertex, the next vertices on the way, and when each vertex was settled.
-#[derive(Drop)]
+#[derive(Clone, Copy)]
 pub struct Found {
     pub distance: [u64; 64],
     pub next: [u8; 64],

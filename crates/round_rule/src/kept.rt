@@ -12,7 +12,7 @@ use renumbering::renumbered::carry;
 
 // The least cost with what it was found with, the greatest floor with the same and its multipliers, which are carried back, the search that
 // is gone on with and how many trees are left of it, the trees of all rounds, and where the generator stands.
-#[derive(Drop)]
+#[derive(Clone, Copy)]
 pub struct Kept {
     pub drive: Trial,
     pub cost: u64,

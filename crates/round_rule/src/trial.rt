@@ -12,14 +12,14 @@ use renumbering::numbering::Numbering;
 use renumbering::shuffle::{Drawn, shuffle};
 
 // A numbering, and how many trees are tried under it in all.
-#[derive(Drop)]
+#[derive(Clone, Copy)]
 pub struct Trial {
     pub numbering: Numbering,
     pub tries: u32,
 }
 
 // The next round: what it is made with, and where the generator stands.
-#[derive(Drop)]
+#[derive(Clone, Copy)]
 pub struct Chosen {
     pub trial: Trial,
     pub random: u64,

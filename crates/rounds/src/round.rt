@@ -18,7 +18,7 @@ use tree_search::begin::tried_count;
 use tree_search::trees::Reached;
 
 // What is kept, with the tree of the drive.
-#[derive(Drop)]
+#[derive(Clone, Copy)]
 pub struct Deep {
     pub kept: Kept,
     pub drive: Reached,

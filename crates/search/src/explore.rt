@@ -19,7 +19,7 @@ use tree_bounds::reduced::reduced;
 
 // What is held after trees of a branch, and prices of the branch: those of the tree that was tried last,
 // without the links that are not the branch's.
-#[derive(Drop)]
+#[derive(Clone, Copy)]
 pub struct Explored {
     pub progress: Progress,
     pub pricing: Pricing,

@@ -17,7 +17,7 @@ use tree_bounds::pricing::Pricing;
 use tree_bounds::reduced::{long, reduced};
 
 // What is held after a tree, and the potentials that it has raised.
-#[derive(Drop)]
+#[derive(Clone, Copy)]
 pub struct Completed {
     pub progress: Progress,
     pub potentials: [u64; 64],

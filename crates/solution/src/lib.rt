@@ -7,7 +7,7 @@ pub mod solve; // the answer of a plan that is not refused
 use refusal::Verdict;
 
 // "The answer holds the places written, cost, floor, trees tried T, whole (yes or no), k and u."
-#[derive(Drop)]
+#[derive(Clone, Copy)]
 pub struct Planned {
     pub verdict: Verdict,
     pub places: usize,

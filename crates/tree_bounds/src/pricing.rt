@@ -9,7 +9,7 @@ use integers::wide;
 
 // Potentials; what they price the required arcs and the links chosen at, or less; and what the branch's trees cost at least by them, but
 // for the reduced cost of the link that is chosen next.
-#[derive(Drop)]
+#[derive(Clone, Copy)]
 pub struct Pricing {
     pub potentials: [u64; 64],
     pub value: u64,

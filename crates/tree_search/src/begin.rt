@@ -19,7 +19,7 @@ use search::tried::number;
 use tree_count::entries::entries_of;
 
 // What a search begins with: the candidates in order, the branch of all trees, and how many they are.
-#[derive(Drop)]
+#[derive(Clone, Copy)]
 pub struct Begun {
     candidates: Candidates,
     root: Branch,
@@ -27,7 +27,7 @@ pub struct Begun {
 }
 
 // How many trees are tried in all, and whether these are all there are.
-#[derive(Drop)]
+#[derive(Clone, Copy)]
 pub(crate) struct Total {
     pub(crate) trees: u32,
     pub(crate) whole: bool,

@@ -11,7 +11,7 @@ use plan::Plan;
 use preparation::prepare::Preparation;
 
 // The first tree of least cost among those tried, how many were, and whether these are all.
-#[derive(Drop)]
+#[derive(Clone, Copy)]
 pub struct Searched {
     pub cost: u64,
     pub tails: [u8; 8],

@@ -15,7 +15,7 @@ use plan::Plan;
 use preparation::prepare::Preparation;
 
 // How far a search is: the best so far, and how many trees were tried.
-#[derive(Drop)]
+#[derive(Clone, Copy)]
 pub struct Reached {
     pub cost: u64,
     pub tails: [u8; 8],
@@ -24,7 +24,7 @@ pub struct Reached {
 }
 
 // How far it is after a turn, how many trees are tried in all, and whether these are all there are.
-#[derive(Drop)]
+#[derive(Clone, Copy)]
 pub struct Resumed {
     pub cost: u64,
     pub tails: [u8; 8],

@@ -6,7 +6,7 @@ pub mod call; // the call for two cars
 use solution::Planned;
 
 // What each car is answered.
-#[derive(Drop)]
+#[derive(Clone, Copy)]
 pub struct TwoPlanned {
     pub first: Planned,
     pub second: Planned,

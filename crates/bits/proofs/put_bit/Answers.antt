@@ -3,7 +3,6 @@ use mathlib.Core.Path.{ap}
 use Prim.Native.Nat.{◌/◌}
 use lib.ListN.{set}
 use Rattle.bits.specs.FieldUpdate.{set_bit}
-use borrow.Author.Rules.{rules}
 use Rattle.bits.proofs.put_bit.Goals as goal
 
 pub returns : goal.returns

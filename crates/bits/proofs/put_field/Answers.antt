@@ -1,11 +1,8 @@
 -- `put_field` meets its contract. The loop's invariant: the first i bits of the field are put.
 use mathlib.Core.Path.{◌≡◌, refl, ◌∙◌}
-use Prim.Native.Nat.{◌-◌, ◌≤◌}
 use native.Mathlib.Numerals.{add-one}
 use native.Mathlib.Omega.{arith}
-use lib.ListN.{length}
 use Rattle.bits.specs.FieldUpdate.{put_bits, put_field}
-use borrow.Author.Rules.{rules}
 use Rattle.bits.proofs.put_field.Goals as goal
 
 pub loop-i-init : goal.loop-i-init

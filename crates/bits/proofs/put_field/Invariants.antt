@@ -1,11 +1,8 @@
 -- `put_field` meets its contract. The loop's invariant: the first i bits of the field are put.
-use mathlib.Core.Path.{◌≡◌, refl, ◌∙◌}
+use mathlib.Core.Path.{◌≡◌}
 use Prim.Native.Nat.{◌-◌, ◌≤◌}
-use native.Mathlib.Numerals.{add-one}
-use native.Mathlib.Omega.{arith}
 use lib.ListN.{length}
-use Rattle.bits.specs.FieldUpdate.{put_bits, put_field}
-use borrow.Author.Rules.{rules}
+use Rattle.bits.specs.FieldUpdate.{put_bits}
 use Rattle.bits.proofs.put_field.Given as goal
 
 abbrev pub invariant-loop-i : goal.invariant-loop-i

@@ -8,7 +8,7 @@ use mathlib.Core.List.{List, [], ◌∷◌, map}
 use Rattle.std.proofs.Math.ListN.{length-map}
 use Rattle.std.proofs.lemmas.List.{get_or-replicate}
 use Rattle.postman_laws.specs.Laws.Below.{length_map_below, get_d_map_below}
-use Rattle.postman.specs.Plan.{Arc, Plan, arc_at}
+use Rattle.postman.specs.Plan.{arc_at}
 use Rattle.plan.specs.declared.Plan.{Plan as PlanRecord}
 use Rattle.plan.specs.Records.{plan_value, record_at}
 use Rattle.plan.specs.Rows.{row_of, rows_of, arc_in, plan_in}

@@ -1,13 +1,10 @@
 -- After j turns r is what j sweeps reach. A turn that ends the loop has found what k sweeps reach: all components, or a set that stays.
 use Rattle.arborescence.specs.Laws.Stop.{stop_full, stop_still}
 use Rattle.arborescence.specs.Reach.{sweeps, reaches_all}
-use lib.Pow.{pow_pos}
-use lib.ListN.{get_or}
 use native.Mathlib.Numerals.{add-one}
 use native.Mathlib.Omega.{arith}
-use Prim.Native.Nat.{◌-◌, ◌^◌, ◌≤◌}
+use Prim.Native.Nat.{◌-◌}
 use mathlib.Core.Path.{◌≡◌, refl, sym, ap, ◌∙◌}
-use borrow.Author.Rules.{rules}
 use Rattle.arborescence.proofs.reach.all_reached.Goals as goal
 
 pub loop-j-init : goal.loop-j-init

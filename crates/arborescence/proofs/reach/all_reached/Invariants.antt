@@ -1,13 +1,8 @@
 -- After j turns r is what j sweeps reach. A turn that ends the loop has found what k sweeps reach: all components, or a set that stays.
-use Rattle.arborescence.specs.Laws.Stop.{stop_full, stop_still}
-use Rattle.arborescence.specs.Reach.{sweeps, reaches_all}
-use lib.Pow.{pow_pos}
+use Rattle.arborescence.specs.Reach.{sweeps}
 use lib.ListN.{get_or}
-use native.Mathlib.Numerals.{add-one}
-use native.Mathlib.Omega.{arith}
 use Prim.Native.Nat.{◌-◌, ◌^◌, ◌≤◌}
-use mathlib.Core.Path.{◌≡◌, refl, sym, ap, ◌∙◌}
-use borrow.Author.Rules.{rules}
+use mathlib.Core.Path.{◌≡◌}
 use Rattle.arborescence.proofs.reach.all_reached.Given as goal
 
 abbrev pub invariant-loop-j : goal.invariant-loop-j

@@ -1,7 +1,6 @@
 -- The two cases of the definition.
 use Rattle.arborescence.specs.Reach.{enter}
 use borrow.Author.Tests.{eq-eqb, ne_eqb}
-use borrow.Author.Rules.{rules}
 use Rattle.arborescence.proofs.reach.entered.Goals as goal
 
 pub returns-then-s-m-eq0 : goal.returns-then-s-m-eq0

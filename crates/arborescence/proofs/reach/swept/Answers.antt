@@ -1,11 +1,9 @@
 -- After the turns for components below j, r is the sweep of components 1 to j − 1.
 use Rattle.arborescence.specs.Laws.Reach.{sweep_step}
 use Rattle.arborescence.specs.Reach.{sweep}
-use lib.ListN.{get_or}
 use native.Mathlib.Omega.{arith}
-use Prim.Native.Nat.{◌+◌, ◌-◌, ◌≤◌}
+use Prim.Native.Nat.{◌+◌, ◌-◌}
 use mathlib.Core.Path.{◌≡◌, refl, sym, ◌∙◌}
-use borrow.Author.Rules.{rules}
 use Rattle.arborescence.proofs.reach.swept.Goals as goal
 
 pub loop-j-init : goal.loop-j-init

@@ -1,6 +1,5 @@
 -- `can_take` meets its contract: each test is one of the definition's, and the last counts bytes in place of bits.
 use native.Mathlib.Omega.{arith}
-use borrow.Author.Rules.{rules}
 use Rattle.bits.specs.Laws.Taking.{too_wide, too_far, if_it_ends}
 use Rattle.bits.proofs.reader.can_take.Goals as goal
 

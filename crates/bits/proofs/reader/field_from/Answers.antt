@@ -2,7 +2,6 @@
 use mathlib.Core.Path.{◌∙◌, sym}
 use native.Mathlib.Omega.{arith}
 use Rattle.bits.specs.Laws.Taking.{takes_within, taken_is, nothing_taken}
-use borrow.Author.Rules.{rules}
 use Rattle.bits.proofs.reader.field_from.Goals as goal
 
 pub field-value-requires : goal.field-value-requires

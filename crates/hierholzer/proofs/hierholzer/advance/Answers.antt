@@ -2,7 +2,6 @@
 use native.Mathlib.Omega.{arith}
 use Rattle.hierholzer.specs.Laws.Held.{top_below, has_room, walked_at, placed_at}
 use Rattle.hierholzer.specs.Laws.Hints.{hints_used}
-use borrow.Author.Rules.{rules}
 use Rattle.hierholzer.proofs.hierholzer.advance.Goals as goal
 
 pub bounds-heads-i : goal.bounds-heads-i

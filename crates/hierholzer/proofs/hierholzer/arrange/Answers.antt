@@ -4,11 +4,10 @@ use Prim.Native.Nat.{◌-◌, ◌*◌}
 use mathlib.Core.Path.{◌≡◌, ap, ◌∙◌, subst}
 use native.Mathlib.Omega.{arith}
 use lib.ListN.{drop, replicate, get_or-replicate}
-use Rattle.hierholzer.specs.Circuit.{run, circuit}
-use Rattle.hierholzer.specs.Held.{walk_of, HeldPath, Hints}
+use Rattle.hierholzer.specs.Circuit.{run}
+use Rattle.hierholzer.specs.Held.{walk_of, HeldPath}
 use Rattle.hierholzer.specs.Laws.Hints.{hints_none}
 use Rattle.hierholzer.specs.Laws.Held.{held_first, run_first, run_step, run_last}
-use borrow.Author.Rules.{rules}
 use Rattle.hierholzer.proofs.hierholzer.arrange.Goals as goal
 
 pub loop-depth-init : goal.loop-depth-init

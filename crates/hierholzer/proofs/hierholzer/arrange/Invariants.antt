@@ -1,14 +1,10 @@
 -- What is left of the run, from the places as they are, ends in the circuit; each turn is one step of it. At the end the walk is used up, and the placed legs,
 -- all of them, fill the places.
 use Prim.Native.Nat.{◌-◌, ◌*◌}
-use mathlib.Core.Path.{◌≡◌, ap, ◌∙◌, subst}
-use native.Mathlib.Omega.{arith}
-use lib.ListN.{drop, replicate, get_or-replicate}
+use mathlib.Core.Path.{◌≡◌}
+use lib.ListN.{drop}
 use Rattle.hierholzer.specs.Circuit.{run, circuit}
 use Rattle.hierholzer.specs.Held.{walk_of, HeldPath, Hints}
-use Rattle.hierholzer.specs.Laws.Hints.{hints_none}
-use Rattle.hierholzer.specs.Laws.Held.{held_first, run_first, run_step, run_last}
-use borrow.Author.Rules.{rules}
 use Rattle.hierholzer.proofs.hierholzer.arrange.Given as goal
 
 abbrev pub invariant-loop-depth : goal.invariant-loop-depth

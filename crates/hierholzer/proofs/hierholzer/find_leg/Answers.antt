@@ -1,11 +1,9 @@
 -- The search begins at the hint, and what it finds is the new one.
-use mathlib.Core.Path.{◌≡◌, ap, ◌∙◌, subst, subst⁻¹}
-use Prim.Native.Nat.{◌≤◌, ◌<◌}
+use mathlib.Core.Path.{subst⁻¹}
 use native.Mathlib.Omega.{arith}
-use lib.ListN.{length, get_or, set}
+use lib.ListN.{set}
 use Rattle.hierholzer.specs.Held.{Hints}
 use Rattle.hierholzer.specs.Laws.Hints.{hints_found, found_le}
-use borrow.Author.Rules.{rules}
 use Rattle.hierholzer.proofs.hierholzer.find_leg.Goals as goal
 
 pub overflow_cast-hints : goal.overflow_cast-hints

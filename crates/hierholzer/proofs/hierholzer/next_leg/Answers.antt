@@ -1,5 +1,4 @@
 -- No leg before e is unused and out of v. A leg that passes is then the first; at the end there is none.
-use Prim.Native.Nat.{ℕ, ◌≤◌, ◌<◌, ◌-◌}
 use lib.ListN.{length}
 use native.Mathlib.Omega.{arith}
 use borrow.Author.Count.{below_more}

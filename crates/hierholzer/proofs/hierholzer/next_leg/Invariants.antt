@@ -1,14 +1,9 @@
 -- No leg before e is unused and out of v. A leg that passes is then the first; at the end there is none.
 use Prim.Native.Nat.{ℕ, ◌≤◌, ◌<◌, ◌-◌}
 use lib.ListN.{length}
-use native.Mathlib.Omega.{arith}
-use borrow.Author.Count.{below_more}
 use lib.Dec.{T}
-use mathlib.Core.Path.{◌≡◌, sym, ◌∙◌, subst⁻¹}
 use mathlib.Core.Bool.{not}
-use Rattle.hierholzer.specs.Held.{is_unused, first_unused}
-use Rattle.hierholzer.specs.Laws.Search.{first_none, first_at}
-use borrow.Author.Rules.{rules}
+use Rattle.hierholzer.specs.Held.{is_unused}
 use Rattle.hierholzer.proofs.hierholzer.next_leg.Given as goal
 
 abbrev pub invariant-loop-e : goal.invariant-loop-e
