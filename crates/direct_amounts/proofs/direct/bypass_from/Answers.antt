@@ -1,9 +1,7 @@
 -- The loop's state after k turns is the fold over the first k vertices. Assumes nothing.
-use mathlib.Core.Path.{◌≡◌, refl, ap, ◌∙◌, subst⁻¹}
+use mathlib.Core.Path.{refl, ap, ◌∙◌, subst⁻¹}
 use mathlib.Core.List.{Memᴰ}
-use Prim.Native.Nat.{◌≤◌, ◌-◌}
 use native.Mathlib.Omega.{arith}
-use lib.ListN.{length, take}
 use lib.Seq.{take_all}
 use Rattle.postman.specs.Laws.Membership.{get_d_mem}
 use Rattle.residual_search.specs.Fold.{fold}
@@ -11,7 +9,6 @@ use Rattle.balance.specs.Invariant.{Sparse}
 use Rattle.residual_search.specs.Laws.Fold.{fold_turn}
 use Rattle.direct_amounts.specs.Direct.{bypass, bypass_from}
 use Rattle.direct_amounts.specs.Laws.DirectBalance.{bypass_sparse, bypass_room}
-use borrow.Author.Rules.{rules}
 use Rattle.direct_amounts.proofs.direct.bypass_from.Goals as goal
 
 pub loop-k-init : goal.loop-k-init
@@ -36,7 +33,7 @@ loop-k-preserved c =
     let mc : Memᴰ c.wide-c.result c.args.vs.now = subst⁻¹ (λ n. Memᴰ n c.args.vs.now) e (get_d_mem c.args.vs.now 0 c.loop-k.k l) in (
       omega arith,
       subst⁻¹ (Sparse c.args.vs.now) c.bypass_by.ensures (bypass_sparse c.args.vs.now c.loop-k.f c.args.a c.args.b _ c.requires.3 c.requires.2 mc c.loop-k.invariant.1),
-      fold_turn (λ g c. bypass g c.args.a c.args.b c) c.args.f.now c.args.vs.now c.loop-k.k c.loop-k.invariant.2 l e c.bypass_by.ensures,
+      fold_turn (λ g k. bypass g c.args.a c.args.b k) c.args.f.now c.args.vs.now c.loop-k.k c.loop-k.invariant.2 l e c.bypass_by.ensures,
     )
 
 pub returns : goal.returns

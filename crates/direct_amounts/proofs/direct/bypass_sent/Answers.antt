@@ -2,7 +2,6 @@
 use mathlib.Core.Path.{sym}
 use native.Mathlib.Omega.{arith}
 use Rattle.direct_amounts.specs.Laws.Idle.{from_idle}
-use borrow.Author.Rules.{rules}
 use Rattle.direct_amounts.proofs.direct.bypass_sent.Goals as goal
 
 pub returns-else-f-a-gt0 : goal.returns-else-f-a-gt0

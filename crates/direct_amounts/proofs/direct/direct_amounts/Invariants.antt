@@ -1,20 +1,10 @@
 -- The loop's state after k turns is the fold over the first k vertices. Assumes nothing.
-use mathlib.Core.Path.{◌≡◌, refl, ap, ◌∙◌, subst⁻¹}
-use mathlib.Core.List.{Memᴰ}
+use mathlib.Core.Path.{◌≡◌}
 use Prim.Native.Nat.{◌≤◌, ◌-◌}
-use native.Mathlib.Omega.{arith}
 use lib.ListN.{length, take}
-use lib.Seq.{take_all}
-use Rattle.postman.specs.Laws.Membership.{get_d_mem}
 use Rattle.residual_search.specs.Fold.{fold}
 use Rattle.balance.specs.Invariant.{Sparse}
-use Rattle.residual_search.specs.Laws.Fold.{fold_turn}
-use Rattle.postman.specs.Steps.{cell}
-use Rattle.balance.specs.Records.{state_of}
-use Rattle.direct_amounts.specs.Direct.{bypass_vertex, direct}
-use Rattle.balance.specs.Laws.Step.{vertices_small}
-use Rattle.direct_amounts.specs.Laws.DirectBalance.{certified_sparse, vertex_sparse}
-use borrow.Author.Rules.{rules}
+use Rattle.direct_amounts.specs.Direct.{bypass_vertex}
 use Rattle.direct_amounts.proofs.direct.direct_amounts.Given as goal
 
 abbrev pub invariant-loop-k : goal.invariant-loop-k

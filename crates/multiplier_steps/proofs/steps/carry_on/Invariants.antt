@@ -12,7 +12,7 @@ use borrow.Author.Rules.{rules}
 use Rattle.multiplier_steps.proofs.steps.carry_on.Given as goal
 
 abbrev pub invariant-loop-a : goal.invariant-loop-a
-invariant-loop-a l = (l.a ≤ length l.vs) × (l.z ≡ turns (λ r l.a. set r (get_or l.vs l.a 0) (carried_to (capped (get_or l.y (get_or l.vs l.a 0) (pos 0))) (get_or l.x (get_or l.vs l.a 0) (pos 0)) (get_or l.before (get_or l.vs l.a 0) (pos 0)))) l.y l.a)
+invariant-loop-a l = (l.a ≤ length l.vs) × (l.z ≡ turns (λ r a'. set r (get_or l.vs a' 0) (carried_to (capped (get_or l.y (get_or l.vs a' 0) (pos 0))) (get_or l.x (get_or l.vs a' 0) (pos 0)) (get_or l.before (get_or l.vs a' 0) (pos 0)))) l.y l.a)
 
 abbrev pub decreases-loop-a : goal.decreases-loop-a
 decreases-loop-a l = length l.vs - l.a

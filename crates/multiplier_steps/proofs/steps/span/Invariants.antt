@@ -12,7 +12,7 @@ use Rattle.multiplier_steps.proofs.steps.span.Given as goal
 
 abbrev pub invariant-loop-a : goal.invariant-loop-a
 invariant-loop-a l =
-    (l.a ≤ length l.vs) × (l.most ≡ turns (λ r l.a. max r (cell l.d (get_or l.vs l.a 0) (get_or l.vs 0 0))) 0 l.a)
+    (l.a ≤ length l.vs) × (l.most ≡ turns (λ r a'. max r (cell l.d (get_or l.vs a' 0) (get_or l.vs 0 0))) 0 l.a)
 
 abbrev pub decreases-loop-a : goal.decreases-loop-a
 decreases-loop-a l = length l.vs - l.a
