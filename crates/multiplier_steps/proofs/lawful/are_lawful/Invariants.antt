@@ -1,13 +1,10 @@
 -- The loop's state after so many turns is the model's. Assumes nothing.
-use mathlib.Core.Bool.{Bool, true, ◌&&◌}
-use mathlib.Core.Path.{◌≡◌, refl, ap, ◌∙◌}
+use mathlib.Core.Bool.{true, ◌&&◌}
+use mathlib.Core.Path.{◌≡◌}
 use Prim.Native.Nat.{◌-◌, ◌≤◌}
-use native.Mathlib.Omega.{arith}
 use lib.ListN.{length, get_or}
-use Rattle.multiplier_steps.specs.Lawful.{is_vertex_lawful, are_lawful}
-use Rattle.multiplier_steps.specs.Laws.Turns.{turn_at, end}
+use Rattle.multiplier_steps.specs.Lawful.{is_vertex_lawful}
 use Rattle.multiplier_steps.specs.Turns.{turns}
-use borrow.Author.Rules.{rules}
 use Rattle.multiplier_steps.proofs.lawful.are_lawful.Given as goal
 
 abbrev pub invariant-loop-a : goal.invariant-loop-a

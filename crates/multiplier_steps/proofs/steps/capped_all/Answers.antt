@@ -1,14 +1,12 @@
 -- The loop's state after so many turns is the model's. Assumes nothing.
-use mathlib.Core.Path.{◌≡◌, refl, ap, ◌∙◌}
-use Prim.Native.Nat.{◌-◌, ◌≤◌}
+use mathlib.Core.Path.{refl, ap, ◌∙◌}
 use native.Mathlib.Omega.{arith}
 use lib.IntN.{pos}
-use lib.ListN.{length, get_or, set, replicate}
+use lib.ListN.{get_or, set, replicate}
 use Rattle.integers.specs.Linear.{back64}
 use Rattle.multiplier_steps.specs.Laws.Turns.{turn_at, end}
 use Rattle.multiplier_steps.specs.Turns.{turns}
 use Rattle.multiplier_steps.specs.Steps.{capped, capped_all}
-use borrow.Author.Rules.{rules}
 use Rattle.multiplier_steps.proofs.steps.capped_all.Goals as goal
 
 pub loop-a-init : goal.loop-a-init

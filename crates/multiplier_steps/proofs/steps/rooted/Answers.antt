@@ -1,14 +1,12 @@
 -- The loop's state after so many turns is the model's. Assumes nothing.
-use mathlib.Core.Path.{◌≡◌, refl, ap, ap₂, ◌∙◌}
-use Prim.Native.Nat.{◌-◌, ◌≤◌}
+use mathlib.Core.Path.{refl, ap, ◌∙◌}
 use native.Mathlib.Omega.{arith}
-use lib.IntN.{ℤ, pos, ◌-ℤ◌}
-use lib.ListN.{length, get_or, set, replicate}
+use lib.IntN.{pos, ◌-ℤ◌}
+use lib.ListN.{get_or, set, replicate}
 use Rattle.integers.specs.Linear.{back64}
 use Rattle.multiplier_steps.specs.Laws.Turns.{turn_at, end}
 use Rattle.multiplier_steps.specs.Turns.{turns}
 use Rattle.multiplier_steps.specs.Steps.{rooted}
-use borrow.Author.Rules.{rules}
 use Rattle.multiplier_steps.proofs.steps.rooted.Goals as goal
 
 pub loop-a-init : goal.loop-a-init

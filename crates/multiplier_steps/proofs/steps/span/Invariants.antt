@@ -1,13 +1,9 @@
 -- The loop's state after so many turns is the model's. Assumes nothing.
-use mathlib.Core.Path.{◌≡◌, refl, ap, ◌∙◌}
+use mathlib.Core.Path.{◌≡◌}
 use Prim.Native.Nat.{◌-◌, ◌≤◌, max}
-use native.Mathlib.Omega.{arith}
 use lib.ListN.{length, get_or}
-use Rattle.multiplier_steps.specs.Steps.{span}
-use Rattle.multiplier_steps.specs.Laws.Turns.{turn_at, end}
 use Rattle.multiplier_steps.specs.Turns.{turns}
 use Rattle.postman.specs.Steps.{cell}
-use borrow.Author.Rules.{rules}
 use Rattle.multiplier_steps.proofs.steps.span.Given as goal
 
 abbrev pub invariant-loop-a : goal.invariant-loop-a
