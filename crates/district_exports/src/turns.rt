@@ -9,8 +9,7 @@ use refusal::Refusal;
 
 // THE START: a machine with no district inside, which is zeros. A slice that is too short for the machine is
 // refused as 8, here and in what follows first.
-#[unsafe(no_mangle)]
-pub extern "C" fn postman_districts_start(machine: &mut [u8]) -> i64
+pub fn postman_districts_start(machine: &mut [u8]) -> i64
     ensures { IsStarted machine.old machine.new result }
 {
     if machine.len() < 12_136 {
@@ -22,8 +21,7 @@ pub extern "C" fn postman_districts_start(machine: &mut [u8]) -> i64
 }
 
 // AN ENTRY, of any bytes and any budget.
-#[unsafe(no_mangle)]
-pub extern "C" fn postman_enter(machine: &mut [u8], plan: &[u8], budget: u64) -> i64
+pub fn postman_enter(machine: &mut [u8], plan: &[u8], budget: u64) -> i64
     ensures { IsExportedEntry plan.now budget machine.old machine.new result }
 {
     if machine.len() < 12_136 {
@@ -35,8 +33,7 @@ pub extern "C" fn postman_enter(machine: &mut [u8], plan: &[u8], budget: u64) ->
 }
 
 // A TURN, with any sheet.
-#[unsafe(no_mangle)]
-pub extern "C" fn postman_turn(
+pub fn postman_turn(
     machine: &mut [u8],
     sheet: &mut [u16],
     answer: &mut [u64],

@@ -7,8 +7,7 @@ ghost use Rattle.exports.specs.Call.{IsExportedCall, IsExportedCallAt, IsExporte
 use answers::answer::hand_over;
 
 // THE PLAN CALL. `answer` takes places, cost, floor, trees, whole and parts, `multipliers` takes u; a refusal changes no lent slice.
-#[unsafe(no_mangle)]
-pub extern "C" fn postman_plan_call(
+pub fn postman_plan_call(
     plan: &[u8],
     budget: u64,
     sheet: &mut [u16],
@@ -23,8 +22,7 @@ pub extern "C" fn postman_plan_call(
 }
 
 // THE SHORT CALL.
-#[unsafe(no_mangle)]
-pub extern "C" fn postman_short_call(
+pub fn postman_short_call(
     plan: &[u8],
     sheet: &mut [u16],
     answer: &mut [u64],
@@ -40,8 +38,7 @@ pub extern "C" fn postman_short_call(
 
 // THE PLAN CALL AT A DEPARTURE. A window is four numbers: arc, weekday, from, to; a list whose
 // length is no multiple of four is refused as 19.
-#[unsafe(no_mangle)]
-pub extern "C" fn postman_plan_call_at(
+pub fn postman_plan_call_at(
     plan: &[u8],
     budget: u64,
     windows: &[u16],
@@ -60,8 +57,7 @@ pub extern "C" fn postman_plan_call_at(
 }
 
 // THE DEEP CALL. The words are as in a plan call, but whole says that floor and cost are equal, and trees are those of all rounds.
-#[unsafe(no_mangle)]
-pub extern "C" fn postman_deep_call(
+pub fn postman_deep_call(
     plan: &[u8],
     budget: u64,
     rounds: u32,

@@ -6,8 +6,7 @@ use answers::cars_number::cars_number;
 
 // THE CALL FOR TWO CARS. A mark is a byte. Minus the number of a refusal that reaches both cars, else 256 times the first car's own refusal
 // and the second's, 0 for a car that is answered.
-#[unsafe(no_mangle)]
-pub extern "C" fn postman_two_cars(
+pub fn postman_two_cars(
     plan: &[u8],
     marks_1: &[u8],
     budget_1: u64,

@@ -16,8 +16,7 @@ use records::reader::{arcs_read, room_answer};
 // Reading, from any bytes into any list of records, seven bytes each: 65,536 times the edition, and 512 n + m, with the
 // file's arcs in the list from its start and the bytes after them untouched; or minus the number of the first refusal by
 // document 01's order, with every byte untouched.
-#[unsafe(no_mangle)]
-pub extern "C" fn postman_read_plan(plan: &[u8], records: &mut [u8]) -> i64
+pub fn postman_read_plan(plan: &[u8], records: &mut [u8]) -> i64
     ensures { (result ≡ one_number (packed (read_answer plan.now (arcs_in records.old))))
         × (records.new ≡ lent_after plan.now records.old) }
 {
@@ -32,8 +31,7 @@ pub extern "C" fn postman_read_plan(plan: &[u8], records: &mut [u8]) -> i64
 // Writing in any edition, from any n and any list of records, seven bytes each, into any slice: the file's length, with
 // the file in the slice from its start and the bytes after it untouched; or minus the number of the first refusal by
 // document 01's order, with every byte untouched.
-#[unsafe(no_mangle)]
-pub extern "C" fn postman_write_plan(edition: u32, n: u32, records: &[u8], bytes: &mut [u8]) -> i64
+pub fn postman_write_plan(edition: u32, n: u32, records: &[u8], bytes: &mut [u8]) -> i64
     ensures { (result ≡ one_number (write_answer edition (lent_plan n records.now) bytes.old))
         × (bytes.new ≡ bytes_after edition (lent_plan n records.now) bytes.old) }
 {

@@ -7,8 +7,7 @@ ghost use Rattle.answers.specs.Count.{count_of};
 use answers::call_number::count_number;
 
 // THE COUNT.
-#[unsafe(no_mangle)]
-pub extern "C" fn postman_tree_count(plan: &[u8]) -> i64
+pub fn postman_tree_count(plan: &[u8]) -> i64
     ensures { result ≡ one_number (count_of (count_call plan.now)) }
 {
     let c = count_call::count_call(plan);

@@ -7,8 +7,7 @@ use answers::call_number::searched_number;
 
 // THE DISTANCE CALL. A pair is 256 × first + second. `distances` takes the pairs' distances from its start, and later
 // entries are untouched; a refusal changes none.
-#[unsafe(no_mangle)]
-pub extern "C" fn postman_distances(plan: &[u8], pairs: &[u16], distances: &mut [u32]) -> i64
+pub fn postman_distances(plan: &[u8], pairs: &[u16], distances: &mut [u32]) -> i64
     ensures { (result ≡ one_number (distance_answer plan.now pairs.now (length distances.old)))
         × (distances.new ≡ distances_after plan.now pairs.now distances.old) }
 {

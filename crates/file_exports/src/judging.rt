@@ -6,8 +6,7 @@ ghost use Rattle.answers.specs.Number.{one_number};
 use answers::call_number::judged_number;
 
 // THE JUDGING CALL, on any bytes and any list of arc numbers, which it does not change.
-#[unsafe(no_mangle)]
-pub extern "C" fn postman_judge(plan: &[u8], places: &[u16]) -> i64
+pub fn postman_judge(plan: &[u8], places: &[u16]) -> i64
     ensures { result ≡ one_number (judge_answer plan.now places.now) }
 {
     let j = judge::call::judge(plan, places);

@@ -13,8 +13,7 @@ use open_plan_bytes::state_bytes::{load, short_number, store_moved};
 use refusal::Refusal;
 
 // OPENING a plan. A slice that is too short for the state is refused as 8, after 1 to 7 and 13.
-#[unsafe(no_mangle)]
-pub extern "C" fn postman_open(plan: &[u8], state: &mut [u8]) -> i64
+pub fn postman_open(plan: &[u8], state: &mut [u8]) -> i64
     ensures { IsExportedOpen plan.now state.old state.new result }
 {
     let r = open_plan::call::open(plan);
@@ -26,8 +25,7 @@ pub extern "C" fn postman_open(plan: &[u8], state: &mut [u8]) -> i64
 }
 
 // A CHANGE of one arc's costs and standing. A slice that is too short for the state is refused as 8 first, here and in what follows.
-#[unsafe(no_mangle)]
-pub extern "C" fn postman_change(
+pub fn postman_change(
     state: &mut [u8],
     arc: u32,
     cost: u16,
@@ -45,8 +43,7 @@ pub extern "C" fn postman_change(
 }
 
 // A MARK holds the plan as it is now.
-#[unsafe(no_mangle)]
-pub extern "C" fn postman_mark(state: &mut [u8], mark: u32) -> i64
+pub fn postman_mark(state: &mut [u8], mark: u32) -> i64
     ensures { IsExportedMove («a-mark» mark) state.old state.new result }
 {
     if state.len() < 7_385 {
@@ -58,8 +55,7 @@ pub extern "C" fn postman_mark(state: &mut [u8], mark: u32) -> i64
 }
 
 // RETURNING brings back the plan of a mark.
-#[unsafe(no_mangle)]
-pub extern "C" fn postman_return(state: &mut [u8], mark: u32) -> i64
+pub fn postman_return(state: &mut [u8], mark: u32) -> i64
     ensures { IsExportedMove («a-return» mark) state.old state.new result }
 {
     if state.len() < 7_385 {
@@ -71,8 +67,7 @@ pub extern "C" fn postman_return(state: &mut [u8], mark: u32) -> i64
 }
 
 // ASKING: the plan call at a departure on the open plan.
-#[unsafe(no_mangle)]
-pub extern "C" fn postman_ask(
+pub fn postman_ask(
     state: &[u8],
     budget: u64,
     windows: &[u16],

@@ -1,5 +1,3 @@
--- Laws that the worked cases need, and those of all tests and lists.
+-- Laws of all tests and lists. What is proved about the definitions themselves stands in `proofs/` and in the crate `postman_laws`.
 pub mod Tests
 pub mod Membership
-pub mod Repeated
-pub mod Numbering

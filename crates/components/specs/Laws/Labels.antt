@@ -21,16 +21,16 @@ use Rattle.postman_laws.specs.Laws.Component.{undirected, component_walk, arc_co
 use Rattle.components.specs.Labels.{rename, merge_label, label_after, Labelled}
 
 -- what holds of both ways along each arc holds of each arc of the graph without direction
-pub both_ways : (Q : ℕ → ℕ → Type 0) {x : Arc} (arcs : List Arc)
+pub both_ways_lem : (Q : ℕ → ℕ → Type 0) {x : Arc} (arcs : List Arc)
     → ((a : Arc) → Memᴰ a arcs → Q a.tail a.head × Q a.head a.tail)
     → Memᴰ x (both_ways arcs) → Q x.tail x.head
 unfolding both_ways
-both_ways Q [] h m = elim m [ ]
-both_ways Q (a ∷ arcs) h m = elim (Memᴰ.cases_cons m) [
+both_ways_lem Q [] h m = elim m [ ]
+both_ways_lem Q (a ∷ arcs) h m = elim (Memᴰ.cases_cons m) [
   | inl e ↦ subst⁻¹ (λ (y : Arc). Q y.tail y.head) e (h a (Memᴰ.head refl)).0
   | inr m₁ ↦ elim (Memᴰ.cases_cons m₁) [
     | inl e ↦ subst⁻¹ (λ (y : Arc). Q y.tail y.head) e (h a (Memᴰ.head refl)).1
-    | inr m₂ ↦ both_ways Q arcs (λ b n. h b (Memᴰ.tail n)) m₂
+    | inr m₂ ↦ both_ways_lem Q arcs (λ b n. h b (Memᴰ.tail n)) m₂
   ]
 ]
 
@@ -167,7 +167,7 @@ module _ (p : Plan) (ok : WellFormed p) where
     walk_label [] u v q = ap (λ x. get_or labels x 0) q
     walk_label (k ∷ w) u v q =
         ap (λ x. get_or labels x 0) (sym q.2)
-        ∙ both_ways (λ x y. get_or labels x 0 ≡ get_or labels y 0) {x = arc_at (undirected p ends) k} (required_arcs p)
+        ∙ both_ways_lem (λ x y. get_or labels x 0 ≡ get_or labels y 0) {x = arc_at (undirected p ends) k} (required_arcs p)
         (λ a m.
         let s = select_mem is_required_arc p.arcs m in
         let x = mem_get_d _ s.0 in

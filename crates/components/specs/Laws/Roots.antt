@@ -24,7 +24,7 @@ use Rattle.required.specs.StepContracts.{IsRequiredFlags}
 use Rattle.components.specs.Labels.{Labelled, is_root, roots_below, number_of}
 use Rattle.required.specs.Laws.RequiredVertex.{required_of, of_required}
 use Rattle.postman_laws.specs.Laws.Selection.{select_select, select_past, select_place}
-use Rattle.components.specs.Laws.Labels.{both_ways, component_label}
+use Rattle.components.specs.Laws.Labels.{both_ways_lem, component_label}
 
 and_cong : (b : Bool) {x y : Bool} → (T b → x ≡ y) → (b && x) ≡ (b && y)
 and_cong true h = h tt
@@ -40,7 +40,7 @@ module _ (p : Plan) (ok : WellFormed p) where
   walk_required [] u v m h = Memᴰ.cast (sym h) m
   walk_required (k ∷ w) u v m h =
       walk_required w (arc_at (undirected p ends) k).head v
-      (both_ways (λ x y. Memᴰ y (required p)) {x = arc_at (undirected p ends) k} (required_arcs p)
+      (both_ways_lem (λ x y. Memᴰ y (required p)) {x = arc_at (undirected p ends) k} (required_arcs p)
       (λ a n. let e = required_ends_lem p ends n in (e.1, e.0))
       (get_d_mem (undirected p ends) _ k h.0))
       h.3

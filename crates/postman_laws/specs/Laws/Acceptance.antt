@@ -21,7 +21,7 @@ use Rattle.postman_laws.specs.Laws.Below.{length_map_below}
 use Rattle.postman_laws.specs.Laws.BitField.{field_lt}
 use Rattle.postman_laws.specs.Laws.FileLength.{counted}
 use Rattle.postman_laws.specs.Laws.Refusal.{nothing_refused, accepted_cons, cons_accepted, accepted_append, append_accepted, accepted_flat_map}
-use Rattle.postman.specs.Laws.Repeated.{Distinct, not_repeated}
+use Rattle.postman.proofs.Repeated.{Distinct, not_repeated}
 
 -- ---- limits
 

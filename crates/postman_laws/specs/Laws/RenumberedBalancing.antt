@@ -20,7 +20,7 @@ use Rattle.postman.specs.Laws.Membership.{map_mem}
 use Rattle.postman_laws.specs.Laws.Lists.{map_cong}
 use Rattle.postman_laws.specs.Laws.Sum.{sum_cong, sum_cong_mem, once, sum_occurrences}
 use Rattle.postman_laws.specs.Laws.Required.{required_once}
-use Rattle.postman.specs.Laws.Numbering.{eqb_number}
+use Rattle.postman.proofs.Numbering.{eqb_number}
 use Rattle.postman_laws.specs.Laws.Renumbering.{renumbered_required, renumbered_cost}
 use Rattle.postman_laws.specs.Laws.RenumberedDistance.{distance_renumbered}
 use Rattle.postman_laws.specs.Laws.RenumberedComponents.{requireds, required_of}

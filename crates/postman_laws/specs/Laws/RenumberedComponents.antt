@@ -22,7 +22,7 @@ use Rattle.postman_laws.specs.Laws.Pick.{differ_le}
 use Rattle.postman_laws.specs.Laws.Distance.{InPlan, bounded}
 use Rattle.postman_laws.specs.Laws.Walk.{Leads}
 use Rattle.postman_laws.specs.Laws.Component.{flat, undirected, component_lt, component_at, walk_component, component_walk}
-use Rattle.postman.specs.Laws.Numbering.{eqb_number, inverse}
+use Rattle.postman.proofs.Numbering.{eqb_number, inverse}
 use Rattle.postman_laws.specs.Laws.Renumbering.{renumbered_back, renumbered_well_formed, renumbered_required, renumbered_count}
 use Rattle.postman_laws.specs.Laws.RenumberedDrive.{walks}
 use Rattle.postman_laws.specs.Laws.RenumberedDistance.{path_renumbered}

@@ -20,7 +20,7 @@ use Rattle.postman.specs.Renumbering.{IsNumbering, renumbered, renumbered_link, 
 use Rattle.postman.specs.Laws.Membership.{mem_map}
 use Rattle.postman_laws.specs.Laws.Lists.{flat_map_map, flat_map_cong, map_flat_map, select_map}
 use Rattle.postman_laws.specs.Laws.FewestPath.{fewest_once}
-use Rattle.postman.specs.Laws.Numbering.{eqb_number}
+use Rattle.postman.proofs.Numbering.{eqb_number}
 use Rattle.postman_laws.specs.Laws.Renumbering.{renumbered_numbers}
 use Rattle.postman_laws.specs.Laws.RenumberedDrive.{drives, drive_cost_lem, fewest_back}
 use Rattle.postman_laws.specs.Laws.RenumberedComponents.{requireds}

@@ -13,7 +13,7 @@ use Rattle.postman.specs.Distance.{no_path, arcs_from, distance_within, distance
 use Rattle.postman.specs.Renumbering.{IsNumbering, renumbered_arc, renumbered}
 use Rattle.postman_laws.specs.Laws.Lists.{select_map}
 use Rattle.postman_laws.specs.Laws.Minimum.{least_map}
-use Rattle.postman.specs.Laws.Numbering.{eqb_number, inverse, number_lt}
+use Rattle.postman.proofs.Numbering.{eqb_number, inverse, number_lt}
 
 module _ (arcs : List Arc) {n : ℕ} {π σ : ℕ → ℕ} (h : IsNumbering n π σ) where
   abbrev others : List Arc

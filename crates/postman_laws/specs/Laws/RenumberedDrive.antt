@@ -12,7 +12,7 @@ use Rattle.postman.specs.Plan.{Arc, Plan, is_open, is_required_arc, arc_at, requ
 use Rattle.postman.specs.Drive.{IsWalk, walk_cost, IsDrive, drive_cost_due, drive_cost}
 use Rattle.postman.specs.FewestPath.{IsFewestPath}
 use Rattle.postman.specs.Renumbering.{IsNumbering, renumbered_arc, renumbered}
-use Rattle.postman.specs.Laws.Numbering.{one_to_one}
+use Rattle.postman.proofs.Numbering.{one_to_one}
 use Rattle.postman_laws.specs.Laws.Renumbering.{arc_number, arc_same, renumbered_numbers}
 
 -- ---- walks

@@ -7,7 +7,7 @@ use Rattle.postman.specs.Plan.{Arc, arc_at}
 use Rattle.postman.specs.PlanFile.{IsRecord, has_repeated}
 use Rattle.postman.specs.Laws.Tests.{same_test}
 use Rattle.postman_laws.specs.Laws.Below.{length_map_below, get_d_map_below}
-use Rattle.postman.specs.Laws.Repeated.{repeated_pair, pair_repeated}
+use Rattle.postman.proofs.Repeated.{repeated_pair, pair_repeated}
 use Rattle.repeated_arcs.specs.Packed.{packed_arc}
 
 pub packed_equal : (a b : Arc) → IsRecord a → IsRecord b → packed_arc a ≡ packed_arc b → a ≡ b

@@ -21,7 +21,7 @@ use Rattle.postman.specs.Laws.Tests.{cond_ind}
 use Rattle.postman.specs.Laws.Membership.{length_up_from, get_d_map_up_from}
 use Rattle.postman_laws.specs.Laws.Required.{required_lt}
 use Rattle.postman.specs.Steps.{Plannable}
-use Rattle.postman.specs.Laws.Numbering.{in_a_row}
+use Rattle.postman.proofs.Numbering.{in_a_row}
 use Rattle.postman_laws.specs.Laws.Renumbering.{renumbered_identity}
 use Rattle.multipliers.specs.Ascent.{multipliers_for}
 use Rattle.multipliers.specs.Laws.Ascent.{answered_rooted}

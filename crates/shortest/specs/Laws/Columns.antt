@@ -8,13 +8,13 @@ use Rattle.std.proofs.lemmas.List.{length-replicate, get_or-replicate}
 use Rattle.postman.specs.Lists.{below}
 use Rattle.postman.specs.Laws.Membership.{length_below, get_d_map_up_from, all_of_mem, all_of_at, mem_below, below_mem}
 use Rattle.postman.specs.Laws.Tests.{is_true, is_false}
-use Rattle.postman.specs.Plan.{Arc, Plan, WellFormed}
+use Rattle.postman.specs.Plan.{Arc, WellFormed}
 use Rattle.postman.specs.Distance.{no_path}
 use Rattle.plan.specs.declared.Plan.{Plan as PlanRecord}
 use Rattle.plan.specs.Records.{plan_value, record_at}
 use Rattle.plan.specs.Laws.Records.{arcs_more}
 use Rattle.shortest.specs.Weight.{heavy}
-use Rattle.shortest.specs.Relaxation.{weight, shorter, relax_arc, relax_arcs, start_row}
+use Rattle.shortest.specs.Relaxation.{weight, shorter, relax_arc, relax_arcs}
 use Rattle.shortest.specs.Columns.{row_from, relax_by, are_same}
 use Rattle.shortest.specs.Laws.Relaxation.{relax_arcs_snoc}
 

@@ -74,6 +74,7 @@ weight_open a o = cond_ind (is_open a) a.cost no_path (λ x. x ≡ a.cost) (λ t
 relax_arcs_arc : (arcs : List Arc) (row : List ℕ) → HeadsWithin (length row) arcs → {a : Arc} → Memᴰ a arcs → T (is_open a)
     → get_or (relax_arcs arcs row) a.head 0 ≤ a.cost + get_or row a.tail 0
 unfolding relax_arcs shorter
+relax_arcs_arc [] row h {a = a} x3 o = elim x3 [ ]
 relax_arcs_arc (b ∷ arcs) row h {a} (Memᴰ.head e) o =
     let l = h b (Memᴰ.head refl) in
     let n = relax_arc_length b row in
@@ -97,7 +98,7 @@ relax_arcs_snoc (b ∷ arcs) a row = relax_arcs_snoc arcs a (relax_arc b row)
 
 pub record Rounds (p : Plan) (source k : ℕ) (row : List ℕ) : Type 0 where
   pub size : length row ≡ 64
-  pub at_most_lem : (j : ℕ) → get_or row j 0 ≤ no_path
+  pub at_most : (j : ℕ) → get_or row j 0 ≤ no_path
   pub at_least : (j : ℕ) → j < 64 → distance p source j ≤ get_or row j 0
   pub reaches : (j : ℕ) (w : List ℕ) → IsWalk p.arcs source w j → length w ≤ k → get_or row j 0 ≤ walk_cost p.arcs w
 
@@ -105,7 +106,7 @@ pub rounds_none : (p : Plan) → IsWeighted p → (source : ℕ) → source < 64
 unfolding start_row
 rounds_none p wf source l = record {
   size = size;
-  at_most_lem = λ j. elim (ℕ_discrete j source) [
+  at_most = λ j. elim (ℕ_discrete j source) [
     | yes e ↦ let z = same j e in omega arith
     | no n ↦ elim (dec_le 64 j) [
       | yes g ↦ let z = past (set (replicate 64 no_path) source 0) j (omega (arith, size)) in omega arith
@@ -186,7 +187,7 @@ module _ (p : Plan) (wf : IsWeighted p) (source : ℕ) where
   rounds_more : (k : ℕ) (row : List ℕ) → Rounds p source k row → Rounds p source (suc k) (relax_arcs p.arcs row)
   rounds_more k row h = record {
     size = relax_arcs_length p.arcs row ∙ h.size;
-    at_most_lem = λ j. le_trans (le j) (h.at_most j);
+    at_most = λ j. le_trans (le j) (h.at_most j);
     at_least = at_least_arcs p.arcs (λ a m. m) row h.size h.at_least;
     reaches = more;
   }
@@ -214,7 +215,7 @@ module _ (p : Plan) (wf : IsWeighted p) (source : ℕ) where
 
   rounds_fewer : {k : ℕ} {row : List ℕ} → Rounds p source k row → Rounds p source 0 row
   rounds_fewer h =
-      record { size = h.size; at_most_lem = h.at_most; at_least = h.at_least; reaches = λ j w q l. h.reaches j w q (le_trans l zero-le) }
+      record { size = h.size; at_most = h.at_most; at_least = h.at_least; reaches = λ j w q l. h.reaches j w q (le_trans l zero-le) }
 
   pub rounds_row : (row : List ℕ) → Rounds p source (p.n - 1) row → IsRow p source row
   rounds_row row h j g =

@@ -1,8 +1,8 @@
 -- Least weights depend on what d depends on: arcs that agree in ends and cost and in which may be driven agree in their weights.
-use Rattle.std.specs.Prelude.{◌≡◌, refl, List, [], ◌∷◌, map, ℕ, ◌+◌, ◌*◌}
+use Rattle.std.specs.Prelude.{◌≡◌, List, [], ◌∷◌, map, ℕ, ◌+◌, ◌*◌}
 use Rattle.std.proofs.Common.{ap, ◌∙◌}
 use Rattle.postman.specs.Plan.{Arc, Plan}
-use Rattle.postman_laws.specs.Laws.Roads.{SameRoad, SameRoads, distance_same}
+use Rattle.postman_laws.specs.Laws.Roads.{SameRoads, distance_same}
 use Rattle.shortest.specs.Weight.{heavy, weighted}
 use Rattle.shortest.specs.StepContracts.{AreWeights}
 

@@ -1,7 +1,7 @@
 -- A walk of a plan is one of the weighted plan, of weight 64 × its cost + its number of arcs. Cut to n − 1 ≤ 63 arcs, a lightest one is a
 -- cheapest one: so d is a 64th of the least weight, rounded down. Nothing here uses that costs are positive.
-use Rattle.std.specs.Prelude.{◌≡◌, refl, cond, ℕ, zero, suc, ◌+◌, ◌-◌, ◌*◌, ◌/◌, ◌≤◌, ◌<◌, length, get_or, T, ltb}
-use Rattle.std.proofs.Common.{sym, ◌∙◌, subst, le_trans, mul-le-mul_right, ltb→lt}
+use Rattle.std.specs.Prelude.{◌≡◌, refl, ℕ, zero, suc, ◌+◌, ◌*◌, ◌/◌, ◌≤◌, ◌<◌, length, T, ltb}
+use Rattle.std.proofs.Common.{sym, ◌∙◌, subst, ltb→lt}
 use Rattle.std.proofs.Math.Path.{ap, subst⁻¹}
 use mathlib.Core.List.{List, [], ◌∷◌, map, Memᴰ}
 use Rattle.std.proofs.Math.Decide.{dec_le, ℕ_discrete}

@@ -4,9 +4,7 @@ use Rattle.cheapest_tree.specs.Laws.Iterates.{iterate_last}
 use Rattle.postman.specs.Lists.{iterate}
 use native.Mathlib.Numerals.{add-one}
 use native.Mathlib.Omega.{arith}
-use Prim.Native.Nat.{◌-◌, ◌≤◌, ◌<◌}
-use mathlib.Core.Path.{◌≡◌, refl, sym, ap, ◌∙◌}
-use borrow.Author.Rules.{rules}
+use mathlib.Core.Path.{refl, sym, ap, ◌∙◌}
 use Rattle.cheapest_tree.proofs.cheapest.back.Goals as goal
 
 pub loop-i-init : goal.loop-i-init

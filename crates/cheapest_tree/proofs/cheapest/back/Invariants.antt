@@ -1,12 +1,8 @@
 -- After i turns y is where i entries lead.
 use Rattle.cheapest_tree.specs.CostMatrix.{entry_of}
-use Rattle.cheapest_tree.specs.Laws.Iterates.{iterate_last}
 use Rattle.postman.specs.Lists.{iterate}
-use native.Mathlib.Numerals.{add-one}
-use native.Mathlib.Omega.{arith}
 use Prim.Native.Nat.{◌-◌, ◌≤◌, ◌<◌}
-use mathlib.Core.Path.{◌≡◌, refl, sym, ap, ◌∙◌}
-use borrow.Author.Rules.{rules}
+use mathlib.Core.Path.{◌≡◌}
 use Rattle.cheapest_tree.proofs.cheapest.back.Given as goal
 
 abbrev pub invariant-loop-i : goal.invariant-loop-i

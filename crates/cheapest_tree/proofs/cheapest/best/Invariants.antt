@@ -1,10 +1,6 @@
 -- After the turns for members below x, r is a cheapest of those.
-use Rattle.cheapest_tree.specs.Laws.CostMatrix.{best_more}
 use Rattle.cheapest_tree.specs.CostMatrix.{line_of, IsBest}
-use native.Mathlib.Omega.{arith}
 use Prim.Native.Nat.{◌-◌, ◌≤◌}
-use mathlib.Core.Path.{◌≡◌}
-use borrow.Author.Rules.{rules}
 use Rattle.cheapest_tree.proofs.cheapest.best.Given as goal
 
 abbrev pub invariant-loop-x : goal.invariant-loop-x

@@ -1,14 +1,9 @@
 -- After i turns the components that i entries pass are marked, and x is the next.
-use Rattle.cheapest_tree.specs.Laws.CostMatrix.{marked_none, marked_more}
 use Rattle.cheapest_tree.specs.CostMatrix.{entry_of, IsMarked}
-use Rattle.cheapest_tree.specs.Laws.Iterates.{iterate_last}
 use Rattle.postman.specs.Lists.{iterate}
-use native.Mathlib.Numerals.{add-one}
 use lib.ListN.{length}
-use native.Mathlib.Omega.{arith}
 use Prim.Native.Nat.{◌-◌, ◌≤◌, ◌<◌}
-use mathlib.Core.Path.{◌≡◌, refl, sym, ap, ◌∙◌}
-use borrow.Author.Rules.{rules}
+use mathlib.Core.Path.{◌≡◌}
 use Rattle.cheapest_tree.proofs.cheapest.circle.Given as goal
 
 abbrev pub invariant-loop-i : goal.invariant-loop-i

@@ -1,12 +1,8 @@
 -- After i turns the first i costs are there.
-use Rattle.cheapest_tree.specs.Laws.CostMatrix.{shrunk_more}
 use Rattle.cheapest_tree.specs.CostMatrix.{IsShrunk}
-use Rattle.integers.specs.Linear.{back64}
 use lib.ListN.{length}
-use native.Mathlib.Omega.{arith}
 use Prim.Native.Nat.{◌-◌, ◌≤◌}
-use mathlib.Core.Path.{◌≡◌, refl}
-use borrow.Author.Rules.{rules}
+use mathlib.Core.Path.{◌≡◌}
 use Rattle.cheapest_tree.proofs.cheapest.contracted.Given as goal
 
 abbrev pub invariant-loop-i : goal.invariant-loop-i

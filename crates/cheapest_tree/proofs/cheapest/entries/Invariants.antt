@@ -1,12 +1,8 @@
 -- After the turns for components below q, theirs are found.
-use lib.ListN.{get_or-replicate}
-use Rattle.cheapest_tree.specs.Laws.CostMatrix.{entries_more}
 use Rattle.cheapest_tree.specs.CostMatrix.{HasEntries}
 use lib.ListN.{length}
-use native.Mathlib.Omega.{arith}
-use Prim.Native.Nat.{◌-◌, ◌≤◌, ◌<◌}
-use mathlib.Core.Path.{◌≡◌, refl, subst⁻¹}
-use borrow.Author.Rules.{rules}
+use Prim.Native.Nat.{◌-◌, ◌≤◌}
+use mathlib.Core.Path.{◌≡◌}
 use Rattle.cheapest_tree.proofs.cheapest.entries.Given as goal
 
 abbrev pub invariant-loop-q : goal.invariant-loop-q

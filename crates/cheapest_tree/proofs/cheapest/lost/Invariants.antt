@@ -1,13 +1,10 @@
 -- From every component below q going back arrives.
 use Rattle.cheapest_tree.specs.CostMatrix.{entry_of}
-use native.Mathlib.Decide.{ℕ_discrete}
 use Rattle.postman.specs.Lists.{iterate}
-use mathlib.Core.Bool.{Bool, true, false}
+use mathlib.Core.Bool.{true, false}
 use lib.ListN.{get_or}
-use native.Mathlib.Omega.{arith}
 use Prim.Native.Nat.{ℕ, ◌-◌, ◌≤◌, ◌<◌}
-use mathlib.Core.Path.{◌≡◌, refl, sym, ap, ◌∙◌, subst⁻¹}
-use borrow.Author.Rules.{rules}
+use mathlib.Core.Path.{◌≡◌}
 use Rattle.cheapest_tree.proofs.cheapest.lost.Given as goal
 
 abbrev pub invariant-loop-q : goal.invariant-loop-q

@@ -1,7 +1,6 @@
 -- The two cases of the definition.
 use Rattle.cheapest_tree.specs.CostMatrix.{place_of}
 use native.Mathlib.Omega.{arith}
-use borrow.Author.Rules.{rules}
 use Rattle.cheapest_tree.proofs.cheapest.place.Goals as goal
 
 pub returns-then-row : goal.returns-then-row

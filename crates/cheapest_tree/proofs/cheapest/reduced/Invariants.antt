@@ -1,16 +1,9 @@
 -- After i turns the first i costs are reduced.
-use Rattle.postman_laws.specs.Laws.Lists.{filled_more}
-use Rattle.cheapest_tree.specs.Laws.CostMatrix.{pay_within}
 use Rattle.cheapest_tree.specs.CostMatrix.{pay_of, less}
-use Rattle.integers.specs.Linear.{back64}
-use mir.Val.{to_z, of_z}
-use mir.Syntax.{w64}
 use lib.IntN.{pos}
 use lib.ListN.{length, get_or}
-use native.Mathlib.Omega.{arith}
 use Prim.Native.Nat.{ℕ, ◌-◌, ◌%◌, ◌≤◌, ◌<◌}
-use mathlib.Core.Path.{◌≡◌, refl, ap₂, ◌∙◌}
-use borrow.Author.Rules.{rules}
+use mathlib.Core.Path.{◌≡◌}
 use Rattle.cheapest_tree.proofs.cheapest.reduced.Given as goal
 
 abbrev pub invariant-loop-i : goal.invariant-loop-i

@@ -1,12 +1,9 @@
 -- After x turns the first x places are filled.
-use Rattle.postman_laws.specs.Laws.Lists.{filled_more}
 use Rattle.cheapest_tree.specs.CostMatrix.{kept_of}
 use mathlib.Core.Bool.{false}
 use lib.ListN.{length, get_or}
-use native.Mathlib.Omega.{arith}
 use Prim.Native.Nat.{ℕ, ◌-◌, ◌≤◌, ◌<◌}
 use mathlib.Core.Path.{◌≡◌}
-use borrow.Author.Rules.{rules}
 use Rattle.cheapest_tree.proofs.cheapest.remaining.Given as goal
 
 abbrev pub invariant-loop-x : goal.invariant-loop-x

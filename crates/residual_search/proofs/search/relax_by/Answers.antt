@@ -2,35 +2,31 @@
 use mathlib.Core.Path.{◌≡◌, refl, sym, ap, ◌∙◌}
 use mathlib.Core.Bool.{cond}
 use mathlib.Core.List.{List}
-use Prim.Native.Nat.{ℕ, ◌≤◌, ◌-◌}
+use Prim.Native.Nat.{ℕ}
 use native.Mathlib.Omega.{arith}
-use lib.ListN.{length, get_or, take}
+use lib.ListN.{get_or}
 use lib.Dec.{eqb}
 use lib.Seq.{take_all}
 use Rattle.residual_search.specs.Fold.{fold}
-use Rattle.residual_search.specs.Search.{beyond, relaxed, relax, open_distance, nearer, nearest}
-use Rattle.postman.specs.Steps.{cell}
-use Rattle.residual_search.specs.Step.{residual_length}
+use Rattle.residual_search.specs.Search.{beyond, relax, open_distance, nearest}
 use Rattle.residual_search.specs.Laws.Turns.{relax_more, nearest_more}
 use Rattle.residual_search.specs.Laws.Relax.{relax_last, goal_low}
 use Rattle.residual_search.specs.Laws.Search.{nearest_small}
-use borrow.Author.Rules.{rules}
-use Rattle.residual_search.proofs.search.relax_by.Invariants.{lengths, relaxes, nearests}
+use Rattle.residual_search.proofs.search.relax_by.Invariants.{lengths, relaxes}
 use Rattle.residual_search.proofs.search.relax_by.Goals as goal
 
 pub loop-a-init : goal.loop-a-init
 unfolding fold
-loop-a-init c =
-    (
-      omega arith,
-      refl,
-      ap (λ low. (c.args.goal, low))
-          (goal_low (lengths c.args.d.now c.args.f.now c.args.u.now c.args.w) c.args.w c.args.base c.args.vs.now (c.args.x.now, c.args.next.now) c.args.rank.now c.requires.3
-          c.wide-end.ensures
-          c.distance_by.ensures
-          c.lesser-last.ensures
-          c.open_distance-low.ensures),
-    )
+loop-a-init c = (
+  omega arith,
+  refl,
+  ap (λ low. (c.args.goal, low))
+      (goal_low (lengths c.args.d.now c.args.f.now c.args.u.now c.args.w) c.args.w c.args.base c.args.vs.now (c.args.x.now, c.args.next.now) c.args.rank.now c.requires.3
+      c.wide-end.ensures
+      c.distance_by.ensures
+      c.lesser-last.ensures
+      c.open_distance-low.ensures),
+)
 
 pub loop-a-preserved : goal.loop-a-preserved
 loop-a-preserved c =

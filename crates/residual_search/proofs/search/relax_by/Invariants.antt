@@ -1,20 +1,12 @@
 -- After a turns the distances and the next vertices are the fold over the first a vertices, and the nearest is that of them by their last distances. Assumes nothing.
-use mathlib.Core.Path.{◌≡◌, refl, sym, ap, ◌∙◌}
-use mathlib.Core.Bool.{cond}
+use mathlib.Core.Path.{◌≡◌}
 use mathlib.Core.List.{List}
 use Prim.Native.Nat.{ℕ, ◌≤◌, ◌-◌}
-use native.Mathlib.Omega.{arith}
-use lib.ListN.{length, get_or, take}
-use lib.Dec.{eqb}
-use lib.Seq.{take_all}
+use lib.ListN.{length, take}
 use Rattle.residual_search.specs.Fold.{fold}
-use Rattle.residual_search.specs.Search.{beyond, relaxed, relax, open_distance, nearer, nearest}
+use Rattle.residual_search.specs.Search.{relaxed, open_distance, nearer}
 use Rattle.postman.specs.Steps.{cell}
 use Rattle.residual_search.specs.Step.{residual_length}
-use Rattle.residual_search.specs.Laws.Turns.{relax_more, nearest_more}
-use Rattle.residual_search.specs.Laws.Relax.{relax_last, goal_low}
-use Rattle.residual_search.specs.Laws.Search.{nearest_small}
-use borrow.Author.Rules.{rules}
 use Rattle.residual_search.proofs.search.relax_by.Given as goal
 
 abbrev pub lengths : List (List ℕ) → List ℕ → List ℕ → ℕ → ℕ → ℕ

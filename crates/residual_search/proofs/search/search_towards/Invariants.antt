@@ -1,15 +1,11 @@
 -- What is left of the rounds, from what the loop holds, is the search, and w is the nearest vertex. Assumes nothing.
-use mathlib.Core.Path.{◌≡◌, refl, sym, ◌∙◌, subst⁻¹}
+use mathlib.Core.Path.{◌≡◌}
 use Prim.Native.Nat.{◌≤◌, ◌<◌, ◌-◌}
-use native.Mathlib.Omega.{arith}
-use borrow.Author.Tests.{eqb-true, eqb-false, not-true, not-false}
 use Rattle.residual_search.specs.Bounds.{AtMost}
 use Rattle.residual_search.specs.Search.{beyond, nearest}
 use Rattle.residual_search.specs.Until.{rounds_until, until}
 use Rattle.postman.specs.Steps.{cell}
 use Rattle.residual_search.specs.Step.{residual_length}
-use Rattle.residual_search.specs.Laws.Turns.{relax_low, replicate_low, until_start, until_end, until_none, until_more}
-use borrow.Author.Rules.{rules}
 use Rattle.residual_search.proofs.search.search_towards.Given as goal
 
 abbrev pub invariant-loop-k : goal.invariant-loop-k

@@ -1,0 +1,15 @@
+-- The invariant: k − 1 rounds are done, for every source. A round that changes nothing ends the loop, and so does round n − 1.
+use mathlib.Core.Path.{◌≡◌}
+use Prim.Native.Nat.{ℕ, ◌-◌, ◌≤◌, ◌<◌}
+use lib.ListN.{length}
+use Rattle.plan.specs.Records.{plan_value}
+use Rattle.shortest.specs.Weight.{weighted}
+use Rattle.shortest.specs.Columns.{row_from}
+use Rattle.shortest.specs.Laws.Relaxation.{Rounds}
+use Rattle.shortest.proofs.columns.settled.Given as goal
+
+abbrev pub invariant-loop-k : goal.invariant-loop-k
+invariant-loop-k l = (l.n ≡ l.plan.n) × (1 ≤ l.k) × (l.k ≤ l.n) × (length l.c ≡ 4096) × ((i : ℕ) → i < 64 → Rounds (weighted (plan_value l.plan)) i (l.k - 1) (row_from l.c i))
+
+abbrev pub decreases-loop-k : goal.decreases-loop-k
+decreases-loop-k l = l.n - l.k

@@ -1,0 +1,6 @@
+-- The costs of the least weights are the distances.
+use Rattle.shortest.specs.Laws.Weight.{row_costs}
+use Rattle.shortest.proofs.distance.row.Goals as goal
+
+pub returns : goal.returns
+returns c = row_costs _ c.requires.0 _ c.row-found.result c.row_of.result c.row-found.ensures c.row_of.ensures

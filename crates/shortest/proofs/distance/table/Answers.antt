@@ -1,0 +1,6 @@
+-- The costs of the least weights are the distances.
+use Rattle.shortest.specs.Laws.Weight.{table_costs}
+use Rattle.shortest.proofs.distance.table.Goals as goal
+
+pub returns : goal.returns
+returns c = table_costs _ c.requires c.table-found.result c.table_of.result c.table-found.ensures c.table_of.ensures
