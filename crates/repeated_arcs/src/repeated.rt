@@ -37,8 +37,8 @@ fn packed_arcs(arcs: [Arc; 256], m: usize) -> [u64; 256]
 // Whether x stands before place n.
 fn stands_before(numbers: &[u64; 256], n: usize, x: u64) -> bool
     requires { n ≤ 256 }
-    ensures by_index { result ≡ true → (j : ℕ) × (j < n) × (get_or numbers.now j 0 ≡ x) }
-    ensures fact { result ≡ false → (j : ℕ) → j < n → get_or numbers.now j 0 ≡ x → ⊥ }
+    ensures found { result ≡ true → (j : ℕ) × (j < n) × (get_or numbers.now j 0 ≡ x) }
+    ensures absent { result ≡ false → (j : ℕ) → j < n → get_or numbers.now j 0 ≡ x → ⊥ }
 {
     for j in 0..n {
         if numbers[j] == x {

@@ -99,8 +99,8 @@ fn tried_on(
     g: Reached,
     more: u32,
 ) -> Reached
-    requires preparation { IsPreparation (plan_value plan) table.now r × IsBegun (plan_value plan) table.now r s }
-    requires bound { (1 ≤ g.tried + more) × (g.tried ≤ 1000000000) × (more ≤ 1000000000) }
+    requires begun { IsPreparation (plan_value plan) table.now r × IsBegun (plan_value plan) table.now r s }
+    requires within_limits { (1 ≤ g.tried + more) × (g.tried ≤ 1000000000) × (more ≤ 1000000000) }
     ensures { (result.tried ≡ g.tried + more) × (result.cost ≡ (tried_on (plan_value plan) g.cost (links_by (plan_value plan) g) g.tried more).cost)
         × (links_by (plan_value plan) result ≡ (tried_on (plan_value plan) g.cost (links_by (plan_value plan) g) g.tried more).links) }
 {
