@@ -1,7 +1,7 @@
 -- The path of a leg is the path of fewest arcs: a lightest one costs d, has no more arcs than any that costs as
 -- much, and none of its weight comes before it.
-use Rattle.std.specs.Prelude.{◌≡◌, List, ℕ, ◌+◌, ◌-◌, ◌*◌, ◌≤◌, ◌<◌, length}
-use Rattle.std.proofs.Common.{◌∙◌, subst, arith}
+use Rattle.std.specs.Prelude.{◌≡◌, List, ℕ, ◌-◌, ◌≤◌, ◌<◌, length}
+use Rattle.std.proofs.Common.{subst, arith}
 use Rattle.postman.specs.Lists.{occurrences}
 use Rattle.postman.specs.Plan.{Plan, WellFormed}
 use Rattle.postman.specs.Drive.{IsWalk, walk_cost}
