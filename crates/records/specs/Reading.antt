@@ -15,7 +15,8 @@ read_numbers (Refused r) = refused (refusal_number r)
 
 -- What a reading answers where there is room for so many records: 8 after all that is refused of the file.
 abbrev pub room_answer : Reading → ℕ → Answer (ℕ × ℕ × ℕ)
-room_answer r room = answer (or_else (verdict_number r.verdict) (cond (ltb room r.plan.m) (some 8) none)) (r.edition, r.plan.n, r.plan.m)
+room_answer r room =
+    answer (or_else (verdict_number r.verdict) (cond (ltb room r.plan.m) (some 8) none)) (r.edition, r.plan.n, r.plan.m)
 
 -- How many records are stored.
 abbrev pub arcs_read : Read → ℕ
