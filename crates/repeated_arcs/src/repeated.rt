@@ -25,7 +25,8 @@ fn packed(a: Arc) -> u64
 // The first m arcs as numbers.
 fn packed_arcs(arcs: [Arc; 256], m: usize) -> [u64; 256]
     requires { m ≤ 256 }
-    ensures { (length result ≡ 256) × ((k : ℕ) → k < m → (get_or result k 0 ≡ packed_arc (record_at arcs k)) × IsRecord (record_at arcs k)) }
+    ensures { (length result ≡ 256) × ((k : ℕ) → k < m → (get_or result k 0 ≡ packed_arc (record_at arcs k))
+        × IsRecord (record_at arcs k)) }
 {
     let mut numbers = [0u64; 256];
     for k in 0..m {

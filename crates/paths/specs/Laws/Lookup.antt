@@ -20,7 +20,8 @@ use Rattle.shortest.specs.Weight.{heavy, weighted}
 use Rattle.shortest.specs.Laws.Weight.{heavy_at}
 
 -- the first index of two tests that agree
-first_same : (f g : ℕ → Bool) (a n : ℕ) → ((k : ℕ) → a ≤ k → k < a + n → f k ≡ g k) → first_index f (up_from a n) ≡ first_index g (up_from a n)
+first_same : (f g : ℕ → Bool) (a n : ℕ) → ((k : ℕ) → a ≤ k → k < a + n → f k ≡ g k)
+    → first_index f (up_from a n) ≡ first_index g (up_from a n)
 unfolding first_index up_from
 first_same f g a zero h = refl
 first_same f g a (suc n) h =
