@@ -44,7 +44,8 @@ module _ (p : Plan) (ok : WellFormed p) where
   -- the ends of a link are required
   is_pair_lem : (i j : ℕ) → is_pair (link i j) ≡ is_held (links p) i j
   is_pair_lem i j =
-      same_test (is_pair (link i j)) (is_held (links p) i j) (λ t. (and_parts (is_required p i && is_required p j) (is_held (links p) i j) t).1)
+      same_test (is_pair (link i j)) (is_held (links p) i j) (λ t.
+      (and_parts (is_required p i && is_required p j) (is_held (links p) i j) t).1)
       (λ t.
       let e = link_ends p (held_mem (links p) i j t) in
       and_both (is_required p i && is_required p j) (is_held (links p) i j)

@@ -145,7 +145,8 @@ module _ (p : Plan) (ok : WellFormed p) (d : List (List ℕ)) (r : List Bool) (k
     }
 
   -- the pairs that it starts from
-  starts : (h : List Bool) → length h ≡ 4096 → ((i j : ℕ) → i < 64 → j < 64 → flag h i j ≡ is_pair i j (get_or r i false) (get_or r j false))
+  starts : (h : List Bool) → length h ≡ 4096 → ((i j : ℕ) → i < 64 → j < 64
+      → flag h i j ≡ is_pair i j (get_or r i false) (get_or r j false))
       → Agree h (proper_pairs p)
   starts h s e = record {
     size = s;
