@@ -52,7 +52,7 @@ fn of_rattle(source: &str) -> Vec<Function> {
     let exported: Vec<&str> = source.split("pub extern \"C\" fn ").collect();
     let functions = exported.windows(2).map(|pair| {
         let (name, parameters, rest) = parts(pair[1]);
-        assert!(pair[0].trim_end().ends_with("#[no_mangle]"), "{name} is not exported by its name");
+        assert!(pair[0].trim_end().ends_with("#[unsafe(no_mangle)]"), "{name} is not exported by its name");
         let parameters = parameters.into_iter().flat_map(|parameter| {
             let (name, of) = annotated(parameter);
             let slice = |prefix| of.strip_prefix(prefix).and_then(|of: &str| of.strip_suffix(']'));
@@ -210,7 +210,7 @@ fn files(folder: &str, extension: &str) -> Vec<String> {
     let mut found: Vec<String> = Vec::new();
     for entry in entries.map(|entry| entry.expect("an entry")) {
         let path = format!("{folder}/{}", entry.file_name().into_string().expect("a name"));
-        if entry.path().is_dir() && entry.file_name() != "target" {
+        if entry.path().is_dir() && entry.file_name() != "target" && entry.file_name() != "out" {
             found.extend(files(&path, extension));
         } else if entry.path().extension().is_some_and(|e| e == extension) {
             found.push(path);
@@ -225,11 +225,10 @@ fn of_folder(folder: &str, extension: &str, of: fn(&str) -> Vec<Function>) -> Ve
     files(folder, extension).iter().flat_map(|path| of(&read(&root().join(path)))).collect()
 }
 
-/// The crates whose functions other languages call.
-const EXPORTING: [&str; 4] =
-    ["crates/exports/src", "crates/file_exports/src", "crates/open_plan_exports/src", "crates/district_exports/src"];
+/// The crate whose functions other languages call.
+const EXPORTING: [&str; 1] = ["crates/postman_c/src"];
 
-/// What the tests below compare is all that is declared: one header, and no function for other languages outside the crates that export and the package's sources.
+/// What the tests below compare is all that is declared: one header, and no function for other languages outside the crate that exports and the package's sources.
 #[test]
 fn nothing_is_left_uncompared() {
     assert_eq!(files("include", "h"), ["include/postman.h"]);
@@ -365,14 +364,14 @@ fn words_agree() {
 // ---- the test can fail
 
 const RATTLE: &str = r#"
-// A call. #[no_mangle] and extern "C" of a comment do not count.
-#[no_mangle]
+// A call. #[unsafe(no_mangle)] and extern "C" of a comment do not count.
+#[unsafe(no_mangle)]
 pub extern "C" fn call(
     plan: &[u8],
     budget: u64,
     sheet: &mut [u16],
 ) -> i64
-    ensures { λ k. ⌜ k ≡ f (now plan) ⌝ }
+    ensures { result ≡ f plan.now }
 {
     other(plan)
 }
@@ -381,7 +380,7 @@ fn other(plan: &[u8]) -> u32 {
     0
 }
 
-#[no_mangle]
+#[unsafe(no_mangle)]
 pub extern "C" fn write(n: u32, words: &[i64]) -> u64 {
     0
 }
@@ -519,7 +518,7 @@ fn a_change_of_the_library_is_seen() {
 #[test]
 #[should_panic(expected = "write is not exported by its name")]
 fn a_mangled_name_is_seen() {
-    of_rattle(&changed(RATTLE, "#[no_mangle]\npub extern \"C\" fn write", "pub extern \"C\" fn write"));
+    of_rattle(&changed(RATTLE, "#[unsafe(no_mangle)]\npub extern \"C\" fn write", "pub extern \"C\" fn write"));
 }
 
 #[test]

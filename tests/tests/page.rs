@@ -35,10 +35,13 @@ fn page(name: &str) -> String {
     read(&crates().join("promises/specs").join(name).with_extension("antt"))
 }
 
-/// All files below a folder.
+/// All files below a folder, but for what `rt` made.
 fn files(folder: &Path, found: &mut Vec<PathBuf>) {
     for entry in fs::read_dir(folder).into_iter().flatten() {
         let path = entry.expect("an entry").path();
+        if path.ends_with("out") {
+            continue;
+        }
         if path.is_dir() {
             files(&path, found);
         } else {
@@ -49,7 +52,7 @@ fn files(folder: &Path, found: &mut Vec<PathBuf>) {
 
 /// The module and the names of each import from a crate.
 fn imports(text: &str) -> Vec<(String, Vec<String>)> {
-    let lines = text.lines().filter_map(|line| line.strip_prefix("ghost ").or(Some(line))?.strip_prefix("use Rattle·"));
+    let lines = text.lines().filter_map(|line| line.strip_prefix("ghost ").or(Some(line))?.strip_prefix("use Rattle."));
     lines
         .filter_map(|line| line.split_once(".{"))
         .map(|(module, names)| {
@@ -113,14 +116,14 @@ fn statement_files_hold_types_alone() {
 
 #[test]
 fn other_texts_are_refused() {
-    let import = "use Rattle·postman_laws.specs.Laws.Judge.{judged}\n";
-    let theorem = "use Rattle·promises·specs.specs.JudgedTheorem.{Passes}\n";
+    let import = "use Rattle.postman_laws.specs.Laws.Judge.{judged}\n";
+    let theorem = "use Rattle.promises.specs.JudgedTheorem.{Passes}\n";
     let term = "abbrev pub drive : List ℕ → List ℕ\ndrive w = w\n";
     let lemma = "pub floor : Floor\nfloor = tt\n";
     for wrong in [import, theorem, term, lemma] {
         assert!(!faults(wrong).is_empty(), "{wrong}");
     }
-    let right = "use Rattle·postman.specs.Plan.{Plan}\n\n-- A sentence.\nabbrev pub Floor : Type 0\nFloor = (p : Plan)\n    → Bounds p\n";
+    let right = "use Rattle.postman.specs.Plan.{Plan}\n\n-- A sentence.\nabbrev pub Floor : Type 0\nFloor = (p : Plan)\n    → Bounds p\n";
     assert!(faults(right).is_empty());
     assert_eq!(statements(right), ["Floor"]);
     assert_eq!(proved(lemma), ["Floor"]);

@@ -93,7 +93,7 @@ fn with_what_it_rests_on(name: &str) -> Vec<String> {
     let rests_on: BTreeMap<&str, Vec<&str>> = list
         .lines()
         .filter_map(|line| line.split('#').next().expect("the part before a comment").split_once(':'))
-        .map(|(name, others)| (name, others.split_whitespace().collect()))
+        .map(|(name, others)| (name.trim_end_matches(" staticlib"), others.split_whitespace().collect()))
         .collect();
     let mut found = vec![name.to_owned()];
     let mut at = 0;
@@ -238,6 +238,20 @@ fn calls(guide: &str) -> Vec<String> {
         .collect()
 }
 
+/// What is wrong with a function for other languages: it is to promise what a call of its name promises, in a crate below.
+fn unlike(path: &str, function: &Declared, modules: &[(String, String, String)], calls: &[String]) -> Option<String> {
+    let promised = |of: &Declared| -> Vec<String> {
+        let from = ["requires", "ensures"].iter().filter_map(|word| of.clauses.find(word)).min();
+        of.clauses[from.unwrap_or(0)..].split_whitespace().map(str::to_owned).collect()
+    };
+    let call = calls.iter().find(|call| call.ends_with(&format!("::{}", function.name)) && *call != path);
+    let Some(call) = call else { return Some(format!("{path} is not among the calls")) };
+    let (module, _) = call.rsplit_once("::").expect("a path");
+    let below = modules.iter().filter(|(_, name, _)| name == module).flat_map(|(_, _, source)| declared(source));
+    let same = below.filter(|other| other.name == function.name).any(|other| promised(&other) == promised(function));
+    (!same).then(|| format!("{path} does not promise what {call} does"))
+}
+
 /// What is wrong with the public functions: a call that is none, or asks something; a function for other languages that is not listed; one that gives nothing
 /// back by its contract; a step in a module that does not say so.
 fn faults(modules: &[(String, String, String)], calls: &[String]) -> Vec<String> {
@@ -253,8 +267,8 @@ fn faults(modules: &[(String, String, String)], calls: &[String]) -> Vec<String>
             if gives && !function.clauses.contains("ensures") {
                 faults.push(format!("{path} does not say what it gives back"));
             }
-            if function.external && !calls.contains(&path) {
-                faults.push(format!("{path} is not among the calls"));
+            if function.external {
+                faults.extend(unlike(&path, &function, modules, calls));
             }
             if function.public && asks && !comment.contains("steps for other crates") {
                 faults.push(format!(
@@ -291,8 +305,8 @@ fn the_calls_ask_nothing_and_every_function_answers() {
 fn a_call_that_asks_is_seen() {
     let source = |text: &str| vec![("a".to_owned(), "a::call".to_owned(), text.to_owned())];
     let calls = vec!["a::call::f".to_owned(), "a::call::T::g".to_owned()];
-    let good = "// Calls.\npub fn f(x: u8) -> u8\n    ensures { λ r. ⌜ r ≡ x ⌝ }\n{\n    x\n}\nimpl<'a> T<'a> {\n    pub fn g() -> u8\n        ensures { λ r. ⌜ r ≡ 0 ⌝ }\n    {\n        0\n    }\n}\n";
-    let step = "pub fn h(x: u8) -> u8\n    requires { ⌜ x < 2 ⌝ }\n    ensures { λ r. ⌜ r ≡ x ⌝ }\n{\n    x\n}\n";
+    let good = "// Calls.\npub fn f(x: u8) -> u8\n    ensures { result ≡ x }\n{\n    x\n}\nimpl<'a> T<'a> {\n    pub fn g() -> u8\n        ensures { result ≡ 0 }\n    {\n        0\n    }\n}\n";
+    let step = "pub fn h(x: u8) -> u8\n    requires { x < 2 }\n    ensures { result ≡ x }\n{\n    x\n}\n";
     assert_eq!(faults(&source(good), &calls), Vec::<String>::new());
     assert_eq!(
         faults(
@@ -306,15 +320,12 @@ fn a_call_that_asks_is_seen() {
         Vec::<String>::new()
     );
     for wrong in [
-        good.replace("    ensures { λ r. ⌜ r ≡ x ⌝ }\n", ""),
-        good.replace(
-            "    ensures { λ r. ⌜ r ≡ x ⌝ }\n",
-            "    requires { ⌜ x < 2 ⌝ }\n    ensures { λ r. ⌜ r ≡ x ⌝ }\n",
-        ),
+        good.replace("    ensures { result ≡ x }\n", ""),
+        good.replace("    ensures { result ≡ x }\n", "    requires { x < 2 }\n    ensures { result ≡ x }\n"),
         good.replace("pub fn f(x: u8) -> u8\n", "fn f(x: u8) -> u8\n"),
         good.replace("impl", &format!("{step}impl")),
         good.replace("impl", &format!("{}impl", step.replace("pub fn h", "pub extern \"C\" fn h"))),
-        good.replace("pub fn g() -> u8\n        ensures { λ r. ⌜ r ≡ 0 ⌝ }\n    {", "pub fn g() -> u8 {"),
+        good.replace("pub fn g() -> u8\n        ensures { result ≡ 0 }\n    {", "pub fn g() -> u8 {"),
     ] {
         assert_ne!(faults(&source(&wrong), &calls), Vec::<String>::new(), "{wrong}");
     }
@@ -331,7 +342,8 @@ fn edit_fault(of: &str, text: &str) -> Option<&'static str> {
     if text.lines().any(|line| line.starts_with("file:") && !line.starts_with(folder)) {
         return Some("makes no wrong program");
     }
-    let contract = text.lines().any(|line| line.contains("⌜") || line.contains("⌝"));
+    let changed = text.lines().filter_map(|line| line.strip_prefix("old:").or(line.strip_prefix("new:")));
+    let contract = changed.map(str::trim_start).any(|of| of.starts_with("requires") || of.starts_with("ensures"));
     contract.then_some("changes a contract")
 }
 
@@ -355,7 +367,7 @@ fn every_edit_says_which_wrong_program_it_makes() {
     assert_eq!(edit_fault("a", good), None);
     assert!(edit_fault("a", &good.replace("Writes one less.\n", "")).is_some());
     assert!(edit_fault("a", &good.replace("src/", "specs/")).is_some());
-    assert!(edit_fault("a", &good.replace("old: 1", "old:     ensures { λ r. ⌜ r ≡ 1 ⌝ }")).is_some());
+    assert!(edit_fault("a", &good.replace("old: 1", "old:     ensures { result ≡ 1 }")).is_some());
 }
 
 /// The test of the test: sources in which a leg does copy.
@@ -363,7 +375,7 @@ fn every_edit_says_which_wrong_program_it_makes() {
 fn a_copy_is_seen() {
     let lent = "fn write(t: &[[u32; 64]; 64]) { leg(t) }\nfn leg(t: &[[u32; 64]; 64]) -> u32 { t[0][0] }";
     let taken = "fn write(t: &[[u32; 64]; 64]) { leg(*t) } // a copy\nfn leg(t: [[u32; 64]; 64]) -> u32 { t[0][0] }";
-    let given = "fn write() { leg() }\nfn leg() -> [[u32; 64]; 64]\n    requires { ⌜ x ⌝ }\n{ table }";
+    let given = "fn write() { leg() }\nfn leg() -> [[u32; 64]; 64]\n    requires { x }\n{ table }";
     let plan = "fn write(p: &Rows) { leg(p) }\nfn leg(\n    plan: Plan,\n    v: usize,\n) -> usize { v }";
     let flat = "fn write(t: &[u32; 4096]) { leg(*t) }\nfn leg(t: [u32; 4096]) -> u32 { t[0] }";
     let held = "struct Tables { d: [[u32; 64]; 64], n: usize }\nstruct Both { t: Tables }\nfn write(b: &Rows) { leg(b) }\nfn leg(b: crate::Both) -> u32 { 0 }";

@@ -5,7 +5,11 @@ use Rattle.arborescence.specs.Sources.{Sources, AreSources}
 
 abbrev pub laid_out : ℕ → List ℕ → List ℕ → Sources
 laid_out k start source =
-    record { components = k; count = λ q. get_or start (q + 1) 0 - get_or start q 0; source = λ q i. get_or source (get_or start q 0 + i) 0 }
+    record {
+      components = k;
+      count = λ q. get_or start (q + 1) 0 - get_or start q 0;
+      source = λ q i. get_or source (get_or start q 0 + i) 0;
+    }
 
 pub record IsLayout (k : ℕ) (start source : List ℕ) : Type 0 where
   pub few : k ≤ 8

@@ -64,7 +64,7 @@ fn answer(
     sheet: &mut [u16],
 ) -> Planned
     requires measured { IsMeasured (plan_value plan) table.now net × (network_refusal net.components net.cut_off ≡ none) }
-    requires le_budget { (1 ≤ budget) × (sheet_places ≤ length sheet.old) × AreWeights (plan_value plan) weights.now }
+    requires budget_and_sheet { (1 ≤ budget) × (sheet_places ≤ length sheet.old) × AreWeights (plan_value plan) weights.now }
     ensures { IsPlanned (plan_value plan) budget none sheet.old sheet.new result }
 {
     let r = prepare(plan, table, net);
@@ -100,8 +100,8 @@ pub fn plan_tabled(
     budget: u32,
     sheet: &mut [u16],
 ) -> Planned
-    requires well_formed { WellFormed (plan_value plan) × (table.now ≡ table_of (plan_value plan)) × AreWeights (plan_value plan) weights.now }
-    requires le_budget { (1 ≤ budget) × (sheet_places ≤ length sheet.old) }
+    requires tabled { WellFormed (plan_value plan) × (table.now ≡ table_of (plan_value plan)) × AreWeights (plan_value plan) weights.now }
+    requires budget_and_sheet { (1 ≤ budget) × (sheet_places ≤ length sheet.old) }
     ensures { IsPlanned (plan_value plan) budget (plan_refusal (plan_value plan)) sheet.old sheet.new result }
 {
     let net = network::network::network_of(plan, table);

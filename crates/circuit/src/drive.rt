@@ -28,14 +28,14 @@ fn write_circuit(
     places: &mut [u16],
 ) -> usize
     requires well_formed { WellFormed (plan_value plan) × AreWeights (plan_value plan) weights.now }
-    requires tails_len_bound { (length tails.now ≤ 526) × (length order.old ≡ length tails.now) × Eulerian tails.now heads.now }
+    requires has_circuit { (length tails.now ≤ 526) × (length order.old ≡ length tails.now) × Eulerian tails.now heads.now }
     requires have_paths { HavePaths (plan_value plan) numbers.now tails.now heads.now }
-    requires heads_in_bounds { length (places_of (shortest_path (plan_value plan)) numbers.now tails.now heads.now (circuit tails.now heads.now))
+    requires room { length (places_of (shortest_path (plan_value plan)) numbers.now tails.now heads.now (circuit tails.now heads.now))
         ≤ length places.old }
-    ensures places_after { places.new
+    ensures places_written { places.new
         ≡ written (places_of (shortest_path (plan_value plan)) numbers.now tails.now heads.now
         (circuit tails.now heads.now)) places.old }
-    ensures value { result ≡ length
+    ensures place_count { result ≡ length
         (places_of (shortest_path (plan_value plan)) numbers.now tails.now heads.now
         (circuit tails.now heads.now)) }
 {
@@ -58,13 +58,13 @@ pub fn write_drive(
     places: &mut [u16],
 ) -> usize
     requires well_formed { WellFormed (plan_value plan) × AreWeights (plan_value plan) weights.now }
-    requires link_heads_len { (length link_heads.now ≡ length link_tails.now)
+    requires completing { (length link_heads.now ≡ length link_tails.now)
         × Completes (plan_value plan) (links_of link_tails.now link_heads.now) amounts.now }
-    requires sheet_places_in_bounds { sheet_places ≤ length places.old }
-    ensures places_after { places.new
+    requires room { sheet_places ≤ length places.old }
+    ensures places_written { places.new
         ≡ written (drive (plan_value plan) (links_of link_tails.now link_heads.now) amounts.now)
         places.old }
-    ensures value { result ≡ length (drive (plan_value plan) (links_of link_tails.now link_heads.now) amounts.now) }
+    ensures place_count { result ≡ length (drive (plan_value plan) (links_of link_tails.now link_heads.now) amounts.now) }
 {
     let mut numbers = [0u16; 256];
     let mut tails = [0u8; 526];

@@ -24,15 +24,15 @@ fn write_leg(
 ) -> usize
     requires well_formed { WellFormed (plan_in (length weights.now) arcs.now) × AreRows (plan_in (length weights.now) arcs.now) weights.now
         × IsLeavingChain arcs.now chain.now }
-    requires e_in_bounds { (e < length tails.now) × (length heads.now ≡ length tails.now)
+    requires have_paths { (e < length tails.now) × (length heads.now ≡ length tails.now)
         × HavePaths (plan_in (length weights.now) arcs.now) numbers.now tails.now heads.now }
-    requires e_in_bounds_2 { at + length (leg_places (shortest_path (plan_in (length weights.now) arcs.now)) numbers.now tails.now heads.now e)
+    requires room { at + length (leg_places (shortest_path (plan_in (length weights.now) arcs.now)) numbers.now tails.now heads.now e)
         ≤ length places.old }
-    ensures places_after { places.new
+    ensures places_written { places.new
         ≡ overwrite places.old at
         (leg_places (shortest_path (plan_in (length weights.now) arcs.now)) numbers.now tails.now
         heads.now e) }
-    ensures value { result ≡ at
+    ensures next_place { result ≡ at
         + length (leg_places (shortest_path (plan_in (length weights.now) arcs.now)) numbers.now
         tails.now heads.now e) }
 {
@@ -61,16 +61,16 @@ fn write_legs(
 ) -> usize
     requires well_formed { WellFormed (plan_in (length weights.now) arcs.now) × AreRows (plan_in (length weights.now) arcs.now) weights.now
         × IsLeavingChain arcs.now chain.now }
-    requires by_index { (x : ℕ) → x < length order.now → get_or order.now x 0 < length tails.now }
-    requires heads_len { (length heads.now ≡ length tails.now)
+    requires in_range { (x : ℕ) → x < length order.now → get_or order.now x 0 < length tails.now }
+    requires have_paths { (length heads.now ≡ length tails.now)
         × HavePaths (plan_in (length weights.now) arcs.now) numbers.now tails.now heads.now }
-    requires order_in_bounds { length
+    requires room { length
         (places_of (shortest_path (plan_in (length weights.now) arcs.now)) numbers.now tails.now heads.now order.now)
         ≤ length places.old }
-    ensures places_after { places.new
+    ensures places_written { places.new
         ≡ written (places_of (shortest_path (plan_in (length weights.now) arcs.now)) numbers.now
         tails.now heads.now order.now) places.old }
-    ensures value { result ≡ length
+    ensures place_count { result ≡ length
         (places_of (shortest_path (plan_in (length weights.now) arcs.now)) numbers.now tails.now
         heads.now order.now) }
 {
@@ -105,16 +105,16 @@ pub(crate) fn write(
 ) -> usize
     requires well_formed { WellFormed (plan_in (length weights.now) arcs.now)
         × AreRows (plan_in (length weights.now) arcs.now) weights.now }
-    requires by_index { (x : ℕ) → x < length order.now → get_or order.now x 0 < length tails.now }
-    requires heads_len { (length heads.now ≡ length tails.now)
+    requires in_range { (x : ℕ) → x < length order.now → get_or order.now x 0 < length tails.now }
+    requires have_paths { (length heads.now ≡ length tails.now)
         × HavePaths (plan_in (length weights.now) arcs.now) numbers.now tails.now heads.now }
-    requires order_in_bounds { length
+    requires room { length
         (places_of (shortest_path (plan_in (length weights.now) arcs.now)) numbers.now tails.now heads.now order.now)
         ≤ length places.old }
-    ensures places_after { places.new
+    ensures places_written { places.new
         ≡ written (places_of (shortest_path (plan_in (length weights.now) arcs.now)) numbers.now
         tails.now heads.now order.now) places.old }
-    ensures value { result ≡ length
+    ensures place_count { result ≡ length
         (places_of (shortest_path (plan_in (length weights.now) arcs.now)) numbers.now tails.now
         heads.now order.now) }
 {

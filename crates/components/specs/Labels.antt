@@ -42,4 +42,5 @@ roots_below required labels v = length (select (is_root required labels) (below 
 
 -- The number of v's component; for a vertex that is not required, the number of components.
 abbrev pub number_of : List Bool → List ℕ → ℕ → ℕ
-number_of required labels v = cond (get_or required v false) (roots_below required labels (get_or labels v 0)) (roots_below required labels 64)
+number_of required labels v = cond (get_or required v false) (roots_below required labels (get_or labels v 0))
+    (roots_below required labels 64)

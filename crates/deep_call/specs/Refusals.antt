@@ -20,4 +20,5 @@ earlier_conditions_in bytes budget rounds places = conditions_before bytes budge
 
 unfoldable pub deep_refusal : List ℕ → ℕ → ℕ → ℕ → Option ℕ
 unfolding first_refusal earlier_conditions_in is_cut_off plan_of
-deep_refusal bytes budget rounds places = first_refusal (earlier_conditions_in bytes budget rounds places ++ (is_cut_off (plan_of bytes), 12) ∷ [])
+deep_refusal bytes budget rounds places = first_refusal (earlier_conditions_in bytes budget rounds places
+    ++ (is_cut_off (plan_of bytes), 12) ∷ [])

@@ -34,7 +34,7 @@ fn lay_best(
 ) -> Planned
     requires tabled { IsTabled (plan_value plan) table.now weights.now × (plan_refusal (plan_value plan) ≡ none)
         × (d.kept ≡ kept_after (plan_value plan) budget (rounds - 1)) × IsHeld (plan_value plan) d × (sheet_places ≤ length sheet.old) }
-    requires le_budget { (1 ≤ budget) × (budget ≤ 1000000) × (rounds ≤ 1000) }
+    requires within_limits { (1 ≤ budget) × (budget ≤ 1000000) × (rounds ≤ 1000) }
     ensures { IsDeep (plan_value plan) budget rounds none sheet.old sheet.new result }
 {
     let k = d.kept;
@@ -65,7 +65,7 @@ fn plan_deep(
     sheet: &mut [u16],
 ) -> Planned
     requires tabled { IsTabled (plan_value plan) table.now weights.now × (sheet_places ≤ length sheet.old) }
-    requires le_budget { (1 ≤ budget) × (budget ≤ 1000000) × (1 ≤ rounds) × (rounds ≤ 1000) }
+    requires within_limits { (1 ≤ budget) × (budget ≤ 1000000) × (1 ≤ rounds) × (rounds ≤ 1000) }
     ensures { IsDeep (plan_value plan) budget rounds (plan_refusal (plan_value plan)) sheet.old sheet.new result }
 {
     match plan_verdict(plan, table) {

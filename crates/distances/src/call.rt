@@ -30,8 +30,8 @@ fn plan_distances(plan: Plan, pairs: &[u16], distances: &mut [u32]) -> Searched
 // entry untouched; or the number of searches run, one for each first vertex, with the pairs' distances in the list from its
 // start and the entries after them untouched.
 pub fn distance_call(bytes: &[u8], pairs: &[u16], distances: &mut [u32]) -> Searched
-    ensures result_value { searched_answer result ≡ distance_answer bytes.now pairs.now (length distances.old) }
-    ensures distances_after { distances.new ≡ distances_after bytes.now pairs.now distances.old }
+    ensures answered { searched_answer result ≡ distance_answer bytes.now pairs.now (length distances.old) }
+    ensures distances_written { distances.new ≡ distances_after bytes.now pairs.now distances.old }
 {
     let reading = plan_file::reader::read_plan(bytes);
     let plan = reading.plan;

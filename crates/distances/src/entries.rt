@@ -47,8 +47,8 @@ fn search(plan: Plan, source: usize, pairs: &[u16], distances: &mut [u32])
 // The entries of all pairs, from the start of the list, and the number of searches.
 pub(crate) fn put_entries(plan: Plan, pairs: &[u16], distances: &mut [u32]) -> u16
     requires { WellFormed (plan_value plan) × ArePairs (plan_value plan).n pairs.now × (length pairs.now ≤ length distances.old) }
-    ensures value { result ≡ search_count pairs.now }
-    ensures distances_after { distances.new
+    ensures searches { result ≡ search_count pairs.now }
+    ensures entries_written { distances.new
         ≡ map («entry_of» (plan_value plan)) pairs.now ++ drop (length pairs.now) distances.old }
 {
     let mut searches: u16 = 0;

@@ -31,7 +31,8 @@ moved_unless (some r) new old = old
 -- THE MACHINE AFTER AN ENTRY.
 abbrev pub after_entry : Machine → List ℕ → ℕ → Machine
 after_entry m bytes budget =
-    moved_unless (entry_refusal (line_of m) bytes budget) (machine_of (waiting_in m ++ entrant (lowest_free (line_of m)) bytes budget ∷ [])) m
+    moved_unless (entry_refusal (line_of m) bytes budget) (machine_of (waiting_in m ++ entrant (lowest_free (line_of m)) bytes budget
+    ∷ [])) m
 
 -- The refusal, or the lowest free place; and the machine afterwards.
 pub record IsEntered (m : Machine) (bytes : List ℕ) (budget : ℕ) (r : Entered) : Type 0 where

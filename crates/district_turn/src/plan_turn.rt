@@ -100,11 +100,11 @@ fn last(
 ) -> DistrictTurn
     requires { IsPreparation (plan_value plan) table.now r × HoldsTree (plan_value plan) x.tails x.heads
         × (x.cost ≤ 4398046511104) × (sheet_places ≤ length sheet.old) × AreWeights (plan_value plan) weights.now }
-    ensures good_value { (result.good ≡ true) × (result.done ≡ true)
+    ensures is_done { (result.good ≡ true) × (result.done ≡ true)
         × (result.planned
         ≡ concluded (plan_value plan) (links_in (component_count (plan_value plan) - 1) x.tails x.heads) x.cost x.total
         x.whole) }
-    ensures sheet_after { sheet.new
+    ensures sheet_written { sheet.new
         ≡ written (tree_drive (plan_value plan) (links_in (component_count (plan_value plan) - 1) x.tails x.heads))
         sheet.old }
 {
@@ -181,7 +181,7 @@ fn turn_accepted(
 ) -> DistrictTurn
     requires measured { IsMeasured (plan_value plan) table.now net × (network_refusal net.components net.cut_off ≡ none)
         × (g.tried ≤ 1000000) }
-    requires le_budget { (1 ≤ budget) × (sheet_places ≤ length sheet.old) × AreWeights (plan_value plan) weights.now }
+    requires budget_and_sheet { (1 ≤ budget) × (sheet_places ≤ length sheet.old) × AreWeights (plan_value plan) weights.now }
     ensures { IsDistrictTurn (plan_value plan) budget g (is_resumable (plan_value plan) budget g) sheet.old sheet.new result }
 {
     let r = prepare(plan, table, net);
@@ -226,8 +226,8 @@ fn turn_tabled(
     g: Reached,
     sheet: &mut [u16],
 ) -> DistrictTurn
-    requires well_formed { WellFormed (plan_value plan) × (table.now ≡ table_of (plan_value plan)) × AreWeights (plan_value plan) weights.now }
-    requires le_budget { (1 ≤ budget) × (sheet_places ≤ length sheet.old) × (g.tried ≤ 1000000) }
+    requires tabled { WellFormed (plan_value plan) × (table.now ≡ table_of (plan_value plan)) × AreWeights (plan_value plan) weights.now }
+    requires budget_and_sheet { (1 ≤ budget) × (sheet_places ≤ length sheet.old) × (g.tried ≤ 1000000) }
     ensures { IsDistrictTurn (plan_value plan) budget g (can_go_on (plan_value plan) budget g) sheet.old sheet.new result }
 {
     let net = network::network::network_of(plan, table);

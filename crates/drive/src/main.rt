@@ -1,122 +1,156 @@
 // `drive`: a plan on standard input, the drive and its floor on standard output, what went wrong on standard error.
 #![tactic(auto)]
 
-ghost use Rattle.std.specs.Prelude.{◌<◌, pos, ◌≤ℤ◌};
+ghost use Rattle.std.specs.Prelude.{◌<◌, ◌≤◌, length, pos, ◌≤ℤ◌};
 
 use drive_output::message::{say, say_word};
 use drive_output::output::{flush, put, put_line};
-use libc::STDIN_FILENO;
 use planner::call::plan_call;
 use refusal::Verdict;
 use solution::Planned;
+use std::env::FillError;
+use std::io::Read;
+use std::rt::Env;
 
 // The budget of the call, whatever the short call's is: what is printed for a plan stays the same.
 const BUDGET: u64 = 10_000;
 
 // ---- printing
 
-fn put_floor(space: &mut [u8; 4096], waiting: usize, x: i64) -> usize
+fn put_floor(rt: &(impl Print + Eprint), space: &mut [u8; 4096], waiting: usize, x: i64) -> usize
     requires { (waiting < 4096) × (pos 0 ≤ℤ x) }
     ensures { result < 4096 }
 {
-    put_line(space, waiting, b"floor ", x as u64)
+    put_line(rt, space, waiting, b"floor ", x as u64)
 }
 
-fn put_whole(space: &mut [u8; 4096], waiting: usize, whole: bool) -> usize
+fn put_whole(
+    rt: &(impl Print + Eprint),
+    space: &mut [u8; 4096],
+    waiting: usize,
+    whole: bool,
+) -> usize
     requires { waiting < 4096 }
     ensures { result < 4096 }
 {
     if whole {
-        return put(space, waiting, b"whole yes\n");
+        return put(rt, space, waiting, b"whole yes\n");
     }
-    put(space, waiting, b"whole no\n")
+    put(rt, space, waiting, b"whole no\n")
 }
 
 // The lines before the places.
-fn put_answer(space: &mut [u8; 4096], r: Planned) -> usize
+fn put_answer(rt: &(impl Print + Eprint), space: &mut [u8; 4096], r: Planned) -> usize
     requires { pos 0 ≤ℤ r.floor }
     ensures { result < 4096 }
 {
-    let cost = put_line(space, 0, b"cost ", r.cost);
-    let floor = put_floor(space, cost, r.floor);
-    let trees = put_line(space, floor, b"trees ", r.trees as u64);
-    let whole = put_whole(space, trees, r.whole);
-    put_line(space, whole, b"parts ", r.parts as u64)
+    let cost = put_line(rt, space, 0, b"cost ", r.cost);
+    let floor = put_floor(rt, space, cost, r.floor);
+    let trees = put_line(rt, space, floor, b"trees ", r.trees as u64);
+    let whole = put_whole(rt, space, trees, r.whole);
+    put_line(rt, space, whole, b"parts ", r.parts as u64)
 }
 
-fn put_arc(space: &mut [u8; 4096], waiting: usize, number: u16) -> usize
+fn put_arc(rt: &(impl Print + Eprint), space: &mut [u8; 4096], waiting: usize, number: u16) -> usize
     requires { waiting < 4096 }
     ensures { result < 4096 }
 {
-    put_line(space, waiting, b"arc ", number as u64)
+    put_line(rt, space, waiting, b"arc ", number as u64)
 }
 
-fn put_places(space: &mut [u8; 4096], waiting: usize, sheet: &[u16]) -> usize
+fn put_places(
+    rt: &(impl Print + Eprint),
+    space: &mut [u8; 4096],
+    waiting: usize,
+    sheet: &[u16],
+) -> usize
     requires { waiting < 4096 }
     ensures { result < 4096 }
 {
     let mut n = waiting;
-    for i in 0..sheet.len() {
-        n = put_arc(space, n, sheet[i]);
+    for place in sheet {
+        n = put_arc(rt, space, n, *place);
     }
     n
 }
 
-fn print_answer(r: Planned, sheet: &[u16])
+fn print_answer(rt: &(impl Print + Eprint), r: Planned, sheet: &[u16])
     requires { pos 0 ≤ℤ r.floor }
 {
-    let mut space = io::buffer();
-    let n = put_answer(&mut space, r);
-    let all = put_places(&mut space, n, sheet);
-    flush(space, all);
+    let mut space = [0u8; 4096];
+    let n = put_answer(rt, &mut space, r);
+    let all = put_places(rt, &mut space, n, sheet);
+    flush(rt, space, all);
 }
 
-fn print_refusal(number: u8) {
-    let mut space = io::buffer();
-    let all = put_line(&mut space, 0, b"refused ", number as u64);
-    flush(space, all);
-    say_word(number);
+fn print_refusal(rt: &(impl Print + Eprint), number: u8) {
+    let mut space = [0u8; 4096];
+    let all = put_line(rt, &mut space, 0, b"refused ", number as u64);
+    flush(rt, space, all);
+    say_word(rt, number);
 }
 
 // ---- reading
 
+// Reads until the buffer is full, the input ends or a read fails, and answers how many bytes it put at the buffer's start.
+fn read_full(input: &mut impl Read, space: &mut [u8]) -> usize
+    ensures { result ≤ length space.new }
+{
+    let mut done = 0;
+    while done < space.len() {
+        match input.read(&mut space[done..]) {
+            Ok(0) | Err(_) => break,
+            Ok(n) => done += n,
+        }
+    }
+    done
+}
+
 // Reads once, and answers whether something came.
-fn pass() -> bool {
-    let mut space = io::buffer();
-    io::read_full(STDIN_FILENO, &mut space) != 0
+fn pass(input: &mut impl Read) -> bool {
+    let mut space = [0u8; 4096];
+    read_full(input, &mut space) != 0
 }
 
 // Reads what is left, so that whoever writes it can end. A proved loop has to end, and nothing says that the input does: the turns are
-// counted down, from a number that no run uses up.
-fn pass_all() {
-    let mut turns = u64::MAX;
-    while turns > 0 && pass() {
-        turns -= 1;
+// counted, to a number that no run reaches.
+fn pass_all(input: &mut impl Read) {
+    for _ in 0..u64::MAX {
+        if !pass(input) {
+            break;
+        }
     }
 }
 
 // The longest plan has 1,475 bytes. A file longer than the buffer is refused for what its first 4,096 bytes hold, as the
 // whole would be (`planner`'s `Laws.LongFile`).
-fn run() {
-    let mut file = io::buffer();
-    let n = io::read_full(STDIN_FILENO, &mut file);
-    pass_all();
+fn run(rt: &(impl Input + Print + Eprint)) {
+    let mut input = rt.reader();
+    let mut file = [0u8; 4096];
+    let n = read_full(&mut input, &mut file);
+    pass_all(&mut input);
     let mut sheet = [0u16; 17266];
     let r = plan_call(&file[..n], BUDGET, &mut sheet);
     let verdict = r.verdict;
     let count = r.places;
     match verdict {
-        Verdict::Accepted => print_answer(r, &sheet[..count]),
-        Verdict::Refused(q) => print_refusal(refusal::refusal_number(q)),
+        Verdict::Accepted => print_answer(rt, r, &sheet[..count]),
+        Verdict::Refused(q) => print_refusal(rt, refusal::refusal_number(q)),
     }
 }
 
+// Whether there is an argument after the program's name.
+fn has_argument(rt: &impl Env) -> bool {
+    let mut start = [0u8; 1];
+    !matches!(rt.arg(1, &mut start), Err(FillError::NotPresent))
+}
+
 // Whoever names a file as an argument would wait for a plan that is never read.
-fn main() {
-    if 1 < os::arg_count() {
-        say(b"no argument is taken");
-        say(b"usage: drive < FILE");
+fn main(rt: HostRuntime) {
+    if has_argument(&rt) {
+        say(&rt, "no argument is taken");
+        say(&rt, "usage: drive < FILE");
         return;
     }
-    run();
+    run(&rt);
 }

@@ -24,7 +24,8 @@ places_of path numbers tails heads order = flat_map (leg_places path numbers tai
 
 unfoldable pub drive_by : (ℕ → ℕ → List ℕ) → Plan → List Link → List ℕ → List ℕ
 drive_by path p t amounts =
-    places_of path (required_numbers p) (leg_tails p t amounts) (leg_heads p t amounts) (circuit (leg_tails p t amounts) (leg_heads p t amounts))
+    places_of path (required_numbers p) (leg_tails p t amounts) (leg_heads p t amounts)
+    (circuit (leg_tails p t amounts) (leg_heads p t amounts))
 
 -- The drive that is written: its paths are the shortest paths of the plan.
 unfoldable pub drive : Plan → List Link → List ℕ → List ℕ

@@ -1,5 +1,5 @@
 -- The legs of a drive: each required arc once, each link of an arborescence once, and each unit of the amounts that balance them once.
-use Rattle.std.specs.Prelude.{not, ℕ, ◌+◌, ◌≤◌, ◌<◌, length, get_or, replicate, T}
+use Rattle.std.specs.Prelude.{not, ℕ, ◌≤◌, ◌<◌, length, get_or, replicate, T}
 use mathlib.Core.List.{List, ◌++◌, map, flat_map, Memᴰ}
 use Rattle.postman.specs.Lists.{below}
 use Rattle.postman.specs.Plan.{Arc, Plan, required_arcs}

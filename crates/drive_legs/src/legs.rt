@@ -105,7 +105,7 @@ pub fn lay(
     heads: &mut [u8; 526],
 ) -> Counts
     requires well_formed { WellFormed (plan_value plan) × (length numbers.old ≡ 256) × (length tails.old ≡ 526) × (length heads.old ≡ 526) }
-    requires link_heads_len { (length link_heads.now ≡ length link_tails.now)
+    requires room { (length link_heads.now ≡ length link_tails.now)
         × (length (required_numbers (plan_value plan)) + length link_tails.now + length (units amounts.now) ≤ 526) }
     ensures { Laid (plan_value plan) (links_of link_tails.now link_heads.now) amounts.now
         numbers.new tails.new heads.new result.required result.legs }

@@ -50,8 +50,8 @@ fn pass_cost(cost: u16, service: u16, due: bool) -> u32
 
 // The cost of the list, and the flags of the must arcs that are still due at its end.
 pub fn priced(arcs: &[[u16; 5]], required: [bool; 256], places: &[u16]) -> Tally
-    requires places_value { has_foreign (plan_over arcs.now) places.now ≡ false }
-    requires arcs_len_bound { (length arcs.now ≤ 256) × (drive_cost (plan_over arcs.now) places.now < 2 ^ 32)
+    requires none_foreign { has_foreign (plan_over arcs.now) places.now ≡ false }
+    requires cost_fits { (length arcs.now ≤ 256) × (drive_cost (plan_over arcs.now) places.now < 2 ^ 32)
         × AreDue required (required_numbers (plan_over arcs.now)) }
     ensures { IsTally (plan_over arcs.now) places.now result }
 {

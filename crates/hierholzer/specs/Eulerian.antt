@@ -9,7 +9,8 @@ pub record Eulerian (tails heads : List ℕ) : Type 0 where
   pub some : 0 < length tails
   pub ends : length heads ≡ length tails
   pub balanced : (v : ℕ) → occurrences v tails ≡ occurrences v heads
-  pub connected : (X : ℕ → Bool) → T (X (get_or tails 0 0)) → ((e : ℕ) → e < length tails → T (X (get_or tails e 0)) → T (X (get_or heads e 0)))
+  pub connected : (X : ℕ → Bool) → T (X (get_or tails 0 0)) → ((e : ℕ) → e < length tails → T (X (get_or tails e 0))
+      → T (X (get_or heads e 0)))
       → (e : ℕ) → e < length tails → T (X (get_or tails e 0))
 
 -- `Joined tails heads i w j`: the legs w lead from vertex i to vertex j, each leg's head the next one's tail.

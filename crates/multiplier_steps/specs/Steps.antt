@@ -23,7 +23,8 @@ capped_all x vs = turns (λ s a. set s (get_or vs a 0) (capped (get_or x (get_or
 unfoldable pub rooted : List ℤ → List ℕ → List ℤ
 unfolding turns
 rooted x vs =
-    turns (λ s a. set s (get_or vs a 0) (get_or x (get_or vs a 0) (pos 0) -ℤ get_or x (get_or vs 0 0) (pos 0))) (replicate 64 (pos 0)) (length vs)
+    turns (λ s a. set s (get_or vs a 0) (get_or x (get_or vs a 0) (pos 0) -ℤ get_or x (get_or vs 0 0) (pos 0))) (replicate 64 (pos 0))
+    (length vs)
 
 -- What a step goes on from: the multipliers y, and half of what the last step changed, from
 -- `before` to x, once more. The half is rounded down.

@@ -2,10 +2,7 @@
 use Rattle.std.specs.Prelude.{◌≡◌}
 use Rattle.postman.specs.Plan.{Plan}
 use Rattle.postman.specs.Required.{required_cost}
-use Rattle.postman.specs.Component.{component}
-use Rattle.postman.specs.Balancing.{imbalance}
 use Rattle.postman.specs.PlanCall.{is_cut_off}
-use Rattle.postman.specs.Link.{links}
 use Rattle.network.specs.declared.network.Network.{Network}
 use Rattle.required.specs.StepContracts.{IsComponents, IsImbalance, IsLinks, IsRequiredFlags}
 

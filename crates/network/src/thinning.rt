@@ -18,7 +18,8 @@ fn is_pair(i: usize, j: usize, a: bool, b: bool) -> bool
 
 // All pairs of required vertices, (i, j) at 64 i + j.
 pub(crate) fn pairs(required: [bool; 64]) -> [bool; 4096]
-    ensures { (length result ≡ 4096) × ((i j : ℕ) → i < 64 → j < 64 → flag result i j ≡ is_pair i j (get_or required i false) (get_or required j false)) }
+    ensures { (length result ≡ 4096) × ((i j : ℕ) → i < 64 → j < 64
+        → flag result i j ≡ is_pair i j (get_or required i false) (get_or required j false)) }
 {
     let mut held = [false; 4096];
     for i in 0..64 {

@@ -25,10 +25,15 @@ held_bytes h = number_bytes (h.length % 65536) ++ h.file
 
 -- The open plan that is lent: its own file, then those of marks 0 to 3. Whatever the bytes are, they are one.
 abbrev pub open_in : List ℕ → OpenPlan
-open_in bytes = record { plan = held_in bytes 0; marks = held_in bytes 1477 ∷ held_in bytes 2954 ∷ held_in bytes 4431 ∷ held_in bytes 5908 ∷ [] }
+open_in bytes = record {
+  plan = held_in bytes 0;
+  marks = held_in bytes 1477 ∷ held_in bytes 2954 ∷ held_in bytes 4431 ∷ held_in bytes 5908
+      ∷ [];
+}
 
 unfoldable pub state_bytes : OpenPlan → List ℕ
-state_bytes s = held_bytes s.plan ++ held_bytes (mark_in s 0) ++ held_bytes (mark_in s 1) ++ held_bytes (mark_in s 2) ++ held_bytes (mark_in s 3)
+state_bytes s = held_bytes s.plan ++ held_bytes (mark_in s 0) ++ held_bytes (mark_in s 1) ++ held_bytes (mark_in s 2)
+    ++ held_bytes (mark_in s 3)
 
 -- A call's answer in a number and the lent state, which a refusal does not change; bytes after the state are untouched.
 pub record IsStored (r : Moved) (bytes bytes' : List ℕ) (number : ℤ) : Type 0 where

@@ -25,13 +25,7 @@ pub fn postman_open(plan: &[u8], state: &mut [u8]) -> i64
 }
 
 // A CHANGE of one arc's costs and standing. A slice that is too short for the state is refused as 8 first, here and in what follows.
-pub fn postman_change(
-    state: &mut [u8],
-    arc: u32,
-    cost: u16,
-    checking: u16,
-    standing: u8,
-) -> i64
+pub fn postman_change(state: &mut [u8], arc: u32, cost: u16, checking: u16, standing: u8) -> i64
     ensures { IsExportedMove («a-change» (change_of arc cost checking standing)) state.old state.new result }
 {
     if state.len() < 7_385 {

@@ -2,7 +2,7 @@
 -- weights that count cost first and arcs second.
 use Rattle.std.specs.Prelude.{Bool, cond, ◌&&◌, List, [], ◌∷◌, ℕ, zero, suc, ◌+◌, ◌*◌, length, get_or, eqb}
 use Rattle.postman.specs.Lists.{first_index, below}
-use Rattle.postman.specs.Plan.{Arc, Plan, is_open, arc_at}
+use Rattle.postman.specs.Plan.{Plan, is_open, arc_at}
 use Rattle.postman.specs.Distance.{distance}
 use Rattle.plan.specs.Rows.{arc_in}
 use Rattle.shortest.specs.Weight.{weighted}

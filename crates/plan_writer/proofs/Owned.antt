@@ -1,19 +1,16 @@
 -- What owning a plan by value tells: each record's costs are in their type's range.
-use mathlib.Core.List.{List, [], ◌∷◌, map}
+use mathlib.Core.List.{List, [], ◌∷◌}
 use Prim.Native.Nat.{zero, suc}
 use lib.Dec.{lit<}
 use mir.Val.{Val}
 use denote.Array.{each}
 use denote.Shadow.{shadow}
 use Rattle.plan.specs.declared.Arc.{Arc}
-use Rattle.plan.specs.contracts.Arc.{the_values as Data, the_field}
+use Rattle.plan.specs.contracts.Arc.{the_row}
 use Rattle.plan_writer.specs.Laws.Reread.{CostsFit}
 
-abbrev values : Arc → Data
-values a = (a.tail, (a.head, (a.standing, (a.cost, (a.service, tt)))))
-
 abbrev Owned : List Arc → List Val → Type 0
-Owned records us = shadow (each the_field.row.Denot the_field.row.own_val (map values records) us)
+Owned records us = shadow (each the_row.Denot the_row.own_val records us)
 
 pub owned_costs : (records : List Arc) (us : List Val) → Owned records us → CostsFit records
 owned_costs [] us p k = (lit< tt, lit< tt)

@@ -10,8 +10,7 @@ unfoldable pub both_ways : List Arc → List Arc
 both_ways [] = []
 both_ways (a ∷ arcs) =
     record { tail = a.tail; head = a.head; standing = 0; cost = 0; service = 0 }
-    ∷ record { tail = a.head; head = a.tail; standing = 0; cost = 0; service = 0 }
-    ∷ both_ways arcs
+    ∷ record { tail = a.head; head = a.tail; standing = 0; cost = 0; service = 0 } ∷ both_ways arcs
 
 -- The graph of the required arcs, direction ignored.
 unfoldable pub required_graph : Plan → Plan

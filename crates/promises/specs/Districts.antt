@@ -67,7 +67,8 @@ NobodyInside = (es : List Event) (sheet : List ℕ) (t : Turn es sheet) → run 
 
 -- "A short one gets 8, and there […] nothing moves."
 abbrev pub ShortSheets : Type 0
-ShortSheets = (es : List Event) (sheet : List ℕ) (t : Turn es sheet) (d : District) (l : Line) → run es ≡ d ∷ l → length sheet < sheet_places
+ShortSheets = (es : List Event) (sheet : List ℕ) (t : Turn es sheet) (d : District) (l : Line) → run es ≡ d ∷ l
+    → length sheet < sheet_places
     → (t.answer.outcome ≡ ShortSheet) × (t.answer.machine ≡ t.machine) × (t.after ≡ sheet)
 
 -- "A turn goes to the front district and takes 1,000 trees or the rest of T. An unfinished one answers the trees so far and their least

@@ -3,7 +3,8 @@
 use Rattle.std.specs.Prelude.{◌≡◌, not, ℕ, ◌+◌, ◌*◌, ◌/◌, ◌≤◌, length, drop, ℤ, pos, neg_ℤ, T}
 use mathlib.Core.List.{List, [], ◌++◌, flat_map}
 use Rattle.std.proofs.Math.Option.{none, some}
-use Rattle.postman.specs.PlanFile.{edition, vertex_count, arc_count, plan_of, read_refusal, read_answer, file_length, file_of, write_refusal}
+use Rattle.postman.specs.PlanFile.{edition, vertex_count, arc_count, plan_of, read_refusal, read_answer, file_length, file_of}
+use Rattle.postman.specs.PlanFile.{write_refusal}
 use Rattle.postman.specs.PlanFile.{write_answer, bytes_after}
 use Rattle.postman.specs.Windows.{Departure, is_bad_departure}
 use Rattle.postman.specs.TreeCount.{count_call}

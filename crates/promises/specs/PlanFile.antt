@@ -4,7 +4,8 @@ use mathlib.Core.List.{List, ◌++◌, map, Memᴰ}
 use Rattle.std.proofs.Math.Option.{none, some}
 use Rattle.postman.specs.Plan.{Arc as Fields}
 use Rattle.postman.specs.Refusal.{refused, given}
-use Rattle.postman.specs.PlanFile.{edition, vertex_count, arc_count, plan_of, read_refusal, read_answer, records_after, IsRecord, file_length}
+use Rattle.postman.specs.PlanFile.{edition, vertex_count, arc_count, plan_of, read_refusal, read_answer}
+use Rattle.postman.specs.PlanFile.{records_after, IsRecord, file_length}
 use Rattle.postman.specs.PlanFile.{file_of, write_refusal, write_answer, bytes_after}
 use Rattle.plan.specs.declared.Arc.{Arc}
 use Rattle.plan.specs.Records.{arc_value}

@@ -1,4 +1,5 @@
-// The refusals of every call. A new one is a line in `Refusal`, in `refusal_number` and in `refusal_number` of `specs/Verdict.antt`, and two
+// The refusals of every call. A new one is a line in `Refusal`, in `refusal_number` and in `refusal_number` of `specs/Verdict.antt`, and
+// two
 // cases in the proof of `refusal_number`; which of them a call can give is said by its contract.
 #![tactic(auto)]
 

@@ -25,7 +25,8 @@ fn packed(a: Arc) -> u64
 // The first m arcs as numbers.
 fn packed_arcs(arcs: [Arc; 256], m: usize) -> [u64; 256]
     requires { m ≤ 256 }
-    ensures { (length result ≡ 256) × ((k : ℕ) → k < m → (get_or result k 0 ≡ packed_arc (record_at arcs k)) × IsRecord (record_at arcs k)) }
+    ensures { (length result ≡ 256) × ((k : ℕ) → k < m → (get_or result k 0 ≡ packed_arc (record_at arcs k))
+        × IsRecord (record_at arcs k)) }
 {
     let mut numbers = [0u64; 256];
     for k in 0..m {
@@ -37,8 +38,8 @@ fn packed_arcs(arcs: [Arc; 256], m: usize) -> [u64; 256]
 // Whether x stands before place n.
 fn stands_before(numbers: &[u64; 256], n: usize, x: u64) -> bool
     requires { n ≤ 256 }
-    ensures by_index { result ≡ true → (j : ℕ) × (j < n) × (get_or numbers.now j 0 ≡ x) }
-    ensures fact { result ≡ false → (j : ℕ) → j < n → get_or numbers.now j 0 ≡ x → ⊥ }
+    ensures found { result ≡ true → (j : ℕ) × (j < n) × (get_or numbers.now j 0 ≡ x) }
+    ensures absent { result ≡ false → (j : ℕ) → j < n → get_or numbers.now j 0 ≡ x → ⊥ }
 {
     for j in 0..n {
         if numbers[j] == x {

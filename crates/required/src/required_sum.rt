@@ -56,7 +56,8 @@ fn counted(a: Arc) -> u64
 // How many required arcs have that end at each vertex: the in-degrees or the out-degrees.
 fn degrees(plan: Plan, heads: bool) -> [u64; 64]
     requires { WellFormed (plan_value plan) }
-    ensures { (v : ℕ) → v < 64 → (get_or result v 0 ≡ occurrences v (map (end_of heads) (required_arcs (plan_value plan)))) × (get_or result v 0 ≤ 256) }
+    ensures { (v : ℕ) → v < 64 → (get_or result v 0 ≡ occurrences v (map (end_of heads) (required_arcs (plan_value plan))))
+        × (get_or result v 0 ≤ 256) }
 {
     let mut counts = [0u64; 64];
     let m = plan.m as usize;

@@ -181,7 +181,8 @@ next_kept p budget round k = round_with p budget (next_round p budget round k) k
 -- What is kept after the first round and r more; the next one is round r + 2. It ends as soon as floor and cost meet.
 unfoldable pub kept_after : Plan → ℕ → ℕ → Kept
 unfolding begun best_cost floor_of multipliers_for left_of tried_count have_met next_kept
-kept_after p budget zero = begun budget (best_cost p budget) (floor_of p budget) (multipliers_for p) (left_of p budget) (tried_count p budget)
+kept_after p budget zero = begun budget (best_cost p budget) (floor_of p budget) (multipliers_for p) (left_of p budget)
+    (tried_count p budget)
 kept_after p budget (suc r) =
     cond (have_met (kept_after p budget r)) (kept_after p budget r) (next_kept p budget (r + 2) (kept_after p budget r))
 

@@ -3,76 +3,75 @@
 // list is nines, and every byte of a slice ee.
 #![tactic(auto)]
 
-use libc::STDOUT_FILENO;
 use plan::{Arc, Plan};
 use plan_file::reader::read_plan;
 use plan_writer::Written;
 use records::arrays::{Filled, read_array, write_array};
 use records::reader::Read;
 use refusal::{Refusal, Verdict};
+use std::rt::Files;
+use std::{env, fs, io};
 
 // ---- what is printed
 
-fn text(s: &[u8]) {
-    io::write_all(STDOUT_FILENO, s);
+fn text(rt: &impl Print, s: &str) {
+    let _ = print!(rt; "{s}");
 }
 
 // A label, and a number after it.
-fn number(label: &[u8], n: u64) {
-    text(label);
-    io::print_decimal(STDOUT_FILENO, n);
+fn number(rt: &impl Print, label: &str, n: u64) {
+    let _ = print!(rt; "{label}{n}");
 }
 
-fn byte(b: u8) {
-    text(b" ");
-    io::print_hex(STDOUT_FILENO, b as u64, 2);
+fn byte(rt: &impl Print, b: u8) {
+    let _ = print!(rt; " {b:02x}");
 }
 
-fn bytes(s: &[u8]) {
-    for i in 0..s.len() {
-        byte(s[i]);
+fn bytes(rt: &impl Print, s: &[u8]) {
+    for b in s {
+        byte(rt, *b);
     }
 }
 
-fn refusal(r: Refusal) {
-    number(b"refused ", refusal::refusal_number(r) as u64);
+fn refusal(rt: &impl Print, r: Refusal) {
+    number(rt, "refused ", refusal::refusal_number(r) as u64);
 }
 
-fn counts(edition: u8, n: u8, m: u16) {
-    number(b"edition ", edition as u64);
-    number(b" n ", n as u64);
-    number(b" m ", m as u64);
+fn counts(rt: &impl Print, edition: u8, n: u8, m: u16) {
+    number(rt, "edition ", edition as u64);
+    number(rt, " n ", n as u64);
+    number(rt, " m ", m as u64);
 }
 
-fn arc(a: Arc) {
-    number(b" (", a.tail as u64);
-    number(b" ", a.head as u64);
-    number(b" ", a.standing as u64);
-    number(b" ", a.cost as u64);
-    number(b" ", a.service as u64);
-    text(b")");
+fn arc(rt: &impl Print, a: Arc) {
+    number(rt, " (", a.tail as u64);
+    number(rt, " ", a.head as u64);
+    number(rt, " ", a.standing as u64);
+    number(rt, " ", a.cost as u64);
+    number(rt, " ", a.service as u64);
+    text(rt, ")");
 }
 
 // The answer of reading, and the first three records and the last two: no plan has so many arcs that it fills the last.
-fn filled(r: Filled) {
+fn filled(rt: &impl Print, r: Filled) {
     let read = r.read;
     let arcs = r.arcs;
     match read {
-        Read::Given(edition, n, m) => counts(edition, n, m),
-        Read::Refused(q) => refusal(q),
+        Read::Given(edition, n, m) => counts(rt, edition, n, m),
+        Read::Refused(q) => refusal(rt, q),
     }
-    arc(arcs[0]);
-    arc(arcs[1]);
-    arc(arcs[2]);
-    arc(arcs[255]);
-    arc(arcs[256]);
-    text(b"\n");
+    arc(rt, arcs[0]);
+    arc(rt, arcs[1]);
+    arc(rt, arcs[2]);
+    arc(rt, arcs[255]);
+    arc(rt, arcs[256]);
+    text(rt, "\n");
 }
 
-fn written(w: Written) {
+fn written(rt: &impl Print, w: Written) {
     match w {
-        Written::Length(k) => number(b"length ", k as u64),
-        Written::Refused(r) => refusal(r),
+        Written::Length(k) => number(rt, "length ", k as u64),
+        Written::Refused(r) => refusal(rt, r),
     }
 }
 
@@ -89,119 +88,122 @@ fn nines() -> [Arc; 257] {
 }
 
 // Reading into a list of so many records.
-fn into(label: &[u8], file: &[u8], room: usize) {
-    text(label);
-    filled(read_array(file, nines(), room));
+fn into(rt: &impl Print, label: &str, file: &[u8], room: usize) {
+    text(rt, label);
+    filled(rt, read_array(file, nines(), room));
 }
 
 // The file of k bytes that a slice starts with, read into a list.
-fn read_back(s: &[u8], k: usize) {
+fn read_back(rt: &impl Print, s: &[u8], k: usize) {
     if k <= s.len() {
-        into(b"", &s[..k], 257);
+        into(rt, "", &s[..k], 257);
     }
 }
 
 // The first m records, written in an edition into as many bytes as it takes, and read back.
-fn reread(edition: u8, n: u8, arcs: [Arc; 257], m: usize) {
+fn reread(rt: &impl Print, edition: u8, n: u8, arcs: [Arc; 257], m: usize) {
     let mut file = [0u8; 1475];
     match write_array(edition, n, arcs, m, &mut file) {
-        Written::Length(k) => read_back(&file, k),
-        Written::Refused(r) => filled(Filled {
-            read: Read::Refused(r),
-            arcs: nines(),
-        }),
+        Written::Length(k) => read_back(rt, &file, k),
+        Written::Refused(r) => filled(
+            rt,
+            Filled {
+                read: Read::Refused(r),
+                arcs: nines(),
+            },
+        ),
     }
 }
 
 // The first m records, written in an edition into 15 bytes, and read back.
-fn rewritten(edition: u8, n: u8, arcs: [Arc; 257], m: usize) {
-    number(b"  written in edition ", edition as u64);
-    text(b": ");
+fn rewritten(rt: &impl Print, edition: u8, n: u8, arcs: [Arc; 257], m: usize) {
+    number(rt, "  written in edition ", edition as u64);
+    text(rt, ": ");
     let mut s = [0xeeu8; 15];
-    written(write_array(edition, n, arcs, m, &mut s));
-    text(b":");
-    bytes(&s);
-    text(b"\n  and read back: ");
-    reread(edition, n, arcs, m);
+    written(rt, write_array(edition, n, arcs, m, &mut s));
+    text(rt, ":");
+    bytes(rt, &s);
+    text(rt, "\n  and read back: ");
+    reread(rt, edition, n, arcs, m);
 }
 
 // A list that has the file's records and nines after them.
-fn by_list(file: &[u8]) {
+fn by_list(rt: &impl Print, file: &[u8]) {
     let r = read_array(file, nines(), 257);
     let read = r.read;
     let arcs = r.arcs;
     match read {
         Read::Given(_, n, m) => {
             let count = m as usize;
-            rewritten(1, n, arcs, count);
-            rewritten(2, n, arcs, count);
+            rewritten(rt, 1, n, arcs, count);
+            rewritten(rt, 2, n, arcs, count);
         }
         Read::Refused(_) => {}
     }
 }
 
 // A plan, written in an edition and read back: its first two records and the last.
-fn value(edition: u8, p: Plan) {
-    number(b"  by value in edition ", edition as u64);
-    text(b": ");
+fn value(rt: &impl Print, edition: u8, p: Plan) {
+    number(rt, "  by value in edition ", edition as u64);
+    text(rt, ": ");
     let r = plan_writer::round_trip::reread(edition, p);
     let v = r.verdict;
     let e = r.edition;
     let q = r.plan;
     let arcs = q.arcs;
     match v {
-        Verdict::Accepted => counts(e, q.n, q.m),
-        Verdict::Refused(x) => refusal(x),
+        Verdict::Accepted => counts(rt, e, q.n, q.m),
+        Verdict::Refused(x) => refusal(rt, x),
     }
-    arc(arcs[0]);
-    arc(arcs[1]);
-    arc(arcs[255]);
-    text(b"\n");
+    arc(rt, arcs[0]);
+    arc(rt, arcs[1]);
+    arc(rt, arcs[255]);
+    text(rt, "\n");
 }
 
-fn trips(file: &[u8]) {
-    into(b"  into 2: ", file, 2);
-    into(b"  into 257: ", file, 257);
-    by_list(file);
+fn trips(rt: &impl Print, file: &[u8]) {
+    into(rt, "  into 2: ", file, 2);
+    into(rt, "  into 257: ", file, 257);
+    by_list(rt, file);
     let r = read_plan(file);
     let p = r.plan;
-    value(1, p);
-    value(2, p);
+    value(rt, 1, p);
+    value(rt, 2, p);
 }
 
 // ---- the files
 
-fn contents(fd: i32) {
-    let mut file = io::buffer();
-    let n = io::read_full(fd, &mut file);
-    trips(&file[..n]);
+// What a file's first 4,096 bytes hold: the longest plan has 1,475.
+fn contents(rt: &impl Print, file: &[u8]) {
+    let n = file.len().min(4096);
+    trips(rt, &file[..n]);
 }
 
-fn named(k: usize) {
-    let mut path = io::buffer();
-    let n = os::arg(k, &mut path);
-    let fd = os::open_read(&path[..n]);
-    if fd < 0 {
-        os::fail(&path[..n]);
-        return;
+fn named(rt: &(impl Files + Alloc + Print + Eprint), path: &str) {
+    match fs::read(rt, path) {
+        Ok(file) => {
+            text(rt, path);
+            text(rt, "\n");
+            contents(rt, file.as_slice());
+        }
+        Err(error) => {
+            let _ = eprintln!(rt; "{path}: {error}");
+        }
     }
-    text(&path[..n]);
-    text(b"\n");
-    contents(fd);
-    libc::close(fd);
 }
 
 // What no file gives: no record, one record too many, and an edition that is none.
-fn limits() {
-    text(b"nines\n");
-    rewritten(1, 10, nines(), 0);
-    rewritten(2, 10, nines(), 257);
-    rewritten(3, 10, nines(), 257);
+fn limits(rt: &impl Print) {
+    text(rt, "nines\n");
+    rewritten(rt, 1, 10, nines(), 0);
+    rewritten(rt, 2, 10, nines(), 257);
+    rewritten(rt, 3, 10, nines(), 257);
 }
 
-fn main() {
-    limits();
-    for k in 1..os::arg_count() {
-        named(k);
+fn main(rt: HostRuntime) -> io::Result<()> {
+    limits(&rt);
+    for path in env::args(&rt)?.skip(1) {
+        named(&rt, path.as_str());
     }
+    Ok(())
 }

@@ -38,7 +38,7 @@ fn chosen_of(a: u64, b: u64, new: Reached, old: Reached) -> Reached
 fn next_round(plan: Plan, table: &[[u32; 64]; 64], budget: u32, round: u32, d: Deep) -> Deep
     requires has_table { HasTable (plan_value plan) table.now × (plan_refusal (plan_value plan) ≡ none) × GoesOn (plan_value plan) d.kept
         × IsHeld (plan_value plan) d }
-    requires le_budget { (1 ≤ budget) × (budget ≤ 1000000) }
+    requires within_limits { (1 ≤ budget) × (budget ≤ 1000000) }
     ensures { (result.kept ≡ next_kept (plan_value plan) budget round d.kept) × IsHeld (plan_value plan) result }
 {
     let k = d.kept;
@@ -74,7 +74,7 @@ pub fn first_round(plan: Plan, table: &[[u32; 64]; 64], budget: u32) -> Deep
 pub fn deepen(plan: Plan, table: &[[u32; 64]; 64], budget: u32, rounds: u32, first: Deep) -> Deep
     requires has_table { HasTable (plan_value plan) table.now × (plan_refusal (plan_value plan) ≡ none)
         × (first.kept ≡ kept_after (plan_value plan) budget 0) × IsHeld (plan_value plan) first }
-    requires le_budget { (1 ≤ budget) × (budget ≤ 1000000) × (1 ≤ rounds) × (rounds ≤ 1000) }
+    requires within_limits { (1 ≤ budget) × (budget ≤ 1000000) × (1 ≤ rounds) × (rounds ≤ 1000) }
     ensures { (result.kept ≡ kept_after (plan_value plan) budget (rounds - 1)) × IsHeld (plan_value plan) result }
 {
     let mut d = first;

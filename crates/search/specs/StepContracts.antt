@@ -32,7 +32,8 @@ pub record IsCompleted (table : List (List ℕ)) (vs f : List ℕ) (b : Branch) 
     (r : Completed) : Type 0 where
   pub tried : (m : ℕ)
       → held_in m r.progress
-      ≡ try_tree (λ t. b.fixed + cell table tail head + (add (cell table) vs (state_in f (repriced_branch b w)) tail head).cost) (held_in m g)
+      ≡ try_tree (λ t. b.fixed + cell table tail head + (add (cell table) vs (state_in f (repriced_branch b w)) tail head).cost)
+      (held_in m g)
       (links_in m (set b.tails (b.a - 1) tail) (set b.heads (b.a - 1) head))
   pub levelled : AreLevelled (add (cell table) vs (state_in f (repriced_branch b w)) tail head).potentials vs (length vs) r.potentials
 
@@ -46,4 +47,5 @@ pub record IsBranchPriced (p : Plan) (table : List (List ℕ)) (b : Branch) (r :
 
 -- The trees ts were gone through.
 abbrev pub IsExplored : Plan → List (List Link) → Progress → Progress → Type 0
-IsExplored p ts before after = held_in (component_count p - 1) after ≡ advance (completion_cost p) (held_in (component_count p - 1) before) ts
+IsExplored p ts before after = held_in (component_count p - 1) after ≡ advance (completion_cost p)
+    (held_in (component_count p - 1) before) ts

@@ -100,7 +100,8 @@ fn backed_up(
         × Prices p d.now (chosen_in b ++ candidate_link c ∷ []) (b.a + 1) under.pricing)
         × (b.a < k) × (c.tail < 64) × (c.head < 64) }
     ensures { (result.progress ≡ under.progress)
-        × ((p : Plan) (vs source f : List ℕ) → Prepared p d.now vs start.now source tails.now heads.now k → IsBranch p d.now f b → Prices p d.now (chosen_in b) b.a e.pricing
+        × ((p : Plan) (vs source f : List ℕ) → Prepared p d.now vs start.now source tails.now heads.now k → IsBranch p d.now f b
+        → Prices p d.now (chosen_in b) b.a e.pricing
         → Prices p d.now (chosen_in b ++ candidate_link c ∷ []) (b.a + 1) under.pricing
         → IsBranchPriced p d.now b result.pricing) }
 {

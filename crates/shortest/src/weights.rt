@@ -55,8 +55,8 @@ fn round(plan: Plan, row: [u32; 64]) -> [u32; 64]
 
 // Whether two rows are equal.
 fn same(a: &[u32; 64], b: &[u32; 64]) -> bool
-    ensures j_value { result ≡ true → (j : ℕ) → j < 64 → get_or a.now j 0 ≡ get_or b.now j 0 }
-    ensures by_index { ((j : ℕ) → j < 64 → get_or a.now j 0 ≡ get_or b.now j 0) → result ≡ true }
+    ensures only_if_equal { result ≡ true → (j : ℕ) → j < 64 → get_or a.now j 0 ≡ get_or b.now j 0 }
+    ensures if_equal { ((j : ℕ) → j < 64 → get_or a.now j 0 ≡ get_or b.now j 0) → result ≡ true }
 {
     for j in 0..64 {
         if a[j] != b[j] {

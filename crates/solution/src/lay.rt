@@ -30,9 +30,9 @@ fn lay(
 ) -> usize
     requires { IsPreparation (plan_value plan) table.now r × IsTree (plan_value plan) tails.now heads.now
         × (sheet_places ≤ length sheet.old) × AreWeights (plan_value plan) weights.now }
-    ensures sheet_after { sheet.new
+    ensures sheet_written { sheet.new
         ≡ written (tree_drive (plan_value plan) (links_of tails.now heads.now)) sheet.old }
-    ensures value { result ≡ length (tree_drive (plan_value plan) (links_of tails.now heads.now)) }
+    ensures place_count { result ≡ length (tree_drive (plan_value plan) (links_of tails.now heads.now)) }
 {
     let full = with_links(plan, table, r, tails, heads);
     let v = r.vertices;
@@ -54,9 +54,9 @@ pub fn lay_held(
 ) -> usize
     requires { IsPreparation (plan_value plan) table.now r × HoldsTree (plan_value plan) tails heads
         × (sheet_places ≤ length sheet.old) × AreWeights (plan_value plan) weights.now }
-    ensures sheet_after { sheet.new
+    ensures sheet_written { sheet.new
         ≡ written (tree_drive (plan_value plan) (links_in (component_count (plan_value plan) - 1) tails heads)) sheet.old }
-    ensures value { result ≡ length (tree_drive (plan_value plan) (links_in (component_count (plan_value plan) - 1) tails heads)) }
+    ensures place_count { result ≡ length (tree_drive (plan_value plan) (links_in (component_count (plan_value plan) - 1) tails heads)) }
 {
     let net = r.network;
     let k = net.components as usize;

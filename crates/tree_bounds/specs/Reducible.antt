@@ -56,4 +56,5 @@ pub record Near (u first : ℕ) : Type 0 where
 
 -- The potentials of the vertices vs are no further apart than that.
 abbrev pub CanLevel : List ℕ → List ℕ → Type 0
-CanLevel u vs = ((k : ℕ) → k < length vs → (get_or vs k 0 < 64) × Near (get_or u (get_or vs k 0) 0) (get_or u (get_or vs 0 0) 0)) × (1 ≤ length vs)
+CanLevel u vs = ((k : ℕ) → k < length vs → (get_or vs k 0 < 64) × Near (get_or u (get_or vs k 0) 0) (get_or u (get_or vs 0 0) 0))
+    × (1 ≤ length vs)

@@ -77,7 +77,8 @@ fn turn_of(total: u32, tried: u32) -> u32
 // The first trees.
 fn first_tried(plan: Plan, table: &[[u32; 64]; 64], r: Preparation, s: Begun, n: u32) -> Reached
     requires { IsPreparation (plan_value plan) table.now r × IsBegun (plan_value plan) table.now r s × (1 ≤ n) }
-    ensures { (result.tried ≡ n) × (result.cost ≡ best_cost (plan_value plan) n) × (links_by (plan_value plan) result ≡ best_arborescence (plan_value plan) n) }
+    ensures { (result.tried ≡ n) × (result.cost ≡ best_cost (plan_value plan) n)
+        × (links_by (plan_value plan) result ≡ best_arborescence (plan_value plan) n) }
 {
     let x = searched(plan, table, r, s, n);
     let ts = x.tails;
@@ -99,9 +100,10 @@ fn tried_on(
     g: Reached,
     more: u32,
 ) -> Reached
-    requires preparation { IsPreparation (plan_value plan) table.now r × IsBegun (plan_value plan) table.now r s }
-    requires bound { (1 ≤ g.tried + more) × (g.tried ≤ 1000000000) × (more ≤ 1000000000) }
-    ensures { (result.tried ≡ g.tried + more) × (result.cost ≡ (tried_on (plan_value plan) g.cost (links_by (plan_value plan) g) g.tried more).cost)
+    requires begun { IsPreparation (plan_value plan) table.now r × IsBegun (plan_value plan) table.now r s }
+    requires within_limits { (1 ≤ g.tried + more) × (g.tried ≤ 1000000000) × (more ≤ 1000000000) }
+    ensures { (result.tried ≡ g.tried + more) × (result.cost ≡
+        (tried_on (plan_value plan) g.cost (links_by (plan_value plan) g) g.tried more).cost)
         × (links_by (plan_value plan) result ≡ (tried_on (plan_value plan) g.cost (links_by (plan_value plan) g) g.tried more).links) }
 {
     if g.tried == 0 {

@@ -26,8 +26,8 @@ fn plan_marked(
     budget: u32,
     sheet: &mut [u16],
 ) -> Planned
-    requires well_formed { WellFormed (plan_value plan) × (table.now ≡ table_of (plan_value plan)) × AreWeights (plan_value plan) weights.now }
-    requires le_budget { (1 ≤ budget) × (sheet_places ≤ length sheet.old) }
+    requires tabled { WellFormed (plan_value plan) × (table.now ≡ table_of (plan_value plan)) × AreWeights (plan_value plan) weights.now }
+    requires budget_and_sheet { (1 ≤ budget) × (sheet_places ≤ length sheet.old) }
     ensures { IsPlanned (car_plan (plan_value plan) marks.now) budget
         (first_refusal
         (mark_conditions (plan_value plan) marks.now ++ last_conditions (car_plan (plan_value plan) marks.now)))

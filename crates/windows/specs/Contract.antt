@@ -12,7 +12,8 @@ use Rattle.solution.specs.Planned.{IsPlanned}
 -- THE PLAN CALL AT A DEPARTURE on any bytes, any budget, any numbers for windows, any departure and any sheet: the plan call on the plan at
 -- that departure. What is said of that plan is said again of the file's, in whose words document 02 has it.
 pub record IsPlanCallAt (bytes : List ℕ) (budget : ℕ) (numbers : List ℕ) (d : Departure) (old new : List ℕ) (r : Planned) : Type 0 where
-  pub planned : IsPlanned (plan_at (plan_of bytes) (windows_in numbers) d) budget (call_refusal_at bytes budget (length old) numbers d) old new r
+  pub planned : IsPlanned (plan_at (plan_of bytes) (windows_in numbers) d) budget (call_refusal_at bytes budget (length old) numbers d)
+      old new r
   -- 12 is given exactly when no number before it applies and no drive exists that avoids the arcs shut
   pub cut_off
       : (verdict_number r.verdict ≡ some 12)

@@ -89,7 +89,8 @@ module _ {A : Type 0} (new old : List A) (m : ℕ) where
       h.content ∙ ap (paste old 0 new) (e ∙ h.count ∙ ap (at_most (length old)) (sym h.new_size))
 
 -- what was put can be read there
-pub put_at : {A : Type 0} (new old : List A) (z : A) (k : ℕ) → k < length old → k < length new → get_or (put_first new old) k z ≡ get_or new k z
+pub put_at : {A : Type 0} (new old : List A) (z : A) (k : ℕ) → k < length old → k < length new
+    → get_or (put_first new old) k z ≡ get_or new k z
 put_at new old z k a b =
     let n = at_most (length old) (length new) in
     let l = at_most_above (length old) (length new) k a b in
@@ -100,7 +101,8 @@ put_at new old z k a b =
 pub answered_zero : (v : Verdict) → one_number (answer (verdict_number v) 0) ≡ pos 0 → verdict_number v ≡ none
 unfolding answer
 answered_zero Accepted e = refl
-answered_zero (Refused r) e = let a = (some_number r).0 in let b = ap nat_abs e in let c = abs_neg (refusal_number r) in absurd (omega arith)
+answered_zero (Refused r) e = let a = (some_number r).0 in let b = ap nat_abs e in let c = abs_neg (refusal_number r) in absurd
+    (omega arith)
 
 pub words_are : (r : Planned) (f : ℕ) → f ≡ nat_abs r.floor
     → r.places ∷ r.cost ∷ f ∷ r.trees ∷ bool_byte r.whole ∷ r.parts ∷ [] ≡ words_of r

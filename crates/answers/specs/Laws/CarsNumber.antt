@@ -15,13 +15,15 @@ module _ (first second : Option ℕ) (b : ℕ) (e : b ≡ own_number second) whe
 
   pub both_refused : (k : ℕ) → first ≡ some k → reaches_both k ≡ true → (n : ℤ) → n ≡ neg_ℤ (pos k) → n ≡ cars_number first second
   both_refused k h t n f =
-      f ∙ sym (ap (λ (o : Option ℕ). cars_number o second) h ∙ ap (λ (c : Bool). cond c (neg_ℤ (pos k)) (pos (256 * k + own_number second))) t)
+      f ∙ sym (ap (λ (o : Option ℕ). cars_number o second) h ∙ ap
+      (λ (c : Bool). cond c (neg_ℤ (pos k)) (pos (256 * k + own_number second))) t)
 
   pub own_refused : (k : ℕ) → first ≡ some k → reaches_both k ≡ false → (n : ℤ) → n ≡ pos (256 * k + b) → n ≡ cars_number first second
   own_refused k h t n f =
       f
       ∙ ap (λ (x : ℕ). pos (256 * k + x)) e
-      ∙ sym (ap (λ (o : Option ℕ). cars_number o second) h ∙ ap (λ (c : Bool). cond c (neg_ℤ (pos k)) (pos (256 * k + own_number second))) t)
+      ∙ sym (ap (λ (o : Option ℕ). cars_number o second) h ∙ ap (λ (c : Bool). cond c (neg_ℤ (pos k)) (pos (256 * k + own_number second)))
+      t)
 
 -- ---- what the number tells
 
@@ -42,7 +44,8 @@ first_told (Refused r) w x e l = absurd (at (reaches_both (refusal_number r)) e)
     at true q = not_negative (refusal_number r) x (some_number r).0 q
     at false q = let a = (some_number r).0 in let b = ap nat_abs q in omega arith
 
-pub second_told : (v w : Verdict) (x : ℕ) → cars_number (verdict_number v) (verdict_number w) ≡ pos x → x % 256 ≡ 0 → verdict_number w ≡ none
+pub second_told : (v w : Verdict) (x : ℕ) → cars_number (verdict_number v) (verdict_number w) ≡ pos x → x % 256 ≡ 0
+    → verdict_number w ≡ none
 second_told v Accepted x e l = refl
 second_told Accepted (Refused s) x e l = let a = some_number s in let c = a.0 in let d = a.1 in let b = ap nat_abs e in
     absurd (omega arith)

@@ -40,7 +40,8 @@ pub ask_some : (d : List (List ℕ)) (f : List ℕ) (up : Bool) (vs : List ℕ) 
     {r : List ℤ × List ℕ} → 0 < get_or marks w 0 → base ≡ capped (get_or x w (pos 0))
     → r ≡ move_all d f up vs w base (x, set marks w 0) → r ≡ ask d f up vs (x, marks) w
 unfolding ask
-ask_some d f up vs x marks w l eb er = er ∙ ap (λ (q : ℤ). move_all d f up vs w q (x, set marks w 0)) eb ∙ rw (lt-ltb 0 (get_or marks w 0) l)
+ask_some d f up vs x marks w l eb er = er ∙ ap (λ (q : ℤ). move_all d f up vs w q (x, set marks w 0)) eb
+    ∙ rw (lt-ltb 0 (get_or marks w 0) l)
 
 -- ---- until none is open
 

@@ -25,7 +25,8 @@ module _ (d : List (List ℕ)) (x : List ℤ) (component : List ℕ) (i : ℕ) (
   offer_not t = rw (sym test_is ∙ t)
 
 pub enter_is : (m : List ℤ) (s : ℕ) (cost : List ℤ) (from : List ℕ) (q : ℕ) {p g e : ℕ} {c nc : ℤ} {b : Bool} → p ≡ entry m s q → g ≡ 2 ^ q
-    → c ≡ capped (get_or cost (s / 2) (pos 0)) +ℤ capped (get_or m (p * 8 + q) (pos 0)) → b ≡ is_better s q c (get_or cost ((s + g) / 2) (pos 0))
+    → c ≡ capped (get_or cost (s / 2) (pos 0)) +ℤ capped (get_or m (p * 8 + q) (pos 0))
+    → b ≡ is_better s q c (get_or cost ((s + g) / 2) (pos 0))
     → e ≡ cond b (p * 8 + q) (get_or from ((s + g) / 2) 0) → nc ≡ cond b c (get_or cost ((s + g) / 2) (pos 0))
     → (set cost ((s + g) / 2) nc, set from ((s + g) / 2) e) ≡ enter m s (cost, from) q
 unfolding enter

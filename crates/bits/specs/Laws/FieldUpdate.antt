@@ -118,7 +118,8 @@ module _ (l : List ℕ) (a w v : ℕ) where
           → (i < n → bit_at (put_bits l a w v n) (a + i) ≡ v / 2 ^ (w - 1 - i) % 2)
           → bit_at (set_bit (put_bits l a w v n) (a + n) (v / 2 ^ (w - 1 - n) % 2)) (a + i) ≡ v / 2 ^ (w - 1 - i) % 2
       at (yes e) r =
-          rw e (set_bit_same (put_bits l a w v n) (a + n) (v / 2 ^ (w - 1 - n) % 2) (omega arith) (omega (arith, length_put_bits l a w v n)))
+          rw e (set_bit_same (put_bits l a w v n) (a + n) (v / 2 ^ (w - 1 - n) % 2) (omega arith)
+          (omega (arith, length_put_bits l a w v n)))
       at (no e) r =
           set_bit_other (put_bits l a w v n) (a + n) (v / 2 ^ (w - 1 - n) % 2) (omega arith) (a + i)
           (omega (arith, length_put_bits l a w v n)) (λ q. omega arith)
@@ -135,7 +136,8 @@ module _ (l : List ℕ) (a w v : ℕ) where
   elsewhere_upto : (n j : ℕ) → a + n ≤ 8 * j → get_or (put_bits l a w v n) j 0 ≡ get_or l j 0
   unfolding put_bits set_bit
   elsewhere_upto zero j h = refl
-  elsewhere_upto (suc n) j h = get_or-set_other (put_bits l a w v n) ((a + n) / 8) j _ 0 (λ e. omega arith) ∙ elsewhere_upto n j (omega arith)
+  elsewhere_upto (suc n) j h = get_or-set_other (put_bits l a w v n) ((a + n) / 8) j _ 0 (λ e. omega arith)
+      ∙ elsewhere_upto n j (omega arith)
 
   -- The length stays; the bits of the field are those of v; every other bit stays.
   pub length_put : length (put_field l a w v) ≡ length l

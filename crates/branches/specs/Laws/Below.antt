@@ -234,8 +234,12 @@ module _ {p : Plan} {table : List (List ℕ)} {vs start source tails heads : Lis
           let o = is.one in
           let i : (y ≢ b.a) × (y < 8) × Memᴰ y (0 ∷ up_from b.a (component_count p - b.a)) = elim (mathlib.Core.List.Memᴰ.cases_cons s) [
             | inl z ↦ ((λ f. omega arith), omega arith, mathlib.Core.List.Memᴰ.head z)
-            | inr t ↦ (let u = up_from_mem r.a (component_count p - r.a) t in
-                ((λ f. omega arith), omega arith, mathlib.Core.List.Memᴰ.tail (mem_up_from b.a (component_count p - b.a) (omega arith) (omega arith))))
+            | inr t ↦ (let u = up_from_mem r.a (component_count p - r.a) t in (
+              (λ f. omega arith),
+              omega arith,
+              mathlib.Core.List.Memᴰ.tail
+                  (mem_up_from b.a (component_count p - b.a) (omega arith) (omega arith)),
+            ))
           ] in
           let z = is.entries q b.a (omega arith) c
           (mathlib.Core.List.Memᴰ.tail (mem_up_from b.a (component_count p - b.a) (omega arith) (omega arith))) in

@@ -20,7 +20,8 @@ module _ (C : Plan → Option ℕ → List ℕ → Planned → Type 0) where
   -- a file that is not refused gives its plan, of which the call makes its own
   pub read_answer : (bytes : List ℕ) (p : Plan) (made : Plan → Plan) (later : Plan → Conditions) (o : Option ℕ) (new : List ℕ)
       (x : Planned)
-      → o ≡ first_refusal (file_conditions bytes ++ later (plan_of bytes)) → first_refusal (file_conditions bytes) ≡ none → p ≡ plan_of bytes
+      → o ≡ first_refusal (file_conditions bytes ++ later (plan_of bytes)) → first_refusal (file_conditions bytes) ≡ none
+      → p ≡ plan_of bytes
       → C (made p) (first_refusal (later p)) new x → C (made (plan_of bytes)) o new x
   read_answer bytes p made later o new x order e v i =
       answer_as (made p) (made (plan_of bytes)) (first_refusal (later p)) o new x (ap made v)

@@ -9,7 +9,8 @@ use Rattle.refusal.specs.Verdict.{refusal_number}
 use Rattle.solution.specs.Planned.{count_unless, IsPlanned}
 use Rattle.call_steps.specs.Refused.{refused_with}
 
-pub is_refused : (p : Plan) (budget : ℕ) (old : List ℕ) (r : Refusal) → IsPlanned p budget (some (refusal_number r)) old old (refused_with r)
+pub is_refused : (p : Plan) (budget : ℕ) (old : List ℕ) (r : Refusal)
+    → IsPlanned p budget (some (refusal_number r)) old old (refused_with r)
 unfolding answer fields unless count_unless
 is_refused p budget old r = record {
   verdict = refl;

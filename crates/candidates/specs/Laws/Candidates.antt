@@ -1,6 +1,6 @@
 -- The plan's candidates are the links at the places: links, and candidates among them, are selected from the pairs of required vertices,
 -- these from all pairs, and the pairs in order are those of the places in order.
-use Rattle.std.specs.Prelude.{◌≡◌, refl, Bool, false, not, ◌&&◌, ℕ, ◌+◌, ◌*◌, ◌/◌, ◌%◌, ◌<◌, get_or, eqb}
+use Rattle.std.specs.Prelude.{◌≡◌, Bool, false, not, ◌&&◌, ℕ, ◌+◌, ◌*◌, ◌/◌, ◌%◌, ◌<◌, get_or, eqb}
 use Rattle.std.proofs.Common.{sym, ap₂, ◌∙◌, arith}
 use Rattle.std.proofs.Math.Path.{ap}
 use mathlib.Core.List.{List, map}
@@ -44,7 +44,8 @@ module _ (p : Plan) (ok : WellFormed p) where
   -- the ends of a link are required
   is_pair_lem : (i j : ℕ) → is_pair (link i j) ≡ is_held (links p) i j
   is_pair_lem i j =
-      same_test (is_pair (link i j)) (is_held (links p) i j) (λ t. (and_parts (is_required p i && is_required p j) (is_held (links p) i j) t).1)
+      same_test (is_pair (link i j)) (is_held (links p) i j) (λ t.
+      (and_parts (is_required p i && is_required p j) (is_held (links p) i j) t).1)
       (λ t.
       let e = link_ends p (held_mem (links p) i j t) in
       and_both (is_required p i && is_required p j) (is_held (links p) i j)

@@ -88,7 +88,8 @@ module _ (w : List ℤ) (left : List Bool) (e : List ℕ) where
   unfolding payments tree_cost others_in
   payments_all = refl
 
-  pub pay_within : IsCostMatrix w left → (q : ℕ) → q < 8 → get_or e q 0 < 8 → (pos 0 ≤ℤ pay_of w left e q) × (pay_of w left e q ≤ℤ pos highest)
+  pub pay_within : IsCostMatrix w left → (q : ℕ) → q < 8 → get_or e q 0 < 8
+      → (pos 0 ≤ℤ pay_of w left e q) × (pay_of w left e q ≤ℤ pos highest)
   pay_within p q l b =
       cond_ind (get_or left q false) (get_or w (get_or e q 0 * 8 + q) (pos 0)) (pos 0) (λ x. (pos 0 ≤ℤ x) × (x ≤ℤ pos highest))
       (λ t. (p.low (get_or e q 0 * 8 + q) (omega arith), p.high (get_or e q 0 * 8 + q) (omega arith)))

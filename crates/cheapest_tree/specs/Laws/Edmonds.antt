@@ -125,7 +125,8 @@ pay_entries vs w v entry a r h = record {
       (let l = h.least parent s in subst⁻¹ (λ (x : ℤ). (tree_cost w vs entry +ℤ a) ≤ℤ x) (costs parent s) (simp zl (omega (arith, z))));
 }
   where
-    costs : (parent : ℕ → ℕ) → IsRootedTree vs parent → sum_ofℤ (map (λ q. w (parent q) q) vs) ≡ tree_cost w vs entry +ℤ tree_cost v vs parent
+    costs : (parent : ℕ → ℕ) → IsRootedTree vs parent → sum_ofℤ (map (λ q. w (parent q) q) vs) ≡ tree_cost w vs entry
+        +ℤ tree_cost v vs parent
     costs parent s =
         sum_cong (λ q. w (parent q) q) (λ q. w (entry q) q +ℤ v (parent q) q) vs (λ q m.
         (let e = r.reduced (parent q) q (s.inside q m) m (parent_other s q m) in rw e (simp zl (omega arith))))
@@ -166,10 +167,18 @@ module _ (vs cs : List ℕ) (c d : ℕ) (entry : ℕ → ℕ) (v w : Matrix) (ot
 
   -- off the circle, or the root
   up : {q : ℕ} → Memᴰ q (0 ∷ few) → Memᴰ q (0 ∷ vs)
-  up m = elim (mathlib.Core.List.Memᴰ.cases_cons m) [ inl e ↦ mathlib.Core.List.Memᴰ.head e | inr n ↦ mathlib.Core.List.Memᴰ.tail (few_mem n).0 ]
+  up m = elim (mathlib.Core.List.Memᴰ.cases_cons m) [
+    | inl e ↦ mathlib.Core.List.Memᴰ.head e
+    | inr n ↦ mathlib.Core.List.Memᴰ.tail
+        (few_mem n).0
+  ]
 
   down : {q : ℕ} → Memᴰ q (0 ∷ vs) → (Memᴰ q cs → ⊥) → Memᴰ q (0 ∷ few)
-  down m n = elim (mathlib.Core.List.Memᴰ.cases_cons m) [ inl e ↦ mathlib.Core.List.Memᴰ.head e | inr h ↦ mathlib.Core.List.Memᴰ.tail (mem_few h n) ]
+  down m n = elim (mathlib.Core.List.Memᴰ.cases_cons m) [
+    | inl e ↦ mathlib.Core.List.Memᴰ.head e
+    | inr h ↦ mathlib.Core.List.Memᴰ.tail
+        (mem_few h n)
+  ]
 
   off : {q : ℕ} → Memᴰ q (0 ∷ few) → q ≢ c → Memᴰ q cs → ⊥
   off m o n = elim (mathlib.Core.List.Memᴰ.cases_cons m) [
@@ -197,7 +206,8 @@ module _ (vs cs : List ℕ) (c d : ℕ) (entry : ℕ → ℕ) (v w : Matrix) (ot
       not_kept : (q : ℕ) → Memᴰ q cs → q ≢ c → T (not (not (is_among q cs) || eqb q c))
       not_kept q n o =
           not_T (not (is_among q cs) || eqb q c)
-          (λ t. elim (or_cases (not (is_among q cs)) (eqb q c) t) [ inl a ↦ T_not (is_among q cs) a (among_of n) | inr e ↦ o (eqb→eq q c e) ])
+          (λ t. elim (or_cases (not (is_among q cs)) (eqb q c) t)
+          [ inl a ↦ T_not (is_among q cs) a (among_of n) | inr e ↦ o (eqb→eq q c e) ])
 
   -- ---- a tree of the contracted matrix gives one of the larger, at the same cost
 
@@ -283,7 +293,8 @@ module _ (vs cs : List ℕ) (c d : ℕ) (entry : ℕ → ℕ) (v w : Matrix) (ot
     expanded_tree = record {
       inside = cases (λ q p. Memᴰ p (0 ∷ vs)) (up (t.inside c c_few))
           (λ q m o. mathlib.Core.List.Memᴰ.tail (circle.among (entry q) (circle.closed q m)))
-          (λ q m n e. mathlib.Core.List.Memᴰ.tail (circle.among (leave q).0 ((leave q).1 m n).0)) (λ q m n o. up (t.inside q (mem_few m n)));
+          (λ q m n e. mathlib.Core.List.Memᴰ.tail (circle.among (leave q).0 ((leave q).1 m n).0))
+          (λ q m n o. up (t.inside q (mem_few m n)));
       rank = height;
       falls = cases (λ q p. height p < height q)
           (let a = height_off p₀ p₀_off in let b = height_on x₀ come.member in
@@ -317,15 +328,23 @@ module _ (vs cs : List ℕ) (c d : ℕ) (entry : ℕ → ℕ) (v w : Matrix) (ot
 
   least_rank : (r : ℕ → ℕ) {q : ℕ} (xs : List ℕ) → Memᴰ q xs → (x : ℕ) × Memᴰ x xs × ((y : ℕ) → Memᴰ y xs → r x ≤ r y)
   least_rank r [] m = elim m [ ]
-  least_rank r (x ∷ []) m =
-      (x, mathlib.Core.List.Memᴰ.head refl, λ y n. elim (mathlib.Core.List.Memᴰ.cases_cons n) [ inl e ↦ (let h = ap r e in omega arith) | inr o ↦ elim o [ ] ])
+  least_rank r (x ∷ []) m = (
+    x,
+    mathlib.Core.List.Memᴰ.head refl,
+    λ y n. elim (mathlib.Core.List.Memᴰ.cases_cons n)
+        [ inl e ↦ (let h = ap r e in omega arith) | inr o ↦ elim o [ ] ],
+  )
   least_rank r (x ∷ x' ∷ xs) m =
       let s = least_rank r (x' ∷ xs) (mathlib.Core.List.Memᴰ.head refl) in
       elim (dec_le (r x) (r s.0)) [
         | yes l ↦ (
           x,
           mathlib.Core.List.Memᴰ.head refl,
-          λ y n. elim (mathlib.Core.List.Memᴰ.cases_cons n) [ inl e ↦ (let h = ap r e in omega arith) | inr o ↦ (let h = s.2 y o in omega arith) ],
+          λ y n. elim (mathlib.Core.List.Memᴰ.cases_cons n) [
+            | inl e ↦ (let h = ap r e in omega arith)
+            | inr o ↦
+                (let h = s.2 y o in omega arith)
+          ],
         )
         | no l ↦ (
           s.0,

@@ -21,7 +21,8 @@ iterate_last (suc n) f x = iterate_last n f (f x)
 
 -- ---- how many steps lead to a place
 
-index_from : (f : ℕ → Bool) (a n i : ℕ) → i < n → T (f (a + i)) → (first_index f (up_from a n) ≤ i) × T (f (a + first_index f (up_from a n)))
+index_from : (f : ℕ → Bool) (a n i : ℕ) → i < n → T (f (a + i))
+    → (first_index f (up_from a n) ≤ i) × T (f (a + first_index f (up_from a n)))
 unfolding first_index up_from
 index_from f a zero i l t = absurd (omega arith)
 index_from f a (suc n) zero l t =

@@ -168,7 +168,8 @@ module _ (w : List ℤ) (left : List Bool) (p : IsCostMatrix w left) where
             let r = others_in_lem left n in
             let l = r.1 in
             let x : (s * 8 + q) % 8 ≡ q = omega arith in
-            let y : pay_of w left e q ≡ matrix_of w (entry_of e q) q = ap (λ b. cond b (get_or w (get_or e q 0 * 8 + q) (pos 0)) (pos 0)) r.2 in
+            let y : pay_of w left e q ≡ matrix_of w (entry_of e q) q = ap (λ b. cond b (get_or w (get_or e q 0 * 8 + q) (pos 0)) (pos 0))
+            r.2 in
             reduced (s * 8 + q) (omega arith) ∙ ap (less (get_or w (s * 8 + q) (pos 0))) (ap (pay_of w left e) x ∙ y)
             ∙ less_exact (matrix_of w s q) (matrix_of w (entry_of e q) q) (are_entries.cheapest s q m n o));
       }
@@ -253,7 +254,8 @@ module _ (w : List ℤ) (left : List Bool) (p : IsCostMatrix w left) where
           unfolding others_in shrunk
           others_shrunk =
               select_select (λ q. get_or l q false) (λ q. get_or left q false) (λ q. not (is_among q cs) || eqb q y) (up_from 1 7)
-              (λ q n. (let b = (up_from_mem 1 7 n).1 in kept q (omega arith) ∙ ap (λ b. get_or left q false && (not b || eqb q y)) (on_is q)))
+              (λ q n. (let b = (up_from_mem 1 7 n).1 in kept q (omega arith)
+              ∙ ap (λ b. get_or left q false && (not b || eqb q y)) (on_is q)))
 
           root_kept : get_or l 0 false ≡ true
           root_kept =

@@ -151,7 +151,8 @@ module _ (p : Plan) (ok : WellFormed p) (t : List Link) (amounts : List ℕ) (h 
   unfolding own must_arc_of occurrences
   own_other k e l = leg_cases (λ x. occurrences k (must_arc_of x) ≡ 0) e (λ g. absurd (omega arith)) (λ g i. refl) (λ g. refl)
 
-  must_arcs : (k : ℕ) → occurrences k (flat_map must_arc_of (map leg (order p ok t amounts h path paths))) ≡ occurrences k (required_numbers p)
+  must_arcs : (k : ℕ) → occurrences k (flat_map must_arc_of (map leg (order p ok t amounts h path paths))) ≡ occurrences k
+      (required_numbers p)
   unfolding own
   must_arcs k =
       let w = order p ok t amounts h path paths in
@@ -203,7 +204,8 @@ module _ (p : Plan) (ok : WellFormed p) (t : List Link) (amounts : List ℕ) (h 
         let s = length-append t (units amounts) in
         let q : n + m + k ≡ n + (m + k) = omega arith in
         let e = ends_at (m + k) (omega arith) in
-        let g : get_or (others p t amounts) (m + k) no_link ≡ get_or (units amounts) k no_link = get_or-append-add t (units amounts) k no_link in
+        let g : get_or (others p t amounts) (m + k) no_link ≡ get_or (units amounts) k no_link = get_or-append-add t (units amounts) k
+        no_link in
         ap (λ x. how_often i j (unit_of x)) (leg_unit (n + m + k) (omega arith))
         ∙ ap (λ z. how_often i j (record { tail = tail z; head = head z } ∷ [])) q
         ∙ ap₂ (λ x y. how_often i j (record { tail = x; head = y } ∷ [])) e.0 e.1

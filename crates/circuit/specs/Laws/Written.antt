@@ -82,7 +82,8 @@ module _ (path : ℕ → ℕ → List ℕ) (numbers tails heads : List ℕ) (e :
       let a = places_number path numbers tails heads e l in
       (overwrite_one old at (get_or numbers e 0) h ∙ ap (overwrite old at) (sym a), ap (λ z. at + length z) (sym a))
 
-  pub path_of : (i j : ℕ) → length numbers ≤ e → i ≡ get_or tails e 0 → j ≡ get_or heads e 0 → path i j ≡ leg_places path numbers tails heads e
+  pub path_of : (i j : ℕ) → length numbers ≤ e → i ≡ get_or tails e 0 → j ≡ get_or heads e 0
+      → path i j ≡ leg_places path numbers tails heads e
   path_of i j l a b = ap₂ path a b ∙ sym (places_path path numbers tails heads e l)
 
 -- ---- the legs up to x, as the code holds them
@@ -111,7 +112,8 @@ module _ (path : ℕ → ℕ → List ℕ) (numbers tails heads order old : List
         let d = ap (λ z. length (leg_places path numbers tails heads z)) i in
         omega arith
 
-    pub to_more : (e at' : ℕ) (places' : List ℕ) → e ≡ get_or order x 0 → places' ≡ overwrite places at (leg_places path numbers tails heads e)
+    pub to_more : (e at' : ℕ) (places' : List ℕ) → e ≡ get_or order x 0
+        → places' ≡ overwrite places at (leg_places path numbers tails heads e)
         → at' ≡ at + length (leg_places path numbers tails heads e) → WrittenTo (x + 1) at' places'
     to_more e at' places' i f g =
         let ps = places_of path numbers tails heads (take x order) in

@@ -71,7 +71,8 @@ module _ (p : Plan) (ok : WellFormed p) where
   -- one label renamed, to a lower one of the same component
   labelled_renamed : (k from to : ℕ) (labels new : List ℕ) → Labelled p k labels → to ≤ from → Memᴰ to (required p)
       → component p to ≡ component p from
-      → get_or labels to 0 ≡ to → length new ≡ 64 → ((v : ℕ) → v < 64 → get_or new v 0 ≡ rename from to (get_or labels v 0)) → Labelled p k new
+      → get_or labels to 0 ≡ to → length new ≡ 64 → ((v : ℕ) → v < 64 → get_or new v 0 ≡ rename from to (get_or labels v 0))
+      → Labelled p k new
   labelled_renamed k from to labels new h le m e r size at = record {
     size = size;
     low = λ v l.

@@ -121,7 +121,8 @@ module _ (p : Plan) (ok : WellFormed p) where
     pub number_component : (v : ℕ) → v < 64 → number_of r labels v ≡ component p v
     number_component v l = elim (test (is_required p v)) [
       | inl t ↦
-          ap (λ b. cond b (roots_below r labels (get_or labels v 0)) (roots_below r labels 64)) (flags v l ∙ is_true {b = is_required p v} t)
+          ap (λ b. cond b (roots_below r labels (get_or labels v 0)) (roots_below r labels 64))
+          (flags v l ∙ is_true {b = is_required p v} t)
           ∙ root_component (required_of p ok t)
       | inr t ↦
           ap (λ b. cond b (roots_below r labels (get_or labels v 0)) (roots_below r labels 64)) (flags v l ∙ of_not {b = is_required p v} t)

@@ -113,7 +113,8 @@ occurs_again xs s e v = occurs_more v xs s ∙ at (eqb v s) refl
 
 -- ---- the page
 
-pub source_small : (n : ℕ) (pairs : List ℕ) (k source : ℕ) → n ≤ 64 → ArePairs n pairs → k < length pairs → source ≡ first (get_or pairs k 0)
+pub source_small : (n : ℕ) (pairs : List ℕ) (k source : ℕ) → n ≤ 64 → ArePairs n pairs → k < length pairs
+    → source ≡ first (get_or pairs k 0)
     → source < 64
 source_small n pairs k source w a l e = let h = (a.inside k l).0 in omega arith
 
@@ -159,7 +160,8 @@ module _ (p : Plan) (pairs old : List ℕ) where
         flag = λ v g. rw m (h.flag v g ∙ sym (a v));
         filled = rw m record {
           same = h.filled.same;
-          put = λ j g. h.filled.put j g ∙ ap (λ b. cond b (entry p (get_or pairs j 0)) (get_or old j 0)) (sym (a (first (get_or pairs j 0))));
+          put = λ j g. h.filled.put j g ∙ ap (λ b. cond b (entry p (get_or pairs j 0)) (get_or old j 0))
+              (sym (a (first (get_or pairs j 0))));
           kept = h.filled.kept;
         };
         count = rw m (rw (distinct_more (seen pairs k) source, o) h.count);
@@ -167,7 +169,8 @@ module _ (p : Plan) (pairs old : List ℕ) where
       }
 
   -- A search where it does not.
-  pub filled_more : (now now' : List ℕ) (searched : List Bool) (searches k source : ℕ) → source ≡ first (get_or pairs k 0) → k < length pairs
+  pub filled_more : (now now' : List ℕ) (searched : List Bool) (searches k source : ℕ) → source ≡ first (get_or pairs k 0)
+      → k < length pairs
       → source < 64
       → get_or searched source false ≡ false → IsFilled now searched searches k → IsSearchPut p source pairs now now'
       → IsFilled now' (set searched source true) (searches + 1) (k + 1)

@@ -100,7 +100,8 @@ unfolding moved_unless
 entry_stays m bytes budget k f = rw f refl
 
 pub refused_entered : (m : Machine) (bytes : List ℕ) (budget : ℕ) (r : Refusal)
-    → entry_refusal (line_of m) bytes budget ≡ some (refusal_number r) → IsEntered m bytes budget (record { answer = Refused r; machine = m })
+    → entry_refusal (line_of m) bytes budget ≡ some (refusal_number r)
+    → IsEntered m bytes budget (record { answer = Refused r; machine = m })
 refused_entered m bytes budget r f = record {
   refusal = sym f;
   place = λ q a. (zero_is_one (cc));
@@ -149,7 +150,8 @@ module _ (m : Machine) (bytes : List ℕ) (budget : ℕ) where
   pub entry_line : line_of (after_entry m bytes budget) ≡ enter (line_of m) bytes budget
   entry_line = at (entry_refusal (line_of m) bytes budget) refl
     where
-      at : (o : Option ℕ) → entry_refusal (line_of m) bytes budget ≡ o → line_of (after_entry m bytes budget) ≡ enter (line_of m) bytes budget
+      at : (o : Option ℕ) → entry_refusal (line_of m) bytes budget ≡ o
+          → line_of (after_entry m bytes budget) ≡ enter (line_of m) bytes budget
       at (some k) f = ap (λ (y : Machine). line_of y) (entry_stays m bytes budget k f) ∙ sym (enter_refused (line_of m) bytes budget k f)
       at none f =
           ap (λ (y : Machine). line_of y) (entry_moves m bytes budget f)

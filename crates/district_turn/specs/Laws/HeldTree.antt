@@ -145,7 +145,8 @@ module _ (p : Plan) (w : WellFormed p) (flags : List Bool) (of : List ℕ) (k : 
         record {
           tail_in = tail_small q l;
           head_in = head_small q l;
-          is_link_holds = hl (tail q) (head q) (tail_small q l) (head_small q l) ∙ is_true (mem_held (links p) (tail q) (head q) e.is_link_holds);
+          is_link_holds = hl (tail q) (head q) (tail_small q l) (head_small q l)
+              ∙ is_true (mem_held (links p) (tail q) (head q) e.is_link_holds);
           head = hc.each (head q) (head_small q l) ∙ e.head;
           tail = λ z. e.tail (sym (hc.each (tail q) (tail_small q l)) ∙ z);
         }

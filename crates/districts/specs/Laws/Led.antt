@@ -74,7 +74,8 @@ module _ (m : Machine) (sheet : ℕ) where
 
   -- AN ANSWERED TURN IS AN ACCEPTED ONE, and of the front district
   pub met_answered : Met m sheet → had_turn (outcome_of (meeting m sheet)) ≡ is_accepted (line_of m) sheet
-  met_answered (no_one e k) = ap (λ (x : Meeting). had_turn (outcome_of x)) k ∙ sym (ap (λ (l : Line). is_accepted l sheet) e ∙ none_accepted)
+  met_answered (no_one e k) = ap (λ (x : Meeting). had_turn (outcome_of x)) k
+      ∙ sym (ap (λ (l : Line). is_accepted l sheet) e ∙ none_accepted)
   met_answered (too_short f ds e s k) =
       ap (λ (x : Meeting). had_turn (outcome_of x)) k ∙ sym (ap (λ (l : Line). is_accepted l sheet) (line_by f ds e) ∙ short_not _ _ s)
   met_answered (going f ds e s u q k) =

@@ -146,11 +146,13 @@ module _ (p : Plan) (t : List Link) (amounts : List ℕ) where
     pub places_arc : (e : ℕ) → e < length numbers → places e ≡ get_or numbers e 0 ∷ []
     places_arc = places_number path numbers (leg_tails p t amounts) (leg_heads p t amounts)
 
-    pub places_other : (e : ℕ) → length numbers ≤ e → places e ≡ path (get_or (leg_tails p t amounts) e 0) (get_or (leg_heads p t amounts) e 0)
+    pub places_other : (e : ℕ) → length numbers ≤ e → places e ≡ path (get_or (leg_tails p t amounts) e 0)
+        (get_or (leg_heads p t amounts) e 0)
     places_other = places_path path numbers (leg_tails p t amounts) (leg_heads p t amounts)
 
     -- a sum over all legs, in the order of the circuit
-    pub legs_sum : (c : ℕ → ℕ) → Permutation (circuit (leg_tails p t amounts) (leg_heads p t amounts)) (below (length (leg_tails p t amounts)))
+    pub legs_sum : (c : ℕ → ℕ) → Permutation (circuit (leg_tails p t amounts) (leg_heads p t amounts))
+        (below (length (leg_tails p t amounts)))
         → sum_of (map c (circuit (leg_tails p t amounts) (leg_heads p t amounts)))
         ≡ sum_of (map c (up_from 0 (length numbers))) + sum_of (map c (up_from (length numbers) (length others)))
     unfolding below

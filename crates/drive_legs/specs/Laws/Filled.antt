@@ -98,7 +98,8 @@ pub added_units : (amounts : List ℕ) (x k n m : ℕ) (ts ts' ts'' hs hs' hs'' 
     → Extends ts' m (replicate k (x / 64)) ts'' → Extends hs' m (replicate k (x % 64)) hs''
     → Added (units_below (x + 1) amounts) n (m + k) ts ts'' hs hs''
 added_units amounts x k n m ts ts' ts'' hs hs' hs'' e a b c =
-    subst⁻¹ (λ z. Added z n (m + k) ts ts'' hs hs'') (units_more amounts x ∙ ap (λ z. units_below x amounts ++ replicate z (pair_at x)) (sym e))
+    subst⁻¹ (λ z. Added z n (m + k) ts ts'' hs hs'') (units_more amounts x ∙ ap (λ z. units_below x amounts ++ replicate z (pair_at x))
+    (sym e))
     (subst (λ z. Added (units_below x amounts ++ replicate k (pair_at x)) n (m + z) ts ts'' hs hs'') (length-replicate k (pair_at x))
     (added_more (units_below x amounts) (replicate k (pair_at x)) n m ts ts' ts'' hs hs' hs'' a
     (subst⁻¹ (λ z. Extends ts' m z ts'') (map_replicate (λ l. l.tail) k (pair_at x)) b)

@@ -29,7 +29,7 @@ use Rattle.postman_laws.specs.Laws.Component.{both_of, undirected, component_lt,
 use Rattle.postman_laws.specs.Laws.Link.{link_ends}
 use Rattle.postman_laws.specs.Laws.Arborescence.{joins}
 use Rattle.postman_laws.specs.Laws.Balancing.{within_heads, within_tails}
-use Rattle.postman_laws.specs.Laws.LinkLegs.{ends, ends_heads, ends_tails}
+use Rattle.postman_laws.specs.Laws.LinkLegs.{ends_heads, ends_tails}
 use Rattle.hierholzer.specs.Eulerian.{Eulerian}
 use Rattle.postman.specs.Steps.{amount, pair_at, no_link}
 use Rattle.drive_legs.specs.Legs.{units_below, units, arc_leg, legs, leg_tails, leg_heads, Completes}

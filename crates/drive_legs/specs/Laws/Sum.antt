@@ -21,7 +21,8 @@ sum_select f (v ∷ vs) g z =
 
 -- ---- 64 rows of 64, one after the other
 
-row_sum : (g : ℕ → ℕ → ℕ) (a b n : ℕ) → b + n ≤ 64 → sum_over (up_from (a * 64 + b) n) (λ x. g (x / 64) (x % 64)) ≡ sum_over (up_from b n) (g a)
+row_sum : (g : ℕ → ℕ → ℕ) (a b n : ℕ) → b + n ≤ 64 → sum_over (up_from (a * 64 + b) n) (λ x. g (x / 64) (x % 64)) ≡ sum_over (up_from b n)
+    (g a)
 unfolding sum_over up_from
 row_sum g a b zero l = refl
 row_sum g a b (suc n) l =

@@ -118,7 +118,8 @@ module _ (flags : List Bool) where
       (λ t. (let r = any_of_at (λ k. get_or flags k false) (below 256) t in rw (h r.0 (below_mem r.1)) at r.2)))
 
 -- no must arc is there exactly when no flag is set
-pub has_required : (p : Plan) (flags : List Bool) → AreDue flags (required_numbers p) → eqb (length (required_arcs p)) 0 ≡ not (has_flag flags)
+pub has_required : (p : Plan) (flags : List Bool) → AreDue flags (required_numbers p)
+    → eqb (length (required_arcs p)) 0 ≡ not (has_flag flags)
 has_required p flags h =
     let e : length (required_arcs p) ≡ length (required_numbers p) =
     sym (ap length (numbers_arcs p)) ∙ length-map (required_numbers p) (λ k. arc_at p.arcs k) in
@@ -265,7 +266,8 @@ module _ (p : Plan) (w : List ℕ) where
 module _ (rows : List (List ℕ)) (w : List ℕ) (known : has_foreign (plan_over rows) w ≡ false) (flags : List Bool) (cost i : ℕ)
     (l : i < length w)
     (h : IsTallied (plan_over rows) w flags cost i) (x : ℕ)
-    (e : x ≡ cond (get_or flags (get_or w i 0) false) (get_or (get_or rows (get_or w i 0) []) 4 0) (get_or (get_or rows (get_or w i 0) []) 3 0)) where
+    (e : x ≡ cond (get_or flags (get_or w i 0) false) (get_or (get_or rows (get_or w i 0) []) 4 0)
+    (get_or (get_or rows (get_or w i 0) []) 3 0)) where
   abbrev at : ℕ
   at = get_or w i 0
 

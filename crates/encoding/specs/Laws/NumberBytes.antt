@@ -89,7 +89,8 @@ reads l (suc n) i h =
     ap (λ (x : List ℕ). get_or l i 0 ∷ x) (reads l n (suc i) (omega arith)) ∙ ap (take (suc n)) (sym (drop-cons l i 0 (omega arith)))
 
 pub eight_read : (l : List ℕ) (i : ℕ) → i + 8 ≤ length l
-    → get_or l i 0 ∷ get_or l (i + 1) 0 ∷ get_or l (i + 2) 0 ∷ get_or l (i + 3) 0 ∷ get_or l (i + 4) 0 ∷ get_or l (i + 5) 0 ∷ get_or l (i + 6) 0
+    → get_or l i 0 ∷ get_or l (i + 1) 0 ∷ get_or l (i + 2) 0 ∷ get_or l (i + 3) 0 ∷ get_or l (i + 4) 0 ∷ get_or l (i + 5) 0
+    ∷ get_or l (i + 6) 0
     ∷ get_or l (i + 7) 0 ∷ [] ≡ take 8 (drop i l)
 eight_read l i h =
     let e₁ : i + 1 ≡ suc i = omega arith in

@@ -44,7 +44,8 @@ arcs_append : (xs ys : List Arc) → flat_map arc_bytes (xs ++ ys) ≡ flat_map 
 unfolding flat_map
 arcs_append [] ys = refl
 arcs_append (x ∷ xs) ys =
-    ap (λ (l : List ℕ). arc_bytes x ++ l) (arcs_append xs ys) ∙ sym (append_assoc (arc_bytes x) (flat_map arc_bytes xs) (flat_map arc_bytes ys))
+    ap (λ (l : List ℕ). arc_bytes x ++ l) (arcs_append xs ys)
+    ∙ sym (append_assoc (arc_bytes x) (flat_map arc_bytes xs) (flat_map arc_bytes ys))
 
 -- ---- records that are stored
 
@@ -97,7 +98,8 @@ module _ (lent : List ℕ) where
   length_records = length-map (arcs_in lent) record_of ∙ length_lent lent
 
   record_is : (k : ℕ) → k < length lent / 7 → lent_record k ≡ get_or (map record_of (arcs_in lent)) k zero_record
-  record_is k h = sym (get_or-map record_of (arcs_in lent) k (arc_value zero_record) ∙ ap record_of (lent_at lent k (arc_value zero_record) h))
+  record_is k h = sym (get_or-map record_of (arcs_in lent) k (arc_value zero_record)
+      ∙ ap record_of (lent_at lent k (arc_value zero_record) h))
 
   -- The first 256 of them, in an array of zeros.
   pub loaded_is : stored_to lent_record (replicate 256 zero_record) (at_most (length lent / 7) 256) ≡ loaded (map record_of (arcs_in lent))

@@ -57,7 +57,8 @@ module _ (bytes : List ℕ) (c : Change) where
   unfolding file_change_refusal
   unread q h = rw h
 
-  pub read_on : first_refusal (file_conditions bytes) ≡ none → file_change_refusal bytes c ≡ change_refusal (edition bytes) (plan_of bytes) c
+  pub read_on : first_refusal (file_conditions bytes) ≡ none → file_change_refusal bytes c ≡ change_refusal (edition bytes)
+      (plan_of bytes) c
   unfolding file_change_refusal
   read_on h = rw h
 

@@ -42,7 +42,8 @@ module _ {A : Type 0} (d : A) (n : ℕ) (z : A) (f : ℕ → A) where
   }
 
   -- WHAT IT HOLDS THEN
-  pub padded_is : (r xs : List A) (i : ℕ) → IsPadded d n z f r i → i ≡ length xs → ((j : ℕ) → j < i → f j ≡ get_or xs j d) → r ≡ padded n z xs
+  pub padded_is : (r xs : List A) (i : ℕ) → IsPadded d n z f r i → i ≡ length xs → ((j : ℕ) → j < i → f j ≡ get_or xs j d)
+      → r ≡ padded n z xs
   padded_is r xs i h e g =
       let a = length-append xs (replicate (n - length xs) z) in
       let b = length-replicate (n - length xs) z in

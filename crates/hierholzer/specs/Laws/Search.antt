@@ -15,7 +15,8 @@ from_none f a (suc n) h =
     cond_ind (f a) 0 (suc (first_index f (up_from (suc a) n))) (λ z. z ≡ suc n)
     (λ u. absurd (T_not (f a) (h a (omega arith) (omega arith)) u)) (λ u. ap suc r)
 
-from_at : (f : ℕ → Bool) (a n q : ℕ) → q < n → T (f (a + q)) → ((k : ℕ) → a ≤ k → k < a + q → T (not (f k))) → first_index f (up_from a n) ≡ q
+from_at : (f : ℕ → Bool) (a n q : ℕ) → q < n → T (f (a + q)) → ((k : ℕ) → a ≤ k → k < a + q → T (not (f k)))
+    → first_index f (up_from a n) ≡ q
 unfolding first_index up_from
 from_at f a zero q l t h = absurd (omega arith)
 from_at f a (suc n) zero l t h =

@@ -100,7 +100,8 @@ module _ (bytes w : List ℕ) where
       → plan_answer (plan_of bytes) w ≡ judge_answer bytes w
   unfolding plan_answer list_answer judge_answer first_refusal answer
   good_answer l e =
-      at (eqb (length (required_arcs (plan_of bytes))) 0) (first_refusal (fault_conditions (plan_of bytes) w)) (drive_cost (plan_of bytes) w)
+      at (eqb (length (required_arcs (plan_of bytes))) 0) (first_refusal (fault_conditions (plan_of bytes) w))
+      (drive_cost (plan_of bytes) w)
       ∙ ap (λ (o : Option ℕ). answer o (drive_cost (plan_of bytes) w))
       (sym (judge_conditions bytes w ∙ first_on (lent_conditions bytes (length w)) _ (lent_short bytes (length w) l ∙ e)))
     where

@@ -50,7 +50,8 @@ line_zeros (suc n) =
 -- ITS BYTES
 pub empty_zeros : machine_bytes empty_machine ≡ replicate districts_bytes 0
 unfolding machine_bytes
-empty_zeros = ap (λ (x : List ℕ). flat_map district_bytes (replicate 8 empty_district) ++ x) long_zeros ∙ more_zeros _ 12128 8 (line_zeros 8)
+empty_zeros = ap (λ (x : List ℕ). flat_map district_bytes (replicate 8 empty_district) ++ x) long_zeros
+    ∙ more_zeros _ 12128 8 (line_zeros 8)
 
 empty_sized : IsDistrictSized empty_district
 empty_sized = record { file = (held_size [] (omega arith)).0; held = record { tails = refl; heads = refl } }

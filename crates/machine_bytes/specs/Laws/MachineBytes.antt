@@ -157,7 +157,8 @@ sized_at (d ∷ l) h zero z m = h d (Memᴰ.head refl)
 sized_at (d ∷ l) h (suc k) z m = sized_at l (λ x n. h x (Memᴰ.tail n)) k z (omega arith)
 
 -- each stands where it was put
-district_stands : (l : List District) → AreSized l → {all : List ℕ} (i : ℕ) → IsAt all i (flat_map district_bytes l) → (k : ℕ) (z : District)
+district_stands : (l : List District) → AreSized l → {all : List ℕ} (i : ℕ) → IsAt all i (flat_map district_bytes l)
+    → (k : ℕ) (z : District)
     → k < length l
     → IsAt all (i + 1516 * k) (district_bytes (get_or l k z))
 unfolding flat_map

@@ -29,7 +29,8 @@ module _ {A : Type 0} (f : ℕ → A) (z : A) where
       let y : x ≡ f b = h 0 (omega arith) ∙ ap f (omega arith) in
       ap (λ x. x ∷ xs) y ∙ ap (λ xs. f b ∷ xs) (filled xs (suc b) n l (λ j k. h (suc j) (omega arith) ∙ ap f (omega arith)))
 
-pub table_is : (p : Plan) (t : List (List ℕ)) → length t ≡ 64 → ((i : ℕ) → i < 64 → length (get_or t i []) ≡ 64) → IsTable p t → t ≡ table_of p
+pub table_is : (p : Plan) (t : List (List ℕ)) → length t ≡ 64 → ((i : ℕ) → i < 64 → length (get_or t i []) ≡ 64) → IsTable p t
+    → t ≡ table_of p
 unfolding table_of below
 table_is p t e r h =
     let row : (i : ℕ) → i < 64 → get_or t i [] ≡ map (distance p i) (up_from 0 64) =

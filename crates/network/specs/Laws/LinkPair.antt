@@ -10,7 +10,7 @@ use Prim.Native.Nat.{ℕ, zero, suc, ◌+◌, ◌*◌, ◌-◌, ◌/◌, ◌%◌
 use native.Mathlib.Omega.{arith}
 use Rattle.std.proofs.Math.ListN.{length, length-set}
 use Rattle.std.proofs.Math.Dec.{eqb, not_T, T_not}
-use Rattle.postman.specs.Lists.{select, any_of, below, up_from}
+use Rattle.postman.specs.Lists.{any_of, below, up_from}
 use Rattle.postman.specs.Plan.{Plan, WellFormed}
 use Rattle.postman.specs.Required.{is_required, required}
 use Rattle.postman.specs.Distance.{distance}
@@ -25,7 +25,7 @@ use Rattle.required.specs.StepContracts.{IsRequiredFlags}
 use Rattle.postman.specs.Steps.{cell, pair_at}
 use Rattle.postman_laws.specs.Laws.Required.{required_below}
 use Rattle.network.specs.Thinning.{flag, is_pair, between, turn_at, rows_thinned}
-use Rattle.required.specs.Laws.RequiredVertex.{required_of, of_required}
+use Rattle.required.specs.Laws.RequiredVertex.{of_required}
 use Rattle.network.specs.Laws.Vertices.{required_of_64}
 use Rattle.network.specs.Laws.CutOff.{flagged, flag_of}
 use Rattle.network.specs.Laws.Thinning.{places_thinned, rows_places}
@@ -145,7 +145,8 @@ module _ (p : Plan) (ok : WellFormed p) (d : List (List ℕ)) (r : List Bool) (k
     }
 
   -- the pairs that it starts from
-  starts : (h : List Bool) → length h ≡ 4096 → ((i j : ℕ) → i < 64 → j < 64 → flag h i j ≡ is_pair i j (get_or r i false) (get_or r j false))
+  starts : (h : List Bool) → length h ≡ 4096 → ((i j : ℕ) → i < 64 → j < 64
+      → flag h i j ≡ is_pair i j (get_or r i false) (get_or r j false))
       → Agree h (proper_pairs p)
   starts h s e = record {
     size = s;

@@ -139,7 +139,8 @@ module _ (d : List (List ℕ)) (held : List Bool) where
   pub rows_turn : (i j : ℕ) (before after : List Bool) → before ≡ rows_thinned d held i → after ≡ row_thinned d before i j → j ≡ 64
       → after ≡ rows_thinned d held (i + 1)
   unfolding rows_thinned
-  rows_turn i j before after e f g = f ∙ ap₂ (λ (h : List Bool) (k : ℕ). row_thinned d h i k) e g ∙ sym (ap (rows_thinned d held) (add-one i))
+  rows_turn i j before after e f g = f ∙ ap₂ (λ (h : List Bool) (k : ℕ). row_thinned d h i k) e g
+      ∙ sym (ap (rows_thinned d held) (add-one i))
 
   -- by places, as the pair (i, j) has the place 64 i + j
   unfoldable pub places_thinned : ℕ → List Bool

@@ -57,7 +57,8 @@ module _ (s : OpenPlan) (c : Change) (w : Rewritten)
 -- ---- opening
 
 module _ (bytes : List ℕ) (s : OpenPlan) (r : Moved) where
-  pub open_accepted : first_refusal (file_conditions bytes) ≡ none → s ≡ fresh_state (held_of bytes) → IsMoveAnswer none s r → IsOpened bytes r
+  pub open_accepted : first_refusal (file_conditions bytes) ≡ none → s ≡ fresh_state (held_of bytes) → IsMoveAnswer none s r
+      → IsOpened bytes r
   unfolding unless
   open_accepted e f a = record { verdict = a.verdict ∙ sym e; state = rw e (a.state ∙ f) }
 

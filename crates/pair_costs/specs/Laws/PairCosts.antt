@@ -108,7 +108,8 @@ module _ (d : List (List ℕ)) (u : List ℤ) (c : List ℕ) (r : List Bool) (ok
       high = λ y b. ≤ℤ-trans (falls y) (h.high y b);
       least = λ i b t. elim (ℕ_discrete i n) [
         | yes s ↦ subst⁻¹ (λ i. get_or m' (entry_for c r (i / 64) (i % 64)) (pos 0) ≤ℤ cost_of d u (i / 64) (i % 64)) s
-            (subst (λ y. get_or m' y (pos 0) ≤ℤ cost_of d u (n / 64) (n % 64)) e (subst⁻¹ (λ (a : ℤ). a ≤ℤ cost_of d u (n / 64) (n % 64)) at_x
+            (subst (λ y. get_or m' y (pos 0) ≤ℤ cost_of d u (n / 64) (n % 64)) e
+            (subst⁻¹ (λ (a : ℤ). a ≤ℤ cost_of d u (n / 64) (n % 64)) at_x
             (subst (λ (a : ℤ). v ≤ℤ a)
             (ap (λ b. cond b (cost_of d u (n / 64) (n % 64)) (pos highest)) (ap (λ i. are_required r (i / 64) (i % 64)) (sym s) ∙ t))
             k.second)))

@@ -100,7 +100,11 @@ module _ (p : Plan) where
   mem_others {q} a b = mem_up_from 1 (k - 1) a (omega arith)
 
   mem_all : {q : ℕ} → q < k → Memᴰ q (0 ∷ vs)
-  mem_all {q} l = elim (ℕ_discrete q 0) [ yes e ↦ mathlib.Core.List.Memᴰ.head e | no o ↦ mathlib.Core.List.Memᴰ.tail (mem_others (omega arith) l) ]
+  mem_all {q} l = elim (ℕ_discrete q 0) [
+    | yes e ↦ mathlib.Core.List.Memᴰ.head e
+    | no o ↦ mathlib.Core.List.Memᴰ.tail
+        (mem_others (omega arith) l)
+  ]
 
   all_lt : 1 ≤ k → {q : ℕ} → Memᴰ q (0 ∷ vs) → q < k
   all_lt s m = elim (mathlib.Core.List.Memᴰ.cases_cons m) [ inl e ↦ (omega arith) | inr n ↦ (others_lt n).1 ]
@@ -210,7 +214,8 @@ module _ (p : Plan) where
           map_legs : (qs : List ℕ) → ((q : ℕ) → Memᴰ q qs → Memᴰ q vs)
               → map (λ q. sum_ofℤ (map reduced (leg q).0)) qs ≡ map (λ q. w (up q) q) qs
           map_legs [] h = refl
-          map_legs (q ∷ qs) h = ap₂ ◌∷◌ ((leg q).1 (h q (mathlib.Core.List.Memᴰ.head refl))).cost (map_legs qs (λ x m. h x (mathlib.Core.List.Memᴰ.tail m)))
+          map_legs (q ∷ qs) h = ap₂ ◌∷◌ ((leg q).1 (h q (mathlib.Core.List.Memᴰ.head refl))).cost
+              (map_legs qs (λ x m. h x (mathlib.Core.List.Memᴰ.tail m)))
 
       chain_links : (i j : ℕ) (ls : List Link) → IsChain p i ls j → (l : Link) → Memᴰ l ls → Memᴰ l (links p)
       chain_links i j [] h l m = elim m [ ]

@@ -215,7 +215,8 @@ pub record IsCheapestPath (p : Plan) (i j : ℕ) (w : List ℕ) : Type 0 where
   pub leaves : occurrences i (entered p.arcs w) ≡ 0
   pub lowest : (v : List ℕ) → IsWalk p.arcs i v j → walk_cost p.arcs v ≡ distance p i j → T (not (is_before v w))
 
-pub cheapest_path_lem : (p : Plan) → IsWeighted p → (i j : ℕ) → i < p.n → distance p i j < no_path → IsCheapestPath p i j (cheapest_path p i j)
+pub cheapest_path_lem : (p : Plan) → IsWeighted p → (i j : ℕ) → i < p.n → distance p i j < no_path
+    → IsCheapestPath p i j (cheapest_path p i j)
 unfolding cheapest_path
 cheapest_path_lem p ok i j l h =
     let g = rank_lt p ok j i l in

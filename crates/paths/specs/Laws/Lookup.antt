@@ -1,11 +1,11 @@
 -- What is looked up among lent rows and a column is the next arc of their weighted plan: arc k is
 -- row k, and the column holds the weights to j.
-use Rattle.std.specs.Prelude.{◌≡◌, refl, Bool, ◌&&◌, List, [], ◌∷◌, ℕ, zero, suc, ◌+◌, ◌<◌, ◌≤◌, length, get_or, take, eqb}
+use Rattle.std.specs.Prelude.{◌≡◌, refl, Bool, List, [], ℕ, zero, suc, ◌+◌, ◌<◌, ◌≤◌, length, get_or, take}
 use Rattle.std.proofs.Common.{sym, ◌∙◌, arith, length-take-le, get_or-take}
 use Rattle.std.proofs.Math.Path.{ap, subst⁻¹}
 use Rattle.std.proofs.lemmas.List.{length-map}
 use Rattle.postman.specs.Lists.{first_index, up_from, below}
-use Rattle.postman.specs.Plan.{Arc, Plan, WellFormed, IsArc, is_open, arc_at}
+use Rattle.postman.specs.Plan.{Plan, WellFormed, arc_at}
 use Rattle.postman.specs.Distance.{no_path, distance}
 use Rattle.postman.specs.Laws.Membership.{get_d_mem}
 use Rattle.plan.specs.declared.Plan.{Plan as PlanRecord}
@@ -20,7 +20,8 @@ use Rattle.shortest.specs.Weight.{heavy, weighted}
 use Rattle.shortest.specs.Laws.Weight.{heavy_at}
 
 -- the first index of two tests that agree
-first_same : (f g : ℕ → Bool) (a n : ℕ) → ((k : ℕ) → a ≤ k → k < a + n → f k ≡ g k) → first_index f (up_from a n) ≡ first_index g (up_from a n)
+first_same : (f g : ℕ → Bool) (a n : ℕ) → ((k : ℕ) → a ≤ k → k < a + n → f k ≡ g k)
+    → first_index f (up_from a n) ≡ first_index g (up_from a n)
 unfolding first_index up_from
 first_same f g a zero h = refl
 first_same f g a (suc n) h =

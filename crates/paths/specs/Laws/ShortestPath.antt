@@ -1,7 +1,7 @@
 -- The path of a leg is the path of fewest arcs: a lightest one costs d, has no more arcs than any that costs as
 -- much, and none of its weight comes before it.
-use Rattle.std.specs.Prelude.{◌≡◌, List, ℕ, ◌+◌, ◌-◌, ◌*◌, ◌≤◌, ◌<◌, length}
-use Rattle.std.proofs.Common.{◌∙◌, subst, arith}
+use Rattle.std.specs.Prelude.{◌≡◌, List, ℕ, ◌-◌, ◌≤◌, ◌<◌, length}
+use Rattle.std.proofs.Common.{subst, arith}
 use Rattle.postman.specs.Lists.{occurrences}
 use Rattle.postman.specs.Plan.{Plan, WellFormed}
 use Rattle.postman.specs.Drive.{IsWalk, walk_cost}
@@ -66,7 +66,9 @@ module _ (p : Plan) (ok : WellFormed p) (i j : ℕ) (l : i < p.n) (w : List ℕ)
         leaves = subst (λ vs. occurrences i vs ≡ 0) e h.leaves;
       }
 
-pub shortest_path_lem : (p : Plan) → WellFormed p → (i j : ℕ) → i < p.n → distance p i j < no_path → IsShortestPath p i j (shortest_path p i j)
+pub shortest_path_lem : (p : Plan) → WellFormed p → (i j : ℕ) → i < p.n → distance p i j < no_path
+    → IsShortestPath p i j (shortest_path p i j)
 unfolding shortest_path
 shortest_path_lem p ok i j l h =
-    is_shortest p ok i j l (cheapest_path (weighted p) i j) (cheapest_path_lem (weighted p) (is_weighted p ok) i j l (weight_path p ok i j l h))
+    is_shortest p ok i j l (cheapest_path (weighted p) i j) (cheapest_path_lem (weighted p) (is_weighted p ok) i j l
+    (weight_path p ok i j l h))

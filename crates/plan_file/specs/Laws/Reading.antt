@@ -29,7 +29,8 @@ use Rattle.postman.specs.Plan.{Plan}
 pub frame-refusal
     : (bytes : List ℕ)
     → first_refusal (frame_conditions bytes)
-    ≡ cond (ltb (length bytes) 3) (some 1) (cond (not (is_edition (edition bytes))) (some 2) (first_refusal (extent_on bytes (edition bytes))))
+    ≡ cond (ltb (length bytes) 3) (some 1) (cond (not (is_edition (edition bytes))) (some 2)
+    (first_refusal (extent_on bytes (edition bytes))))
 unfolding first_refusal frame_conditions edition_conditions
 frame-refusal bytes = refl
 
@@ -95,7 +96,8 @@ module _ (bytes : List ℕ) (good : first_refusal (frame_conditions bytes) ≡ n
       ap₂ (λ (x : ℕ) (p : Plan). first_refusal (plan_conditions x p)) is (ap plan_value read ∙ value_record (plan_of bytes))
       ∙ sym (frame_passed bytes good)
 
-  pub given_reading : first_refusal (file_conditions bytes) ≡ none → IsReading bytes (record { verdict = Accepted; edition = e; plan = plan })
+  pub given_reading : first_refusal (file_conditions bytes) ≡ none
+      → IsReading bytes (record { verdict = Accepted; edition = e; plan = plan })
   unfolding edition_unless plan_unless
   given_reading h = record { verdict = sym h; edition_is = rw h is; plan = rw h read }
 

@@ -106,9 +106,11 @@ module _ (e : ℕ) where
   unfolding flat_map
   flat_snoc [] a = append-nil (arc_bits e a)
   flat_snoc (x ∷ arcs) a =
-      ap (λ (l : List ℕ). arc_bits e x ++ l) (flat_snoc arcs a) ∙ sym (append_assoc (arc_bits e x) (flat_map (arc_bits e) arcs) (arc_bits e a))
+      ap (λ (l : List ℕ). arc_bits e x ++ l) (flat_snoc arcs a)
+      ∙ sym (append_assoc (arc_bits e x) (flat_map (arc_bits e) arcs) (arc_bits e a))
 
-  flat_more : (f : ℕ → Arc) (k : ℕ) → flat_map (arc_bits e) (map f (below (suc k))) ≡ flat_map (arc_bits e) (map f (below k)) ++ arc_bits e (f k)
+  flat_more : (f : ℕ → Arc) (k : ℕ) → flat_map (arc_bits e) (map f (below (suc k))) ≡ flat_map (arc_bits e) (map f (below k))
+      ++ arc_bits e (f k)
   flat_more f k =
       ap (λ (n : ℕ). flat_map (arc_bits e) (map f (below n))) (sym (add-one k)) ∙ ap (flat_map (arc_bits e)) (map_below_more f k)
       ∙ flat_snoc (map f (below k)) (f k)
@@ -195,7 +197,8 @@ module _ (old : List ℕ) (len : ℕ) (room : len ≤ length old) where
       simp length-append (omega (arith, rw (length_map_below f k) at (length_arcs e (map f (below k))))) in
       let after = holds-arc e (put_arcs s e f k) (bits ++ flat_map (arc_bits e) (map f (below k))) (file_bits e k) (f k) before n
       (omega arith) in
-      let join : bits ++ flat_map (arc_bits e) (map f (below k)) ++ arc_bits e (f k) ≡ bits ++ flat_map (arc_bits e) (map f (below (suc k))) =
+      let join : bits ++ flat_map (arc_bits e) (map f (below k)) ++ arc_bits e (f k) ≡ bits
+      ++ flat_map (arc_bits e) (map f (below (suc k))) =
       append_assoc bits (flat_map (arc_bits e) (map f (below k))) (arc_bits e (f k))
       ∙ ap (λ (l : List ℕ). bits ++ l) (sym (flat_more e f k)) in
       subst (λ (l : List ℕ). Holds old len (put_arcs s e f (suc k)) l) join after

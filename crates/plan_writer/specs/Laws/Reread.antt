@@ -64,11 +64,11 @@ module _ (e : ℕ) (p : Plan) (bytes s : List ℕ) (room : length bytes ≡ 1475
       let can = accepted_is_writable e g 1475 w in
       let same : IsReading (file_of e g) r = rw (written-file e g bytes s k h f).1 at read in
       let none_of : first_refusal (file_conditions (file_of e g)) ≡ none =
-      file_is_accepted (file_of e g) (is_file e g ok can.edition_in can.arcs_in) in
+      file_is_accepted (file_of e g) (is_file e g ok can.edition_in can.arcs_in_holds) in
       record {
         verdict = same.verdict ∙ none_of ∙ sym w;
         edition_is = rw w (rw (none_of, edition_same e g can.edition_in) at same.edition_is);
-        plan = rw w (rw (none_of, plan_same e g ok can.edition_in can.arcs_in) at same.plan);
+        plan = rw w (rw (none_of, plan_same e g ok can.edition_in can.arcs_in_holds) at same.plan);
       }
 
   pub reread-refused

@@ -46,7 +46,8 @@ module _ (bytes : List ℕ) (budget places : ℕ) where
   unfolding first_refusal call_conditions sheet_refusal budget_refusal
   later_refusal w = rw (parts_refusal p w)
 
-  pub file_good : WellFormed p → first_refusal (file_conditions bytes) ≡ none → call_refusal bytes budget places ≡ sheet_refusal p budget places
+  pub file_good : WellFormed p → first_refusal (file_conditions bytes) ≡ none
+      → call_refusal bytes budget places ≡ sheet_refusal p budget places
   file_good w e = file_on e ∙ later_refusal w
 
 -- the plan of a file that is not refused

@@ -361,7 +361,8 @@ pub record BeforeAccepted (bytes : List ℕ) (b places : ℕ) (own : Conditions)
   pub some_required : 0 < length (required_arcs p)
   pub components : component_count p ≤ 8
 
-pub call_limits : (b places : ℕ) → first_refusal (call_conditions b places) ≡ none → (sheet_places ≤ places) × (1 ≤ b) × (b ≤ highest_budget)
+pub call_limits : (b places : ℕ) → first_refusal (call_conditions b places) ≡ none
+    → (sheet_places ≤ places) × (1 ≤ b) × (b ≤ highest_budget)
 unfolding call_conditions
 call_limits b places h =
     let eight = accepted_cons _ _ _ h in

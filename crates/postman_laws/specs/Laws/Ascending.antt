@@ -47,7 +47,8 @@ index_lt f (Memᴰ.tail {x = y} {xs = ys} m) t =
     let r = index_lt f m t in
     cond_ind (f y) 0 (suc (first_index f ys)) (λ z. z < suc (length ys)) (λ u. omega arith) (λ u. omega arith)
 
-pub index_at : (f : ℕ → Bool) (xs : List ℕ) (q : ℕ) → q < length xs → T (f (get_or xs q 0)) → ((r : ℕ) → r < q → T (not (f (get_or xs r 0))))
+pub index_at : (f : ℕ → Bool) (xs : List ℕ) (q : ℕ) → q < length xs → T (f (get_or xs q 0))
+    → ((r : ℕ) → r < q → T (not (f (get_or xs r 0))))
     → first_index f xs ≡ q
 unfolding first_index
 index_at f [] q l t h = absurd (omega arith)

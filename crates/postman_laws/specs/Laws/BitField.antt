@@ -196,7 +196,8 @@ append_lt (x ∷ l) r f g (suc k) = append_lt l r (λ j. f (suc j)) g k
 -- the field that stands after `before`, and before `after`
 pub read_last : (before : List ℕ) {i : ℕ} (w x : ℕ) → length before ≡ i → x < 2 ^ w → number (bit_in (before ++ bits_of w x)) i w ≡ x
 read_last before w x e l =
-    number_of_bits (bit_in (before ++ bits_of w x)) _ w x l (λ j g. rw (← e) (get_or-append-add before (bits_of w x) j 0 ∙ get_d_bits_of w x j g))
+    number_of_bits (bit_in (before ++ bits_of w x)) _ w x l (λ j g. rw (← e) (get_or-append-add before (bits_of w x) j 0
+    ∙ get_d_bits_of w x j g))
 
 pub read_back : (before after : List ℕ) {i : ℕ} (w x : ℕ) → length before ≡ i → x < 2 ^ w
     → number (bit_in (before ++ bits_of w x ++ after)) i w ≡ x

@@ -233,7 +233,8 @@ module _ (p : Plan) (ok : InPlan p) where
 
 -- a table e that is at most dist_within k, relaxed once along every arc, is at most dist_within (k + 1)
 pub relaxed : (arcs : List Arc) (k : ℕ) (e e' : ℕ → ℕ → ℕ) → ((i j : ℕ) → e i j ≤ distance_within arcs k i j) → ((i j : ℕ) → e' i j ≤ e i j)
-    → ((a j : ℕ) → a < length arcs → T (is_open (arc_at arcs a)) → e' (arc_at arcs a).tail j ≤ (arc_at arcs a).cost + e (arc_at arcs a).head j)
+    → ((a j : ℕ) → a < length arcs → T (is_open (arc_at arcs a))
+    → e' (arc_at arcs a).tail j ≤ (arc_at arcs a).cost + e (arc_at arcs a).head j)
     → (i j : ℕ) → e' i j ≤ distance_within arcs (suc k) i j
 relaxed arcs k e e' h m r i j = elim (dec_le no_path (distance_within arcs (suc k) i j)) [
   | yes g ↦ le_trans (m i j) (le_trans (h i j) (le_trans (within_le_no_path arcs k i j) g))

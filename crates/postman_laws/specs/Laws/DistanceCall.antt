@@ -59,7 +59,8 @@ module _ (n : ℕ) (pairs : List ℕ) where
   pub pairs_are : ArePairs n pairs → T (not (has_stray n pairs))
   unfolding has_stray
   pairs_are h =
-      not_T (ltb 256 (length pairs) || any_of (is_stray n) pairs) (λ t. elim (or_cases (ltb 256 (length pairs)) (any_of (is_stray n) pairs) t) [
+      not_T (ltb 256 (length pairs) || any_of (is_stray n) pairs)
+      (λ t. elim (or_cases (ltb 256 (length pairs)) (any_of (is_stray n) pairs) t) [
         | inl u ↦ (let l = ltb→lt 256 (length pairs) u in let f = h.few in omega arith)
         | inr u ↦ (let r = any_of_at (is_stray n) pairs u in
             let g = mem_get_d 0 r.1 in

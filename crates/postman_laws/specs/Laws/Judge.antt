@@ -169,7 +169,8 @@ module _ (bytes w : List ℕ) where
       ≡ first_refusal (lent_conditions bytes (length w) ++ (eqb (length (required_arcs p)) 0, 10) ∷ fault_conditions p w)
   unfolding judge_refusal unjudged_conditions
   judge_conditions =
-      ap first_refusal (append_assoc (lent_conditions bytes (length w)) ((eqb (length (required_arcs p)) 0, 10) ∷ []) (fault_conditions p w))
+      ap first_refusal (append_assoc (lent_conditions bytes (length w)) ((eqb (length (required_arcs p)) 0, 10) ∷ [])
+      (fault_conditions p w))
 
   -- THE LAW: nothing is refused exactly when the list is a drive
   pub judged : first_refusal (unjudged_conditions bytes (length w)) ≡ none → (judge_refusal bytes w ≡ none) ↔ IsDrive p w
@@ -187,7 +188,8 @@ module _ (bytes w : List ℕ) where
       ((faultless p w).0 (accepted_append (unjudged_conditions bytes (length w)) (fault_conditions p w) r.0).1, r.1)
 
   -- and a drive is given its cost
-  pub drive_judged : first_refusal (unjudged_conditions bytes (length w)) ≡ none → IsDrive p w → judge_answer bytes w ≡ given (drive_cost p w)
+  pub drive_judged : first_refusal (unjudged_conditions bytes (length w)) ≡ none → IsDrive p w
+      → judge_answer bytes w ≡ given (drive_cost p w)
   unfolding judge_answer
   drive_judged e h = answer_given (judge_refusal bytes w) (drive_cost p w) ((judged e).1 h)
 

@@ -225,7 +225,8 @@ module _ (bytes : List ℕ) (budget places : ℕ) (marks : List ℕ) where
 
   -- the order, from the file on
   pub car_order : car_refusal bytes budget places marks
-      ≡ first_refusal (file_conditions bytes ++ (call_conditions budget places ++ (own ++ (parts_conditions car ++ (is_cut_off car, 12) ∷ []))))
+      ≡ first_refusal (file_conditions bytes ++ (call_conditions budget places
+      ++ (own ++ (parts_conditions car ++ (is_cut_off car, 12) ∷ []))))
   unfolding car_refusal earlier_conditions_for
   car_order = ap first_refusal (before_order bytes budget places own car ((is_cut_off car, 12) ∷ []))
 
@@ -246,5 +247,6 @@ module _ (bytes : List ℕ) (read : first_refusal (file_conditions bytes) ≡ no
   unfolding car_refusal earlier_conditions_for call_refusal earlier_conditions
   own_refusal budget places =
       let p = plan_of bytes in
-      own_passed bytes budget places (mark_conditions p (own_marks p)) (car_plan p (own_marks p)) _ (accepted_marks p (own_marks p) (none_bad p))
+      own_passed bytes budget places (mark_conditions p (own_marks p)) (car_plan p (own_marks p)) _
+      (accepted_marks p (own_marks p) (none_bad p))
       ∙ ap (λ (q : Plan). first_refusal (conditions_before bytes budget places [] q ++ (is_cut_off q, 12) ∷ [])) own_file_plan

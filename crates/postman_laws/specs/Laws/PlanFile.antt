@@ -55,7 +55,8 @@ plan_bits_lem : (e : ℕ) (p : Plan)
 unfolding plan_bits
 plan_bits_lem e p = refl
 
-file_of_lem : (e : ℕ) (p : Plan) → file_of e p ≡ map (λ q. number (bit_in (plan_bits e p)) (8 * q) 8) (below (file_length e (length p.arcs)))
+file_of_lem : (e : ℕ) (p : Plan) → file_of e p ≡ map (λ q. number (bit_in (plan_bits e p)) (8 * q) 8)
+    (below (file_length e (length p.arcs)))
 unfolding file_of
 file_of_lem e p = refl
 
@@ -384,7 +385,8 @@ module _ (bytes : List ℕ) where
     filled_bit i h l =
         let bits = file_bits e (arc_count bytes) in
         let q : bits + (i - bits) ≡ i = omega arith in
-        rw q at (field_zero bytes bits (8 * file_length e (arc_count bytes) - bits) (sym (fill_bits_lem bytes e (arc_count bytes)) ∙ f.filled)
+        rw q at (field_zero bytes bits (8 * file_length e (arc_count bytes) - bits) (sym (fill_bits_lem bytes e (arc_count bytes))
+        ∙ f.filled)
         (i - bits) (omega arith))
 
     same_bit : (i : ℕ) → i < 8 * file_length e (arc_count bytes) → bit_in (plan_bits e (plan_of bytes)) i ≡ bit_at bytes i
@@ -397,7 +399,8 @@ module _ (bytes : List ℕ) where
           | no h ↦ get_or-eq_default (run (bit_at bytes) 0 bits) 0 (omega arith) ∙ sym (filled_bit i (omega arith) l)
         ])
 
-    same_byte : (k : ℕ) → get_or bytes k 0 < 256 → k < file_length e (arc_count bytes) → get_or (file_of e (plan_of bytes)) k 0 ≡ get_or bytes k 0
+    same_byte : (k : ℕ) → get_or bytes k 0 < 256 → k < file_length e (arc_count bytes)
+        → get_or (file_of e (plan_of bytes)) k 0 ≡ get_or bytes k 0
     same_byte k h l =
         let p = plan_of bytes in
         let g = arcs_read_lem bytes in

@@ -43,7 +43,8 @@ module _ (π : ℕ → ℕ) (legs : List Leg) where
   legs_pairs : (f : Leg → List Link) → ((l : Leg) → f (renumbered_leg π l) ≡ map (renumbered_link π) (f l))
       → flat_map f (map (renumbered_leg π) legs) ≡ renumbered_tree π (flat_map f legs)
   legs_pairs f e =
-      flat_map_map f (renumbered_leg π) legs ∙ flat_map_cong (λ l. f (renumbered_leg π l)) (λ l. map (renumbered_link π) (f l)) legs (λ l m. e l)
+      flat_map_map f (renumbered_leg π) legs ∙ flat_map_cong (λ l. f (renumbered_leg π l)) (λ l. map (renumbered_link π) (f l)) legs
+      (λ l m. e l)
       ∙ sym (map_flat_map f (renumbered_link π) legs)
 
 places_same : (π : ℕ → ℕ) (l : Leg) → places_of_leg (renumbered_leg π l) ≡ places_of_leg l

@@ -117,7 +117,8 @@ sum_delta u s (v ∷ vs) =
     ∙ sym (*ℤ-+ℤ (u s) (pos (delta s v)) (pos (occurrences s vs)))
 
 -- Σ u(i) × (how often i occurs in ss), over vertices among which each of ss is once, is the sum of u over ss
-pub sum_occurrences : (u : ℕ → ℤ) (vs ss : List ℕ) → Within vs ss → sum_ofℤ (map (λ i. u i *ℤ pos (occurrences i ss)) vs) ≡ sum_ofℤ (map u ss)
+pub sum_occurrences : (u : ℕ → ℤ) (vs ss : List ℕ) → Within vs ss
+    → sum_ofℤ (map (λ i. u i *ℤ pos (occurrences i ss)) vs) ≡ sum_ofℤ (map u ss)
 unfolding sum_ofℤ occurrences one
 sum_occurrences u vs [] h = nothing vs
   where

@@ -40,7 +40,8 @@ some_tree bytes budget places e = some_arborescence (plan_of bytes) (plannable b
 -- conditions without 12 that make sure of a plan,
 module _ (cs : Conditions) (p : Plan) (other : Other 12 cs)
     (sure : first_refusal cs ≡ none → WellFormed p × (0 < length (required_arcs p))) where
-  pub last_cut_off : (first_refusal (cs ++ (is_cut_off p, 12) ∷ []) ≡ some 12) ↔ ((first_refusal cs ≡ none) × ((w : List ℕ) → IsDrive p w → ⊥))
+  pub last_cut_off : (first_refusal (cs ++ (is_cut_off p, 12) ∷ []) ≡ some 12) ↔ ((first_refusal cs ≡ none)
+      × ((w : List ℕ) → IsDrive p w → ⊥))
   last_cut_off = (refused, given)
     where
       refused : first_refusal (cs ++ (is_cut_off p, 12) ∷ []) ≡ some 12 → (first_refusal cs ≡ none) × ((w : List ℕ) → IsDrive p w → ⊥)
@@ -72,7 +73,8 @@ cut_off_at bytes budget places numbers d =
     let ws = windows_in numbers in
     let sure : first_refusal (earlier_conditions_at bytes budget places numbers d) ≡ none → AcceptedAt bytes budget places numbers d =
     earlier_accepted_at bytes budget places numbers d in
-    let r = last_cut_off (earlier_conditions_at bytes budget places numbers d) (plan_at p ws d) (at_other bytes budget places numbers d) (λ e.
+    let r = last_cut_off (earlier_conditions_at bytes budget places numbers d) (plan_at p ws d) (at_other bytes budget places numbers d)
+    (λ e.
     ((sure e).well_formed, (sure e).before.some_required)) in
     let c = at_conditions bytes budget places numbers d in (
       λ e. let h = r.0 (sym c ∙ e) in (h.0, λ w t a. h.1 w ((drives p ws d (sure h.0).none_shut w).1 (t, a))),

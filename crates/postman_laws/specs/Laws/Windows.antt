@@ -310,6 +310,7 @@ module _ (bytes : List ℕ) (budget places : ℕ) (numbers : List ℕ) (d : Depa
 
   -- the order, from the file on
   pub at_order : call_refusal_at bytes budget places numbers d
-      ≡ first_refusal (file_conditions bytes ++ (call_conditions budget places ++ (own ++ (parts_conditions at ++ (is_cut_off at, 12) ∷ []))))
+      ≡ first_refusal (file_conditions bytes ++ (call_conditions budget places
+      ++ (own ++ (parts_conditions at ++ (is_cut_off at, 12) ∷ []))))
   unfolding call_refusal_at earlier_conditions_at
   at_order = ap first_refusal (before_order bytes budget places own at ((is_cut_off at, 12) ∷ []))

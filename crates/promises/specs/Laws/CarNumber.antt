@@ -37,7 +37,8 @@ own_number_lem (c ∷ cs) h k e = at c.0 e (own_number_lem cs h.1 k)
     at false q more = more q
 
 module _ (bytes : List ℕ) (budget places : ℕ) (marks : List ℕ) where
-  file_first : (k : ℕ) → car_refusal bytes budget places marks ≡ some k → reaches_both k ≡ true → first_refusal (file_conditions bytes) ≡ some k
+  file_first : (k : ℕ) → car_refusal bytes budget places marks ≡ some k → reaches_both k ≡ true
+      → first_refusal (file_conditions bytes) ≡ some k
   unfolding call_conditions mark_conditions parts_conditions
   file_first k e b = at (first_refusal (file_conditions bytes)) refl
     where
@@ -69,9 +70,11 @@ unfolding answer
 own_one Accepted = refl
 own_one (Refused r) = refl
 
-pub first_read : (v w : Verdict) → first_number (cars_number (verdict_number v) (verdict_number w)) ≡ one_number (answer (verdict_number v) 0)
+pub first_read : (v w : Verdict) → first_number (cars_number (verdict_number v) (verdict_number w)) ≡ one_number
+    (answer (verdict_number v) 0)
 unfolding answer
-first_read Accepted w = let l = own_small w in let e : own_number (verdict_number w) / 256 ≡ 0 = omega arith in ap (λ (x : ℕ). neg_ℤ (pos x)) e
+first_read Accepted w = let l = own_small w in let e : own_number (verdict_number w) / 256 ≡ 0 = omega arith in ap
+    (λ (x : ℕ). neg_ℤ (pos x)) e
 first_read (Refused r) w = at (reaches_both (refusal_number r))
   where
     at : (b : Bool)

@@ -89,16 +89,19 @@ one_car bytes a b n m s x y =
 
 -- NEITHER CAR FEELS THE OTHER.
 module _ (bytes : List ℕ) (a b a' b' : Lent) (n n' : ℤ) (x : IsExportedCars bytes a b n) (y : IsExportedCars bytes a' b' n') where
-  pub first_alone_lent : LendAlike a a' → LeaveOneAnswer (lent_by a) (left_to a) (first_number n) (lent_by a') (left_to a') (first_number n')
+  pub first_alone_lent : LendAlike a a' → LeaveOneAnswer (lent_by a) (left_to a) (first_number n) (lent_by a') (left_to a')
+      (first_number n')
   first_alone_lent s =
       one_car bytes a a' (first_number n) (first_number n') s (first_answered bytes a b n x) (first_answered bytes a' b' n' y)
 
-  pub second_alone_lent : LendAlike b b' → LeaveOneAnswer (lent_by b) (left_to b) (second_number n) (lent_by b') (left_to b') (second_number n')
+  pub second_alone_lent : LendAlike b b' → LeaveOneAnswer (lent_by b) (left_to b) (second_number n) (lent_by b') (left_to b')
+      (second_number n')
   second_alone_lent s =
       one_car bytes b b' (second_number n) (second_number n') s (second_answered bytes a b n x) (second_answered bytes a' b' n' y)
 
   -- and two cars that lend alike are answered alike, the first of one call and the second of the other
-  pub either_car_lent : LendAlike a b' → LeaveOneAnswer (lent_by a) (left_to a) (first_number n) (lent_by b') (left_to b') (second_number n')
+  pub either_car_lent : LendAlike a b' → LeaveOneAnswer (lent_by a) (left_to a) (first_number n) (lent_by b') (left_to b')
+      (second_number n')
   either_car_lent s =
       one_car bytes a b' (first_number n) (second_number n') s (first_answered bytes a b n x) (second_answered bytes a' b' n' y)
 

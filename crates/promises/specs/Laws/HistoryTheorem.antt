@@ -68,7 +68,8 @@ module _ (e : ℕ) where
       (ap₂ (λ (x : ℤ) (l : List ℤ). x ∷ l) one.0 more.0, subst (λ (x : Open). Holds x last) (sym (history_more e o c cs)) more.1)
 
 -- An opening that answers 0.
-pub opening_holds : (file bytes bytes' : List ℕ) (n : ℤ) → ((k : ℕ) → get_or file k 0 < 256) → IsExportedOpen file bytes bytes' n → n ≡ pos 0
+pub opening_holds : (file bytes bytes' : List ℕ) (n : ℤ) → ((k : ℕ) → get_or file k 0 < 256) → IsExportedOpen file bytes bytes' n
+    → n ≡ pos 0
     → Holds (edition file) (opened (plan_of file)) bytes'
 unfolding unless
 opening_holds file bytes bytes' n small m zero =

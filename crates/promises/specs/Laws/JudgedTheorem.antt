@@ -145,7 +145,8 @@ lent_passes : (bytes : List ℕ) (r : Planned) (sheet words words' : List ℕ) �
     → judge_answer bytes (take r.places sheet) ≡ given r.cost
     → LentPasses bytes words' sheet
 lent_passes bytes r sheet words words' room e j n h =
-    let a : get_or words' 0 0 ≡ r.places = ap (λ (w : List ℕ). get_or w 0 0) e ∙ put_at (words_of r) words 0 0 (omega arith) (omega arith) in
+    let a : get_or words' 0 0 ≡ r.places = ap (λ (w : List ℕ). get_or w 0 0) e
+    ∙ put_at (words_of r) words 0 0 (omega arith) (omega arith) in
     let b : get_or words' 1 0 ≡ r.cost = ap (λ (w : List ℕ). get_or w 1 0) e ∙ put_at (words_of r) words 0 1 (omega arith) (omega arith) in
     h ∙ ap (λ (k : ℕ). one_number (judge_answer bytes (take k sheet))) a ∙ ap one_number j ∙ sym (ap pos b)
 

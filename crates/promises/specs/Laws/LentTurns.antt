@@ -91,7 +91,8 @@ turn_led r b bytes old new words words' u u' n l h s = at (had_turn r.outcome) r
     )
 
 -- THE MACHINE THAT IS LENT IS ONE THAT THE RUN LEADS TO
-pub lent_led : (cs : List Call) (bytes : List ℕ) → LedLent cs bytes → (districts_bytes ≤ length bytes) × Led (events_of cs) (machine_in bytes)
+pub lent_led : (cs : List Call) (bytes : List ℕ) → LedLent cs bytes
+    → (districts_bytes ≤ length bytes) × Led (events_of cs) (machine_in bytes)
 unfolding LedLent LedFrom
 lent_led [] bytes h = started_empty h.0 bytes h.1 h.2 h.3
 lent_led (enters plan budget n ∷ cs) bytes h =

@@ -45,7 +45,8 @@ use Rattle.promises.specs.Laws.LentTurns.{lent_led, admitted_is}
 pub entry_bytes : (plan : List ℕ) (budget : ℕ) (bytes bytes' : List ℕ) (n : ℤ) → districts_bytes ≤ length bytes
     → IsExportedEntry plan budget bytes bytes' n → let m = machine_in bytes in
     (n ≡ one_number (answer (entry_refusal (line_of m) plan budget) (lowest_free (line_of m))))
-    × (bytes' ≡ unless (entry_refusal (line_of m) plan budget) (machine_bytes (after_entry m plan budget) ++ drop districts_bytes bytes) bytes)
+    × (bytes' ≡ unless (entry_refusal (line_of m) plan budget) (machine_bytes (after_entry m plan budget) ++ drop districts_bytes bytes)
+    bytes)
 entry_bytes plan budget bytes bytes' n long x =
     let y = x.entered long in
     let r = y.0 in (
@@ -58,7 +59,8 @@ entry_bytes plan budget bytes bytes' n long x =
 -- A turn, where k is what it meets.
 pub record IsTurnOf (k : Meeting) (bytes bytes' sheet sheet' words words' : List ℕ) (u u' : List ℤ) (n : ℤ) : Type 0 where
   pub number_is : n ≡ one_number (outcome_number (outcome_of k))
-  pub machine_is : bytes' ≡ cond (had_turn (outcome_of k)) (machine_bytes (after_turn (machine_in bytes) k) ++ drop districts_bytes bytes) bytes
+  pub machine_is : bytes' ≡ cond (had_turn (outcome_of k)) (machine_bytes (after_turn (machine_in bytes) k) ++ drop districts_bytes bytes)
+      bytes
   pub sheet_is : sheet' ≡ sheet_after k sheet
   pub words_are : words' ≡ cond (had_turn (outcome_of k)) (put_first (words_of (answer_of k)) words) words
   pub multipliers_are : u' ≡ cond (had_last (outcome_of k)) (put_first (answer_of k).multipliers u) u

@@ -96,7 +96,8 @@ module _ (r : PlanRecord) (ok : WellFormed (plan_value r)) {b m k sum : ℕ} (l 
   unfolding required_cost
   sum_service h = whole h
 
-  pub sum_ends : (f : Arc → ℕ) (v : ℕ) → Summed (λ a. delta v (f a)) b r m k sum → sum ≡ occurrences v (map f (required_arcs (plan_value r)))
+  pub sum_ends : (f : Arc → ℕ) (v : ℕ) → Summed (λ a. delta v (f a)) b r m k sum
+      → sum ≡ occurrences v (map f (required_arcs (plan_value r)))
   sum_ends f v h = whole h ∙ sum_occurrences f v (required_arcs (plan_value r))
 
 -- ---- the counts of all vertices: an arc adds its term at its end, and nothing elsewhere
@@ -159,7 +160,8 @@ module _ (heads : Bool) (r : PlanRecord) (ok : WellFormed (plan_value r)) {m k :
 
 -- D(v) is the number of required arcs into v, less the number of those out of v
 pub imbalance_degrees : (p : Plan) (v : ℕ)
-    → pos (occurrences v (map (end_of true) (required_arcs p))) -ℤ pos (occurrences v (map (end_of false) (required_arcs p))) ≡ imbalance p [] v
+    → pos (occurrences v (map (end_of true) (required_arcs p))) -ℤ pos (occurrences v (map (end_of false) (required_arcs p))) ≡ imbalance
+    p [] v
 unfolding imbalance heads tails
 imbalance_degrees p v =
     sym (ap₂ (λ (xs ys : List ℕ). pos (occurrences v xs) -ℤ pos (occurrences v ys)) (append-nil (map (end_of true) (required_arcs p)))

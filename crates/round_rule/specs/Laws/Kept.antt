@@ -372,7 +372,8 @@ module _ (p : Plan) (ok : Plannable p) (few : component_count p ≤ 8) (budget :
 
   -- MORE ROUNDS ARE NEVER WORSE
   after_better : (r : ℕ) → r < 999
-      → ((kept_after p budget (suc r)).cost ≤ (kept_after p budget r).cost) × ((kept_after p budget r).floor ≤ℤ (kept_after p budget (suc r)).floor)
+      → ((kept_after p budget (suc r)).cost ≤ (kept_after p budget r).cost)
+      × ((kept_after p budget r).floor ≤ℤ (kept_after p budget (suc r)).floor)
   unfolding kept_after next_kept
   after_better r l =
       let k = kept_after p budget r in

@@ -72,7 +72,8 @@ next_as p budget round k s a old r es h eg er =
     e3 ∙ ap (λ (v : List ℤ). counted n random (with_base x l' (with_floor x (floor_under p x) (carried_in x.numbering.to v) c)))
     h.multipliers_are in
     let e5 : r ≡ round_with p budget s k =
-    e4 ∙ ap (λ (m : Kept). counted n random (with_base x l' (with_floor x (floor_under p x) (carried_back p x) m))) (drive_same p x k a h) in
+    e4 ∙ ap (λ (m : Kept). counted n random (with_base x l' (with_floor x (floor_under p x) (carried_back p x) m))) (drive_same p x k a h)
+    in
     e5 ∙ ap (λ (s : Chosen). round_with p budget s k) es
 
 -- the trees that were tried before, by how many there are; and those that are counted

@@ -163,7 +163,8 @@ module _ (p : Plan) (table : List (List ℕ)) (chosen : List Link) (a : ℕ) (l 
         record {
           potentials = subst⁻¹ (ArePotentials table (required p)) e.0 qn.potentials;
           priced = subst⁻¹
-              (λ (w : List ℕ). r.value + sum_over (tails-of p chosen) (λ v. get_or w v 0) ≤ sum_over (heads-of p chosen) (λ v. get_or w v 0))
+              (λ (w : List ℕ). r.value + sum_over (tails-of p chosen) (λ v. get_or w v 0) ≤ sum_over (heads-of p chosen)
+              (λ v. get_or w v 0))
               e.0 (omega arith);
           small = (let s = qn.small in let t = qn.potentials.low l.tail in omega arith);
         }
@@ -328,7 +329,8 @@ module _ {p : Plan} {table : List (List ℕ)} {vs start source tails heads : Lis
           (entered_none p (in_plan h) (some_component h) (names_in b) b.a is.one (count_is more) is.named l m d))
       | no o ↦
           let n : get_or counts x 0 ≡ min (length here) cap = number o in
-          e i ∙ ap (pass_over (held_in i r)) n ∙ capped (held_in i r) (length here) short ∙ sym (passed_over f (held_in i r) here (idle o n))
+          e i ∙ ap (pass_over (held_in i r)) n ∙ capped (held_in i r) (length here) short
+          ∙ sym (passed_over f (held_in i r) here (idle o n))
     ]
       where
         i : ℕ

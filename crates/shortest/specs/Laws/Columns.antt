@@ -29,7 +29,8 @@ module _ (c : List ℕ) (i : ℕ) where
 
   -- a row, by its entries
   pub row_by : (row : List ℕ) → length row ≡ 64 → ((v : ℕ) → v < 64 → get_or c (v * 64 + i) 0 ≡ get_or row v 0) → row_from c i ≡ row
-  row_by row l h = ext_get_or 0 (row_from c i) row (row_size ∙ sym l) (λ v m. let s = row_size in row_at v (omega arith) ∙ h v (omega arith))
+  row_by row l h = ext_get_or 0 (row_from c i) row (row_size ∙ sym l) (λ v m. let s = row_size in row_at v (omega arith)
+      ∙ h v (omega arith))
 
 -- a store in place 64 h + i: the row from i, and every other row
 module _ (c : List ℕ) (h i x : ℕ) (long : length c ≡ 4096) (below-h : h < 64) (below-i : i < 64) where

@@ -58,7 +58,8 @@ relax_arcs_length (a ∷ arcs) row = relax_arcs_length arcs (relax_arc a row) �
 abbrev HeadsWithin : ℕ → List Arc → Type 0
 HeadsWithin n arcs = (a : Arc) → Memᴰ a arcs → a.head < n
 
-relax_arcs_le : (arcs : List Arc) (row : List ℕ) → HeadsWithin (length row) arcs → (j : ℕ) → get_or (relax_arcs arcs row) j 0 ≤ get_or row j 0
+relax_arcs_le : (arcs : List Arc) (row : List ℕ) → HeadsWithin (length row) arcs → (j : ℕ)
+    → get_or (relax_arcs arcs row) j 0 ≤ get_or row j 0
 unfolding relax_arcs
 relax_arcs_le [] row h j = le_refl _
 relax_arcs_le (a ∷ arcs) row h j =
@@ -129,7 +130,8 @@ rounds_none p wf source l = record {
     same : (j : ℕ) → j ≡ source → get_or (set (replicate 64 no_path) source 0) j 0 ≡ 0
     same j e =
         let n = length-replicate 64 no_path in
-        subst⁻¹ (λ z. get_or (set (replicate 64 no_path) source 0) z 0 ≡ 0) e (get_or-set_same (replicate 64 no_path) source 0 0 (omega arith))
+        subst⁻¹ (λ z. get_or (set (replicate 64 no_path) source 0) z 0 ≡ 0) e
+        (get_or-set_same (replicate 64 no_path) source 0 0 (omega arith))
 
     other : (j : ℕ) → j < 64 → (j ≡ source → ⊥) → get_or (set (replicate 64 no_path) source 0) j 0 ≡ no_path
     other j g n = get_or-set_other (replicate 64 no_path) source j 0 0 n ∙ get_or-replicate 64 j no_path 0 g

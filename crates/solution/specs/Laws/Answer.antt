@@ -53,7 +53,8 @@ module _ (p : Plan) (ok : Plannable p) (few : component_count p ≤ 8) (budget :
       multipliers = lawful r g;
       multipliers_are = g;
       above_greatest =
-          λ v h. subst⁻¹ (λ (u : List ℤ). lagrangian_bound p v ≤ℤ lagrangian_bound p (λ i. get_or u i (pos 0))) g (answered_above p ok few v h);
+          λ v h. subst⁻¹ (λ (u : List ℤ). lagrangian_bound p v ≤ℤ lagrangian_bound p (λ i. get_or u i (pos 0))) g
+          (answered_above p ok few v h);
       drive = drive;
       guarantee = guaranteed p ok budget some (multipliers_of r) (lawful r g);
     };

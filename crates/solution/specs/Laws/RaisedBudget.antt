@@ -76,7 +76,8 @@ module _ (p : Plan) (b c : ℕ) (more : b ≤ c) (f g : Option ℕ) (old new old
   unfolding summary
   whole_c = ap (λ (x : Summary). x.whole) (summary_given p c g old' new' s at_c good-c)
 
-  partial : (budget : ℕ) → is_whole p budget ≡ false → lower_bound p budget u ≡ maxℤ (lagrangian_bound p (λ i. pos 0)) (lagrangian_bound p u)
+  partial : (budget : ℕ) → is_whole p budget ≡ false → lower_bound p budget u ≡ maxℤ (lagrangian_bound p (λ i. pos 0))
+      (lagrangian_bound p u)
   unfolding lower_bound
   partial budget e = ap (λ (w : Bool). cond w (pos (best_cost p budget)) (maxℤ (lagrangian_bound p (λ i. pos 0)) (lagrangian_bound p u))) e
 

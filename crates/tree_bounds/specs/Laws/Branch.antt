@@ -106,7 +106,8 @@ module _ (p : Plan) (ok : InPlan p) (some : 1 ≤ component_count p) where
     completions_step =
         ap (λ (vs : List ℕ). select test (choices (map (candidates p) vs))) left_first
         ∙ select_flat_map (λ (l : Link). map (λ t. l ∷ t) (choices (map (candidates p) (up_from (suc a) n)))) test (candidates p a)
-        ∙ flat_map_cong (λ (l : Link). select test (map (λ t. l ∷ t) (choices (map (candidates p) (up_from (suc a) n))))) (entered p names a)
+        ∙ flat_map_cong (λ (l : Link). select test (map (λ t. l ∷ t) (choices (map (candidates p) (up_from (suc a) n)))))
+        (entered p names a)
         (candidates p a) entered_is
 
     -- the names stay names
@@ -167,7 +168,8 @@ module _ (p : Plan) (ok : InPlan p) (some : 1 ≤ component_count p) where
         let new = still_named names a one more named l m o in
         ap length (entered_some o) ∙ length-map (completions p (renamed_by names a x) (suc a)) (λ t. l ∷ t)
         ∙ completions_count (renamed_by names a x) (suc a) (omega arith) (omega arith) new
-        ∙ count_cong (left (suc a)) (entries_in (sources_by p (renamed_by names a x))) (merged (entries_in (sources_by p names)) a x) (λ q y b c.
+        ∙ count_cong (left (suc a)) (entries_in (sources_by p (renamed_by names a x))) (merged (entries_in (sources_by p names)) a x)
+        (λ q y b c.
         ap (occurrences y) (sym (map-map (renamed a x) (source_by p names) (candidates p q)))
         ∙ occurrences_renamed a x y o (not_a y c) (sources_by p names q))
       where

@@ -21,7 +21,8 @@ module _ (fact : ℕ → ℕ → Type 0) (vs : List ℕ) where
     ];
     low = λ v. elim (ℕ_discrete v (get_or vs n 0)) [
       | yes s ↦ (let g =
-          ap (λ v. get_or (set w (get_or vs n 0) r) v 0) s ∙ get_or-set_same w (get_or vs n 0) r 0 (let m = h.size in omega arith) in omega arith)
+          ap (λ v. get_or (set w (get_or vs n 0) r) v 0) s ∙ get_or-set_same w (get_or vs n 0) r 0 (let m = h.size in omega arith)
+          in omega arith)
       | no o ↦ (let g = get_or-set_other w (get_or vs n 0) v r 0 o in let a = h.low v in omega arith)
     ];
   }

@@ -39,7 +39,8 @@ cost_more d n (t ∷ ts) [] l m = absurd (omega arith)
 cost_more d zero (t ∷ ts) (h ∷ hs) l m = omega arith
 cost_more d (suc n) (t ∷ ts) (h ∷ hs) l m = let i = cost_more d n ts hs (omega arith) (omega arith) in omega arith
 
-pub cost_part : (d : List (List ℕ)) (n : ℕ) (ts hs : List ℕ) → table_cost d (links_of (take n ts) (take n hs)) ≤ table_cost d (links_of ts hs)
+pub cost_part : (d : List (List ℕ)) (n : ℕ) (ts hs : List ℕ) → table_cost d (links_of (take n ts) (take n hs)) ≤ table_cost d
+    (links_of ts hs)
 unfolding table_cost links_of sum_of
 cost_part d zero ts hs = omega arith
 cost_part d (suc n) [] hs = omega arith

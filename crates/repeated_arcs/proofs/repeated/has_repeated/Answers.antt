@@ -8,7 +8,7 @@ pub returns-then-stands_before : goal.returns-then-stands_before
 returns-then-stands_before c =
     let n = c.packed_arcs-numbers in
     let p = n.ensures.1 in
-    let r = c.stands_before.ensures.by_index c.if-stands_before.true in
+    let r = c.stands_before.ensures.found c.if-stands_before.true in
     found (record_at c.args.arcs) c.args.m n.result (λ k l. (p k l).1) (λ k l. (p k l).0) r.0 c.loop-k.k r.1 (omega arith) r.2
 
 pub returns : goal.returns

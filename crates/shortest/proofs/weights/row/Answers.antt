@@ -18,7 +18,7 @@ loop-k-init c = let n = record_vertices c.args.plan c.requires.0 in (refl, omega
 pub returns-then-same : goal.returns-then-same
 returns-then-same c =
     settled_row (weighted (plan_value c.args.plan)) (is_weighted (plan_value c.args.plan) c.requires.0) c.args.source (c.loop-k.k - 1) c.loop-k.now _ c.loop-k.invariant.3 c.round-next.ensures
-    (c.same.ensures.j_value c.if-same.true)
+    (c.same.ensures.only_if_equal c.if-same.true)
 
 pub loop-k-preserved : goal.loop-k-preserved
 loop-k-preserved c = (

@@ -1,0 +1,9 @@
+-- The law that such arrays lay a plan's candidates out, at the plan's network.
+use Rattle.candidates.specs.Laws.LaidOut.{are_laid_out}
+use Rattle.candidates.proofs.of_network.Goals as goal
+
+pub returns : goal.returns
+returns c =
+    let net = c.args.net in
+    λ p ok is.
+    are_laid_out p ok net.links net.component net.components is.links is.components c.requires.0 c.requires.1 c.candidates_of.result c.candidates_of.ensures

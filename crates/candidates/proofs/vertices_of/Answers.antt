@@ -1,0 +1,45 @@
+-- The invariant: the list holds the vertices below v whose flag is set.
+use mathlib.Core.Path.{◌≡◌, sym, ap}
+use mathlib.Core.Bool.{Bool, true, false}
+use mathlib.Core.List.{List, []}
+use Prim.Native.Nat.{ℕ, ◌≤◌, ◌<◌}
+use native.Mathlib.Omega.{arith}
+use lib.ListN.{length, get_or}
+use Rattle.postman.specs.Lists.{select, below}
+use Rattle.postman.specs.Laws.Membership.{length_below}
+use Rattle.postman_laws.specs.Laws.Selection.{select_length}
+use Rattle.candidates.specs.Holds.{Holds}
+use Rattle.candidates.specs.Laws.Selection.{select_none_below}
+use Rattle.candidates.specs.Laws.Holds.{holds_none, holds_as, holds_by, pick_taken, pick_passed, pick_room}
+use Rattle.candidates.proofs.vertices_of.Goals.{then-required-v, else-required-v}
+use Rattle.candidates.proofs.vertices_of.Goals as goal
+
+abbrev is_set : List Bool → ℕ → Bool
+is_set flags v = get_or flags v false
+
+-- the vertices are few
+few : (flags : List Bool) → length (select (is_set flags) (below 64)) ≤ 64
+few flags = let a = select_length (is_set flags) (below 64) in let b = length_below 64 in omega arith
+
+room : (flags : List Bool) (list : List ℕ) (count v : ℕ) → Holds 64 list count (select (is_set flags) (below v)) → is_set flags v ≡ true → v < 64 → count < 64
+room flags list count v h e l = let f = few flags in pick_room [] (is_set flags) v h 64 e l (omega arith)
+
+pub loop-v-init : goal.loop-v-init
+loop-v-init c = (omega arith, holds_as (holds_none 64) (sym (select_none_below _)))
+
+pub bounds-list-count : goal.bounds-list-count
+bounds-list-count c =
+    room c.args.required c.loop-v.list c.loop-v.count c.loop-v.v c.loop-v.invariant.1 c.if-required-v.true c.loop-v-test.true
+
+pub loop-v-preserved : goal.loop-v-preserved
+loop-v-preserved c =
+    let f = is_set c.args.required in
+    let h = c.loop-v.invariant.1 in (
+      omega arith,
+      elim c.if-required-v.branch [ then-required-v w ↦ holds_by w.list-is w.count-is (pick_taken [] f c.loop-v.v h w.if-required-v.true (room c.args.required c.loop-v.list c.loop-v.count c.loop-v.v h w.if-required-v.true c.loop-v-test.true)) | else-required-v w ↦ holds_by w.list-is w.count-is (pick_passed [] f c.loop-v.v h w.if-required-v.false) ],
+    )
+
+pub returns : goal.returns
+returns c =
+    let e : c.loop-v.v ≡ 64 = omega arith in
+    holds_as c.loop-v.invariant.1 (ap (λ n. select (is_set c.args.required) (below n)) e)

@@ -1,0 +1,14 @@
+-- A pair that is near goes by the count of ways, and one that is far has none that is counted.
+use native.Mathlib.Omega.{arith}
+use Rattle.network.specs.Laws.Ways.{near_test, far_test}
+use Rattle.network.proofs.thinning.is_short.Goals as goal
+
+pub returns-then-a-lt-FAR : goal.returns-then-a-lt-FAR
+returns-then-a-lt-FAR c =
+    let a = c.args in
+    near_test a.row.now a.columns.now a.j a.a c.if-a-lt-FAR.true c.ways.result c.ways.ensures
+
+pub returns : goal.returns
+returns c =
+    let a = c.args in
+    far_test a.row.now a.columns.now a.j a.a (omega arith)

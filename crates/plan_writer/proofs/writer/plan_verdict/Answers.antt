@@ -1,0 +1,9 @@
+-- `plan_verdict` meets its contract: the edition stands first.
+use mathlib.Core.Path.{◌∙◌, sym}
+use Rattle.plan_writer.specs.Laws.Writing.{of_edition}
+use Rattle.plan_writer.proofs.writer.plan_verdict.Goals as goal
+
+pub returns : goal.returns
+returns c =
+    let a = c.args in
+    sym (of_edition a.edition a.p a.room (sym c.is_edition.ensures ∙ c.if-is_edition.false))
