@@ -63,7 +63,7 @@ fn other_commands_are_the_gates() {
     for line in blocks(&document, "sh").iter().flat_map(|(block, _)| block) {
         let line = line.split('#').next().expect("a command").trim();
         let (gate, then) = line.split_once(" && ").unwrap_or((line, ""));
-        assert!(["rt check drive", "bash .ci/run", "make"].contains(&gate), "{gate}");
+        assert!(["tools/library", "bash .ci/run", "make"].contains(&gate), "{gate}");
         if !then.is_empty() {
             assert_eq!(shell(then), text("examples/town.txt"));
         }
