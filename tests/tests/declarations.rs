@@ -210,7 +210,7 @@ fn files(folder: &str, extension: &str) -> Vec<String> {
     let mut found: Vec<String> = Vec::new();
     for entry in entries.map(|entry| entry.expect("an entry")) {
         let path = format!("{folder}/{}", entry.file_name().into_string().expect("a name"));
-        if entry.path().is_dir() && entry.file_name() != "target" {
+        if entry.path().is_dir() && entry.file_name() != "target" && entry.file_name() != "out" {
             found.extend(files(&path, extension));
         } else if entry.path().extension().is_some_and(|e| e == extension) {
             found.push(path);

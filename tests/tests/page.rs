@@ -35,10 +35,13 @@ fn page(name: &str) -> String {
     read(&crates().join("promises/specs").join(name).with_extension("antt"))
 }
 
-/// All files below a folder.
+/// All files below a folder, but for what `rt` made.
 fn files(folder: &Path, found: &mut Vec<PathBuf>) {
     for entry in fs::read_dir(folder).into_iter().flatten() {
         let path = entry.expect("an entry").path();
+        if path.ends_with("out") {
+            continue;
+        }
         if path.is_dir() {
             files(&path, found);
         } else {

@@ -93,7 +93,7 @@ fn with_what_it_rests_on(name: &str) -> Vec<String> {
     let rests_on: BTreeMap<&str, Vec<&str>> = list
         .lines()
         .filter_map(|line| line.split('#').next().expect("the part before a comment").split_once(':'))
-        .map(|(name, others)| (name, others.split_whitespace().collect()))
+        .map(|(name, others)| (name.trim_end_matches(" staticlib"), others.split_whitespace().collect()))
         .collect();
     let mut found = vec![name.to_owned()];
     let mut at = 0;

@@ -2,10 +2,13 @@
 
 use super::*;
 
-/// The files of a folder and of those below it, with their text.
+/// The files of a folder and of those below it, with their text, but for what `rt` made.
 fn gather(folder: &Path, extensions: &[&str], into: &mut BTreeMap<String, String>) {
     for entry in std::fs::read_dir(folder).expect("a folder") {
         let path = entry.expect("a file").path();
+        if path.ends_with("out") {
+            continue;
+        }
         if path.is_dir() {
             gather(&path, extensions, into);
         } else if extensions.iter().any(|e| path.extension().is_some_and(|of| of == *e)) {

@@ -1,6 +1,6 @@
 -- The bodies of the loops that find the cheapest pairs and a cheapest tree.
 use Rattle.std.specs.Prelude.{◌≡◌, Bool, true, false, cond, List, ℕ, ◌+◌, ◌*◌, ◌-◌, ◌/◌, ◌%◌, ◌^◌, get_or, set, ℤ, pos, ◌+ℤ◌, ◌-ℤ◌}
-use Rattle.std.proofs.Common.{sym, ap, ap₂, ◌∙◌, ne_eqb}
+use Rattle.std.proofs.Common.{sym, ap₂, ◌∙◌, ne_eqb}
 use Rattle.std.proofs.lemmas.List.{set-get_or}
 use Rattle.std.specs.Int.Signed.{lt_z}
 use Rattle.multiplier_steps.specs.Steps.{capped}

@@ -22,7 +22,7 @@ unfolding sum_over
 sum_most [] g n h = omega arith
 sum_most (v ∷ vs) g n h = let a = sum_most vs g n h in let b = h v in let e = suc-mul (length vs) n in omega arith
 
-sum_two : {vs : List ℕ} (g : ℕ → ℕ) {i j : ℕ} → i ≢ j → Memᴰ i vs → Memᴰ j vs → g i + g j ≤ sum_over vs g
+sum_two : {i j : ℕ} {vs : List ℕ} (g : ℕ → ℕ) → i ≢ j → Memᴰ i vs → Memᴰ j vs → g i + g j ≤ sum_over vs g
 unfolding sum_over
 sum_two g n (Memᴰ.head e) (Memᴰ.head f) = absurd (n (e ∙ sym f))
 sum_two g n (Memᴰ.head e) (Memᴰ.tail m) = let a = ap g e in let b = term_le g m in omega arith

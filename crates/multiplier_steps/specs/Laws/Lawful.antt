@@ -1,12 +1,12 @@
 -- What the test of multipliers says: raised to heights they are feasible for every pair of vs, and tight wherever something is sent.
 use Rattle.std.proofs.Math.Path.{subst, subst⁻¹}
-use Rattle.std.specs.Prelude.{Bool, true, cond, ◌&&◌, ℕ, zero, suc, ◌≤◌, ◌<◌, ltb, length, get_or, ℤ, pos, ◌+ℤ◌, ◌-ℤ◌, ◌≤ℤ◌}
+use Rattle.std.specs.Prelude.{Bool, true, cond, ◌&&◌, ℕ, zero, suc, ◌<◌, ltb, length, get_or, ℤ, pos, ◌+ℤ◌, ◌-ℤ◌, ◌≤ℤ◌}
 use mathlib.Core.List.{List, Memᴰ}
 use Rattle.std.proofs.Math.Decide.{ℕ_discrete}
 use Rattle.std.proofs.Common.{arith, lt-ltb}
 use Rattle.std.proofs.Math.Dec.{T}
 use Rattle.std.specs.Int.Signed.{le_z, le_z_yes}
-use Rattle.integers.specs.Linear.{z, zl}
+use Rattle.integers.specs.Linear.{zl}
 use Rattle.postman.specs.Laws.Tests.{and_parts}
 use Rattle.postman.specs.Laws.Membership.{mem_get_d}
 use Rattle.balance.specs.Optimality.{ArePotentials, Tight}

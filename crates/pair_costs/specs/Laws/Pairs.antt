@@ -7,7 +7,7 @@ use Rattle.std.proofs.Math.Path.{refl, sym, ap, ap₂, subst, subst⁻¹}
 use Rattle.std.proofs.Common.{◌∙◌, le_refl, one-add, eqb→eq, T_not}
 use Rattle.std.proofs.Math.Logic.{inl, inr}
 use mathlib.Core.List.{List, [], ◌∷◌, map, flat_map, Memᴰ, map-map}
-use Prim.Native.Nat.{ℕ, zero, suc, ◌+◌, ◌-◌, ◌≤◌, ◌<◌}
+use Prim.Native.Nat.{ℕ, zero, suc, ◌-◌, ◌≤◌, ◌<◌}
 use Rattle.std.proofs.Math.Decide.{ℕ_discrete}
 use native.Mathlib.Omega.{arith}
 use Rattle.std.proofs.Math.ListN.{length-map}

@@ -1,0 +1,10 @@
+-- By the test. Assumes nothing.
+use native.Mathlib.Omega.{arith}
+use Rattle.ascent_tree.specs.Laws.Grown.{walk_end, walk_is}
+use Rattle.ascent_tree.proofs.tree.walk_back.Goals as goal
+
+pub returns-then-t-eq0 : goal.returns-then-t-eq0
+returns-then-t-eq0 c = (walk_end c.args.from.now c.args.at.now c.args.s c.args.x.now c.args.t c.if-t-eq0.true, omega arith)
+
+pub returns : goal.returns
+returns c = let m = c.monus.ensures in (walk_is c.args.from.now c.args.at.now c.args.s c.args.x.now c.args.t c.if-t-eq0.false c.wide-e.ensures c.shift.ensures c.bit-half.ensures.0 c.monus.ensures, omega arith)
