@@ -63,8 +63,8 @@ path-requires c =
     (subst⁻¹ (λ z. z < p.n) u r.from) (subst⁻¹ (λ z. z < p.n) v r.to) (subst₂ (λ x y. distance p x y < no_path) (sym u) (sym v) r.linked)
     (subst⁻¹ (λ (z : List ℕ). a.at + length z ≤ length a.places.now) q c.requires.room)) in record {
       well_formed = all.0;
-      i_in_bounds = all.1.0;
-      j_in_bounds = all.1.1;
+      has_path = all.1.0;
+      room = all.1.1;
     }
 
 pub returns : goal.returns
@@ -76,6 +76,6 @@ returns c =
     let w = taken_path a.arcs.now a.weights.now c.column_to-column.result c.column_to-column.ensures.0 c.requires.well_formed.0 i j ∙ q in
     let e = c.path.ensures in
     record {
-      places_written = e.places_after ∙ ap (overwrite a.places.now a.at) w;
-      next_place = e.value ∙ ap (λ (z : List ℕ). a.at + length z) w;
+      places_written = e.places_written ∙ ap (overwrite a.places.now a.at) w;
+      next_place = e.next_place ∙ ap (λ (z : List ℕ). a.at + length z) w;
     }

@@ -1,9 +1,12 @@
 -- The invariant: no place before the ith is foreign.
-use mathlib.Core.Path.{sym, ◌∙◌}
+use mathlib.Core.Path.{◌≡◌, refl, sym, ◌∙◌}
+use Prim.Native.Nat.{◌-◌, ◌≤◌}
 use native.Mathlib.Omega.{arith}
+use lib.ListN.{length}
 use Rattle.postman.specs.Judge.{is_foreign, has_foreign}
 use Rattle.drive_tally.specs.Rows.{plan_over}
-use Rattle.drive_tally.specs.Laws.Places.{none_more, one_found, none_found}
+use Rattle.drive_tally.specs.Laws.Places.{NoneBefore, none_more, one_found, none_found}
+use borrow.Author.Rules.{rules}
 use Rattle.drive_tally.proofs.faults.has_foreign.Goals as goal
 
 pub returns-then-is_foreign : goal.returns-then-is_foreign
