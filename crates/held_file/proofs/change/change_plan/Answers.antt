@@ -6,30 +6,17 @@ use Rattle.plan.specs.Laws.Records.{plan_length}
 use Rattle.held_file.specs.Change.{change_of}
 use Rattle.held_file.specs.Laws.Held.{refused_held}
 use Rattle.held_file.specs.Laws.Change.{foreign_arc, own_arc}
-use borrow.Author.Rules.{rules}
-use Rattle.held_file.proofs.change.change_plan.Statement.{statement}
-use Rattle.held_file.proofs.change.change_plan.Tie as tie
+use Rattle.held_file.proofs.change.change_plan.Goals as goal
 
-returns : tie.Need-returns
-returns c =
-    let a = c.before.before.before.args in
+pub returns-then-m-arc : goal.returns-then-m-arc
+returns-then-m-arc c =
+    let a = c.args in
     let m = plan_length a.plan in
     refused_held _ _ _ _ (foreign_arc a.edition (plan_value a.plan) (change_of a.arc a.cost a.service a.standing) (omega arith)) c.not_written.ensures
 
-returns_2 : tie.Need-returns-2
-returns_2 c =
-    let a = c.before.before.before.before.args in
+pub returns : goal.returns
+returns c =
+    let a = c.args in
     let m = plan_length a.plan in
     let own = own_arc a.edition (plan_value a.plan) (change_of a.arc a.cost a.service a.standing) (omega arith) in
-    rw (own, sym c.before.changed-plan.ensures) c.write-held.ensures
-
-pub change_plan_spec : {M : Type 1} → statement M
-change_plan_spec =
-    tie.close
-    (tie.spec
-    (λ c. search rules)
-    (λ c κs. search rules)
-    returns
-    (λ c κs. search rules)
-    (λ c κs. search rules)
-    returns_2)
+    rw (own, sym c.changed_plan-changed.ensures) c.write_held.ensures
