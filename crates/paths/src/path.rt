@@ -80,12 +80,12 @@ pub fn path(
 ) -> usize
     requires well_formed { WellFormed (plan_in (length column.now) arcs.now) × IsColumn (plan_in (length column.now) arcs.now) j column.now
         × IsLeavingChain arcs.now chain.now }
-    requires i_in_bounds { (i < length column.now) × (j < length column.now)
+    requires has_path { (i < length column.now) × (j < length column.now)
         × (distance (plan_in (length column.now) arcs.now) i j < no_path) }
-    requires j_in_bounds { at + length (shortest_path (plan_in (length column.now) arcs.now) i j) ≤ length places.old }
-    ensures places_after { places.new
+    requires room { at + length (shortest_path (plan_in (length column.now) arcs.now) i j) ≤ length places.old }
+    ensures places_written { places.new
         ≡ overwrite places.old at (shortest_path (plan_in (length column.now) arcs.now) i j) }
-    ensures value { result ≡ at + length (shortest_path (plan_in (length column.now) arcs.now) i j) }
+    ensures next_place { result ≡ at + length (shortest_path (plan_in (length column.now) arcs.now) i j) }
 {
     let mut v = i;
     let mut to = at;

@@ -120,8 +120,8 @@ fn put_plan(s: &mut [u8], edition: u8, p: Plan)
 // Writing in an edition, into any slice: the first refusal by document 01's order, with the slice untouched; or
 // the file's length, with the file in the slice.
 pub fn write_plan(edition: u8, p: Plan, s: &mut [u8]) -> Written
-    ensures result_value { written_answer result ≡ write_answer edition (plan_value p) s.old }
-    ensures s_after { s.new ≡ bytes_after edition (plan_value p) s.old }
+    ensures answered { written_answer result ≡ write_answer edition (plan_value p) s.old }
+    ensures bytes_written { s.new ≡ bytes_after edition (plan_value p) s.old }
 {
     match plan_verdict(edition, p, s.len()) {
         Verdict::Accepted => {

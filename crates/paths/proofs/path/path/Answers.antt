@@ -59,8 +59,8 @@ pub loop-v-init : goal.loop-v-init
 loop-v-init c =
     let e = rows_vertices (length c.args.column.now) c.args.arcs.now in
     let p = plan_in (length c.args.column.now) c.args.arcs.now in
-    let l : c.args.i < p.n = (let l = c.requires.i_in_bounds.0 in omega arith) in
-    writing_none (weighted p) (is_weighted p c.requires.well_formed.0) c.args.i c.args.j _ c.args.at l (weight_path p c.requires.well_formed.0 c.args.i c.args.j l c.requires.i_in_bounds.2)
+    let l : c.args.i < p.n = (let l = c.requires.has_path.0 in omega arith) in
+    writing_none (weighted p) (is_weighted p c.requires.well_formed.0) c.args.i c.args.j _ c.args.at l (weight_path p c.requires.well_formed.0 c.args.i c.args.j l c.requires.has_path.2)
 
 pub next_arc-k-requires : goal.next_arc-k-requires
 next_arc-k-requires c =
@@ -73,7 +73,7 @@ overflow_cast-places c =
 pub bounds-places-to : goal.bounds-places-to
 unfolding shortest_path
 bounds-places-to c =
-    omega (arith, room c.args.column.now c.args.arcs.now c.requires.well_formed.0 c.loop-v.invariant c.loop-v-test.true c.requires.j_in_bounds)
+    omega (arith, room c.args.column.now c.args.arcs.now c.requires.well_formed.0 c.loop-v.invariant c.loop-v-test.true c.requires.room)
 
 pub offset_bounds-arcs-k : goal.offset_bounds-arcs-k
 offset_bounds-arcs-k c =
@@ -86,12 +86,12 @@ bounds-arcs-k c =
 pub loop-v-preserved : goal.loop-v-preserved
 unfolding shortest_path
 loop-v-preserved c =
-    written c.args.column.now c.args.arcs.now c.requires.well_formed.0 c.loop-v.invariant c.loop-v-test.true c.requires.well_formed.1 c.next_arc-k.ensures c.requires.j_in_bounds c.wide-v.ensures
+    written c.args.column.now c.args.arcs.now c.requires.well_formed.0 c.loop-v.invariant c.loop-v-test.true c.requires.well_formed.1 c.next_arc-k.ensures c.requires.room c.wide-v.ensures
 
 pub returns : goal.returns
 unfolding shortest_path
 returns c =
     let all = (writing_all (weighted (plan_in (length c.args.column.now) c.args.arcs.now)) (is_weighted (plan_in (length c.args.column.now) c.args.arcs.now) c.requires.well_formed.0) c.args.i c.args.j _ c.args.at c.loop-v.places c.loop-v.v c.loop-v.to c.loop-v.invariant c.loop-v-test.false) in record {
-      places_after = all.0;
-      value = all.1;
+      places_written = all.0;
+      next_place = all.1;
     }

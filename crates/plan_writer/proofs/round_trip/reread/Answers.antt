@@ -9,31 +9,31 @@ use Rattle.plan_writer.proofs.round_trip.reread.Goals as goal
 pub slice_bounds-bytes-end : goal.slice_bounds-bytes-end
 slice_bounds-bytes-end c =
     let call = c.write_plan in
-    let given = c.in-Length.ensures.result_value in
-    let file = written-file c.args.edition (plan_value c.args.p) _ call.new.s c.in-Length.n given call.ensures.s_after in
+    let given = c.in-Length.ensures.answered in
+    let file = written-file c.args.edition (plan_value c.args.p) _ call.new.s c.in-Length.n given call.ensures.bytes_written in
     file.0
 
 pub slice_bounds-read_plan-end : goal.slice_bounds-read_plan-end
 slice_bounds-read_plan-end c =
     let call = c.write_plan in
-    let given = c.in-Length.ensures.result_value in
-    let file = written-file c.args.edition (plan_value c.args.p) _ call.new.s c.in-Length.n given call.ensures.s_after in
+    let given = c.in-Length.ensures.answered in
+    let file = written-file c.args.edition (plan_value c.args.p) _ call.new.s c.in-Length.n given call.ensures.bytes_written in
     sym (length-take-le c.in-Length.n call.new.s file.0)
 
 pub returns-in-Length : goal.returns-in-Length
 returns-in-Length c =
     let p = c.args.p in
     let call = c.write_plan in
-    let given = c.in-Length.ensures.result_value in
+    let given = c.in-Length.ensures.answered in
     reread-file c.args.edition p _ call.new.s refl c.read_plan.result c.in-Length.n
     (owned_costs p.arcs c.well_formed.1.0.1.1.1.1.0.0 c.well_formed.1.0.1.1.1.1.0.1.1)
     given
-    call.ensures.s_after
+    call.ensures.bytes_written
     c.read_plan.ensures
 
 pub returns-in-Refused : goal.returns-in-Refused
 returns-in-Refused c =
     let a = c.args in
     let call = c.write_plan in
-    let refusal = c.in-Refused.ensures.result_value in
+    let refusal = c.in-Refused.ensures.answered in
     reread-refused a.edition a.p _ call.new.s refl _ _ refusal refl refl c.no_plan-plan.ensures

@@ -31,8 +31,8 @@ returns-in-Accepted c =
     let p = plan_value a.p in
     let accepted = sym c.in-Accepted.ensures in
     let count = length_value a.p in record {
-      result_value = ap given (c.file_length.ensures ∙ ap (file_length a.edition) (sym count)) ∙ sym (given_answer a.edition p s accepted);
-      s_after = c.put_plan.ensures
+      answered = ap given (c.file_length.ensures ∙ ap (file_length a.edition) (sym count)) ∙ sym (given_answer a.edition p s accepted);
+      bytes_written = c.put_plan.ensures
           ∙ ap (λ (m : ℕ). file_of a.edition p ++ drop (file_length a.edition m) s) (sym count)
           ∙ sym (given_bytes a.edition p s accepted);
     }
@@ -44,6 +44,6 @@ returns-in-Refused c =
     let p = plan_value a.p in
     let refusal = sym c.in-Refused.ensures in
     record {
-      result_value = sym (refused_answer a.edition p s _ refusal);
-      s_after = sym (refused_bytes a.edition p s _ refusal);
+      answered = sym (refused_answer a.edition p s _ refusal);
+      bytes_written = sym (refused_bytes a.edition p s _ refusal);
     }
