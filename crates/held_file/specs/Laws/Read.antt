@@ -3,7 +3,7 @@ use Rattle.std.specs.Prelude.{◌≡◌, List, [], ℕ, ◌≤◌}
 use Rattle.std.proofs.Common.{sym, ◌∙◌, subst}
 use Rattle.std.proofs.Math.Option.{none, some}
 use Rattle.postman.specs.Plan.{WellFormed}
-use Rattle.postman.specs.PlanFile.{edition, file_of}
+use Rattle.postman.specs.PlanFile.{file_of}
 use Rattle.postman.specs.OpenPlan.{Change, changed_plan, change_refusal}
 use Rattle.plan.specs.Records.{plan_value}
 use Rattle.plan.specs.Laws.Records.{record_arcs}
