@@ -1,6 +1,5 @@
 -- What a progress by value holds.
 use Rattle.std.specs.Prelude.{Bool, false, cond, ℕ, ◌+◌, ◌≤◌, eqb, leb, ltb}
-use Rattle.postman.specs.Balancing.{heads, tails}
 use Rattle.small_counts.specs.Matrix.{cap}
 use Rattle.branches.specs.declared.progress.Progress.{Progress}
 use Rattle.branches.specs.Links.{links_in}

@@ -1,5 +1,5 @@
 -- A multiplier that is raised is not negative and small, so that it can be read back from a cast.
-use Rattle.std.specs.Prelude.{◌≡◌, ◌+◌, ◌≤◌, T, ℤ, pos, nat_abs, ◌+ℤ◌, ◌-ℤ◌, ◌≤ℤ◌}
+use Rattle.std.specs.Prelude.{◌≡◌, ◌≤◌, T, ℤ, pos, nat_abs, ◌+ℤ◌, ◌-ℤ◌, ◌≤ℤ◌}
 use Rattle.std.proofs.Common.{◌∙◌, arith, Fits}
 use Rattle.std.proofs.Math.Path.{subst⁻¹}
 use Rattle.std.specs.Int.{w64}
