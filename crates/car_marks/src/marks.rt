@@ -1,7 +1,7 @@
 // 18, and the plan of a car.
 // Steps for other crates, which ask something of their caller.
 ghost use Rattle.std.specs.Prelude.{◌≡◌, cond, ◌≤◌, eqb, length};
-ghost use Rattle.postman.specs.Marks.{is_bad_mark, has_bad_mark, marked_service, marked as «marked-arc», car_plan};
+ghost use Rattle.postman.specs.Marks.{is_bad_mark, has_bad_mark, marked_service, marked as marked_arc, car_plan};
 ghost use Rattle.plan.specs.Records.{arc_value, record_of, plan_value};
 
 use plan::{Arc, Plan};
@@ -54,7 +54,7 @@ fn marked_standing(mark: u8) -> u8
 
 // The arc with a mark; a closed arc stays as it is.
 fn marked(mark: u8, a: Arc) -> Arc
-    ensures { result ≡ record_of («marked-arc» mark (arc_value a)) }
+    ensures { result ≡ record_of (marked_arc mark (arc_value a)) }
 {
     if plan::is_open(a) {
         let standing = marked_standing(mark);

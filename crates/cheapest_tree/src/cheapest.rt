@@ -4,7 +4,7 @@
 ghost use Rattle.std.specs.Prelude.{◌≡◌, true, false, not, ◌&&◌, ◌||◌, ℕ, ◌+◌, ◌*◌, ◌/◌, ◌%◌, ◌<◌, ◌≤◌, get_or, set, pos, ◌≤ℤ◌};
 ghost use Rattle.postman.specs.Lists.{iterate};
 ghost use Rattle.cheapest_tree.specs.Cheapest.{tree_cost, IsCheapest};
-ghost use Rattle.cheapest_tree.specs.CostMatrix.{matrix_of, others_in, IsCostMatrix, highest, place_of, line_of, IsCheaper, IsBest, HasEntries, entry_of, pay_of, IsLost, IsMarked, IsPlace, IsShrunk, kept_of, less as «less_by»};
+ghost use Rattle.cheapest_tree.specs.CostMatrix.{matrix_of, others_in, IsCostMatrix, highest, place_of, line_of, IsCheaper, IsBest, HasEntries, entry_of, pay_of, IsLost, IsMarked, IsPlace, IsShrunk, kept_of, less as less_by};
 
 // The place of x in row f, or in column f.
 fn place(row: bool, f: usize, x: usize) -> usize
@@ -98,7 +98,7 @@ fn paid(w: &[i64; 64], left: [bool; 8], e: [usize; 8]) -> i64
 // A cost less a part of it; 0 where the part is more.
 fn cost_less(a: i64, m: i64) -> i64
     requires { (pos 0 ≤ℤ a) × (a ≤ℤ pos highest) × (pos 0 ≤ℤ m) × (m ≤ℤ pos highest) }
-    ensures { result ≡ «less_by» a m }
+    ensures { result ≡ less_by a m }
 {
     if a < m {
         return 0;
@@ -109,7 +109,7 @@ fn cost_less(a: i64, m: i64) -> i64
 // The costs less what each component pays.
 fn reduced(w: &[i64; 64], left: [bool; 8], e: [usize; 8]) -> [i64; 64]
     requires { IsCostMatrix w.now left × HasEntries w.now left 8 e }
-    ensures { (i : ℕ) → i < 64 → get_or result i (pos 0) ≡ «less_by» (get_or w.now i (pos 0)) (pay_of w.now left e (i % 8)) }
+    ensures { (i : ℕ) → i < 64 → get_or result i (pos 0) ≡ less_by (get_or w.now i (pos 0)) (pay_of w.now left e (i % 8)) }
 {
     let mut v = [0i64; 64];
     for i in 0..64 {

@@ -2,9 +2,9 @@
 #![tactic(auto)]
 
 ghost use Rattle.std.specs.Prelude.{◌≡◌};
-ghost use Rattle.postman.specs.Plan.{Plan as «a-plan», WellFormed};
+ghost use Rattle.postman.specs.Plan.{Plan as AnyPlan, WellFormed};
 ghost use Rattle.postman.specs.Refusal.{answer, given};
-ghost use Rattle.postman.specs.TreeCount.{counted as «counted-as», tree_count, count_call};
+ghost use Rattle.postman.specs.TreeCount.{counted as counted_as, tree_count, count_call};
 ghost use Rattle.plan.specs.Records.{plan_value};
 ghost use Rattle.network.specs.Network.{IsNetwork};
 ghost use Rattle.call_steps.specs.Refusals.{network_refusal, plan_refusal};
@@ -25,7 +25,7 @@ pub enum Counted {
 
 // A number that is counted.
 fn known_or_above(n: u64) -> Counted
-    ensures { count_answer result ≡ given («counted-as» n) }
+    ensures { count_answer result ≡ given (counted_as n) }
 {
     if 4_294_967_295 < n {
         return Counted::Above;
@@ -35,7 +35,7 @@ fn known_or_above(n: u64) -> Counted
 
 // 10, 11 and 12, then the number, for whatever plan it is the network of.
 fn count_measured(net: Network) -> Counted
-    ensures { (p : «a-plan») → WellFormed p → IsNetwork p net
+    ensures { (p : AnyPlan) → WellFormed p → IsNetwork p net
         → count_answer result ≡ answer (network_refusal net.components net.cut_off) (tree_count p) }
 {
     match network_verdict(net.components, net.cut_off) {

@@ -2,7 +2,7 @@
 // and from its row the entries of all its pairs.
 ghost use Rattle.std.specs.Prelude.{◌≡◌, ◌++◌, map, ◌<◌, ◌≤◌, length, drop};
 ghost use Rattle.postman.specs.Plan.{WellFormed};
-ghost use Rattle.postman.specs.DistanceCall.{entry as «entry_of», search_count};
+ghost use Rattle.postman.specs.DistanceCall.{entry as entry_of, search_count};
 ghost use Rattle.postman.specs.Steps.{ArePairs};
 ghost use Rattle.plan.specs.Records.{plan_value};
 ghost use Rattle.distances.specs.Filling.{entry_by, IsRowPut, IsSearchPut};
@@ -49,7 +49,7 @@ pub(crate) fn put_entries(plan: Plan, pairs: &[u16], distances: &mut [u32]) -> u
     requires { WellFormed (plan_value plan) × ArePairs (plan_value plan).n pairs.now × (length pairs.now ≤ length distances.old) }
     ensures searches { result ≡ search_count pairs.now }
     ensures entries_written { distances.new
-        ≡ map («entry_of» (plan_value plan)) pairs.now ++ drop (length pairs.now) distances.old }
+        ≡ map (entry_of (plan_value plan)) pairs.now ++ drop (length pairs.now) distances.old }
 {
     let mut searches: u16 = 0;
     let mut searched = [false; 64];

@@ -1,19 +1,19 @@
 // Pairs of vertices, each one number of 16 bits, 256 × first + second.
 ghost use Rattle.std.specs.Prelude.{◌≡◌};
 ghost use Rattle.postman.specs.Refusal.{first_refusal};
-ghost use Rattle.postman.specs.DistanceCall.{first as «first_of», second as «second-of», is_stray, has_stray, pairs_conditions};
+ghost use Rattle.postman.specs.DistanceCall.{first as first_of, second as second_of, is_stray, has_stray, pairs_conditions};
 ghost use Rattle.refusal.specs.Verdict.{verdict_number};
 
 use refusal::{Refusal, Verdict};
 
 pub(crate) fn first(x: u16) -> usize
-    ensures { result ≡ «first_of» x }
+    ensures { result ≡ first_of x }
 {
     (x / 256) as usize
 }
 
 pub(crate) fn second(x: u16) -> usize
-    ensures { result ≡ «second-of» x }
+    ensures { result ≡ second_of x }
 {
     (x % 256) as usize
 }

@@ -1,9 +1,9 @@
 // One arc of a plan file changed: the plan is read, changed and written again in its edition.
 ghost use Rattle.std.specs.Prelude.{◌≡◌, ◌<◌, ◌≤◌};
 ghost use Rattle.postman.specs.PlanFile.{file_of};
-ghost use Rattle.postman.specs.OpenPlan.{changed_plan as «changed-plan», change_refusal};
+ghost use Rattle.postman.specs.OpenPlan.{changed_plan, change_refusal};
 ghost use Rattle.plan.specs.Records.{plan_value};
-ghost use Rattle.held_file.specs.Change.{change_of, file_change_refusal, changed_file as «changed-file»};
+ghost use Rattle.held_file.specs.Change.{change_of, file_change_refusal, changed_file};
 ghost use Rattle.held_file.specs.Held.{file_in, IsHeld};
 
 use crate::file::{held_length, not_written, write_held};
@@ -15,7 +15,7 @@ use refusal::{Refusal, Verdict};
 // Arc k gets other costs and another standing.
 fn changed_plan(plan: Plan, k: usize, cost: u16, service: u16, standing: u8) -> Plan
     requires { (k < plan.m) × (plan.m ≤ 256) }
-    ensures { plan_value result ≡ «changed-plan» (plan_value plan) (change_of k cost service standing) }
+    ensures { plan_value result ≡ changed_plan (plan_value plan) (change_of k cost service standing) }
 {
     let old = plan.arcs[k];
     let new = Arc {
@@ -41,7 +41,7 @@ fn change_plan(
 ) -> Rewritten
     requires { plan.m ≤ 256 }
     ensures { IsHeld (change_refusal edition (plan_value plan) (change_of arc cost service standing))
-        (file_of edition («changed-plan» (plan_value plan) (change_of arc cost service standing))) result }
+        (file_of edition (changed_plan (plan_value plan) (change_of arc cost service standing))) result }
 {
     let m = plan.m as u32;
     if m <= arc {
@@ -54,7 +54,7 @@ fn change_plan(
 // A file that does not read is refused for what reading refuses.
 pub fn changed_file(held: Held, arc: u32, cost: u16, service: u16, standing: u8) -> Rewritten
     ensures { IsHeld (file_change_refusal (file_in held) (change_of arc cost service standing))
-        («changed-file» (file_in held) (change_of arc cost service standing)) result }
+        (changed_file (file_in held) (change_of arc cost service standing)) result }
 {
     let n = held_length(held);
     let file = held.file;

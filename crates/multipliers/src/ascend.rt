@@ -3,7 +3,7 @@
 // Steps for other crates, which ask something of their caller.
 ghost use Rattle.std.specs.Prelude.{◌≡◌, cond};
 ghost use Rattle.std.specs.Int.Signed.{lt_z};
-ghost use Rattle.postman.specs.Plan.{Plan as «a-plan»};
+ghost use Rattle.postman.specs.Plan.{Plan as AnyPlan};
 ghost use Rattle.postman.specs.PlanCall.{root};
 ghost use Rattle.plan.specs.Records.{plan_value};
 ghost use Rattle.residual_search.specs.Search.{beyond};
@@ -60,8 +60,8 @@ fn exceeds(a: i64, b: i64) -> bool
 
 // L(u).
 fn bound_at(table: &[[u32; 64]; 64], s: Setting, u: &[i64; 64]) -> i64
-    requires { (p : «a-plan») × IsPricedIn p table.now s u.now }
-    ensures { (p : «a-plan») → IsPricedIn p table.now s u.now → result ≡ bound_of p u.now }
+    requires { (p : AnyPlan) × IsPricedIn p table.now s u.now }
+    ensures { (p : AnyPlan) → IsPricedIn p table.now s u.now → result ≡ bound_of p u.now }
 {
     let component = s.component;
     let required = s.required;
@@ -79,8 +79,8 @@ fn bound_at(table: &[[u32; 64]; 64], s: Setting, u: &[i64; 64]) -> i64
 
 // The multipliers, 0 at the root, are the best so far, where they are lawful and their bound is larger.
 fn attempt(table: &[[u32; 64]; 64], f: &[u16; 4096], vs: &[u8], s: Setting, c: Stage) -> Best
-    requires { ((p : «a-plan») × IsPrepared p table.now f.now vs.now s) × AreSmall beyond c.multipliers }
-    ensures { (p : «a-plan») → IsPrepared p table.now f.now vs.now s
+    requires { ((p : AnyPlan) × IsPrepared p table.now f.now vs.now s) × AreSmall beyond c.multipliers }
+    ensures { (p : AnyPlan) → IsPrepared p table.now f.now vs.now s
         → holding c result ≡ attemptOf p (climb_of c) }
 {
     let x = c.multipliers;
@@ -111,8 +111,8 @@ fn attempt_above(
     c: Stage,
     value: i64,
 ) -> Best
-    requires { ((p : «a-plan») × IsPrepared p table.now f.now vs.now s) × AreSmall beyond c.multipliers }
-    ensures { (p : «a-plan») → IsPrepared p table.now f.now vs.now s
+    requires { ((p : AnyPlan) × IsPrepared p table.now f.now vs.now s) × AreSmall beyond c.multipliers }
+    ensures { (p : AnyPlan) → IsPrepared p table.now f.now vs.now s
         → holding c result ≡ cond (lt_z c.value value) (attemptOf p (climb_of c)) (climb_of c) }
 {
     if c.value < value {
@@ -134,8 +134,8 @@ fn climb(
     c: Stage,
     i: usize,
 ) -> Stage
-    requires { ((p : «a-plan») × IsPrepared p table.now f.now vs.now s) × CanStep c }
-    ensures { ((p : «a-plan») → IsPrepared p table.now f.now vs.now s
+    requires { ((p : AnyPlan) × IsPrepared p table.now f.now vs.now s) × CanStep c }
+    ensures { ((p : AnyPlan) → IsPrepared p table.now f.now vs.now s
         → climb_of result ≡ climbOnce p (climb_of c) i)
         × CanStep result }
 {
@@ -174,8 +174,8 @@ fn climb(
 
 // Before the first step.
 fn begun(table: &[[u32; 64]; 64], f: &[u16; 4096], vs: &[u8], s: Setting, u: [i64; 64]) -> Stage
-    requires { (p : «a-plan») × IsPrepared p table.now f.now vs.now s × (u ≡ greatest_of p) }
-    ensures { ((p : «a-plan») → IsPrepared p table.now f.now vs.now s → u ≡ greatest_of p
+    requires { (p : AnyPlan) × IsPrepared p table.now f.now vs.now s × (u ≡ greatest_of p) }
+    ensures { ((p : AnyPlan) → IsPrepared p table.now f.now vs.now s → u ≡ greatest_of p
         → climb_of result ≡ begin p) × CanStep result }
 {
     let l = bound_at(table, s, &u);
@@ -200,8 +200,8 @@ pub(crate) fn ascend(
     s: Setting,
     u: [i64; 64],
 ) -> Best
-    requires { (p : «a-plan») × IsPrepared p table.now f.now vs.now s × (u ≡ greatest_of p) }
-    ensures { (p : «a-plan») → IsPrepared p table.now f.now vs.now s → u ≡ greatest_of p
+    requires { (p : AnyPlan) × IsPrepared p table.now f.now vs.now s × (u ≡ greatest_of p) }
+    ensures { (p : AnyPlan) → IsPrepared p table.now f.now vs.now s → u ≡ greatest_of p
         → (result.multipliers ≡ multipliers_for p) × (result.bound ≡ bound_of p result.multipliers) }
 {
     let mut c = begun(table, f, vs, s, u);

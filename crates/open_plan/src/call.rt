@@ -1,11 +1,11 @@
 // The calls of an open plan. None of them asks anything: whatever the state holds, reading decides.
 ghost use Rattle.std.specs.Prelude.{◌≡◌};
 ghost use Rattle.std.proofs.Math.Option.{none, some};
-ghost use Rattle.postman.specs.OpenPlan.{change as «a-change», mark as «a-mark», return as «a-return»};
+ghost use Rattle.postman.specs.OpenPlan.{change as a_change, mark as a_mark, return as a_return};
 ghost use Rattle.refusal.specs.Verdict.{refusal_number};
 ghost use Rattle.held_file.specs.Change.{change_of};
 ghost use Rattle.held_file.specs.Held.{file_in};
-ghost use Rattle.open_plan.specs.State.{fresh_state, with_plan as «with-plan-of»};
+ghost use Rattle.open_plan.specs.State.{fresh_state, with_plan as with_plan_of};
 ghost use Rattle.shut_arcs.specs.Fields.{departure};
 ghost use Rattle.windows.specs.Contract.{IsPlanCallAt};
 ghost use Rattle.open_plan.specs.Contract.{IsMoveAnswer, IsOpened, IsMoved};
@@ -32,7 +32,7 @@ fn fresh(file: Held) -> OpenPlan
 
 // The open plan goes on with another file, and keeps its marks.
 fn with_plan(state: OpenPlan, file: Held) -> OpenPlan
-    ensures { result ≡ «with-plan-of» state file }
+    ensures { result ≡ with_plan_of state file }
 {
     let marks = state.marks;
     OpenPlan {
@@ -77,7 +77,7 @@ pub fn open(bytes: &[u8]) -> Moved
 
 // A CHANGE of one arc's costs and standing.
 pub fn change(state: OpenPlan, arc: u32, cost: u16, service: u16, standing: u8) -> Moved
-    ensures { IsMoved state («a-change» (change_of arc cost service standing)) result }
+    ensures { IsMoved state (a_change (change_of arc cost service standing)) result }
 {
     let held = state.plan;
     let w = changed_file(held, arc, cost, service, standing);
@@ -92,7 +92,7 @@ pub fn change(state: OpenPlan, arc: u32, cost: u16, service: u16, standing: u8) 
 
 // MARK k holds the plan as it is now.
 pub fn mark(state: OpenPlan, k: u32) -> Moved
-    ensures { IsMoved state («a-mark» k) result }
+    ensures { IsMoved state (a_mark k) result }
 {
     if 3 < k {
         return refused(state, Refusal::NoMark);
@@ -106,7 +106,7 @@ pub fn mark(state: OpenPlan, k: u32) -> Moved
 
 // RETURNING brings back the plan of mark k, and keeps all marks.
 pub fn return_to(state: OpenPlan, k: u32) -> Moved
-    ensures { IsMoved state («a-return» k) result }
+    ensures { IsMoved state (a_return k) result }
 {
     if 3 < k {
         return refused(state, Refusal::NoMark);

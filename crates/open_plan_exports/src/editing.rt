@@ -1,7 +1,7 @@
 // An open plan, for callers in other languages. The state is lent: five files one after the other, that of the open plan and those of marks
 // 0 to 3, each as the two bytes of its length, the high one first, and 1,475 bytes. Whatever these bytes are, they are a state.
 ghost use Rattle.std.specs.Prelude.{length};
-ghost use Rattle.postman.specs.OpenPlan.{change as «a-change», mark as «a-mark», return as «a-return»};
+ghost use Rattle.postman.specs.OpenPlan.{change as a_change, mark as a_mark, return as a_return};
 ghost use Rattle.shut_arcs.specs.Fields.{departure};
 ghost use Rattle.held_file.specs.Change.{change_of};
 ghost use Rattle.postman.specs.Refusal.{answer};
@@ -26,7 +26,7 @@ pub fn postman_open(plan: &[u8], state: &mut [u8]) -> i64
 
 // A CHANGE of one arc's costs and standing. A slice that is too short for the state is refused as 8 first, here and in what follows.
 pub fn postman_change(state: &mut [u8], arc: u32, cost: u16, checking: u16, standing: u8) -> i64
-    ensures { IsExportedMove («a-change» (change_of arc cost checking standing)) state.old state.new result }
+    ensures { IsExportedMove (a_change (change_of arc cost checking standing)) state.old state.new result }
 {
     if state.len() < 7_385 {
         return refused_number(Refusal::ShortSheet);
@@ -38,7 +38,7 @@ pub fn postman_change(state: &mut [u8], arc: u32, cost: u16, checking: u16, stan
 
 // A MARK holds the plan as it is now.
 pub fn postman_mark(state: &mut [u8], mark: u32) -> i64
-    ensures { IsExportedMove («a-mark» mark) state.old state.new result }
+    ensures { IsExportedMove (a_mark mark) state.old state.new result }
 {
     if state.len() < 7_385 {
         return refused_number(Refusal::ShortSheet);
@@ -50,7 +50,7 @@ pub fn postman_mark(state: &mut [u8], mark: u32) -> i64
 
 // RETURNING brings back the plan of a mark.
 pub fn postman_return(state: &mut [u8], mark: u32) -> i64
-    ensures { IsExportedMove («a-return» mark) state.old state.new result }
+    ensures { IsExportedMove (a_return mark) state.old state.new result }
 {
     if state.len() < 7_385 {
         return refused_number(Refusal::ShortSheet);

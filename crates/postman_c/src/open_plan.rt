@@ -19,21 +19,21 @@ pub extern "C" fn postman_change(
     checking: u16,
     standing: u8,
 ) -> i64
-    ensures { IsExportedMove («a-change» (change_of arc cost checking standing)) state.old state.new result }
+    ensures { IsExportedMove (a_change (change_of arc cost checking standing)) state.old state.new result }
 {
     open_plan_exports::editing::postman_change(state, arc, cost, checking, standing)
 }
 
 #[unsafe(no_mangle)]
 pub extern "C" fn postman_mark(state: &mut [u8], mark: u32) -> i64
-    ensures { IsExportedMove («a-mark» mark) state.old state.new result }
+    ensures { IsExportedMove (a_mark mark) state.old state.new result }
 {
     open_plan_exports::editing::postman_mark(state, mark)
 }
 
 #[unsafe(no_mangle)]
 pub extern "C" fn postman_return(state: &mut [u8], mark: u32) -> i64
-    ensures { IsExportedMove («a-return» mark) state.old state.new result }
+    ensures { IsExportedMove (a_return mark) state.old state.new result }
 {
     open_plan_exports::editing::postman_return(state, mark)
 }

@@ -5,7 +5,7 @@ ghost use Rattle.std.specs.Prelude.{◌≡◌, true, ℕ, ◌<◌, get_or};
 ghost use Rattle.postman.specs.Plan.{WellFormed};
 ghost use Rattle.plan.specs.Records.{plan_value, arc_value};
 ghost use Rattle.shortest.specs.Weight.{heavy, weighted};
-ghost use Rattle.shortest.specs.Relaxation.{weight, shorter as «capped-sum», relax_arcs};
+ghost use Rattle.shortest.specs.Relaxation.{weight, shorter as capped_sum, relax_arcs};
 ghost use Rattle.shortest.specs.StepContracts.{IsRow, AreWeights};
 
 use crate::columns::{row_from, settled};
@@ -27,7 +27,7 @@ pub(crate) fn arc_weight(a: Arc) -> u32
 
 // The least of c and a + b. The sum is formed only where it stays below "no path".
 pub(crate) fn shorter(a: u32, b: u32, c: u32) -> u32
-    ensures { result ≡ «capped-sum» a b c }
+    ensures { result ≡ capped_sum a b c }
 {
     if a < NO_PATH - b {
         if a + b < c {

@@ -2,7 +2,7 @@
 // Steps for other crates, which ask something of their caller.
 ghost use Rattle.std.specs.Prelude.{◌≡◌, ◌&&◌, ◌+◌, ◌*◌, ◌≤◌, length};
 ghost use Rattle.postman.specs.Plan.{is_required_arc};
-ghost use Rattle.postman.specs.Windows.{window_in, windows_in, shuts as «shuts-arc», is_shut, closed_if, plan_at, is_must_shut};
+ghost use Rattle.postman.specs.Windows.{window_in, windows_in, shuts as shuts_arc, is_shut, closed_if, plan_at, is_must_shut};
 ghost use Rattle.plan.specs.Records.{arc_value, record_of, plan_value};
 ghost use Rattle.shut_arcs.specs.Fields.{window, departure};
 
@@ -10,7 +10,7 @@ use plan::{Arc, Plan};
 
 // "A window of that weekday shuts its arc when from ≤ t < to": whether a window shuts arc k.
 fn shuts(arc: u16, day: u16, from: u16, to: u16, weekday: u32, minute: u32, k: usize) -> bool
-    ensures { result ≡ «shuts-arc» (departure weekday minute) k (window arc day from to) }
+    ensures { result ≡ shuts_arc (departure weekday minute) k (window arc day from to) }
 {
     if arc as usize != k {
         return false;
@@ -27,7 +27,7 @@ fn shuts(arc: u16, day: u16, from: u16, to: u16, weekday: u32, minute: u32, k: u
 // Whether window j does.
 fn window_shuts(windows: &[u16], j: usize, weekday: u32, minute: u32, k: usize) -> bool
     requires { 4 * j + 4 ≤ length windows.now }
-    ensures { result ≡ «shuts-arc» (departure weekday minute) k (window_in windows.now j) }
+    ensures { result ≡ shuts_arc (departure weekday minute) k (window_in windows.now j) }
 {
     let at = 4 * j;
     shuts(

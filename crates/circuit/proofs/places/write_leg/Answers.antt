@@ -16,7 +16,7 @@ use Rattle.circuit.proofs.places.write_leg.Goals as goal
 pub bounds-places-at : goal.bounds-places-at
 bounds-places-at c =
     let a = c.args in
-    number_room (shortest_path (plan_in (length a.weights.now) a.arcs.now)) a.numbers.now a.tails.now a.heads.now a.e (length a.places.now) a.at c.if-e-numbers.true c.requires.room
+    number_room (shortest_path (plan_in (length a.weights.now) a.arcs.now)) a.numbers.now a.tails.now a.heads.now a.e (length a.places.now) a.at (omega arith) c.requires.room
 
 pub returns-then-e-numbers : goal.returns-then-e-numbers
 returns-then-e-numbers c =
@@ -30,7 +30,7 @@ returns-then-e-numbers c =
 pub column_to-column-requires : goal.column_to-column-requires
 column_to-column-requires c =
     let a = c.args in
-    let l = c.if-e-numbers.false in
+    let l : length a.numbers.now ≤ a.e = omega arith in
     let r = (c.requires.have_paths.2 a.e l c.requires.have_paths.0).to in
     let v = c.wide8-j.ensures in
     let f = few_rows a.arcs.now a.weights.now c.requires.well_formed.0 in
@@ -55,7 +55,7 @@ path-requires c =
     let j = c.wide8-j.result in
     let u = c.wide8-i.ensures in
     let v = c.wide8-j.ensures in
-    let l = c.if-e-numbers.false in
+    let l : length a.numbers.now ≤ a.e = omega arith in
     let r = c.requires.have_paths.2 a.e l c.requires.have_paths.0 in
     let q = path_of (shortest_path p) a.numbers.now a.tails.now a.heads.now a.e i j l u v in
     let k = c.column_to-column.ensures in
@@ -72,7 +72,7 @@ returns c =
     let a = c.args in
     let i = c.wide8-i.result in
     let j = c.wide8-j.result in
-    let q = path_of (shortest_path (plan_in (length a.weights.now) a.arcs.now)) a.numbers.now a.tails.now a.heads.now a.e i j c.if-e-numbers.false c.wide8-i.ensures c.wide8-j.ensures in
+    let q = path_of (shortest_path (plan_in (length a.weights.now) a.arcs.now)) a.numbers.now a.tails.now a.heads.now a.e i j (omega arith) c.wide8-i.ensures c.wide8-j.ensures in
     let w = taken_path a.arcs.now a.weights.now c.column_to-column.result c.column_to-column.ensures.0 c.requires.well_formed.0 i j ∙ q in
     let e = c.path.ensures in
     record {

@@ -1,14 +1,16 @@
 -- The tests that the code makes are the definition's, in its order.
-use mathlib.Core.Path.{sym, ◌∙◌}
+use mathlib.Core.Path.{◌≡◌}
+use mathlib.Core.Bool.{true, false}
+use Rattle.postman.specs.DistanceCall.{has_stray}
 use Rattle.std.proofs.Common.{lt-ltb, le-ltb}
 use Rattle.distances.specs.Laws.Pairs.{stray_refused, short_refused, pairs_good}
 use Rattle.distances.proofs.pairs.pairs_verdict.Goals as goal
 
 pub returns-then-stray : goal.returns-then-stray
-returns-then-stray c = stray_refused _ _ _ (sym c.has_stray-stray.ensures ∙ c.if-stray.true)
+returns-then-stray c = let e : has_stray c.args.n c.args.pairs.now ≡ true = cc in stray_refused _ _ _ e
 
 pub returns-then-short : goal.returns-then-short
-returns-then-short c = short_refused _ _ _ (sym c.has_stray-stray.ensures ∙ c.if-stray.false) (lt-ltb _ _ c.if-short.true)
+returns-then-short c = let e : has_stray c.args.n c.args.pairs.now ≡ false = cc in short_refused _ _ _ e (lt-ltb _ _ c.if-short.true)
 
 pub returns : goal.returns
-returns c = pairs_good _ _ _ (sym c.has_stray-stray.ensures ∙ c.if-stray.false) (le-ltb _ _ c.if-short.false)
+returns c = let e : has_stray c.args.n c.args.pairs.now ≡ false = cc in pairs_good _ _ _ e (le-ltb _ _ c.if-short.false)
