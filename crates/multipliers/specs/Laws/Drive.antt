@@ -1,6 +1,6 @@
 -- The drive that is written is a drive of the answer's cost: the first tree of least cost and the amounts
 -- complete the required arcs, at the completion cost.
-use Rattle.std.specs.Prelude.{◌≡◌, ℕ, ◌+◌, ◌≤◌, ◌<◌, length, get_or, drop}
+use Rattle.std.specs.Prelude.{◌≡◌, ℕ, ◌≤◌, ◌<◌, length, get_or, drop}
 use Rattle.std.proofs.Common.{ap, ◌∙◌, zero-add, take-append-drop}
 use Rattle.std.proofs.Math.Path.{subst}
 use Rattle.std.proofs.Math.Logic.{inl, inr}
@@ -25,7 +25,6 @@ use Rattle.postman_laws.specs.Laws.Optimality.{some_arborescence}
 use Rattle.postman_laws.specs.Laws.Search.{best_mem, best_value}
 use Rattle.residual_search.specs.Step.{State, empty}
 use Rattle.balance.specs.Balance.{balance, required_ends}
-use Rattle.direct_amounts.specs.Direct.{direct}
 use Rattle.balance.specs.Optimality.{sent, received}
 use Rattle.balance.specs.Laws.Arcs.{empty_certified}
 use Rattle.direct_amounts.specs.Laws.Among.{Among, among_direct, among_all, among_empty}

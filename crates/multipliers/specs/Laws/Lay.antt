@@ -1,6 +1,6 @@
 -- What laying the drive of an arborescence asks of its steps: the state with the links added is the
 -- balancing of the required arcs and the links.
-use Rattle.std.specs.Prelude.{◌≡◌, refl, ℕ, ◌+◌, ◌≤◌, length, get_or, take}
+use Rattle.std.specs.Prelude.{◌≡◌, refl, ℕ, ◌≤◌, length, get_or, take}
 use Rattle.std.proofs.Math.Path.{sym, ap, subst⁻¹}
 use Rattle.std.proofs.Common.{ap₂, ◌∙◌, subst, arith, length-take}
 use mathlib.Core.List.Memᴰ
