@@ -3,7 +3,7 @@ use Rattle.std.specs.Prelude.{◌≡◌, List, ℕ, ◌+◌, ◌-◌, ◌≤◌,
 use Rattle.postman.specs.Plan.{Plan}
 use Rattle.postman.specs.Link.{Link}
 use Rattle.postman.specs.Component.{component_count}
-use Rattle.postman.specs.Balancing.{heads, tails, completion_cost}
+use Rattle.postman.specs.Balancing.{completion_cost}
 use Rattle.postman.specs.Steps.{cell}
 use Rattle.residual_search.specs.Step.{add}
 use Rattle.branches.specs.declared.branch.Branch.{Branch}
