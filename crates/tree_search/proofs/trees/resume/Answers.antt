@@ -1,0 +1,17 @@
+-- A turn takes no more than is left of T.
+use native.Mathlib.Omega.{arith}
+use Rattle.plan.specs.Records.{plan_value}
+use Rattle.tree_search.specs.Laws.Resumed.{some_tried}
+use Rattle.tree_search.proofs.trees.resume.Goals as goal
+
+pub tried_on-x-requires : goal.tried_on-x-requires
+tried_on-x-requires c =
+    let p = plan_value c.args.plan in
+    let t = c.total_of-total.ensures.0 in
+    let o = some_tried p c.requires.0.base.known.plannable c.args.budget c.requires.1 in
+    let e = c.turn_of-more.ensures in
+    let g = c.requires.2 in
+    record {
+      begun = (c.requires.0, c.begin-s.ensures);
+      within_limits = (omega arith, omega arith, omega arith);
+    }
