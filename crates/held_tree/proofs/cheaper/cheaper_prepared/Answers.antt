@@ -1,10 +1,7 @@
 -- What is found is no more than what is known; the floor by it.
 use mathlib.Core.Path.{◌∙◌}
-use native.Mathlib.Omega.{arith}
 use Rattle.integers.specs.Linear.{back64}
-use Rattle.tree_search.specs.Laws.Improved.{no_dearer}
 use Rattle.held_tree.specs.Laws.Cheaper.{floor_as}
-use borrow.Author.Rules.{rules}
 use Rattle.held_tree.proofs.cheaper.cheaper_prepared.Goals as goal
 
 pub returns : goal.returns

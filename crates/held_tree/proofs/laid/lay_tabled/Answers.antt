@@ -1,7 +1,6 @@
 -- The table is that of the definition, so it holds the distances, and the plan can be prepared.
 use Rattle.multipliers.specs.Laws.Drive.{is_table}
 use Rattle.call_steps.specs.Laws.Call.{known_tabled}
-use borrow.Author.Rules.{rules}
 use Rattle.held_tree.proofs.laid.lay_tabled.Goals as goal
 
 pub network_of-net-requires : goal.network_of-net-requires

@@ -2,7 +2,6 @@
 use mathlib.Core.Path.{◌∙◌}
 use Rattle.multipliers.specs.Laws.Drive.{is_table}
 use Rattle.call_steps.specs.Laws.Call.{measured_refusal}
-use borrow.Author.Rules.{rules}
 use Rattle.held_tree.proofs.verdict.plan_verdict.Goals as goal
 
 pub network_of-net-requires : goal.network_of-net-requires

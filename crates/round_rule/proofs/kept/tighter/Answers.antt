@@ -9,14 +9,14 @@ use borrow.Author.Rules.{rules}
 use Rattle.round_rule.proofs.kept.tighter.Goals as goal
 
 pub returns-then-k-floor : goal.returns-then-k-floor
-returns-then-k-floor c = 
+returns-then-k-floor c =
     let a : to_z w64 (of_z w64 c.args.k.floor) ≡ c.args.k.floor = search rules in
     let b : to_z w64 (of_z w64 c.args.floor) ≡ c.args.floor = search rules in
     let t : lt_z c.args.k.floor c.args.floor ≡ true = rw (a, b) at c.if-k-floor.true in
     floor_taken _ c.args.k _ _ _ t b
 
 pub returns : goal.returns
-returns c = 
+returns c =
     let a : to_z w64 (of_z w64 c.args.k.floor) ≡ c.args.k.floor = search rules in
     let b : to_z w64 (of_z w64 c.args.floor) ≡ c.args.floor = search rules in
     let t : lt_z c.args.k.floor c.args.floor ≡ false = rw (a, b) at c.if-k-floor.false in

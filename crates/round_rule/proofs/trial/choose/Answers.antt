@@ -1,6 +1,5 @@
 -- The test is the definition's.
 use Rattle.round_rule.specs.Laws.Made.{goes_on_as, anew_as}
-use borrow.Author.Rules.{rules}
 use Rattle.round_rule.proofs.trial.choose.Goals as goal
 
 pub returns-then-goes_on : goal.returns-then-goes_on

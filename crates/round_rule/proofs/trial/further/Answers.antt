@@ -1,7 +1,6 @@
 -- The definition, field by field.
 use mathlib.Core.Path.{refl}
 use Rattle.round_rule.specs.Rounds.{gone_on}
-use borrow.Author.Rules.{rules}
 use Rattle.round_rule.proofs.trial.further.Goals as goal
 
 pub returns : goal.returns
