@@ -214,11 +214,11 @@ module _ (p : Plan) (ok : Plannable p) (few : component_count p ≤ 8) (budget :
         let c = h.cost_is in
         omega arith
 
-    pub held_after : (n : ℕ) → n ≡ m → (x : Reached)
+    pub held_after_lem : (n : ℕ) → n ≡ m → (x : Reached)
         → (x.cost ≡ r.cost) × (x.tails ≡ padded 8 0 (take n r.tails)) × (x.heads ≡ padded 8 0 (take n r.heads))
         × (x.tried ≡ r.tried)
         → x ≡ reached_after p budget g
-    held_after n e x k =
+    held_after_lem n e x k =
         let ec = k.0 ∙ h.cost_is in
         let et = k.1 ∙ ap (λ j. padded 8 0 (take j r.tails)) e
         ∙ ap (padded 8 0)

@@ -11,7 +11,7 @@ use Rattle.tree_check.specs.Laws.Tree.{plain}
 use Rattle.preparation.specs.Laws.Preparation.{component_range}
 use Rattle.district_turn.specs.DistrictTurn.{is_holding, so_far}
 use Rattle.district_turn.specs.Laws.Clash.{was_false}
-use Rattle.district_turn.specs.Laws.DistrictTurn.{and_first, is_stuck, is_going, is_last_lem, none_left, some_left, going_on, at_end, after_tree, after_small, held_after, answered_after, written_after}
+use Rattle.district_turn.specs.Laws.DistrictTurn.{and_first, is_stuck, is_going, is_last_lem, none_left, some_left, going_on, at_end, after_tree, after_small, held_after_lem, answered_after, written_after}
 use borrow.Author.Rules.{rules, length_unmapped}
 use Rattle.district_turn.proofs.plan_turn.turn_prepared.Statement.{statement}
 use Rattle.district_turn.proofs.plan_turn.turn_prepared.Tie as tie
@@ -53,7 +53,7 @@ returns_3 c =
     let n : s.args.r.network.components - 1 ≡ component_count p - 1 = ap (λ k. k - 1) s.requires.0.network.components.all in
     is_going p s.args.budget g _ _ c.unfinished3.result (some_left p b.plannable b.few s.args.budget s.requires.2 g r h i some)
     (going_on p b.plannable b.few s.args.budget s.requires.2 g r h some c.before.before.before.before.if3.true) e.0 e.1
-    (e.2 ∙ held_after p b.plannable b.few s.args.budget s.requires.2 g r h lt lh (s.args.r.network.components - 1) n c.before.kept.result c.before.kept.ensures)
+    (e.2 ∙ held_after_lem p b.plannable b.few s.args.budget s.requires.2 g r h lt lh (s.args.r.network.components - 1) n c.before.kept.result c.before.kept.ensures)
     (e.3 ∙ sym (ap (λ (y : Reached). so_far y.cost y.tried) e.2))
 
 last_requires : tie.Need-last-requires
