@@ -4,7 +4,7 @@ ghost use Rattle.bits.specs.Taking.{can_take, taken_field, taken_at};
 
 use crate::field;
 
-#[derive(Drop)]
+#[derive(Clone, Copy)]
 pub struct BitReader<'a> {
     pub file: &'a [u8],
     pub at: usize,

@@ -2,7 +2,7 @@
 ghost use Rattle.open_plan_exports.specs.Editing.{IsExportedOpen, IsExportedMove, IsExportedAsk};
 ghost use Rattle.held_file.specs.Change.{change_of};
 ghost use Rattle.shut_arcs.specs.Fields.{departure};
-ghost use Rattle.postman.specs.Refusal.{answer};
+ghost use Rattle.postman.specs.OpenPlan.{change as a_change, mark as a_mark, return as a_return};
 
 #[unsafe(no_mangle)]
 pub extern "C" fn postman_open(plan: &[u8], state: &mut [u8]) -> i64
