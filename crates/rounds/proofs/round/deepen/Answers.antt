@@ -1,21 +1,18 @@
 -- The invariant: what is kept is that after the rounds so far, and its trees are held. Once floor and cost have met it stays.
 use mir.Val.{to_z, of_z}
 use mir.Syntax.{w64}
-use mathlib.Core.Path.{◌≡◌, ap, ◌∙◌, subst⁻¹}
+use mathlib.Core.Path.{◌≡◌, subst⁻¹}
 use native.Mathlib.Omega.{arith}
 use Rattle.round_rule.specs.Trial.{GoesOn}
-use Rattle.rounds.specs.Held.{IsHeld}
 use Rattle.round_rule.specs.Laws.Tables.{plan_accepted}
 use Rattle.round_rule.specs.Laws.Kept.{goes_on}
 use Rattle.rounds.specs.Laws.Round.{met_as, deeper, ended, cost_fits}
-use Prim.Native.Nat.{◌-◌, ◌≤◌}
-use Rattle.plan.specs.Records.{plan_value}
-use Rattle.round_rule.specs.Rounds.{kept_after}
+use Prim.Native.Nat.{◌-◌}
 use borrow.Author.Rules.{rules}
 use Rattle.rounds.proofs.round.deepen.Goals as goal
 
 pub have_met-requires : goal.have_met-requires
-have_met-requires c = 
+have_met-requires c =
     let b = c.requires.within_limits in
     cost_fits _ c.requires.has_table.0.well_formed c.requires.has_table.1 _ b.0 b.1 _ _ (omega arith) c.loop-i.invariant.2
 
@@ -25,7 +22,7 @@ returns-then-have_met c = let l = c.loop-i in
     (ended _ _ l.i _ l.d.kept l.invariant.0 l.invariant.1 l.invariant.2 (met_as l.d.kept _ _ _ f c.have_met.ensures c.if-have_met.true), l.invariant.3)
 
 pub next_round-next-requires : goal.next_round-next-requires
-next_round-next-requires c = 
+next_round-next-requires c =
     let l = c.loop-i in
     let b = c.requires.within_limits in
     let a = plan_accepted _ c.requires.has_table.0.well_formed c.requires.has_table.1 in record {

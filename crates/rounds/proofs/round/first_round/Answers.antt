@@ -6,7 +6,6 @@ use Rattle.held_tree.specs.Laws.Cheaper.{first_best}
 use Rattle.round_rule.specs.Laws.Tables.{plan_accepted}
 use Rattle.rounds.specs.Laws.Round.{first_kept}
 use Rattle.rounds.specs.Laws.Held.{first_held}
-use borrow.Author.Rules.{rules}
 use Rattle.rounds.proofs.round.first_round.Goals as goal
 
 pub cheaper_tabled-a-requires : goal.cheaper_tabled-a-requires

@@ -4,7 +4,6 @@ use Rattle.plan.specs.Records.{plan_value}
 use Rattle.round_rule.specs.Laws.Tables.{plan_accepted, inside_to}
 use Rattle.rounds.specs.Laws.Round.{next_as, few_tried, old_tried, old_fewer}
 use Rattle.rounds.specs.Laws.Held.{round_asks, next_held}
-use borrow.Author.Rules.{rules}
 use Rattle.rounds.proofs.round.next_round.Goals as goal
 
 pub overflow_sub-before : goal.overflow_sub-before

@@ -1,5 +1,5 @@
 -- The table is renumbered, and so it is that of the plan under the numbering, which is refused as the plan is.
-use mathlib.Core.Path.{◌≡◌, ap, ◌∙◌, subst, subst⁻¹}
+use mathlib.Core.Path.{◌≡◌, ap, ◌∙◌, subst⁻¹}
 use native.Mathlib.Omega.{arith}
 use lib.ListN.{length}
 use Rattle.postman.specs.Plan.{Plan, WellFormed}
@@ -7,12 +7,11 @@ use Rattle.multipliers.specs.Drive.{table_of}
 use Rattle.multipliers.specs.Laws.Table.{rows}
 use Rattle.call_steps.specs.Refusals.{plan_refusal}
 use Rattle.tree_search.specs.Improved.{CanImprove}
-use Rattle.held_tree.specs.Cheaper.{IsCheaper}
-use Rattle.round_rule.specs.Laws.Tables.{inside_from, under_well_formed, under_refusal, under_table}
+use Rattle.round_rule.specs.Laws.Tables.{under_well_formed, under_refusal, under_table}
 use Rattle.rounds.proofs.under.cheaper_under.Goals as goal
 
 pub cheaper_tabled-requires : goal.cheaper_tabled-requires
-cheaper_tabled-requires c = 
+cheaper_tabled-requires c =
     let ok = c.requires.0.well_formed in
     let x = c.requires.2.numbers in
     let v = c.renumber-q.ensures in

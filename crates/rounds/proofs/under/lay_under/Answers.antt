@@ -13,13 +13,12 @@ use Rattle.multipliers.specs.Laws.Table.{rows}
 use Rattle.call_steps.specs.Refusals.{plan_refusal}
 use Rattle.tree_search.specs.Resumed.{HoldsTree}
 use Rattle.held_tree.specs.Laws.Cheaper.{best_holds}
-use Rattle.round_rule.specs.Laws.Tables.{plan_accepted, inside_from, under_well_formed, under_refusal, under_few, under_table, under_weights, under_plannable}
+use Rattle.round_rule.specs.Laws.Tables.{plan_accepted, under_well_formed, under_refusal, under_few, under_table, under_weights, under_plannable}
 use Rattle.rounds.specs.Laws.Held.{laid_as}
-use borrow.Author.Rules.{rules}
 use Rattle.rounds.proofs.under.lay_under.Goals as goal
 
 pub lay_tabled-requires : goal.lay_tabled-requires
-lay_tabled-requires c = 
+lay_tabled-requires c =
     let ok = c.requires.0.well_formed in
     let x = c.requires.2.numbers in
     let v = c.renumber-q.ensures in
@@ -39,7 +38,7 @@ lay_tabled-requires c =
     )
 
 pub returns : goal.returns
-returns c = 
+returns c =
     let v = c.renumber-q.ensures in
     let l = c.lay_tabled.ensures in
     let e = laid_as _ _ _ c.args.g v c.requires.3 in
