@@ -14,7 +14,6 @@ pub returns-then-n-ge8 : goal.returns-then-n-ge8
 returns-then-n-ge8 c =
     let long : length c.args.m.line ≡ 8 = search (rules, c.well_formed) in
     let size = line_length c.args.m.line c.args.m.waiting long in
-    let t = c.if-n-ge8.true in
     refused_entered c.args.m _ c.args.budget Full (entry_full _ c.args.budget (line_of c.args.m) c.requires (omega arith))
 
 pub hold-file-requires : goal.hold-file-requires
@@ -23,7 +22,6 @@ hold-file-requires c = short_file _ c.args.budget c.requires
 pub returns : goal.returns
 returns c =
     let long : length c.args.m.line ≡ 8 = search (rules, c.well_formed) in
-    let few = c.if-n-ge8.false in
     let q = c.lowest_free-place in
     let l = c.lined_up-line in
     let b = c.hold-file.ensures in

@@ -17,7 +17,6 @@ not_yet l few q lowest e m = let a = at_most_lem l few q in omega arith
 pub returns-then-lowest-lt8 : goal.returns-then-lowest-lt8
 returns-then-lowest-lt8 c =
     let l = districts_in c.args.line c.args.n in
-    let t = c.if-lowest-lt8.true in
     let e = c.requires.2 in
     e ∙ already l (room c.args.line c.args.n (search (rules, c.well_formed)) c.requires.0) c.args.q (λ x. (let f = e ∙ x in absurd (omega arith)))
 
@@ -25,12 +24,12 @@ pub returns-then-is_taken : goal.returns-then-is_taken
 returns-then-is_taken c =
     let l = districts_in c.args.line c.args.n in
     let few = room c.args.line c.args.n (search (rules, c.well_formed)) c.requires.0 in
-    let none = not_yet l few c.args.q c.args.lowest c.requires.2 c.if-lowest-lt8.false in
+    let none = not_yet l few c.args.q c.args.lowest c.requires.2 (omega arith) in
     none ∙ taken_there l few c.args.q (sym c.requires.2 ∙ none) (sym c.is_taken.ensures ∙ c.if-is_taken.true)
 
 pub returns : goal.returns
 returns c =
     let l = districts_in c.args.line c.args.n in
     let few = room c.args.line c.args.n (search (rules, c.well_formed)) c.requires.0 in
-    let none = not_yet l few c.args.q c.args.lowest c.requires.2 c.if-lowest-lt8.false in
+    let none = not_yet l few c.args.q c.args.lowest c.requires.2 (omega arith) in
     free_there l few c.args.q c.requires.1 (sym c.requires.2 ∙ none) (sym c.is_taken.ensures ∙ c.if-is_taken.false)
