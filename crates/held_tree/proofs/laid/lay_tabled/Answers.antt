@@ -1,0 +1,11 @@
+-- The table is that of the definition, so it holds the distances, and the plan can be prepared.
+use Rattle.multipliers.specs.Laws.Drive.{is_table}
+use Rattle.call_steps.specs.Laws.Call.{known_tabled}
+use Rattle.held_tree.proofs.laid.lay_tabled.Goals as goal
+
+pub network_of-net-requires : goal.network_of-net-requires
+network_of-net-requires c = (c.requires.0, is_table _ _ c.requires.1)
+
+pub prepare-p-requires : goal.prepare-p-requires
+prepare-p-requires c =
+    (known_tabled _ _ c.requires.0 c.requires.1 c.requires.3 _ c.network_of-net.ensures, c.network_of-net.ensures)

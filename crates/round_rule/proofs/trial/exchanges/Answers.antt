@@ -1,0 +1,16 @@
+-- The plan by value has as many vertices as its plan.
+use mathlib.Core.Path.{subst, subst⁻¹}
+use Rattle.plan.specs.Laws.Records.{plan_vertices, record_vertices}
+use Rattle.renumbering.specs.Numbering.{IsNumberingOf}
+use Rattle.round_rule.specs.Laws.Made.{exchanged_as}
+use Rattle.round_rule.specs.Laws.Kept.{numbers_kept}
+use Rattle.round_rule.proofs.trial.exchanges.Goals as goal
+
+pub shuffle-d-requires : goal.shuffle-d-requires
+shuffle-d-requires c =
+    let n = record_vertices _ c.requires.0 in
+    let h = subst⁻¹ (IsNumberingOf _) c.numbers_of-x.ensures (numbers_kept _ c.args.k c.requires.1.numbering c.requires.1.drive.numbers) in
+    (subst (λ n. IsNumberingOf n c.numbers_of-x.result) (plan_vertices _) h, n.0, n.1, c.requires.1.random_in)
+
+pub returns : goal.returns
+returns c = exchanged_as _ _ c.args.k _ _ c.numbers_of-x.ensures c.shuffle-d.ensures
