@@ -1,6 +1,6 @@
 -- Calls compared. After one round what is kept is what the plan call answers; after more it is no worse, and once floor and cost have met
 -- it stays.
-use Rattle.std.specs.Prelude.{◌≡◌, true, ℕ, ◌+◌, ◌-◌, ◌≤◌, drop, ℤ, ◌≤ℤ◌}
+use Rattle.std.specs.Prelude.{◌≡◌, true, ℕ, ◌+◌, ◌-◌, ◌≤◌, drop, ◌≤ℤ◌}
 use Rattle.std.proofs.Math.Path.{refl, sym, ap, ap₂, subst}
 use Rattle.std.proofs.Common.{◌∙◌}
 use mathlib.Core.List.{List, [], ◌∷◌}
@@ -21,7 +21,6 @@ use Rattle.multipliers.specs.Drive.{drive_of}
 use Rattle.drive_legs.specs.Drive.{written}
 use Rattle.solution.specs.declared.Planned.{Planned}
 use Rattle.solution.specs.Planned.{summary_of, count_unless, IsPlanned}
-use Rattle.solution.specs.Laws.Answered.{cost_is, floor_is}
 use Rattle.round_rule.specs.declared.kept.Kept.{Kept}
 use Rattle.round_rule.specs.Rounds.{under, floor_of, begun, have_met, kept_after, kept, deep_summary, deep_drive}
 use Rattle.deep_call.specs.Refusals.{highest_rounds, round_conditions, earlier_conditions_in, deep_refusal}

@@ -1,5 +1,5 @@
 -- An entry. The plan call's conditions but 8 stand before 22; where none applies the district goes behind the last one.
-use Rattle.std.specs.Prelude.{◌≡◌, refl, ℕ, ◌+◌, ◌-◌, ◌≤◌, ◌<◌, length, set, leb}
+use Rattle.std.specs.Prelude.{◌≡◌, refl, ℕ, ◌+◌, ◌≤◌, ◌<◌, length, set, leb}
 use Rattle.std.proofs.Common.{sym, ◌∙◌, arith, le-leb, length-append, length-take-le, T_not}
 use Rattle.std.proofs.Math.Path.{ap}
 use mathlib.Core.List.{List, [], ◌∷◌, ◌++◌, append_assoc, map-append}

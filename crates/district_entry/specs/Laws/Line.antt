@@ -1,7 +1,7 @@
 -- One step. A line keeps its order: an entry and a district that goes on come to the back, so that those ahead of a
 -- district only leave; and places stay apart.
-use Rattle.std.specs.Prelude.{◌≡◌, refl, ◌⊎◌, ◌≢◌, Bool, not, cond, ℕ, suc, ◌+◌, ◌-◌, ◌≤◌, ◌<◌, length, leb, ltb, eqb}
-use Rattle.std.proofs.Common.{sym, ap, ◌∙◌, subst, inl, inr, length-append, nltb→le}
+use Rattle.std.specs.Prelude.{◌≡◌, refl, ◌⊎◌, ◌≢◌, Bool, not, ℕ, suc, ◌≤◌, ◌<◌, length, leb, ltb, eqb}
+use Rattle.std.proofs.Common.{sym, ap, ◌∙◌, inl, inr, length-append, nltb→le}
 use Rattle.std.proofs.Math.Path.{subst⁻¹}
 use Rattle.std.proofs.Math.Bool.{true, false}
 use mathlib.Core.List.Memᴰ

@@ -31,7 +31,6 @@ use Rattle.required.specs.StepContracts.{IsLinks, IsComponents}
 use Rattle.drive_legs.specs.Filled.{links_of}
 use Rattle.drive_legs.specs.Laws.Laid.{links_tails, links_heads}
 use Rattle.branches.specs.Links.{links_in}
-use Rattle.branches.specs.Progress.{held}
 use Rattle.multipliers.specs.Laws.Lay.{arcs_links}
 use Rattle.drive_legs.specs.Drive.{written}
 use Rattle.multipliers.specs.Drive.{tree_drive}

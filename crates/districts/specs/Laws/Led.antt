@@ -1,8 +1,8 @@
 -- Machines that entries and turns lead to. By the contracts each step's line is the definition's, so that a machine's line is its
 -- run's, and what runs promise holds of the calls.
-use Rattle.std.specs.Prelude.{◌≡◌, Bool, true, false, cond, ◌&&◌, ℕ, ◌+◌, ◌≤◌, ◌<◌, length, eqb, ltb}
+use Rattle.std.specs.Prelude.{◌≡◌, Bool, true, false, cond, ◌&&◌, ℕ, ◌+◌, ◌≤◌, ◌<◌, length, eqb}
 use Rattle.std.proofs.Math.Path.{refl, ap, subst⁻¹}
-use Rattle.std.proofs.Common.{sym, ◌∙◌, subst, inl, inr, arith, lt-ltb, le-ltb, length-append}
+use Rattle.std.proofs.Common.{sym, ◌∙◌, inl, inr, arith, lt-ltb, le-ltb, length-append}
 use Rattle.std.proofs.Math.Bool.{not}
 use mathlib.Core.List.Memᴰ
 use mathlib.Core.List.{List, [], ◌∷◌, ◌++◌, map, Memᴰ, map-append}
@@ -14,7 +14,7 @@ use Rattle.postman.specs.DistrictRuns.{Event, entry, turned, step, run_from, run
 use Rattle.district_machine.specs.Machine.{district_of, waiting_in, line_of, empty_machine}
 use Rattle.districts.specs.Number.{had_turn, is_of}
 use Rattle.district_entry.specs.Entered.{after_entry}
-use Rattle.districts.specs.Turned.{Meeting, leaves, meeting, held_now, reached_now, after_turn, outcome_of}
+use Rattle.districts.specs.Turned.{Meeting, meeting, held_now, reached_now, after_turn, outcome_of}
 use Rattle.districts.specs.Led.{LedFrom, Led}
 use Rattle.district_machine.specs.Laws.Held.{line_is}
 use Rattle.district_entry.specs.Laws.Entered.{entry_line}

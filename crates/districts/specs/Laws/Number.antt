@@ -1,5 +1,5 @@
 -- Places are below 8, so that a place, 8 and a place, and 16 are apart.
-use Rattle.std.specs.Prelude.{◌≡◌, refl, ℕ, ◌+◌, ◌<◌}
+use Rattle.std.specs.Prelude.{◌≡◌, refl, ℕ}
 use Rattle.std.proofs.Common.{ap, arith}
 use Rattle.postman.specs.Refusal.{Answer, refused, given}
 use Rattle.districts.specs.declared.turn.Outcome.{Outcome}

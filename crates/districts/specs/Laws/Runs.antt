@@ -1,7 +1,7 @@
 -- Over runs, by induction on the events. What is known of a line that a run from the empty machine leads to: at most eight districts, at
 -- places below 8 that are apart; each has the plan and the budget of the last entry that was answered its place, has tried 1,000 trees in
 -- each of its turns since, and is not finished.
-use Rattle.std.specs.Prelude.{◌≡◌, ◌≢◌, Bool, not, ◌&&◌, length, leb, eqb}
+use Rattle.std.specs.Prelude.{◌≡◌, ◌≢◌, Bool, not, ◌&&◌, length, eqb}
 use Rattle.std.proofs.Math.Path.{refl, subst, subst⁻¹}
 use Rattle.std.proofs.Common.{sym, ap, ◌∙◌, T_not, eqb→eq}
 use Rattle.std.proofs.Math.Logic.{inl, inr}

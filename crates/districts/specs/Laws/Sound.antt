@@ -1,7 +1,7 @@
 -- Machines that entries and turns lead to: each district holds the best of the trees that it has tried. So its front
 -- district can be gone on with, its turn is its last one or leaves it with 1,000 trees more, and the line then is the
 -- definition's, by cases on whether it finishes.
-use Rattle.std.specs.Prelude.{◌≡◌, Bool, true, false, not, ℕ, ◌+◌, ◌-◌, ◌≤◌, ◌<◌, min, length, take, eqb, ltb}
+use Rattle.std.specs.Prelude.{◌≡◌, Bool, true, false, not, ℕ, ◌+◌, ◌-◌, ◌≤◌, ◌<◌, min, length, eqb, ltb}
 use Rattle.std.proofs.Math.Path.{refl, ap, subst⁻¹}
 use Rattle.std.proofs.Common.{sym, ◌∙◌, subst, inl, inr, length-append}
 use mathlib.Core.List.Memᴰ

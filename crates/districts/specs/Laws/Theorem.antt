@@ -6,7 +6,6 @@ use Rattle.std.proofs.Common.{◌∙◌, subst}
 use mathlib.Core.List.{List, [], ◌∷◌, map, Memᴰ}
 use native.Mathlib.Omega.{arith}
 use Rattle.std.proofs.Math.Dec.{leb→le}
-use Rattle.postman.specs.Refusal.{Answer}
 use Rattle.postman.specs.PlanCall.{sheet_places}
 use Rattle.postman.specs.Laws.Membership.{mem_map}
 use Rattle.solution.specs.declared.Planned.{Planned}
@@ -17,7 +16,7 @@ use Rattle.district_machine.specs.declared.machine.Machine.{Machine}
 use Rattle.districts.specs.declared.turn.Outcome.TheVariants.{Finished}
 use Rattle.districts.specs.declared.turn.Turned.{Turned}
 use Rattle.postman.specs.Districts.{District, Line, total, finishes}
-use Rattle.postman.specs.DistrictRuns.{Event, turned, run, is_turn, is_turn_of, turns_in, Entry, last_entry, turns_since, NoTurnOf}
+use Rattle.postman.specs.DistrictRuns.{Event, turned, run, is_turn, is_turn_of, turns_in, last_entry, turns_since, NoTurnOf}
 use Rattle.district_machine.specs.Machine.{district_of, bytes_of, waiting_in, line_of, machine_of, empty_machine}
 use Rattle.districts.specs.Number.{outcome_number, had_turn, had_last, is_of, HasPlace}
 use Rattle.districts.specs.Turned.{plan_by, IsTurned}

@@ -1,7 +1,6 @@
 -- A budget outside its limits is refused as 9; else the rest decides.
 use mathlib.Core.Path.{sym, ◌∙◌}
 use Rattle.call_steps.specs.Laws.Call.{budget_refused, budget_good}
-use borrow.Author.Rules.{rules}
 use Rattle.district_entry.proofs.enter.budget_verdict.Goals as goal
 
 pub returns-in-Refused : goal.returns-in-Refused

@@ -6,7 +6,6 @@ use Rattle.refusal.specs.Verdict.{verdict_number}
 use Rattle.plan_file.specs.Laws.Reading.{accepted_value}
 use Rattle.call_steps.specs.Refusals.{budget_refusal}
 use Rattle.district_entry.specs.Laws.Entered.{part_file, part_good}
-use borrow.Author.Rules.{rules}
 use Rattle.district_entry.proofs.enter.call_verdict.Goals as goal
 
 pub budget_verdict-requires : goal.budget_verdict-requires

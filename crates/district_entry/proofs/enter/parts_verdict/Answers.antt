@@ -2,7 +2,6 @@
 use mathlib.Core.Path.{◌∙◌}
 use Rattle.shortest.specs.Laws.Weight.{table_costs}
 use Rattle.call_steps.specs.Laws.Call.{measured_refusal}
-use borrow.Author.Rules.{rules}
 use Rattle.district_entry.proofs.enter.parts_verdict.Goals as goal
 
 pub network_of-net-requires : goal.network_of-net-requires

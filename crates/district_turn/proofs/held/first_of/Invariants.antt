@@ -1,11 +1,7 @@
 -- The invariant: the first i are copied, and zeros stand behind them.
-use mathlib.Core.Path.{◌≡◌, refl, sym}
 use Prim.Native.Nat.{◌-◌, ◌≤◌}
-use native.Mathlib.Omega.{arith}
-use lib.ListN.{length, get_or, take}
-use lib.Seq.{length-take-le, get_or-take}
-use Rattle.held_file.specs.Laws.Padded.{IsPadded, padded_none, padded_more, padded_is}
-use borrow.Author.Rules.{rules}
+use lib.ListN.{get_or}
+use Rattle.held_file.specs.Laws.Padded.{IsPadded}
 use Rattle.district_turn.proofs.held.first_of.Given as goal
 
 abbrev pub invariant-loop-i : goal.invariant-loop-i

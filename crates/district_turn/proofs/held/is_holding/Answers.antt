@@ -1,19 +1,15 @@
 -- Where some tree was tried, the links have to be a tree, and the cost has to be its cost.
 use mathlib.Core.Path.{◌≡◌, sym, ap, ◌∙◌}
 use mathlib.Core.Bool.{Bool, ◌&&◌}
-use Prim.Native.Nat.{ℕ}
-use native.Mathlib.Omega.{arith}
 use lib.ListN.{length}
 use lib.Dec.{eqb}
 use Rattle.plan.specs.Records.{plan_value}
 use Rattle.postman.specs.Balancing.{completion_cost}
 use Rattle.tree_search.specs.Resumed.{links_by}
-use Rattle.tree_check.specs.Laws.Tree.{plain}
 use Rattle.preparation.specs.Laws.Preparation.{component_range}
 use Rattle.district_turn.specs.DistrictTurn.{is_tree}
-use Rattle.district_turn.specs.Laws.Clash.{was_false}
 use Rattle.district_turn.specs.Laws.DistrictTurn.{holding_first, holding_later, and_first}
-use Rattle.district_turn.specs.Laws.Holding.{held_fit, held_length, held_cost, held_tested, held_tree}
+use Rattle.district_turn.specs.Laws.Holding.{held_cost, held_tested, held_tree}
 use borrow.Author.Rules.{rules}
 use Rattle.district_turn.proofs.held.is_holding.Goals as goal
 

@@ -1,6 +1,5 @@
 -- The plan is known, so that it can be prepared.
 use Rattle.call_steps.specs.Laws.Call.{is_known}
-use borrow.Author.Rules.{rules}
 use Rattle.district_turn.proofs.plan_turn.turn_accepted.Goals as goal
 
 pub prepare-r-requires : goal.prepare-r-requires

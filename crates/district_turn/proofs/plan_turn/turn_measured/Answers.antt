@@ -3,7 +3,6 @@ use mathlib.Core.Path.{sym, ap, ◌∙◌}
 use Rattle.refusal.specs.Verdict.{verdict_number}
 use Rattle.postman.specs.Refusal.{is_good}
 use Rattle.district_turn.specs.Laws.DistrictTurn.{and_first, is_stuck, as_good}
-use borrow.Author.Rules.{rules}
 use Rattle.district_turn.proofs.plan_turn.turn_measured.Goals as goal
 
 pub returns-in-Refused : goal.returns-in-Refused

@@ -1,17 +1,15 @@
 -- What is held is looked at first; then the search goes on, and what it gives is kept or laid out.
 use mathlib.Core.Path.{◌≡◌, sym, ap, ◌∙◌}
 use mathlib.Core.Bool.{true}
-use Prim.Native.Nat.{ℕ, ◌-◌, ◌<◌}
+use Prim.Native.Nat.{◌-◌, ◌<◌}
 use native.Mathlib.Omega.{arith}
 use lib.ListN.{length}
 use Rattle.plan.specs.Records.{plan_value}
 use Rattle.postman.specs.Component.{component_count}
 use Rattle.tree_search.specs.declared.trees.Reached.{Reached}
-use Rattle.tree_check.specs.Laws.Tree.{plain}
 use Rattle.preparation.specs.Laws.Preparation.{component_range}
 use Rattle.district_turn.specs.DistrictTurn.{is_holding, so_far}
-use Rattle.district_turn.specs.Laws.Clash.{was_false}
-use Rattle.district_turn.specs.Laws.DistrictTurn.{and_first, is_stuck, is_going, is_last_lem, none_left, some_left, going_on, at_end, after_tree, after_small, held_after_lem, answered_after, written_after}
+use Rattle.district_turn.specs.Laws.DistrictTurn.{is_going, some_left, going_on, after_tree, after_small, held_after_lem}
 use borrow.Author.Rules.{rules}
 use Rattle.district_turn.proofs.plan_turn.turn_prepared.Goals as goal
 

@@ -4,7 +4,6 @@ use native.Mathlib.Omega.{arith}
 use lib.ListN.{length}
 use Rattle.shortest.specs.Laws.Weight.{table_costs}
 use Rattle.multipliers.specs.Laws.Table.{table_is, rows}
-use borrow.Author.Rules.{rules}
 use Rattle.district_turn.proofs.plan_turn.turn_read.Goals as goal
 
 pub turn_tabled-requires : goal.turn_tabled-requires

@@ -1,7 +1,6 @@
 -- The table is that of the definition, so it holds the distances, and the network's refusal is the plan's.
 use Rattle.multipliers.specs.Laws.Drive.{is_table}
 use Rattle.call_steps.specs.Laws.Call.{measured_refusal}
-use borrow.Author.Rules.{rules}
 use Rattle.district_turn.proofs.plan_turn.turn_tabled.Goals as goal
 
 pub network_of-net-requires : goal.network_of-net-requires
