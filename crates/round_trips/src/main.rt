@@ -3,14 +3,17 @@
 // list is nines, and every byte of a slice ee.
 #![tactic(auto)]
 
+ghost use Rattle.std.specs.Prelude.{◌≤◌, length};
+
 use plan::{Arc, Plan};
 use plan_file::reader::read_plan;
 use plan_writer::Written;
 use records::arrays::{Filled, read_array, write_array};
 use records::reader::Read;
 use refusal::{Refusal, Verdict};
+use std::fs::OpenOptions;
 use std::rt::Files;
-use std::{env, fs, io};
+use std::{env, io};
 
 // ---- what is printed
 
@@ -173,18 +176,33 @@ fn trips(rt: &impl Print, file: &[u8]) {
 
 // ---- the files
 
-// What a file's first 4,096 bytes hold: the longest plan has 1,475.
-fn contents(rt: &impl Print, file: &[u8]) {
-    let n = file.len().min(4096);
-    trips(rt, &file[..n]);
+// Reads until the buffer is full, the input ends or a read fails, and answers how many bytes it put at the buffer's start.
+fn read_full(input: &mut impl io::Read, space: &mut [u8]) -> usize
+    ensures { result ≤ length space.new }
+{
+    let mut done = 0;
+    while done < space.len() {
+        match input.read(&mut space[done..]) {
+            Ok(0) | Err(_) => break,
+            Ok(n) => done += n,
+        }
+    }
+    done
 }
 
-fn named(rt: &(impl Files + Alloc + Print + Eprint), path: &str) {
-    match fs::read(rt, path) {
-        Ok(file) => {
+// What a file's first 4,096 bytes hold: the longest plan has 1,475.
+fn contents(rt: &impl Print, input: &mut impl io::Read) {
+    let mut space = [0u8; 4096];
+    let n = read_full(input, &mut space);
+    trips(rt, &space[..n]);
+}
+
+fn named(rt: &(impl Files + Print + Eprint), path: &str) {
+    match OpenOptions::new().read(true).open(rt, path) {
+        Ok(mut file) => {
             text(rt, path);
             text(rt, "\n");
-            contents(rt, file.as_slice());
+            contents(rt, &mut file);
         }
         Err(error) => {
             let _ = eprintln!(rt; "{path}: {error}");

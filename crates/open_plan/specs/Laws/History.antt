@@ -56,9 +56,9 @@ module _ (e : ℕ) (p : Plan) (w : Writable e p) where
       let f = held_file (file_of e p) in
       record {
         file = f;
-        reads = rw f (file_is_accepted (file_of e p) (is_file e p well can.edition_in can.arcs_in));
+        reads = rw f (file_is_accepted (file_of e p) (is_file e p well can.edition_in can.arcs_in_holds));
         edition_is = rw f (edition_same e p can.edition_in);
-        plan_is = rw f (plan_same e p well can.edition_in can.arcs_in);
+        plan_is = rw f (plan_same e p well can.edition_in can.arcs_in_holds);
       }
 
   pub held_length : (held_of (file_of e p)).length ≢ 0

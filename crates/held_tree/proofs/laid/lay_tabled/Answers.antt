@@ -9,3 +9,6 @@ network_of-net-requires c = (c.requires.0, is_table _ _ c.requires.1)
 pub prepare-p-requires : goal.prepare-p-requires
 prepare-p-requires c =
     (known_tabled _ _ c.requires.0 c.requires.1 c.requires.3 _ c.network_of-net.ensures, c.network_of-net.ensures)
+
+pub lay_held-places-requires : goal.lay_held-places-requires
+lay_held-places-requires c = (c.prepare-p.ensures, c.requires.4, c.requires.5, c.requires.2)
