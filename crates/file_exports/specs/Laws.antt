@@ -1,3 +1,0 @@
--- What is proved about them.
-pub mod Reading
-pub mod Writing

@@ -1,4 +1,0 @@
--- What is proved about the definitions.
-pub mod MachineBytes
-pub mod EmptyMachine
-pub mod MachineStored

@@ -1,3 +1,0 @@
-pub mod StateBytes
--- What is proved about them.
-pub mod Laws

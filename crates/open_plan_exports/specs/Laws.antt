@@ -1,2 +1,0 @@
--- What is proved about them.
-pub mod Editing
