@@ -1,0 +1,34 @@
+-- What `room_answer` says of the reading gives the answer and how many records are stored, and `store_arcs` stores them.
+use mathlib.Core.Path.{◌∙◌, ap}
+use mathlib.Core.List.{◌++◌, map, flat_map}
+use Prim.Native.Nat.{ℕ, ◌*◌}
+use lib.ListN.{drop}
+use Rattle.integers.specs.Linear.{back64}
+use Rattle.postman.specs.Lists.{below}
+use Rattle.plan.specs.Records.{record_at}
+use Rattle.encoding.specs.RecordBytes.{arc_bytes}
+use Rattle.file_exports.specs.Laws.Reading.{lent_room, lent_answer, lent_after_lem}
+use borrow.Author.Rules.{rules}
+use Rattle.file_exports.proofs.codec.postman_read_plan.Goals as goal
+
+pub store_arcs-requires : goal.store_arcs-requires
+store_arcs-requires c =
+    let a = c.args in
+    let p = c.read_plan-reading in
+    let r = c.room_answer-read in
+    rw c.arcs_read.ensures (lent_room a.plan.now a.records.now p.result p.ensures r.result r.ensures)
+
+pub returns : goal.returns
+returns c =
+    let a = c.args in
+    let p = c.read_plan-reading in
+    let r = c.room_answer-read in
+    let count = c.arcs_read in
+    let new : ℕ → _ = λ m. flat_map arc_bytes (map (record_at p.result.plan.arcs) (below m)) ++ drop (7 * m) a.records.now in (
+      back64 _ c.read_number.type_inv
+          ∙ c.read_number.ensures
+          ∙ lent_answer a.plan.now a.records.now p.result p.ensures r.result r.ensures,
+      c.store_arcs.ensures
+          ∙ ap new count.ensures
+          ∙ lent_after_lem a.plan.now a.records.now p.result p.ensures r.result r.ensures,
+    )

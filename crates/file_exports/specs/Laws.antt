@@ -1,0 +1,3 @@
+-- What is proved about them.
+pub mod Reading
+pub mod Writing

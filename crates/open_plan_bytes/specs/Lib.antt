@@ -1,0 +1,3 @@
+pub mod StateBytes
+-- What is proved about them.
+pub mod Laws

@@ -1,0 +1,2 @@
+-- What is proved about them.
+pub mod Editing

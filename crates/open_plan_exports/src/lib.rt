@@ -1,0 +1,5 @@
+// What other languages call over an open plan that they lend: `extern "C"` functions over numbers and
+// slices, none of which asks anything of its caller.
+#![tactic(auto)]
+
+pub mod editing; // an open plan: changes, marks, returns and asking
