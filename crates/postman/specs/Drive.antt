@@ -8,7 +8,7 @@ use Rattle.postman.specs.Plan.{Arc, Plan, is_open, is_required_arc, arc_at, requ
 -- one's tail, none closed (document 01: a path).
 abbrev pub IsWalk : List Arc → ℕ → List ℕ → ℕ → Type 0
 IsWalk arcs i [] j = i ≡ j
-IsWalk arcs i (k ∷ w) j = (k < length arcs) × T (is_open (arc_at arcs k)) × ((arc_at arcs k).tail ≡ i) × IsWalk arcs (arc_at arcs k).head w j
+IsWalk arcs i (k ∷ w) j = k < length arcs × T (is_open (arc_at arcs k)) × ((arc_at arcs k).tail ≡ i) × IsWalk arcs (arc_at arcs k).head w j
 
 -- The plain cost of a list of arcs: "the sum of its arcs' costs, repeats counted".
 abbrev pub walk_cost : List Arc → List ℕ → ℕ
