@@ -29,7 +29,7 @@ places l = map (λ (d : District). d.place) l
 -- "22 full: eight districts are unfinished; at entry, after the plan call's own refusals but 8."
 unfoldable pub entry_conditions : Line → List ℕ → ℕ → Conditions
 unfolding file_conditions is_outside highest_budget plan_of
-entry_conditions l bytes b = file_conditions bytes ++ budget_conditions b ++ last_conditions (plan_of bytes) ++ (leb 8 (length l), 22) ∷ []
+entry_conditions l file b = file_conditions file ++ (budget_conditions b ++ (last_conditions (plan_of file) ++ (leb 8 (length l), 22) ∷ []))
 
 unfoldable pub entry_refusal : Line → List ℕ → ℕ → Option ℕ
 unfolding first_refusal entry_conditions
