@@ -1,6 +1,5 @@
 -- What the plan call, also at a departure, and the deep call answer to a caller in another language.
 use Rattle.std.specs.Prelude.{List, ℕ, ℤ}
-use Rattle.postman.specs.Refusal.{answer}
 use Rattle.postman.specs.Windows.{Departure}
 use Rattle.solution.specs.declared.Planned.{Planned}
 use Rattle.planner.specs.Contract.{IsPlanCall}

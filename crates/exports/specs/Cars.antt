@@ -1,6 +1,5 @@
 -- What the call for two cars answers to a caller in another language.
 use Rattle.std.specs.Prelude.{◌≡◌, List, ℕ, ℤ}
-use Rattle.std.proofs.Math.Option.{none}
 use Rattle.postman.specs.Refusal.{unless}
 use Rattle.refusal.specs.Verdict.{verdict_number}
 use Rattle.solution.specs.declared.Planned.{Planned}

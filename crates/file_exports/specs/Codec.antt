@@ -1,6 +1,6 @@
 -- What reading and writing answer to a caller in another language.
 use mathlib.Core.List.{List, ◌++◌, flat_map}
-use Rattle.std.specs.Prelude.{ℕ, ◌+◌, ◌*◌, ◌/◌, length, drop}
+use Rattle.std.specs.Prelude.{ℕ, ◌*◌, ◌/◌, length, drop}
 use Rattle.postman.specs.Plan.{Plan}
 use Rattle.postman.specs.Refusal.{unless}
 use Rattle.postman.specs.PlanFile.{plan_of, arc_count, read_refusal}

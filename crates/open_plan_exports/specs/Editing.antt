@@ -1,5 +1,5 @@
 -- What the calls of an open plan answer to a caller in another language.
-use Rattle.std.specs.Prelude.{◌≡◌, cond, List, ◌++◌, ℕ, ◌+◌, ◌≤◌, ◌<◌, ℤ, pos, neg_ℤ, length, drop, ltb}
+use Rattle.std.specs.Prelude.{◌≡◌, cond, List, ◌++◌, ℕ, ◌≤◌, ◌<◌, ℤ, pos, neg_ℤ, length, drop, ltb}
 use Rattle.std.proofs.Math.Option.{Option, none, some}
 use Rattle.postman.specs.Refusal.{first_refusal, answer, unless}
 use Rattle.postman.specs.PlanFile.{file_conditions}

@@ -1,6 +1,6 @@
 -- A state that is lent: five files one after the other, since each is stored where the one before it ended.
 use Rattle.std.specs.Prelude.{◌≡◌, List, ◌++◌, ℕ, ◌+◌, ◌^◌, ◌≤◌, ◌<◌, ℤ, pos, neg_ℤ, length, drop}
-use Rattle.std.proofs.Common.{sym, ap, ◌∙◌, subst, arith, to_z, of_z, length-append}
+use Rattle.std.proofs.Common.{sym, ap, ◌∙◌, arith, to_z, of_z, length-append}
 use Rattle.std.proofs.Math.Path.{subst⁻¹}
 use Rattle.std.proofs.Math.Option.{Option, none, some}
 use Rattle.std.specs.Int.{w64}

@@ -8,7 +8,6 @@ use Rattle.postman.specs.Lists.{below}
 use Rattle.plan.specs.Records.{record_at}
 use Rattle.encoding.specs.RecordBytes.{arc_bytes}
 use Rattle.file_exports.specs.Laws.Reading.{lent_room, lent_answer, lent_after_lem}
-use borrow.Author.Rules.{rules}
 use Rattle.file_exports.proofs.codec.postman_read_plan.Goals as goal
 
 pub store_arcs-requires : goal.store_arcs-requires

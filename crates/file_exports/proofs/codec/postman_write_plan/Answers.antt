@@ -3,7 +3,6 @@ use mathlib.Core.Path.{◌∙◌, sym, ap}
 use Rattle.integers.specs.Linear.{back64}
 use Rattle.answers.specs.Number.{one_number}
 use Rattle.file_exports.specs.Laws.Writing.{value_answer, value_bytes, length_small}
-use borrow.Author.Rules.{rules}
 use Rattle.file_exports.proofs.codec.postman_write_plan.Goals as goal
 
 pub written_number-requires : goal.written_number-requires

@@ -1,6 +1,5 @@
 -- The five files.
 use mathlib.Core.List.{[], ◌∷◌}
-use borrow.Author.Rules.{rules}
 use Rattle.open_plan_bytes.proofs.state_bytes.load.Goals as goal
 
 pub returns : goal.returns

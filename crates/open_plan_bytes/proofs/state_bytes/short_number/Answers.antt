@@ -6,7 +6,6 @@ use Rattle.postman.specs.Refusal.{answer}
 use Rattle.refusal.specs.declared.Verdict.{Verdict}
 use Rattle.refusal.specs.Verdict.{verdict_number, or_else}
 use Rattle.answers.specs.Number.{one_number}
-use borrow.Author.Rules.{rules}
 use Rattle.open_plan_bytes.proofs.state_bytes.short_number.Goals as goal
 
 pub returns-in-Accepted : goal.returns-in-Accepted

@@ -1,6 +1,5 @@
 -- The five files are stored one after the other.
 use Rattle.open_plan_bytes.specs.Laws.StateBytes.{stored_state}
-use borrow.Author.Rules.{rules}
 use Rattle.open_plan_bytes.proofs.state_bytes.store.Goals as goal
 
 pub returns : goal.returns

@@ -4,7 +4,6 @@ use Prim.Native.Nat.{◌%◌}
 use native.Mathlib.Omega.{arith}
 use Rattle.encoding.specs.NumberBytes.{number_bytes}
 use Rattle.encoding.specs.Laws.NumberBytes.{put_next}
-use borrow.Author.Rules.{rules}
 use Rattle.open_plan_bytes.proofs.state_bytes.store_held.Goals as goal
 
 pub returns : goal.returns

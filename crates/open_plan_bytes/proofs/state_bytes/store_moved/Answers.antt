@@ -3,7 +3,6 @@ use mathlib.Core.Path.{ap, ◌∙◌}
 use Rattle.integers.specs.Linear.{back64}
 use Rattle.refusal.specs.Verdict.{verdict_number}
 use Rattle.open_plan_bytes.specs.Laws.StateBytes.{stored_accepted, stored_refused}
-use borrow.Author.Rules.{rules}
 use Rattle.open_plan_bytes.proofs.state_bytes.store_moved.Goals as goal
 
 pub returns-in-Accepted : goal.returns-in-Accepted

@@ -4,7 +4,6 @@ use native.Mathlib.Omega.{arith}
 use Rattle.integers.specs.Linear.{back64}
 use Rattle.answers.specs.Laws.Answer.{handed_back}
 use Rattle.open_plan_exports.specs.Laws.Editing.{asked_lent}
-use borrow.Author.Rules.{rules}
 use Rattle.open_plan_exports.proofs.editing.postman_ask.Goals as goal
 
 pub returns-then-state-lt7385 : goal.returns-then-state-lt7385

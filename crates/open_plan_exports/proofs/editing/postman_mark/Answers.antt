@@ -3,7 +3,6 @@ use mathlib.Core.Path.{◌∙◌}
 use Rattle.integers.specs.Linear.{back64}
 use Rattle.open_plan_exports.specs.Laws.Editing.{moved_short, moved_lent}
 use Rattle.open_plan_bytes.specs.Laws.StateBytes.{stored_back}
-use borrow.Author.Rules.{rules}
 use Rattle.open_plan_exports.proofs.editing.postman_mark.Goals as goal
 
 pub returns-then-state-lt7385 : goal.returns-then-state-lt7385
