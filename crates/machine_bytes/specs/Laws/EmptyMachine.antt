@@ -9,7 +9,6 @@ use Rattle.encoding.specs.NumberBytes.{word_bytes, long_bytes}
 use Rattle.held_file.specs.Held.{held_of}
 use Rattle.held_file.specs.Laws.Held.{held_size}
 use Rattle.district_machine.specs.declared.machine.District.{District}
-use Rattle.district_machine.specs.declared.machine.Machine.{Machine}
 use Rattle.district_machine.specs.Machine.{empty_district, empty_machine}
 use Rattle.tree_search.specs.Resumed.{nothing_held}
 use Rattle.machine_bytes.specs.MachineBytes.{districts_bytes, reached_bytes, district_bytes, machine_in, machine_bytes, IsDistrictSized}

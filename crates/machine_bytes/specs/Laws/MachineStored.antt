@@ -1,5 +1,5 @@
 -- The number and the machine of an entry and of a turn, by what they answer.
-use Rattle.std.specs.Prelude.{◌≡◌, Bool, true, false, cond, List, ◌++◌, ℕ, ◌+◌, ◌^◌, ◌<◌, T, ℤ, pos, drop}
+use Rattle.std.specs.Prelude.{◌≡◌, Bool, true, false, cond, List, ◌++◌, ℕ, ◌^◌, ◌<◌, T, ℤ, pos, drop}
 use Rattle.std.proofs.Common.{sym, ◌∙◌, subst, to_z, of_z}
 use Rattle.std.proofs.Math.Path.{ap, subst⁻¹}
 use Rattle.std.proofs.Math.Option.{Option, some, some-ne-none}

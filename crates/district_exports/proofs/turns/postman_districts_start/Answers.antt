@@ -3,10 +3,8 @@ use mathlib.Core.Path.{refl, ◌∙◌}
 use Prim.Native.Nat.{ℕ}
 use native.Mathlib.Omega.{arith}
 use lib.ListN.{replicate, length-replicate}
-use Rattle.integers.specs.Linear.{back64}
 use Rattle.machine_bytes.specs.MachineBytes.{districts_bytes}
 use Rattle.encoding.specs.Laws.NumberBytes.{put_start}
-use borrow.Author.Rules.{rules}
 use Rattle.district_exports.proofs.turns.postman_districts_start.Goals as goal
 
 pub returns : goal.returns

@@ -1,12 +1,7 @@
 -- The loop's invariant: the first k districts are those that are lent.
-use Prim.Native.Nat.{◌*◌, ◌-◌, ◌≤◌}
 use native.Mathlib.Omega.{arith}
-use lib.ListN.{length}
-use Rattle.plan.specs.Laws.Prefix.{Prefix, prefix_more}
 use Rattle.district_machine.specs.Machine.{no_district}
-use Rattle.machine_bytes.specs.MachineBytes.{districts_bytes, district_in}
 use Rattle.machine_bytes.specs.Laws.MachineBytes.{first_loaded, all_loaded}
-use borrow.Author.Rules.{rules}
 use Rattle.machine_bytes.proofs.machine_bytes.load_line.Goals as goal
 
 pub loop-k-init : goal.loop-k-init

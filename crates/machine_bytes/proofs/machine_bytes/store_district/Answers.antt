@@ -1,9 +1,6 @@
 -- The fields are put one after the other.
-use native.Mathlib.Omega.{arith}
-use lib.ListN.{length-set}
 use Rattle.machine_bytes.specs.MachineBytes.{IsDistrictSized}
 use Rattle.machine_bytes.specs.Laws.MachineBytes.{stored_district}
-use borrow.Author.Rules.{rules}
 use Rattle.machine_bytes.proofs.machine_bytes.store_district.Goals as goal
 
 pub returns : goal.returns

@@ -1,7 +1,6 @@
 -- The loop's invariant: the first k districts are put.
-use Prim.Native.Nat.{◌-◌}
 use native.Mathlib.Omega.{arith}
-use Rattle.machine_bytes.specs.Laws.MachineBytes.{AreStored, none_stored, more_stored, all_stored}
+use Rattle.machine_bytes.specs.Laws.MachineBytes.{none_stored, more_stored}
 use borrow.Author.Rules.{rules}
 use Rattle.machine_bytes.proofs.machine_bytes.store_line.Goals as goal
 

@@ -1,7 +1,6 @@
 -- The line, and the number of those that wait.
 use Rattle.machine_bytes.specs.MachineBytes.{IsSized}
 use Rattle.machine_bytes.specs.Laws.MachineBytes.{stored_machine}
-use borrow.Author.Rules.{rules}
 use Rattle.machine_bytes.proofs.machine_bytes.store_machine.Goals as goal
 
 pub returns : goal.returns

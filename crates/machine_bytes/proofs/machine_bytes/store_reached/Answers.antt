@@ -1,8 +1,4 @@
 -- The fields are put one after the other.
-use mathlib.Core.Path.{◌≡◌, sym}
-use Prim.Native.Nat.{ℕ}
-use native.Mathlib.Omega.{arith}
-use lib.ListN.{length}
 use Rattle.machine_bytes.specs.MachineBytes.{IsReachedSized}
 use Rattle.machine_bytes.specs.Laws.MachineBytes.{stored_reached}
 use borrow.Author.Rules.{rules}

@@ -3,7 +3,6 @@ use mathlib.Core.Path.{refl, ◌∙◌}
 use native.Mathlib.Omega.{arith}
 use Rattle.integers.specs.Linear.{back64, plain64}
 use Rattle.machine_bytes.specs.Laws.MachineStored.{entry_stored, entry_refused}
-use borrow.Author.Rules.{rules}
 use Rattle.machine_bytes.proofs.machine_stored.store_entered.Goals as goal
 
 pub returns-in-At : goal.returns-in-At
