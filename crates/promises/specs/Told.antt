@@ -1,5 +1,5 @@
 -- What can be read off the numbers that the calls of a run answered.
-use Rattle.std.specs.Prelude.{◌≡◌, ◌≢◌, Bool, false, cond, ◌&&◌, List, [], ◌∷◌, ℕ, ◌+◌, ℤ, pos}
+use Rattle.std.specs.Prelude.{◌≢◌, Bool, false, cond, ◌&&◌, List, [], ◌∷◌, ℕ, ◌+◌, pos}
 use Rattle.std.specs.Int.Signed.{le_z}
 use Rattle.district_exports.specs.Turns.{Call, enters, turns}
 

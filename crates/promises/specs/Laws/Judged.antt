@@ -1,6 +1,6 @@
 -- What judging answers, by its refusal.
 use Rattle.std.specs.Prelude.{◌≡◌, ◌↔◌, ℕ}
-use Rattle.std.proofs.Common.{ap, arith}
+use Rattle.std.proofs.Common.{ap}
 use Rattle.std.proofs.Math.Option.{Option, none, some}
 use Rattle.postman_laws.specs.Laws.Contradiction.{zero_is_one}
 use Rattle.postman.specs.Refusal.{Answer, refused, given, answer}

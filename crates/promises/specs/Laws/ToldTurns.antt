@@ -1,5 +1,5 @@
 -- The turns that the numbers tell of are the accepted turns of the run.
-use Rattle.std.specs.Prelude.{◌≡◌, ◌≢◌, Bool, false, not, ◌&&◌, ℕ, ◌+◌, leb, eqb, ℤ, pos, length}
+use Rattle.std.specs.Prelude.{◌≡◌, ◌≢◌, Bool, false, not, ◌&&◌, ℕ, ◌+◌, eqb, ℤ, pos, length}
 use Rattle.std.proofs.Math.Path.{refl, ap, subst⁻¹}
 use Rattle.std.proofs.Common.{sym, ap₂, ◌∙◌, arith, le-leb, eqb→eq}
 use Rattle.std.proofs.Math.Bool.{cond}

@@ -1,7 +1,7 @@
 -- The deep call, proved.
-use Rattle.std.specs.Prelude.{◌≡◌, List, ℕ}
+use Rattle.std.specs.Prelude.{List, ℕ}
 use Rattle.std.proofs.Common.{sym, ap, ◌∙◌}
-use Rattle.std.proofs.Math.Option.{Option, none}
+use Rattle.std.proofs.Math.Option.{Option}
 use Rattle.postman.specs.Refusal.{unless}
 use Rattle.postman.specs.PlanFile.{plan_of}
 use Rattle.drive_legs.specs.Drive.{written}
