@@ -3,6 +3,6 @@
 #![tactic(auto)]
 
 mod call;
-mod districts;
+mod editing;
 mod file;
-mod open_plan;
+mod turns;

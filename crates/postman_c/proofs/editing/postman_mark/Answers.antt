@@ -2,7 +2,7 @@
 use mathlib.Core.Path.{subst⁻¹}
 use Rattle.integers.specs.Linear.{back64}
 use Rattle.open_plan_exports.specs.Editing.{IsExportedMove}
-use Rattle.postman_c.proofs.open_plan.postman_mark.Goals as goal
+use Rattle.postman_c.proofs.editing.postman_mark.Goals as goal
 
 pub returns : goal.returns
 returns c =
