@@ -64,8 +64,8 @@ fn imports(text: &str) -> Vec<(String, Vec<String>)> {
 
 /// What is wrong with a statement file: an import of laws, theorems or proofs, or an item that is no type.
 fn faults(text: &str) -> Vec<String> {
-    let of_proofs =
-        |module: &str| module.split('.').any(|part| part == "Laws" || part == "Proved" || part.ends_with("Theorem"));
+    let of_laws = |part: &str| part == "Laws" || part == "proofs" || part == "Proved" || part.ends_with("Theorem");
+    let of_proofs = |module: &str| !module.starts_with("std.") && module.split('.').any(of_laws);
     let mut found: Vec<String> = imports(text).into_iter().map(|(module, _)| module).filter(|m| of_proofs(m)).collect();
     let mut named = "";
     for line in text.lines().filter(|line| !line.is_empty() && !line.starts_with([' ', '-'])) {
@@ -222,7 +222,7 @@ fn contracts_and_definitions_cite_no_laws() {
             || name.ends_with("Theorem");
         if (of_definitions && !of_proofs) || (within.contains("/src/") && within.ends_with(".rt")) {
             for (module, names) in imports(&read(&path)) {
-                if module.split('.').any(|part| part == "Laws") {
+                if !module.starts_with("std.") && module.split('.').any(|part| part == "Laws" || part == "proofs") {
                     found.extend(names.into_iter().map(|cited| (within.clone(), cited)));
                 }
             }

@@ -98,8 +98,8 @@ fn cars<T: CarsCall + Planner>(name: &str, planner: &T) {
 /// Deep calls, and with one round the plan call.
 fn deep(name: &str, call: &dyn DeepCall, planner: &dyn Planner) {
     let mut found = Findings::default();
-    suite::run_deep(&mut found, call, planner, suite::deep_cases(seed(), rounds(4)), seed());
-    suite::run_deep_towns(&mut found, call, planner, &suite::deep_towns());
+    suite::run_deep(&mut found, call, planner, seed(), rounds(4));
+    suite::run_deep_towns(&mut found, call, planner);
     found.assert_none(name, seed());
 }
 

@@ -1,4 +1,4 @@
-// What other languages call over a state that they lend: `extern "C"` functions over numbers and
+// What other languages call over a state that they lend: functions over numbers and
 // slices, none of which asks anything of its caller.
 #![tactic(auto)]
 

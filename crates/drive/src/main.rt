@@ -17,19 +17,14 @@ const BUDGET: u64 = 10_000;
 
 // ---- printing
 
-fn put_floor(rt: &(impl Print + Eprint), space: &mut [u8; 4096], waiting: usize, x: i64) -> usize
+fn put_floor(rt: &HostRuntime, space: &mut [u8; 4096], waiting: usize, x: i64) -> usize
     requires { (waiting < 4096) × (pos 0 ≤ℤ x) }
     ensures { result < 4096 }
 {
     put_line(rt, space, waiting, b"floor ", x as u64)
 }
 
-fn put_whole(
-    rt: &(impl Print + Eprint),
-    space: &mut [u8; 4096],
-    waiting: usize,
-    whole: bool,
-) -> usize
+fn put_whole(rt: &HostRuntime, space: &mut [u8; 4096], waiting: usize, whole: bool) -> usize
     requires { waiting < 4096 }
     ensures { result < 4096 }
 {
@@ -40,7 +35,7 @@ fn put_whole(
 }
 
 // The lines before the places.
-fn put_answer(rt: &(impl Print + Eprint), space: &mut [u8; 4096], r: Planned) -> usize
+fn put_answer(rt: &HostRuntime, space: &mut [u8; 4096], r: Planned) -> usize
     requires { pos 0 ≤ℤ r.floor }
     ensures { result < 4096 }
 {
@@ -51,19 +46,14 @@ fn put_answer(rt: &(impl Print + Eprint), space: &mut [u8; 4096], r: Planned) ->
     put_line(rt, space, whole, b"parts ", r.parts as u64)
 }
 
-fn put_arc(rt: &(impl Print + Eprint), space: &mut [u8; 4096], waiting: usize, number: u16) -> usize
+fn put_arc(rt: &HostRuntime, space: &mut [u8; 4096], waiting: usize, number: u16) -> usize
     requires { waiting < 4096 }
     ensures { result < 4096 }
 {
     put_line(rt, space, waiting, b"arc ", number as u64)
 }
 
-fn put_places(
-    rt: &(impl Print + Eprint),
-    space: &mut [u8; 4096],
-    waiting: usize,
-    sheet: &[u16],
-) -> usize
+fn put_places(rt: &HostRuntime, space: &mut [u8; 4096], waiting: usize, sheet: &[u16]) -> usize
     requires { waiting < 4096 }
     ensures { result < 4096 }
 {
@@ -74,7 +64,7 @@ fn put_places(
     n
 }
 
-fn print_answer(rt: &(impl Print + Eprint), r: Planned, sheet: &[u16])
+fn print_answer(rt: &HostRuntime, r: Planned, sheet: &[u16])
     requires { pos 0 ≤ℤ r.floor }
 {
     let mut space = [0u8; 4096];
@@ -83,7 +73,7 @@ fn print_answer(rt: &(impl Print + Eprint), r: Planned, sheet: &[u16])
     flush(rt, space, all);
 }
 
-fn print_refusal(rt: &(impl Print + Eprint), number: u8) {
+fn print_refusal(rt: &HostRuntime, number: u8) {
     let mut space = [0u8; 4096];
     let all = put_line(rt, &mut space, 0, b"refused ", number as u64);
     flush(rt, space, all);
@@ -124,7 +114,7 @@ fn pass_all(input: &mut impl Read) {
 
 // The longest plan has 1,475 bytes. A file longer than the buffer is refused for what its first 4,096 bytes hold, as the
 // whole would be (`planner`'s `Laws.LongFile`).
-fn run(rt: &(impl Input + Print + Eprint)) {
+fn run(rt: &HostRuntime) {
     let mut input = rt.reader();
     let mut file = [0u8; 4096];
     let n = read_full(&mut input, &mut file);
@@ -148,8 +138,8 @@ fn has_argument(rt: &impl Env) -> bool {
 // Whoever names a file as an argument would wait for a plan that is never read.
 fn main(rt: HostRuntime) {
     if has_argument(&rt) {
-        say(&rt, "no argument is taken");
-        say(&rt, "usage: drive < FILE");
+        say(&rt, b"no argument is taken");
+        say(&rt, b"usage: drive < FILE");
         return;
     }
     run(&rt);

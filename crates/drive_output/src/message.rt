@@ -1,35 +1,38 @@
 // What is said on standard error: a line each. Where standard error takes no line, nothing more can be said.
 
 // A line, with the program's name before it.
-pub fn say(rt: &impl Eprint, line: &str) {
-    let _ = eprintln!(rt; "drive: {line}");
+pub fn say(rt: &HostRuntime, line: &[u8]) {
+    let error = rt.stderr();
+    let _ = error.write_all(b"drive: ");
+    let _ = error.write_all(line);
+    let _ = error.write_all(b"\n");
 }
 
 // The trade word of a refusal of the file.
-fn say_file_word(rt: &impl Eprint, number: u8) {
+fn say_file_word(rt: &HostRuntime, number: u8) {
     match number {
-        1 => say(rt, "torn"),
-        2 => say(rt, "edition"),
-        3 => say(rt, "extent"),
-        4 => say(rt, "margin"),
-        5 => say(rt, "off sheet"),
-        6 => say(rt, "unpriced"),
-        _ => say(rt, "standing"),
+        1 => say(rt, b"torn"),
+        2 => say(rt, b"edition"),
+        3 => say(rt, b"extent"),
+        4 => say(rt, b"margin"),
+        5 => say(rt, b"off sheet"),
+        6 => say(rt, b"unpriced"),
+        _ => say(rt, b"standing"),
     }
 }
 
 // And of one of the plan. The sheet and the budget are the program's own, and good.
-fn say_plan_word(rt: &impl Eprint, number: u8) {
+fn say_plan_word(rt: &HostRuntime, number: u8) {
     match number {
-        10 => say(rt, "idle"),
-        11 => say(rt, "scattered"),
-        12 => say(rt, "cut off"),
-        _ => say(rt, "repeated"),
+        10 => say(rt, b"idle"),
+        11 => say(rt, b"scattered"),
+        12 => say(rt, b"cut off"),
+        _ => say(rt, b"repeated"),
     }
 }
 
 // The trade word of a refusal of the plan call.
-pub fn say_word(rt: &impl Eprint, number: u8) {
+pub fn say_word(rt: &HostRuntime, number: u8) {
     if number <= 7 {
         say_file_word(rt, number);
     } else {

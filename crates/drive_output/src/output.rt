@@ -6,14 +6,14 @@ use crate::message::say;
 use itoa::Buffer;
 
 // Writes a block, and says so where that fails.
-fn write(rt: &(impl Print + Eprint), block: &[u8]) {
+fn write(rt: &HostRuntime, block: &[u8]) {
     if rt.write_all(block).is_err() {
-        say(rt, "writing failed");
+        say(rt, b"writing failed");
     }
 }
 
 // One byte more.
-fn put_byte(rt: &(impl Print + Eprint), space: &mut [u8; 4096], waiting: usize, byte: u8) -> usize
+fn put_byte(rt: &HostRuntime, space: &mut [u8; 4096], waiting: usize, byte: u8) -> usize
     requires { waiting < 4096 }
     ensures { result < 4096 }
 {
@@ -26,7 +26,7 @@ fn put_byte(rt: &(impl Print + Eprint), space: &mut [u8; 4096], waiting: usize, 
 }
 
 // A text.
-pub fn put(rt: &(impl Print + Eprint), space: &mut [u8; 4096], waiting: usize, text: &[u8]) -> usize
+pub fn put(rt: &HostRuntime, space: &mut [u8; 4096], waiting: usize, text: &[u8]) -> usize
     requires { waiting < 4096 }
     ensures { result < 4096 }
 {
@@ -39,7 +39,7 @@ pub fn put(rt: &(impl Print + Eprint), space: &mut [u8; 4096], waiting: usize, t
 
 // A label, a number and the line's end.
 pub fn put_line(
-    rt: &(impl Print + Eprint),
+    rt: &HostRuntime,
     space: &mut [u8; 4096],
     waiting: usize,
     label: &[u8],
@@ -55,7 +55,7 @@ pub fn put_line(
 }
 
 // Writes what still waits.
-pub fn flush(rt: &(impl Print + Eprint), space: [u8; 4096], waiting: usize)
+pub fn flush(rt: &HostRuntime, space: [u8; 4096], waiting: usize)
     requires { waiting < 4096 }
 {
     write(rt, &space[..waiting]);

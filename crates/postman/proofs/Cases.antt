@@ -19,7 +19,7 @@ use Rattle.postman.specs.Renumbering.{number_in, renumbered}
 use Rattle.postman.specs.Laws.Tests.{and_parts, is_true}
 use Rattle.postman.specs.Laws.Membership.{all_of_at}
 use Rattle.postman.proofs.Repeated.{agree_equal}
-use Rattle.postman.specs.Cases.{Claim, Means, Row, table, or_zero, bytes_refusal, car_refusal_of, writing_of, multipliers, file, refusal, refusal2, unreadable, car, writing, cramped, parts, link_count, trees, balancing, bound_at, cost_at, cost_under, whole_at, floor_at, floor_by, judged, fault}
+use Rattle.postman.specs.Cases.{Claim, Means, Row, table, or_zero, refusal_of, bytes_refusal, car_refusal_of, writing_of, multipliers, file, refusal, refusal2, unreadable, car, writing, cramped, parts, link_count, trees, balancing, bound_at_zero, bound_at, cost_at, cost_under, whole_at, floor_at, floor_by, judged, fault}
 
 -- ---- the same claims, as tests that compute
 
@@ -46,8 +46,8 @@ same_answers (refused r) (refused q) = eqb r q
 holds : Plan → Claim → Bool
 unfolding same_list same_plan is_positive same_answers judge_answer file_of edition plan_of file_length write_refusal call_refusal car_refusal sheet_places default_budget component_count links arborescence_count least_balancing lagrangian_bound best_cost is_whole lower_bound
 holds p (file e bytes) = same_list eqb (file_of e p) bytes && (eqb (edition bytes) e && same_plan (plan_of bytes) p)
-holds p (refusal r) = eqb (bytes_refusal (file_of 1 p)) r
-holds p (refusal2 r) = eqb (bytes_refusal (file_of 2 p)) r
+holds p (refusal r) = eqb (refusal_of 1 p) r
+holds p (refusal2 r) = eqb (refusal_of 2 p) r
 holds p (unreadable bytes r) = eqb (bytes_refusal bytes) r
 holds p (car marks r) = eqb (car_refusal_of p marks) r
 holds p (writing e r) = eqb (writing_of e p) r
@@ -56,6 +56,7 @@ holds p (parts k) = eqb (component_count p) k
 holds p (link_count k) = eqb (length (links p)) k
 holds p (trees k) = eqb (arborescence_count p) k
 holds p (balancing c) = eqb (least_balancing p []) c
+holds p (bound_at_zero l) = is_positive (lagrangian_bound p (λ i. pos 0)) l
 holds p (bound_at us l) = is_positive (lagrangian_bound p (multipliers us)) l
 holds p (cost_at b c) = eqb (best_cost p b) c
 holds p (cost_under ns b c) = eqb (best_cost (renumbered p (number_in ns)) b) c
@@ -123,8 +124,8 @@ sound p (file e bytes) t =
     let b = and_parts (same_list eqb (file_of e p) bytes) _ t in
     let c = and_parts (eqb (edition bytes) e) (same_plan (plan_of bytes) p) b.1 in
     (same_list_lem eqb eqb→eq (file_of e p) bytes b.0, eqb→eq (edition bytes) e c.0, same_plan_lem (plan_of bytes) p c.1)
-sound p (refusal r) t = eqb→eq (bytes_refusal (file_of 1 p)) r t
-sound p (refusal2 r) t = eqb→eq (bytes_refusal (file_of 2 p)) r t
+sound p (refusal r) t = eqb→eq (refusal_of 1 p) r t
+sound p (refusal2 r) t = eqb→eq (refusal_of 2 p) r t
 sound p (unreadable bytes r) t = eqb→eq (bytes_refusal bytes) r t
 sound p (car marks r) t = eqb→eq (car_refusal_of p marks) r t
 sound p (writing e r) t = eqb→eq (writing_of e p) r t
@@ -133,6 +134,7 @@ sound p (parts k) t = eqb→eq (component_count p) k t
 sound p (link_count k) t = eqb→eq (length (links p)) k t
 sound p (trees k) t = eqb→eq (arborescence_count p) k t
 sound p (balancing c) t = eqb→eq (least_balancing p []) c t
+sound p (bound_at_zero l) t = is_pos (lagrangian_bound p (λ i. pos 0)) l t
 sound p (bound_at us l) t = is_pos (lagrangian_bound p (multipliers us)) l t
 sound p (cost_at b c) t = eqb→eq (best_cost p b) c t
 sound p (cost_under ns b c) t = eqb→eq (best_cost (renumbered p (number_in ns)) b) c t

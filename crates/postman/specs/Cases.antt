@@ -31,6 +31,7 @@ pub data Claim : Type 0 where
   link_count : ℕ → Claim
   trees : ℕ → Claim
   balancing : ℕ → Claim
+  bound_at_zero : ℕ → Claim
   bound_at : List ℕ → ℕ → Claim
   cost_at : ℕ → ℕ → Claim
   cost_under : List ℕ → ℕ → ℕ → Claim
@@ -45,7 +46,11 @@ abbrev pub or_zero : Option ℕ → ℕ
 or_zero none = 0
 or_zero (some r) = r
 
--- The short call's, of bytes.
+-- The short call's, of a plan's file.
+abbrev pub refusal_of : ℕ → Plan → ℕ
+refusal_of e p = or_zero (call_refusal (file_of e p) default_budget sheet_places)
+
+-- And of any bytes.
 abbrev pub bytes_refusal : List ℕ → ℕ
 bytes_refusal bytes = or_zero (call_refusal bytes default_budget sheet_places)
 
@@ -66,8 +71,8 @@ multipliers us i = pos (get_or us i 0)
 -- floor, whatever u is, and the floor by a u, at a budget; the cost that a list of arcs is judged to have in edition 2, and the fault of one.
 abbrev pub Means : Plan → Claim → Type 0
 Means p (file e bytes) = (file_of e p ≡ bytes) × (edition bytes ≡ e) × (plan_of bytes ≡ p)
-Means p (refusal r) = bytes_refusal (file_of 1 p) ≡ r
-Means p (refusal2 r) = bytes_refusal (file_of 2 p) ≡ r
+Means p (refusal r) = refusal_of 1 p ≡ r
+Means p (refusal2 r) = refusal_of 2 p ≡ r
 Means p (unreadable bytes r) = bytes_refusal bytes ≡ r
 Means p (car marks r) = car_refusal_of p marks ≡ r
 Means p (writing e r) = writing_of e p ≡ r
@@ -76,6 +81,7 @@ Means p (parts k) = component_count p ≡ k
 Means p (link_count k) = length (links p) ≡ k
 Means p (trees k) = arborescence_count p ≡ k
 Means p (balancing c) = least_balancing p [] ≡ c
+Means p (bound_at_zero l) = lagrangian_bound p (λ i. pos 0) ≡ pos l
 Means p (bound_at us l) = lagrangian_bound p (multipliers us) ≡ pos l
 Means p (cost_at b c) = best_cost p b ≡ c
 Means p (cost_under ns b c) = best_cost (renumbered p (number_in ns)) b ≡ c
@@ -115,10 +121,10 @@ table =
     (file 1 (0x10 ∷ 0x40 ∷ 0x20 ∷ 0x01 ∷ 0x40 ∷ 0x01 ∷ 0x41 ∷ 0x00 ∷ 0x00 ∷ 0x03 ∷ []) ∷ refusal 0 ∷ cost_at 10000 8 ∷ trees 1 ∷ balancing 3 ∷ [])
     -- B
     ∷ row 4 (arc 0 1 1 1 ∷ arc 1 0 0 1 ∷ arc 2 3 1 1 ∷ arc 3 2 0 1 ∷ arc 1 2 0 10 ∷ arc 3 0 0 10 ∷ [])
-    (refusal 0 ∷ parts 2 ∷ trees 1 ∷ cost_at 10000 22 ∷ balancing 2 ∷ bound_at [] 12 ∷ bound_at (0 ∷ 1 ∷ 0 ∷ 1 ∷ []) 13 ∷ [])
+    (refusal 0 ∷ parts 2 ∷ trees 1 ∷ cost_at 10000 22 ∷ balancing 2 ∷ bound_at_zero 12 ∷ bound_at (0 ∷ 1 ∷ 0 ∷ 1 ∷ []) 13 ∷ [])
     -- C; and with its vertices 0 and 1 exchanged, when the first tree is one of least cost
     ∷ row 3 (arc 0 0 1 1 ∷ arc 1 1 1 1 ∷ arc 2 2 1 1 ∷ arc 0 1 0 2 ∷ arc 1 2 0 2 ∷ arc 2 0 0 2 ∷ arc 0 2 0 3 ∷ [])
-    (refusal 0 ∷ link_count 4 ∷ trees 2 ∷ cost_at 1 14 ∷ whole_at 1 false ∷ cost_at 2 9 ∷ whole_at 2 true ∷ bound_at [] 7 ∷ bound_at (0 ∷ 0 ∷ 2 ∷ []) 9
+    (refusal 0 ∷ link_count 4 ∷ trees 2 ∷ cost_at 1 14 ∷ whole_at 1 false ∷ cost_at 2 9 ∷ whole_at 2 true ∷ bound_at_zero 7 ∷ bound_at (0 ∷ 0 ∷ 2 ∷ []) 9
     ∷ floor_by [] 1 7 ∷ floor_by (0 ∷ 0 ∷ 2 ∷ []) 1 9 ∷ cost_under (1 ∷ 0 ∷ []) 1 9 ∷ [])
     -- six bits of fill; one of them 1, a byte too few, and one too many
     ∷ row 1 (arc 0 0 1 1 ∷ [])

@@ -11,9 +11,10 @@ use plan_writer::Written;
 use records::arrays::{Filled, read_array, write_array};
 use records::reader::Read;
 use refusal::{Refusal, Verdict};
+use std::env::FillError;
 use std::fs::OpenOptions;
-use std::rt::Files;
-use std::{env, io};
+use std::io;
+use std::rt::{Env, Files};
 
 // ---- what is printed
 
@@ -197,7 +198,7 @@ fn contents(rt: &impl Print, input: &mut impl io::Read) {
     trips(rt, &space[..n]);
 }
 
-fn named(rt: &(impl Files + Print + Eprint), path: &str) {
+fn opened(rt: &(impl Files + Print + Eprint), path: &str) {
     match OpenOptions::new().read(true).open(rt, path) {
         Ok(mut file) => {
             text(rt, path);
@@ -210,6 +211,24 @@ fn named(rt: &(impl Files + Print + Eprint), path: &str) {
     }
 }
 
+// The file that an argument names, and whether there is one. A path longer than the buffer is an empty one; one that is not UTF-8 cannot
+// be opened.
+fn named(rt: &(impl Env + Files + Print + Eprint), k: usize) -> bool {
+    let mut space = [0u8; 4096];
+    let n = match rt.arg(k, &mut space) {
+        Ok(n) => n,
+        Err(FillError::NotPresent) => return false,
+        Err(FillError::TooLong) => 0,
+    };
+    match str::from_utf8(&space[..n]) {
+        Ok(path) => opened(rt, path),
+        Err(_) => {
+            let _ = eprintln!(rt; "argument {k}: no path in UTF-8");
+        }
+    }
+    true
+}
+
 // What no file gives: no record, one record too many, and an edition that is none.
 fn limits(rt: &impl Print) {
     text(rt, "nines\n");
@@ -218,10 +237,11 @@ fn limits(rt: &impl Print) {
     rewritten(rt, 3, 10, nines(), 257);
 }
 
-fn main(rt: HostRuntime) -> io::Result<()> {
+fn main(rt: HostRuntime) {
     limits(&rt);
-    for path in env::args(&rt)?.skip(1) {
-        named(&rt, path.as_str());
+    for k in 1..usize::MAX {
+        if !named(&rt, k) {
+            break;
+        }
     }
-    Ok(())
 }

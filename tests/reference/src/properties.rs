@@ -265,23 +265,9 @@ pub struct Findings {
     pub stories: Vec<String>,
     /// How often a property was looked at.
     pub looks: u64,
-    /// What a wrong planner has to violate. Of one that is to be right nothing is sought.
-    sought: Option<&'static [Property]>,
 }
 
 impl Findings {
-    /// Findings against a wrong planner: its runs end as soon as it has violated all of these.
-    pub fn seeking(sought: &'static [Property]) -> Findings {
-        assert!(!sought.is_empty(), "a wrong planner violates something");
-        Findings { sought: Some(sought), ..Findings::default() }
-    }
-
-    /// Whether a run can end, since all that is sought was violated. Where nothing is sought it never can: a planner that is to be right is
-    /// put through all of it.
-    pub fn is_done(&self) -> bool {
-        self.sought.is_some_and(|sought| sought.iter().all(|property| self.violated.contains(property)))
-    }
-
     pub fn expect(&mut self, property: Property, holds: bool, story: impl FnOnce() -> String) {
         self.looks += 1;
         if !holds {
@@ -294,7 +280,6 @@ impl Findings {
 
     /// Fails a test if anything was found, and tells from which seed.
     pub fn assert_none(&self, planner: &str, seed: u64) {
-        assert!(self.sought.is_none(), "{planner}: a run that can end early shows no planner to be right");
         assert!(self.violated.is_empty(), "{planner}, SEED={seed}:\n{}", self.stories.join("\n"));
     }
 }

@@ -18,7 +18,7 @@ mod tables;
 
 pub use cars::run_cars;
 pub use counts::{run_count, run_counts};
-pub use deep::{deep_cases, deep_towns, run_deep, run_deep_towns};
+pub use deep::{run_deep, run_deep_towns};
 pub use departures::run_departures;
 pub use districts::{district_cases, run_districts, run_stated_districts};
 pub use editing::run_editing;
@@ -57,17 +57,11 @@ pub fn random_case(seed: u64, shape: fn(&mut Random) -> Shape, effort: &Effort) 
 pub fn run_case(found: &mut Findings, planner: &dyn Planner, case: &Case, few: u64) {
     let mut budgets = case.budgets(few);
     for &budget in &budgets {
-        if found.is_done() {
-            return;
-        }
         examine_answer(found, planner, case, budget);
     }
     budgets.sort_unstable();
     let (middle, last) = (budgets.len() / 2, budgets.len() - 1);
     for (low, high) in [(0, middle), (middle, last), (0, last)] {
-        if found.is_done() {
-            return;
-        }
         examine_raised(found, planner, case, budgets[low], budgets[high]);
     }
     // Where there are many more trees than were enumerated, this is also the long run.
@@ -115,9 +109,6 @@ pub fn run_files(found: &mut Findings, planner: &dyn Planner, seed: u64, rounds:
     let good = fullest_files();
     for _ in 0..rounds {
         for length in 0..=LONGEST_FILE + 25 {
-            if found.is_done() {
-                return;
-            }
             for file in files_around(random, &good, length) {
                 let budget = random.pick(&[1, 1, 1, 1, 1, 2, HIGHEST_BUDGET, 0, HIGHEST_BUDGET + 1, u64::MAX]);
                 let places = SHEET_PLACES - random.pick(&[0, 0, 0, 0, 0, 0, 0, 1, 2, SHEET_PLACES]);
@@ -154,9 +145,6 @@ pub fn run_codec(found: &mut Findings, codec: &dyn Codec, seed: u64, rounds: u64
     let good = fullest_files();
     for _ in 0..rounds {
         for length in 0..=LONGEST_FILE + 25 {
-            if found.is_done() {
-                return;
-            }
             for file in files_around(random, &good, length) {
                 let m = file.len() * 8 / random.pick(&[30, 46]);
                 let room = random.pick(&[256, 300, m, m.saturating_sub(1), m.saturating_sub(2), 0]);

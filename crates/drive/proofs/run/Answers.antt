@@ -5,10 +5,10 @@ use Rattle.solution.specs.Laws.Answered.{floor_above, places_fit, places_count}
 use Rattle.drive.proofs.run.Goals as goal
 
 pub slice_bounds-sheet-end : goal.slice_bounds-sheet-end
-slice_bounds-sheet-end g c = places_fit _ _ _ _ _ _ c.plan_call-r.ensures.planned (ap verdict_number c.in-Accepted.is)
+slice_bounds-sheet-end c = places_fit _ _ _ _ _ _ c.plan_call-r.ensures.planned (ap verdict_number c.in-Accepted.is)
 
 pub slice_bounds-print_answer-end : goal.slice_bounds-print_answer-end
-slice_bounds-print_answer-end g c = places_count _ _ _ _ _ _ c.plan_call-r.ensures.planned (ap verdict_number c.in-Accepted.is)
+slice_bounds-print_answer-end c = places_count _ _ _ _ _ _ c.plan_call-r.ensures.planned (ap verdict_number c.in-Accepted.is)
 
 pub print_answer-requires : goal.print_answer-requires
-print_answer-requires g c = floor_above _ _ _ _ _ _ c.plan_call-r.ensures.planned (ap verdict_number c.in-Accepted.is)
+print_answer-requires c = floor_above _ _ _ _ _ _ c.plan_call-r.ensures.planned (ap verdict_number c.in-Accepted.is)

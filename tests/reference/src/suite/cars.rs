@@ -141,9 +141,6 @@ fn told_of(answer: &Result<Answer, Refusal>) -> Stated {
 /// Each thing that a car can be told beside each, pairs on other plans, and files that are refused.
 fn run_stated_cars(found: &mut Findings, call: &dyn CarsCall) {
     let mut examine = |what: &dyn Fn() -> String, file: &[u8], cars: [&Brought; 2], stated: [Stated; 2]| {
-        if found.is_done() {
-            return;
-        }
         if let Some(told) = examine_cars(found, call, file, cars) {
             let told = [told_of(&told[0]), told_of(&told[1])];
             found.expect(Property::Stated, told == stated, || format!("{}: {told:?} instead of {stated:?}", what()));
@@ -206,9 +203,6 @@ pub fn run_cars(found: &mut Findings, call: &dyn CarsCall, planner: &dyn Planner
     run_stated_cars(found, call);
     let random = &mut Random::new(seed);
     for round in 0..100 * rounds {
-        if found.is_done() {
-            return;
-        }
         let (shape, effort) = match round % 15 {
             0 => (Shape::large(random), Effort::LIGHT),
             _ => (Shape::small(random), Effort::BRUTE_FORCE),

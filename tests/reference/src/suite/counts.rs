@@ -42,26 +42,17 @@ fn stated() -> Vec<(&'static str, Plan, TreeCount)> {
 /// Holds a count to the stated numbers, to towns, to random plans, and to files of every length.
 pub fn run_counts(found: &mut Findings, counter: &dyn Counter, seed: u64, rounds: u64) {
     for (what, plan, number) in stated() {
-        if found.is_done() {
-            return;
-        }
         let told = counter.tree_count(&file_of(&plan));
         found.expect(Property::TreeCount, told == Ok(number), || format!("{what}: {told:?} instead of {number:?}"));
         examine_count(found, counter, &file_of(&plan));
     }
     for (_, plan) in towns() {
-        if found.is_done() {
-            return;
-        }
         examine_count(found, counter, &file_of(&plan));
     }
     let random = &mut Random::new(seed);
     let good = fullest_files();
     for _ in 0..rounds {
         for length in 0..=LONGEST_FILE + 25 {
-            if found.is_done() {
-                return;
-            }
             for file in files_around(random, &good, length) {
                 examine_count(found, counter, &file);
             }
@@ -77,9 +68,6 @@ pub fn run_count(
     seed: u64,
     shape: fn(&mut Random) -> Shape,
 ) {
-    if found.is_done() {
-        return;
-    }
     let case = random_case(seed, shape, &Effort::LIGHT);
     examine_count(found, counter, &case.file);
     examine_whole(found, planner, counter, &case, 6);

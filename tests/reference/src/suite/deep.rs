@@ -11,7 +11,6 @@ use crate::properties::{
     examine_deep, examine_deep_refusal, examine_more_rounds, examine_one_round, Case, Findings, Property,
 };
 use crate::random::Random;
-use std::borrow::Borrow;
 
 /// A call, its budget, rounds and places, and what is stated of it.
 type Row = (&'static str, Plan, (u64, u32, usize), Stated);
@@ -49,9 +48,6 @@ fn rows() -> Vec<Row> {
 
 fn run_stated_deep(found: &mut Findings, call: &dyn DeepCall) {
     for (what, plan, (budget, rounds, places), stated) in rows() {
-        if found.is_done() {
-            return;
-        }
         let file = file_of(&plan);
         examine_deep_refusal(found, call, &file, (budget, rounds, places));
         let told = call.deep_call(&file, budget, rounds, &mut vec![0; places]);
@@ -68,39 +64,20 @@ fn run_stated_deep(found: &mut Findings, call: &dyn DeepCall) {
     }
 }
 
-/// Random plans, of which every tenth is large, and what is known of them.
-pub fn deep_cases(seed: u64, rounds: u64) -> impl Iterator<Item = Case> {
-    let case = move |round| match round % 10 {
-        0 => random_case(seed + round, Shape::large, &Effort::LIGHT),
-        _ => random_case(seed + round, Shape::small, &Effort::BRUTE_FORCE),
-    };
-    (0..100 * rounds).map(case)
-}
-
-/// The benchmark's plans, and what is known of them.
-pub fn deep_towns() -> Vec<Case> {
-    towns().iter().map(|(_, plan)| Case::new(plan, &Effort::LIGHT)).collect()
-}
-
 /// Holds a deep call to all of them, beside the plan call of a planner.
-pub fn run_deep(
-    found: &mut Findings,
-    call: &dyn DeepCall,
-    planner: &dyn Planner,
-    cases: impl IntoIterator<Item = impl Borrow<Case>>,
-    seed: u64,
-) {
+pub fn run_deep(found: &mut Findings, call: &dyn DeepCall, planner: &dyn Planner, seed: u64, rounds: u64) {
     run_stated_deep(found, call);
     let random = &mut Random::new(seed);
-    for case in cases {
-        if found.is_done() {
-            return;
-        }
-        let case = case.borrow();
+    for round in 0..100 * rounds {
+        let (shape, effort): (fn(&mut Random) -> Shape, _) = match round % 10 {
+            0 => (Shape::large, Effort::LIGHT),
+            _ => (Shape::small, Effort::BRUTE_FORCE),
+        };
+        let case = random_case(seed + round, shape, &effort);
         let budget = random.pick(&[1, 1, 1, 2, 3, 5, 20, 1_000]);
         let many = random.pick(&[1, 2, 3, 4, 5, 6, 7, 9, 11, 13, 17, 30]);
         let few = random.within(1..=many as usize) as u32;
-        examine_deep(found, call, planner, case, (budget, many));
+        examine_deep(found, call, planner, &case, (budget, many));
         examine_one_round(found, call, planner, &case.file, (budget, SHEET_PLACES));
         examine_more_rounds(found, call, &case.file, budget, (few, many));
 
@@ -115,13 +92,11 @@ pub fn run_deep(
 }
 
 /// The benchmark's plans, and on the first of them as many rounds as there may be.
-pub fn run_deep_towns(found: &mut Findings, call: &dyn DeepCall, planner: &dyn Planner, towns: &[Case]) {
-    for case in towns {
-        if found.is_done() {
-            return;
-        }
+pub fn run_deep_towns(found: &mut Findings, call: &dyn DeepCall, planner: &dyn Planner) {
+    let cases: Vec<Case> = towns().iter().map(|(_, plan)| Case::new(plan, &Effort::LIGHT)).collect();
+    for case in &cases {
         examine_deep(found, call, planner, case, (1_000, 20));
         examine_more_rounds(found, call, &case.file, 1_000, (12, 20));
     }
-    examine_deep(found, call, planner, &towns[0], (1, MOST_ROUNDS));
+    examine_deep(found, call, planner, &cases[0], (1, MOST_ROUNDS));
 }

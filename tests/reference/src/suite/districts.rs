@@ -165,9 +165,6 @@ pub fn run_stated_districts(found: &mut Findings, districts: &dyn Districts, cal
     runs.extend([("behind", behind()), ("behind, disturbed", disturbed(behind()))]);
     runs.push(("places freed, disturbed", disturbed(freed())));
     for (what, run) in runs {
-        if found.is_done() {
-            return;
-        }
         let requests: Vec<Request> = run.iter().map(|(request, _)| *request).collect();
         let told = examine_districts(found, districts, callee, cases, &requests);
         let told: Vec<Stated> = told.iter().map(stated_of).collect();
@@ -204,9 +201,6 @@ pub fn run_districts(
     let random = &mut Random::new(seed);
     for _ in 0..rounds {
         for entries in [2, 3, 4, 6] {
-            if found.is_done() {
-                return;
-            }
             let requests = random_requests(random, cases, entries, 120);
             examine_districts(found, districts, callee, cases, &requests);
         }

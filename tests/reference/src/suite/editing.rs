@@ -148,9 +148,6 @@ fn run_stated_histories(found: &mut Findings, editor: &dyn Editor, callee: &dyn 
     let noon =
         || Question { budget: 1, windows: vec![2, 3, 600, 840], departure: Departure { weekday: 3, minute: 720 } };
     for (what, plan, calls) in histories() {
-        if found.is_done() {
-            return;
-        }
         let steps: Vec<Step> = calls.iter().flat_map(|&(call, _)| [Step::Call(call), Step::Ask(noon())]).collect();
         let told = examine_editing(found, editor, callee, &file_of(&plan), &steps);
         let stated: Vec<Refusal> = std::iter::once(0).chain(calls.iter().map(|&(_, number)| number)).collect();
@@ -208,9 +205,6 @@ pub fn run_editing(found: &mut Findings, editor: &dyn Editor, callee: &dyn Depar
     run_stated_histories(found, editor, callee);
     let random = &mut Random::new(seed);
     for round in 0..12 * rounds {
-        if found.is_done() {
-            return;
-        }
         let shape = if round % 6 == 5 { Shape::large(random) } else { Shape::small(random) };
         let plan = random_plan(random, &shape);
         let count = random.pick(&[40, 150, 400]);

@@ -132,9 +132,6 @@ fn long_rows() -> Vec<Row> {
 /// Holds a judge to what is stated.
 pub fn run_stated_lists(found: &mut Findings, judge: &dyn Judge) {
     for Row { what, file, places, stated } in stated_rows().into_iter().chain(spoiled_rows()).chain(long_rows()) {
-        if found.is_done() {
-            return;
-        }
         let told = judge.judge(&file, &places);
         found.expect(Property::Stated, told == stated, || format!("{what}: {told:?} instead of {stated:?}"));
         examine_judgement(found, judge, &file, &places);
@@ -246,9 +243,6 @@ pub fn run_lists(found: &mut Findings, judge: &dyn Judge, planner: &dyn Planner,
     const SHAPES: [fn(&mut Random) -> Shape; 5] =
         [Shape::small, Shape::small, Shape::small, Shape::scattered, Shape::large];
     for seed in seed..seed + plans {
-        if found.is_done() {
-            return;
-        }
         let random = &mut Random::new(seed);
         let shape = random.pick(&SHAPES)(random);
         let plan = random_plan(random, &shape);

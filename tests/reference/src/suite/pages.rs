@@ -106,9 +106,6 @@ fn random_room(random: &mut Random, pairs: usize) -> usize {
 /// Holds a distance call to all of them.
 pub fn run_pages(found: &mut Findings, call: &dyn DistanceCall, seed: u64, rounds: u64) {
     for (what, file, pairs, room, stated) in stated() {
-        if found.is_done() {
-            return;
-        }
         let mut distances = vec![0; room];
         let told = call.distances(&file, &pairs, &mut distances);
         let told = told.map(|searches| (searches, distances[..pairs.len().min(room)].to_vec()));
@@ -123,9 +120,6 @@ pub fn run_pages(found: &mut Findings, call: &dyn DistanceCall, seed: u64, round
         plans.push(random_plan(random, &shape));
     }
     for plan in plans {
-        if found.is_done() {
-            return;
-        }
         let file = file_of(&plan);
         for _ in 0..3 {
             let pairs = random_page(random, plan.n);

@@ -52,9 +52,6 @@ pub fn tables() -> Vec<Table> {
 /// Holds a distance call to all of them, in pages as long as they may be.
 pub(super) fn run(found: &mut Findings, call: &dyn DistanceCall) {
     for (what, plan, rows) in tables() {
-        if found.is_done() {
-            return;
-        }
         let file = file_of(&plan);
         let pairs: Vec<u16> = (0..plan.n * plan.n).map(|k| pair((k / plan.n) as u16, (k % plan.n) as u16)).collect();
         for (page, stated) in pairs.chunks(MOST_PAIRS).zip(rows.concat().chunks(MOST_PAIRS)) {

@@ -1,8 +1,7 @@
 //! The deep call: rounds of the plan call, each on the plan with other numbers for its vertices, or with the next trees. A round that goes on tries the
 //! trees before its own again.
 
-use super::count::completions;
-use super::{accept, answer, entry_counts, write, Yardstick};
+use super::{accept, answer, count_by_layers, entry_counts, write, Yardstick};
 use crate::plan::{Plan, MOST_ROUNDS, MOST_VERTICES, SHEET_PLACES};
 use crate::planner::{refusal, Answer, DeepCall, Planner, Refusal};
 
@@ -66,7 +65,7 @@ pub trait Rounds {
     fn left(&self, plan: &Plan, trees: u64) -> u64 {
         let file = write(plan.edition, plan.n as u32, &plan.arcs).expect("a good plan");
         let (entries, parts) = entry_counts(&file).expect("a plan that is not refused");
-        completions(&entries, 1, parts).saturating_sub(trees)
+        count_by_layers(&entries, parts).saturating_sub(trees)
     }
 
     /// Whether a round's search is gone on with, by the trees that are left of it and the fewest before it.

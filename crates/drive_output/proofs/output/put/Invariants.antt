@@ -3,4 +3,4 @@ use Rattle.std.proofs.Common.{◌<◌}
 use Rattle.drive_output.proofs.output.put.Given as goal
 
 abbrev pub invariant-loop-byte : goal.invariant-loop-byte
-invariant-loop-byte g l = l.n < 4096
+invariant-loop-byte l = l.n < 4096
