@@ -36,3 +36,12 @@ some_number MustShut = (omega arith, omega arith)
 some_number NoMark = (omega arith, omega arith)
 some_number Full = (omega arith, omega arith)
 some_number Rounds = (omega arith, omega arith)
+
+-- A step that refuses refuses the whole, whatever comes after it; where it passes, what comes after it decides.
+pub refused_first : (b : Bool) (k n : ℕ) (o : Option ℕ) → some k ≡ cond b (some n) none → some k ≡ cond b (some n) o
+refused_first true k n o e = e
+refused_first false k n o e = grind arith
+
+pub passed_first : (b : Bool) (n : ℕ) (x o : Option ℕ) → none ≡ cond b (some n) none → x ≡ o → x ≡ cond b (some n) o
+passed_first true n x o e f = grind arith
+passed_first false n x o e f = f

@@ -1,6 +1,6 @@
 // Entries of the lists: vertices, next vertices, potentials; and the lesser of two, and what is left of one without the other.
 // Steps for other crates, which ask something of their caller.
-ghost use Rattle.std.specs.Prelude.{◌≡◌, cond, ◌-◌, ◌<◌, ◌≤◌, min, length, get_or, ltb};
+ghost use Rattle.std.specs.Prelude.{◌≡◌, ◌-◌, ◌<◌, ◌≤◌, min, length, get_or};
 ghost use Rattle.residual_search.specs.Bounds.{AtMost};
 ghost use Rattle.residual_search.specs.Search.{beyond};
 
@@ -32,19 +32,12 @@ pub fn level(u: &[u64; 64], v: usize) -> u64
 pub fn lesser(a: u64, b: u64) -> u64
     ensures { result ≡ min a b }
 {
-    if a < b { a } else { b }
-}
-
-// v where a is below b, else w.
-pub(crate) fn chosen(a: u64, b: u64, v: u8, w: u8) -> u8
-    ensures { result ≡ cond (ltb a b) v w }
-{
-    if a < b { v } else { w }
+    a.min(b)
 }
 
 // a less b, and 0 where b is greater.
 pub fn monus(a: u64, b: u64) -> u64
     ensures { result ≡ a - b }
 {
-    if a < b { 0 } else { a - b }
+    a.saturating_sub(b)
 }

@@ -2,4 +2,5 @@
 #![tactic(auto)]
 
 pub mod entries; // vertices, next vertices and potentials, read from their lists
+pub mod lengths; // residual lengths between the vertices
 pub mod search; // Dijkstra's search towards a vertex

@@ -10,7 +10,7 @@ use borrow.Author.Tests.{lt-ltb, le-ltb, eq-eqb, ne_eqb}
 use Rattle.std.proofs.Math.ListN.{length}
 use Rattle.std.proofs.Math.Dec.{T, not_T, eqb→eq}
 use Rattle.postman.specs.Lists.{any_of, below}
-use Rattle.postman.specs.Plan.{Arc, Plan, is_open, arc_at}
+use Rattle.postman.specs.Plan.{Arc, is_open, arc_at}
 use Rattle.postman.specs.Marks.{is_bad_mark, has_bad_mark, marked_service, marked, car_plan}
 use Rattle.postman.specs.Laws.Tests.{same_test, of_true, or_right, or_cases, not_or, not_not, eqb_other}
 use Rattle.postman.specs.Laws.Membership.{any_of_mem, any_of_at, mem_below, below_mem}
@@ -49,6 +49,8 @@ module _ (mark : ℕ) (a : Arc) where
   pub service_charged : mark ≡ 1 → a.service ≢ 0 → a.service ≡ marked_service mark a
   unfolding marked_service
   service_charged o z = let f = eq-eqb mark 1 o in let e = ne_eqb a.service 0 z in rw (f, e) refl
+
+pub ruleset of_charge = (none_charged, plain_charged, service_charged)
 
 pub one_standing : (mark : ℕ) → mark ≡ 1 → ◌≡◌ {A = ℕ} 1 (cond (eqb mark 1) 1 0)
 one_standing mark o = let f = eq-eqb mark 1 o in rw f refl

@@ -1,12 +1,14 @@
 -- A free place: a list that holds each of n numbers is at least n long, so that fewer than eight districts leave a place free; and the
 -- lowest free place is free, and no other free one is below it.
-use Rattle.std.specs.Prelude.{◌≡◌, ◌≢◌, Bool, not, ℕ, zero, suc, ◌+◌, ◌≤◌, ◌<◌, length, T}
-use Rattle.std.proofs.Common.{sym, ◌∙◌, subst, inl, inr, arith, T_not, lt→ltb, nltb→le}
+use Rattle.std.specs.Prelude.{Option, None, Some, cond, ◌≡◌, ◌≢◌, Bool, not, ℕ, zero, suc, ◌+◌, ◌≤◌, ◌<◌, length, T}
+use Rattle.std.specs.List.{find, range_with_len}
+use Rattle.std.specs.Option.{option_map}
+use Rattle.std.proofs.Common.{sym, ap, ◌∙◌, zero-add, add-one, subst, inl, inr, arith, T_not, lt→ltb, nltb→le}
 use Rattle.std.proofs.Math.Bool.{true, false}
 use mathlib.Core.List.{List, Memᴰ}
 use Rattle.std.proofs.lemmas.List.{length-map}
 use Rattle.std.proofs.Math.Dec.{ltb, ltb→lt}
-use Rattle.postman.specs.Lists.{below, occurs, any_of}
+use Rattle.postman.specs.Lists.{up_from, below, first_index, occurs, any_of}
 use Rattle.postman.specs.Laws.Tests.{test, not_not, is_true, is_false, of_true}
 use Rattle.postman.specs.Laws.Membership.{any_of_at, any_of_not, mem_below, below_mem, mem_map}
 use Rattle.postman_laws.specs.Laws.Distinct.{mem_occurs, occurs_mem}
@@ -107,3 +109,30 @@ module _ (l : Line) (few : length l < 8) where
       let b = is_lowest q m free_q in
       let s : q ≡ lowest_free l = omega arith in
       s ∙ sym (one_below (q + 1) (omega arith))
+
+-- ---- a search from 0 on
+
+-- the first number from a on that passes
+find_step : (b : Bool) (a n x : ℕ) (rest : Option ℕ) → cond b 0 (suc x) < suc n → (x < n → rest ≡ Some (suc a + x))
+    → cond b (Some a) rest ≡ Some (a + cond b 0 (suc x))
+find_step true a n x rest l h = ap Some (let e : a ≡ a + 0 = omega arith in e)
+find_step false a n x rest l h = h (omega arith) ∙ ap Some (let e : suc a + x ≡ a + suc x = omega arith in e)
+
+find_from : (f : ℕ → Bool) (a n : ℕ) → first_index f (up_from a n) < n
+    → find f (range_with_len a n) ≡ Some (a + first_index f (up_from a n))
+unfolding first_index up_from
+find_from f a zero l = absurd (omega arith)
+find_from f a (suc n) l =
+    rw add-one (find_step (f a) a n (first_index f (up_from (suc a) n)) (find f (range_with_len (suc a) n)) l (find_from f (suc a) n))
+
+pub lowest_found : (l : Line) → length l < 8 → (r : Option ℕ)
+    → option_map (λ (q : ℕ). q) r ≡ find (λ q. not (occurs q (places l))) (range_with_len 0 8)
+    → r ≡ Some (lowest_free l)
+unfolding lowest_free below
+lowest_found l few None e = absurd (is_none_some (e ∙ find_from (λ q. not (occurs q (places l))) 0 8 (free_small l few)))
+  where
+    is_none_some : {x : ℕ} → ◌≡◌ {A = Option ℕ} None (Some x) → ⊥
+    is_none_some e = cc
+lowest_found l few (Some x) e =
+    e ∙ find_from (λ q. not (occurs q (places l))) 0 8 (free_small l few)
+    ∙ ap Some (zero-add (first_index (λ q. not (occurs q (places l))) (up_from 0 8)))

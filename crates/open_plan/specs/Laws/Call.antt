@@ -1,15 +1,14 @@
 -- What each call answers, by the verdict that it came to.
-use Rattle.std.specs.Prelude.{◌≡◌, refl, ◌≢◌, List, [], ℕ, ◌≤◌, ◌<◌}
+use Rattle.std.specs.Prelude.{◌≡◌, refl, Ok, ◌≢◌, List, [], ℕ, ◌≤◌, ◌<◌}
 use Rattle.std.proofs.Math.Path.{sym}
 use Rattle.std.proofs.Common.{◌∙◌, lt-ltb, le-ltb, eq-eqb, ne_eqb}
 use Rattle.std.proofs.Math.Option.{Option, none, some}
 use Rattle.postman.specs.Refusal.{first_refusal, unless}
 use Rattle.postman.specs.PlanFile.{file_conditions}
 use Rattle.postman.specs.OpenPlan.{Change, Call, mark, return}
-use Rattle.refusal.specs.Verdict.{verdict_number}
 use Rattle.open_plan.specs.declared.OpenPlan.{OpenPlan}
 use Rattle.open_plan.specs.declared.Moved.{Moved}
-use Rattle.held_file.specs.declared.Rewritten.{Rewritten}
+use Rattle.held_file.specs.declared.Held.{Held}
 use Rattle.held_file.specs.Held.{file_in, held_of, IsHeld}
 use Rattle.open_plan.specs.State.{fresh_state, mark_in, refusal_of, next}
 use Rattle.held_file.specs.Change.{changed_file, file_change_refusal}
@@ -48,11 +47,10 @@ module _ (s : OpenPlan) (k : ℕ) where
 
 -- ---- a change
 
-module _ (s : OpenPlan) (c : Change) (w : Rewritten)
-    (h : IsHeld (file_change_refusal (file_in s.plan) c) (changed_file (file_in s.plan) c) w) where
-  pub change_file : verdict_number w.verdict ≡ none → w.held ≡ held_of (changed_file (file_in s.plan) c)
-  unfolding unless
-  change_file v = let e : file_change_refusal (file_in s.plan) c ≡ none = sym h.verdict ∙ v in rw e at h.held
+pub change_file : (s : OpenPlan) (c : Change) (x : Held)
+    → IsHeld (file_change_refusal (file_in s.plan) c) (changed_file (file_in s.plan) c) (Ok x)
+    → x ≡ held_of (changed_file (file_in s.plan) c)
+change_file s c x h = h.held
 
 -- ---- opening
 

@@ -121,6 +121,26 @@ module _ (d : List (List ℕ)) (u : List ℤ) (c : List ℕ) (r : List Bool) (ok
       ];
     }
 
+  -- a pair that is required offers its reduced cost, and another offers nothing
+  module _ (n : ℕ) (bound : n < 4096) (m : List ℤ) (h : AreLeastOffers d u c r n m) where
+    pub offers_taken : are_required r (n / 64) (n % 64) ≡ true → length m ≡ 64 → (x : ℕ) → x < 64
+        → x ≡ get_or c (n / 64) 0 * 8 + get_or c (n % 64) 0 → (v : ℤ)
+        → IsLesser (get_or m x (pos 0)) (cost_of d u (n / 64) (n % 64)) v → AreLeastOffers d u c r (n + 1) (set m x v)
+    offers_taken t sized x l e v k =
+        offers_more n bound m h x sized l (e ∙ sym (ap (λ b. cond b (get_or c (n / 64) 0 * 8 + get_or c (n % 64) 0) 0) t)) v
+        (subst⁻¹ (λ (a : ℤ). IsLesser (get_or m x (pos 0)) a v) (ap (λ b. cond b (cost_of d u (n / 64) (n % 64)) (pos highest)) t) k)
+
+    pub offers_passed : are_required r (n / 64) (n % 64) ≡ false → AreLeastOffers d u c r (n + 1) m
+    offers_passed f = record {
+      low = h.low;
+      high = h.high;
+      least = λ i b t. elim (ℕ_discrete i n) [
+        | yes s ↦ let g = sym t ∙ ap (λ i. are_required r (i / 64) (i % 64)) s ∙ f in zero_is_one (cc)
+        | no o ↦ h.least i (omega arith) t
+      ];
+      attained = λ y b. elim (h.attained y b) [ inl g ↦ inl g | inr g ↦ let a = g.1 in inr (g.0, omega arith, g.2, g.3, g.4) ];
+    }
+
   -- ---- the plan's matrix
 
   module _ (p : Plan) (wf : WellFormed p) (k : ℕ) (few : k ≤ 8) (net : HoldsNetwork p d c r k) (m : List ℤ)

@@ -6,7 +6,7 @@ use Rattle.std.proofs.Math.Decide.{ℕ_discrete}
 use Rattle.std.proofs.lemmas.List.{length-map}
 use Rattle.std.proofs.Math.ListN.{get_or-map}
 use Rattle.postman.specs.Lists.{up_from, below}
-use Rattle.postman.specs.Plan.{Arc, Plan, arc_at}
+use Rattle.postman.specs.Plan.{Arc, arc_at}
 use Rattle.postman.specs.Laws.Membership.{length_up_from, get_d_map_up_from}
 use Rattle.plan.specs.declared.Arc.{Arc as ArcRecord}
 use Rattle.plan.specs.declared.Plan.{Plan as PlanRecord}

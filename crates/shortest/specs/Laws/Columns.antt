@@ -11,8 +11,8 @@ use Rattle.postman.specs.Laws.Tests.{is_true, is_false}
 use Rattle.postman.specs.Plan.{Arc, WellFormed}
 use Rattle.postman.specs.Distance.{no_path}
 use Rattle.plan.specs.declared.Plan.{Plan as PlanRecord}
-use Rattle.plan.specs.Records.{plan_value, record_at}
-use Rattle.plan.specs.Laws.Records.{arcs_more}
+use Rattle.plan.specs.Records.{plan_value, arc_value, record_at, zero_record}
+use Rattle.plan.specs.Laws.Records.{arcs_more, walked_below, walked_record}
 use Rattle.shortest.specs.Weight.{heavy}
 use Rattle.shortest.specs.Relaxation.{weight, shorter, relax_arc, relax_arcs}
 use Rattle.shortest.specs.Columns.{row_from, relax_by, are_same}
@@ -93,6 +93,16 @@ pub relaxed_more : (r : PlanRecord) (ok : WellFormed (plan_value r)) (k : ℕ) �
     → new ≡ relax_arcs (map heavy (take (k + 1) (plan_value r).arcs)) row
 unfolding relax_arc
 relaxed_more r ok k l row {next} {new} w e f g = rw (arcs_more r ok k l, heavy_snoc, relax_arcs_snoc, ← e) (rw f at g)
+
+-- the same, where the first m records are gone over
+pub relaxed_walk : (r : PlanRecord) (ok : WellFormed (plan_value r)) (n : ℕ) → n ≡ r.m → (k : ℕ) → k < length (take n r.arcs)
+    → (row : List ℕ) {next new : List ℕ} (t h w : ℕ) → t ≡ (get_or (take n r.arcs) k zero_record).tail
+    → h ≡ (get_or (take n r.arcs) k zero_record).head → w ≡ weight (heavy (arc_value (get_or (take n r.arcs) k zero_record)))
+    → next ≡ relax_arcs (map heavy (take k (plan_value r).arcs)) row → new ≡ relax_by t h w next
+    → new ≡ relax_arcs (map heavy (take (k + 1) (plan_value r).arcs)) row
+relaxed_walk r ok n e k l row t h w p q s f g =
+    let a = walked_record r ok n e k l in
+    relaxed_more r ok k (walked_below r ok n e k l) row w f (rw a at s) (rw (p, q, a) at g)
 
 -- rows all of whose entries are the same
 same_rows : (a b : List ℕ) → ((x : ℕ) → x < 4096 → get_or a x 0 ≡ get_or b x 0) → (i : ℕ) → i < 64 → (v : ℕ) → v < 64

@@ -1,6 +1,6 @@
 -- Shut arcs. The tests of one window, one after the other; a must arc that is shut was found, or each arc was looked at; and records that
 -- hold the arcs of the plan at a departure stand for that plan.
-use Rattle.std.specs.Prelude.{◌≡◌, Bool, ◌&&◌, ◌≢◌, List, [], ℕ, ◌<◌, ◌≤◌, length, ltb}
+use Rattle.std.specs.Prelude.{◌≡◌, Bool, ◌&&◌, ◌≢◌, List, ℕ, ◌<◌, ◌≤◌, ltb}
 use Rattle.std.proofs.Math.Path.{refl, subst}
 use Rattle.std.proofs.Common.{sym, ap, ◌∙◌}
 use Rattle.std.proofs.Math.Bool.{true, false}
@@ -42,6 +42,8 @@ module _ (d : Departure) (k : ℕ) (w : Window) where
       unfolding shuts
       by_end h = let x = eq-eqb w.arc k arc in let y = eq-eqb w.weekday d.weekday day in let e = le-leb w.from d.minute h in
           rw (x, y, e) refl
+
+pub ruleset of_window = (other_arc, other_day, too_early, by_end)
 
 -- ---- one arc of the plan at a departure
 
