@@ -2,7 +2,7 @@
 // Steps for other crates, which ask something of their caller.
 #![tactic(auto)]
 
-ghost use Rattle.std.specs.Prelude.{◌≡◌, false, ◌++◌, ◌+◌, ◌/◌, ◌%◌, ◌≤◌, length, get_or, take};
+ghost use Rattle.std.specs.Prelude.{◌≡◌, false, ◌++◌, ◌+◌, ◌/◌, ◌%◌, ◌≤◌, length, get_or};
 ghost use Rattle.postman.specs.Lists.{select, below};
 ghost use Rattle.postman.specs.Plan.{Plan, WellFormed};
 ghost use Rattle.network.specs.Network.{IsNetwork};
@@ -19,15 +19,6 @@ pub struct Vertices {
     pub list: [u8; 64],
     pub count: usize,
     pub ghost fits: { count ≤ 64 },
-}
-
-impl Vertices {
-    // The vertices, ascending.
-    pub fn as_slice(&self) -> &[u8]
-        ensures { result.now ≡ take self.now.count self.now.list }
-    {
-        &self.list[..self.count]
-    }
 }
 
 // The vertices whose flag is set, ascending.

@@ -1,15 +1,10 @@
 -- Verdicts one after the other are conditions one after the other; and the refusals' numbers are 1 to 23.
-use Rattle.std.specs.Prelude.{◌≡◌, refl, Bool, true, false, cond, ℕ, ◌≤◌}
+use Rattle.std.specs.Prelude.{◌≡◌, Bool, true, false, cond, ℕ, ◌≤◌}
 use Rattle.std.proofs.Math.Option.{Option, none, some}
 use Rattle.std.proofs.Common.{arith}
 use Rattle.refusal.specs.declared.Refusal.{Refusal}
 use Rattle.refusal.specs.declared.Refusal.TheVariants.{Torn, Edition, Extent, Margin, OffSheet, Unpriced, Standing, ShortSheet, Budget, Idle, Scattered, CutOff, Repeated, Foreign, Unjoined, Missed, StrayPair, BadMarks, BadWindow, MustShut, NoMark, Full, Rounds}
-use Rattle.refusal.specs.Verdict.{refusal_number, or_else}
-
--- The condition, or else the next.
-pub or_else_cond : (b : Bool) (r : ℕ) (o : Option ℕ) → or_else (cond b (some r) none) o ≡ cond b (some r) o
-or_else_cond true r o = refl
-or_else_cond false r o = refl
+use Rattle.refusal.specs.Verdict.{refusal_number}
 
 -- The numbers are 1 to 23.
 pub some_number : (r : Refusal) → (1 ≤ refusal_number r) × (refusal_number r ≤ 23)

@@ -3,7 +3,7 @@
 #![tactic(auto)]
 
 ghost use Rattle.std.specs.Prelude.{◌≡◌};
-ghost use Rattle.refusal.specs.Verdict.{refusal_number, verdict_number, or_else};
+ghost use Rattle.refusal.specs.Verdict.{refusal_number};
 
 // "Numbers and their trade words."
 #[derive(Clone, Copy, Debug, PartialEq, Eq)]
@@ -70,10 +70,3 @@ impl From<Refusal> for u8 {
 
 // Nothing where all is well, or the first refusal that applies.
 pub type Verdict = Result<(), Refusal>;
-
-// The first refusal of two verdicts.
-pub fn first_refused(a: Verdict, b: Verdict) -> Verdict
-    ensures { verdict_number result ≡ or_else (verdict_number a) (verdict_number b) }
-{
-    a.and(b)
-}

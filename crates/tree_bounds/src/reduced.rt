@@ -6,12 +6,6 @@ ghost use Rattle.tree_bounds.specs.Reducible.{CanReduce, Spread, AreShifted};
 
 use crate::put::put;
 
-pub fn long(d: u32) -> u64
-    ensures { result ≡ d }
-{
-    u64::from(d)
-}
-
 // The reduced cost of the way from tail to head.
 pub fn reduced(d: &[[u32; 64]; 64], p: &[u64; 64], tail: u8, head: u8) -> u64
     requires { CanReduce d.now p.now tail head }

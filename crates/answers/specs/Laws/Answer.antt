@@ -83,12 +83,6 @@ module _ {A : Type 0} (new old : List A) (m : ℕ) where
   pub put_more : (z x : A) (lent : List A) (n i : ℕ) → x ≡ get_or new i z → IsPut lent n i → i < n → IsPut (set lent i x) n (i + 1)
   put_more z x lent n i e h l = subst⁻¹ (λ (x : A). IsPut (set lent i x) n (i + 1)) e (put_next z lent n i h l)
 
-  pub put_end : (lent : List A) (n i : ℕ) → IsPut lent n i → n ≤ i → lent ≡ put_first new old
-  put_end lent n i h l =
-      let t = h.turns in
-      let e : i ≡ n = omega arith in
-      h.content ∙ ap (paste old 0 new) (e ∙ h.count ∙ ap (at_most (length old)) (sym h.new_size))
-
 -- what was put can be read there
 pub put_at : {A : Type 0} (new old : List A) (z : A) (k : ℕ) → k < length old → k < length new
     → get_or (put_first new old) k z ≡ get_or new k z

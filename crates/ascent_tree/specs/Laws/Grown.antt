@@ -1,28 +1,9 @@
 -- The bodies of the loops that find the cheapest pairs and a cheapest tree.
-use Rattle.std.specs.Prelude.{◌≡◌, Bool, true, false, ◌&&◌, List, ℕ, ◌+◌, ◌*◌, ◌-◌, ◌/◌, ◌%◌, ◌^◌, get_or, set, ℤ, pos, ◌+ℤ◌, ◌-ℤ◌}
+use Rattle.std.specs.Prelude.{◌≡◌, Bool, true, false, ◌&&◌, List, ℕ, ◌+◌, ◌*◌, ◌-◌, ◌/◌, ◌%◌, ◌^◌, get_or, set, ℤ, pos}
 use Rattle.std.proofs.Common.{sym, ap₂, ◌∙◌, ne_eqb}
 use Rattle.std.proofs.lemmas.List.{set-get_or}
 use Rattle.std.specs.Int.Signed.{lt_z}
-use Rattle.multiplier_steps.specs.Steps.{capped}
-use Rattle.ascent_tree.specs.Offers.{part, is_cheaper, offer}
 use Rattle.ascent_tree.specs.Tree.{holds, joined, cheaper, cost_by, entry, enter, shifted, walk_back}
-use Rattle.pair_costs.specs.PairCosts.{cost_of}
-
--- a pair that is cheaper is noted; one that is not leaves all as it stands
-module _ (d : List (List ℕ)) (x : List ℤ) (component : List ℕ) (i : ℕ) (m : List ℤ) (at : List ℕ) (j : ℕ) {row pj : ℕ} {c : ℤ}
-    (er : row ≡ part component i * 8) (ej : pj ≡ part component j) (ec : c ≡ cost_of d x i j) where
-  place_is : row + pj ≡ part component i * 8 + part component j
-  place_is = ap₂ ◌+◌ er ej
-
-  test_is : lt_z c (get_or m (row + pj) (pos 0)) ≡ is_cheaper d x component (m, at) i j
-  test_is = ap₂ (λ (c : ℤ) (n : ℕ). lt_z c (get_or m n (pos 0))) ec place_is
-
-  pub offer_less : lt_z c (get_or m (row + pj) (pos 0)) ≡ true
-      → (set m (row + pj) c, set at (row + pj) (i * 64 + j)) ≡ offer d x component i (m, at) j
-  offer_less t = ap₂ (λ (c : ℤ) (n : ℕ). (set m n c, set at n (i * 64 + j))) ec place_is ∙ rw (sym test_is ∙ t)
-
-  pub offer_not : lt_z c (get_or m (row + pj) (pos 0)) ≡ false → (m, at) ≡ offer d x component i (m, at) j
-  offer_not t = rw (sym test_is ∙ t)
 
 -- a component that is in the set is not entered
 pub enter_in : (m : List ℤ) (s : ℕ) (cost : List ℤ) (from : List ℕ) (q : ℕ) → holds s q ≡ true → (cost, from) ≡ enter m s (cost, from) q
@@ -54,11 +35,6 @@ module _ (m : List ℤ) (s q p r : ℕ) where
 
   pub cheaper_old : undercut ≡ false → {n : ℕ} → n ≡ r → n ≡ cheaper m s q r p
   cheaper_old h e = rw h e
-
-pub shift_is : (x : List ℤ) (pair s : ℕ) {a b : ℤ} → a ≡ capped (get_or x (pair % 64) (pos 0)) +ℤ pos s
-    → b ≡ capped (get_or (set x (pair % 64) a) (pair / 64 % 64) (pos 0)) -ℤ pos s
-    → set (set x (pair % 64) a) (pair / 64 % 64) b ≡ shifted x pair s
-shift_is x pair s ea eb = rw (eb, ea)
 
 pub walk_end : (from at : List ℕ) (s : ℕ) (x : List ℤ) (t : ℕ) → t ≡ 0 → (x, 0) ≡ walk_back from at s (x, t)
 unfolding walk_back

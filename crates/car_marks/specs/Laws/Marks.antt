@@ -52,12 +52,6 @@ module _ (mark : ℕ) (a : Arc) where
 
 pub ruleset of_charge = (none_charged, plain_charged, service_charged)
 
-pub one_standing : (mark : ℕ) → mark ≡ 1 → ◌≡◌ {A = ℕ} 1 (cond (eqb mark 1) 1 0)
-one_standing mark o = let f = eq-eqb mark 1 o in rw f refl
-
-pub other_standing : (mark : ℕ) → mark ≢ 1 → ◌≡◌ {A = ℕ} 0 (cond (eqb mark 1) 1 0)
-other_standing mark o = let f = ne_eqb mark 1 o in rw f refl
-
 pub open_marked : (mark : ℕ) (a : ArcRecord) (s v : ℕ) → is_open (arc_value a) ≡ true → s ≡ cond (eqb mark 1) 1 0
     → v ≡ marked_service mark (arc_value a)
     → ◌≡◌ {A = ArcRecord} (record { tail = a.tail; head = a.head; standing = s; cost = a.cost; service = v })

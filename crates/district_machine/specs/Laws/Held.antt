@@ -78,10 +78,6 @@ line_length line n long = length-map (take n line) district_of ∙ length-take n
 pub room : (line : List DistrictRecord) (n : ℕ) → length line ≡ 8 → n < 8 → length (districts_in line n) < 8
 room line n long few = let size = line_length line n long in omega arith
 
--- an array's length is told of the list of its elements' fields
-pub array_length : {B : Type 0} (f : DistrictRecord → B) (line : List DistrictRecord) (n : ℕ) → length (map f line) ≡ n → length line ≡ n
-array_length f line n e = sym (length-map line f) ∙ e
-
 -- ---- the front one
 
 pub front : {A : Type 0} (line : List A) (n : ℕ) (z : A) → 1 ≤ n → 1 ≤ length line → take n line ≡ get_or line 0 z ∷ drop 1 (take n line)

@@ -3,8 +3,8 @@ use Rattle.std.proofs.lemmas.Result.{err_from_is_err_and}
 use Rattle.std.specs.Prelude.{◌≡◌, Result, Ok, Err, IsErrAnd, ℕ, zero, suc, ◌+◌, ◌-◌, ◌≤◌, take, replicate}
 use Rattle.std.proofs.Math.Path.{sym, ap}
 use Rattle.std.proofs.Common.{◌∙◌, arith, length-append, length-drop, length-take-le}
-use mathlib.Core.List.{List, [], ◌++◌, append-nil}
-use Rattle.std.proofs.Math.Option.{Option, none, some, some-ne-none}
+use mathlib.Core.List.{List, ◌++◌, append-nil}
+use Rattle.std.proofs.Math.Option.{Option, none, some}
 use Rattle.std.proofs.Math.ListN.{length, drop}
 use Rattle.std.proofs.lemmas.List.{length-replicate}
 use Rattle.std.proofs.Math.Seq.{take-append_seam}
@@ -17,8 +17,6 @@ use Rattle.postman_laws.specs.Laws.FileLength.{file_length_le}
 use Rattle.postman_laws.specs.Laws.Acceptance.{accepted_is_file}
 use Rattle.postman_laws.specs.Laws.PlanFile.{length_file_of}
 use Rattle.plan_writer.specs.Laws.Writing.{length_given, given_bytes}
-use Rattle.record_writer.specs.Writing.{at_most}
-use Rattle.record_writer.specs.Laws.Writing.{at_most_le, take_at_most}
 use Rattle.encoding.specs.Laws.NumberBytes.{IsAt, bytes_back}
 use Rattle.refusal.specs.declared.Refusal.{Refusal}
 use Rattle.held_file.specs.declared.Held.{Held}
@@ -35,11 +33,6 @@ behind (suc n) zero = ap (λ (k : ℕ). replicate k 0) (let e : 0 ≡ 0 - suc n 
 behind (suc n) (suc m) = behind n m ∙ ap (λ (k : ℕ). replicate k 0) (let e : m - n ≡ suc m - suc n = omega arith in e)
 
 -- ---- what is held
-
--- A refusal holds no file, whatever file there would have been.
-pub refused_held : (o : Option ℕ) (q : ℕ) (file : List ℕ) (w : Result Held Refusal) → o ≡ some q → IsHeld (some q) [] w → IsHeld o file w
-refused_held o q file (Ok x) e h = absurd (some-ne-none q (sym h.verdict))
-refused_held o q file (Err r) e h = record { verdict = h.verdict ∙ sym e; held = tt }
 
 -- What refuses is an answer.
 pub refusal_held : (o : Option ℕ) (r : Refusal) (file : List ℕ) → o ≡ some (refusal_number r) → IsHeld o file (Err r)
@@ -89,13 +82,6 @@ held_size file h =
     let a = length-append file (replicate (longest_file - length file) 0) in
     let z = length-replicate {A = ℕ} (longest_file - length file) 0 in
     (omega arith, h)
-
--- Its bytes, as many as its length says or all of them, are the file.
-pub held_part : (h : Held) (n : ℕ) → length h.file ≡ longest_file → n ≡ at_most h.length longest_file
-    → (n ≤ length h.file) × (take n h.file ≡ file_in h)
-held_part h n long e =
-    let l = at_most_le h.length longest_file in
-    (omega arith, ap (λ (k : ℕ). take k h.file) e ∙ take_at_most h.file h.length longest_file long)
 
 -- ---- where it is lent
 

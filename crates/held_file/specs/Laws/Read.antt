@@ -15,7 +15,7 @@ use Rattle.refusal.specs.Verdict.{refusal_number}
 use Rattle.held_file.specs.declared.Held.{Held}
 use Rattle.held_file.specs.Held.{IsHeld}
 use Rattle.held_file.specs.Change.{changed_file, file_change_refusal}
-use Rattle.held_file.specs.Laws.Held.{refusal_held, stopped_held}
+use Rattle.held_file.specs.Laws.Held.{stopped_held}
 use Rattle.held_file.specs.Laws.Change.{unread, read_on, changed_file_lem}
 
 -- A plan that was read has at most 256 arcs.
@@ -25,9 +25,6 @@ few_records bytes r i =
     record_arcs r.plan (subst WellFormed (sym (accepted_value bytes (Ok r) i e)) (file_accepted bytes e))
 
 module _ (bytes : List ℕ) (c : Change) where
-  pub change_unread : (q : Refusal) → IsReading bytes (Err q) → IsHeld (file_change_refusal bytes c) (changed_file bytes c) (Err q)
-  change_unread q i = refusal_held _ q _ (unread bytes c (refusal_number q) (sym i.verdict))
-
   pub stopped_unread : (q : Refusal) (w : Result Held Refusal) → IsReading bytes (Err q) → IsErrAnd w (λ s. s ≡ q)
       → IsHeld (file_change_refusal bytes c) (changed_file bytes c) w
   stopped_unread q w i h = stopped_held _ q _ w h (unread bytes c (refusal_number q) (sym i.verdict))

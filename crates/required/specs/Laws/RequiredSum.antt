@@ -154,10 +154,6 @@ module _ (f : Arc → ℕ) (r : PlanRecord) (ok : WellFormed (plan_value r)) {m 
     ];
   }
 
-  -- so that the sum is small
-  pub degrees_small : (get_or counts e 0 ≤ k) × (k < r.m)
-  degrees_small = let a = h.all in let b = (h.each e low).bounded in (omega arith, omega arith)
-
 -- D(v) is the number of required arcs into v, less the number of those out of v
 pub imbalance_degrees : (p : Plan) (v : ℕ)
     → pos (occurrences v (map (end_of true) (required_arcs p))) -ℤ pos (occurrences v (map (end_of false) (required_arcs p))) ≡ imbalance
