@@ -1,16 +1,16 @@
 // An answer, handed over to a caller in another language.
-ghost use Rattle.std.specs.Prelude.{◌≡◌};
+ghost use Rattle.std.specs.Prelude.{◌≡◌, Ok};
 ghost use Rattle.answers.specs.Answer.{words_of, put_first, IsHandedOver};
 
 use crate::number::refused_number;
 use record_writer::writer::at_most;
-use refusal::Verdict;
+use refusal::Refusal;
 use solution::Planned;
 
 // The words of an answer: places, cost, floor, trees, whole as 0 or 1, parts. The floor of a plan
 // call's answer is at least 0, since R + Z is.
 pub fn words(r: Planned) -> [u64; 6]
-    ensures { result ≡ words_of r }
+    ensures { result ≡ words_of (Ok r) }
 {
     let floor = integers::magnitude(r.floor);
     [
@@ -44,17 +44,15 @@ pub fn put_multipliers(u: [i64; 64], lent: &mut [i64])
 }
 
 // An answer that is no refusal goes into the lent slices.
-pub fn hand_over(r: Planned, words_lent: &mut [u64], u_lent: &mut [i64]) -> i64
+pub fn hand_over(r: Result<Planned, Refusal>, words_lent: &mut [u64], u_lent: &mut [i64]) -> i64
     ensures { IsHandedOver r words_lent.old words_lent.new u_lent.old u_lent.new result }
 {
-    let verdict = r.verdict;
-    match verdict {
-        Verdict::Accepted => {
-            put_words(words(r), words_lent);
-            let u = r.multipliers;
-            put_multipliers(u, u_lent);
+    match r {
+        Ok(planned) => {
+            put_words(words(planned), words_lent);
+            put_multipliers(planned.multipliers, u_lent);
             0
         }
-        Verdict::Refused(q) => refused_number(q),
+        Err(q) => refused_number(q),
     }
 }

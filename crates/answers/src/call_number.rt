@@ -7,18 +7,19 @@ ghost use Rattle.distances.specs.Answer.{searched_answer};
 ghost use Rattle.judge.specs.Contract.{judged_answer};
 
 use crate::number::refused_number;
-use count_call::Counted;
+use count_call::Count;
 use distances::Searched;
 use judge::Judged;
+use refusal::Refusal;
 
 // The number, 4,294,967,296 for one above 4,294,967,295, or minus the refusal's.
-pub fn count_number(c: Counted) -> i64
+pub fn count_number(c: Result<Count, Refusal>) -> i64
     ensures { result ≡ one_number (count_of (count_answer c)) }
 {
     match c {
-        Counted::Known(n) => n as i64,
-        Counted::Above => 4_294_967_296,
-        Counted::Refused(r) => refused_number(r),
+        Ok(Count::Known(n)) => i64::from(n),
+        Ok(Count::Above) => 4_294_967_296,
+        Err(r) => refused_number(r),
     }
 }
 
@@ -27,8 +28,8 @@ pub fn searched_number(s: Searched) -> i64
     ensures { result ≡ one_number (searched_answer s) }
 {
     match s {
-        Searched::Searches(k) => k as i64,
-        Searched::Refused(q) => refused_number(q),
+        Ok(k) => i64::from(k),
+        Err(q) => refused_number(q),
     }
 }
 
@@ -37,7 +38,7 @@ pub fn judged_number(j: Judged) -> i64
     ensures { result ≡ one_number (judged_answer j) }
 {
     match j {
-        Judged::Cost(c) => c as i64,
-        Judged::Refused(q) => refused_number(q),
+        Ok(c) => i64::from(c),
+        Err(q) => refused_number(q),
     }
 }

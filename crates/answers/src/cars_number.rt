@@ -4,7 +4,7 @@ ghost use Rattle.refusal.specs.Verdict.{verdict_number};
 ghost use Rattle.answers.specs.CarsNumber.{reaches_both, own_number, cars_number};
 
 use crate::number::refused_number;
-use refusal::{Verdict, refusal_number};
+use refusal::Refusal;
 
 // "Only 1 to 7 and 13 reach both."
 fn reaches_both(k: u8) -> bool
@@ -14,12 +14,12 @@ fn reaches_both(k: u8) -> bool
 }
 
 // A car's own refusal, or 0.
-fn own_number(v: Verdict) -> u8
-    ensures { result ≡ own_number (verdict_number v) }
+fn own_number<T: Copy>(car: Result<T, Refusal>) -> u8
+    ensures { result ≡ own_number (verdict_number car) }
 {
-    match v {
-        Verdict::Accepted => 0,
-        Verdict::Refused(r) => refusal_number(r),
+    match car {
+        Ok(_) => 0,
+        Err(r) => u8::from(r),
     }
 }
 
@@ -27,23 +27,17 @@ fn own_number(v: Verdict) -> u8
 fn pair_number(a: u8, b: u8) -> i64
     ensures { result ≡ pos (256 * a + b) }
 {
-    let n = 256 * (a as u64) + b as u64;
-    n as i64
+    256 * i64::from(a) + i64::from(b)
 }
 
 // One number for both cars.
-pub fn cars_number(first: Verdict, second: Verdict) -> i64
+pub fn cars_number<T: Copy>(first: Result<T, Refusal>, second: Result<T, Refusal>) -> i64
     ensures { result ≡ cars_number (verdict_number first) (verdict_number second) }
 {
     let b = own_number(second);
     match first {
-        Verdict::Accepted => b as i64,
-        Verdict::Refused(r) => {
-            let a = refusal_number(r);
-            if reaches_both(a) {
-                return refused_number(r);
-            }
-            pair_number(a, b)
-        }
+        Ok(_) => i64::from(b),
+        Err(r) if reaches_both(u8::from(r)) => refused_number(r),
+        Err(r) => pair_number(u8::from(r), b),
     }
 }

@@ -17,11 +17,8 @@ pub fn read_number(r: Read) -> i64
     ensures { result ≡ one_number (packed (read_numbers r)) }
 {
     match r {
-        Read::Given(edition, n, m) => {
-            let all = edition as u32 * 65_536 + n as u32 * 512 + m as u32;
-            all as i64
-        }
-        Read::Refused(q) => refused_number(q),
+        Ok(h) => i64::from(h.edition) * 65_536 + i64::from(h.n) * 512 + i64::from(h.m),
+        Err(q) => refused_number(q),
     }
 }
 
@@ -31,8 +28,8 @@ pub fn written_number(w: Written) -> i64
     ensures { result ≡ one_number (written_answer w) }
 {
     match w {
-        Written::Length(k) => k as i64,
-        Written::Refused(q) => refused_number(q),
+        Ok(k) => k as i64,
+        Err(q) => refused_number(q),
     }
 }
 

@@ -12,14 +12,12 @@ pub fn single(i: usize) -> u64
 }
 
 // s with component i, where the set m of its sources meets s.
+#[tactic(auto, unfolding(crate::specs::Reach::enter))]
 fn entered(m: u64, i: usize, s: u64) -> u64
     requires { i < 64 }
     ensures { result ≡ enter m i s }
 {
-    if s & m == 0 {
-        return s;
-    }
-    s | single(i)
+    if s & m == 0 { s } else { s | single(i) }
 }
 
 // One try for each component but 0.
@@ -42,7 +40,7 @@ pub fn all_reached(sets: &[u64; 8], k: usize) -> bool
 {
     let all = single(k) - 1;
     let mut r = 1;
-    for j in 0..k {
+    for _ in 0..k {
         let s = swept(sets, k, r);
         if s == all {
             return true;

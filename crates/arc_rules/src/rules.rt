@@ -9,75 +9,51 @@ ghost use Rattle.plan.specs.Records.{arc_value};
 ghost use Rattle.arc_rules.specs.Fields.{mispriced, field_conditions};
 
 use plan::{Arc, Standing};
-use refusal::{Refusal, Verdict, first_refused};
+use refusal::{Refusal, Verdict};
 
 // Whether x is below `low` or above `high`.
 pub fn is_outside(x: u32, low: u32, high: u32) -> bool
     ensures { result ≡ is_outside x low high }
 {
-    if x < low {
-        return true;
-    }
-    high < x
+    x < low || high < x
 }
 
 // 5 off sheet: "tail or head is n or more"
 fn ends_verdict(n: u32, tail: u32, head: u32) -> Verdict
     ensures { verdict_number result ≡ cond (leb n tail || leb n head) (some 5) none }
 {
-    if n <= tail {
-        return Verdict::Refused(Refusal::OffSheet);
+    if n <= tail || n <= head {
+        return Err(Refusal::OffSheet);
     }
-    if n <= head {
-        return Verdict::Refused(Refusal::OffSheet);
-    }
-    Verdict::Accepted
+    Ok(())
 }
 
 // Whether an arc of that standing must be driven.
 pub fn is_must(standing: Standing) -> bool
     ensures { result ≡ is_must_standing standing }
 {
-    match standing {
-        Standing::May => false,
-        Standing::Must => true,
-        Standing::Closed => false,
-        Standing::Refused => false,
-    }
+    standing == Standing::Must
 }
 
 // "In edition 1 a must arc's checking cost is its cost, any other arc's is 0."
 pub fn implied_service(must: bool, cost: u32) -> u32
     ensures { result ≡ cond must cost 0 }
 {
-    if must {
-        return cost;
-    }
-    0
+    if must { cost } else { 0 }
 }
 
 // Whether the checking cost is 0 in a must arc, or not 0 in another.
 fn is_unfit(must: bool, service: u32) -> bool
     ensures { result ≡ cond must (eqb service 0) (not (eqb service 0)) }
 {
-    if must {
-        return service == 0;
-    }
-    service != 0
+    if must { service == 0 } else { service != 0 }
 }
 
 // Whether the checking cost is wrong: unfit, or in edition 1 another than the implied one.
 fn is_mispriced(edition: u8, must: bool, cost: u32, service: u32) -> bool
     ensures { result ≡ mispriced edition must cost service }
 {
-    if is_unfit(must, service) {
-        return true;
-    }
-    if edition == 2 {
-        return false;
-    }
-    let implied = implied_service(must, cost);
-    service != implied
+    is_unfit(must, service) || edition != 2 && service != implied_service(must, cost)
 }
 
 // 6 unpriced: a wrong checking cost. A plain cost of 0 is good.
@@ -85,25 +61,23 @@ fn price_verdict(edition: u8, must: bool, cost: u32, service: u32) -> Verdict
     ensures { verdict_number result ≡ cond (mispriced edition must cost service) (some 6) none }
 {
     if is_mispriced(edition, must, cost, service) {
-        return Verdict::Refused(Refusal::Unpriced);
+        return Err(Refusal::Unpriced);
     }
-    Verdict::Accepted
+    Ok(())
 }
 
 // 7 standing: "standing above 2"
 fn standing_verdict(standing: Standing) -> Verdict
     ensures { verdict_number result ≡ cond (is_refused_standing standing) (some 7) none }
 {
-    match standing {
-        Standing::May => Verdict::Accepted,
-        Standing::Must => Verdict::Accepted,
-        Standing::Closed => Verdict::Accepted,
-        Standing::Refused => Verdict::Refused(Refusal::Standing),
+    if standing == Standing::Refused {
+        return Err(Refusal::Standing);
     }
+    Ok(())
 }
 
 // The fields of an arc.
-#[derive(Clone, Copy)]
+#[derive(Clone, Copy, Debug, PartialEq, Eq)]
 pub struct Fields {
     pub tail: u32,
     pub head: u32,
@@ -116,11 +90,9 @@ pub struct Fields {
 fn arc_verdict(edition: u8, n: u32, f: Fields, standing: Standing) -> Verdict
     ensures { verdict_number result ≡ first_refusal (field_conditions edition n f standing) }
 {
-    let ends = ends_verdict(n, f.tail, f.head);
-    let must = is_must(standing);
-    let price = price_verdict(edition, must, f.cost, f.service);
-    let kind = standing_verdict(standing);
-    first_refused(ends, first_refused(price, kind))
+    ends_verdict(n, f.tail, f.head)?;
+    price_verdict(edition, is_must(standing), f.cost, f.service)?;
+    standing_verdict(standing)
 }
 
 // The first refusal of a record.

@@ -19,16 +19,10 @@ fn records_verdict(edition: u8, n: u8, m: usize, arcs: [Arc; 256]) -> Verdict
     requires { m ≤ 256 }
     ensures { verdict_number result ≡ first_refusal (flat_map (arc_conditions edition n) (map (record_at arcs) (below m))) }
 {
-    for k in 0..m {
-        let a = arcs[k];
-        match record_verdict(edition, n, a) {
-            Verdict::Accepted => {}
-            Verdict::Refused(r) => {
-                return Verdict::Refused(r);
-            }
-        }
+    for a in &arcs[..m] {
+        record_verdict(edition, n, *a)?;
     }
-    Verdict::Accepted
+    Ok(())
 }
 
 // The first refusal of the records: one by one, then of all together.
@@ -36,8 +30,6 @@ pub fn all_records_verdict(edition: u8, n: u8, m: usize, arcs: [Arc; 256]) -> Ve
     requires { m ≤ 256 }
     ensures { verdict_number result ≡ first_refusal (plan_conditions edition (plan_from n (record_at arcs) m)) }
 {
-    match records_verdict(edition, n, m, arcs) {
-        Verdict::Accepted => repeated_verdict(arcs, m),
-        Verdict::Refused(r) => Verdict::Refused(r),
-    }
+    records_verdict(edition, n, m, arcs)?;
+    repeated_verdict(arcs, m)
 }

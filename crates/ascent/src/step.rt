@@ -8,12 +8,11 @@ ghost use Rattle.multiplier_steps.specs.Steps.{AreSmall};
 ghost use Rattle.ascent.specs.Step.{are_unmoved, step as step_from};
 ghost use Rattle.ascent.specs.Records.{step_of};
 
-use crate::relax::settle;
+use crate::relax::Pairs;
+use arborescence::reach::single;
 use ascent_tree::offers::offers;
-use ascent_tree::tree::{bit, follow, grow};
-use integers::wide;
+use ascent_tree::tree::{follow, grow};
 use multiplier_steps::steps::carry_on;
-use residual_search::entries::vertex;
 
 // The multipliers after a step, the cost of the tree at those before it, and whether that tree is balanced.
 #[derive(Clone, Copy)]
@@ -23,16 +22,11 @@ pub struct Stepped {
     pub balanced: bool,
 }
 
-// Whether b, and two multipliers are the same.
-fn both(b: bool, x: i64, y: i64) -> bool
-    ensures { result ≡ (b && (le_z x y && le_z y x)) }
+// Whether two multipliers are the same.
+fn alike(x: i64, y: i64) -> bool
+    ensures { result ≡ (le_z x y && le_z y x) }
 {
-    if b {
-        if x <= y {
-            return y <= x;
-        }
-    }
-    false
+    x == y
 }
 
 // Whether two lists of multipliers are the same.
@@ -40,21 +34,15 @@ fn same(vs: &[u8], x: &[i64; 64], y: &[i64; 64]) -> bool
     requires { AtMost 63 vs.now }
     ensures { result ≡ are_unmoved vs.now x.now y.now }
 {
-    let mut b = true;
-    let mut a: usize = 0;
-    while a < vs.len() {
-        let v = wide(vertex(vs, a));
-        b = both(b, x[v], y[v]);
-        a += 1;
-    }
-    b
+    vs.iter()
+        .all(|&v| alike(x[usize::from(v)], y[usize::from(v)]))
 }
 
 // One step of length s, brought back from above, or from below where `up`.
-pub fn step(
-    d: &[[u32; 64]; 64],
-    f: &[u16; 4096],
-    vs: &[u8],
+pub fn step<'a>(
+    d: &'a [[u32; 64]; 64],
+    f: &'a [u16; 4096],
+    vs: &'a [u8],
     component: &[u8; 64],
     k: usize,
     up: bool,
@@ -67,18 +55,15 @@ pub fn step(
         before.now }
 {
     let o = offers(d, x, component, vs);
-    let costs = o.costs;
-    let pairs = o.pairs;
-    let n = bit(k - 1) as usize;
-    let t = grow(&costs, n);
-    let from = t.from;
-    let all = t.cost;
-    let y = follow(&from, &pairs, s, x, n - 1);
-    let b = same(vs, &y, x);
+    let n = single(k - 1) as usize;
+    let t = grow(&o.costs, n);
+    let y = follow(&t.from, &o.pairs, s, x, n - 1);
+    let balanced = same(vs, &y, x);
     let z = carry_on(y, x, before, vs);
+    let pairs = Pairs { d, f, vs, up };
     Stepped {
-        multipliers: settle(d, f, up, vs, z),
-        value: all[n - 1],
-        balanced: b,
+        multipliers: pairs.settle(z),
+        value: t.cost[n - 1],
+        balanced,
     }
 }

@@ -6,16 +6,14 @@ ghost use Rattle.residual_search.specs.Search.{beyond};
 ghost use Rattle.multiplier_steps.specs.Steps.{AreSmall};
 ghost use Rattle.ascent_tree.specs.Offers.{part, offer, offers_from, offers as offersOf};
 
-use integers::wide;
 use pair_costs::pairs::reduced;
-use residual_search::entries::vertex;
 
 // The component of a vertex.
 fn part_of(component: &[u8; 64], v: usize) -> usize
     requires { v < 64 }
     ensures { (result ≡ part component.now v) × (result < 8) }
 {
-    wide(component[v] % 8)
+    usize::from(component[v] % 8)
 }
 
 // The pair from i to j is offered. What is the tail's, its component's row and its multiplier, is looked up once for all pairs from it.
@@ -43,6 +41,7 @@ fn offer_pair(
 }
 
 // All pairs from i are offered.
+#[tactic(auto, using(multiplier_steps::specs::Laws::Turns::turn_by_turn), unfolding(crate::specs::Offers::offers_from))]
 fn offer_from(
     d: &[[u32; 64]; 64],
     x: &[i64; 64],
@@ -58,11 +57,8 @@ fn offer_from(
 {
     let row = part_of(component, i) * 8;
     let xi = x[i];
-    let mut b: usize = 0;
-    while b < vs.len() {
-        let j = wide(vertex(vs, b));
-        offer_pair(d, x, component, i, row, xi, j, m, at);
-        b += 1;
+    for &v in vs {
+        offer_pair(d, x, component, i, row, xi, usize::from(v), m, at);
     }
 }
 
@@ -74,17 +70,15 @@ pub struct Cheapest {
 }
 
 // All pairs are offered.
+#[tactic(auto, using(multiplier_steps::specs::Laws::Turns::turn_by_turn), unfolding(crate::specs::Offers::offers))]
 pub fn offers(d: &[[u32; 64]; 64], x: &[i64; 64], component: &[u8; 64], vs: &[u8]) -> Cheapest
     requires { AtMost 63 vs.now × AreSmall beyond x.now }
     ensures { (result.costs, result.pairs) ≡ offersOf d.now x.now component.now vs.now }
 {
     let mut m: [i64; 64] = [1099511627776; 64];
     let mut at: [u16; 64] = [0; 64];
-    let mut a: usize = 0;
-    while a < vs.len() {
-        let i = wide(vertex(vs, a));
-        offer_from(d, x, component, vs, i, &mut m, &mut at);
-        a += 1;
+    for &v in vs {
+        offer_from(d, x, component, vs, usize::from(v), &mut m, &mut at);
     }
     Cheapest {
         costs: m,

@@ -4,27 +4,17 @@ ghost use Rattle.std.specs.Prelude.{◌≡◌, cond, ◌&&◌, ◌^◌, ◌<◌,
 ghost use Rattle.std.specs.Int.Signed.{lt_z};
 ghost use Rattle.residual_search.specs.Search.{beyond};
 ghost use Rattle.multiplier_steps.specs.Steps.{capped as cappedTo};
-ghost use Rattle.ascent_tree.specs.Tree.{holds, entry as entry_of, is_better, enter as enterBy, extend as extendBy, grown, shifted, walk_back, along};
+ghost use Rattle.ascent_tree.specs.Tree.{holds, entry as entry_of, joined, enter as enterBy, extend as extendBy, grown, shifted, walk_back, along};
 
 use arborescence::reach::single;
-use integers::wide;
 use multiplier_steps::steps::capped;
-use residual_search::entries::monus;
-
-// The set of component q alone.
-pub fn bit(q: usize) -> u64
-    requires { q < 8 }
-    ensures { (result ≡ 2 ^ q) × (1 ≤ result) × (result ≤ 128) }
-{
-    single(q)
-}
 
 // Whether component q is in the set s.
 fn is_in(s: u64, q: usize) -> bool
     requires { q < 8 }
     ensures { result ≡ holds s q }
 {
-    s & bit(q) != 0
+    s & single(q) != 0
 }
 
 // Whether component p is in the set s, and its offer is below the lowest so far.
@@ -32,16 +22,7 @@ fn undercuts(s: u64, p: usize, c: i64, low: i64) -> bool
     requires { p < 8 }
     ensures { result ≡ (holds s p && lt_z c low) }
 {
-    if is_in(s, p) {
-        return c < low;
-    }
-    false
-}
-
-fn pick_component(b: bool, new: usize, old: usize) -> usize
-    ensures { result ≡ cond b new old }
-{
-    if b { new } else { old }
+    is_in(s, p) && c < low
 }
 
 // Where q is entered from, out of the set s. The lowest offer is held beside the component that makes it.
@@ -53,34 +34,20 @@ fn entry(m: &[i64; 64], s: u64, q: usize) -> usize
     let mut low = m[q];
     for p in 0..8usize {
         let c = m[p * 8 + q];
-        let b = undercuts(s, p, c, low);
-        low = pick(b, c, low);
-        r = pick_component(b, p, r);
+        if undercuts(s, p, c, low) {
+            low = c;
+            r = p;
+        }
     }
     r
 }
 
-// Whether to enter q from the set s at cost c is better.
-fn better(s: u64, q: usize, c: i64, old: i64) -> bool
-    requires { q < 8 }
-    ensures { result ≡ is_better s q c old }
+// The set s with component q, by its place.
+fn place_with(s: u64, q: usize) -> usize
+    requires { (s < 256) × (q < 8) }
+    ensures { (result ≡ joined s q) × (result < 256) }
 {
-    if is_in(s, q) {
-        return false;
-    }
-    c < old
-}
-
-fn pick(b: bool, new: i64, old: i64) -> i64
-    ensures { result ≡ cond b new old }
-{
-    if b { new } else { old }
-}
-
-fn pick_entry(b: bool, new: u8, old: u8) -> u8
-    ensures { result ≡ cond b new old }
-{
-    if b { new } else { old }
+    ((s + single(q)) / 2) as usize
 }
 
 // The sum of two costs.
@@ -95,24 +62,16 @@ fn enter(m: &[i64; 64], s: u64, q: usize, cost: &mut [i64; 256], from: &mut [u8;
     requires { (s < 256) × (q < 8) }
     ensures { (cost.new, from.new) ≡ enterBy m.now s (cost.old, from.old) q }
 {
+    if is_in(s, q) {
+        return;
+    }
     let p = entry(m, s, q);
     let here = (s / 2) as usize;
-    let there = ((s + bit(q)) / 2) as usize;
+    let there = place_with(s, q);
     let c = sum(cost[here], m[p * 8 + q]);
-    let old = cost[there];
-    let b = better(s, q, c, old);
-    let e = pick_entry(b, (p * 8 + q) as u8, from[there]);
-    cost[there] = pick(b, c, old);
-    from[there] = e;
-}
-
-// The same: for a component that is in the set nothing is looked up.
-fn enter_new(m: &[i64; 64], s: u64, q: usize, cost: &mut [i64; 256], from: &mut [u8; 256])
-    requires { (s < 256) × (q < 8) }
-    ensures { (cost.new, from.new) ≡ enterBy m.now s (cost.old, from.old) q }
-{
-    if !is_in(s, q) {
-        enter(m, s, q, cost, from);
+    if c < cost[there] {
+        cost[there] = c;
+        from[there] = (p * 8 + q) as u8;
     }
 }
 
@@ -122,8 +81,8 @@ fn extend(m: &[i64; 64], i: usize, cost: &mut [i64; 256], from: &mut [u8; 256])
     ensures { (cost.new, from.new) ≡ extendBy m.now (cost.old, from.old) i }
 {
     let s = (2 * i + 1) as u64;
-    for a in 0..7usize {
-        enter_new(m, s, a + 1, cost, from);
+    for q in 1..8 {
+        enter(m, s, q, cost, from);
     }
 }
 
@@ -139,16 +98,13 @@ pub fn grow(m: &[i64; 64], n: usize) -> Sets
     requires { n ≤ 128 }
     ensures { (result.cost, result.from) ≡ grown m.now n }
 {
-    let mut cost: [i64; 256] = [1099511627776; 256];
+    let mut cost: [i64; 256] = [1_099_511_627_776; 256];
     let mut from: [u8; 256] = [0; 256];
     cost[0] = 0;
     for i in 0..n {
         extend(m, i, &mut cost, &mut from);
     }
-    Sets {
-        cost: cost,
-        from: from,
-    }
+    Sets { cost, from }
 }
 
 // A multiplier that rises by s.
@@ -172,8 +128,8 @@ fn shift(x: &mut [i64; 64], pair: u16, s: u64)
     requires { s ≤ beyond }
     ensures { x.new ≡ shifted x.old pair s }
 {
-    let head = (pair % 64) as usize;
-    let tail = (pair / 64 % 64) as usize;
+    let head = usize::from(pair % 64);
+    let tail = usize::from(pair / 64 % 64);
     x[head] = rise(x[head], s);
     x[tail] = fall(x[tail], s);
 }
@@ -186,10 +142,9 @@ fn walk_back(from: &[u8; 256], at: &[u16; 64], s: u64, x: &mut [i64; 64], t: usi
     if t == 0 {
         return 0;
     }
-    let e = wide(from[t]);
+    let e = usize::from(from[t]);
     shift(x, at[e % 64], s);
-    let half = bit(e % 8) / 2;
-    monus(t as u64, half) as usize
+    t.saturating_sub(single(e % 8) as usize / 2)
 }
 
 // The multipliers after the links of the tree that reaches the set at place t.
@@ -199,7 +154,7 @@ pub fn follow(from: &[u8; 256], at: &[u16; 64], s: u64, x: &[i64; 64], t: usize)
 {
     let mut y = *x;
     let mut left = t;
-    for a in 0..7usize {
+    for _ in 0..7usize {
         left = walk_back(from, at, s, &mut y, left);
     }
     y

@@ -1,33 +1,21 @@
 // One unit more along a path, and the potentials raised.
-ghost use Rattle.std.specs.Prelude.{◌≡◌, ◌⊎◌, ◌+◌, ◌<◌, ◌≤◌};
+ghost use Rattle.std.specs.Prelude.{◌≡◌, ◌<◌, ◌≤◌};
+ghost use Rattle.postman.specs.Steps.{amount};
 ghost use Rattle.residual_search.specs.Bounds.{AtMost};
 ghost use Rattle.residual_search.specs.Search.{beyond};
-ghost use Rattle.residual_search.specs.Step.{place, moved, augment, raise};
+ghost use Rattle.residual_search.specs.Step.{push, augment, raise};
 ghost use Rattle.balance.specs.Invariant.{limit};
 
-use integers::wide;
-use residual_search::entries::{following, lesser, level, vertex};
-
-// Where a unit more from v to w is counted.
-fn place_of(back: u16, v: usize, w: usize) -> usize
-    requires { (v < 64) × (w < 64) }
-    ensures { (result ≡ place back v w) × (result < 4096) }
+// One unit more from v to w: one less of what is sent from w to v, where something is.
+fn push(g: &mut [u16; 4096], v: usize, w: usize)
+    requires { (v < 64) × (w < 64) × (amount g.old v w < 65535) }
+    ensures { g.new ≡ push g.old v w }
 {
-    if back > 0 {
-        return w * 64 + v;
+    if g[w * 64 + v] > 0 {
+        g[w * 64 + v] -= 1;
+    } else {
+        g[v * 64 + w] += 1;
     }
-    v * 64 + w
-}
-
-// What is counted there then.
-fn moved_by(back: u16, ahead: u16) -> u16
-    requires { ahead < 65535 }
-    ensures { (result ≡ moved back ahead) × ((result ≤ back) ⊎ (result ≡ ahead + 1)) }
-{
-    if back > 0 {
-        return back - 1;
-    }
-    ahead + 1
 }
 
 // One unit more along the way from h to t.
@@ -36,20 +24,13 @@ pub(crate) fn augment_along(g: &mut [u16; 4096], next: &[u8; 64], h: u8, t: u8)
     ensures { g.new ≡ augment next.now t 64 g.old h }
 {
     let mut v = h;
-    let mut k: usize = 0;
-    while k < 64 {
+    for _ in 0..64u8 {
         if v == t {
             return;
         }
-        let i = wide(v);
-        let w = following(next, i);
-        let j = wide(w);
-        let back = g[j * 64 + i];
-        let ahead = g[i * 64 + j];
-        let at = place_of(back, i, j);
-        g[at] = moved_by(back, ahead);
+        let w = next[usize::from(v)];
+        push(g, usize::from(v), usize::from(w));
         v = w;
-        k += 1;
     }
 }
 
@@ -59,11 +40,9 @@ pub(crate) fn raise_by(x: &[u64; 64], most: u64, u: &[u64; 64], vs: &[u8]) -> [u
     ensures { result ≡ raise x.now most u.now vs.now }
 {
     let mut raised = *u;
-    let mut a: usize = 0;
-    while a < vs.len() {
-        let v = wide(vertex(vs, a));
-        raised[v] = level(u, v) + lesser(x[v], most);
-        a += 1;
+    for &v in vs {
+        let i = usize::from(v);
+        raised[i] = u[i] + x[i].min(most);
     }
     raised
 }

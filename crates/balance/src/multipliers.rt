@@ -10,8 +10,8 @@ ghost use Rattle.balance.specs.Invariant.{Metric, Certified, limit};
 ghost use Rattle.balance.specs.Records.{state_of};
 
 use crate::state::Balance;
-use integers::{difference, wide};
-use residual_search::entries::{level, vertex};
+use integers::difference;
+use residual_search::lengths::Lengths;
 use residual_search::search::search_towards;
 
 // The distances in true costs, from that of the root.
@@ -19,13 +19,10 @@ fn true_costs(x: &[u64; 64], u: &[u64; 64], vs: &[u8], root: usize) -> [i64; 64]
     requires { (root < 64) × AtMost beyond x.now × AtMost beyond u.now × AtMost 63 vs.now }
     ensures { result ≡ from_root x.now u.now vs.now root }
 {
-    let base = level(u, root);
-    let mut r: [i64; 64] = [0; 64];
-    let mut a: usize = 0;
-    while a < vs.len() {
-        let v = wide(vertex(vs, a));
-        r[v] = difference(level(x, v) + level(u, v), base);
-        a += 1;
+    let mut r = [0; 64];
+    for &v in vs {
+        let i = usize::from(v);
+        r[i] = difference(x[i] + u[i], u[root]);
     }
     r
 }
@@ -36,9 +33,11 @@ pub fn multipliers(s: Balance, d: &[[u32; 64]; 64], vs: &[u8], root: u8) -> [i64
         × Memᴰ root vs.now }
     ensures { result ≡ greatest (cell d.now) vs.now (state_of s) root }
 {
-    let found = search_towards(d, &s.amounts, &s.potentials, vs, root, root, vs.len());
-    let x = found.distance;
-    let u = s.potentials;
-    let r = wide(root);
-    true_costs(&x, &u, vs, r)
+    let lengths = Lengths {
+        d,
+        f: &s.amounts,
+        u: &s.potentials,
+    };
+    let found = search_towards(lengths, vs, root, root, vs.len());
+    true_costs(&found.distance, &s.potentials, vs, usize::from(root))
 }

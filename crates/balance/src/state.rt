@@ -8,8 +8,7 @@ ghost use Rattle.balance.specs.Invariant.{Metric, Certified, AllIn, limit};
 ghost use Rattle.balance.specs.Records.{state_of};
 
 use crate::augment::{augment_along, raise_by};
-use integers::wide;
-use residual_search::entries::monus;
+use residual_search::lengths::Lengths;
 use residual_search::search::{search_towards, settled_by};
 
 // The amounts, at i * 64 + j what is sent from vertex i to vertex j, and the potentials that certify them, the
@@ -23,6 +22,7 @@ pub struct Balance {
 }
 
 // The state in which no arc is counted.
+#[tactic(auto, unfolding(residual_search::specs::Step::empty))]
 pub fn empty() -> Balance
     ensures { state_of result ≡ empty_state }
 {
@@ -44,9 +44,9 @@ pub struct Added {
 
 // One arc more, but for the amounts: the cheapest residual path for one unit more from its head to its tail, and
 // what it does to the potentials and the cost.
-pub fn price<'a>(
-    f: &'a [u16; 4096],
-    u: &'a [u64; 64],
+pub fn price(
+    f: &[u16; 4096],
+    u: &[u64; 64],
     cost: u64,
     count: u16,
     d: &[[u32; 64]; 64],
@@ -60,19 +60,14 @@ pub fn price<'a>(
         result.potentials result.cost }
 {
     let last = settled_by(tail, head, vs.len());
-    let found = search_towards(d, f, u, vs, tail, head, last);
-    let x = found.distance;
-    let next = found.next;
-    let h = wide(head);
-    let t = wide(tail);
-    let most = x[h];
-    let raised = raise_by(&x, most, u, vs);
-    let sum = cost + raised[h];
-    let after = monus(sum, raised[t]);
+    let found = search_towards(Lengths { d, f, u }, vs, tail, head, last);
+    let h = usize::from(head);
+    let potentials = raise_by(&found.distance, found.distance[h], u, vs);
+    let cost = (cost + potentials[h]).saturating_sub(potentials[usize::from(tail)]);
     Added {
-        next: next,
-        potentials: raised,
-        cost: after,
+        next: found.next,
+        potentials,
+        cost,
     }
 }
 
@@ -93,8 +88,7 @@ pub fn add_in(
         ≡ addState (cell d.now) vs.now (state_in f.old u.now cost count) tail head }
 {
     let added = price(f, u, cost, count, d, vs, tail, head);
-    let next = added.next;
-    augment_along(f, &next, head, tail);
+    augment_along(f, &added.next, head, tail);
     added
 }
 
@@ -106,22 +100,22 @@ pub fn add_all(s: Balance, d: &[[u32; 64]; 64], vs: &[u8], tails: &[u8], heads: 
         ≡ addAllStates (cell d.now) vs.now (state_of s) (arcs_of tails.now heads.now))
         × Certified (cell d.now) vs.now (state_of result) × (result.count ≡ s.count + length tails.now) }
 {
-    let mut f = s.amounts;
-    let mut u = s.potentials;
-    let mut cost = s.cost;
-    let mut count = s.count;
-    let mut k: usize = 0;
-    while k < tails.len() {
-        let more = add_in(&mut f, &u, cost, count, d, vs, tails[k], heads[k]);
-        u = more.potentials;
+    let Balance {
+        mut amounts,
+        mut potentials,
+        mut cost,
+        mut count,
+    } = s;
+    for (&tail, &head) in tails.iter().zip(heads) {
+        let more = add_in(&mut amounts, &potentials, cost, count, d, vs, tail, head);
+        potentials = more.potentials;
         cost = more.cost;
         count += 1;
-        k += 1;
     }
     Balance {
-        amounts: f,
-        potentials: u,
-        cost: cost,
-        count: count,
+        amounts,
+        potentials,
+        cost,
+        count,
     }
 }

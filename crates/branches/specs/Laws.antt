@@ -1,6 +1,5 @@
 -- What is proved about the definitions.
 pub mod Progress
-pub mod Names
 pub mod Start
 pub mod Below
 pub mod Root

@@ -1,6 +1,6 @@
 // A branch: the trees that begin with the same choices for components 1 to a - 1.
 // Steps for other crates, which ask something of their caller.
-ghost use Rattle.std.specs.Prelude.{◌≡◌, List, ℕ, ◌+◌, ◌<◌, ◌≤◌, set};
+ghost use Rattle.std.specs.Prelude.{◌≡◌, List, ℕ, ◌+◌, ◌-◌, ◌<◌, ◌≤◌, set};
 ghost use Rattle.postman.specs.Plan.{Plan};
 ghost use Rattle.balance.specs.Records.{state_of};
 ghost use Rattle.small_counts.specs.Matrix.{AreFew, AreCounts};
@@ -9,9 +9,9 @@ ghost use Rattle.branches.specs.Branches.{CanGoBelow, IsBelow, AreGiven, IsRoot}
 
 use crate::candidate::Candidate;
 use crate::names::renamed;
-use balance::state::Balance;
-use integers::wide;
-use tree_bounds::reduced::{long, shifted};
+use balance::state::{Balance, add_in};
+use tree_bounds::field::Field;
+use tree_bounds::reduced::shifted;
 use tree_count::count::{counts, merge};
 
 // The links chosen; the potentials, the cost and the number of arcs of the required arcs balanced with them, of which the amounts are lent
@@ -31,51 +31,50 @@ pub struct Branch {
     pub counts: [u64; 8],
 }
 
-// The array with v at place i.
-pub fn placed(a: [u8; 8], i: usize, v: u8) -> [u8; 8]
-    requires { i < 8 }
-    ensures { result ≡ set a i v }
-{
-    let mut r = a;
-    r[i] = v;
-    r
-}
+impl Branch {
+    // The links chosen, with one more from tail to head: the tails and the heads.
+    pub fn links_with(&self, tail: u8, head: u8) -> ([u8; 8], [u8; 8])
+        requires { (1 ≤ self.now.a) × (self.now.a ≤ 8) }
+        ensures tails { result.0 ≡ set self.now.tails (self.now.a - 1) tail }
+        ensures heads { result.1 ≡ set self.now.heads (self.now.a - 1) head }
+    {
+        let (mut tails, mut heads) = (self.tails, self.heads);
+        tails[self.a - 1] = tail;
+        heads[self.a - 1] = head;
+        (tails, heads)
+    }
 
-// The branch below: component a takes the candidate c. The amounts become those with its link.
-pub fn below(
-    b: Branch,
-    f: &mut [u16; 4096],
-    d: &[[u32; 64]; 64],
-    vs: &[u8],
-    c: Candidate,
-    k: usize,
-) -> Branch
-    requires { CanGoBelow d.now vs.now f.old b c.tail c.head c.name k × (b.a + 1 < k) }
-    ensures { IsBelow d.now vs.now f.old b c.tail c.head c.name k f.new result
-        × AreCounts result.entries result.a k result.counts }
-{
-    let a = b.a;
-    let u = b.potentials;
-    let ts = b.tails;
-    let hs = b.heads;
-    let names = b.names;
-    let entries = b.entries;
-    let more = balance::state::add_in(f, &u, b.balancing, b.count, d, vs, c.tail, c.head);
-    let raised = more.potentials;
-    let t = wide(c.tail);
-    let h = wide(c.head);
-    let merged = merge(entries, a, wide(c.name), k);
-    Branch {
-        a: a + 1,
-        tails: placed(ts, a - 1, c.tail),
-        heads: placed(hs, a - 1, c.head),
-        potentials: raised,
-        balancing: more.cost,
-        count: b.count + 1,
-        fixed: b.fixed + long(d[t][h]),
-        names: renamed(names, a, c.name),
-        entries: merged,
-        counts: counts(merged, a + 1, k),
+    // The branch below: component a takes the candidate c. The amounts become those with its link.
+    pub fn below(&self, f: &mut [u16; 4096], at: &Field, c: Candidate) -> Branch
+        requires { CanGoBelow at.now.d.now at.now.vs.now f.old self.now c.tail c.head c.name at.now.k × (self.now.a + 1 < at.now.k) }
+        ensures { IsBelow at.now.d.now at.now.vs.now f.old self.now c.tail c.head c.name at.now.k f.new result
+            × AreCounts result.entries result.a at.now.k result.counts }
+    {
+        let more = add_in(
+            f,
+            &self.potentials,
+            self.balancing,
+            self.count,
+            at.d,
+            at.vs,
+            c.tail,
+            c.head,
+        );
+        let potentials = more.potentials;
+        let (tails, heads) = self.links_with(c.tail, c.head);
+        let entries = merge(self.entries, self.a, usize::from(c.name), at.k);
+        Branch {
+            a: self.a + 1,
+            tails,
+            heads,
+            potentials,
+            balancing: more.cost,
+            count: self.count + 1,
+            fixed: self.fixed + u64::from(at.d[usize::from(c.tail)][usize::from(c.head)]),
+            names: renamed(self.names, self.a, c.name),
+            entries,
+            counts: counts(entries, self.a + 1, at.k),
+        }
     }
 }
 
@@ -85,9 +84,10 @@ fn root_counts(entries: [u32; 64], k: usize) -> [u64; 8]
     ensures { 1 < k → AreCounts entries 1 k result }
 {
     if k == 1 {
-        return [0; 8];
+        [0; 8]
+    } else {
+        counts(entries, 1, k)
     }
-    counts(entries, 1, k)
 }
 
 // The branch that has no choice yet, from the state of the required arcs, the multipliers u, R, and the number of entries that each
@@ -106,17 +106,16 @@ pub fn root(
         → Prepared p table vs.now start source tails heads k
         → AreGiven p table (state_of base) u.now required_cost entries → IsRoot p table base.amounts result }
 {
-    let w = shifted(u, vs);
     Branch {
         a: 1,
         tails: [0; 8],
         heads: [0; 8],
-        potentials: w,
+        potentials: shifted(u, vs),
         balancing: base.cost,
         count: base.count,
         fixed: required_cost,
         names: [0, 1, 2, 3, 4, 5, 6, 7],
-        entries: entries,
+        entries,
         counts: root_counts(entries, k),
     }
 }

@@ -3,7 +3,8 @@
 ghost use Rattle.std.specs.Prelude.{◌<◌, get_or};
 ghost use Rattle.branches.specs.Branches.{IsCandidate};
 
-use integers::wide;
+use crate::branch::Branch;
+use candidates::Candidates;
 
 // Its link, its source by its new name, and how many trees the branch below has.
 #[derive(Clone, Copy)]
@@ -15,24 +16,15 @@ pub struct Candidate {
 }
 
 // The candidate at place x.
-pub fn candidate_at(
-    source: &[u8; 4096],
-    tails: &[u8; 4096],
-    heads: &[u8; 4096],
-    names: [u8; 8],
-    counts: [u64; 8],
-    x: usize,
-) -> Candidate
-    requires { (x < 4096) × (get_or source.now x 0 < 8) × (get_or names (get_or source.now x 0) 0 < 8) }
-    ensures { IsCandidate source.now tails.now heads.now names counts x result }
+pub fn candidate_at(c: &Candidates, b: &Branch, x: usize) -> Candidate
+    requires { (x < 4096) × (get_or c.now.source x 0 < 8) × (get_or b.now.names (get_or c.now.source x 0) 0 < 8) }
+    ensures { IsCandidate c.now.source c.now.tails c.now.heads b.now.names b.now.counts x result }
 {
-    let s = wide(source[x]);
-    let name = names[s];
-    let n = wide(name);
+    let name = b.names[usize::from(c.source[x])];
     Candidate {
-        tail: tails[x],
-        head: heads[x],
-        name: name,
-        trees: counts[n],
+        tail: c.tails[x],
+        head: c.heads[x],
+        name,
+        trees: b.counts[usize::from(name)],
     }
 }

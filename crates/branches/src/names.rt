@@ -1,18 +1,18 @@
 // Which component each has become one with.
-ghost use Rattle.std.specs.Prelude.{◌≡◌, ℕ, ◌<◌, get_or};
+ghost use Rattle.std.specs.Prelude.{◌≡◌, map};
 ghost use Rattle.small_counts.specs.Arrival.{renamed as new_name};
 
-use integers::wide;
+// The new name of what was `name`, where component a becomes one with x.
+#[tactic(auto, unfolding(small_counts::specs::Arrival::renamed))]
+fn new_name(a: usize, x: u8, name: u8) -> u8
+    ensures { result ≡ new_name a x name }
+{
+    if usize::from(name) == a { x } else { name }
+}
 
 // Component a becomes one with x: what was one with a is one with x.
 pub(crate) fn renamed(names: [u8; 8], a: usize, x: u8) -> [u8; 8]
-    ensures { (c : ℕ) → c < 8 → get_or result c 0 ≡ new_name a x (get_or names c 0) }
+    ensures { result ≡ map (new_name a x) names }
 {
-    let mut r = names;
-    for c in 0..8 {
-        if wide(names[c]) == a {
-            r[c] = x;
-        }
-    }
-    r
+    names.map(|name| new_name(a, x, name))
 }

@@ -4,8 +4,6 @@ ghost use Rattle.branches.specs.Links.{links_in};
 ghost use Rattle.branches.specs.Progress.{pass_over, try_tree};
 ghost use Rattle.branches.specs.Holding.{held_in, is_entered};
 
-use residual_search::entries::monus;
-
 #[derive(Clone, Copy)]
 pub struct Progress {
     pub cost: u64,
@@ -15,61 +13,46 @@ pub struct Progress {
     pub left: u64,
 }
 
-// n trees are passed over.
-pub fn passed(g: Progress, n: u64) -> Progress
-    ensures { (m : ℕ) → held_in m result ≡ pass_over (held_in m g) n }
-{
-    let ts = g.tails;
-    let hs = g.heads;
-    let skip = monus(g.skip, n);
-    let over = monus(n, g.skip);
-    let left = monus(g.left, over);
-    Progress {
-        cost: g.cost,
-        tails: ts,
-        heads: hs,
-        skip: skip,
-        left: left,
-    }
-}
-
-// Whether a branch of n trees is gone into, where they cost at least `least`.
-pub fn entered(g: Progress, n: u64, least: u64) -> bool
-    ensures { result ≡ is_entered g n least }
-{
-    if n <= g.skip {
-        return false;
-    }
-    if g.left == 0 {
-        return false;
-    }
-    least < g.cost
-}
-
-// The better of the best so far and a tree, if it is tried.
-fn kept(g: Progress, cost: u64, tails: [u8; 8], heads: [u8; 8]) -> Progress
-    ensures { (m : ℕ) → pass_over (held_in m result) 1 ≡ try_tree (λ t. cost) (held_in m g) (links_in m tails heads) }
-{
-    if g.skip == 0 {
-        if 0 < g.left {
-            if cost < g.cost {
-                return Progress {
-                    cost: cost,
-                    tails: tails,
-                    heads: heads,
-                    skip: g.skip,
-                    left: g.left,
-                };
-            }
+impl Progress {
+    // n trees are passed over.
+    pub fn passed(self, n: u64) -> Progress
+        ensures { (m : ℕ) → held_in m result ≡ pass_over (held_in m self) n }
+    {
+        let over = n.saturating_sub(self.skip);
+        Progress {
+            skip: self.skip.saturating_sub(n),
+            left: self.left.saturating_sub(over),
+            ..self
         }
     }
-    g
-}
 
-// A tree, and what it costs.
-pub fn completed(g: Progress, cost: u64, tails: [u8; 8], heads: [u8; 8]) -> Progress
-    ensures { (m : ℕ) → held_in m result ≡ try_tree (λ t. cost) (held_in m g) (links_in m tails heads) }
-{
-    let better = kept(g, cost, tails, heads);
-    passed(better, 1)
+    // Whether a branch of n trees is gone into, where they cost at least `least`.
+    pub fn enters(self, n: u64, least: u64) -> bool
+        ensures { result ≡ is_entered self n least }
+    {
+        self.skip < n && self.left != 0 && least < self.cost
+    }
+
+    // The better of the best so far and a tree, if it is tried.
+    fn kept(self, cost: u64, tails: [u8; 8], heads: [u8; 8]) -> Progress
+        ensures { (m : ℕ) → pass_over (held_in m result) 1 ≡ try_tree (λ t. cost) (held_in m self) (links_in m tails heads) }
+    {
+        if self.skip == 0 && 0 < self.left && cost < self.cost {
+            Progress {
+                cost,
+                tails,
+                heads,
+                ..self
+            }
+        } else {
+            self
+        }
+    }
+
+    // A tree, and what it costs.
+    pub fn completed(self, cost: u64, tails: [u8; 8], heads: [u8; 8]) -> Progress
+        ensures { (m : ℕ) → held_in m result ≡ try_tree (λ t. cost) (held_in m self) (links_in m tails heads) }
+    {
+        self.kept(cost, tails, heads).passed(1)
+    }
 }

@@ -5,16 +5,11 @@ ghost use Rattle.std.specs.Prelude.{◌≡◌};
 ghost use Rattle.postman.specs.PlanCall.{default_budget};
 ghost use Rattle.budget.specs.Checks.{checked_of, InRange};
 
-#[derive(Clone, Copy)]
+use refusal::Refusal;
+
+#[derive(Clone, Copy, Debug, PartialEq, Eq)]
 pub struct Budget {
     pub trees: u32,
-}
-
-// A budget within its limits, or refusal 9.
-#[derive(Clone, Copy)]
-pub enum Checked {
-    Good(Budget),
-    Refused,
 }
 
 impl Budget {
@@ -24,17 +19,15 @@ impl Budget {
     // "budget B from 1 to 1,000,000"
     pub const HIGHEST: u32 = 1_000_000;
 
-    // The budget of n trees, whatever number the caller has.
-    pub fn new(n: u64) -> Checked
+    // The budget of n trees, whatever number the caller has, or refusal 9.
+    #[tactic(auto, using(crate::specs::Laws::of_number), unfolding(postman::specs::PlanCall::highest_budget))]
+    pub fn new(n: u64) -> Result<Budget, Refusal>
         ensures { result ≡ checked_of n }
     {
-        if n == 0 {
-            return Checked::Refused;
+        if n == 0 || u64::from(Budget::HIGHEST) < n {
+            return Err(Refusal::Budget);
         }
-        if (Budget::HIGHEST as u64) < n {
-            return Checked::Refused;
-        }
-        Checked::Good(Budget { trees: n as u32 })
+        Ok(Budget { trees: n as u32 })
     }
 
     // The short call's budget.

@@ -1,6 +1,6 @@
 // What calls share: 8 and 9, then 10 to 12 and the answer of a plan that was read.
 // Steps for other crates, which ask something of their caller.
-ghost use Rattle.std.specs.Prelude.{◌≡◌, ◌≤◌, length};
+ghost use Rattle.std.specs.Prelude.{◌≡◌, ◌≤◌, Ok, length};
 ghost use Rattle.std.proofs.Math.Option.{none};
 ghost use Rattle.postman.specs.Plan.{WellFormed};
 ghost use Rattle.postman.specs.Refusal.{first_refusal};
@@ -12,9 +12,8 @@ ghost use Rattle.multipliers.specs.Drive.{table_of};
 ghost use Rattle.multipliers.specs.Prepared.{IsMeasured};
 ghost use Rattle.solution.specs.Planned.{IsPlanned};
 ghost use Rattle.call_steps.specs.Refusals.{network_refusal, plan_refusal};
-ghost use Rattle.call_steps.specs.Refused.{refused_with};
 
-use budget::{Budget, Checked};
+use budget::Budget;
 use network::network::Network;
 use plan::Plan;
 use preparation::prepare::prepare;
@@ -22,36 +21,20 @@ use refusal::{Refusal, Verdict};
 use solution::Planned;
 use solution::solve::solve;
 
-// A refusal "returns its number only".
-pub fn refused(r: Refusal) -> Planned
-    ensures { result ≡ refused_with r }
-{
-    Planned {
-        verdict: Verdict::Refused(r),
-        places: 0,
-        cost: 0,
-        floor: 0,
-        trees: 0,
-        whole: false,
-        parts: 0,
-        multipliers: [0i64; 64],
-    }
-}
-
 // 10, 11 and 12, by what the network holds.
 pub fn network_verdict(components: u8, cut_off: bool) -> Verdict
     ensures { verdict_number result ≡ network_refusal components cut_off }
 {
     if components == 0 {
-        return Verdict::Refused(Refusal::Idle);
+        return Err(Refusal::Idle);
     }
     if 8 < components {
-        return Verdict::Refused(Refusal::Scattered);
+        return Err(Refusal::Scattered);
     }
     if cut_off {
-        return Verdict::Refused(Refusal::CutOff);
+        return Err(Refusal::CutOff);
     }
-    Verdict::Accepted
+    Ok(())
 }
 
 // The answer of a plan that is not refused, once it is prepared.
@@ -65,7 +48,7 @@ fn answer(
 ) -> Planned
     requires measured { IsMeasured (plan_value plan) table.now net × (network_refusal net.components net.cut_off ≡ none) }
     requires budget_and_sheet { (1 ≤ budget) × (sheet_places ≤ length sheet.old) × AreWeights (plan_value plan) weights.now }
-    ensures { IsPlanned (plan_value plan) budget none sheet.old sheet.new result }
+    ensures { IsPlanned (plan_value plan) budget none sheet.old sheet.new (Ok result) }
 {
     let r = prepare(plan, table, net);
     solve(plan, table, weights, r, budget, sheet)
@@ -79,16 +62,14 @@ fn plan_measured(
     net: Network,
     budget: u32,
     sheet: &mut [u16],
-) -> Planned
+) -> Result<Planned, Refusal>
     requires { IsMeasured (plan_value plan) table.now net × (1 ≤ budget) × (sheet_places ≤ length sheet.old)
         × AreWeights (plan_value plan) weights.now }
     ensures { IsPlanned (plan_value plan) budget (network_refusal net.components net.cut_off) sheet.old
         sheet.new result }
 {
-    match network_verdict(net.components, net.cut_off) {
-        Verdict::Refused(r) => refused(r),
-        Verdict::Accepted => answer(plan, table, weights, net, budget, sheet),
-    }
+    network_verdict(net.components, net.cut_off)?;
+    Ok(answer(plan, table, weights, net, budget, sheet))
 }
 
 // The network of a plan that is well formed, from the tables of its distances and weights, which are
@@ -99,7 +80,7 @@ pub fn plan_tabled(
     weights: &[[u32; 64]; 64],
     budget: u32,
     sheet: &mut [u16],
-) -> Planned
+) -> Result<Planned, Refusal>
     requires tabled { WellFormed (plan_value plan) × (table.now ≡ table_of (plan_value plan)) × AreWeights (plan_value plan) weights.now }
     requires budget_and_sheet { (1 ≤ budget) × (sheet_places ≤ length sheet.old) }
     ensures { IsPlanned (plan_value plan) budget (plan_refusal (plan_value plan)) sheet.old sheet.new result }
@@ -109,7 +90,7 @@ pub fn plan_tabled(
 }
 
 // The weights and the distances of a plan that is well formed: the file's, or one that is made from it.
-pub fn plan_read(plan: Plan, budget: u32, sheet: &mut [u16]) -> Planned
+pub fn plan_read(plan: Plan, budget: u32, sheet: &mut [u16]) -> Result<Planned, Refusal>
     requires { WellFormed (plan_value plan) × (1 ≤ budget) × (sheet_places ≤ length sheet.old) }
     ensures { IsPlanned (plan_value plan) budget (plan_refusal (plan_value plan)) sheet.old sheet.new result }
 {
@@ -123,10 +104,8 @@ pub fn lent_verdict(budget: u64, places: usize) -> Verdict
     ensures { verdict_number result ≡ first_refusal (call_conditions budget places) }
 {
     if places < 17_266 {
-        return Verdict::Refused(Refusal::ShortSheet);
+        return Err(Refusal::ShortSheet);
     }
-    match Budget::new(budget) {
-        Checked::Refused => Verdict::Refused(Refusal::Budget),
-        Checked::Good(b) => Verdict::Accepted,
-    }
+    Budget::new(budget)?;
+    Ok(())
 }

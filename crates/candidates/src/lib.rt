@@ -18,24 +18,22 @@ use network::network::Network;
 pub struct Vertices {
     pub list: [u8; 64],
     pub count: usize,
+    pub ghost fits: { count ≤ 64 },
 }
 
 // The vertices whose flag is set, ascending.
 pub fn vertices_of(required: [bool; 64]) -> Vertices
     ensures { Holds 64 result.list result.count (select (λ v. get_or required v false) (below 64)) }
 {
-    let mut list = [0u8; 64];
-    let mut count: usize = 0;
-    for v in 0..64 {
-        if required[v] {
+    let mut list = [0; 64];
+    let mut count = 0;
+    for (v, &is_required) in required.iter().enumerate() {
+        if is_required {
             list[count] = v as u8;
             count += 1;
         }
     }
-    Vertices {
-        list: list,
-        count: count,
-    }
+    Vertices { list, count }
 }
 
 // ---- the places of the candidates
@@ -50,31 +48,21 @@ struct Places {
 fn is_candidate(link: bool, tail: u8, head: u8, q: usize) -> bool
     ensures { result ≡ enters link tail head q }
 {
-    if link {
-        if head as usize == q {
-            return tail as usize != q;
-        }
-    }
-    false
+    link && usize::from(head) == q && usize::from(tail) != q
 }
 
-// The places with those of component q's candidates behind them.
-fn scan(links: &[bool; 4096], component: &[u8; 64], q: usize, places: Places) -> Places
-    requires { (places.count + length (places_of links.now component.now q) ≤ 4096) × (length places.list ≡ 4096) }
-    ensures { Holds 4096 result.list result.count
-        (take places.count places.list ++ places_of links.now component.now q) }
-{
-    let mut list = places.list;
-    let mut count = places.count;
-    for x in 0..4096 {
-        if is_candidate(links[x], component[x / 64], component[x % 64], q) {
-            list[count] = x as u16;
-            count += 1;
+impl Places {
+    // The places of component q's candidates come behind those that are there.
+    fn scan(&mut self, links: &[bool; 4096], component: &[u8; 64], q: usize)
+        requires { (self.old.count + length (places_of links.now component.now q) ≤ 4096) × (length self.old.list ≡ 4096) }
+        ensures { Holds 4096 self.new.list self.new.count (take self.old.count self.old.list ++ places_of links.now component.now q) }
+    {
+        for (x, &link) in links.iter().enumerate() {
+            if is_candidate(link, component[x / 64], component[x % 64], q) {
+                self.list[self.count] = x as u16;
+                self.count += 1;
+            }
         }
-    }
-    Places {
-        list: list,
-        count: count,
     }
 }
 
@@ -89,20 +77,18 @@ fn group(links: &[bool; 4096], component: &[u8; 64], k: usize) -> Grouped
     requires { (1 ≤ k) × (k ≤ 8) }
     ensures { AreGrouped links.now component.now k result.start result.list }
 {
-    let mut start = [0usize; 9];
+    let mut start = [0; 9];
     let mut places = Places {
-        list: [0u16; 4096],
+        list: [0; 4096],
         count: 0,
     };
     for q in 1..k {
-        let next = scan(links, component, q, places);
-        start[q + 1] = next.count;
-        places = next;
+        places.scan(links, component, q);
+        start[q + 1] = places.count;
     }
-    let list = places.list;
     Grouped {
-        start: start,
-        list: list,
+        start,
+        list: places.list,
     }
 }
 
@@ -131,19 +117,19 @@ struct Ends {
 fn ends_of(list: &[u16; 4096], component: &[u8; 64]) -> Ends
     ensures { AreEnds component.now list.now 4096 result.source result.tails result.heads }
 {
-    let mut source = [0u8; 4096];
-    let mut tails = [0u8; 4096];
-    let mut heads = [0u8; 4096];
-    for m in 0..4096 {
-        let tail = tail_of(list[m]);
+    let mut source = [0; 4096];
+    let mut tails = [0; 4096];
+    let mut heads = [0; 4096];
+    for (m, &x) in list.iter().enumerate() {
+        let tail = tail_of(x);
         tails[m] = tail;
-        heads[m] = head_of(list[m]);
-        source[m] = component[tail as usize];
+        heads[m] = head_of(x);
+        source[m] = component[usize::from(tail)];
     }
     Ends {
-        source: source,
-        tails: tails,
-        heads: heads,
+        source,
+        tails,
+        heads,
     }
 }
 
@@ -164,18 +150,17 @@ fn candidates_of(links: &[bool; 4096], component: &[u8; 64], k: usize) -> Candid
     requires { (1 ≤ k) × (k ≤ 8) }
     ensures { HaveEnds links.now component.now k result.start result.source result.tails result.heads }
 {
-    let places = group(links, component, k);
-    let list = places.list;
-    let start = places.start;
-    let ends = ends_of(&list, component);
-    let source = ends.source;
-    let tails = ends.tails;
-    let heads = ends.heads;
+    let Grouped { start, list } = group(links, component, k);
+    let Ends {
+        source,
+        tails,
+        heads,
+    } = ends_of(&list, component);
     Candidates {
-        start: start,
-        source: source,
-        tails: tails,
-        heads: heads,
+        start,
+        source,
+        tails,
+        heads,
     }
 }
 
@@ -184,8 +169,5 @@ pub fn of_network(net: Network) -> Candidates
     requires { (1 ≤ net.components) × (net.components ≤ 8) }
     ensures { (p : Plan) → WellFormed p → IsNetwork p net → AreLaidOut p result }
 {
-    let links = net.links;
-    let component = net.component;
-    let k = net.components as usize;
-    candidates_of(&links, &component, k)
+    candidates_of(&net.links, &net.component, usize::from(net.components))
 }

@@ -1,42 +1,35 @@
 // 18, and the plan of a car.
 // Steps for other crates, which ask something of their caller.
-ghost use Rattle.std.specs.Prelude.{◌≡◌, cond, ◌≤◌, eqb, length};
+ghost use Rattle.std.specs.Prelude.{◌≡◌, ℕ, ◌<◌, ◌≤◌, get_or, length};
 ghost use Rattle.postman.specs.Marks.{is_bad_mark, has_bad_mark, marked_service, marked as marked_arc, car_plan};
-ghost use Rattle.plan.specs.Records.{arc_value, record_of, plan_value};
+ghost use Rattle.plan.specs.Records.{arc_value, record_of, record_at, zero_record, plan_value};
 
 use plan::{Arc, Plan};
 
 // "A mark isn't 0 or 1, or a closed arc is marked."
+#[tactic(auto, using(crate::specs::Laws::Marks::above_one, crate::specs::Laws::Marks::one_by_closed, crate::specs::Laws::Marks::zero_good))]
 fn is_bad_mark(mark: u8, a: Arc) -> bool
     ensures { result ≡ is_bad_mark mark (arc_value a) }
 {
-    if 1 < mark {
-        return true;
-    }
-    if mark == 1 {
-        return !plan::is_open(a);
-    }
-    false
+    1 < mark || mark == 1 && !plan::is_open(a)
 }
 
 // 18 bad marks.
+#[tactic(auto, using(crate::specs::Laws::Marks::wrong_length))]
 pub fn has_bad_mark(plan: Plan, marks: &[u8]) -> bool
     requires { plan.m ≤ 256 }
     ensures { result ≡ has_bad_mark (plan_value plan) marks.now }
 {
-    let m = plan.m as usize;
-    if marks.len() != m {
-        return true;
-    }
-    for k in 0..m {
-        if is_bad_mark(marks[k], plan.arcs[k]) {
-            return true;
-        }
-    }
-    false
+    let m = usize::from(plan.m);
+    marks.len() != m
+        || marks
+            .iter()
+            .zip(&plan.arcs[..m])
+            .any(|(mark, a)| is_bad_mark(*mark, *a))
 }
 
 // "A marked arc that has no checking cost uses its plain cost, even 0."
+#[tactic(auto, using(crate::specs::Laws::Marks::of_charge))]
 fn marked_service(mark: u8, a: Arc) -> u16
     ensures { result ≡ marked_service mark (arc_value a) }
 {
@@ -46,28 +39,28 @@ fn marked_service(mark: u8, a: Arc) -> u16
     if a.service == 0 { a.cost } else { a.service }
 }
 
-fn marked_standing(mark: u8) -> u8
-    ensures { result ≡ cond (eqb mark 1) 1 0 }
-{
-    if mark == 1 { 1 } else { 0 }
-}
-
 // The arc with a mark; a closed arc stays as it is.
+#[tactic(auto, using(crate::specs::Laws::Marks::open_marked, crate::specs::Laws::Marks::closed_marked))]
 fn marked(mark: u8, a: Arc) -> Arc
     ensures { result ≡ record_of (marked_arc mark (arc_value a)) }
 {
     if plan::is_open(a) {
-        let standing = marked_standing(mark);
-        let service = marked_service(mark, a);
-        return Arc {
-            tail: a.tail,
-            head: a.head,
-            standing: standing,
-            cost: a.cost,
-            service: service,
-        };
+        Arc {
+            standing: u8::from(mark == 1),
+            service: marked_service(mark, a),
+            ..a
+        }
+    } else {
+        a
     }
-    a
+}
+
+// The records with the marks; an arc for which there is none counts as unmarked.
+fn marked_arcs(arcs: &[Arc; 256], marks: &[u8]) -> [Arc; 256]
+    ensures { (k : ℕ) → k < 256
+        → get_or result k zero_record ≡ record_of (marked_arc (get_or marks.now k 0) (record_at arcs.now k)) }
+{
+    std::array::from_fn(|k| marked(marks.get(k).copied().unwrap_or(0), arcs[k]))
 }
 
 // The plan of a car.
@@ -75,22 +68,8 @@ pub fn car_plan(plan: Plan, marks: &[u8]) -> Plan
     requires { (plan.m ≤ 256) × (length marks.now ≡ plan.m) }
     ensures { plan_value result ≡ car_plan (plan_value plan) marks.now }
 {
-    let zero = Arc {
-        tail: 0,
-        head: 0,
-        standing: 0,
-        cost: 0,
-        service: 0,
-    };
-    let mut arcs = [zero; 256];
-    let m = plan.m as usize;
-    for k in 0..m {
-        let a = marked(marks[k], plan.arcs[k]);
-        arcs[k] = a;
-    }
     Plan {
-        n: plan.n,
-        m: plan.m,
-        arcs: arcs,
+        arcs: marked_arcs(&plan.arcs, marks),
+        ..plan
     }
 }

@@ -33,6 +33,10 @@ less a m = cond (lt_z a m) (pos 0) (a -ℤ m)
 abbrev pub line_of : List ℤ → Bool → ℕ → ℕ → ℤ
 line_of w row f x = get_or w (place_of row f x) (pos 0)
 
+-- the costs of a row or a column, taken out of the matrix
+abbrev pub costs_in : List ℤ → ℕ → ℤ
+costs_in line x = get_or line x (pos 0)
+
 -- r is the cheaper of a and x, where x may be taken
 pub record IsCheaper (cost : ℕ → ℤ) (may : Bool) (a x r : ℕ) : Type 0 where
   pub old : cost r ≤ℤ cost a

@@ -4,3 +4,4 @@ pub mod Edmonds
 pub mod Circle
 pub mod CostMatrix
 pub mod Solve
+pub mod Arrays

@@ -1,60 +1,58 @@
 // The cheapest arborescence over a matrix of costs, by Edmonds: every component takes its cheapest entry; a circle of them is shrunk to one
 // component, and the contracted matrix is solved.
 // Steps for other crates, which ask something of their caller.
-ghost use Rattle.std.specs.Prelude.{◌≡◌, true, false, not, ◌&&◌, ◌||◌, ℕ, ◌+◌, ◌*◌, ◌/◌, ◌%◌, ◌<◌, ◌≤◌, get_or, set, pos, ◌≤ℤ◌};
+ghost use Rattle.std.specs.Prelude.{◌≡◌, ◌≢◌, true, false, ℕ, ◌/◌, ◌%◌, ◌<◌, ◌≤◌, get_or, set, pos, ◌≤ℤ◌};
+ghost use Rattle.std.specs.Option.{MatchOption};
 ghost use Rattle.postman.specs.Lists.{iterate};
 ghost use Rattle.cheapest_tree.specs.Cheapest.{tree_cost, IsCheapest};
-ghost use Rattle.cheapest_tree.specs.CostMatrix.{matrix_of, others_in, IsCostMatrix, highest, place_of, line_of, IsCheaper, IsBest, HasEntries, entry_of, pay_of, IsLost, IsMarked, IsPlace, IsShrunk, kept_of, less as less_by};
+ghost use Rattle.cheapest_tree.specs.CostMatrix.{matrix_of, others_in, IsCostMatrix, highest, line_of, costs_in, IsBest, HasEntries, entry_of, pay_of, IsLost, IsMarked, IsPlace, IsShrunk, kept_of, less as less_by};
 
-// The place of x in row f, or in column f.
-fn place(row: bool, f: usize, x: usize) -> usize
-    requires { (f < 8) × (x < 8) }
-    ensures { (result ≡ place_of row f x) × (result < 64) }
+// The costs along row f.
+#[tactic(auto, unfolding(crate::specs::CostMatrix::place_of))]
+fn row_costs(w: &[i64; 64], f: usize) -> [i64; 8]
+    requires { f < 8 }
+    ensures { (x : ℕ) → x < 8 → costs_in result x ≡ line_of w.now true f x }
 {
-    if row {
-        return f * 8 + x;
-    }
-    x * 8 + f
+    std::array::from_fn(|x| w[f * 8 + x])
 }
 
-// The cheaper of the members a and x of a row or a column, where x may be taken; a where they cost the same.
-fn cheaper(w: &[i64; 64], may: bool, row: bool, f: usize, a: usize, x: usize) -> usize
-    requires { (f < 8) × (a < 8) × (x < 8) }
-    ensures { IsCheaper (line_of w.now row f) may a x result }
+// The costs along column f.
+#[tactic(auto, unfolding(crate::specs::CostMatrix::place_of))]
+fn column_costs(w: &[i64; 64], f: usize) -> [i64; 8]
+    requires { f < 8 }
+    ensures { (x : ℕ) → x < 8 → costs_in result x ≡ line_of w.now false f x }
 {
-    if may {
-        let i = place(row, f, x);
-        let j = place(row, f, a);
-        if w[i] < w[j] {
-            return x;
-        }
-    }
-    a
+    std::array::from_fn(|x| w[x * 8 + f])
 }
 
 // A cheapest member of a row or a column, of those that may be taken; `first` is one of them.
-fn best(w: &[i64; 64], may: [bool; 8], row: bool, f: usize, first: usize) -> usize
-    requires { (f < 8) × (first < 8) × (get_or may first false ≡ true) }
-    ensures { IsBest (line_of w.now row f) may 8 result }
+fn best(line: [i64; 8], may: [bool; 8], first: usize) -> usize
+    requires { (first < 8) × (get_or may first false ≡ true) }
+    ensures { IsBest (costs_in line) may 8 result }
 {
     let mut r = first;
     for x in 0..8 {
-        r = cheaper(w, may[x], row, f, r, x);
+        if may[x] && line[x] < line[r] {
+            r = x;
+        }
     }
     r
 }
 
-// A cheapest entry of component q; component 0 where q is not left.
+// A cheapest entry of component q; component 0 where q is the root or is not left.
 fn entry(w: &[i64; 64], left: [bool; 8], q: usize) -> usize
-    requires { (1 ≤ q) × (q < 8) × (get_or left 0 false ≡ true) }
-    ensures { (result < 8) × (get_or left q false ≡ true → IsBest (line_of w.now false q) (set left q false) 8 result) }
+    requires { (q < 8) × (get_or left 0 false ≡ true) }
+    ensures in_range { result < 8 }
+    ensures root { q ≡ 0 → result ≡ 0 }
+    ensures best { 1 ≤ q → get_or left q false ≡ true → IsBest (line_of w.now false q) (set left q false) 8 result }
 {
-    if left[q] {
+    if q > 0 && left[q] {
         let mut may = left;
         may[q] = false;
-        return best(w, may, false, q, 0);
+        best(column_costs(w, q), may, 0)
+    } else {
+        0
     }
-    0
 }
 
 // The entries of all components.
@@ -62,11 +60,7 @@ fn entries(w: &[i64; 64], left: [bool; 8]) -> [usize; 8]
     requires { get_or left 0 false ≡ true }
     ensures { HasEntries w.now left 8 result }
 {
-    let mut e = [0; 8];
-    for q in 1..8 {
-        e[q] = entry(w, left, q);
-    }
-    e
+    std::array::from_fn(|q| entry(w, left, q))
 }
 
 // What component q pays.
@@ -74,11 +68,7 @@ fn pay(w: &[i64; 64], left: [bool; 8], e: [usize; 8], q: usize) -> i64
     requires { (q < 8) × (get_or e q 0 < 8) }
     ensures { result ≡ pay_of w.now left e q }
 {
-    if left[q] {
-        let p = e[q];
-        return w[p * 8 + q];
-    }
-    0
+    if left[q] { w[e[q] * 8 + q] } else { 0 }
 }
 
 // The sum of what they pay.
@@ -86,11 +76,9 @@ fn paid(w: &[i64; 64], left: [bool; 8], e: [usize; 8]) -> i64
     requires { IsCostMatrix w.now left × HasEntries w.now left 8 e }
     ensures { result ≡ tree_cost (matrix_of w.now) (others_in left) (entry_of e) }
 {
-    let mut s: i64 = 0;
-    let mut q = 8;
-    while 1 < q {
-        q -= 1;
-        s = pay(w, left, e, q) + s;
+    let mut s = 0;
+    for q in (1..8).rev() {
+        s += pay(w, left, e, q);
     }
     s
 }
@@ -100,10 +88,7 @@ fn cost_less(a: i64, m: i64) -> i64
     requires { (pos 0 ≤ℤ a) × (a ≤ℤ pos highest) × (pos 0 ≤ℤ m) × (m ≤ℤ pos highest) }
     ensures { result ≡ less_by a m }
 {
-    if a < m {
-        return 0;
-    }
-    a - m
+    if a < m { 0 } else { a - m }
 }
 
 // The costs less what each component pays.
@@ -111,11 +96,7 @@ fn reduced(w: &[i64; 64], left: [bool; 8], e: [usize; 8]) -> [i64; 64]
     requires { IsCostMatrix w.now left × HasEntries w.now left 8 e }
     ensures { (i : ℕ) → i < 64 → get_or result i (pos 0) ≡ less_by (get_or w.now i (pos 0)) (pay_of w.now left e (i % 8)) }
 {
-    let mut v = [0i64; 64];
-    for i in 0..64 {
-        v[i] = cost_less(w[i], pay(w, left, e, i % 8));
-    }
-    v
+    std::array::from_fn(|i| cost_less(w[i], pay(w, left, e, i % 8)))
 }
 
 // Where going back 8 entries from component x leads.
@@ -124,35 +105,26 @@ fn back(e: [usize; 8], x: usize) -> usize
     ensures { (result < 8) × (result ≡ iterate 8 (entry_of e) x) }
 {
     let mut y = x;
-    for i in 0..8usize {
+    for _ in 0..8u8 {
         y = e[y];
     }
     y
 }
 
-// The same, where x is left; else 0.
-fn astray(left: bool, e: [usize; 8], x: usize) -> usize
-    requires { (x < 8) × ((q : ℕ) → q < 8 → get_or e q 0 < 8) }
-    ensures { (result < 8) × (left ≡ true → result ≡ iterate 8 (entry_of e) x) × (left ≡ false → result ≡ 0) }
-{
-    if left {
-        return back(e, x);
-    }
-    0
-}
-
-// A component on a circle of entries; 0 where there is none.
-fn lost(left: [bool; 8], e: [usize; 8]) -> usize
+// A component on a circle of entries, where there is one.
+fn lost(left: [bool; 8], e: [usize; 8]) -> Option<usize>
     requires { (q : ℕ) → q < 8 → get_or e q 0 < 8 }
-    ensures { (result < 8) × IsLost left e 8 result }
+    ensures { MatchOption result (IsLost left e 8 0) (λ y. (y < 8) × (y ≢ 0) × IsLost left e 8 y) }
 {
     for q in 1..8 {
-        let y = astray(left[q], e, q);
-        if y != 0 {
-            return y;
+        if left[q] {
+            let y = back(e, q);
+            if y != 0 {
+                return Some(y);
+            }
         }
     }
-    0
+    None
 }
 
 // The components of the circle through y.
@@ -162,7 +134,7 @@ fn circle(e: [usize; 8], y: usize) -> [bool; 8]
 {
     let mut on = [false; 8];
     let mut x = y;
-    for i in 0..8usize {
+    for _ in 0..8u8 {
         on[x] = true;
         x = e[x];
     }
@@ -175,12 +147,12 @@ fn source_place(v: &[i64; 64], on: [bool; 8], c: usize, s: usize, t: usize) -> u
     ensures { IsPlace v.now on c s t result }
 {
     if t == c {
-        return s * 8 + best(v, on, true, s, c);
+        s * 8 + best(row_costs(v, s), on, c)
+    } else if s == c {
+        best(column_costs(v, t), on, c) * 8 + t
+    } else {
+        s * 8 + t
     }
-    if s == c {
-        return best(v, on, false, t, c) * 8 + t;
-    }
-    s * 8 + t
 }
 
 // The costs of the contracted matrix.
@@ -188,34 +160,14 @@ fn contracted(v: &[i64; 64], on: [bool; 8], c: usize) -> [i64; 64]
     requires { (c < 8) × (get_or on c false ≡ true) }
     ensures { IsShrunk v.now on c 64 result }
 {
-    let mut m = [0i64; 64];
-    for i in 0..64 {
-        let r = source_place(v, on, c, i / 8, i % 8);
-        m[i] = v[r];
-    }
-    m
-}
-
-fn kept(left: bool, on: bool, own: bool) -> bool
-    ensures { result ≡ left && (not on || own) }
-{
-    if left {
-        if on {
-            return own;
-        }
-    }
-    left
+    std::array::from_fn(|i| v[source_place(v, on, c, i / 8, i % 8)])
 }
 
 // The components that are left in the contracted matrix.
 fn remaining(left: [bool; 8], on: [bool; 8], c: usize) -> [bool; 8]
     ensures { (x : ℕ) → x < 8 → get_or result x false ≡ kept_of left on c x }
 {
-    let mut l = left;
-    for x in 0..8 {
-        l[x] = kept(left[x], on[x], x == c);
-    }
-    l
+    std::array::from_fn(|x| left[x] && (!on[x] || x == c))
 }
 
 // The least cost of an arborescence of the components that are left.
@@ -225,10 +177,9 @@ pub fn solve(w: [i64; 64], left: [bool; 8]) -> i64
 {
     let e = entries(&w, left);
     let s = paid(&w, left, e);
-    let y = lost(left, e);
-    if y == 0 {
+    let Some(y) = lost(left, e) else {
         return s;
-    }
+    };
     let v = reduced(&w, left, e);
     let on = circle(e, y);
     let m = contracted(&v, on, y);

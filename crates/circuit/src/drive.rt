@@ -12,7 +12,7 @@ ghost use Rattle.drive_legs.specs.Legs.{Completes};
 ghost use Rattle.drive_legs.specs.Drive.{places_of, drive, written, HavePaths};
 ghost use Rattle.drive_legs.specs.Filled.{links_of};
 
-use crate::places::write;
+use crate::places::{Legs, write};
 use drive_legs::legs::lay;
 use hierholzer::hierholzer::arrange;
 use plan::Plan;
@@ -21,30 +21,34 @@ use plan::Plan;
 fn write_circuit(
     plan: Plan,
     weights: &[[u32; 64]; 64],
-    numbers: &[u16],
-    tails: &[u8],
-    heads: &[u8],
+    legs: &Legs<'_>,
     order: &mut [u16],
     places: &mut [u16],
 ) -> usize
     requires well_formed { WellFormed (plan_value plan) × AreWeights (plan_value plan) weights.now }
-    requires has_circuit { (length tails.now ≤ 526) × (length order.old ≡ length tails.now) × Eulerian tails.now heads.now }
-    requires have_paths { HavePaths (plan_value plan) numbers.now tails.now heads.now }
-    requires room { length (places_of (shortest_path (plan_value plan)) numbers.now tails.now heads.now (circuit tails.now heads.now))
+    requires has_circuit { (length legs.now.tails.now ≤ 526) × (length order.old ≡ length legs.now.tails.now)
+        × Eulerian legs.now.tails.now legs.now.heads.now }
+    requires have_paths { HavePaths (plan_value plan) legs.now.numbers.now legs.now.tails.now legs.now.heads.now }
+    requires room { length (places_of (shortest_path (plan_value plan)) legs.now.numbers.now legs.now.tails.now legs.now.heads.now
+        (circuit legs.now.tails.now legs.now.heads.now))
         ≤ length places.old }
     ensures places_written { places.new
-        ≡ written (places_of (shortest_path (plan_value plan)) numbers.now tails.now heads.now
-        (circuit tails.now heads.now)) places.old }
+        ≡ written (places_of (shortest_path (plan_value plan)) legs.now.numbers.now legs.now.tails.now legs.now.heads.now
+        (circuit legs.now.tails.now legs.now.heads.now)) places.old }
     ensures place_count { result ≡ length
-        (places_of (shortest_path (plan_value plan)) numbers.now tails.now heads.now
-        (circuit tails.now heads.now)) }
+        (places_of (shortest_path (plan_value plan)) legs.now.numbers.now legs.now.tails.now legs.now.heads.now
+        (circuit legs.now.tails.now legs.now.heads.now)) }
 {
-    arrange(tails, heads, order);
+    arrange(legs.tails, legs.heads, order);
     let arcs = plan::rows::rows_of(plan);
-    let m = plan.m as usize;
-    let n = plan.n as usize;
     let rows: &[[u32; 64]] = weights;
-    write(&arcs[..m], &rows[..n], numbers, tails, heads, order, places)
+    write(
+        &arcs[..usize::from(plan.m)],
+        &rows[..usize::from(plan.n)],
+        legs,
+        order,
+        places,
+    )
 }
 
 // Writes the drive that the required arcs, the links of an arborescence and the amounts that balance them make, by the table of
@@ -66,10 +70,10 @@ pub fn write_drive(
         places.old }
     ensures place_count { result ≡ length (drive (plan_value plan) (links_of link_tails.now link_heads.now) amounts.now) }
 {
-    let mut numbers = [0u16; 256];
-    let mut tails = [0u8; 526];
-    let mut heads = [0u8; 526];
-    let mut order = [0u16; 526];
+    let mut numbers = [0; 256];
+    let mut tails = [0; 526];
+    let mut heads = [0; 526];
+    let mut order = [0; 526];
     let counts = lay(
         plan,
         link_tails,
@@ -79,15 +83,15 @@ pub fn write_drive(
         &mut tails,
         &mut heads,
     );
-    let c = counts.required;
-    let n = counts.legs;
     write_circuit(
         plan,
         weights,
-        &numbers[..c],
-        &tails[..n],
-        &heads[..n],
-        &mut order[..n],
+        &Legs {
+            numbers: &numbers[..counts.required],
+            tails: &tails[..counts.legs],
+            heads: &heads[..counts.legs],
+        },
+        &mut order[..counts.legs],
         places,
     )
 }

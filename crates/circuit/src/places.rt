@@ -7,44 +7,50 @@ ghost use Rattle.paths.specs.Leaving.{IsLeavingChain};
 ghost use Rattle.shortest.specs.StepContracts.{AreRows, overwrite};
 ghost use Rattle.drive_legs.specs.Drive.{leg_places, places_of, written, HavePaths};
 
-use hierholzer::widen::{wide, wide8};
 use paths::path::{chain_of, column_to, path};
+
+// The legs, as they are lent: the numbers of the required arcs, which come first, and the tails and the heads of all.
+#[derive(Clone, Copy)]
+pub(crate) struct Legs<'a> {
+    pub(crate) numbers: &'a [u16],
+    pub(crate) tails: &'a [u8],
+    pub(crate) heads: &'a [u8],
+}
 
 // Writes leg e into the places from `at` on, and answers the place after it.
 fn write_leg(
     arcs: &[[u16; 5]],
     chain: &[u16; 320],
     weights: &[[u32; 64]],
-    numbers: &[u16],
-    tails: &[u8],
-    heads: &[u8],
+    legs: &Legs<'_>,
     e: usize,
     places: &mut [u16],
     at: usize,
 ) -> usize
     requires well_formed { WellFormed (plan_in (length weights.now) arcs.now) × AreRows (plan_in (length weights.now) arcs.now) weights.now
         × IsLeavingChain arcs.now chain.now }
-    requires have_paths { (e < length tails.now) × (length heads.now ≡ length tails.now)
-        × HavePaths (plan_in (length weights.now) arcs.now) numbers.now tails.now heads.now }
-    requires room { at + length (leg_places (shortest_path (plan_in (length weights.now) arcs.now)) numbers.now tails.now heads.now e)
+    requires have_paths { (e < length legs.now.tails.now) × (length legs.now.heads.now ≡ length legs.now.tails.now)
+        × HavePaths (plan_in (length weights.now) arcs.now) legs.now.numbers.now legs.now.tails.now legs.now.heads.now }
+    requires room { at
+        + length (leg_places (shortest_path (plan_in (length weights.now) arcs.now)) legs.now.numbers.now legs.now.tails.now
+        legs.now.heads.now e)
         ≤ length places.old }
     ensures places_written { places.new
         ≡ overwrite places.old at
-        (leg_places (shortest_path (plan_in (length weights.now) arcs.now)) numbers.now tails.now
-        heads.now e) }
+        (leg_places (shortest_path (plan_in (length weights.now) arcs.now)) legs.now.numbers.now legs.now.tails.now
+        legs.now.heads.now e) }
     ensures next_place { result ≡ at
-        + length (leg_places (shortest_path (plan_in (length weights.now) arcs.now)) numbers.now
-        tails.now heads.now e) }
+        + length (leg_places (shortest_path (plan_in (length weights.now) arcs.now)) legs.now.numbers.now
+        legs.now.tails.now legs.now.heads.now e) }
 {
-    if e < numbers.len() {
-        places[at] = numbers[e];
+    if e < legs.numbers.len() {
+        places[at] = legs.numbers[e];
         return at + 1;
     }
-    let i = wide8(tails[e]);
-    let j = wide8(heads[e]);
+    let i = usize::from(legs.tails[e]);
+    let j = usize::from(legs.heads[e]);
     let column = column_to(weights, j);
-    let n = weights.len();
-    path(arcs, chain, &column[..n], i, j, places, at)
+    path(arcs, chain, &column[..weights.len()], i, j, places, at)
 }
 
 // Writes the legs in their order from the start of the places on, and answers how many places
@@ -53,42 +59,29 @@ fn write_legs(
     arcs: &[[u16; 5]],
     chain: &[u16; 320],
     weights: &[[u32; 64]],
-    numbers: &[u16],
-    tails: &[u8],
-    heads: &[u8],
+    legs: &Legs<'_>,
     order: &[u16],
     places: &mut [u16],
 ) -> usize
     requires well_formed { WellFormed (plan_in (length weights.now) arcs.now) × AreRows (plan_in (length weights.now) arcs.now) weights.now
         × IsLeavingChain arcs.now chain.now }
-    requires in_range { (x : ℕ) → x < length order.now → get_or order.now x 0 < length tails.now }
-    requires have_paths { (length heads.now ≡ length tails.now)
-        × HavePaths (plan_in (length weights.now) arcs.now) numbers.now tails.now heads.now }
+    requires in_range { (x : ℕ) → x < length order.now → get_or order.now x 0 < length legs.now.tails.now }
+    requires have_paths { (length legs.now.heads.now ≡ length legs.now.tails.now)
+        × HavePaths (plan_in (length weights.now) arcs.now) legs.now.numbers.now legs.now.tails.now legs.now.heads.now }
     requires room { length
-        (places_of (shortest_path (plan_in (length weights.now) arcs.now)) numbers.now tails.now heads.now order.now)
+        (places_of (shortest_path (plan_in (length weights.now) arcs.now)) legs.now.numbers.now legs.now.tails.now
+        legs.now.heads.now order.now)
         ≤ length places.old }
     ensures places_written { places.new
-        ≡ written (places_of (shortest_path (plan_in (length weights.now) arcs.now)) numbers.now
-        tails.now heads.now order.now) places.old }
+        ≡ written (places_of (shortest_path (plan_in (length weights.now) arcs.now)) legs.now.numbers.now
+        legs.now.tails.now legs.now.heads.now order.now) places.old }
     ensures place_count { result ≡ length
-        (places_of (shortest_path (plan_in (length weights.now) arcs.now)) numbers.now tails.now
-        heads.now order.now) }
+        (places_of (shortest_path (plan_in (length weights.now) arcs.now)) legs.now.numbers.now legs.now.tails.now
+        legs.now.heads.now order.now) }
 {
-    let mut at: usize = 0;
-    let mut x: usize = 0;
-    while x < order.len() {
-        at = write_leg(
-            arcs,
-            chain,
-            weights,
-            numbers,
-            tails,
-            heads,
-            wide(order[x]),
-            places,
-            at,
-        );
-        x += 1;
+    let mut at = 0;
+    for e in order {
+        at = write_leg(arcs, chain, weights, legs, usize::from(*e), places, at);
     }
     at
 }
@@ -97,27 +90,26 @@ fn write_legs(
 pub(crate) fn write(
     arcs: &[[u16; 5]],
     weights: &[[u32; 64]],
-    numbers: &[u16],
-    tails: &[u8],
-    heads: &[u8],
+    legs: &Legs<'_>,
     order: &[u16],
     places: &mut [u16],
 ) -> usize
     requires well_formed { WellFormed (plan_in (length weights.now) arcs.now)
         × AreRows (plan_in (length weights.now) arcs.now) weights.now }
-    requires in_range { (x : ℕ) → x < length order.now → get_or order.now x 0 < length tails.now }
-    requires have_paths { (length heads.now ≡ length tails.now)
-        × HavePaths (plan_in (length weights.now) arcs.now) numbers.now tails.now heads.now }
+    requires in_range { (x : ℕ) → x < length order.now → get_or order.now x 0 < length legs.now.tails.now }
+    requires have_paths { (length legs.now.heads.now ≡ length legs.now.tails.now)
+        × HavePaths (plan_in (length weights.now) arcs.now) legs.now.numbers.now legs.now.tails.now legs.now.heads.now }
     requires room { length
-        (places_of (shortest_path (plan_in (length weights.now) arcs.now)) numbers.now tails.now heads.now order.now)
+        (places_of (shortest_path (plan_in (length weights.now) arcs.now)) legs.now.numbers.now legs.now.tails.now
+        legs.now.heads.now order.now)
         ≤ length places.old }
     ensures places_written { places.new
-        ≡ written (places_of (shortest_path (plan_in (length weights.now) arcs.now)) numbers.now
-        tails.now heads.now order.now) places.old }
+        ≡ written (places_of (shortest_path (plan_in (length weights.now) arcs.now)) legs.now.numbers.now
+        legs.now.tails.now legs.now.heads.now order.now) places.old }
     ensures place_count { result ≡ length
-        (places_of (shortest_path (plan_in (length weights.now) arcs.now)) numbers.now tails.now
-        heads.now order.now) }
+        (places_of (shortest_path (plan_in (length weights.now) arcs.now)) legs.now.numbers.now legs.now.tails.now
+        legs.now.heads.now order.now) }
 {
     let chain = chain_of(arcs);
-    write_legs(arcs, &chain, weights, numbers, tails, heads, order, places)
+    write_legs(arcs, &chain, weights, legs, order, places)
 }

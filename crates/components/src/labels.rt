@@ -11,20 +11,13 @@ use plan::{Arc, Plan};
 fn renamed(label: u8, from: u8, to: u8) -> u8
     ensures { result ≡ rename from to label }
 {
-    if label == from {
-        return to;
-    }
-    label
+    if label == from { to } else { label }
 }
 
 fn rename_all(labels: [u8; 64], from: u8, to: u8) -> [u8; 64]
     ensures { (length result ≡ 64) × ((v : ℕ) → v < 64 → get_or result v 0 ≡ rename from to (get_or labels v 0)) }
 {
-    let mut new = [0u8; 64];
-    for v in 0..64 {
-        new[v] = renamed(labels[v], from, to);
-    }
-    new
+    labels.map(|label| renamed(label, from, to))
 }
 
 // The labels once the arc is counted: a required arc merges the labels of its ends.
@@ -33,24 +26,18 @@ fn merged(labels: [u8; 64], a: Arc) -> [u8; 64]
     ensures { (length result ≡ 64) × ((v : ℕ) → v < 64 → get_or result v 0 ≡ label_after (arc_value a) labels v) }
 {
     if plan::is_required(a) {
-        let x = labels[a.tail as usize];
-        let y = labels[a.head as usize];
-        if x < y {
-            return rename_all(labels, y, x);
-        }
-        return rename_all(labels, x, y);
+        let x = labels[usize::from(a.tail)];
+        let y = labels[usize::from(a.head)];
+        rename_all(labels, x.max(y), x.min(y))
+    } else {
+        labels
     }
-    labels
 }
 
 fn own_labels() -> [u8; 64]
     ensures { (length result ≡ 64) × ((v : ℕ) → v < 64 → get_or result v 0 ≡ v) }
 {
-    let mut labels = [0u8; 64];
-    for v in 0..64 {
-        labels[v] = v as u8;
-    }
-    labels
+    std::array::from_fn(|v| v as u8)
 }
 
 // For each required vertex the lowest vertex of its component.
@@ -59,9 +46,8 @@ pub(crate) fn labels_of(plan: Plan) -> [u8; 64]
     ensures { Labelled (plan_value plan) (length (plan_value plan).arcs) result }
 {
     let mut labels = own_labels();
-    let m = plan.m as usize;
-    for k in 0..m {
-        let next = merged(labels, plan.arcs[k]);
+    for a in &plan.arcs[..usize::from(plan.m)] {
+        let next = merged(labels, *a);
         labels = next;
     }
     labels

@@ -1,7 +1,7 @@
 // The number of trees of a plan file.
 #![tactic(auto)]
 
-ghost use Rattle.std.specs.Prelude.{◌≡◌};
+ghost use Rattle.std.specs.Prelude.{◌≡◌, Ok};
 ghost use Rattle.postman.specs.Plan.{Plan as AnyPlan, WellFormed};
 ghost use Rattle.postman.specs.Refusal.{answer, given};
 ghost use Rattle.postman.specs.TreeCount.{counted as counted_as, tree_count, count_call};
@@ -13,39 +13,37 @@ ghost use Rattle.count_call.specs.Contract.{count_answer};
 use call_steps::steps::network_verdict;
 use network::network::Network;
 use plan::Plan;
-use refusal::{Refusal, Verdict};
+use plan_file::reader::read_plan;
+use refusal::Refusal;
 
 // "Give the exact number of trees, counted without listing each, or the answer 'above 4,294,967,295' exactly when it is."
-#[derive(Clone, Copy)]
-pub enum Counted {
-    Refused(Refusal),
+#[derive(Clone, Copy, Debug, PartialEq, Eq)]
+pub enum Count {
     Known(u32),
     Above,
 }
 
 // A number that is counted.
-fn known_or_above(n: u64) -> Counted
-    ensures { count_answer result ≡ given (counted_as n) }
+fn known_or_above(n: u64) -> Count
+    ensures { count_answer (Ok result) ≡ given (counted_as n) }
 {
     if 4_294_967_295 < n {
-        return Counted::Above;
+        return Count::Above;
     }
-    Counted::Known(n as u32)
+    Count::Known(n as u32)
 }
 
 // 10, 11 and 12, then the number, for whatever plan it is the network of.
-fn count_measured(net: Network) -> Counted
+fn count_measured(net: Network) -> Result<Count, Refusal>
     ensures { (p : AnyPlan) → WellFormed p → IsNetwork p net
         → count_answer result ≡ answer (network_refusal net.components net.cut_off) (tree_count p) }
 {
-    match network_verdict(net.components, net.cut_off) {
-        Verdict::Refused(r) => Counted::Refused(r),
-        Verdict::Accepted => known_or_above(tree_count::of_network(net)),
-    }
+    network_verdict(net.components, net.cut_off)?;
+    Ok(known_or_above(tree_count::of_network(net)))
 }
 
 // The distances and the network of a plan that the file's rules let through.
-fn count_read(plan: Plan) -> Counted
+fn count_read(plan: Plan) -> Result<Count, Refusal>
     requires { WellFormed (plan_value plan) }
     ensures { count_answer result ≡ answer (plan_refusal (plan_value plan)) (tree_count (plan_value plan)) }
 {
@@ -55,14 +53,8 @@ fn count_read(plan: Plan) -> Counted
 }
 
 // THE COUNT, for any bytes. It asks nothing and changes nothing.
-pub fn count_call(bytes: &[u8]) -> Counted
+pub fn count_call(bytes: &[u8]) -> Result<Count, Refusal>
     ensures { count_answer result ≡ count_call bytes.now }
 {
-    let reading = plan_file::reader::read_plan(bytes);
-    let plan = reading.plan;
-    let verdict = reading.verdict;
-    match verdict {
-        Verdict::Refused(r) => Counted::Refused(r),
-        Verdict::Accepted => count_read(plan),
-    }
+    count_read(read_plan(bytes)?.plan)
 }

@@ -1,5 +1,5 @@
 // The deep call: the refusals in their order, then the rounds, and the best drive of them.
-ghost use Rattle.std.specs.Prelude.{◌≡◌, ◌++◌, ◌-◌, ◌≤◌, length};
+ghost use Rattle.std.specs.Prelude.{◌≡◌, ◌++◌, ◌-◌, ◌≤◌, Ok, length};
 ghost use Rattle.std.proofs.Math.Option.{none};
 ghost use Rattle.postman.specs.Plan.{WellFormed};
 ghost use Rattle.postman.specs.Refusal.{first_refusal};
@@ -13,10 +13,11 @@ ghost use Rattle.rounds.specs.Held.{IsHeld};
 ghost use Rattle.deep_call.specs.Refusals.{highest_rounds, round_conditions};
 ghost use Rattle.deep_call.specs.Contract.{IsDeep, IsDeepCall};
 
-use call_steps::steps::{lent_verdict, refused};
+use call_steps::steps::lent_verdict;
 use held_tree::verdict::plan_verdict;
 use plan::Plan;
-use refusal::{Refusal, Verdict};
+use plan_file::reader::read_plan;
+use refusal::Refusal;
 use round_rule::kept::have_met;
 use rounds::round::{Deep, deepen, first_round};
 use rounds::under::lay_under;
@@ -35,23 +36,19 @@ fn lay_best(
     requires tabled { IsTabled (plan_value plan) table.now weights.now × (plan_refusal (plan_value plan) ≡ none)
         × (d.kept ≡ kept_after (plan_value plan) budget (rounds - 1)) × IsHeld (plan_value plan) d × (sheet_places ≤ length sheet.old) }
     requires within_limits { (1 ≤ budget) × (budget ≤ 1000000) × (rounds ≤ 1000) }
-    ensures { IsDeep (plan_value plan) budget rounds none sheet.old sheet.new result }
+    ensures { IsDeep (plan_value plan) budget rounds none sheet.old sheet.new (Ok result) }
 {
     let k = d.kept;
-    let x = k.drive;
-    let g = d.drive;
-    let a = lay_under(plan, table, weights, x, g, sheet);
-    let u = k.multipliers;
-    let whole = have_met(k.cost, k.floor);
+    let a = lay_under(plan, table, weights, k.drive, d.drive, sheet);
+    let multipliers = k.multipliers;
     Planned {
-        verdict: Verdict::Accepted,
         places: a.places,
         cost: k.cost,
         floor: k.floor,
         trees: k.trees,
-        whole: whole,
+        whole: have_met(k.cost, k.floor),
         parts: a.parts,
-        multipliers: u,
+        multipliers,
     }
 }
 
@@ -63,39 +60,33 @@ fn plan_deep(
     budget: u32,
     rounds: u32,
     sheet: &mut [u16],
-) -> Planned
+) -> Result<Planned, Refusal>
     requires tabled { IsTabled (plan_value plan) table.now weights.now × (sheet_places ≤ length sheet.old) }
     requires within_limits { (1 ≤ budget) × (budget ≤ 1000000) × (1 ≤ rounds) × (rounds ≤ 1000) }
     ensures { IsDeep (plan_value plan) budget rounds (plan_refusal (plan_value plan)) sheet.old sheet.new result }
 {
-    match plan_verdict(plan, table) {
-        Verdict::Refused(r) => refused(r),
-        Verdict::Accepted => {
-            let first = first_round(plan, table, budget);
-            let d = deepen(plan, table, budget, rounds, first);
-            lay_best(plan, table, weights, budget, rounds, d, sheet)
-        }
-    }
+    plan_verdict(plan, table)?;
+    let first = first_round(plan, table, budget);
+    let d = deepen(plan, table, budget, rounds, first);
+    Ok(lay_best(plan, table, weights, budget, rounds, d, sheet))
 }
 
 // 23 rounds: "0 or above 1,000".
+#[tactic(auto, unfolding(postman::specs::PlanFile::is_outside, crate::specs::Refusals::highest_rounds))]
 fn bad_rounds(rounds: u32) -> bool
     ensures { result ≡ is_outside rounds 1 highest_rounds }
 {
-    if rounds < 1 {
-        return true;
-    }
-    1_000 < rounds
+    rounds < 1 || 1_000 < rounds
 }
 
 // From 23 on.
-fn deep_within(plan: Plan, budget: u32, rounds: u32, sheet: &mut [u16]) -> Planned
+fn deep_within(plan: Plan, budget: u32, rounds: u32, sheet: &mut [u16]) -> Result<Planned, Refusal>
     requires { WellFormed (plan_value plan) × (1 ≤ budget) × (budget ≤ 1000000) × (sheet_places ≤ length sheet.old) }
     ensures { IsDeep (plan_value plan) budget rounds (first_refusal (round_conditions rounds ++ last_conditions (plan_value plan)))
         sheet.old sheet.new result }
 {
     if bad_rounds(rounds) {
-        return refused(Refusal::Rounds);
+        return Err(Refusal::Rounds);
     }
     let weights = shortest::weights::table(plan);
     let table = shortest::distance::table_of(&weights);
@@ -103,27 +94,24 @@ fn deep_within(plan: Plan, budget: u32, rounds: u32, sheet: &mut [u16]) -> Plann
 }
 
 // From 8 on.
-fn deep_lent(plan: Plan, budget: u64, rounds: u32, sheet: &mut [u16]) -> Planned
+fn deep_lent(plan: Plan, budget: u64, rounds: u32, sheet: &mut [u16]) -> Result<Planned, Refusal>
     requires { WellFormed (plan_value plan) }
     ensures { IsDeep (plan_value plan) budget rounds
         (first_refusal (call_conditions budget (length sheet.old) ++ (round_conditions rounds ++ last_conditions (plan_value plan))))
         sheet.old sheet.new result }
 {
-    match lent_verdict(budget, sheet.len()) {
-        Verdict::Refused(r) => refused(r),
-        Verdict::Accepted => deep_within(plan, budget as u32, rounds, sheet),
-    }
+    lent_verdict(budget, sheet.len())?;
+    deep_within(plan, budget as u32, rounds, sheet)
 }
 
 // THE DEEP CALL, for any bytes, any budget, any number of rounds and any sheet.
-pub fn deep_call(bytes: &[u8], budget: u64, rounds: u32, sheet: &mut [u16]) -> Planned
+pub fn deep_call(
+    bytes: &[u8],
+    budget: u64,
+    rounds: u32,
+    sheet: &mut [u16],
+) -> Result<Planned, Refusal>
     ensures { IsDeepCall bytes.now budget rounds sheet.old sheet.new result }
 {
-    let reading = plan_file::reader::read_plan(bytes);
-    let plan = reading.plan;
-    let verdict = reading.verdict;
-    match verdict {
-        Verdict::Refused(r) => refused(r),
-        Verdict::Accepted => deep_lent(plan, budget, rounds, sheet),
-    }
+    deep_lent(read_plan(bytes)?.plan, budget, rounds, sheet)
 }

@@ -1,31 +1,13 @@
 // Amounts from surplus to deficit only.
 // Steps for other crates, which ask something of their caller.
-ghost use Rattle.std.specs.Prelude.{◌≡◌, ◌+◌, ◌<◌, ◌≤◌, min};
+ghost use Rattle.std.specs.Prelude.{◌≡◌, ◌+◌, ◌<◌, ◌≤◌};
 ghost use mathlib.Core.List.{Memᴰ};
-ghost use Rattle.residual_search.specs.Bounds.{AtMost};
 ghost use Rattle.postman.specs.Steps.{cell, amount};
-ghost use Rattle.direct_amounts.specs.Direct.{passed, gained, bypass, bypass_from, bypass_vertex, direct};
+ghost use Rattle.direct_amounts.specs.Direct.{passed, bypass, bypass_from, bypass_vertex, direct};
 ghost use Rattle.balance.specs.Invariant.{Metric, Sparse, Certified, limit};
 ghost use Rattle.balance.specs.Records.{state_of};
 
 use balance::state::Balance;
-use integers::wide;
-use residual_search::entries::vertex;
-
-// The lesser of two amounts.
-fn fewer(a: u16, b: u16) -> u16
-    ensures { (result ≡ min a b) × (result ≤ a) × (result ≤ b) }
-{
-    if a < b { a } else { b }
-}
-
-// What goes from a to c, once m more do.
-fn gained_by(a: usize, c: usize, z: u16, m: u16) -> u16
-    requires { z + m ≤ 64000 }
-    ensures { result ≡ gained a c z m }
-{
-    if a == c { z } else { z + m }
-}
 
 // What b passes on from a to c goes directly.
 fn bypass_by(f: &mut [u16; 4096], a: usize, b: usize, c: usize)
@@ -35,46 +17,32 @@ fn bypass_by(f: &mut [u16; 4096], a: usize, b: usize, c: usize)
     let x = f[a * 64 + b];
     let y = f[b * 64 + c];
     let z = f[a * 64 + c];
-    let m = fewer(x, y);
-    let w = gained_by(a, c, z, m);
+    let m = x.min(y);
     f[a * 64 + b] = x - m;
     f[b * 64 + c] = y - m;
-    f[a * 64 + c] = w;
+    f[a * 64 + c] = if a == c { z } else { z + m };
 }
 
-// b passes on nothing from a.
+// b passes on nothing from a. Where a sends nothing to b, that is so.
 fn bypass_from(f: &mut [u16; 4096], vs: &[u8], b: usize, a: usize)
-    requires { Sparse vs.now f.old × AtMost 63 vs.now × Memᴰ b vs.now × Memᴰ a vs.now }
+    requires { Sparse vs.now f.old × Memᴰ b vs.now × Memᴰ a vs.now }
     ensures { f.new ≡ bypass_from vs.now b f.old a }
 {
-    let mut k: usize = 0;
-    while k < vs.len() {
-        let c = wide(vertex(vs, k));
-        bypass_by(f, a, b, c);
-        k += 1;
+    if f[a * 64 + b] == 0 {
+        return;
     }
-}
-
-// The same: where a sends nothing to b, nothing is passed on.
-fn bypass_sent(f: &mut [u16; 4096], vs: &[u8], b: usize, a: usize)
-    requires { Sparse vs.now f.old × AtMost 63 vs.now × Memᴰ b vs.now × Memᴰ a vs.now }
-    ensures { f.new ≡ bypass_from vs.now b f.old a }
-{
-    if f[a * 64 + b] > 0 {
-        bypass_from(f, vs, b, a);
+    for &c in vs {
+        bypass_by(f, a, b, usize::from(c));
     }
 }
 
 // b passes on nothing.
 fn bypass_vertex(f: &mut [u16; 4096], vs: &[u8], b: usize)
-    requires { Sparse vs.now f.old × AtMost 63 vs.now × Memᴰ b vs.now }
+    requires { Sparse vs.now f.old × Memᴰ b vs.now }
     ensures { f.new ≡ bypass_vertex vs.now f.old b }
 {
-    let mut k: usize = 0;
-    while k < vs.len() {
-        let a = wide(vertex(vs, k));
-        bypass_sent(f, vs, b, a);
-        k += 1;
+    for &a in vs {
+        bypass_from(f, vs, b, usize::from(a));
     }
 }
 
@@ -84,11 +52,8 @@ pub fn direct_amounts(s: Balance, d: &[[u32; 64]; 64], vs: &[u8]) -> [u16; 4096]
     ensures { result ≡ direct vs.now s.amounts }
 {
     let mut f = s.amounts;
-    let mut k: usize = 0;
-    while k < vs.len() {
-        let b = wide(vertex(vs, k));
-        bypass_vertex(&mut f, vs, b);
-        k += 1;
+    for &b in vs {
+        bypass_vertex(&mut f, vs, usize::from(b));
     }
     f
 }

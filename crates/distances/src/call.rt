@@ -10,7 +10,7 @@ use crate::Searched;
 use crate::entries::put_entries;
 use crate::pairs::pairs_verdict;
 use plan::Plan;
-use refusal::Verdict;
+use plan_file::reader::read_plan;
 
 // 17, then 8, then the entries of a plan that the file's rules let through.
 fn plan_distances(plan: Plan, pairs: &[u16], distances: &mut [u32]) -> Searched
@@ -19,11 +19,8 @@ fn plan_distances(plan: Plan, pairs: &[u16], distances: &mut [u32]) -> Searched
         (first_refusal (pairs_conditions (plan_value plan).n pairs.now (length distances.old)))
         pairs.now distances.old distances.new result }
 {
-    let n = plan.n;
-    match pairs_verdict(n as usize, pairs, distances.len()) {
-        Verdict::Refused(r) => Searched::Refused(r),
-        Verdict::Accepted => Searched::Searches(put_entries(plan, pairs, distances)),
-    }
+    pairs_verdict(plan.n as usize, pairs, distances.len())?;
+    Ok(put_entries(plan, pairs, distances))
 }
 
 // THE DISTANCE CALL, for any bytes, any list of pairs and any list for the distances: the first refusal by its order, with every
@@ -33,11 +30,5 @@ pub fn distance_call(bytes: &[u8], pairs: &[u16], distances: &mut [u32]) -> Sear
     ensures answered { searched_answer result ≡ distance_answer bytes.now pairs.now (length distances.old) }
     ensures distances_written { distances.new ≡ distances_after bytes.now pairs.now distances.old }
 {
-    let reading = plan_file::reader::read_plan(bytes);
-    let plan = reading.plan;
-    let verdict = reading.verdict;
-    match verdict {
-        Verdict::Refused(r) => Searched::Refused(r),
-        Verdict::Accepted => plan_distances(plan, pairs, distances),
-    }
+    plan_distances(read_plan(bytes)?.plan, pairs, distances)
 }

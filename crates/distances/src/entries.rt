@@ -15,10 +15,7 @@ fn entry(row: &[u32; 64], source: usize, from: usize, to: usize, old: u32) -> u3
     requires { to < 64 }
     ensures { result ≡ entry_by source row.now from to old }
 {
-    if from == source {
-        return row[to];
-    }
-    old
+    if from == source { row[to] } else { old }
 }
 
 // The entries of the pairs whose first vertex is `source`.
@@ -26,11 +23,8 @@ fn put_row(row: &[u32; 64], source: usize, pairs: &[u16], distances: &mut [u32])
     requires { ArePairs 64 pairs.now × (length pairs.now ≤ length distances.old) }
     ensures { IsRowPut source row.now pairs.now distances.old distances.new }
 {
-    for k in 0..pairs.len() {
-        let from = first(pairs[k]);
-        let to = second(pairs[k]);
-        let old = distances[k];
-        distances[k] = entry(row, source, from, to, old);
+    for (k, x) in pairs.iter().enumerate() {
+        distances[k] = entry(row, source, first(*x), second(*x), distances[k]);
     }
 }
 
@@ -53,8 +47,8 @@ pub(crate) fn put_entries(plan: Plan, pairs: &[u16], distances: &mut [u32]) -> u
 {
     let mut searches: u16 = 0;
     let mut searched = [false; 64];
-    for k in 0..pairs.len() {
-        let source = first(pairs[k]);
+    for x in pairs {
+        let source = first(*x);
         if !searched[source] {
             search(plan, source, pairs, distances);
             searched[source] = true;

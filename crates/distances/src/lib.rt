@@ -8,8 +8,4 @@ pub mod call; // the distance call
 use refusal::Refusal;
 
 // What the distance call answers: the number of searches run, or the refusal.
-#[derive(Clone, Copy)]
-pub enum Searched {
-    Searches(u16),
-    Refused(Refusal),
-}
+pub type Searched = Result<u16, Refusal>;

@@ -22,10 +22,7 @@ pub(crate) fn second(x: u16) -> usize
 fn is_stray(n: usize, x: u16) -> bool
     ensures { result ≡ is_stray n x }
 {
-    if n <= first(x) {
-        return true;
-    }
-    n <= second(x)
+    n <= first(x) || n <= second(x)
 }
 
 // 17 stray pair: "more than 256 pairs, or a vertex of n or more".
@@ -35,8 +32,8 @@ fn has_stray(n: usize, pairs: &[u16]) -> bool
     if 256 < pairs.len() {
         return true;
     }
-    for k in 0..pairs.len() {
-        if is_stray(n, pairs[k]) {
+    for x in pairs {
+        if is_stray(n, *x) {
             return true;
         }
     }
@@ -47,13 +44,11 @@ fn has_stray(n: usize, pairs: &[u16]) -> bool
 pub(crate) fn pairs_verdict(n: usize, pairs: &[u16], room: usize) -> Verdict
     ensures { verdict_number result ≡ first_refusal (pairs_conditions n pairs.now room) }
 {
-    let stray = has_stray(n, pairs);
-    let short = room < pairs.len();
-    if stray {
-        return Verdict::Refused(Refusal::StrayPair);
+    if has_stray(n, pairs) {
+        return Err(Refusal::StrayPair);
     }
-    if short {
-        return Verdict::Refused(Refusal::ShortSheet);
+    if room < pairs.len() {
+        return Err(Refusal::ShortSheet);
     }
-    Verdict::Accepted
+    Ok(())
 }

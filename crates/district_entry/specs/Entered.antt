@@ -1,5 +1,5 @@
 -- AN ENTRY, of any bytes and any budget into any machine.
-use Rattle.std.specs.Prelude.{◌≡◌, List, [], ◌∷◌, ◌++◌, ℕ}
+use Rattle.std.specs.Prelude.{◌≡◌, List, [], ◌∷◌, ◌++◌, ℕ, Ok}
 use Rattle.std.proofs.Math.Option.{Option, none, some}
 use Rattle.postman.specs.Refusal.{first_refusal}
 use Rattle.postman.specs.PlanFile.{file_conditions, is_outside, plan_of}
@@ -7,7 +7,6 @@ use Rattle.postman.specs.PlanCall.{highest_budget, budget_conditions, last_condi
 use Rattle.held_file.specs.Held.{held_of}
 use Rattle.district_machine.specs.declared.machine.District.{District as DistrictRecord}
 use Rattle.district_machine.specs.declared.machine.Machine.{Machine}
-use Rattle.district_entry.specs.declared.enter.Admission.TheVariants.{At}
 use Rattle.district_entry.specs.declared.enter.Entered.{Entered}
 use Rattle.postman.specs.Districts.{entry_refusal, lowest_free}
 use Rattle.district_machine.specs.Machine.{waiting_in, line_of, machine_of}
@@ -37,5 +36,5 @@ after_entry m bytes budget =
 -- The refusal, or the lowest free place; and the machine afterwards.
 pub record IsEntered (m : Machine) (bytes : List ℕ) (budget : ℕ) (r : Entered) : Type 0 where
   pub refusal : admission_number r.answer ≡ entry_refusal (line_of m) bytes budget
-  pub place : (q : ℕ) → r.answer ≡ At q → q ≡ lowest_free (line_of m)
+  pub place : (q : ℕ) → r.answer ≡ Ok q → q ≡ lowest_free (line_of m)
   pub machine : r.machine ≡ after_entry m bytes budget

@@ -7,7 +7,7 @@ ghost use Rattle.refusal.specs.Verdict.{verdict_number};
 ghost use Rattle.call_steps.specs.Refusals.{plan_refusal, budget_refusal};
 ghost use Rattle.district_entry.specs.Entered.{call_part, IsEntered};
 
-use budget::{Budget, Checked};
+use budget::Budget;
 use call_steps::steps::network_verdict;
 use district_machine::machine::{District, Machine};
 use district_machine::places::{lined_up, lowest_free};
@@ -17,11 +17,7 @@ use refusal::{Refusal, Verdict};
 use tree_search::trees::nothing_held;
 
 // The place, or why there is none.
-#[derive(Clone, Copy)]
-pub enum Admission {
-    At(u8),
-    Refused(Refusal),
-}
+pub type Admission = Result<u8, Refusal>;
 
 #[derive(Clone, Copy)]
 pub struct Entered {
@@ -45,23 +41,16 @@ fn budget_verdict(plan: Plan, budget: u64) -> Verdict
     requires { WellFormed (plan_value plan) }
     ensures { verdict_number result ≡ budget_refusal (plan_value plan) budget }
 {
-    match Budget::new(budget) {
-        Checked::Refused => Verdict::Refused(Refusal::Budget),
-        Checked::Good(b) => parts_verdict(plan),
-    }
+    Budget::new(budget)?;
+    parts_verdict(plan)
 }
 
 // The plan call's refusals but 8.
 fn call_verdict(bytes: &[u8], budget: u64) -> Verdict
     ensures { verdict_number result ≡ call_part bytes.now budget }
 {
-    let reading = plan_file::reader::read_plan(bytes);
-    let plan = reading.plan;
-    let verdict = reading.verdict;
-    match verdict {
-        Verdict::Refused(r) => Verdict::Refused(r),
-        Verdict::Accepted => budget_verdict(plan, budget),
-    }
+    let reading = plan_file::reader::read_plan(bytes)?;
+    budget_verdict(reading.plan, budget)
 }
 
 // A plan and a budget that are not refused: 22, or the district at the back of the line.
@@ -72,29 +61,25 @@ fn admit(m: Machine, bytes: &[u8], budget: u32) -> Entered
     let n = m.waiting;
     if 8 <= n {
         return Entered {
-            answer: Admission::Refused(Refusal::Full),
+            answer: Err(Refusal::Full),
             machine: m,
         };
     }
-    let before = m.line;
-    let place = lowest_free(before, n);
-    let mut line = lined_up(before, 0, n);
-    let file = hold(bytes);
-    let held = nothing_held();
+    let place = lowest_free(m.line, n);
+    let mut line = lined_up(m.line, 0, n);
     let d = District {
-        place: place,
-        plan: file,
-        budget: budget,
-        held: held,
+        place,
+        plan: hold(bytes),
+        budget,
+        held: nothing_held(),
     };
     line[n] = d;
-    let next = Machine {
-        line: line,
-        waiting: n + 1,
-    };
     Entered {
-        answer: Admission::At(place),
-        machine: next,
+        answer: Ok(place),
+        machine: Machine {
+            line,
+            waiting: n + 1,
+        },
     }
 }
 
@@ -103,10 +88,10 @@ pub fn enter(m: Machine, bytes: &[u8], budget: u64) -> Entered
     ensures { IsEntered m bytes.now budget result }
 {
     match call_verdict(bytes, budget) {
-        Verdict::Refused(r) => Entered {
-            answer: Admission::Refused(r),
+        Err(r) => Entered {
+            answer: Err(r),
             machine: m,
         },
-        Verdict::Accepted => admit(m, bytes, budget as u32),
+        Ok(()) => admit(m, bytes, budget as u32),
     }
 }

@@ -26,13 +26,11 @@ pub struct Machine {
 pub(crate) fn no_district() -> District
     ensures { result ≡ empty_district }
 {
-    let plan = no_file();
-    let held = nothing_held();
     District {
         place: 0,
-        plan: plan,
+        plan: no_file(),
         budget: 0,
-        held: held,
+        held: nothing_held(),
     }
 }
 
@@ -40,9 +38,8 @@ pub(crate) fn no_district() -> District
 pub fn empty() -> Machine
     ensures { result ≡ empty_machine }
 {
-    let none = no_district();
     Machine {
-        line: [none; 8],
+        line: [no_district(); 8],
         waiting: 0,
     }
 }

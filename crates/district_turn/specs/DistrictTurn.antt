@@ -10,7 +10,6 @@ use Rattle.postman.specs.PlanCall.{tried_count, is_whole}
 use Rattle.drive_legs.specs.Drive.{written}
 use Rattle.multipliers.specs.Drive.{tree_drive}
 use Rattle.call_steps.specs.Refusals.{plan_refusal}
-use Rattle.refusal.specs.declared.Verdict.TheVariants.{Accepted}
 use Rattle.solution.specs.declared.Planned.{Planned}
 use Rattle.tree_search.specs.declared.trees.Reached.{Reached}
 use Rattle.postman.specs.Districts.{turn_trees}
@@ -61,7 +60,6 @@ reached_after p budget g = record {
 abbrev pub so_far : ℕ → ℕ → Planned
 so_far cost trees =
     record {
-      verdict = Accepted;
       places = 0;
       cost = cost;
       floor = pos 0;

@@ -19,18 +19,12 @@ pub(crate) fn is_holding(plan: Plan, table: &[[u32; 64]; 64], r: Preparation, g:
     if g.tried == 0 {
         return true;
     }
-    let ts = g.tails;
-    let hs = g.heads;
-    let net = r.network;
-    let links = net.links;
-    let component = net.component;
-    let k = net.components as usize;
-    if !is_tree(ts, hs, &links, &component, k) {
+    let k = usize::from(r.network.components);
+    if !is_tree(g.tails, g.heads, &r.network.links, &r.network.component, k) {
         return false;
     }
     let n = k - 1;
-    let cost = tree_cost(plan, table, r, &ts[..n], &hs[..n]);
-    g.cost == cost
+    g.cost == tree_cost(plan, table, r, &g.tails[..n], &g.heads[..n])
 }
 
 // The first n of eight, and zeros behind them.
@@ -39,8 +33,6 @@ pub(crate) fn first_of(xs: [u8; 8], n: usize) -> [u8; 8]
     ensures { result ≡ padded 8 0 (take n xs) }
 {
     let mut r = [0u8; 8];
-    for i in 0..n {
-        r[i] = xs[i];
-    }
+    r[..n].copy_from_slice(&xs[..n]);
     r
 }

@@ -24,7 +24,6 @@ use call_steps::steps::network_verdict;
 use network::network::Network;
 use plan::Plan;
 use preparation::prepare::{Preparation, prepare};
-use refusal::Verdict;
 use solution::Planned;
 use solution::solve::conclude;
 use tree_search::improve::Searched;
@@ -45,11 +44,10 @@ pub fn so_far(cost: u64, trees: u32) -> Planned
     ensures { result ≡ so_far cost trees }
 {
     Planned {
-        verdict: Verdict::Accepted,
         places: 0,
-        cost: cost,
+        cost,
         floor: 0,
-        trees: trees,
+        trees,
         whole: false,
         parts: 0,
         multipliers: [0i64; 64],
@@ -60,12 +58,11 @@ pub fn so_far(cost: u64, trees: u32) -> Planned
 fn unfinished(good: bool, held: Reached) -> DistrictTurn
     ensures { (result.good ≡ good) × (result.done ≡ false) × (result.held ≡ held) × (result.planned ≡ so_far held.cost held.tried) }
 {
-    let planned = so_far(held.cost, held.tried);
     DistrictTurn {
-        good: good,
+        good,
         done: false,
-        held: held,
-        planned: planned,
+        held,
+        planned: so_far(held.cost, held.tried),
     }
 }
 
@@ -73,19 +70,17 @@ fn unfinished(good: bool, held: Reached) -> DistrictTurn
 fn finished(r: Resumed, planned: Planned) -> DistrictTurn
     ensures { (result.good ≡ true) × (result.done ≡ true) × (result.planned ≡ planned) }
 {
-    let ts = r.tails;
-    let hs = r.heads;
-    let held = Reached {
-        cost: r.cost,
-        tails: ts,
-        heads: hs,
-        tried: r.tried,
-    };
+    let (tails, heads) = (r.tails, r.heads);
     DistrictTurn {
         good: true,
         done: true,
-        held: held,
-        planned: planned,
+        held: Reached {
+            cost: r.cost,
+            tails,
+            heads,
+            tried: r.tried,
+        },
+        planned,
     }
 }
 
@@ -108,12 +103,11 @@ fn last(
         ≡ written (tree_drive (plan_value plan) (links_in (component_count (plan_value plan) - 1) x.tails x.heads))
         sheet.old }
 {
-    let ts = x.tails;
-    let hs = x.heads;
+    let (tails, heads) = (x.tails, x.heads);
     let s = Searched {
         cost: x.cost,
-        tails: ts,
-        heads: hs,
+        tails,
+        heads,
         tried: x.total,
         whole: x.whole,
     };
@@ -127,14 +121,10 @@ fn kept(r: Resumed, n: usize) -> Reached
     ensures { (result.cost ≡ r.cost) × (result.tails ≡ padded 8 0 (take n r.tails)) × (result.heads ≡ padded 8 0 (take n r.heads))
         × (result.tried ≡ r.tried) }
 {
-    let ts = r.tails;
-    let hs = r.heads;
-    let tails = first_of(ts, n);
-    let heads = first_of(hs, n);
     Reached {
         cost: r.cost,
-        tails: tails,
-        heads: heads,
+        tails: first_of(r.tails, n),
+        heads: first_of(r.heads, n),
         tried: r.tried,
     }
 }
@@ -161,10 +151,8 @@ fn turn_prepared(
         return unfinished(false, g);
     }
     if x.tried < x.total {
-        let net = r.network;
-        let k = net.components as usize;
-        let held = kept(x, k - 1);
-        return unfinished(true, held);
+        let k = usize::from(r.network.components);
+        return unfinished(true, kept(x, k - 1));
     }
     last(plan, table, weights, r, x, sheet)
 }
@@ -212,8 +200,8 @@ fn turn_measured(
         sheet.new result }
 {
     match network_verdict(net.components, net.cut_off) {
-        Verdict::Refused(r) => stuck(g),
-        Verdict::Accepted => turn_accepted(plan, table, weights, net, budget, g, sheet),
+        Err(_) => stuck(g),
+        Ok(()) => turn_accepted(plan, table, weights, net, budget, g, sheet),
     }
 }
 

@@ -1,5 +1,5 @@
 -- The turn of the front district of a machine that entries and turns lead to.
-use Rattle.std.specs.Prelude.{◌≡◌, true, false, List, ℕ, ◌+◌}
+use Rattle.std.specs.Prelude.{◌≡◌, Ok, true, false, List, ℕ, ◌+◌}
 use Rattle.std.proofs.Math.Option.{none}
 use Rattle.postman.specs.PlanFile.{plan_of}
 use Rattle.postman.specs.PlanCall.{best_cost}
@@ -14,5 +14,5 @@ use Rattle.districts.specs.declared.turn.Turned.{Turned}
 pub record IsServed (d : District) (old new : List ℕ) (r : Turned) : Type 0 where
   pub going : finishes d ≡ false
       → (r.outcome ≡ Unfinished d.place)
-      × (r.planned ≡ so_far (best_cost (plan_of d.bytes) (d.tried + turn_trees)) (d.tried + turn_trees)) × (new ≡ old)
+      × (r.planned ≡ Ok (so_far (best_cost (plan_of d.bytes) (d.tried + turn_trees)) (d.tried + turn_trees))) × (new ≡ old)
   pub last : finishes d ≡ true → (r.outcome ≡ Finished d.place) × IsPlanned (plan_of d.bytes) d.budget none old new r.planned

@@ -1,10 +1,11 @@
 -- A TURN, of any machine, with any sheet: what it meets, and what it makes of that.
-use Rattle.std.specs.Prelude.{◌≡◌, Bool, true, false, not, cond, ◌&&◌, List, [], ◌∷◌, ◌++◌, map, ℕ, length, leb, ltb}
+use Rattle.std.specs.Prelude.{◌≡◌, Result, Ok, Bool, true, false, not, cond, ◌&&◌, List, [], ◌∷◌, ◌++◌, map, ℕ, length, leb, ltb}
 use Rattle.postman.specs.Lists.{occurs}
 use Rattle.postman.specs.Plan.{Plan}
 use Rattle.postman.specs.Refusal.{first_refusal, is_good}
 use Rattle.postman.specs.PlanFile.{file_conditions, is_outside, plan_of}
 use Rattle.postman.specs.PlanCall.{sheet_places, highest_budget}
+use Rattle.refusal.specs.declared.Refusal.{Refusal}
 use Rattle.refusal.specs.declared.Refusal.TheVariants.{ShortSheet as ShortSheetRefusal}
 use Rattle.call_steps.specs.Refused.{refused_with}
 use Rattle.solution.specs.declared.Planned.{Planned}
@@ -85,12 +86,12 @@ outcome_of stuck = Empty
 outcome_of (goes_on d ds) = Unfinished d.place
 outcome_of (leaves d ds) = Finished d.place
 
-abbrev pub answer_of : Meeting → Planned
-answer_of nobody = so_far 0 0
+abbrev pub answer_of : Meeting → Result Planned Refusal
+answer_of nobody = Ok (so_far 0 0)
 answer_of short_sheet = refused_with ShortSheetRefusal
-answer_of stuck = so_far 0 0
-answer_of (goes_on d ds) = so_far (reached_now d).cost (reached_now d).tried
-answer_of (leaves d ds) = last_answer (plan_by d) d.budget d.held
+answer_of stuck = Ok (so_far 0 0)
+answer_of (goes_on d ds) = Ok (so_far (reached_now d).cost (reached_now d).tried)
+answer_of (leaves d ds) = Ok (last_answer (plan_by d) d.budget d.held)
 
 -- The sheet is "written in a district's last turn only".
 abbrev pub sheet_after : Meeting → List ℕ → List ℕ
@@ -108,7 +109,7 @@ pub record IsTurned (m : Machine) (old new : List ℕ) (r : Turned) : Type 0 whe
 
 -- A turn that the front district d had, which gave s, where the others are left.
 pub record IsAfter (others : Machine) (d : DistrictRecord) (s : DistrictTurn) (r : Turned) : Type 0 where
-  pub planned : r.planned ≡ s.planned
+  pub planned : r.planned ≡ Ok s.planned
   pub last : s.done ≡ true → (r.outcome ≡ Finished d.place) × (r.machine ≡ others)
   pub going : s.done ≡ false
       → (r.outcome ≡ Unfinished d.place)

@@ -6,11 +6,10 @@ ghost use Rattle.district_machine.specs.declared.machine.District.{District as D
 ghost use Rattle.district_machine.specs.Machine.{waiting_in, machine_of};
 ghost use Rattle.districts.specs.Turned.{plan_by, has_own_place, can_be_served, held_now, IsAfter, IsTurned};
 
-use call_steps::steps::refused;
 use district_machine::machine::{District, Machine};
 use district_machine::places::{is_taken, lined_up};
 use district_turn::plan_turn::{DistrictTurn, so_far, stuck, turn_read};
-use refusal::{Refusal, Verdict};
+use refusal::Refusal;
 use solution::Planned;
 use tree_search::trees::Reached;
 
@@ -27,7 +26,7 @@ pub enum Outcome {
 #[derive(Clone, Copy)]
 pub struct Turned {
     pub outcome: Outcome,
-    pub planned: Planned,
+    pub planned: Result<Planned, Refusal>,
     pub machine: Machine,
 }
 
@@ -36,11 +35,7 @@ fn has_own_place(place: u8, others: Machine) -> bool
     requires { others.waiting ≤ 8 }
     ensures { (d : DistrictRecord) → d.place ≡ place → result ≡ has_own_place d (waiting_in others) }
 {
-    if 8 <= place {
-        return false;
-    }
-    let line = others.line;
-    !is_taken(line, others.waiting, place)
+    place < 8 && !is_taken(others.line, others.waiting, place)
 }
 
 // The turn of the front district, over the plan that it holds. It has tried fewer trees than its budget, if it can be gone on with.
@@ -49,7 +44,6 @@ fn served(d: District, sheet: &mut [u16]) -> DistrictTurn
     ensures { IsDistrictTurn (plan_by d) d.budget d.held (can_be_served d) sheet.old sheet.new result }
 {
     let held = d.held;
-    let file = d.plan.file;
     let n = d.plan.length;
     if 1475 < n {
         return stuck(held);
@@ -60,12 +54,9 @@ fn served(d: District, sheet: &mut [u16]) -> DistrictTurn
     if d.budget <= held.tried {
         return stuck(held);
     }
-    let reading = plan_file::reader::read_plan(&file[..n]);
-    let plan = reading.plan;
-    let verdict = reading.verdict;
-    match verdict {
-        Verdict::Refused(r) => stuck(held),
-        Verdict::Accepted => turn_read(plan, d.budget, held, sheet),
+    match plan_file::reader::read_plan(&d.plan.file[..n]) {
+        Err(_) => stuck(held),
+        Ok(reading) => turn_read(reading.plan, d.budget, held, sheet),
     }
 }
 
@@ -74,11 +65,9 @@ fn left(m: Machine) -> Machine
     requires { (1 ≤ m.waiting) × (m.waiting ≤ 8) }
     ensures { result ≡ machine_of (drop 1 (waiting_in m)) }
 {
-    let line = m.line;
     let n = m.waiting - 1;
-    let next = lined_up(line, 1, n);
     Machine {
-        line: next,
+        line: lined_up(m.line, 1, n),
         waiting: n,
     }
 }
@@ -88,20 +77,10 @@ fn gone_on(others: Machine, d: District, held: Reached) -> Machine
     requires { others.waiting < 8 }
     ensures { (ds : List DistrictRecord) → others ≡ machine_of ds → result ≡ machine_of (ds ++ held_now d held ∷ []) }
 {
-    let mut line = others.line;
-    let plan = d.plan;
-    let back = District {
-        place: d.place,
-        plan: plan,
-        budget: d.budget,
-        held: held,
-    };
-    let n = others.waiting;
-    line[n] = back;
-    Machine {
-        line: line,
-        waiting: n + 1,
-    }
+    let mut next = others;
+    next.line[others.waiting] = District { held, ..d };
+    next.waiting += 1;
+    next
 }
 
 // The front district has had its turn.
@@ -109,31 +88,27 @@ fn after(others: Machine, d: District, s: DistrictTurn) -> Turned
     requires { others.waiting < 8 }
     ensures { IsAfter others d s result }
 {
-    let place = d.place;
-    let planned = s.planned;
     if s.done {
         return Turned {
-            outcome: Outcome::Finished(place),
-            planned: planned,
+            outcome: Outcome::Finished(d.place),
+            planned: Ok(s.planned),
             machine: others,
         };
     }
-    let held = s.held;
-    let next = gone_on(others, d, held);
     Turned {
-        outcome: Outcome::Unfinished(place),
-        planned: planned,
-        machine: next,
+        outcome: Outcome::Unfinished(d.place),
+        planned: Ok(s.planned),
+        machine: gone_on(others, d, s.held),
     }
 }
 
 // Nothing moves.
-fn still(m: Machine, outcome: Outcome, planned: Planned) -> Turned
+fn still(m: Machine, outcome: Outcome, planned: Result<Planned, Refusal>) -> Turned
     ensures { (result.outcome ≡ outcome) × (result.planned ≡ planned) × (result.machine ≡ m) }
 {
     Turned {
-        outcome: outcome,
-        planned: planned,
+        outcome,
+        planned,
         machine: m,
     }
 }
@@ -143,19 +118,17 @@ pub fn turn(m: Machine, sheet: &mut [u16]) -> Turned
     ensures { IsTurned m sheet.old sheet.new result }
 {
     let n = m.waiting;
-    let nothing = so_far(0, 0);
+    let nothing = Ok(so_far(0, 0));
     if n == 0 {
         return still(m, Outcome::Empty, nothing);
     }
     if sheet.len() < 17_266 {
-        let short = refused(Refusal::ShortSheet);
-        return still(m, Outcome::ShortSheet, short);
+        return still(m, Outcome::ShortSheet, Err(Refusal::ShortSheet));
     }
     if 8 < n {
         return still(m, Outcome::Empty, nothing);
     }
-    let line = m.line;
-    let d = line[0];
+    let d = m.line[0];
     let others = left(m);
     if !has_own_place(d.place, others) {
         return still(m, Outcome::Empty, nothing);

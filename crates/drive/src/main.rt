@@ -6,7 +6,7 @@ ghost use Rattle.std.specs.Prelude.{◌<◌, ◌≤◌, length, pos, ◌≤ℤ�
 use drive_output::message::{say, say_word};
 use drive_output::output::{flush, put, put_line};
 use planner::call::plan_call;
-use refusal::Verdict;
+use refusal::Refusal;
 use solution::Planned;
 use std::env::FillError;
 use std::io::Read;
@@ -29,9 +29,10 @@ fn put_whole(rt: &HostRuntime, space: &mut [u8; 4096], waiting: usize, whole: bo
     ensures { result < 4096 }
 {
     if whole {
-        return put(rt, space, waiting, b"whole yes\n");
+        put(rt, space, waiting, b"whole yes\n")
+    } else {
+        put(rt, space, waiting, b"whole no\n")
     }
-    put(rt, space, waiting, b"whole no\n")
 }
 
 // The lines before the places.
@@ -41,16 +42,16 @@ fn put_answer(rt: &HostRuntime, space: &mut [u8; 4096], r: Planned) -> usize
 {
     let cost = put_line(rt, space, 0, b"cost ", r.cost);
     let floor = put_floor(rt, space, cost, r.floor);
-    let trees = put_line(rt, space, floor, b"trees ", r.trees as u64);
+    let trees = put_line(rt, space, floor, b"trees ", u64::from(r.trees));
     let whole = put_whole(rt, space, trees, r.whole);
-    put_line(rt, space, whole, b"parts ", r.parts as u64)
+    put_line(rt, space, whole, b"parts ", u64::from(r.parts))
 }
 
 fn put_arc(rt: &HostRuntime, space: &mut [u8; 4096], waiting: usize, number: u16) -> usize
     requires { waiting < 4096 }
     ensures { result < 4096 }
 {
-    put_line(rt, space, waiting, b"arc ", number as u64)
+    put_line(rt, space, waiting, b"arc ", u64::from(number))
 }
 
 fn put_places(rt: &HostRuntime, space: &mut [u8; 4096], waiting: usize, sheet: &[u16]) -> usize
@@ -73,9 +74,10 @@ fn print_answer(rt: &HostRuntime, r: Planned, sheet: &[u16])
     flush(rt, space, all);
 }
 
-fn print_refusal(rt: &HostRuntime, number: u8) {
+fn print_refusal(rt: &HostRuntime, r: Refusal) {
+    let number = u8::from(r);
     let mut space = [0u8; 4096];
-    let all = put_line(rt, &mut space, 0, b"refused ", number as u64);
+    let all = put_line(rt, &mut space, 0, b"refused ", u64::from(number));
     flush(rt, space, all);
     say_word(rt, number);
 }
@@ -120,12 +122,9 @@ fn run(rt: &HostRuntime) {
     let n = read_full(&mut input, &mut file);
     pass_all(&mut input);
     let mut sheet = [0u16; 17266];
-    let r = plan_call(&file[..n], BUDGET, &mut sheet);
-    let verdict = r.verdict;
-    let count = r.places;
-    match verdict {
-        Verdict::Accepted => print_answer(rt, r, &sheet[..count]),
-        Verdict::Refused(q) => print_refusal(rt, refusal::refusal_number(q)),
+    match plan_call(&file[..n], BUDGET, &mut sheet) {
+        Ok(planned) => print_answer(rt, planned, &sheet[..planned.places]),
+        Err(refusal) => print_refusal(rt, refusal),
     }
 }
 

@@ -8,8 +8,8 @@ pub fn say(rt: &HostRuntime, line: &[u8]) {
     let _ = error.write_all(b"\n");
 }
 
-// The trade word of a refusal of the file.
-fn say_file_word(rt: &HostRuntime, number: u8) {
+// The trade word of a refusal of the plan call. The sheet and the budget are the program's own, and good.
+pub fn say_word(rt: &HostRuntime, number: u8) {
     match number {
         1 => say(rt, b"torn"),
         2 => say(rt, b"edition"),
@@ -17,25 +17,10 @@ fn say_file_word(rt: &HostRuntime, number: u8) {
         4 => say(rt, b"margin"),
         5 => say(rt, b"off sheet"),
         6 => say(rt, b"unpriced"),
-        _ => say(rt, b"standing"),
-    }
-}
-
-// And of one of the plan. The sheet and the budget are the program's own, and good.
-fn say_plan_word(rt: &HostRuntime, number: u8) {
-    match number {
+        0 | 7 => say(rt, b"standing"),
         10 => say(rt, b"idle"),
         11 => say(rt, b"scattered"),
         12 => say(rt, b"cut off"),
         _ => say(rt, b"repeated"),
-    }
-}
-
-// The trade word of a refusal of the plan call.
-pub fn say_word(rt: &HostRuntime, number: u8) {
-    if number <= 7 {
-        say_file_word(rt, number);
-    } else {
-        say_plan_word(rt, number);
     }
 }

@@ -20,9 +20,10 @@ fn put_byte(rt: &HostRuntime, space: &mut [u8; 4096], waiting: usize, byte: u8) 
     space[waiting] = byte;
     if waiting == 4095 {
         write(rt, space);
-        return 0;
+        0
+    } else {
+        waiting + 1
     }
-    waiting + 1
 }
 
 // A text.

@@ -8,18 +8,15 @@ ghost use Rattle.drive_tally.specs.Rows.{plan_over};
 fn is_foreign(arcs: &[[u16; 5]], k: usize) -> bool
     ensures { result ≡ is_foreign (plan_over arcs.now) k }
 {
-    if arcs.len() <= k {
-        return true;
-    }
-    2 <= arcs[k][2]
+    arcs.len() <= k || 2 <= arcs[k][2]
 }
 
 // Anywhere in the list.
 pub fn has_foreign(arcs: &[[u16; 5]], places: &[u16]) -> bool
     ensures { result ≡ has_foreign (plan_over arcs.now) places.now }
 {
-    for i in 0..places.len() {
-        if is_foreign(arcs, places[i] as usize) {
+    for place in places {
+        if is_foreign(arcs, *place as usize) {
             return true;
         }
     }

@@ -20,8 +20,8 @@ pub fn required_flags(arcs: &[[u16; 5]]) -> [bool; 256]
     ensures { AreDue result (required_numbers (plan_over arcs.now)) }
 {
     let mut due = [false; 256];
-    for k in 0..arcs.len() {
-        due[k] = arcs[k][2] == 1;
+    for (k, arc) in arcs.iter().enumerate() {
+        due[k] = arc[2] == 1;
     }
     due
 }
@@ -30,8 +30,8 @@ pub fn required_flags(arcs: &[[u16; 5]]) -> [bool; 256]
 pub fn has_flag(due: [bool; 256]) -> bool
     ensures { result ≡ has_flag due }
 {
-    for k in 0..256 {
-        if due[k] {
+    for flag in &due {
+        if *flag {
             return true;
         }
     }
@@ -42,10 +42,7 @@ pub fn has_flag(due: [bool; 256]) -> bool
 fn pass_cost(cost: u16, service: u16, due: bool) -> u32
     ensures { result ≡ cond due service cost }
 {
-    if due {
-        return service as u32;
-    }
-    cost as u32
+    if due { service as u32 } else { cost as u32 }
 }
 
 // The cost of the list, and the flags of the must arcs that are still due at its end.
@@ -57,13 +54,10 @@ pub fn priced(arcs: &[[u16; 5]], required: [bool; 256], places: &[u16]) -> Tally
 {
     let mut due = required;
     let mut cost: u32 = 0;
-    for i in 0..places.len() {
-        let k = places[i] as usize;
+    for place in places {
+        let k = *place as usize;
         cost += pass_cost(arcs[k][3], arcs[k][4], due[k]);
         due[k] = false;
     }
-    Tally {
-        cost: cost,
-        due: due,
-    }
+    Tally { cost, due }
 }

@@ -9,18 +9,14 @@ pub fn word_at(lent: &[u8], at: usize) -> u32
     requires { at + 4 ≤ length lent.now }
     ensures { result ≡ word_in lent.now at }
 {
-    let high = number_at(lent, at) as u32;
-    let low = number_at(lent, at + 2) as u32;
-    high * 65_536 + low
+    number_at(lent, at) as u32 * 65_536 + number_at(lent, at + 2) as u32
 }
 
 pub fn long_at(lent: &[u8], at: usize) -> u64
     requires { at + 8 ≤ length lent.now }
     ensures { result ≡ long_in lent.now at }
 {
-    let high = word_at(lent, at) as u64;
-    let low = word_at(lent, at + 4) as u64;
-    high * 4_294_967_296 + low
+    word_at(lent, at) as u64 * 4_294_967_296 + word_at(lent, at + 4) as u64
 }
 
 // Eight bytes.
@@ -64,12 +60,10 @@ pub fn put_long(lent: &mut [u8], at: usize, k: u64)
     put_word(lent, at + 4, (k % 4_294_967_296) as u32);
 }
 
+#[tactic(auto, unfolding(crate::specs::NumberBytes::put_at))]
 pub fn put_bytes(lent: &mut [u8], at: usize, from: &[u8])
     requires { at + length from.now ≤ length lent.old }
     ensures { lent.new ≡ put_at lent.old at from.now }
 {
-    let n = from.len();
-    for i in 0..n {
-        lent[at + i] = from[i];
-    }
+    lent[at..at + from.len()].copy_from_slice(from);
 }

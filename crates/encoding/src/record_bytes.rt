@@ -26,14 +26,12 @@ pub(crate) fn record_at(lent: &[u8], at: usize) -> Arc
     requires { at + 7 ≤ length lent.now }
     ensures { result ≡ record_of (arc_in lent.now at) }
 {
-    let cost = number_at(lent, at + 3);
-    let service = number_at(lent, at + 5);
     Arc {
         tail: lent[at],
         head: lent[at + 1],
         standing: lent[at + 2],
-        cost: cost,
-        service: service,
+        cost: number_at(lent, at + 3),
+        service: number_at(lent, at + 5),
     }
 }
 
@@ -42,15 +40,13 @@ pub(crate) fn put_record(lent: &mut [u8], at: usize, a: Arc)
     requires { at + 7 ≤ length lent.old }
     ensures { lent.new ≡ with_arc lent.old at (arc_value a) }
 {
-    let cost = a.cost;
-    let service = a.service;
     lent[at] = a.tail;
     lent[at + 1] = a.head;
     lent[at + 2] = a.standing;
-    lent[at + 3] = (cost / 256) as u8;
-    lent[at + 4] = (cost % 256) as u8;
-    lent[at + 5] = (service / 256) as u8;
-    lent[at + 6] = (service % 256) as u8;
+    lent[at + 3] = (a.cost / 256) as u8;
+    lent[at + 4] = (a.cost % 256) as u8;
+    lent[at + 5] = (a.service / 256) as u8;
+    lent[at + 6] = (a.service % 256) as u8;
 }
 
 // The first m records become those of the first m arcs.
@@ -58,9 +54,8 @@ pub fn store_arcs(arcs: [Arc; 256], m: usize, lent: &mut [u8])
     requires { (m ≤ 256) × (m ≤ length lent.old / 7) }
     ensures { lent.new ≡ flat_map arc_bytes (map (record_at arcs) (below m)) ++ drop (7 * m) lent.old }
 {
-    for k in 0..m {
-        let a = arcs[k];
-        put_record(lent, 7 * k, a);
+    for (k, a) in arcs[..m].iter().enumerate() {
+        put_record(lent, 7 * k, *a);
     }
 }
 

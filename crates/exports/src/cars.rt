@@ -43,11 +43,7 @@ pub fn postman_two_cars(
         result }
 {
     let r = two_cars::call::two_cars(plan, marks_1, budget_1, sheet_1, marks_2, budget_2, sheet_2);
-    let first = r.first;
-    let second = r.second;
-    let a = hand_over(first, answer_1, multipliers_1);
-    let b = hand_over(second, answer_2, multipliers_2);
-    let v = first.verdict;
-    let w = second.verdict;
-    cars_number(v, w)
+    let _first = hand_over(r.first, answer_1, multipliers_1);
+    let _second = hand_over(r.second, answer_2, multipliers_2);
+    cars_number(r.first, r.second)
 }

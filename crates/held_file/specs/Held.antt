@@ -1,11 +1,10 @@
 -- A plan file by value.
-use Rattle.std.specs.Prelude.{◌≡◌, List, [], ℕ, length, take, drop}
+use Rattle.std.specs.Prelude.{◌≡◌, List, ℕ, length, take, drop, Result, IfOk}
 use Rattle.std.proofs.Math.Option.{Option}
-use Rattle.postman.specs.Refusal.{unless}
 use Rattle.postman.specs.OpenPlan.{longest_file}
 use Rattle.refusal.specs.Verdict.{verdict_number}
 use Rattle.held_file.specs.declared.Held.{Held}
-use Rattle.held_file.specs.declared.Rewritten.{Rewritten}
+use Rattle.refusal.specs.declared.Refusal.{Refusal}
 use Rattle.held_file.specs.Padded.{padded}
 
 -- The file that is held. It has no more than 1,475 bytes, whatever number is its length.
@@ -20,7 +19,7 @@ held_of file = record { length = length file; file = padded longest_file 0 file 
 abbrev pub held_at : List ℕ → ℕ → ℕ → Held
 held_at lent i n = record { length = n; file = take longest_file (drop i lent) }
 
--- What writing a file by value answers.
-pub record IsHeld (refusal : Option ℕ) (file : List ℕ) (w : Rewritten) : Type 0 where
-  pub verdict : verdict_number w.verdict ≡ refusal
-  pub held : w.held ≡ held_of (unless refusal file [])
+-- What writing a file by value answers: the refusal, and where there is none the file.
+pub record IsHeld (refusal : Option ℕ) (file : List ℕ) (w : Result Held Refusal) : Type 0 where
+  pub verdict : verdict_number w ≡ refusal
+  pub held : IfOk w (λ h. h ≡ held_of file)

@@ -1,19 +1,16 @@
 // A plan file by value.
 // Steps for other crates, which ask something of their caller.
 ghost use Rattle.std.specs.Prelude.{◌≡◌, [], ◌≤◌, length, take};
-ghost use Rattle.std.proofs.Math.Option.{some};
 ghost use Rattle.postman.specs.PlanFile.{file_of, write_refusal};
 ghost use Rattle.postman.specs.OpenPlan.{longest_file};
 ghost use Rattle.plan.specs.Records.{plan_value};
-ghost use Rattle.refusal.specs.Verdict.{refusal_number};
 ghost use Rattle.held_file.specs.Held.{file_in, held_of, IsHeld};
 
-use crate::{Held, Rewritten};
+use crate::Held;
 use plan::Plan;
-use plan_writer::Written;
 use plan_writer::writer::write_plan;
 use record_writer::writer::at_most;
-use refusal::{Refusal, Verdict};
+use refusal::Refusal;
 
 // How many of its bytes are the file that is held; a length above 1,475 counts as 1,475.
 pub fn held_length(h: Held) -> usize
@@ -23,6 +20,7 @@ pub fn held_length(h: Held) -> usize
 }
 
 // No file.
+#[tactic(auto, unfolding(crate::specs::Held::held_of))]
 pub fn no_file() -> Held
     ensures { result ≡ held_of [] }
 {
@@ -38,40 +36,18 @@ pub fn hold(file: &[u8]) -> Held
     ensures { result ≡ held_of file.now }
 {
     let mut bytes = [0u8; 1475];
-    let n = file.len();
-    for i in 0..n {
-        bytes[i] = file[i];
-    }
+    bytes[..file.len()].copy_from_slice(file);
     Held {
-        length: n,
+        length: file.len(),
         file: bytes,
     }
 }
 
-// No file was written.
-pub fn not_written(r: Refusal) -> Rewritten
-    ensures { IsHeld (some (refusal_number r)) [] result }
-{
-    let none = no_file();
-    Rewritten {
-        verdict: Verdict::Refused(r),
-        held: none,
-    }
-}
-
 // The file of a plan in an edition, or the writer's refusal. Every file has room in 1,475 bytes.
-pub fn write_held(edition: u8, plan: Plan) -> Rewritten
+pub fn write_held(edition: u8, plan: Plan) -> Result<Held, Refusal>
     ensures { IsHeld (write_refusal edition (plan_value plan) longest_file) (file_of edition (plan_value plan)) result }
 {
-    let mut bytes = [0u8; 1475];
-    match write_plan(edition, plan, &mut bytes) {
-        Written::Length(n) => Rewritten {
-            verdict: Verdict::Accepted,
-            held: Held {
-                length: n,
-                file: bytes,
-            },
-        },
-        Written::Refused(r) => not_written(r),
-    }
+    let mut file = [0u8; 1475];
+    let length = write_plan(edition, plan, &mut file)?;
+    Ok(Held { length, file })
 }

@@ -14,11 +14,7 @@ pub fn load_file(lent: &[u8], at: usize, n: usize) -> Held
     ensures { result ≡ held_at lent.now at n }
 {
     let whole = hold(&lent[at..at + 1475]);
-    let file = whole.file;
-    Held {
-        length: n,
-        file: file,
-    }
+    Held { length: n, ..whole }
 }
 
 // The bytes from `at` on become those of a file.
@@ -26,6 +22,5 @@ pub fn store_file(lent: &mut [u8], at: usize, h: Held)
     requires { at + 1475 ≤ length lent.old }
     ensures { (length h.file ≡ 1475) × (lent.new ≡ put_at lent.old at h.file) }
 {
-    let file = h.file;
-    put_bytes(lent, at, &file);
+    put_bytes(lent, at, &h.file);
 }

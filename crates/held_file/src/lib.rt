@@ -5,18 +5,9 @@ pub mod change; // one arc of a file changed
 pub mod file; // a plan file by value
 pub mod file_bytes; // its bytes in a lent slice
 
-use refusal::Verdict;
-
 // A plan file of at most 1,475 bytes, by value: its length, and its bytes with zeros after them. Length 0 stands for no file.
 #[derive(Clone, Copy)]
 pub struct Held {
     pub length: usize,
     pub file: [u8; 1475],
-}
-
-// What writing a file by value answers: the verdict, and the file or none.
-#[derive(Clone, Copy)]
-pub struct Rewritten {
-    pub verdict: Verdict,
-    pub held: Held,
 }

@@ -41,19 +41,16 @@ fn cheaper_prepared(
     let b = begin(plan, table, r);
     let s = improve(plan, table, r, b, cost, before, tries);
     let floor = floor_found(plan, table, r, s.whole, s.cost);
-    let ts = s.tails;
-    let hs = s.heads;
-    let best = Reached {
-        cost: s.cost,
-        tails: ts,
-        heads: hs,
-        tried: s.tried,
-    };
-    let u = r.multipliers;
+    let (tails, heads, multipliers) = (s.tails, s.heads, r.multipliers);
     Found {
-        best: best,
-        floor: floor,
-        multipliers: u,
+        best: Reached {
+            cost: s.cost,
+            tails,
+            heads,
+            tried: s.tried,
+        },
+        floor,
+        multipliers,
         number: b.number,
     }
 }

@@ -44,7 +44,7 @@ pub fn lay_tabled(
     let p = prepare(plan, table, net);
     let places = lay_held(plan, table, weights, p, tails, heads, sheet);
     Laid {
-        places: places,
+        places,
         parts: net.components,
     }
 }

@@ -5,8 +5,6 @@ ghost use Rattle.hierholzer.specs.Circuit.{circuit};
 ghost use Rattle.hierholzer.specs.Eulerian.{Eulerian};
 ghost use Rattle.hierholzer.specs.Held.{HeldPath, Stepped, Hints, is_unused, first_unused};
 
-use crate::widen::{wide, wide8};
-
 // How far the walk reaches from the start of the places, and where the placed legs begin.
 #[derive(Clone, Copy)]
 struct Progress {
@@ -18,10 +16,7 @@ struct Progress {
 fn is_unused(tail: u8, flag: u8, v: u8) -> bool
     ensures { result ≡ (eqb tail v && eqb flag 0) }
 {
-    if tail == v {
-        return flag == 0;
-    }
-    false
+    tail == v && flag == 0
 }
 
 // The first unused leg out of v, where none is before `from`; the number of legs where there is none.
@@ -30,14 +25,12 @@ fn next_leg(tails: &[u8], used: &[u8; 526], v: u8, from: usize) -> usize
         × ((k : ℕ) → k < from → T (not (is_unused tails.now used.now v k))) }
     ensures { result ≡ first_unused tails.now used.now v }
 {
-    let mut e = from;
-    while e < tails.len() {
+    for e in from..tails.len() {
         if is_unused(tails[e], used[e], v) {
             return e;
         }
-        e += 1;
     }
-    e
+    tails.len()
 }
 
 // The same, from the hint of v on, which then says where it was found: legs do not become unused again.
@@ -46,9 +39,8 @@ fn find_leg(tails: &[u8], used: &[u8; 526], hints: &mut [u16; 256], v: u8) -> us
     ensures { (result ≡ first_unused tails.now used.now v)
         × Hints tails.now used.now hints.new }
 {
-    let i = wide8(v);
-    let from = wide(hints[i]);
-    let e = next_leg(tails, used, v, from);
+    let i = usize::from(v);
+    let e = next_leg(tails, used, v, usize::from(hints[i]));
     hints[i] = e as u16;
     e
 }
@@ -60,19 +52,17 @@ fn advance(
     order: &mut [u16],
     used: &mut [u8; 526],
     hints: &mut [u16; 256],
-    depth: usize,
-    start: usize,
+    at: Progress,
 ) -> Progress
-    requires { (length tails.now ≤ 526) × (length heads.now ≡ length tails.now) × (0 < depth)
-        × HeldPath tails.now order.old used.old depth start × Hints tails.now used.old hints.old }
-    ensures { Stepped tails.now heads.now order.old depth start order.new used.new
+    requires { (length tails.now ≤ 526) × (length heads.now ≡ length tails.now) × (0 < at.depth)
+        × HeldPath tails.now order.old used.old at.depth at.start × Hints tails.now used.old hints.old }
+    ensures { Stepped tails.now heads.now order.old at.depth at.start order.new used.new
         result.depth result.start × Hints tails.now used.new hints.new }
 {
-    let top = depth - 1;
-    let k = order[top];
-    let i = wide(k);
-    let v = heads[i];
-    let e = find_leg(tails, used, hints, v);
+    let Progress { depth, start } = at;
+    let k = order[depth - 1];
+    let i = usize::from(k);
+    let e = find_leg(tails, used, hints, heads[i]);
     if e < tails.len() {
         order[depth] = e as u16;
         used[e] = 1;
@@ -81,11 +71,10 @@ fn advance(
             start,
         };
     }
-    let at = start - 1;
-    order[at] = k;
+    order[start - 1] = k;
     Progress {
-        depth: top,
-        start: at,
+        depth: depth - 1,
+        start: start - 1,
     }
 }
 
@@ -98,11 +87,11 @@ pub fn arrange(tails: &[u8], heads: &[u8], order: &mut [u16])
     let mut hints = [0u16; 256];
     used[0] = 1;
     order[0] = 0;
-    let mut depth: usize = 1;
-    let mut start = tails.len();
-    while 0 < depth {
-        let p = advance(tails, heads, order, &mut used, &mut hints, depth, start);
-        depth = p.depth;
-        start = p.start;
+    let mut at = Progress {
+        depth: 1,
+        start: tails.len(),
+    };
+    while 0 < at.depth {
+        at = advance(tails, heads, order, &mut used, &mut hints, at);
     }
 }

@@ -21,10 +21,3 @@ pub fn magnitude(a: i64) -> u64
     }
     a as u64
 }
-
-// A byte as an index.
-pub fn wide(x: u8) -> usize
-    ensures { result ≡ x }
-{
-    x as usize
-}

@@ -17,7 +17,7 @@ use drive_tally::tally::{has_flag, priced, required_flags};
 use plan::Plan;
 use plan::rows::rows_of;
 use plan_file::reader::{file_edition, is_edition, read_plan};
-use refusal::{Refusal, Verdict};
+use refusal::Refusal;
 
 // 14, 15 and 16, then the cost.
 fn judge_list(arcs: &[[u16; 5]], required: [bool; 256], places: &[u16]) -> Judged
@@ -26,17 +26,16 @@ fn judge_list(arcs: &[[u16; 5]], required: [bool; 256], places: &[u16]) -> Judge
     ensures { judged_answer result ≡ list_answer (plan_over arcs.now) places.now }
 {
     if has_foreign(arcs, places) {
-        return Judged::Refused(Refusal::Foreign);
+        return Err(Refusal::Foreign);
     }
     if is_unjoined(arcs, places) {
-        return Judged::Refused(Refusal::Unjoined);
+        return Err(Refusal::Unjoined);
     }
     let t = priced(arcs, required, places);
-    let due = t.due;
-    if has_flag(due) {
-        return Judged::Refused(Refusal::Missed);
+    if has_flag(t.due) {
+        return Err(Refusal::Missed);
     }
-    Judged::Cost(t.cost)
+    Ok(t.cost)
 }
 
 // 10, then the rest.
@@ -45,10 +44,10 @@ fn judge_arcs(arcs: &[[u16; 5]], places: &[u16]) -> Judged
     ensures { judged_answer result ≡ plan_answer (plan_over arcs.now) places.now }
 {
     let required = required_flags(arcs);
-    if has_flag(required) {
-        return judge_list(arcs, required, places);
+    if !has_flag(required) {
+        return Err(Refusal::Idle);
     }
-    Judged::Refused(Refusal::Idle)
+    judge_list(arcs, required, places)
 }
 
 // The arcs of a plan that the file's rules let through, lent as rows.
@@ -57,8 +56,7 @@ fn judge_plan(plan: Plan, places: &[u16]) -> Judged
     ensures { judged_answer result ≡ plan_answer (plan_value plan) places.now }
 {
     let rows = rows_of(plan);
-    let m = plan.m as usize;
-    judge_arcs(&rows[..m], places)
+    judge_arcs(&rows[..plan.m as usize], places)
 }
 
 // "A list above 65,535 places gets 3": 1 and 2 come before it, and nothing else of the file is looked at.
@@ -69,11 +67,11 @@ fn long_list(bytes: &[u8], places: usize) -> Refusal
     if bytes.len() < 3 {
         return Refusal::Torn;
     }
-    let edition = file_edition(bytes);
-    if is_edition(edition) {
-        return Refusal::Extent;
+    if is_edition(file_edition(bytes)) {
+        Refusal::Extent
+    } else {
+        Refusal::Edition
     }
-    Refusal::Edition
 }
 
 // THE JUDGING CALL, for any bytes and any list. It asks nothing and changes nothing.
@@ -81,14 +79,7 @@ pub fn judge(bytes: &[u8], places: &[u16]) -> Judged
     ensures { IsJudged bytes.now places.now result }
 {
     if 65_535 < places.len() {
-        let r = long_list(bytes, places.len());
-        return Judged::Refused(r);
+        return Err(long_list(bytes, places.len()));
     }
-    let reading = read_plan(bytes);
-    let plan = reading.plan;
-    let verdict = reading.verdict;
-    match verdict {
-        Verdict::Refused(r) => Judged::Refused(r),
-        Verdict::Accepted => judge_plan(plan, places),
-    }
+    judge_plan(read_plan(bytes)?.plan, places)
 }

@@ -6,8 +6,4 @@ pub mod call; // the judging call
 use refusal::Refusal;
 
 // "It returns the cost exactly when the list is a drive by the definition, and otherwise names the first fault."
-#[derive(Clone, Copy)]
-pub enum Judged {
-    Cost(u32),
-    Refused(Refusal),
-}
+pub type Judged = Result<u32, Refusal>;

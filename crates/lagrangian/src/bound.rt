@@ -10,13 +10,6 @@ ghost use Rattle.multiplier_steps.specs.Steps.{AreSmall};
 ghost use Rattle.lagrangian.specs.Price.{price_of};
 ghost use Rattle.lagrangian.specs.Priced.{IsPriced};
 
-// "the larger of L(0) and L(u)"
-pub fn larger(a: i64, b: i64) -> i64
-    ensures { result ≡ maxℤ a b }
-{
-    if a <= b { b } else { a }
-}
-
 // A sum, and u(i) × D(i).
 fn plus(sum: i64, u: i64, d: i64) -> i64
     requires { Within 67644702720 sum × Within 4128705 u × Within 256 d }
@@ -31,8 +24,8 @@ fn price(u: &[i64; 64], imbalance: &[i64; 64]) -> i64
     ensures { (result ≡ price_of u.now imbalance.now 64) × Within 67644702720 result }
 {
     let mut sum: i64 = 0;
-    for i in 0..64usize {
-        sum = plus(sum, u[i], imbalance[i]);
+    for (i, &level) in u.iter().enumerate() {
+        sum = plus(sum, level, imbalance[i]);
     }
     sum
 }
@@ -85,15 +78,14 @@ pub fn floor_of(
     if whole {
         return cost as i64;
     }
-    let zeros = [0i64; 64];
     let without = lagrangian(
         table,
-        &zeros,
+        &[0; 64],
         component,
         required,
         k,
         required_cost,
         imbalance,
     );
-    larger(without, bound)
+    without.max(bound) // "the larger of L(0) and L(u)"
 }

@@ -6,6 +6,7 @@ use Rattle.district_entry.specs.declared.enter.Entered.{Entered}
 use Rattle.districts.specs.declared.turn.Turned.{Turned}
 use Rattle.district_entry.specs.Admitted.{admitted, admission_number}
 use Rattle.districts.specs.Number.{outcome_number, had_turn, had_last}
+use Rattle.solution.specs.Planned.{u_list}
 use Rattle.answers.specs.Number.{one_number}
 use Rattle.answers.specs.Answer.{words_of, put_first}
 use Rattle.machine_bytes.specs.MachineBytes.{districts_bytes, machine_bytes, IsSized}
@@ -23,4 +24,4 @@ pub record IsTurnHandedOver (r : Turned) (bytes bytes' words words' : List ℕ) 
   pub machine_is : bytes' ≡ cond (had_turn r.outcome) (machine_bytes r.machine ++ drop districts_bytes bytes) bytes
   pub sized : had_turn r.outcome ≡ true → IsSized r.machine
   pub words_are : words' ≡ cond (had_turn r.outcome) (put_first (words_of r.planned) words) words
-  pub multipliers_are : u' ≡ cond (had_last r.outcome) (put_first r.planned.multipliers u) u
+  pub multipliers_are : u' ≡ cond (had_last r.outcome) (put_first (u_list r.planned) u) u

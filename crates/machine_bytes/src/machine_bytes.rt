@@ -23,10 +23,10 @@ fn load_reached(machine: &[u8], at: usize) -> Reached
     let heads = eight_at(machine, at + 16);
     let tried = word_at(machine, at + 24);
     Reached {
-        cost: cost,
-        tails: tails,
-        heads: heads,
-        tried: tried,
+        cost,
+        tails,
+        heads,
+        tried,
     }
 }
 
@@ -41,10 +41,10 @@ fn load_district(machine: &[u8], at: usize) -> District
     let budget = word_at(machine, at + 1_484);
     let held = load_reached(machine, at + 1_488);
     District {
-        place: place,
-        plan: plan,
-        budget: budget,
-        held: held,
+        place,
+        plan,
+        budget,
+        held,
     }
 }
 
@@ -67,21 +67,16 @@ pub fn load_machine(machine: &[u8]) -> Machine
 {
     let line = load_line(machine);
     let waiting = long_at(machine, 12_128) as usize;
-    Machine {
-        line: line,
-        waiting: waiting,
-    }
+    Machine { line, waiting }
 }
 
 fn store_reached(machine: &mut [u8], at: usize, g: Reached)
     requires { at + 28 ≤ length machine.old }
     ensures { IsReachedSized g × (machine.new ≡ put_at machine.old at (reached_bytes g)) }
 {
-    let tails = g.tails;
-    let heads = g.heads;
     put_long(machine, at, g.cost);
-    put_bytes(machine, at + 8, &tails);
-    put_bytes(machine, at + 16, &heads);
+    put_bytes(machine, at + 8, &g.tails);
+    put_bytes(machine, at + 16, &g.heads);
     put_word(machine, at + 24, g.tried);
 }
 

@@ -1,29 +1,50 @@
 // The answer of an entry and of a turn, handed over.
 // Steps for other crates, which ask something of their caller.
-ghost use Rattle.std.specs.Prelude.{◌≤◌, length};
+ghost use Rattle.std.specs.Prelude.{◌≡◌, ◌≤◌, length};
+ghost use Rattle.solution.specs.Planned.{u_list};
+ghost use Rattle.answers.specs.Answer.{words_of};
 ghost use Rattle.machine_bytes.specs.MachineBytes.{districts_bytes};
 ghost use Rattle.machine_bytes.specs.MachineStored.{IsEntryStored, IsTurnHandedOver};
 
 use crate::machine_bytes::store_machine;
 use answers::answer::{put_multipliers, put_words, words};
 use answers::number::refused_number;
-use district_entry::enter::{Admission, Entered};
+use district_entry::enter::Entered;
 use districts::turn::{Outcome, Turned};
 use refusal::Refusal;
+use solution::Planned;
 
 // The machine goes to where it is held, unless the entry is refused.
 pub fn store_entered(machine: &mut [u8], r: Entered) -> i64
     requires { districts_bytes ≤ length machine.old }
     ensures { IsEntryStored r machine.old machine.new result }
 {
-    let answer = r.answer;
-    let m = r.machine;
-    match answer {
-        Admission::At(place) => {
-            store_machine(machine, m);
-            place as i64
+    match r.answer {
+        Ok(place) => {
+            store_machine(machine, r.machine);
+            i64::from(place)
         }
-        Admission::Refused(q) => refused_number(q),
+        Err(q) => refused_number(q),
+    }
+}
+
+// The words of what a turn answers, zeros where it is refused.
+fn turn_words(r: Result<Planned, Refusal>) -> [u64; 6]
+    ensures { result ≡ words_of r }
+{
+    match r {
+        Ok(planned) => words(planned),
+        Err(_) => [0u64; 6],
+    }
+}
+
+// And its multipliers.
+fn turn_multipliers(r: Result<Planned, Refusal>) -> [i64; 64]
+    ensures { result ≡ u_list r }
+{
+    match r {
+        Ok(planned) => planned.multipliers,
+        Err(_) => [0i64; 64],
     }
 }
 
@@ -38,24 +59,19 @@ pub fn hand_turn_over(
     ensures { IsTurnHandedOver r machine.old machine.new words_lent.old words_lent.new
         u_lent.old u_lent.new result }
 {
-    let outcome = r.outcome;
-    let planned = r.planned;
-    let m = r.machine;
-    match outcome {
+    match r.outcome {
         Outcome::Empty => 16,
         Outcome::ShortSheet => refused_number(Refusal::ShortSheet),
         Outcome::Unfinished(place) => {
-            store_machine(machine, m);
-            put_words(words(planned), words_lent);
-            place as i64
+            store_machine(machine, r.machine);
+            put_words(turn_words(r.planned), words_lent);
+            i64::from(place)
         }
         Outcome::Finished(place) => {
-            store_machine(machine, m);
-            put_words(words(planned), words_lent);
-            let u = planned.multipliers;
-            put_multipliers(u, u_lent);
-            let number = 8 + place as u64;
-            number as i64
+            store_machine(machine, r.machine);
+            put_words(turn_words(r.planned), words_lent);
+            put_multipliers(turn_multipliers(r.planned), u_lent);
+            8 + i64::from(place)
         }
     }
 }

@@ -7,9 +7,7 @@ ghost use Rattle.residual_search.specs.Search.{beyond};
 ghost use Rattle.multiplier_steps.specs.Steps.{AreSmall};
 ghost use Rattle.multiplier_steps.specs.Lawful.{passes, is_pair_lawful, is_vertex_lawful, are_lawful};
 
-use integers::wide;
 use pair_costs::pairs::reduced;
-use residual_search::entries::vertex;
 
 // Whether a pair's reduced cost is not negative, and 0 where something is sent.
 fn pass(d: u32, f: u16, xi: i64, xj: i64) -> bool
@@ -17,56 +15,23 @@ fn pass(d: u32, f: u16, xi: i64, xj: i64) -> bool
     ensures { result ≡ passes d f xi xj }
 {
     let c = reduced(d, xi, xj);
-    if 0 <= c {
-        if f > 0 {
-            return c <= 0;
-        }
-        return true;
-    }
-    false
+    0 <= c && (f == 0 || c <= 0)
 }
 
-// Whether b, and the pair from i to j passes.
-fn pair_lawful(
-    d: &[[u32; 64]; 64],
-    f: &[u16; 4096],
-    x: &[i64; 64],
-    b: bool,
-    i: usize,
-    j: usize,
-) -> bool
+// Whether the pair from i to j passes.
+fn pair_lawful(d: &[[u32; 64]; 64], f: &[u16; 4096], x: &[i64; 64], i: usize, j: usize) -> bool
     requires { (i < 64) × (j < 64) × AreSmall beyond x.now }
-    ensures { result ≡ (b && is_pair_lawful d.now f.now x.now i j) }
+    ensures { result ≡ is_pair_lawful d.now f.now x.now i j }
 {
-    if b {
-        return pass(d[i][j], f[i * 64 + j], x[i], x[j]);
-    }
-    false
+    pass(d[i][j], f[i * 64 + j], x[i], x[j])
 }
 
-// Whether b, and all pairs from i pass.
+// Whether all pairs from i pass.
 fn vertex_lawful(d: &[[u32; 64]; 64], f: &[u16; 4096], vs: &[u8], x: &[i64; 64], i: usize) -> bool
     requires { (i < 64) × AtMost 63 vs.now × AreSmall beyond x.now }
     ensures { result ≡ is_vertex_lawful d.now f.now x.now vs.now i }
 {
-    let mut b = true;
-    let mut a: usize = 0;
-    while a < vs.len() {
-        let j = wide(vertex(vs, a));
-        b = pair_lawful(d, f, x, b, i, j);
-        a += 1;
-    }
-    b
-}
-
-// a, and b.
-fn and(a: bool, b: bool) -> bool
-    ensures { result ≡ (a && b) }
-{
-    if a {
-        return b;
-    }
-    false
+    vs.iter().all(|&v| pair_lawful(d, f, x, i, usize::from(v)))
 }
 
 // Whether all pairs pass.
@@ -74,12 +39,6 @@ pub fn are_lawful(d: &[[u32; 64]; 64], f: &[u16; 4096], vs: &[u8], x: &[i64; 64]
     requires { AtMost 63 vs.now × AreSmall beyond x.now }
     ensures { result ≡ are_lawful d.now f.now x.now vs.now }
 {
-    let mut b = true;
-    let mut a: usize = 0;
-    while a < vs.len() {
-        let i = wide(vertex(vs, a));
-        b = and(b, vertex_lawful(d, f, vs, x, i));
-        a += 1;
-    }
-    b
+    vs.iter()
+        .all(|&v| vertex_lawful(d, f, vs, x, usize::from(v)))
 }

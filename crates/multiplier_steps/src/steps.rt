@@ -7,112 +7,79 @@ ghost use Rattle.residual_search.specs.Bounds.{AtMost};
 ghost use Rattle.residual_search.specs.Search.{beyond};
 ghost use Rattle.multiplier_steps.specs.Steps.{AreSmall, capped as cappedTo, capped_all, rooted as rootedAt, carried_to, carried_on, span as largest};
 
-use integers::wide;
-use residual_search::entries::vertex;
+// No multiplier lies further from 0: 2 to the 40.
+const BEYOND: i64 = 1_099_511_627_776;
 
 // A number, no further from 0 than 2 to the 40.
 pub fn capped(a: i64) -> i64
     ensures { (result ≡ cappedTo a) × Within beyond result }
 {
-    if a < -1099511627776 {
-        return -1099511627776;
-    }
-    if 1099511627776 < a {
-        return 1099511627776;
-    }
-    a
+    a.clamp(-BEYOND, BEYOND)
 }
 
 // The multipliers of vs, capped; 0 elsewhere.
+#[tactic(auto, using(crate::specs::Laws::Turns::turn_by_turn), unfolding(crate::specs::Steps::capped_all))]
 pub fn capped_all(x: &[i64; 64], vs: &[u8]) -> [i64; 64]
     requires { AtMost 63 vs.now }
     ensures { result ≡ capped_all x.now vs.now }
 {
     let mut u: [i64; 64] = [0; 64];
-    let mut a: usize = 0;
-    while a < vs.len() {
-        let v = wide(vertex(vs, a));
+    for &v in vs {
+        let v = usize::from(v);
         u[v] = capped(x[v]);
-        a += 1;
     }
     u
 }
 
-// a less b.
-fn less(a: i64, b: i64) -> i64
-    requires { Within beyond a × Within beyond b }
-    ensures { result ≡ a -ℤ b }
-{
-    a - b
-}
-
 // The multipliers less that of the first vertex, which is the root; 0 elsewhere.
+#[tactic(auto, using(crate::specs::Laws::Turns::turn_by_turn), unfolding(crate::specs::Steps::rooted))]
 pub fn rooted(x: &[i64; 64], vs: &[u8]) -> [i64; 64]
     requires { AtMost 63 vs.now × (0 < length vs.now) × AreSmall beyond x.now }
     ensures { result ≡ rootedAt x.now vs.now }
 {
-    let root = wide(vertex(vs, 0));
-    let base = x[root];
+    let base = x[usize::from(vs[0])];
     let mut u: [i64; 64] = [0; 64];
-    let mut a: usize = 0;
-    while a < vs.len() {
-        let v = wide(vertex(vs, a));
-        u[v] = less(x[v], base);
-        a += 1;
+    for &v in vs {
+        let v = usize::from(v);
+        u[v] = x[v] - base;
     }
     u
 }
 
-// Half of a number, rounded down.
-fn half(a: i64) -> i64
-    ensures { result ≡ shr_z a 2 }
-{
-    a >> 1
-}
-
 // A multiplier, and half of the last change once more.
+#[tactic(auto, using(crate::specs::Laws::Steps::half_small))]
 fn carry(y: i64, x: i64, before: i64) -> i64
     requires { Within beyond y × Within beyond x × Within beyond before }
     ensures { result ≡ carried_to y x before }
 {
-    y + half(less(x, before))
+    y + ((x - before) >> 1)
 }
 
 // The multipliers y, with half of the change from `before` to x once more.
+#[tactic(auto, using(crate::specs::Laws::Turns::turn_by_turn), unfolding(crate::specs::Steps::carried_on))]
 pub fn carry_on(y: [i64; 64], x: &[i64; 64], before: &[i64; 64], vs: &[u8]) -> [i64; 64]
     requires { AtMost 63 vs.now × AreSmall beyond x.now × AreSmall beyond before.now }
     ensures { result ≡ carried_on vs.now y x.now before.now }
 {
     let mut z = y;
-    let mut a: usize = 0;
-    while a < vs.len() {
-        let v = wide(vertex(vs, a));
+    for &v in vs {
+        let v = usize::from(v);
         z[v] = carry(capped(y[v]), x[v], before[v]);
-        a += 1;
     }
     z
 }
 
-// The larger of a number and a distance.
-fn further(most: u64, d: u32) -> u64
-    ensures { result ≡ max most d }
-{
-    let far = d as u64;
-    if most < far { far } else { most }
-}
-
 // The largest distance to the first vertex.
+#[tactic(auto, using(crate::specs::Laws::Turns::turn_by_turn), unfolding(crate::specs::Steps::span))]
 pub fn span(d: &[[u32; 64]; 64], vs: &[u8]) -> u64
     requires { AtMost 63 vs.now × (0 < length vs.now) }
     ensures { result ≡ largest d.now vs.now }
 {
-    let root = wide(vertex(vs, 0));
+    let root = usize::from(vs[0]);
     let mut most: u64 = 0;
-    let mut a: usize = 0;
-    while a < vs.len() {
-        let v = wide(vertex(vs, a));
-        most = further(most, d[v][root]);
-        a += 1;
+    for &v in vs {
+        let v = usize::from(v);
+        most = most.max(u64::from(d[v][root]));
     }
     most
 }

@@ -12,6 +12,7 @@ use Rattle.network.specs.declared.network.Network.{Network}
 use Rattle.required.specs.StepContracts.{IsImbalance, IsRequiredFlags, IsComponents}
 use Rattle.network.specs.Network.{IsNetwork}
 use Rattle.lagrangian.specs.Priced.{IsPriced}
+use Rattle.multipliers.specs.declared.ascend.Ascent.{Ascent}
 use Rattle.multipliers.specs.declared.ascend.Setting.{Setting}
 use Rattle.multipliers.specs.Drive.{table_of}
 use Rattle.multipliers.specs.Ascent.{amounts_of}
@@ -44,6 +45,10 @@ pub record IsPrepared (p : Plan) (table : List (List ℕ)) (amounts vs : List �
   pub components : IsComponents p s.component s.components
   pub cost : s.required_cost ≡ required_cost p
   pub imbalance : IsImbalance p s.imbalance
+
+-- The same, of what an ascent reads.
+abbrev pub IsReady : Plan → Ascent → Type 0
+IsReady p a = IsPrepared p a.table.now a.amounts.now a.vs.now a.setting
 
 -- What L(u) asks.
 abbrev pub IsPricedIn : Plan → List (List ℕ) → Setting → List ℤ → Type 0

@@ -12,15 +12,17 @@ ghost use Rattle.postman.specs.Steps.{cell};
 ghost use Rattle.balance.specs.Multipliers.{multipliers};
 ghost use Rattle.balance.specs.Records.{state_of};
 ghost use Rattle.network.specs.Network.{IsNetwork};
-ghost use Rattle.multipliers.specs.Prepared.{IsBase, IsPrepared, IsPricedIn};
+ghost use Rattle.multipliers.specs.Prepared.{IsBase, IsReady, IsPricedIn};
 ghost use Rattle.multipliers.specs.Ascent.{attempt as attemptOf, climb as climbOnce, begin, greatest_of, multipliers_for, bound_of};
 ghost use Rattle.multipliers.specs.Climbs.{climb_of, holding, CanStep};
 
+use ascent::step::{Stepped, step};
 use balance::state::Balance;
-use lagrangian::bound::{lagrangian, larger};
+use lagrangian::bound::lagrangian;
+use multiplier_steps::lawful::are_lawful;
+use multiplier_steps::steps::{rooted, span};
 use network::network::Network;
 use plan::Plan;
-use residual_search::entries::lesser;
 
 // What the steps read of the network: the component of each vertex, whether it is required, the number of components, R and D.
 #[derive(Clone, Copy)]
@@ -51,195 +53,167 @@ pub struct Best {
     pub bound: i64,
 }
 
-// Whether a bound is larger.
-fn exceeds(a: i64, b: i64) -> bool
-    ensures { result ≡ lt_z b a }
-{
-    b < a
-}
-
-// L(u).
-fn bound_at(table: &[[u32; 64]; 64], s: Setting, u: &[i64; 64]) -> i64
-    requires { (p : AnyPlan) × IsPricedIn p table.now s u.now }
-    ensures { (p : AnyPlan) → IsPricedIn p table.now s u.now → result ≡ bound_of p u.now }
-{
-    let component = s.component;
-    let required = s.required;
-    let imbalance = s.imbalance;
-    lagrangian(
-        table,
-        u,
-        &component,
-        &required,
-        s.components,
-        s.required_cost,
-        &imbalance,
-    )
-}
-
-// The multipliers, 0 at the root, are the best so far, where they are lawful and their bound is larger.
-fn attempt(table: &[[u32; 64]; 64], f: &[u16; 4096], vs: &[u8], s: Setting, c: Stage) -> Best
-    requires { ((p : AnyPlan) × IsPrepared p table.now f.now vs.now s) × AreSmall beyond c.multipliers }
-    ensures { (p : AnyPlan) → IsPrepared p table.now f.now vs.now s
-        → holding c result ≡ attemptOf p (climb_of c) }
-{
-    let x = c.multipliers;
-    let best = c.best;
-    let held = Best {
-        multipliers: best,
-        bound: c.bound,
-    };
-    if multiplier_steps::lawful::are_lawful(table, f, vs, &x) {
-        let u = multiplier_steps::steps::rooted(&x, vs);
-        let l = bound_at(table, s, &u);
-        if exceeds(l, c.bound) {
-            return Best {
-                multipliers: u,
-                bound: l,
-            };
+impl Stage {
+    // The best multipliers so far, and their bound.
+    fn held(&self) -> Best
+        ensures { (result.multipliers ≡ self.now.best) × (result.bound ≡ self.now.bound) }
+    {
+        Best {
+            multipliers: self.best,
+            bound: self.bound,
         }
     }
-    held
 }
 
-// The same, where a tree costs more than any met before.
-fn attempt_above(
-    table: &[[u32; 64]; 64],
-    f: &[u16; 4096],
-    vs: &[u8],
-    s: Setting,
-    c: Stage,
-    value: i64,
-) -> Best
-    requires { ((p : AnyPlan) × IsPrepared p table.now f.now vs.now s) × AreSmall beyond c.multipliers }
-    ensures { (p : AnyPlan) → IsPrepared p table.now f.now vs.now s
-        → holding c result ≡ cond (lt_z c.value value) (attemptOf p (climb_of c)) (climb_of c) }
-{
-    if c.value < value {
-        return attempt(table, f, vs, s, c);
-    }
-    let best = c.best;
-    Best {
-        multipliers: best,
-        bound: c.bound,
-    }
+// What the steps of an ascent read: the distances, the amounts of the state of the required arcs, the required vertices, and the network.
+#[derive(Clone, Copy)]
+pub(crate) struct Ascent<'a> {
+    table: &'a [[u32; 64]; 64],
+    amounts: &'a [u16; 4096],
+    vs: &'a [u8],
+    setting: Setting,
 }
 
-// Step i, unless a tree was balanced.
-fn climb(
-    table: &[[u32; 64]; 64],
-    f: &[u16; 4096],
-    vs: &[u8],
-    s: Setting,
-    c: Stage,
-    i: usize,
-) -> Stage
-    requires { ((p : AnyPlan) × IsPrepared p table.now f.now vs.now s) × CanStep c }
-    ensures { ((p : AnyPlan) → IsPrepared p table.now f.now vs.now s
-        → climb_of result ≡ climbOnce p (climb_of c) i)
-        × CanStep result }
-{
-    if c.done {
-        return c;
+impl<'a> Ascent<'a> {
+    // L(u).
+    fn bound_at(&self, u: &[i64; 64]) -> i64
+        requires { (p : AnyPlan) × IsPricedIn p self.now.table.now self.now.setting u.now }
+        ensures { (p : AnyPlan) → IsPricedIn p self.now.table.now self.now.setting u.now → result ≡ bound_of p u.now }
+    {
+        let s = &self.setting;
+        lagrangian(
+            self.table,
+            u,
+            &s.component,
+            &s.required,
+            s.components,
+            s.required_cost,
+            &s.imbalance,
+        )
     }
-    let x = c.multipliers;
-    let before = c.before;
-    let up = i % 2 == 1;
-    let component = s.component;
-    let n = ascent::step::step(
-        table,
-        f,
-        vs,
-        &component,
-        s.components,
-        up,
-        c.stride,
-        &x,
-        &before,
-    );
-    let b = attempt_above(table, f, vs, s, c, n.value);
-    let next = n.multipliers;
-    let best = b.multipliers;
-    let value = larger(c.value, n.value);
-    Stage {
-        multipliers: next,
-        before: x,
-        best: best,
-        bound: b.bound,
-        value: value,
-        stride: c.stride - c.stride / 9,
-        done: n.balanced,
-    }
-}
 
-// Before the first step.
-fn begun(table: &[[u32; 64]; 64], f: &[u16; 4096], vs: &[u8], s: Setting, u: [i64; 64]) -> Stage
-    requires { (p : AnyPlan) × IsPrepared p table.now f.now vs.now s × (u ≡ greatest_of p) }
-    ensures { ((p : AnyPlan) → IsPrepared p table.now f.now vs.now s → u ≡ greatest_of p
-        → climb_of result ≡ begin p) × CanStep result }
-{
-    let l = bound_at(table, s, &u);
-    let far = multiplier_steps::steps::span(table, vs);
-    let stride = lesser(far / 24 + 1, 1099511627776);
-    Stage {
-        multipliers: u,
-        before: u,
-        best: u,
-        bound: l,
-        value: 0,
-        stride: stride,
-        done: false,
+    // The multipliers, 0 at the root, are the best so far, where they are lawful and their bound is larger.
+    fn attempt(&self, c: &Stage) -> Best
+        requires { ((p : AnyPlan) × IsReady p self.now) × AreSmall beyond c.now.multipliers }
+        ensures { (p : AnyPlan) → IsReady p self.now → holding c.now result ≡ attemptOf p (climb_of c.now) }
+    {
+        if are_lawful(self.table, self.amounts, self.vs, &c.multipliers) {
+            let multipliers = rooted(&c.multipliers, self.vs);
+            let bound = self.bound_at(&multipliers);
+            if c.bound < bound {
+                return Best { multipliers, bound };
+            }
+        }
+        c.held()
     }
-}
 
-// The multipliers that are answered, from the greatest ones on, and their bound.
-pub(crate) fn ascend(
-    table: &[[u32; 64]; 64],
-    f: &[u16; 4096],
-    vs: &[u8],
-    s: Setting,
-    u: [i64; 64],
-) -> Best
-    requires { (p : AnyPlan) × IsPrepared p table.now f.now vs.now s × (u ≡ greatest_of p) }
-    ensures { (p : AnyPlan) → IsPrepared p table.now f.now vs.now s → u ≡ greatest_of p
-        → (result.multipliers ≡ multipliers_for p) × (result.bound ≡ bound_of p result.multipliers) }
-{
-    let mut c = begun(table, f, vs, s, u);
-    for i in 0..20usize {
-        let next = climb(table, f, vs, s, c, i);
-        c = next;
+    // The same, where a tree costs more than any met before.
+    fn attempt_above(&self, c: &Stage, value: i64) -> Best
+        requires { ((p : AnyPlan) × IsReady p self.now) × AreSmall beyond c.now.multipliers }
+        ensures { (p : AnyPlan) → IsReady p self.now
+            → holding c.now result ≡ cond (lt_z c.now.value value) (attemptOf p (climb_of c.now)) (climb_of c.now) }
+    {
+        if c.value < value {
+            self.attempt(c)
+        } else {
+            c.held()
+        }
     }
-    let best = c.best;
-    Best {
-        multipliers: best,
-        bound: c.bound,
+
+    // Step i, unless a tree was balanced.
+    fn climb(&self, c: &Stage, i: usize) -> Stage
+        requires { ((p : AnyPlan) × IsReady p self.now) × CanStep c.now }
+        ensures { ((p : AnyPlan) → IsReady p self.now → climb_of result ≡ climbOnce p (climb_of c.now) i) × CanStep result }
+    {
+        if c.done {
+            return *c;
+        }
+        let Stepped {
+            multipliers,
+            value,
+            balanced,
+        } = step(
+            self.table,
+            self.amounts,
+            self.vs,
+            &self.setting.component,
+            self.setting.components,
+            i % 2 == 1,
+            c.stride,
+            &c.multipliers,
+            &c.before,
+        );
+        let Best {
+            multipliers: best,
+            bound,
+        } = self.attempt_above(c, value);
+        Stage {
+            multipliers,
+            before: c.multipliers,
+            best,
+            bound,
+            value: c.value.max(value),
+            stride: c.stride - c.stride / 9,
+            done: balanced,
+        }
+    }
+
+    // Before the first step.
+    fn begun(&self, u: [i64; 64]) -> Stage
+        requires { (p : AnyPlan) × IsReady p self.now × (u ≡ greatest_of p) }
+        ensures { ((p : AnyPlan) → IsReady p self.now → u ≡ greatest_of p → climb_of result ≡ begin p) × CanStep result }
+    {
+        let far = span(self.table, self.vs);
+        Stage {
+            multipliers: u,
+            before: u,
+            best: u,
+            bound: self.bound_at(&u),
+            value: 0,
+            stride: (far / 24 + 1).min(1_099_511_627_776),
+            done: false,
+        }
+    }
+
+    // The multipliers that are answered, from the greatest ones on, and their bound.
+    fn ascend(&self, u: [i64; 64]) -> Best
+        requires { (p : AnyPlan) × IsReady p self.now × (u ≡ greatest_of p) }
+        ensures { (p : AnyPlan) → IsReady p self.now → u ≡ greatest_of p
+            → (result.multipliers ≡ multipliers_for p) × (result.bound ≡ bound_of p result.multipliers) }
+    {
+        let mut c = self.begun(u);
+        for i in 0..20 {
+            c = self.climb(&c, i);
+        }
+        c.held()
     }
 }
 
 // The same, of a network.
-pub fn multipliers_for(
+pub fn multipliers_for<'a>(
     plan: Plan,
-    table: &[[u32; 64]; 64],
-    vs: &[u8],
-    net: Network,
-    base: Balance,
+    table: &'a [[u32; 64]; 64],
+    vs: &'a [u8],
+    net: &Network,
+    base: &'a Balance,
     u: [i64; 64],
 ) -> Best
-    requires { IsBase (plan_value plan) table.now vs.now (state_of base) × IsNetwork (plan_value plan) net
-        × (u ≡ multipliers (cell table.now) vs.now (state_of base) (root (plan_value plan))) }
+    requires { IsBase (plan_value plan) table.now vs.now (state_of base.now) × IsNetwork (plan_value plan) net.now
+        × (u ≡ multipliers (cell table.now) vs.now (state_of base.now) (root (plan_value plan))) }
     ensures { (result.multipliers ≡ multipliers_for (plan_value plan)) × (result.bound ≡ bound_of (plan_value plan) result.multipliers) }
 {
-    let amounts = base.amounts;
-    let component = net.component;
-    let required = net.required;
-    let components = net.components;
-    let imbalance = net.imbalance;
-    let s = Setting {
-        component: component,
-        required: required,
-        components: components as usize,
+    let setting = Setting {
+        component: net.component,
+        required: net.required,
+        components: net.components as usize,
         required_cost: net.required_cost,
-        imbalance: imbalance,
+        imbalance: net.imbalance,
     };
-    ascend(table, &amounts, vs, s, u)
+    let ascent = Ascent {
+        table,
+        amounts: &base.amounts,
+        vs,
+        setting,
+    };
+    ascent.ascend(u)
 }

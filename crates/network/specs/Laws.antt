@@ -1,5 +1,4 @@
 -- What is proved about the definitions.
-pub mod Flat
 pub mod Ways
 pub mod Thinning
 pub mod Vertices

@@ -7,26 +7,12 @@ fn misses(d: &[[u32; 64]; 64], required: [bool; 64], i: usize) -> bool
     requires { i < 64 }
     ensures { result ≡ misses_some d.now required i }
 {
-    for j in 0..64 {
-        if required[j] {
-            if d[i][j] == 4294967295 {
-                return true;
-            }
-        }
-    }
-    false
+    (0..64).any(|j| required[j] && d[i][j] == u32::MAX)
 }
 
 // Whether "some required vertex has no path to another".
 pub(crate) fn is_cut_off(d: &[[u32; 64]; 64], required: [bool; 64]) -> bool
     ensures { result ≡ cuts_off d.now required }
 {
-    for i in 0..64 {
-        if required[i] {
-            if misses(d, required, i) {
-                return true;
-            }
-        }
-    }
-    false
+    (0..64).any(|i| required[i] && misses(d, required, i))
 }

@@ -39,11 +39,11 @@ pub fn network_of(plan: Plan, table: &[[u32; 64]; 64]) -> Network
     let links = thin(table, pairs(required));
     let imbalance = imbalance(plan);
     Network {
-        required: required,
-        component: component,
+        required,
+        component,
         components: parts.count,
-        links: links,
-        imbalance: imbalance,
+        links,
+        imbalance,
         required_cost: required_cost(plan),
         cut_off: is_cut_off(table, required),
     }

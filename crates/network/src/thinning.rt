@@ -1,19 +1,14 @@
 // The pairs of required vertices that are links.
-ghost use Rattle.std.specs.Prelude.{◌≡◌, false, cond, ℕ, ◌+◌, ◌*◌, ◌/◌, ◌%◌, ◌≤◌, ◌<◌, eqb, length, get_or};
+ghost use Rattle.std.specs.Prelude.{◌≡◌, false, ℕ, ◌+◌, ◌*◌, ◌/◌, ◌%◌, ◌≤◌, ◌<◌, eqb, length, get_or};
+ghost use Rattle.postman.specs.Lists.{any_of, below};
 ghost use Rattle.postman.specs.Steps.{cell};
-ghost use Rattle.network.specs.Thinning.{flag, is_pair, far, nearby, ways_of, has_no_way, rows_thinned};
+ghost use Rattle.network.specs.Thinning.{flag, is_pair, is_pair as is_pair_of, between, far, nearby, ways_of, has_no_way, rows_thinned};
 
 // Whether i and j, of which a and b say whether they are required, are a pair.
 fn is_pair(i: usize, j: usize, a: bool, b: bool) -> bool
     ensures { result ≡ is_pair i j a b }
 {
-    if i == j {
-        return false;
-    }
-    if !a {
-        return false;
-    }
-    b
+    i != j && a && b
 }
 
 // All pairs of required vertices, (i, j) at 64 i + j.
@@ -21,20 +16,19 @@ pub(crate) fn pairs(required: [bool; 64]) -> [bool; 4096]
     ensures { (length result ≡ 4096) × ((i j : ℕ) → i < 64 → j < 64
         → flag result i j ≡ is_pair i j (get_or required i false) (get_or required j false)) }
 {
-    let mut held = [false; 4096];
-    for i in 0..64 {
-        for j in 0..64 {
-            held[i * 64 + j] = is_pair(i, j, required[i], required[j]);
-        }
-    }
-    held
+    std::array::from_fn(
+        |x|
+            requires { x < 4096 }
+            ensures { result ≡ is_pair_of (x / 64) (x % 64) (get_or required (x / 64) false) (get_or required (x % 64) false) }
+        { is_pair(x / 64, x % 64, required[x / 64], required[x % 64]) },
+    )
 }
 
 // Whether the way by a third vertex, of costs b and c, costs a.
 fn splits(a: u32, b: u32, c: u32) -> bool
     ensures { result ≡ eqb a (b + c) }
 {
-    (a as u64) == (b as u64) + (c as u64)
+    u64::from(a) == u64::from(b) + u64::from(c)
 }
 
 // 2 to the 30, which no path costs.
@@ -44,12 +38,7 @@ const FAR: u32 = 1073741824;
 fn near(pair: bool, d: u32) -> u32
     ensures { (result ≡ nearby pair d) × (result ≤ far) }
 {
-    if pair {
-        if d < FAR {
-            return d;
-        }
-    }
-    FAR
+    if pair { d.min(FAR) } else { FAR }
 }
 
 // The distances of the pairs from i.
@@ -57,11 +46,7 @@ fn row_near(d: &[[u32; 64]; 64], pairs: &[bool; 4096], i: usize) -> [u32; 64]
     requires { i < 64 }
     ensures { (k : ℕ) → k < 64 → get_or result k 0 ≡ nearby (flag pairs.now i k) (cell d.now i k) }
 {
-    let mut row = [0u32; 64];
-    for k in 0..64 {
-        row[k] = near(pairs[i * 64 + k], d[i][k]);
-    }
-    row
+    std::array::from_fn(|k| near(pairs[i * 64 + k], d[i][k]))
 }
 
 // Those of all pairs, by their heads: of (k, j) at 64 j + k.
@@ -69,18 +54,7 @@ fn columns_near(d: &[[u32; 64]; 64], pairs: &[bool; 4096]) -> [u32; 4096]
     ensures { (x : ℕ) → x < 4096
         → get_or result x 0 ≡ nearby (flag pairs.now (x % 64) (x / 64)) (cell d.now (x % 64) (x / 64)) }
 {
-    let mut columns = [0u32; 4096];
-    for x in 0..4096usize {
-        columns[x] = near(pairs[x % 64 * 64 + x / 64], d[x % 64][x / 64]);
-    }
-    columns
-}
-
-// 1 where two numbers are the same.
-fn one(a: u32, b: u32) -> u32
-    ensures { (result ≡ cond (eqb a b) 1 0) × (result ≤ 1) }
-{
-    if a == b { 1 } else { 0 }
+    std::array::from_fn(|x| near(pairs[x % 64 * 64 + x / 64], d[x % 64][x / 64]))
 }
 
 // The number of ways of cost a by a third vertex to j, of distances from a row and from the columns. They are
@@ -91,7 +65,7 @@ fn ways(row: &[u32; 64], columns: &[u32; 4096], j: usize, a: u32) -> u32
 {
     let mut n: u32 = 0;
     for k in 0..64 {
-        n += one(row[k] + columns[j * 64 + k], a);
+        n += u32::from(row[k] + columns[j * 64 + k] == a);
     }
     n
 }
@@ -101,10 +75,7 @@ fn is_short(row: &[u32; 64], columns: &[u32; 4096], j: usize, a: u32) -> bool
     requires { (j < 64) × ((k : ℕ) → k < 64 → (get_or row.now k 0 ≤ far) × (get_or columns.now (j * 64 + k) 0 ≤ far)) }
     ensures { result ≡ has_no_way row.now columns.now j a }
 {
-    if a < FAR {
-        return ways(row, columns, j, a) == 0;
-    }
-    false
+    a < FAR && ways(row, columns, j, a) == 0
 }
 
 // Thinning. Each pair that is held has its turn, and is dropped at the first via vertex by pairs that are still held: the `break` moves on

@@ -12,10 +12,10 @@ ghost use Rattle.open_plan.specs.Contract.{IsMoveAnswer, IsOpened, IsMoved};
 
 use crate::{Moved, OpenPlan};
 use held_file::Held;
-use held_file::change::changed_file;
+use held_file::change::{Change, changed_file};
 use held_file::file::{held_length, hold, no_file};
 use plan_file::reader::file_verdict;
-use refusal::{Refusal, Verdict};
+use refusal::Refusal;
 use solution::Planned;
 use windows::call::plan_call_at;
 
@@ -23,10 +23,9 @@ use windows::call::plan_call_at;
 fn fresh(file: Held) -> OpenPlan
     ensures { result ≡ fresh_state file }
 {
-    let none = no_file();
     OpenPlan {
         plan: file,
-        marks: [none; 4],
+        marks: [no_file(); 4],
     }
 }
 
@@ -34,10 +33,9 @@ fn fresh(file: Held) -> OpenPlan
 fn with_plan(state: OpenPlan, file: Held) -> OpenPlan
     ensures { result ≡ with_plan_of state file }
 {
-    let marks = state.marks;
     OpenPlan {
         plan: file,
-        marks: marks,
+        ..state
     }
 }
 
@@ -45,8 +43,8 @@ fn accepted(state: OpenPlan) -> Moved
     ensures { IsMoveAnswer none state result }
 {
     Moved {
-        verdict: Verdict::Accepted,
-        state: state,
+        verdict: Ok(()),
+        state,
     }
 }
 
@@ -54,8 +52,8 @@ fn refused(state: OpenPlan, r: Refusal) -> Moved
     ensures { IsMoveAnswer (some (refusal_number r)) state result }
 {
     Moved {
-        verdict: Verdict::Refused(r),
-        state: state,
+        verdict: Err(r),
+        state,
     }
 }
 
@@ -64,14 +62,8 @@ pub fn open(bytes: &[u8]) -> Moved
     ensures { IsOpened bytes.now result }
 {
     match file_verdict(bytes) {
-        Verdict::Accepted => {
-            let file = hold(bytes);
-            accepted(fresh(file))
-        }
-        Verdict::Refused(r) => {
-            let none = no_file();
-            refused(fresh(none), r)
-        }
+        Ok(()) => accepted(fresh(hold(bytes))),
+        Err(r) => refused(fresh(no_file()), r),
     }
 }
 
@@ -79,14 +71,15 @@ pub fn open(bytes: &[u8]) -> Moved
 pub fn change(state: OpenPlan, arc: u32, cost: u16, service: u16, standing: u8) -> Moved
     ensures { IsMoved state (a_change (change_of arc cost service standing)) result }
 {
-    let held = state.plan;
-    let w = changed_file(held, arc, cost, service, standing);
-    let file = w.held;
-    let next = with_plan(state, file);
-    let verdict = w.verdict;
-    match verdict {
-        Verdict::Accepted => accepted(next),
-        Verdict::Refused(r) => refused(state, r),
+    let change = Change {
+        arc,
+        cost,
+        service,
+        standing,
+    };
+    match changed_file(state.plan, change) {
+        Ok(file) => accepted(with_plan(state, file)),
+        Err(r) => refused(state, r),
     }
 }
 
@@ -97,10 +90,9 @@ pub fn mark(state: OpenPlan, k: u32) -> Moved
     if 3 < k {
         return refused(state, Refusal::NoMark);
     }
-    let i = k as usize;
     let held = state.plan;
     let mut next = state;
-    next.marks[i] = held;
+    next.marks[k as usize] = held;
     accepted(next)
 }
 
@@ -111,8 +103,7 @@ pub fn return_to(state: OpenPlan, k: u32) -> Moved
     if 3 < k {
         return refused(state, Refusal::NoMark);
     }
-    let i = k as usize;
-    let held = state.marks[i];
+    let held = state.marks[k as usize];
     if held.length == 0 {
         return refused(state, Refusal::NoMark);
     }
@@ -127,12 +118,17 @@ pub fn ask(
     weekday: u32,
     minute: u32,
     sheet: &mut [u16],
-) -> Planned
+) -> Result<Planned, Refusal>
     ensures { IsPlanCallAt (file_in state.plan) budget windows.now (departure weekday minute) sheet.old
         sheet.new result }
 {
-    let held = state.plan;
-    let n = held_length(held);
-    let file = held.file;
-    plan_call_at(&file[..n], budget, windows, weekday, minute, sheet)
+    let n = held_length(state.plan);
+    plan_call_at(
+        &state.plan.file[..n],
+        budget,
+        windows,
+        weekday,
+        minute,
+        sheet,
+    )
 }

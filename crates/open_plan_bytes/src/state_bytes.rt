@@ -21,8 +21,7 @@ fn load_held(state: &[u8], at: usize) -> Held
     requires { at + 1477 ≤ length state.now }
     ensures { result ≡ held_in state.now at }
 {
-    let length = number_at(state, at) as usize;
-    load_file(state, at + 2, length)
+    load_file(state, at + 2, usize::from(number_at(state, at)))
 }
 
 // The open plan that is lent.
@@ -36,7 +35,7 @@ pub fn load(state: &[u8]) -> OpenPlan
     let third = load_held(state, 4_431);
     let fourth = load_held(state, 5_908);
     OpenPlan {
-        plan: plan,
+        plan,
         marks: [first, second, third, fourth],
     }
 }
@@ -72,14 +71,12 @@ pub fn store_moved(state: &mut [u8], r: Moved) -> i64
     requires { open_bytes ≤ length state.old }
     ensures { IsStored r state.old state.new result }
 {
-    let verdict = r.verdict;
-    let s = r.state;
-    match verdict {
-        Verdict::Accepted => {
-            store(state, s);
+    match r.verdict {
+        Ok(()) => {
+            store(state, r.state);
             0
         }
-        Verdict::Refused(q) => refused_number(q),
+        Err(q) => refused_number(q),
     }
 }
 
@@ -88,7 +85,7 @@ pub fn short_number(v: Verdict) -> i64
     ensures { result ≡ one_number (answer (or_else (verdict_number v) (some 8)) 0) }
 {
     match v {
-        Verdict::Accepted => refused_number(Refusal::ShortSheet),
-        Verdict::Refused(q) => refused_number(q),
+        Ok(()) => refused_number(Refusal::ShortSheet),
+        Err(q) => refused_number(q),
     }
 }

@@ -18,8 +18,7 @@ pub fn postman_open(plan: &[u8], state: &mut [u8]) -> i64
 {
     let r = open_plan::call::open(plan);
     if state.len() < 7_385 {
-        let verdict = r.verdict;
-        return short_number(verdict);
+        return short_number(r.verdict);
     }
     store_moved(state, r)
 }

@@ -1,7 +1,7 @@
 // The arcs of a shortest path, looked up among lent rows: those of the arcs, and one column of
 // weights, to the vertex that the path leads to.
 // Steps for other crates, which ask something of their caller.
-ghost use Rattle.std.specs.Prelude.{◌≡◌, cond, ◌&&◌, [], ℕ, ◌+◌, ◌*◌, ◌<◌, ◌≤◌, eqb, ltb, length, get_or};
+ghost use Rattle.std.specs.Prelude.{◌≡◌, ◌&&◌, [], ℕ, ◌+◌, ◌*◌, ◌<◌, ◌≤◌, eqb, ltb, length, get_or};
 ghost use Rattle.postman.specs.Plan.{WellFormed};
 ghost use Rattle.postman.specs.Distance.{no_path, distance};
 ghost use Rattle.plan.specs.Rows.{plan_in};
@@ -13,13 +13,9 @@ ghost use Rattle.shortest.specs.StepContracts.{IsColumn, overwrite};
 fn leads(tail: u16, standing: u16, cost: u16, v: usize, after: u32, left: u32) -> bool
     ensures { result ≡ (ltb standing 2 && eqb tail v && eqb (64 * cost + 1 + after) left) }
 {
-    standing < 2 && tail as usize == v && 64 * cost as u64 + 1 + after as u64 == left as u64
-}
-
-fn wide(x: u16) -> usize
-    ensures { result ≡ x }
-{
-    x as usize
+    standing < 2
+        && usize::from(tail) == v
+        && 64 * u64::from(cost) + 1 + u64::from(after) == u64::from(left)
 }
 
 // The arcs that leave each vertex, in ascending order: in place v the first that leaves v, in place 64 + k the next one after
@@ -28,44 +24,31 @@ pub fn chain_of(arcs: &[[u16; 5]]) -> [u16; 320]
     requires { (length arcs.now ≤ 256) × ((k : ℕ) → k < length arcs.now → tail_of arcs.now k < 64) }
     ensures { IsLeavingChain arcs.now result }
 {
-    let mut k = arcs.len();
-    let mut chain = [k as u16; 320];
-    while 0 < k {
-        k -= 1;
-        let t = wide(arcs[k][0]);
+    let mut chain = [arcs.len() as u16; 320];
+    for k in (0..arcs.len()).rev() {
+        let t = usize::from(arcs[k][0]);
         chain[64 + k] = chain[t];
         chain[t] = k as u16;
     }
     chain
 }
 
-// k where it passed, else the best so far.
-fn best_of(passed: bool, k: usize, best: usize) -> usize
-    ensures { result ≡ cond passed k best }
-{
-    if passed { k } else { best }
-}
-
 // The lowest numbered arc with which a lightest path from v begins, to the vertex of the column. The arcs that leave v are met in ascending
-// order, so that the first that is taken is the last that is met.
+// order, so that the first that is taken is the one.
 fn next_arc(arcs: &[[u16; 5]], chain: &[u16; 320], column: &[u32], v: usize) -> usize
     requires { WellFormed (plan_in (length column.now) arcs.now) × IsLeavingChain arcs.now chain.now
         × (v < length column.now) }
     ensures { result ≡ next_in arcs.now column.now v }
 {
-    let m = arcs.len();
-    let mut best = m;
-    let mut k = wide(chain[v]);
-    while k < best {
-        let h = wide(arcs[k][1]);
-        best = best_of(
-            leads(arcs[k][0], arcs[k][2], arcs[k][3], v, column[h], column[v]),
-            k,
-            best,
-        );
-        k = wide(chain[64 + k]);
+    let mut k = usize::from(chain[v]);
+    while k < arcs.len() {
+        let h = usize::from(arcs[k][1]);
+        if leads(arcs[k][0], arcs[k][2], arcs[k][3], v, column[h], column[v]) {
+            return k;
+        }
+        k = usize::from(chain[64 + k]);
     }
-    best
+    arcs.len()
 }
 
 // Writes the arcs of the path of fewest arcs from i to j into the places from `at` on, and answers the place after them.
@@ -92,7 +75,7 @@ pub fn path(
     while v != j {
         let k = next_arc(arcs, chain, column, v);
         places[to] = k as u16;
-        v = wide(arcs[k][1]);
+        v = usize::from(arcs[k][1]);
         to += 1;
     }
     to
@@ -103,9 +86,9 @@ pub fn column_to(table: &[[u32; 64]], j: usize) -> [u32; 64]
     requires { (length table.now ≤ 64) × (j < 64) }
     ensures { (length result ≡ 64) × ((i : ℕ) → i < length table.now → get_or result i 0 ≡ get_or (get_or table.now i []) j 0) }
 {
-    let mut column = [0u32; 64];
-    for i in 0..table.len() {
-        column[i] = table[i][j];
+    let mut column = [0; 64];
+    for (i, row) in table.iter().enumerate() {
+        column[i] = row[j];
     }
     column
 }

@@ -11,9 +11,9 @@ fn row_of(a: Arc) -> [u16; 5]
     ensures { result ≡ row_of (arc_value a) }
 {
     [
-        a.tail as u16,
-        a.head as u16,
-        a.standing as u16,
+        u16::from(a.tail),
+        u16::from(a.head),
+        u16::from(a.standing),
         a.cost,
         a.service,
     ]
@@ -25,10 +25,8 @@ pub fn rows_of(plan: Plan) -> [[u16; 5]; 256]
     ensures { result ≡ rows_of plan }
 {
     let mut rows = [[0u16; 5]; 256];
-    let m = plan.m as usize;
-    for k in 0..m {
-        let r = row_of(plan.arcs[k]);
-        rows[k] = r;
+    for (k, a) in plan.arcs[..plan.m as usize].iter().enumerate() {
+        rows[k] = row_of(*a);
     }
     rows
 }

@@ -3,24 +3,11 @@
 ghost use Rattle.std.specs.Prelude.{◌≡◌, cond, ◌+◌, ◌*◌, ◌<◌, ◌≤◌, length};
 ghost use Rattle.postman.specs.BitField.{field_at};
 ghost use Rattle.postman.specs.PlanFile.{is_second, arc_width, file_bits, arc_of};
-ghost use Rattle.plan.specs.Standings.{standing_of};
 ghost use Rattle.arc_rules.specs.Fields.{fields_arc};
 
 use arc_rules::rules::{Fields, implied_service, is_must};
 use bits::reader::take_at;
 use plan::Standing;
-
-// On the file's field of two bits.
-fn field_standing(f: u32) -> Standing
-    ensures { result ≡ standing_of f }
-{
-    match f {
-        0 => Standing::May,
-        1 => Standing::Must,
-        2 => Standing::Closed,
-        _ => Standing::Refused,
-    }
-}
 
 // The bits of a file of m arcs, which are those before arc m of a longer one.
 pub fn file_bits(edition: u8, m: usize) -> usize
@@ -28,9 +15,10 @@ pub fn file_bits(edition: u8, m: usize) -> usize
     ensures { result ≡ file_bits edition m }
 {
     if edition == 2 {
-        return 20 + 46 * m;
+        20 + 46 * m
+    } else {
+        20 + 30 * m
     }
-    20 + 30 * m
 }
 
 // The checking cost of the arc whose fields begin at bit `at`: read in edition 2, implied in edition 1.
@@ -39,9 +27,10 @@ fn read_service(s: &[u8], edition: u8, at: usize, must: bool, cost: u32) -> u32
     ensures { result ≡ cond (is_second edition) (field_at s.now (at + 30) 16) (cond must cost 0) }
 {
     if edition == 2 {
-        return take_at(s, at + 30, 16).field;
+        take_at(s, at + 30, 16).field
+    } else {
+        implied_service(must, cost)
     }
-    implied_service(must, cost)
 }
 
 // The fields of arc k of the file.
@@ -54,13 +43,12 @@ pub fn arc_fields(s: &[u8], edition: u8, k: usize) -> Fields
     let head = take_at(s, tail.at, 6);
     let standing = take_at(s, head.at, 2);
     let cost = take_at(s, standing.at, 16);
-    let must = is_must(field_standing(standing.field));
-    let service = read_service(s, edition, at, must, cost.field);
+    let must = is_must(Standing::from(standing.field));
     Fields {
         tail: tail.field,
         head: head.field,
         standing: standing.field,
         cost: cost.field,
-        service: service,
+        service: read_service(s, edition, at, must, cost.field),
     }
 }

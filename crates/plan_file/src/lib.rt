@@ -5,12 +5,10 @@
 pub mod reader; // from bytes to a plan
 
 use plan::Plan;
-use refusal::Verdict;
 
-// What reading answers. In a refusal the edition is 0, and the plan has no vertex and no arc.
+// A plan file that was read: its edition and its plan.
 #[derive(Clone, Copy)]
 pub struct Reading {
-    pub verdict: Verdict,
     pub edition: u8,
     pub plan: Plan,
 }

@@ -6,8 +6,8 @@ ghost use Rattle.postman.specs.Lists.{below};
 ghost use Rattle.postman.specs.Refusal.{first_refusal};
 ghost use Rattle.postman.specs.PlanFile.{edition, is_edition, arc_width, file_bits, file_length, fill_bits, arc_of, file_conditions, plan_of};
 ghost use Rattle.refusal.specs.Verdict.{verdict_number};
-ghost use Rattle.plan.specs.Records.{record_of, records_of, plan_record, no_plan};
-ghost use Rattle.plan_file.specs.Reading.{margin_conditions, extent_on, frame_conditions, has_arc, record_in, refused_reading, IsReading};
+ghost use Rattle.plan.specs.Records.{record_of, records_of, plan_record};
+ghost use Rattle.plan_file.specs.Reading.{margin_conditions, extent_on, frame_conditions, has_arc, record_in, IsReading};
 
 use crate::Reading;
 use arc_rules::rules::is_outside;
@@ -22,25 +22,21 @@ pub fn file_length(edition: u8, m: usize) -> usize
     requires { m ≤ 256 }
     ensures { result ≡ file_length edition m }
 {
-    (file_bits(edition, m) + 7) / 8
+    file_bits(edition, m).div_ceil(8)
 }
 
 // The file's edition, whatever it is.
 pub fn file_edition(s: &[u8]) -> u8
     ensures { result ≡ edition s.now }
 {
-    let e = take_at(s, 0, 4).field;
-    e as u8
+    take_at(s, 0, 4).field as u8
 }
 
 // Whether it is one of the two that are read and written.
 pub fn is_edition(e: u8) -> bool
     ensures { result ≡ is_edition e }
 {
-    if e == 1 {
-        return true;
-    }
-    e == 2
+    e == 1 || e == 2
 }
 
 // The bits after the last arc, as a number.
@@ -60,16 +56,15 @@ fn margin_verdict(s: &[u8], edition: u8, m: usize) -> Verdict
 {
     let needed = file_length(edition, m);
     if s.len() < needed {
-        return Verdict::Refused(Refusal::Torn);
+        return Err(Refusal::Torn);
     }
     if needed < s.len() {
-        return Verdict::Refused(Refusal::Margin);
+        return Err(Refusal::Margin);
     }
-    let fill = fill_bits(s, edition, m);
-    if fill != 0 {
-        return Verdict::Refused(Refusal::Margin);
+    if fill_bits(s, edition, m) != 0 {
+        return Err(Refusal::Margin);
     }
-    Verdict::Accepted
+    Ok(())
 }
 
 // "1 to 64", "1 to 256": the first refusal from n and m on, before the arcs.
@@ -79,11 +74,11 @@ fn extent_verdict(s: &[u8], edition: u8) -> Verdict
 {
     let n = take_at(s, 4, 7).field;
     if is_outside(n, 1, 64) {
-        return Verdict::Refused(Refusal::Extent);
+        return Err(Refusal::Extent);
     }
     let m = take_at(s, 11, 9).field;
     if is_outside(m, 1, 256) {
-        return Verdict::Refused(Refusal::Extent);
+        return Err(Refusal::Extent);
     }
     margin_verdict(s, edition, m as usize)
 }
@@ -93,13 +88,13 @@ fn frame_verdict(s: &[u8]) -> Verdict
     ensures { verdict_number result ≡ first_refusal (frame_conditions s.now) }
 {
     if s.len() < 3 {
-        return Verdict::Refused(Refusal::Torn);
+        return Err(Refusal::Torn);
     }
     let edition = file_edition(s);
-    if is_edition(edition) {
-        return extent_verdict(s, edition);
+    if !is_edition(edition) {
+        return Err(Refusal::Edition);
     }
-    Verdict::Refused(Refusal::Edition)
+    extent_verdict(s, edition)
 }
 
 // The record of arc k of the file.
@@ -121,10 +116,7 @@ fn read_arc(s: &[u8], edition: u8, k: usize) -> Arc
 fn has_arc(s: &[u8], edition: u8, k: usize) -> bool
     ensures { result ≡ has_arc s.now edition k }
 {
-    if 255 < k {
-        return false;
-    }
-    (file_bits(edition, k + 1) + 7) / 8 <= s.len()
+    k <= 255 && file_bits(edition, k + 1).div_ceil(8) <= s.len()
 }
 
 // The record of arc k, in the file's own edition; zeros where the file has no room for it.
@@ -133,14 +125,9 @@ pub fn file_arc(s: &[u8], k: usize) -> Arc
 {
     let e = file_edition(s);
     if has_arc(s, e, k) {
-        return read_arc(s, e, k);
-    }
-    Arc {
-        tail: 0,
-        head: 0,
-        standing: 0,
-        cost: 0,
-        service: 0,
+        read_arc(s, e, k)
+    } else {
+        Arc::ZERO
     }
 }
 
@@ -149,14 +136,7 @@ fn read_arcs(s: &[u8], edition: u8, m: usize) -> [Arc; 256]
     requires { (m ≤ 256) × (file_bits edition m ≤ 8 * length s.now) }
     ensures { result ≡ records_of (map (arc_of s.now edition) (below m)) }
 {
-    let zero = Arc {
-        tail: 0,
-        head: 0,
-        standing: 0,
-        cost: 0,
-        service: 0,
-    };
-    let mut arcs = [zero; 256];
+    let mut arcs = [Arc::ZERO; 256];
     for k in 0..m {
         arcs[k] = read_arc(s, edition, k);
     }
@@ -175,72 +155,33 @@ fn framed_plan(s: &[u8]) -> Plan
     Plan {
         n: n as u8,
         m: m as u16,
-        arcs: arcs,
-    }
-}
-
-// What a refusal leaves: no vertex, no arc, every record zeros.
-pub fn no_plan() -> Plan
-    ensures { result ≡ plan_record no_plan }
-{
-    let zero = Arc {
-        tail: 0,
-        head: 0,
-        standing: 0,
-        cost: 0,
-        service: 0,
-    };
-    Plan {
-        n: 0,
-        m: 0,
-        arcs: [zero; 256],
-    }
-}
-
-// A file that is refused.
-fn refused(r: Refusal) -> Reading
-    ensures { result ≡ refused_reading r }
-{
-    let plan = no_plan();
-    Reading {
-        verdict: Verdict::Refused(r),
-        edition: 0,
-        plan: plan,
+        arcs,
     }
 }
 
 // Reading, once the frame is good. The records that the verdict on the arcs is about are those of the plan: each arc is decoded once.
-fn read_framed(s: &[u8]) -> Reading
+fn read_framed(s: &[u8]) -> Result<Reading, Refusal>
     requires { first_refusal (frame_conditions s.now) ≡ none }
     ensures { IsReading s.now result }
 {
     let edition = file_edition(s);
     let plan = framed_plan(s);
-    let arcs = plan.arcs;
-    match all_records_verdict(edition, plan.n, plan.m as usize, arcs) {
-        Verdict::Accepted => Reading {
-            verdict: Verdict::Accepted,
-            edition: edition,
-            plan: plan,
-        },
-        Verdict::Refused(r) => refused(r),
-    }
+    all_records_verdict(edition, plan.n, plan.m as usize, plan.arcs)?;
+    Ok(Reading { edition, plan })
 }
 
 // Reading, from any bytes: the first refusal by document 01's order, or the edition and the plan.
-pub fn read_plan(s: &[u8]) -> Reading
+pub fn read_plan(s: &[u8]) -> Result<Reading, Refusal>
     ensures { IsReading s.now result }
 {
-    match frame_verdict(s) {
-        Verdict::Accepted => read_framed(s),
-        Verdict::Refused(r) => refused(r),
-    }
+    frame_verdict(s)?;
+    read_framed(s)
 }
 
 // The first refusal of a file, in document 01's order.
 pub fn file_verdict(s: &[u8]) -> Verdict
     ensures { verdict_number result ≡ first_refusal (file_conditions s.now) }
 {
-    let reading = read_plan(s);
-    reading.verdict
+    read_plan(s)?;
+    Ok(())
 }

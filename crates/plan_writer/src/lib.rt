@@ -7,8 +7,4 @@ pub mod round_trip; // the two together
 use refusal::Refusal;
 
 // What writing answers: the file's length in bytes, or the refusal.
-#[derive(Clone, Copy)]
-pub enum Written {
-    Length(usize),
-    Refused(Refusal),
-}
+pub type Written = Result<usize, Refusal>;

@@ -20,34 +20,28 @@ fn content_verdict(edition: u8, p: Plan, room: usize) -> Verdict
     requires { is_edition edition ≡ true }
     ensures { verdict_number result ≡ write_refusal edition (plan_value p) room }
 {
-    let n = p.n;
-    let m = p.m;
-    if is_outside(n as u32, 1, 64) {
-        return Verdict::Refused(Refusal::Extent);
+    let m = p.m as usize;
+    if is_outside(p.n as u32, 1, 64) {
+        return Err(Refusal::Extent);
     }
-    if is_outside(m as u32, 1, 256) {
-        return Verdict::Refused(Refusal::Extent);
+    if is_outside(p.m as u32, 1, 256) {
+        return Err(Refusal::Extent);
     }
-    let arcs = p.arcs;
-    match all_records_verdict(edition, n, m as usize, arcs) {
-        Verdict::Accepted => {
-            if room < file_length(edition, m as usize) {
-                return Verdict::Refused(Refusal::ShortSheet);
-            }
-            Verdict::Accepted
-        }
-        Verdict::Refused(r) => Verdict::Refused(r),
+    all_records_verdict(edition, p.n, m, p.arcs)?;
+    if room < file_length(edition, m) {
+        return Err(Refusal::ShortSheet);
     }
+    Ok(())
 }
 
 // The first refusal of a plan that is to be written in an edition where there is room for `room` bytes.
 fn plan_verdict(edition: u8, p: Plan, room: usize) -> Verdict
     ensures { verdict_number result ≡ write_refusal edition (plan_value p) room }
 {
-    if is_edition(edition) {
-        return content_verdict(edition, p, room);
+    if !is_edition(edition) {
+        return Err(Refusal::Edition);
     }
-    Verdict::Refused(Refusal::Edition)
+    content_verdict(edition, p, room)
 }
 
 // The first `count` bytes become zero.
@@ -55,9 +49,7 @@ fn clear(s: &mut [u8], count: usize)
     requires { count ≤ length s.old }
     ensures { s.new ≡ replicate count 0 ++ drop count s.old }
 {
-    for i in 0..count {
-        s[i] = 0;
-    }
+    s[..count].fill(0);
 }
 
 // Edition, n and m.
@@ -97,10 +89,8 @@ fn put_arcs(s: &mut [u8], edition: u8, arcs: [Arc; 256], m: usize)
     requires { (m ≤ 256) × (file_bits edition m ≤ 8 * length s.old) }
     ensures { s.new ≡ put_arcs s.old edition (record_at arcs) m }
 {
-    for k in 0..m {
-        let a = arcs[k];
-        let at = file_bits(edition, k);
-        put_arc(s, edition, at, a);
+    for (k, a) in arcs[..m].iter().enumerate() {
+        put_arc(s, edition, file_bits(edition, k), *a);
     }
 }
 
@@ -109,12 +99,10 @@ fn put_plan(s: &mut [u8], edition: u8, p: Plan)
     requires { (p.m ≤ 256) × (file_length edition p.m ≤ length s.old) }
     ensures { s.new ≡ file_of edition (plan_value p) ++ drop (file_length edition p.m) s.old }
 {
-    let n = p.n;
-    let m = p.m;
-    let arcs = p.arcs;
-    clear(s, file_length(edition, m as usize));
-    put_header(s, edition, n as u32, m as u32);
-    put_arcs(s, edition, arcs, m as usize);
+    let m = p.m as usize;
+    clear(s, file_length(edition, m));
+    put_header(s, edition, p.n as u32, p.m as u32);
+    put_arcs(s, edition, p.arcs, m);
 }
 
 // Writing in an edition, into any slice: the first refusal by document 01's order, with the slice untouched; or
@@ -123,12 +111,7 @@ pub fn write_plan(edition: u8, p: Plan, s: &mut [u8]) -> Written
     ensures answered { written_answer result ≡ write_answer edition (plan_value p) s.old }
     ensures bytes_written { s.new ≡ bytes_after edition (plan_value p) s.old }
 {
-    match plan_verdict(edition, p, s.len()) {
-        Verdict::Accepted => {
-            put_plan(s, edition, p);
-            let m = p.m;
-            Written::Length(file_length(edition, m as usize))
-        }
-        Verdict::Refused(r) => Written::Refused(r),
-    }
+    plan_verdict(edition, p, s.len())?;
+    put_plan(s, edition, p);
+    Ok(file_length(edition, p.m as usize))
 }

@@ -8,41 +8,33 @@ ghost use Rattle.solution.specs.Planned.{IsPlanned};
 ghost use Rattle.planner.specs.Contract.{IsPlanCall};
 
 use budget::Budget;
-use call_steps::steps::{lent_verdict, plan_read, refused};
+use call_steps::steps::{lent_verdict, plan_read};
 use plan::Plan;
-use refusal::Verdict;
+use plan_file::reader::read_plan;
+use refusal::Refusal;
 use solution::Planned;
 
 // From 8 on: a call with no conditions of its own.
-fn plan_lent(plan: Plan, budget: u64, sheet: &mut [u16]) -> Planned
+fn plan_lent(plan: Plan, budget: u64, sheet: &mut [u16]) -> Result<Planned, Refusal>
     requires { WellFormed (plan_value plan) }
     ensures { IsPlanned (plan_value plan) budget
         (first_refusal (call_conditions budget (length sheet.old) ++ last_conditions (plan_value plan)))
         sheet.old sheet.new result }
 {
-    match lent_verdict(budget, sheet.len()) {
-        Verdict::Refused(r) => refused(r),
-        Verdict::Accepted => plan_read(plan, budget as u32, sheet),
-    }
+    lent_verdict(budget, sheet.len())?;
+    plan_read(plan, budget as u32, sheet)
 }
 
 // THE PLAN CALL, for any bytes, any budget and any sheet.
-pub fn plan_call(bytes: &[u8], budget: u64, sheet: &mut [u16]) -> Planned
+pub fn plan_call(bytes: &[u8], budget: u64, sheet: &mut [u16]) -> Result<Planned, Refusal>
     ensures { IsPlanCall bytes.now budget sheet.old sheet.new result }
 {
-    let reading = plan_file::reader::read_plan(bytes);
-    let plan = reading.plan;
-    let verdict = reading.verdict;
-    match verdict {
-        Verdict::Refused(r) => refused(r),
-        Verdict::Accepted => plan_lent(plan, budget, sheet),
-    }
+    plan_lent(read_plan(bytes)?.plan, budget, sheet)
 }
 
 // THE SHORT CALL: "leaves B out" and uses the budget type's default.
-pub fn short_call(bytes: &[u8], sheet: &mut [u16]) -> Planned
+pub fn short_call(bytes: &[u8], sheet: &mut [u16]) -> Result<Planned, Refusal>
     ensures { IsPlanCall bytes.now default_budget sheet.old sheet.new result }
 {
-    let b = Budget::standard();
-    plan_call(bytes, b.trees as u64, sheet)
+    plan_call(bytes, u64::from(Budget::standard().trees), sheet)
 }

@@ -44,7 +44,6 @@ pub mod Judge
 pub mod Windows
 pub mod Roads
 pub mod Marks
-pub mod Copy
 pub mod FirstNumber
 pub mod Renumbering
 pub mod RenumberedDrive

@@ -21,8 +21,7 @@ pub(crate) fn base_state(plan: Plan, table: &[[u32; 64]; 64], vs: &[u8]) -> Bala
     let mut tails = [0u8; 526];
     let mut heads = [0u8; 526];
     let c = drive_legs::legs::gather(plan, &mut numbers, &mut tails, &mut heads);
-    let none = balance::state::empty();
-    balance::state::add_all(none, table, vs, &tails[..c], &heads[..c])
+    balance::state::add_all(balance::state::empty(), table, vs, &tails[..c], &heads[..c])
 }
 
 // The greatest multipliers that are 0 at the lowest required vertex.
@@ -35,6 +34,5 @@ pub(crate) fn multipliers_of(
     requires { IsBase (plan_value plan) table.now vs.now (state_of base) }
     ensures { result ≡ multipliers (cell table.now) vs.now (state_of base) (root (plan_value plan)) }
 {
-    let first = vs[0];
-    balance::multipliers::multipliers(base, table, vs, first)
+    balance::multipliers::multipliers(base, table, vs, vs[0])
 }

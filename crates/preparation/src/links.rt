@@ -26,8 +26,5 @@ pub fn with_links(
         ≡ balanceOf (cell (table_of (plan_value plan))) (plan_value plan) (links_of tails.now heads.now) }
 {
     let v = r.vertices;
-    let list = v.list;
-    let n = v.count;
-    let base = r.base;
-    balance::state::add_all(base, table, &list[..n], tails, heads)
+    balance::state::add_all(r.base, table, &v.list[..v.count], tails, heads)
 }

@@ -9,7 +9,7 @@ ghost use Rattle.preparation.specs.Preparation.{IsPreparation};
 use crate::base::{base_state, multipliers_of};
 use balance::state::Balance;
 use candidates::Vertices;
-use multipliers::ascend::multipliers_for;
+use multipliers::ascend::{Best, multipliers_for};
 use network::network::Network;
 use plan::Plan;
 
@@ -27,20 +27,16 @@ pub fn prepare(plan: Plan, table: &[[u32; 64]; 64], net: Network) -> Preparation
     requires { IsKnown (plan_value plan) table.now (required (plan_value plan)) × IsNetwork (plan_value plan) net }
     ensures { IsPreparation (plan_value plan) table.now result }
 {
-    let flags = net.required;
-    let v = candidates::vertices_of(flags);
-    let list = v.list;
-    let n = v.count;
-    let vs = &list[..n];
+    let vertices = candidates::vertices_of(net.required);
+    let vs = &vertices.list[..vertices.count];
     let base = base_state(plan, table, vs);
     let greatest = multipliers_of(plan, table, vs, base);
-    let best = multipliers_for(plan, table, vs, net, base, greatest);
-    let u = best.multipliers;
+    let Best { multipliers, bound } = multipliers_for(plan, table, vs, &net, &base, greatest);
     Preparation {
-        vertices: v,
+        vertices,
         network: net,
-        base: base,
-        multipliers: u,
-        bound: best.bound,
+        base,
+        multipliers,
+        bound,
     }
 }

@@ -1,10 +1,12 @@
 -- THE PLAN CALL AT A DEPARTURE: "Market days. Streets shut on stated weekdays."
-use Rattle.std.specs.Prelude.{◌≡◌, not, List, [], ◌↔◌, ℕ, ◌≤◌, length, take, pos, ◌≤ℤ◌, T}
+use Rattle.std.specs.Prelude.{◌≡◌, not, List, [], ◌↔◌, ℕ, ◌≤◌, length, take, pos, ◌≤ℤ◌, T, Result}
 use Rattle.std.proofs.Math.Option.{none, some}
 use Rattle.postman.specs.Refusal.{first_refusal}
 use Rattle.postman.specs.PlanFile.{plan_of}
 use Rattle.postman.specs.Drive.{IsDrive, drive_cost}
 use Rattle.postman.specs.Windows.{Departure, windows_in, plan_at, Avoids, is_bad_departure, earlier_conditions_at, call_refusal_at}
+use Rattle.refusal.specs.declared.Refusal.{Refusal}
+use Rattle.solution.specs.Planned.{answer_in}
 use Rattle.solution.specs.declared.Planned.{Planned}
 use Rattle.solution.specs.RaisedBudget.{Buys}
 use Rattle.windows.specs.Contract.{IsPlanCallAt}
@@ -14,7 +16,7 @@ use Rattle.promises.specs.PlanCall.{Call}
 -- A call that was made. `windows` `plan_call_at` ensures the contract, for any bytes, budget, windows, departure and sheet.
 pub record CallAt (bytes : List ℕ) (budget : ℕ) (windows : List ℕ) (d : Departure) (sheet : List ℕ) : Type 0 where
   pub after : List ℕ
-  pub answer : Planned
+  pub answer : Result Planned Refusal
   pub contract : IsPlanCallAt bytes budget windows d sheet after answer
 
 -- DEMAND 1, with 19 and 20 among the refusals
@@ -38,9 +40,9 @@ SecondDemand = (bytes : List ℕ) (budget : ℕ) (windows : List ℕ) (d : Depar
 abbrev pub WrittenAvoids : Type 0
 WrittenAvoids = (bytes : List ℕ) (budget : ℕ) (windows : List ℕ) (d : Departure) (sheet : List ℕ) (c : CallAt bytes budget windows d sheet)
     → Accepted c.answer
-    → IsDrive (plan_of bytes) (take c.answer.places c.after)
-    × Avoids (windows_in windows) d (take c.answer.places c.after)
-    × (drive_cost (plan_of bytes) (take c.answer.places c.after) ≡ c.answer.cost)
+    → IsDrive (plan_of bytes) (take (answer_in c.answer).places c.after)
+    × Avoids (windows_in windows) d (take (answer_in c.answer).places c.after)
+    × (drive_cost (plan_of bytes) (take (answer_in c.answer).places c.after) ≡ (answer_in c.answer).cost)
 
 -- DEMAND 3
 abbrev pub ThirdDemand : Type 0
@@ -52,7 +54,8 @@ abbrev pub FloorOfAvoiding : Type 0
 FloorOfAvoiding = (bytes : List ℕ) (budget : ℕ) (windows : List ℕ) (d : Departure) (sheet : List ℕ)
     (c : CallAt bytes budget windows d sheet)
     → Accepted c.answer
-    → (w : List ℕ) → IsDrive (plan_of bytes) w → Avoids (windows_in windows) d w → c.answer.floor ≤ℤ pos (drive_cost (plan_of bytes) w)
+    → (w : List ℕ) → IsDrive (plan_of bytes) w → Avoids (windows_in windows) d w
+    → (answer_in c.answer).floor ≤ℤ pos (drive_cost (plan_of bytes) w)
 
 -- Two calls on the same answer the same, and leave the same sheet.
 abbrev pub OneAnswer : Type 0

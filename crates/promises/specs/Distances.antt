@@ -1,18 +1,18 @@
 -- THE DISTANCE CALL: "The index wants distances for up to 256 pairs of vertices of one plan."
-use Rattle.std.specs.Prelude.{◌≡◌, List, [], ◌∷◌, map, ℕ, ◌≤◌, ◌<◌, length, get_or, drop}
+use Rattle.std.specs.Prelude.{◌≡◌, List, [], ◌∷◌, map, ℕ, ◌≤◌, ◌<◌, length, get_or, drop, Result}
 use Rattle.std.proofs.Math.Option.{none, some}
 use Rattle.postman.specs.Lists.{distinct}
 use Rattle.postman.specs.Refusal.{refused, given}
 use Rattle.postman.specs.PlanFile.{plan_of}
 use Rattle.postman.specs.Distance.{distance}
 use Rattle.postman.specs.DistanceCall.{first, second, distance_refusal, distance_answer, distances_after}
-use Rattle.distances.specs.declared.Searched.{Searched}
+use Rattle.refusal.specs.declared.Refusal.{Refusal}
 use Rattle.distances.specs.Answer.{searched_answer}
 
 -- A call that was made. `distances` `distance_call` ensures both equations, for any bytes, pairs and distance list.
 pub record Page (bytes pairs distances : List ℕ) : Type 0 where
   pub after : List ℕ
-  pub answer : Searched
+  pub answer : Result ℕ Refusal
   pub answer_is : searched_answer answer ≡ distance_answer bytes pairs (length distances)
   pub after_is : after ≡ distances_after bytes pairs distances
 

@@ -1,5 +1,5 @@
 -- EIGHT DISTRICTS IN TURN: "One machine, empty at first, lays drives for up to eight districts."
-use Rattle.std.specs.Prelude.{◌≡◌, true, false, ℕ, suc, ◌+◌, ◌*◌, ◌≤◌, ◌<◌, length, take}
+use Rattle.std.specs.Prelude.{◌≡◌, Ok, true, false, ℕ, suc, ◌+◌, ◌*◌, ◌≤◌, ◌<◌, length, take}
 use mathlib.Core.List.{List, [], ◌∷◌, Memᴰ}
 use Rattle.std.proofs.Math.Option.{some}
 use Rattle.postman.specs.Refusal.{given}
@@ -7,19 +7,19 @@ use Rattle.postman.specs.PlanFile.{plan_of}
 use Rattle.postman.specs.PlanCall.{sheet_places, best_cost}
 use Rattle.judge.specs.Contract.{judged_answer}
 use Rattle.district_machine.specs.declared.machine.Machine.{Machine}
-use Rattle.district_entry.specs.declared.enter.Admission.TheVariants.{At}
 use Rattle.district_entry.specs.declared.enter.Entered.{Entered}
 use Rattle.districts.specs.declared.turn.Outcome.TheVariants.{Empty, ShortSheet, Unfinished, Finished}
 use Rattle.districts.specs.declared.turn.Turned.{Turned}
 use Rattle.postman.specs.Districts.{District, Line, entry_refusal, lowest_free, total, finishes}
 use Rattle.postman.specs.DistrictRuns.{Event, run, turns_in, turns_of, last_entry, turns_since}
 use Rattle.district_machine.specs.Machine.{line_of}
-use Rattle.district_entry.specs.Admitted.{admission_number}
+use Rattle.refusal.specs.Verdict.{verdict_number}
 use Rattle.district_entry.specs.Entered.{IsEntered}
 use Rattle.districts.specs.Turned.{IsTurned}
 use Rattle.districts.specs.Led.{Led}
 use Rattle.promises.specs.PlanCall.{Call}
 use Rattle.promises.specs.Judging.{Judging}
+use Rattle.solution.specs.Planned.{answer_in}
 
 -- `Led es m`: the calls es, the latest first, accepted or not, lead from the empty machine to m. `district_machine` `empty`,
 -- `district_entry` `enter` and `districts` `turn` ensure what each step asks for, of any machine.
@@ -42,13 +42,13 @@ pub record Entry (es : List Event) (bytes : List ℕ) (budget : ℕ) : Type 0 wh
 -- eight districts are unfinished; at entry, after the plan call's own refusals but 8."
 abbrev pub EntryAnswers : Type 0
 EntryAnswers = (es : List Event) (bytes : List ℕ) (budget : ℕ) (x : Entry es bytes budget)
-    → (admission_number x.answer.answer ≡ entry_refusal (run es) bytes budget)
-    × ((q : ℕ) → x.answer.answer ≡ At q → (q ≡ lowest_free (run es)) × (q < 8))
+    → (verdict_number x.answer.answer ≡ entry_refusal (run es) bytes budget)
+    × ((q : ℕ) → x.answer.answer ≡ Ok q → (q ≡ lowest_free (run es)) × (q < 8))
 
 -- In a refused entry "nothing moves".
 abbrev pub RefusedEntry : Type 0
 RefusedEntry = (es : List Event) (bytes : List ℕ) (budget : ℕ) (x : Entry es bytes budget) (k : ℕ)
-    → admission_number x.answer.answer ≡ some k → x.answer.machine ≡ x.machine
+    → verdict_number x.answer.answer ≡ some k → x.answer.machine ≡ x.machine
 
 -- ---- turns
 
@@ -76,8 +76,8 @@ ShortSheets = (es : List Event) (sheet : List ℕ) (t : Turn es sheet) (d : Dist
 abbrev pub StillGoing : Type 0
 StillGoing = (es : List Event) (sheet : List ℕ) (t : Turn es sheet) (d : District) (l : Line) → run es ≡ d ∷ l → sheet_places ≤ length sheet
     → finishes d ≡ false
-    → (t.answer.outcome ≡ Unfinished d.place) × (t.after ≡ sheet) × (t.answer.planned.trees ≡ d.tried + 1000)
-    × (t.answer.planned.cost ≡ best_cost (plan_of d.bytes) (d.tried + 1000))
+    → (t.answer.outcome ≡ Unfinished d.place) × (t.after ≡ sheet) × ((answer_in t.answer.planned).trees ≡ d.tried + 1000)
+    × ((answer_in t.answer.planned).cost ≡ best_cost (plan_of d.bytes) (d.tried + 1000))
 
 -- "A district's answer equals one plan call with its budget, however many turns it took": with the plan and the budget that it entered
 -- with, every field and every place of the sheet.
@@ -91,8 +91,8 @@ AsOnePlanCall = (es : List Event) (sheet : List ℕ) (t : Turn es sheet) (d : Di
 abbrev pub LastTurnPasses : Type 0
 LastTurnPasses = (es : List Event) (sheet : List ℕ) (t : Turn es sheet) (d : District) (l : Line) → run es ≡ d ∷ l
     → sheet_places ≤ length sheet → finishes d ≡ true
-    → (j : Judging (last_entry d.place es).bytes (take t.answer.planned.places t.after))
-    → judged_answer j.answer ≡ given t.answer.planned.cost
+    → (j : Judging (last_entry d.place es).bytes (take (answer_in t.answer.planned).places t.after))
+    → judged_answer j.answer ≡ given (answer_in t.answer.planned).cost
 
 -- ---- what every run promises
 

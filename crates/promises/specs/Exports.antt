@@ -1,6 +1,6 @@
 -- FOR OTHER LANGUAGES: what the C functions answer, over the numbers and slices that callers lend. None of them asks anything of its
 -- caller.
-use Rattle.std.specs.Prelude.{◌≡◌, not, ℕ, ◌+◌, ◌*◌, ◌/◌, ◌≤◌, length, drop, ℤ, pos, neg_ℤ, T}
+use Rattle.std.specs.Prelude.{◌≡◌, not, ℕ, ◌+◌, ◌*◌, ◌/◌, ◌≤◌, length, drop, ℤ, pos, neg_ℤ, T, Result}
 use mathlib.Core.List.{List, [], ◌++◌, flat_map}
 use Rattle.std.proofs.Math.Option.{none, some}
 use Rattle.postman.specs.PlanFile.{edition, vertex_count, arc_count, plan_of, read_refusal, read_answer, file_length, file_of}
@@ -10,6 +10,7 @@ use Rattle.postman.specs.Windows.{Departure, is_bad_departure}
 use Rattle.postman.specs.TreeCount.{count_call}
 use Rattle.postman.specs.DistanceCall.{distance_answer, distances_after}
 use Rattle.postman.specs.Judge.{judge_answer}
+use Rattle.refusal.specs.declared.Refusal.{Refusal}
 use Rattle.solution.specs.declared.Planned.{Planned}
 use Rattle.two_cars.specs.Contract.{IsCar}
 use Rattle.count_call.specs.Contract.{count_answer}
@@ -125,7 +126,7 @@ RaisedBudgetAt = (bytes : List ℕ) (b b' : ℕ) (windows : List ℕ) (d : Depar
 
 -- A car is handed over what it is answered; n is its own number, 0 or minus its refusal's.
 abbrev pub CarHandsOver : List ℕ → Lent → ℤ → Type 0
-CarHandsOver bytes c n = (r : Planned) × IsCar bytes c.marks c.budget c.sheet c.sheet' r
+CarHandsOver bytes c n = (r : Result Planned Refusal) × IsCar bytes c.marks c.budget c.sheet c.sheet' r
     × IsHandedOver r c.words c.words' c.u c.u' n
 
 -- `postman_two_cars` ensures the contract; its one number tells each car's.

@@ -1,5 +1,5 @@
 -- AN OPEN PLAN: "Marks to come back to. An editor tries closings and costs, then returns."
-use Rattle.std.specs.Prelude.{◌≡◌, ℕ, ◌<◌, length, get_or, take}
+use Rattle.std.specs.Prelude.{◌≡◌, ℕ, ◌<◌, length, get_or, take, Result}
 use mathlib.Core.List.{List, Memᴰ}
 use Rattle.std.proofs.Math.Option.{Option, none, some}
 use Rattle.postman.specs.Refusal.{first_refusal}
@@ -7,6 +7,8 @@ use Rattle.postman.specs.PlanFile.{edition, plan_of, file_of, file_conditions}
 use Rattle.postman.specs.OpenPlan.{Call, mark, return, opened, outcome, history, refusals}
 use Rattle.postman.specs.Windows.{Departure}
 use Rattle.refusal.specs.Verdict.{verdict_number}
+use Rattle.refusal.specs.declared.Refusal.{Refusal}
+use Rattle.solution.specs.Planned.{answer_in}
 use Rattle.solution.specs.declared.Planned.{Planned}
 use Rattle.windows.specs.Contract.{IsPlanCallAt}
 use Rattle.open_plan.specs.declared.OpenPlan.{OpenPlan}
@@ -42,7 +44,7 @@ History = (bytes : List ℕ) (o : Opening bytes) (cs : List Call) (t : OpenPlan)
 -- Asking that was done. `open_plan` `ask` ensures the contract, on any state.
 pub record Asking (s : OpenPlan) (budget : ℕ) (windows : List ℕ) (d : Departure) (sheet : List ℕ) : Type 0 where
   pub after : List ℕ
-  pub answer : Planned
+  pub answer : Result Planned Refusal
   pub contract : IsPlanCallAt (file_in s.plan) budget windows d sheet after answer
 
 -- "Asking gives what the plan call gives for the file written from it."
@@ -85,5 +87,5 @@ AskedAgain = (bytes : List ℕ) (x : Return bytes) (budget : ℕ) (windows : Lis
     (a : Asking x.marked.state budget windows d sheet) (b : Asking x.returned.state budget windows d sheet')
     → length sheet ≡ length sheet'
     → (a.answer ≡ b.answer)
-    × (take a.answer.places a.after ≡ take b.answer.places b.after)
+    × (take (answer_in a.answer).places a.after ≡ take (answer_in b.answer).places b.after)
     × (sheet ≡ sheet' → a.after ≡ b.after)

@@ -1,10 +1,12 @@
 -- THE PLAN CALL, and the short call.
-use Rattle.std.specs.Prelude.{◌≡◌, List, ◌↔◌, ℕ, ◌≤◌, length}
+use Rattle.std.specs.Prelude.{◌≡◌, List, ◌↔◌, ℕ, ◌≤◌, length, Result}
 use Rattle.std.proofs.Math.Option.{none, some}
 use Rattle.postman.specs.Refusal.{first_refusal}
 use Rattle.postman.specs.PlanFile.{plan_of}
 use Rattle.postman.specs.Drive.{IsDrive}
 use Rattle.postman.specs.PlanCall.{default_budget, earlier_conditions, call_refusal}
+use Rattle.refusal.specs.declared.Refusal.{Refusal}
+use Rattle.solution.specs.Planned.{answer_in}
 use Rattle.solution.specs.declared.Planned.{Planned}
 use Rattle.solution.specs.RaisedBudget.{Buys}
 use Rattle.planner.specs.Contract.{IsPlanCall}
@@ -14,7 +16,7 @@ use Rattle.promises.specs.Demands.{Refuses, Accepted, Drives, Bounds}
 -- bytes, budget and sheet.
 pub record Call (bytes : List ℕ) (budget : ℕ) (sheet : List ℕ) : Type 0 where
   pub after : List ℕ
-  pub answer : Planned
+  pub answer : Result Planned Refusal
   pub contract : IsPlanCall bytes budget sheet after answer
 
 -- DEMAND 1
@@ -47,7 +49,8 @@ OneAnswer = (bytes : List ℕ) (budget : ℕ) (sheet : List ℕ) (c d : Call byt
 -- "u depends on the plan alone."
 abbrev pub OwnMultipliers : Type 0
 OwnMultipliers = (bytes bytes' : List ℕ) (b b' : ℕ) (sheet sheet' : List ℕ) (c : Call bytes b sheet) (d : Call bytes' b' sheet')
-    → plan_of bytes ≡ plan_of bytes' → Accepted c.answer → Accepted d.answer → c.answer.multipliers ≡ d.answer.multipliers
+    → plan_of bytes ≡ plan_of bytes' → Accepted c.answer → Accepted d.answer
+    → (answer_in c.answer).multipliers ≡ (answer_in d.answer).multipliers
 
 -- What a raised budget buys: "the larger gives a drive no dearer and a floor no lower […], so two answers that aren't whole have equal
 -- floors. This is to be shown for every plan and every pair of good budgets, and refused calls are outside it."

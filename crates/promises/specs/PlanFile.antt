@@ -1,5 +1,5 @@
 -- THE PLAN FILE: reading into a lent list of arc records, and writing from one.
-use Rattle.std.specs.Prelude.{◌≡◌, ℕ, ◌≤◌, ◌<◌, length, get_or, take, drop}
+use Rattle.std.specs.Prelude.{◌≡◌, ℕ, ◌≤◌, ◌<◌, length, get_or, take, drop, Result}
 use mathlib.Core.List.{List, ◌++◌, map, Memᴰ}
 use Rattle.std.proofs.Math.Option.{none, some}
 use Rattle.postman.specs.Plan.{Arc as Fields}
@@ -9,9 +9,9 @@ use Rattle.postman.specs.PlanFile.{records_after, IsRecord, file_length}
 use Rattle.postman.specs.PlanFile.{file_of, write_refusal, write_answer, bytes_after}
 use Rattle.plan.specs.declared.Arc.{Arc}
 use Rattle.plan.specs.Records.{arc_value}
-use Rattle.plan_writer.specs.declared.Written.{Written}
+use Rattle.refusal.specs.declared.Refusal.{Refusal}
 use Rattle.plan_writer.specs.Writing.{written_answer}
-use Rattle.records.specs.declared.reader.Read.{Read}
+use Rattle.records.specs.declared.reader.Header.{Header}
 use Rattle.records.specs.Reading.{read_numbers}
 use Rattle.record_writer.specs.Writing.{list_plan}
 
@@ -20,7 +20,7 @@ use Rattle.record_writer.specs.Writing.{list_plan}
 -- A reading that was made. `records` `read_records` ensures both equations, for any bytes and any list.
 pub record Reading (bytes : List ℕ) (list : List Arc) : Type 0 where
   pub after : List Arc
-  pub answer : Read
+  pub answer : Result Header Refusal
   pub answer_is : read_numbers answer ≡ read_answer bytes (map arc_value list)
   pub after_is : map arc_value after ≡ records_after bytes (map arc_value list)
 
@@ -41,7 +41,7 @@ ReadGiven = (bytes : List ℕ) (list : List Arc) (r : Reading bytes list) → re
 -- A writing that was made. `records` `write_records` ensures both equations, for any edition, n, list and bytes.
 pub record Writing (e n : ℕ) (list : List Arc) (bytes : List ℕ) : Type 0 where
   pub after : List ℕ
-  pub answer : Written
+  pub answer : Result ℕ Refusal
   pub answer_is : written_answer answer ≡ write_answer e (list_plan n list) bytes
   pub after_is : after ≡ bytes_after e (list_plan n list) bytes
 

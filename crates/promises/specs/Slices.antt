@@ -1,9 +1,11 @@
 -- What callers in other languages lend for an answer, what they read there, and what two calls leave there.
-use Rattle.std.specs.Prelude.{◌≡◌, List, ℕ, ◌≤◌, ℤ, length, get_or, take}
+use Rattle.std.specs.Prelude.{◌≡◌, List, ℕ, ◌≤◌, ℤ, length, get_or, take, Result}
 use Rattle.postman.specs.Refusal.{unless}
 use Rattle.postman.specs.Windows.{Departure}
 use Rattle.refusal.specs.Verdict.{verdict_number}
 use Rattle.drive_legs.specs.Drive.{written}
+use Rattle.refusal.specs.declared.Refusal.{Refusal}
+use Rattle.solution.specs.Planned.{answer_in}
 use Rattle.solution.specs.declared.Planned.{Planned}
 use Rattle.answers.specs.Answer.{put_first, IsHandedOver}
 use Rattle.exports.specs.Call.{IsExportedCall, IsExportedCallAt}
@@ -17,7 +19,7 @@ pub record Slices : Type 0 where
 
 -- ---- the calls, over such slices
 
-abbrev pub HandsOver : Planned → Slices → Slices → ℤ → Type 0
+abbrev pub HandsOver : Result Planned Refusal → Slices → Slices → ℤ → Type 0
 HandsOver r old new n = IsHandedOver r old.words new.words old.multipliers new.multipliers n
 
 abbrev pub IsCalled : List ℕ → ℕ → Slices → Slices → ℤ → Type 0
@@ -54,15 +56,15 @@ drive_in s = take (get_or s.words 0 0) s.sheet
 
 -- A call leaves this answer: its number, its words and multipliers, as many as there is room for, and its drive from the sheet's start. All
 -- else is as it was, and in a refusal everything.
-pub record Leaves (r : Planned) (drive : List ℕ) (old new : Slices) (n : ℤ) : Type 0 where
+pub record Leaves (r : Result Planned Refusal) (drive : List ℕ) (old new : Slices) (n : ℤ) : Type 0 where
   pub handed_over : HandsOver r old new n
-  pub sheet_is : new.sheet ≡ unless (verdict_number r.verdict) (written drive old.sheet) old.sheet
+  pub sheet_is : new.sheet ≡ unless (verdict_number r) (written drive old.sheet) old.sheet
 
 -- TWO CALLS LEAVE ONE ANSWER, whatever their slices held before.
 pub record LeaveOneAnswer (old new : Slices) (n : ℤ) (old' new' : Slices) (n' : ℤ) : Type 0 where
-  pub answer : Planned
+  pub answer : Result Planned Refusal
   pub drive : List ℕ
-  pub counted : answer.places ≡ length drive
+  pub counted : (answer_in answer).places ≡ length drive
   pub first : Leaves answer drive old new n
   pub second : Leaves answer drive old' new' n'
 

@@ -1,19 +1,21 @@
 -- THE NUMBER OF TREES: "How deep is this plan? Before choosing a budget we want N itself."
-use Rattle.std.specs.Prelude.{◌≡◌, true, List, ◌↔◌, ℕ, ◌≤◌, ◌<◌}
+use Rattle.std.specs.Prelude.{◌≡◌, Result, true, List, ◌↔◌, ℕ, ◌≤◌, ◌<◌}
 use Rattle.std.proofs.Math.Option.{none, some}
 use Rattle.postman.specs.Refusal.{refused, given}
 use Rattle.postman.specs.PlanFile.{plan_of}
 use Rattle.postman.specs.Component.{component_count}
 use Rattle.postman.specs.Arborescence.{arborescence_count}
 use Rattle.postman.specs.TreeCount.{known, above, count_refusal, count_call}
-use Rattle.count_call.specs.declared.Counted.{Counted}
+use Rattle.refusal.specs.declared.Refusal.{Refusal}
+use Rattle.count_call.specs.declared.Count.{Count as CountAnswer}
 use Rattle.count_call.specs.Contract.{count_answer}
 use Rattle.promises.specs.Demands.{Accepted}
 use Rattle.promises.specs.PlanCall.{Call}
+use Rattle.solution.specs.Planned.{answer_in}
 
 -- A call that was made. `count_call` `count_call` ensures the equation, for any bytes; it is lent nothing that it could change.
 pub record Count (bytes : List ℕ) : Type 0 where
-  pub answer : Counted
+  pub answer : Result CountAnswer Refusal
   pub answer_is : count_answer answer ≡ count_call bytes
 
 -- "It takes plan bytes without windows and can give 1 to 7 and 10 to 13."
@@ -33,7 +35,7 @@ Above = (bytes : List ℕ) (c : Count bytes) → count_refusal bytes ≡ none �
 -- "For any accepted budget, and no windows, the plan call's whole is yes exactly when that number is known and no larger than the budget."
 abbrev pub WholeTold : Type 0
 WholeTold = (bytes : List ℕ) (budget : ℕ) (sheet : List ℕ) (c : Count bytes) (d : Call bytes budget sheet) → Accepted d.answer
-    → (d.answer.whole ≡ true) ↔ ((n : ℕ) × (count_answer c.answer ≡ given (known n)) × (n ≤ budget))
+    → ((answer_in d.answer).whole ≡ true) ↔ ((n : ℕ) × (count_answer c.answer ≡ given (known n)) × (n ≤ budget))
 
 -- "k = 1 gives 1."
 abbrev pub OnePart : Type 0

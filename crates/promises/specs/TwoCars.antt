@@ -1,11 +1,12 @@
 -- TWO CARS: "Main sheet and inset are surveyed by two cars on the same streets."
-use Rattle.std.specs.Prelude.{◌≡◌, List, ◌↔◌, ℕ, ◌≤◌, length}
+use Rattle.std.specs.Prelude.{◌≡◌, List, ◌↔◌, ℕ, ◌≤◌, length, Result}
 use Rattle.std.proofs.Math.Option.{none, some}
 use Rattle.postman.specs.Refusal.{first_refusal}
 use Rattle.postman.specs.PlanFile.{file_conditions, plan_of}
 use Rattle.postman.specs.Drive.{IsDrive}
 use Rattle.postman.specs.Marks.{car_plan, own_marks, earlier_conditions_for, car_refusal}
 use Rattle.refusal.specs.Verdict.{verdict_number}
+use Rattle.refusal.specs.declared.Refusal.{Refusal}
 use Rattle.solution.specs.declared.Planned.{Planned}
 use Rattle.solution.specs.RaisedBudget.{Buys}
 use Rattle.two_cars.specs.declared.TwoPlanned.{TwoPlanned}
@@ -29,7 +30,7 @@ pub record Cars (bytes : List ℕ) (a b : Given) : Type 0 where
 -- One car of such a call.
 pub record Car (bytes : List ℕ) (g : Given) : Type 0 where
   pub after : List ℕ
-  pub answer : Planned
+  pub answer : Result Planned Refusal
   pub contract : IsCar bytes g.marks g.budget g.sheet after answer
 
 abbrev pub EachCar : Type 0
@@ -49,7 +50,7 @@ SecondAlone = (bytes : List ℕ) (a a' b : Given) (c : Cars bytes a b) (d : Cars
 -- "Only 1 to 7 and 13 reach both": the file's.
 abbrev pub FileRefusal : Type 0
 FileRefusal = (bytes : List ℕ) (a b : Given) (c : Cars bytes a b) (k : ℕ) → first_refusal (file_conditions bytes) ≡ some k
-    → (verdict_number c.answer.first.verdict ≡ some k) × (verdict_number c.answer.second.verdict ≡ some k)
+    → (verdict_number c.answer.first ≡ some k) × (verdict_number c.answer.second ≡ some k)
 
 -- "Any other refusal is that car's alone and keeps just that car's sheet as it was, so demand 1 is read car by car for those": DEMAND 1,
 -- with 18 among the refusals
@@ -60,7 +61,7 @@ FirstDemand = (bytes : List ℕ) (g : Given) (c : Car bytes g)
 -- 12 exactly when no number before it applies and no drive exists that passes the marked arcs
 abbrev pub CutOff : Type 0
 CutOff = (bytes : List ℕ) (g : Given) (c : Car bytes g)
-    → (verdict_number c.answer.verdict ≡ some 12)
+    → (verdict_number c.answer ≡ some 12)
     ↔ ((first_refusal (earlier_conditions_for bytes g.budget (length g.sheet) g.marks) ≡ none)
     × ((w : List ℕ) → IsDrive (car_plan (plan_of bytes) g.marks) w → ⊥))
 

@@ -13,24 +13,14 @@ use plan_writer::writer::write_plan;
 pub fn at_most(n: usize, limit: usize) -> usize
     ensures { result ≡ at_most n limit }
 {
-    if n < limit {
-        return n;
-    }
-    limit
+    n.min(limit)
 }
 
 // 256 records of zeros.
 pub fn no_records() -> [Arc; 256]
     ensures { result ≡ replicate 256 zero_record }
 {
-    let zero = Arc {
-        tail: 0,
-        head: 0,
-        standing: 0,
-        cost: 0,
-        service: 0,
-    };
-    [zero; 256]
+    [Arc::ZERO; 256]
 }
 
 // The records of the list, at most 256, and zeros after them.
@@ -39,11 +29,7 @@ fn load_records(records: &[Arc]) -> [Arc; 256]
 {
     let count = at_most(records.len(), 256);
     let mut arcs = no_records();
-    let mut k = 0;
-    while k < count {
-        arcs[k] = records[k];
-        k = k + 1;
-    }
+    arcs[..count].copy_from_slice(&records[..count]);
     arcs
 }
 
@@ -54,9 +40,9 @@ pub fn write_arcs(edition: u8, n: u8, m: usize, arcs: [Arc; 256], bytes: &mut [u
 {
     let count = at_most(m, 257);
     let plan = Plan {
-        n: n,
+        n,
         m: count as u16,
-        arcs: arcs,
+        arcs,
     };
     write_plan(edition, plan, bytes)
 }

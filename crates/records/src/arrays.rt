@@ -25,10 +25,7 @@ fn read_first(bytes: &[u8], arcs: [Arc; 257], room: usize) -> Filled
 {
     let mut list = arcs;
     let read = read_records(bytes, &mut list[..room]);
-    Filled {
-        read: read,
-        arcs: list,
-    }
+    Filled { read, arcs: list }
 }
 
 // Reading into the first `room` records of the array, or into all where there are fewer; the others stay.

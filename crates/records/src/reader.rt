@@ -9,31 +9,32 @@ ghost use Rattle.records.specs.Reading.{read_numbers, room_answer, arcs_read, Ro
 use plan::Arc;
 use plan_file::Reading;
 use plan_file::reader::{file_arc, read_plan};
-use refusal::{Refusal, Verdict};
+use refusal::Refusal;
 
-// "It answers n and m", and "the edition too"; or the refusal.
-#[derive(Clone, Copy)]
-pub enum Read {
-    Given(u8, u8, u16),
-    Refused(Refusal),
+// "It answers n and m", and "the edition too".
+#[derive(Clone, Copy, Debug, PartialEq, Eq)]
+pub struct Header {
+    pub edition: u8,
+    pub n: u8,
+    pub m: u16,
 }
 
+// What reading answers, or the refusal.
+pub type Read = Result<Header, Refusal>;
+
 // What a reading answers where there is room for `room` records.
-pub fn room_answer(reading: Reading, room: usize) -> Read
+pub fn room_answer(reading: Result<Reading, Refusal>, room: usize) -> Read
     ensures { read_numbers result ≡ room_answer reading room }
 {
-    let plan = reading.plan;
-    let verdict = reading.verdict;
-    match verdict {
-        Verdict::Accepted => {
-            let count = plan.m;
-            if room < count as usize {
-                return Read::Refused(Refusal::ShortSheet);
-            }
-            Read::Given(reading.edition, plan.n, count)
-        }
-        Verdict::Refused(r) => Read::Refused(r),
+    let Reading { edition, plan } = reading?;
+    if room < plan.m as usize {
+        return Err(Refusal::ShortSheet);
     }
+    Ok(Header {
+        edition,
+        n: plan.n,
+        m: plan.m,
+    })
 }
 
 // What reading answers where there is room for `room` records.
@@ -42,8 +43,7 @@ fn read_answer(bytes: &[u8], room: usize) -> Read
         ≡ answer (read_refusal bytes.now room)
         (edition bytes.now, vertex_count bytes.now, arc_count bytes.now) }
 {
-    let reading = read_plan(bytes);
-    room_answer(reading, room)
+    room_answer(read_plan(bytes), room)
 }
 
 // How many records are stored: none in a refusal.
@@ -51,8 +51,8 @@ pub fn arcs_read(r: Read) -> usize
     ensures { result ≡ arcs_read r }
 {
     match r {
-        Read::Given(_, _, m) => m as usize,
-        Read::Refused(_) => 0,
+        Ok(header) => header.m as usize,
+        Err(_) => 0,
     }
 }
 
@@ -62,10 +62,8 @@ fn store_arcs(bytes: &[u8], m: usize, records: &mut [Arc])
     ensures { records.new
         ≡ stored_to (λ k. record_of (arc_of bytes.now (edition bytes.now) k)) records.old m }
 {
-    let mut k = 0;
-    while k < m {
+    for k in 0..m {
         records[k] = file_arc(bytes, k);
-        k = k + 1;
     }
 }
 

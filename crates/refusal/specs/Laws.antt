@@ -1,15 +1,10 @@
 -- Verdicts one after the other are conditions one after the other; and the refusals' numbers are 1 to 23.
-use Rattle.std.specs.Prelude.{◌≡◌, refl, Bool, true, false, cond, ℕ, ◌≤◌}
+use Rattle.std.specs.Prelude.{◌≡◌, Bool, true, false, cond, ℕ, ◌≤◌}
 use Rattle.std.proofs.Math.Option.{Option, none, some}
 use Rattle.std.proofs.Common.{arith}
 use Rattle.refusal.specs.declared.Refusal.{Refusal}
 use Rattle.refusal.specs.declared.Refusal.TheVariants.{Torn, Edition, Extent, Margin, OffSheet, Unpriced, Standing, ShortSheet, Budget, Idle, Scattered, CutOff, Repeated, Foreign, Unjoined, Missed, StrayPair, BadMarks, BadWindow, MustShut, NoMark, Full, Rounds}
-use Rattle.refusal.specs.Verdict.{refusal_number, or_else}
-
--- The condition, or else the next.
-pub or_else_cond : (b : Bool) (r : ℕ) (o : Option ℕ) → or_else (cond b (some r) none) o ≡ cond b (some r) o
-or_else_cond true r o = refl
-or_else_cond false r o = refl
+use Rattle.refusal.specs.Verdict.{refusal_number}
 
 -- The numbers are 1 to 23.
 pub some_number : (r : Refusal) → (1 ≤ refusal_number r) × (refusal_number r ≤ 23)
@@ -36,3 +31,12 @@ some_number MustShut = (omega arith, omega arith)
 some_number NoMark = (omega arith, omega arith)
 some_number Full = (omega arith, omega arith)
 some_number Rounds = (omega arith, omega arith)
+
+-- A step that refuses refuses the whole, whatever comes after it; where it passes, what comes after it decides.
+pub refused_first : (b : Bool) (k n : ℕ) (o : Option ℕ) → some k ≡ cond b (some n) none → some k ≡ cond b (some n) o
+refused_first true k n o e = e
+refused_first false k n o e = grind arith
+
+pub passed_first : (b : Bool) (n : ℕ) (x o : Option ℕ) → none ≡ cond b (some n) none → x ≡ o → x ≡ cond b (some n) o
+passed_first true n x o e f = grind arith
+passed_first false n x o e f = f

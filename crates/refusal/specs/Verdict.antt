@@ -1,10 +1,8 @@
 -- Document 01's number of each refusal, and the number that a verdict gives.
 use Rattle.std.proofs.Math.Option.{Option, none, some}
-use Rattle.std.specs.Prelude.{ℕ}
+use Rattle.std.specs.Prelude.{ℕ, Result, Ok, Err}
 use Rattle.refusal.specs.declared.Refusal.{Refusal}
 use Rattle.refusal.specs.declared.Refusal.TheVariants.{Torn, Edition, Extent, Margin, OffSheet, Unpriced, Standing, ShortSheet, Budget, Idle, Scattered, CutOff, Repeated, Foreign, Unjoined, Missed, StrayPair, BadMarks, BadWindow, MustShut, NoMark, Full, Rounds}
-use Rattle.refusal.specs.declared.Verdict.{Verdict}
-use Rattle.refusal.specs.declared.Verdict.TheVariants.{Accepted, Refused}
 
 -- "Numbers and their trade words."
 abbrev pub refusal_number : Refusal → ℕ
@@ -33,9 +31,9 @@ refusal_number Full = 22
 refusal_number Rounds = 23
 
 -- The number that a verdict gives, or none.
-abbrev pub verdict_number : Verdict → Option ℕ
-verdict_number Accepted = none
-verdict_number (Refused r) = some (refusal_number r)
+abbrev pub verdict_number : {T : Type 0} → Result T Refusal → Option ℕ
+verdict_number (Ok x) = none
+verdict_number (Err r) = some (refusal_number r)
 
 -- The first of two numbers, where there is one.
 abbrev pub or_else : Option ℕ → Option ℕ → Option ℕ

@@ -3,8 +3,6 @@
 ghost use Rattle.std.specs.Prelude.{◌≡◌, ◌<◌};
 ghost use Rattle.renumbering.specs.Numbering.{IsNumberingOf, unchanged, exchanged};
 
-use integers::wide;
-
 // The new number of each vertex, and the vertex of each new number.
 #[derive(Clone, Copy)]
 pub struct Numbering {
@@ -16,25 +14,19 @@ pub struct Numbering {
 pub fn identity() -> Numbering
     ensures { result ≡ unchanged }
 {
-    let mut to = [0u8; 64];
-    for v in 0..64usize {
-        to[v] = v as u8;
-    }
-    Numbering { to: to, from: to }
+    let to = std::array::from_fn(|v| v as u8);
+    Numbering { to, from: to }
 }
 
 // The vertices of the new numbers i and j exchange these.
-pub fn exchange(x: Numbering, i: usize, j: usize) -> Numbering
+pub fn exchange(mut x: Numbering, i: usize, j: usize) -> Numbering
     requires { IsNumberingOf 64 x × (i < 64) × (j < 64) }
     ensures { result ≡ exchanged i j x }
 {
-    let mut to = x.to;
-    let mut from = x.from;
-    let v = from[i];
-    let w = from[j];
-    from[i] = w;
-    from[j] = v;
-    to[wide(v)] = j as u8;
-    to[wide(w)] = i as u8;
-    Numbering { to: to, from: from }
+    let (v, w) = (x.from[i], x.from[j]);
+    x.from[i] = w;
+    x.from[j] = v;
+    x.to[usize::from(v)] = j as u8;
+    x.to[usize::from(w)] = i as u8;
+    x
 }

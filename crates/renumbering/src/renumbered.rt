@@ -1,35 +1,22 @@
 // What a plan call is made with under a numbering: the plan, its tables of distances and weights; and the multipliers carried back.
 // Steps for other crates, which ask something of their caller.
-ghost use Rattle.std.specs.Prelude.{◌≡◌, ◌<◌, length};
+ghost use Rattle.std.specs.Prelude.{◌≡◌, ℕ, ◌<◌, get_or, length};
 ghost use Rattle.postman.specs.Plan.{WellFormed};
 ghost use Rattle.plan.specs.Records.{plan_value, arc_value, record_of};
 ghost use Rattle.postman.specs.Renumbering.{number_in, renumbered_arc, renumbered};
-ghost use Rattle.renumbering.specs.Renumbered.{Inside, IsRenumberedRow, IsRenumberedTable, carried_in};
+ghost use Rattle.renumbering.specs.Renumbered.{Inside, IsRenumberedTable, carried_in};
 
-use integers::wide;
 use plan::{Arc, Plan};
-
-// The new number of a vertex, or the vertex of a new number.
-fn entry(numbers: &[u8; 64], v: usize) -> u8
-    requires { (v < 64) × (length numbers.now ≡ 64) }
-    ensures { result ≡ number_in numbers.now v }
-{
-    numbers[v]
-}
 
 // An arc between the new numbers of its ends.
 fn renumber_arc(a: Arc, to: &[u8; 64]) -> Arc
     requires { (a.tail < 64) × (a.head < 64) × (length to.now ≡ 64) }
     ensures { result ≡ record_of (renumbered_arc (number_in to.now) (arc_value a)) }
 {
-    let t = wide(a.tail);
-    let h = wide(a.head);
     Arc {
-        tail: entry(to, t),
-        head: entry(to, h),
-        standing: a.standing,
-        cost: a.cost,
-        service: a.service,
+        tail: to[usize::from(a.tail)],
+        head: to[usize::from(a.head)],
+        ..a
     }
 }
 
@@ -38,37 +25,23 @@ pub fn renumber(plan: Plan, to: &[u8; 64]) -> Plan
     requires { WellFormed (plan_value plan) × (length to.now ≡ 64) }
     ensures { plan_value result ≡ renumbered (plan_value plan) (number_in to.now) }
 {
-    let zero = Arc {
-        tail: 0,
-        head: 0,
-        standing: 0,
-        cost: 0,
-        service: 0,
-    };
-    let mut arcs = [zero; 256];
-    let m = plan.m as usize;
-    for k in 0..m {
-        let a = renumber_arc(plan.arcs[k], to);
-        arcs[k] = a;
+    let mut arcs = [Arc::ZERO; 256];
+    for (k, a) in plan.arcs[..usize::from(plan.m)].iter().enumerate() {
+        arcs[k] = renumber_arc(*a, to);
     }
-    Plan {
-        n: plan.n,
-        m: plan.m,
-        arcs: arcs,
-    }
+    Plan { arcs, ..plan }
 }
 
-// A row by new numbers.
-fn renumber_row(row: [u32; 64], from: &[u8; 64]) -> [u32; 64]
-    requires { Inside from.now }
-    ensures { IsRenumberedRow from.now row result }
+// What stands in the places that the numbers say.
+fn entries<T: Copy>(xs: &[T; 64], numbers: &[u8; 64]) -> [T; 64]
+    requires { Inside numbers.now }
+    ensures { (k : ℕ) (d : T) → k < 64 → get_or result k d ≡ get_or xs.now (number_in numbers.now k) d }
 {
-    let mut r = [0u32; 64];
-    for j in 0..64usize {
-        let v = wide(entry(from, j));
-        r[j] = row[v];
+    let mut found = *xs;
+    for (k, number) in numbers.iter().enumerate() {
+        found[k] = xs[usize::from(*number)];
     }
-    r
+    found
 }
 
 // A table of distances or of weights by new numbers: it is not computed again.
@@ -76,14 +49,11 @@ pub fn renumber_table(table: &[[u32; 64]; 64], from: &[u8; 64]) -> [[u32; 64]; 6
     requires { Inside from.now }
     ensures { IsRenumberedTable from.now table.now result }
 {
-    let mut t = [[0u32; 64]; 64];
+    let mut rows = entries(table, from);
     for i in 0..64usize {
-        let v = wide(entry(from, i));
-        let found = table[v];
-        let row = renumber_row(found, from);
-        t[i] = row;
+        rows[i] = entries(&rows[i], from);
     }
-    t
+    rows
 }
 
 // Multipliers carried back: what those of the renumbered plan give to each vertex by its new number.
@@ -91,10 +61,5 @@ pub fn carry(u: [i64; 64], to: &[u8; 64]) -> [i64; 64]
     requires { Inside to.now }
     ensures { result ≡ carried_in to.now u }
 {
-    let mut r = [0i64; 64];
-    for v in 0..64usize {
-        let i = wide(entry(to, v));
-        r[v] = u[i];
-    }
-    r
+    entries(&u, to)
 }

@@ -29,23 +29,19 @@ fn draw(d: Drawn, n: u64) -> Drawn
     let random = next(d.random);
     let i = (random % n) as usize;
     let j = (random / n % n) as usize;
-    let x = d.numbering;
-    let numbering = exchange(x, i, j);
     Drawn {
-        numbering: numbering,
-        random: random,
+        numbering: exchange(d.numbering, i, j),
+        random,
     }
 }
 
 // So many exchanges, one after the other.
-pub fn shuffle(d: Drawn, n: u64, times: u32) -> Drawn
+pub fn shuffle(mut d: Drawn, n: u64, times: u32) -> Drawn
     requires { IsNumberingOf n d.numbering × (1 ≤ n) × (n ≤ 64) × (d.random < modulus) }
     ensures { result ≡ shuffled n d times }
 {
-    let mut r = d;
     for i in 0..times {
-        let s = draw(r, n);
-        r = s;
+        d = draw(d, n);
     }
-    r
+    d
 }

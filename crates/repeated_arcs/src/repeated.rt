@@ -15,11 +15,11 @@ use refusal::{Refusal, Verdict};
 fn packed(a: Arc) -> u64
     ensures { (result ≡ packed_arc (arc_value a)) × IsRecord (arc_value a) }
 {
-    a.tail as u64 * 281_474_976_710_656
-        + a.head as u64 * 1_099_511_627_776
-        + a.standing as u64 * 4_294_967_296
-        + a.cost as u64 * 65_536
-        + a.service as u64
+    u64::from(a.tail) * 281_474_976_710_656
+        + u64::from(a.head) * 1_099_511_627_776
+        + u64::from(a.standing) * 4_294_967_296
+        + u64::from(a.cost) * 65_536
+        + u64::from(a.service)
 }
 
 // The first m arcs as numbers.
@@ -29,8 +29,8 @@ fn packed_arcs(arcs: [Arc; 256], m: usize) -> [u64; 256]
         × IsRecord (record_at arcs k)) }
 {
     let mut numbers = [0u64; 256];
-    for k in 0..m {
-        numbers[k] = packed(arcs[k]);
+    for (k, a) in arcs[..m].iter().enumerate() {
+        numbers[k] = packed(*a);
     }
     numbers
 }
@@ -41,12 +41,7 @@ fn stands_before(numbers: &[u64; 256], n: usize, x: u64) -> bool
     ensures found { result ≡ true → (j : ℕ) × (j < n) × (get_or numbers.now j 0 ≡ x) }
     ensures absent { result ≡ false → (j : ℕ) → j < n → get_or numbers.now j 0 ≡ x → ⊥ }
 {
-    for j in 0..n {
-        if numbers[j] == x {
-            return true;
-        }
-    }
-    false
+    numbers[..n].contains(&x)
 }
 
 // Whether two of the first m arcs agree.
@@ -70,7 +65,7 @@ pub fn repeated_verdict(arcs: [Arc; 256], m: usize) -> Verdict
     ensures { verdict_number result ≡ cond (has_repeated (map (record_at arcs) (below m))) (some 13) none }
 {
     if has_repeated(arcs, m) {
-        return Verdict::Refused(Refusal::Repeated);
+        return Err(Refusal::Repeated);
     }
-    Verdict::Accepted
+    Ok(())
 }

@@ -12,13 +12,7 @@ use plan::{Arc, Plan};
 fn touches(a: Arc, v: usize) -> bool
     ensures { result ≡ (is_required_arc (arc_value a) && (eqb a.tail v || eqb a.head v)) }
 {
-    if plan::is_required(a) {
-        if a.tail as usize == v {
-            return true;
-        }
-        return a.head as usize == v;
-    }
-    false
+    plan::is_required(a) && (usize::from(a.tail) == v || usize::from(a.head) == v)
 }
 
 // "Required vertices: tails and heads of must arcs."
@@ -26,22 +20,14 @@ fn is_required(plan: Plan, v: usize) -> bool
     requires { WellFormed (plan_value plan) }
     ensures { result ≡ is_required (plan_value plan) v }
 {
-    let m = plan.m as usize;
-    for k in 0..m {
-        if touches(plan.arcs[k], v) {
-            return true;
-        }
-    }
-    false
+    plan.arcs[..usize::from(plan.m)]
+        .iter()
+        .any(|a| touches(*a, v))
 }
 
 pub fn required(plan: Plan) -> [bool; 64]
     requires { WellFormed (plan_value plan) }
     ensures { IsRequiredFlags (plan_value plan) result }
 {
-    let mut flags = [false; 64];
-    for v in 0..64 {
-        flags[v] = is_required(plan, v);
-    }
-    flags
+    std::array::from_fn(|v| is_required(plan, v))
 }

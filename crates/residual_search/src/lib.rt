@@ -1,5 +1,5 @@
 // The search for a cheapest way to send one unit more.
 #![tactic(auto)]
 
-pub mod entries; // vertices, next vertices and potentials, read from their lists
+pub mod lengths; // residual lengths between the vertices
 pub mod search; // Dijkstra's search towards a vertex

@@ -25,38 +25,24 @@ pub struct Kept {
     pub random: u64,
 }
 
-// How many trees are left once so many are tried.
-fn left_of(number: u64, tries: u32) -> u64
-    ensures { result ≡ number - tries }
-{
-    let n = tries as u64;
-    if number < n {
-        return 0;
-    }
-    number - n
-}
-
 // The first round is the plan call's, and its answer is all there is.
 pub fn begin(a: Found, budget: u32) -> Kept
     ensures { result ≡ begun budget a.best.cost a.floor a.multipliers (a.number - budget) a.best.tried }
 {
-    let u = a.multipliers;
-    let best = a.best;
-    let x = identity();
     let first = Trial {
-        numbering: x,
+        numbering: identity(),
         tries: budget,
     };
-    let left = left_of(a.number, budget);
+    let multipliers = a.multipliers;
     Kept {
         drive: first,
-        cost: best.cost,
+        cost: a.best.cost,
         bound: first,
         floor: a.floor,
-        multipliers: u,
+        multipliers,
         base: first,
-        left: left,
-        trees: best.tried,
+        left: a.number.saturating_sub(u64::from(budget)),
+        trees: a.best.tried,
         random: 1,
     }
 }
@@ -66,19 +52,10 @@ fn cheaper(k: Kept, x: Trial, cost: u64) -> Kept
     ensures { result ≡ with_drive x cost k }
 {
     if cost < k.cost {
-        let bound = k.bound;
-        let base = k.base;
-        let u = k.multipliers;
         return Kept {
             drive: x,
-            cost: cost,
-            bound: bound,
-            floor: k.floor,
-            multipliers: u,
-            base: base,
-            left: k.left,
-            trees: k.trees,
-            random: k.random,
+            cost,
+            ..k
         };
     }
     k
@@ -89,18 +66,11 @@ fn tighter(k: Kept, x: Trial, floor: i64, u: [i64; 64]) -> Kept
     ensures { result ≡ with_floor x floor u k }
 {
     if k.floor < floor {
-        let drive = k.drive;
-        let base = k.base;
         return Kept {
-            drive: drive,
-            cost: k.cost,
             bound: x,
-            floor: floor,
+            floor,
             multipliers: u,
-            base: base,
-            left: k.left,
-            trees: k.trees,
-            random: k.random,
+            ..k
         };
     }
     k
@@ -113,20 +83,7 @@ fn nearer(k: Kept, x: Trial, left: u64) -> Kept
     if k.left < left {
         return k;
     }
-    let drive = k.drive;
-    let bound = k.bound;
-    let u = k.multipliers;
-    Kept {
-        drive: drive,
-        cost: k.cost,
-        bound: bound,
-        floor: k.floor,
-        multipliers: u,
-        base: x,
-        left: left,
-        trees: k.trees,
-        random: k.random,
-    }
+    Kept { base: x, left, ..k }
 }
 
 // The trees of a round are counted, and the generator goes on.
@@ -134,20 +91,10 @@ fn count(k: Kept, trees: u32, random: u64) -> Kept
     requires { (k.trees ≤ 1000000000) × (trees ≤ 1000000000) }
     ensures { result ≡ counted trees random k }
 {
-    let drive = k.drive;
-    let bound = k.bound;
-    let base = k.base;
-    let u = k.multipliers;
     Kept {
-        drive: drive,
-        cost: k.cost,
-        bound: bound,
-        floor: k.floor,
-        multipliers: u,
-        base: base,
-        left: k.left,
         trees: k.trees + trees,
-        random: random,
+        random,
+        ..k
     }
 }
 
@@ -160,13 +107,9 @@ pub fn kept_of(k: Kept, c: Chosen, a: Found, trees: u32) -> Kept
         (with_drive c.trial a.best.cost k))) }
 {
     let x = c.trial;
-    let numbering = x.numbering;
-    let numbers = numbering.to;
-    let u = a.multipliers;
-    let best = a.best;
-    let d = cheaper(k, x, best.cost);
-    let t = tighter(d, x, a.floor, carry(u, &numbers));
-    let f = nearer(t, x, left_of(a.number, x.tries));
+    let d = cheaper(k, x, a.best.cost);
+    let t = tighter(d, x, a.floor, carry(a.multipliers, &x.numbering.to));
+    let f = nearer(t, x, a.number.saturating_sub(u64::from(x.tries)));
     count(f, trees, c.random)
 }
 

@@ -26,16 +26,15 @@ pub struct Chosen {
 }
 
 // Whether a round goes on with the search that is kept, of which so many trees are left.
+#[tactic(auto, using(crate::specs::Laws::Made::of_rounds))]
 fn goes_on(round: u32, left: u64) -> bool
     ensures { result ≡ is_gone_on round left }
 {
     if left <= 100_000_000 {
-        return round % 2 == 0;
+        round % 2 == 0
+    } else {
+        1_000_000_000 < left && round % 8 == 0
     }
-    if left <= 1_000_000_000 {
-        return false;
-    }
-    round % 8 == 0
 }
 
 // A round that goes on: the next trees of the search that is kept.
@@ -44,13 +43,11 @@ fn further(budget: u32, k: Kept) -> Chosen
     ensures { result ≡ gone_on budget k }
 {
     let held = k.base;
-    let x = held.numbering;
-    let trial = Trial {
-        numbering: x,
-        tries: held.tries + budget,
-    };
     Chosen {
-        trial: trial,
+        trial: Trial {
+            tries: held.tries + budget,
+            ..held
+        },
         random: k.random,
     }
 }
@@ -59,12 +56,11 @@ fn further(budget: u32, k: Kept) -> Chosen
 fn numbers_of(k: Kept) -> Numbering
     ensures { result ≡ numbers_of k }
 {
-    let drive = k.drive;
-    let base = k.base;
     if 1_000_000_000 < k.left {
-        return drive.numbering;
+        k.drive.numbering
+    } else {
+        k.base.numbering
     }
-    base.numbering
 }
 
 // Any other: that numbering, with two exchanges.
@@ -72,20 +68,16 @@ fn exchanges(plan: Plan, budget: u32, k: Kept) -> Chosen
     requires { WellFormed (plan_value plan) × GoesOn (plan_value plan) k }
     ensures { result ≡ exchanged_by (plan_value plan) budget k }
 {
-    let x = numbers_of(k);
     let before = Drawn {
-        numbering: x,
+        numbering: numbers_of(k),
         random: k.random,
     };
-    let n = plan.n as u64;
-    let d = shuffle(before, n, 2);
-    let y = d.numbering;
-    let trial = Trial {
-        numbering: y,
-        tries: budget,
-    };
+    let d = shuffle(before, u64::from(plan.n), 2);
     Chosen {
-        trial: trial,
+        trial: Trial {
+            numbering: d.numbering,
+            tries: budget,
+        },
         random: d.random,
     }
 }
@@ -96,7 +88,8 @@ pub fn choose(plan: Plan, budget: u32, round: u32, k: Kept) -> Chosen
     ensures { result ≡ next_round (plan_value plan) budget round k }
 {
     if goes_on(round, k.left) {
-        return further(budget, k);
+        further(budget, k)
+    } else {
+        exchanges(plan, budget, k)
     }
-    exchanges(plan, budget, k)
 }

@@ -9,8 +9,7 @@ use plan::{Arc, Plan};
 use plan_file::reader::read_plan;
 use plan_writer::Written;
 use records::arrays::{Filled, read_array, write_array};
-use records::reader::Read;
-use refusal::{Refusal, Verdict};
+use refusal::Refusal;
 use std::env::FillError;
 use std::fs::OpenOptions;
 use std::io;
@@ -38,44 +37,42 @@ fn bytes(rt: &impl Print, s: &[u8]) {
 }
 
 fn refusal(rt: &impl Print, r: Refusal) {
-    number(rt, "refused ", refusal::refusal_number(r) as u64);
+    number(rt, "refused ", u64::from(u8::from(r)));
 }
 
 fn counts(rt: &impl Print, edition: u8, n: u8, m: u16) {
-    number(rt, "edition ", edition as u64);
-    number(rt, " n ", n as u64);
-    number(rt, " m ", m as u64);
+    number(rt, "edition ", u64::from(edition));
+    number(rt, " n ", u64::from(n));
+    number(rt, " m ", u64::from(m));
 }
 
 fn arc(rt: &impl Print, a: Arc) {
-    number(rt, " (", a.tail as u64);
-    number(rt, " ", a.head as u64);
-    number(rt, " ", a.standing as u64);
-    number(rt, " ", a.cost as u64);
-    number(rt, " ", a.service as u64);
+    number(rt, " (", u64::from(a.tail));
+    number(rt, " ", u64::from(a.head));
+    number(rt, " ", u64::from(a.standing));
+    number(rt, " ", u64::from(a.cost));
+    number(rt, " ", u64::from(a.service));
     text(rt, ")");
 }
 
 // The answer of reading, and the first three records and the last two: no plan has so many arcs that it fills the last.
 fn filled(rt: &impl Print, r: Filled) {
-    let read = r.read;
-    let arcs = r.arcs;
-    match read {
-        Read::Given(edition, n, m) => counts(rt, edition, n, m),
-        Read::Refused(q) => refusal(rt, q),
+    match r.read {
+        Ok(h) => counts(rt, h.edition, h.n, h.m),
+        Err(q) => refusal(rt, q),
     }
-    arc(rt, arcs[0]);
-    arc(rt, arcs[1]);
-    arc(rt, arcs[2]);
-    arc(rt, arcs[255]);
-    arc(rt, arcs[256]);
+    arc(rt, r.arcs[0]);
+    arc(rt, r.arcs[1]);
+    arc(rt, r.arcs[2]);
+    arc(rt, r.arcs[255]);
+    arc(rt, r.arcs[256]);
     text(rt, "\n");
 }
 
 fn written(rt: &impl Print, w: Written) {
     match w {
-        Written::Length(k) => number(rt, "length ", k as u64),
-        Written::Refused(r) => refusal(rt, r),
+        Ok(k) => number(rt, "length ", k as u64),
+        Err(r) => refusal(rt, r),
     }
 }
 
@@ -108,11 +105,11 @@ fn read_back(rt: &impl Print, s: &[u8], k: usize) {
 fn reread(rt: &impl Print, edition: u8, n: u8, arcs: [Arc; 257], m: usize) {
     let mut file = [0u8; 1475];
     match write_array(edition, n, arcs, m, &mut file) {
-        Written::Length(k) => read_back(rt, &file, k),
-        Written::Refused(r) => filled(
+        Ok(k) => read_back(rt, &file, k),
+        Err(r) => filled(
             rt,
             Filled {
-                read: Read::Refused(r),
+                read: Err(r),
                 arcs: nines(),
             },
         ),
@@ -121,7 +118,7 @@ fn reread(rt: &impl Print, edition: u8, n: u8, arcs: [Arc; 257], m: usize) {
 
 // The first m records, written in an edition into 15 bytes, and read back.
 fn rewritten(rt: &impl Print, edition: u8, n: u8, arcs: [Arc; 257], m: usize) {
-    number(rt, "  written in edition ", edition as u64);
+    number(rt, "  written in edition ", u64::from(edition));
     text(rt, ": ");
     let mut s = [0xeeu8; 15];
     written(rt, write_array(edition, n, arcs, m, &mut s));
@@ -134,43 +131,53 @@ fn rewritten(rt: &impl Print, edition: u8, n: u8, arcs: [Arc; 257], m: usize) {
 // A list that has the file's records and nines after them.
 fn by_list(rt: &impl Print, file: &[u8]) {
     let r = read_array(file, nines(), 257);
-    let read = r.read;
-    let arcs = r.arcs;
-    match read {
-        Read::Given(_, n, m) => {
-            let count = m as usize;
-            rewritten(rt, 1, n, arcs, count);
-            rewritten(rt, 2, n, arcs, count);
-        }
-        Read::Refused(_) => {}
+    if let Ok(h) = r.read {
+        rewritten(rt, 1, h.n, r.arcs, usize::from(h.m));
+        rewritten(rt, 2, h.n, r.arcs, usize::from(h.m));
     }
 }
 
-// A plan, written in an edition and read back: its first two records and the last.
-fn value(rt: &impl Print, edition: u8, p: Plan) {
-    number(rt, "  by value in edition ", edition as u64);
-    text(rt, ": ");
-    let r = plan_writer::round_trip::reread(edition, p);
-    let v = r.verdict;
-    let e = r.edition;
-    let q = r.plan;
-    let arcs = q.arcs;
-    match v {
-        Verdict::Accepted => counts(rt, e, q.n, q.m),
-        Verdict::Refused(x) => refusal(rt, x),
+// No plan: zeros.
+fn no_plan() -> Plan {
+    Plan {
+        n: 0,
+        m: 0,
+        arcs: [Arc::ZERO; 256],
     }
-    arc(rt, arcs[0]);
-    arc(rt, arcs[1]);
-    arc(rt, arcs[255]);
+}
+
+// The first two records of a plan and the last.
+fn ends(rt: &impl Print, p: Plan) {
+    arc(rt, p.arcs[0]);
+    arc(rt, p.arcs[1]);
+    arc(rt, p.arcs[255]);
     text(rt, "\n");
+}
+
+// A plan, written in an edition and read back.
+fn value(rt: &impl Print, edition: u8, p: Plan) {
+    number(rt, "  by value in edition ", u64::from(edition));
+    text(rt, ": ");
+    match plan_writer::round_trip::reread(edition, p) {
+        Ok(r) => {
+            counts(rt, r.edition, r.plan.n, r.plan.m);
+            ends(rt, r.plan);
+        }
+        Err(q) => {
+            refusal(rt, q);
+            ends(rt, no_plan());
+        }
+    }
 }
 
 fn trips(rt: &impl Print, file: &[u8]) {
     into(rt, "  into 2: ", file, 2);
     into(rt, "  into 257: ", file, 257);
     by_list(rt, file);
-    let r = read_plan(file);
-    let p = r.plan;
+    let p = match read_plan(file) {
+        Ok(r) => r.plan,
+        Err(_) => no_plan(),
+    };
     value(rt, 1, p);
     value(rt, 2, p);
 }

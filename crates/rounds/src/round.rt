@@ -28,10 +28,7 @@ pub struct Deep {
 fn chosen_of(a: u64, b: u64, new: Reached, old: Reached) -> Reached
     ensures { result ≡ cond (ltb a b) new old }
 {
-    if a < b {
-        return new;
-    }
-    old
+    if a < b { new } else { old }
 }
 
 // The next round: a tree that is cheaper than the drive that is kept, among those that were not tried under its numbering.
@@ -42,17 +39,14 @@ fn next_round(plan: Plan, table: &[[u32; 64]; 64], budget: u32, round: u32, d: D
     ensures { (result.kept ≡ next_kept (plan_value plan) budget round d.kept) × IsHeld (plan_value plan) result }
 {
     let k = d.kept;
-    let drive = d.drive;
     let c = choose(plan, budget, round, k);
     let x = c.trial;
     let before = x.tries - budget;
     let a = cheaper_under(plan, table, x, k.cost, before);
-    let best = a.best;
     let old = tried_count(a.number, before);
-    let kept = kept_of(k, c, a, best.tried - old);
     Deep {
-        kept: kept,
-        drive: chosen_of(best.cost, k.cost, best, drive),
+        kept: kept_of(k, c, a, a.best.tried - old),
+        drive: chosen_of(a.best.cost, k.cost, a.best, d.drive),
     }
 }
 
@@ -62,11 +56,9 @@ pub fn first_round(plan: Plan, table: &[[u32; 64]; 64], budget: u32) -> Deep
     ensures { (result.kept ≡ kept_after (plan_value plan) budget 0) × IsHeld (plan_value plan) result }
 {
     let a = cheaper_tabled(plan, table, 4_000_000_000_000, 0, budget);
-    let best = a.best;
-    let kept = begin(a, budget);
     Deep {
-        kept: kept,
-        drive: best,
+        kept: begin(a, budget),
+        drive: a.best,
     }
 }
 
@@ -79,12 +71,10 @@ pub fn deepen(plan: Plan, table: &[[u32; 64]; 64], budget: u32, rounds: u32, fir
 {
     let mut d = first;
     for i in 1..rounds {
-        let k = d.kept;
-        if have_met(k.cost, k.floor) {
+        if have_met(d.kept.cost, d.kept.floor) {
             return d;
         }
-        let next = next_round(plan, table, budget, i + 1, d);
-        d = next;
+        d = next_round(plan, table, budget, i + 1, d);
     }
     d
 }

@@ -33,11 +33,8 @@ pub(crate) fn cheaper_under(
         × CanImprove (under (plan_value plan) x.numbering) cost before x.tries }
     ensures { IsCheaper (under (plan_value plan) x.numbering) cost x.tries result }
 {
-    let numbering = x.numbering;
-    let to = numbering.to;
-    let from = numbering.from;
-    let q = renumber(plan, &to);
-    let d = renumber_table(table, &from);
+    let q = renumber(plan, &x.numbering.to);
+    let d = renumber_table(table, &x.numbering.from);
     cheaper_tabled(q, &d, cost, before, x.tries)
 }
 
@@ -56,13 +53,8 @@ pub fn lay_under(
         × (result.places ≡ length (drive_of (under (plan_value plan) x.numbering) x.tries))
         × (result.parts ≡ component_count (under (plan_value plan) x.numbering)) }
 {
-    let numbering = x.numbering;
-    let to = numbering.to;
-    let from = numbering.from;
-    let q = renumber(plan, &to);
-    let d = renumber_table(table, &from);
-    let w = renumber_table(weights, &from);
-    let ts = g.tails;
-    let hs = g.heads;
-    lay_tabled(q, &d, &w, ts, hs, sheet)
+    let q = renumber(plan, &x.numbering.to);
+    let d = renumber_table(table, &x.numbering.from);
+    let w = renumber_table(weights, &x.numbering.from);
+    lay_tabled(q, &d, &w, g.tails, g.heads, sheet)
 }

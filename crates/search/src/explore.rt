@@ -3,7 +3,7 @@ ghost use Rattle.std.specs.Prelude.{◌≡◌, List, [], ◌∷◌, ◌++◌, �
 ghost use Rattle.postman.specs.Plan.{Plan};
 ghost use Rattle.tree_bounds.specs.Bound.{reduced_by};
 ghost use Rattle.branches.specs.Progress.{pass_over};
-ghost use Rattle.tree_bounds.specs.Prepared.{Prepared};
+ghost use Rattle.tree_bounds.specs.Fields.{IsPrepared};
 ghost use Rattle.search.specs.StepContracts.{IsExplored, IsBranchPriced};
 ghost use Rattle.branches.specs.Branches.{IsBranch, chosen_in, candidate_link, trees_in};
 ghost use Rattle.branches.specs.Holding.{held_in, is_entered, IsShort};
@@ -11,10 +11,11 @@ ghost use Rattle.tree_bounds.specs.Pricing.{Prices};
 ghost use Rattle.tree_bounds.specs.Reducible.{CanReduce};
 
 use crate::last::last;
-use branches::branch::{Branch, below};
+use branches::branch::Branch;
 use branches::candidate::{Candidate, candidate_at};
-use branches::progress::{Progress, entered, passed};
-use tree_bounds::pricing::{Pricing, bounded, lifted};
+use branches::progress::Progress;
+use tree_bounds::field::Field;
+use tree_bounds::pricing::Pricing;
 use tree_bounds::reduced::reduced;
 
 // What is held after trees of a branch, and prices of the branch: those of the tree that was tried last,
@@ -25,137 +26,87 @@ pub struct Explored {
     pub pricing: Pricing,
 }
 
-// Before the first candidate: the branch's own prices.
-fn begun(
-    g: Progress,
-    b: Branch,
-    d: &[[u32; 64]; 64],
-    start: &[usize; 9],
-    tails: &[u8; 4096],
-    heads: &[u8; 4096],
-    k: usize,
-) -> Explored
-    requires { ((p : Plan) × (vs : List ℕ) × (source : List ℕ) × (f : List ℕ) × Prepared p d.now vs start.now source tails.now heads.now k
-        × IsBranch p d.now f b) × (b.a < k) }
-    ensures { (result.progress ≡ g)
-        × ((p : Plan) (vs source f : List ℕ)
-        → Prepared p d.now vs start.now source tails.now heads.now k
-        → IsBranch p d.now f b → IsBranchPriced p d.now b result.pricing) }
-{
-    let u = b.potentials;
-    let own = Pricing {
-        potentials: u,
-        value: b.balancing,
-        bound: 0,
-    };
-    let prices = bounded(own, b.fixed, d, start, tails, heads, b.a + 1, k);
-    Explored {
-        progress: g,
-        pricing: prices,
+impl Explored {
+    // Before the first candidate: the branch's own prices.
+    fn begun(g: Progress, b: &Branch, at: &Field) -> Explored
+        requires { ((p : Plan) × (f : List ℕ) × IsPrepared p at.now × IsBranch p at.now.d.now f b.now) × (b.now.a < at.now.k) }
+        ensures { (result.progress ≡ g)
+            × ((p : Plan) (f : List ℕ) → IsPrepared p at.now → IsBranch p at.now.d.now f b.now
+            → IsBranchPriced p at.now.d.now b.now result.pricing) }
+    {
+        let potentials = b.potentials;
+        let own = Pricing {
+            potentials,
+            value: b.balancing,
+            bound: 0,
+        };
+        Explored {
+            progress: g,
+            pricing: own.bounded(b.fixed, at, b.a + 1),
+        }
     }
-}
 
-// Whether the branch below a candidate is gone into.
-fn goes_into(e: Explored, d: &[[u32; 64]; 64], c: Candidate) -> bool
-    requires { CanReduce d.now e.pricing.potentials c.tail c.head × (e.pricing.bound ≤ 3100000000000) }
-    ensures { result ≡ is_entered e.progress c.trees
-        (e.pricing.bound + reduced_by d.now e.pricing.potentials c.tail c.head) }
-{
-    let g = e.progress;
-    let q = e.pricing;
-    let w = q.potentials;
-    let least = q.bound + reduced(d, &w, c.tail, c.head);
-    entered(g, c.trees, least)
-}
-
-// The trees behind a candidate are passed over, and counted at once.
-fn passed_over(e: Explored, c: Candidate) -> Explored
-    ensures { ((m : ℕ) → held_in m result.progress ≡ pass_over (held_in m e.progress) c.trees) × (result.pricing ≡ e.pricing) }
-{
-    let g = e.progress;
-    let prices = e.pricing;
-    let after = passed(g, c.trees);
-    Explored {
-        progress: after,
-        pricing: prices,
+    // Whether the branch below a candidate is gone into.
+    pub(crate) fn goes_into(&self, d: &[[u32; 64]; 64], c: Candidate) -> bool
+        requires { CanReduce d.now self.now.pricing.potentials c.tail c.head × (self.now.pricing.bound ≤ 3100000000000) }
+        ensures { result ≡ is_entered self.now.progress c.trees
+            (self.now.pricing.bound + reduced_by d.now self.now.pricing.potentials c.tail c.head) }
+    {
+        let least = self.pricing.bound + reduced(d, &self.pricing.potentials, c.tail, c.head);
+        self.progress.enters(c.trees, least)
     }
-}
 
-// The trees behind a candidate were gone through: the branch's prices are those that the branch below
-// was left with, without the candidate's link.
-fn backed_up(
-    e: Explored,
-    under: Explored,
-    b: Branch,
-    c: Candidate,
-    d: &[[u32; 64]; 64],
-    start: &[usize; 9],
-    tails: &[u8; 4096],
-    heads: &[u8; 4096],
-    k: usize,
-) -> Explored
-    requires { ((p : Plan) × (vs : List ℕ) × (source : List ℕ) × (f : List ℕ)
-        × Prepared p d.now vs start.now source tails.now heads.now k × IsBranch p d.now f b
-        × Prices p d.now (chosen_in b) b.a e.pricing
-        × Prices p d.now (chosen_in b ++ candidate_link c ∷ []) (b.a + 1) under.pricing)
-        × (b.a < k) × (c.tail < 64) × (c.head < 64) }
-    ensures { (result.progress ≡ under.progress)
-        × ((p : Plan) (vs source f : List ℕ) → Prepared p d.now vs start.now source tails.now heads.now k → IsBranch p d.now f b
-        → Prices p d.now (chosen_in b) b.a e.pricing
-        → Prices p d.now (chosen_in b ++ candidate_link c ∷ []) (b.a + 1) under.pricing
-        → IsBranchPriced p d.now b result.pricing) }
-{
-    let old = e.pricing;
-    let new = under.pricing;
-    let after = under.progress;
-    let lift = lifted(old, new, c.tail, c.head);
-    let prices = bounded(lift, b.fixed, d, start, tails, heads, b.a + 1, k);
-    Explored {
-        progress: after,
-        pricing: prices,
+    // The trees behind a candidate are passed over, and counted at once.
+    pub(crate) fn pass_over(&mut self, c: Candidate)
+        ensures progress { (m : ℕ) → held_in m self.new.progress ≡ pass_over (held_in m self.old.progress) c.trees }
+        ensures pricing { self.new.pricing ≡ self.old.pricing }
+    {
+        self.progress = self.progress.passed(c.trees);
+    }
+
+    // The trees behind a candidate were gone through: the branch's prices are those that the branch below
+    // was left with, without the candidate's link.
+    fn backed_up(self, under: Explored, b: &Branch, c: Candidate, at: &Field) -> Explored
+        requires { ((p : Plan) × (f : List ℕ) × IsPrepared p at.now × IsBranch p at.now.d.now f b.now
+            × Prices p at.now.d.now (chosen_in b.now) b.now.a self.pricing
+            × Prices p at.now.d.now (chosen_in b.now ++ candidate_link c ∷ []) (b.now.a + 1) under.pricing)
+            × (b.now.a < at.now.k) × (c.tail < 64) × (c.head < 64) }
+        ensures { (result.progress ≡ under.progress)
+            × ((p : Plan) (f : List ℕ) → IsPrepared p at.now → IsBranch p at.now.d.now f b.now
+            → Prices p at.now.d.now (chosen_in b.now) b.now.a self.pricing
+            → Prices p at.now.d.now (chosen_in b.now ++ candidate_link c ∷ []) (b.now.a + 1) under.pricing
+            → IsBranchPriced p at.now.d.now b.now result.pricing) }
+    {
+        let prices = self.pricing.lifted(under.pricing, c.tail, c.head);
+        Explored {
+            progress: under.progress,
+            pricing: prices.bounded(b.fixed, at, b.a + 1),
+        }
     }
 }
 
 // One candidate of component a after the other: the branch below is passed over, or gone into with the amounts copied. Its trees are priced
 // by the branch's own potentials, and after a branch below was gone into by those that it was left with.
-pub(crate) fn explore(
-    g: Progress,
-    b: Branch,
-    f: &[u16; 4096],
-    d: &[[u32; 64]; 64],
-    vs: &[u8],
-    start: &[usize; 9],
-    source: &[u8; 4096],
-    tails: &[u8; 4096],
-    heads: &[u8; 4096],
-    k: usize,
-) -> Explored
-    requires { ((p : Plan) × Prepared p d.now vs.now start.now source.now tails.now heads.now k × IsBranch p d.now f.now b)
-        × IsShort g × (b.a < k) }
-    ensures { (p : Plan) → Prepared p d.now vs.now start.now source.now tails.now heads.now k → IsBranch p d.now f.now b
-        → IsExplored p (trees_in p b) g result.progress × Prices p d.now (chosen_in b) b.a result.pricing }
+pub(crate) fn explore(g: Progress, b: &Branch, f: &[u16; 4096], at: &Field) -> Explored
+    requires { ((p : Plan) × IsPrepared p at.now × IsBranch p at.now.d.now f.now b.now) × IsShort g × (b.now.a < at.now.k) }
+    ensures { (p : Plan) → IsPrepared p at.now → IsBranch p at.now.d.now f.now b.now
+        → IsExplored p (trees_in p b.now) g result.progress × Prices p at.now.d.now (chosen_in b.now) b.now.a result.pricing }
 {
-    let a = b.a;
-    if a + 1 == k {
-        return last(g, b, f, d, vs, start, source, tails, heads);
+    if b.a + 1 == at.k {
+        return last(g, b, f, at);
     }
-    let names = b.names;
-    let counts = b.counts;
-    let end = start[a + 1];
-    let mut e = begun(g, b, d, start, tails, heads, k);
-    let mut x = start[a];
-    while x < end {
-        let c = candidate_at(source, tails, heads, names, counts, x);
-        if goes_into(e, d, c) {
+    let start = &at.candidates.start;
+    let mut e = Explored::begun(g, b, at);
+    for x in start[b.a]..start[b.a + 1] {
+        let c = candidate_at(at.candidates, b, x);
+        if e.goes_into(at.d, c) {
             let mut more = *f;
-            let next = below(b, &mut more, d, vs, c, k);
-            let r = e.progress;
-            let under = explore(r, next, &more, d, vs, start, source, tails, heads, k);
-            e = backed_up(e, under, b, c, d, start, tails, heads, k);
+            let next = b.below(&mut more, at, c);
+            let under = explore(e.progress, &next, &more, at);
+            e = e.backed_up(under, b, c, at);
         } else {
-            e = passed_over(e, c);
+            e.pass_over(c);
         }
-        x += 1;
     }
     e
 }

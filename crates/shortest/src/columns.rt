@@ -5,7 +5,7 @@ ghost use Rattle.postman.specs.Plan.{WellFormed};
 ghost use Rattle.plan.specs.Records.{plan_value};
 ghost use Rattle.shortest.specs.Weight.{weighted};
 ghost use Rattle.shortest.specs.Relaxation.{relax_arcs, start_row};
-ghost use Rattle.shortest.specs.Columns.{row_from, relax_by, are_same};
+ghost use Rattle.shortest.specs.Columns.{row_from, relax_by};
 ghost use Rattle.shortest.specs.StepContracts.{IsRow};
 
 use crate::weights::{NO_PATH, arc_weight, shorter};
@@ -27,11 +27,8 @@ fn round_all(plan: Plan, c: &mut [u32; 4096])
     ensures { (length c.new ≡ 4096)
         × ((i : ℕ) → i < 64 → row_from c.new i ≡ relax_arcs (weighted (plan_value plan)).arcs (row_from c.old i)) }
 {
-    let m = plan.m as usize;
-    for k in 0..m {
-        let a = plan.arcs[k];
-        let w = arc_weight(a);
-        relax_all(c, a.tail as usize, a.head as usize, w);
+    for a in &plan.arcs[..usize::from(plan.m)] {
+        relax_all(c, usize::from(a.tail), usize::from(a.head), arc_weight(*a));
     }
 }
 
@@ -46,29 +43,16 @@ fn start() -> [u32; 4096]
     c
 }
 
-// Whether nothing changed.
-fn same_all(a: &[u32; 4096], b: &[u32; 4096]) -> bool
-    ensures { result ≡ are_same a.now b.now }
-{
-    for x in 0..4096usize {
-        if a[x] != b[x] {
-            return false;
-        }
-    }
-    true
-}
-
 // The least weights. Rounds of relaxing every arc, until one changes nothing; n − 1 are enough.
 pub(crate) fn settled(plan: Plan) -> [u32; 4096]
     requires { WellFormed (plan_value plan) }
     ensures { (i : ℕ) → i < 64 → IsRow (weighted (plan_value plan)) i (row_from result i) }
 {
     let mut c = start();
-    let n = plan.n;
-    for k in 1..n {
+    for _ in 1..plan.n {
         let before = c;
         round_all(plan, &mut c);
-        if same_all(&c, &before) {
+        if c == before {
             return before;
         }
     }
@@ -80,9 +64,5 @@ pub(crate) fn row_from(c: &[u32; 4096], i: usize) -> [u32; 64]
     requires { i < 64 }
     ensures { result ≡ row_from c.now i }
 {
-    let mut row = [0u32; 64];
-    for v in 0..64usize {
-        row[v] = c[v * 64 + i];
-    }
-    row
+    std::array::from_fn(|v| c[v * 64 + i])
 }

@@ -11,6 +11,7 @@ use crate::weights::NO_PATH;
 use plan::Plan;
 
 // The cost of a lightest path, by its weight.
+#[tactic(auto, unfolding(crate::specs::Weight::unweighted, postman::specs::Distance::no_path))]
 fn cost_of(weight: u32) -> u32
     ensures { result ≡ unweighted weight }
 {
@@ -25,11 +26,7 @@ fn cost_of(weight: u32) -> u32
 fn row_of(weights: [u32; 64]) -> [u32; 64]
     ensures { AreCosts weights result }
 {
-    let mut costs = [0u32; 64];
-    for j in 0..64 {
-        costs[j] = cost_of(weights[j]);
-    }
-    costs
+    weights.map(cost_of)
 }
 
 // The distances from one vertex.
@@ -37,21 +34,14 @@ pub fn row(plan: Plan, source: usize) -> [u32; 64]
     requires { WellFormed (plan_value plan) × (source < 64) }
     ensures { IsRow (plan_value plan) source result }
 {
-    let found = weights::row(plan, source);
-    row_of(found)
+    row_of(weights::row(plan, source))
 }
 
 // "The table is 64 rows of 64", by the table of weights.
 pub fn table_of(weights: &[[u32; 64]; 64]) -> [[u32; 64]; 64]
     ensures { AreTableCosts weights.now result }
 {
-    let mut t = [[0u32; 64]; 64];
-    for i in 0..64 {
-        let found = weights[i];
-        let r = row_of(found);
-        t[i] = r;
-    }
-    t
+    weights.map(row_of)
 }
 
 // The same, of a plan.
@@ -59,6 +49,5 @@ pub fn table(plan: Plan) -> [[u32; 64]; 64]
     requires { WellFormed (plan_value plan) }
     ensures { IsTable (plan_value plan) result }
 {
-    let found = weights::table(plan);
-    table_of(&found)
+    table_of(&weights::table(plan))
 }

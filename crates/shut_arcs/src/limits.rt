@@ -1,68 +1,35 @@
-// 19: the limits of a window, of the list and of a departure. A window is four numbers of the list: arc, weekday, from, to.
-ghost use Rattle.std.specs.Prelude.{◌≡◌, ◌+◌, ◌*◌, ◌≤◌, length};
+// 19: the limits of a window, of the list and of a departure.
+ghost use Rattle.std.specs.Prelude.{◌≡◌};
 ghost use Rattle.postman.specs.Lists.{any_of};
-ghost use Rattle.postman.specs.Windows.{window_in, windows_in, is_bad_window, has_bad_window};
-ghost use Rattle.shut_arcs.specs.Fields.{window, departure};
+ghost use Rattle.postman.specs.Windows.{windows_in, is_bad_window, has_bad_window};
+ghost use Rattle.shut_arcs.specs.Fields.{window_value, departure};
+
+use crate::window::Window;
 
 // Whether a window is beyond a limit, where there are m arcs.
-fn is_bad(m: usize, arc: u16, weekday: u16, from: u16, to: u16) -> bool
-    ensures { result ≡ is_bad_window m (window arc weekday from to) }
+#[tactic(auto, using(crate::specs::Laws::Limits::of_window))]
+fn is_bad_window(m: usize, w: Window) -> bool
+    ensures { result ≡ is_bad_window m (window_value w) }
 {
-    if m <= arc as usize {
-        return true;
-    }
-    if 6 < weekday {
-        return true;
-    }
-    if to <= from {
-        return true;
-    }
-    1_440 < to
-}
-
-// Whether window k is.
-fn is_bad_window(m: usize, windows: &[u16], k: usize) -> bool
-    requires { 4 * k + 4 ≤ length windows.now }
-    ensures { result ≡ is_bad_window m (window_in windows.now k) }
-{
-    let at = 4 * k;
-    is_bad(
-        m,
-        windows[at],
-        windows[at + 1],
-        windows[at + 2],
-        windows[at + 3],
-    )
+    m <= usize::from(w.arc) || 6 < w.weekday || w.to <= w.from || 1_440 < w.to
 }
 
 // Whether one of the windows is, of whatever weekday.
+#[tactic(auto, using(crate::specs::Laws::Limits::window_found, crate::specs::Laws::Limits::none_found))]
 fn any_bad_window(m: usize, windows: &[u16]) -> bool
     ensures { result ≡ any_of (is_bad_window m) (windows_in windows.now) }
 {
-    let count = windows.len() / 4;
-    for k in 0..count {
-        if is_bad_window(m, windows, k) {
-            return true;
-        }
-    }
-    false
+    (0..windows.len() / 4).any(|k| is_bad_window(m, Window::at(windows, k)))
 }
 
 // 19 bad window: "a field, the list length or the departure breaks these limits".
+#[tactic(auto, using(crate::specs::Laws::Limits::of_call))]
 pub fn has_bad_window(m: usize, windows: &[u16], weekday: u32, minute: u32) -> bool
     ensures { result ≡ has_bad_window m windows.now (departure weekday minute) }
 {
-    if 6 < weekday {
-        return true;
-    }
-    if 1_439 < minute {
-        return true;
-    }
-    if windows.len() % 4 != 0 {
-        return true;
-    }
-    if 128 < windows.len() / 4 {
-        return true;
-    }
-    any_bad_window(m, windows)
+    6 < weekday
+        || 1_439 < minute
+        || windows.len() % 4 != 0
+        || 128 < windows.len() / 4
+        || any_bad_window(m, windows)
 }

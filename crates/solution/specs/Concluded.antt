@@ -8,7 +8,6 @@ use Rattle.postman.specs.LagrangianBound.{lagrangian_bound}
 use Rattle.drive_legs.specs.Drive.{written}
 use Rattle.branches.specs.Links.{links_in}
 use Rattle.tree_search.specs.declared.improve.Searched.{Searched}
-use Rattle.refusal.specs.declared.Verdict.TheVariants.{Accepted}
 use Rattle.multipliers.specs.Drive.{tree_drive}
 use Rattle.multipliers.specs.Ascent.{multipliers_for}
 use Rattle.solution.specs.declared.Planned.{Planned}
@@ -21,7 +20,6 @@ floor_with p whole cost =
 -- The tree t, of that cost, where so many trees were tried: the places of its drive are counted, and u is the plan's.
 abbrev pub concluded : Plan → List Link → ℕ → ℕ → Bool → Planned
 concluded p t cost trees whole = record {
-  verdict = Accepted;
   places = length (tree_drive p t);
   cost = cost;
   floor = floor_with p whole cost;

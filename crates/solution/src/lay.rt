@@ -35,10 +35,11 @@ fn lay(
     ensures place_count { result ≡ length (tree_drive (plan_value plan) (links_of tails.now heads.now)) }
 {
     let full = with_links(plan, table, r, tails, heads);
-    let v = r.vertices;
-    let list = v.list;
-    let n = v.count;
-    let amounts = direct_amounts::direct::direct_amounts(full, table, &list[..n]);
+    let amounts = direct_amounts::direct::direct_amounts(
+        full,
+        table,
+        &r.vertices.list[..r.vertices.count],
+    );
     circuit::drive::write_drive(plan, weights, tails, heads, &amounts, sheet)
 }
 
@@ -58,8 +59,6 @@ pub fn lay_held(
         ≡ written (tree_drive (plan_value plan) (links_in (component_count (plan_value plan) - 1) tails heads)) sheet.old }
     ensures place_count { result ≡ length (tree_drive (plan_value plan) (links_in (component_count (plan_value plan) - 1) tails heads)) }
 {
-    let net = r.network;
-    let k = net.components as usize;
-    let n = k - 1;
+    let n = usize::from(r.network.components) - 1;
     lay(plan, table, weights, r, &tails[..n], &heads[..n], sheet)
 }

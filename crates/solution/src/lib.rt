@@ -4,12 +4,9 @@
 pub mod lay; // the drive of a tree
 pub mod solve; // the answer of a plan that is not refused
 
-use refusal::Verdict;
-
 // "The answer holds the places written, cost, floor, trees tried T, whole (yes or no), k and u."
-#[derive(Clone, Copy)]
+#[derive(Clone, Copy, Debug, PartialEq, Eq)]
 pub struct Planned {
-    pub verdict: Verdict,
     pub places: usize,
     pub cost: u64,
     pub floor: i64,

@@ -1,6 +1,6 @@
 // The answer of a plan that is not refused.
 // Steps for other crates, which ask something of their caller.
-ghost use Rattle.std.specs.Prelude.{◌≡◌, ◌≤◌, length};
+ghost use Rattle.std.specs.Prelude.{◌≡◌, ◌≤◌, Ok, length};
 ghost use Rattle.std.proofs.Math.Option.{none};
 ghost use Rattle.postman.specs.PlanCall.{sheet_places};
 ghost use Rattle.plan.specs.Records.{plan_value};
@@ -15,7 +15,6 @@ use crate::lay::lay_held;
 use lagrangian::bound::floor_of;
 use plan::Plan;
 use preparation::prepare::Preparation;
-use refusal::Verdict;
 use tree_search::improve::Searched;
 use tree_search::trees::best;
 
@@ -31,17 +30,13 @@ pub fn floor_found(
     ensures { result ≡ floor_with (plan_value plan) whole cost }
 {
     let net = r.network;
-    let k = net.components as usize;
-    let component = net.component;
-    let flags = net.required;
-    let imbalance = net.imbalance;
     floor_of(
         table,
-        &component,
-        &flags,
-        k,
+        &net.component,
+        &net.required,
+        net.components as usize,
         net.required_cost,
-        &imbalance,
+        &net.imbalance,
         r.bound,
         whole,
         cost,
@@ -61,21 +56,17 @@ pub fn conclude(
         × (s.cost ≤ 4398046511104) × (sheet_places ≤ length sheet.old) × AreWeights (plan_value plan) weights.now }
     ensures { IsConcluded (plan_value plan) s sheet.old sheet.new result }
 {
-    let ts = s.tails;
-    let hs = s.heads;
-    let net = r.network;
-    let u = r.multipliers;
-    let places = lay_held(plan, table, weights, r, ts, hs, sheet);
+    let multipliers = r.multipliers;
+    let places = lay_held(plan, table, weights, r, s.tails, s.heads, sheet);
     let floor = floor_found(plan, table, r, s.whole, s.cost);
     Planned {
-        verdict: Verdict::Accepted,
-        places: places,
+        places,
         cost: s.cost,
-        floor: floor,
+        floor,
         trees: s.tried,
         whole: s.whole,
-        parts: net.components,
-        multipliers: u,
+        parts: r.network.components,
+        multipliers,
     }
 }
 
@@ -90,7 +81,7 @@ pub fn solve(
 ) -> Planned
     requires { IsPreparation (plan_value plan) table.now r × (1 ≤ budget) × (sheet_places ≤ length sheet.old)
         × AreWeights (plan_value plan) weights.now }
-    ensures { IsPlanned (plan_value plan) budget none sheet.old sheet.new result }
+    ensures { IsPlanned (plan_value plan) budget none sheet.old sheet.new (Ok result) }
 {
     let s = best(plan, table, r, budget);
     conclude(plan, table, weights, r, s, sheet)

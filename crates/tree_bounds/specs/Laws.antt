@@ -2,6 +2,5 @@
 pub mod Branch
 pub mod Prepared
 pub mod Bound
-pub mod Reduced
 pub mod Rest
 pub mod Levelled

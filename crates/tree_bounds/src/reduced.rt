@@ -4,32 +4,15 @@ ghost use Rattle.std.specs.Prelude.{◌≡◌, ℕ, ◌<◌, ◌≤◌, length, 
 ghost use Rattle.tree_bounds.specs.Bound.{reduced_by};
 ghost use Rattle.tree_bounds.specs.Reducible.{CanReduce, Spread, AreShifted};
 
-use integers::wide;
-
-pub fn long(d: u32) -> u64
-    ensures { result ≡ d }
-{
-    d as u64
-}
+use crate::put::put;
 
 // The reduced cost of the way from tail to head.
 pub fn reduced(d: &[[u32; 64]; 64], p: &[u64; 64], tail: u8, head: u8) -> u64
     requires { CanReduce d.now p.now tail head }
     ensures { (result ≡ reduced_by d.now p.now tail head) × (result ≤ 3009825945) }
 {
-    let t = wide(tail);
-    let h = wide(head);
-    long(d[t][h]) + p[h] - p[t]
-}
-
-// A multiplier from another one on, so that it is not negative.
-fn risen(u: i64, low: i64) -> u64
-    requires { Spread u low }
-    ensures { (pos result ≡ u -ℤ low +ℤ pos 4128705) × (result ≤ 8257410) }
-{
-    let rise = u - low;
-    let sum = rise + 4128705;
-    sum as u64
+    let (t, h) = (usize::from(tail), usize::from(head));
+    u64::from(d[t][h]) + p[h] - p[t]
 }
 
 // The multipliers of the vertices vs as potentials: from the first one's on, so that none is negative.
@@ -39,14 +22,12 @@ pub fn shifted(u: &[i64; 64], vs: &[u8]) -> [u64; 64]
         × (1 ≤ length vs.now) }
     ensures { AreShifted u.now vs.now (length vs.now) result }
 {
-    let mut r = [0u64; 64];
-    let first = wide(vs[0]);
-    let low = u[first];
-    let mut k: usize = 0;
-    while k < vs.len() {
-        let v = wide(vs[k]);
-        r[v] = risen(u[v], low);
-        k += 1;
-    }
-    r
+    let low = u[usize::from(vs[0])];
+    put(
+        vs,
+        |v: usize| -> u64
+            requires { (v < 64) × Spread (get_or u.now v (pos 0)) low }
+            ensures { (pos result ≡ get_or u.entry.now v (pos 0) -ℤ low +ℤ pos 4128705) × (result ≤ 8257410) }
+        { (u[v] - low + 4_128_705) as u64 },
+    )
 }

@@ -1,56 +1,46 @@
 // What the components that are not chosen for yet cost at least.
-ghost use Rattle.std.specs.Prelude.{List, ℕ, ◌≤◌};
+ghost use Rattle.std.specs.Prelude.{List, ℕ, ◌+◌, ◌<◌, ◌≤◌, get_or};
 ghost use Rattle.postman.specs.Plan.{Plan};
 ghost use Rattle.tree_bounds.specs.Bound.{Low};
+ghost use Rattle.tree_bounds.specs.Reducible.{AreReducible, IsLeast};
 ghost use Rattle.tree_bounds.specs.Prepared.{Prepared};
-ghost use Rattle.tree_bounds.specs.Reducible.{AreReducible, IsLeast, CanRest};
+ghost use Rattle.tree_bounds.specs.Fields.{CanRestIn};
 
+use crate::field::Field;
 use crate::reduced::reduced;
 
-// The least reduced cost of the candidates from place `from` to place `to`; 4,000,000,000 where there is none.
-fn least(
-    d: &[[u32; 64]; 64],
-    p: &[u64; 64],
-    tails: &[u8; 4096],
-    heads: &[u8; 4096],
-    from: usize,
-    to: usize,
-) -> u64
-    requires { (from ≤ to) × (to ≤ 4096) × AreReducible d.now p.now tails.now heads.now from to }
-    ensures { IsLeast d.now p.now tails.now heads.now from to result }
-{
-    let mut least: u64 = 4_000_000_000;
-    let mut x = from;
-    while x < to {
-        let r = reduced(d, p, tails[x], heads[x]);
-        if r < least {
-            least = r;
+impl Field<'_> {
+    // The least reduced cost of component q's candidates; 4,000,000,000 where it has none.
+    fn least(&self, p: &[u64; 64], q: usize) -> u64
+        requires place { q < 8 }
+        requires ascending { get_or self.now.candidates.now.start q 0 ≤ get_or self.now.candidates.now.start (q + 1) 0 }
+        requires fits { get_or self.now.candidates.now.start (q + 1) 0 ≤ 4096 }
+        requires reducible { AreReducible self.now.d.now p.now self.now.candidates.now.tails self.now.candidates.now.heads
+            (get_or self.now.candidates.now.start q 0) (get_or self.now.candidates.now.start (q + 1) 0) }
+        ensures { IsLeast self.now.d.now p.now self.now.candidates.now.tails self.now.candidates.now.heads
+            (get_or self.now.candidates.now.start q 0) (get_or self.now.candidates.now.start (q + 1) 0) result }
+    {
+        let c = self.candidates;
+        let mut least = 4_000_000_000;
+        for x in c.start[q]..c.start[q + 1] {
+            least = reduced(self.d, p, c.tails[x], c.heads[x]).min(least);
         }
-        x += 1;
+        least
     }
-    least
-}
 
-// The least reduced costs of the components from a on, in all.
-pub(crate) fn rest(
-    d: &[[u32; 64]; 64],
-    p: &[u64; 64],
-    start: &[usize; 9],
-    tails: &[u8; 4096],
-    heads: &[u8; 4096],
-    a: usize,
-    k: usize,
-) -> u64
-    requires { CanRest d.now p.now start.now tails.now heads.now a k }
-    ensures { ((q : Plan) (vs source : List ℕ)
-        → Prepared q d.now vs start.now source tails.now heads.now k
-        → Low q d.now p.now result a) × (result ≤ 32000000000) }
-{
-    let mut sum: u64 = 0;
-    let mut q = k;
-    while a < q {
-        q -= 1;
-        sum = sum + least(d, p, tails, heads, start[q], start[q + 1]);
+    // The least reduced costs of the components from a on, in all.
+    pub(crate) fn rest(&self, p: &[u64; 64], a: usize) -> u64
+        requires { CanRestIn self.now p.now a }
+        ensures low { (q : Plan) (vs source : List ℕ)
+            → Prepared q self.now.d.now vs self.now.candidates.now.start source
+            self.now.candidates.now.tails self.now.candidates.now.heads self.now.k
+            → Low q self.now.d.now p.now result a }
+        ensures small { result ≤ 32000000000 }
+    {
+        let mut sum = 0;
+        for q in (a..self.k).rev() {
+            sum += self.least(p, q);
+        }
+        sum
     }
-    sum
 }

@@ -9,19 +9,15 @@ ghost use Rattle.multipliers.specs.Prepared.{IsTree};
 ghost use Rattle.preparation.specs.Preparation.{IsPreparation};
 ghost use Rattle.tree_check.specs.Cost.{table_cost, AreVertices};
 
-use integers::wide;
 use plan::Plan;
 use preparation::links::with_links;
 use preparation::prepare::Preparation;
-use tree_bounds::reduced::long;
 
 fn distance_at(d: &[[u32; 64]; 64], tail: u8, head: u8) -> u64
     requires { (tail < 64) × (head < 64) }
     ensures { result ≡ cell d.now tail head }
 {
-    let t = wide(tail);
-    let h = wide(head);
-    long(d[t][h])
+    u64::from(d[usize::from(tail)][usize::from(head)])
 }
 
 // The d of the links.
@@ -49,6 +45,5 @@ pub fn tree_cost(
 {
     let full = with_links(plan, table, r, tails, heads);
     let links = link_cost(table, tails, heads);
-    let net = r.network;
-    net.required_cost + links + full.cost
+    r.network.required_cost + links + full.cost
 }

@@ -5,30 +5,17 @@ ghost use Rattle.std.specs.Prelude.{◌≡◌, true, ◌%◌, ◌^◌, ◌≤◌
 ghost use Rattle.tree_check.specs.Tree.{IsEntry, IsHeldTree};
 
 use arborescence::reach::{all_reached, single};
-use integers::wide;
 
 // Whether the link from t to h enters component q from another.
 fn enters(t: u8, h: u8, links: &[bool; 4096], component: &[u8; 64], q: usize) -> bool
     ensures { (result ≡ true → IsEntry links.now component.now t h q)
         × (IsEntry links.now component.now t h q → result ≡ true) }
 {
-    if 64 <= t {
+    if 64 <= t || 64 <= h {
         return false;
     }
-    if 64 <= h {
-        return false;
-    }
-    let i = wide(t);
-    let j = wide(h);
-    if !links[i * 64 + j] {
-        return false;
-    }
-    let into = wide(component[j]);
-    if into != q {
-        return false;
-    }
-    let from = wide(component[i]);
-    from != q
+    let (i, j) = (usize::from(t), usize::from(h));
+    links[i * 64 + j] && usize::from(component[j]) == q && usize::from(component[i]) != q
 }
 
 // The set of the component of t alone.
@@ -36,9 +23,7 @@ fn source_set(t: u8, component: &[u8; 64]) -> u64
     requires { t < 64 }
     ensures { result ≡ 2 ^ (get_or component.now t 0 % 64) }
 {
-    let i = wide(t);
-    let c = wide(component[i]);
-    single(c % 64)
+    single(usize::from(component[usize::from(t)]) % 64)
 }
 
 // Whether the first k - 1 links enter components 1 to k - 1, and going back along them arrives at component 0.

@@ -15,7 +15,8 @@ use branches::progress::Progress;
 use candidates::Candidates;
 use plan::Plan;
 use preparation::prepare::Preparation;
-use search::tried::number;
+use search::tried::{advance, number};
+use tree_bounds::field::Field;
 use tree_count::entries::entries_of;
 
 // What a search begins with: the candidates in order, the branch of all trees, and how many they are.
@@ -39,26 +40,23 @@ pub fn begin(plan: Plan, table: &[[u32; 64]; 64], r: Preparation) -> Begun
     requires { IsPreparation (plan_value plan) table.now r }
     ensures { IsBegun (plan_value plan) table.now r result }
 {
-    let v = r.vertices;
-    let list = v.list;
-    let count = v.count;
     let net = r.network;
-    let base = r.base;
-    let u = r.multipliers;
-    let c = candidates::of_network(net);
-    let links = net.links;
-    let component = net.component;
-    let entries = entries_of(&links, &component);
-    let k = net.components as usize;
-    let cost = net.required_cost;
-    let b = branches::branch::root(&list[..count], k, base, &u, cost, entries);
-    let counts = b.counts;
-    let own = b.entries;
-    let n = number(counts, own, k);
+    let v = r.vertices;
+    let candidates = candidates::of_network(net);
+    let entries = entries_of(&net.links, &net.component);
+    let k = usize::from(net.components);
+    let root = branches::branch::root(
+        &v.list[..v.count],
+        k,
+        r.base,
+        &r.multipliers,
+        net.required_cost,
+        entries,
+    );
     Begun {
-        candidates: c,
-        root: b,
-        number: n,
+        candidates,
+        root,
+        number: number(&root, k),
     }
 }
 
@@ -74,40 +72,20 @@ pub(crate) fn explored(
     ensures { IsExplored (plan_value plan) (arborescences (plan_value plan)) g result }
 {
     let v = r.vertices;
-    let list = v.list;
-    let count = v.count;
-    let net = r.network;
-    let k = net.components as usize;
-    let base = r.base;
-    let f = base.amounts;
-    let b = s.root;
-    let c = s.candidates;
-    let start = c.start;
-    let source = c.source;
-    let tails = c.tails;
-    let heads = c.heads;
-    search::tried::advance(
-        g,
-        b,
-        &f,
-        table,
-        &list[..count],
-        &start,
-        &source,
-        &tails,
-        &heads,
-        k,
-    )
+    let at = Field {
+        d: table,
+        vs: &v.list[..v.count],
+        candidates: &s.candidates,
+        k: usize::from(r.network.components),
+    };
+    advance(g, &s.root, &r.base.amounts, &at)
 }
 
 // How many of so many trees are tried.
 pub fn tried_count(number: u64, budget: u32) -> u32
     ensures { result ≡ min budget number }
 {
-    if number < budget as u64 {
-        return number as u32;
-    }
-    budget
+    u64::from(budget).min(number) as u32
 }
 
 // How many trees are tried in all, and whether these are all there are, from how many there are.
@@ -117,6 +95,6 @@ pub(crate) fn total_of(plan: Plan, number: u64, budget: u32) -> Total
 {
     Total {
         trees: tried_count(number, budget),
-        whole: number <= budget as u64,
+        whole: number <= u64::from(budget),
     }
 }

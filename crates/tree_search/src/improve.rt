@@ -37,19 +37,18 @@ pub fn improve(
     let first = total_of(plan, s.number, before);
     let total = total_of(plan, s.number, tries);
     let from = Progress {
-        cost: cost,
+        cost,
         tails: [0; 8],
         heads: [0; 8],
-        skip: first.trees as u64,
-        left: (total.trees - first.trees) as u64,
+        skip: u64::from(first.trees),
+        left: u64::from(total.trees - first.trees),
     };
-    let x = explored(plan, table, r, s, from);
-    let ts = x.tails;
-    let hs = x.heads;
+    let found = explored(plan, table, r, s, from);
+    let Progress { tails, heads, .. } = found;
     Searched {
-        cost: x.cost,
-        tails: ts,
-        heads: hs,
+        cost: found.cost,
+        tails,
+        heads,
         tried: total.trees,
         whole: total.whole,
     }

@@ -67,11 +67,7 @@ pub fn best(plan: Plan, table: &[[u32; 64]; 64], r: Preparation, budget: u32) ->
 fn turn_of(total: u32, tried: u32) -> u32
     ensures { result ≡ turn_of total tried }
 {
-    if total <= tried {
-        return 0;
-    }
-    let rest = total - tried;
-    if rest < 1_000 { rest } else { 1_000 }
+    total.saturating_sub(tried).min(1_000)
 }
 
 // The first trees.
@@ -80,13 +76,16 @@ fn first_tried(plan: Plan, table: &[[u32; 64]; 64], r: Preparation, s: Begun, n:
     ensures { (result.tried ≡ n) × (result.cost ≡ best_cost (plan_value plan) n)
         × (links_by (plan_value plan) result ≡ best_arborescence (plan_value plan) n) }
 {
-    let x = searched(plan, table, r, s, n);
-    let ts = x.tails;
-    let hs = x.heads;
+    let Searched {
+        cost,
+        tails,
+        heads,
+        ..
+    } = searched(plan, table, r, s, n);
     Reached {
-        cost: x.cost,
-        tails: ts,
-        heads: hs,
+        cost,
+        tails,
+        heads,
         tried: n,
     }
 }
@@ -109,25 +108,30 @@ fn tried_on(
     if g.tried == 0 {
         return first_tried(plan, table, r, s, more);
     }
-    let ts = g.tails;
-    let hs = g.heads;
-    let skip = g.tried as u64;
+    let Reached {
+        cost,
+        tails,
+        heads,
+        tried,
+    } = g;
     let from = Progress {
-        cost: g.cost,
-        tails: ts,
-        heads: hs,
-        skip: skip,
-        left: more as u64,
+        cost,
+        tails,
+        heads,
+        skip: u64::from(tried),
+        left: u64::from(more),
     };
-    let x = explored(plan, table, r, s, from);
-    let after_ts = x.tails;
-    let after_hs = x.heads;
-    let tried = g.tried + more;
+    let Progress {
+        cost,
+        tails,
+        heads,
+        ..
+    } = explored(plan, table, r, s, from);
     Reached {
-        cost: x.cost,
-        tails: after_ts,
-        heads: after_hs,
-        tried: tried,
+        cost,
+        tails,
+        heads,
+        tried: tried + more,
     }
 }
 
@@ -145,14 +149,17 @@ pub fn resume(
     let s = begin(plan, table, r);
     let total = total_of(plan, s.number, budget);
     let more = turn_of(total.trees, g.tried);
-    let x = tried_on(plan, table, r, s, g, more);
-    let ts = x.tails;
-    let hs = x.heads;
+    let Reached {
+        cost,
+        tails,
+        heads,
+        tried,
+    } = tried_on(plan, table, r, s, g, more);
     Resumed {
-        cost: x.cost,
-        tails: ts,
-        heads: hs,
-        tried: x.tried,
+        cost,
+        tails,
+        heads,
+        tried,
         total: total.trees,
         whole: total.whole,
     }

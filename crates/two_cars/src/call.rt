@@ -11,10 +11,11 @@ ghost use Rattle.solution.specs.Planned.{IsPlanned};
 ghost use Rattle.two_cars.specs.Contract.{IsTwoCars};
 
 use crate::TwoPlanned;
-use call_steps::steps::{lent_verdict, plan_tabled, refused};
+use call_steps::steps::{lent_verdict, plan_tabled};
 use car_marks::marks::{car_plan, has_bad_mark};
 use plan::Plan;
-use refusal::{Refusal, Verdict};
+use plan_file::reader::read_plan;
+use refusal::Refusal;
 use solution::Planned;
 
 // From 18 on: from 10 on the plan is the car's, over the table of the file's.
@@ -25,7 +26,7 @@ fn plan_marked(
     marks: &[u8],
     budget: u32,
     sheet: &mut [u16],
-) -> Planned
+) -> Result<Planned, Refusal>
     requires tabled { WellFormed (plan_value plan) × (table.now ≡ table_of (plan_value plan)) × AreWeights (plan_value plan) weights.now }
     requires budget_and_sheet { (1 ≤ budget) × (sheet_places ≤ length sheet.old) }
     ensures { IsPlanned (car_plan (plan_value plan) marks.now) budget
@@ -34,10 +35,9 @@ fn plan_marked(
         sheet.old sheet.new result }
 {
     if has_bad_mark(plan, marks) {
-        return refused(Refusal::BadMarks);
+        return Err(Refusal::BadMarks);
     }
-    let car = car_plan(plan, marks);
-    plan_tabled(car, table, weights, budget, sheet)
+    plan_tabled(car_plan(plan, marks), table, weights, budget, sheet)
 }
 
 // One car, from 8 on.
@@ -48,17 +48,15 @@ fn plan_car(
     marks: &[u8],
     budget: u64,
     sheet: &mut [u16],
-) -> Planned
+) -> Result<Planned, Refusal>
     requires { WellFormed (plan_value plan) × (table.now ≡ table_of (plan_value plan)) × AreWeights (plan_value plan) weights.now }
     ensures { IsPlanned (car_plan (plan_value plan) marks.now) budget
         (first_refusal (call_conditions budget (length sheet.old)
         ++ (mark_conditions (plan_value plan) marks.now ++ last_conditions (car_plan (plan_value plan) marks.now))))
         sheet.old sheet.new result }
 {
-    match lent_verdict(budget, sheet.len()) {
-        Verdict::Refused(r) => refused(r),
-        Verdict::Accepted => plan_marked(plan, table, weights, marks, budget as u32, sheet),
-    }
+    lent_verdict(budget, sheet.len())?;
+    plan_marked(plan, table, weights, marks, budget as u32, sheet)
 }
 
 // THE CALL FOR TWO CARS, for any bytes, and for each car any marks, any budget and any sheet.
@@ -74,23 +72,18 @@ pub fn two_cars(
     ensures { IsTwoCars bytes.now marks_1.now budget_1 sheet_1.old sheet_1.new
         marks_2.now budget_2 sheet_2.old sheet_2.new result }
 {
-    let reading = plan_file::reader::read_plan(bytes);
-    let plan = reading.plan;
-    let verdict = reading.verdict;
-    match verdict {
-        Verdict::Refused(r) => TwoPlanned {
-            first: refused(r),
-            second: refused(r),
+    match read_plan(bytes) {
+        Err(r) => TwoPlanned {
+            first: Err(r),
+            second: Err(r),
         },
-        Verdict::Accepted => {
+        Ok(reading) => {
+            let plan = reading.plan;
             let weights = shortest::weights::table(plan);
             let table = shortest::distance::table_of(&weights);
             let first = plan_car(plan, &table, &weights, marks_1, budget_1, sheet_1);
             let second = plan_car(plan, &table, &weights, marks_2, budget_2, sheet_2);
-            TwoPlanned {
-                first: first,
-                second: second,
-            }
+            TwoPlanned { first, second }
         }
     }
 }

@@ -3,11 +3,12 @@
 
 pub mod call; // the call for two cars
 
+use refusal::Refusal;
 use solution::Planned;
 
 // What each car is answered.
-#[derive(Clone, Copy)]
+#[derive(Clone, Copy, Debug, PartialEq, Eq)]
 pub struct TwoPlanned {
-    pub first: Planned,
-    pub second: Planned,
+    pub first: Result<Planned, Refusal>,
+    pub second: Result<Planned, Refusal>,
 }

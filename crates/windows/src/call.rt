@@ -10,8 +10,9 @@ ghost use Rattle.solution.specs.Planned.{IsPlanned};
 ghost use Rattle.shut_arcs.specs.Fields.{departure};
 ghost use Rattle.windows.specs.Contract.{IsPlanCallAt};
 
-use call_steps::steps::{lent_verdict, plan_read, refused};
+use call_steps::steps::{lent_verdict, plan_read};
 use plan::Plan;
+use plan_file::reader::read_plan;
 use refusal::{Refusal, Verdict};
 use shut_arcs::limits::has_bad_window;
 use shut_arcs::shut::{must_shut, plan_at};
@@ -22,16 +23,13 @@ fn windows_verdict(plan: Plan, windows: &[u16], weekday: u32, minute: u32) -> Ve
     requires { plan.m ≤ 256 }
     ensures { verdict_number result ≡ first_refusal (window_conditions (plan_value plan) windows.now (departure weekday minute)) }
 {
-    let m = plan.m as usize;
-    let bad = has_bad_window(m, windows, weekday, minute);
-    if bad {
-        return Verdict::Refused(Refusal::BadWindow);
+    if has_bad_window(plan.m as usize, windows, weekday, minute) {
+        return Err(Refusal::BadWindow);
     }
-    let shut = must_shut(plan, windows, weekday, minute);
-    if shut {
-        return Verdict::Refused(Refusal::MustShut);
+    if must_shut(plan, windows, weekday, minute) {
+        return Err(Refusal::MustShut);
     }
-    Verdict::Accepted
+    Ok(())
 }
 
 // From 19 on: from 10 on the plan is that of the departure.
@@ -42,20 +40,15 @@ fn plan_departing(
     weekday: u32,
     minute: u32,
     sheet: &mut [u16],
-) -> Planned
+) -> Result<Planned, Refusal>
     requires { WellFormed (plan_value plan) × (1 ≤ budget) × (sheet_places ≤ length sheet.old) }
     ensures { IsPlanned (plan_at (plan_value plan) (windows_in windows.now) (departure weekday minute)) budget
         (first_refusal (window_conditions (plan_value plan) windows.now (departure weekday minute)
         ++ last_conditions (plan_at (plan_value plan) (windows_in windows.now) (departure weekday minute))))
         sheet.old sheet.new result }
 {
-    match windows_verdict(plan, windows, weekday, minute) {
-        Verdict::Refused(r) => refused(r),
-        Verdict::Accepted => {
-            let at = plan_at(plan, windows, weekday, minute);
-            plan_read(at, budget, sheet)
-        }
-    }
+    windows_verdict(plan, windows, weekday, minute)?;
+    plan_read(plan_at(plan, windows, weekday, minute), budget, sheet)
 }
 
 // From 8 on.
@@ -66,7 +59,7 @@ fn plan_lent(
     weekday: u32,
     minute: u32,
     sheet: &mut [u16],
-) -> Planned
+) -> Result<Planned, Refusal>
     requires { WellFormed (plan_value plan) }
     ensures { IsPlanned (plan_at (plan_value plan) (windows_in windows.now) (departure weekday minute)) budget
         (first_refusal (call_conditions budget (length sheet.old)
@@ -74,10 +67,8 @@ fn plan_lent(
         ++ last_conditions (plan_at (plan_value plan) (windows_in windows.now) (departure weekday minute)))))
         sheet.old sheet.new result }
 {
-    match lent_verdict(budget, sheet.len()) {
-        Verdict::Refused(r) => refused(r),
-        Verdict::Accepted => plan_departing(plan, budget as u32, windows, weekday, minute, sheet),
-    }
+    lent_verdict(budget, sheet.len())?;
+    plan_departing(plan, budget as u32, windows, weekday, minute, sheet)
 }
 
 // THE PLAN CALL AT A DEPARTURE, for any bytes, any budget, any list of numbers for the windows, any departure and any sheet.
@@ -88,15 +79,16 @@ pub fn plan_call_at(
     weekday: u32,
     minute: u32,
     sheet: &mut [u16],
-) -> Planned
+) -> Result<Planned, Refusal>
     ensures { IsPlanCallAt bytes.now budget windows.now (departure weekday minute) sheet.old
         sheet.new result }
 {
-    let reading = plan_file::reader::read_plan(bytes);
-    let plan = reading.plan;
-    let verdict = reading.verdict;
-    match verdict {
-        Verdict::Refused(r) => refused(r),
-        Verdict::Accepted => plan_lent(plan, budget, windows, weekday, minute, sheet),
-    }
+    plan_lent(
+        read_plan(bytes)?.plan,
+        budget,
+        windows,
+        weekday,
+        minute,
+        sheet,
+    )
 }

@@ -7,29 +7,12 @@ use Prim.Native.Nat.{ℕ, zero, suc, ◌+◌, ◌-◌, ◌^◌, ◌≤◌, ◌<�
 use native.Mathlib.Omega.{arith}
 use Rattle.std.proofs.Math.ListN.{replicate}
 use Rattle.residual_search.specs.Search.{beyond}
-use Rattle.postman.specs.Steps.{cell}
 use Rattle.multiplier_steps.specs.Steps.{AreSmall, capped, capped_all, carried_on}
 use Rattle.multiplier_steps.specs.Laws.Steps.{all_small}
-use Rattle.ascent.specs.Relax.{back_place, asks, overtakes, demand, move_vertex, move_all, ask, sweep, are_closed, sweeps, settled}
+use Rattle.ascent.specs.Relax.{move_all, ask, sweep, are_closed, sweeps, settled}
 use Rattle.ascent_tree.specs.Offers.{Offers, offers}
 use Rattle.ascent_tree.specs.Tree.{Sets, grown, along}
 use Rattle.ascent.specs.Step.{Step, are_unmoved, step}
-
--- a multiplier that changes, and one that does not
-module _ (d : List (List ℕ)) (f : List ℕ) (up : Bool) (w : ℕ) (base : ℤ) (x : List ℤ) (marks : List ℕ) (v : ℕ) {p : ℕ} {c : ℤ} {b : Bool}
-    (ep : p ≡ back_place up v w) (ec : c ≡ asks up (get_or f p 0) (cell d v w) (cell d w v) base)
-    (eb : b ≡ overtakes up c (get_or x v (pos 0))) where
-  asked_is : c ≡ demand d f up w base v
-  asked_is = ec ∙ ap (λ q. asks up (get_or f q 0) (cell d v w) (cell d w v) base) ep
-
-  test_is : b ≡ overtakes up (demand d f up w base v) (get_or x v (pos 0))
-  test_is = eb ∙ ap (λ (c : ℤ). overtakes up c (get_or x v (pos 0))) asked_is
-
-  pub move_other : b ≡ true → (set x v c, set marks v 1) ≡ move_vertex d f up w base (x, marks) v
-  move_other t = ap (λ (c : ℤ). (set x v c, set marks v 1)) asked_is ∙ rw (sym test_is ∙ t)
-
-  pub move_same : b ≡ false → (x, marks) ≡ move_vertex d f up w base (x, marks) v
-  move_same t = rw (sym test_is ∙ t)
 
 pub ask_none : (d : List (List ℕ)) (f : List ℕ) (up : Bool) (vs : List ℕ) (x : List ℤ) (marks : List ℕ) (w : ℕ) → get_or marks w 0 ≤ 0
     → (x, marks) ≡ ask d f up vs (x, marks) w

@@ -1,6 +1,6 @@
 -- The refusals in their order. Each test of the code is a condition of the definition, and where the conditions before it do not
 -- apply, the first that applies is among the rest.
-use Rattle.std.specs.Prelude.{◌≡◌, refl, Bool, true, false, not, cond, List, [], ◌∷◌, ◌++◌, ◌≢◌, ℕ, ◌≤◌, length, T, eqb, ltb}
+use Rattle.std.specs.Prelude.{◌≡◌, refl, Result, Ok, Err, Bool, true, false, not, cond, List, [], ◌∷◌, ◌++◌, ◌≢◌, ℕ, ◌≤◌, length, T, eqb, ltb}
 use Rattle.std.proofs.Common.{sym, ap, ◌∙◌, arith, le-ltb, nltb→le}
 use Rattle.std.proofs.Math.Option.{Option, none, some}
 use Rattle.postman_laws.specs.Laws.Contradiction.{zero_is_one}
@@ -10,13 +10,11 @@ use Rattle.postman.specs.Refusal.{Conditions, first_refusal}
 use Rattle.postman.specs.PlanFile.{is_outside}
 use Rattle.postman.specs.Component.{component_count}
 use Rattle.postman.specs.PlanCall.{sheet_places, highest_budget, is_cut_off, parts_conditions}
-use Rattle.postman_laws.specs.Laws.Theorem.{cut_off}
 use Rattle.postman.specs.Laws.Tests.{eqb_other}
 use Rattle.refusal.specs.declared.Refusal.{Refusal}
 use Rattle.refusal.specs.Verdict.{refusal_number}
 use Rattle.postman_laws.specs.Laws.Refusal.{accepted_cons}
 use Rattle.budget.specs.declared.Budget.{Budget}
-use Rattle.budget.specs.declared.Checked.TheVariants.{Good, Refused}
 use Rattle.budget.specs.Checks.{checked_of}
 use Rattle.network.specs.declared.network.Network.{Network}
 use Rattle.network.specs.Network.{IsNetwork}
@@ -72,19 +70,21 @@ known_tabled p table w d e net n =
 
 -- ---- 9
 
-pub budget_refused : (p : Plan) (n : ℕ) → checked_of n ≡ Refused → budget_refusal p n ≡ some 9
+pub budget_refused : (p : Plan) (n : ℕ) → checked_of n ≡ Err Refusal.Budget → budget_refusal p n ≡ some 9
 unfolding checked_of budget_refusal
 budget_refused p n = at (is_outside n 1 highest_budget)
   where
-    at : (x : Bool) → cond x Refused (Good (record { trees = n })) ≡ Refused → cond x (some 9) (plan_refusal p) ≡ some 9
+    at : (x : Bool) → cond {A = Result Budget Refusal} x (Err Refusal.Budget) (Ok (record { trees = n })) ≡ Err Refusal.Budget
+        → cond x (some 9) (plan_refusal p) ≡ some 9
     at true e = refl
     at false e = zero_is_one (cc)
 
-pub budget_good : (p : Plan) (n : ℕ) (b : Budget) → checked_of n ≡ Good b → budget_refusal p n ≡ plan_refusal p
+pub budget_good : (p : Plan) (n : ℕ) (b : Budget) → checked_of n ≡ Ok b → budget_refusal p n ≡ plan_refusal p
 unfolding checked_of budget_refusal
 budget_good p n b = at (is_outside n 1 highest_budget)
   where
-    at : (x : Bool) → cond x Refused (Good (record { trees = n })) ≡ Good b → cond x (some 9) (plan_refusal p) ≡ plan_refusal p
+    at : (x : Bool) → cond {A = Result Budget Refusal} x (Err Refusal.Budget) (Ok (record { trees = n })) ≡ Ok b
+        → cond x (some 9) (plan_refusal p) ≡ plan_refusal p
     at true e = zero_is_one (cc)
     at false e = refl
 
@@ -96,11 +96,11 @@ sheet_long p budget places l = rw (le-ltb places sheet_places l)
 
 -- ---- the answer of a refusal
 
-pub refused_planned : (p : Plan) (budget : ℕ) (o : Option ℕ) (old : List ℕ) (r : Refusal) (x : Planned) → x ≡ refused_with r
+pub refused_planned : (p : Plan) (budget : ℕ) (o : Option ℕ) (old : List ℕ) (r : Refusal) (x : Result Planned Refusal) → x ≡ refused_with r
     → o ≡ some (refusal_number r) → IsPlanned p budget o old old x
 refused_planned p budget o old r x e h =
     refused_answer (λ p o new x. IsPlanned p budget o old new x) old (λ p r. is_refused p budget old r) p o r x e h
 
-pub planned_as : (p q : Plan) (budget : ℕ) (o o' : Option ℕ) (old new : List ℕ) (x : Planned) → p ≡ q → o ≡ o'
+pub planned_as : (p q : Plan) (budget : ℕ) (o o' : Option ℕ) (old new : List ℕ) (x : Result Planned Refusal) → p ≡ q → o ≡ o'
     → IsPlanned p budget o old new x → IsPlanned q budget o' old new x
 planned_as p q budget o o' old new x e h i = answer_as (λ p o new x. IsPlanned p budget o old new x) p q o o' new x e h i

@@ -1,5 +1,7 @@
 -- A refusal's answer: its number, nothing else, and the sheet as it was.
-use Rattle.std.specs.Prelude.{refl, List, ℕ}
+use Rattle.std.specs.Prelude.{◌≡◌, refl, Result, Err, IsErrAnd, List, ℕ}
+use Rattle.std.proofs.Common.{ap, ◌∙◌}
+use Rattle.std.proofs.lemmas.Result.{err_from_is_err_and}
 use Rattle.std.proofs.Math.Option.{some, some-ne-none}
 use Rattle.postman.specs.Plan.{Plan}
 use Rattle.postman.specs.Refusal.{answer, unless}
@@ -20,3 +22,7 @@ is_refused p budget old r = record {
   no_multipliers = λ k e. refl;
   answered = λ e. absurd (some-ne-none (refusal_number r) e);
 }
+
+-- What `?` answers where it stops: the refusal that it met.
+pub stopped : {A : Type 0} (r : Refusal) (x : Result A Refusal) → IsErrAnd x (λ s. s ≡ r) → x ≡ Err r
+stopped r x h = let e = err_from_is_err_and x h in e.1 ∙ ap Err e.2

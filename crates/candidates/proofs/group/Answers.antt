@@ -13,25 +13,30 @@ pub loop-q-init : goal.loop-q-init
 loop-q-init c =
     let s = c.args in
     let p = c.requires.0 in
-    (omega arith, omega arith, length-replicate {A = ℕ} 9 0, starts_none s.links.now s.component.now, holds_as (holds_none 4096) (sym (before_one s.links.now s.component.now)))
+    record {
+      within = omega arith;
+      sized = length-replicate {A = ℕ} 9 0;
+      starts = starts_none s.links.now s.component.now;
+      listed = holds_as (holds_none 4096) (sym (before_one s.links.now s.component.now));
+    }
 
-pub scan-next-requires : goal.scan-next-requires
-scan-next-requires c =
+pub scan-requires : goal.scan-requires
+scan-requires c =
     let s = c.args in
-    let h = c.loop-q.invariant.4 in
-    (room_for s.links.now s.component.now c.loop-q.q c.loop-q.places.count c.loop-q.invariant.0 (holds_length h), h.size)
+    let h = c.loop-q.invariant.listed in
+    (room_for s.links.now s.component.now c.loop-q.q c.loop-q.places.count c.loop-q.auto.q (holds_length h), h.size)
 
 pub loop-q-preserved : goal.loop-q-preserved
 loop-q-preserved c =
     let s = c.args in
     let i = c.loop-q.invariant in
     let p = c.requires.1 in
-    let z = i.2 in
-    let h = holds_as c.scan-next.ensures
-    (ap (λ (l : List ℕ). l ++ places_of s.links.now s.component.now c.loop-q.q) i.4.content ∙ sym (before_more s.links.now s.component.now c.loop-q.q i.0)) in (
-      omega arith,
-      omega arith,
-      length-set c.loop-q.start (c.loop-q.q + 1) _ ∙ i.2,
-      starts_more s.links.now s.component.now c.loop-q.q c.loop-q.start _ (omega arith) i.3 (holds_length h),
-      h,
-    )
+    let z = i.sized in
+    let h = holds_as c.scan.ensures
+    (ap (λ (l : List ℕ). l ++ places_of s.links.now s.component.now c.loop-q.q) i.listed.content ∙ sym (before_more s.links.now s.component.now c.loop-q.q c.loop-q.auto.q)) in
+    record {
+      within = omega arith;
+      sized = length-set c.loop-q.start (c.loop-q.q + 1) _ ∙ i.sized;
+      starts = starts_more s.links.now s.component.now c.loop-q.q c.loop-q.start _ (omega arith) i.starts (holds_length h);
+      listed = h;
+    }

@@ -10,7 +10,7 @@ use borrow.Author.Tests.{lt-ltb, le-ltb, eq-eqb, ne_eqb}
 use Rattle.std.proofs.Math.ListN.{length}
 use Rattle.std.proofs.Math.Dec.{T, not_T, eqb→eq}
 use Rattle.postman.specs.Lists.{any_of, below}
-use Rattle.postman.specs.Plan.{Arc, Plan, is_open, arc_at}
+use Rattle.postman.specs.Plan.{Arc, is_open, arc_at}
 use Rattle.postman.specs.Marks.{is_bad_mark, has_bad_mark, marked_service, marked, car_plan}
 use Rattle.postman.specs.Laws.Tests.{same_test, of_true, or_right, or_cases, not_or, not_not, eqb_other}
 use Rattle.postman.specs.Laws.Membership.{any_of_mem, any_of_at, mem_below, below_mem}
@@ -50,11 +50,7 @@ module _ (mark : ℕ) (a : Arc) where
   unfolding marked_service
   service_charged o z = let f = eq-eqb mark 1 o in let e = ne_eqb a.service 0 z in rw (f, e) refl
 
-pub one_standing : (mark : ℕ) → mark ≡ 1 → ◌≡◌ {A = ℕ} 1 (cond (eqb mark 1) 1 0)
-one_standing mark o = let f = eq-eqb mark 1 o in rw f refl
-
-pub other_standing : (mark : ℕ) → mark ≢ 1 → ◌≡◌ {A = ℕ} 0 (cond (eqb mark 1) 1 0)
-other_standing mark o = let f = ne_eqb mark 1 o in rw f refl
+pub ruleset of_charge = (none_charged, plain_charged, service_charged)
 
 pub open_marked : (mark : ℕ) (a : ArcRecord) (s v : ℕ) → is_open (arc_value a) ≡ true → s ≡ cond (eqb mark 1) 1 0
     → v ≡ marked_service mark (arc_value a)

@@ -3,7 +3,7 @@ use Rattle.std.specs.Prelude.{◌≡◌, ◌≢◌, Bool, true, false, List, ◌
 use Rattle.std.proofs.Math.Path.{refl, ap, subst⁻¹}
 use Rattle.std.proofs.Common.{sym, ap₂, ◌∙◌, inl, inr, get_or-set_same, get_or-set_other, T_not}
 use Rattle.std.proofs.Math.Bool.{cond}
-use Prim.Native.Nat.{ℕ, zero, suc, ◌+◌, ◌*◌, ◌-◌, ◌/◌, ◌%◌, ◌≤◌, ◌<◌}
+use Prim.Native.Nat.{ℕ, zero, suc, ◌+◌, ◌*◌, ◌-◌, ◌≤◌, ◌<◌}
 use Rattle.std.proofs.Math.Decide.{ℕ_discrete}
 use native.Mathlib.Omega.{arith}
 use Rattle.std.proofs.Math.ListN.{get_or}
@@ -12,27 +12,11 @@ use Rattle.postman_laws.specs.Laws.Contradiction.{zero_is_one}
 use Rattle.integers.specs.Linear.{z, zl}
 use Rattle.postman.specs.Lists.{select, up_from, sum_ofℤ, iterate}
 use Rattle.postman.specs.Laws.Tests.{cond_ind, test, is_true, is_false}
-use Rattle.postman_laws.specs.Laws.SignedSum.{≤ℤ-trans}
 use Rattle.cheapest_tree.specs.Cheapest.{tree_cost}
-use Rattle.cheapest_tree.specs.CostMatrix.{matrix_of, others_in, highest, IsCostMatrix, less, line_of, IsCheaper, IsBest, HasEntries, entry_of, pay_of, IsMarked, IsPlace, IsShrunk}
-
-pub lt_le : (a b : ℤ) → lt_z a b ≡ true → a ≤ℤ b
-lt_le a b e = omega (arith, z)
+use Rattle.cheapest_tree.specs.CostMatrix.{matrix_of, others_in, highest, IsCostMatrix, less, line_of, IsBest, HasEntries, entry_of, pay_of, IsMarked}
 
 pub nlt_le : (a b : ℤ) → lt_z a b ≡ false → b ≤ℤ a
 nlt_le a b e = omega (arith, z)
-
--- one component more is looked at
-pub best_more : (cost : ℕ → ℤ) (may : List Bool) (n a r : ℕ) → n < 8 → IsBest cost may n a → IsCheaper cost (get_or may n false) a n r
-    → IsBest cost may (n + 1) r
-best_more cost may n a r l h k = record {
-  in_range = elim k.among [ inl e ↦ subst⁻¹ (λ x. x < 8) e h.in_range | inr e ↦ subst⁻¹ (λ x. x < 8) e.0 l ];
-  allowed = elim k.among [ inl e ↦ ap (λ x. get_or may x false) e ∙ h.allowed | inr e ↦ ap (λ x. get_or may x false) e.0 ∙ e.1 ];
-  cheapest = λ x b m. elim (ℕ_discrete x n) [
-    | yes e ↦ subst⁻¹ (λ y. cost r ≤ℤ cost y) e (k.new (ap (λ y. get_or may y false) (sym e) ∙ m))
-    | no o ↦ ≤ℤ-trans k.old (h.cheapest x (omega arith) m)
-  ];
-}
 
 -- ---- the entries
 
@@ -163,17 +147,6 @@ marked_more e y i on x l s h = record {
     before j b o = elim (ℕ_discrete j i) [ yes a ↦ absurd (o (ap (λ u. iterate u (entry_of e) y) a ∙ sym s)) | no a ↦ omega arith ]
 
 -- ---- the contracted matrix
-
-pub shrunk_more : (v : List ℤ) (on : List Bool) (c i : ℕ) (m : List ℤ) (r : ℕ) (a : ℤ) → i < length m → IsShrunk v on c i m
-    → IsPlace v on c (i / 8) (i % 8) r → a ≡ get_or v r (pos 0)
-    → IsShrunk v on c (i + 1) (set m i a)
-shrunk_more v on c i m r a l h k e = record {
-  each = λ j b. elim (ℕ_discrete j i) [
-    | yes s ↦ subst⁻¹ (λ u. (r : ℕ) × IsPlace v on c (u / 8) (u % 8) r × (get_or (set m i a) u (pos 0) ≡ get_or v r (pos 0))) s
-        (r, k, get_or-set_same m i a (pos 0) l ∙ e)
-    | no o ↦ let q = h.each j (omega arith) in (q.0, q.1, get_or-set_other m i j a (pos 0) o ∙ q.2)
-  ];
-}
 
 pub marked_start : (e : List ℕ) (y : ℕ) (on : List Bool) → IsMarked e y 8 on → get_or on y false ≡ true
 unfolding iterate

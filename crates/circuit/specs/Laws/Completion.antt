@@ -27,7 +27,7 @@ use Rattle.drive_legs.specs.Drive.{places_of, drive_by, drive, ArePaths, HavePat
 use Rattle.hierholzer.specs.Circuit.{circuit}
 use Rattle.hierholzer.specs.Eulerian.{Eulerian}
 use Rattle.drive_legs.specs.Filled.{Laid}
-use Rattle.drive_legs.specs.Laws.Legs.{leg_at, leg_ends, legs_length, eulerian}
+use Rattle.drive_legs.specs.Laws.Legs.{leg_at, leg_ends, eulerian}
 use Rattle.drive_legs.specs.Laws.Laid.{prefix_length}
 use Rattle.drive_legs.specs.Laws.Few.{few_others, few_numbers}
 use Rattle.circuit.specs.Laws.Description.{is_laid}
@@ -103,14 +103,8 @@ module _ (p : Plan) (ok : WellFormed p) (t : List Link) (amounts : List ℕ) (h 
 
   -- the parts of the arrays that hold the legs
   module _ {numbers tails heads : List ℕ} {c n : ℕ} (l : Laid p t amounts numbers tails heads c n) where
-    pub heads_number : n ≡ length (leg_heads p t amounts)
-    heads_number = l.number ∙ sym (legs_length p ok t amounts h)
-
     pub laid_ready : Ready (take c numbers) (take n tails) (take n heads)
     laid_ready = ready _ _ _ l.numbers_are l.tails_are l.heads_are
 
     pub tails_number : n ≡ length (take n tails)
     tails_number = prefix_length n tails _ l.tails_are l.number
-
-    pub laid_few : n ≤ 526
-    laid_few = let a = laid_ready.few in let b = tails_number in omega arith

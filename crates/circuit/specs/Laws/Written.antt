@@ -5,7 +5,7 @@ use Rattle.std.proofs.Math.Path.{ap}
 use mathlib.Core.List.{List, [], ◌∷◌, ◌++◌, flat_map, append_assoc, append-nil}
 use native.Mathlib.Omega.{arith}
 use Rattle.std.proofs.Math.ListN.{length, length-append}
-use Rattle.std.proofs.Math.Seq.{take-append_seam, drop-append-add, take-length}
+use Rattle.std.proofs.Math.Seq.{take-append_seam, drop-append-add}
 use Rattle.std.proofs.lemmas.List.{set_split}
 use Rattle.postman_laws.specs.Laws.Lists.{flat_map_append}
 use Rattle.shortest.specs.StepContracts.{overwrite}
@@ -125,12 +125,3 @@ module _ (path : ℕ → ℕ → List ℕ) (numbers tails heads order old : List
           content = f ∙ ap (overwrite places at) d ∙ ap₂ (λ (y : List ℕ) (z : ℕ). overwrite y z q) w.content w.count
               ∙ written_more ps q old ∙ ap (λ z. written z old) (sym m);
         }
-
-  pub to_all : (x at : ℕ) (places : List ℕ) → x ≡ length order → WrittenTo x at places
-      → (places ≡ written (places_of path numbers tails heads order) old) × (at ≡ length (places_of path numbers tails heads order))
-  to_all x at places e w =
-      let a = ap (λ z. take z order) e ∙ take-length order in (
-        w.content ∙ ap (λ z. written (places_of path numbers tails heads z) old) a,
-        w.count
-            ∙ ap (λ z. length (places_of path numbers tails heads z)) a,
-      )

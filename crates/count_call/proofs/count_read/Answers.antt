@@ -6,7 +6,6 @@ use Rattle.plan.specs.Records.{plan_value}
 use mathlib.Core.Option.{Option}
 use mathlib.Core.Path.{ap, ◌∙◌}
 use Prim.Native.Nat.{ℕ}
-use borrow.Author.Rules.{rules}
 use Rattle.count_call.proofs.count_read.Goals as goal
 
 pub returns : goal.returns

@@ -3,7 +3,6 @@ use Rattle.postman.specs.Refusal.{given}
 use Rattle.postman_laws.specs.Laws.TreeCount.{counted_known, counted_above}
 use native.Mathlib.Omega.{arith}
 use mathlib.Core.Path.{sym, ap}
-use borrow.Author.Rules.{rules}
 use Rattle.count_call.proofs.known_or_above.Goals as goal
 
 pub returns-then-n-gt4294967295 : goal.returns-then-n-gt4294967295

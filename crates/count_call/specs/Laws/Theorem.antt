@@ -1,6 +1,6 @@
 -- THE THEOREM. "For any accepted budget, […] the plan call's whole is yes exactly when that number is known and no larger than the budget."
 -- Over the two calls' contracts: r is any answer of the plan call on these bytes that is no refusal, c the count's answer on them.
-use Rattle.std.specs.Prelude.{◌≡◌, ◌↔◌, Bool, List, ℕ, ◌≤◌, length}
+use Rattle.std.specs.Prelude.{◌≡◌, ◌↔◌, Bool, List, ℕ, ◌≤◌, length, Result}
 use Rattle.std.proofs.Common.{sym, ◌∙◌}
 use Rattle.std.proofs.Math.Path.{ap}
 use Rattle.std.proofs.Math.Bool.{true, false}
@@ -14,16 +14,18 @@ use Rattle.postman.specs.Laws.Tests.{of_true}
 use Rattle.postman_laws.specs.Laws.Acceptance.{call_accepted}
 use Rattle.postman_laws.specs.Laws.TreeCount.{whole_known}
 use Rattle.refusal.specs.Verdict.{verdict_number}
+use Rattle.refusal.specs.declared.Refusal.{Refusal}
 use Rattle.solution.specs.declared.Planned.{Planned}
 use Rattle.planner.specs.Contract.{IsPlanCall}
-use Rattle.solution.specs.Planned.{multipliers_of}
-use Rattle.count_call.specs.declared.Counted.{Counted}
+use Rattle.solution.specs.Planned.{multipliers_of, summary_of}
+use Rattle.count_call.specs.declared.Count.{Count}
 use Rattle.count_call.specs.Contract.{count_answer}
 use Rattle.count_call.specs.Laws.Call.{not_refused}
 
-module _ (bytes : List ℕ) (budget : ℕ) (old new : List ℕ) (r : Planned) (c : Counted) (planned : IsPlanCall bytes budget old new r)
+module _ (bytes : List ℕ) (budget : ℕ) (old new : List ℕ) (r : Result Planned Refusal) (c : Result Count Refusal)
+    (planned : IsPlanCall bytes budget old new r)
     (counted : count_answer c ≡ count_call bytes)
-    (accepted : verdict_number r.verdict ≡ none) where
+    (accepted : verdict_number r ≡ none) where
   within : Answer TreeCount → Bool
   unfolding is_known_within
   within (given t) = is_known_within t budget
@@ -32,7 +34,7 @@ module _ (bytes : List ℕ) (budget : ℕ) (old new : List ℕ) (r : Planned) (c
   not_refused_call : call_refusal bytes budget (length old) ≡ none
   not_refused_call = sym planned.planned.verdict ∙ accepted
 
-  whole_is : r.whole ≡ is_known_within (tree_count (plan_of bytes)) budget
+  whole_is : (summary_of r).whole ≡ is_known_within (tree_count (plan_of bytes)) budget
   unfolding answer fields summary
   whole_is =
       ap (λ (s : Summary). s.whole)
@@ -44,7 +46,7 @@ module _ (bytes : List ℕ) (budget : ℕ) (old new : List ℕ) (r : Planned) (c
   unfolding count_call answer
   count_is = counted ∙ ap (λ (o : Option ℕ). answer o (tree_count (plan_of bytes))) (not_refused bytes budget (length old) not_refused_call)
 
-  pub whole_told : (r.whole ≡ true) ↔ ((n : ℕ) × (count_answer c ≡ given (known n)) × (n ≤ budget))
+  pub whole_told : ((summary_of r).whole ≡ true) ↔ ((n : ℕ) × (count_answer c ≡ given (known n)) × (n ≤ budget))
   unfolding is_known_within within
   whole_told = (
     λ e. from (tree_count (plan_of bytes)) count_is (sym whole_is ∙ e),

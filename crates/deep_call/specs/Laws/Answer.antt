@@ -1,7 +1,7 @@
 -- THE PROMISE, from what is kept. The drive is the plan call's under its numbering, told of the plan itself; the floor is that of the
 -- plan call under its numbering, and is below every drive of the plan; where all trees were tried in that round, its cost is the
 -- least there is, and so is the cost that is kept.
-use Rattle.std.specs.Prelude.{◌≡◌, ◌↔◌, ◌⊎◌, List, [], ℕ, ◌+◌, ◌-◌, ◌≤◌, length, drop, ℤ, ◌≤ℤ◌}
+use Rattle.std.specs.Prelude.{◌≡◌, ◌↔◌, ◌⊎◌, List, [], ℕ, ◌+◌, ◌-◌, ◌≤◌, length, drop, ℤ, ◌≤ℤ◌, Result}
 use Rattle.std.proofs.Math.Path.{sym, ap, subst⁻¹}
 use Rattle.std.proofs.Common.{ap₂, ◌∙◌, subst, arith}
 use Rattle.std.proofs.Math.Logic.{inl, inr}
@@ -31,8 +31,9 @@ use Rattle.multipliers.specs.Ascent.{multipliers_for}
 use Rattle.multipliers.specs.Drive.{drive_of}
 use Rattle.drive_legs.specs.Drive.{written}
 use Rattle.refusal.specs.Verdict.{verdict_number}
+use Rattle.refusal.specs.declared.Refusal.{Refusal}
 use Rattle.solution.specs.declared.Planned.{Planned}
-use Rattle.solution.specs.Planned.{summary_of, multipliers_of, count_unless, IsPlanned}
+use Rattle.solution.specs.Planned.{summary_of, multipliers_of, count_unless, IsPlanned, places_of, u_list}
 use Rattle.solution.specs.Laws.Answered.{cost_is, floor_is, is_answer, summary_given}
 use Rattle.round_rule.specs.declared.kept.Kept.{Kept}
 use Rattle.round_rule.specs.Rounds.{under, floor_of, have_met, kept, deep_summary, deep_drive}
@@ -128,16 +129,16 @@ module _ (p : Plan) (ok : Plannable p) (few : component_count p ≤ 8) (budget :
   unfolding kept
   is_kept = after_kept p ok few budget some-trees low (rounds - 1) (omega arith)
 
-  pub is_deep_answer : (new : List ℕ) (r : Planned) → take r.places new ≡ deep_drive p budget rounds
-      → summary_of r ≡ deep_summary p budget rounds → r.multipliers ≡ (kept p budget rounds).multipliers
+  pub is_deep_answer : (new : List ℕ) (r : Result Planned Refusal) → take (places_of r) new ≡ deep_drive p budget rounds
+      → summary_of r ≡ deep_summary p budget rounds → u_list r ≡ (kept p budget rounds).multipliers
       → IsDeepAnswer p budget rounds new r
   unfolding deep_drive deep_summary
   is_deep_answer new r d s m =
       let k = kept p budget rounds in
       let h = is_kept in
-      let c : r.cost ≡ k.cost = ap (λ (x : Summary). x.cost) s in
-      let f : r.floor ≡ k.floor = ap (λ (x : Summary). x.floor) s in
-      let b : r.whole ≡ have_met k = ap (λ (x : Summary). x.whole) s in
+      let c : (summary_of r).cost ≡ k.cost = ap (λ (x : Summary). x.cost) s in
+      let f : (summary_of r).floor ≡ k.floor = ap (λ (x : Summary). x.floor) s in
+      let b : (summary_of r).whole ≡ have_met k = ap (λ (x : Summary). x.whole) s in
       let mu : multipliers_of r ≡ u_of k.multipliers = ap u_of m in
       let says = met_says p ok few (rounds - 1) k h in
       let t = told p ok few (rounds - 1) k h in
@@ -158,9 +159,9 @@ module _ (p : Plan) (ok : Plannable p) (few : component_count p ≤ 8) (budget :
       }
 
   -- laid under the numbering of the least cost
-  pub is_deep : (old new : List ℕ) (r : Planned) → new ≡ written (deep_drive p budget rounds) old
-      → r.places ≡ length (deep_drive p budget rounds) → verdict_number r.verdict ≡ none → summary_of r ≡ deep_summary p budget rounds
-      → r.multipliers ≡ (kept p budget rounds).multipliers → IsDeep p budget rounds none old new r
+  pub is_deep : (old new : List ℕ) (r : Result Planned Refusal) → new ≡ written (deep_drive p budget rounds) old
+      → places_of r ≡ length (deep_drive p budget rounds) → verdict_number r ≡ none → summary_of r ≡ deep_summary p budget rounds
+      → u_list r ≡ (kept p budget rounds).multipliers → IsDeep p budget rounds none old new r
   unfolding answer fields unless count_unless multipliers_unless written
   is_deep old new r w n v s m =
       let t = deep_drive p budget rounds in
@@ -175,17 +176,18 @@ module _ (p : Plan) (ok : Plannable p) (few : component_count p ≤ 8) (budget :
 
 -- ---- what the plan call finds
 
-pub record IsTried (q : Plan) (budget : ℕ) (r : Planned) : Type 0 where
-  pub cost_is : r.cost ≡ best_cost q budget
-  pub floor_is : r.floor ≡ floor_of q budget
-  pub multipliers_are : r.multipliers ≡ multipliers_for q
-  pub trees_are : r.trees ≡ tried_count q budget
+pub record IsTried (q : Plan) (budget : ℕ) (r : Result Planned Refusal) : Type 0 where
+  pub cost_is : (summary_of r).cost ≡ best_cost q budget
+  pub floor_is : (summary_of r).floor ≡ floor_of q budget
+  pub multipliers_are : u_list r ≡ multipliers_for q
+  pub trees_are : (summary_of r).trees ≡ tried_count q budget
 
-pub is_tried : (q : Plan) (budget : ℕ) (refusal : Option ℕ) (old new : List ℕ) (r : Planned) → IsPlanned q budget refusal old new r
+pub is_tried : (q : Plan) (budget : ℕ) (refusal : Option ℕ) (old new : List ℕ) (r : Result Planned Refusal)
+    → IsPlanned q budget refusal old new r
     → refusal ≡ none → IsTried q budget r
 unfolding floor_of summary
 is_tried q budget refusal old new r i e =
-    let g : verdict_number r.verdict ≡ none = i.verdict ∙ e in
+    let g : verdict_number r ≡ none = i.verdict ∙ e in
     let m = (is_answer _ _ _ _ _ _ i g).multipliers_are in
     record {
       cost_is = cost_is _ _ _ _ _ _ i g;

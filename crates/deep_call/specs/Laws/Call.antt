@@ -1,10 +1,10 @@
 -- The chain of refusals, and the whole call: as the plan call's, with 23 between 9 and 10.
-use Rattle.std.specs.Prelude.{◌≡◌, true, false, List, [], ◌∷◌, ◌++◌, ℕ, ◌≤◌, ◌<◌, length, ltb}
+use Rattle.std.specs.Prelude.{◌≡◌, true, false, List, [], ◌∷◌, ◌++◌, ℕ, ◌≤◌, ◌<◌, length, Result}
 use Rattle.std.proofs.Math.Path.{refl, sym, ap}
 use Rattle.std.proofs.Common.{◌∙◌, subst}
 use Rattle.std.proofs.Math.Option.{Option, none, some, some-ne-none}
 use native.Mathlib.Omega.{arith}
-use borrow.Author.Tests.{lt-ltb, le-ltb}
+use borrow.Author.Tests.{lt-ltb}
 use Rattle.postman.specs.Plan.{Plan, WellFormed}
 use Rattle.postman.specs.Refusal.{Conditions, first_refusal, answer, unless}
 use Rattle.postman.specs.PlanFile.{file_conditions, is_outside, plan_of}
@@ -17,7 +17,7 @@ use Rattle.plan.specs.Records.{plan_value}
 use Rattle.refusal.specs.declared.Refusal.{Refusal}
 use Rattle.refusal.specs.Verdict.{refusal_number}
 use Rattle.plan_file.specs.declared.Reading.{Reading}
-use Rattle.plan_file.specs.Reading.{IsReading}
+use Rattle.plan_file.specs.Reading.{IsReading, plan_in}
 use Rattle.plan_file.specs.Laws.Reading.{accepted_value}
 use Rattle.solution.specs.declared.Planned.{Planned}
 use Rattle.solution.specs.Planned.{count_unless}
@@ -30,7 +30,7 @@ use Rattle.deep_call.specs.Contract.{multipliers_unless, IsDeep, IsDeepCall}
 
 -- ---- one step of the chain
 
-pub deep_as : (p q : Plan) (budget rounds : ℕ) (o o' : Option ℕ) (old new : List ℕ) (x : Planned) → p ≡ q → o ≡ o'
+pub deep_as : (p q : Plan) (budget rounds : ℕ) (o o' : Option ℕ) (old new : List ℕ) (x : Result Planned Refusal) → p ≡ q → o ≡ o'
     → IsDeep p budget rounds o old new x → IsDeep q budget rounds o' old new x
 deep_as p q budget rounds o o' old new x e h i =
     answer_as (λ p o new x. IsDeep p budget rounds o old new x) p q o o' new x e h i
@@ -47,17 +47,17 @@ is_refused p budget rounds old r = record {
   answered = λ e. absurd (some-ne-none (refusal_number r) e);
 }
 
-pub refused_deep : (p : Plan) (budget rounds : ℕ) (o : Option ℕ) (old : List ℕ) (r : Refusal) (x : Planned) → x ≡ refused_with r
-    → o ≡ some (refusal_number r) → IsDeep p budget rounds o old old x
+pub refused_deep : (p : Plan) (budget rounds : ℕ) (o : Option ℕ) (old : List ℕ) (r : Refusal) (x : Result Planned Refusal)
+    → x ≡ refused_with r → o ≡ some (refusal_number r) → IsDeep p budget rounds o old old x
 refused_deep p budget rounds o old r x e h =
     refused_answer (λ p o new x. IsDeep p budget rounds o old new x) old (λ p r. is_refused p budget rounds old r) p o r x e h
 
-pub step_refused : (p : Plan) (budget rounds : ℕ) (cs ds : Conditions) (old : List ℕ) (r : Refusal) (x : Planned) → x ≡ refused_with r
-    → first_refusal cs ≡ some (refusal_number r)
+pub step_refused : (p : Plan) (budget rounds : ℕ) (cs ds : Conditions) (old : List ℕ) (r : Refusal) (x : Result Planned Refusal)
+    → x ≡ refused_with r → first_refusal cs ≡ some (refusal_number r)
     → IsDeep p budget rounds (first_refusal (cs ++ ds)) old old x
 step_refused p budget rounds cs ds old r x e h = refused_deep p budget rounds _ old r x e (first_stop cs ds _ h)
 
-pub step_on : (p : Plan) (budget rounds : ℕ) (cs ds : Conditions) (old new : List ℕ) (x : Planned) → first_refusal cs ≡ none
+pub step_on : (p : Plan) (budget rounds : ℕ) (cs ds : Conditions) (old new : List ℕ) (x : Result Planned Refusal) → first_refusal cs ≡ none
     → IsDeep p budget rounds (first_refusal ds) old new x
     → IsDeep p budget rounds (first_refusal (cs ++ ds)) old new x
 step_on p budget rounds cs ds old new x h i = deep_as p p budget rounds _ _ old new x refl (sym (first_on cs ds h)) i
@@ -68,10 +68,6 @@ module _ (rounds : ℕ) where
   pub few_rounds : rounds < 1 → true ≡ is_outside rounds 1 highest_rounds
   unfolding is_outside
   few_rounds l = let e = lt-ltb rounds 1 l in rw e refl
-
-  pub by_highest : 1 ≤ rounds → ltb 1000 rounds ≡ is_outside rounds 1 highest_rounds
-  unfolding is_outside highest_rounds
-  by_highest l = let e = le-ltb rounds 1 l in rw e refl
 
   pub rounds_refused : is_outside rounds 1 highest_rounds ≡ true → first_refusal (round_conditions rounds) ≡ some 23
   unfolding first_refusal round_conditions
@@ -94,20 +90,20 @@ module _ (rounds : ℕ) where
   rounds_other = (omega arith, tt)
 
 -- from 10 on
-pub last_deep : (p : Plan) (budget rounds : ℕ) (old new : List ℕ) (x : Planned) → WellFormed p
+pub last_deep : (p : Plan) (budget rounds : ℕ) (old new : List ℕ) (x : Result Planned Refusal) → WellFormed p
     → IsDeep p budget rounds (plan_refusal p) old new x → IsDeep p budget rounds (first_refusal (last_conditions p)) old new x
 last_deep p budget rounds old new x w i = deep_as p p budget rounds _ _ old new x refl (sym (parts_refusal p w)) i
 
 -- ---- the whole call
 
-module _ (bytes : List ℕ) (budget rounds : ℕ) (old new : List ℕ) (r : Planned) where
+module _ (bytes : List ℕ) (budget rounds : ℕ) (old new : List ℕ) (r : Result Planned Refusal) where
   abbrev p : Plan
   p = plan_of bytes
 
   abbrev own : Conditions
   own = round_conditions rounds
 
-  abbrev Answered : Plan → Option ℕ → List ℕ → Planned → Type 0
+  abbrev Answered : Plan → Option ℕ → List ℕ → Result Planned Refusal → Type 0
   Answered p o new x = IsDeep p budget rounds o old new x
 
   -- the conditions after the file's
@@ -147,10 +143,10 @@ module _ (bytes : List ℕ) (budget rounds : ℕ) (old new : List ℕ) (r : Plan
       (file_refused_answer Answered old (λ p x. is_refused p budget rounds old x) bytes p (later p) _ x r order e h)
 
   -- one that is not gives its plan
-  pub read_deep : (x : Reading) → IsReading bytes x → first_refusal (file_conditions bytes) ≡ none
-      → Answered (plan_value x.plan) (first_refusal (later (plan_value x.plan))) new r → Called
+  pub read_deep : (x : Result Reading Refusal) → IsReading bytes x → first_refusal (file_conditions bytes) ≡ none
+      → Answered (plan_value (plan_in x)) (first_refusal (later (plan_value (plan_in x)))) new r → Called
   read_deep x h e i =
-      read_answer Answered bytes (plan_value x.plan) (λ p. p) later _ new r order e (accepted_value bytes x h e) i
+      read_answer Answered bytes (plan_value (plan_in x)) (λ p. p) later _ new r order e (accepted_value bytes x h e) i
 
   -- with one round nothing but the plan call's refusals is left
   pub as_call_refusal : first_refusal own ≡ none → deep_refusal bytes budget rounds (length old) ≡ call_refusal bytes budget (length old)

@@ -1,6 +1,6 @@
 -- Calls compared. After one round what is kept is what the plan call answers; after more it is no worse, and once floor and cost have met
 -- it stays.
-use Rattle.std.specs.Prelude.{◌≡◌, true, ℕ, ◌+◌, ◌-◌, ◌≤◌, drop, ◌≤ℤ◌}
+use Rattle.std.specs.Prelude.{◌≡◌, true, ℕ, ◌+◌, ◌-◌, ◌≤◌, drop, ◌≤ℤ◌, Result}
 use Rattle.std.proofs.Math.Path.{refl, sym, ap, ap₂, subst}
 use Rattle.std.proofs.Common.{◌∙◌}
 use mathlib.Core.List.{List, [], ◌∷◌}
@@ -19,8 +19,9 @@ use Rattle.postman.specs.Steps.{Plannable}
 use Rattle.multipliers.specs.Ascent.{multipliers_for}
 use Rattle.multipliers.specs.Drive.{drive_of}
 use Rattle.drive_legs.specs.Drive.{written}
+use Rattle.refusal.specs.declared.Refusal.{Refusal}
 use Rattle.solution.specs.declared.Planned.{Planned}
-use Rattle.solution.specs.Planned.{summary_of, count_unless, IsPlanned}
+use Rattle.solution.specs.Planned.{summary_of, count_unless, IsPlanned, places_of, u_list}
 use Rattle.round_rule.specs.declared.kept.Kept.{Kept}
 use Rattle.round_rule.specs.Rounds.{under, floor_of, begun, have_met, kept_after, kept, deep_summary, deep_drive}
 use Rattle.deep_call.specs.Refusals.{highest_rounds, round_conditions, earlier_conditions_in, deep_refusal}
@@ -32,28 +33,28 @@ use Rattle.deep_call.specs.Laws.Call.{rounds_good, rounds_accepted}
 
 -- ---- what is read off an answer that is no refusal
 
-module _ (p : Plan) (budget rounds : ℕ) (old new : List ℕ) (r : Planned) (i : IsDeep p budget rounds none old new r) where
+module _ (p : Plan) (budget rounds : ℕ) (old new : List ℕ) (r : Result Planned Refusal) (i : IsDeep p budget rounds none old new r) where
   pub summary_deep : summary_of r ≡ deep_summary p budget rounds
   unfolding answer fields
   summary_deep = i.summary_is
 
-  pub cost_deep : r.cost ≡ (kept p budget rounds).cost
+  pub cost_deep : (summary_of r).cost ≡ (kept p budget rounds).cost
   unfolding deep_summary
   cost_deep = ap (λ (x : Summary). x.cost) summary_deep
 
-  pub floor_deep : r.floor ≡ (kept p budget rounds).floor
+  pub floor_deep : (summary_of r).floor ≡ (kept p budget rounds).floor
   unfolding deep_summary
   floor_deep = ap (λ (x : Summary). x.floor) summary_deep
 
-  pub whole_deep : r.whole ≡ have_met (kept p budget rounds)
+  pub whole_deep : (summary_of r).whole ≡ have_met (kept p budget rounds)
   unfolding deep_summary
   whole_deep = ap (λ (x : Summary). x.whole) summary_deep
 
-  pub multipliers_deep : r.multipliers ≡ (kept p budget rounds).multipliers
+  pub multipliers_deep : u_list r ≡ (kept p budget rounds).multipliers
   unfolding multipliers_unless
   multipliers_deep = i.multipliers_are
 
-  pub drive_deep : take r.places new ≡ deep_drive p budget rounds
+  pub drive_deep : take (places_of r) new ≡ deep_drive p budget rounds
   unfolding unless count_unless written
   drive_deep =
       ap₂ take i.places_are i.sheet ∙ take-append_seam (deep_drive p budget rounds) (drop (length (deep_drive p budget rounds)) old)
@@ -120,7 +121,7 @@ module _ (p : Plan) (budget : ℕ) where
   unfolding kept kept_after begun
   first_multipliers = refl
 
-  module _ (old new new' : List ℕ) (r s : Planned) where
+  module _ (old new new' : List ℕ) (r s : Result Planned Refusal) where
     pub same : (o : Option ℕ) → IsDeep p budget 1 o old new r → IsPlanned p budget o old new' s → SameButWhole r s × (new ≡ new')
     unfolding answer fields unless count_unless multipliers_unless summary
     same none i j =

@@ -1,5 +1,5 @@
 -- The drive of the tree that is held is the definition's, and so is the answer that is made of it and of what is kept.
-use Rattle.std.specs.Prelude.{◌≡◌, refl, Bool, List, ℕ, ◌-◌, ◌≤◌, length, ℤ, pos}
+use Rattle.std.specs.Prelude.{◌≡◌, refl, Ok, Bool, List, ℕ, ◌-◌, ◌≤◌, length, ℤ, pos}
 use Rattle.std.proofs.Math.Path.{ap}
 use Rattle.std.proofs.Common.{◌∙◌, arith}
 use Rattle.std.proofs.Math.Option.{none}
@@ -9,7 +9,6 @@ use Rattle.postman.specs.Component.{component_count}
 use Rattle.postman_laws.specs.Laws.RenumberedComponents.{count_renumbered}
 use Rattle.drive_legs.specs.Drive.{written}
 use Rattle.multipliers.specs.Drive.{drive_of}
-use Rattle.refusal.specs.declared.Verdict.TheVariants.{Accepted}
 use Rattle.call_steps.specs.Refusals.{plan_refusal}
 use Rattle.held_tree.specs.declared.laid.Laid.{Laid}
 use Rattle.round_rule.specs.declared.kept.Kept.{Kept}
@@ -51,8 +50,7 @@ module _ (p : Plan) (ok : WellFormed p) (accepted : plan_refusal p ≡ none) (bu
 
   pub laid_best : (f : ℤ) (b : Bool) → f ≡ k.floor → b ≡ le_z (pos k.cost) f
       → IsDeep p budget rounds none old new
-      (record {
-        verdict = Accepted;
+      (Ok (record {
         places = a.places;
         cost = k.cost;
         floor = f;
@@ -60,7 +58,7 @@ module _ (p : Plan) (ok : WellFormed p) (accepted : plan_refusal p ≡ none) (bu
         whole = b;
         parts = a.parts;
         multipliers = k.multipliers;
-      })
+      }))
   laid_best f b ef eb =
       let ac = plan_accepted p ok accepted in
       is_deep p ac.0 ac.1 budget some-trees low rounds few_rounds old new _ (sheet ∙ ap (λ (w : List ℕ). written w old) laid_drive)

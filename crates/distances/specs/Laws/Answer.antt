@@ -1,5 +1,5 @@
 -- What the call answers, by its refusal: one of the file, or one of the pairs of a plan that was read, or none.
-use Rattle.std.specs.Prelude.{◌≡◌, List, ◌++◌, map, ℕ, length, drop}
+use Rattle.std.specs.Prelude.{◌≡◌, List, ◌++◌, map, ℕ, length, drop, Result, Ok, Err}
 use Rattle.std.proofs.Math.Path.{refl, ap, subst⁻¹}
 use Rattle.std.proofs.Common.{sym, ◌∙◌, subst}
 use Rattle.std.proofs.Math.Option.{Option, none, some}
@@ -14,10 +14,8 @@ use Rattle.plan.specs.Laws.Records.{plan_vertices}
 use Rattle.refusal.specs.declared.Refusal.{Refusal}
 use Rattle.refusal.specs.Verdict.{refusal_number}
 use Rattle.plan_file.specs.declared.Reading.{Reading}
-use Rattle.plan_file.specs.Reading.{IsReading}
+use Rattle.plan_file.specs.Reading.{IsReading, plan_in}
 use Rattle.plan_file.specs.Laws.Reading.{accepted_value}
-use Rattle.distances.specs.declared.Searched.{Searched}
-use Rattle.distances.specs.declared.Searched.TheVariants.{Searches, Refused}
 use Rattle.distances.specs.Answer.{searched_answer, IsPage}
 
 -- The refusal of the pairs, by the plan by value.
@@ -26,17 +24,17 @@ pub pairs_refusal : (q : PlanRecord) (pairs : List ℕ) (room : ℕ) {o : Option
 pairs_refusal q pairs room e = ap (λ n. first_refusal (pairs_conditions n pairs room)) (plan_vertices q) ∙ sym e
 
 module _ (p : Plan) (pairs old : List ℕ) where
-  pub refused_page : (o : Option ℕ) (r : Refusal) → o ≡ some (refusal_number r) → IsPage p o pairs old old (Refused r)
+  pub refused_page : (o : Option ℕ) (r : Refusal) → o ≡ some (refusal_number r) → IsPage p o pairs old old (Err r)
   unfolding answer unless
-  refused_page o r e = subst⁻¹ (λ o. IsPage p o pairs old old (Refused r)) e record { answer_is = refl; distances_are = refl }
+  refused_page o r e = subst⁻¹ (λ o. IsPage p o pairs old old (Err r)) e record { answer_is = refl; distances_are = refl }
 
   pub given_page : (o : Option ℕ) (new : List ℕ) (k : ℕ) → o ≡ none → k ≡ search_count pairs
       → new ≡ map (entry p) pairs ++ drop (length pairs) old
-      → IsPage p o pairs old new (Searches k)
+      → IsPage p o pairs old new (Ok k)
   unfolding answer unless
-  given_page o new k e f g = subst⁻¹ (λ o. IsPage p o pairs old new (Searches k)) e record { answer_is = ap given f; distances_are = g }
+  given_page o new k e f g = subst⁻¹ (λ o. IsPage p o pairs old new (Ok k)) e record { answer_is = ap given f; distances_are = g }
 
-module _ (bytes pairs old new : List ℕ) (r : Searched) where
+module _ (bytes pairs old new : List ℕ) (r : Result ℕ Refusal) where
   -- What the distance call promises.
   abbrev IsCall : Type 0
   IsCall = (searched_answer r ≡ distance_answer bytes pairs (length old)) × (new ≡ distances_after bytes pairs old)
@@ -46,8 +44,9 @@ module _ (bytes pairs old new : List ℕ) (r : Searched) where
   page_call h = (h.answer_is, h.distances_are)
 
   -- the rest of the conditions, for a plan that was read
-  pub read_call : (q : Reading) → IsReading bytes q → first_refusal (file_conditions bytes) ≡ none
-      → IsPage (plan_value q.plan) (first_refusal (pairs_conditions (plan_value q.plan).n pairs (length old))) pairs old new r → IsCall
+  pub read_call : (q : Result Reading Refusal) → IsReading bytes q → first_refusal (file_conditions bytes) ≡ none
+      → IsPage (plan_value (plan_in q)) (first_refusal (pairs_conditions (plan_value (plan_in q)).n pairs (length old))) pairs old new r
+      → IsCall
   read_call q i e h =
       let v = accepted_value bytes q i e in
       let g = subst (λ (p : Plan). IsPage p (first_refusal (pairs_conditions p.n pairs (length old))) pairs old new r) v h in
@@ -55,7 +54,7 @@ module _ (bytes pairs old new : List ℕ) (r : Searched) where
 
 -- the file's refusal
 pub refused_call : (bytes pairs old : List ℕ) (r : Refusal) → first_refusal (file_conditions bytes) ≡ some (refusal_number r)
-    → (searched_answer (Refused r) ≡ distance_answer bytes pairs (length old)) × (old ≡ distances_after bytes pairs old)
+    → (searched_answer (Err r) ≡ distance_answer bytes pairs (length old)) × (old ≡ distances_after bytes pairs old)
 refused_call bytes pairs old r e =
-    page_call bytes pairs old old (Refused r)
+    page_call bytes pairs old old (Err r)
     (refused_page (plan_of bytes) pairs old _ r (file_refused bytes pairs (length old) (refusal_number r) e))

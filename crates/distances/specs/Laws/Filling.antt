@@ -22,15 +22,8 @@ use Rattle.distances.specs.Filling.{entry_by, IsPut, IsRowPut, IsSearchPut}
 
 -- ---- one entry
 
-pub entry_read : (source from to old : ℕ) (row : List ℕ) → from ≡ source → get_or row to 0 ≡ entry_by source row from to old
-entry_read source from to old row e = let t = eq-eqb from source e in rw t refl
-
 pub entry_kept : (source from to old : ℕ) (row : List ℕ) → from ≢ source → old ≡ entry_by source row from to old
 entry_kept source from to old row n = let t = ne_eqb from source n in rw t refl
-
-pub entry_as : (source old : ℕ) (row : List ℕ) {from from' to to' : ℕ} → from ≡ from' → to ≡ to'
-    → entry_by source row from to old ≡ entry_by source row from' to' old
-entry_as source old row e f = rw (e, f) refl
 
 -- ---- pair by pair
 
@@ -63,15 +56,7 @@ module _ (new : ℕ → ℕ → ℕ) (pairs old : List ℕ) where
         kept = λ j g. get_or-set_other now k j v 0 (omega arith) ∙ h.kept j (omega arith);
       }
 
-  pub put_end : (now : List ℕ) (k : ℕ) → PutTo now k → length pairs ≤ k → IsPut new pairs old now
-  put_end now k h l = let t = h.turns in
-      record { same = h.same; put = λ j g. h.put j (omega arith); kept = λ j g. h.kept j (omega arith) }
-
 -- ---- search by search
-
-pub pairs_within : (n m : ℕ) (pairs : List ℕ) → n ≤ m → ArePairs n pairs → ArePairs m pairs
-pairs_within n m pairs l h =
-    record { few = h.few; inside = λ k i. let a = (h.inside k i).0 in let b = (h.inside k i).1 in (omega arith, omega arith) }
 
 pub row_put : (p : Plan) (source : ℕ) (row pairs old now : List ℕ) → p.n ≤ 64 → ArePairs p.n pairs → IsRow p source row
     → IsRowPut source row pairs old now

@@ -1,12 +1,14 @@
 -- An entry. The plan call's conditions but 8 stand before 22; where none applies the district goes behind the last one.
-use Rattle.std.specs.Prelude.{◌≡◌, refl, ℕ, ◌+◌, ◌≤◌, ◌<◌, length, set, leb}
+use Rattle.budget.specs.Checks.{checked_of}
+use Rattle.budget.specs.declared.Budget.{Budget}
+use Rattle.std.specs.Prelude.{◌≡◌, refl, Bool, true, false, cond, Result, Ok, Err, ℕ, ◌+◌, ◌≤◌, ◌<◌, length, set, leb}
 use Rattle.std.proofs.Common.{sym, ◌∙◌, arith, le-leb, length-append, length-take-le, T_not}
 use Rattle.std.proofs.Math.Path.{ap}
 use mathlib.Core.List.{List, [], ◌∷◌, ◌++◌, append_assoc, map-append}
 use Rattle.std.proofs.Math.Option.{Option, none, some, some-ne-none}
 use Rattle.std.proofs.lemmas.Bool.{lt-leb}
 use Rattle.postman_laws.specs.Laws.Contradiction.{zero_is_one}
-use Rattle.postman.specs.Plan.{WellFormed}
+use Rattle.postman.specs.Plan.{Plan, WellFormed}
 use Rattle.postman.specs.Refusal.{Conditions, first_refusal}
 use Rattle.postman.specs.PlanFile.{file_conditions, is_outside, plan_of}
 use Rattle.postman.specs.PlanCall.{highest_budget, last_conditions}
@@ -15,14 +17,13 @@ use Rattle.postman_laws.specs.Laws.Acceptance.{file_accepted, inside}
 use Rattle.postman.specs.Laws.Tests.{is_false}
 use Rattle.refusal.specs.declared.Refusal.{Refusal}
 use Rattle.refusal.specs.Verdict.{refusal_number}
-use Rattle.call_steps.specs.Refusals.{budget_refusal}
+use Rattle.call_steps.specs.Refusals.{plan_refusal, budget_refusal}
 use Rattle.call_steps.specs.Laws.Call.{parts_refusal}
 use Rattle.held_file.specs.Padded.{padded}
 use Rattle.held_file.specs.Laws.Held.{held_file, file_short}
 use Rattle.held_file.specs.Laws.Padded.{padded_set}
 use Rattle.district_machine.specs.declared.machine.District.{District as DistrictRecord}
 use Rattle.district_machine.specs.declared.machine.Machine.{Machine}
-use Rattle.district_entry.specs.declared.enter.Admission.TheVariants.{At, Refused}
 use Rattle.postman.specs.Districts.{District, district, Line, entry_conditions, entry_refusal, lowest_free, enter}
 use Rattle.district_machine.specs.Machine.{district_of, waiting_in, line_of, empty_district, machine_of}
 use Rattle.district_entry.specs.Entered.{call_part, entrant, moved_unless, after_entry, IsEntered}
@@ -79,6 +80,17 @@ module _ (bytes : List ℕ) (budget : ℕ) where
         at none q = q
         at (some k) q = absurd (some-ne-none k (sym (entry_refused k q) ∙ e))
 
+-- ---- a budget that is refused
+
+pub budget_stopped : (p : Plan) (n : ℕ) (r : Refusal) → checked_of n ≡ Err r → budget_refusal p n ≡ some (refusal_number r)
+unfolding checked_of budget_refusal
+budget_stopped p n r = at (is_outside n 1 highest_budget)
+  where
+    at : (x : Bool) → cond {A = Result Budget Refusal} x (Err Refusal.Budget) (Ok (record { trees = n })) ≡ Err r
+        → cond x (some 9) (plan_refusal p) ≡ some (refusal_number r)
+    at true e = let q : Refusal.Budget ≡ r = cc in ap (λ (r : Refusal). some (refusal_number r)) q
+    at false e = zero_is_one (cc)
+
 -- ---- what a plan and a budget that are not refused are
 
 module _ (bytes : List ℕ) (budget : ℕ) (e : call_part bytes budget ≡ none) where
@@ -101,7 +113,7 @@ entry_stays m bytes budget k f = rw f refl
 
 pub refused_entered : (m : Machine) (bytes : List ℕ) (budget : ℕ) (r : Refusal)
     → entry_refusal (line_of m) bytes budget ≡ some (refusal_number r)
-    → IsEntered m bytes budget (record { answer = Refused r; machine = m })
+    → IsEntered m bytes budget (record { answer = Err r; machine = m })
 refused_entered m bytes budget r f = record {
   refusal = sym f;
   place = λ q a. (zero_is_one (cc));
@@ -123,7 +135,7 @@ pub admitted : (m : Machine) (bytes : List ℕ) (budget place : ℕ) → length 
     → call_part bytes budget ≡ none → (line : List DistrictRecord) (d : DistrictRecord)
     → line ≡ padded 8 empty_district (waiting_in m) → d ≡ entrant place bytes budget
     → IsEntered m bytes budget
-    (record { answer = At place; machine = record { line = set line m.waiting d; waiting = m.waiting + 1 } })
+    (record { answer = Ok place; machine = record { line = set line m.waiting d; waiting = m.waiting + 1 } })
 admitted m bytes budget place long few p e line d el ed =
     let good = entry_good bytes budget (line_of m) e (room m.line m.waiting long few) in
     let x = entrant (lowest_free (line_of m)) bytes budget in

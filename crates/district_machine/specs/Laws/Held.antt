@@ -1,8 +1,10 @@
 -- The districts of a machine, in an array. A place is taken if one of them has it; and those that a machine is made of wait in it.
-use Rattle.std.specs.Prelude.{◌≡◌, refl, ◌≢◌, true, false, List, [], ◌∷◌, ◌++◌, map, ℕ, zero, suc, ◌+◌, ◌-◌, ◌≤◌, ◌<◌, min, length, get_or, take, drop, set, replicate, eqb}
+use Rattle.std.specs.Prelude.{◌≡◌, refl, ◌≢◌, Bool, true, false, List, [], ◌∷◌, ◌++◌, map, ℕ, zero, suc, ◌+◌, ◌-◌, ◌≤◌, ◌<◌, min, length, get_or, take, drop, set, replicate, eqb}
+use Rattle.std.specs.Bool.{MatchBool}
+use Rattle.std.specs.List.{HoldsAt, AllWithin}
 use Rattle.std.proofs.Common.{sym, ap, ◌∙◌, arith, length-append, length-take, length-drop, length-take-le, eqb→eq}
 use Rattle.std.proofs.Math.Bool.{or-true}
-use Rattle.std.proofs.lemmas.List.{length-map}
+use Rattle.std.proofs.lemmas.List.{length-map, get_or-take}
 use Rattle.std.proofs.Math.Seq.{take-append_seam}
 use Rattle.postman.specs.Lists.{occurs, any_of}
 use Rattle.postman.specs.Laws.Tests.{is_true, is_false, eqb_same}
@@ -34,6 +36,40 @@ some_taken q (x ∷ xs) (suc n) zero l m e =
     rw t
 some_taken q (x ∷ xs) (suc n) (suc i) l m e = rw (some_taken q xs n i (omega arith) (omega arith) e) (or-true (eqb q x.place))
 
+-- what a call of `any` over the first n says
+pub any_taken : (q : ℕ) (line : List DistrictRecord) (n : ℕ) → n ≤ length line → (b : Bool)
+    → MatchBool b ((k : ℕ) × (k < length (take n line)) × HoldsAt (λ (d : DistrictRecord). d.place ≡ q) (take n line) k)
+    (AllWithin (λ (d : DistrictRecord). d.place ≢ q) (take n line) 0 (length (take n line)))
+    → b ≡ occurs q (places (districts_in line n))
+any_taken q line n l true h =
+    let size = length-take-le n line l in
+    let m : h.0 < n = omega arith in
+    sym (some_taken q line n h.0 m (omega arith) (rw (get_or-take n line h.0 no_district m) at (h.2 no_district)))
+any_taken q line n l false h =
+    let size = length-take-le n line l in
+    sym (none_taken q line n (λ j m. rw (get_or-take n line j no_district m) at (h j no_district (omega arith) (omega arith))) l)
+
+-- ---- lined up
+
+behind : {A : Type 0} (z : A) (n m : ℕ) → drop n (replicate m z) ≡ replicate (m - n) z
+behind z zero m = ap (λ (k : ℕ). replicate k z) (let e : m ≡ m - 0 = omega arith in e)
+behind z (suc n) zero = ap (λ (k : ℕ). replicate k z) (let e : 0 ≡ 0 - suc n = omega arith in e)
+behind z (suc n) (suc m) = behind z n m ∙ ap (λ (k : ℕ). replicate k z) (let e : m - n ≡ suc m - suc n = omega arith in e)
+
+-- districts that are copied over an array in which there is none
+pub copied : (line x : List DistrictRecord) (from n : ℕ) (z : DistrictRecord) → length line ≡ 8 → from + n ≤ 8
+    → x ≡ take (from + n - from) (drop from line) → z ≡ empty_district
+    → x ++ drop n (replicate 8 z) ≡ padded 8 empty_district (take n (drop from line))
+copied line x from n z long room e f =
+    let k : from + n - from ≡ n = omega arith in
+    let xs = take n (drop from line) in
+    let t : x ≡ xs = e ∙ ap (λ j. take j (drop from line)) k in
+    let d = length-drop from line in
+    let size = length-take-le n (drop from line) (omega arith) in
+    ap (λ (y : DistrictRecord). x ++ drop n (replicate 8 y)) f
+    ∙ ap (λ (r : List DistrictRecord). r ++ drop n (replicate 8 empty_district)) t
+    ∙ ap (λ (r : List DistrictRecord). xs ++ r) (behind empty_district n 8 ∙ ap (λ j. replicate (8 - j) empty_district) (sym size))
+
 -- ---- how many
 
 pub line_length : (line : List DistrictRecord) (n : ℕ) → length line ≡ 8 → length (districts_in line n) ≡ min n 8
@@ -41,10 +77,6 @@ line_length line n long = length-map (take n line) district_of ∙ length-take n
 
 pub room : (line : List DistrictRecord) (n : ℕ) → length line ≡ 8 → n < 8 → length (districts_in line n) < 8
 room line n long few = let size = line_length line n long in omega arith
-
--- an array's length is told of the list of its elements' fields
-pub array_length : {B : Type 0} (f : DistrictRecord → B) (line : List DistrictRecord) (n : ℕ) → length (map f line) ≡ n → length line ≡ n
-array_length f line n e = sym (length-map line f) ∙ e
 
 -- ---- the front one
 

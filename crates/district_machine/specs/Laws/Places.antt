@@ -1,17 +1,19 @@
 -- A free place: a list that holds each of n numbers is at least n long, so that fewer than eight districts leave a place free; and the
 -- lowest free place is free, and no other free one is below it.
-use Rattle.std.specs.Prelude.{◌≡◌, ◌≢◌, Bool, not, ℕ, zero, suc, ◌+◌, ◌≤◌, ◌<◌, length, T}
-use Rattle.std.proofs.Common.{sym, ◌∙◌, subst, inl, inr, arith, T_not, lt→ltb, nltb→le}
+use Rattle.std.specs.Prelude.{Option, None, Some, cond, ◌≡◌, ◌≢◌, Bool, not, ℕ, zero, suc, ◌+◌, ◌≤◌, ◌<◌, length, T}
+use Rattle.std.specs.List.{find, range_with_len}
+use Rattle.std.specs.Option.{option_map}
+use Rattle.std.proofs.Common.{ap, ◌∙◌, zero-add, add-one, subst, inl, inr, arith, T_not, lt→ltb, nltb→le}
 use Rattle.std.proofs.Math.Bool.{true, false}
 use mathlib.Core.List.{List, Memᴰ}
 use Rattle.std.proofs.lemmas.List.{length-map}
 use Rattle.std.proofs.Math.Dec.{ltb, ltb→lt}
-use Rattle.postman.specs.Lists.{below, occurs, any_of}
-use Rattle.postman.specs.Laws.Tests.{test, not_not, is_true, is_false, of_true}
+use Rattle.postman.specs.Lists.{up_from, below, first_index, occurs, any_of}
+use Rattle.postman.specs.Laws.Tests.{test, not_not, is_true, is_false}
 use Rattle.postman.specs.Laws.Membership.{any_of_at, any_of_not, mem_below, below_mem, mem_map}
 use Rattle.postman_laws.specs.Laws.Distinct.{mem_occurs, occurs_mem}
 use Rattle.postman_laws.specs.Laws.Pick.{pick_of_mem, pick_length, pick_cases}
-use Rattle.postman_laws.specs.Laws.FirstNumber.{first_lt, first_le, first_test}
+use Rattle.postman_laws.specs.Laws.FirstNumber.{first_lt, first_test}
 use Rattle.postman.specs.Districts.{District, Line, places, lowest_free}
 use Rattle.district_machine.specs.Places.{lowest_below}
 
@@ -45,10 +47,6 @@ module _ (l : Line) (few : length l < 8) where
   unfolding lowest_free
   is_free = first_test free 8 free_small
 
-  is_lowest : (q : ℕ) → q < 8 → T (free q) → lowest_free l ≤ q
-  unfolding lowest_free
-  is_lowest q m t = first_le free 8 m t
-
   pub free_other : (d : District) → Memᴰ d l → d.place ≢ lowest_free l
   free_other d m e =
       T_not (occurs (lowest_free l) (places l)) is_free
@@ -70,40 +68,35 @@ module _ (l : Line) (few : length l < 8) where
   pub from_none : lowest_below l 0 ≡ 8
   from_none = none_below 0 (omega arith)
 
-  pub at_last : lowest_below l 8 ≡ lowest_free l
-  at_last = one_below 8 free_small
-
-  pub at_most_lem : (q : ℕ) → lowest_below l q ≤ 8
-  at_most_lem q = elim (test (ltb (lowest_free l) q)) [
-    | inl t ↦ (let e = one_below q (ltb→lt (lowest_free l) q t) in let s = free_small in omega arith)
-    | inr t ↦ (let e = none_below q (nltb→le (lowest_free l) q t) in omega arith)
-  ]
-
   not_found : (q : ℕ) → lowest_below l q ≡ 8 → q ≤ lowest_free l
   not_found q e = elim (test (ltb (lowest_free l) q)) [
     | inl t ↦ (let a = one_below q (ltb→lt (lowest_free l) q t) in let s = free_small in absurd (omega arith))
     | inr t ↦ nltb→le (lowest_free l) q t
   ]
 
-  pub already : (q : ℕ) → lowest_below l q ≢ 8 → lowest_below l q ≡ lowest_below l (q + 1)
-  already q n = elim (test (ltb (lowest_free l) q)) [
-    | inl t ↦ (let m = ltb→lt (lowest_free l) q t in one_below q m ∙ sym (one_below (q + 1) (omega arith)))
-    | inr t ↦ absurd (n (none_below q (nltb→le (lowest_free l) q t)))
-  ]
+-- ---- a search from 0 on
 
-  pub taken_there : (q : ℕ) → lowest_below l q ≡ 8 → occurs q (places l) ≡ true → 8 ≡ lowest_below l (q + 1)
-  taken_there q e t =
-      let m = not_found q e in
-      let other : lowest_free l ≢ q = λ s. T_not (occurs q (places l)) (subst (λ x. T (free x)) s is_free) (of_true t) in
-      sym (none_below (q + 1) (past other m))
-    where
-      past : {a b : ℕ} → a ≢ b → b ≤ a → b + 1 ≤ a
-      past n l = omega (arith, n)
+-- the first number from a on that passes
+find_step : (b : Bool) (a n x : ℕ) (rest : Option ℕ) → cond b 0 (suc x) < suc n → (x < n → rest ≡ Some (suc a + x))
+    → cond b (Some a) rest ≡ Some (a + cond b 0 (suc x))
+find_step true a n x rest l h = ap Some (let e : a ≡ a + 0 = omega arith in e)
+find_step false a n x rest l h = h (omega arith) ∙ ap Some (let e : suc a + x ≡ a + suc x = omega arith in e)
 
-  pub free_there : (q : ℕ) → q < 8 → lowest_below l q ≡ 8 → occurs q (places l) ≡ false → q ≡ lowest_below l (q + 1)
-  free_there q m e t =
-      let a = not_found q e in
-      let free_q : T (free q) = rw t tt in
-      let b = is_lowest q m free_q in
-      let s : q ≡ lowest_free l = omega arith in
-      s ∙ sym (one_below (q + 1) (omega arith))
+find_from : (f : ℕ → Bool) (a n : ℕ) → first_index f (up_from a n) < n
+    → find f (range_with_len a n) ≡ Some (a + first_index f (up_from a n))
+unfolding first_index up_from
+find_from f a zero l = absurd (omega arith)
+find_from f a (suc n) l =
+    rw add-one (find_step (f a) a n (first_index f (up_from (suc a) n)) (find f (range_with_len (suc a) n)) l (find_from f (suc a) n))
+
+pub lowest_found : (l : Line) → length l < 8 → (r : Option ℕ)
+    → option_map (λ (q : ℕ). q) r ≡ find (λ q. not (occurs q (places l))) (range_with_len 0 8)
+    → r ≡ Some (lowest_free l)
+unfolding lowest_free below
+lowest_found l few None e = absurd (is_none_some (e ∙ find_from (λ q. not (occurs q (places l))) 0 8 (free_small l few)))
+  where
+    is_none_some : {x : ℕ} → ◌≡◌ {A = Option ℕ} None (Some x) → ⊥
+    is_none_some e = cc
+lowest_found l few (Some x) e =
+    e ∙ find_from (λ q. not (occurs q (places l))) 0 8 (free_small l few)
+    ∙ ap Some (zero-add (first_index (λ q. not (occurs q (places l))) (up_from 0 8)))

@@ -5,7 +5,7 @@ use Rattle.std.proofs.Common.{sym, ap, ap₂, ◌∙◌, subst, arith, length-ta
 use Rattle.std.proofs.Math.Path.{subst⁻¹}
 use Rattle.std.proofs.Math.Bool.{true, false}
 use Rattle.std.proofs.Math.Option.{Option, none}
-use borrow.Author.Tests.{eq-eqb, ne_eqb, lt-ltb, le-ltb, le-leb, lt-leb}
+use borrow.Author.Tests.{eq-eqb, ne_eqb, lt-ltb, le-ltb, lt-leb}
 use Rattle.std.proofs.lemmas.List.{length-map}
 use Rattle.std.proofs.Math.Seq.{take-append_seam}
 use Rattle.residual_search.specs.Step.{arcs_of}
@@ -24,7 +24,7 @@ use Rattle.tree_search.specs.declared.trees.Reached.{Reached}
 use Rattle.tree_search.specs.declared.trees.Resumed.{Resumed}
 use Rattle.tree_search.specs.Resumed.{links_by, held_after, IsResumed, HoldsTree}
 use Rattle.postman.specs.Refusal.{is_good}
-use Rattle.district_turn.specs.DistrictTurn.{same_links, is_tree, is_holding, is_resumable, reached_after, is_last, so_far, last_answer, last_sheet, IsDistrictTurn}
+use Rattle.district_turn.specs.DistrictTurn.{same_links, is_tree, is_holding, is_resumable, reached_after, is_last, so_far, IsDistrictTurn}
 use Rattle.district_turn.specs.declared.plan_turn.DistrictTurn.{DistrictTurn}
 use Rattle.postman.specs.Steps.{Plannable}
 use Rattle.required.specs.StepContracts.{IsLinks, IsComponents}
@@ -32,9 +32,6 @@ use Rattle.drive_legs.specs.Filled.{links_of}
 use Rattle.drive_legs.specs.Laws.Laid.{links_tails, links_heads}
 use Rattle.branches.specs.Links.{links_in}
 use Rattle.multipliers.specs.Laws.Lay.{arcs_links}
-use Rattle.drive_legs.specs.Drive.{written}
-use Rattle.multipliers.specs.Drive.{tree_drive}
-use Rattle.solution.specs.Concluded.{concluded}
 use Rattle.tree_search.specs.Laws.BestTree.{tree_small}
 use Rattle.tree_search.specs.Laws.Resumed.{HoldsCost, on_priced}
 use Rattle.tree_check.specs.Tree.{IsHeldTree}
@@ -142,19 +139,6 @@ module _ (p : Plan) (budget : ℕ) (g : Reached) (can : Bool) (old : List ℕ) (
     sheet = λ x. absurd (clash r.done x d);
   }
 
-  pub is_last_lem : can ≡ true → is_last p budget g ≡ true → r.good ≡ true → r.done ≡ true → r.planned ≡ last_answer p budget g
-      → (new : List ℕ) → new ≡ last_sheet p budget g old
-      → IsDistrictTurn p budget g can old new r
-  is_last_lem c l a d s new w = record {
-    good = a ∙ sym c;
-    done = d ∙ sym (and_yes can (is_last p budget g) c l);
-    held = λ x y. absurd (clash r.done d y);
-    going = λ x y. absurd (clash r.done d y);
-    last = λ x. s;
-    unwritten = λ x. absurd (clash r.done d x);
-    sheet = λ x. w;
-  }
-
 -- a plan that is not refused
 pub as_good : (p : Plan) (budget : ℕ) (g : Reached) (o : Option ℕ) (can : Bool) (old new : List ℕ) (r : DistrictTurn) → o ≡ none
     → IsDistrictTurn p budget g can old new r → IsDistrictTurn p budget g (is_good o && can) old new r
@@ -175,9 +159,6 @@ module _ (p : Plan) (ok : Plannable p) (few : component_count p ≤ 8) (budget :
 
   pub going_on : g.tried < r.total → r.tried < r.total → is_last p budget g ≡ false
   going_on l m = let a = h.total in let b = h.tried in lt-leb (tried_count p budget) (g.tried + 1000) (omega arith)
-
-  pub at_end : g.tried < r.total → r.total ≤ r.tried → is_last p budget g ≡ true
-  at_end l m = let a = h.total in let b = h.tried in le-leb (tried_count p budget) (g.tried + 1000) (omega arith)
 
   -- a tree and its cost
   pub priced_after : is_holding p g ≡ true → g.tried < r.total → HoldsCost p ok (held_after p budget g)
@@ -227,13 +208,6 @@ module _ (p : Plan) (ok : Plannable p) (few : component_count p ≤ 8) (budget :
         (sym (links_heads (take m r.tails) (take m r.heads) same_size) ∙ ap (map (λ (l : Link). l.head)) links_of_lem) in
         let en = k.3 ∙ h.tried in
         λ i. record { cost = ec i; tails = et i; heads = eh i; tried = en i }
-
-  -- what is answered, and what is written
-  pub answered_after : concluded p (links_in m r.tails r.heads) r.cost r.total r.whole ≡ last_answer p budget g
-  answered_after = λ i. concluded p (h.links_are i) (h.cost_is i) (h.total i) (h.whole i)
-
-  pub written_after : (old : List ℕ) → written (tree_drive p (links_in m r.tails r.heads)) old ≡ last_sheet p budget g old
-  written_after old = ap (λ (t : List Link). written (tree_drive p t) old) h.links_are
 
 -- ---- links that are kept are held
 

@@ -1,5 +1,5 @@
 -- The links that are held for a plan that is prepared: as many as it has components but one, in arrays of eight.
-use Rattle.std.specs.Prelude.{◌≡◌, Bool, List, ℕ, ◌-◌, ◌≤◌, length, take}
+use Rattle.std.specs.Prelude.{◌≡◌, Bool, List, ℕ, ◌-◌, length, take}
 use Rattle.std.proofs.Common.{sym, ap, ◌∙◌, subst, arith, length-take}
 use Rattle.postman.specs.Plan.{Plan}
 use Rattle.postman.specs.Component.{component_count}
@@ -23,9 +23,6 @@ module _ (p : Plan) (table : List (List ℕ)) (r : Preparation) (h : IsPreparati
 
   same_count : n ≡ component_count p - 1
   same_count = ap (λ k. k - 1) h.network.components.all
-
-  pub held_fit : (xs : List ℕ) → length xs ≡ 8 → n ≤ length xs
-  held_fit xs l = let c = (component_range p table r h).1 in omega arith
 
   pub held_length : (xs : List ℕ) → length xs ≡ 8 → n ≡ length (take n xs)
   held_length xs l = let c = (component_range p table r h).1 in let e = length-take n xs in omega arith

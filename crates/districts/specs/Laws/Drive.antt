@@ -1,6 +1,6 @@
 -- The last turn of any machine's front district: it can be gone on with, so that its plan has drives and what it
 -- holds after the turn is a tree and its cost.
-use Rattle.std.specs.Prelude.{◌≡◌, Bool, true, false, not, cond, ◌&&◌, List, ◌∷◌, ℕ, ◌-◌, ◌≤◌, min, T, leb, ltb, length, drop}
+use Rattle.std.specs.Prelude.{◌≡◌, Bool, true, false, not, cond, ◌&&◌, List, ◌∷◌, ℕ, ◌-◌, ◌≤◌, min, T, leb, ltb, length, drop, Result, Ok}
 use Rattle.std.proofs.Math.Path.{refl, sym, ap, subst⁻¹}
 use Rattle.std.proofs.Common.{◌∙◌, arith, ltb→lt}
 use Rattle.std.proofs.Math.Option.{Option, none, some}
@@ -20,6 +20,7 @@ use Rattle.multipliers.specs.Drive.{tree_drive}
 use Rattle.multipliers.specs.Laws.Drive.{tree_drive_lem}
 use Rattle.call_steps.specs.Refusals.{plan_refusal}
 use Rattle.call_steps.specs.Laws.Call.{parts_refusal}
+use Rattle.refusal.specs.declared.Refusal.{Refusal}
 use Rattle.solution.specs.declared.Planned.{Planned}
 use Rattle.tree_search.specs.declared.trees.Reached.{Reached}
 use Rattle.tree_search.specs.Resumed.{links_by, held_after}
@@ -79,7 +80,7 @@ module _ (d : DistrictRecord) (can : can_be_served d ≡ true) where
   abbrev drive : List ℕ
   drive = tree_drive p (held_after p d.budget g).links
 
-  pub last_drive : (old : List ℕ) → HoldsDrive p (last_sheet p d.budget g old) (last_answer p d.budget g)
+  pub last_drive : (old : List ℕ) → HoldsDrive p (last_sheet p d.budget g old) (Ok (last_answer p d.budget g))
   unfolding written
   last_drive old =
       let t = tree_drive_lem p plan.0 plan.1 (held_after p d.budget g).links priced.0 in
@@ -118,4 +119,4 @@ module _ (m : Machine) (old new : List ℕ) (r : Turned) (t : IsTurned m old new
       let q : k ≡ meeting_in m.waiting (length old) (d ∷ ds) = ap (meeting_in m.waiting (length old)) w in
       let x : HoldsDrive (plan_by d) (sheet_after k old) (answer_of k) = subst⁻¹ Drives q met_drives (sym (ap had_last t.outcome) ∙ e) in
       subst⁻¹ (λ (y : List ℕ). HoldsDrive (plan_by d) y r.planned) t.sheet
-      (subst⁻¹ (λ (y : Planned). HoldsDrive (plan_by d) (sheet_after k old) y) t.planned x)
+      (subst⁻¹ (λ (y : Result Planned Refusal). HoldsDrive (plan_by d) (sheet_after k old) y) t.planned x)

@@ -1,6 +1,6 @@
 -- A district that has its turn. It is under way, so that the plan call on its plan and budget is not
 -- refused; and these are what it entered with.
-use Rattle.std.specs.Prelude.{◌≡◌, refl, ℕ, ◌≤◌, length, get_or}
+use Rattle.std.specs.Prelude.{◌≡◌, refl, ℕ, ◌≤◌, length, get_or, Result, Ok}
 use Rattle.std.proofs.Common.{sym, ap, ◌∙◌, subst, arith}
 use Rattle.std.proofs.Math.Path.{subst⁻¹}
 use mathlib.Core.List.{List, [], ◌∷◌, map, Memᴰ}
@@ -9,6 +9,7 @@ use Rattle.postman.specs.PlanFile.{plan_of}
 use Rattle.postman.specs.PlanCall.{sheet_places, highest_budget, call_refusal}
 use Rattle.postman_laws.specs.Laws.Acceptance.{file_accepted}
 use Rattle.budget.specs.Laws.{within}
+use Rattle.refusal.specs.declared.Refusal.{Refusal}
 use Rattle.solution.specs.declared.Planned.{Planned}
 use Rattle.planner.specs.Contract.{IsPlanCall}
 use Rattle.solution.specs.Planned.{IsPlanned}
@@ -60,7 +61,7 @@ module _ (m : Machine) (old new : List ℕ) (r : Turned) (t : IsTurned m old new
   front_turn (going f ds w s u q k) = subst (λ (d : District). IsServed d old new r) (same f ds w) (record {
     going = λ g. (
       t.outcome ∙ ap outcome_of k,
-      t.planned ∙ ap answer_of k ∙ (λ i. so_far (cost_now f u q i) (tried_now f u q i)),
+      t.planned ∙ ap answer_of k ∙ (λ i. Ok (so_far (cost_now f u q i) (tried_now f u q i))),
       t.sheet
           ∙ ap (λ (x : Meeting). sheet_after x old) k,
     );
@@ -70,14 +71,14 @@ module _ (m : Machine) (old new : List ℕ) (r : Turned) (t : IsTurned m old new
     going = λ g. absurd (clash (finishes (district_of f)) q g);
     last = λ g. (
       t.outcome ∙ ap outcome_of k,
-      subst⁻¹ (λ (x : Planned). IsPlanned (plan_of (bytes_of f)) f.budget none old new x) (t.planned ∙ ap answer_of k)
+      subst⁻¹ (λ (x : Result Planned Refusal). IsPlanned (plan_of (bytes_of f)) f.budget none old new x) (t.planned ∙ ap answer_of k)
           (last_planned f u q old new (t.sheet ∙ ap (λ (x : Meeting). sheet_after x old) k)),
     );
   })
 
 -- its answer is the plan call's
-pub as_call : (bytes bytes' : List ℕ) (budget budget' : ℕ) (old new new' : List ℕ) (r s : Planned) → bytes ≡ bytes' → budget ≡ budget'
-    → call_refusal bytes budget (length old) ≡ none
+pub as_call : (bytes bytes' : List ℕ) (budget budget' : ℕ) (old new new' : List ℕ) (r s : Result Planned Refusal)
+    → bytes ≡ bytes' → budget ≡ budget' → call_refusal bytes budget (length old) ≡ none
     → IsPlanned (plan_of bytes) budget none old new r → IsPlanCall bytes' budget' old new' s → SameAnswer r s × (new ≡ new')
 as_call bytes bytes' budget budget' old new new' r s eb en good h g =
     let g' : IsPlanCall bytes budget old new' s =

@@ -100,10 +100,6 @@ turns_now n l e q = cond (enters_at q l e) 0 (cond (is_turn_of q l e) 1 0 + n q)
 not_same : {i j : ℕ} → i ≢ j → eqb i j ≡ false
 not_same {i} {j} h = is_false (λ t. h (eqb→eq i j t))
 
-and_false : (b : Bool) → (b && false) ≡ false
-and_false true = refl
-and_false false = refl
-
 module _ (last : ℕ → Entry) (n : ℕ → ℕ) where
   -- as it was, for a district that does not enter and has no turn
   stays : (l : Line) (e : Event) (d : District) → enters_at d.place l e ≡ false → is_turn_of d.place l e ≡ false

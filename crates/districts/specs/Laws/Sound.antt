@@ -1,7 +1,7 @@
 -- Machines that entries and turns lead to: each district holds the best of the trees that it has tried. So its front
 -- district can be gone on with, its turn is its last one or leaves it with 1,000 trees more, and the line then is the
 -- definition's, by cases on whether it finishes.
-use Rattle.std.specs.Prelude.{◌≡◌, Bool, true, false, not, ℕ, ◌+◌, ◌-◌, ◌≤◌, ◌<◌, min, length, eqb, ltb}
+use Rattle.std.specs.Prelude.{◌≡◌, Bool, true, false, not, ℕ, ◌+◌, ◌-◌, ◌≤◌, ◌<◌, min, length, eqb, ltb, Ok}
 use Rattle.std.proofs.Math.Path.{refl, ap, subst⁻¹}
 use Rattle.std.proofs.Common.{sym, ◌∙◌, subst, inl, inr, length-append}
 use mathlib.Core.List.Memᴰ
@@ -131,7 +131,7 @@ module _ (d : DistrictRecord) (u : IsUnderWay d) where
 
   -- ITS LAST TURN
   pub last_planned : finishes (district_of d) ≡ true → (old new : List ℕ) → new ≡ last_sheet p d.budget g old
-      → IsPlanned p d.budget none old new (last_answer p d.budget g)
+      → IsPlanned p d.budget none old new (Ok (last_answer p d.budget g))
   unfolding finishes total
   last_planned f old new h =
       let b = below in

@@ -1,6 +1,6 @@
 -- WHAT ENTRIES AND TURNS PROMISE, in any order from the empty machine, accepted or not. The machine after any run of them has the run's
 -- line (`Laws.Led.led`), so that what is said of lines is said of machines.
-use Rattle.std.specs.Prelude.{◌≡◌, refl, true, ℕ, suc, ◌+◌, ◌*◌, ◌≤◌, ◌<◌, length, T}
+use Rattle.std.specs.Prelude.{◌≡◌, refl, true, ℕ, suc, ◌+◌, ◌*◌, ◌≤◌, ◌<◌, length, T, Result}
 use Rattle.std.proofs.Math.Path.{ap, subst⁻¹}
 use Rattle.std.proofs.Common.{◌∙◌, subst}
 use mathlib.Core.List.{List, [], ◌∷◌, map, Memᴰ}
@@ -8,6 +8,7 @@ use native.Mathlib.Omega.{arith}
 use Rattle.std.proofs.Math.Dec.{leb→le}
 use Rattle.postman.specs.PlanCall.{sheet_places}
 use Rattle.postman.specs.Laws.Membership.{mem_map}
+use Rattle.refusal.specs.declared.Refusal.{Refusal}
 use Rattle.solution.specs.declared.Planned.{Planned}
 use Rattle.planner.specs.Contract.{IsPlanCall}
 use Rattle.solution.specs.SameAnswer.{SameAnswer}
@@ -124,7 +125,7 @@ module _ (es : List Event) (m : Machine) (h : Led es m) where
       -- "A district's answer equals one plan call with its budget, however many turns it took": in its last turn its place
       -- is answered, and what is answered and written is what one plan call gives for the plan and the budget that it
       -- entered with, whatever came in between.
-      pub finished_as_plan_call : finishes d ≡ true → (new' : List ℕ) (s : Planned)
+      pub finished_as_plan_call : finishes d ≡ true → (new' : List ℕ) (s : Result Planned Refusal)
           → IsPlanCall (last_entry d.place es).bytes (last_entry d.place es).budget old new' s
           → (r.outcome ≡ Finished d.place) × SameAnswer r.planned s × (new ≡ new')
       finished_as_plan_call f new' s g =

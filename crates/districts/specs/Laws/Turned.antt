@@ -1,5 +1,5 @@
 -- A turn, by what it meets. Each test that the program makes decides one of the cases.
-use Rattle.std.specs.Prelude.{◌≡◌, Bool, cond, ◌&&◌, List, [], ◌∷◌, ◌++◌, map, ℕ, ◌≤◌, ◌<◌, length, get_or, drop, leb}
+use Rattle.std.specs.Prelude.{◌≡◌, Bool, cond, ◌&&◌, List, [], ◌∷◌, ◌++◌, map, ℕ, ◌≤◌, ◌<◌, length, get_or, drop, leb, Ok}
 use Rattle.std.proofs.Math.Path.{refl}
 use Rattle.std.proofs.Common.{sym, ap, ◌∙◌, subst, arith, length-drop, length-take-le, ltb→lt}
 use Rattle.std.proofs.Math.Bool.{true, false, not, or-true}
@@ -101,10 +101,10 @@ module _ (m : Machine) (f : DistrictRecord) (ds : List DistrictRecord) (ahead : 
       at : (b : Bool) → s.done ≡ b → IsTurned m old new r
       at true d =
           turned_as m old new r (leaves f ds) (last_met m f ds ahead (length old) enough few own can (sym whether ∙ d))
-          (a.last d).0 (a.planned ∙ st.last d) ((a.last d).1 ∙ e) (st.sheet d)
+          (a.last d).0 (a.planned ∙ ap Ok (st.last d)) ((a.last d).1 ∙ e) (st.sheet d)
       at false d =
           turned_as m old new r (goes_on f ds) (going_met m f ds ahead (length old) enough few own can (sym whether ∙ d))
-          (a.going d).0 (a.planned ∙ st.going g d)
+          (a.going d).0 (a.planned ∙ ap Ok (st.going g d))
           ((a.going d).1 ds e ∙ ap (λ (x : Reached). machine_of (ds ++ held_now f x ∷ [])) (st.held g d)) (st.unwritten d)
 
 -- ---- its place

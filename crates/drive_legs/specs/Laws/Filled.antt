@@ -1,9 +1,10 @@
 -- Stores at the end of the part that is filled.
-use Rattle.std.specs.Prelude.{◌≡◌, refl, ℕ, suc, ◌+◌, ◌-◌, ◌/◌, ◌%◌, ◌≤◌, ◌<◌, length, get_or, take, set, replicate}
-use Rattle.std.proofs.Common.{sym, ap, ◌∙◌, subst, add-zero, zero-add, arith, length-append, take-suc-set}
+use Rattle.std.specs.Prelude.{◌≡◌, refl, ℕ, ◌+◌, ◌-◌, ◌/◌, ◌%◌, ◌≤◌, ◌<◌, length, get_or, take, drop, replicate}
+use Rattle.std.proofs.Common.{sym, ap, ◌∙◌, subst, add-zero, zero-add, arith, length-append, length-drop, length-take-le}
 use Rattle.std.proofs.Math.Path.{subst⁻¹}
+use Rattle.std.proofs.Math.Seq.{take-append_seam}
 use mathlib.Core.List.{List, [], ◌∷◌, ◌++◌, map, flat_map, append_assoc, map-append, append-nil}
-use Rattle.std.proofs.lemmas.List.{replicate-append-replicate, length-replicate, length-map}
+use Rattle.std.proofs.lemmas.List.{length-replicate, length-map}
 use Rattle.postman.specs.Lists.{below, up_from}
 use Rattle.postman.specs.Link.{Link}
 use Rattle.postman_laws.specs.Laws.Lists.{flat_map_append}
@@ -16,15 +17,25 @@ use Rattle.hierholzer.specs.Laws.Lists.{map_replicate}
 pub extends_none : (old : List ℕ) (n : ℕ) → take (n + 0) old ≡ take n old ++ []
 extends_none old n = ap (λ z. take z old) (add-zero n) ∙ sym (append-nil (take n old))
 
--- one element more
-pub extends_one : (old new xs : List ℕ) (n i a : ℕ) → take (n + i) xs ≡ take n old ++ new → n + i < length xs
-    → take (n + (i + 1)) (set xs (n + i) a) ≡ take n old ++ (new ++ a ∷ [])
-extends_one old new xs n i a h l =
-    let e : n + (i + 1) ≡ suc (n + i) = omega arith in
-    ap (λ z. take z (set xs (n + i) a)) e ∙ take-suc-set xs (n + i) a l ∙ ap (λ z. z ++ a ∷ []) h ∙ append_assoc (take n old) new (a ∷ [])
-
-pub replicate_one : (i a : ℕ) → replicate i a ++ a ∷ [] ≡ replicate (i + 1) a
-replicate_one i a = replicate-append-replicate i 1 a
+-- a part that is filled with one value
+pub extends_part : (old : List ℕ) (at times value : ℕ) → at + times ≤ length old
+    → Extends old at (replicate times value) (take at old ++ (replicate times value ++ drop times (drop at old)))
+extends_part old at times value l =
+    let r = length-replicate times value in
+    let mid = replicate times value in
+    let rest = drop times (drop at old) in
+    let a : length (take at old) ≡ at = omega (arith, length-take-le at old) in
+    let e : at + length mid ≡ length (take at old ++ mid) = omega (arith, length-append (take at old) mid) in
+    record {
+      same = omega (
+        arith,
+        length-append (take at old) (mid ++ rest),
+        length-append mid rest,
+        length-drop times (drop at old),
+        length-drop at old,
+      );
+      filled = rw (e, ← append_assoc (take at old) mid rest) (take-append_seam (take at old ++ mid) rest);
+    }
 
 -- ---- one part after another
 

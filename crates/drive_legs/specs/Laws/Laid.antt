@@ -1,6 +1,6 @@
 -- The required arcs, the links and the units, laid one after the other, are the legs.
-use Rattle.std.specs.Prelude.{◌≡◌, refl, List, [], ◌∷◌, ◌++◌, map, ℕ, ◌+◌, ◌≤◌, length, take}
-use Rattle.std.proofs.Common.{sym, ap, ap₂, ◌∙◌, subst, append_assoc, arith, length-append, length-take}
+use Rattle.std.specs.Prelude.{◌≡◌, refl, List, [], ◌∷◌, ◌++◌, map, ℕ, ◌+◌, length, take}
+use Rattle.std.proofs.Common.{sym, ap, ap₂, ◌∙◌, subst, append_assoc, arith, length-append}
 use Rattle.std.proofs.lemmas.List.{map-append, length-map}
 use Rattle.postman.specs.Plan.{Plan, arc_at, required_numbers}
 use Rattle.postman.specs.Link.{Link}
@@ -60,6 +60,3 @@ laid p ts hs amounts numbers tails tails₁ tails₂ heads heads₁ heads₂ c n
 -- the first n elements are there
 pub prefix_length : (n : ℕ) (xs ys : List ℕ) → take n xs ≡ ys → n ≡ length ys → n ≡ length (take n xs)
 prefix_length n xs ys e l = l ∙ sym (ap length e)
-
-pub prefix_le : (n : ℕ) (xs ys : List ℕ) → take n xs ≡ ys → n ≡ length ys → n ≤ length xs
-prefix_le n xs ys e l = let a = length-take n xs in let b = ap length e in omega arith

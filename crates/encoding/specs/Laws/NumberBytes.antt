@@ -1,8 +1,8 @@
 -- Bytes that are put one after the other are put together, since each begins where the one before it ended; and what was put is read from
 -- there, since what stands before it has that length.
 use Rattle.std.specs.Prelude.{◌≡◌, refl, List, [], ◌∷◌, ◌++◌, ℕ, zero, suc, ◌+◌, ◌*◌, ◌/◌, ◌%◌, ◌≤◌, length, get_or, take, drop, set}
-use Rattle.std.proofs.Common.{sym, ap, ap₂, ◌∙◌, append_assoc, div-add-mod', arith, length-append, take_all, take_at, drop_at, drop-drop, drop-cons, length-take-le}
-use Rattle.std.proofs.Math.Seq.{paste, drop-append-add, append_snoc}
+use Rattle.std.proofs.Common.{sym, ap, ap₂, ◌∙◌, append_assoc, div-add-mod', arith, length-append, take_at, drop_at, drop-drop, drop-cons, length-take-le}
+use Rattle.std.proofs.Math.Seq.{drop-append-add, append_snoc}
 use Rattle.std.proofs.lemmas.List.Edits.{sets-eq}
 use Rattle.std.proofs.lemmas.List.{get_or_at}
 use Rattle.encoding.specs.RecordBytes.{number_in}
@@ -26,12 +26,6 @@ put_byte l i x room = sets-eq (x ∷ []) l i room
 pub put_two : (l : List ℕ) (i x y : ℕ) → i + 2 ≤ length l → set (set l i x) (i + 1) y ≡ put_at l i (x ∷ y ∷ [])
 unfolding put_at
 put_two l i x y room = let e : i + 1 ≡ suc i = omega arith in rw e (sets-eq (x ∷ y ∷ []) l i room)
-
--- a copy
-pub put_copy : (l : List ℕ) (i : ℕ) (new x : List ℕ) (n : ℕ) → n ≡ length new → x ≡ paste l i new n → x ≡ put_at l i new
-unfolding put_at
-put_copy l i new x n e f =
-    f ∙ ap (paste l i new) e ∙ ap (λ (y : List ℕ). take i l ++ y ++ drop (i + length new) l) (take_all (length new) new (omega arith))
 
 -- one after the other
 pub put_more : (l : List ℕ) (i : ℕ) (a : List ℕ) (j : ℕ) (b : List ℕ) → j ≡ i + length a → j + length b ≤ length l
@@ -87,20 +81,6 @@ reads : (l : List ℕ) (n i : ℕ) → i + n ≤ length l → listed l n i ≡ t
 reads l zero i h = refl
 reads l (suc n) i h =
     ap (λ (x : List ℕ). get_or l i 0 ∷ x) (reads l n (suc i) (omega arith)) ∙ ap (take (suc n)) (sym (drop-cons l i 0 (omega arith)))
-
-pub eight_read : (l : List ℕ) (i : ℕ) → i + 8 ≤ length l
-    → get_or l i 0 ∷ get_or l (i + 1) 0 ∷ get_or l (i + 2) 0 ∷ get_or l (i + 3) 0 ∷ get_or l (i + 4) 0 ∷ get_or l (i + 5) 0
-    ∷ get_or l (i + 6) 0
-    ∷ get_or l (i + 7) 0 ∷ [] ≡ take 8 (drop i l)
-eight_read l i h =
-    let e₁ : i + 1 ≡ suc i = omega arith in
-    let e₂ : i + 2 ≡ suc (suc i) = omega arith in
-    let e₃ : i + 3 ≡ suc (suc (suc i)) = omega arith in
-    let e₄ : i + 4 ≡ suc (suc (suc (suc i))) = omega arith in
-    let e₅ : i + 5 ≡ suc (suc (suc (suc (suc i)))) = omega arith in
-    let e₆ : i + 6 ≡ suc (suc (suc (suc (suc (suc i))))) = omega arith in
-    let e₇ : i + 7 ≡ suc (suc (suc (suc (suc (suc (suc i)))))) = omega arith in
-    rw (e₁, e₂, e₃, e₄, e₅, e₆, e₇) (reads l 8 i h)
 
 -- `new` is at byte i.
 pub record IsAt (all : List ℕ) (i : ℕ) (new : List ℕ) : Type 0 where

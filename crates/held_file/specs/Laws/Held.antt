@@ -1,26 +1,25 @@
 -- Files by value: written over zeros, read, and lent.
-use Rattle.std.specs.Prelude.{◌≡◌, ℕ, zero, suc, ◌+◌, ◌-◌, ◌≤◌, take, replicate}
+use Rattle.std.proofs.lemmas.Result.{err_from_is_err_and}
+use Rattle.std.specs.Prelude.{◌≡◌, Result, Ok, Err, IsErrAnd, ℕ, zero, suc, ◌+◌, ◌-◌, ◌≤◌, take, replicate}
 use Rattle.std.proofs.Math.Path.{sym, ap}
 use Rattle.std.proofs.Common.{◌∙◌, arith, length-append, length-drop, length-take-le}
-use mathlib.Core.List.{List, [], ◌++◌, append-nil}
+use mathlib.Core.List.{List, ◌++◌, append-nil}
 use Rattle.std.proofs.Math.Option.{Option, none, some}
 use Rattle.std.proofs.Math.ListN.{length, drop}
 use Rattle.std.proofs.lemmas.List.{length-replicate}
 use Rattle.std.proofs.Math.Seq.{take-append_seam}
 use Rattle.postman.specs.Plan.{Plan}
-use Rattle.postman.specs.Refusal.{first_refusal, unless, given}
+use Rattle.postman.specs.Refusal.{first_refusal, given}
+use Rattle.refusal.specs.Verdict.{refusal_number}
 use Rattle.postman.specs.PlanFile.{edition, arc_count, file_of, file_length, file_conditions, write_refusal, write_answer, bytes_after}
 use Rattle.postman.specs.OpenPlan.{longest_file}
 use Rattle.postman_laws.specs.Laws.FileLength.{file_length_le}
 use Rattle.postman_laws.specs.Laws.Acceptance.{accepted_is_file}
 use Rattle.postman_laws.specs.Laws.PlanFile.{length_file_of}
 use Rattle.plan_writer.specs.Laws.Writing.{length_given, given_bytes}
-use Rattle.record_writer.specs.Writing.{at_most}
-use Rattle.record_writer.specs.Laws.Writing.{at_most_le, take_at_most}
 use Rattle.encoding.specs.Laws.NumberBytes.{IsAt, bytes_back}
-use Rattle.refusal.specs.declared.Verdict.TheVariants.{Accepted}
+use Rattle.refusal.specs.declared.Refusal.{Refusal}
 use Rattle.held_file.specs.declared.Held.{Held}
-use Rattle.held_file.specs.declared.Rewritten.{Rewritten}
 use Rattle.held_file.specs.Padded.{padded}
 use Rattle.held_file.specs.Held.{file_in, held_of, held_at, IsHeld}
 
@@ -35,10 +34,13 @@ behind (suc n) (suc m) = behind n m ∙ ap (λ (k : ℕ). replicate k 0) (let e 
 
 -- ---- what is held
 
--- A refusal holds no file, whatever file there would have been.
-pub refused_held : (o : Option ℕ) (q : ℕ) (file : List ℕ) (w : Rewritten) → o ≡ some q → IsHeld (some q) [] w → IsHeld o file w
-unfolding unless
-refused_held o q file w e h = record { verdict = h.verdict ∙ sym e; held = rw e h.held }
+-- What refuses is an answer.
+pub refusal_held : (o : Option ℕ) (r : Refusal) (file : List ℕ) → o ≡ some (refusal_number r) → IsHeld o file (Err r)
+refusal_held o r file e = record { verdict = sym e; held = tt }
+
+pub stopped_held : (o : Option ℕ) (r : Refusal) (file : List ℕ) (w : Result Held Refusal) → IsErrAnd w (λ s. s ≡ r)
+    → o ≡ some (refusal_number r) → IsHeld o file w
+stopped_held o r file w h e = let f = err_from_is_err_and w h in rw (f.1 ∙ ap Err f.2) (refusal_held o r file e)
 
 -- A file that was written over zeros.
 module _ (e : ℕ) (p : Plan) (k : ℕ) (h : given k ≡ write_answer e p zeros) where
@@ -46,8 +48,8 @@ module _ (e : ℕ) (p : Plan) (k : ℕ) (h : given k ≡ write_answer e p zeros)
   accepted = rw (length-replicate {A = ℕ} 1475 0) at (length_given e p zeros k h)
 
   pub written_held : (s : List ℕ) → s ≡ bytes_after e p zeros
-      → IsHeld (write_refusal e p longest_file) (file_of e p) (record { verdict = Accepted; held = record { length = k; file = s } })
-  unfolding unless held_of
+      → IsHeld (write_refusal e p longest_file) (file_of e p) (Ok (record { length = k; file = s }))
+  unfolding held_of
   written_held s f =
       let w = accepted.0 in
       let long : length (file_of e p) ≡ k = length_file_of e p ∙ sym accepted.1 in
@@ -55,7 +57,15 @@ module _ (e : ℕ) (p : Plan) (k : ℕ) (h : given k ≡ write_answer e p zeros)
       f ∙ given_bytes e p zeros (length_given e p zeros k h).0 ∙ ap (λ (n : ℕ). file_of e p ++ drop n zeros) (sym (length_file_of e p))
       ∙ ap (λ (r : List ℕ). file_of e p ++ r) (behind (length (file_of e p)) longest_file)
       in
-      record { verdict = sym w; held = rw w (λ j. record { length = sym long j; file = content j }) }
+      record { verdict = sym w; held = λ j. record { length = sym long j; file = content j } }
+
+-- A file that is copied over zeros.
+pub copied_held : (file x : List ℕ) → x ≡ file → record { length = length file; file = x ++ drop (length file) zeros } ≡ held_of file
+unfolding held_of
+copied_held file x e =
+    let content = ap (λ (r : List ℕ). r ++ drop (length file) zeros) e
+    ∙ ap (λ (r : List ℕ). file ++ r) (behind (length file) longest_file) in
+    λ j. record { length = length file; file = content j }
 
 -- A file is held as it is.
 pub held_file : (file : List ℕ) → file_in (held_of file) ≡ file
@@ -72,13 +82,6 @@ held_size file h =
     let a = length-append file (replicate (longest_file - length file) 0) in
     let z = length-replicate {A = ℕ} (longest_file - length file) 0 in
     (omega arith, h)
-
--- Its bytes, as many as its length says or all of them, are the file.
-pub held_part : (h : Held) (n : ℕ) → length h.file ≡ longest_file → n ≡ at_most h.length longest_file
-    → (n ≤ length h.file) × (take n h.file ≡ file_in h)
-held_part h n long e =
-    let l = at_most_le h.length longest_file in
-    (omega arith, ap (λ (k : ℕ). take k h.file) e ∙ take_at_most h.file h.length longest_file long)
 
 -- ---- where it is lent
 

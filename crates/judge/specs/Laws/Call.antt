@@ -1,6 +1,6 @@
 -- Each test of the code is a condition of the definition. Rows that hold the arcs of a plan are judged as the plan
 -- is, and the contract follows from the answer.
-use Rattle.std.specs.Prelude.{◌≡◌, Bool, List, [], ◌∷◌, ℕ, ◌^◌, ◌≤◌, ◌<◌, length, eqb}
+use Rattle.std.specs.Prelude.{◌≡◌, Bool, List, [], ◌∷◌, ℕ, ◌^◌, ◌≤◌, ◌<◌, length, eqb, Result}
 use Rattle.std.proofs.Math.Path.{refl, sym, ap}
 use Rattle.std.proofs.Common.{◌∙◌, subst, arith, lt-ltb, le-ltb}
 use Rattle.std.proofs.Math.Bool.{true, false, cond}
@@ -16,8 +16,8 @@ use Rattle.postman.specs.Laws.Membership.{get_d_mem}
 use Rattle.postman_laws.specs.Laws.Refusal.{first_on, first_stop, answer_refused}
 use Rattle.postman_laws.specs.Laws.Judge.{lent_short, lent_long, judge_conditions, judged_cost, drive_judged, drive_cost_small}
 use Rattle.plan.specs.Rows.{plan_in}
-use Rattle.judge.specs.declared.Judged.{Judged}
 use Rattle.drive_tally.specs.Rows.{plan_over}
+use Rattle.refusal.specs.declared.Refusal.{Refusal}
 use Rattle.judge.specs.Contract.{judged_answer, list_answer, plan_answer, IsJudged}
 
 -- ---- 14, 15 and 16, and the cost
@@ -111,7 +111,7 @@ module _ (bytes w : List ℕ) where
 
   -- ---- the contract
 
-  pub is_judged : (r : Judged) → judged_answer r ≡ judge_answer bytes w → IsJudged bytes w r
+  pub is_judged : (r : Result ℕ Refusal) → judged_answer r ≡ judge_answer bytes w → IsJudged bytes w r
   is_judged r e = record {
     answer_is = e;
     exactly = λ h. ((λ g. (judged_cost bytes w g.0 (sym e ∙ g.1)).0), (λ t. (drive_cost (plan_of bytes) w, e ∙ drive_judged bytes w h t)));

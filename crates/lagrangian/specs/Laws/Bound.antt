@@ -1,6 +1,6 @@
 -- What the cheapest arborescence is asked: multipliers with reduced costs that are not negative, 0 at a required vertex, are bounded by
 -- distances; so are the reduced costs, and A(u).
-use Rattle.std.specs.Prelude.{◌≡◌, refl, Bool, true, false, ℕ, ◌+◌, ◌*◌, ◌≤◌, ◌<◌, length, get_or, replicate, T, ℤ, ◌+ℤ◌, ◌-ℤ◌, ◌≤ℤ◌}
+use Rattle.std.specs.Prelude.{◌≡◌, refl, Bool, true, false, ℕ, ◌*◌, ◌≤◌, ◌<◌, length, get_or, replicate, T, ℤ, ◌+ℤ◌, ◌-ℤ◌, ◌≤ℤ◌}
 use Rattle.std.proofs.Common.{sym, ◌∙◌, subst, inl, inr, arith}
 use Rattle.std.proofs.Math.Path.{ap, ap₂, subst⁻¹, fun_ext}
 use mathlib.Core.List.{List, [], ◌∷◌, Memᴰ}

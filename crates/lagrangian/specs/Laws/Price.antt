@@ -1,6 +1,7 @@
 -- The sum of u(i) × D(i) over all vertices is that over the required ones, since u is 0 elsewhere; and it
 -- is small: no D is above the number of arcs.
-use Rattle.std.specs.Prelude.{◌≡◌, Bool, not, ℕ, zero, suc, ◌+◌, ◌*◌, ◌≤◌, ◌<◌, ℤ, pos, nat_abs, ◌+ℤ◌, ◌*ℤ◌}
+use Rattle.std.specs.Int.{int_max}
+use Rattle.std.specs.Prelude.{◌≡◌, Bool, not, ℕ, zero, suc, ◌+◌, ◌*◌, ◌≤◌, ◌<◌, ℤ, pos, negsuc, nat_abs, ◌+ℤ◌, ◌*ℤ◌}
 use Rattle.std.proofs.Math.Path.{refl, ap, subst⁻¹}
 use Rattle.std.proofs.Common.{ap₂, ◌∙◌, subst}
 use mathlib.Core.List.{List, [], ◌∷◌, ◌++◌, map, append-nil, Memᴰ}
@@ -9,7 +10,7 @@ use Rattle.std.proofs.Math.ListN.{length, get_or, length-map}
 use Rattle.std.proofs.Math.Dec.{T, T_not}
 use Rattle.std.proofs.Math.IntN.{zero-*ℤ}
 use Rattle.integers.specs.Linear.{z, zl, Within, within_abs, abs_within, abs_add, mul_abs}
-use Rattle.postman.specs.Lists.{select, sum_ofℤ, below}
+use Rattle.postman.specs.Lists.{select, sum_ofℤ, below, maxℤ}
 use Rattle.postman.specs.Plan.{Plan, WellFormed, is_required_arc, required_arcs}
 use Rattle.postman.specs.Required.{required, is_required}
 use Rattle.postman.specs.Balancing.{heads, tails, imbalance}
@@ -104,3 +105,12 @@ module _ (p : Plan) (ok : WellFormed p) (u d : List ℤ) (hd : IsImbalance p d)
       (λ i m t. ap (λ (x : ℤ). multipliers_in u i *ℤ x) (hd i (below_mem m)))
       (λ i m t. ap (λ (x : ℤ). x *ℤ get_or d i (pos 0)) (elsewhere i (away i t)) ∙ zero-*ℤ (get_or d i (pos 0)))
       ∙ ap (λ (vs : List ℕ). sum_ofℤ (map (λ i. multipliers_in u i *ℤ imbalance p [] i) vs)) (required_of_64 p ok)
+
+-- ---- the larger of two
+
+pub max_is : (a b : ℤ) → int_max a b ≡ maxℤ a b
+unfolding maxℤ
+max_is (pos a) (pos b) = grind arith
+max_is (pos a) (negsuc b) = refl
+max_is (negsuc a) (pos b) = refl
+max_is (negsuc a) (negsuc b) = grind arith

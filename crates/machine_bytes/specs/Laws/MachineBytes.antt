@@ -2,7 +2,7 @@
 -- read from the place where it was put, since what stands before it has the length of what was put before.
 use Rattle.std.specs.Prelude.{◌≡◌, drop, set, replicate}
 use Rattle.std.proofs.Math.Path.{refl, sym, ap, subst⁻¹}
-use Rattle.std.proofs.Common.{ap₂, ◌∙◌, subst, add-one, take_all, length-take-le}
+use Rattle.std.proofs.Common.{ap₂, ◌∙◌, subst, add-one, length-take-le}
 use Rattle.std.proofs.Math.Logic.{inl, inr}
 use mathlib.Core.List.Memᴰ
 use mathlib.Core.List.{List, [], ◌∷◌, ◌++◌, map, flat_map, append_assoc, append-nil}
@@ -218,13 +218,6 @@ module _ (l : List ℕ) (line : List District) where
         content = e ∙ ap (λ (y : List ℕ). put_at y (1516 * k) (district_bytes d)) h.content
             ∙ put_more l 0 done (1516 * k) (district_bytes d) (omega arith) (omega arith) ∙ ap (put_at l 0) (sym new);
       }
-
-  pub all_stored : (x : List ℕ) (k : ℕ) → 8 ≤ k → AreStored l line x k
-      → AreSized line × (length line ≡ 8) × (x ≡ put_at l 0 (flat_map district_bytes line))
-  all_stored x k m h =
-      let eight = h.eight in
-      let whole : take k line ≡ line = take_all k line (omega arith) in
-      (subst AreSized whole h.sized, eight, h.content ∙ ap (λ (y : List District). put_at l 0 (flat_map district_bytes y)) whole)
 
 -- loaded by a loop: the front one, in every place; and then each in its own
 pub first_loaded : (bytes : List ℕ) (z d : District) → d ≡ district_in bytes 0

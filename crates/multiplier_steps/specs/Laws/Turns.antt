@@ -1,5 +1,10 @@
 -- A loop, turn by turn.
-use Rattle.std.specs.Prelude.{◌≡◌, List, length, set}
+use Rattle.std.specs.Prelude.{◌≡◌, Bool, true, ◌&&◌, List, length, set, take}
+use Rattle.std.specs.List.{list_all}
+use Rattle.std.proofs.lemmas.List.Folds.{list_all_more}
+use Rattle.std.proofs.Math.Seq.{take-length}
+use Rattle.std.proofs.lemmas.Grind.{get_or_default_zero}
+use Rattle.residual_search.specs.Bounds.{AtMost}
 use Rattle.std.proofs.Math.Path.{refl, ap}
 use Rattle.std.proofs.Common.{sym, ◌∙◌, add-one, arith}
 use Prim.Native.Nat.{ℕ, zero, suc, ◌+◌, ◌≤◌, ◌<◌}
@@ -25,6 +30,8 @@ module _ {S : Type 0} (g : S → ℕ → S) (s : S) where
   pub end : (i : ℕ) {n : ℕ} {r : S} → r ≡ turns g s i → i ≤ n → n ≤ i → r ≡ turns g s n
   end i {n} inv a b = let e : i ≡ n = omega arith in inv ∙ ap (turns g s) e
 
+pub ruleset turn_by_turn = (none, more)
+
 -- over the places of a list
 module _ {S : Type 0} (g : S → ℕ → S) (vs : List ℕ) (s : S) where
   abbrev at : S → ℕ → S
@@ -33,6 +40,26 @@ module _ {S : Type 0} (g : S → ℕ → S) (vs : List ℕ) (s : S) where
   pub turn_at : (i : ℕ) {v : ℕ} {r r' : S} → r ≡ turns (λ r a. g r (get_or vs a 0)) s i → v ≡ get_or vs i 0 → r' ≡ g r v
       → r' ≡ turns (λ r a. g r (get_or vs a 0)) s (i + 1)
   turn_at i {v} {r} inv ev e = next_turn at s i inv (e ∙ ap (g r) ev)
+
+-- a loop that gathers tests, of each item of a list
+module _ (t : ℕ → Bool) (vs : List ℕ) where
+  abbrev gathered : ℕ → Bool
+  gathered n = turns (λ b a. b && t (get_or vs a 0)) true n
+
+  all_so_far : (n : ℕ) → n ≤ length vs → list_all t (take n vs) ≡ gathered n
+  unfolding turns
+  all_so_far zero l = refl
+  all_so_far (suc n) l =
+      let k : n < length vs = omega arith in
+      ap (λ i. list_all t (take i vs)) (sym (add-one n)) ∙ list_all_more t vs n 0 k
+      ∙ ap (λ b. b && t (get_or vs n 0)) (all_so_far n (omega arith))
+
+  pub all_turns : {r : Bool} → r ≡ list_all t vs → r ≡ turns (λ b a. b && t (get_or vs a 0)) true (length vs)
+  all_turns e = e ∙ ap (list_all t) (sym (take-length vs)) ∙ all_so_far (length vs) (omega arith)
+
+-- an item of a list of vertices
+pub item_below : (vs : List ℕ) (k x : ℕ) → AtMost 63 vs → k < length vs → x ≡ get_or vs k x → x < 64
+item_below vs k x m l e = let d = get_or_default_zero vs k x l in omega (arith, m k)
 
 -- what each turn keeps
 pub turns_keep : {S : Type 0} (g : S → ℕ → S) (Q : S → Type 0) → ((s : S) (i : ℕ) → Q s → Q (g s i)) → (s : S) → Q s → (n : ℕ)

@@ -21,6 +21,9 @@ use Rattle.multipliers.specs.Laws.Ascent.{ascent_bounded}
 pub held_is : (c : Climb) {m : ℤ} → m ≡ c.bound → improved c c.best m ≡ c
 held_is c e = ap (improved c c.best) e
 
+pub held_as : {c d : Climb} {u : List ℤ} {m : ℤ} → u ≡ c.best → m ≡ c.bound → improved c c.best c.bound ≡ d → improved c u m ≡ d
+held_as {c} eu em e = ap₂ (improved c) eu em ∙ e
+
 module _ (p : Plan) where
   pub attempt_none : (c : Climb) {b : Bool} {m : ℤ} → b ≡ is_lawful p c.multipliers → b ≡ false → m ≡ c.bound
       → improved c c.best m ≡ attempt p c

@@ -24,7 +24,7 @@ use Rattle.shortest.specs.StepContracts.{IsTable}
 use Rattle.drive_legs.specs.Legs.{Completes}
 use Rattle.drive_legs.specs.Filled.{links_of, Noted}
 use Rattle.drive_legs.specs.Laws.Few.{few_numbers}
-use Rattle.drive_legs.specs.Laws.Laid.{links_tails, links_heads, links_length, prefix_length, prefix_le}
+use Rattle.drive_legs.specs.Laws.Laid.{links_tails, links_heads, links_length}
 use Rattle.multipliers.specs.Drive.{table_of, amounts_of}
 use Rattle.multipliers.specs.Prepared.{IsKnown, IsBase, IsTree}
 use Rattle.multipliers.specs.Laws.Drive.{is_table, agrees, completes}
@@ -178,21 +178,3 @@ module _ (p : Plan) (table : List (List ℕ)) (vs : List ℕ) (b : IsKnown p tab
       ∙ ap (add_all (cell (table_of p)) (required p) empty)
       (ap₂ arcs_of tails_are heads_are ∙ arcs_map (λ a. a.tail) (λ a. a.head) (required_arcs p)
       ∙ sym (append-nil (map (λ a. record { tail = a.tail; head = a.head }) (required_arcs p))))
-
--- the gathered prefixes are there
-pub record ArePrefixes (tails heads : List ℕ) (c : ℕ) : Type 0 where
-  pub tails_le : c ≤ length tails
-  pub tails_length : c ≡ length (take c tails)
-  pub heads_le : c ≤ length heads
-  pub heads_length : c ≡ length (take c heads)
-
-pub prefixes : {p : Plan} {ns numbers tails heads : List ℕ} {c : ℕ} → Noted p ns numbers tails heads c → ArePrefixes tails heads c
-prefixes {p} {ns} {numbers} {tails} {heads} {c} n =
-    let t = n.count ∙ sym (length-map ns (λ k. (arc_at p.arcs k).tail)) in
-    let h = n.count ∙ sym (length-map ns (λ k. (arc_at p.arcs k).head)) in
-    record {
-      tails_le = prefix_le c tails _ n.tails_are t;
-      tails_length = prefix_length c tails _ n.tails_are t;
-      heads_le = prefix_le c heads _ n.heads_are h;
-      heads_length = prefix_length c heads _ n.heads_are h;
-    }

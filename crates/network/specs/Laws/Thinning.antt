@@ -1,14 +1,13 @@
 -- What each turn of thinning does to the flags, by what its search has found; and a turn more.
-use Rattle.std.specs.Prelude.{◌≡◌, Bool, true, false, not, ◌&&◌, get_or, set, T, eqb, ltb}
-use Rattle.std.proofs.Math.Path.{refl, sym, ap, ap₂, subst⁻¹}
-use Rattle.std.proofs.Common.{◌∙◌, subst, add-one, get_or-set_other, ltb→lt, eqb-true, lt-ltb}
+use Rattle.std.specs.Prelude.{◌≡◌, Bool, true, false, not, ◌&&◌, get_or, set, T, eqb}
+use Rattle.std.proofs.Math.Path.{refl, sym, ap, ap₂}
+use Rattle.std.proofs.Common.{◌∙◌, subst, add-one, get_or-set_other, eqb-true, lt-ltb}
 use mathlib.Core.List.{List, [], ◌∷◌}
 use Rattle.std.proofs.Math.Bool.{cond, and-false}
 use Prim.Native.Nat.{ℕ, zero, suc, ◌+◌, ◌*◌, ◌/◌, ◌%◌, ◌<◌, ◌≤◌}
 use native.Mathlib.Omega.{arith}
 use Rattle.std.proofs.lemmas.Bool.{not-true}
 use Rattle.std.proofs.Math.Decide.{ℕ_discrete}
-use Rattle.postman.specs.Laws.Tests.{cond_ind}
 use Rattle.postman.specs.Lists.{any_of, below}
 use Rattle.postman.specs.Steps.{cell}
 use Rattle.network.specs.Thinning.{flag, far, nearby, between, turn_at, row_thinned, rows_thinned}
@@ -42,15 +41,6 @@ module _ (d : List (List ℕ)) (held : List Bool) (i j : ℕ) where
 
   -- a step of the search
   module _ (k : ℕ) where
-    pub via_first : flag held i k ≡ false → between d held i j k ≡ false
-    via_first e = no_left _ (no_left _ e)
-
-    pub via_second : flag held k j ≡ false → between d held i j k ≡ false
-    via_second e = no_left _ (no_right (flag held i k) e)
-
-    pub via_long : eqb (cell d i j) (cell d i k + cell d k j) ≡ false → between d held i j k ≡ false
-    via_long e = no_right (flag held i k && flag held k j) e
-
     pub via_found : flag held i k ≡ true → flag held k j ≡ true → eqb (cell d i j) (cell d i k + cell d k j) ≡ true
         → between d held i j k ≡ true
     via_found a b e = both (both a b) e
@@ -91,17 +81,6 @@ module _ (d : List (List ℕ)) (pairs held : List Bool) (i j : ℕ) (row columns
   pub turn_short : j < 64 → cell d i j < far → ((k : ℕ) → k < 64 → get_or row k 0 + get_or columns (j * 64 + k) 0 ≡ cell d i j → ⊥)
       → turn_at d held i j ≡ held
   turn_short l f h = turn_keeps d held i j (short_between l f h)
-
-  -- the numbers are small
-  nearby_small : (b : Bool) (n : ℕ) → nearby b n ≤ far
-  nearby_small true n = cond_ind (ltb n far) n far (λ m. m ≤ far) (λ t. let l = ltb→lt n far t in omega arith) (λ t. omega arith)
-  nearby_small false n = omega arith
-
-  pub near_small : j < 64 → (k : ℕ) → k < 64 → (get_or row k 0 ≤ far) × (get_or columns (j * 64 + k) 0 ≤ far)
-  near_small l k m = (
-    subst⁻¹ (λ n. n ≤ far) (row_is k m) (nearby_small (flag pairs i k) (cell d i k)),
-    subst⁻¹ (λ n. n ≤ far) (column_is l k m) (nearby_small (flag pairs k j) (cell d k j)),
-  )
 
 -- whatever is dropped
 pub fewer_dropped : (pairs held : List Bool) (x : ℕ) → Fewer pairs held → Fewer pairs (set held x false)

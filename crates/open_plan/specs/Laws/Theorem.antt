@@ -1,7 +1,7 @@
 -- THE THEOREM OF THE HISTORY, over the contracts of the calls. Opening gives a state that stands for the plan opened, with no mark set;
 -- each call keeps what the state stands for (`Laws.History`); so after every list of calls the state stands for what the history of the
 -- accepted ones gives, and each call was refused as that history says.
-use Rattle.std.specs.Prelude.{◌≡◌, refl, ◌≢◌, ℕ, ◌<◌, length, get_or, take}
+use Rattle.std.specs.Prelude.{◌≡◌, refl, ◌≢◌, ℕ, ◌<◌, length, get_or, take, Result}
 use Rattle.std.proofs.Common.{sym, ap, ap₂, ◌∙◌, subst, arith, get_or-set_same, get_or-set_other}
 use mathlib.Core.List.{List, ◌∷◌, Memᴰ}
 use Rattle.std.proofs.Math.Option.{Option, none, some}
@@ -10,6 +10,8 @@ use Rattle.postman.specs.PlanFile.{edition, plan_of, file_of, file_conditions}
 use Rattle.postman.specs.OpenPlan.{Open, Call, change, mark, return, taken, opened, outcome, history, refusals, refusal_in, unless_refused, after_call}
 use Rattle.postman.specs.Windows.{Departure}
 use Rattle.refusal.specs.Verdict.{verdict_number}
+use Rattle.refusal.specs.declared.Refusal.{Refusal}
+use Rattle.solution.specs.Planned.{places_of}
 use Rattle.solution.specs.declared.Planned.{Planned}
 use Rattle.solution.specs.SameAnswer.{SameAnswer}
 use Rattle.windows.specs.Contract.{IsPlanCallAt}
@@ -93,7 +95,7 @@ module _ (bytes : List ℕ) (small : (k : ℕ) → get_or bytes k 0 < 256) (r : 
 
   -- "Asking gives what the plan call gives for the file written from it."
   pub asking : (cs : List Call) (t : OpenPlan) (numbers : List (Option ℕ)) → Ran r.state cs t numbers
-      → (budget : ℕ) (windows : List ℕ) (d : Departure) (old new : List ℕ) (a : Planned)
+      → (budget : ℕ) (windows : List ℕ) (d : Departure) (old new : List ℕ) (a : Result Planned Refusal)
       → IsPlanCallAt (file_in t.plan) budget windows d old new a
       → IsPlanCallAt
       (file_of (edition bytes)
@@ -141,11 +143,11 @@ module _ (bytes : List ℕ) (small : (k : ℕ) → get_or bytes k 0 < 256) (r : 
 
     -- "ASKING AFTER A RETURN GIVES WHAT ASKING AT THE MARK GAVE, with equal budget, windows, departure and sheet length": every field, and
     -- the places written; and every place where the sheet was the same before.
-    pub asked_again : (budget : ℕ) (windows : List ℕ) (d : Departure) (old new old' new' : List ℕ) (a b : Planned)
+    pub asked_again : (budget : ℕ) (windows : List ℕ) (d : Departure) (old new old' new' : List ℕ) (a b : Result Planned Refusal)
         → length old ≡ length old'
         → IsPlanCallAt (file_in r₁.state.plan) budget windows d old new a
         → IsPlanCallAt (file_in r₂.state.plan) budget windows d old' new' b
-        → SameAnswer a b × (take a.places new ≡ take b.places new') × (old ≡ old' → new ≡ new')
+        → SameAnswer a b × (take (places_of a) new ≡ take (places_of b) new') × (old ≡ old' → new ≡ new')
     asked_again budget windows d old new old' new' a b e at_mark later =
         let same : IsPlanCallAt (file_in r₁.state.plan) budget windows d old' new' b =
         subst (λ (h : Held). IsPlanCallAt (file_in h) budget windows d old' new' b) same_plan_lem later in

@@ -1,5 +1,5 @@
 -- The calls of an open plan over a lent state: a slice that is too short, or the state after the call.
-use Rattle.std.specs.Prelude.{◌≡◌, List, [], ◌++◌, ℕ, ◌≤◌, ◌<◌, ℤ, pos, neg_ℤ, length}
+use Rattle.std.specs.Prelude.{◌≡◌, List, [], ◌++◌, ℕ, ◌≤◌, ◌<◌, ℤ, pos, neg_ℤ, length, Result}
 use Rattle.std.proofs.Math.Path.{refl, ap}
 use Rattle.std.proofs.Common.{sym, ◌∙◌, subst, lt-ltb, le-ltb}
 use Rattle.std.proofs.Math.Option.{Option, none, some}
@@ -11,6 +11,7 @@ use Rattle.refusal.specs.Verdict.{verdict_number, or_else}
 use Rattle.open_plan.specs.declared.OpenPlan.{OpenPlan}
 use Rattle.open_plan.specs.declared.Moved.{Moved}
 use Rattle.postman.specs.Windows.{Departure}
+use Rattle.refusal.specs.declared.Refusal.{Refusal}
 use Rattle.solution.specs.declared.Planned.{Planned}
 use Rattle.windows.specs.Contract.{IsPlanCallAt}
 use Rattle.held_file.specs.Held.{file_in, held_of}
@@ -106,7 +107,7 @@ module _ (file bytes : List ℕ) (n : ℤ) (r : Moved) (i : IsOpened file r) whe
 -- ---- asking
 
 pub asked_lent : (bytes : List ℕ) (s : OpenPlan) → s ≡ open_in bytes
-    → (budget : ℕ) (windows : List ℕ) (d : Departure) (old new : List ℕ) (r : Planned)
+    → (budget : ℕ) (windows : List ℕ) (d : Departure) (old new : List ℕ) (r : Result Planned Refusal)
     → IsPlanCallAt (file_in s.plan) budget windows d old new r
     → IsPlanCallAt (file_in (open_in bytes).plan) budget windows d old new r
 asked_lent bytes s e budget windows d old new r h = subst (λ (x : OpenPlan). IsPlanCallAt (file_in x.plan) budget windows d old new r) e h

@@ -28,7 +28,7 @@ use Rattle.postman_laws.specs.Laws.Component.{component_at}
 use Rattle.postman_laws.specs.Laws.SignedSum.{≤ℤ-trans, ≤ℤ-antisym}
 use Rattle.cheapest_tree.specs.Cheapest.{IsCheapest}
 use Rattle.pair_costs.specs.Pairs.{IsPair, IsPairMatrix, others_of}
-use Rattle.cheapest_tree.specs.CostMatrix.{matrix_of, others_in, highest, IsCostMatrix}
+use Rattle.cheapest_tree.specs.CostMatrix.{matrix_of, others_in, highest}
 use Rattle.pair_costs.specs.PairCosts.{cost_of, are_required, offer_of, entry_for, ArePairCosts, IsLesser, AreLeastOffers, HoldsNetwork, multipliers_in}
 use Rattle.pair_costs.specs.Laws.Pairs.{pairs_links}
 
@@ -119,6 +119,26 @@ module _ (d : List (List ℕ)) (u : List ℤ) (c : List ℕ) (r : List Bool) (ok
         | yes s ↦ subst⁻¹ (λ y. (get_or m' y (pos 0) ≡ pos highest) ⊎ Source (n + 1) m' y) s newer
         | no o ↦ older y b (at_other y o)
       ];
+    }
+
+  -- a pair that is required offers its reduced cost, and another offers nothing
+  module _ (n : ℕ) (bound : n < 4096) (m : List ℤ) (h : AreLeastOffers d u c r n m) where
+    pub offers_taken : are_required r (n / 64) (n % 64) ≡ true → length m ≡ 64 → (x : ℕ) → x < 64
+        → x ≡ get_or c (n / 64) 0 * 8 + get_or c (n % 64) 0 → (v : ℤ)
+        → IsLesser (get_or m x (pos 0)) (cost_of d u (n / 64) (n % 64)) v → AreLeastOffers d u c r (n + 1) (set m x v)
+    offers_taken t sized x l e v k =
+        offers_more n bound m h x sized l (e ∙ sym (ap (λ b. cond b (get_or c (n / 64) 0 * 8 + get_or c (n % 64) 0) 0) t)) v
+        (subst⁻¹ (λ (a : ℤ). IsLesser (get_or m x (pos 0)) a v) (ap (λ b. cond b (cost_of d u (n / 64) (n % 64)) (pos highest)) t) k)
+
+    pub offers_passed : are_required r (n / 64) (n % 64) ≡ false → AreLeastOffers d u c r (n + 1) m
+    offers_passed f = record {
+      low = h.low;
+      high = h.high;
+      least = λ i b t. elim (ℕ_discrete i n) [
+        | yes s ↦ let g = sym t ∙ ap (λ i. are_required r (i / 64) (i % 64)) s ∙ f in zero_is_one (cc)
+        | no o ↦ h.least i (omega arith) t
+      ];
+      attained = λ y b. elim (h.attained y b) [ inl g ↦ inl g | inr g ↦ let a = g.1 in inr (g.0, omega arith, g.2, g.3, g.4) ];
     }
 
   -- ---- the plan's matrix
@@ -223,10 +243,6 @@ module _ (d : List (List ℕ)) (u : List ℤ) (c : List ℕ) (r : List Bool) (ok
       answer a f q = let n = net.components in
           pairs_links p wf (omega arith) (multipliers_in u) (matrix_of m) pair_matrix f a
           (subst (λ (x : List ℕ). IsCheapest x (matrix_of m) a) others_same q)
-
-  pub first_matrix : (k : ℕ) → 1 ≤ k → (m : List ℤ) → AreLeastOffers d u c r 4096 m → (left : List Bool)
-      → ((q : ℕ) → q < 8 → get_or left q false ≡ ltb q k) → IsCostMatrix m left
-  first_matrix k some m h left all = record { low = h.low; high = h.high; root = all 0 (omega arith) ∙ lt-ltb 0 k some }
 
 -- before any pair nothing is offered
 pub offers_none : (d : List (List ℕ)) (u : List ℤ) (c : List ℕ) (r : List Bool) → AreLeastOffers d u c r 0 (replicate 64 (pos highest))

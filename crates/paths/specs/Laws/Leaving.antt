@@ -10,7 +10,7 @@ use Rattle.std.proofs.lemmas.List.{length-replicate, get_or-replicate}
 use Rattle.postman.specs.Lists.{first_index, up_from}
 use Rattle.postman.specs.Plan.{is_open}
 use Rattle.plan.specs.Rows.{arc_in}
-use Rattle.paths.specs.Leaving.{tail_of, leaves, leaving_from, IsLeavingChain}
+use Rattle.paths.specs.Leaving.{tail_of, leaves, leaving_from}
 use Rattle.paths.specs.ShortestPath.{begins_in, next_in}
 use Rattle.postman_laws.specs.Laws.FirstNumber.{first_at, first_none}
 
@@ -126,9 +126,6 @@ chain_more rows chain k t few l s e h =
         | no q ↦ get_or-set_other chain (64 + k) (64 + i) (get_or chain t 0) 0 (λ z. q (omega arith)) ∙ h.next i (omega arith) m
       ];
     }
-
-pub chain_all : (rows : List (List ℕ)) (chain : List ℕ) → IsChainFrom rows chain 0 → IsLeavingChain rows chain
-chain_all rows chain h = record { long = h.long; first = h.first; next = λ k l. h.next k (omega arith) l }
 
 -- ---- a search along the arcs that leave v: `best` is the lowest met so far that begins a path, and k is the next to be met
 

@@ -1,12 +1,12 @@
 -- A plan by value has as many arcs as its field m says, and arc k is that of record k.
-use Rattle.std.specs.Prelude.{◌≡◌, refl, [], ◌∷◌, ◌++◌, ℕ, ◌+◌, ◌≤◌, ◌<◌, length, take}
+use Rattle.std.specs.Prelude.{◌≡◌, refl, [], ◌∷◌, ◌++◌, ℕ, ◌+◌, ◌≤◌, ◌<◌, length, get_or, take}
 use Rattle.std.proofs.Common.{sym, ap, ◌∙◌, subst, zero-add, add-one, arith, take-suc, take_all}
-use Rattle.std.proofs.lemmas.List.{length-map}
+use Rattle.std.proofs.lemmas.List.{length-map, length-take, get_or-take}
 use Rattle.postman.specs.Lists.{below}
 use Rattle.postman.specs.Plan.{Arc, arc_at, IsArc, WellFormed}
 use Rattle.postman.specs.Laws.Membership.{length_below, get_d_mem, mem_get_d, get_d_map_up_from}
 use Rattle.plan.specs.declared.Plan.{Plan as PlanRecord}
-use Rattle.plan.specs.Records.{plan_value, record_at}
+use Rattle.plan.specs.Records.{plan_value, arc_value, record_at, zero_record}
 
 pub plan_length : (r : PlanRecord) → length (plan_value r).arcs ≡ r.m
 unfolding plan_value
@@ -66,3 +66,22 @@ well_formed r a b c d h =
           let l = k.1 in
           rw n (subst (λ (y : Arc). IsArc r.n y) (sym (plan_arc r k.0 (omega arith)) ∙ k.2) (h k.0 (omega arith)));
     }
+
+-- ---- the first m records, gone over one after the other
+module _ (r : PlanRecord) (ok : WellFormed (plan_value r)) (n : ℕ) (e : n ≡ r.m) where
+  module _ (k : ℕ) (l : k < length (take n r.arcs)) where
+    pub walked_below : k < r.m
+    walked_below = omega (arith, length-take n r.arcs)
+
+    pub walked_record : get_or (take n r.arcs) k zero_record ≡ get_or r.arcs k zero_record
+    walked_record = get_or-take n r.arcs k zero_record (omega (arith, walked_below))
+
+    pub walked_arc : arc_value (get_or (take n r.arcs) k zero_record) ≡ record_at r.arcs k
+    walked_arc = ap arc_value walked_record
+
+    pub walked_ends : ((get_or (take n r.arcs) k zero_record).tail < 64) × ((get_or (take n r.arcs) k zero_record).head < 64)
+    walked_ends = rw walked_record (record_ends r ok k walked_below)
+
+  -- the last is gone over
+  pub walked_all : (k : ℕ) → length r.arcs ≡ 256 → k ≤ length (take n r.arcs) → length (take n r.arcs) ≤ k → k ≡ r.m
+  walked_all k long a b = omega (arith, length-take n r.arcs, record_arcs r ok)

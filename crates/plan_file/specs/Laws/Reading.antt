@@ -1,5 +1,5 @@
 -- The refusal of a file by the fields of its header, and what a caller goes by once a plan was read.
-use Rattle.std.specs.Prelude.{◌≡◌, cond, not, ◌||◌, List, ◌++◌, map, ℕ, ◌≤◌, length, ltb}
+use Rattle.std.specs.Prelude.{◌≡◌, cond, not, ◌||◌, List, ◌++◌, map, ℕ, ◌≤◌, length, ltb, Result, Ok, Err}
 use Rattle.std.proofs.Math.Path.{refl, sym, ap, ap₂}
 use Rattle.std.proofs.Common.{◌∙◌}
 use Rattle.std.proofs.Math.Option.{none, some}
@@ -16,12 +16,11 @@ use Rattle.postman.specs.Laws.Tests.{not_or}
 use Rattle.postman_laws.specs.Laws.Below.{length_map_below}
 use Rattle.postman_laws.specs.Laws.Refusal.{accepted_cons, accepted_append, first_on, first_stop}
 use Rattle.postman_laws.specs.Laws.Acceptance.{extent_accepted, arcs_read_lem}
-use Rattle.plan_file.specs.Reading.{IsReading, edition_unless, plan_unless, refused_reading, margin_conditions, extent_on, frame_conditions}
+use Rattle.plan_file.specs.Reading.{IsReading, edition_unless, plan_unless, edition_in, plan_in, margin_conditions, extent_on, frame_conditions}
 use Rattle.plan_file.specs.Laws.Records.{value_record}
 use Rattle.arc_rules.specs.Arcs.{plan_from}
 use Rattle.plan.specs.Records.{record_at, plan_value, records_of, plan_record}
 use Rattle.refusal.specs.declared.Refusal.{Refusal}
-use Rattle.refusal.specs.declared.Verdict.TheVariants.{Accepted}
 use Rattle.refusal.specs.Verdict.{refusal_number}
 use Rattle.postman.specs.Plan.{Plan}
 
@@ -97,23 +96,23 @@ module _ (bytes : List ℕ) (good : first_refusal (frame_conditions bytes) ≡ n
       ∙ sym (frame_passed bytes good)
 
   pub given_reading : first_refusal (file_conditions bytes) ≡ none
-      → IsReading bytes (record { verdict = Accepted; edition = e; plan = plan })
+      → IsReading bytes (Ok (record { edition = e; plan = plan }))
   unfolding edition_unless plan_unless
   given_reading h = record { verdict = sym h; edition_is = rw h is; plan = rw h read }
 
 -- What is answered where the file is refused.
-pub refused_reading_lem : (bytes : List ℕ) (r : Refusal) (x : Reading) → x ≡ refused_reading r
+pub refused_reading_lem : (bytes : List ℕ) (r : Refusal) (x : Result Reading Refusal) → x ≡ Err r
     → first_refusal (file_conditions bytes) ≡ some (refusal_number r) → IsReading bytes x
 unfolding edition_unless plan_unless
 refused_reading_lem bytes r x q h = rw q (record { verdict = sym h; edition_is = rw h refl; plan = rw h refl })
 
 -- The edition is the file's, and the plan by value stands for the file's plan.
-pub accepted_edition : (bytes : List ℕ) (r : Reading) → IsReading bytes r → first_refusal (file_conditions bytes) ≡ none
-    → r.edition ≡ edition bytes
+pub accepted_edition : (bytes : List ℕ) (r : Result Reading Refusal) → IsReading bytes r → first_refusal (file_conditions bytes) ≡ none
+    → edition_in r ≡ edition bytes
 unfolding edition_unless
 accepted_edition bytes r read e = rw e at read.edition_is
 
-pub accepted_value : (bytes : List ℕ) (r : Reading) → IsReading bytes r → first_refusal (file_conditions bytes) ≡ none
-    → plan_value r.plan ≡ plan_of bytes
+pub accepted_value : (bytes : List ℕ) (r : Result Reading Refusal) → IsReading bytes r → first_refusal (file_conditions bytes) ≡ none
+    → plan_value (plan_in r) ≡ plan_of bytes
 unfolding plan_unless
 accepted_value bytes r read e = ap plan_value (rw e at read.plan) ∙ value_record (plan_of bytes)

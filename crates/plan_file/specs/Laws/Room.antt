@@ -1,5 +1,5 @@
 -- An arc that the file has room for is the file's.
-use Rattle.std.specs.Prelude.{◌≡◌, Bool, ◌&&◌, List, ℕ, ◌+◌, ◌*◌, ◌/◌, ◌<◌, ◌≤◌}
+use Rattle.std.specs.Prelude.{◌≡◌, Bool, ◌&&◌, List, ℕ, ◌+◌, ◌*◌, ◌/◌, ◌%◌, min, ◌<◌, ◌≤◌}
 use Rattle.std.proofs.Math.Path.{refl, sym, subst⁻¹}
 use Rattle.std.proofs.Math.Bool.{true, false}
 use native.Mathlib.Omega.{arith}
@@ -11,6 +11,10 @@ use Rattle.postman_laws.specs.Laws.FileLength.{bits_more}
 use Rattle.bits.specs.Laws.Taking.{by_bytes}
 use Rattle.plan.specs.Records.{record_of, zero_record}
 use Rattle.plan_file.specs.Reading.{has_arc, record_in}
+
+-- The bytes that so many bits take, counted by one more for what is left over.
+pub in_bytes : (n : ℕ) → n / 8 + min 1 (n % 8) ≡ (n + 7) / 8
+in_bytes n = omega arith
 
 module _ (bytes : List ℕ) (e k : ℕ) where
   pub beyond : 255 < k → false ≡ has_arc bytes e k

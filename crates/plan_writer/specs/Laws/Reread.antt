@@ -1,5 +1,5 @@
 -- The code's own round trip, over the contracts of writing and reading.
-use Rattle.std.specs.Prelude.{◌≡◌, ℕ, ◌<◌, ◌≤◌, length, get_or, take, drop}
+use Rattle.std.specs.Prelude.{◌≡◌, ℕ, ◌<◌, ◌≤◌, length, get_or, take, drop, Result}
 use Rattle.std.proofs.Math.Path.{sym}
 use Rattle.std.proofs.Common.{ap, ◌∙◌, arith, length-append, take_at}
 use mathlib.Core.List.{List, Memᴰ}
@@ -11,9 +11,10 @@ use Rattle.postman.specs.PlanFile.{write_refusal, write_answer, bytes_after, fil
 use Rattle.plan.specs.declared.Arc.{Arc as ArcRecord}
 use Rattle.plan.specs.declared.Plan.{Plan}
 use Rattle.plan_file.specs.declared.Reading.{Reading}
+use Rattle.refusal.specs.declared.Refusal.{Refusal}
 use Rattle.refusal.specs.Verdict.{verdict_number}
 use Rattle.plan.specs.Records.{zero_record, record_at, plan_value, plan_record, no_plan}
-use Rattle.plan_file.specs.Reading.{edition_unless, plan_unless, IsReading}
+use Rattle.plan_file.specs.Reading.{edition_unless, plan_unless, edition_in, plan_in, IsReading}
 use Rattle.postman_laws.specs.Laws.Acceptance.{file_is_accepted, accepted_is_writable, writable_well_formed}
 use Rattle.postman.specs.Laws.Membership.{map_mem}
 use Rattle.postman_laws.specs.Laws.PlanFile.{length_file_of, edition_same, plan_same, is_file}
@@ -47,7 +48,7 @@ costs_fit p small a h =
     let l₁ = l.1 in
     (omega arith, omega arith)
 
-module _ (e : ℕ) (p : Plan) (bytes s : List ℕ) (room : length bytes ≡ 1475) (r : Reading) where
+module _ (e : ℕ) (p : Plan) (bytes s : List ℕ) (room : length bytes ≡ 1475) (r : Result Reading Refusal) where
   -- Where the file was written, what is read of it is the plan.
   pub reread-file
       : (k : ℕ)
@@ -74,9 +75,9 @@ module _ (e : ℕ) (p : Plan) (bytes s : List ℕ) (room : length bytes ≡ 1475
   pub reread-refused
       : (q : ℕ)
       → refused q ≡ write_answer e (plan_value p) bytes
-      → verdict_number r.verdict ≡ some q
-      → r.edition ≡ 0
-      → r.plan ≡ plan_record no_plan
+      → verdict_number r ≡ some q
+      → edition_in r ≡ 0
+      → plan_in r ≡ plan_record no_plan
       → IsReread e p r
   unfolding edition_unless plan_unless
   reread-refused q h v i l =

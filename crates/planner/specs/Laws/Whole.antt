@@ -1,6 +1,6 @@
 -- The whole call: where the file is refused, so is the call; where it is not, the first condition that applies is among the rest.
-use Rattle.std.specs.Prelude.{◌≡◌, cond, ℕ, length}
-use Rattle.std.proofs.Common.{sym, ◌∙◌, subst}
+use Rattle.std.specs.Prelude.{◌≡◌, ℕ, length, Result}
+use Rattle.std.proofs.Common.{sym, ◌∙◌}
 use Rattle.std.proofs.Math.Path.{ap}
 use mathlib.Core.List.{List, [], ◌∷◌, ◌++◌}
 use Rattle.std.proofs.Math.Option.{none, some}
@@ -12,7 +12,7 @@ use Rattle.postman_laws.specs.Laws.Theorem.{cut_off}
 use Rattle.plan.specs.Records.{plan_value}
 use Rattle.refusal.specs.declared.Refusal.{Refusal}
 use Rattle.plan_file.specs.declared.Reading.{Reading}
-use Rattle.plan_file.specs.Reading.{IsReading}
+use Rattle.plan_file.specs.Reading.{IsReading, plan_in}
 use Rattle.plan_file.specs.Laws.Reading.{accepted_value}
 use Rattle.postman_laws.specs.Laws.Refusal.{first_on, first_stop, before_order}
 use Rattle.solution.specs.declared.Planned.{Planned}
@@ -51,22 +51,19 @@ module _ (bytes : List ℕ) (budget places : ℕ) where
   file_good w e = file_on e ∙ later_refusal w
 
 -- the plan of a file that is not refused
-pub read_planned : (bytes : List ℕ) (budget : ℕ) (old new : List ℕ) (x : Planned) (r : Reading) → IsReading bytes r
+pub read_planned : (bytes : List ℕ) (budget : ℕ) (old new : List ℕ) (x : Result Planned Refusal) (r : Result Reading Refusal)
+    → IsReading bytes r
     → first_refusal (file_conditions bytes) ≡ none
-    → IsPlanned (plan_value r.plan) budget
-    (first_refusal (call_conditions budget (length old) ++ last_conditions (plan_value r.plan))) old new x
+    → IsPlanned (plan_value (plan_in r)) budget
+    (first_refusal (call_conditions budget (length old) ++ last_conditions (plan_value (plan_in r)))) old new x
     → IsPlanned (plan_of bytes) budget (call_refusal bytes budget (length old)) old new x
 read_planned bytes budget old new x r h e i =
-    read_answer (λ p o new x. IsPlanned p budget o old new x) bytes (plan_value r.plan) (λ p. p)
+    read_answer (λ p o new x. IsPlanned p budget o old new x) bytes (plan_value (plan_in r)) (λ p. p)
     (λ p. call_conditions budget (length old) ++ last_conditions p) _ new x
     (all_conditions bytes budget (length old)) e (accepted_value bytes r h e) i
 
-pub is_call : (bytes : List ℕ) (budget : ℕ) (old new : List ℕ) (r : Planned)
+pub is_call : (bytes : List ℕ) (budget : ℕ) (old new : List ℕ) (r : Result Planned Refusal)
     → IsPlanned (plan_of bytes) budget (call_refusal bytes budget (length old)) old new r → IsPlanCall bytes budget old new r
 is_call bytes budget old new r i =
     let c = cut_off bytes budget (length old) in
     record { planned = i; cut_off = ((λ e. c.0 (sym i.verdict ∙ e)), (λ h. i.verdict ∙ c.1 h)) }
-
-pub call_as : (bytes : List ℕ) (b c : ℕ) (old new : List ℕ) (r : Planned) → b ≡ c → IsPlanCall bytes b old new r
-    → IsPlanCall bytes c old new r
-call_as bytes b c old new r e i = subst (λ (b : ℕ). IsPlanCall bytes b old new r) e i

@@ -1,7 +1,7 @@
 -- WHAT A RAISED BUDGET BUYS, for callers in other languages: "For one plan (for a car, with equal marks) and two budgets, the larger gives
 -- a drive no dearer and a floor no lower", over the words, multipliers and sheets of two calls that both answer 0, with room for six words
 -- each; at a departure "at equal windows and departure". Any two sheets.
-use Rattle.std.specs.Prelude.{◌≡◌, refl, Bool, true, false, cond, List, ℕ, ◌≤◌, ◌<◌, ℤ, pos, nat_abs, length, get_or, take}
+use Rattle.std.specs.Prelude.{◌≡◌, refl, Bool, true, false, cond, List, ℕ, ◌≤◌, ◌<◌, ℤ, pos, nat_abs, length, get_or, take, Result}
 use Rattle.std.proofs.Common.{sym, ap, ◌∙◌, subst, arith, le-ltb}
 use Rattle.std.proofs.Math.Option.{Option}
 use Rattle.std.proofs.Math.Seq.{paste}
@@ -10,8 +10,9 @@ use Rattle.postman.specs.Plan.{Plan}
 use Rattle.postman.specs.PlanFile.{plan_of}
 use Rattle.postman.specs.Windows.{Departure}
 use Rattle.postman.specs.Marks.{car_plan, car_refusal}
+use Rattle.refusal.specs.declared.Refusal.{Refusal}
 use Rattle.solution.specs.declared.Planned.{Planned}
-use Rattle.solution.specs.Planned.{IsPlanned}
+use Rattle.solution.specs.Planned.{IsPlanned, summary_of, u_list}
 use Rattle.solution.specs.RaisedBudget.{Buys}
 use Rattle.solution.specs.Laws.Answered.{floor_above}
 use Rattle.planner.specs.Laws.Theorem.{raised_budget}
@@ -23,7 +24,7 @@ use Rattle.promises.specs.Laws.CarsTheorem.{lent_by, left_to, IsCarAnswered}
 
 -- ---- what is read of an answer that was handed over
 
-module _ (r : Planned) (old new : Slices) (n : ℤ) (x : HandsOver r old new n) (zero : n ≡ pos 0) (room : HasRoom old) where
+module _ (r : Result Planned Refusal) (old new : Slices) (n : ℤ) (x : HandsOver r old new n) (zero : n ≡ pos 0) (room : HasRoom old) where
   all_words : take 6 new.words ≡ words_of r
   all_words = ap (take 6) (words_put r old new n x zero)
       ∙ ap (λ (b : Bool). take 6 (paste old.words 0 (words_of r) (cond b (length old.words) 6)))
@@ -36,9 +37,9 @@ flag false k e = (λ i. refl, λ i. absurd (omega arith))
 -- ---- two answers for one plan
 
 module _ (p : Plan) (b c : ℕ) (more : b ≤ c) (f g : Option ℕ)
-    (old new : Slices) (n : ℤ) (r : Planned) (i : IsPlanned p b f old.sheet new.sheet r) (x : HandsOver r old new n)
+    (old new : Slices) (n : ℤ) (r : Result Planned Refusal) (i : IsPlanned p b f old.sheet new.sheet r) (x : HandsOver r old new n)
     (zero : n ≡ pos 0) (room : HasRoom old)
-    (old' new' : Slices) (m : ℤ) (s : Planned) (j : IsPlanned p c g old'.sheet new'.sheet s) (y : HandsOver s old' new' m)
+    (old' new' : Slices) (m : ℤ) (s : Result Planned Refusal) (j : IsPlanned p c g old'.sheet new'.sheet s) (y : HandsOver s old' new' m)
     (zero' : m ≡ pos 0) (room' : HasRoom old') where
   bought : Buys r s new.sheet new'.sheet
   bought = raised_budget p b c more f g old.sheet new.sheet old'.sheet new'.sheet r s i j (not_refused r old new n x zero)
@@ -50,7 +51,7 @@ module _ (p : Plan) (b c : ℕ) (more : b ≤ c) (f g : Option ℕ)
   word' : (k : ℕ) → k < 6 → get_or new'.words k 0 ≡ get_or (words_of s) k 0
   word' k l = word_is s old' new' m y zero' k l (omega arith)
 
-  floors : nat_abs r.floor ≤ nat_abs s.floor
+  floors : nat_abs (summary_of r).floor ≤ nat_abs (summary_of s).floor
   floors =
       let a = pos_abs (floor_above p b f old.sheet new.sheet r i (not_refused r old new n x zero)) in
       let d = pos_abs (floor_above p c g old'.sheet new'.sheet s j (not_refused s old' new' m y zero')) in
@@ -72,16 +73,18 @@ module _ (p : Plan) (b c : ℕ) (more : b ≤ c) (f g : Option ℕ)
         no_dearer = omega arith;
         no_lower = omega arith;
         partial_floors =
-            λ u v. d₂ ∙ ap nat_abs (h.partial_floors ((flag r.whole _ (sym e₄)).0 u) ((flag s.whole _ (sym d₄)).0 v)) ∙ sym e₂;
-        u = r.multipliers;
+            λ u v. d₂
+            ∙ ap nat_abs (h.partial_floors ((flag (summary_of r).whole _ (sym e₄)).0 u) ((flag (summary_of s).whole _ (sym d₄)).0 v))
+            ∙ sym e₂;
+        u = u_list r;
         first_multipliers = multipliers_put r old new n x zero;
         second_multipliers =
             multipliers_put s old' new' m y zero' ∙ ap (λ (u : List ℤ). put_first u old'.multipliers) h.same_multipliers;
         whole_words =
-            λ w. all_words s old' new' m y zero' room' ∙ ap words_of (h.whole_same ((flag r.whole _ (sym e₄)).1 w))
+            λ w. all_words s old' new' m y zero' room' ∙ ap words_of (h.whole_same ((flag (summary_of r).whole _ (sym e₄)).1 w))
             ∙ sym (all_words r old new n x zero room);
         whole_drive = λ w. ap (λ (k : ℕ). take k new'.sheet) (word' 0 (omega arith))
-            ∙ h.whole_drive ((flag r.whole _ (sym e₄)).1 w) ∙ sym (ap (λ (k : ℕ). take k new.sheet) (word 0 (omega arith)));
+            ∙ h.whole_drive ((flag (summary_of r).whole _ (sym e₄)).1 w) ∙ sym (ap (λ (k : ℕ). take k new.sheet) (word 0 (omega arith)));
       }
 
 -- ---- THE CALLS

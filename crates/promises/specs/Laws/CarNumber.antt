@@ -2,7 +2,7 @@
 -- these is refused for the file, and so is the other.
 use Rattle.std.proofs.Math.Path.{◌≡◌, refl, sym}
 use Rattle.std.proofs.Common.{ap, ◌∙◌, arith}
-use Rattle.std.specs.Prelude.{Bool, cond, List, [], ◌∷◌, ℕ, zero, suc, ◌+◌, ◌*◌, ◌/◌, ◌%◌, ◌≤◌, ◌<◌, ℤ, pos, neg_ℤ}
+use Rattle.std.specs.Prelude.{Bool, cond, List, [], ◌∷◌, ℕ, zero, suc, ◌+◌, ◌*◌, ◌/◌, ◌%◌, ◌≤◌, ◌<◌, ℤ, pos, neg_ℤ, Result, Ok, Err}
 use Rattle.std.proofs.Math.Bool.{true, false}
 use Rattle.std.proofs.Math.Option.{Option, none, some, some-ne-none}
 use Rattle.postman.specs.Refusal.{Conditions, first_refusal, answer}
@@ -11,8 +11,7 @@ use Rattle.postman.specs.PlanCall.{call_conditions, parts_conditions}
 use Rattle.postman.specs.Marks.{mark_conditions, car_refusal}
 use Rattle.postman_laws.specs.Laws.Refusal.{first_on, first_stop}
 use Rattle.postman_laws.specs.Laws.Marks.{car_order}
-use Rattle.refusal.specs.declared.Verdict.{Verdict}
-use Rattle.refusal.specs.declared.Verdict.TheVariants.{Accepted, Refused}
+use Rattle.refusal.specs.declared.Refusal.{Refusal}
 use Rattle.refusal.specs.Verdict.{refusal_number, verdict_number}
 use Rattle.refusal.specs.Laws.{some_number}
 use Rattle.answers.specs.Number.{one_number}
@@ -61,21 +60,21 @@ below_zero : (f : ℤ → ℤ) → ((n : ℕ) → f (neg_ℤ (pos (suc n))) ≡ 
 below_zero f h zero l = absurd (omega arith)
 below_zero f h (suc k) l = h k
 
-own_small : (w : Verdict) → own_number (verdict_number w) < 256
-own_small Accepted = omega arith
-own_small (Refused r) = let a = (some_number r).1 in omega arith
+own_small : {A : Type 0} (w : Result A Refusal) → own_number (verdict_number w) < 256
+own_small (Ok y) = omega arith
+own_small (Err r) = let a = (some_number r).1 in omega arith
 
-own_one : (w : Verdict) → neg_ℤ (pos (own_number (verdict_number w))) ≡ one_number (answer (verdict_number w) 0)
+own_one : {A : Type 0} (w : Result A Refusal) → neg_ℤ (pos (own_number (verdict_number w))) ≡ one_number (answer (verdict_number w) 0)
 unfolding answer
-own_one Accepted = refl
-own_one (Refused r) = refl
+own_one (Ok y) = refl
+own_one (Err r) = refl
 
-pub first_read : (v w : Verdict) → first_number (cars_number (verdict_number v) (verdict_number w)) ≡ one_number
-    (answer (verdict_number v) 0)
+pub first_read : {A B : Type 0} (v : Result A Refusal) (w : Result B Refusal)
+    → first_number (cars_number (verdict_number v) (verdict_number w)) ≡ one_number (answer (verdict_number v) 0)
 unfolding answer
-first_read Accepted w = let l = own_small w in let e : own_number (verdict_number w) / 256 ≡ 0 = omega arith in ap
+first_read (Ok y) w = let l = own_small w in let e : own_number (verdict_number w) / 256 ≡ 0 = omega arith in ap
     (λ (x : ℕ). neg_ℤ (pos x)) e
-first_read (Refused r) w = at (reaches_both (refusal_number r))
+first_read (Err r) w = at (reaches_both (refusal_number r))
   where
     at : (b : Bool)
         → first_number (cond b (neg_ℤ (pos (refusal_number r))) (pos (256 * refusal_number r + own_number (verdict_number w))))
@@ -86,14 +85,15 @@ first_read (Refused r) w = at (reaches_both (refusal_number r))
         let e : (256 * refusal_number r + own_number (verdict_number w)) / 256 ≡ refusal_number r = omega arith in
         ap (λ (x : ℕ). neg_ℤ (pos x)) e
 
-pub second_read : (v w : Verdict) → ((k : ℕ) → verdict_number v ≡ some k → reaches_both k ≡ true → verdict_number w ≡ some k)
+pub second_read : {A B : Type 0} (v : Result A Refusal) (w : Result B Refusal)
+    → ((k : ℕ) → verdict_number v ≡ some k → reaches_both k ≡ true → verdict_number w ≡ some k)
     → second_number (cars_number (verdict_number v) (verdict_number w)) ≡ one_number (answer (verdict_number w) 0)
 unfolding answer
-second_read Accepted w h =
+second_read (Ok y) w h =
     let l = own_small w in
     let e : own_number (verdict_number w) % 256 ≡ own_number (verdict_number w) = omega arith in
     ap (λ (x : ℕ). neg_ℤ (pos x)) e ∙ own_one w
-second_read (Refused r) w h = at (reaches_both (refusal_number r)) refl
+second_read (Err r) w h = at (reaches_both (refusal_number r)) refl
   where
     at : (b : Bool) → reaches_both (refusal_number r) ≡ b
         → second_number (cond b (neg_ℤ (pos (refusal_number r))) (pos (256 * refusal_number r + own_number (verdict_number w))))

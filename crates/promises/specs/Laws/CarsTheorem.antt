@@ -2,13 +2,14 @@
 -- trees and u must be the same." Over two calls that agree in the plan and in one car's marks, budget and sheet length, that car is left
 -- one answer, whatever the other lends; its number is read off the one number for both. And a car whose marks are the plan's own is left
 -- what the plan call leaves.
-use Rattle.std.specs.Prelude.{◌≡◌, List, true, ℕ, ℤ, length}
+use Rattle.std.specs.Prelude.{◌≡◌, List, true, ℕ, ℤ, length, Result}
 use Rattle.std.proofs.Common.{sym, ap, ◌∙◌, subst}
 use Rattle.std.proofs.Math.Option.{some}
 use Rattle.postman.specs.PlanFile.{plan_of}
 use Rattle.postman.specs.PlanCall.{call_refusal}
 use Rattle.postman.specs.Marks.{car_plan, own_marks, car_refusal}
 use Rattle.refusal.specs.Verdict.{verdict_number}
+use Rattle.refusal.specs.declared.Refusal.{Refusal}
 use Rattle.solution.specs.declared.Planned.{Planned}
 use Rattle.solution.specs.Planned.{IsPlanned}
 use Rattle.two_cars.specs.Contract.{IsCar}
@@ -36,7 +37,7 @@ pub record LendAlike (a b : Lent) : Type 0 where
 
 -- What one car is answered, as a plan call is.
 pub record IsCarAnswered (bytes : List ℕ) (c : Lent) (n : ℤ) : Type 0 where
-  pub answer : Planned
+  pub answer : Result Planned Refusal
   pub called : IsCar bytes c.marks c.budget c.sheet c.sheet' answer
   pub handed_over : IsHandedOver answer c.words c.words' c.u c.u' n
 
@@ -47,14 +48,14 @@ module _ (bytes : List ℕ) (a b : Lent) (n : ℤ) (x : IsExportedCars bytes a b
     answer = x.answer.first;
     called = x.called.first;
     handed_over = record {
-      number_is = ap first_number x.number_is ∙ first_read x.answer.first.verdict x.answer.second.verdict;
+      number_is = ap first_number x.number_is ∙ first_read x.answer.first x.answer.second;
       words_are = x.first_left.words_are;
       multipliers_are = x.first_left.multipliers_are;
     };
   }
 
-  reaches : (k : ℕ) → verdict_number x.answer.first.verdict ≡ some k → reaches_both k ≡ true
-      → verdict_number x.answer.second.verdict ≡ some k
+  reaches : (k : ℕ) → verdict_number x.answer.first ≡ some k → reaches_both k ≡ true
+      → verdict_number x.answer.second ≡ some k
   reaches k e r =
       x.called.second.planned.verdict
       ∙ both_refused bytes a.budget b.budget (length a.sheet) (length b.sheet) a.marks b.marks k
@@ -65,7 +66,7 @@ module _ (bytes : List ℕ) (a b : Lent) (n : ℤ) (x : IsExportedCars bytes a b
     answer = x.answer.second;
     called = x.called.second;
     handed_over = record {
-      number_is = ap second_number x.number_is ∙ second_read x.answer.first.verdict x.answer.second.verdict reaches;
+      number_is = ap second_number x.number_is ∙ second_read x.answer.first x.answer.second reaches;
       words_are = x.second_left.words_are;
       multipliers_are = x.second_left.multipliers_are;
     };

@@ -1,5 +1,5 @@
 -- The three demands, from what the contract of a call says of its answer (`solution` `IsPlanned`), whatever plan it is for.
-use Rattle.std.specs.Prelude.{◌≡◌, Bool, not, List, ℕ, length, pos, T}
+use Rattle.std.specs.Prelude.{◌≡◌, Bool, not, List, ℕ, length, pos, T, Result}
 use Rattle.std.proofs.Math.Path.{sym, ap, ap₂}
 use Rattle.std.proofs.Common.{◌∙◌, subst}
 use Rattle.std.proofs.Math.Option.{Option, some}
@@ -16,13 +16,15 @@ use Rattle.refusal.specs.Verdict.{verdict_number}
 use Rattle.drive_legs.specs.Drive.{written}
 use Rattle.multipliers.specs.Drive.{drive_of}
 use Rattle.multipliers.specs.Ascent.{multipliers_for}
+use Rattle.refusal.specs.declared.Refusal.{Refusal}
 use Rattle.solution.specs.declared.Planned.{Planned}
-use Rattle.solution.specs.Planned.{summary_of, multipliers_of, count_unless, IsPlanned}
+use Rattle.solution.specs.Planned.{summary_of, multipliers_of, count_unless, IsPlanned, places_of, u_list}
 use Rattle.solution.specs.Laws.Answered.{is_answer, sheet_is, summary_given, floor_is, count_is, places_count, drive_written}
 use Rattle.two_cars.specs.Contract.{IsCar}
 use Rattle.promises.specs.Demands.{Refuses, Accepted, Drives, Bounds}
 
-module _ {p : Plan} {budget : ℕ} {refusal : Option ℕ} {old new : List ℕ} {r : Planned} (i : IsPlanned p budget refusal old new r) where
+module _ {p : Plan} {budget : ℕ} {refusal : Option ℕ} {old new : List ℕ} {r : Result Planned Refusal}
+    (i : IsPlanned p budget refusal old new r) where
   -- ---- demand 1
 
   pub refuses : Refuses refusal old new r
@@ -49,7 +51,7 @@ module _ {p : Plan} {budget : ℕ} {refusal : Option ℕ} {old new : List ℕ} {
 
     -- ---- demand 2
 
-    later_kept : drop r.places new ≡ drop r.places old
+    later_kept : drop (places_of r) new ≡ drop (places_of r) old
     unfolding written
     later_kept =
         let d = drive_of p budget in
@@ -89,17 +91,17 @@ module _ {p : Plan} {budget : ℕ} {refusal : Option ℕ} {old new : List ℕ} {
 
 -- ---- u
 
-pub equal_multipliers : {p q : Plan} {b c : ℕ} {o o' : Option ℕ} {old new old' new' : List ℕ} {r s : Planned} → IsPlanned p b o old new r
-    → IsPlanned q c o' old' new' s
-    → p ≡ q → Accepted r → Accepted s → r.multipliers ≡ s.multipliers
+pub equal_multipliers : {p q : Plan} {b c : ℕ} {o o' : Option ℕ} {old new old' new' : List ℕ} {r s : Result Planned Refusal}
+    → IsPlanned p b o old new r → IsPlanned q c o' old' new' s
+    → p ≡ q → Accepted r → Accepted s → u_list r ≡ u_list s
 equal_multipliers i j e good good' =
     (i.answered (sym i.verdict ∙ good)).multipliers_are ∙ ap multipliers_for e
     ∙ sym (j.answered (sym j.verdict ∙ good')).multipliers_are
 
 -- ---- "Only 1 to 7 and 13 reach both"
 
-pub file_refused_car : {bytes marks : List ℕ} {budget : ℕ} {old new : List ℕ} {r : Planned} {k : ℕ} → IsCar bytes marks budget old new r
-    → first_refusal (file_conditions bytes) ≡ some k
-    → verdict_number r.verdict ≡ some k
+pub file_refused_car : {bytes marks : List ℕ} {budget : ℕ} {old new : List ℕ} {r : Result Planned Refusal} {k : ℕ}
+    → IsCar bytes marks budget old new r → first_refusal (file_conditions bytes) ≡ some k
+    → verdict_number r ≡ some k
 file_refused_car {bytes} {marks} {budget} {old} {k = k} c e =
     c.planned.verdict ∙ car_order bytes budget (length old) marks ∙ first_stop (file_conditions bytes) _ k e

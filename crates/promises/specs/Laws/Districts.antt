@@ -1,5 +1,5 @@
 -- What the calls of a machine answer after a run, and what the run's line is.
-use Rattle.std.specs.Prelude.{◌≡◌, refl, Bool, true, false, not, cond, ℕ, suc, ◌+◌, ◌*◌, ◌≤◌, ◌<◌, length, T}
+use Rattle.std.specs.Prelude.{◌≡◌, Ok, refl, Bool, true, false, not, cond, ℕ, suc, ◌+◌, ◌*◌, ◌≤◌, ◌<◌, length, T, Result}
 use Rattle.std.proofs.Common.{sym, ap, ◌∙◌, arith, leb→le}
 use Rattle.std.proofs.Math.Path.{subst⁻¹}
 use mathlib.Core.List.{List, [], ◌∷◌, Memᴰ}
@@ -7,10 +7,11 @@ use Rattle.std.proofs.Math.Option.{Option, none, some}
 use Rattle.postman.specs.Laws.Tests.{of_true}
 use Rattle.postman.specs.PlanFile.{plan_of}
 use Rattle.postman.specs.PlanCall.{sheet_places}
+use Rattle.refusal.specs.declared.Refusal.{Refusal}
+use Rattle.solution.specs.Planned.{u_list}
 use Rattle.solution.specs.declared.Planned.{Planned}
 use Rattle.planner.specs.Contract.{IsPlanCall}
 use Rattle.district_machine.specs.declared.machine.Machine.{Machine}
-use Rattle.district_entry.specs.declared.enter.Admission.TheVariants.{At}
 use Rattle.district_entry.specs.declared.enter.Entered.{Entered}
 use Rattle.districts.specs.declared.turn.Outcome.TheVariants.{Empty, ShortSheet}
 use Rattle.districts.specs.declared.turn.Turned.{Turned}
@@ -40,7 +41,7 @@ none_of q l (x ∷ es) e = at (is_turn_of q (run_from l es) x) e (none_of q l es
 
 -- the place that an entry answers
 pub entry_place : {m : Machine} {bytes : List ℕ} {budget : ℕ} {r : Entered} {l : Line} → IsEntered m bytes budget r → line_of m ≡ l
-    → (q : ℕ) → r.answer ≡ At q → (q ≡ lowest_free l) × (q < 8)
+    → (q : ℕ) → r.answer ≡ Ok q → (q ≡ lowest_free l) × (q < 8)
 entry_place {m} {bytes} {budget} {r} {l} h e q a =
     let p = h.place q a ∙ ap lowest_free e in
     let g : entry_refusal l bytes budget ≡ none =
@@ -71,9 +72,9 @@ module _ (es : List Event) {m : Machine} (h : Led es m) {old new : List ℕ} {r 
   short_still d l e few = still short_sheet t (line_short_met m (length old) d l (run_line es m h ∙ e) few)
 
   -- u of a last turn is that of the plan call
-  pub last_multipliers : {new' : List ℕ} {s : Planned} (d : District) (l : Line) → run es ≡ d ∷ l → sheet_places ≤ length old
+  pub last_multipliers : {new' : List ℕ} {s : Result Planned Refusal} (d : District) (l : Line) → run es ≡ d ∷ l → sheet_places ≤ length old
       → finishes d ≡ true
-      → IsPlanCall (last_entry d.place es).bytes (last_entry d.place es).budget old new' s → r.planned.multipliers ≡ s.multipliers
+      → IsPlanCall (last_entry d.place es).bytes (last_entry d.place es).budget old new' s → u_list r.planned ≡ u_list s
   last_multipliers {new'} {s} d l e long f c =
       let x = ((served es m h old new r t d l e long).last f).1 in
       let k = ((run_kept es).each d (subst⁻¹ (λ (y : Line). Memᴰ d y) e (Memᴰ.head refl))).bytes_are in

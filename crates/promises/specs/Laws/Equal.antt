@@ -1,5 +1,5 @@
 -- Answers that are the same field by field are equal: a verdict is told by its number, since no two refusals have one number.
-use Rattle.std.specs.Prelude.{◌≡◌, refl, cond, List, ℕ, eqb, ℤ, pos, length, get_or, take}
+use Rattle.std.specs.Prelude.{◌≡◌, refl, cond, List, ℕ, eqb, ℤ, pos, length, get_or, take, Result, Ok, Err}
 use Rattle.std.proofs.Common.{sym, ap, ◌∙◌, subst}
 use Rattle.std.proofs.Math.Option.{Option, none, some, some-ne-none}
 use Rattle.postman.specs.Plan.{Plan}
@@ -8,11 +8,9 @@ use Rattle.postman.specs.PlanCall.{summary, fields}
 use Rattle.postman.specs.Windows.{Departure, call_refusal_at}
 use Rattle.refusal.specs.declared.Refusal.{Refusal}
 use Rattle.refusal.specs.declared.Refusal.TheVariants.{Torn, Edition, Extent, Margin, OffSheet, Unpriced, Standing, ShortSheet, Budget, Idle, Scattered, CutOff, Repeated, Foreign, Unjoined, Missed, StrayPair, BadMarks, BadWindow, MustShut, NoMark, Full, Rounds}
-use Rattle.refusal.specs.declared.Verdict.{Verdict}
-use Rattle.refusal.specs.declared.Verdict.TheVariants.{Accepted, Refused}
 use Rattle.refusal.specs.Verdict.{refusal_number, verdict_number}
 use Rattle.solution.specs.declared.Planned.{Planned}
-use Rattle.solution.specs.Planned.{IsPlanned}
+use Rattle.solution.specs.Planned.{IsPlanned, summary_of, places_of, u_list}
 use Rattle.solution.specs.SameAnswer.{SameAnswer}
 use Rattle.call_steps.specs.Laws.Call.{planned_as}
 use Rattle.windows.specs.Contract.{IsPlanCallAt}
@@ -75,71 +73,62 @@ number_back Rounds = refl
 same_refusal : (r s : Refusal) → refusal_number r ≡ refusal_number s → r ≡ s
 same_refusal r s e = sym (number_back r) ∙ ap refusal_of e ∙ number_back s
 
-same_verdict : (v w : Verdict) → verdict_number v ≡ verdict_number w → v ≡ w
-same_verdict Accepted Accepted e = refl
-same_verdict Accepted (Refused s) e = absurd (some-ne-none _ (sym e))
-same_verdict (Refused r) Accepted e = absurd (some-ne-none _ e)
-same_verdict (Refused r) (Refused s) e = ap Refused (same_refusal r s (ap held e))
+-- Answers with one verdict, equal places and fields and one u are equal.
+same_parts : (r s : Result Planned Refusal) → verdict_number r ≡ verdict_number s → places_of r ≡ places_of s
+    → summary_of r ≡ summary_of s → u_list r ≡ u_list s → r ≡ s
+same_parts (Ok x) (Ok y) e n f u =
+    λ j. Ok (record {
+      places = n j;
+      cost = (f j).cost;
+      floor = (f j).floor;
+      trees = (f j).trees;
+      whole = (f j).whole;
+      parts = (f j).parts;
+      multipliers = u j;
+    })
+same_parts (Ok x) (Err s) e n f u = absurd (some-ne-none _ (sym e))
+same_parts (Err r) (Ok y) e n f u = absurd (some-ne-none _ e)
+same_parts (Err r) (Err s) e n f u = ap Err (same_refusal r s (ap held e))
   where
     held : Option ℕ → ℕ
     held none = 0
     held (some k) = k
 
-pub equal : {r s : Planned} → SameAnswer r s → r.multipliers ≡ s.multipliers → r ≡ s
+pub equal : {r s : Result Planned Refusal} → SameAnswer r s → u_list r ≡ u_list s → r ≡ s
 equal {r} {s} h u =
-    let v = same_verdict r.verdict s.verdict h.refusal in
-    λ j. record {
-      verdict = v j;
-      places = h.places j;
-      cost = h.cost j;
-      floor = h.floor j;
-      trees = h.trees j;
-      whole = h.whole j;
-      parts = h.parts j;
-      multipliers = u j;
-    }
+    same_parts r s h.refusal h.places
+    (λ j. record { cost = h.cost j; floor = h.floor j; trees = h.trees j; whole = h.whole j; parts = h.parts j }) u
 
 -- ---- two answers to calls on one plan, with one budget and one refusal, are equal, whatever the sheets hold
 
-module _ {p : Plan} {budget : ℕ} {old new old' new' : List ℕ} {r s : Planned} where
-  same_multipliers : (o : Option ℕ) → IsPlanned p budget o old new r → IsPlanned p budget o old' new' s → r.multipliers ≡ s.multipliers
+module _ {p : Plan} {budget : ℕ} {old new old' new' : List ℕ} {r s : Result Planned Refusal} where
+  same_multipliers : (o : Option ℕ) → IsPlanned p budget o old new r → IsPlanned p budget o old' new' s → u_list r ≡ u_list s
   same_multipliers none i j = (i.answered refl).multipliers_are ∙ sym (j.answered refl).multipliers_are
   same_multipliers (some k) i j = i.no_multipliers k refl ∙ sym (j.no_multipliers k refl)
 
   pub equal_answers : {o : Option ℕ} → IsPlanned p budget o old new r → IsPlanned p budget o old' new' s → r ≡ s
   equal_answers {o} i j =
       let u = same_multipliers o i j in
-      let v = same_verdict r.verdict s.verdict (i.verdict ∙ sym j.verdict) in
-      let n = i.places_are ∙ sym j.places_are in
       let e = i.summary_is ∙ ap (λ (l : List ℤ). fields (answer o (summary p budget (λ v. get_or l v (pos 0))))) u ∙ sym j.summary_is in
-      λ k. record {
-        verdict = v k;
-        places = n k;
-        cost = (e k).cost;
-        floor = (e k).floor;
-        trees = (e k).trees;
-        whole = (e k).whole;
-        parts = (e k).parts;
-        multipliers = u k;
-      }
+      same_parts r s (i.verdict ∙ sym j.verdict) (i.places_are ∙ sym j.places_are) e u
 
 -- and where the sheets held the same, they hold the same
-pub equal_calls : {p : Plan} {budget : ℕ} {o : Option ℕ} {old new new' : List ℕ} {r s : Planned} → IsPlanned p budget o old new r
-    → IsPlanned p budget o old new' s → (r ≡ s) × (new ≡ new')
+pub equal_calls : {p : Plan} {budget : ℕ} {o : Option ℕ} {old new new' : List ℕ} {r s : Result Planned Refusal}
+    → IsPlanned p budget o old new r → IsPlanned p budget o old new' s → (r ≡ s) × (new ≡ new')
 equal_calls i j = (equal_answers i j, i.sheet ∙ sym j.sheet)
 
 -- at a departure, with sheets of one length
-pub equal_at : {bytes windows : List ℕ} {budget : ℕ} {d : Departure} {old new old' new' : List ℕ} {r s : Planned} → length old ≡ length old'
-    → IsPlanCallAt bytes budget windows d old new r → IsPlanCallAt bytes budget windows d old' new' s → r ≡ s
+pub equal_at : {bytes windows : List ℕ} {budget : ℕ} {d : Departure} {old new old' new' : List ℕ} {r s : Result Planned Refusal}
+    → length old ≡ length old' → IsPlanCallAt bytes budget windows d old new r → IsPlanCallAt bytes budget windows d old' new' s → r ≡ s
 equal_at {bytes} {windows} {budget} {d} e x y =
     equal_answers x.planned
     (planned_as _ _ _ _ _ _ _ _ refl (ap (λ (n : ℕ). call_refusal_at bytes budget n windows d) (sym e)) y.planned)
 
 -- and of an open plan that holds the same file
-pub asked_equal : {f g : Held} {windows : List ℕ} {budget : ℕ} {d : Departure} {old new old' new' : List ℕ} {r s : Planned} → g ≡ f
-    → length old ≡ length old'
+pub asked_equal : {f g : Held} {windows : List ℕ} {budget : ℕ} {d : Departure} {old new old' new' : List ℕ} {r s : Result Planned Refusal}
+    → g ≡ f → length old ≡ length old'
     → IsPlanCallAt (file_in f) budget windows d old new r → IsPlanCallAt (file_in g) budget windows d old' new' s
-    → (r ≡ s) × (take r.places new ≡ take s.places new') × (old ≡ old' → new ≡ new')
+    → (r ≡ s) × (take (places_of r) new ≡ take (places_of s) new') × (old ≡ old' → new ≡ new')
 asked_equal {f} {g} {windows} {budget} {d} {old} {new} {old'} {new'} {r} {s} same e x y =
     let z = subst (λ (h : Held). IsPlanCallAt (file_in h) budget windows d old' new' s) same y in
     let q = same_asked (file_in f) budget windows d old new old' new' r s e x z in

@@ -2,7 +2,7 @@
 -- call at a departure, of the deep call, of asking an open plan, of a district's last turn, and of a car whose marks are the plan's own.
 -- And no drive that anyone sent is judged to cost less than the floor. For every input, from the contracts of the calls alone; then once
 -- more over what callers in other languages lend.
-use Rattle.std.specs.Prelude.{◌≡◌, true, cond, ℕ, ◌%◌, ◌≤◌, ◌<◌, length, get_or, take, ℤ, pos, ◌≤ℤ◌}
+use Rattle.std.specs.Prelude.{◌≡◌, true, cond, ℕ, ◌%◌, ◌≤◌, ◌<◌, length, get_or, take, ℤ, pos, ◌≤ℤ◌, Result}
 use Rattle.std.proofs.Common.{sym, ap, ◌∙◌, subst, arith}
 use mathlib.Core.List.{List, ◌∷◌, Memᴰ}
 use Rattle.std.proofs.Math.Option.{Option, none}
@@ -15,8 +15,9 @@ use Rattle.postman.specs.Judge.{highest_places, judge_answer}
 use Rattle.postman_laws.specs.Laws.Judge.{call_judged, file_judged}
 use Rattle.postman_laws.specs.Laws.Windows.{call_accepted_at, same_some}
 use Rattle.refusal.specs.Verdict.{verdict_number}
+use Rattle.refusal.specs.declared.Refusal.{Refusal}
 use Rattle.solution.specs.declared.Planned.{Planned}
-use Rattle.solution.specs.Planned.{IsPlanned}
+use Rattle.solution.specs.Planned.{IsPlanned, summary_of, places_of}
 use Rattle.solution.specs.Laws.Answered.{accepted, is_answer, cost_is, floor_is, drive_written}
 use Rattle.planner.specs.Contract.{IsPlanCall}
 use Rattle.windows.specs.Contract.{IsPlanCallAt}
@@ -36,7 +37,6 @@ use Rattle.districts.specs.Laws.Theorem.{served}
 use Rattle.districts.specs.Laws.Runs.{run_kept}
 use Rattle.districts.specs.Laws.Led.{led}
 use Rattle.districts.specs.Laws.Finished.{front_accepted}
-use Rattle.judge.specs.declared.Judged.{Judged}
 use Rattle.judge.specs.Contract.{judged_answer, IsJudged}
 use Rattle.held_file.specs.Held.{file_in}
 use Rattle.answers.specs.Number.{one_number}
@@ -53,7 +53,7 @@ use Rattle.promises.specs.Laws.LentTurns.{lent_led}
 
 -- Judged on the file's plan, the list w costs c, whoever judges it by the contract of the judging call.
 abbrev pub Passes : List ℕ → List ℕ → ℕ → Type 0
-Passes bytes w c = (j : Judged) → IsJudged bytes w j → judged_answer j ≡ given c
+Passes bytes w c = (j : Result ℕ Refusal) → IsJudged bytes w j → judged_answer j ≡ given c
 
 passes : {bytes w : List ℕ} {c : ℕ} → judge_answer bytes w ≡ given c → Passes bytes w c
 passes e j h = h.answer_is ∙ e
@@ -61,57 +61,60 @@ passes e j h = h.answer_is ∙ e
 -- ---- what is judged of the places written
 
 -- an answer for the file's plan
-planned_judged : (bytes : List ℕ) (budget : ℕ) (refusal : Option ℕ) (old new : List ℕ) (r : Planned)
-    → IsPlanned (plan_of bytes) budget refusal old new r → verdict_number r.verdict ≡ none
-    → call_refusal bytes budget (length old) ≡ none → judge_answer bytes (take r.places new) ≡ given r.cost
+planned_judged : (bytes : List ℕ) (budget : ℕ) (refusal : Option ℕ) (old new : List ℕ) (r : Result Planned Refusal)
+    → IsPlanned (plan_of bytes) budget refusal old new r → verdict_number r ≡ none
+    → call_refusal bytes budget (length old) ≡ none → judge_answer bytes (take (places_of r) new) ≡ given (summary_of r).cost
 unfolding highest_places sheet_places
 planned_judged bytes budget refusal old new r i good e =
     let t = drive_written _ _ _ _ _ _ i good in
     let l = t.short in
-    call_judged bytes (take r.places new) budget (length old) e (omega arith) t.drive
+    call_judged bytes (take (places_of r) new) budget (length old) e (omega arith) t.drive
     ∙ ap given (t.costs ∙ sym (cost_is _ _ _ _ _ _ i good))
 
-call_passes : (bytes : List ℕ) (budget : ℕ) (old new : List ℕ) (r : Planned) → IsPlanCall bytes budget old new r
-    → verdict_number r.verdict ≡ none
-    → judge_answer bytes (take r.places new) ≡ given r.cost
+call_passes : (bytes : List ℕ) (budget : ℕ) (old new : List ℕ) (r : Result Planned Refusal) → IsPlanCall bytes budget old new r
+    → verdict_number r ≡ none
+    → judge_answer bytes (take (places_of r) new) ≡ given (summary_of r).cost
 call_passes bytes budget old new r call good =
     planned_judged bytes budget _ old new r call.planned good (accepted _ _ _ _ _ _ call.planned good)
 
 -- the plan at a departure has the file's must arcs, so that its drives are judged by the file's plan at the same cost
-at_passes : (bytes : List ℕ) (budget : ℕ) (numbers : List ℕ) (d : Departure) (old new : List ℕ) (r : Planned)
-    → IsPlanCallAt bytes budget numbers d old new r → verdict_number r.verdict ≡ none
-    → judge_answer bytes (take r.places new) ≡ given r.cost
+at_passes : (bytes : List ℕ) (budget : ℕ) (numbers : List ℕ) (d : Departure) (old new : List ℕ) (r : Result Planned Refusal)
+    → IsPlanCallAt bytes budget numbers d old new r → verdict_number r ≡ none
+    → judge_answer bytes (take (places_of r) new) ≡ given (summary_of r).cost
 unfolding highest_places sheet_places
 at_passes bytes budget numbers d old new r call good =
     let a = call_accepted_at bytes budget (length old) numbers d (accepted _ _ _ _ _ _ call.planned good) in
     let l = (drive_written _ _ _ _ _ _ call.planned good).short in
-    file_judged bytes (take r.places new) a.before.file
+    file_judged bytes (take (places_of r) new) a.before.file
     (same_some (plan_of bytes) (windows_in numbers) d a.none_shut a.before.some_required) (omega arith) (call.written_drive good)
     ∙ ap given (call.written_cost good)
 
 -- ---- THE CALLS
 
-module _ (bytes : List ℕ) (budget : ℕ) (old new : List ℕ) (r : Planned) (good : verdict_number r.verdict ≡ none) where
+module _ (bytes : List ℕ) (budget : ℕ) (old new : List ℕ) (r : Result Planned Refusal) (good : verdict_number r ≡ none) where
   -- the plan call; the short call is the plan call at its budget
-  pub written_passes : IsPlanCall bytes budget old new r → Passes bytes (take r.places new) r.cost
+  pub written_passes : IsPlanCall bytes budget old new r → Passes bytes (take (places_of r) new) (summary_of r).cost
   written_passes call = passes (call_passes bytes budget old new r call good)
 
   -- the plan call at a departure; asking an open plan is this call on the file that it holds
   pub written_passes_at : (numbers : List ℕ) (d : Departure) → IsPlanCallAt bytes budget numbers d old new r
-      → Passes bytes (take r.places new) r.cost
+      → Passes bytes (take (places_of r) new) (summary_of r).cost
   written_passes_at numbers d call = passes (at_passes bytes budget numbers d old new r call good)
 
   -- the deep call
-  pub written_passes_deep : (rounds : ℕ) → IsDeepCall bytes budget rounds old new r → Passes bytes (take r.places new) r.cost
+  pub written_passes_deep : (rounds : ℕ) → IsDeepCall bytes budget rounds old new r
+      → Passes bytes (take (places_of r) new) (summary_of r).cost
   written_passes_deep rounds call = passes (passes_the_judge bytes budget rounds old new r call good)
 
   -- a car whose marks are the plan's own must arcs
-  pub written_passes_car : IsCar bytes (own_marks (plan_of bytes)) budget old new r → Passes bytes (take r.places new) r.cost
+  pub written_passes_car : IsCar bytes (own_marks (plan_of bytes)) budget old new r
+      → Passes bytes (take (places_of r) new) (summary_of r).cost
   written_passes_car car = written_passes (as_plan_call bytes budget old new r car)
 
   -- NO DRIVE THAT ANOTHER HOUSE SENT IS JUDGED TO COST LESS THAN THE FLOOR
-  pub floor_below : IsPlanCall bytes budget old new r → (w : List ℕ) (j : Judged) → IsJudged bytes w j → (c : ℕ) → judged_answer j ≡ given c
-      → r.floor ≤ℤ pos c
+  pub floor_below : IsPlanCall bytes budget old new r → (w : List ℕ) (j : Result ℕ Refusal) → IsJudged bytes w j → (c : ℕ)
+      → judged_answer j ≡ given c
+      → (summary_of r).floor ≤ℤ pos c
   floor_below call w j h c e =
       let t = h.costs c e in
       let f = floor_is _ _ _ _ _ _ call.planned good in
@@ -120,16 +123,16 @@ module _ (bytes : List ℕ) (budget : ℕ) (old new : List ℕ) (r : Planned) (g
 -- a district's last turn, after every run of entries and turns: judged on the plan that it entered with
 module _ (es : List Event) (m : Machine) (h : Led es m) (d : District) (l : Line) (e : run es ≡ d ∷ l) (f : finishes d ≡ true)
     (old new : List ℕ) (r : Turned) (t : IsTurned m old new r) (long : sheet_places ≤ length old) where
-  turn_judged : judge_answer (last_entry d.place es).bytes (take r.planned.places new) ≡ given r.planned.cost
+  turn_judged : judge_answer (last_entry d.place es).bytes (take (places_of r.planned) new) ≡ given (summary_of r.planned).cost
   turn_judged =
       let i = led es m h in
       let x = ((served es m h old new r t d l e long).last f).1 in
       let k = ((run_kept es).each d (subst (λ (y : Line). Memᴰ d y) (sym e) (Memᴰ.head (λ i. d)))).bytes_are in
-      ap (λ (b : List ℕ). judge_answer b (take r.planned.places new)) (sym k)
+      ap (λ (b : List ℕ). judge_answer b (take (places_of r.planned) new)) (sym k)
       ∙ planned_judged d.bytes d.budget none old new r.planned x x.verdict
       (front_accepted m i.1 d l (i.0 ∙ e) (length old) long)
 
-  pub last_turn_passes : Passes (last_entry d.place es).bytes (take r.planned.places new) r.planned.cost
+  pub last_turn_passes : Passes (last_entry d.place es).bytes (take (places_of r.planned) new) (summary_of r.planned).cost
   last_turn_passes = passes turn_judged
 
 -- ---- over what callers in other languages lend: two words at least, and the sheet
@@ -141,21 +144,22 @@ lent_drive words sheet = take (get_or words 0 0) sheet
 abbrev pub LentPasses : List ℕ → List ℕ → List ℕ → Type 0
 LentPasses bytes words sheet = (n : ℤ) → n ≡ one_number (judge_answer bytes (lent_drive words sheet)) → n ≡ pos (get_or words 1 0)
 
-lent_passes : (bytes : List ℕ) (r : Planned) (sheet words words' : List ℕ) → 2 ≤ length words → words' ≡ put_first (words_of r) words
-    → judge_answer bytes (take r.places sheet) ≡ given r.cost
+lent_passes : (bytes : List ℕ) (r : Result Planned Refusal) (sheet words words' : List ℕ) → 2 ≤ length words
+    → words' ≡ put_first (words_of r) words → judge_answer bytes (take (places_of r) sheet) ≡ given (summary_of r).cost
     → LentPasses bytes words' sheet
 lent_passes bytes r sheet words words' room e j n h =
-    let a : get_or words' 0 0 ≡ r.places = ap (λ (w : List ℕ). get_or w 0 0) e
+    let a : get_or words' 0 0 ≡ (places_of r) = ap (λ (w : List ℕ). get_or w 0 0) e
     ∙ put_at (words_of r) words 0 0 (omega arith) (omega arith) in
-    let b : get_or words' 1 0 ≡ r.cost = ap (λ (w : List ℕ). get_or w 1 0) e ∙ put_at (words_of r) words 0 1 (omega arith) (omega arith) in
+    let b : get_or words' 1 0 ≡ (summary_of r).cost = ap (λ (w : List ℕ). get_or w 1 0) e
+    ∙ put_at (words_of r) words 0 1 (omega arith) (omega arith) in
     h ∙ ap (λ (k : ℕ). one_number (judge_answer bytes (take k sheet))) a ∙ ap one_number j ∙ sym (ap pos b)
 
 -- what an answer hands over
-handed_words : {r : Planned} {words words' : List ℕ} {u u' : List ℤ} {n : ℤ} → IsHandedOver r words words' u u' n → n ≡ pos 0
-    → (verdict_number r.verdict ≡ none) × (words' ≡ put_first (words_of r) words)
+handed_words : {r : Result Planned Refusal} {words words' : List ℕ} {u u' : List ℤ} {n : ℤ} → IsHandedOver r words words' u u' n → n ≡ pos 0
+    → (verdict_number r ≡ none) × (words' ≡ put_first (words_of r) words)
 unfolding unless
 handed_words {r} {words} h e =
-    let g = answered_zero r.verdict (sym h.number_is ∙ e) in
+    let g = answered_zero r (sym h.number_is ∙ e) in
     (g, h.words_are ∙ ap (λ (o : Option ℕ). unless o (put_first (words_of r) words) words) g)
 
 module _ (bytes : List ℕ) (budget : ℕ) (sheet sheet' words words' : List ℕ) (u u' : List ℤ) (n : ℤ) (room : 2 ≤ length words)
@@ -202,15 +206,15 @@ lent_passes_turn cs b h bytes sheet sheet' words words' u u' n x d l e f long ro
     (turn_judged es (machine_in b) i.1 d l e f sheet sheet' r y.1 long)
 
 -- two cars: the number tells whether a car is answered
-left_words : {r : Planned} {words words' : List ℕ} {u u' : List ℤ} → IsLeft r words words' u u' → verdict_number r.verdict ≡ none
+left_words : {r : Result Planned Refusal} {words words' : List ℕ} {u u' : List ℤ} → IsLeft r words words' u u' → verdict_number r ≡ none
     → words' ≡ put_first (words_of r) words
 unfolding unless
 left_words {r} {words} h g = h.words_are ∙ ap (λ (o : Option ℕ). unless o (put_first (words_of r) words) words) g
 
 module _ (bytes : List ℕ) (a b : Lent) (n : ℤ) (x : IsExportedCars bytes a b n) (k : ℕ) (e : n ≡ pos k) where
-  own_passes : (c : Lent) (r : Planned) → c.marks ≡ own_marks (plan_of bytes) → IsCar bytes c.marks c.budget c.sheet c.sheet' r
-      → verdict_number r.verdict ≡ none
-      → judge_answer bytes (take r.places c.sheet') ≡ given r.cost
+  own_passes : (c : Lent) (r : Result Planned Refusal) → c.marks ≡ own_marks (plan_of bytes)
+      → IsCar bytes c.marks c.budget c.sheet c.sheet' r → verdict_number r ≡ none
+      → judge_answer bytes (take (places_of r) c.sheet') ≡ given (summary_of r).cost
   own_passes c r m car good =
       call_passes bytes c.budget c.sheet c.sheet' r
       (as_plan_call bytes c.budget c.sheet c.sheet' r
@@ -219,12 +223,12 @@ module _ (bytes : List ℕ) (a b : Lent) (n : ℤ) (x : IsExportedCars bytes a b
   pub lent_passes_first : k < 256 → a.marks ≡ own_marks (plan_of bytes) → 2 ≤ length a.words → LentPasses bytes a.words' a.sheet'
   lent_passes_first l m room =
       let r = x.answer.first in
-      let g = first_told r.verdict x.answer.second.verdict k (sym x.number_is ∙ e) l in
+      let g = first_told r x.answer.second k (sym x.number_is ∙ e) l in
       lent_passes bytes r a.sheet' a.words a.words' room (left_words x.first_left g) (own_passes a r m x.called.first g)
 
   pub lent_passes_second : k % 256 ≡ 0 → b.marks ≡ own_marks (plan_of bytes) → 2 ≤ length b.words
       → LentPasses bytes b.words' b.sheet'
   lent_passes_second l m room =
       let r = x.answer.second in
-      let g = second_told x.answer.first.verdict r.verdict k (sym x.number_is ∙ e) l in
+      let g = second_told x.answer.first r k (sym x.number_is ∙ e) l in
       lent_passes bytes r b.sheet' b.words b.words' room (left_words x.second_left g) (own_passes b r m x.called.second g)

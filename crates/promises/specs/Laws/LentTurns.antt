@@ -1,14 +1,13 @@
 -- Machines that are lent, from the start on. A machine that was stored is lent again as it was, and where none is stored nothing has moved:
 -- so the machine after any run of calls is one that the run's entries and turns lead to (`districts` `Led`).
-use Rattle.std.specs.Prelude.{◌≡◌, refl, Bool, true, false, cond, List, [], ◌∷◌, ◌++◌, ℕ, ◌≤◌, T, ℤ, pos, length, drop, replicate}
+use Rattle.std.specs.Prelude.{◌≡◌, Result, Ok, Err, refl, Bool, true, false, cond, List, [], ◌∷◌, ◌++◌, ℕ, ◌≤◌, T, ℤ, pos, length, drop, replicate}
 use Rattle.std.proofs.Common.{sym, ap, ◌∙◌, subst, arith, length-append}
 use Rattle.std.proofs.Math.Path.{subst⁻¹}
 use Rattle.std.proofs.Math.Option.{Option, none, some}
 use Rattle.std.proofs.lemmas.List.{length-replicate}
 use Rattle.postman.specs.Refusal.{answer, unless}
 use Rattle.district_machine.specs.declared.machine.Machine.{Machine}
-use Rattle.district_entry.specs.declared.enter.Admission.{Admission}
-use Rattle.district_entry.specs.declared.enter.Admission.TheVariants.{At, Refused}
+use Rattle.refusal.specs.declared.Refusal.{Refusal}
 use Rattle.district_entry.specs.declared.enter.Entered.{Entered}
 use Rattle.districts.specs.declared.turn.Turned.{Turned}
 use Rattle.district_machine.specs.Machine.{empty_machine}
@@ -61,11 +60,11 @@ entry_led r b bytes n plan budget l h s = at (admission_number r.answer) refl s.
     )
 
 -- what it answers
-pub admitted_is : (a : Admission) (o : Option ℕ) (q : ℕ) → admission_number a ≡ o → ((p : ℕ) → a ≡ At p → p ≡ q)
+pub admitted_is : (a : Result ℕ Refusal) (o : Option ℕ) (q : ℕ) → admission_number a ≡ o → ((p : ℕ) → a ≡ Ok p → p ≡ q)
     → one_number (admitted a) ≡ one_number (answer o q)
 unfolding answer
-admitted_is (At p) o q e f = ap pos (f p refl) ∙ ap (λ (o : Option ℕ). one_number (answer o q)) e
-admitted_is (Refused r) o q e f = ap (λ (o : Option ℕ). one_number (answer o q)) e
+admitted_is (Ok p) o q e f = ap pos (f p refl) ∙ ap (λ (o : Option ℕ). one_number (answer o q)) e
+admitted_is (Err r) o q e f = ap (λ (o : Option ℕ). one_number (answer o q)) e
 
 -- ---- a turn
 

@@ -1,6 +1,6 @@
 -- Two calls on one plan, with one budget and one refusal, leave one answer: u and the drive are fixed by the plan, and the rest follows
 -- from u (`solution` `Laws.SameAnswer`).
-use Rattle.std.specs.Prelude.{◌≡◌, cond, List, [], ◌∷◌, ℕ, ℤ, nat_abs, length}
+use Rattle.std.specs.Prelude.{◌≡◌, cond, List, [], ◌∷◌, ℕ, ℤ, nat_abs, length, Result}
 use Rattle.std.proofs.Math.Path.{refl}
 use Rattle.std.proofs.Common.{sym, ap, ◌∙◌, subst}
 use Rattle.std.proofs.Math.Option.{Option, none, some}
@@ -11,8 +11,9 @@ use Rattle.postman.specs.Windows.{Departure, windows_in, plan_at, call_refusal_a
 use Rattle.refusal.specs.Verdict.{verdict_number}
 use Rattle.drive_legs.specs.Drive.{written}
 use Rattle.multipliers.specs.Drive.{drive_of}
+use Rattle.refusal.specs.declared.Refusal.{Refusal}
 use Rattle.solution.specs.declared.Planned.{Planned}
-use Rattle.solution.specs.Planned.{count_unless, IsPlanned}
+use Rattle.solution.specs.Planned.{count_unless, IsPlanned, u_list}
 use Rattle.solution.specs.SameAnswer.{SameAnswer}
 use Rattle.solution.specs.Laws.SameAnswer.{same_answer}
 use Rattle.answers.specs.Number.{one_number}
@@ -20,12 +21,12 @@ use Rattle.answers.specs.Answer.{words_of, put_first, IsHandedOver}
 use Rattle.promises.specs.Slices.{Slices, HandsOver, IsCalledAt, Leaves, LeaveOneAnswer}
 
 -- the same answer has the same words
-pub same_words : {r s : Planned} → SameAnswer r s → words_of r ≡ words_of s
+pub same_words : {r s : Result Planned Refusal} → SameAnswer r s → words_of r ≡ words_of s
 same_words x = λ j. x.places j ∷ x.cost j ∷ nat_abs (x.floor j) ∷ x.trees j ∷ cond (x.whole j) 1 0 ∷ x.parts j ∷ []
 
 -- and is handed over alike
-handed_as : {r s : Planned} {words words' : List ℕ} {u u' : List ℤ} {n : ℤ}
-    → verdict_number r.verdict ≡ verdict_number s.verdict → words_of r ≡ words_of s → r.multipliers ≡ s.multipliers
+handed_as : {r s : Result Planned Refusal} {words words' : List ℕ} {u u' : List ℤ} {n : ℤ}
+    → verdict_number r ≡ verdict_number s → words_of r ≡ words_of s → u_list r ≡ u_list s
     → IsHandedOver s words words' u u' n → IsHandedOver r words words' u u' n
 handed_as {r} {s} {words} {words'} {u} v w m h = record {
   number_is = h.number_is ∙ sym (ap (λ (o : Option ℕ). one_number (answer o 0)) v);
@@ -48,7 +49,7 @@ module _ (p : Plan) (budget : ℕ) (o : Option ℕ) where
   sheet_as none old = refl
   sheet_as (some k) old = refl
 
-  module _ (old new : Slices) (n : ℤ) (r : Planned) (i : IsPlanned p budget o old.sheet new.sheet r)
+  module _ (old new : Slices) (n : ℤ) (r : Result Planned Refusal) (i : IsPlanned p budget o old.sheet new.sheet r)
       (x : HandsOver r old new n) where
     leaves : Leaves r drive old new n
     leaves = record {
@@ -57,9 +58,9 @@ module _ (p : Plan) (budget : ℕ) (o : Option ℕ) where
           ∙ ap (λ (q : Option ℕ). unless q (written drive old.sheet) old.sheet) (sym i.verdict);
     }
 
-  module _ (old new : Slices) (n : ℤ) (r : Planned) (i : IsPlanned p budget o old.sheet new.sheet r)
+  module _ (old new : Slices) (n : ℤ) (r : Result Planned Refusal) (i : IsPlanned p budget o old.sheet new.sheet r)
       (x : HandsOver r old new n)
-      (old' new' : Slices) (n' : ℤ) (s : Planned) (j : IsPlanned p budget o old'.sheet new'.sheet s)
+      (old' new' : Slices) (n' : ℤ) (s : Result Planned Refusal) (j : IsPlanned p budget o old'.sheet new'.sheet s)
       (y : HandsOver s old' new' n') where
     -- the contract of the second answer on the first one's sheet
     same : SameAnswer r s
@@ -76,7 +77,7 @@ module _ (p : Plan) (budget : ℕ) (o : Option ℕ) where
         in
         (same_answer p budget old.sheet new.sheet _ r s o i k).0
 
-    same_u : (q : Option ℕ) → o ≡ q → r.multipliers ≡ s.multipliers
+    same_u : (q : Option ℕ) → o ≡ q → u_list r ≡ u_list s
     same_u none e = (i.answered e).multipliers_are ∙ sym (j.answered e).multipliers_are
     same_u (some k) e = i.no_multipliers k e ∙ sym (j.no_multipliers k e)
 

@@ -1,7 +1,7 @@
 -- EIGHT DISTRICTS IN TURN, for callers in other languages: first of any bytes that are lent as a machine, then of what the calls answer
 -- after every run of calls from a start on, accepted or not. It is what `districts` promises of machines, since the machine that is lent is
 -- one that the run leads to (`Laws.LentTurns.lent_led`).
-use Rattle.std.specs.Prelude.{◌≡◌, refl, true, false, ℕ, suc, ◌+◌, ◌≤◌, ◌<◌, T, ℤ, pos, neg_ℤ, nat_abs, length, drop}
+use Rattle.std.specs.Prelude.{◌≡◌, refl, true, false, ℕ, suc, ◌+◌, ◌≤◌, ◌<◌, T, ℤ, pos, neg_ℤ, nat_abs, length, drop, Result}
 use Rattle.std.proofs.Math.Path.{sym, ap, subst⁻¹}
 use Rattle.std.proofs.Common.{◌∙◌, subst, arith}
 use Rattle.std.proofs.Math.Bool.{cond}
@@ -11,6 +11,8 @@ use Rattle.postman.specs.Refusal.{answer, unless}
 use Rattle.postman.specs.PlanFile.{plan_of}
 use Rattle.postman.specs.PlanCall.{sheet_places, best_cost}
 use Rattle.refusal.specs.Verdict.{verdict_number}
+use Rattle.refusal.specs.declared.Refusal.{Refusal}
+use Rattle.solution.specs.Planned.{u_list}
 use Rattle.solution.specs.declared.Planned.{Planned}
 use Rattle.solution.specs.SameAnswer.{SameAnswer}
 use Rattle.multipliers.specs.Ascent.{multipliers_for}
@@ -63,7 +65,7 @@ pub record IsTurnOf (k : Meeting) (bytes bytes' sheet sheet' words words' : List
       bytes
   pub sheet_is : sheet' ≡ sheet_after k sheet
   pub words_are : words' ≡ cond (had_turn (outcome_of k)) (put_first (words_of (answer_of k)) words) words
-  pub multipliers_are : u' ≡ cond (had_last (outcome_of k)) (put_first (answer_of k).multipliers u) u
+  pub multipliers_are : u' ≡ cond (had_last (outcome_of k)) (put_first (u_list (answer_of k)) u) u
 
 pub turn_bytes : (bytes bytes' sheet sheet' words words' : List ℕ) (u u' : List ℤ) (n : ℤ) → districts_bytes ≤ length bytes
     → IsExportedTurn bytes bytes' sheet sheet' words words' u u' n
@@ -73,8 +75,8 @@ turn_bytes bytes bytes' sheet sheet' words words' u u' n long x =
     let t = y.1 in
     let h = y.2 in
     let after : Outcome → Machine → List ℕ = λ o m. cond (had_turn o) (machine_bytes m ++ drop districts_bytes bytes) bytes in
-    let told : Outcome → Planned → List ℕ = λ o p. cond (had_turn o) (put_first (words_of p) words) words in
-    let found : Outcome → Planned → List ℤ = λ o p. cond (had_last o) (put_first p.multipliers u) u in
+    let told : Outcome → Result Planned Refusal → List ℕ = λ o p. cond (had_turn o) (put_first (words_of p) words) words in
+    let found : Outcome → Result Planned Refusal → List ℤ = λ o p. cond (had_last o) (put_first (u_list p) u) u in
     record {
       number_is = h.number_is ∙ ap (λ (o : Outcome). one_number (outcome_number o)) t.outcome;
       machine_is = h.machine_is ∙ (λ i. after (t.outcome i) (t.machine i));
@@ -144,8 +146,8 @@ module _ (cs : List Call) (b : List ℕ) (h : LedLent cs b) (bytes sheet sheet' 
           handed.number_is ∙ ap (λ (o : Outcome). one_number (outcome_number o)) s.0,
           s.2,
           handed.words_are ∙ ap (λ (o : Outcome). cond (had_turn o) (put_first (words_of r.planned) words) words) s.0
-              ∙ ap (λ (p : Planned). put_first (words_of p) words) s.1,
-          handed.multipliers_are ∙ ap (λ (o : Outcome). cond (had_last o) (put_first r.planned.multipliers u) u) s.0,
+              ∙ ap (λ (p : Result Planned Refusal). put_first (words_of p) words) s.1,
+          handed.multipliers_are ∙ ap (λ (o : Outcome). cond (had_last o) (put_first (u_list r.planned) u) u) s.0,
         )
 
     -- THE LAST TURN of a district answers its place, and hands over what one plan call with the plan and the budget that it entered
@@ -156,7 +158,7 @@ module _ (cs : List Call) (b : List ℕ) (h : LedLent cs b) (bytes sheet sheet' 
       last = finished_as_plan_call es (machine_in b) (lent_led cs b h).1 sheet sheet' r (x.turned led_here).1 d l e long f sheet''
           c.answer c.called
 
-      good : verdict_number c.answer.verdict ≡ none
+      good : verdict_number c.answer ≡ none
       good = sym last.1.refusal ∙ (front.last f).1.verdict
 
       same_words : words_of r.planned ≡ words_of c.answer
@@ -164,7 +166,7 @@ module _ (cs : List Call) (b : List ℕ) (h : LedLent cs b) (bytes sheet sheet' 
           let s = last.1 in
           λ j. s.places j ∷ s.cost j ∷ nat_abs (s.floor j) ∷ s.trees j ∷ cond (s.whole j) 1 0 ∷ s.parts j ∷ []
 
-      same_multipliers : r.planned.multipliers ≡ c.answer.multipliers
+      same_multipliers : u_list r.planned ≡ u_list c.answer
       same_multipliers =
           let m = ((run_kept es).each d (subst⁻¹ (λ (y : Line). Memᴰ d y) e (Memᴰ.head refl))).bytes_are in
           let p = c.called.planned in
@@ -182,9 +184,9 @@ module _ (cs : List Call) (b : List ℕ) (h : LedLent cs b) (bytes sheet sheet' 
             handed.words_are ∙ ap (λ (o : Outcome). cond (had_turn o) (put_first (words_of r.planned) words) words) o
                 ∙ ap (λ (w : List ℕ). put_first w words) same_words
                 ∙ sym (t.words_are ∙ ap (λ (v : Option ℕ). unless v (put_first (words_of c.answer) words) words) good),
-            handed.multipliers_are ∙ ap (λ (o : Outcome). cond (had_last o) (put_first r.planned.multipliers u) u) o
+            handed.multipliers_are ∙ ap (λ (o : Outcome). cond (had_last o) (put_first (u_list r.planned) u) u) o
                 ∙ ap (λ (w : List ℤ). put_first w u) same_multipliers
-                ∙ sym (t.multipliers_are ∙ ap (λ (v : Option ℕ). unless v (put_first c.answer.multipliers u) u) good),
+                ∙ sym (t.multipliers_are ∙ ap (λ (v : Option ℕ). unless v (put_first (u_list c.answer) u) u) good),
           )
 
 -- ---- READ OFF THE NUMBERS

@@ -1,5 +1,8 @@
 -- Eight districts in turn, proved.
 use Rattle.std.proofs.Common.{ap, ◌∙◌}
+use Rattle.std.specs.Prelude.{Result}
+use Rattle.refusal.specs.declared.Refusal.{Refusal}
+use Rattle.solution.specs.Planned.{summary_of}
 use Rattle.solution.specs.declared.Planned.{Planned}
 use Rattle.postman.specs.Districts.{Line, entry_refusal}
 use Rattle.districts.specs.Laws.Theorem.{run_line, served, finished_as_plan_call}
@@ -28,7 +31,7 @@ short_sheets es sheet t = short_still es t.led t.contract
 pub unfinished : StillGoing
 unfinished es sheet t d l e long f =
     let s = (served es t.machine t.led sheet t.after t.answer t.contract d l e long).going f in
-    (s.0, s.2, ap (λ (p : Planned). p.trees) s.1, ap (λ (p : Planned). p.cost) s.1)
+    (s.0, s.2, ap (λ (p : Result Planned Refusal). (summary_of p).trees) s.1, ap (λ (p : Result Planned Refusal). (summary_of p).cost) s.1)
 
 pub as_one_plan_call : AsOnePlanCall
 as_one_plan_call es sheet t d l e long f c =

@@ -1,19 +1,18 @@
 -- Records that hold the renumbered arcs stand for the renumbered plan; and a list that holds what the multipliers give
 -- to the new numbers is the one carried back.
-use Rattle.std.specs.Prelude.{◌≡◌, refl, List, [], map, ℕ, ◌+◌, ◌<◌, length, get_or, set, ℤ, pos}
-use Rattle.std.proofs.Common.{sym, ap, ◌∙◌, zero-add, arith, ext_get_or, get_or-set_same, get_or-set_other}
-use Rattle.std.proofs.Math.Decide.{ℕ_discrete}
+use Rattle.std.specs.Prelude.{◌≡◌, refl, List, [], map, ℕ, ◌<◌, length, get_or, ℤ, pos}
+use Rattle.std.proofs.Common.{sym, ap, ◌∙◌, zero-add, arith, ext_get_or}
 use Rattle.std.proofs.lemmas.List.{length-map}
 use Rattle.std.proofs.Math.ListN.{get_or-map}
 use Rattle.postman.specs.Lists.{up_from, below}
-use Rattle.postman.specs.Plan.{Arc, Plan, arc_at}
+use Rattle.postman.specs.Plan.{Arc, arc_at}
 use Rattle.postman.specs.Laws.Membership.{length_up_from, get_d_map_up_from}
 use Rattle.plan.specs.declared.Arc.{Arc as ArcRecord}
 use Rattle.plan.specs.declared.Plan.{Plan as PlanRecord}
 use Rattle.plan.specs.Records.{plan_value}
 use Rattle.plan.specs.Laws.Made.{HoldMade, made_plan}
 use Rattle.postman.specs.Renumbering.{number_in, renumbered_arc, renumbered}
-use Rattle.renumbering.specs.Renumbered.{IsRenumberedRow, carried_in}
+use Rattle.renumbering.specs.Renumbered.{carried_in}
 use Rattle.renumbering.specs.Laws.Numbering.{in_place}
 
 arc_renumbered : (π : ℕ → ℕ) (arcs : List Arc) (k : ℕ) → k < length arcs
@@ -37,13 +36,3 @@ carried_by to u r long h =
     let e : length (map f (up_from 0 64)) ≡ 64 = length-map (up_from 0 64) f ∙ length_up_from 0 64 in
     ext_get_or (pos 0) r (map f (up_from 0 64)) (long ∙ sym e)
     (λ v l. h v (omega arith) ∙ sym (get_d_map_up_from f 0 64 v (pos 0) (omega arith) ∙ ap f (zero-add v)))
-
--- one more row of a table
-pub row_stored : (table t : List (List ℕ)) (from : List ℕ) (i : ℕ) (row : List ℕ) → i < length t
-    → ((a : ℕ) → a < i → IsRenumberedRow from (get_or table (number_in from a) []) (get_or t a []))
-    → IsRenumberedRow from (get_or table (number_in from i) []) row
-    → (a : ℕ) → a < i + 1 → IsRenumberedRow from (get_or table (number_in from a) []) (get_or (set t i row) a [])
-row_stored table t from i row l h r a g = elim (ℕ_discrete a i) [
-  | yes e ↦ rw (e, get_or-set_same t i row [] l) r
-  | no n ↦ rw (get_or-set_other t i a row [] n) (h a (omega arith))
-]

@@ -102,35 +102,35 @@ module _ (r : PlanRecord) (ok : WellFormed (plan_value r)) {b m k sum : ℕ} (l 
 
 -- ---- the counts of all vertices: an arc adds its term at its end, and nothing elsewhere
 
-pub record Degrees (heads : Bool) (r : PlanRecord) (m k : ℕ) (counts : List ℕ) : Type 0 where
+pub record Degrees (f : Arc → ℕ) (r : PlanRecord) (m k : ℕ) (counts : List ℕ) : Type 0 where
   pub all : m ≡ r.m
   pub before : k ≤ m
   pub long : length counts ≡ 64
-  pub each : (v : ℕ) → v < 64 → Summed (λ a. delta v (end_of heads a)) 1 r m k (get_or counts v 0)
+  pub each : (v : ℕ) → v < 64 → Summed (λ a. delta v (f a)) 1 r m k (get_or counts v 0)
 
-pub degrees_none : (heads : Bool) (r : PlanRecord) → Degrees heads r r.m 0 (replicate {A = ℕ} 64 0)
-degrees_none heads r = record {
+pub degrees_none : (f : Arc → ℕ) (r : PlanRecord) → Degrees f r r.m 0 (replicate {A = ℕ} 64 0)
+degrees_none f r = record {
   all = refl;
   before = omega arith;
   long = length-replicate {A = ℕ} 64 0;
-  each = λ v l. subst⁻¹ (Summed (λ a. delta v (end_of heads a)) 1 r r.m 0) (get_or-replicate {A = ℕ} 64 v 0 0 l)
-      (summed_none (λ a. delta v (end_of heads a)) 1 r);
+  each = λ v l. subst⁻¹ (Summed (λ a. delta v (f a)) 1 r r.m 0) (get_or-replicate {A = ℕ} 64 v 0 0 l)
+      (summed_none (λ a. delta v (f a)) 1 r);
 }
 
-at_most_one : (heads : Bool) (v n : ℕ) (a : Arc) → IsArc n a → delta v (end_of heads a) ≤ 1
+at_most_one : (f : Arc → ℕ) (v n : ℕ) (a : Arc) → IsArc n a → delta v (f a) ≤ 1
 unfolding delta
-at_most_one heads v n a h = cond_ind (eqb v (end_of heads a)) 1 0 (λ x. x ≤ 1) (λ u. omega arith) (λ u. omega arith)
+at_most_one f v n a h = cond_ind (eqb v (f a)) 1 0 (λ x. x ≤ 1) (λ u. omega arith) (λ u. omega arith)
 
-module _ (heads : Bool) (r : PlanRecord) (ok : WellFormed (plan_value r)) {m k : ℕ} {counts : List ℕ} (h : Degrees heads r m k counts)
-    (l : k < m) {e x : ℕ} (ee : e ≡ end_of heads (record_at r.arcs k))
+module _ (f : Arc → ℕ) (r : PlanRecord) (ok : WellFormed (plan_value r)) {m k : ℕ} {counts : List ℕ} (h : Degrees f r m k counts)
+    (l : k < m) {e x : ℕ} (ee : e ≡ f (record_at r.arcs k))
     (low : e < 64) (ex : x ≡ cond (is_required_arc (record_at r.arcs k)) 1 0) where
   -- the term of the end, and of another vertex
-  own : x ≡ cond (is_required_arc (record_at r.arcs k)) (delta e (end_of heads (record_at r.arcs k))) 0
+  own : x ≡ cond (is_required_arc (record_at r.arcs k)) (delta e (f (record_at r.arcs k))) 0
   unfolding delta
   own = ex ∙ ap (λ n. cond (is_required_arc (record_at r.arcs k)) n 0) (sym (ap (λ (b : Bool). cond b 1 0) (eq-eqb e _ ee)))
 
   other : (v : ℕ) → (v ≡ e → ⊥)
-      → ◌≡◌ {A = ℕ} 0 (cond (is_required_arc (record_at r.arcs k)) (delta v (end_of heads (record_at r.arcs k))) 0)
+      → ◌≡◌ {A = ℕ} 0 (cond (is_required_arc (record_at r.arcs k)) (delta v (f (record_at r.arcs k))) 0)
   unfolding delta
   other v n = either (is_required_arc (record_at r.arcs k)) (sym (ap (λ (b : Bool). cond b 1 0) (ne_eqb v _ (λ q. n (q ∙ sym ee)))))
     where
@@ -138,25 +138,21 @@ module _ (heads : Bool) (r : PlanRecord) (ok : WellFormed (plan_value r)) {m k :
       either true q = q
       either false q = refl
 
-  pub degrees_more : Degrees heads r m (k + 1) (set counts e (get_or counts e 0 + x))
+  pub degrees_more : Degrees f r m (k + 1) (set counts e (get_or counts e 0 + x))
   degrees_more = record {
     all = h.all;
     before = omega arith;
     long = length-set counts e (get_or counts e 0 + x) ∙ h.long;
     each = λ v g. elim (ℕ_discrete v e) [
       | yes q ↦ rw q
-          (subst⁻¹ (Summed (λ a. delta e (end_of heads a)) 1 r m (k + 1))
+          (subst⁻¹ (Summed (λ a. delta e (f a)) 1 r m (k + 1))
           (get_or-set_same counts e (get_or counts e 0 + x) 0 (let s = h.long in omega arith))
-          (summed_more r ok (at_most_one heads e r.n) (h.each e low) l own))
-      | no q ↦ subst⁻¹ (Summed (λ a. delta v (end_of heads a)) 1 r m (k + 1))
+          (summed_more r ok (at_most_one f e r.n) (h.each e low) l own))
+      | no q ↦ subst⁻¹ (Summed (λ a. delta v (f a)) 1 r m (k + 1))
           (get_or-set_other counts e v (get_or counts e 0 + x) 0 q ∙ sym (add-zero (get_or counts v 0)))
-          (summed_more r ok (at_most_one heads v r.n) (h.each v g) l (other v q))
+          (summed_more r ok (at_most_one f v r.n) (h.each v g) l (other v q))
     ];
   }
-
-  -- so that the sum is small
-  pub degrees_small : (get_or counts e 0 ≤ k) × (k < r.m)
-  degrees_small = let a = h.all in let b = (h.each e low).bounded in (omega arith, omega arith)
 
 -- D(v) is the number of required arcs into v, less the number of those out of v
 pub imbalance_degrees : (p : Plan) (v : ℕ)

@@ -103,6 +103,8 @@ module _ (round left : ℕ) where
   unfolding is_gone_on
   many_on l = let t = lt-leb left 100000000 (omega arith) in let b = lt-leb left 1000000000 l in rw (t, b) refl
 
+pub ruleset of_rounds = (few_on, none_on, many_on)
+
 module _ (p : Plan) (budget round : ℕ) (k : Kept) (c : Chosen) (b : Bool) (is : b ≡ is_gone_on round k.left) where
   pub goes_on_as : b ≡ true → c ≡ gone_on budget k → c ≡ next_round p budget round k
   unfolding next_round

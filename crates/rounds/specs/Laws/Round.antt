@@ -1,6 +1,6 @@
 -- What the code of a round makes is what the definitions say: over the values that its functions answer.
-use Rattle.std.specs.Prelude.{◌≡◌, refl, Bool, true, false, cond, List, ℕ, suc, ◌+◌, ◌-◌, ◌≤◌, ◌<◌, min, ltb, ℤ, pos}
-use Rattle.std.proofs.Common.{sym, ap, ap₂, ◌∙◌, lt-ltb, le-ltb}
+use Rattle.std.specs.Prelude.{◌≡◌, Bool, true, false, List, ℕ, suc, ◌+◌, ◌-◌, ◌≤◌, ◌<◌, min, ℤ, pos}
+use Rattle.std.proofs.Common.{sym, ap, ap₂, ◌∙◌}
 use Rattle.std.proofs.Math.Path.{subst⁻¹}
 use Rattle.std.proofs.Math.Option.{none}
 use Rattle.std.proofs.Math.Decide.{dec_lt}
@@ -13,7 +13,6 @@ use Rattle.postman.specs.PlanCall.{best_cost, tried_count}
 use Rattle.postman.specs.Steps.{Plannable}
 use Rattle.small_counts.specs.Matrix.{cap}
 use Rattle.multipliers.specs.Ascent.{multipliers_for}
-use Rattle.tree_search.specs.declared.trees.Reached.{Reached}
 use Rattle.tree_search.specs.Laws.BestTree.{cost_small}
 use Rattle.tree_search.specs.Laws.Resumed.{total_is, tried_within}
 use Rattle.held_tree.specs.declared.cheaper.Found.{Found}
@@ -30,13 +29,6 @@ use Rattle.round_rule.specs.Laws.Kept.{IsKept, after_kept, met_stays, one_round}
 use Rattle.round_rule.specs.Laws.Made.{kept_from, drive_left}
 
 -- one of two, by two numbers
-module _ (a b : ℕ) (new old : Reached) where
-  pub old_chosen : b ≤ a → old ≡ cond (ltb a b) new old
-  old_chosen l = let e = le-ltb a b l in rw e refl
-
-  pub new_chosen : a < b → new ≡ cond (ltb a b) new old
-  new_chosen l = let e = lt-ltb a b l in rw e refl
-
 -- ---- one round
 
 -- a drive that is no cheaper changes nothing, whatever it costs

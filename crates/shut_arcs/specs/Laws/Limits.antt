@@ -84,3 +84,8 @@ module _ (m : ℕ) (numbers : List ℕ) (d : Departure) where
           let z = eq-eqb (length numbers % 4) 0 q in
           let e = le-ltb 128 (length numbers / 4) h in
           rw (x, y, z, e) refl
+
+-- The tests of one window, and those of a call.
+pub ruleset of_window = (bad_arc, bad_weekday, bad_order, bad_end)
+
+pub ruleset of_call = (late_weekday, late_minute, odd_length, many_windows, by_windows)

@@ -1,7 +1,7 @@
 -- A raised budget, over the contract of two answers for one plan. u is the same function of the plan in both. Cost and floor are
 -- their definitions at that u, which a larger budget never makes worse; where the smaller one reached all trees, both tried the same,
 -- and every field is a function of that number.
-use Rattle.std.specs.Prelude.{◌≡◌, refl, Bool, false, List, ℕ, ◌≤◌, length, get_or, take, ℤ, ◌≤ℤ◌, T}
+use Rattle.std.specs.Prelude.{◌≡◌, refl, Result, Ok, Err, Bool, false, List, ℕ, ◌≤◌, length, get_or, take, ℤ, ◌≤ℤ◌, T}
 use Rattle.std.proofs.Common.{sym, ◌∙◌, arith}
 use Rattle.std.proofs.Math.Path.{ap, subst⁻¹}
 use Rattle.std.proofs.Math.Bool.{cond}
@@ -14,24 +14,18 @@ use Rattle.postman.specs.PlanCall.{Summary, summary, is_whole, tried_count, best
 use Rattle.postman.specs.Laws.Tests.{is_true, of_true}
 use Rattle.postman.specs.Steps.{Plannable}
 use Rattle.postman_laws.specs.Laws.Optimality.{larger_cost, larger_bound, whole_tried, whole_stays}
-use Rattle.refusal.specs.declared.Verdict.{Verdict}
-use Rattle.refusal.specs.declared.Verdict.TheVariants.{Accepted, Refused}
+use Rattle.refusal.specs.declared.Refusal.{Refusal}
 use Rattle.refusal.specs.Verdict.{verdict_number, refusal_number}
 use Rattle.solution.specs.declared.Planned.{Planned}
 use Rattle.multipliers.specs.Drive.{drive_of}
-use Rattle.solution.specs.Planned.{summary_of, multipliers_of, IsPlanned}
+use Rattle.solution.specs.Planned.{summary_of, places_of, u_list, multipliers_of, IsPlanned}
 use Rattle.solution.specs.RaisedBudget.{Buys}
 use Rattle.solution.specs.Laws.Answered.{is_answer, summary_given, cost_is, floor_is, count_is, drive_is}
 
-accepting : (v : Verdict) → verdict_number v ≡ none → v ≡ Accepted
-accepting Accepted e = refl
-accepting (Refused r) e = absurd (some-ne-none (refusal_number r) e)
-
 -- the fields of an answer, put together again
-abbrev from_parts : Verdict → ℕ → List ℤ → Summary → Planned
-from_parts v n u s =
+abbrev from_parts : ℕ → List ℤ → Summary → Planned
+from_parts n u s =
     record {
-      verdict = v;
       places = n;
       cost = s.cost;
       floor = s.floor;
@@ -41,9 +35,13 @@ from_parts v n u s =
       multipliers = u;
     }
 
-module _ (p : Plan) (b c : ℕ) (more : b ≤ c) (f g : Option ℕ) (old new old' new' : List ℕ) (r s : Planned)
+accepting : (r : Result Planned Refusal) → verdict_number r ≡ none → r ≡ Ok (from_parts (places_of r) (u_list r) (summary_of r))
+accepting (Ok r) e = refl
+accepting (Err r) e = absurd (some-ne-none (refusal_number r) e)
+
+module _ (p : Plan) (b c : ℕ) (more : b ≤ c) (f g : Option ℕ) (old new old' new' : List ℕ) (r s : Result Planned Refusal)
     (at_b : IsPlanned p b f old new r) (at_c : IsPlanned p c g old' new' s)
-    (good-b : verdict_number r.verdict ≡ none) (good-c : verdict_number s.verdict ≡ none) where
+    (good-b : verdict_number r ≡ none) (good-c : verdict_number s ≡ none) where
   abbrev u : ℕ → ℤ
   u = multipliers_of r
 
@@ -53,7 +51,7 @@ module _ (p : Plan) (b c : ℕ) (more : b ≤ c) (f g : Option ℕ) (old new old
   some : 1 ≤ b
   some = (is_answer p b f old new r at_b good-b).some_budget
 
-  same_u : s.multipliers ≡ r.multipliers
+  same_u : u_list s ≡ u_list r
   same_u = (is_answer p c g old' new' s at_c good-c).multipliers_are ∙ sym (is_answer p b f old new r at_b good-b).multipliers_are
 
   same_at : multipliers_of s ≡ u
@@ -62,17 +60,17 @@ module _ (p : Plan) (b c : ℕ) (more : b ≤ c) (f g : Option ℕ) (old new old
   summary_c : summary_of s ≡ summary p c u
   summary_c = summary_given p c g old' new' s at_c good-c ∙ ap (summary p c) same_at
 
-  floor_b : r.floor ≡ lower_bound p b u
+  floor_b : (summary_of r).floor ≡ lower_bound p b u
   floor_b = floor_is p b f old new r at_b good-b
 
-  floor_c : s.floor ≡ lower_bound p c u
+  floor_c : (summary_of s).floor ≡ lower_bound p c u
   floor_c = floor_is p c g old' new' s at_c good-c ∙ ap (lower_bound p c) same_at
 
-  whole_b : r.whole ≡ is_whole p b
+  whole_b : (summary_of r).whole ≡ is_whole p b
   unfolding summary
   whole_b = ap (λ (x : Summary). x.whole) (summary_given p b f old new r at_b good-b)
 
-  whole_c : s.whole ≡ is_whole p c
+  whole_c : (summary_of s).whole ≡ is_whole p c
   unfolding summary
   whole_c = ap (λ (x : Summary). x.whole) (summary_given p c g old' new' s at_c good-c)
 
@@ -96,7 +94,7 @@ module _ (p : Plan) (b c : ℕ) (more : b ≤ c) (f g : Option ℕ) (old new old
     unfolding drive_of best_arborescence
     same_drive = rw same_tried
 
-    same_places : s.places ≡ r.places
+    same_places : places_of s ≡ places_of r
     same_places = count_is p c g old' new' s at_c good-c ∙ ap length same_drive ∙ sym (count_is p b f old new r at_b good-b)
 
     same_fields : summary_of s ≡ summary_of r
@@ -104,13 +102,13 @@ module _ (p : Plan) (b c : ℕ) (more : b ≤ c) (f g : Option ℕ) (old new old
 
     same_answer : s ≡ r
     same_answer =
-        ap (λ (v : Verdict). from_parts v s.places s.multipliers (summary_of s))
-        (accepting s.verdict good-c ∙ sym (accepting r.verdict good-b))
-        ∙ ap (λ (n : ℕ). from_parts r.verdict n s.multipliers (summary_of s)) same_places
-        ∙ ap (λ (x : List ℤ). from_parts r.verdict r.places x (summary_of s)) same_u
-        ∙ ap (from_parts r.verdict r.places r.multipliers) same_fields
+        accepting s good-c
+        ∙ ap (λ (n : ℕ). Ok (from_parts n (u_list s) (summary_of s))) same_places
+        ∙ ap (λ (x : List ℤ). Ok (from_parts (places_of r) x (summary_of s))) same_u
+        ∙ ap (λ (x : Summary). Ok (from_parts (places_of r) (u_list r) x)) same_fields
+        ∙ sym (accepting r good-b)
 
-    same_written : take s.places new' ≡ take r.places new
+    same_written : take (places_of s) new' ≡ take (places_of r) new
     same_written = drive_is p c g old' new' s at_c good-c ∙ same_drive ∙ sym (drive_is p b f old new r at_b good-b)
 
   pub buys : Buys r s new new'

@@ -2,30 +2,12 @@
 -- places, so its least is at most the reduced cost of each.
 use Rattle.std.specs.Prelude.{◌≡◌, List, ℕ, ◌+◌, ◌≤◌, ◌<◌, get_or}
 use Rattle.std.proofs.Common.{subst, add-one, arith}
-use Rattle.std.proofs.Math.Path.{subst⁻¹}
-use Rattle.std.proofs.Math.Decide.{ℕ_discrete}
 use Rattle.postman.specs.Plan.{Plan}
 use Rattle.tree_bounds.specs.Bound.{reduced_by, Low}
 use Rattle.tree_bounds.specs.Prepared.{Prepared}
 use Rattle.tree_bounds.specs.Reducible.{IsLeast}
 use Rattle.tree_bounds.specs.Laws.Prepared.{place_of}
 use Rattle.tree_bounds.specs.Laws.Bound.{low_more}
-
--- ---- the least of the candidates
-
-module _ (table : List (List ℕ)) (pot tails heads : List ℕ) (from : ℕ) where
-  pub least_start : (to : ℕ) → to ≡ from → IsLeast table pot tails heads from to 4000000000
-  least_start to e = record { low = λ x l b. absurd (omega arith); most = omega arith }
-
-  pub least_more : (to s r : ℕ) → IsLeast table pot tails heads from to s → r ≤ s
-      → r ≤ reduced_by table pot (get_or tails to 0) (get_or heads to 0) → IsLeast table pot tails heads from (to + 1) r
-  least_more to s r h l b = record {
-    low = λ x f c. elim (ℕ_discrete x to) [
-      | yes e ↦ subst⁻¹ (λ x. r ≤ reduced_by table pot (get_or tails x 0) (get_or heads x 0)) e b
-      | no o ↦ (let a = h.low x f (omega arith) in omega arith)
-    ];
-    most = (let a = h.most in omega arith);
-  }
 
 -- ---- the sum
 

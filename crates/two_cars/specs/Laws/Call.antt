@@ -1,6 +1,6 @@
 -- One car, from the file on: its tables are the file's, its refusals are the file's and then its own, and
 -- what is answered for its plan is its contract.
-use Rattle.std.specs.Prelude.{◌≡◌, true, false, List, ◌++◌, map, ℕ, length}
+use Rattle.std.specs.Prelude.{◌≡◌, true, false, List, ◌++◌, map, ℕ, length, Result}
 use Rattle.std.proofs.Math.Path.{refl}
 use Rattle.std.proofs.Common.{sym, ap, ◌∙◌, subst}
 use Rattle.std.proofs.Math.Option.{Option, none, some}
@@ -18,7 +18,7 @@ use Rattle.plan.specs.Records.{plan_value}
 use Rattle.refusal.specs.declared.Refusal.{Refusal}
 use Rattle.refusal.specs.Verdict.{refusal_number}
 use Rattle.plan_file.specs.declared.Reading.{Reading}
-use Rattle.plan_file.specs.Reading.{IsReading}
+use Rattle.plan_file.specs.Reading.{IsReading, plan_in}
 use Rattle.plan_file.specs.Laws.Reading.{accepted_value}
 use Rattle.solution.specs.declared.Planned.{Planned}
 use Rattle.multipliers.specs.Drive.{table_of}
@@ -51,11 +51,11 @@ module _ (p : Plan) (marks : List ℕ) where
 
 -- ---- the whole call of a car
 
-module _ (bytes marks : List ℕ) (budget : ℕ) (old new : List ℕ) (r : Planned) where
+module _ (bytes marks : List ℕ) (budget : ℕ) (old new : List ℕ) (r : Result Planned Refusal) where
   abbrev car : Plan
   car = car_plan (plan_of bytes) marks
 
-  abbrev Answered : Plan → Option ℕ → List ℕ → Planned → Type 0
+  abbrev Answered : Plan → Option ℕ → List ℕ → Result Planned Refusal → Type 0
   Answered p o new x = IsPlanned p budget o old new x
 
   -- the conditions after the file's
@@ -82,8 +82,8 @@ module _ (bytes marks : List ℕ) (budget : ℕ) (old new : List ℕ) (r : Plann
       (car_order bytes budget (length old) marks) e h)
 
   -- one that is not gives its plan
-  pub read_planned_for : (x : Reading) → IsReading bytes x → first_refusal (file_conditions bytes) ≡ none
-      → Answered (car_plan (plan_value x.plan) marks) (first_refusal (later (plan_value x.plan))) new r → Called
+  pub read_planned_for : (x : Result Reading Refusal) → IsReading bytes x → first_refusal (file_conditions bytes) ≡ none
+      → Answered (car_plan (plan_value (plan_in x)) marks) (first_refusal (later (plan_value (plan_in x)))) new r → Called
   read_planned_for x h e i =
-      read_answer Answered bytes (plan_value x.plan) (λ p. car_plan p marks) later _ new r (car_order bytes budget (length old) marks) e
-      (accepted_value bytes x h e) i
+      read_answer Answered bytes (plan_value (plan_in x)) (λ p. car_plan p marks) later _ new r
+      (car_order bytes budget (length old) marks) e (accepted_value bytes x h e) i

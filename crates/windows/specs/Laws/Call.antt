@@ -1,6 +1,6 @@
 -- The verdict of the windows is the first of their conditions that applies. From the contract over the plan at the departure, what is said
 -- of the file's plan: its drives are those that avoid the arcs shut, at equal costs.
-use Rattle.std.specs.Prelude.{◌≡◌, List, ◌++◌, Bool, true, false, not, cond, ℕ, ◌≤◌, length, take, pos, ◌≤ℤ◌, T}
+use Rattle.std.specs.Prelude.{◌≡◌, List, ◌++◌, Bool, true, false, not, cond, ℕ, length, take, pos, ◌≤ℤ◌, T, Result}
 use Rattle.std.proofs.Math.Path.{refl}
 use Rattle.std.proofs.Common.{sym, ◌∙◌, subst}
 use Rattle.std.proofs.Math.Option.{Option, none, some}
@@ -18,10 +18,10 @@ use Rattle.plan.specs.Laws.Records.{plan_length}
 use Rattle.refusal.specs.declared.Refusal.{Refusal}
 use Rattle.refusal.specs.Verdict.{refusal_number, verdict_number}
 use Rattle.plan_file.specs.declared.Reading.{Reading}
-use Rattle.plan_file.specs.Reading.{IsReading}
+use Rattle.plan_file.specs.Reading.{IsReading, plan_in}
 use Rattle.plan_file.specs.Laws.Reading.{accepted_value}
 use Rattle.solution.specs.declared.Planned.{Planned}
-use Rattle.solution.specs.Planned.{IsPlanned}
+use Rattle.solution.specs.Planned.{IsPlanned, summary_of, places_of}
 use Rattle.call_steps.specs.Refused.{refused_with}
 use Rattle.call_steps.specs.Laws.Refused.{is_refused}
 use Rattle.call_steps.specs.Laws.Answer.{read_answer, file_refused_answer}
@@ -52,14 +52,14 @@ module _ (r : PlanRecord) (numbers : List ℕ) (d : Departure) where
 
 -- ---- the whole call
 
-module _ (bytes : List ℕ) (budget : ℕ) (numbers : List ℕ) (d : Departure) (old new : List ℕ) (r : Planned) where
+module _ (bytes : List ℕ) (budget : ℕ) (numbers : List ℕ) (d : Departure) (old new : List ℕ) (r : Result Planned Refusal) where
   abbrev p : Plan
   p = plan_of bytes
 
   abbrev q : Plan
   q = plan_at p (windows_in numbers) d
 
-  abbrev Answered : Plan → Option ℕ → List ℕ → Planned → Type 0
+  abbrev Answered : Plan → Option ℕ → List ℕ → Result Planned Refusal → Type 0
   Answered p o new x = IsPlanned p budget o old new x
 
   -- the conditions after the file's
@@ -69,22 +69,22 @@ module _ (bytes : List ℕ) (budget : ℕ) (numbers : List ℕ) (d : Departure) 
   abbrev Called : Type 0
   Called = Answered q (call_refusal_at bytes budget (length old) numbers d) new r
 
-  module _ (i : Called) (e : verdict_number r.verdict ≡ none) where
+  module _ (i : Called) (e : verdict_number r ≡ none) where
     open_must : T (not (is_must_shut p (windows_in numbers) d))
     open_must = (call_accepted_at bytes budget (length old) numbers d (accepted _ _ _ _ _ _ i e)).none_shut
 
-    floor_below : (w : List ℕ) → IsDrive p w → Avoids (windows_in numbers) d w → r.floor ≤ℤ pos (drive_cost p w)
+    floor_below : (w : List ℕ) → IsDrive p w → Avoids (windows_in numbers) d w → (summary_of r).floor ≤ℤ pos (drive_cost p w)
     floor_below w t a =
         let l = (i.answered (accepted _ _ _ _ _ _ i e)).guarantee.below_every_drive w
         ((drives p (windows_in numbers) d open_must w).1 (t, a)) in
-        subst (λ c. r.floor ≤ℤ pos c) (same_drive_cost p (windows_in numbers) d open_must w) (rw (floor_is _ _ _ _ _ _ i e) l)
+        subst (λ c. (summary_of r).floor ≤ℤ pos c) (same_drive_cost p (windows_in numbers) d open_must w) (rw (floor_is _ _ _ _ _ _ i e) l)
 
-    written_is : IsDrive p (take r.places new) × Avoids (windows_in numbers) d (take r.places new)
-    written_is = (drives p (windows_in numbers) d open_must (take r.places new)).0 (drive_written _ _ _ _ _ _ i e).drive
+    written_is : IsDrive p (take (places_of r) new) × Avoids (windows_in numbers) d (take (places_of r) new)
+    written_is = (drives p (windows_in numbers) d open_must (take (places_of r) new)).0 (drive_written _ _ _ _ _ _ i e).drive
 
-    written_costs : drive_cost p (take r.places new) ≡ r.cost
+    written_costs : drive_cost p (take (places_of r) new) ≡ (summary_of r).cost
     written_costs =
-        sym (same_drive_cost p (windows_in numbers) d open_must (take r.places new)) ∙ (drive_written _ _ _ _ _ _ i e).costs
+        sym (same_drive_cost p (windows_in numbers) d open_must (take (places_of r) new)) ∙ (drive_written _ _ _ _ _ _ i e).costs
         ∙ sym (cost_is _ _ _ _ _ _ i e)
 
   pub is_call_at : Called → IsPlanCallAt bytes budget numbers d old new r
@@ -108,8 +108,8 @@ module _ (bytes : List ℕ) (budget : ℕ) (numbers : List ℕ) (d : Departure) 
       (at_order bytes budget (length old) numbers d) e h)
 
   -- one that is not gives its plan
-  pub read_planned_at : (x : Reading) → IsReading bytes x → first_refusal (file_conditions bytes) ≡ none
-      → Answered (plan_at (plan_value x.plan) (windows_in numbers) d) (first_refusal (later (plan_value x.plan))) new r → Called
+  pub read_planned_at : (x : Result Reading Refusal) → IsReading bytes x → first_refusal (file_conditions bytes) ≡ none
+      → Answered (plan_at (plan_value (plan_in x)) (windows_in numbers) d) (first_refusal (later (plan_value (plan_in x)))) new r → Called
   read_planned_at x h e i =
-      read_answer Answered bytes (plan_value x.plan) (λ p. plan_at p (windows_in numbers) d) later _ new r
+      read_answer Answered bytes (plan_value (plan_in x)) (λ p. plan_at p (windows_in numbers) d) later _ new r
       (at_order bytes budget (length old) numbers d) e (accepted_value bytes x h e) i

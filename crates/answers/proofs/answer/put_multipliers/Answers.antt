@@ -1,10 +1,8 @@
 -- The loop's invariant: the first i are put, and the rest is as it was.
-use Prim.Native.Nat.{◌-◌}
 use native.Mathlib.Omega.{arith}
 use lib.IntN.{pos}
 use Rattle.integers.specs.Linear.{back64}
-use Rattle.answers.specs.Laws.Answer.{IsPut, put_start, put_more, put_end}
-use borrow.Author.Rules.{rules}
+use Rattle.answers.specs.Laws.Answer.{put_more}
 use Rattle.answers.proofs.answer.put_multipliers.Goals as goal
 
 pub loop-i-preserved : goal.loop-i-preserved

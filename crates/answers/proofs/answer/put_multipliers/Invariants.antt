@@ -1,10 +1,6 @@
 -- The loop's invariant: the first i are put, and the rest is as it was.
 use Prim.Native.Nat.{◌-◌}
-use native.Mathlib.Omega.{arith}
-use lib.IntN.{pos}
-use Rattle.integers.specs.Linear.{back64}
-use Rattle.answers.specs.Laws.Answer.{IsPut, put_start, put_more, put_end}
-use borrow.Author.Rules.{rules}
+use Rattle.answers.specs.Laws.Answer.{IsPut}
 use Rattle.answers.proofs.answer.put_multipliers.Given as goal
 
 abbrev pub invariant-loop-i : goal.invariant-loop-i

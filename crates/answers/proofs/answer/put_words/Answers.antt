@@ -1,9 +1,7 @@
 -- The loop's invariant: the first i are put, and the rest is as it was.
 use mathlib.Core.Path.{refl}
-use Prim.Native.Nat.{◌-◌}
 use native.Mathlib.Omega.{arith}
-use Rattle.answers.specs.Laws.Answer.{IsPut, put_start, put_more, put_end}
-use borrow.Author.Rules.{rules}
+use Rattle.answers.specs.Laws.Answer.{put_more}
 use Rattle.answers.proofs.answer.put_words.Goals as goal
 
 pub loop-i-preserved : goal.loop-i-preserved

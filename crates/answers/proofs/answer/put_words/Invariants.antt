@@ -1,9 +1,6 @@
 -- The loop's invariant: the first i are put, and the rest is as it was.
-use mathlib.Core.Path.{refl}
 use Prim.Native.Nat.{◌-◌}
-use native.Mathlib.Omega.{arith}
-use Rattle.answers.specs.Laws.Answer.{IsPut, put_start, put_more, put_end}
-use borrow.Author.Rules.{rules}
+use Rattle.answers.specs.Laws.Answer.{IsPut}
 use Rattle.answers.proofs.answer.put_words.Given as goal
 
 abbrev pub invariant-loop-i : goal.invariant-loop-i

@@ -1,12 +1,7 @@
--- After j turns r is what j sweeps reach. A turn that ends the loop has found what k sweeps reach: all components, or a set that stays.
+-- After so many turns r is what so many sweeps reach. A turn that ends the loop has found what k sweeps reach: all components, or a set that stays.
+use Rattle.std.proofs.Common.{◌≡◌, ◌-◌, ◌^◌, get_or}
 use Rattle.arborescence.specs.Reach.{sweeps}
-use lib.ListN.{get_or}
-use Prim.Native.Nat.{◌-◌, ◌^◌, ◌≤◌}
-use mathlib.Core.Path.{◌≡◌}
 use Rattle.arborescence.proofs.reach.all_reached.Given as goal
 
-abbrev pub invariant-loop-j : goal.invariant-loop-j
-invariant-loop-j l = (1 ≤ l.k) × (l.j ≤ l.k) × (l.k ≤ 8) × (l.all ≡ 2 ^ l.k - 1) × (l.r ≡ sweeps (λ q. get_or l.sets q 0) (l.k - 1) l.j)
-
-abbrev pub decreases-loop-j : goal.decreases-loop-j
-decreases-loop-j l = l.k - l.j
+abbrev pub invariant-loop : goal.invariant-loop
+invariant-loop l = (l.all ≡ 2 ^ l.k - 1) × (l.r ≡ sweeps (λ q. get_or l.sets q 0) (l.k - 1) l.counter)

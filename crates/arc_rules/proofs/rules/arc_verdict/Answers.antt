@@ -1,23 +1,29 @@
 -- `arc_verdict` meets its contract: three verdicts, each the first or else the next, are the first of three conditions.
-use mathlib.Core.Path.{◌∙◌, ap, ap₂}
-use mathlib.Core.Bool.{Bool, cond, ◌||◌}
-use mathlib.Core.Option.{none, some}
-use lib.Dec.{leb}
+use Rattle.std.proofs.Common.{◌≡◌, ◌∙◌, ap, Bool, cond, Err, rules, ℕ}
+use Rattle.std.proofs.Math.Option.{none, some}
 use Rattle.postman.specs.Refusal.{first_refusal}
-use Rattle.refusal.specs.Verdict.{or_else}
-use Rattle.refusal.specs.Laws.{or_else_cond}
-use Rattle.plan.specs.Standings.{is_must_standing}
+use Rattle.refusal.specs.Verdict.{verdict_number}
+use Rattle.refusal.specs.Laws.{refused_first, passed_first}
+use Rattle.arc_rules.specs.declared.rules.Fields.{Fields}
 use Rattle.arc_rules.specs.Fields.{mispriced}
 use Rattle.arc_rules.proofs.rules.arc_verdict.Goals as goal
 
+abbrev wrong : ℕ → Bool → Fields → Bool
+wrong e must f = mispriced e must f.cost f.service
+
+pub returns-in_err-ends_verdict : goal.returns-in_err-ends_verdict
+unfolding first_refusal
+returns-in_err-ends_verdict c =
+    let r : c.from_residual.result ≡ Err c.in_err-ends_verdict.field-0.0 = search rules in
+    ap verdict_number r ∙ refused_first _ _ _ _ (c.in_err-ends_verdict.ensures)
+
+pub returns-in_err-price_verdict : goal.returns-in_err-price_verdict
+unfolding first_refusal
+returns-in_err-price_verdict c =
+    let r : c.from_residual-in_err-price_verdict.result ≡ Err c.in_err-price_verdict.field-0.0 = search rules in
+    let p = ap (λ (must : Bool). cond (wrong c.args.edition must c.args.f) (some 6) none) c.is_must.ensures in
+    passed_first _ _ _ _ c.in_ok-ends_verdict.ensures (ap verdict_number r ∙ refused_first _ _ _ _ (c.in_err-price_verdict.ensures ∙ p))
+
 pub returns : goal.returns
 unfolding first_refusal
-returns c =
-    let a = c.args in
-    let f = a.f in
-    let ends = c.ends_verdict-ends.ensures in
-    let wrong : Bool → Bool = λ must. mispriced a.edition must f.cost f.service in
-    let price = c.price_verdict-price.ensures ∙ ap (λ (must : Bool). cond (wrong must) (some 6) none) c.is_must-must.ensures in
-    let kind = c.standing_verdict-kind.ensures in
-    let rest = c.first_refused.ensures ∙ ap₂ or_else price kind ∙ or_else_cond (wrong (is_must_standing a.standing)) 6 _ in
-    c.first_refused-2.ensures ∙ ap₂ or_else ends rest ∙ or_else_cond (leb a.n f.tail || leb a.n f.head) 5 _
+returns c = search (rules, passed_first)

@@ -1,16 +1,11 @@
 -- The loop's state after so many turns is the model's. Assumes nothing.
 use mathlib.Core.Path.{◌≡◌}
-use Prim.Native.Nat.{◌-◌, ◌≤◌}
 use lib.IntN.{pos}
-use lib.ListN.{length, get_or, replicate}
+use lib.ListN.{get_or, replicate}
 use Rattle.residual_search.specs.Search.{beyond}
 use Rattle.ascent_tree.specs.Offers.{offers_from}
 use Rattle.multiplier_steps.specs.Turns.{turns}
 use Rattle.ascent_tree.proofs.offers.offers.Given as goal
 
-abbrev pub invariant-loop-a : goal.invariant-loop-a
-invariant-loop-a l =
-    (l.a ≤ length l.vs) × ((l.m, l.at) ≡ turns (λ r a'. offers_from l.d l.x l.component l.vs r (get_or l.vs a' 0)) (replicate 64 (pos beyond), replicate 64 0) l.a)
-
-abbrev pub decreases-loop-a : goal.decreases-loop-a
-decreases-loop-a l = length l.vs - l.a
+abbrev pub invariant-loop-v : goal.invariant-loop-v
+invariant-loop-v l = ((l.m, l.at) ≡ turns (λ r a'. offers_from l.d l.x l.component l.vs r (get_or l.vs a' 0)) (replicate 64 (pos beyond), replicate 64 0) l.v-index)

@@ -1,39 +1,45 @@
--- The loop's state after so many turns is the model's, and `low` is the offer of its component.
-use mathlib.Core.Path.{◌≡◌, refl, ap, ◌∙◌}
-use mathlib.Core.Bool.{Bool, true, false, cond, ◌&&◌}
-use mathlib.Core.List.{List}
-use Prim.Native.Nat.{ℕ, ◌+◌, ◌*◌, ◌<◌}
+-- `low` is the offer of its component, and a component that undercuts it is taken.
+use mathlib.Core.Path.{◌≡◌, refl, ap, ◌∙◌, sym}
+use Prim.Native.Nat.{◌+◌, ◌*◌}
 use native.Mathlib.Omega.{arith}
-use lib.IntN.{ℤ, pos}
+use lib.IntN.{pos}
 use lib.ListN.{get_or}
-use lib.Signed.{lt_z}
 use Rattle.integers.specs.Linear.{back64}
 use Rattle.multiplier_steps.specs.Laws.Turns.{next_turn, end}
-use Rattle.ascent_tree.specs.Tree.{holds, cheaper, entry}
+use Rattle.ascent_tree.specs.Laws.Grown.{cheaper_new, cheaper_old}
+use Rattle.ascent_tree.specs.Tree.{cheaper, entry}
 use Rattle.multiplier_steps.specs.Turns.{turns}
 use Rattle.ascent_tree.proofs.tree.entry.Goals as goal
-
-picked : (m : List ℤ) (q : ℕ) (b : Bool) (p r : ℕ) {r' : ℕ} {low low' : ℤ} → low ≡ get_or m (r * 8 + q) (pos 0) → low' ≡ cond b (get_or m (p * 8 + q) (pos 0)) low → r' ≡ cond b p r → p < 8 → r < 8
-    → (low' ≡ get_or m (r' * 8 + q) (pos 0)) × (r' < 8)
-picked m q true p r e f g l k = (rw g f, rw g l)
-picked m q false p r e f g l k = (rw g (f ∙ e), rw g k)
+use Rattle.ascent_tree.proofs.tree.entry.Goals.{then-undercuts, else-undercuts}
 
 pub loop-p-init : goal.loop-p-init
 unfolding turns
-loop-p-init c = let s = c.args in let e : s.q ≡ 0 * 8 + s.q = omega arith in (omega arith, omega arith, back64 _ c.low-1.given ∙ ap (λ n. get_or s.m.now n (pos 0)) e, refl)
+loop-p-init c =
+    let e : c.args.q ≡ 0 * 8 + c.args.q = omega arith in
+    (omega arith, omega arith, back64 _ c.low-1.given ∙ ap (λ n. get_or c.args.m.now n (pos 0)) e, refl)
 
 pub loop-p-preserved : goal.loop-p-preserved
 loop-p-preserved c =
-    let given = c.c-1.given in
-    let u = simp (back64, given) at c.undercuts-b.ensures in
-    let k = simp (back64, given) at c.pick-low.ensures in
-    let l = picked c.args.m.now c.args.q c.undercuts-b.result c.loop-p.p c.loop-p.r c.loop-p.invariant.2 (back64 _ c.pick-low.type_inv ∙ k) c.pick_component-r.ensures (omega arith) c.loop-p.invariant.1 in (
-      omega arith,
-      l.1,
-      l.0,
-      next_turn (cheaper c.args.m.now c.args.s c.args.q) 0 c.loop-p.p c.loop-p.invariant.3
-          (c.pick_component-r.ensures ∙ ap (λ (b : Bool). cond b c.loop-p.p c.loop-p.r) (u ∙ ap (λ (n : ℤ). holds c.args.s c.loop-p.p && lt_z (get_or c.args.m.now (c.loop-p.p * 8 + c.args.q) (pos 0)) n) c.loop-p.invariant.2)),
-    )
+    let m = c.args.m.now in
+    let s = c.args.s in
+    let q = c.args.q in
+    let p = c.loop-p.p in
+    let r = c.loop-p.r in
+    let u = simp (back64, c.c-1.given, c.loop-p.invariant.2) at c.undercuts.ensures in
+    elim c.if-undercuts.branch [
+      | then-undercuts w ↦ (
+        omega arith,
+        omega (arith, w.r-is),
+        w.low-is ∙ back64 _ c.c-1.given ∙ ap (λ n. get_or m (n * 8 + q) (pos 0)) (sym w.r-is),
+        next_turn (cheaper m s q) 0 p c.loop-p.invariant.3 (cheaper_new m s q p r (sym u ∙ w.if-undercuts.true) w.r-is),
+      )
+      | else-undercuts w ↦ (
+        omega arith,
+        omega (arith, w.r-is),
+        w.low-is ∙ c.loop-p.invariant.2 ∙ ap (λ n. get_or m (n * 8 + q) (pos 0)) (sym w.r-is),
+        next_turn (cheaper m s q) 0 p c.loop-p.invariant.3 (cheaper_old m s q p r (sym u ∙ w.if-undercuts.false) w.r-is),
+      )
+    ]
 
 pub returns : goal.returns
 unfolding entry

@@ -1,24 +1,29 @@
--- The loop's state after so many turns is the model's. Assumes nothing.
-use mathlib.Core.Path.{refl, ap, ◌∙◌}
-use Prim.Native.Nat.{◌+◌, ◌*◌}
+-- The loop's state after so many turns is the model's.
+use mathlib.Core.Path.{◌≡◌, refl, ap, ◌∙◌}
+use Prim.Native.Nat.{◌+◌, ◌*◌, ◌-◌}
 use native.Mathlib.Omega.{arith}
 use Rattle.multiplier_steps.specs.Laws.Turns.{next_turn, end}
-use Rattle.ascent_tree.specs.Tree.{enter, extend}
+use Rattle.ascent_tree.specs.Tree.{Sets, enter, extend}
 use Rattle.multiplier_steps.specs.Turns.{turns}
 use Rattle.ascent_tree.proofs.tree.extend.Goals as goal
 
-pub loop-a-init : goal.loop-a-init
+pub loop-q-init : goal.loop-q-init
 unfolding turns
-loop-a-init c = (omega arith, refl, refl)
+loop-q-init c = (refl, refl)
 
-pub loop-a-preserved : goal.loop-a-preserved
-loop-a-preserved c = (
-  omega arith,
-  c.loop-a.invariant.1,
-  next_turn (λ t a. enter c.args.m.now (2 * c.args.i + 1) t (a + 1)) (c.args.cost.now, c.args.from.now) c.loop-a.a c.loop-a.invariant.2
-      (c.enter_new.ensures ∙ ap (λ s. enter c.args.m.now s (c.loop-a.cost, c.loop-a.from) (c.loop-a.a + 1)) c.loop-a.invariant.1),
-)
+pub loop-q-preserved : goal.loop-q-preserved
+loop-q-preserved c =
+    let m = c.args.m.now in
+    let s = 2 * c.args.i + 1 in
+    let t : Sets = (c.loop-q.cost, c.loop-q.from) in
+    let q = c.loop-q.q in
+    let e : q ≡ q - 1 + 1 = omega arith in
+    let f : q + 1 - 1 ≡ q - 1 + 1 = omega arith in (
+      c.loop-q.invariant.0,
+      rw f (next_turn (λ t a. enter m s t (a + 1)) (c.args.cost.now, c.args.from.now) (q - 1) c.loop-q.invariant.1
+          (c.enter.ensures ∙ ap (λ s. enter m s t q) c.loop-q.invariant.0 ∙ ap (enter m s t) e)),
+    )
 
 pub returns : goal.returns
 unfolding extend
-returns c = end _ _ c.loop-a.a c.loop-a.invariant.2 c.loop-a.invariant.0 (omega arith)
+returns c = end _ _ (c.loop-q.q - 1) {n = 7} c.loop-q.invariant.1 (omega arith) (omega arith)

@@ -1,4 +1,4 @@
--- The loop's state after so many turns is the model's. Assumes nothing.
+-- The loop's state after so many turns is the model's.
 use mathlib.Core.List.{List}
 use lib.IntN.{ℤ}
 use mathlib.Core.Path.{refl, ap}
@@ -9,17 +9,16 @@ use Rattle.ascent_tree.specs.Tree.{walk_back, along}
 use Rattle.multiplier_steps.specs.Turns.{turns}
 use Rattle.ascent_tree.proofs.tree.follow.Goals as goal
 
-pub loop-a-init : goal.loop-a-init
+pub loop-init : goal.loop-init
 unfolding turns
-loop-a-init c = (omega arith, omega arith, refl)
+loop-init c = (omega arith, refl)
 
-pub loop-a-preserved : goal.loop-a-preserved
-loop-a-preserved c = (
-  omega arith,
+pub loop-preserved : goal.loop-preserved
+loop-preserved c = (
   c.walk_back-left.ensures.1,
-  next_turn (λ w a. walk_back c.args.from.now c.args.at.now c.args.s w) (c.args.x.now, c.args.t) c.loop-a.a c.loop-a.invariant.2 c.walk_back-left.ensures.0,
+  next_turn (λ w a. walk_back c.args.from.now c.args.at.now c.args.s w) (c.args.x.now, c.args.t) c.loop.counter c.loop.invariant.1 c.walk_back-left.ensures.0,
 )
 
 pub returns : goal.returns
 unfolding along
-returns c = ap (λ (w : List ℤ × ℕ). w.0) (end _ _ c.loop-a.a c.loop-a.invariant.2 c.loop-a.invariant.0 (omega arith))
+returns c = ap (λ (w : List ℤ × ℕ). w.0) (end _ _ c.loop.counter {n = 7} c.loop.invariant.1 (omega arith) (omega arith))

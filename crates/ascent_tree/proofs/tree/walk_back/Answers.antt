@@ -7,4 +7,4 @@ pub returns-then-t-eq0 : goal.returns-then-t-eq0
 returns-then-t-eq0 c = (walk_end c.args.from.now c.args.at.now c.args.s c.args.x.now c.args.t c.if-t-eq0.true, omega arith)
 
 pub returns : goal.returns
-returns c = let m = c.monus.ensures in (walk_is c.args.from.now c.args.at.now c.args.s c.args.x.now c.args.t c.if-t-eq0.false c.wide-e.ensures c.shift.ensures c.bit-half.ensures.0 c.monus.ensures, omega arith)
+returns c = (walk_is c.args.from.now c.args.at.now c.args.s c.args.x.now c.args.t c.if-t-eq0.false c.from-e.ensures c.shift.ensures c.single.ensures c.saturating_sub.ensures, omega arith)

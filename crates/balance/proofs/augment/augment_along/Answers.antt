@@ -1,37 +1,44 @@
--- What is left of the path after k steps, from where they led, leaves what the whole path does. Assumes nothing.
-use mathlib.Core.Path.{◌≡◌, sym, ap, ◌∙◌}
-use mathlib.Core.Logic.{⊎_elim}
-use Prim.Native.Nat.{◌+◌, ◌*◌, ◌-◌}
-use native.Mathlib.Omega.{arith}
+-- What is left of the way, from what the loop holds, is the whole way; the amounts grow by at most one at each turn. Assumes nothing.
+use Rattle.std.proofs.Common.{refl, sym, ap, ◌∙◌, arith, ◌≡◌, ◌+◌, ◌*◌, ◌-◌, ◌≤◌, ℕ, List, get_or, ltb}
+use Rattle.std.proofs.Math.Path.{subst⁻¹}
+use Rattle.postman.specs.Laws.Tests.{cond_ind}
+use Rattle.postman.specs.Steps.{amount}
+use Rattle.residual_search.specs.Bounds.{AtMost}
 use Rattle.balance.specs.Invariant.{limit}
-use Rattle.residual_search.specs.Step.{augment}
+use Rattle.residual_search.specs.Step.{augment, place, moved}
 use Rattle.residual_search.specs.Laws.Turns.{augment_end, augment_more, at_most_more}
 use Rattle.balance.proofs.augment.augment_along.Goals as goal
 
 pub returns-then-v-t : goal.returns-then-v-t
 returns-then-v-t c =
-    sym (augment_end _ _ _ _ _ c.if-v-t.true) ∙ c.loop-k.invariant.3
+    sym (augment_end _ _ _ _ _ c.if-v-t.true) ∙ c.loop.invariant.left
 
-pub loop-k-preserved : goal.loop-k-preserved
-loop-k-preserved c =
-    let back = c.loop-k.invariant.2 (c.wide-j.result * 64 + c.wide-i.result) in
-    let ahead = c.loop-k.invariant.2 (c.wide-i.result * 64 + c.wide-j.result) in (
-      omega arith,
-      c.following-w.ensures.1,
-      at_most_more (limit + c.loop-k.k) (limit + (c.loop-k.k + 1)) c.loop-k.g c.place_of-at.result c.moved_by.result c.loop-k.invariant.2 (omega arith) (⊎_elim (λ e. omega arith) (λ e. omega arith) c.moved_by.ensures.1),
-      augment_more c.args.next.now c.args.t c.loop-k.g c.loop-k.k c.loop-k.v
-          c.loop-k.invariant.3
-          c.loop-k-test.true
+pub loop-preserved : goal.loop-preserved
+loop-preserved c =
+    let v = c.loop in
+    let i = c.from-in-loop in
+    let w = c.from-in-loop-2 in
+    let back = v.invariant.low (w.result * 64 + i.result) in
+    let ahead = v.invariant.low (i.result * 64 + w.result) in
+    record {
+      in_range = omega (arith, c.requires.2 c.from.result);
+      low = subst⁻¹ (AtMost (limit + (v.counter + 1))) c.push.ensures
+          (at_most_more (limit + v.counter) (limit + (v.counter + 1)) v.g (place (amount v.g w.result i.result) i.result w.result) (moved (amount v.g w.result i.result) (amount v.g i.result w.result)) v.invariant.low (omega arith)
+          (cond_ind (ltb 0 (amount v.g w.result i.result)) _ _ (λ n. n ≤ limit + (v.counter + 1)) (λ y. omega arith) (λ y. omega arith)));
+      left = ap (λ (g : List ℕ). augment c.args.next.now c.args.t (64 - (v.counter + 1)) g (get_or c.args.next.now c.from.result 0)) c.push.ensures
+          ∙ augment_more c.args.next.now c.args.t v.g v.counter v.v
+          v.invariant.left
+          c.loop-test.true
           c.if-v-t.false
-          c.wide-i.ensures
-          c.following-w.ensures.0
-          c.wide-j.ensures
-          c.place_of-at.ensures.0
-          c.moved_by.ensures.0,
-    )
+          i.ensures
+          (ap (λ n. get_or c.args.next.now n 0) (c.from.ensures ∙ sym i.ensures))
+          w.ensures
+          refl
+          refl;
+    }
 
 pub returns : goal.returns
 unfolding augment
 returns c =
-    let z : 64 - c.loop-k.k ≡ 0 = omega arith in
-    sym (ap (λ n. augment c.args.next.now c.args.t n c.loop-k.g c.loop-k.v) z) ∙ c.loop-k.invariant.3
+    let z : 64 - c.loop.counter ≡ 0 = omega arith in
+    sym (ap (λ n. augment c.args.next.now c.args.t n c.loop.g c.loop.v) z) ∙ c.loop.invariant.left

@@ -1,13 +1,13 @@
--- What is left of the path after k steps, from where they led, leaves what the whole path does. Assumes nothing.
-use mathlib.Core.Path.{◌≡◌}
-use Prim.Native.Nat.{◌+◌, ◌≤◌, ◌<◌, ◌-◌}
+-- What is left of the way, from what the loop holds, is the whole way; the amounts grow by at most one at each turn. Assumes nothing.
+use Rattle.std.proofs.Common.{◌≡◌, ◌+◌, ◌-◌, ◌<◌}
 use Rattle.residual_search.specs.Bounds.{AtMost}
-use Rattle.balance.specs.Invariant.{limit}
 use Rattle.residual_search.specs.Step.{augment}
+use Rattle.balance.specs.Invariant.{limit}
 use Rattle.balance.proofs.augment.augment_along.Given as goal
 
-abbrev pub invariant-loop-k : goal.invariant-loop-k
-invariant-loop-k l = (l.k ≤ 64) × (l.v < 64) × AtMost (limit + l.k) l.g × (augment l.next l.t (64 - l.k) l.g l.v ≡ augment l.next l.t 64 l.initial.g l.h)
-
-abbrev pub decreases-loop-k : goal.decreases-loop-k
-decreases-loop-k l = 64 - l.k
+abbrev pub invariant-loop : goal.invariant-loop
+invariant-loop l = record {
+  in_range : l.v < 64;
+  low : AtMost (limit + l.counter) l.g;
+  left : augment l.next l.t (64 - l.counter) l.g l.v ≡ augment l.next l.t 64 l.initial.g l.h;
+}

@@ -19,12 +19,12 @@ own (suc (suc (suc (suc (suc (suc zero)))))) l = refl
 own (suc (suc (suc (suc (suc (suc (suc zero))))))) l = refl
 own (suc (suc (suc (suc (suc (suc (suc (suc n)))))))) l = absurd (omega arith)
 
-pub shifted-w-requires : goal.shifted-w-requires
-shifted-w-requires c = let h = c.requires.6 in let g = c.requires.7 in (can_shift h g, some_place h g)
+pub shifted-requires : goal.shifted-requires
+shifted-requires c = let h = c.requires.6 in let g = c.requires.7 in (can_shift h g, some_place h g)
 
 pub returns : goal.returns
 returns c =
-    λ p table start source tails heads h g. root_branch h g _ c.shifted-w.ensures _ record {
+    λ p table start source tails heads h g. root_branch h g _ c.shifted.ensures _ record {
       nothing_chosen = refl;
       tails_size = refl;
       heads_size = refl;

@@ -1,6 +1,5 @@
 -- The plan is known, so that it can be prepared, and `solve` answers it.
 use Rattle.call_steps.specs.Laws.Call.{is_known}
-use borrow.Author.Rules.{rules}
 use Rattle.call_steps.proofs.steps.answer.Goals as goal
 
 pub prepare-r-requires : goal.prepare-r-requires

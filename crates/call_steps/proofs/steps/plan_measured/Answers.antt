@@ -1,11 +1,9 @@
--- Where the network refuses, the answer is the refusal's; where it does not, it is `answer`'s.
-use mathlib.Core.Path.{refl, sym, ap, ◌∙◌}
-use Rattle.refusal.specs.Verdict.{verdict_number}
-use Rattle.call_steps.specs.Laws.Call.{refused_planned, planned_as}
-use borrow.Author.Rules.{rules}
+-- Where the network refuses, the answer is its refusal.
+use Rattle.std.proofs.Common.{sym}
+use Rattle.call_steps.specs.Laws.Call.{refused_planned}
+use Rattle.call_steps.specs.Laws.Refused.{stopped}
 use Rattle.call_steps.proofs.steps.plan_measured.Goals as goal
 
-pub returns-in-Refused : goal.returns-in-Refused
-returns-in-Refused c =
-    let v = c.network_verdict.ensures in
-    refused_planned _ _ _ _ _ _ c.refused.ensures (sym v ∙ ap verdict_number c.in-Refused.is)
+pub returns-in_err-network_verdict : goal.returns-in_err-network_verdict
+returns-in_err-network_verdict c =
+    refused_planned _ _ _ _ _ _ (stopped _ _ c.from_residual.ensures.1) (sym c.in_err-network_verdict.ensures)

@@ -4,7 +4,6 @@ use native.Mathlib.Omega.{arith}
 use lib.ListN.{length}
 use Rattle.shortest.specs.Laws.Weight.{table_costs}
 use Rattle.multipliers.specs.Laws.Table.{table_is, rows}
-use borrow.Author.Rules.{rules}
 use Rattle.call_steps.proofs.steps.plan_read.Goals as goal
 
 pub plan_tabled-requires : goal.plan_tabled-requires

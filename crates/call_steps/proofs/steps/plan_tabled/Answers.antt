@@ -2,7 +2,6 @@
 use mathlib.Core.Path.{refl}
 use Rattle.multipliers.specs.Laws.Drive.{is_table}
 use Rattle.call_steps.specs.Laws.Call.{measured_refusal, planned_as}
-use borrow.Author.Rules.{rules}
 use Rattle.call_steps.proofs.steps.plan_tabled.Goals as goal
 
 pub network_of-net-requires : goal.network_of-net-requires

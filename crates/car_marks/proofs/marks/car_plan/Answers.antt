@@ -1,14 +1,9 @@
--- The invariant: the records before the kth hold the marked arcs.
-use mathlib.Core.Path.{◌≡◌, refl}
-use Prim.Native.Nat.{◌-◌, ◌≤◌}
-use native.Mathlib.Omega.{arith}
-use lib.ListN.{length}
-use Rattle.plan.specs.Records.{zero_record}
-use Rattle.plan.specs.Laws.Prefix.{prefix_none, prefix_more}
-use Rattle.plan.specs.Laws.Made.{HoldMade}
-use Rattle.car_marks.specs.Laws.Marks.{mark_arc, plan_marked}
-use borrow.Author.Rules.{rules}
+-- The records hold the marked arcs.
+use Rattle.std.proofs.Common.{refl, rules, arith}
+use Rattle.car_marks.specs.Laws.Marks.{plan_marked}
 use Rattle.car_marks.proofs.marks.car_plan.Goals as goal
 
 pub returns : goal.returns
-returns c = plan_marked _ _ c.loop-k.arcs c.loop-k.k c.loop-k.invariant.3 (omega arith)
+returns c =
+    plan_marked c.args.plan c.args.marks.now c.marked_arcs.result c.args.plan.m
+    (record { few = c.requires.0; long = search rules; before = λ k l. c.marked_arcs.ensures k (omega arith) }) refl

@@ -1,20 +1,13 @@
--- The invariant: no mark before the kth is bad.
-use mathlib.Core.Path.{◌≡◌, refl, sym, ◌∙◌}
-use mathlib.Core.Bool.{false}
-use Prim.Native.Nat.{ℕ, ◌-◌, ◌≤◌, ◌<◌}
-use native.Mathlib.Omega.{arith}
-use borrow.Author.Count.{below_more}
-use lib.ListN.{length}
-use Rattle.car_marks.specs.Laws.Marks.{bad_mark, wrong_length, bad_found, none_found}
-use borrow.Author.Rules.{rules}
+-- The call is a test of some mark.
+use Rattle.std.proofs.Common.{◌≡◌, take, true, false, ◌∙◌, arith, rules, tests}
+use Rattle.std.proofs.lemmas.Grind.{common_steps}
+use Rattle.std.proofs.lemmas.Iterator.{cases_from_any, YieldsList-from_slice, YieldsList-from_zip}
+use Rattle.car_marks.proofs.Some.{test, any_bad}
 use Rattle.car_marks.proofs.marks.has_bad_mark.Goals as goal
 
-pub returns-then-marks-m : goal.returns-then-marks-m
-returns-then-marks-m c = wrong_length _ _ c.if-marks-m.true
-
-pub returns-then-is_bad_mark : goal.returns-then-is_bad_mark
-returns-then-is_bad_mark c =
-    bad_found _ _ c.loop-k.k (omega arith) (sym c.is_bad_mark.ensures ∙ c.if-is_bad_mark.true)
-
-pub returns : goal.returns
-returns c = none_found _ _ (c.loop-k.invariant.1 ∙ c.loop-k.invariant.0) (λ i l. c.loop-k.invariant.3 i (omega arith))
+pub returns-else-marks-m : goal.returns-else-marks-m
+returns-else-marks-m c =
+    let r = c.args.plan in
+    let marks = c.args.marks.now in
+    any_bad r marks (search rules) c.requires (c.if-marks-m.false ∙ c.from-m.ensures) _ (cases_from_any c.any.new.self _ _ (λ x. test r marks x ≡ true) (λ x. test r marks x ≡ false) c.any.ensures.ran
+    (YieldsList-from_zip (YieldsList-from_slice marks (grind (arith, common_steps))) (YieldsList-from_slice (take r.m r.arcs) (grind (arith, common_steps)))) (λ x q k. search (rules, tests)) (λ x q k. search (rules, tests)))

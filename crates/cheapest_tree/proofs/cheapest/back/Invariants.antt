@@ -1,12 +1,8 @@
--- After i turns y is where i entries lead.
-use Rattle.cheapest_tree.specs.CostMatrix.{entry_of}
+-- After so many turns y is where so many entries lead.
+use Rattle.std.proofs.Common.{◌≡◌, ◌<◌}
 use Rattle.postman.specs.Lists.{iterate}
-use Prim.Native.Nat.{◌-◌, ◌≤◌, ◌<◌}
-use mathlib.Core.Path.{◌≡◌}
+use Rattle.cheapest_tree.specs.CostMatrix.{entry_of}
 use Rattle.cheapest_tree.proofs.cheapest.back.Given as goal
 
-abbrev pub invariant-loop-i : goal.invariant-loop-i
-invariant-loop-i l = (l.i ≤ 8) × (l.y < 8) × (l.y ≡ iterate l.i (entry_of l.e) l.x)
-
-abbrev pub decreases-loop-i : goal.decreases-loop-i
-decreases-loop-i l = 8 - l.i
+abbrev pub invariant-loop : goal.invariant-loop
+invariant-loop l = (l.y < 8) × (l.y ≡ iterate l.counter (entry_of l.e) l.x)

@@ -1,17 +1,22 @@
--- After i turns the components that i entries pass are marked, and x is the next.
-use Rattle.cheapest_tree.specs.Laws.CostMatrix.{marked_none, marked_more}
-use Rattle.cheapest_tree.specs.CostMatrix.{entry_of}
-use Rattle.cheapest_tree.specs.Laws.Iterates.{iterate_last}
+-- After so many turns the components that so many entries pass are marked, and x is the next.
+use Rattle.std.proofs.Common.{refl, sym, ap, ◌∙◌, add-one, arith, rules}
 use Rattle.postman.specs.Lists.{iterate}
-use native.Mathlib.Numerals.{add-one}
-use native.Mathlib.Omega.{arith}
-use mathlib.Core.Path.{refl, sym, ap, ◌∙◌}
-use borrow.Author.Rules.{rules}
+use Rattle.cheapest_tree.specs.CostMatrix.{entry_of}
+use Rattle.cheapest_tree.specs.Laws.CostMatrix.{marked_none, marked_more}
+use Rattle.cheapest_tree.specs.Laws.Iterates.{iterate_last}
 use Rattle.cheapest_tree.proofs.cheapest.circle.Goals as goal
 
-pub loop-i-init : goal.loop-i-init
+pub loop-init : goal.loop-init
 unfolding iterate
-loop-i-init c = (omega arith, c.requires.0, refl, refl, marked_none _ _)
+loop-init c = record { in_range = c.requires.0; sized = refl; here = refl; marked = marked_none _ _ }
 
-pub loop-i-preserved : goal.loop-i-preserved
-loop-i-preserved c = let v = c.loop-i in let k = v.invariant.2 in let b = v.invariant.1 in (omega arith, c.requires.1 v.x v.invariant.1, search rules, ap (entry_of c.args.e) v.invariant.3 ∙ sym (iterate_last v.i (entry_of c.args.e) c.args.y) ∙ rw add-one, marked_more _ _ v.i v.on v.x (omega arith) v.invariant.3 v.invariant.4)
+pub loop-preserved : goal.loop-preserved
+loop-preserved c =
+    let v = c.loop in
+    let i = v.invariant in
+    record {
+      in_range = c.requires.1 v.x i.in_range;
+      sized = search rules;
+      here = ap (entry_of c.args.e) i.here ∙ sym (iterate_last v.counter (entry_of c.args.e) c.args.y) ∙ rw add-one;
+      marked = marked_more _ _ v.counter v.on v.x (let a = i.in_range in let b = i.sized in omega arith) i.here i.marked;
+    }

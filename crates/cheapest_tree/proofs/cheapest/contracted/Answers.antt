@@ -1,9 +1,12 @@
--- After i turns the first i costs are there.
-use Rattle.cheapest_tree.specs.Laws.CostMatrix.{shrunk_more}
-use Rattle.integers.specs.Linear.{back64}
-use native.Mathlib.Omega.{arith}
-use borrow.Author.Rules.{rules}
+-- Each cost is that at its place.
+use Rattle.std.proofs.Common.{rules, ◌≡◌, ◌/◌, ◌%◌, ℕ, get_or}
+use Rattle.std.specs.Prelude.{pos}
+use Rattle.cheapest_tree.specs.CostMatrix.{IsPlace}
+use Rattle.cheapest_tree.specs.Laws.Arrays.{from_fn_each}
 use Rattle.cheapest_tree.proofs.cheapest.contracted.Goals as goal
 
-pub loop-i-preserved : goal.loop-i-preserved
-loop-i-preserved c = let v = c.loop-i in let t = c.loop-i-test.true in let k = v.invariant.1 in (omega arith, search rules, shrunk_more _ _ _ v.i v.m _ _ (omega arith) v.invariant.2 c.source_place-r.ensures (back64 _ (omega arith)))
+pub returns : goal.returns
+returns c = record {
+  each = λ i l. from_fn_each _ (λ k y. (r : ℕ) × IsPlace c.args.v.now c.args.on c.args.c (k / 8) (k % 8) r × (y ≡ get_or c.args.v.now r (pos 0))) _
+      (λ k y q h. search rules) _ _ c.from_fn.ensures.items i (pos 0) l;
+}

@@ -13,6 +13,6 @@ returns-then-a-m c = rw (simp (back64, c.ranges.a.sfits, c.ranges.m.sfits) at c.
 pub overflow_sub-result : goal.overflow_sub-result
 overflow_sub-result c = simp zz (omega (arith, z, simp zz at c.requires.0, simp zz at c.requires.1, simp zz at c.requires.2, simp zz at c.requires.3))
 
-pub returns : goal.returns
+pub returns-else-a-m : goal.returns-else-a-m
 unfolding less
-returns c = to_z-of_z (overflow_sub-result c) ∙ simp (back64, c.ranges.a.sfits, c.ranges.m.sfits) (rw (simp (back64, c.ranges.a.sfits, c.ranges.m.sfits) at c.if-a-m.false))
+returns-else-a-m c = to_z-of_z (overflow_sub-result c) ∙ simp (back64, c.ranges.a.sfits, c.ranges.m.sfits) (rw (simp (back64, c.ranges.a.sfits, c.ranges.m.sfits) at c.if-a-m.false))

@@ -7,6 +7,7 @@ use lib.ListN.{length, get_or, take}
 use lib.Seq.{length-take-le}
 use Rattle.postman.specs.Plan.{Plan, WellFormed}
 use Rattle.plan.specs.Rows.{plan_in}
+use Rattle.plan.specs.Records.{plan_value}
 use Rattle.plan.specs.Laws.Records.{record_arcs, record_vertices}
 use Rattle.paths.specs.ShortestPath.{shortest_path}
 use Rattle.shortest.specs.StepContracts.{AreRows}
@@ -33,16 +34,18 @@ pub write-requires : goal.write-requires
 write-requires c =
     let a = c.args in
     let e = c.arrange.ensures in
-    let t = a.tails.now in
-    let h = a.heads.now in
+    let t = a.legs.now.tails.now in
+    let h = a.legs.now.heads.now in
     let u = c.requires.has_circuit.2 in
-    let q = plan_in (length (take a.plan.n a.weights.now)) (take a.plan.m c.rows_of-arcs.result) in
-    let same = lent_plan_lem a.plan c.requires.well_formed.0 _ (made_value a.plan _ c.rows_of-arcs.ensures (record_arcs a.plan c.requires.well_formed.0)) a.weights.now c.rows-1.given in record {
-      well_formed = (subst⁻¹ WellFormed same c.requires.well_formed.0, subst⁻¹ (λ (p : Plan). AreRows p (take a.plan.n a.weights.now)) same (lent_rows a.plan c.requires.well_formed.0 a.weights.now c.requires.well_formed.1));
+    let q = plan_in (length (take c.from-2.result a.weights.now)) (take c.from.result c.rows_of-arcs.result) in
+    let same : q ≡ plan_value a.plan =
+    rw (c.from.ensures, c.from-2.ensures)
+    (lent_plan_lem a.plan c.requires.well_formed.0 _ (made_value a.plan _ c.rows_of-arcs.ensures (record_arcs a.plan c.requires.well_formed.0)) a.weights.now c.rows-1.given) in record {
+      well_formed = (subst⁻¹ WellFormed same c.requires.well_formed.0, subst⁻¹ (λ (p : Plan). AreRows p (take c.from-2.result a.weights.now)) same (rw c.from-2.ensures (lent_rows a.plan c.requires.well_formed.0 a.weights.now c.requires.well_formed.1)));
       in_range = subst⁻¹ (λ (z : List ℕ). (x : ℕ) → x < length z → get_or z x 0 < length t) e (circuit_below t h u);
-      have_paths = (u.ends, subst⁻¹ (λ (p : Plan). HavePaths p a.numbers.now t h) same c.requires.have_paths);
-      room = subst⁻¹ (λ (z : List ℕ). length (places_of (shortest_path q) a.numbers.now t h z) ≤ length a.places.now) e
-          (subst⁻¹ (λ (p : Plan). length (places_of (shortest_path p) a.numbers.now t h (circuit t h)) ≤ length a.places.now) same c.requires.room);
+      have_paths = (u.ends, subst⁻¹ (λ (p : Plan). HavePaths p a.legs.now.numbers.now t h) same c.requires.have_paths);
+      room = subst⁻¹ (λ (z : List ℕ). length (places_of (shortest_path q) a.legs.now.numbers.now t h z) ≤ length a.places.now) e
+          (subst⁻¹ (λ (p : Plan). length (places_of (shortest_path p) a.legs.now.numbers.now t h (circuit t h)) ≤ length a.places.now) same c.requires.room);
     }
 
 pub returns : goal.returns
@@ -50,10 +53,12 @@ returns c =
     let a = c.args in
     let e = c.arrange.ensures in
     let w = c.write.ensures in
-    let q = plan_in (length (take a.plan.n a.weights.now)) (take a.plan.m c.rows_of-arcs.result) in
-    let same = lent_plan_lem a.plan c.requires.well_formed.0 _ (made_value a.plan _ c.rows_of-arcs.ensures (record_arcs a.plan c.requires.well_formed.0)) a.weights.now c.rows-1.given in
-    let f : Plan → List ℕ → List ℕ = λ p. places_of (shortest_path p) a.numbers.now a.tails.now a.heads.now in
-    let g = ap (f q) e ∙ ap (λ (p : Plan). f p (circuit a.tails.now a.heads.now)) same in
+    let q = plan_in (length (take c.from-2.result a.weights.now)) (take c.from.result c.rows_of-arcs.result) in
+    let same : q ≡ plan_value a.plan =
+    rw (c.from.ensures, c.from-2.ensures)
+    (lent_plan_lem a.plan c.requires.well_formed.0 _ (made_value a.plan _ c.rows_of-arcs.ensures (record_arcs a.plan c.requires.well_formed.0)) a.weights.now c.rows-1.given) in
+    let f : Plan → List ℕ → List ℕ = λ p. places_of (shortest_path p) a.legs.now.numbers.now a.legs.now.tails.now a.legs.now.heads.now in
+    let g = ap (f q) e ∙ ap (λ (p : Plan). f p (circuit a.legs.now.tails.now a.legs.now.heads.now)) same in
     record {
       places_written = w.places_written ∙ ap (λ z. written z a.places.now) g;
       place_count = w.place_count ∙ ap length g;

@@ -16,13 +16,13 @@ use Rattle.circuit.proofs.places.write_leg.Goals as goal
 pub bounds-places-at : goal.bounds-places-at
 bounds-places-at c =
     let a = c.args in
-    number_room (shortest_path (plan_in (length a.weights.now) a.arcs.now)) a.numbers.now a.tails.now a.heads.now a.e (length a.places.now) a.at (omega arith) c.requires.room
+    number_room (shortest_path (plan_in (length a.weights.now) a.arcs.now)) a.legs.now.numbers.now a.legs.now.tails.now a.legs.now.heads.now a.e (length a.places.now) a.at (omega arith) c.requires.room
 
-pub returns-then-e-numbers : goal.returns-then-e-numbers
-returns-then-e-numbers c =
+pub returns-then-e-legs : goal.returns-then-e-legs
+returns-then-e-legs c =
     let all = (let a = c.args in
-    let r = number_room (shortest_path (plan_in (length a.weights.now) a.arcs.now)) a.numbers.now a.tails.now a.heads.now a.e (length a.places.now) a.at c.if-e-numbers.true c.requires.room in
-    number_written (shortest_path (plan_in (length a.weights.now) a.arcs.now)) a.numbers.now a.tails.now a.heads.now a.e a.places.now a.at c.if-e-numbers.true r) in record {
+    let r = number_room (shortest_path (plan_in (length a.weights.now) a.arcs.now)) a.legs.now.numbers.now a.legs.now.tails.now a.legs.now.heads.now a.e (length a.places.now) a.at c.if-e-legs.true c.requires.room in
+    number_written (shortest_path (plan_in (length a.weights.now) a.arcs.now)) a.legs.now.numbers.now a.legs.now.tails.now a.legs.now.heads.now a.e a.places.now a.at c.if-e-legs.true r) in record {
       places_written = all.0;
       next_place = all.1;
     }
@@ -30,9 +30,9 @@ returns-then-e-numbers c =
 pub column_to-column-requires : goal.column_to-column-requires
 column_to-column-requires c =
     let a = c.args in
-    let l : length a.numbers.now ≤ a.e = omega arith in
+    let l : length a.legs.now.numbers.now ≤ a.e = omega arith in
     let r = (c.requires.have_paths.2 a.e l c.requires.have_paths.0).to in
-    let v = c.wide8-j.ensures in
+    let v = c.from-j.ensures in
     let f = few_rows a.arcs.now a.weights.now c.requires.well_formed.0 in
     let n = rows_vertices (length a.weights.now) a.arcs.now in
     (f, omega arith)
@@ -51,13 +51,13 @@ pub path-requires : goal.path-requires
 path-requires c =
     let all = (let a = c.args in
     let p = plan_in (length a.weights.now) a.arcs.now in
-    let i = c.wide8-i.result in
-    let j = c.wide8-j.result in
-    let u = c.wide8-i.ensures in
-    let v = c.wide8-j.ensures in
-    let l : length a.numbers.now ≤ a.e = omega arith in
+    let i = c.from-i.result in
+    let j = c.from-j.result in
+    let u = c.from-i.ensures in
+    let v = c.from-j.ensures in
+    let l : length a.legs.now.numbers.now ≤ a.e = omega arith in
     let r = c.requires.have_paths.2 a.e l c.requires.have_paths.0 in
-    let q = path_of (shortest_path p) a.numbers.now a.tails.now a.heads.now a.e i j l u v in
+    let q = path_of (shortest_path p) a.legs.now.numbers.now a.legs.now.tails.now a.legs.now.heads.now a.e i j l u v in
     let k = c.column_to-column.ensures in
     taken_ready a.arcs.now a.weights.now c.column_to-column.result k.0 c.requires.well_formed.0 i j (length a.places.now) a.at a.chain.now c.requires.well_formed.2 c.requires.well_formed.1 k.1
     (subst⁻¹ (λ z. z < p.n) u r.from) (subst⁻¹ (λ z. z < p.n) v r.to) (subst₂ (λ x y. distance p x y < no_path) (sym u) (sym v) r.linked)
@@ -70,9 +70,9 @@ path-requires c =
 pub returns : goal.returns
 returns c =
     let a = c.args in
-    let i = c.wide8-i.result in
-    let j = c.wide8-j.result in
-    let q = path_of (shortest_path (plan_in (length a.weights.now) a.arcs.now)) a.numbers.now a.tails.now a.heads.now a.e i j (omega arith) c.wide8-i.ensures c.wide8-j.ensures in
+    let i = c.from-i.result in
+    let j = c.from-j.result in
+    let q = path_of (shortest_path (plan_in (length a.weights.now) a.arcs.now)) a.legs.now.numbers.now a.legs.now.tails.now a.legs.now.heads.now a.e i j (omega arith) c.from-i.ensures c.from-j.ensures in
     let w = taken_path a.arcs.now a.weights.now c.column_to-column.result c.column_to-column.ensures.0 c.requires.well_formed.0 i j ∙ q in
     let e = c.path.ensures in
     record {

@@ -16,11 +16,11 @@ numbered r labels below all v x l h e f = f ∙ ap₂ (λ (a b : ℕ). cond (get
 
 pub returns : goal.returns
 returns c =
-    let l = c.labels_of-l.ensures in
-    let k = c.ranks_of-r.ensures in
+    let l = c.labels_of-labels.ensures in
+    let k = c.ranks_of-ranks.ensures in
     record {
       each = λ v g.
-          numbered c.args.required c.labels_of-l.result c.ranks_of-r.result.below c.ranks_of-r.result.all v _ (let e = l.low v g in omega arith) k.1 k.0 (c.numbers-of.ensures v g)
-          ∙ number_component (plan_value c.args.plan) c.requires.0 c.args.required c.requires.1 c.labels_of-l.result l v g;
-      all = k.0 ∙ roots_count (plan_value c.args.plan) c.requires.0 c.args.required c.requires.1 c.labels_of-l.result l;
+          numbered c.args.required c.labels_of-labels.result c.ranks_of-ranks.result.below c.ranks_of-ranks.result.all v _ (let e = l.low v g in omega arith) k.1 k.0 (c.numbers.ensures v g)
+          ∙ number_component (plan_value c.args.plan) c.requires.0 c.args.required c.requires.1 c.labels_of-labels.result l v g;
+      all = k.0 ∙ roots_count (plan_value c.args.plan) c.requires.0 c.args.required c.requires.1 c.labels_of-labels.result l;
     }

@@ -1,5 +1,5 @@
--- Where the rounds refuse, the answer is the refusal's; where they do not, the tables are the plan's.
-use mathlib.Core.Path.{◌≡◌, sym, ◌∙◌}
+-- Where the rounds refuse, the answer is the refusal; where they do not, the tables are the plan's.
+use mathlib.Core.Path.{◌≡◌, refl, sym, ◌∙◌}
 use native.Mathlib.Omega.{arith}
 use lib.ListN.{length}
 use Rattle.shortest.specs.Laws.Weight.{table_costs}
@@ -8,7 +8,7 @@ use Rattle.deep_call.specs.Laws.Call.{step_refused, step_on, rounds_refused, rou
 use Rattle.deep_call.proofs.call.deep_within.Goals as goal
 
 pub returns-then-bad_rounds : goal.returns-then-bad_rounds
-returns-then-bad_rounds c = step_refused _ _ _ _ _ _ _ _ c.refused.ensures (rounds_refused _ (sym c.bad_rounds.ensures ∙ c.if-bad_rounds.true))
+returns-then-bad_rounds c = step_refused _ _ _ _ _ _ _ _ refl (rounds_refused _ (sym c.bad_rounds.ensures ∙ c.if-bad_rounds.true))
 
 pub plan_deep-requires : goal.plan_deep-requires
 plan_deep-requires c =

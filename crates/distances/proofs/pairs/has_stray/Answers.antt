@@ -9,8 +9,8 @@ returns-then-pairs-gt256 c = many_stray _ _ c.if-pairs-gt256.true
 
 pub returns-then-is_stray : goal.returns-then-is_stray
 returns-then-is_stray c =
-    stray_found _ _ c.if-pairs-gt256.false c.loop-k.k (omega arith) (sym c.is_stray.ensures ∙ c.if-is_stray.true)
+    stray_found _ _ c.if-pairs-gt256.false c.loop-x.x-index (omega arith) (sym c.is_stray.ensures ∙ c.if-is_stray.true)
 
 pub returns : goal.returns
 returns c =
-    none_stray _ _ c.if-pairs-gt256.false (λ k l. c.loop-k.invariant.2 k (omega arith))
+    none_stray _ _ c.if-pairs-gt256.false (λ k l. c.loop-x.invariant k (omega arith))

@@ -16,17 +16,17 @@ returns-then-n-ge8 c =
     let size = line_length c.args.m.line c.args.m.waiting long in
     refused_entered c.args.m _ c.args.budget Full (entry_full _ c.args.budget (line_of c.args.m) c.requires (omega arith))
 
-pub hold-file-requires : goal.hold-file-requires
-hold-file-requires c = short_file _ c.args.budget c.requires
+pub hold-requires : goal.hold-requires
+hold-requires c = short_file _ c.args.budget c.requires
 
 pub returns : goal.returns
 returns c =
     let long : length c.args.m.line ≡ 8 = search (rules, c.well_formed) in
     let q = c.lowest_free-place in
     let l = c.lined_up-line in
-    let b = c.hold-file.ensures in
-    let h = c.nothing_held-held.ensures in
+    let b = c.hold.ensures in
+    let h = c.nothing_held.ensures in
     let bytes = c.args.bytes.now in
-    let same : record { place = q.result; plan = c.hold-file.result; budget = c.args.budget; held = c.nothing_held-held.result } ≡ entrant q.result bytes c.args.budget
+    let same : record { place = q.result; plan = c.hold.result; budget = c.args.budget; held = c.nothing_held.result } ≡ entrant q.result bytes c.args.budget
     = λ i. record { place = q.result; plan = b i; budget = c.args.budget; held = h i } in
     admitted c.args.m bytes c.args.budget q.result long (omega arith) q.ensures c.requires l.result _ l.ensures same

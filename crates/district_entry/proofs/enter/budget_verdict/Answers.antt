@@ -1,10 +1,12 @@
 -- A budget outside its limits is refused as 9; else the rest decides.
-use mathlib.Core.Path.{sym, ◌∙◌}
-use Rattle.call_steps.specs.Laws.Call.{budget_refused, budget_good}
+use Rattle.std.proofs.Common.{sym, ◌∙◌}
+use Rattle.call_steps.specs.Laws.Call.{budget_good}
+use Rattle.call_steps.specs.Laws.Refused.{stopped}
+use Rattle.district_entry.specs.Laws.Entered.{budget_stopped}
 use Rattle.district_entry.proofs.enter.budget_verdict.Goals as goal
 
-pub returns-in-Refused : goal.returns-in-Refused
-returns-in-Refused c = sym (budget_refused _ _ (sym c.new.ensures ∙ c.in-Refused.is))
+pub returns-in_err-new : goal.returns-in_err-new
+returns-in_err-new c = rw (stopped _ _ c.from_residual.ensures.1) (sym (budget_stopped _ _ _ (sym c.in_err-new.ensures)))
 
-pub returns-in-Good : goal.returns-in-Good
-returns-in-Good c = c.parts_verdict.ensures ∙ sym (budget_good _ _ _ (sym c.new.ensures ∙ c.in-Good.is))
+pub returns : goal.returns
+returns c = c.parts_verdict.ensures ∙ sym (budget_good _ _ _ (sym c.in_ok-new.ensures))

@@ -1,20 +1,15 @@
--- The invariant: none of the districts before the ith has the place.
-use mathlib.Core.Path.{◌≡◌, sym, ◌∙◌}
-use native.Mathlib.Omega.{arith}
-use lib.ListN.{length}
-use Rattle.district_machine.specs.Laws.Held.{none_taken, some_taken}
-use borrow.Author.Rules.{rules}
+-- The call is a test of some place.
+use Rattle.std.proofs.Common.{◌≡◌, ◌≢◌, take, length, arith, rules, tests}
+use Rattle.std.proofs.lemmas.Grind.{common_steps}
+use Rattle.std.proofs.lemmas.Iterator.{cases_from_any, YieldsList-from_slice}
+use Rattle.district_machine.specs.declared.machine.District.{District as DistrictRecord}
+use Rattle.district_machine.specs.Laws.Held.{any_taken}
 use Rattle.district_machine.proofs.places.is_taken.Goals as goal
-
-pub returns-then-p-q : goal.returns-then-p-q
-returns-then-p-q c =
-    let long : length c.args.line ≡ 8 = search (rules, c.well_formed) in
-    let few = c.loop-i.invariant.0 in
-    let t = c.loop-i-test.true in
-    sym (some_taken c.args.q c.args.line c.args.n c.loop-i.i t (omega arith) (sym c.place_of-p.ensures ∙ c.if-p-q.true))
 
 pub returns : goal.returns
 returns c =
-    let long : length c.args.line ≡ 8 = search (rules, c.well_formed) in
-    let few = c.loop-i.invariant.0 in
-    sym (none_taken c.args.q c.args.line c.args.n (λ j l. c.loop-i.invariant.2 j (omega arith)) (omega arith))
+    let q = c.args.q in
+    let line = c.args.line in
+    let long : length line ≡ 8 = search (rules, c.well_formed) in
+    any_taken q line c.args.n (omega (arith, c.requires)) _ (cases_from_any c.any.new.self _ _ (λ (d : DistrictRecord). d.place ≡ q) (λ (d : DistrictRecord). d.place ≢ q) c.any.ensures.ran
+    (YieldsList-from_slice (take c.args.n line) (grind (arith, common_steps))) (λ x p k. search (rules, tests)) (λ x p k. search (rules, tests)))

@@ -17,7 +17,7 @@ pub returns-then-g-eq0 : goal.returns-then-g-eq0
 returns-then-g-eq0 c = sym (holding_first (plan_value c.args.plan) c.args.g c.if-g-eq0.true)
 
 pub is_tree-requires : goal.is_tree-requires
-is_tree-requires c = component_range _ _ _ c.requires
+is_tree-requires c = rw c.from-k.ensures (component_range _ _ _ c.requires)
 
 pub returns-then-not-is_tree : goal.returns-then-not-is_tree
 returns-then-not-is_tree c =
@@ -25,18 +25,18 @@ returns-then-not-is_tree c =
     let lt : length c.args.g.tails ≡ 8 = search (rules, c.well_formed) in
     let lh : length c.args.g.heads ≡ 8 = search (rules, c.well_formed) in
     let t = c.is_tree in
-    let q = held_tested p _ _ c.requires c.args.g.tails c.args.g.heads lt lh t.result t.ensures in
+    let q = held_tested p _ _ c.requires c.args.g.tails c.args.g.heads lt lh t.result (rw c.from-k.ensures at t.ensures) in
     sym (holding_later p c.args.g c.if-g-eq0.false ∙ and_first (is_tree p (links_by p c.args.g)) _ (sym q ∙ c.if-not-is_tree.true))
 
 pub overflow_sub-n : goal.overflow_sub-n
-overflow_sub-n c = (component_range _ _ _ c.requires).0
+overflow_sub-n c = rw c.from-k.ensures ((component_range _ _ _ c.requires).0)
 
-pub tree_cost-cost-requires : goal.tree_cost-cost-requires
-tree_cost-cost-requires c =
+pub tree_cost-requires : goal.tree_cost-requires
+tree_cost-requires c =
     let lt : length c.args.g.tails ≡ 8 = search (rules, c.well_formed) in
     let lh : length c.args.g.heads ≡ 8 = search (rules, c.well_formed) in
     let t = c.is_tree in
-    (c.requires, held_tree _ _ _ c.requires c.args.g.tails c.args.g.heads lt lh (t.ensures.0 c.if-not-is_tree.false))
+    rw c.from-k.ensures (c.requires, held_tree _ _ _ c.requires c.args.g.tails c.args.g.heads lt lh ((rw c.from-k.ensures at t.ensures).0 c.if-not-is_tree.false))
 
 pub returns : goal.returns
 returns c =
@@ -45,8 +45,8 @@ returns c =
     let lt : length c.args.g.tails ≡ 8 = search (rules, c.well_formed) in
     let lh : length c.args.g.heads ≡ 8 = search (rules, c.well_formed) in
     let t = c.is_tree in
-    let q = held_tested p _ _ c.requires g.tails g.heads lt lh t.result t.ensures in
-    let e = held_cost p _ _ c.requires g.tails g.heads _ c.tree_cost-cost.ensures in
+    let q = held_tested p _ _ c.requires g.tails g.heads lt lh t.result (rw c.from-k.ensures at t.ensures) in
+    let e = held_cost p _ _ c.requires g.tails g.heads _ (rw c.from-k.ensures at c.tree_cost.ensures) in
     let same = eqb g.cost (completion_cost p (links_by p g)) in
     ap (λ y. eqb g.cost y) e
     ∙ sym (holding_later p g c.if-g-eq0.false ∙ ap (λ (y : Bool). y && same) (sym q ∙ c.if-not-is_tree.false))

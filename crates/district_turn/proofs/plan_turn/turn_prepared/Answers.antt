@@ -14,7 +14,7 @@ use borrow.Author.Rules.{rules}
 use Rattle.district_turn.proofs.plan_turn.turn_prepared.Goals as goal
 
 pub overflow_sub-k : goal.overflow_sub-k
-overflow_sub-k c = (component_range _ _ _ c.requires.0).0
+overflow_sub-k c = rw c.from-k.ensures ((component_range _ _ _ c.requires.0).0)
 
 pub returns-then-x : goal.returns-then-x
 returns-then-x c =
@@ -30,10 +30,10 @@ returns-then-x c =
     let lt : length r.tails ≡ 8 = search (rules, x.type_inv) in
     let lh : length r.heads ≡ 8 = search (rules, x.type_inv) in
     let e = c.unfinished-then-x.ensures in
-    let n : c.args.r.network.components - 1 ≡ component_count p - 1 = ap (λ k. k - 1) c.requires.0.network.components.all in
+    let n : c.from-k.result - 1 ≡ component_count p - 1 = ap (λ k. k - 1) (c.from-k.ensures ∙ c.requires.0.network.components.all) in
     is_going p c.args.budget g _ _ c.unfinished-then-x.result (some_left p b.plannable b.few c.args.budget c.requires.2 g r h i some)
     (going_on p b.plannable b.few c.args.budget c.requires.2 g r h some c.if-x.true) e.0 e.1
-    (e.2 ∙ held_after_lem p b.plannable b.few c.args.budget c.requires.2 g r h lt lh (c.args.r.network.components - 1) n c.kept-held.result c.kept-held.ensures)
+    (e.2 ∙ held_after_lem p b.plannable b.few c.args.budget c.requires.2 g r h lt lh (c.from-k.result - 1) n c.kept.result c.kept.ensures)
     (e.3 ∙ sym (ap (λ (y : Reached). so_far y.cost y.tried) e.2))
 
 pub last-requires : goal.last-requires

@@ -1,5 +1,6 @@
 -- Nothing moves in an empty machine, with a short sheet, or where the front district cannot be gone on with; else it has its turn.
-use mathlib.Core.Path.{◌≡◌, refl, sym, ◌∙◌}
+use Rattle.std.proofs.Common.{Ok}
+use mathlib.Core.Path.{◌≡◌, refl, sym, ap, ◌∙◌}
 use Prim.Native.Nat.{◌≤◌}
 use native.Mathlib.Omega.{arith}
 use lib.ListN.{length, get_or, drop}
@@ -16,7 +17,7 @@ pub returns-then-n-eq0 : goal.returns-then-n-eq0
 returns-then-n-eq0 c =
     let m = c.args.m in
     let long : length c.args.m.line ≡ 8 = search (rules, c.well_formed) in
-    turned_as m _ _ c.still.result nobody (none_met m _ c.if-n-eq0.true) c.still.ensures.0 (c.still.ensures.1 ∙ c.so_far-nothing.ensures) c.still.ensures.2 refl
+    turned_as m _ _ c.still.result nobody (none_met m _ c.if-n-eq0.true) c.still.ensures.0 (c.still.ensures.1 ∙ ap Ok c.so_far.ensures) c.still.ensures.2 refl
 
 pub returns-then-sheet-lt17266 : goal.returns-then-sheet-lt17266
 unfolding sheet_places
@@ -27,7 +28,7 @@ returns-then-sheet-lt17266 c =
     let f = get_or m.line 0 no_district in
     let ds = drop 1 (waiting_in m) in
     let ahead = ahead_is m long some in
-    turned_as m _ _ c.still-then-sheet-lt17266.result short_sheet (short_met m f ds ahead _ c.if-sheet-lt17266.true) c.still-then-sheet-lt17266.ensures.0 (c.still-then-sheet-lt17266.ensures.1 ∙ c.refused-short.ensures) c.still-then-sheet-lt17266.ensures.2 refl
+    turned_as m _ _ c.still-then-sheet-lt17266.result short_sheet (short_met m f ds ahead _ c.if-sheet-lt17266.true) c.still-then-sheet-lt17266.ensures.0 c.still-then-sheet-lt17266.ensures.1 c.still-then-sheet-lt17266.ensures.2 refl
 
 pub returns-then-n-gt8 : goal.returns-then-n-gt8
 unfolding sheet_places
@@ -38,7 +39,7 @@ returns-then-n-gt8 c =
     let f = get_or m.line 0 no_district in
     let ds = drop 1 (waiting_in m) in
     let ahead = ahead_is m long some in
-    turned_as m _ _ c.still-then-n-gt8.result stuck (crowd_met m f ds ahead _ c.if-sheet-lt17266.false c.if-n-gt8.true) c.still-then-n-gt8.ensures.0 (c.still-then-n-gt8.ensures.1 ∙ c.so_far-nothing.ensures) c.still-then-n-gt8.ensures.2 refl
+    turned_as m _ _ c.still-then-n-gt8.result stuck (crowd_met m f ds ahead _ c.if-sheet-lt17266.false c.if-n-gt8.true) c.still-then-n-gt8.ensures.0 (c.still-then-n-gt8.ensures.1 ∙ ap Ok c.so_far.ensures) c.still-then-n-gt8.ensures.2 refl
 
 pub returns-then-not-has_own_place : goal.returns-then-not-has_own_place
 unfolding sheet_places
@@ -51,7 +52,7 @@ returns-then-not-has_own_place c =
     let ahead = ahead_is m long some in
     let t = c.has_own_place in
     let own = sym (t.ensures f refl ∙ own_as f c.left-others.result ds c.left-others.ensures) ∙ c.if-not-has_own_place.true in
-    turned_as m _ _ c.still-then-not-has_own_place.result stuck (other_met m f ds ahead _ c.if-sheet-lt17266.false own) c.still-then-not-has_own_place.ensures.0 (c.still-then-not-has_own_place.ensures.1 ∙ c.so_far-nothing.ensures) c.still-then-not-has_own_place.ensures.2 refl
+    turned_as m _ _ c.still-then-not-has_own_place.result stuck (other_met m f ds ahead _ c.if-sheet-lt17266.false own) c.still-then-not-has_own_place.ensures.0 (c.still-then-not-has_own_place.ensures.1 ∙ ap Ok c.so_far.ensures) c.still-then-not-has_own_place.ensures.2 refl
 
 pub served-s-requires : goal.served-s-requires
 unfolding sheet_places
@@ -68,7 +69,7 @@ returns-then-not-s c =
     let ahead = ahead_is m long some in
     let x = c.served-s in
     let bad = not_taken x.ensures (was_false x.result.good c.if-not-s.true) in
-    turned_as m _ _ c.still-then-not-s.result stuck (unserved_met m f ds ahead _ c.if-sheet-lt17266.false bad.0) c.still-then-not-s.ensures.0 (c.still-then-not-s.ensures.1 ∙ c.so_far-nothing.ensures) c.still-then-not-s.ensures.2 bad.1
+    turned_as m _ _ c.still-then-not-s.result stuck (unserved_met m f ds ahead _ c.if-sheet-lt17266.false bad.0) c.still-then-not-s.ensures.0 (c.still-then-not-s.ensures.1 ∙ ap Ok c.so_far.ensures) c.still-then-not-s.ensures.2 bad.1
 
 pub after-requires : goal.after-requires
 after-requires c =

@@ -1,28 +1,19 @@
 -- A file that does not read gives what reading refuses; one that does is changed as its plan says.
-use mathlib.Core.Path.{ap, subst}
-use mathlib.Core.List.{List}
-use Prim.Native.Nat.{ℕ}
-use Rattle.refusal.specs.Verdict.{verdict_number}
+use Rattle.std.proofs.Common.{ℕ, List, Ok, Err, subst}
 use Rattle.plan_file.specs.Reading.{IsReading}
-use Rattle.held_file.specs.Laws.Read.{few_records, change_unread, change_read}
-use Rattle.held_file.specs.Change.{change_of}
+use Rattle.held_file.specs.Change.{change_in}
+use Rattle.held_file.specs.Laws.Read.{few_records, stopped_unread, change_read}
 use Rattle.held_file.proofs.change.changed_file.Goals as goal
 
 pub change_plan-requires : goal.change_plan-requires
-change_plan-requires c =
-    let r = c.read_plan-reading in
-    few_records _ r.result r.ensures (ap verdict_number c.in-Accepted.is)
+change_plan-requires c = few_records _ _ c.in_ok-reading.ensures
 
-pub returns-in-Refused : goal.returns-in-Refused
-returns-in-Refused c =
-    let r = c.read_plan-reading in
-    let n = c.held_length-n.ensures.1 in
-    let a = c.args in
-    change_unread _ r.result (subst (λ (b : List ℕ). IsReading b r.result) n r.ensures) (change_of a.arc a.cost a.service a.standing) _ _ (ap verdict_number c.in-Refused.is) c.not_written.ensures
+pub returns-in_err-reading : goal.returns-in_err-reading
+returns-in_err-reading c =
+    let i = subst (λ (b : List ℕ). IsReading b (Err c.in_err-reading.field-0.0)) c.held_length.ensures.1 c.in_err-reading.ensures in
+    stopped_unread _ (change_in c.args.c) _ _ i c.from_residual.ensures.1
 
-pub returns-in-Accepted : goal.returns-in-Accepted
-returns-in-Accepted c =
-    let r = c.read_plan-reading in
-    let n = c.held_length-n.ensures.1 in
-    let a = c.args in
-    change_read _ r.result (subst (λ (b : List ℕ). IsReading b r.result) n r.ensures) (change_of a.arc a.cost a.service a.standing) _ (ap verdict_number c.in-Accepted.is) c.change_plan.ensures
+pub returns : goal.returns
+returns c =
+    let i = subst (λ (b : List ℕ). IsReading b (Ok c.in_ok-reading.reading)) c.held_length.ensures.1 c.in_ok-reading.ensures in
+    change_read _ (change_in c.args.c) _ _ i c.change_plan.ensures

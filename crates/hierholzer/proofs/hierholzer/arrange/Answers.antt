@@ -10,8 +10,8 @@ use Rattle.hierholzer.specs.Laws.Hints.{hints_none}
 use Rattle.hierholzer.specs.Laws.Held.{held_first, run_first, run_step, run_last}
 use Rattle.hierholzer.proofs.hierholzer.arrange.Goals as goal
 
-pub loop-depth-init : goal.loop-depth-init
-loop-depth-init c =
+pub loop-at-init : goal.loop-at-init
+loop-at-init c =
     let a = c.args in
     let n = c.requires.0 in (
       held_first a.tails.now a.heads.now a.order.now (replicate 526 0) c.requires.2.some c.requires.1 (omega arith) (λ e k. get_or-replicate 526 e 0 0 (omega arith)),
@@ -19,16 +19,16 @@ loop-depth-init c =
       hints_none a.tails.now _,
     )
 
-pub loop-depth-preserved : goal.loop-depth-preserved
-loop-depth-preserved c =
-    let e = c.advance-p.ensures in
-    let l = c.loop-depth in
+pub loop-at-preserved : goal.loop-at-preserved
+loop-at-preserved c =
+    let e = c.advance-at.ensures in
+    let l = c.loop-at in
     (e.0.held, l.invariant.1 ∙ run_step _ _ _ _ _ _ _ _ _ e.0, e.1)
 
 pub returns : goal.returns
 returns c =
-    let l = c.loop-depth in
-    let z : l.depth ≡ 0 = omega arith in
-    run_last c.args.tails.now c.args.heads.now l.order l.used l.start (2 * l.start - l.depth) c.requires.2
-    (subst (λ d. HeldPath c.args.tails.now l.order l.used d l.start) z l.invariant.0)
-    (l.invariant.1 ∙ ap (λ d. run c.args.tails.now c.args.heads.now (2 * l.start - l.depth) (walk_of l.order d) (drop l.start l.order)) z)
+    let l = c.loop-at in
+    let z : l.at.depth ≡ 0 = omega arith in
+    run_last c.args.tails.now c.args.heads.now l.order l.used l.at.start (2 * l.at.start - l.at.depth) c.requires.2
+    (subst (λ d. HeldPath c.args.tails.now l.order l.used d l.at.start) z l.invariant.0)
+    (l.invariant.1 ∙ ap (λ d. run c.args.tails.now c.args.heads.now (2 * l.at.start - l.at.depth) (walk_of l.order d) (drop l.at.start l.order)) z)

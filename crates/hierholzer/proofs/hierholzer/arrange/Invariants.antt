@@ -7,8 +7,8 @@ use Rattle.hierholzer.specs.Circuit.{run, circuit}
 use Rattle.hierholzer.specs.Held.{walk_of, HeldPath, Hints}
 use Rattle.hierholzer.proofs.hierholzer.arrange.Given as goal
 
-abbrev pub invariant-loop-depth : goal.invariant-loop-depth
-invariant-loop-depth l = HeldPath l.tails l.order l.used l.depth l.start × (circuit l.tails l.heads ≡ run l.tails l.heads (2 * l.start - l.depth) (walk_of l.order l.depth) (drop l.start l.order)) × Hints l.tails l.used l.hints
+abbrev pub invariant-loop-at : goal.invariant-loop-at
+invariant-loop-at l = HeldPath l.tails l.order l.used l.at.depth l.at.start × (circuit l.tails l.heads ≡ run l.tails l.heads (2 * l.at.start - l.at.depth) (walk_of l.order l.at.depth) (drop l.at.start l.order)) × Hints l.tails l.used l.hints
 
-abbrev pub decreases-loop-depth : goal.decreases-loop-depth
-decreases-loop-depth l = 2 * l.start - l.depth
+abbrev pub decreases-loop-at : goal.decreases-loop-at
+decreases-loop-at l = 2 * l.at.start - l.at.depth

@@ -15,6 +15,6 @@ overflow_cast-hints c =
 
 pub returns : goal.returns
 returns c =
-    let w = c.wide8-i.ensures in
+    let w = c.from-i.ensures in
     let e = c.next_leg-e.ensures in
     (e, subst⁻¹ (λ i. Hints c.args.tails.now c.args.used.now (set c.args.hints.now i c.next_leg-e.result)) w (hints_found c.args.tails.now c.args.used.now c.args.hints.now c.requires.1 c.args.v (omega arith) e))

@@ -2,7 +2,6 @@
 use mathlib.Core.Path.{sym, ap, ◌∙◌}
 use Rattle.postman.specs.Refusal.{given}
 use Rattle.judge.specs.Laws.Call.{foreign_answer, unjoined_answer, missed_answer, cost_answer}
-use borrow.Author.Rules.{rules}
 use Rattle.judge.proofs.call.judge_list.Goals as goal
 
 pub returns-then-has_foreign : goal.returns-then-has_foreign

@@ -5,7 +5,6 @@ use lib.Seq.{length-take-le}
 use Rattle.plan.specs.Laws.Records.{record_arcs}
 use Rattle.judge.specs.Laws.Call.{rows_answer, rows_cost}
 use Rattle.plan.specs.Laws.Rows.{made_long, made_value}
-use borrow.Author.Rules.{rules}
 use Rattle.judge.proofs.call.judge_plan.Goals as goal
 
 pub rows_of-rows-requires : goal.rows_of-rows-requires

@@ -3,7 +3,7 @@ use mathlib.Core.Path.{◌∙◌}
 use native.Mathlib.Omega.{arith}
 use mir.Syntax.{w64}
 use mir.Facts.{to_z-of_z}
-use lib.IntN.{ℤ, ◌*ℤ◌}
+use lib.IntN.{◌*ℤ◌}
 use Rattle.integers.specs.Linear.{z, zl, back64, sfits_k, sfits_abs, abs_k, mul_abs, within_abs}
 use Rattle.lagrangian.proofs.bound.plus.Goals as goal
 

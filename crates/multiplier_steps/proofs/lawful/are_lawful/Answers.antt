@@ -1,23 +1,20 @@
--- The loop's state after so many turns is the model's. Assumes nothing.
-use mathlib.Core.Bool.{Bool, true, ◌&&◌}
-use mathlib.Core.Path.{refl, ap, ◌∙◌}
-use native.Mathlib.Omega.{arith}
+-- Each item is a vertex, and the test of all of them is the model's.
+use borrow.Author.Tests.{tests}
+use Rattle.std.proofs.Common.{rules}
+use Rattle.std.proofs.lemmas.Iterator.{YieldsList-from_slice}
+use Rattle.std.proofs.lemmas.Iterator.Adapters.{serves_from_places}
+use Rattle.std.proofs.lemmas.Iterator.Search.{all_from_yields_List}
 use Rattle.multiplier_steps.specs.Lawful.{is_vertex_lawful, are_lawful}
-use Rattle.multiplier_steps.specs.Laws.Turns.{turn_at, end}
-use Rattle.multiplier_steps.specs.Turns.{turns}
+use Rattle.multiplier_steps.specs.Laws.Turns.{item_below, all_turns}
 use Rattle.multiplier_steps.proofs.lawful.are_lawful.Goals as goal
 
-pub loop-a-init : goal.loop-a-init
-unfolding turns
-loop-a-init c = (omega arith, refl)
-
-pub loop-a-preserved : goal.loop-a-preserved
-loop-a-preserved c = (
-  omega arith,
-  turn_at (λ r v. r && is_vertex_lawful c.args.d.now c.args.f.now c.args.x.now c.args.vs.now v) c.args.vs.now true c.loop-a.a c.loop-a.invariant.1 (c.wide-i.ensures ∙ c.vertex.ensures.0)
-      (c.and-b.ensures ∙ ap (λ (q : Bool). c.loop-a.b && q) c.vertex_lawful.ensures),
-)
+pub all-requires-clause-callable : goal.all-requires-clause-callable
+all-requires-clause-callable c =
+    serves_from_places (YieldsList-from_slice c.args.vs.now c.iter.ensures.rest) (λ x q r. search rules)
+    (λ x k l e. let m = item_below c.args.vs.now k x.now c.requires.0 l e in search rules)
 
 pub returns : goal.returns
 unfolding are_lawful
-returns c = end _ _ c.loop-a.a c.loop-a.invariant.1 c.loop-a.invariant.0 c.loop-a-test.false
+returns c =
+    all_turns (is_vertex_lawful c.args.d.now c.args.f.now c.args.x.now c.args.vs.now) c.args.vs.now
+    (all_from_yields_List (is_vertex_lawful c.args.d.now c.args.f.now c.args.x.now c.args.vs.now) _ _ _ c.all.ensures.ran (YieldsList-from_slice c.args.vs.now c.iter.ensures.rest) (λ x b q k. search (rules, tests)))

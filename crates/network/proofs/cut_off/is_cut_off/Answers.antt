@@ -1,19 +1,13 @@
--- The invariant: no required vertex before the ith misses another.
-use mathlib.Core.Path.{sym, ◌∙◌}
-use native.Mathlib.Omega.{arith}
+-- Some passes, or none does.
+use Rattle.std.proofs.Common.{rules, tests, refl, ◌∙◌}
+use Rattle.std.proofs.lemmas.Iterator.{YieldsList-from_range}
+use Rattle.std.proofs.lemmas.Iterator.Search.{any_from_yields_List}
+use Rattle.required.specs.Laws.Search.{any_counted}
 use Rattle.network.specs.CutOff.{is_cut, cuts_off}
-use Rattle.required.specs.Laws.Search.{some_below, none_below}
-use Rattle.network.specs.Laws.Thinning.{both}
 use Rattle.network.proofs.cut_off.is_cut_off.Goals as goal
-
-pub returns-then-misses : goal.returns-then-misses
-unfolding cuts_off
-returns-then-misses c =
-    let s = c.args in
-    sym (some_below (is_cut s.d.now s.required) 64 c.loop-i.i (omega arith) (both c.if-required-i.true (sym c.misses.ensures ∙ c.if-misses.true)))
 
 pub returns : goal.returns
 unfolding cuts_off
 returns c =
-    let s = c.args in
-    sym (none_below (is_cut s.d.now s.required) 64 (λ k l. c.loop-i.invariant.1 k (omega arith)))
+    any_from_yields_List (is_cut c.args.d.now c.args.required) _ _ c.any.result c.any.ensures.ran (YieldsList-from_range 0 64 64 refl refl) (λ x b q k. search (rules, tests))
+    ∙ any_counted (is_cut c.args.d.now c.args.required) 64

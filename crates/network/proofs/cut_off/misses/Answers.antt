@@ -1,20 +1,13 @@
--- The invariant: no required vertex before the jth is missed.
-use mathlib.Core.Path.{sym}
-use native.Mathlib.Omega.{arith}
-use borrow.Author.Tests.{eq-eqb}
+-- Some passes, or none does.
+use Rattle.std.proofs.Common.{rules, tests, refl, ◌∙◌}
+use Rattle.std.proofs.lemmas.Iterator.{YieldsList-from_range}
+use Rattle.std.proofs.lemmas.Iterator.Search.{any_from_yields_List}
+use Rattle.required.specs.Laws.Search.{any_counted}
 use Rattle.network.specs.CutOff.{has_no_path, misses_some}
-use Rattle.required.specs.Laws.Search.{some_below, none_below}
-use Rattle.network.specs.Laws.Thinning.{both}
 use Rattle.network.proofs.cut_off.misses.Goals as goal
-
-pub returns-then-d-i : goal.returns-then-d-i
-unfolding misses_some
-returns-then-d-i c =
-    let s = c.args in
-    sym (some_below (has_no_path s.d.now s.required s.i) 64 c.loop-j.j (omega arith) (both c.if-required-j.true (eq-eqb _ 4294967295 c.if-d-i.true)))
 
 pub returns : goal.returns
 unfolding misses_some
 returns c =
-    let s = c.args in
-    sym (none_below (has_no_path s.d.now s.required s.i) 64 (λ k l. c.loop-j.invariant.1 k (omega arith)))
+    any_from_yields_List (has_no_path c.args.d.now c.args.required c.args.i) _ _ c.any.result c.any.ensures.ran (YieldsList-from_range 0 64 64 refl refl) (λ x b q k. search (rules, tests))
+    ∙ any_counted (has_no_path c.args.d.now c.args.required c.args.i) 64

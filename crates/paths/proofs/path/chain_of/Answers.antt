@@ -20,4 +20,4 @@ loop-k-init c = chain_none _
 
 pub loop-k-preserved : goal.loop-k-preserved
 loop-k-preserved c =
-    linked c.args.arcs.now c.requires.1 c.loop-k.invariant c.loop-k-test.true c.wide-t.ensures c.requires.0
+    linked c.args.arcs.now c.requires.1 c.loop-k.invariant c.loop-k-test.true c.from-t.ensures c.requires.0

@@ -4,6 +4,3 @@ use Rattle.paths.proofs.path.chain_of.Given as goal
 
 abbrev pub invariant-loop-k : goal.invariant-loop-k
 invariant-loop-k l = IsChainFrom l.arcs l.chain l.k
-
-abbrev pub decreases-loop-k : goal.decreases-loop-k
-decreases-loop-k l = l.k

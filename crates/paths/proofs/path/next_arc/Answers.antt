@@ -1,6 +1,6 @@
--- The invariant: `best` is the lowest of the arcs before the kth that begins a lightest path, and k leaves v.
-use mathlib.Core.Path.{◌≡◌, refl, sym, ◌∙◌, subst⁻¹}
-use mathlib.Core.Bool.{Bool, ◌&&◌}
+-- The invariant: no arc before the kth begins a lightest path, and k leaves v.
+use mathlib.Core.Path.{◌≡◌, refl, sym, ◌∙◌}
+use mathlib.Core.Bool.{Bool, true, false, ◌&&◌}
 use mathlib.Core.List.{List, []}
 use Prim.Native.Nat.{ℕ, ◌+◌, ◌*◌}
 use native.Mathlib.Omega.{arith}
@@ -11,7 +11,7 @@ use Rattle.plan.specs.Rows.{arc_in}
 use Rattle.plan.specs.Laws.Rows.{rows_length, rows_vertices}
 use Rattle.paths.specs.ShortestPath.{begins_in}
 use Rattle.paths.specs.Laws.Lookup.{row_ends}
-use Rattle.paths.specs.Laws.Leaving.{Meets, meets_none, meets_later, meets_more, meets_all}
+use Rattle.paths.specs.Laws.Leaving.{meets_none, meets_later, meets_more, meets_all}
 use Rattle.paths.proofs.path.next_arc.Goals as goal
 
 -- what the code tests is the definition's test
@@ -31,41 +31,45 @@ pub loop-k-init : goal.loop-k-init
 loop-k-init c =
     let n = c.requires.0.vertices in
     let m = rows_vertices (length c.args.column.now) c.args.arcs.now in
-    (refl, meets_none c.args.arcs.now c.args.column.now c.args.v (c.wide-k.ensures ∙ c.requires.1.first c.args.v (omega arith)))
+    meets_none c.args.arcs.now c.args.column.now c.args.v (c.from-k.ensures ∙ c.requires.1.first c.args.v (omega arith))
 
 pub bounds-column-h : goal.bounds-column-h
 bounds-column-h c =
-    let a = c.loop-k.invariant.1.most in
+    let a = c.loop-k.invariant.most in
     let h = (row_ends (length c.args.column.now) c.args.arcs.now c.requires.0 c.loop-k.k (omega arith)).1 in
     let n = c.requires.0.vertices in
     let m = rows_vertices (length c.args.column.now) c.args.arcs.now in
-    let e = c.wide-h.ensures in
+    let e = c.from-h.ensures in
     omega arith
 
 pub bounds-chain-k : goal.bounds-chain-k
 bounds-chain-k c =
-    let a = c.loop-k.invariant.1.most in
+    let a = c.loop-k.invariant.most in
     let n = c.requires.0.arc_count_holds in
     let m = rows_length (length c.args.column.now) c.args.arcs.now in
     omega arith
 
 pub loop-k-smaller : goal.loop-k-smaller
 loop-k-smaller c =
-    let a = c.loop-k.invariant.1.most in
-    let e = c.wide-k-in-loop-k.ensures ∙ c.requires.1.next c.loop-k.k (omega arith) in
-    let l = meets_later c.args.arcs.now c.args.column.now c.args.v c.loop-k.invariant.1 (omega arith) e in
+    let a = c.loop-k.invariant.most in
+    let e = c.from-k-in-loop-k.ensures ∙ c.requires.1.next c.loop-k.k (omega arith) in
+    let l = meets_later c.args.arcs.now c.args.column.now c.args.v c.loop-k.invariant (omega arith) e in
     omega arith
 
 pub loop-k-preserved : goal.loop-k-preserved
 loop-k-preserved c =
-    let a = c.loop-k.invariant.1.most in
-    let e = c.wide-k-in-loop-k.ensures ∙ c.requires.1.next c.loop-k.k (omega arith) in
-    let b = tested c.args.arcs.now c.args.column.now c.args.v c.loop-k.k c.wide-h.ensures c.leads.ensures in (
-      refl,
-      subst⁻¹ (λ x. Meets c.args.arcs.now c.args.column.now c.args.v x c.wide-k-in-loop-k.result) c.best_of-best.ensures
-          (meets_more c.args.arcs.now c.args.column.now c.args.v c.loop-k.invariant.1 (omega arith) e (omega arith) c.leads.result b),
-    )
+    let e = c.from-k-in-loop-k.ensures ∙ c.requires.1.next c.loop-k.k (omega arith) in
+    let b = tested c.args.arcs.now c.args.column.now c.args.v c.loop-k.k c.from-h.ensures c.leads.ensures in
+    meets_more c.args.arcs.now c.args.column.now c.args.v c.loop-k.invariant (omega arith) e (omega arith) false (b ∙ c.if-leads.false)
+
+-- the first that is met is the lowest
+pub returns-then-leads : goal.returns-then-leads
+returns-then-leads c =
+    let b = tested c.args.arcs.now c.args.column.now c.args.v c.loop-k.k c.from-h.ensures c.leads.ensures in
+    let l = meets_later c.args.arcs.now c.args.column.now c.args.v c.loop-k.invariant (omega arith) refl in
+    meets_all c.args.arcs.now c.args.column.now c.args.v
+    (meets_more c.args.arcs.now c.args.column.now c.args.v c.loop-k.invariant (omega arith) refl (omega arith) true (b ∙ c.if-leads.true)) (omega arith)
 
 pub returns : goal.returns
 returns c =
-    meets_all c.args.arcs.now c.args.column.now c.args.v c.loop-k.invariant.1 (omega arith)
+    meets_all c.args.arcs.now c.args.column.now c.args.v c.loop-k.invariant (omega arith)

@@ -86,7 +86,7 @@ bounds-arcs-k c =
 pub loop-v-preserved : goal.loop-v-preserved
 unfolding shortest_path
 loop-v-preserved c =
-    written c.args.column.now c.args.arcs.now c.requires.well_formed.0 c.loop-v.invariant c.loop-v-test.true c.requires.well_formed.1 c.next_arc-k.ensures c.requires.room c.wide-v.ensures
+    written c.args.column.now c.args.arcs.now c.requires.well_formed.0 c.loop-v.invariant c.loop-v-test.true c.requires.well_formed.1 c.next_arc-k.ensures c.requires.room c.from-v.ensures
 
 pub returns : goal.returns
 unfolding shortest_path

@@ -11,8 +11,8 @@ use Rattle.bits.specs.Laws.Taking.{taken_within}
 use Rattle.plan_arcs.specs.Laws.Fields.{arc_within}
 use Rattle.plan_arcs.proofs.arcs.arc_fields.Goals as goal
 
-pub read_service-service-requires : goal.read_service-service-requires
-read_service-service-requires c =
+pub read_service-requires : goal.read_service-requires
+read_service-requires c =
     let a = c.args in
     let w = arc_within a.edition a.k _ _ c.file_bits-at.ensures c.requires.0 c.requires.1 in
     (w.0, w.2)
@@ -31,7 +31,7 @@ returns c =
     let head = c.take_at-head in
     let standing = c.take_at-standing in
     let cost = c.take_at-cost in
-    let must : c.is_must-must.result ≡ eqb standing.result.field 1 = c.is_must-must.ensures ∙ must_test standing.result.field _ c.field_standing.ensures in
+    let must : c.is_must-must.result ≡ eqb standing.result.field 1 = c.is_must-must.ensures ∙ must_test standing.result.field _ c.from.ensures in
     let first = taken_within bytes begin 6 (omega arith, omega arith, omega arith) in
     let t : tail.result.field ≡ field_at bytes begin 6 = tail.ensures.0 ∙ first.0 in
     let second : tail.result.at ≡ file_bits a.edition a.k + 6 = omega (arith, at, tail.ensures.1 ∙ first.1) in
@@ -42,4 +42,4 @@ returns c =
     let s : standing.result.field ≡ field_at bytes head.result.at 2 = standing.ensures.0 ∙ kind.0 in
     let fourth : standing.result.at ≡ file_bits a.edition a.k + 14 = omega (arith, third, standing.ensures.1 ∙ kind.1) in
     let p : cost.result.field ≡ field_at bytes standing.result.at 16 = cost.ensures.0 ∙ (taken_within bytes standing.result.at 16 (omega arith, omega arith, omega arith)).0 in
-    cc (at, t, h, s, p, second, third, fourth, must, c.read_service-service.ensures)
+    cc (at, t, h, s, p, second, third, fourth, must, c.read_service.ensures)

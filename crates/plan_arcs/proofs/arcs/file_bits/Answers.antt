@@ -7,6 +7,6 @@ pub returns-then-edition-eq2 : goal.returns-then-edition-eq2
 unfolding arc_width file_bits
 returns-then-edition-eq2 c = simp (eq-eqb _ _ c.if-edition-eq2.true)
 
-pub returns : goal.returns
+pub returns-else-edition-eq2 : goal.returns-else-edition-eq2
 unfolding arc_width file_bits
-returns c = simp (ne_eqb _ _ c.if-edition-eq2.false)
+returns-else-edition-eq2 c = simp (ne_eqb _ _ c.if-edition-eq2.false)

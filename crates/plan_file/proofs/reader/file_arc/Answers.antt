@@ -19,8 +19,8 @@ returns-then-has_arc c =
     let has : has_arc s (edition s) a.k ≡ true = ap (λ (x : ℕ). has_arc s x a.k) (sym e) ∙ sym c.has_arc.ensures ∙ c.if-has_arc.true in
     c.read_arc.ensures ∙ ap (λ (x : ℕ). record_of (arc_of s x a.k)) e ∙ sym (record_there s a.k has)
 
-pub returns : goal.returns
-returns c =
+pub returns-else-has_arc : goal.returns-else-has_arc
+returns-else-has_arc c =
     let a = c.args in
     let s = a.s.now in
     let none : has_arc s (edition s) a.k ≡ false = ap (λ (x : ℕ). has_arc s x a.k) (sym c.file_edition-e.ensures) ∙ sym c.has_arc.ensures ∙ c.if-has_arc.false in

@@ -15,15 +15,15 @@ returns-then-s-lt3 c =
     let s = c.args.s.now in
     rw (frame-refusal s) (simp (lt-ltb (length s) 3 c.if-s-lt3.true))
 
-pub returns-then-is_edition : goal.returns-then-is_edition
-returns-then-is_edition c =
+pub returns-then-not-is_edition : goal.returns-then-not-is_edition
+returns-then-not-is_edition c =
     let s = c.args.s.now in
-    let e = c.file_edition-edition.ensures in
-    let known : is_edition (edition s) ≡ true = ap is_edition (sym e) ∙ sym c.is_edition.ensures ∙ c.if-is_edition.true in
-    rw (frame-refusal s) (simp (le-ltb (length s) 3 c.if-s-lt3.false, known) (c.extent_verdict.ensures ∙ ap (λ (x : ℕ). first_refusal (extent_on s x)) e))
+    let known : is_edition (edition s) ≡ false = ap is_edition (sym c.file_edition-edition.ensures) ∙ sym c.is_edition.ensures ∙ c.if-not-is_edition.true in
+    rw (frame-refusal s) (simp (le-ltb (length s) 3 c.if-s-lt3.false, known))
 
 pub returns : goal.returns
 returns c =
     let s = c.args.s.now in
-    let known : is_edition (edition s) ≡ false = ap is_edition (sym c.file_edition-edition.ensures) ∙ sym c.is_edition.ensures ∙ c.if-is_edition.false in
-    rw (frame-refusal s) (simp (le-ltb (length s) 3 c.if-s-lt3.false, known))
+    let e = c.file_edition-edition.ensures in
+    let known : is_edition (edition s) ≡ true = ap is_edition (sym e) ∙ sym c.is_edition.ensures ∙ c.if-not-is_edition.false in
+    rw (frame-refusal s) (simp (le-ltb (length s) 3 c.if-s-lt3.false, known) (c.extent_verdict.ensures ∙ ap (λ (x : ℕ). first_refusal (extent_on s x)) e))

@@ -24,14 +24,14 @@ returns-then-needed-s c =
     let over : file_length a.edition a.m < length a.s.now = omega (arith, c.file_length-needed.ensures) in
     simp (le-ltb _ _ long, lt-ltb _ _ over)
 
-pub returns-then-fill-ne0 : goal.returns-then-fill-ne0
+pub returns-then-fill_bits-ne0 : goal.returns-then-fill_bits-ne0
 unfolding margin_conditions first_refusal
-returns-then-fill-ne0 c =
+returns-then-fill_bits-ne0 c =
     let a = c.args in
     let e = c.file_length-needed.ensures in
     let low : file_length a.edition a.m ≤ length a.s.now = omega arith in
     let high : length a.s.now ≤ file_length a.edition a.m = omega arith in
-    let fill = ne_eqb (fill_bits a.s.now a.edition a.m) 0 (λ z. c.if-fill-ne0.true (c.fill_bits-fill.ensures ∙ z)) in
+    let fill = ne_eqb (fill_bits a.s.now a.edition a.m) 0 (λ z. c.if-fill_bits-ne0.true (c.fill_bits.ensures ∙ z)) in
     simp (le-ltb _ _ low, le-ltb _ _ high, fill)
 
 pub returns : goal.returns
@@ -41,5 +41,5 @@ returns c =
     let e = c.file_length-needed.ensures in
     let low : file_length a.edition a.m ≤ length a.s.now = omega arith in
     let high : length a.s.now ≤ file_length a.edition a.m = omega arith in
-    let fill = eq-eqb (fill_bits a.s.now a.edition a.m) 0 (sym c.fill_bits-fill.ensures ∙ c.if-fill-ne0.false) in
+    let fill = eq-eqb (fill_bits a.s.now a.edition a.m) 0 (sym c.fill_bits.ensures ∙ c.if-fill_bits-ne0.false) in
     simp (le-ltb _ _ low, le-ltb _ _ high, fill)

@@ -1,5 +1,6 @@
 -- `content_verdict` meets its contract: at each return the tests on the way say which conditions apply (`Writing`).
-use mathlib.Core.Path.{◌∙◌, sym}
+use Rattle.std.proofs.Common.{◌≡◌, ◌∙◌, sym, ap, Err, rules}
+use Rattle.refusal.specs.Verdict.{verdict_number}
 use Prim.Native.Nat.{◌<◌, ◌≤◌}
 use native.Mathlib.Omega.{arith}
 use borrow.Author.Tests.{lt-ltb, le-ltb}
@@ -27,23 +28,25 @@ file_length-requires c = (inside c.args.p.m 1 256 (sym c.is_outside-2.ensures �
 pub returns-then-room-file_length : goal.returns-then-room-file_length
 returns-then-room-file_length c =
     let a = c.args in
-    let records = sym c.in-Accepted.ensures in
+    let records = sym c.in_ok-all_records_verdict.ensures in
     let short : a.room < file_length a.edition a.p.m = omega (arith, c.file_length.ensures) in
     sym
     (of_room a.edition a.p a.room c.requires (sym c.is_outside.ensures ∙ c.if-is_outside.false) (sym c.is_outside-2.ensures ∙ c.if-is_outside-2.false) records
     ∙ simp (lt-ltb a.room (file_length a.edition a.p.m) short))
 
-pub returns-else-room-file_length : goal.returns-else-room-file_length
-returns-else-room-file_length c =
+pub returns : goal.returns
+returns c =
     let a = c.args in
-    let records = sym c.in-Accepted.ensures in
+    let records = sym c.in_ok-all_records_verdict.ensures in
     let room : file_length a.edition a.p.m ≤ a.room = omega (arith, c.file_length.ensures) in
     sym
     (of_room a.edition a.p a.room c.requires (sym c.is_outside.ensures ∙ c.if-is_outside.false) (sym c.is_outside-2.ensures ∙ c.if-is_outside-2.false) records
     ∙ simp (le-ltb a.room (file_length a.edition a.p.m) room))
 
-pub returns-in-Refused : goal.returns-in-Refused
-returns-in-Refused c =
+pub returns-in_err-all_records_verdict : goal.returns-in_err-all_records_verdict
+returns-in_err-all_records_verdict c =
     let a = c.args in
-    let record-refused = sym c.in-Refused.ensures in
-    sym (of-record a.edition a.p a.room c.requires (sym c.is_outside.ensures ∙ c.if-is_outside.false) (sym c.is_outside-2.ensures ∙ c.if-is_outside-2.false) _ record-refused)
+    let record-refused = sym c.in_err-all_records_verdict.ensures in
+    let r : c.from_residual.result ≡ Err c.in_err-all_records_verdict.field-0.0 = search rules in
+    ap verdict_number r
+    ∙ sym (of-record a.edition a.p a.room c.requires (sym c.is_outside.ensures ∙ c.if-is_outside.false) (sym c.is_outside-2.ensures ∙ c.if-is_outside-2.false) _ record-refused)

@@ -1,5 +1,6 @@
 -- `write_plan` meets its contract: the verdict is the refusal of writing, and only a plan that is accepted is put.
-use mathlib.Core.Path.{◌∙◌, sym, ap}
+use Rattle.std.proofs.Common.{◌≡◌, ◌∙◌, sym, ap, Err, rules}
+use Rattle.plan_writer.specs.Writing.{written_answer}
 use mathlib.Core.List.{◌++◌}
 use Prim.Native.Nat.{ℕ}
 use native.Mathlib.Omega.{arith}
@@ -14,22 +15,22 @@ use Rattle.plan_writer.proofs.writer.write_plan.Goals as goal
 pub put_plan-requires : goal.put_plan-requires
 put_plan-requires c =
     let a = c.args in
-    let accepted = sym c.in-Accepted.ensures in
+    let accepted = sym c.in_ok-plan_verdict.ensures in
     let count = length_value a.p in
     (omega (arith, few_arcs a.edition (plan_value a.p) _ accepted), rw count at (accepted_is_writable a.edition (plan_value a.p) _ accepted).enough)
 
 pub file_length-requires : goal.file_length-requires
 file_length-requires c =
     let a = c.args in
-    let accepted = sym c.in-Accepted.ensures in
+    let accepted = sym c.in_ok-plan_verdict.ensures in
     omega (arith, few_arcs a.edition (plan_value a.p) _ accepted, length_value a.p)
 
-pub returns-in-Accepted : goal.returns-in-Accepted
-returns-in-Accepted c =
+pub returns : goal.returns
+returns c =
     let a = c.args in
     let s = a.s.now in
     let p = plan_value a.p in
-    let accepted = sym c.in-Accepted.ensures in
+    let accepted = sym c.in_ok-plan_verdict.ensures in
     let count = length_value a.p in record {
       answered = ap given (c.file_length.ensures ∙ ap (file_length a.edition) (sym count)) ∙ sym (given_answer a.edition p s accepted);
       bytes_written = c.put_plan.ensures
@@ -37,13 +38,14 @@ returns-in-Accepted c =
           ∙ sym (given_bytes a.edition p s accepted);
     }
 
-pub returns-in-Refused : goal.returns-in-Refused
-returns-in-Refused c =
+pub returns-in_err-plan_verdict : goal.returns-in_err-plan_verdict
+returns-in_err-plan_verdict c =
     let a = c.args in
     let s = a.s.now in
     let p = plan_value a.p in
-    let refusal = sym c.in-Refused.ensures in
+    let refusal = sym c.in_err-plan_verdict.ensures in
+    let r : c.from_residual.result ≡ Err c.in_err-plan_verdict.field-0.0 = search rules in
     record {
-      answered = sym (refused_answer a.edition p s _ refusal);
+      answered = ap written_answer r ∙ sym (refused_answer a.edition p s _ refusal);
       bytes_written = sym (refused_bytes a.edition p s _ refusal);
     }

@@ -1,28 +1,26 @@
 -- A file that is refused refuses the call; one that is not gives its plan, and the rest of the conditions are looked at in their order.
-use mathlib.Core.Path.{sym, ap, ◌∙◌, subst⁻¹}
+use Rattle.std.proofs.Common.{sym}
+use Rattle.std.proofs.Math.Path.{subst⁻¹}
 use Rattle.postman.specs.Plan.{WellFormed}
 use Rattle.postman_laws.specs.Laws.Acceptance.{file_accepted}
-use Rattle.refusal.specs.Verdict.{verdict_number}
 use Rattle.plan_file.specs.Laws.Reading.{accepted_value}
 use Rattle.call_steps.specs.Laws.Call.{refused_planned}
+use Rattle.call_steps.specs.Laws.Refused.{stopped}
 use Rattle.planner.specs.Laws.Whole.{file_refused, read_planned, is_call}
-use borrow.Author.Rules.{rules}
 use Rattle.planner.proofs.call.plan_call.Goals as goal
 
 pub plan_lent-requires : goal.plan_lent-requires
 plan_lent-requires c =
-    let r = c.read_plan-reading in
-    let e = sym r.ensures.verdict ∙ ap verdict_number c.in-Accepted.is in
-    subst⁻¹ WellFormed (accepted_value _ r.result r.ensures e) (file_accepted _ e)
+    let r = c.in_ok-read_plan.ensures in
+    let e = sym r.verdict in
+    subst⁻¹ WellFormed (accepted_value _ _ r e) (file_accepted _ e)
 
-pub returns-in-Refused : goal.returns-in-Refused
-returns-in-Refused c =
-    let r = c.read_plan-reading in
-    let v = sym r.ensures.verdict ∙ ap verdict_number c.in-Refused.is in
-    is_call _ _ _ _ _ (refused_planned _ _ _ _ _ _ c.refused.ensures (file_refused _ _ _ _ v))
+pub returns-in_err-read_plan : goal.returns-in_err-read_plan
+returns-in_err-read_plan c =
+    is_call _ _ _ _ _ (refused_planned _ _ _ _ _ _ (stopped _ _ c.from_residual.ensures.1)
+    (file_refused _ _ _ _ (sym c.in_err-read_plan.ensures.verdict)))
 
-pub returns-in-Accepted : goal.returns-in-Accepted
-returns-in-Accepted c =
-    let r = c.read_plan-reading in
-    let e = sym r.ensures.verdict ∙ ap verdict_number c.in-Accepted.is in
-    is_call _ _ _ _ _ (read_planned _ _ _ _ _ r.result r.ensures e c.plan_lent.ensures)
+pub returns : goal.returns
+returns c =
+    let r = c.in_ok-read_plan.ensures in
+    is_call _ _ _ _ _ (read_planned _ _ _ _ _ _ r (sym r.verdict) c.plan_lent.ensures)

@@ -17,10 +17,10 @@ pub add_all-requires : goal.add_all-requires
 add_all-requires c =
     let b = c.requires in
     let g = is_gathered _ _ _ b _ _ _ _ c.gather-c.ensures in
-    let e = c.empty-none.ensures in
+    let e = c.empty.ensures in
     let f = g.few in
     (base_metric _ _ _ b, subst⁻¹ (Certified _ _) e (empty_certified _ _), g.same, room e (omega arith), g.tails_in, g.heads_in)
 
 pub returns : goal.returns
 returns c =
-    base_from _ _ _ c.requires _ _ _ _ c.gather-c.ensures c.empty-none.ensures c.add_all.ensures.0
+    base_from _ _ _ c.requires _ _ _ _ c.gather-c.ensures c.empty.ensures c.add_all.ensures.0

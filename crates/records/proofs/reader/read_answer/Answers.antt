@@ -6,4 +6,4 @@ use Rattle.records.proofs.reader.read_answer.Goals as goal
 pub returns : goal.returns
 returns c =
     let a = c.args in
-    c.room_answer.ensures ∙ room_answer_lem a.bytes.now a.room _ c.read_plan-reading.ensures
+    c.room_answer.ensures ∙ room_answer_lem a.bytes.now a.room _ c.read_plan.ensures

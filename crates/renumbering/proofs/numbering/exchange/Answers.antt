@@ -1,17 +1,15 @@
 -- Both vertices are below 64.
-use mathlib.Core.Path.{refl}
-use native.Mathlib.Omega.{arith}
+use Rattle.std.proofs.Common.{refl, arith}
 use Rattle.renumbering.specs.Numbering.{exchanged}
 use Rattle.renumbering.specs.Laws.Numbering.{vertex_in}
-use borrow.Author.Rules.{rules}
 use Rattle.renumbering.proofs.numbering.exchange.Goals as goal
 
-pub bounds-to-wide : goal.bounds-to-wide
-bounds-to-wide c = omega (arith, vertex_in 64 (omega arith) _ c.requires.0 _ c.requires.1)
+pub bounds-x-from : goal.bounds-x-from
+bounds-x-from c = omega (arith, vertex_in 64 (omega arith) _ c.requires.0 _ c.requires.1)
 
-pub bounds-to-wide-2 : goal.bounds-to-wide-2
-bounds-to-wide-2 c = omega (arith, vertex_in 64 (omega arith) _ c.requires.0 _ c.requires.2)
+pub bounds-x-from-2 : goal.bounds-x-from-2
+bounds-x-from-2 c = omega (arith, vertex_in 64 (omega arith) _ c.requires.0 _ c.requires.2)
 
 pub returns : goal.returns
 unfolding exchanged
-returns c = rw (c.wide.ensures, c.wide-2.ensures) refl
+returns c = rw (c.from.ensures, c.from-2.ensures) refl

@@ -1,11 +1,10 @@
--- The invariant: the entries before the vth are their own places.
-use mathlib.Core.Path.{refl}
-use Prim.Native.Nat.{◌-◌, ◌≤◌}
-use native.Mathlib.Omega.{arith}
-use Rattle.plan.specs.Laws.Prefix.{Prefix, prefix_none, prefix_more}
+-- Each number is its own place.
+use Rattle.std.proofs.Common.{zero-add, sym, rules, tests}
 use Rattle.renumbering.specs.Laws.Numbering.{unchanged_by}
-use borrow.Author.Rules.{rules}
+use Rattle.renumbering.proofs.Made.{made_at}
 use Rattle.renumbering.proofs.numbering.identity.Goals as goal
 
 pub returns : goal.returns
-returns c = let l = c.loop-v in unchanged_by l.to l.invariant.1.long (λ i g. l.invariant.1.before i (omega arith))
+returns c =
+    unchanged_by c.from_fn-to.result c.from_fn-to.ensures.items.long
+    (λ i l. made_at _ _ (λ j. j) (λ j y q h. search (rules, tests)) c.from_fn-to.result 64 0 c.from_fn-to.ensures.items.each i i 0 l (sym (zero-add i)))

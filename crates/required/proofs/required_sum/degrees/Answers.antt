@@ -1,62 +1,50 @@
 -- The invariant: the counts are those of the arcs before the kth.
-use mathlib.Core.Path.{◌≡◌}
-use mathlib.Core.Bool.{Bool, true, false}
-use Prim.Native.Nat.{ℕ, ◌<◌}
-use native.Mathlib.Omega.{arith}
-use Rattle.postman.specs.Plan.{WellFormed}
-use Rattle.plan.specs.declared.Plan.{Plan as PlanRecord}
-use Rattle.plan.specs.Records.{plan_value, record_at}
-use Rattle.plan.specs.Laws.Records.{record_arcs, record_ends}
-use Rattle.required.specs.RequiredSum.{end_of}
+use Rattle.std.proofs.Common.{◌≡◌, ◌∙◌, arith, rules, cond, get_or, take}
+use Rattle.postman.specs.Plan.{is_required_arc}
+use Rattle.plan.specs.Laws.Records.{record_arcs, record_ends, walked_below, walked_record, walked_all}
+use Rattle.plan.specs.Records.{record_at, arc_value, zero_record}
 use Rattle.required.specs.Laws.RequiredSum.{degrees_none, degrees_more, sum_ends}
 use Rattle.required.proofs.required_sum.degrees.Goals as goal
 
--- an arc's ends are vertices
-end_low : (heads : Bool) (r : PlanRecord) → WellFormed (plan_value r) → (k : ℕ) → k < r.m → {e : ℕ} → e ≡ end_of heads (record_at r.arcs k) → e < 64
-end_low true r ok k l e = let n = record_ends r ok k l in omega arith
-end_low false r ok k l e = let n = record_ends r ok k l in omega arith
+pub shared_ref_as_front-a-items : goal.shared_ref_as_front-a-items
+shared_ref_as_front-a-items g c = omega (arith, record_arcs c.args.plan c.requires.1.0)
 
-pub loop-k-init : goal.loop-k-init
-loop-k-init c =
-    degrees_none c.args.heads c.args.plan
+pub loop-a-init : goal.loop-a-init
+loop-a-init g c = degrees_none g.f c.args.plan
 
-pub bounds-plan-k : goal.bounds-plan-k
-bounds-plan-k c =
-    let a = c.loop-k.invariant.all in
-    omega (arith, record_arcs c.args.plan c.requires)
-
-pub offset_bounds-counts-e : goal.offset_bounds-counts-e
-offset_bounds-counts-e c =
-    let a = c.loop-k.invariant.all in
-    let l = end_low c.args.heads c.args.plan c.requires c.loop-k.k (omega arith) c.end_of-e.ensures in
+pub bounds-counts-from : goal.bounds-counts-from
+bounds-counts-from g c =
+    let b = walked_below c.args.plan c.requires.1.0 _ c.from.ensures _ c.loop-a-test.true in
+    let a = walked_record c.args.plan c.requires.1.0 _ c.from.ensures _ c.loop-a-test.true in
+    let n = record_ends c.args.plan c.requires.1.0 _ b in
+    let h = c.requires.1.1.1.0 _ _ c.end.ensures in
+    let e : c.from-in-loop-a-2.result ≡ g.f (record_at c.args.plan.arcs c.loop-a.a-index) = c.from-in-loop-a-2.ensures ∙ (rw a at h) in
+    let l = c.requires.1.1.1.1 (record_at c.args.plan.arcs c.loop-a.a-index) n.0 n.1 in
     omega arith
 
-pub bounds-counts-e : goal.bounds-counts-e
-bounds-counts-e c =
-    let a = c.loop-k.invariant.all in
-    let l = end_low c.args.heads c.args.plan c.requires c.loop-k.k (omega arith) c.end_of-e.ensures in
+pub bounds-counts-from-in-loop-a : goal.bounds-counts-from-in-loop-a
+bounds-counts-from-in-loop-a g c =
+    let b = walked_below c.args.plan c.requires.1.0 _ c.from.ensures _ c.loop-a-test.true in
+    let a = walked_record c.args.plan c.requires.1.0 _ c.from.ensures _ c.loop-a-test.true in
+    let n = record_ends c.args.plan c.requires.1.0 _ b in
+    let h = c.requires.1.1.1.0 _ _ c.end.ensures in
+    let e : c.from-in-loop-a-2.result ≡ g.f (record_at c.args.plan.arcs c.loop-a.a-index) = c.from-in-loop-a-2.ensures ∙ (rw a at h) in
+    let l = c.requires.1.1.1.1 (record_at c.args.plan.arcs c.loop-a.a-index) n.0 n.1 in
     omega arith
 
-pub offset_bounds-counts-e-in-loop-k : goal.offset_bounds-counts-e-in-loop-k
-offset_bounds-counts-e-in-loop-k c =
-    let a = c.loop-k.invariant.all in
-    let l = end_low c.args.heads c.args.plan c.requires c.loop-k.k (omega arith) c.end_of-e.ensures in
-    omega arith
-
-pub bounds-counts-e-in-loop-k : goal.bounds-counts-e-in-loop-k
-bounds-counts-e-in-loop-k c =
-    let a = c.loop-k.invariant.all in
-    let l = end_low c.args.heads c.args.plan c.requires c.loop-k.k (omega arith) c.end_of-e.ensures in
-    omega arith
-
-pub loop-k-preserved : goal.loop-k-preserved
-loop-k-preserved c =
-    let a = c.loop-k.invariant.all in
-    let l = end_low c.args.heads c.args.plan c.requires c.loop-k.k (omega arith) c.end_of-e.ensures in
-    degrees_more c.args.heads c.args.plan c.requires c.loop-k.invariant (omega arith) c.end_of-e.ensures l c.counted.ensures.0
+pub loop-a-preserved : goal.loop-a-preserved
+loop-a-preserved g c =
+    let b = walked_below c.args.plan c.requires.1.0 _ c.from.ensures _ c.loop-a-test.true in
+    let a = walked_record c.args.plan c.requires.1.0 _ c.from.ensures _ c.loop-a-test.true in
+    let n = record_ends c.args.plan c.requires.1.0 _ b in
+    let h = c.requires.1.1.1.0 _ _ c.end.ensures in
+    let e : c.from-in-loop-a-2.result ≡ g.f (record_at c.args.plan.arcs c.loop-a.a-index) = c.from-in-loop-a-2.ensures ∙ (rw a at h) in
+    let l = c.requires.1.1.1.1 (record_at c.args.plan.arcs c.loop-a.a-index) n.0 n.1 in
+    let o : c.from-in-loop-a.result ≡ cond (is_required_arc (arc_value (get_or (take c.from.result c.args.plan.arcs) c.loop-a.a-index zero_record))) 1 0 = search rules in
+    degrees_more g.f c.args.plan c.requires.1.0 c.loop-a.invariant b e (omega arith) (rw a at o)
 
 pub returns : goal.returns
-returns c =
-    let m = record_arcs c.args.plan c.requires in
-    let a = c.loop-k.invariant.all in
-    λ u l. let h = c.loop-k.invariant.each u l in let b = h.bounded in let f = h.before in (sum_ends c.args.plan c.requires (omega arith) (end_of c.args.heads) u h, omega arith)
+returns g c =
+    let m = record_arcs c.args.plan c.requires.1.0 in
+    let e = walked_all c.args.plan c.requires.1.0 _ c.from.ensures c.loop-a.a-index (search rules) c.loop-a.auto.a-index-end c.loop-a-test.false in
+    λ u l. let h = c.loop-a.invariant.each u l in let b = h.bounded in let f = h.before in (sum_ends c.args.plan c.requires.1.0 (omega arith) g.f u h, omega arith)

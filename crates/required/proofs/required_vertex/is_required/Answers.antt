@@ -1,17 +1,20 @@
--- The invariant: no arc before the kth touches v.
-use mathlib.Core.Path.{sym, ◌∙◌}
-use native.Mathlib.Omega.{arith}
+-- Some required arc touches v, or none does.
+use Rattle.std.proofs.Common.{rules, tests, arith, ◌≡◌, take, ◌∙◌}
+use Rattle.std.specs.List.{list_any}
+use Rattle.std.proofs.lemmas.Iterator.{YieldsList-from_slice}
+use Rattle.std.proofs.lemmas.Iterator.Search.{any_from_yields_List}
+use Rattle.plan.specs.declared.Arc.{Arc as ArcRecord}
+use Rattle.plan.specs.Records.{arc_value}
 use Rattle.plan.specs.Laws.Records.{record_arcs}
-use Rattle.required.specs.Laws.RequiredVertex.{required_some, required_none}
+use Rattle.required.specs.Laws.RequiredVertex.{touches, required_any}
 use Rattle.required.proofs.required_vertex.is_required.Goals as goal
 
-pub bounds-plan-k : goal.bounds-plan-k
-bounds-plan-k c = omega (arith, record_arcs c.args.plan c.requires)
-
-pub returns-then-touches : goal.returns-then-touches
-returns-then-touches c =
-    required_some c.args.plan c.args.v c.loop-k.k (omega arith) (sym c.touches.ensures ∙ c.if-touches.true)
+pub shared_ref_as_front-iter : goal.shared_ref_as_front-iter
+shared_ref_as_front-iter c = omega (arith, record_arcs c.args.plan c.requires)
 
 pub returns : goal.returns
 returns c =
-    required_none c.args.plan c.args.v (λ i l. c.loop-k.invariant.2 i (omega arith))
+    let e : c.any.result ≡ list_any (λ a. touches c.args.v (arc_value a)) (take c.from.result c.args.plan.arcs)
+    = any_from_yields_List (λ (a : ArcRecord). touches c.args.v (arc_value a)) _ _ c.any.result c.any.ensures.ran (YieldsList-from_slice (take c.from.result c.args.plan.arcs) cc)
+    (λ x b q k. search (rules, tests)) in
+    e ∙ required_any c.args.plan c.requires c.args.v (search rules) _ c.from.ensures

@@ -4,4 +4,4 @@ use borrow.Author.Rules.{rules}
 use Rattle.round_rule.proofs.kept.begin.Goals as goal
 
 pub returns : goal.returns
-returns c = begun_as _ _ _ _ _ _ _ _ _ c.identity-x.ensures (search rules) c.left_of-left.ensures
+returns c = begun_as _ _ _ _ _ _ _ _ _ c.identity.ensures (search rules) (rw c.from.ensures at c.saturating_sub.ensures)

@@ -18,8 +18,7 @@ returns c =
     let d = c.cheaper-d in
     let u = c.carry in
     let t = c.tighter-t in
-    let l = c.left_of in
     let b = c.nearer-f in
     let f : to_z w64 (of_z w64 c.args.a.floor) ≡ c.args.a.floor = search rules in
-    kept_as c.args.c c.args.a _ c.args.k d.result t.result b.result _ _ u.result l.result f d.ensures u.ensures t.ensures
-    l.ensures b.ensures c.count.ensures
+    kept_as c.args.c c.args.a _ c.args.k d.result t.result b.result _ _ u.result c.saturating_sub.result f d.ensures u.ensures t.ensures
+    (rw c.from.ensures at c.saturating_sub.ensures) b.ensures c.count.ensures

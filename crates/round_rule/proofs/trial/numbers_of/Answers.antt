@@ -7,5 +7,5 @@ use Rattle.round_rule.proofs.trial.numbers_of.Goals as goal
 pub returns-then-k-gt1000000000 : goal.returns-then-k-gt1000000000
 returns-then-k-gt1000000000 c = drive_numbers _ _ c.if-k-gt1000000000.true refl
 
-pub returns : goal.returns
-returns c = base_numbers c.args.k _ (omega arith) refl
+pub returns-else-k-gt1000000000 : goal.returns-else-k-gt1000000000
+returns-else-k-gt1000000000 c = base_numbers c.args.k _ (omega arith) refl

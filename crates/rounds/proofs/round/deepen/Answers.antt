@@ -21,8 +21,8 @@ returns-then-have_met c = let l = c.loop-i in
     let f : to_z w64 (of_z w64 l.d.kept.floor) ≡ l.d.kept.floor = search rules in
     (ended _ _ l.i _ l.d.kept l.invariant.0 l.invariant.1 l.invariant.2 (met_as l.d.kept _ _ _ f c.have_met.ensures c.if-have_met.true), l.invariant.3)
 
-pub next_round-next-requires : goal.next_round-next-requires
-next_round-next-requires c =
+pub next_round-d-requires : goal.next_round-d-requires
+next_round-d-requires c =
     let l = c.loop-i in
     let b = c.requires.within_limits in
     let a = plan_accepted _ c.requires.has_table.0.well_formed c.requires.has_table.1 in record {
@@ -33,4 +33,4 @@ next_round-next-requires c =
 pub loop-i-preserved : goal.loop-i-preserved
 loop-i-preserved c = let l = c.loop-i in
     let f : to_z w64 (of_z w64 l.d.kept.floor) ≡ l.d.kept.floor = search rules in
-    (omega arith, omega arith, deeper _ _ l.i l.d.kept _ l.invariant.0 l.invariant.2 (met_as l.d.kept _ _ _ f c.have_met.ensures c.if-have_met.false) c.next_round-next.ensures.0, c.next_round-next.ensures.1)
+    (omega arith, omega arith, deeper _ _ l.i l.d.kept _ l.invariant.0 l.invariant.2 (met_as l.d.kept _ _ _ f c.have_met.ensures c.if-have_met.false) c.next_round-d.ensures.0, c.next_round-d.ensures.1)

@@ -19,5 +19,5 @@ returns c =
     let f = c.cheaper_tabled-a in
     let a = plan_accepted _ c.requires.0.well_formed c.requires.1 in
     let b = first_best _ a.0 a.1 _ c.requires.2 f.result f.ensures in
-    let e = first_kept _ _ _ f.result _ f.ensures b c.begin-kept.ensures in
+    let e = first_kept _ _ _ f.result _ f.ensures b c.begin.ensures in
     (e, first_held _ _ _ f.result b e refl)

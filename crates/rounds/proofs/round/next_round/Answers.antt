@@ -21,8 +21,8 @@ cheaper_under-a-requires c =
     let g = round_asks _ a.0 a.1 _ c.args.round b.0 b.1 c.args.d.kept t.2 _ c.choose-c.ensures in
     (t.0, t.1, g.1, g.2)
 
-pub overflow_sub-best : goal.overflow_sub-best
-overflow_sub-best c =
+pub overflow_sub-a : goal.overflow_sub-a
+overflow_sub-a c =
     let t = c.requires.has_table in
     let b = c.requires.within_limits in
     let a = plan_accepted _ t.0.well_formed t.1 in
@@ -31,8 +31,8 @@ overflow_sub-best c =
     let f = c.cheaper_under-a in
     old_fewer _ _ _ _ f.result f.ensures g.2.within g.1.few_tries _ c.tried_count-old.ensures
 
-pub kept_of-kept-requires : goal.kept_of-kept-requires
-kept_of-kept-requires c =
+pub kept_of-requires : goal.kept_of-requires
+kept_of-requires c =
     let t = c.requires.has_table in
     let b = c.requires.within_limits in
     let a = plan_accepted _ t.0.well_formed t.1 in
@@ -52,7 +52,7 @@ returns c =
     let d = c.args.d in
     let f = c.cheaper_under-a in
     let o = c.tried_count-old in
-    let k = c.kept_of-kept in
+    let k = c.kept_of in
     let e = old_tried _ _ _ _ f.result f.ensures g.2.within g.1.few_tries _ o.ensures in (
       next_as _ _ _ d.kept h.result f.result o.result k.result h.ensures f.ensures e k.ensures,
       next_held (plan_value c.args.plan) d _ h.result.trial f.result _ _ _ _ _ t.3 f.ensures k.ensures c.chosen_of.ensures,

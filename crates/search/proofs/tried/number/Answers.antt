@@ -10,5 +10,5 @@ use Rattle.search.proofs.tried.number.Goals as goal
 
 pub returns-then-k-eq1 : goal.returns-then-k-eq1
 returns-then-k-eq1 c =
-    let e = entries_of c.args.entries in
+    let e = entries_of c.args.root.now.entries in
     subst⁻¹ (λ k. 1 ≡ min (count_trees e (up_from 1 (k - 1))) cap) c.if-k-eq1.true (let z = none_left e 1 in omega arith)

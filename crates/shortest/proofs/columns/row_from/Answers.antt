@@ -1,9 +1,10 @@
--- The invariant: the entries before the vth are those of the row.
-use mathlib.Core.Path.{sym}
-use native.Mathlib.Omega.{arith}
+-- Each entry is that of the row.
+use Rattle.std.proofs.Common.{rules, sym, ◌≡◌, ◌+◌, ◌*◌, get_or}
+use Rattle.plan.specs.Laws.Arrays.{from_fn_each}
 use Rattle.shortest.specs.Laws.Columns.{row_by}
 use Rattle.shortest.proofs.columns.row_from.Goals as goal
 
 pub returns : goal.returns
 returns c =
-    sym (row_by c.args.c.now c.args.i c.loop-v.row c.loop-v.invariant.long (λ u l. sym (c.loop-v.invariant.before u (omega arith))))
+    sym (row_by c.args.c.now c.args.i c.from_fn.result c.from_fn.ensures.items.long
+    (λ v l. from_fn_each _ (λ k y. get_or c.args.c.now (k * 64 + c.args.i) 0 ≡ y) _ (λ k y q h. search rules) _ _ c.from_fn.ensures.items v 0 l))

@@ -1,5 +1,6 @@
 -- The invariant: k − 1 rounds are done, for every source. A round that changes nothing ends the loop, and so does round n − 1.
-use mathlib.Core.Path.{◌≡◌, refl, sym, ◌∙◌, subst⁻¹}
+use mathlib.Core.Path.{subst⁻¹}
+use Rattle.std.proofs.Common.{◌≡◌, ap, List, ℕ, get_or, rules}
 use Prim.Native.Nat.{◌-◌}
 use native.Mathlib.Omega.{arith}
 use Rattle.plan.specs.Records.{plan_value}
@@ -8,31 +9,29 @@ use Rattle.shortest.specs.Weight.{weighted}
 use Rattle.shortest.specs.Columns.{row_from}
 use Rattle.shortest.specs.Laws.Weight.{is_weighted}
 use Rattle.shortest.specs.Laws.Relaxation.{Rounds, rounds_none, rounds_next, rounds_row, settled_row}
-use Rattle.shortest.specs.Laws.Columns.{same_entries}
 use Rattle.shortest.proofs.columns.settled.Goals as goal
 
-pub loop-k-init : goal.loop-k-init
-loop-k-init c =
+pub loop-init : goal.loop-init
+loop-init c =
     let n = record_vertices c.args.plan c.requires in
     let w = weighted (plan_value c.args.plan) in
-    (refl, omega arith, omega arith, c.start-c.ensures.0, λ i l. subst⁻¹ (Rounds w i 0) (c.start-c.ensures.1 i l) (rounds_none w (is_weighted (plan_value c.args.plan) c.requires) i l))
+    (omega arith, omega arith, c.start-c.ensures.0, λ i l. subst⁻¹ (Rounds w i 0) (c.start-c.ensures.1 i l) (rounds_none w (is_weighted (plan_value c.args.plan) c.requires) i l))
 
-pub returns-then-same_all : goal.returns-then-same_all
-returns-then-same_all c =
-    λ i l. settled_row (weighted (plan_value c.args.plan)) (is_weighted (plan_value c.args.plan) c.requires) i (c.loop-k.k - 1) (row_from c.loop-k.c i) _ (c.loop-k.invariant.4 i l) (c.round_all.ensures.1 i l)
-    (same_entries _ c.loop-k.c (sym c.same_all.ensures ∙ c.if-same_all.true) i l)
+pub returns-then-eq : goal.returns-then-eq
+returns-then-eq c =
+    λ i l. settled_row (weighted (plan_value c.args.plan)) (is_weighted (plan_value c.args.plan) c.requires) i (c.loop.counter - 1) (row_from c.loop.c i) _ (c.loop.invariant.3 i l) (c.round_all.ensures.1 i l)
+    (λ v m. ap (λ (x : List ℕ). get_or (row_from x i) v 0) (search rules))
 
-pub loop-k-preserved : goal.loop-k-preserved
-loop-k-preserved c = (
-  c.loop-k.invariant.0,
+pub loop-preserved : goal.loop-preserved
+loop-preserved c = (
   omega arith,
   omega arith,
   c.round_all.ensures.0,
-  λ i l. rounds_next (weighted (plan_value c.args.plan)) (is_weighted (plan_value c.args.plan) c.requires) i c.loop-k.k (row_from c.loop-k.c i) _ c.loop-k.invariant.1 (c.loop-k.invariant.4 i l) (c.round_all.ensures.1 i l),
+  λ i l. rounds_next (weighted (plan_value c.args.plan)) (is_weighted (plan_value c.args.plan) c.requires) i c.loop.counter (row_from c.loop.c i) _ c.loop.invariant.0 (c.loop.invariant.3 i l) (c.round_all.ensures.1 i l),
 )
 
 pub returns : goal.returns
 returns c =
     let n = plan_vertices c.args.plan in
-    let e : c.loop-k.k - 1 ≡ (plan_value c.args.plan).n - 1 = omega arith in
-    λ i l. rounds_row (weighted (plan_value c.args.plan)) (is_weighted (plan_value c.args.plan) c.requires) i (row_from c.loop-k.c i) (rw e at (c.loop-k.invariant.4 i l))
+    let e : c.loop.counter - 1 ≡ (plan_value c.args.plan).n - 1 = omega arith in
+    λ i l. rounds_row (weighted (plan_value c.args.plan)) (is_weighted (plan_value c.args.plan) c.requires) i (row_from c.loop.c i) (rw e at (c.loop.invariant.3 i l))

@@ -8,8 +8,5 @@ use Rattle.shortest.specs.Columns.{row_from}
 use Rattle.shortest.specs.Laws.Relaxation.{Rounds}
 use Rattle.shortest.proofs.columns.settled.Given as goal
 
-abbrev pub invariant-loop-k : goal.invariant-loop-k
-invariant-loop-k l = (l.n ≡ l.plan.n) × (1 ≤ l.k) × (l.k ≤ l.n) × (length l.c ≡ 4096) × ((i : ℕ) → i < 64 → Rounds (weighted (plan_value l.plan)) i (l.k - 1) (row_from l.c i))
-
-abbrev pub decreases-loop-k : goal.decreases-loop-k
-decreases-loop-k l = l.n - l.k
+abbrev pub invariant-loop : goal.invariant-loop
+invariant-loop l = (1 ≤ l.counter) × (l.counter ≤ l.plan.n) × (length l.c ≡ 4096) × ((i : ℕ) → i < 64 → Rounds (weighted (plan_value l.plan)) i (l.counter - 1) (row_from l.c i))

@@ -1,5 +1,5 @@
 -- The invariant: k − 1 rounds are done. A round that changes nothing ends the loop, and so does round n − 1.
-use mathlib.Core.Path.{◌≡◌, refl}
+use Rattle.std.proofs.Common.{◌≡◌, ap, List, ℕ, get_or, rules}
 use Prim.Native.Nat.{◌-◌}
 use native.Mathlib.Omega.{arith}
 use Rattle.postman.specs.Distance.{no_path}
@@ -11,25 +11,24 @@ use Rattle.shortest.specs.Laws.Weight.{is_weighted}
 use Rattle.shortest.specs.Laws.Relaxation.{rounds_none, rounds_next, rounds_row, settled_row}
 use Rattle.shortest.proofs.weights.row.Goals as goal
 
-pub loop-k-init : goal.loop-k-init
+pub loop-init : goal.loop-init
 unfolding start_row no_path
-loop-k-init c = let n = record_vertices c.args.plan c.requires.0 in (refl, omega arith, omega arith, rounds_none (weighted (plan_value c.args.plan)) (is_weighted (plan_value c.args.plan) c.requires.0) c.args.source c.requires.1)
+loop-init c = let n = record_vertices c.args.plan c.requires.0 in (omega arith, omega arith, rounds_none (weighted (plan_value c.args.plan)) (is_weighted (plan_value c.args.plan) c.requires.0) c.args.source c.requires.1)
 
-pub returns-then-same : goal.returns-then-same
-returns-then-same c =
-    settled_row (weighted (plan_value c.args.plan)) (is_weighted (plan_value c.args.plan) c.requires.0) c.args.source (c.loop-k.k - 1) c.loop-k.now _ c.loop-k.invariant.3 c.round-next.ensures
-    (c.same.ensures.only_if_equal c.if-same.true)
+pub returns-then-eq : goal.returns-then-eq
+returns-then-eq c =
+    settled_row (weighted (plan_value c.args.plan)) (is_weighted (plan_value c.args.plan) c.requires.0) c.args.source (c.loop.counter - 1) c.loop.now _ c.loop.invariant.2 c.round-next.ensures
+    (λ j l. ap (λ (x : List ℕ). get_or x j 0) (search rules))
 
-pub loop-k-preserved : goal.loop-k-preserved
-loop-k-preserved c = (
-  c.loop-k.invariant.0,
+pub loop-preserved : goal.loop-preserved
+loop-preserved c = (
   omega arith,
   omega arith,
-  rounds_next (weighted (plan_value c.args.plan)) (is_weighted (plan_value c.args.plan) c.requires.0) c.args.source c.loop-k.k c.loop-k.now _ c.loop-k.invariant.1 c.loop-k.invariant.3 c.round-next.ensures,
+  rounds_next (weighted (plan_value c.args.plan)) (is_weighted (plan_value c.args.plan) c.requires.0) c.args.source c.loop.counter c.loop.now _ c.loop.invariant.0 c.loop.invariant.2 c.round-next.ensures,
 )
 
 pub returns : goal.returns
 returns c =
     let n = plan_vertices c.args.plan in
-    let e : c.loop-k.k - 1 ≡ (plan_value c.args.plan).n - 1 = omega arith in
-    rounds_row (weighted (plan_value c.args.plan)) (is_weighted (plan_value c.args.plan) c.requires.0) c.args.source c.loop-k.now (rw e at c.loop-k.invariant.3)
+    let e : c.loop.counter - 1 ≡ (plan_value c.args.plan).n - 1 = omega arith in
+    rounds_row (weighted (plan_value c.args.plan)) (is_weighted (plan_value c.args.plan) c.requires.0) c.args.source c.loop.now (rw e at c.loop.invariant.2)

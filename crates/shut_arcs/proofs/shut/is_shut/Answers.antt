@@ -1,21 +1,16 @@
--- The invariant: no window before the jth shuts the arc.
-use mathlib.Core.Path.{◌≡◌, refl, sym, ◌∙◌}
-use mathlib.Core.Bool.{false}
-use Prim.Native.Nat.{ℕ, ◌-◌, ◌/◌, ◌≤◌, ◌<◌}
-use native.Mathlib.Omega.{arith}
-use lib.ListN.{length}
+-- The call is a test of some window.
+use Rattle.std.proofs.Common.{◌≡◌, ◌/◌, length, true, false, arith, refl, rules, tests}
+use Rattle.std.proofs.lemmas.Iterator.{cases_from_any, YieldsList-from_range}
 use Rattle.postman.specs.Windows.{window_in, shuts, is_shut}
-use Rattle.shut_arcs.specs.Fields.{departure}
-use Rattle.shut_arcs.specs.Laws.Limits.{window_found, none_found}
-use borrow.Author.Rules.{rules}
-use borrow.Author.Count.{below_more}
+use Rattle.shut_arcs.specs.Fields.{departure_value}
+use Rattle.shut_arcs.proofs.Some.{any_window}
 use Rattle.shut_arcs.proofs.shut.is_shut.Goals as goal
-
-pub returns-then-window_shuts : goal.returns-then-window_shuts
-unfolding is_shut
-returns-then-window_shuts c =
-    window_found _ _ c.loop-j.j (omega arith) (sym c.window_shuts.ensures ∙ c.if-window_shuts.true)
 
 pub returns : goal.returns
 unfolding is_shut
-returns c = none_found _ _ (λ i l. c.loop-j.invariant.2 i (omega arith))
+returns c =
+    let numbers = c.args.windows.now in
+    let f = shuts (departure_value c.args.departure) c.args.k in
+    let n = length numbers / 4 in
+    any_window f numbers _ (cases_from_any _ _ _ (λ k. f (window_in numbers k) ≡ true) (λ k. f (window_in numbers k) ≡ false) c.any.ensures.ran
+    (YieldsList-from_range 0 n n refl (omega arith)) (λ x q k. search (rules, tests)) (λ x q k. search (rules, tests)))

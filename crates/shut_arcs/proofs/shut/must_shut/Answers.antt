@@ -1,18 +1,17 @@
--- The invariant: no arc before the kth is a must arc that is shut.
-use mathlib.Core.Path.{◌≡◌, refl, sym, ◌∙◌}
-use mathlib.Core.Bool.{false}
-use Prim.Native.Nat.{ℕ, ◌-◌, ◌≤◌, ◌<◌}
-use native.Mathlib.Omega.{arith}
-use borrow.Author.Count.{below_more}
+-- The call is a test of some arc.
+use Rattle.std.proofs.Common.{◌≡◌, take, true, false, arith, rules, tests}
+use Rattle.std.proofs.lemmas.Iterator.{cases_from_any, YieldsList-from_slice}
+use Rattle.std.proofs.lemmas.Iterator.Consumers.{YieldsList-from_enumerate}
+use Rattle.std.proofs.lemmas.Grind.{common_steps}
 use Rattle.postman.specs.Windows.{windows_in}
 use Rattle.shut_arcs.specs.Fields.{departure}
-use Rattle.shut_arcs.specs.Laws.Shut.{must_shut, must_found, no_must_found}
-use borrow.Author.Rules.{rules}
+use Rattle.shut_arcs.proofs.Some.{test, any_must}
 use Rattle.shut_arcs.proofs.shut.must_shut.Goals as goal
 
-pub returns-then-is_must_shut : goal.returns-then-is_must_shut
-returns-then-is_must_shut c =
-    must_found _ _ _ c.loop-k.k (omega arith) (sym c.is_must_shut.ensures ∙ c.if-is_must_shut.true)
-
 pub returns : goal.returns
-returns c = no_must_found _ _ _ (λ i l. c.loop-k.invariant.2 i (omega arith))
+returns c =
+    let r = c.args.plan in
+    let windows = windows_in c.args.windows.now in
+    let d = departure c.args.weekday c.args.minute in
+    any_must r windows d (search rules) c.requires _ (cases_from_any _ _ _ (λ x. test r windows d x ≡ true) (λ x. test r windows d x ≡ false) c.any.ensures.ran
+    (YieldsList-from_enumerate (YieldsList-from_slice (take r.m r.arcs) (grind (arith, common_steps))) (cc)) (λ x q k. search (rules, tests)) (λ x q k. search (rules, tests)))

@@ -2,8 +2,6 @@
 use native.Mathlib.Omega.{arith}
 use Rattle.balance.specs.Records.{state_of}
 use Rattle.multipliers.specs.Laws.Lay.{base_metric, state_certified, state_room, tree_joined, tree_short, amounts_are, amounts_complete}
-use Rattle.preparation.specs.Laws.Preparation.{vertices_fit, vertices_length}
-use borrow.Author.Rules.{rules}
 use Rattle.solution.proofs.lay.lay.Goals as goal
 
 pub direct_amounts-amounts-requires : goal.direct_amounts-amounts-requires

@@ -1,28 +1,25 @@
 -- The first places of the arrays are the tree's.
-use mathlib.Core.Path.{◌≡◌, sym, ap, ◌∙◌, subst}
+use mathlib.Core.Path.{◌≡◌, sym, ap, ◌∙◌}
 use mathlib.Core.List.{List}
 use Prim.Native.Nat.{◌-◌}
-use native.Mathlib.Omega.{arith}
-use lib.ListN.{length, take, length-take}
+use lib.ListN.{length, take}
 use Rattle.postman.specs.Link.{Link}
 use Rattle.postman.specs.Component.{component_count}
 use Rattle.plan.specs.Records.{plan_value}
 use Rattle.drive_legs.specs.Filled.{links_of}
 use Rattle.drive_legs.specs.Drive.{written}
 use Rattle.multipliers.specs.Drive.{tree_drive}
-use Rattle.multipliers.specs.Prepared.{IsTree}
 use Rattle.multipliers.specs.Laws.Lay.{arcs_links}
 use Rattle.preparation.specs.Laws.Preparation.{component_range}
-use borrow.Author.Rules.{rules}
 use Rattle.solution.proofs.lay.lay_held.Goals as goal
 
 pub overflow_sub-n : goal.overflow_sub-n
-overflow_sub-n c = (component_range _ _ _ c.requires.0).0
+overflow_sub-n c = rw c.from-n.ensures (component_range _ _ _ c.requires.0).0
 
 pub returns : goal.returns
 returns c =
     let p = plan_value c.args.plan in
-    let m : c.args.r.network.components - 1 ≡ component_count p - 1 = ap (λ n. n - 1) c.requires.0.network.components.all in
+    let m : c.from-n.result - 1 ≡ component_count p - 1 = ap (λ n. n - 1) (c.from-n.ensures ∙ c.requires.0.network.components.all) in
     let l = c.lay in
     let t = ap (λ n. links_of (take n c.args.tails) (take n c.args.heads)) m ∙ sym (arcs_links (take (component_count p - 1) c.args.tails) (take (component_count p - 1) c.args.heads)) in
     record {

@@ -1,8 +1,7 @@
 -- L(u) is given, and L(0) is that of the zeros.
 use mathlib.Core.Path.{◌≡◌, ap, ◌∙◌, subst⁻¹}
-use mathlib.Core.Bool.{Bool, cond}
+use mathlib.Core.Bool.{cond}
 use mathlib.Core.List.{List}
-use native.Mathlib.Omega.{arith}
 use lib.ListN.{length, get_or}
 use lib.IntN.{ℤ, pos}
 use Rattle.multipliers.specs.Laws.Solve.{Rooted, priced}

@@ -2,7 +2,6 @@
 use native.Mathlib.Omega.{arith}
 use Rattle.tree_search.specs.Laws.BestTree.{cost_small, best_held}
 use Rattle.solution.specs.Laws.Answer.{concluded_planned}
-use borrow.Author.Rules.{rules}
 use Rattle.solution.proofs.solve.solve.Goals as goal
 
 pub conclude-requires : goal.conclude-requires

@@ -5,35 +5,44 @@ use Rattle.plan.specs.Records.{plan_value}
 use Rattle.small_counts.specs.Matrix.{cap}
 use Rattle.search.specs.Laws.Tried.{countable, root_count}
 use Rattle.preparation.specs.Laws.Preparation.{component_range}
+use Rattle.preparation.specs.Preparation.{vertices_in}
+use Rattle.tree_bounds.specs.Prepared.{Prepared}
+use Rattle.std.proofs.Math.Path.{subst⁻¹}
 use Rattle.tree_search.specs.Laws.Begun.{search_prepared, search_given}
 use Rattle.tree_search.proofs.begin.begin.Goals as goal
 
-pub of_network-c-requires : goal.of_network-c-requires
-of_network-c-requires c = component_range _ _ _ c.requires
+pub of_network-candidates-requires : goal.of_network-candidates-requires
+of_network-candidates-requires c = component_range _ _ _ c.requires
 
-pub root-b-requires : goal.root-b-requires
-root-b-requires c =
-    let o = c.of_network-c in
+pub root-root-requires : goal.root-root-requires
+root-root-requires c =
+    let o = c.of_network-candidates.result in
     let i = c.entries_of-entries in
     let p = plan_value c.args.plan in
-    let h = search_prepared p _ _ c.requires o.result (o.ensures _ c.requires.base.known.plannable.well_formed c.requires.network) in
-    (p, c.args.table.now, o.result.start, o.result.source, o.result.tails, o.result.heads, h, search_given p _ _ c.requires i.result i.ensures)
+    let r = c.args.r in
+    let h = search_prepared p _ _ c.requires o (c.of_network-candidates.ensures _ c.requires.base.known.plannable.well_formed c.requires.network) in
+    let known = subst⁻¹ (Prepared p c.args.table.now (vertices_in r) o.start o.source o.tails o.heads) c.from-k.ensures h in
+    (p, c.args.table.now, o.start, o.source, o.tails, o.heads, known, search_given p _ _ c.requires i.result i.ensures)
 
-pub number-n-requires : goal.number-n-requires
-number-n-requires c =
-    let o = c.of_network-c in
+pub number-requires : goal.number-requires
+number-requires c =
+    let o = c.of_network-candidates.result in
     let i = c.entries_of-entries in
     let p = plan_value c.args.plan in
-    let h = search_prepared p _ _ c.requires o.result (o.ensures _ c.requires.base.known.plannable.well_formed c.requires.network) in
-    let r = c.root-b in
-    countable h r.result (r.ensures _ _ _ _ _ _ h (search_given p _ _ c.requires i.result i.ensures))
+    let r = c.args.r in
+    let h = search_prepared p _ _ c.requires o (c.of_network-candidates.ensures _ c.requires.base.known.plannable.well_formed c.requires.network) in
+    let known = subst⁻¹ (Prepared p c.args.table.now (vertices_in r) o.start o.source o.tails o.heads) c.from-k.ensures h in
+    let b = c.root-root in
+    countable known b.result (b.ensures _ _ _ _ _ _ known (search_given p _ _ c.requires i.result i.ensures))
 
 pub returns : goal.returns
 returns c =
-    let o = c.of_network-c in
+    let o = c.of_network-candidates.result in
     let i = c.entries_of-entries in
     let p = plan_value c.args.plan in
-    let h = search_prepared p _ _ c.requires o.result (o.ensures _ c.requires.base.known.plannable.well_formed c.requires.network) in
-    let r = c.root-b in
-    let is = r.ensures _ _ _ _ _ _ h (search_given p _ _ c.requires i.result i.ensures) in
-    record { prepared = h; root = is; number = c.number-n.ensures ∙ ap (λ x. min x cap) (root_count h r.result is) }
+    let r = c.args.r in
+    let h = search_prepared p _ _ c.requires o (c.of_network-candidates.ensures _ c.requires.base.known.plannable.well_formed c.requires.network) in
+    let known = subst⁻¹ (Prepared p c.args.table.now (vertices_in r) o.start o.source o.tails o.heads) c.from-k.ensures h in
+    let b = c.root-root in
+    let is = b.ensures _ _ _ _ _ _ known (search_given p _ _ c.requires i.result i.ensures) in
+    record { prepared = h; root = is; number = c.number.ensures ∙ ap (λ x. min x cap) (root_count known b.result is) }

@@ -7,10 +7,16 @@ use Rattle.plan.specs.Records.{plan_value}
 use Rattle.branches.specs.Progress.{advance}
 use Rattle.branches.specs.Holding.{held_in}
 use Rattle.search.specs.Laws.Tried.{root_trees}
+use Rattle.preparation.specs.Preparation.{vertices_in}
+use Rattle.tree_bounds.specs.Prepared.{Prepared}
+use Rattle.std.proofs.Math.Path.{subst⁻¹}
 use Rattle.tree_search.proofs.begin.explored.Goals as goal
 
 pub returns : goal.returns
 returns c =
     let b = c.requires.1 in
-    let m = component_count (plan_value c.args.plan) - 1 in
-    c.advance.ensures _ b.prepared b.root.branch ∙ ap (advance (completion_cost (plan_value c.args.plan)) (held_in m c.args.g)) (root_trees b.prepared c.args.s.root b.root)
+    let p = plan_value c.args.plan in
+    let s = c.args.s.candidates in
+    let known = subst⁻¹ (Prepared p c.args.table.now (vertices_in c.args.r) s.start s.source s.tails s.heads) c.from.ensures b.prepared in
+    c.advance.ensures _ known b.root.branch
+    ∙ ap (advance (completion_cost p) (held_in (component_count p - 1) c.args.g)) (root_trees b.prepared c.args.s.root b.root)

@@ -4,8 +4,8 @@ use Rattle.plan.specs.Records.{plan_value}
 use Rattle.tree_search.specs.Laws.Resumed.{some_tried}
 use Rattle.tree_search.proofs.trees.resume.Goals as goal
 
-pub tried_on-x-requires : goal.tried_on-x-requires
-tried_on-x-requires c =
+pub tried_on-cost-requires : goal.tried_on-cost-requires
+tried_on-cost-requires c =
     let p = plan_value c.args.plan in
     let t = c.total_of-total.ensures.0 in
     let o = some_tried p c.requires.0.base.known.plannable c.args.budget c.requires.1 in

@@ -16,5 +16,6 @@ returns-then-g-eq0 c =
 pub returns : goal.returns
 returns c =
     let n = c.if-g-eq0.false in
-    let e = c.explored-x.ensures ∙ sym (later_on _ c.requires.begun.0.base.known.plannable c.args.g.cost _ c.args.g.tried c.args.more (omega arith)) in
+    let x = rw (c.from.ensures, c.from-2.ensures) at c.explored-cost.ensures in
+    let e = x ∙ sym (later_on _ c.requires.begun.0.base.known.plannable c.args.g.cost _ c.args.g.tried c.args.more (omega arith)) in
     (refl, ap (λ (h : Held). h.cost) e, ap (λ (h : Held). h.links) e)

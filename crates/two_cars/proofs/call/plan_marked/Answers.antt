@@ -1,5 +1,5 @@
--- Where the marks are bad, the answer is the refusal's; where they are not, the car's plan is well formed, the tables are its own, and it is answered.
-use mathlib.Core.Path.{sym, ap, ◌∙◌, subst⁻¹}
+-- Where the marks are bad, the answer is the refusal; where they are not, the car's plan is well formed, the tables are its own, and it is answered.
+use mathlib.Core.Path.{refl, sym, ap, ◌∙◌, subst⁻¹}
 use Rattle.postman.specs.Plan.{Plan, WellFormed}
 use Rattle.postman_laws.specs.Laws.Marks.{car_well_formed}
 use Rattle.plan.specs.Laws.Records.{record_arcs}
@@ -8,19 +8,18 @@ use Rattle.multipliers.specs.Drive.{table_of}
 use Rattle.call_steps.specs.Laws.Chain.{step_refused, made_planned}
 use Rattle.car_marks.specs.Laws.Marks.{good_length}
 use Rattle.two_cars.specs.Laws.Call.{table_shared, weights_shared, marks_refused, marks_good}
-use borrow.Author.Rules.{rules}
 use Rattle.two_cars.proofs.call.plan_marked.Goals as goal
 
 pub has_bad_mark-requires : goal.has_bad_mark-requires
 has_bad_mark-requires c = record_arcs _ c.requires.tabled.0
 
-pub car_plan-car-requires : goal.car_plan-car-requires
-car_plan-car-requires c =
+pub car_plan-requires : goal.car_plan-requires
+car_plan-requires c =
     (record_arcs _ c.requires.tabled.0, good_length _ _ (sym c.has_bad_mark.ensures ∙ c.if-has_bad_mark.false))
 
 pub plan_tabled-requires : goal.plan_tabled-requires
 plan_tabled-requires c =
-    let e = c.car_plan-car.ensures in record {
+    let e = c.car_plan.ensures in record {
       tabled = (
         subst⁻¹ WellFormed e (car_well_formed _ _ c.requires.tabled.0),
         table_shared _ _ c.args.table.now c.requires.tabled.1 ∙ ap table_of (sym e),
@@ -30,8 +29,8 @@ plan_tabled-requires c =
     }
 
 pub returns-then-has_bad_mark : goal.returns-then-has_bad_mark
-returns-then-has_bad_mark c = step_refused _ _ _ _ _ _ _ c.refused.ensures (marks_refused _ _ (sym c.has_bad_mark.ensures ∙ c.if-has_bad_mark.true))
+returns-then-has_bad_mark c = step_refused _ _ _ _ _ _ _ refl (marks_refused _ _ (sym c.has_bad_mark.ensures ∙ c.if-has_bad_mark.true))
 
 pub returns : goal.returns
 returns c =
-    made_planned _ _ _ _ _ _ _ c.car_plan-car.ensures (car_well_formed _ _ c.requires.tabled.0) (marks_good _ _ (sym c.has_bad_mark.ensures ∙ c.if-has_bad_mark.false)) c.plan_tabled.ensures
+    made_planned _ _ _ _ _ _ _ c.car_plan.ensures (car_well_formed _ _ c.requires.tabled.0) (marks_good _ _ (sym c.has_bad_mark.ensures ∙ c.if-has_bad_mark.false)) c.plan_tabled.ensures

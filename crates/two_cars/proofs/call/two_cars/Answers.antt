@@ -1,30 +1,27 @@
 -- A file that is refused refuses both cars; one that is not gives its plan and its tables, and each car is answered over them.
-use mathlib.Core.Path.{◌≡◌, refl, sym, ap, ◌∙◌, subst⁻¹}
-use native.Mathlib.Omega.{arith}
-use lib.ListN.{length}
+use Rattle.std.proofs.Common.{◌≡◌, refl, sym, length, arith}
+use Rattle.std.proofs.Math.Path.{subst⁻¹}
 use Rattle.postman.specs.Plan.{WellFormed}
 use Rattle.postman_laws.specs.Laws.Acceptance.{file_accepted}
-use Rattle.refusal.specs.Verdict.{verdict_number}
 use Rattle.plan_file.specs.Laws.Reading.{accepted_value}
 use Rattle.shortest.specs.Laws.Weight.{table_costs}
 use Rattle.multipliers.specs.Laws.Table.{table_is, rows}
 use Rattle.two_cars.specs.Laws.Call.{is_car, file_refused_for, read_planned_for}
-use borrow.Author.Rules.{rules}
 use Rattle.two_cars.proofs.call.two_cars.Goals as goal
 
 pub table-weights-requires : goal.table-weights-requires
 table-weights-requires c =
-    let r = c.read_plan-reading in
-    let e = sym r.ensures.verdict ∙ ap verdict_number c.in-Accepted.is in
-    subst⁻¹ WellFormed (accepted_value _ r.result r.ensures e) (file_accepted _ e)
+    let r = c.in-Ok.ensures in
+    let e = sym r.verdict in
+    subst⁻¹ WellFormed (accepted_value _ _ r e) (file_accepted _ e)
 
 pub plan_car-first-requires : goal.plan_car-first-requires
 plan_car-first-requires c =
     let t = c.table_of-table in
     let w = c.table-weights in
-    let r = c.read_plan-reading in
-    let e = sym r.ensures.verdict ∙ ap verdict_number c.in-Accepted.is in
-    let ok = subst⁻¹ WellFormed (accepted_value _ r.result r.ensures e) (file_accepted _ e) in
+    let r = c.in-Ok.ensures in
+    let e = sym r.verdict in
+    let ok = subst⁻¹ WellFormed (accepted_value _ _ r e) (file_accepted _ e) in
     let d = table_costs _ ok w.result t.result w.ensures t.ensures in
     let long : length t.result ≡ 64 = t.type_inv.1.0.1 in
     (ok, table_is _ t.result long (λ i l. rows t.result t.type_inv.0 t.type_inv.1.1 i (omega arith)) d, w.ensures)
@@ -33,27 +30,26 @@ pub plan_car-second-requires : goal.plan_car-second-requires
 plan_car-second-requires c =
     let t = c.table_of-table in
     let w = c.table-weights in
-    let r = c.read_plan-reading in
-    let e = sym r.ensures.verdict ∙ ap verdict_number c.in-Accepted.is in
-    let ok = subst⁻¹ WellFormed (accepted_value _ r.result r.ensures e) (file_accepted _ e) in
+    let r = c.in-Ok.ensures in
+    let e = sym r.verdict in
+    let ok = subst⁻¹ WellFormed (accepted_value _ _ r e) (file_accepted _ e) in
     let d = table_costs _ ok w.result t.result w.ensures t.ensures in
     let long : length t.result ≡ 64 = t.type_inv.1.0.1 in
     (ok, table_is _ t.result long (λ i l. rows t.result t.type_inv.0 t.type_inv.1.1 i (omega arith)) d, w.ensures)
 
-pub returns-in-Refused : goal.returns-in-Refused
-returns-in-Refused c =
-    let r = c.read_plan-reading in
-    let v = sym r.ensures.verdict ∙ ap verdict_number c.in-Refused.is in
+pub returns-in-Err : goal.returns-in-Err
+returns-in-Err c =
+    let v = sym c.in-Err.ensures.verdict in
     record {
-      first = is_car _ _ _ _ _ _ (file_refused_for _ _ _ _ _ _ _ c.refused.ensures refl v);
-      second = is_car _ _ _ _ _ _ (file_refused_for _ _ _ _ _ _ _ c.refused-in-Refused.ensures refl v);
+      first = is_car _ _ _ _ _ _ (file_refused_for _ _ _ _ _ _ _ refl refl v);
+      second = is_car _ _ _ _ _ _ (file_refused_for _ _ _ _ _ _ _ refl refl v);
     }
 
-pub returns-in-Accepted : goal.returns-in-Accepted
-returns-in-Accepted c =
-    let r = c.read_plan-reading in
-    let e = sym r.ensures.verdict ∙ ap verdict_number c.in-Accepted.is in
+pub returns-in-Ok : goal.returns-in-Ok
+returns-in-Ok c =
+    let r = c.in-Ok.ensures in
+    let e = sym r.verdict in
     record {
-      first = is_car _ _ _ _ _ _ (read_planned_for _ _ _ _ _ _ r.result r.ensures e c.plan_car-first.ensures);
-      second = is_car _ _ _ _ _ _ (read_planned_for _ _ _ _ _ _ r.result r.ensures e c.plan_car-second.ensures);
+      first = is_car _ _ _ _ _ _ (read_planned_for _ _ _ _ _ _ _ r e c.plan_car-first.ensures);
+      second = is_car _ _ _ _ _ _ (read_planned_for _ _ _ _ _ _ _ r e c.plan_car-second.ensures);
     }

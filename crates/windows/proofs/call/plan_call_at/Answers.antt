@@ -1,27 +1,25 @@
 -- A file that is refused refuses the call; one that is not gives its plan, and the rest of the conditions are looked at in their order.
-use mathlib.Core.Path.{refl, sym, ap, ◌∙◌, subst⁻¹}
+use Rattle.std.proofs.Common.{refl, sym}
+use Rattle.std.proofs.Math.Path.{subst⁻¹}
 use Rattle.postman.specs.Plan.{WellFormed}
 use Rattle.postman_laws.specs.Laws.Acceptance.{file_accepted}
-use Rattle.refusal.specs.Verdict.{verdict_number}
 use Rattle.plan_file.specs.Laws.Reading.{accepted_value}
+use Rattle.call_steps.specs.Laws.Refused.{stopped}
 use Rattle.windows.specs.Laws.Call.{is_call_at, file_refused_at, read_planned_at}
-use borrow.Author.Rules.{rules}
 use Rattle.windows.proofs.call.plan_call_at.Goals as goal
 
 pub plan_lent-requires : goal.plan_lent-requires
 plan_lent-requires c =
-    let r = c.read_plan-reading in
-    let e = sym r.ensures.verdict ∙ ap verdict_number c.in-Accepted.is in
-    subst⁻¹ WellFormed (accepted_value _ r.result r.ensures e) (file_accepted _ e)
+    let r = c.in_ok-read_plan.ensures in
+    let e = sym r.verdict in
+    subst⁻¹ WellFormed (accepted_value _ _ r e) (file_accepted _ e)
 
-pub returns-in-Refused : goal.returns-in-Refused
-returns-in-Refused c =
-    let r = c.read_plan-reading in
-    let v = sym r.ensures.verdict ∙ ap verdict_number c.in-Refused.is in
-    is_call_at _ _ _ _ _ _ _ (file_refused_at _ _ _ _ _ _ _ _ c.refused.ensures refl v)
+pub returns-in_err-read_plan : goal.returns-in_err-read_plan
+returns-in_err-read_plan c =
+    is_call_at _ _ _ _ _ _ _ (file_refused_at _ _ _ _ _ _ _ _ (stopped _ _ c.from_residual.ensures.1) refl
+    (sym c.in_err-read_plan.ensures.verdict))
 
-pub returns-in-Accepted : goal.returns-in-Accepted
-returns-in-Accepted c =
-    let r = c.read_plan-reading in
-    let e = sym r.ensures.verdict ∙ ap verdict_number c.in-Accepted.is in
-    is_call_at _ _ _ _ _ _ _ (read_planned_at _ _ _ _ _ _ _ r.result r.ensures e c.plan_lent.ensures)
+pub returns : goal.returns
+returns c =
+    let r = c.in_ok-read_plan.ensures in
+    is_call_at _ _ _ _ _ _ _ (read_planned_at _ _ _ _ _ _ _ _ r (sym r.verdict) c.plan_lent.ensures)

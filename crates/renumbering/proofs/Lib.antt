@@ -1,0 +1,2 @@
+-- What a call of `from_fn` makes.
+pub mod Made
