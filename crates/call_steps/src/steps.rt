@@ -2,10 +2,9 @@
 // Steps for other crates, which ask something of their caller.
 ghost use Rattle.std.specs.Prelude.{◌≡◌, ◌≤◌, Ok, length};
 ghost use Rattle.std.proofs.Math.Option.{none};
-ghost use Rattle.postman.specs.Plan.{WellFormed};
 ghost use Rattle.postman.specs.Refusal.{first_refusal};
 ghost use Rattle.postman.specs.PlanCall.{sheet_places, call_conditions};
-ghost use Rattle.plan.specs.Records.{plan_value};
+ghost use Rattle.plan.specs.GoodPlan.{good_plan};
 ghost use Rattle.shortest.specs.StepContracts.{AreWeights};
 ghost use Rattle.refusal.specs.Verdict.{verdict_number};
 ghost use Rattle.multipliers.specs.Drive.{table_of};
@@ -15,7 +14,7 @@ ghost use Rattle.call_steps.specs.Refusals.{network_refusal, plan_refusal};
 
 use budget::Budget;
 use network::network::Network;
-use plan::Plan;
+use plan::good_plan::GoodPlan;
 use preparation::prepare::prepare;
 use refusal::{Refusal, Verdict};
 use solution::Planned;
@@ -39,64 +38,64 @@ pub fn network_verdict(components: u8, cut_off: bool) -> Verdict
 
 // The answer of a plan that is not refused, once it is prepared.
 fn answer(
-    plan: Plan,
+    good: &GoodPlan,
     table: &[[u32; 64]; 64],
     weights: &[[u32; 64]; 64],
     net: Network,
     budget: u32,
     sheet: &mut [u16],
 ) -> Planned
-    requires measured { IsMeasured (plan_value plan) table.now net × (network_refusal net.components net.cut_off ≡ none) }
-    requires budget_and_sheet { (1 ≤ budget) × (sheet_places ≤ length sheet.old) × AreWeights (plan_value plan) weights.now }
-    ensures { IsPlanned (plan_value plan) budget none sheet.old sheet.new (Ok result) }
+    requires measured { IsMeasured (good_plan good.now) table.now net × (network_refusal net.components net.cut_off ≡ none) }
+    requires budget_and_sheet { (1 ≤ budget) × (sheet_places ≤ length sheet.old) × AreWeights (good_plan good.now) weights.now }
+    ensures { IsPlanned (good_plan good.now) budget none sheet.old sheet.new (Ok result) }
 {
-    let r = prepare(plan, table, net);
-    solve(plan, table, weights, r, budget, sheet)
+    let r = prepare(good, table, net);
+    solve(good, table, weights, r, budget, sheet)
 }
 
 // 10, 11 and 12, then the answer.
 fn plan_measured(
-    plan: Plan,
+    good: &GoodPlan,
     table: &[[u32; 64]; 64],
     weights: &[[u32; 64]; 64],
     net: Network,
     budget: u32,
     sheet: &mut [u16],
 ) -> Result<Planned, Refusal>
-    requires { IsMeasured (plan_value plan) table.now net × (1 ≤ budget) × (sheet_places ≤ length sheet.old)
-        × AreWeights (plan_value plan) weights.now }
-    ensures { IsPlanned (plan_value plan) budget (network_refusal net.components net.cut_off) sheet.old
+    requires { IsMeasured (good_plan good.now) table.now net × (1 ≤ budget) × (sheet_places ≤ length sheet.old)
+        × AreWeights (good_plan good.now) weights.now }
+    ensures { IsPlanned (good_plan good.now) budget (network_refusal net.components net.cut_off) sheet.old
         sheet.new result }
 {
     network_verdict(net.components, net.cut_off)?;
-    Ok(answer(plan, table, weights, net, budget, sheet))
+    Ok(answer(good, table, weights, net, budget, sheet))
 }
 
 // The network of a plan that is well formed, from the tables of its distances and weights, which are
 // lent: what several plans share is computed once.
 pub fn plan_tabled(
-    plan: Plan,
+    good: &GoodPlan,
     table: &[[u32; 64]; 64],
     weights: &[[u32; 64]; 64],
     budget: u32,
     sheet: &mut [u16],
 ) -> Result<Planned, Refusal>
-    requires tabled { WellFormed (plan_value plan) × (table.now ≡ table_of (plan_value plan)) × AreWeights (plan_value plan) weights.now }
+    requires tabled { (table.now ≡ table_of (good_plan good.now)) × AreWeights (good_plan good.now) weights.now }
     requires budget_and_sheet { (1 ≤ budget) × (sheet_places ≤ length sheet.old) }
-    ensures { IsPlanned (plan_value plan) budget (plan_refusal (plan_value plan)) sheet.old sheet.new result }
+    ensures { IsPlanned (good_plan good.now) budget (plan_refusal (good_plan good.now)) sheet.old sheet.new result }
 {
-    let net = network::network::network_of(plan, table);
-    plan_measured(plan, table, weights, net, budget, sheet)
+    let net = network::network::network_of(good, table);
+    plan_measured(good, table, weights, net, budget, sheet)
 }
 
 // The weights and the distances of a plan that is well formed: the file's, or one that is made from it.
-pub fn plan_read(plan: Plan, budget: u32, sheet: &mut [u16]) -> Result<Planned, Refusal>
-    requires { WellFormed (plan_value plan) × (1 ≤ budget) × (sheet_places ≤ length sheet.old) }
-    ensures { IsPlanned (plan_value plan) budget (plan_refusal (plan_value plan)) sheet.old sheet.new result }
+pub fn plan_read(good: &GoodPlan, budget: u32, sheet: &mut [u16]) -> Result<Planned, Refusal>
+    requires { (1 ≤ budget) × (sheet_places ≤ length sheet.old) }
+    ensures { IsPlanned (good_plan good.now) budget (plan_refusal (good_plan good.now)) sheet.old sheet.new result }
 {
-    let weights = shortest::weights::table(plan);
+    let weights = shortest::weights::table(good);
     let table = shortest::distance::table_of(&weights);
-    plan_tabled(plan, &table, &weights, budget, sheet)
+    plan_tabled(good, &table, &weights, budget, sheet)
 }
 
 // 8, then 9, for a call whose own conditions stand between 9 and 10.

@@ -4,6 +4,7 @@ ghost use Rattle.std.specs.Prelude.{◌≡◌, true, false, ◌&&◌, ◌-◌, �
 ghost use Rattle.std.proofs.Math.Option.{none};
 ghost use Rattle.postman.specs.Component.{component_count};
 ghost use Rattle.postman.specs.PlanCall.{sheet_places};
+ghost use Rattle.plan.specs.GoodPlan.{good_plan};
 ghost use Rattle.plan.specs.Records.{plan_value};
 ghost use Rattle.shortest.specs.StepContracts.{AreWeights};
 ghost use Rattle.branches.specs.Links.{links_in};
@@ -11,7 +12,6 @@ ghost use Rattle.drive_legs.specs.Drive.{written};
 ghost use Rattle.multipliers.specs.Prepared.{IsMeasured};
 ghost use Rattle.call_steps.specs.Refusals.{network_refusal};
 ghost use Rattle.multipliers.specs.Drive.{table_of, tree_drive};
-ghost use Rattle.postman.specs.Plan.{WellFormed};
 ghost use Rattle.preparation.specs.Preparation.{IsPreparation};
 ghost use Rattle.tree_search.specs.Resumed.{HoldsTree};
 ghost use Rattle.solution.specs.Concluded.{concluded};
@@ -22,6 +22,7 @@ ghost use Rattle.district_turn.specs.DistrictTurn.{is_resumable, can_go_on, so_f
 use crate::held::{first_of, is_holding};
 use call_steps::steps::network_verdict;
 use network::network::Network;
+use plan::good_plan::GoodPlan;
 use plan::Plan;
 use preparation::prepare::{Preparation, prepare};
 use solution::Planned;
@@ -159,7 +160,7 @@ fn turn_prepared(
 
 // The same, of a plan that is not refused: it is prepared.
 fn turn_accepted(
-    plan: Plan,
+    good: &GoodPlan,
     table: &[[u32; 64]; 64],
     weights: &[[u32; 64]; 64],
     net: Network,
@@ -167,13 +168,13 @@ fn turn_accepted(
     g: Reached,
     sheet: &mut [u16],
 ) -> DistrictTurn
-    requires measured { IsMeasured (plan_value plan) table.now net × (network_refusal net.components net.cut_off ≡ none)
+    requires measured { IsMeasured (good_plan good.now) table.now net × (network_refusal net.components net.cut_off ≡ none)
         × (g.tried ≤ 1000000) }
-    requires budget_and_sheet { (1 ≤ budget) × (sheet_places ≤ length sheet.old) × AreWeights (plan_value plan) weights.now }
-    ensures { IsDistrictTurn (plan_value plan) budget g (is_resumable (plan_value plan) budget g) sheet.old sheet.new result }
+    requires budget_and_sheet { (1 ≤ budget) × (sheet_places ≤ length sheet.old) × AreWeights (good_plan good.now) weights.now }
+    ensures { IsDistrictTurn (good_plan good.now) budget g (is_resumable (good_plan good.now) budget g) sheet.old sheet.new result }
 {
-    let r = prepare(plan, table, net);
-    turn_prepared(plan, table, weights, r, budget, g, sheet)
+    let r = prepare(good, table, net);
+    turn_prepared(good, table, weights, r, budget, g, sheet)
 }
 
 // What was held cannot be gone on from: nothing moves.
@@ -185,7 +186,7 @@ pub fn stuck(g: Reached) -> DistrictTurn
 
 // The same, where the network does not refuse.
 fn turn_measured(
-    plan: Plan,
+    good: &GoodPlan,
     table: &[[u32; 64]; 64],
     weights: &[[u32; 64]; 64],
     net: Network,
@@ -193,41 +194,41 @@ fn turn_measured(
     g: Reached,
     sheet: &mut [u16],
 ) -> DistrictTurn
-    requires { IsMeasured (plan_value plan) table.now net × (1 ≤ budget) × (sheet_places ≤ length sheet.old)
-        × AreWeights (plan_value plan) weights.now × (g.tried ≤ 1000000) }
-    ensures { IsDistrictTurn (plan_value plan) budget g
-        (is_good (network_refusal net.components net.cut_off) && is_resumable (plan_value plan) budget g) sheet.old
+    requires { IsMeasured (good_plan good.now) table.now net × (1 ≤ budget) × (sheet_places ≤ length sheet.old)
+        × AreWeights (good_plan good.now) weights.now × (g.tried ≤ 1000000) }
+    ensures { IsDistrictTurn (good_plan good.now) budget g
+        (is_good (network_refusal net.components net.cut_off) && is_resumable (good_plan good.now) budget g) sheet.old
         sheet.new result }
 {
     match network_verdict(net.components, net.cut_off) {
         Err(_) => stuck(g),
-        Ok(()) => turn_accepted(plan, table, weights, net, budget, g, sheet),
+        Ok(()) => turn_accepted(good, table, weights, net, budget, g, sheet),
     }
 }
 
 // The same, from the tables of the plan's distances and weights.
 fn turn_tabled(
-    plan: Plan,
+    good: &GoodPlan,
     table: &[[u32; 64]; 64],
     weights: &[[u32; 64]; 64],
     budget: u32,
     g: Reached,
     sheet: &mut [u16],
 ) -> DistrictTurn
-    requires tabled { WellFormed (plan_value plan) × (table.now ≡ table_of (plan_value plan)) × AreWeights (plan_value plan) weights.now }
+    requires tabled { (table.now ≡ table_of (good_plan good.now)) × AreWeights (good_plan good.now) weights.now }
     requires budget_and_sheet { (1 ≤ budget) × (sheet_places ≤ length sheet.old) × (g.tried ≤ 1000000) }
-    ensures { IsDistrictTurn (plan_value plan) budget g (can_go_on (plan_value plan) budget g) sheet.old sheet.new result }
+    ensures { IsDistrictTurn (good_plan good.now) budget g (can_go_on (good_plan good.now) budget g) sheet.old sheet.new result }
 {
-    let net = network::network::network_of(plan, table);
-    turn_measured(plan, table, weights, net, budget, g, sheet)
+    let net = network::network::network_of(good, table);
+    turn_measured(good, table, weights, net, budget, g, sheet)
 }
 
 // The same, of a plan that was read: what a turn does again is to prepare it.
-pub fn turn_read(plan: Plan, budget: u32, g: Reached, sheet: &mut [u16]) -> DistrictTurn
-    requires { WellFormed (plan_value plan) × (1 ≤ budget) × (sheet_places ≤ length sheet.old) × (g.tried ≤ 1000000) }
-    ensures { IsDistrictTurn (plan_value plan) budget g (can_go_on (plan_value plan) budget g) sheet.old sheet.new result }
+pub fn turn_read(good: &GoodPlan, budget: u32, g: Reached, sheet: &mut [u16]) -> DistrictTurn
+    requires { (1 ≤ budget) × (sheet_places ≤ length sheet.old) × (g.tried ≤ 1000000) }
+    ensures { IsDistrictTurn (good_plan good.now) budget g (can_go_on (good_plan good.now) budget g) sheet.old sheet.new result }
 {
-    let weights = shortest::weights::table(plan);
+    let weights = shortest::weights::table(good);
     let table = shortest::distance::table_of(&weights);
-    turn_tabled(plan, &table, &weights, budget, g, sheet)
+    turn_tabled(good, &table, &weights, budget, g, sheet)
 }

@@ -1,12 +1,12 @@
 // The legs of a drive, side by side: required arcs, links of the arborescence, units of the amounts.
 // Steps for other crates, which ask something of their caller.
 ghost use Rattle.std.specs.Prelude.{◌≡◌, ◌+◌, ◌≤◌, length, replicate};
-ghost use Rattle.postman.specs.Plan.{required_numbers, WellFormed};
-ghost use Rattle.plan.specs.Records.{plan_value};
+ghost use Rattle.postman.specs.Plan.{required_numbers};
+ghost use Rattle.plan.specs.GoodPlan.{good_plan};
 ghost use Rattle.drive_legs.specs.Legs.{units};
 ghost use Rattle.drive_legs.specs.Filled.{Extends, Added, Noted, Laid, links_of};
 
-use plan::Plan;
+use plan::good_plan::GoodPlan;
 
 // `value` into the `times` places from `at` on.
 fn fill(to: &mut [u8; 526], at: usize, value: u8, times: usize)
@@ -46,16 +46,16 @@ fn add_units(
 
 // The required arcs: their numbers, tails and heads, in file order, and how many there are.
 pub fn gather(
-    plan: Plan,
+    good: &GoodPlan,
     numbers: &mut [u16; 256],
     tails: &mut [u8; 526],
     heads: &mut [u8; 526],
 ) -> usize
-    requires { WellFormed (plan_value plan) × (length numbers.old ≡ 256) × (length tails.old ≡ 526) × (length heads.old ≡ 526) }
-    ensures { Noted (plan_value plan) (required_numbers (plan_value plan)) numbers.new tails.new heads.new result }
+    requires { (length numbers.old ≡ 256) × (length tails.old ≡ 526) × (length heads.old ≡ 526) }
+    ensures { Noted (good_plan good.now) (required_numbers (good_plan good.now)) numbers.new tails.new heads.new result }
 {
     let mut c = 0;
-    for (k, a) in plan.arcs[..usize::from(plan.m)].iter().enumerate() {
+    for (k, a) in good.plan.arcs[..usize::from(good.plan.m)].iter().enumerate() {
         numbers[c] = k as u16;
         tails[c] = a.tail;
         heads[c] = a.head;
@@ -73,7 +73,7 @@ pub struct Counts {
 
 // All legs: the required arcs, the links, the units of the amounts.
 pub fn lay(
-    plan: Plan,
+    good: &GoodPlan,
     link_tails: &[u8],
     link_heads: &[u8],
     amounts: &[u16; 4096],
@@ -81,13 +81,13 @@ pub fn lay(
     tails: &mut [u8; 526],
     heads: &mut [u8; 526],
 ) -> Counts
-    requires well_formed { WellFormed (plan_value plan) × (length numbers.old ≡ 256) × (length tails.old ≡ 526) × (length heads.old ≡ 526) }
+    requires well_formed { (length numbers.old ≡ 256) × (length tails.old ≡ 526) × (length heads.old ≡ 526) }
     requires room { (length link_heads.now ≡ length link_tails.now)
-        × (length (required_numbers (plan_value plan)) + length link_tails.now + length (units amounts.now) ≤ 526) }
-    ensures { Laid (plan_value plan) (links_of link_tails.now link_heads.now) amounts.now
+        × (length (required_numbers (good_plan good.now)) + length link_tails.now + length (units amounts.now) ≤ 526) }
+    ensures { Laid (good_plan good.now) (links_of link_tails.now link_heads.now) amounts.now
         numbers.new tails.new heads.new result.required result.legs }
 {
-    let required = gather(plan, numbers, tails, heads);
+    let required = gather(good, numbers, tails, heads);
     copy(tails, required, link_tails);
     copy(heads, required, link_heads);
     let legs = add_units(amounts, tails, heads, required + link_tails.len());

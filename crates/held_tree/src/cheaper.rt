@@ -2,7 +2,7 @@
 // Steps for other crates, which ask something of their caller.
 ghost use Rattle.std.specs.Prelude.{◌≡◌};
 ghost use Rattle.std.proofs.Math.Option.{none};
-ghost use Rattle.postman.specs.Plan.{WellFormed};
+ghost use Rattle.plan.specs.GoodPlan.{good_plan};
 ghost use Rattle.plan.specs.Records.{plan_value};
 ghost use Rattle.multipliers.specs.Drive.{table_of};
 ghost use Rattle.call_steps.specs.Refusals.{plan_refusal};
@@ -10,6 +10,7 @@ ghost use Rattle.preparation.specs.Preparation.{IsPreparation};
 ghost use Rattle.tree_search.specs.Improved.{CanImprove};
 ghost use Rattle.held_tree.specs.Cheaper.{IsCheaper};
 
+use plan::good_plan::GoodPlan;
 use plan::Plan;
 use preparation::prepare::{Preparation, prepare};
 use solution::solve::floor_found;
@@ -57,17 +58,17 @@ fn cheaper_prepared(
 
 // The same, from the table of the plan's distances.
 pub fn cheaper_tabled(
-    plan: Plan,
+    good: &GoodPlan,
     table: &[[u32; 64]; 64],
     cost: u64,
     before: u32,
     tries: u32,
 ) -> Found
-    requires { WellFormed (plan_value plan) × (table.now ≡ table_of (plan_value plan)) × (plan_refusal (plan_value plan) ≡ none)
-        × CanImprove (plan_value plan) cost before tries }
-    ensures { IsCheaper (plan_value plan) cost tries result }
+    requires { (table.now ≡ table_of (good_plan good.now)) × (plan_refusal (good_plan good.now) ≡ none)
+        × CanImprove (good_plan good.now) cost before tries }
+    ensures { IsCheaper (good_plan good.now) cost tries result }
 {
-    let net = network::network::network_of(plan, table);
-    let p = prepare(plan, table, net);
-    cheaper_prepared(plan, table, p, cost, before, tries)
+    let net = network::network::network_of(good, table);
+    let p = prepare(good, table, net);
+    cheaper_prepared(good, table, p, cost, before, tries)
 }

@@ -1,11 +1,12 @@
 // What a plan call is made with under a numbering: the plan, its tables of distances and weights; and the multipliers carried back.
 // Steps for other crates, which ask something of their caller.
 ghost use Rattle.std.specs.Prelude.{◌≡◌, ℕ, ◌<◌, get_or, length};
-ghost use Rattle.postman.specs.Plan.{WellFormed};
+ghost use Rattle.plan.specs.GoodPlan.{good_plan};
 ghost use Rattle.plan.specs.Records.{plan_value, arc_value, record_of};
 ghost use Rattle.postman.specs.Renumbering.{number_in, renumbered_arc, renumbered};
 ghost use Rattle.renumbering.specs.Renumbered.{Inside, IsRenumberedTable, carried_in};
 
+use plan::good_plan::GoodPlan;
 use plan::{Arc, Plan};
 
 // An arc between the new numbers of its ends.
@@ -21,12 +22,12 @@ fn renumber_arc(a: Arc, to: &[u8; 64]) -> Arc
 }
 
 // The plan under a numbering.
-pub fn renumber(plan: Plan, to: &[u8; 64]) -> Plan
-    requires { WellFormed (plan_value plan) × (length to.now ≡ 64) }
-    ensures { plan_value result ≡ renumbered (plan_value plan) (number_in to.now) }
+pub fn renumber(good: &GoodPlan, to: &[u8; 64]) -> Plan
+    requires { (length to.now ≡ 64) }
+    ensures { plan_value result ≡ renumbered (good_plan good.now) (number_in to.now) }
 {
     let mut arcs = [Arc::ZERO; 256];
-    for (k, a) in plan.arcs[..usize::from(plan.m)].iter().enumerate() {
+    for (k, a) in good.plan.arcs[..usize::from(good.plan.m)].iter().enumerate() {
         arcs[k] = renumber_arc(*a, to);
     }
     Plan { arcs, ..plan }

@@ -1,6 +1,7 @@
 // What a search over the trees of a plan that is not refused begins with, and going through them.
 // Steps for other crates, which ask something of their caller.
 ghost use Rattle.std.specs.Prelude.{◌≡◌, min};
+ghost use Rattle.plan.specs.GoodPlan.{good_plan};
 ghost use Rattle.plan.specs.Records.{plan_value};
 ghost use Rattle.postman.specs.Arborescence.{arborescences, arborescence_count};
 ghost use Rattle.postman.specs.PlanCall.{tried_count, is_whole};
@@ -13,6 +14,7 @@ ghost use Rattle.tree_search.specs.Begun.{IsBegun};
 use branches::branch::Branch;
 use branches::progress::Progress;
 use candidates::Candidates;
+use plan::good_plan::GoodPlan;
 use plan::Plan;
 use preparation::prepare::Preparation;
 use search::tried::{advance, number};
@@ -89,9 +91,9 @@ pub fn tried_count(number: u64, budget: u32) -> u32
 }
 
 // How many trees are tried in all, and whether these are all there are, from how many there are.
-pub(crate) fn total_of(plan: Plan, number: u64, budget: u32) -> Total
-    requires { number ≡ min (arborescence_count (plan_value plan)) cap }
-    ensures { (result.trees ≡ tried_count (plan_value plan) budget) × (result.whole ≡ is_whole (plan_value plan) budget) }
+pub(crate) fn total_of(good: &GoodPlan, number: u64, budget: u32) -> Total
+    requires { number ≡ min (arborescence_count (good_plan good.now)) cap }
+    ensures { (result.trees ≡ tried_count (good_plan good.now) budget) × (result.whole ≡ is_whole (good_plan good.now) budget) }
 {
     Total {
         trees: tried_count(number, budget),
