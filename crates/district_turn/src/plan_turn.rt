@@ -5,14 +5,13 @@ ghost use Rattle.std.proofs.Math.Option.{none};
 ghost use Rattle.postman.specs.Component.{component_count};
 ghost use Rattle.postman.specs.PlanCall.{sheet_places};
 ghost use Rattle.plan.specs.GoodPlan.{good_plan};
-ghost use Rattle.plan.specs.Records.{plan_value};
 ghost use Rattle.shortest.specs.StepContracts.{AreWeights};
 ghost use Rattle.branches.specs.Links.{links_in};
 ghost use Rattle.drive_legs.specs.Drive.{written};
 ghost use Rattle.multipliers.specs.Prepared.{IsMeasured};
 ghost use Rattle.call_steps.specs.Refusals.{network_refusal};
 ghost use Rattle.multipliers.specs.Drive.{table_of, tree_drive};
-ghost use Rattle.preparation.specs.Preparation.{IsPreparation};
+ghost use Rattle.preparation.specs.Prepared.{prepared_plan};
 ghost use Rattle.tree_search.specs.Resumed.{HoldsTree};
 ghost use Rattle.solution.specs.Concluded.{concluded};
 ghost use Rattle.held_file.specs.Padded.{padded};
@@ -23,8 +22,8 @@ use crate::held::{first_of, is_holding};
 use call_steps::steps::network_verdict;
 use network::network::Network;
 use plan::good_plan::GoodPlan;
-use plan::Plan;
-use preparation::prepare::{Preparation, prepare};
+use preparation::prepare::prepare;
+use preparation::prepared::Prepared;
 use solution::Planned;
 use solution::solve::conclude;
 use tree_search::improve::Searched;
@@ -87,21 +86,18 @@ fn finished(r: Resumed, planned: Planned) -> DistrictTurn
 
 // The last turn: the tree that is held is laid out.
 fn last(
-    plan: Plan,
-    table: &[[u32; 64]; 64],
-    weights: &[[u32; 64]; 64],
-    r: Preparation,
+    p: &Prepared<'_>, weights: &[[u32; 64]; 64],
     x: Resumed,
     sheet: &mut [u16],
 ) -> DistrictTurn
-    requires { IsPreparation (plan_value plan) table.now r × HoldsTree (plan_value plan) x.tails x.heads
-        × (x.cost ≤ 4398046511104) × (sheet_places ≤ length sheet.old) × AreWeights (plan_value plan) weights.now }
+    requires { HoldsTree (prepared_plan p.now) x.tails x.heads
+        × (x.cost ≤ 4398046511104) × (sheet_places ≤ length sheet.old) × AreWeights (prepared_plan p.now) weights.now }
     ensures is_done { (result.good ≡ true) × (result.done ≡ true)
         × (result.planned
-        ≡ concluded (plan_value plan) (links_in (component_count (plan_value plan) - 1) x.tails x.heads) x.cost x.total
+        ≡ concluded (prepared_plan p.now) (links_in (component_count (prepared_plan p.now) - 1) x.tails x.heads) x.cost x.total
         x.whole) }
     ensures sheet_written { sheet.new
-        ≡ written (tree_drive (plan_value plan) (links_in (component_count (plan_value plan) - 1) x.tails x.heads))
+        ≡ written (tree_drive (prepared_plan p.now) (links_in (component_count (prepared_plan p.now) - 1) x.tails x.heads))
         sheet.old }
 {
     let (tails, heads) = (x.tails, x.heads);
@@ -112,7 +108,7 @@ fn last(
         tried: x.total,
         whole: x.whole,
     };
-    let planned = conclude(plan, table, weights, r, s, sheet);
+    let planned = conclude(p, weights, s, sheet);
     finished(x, planned)
 }
 
@@ -132,30 +128,27 @@ fn kept(r: Resumed, n: usize) -> Reached
 
 // One turn of a district whose plan is prepared.
 fn turn_prepared(
-    plan: Plan,
-    table: &[[u32; 64]; 64],
-    weights: &[[u32; 64]; 64],
-    r: Preparation,
+    p: &Prepared<'_>, weights: &[[u32; 64]; 64],
     budget: u32,
     g: Reached,
     sheet: &mut [u16],
 ) -> DistrictTurn
-    requires { IsPreparation (plan_value plan) table.now r × (g.tried ≤ 1000000) × (1 ≤ budget) × (sheet_places ≤ length sheet.old)
-        × AreWeights (plan_value plan) weights.now }
-    ensures { IsDistrictTurn (plan_value plan) budget g (is_resumable (plan_value plan) budget g) sheet.old sheet.new result }
+    requires { (g.tried ≤ 1000000) × (1 ≤ budget) × (sheet_places ≤ length sheet.old)
+        × AreWeights (prepared_plan p.now) weights.now }
+    ensures { IsDistrictTurn (prepared_plan p.now) budget g (is_resumable (prepared_plan p.now) budget g) sheet.old sheet.new result }
 {
-    if !is_holding(plan, table, r, g) {
+    if !is_holding(p, g) {
         return unfinished(false, g);
     }
-    let x = resume(plan, table, r, budget, g);
+    let x = resume(p, budget, g);
     if x.total <= g.tried {
         return unfinished(false, g);
     }
     if x.tried < x.total {
-        let k = usize::from(r.network.components);
+        let k = usize::from(p.parts.network.components);
         return unfinished(true, kept(x, k - 1));
     }
-    last(plan, table, weights, r, x, sheet)
+    last(p, weights, x, sheet)
 }
 
 // The same, of a plan that is not refused: it is prepared.

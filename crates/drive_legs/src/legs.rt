@@ -81,7 +81,7 @@ pub fn lay(
     tails: &mut [u8; 526],
     heads: &mut [u8; 526],
 ) -> Counts
-    requires well_formed { (length numbers.old ≡ 256) × (length tails.old ≡ 526) × (length heads.old ≡ 526) }
+    requires long { (length numbers.old ≡ 256) × (length tails.old ≡ 526) × (length heads.old ≡ 526) }
     requires room { (length link_heads.now ≡ length link_tails.now)
         × (length (required_numbers (good_plan good.now)) + length link_tails.now + length (units amounts.now) ≤ 526) }
     ensures { Laid (good_plan good.now) (links_of link_tails.now link_heads.now) amounts.now

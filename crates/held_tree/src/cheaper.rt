@@ -3,16 +3,15 @@
 ghost use Rattle.std.specs.Prelude.{◌≡◌};
 ghost use Rattle.std.proofs.Math.Option.{none};
 ghost use Rattle.plan.specs.GoodPlan.{good_plan};
-ghost use Rattle.plan.specs.Records.{plan_value};
 ghost use Rattle.multipliers.specs.Drive.{table_of};
 ghost use Rattle.call_steps.specs.Refusals.{plan_refusal};
-ghost use Rattle.preparation.specs.Preparation.{IsPreparation};
+ghost use Rattle.preparation.specs.Prepared.{prepared_plan};
 ghost use Rattle.tree_search.specs.Improved.{CanImprove};
 ghost use Rattle.held_tree.specs.Cheaper.{IsCheaper};
 
 use plan::good_plan::GoodPlan;
-use plan::Plan;
-use preparation::prepare::{Preparation, prepare};
+use preparation::prepare::prepare;
+use preparation::prepared::Prepared;
 use solution::solve::floor_found;
 use tree_search::begin::begin;
 use tree_search::improve::improve;
@@ -29,20 +28,18 @@ pub struct Found {
 
 // Of a plan that is prepared.
 fn cheaper_prepared(
-    plan: Plan,
-    table: &[[u32; 64]; 64],
-    r: Preparation,
+    p: &Prepared<'_>,
     cost: u64,
     before: u32,
     tries: u32,
 ) -> Found
-    requires { IsPreparation (plan_value plan) table.now r × CanImprove (plan_value plan) cost before tries }
-    ensures { IsCheaper (plan_value plan) cost tries result }
+    requires { CanImprove (prepared_plan p.now) cost before tries }
+    ensures { IsCheaper (prepared_plan p.now) cost tries result }
 {
-    let b = begin(plan, table, r);
-    let s = improve(plan, table, r, b, cost, before, tries);
-    let floor = floor_found(plan, table, r, s.whole, s.cost);
-    let (tails, heads, multipliers) = (s.tails, s.heads, r.multipliers);
+    let b = begin(p);
+    let s = improve(p, &b, cost, before, tries);
+    let floor = floor_found(p, s.whole, s.cost);
+    let (tails, heads, multipliers) = (s.tails, s.heads, p.parts.multipliers);
     Found {
         best: Reached {
             cost: s.cost,

@@ -52,7 +52,7 @@ fn judge_arcs(arcs: &[[u16; 5]], places: &[u16]) -> Judged
 
 // The arcs of a plan that the file's rules let through, lent as rows.
 fn judge_plan(good: &GoodPlan, places: &[u16]) -> Judged
-    requires { (length places.now ≤ highest_places) }
+    requires { length places.now ≤ highest_places }
     ensures { judged_answer result ≡ plan_answer (good_plan good.now) places.now }
 {
     let rows = rows_of(good.plan);
@@ -81,5 +81,5 @@ pub fn judge(bytes: &[u8], places: &[u16]) -> Judged
     if 65_535 < places.len() {
         return Err(long_list(bytes, places.len()));
     }
-    judge_plan(read_plan(bytes)?.plan, places)
+    judge_plan(&GoodPlan { plan: read_plan(bytes)?.plan }, places)
 }

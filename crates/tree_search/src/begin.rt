@@ -2,21 +2,19 @@
 // Steps for other crates, which ask something of their caller.
 ghost use Rattle.std.specs.Prelude.{◌≡◌, min};
 ghost use Rattle.plan.specs.GoodPlan.{good_plan};
-ghost use Rattle.plan.specs.Records.{plan_value};
 ghost use Rattle.postman.specs.Arborescence.{arborescences, arborescence_count};
 ghost use Rattle.postman.specs.PlanCall.{tried_count, is_whole};
 ghost use Rattle.small_counts.specs.Matrix.{cap};
 ghost use Rattle.search.specs.StepContracts.{IsExplored};
 ghost use Rattle.branches.specs.Holding.{IsShort};
-ghost use Rattle.preparation.specs.Preparation.{IsPreparation};
+ghost use Rattle.preparation.specs.Prepared.{prepared_plan};
 ghost use Rattle.tree_search.specs.Begun.{IsBegun};
 
 use branches::branch::Branch;
 use branches::progress::Progress;
 use candidates::Candidates;
 use plan::good_plan::GoodPlan;
-use plan::Plan;
-use preparation::prepare::Preparation;
+use preparation::prepared::Prepared;
 use search::tried::{advance, number};
 use tree_bounds::field::Field;
 use tree_count::entries::entries_of;
@@ -38,19 +36,18 @@ pub(crate) struct Total {
 
 // The root's potentials are the multipliers that are answered. The trees are counted once: how many
 // each branch below the root has, and their sum.
-pub fn begin(plan: Plan, table: &[[u32; 64]; 64], r: Preparation) -> Begun
-    requires { IsPreparation (plan_value plan) table.now r }
-    ensures { IsBegun (plan_value plan) table.now r result }
+pub fn begin(p: &Prepared<'_>) -> Begun
+    ensures { IsBegun (prepared_plan p.now) p.now.table.now p.now.parts.now result }
 {
-    let net = r.network;
-    let v = r.vertices;
+    let net = p.parts.network;
+    let v = p.parts.vertices;
     let candidates = candidates::of_network(net);
     let entries = entries_of(&net.links, &net.component);
     let k = usize::from(net.components);
     let root = branches::branch::root(
         &v.list[..v.count],
         k,
-        r.base,
+        p.parts.base,
         &r.multipliers,
         net.required_cost,
         entries,
@@ -64,21 +61,19 @@ pub fn begin(plan: Plan, table: &[[u32; 64]; 64], r: Preparation) -> Begun
 
 // The trees from the root on: those to skip, then those that are left to be tried.
 pub(crate) fn explored(
-    plan: Plan,
-    table: &[[u32; 64]; 64],
-    r: Preparation,
-    s: Begun,
+    p: &Prepared<'_>,
+    s: &Begun,
     g: Progress,
 ) -> Progress
-    requires { IsPreparation (plan_value plan) table.now r × IsBegun (plan_value plan) table.now r s × IsShort g }
-    ensures { IsExplored (plan_value plan) (arborescences (plan_value plan)) g result }
+    requires { IsBegun (prepared_plan p.now) p.now.table.now p.now.parts.now s.now × IsShort g }
+    ensures { IsExplored (prepared_plan p.now) (arborescences (prepared_plan p.now)) g result }
 {
-    let v = r.vertices;
+    let v = p.parts.vertices;
     let at = Field {
-        d: table,
+        d: p.table,
         vs: &v.list[..v.count],
         candidates: &s.candidates,
-        k: usize::from(r.network.components),
+        k: usize::from(p.parts.network.components),
     };
     advance(g, &s.root, &r.base.amounts, &at)
 }

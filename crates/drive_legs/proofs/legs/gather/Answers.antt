@@ -8,18 +8,18 @@ use Rattle.drive_legs.specs.Laws.Noted.{noted_arc, noted_none, noted_all, counte
 use Rattle.drive_legs.proofs.legs.gather.Goals as goal
 
 pub shared_ref_as_front-a-items : goal.shared_ref_as_front-a-items
-shared_ref_as_front-a-items c = omega (arith, record_arcs c.args.plan c.requires.0)
+shared_ref_as_front-a-items c = omega (arith, record_arcs c.args.good.now.plan c.args.good.now.well_formed)
 
 pub loop-k-init : goal.loop-k-init
-loop-k-init c = (omega arith, noted_none (plan_value c.args.plan) _ _ _ c.requires.1 c.requires.2 c.requires.3)
+loop-k-init c = (omega arith, noted_none (plan_value c.args.good.now.plan) _ _ _ c.requires.0 c.requires.1 c.requires.2)
 
 pub loop-k-preserved : goal.loop-k-preserved
 loop-k-preserved c =
     let l = c.loop-k in
-    let p = c.args.plan in
-    let n = record_arcs p c.requires.0 in
-    let b = walked_below p c.requires.0 _ c.from.ensures _ c.loop-k-test.true in
-    let a = walked_record p c.requires.0 _ c.from.ensures _ c.loop-k-test.true in
+    let p = c.args.good.now.plan in
+    let n = record_arcs p c.args.good.now.well_formed in
+    let b = walked_below p c.args.good.now.well_formed _ c.from.ensures _ c.loop-k-test.true in
+    let a = walked_record p c.args.good.now.well_formed _ c.from.ensures _ c.loop-k-test.true in
     let o : c.from-c.result ≡ cond (is_required_arc (arc_value (get_or (take c.from.result p.arcs) l.k zero_record))) 1 0 = search rules in
     let e : c.from-c.result ≡ cond (is_required_arc (record_at p.arcs l.k)) 1 0 = rw a at o in
     let m = counted_le (is_required_arc (record_at p.arcs l.k)) in
@@ -29,7 +29,7 @@ loop-k-preserved c =
 pub returns : goal.returns
 returns c =
     let l = c.loop-k in
-    let p = c.args.plan in
+    let p = c.args.good.now.plan in
     let n = plan_length p in
-    let e = walked_all p c.requires.0 _ c.from.ensures l.k (search rules) l.auto.k-end c.loop-k-test.false in
+    let e = walked_all p c.args.good.now.well_formed _ c.from.ensures l.k (search rules) l.auto.k-end c.loop-k-test.false in
     subst (λ z. Noted (plan_value p) z l.numbers l.tails l.heads l.c) (ap (numbers_below (plan_value p)) (e ∙ sym n) ∙ noted_all (plan_value p)) l.invariant.1

@@ -5,4 +5,4 @@ use Rattle.drive_legs.specs.Filled.{Noted, numbers_below}
 use Rattle.drive_legs.proofs.legs.gather.Given as goal
 
 abbrev pub invariant-loop-k : goal.invariant-loop-k
-invariant-loop-k l = (l.c ≤ l.k) × Noted (plan_value l.fn.plan) (numbers_below (plan_value l.fn.plan) l.k) l.numbers l.tails l.heads l.c
+invariant-loop-k l = (l.c ≤ l.k) × Noted (plan_value l.fn.good.plan) (numbers_below (plan_value l.fn.good.plan) l.k) l.numbers l.tails l.heads l.c

@@ -10,7 +10,7 @@ pub ascend-requires : goal.ascend-requires
 ascend-requires c =
     let b = c.requires.0 in
     let n = c.requires.1 in (
-      plan_value c.args.plan,
+      plan_value c.args.good.now.plan,
       record {
         known = b.known;
         amounts_are = ap (λ (s : State). s.amounts) b.base_is;
@@ -28,7 +28,7 @@ pub returns : goal.returns
 returns c =
     let b = c.requires.0 in
     let n = c.requires.1 in
-    c.ascend.ensures (plan_value c.args.plan) (record {
+    c.ascend.ensures (plan_value c.args.good.now.plan) (record {
       known = b.known;
       amounts_are = ap (λ (s : State). s.amounts) b.base_is;
       required_long = search rules;
