@@ -1,17 +1,19 @@
 // What calls share: 8 and 9, then 10 to 12 and the answer of a plan that was read.
 // Steps for other crates, which ask something of their caller.
+ghost use Rattle.network.specs.Network.{IsNetwork};
+ghost use Rattle.call_steps.specs.Tabled.{tabled_plan};
 ghost use Rattle.std.specs.Prelude.{◌≡◌, ◌≤◌, Ok, length};
 ghost use Rattle.std.proofs.Math.Option.{none};
 ghost use Rattle.postman.specs.Refusal.{first_refusal};
 ghost use Rattle.postman.specs.PlanCall.{sheet_places, call_conditions};
 ghost use Rattle.plan.specs.GoodPlan.{good_plan};
-ghost use Rattle.shortest.specs.StepContracts.{AreWeights};
 ghost use Rattle.refusal.specs.Verdict.{verdict_number};
-ghost use Rattle.multipliers.specs.Drive.{table_of};
-ghost use Rattle.multipliers.specs.Prepared.{IsMeasured};
 ghost use Rattle.solution.specs.Planned.{IsPlanned};
 ghost use Rattle.call_steps.specs.Refusals.{network_refusal, plan_refusal};
 
+use crate::tabled::Tabled;
+use crate::measured::Measured;
+use preparation::prepared::Prepared;
 use budget::Budget;
 use network::network::Network;
 use plan::good_plan::GoodPlan;
@@ -38,54 +40,52 @@ pub fn network_verdict(components: u8, cut_off: bool) -> Verdict
 
 // The answer of a plan that is not refused, once it is prepared.
 fn answer(
-    good: &GoodPlan,
-    table: &[[u32; 64]; 64],
-    weights: &[[u32; 64]; 64],
+    t: &Tabled<'_>,
     net: Network,
     budget: u32,
     sheet: &mut [u16],
 ) -> Planned
-    requires measured { IsMeasured (good_plan good.now) table.now net × (network_refusal net.components net.cut_off ≡ none) }
-    requires budget_and_sheet { (1 ≤ budget) × (sheet_places ≤ length sheet.old) × AreWeights (good_plan good.now) weights.now }
-    ensures { IsPlanned (good_plan good.now) budget none sheet.old sheet.new (Ok result) }
+    requires measured { IsNetwork (tabled_plan t.now) net × (network_refusal net.components net.cut_off ≡ none) }
+    requires budget_and_sheet { (1 ≤ budget) × (sheet_places ≤ length sheet.old) }
+    ensures { IsPlanned (tabled_plan t.now) budget none sheet.old sheet.new (Ok result) }
 {
-    let r = prepare(good, table, net);
-    solve(good, table, weights, r, budget, sheet)
+    let m = &t.measured;
+    let parts = prepare(m.good, m.table, net);
+    let p = Prepared {
+        good: m.good,
+        table: m.table,
+        parts: &parts,
+    };
+    solve(&p, t.weights, budget, sheet)
 }
 
 // 10, 11 and 12, then the answer.
 fn plan_measured(
-    good: &GoodPlan,
-    table: &[[u32; 64]; 64],
-    weights: &[[u32; 64]; 64],
+    t: &Tabled<'_>,
     net: Network,
     budget: u32,
     sheet: &mut [u16],
 ) -> Result<Planned, Refusal>
-    requires { IsMeasured (good_plan good.now) table.now net × (1 ≤ budget) × (sheet_places ≤ length sheet.old)
-        × AreWeights (good_plan good.now) weights.now }
-    ensures { IsPlanned (good_plan good.now) budget (network_refusal net.components net.cut_off) sheet.old
+    requires { IsNetwork (tabled_plan t.now) net × (1 ≤ budget) × (sheet_places ≤ length sheet.old) }
+    ensures { IsPlanned (tabled_plan t.now) budget (network_refusal net.components net.cut_off) sheet.old
         sheet.new result }
 {
     network_verdict(net.components, net.cut_off)?;
-    Ok(answer(good, table, weights, net, budget, sheet))
+    Ok(answer(t, net, budget, sheet))
 }
 
 // The network of a plan that is well formed, from the tables of its distances and weights, which are
 // lent: what several plans share is computed once.
 pub fn plan_tabled(
-    good: &GoodPlan,
-    table: &[[u32; 64]; 64],
-    weights: &[[u32; 64]; 64],
+    t: &Tabled<'_>,
     budget: u32,
     sheet: &mut [u16],
 ) -> Result<Planned, Refusal>
-    requires tabled { (table.now ≡ table_of (good_plan good.now)) × AreWeights (good_plan good.now) weights.now }
     requires budget_and_sheet { (1 ≤ budget) × (sheet_places ≤ length sheet.old) }
-    ensures { IsPlanned (good_plan good.now) budget (plan_refusal (good_plan good.now)) sheet.old sheet.new result }
+    ensures { IsPlanned (tabled_plan t.now) budget (plan_refusal (tabled_plan t.now)) sheet.old sheet.new result }
 {
-    let net = network::network::network_of(good, table);
-    plan_measured(good, table, weights, net, budget, sheet)
+    let net = network::network::network_of(t.measured.good, t.measured.table);
+    plan_measured(t, net, budget, sheet)
 }
 
 // The weights and the distances of a plan that is well formed: the file's, or one that is made from it.
@@ -95,7 +95,18 @@ pub fn plan_read(good: &GoodPlan, budget: u32, sheet: &mut [u16]) -> Result<Plan
 {
     let weights = shortest::weights::table(good);
     let table = shortest::distance::table_of(&weights);
-    plan_tabled(good, &table, &weights, budget, sheet)
+    let measured = Measured {
+        good,
+        table: &table,
+    };
+    plan_tabled(
+        &Tabled {
+            measured,
+            weights: &weights,
+        },
+        budget,
+        sheet,
+    )
 }
 
 // 8, then 9, for a call whose own conditions stand between 9 and 10.

@@ -55,5 +55,7 @@ fn count_read(good: &GoodPlan) -> Result<Count, Refusal>
 pub fn count_call(bytes: &[u8]) -> Result<Count, Refusal>
     ensures { count_answer result ≡ count_call bytes.now }
 {
-    count_read(read_plan(bytes)?.plan)
+    count_read(&GoodPlan {
+        plan: read_plan(bytes)?.plan,
+    })
 }

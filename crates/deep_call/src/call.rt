@@ -1,4 +1,5 @@
 // The deep call: the refusals in their order, then the rounds, and the best drive of them.
+ghost use Rattle.call_steps.specs.Tabled.{tabled_plan};
 ghost use Rattle.std.specs.Prelude.{◌≡◌, ◌++◌, ◌-◌, ◌≤◌, Ok, length};
 ghost use Rattle.std.proofs.Math.Option.{none};
 ghost use Rattle.postman.specs.Refusal.{first_refusal};
@@ -7,11 +8,12 @@ ghost use Rattle.postman.specs.PlanCall.{sheet_places, call_conditions, last_con
 ghost use Rattle.plan.specs.GoodPlan.{good_plan};
 ghost use Rattle.call_steps.specs.Refusals.{plan_refusal};
 ghost use Rattle.round_rule.specs.Rounds.{kept_after};
-ghost use Rattle.rounds.specs.Tabled.{IsTabled};
 ghost use Rattle.rounds.specs.Held.{IsHeld};
 ghost use Rattle.deep_call.specs.Refusals.{highest_rounds, round_conditions};
 ghost use Rattle.deep_call.specs.Contract.{IsDeep, IsDeepCall};
 
+use call_steps::tabled::Tabled;
+use call_steps::measured::Measured;
 use call_steps::steps::lent_verdict;
 use held_tree::verdict::plan_verdict;
 use plan::good_plan::GoodPlan;
@@ -24,21 +26,19 @@ use solution::Planned;
 
 // The drive of the tree that is held is laid, under the numbering that it was found under.
 fn lay_best(
-    good: &GoodPlan,
-    table: &[[u32; 64]; 64],
-    weights: &[[u32; 64]; 64],
+    t: &Tabled<'_>,
     budget: u32,
     rounds: u32,
     d: Deep,
     sheet: &mut [u16],
 ) -> Planned
-    requires tabled { IsTabled (good_plan good.now) table.now weights.now × (plan_refusal (good_plan good.now) ≡ none)
-        × (d.kept ≡ kept_after (good_plan good.now) budget (rounds - 1)) × IsHeld (good_plan good.now) d × (sheet_places ≤ length sheet.old) }
+    requires tabled { (plan_refusal (tabled_plan t.now) ≡ none)
+        × (d.kept ≡ kept_after (tabled_plan t.now) budget (rounds - 1)) × IsHeld (tabled_plan t.now) d × (sheet_places ≤ length sheet.old) }
     requires within_limits { (1 ≤ budget) × (budget ≤ 1000000) × (rounds ≤ 1000) }
-    ensures { IsDeep (good_plan good.now) budget rounds none sheet.old sheet.new (Ok result) }
+    ensures { IsDeep (tabled_plan t.now) budget rounds none sheet.old sheet.new (Ok result) }
 {
     let k = d.kept;
-    let a = lay_under(good, table, weights, k.drive, d.drive, sheet);
+    let a = lay_under(t, k.drive, d.drive, sheet);
     let multipliers = k.multipliers;
     Planned {
         places: a.places,
@@ -53,21 +53,19 @@ fn lay_best(
 
 // The rounds of a plan that is not refused.
 fn plan_deep(
-    good: &GoodPlan,
-    table: &[[u32; 64]; 64],
-    weights: &[[u32; 64]; 64],
+    t: &Tabled<'_>,
     budget: u32,
     rounds: u32,
     sheet: &mut [u16],
 ) -> Result<Planned, Refusal>
-    requires tabled { IsTabled (good_plan good.now) table.now weights.now × (sheet_places ≤ length sheet.old) }
+    requires room { sheet_places ≤ length sheet.old }
     requires within_limits { (1 ≤ budget) × (budget ≤ 1000000) × (1 ≤ rounds) × (rounds ≤ 1000) }
-    ensures { IsDeep (good_plan good.now) budget rounds (plan_refusal (good_plan good.now)) sheet.old sheet.new result }
+    ensures { IsDeep (tabled_plan t.now) budget rounds (plan_refusal (tabled_plan t.now)) sheet.old sheet.new result }
 {
-    plan_verdict(good, table)?;
-    let first = first_round(good, table, budget);
-    let d = deepen(good, table, budget, rounds, first);
-    Ok(lay_best(good, table, weights, budget, rounds, d, sheet))
+    plan_verdict(&t.measured)?;
+    let first = first_round(&t.measured, budget);
+    let d = deepen(&t.measured, budget, rounds, first);
+    Ok(lay_best(t, budget, rounds, d, sheet))
 }
 
 // 23 rounds: "0 or above 1,000".
@@ -89,7 +87,19 @@ fn deep_within(good: &GoodPlan, budget: u32, rounds: u32, sheet: &mut [u16]) -> 
     }
     let weights = shortest::weights::table(good);
     let table = shortest::distance::table_of(&weights);
-    plan_deep(good, &table, &weights, budget, rounds, sheet)
+    let measured = Measured {
+        good,
+        table: &table,
+    };
+    plan_deep(
+        &Tabled {
+            measured,
+            weights: &weights,
+        },
+        budget,
+        rounds,
+        sheet,
+    )
 }
 
 // From 8 on.
@@ -111,5 +121,12 @@ pub fn deep_call(
 ) -> Result<Planned, Refusal>
     ensures { IsDeepCall bytes.now budget rounds sheet.old sheet.new result }
 {
-    deep_lent(read_plan(bytes)?.plan, budget, rounds, sheet)
+    deep_lent(
+        &GoodPlan {
+            plan: read_plan(bytes)?.plan,
+        },
+        budget,
+        rounds,
+        sheet,
+    )
 }

@@ -47,7 +47,7 @@ fn call_verdict(bytes: &[u8], budget: u64) -> Verdict
     ensures { verdict_number result ≡ call_part bytes.now budget }
 {
     let reading = plan_file::reader::read_plan(bytes)?;
-    budget_verdict(reading.plan, budget)
+    budget_verdict(&GoodPlan { plan: reading.plan }, budget)
 }
 
 // A plan and a budget that are not refused: 22, or the district at the back of the line.

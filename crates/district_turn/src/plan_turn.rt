@@ -1,5 +1,7 @@
 // A district's turn, over its plan.
 // Steps for other crates, which ask something of their caller.
+ghost use Rattle.network.specs.Network.{IsNetwork};
+ghost use Rattle.call_steps.specs.Tabled.{tabled_plan};
 ghost use Rattle.std.specs.Prelude.{◌≡◌, true, false, ◌&&◌, ◌-◌, ◌≤◌, length, take};
 ghost use Rattle.std.proofs.Math.Option.{none};
 ghost use Rattle.postman.specs.Component.{component_count};
@@ -8,9 +10,8 @@ ghost use Rattle.plan.specs.GoodPlan.{good_plan};
 ghost use Rattle.shortest.specs.StepContracts.{AreWeights};
 ghost use Rattle.branches.specs.Links.{links_in};
 ghost use Rattle.drive_legs.specs.Drive.{written};
-ghost use Rattle.multipliers.specs.Prepared.{IsMeasured};
 ghost use Rattle.call_steps.specs.Refusals.{network_refusal};
-ghost use Rattle.multipliers.specs.Drive.{table_of, tree_drive};
+ghost use Rattle.multipliers.specs.Drive.{tree_drive};
 ghost use Rattle.preparation.specs.Prepared.{prepared_plan};
 ghost use Rattle.tree_search.specs.Resumed.{HoldsTree};
 ghost use Rattle.solution.specs.Concluded.{concluded};
@@ -18,6 +19,8 @@ ghost use Rattle.held_file.specs.Padded.{padded};
 ghost use Rattle.postman.specs.Refusal.{is_good};
 ghost use Rattle.district_turn.specs.DistrictTurn.{is_resumable, can_go_on, so_far, IsDistrictTurn};
 
+use call_steps::tabled::Tabled;
+use call_steps::measured::Measured;
 use crate::held::{first_of, is_holding};
 use call_steps::steps::network_verdict;
 use network::network::Network;
@@ -153,21 +156,25 @@ fn turn_prepared(
 
 // The same, of a plan that is not refused: it is prepared.
 fn turn_accepted(
-    good: &GoodPlan,
-    table: &[[u32; 64]; 64],
-    weights: &[[u32; 64]; 64],
+    t: &Tabled<'_>,
     net: Network,
     budget: u32,
     g: Reached,
     sheet: &mut [u16],
 ) -> DistrictTurn
-    requires measured { IsMeasured (good_plan good.now) table.now net × (network_refusal net.components net.cut_off ≡ none)
+    requires measured { IsNetwork (tabled_plan t.now) net × (network_refusal net.components net.cut_off ≡ none)
         × (g.tried ≤ 1000000) }
-    requires budget_and_sheet { (1 ≤ budget) × (sheet_places ≤ length sheet.old) × AreWeights (good_plan good.now) weights.now }
-    ensures { IsDistrictTurn (good_plan good.now) budget g (is_resumable (good_plan good.now) budget g) sheet.old sheet.new result }
+    requires budget_and_sheet { (1 ≤ budget) × (sheet_places ≤ length sheet.old) }
+    ensures { IsDistrictTurn (tabled_plan t.now) budget g (is_resumable (tabled_plan t.now) budget g) sheet.old sheet.new result }
 {
-    let r = prepare(good, table, net);
-    turn_prepared(good, table, weights, r, budget, g, sheet)
+    let m = &t.measured;
+    let parts = prepare(m.good, m.table, net);
+    let p = Prepared {
+        good: m.good,
+        table: m.table,
+        parts: &parts,
+    };
+    turn_prepared(&p, t.weights, budget, g, sheet)
 }
 
 // What was held cannot be gone on from: nothing moves.
@@ -179,41 +186,35 @@ pub fn stuck(g: Reached) -> DistrictTurn
 
 // The same, where the network does not refuse.
 fn turn_measured(
-    good: &GoodPlan,
-    table: &[[u32; 64]; 64],
-    weights: &[[u32; 64]; 64],
+    t: &Tabled<'_>,
     net: Network,
     budget: u32,
     g: Reached,
     sheet: &mut [u16],
 ) -> DistrictTurn
-    requires { IsMeasured (good_plan good.now) table.now net × (1 ≤ budget) × (sheet_places ≤ length sheet.old)
-        × AreWeights (good_plan good.now) weights.now × (g.tried ≤ 1000000) }
-    ensures { IsDistrictTurn (good_plan good.now) budget g
-        (is_good (network_refusal net.components net.cut_off) && is_resumable (good_plan good.now) budget g) sheet.old
+    requires { IsNetwork (tabled_plan t.now) net × (1 ≤ budget) × (sheet_places ≤ length sheet.old) × (g.tried ≤ 1000000) }
+    ensures { IsDistrictTurn (tabled_plan t.now) budget g
+        (is_good (network_refusal net.components net.cut_off) && is_resumable (tabled_plan t.now) budget g) sheet.old
         sheet.new result }
 {
     match network_verdict(net.components, net.cut_off) {
         Err(_) => stuck(g),
-        Ok(()) => turn_accepted(good, table, weights, net, budget, g, sheet),
+        Ok(()) => turn_accepted(t, net, budget, g, sheet),
     }
 }
 
 // The same, from the tables of the plan's distances and weights.
 fn turn_tabled(
-    good: &GoodPlan,
-    table: &[[u32; 64]; 64],
-    weights: &[[u32; 64]; 64],
+    t: &Tabled<'_>,
     budget: u32,
     g: Reached,
     sheet: &mut [u16],
 ) -> DistrictTurn
-    requires tabled { (table.now ≡ table_of (good_plan good.now)) × AreWeights (good_plan good.now) weights.now }
     requires budget_and_sheet { (1 ≤ budget) × (sheet_places ≤ length sheet.old) × (g.tried ≤ 1000000) }
-    ensures { IsDistrictTurn (good_plan good.now) budget g (can_go_on (good_plan good.now) budget g) sheet.old sheet.new result }
+    ensures { IsDistrictTurn (tabled_plan t.now) budget g (can_go_on (tabled_plan t.now) budget g) sheet.old sheet.new result }
 {
-    let net = network::network::network_of(good, table);
-    turn_measured(good, table, weights, net, budget, g, sheet)
+    let net = network::network::network_of(t.measured.good, t.measured.table);
+    turn_measured(t, net, budget, g, sheet)
 }
 
 // The same, of a plan that was read: what a turn does again is to prepare it.
@@ -223,5 +224,17 @@ pub fn turn_read(good: &GoodPlan, budget: u32, g: Reached, sheet: &mut [u16]) ->
 {
     let weights = shortest::weights::table(good);
     let table = shortest::distance::table_of(&weights);
-    turn_tabled(good, &table, &weights, budget, g, sheet)
+    let measured = Measured {
+        good,
+        table: &table,
+    };
+    turn_tabled(
+        &Tabled {
+            measured,
+            weights: &weights,
+        },
+        budget,
+        g,
+        sheet,
+    )
 }

@@ -6,6 +6,7 @@ ghost use Rattle.district_machine.specs.declared.machine.District.{District as D
 ghost use Rattle.district_machine.specs.Machine.{waiting_in, machine_of};
 ghost use Rattle.districts.specs.Turned.{plan_by, has_own_place, can_be_served, held_now, IsAfter, IsTurned};
 
+use plan::good_plan::GoodPlan;
 use district_machine::machine::{District, Machine};
 use district_machine::places::{is_taken, lined_up};
 use district_turn::plan_turn::{DistrictTurn, so_far, stuck, turn_read};
@@ -56,7 +57,7 @@ fn served(d: District, sheet: &mut [u16]) -> DistrictTurn
     }
     match plan_file::reader::read_plan(&d.plan.file[..n]) {
         Err(_) => stuck(held),
-        Ok(reading) => turn_read(reading.plan, d.budget, held, sheet),
+        Ok(reading) => turn_read(&GoodPlan { plan: reading.plan }, d.budget, held, sheet),
     }
 }
 

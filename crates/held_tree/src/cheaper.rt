@@ -1,15 +1,14 @@
 // A tree that costs less than a drive that is known, among so many trees of a plan of which the first have none; and the floor.
 // Steps for other crates, which ask something of their caller.
+ghost use Rattle.call_steps.specs.Tabled.{measured_plan};
 ghost use Rattle.std.specs.Prelude.{◌≡◌};
 ghost use Rattle.std.proofs.Math.Option.{none};
-ghost use Rattle.plan.specs.GoodPlan.{good_plan};
-ghost use Rattle.multipliers.specs.Drive.{table_of};
 ghost use Rattle.call_steps.specs.Refusals.{plan_refusal};
 ghost use Rattle.preparation.specs.Prepared.{prepared_plan};
 ghost use Rattle.tree_search.specs.Improved.{CanImprove};
 ghost use Rattle.held_tree.specs.Cheaper.{IsCheaper};
 
-use plan::good_plan::GoodPlan;
+use call_steps::measured::Measured;
 use preparation::prepare::prepare;
 use preparation::prepared::Prepared;
 use solution::solve::floor_found;
@@ -55,17 +54,21 @@ fn cheaper_prepared(
 
 // The same, from the table of the plan's distances.
 pub fn cheaper_tabled(
-    good: &GoodPlan,
-    table: &[[u32; 64]; 64],
+    m: &Measured<'_>,
     cost: u64,
     before: u32,
     tries: u32,
 ) -> Found
-    requires { (table.now ≡ table_of (good_plan good.now)) × (plan_refusal (good_plan good.now) ≡ none)
-        × CanImprove (good_plan good.now) cost before tries }
-    ensures { IsCheaper (good_plan good.now) cost tries result }
+    requires { (plan_refusal (measured_plan m.now) ≡ none)
+        × CanImprove (measured_plan m.now) cost before tries }
+    ensures { IsCheaper (measured_plan m.now) cost tries result }
 {
-    let net = network::network::network_of(good, table);
-    let p = prepare(good, table, net);
-    cheaper_prepared(good, table, p, cost, before, tries)
+    let net = network::network::network_of(m.good, m.table);
+    let parts = prepare(m.good, m.table, net);
+    let p = Prepared {
+        good: m.good,
+        table: m.table,
+        parts: &parts,
+    };
+    cheaper_prepared(&p, cost, before, tries)
 }

@@ -27,7 +27,13 @@ fn plan_lent(good: &GoodPlan, budget: u64, sheet: &mut [u16]) -> Result<Planned,
 pub fn plan_call(bytes: &[u8], budget: u64, sheet: &mut [u16]) -> Result<Planned, Refusal>
     ensures { IsPlanCall bytes.now budget sheet.old sheet.new result }
 {
-    plan_lent(read_plan(bytes)?.plan, budget, sheet)
+    plan_lent(
+        &GoodPlan {
+            plan: read_plan(bytes)?.plan,
+        },
+        budget,
+        sheet,
+    )
 }
 
 // THE SHORT CALL: "leaves B out" and uses the budget type's default.

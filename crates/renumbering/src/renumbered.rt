@@ -23,7 +23,7 @@ fn renumber_arc(a: Arc, to: &[u8; 64]) -> Arc
 
 // The plan under a numbering.
 pub fn renumber(good: &GoodPlan, to: &[u8; 64]) -> Plan
-    requires { (length to.now ≡ 64) }
+    requires { length to.now ≡ 64 }
     ensures { plan_value result ≡ renumbered (good_plan good.now) (number_in to.now) }
 {
     let mut arcs = [Arc::ZERO; 256];

@@ -22,7 +22,7 @@ pub fn floor_found(
     whole: bool,
     cost: u64,
 ) -> i64
-    requires { (cost ≤ 4398046511104) }
+    requires { cost ≤ 4398046511104 }
     ensures { result ≡ floor_with (prepared_plan p.now) whole cost }
 {
     let net = p.parts.network;

@@ -1,6 +1,6 @@
 // The cost of a tree: "R, plus the d of its links, plus the least balancing once the links are counted in D as arcs".
 // Steps for other crates, which ask something of their caller.
-ghost use Rattle.std.specs.Prelude.{◌≡◌, map, ℕ, ◌≤◌, ◌<◌, length, get_or};
+ghost use Rattle.std.specs.Prelude.{◌≡◌, ◌≤◌, ◌<◌, length};
 ghost use Rattle.postman.specs.Balancing.{completion_cost};
 ghost use Rattle.postman.specs.Steps.{cell};
 ghost use Rattle.drive_legs.specs.Filled.{links_of};

@@ -54,7 +54,7 @@ fn searched(p: &Prepared<'_>, s: &Begun, budget: u32) -> Searched
 
 // The first tree of least cost among those tried.
 pub fn best(p: &Prepared<'_>, budget: u32) -> Searched
-    requires { (1 ≤ budget) }
+    requires { 1 ≤ budget }
     ensures { IsSearched (prepared_plan p.now) budget result }
 {
     let s = begin(p);

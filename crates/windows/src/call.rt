@@ -49,7 +49,13 @@ fn plan_departing(
         sheet.old sheet.new result }
 {
     windows_verdict(good.plan, windows, weekday, minute)?;
-    plan_read(plan_at(good.plan, windows, weekday, minute), budget, sheet)
+    plan_read(
+        &GoodPlan {
+            plan: plan_at(good.plan, windows, weekday, minute),
+        },
+        budget,
+        sheet,
+    )
 }
 
 // From 8 on.
@@ -84,7 +90,9 @@ pub fn plan_call_at(
         sheet.new result }
 {
     plan_lent(
-        read_plan(bytes)?.plan,
+        &GoodPlan {
+            plan: read_plan(bytes)?.plan,
+        },
         budget,
         windows,
         weekday,
