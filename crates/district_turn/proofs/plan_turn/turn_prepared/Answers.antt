@@ -14,12 +14,12 @@ use borrow.Author.Rules.{rules}
 use Rattle.district_turn.proofs.plan_turn.turn_prepared.Goals as goal
 
 pub overflow_sub-k : goal.overflow_sub-k
-overflow_sub-k c = rw c.from-k.ensures ((component_range _ _ _ c.requires.0).0)
+overflow_sub-k c = rw c.from-k.ensures ((component_range _ _ _ c.args.p.now.prepared).0)
 
 pub returns-then-x : goal.returns-then-x
 returns-then-x c =
-    let b = c.requires.0.base.known in
-    let p = plan_value c.args.plan in
+    let b = c.args.p.now.prepared.base.known in
+    let p = plan_value c.args.p.now.good.now.plan in
     let g = c.args.g in
     let t = c.is_holding in
     let i : is_holding p g ≡ true = sym t.ensures ∙ c.if-not-is_holding.false in
@@ -30,16 +30,16 @@ returns-then-x c =
     let lt : length r.tails ≡ 8 = search (rules, x.type_inv) in
     let lh : length r.heads ≡ 8 = search (rules, x.type_inv) in
     let e = c.unfinished-then-x.ensures in
-    let n : c.from-k.result - 1 ≡ component_count p - 1 = ap (λ k. k - 1) (c.from-k.ensures ∙ c.requires.0.network.components.all) in
-    is_going p c.args.budget g _ _ c.unfinished-then-x.result (some_left p b.plannable b.few c.args.budget c.requires.2 g r h i some)
-    (going_on p b.plannable b.few c.args.budget c.requires.2 g r h some c.if-x.true) e.0 e.1
-    (e.2 ∙ held_after_lem p b.plannable b.few c.args.budget c.requires.2 g r h lt lh (c.from-k.result - 1) n c.kept.result c.kept.ensures)
+    let n : c.from-k.result - 1 ≡ component_count p - 1 = ap (λ k. k - 1) (c.from-k.ensures ∙ c.args.p.now.prepared.network.components.all) in
+    is_going p c.args.budget g _ _ c.unfinished-then-x.result (some_left p b.plannable b.few c.args.budget c.requires.1 g r h i some)
+    (going_on p b.plannable b.few c.args.budget c.requires.1 g r h some c.if-x.true) e.0 e.1
+    (e.2 ∙ held_after_lem p b.plannable b.few c.args.budget c.requires.1 g r h lt lh (c.from-k.result - 1) n c.kept.result c.kept.ensures)
     (e.3 ∙ sym (ap (λ (y : Reached). so_far y.cost y.tried) e.2))
 
 pub last-requires : goal.last-requires
 last-requires c =
-    let b = c.requires.0.base.known in
-    let p = plan_value c.args.plan in
+    let b = c.args.p.now.prepared.base.known in
+    let p = plan_value c.args.p.now.good.now.plan in
     let g = c.args.g in
     let t = c.is_holding in
     let i : is_holding p g ≡ true = sym t.ensures ∙ c.if-not-is_holding.false in
@@ -49,4 +49,4 @@ last-requires c =
     let some : g.tried < r.total = (let l = c.if-x-g.false in omega arith) in
     let lt : length r.tails ≡ 8 = search (rules, x.type_inv) in
     let lh : length r.heads ≡ 8 = search (rules, x.type_inv) in
-    (c.requires.0, after_tree p b.plannable b.few c.args.budget c.requires.2 g r h lt lh i some, after_small p b.plannable b.few c.args.budget c.requires.2 g r h lt lh i some, c.requires.3, c.requires.4)
+    (c.args.p.now.prepared, after_tree p b.plannable b.few c.args.budget c.requires.1 g r h lt lh i some, after_small p b.plannable b.few c.args.budget c.requires.1 g r h lt lh i some, c.requires.2, c.requires.3)

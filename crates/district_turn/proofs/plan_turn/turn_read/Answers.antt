@@ -10,9 +10,9 @@ pub turn_tabled-requires : goal.turn_tabled-requires
 turn_tabled-requires c =
     let w = c.table-weights in
     let t = c.table_of-table in
-    let d = table_costs _ c.requires.0 w.result t.result w.ensures t.ensures in
+    let d = table_costs _ c.args.good.now.well_formed w.result t.result w.ensures t.ensures in
     let long : length t.result ≡ 64 = t.type_inv.1.0.1 in
     record {
-      tabled = (c.requires.0, table_is _ t.result long (λ i l. rows t.result t.type_inv.0 t.type_inv.1.1 i (omega arith)) d, w.ensures);
-      budget_and_sheet = (c.requires.1, c.requires.2, c.requires.3);
+      tabled = (c.args.good.now.well_formed, table_is _ t.result long (λ i l. rows t.result t.type_inv.0 t.type_inv.1.1 i (omega arith)) d, w.ensures);
+      budget_and_sheet = (c.requires.0, c.requires.1, c.requires.2);
     }

@@ -55,5 +55,5 @@ returns c =
     let k = c.kept_of in
     let e = old_tried _ _ _ _ f.result f.ensures g.2.within g.1.few_tries _ o.ensures in (
       next_as _ _ _ d.kept h.result f.result o.result k.result h.ensures f.ensures e k.ensures,
-      next_held (plan_value c.args.plan) d _ h.result.trial f.result _ _ _ _ _ t.3 f.ensures k.ensures c.chosen_of.ensures,
+      next_held (plan_value c.args.m.now.good.now.plan) d _ h.result.trial f.result _ _ _ _ _ t.3 f.ensures k.ensures c.chosen_of.ensures,
     )
