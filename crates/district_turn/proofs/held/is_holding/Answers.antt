@@ -36,7 +36,7 @@ tree_cost-requires c =
     let lt : length c.args.g.tails ≡ 8 = search (rules, c.well_formed) in
     let lh : length c.args.g.heads ≡ 8 = search (rules, c.well_formed) in
     let t = c.is_tree in
-    rw c.from-k.ensures (c.args.p.now.prepared, held_tree _ _ _ c.args.p.now.prepared c.args.g.tails c.args.g.heads lt lh ((rw c.from-k.ensures at t.ensures).0 c.if-not-is_tree.false))
+    rw c.from-k.ensures (held_tree _ _ _ c.args.p.now.prepared c.args.g.tails c.args.g.heads lt lh ((rw c.from-k.ensures at t.ensures).0 c.if-not-is_tree.false))
 
 pub returns : goal.returns
 returns c =

@@ -49,4 +49,4 @@ last-requires c =
     let some : g.tried < r.total = (let l = c.if-x-g.false in omega arith) in
     let lt : length r.tails ≡ 8 = search (rules, x.type_inv) in
     let lh : length r.heads ≡ 8 = search (rules, x.type_inv) in
-    (c.args.p.now.prepared, after_tree p b.plannable b.few c.args.budget c.requires.1 g r h lt lh i some, after_small p b.plannable b.few c.args.budget c.requires.1 g r h lt lh i some, c.requires.2, c.requires.3)
+    (after_tree p b.plannable b.few c.args.budget c.requires.1 g r h lt lh i some, after_small p b.plannable b.few c.args.budget c.requires.1 g r h lt lh i some, c.requires.2, c.requires.3)

@@ -1,9 +1,7 @@
 -- Each test that it fails leaves it stuck; where it passes them its plan is read, and the turn is the plan's.
-use mathlib.Core.Path.{sym, subst⁻¹}
+use mathlib.Core.Path.{sym}
 use native.Mathlib.Omega.{arith}
-use Rattle.postman.specs.Plan.{WellFormed}
-use Rattle.postman_laws.specs.Laws.Acceptance.{file_accepted}
-use Rattle.plan_file.specs.Laws.Reading.{accepted_value}
+use Rattle.plan_file.specs.Laws.Reading.{accepted_value, read_good}
 use Rattle.district_turn.specs.Laws.DistrictTurn.{is_stuck}
 use Rattle.districts.specs.Laws.Turned.{too_long, too_dear, all_tried, unread, readable, turn_by_file}
 use Rattle.districts.proofs.turn.served.Goals as goal
@@ -19,11 +17,12 @@ returns-then-d-held c = is_stuck _ _ _ _ _ _ (all_tried _ c.if-d-held.true) c.st
 
 pub turn_read-requires : goal.turn_read-requires
 turn_read-requires c =
-    let i = c.in-Ok.ensures in
-    let e = sym i.verdict in
     let most = c.if-d-gt1000000.false in
     let some = c.if-d-held.false in
-    (subst⁻¹ WellFormed (accepted_value _ _ i e) (file_accepted _ e), omega arith, c.requires, omega arith)
+    (omega arith, c.requires, omega arith)
+
+pub invariant_of-turn_read-clause-well_formed : goal.invariant_of-turn_read-clause-well_formed
+invariant_of-turn_read-clause-well_formed c = read_good c.in-Ok.ensures
 
 pub returns-in-Err : goal.returns-in-Err
 returns-in-Err c = is_stuck _ _ _ _ _ _ (unread _ _ (sym c.in-Err.ensures.verdict)) c.stuck-in-Err.ensures.0 c.stuck-in-Err.ensures.1

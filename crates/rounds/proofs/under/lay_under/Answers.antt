@@ -17,21 +17,33 @@ use Rattle.round_rule.specs.Laws.Tables.{plan_accepted, under_well_formed, under
 use Rattle.rounds.specs.Laws.Held.{laid_as}
 use Rattle.rounds.proofs.under.lay_under.Goals as goal
 
+pub invariant_of-measured-clause-well_formed : goal.invariant_of-measured-clause-well_formed
+invariant_of-measured-clause-well_formed c =
+    subst⁻¹ WellFormed c.renumber-q.ensures (under_well_formed _ c.args.t.now.measured.good.now.well_formed _ c.requires.1.numbers)
+
+pub invariant_of-measured-clause-has_table : goal.invariant_of-measured-clause-has_table
+invariant_of-measured-clause-has_table c =
+    let m = c.args.t.now.measured in
+    let t = c.renumber_table-d in
+    let long : length t.result ≡ 64 = t.type_inv.1.0.1 in
+    subst⁻¹ (λ (r : Plan). t.result ≡ table_of r) c.renumber-q.ensures
+    (under_table _ m.good.now.well_formed _ c.requires.1.numbers _ t.result m.has_table long
+    (λ i l. rows t.result t.type_inv.0 t.type_inv.1.1 i (omega arith)) t.ensures)
+
+pub invariant_of-under-clause-weighed : goal.invariant_of-under-clause-weighed
+invariant_of-under-clause-weighed c =
+    let m = c.args.t.now.measured in
+    let w = c.renumber_table-w in
+    subst⁻¹ (λ (r : Plan). AreWeights r w.result) c.renumber-q.ensures
+    (under_weights _ m.good.now.well_formed _ c.requires.1.numbers c.args.t.now.weights.now w.result c.args.t.now.weighed w.ensures)
+
 pub lay_tabled-requires : goal.lay_tabled-requires
 lay_tabled-requires c =
-    let ok = TABLED.well_formed in
+    let ok = c.args.t.now.measured.good.now.well_formed in
     let x = c.requires.1.numbers in
     let v = c.renumber-q.ensures in
-    let t = c.renumber_table-d in
-    let w = c.renumber_table-w in
-    let long : length t.result ≡ 64 = t.type_inv.1.0.1 in
-    let d = under_table _ ok _ x _ t.result TABLED.distances long (λ i l. rows t.result t.type_inv.0 t.type_inv.1.1 i (omega arith)) t.ensures in
-    let e = under_weights _ ok _ x c.args.t.now.weights.now w.result TABLED.weights_are w.ensures in
     let a = plan_accepted _ ok c.requires.0 in
     let h = best_holds _ (under_plannable _ a.0 _ x) (under_few _ ok _ x a.1) _ c.requires.1.some_tries c.args.g c.requires.2 in (
-      subst⁻¹ WellFormed v (under_well_formed _ ok _ x),
-      subst⁻¹ (λ (r : Plan). t.result ≡ table_of r) v d,
-      subst⁻¹ (λ (r : Plan). AreWeights r w.result) v e,
       ap plan_refusal v ∙ under_refusal _ ok _ x ∙ c.requires.0,
       subst⁻¹ (λ (r : Plan). HoldsTree r c.args.g.tails c.args.g.heads) v h,
       c.requires.3,

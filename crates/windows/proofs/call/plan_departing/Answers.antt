@@ -14,8 +14,8 @@ windows_verdict-requires c = record_arcs _ c.args.good.now.well_formed
 pub plan_at-requires : goal.plan_at-requires
 plan_at-requires c = record_arcs _ c.args.good.now.well_formed
 
-pub plan_read-requires : goal.plan_read-requires
-plan_read-requires c = (subst⁻¹ WellFormed c.plan_at.ensures (at_well_formed _ _ _ c.args.good.now.well_formed), c.requires.0, c.requires.1)
+pub invariant_of-plan_read-clause-well_formed : goal.invariant_of-plan_read-clause-well_formed
+invariant_of-plan_read-clause-well_formed c = subst⁻¹ WellFormed c.plan_at.ensures (at_well_formed _ _ _ c.args.good.now.well_formed)
 
 pub returns-in_err-windows_verdict : goal.returns-in_err-windows_verdict
 returns-in_err-windows_verdict c =
