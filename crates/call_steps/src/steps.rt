@@ -11,13 +11,13 @@ ghost use Rattle.refusal.specs.Verdict.{verdict_number};
 ghost use Rattle.solution.specs.Planned.{IsPlanned};
 ghost use Rattle.call_steps.specs.Refusals.{network_refusal, plan_refusal};
 
-use crate::tabled::Tabled;
 use crate::measured::Measured;
-use preparation::prepared::Prepared;
+use crate::tabled::Tabled;
 use budget::Budget;
 use network::network::Network;
 use plan::good_plan::GoodPlan;
 use preparation::prepare::prepare;
+use preparation::prepared::Prepared;
 use refusal::{Refusal, Verdict};
 use solution::Planned;
 use solution::solve::solve;
@@ -39,12 +39,7 @@ pub fn network_verdict(components: u8, cut_off: bool) -> Verdict
 }
 
 // The answer of a plan that is not refused, once it is prepared.
-fn answer(
-    t: &Tabled<'_>,
-    net: Network,
-    budget: u32,
-    sheet: &mut [u16],
-) -> Planned
+fn answer(t: &Tabled<'_>, net: Network, budget: u32, sheet: &mut [u16]) -> Planned
     requires measured { IsNetwork (tabled_plan t.now) net × (network_refusal net.components net.cut_off ≡ none) }
     requires budget_and_sheet { (1 ≤ budget) × (sheet_places ≤ length sheet.old) }
     ensures { IsPlanned (tabled_plan t.now) budget none sheet.old sheet.new (Ok result) }
@@ -76,11 +71,7 @@ fn plan_measured(
 
 // The network of a plan that is well formed, from the tables of its distances and weights, which are
 // lent: what several plans share is computed once.
-pub fn plan_tabled(
-    t: &Tabled<'_>,
-    budget: u32,
-    sheet: &mut [u16],
-) -> Result<Planned, Refusal>
+pub fn plan_tabled(t: &Tabled<'_>, budget: u32, sheet: &mut [u16]) -> Result<Planned, Refusal>
     requires budget_and_sheet { (1 ≤ budget) × (sheet_places ≤ length sheet.old) }
     ensures { IsPlanned (tabled_plan t.now) budget (plan_refusal (tabled_plan t.now)) sheet.old sheet.new result }
 {

@@ -12,9 +12,9 @@ ghost use Rattle.rounds.specs.Held.{IsHeld};
 ghost use Rattle.deep_call.specs.Refusals.{highest_rounds, round_conditions};
 ghost use Rattle.deep_call.specs.Contract.{IsDeep, IsDeepCall};
 
-use call_steps::tabled::Tabled;
 use call_steps::measured::Measured;
 use call_steps::steps::lent_verdict;
+use call_steps::tabled::Tabled;
 use held_tree::verdict::plan_verdict;
 use plan::good_plan::GoodPlan;
 use plan_file::reader::read_plan;
@@ -25,13 +25,7 @@ use rounds::under::lay_under;
 use solution::Planned;
 
 // The drive of the tree that is held is laid, under the numbering that it was found under.
-fn lay_best(
-    t: &Tabled<'_>,
-    budget: u32,
-    rounds: u32,
-    d: Deep,
-    sheet: &mut [u16],
-) -> Planned
+fn lay_best(t: &Tabled<'_>, budget: u32, rounds: u32, d: Deep, sheet: &mut [u16]) -> Planned
     requires tabled { (plan_refusal (tabled_plan t.now) ≡ none)
         × (d.kept ≡ kept_after (tabled_plan t.now) budget (rounds - 1)) × IsHeld (tabled_plan t.now) d × (sheet_places ≤ length sheet.old) }
     requires within_limits { (1 ≤ budget) × (budget ≤ 1000000) × (rounds ≤ 1000) }
@@ -77,7 +71,12 @@ fn bad_rounds(rounds: u32) -> bool
 }
 
 // From 23 on.
-fn deep_within(good: &GoodPlan, budget: u32, rounds: u32, sheet: &mut [u16]) -> Result<Planned, Refusal>
+fn deep_within(
+    good: &GoodPlan,
+    budget: u32,
+    rounds: u32,
+    sheet: &mut [u16],
+) -> Result<Planned, Refusal>
     requires { (1 ≤ budget) × (budget ≤ 1000000) × (sheet_places ≤ length sheet.old) }
     ensures { IsDeep (good_plan good.now) budget rounds (first_refusal (round_conditions rounds ++ last_conditions (good_plan good.now)))
         sheet.old sheet.new result }
@@ -103,7 +102,12 @@ fn deep_within(good: &GoodPlan, budget: u32, rounds: u32, sheet: &mut [u16]) -> 
 }
 
 // From 8 on.
-fn deep_lent(good: &GoodPlan, budget: u64, rounds: u32, sheet: &mut [u16]) -> Result<Planned, Refusal>
+fn deep_lent(
+    good: &GoodPlan,
+    budget: u64,
+    rounds: u32,
+    sheet: &mut [u16],
+) -> Result<Planned, Refusal>
     ensures { IsDeep (good_plan good.now) budget rounds
         (first_refusal (call_conditions budget (length sheet.old) ++ (round_conditions rounds ++ last_conditions (good_plan good.now))))
         sheet.old sheet.new result }

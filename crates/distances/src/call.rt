@@ -28,5 +28,11 @@ pub fn distance_call(bytes: &[u8], pairs: &[u16], distances: &mut [u32]) -> Sear
     ensures answered { searched_answer result ≡ distance_answer bytes.now pairs.now (length distances.old) }
     ensures distances_written { distances.new ≡ distances_after bytes.now pairs.now distances.old }
 {
-    plan_distances(&GoodPlan { plan: read_plan(bytes)?.plan }, pairs, distances)
+    plan_distances(
+        &GoodPlan {
+            plan: read_plan(bytes)?.plan,
+        },
+        pairs,
+        distances,
+    )
 }

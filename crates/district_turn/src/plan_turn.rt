@@ -19,10 +19,10 @@ ghost use Rattle.held_file.specs.Padded.{padded};
 ghost use Rattle.postman.specs.Refusal.{is_good};
 ghost use Rattle.district_turn.specs.DistrictTurn.{is_resumable, can_go_on, so_far, IsDistrictTurn};
 
-use call_steps::tabled::Tabled;
-use call_steps::measured::Measured;
 use crate::held::{first_of, is_holding};
+use call_steps::measured::Measured;
 use call_steps::steps::network_verdict;
+use call_steps::tabled::Tabled;
 use network::network::Network;
 use plan::good_plan::GoodPlan;
 use preparation::prepare::prepare;
@@ -88,11 +88,7 @@ fn finished(r: Resumed, planned: Planned) -> DistrictTurn
 }
 
 // The last turn: the tree that is held is laid out.
-fn last(
-    p: &Prepared<'_>, weights: &[[u32; 64]; 64],
-    x: Resumed,
-    sheet: &mut [u16],
-) -> DistrictTurn
+fn last(p: &Prepared<'_>, weights: &[[u32; 64]; 64], x: Resumed, sheet: &mut [u16]) -> DistrictTurn
     requires { HoldsTree (prepared_plan p.now) x.tails x.heads
         × (x.cost ≤ 4398046511104) × (sheet_places ≤ length sheet.old) × AreWeights (prepared_plan p.now) weights.now }
     ensures is_done { (result.good ≡ true) × (result.done ≡ true)
@@ -131,7 +127,8 @@ fn kept(r: Resumed, n: usize) -> Reached
 
 // One turn of a district whose plan is prepared.
 fn turn_prepared(
-    p: &Prepared<'_>, weights: &[[u32; 64]; 64],
+    p: &Prepared<'_>,
+    weights: &[[u32; 64]; 64],
     budget: u32,
     g: Reached,
     sheet: &mut [u16],
@@ -204,12 +201,7 @@ fn turn_measured(
 }
 
 // The same, from the tables of the plan's distances and weights.
-fn turn_tabled(
-    t: &Tabled<'_>,
-    budget: u32,
-    g: Reached,
-    sheet: &mut [u16],
-) -> DistrictTurn
+fn turn_tabled(t: &Tabled<'_>, budget: u32, g: Reached, sheet: &mut [u16]) -> DistrictTurn
     requires budget_and_sheet { (1 ≤ budget) × (sheet_places ≤ length sheet.old) × (g.tried ≤ 1000000) }
     ensures { IsDistrictTurn (tabled_plan t.now) budget g (can_go_on (tabled_plan t.now) budget g) sheet.old sheet.new result }
 {

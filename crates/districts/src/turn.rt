@@ -6,10 +6,10 @@ ghost use Rattle.district_machine.specs.declared.machine.District.{District as D
 ghost use Rattle.district_machine.specs.Machine.{waiting_in, machine_of};
 ghost use Rattle.districts.specs.Turned.{plan_by, has_own_place, can_be_served, held_now, IsAfter, IsTurned};
 
-use plan::good_plan::GoodPlan;
 use district_machine::machine::{District, Machine};
 use district_machine::places::{is_taken, lined_up};
 use district_turn::plan_turn::{DistrictTurn, so_far, stuck, turn_read};
+use plan::good_plan::GoodPlan;
 use refusal::Refusal;
 use solution::Planned;
 use tree_search::trees::Reached;

@@ -26,12 +26,7 @@ pub struct Found {
 }
 
 // Of a plan that is prepared.
-fn cheaper_prepared(
-    p: &Prepared<'_>,
-    cost: u64,
-    before: u32,
-    tries: u32,
-) -> Found
+fn cheaper_prepared(p: &Prepared<'_>, cost: u64, before: u32, tries: u32) -> Found
     requires { CanImprove (prepared_plan p.now) cost before tries }
     ensures { IsCheaper (prepared_plan p.now) cost tries result }
 {
@@ -53,12 +48,7 @@ fn cheaper_prepared(
 }
 
 // The same, from the table of the plan's distances.
-pub fn cheaper_tabled(
-    m: &Measured<'_>,
-    cost: u64,
-    before: u32,
-    tries: u32,
-) -> Found
+pub fn cheaper_tabled(m: &Measured<'_>, cost: u64, before: u32, tries: u32) -> Found
     requires { (plan_refusal (measured_plan m.now) ≡ none)
         × CanImprove (measured_plan m.now) cost before tries }
     ensures { IsCheaper (measured_plan m.now) cost tries result }

@@ -12,8 +12,8 @@ ghost use Rattle.call_steps.specs.Refusals.{plan_refusal};
 ghost use Rattle.tree_search.specs.Resumed.{HoldsTree};
 
 use call_steps::tabled::Tabled;
-use preparation::prepared::Prepared;
 use preparation::prepare::prepare;
+use preparation::prepared::Prepared;
 use solution::lay::lay_held;
 
 // The places written, and the number of components.
@@ -24,12 +24,7 @@ pub struct Laid {
 }
 
 // From the tables of the plan's distances and weights.
-pub fn lay_tabled(
-    t: &Tabled<'_>,
-    tails: [u8; 8],
-    heads: [u8; 8],
-    sheet: &mut [u16],
-) -> Laid
+pub fn lay_tabled(t: &Tabled<'_>, tails: [u8; 8], heads: [u8; 8], sheet: &mut [u16]) -> Laid
     requires { (plan_refusal (tabled_plan t.now) ≡ none) × HoldsTree (tabled_plan t.now) tails heads × (sheet_places ≤ length sheet.old) }
     ensures { (sheet.new ≡ written (tree_drive (tabled_plan t.now)
         (links_in (component_count (tabled_plan t.now) - 1) tails heads)) sheet.old)

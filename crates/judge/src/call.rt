@@ -81,5 +81,10 @@ pub fn judge(bytes: &[u8], places: &[u16]) -> Judged
     if 65_535 < places.len() {
         return Err(long_list(bytes, places.len()));
     }
-    judge_plan(&GoodPlan { plan: read_plan(bytes)?.plan }, places)
+    judge_plan(
+        &GoodPlan {
+            plan: read_plan(bytes)?.plan,
+        },
+        places,
+    )
 }

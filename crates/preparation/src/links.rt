@@ -12,11 +12,7 @@ ghost use Rattle.preparation.specs.Prepared.{prepared_plan};
 use crate::prepared::Prepared;
 use balance::state::Balance;
 
-pub fn with_links(
-    p: &Prepared<'_>,
-    tails: &[u8],
-    heads: &[u8],
-) -> Balance
+pub fn with_links(p: &Prepared<'_>, tails: &[u8], heads: &[u8]) -> Balance
     requires { IsTree (prepared_plan p.now) tails.now heads.now }
     ensures { state_of result
         ≡ balanceOf (cell (table_of (prepared_plan p.now))) (prepared_plan p.now) (links_of tails.now heads.now) }

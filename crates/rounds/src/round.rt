@@ -8,8 +8,8 @@ ghost use Rattle.round_rule.specs.Rounds.{next_kept, kept_after};
 ghost use Rattle.round_rule.specs.Trial.{GoesOn};
 ghost use Rattle.rounds.specs.Held.{IsHeld};
 
-use call_steps::measured::Measured;
 use crate::under::cheaper_under;
+use call_steps::measured::Measured;
 use held_tree::cheaper::cheaper_tabled;
 use round_rule::kept::{Kept, begin, have_met, kept_of};
 use round_rule::trial::choose;

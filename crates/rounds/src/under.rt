@@ -13,8 +13,8 @@ ghost use Rattle.held_tree.specs.Cheaper.{IsBest, IsCheaper};
 ghost use Rattle.round_rule.specs.Rounds.{under};
 ghost use Rattle.round_rule.specs.Trial.{IsTrial};
 
-use call_steps::tabled::Tabled;
 use call_steps::measured::Measured;
+use call_steps::tabled::Tabled;
 use held_tree::cheaper::{Found, cheaper_tabled};
 use held_tree::laid::{Laid, lay_tabled};
 use plan::good_plan::GoodPlan;
@@ -23,12 +23,7 @@ use round_rule::trial::Trial;
 use tree_search::trees::Reached;
 
 // A tree that is cheaper than what is known, among so many under a numbering of which the first have none.
-pub(crate) fn cheaper_under(
-    m: &Measured<'_>,
-    x: Trial,
-    cost: u64,
-    before: u32,
-) -> Found
+pub(crate) fn cheaper_under(m: &Measured<'_>, x: Trial, cost: u64, before: u32) -> Found
     requires { (plan_refusal (measured_plan m.now) ≡ none) × IsTrial (measured_plan m.now) x
         × CanImprove (under (measured_plan m.now) x.numbering) cost before x.tries }
     ensures { IsCheaper (under (measured_plan m.now) x.numbering) cost x.tries result }
@@ -43,12 +38,7 @@ pub(crate) fn cheaper_under(
 }
 
 // The drive of the best of so many.
-pub fn lay_under(
-    t: &Tabled<'_>,
-    x: Trial,
-    g: Reached,
-    sheet: &mut [u16],
-) -> Laid
+pub fn lay_under(t: &Tabled<'_>, x: Trial, g: Reached, sheet: &mut [u16]) -> Laid
     requires { (plan_refusal (tabled_plan t.now) ≡ none) × IsTrial (tabled_plan t.now) x
         × IsBest (under (tabled_plan t.now) x.numbering) x.tries g × (sheet_places ≤ length sheet.old) }
     ensures { (sheet.new ≡ written (drive_of (under (tabled_plan t.now) x.numbering) x.tries) sheet.old)

@@ -18,7 +18,8 @@ use preparation::prepared::Prepared;
 // Writes the drive of the arborescence with these links: they are added to the state of the required arcs, the amounts are made direct,
 // and paths are found by the table of weights.
 fn lay(
-    p: &Prepared<'_>, weights: &[[u32; 64]; 64],
+    p: &Prepared<'_>,
+    weights: &[[u32; 64]; 64],
     tails: &[u8],
     heads: &[u8],
     sheet: &mut [u16],
@@ -40,7 +41,8 @@ fn lay(
 
 // The same of a tree that is held in arrays.
 pub fn lay_held(
-    p: &Prepared<'_>, weights: &[[u32; 64]; 64],
+    p: &Prepared<'_>,
+    weights: &[[u32; 64]; 64],
     tails: [u8; 8],
     heads: [u8; 8],
     sheet: &mut [u16],

@@ -17,11 +17,7 @@ use tree_search::improve::Searched;
 use tree_search::trees::best;
 
 // The floor of so many trees, from L(u), which the ascent has computed.
-pub fn floor_found(
-    p: &Prepared<'_>,
-    whole: bool,
-    cost: u64,
-) -> i64
+pub fn floor_found(p: &Prepared<'_>, whole: bool, cost: u64) -> i64
     requires { cost ≤ 4398046511104 }
     ensures { result ≡ floor_with (prepared_plan p.now) whole cost }
 {
@@ -41,7 +37,8 @@ pub fn floor_found(
 
 // The drive of the tree that is held is written, and the floor is computed.
 pub fn conclude(
-    p: &Prepared<'_>, weights: &[[u32; 64]; 64],
+    p: &Prepared<'_>,
+    weights: &[[u32; 64]; 64],
     s: Searched,
     sheet: &mut [u16],
 ) -> Planned
@@ -64,11 +61,7 @@ pub fn conclude(
 }
 
 // The trees are tried, and the best is what is answered.
-pub fn solve(
-    p: &Prepared<'_>, weights: &[[u32; 64]; 64],
-    budget: u32,
-    sheet: &mut [u16],
-) -> Planned
+pub fn solve(p: &Prepared<'_>, weights: &[[u32; 64]; 64], budget: u32, sheet: &mut [u16]) -> Planned
     requires { (1 ≤ budget) × (sheet_places ≤ length sheet.old)
         × AreWeights (prepared_plan p.now) weights.now }
     ensures { IsPlanned (prepared_plan p.now) budget none sheet.old sheet.new (Ok result) }

@@ -31,11 +31,7 @@ fn link_cost(d: &[[u32; 64]; 64], tails: &[u8], heads: &[u8]) -> u64
     cost
 }
 
-pub fn tree_cost(
-    p: &Prepared<'_>,
-    tails: &[u8],
-    heads: &[u8],
-) -> u64
+pub fn tree_cost(p: &Prepared<'_>, tails: &[u8], heads: &[u8]) -> u64
     requires { IsTree (prepared_plan p.now) tails.now heads.now }
     ensures { result ≡ completion_cost (prepared_plan p.now) (links_of tails.now heads.now) }
 {

@@ -60,11 +60,7 @@ pub fn begin(p: &Prepared<'_>) -> Begun
 }
 
 // The trees from the root on: those to skip, then those that are left to be tried.
-pub(crate) fn explored(
-    p: &Prepared<'_>,
-    s: &Begun,
-    g: Progress,
-) -> Progress
+pub(crate) fn explored(p: &Prepared<'_>, s: &Begun, g: Progress) -> Progress
     requires { IsBegun (prepared_plan p.now) p.now.table.now p.now.parts.now s.now × IsShort g }
     ensures { IsExplored (prepared_plan p.now) (arborescences (prepared_plan p.now)) g result }
 {

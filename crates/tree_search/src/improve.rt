@@ -19,13 +19,7 @@ pub struct Searched {
 }
 
 // A tree that costs less than `cost`, among so many trees, of which the first `before` have none.
-pub fn improve(
-    p: &Prepared<'_>,
-    s: &Begun,
-    cost: u64,
-    before: u32,
-    tries: u32,
-) -> Searched
+pub fn improve(p: &Prepared<'_>, s: &Begun, cost: u64, before: u32, tries: u32) -> Searched
     requires { IsBegun (prepared_plan p.now) p.now.table.now p.now.parts.now s.now
         × CanImprove (prepared_plan p.now) cost before tries }
     ensures { IsImproved (prepared_plan p.now) cost tries result }

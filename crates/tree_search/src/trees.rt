@@ -89,12 +89,7 @@ fn first_tried(p: &Prepared<'_>, s: &Begun, n: u32) -> Reached
 }
 
 // More trees after those that were tried. None of them is tried again.
-fn tried_on(
-    p: &Prepared<'_>,
-    s: &Begun,
-    g: Reached,
-    more: u32,
-) -> Reached
+fn tried_on(p: &Prepared<'_>, s: &Begun, g: Reached, more: u32) -> Reached
     requires begun { IsBegun (prepared_plan p.now) p.now.table.now p.now.parts.now s.now }
     requires within_limits { (1 ≤ g.tried + more) × (g.tried ≤ 1000000000) × (more ≤ 1000000000) }
     ensures { (result.tried ≡ g.tried + more) × (result.cost ≡
@@ -132,11 +127,7 @@ fn tried_on(
 }
 
 // One turn.
-pub fn resume(
-    p: &Prepared<'_>,
-    budget: u32,
-    g: Reached,
-) -> Resumed
+pub fn resume(p: &Prepared<'_>, budget: u32, g: Reached) -> Resumed
     requires { (1 ≤ budget) × (g.tried ≤ 1000000) }
     ensures { IsResumed (prepared_plan p.now) budget g result }
 {

@@ -7,10 +7,10 @@ ghost use Rattle.postman.specs.Marks.{car_plan, mark_conditions};
 ghost use Rattle.solution.specs.Planned.{IsPlanned};
 ghost use Rattle.two_cars.specs.Contract.{IsTwoCars};
 
-use call_steps::tabled::Tabled;
-use call_steps::measured::Measured;
 use crate::TwoPlanned;
+use call_steps::measured::Measured;
 use call_steps::steps::{lent_verdict, plan_tabled};
+use call_steps::tabled::Tabled;
 use car_marks::marks::{car_plan, has_bad_mark};
 use plan::good_plan::GoodPlan;
 use plan_file::reader::read_plan;

@@ -11,8 +11,8 @@ ghost use Rattle.shut_arcs.specs.Fields.{departure};
 ghost use Rattle.windows.specs.Contract.{IsPlanCallAt};
 
 use call_steps::steps::{lent_verdict, plan_read};
-use plan::good_plan::GoodPlan;
 use plan::Plan;
+use plan::good_plan::GoodPlan;
 use plan_file::reader::read_plan;
 use refusal::{Refusal, Verdict};
 use shut_arcs::limits::has_bad_window;
