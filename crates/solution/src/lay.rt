@@ -34,7 +34,7 @@ fn lay(
     let amounts = direct_amounts::direct::direct_amounts(
         full,
         p.table,
-        &r.vertices.list[..r.vertices.count],
+        &p.parts.vertices.list[..p.parts.vertices.count],
     );
     circuit::drive::write_drive(p.good, weights, tails, heads, &amounts, sheet)
 }

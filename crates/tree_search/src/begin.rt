@@ -48,7 +48,7 @@ pub fn begin(p: &Prepared<'_>) -> Begun
         &v.list[..v.count],
         k,
         p.parts.base,
-        &r.multipliers,
+        &p.parts.multipliers,
         net.required_cost,
         entries,
     );
@@ -71,7 +71,7 @@ pub(crate) fn explored(p: &Prepared<'_>, s: &Begun, g: Progress) -> Progress
         candidates: &s.candidates,
         k: usize::from(p.parts.network.components),
     };
-    advance(g, &s.root, &r.base.amounts, &at)
+    advance(g, &s.root, &p.parts.base.amounts, &at)
 }
 
 // How many of so many trees are tried.
