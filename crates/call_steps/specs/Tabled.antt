@@ -8,4 +8,4 @@ abbrev pub measured_plan : Measured → Plan
 measured_plan m = good_plan m.good.now
 
 abbrev pub tabled_plan : Tabled → Plan
-tabled_plan t = measured_plan t.measured
+tabled_plan t = good_plan t.good.now

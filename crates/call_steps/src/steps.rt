@@ -11,7 +11,6 @@ ghost use Rattle.refusal.specs.Verdict.{verdict_number};
 ghost use Rattle.solution.specs.Planned.{IsPlanned};
 ghost use Rattle.call_steps.specs.Refusals.{network_refusal, plan_refusal};
 
-use crate::measured::Measured;
 use crate::tabled::Tabled;
 use budget::Budget;
 use network::network::Network;
@@ -44,11 +43,10 @@ fn answer(t: &Tabled<'_>, net: Network, budget: u32, sheet: &mut [u16]) -> Plann
     requires budget_and_sheet { (1 ≤ budget) × (sheet_places ≤ length sheet.old) }
     ensures { IsPlanned (tabled_plan t.now) budget none sheet.old sheet.new (Ok result) }
 {
-    let m = &t.measured;
-    let parts = prepare(m.good, m.table, net);
+    let parts = prepare(t.good, t.table, net);
     let p = Prepared {
-        good: m.good,
-        table: m.table,
+        good: t.good,
+        table: t.table,
         parts: &parts,
     };
     solve(&p, t.weights, budget, sheet)
@@ -75,7 +73,7 @@ pub fn plan_tabled(t: &Tabled<'_>, budget: u32, sheet: &mut [u16]) -> Result<Pla
     requires budget_and_sheet { (1 ≤ budget) × (sheet_places ≤ length sheet.old) }
     ensures { IsPlanned (tabled_plan t.now) budget (plan_refusal (tabled_plan t.now)) sheet.old sheet.new result }
 {
-    let net = network::network::network_of(t.measured.good, t.measured.table);
+    let net = network::network::network_of(t.good, t.table);
     plan_measured(t, net, budget, sheet)
 }
 
@@ -86,13 +84,10 @@ pub fn plan_read(good: &GoodPlan, budget: u32, sheet: &mut [u16]) -> Result<Plan
 {
     let weights = shortest::weights::table(good);
     let table = shortest::distance::table_of(&weights);
-    let measured = Measured {
-        good,
-        table: &table,
-    };
     plan_tabled(
         &Tabled {
-            measured,
+            good,
+            table: &table,
             weights: &weights,
         },
         budget,

@@ -56,9 +56,13 @@ fn plan_deep(
     requires within_limits { (1 ≤ budget) × (budget ≤ 1000000) × (1 ≤ rounds) × (rounds ≤ 1000) }
     ensures { IsDeep (tabled_plan t.now) budget rounds (plan_refusal (tabled_plan t.now)) sheet.old sheet.new result }
 {
-    plan_verdict(&t.measured)?;
-    let first = first_round(&t.measured, budget);
-    let d = deepen(&t.measured, budget, rounds, first);
+    let m = Measured {
+        good: t.good,
+        table: t.table,
+    };
+    plan_verdict(&m)?;
+    let first = first_round(&m, budget);
+    let d = deepen(&m, budget, rounds, first);
     Ok(lay_best(t, budget, rounds, d, sheet))
 }
 
@@ -86,13 +90,10 @@ fn deep_within(
     }
     let weights = shortest::weights::table(good);
     let table = shortest::distance::table_of(&weights);
-    let measured = Measured {
-        good,
-        table: &table,
-    };
     plan_deep(
         &Tabled {
-            measured,
+            good,
+            table: &table,
             weights: &weights,
         },
         budget,

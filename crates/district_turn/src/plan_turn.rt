@@ -20,7 +20,6 @@ ghost use Rattle.postman.specs.Refusal.{is_good};
 ghost use Rattle.district_turn.specs.DistrictTurn.{is_resumable, can_go_on, so_far, IsDistrictTurn};
 
 use crate::held::{first_of, is_holding};
-use call_steps::measured::Measured;
 use call_steps::steps::network_verdict;
 use call_steps::tabled::Tabled;
 use network::network::Network;
@@ -164,11 +163,10 @@ fn turn_accepted(
     requires budget_and_sheet { (1 ≤ budget) × (sheet_places ≤ length sheet.old) }
     ensures { IsDistrictTurn (tabled_plan t.now) budget g (is_resumable (tabled_plan t.now) budget g) sheet.old sheet.new result }
 {
-    let m = &t.measured;
-    let parts = prepare(m.good, m.table, net);
+    let parts = prepare(t.good, t.table, net);
     let p = Prepared {
-        good: m.good,
-        table: m.table,
+        good: t.good,
+        table: t.table,
         parts: &parts,
     };
     turn_prepared(&p, t.weights, budget, g, sheet)
@@ -205,7 +203,7 @@ fn turn_tabled(t: &Tabled<'_>, budget: u32, g: Reached, sheet: &mut [u16]) -> Di
     requires budget_and_sheet { (1 ≤ budget) × (sheet_places ≤ length sheet.old) × (g.tried ≤ 1000000) }
     ensures { IsDistrictTurn (tabled_plan t.now) budget g (can_go_on (tabled_plan t.now) budget g) sheet.old sheet.new result }
 {
-    let net = network::network::network_of(t.measured.good, t.measured.table);
+    let net = network::network::network_of(t.good, t.table);
     turn_measured(t, net, budget, g, sheet)
 }
 
@@ -216,13 +214,10 @@ pub fn turn_read(good: &GoodPlan, budget: u32, g: Reached, sheet: &mut [u16]) ->
 {
     let weights = shortest::weights::table(good);
     let table = shortest::distance::table_of(&weights);
-    let measured = Measured {
-        good,
-        table: &table,
-    };
     turn_tabled(
         &Tabled {
-            measured,
+            good,
+            table: &table,
             weights: &weights,
         },
         budget,

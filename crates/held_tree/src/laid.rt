@@ -31,12 +31,11 @@ pub fn lay_tabled(t: &Tabled<'_>, tails: [u8; 8], heads: [u8; 8], sheet: &mut [u
         × (result.places ≡ length (tree_drive (tabled_plan t.now) (links_in (component_count (tabled_plan t.now) - 1) tails heads)))
         × (result.parts ≡ component_count (tabled_plan t.now)) }
 {
-    let m = &t.measured;
-    let net = network::network::network_of(m.good, m.table);
-    let parts = prepare(m.good, m.table, net);
+    let net = network::network::network_of(t.good, t.table);
+    let parts = prepare(t.good, t.table, net);
     let p = Prepared {
-        good: m.good,
-        table: m.table,
+        good: t.good,
+        table: t.table,
         parts: &parts,
     };
     let places = lay_held(&p, t.weights, tails, heads, sheet);

@@ -45,16 +45,12 @@ pub fn lay_under(t: &Tabled<'_>, x: Trial, g: Reached, sheet: &mut [u16]) -> Lai
         × (result.places ≡ length (drive_of (under (tabled_plan t.now) x.numbering) x.tries))
         × (result.parts ≡ component_count (under (tabled_plan t.now) x.numbering)) }
 {
-    let m = &t.measured;
-    let q = renumber(m.good, &x.numbering.to);
-    let d = renumber_table(m.table, &x.numbering.from);
+    let q = renumber(t.good, &x.numbering.to);
+    let d = renumber_table(t.table, &x.numbering.from);
     let w = renumber_table(t.weights, &x.numbering.from);
-    let measured = Measured {
+    let under = Tabled {
         good: &GoodPlan { plan: q },
         table: &d,
-    };
-    let under = Tabled {
-        measured,
         weights: &w,
     };
     lay_tabled(&under, g.tails, g.heads, sheet)

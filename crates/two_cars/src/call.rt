@@ -8,7 +8,6 @@ ghost use Rattle.solution.specs.Planned.{IsPlanned};
 ghost use Rattle.two_cars.specs.Contract.{IsTwoCars};
 
 use crate::TwoPlanned;
-use call_steps::measured::Measured;
 use call_steps::steps::{lent_verdict, plan_tabled};
 use call_steps::tabled::Tabled;
 use car_marks::marks::{car_plan, has_bad_mark};
@@ -30,19 +29,16 @@ fn plan_marked(
         (mark_conditions (tabled_plan t.now) marks.now ++ last_conditions (car_plan (tabled_plan t.now) marks.now)))
         sheet.old sheet.new result }
 {
-    let plan = t.measured.good.plan;
+    let plan = t.good.plan;
     if has_bad_mark(plan, marks) {
         return Err(Refusal::BadMarks);
     }
-    let measured = Measured {
-        good: &GoodPlan {
-            plan: car_plan(plan, marks),
-        },
-        table: t.measured.table,
-    };
     plan_tabled(
         &Tabled {
-            measured,
+            good: &GoodPlan {
+                plan: car_plan(plan, marks),
+            },
+            table: t.table,
             weights: t.weights,
         },
         budget,
@@ -88,12 +84,9 @@ pub fn two_cars(
             let good = &GoodPlan { plan: reading.plan };
             let weights = shortest::weights::table(good);
             let table = shortest::distance::table_of(&weights);
-            let measured = Measured {
+            let t = Tabled {
                 good,
                 table: &table,
-            };
-            let t = Tabled {
-                measured,
                 weights: &weights,
             };
             let first = plan_car(&t, marks_1, budget_1, sheet_1);

@@ -15,8 +15,8 @@ plan_deep-requires c =
     let r = rounds_in _ (sym c.bad_rounds.ensures ∙ c.if-bad_rounds.false) in
     record { room = c.requires.2; within_limits = (c.requires.0, c.requires.1, r.0, r.1) }
 
-pub invariant_of-measured-clause-has_table : goal.invariant_of-measured-clause-has_table
-invariant_of-measured-clause-has_table c =
+pub invariant_of-plan_deep-clause-has_table : goal.invariant_of-plan_deep-clause-has_table
+invariant_of-plan_deep-clause-has_table c =
     let w = c.table-weights in
     let t = c.table_of-table in
     let d = table_costs _ c.args.good.now.well_formed w.result t.result w.ensures t.ensures in

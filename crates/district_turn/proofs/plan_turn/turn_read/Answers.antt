@@ -6,8 +6,8 @@ use Rattle.shortest.specs.Laws.Weight.{table_costs}
 use Rattle.multipliers.specs.Laws.Table.{table_is, rows}
 use Rattle.district_turn.proofs.plan_turn.turn_read.Goals as goal
 
-pub invariant_of-measured-clause-has_table : goal.invariant_of-measured-clause-has_table
-invariant_of-measured-clause-has_table c =
+pub invariant_of-turn_tabled-clause-has_table : goal.invariant_of-turn_tabled-clause-has_table
+invariant_of-turn_tabled-clause-has_table c =
     let w = c.table-weights in
     let t = c.table_of-table in
     let d = table_costs _ c.args.good.now.well_formed w.result t.result w.ensures t.ensures in

@@ -17,13 +17,13 @@ use Rattle.round_rule.specs.Laws.Tables.{plan_accepted, under_well_formed, under
 use Rattle.rounds.specs.Laws.Held.{laid_as}
 use Rattle.rounds.proofs.under.lay_under.Goals as goal
 
-pub invariant_of-measured-clause-well_formed : goal.invariant_of-measured-clause-well_formed
-invariant_of-measured-clause-well_formed c =
-    subst⁻¹ WellFormed c.renumber-q.ensures (under_well_formed _ c.args.t.now.measured.good.now.well_formed _ c.requires.1.numbers)
+pub invariant_of-under-clause-well_formed : goal.invariant_of-under-clause-well_formed
+invariant_of-under-clause-well_formed c =
+    subst⁻¹ WellFormed c.renumber-q.ensures (under_well_formed _ c.args.t.now.good.now.well_formed _ c.requires.1.numbers)
 
-pub invariant_of-measured-clause-has_table : goal.invariant_of-measured-clause-has_table
-invariant_of-measured-clause-has_table c =
-    let m = c.args.t.now.measured in
+pub invariant_of-under-clause-has_table : goal.invariant_of-under-clause-has_table
+invariant_of-under-clause-has_table c =
+    let m = c.args.t.now in
     let t = c.renumber_table-d in
     let long : length t.result ≡ 64 = t.type_inv.1.0.1 in
     subst⁻¹ (λ (r : Plan). t.result ≡ table_of r) c.renumber-q.ensures
@@ -32,14 +32,14 @@ invariant_of-measured-clause-has_table c =
 
 pub invariant_of-under-clause-weighed : goal.invariant_of-under-clause-weighed
 invariant_of-under-clause-weighed c =
-    let m = c.args.t.now.measured in
+    let m = c.args.t.now in
     let w = c.renumber_table-w in
     subst⁻¹ (λ (r : Plan). AreWeights r w.result) c.renumber-q.ensures
     (under_weights _ m.good.now.well_formed _ c.requires.1.numbers c.args.t.now.weights.now w.result c.args.t.now.weighed w.ensures)
 
 pub lay_tabled-requires : goal.lay_tabled-requires
 lay_tabled-requires c =
-    let ok = c.args.t.now.measured.good.now.well_formed in
+    let ok = c.args.t.now.good.now.well_formed in
     let x = c.requires.1.numbers in
     let v = c.renumber-q.ensures in
     let a = plan_accepted _ ok c.requires.0 in

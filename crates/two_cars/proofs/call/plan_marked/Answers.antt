@@ -11,19 +11,19 @@ use Rattle.two_cars.specs.Laws.Call.{table_shared, weights_shared, marks_refused
 use Rattle.two_cars.proofs.call.plan_marked.Goals as goal
 
 pub has_bad_mark-requires : goal.has_bad_mark-requires
-has_bad_mark-requires c = record_arcs _ c.args.t.now.measured.good.now.well_formed
+has_bad_mark-requires c = record_arcs _ c.args.t.now.good.now.well_formed
 
 pub car_plan-requires : goal.car_plan-requires
 car_plan-requires c =
-    (record_arcs _ c.args.t.now.measured.good.now.well_formed, good_length _ _ (sym c.has_bad_mark.ensures ∙ c.if-has_bad_mark.false))
+    (record_arcs _ c.args.t.now.good.now.well_formed, good_length _ _ (sym c.has_bad_mark.ensures ∙ c.if-has_bad_mark.false))
 
-pub invariant_of-measured-clause-well_formed : goal.invariant_of-measured-clause-well_formed
-invariant_of-measured-clause-well_formed c =
-    subst⁻¹ WellFormed c.car_plan.ensures (car_well_formed _ _ c.args.t.now.measured.good.now.well_formed)
+pub invariant_of-plan_tabled-clause-well_formed : goal.invariant_of-plan_tabled-clause-well_formed
+invariant_of-plan_tabled-clause-well_formed c =
+    subst⁻¹ WellFormed c.car_plan.ensures (car_well_formed _ _ c.args.t.now.good.now.well_formed)
 
-pub invariant_of-measured-clause-has_table : goal.invariant_of-measured-clause-has_table
-invariant_of-measured-clause-has_table c =
-    table_shared _ _ c.args.t.now.measured.table.now c.args.t.now.measured.has_table ∙ ap table_of (sym c.car_plan.ensures)
+pub invariant_of-plan_tabled-clause-has_table : goal.invariant_of-plan_tabled-clause-has_table
+invariant_of-plan_tabled-clause-has_table c =
+    table_shared _ _ c.args.t.now.table.now c.args.t.now.has_table ∙ ap table_of (sym c.car_plan.ensures)
 
 pub invariant_of-plan_tabled-clause-weighed : goal.invariant_of-plan_tabled-clause-weighed
 invariant_of-plan_tabled-clause-weighed c =
@@ -34,4 +34,4 @@ returns-then-has_bad_mark c = step_refused _ _ _ _ _ _ _ refl (marks_refused _ _
 
 pub returns : goal.returns
 returns c =
-    made_planned _ _ _ _ _ _ _ c.car_plan.ensures (car_well_formed _ _ c.args.t.now.measured.good.now.well_formed) (marks_good _ _ (sym c.has_bad_mark.ensures ∙ c.if-has_bad_mark.false)) c.plan_tabled.ensures
+    made_planned _ _ _ _ _ _ _ c.car_plan.ensures (car_well_formed _ _ c.args.t.now.good.now.well_formed) (marks_good _ _ (sym c.has_bad_mark.ensures ∙ c.if-has_bad_mark.false)) c.plan_tabled.ensures

@@ -9,8 +9,8 @@ use Rattle.two_cars.proofs.call.two_cars.Goals as goal
 pub invariant_of-good-clause-well_formed : goal.invariant_of-good-clause-well_formed
 invariant_of-good-clause-well_formed c = read_good c.in-Ok.ensures
 
-pub invariant_of-measured-clause-has_table : goal.invariant_of-measured-clause-has_table
-invariant_of-measured-clause-has_table c =
+pub invariant_of-t-clause-has_table : goal.invariant_of-t-clause-has_table
+invariant_of-t-clause-has_table c =
     let t = c.table_of-table in
     let w = c.table-weights in
     let d = table_costs _ (read_good c.in-Ok.ensures) w.result t.result w.ensures t.ensures in
