@@ -23,6 +23,7 @@ use multiplier_steps::lawful::are_lawful;
 use multiplier_steps::steps::{rooted, span};
 use network::network::Network;
 use plan::good_plan::GoodPlan;
+use residual_search::vertex_list::VertexList;
 
 // What the steps read of the network: the component of each vertex, whether it is required, the number of components, R and D.
 #[derive(Clone, Copy)]
@@ -70,7 +71,7 @@ impl Stage {
 pub(crate) struct Ascent<'a> {
     table: &'a [[u32; 64]; 64],
     amounts: &'a [u16; 4096],
-    vs: &'a [u8],
+    vs: VertexList<'a>,
     setting: Setting,
 }
 
@@ -212,7 +213,7 @@ pub fn multipliers_for<'a>(
     let ascent = Ascent {
         table,
         amounts: &base.amounts,
-        vs,
+        vs: VertexList { vertices: vs },
         setting,
     };
     ascent.ascend(u)

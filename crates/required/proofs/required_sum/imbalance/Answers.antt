@@ -2,7 +2,7 @@
 use Rattle.std.proofs.Common.{rules, ◌≡◌, ◌∙◌, ap₂, ℕ, get_or}
 use Rattle.std.specs.Prelude.{pos, ◌-ℤ◌}
 use Rattle.plan.specs.Records.{plan_value}
-use Rattle.plan.specs.Laws.Arrays.{from_fn_each}
+use Rattle.postman_laws.specs.Laws.Arrays.{from_fn_each}
 use Rattle.required.specs.Laws.RequiredSum.{imbalance_degrees}
 use Rattle.required.proofs.required_sum.imbalance.Goals as goal
 

@@ -2,7 +2,7 @@
 use Rattle.std.proofs.Common.{rules, ◌≡◌, false}
 use Rattle.postman.specs.Required.{is_required}
 use Rattle.plan.specs.Records.{plan_value}
-use Rattle.plan.specs.Laws.Arrays.{from_fn_each}
+use Rattle.postman_laws.specs.Laws.Arrays.{from_fn_each}
 use Rattle.required.proofs.required_vertex.required.Goals as goal
 
 pub returns : goal.returns
