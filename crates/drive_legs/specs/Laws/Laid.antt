@@ -55,7 +55,3 @@ laid p t amounts numbers tails tails' heads heads' c n a b =
       tails_are = row p t amounts (λ l. l.tail) tails tails' c n a.tails_are b.tails_are b.end;
       heads_are = row p t amounts (λ l. l.head) heads heads' c n a.heads_are b.heads_are b.end;
     }
-
--- the first n elements are there
-pub prefix_length : (n : ℕ) (xs ys : List ℕ) → take n xs ≡ ys → n ≡ length ys → n ≡ length (take n xs)
-prefix_length n xs ys e l = l ∙ sym (ap length e)
