@@ -69,28 +69,12 @@ pub fn write_drive(
         places.old }
     ensures place_count { result ≡ length (drive (good_plan good.now) (links_of link_tails.now link_heads.now) amounts.now) }
 {
-    let mut numbers = [0; 256];
-    let mut tails = [0; 526];
-    let mut heads = [0; 526];
+    let laid = lay(good, link_tails, link_heads, amounts);
+    let legs = Legs {
+        numbers: laid.numbers(),
+        tails: laid.tails(),
+        heads: laid.heads(),
+    };
     let mut order = [0; 526];
-    let counts = lay(
-        good,
-        link_tails,
-        link_heads,
-        amounts,
-        &mut numbers,
-        &mut tails,
-        &mut heads,
-    );
-    write_circuit(
-        good,
-        weights,
-        &Legs {
-            numbers: &numbers[..counts.required],
-            tails: &tails[..counts.legs],
-            heads: &heads[..counts.legs],
-        },
-        &mut order[..counts.legs],
-        places,
-    )
+    write_circuit(good, weights, &legs, &mut order[..legs.tails.len()], places)
 }

@@ -17,11 +17,14 @@ pub(crate) fn base_state(good: &GoodPlan, table: &[[u32; 64]; 64], vs: &[u8]) ->
     requires { IsKnown (good_plan good.now) table.now vs.now }
     ensures { state_of result ≡ balanceOf (cell (table_of (good_plan good.now))) (good_plan good.now) [] }
 {
-    let mut numbers = [0u16; 256];
-    let mut tails = [0u8; 526];
-    let mut heads = [0u8; 526];
-    let c = drive_legs::legs::gather(good, &mut numbers, &mut tails, &mut heads);
-    balance::state::add_all(balance::state::empty(), table, vs, &tails[..c], &heads[..c])
+    let arcs = drive_legs::legs::gather(good);
+    balance::state::add_all(
+        balance::state::empty(),
+        table,
+        vs,
+        arcs.tails(),
+        arcs.heads(),
+    )
 }
 
 // The greatest multipliers that are 0 at the lowest required vertex.

@@ -28,7 +28,6 @@ use Rattle.hierholzer.specs.Circuit.{circuit}
 use Rattle.hierholzer.specs.Eulerian.{Eulerian}
 use Rattle.drive_legs.specs.Filled.{Laid}
 use Rattle.drive_legs.specs.Laws.Legs.{leg_at, leg_ends, eulerian}
-use Rattle.drive_legs.specs.Laws.Laid.{prefix_length}
 use Rattle.drive_legs.specs.Laws.Few.{few_others, few_numbers}
 use Rattle.circuit.specs.Laws.Description.{is_laid}
 use Rattle.drive_legs.specs.Laws.Drive.{legs_count, is_drive, plain_cost, drive_length, drive_first}
@@ -102,9 +101,6 @@ module _ (p : Plan) (ok : WellFormed p) (t : List Link) (amounts : List ℕ) (h 
       }
 
   -- the parts of the arrays that hold the legs
-  module _ {numbers tails heads : List ℕ} {c n : ℕ} (l : Laid p t amounts numbers tails heads c n) where
-    pub laid_ready : Ready (take c numbers) (take n tails) (take n heads)
-    laid_ready = ready _ _ _ l.numbers_are l.tails_are l.heads_are
-
-    pub tails_number : n ≡ length (take n tails)
-    tails_number = prefix_length n tails _ l.tails_are l.number
+  pub laid_ready : {numbers tails heads ns ts hs : List ℕ} {c n : ℕ} → Laid p t amounts numbers tails heads c n
+      → ns ≡ take c numbers → ts ≡ take n tails → hs ≡ take n heads → Ready ns ts hs
+  laid_ready l e f g = ready _ _ _ (e ∙ l.numbers_are) (f ∙ l.tails_are) (g ∙ l.heads_are)

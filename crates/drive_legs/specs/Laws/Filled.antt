@@ -1,5 +1,5 @@
 -- Stores at the end of the part that is filled.
-use Rattle.std.specs.Prelude.{◌≡◌, refl, ℕ, ◌+◌, ◌-◌, ◌/◌, ◌%◌, ◌≤◌, ◌<◌, length, get_or, take, drop, replicate}
+use Rattle.std.specs.Prelude.{◌≡◌, refl, ℕ, ◌+◌, ◌-◌, ◌≤◌, ◌<◌, length, get_or, take, drop, replicate}
 use Rattle.std.proofs.Common.{sym, ap, ◌∙◌, subst, add-zero, zero-add, arith, length-append, length-drop, length-take-le}
 use Rattle.std.proofs.Math.Path.{subst⁻¹}
 use Rattle.std.proofs.Math.Seq.{take-append_seam}
@@ -17,24 +17,33 @@ use Rattle.hierholzer.specs.Laws.Lists.{map_replicate}
 pub extends_none : (old : List ℕ) (n : ℕ) → take (n + 0) old ≡ take n old ++ []
 extends_none old n = ap (λ z. take z old) (add-zero n) ∙ sym (append-nil (take n old))
 
--- a part that is filled with one value
-pub extends_part : (old : List ℕ) (at times value : ℕ) → at + times ≤ length old
-    → Extends old at (replicate times value) (take at old ++ (replicate times value ++ drop times (drop at old)))
-extends_part old at times value l =
-    let r = length-replicate times value in
-    let mid = replicate times value in
-    let rest = drop times (drop at old) in
+-- a part that is written over
+pub extends_part : (old new : List ℕ) (at k : ℕ) → k ≡ length new → at + k ≤ length old
+    → Extends old at new (take at old ++ (new ++ drop k (drop at old)))
+extends_part old new at k m l =
+    let rest = drop k (drop at old) in
     let a : length (take at old) ≡ at = omega (arith, length-take-le at old) in
-    let e : at + length mid ≡ length (take at old ++ mid) = omega (arith, length-append (take at old) mid) in
+    let e : at + length new ≡ length (take at old ++ new) = omega (arith, length-append (take at old) new) in
     record {
       same = omega (
         arith,
-        length-append (take at old) (mid ++ rest),
-        length-append mid rest,
-        length-drop times (drop at old),
+        length-append (take at old) (new ++ rest),
+        length-append new rest,
+        length-drop k (drop at old),
         length-drop at old,
       );
-      filled = rw (e, ← append_assoc (take at old) mid rest) (take-append_seam (take at old ++ mid) rest);
+      filled = rw (e, ← append_assoc (take at old) new rest) (take-append_seam (take at old ++ new) rest);
+    }
+
+-- the same leg, so many times
+pub added_same : (times tail head n : ℕ) (ts ts' hs hs' : List ℕ) → Extends ts n (replicate times tail) ts'
+    → Extends hs n (replicate times head) hs' → Added (replicate times (record { tail = tail; head = head })) n (n + times) ts ts' hs hs'
+added_same times tail head n ts ts' hs hs' a b =
+    let l : Link = record { tail = tail; head = head } in
+    record {
+      end = ap (λ z. n + z) (sym (length-replicate times l));
+      tails_are = subst⁻¹ (λ z. Extends ts n z ts') (map_replicate (λ (l : Link). l.tail) times l) a;
+      heads_are = subst⁻¹ (λ z. Extends hs n z hs') (map_replicate (λ (l : Link). l.head) times l) b;
     }
 
 -- ---- one part after another
@@ -57,22 +66,22 @@ added_none n tails heads =
       heads_are = record { same = refl; filled = extends_none heads n };
     }
 
-pub added_more : (ls ms : List Link) (n m : ℕ) (ts ts' ts'' hs hs' hs'' : List ℕ) → Added ls n m ts ts' hs hs'
-    → Extends ts' m (map (λ l. l.tail) ms) ts'' → Extends hs' m (map (λ l. l.head) ms) hs''
-    → Added (ls ++ ms) n (m + length ms) ts ts'' hs hs''
-added_more ls ms n m ts ts' ts'' hs hs' hs'' a b c =
+pub added_more : (ls ms : List Link) (n m k : ℕ) (ts ts' ts'' hs hs' hs'' : List ℕ) → Added ls n m ts ts' hs hs'
+    → Added ms m k ts' ts'' hs' hs'' → Added (ls ++ ms) n k ts ts'' hs hs''
+added_more ls ms n m k ts ts' ts'' hs hs' hs'' a b =
     let tail : Link → ℕ = λ l. l.tail in
     let head : Link → ℕ = λ l. l.head in
     let e = a.end in
+    let f = b.end in
     let l = length-append ls ms in
     let i : m ≡ n + length (map tail ls) = e ∙ ap (λ z. n + z) (sym (length-map ls tail)) in
     let j : m ≡ n + length (map head ls) = e ∙ ap (λ z. n + z) (sym (length-map ls head)) in
     record {
       end = omega arith;
       tails_are = subst⁻¹ (λ z. Extends ts n z ts'') (map-append tail ls ms)
-          (extends_more ts (map tail ls) (map tail ms) ts' ts'' n a.tails_are (subst (λ z. Extends ts' z (map tail ms) ts'') i b));
+          (extends_more ts (map tail ls) (map tail ms) ts' ts'' n a.tails_are (subst (λ z. Extends ts' z (map tail ms) ts'') i b.tails_are));
       heads_are = subst⁻¹ (λ z. Extends hs n z hs'') (map-append head ls ms)
-          (extends_more hs (map head ls) (map head ms) hs' hs'' n a.heads_are (subst (λ z. Extends hs' z (map head ms) hs'') j c));
+          (extends_more hs (map head ls) (map head ms) hs' hs'' n a.heads_are (subst (λ z. Extends hs' z (map head ms) hs'') j b.heads_are));
     }
 
 -- ---- the units, place by place
@@ -104,14 +113,9 @@ units_fit amounts x l =
     let e = ap (λ z. length (units_below z amounts)) i in
     omega arith
 
-pub added_units : (amounts : List ℕ) (x k n m : ℕ) (ts ts' ts'' hs hs' hs'' : List ℕ) → k ≡ get_or amounts x 0
-    → Added (units_below x amounts) n m ts ts' hs hs'
-    → Extends ts' m (replicate k (x / 64)) ts'' → Extends hs' m (replicate k (x % 64)) hs''
-    → Added (units_below (x + 1) amounts) n (m + k) ts ts'' hs hs''
-added_units amounts x k n m ts ts' ts'' hs hs' hs'' e a b c =
-    subst⁻¹ (λ z. Added z n (m + k) ts ts'' hs hs'') (units_more amounts x ∙ ap (λ z. units_below x amounts ++ replicate z (pair_at x))
-    (sym e))
-    (subst (λ z. Added (units_below x amounts ++ replicate k (pair_at x)) n (m + z) ts ts'' hs hs'') (length-replicate k (pair_at x))
-    (added_more (units_below x amounts) (replicate k (pair_at x)) n m ts ts' ts'' hs hs' hs'' a
-    (subst⁻¹ (λ z. Extends ts' m z ts'') (map_replicate (λ l. l.tail) k (pair_at x)) b)
-    (subst⁻¹ (λ z. Extends hs' m z hs'') (map_replicate (λ l. l.head) k (pair_at x)) c)))
+pub added_units : (amounts : List ℕ) (x k n m m' : ℕ) (ts ts' ts'' hs hs' hs'' : List ℕ) → k ≡ get_or amounts x 0
+    → Added (units_below x amounts) n m ts ts' hs hs' → Added (replicate k (pair_at x)) m m' ts' ts'' hs' hs''
+    → Added (units_below (x + 1) amounts) n m' ts ts'' hs hs''
+added_units amounts x k n m m' ts ts' ts'' hs hs' hs'' e a b =
+    subst⁻¹ (λ z. Added z n m' ts ts'' hs hs'') (units_more amounts x ∙ ap (λ z. units_below x amounts ++ replicate z (pair_at x)) (sym e))
+    (added_more (units_below x amounts) (replicate k (pair_at x)) n m m' ts ts' ts'' hs hs' hs'' a b)
