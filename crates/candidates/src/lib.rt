@@ -2,7 +2,7 @@
 // Steps for other crates, which ask something of their caller.
 #![tactic(auto)]
 
-ghost use Rattle.std.specs.Prelude.{◌≡◌, false, ◌++◌, ◌+◌, ◌/◌, ◌%◌, ◌≤◌, length, get_or};
+ghost use Rattle.std.specs.Prelude.{◌≡◌, false, ◌++◌, ◌+◌, ◌/◌, ◌%◌, ◌≤◌, length, get_or, take};
 ghost use Rattle.postman.specs.Lists.{select, below};
 ghost use Rattle.postman.specs.Plan.{Plan, WellFormed};
 ghost use Rattle.network.specs.Network.{IsNetwork};
