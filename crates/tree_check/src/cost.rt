@@ -25,8 +25,8 @@ fn link_cost(d: &[[u32; 64]; 64], tails: &[u8], heads: &[u8]) -> u64
     ensures { result ≡ table_cost d.now (links_of tails.now heads.now) }
 {
     let mut cost = 0u64;
-    for i in 0..tails.len() {
-        cost += distance_at(d, tails[i], heads[i]);
+    for (&tail, &head) in tails.iter().zip(heads) {
+        cost += distance_at(d, tail, head);
     }
     cost
 }
