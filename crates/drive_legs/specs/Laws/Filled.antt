@@ -1,6 +1,6 @@
 -- Legs added after others.
 use Rattle.std.specs.Prelude.{◌≡◌, refl, ℕ, ◌+◌, ◌-◌, ◌≤◌, ◌<◌, length, get_or, take, drop, replicate}
-use Rattle.std.proofs.Common.{sym, ap, ◌∙◌, zero-add, arith, length-append, length-drop, length-take-le}
+use Rattle.std.proofs.Common.{sym, ap, ◌∙◌, zero-add, arith, length-append, length-take-le}
 use Rattle.std.proofs.Math.Path.{subst⁻¹}
 use Rattle.std.proofs.Math.Seq.{take-append_seam}
 use mathlib.Core.List.{List, [], ◌∷◌, ◌++◌, map, flat_map, append_assoc, map-append, append-nil}
@@ -21,20 +21,6 @@ part_there old new at k m l =
     let rest = drop k (drop at old) in
     let e : at + k ≡ length (take at old ++ new) = omega (arith, length-append (take at old) new, length-take-le at old) in
     rw (e, ← append_assoc (take at old) new rest) (take-append_seam (take at old ++ new) rest)
-
--- and the array is as long as it was
-pub part_long : (old new : List ℕ) (at k : ℕ) → k ≡ length new → at + k ≤ length old
-    → length (take at old ++ (new ++ drop k (drop at old))) ≡ length old
-part_long old new at k m l =
-    let rest = drop k (drop at old) in
-    omega (
-      arith,
-      length-take-le at old,
-      length-append (take at old) (new ++ rest),
-      length-append new rest,
-      length-drop k (drop at old),
-      length-drop at old,
-    )
 
 -- the same leg, so many times
 pub added_same : (times tail head n : ℕ) (ns ts ts' hs hs' : List ℕ) → take (n + times) ts' ≡ take n ts ++ replicate times tail
