@@ -11,7 +11,7 @@ use plan::Arc;
 use plan::good_plan::GoodPlan;
 use std::marker::Model;
 
-// There are `count` legs, and the first `required` of them are required arcs, whose numbers are kept too.
+// There are `count` legs. The first `required` of them are required arcs, whose numbers are kept too. Contracts see three lists.
 #[derive(Drop)]
 pub struct LaidLegs {
     numbers: [u16; 256],
@@ -21,7 +21,6 @@ pub struct LaidLegs {
     count: usize,
 }
 
-// Contracts see the lists.
 impl Model for LaidLegs {
     ghost Value = { LegLists };
 
@@ -32,6 +31,7 @@ impl Model for LaidLegs {
 }
 
 impl LaidLegs {
+    // No legs.
     fn none() -> Self
         ensures { result ≡ no_legs }
     {
@@ -76,6 +76,16 @@ impl LaidLegs {
         self.count += times;
     }
 
+    // Required arc k.
+    fn add_arc(&mut self, k: u16, a: Arc)
+        requires { (length self.old.numbers < 256) × (length self.old.tails < 526) }
+        ensures { AddedArc k (arc_value a) self.old self.new }
+    {
+        self.numbers[self.required] = k;
+        self.required += 1;
+        self.add(a.tail, a.head, 1);
+    }
+
     // A leg for each link.
     fn add_links(&mut self, tails: &[u8], heads: &[u8])
         requires { (length heads.now ≡ length tails.now) × (length self.old.tails + length tails.now ≤ 526) }
@@ -95,16 +105,6 @@ impl LaidLegs {
         for (x, amount) in amounts.iter().enumerate() {
             self.add((x / 64) as u8, (x % 64) as u8, usize::from(*amount));
         }
-    }
-
-    // Required arc k.
-    fn add_arc(&mut self, k: u16, a: Arc)
-        requires { (length self.old.numbers < 256) × (length self.old.tails < 526) }
-        ensures { AddedArc k (arc_value a) self.old self.new }
-    {
-        self.numbers[self.required] = k;
-        self.required += 1;
-        self.add(a.tail, a.head, 1);
     }
 }
 

@@ -1,8 +1,8 @@
 -- What laying the drive of an arborescence asks of its steps: the state with the links added is the
 -- balancing of the required arcs and the links.
-use Rattle.std.specs.Prelude.{◌≡◌, refl, ℕ, ◌≤◌, length, get_or, take}
+use Rattle.std.specs.Prelude.{◌≡◌, refl, ℕ, ◌≤◌, length, get_or}
 use Rattle.std.proofs.Math.Path.{sym, ap, subst⁻¹}
-use Rattle.std.proofs.Common.{ap₂, ◌∙◌, subst, arith, length-take}
+use Rattle.std.proofs.Common.{ap₂, ◌∙◌, subst, arith}
 use mathlib.Core.List.Memᴰ
 use mathlib.Core.List.{List, [], ◌∷◌, ◌++◌, map, Memᴰ, append-nil}
 use Rattle.std.proofs.lemmas.List.{length-map}
