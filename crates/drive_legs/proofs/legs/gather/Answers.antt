@@ -30,12 +30,15 @@ loop-k-preserved c =
     let p = c.args.good.now.plan in
     let b = walked_below p c.args.good.now.well_formed _ c.from-m.ensures _ c.loop-k-test.true in
     let x = get_or (take c.from-m.result p.arcs) l.k zero_record in
-    let a : record_at p.arcs l.k ≡ arc_value x = ap arc_value (sym (walked_record p c.args.good.now.well_formed _ c.from-m.ensures _ c.loop-k-test.true)) in
+    let a : record_at p.arcs l.k ≡ arc_value x
+    = ap arc_value (sym (walked_record p c.args.good.now.well_formed _ c.from-m.ensures _ c.loop-k-test.true)) in
     let e = plan_arc p l.k b ∙ a in
     let r : c.is_required.result ≡ is_required_arc (arc_value x) = search rules in
     elim c.if-is_required.branch [
-      | then-is_required w ↦ rw (w.legs-is) (noted_more (plan_value p) l.k (arc_value x) l.legs _ e (sym r ∙ w.if-is_required.true) l.invariant w.add_arc.ensures)
-      | else-is_required w ↦ rw (w.legs-is) (noted_same (plan_value p) l.k (arc_value x) l.legs e (sym r ∙ w.if-is_required.false) l.invariant)
+      | then-is_required w ↦ rw w.legs-is
+          (noted_more (plan_value p) l.k (arc_value x) l.legs _ e (sym r ∙ w.if-is_required.true) l.invariant w.add_arc.ensures)
+      | else-is_required w ↦ rw w.legs-is
+          (noted_same (plan_value p) l.k (arc_value x) l.legs e (sym r ∙ w.if-is_required.false) l.invariant)
     ]
 
 pub returns : goal.returns
@@ -43,4 +46,5 @@ returns c =
     let l = c.loop-k in
     let p = c.args.good.now.plan in
     let e = walked_all p c.args.good.now.well_formed _ c.from-m.ensures l.k (search rules) l.auto.k-end c.loop-k-test.false in
-    subst (λ z. Noted (plan_value p) z l.legs) (ap (numbers_below (plan_value p)) (e ∙ sym (plan_length p)) ∙ noted_all (plan_value p)) l.invariant
+    subst (λ z. Noted (plan_value p) z l.legs)
+    (ap (numbers_below (plan_value p)) (e ∙ sym (plan_length p)) ∙ noted_all (plan_value p)) l.invariant

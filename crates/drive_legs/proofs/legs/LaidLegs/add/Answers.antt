@@ -10,8 +10,10 @@ returns c =
     let a = c.args in
     let s = c.self.inside in
     let i = c.self.invariant in
-    let v : a.self.now ≡ record { numbers = take s.required s.numbers; tails = take s.count s.tails; heads = take s.count s.heads } = sym c.self.view_is in
-    let room : s.count + a.times ≤ 526 = omega (arith, ap (λ (z : LegLists). length z.tails) v, length-take-le s.count s.tails, c.requires, i.1, i.4) in
+    let v : a.self.now ≡ record { numbers = take s.required s.numbers; tails = take s.count s.tails; heads = take s.count s.heads }
+    = sym c.self.view_is in
+    let room : s.count + a.times ≤ 526
+    = omega (arith, ap (λ (z : LegLists). length z.tails) v, length-take-le s.count s.tails, c.requires, i.1, i.4) in
     let t : c.fill.new.self ≡ replicate a.times a.tail = search rules in
     let h : c.fill-2.new.self ≡ replicate a.times a.head = search rules in
     let k : s.count + a.times - s.count ≡ a.times = omega arith in

@@ -12,7 +12,8 @@ returns c =
     let s = c.self.inside in
     let i = c.self.invariant in
     let q = c.requires in
-    let v : a.self.now ≡ record { numbers = take s.required s.numbers; tails = take s.count s.tails; heads = take s.count s.heads } = sym c.self.view_is in
+    let v : a.self.now ≡ record { numbers = take s.required s.numbers; tails = take s.count s.tails; heads = take s.count s.heads }
+    = sym c.self.view_is in
     let room : s.count + length a.tails.now ≤ 526
     = omega (arith, ap (λ (z : LegLists). length z.tails) v, length-take-le s.count s.tails, q.1, i.1, i.4) in
     let t : c.copy_from_slice.new.self ≡ a.tails.now = search rules in
