@@ -25,7 +25,8 @@ lay-laid-requires c =
 
 pub write_circuit-requires : goal.write_circuit-requires
 write_circuit-requires c =
-    let r = laid_ready _ c.args.good.now.well_formed _ _ c.requires.completing.1 c.lay-laid.ensures c.numbers.ensures c.tails.ensures c.heads.ensures in
+    let r = laid_ready _ c.args.good.now.well_formed _ _ c.requires.completing.1 c.lay-laid.ensures
+    c.numbers.ensures c.tails.ensures c.heads.ensures in
     let z = (completion _ c.args.good.now.well_formed _ _ c.requires.completing.1).short in
     let m = length-replicate {A = ℕ} 526 0 in
     let f = r.few in
@@ -38,7 +39,8 @@ write_circuit-requires c =
 
 pub returns : goal.returns
 returns c =
-    let r = laid_ready _ c.args.good.now.well_formed _ _ c.requires.completing.1 c.lay-laid.ensures c.numbers.ensures c.tails.ensures c.heads.ensures in
+    let r = laid_ready _ c.args.good.now.well_formed _ _ c.requires.completing.1 c.lay-laid.ensures
+    c.numbers.ensures c.tails.ensures c.heads.ensures in
     let e = c.write_circuit.ensures in
     record {
       places_written = e.places_written ∙ ap (λ z. written z c.args.places.now) r.written;

@@ -1,8 +1,7 @@
 -- The legs are the required arcs, so adding them to the empty state gives the balancing of the plan.
-use mathlib.Core.Path.{◌≡◌, ap, ◌∙◌, subst⁻¹}
+use mathlib.Core.Path.{◌≡◌, subst⁻¹}
 use Prim.Native.Nat.{ℕ, ◌+◌, ◌≤◌}
 use native.Mathlib.Omega.{arith}
-use lib.ListN.{take}
 use Rattle.residual_search.specs.Step.{State, empty as empty_state}
 use Rattle.balance.specs.Invariant.{Certified}
 use Rattle.balance.specs.Laws.Arcs.{empty_certified}
@@ -17,17 +16,12 @@ room {n = n} e l = subst⁻¹ (λ (s : State). s.count + n ≤ 1000) e (omega ar
 pub add_all-requires : goal.add_all-requires
 add_all-requires c =
     let b = c.requires in
-    let laid = c.gather-arcs in
-    let g = is_gathered _ _ _ b _ _ _ _ laid.ensures.noted in
-    let t = c.tails.ensures ∙ ap (λ n. take n laid.result.tails) laid.ensures.all in
-    let h = c.heads.ensures ∙ ap (λ n. take n laid.result.heads) laid.ensures.all in
+    let g = is_gathered _ _ _ b _ c.gather-arcs.ensures in
     let e = c.empty.ensures in
     let f = g.few in
-    rw (t, h) (base_metric _ _ _ b, subst⁻¹ (Certified _ _) e (empty_certified _ _), g.same, room e (omega arith), g.tails_in, g.heads_in)
+    rw (c.tails.ensures, c.heads.ensures)
+    (base_metric _ _ _ b, subst⁻¹ (Certified _ _) e (empty_certified _ _), g.same, room e (omega arith), g.tails_in, g.heads_in)
 
 pub returns : goal.returns
 returns c =
-    let laid = c.gather-arcs in
-    let t = c.tails.ensures ∙ ap (λ n. take n laid.result.tails) laid.ensures.all in
-    let h = c.heads.ensures ∙ ap (λ n. take n laid.result.heads) laid.ensures.all in
-    base_from _ _ _ c.requires _ _ _ _ laid.ensures.noted c.empty.ensures (rw (t, h) at c.add_all.ensures.0)
+    base_from _ _ _ c.requires _ c.gather-arcs.ensures c.empty.ensures (rw (c.tails.ensures, c.heads.ensures) at c.add_all.ensures.0)
