@@ -1,6 +1,6 @@
 -- Each district is the one that is lent at its place.
 use Rattle.std.proofs.Common.{rules, ◌≡◌, ◌*◌}
-use Rattle.plan.specs.Laws.Arrays.{from_fn_each}
+use Rattle.postman_laws.specs.Laws.Arrays.{from_fn_each}
 use Rattle.district_machine.specs.Machine.{no_district}
 use Rattle.machine_bytes.specs.MachineBytes.{district_in}
 use Rattle.machine_bytes.specs.Laws.MachineBytes.{all_loaded}

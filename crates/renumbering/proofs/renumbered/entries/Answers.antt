@@ -1,7 +1,7 @@
 -- The entries, one by one.
 use Rattle.std.proofs.Common.{rules, ◌≡◌, get_or}
 use Rattle.postman.specs.Renumbering.{number_in}
-use Rattle.plan.specs.Laws.Arrays.{from_fn_each}
+use Rattle.postman_laws.specs.Laws.Arrays.{from_fn_each}
 use Rattle.renumbering.proofs.renumbered.entries.Goals as goal
 
 pub returns : goal.returns

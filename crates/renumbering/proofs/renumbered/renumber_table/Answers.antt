@@ -1,7 +1,7 @@
 -- The rows, one by one.
 use Rattle.std.proofs.Common.{rules, [], get_or}
 use Rattle.postman.specs.Renumbering.{number_in}
-use Rattle.plan.specs.Laws.Arrays.{from_fn_each}
+use Rattle.postman_laws.specs.Laws.Arrays.{from_fn_each}
 use Rattle.renumbering.specs.Renumbered.{IsRenumberedRow}
 use Rattle.renumbering.proofs.renumbered.renumber_table.Goals as goal
 
