@@ -201,7 +201,8 @@ pub fn multipliers_for<'a>(
 ) -> Best
     requires { IsBase (good_plan good.now) table.now vs.now (state_of base.now) × IsNetwork (good_plan good.now) net.now
         × (u ≡ multipliers (cell table.now) vs.now (state_of base.now) (root (good_plan good.now))) }
-    ensures { (result.multipliers ≡ multipliers_for (good_plan good.now)) × (result.bound ≡ bound_of (good_plan good.now) result.multipliers) }
+    ensures { (result.multipliers ≡ multipliers_for (good_plan good.now))
+        × (result.bound ≡ bound_of (good_plan good.now) result.multipliers) }
 {
     let setting = Setting {
         component: net.component,

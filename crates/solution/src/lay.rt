@@ -51,7 +51,8 @@ pub fn lay_held(
         × (sheet_places ≤ length sheet.old) × AreWeights (prepared_plan p.now) weights.now }
     ensures sheet_written { sheet.new
         ≡ written (tree_drive (prepared_plan p.now) (links_in (component_count (prepared_plan p.now) - 1) tails heads)) sheet.old }
-    ensures place_count { result ≡ length (tree_drive (prepared_plan p.now) (links_in (component_count (prepared_plan p.now) - 1) tails heads)) }
+    ensures place_count { result
+        ≡ length (tree_drive (prepared_plan p.now) (links_in (component_count (prepared_plan p.now) - 1) tails heads)) }
 {
     let n = usize::from(p.parts.network.components) - 1;
     lay(p, weights, &tails[..n], &heads[..n], sheet)

@@ -94,7 +94,8 @@ fn tried_on(p: &Prepared<'_>, s: &Begun, g: Reached, more: u32) -> Reached
     requires within_limits { (1 ≤ g.tried + more) × (g.tried ≤ 1000000000) × (more ≤ 1000000000) }
     ensures { (result.tried ≡ g.tried + more) × (result.cost ≡
         (tried_on (prepared_plan p.now) g.cost (links_by (prepared_plan p.now) g) g.tried more).cost)
-        × (links_by (prepared_plan p.now) result ≡ (tried_on (prepared_plan p.now) g.cost (links_by (prepared_plan p.now) g) g.tried more).links) }
+        × (links_by (prepared_plan p.now) result
+        ≡ (tried_on (prepared_plan p.now) g.cost (links_by (prepared_plan p.now) g) g.tried more).links) }
 {
     if g.tried == 0 {
         return first_tried(p, s, more);
