@@ -5,8 +5,8 @@ ghost use Rattle.plan.specs.GoodPlan.{good_plan};
 ghost use Rattle.plan.specs.Records.{arc_value};
 ghost use Rattle.components.specs.Labels.{rename, label_after, Labelled};
 
-use plan::good_plan::GoodPlan;
 use plan::Arc;
+use plan::good_plan::GoodPlan;
 
 // A label once `from` is called `to`.
 fn renamed(label: u8, from: u8, to: u8) -> u8

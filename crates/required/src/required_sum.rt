@@ -10,8 +10,8 @@ ghost use Rattle.plan.specs.Records.{arc_value};
 ghost use Rattle.required.specs.StepContracts.{IsImbalance};
 
 use integers::difference;
-use plan::good_plan::GoodPlan;
 use plan::Arc;
+use plan::good_plan::GoodPlan;
 
 // What a required arc costs on the pass that checks it; other arcs count nothing.
 fn charge(a: Arc) -> u64

@@ -7,8 +7,8 @@ ghost use Rattle.plan.specs.GoodPlan.{good_plan};
 ghost use Rattle.plan.specs.Records.{arc_value};
 ghost use Rattle.required.specs.StepContracts.{IsRequiredFlags};
 
-use plan::good_plan::GoodPlan;
 use plan::Arc;
+use plan::good_plan::GoodPlan;
 
 // Whether v is an end of the arc, and the arc required.
 fn touches(a: Arc, v: usize) -> bool

@@ -10,8 +10,8 @@ ghost use Rattle.shortest.specs.Columns.{row_from as row_from_table};
 ghost use Rattle.shortest.specs.StepContracts.{IsRow, AreWeights};
 
 use crate::columns::{row_from, settled};
-use plan::good_plan::GoodPlan;
 use plan::Arc;
+use plan::good_plan::GoodPlan;
 
 // "4,294,967,295 stands for no path".
 pub(crate) const NO_PATH: u32 = u32::MAX;
