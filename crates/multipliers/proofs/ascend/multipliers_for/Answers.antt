@@ -11,7 +11,7 @@ use Rattle.multipliers.proofs.ascend.multipliers_for.Goals as goal
 
 pub invariant_of-ascent : goal.invariant_of-ascent
 invariant_of-ascent c = record {
-  below_64 = vertices_small (cell c.args.table.now) c.args.vs.now (base_metric (plan_value c.args.plan) c.args.table.now c.args.vs.now c.requires.0.known);
+  below_64 = vertices_small (cell c.args.table.now) c.args.vs.now (base_metric (plan_value c.args.good.now.plan) c.args.table.now c.args.vs.now c.requires.0.known);
 }
 
 pub ascend-requires : goal.ascend-requires
