@@ -2,7 +2,7 @@
 // Steps for other crates, which ask something of their caller.
 ghost use Rattle.network.specs.Network.{IsNetwork};
 ghost use Rattle.call_steps.specs.Tabled.{tabled_plan};
-ghost use Rattle.std.specs.Prelude.{◌≡◌, true, false, ◌&&◌, ◌-◌, ◌≤◌, length, take};
+ghost use Rattle.std.specs.Prelude.{◌≡◌, ◌&&◌, ◌-◌, ◌≤◌, length, take};
 ghost use Rattle.std.proofs.Math.Option.{none};
 ghost use Rattle.postman.specs.Component.{component_count};
 ghost use Rattle.postman.specs.PlanCall.{sheet_places};
@@ -17,7 +17,7 @@ ghost use Rattle.tree_search.specs.Resumed.{HoldsTree};
 ghost use Rattle.solution.specs.Concluded.{concluded};
 ghost use Rattle.held_file.specs.Padded.{padded};
 ghost use Rattle.postman.specs.Refusal.{is_good};
-ghost use Rattle.district_turn.specs.DistrictTurn.{is_resumable, can_go_on, so_far, IsDistrictTurn};
+ghost use Rattle.district_turn.specs.DistrictTurn.{is_resumable, can_go_on, IsDistrictTurn};
 
 use crate::held::{first_of, is_holding};
 use call_steps::steps::network_verdict;
@@ -31,69 +31,22 @@ use solution::solve::conclude;
 use tree_search::improve::Searched;
 use tree_search::trees::{Reached, Resumed, resume};
 
-// What a turn leaves: whether what was held could be gone on from; whether the district is finished; how far
-// it is, unless it is finished; and its answer.
+// What a turn leaves: what was held could not be gone on from; or it is gone on, and how far it is; or the district is finished, with
+// its answer.
 #[derive(Clone, Copy)]
-pub struct DistrictTurn {
-    pub good: bool,
-    pub done: bool,
-    pub held: Reached,
-    pub planned: Planned,
-}
-
-// The answer before the last turn: the trees so far and their least cost.
-pub fn so_far(cost: u64, trees: u32) -> Planned
-    ensures { result ≡ so_far cost trees }
-{
-    Planned {
-        places: 0,
-        cost,
-        floor: 0,
-        trees,
-        whole: false,
-        parts: 0,
-        multipliers: [0i64; 64],
-    }
-}
-
-// What is held, where the district is not finished.
-fn unfinished(good: bool, held: Reached) -> DistrictTurn
-    ensures { (result.good ≡ good) × (result.done ≡ false) × (result.held ≡ held) × (result.planned ≡ so_far held.cost held.tried) }
-{
-    DistrictTurn {
-        good,
-        done: false,
-        held,
-        planned: so_far(held.cost, held.tried),
-    }
-}
-
-// The answer of the last turn.
-fn finished(r: Resumed, planned: Planned) -> DistrictTurn
-    ensures { (result.good ≡ true) × (result.done ≡ true) × (result.planned ≡ planned) }
-{
-    let (tails, heads) = (r.tails, r.heads);
-    DistrictTurn {
-        good: true,
-        done: true,
-        held: Reached {
-            cost: r.cost,
-            tails,
-            heads,
-            tried: r.tried,
-        },
-        planned,
-    }
+pub enum DistrictTurn {
+    Stuck,
+    Unfinished(Reached),
+    Finished(Planned),
 }
 
 // The last turn: the tree that is held is laid out.
-fn last(p: &Prepared<'_>, weights: &[[u32; 64]; 64], x: Resumed, sheet: &mut [u16]) -> DistrictTurn
+fn last(p: &Prepared<'_>, weights: &[[u32; 64]; 64], x: Resumed, sheet: &mut [u16]) -> Planned
     requires { HoldsTree (prepared_plan p.now) x.tails x.heads
         × (x.cost ≤ 4398046511104) × (sheet_places ≤ length sheet.old) × AreWeights (prepared_plan p.now) weights.now }
-    ensures is_done { (result.good ≡ true) × (result.done ≡ true)
-        × (result.planned
+    ensures answered { result
         ≡ concluded (prepared_plan p.now) (links_in (component_count (prepared_plan p.now) - 1) x.tails x.heads) x.cost x.total
-        x.whole) }
+        x.whole }
     ensures sheet_written { sheet.new
         ≡ written (tree_drive (prepared_plan p.now) (links_in (component_count (prepared_plan p.now) - 1) x.tails x.heads))
         sheet.old }
@@ -106,8 +59,7 @@ fn last(p: &Prepared<'_>, weights: &[[u32; 64]; 64], x: Resumed, sheet: &mut [u1
         tried: x.total,
         whole: x.whole,
     };
-    let planned = conclude(p, weights, s, sheet);
-    finished(x, planned)
+    conclude(p, weights, s, sheet)
 }
 
 // What is held after a turn that is not the last.
@@ -137,17 +89,17 @@ fn turn_prepared(
     ensures { IsDistrictTurn (prepared_plan p.now) budget g (is_resumable (prepared_plan p.now) budget g) sheet.old sheet.new result }
 {
     if !is_holding(p, g) {
-        return unfinished(false, g);
+        return DistrictTurn::Stuck;
     }
     let x = resume(p, budget, g);
     if x.total <= g.tried {
-        return unfinished(false, g);
+        return DistrictTurn::Stuck;
     }
     if x.tried < x.total {
         let k = usize::from(p.parts.network.components);
-        return unfinished(true, kept(x, k - 1));
+        return DistrictTurn::Unfinished(kept(x, k - 1));
     }
-    last(p, weights, x, sheet)
+    DistrictTurn::Finished(last(p, weights, x, sheet))
 }
 
 // The same, of a plan that is not refused: it is prepared.
@@ -172,13 +124,6 @@ fn turn_accepted(
     turn_prepared(&p, t.weights, budget, g, sheet)
 }
 
-// What was held cannot be gone on from: nothing moves.
-pub fn stuck(g: Reached) -> DistrictTurn
-    ensures { (result.good ≡ false) × (result.done ≡ false) }
-{
-    unfinished(false, g)
-}
-
 // The same, where the network does not refuse.
 fn turn_measured(
     t: &Tabled<'_>,
@@ -193,7 +138,7 @@ fn turn_measured(
         sheet.new result }
 {
     match network_verdict(net.components, net.cut_off) {
-        Err(_) => stuck(g),
+        Err(_) => DistrictTurn::Stuck,
         Ok(()) => turn_accepted(t, net, budget, g, sheet),
     }
 }

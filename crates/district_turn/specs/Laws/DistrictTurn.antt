@@ -5,7 +5,7 @@ use Rattle.std.proofs.Common.{sym, ap, ap₂, ◌∙◌, subst, arith, length-ta
 use Rattle.std.proofs.Math.Path.{subst⁻¹}
 use Rattle.std.proofs.Math.Bool.{true, false}
 use Rattle.std.proofs.Math.Option.{Option, none}
-use borrow.Author.Tests.{eq-eqb, ne_eqb, lt-ltb, le-ltb, lt-leb}
+use borrow.Author.Tests.{eq-eqb, ne_eqb, lt-ltb, le-ltb, lt-leb, le-leb}
 use Rattle.std.proofs.lemmas.List.{length-map}
 use Rattle.std.proofs.Math.Seq.{take-append_seam}
 use Rattle.residual_search.specs.Step.{arcs_of}
@@ -20,12 +20,17 @@ use Rattle.postman.specs.Laws.Tests.{same_test, and_both, and_parts, is_true, of
 use Rattle.postman.specs.Laws.Membership.{any_of_at, any_of_mem}
 use Rattle.postman_laws.specs.Laws.Distance.{InPlan, bounded}
 use Rattle.postman_laws.specs.Laws.Arborescence.{arborescences_mem, mem_arborescences}
+use Rattle.drive_legs.specs.Drive.{written}
+use Rattle.multipliers.specs.Drive.{tree_drive}
+use Rattle.solution.specs.declared.Planned.{Planned}
+use Rattle.solution.specs.Concluded.{concluded}
 use Rattle.tree_search.specs.declared.trees.Reached.{Reached}
 use Rattle.tree_search.specs.declared.trees.Resumed.{Resumed}
 use Rattle.tree_search.specs.Resumed.{links_by, held_after, IsResumed, HoldsTree}
 use Rattle.postman.specs.Refusal.{is_good}
-use Rattle.district_turn.specs.DistrictTurn.{same_links, is_tree, is_holding, is_resumable, reached_after, is_last, so_far, IsDistrictTurn}
+use Rattle.district_turn.specs.DistrictTurn.{same_links, is_tree, is_holding, is_resumable, reached_after, is_last, last_answer, last_sheet, turn_given, sheet_given, IsDistrictTurn}
 use Rattle.district_turn.specs.declared.plan_turn.DistrictTurn.{DistrictTurn}
+use Rattle.district_turn.specs.declared.plan_turn.DistrictTurn.TheVariants.{Stuck, Unfinished, Finished}
 use Rattle.postman.specs.Steps.{Plannable}
 use Rattle.required.specs.StepContracts.{IsLinks, IsComponents}
 use Rattle.drive_legs.specs.Filled.{links_of}
@@ -36,7 +41,6 @@ use Rattle.tree_search.specs.Laws.BestTree.{tree_small}
 use Rattle.tree_search.specs.Laws.Resumed.{HoldsCost, on_priced}
 use Rattle.tree_check.specs.Tree.{IsHeldTree}
 use Rattle.held_file.specs.Padded.{padded}
-use Rattle.district_turn.specs.Laws.Clash.{clash}
 use Rattle.tree_check.specs.Laws.Tree.{Says}
 use Rattle.district_turn.specs.Laws.HeldTree.{sound, passes}
 
@@ -114,30 +118,25 @@ and_yes b c e f = ap (λ (x : Bool). x && c) e ∙ f
 
 -- ---- the three kinds of turn
 
-module _ (p : Plan) (budget : ℕ) (g : Reached) (can : Bool) (old : List ℕ) (r : DistrictTurn) where
-  pub is_stuck : can ≡ false → r.good ≡ false → r.done ≡ false → IsDistrictTurn p budget g can old old r
-  is_stuck c a d = record {
-    good = a ∙ sym c;
-    done = d ∙ sym (and_first can (is_last p budget g) c);
-    held = λ x. absurd (clash r.good x a);
-    going = λ x. absurd (clash r.good x a);
-    last = λ x. absurd (clash r.done x d);
-    unwritten = λ x. refl;
-    sheet = λ x. absurd (clash r.done x d);
+module _ (p : Plan) (budget : ℕ) (g : Reached) (can : Bool) (old : List ℕ) where
+  -- by its two tests
+  given_by : (c l : Bool) → can ≡ c → is_last p budget g ≡ l → (new : List ℕ) (r : DistrictTurn) → r ≡ turn_given p budget g c l
+      → new ≡ sheet_given p budget g c l old → IsDistrictTurn p budget g can old new r
+  given_by c l ec el new r t s = record {
+    turned = t ∙ ap₂ (turn_given p budget g) (sym ec) (sym el);
+    sheet = s ∙ ap₂ (λ (c l : Bool). sheet_given p budget g c l old) (sym ec) (sym el);
   }
 
-  pub is_going : can ≡ true → is_last p budget g ≡ false → r.good ≡ true → r.done ≡ false → r.held ≡ reached_after p budget g
-      → r.planned ≡ so_far r.held.cost r.held.tried
-      → IsDistrictTurn p budget g can old old r
-  is_going c l a d h s = record {
-    good = a ∙ sym c;
-    done = d ∙ sym (and_no can (is_last p budget g) l);
-    held = λ x y. h;
-    going = λ x y. s ∙ ap (λ (x : Reached). so_far x.cost x.tried) h;
-    last = λ x. absurd (clash r.done x d);
-    unwritten = λ x. refl;
-    sheet = λ x. absurd (clash r.done x d);
-  }
+  pub is_stuck : can ≡ false → IsDistrictTurn p budget g can old old Stuck
+  is_stuck c = given_by false (is_last p budget g) c refl old Stuck refl refl
+
+  pub is_going : can ≡ true → is_last p budget g ≡ false → (x : Reached) → x ≡ reached_after p budget g
+      → IsDistrictTurn p budget g can old old (Unfinished x)
+  is_going c l x e = given_by true false c l old (Unfinished x) (ap Unfinished e) refl
+
+  pub is_done : can ≡ true → is_last p budget g ≡ true → (new : List ℕ) (x : Planned) → x ≡ last_answer p budget g
+      → new ≡ last_sheet p budget g old → IsDistrictTurn p budget g can old new (Finished x)
+  is_done c l new x e s = given_by true true c l new (Finished x) (ap Finished e) s
 
 -- a plan that is not refused
 pub as_good : (p : Plan) (budget : ℕ) (g : Reached) (o : Option ℕ) (can : Bool) (old new : List ℕ) (r : DistrictTurn) → o ≡ none
@@ -159,6 +158,17 @@ module _ (p : Plan) (ok : Plannable p) (few : component_count p ≤ 8) (budget :
 
   pub going_on : g.tried < r.total → r.tried < r.total → is_last p budget g ≡ false
   going_on l m = let a = h.total in let b = h.tried in lt-leb (tried_count p budget) (g.tried + 1000) (omega arith)
+
+  pub comes_last : r.total ≤ r.tried → is_last p budget g ≡ true
+  comes_last m = let a = h.total in let b = h.tried in le-leb (tried_count p budget) (g.tried + 1000) (omega arith)
+
+  -- the last answer, and what is written for it
+  pub last_is : concluded p (links_in (component_count p - 1) r.tails r.heads) r.cost r.total r.whole ≡ last_answer p budget g
+  last_is = λ i. concluded p (h.links_are i) (h.cost_is i) (h.total i) (h.whole i)
+
+  pub last_written : (old : List ℕ)
+      → written (tree_drive p (links_in (component_count p - 1) r.tails r.heads)) old ≡ last_sheet p budget g old
+  last_written old = ap (λ (ls : List Link). written (tree_drive p ls) old) h.links_are
 
   -- a tree and its cost
   pub priced_after : is_holding p g ≡ true → g.tried < r.total → HoldsCost p ok (held_after p budget g)
