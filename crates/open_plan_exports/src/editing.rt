@@ -1,6 +1,5 @@
 // An open plan, for callers in other languages. The state is lent: five files one after the other, that of the open plan and those of marks
 // 0 to 3, each as the two bytes of its length, the high one first, and 1,475 bytes. Whatever these bytes are, they are a state.
-ghost use Rattle.std.specs.Prelude.{length};
 ghost use Rattle.postman.specs.OpenPlan.{change as a_change, mark as a_mark, return as a_return};
 ghost use Rattle.shut_arcs.specs.Fields.{departure};
 ghost use Rattle.held_file.specs.Change.{change_of};
