@@ -14,8 +14,8 @@ pub invariant_of-under-clause-well_formed : goal.invariant_of-under-clause-well_
 invariant_of-under-clause-well_formed c =
     subst⁻¹ WellFormed c.renumber-q.ensures (under_well_formed _ c.args.m.now.good.now.well_formed _ c.requires.1.numbers)
 
-pub invariant_of-under-clause-has_table : goal.invariant_of-under-clause-has_table
-invariant_of-under-clause-has_table c =
+pub invariant_of-under-2-clause-has_table : goal.invariant_of-under-2-clause-has_table
+invariant_of-under-2-clause-has_table c =
     let ok = c.args.m.now.good.now.well_formed in
     let x = c.requires.1.numbers in
     let t = c.renumber_table-d in

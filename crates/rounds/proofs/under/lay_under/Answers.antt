@@ -21,8 +21,8 @@ pub invariant_of-under-clause-well_formed : goal.invariant_of-under-clause-well_
 invariant_of-under-clause-well_formed c =
     subst⁻¹ WellFormed c.renumber-q.ensures (under_well_formed _ c.args.t.now.good.now.well_formed _ c.requires.1.numbers)
 
-pub invariant_of-under-clause-has_table : goal.invariant_of-under-clause-has_table
-invariant_of-under-clause-has_table c =
+pub invariant_of-under-2-clause-has_table : goal.invariant_of-under-2-clause-has_table
+invariant_of-under-2-clause-has_table c =
     let m = c.args.t.now in
     let t = c.renumber_table-d in
     let long : length t.result ≡ 64 = t.type_inv.1.0.1 in
@@ -30,8 +30,8 @@ invariant_of-under-clause-has_table c =
     (under_table _ m.good.now.well_formed _ c.requires.1.numbers _ t.result m.has_table long
     (λ i l. rows t.result t.type_inv.0 t.type_inv.1.1 i (omega arith)) t.ensures)
 
-pub invariant_of-under-clause-weighed : goal.invariant_of-under-clause-weighed
-invariant_of-under-clause-weighed c =
+pub invariant_of-under-2-clause-weighed : goal.invariant_of-under-2-clause-weighed
+invariant_of-under-2-clause-weighed c =
     let m = c.args.t.now in
     let w = c.renumber_table-w in
     subst⁻¹ (λ (r : Plan). AreWeights r w.result) c.renumber-q.ensures

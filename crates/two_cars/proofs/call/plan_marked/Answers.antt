@@ -21,12 +21,12 @@ pub invariant_of-plan_tabled-clause-well_formed : goal.invariant_of-plan_tabled-
 invariant_of-plan_tabled-clause-well_formed c =
     subst⁻¹ WellFormed c.car_plan.ensures (car_well_formed _ _ c.args.t.now.good.now.well_formed)
 
-pub invariant_of-plan_tabled-clause-has_table : goal.invariant_of-plan_tabled-clause-has_table
-invariant_of-plan_tabled-clause-has_table c =
+pub invariant_of-plan_tabled-2-clause-has_table : goal.invariant_of-plan_tabled-2-clause-has_table
+invariant_of-plan_tabled-2-clause-has_table c =
     table_shared _ _ c.args.t.now.table.now c.args.t.now.has_table ∙ ap table_of (sym c.car_plan.ensures)
 
-pub invariant_of-plan_tabled-clause-weighed : goal.invariant_of-plan_tabled-clause-weighed
-invariant_of-plan_tabled-clause-weighed c =
+pub invariant_of-plan_tabled-2-clause-weighed : goal.invariant_of-plan_tabled-2-clause-weighed
+invariant_of-plan_tabled-2-clause-weighed c =
     subst⁻¹ (λ (p : Plan). AreWeights p c.args.t.now.weights.now) c.car_plan.ensures (weights_shared _ _ c.args.t.now.weights.now c.args.t.now.weighed)
 
 pub returns-then-has_bad_mark : goal.returns-then-has_bad_mark
