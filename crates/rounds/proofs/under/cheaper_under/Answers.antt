@@ -14,14 +14,16 @@ pub invariant_of-under-clause-well_formed : goal.invariant_of-under-clause-well_
 invariant_of-under-clause-well_formed c =
     subst⁻¹ WellFormed c.renumber-q.ensures (under_well_formed _ c.args.m.now.good.now.well_formed _ c.requires.1.numbers)
 
-pub invariant_of-under-2-clause-has_table : goal.invariant_of-under-2-clause-has_table
-invariant_of-under-2-clause-has_table c =
+pub invariant_of-under-2 : goal.invariant_of-under-2
+invariant_of-under-2 c =
     let ok = c.args.m.now.good.now.well_formed in
     let x = c.requires.1.numbers in
     let t = c.renumber_table-d in
     let long : length t.result ≡ 64 = t.type_inv.1.0.1 in
-    subst⁻¹ (λ (r : Plan). t.result ≡ table_of r) c.renumber-q.ensures
-    (under_table _ ok _ x _ t.result c.args.m.now.has_table long (λ i l. rows t.result t.type_inv.0 t.type_inv.1.1 i (omega arith)) t.ensures)
+    record {
+      has_table = subst⁻¹ (λ (r : Plan). t.result ≡ table_of r) c.renumber-q.ensures
+          (under_table _ ok _ x _ t.result c.args.m.now.has_table long (λ i l. rows t.result t.type_inv.0 t.type_inv.1.1 i (omega arith)) t.ensures);
+    }
 
 pub cheaper_tabled-requires : goal.cheaper_tabled-requires
 cheaper_tabled-requires c =
