@@ -28,7 +28,8 @@ returns-then-x c =
     let some : g.tried < r.total = (let l = c.if-x-g.false in omega arith) in
     let lt : length r.tails ≡ 8 = search (rules, x.type_inv) in
     let lh : length r.heads ≡ 8 = search (rules, x.type_inv) in
-    let n : c.from-k.result - 1 ≡ component_count p - 1 = ap (λ k. k - 1) (c.from-k.ensures ∙ c.args.p.now.prepared.network.components.all) in
+    let n : c.from-k.result - 1 ≡ component_count p - 1 =
+    ap (λ k. k - 1) (c.from-k.ensures ∙ c.args.p.now.prepared.network.components.all) in
     is_going p c.args.budget g _ _ (some_left p b.plannable b.few c.args.budget c.requires.1 g r h i some)
     (going_on p b.plannable b.few c.args.budget c.requires.1 g r h some c.if-x.true) _
     (held_after_lem p b.plannable b.few c.args.budget c.requires.1 g r h lt lh (c.from-k.result - 1) n c.kept.result c.kept.ensures)
@@ -45,5 +46,9 @@ last-requires c =
     let h = x.ensures in
     let some : g.tried < r.total = (let l = c.if-x-g.false in omega arith) in
     let lt : length r.tails ≡ 8 = search (rules, x.type_inv) in
-    let lh : length r.heads ≡ 8 = search (rules, x.type_inv) in
-    (after_tree p b.plannable b.few c.args.budget c.requires.1 g r h lt lh i some, after_small p b.plannable b.few c.args.budget c.requires.1 g r h lt lh i some, c.requires.2, c.requires.3)
+    let lh : length r.heads ≡ 8 = search (rules, x.type_inv) in (
+      after_tree p b.plannable b.few c.args.budget c.requires.1 g r h lt lh i some,
+      after_small p b.plannable b.few c.args.budget c.requires.1 g r h lt lh i some,
+      c.requires.2,
+      c.requires.3,
+    )
