@@ -1,11 +1,10 @@
--- A turn, by its three kinds: what is held cannot be gone on from; it can, and trees are left; none is left. The
--- test for a tree is by the list of all trees.
+-- A turn, where what is held cannot be gone on from, and where it can and trees are left. The test for a tree is by the list of all trees.
 use Rattle.std.specs.Prelude.{◌≡◌, refl, Bool, ◌&&◌, List, [], ◌∷◌, map, ℕ, ◌+◌, ◌-◌, ◌≤◌, ◌<◌, min, length, take, replicate, T, ltb}
 use Rattle.std.proofs.Common.{sym, ap, ap₂, ◌∙◌, subst, arith, length-take, eqb→eq}
 use Rattle.std.proofs.Math.Path.{subst⁻¹}
 use Rattle.std.proofs.Math.Bool.{true, false}
 use Rattle.std.proofs.Math.Option.{Option, none}
-use borrow.Author.Tests.{eq-eqb, ne_eqb, lt-ltb, le-ltb, lt-leb, le-leb}
+use borrow.Author.Tests.{eq-eqb, ne_eqb, lt-ltb, lt-leb}
 use Rattle.std.proofs.lemmas.List.{length-map}
 use Rattle.std.proofs.Math.Seq.{take-append_seam}
 use Rattle.residual_search.specs.Step.{arcs_of}
@@ -20,17 +19,13 @@ use Rattle.postman.specs.Laws.Tests.{same_test, and_both, and_parts, is_true, of
 use Rattle.postman.specs.Laws.Membership.{any_of_at, any_of_mem}
 use Rattle.postman_laws.specs.Laws.Distance.{InPlan, bounded}
 use Rattle.postman_laws.specs.Laws.Arborescence.{arborescences_mem, mem_arborescences}
-use Rattle.drive_legs.specs.Drive.{written}
-use Rattle.multipliers.specs.Drive.{tree_drive}
-use Rattle.solution.specs.declared.Planned.{Planned}
-use Rattle.solution.specs.Concluded.{concluded}
 use Rattle.tree_search.specs.declared.trees.Reached.{Reached}
 use Rattle.tree_search.specs.declared.trees.Resumed.{Resumed}
 use Rattle.tree_search.specs.Resumed.{links_by, held_after, IsResumed, HoldsTree}
 use Rattle.postman.specs.Refusal.{is_good}
-use Rattle.district_turn.specs.DistrictTurn.{same_links, is_tree, is_holding, is_resumable, reached_after, is_last, last_answer, last_sheet, turn_given, sheet_given, IsDistrictTurn}
+use Rattle.district_turn.specs.DistrictTurn.{same_links, is_tree, is_holding, is_resumable, reached_after, is_last, turn_given, sheet_given, IsDistrictTurn}
 use Rattle.district_turn.specs.declared.plan_turn.DistrictTurn.{DistrictTurn}
-use Rattle.district_turn.specs.declared.plan_turn.DistrictTurn.TheVariants.{Stuck, Unfinished, Finished}
+use Rattle.district_turn.specs.declared.plan_turn.DistrictTurn.TheVariants.{Stuck, Unfinished}
 use Rattle.postman.specs.Steps.{Plannable}
 use Rattle.required.specs.StepContracts.{IsLinks, IsComponents}
 use Rattle.drive_legs.specs.Filled.{links_of}
@@ -116,27 +111,21 @@ and_first b c e = ap (λ (x : Bool). x && c) e
 pub and_yes : (b c : Bool) → b ≡ true → c ≡ true → (b && c) ≡ true
 and_yes b c e f = ap (λ (x : Bool). x && c) e ∙ f
 
--- ---- the three kinds of turn
+-- ---- a turn that is not the last
 
 module _ (p : Plan) (budget : ℕ) (g : Reached) (can : Bool) (old : List ℕ) where
-  -- by its two tests
-  given_by : (c l : Bool) → can ≡ c → is_last p budget g ≡ l → (new : List ℕ) (r : DistrictTurn) → r ≡ turn_given p budget g c l
-      → new ≡ sheet_given p budget g c l old → IsDistrictTurn p budget g can old new r
-  given_by c l ec el new r t s = record {
-    turned = t ∙ ap₂ (turn_given p budget g) (sym ec) (sym el);
-    sheet = s ∙ ap₂ (λ (c l : Bool). sheet_given p budget g c l old) (sym ec) (sym el);
-  }
-
   pub is_stuck : can ≡ false → IsDistrictTurn p budget g can old old Stuck
-  is_stuck c = given_by false (is_last p budget g) c refl old Stuck refl refl
+  is_stuck c = record {
+    turned = ap (λ (b : Bool). turn_given p budget g b (is_last p budget g)) (sym c);
+    sheet = ap (λ (b : Bool). sheet_given p budget g b (is_last p budget g) old) (sym c);
+  }
 
   pub is_going : can ≡ true → is_last p budget g ≡ false → (x : Reached) → x ≡ reached_after p budget g
       → IsDistrictTurn p budget g can old old (Unfinished x)
-  is_going c l x e = given_by true false c l old (Unfinished x) (ap Unfinished e) refl
-
-  pub is_done : can ≡ true → is_last p budget g ≡ true → (new : List ℕ) (x : Planned) → x ≡ last_answer p budget g
-      → new ≡ last_sheet p budget g old → IsDistrictTurn p budget g can old new (Finished x)
-  is_done c l new x e s = given_by true true c l new (Finished x) (ap Finished e) s
+  is_going c l x e = record {
+    turned = ap Unfinished e ∙ ap₂ (turn_given p budget g) (sym c) (sym l);
+    sheet = ap₂ (λ (b d : Bool). sheet_given p budget g b d old) (sym c) (sym l);
+  }
 
 -- a plan that is not refused
 pub as_good : (p : Plan) (budget : ℕ) (g : Reached) (o : Option ℕ) (can : Bool) (old new : List ℕ) (r : DistrictTurn) → o ≡ none
@@ -148,27 +137,12 @@ as_good p budget g o can old new r e h = subst⁻¹ (λ (o : Option ℕ). IsDist
 
 module _ (p : Plan) (ok : Plannable p) (few : component_count p ≤ 8) (budget : ℕ) (one : 1 ≤ budget) (g : Reached) (r : Resumed)
     (h : IsResumed p budget g r) where
-  pub none_left : r.total ≤ g.tried → is_resumable p budget g ≡ false
-  none_left l = let e = h.total in
-      and_no (is_holding p g) (ltb g.tried (tried_count p budget)) (le-ltb g.tried (tried_count p budget) (omega arith))
-
   pub some_left : is_holding p g ≡ true → g.tried < r.total → is_resumable p budget g ≡ true
   some_left i l = let e = h.total in
       and_yes (is_holding p g) (ltb g.tried (tried_count p budget)) i (lt-ltb g.tried (tried_count p budget) (omega arith))
 
   pub going_on : g.tried < r.total → r.tried < r.total → is_last p budget g ≡ false
   going_on l m = let a = h.total in let b = h.tried in lt-leb (tried_count p budget) (g.tried + 1000) (omega arith)
-
-  pub comes_last : r.total ≤ r.tried → is_last p budget g ≡ true
-  comes_last m = let a = h.total in let b = h.tried in le-leb (tried_count p budget) (g.tried + 1000) (omega arith)
-
-  -- the last answer, and what is written for it
-  pub last_is : concluded p (links_in (component_count p - 1) r.tails r.heads) r.cost r.total r.whole ≡ last_answer p budget g
-  last_is = λ i. concluded p (h.links_are i) (h.cost_is i) (h.total i) (h.whole i)
-
-  pub last_written : (old : List ℕ)
-      → written (tree_drive p (links_in (component_count p - 1) r.tails r.heads)) old ≡ last_sheet p budget g old
-  last_written old = ap (λ (ls : List Link). written (tree_drive p ls) old) h.links_are
 
   -- a tree and its cost
   pub priced_after : is_holding p g ≡ true → g.tried < r.total → HoldsCost p ok (held_after p budget g)

@@ -107,10 +107,6 @@ module _ (m : Machine) (f : DistrictRecord) (ds : List DistrictRecord) (ahead : 
       at true false can last is w =
           as_met (goes_on f ds) (going_met m f ds ahead (length old) enough few own can last) _ is refl refl refl w
 
--- a turn's answer, by its parts
-pub turned_is : (r x : Turned) → r.outcome ≡ x.outcome → r.planned ≡ x.planned → r.machine ≡ x.machine → r ≡ x
-turned_is r x a b c = λ i. record { outcome = a i; planned = b i; machine = c i }
-
 -- ---- its place
 
 pub no_place : (d : DistrictRecord) (ds : List DistrictRecord) → 8 ≤ d.place → has_own_place d ds ≡ false

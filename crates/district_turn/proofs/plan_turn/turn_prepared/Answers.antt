@@ -8,21 +8,12 @@ use Rattle.plan.specs.Records.{plan_value}
 use Rattle.postman.specs.Component.{component_count}
 use Rattle.preparation.specs.Laws.Preparation.{component_range}
 use Rattle.district_turn.specs.DistrictTurn.{is_holding}
-use Rattle.district_turn.specs.Laws.DistrictTurn.{and_first, is_stuck, is_going, is_done, none_left, some_left, going_on, comes_last, last_is, last_written, after_tree, after_small, held_after_lem}
+use Rattle.district_turn.specs.Laws.DistrictTurn.{is_going, some_left, going_on, after_tree, after_small, held_after_lem}
 use borrow.Author.Rules.{rules}
 use Rattle.district_turn.proofs.plan_turn.turn_prepared.Goals as goal
 
 pub overflow_sub-k : goal.overflow_sub-k
 overflow_sub-k c = rw c.from-k.ensures ((component_range _ _ _ c.args.p.now.prepared).0)
-
-pub returns-then-not-is_holding : goal.returns-then-not-is_holding
-returns-then-not-is_holding c = is_stuck _ _ _ _ _ (and_first _ _ (sym c.is_holding.ensures ∙ c.if-not-is_holding.true))
-
-pub returns-then-x-g : goal.returns-then-x-g
-returns-then-x-g c =
-    let b = c.args.p.now.prepared.base.known in
-    let p = plan_value c.args.p.now.good.now.plan in
-    is_stuck _ _ _ _ _ (none_left p b.plannable b.few c.args.budget c.requires.1 c.args.g c.resume-x.result c.resume-x.ensures c.if-x-g.true)
 
 pub returns-then-x : goal.returns-then-x
 returns-then-x c =
@@ -37,7 +28,8 @@ returns-then-x c =
     let some : g.tried < r.total = (let l = c.if-x-g.false in omega arith) in
     let lt : length r.tails ≡ 8 = search (rules, x.type_inv) in
     let lh : length r.heads ≡ 8 = search (rules, x.type_inv) in
-    let n : c.from-k.result - 1 ≡ component_count p - 1 = ap (λ k. k - 1) (c.from-k.ensures ∙ c.args.p.now.prepared.network.components.all) in
+    let n : c.from-k.result - 1 ≡ component_count p - 1 =
+    ap (λ k. k - 1) (c.from-k.ensures ∙ c.args.p.now.prepared.network.components.all) in
     is_going p c.args.budget g _ _ (some_left p b.plannable b.few c.args.budget c.requires.1 g r h i some)
     (going_on p b.plannable b.few c.args.budget c.requires.1 g r h some c.if-x.true) _
     (held_after_lem p b.plannable b.few c.args.budget c.requires.1 g r h lt lh (c.from-k.result - 1) n c.kept.result c.kept.ensures)
@@ -54,22 +46,9 @@ last-requires c =
     let h = x.ensures in
     let some : g.tried < r.total = (let l = c.if-x-g.false in omega arith) in
     let lt : length r.tails ≡ 8 = search (rules, x.type_inv) in
-    let lh : length r.heads ≡ 8 = search (rules, x.type_inv) in
-    (after_tree p b.plannable b.few c.args.budget c.requires.1 g r h lt lh i some, after_small p b.plannable b.few c.args.budget c.requires.1 g r h lt lh i some, c.requires.2, c.requires.3)
-
-pub returns : goal.returns
-returns c =
-    let b = c.args.p.now.prepared.base.known in
-    let p = plan_value c.args.p.now.good.now.plan in
-    let g = c.args.g in
-    let t = c.is_holding in
-    let i : is_holding p g ≡ true = sym t.ensures ∙ c.if-not-is_holding.false in
-    let x = c.resume-x in
-    let r = x.result in
-    let h = x.ensures in
-    let some : g.tried < r.total = (let l = c.if-x-g.false in omega arith) in
-    let e = c.last.ensures in
-    is_done p c.args.budget g _ _ (some_left p b.plannable b.few c.args.budget c.requires.1 g r h i some)
-    (comes_last p b.plannable b.few c.args.budget c.requires.1 g r h c.if-x.false) _ _
-    (e.answered ∙ last_is p b.plannable b.few c.args.budget c.requires.1 g r h)
-    (e.sheet_written ∙ last_written p b.plannable b.few c.args.budget c.requires.1 g r h _)
+    let lh : length r.heads ≡ 8 = search (rules, x.type_inv) in (
+      after_tree p b.plannable b.few c.args.budget c.requires.1 g r h lt lh i some,
+      after_small p b.plannable b.few c.args.budget c.requires.1 g r h lt lh i some,
+      c.requires.2,
+      c.requires.3,
+    )

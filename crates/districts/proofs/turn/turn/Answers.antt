@@ -15,7 +15,8 @@ pub returns-then-n-eq0 : goal.returns-then-n-eq0
 returns-then-n-eq0 c =
     let m = c.args.m in
     let long : length c.args.m.line ≡ 8 = search (rules, c.well_formed) in
-    turned_as m _ _ c.still.result nobody (none_met m _ c.if-n-eq0.true) c.still.ensures.0 (c.still.ensures.1 ∙ ap Ok c.so_far.ensures) c.still.ensures.2 refl
+    let e = c.still.ensures in
+    turned_as m _ _ c.still.result nobody (none_met m _ c.if-n-eq0.true) e.0 (e.1 ∙ ap Ok c.so_far.ensures) e.2 refl
 
 pub returns-then-sheet-lt17266 : goal.returns-then-sheet-lt17266
 unfolding sheet_places
@@ -26,7 +27,9 @@ returns-then-sheet-lt17266 c =
     let f = get_or m.line 0 no_district in
     let ds = drop 1 (waiting_in m) in
     let ahead = ahead_is m long some in
-    turned_as m _ _ c.still-then-sheet-lt17266.result short_sheet (short_met m f ds ahead _ c.if-sheet-lt17266.true) c.still-then-sheet-lt17266.ensures.0 c.still-then-sheet-lt17266.ensures.1 c.still-then-sheet-lt17266.ensures.2 refl
+    let t = c.still-then-sheet-lt17266 in
+    let e = t.ensures in
+    turned_as m _ _ t.result short_sheet (short_met m f ds ahead _ c.if-sheet-lt17266.true) e.0 e.1 e.2 refl
 
 pub returns-then-n-gt8 : goal.returns-then-n-gt8
 unfolding sheet_places
@@ -37,7 +40,10 @@ returns-then-n-gt8 c =
     let f = get_or m.line 0 no_district in
     let ds = drop 1 (waiting_in m) in
     let ahead = ahead_is m long some in
-    turned_as m _ _ c.still-then-n-gt8.result stuck (crowd_met m f ds ahead _ c.if-sheet-lt17266.false c.if-n-gt8.true) c.still-then-n-gt8.ensures.0 (c.still-then-n-gt8.ensures.1 ∙ ap Ok c.so_far.ensures) c.still-then-n-gt8.ensures.2 refl
+    let t = c.still-then-n-gt8 in
+    let e = t.ensures in
+    turned_as m _ _ t.result stuck (crowd_met m f ds ahead _ c.if-sheet-lt17266.false c.if-n-gt8.true) e.0
+    (e.1 ∙ ap Ok c.so_far.ensures) e.2 refl
 
 pub returns-then-not-has_own_place : goal.returns-then-not-has_own_place
 unfolding sheet_places
@@ -50,7 +56,9 @@ returns-then-not-has_own_place c =
     let ahead = ahead_is m long some in
     let t = c.has_own_place in
     let own = sym (t.ensures f refl ∙ own_as f c.left-others.result ds c.left-others.ensures) ∙ c.if-not-has_own_place.true in
-    turned_as m _ _ c.still-then-not-has_own_place.result stuck (other_met m f ds ahead _ c.if-sheet-lt17266.false own) c.still-then-not-has_own_place.ensures.0 (c.still-then-not-has_own_place.ensures.1 ∙ ap Ok c.so_far.ensures) c.still-then-not-has_own_place.ensures.2 refl
+    let s = c.still-then-not-has_own_place in
+    let e = s.ensures in
+    turned_as m _ _ s.result stuck (other_met m f ds ahead _ c.if-sheet-lt17266.false own) e.0 (e.1 ∙ ap Ok c.so_far.ensures) e.2 refl
 
 pub served-requires : goal.served-requires
 unfolding sheet_places
