@@ -23,24 +23,13 @@ pub fn words(r: Planned) -> [u64; 6]
     ]
 }
 
-// As many words as there is room for.
-pub fn put_words(words: [u64; 6], lent: &mut [u64])
-    ensures { lent.new ≡ put_first words lent.old }
+// As many values as there is room for.
+#[tactic(auto, unfolding(crate::specs::Answer::put_first))]
+pub fn put_first<T: Copy>(values: &[T], lent: &mut [T])
+    ensures { lent.new ≡ put_first values.now lent.old }
 {
-    let n = at_most(lent.len(), 6);
-    for i in 0..n {
-        lent[i] = words[i];
-    }
-}
-
-// As many multipliers as there is room for.
-pub fn put_multipliers(u: [i64; 64], lent: &mut [i64])
-    ensures { lent.new ≡ put_first u lent.old }
-{
-    let n = at_most(lent.len(), 64);
-    for i in 0..n {
-        lent[i] = u[i];
-    }
+    let n = at_most(lent.len(), values.len());
+    lent[..n].copy_from_slice(&values[..n]);
 }
 
 // An answer that is no refusal goes into the lent slices.
@@ -49,8 +38,8 @@ pub fn hand_over(r: Result<Planned, Refusal>, words_lent: &mut [u64], u_lent: &m
 {
     match r {
         Ok(planned) => {
-            put_words(words(planned), words_lent);
-            put_multipliers(planned.multipliers, u_lent);
+            put_first(&words(planned), words_lent);
+            put_first(&planned.multipliers, u_lent);
             0
         }
         Err(q) => refused_number(q),

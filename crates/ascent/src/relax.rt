@@ -2,11 +2,11 @@
 // changed asks of all others, until none is open.
 ghost use Rattle.std.specs.Prelude.{◌≡◌, ◌&&◌, ◌<◌, eqb};
 ghost use Rattle.integers.specs.Linear.{Within};
-ghost use Rattle.residual_search.specs.Bounds.{AtMost};
 ghost use Rattle.residual_search.specs.Search.{beyond};
 ghost use Rattle.ascent.specs.Relax.{back_place, is_ahead, asks, overtakes as overtakesIn, move_vertex, move_all, ask as askAll, sweep as sweepAll, are_closed, settled};
 
 use multiplier_steps::steps::{capped, capped_all};
+use residual_search::vertex_list::VertexList;
 
 // Where the amount stands that decides what w asks of v.
 fn place(up: bool, v: usize, w: usize) -> usize
@@ -47,7 +47,7 @@ fn overtakes(up: bool, c: i64, old: i64) -> bool
 pub(crate) struct Pairs<'a> {
     pub(crate) d: &'a [[u32; 64]; 64],
     pub(crate) f: &'a [u16; 4096],
-    pub(crate) vs: &'a [u8],
+    pub(crate) vs: VertexList<'a>,
     pub(crate) up: bool,
 }
 
@@ -69,20 +69,20 @@ impl<'a> Pairs<'a> {
     // All follow what w asks.
     #[tactic(auto, using(multiplier_steps::specs::Laws::Turns::turn_by_turn), unfolding(crate::specs::Relax::move_all))]
     fn move_all(&self, w: usize, base: i64, x: &mut [i64; 64], marks: &mut [u8; 64])
-        requires { (w < 64) × Within beyond base × AtMost 63 self.now.vs.now }
+        requires { (w < 64) × Within beyond base }
         ensures { (x.new, marks.new)
-            ≡ move_all self.now.d.now self.now.f.now self.now.up self.now.vs.now w base (x.old, marks.old) }
+            ≡ move_all self.now.d.now self.now.f.now self.now.up self.now.vs.vertices.now w base (x.old, marks.old) }
     {
-        for &v in self.vs {
+        for &v in self.vs.vertices {
             self.move_vertex(usize::from(v), w, base, x, marks);
         }
     }
 
     // w asks, if it is open.
     fn ask(&self, w: usize, x: &mut [i64; 64], marks: &mut [u8; 64])
-        requires { (w < 64) × AtMost 63 self.now.vs.now }
+        requires { w < 64 }
         ensures { (x.new, marks.new)
-            ≡ askAll self.now.d.now self.now.f.now self.now.up self.now.vs.now (x.old, marks.old) w }
+            ≡ askAll self.now.d.now self.now.f.now self.now.up self.now.vs.vertices.now (x.old, marks.old) w }
     {
         if marks[w] > 0 {
             marks[w] = 0;
@@ -94,19 +94,17 @@ impl<'a> Pairs<'a> {
     // Each open vertex asks once.
     #[tactic(auto, using(multiplier_steps::specs::Laws::Turns::turn_by_turn), unfolding(crate::specs::Relax::sweep))]
     fn sweep(&self, x: &mut [i64; 64], marks: &mut [u8; 64])
-        requires { AtMost 63 self.now.vs.now }
         ensures { (x.new, marks.new)
-            ≡ sweepAll self.now.d.now self.now.f.now self.now.up self.now.vs.now (x.old, marks.old) }
+            ≡ sweepAll self.now.d.now self.now.f.now self.now.up self.now.vs.vertices.now (x.old, marks.old) }
     {
-        for &w in self.vs {
+        for &w in self.vs.vertices {
             self.ask(usize::from(w), x, marks);
         }
     }
 
     // The multipliers under the two conditions: the largest that each allows the others, or, up, the least. Capped, so that they are small.
     pub(crate) fn settle(&self, x: [i64; 64]) -> [i64; 64]
-        requires { AtMost 63 self.now.vs.now }
-        ensures { result ≡ settled self.now.d.now self.now.f.now self.now.up self.now.vs.now x }
+        ensures { result ≡ settled self.now.d.now self.now.f.now self.now.up self.now.vs.vertices.now x }
     {
         let mut y = x;
         let mut marks: [u8; 64] = [1; 64];
@@ -121,9 +119,8 @@ impl<'a> Pairs<'a> {
 }
 
 // Whether no vertex is open.
-fn all_closed(marks: &[u8; 64], vs: &[u8]) -> bool
-    requires { AtMost 63 vs.now }
-    ensures { result ≡ are_closed vs.now marks.now }
+fn all_closed(marks: &[u8; 64], vs: VertexList) -> bool
+    ensures { result ≡ are_closed vs.entry.vertices.now marks.now }
 {
-    vs.iter().all(|&v| marks[usize::from(v)] == 0)
+    vs.vertices.iter().all(|&v| marks[usize::from(v)] == 0)
 }

@@ -2,7 +2,6 @@
 // Steps for other crates, which ask something of their caller.
 ghost use Rattle.std.specs.Prelude.{◌≡◌, ◌&&◌, ◌<◌, ◌≤◌};
 ghost use Rattle.std.specs.Int.Signed.{le_z};
-ghost use Rattle.residual_search.specs.Bounds.{AtMost};
 ghost use Rattle.residual_search.specs.Search.{beyond};
 ghost use Rattle.multiplier_steps.specs.Steps.{AreSmall};
 ghost use Rattle.ascent.specs.Step.{are_unmoved, step as step_from};
@@ -13,6 +12,7 @@ use arborescence::reach::single;
 use ascent_tree::offers::offers;
 use ascent_tree::tree::{follow, grow};
 use multiplier_steps::steps::carry_on;
+use residual_search::vertex_list::VertexList;
 
 // The multipliers after a step, the cost of the tree at those before it, and whether that tree is balanced.
 #[derive(Clone, Copy)]
@@ -30,11 +30,11 @@ fn alike(x: i64, y: i64) -> bool
 }
 
 // Whether two lists of multipliers are the same.
-fn same(vs: &[u8], x: &[i64; 64], y: &[i64; 64]) -> bool
-    requires { AtMost 63 vs.now }
-    ensures { result ≡ are_unmoved vs.now x.now y.now }
+fn same(vs: VertexList, x: &[i64; 64], y: &[i64; 64]) -> bool
+    ensures { result ≡ are_unmoved vs.entry.vertices.now x.now y.now }
 {
-    vs.iter()
+    vs.vertices
+        .iter()
         .all(|&v| alike(x[usize::from(v)], y[usize::from(v)]))
 }
 
@@ -42,7 +42,7 @@ fn same(vs: &[u8], x: &[i64; 64], y: &[i64; 64]) -> bool
 pub fn step<'a>(
     d: &'a [[u32; 64]; 64],
     f: &'a [u16; 4096],
-    vs: &'a [u8],
+    vs: VertexList<'a>,
     component: &[u8; 64],
     k: usize,
     up: bool,
@@ -50,8 +50,8 @@ pub fn step<'a>(
     x: &[i64; 64],
     before: &[i64; 64],
 ) -> Stepped
-    requires { AtMost 63 vs.now × (1 ≤ k) × (k ≤ 8) × (s ≤ beyond) × AreSmall beyond x.now × AreSmall beyond before.now }
-    ensures { step_of result ≡ step_from d.now f.now vs.now component.now k up s x.now
+    requires { (1 ≤ k) × (k ≤ 8) × (s ≤ beyond) × AreSmall beyond x.now × AreSmall beyond before.now }
+    ensures { step_of result ≡ step_from d.now f.now vs.entry.vertices.now component.now k up s x.now
         before.now }
 {
     let o = offers(d, x, component, vs);

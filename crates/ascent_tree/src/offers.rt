@@ -1,12 +1,12 @@
 // The cheapest pair for each two components.
 // Steps for other crates, which ask something of their caller.
 ghost use Rattle.std.specs.Prelude.{◌≡◌, ◌*◌, ◌<◌, pos, get_or};
-ghost use Rattle.residual_search.specs.Bounds.{AtMost};
 ghost use Rattle.residual_search.specs.Search.{beyond};
 ghost use Rattle.multiplier_steps.specs.Steps.{AreSmall};
 ghost use Rattle.ascent_tree.specs.Offers.{part, offer, offers_from, offers as offersOf};
 
 use pair_costs::pairs::reduced;
+use residual_search::vertex_list::VertexList;
 
 // The component of a vertex.
 fn part_of(component: &[u8; 64], v: usize) -> usize
@@ -46,18 +46,18 @@ fn offer_from(
     d: &[[u32; 64]; 64],
     x: &[i64; 64],
     component: &[u8; 64],
-    vs: &[u8],
+    vs: VertexList,
     i: usize,
     m: &mut [i64; 64],
     at: &mut [u16; 64],
 )
-    requires { (i < 64) × AtMost 63 vs.now × AreSmall beyond x.now }
+    requires { (i < 64) × AreSmall beyond x.now }
     ensures { (m.new, at.new)
-        ≡ offers_from d.now x.now component.now vs.now (m.old, at.old) i }
+        ≡ offers_from d.now x.now component.now vs.entry.vertices.now (m.old, at.old) i }
 {
     let row = part_of(component, i) * 8;
     let xi = x[i];
-    for &v in vs {
+    for &v in vs.vertices {
         offer_pair(d, x, component, i, row, xi, usize::from(v), m, at);
     }
 }
@@ -71,13 +71,13 @@ pub struct Cheapest {
 
 // All pairs are offered.
 #[tactic(auto, using(multiplier_steps::specs::Laws::Turns::turn_by_turn), unfolding(crate::specs::Offers::offers))]
-pub fn offers(d: &[[u32; 64]; 64], x: &[i64; 64], component: &[u8; 64], vs: &[u8]) -> Cheapest
-    requires { AtMost 63 vs.now × AreSmall beyond x.now }
-    ensures { (result.costs, result.pairs) ≡ offersOf d.now x.now component.now vs.now }
+pub fn offers(d: &[[u32; 64]; 64], x: &[i64; 64], component: &[u8; 64], vs: VertexList) -> Cheapest
+    requires { AreSmall beyond x.now }
+    ensures { (result.costs, result.pairs) ≡ offersOf d.now x.now component.now vs.entry.vertices.now }
 {
     let mut m: [i64; 64] = [1099511627776; 64];
     let mut at: [u16; 64] = [0; 64];
-    for &v in vs {
+    for &v in vs.vertices {
         offer_from(d, x, component, vs, usize::from(v), &mut m, &mut at);
     }
     Cheapest {

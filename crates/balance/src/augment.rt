@@ -6,6 +6,8 @@ ghost use Rattle.residual_search.specs.Search.{beyond};
 ghost use Rattle.residual_search.specs.Step.{push, augment, raise};
 ghost use Rattle.balance.specs.Invariant.{limit};
 
+use residual_search::vertex_list::VertexList;
+
 // One unit more from v to w: one less of what is sent from w to v, where something is.
 fn push(g: &mut [u16; 4096], v: usize, w: usize)
     requires { (v < 64) × (w < 64) × (amount g.old v w < 65535) }
@@ -35,12 +37,12 @@ pub(crate) fn augment_along(g: &mut [u16; 4096], next: &[u8; 64], h: u8, t: u8)
 }
 
 // The potentials, raised by the distances, by no more than `most`.
-pub(crate) fn raise_by(x: &[u64; 64], most: u64, u: &[u64; 64], vs: &[u8]) -> [u64; 64]
-    requires { (most ≤ beyond) × AtMost beyond u.now × AtMost 63 vs.now }
-    ensures { result ≡ raise x.now most u.now vs.now }
+pub(crate) fn raise_by(x: &[u64; 64], most: u64, u: &[u64; 64], vs: VertexList) -> [u64; 64]
+    requires { (most ≤ beyond) × AtMost beyond u.now }
+    ensures { result ≡ raise x.now most u.now vs.entry.vertices.now }
 {
     let mut raised = *u;
-    for &v in vs {
+    for &v in vs.vertices {
         let i = usize::from(v);
         raised[i] = u[i] + x[i].min(most);
     }

@@ -13,14 +13,15 @@ use crate::state::Balance;
 use integers::difference;
 use residual_search::lengths::Lengths;
 use residual_search::search::search_towards;
+use residual_search::vertex_list::VertexList;
 
 // The distances in true costs, from that of the root.
-fn true_costs(x: &[u64; 64], u: &[u64; 64], vs: &[u8], root: usize) -> [i64; 64]
-    requires { (root < 64) × AtMost beyond x.now × AtMost beyond u.now × AtMost 63 vs.now }
-    ensures { result ≡ from_root x.now u.now vs.now root }
+fn true_costs(x: &[u64; 64], u: &[u64; 64], vs: VertexList, root: usize) -> [i64; 64]
+    requires { (root < 64) × AtMost beyond x.now × AtMost beyond u.now }
+    ensures { result ≡ from_root x.now u.now vs.entry.vertices.now root }
 {
     let mut r = [0; 64];
-    for &v in vs {
+    for &v in vs.vertices {
         let i = usize::from(v);
         r[i] = difference(x[i] + u[i], u[root]);
     }
@@ -38,6 +39,7 @@ pub fn multipliers(s: Balance, d: &[[u32; 64]; 64], vs: &[u8], root: u8) -> [i64
         f: &s.amounts,
         u: &s.potentials,
     };
-    let found = search_towards(lengths, vs, root, root, vs.len());
-    true_costs(&found.distance, &s.potentials, vs, usize::from(root))
+    let list = VertexList { vertices: vs };
+    let found = search_towards(lengths, list, root, root, vs.len());
+    true_costs(&found.distance, &s.potentials, list, usize::from(root))
 }

@@ -10,6 +10,7 @@ ghost use Rattle.balance.specs.Records.{state_of};
 use crate::augment::{augment_along, raise_by};
 use residual_search::lengths::Lengths;
 use residual_search::search::{search_towards, settled_by};
+use residual_search::vertex_list::VertexList;
 
 // The amounts, at i * 64 + j what is sent from vertex i to vertex j, and the potentials that certify them, the
 // amounts' cost, and how many arcs were counted.
@@ -60,9 +61,10 @@ pub fn price(
         result.potentials result.cost }
 {
     let last = settled_by(tail, head, vs.len());
-    let found = search_towards(Lengths { d, f, u }, vs, tail, head, last);
+    let list = VertexList { vertices: vs };
+    let found = search_towards(Lengths { d, f, u }, list, tail, head, last);
     let h = usize::from(head);
-    let potentials = raise_by(&found.distance, found.distance[h], u, vs);
+    let potentials = raise_by(&found.distance, found.distance[h], u, list);
     let cost = (cost + potentials[h]).saturating_sub(potentials[usize::from(tail)]);
     Added {
         next: found.next,

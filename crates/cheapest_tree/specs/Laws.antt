@@ -4,4 +4,3 @@ pub mod Edmonds
 pub mod Circle
 pub mod CostMatrix
 pub mod Solve
-pub mod Arrays

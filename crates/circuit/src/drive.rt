@@ -1,9 +1,8 @@
 // The drive: the legs laid, put in order, and written.
 // Steps for other crates, which ask something of their caller.
 ghost use Rattle.std.specs.Prelude.{◌≡◌, ◌≤◌, length};
-ghost use Rattle.postman.specs.Plan.{WellFormed};
 ghost use Rattle.postman.specs.PlanCall.{sheet_places};
-ghost use Rattle.plan.specs.Records.{plan_value};
+ghost use Rattle.plan.specs.GoodPlan.{good_plan};
 ghost use Rattle.paths.specs.ShortestPath.{shortest_path};
 ghost use Rattle.shortest.specs.StepContracts.{AreWeights};
 ghost use Rattle.hierholzer.specs.Circuit.{circuit};
@@ -15,36 +14,36 @@ ghost use Rattle.drive_legs.specs.Filled.{links_of};
 use crate::places::{Legs, write};
 use drive_legs::legs::lay;
 use hierholzer::hierholzer::arrange;
-use plan::Plan;
+use plan::good_plan::GoodPlan;
 
 // Writes the legs in the order of their circuit. What a leg needs of the plan and of the table of weights is lent to it.
 fn write_circuit(
-    plan: Plan,
+    good: &GoodPlan,
     weights: &[[u32; 64]; 64],
     legs: &Legs<'_>,
     order: &mut [u16],
     places: &mut [u16],
 ) -> usize
-    requires well_formed { WellFormed (plan_value plan) × AreWeights (plan_value plan) weights.now }
+    requires weighed { AreWeights (good_plan good.now) weights.now }
     requires has_circuit { (length legs.now.tails.now ≤ 526) × (length order.old ≡ length legs.now.tails.now)
         × Eulerian legs.now.tails.now legs.now.heads.now }
-    requires have_paths { HavePaths (plan_value plan) legs.now.numbers.now legs.now.tails.now legs.now.heads.now }
-    requires room { length (places_of (shortest_path (plan_value plan)) legs.now.numbers.now legs.now.tails.now legs.now.heads.now
+    requires have_paths { HavePaths (good_plan good.now) legs.now.numbers.now legs.now.tails.now legs.now.heads.now }
+    requires room { length (places_of (shortest_path (good_plan good.now)) legs.now.numbers.now legs.now.tails.now legs.now.heads.now
         (circuit legs.now.tails.now legs.now.heads.now))
         ≤ length places.old }
     ensures places_written { places.new
-        ≡ written (places_of (shortest_path (plan_value plan)) legs.now.numbers.now legs.now.tails.now legs.now.heads.now
+        ≡ written (places_of (shortest_path (good_plan good.now)) legs.now.numbers.now legs.now.tails.now legs.now.heads.now
         (circuit legs.now.tails.now legs.now.heads.now)) places.old }
     ensures place_count { result ≡ length
-        (places_of (shortest_path (plan_value plan)) legs.now.numbers.now legs.now.tails.now legs.now.heads.now
+        (places_of (shortest_path (good_plan good.now)) legs.now.numbers.now legs.now.tails.now legs.now.heads.now
         (circuit legs.now.tails.now legs.now.heads.now)) }
 {
     arrange(legs.tails, legs.heads, order);
-    let arcs = plan::rows::rows_of(plan);
+    let arcs = plan::rows::rows_of(good.plan);
     let rows: &[[u32; 64]] = weights;
     write(
-        &arcs[..usize::from(plan.m)],
-        &rows[..usize::from(plan.n)],
+        &arcs[..usize::from(good.plan.m)],
+        &rows[..usize::from(good.plan.n)],
         legs,
         order,
         places,
@@ -54,44 +53,28 @@ fn write_circuit(
 // Writes the drive that the required arcs, the links of an arborescence and the amounts that balance them make, by the table of
 // weights, and answers how many places it has.
 pub fn write_drive(
-    plan: Plan,
+    good: &GoodPlan,
     weights: &[[u32; 64]; 64],
     link_tails: &[u8],
     link_heads: &[u8],
     amounts: &[u16; 4096],
     places: &mut [u16],
 ) -> usize
-    requires well_formed { WellFormed (plan_value plan) × AreWeights (plan_value plan) weights.now }
+    requires weighed { AreWeights (good_plan good.now) weights.now }
     requires completing { (length link_heads.now ≡ length link_tails.now)
-        × Completes (plan_value plan) (links_of link_tails.now link_heads.now) amounts.now }
+        × Completes (good_plan good.now) (links_of link_tails.now link_heads.now) amounts.now }
     requires room { sheet_places ≤ length places.old }
     ensures places_written { places.new
-        ≡ written (drive (plan_value plan) (links_of link_tails.now link_heads.now) amounts.now)
+        ≡ written (drive (good_plan good.now) (links_of link_tails.now link_heads.now) amounts.now)
         places.old }
-    ensures place_count { result ≡ length (drive (plan_value plan) (links_of link_tails.now link_heads.now) amounts.now) }
+    ensures place_count { result ≡ length (drive (good_plan good.now) (links_of link_tails.now link_heads.now) amounts.now) }
 {
-    let mut numbers = [0; 256];
-    let mut tails = [0; 526];
-    let mut heads = [0; 526];
+    let laid = lay(good, link_tails, link_heads, amounts);
+    let legs = Legs {
+        numbers: laid.numbers(),
+        tails: laid.tails(),
+        heads: laid.heads(),
+    };
     let mut order = [0; 526];
-    let counts = lay(
-        plan,
-        link_tails,
-        link_heads,
-        amounts,
-        &mut numbers,
-        &mut tails,
-        &mut heads,
-    );
-    write_circuit(
-        plan,
-        weights,
-        &Legs {
-            numbers: &numbers[..counts.required],
-            tails: &tails[..counts.legs],
-            heads: &heads[..counts.legs],
-        },
-        &mut order[..counts.legs],
-        places,
-    )
+    write_circuit(good, weights, &legs, &mut order[..legs.tails.len()], places)
 }

@@ -1,13 +1,12 @@
 // The components: roots, which are the vertices that bear their own label, numbered from 0.
 // Steps for other crates, which ask something of their caller.
 ghost use Rattle.std.specs.Prelude.{◌≡◌, false, ◌&&◌, cond, ℕ, ◌<◌, eqb, get_or};
-ghost use Rattle.postman.specs.Plan.{WellFormed};
-ghost use Rattle.plan.specs.Records.{plan_value};
+ghost use Rattle.plan.specs.GoodPlan.{good_plan};
 ghost use Rattle.components.specs.Labels.{roots_below};
 ghost use Rattle.required.specs.StepContracts.{IsRequiredFlags, IsComponents};
 
 use crate::labels::labels_of;
-use plan::Plan;
+use plan::good_plan::GoodPlan;
 
 // How many roots are below each vertex, and how many there are.
 #[derive(Clone, Copy)]
@@ -48,11 +47,11 @@ pub struct Components {
     pub count: u8,
 }
 
-pub fn components_of(plan: Plan, required: [bool; 64]) -> Components
-    requires { WellFormed (plan_value plan) × IsRequiredFlags (plan_value plan) required }
-    ensures { IsComponents (plan_value plan) result.of result.count }
+pub fn components_of(good: &GoodPlan, required: [bool; 64]) -> Components
+    requires { IsRequiredFlags (good_plan good.now) required }
+    ensures { IsComponents (good_plan good.now) result.of result.count }
 {
-    let labels = labels_of(plan);
+    let labels = labels_of(good);
     let ranks = ranks_of(required, labels);
     Components {
         of: numbers(required, labels, ranks),

@@ -1,11 +1,12 @@
 // The label of each vertex: required arcs merge the labels of their ends, so that each required
 // vertex has the lowest vertex of its component.
 ghost use Rattle.std.specs.Prelude.{◌≡◌, ℕ, ◌<◌, length, get_or};
-ghost use Rattle.postman.specs.Plan.{WellFormed};
-ghost use Rattle.plan.specs.Records.{plan_value, arc_value};
+ghost use Rattle.plan.specs.GoodPlan.{good_plan};
+ghost use Rattle.plan.specs.Records.{arc_value};
 ghost use Rattle.components.specs.Labels.{rename, label_after, Labelled};
 
-use plan::{Arc, Plan};
+use plan::Arc;
+use plan::good_plan::GoodPlan;
 
 // A label once `from` is called `to`.
 fn renamed(label: u8, from: u8, to: u8) -> u8
@@ -41,12 +42,11 @@ fn own_labels() -> [u8; 64]
 }
 
 // For each required vertex the lowest vertex of its component.
-pub(crate) fn labels_of(plan: Plan) -> [u8; 64]
-    requires { WellFormed (plan_value plan) }
-    ensures { Labelled (plan_value plan) (length (plan_value plan).arcs) result }
+pub(crate) fn labels_of(good: &GoodPlan) -> [u8; 64]
+    ensures { Labelled (good_plan good.now) (length (good_plan good.now).arcs) result }
 {
     let mut labels = own_labels();
-    for a in &plan.arcs[..usize::from(plan.m)] {
+    for a in &good.plan.arcs[..usize::from(good.plan.m)] {
         let next = merged(labels, *a);
         labels = next;
     }

@@ -5,14 +5,14 @@ ghost use Rattle.std.specs.Prelude.{◌≡◌, Ok};
 ghost use Rattle.postman.specs.Plan.{Plan as AnyPlan, WellFormed};
 ghost use Rattle.postman.specs.Refusal.{answer, given};
 ghost use Rattle.postman.specs.TreeCount.{counted as counted_as, tree_count, count_call};
-ghost use Rattle.plan.specs.Records.{plan_value};
+ghost use Rattle.plan.specs.GoodPlan.{good_plan};
 ghost use Rattle.network.specs.Network.{IsNetwork};
 ghost use Rattle.call_steps.specs.Refusals.{network_refusal, plan_refusal};
 ghost use Rattle.count_call.specs.Contract.{count_answer};
 
 use call_steps::steps::network_verdict;
 use network::network::Network;
-use plan::Plan;
+use plan::good_plan::GoodPlan;
 use plan_file::reader::read_plan;
 use refusal::Refusal;
 
@@ -43,12 +43,11 @@ fn count_measured(net: Network) -> Result<Count, Refusal>
 }
 
 // The distances and the network of a plan that the file's rules let through.
-fn count_read(plan: Plan) -> Result<Count, Refusal>
-    requires { WellFormed (plan_value plan) }
-    ensures { count_answer result ≡ answer (plan_refusal (plan_value plan)) (tree_count (plan_value plan)) }
+fn count_read(good: &GoodPlan) -> Result<Count, Refusal>
+    ensures { count_answer result ≡ answer (plan_refusal (good_plan good.now)) (tree_count (good_plan good.now)) }
 {
-    let table = shortest::distance::table(plan);
-    let net = network::network::network_of(plan, &table);
+    let table = shortest::distance::table(good);
+    let net = network::network::network_of(good, &table);
     count_measured(net)
 }
 
@@ -56,5 +55,7 @@ fn count_read(plan: Plan) -> Result<Count, Refusal>
 pub fn count_call(bytes: &[u8]) -> Result<Count, Refusal>
     ensures { count_answer result ≡ count_call bytes.now }
 {
-    count_read(read_plan(bytes)?.plan)
+    count_read(&GoodPlan {
+        plan: read_plan(bytes)?.plan,
+    })
 }

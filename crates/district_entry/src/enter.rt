@@ -1,8 +1,7 @@
 // An entry: the plan call's refusals but 8, then 22, then the lowest free place.
 ghost use Rattle.std.specs.Prelude.{◌≡◌, ◌<◌};
 ghost use Rattle.std.proofs.Math.Option.{none};
-ghost use Rattle.postman.specs.Plan.{WellFormed};
-ghost use Rattle.plan.specs.Records.{plan_value};
+ghost use Rattle.plan.specs.GoodPlan.{good_plan};
 ghost use Rattle.refusal.specs.Verdict.{verdict_number};
 ghost use Rattle.call_steps.specs.Refusals.{plan_refusal, budget_refusal};
 ghost use Rattle.district_entry.specs.Entered.{call_part, IsEntered};
@@ -12,7 +11,7 @@ use call_steps::steps::network_verdict;
 use district_machine::machine::{District, Machine};
 use district_machine::places::{lined_up, lowest_free};
 use held_file::file::hold;
-use plan::Plan;
+use plan::good_plan::GoodPlan;
 use refusal::{Refusal, Verdict};
 use tree_search::trees::nothing_held;
 
@@ -26,23 +25,21 @@ pub struct Entered {
 }
 
 // 10, 11 and 12.
-fn parts_verdict(plan: Plan) -> Verdict
-    requires { WellFormed (plan_value plan) }
-    ensures { verdict_number result ≡ plan_refusal (plan_value plan) }
+fn parts_verdict(good: &GoodPlan) -> Verdict
+    ensures { verdict_number result ≡ plan_refusal (good_plan good.now) }
 {
-    let weights = shortest::weights::table(plan);
+    let weights = shortest::weights::table(good);
     let table = shortest::distance::table_of(&weights);
-    let net = network::network::network_of(plan, &table);
+    let net = network::network::network_of(good, &table);
     network_verdict(net.components, net.cut_off)
 }
 
 // 9, then the rest.
-fn budget_verdict(plan: Plan, budget: u64) -> Verdict
-    requires { WellFormed (plan_value plan) }
-    ensures { verdict_number result ≡ budget_refusal (plan_value plan) budget }
+fn budget_verdict(good: &GoodPlan, budget: u64) -> Verdict
+    ensures { verdict_number result ≡ budget_refusal (good_plan good.now) budget }
 {
     Budget::new(budget)?;
-    parts_verdict(plan)
+    parts_verdict(good)
 }
 
 // The plan call's refusals but 8.
@@ -50,7 +47,7 @@ fn call_verdict(bytes: &[u8], budget: u64) -> Verdict
     ensures { verdict_number result ≡ call_part bytes.now budget }
 {
     let reading = plan_file::reader::read_plan(bytes)?;
-    budget_verdict(reading.plan, budget)
+    budget_verdict(&GoodPlan { plan: reading.plan }, budget)
 }
 
 // A plan and a budget that are not refused: 22, or the district at the back of the line.

@@ -1,6 +1,6 @@
 -- One district's turn, over its plan: whether what is held can be gone on from, and what the turn then gives.
 -- Whatever is held, this is what a turn gives.
-use Rattle.std.specs.Prelude.{◌≡◌, Bool, true, false, ◌&&◌, ◌||◌, List, [], ◌∷◌, map, ℕ, ◌+◌, replicate, pos, eqb, ltb, leb}
+use Rattle.std.specs.Prelude.{◌≡◌, Bool, true, false, cond, ◌&&◌, ◌||◌, List, [], ◌∷◌, map, ℕ, ◌+◌, eqb, ltb, leb}
 use Rattle.postman.specs.Lists.{any_of}
 use Rattle.postman.specs.Plan.{Plan}
 use Rattle.postman.specs.Link.{Link, joins}
@@ -16,6 +16,7 @@ use Rattle.postman.specs.Districts.{turn_trees}
 use Rattle.tree_search.specs.Resumed.{after_turn, links_by, held_after}
 use Rattle.solution.specs.Concluded.{concluded}
 use Rattle.district_turn.specs.declared.plan_turn.DistrictTurn.{DistrictTurn}
+use Rattle.district_turn.specs.declared.plan_turn.DistrictTurn.TheVariants.{Stuck, Unfinished, Finished}
 use Rattle.held_file.specs.Padded.{padded}
 use Rattle.postman.specs.Refusal.{is_good}
 
@@ -56,19 +57,6 @@ reached_after p budget g = record {
   tried = after_turn (tried_count p budget) g.tried;
 }
 
--- What is answered before the last turn: "the trees so far and their least cost".
-abbrev pub so_far : ℕ → ℕ → Planned
-so_far cost trees =
-    record {
-      places = 0;
-      cost = cost;
-      floor = pos 0;
-      trees = trees;
-      whole = false;
-      parts = 0;
-      multipliers = replicate 64 (pos 0);
-    }
-
 -- Whether it is the last one; what is answered then, and what is written.
 abbrev pub is_last : Plan → ℕ → Reached → Bool
 is_last p budget g = leb (tried_count p budget) (g.tried + turn_trees)
@@ -79,12 +67,17 @@ last_answer p budget g = concluded p (held_after p budget g).links (held_after p
 abbrev pub last_sheet : Plan → ℕ → Reached → List ℕ → List ℕ
 last_sheet p budget g old = written (tree_drive p (held_after p budget g).links) old
 
+-- What a turn leaves, where `can` says whether it can be gone on with, and `last` whether the turn is its last; and what it leaves on
+-- the sheet.
+abbrev pub turn_given : Plan → ℕ → Reached → (can last : Bool) → DistrictTurn
+turn_given p budget g false last = Stuck
+turn_given p budget g true false = Unfinished (reached_after p budget g)
+turn_given p budget g true true = Finished (last_answer p budget g)
+
+abbrev pub sheet_given : Plan → ℕ → Reached → (can last : Bool) → List ℕ → List ℕ
+sheet_given p budget g can last old = cond (can && last) (last_sheet p budget g old) old
+
 -- The turn of a district, where `can` says whether it can be gone on with.
 pub record IsDistrictTurn (p : Plan) (budget : ℕ) (g : Reached) (can : Bool) (old new : List ℕ) (r : DistrictTurn) : Type 0 where
-  pub good : r.good ≡ can
-  pub done : r.done ≡ (can && is_last p budget g)
-  pub held : r.good ≡ true → r.done ≡ false → r.held ≡ reached_after p budget g
-  pub going : r.good ≡ true → r.done ≡ false → r.planned ≡ so_far (reached_after p budget g).cost (reached_after p budget g).tried
-  pub last : r.done ≡ true → r.planned ≡ last_answer p budget g
-  pub unwritten : r.done ≡ false → new ≡ old
-  pub sheet : r.done ≡ true → new ≡ last_sheet p budget g old
+  pub turned : r ≡ turn_given p budget g can (is_last p budget g)
+  pub sheet : new ≡ sheet_given p budget g can (is_last p budget g) old

@@ -2,4 +2,3 @@
 pub mod HeldTree
 pub mod DistrictTurn
 pub mod Holding
-pub mod Clash

@@ -1,106 +1,54 @@
 // A district's turn, over its plan.
 // Steps for other crates, which ask something of their caller.
-ghost use Rattle.std.specs.Prelude.{◌≡◌, true, false, ◌&&◌, ◌-◌, ◌≤◌, length, take};
+ghost use Rattle.network.specs.Network.{IsNetwork};
+ghost use Rattle.call_steps.specs.Tabled.{tabled_plan};
+ghost use Rattle.std.specs.Prelude.{◌≡◌, ◌&&◌, ◌-◌, ◌≤◌, length, take};
 ghost use Rattle.std.proofs.Math.Option.{none};
 ghost use Rattle.postman.specs.Component.{component_count};
 ghost use Rattle.postman.specs.PlanCall.{sheet_places};
-ghost use Rattle.plan.specs.Records.{plan_value};
+ghost use Rattle.plan.specs.GoodPlan.{good_plan};
 ghost use Rattle.shortest.specs.StepContracts.{AreWeights};
 ghost use Rattle.branches.specs.Links.{links_in};
 ghost use Rattle.drive_legs.specs.Drive.{written};
-ghost use Rattle.multipliers.specs.Prepared.{IsMeasured};
 ghost use Rattle.call_steps.specs.Refusals.{network_refusal};
-ghost use Rattle.multipliers.specs.Drive.{table_of, tree_drive};
-ghost use Rattle.postman.specs.Plan.{WellFormed};
-ghost use Rattle.preparation.specs.Preparation.{IsPreparation};
+ghost use Rattle.multipliers.specs.Drive.{tree_drive};
+ghost use Rattle.preparation.specs.Prepared.{prepared_plan};
 ghost use Rattle.tree_search.specs.Resumed.{HoldsTree};
 ghost use Rattle.solution.specs.Concluded.{concluded};
 ghost use Rattle.held_file.specs.Padded.{padded};
 ghost use Rattle.postman.specs.Refusal.{is_good};
-ghost use Rattle.district_turn.specs.DistrictTurn.{is_resumable, can_go_on, so_far, IsDistrictTurn};
+ghost use Rattle.district_turn.specs.DistrictTurn.{is_resumable, can_go_on, IsDistrictTurn};
 
 use crate::held::{first_of, is_holding};
 use call_steps::steps::network_verdict;
+use call_steps::tabled::Tabled;
 use network::network::Network;
-use plan::Plan;
-use preparation::prepare::{Preparation, prepare};
+use plan::good_plan::GoodPlan;
+use preparation::prepare::prepare;
+use preparation::prepared::Prepared;
 use solution::Planned;
 use solution::solve::conclude;
 use tree_search::improve::Searched;
 use tree_search::trees::{Reached, Resumed, resume};
 
-// What a turn leaves: whether what was held could be gone on from; whether the district is finished; how far
-// it is, unless it is finished; and its answer.
+// What a turn leaves: what was held could not be gone on from; or it is gone on, and how far it is; or the district is finished, with
+// its answer.
 #[derive(Clone, Copy)]
-pub struct DistrictTurn {
-    pub good: bool,
-    pub done: bool,
-    pub held: Reached,
-    pub planned: Planned,
-}
-
-// The answer before the last turn: the trees so far and their least cost.
-pub fn so_far(cost: u64, trees: u32) -> Planned
-    ensures { result ≡ so_far cost trees }
-{
-    Planned {
-        places: 0,
-        cost,
-        floor: 0,
-        trees,
-        whole: false,
-        parts: 0,
-        multipliers: [0i64; 64],
-    }
-}
-
-// What is held, where the district is not finished.
-fn unfinished(good: bool, held: Reached) -> DistrictTurn
-    ensures { (result.good ≡ good) × (result.done ≡ false) × (result.held ≡ held) × (result.planned ≡ so_far held.cost held.tried) }
-{
-    DistrictTurn {
-        good,
-        done: false,
-        held,
-        planned: so_far(held.cost, held.tried),
-    }
-}
-
-// The answer of the last turn.
-fn finished(r: Resumed, planned: Planned) -> DistrictTurn
-    ensures { (result.good ≡ true) × (result.done ≡ true) × (result.planned ≡ planned) }
-{
-    let (tails, heads) = (r.tails, r.heads);
-    DistrictTurn {
-        good: true,
-        done: true,
-        held: Reached {
-            cost: r.cost,
-            tails,
-            heads,
-            tried: r.tried,
-        },
-        planned,
-    }
+pub enum DistrictTurn {
+    Stuck,
+    Unfinished(Reached),
+    Finished(Planned),
 }
 
 // The last turn: the tree that is held is laid out.
-fn last(
-    plan: Plan,
-    table: &[[u32; 64]; 64],
-    weights: &[[u32; 64]; 64],
-    r: Preparation,
-    x: Resumed,
-    sheet: &mut [u16],
-) -> DistrictTurn
-    requires { IsPreparation (plan_value plan) table.now r × HoldsTree (plan_value plan) x.tails x.heads
-        × (x.cost ≤ 4398046511104) × (sheet_places ≤ length sheet.old) × AreWeights (plan_value plan) weights.now }
-    ensures is_done { (result.good ≡ true) × (result.done ≡ true)
-        × (result.planned
-        ≡ concluded (plan_value plan) (links_in (component_count (plan_value plan) - 1) x.tails x.heads) x.cost x.total
-        x.whole) }
+fn last(p: &Prepared<'_>, weights: &[[u32; 64]; 64], x: Resumed, sheet: &mut [u16]) -> Planned
+    requires { HoldsTree (prepared_plan p.now) x.tails x.heads
+        × (x.cost ≤ 4398046511104) × (sheet_places ≤ length sheet.old) × AreWeights (prepared_plan p.now) weights.now }
+    ensures answered { result
+        ≡ concluded (prepared_plan p.now) (links_in (component_count (prepared_plan p.now) - 1) x.tails x.heads) x.cost x.total
+        x.whole }
     ensures sheet_written { sheet.new
-        ≡ written (tree_drive (plan_value plan) (links_in (component_count (plan_value plan) - 1) x.tails x.heads))
+        ≡ written (tree_drive (prepared_plan p.now) (links_in (component_count (prepared_plan p.now) - 1) x.tails x.heads))
         sheet.old }
 {
     let (tails, heads) = (x.tails, x.heads);
@@ -111,8 +59,7 @@ fn last(
         tried: x.total,
         whole: x.whole,
     };
-    let planned = conclude(plan, table, weights, r, s, sheet);
-    finished(x, planned)
+    conclude(p, weights, s, sheet)
 }
 
 // What is held after a turn that is not the last.
@@ -131,103 +78,95 @@ fn kept(r: Resumed, n: usize) -> Reached
 
 // One turn of a district whose plan is prepared.
 fn turn_prepared(
-    plan: Plan,
-    table: &[[u32; 64]; 64],
+    p: &Prepared<'_>,
     weights: &[[u32; 64]; 64],
-    r: Preparation,
     budget: u32,
     g: Reached,
     sheet: &mut [u16],
 ) -> DistrictTurn
-    requires { IsPreparation (plan_value plan) table.now r × (g.tried ≤ 1000000) × (1 ≤ budget) × (sheet_places ≤ length sheet.old)
-        × AreWeights (plan_value plan) weights.now }
-    ensures { IsDistrictTurn (plan_value plan) budget g (is_resumable (plan_value plan) budget g) sheet.old sheet.new result }
+    requires { (g.tried ≤ 1000000) × (1 ≤ budget) × (sheet_places ≤ length sheet.old)
+        × AreWeights (prepared_plan p.now) weights.now }
+    ensures { IsDistrictTurn (prepared_plan p.now) budget g (is_resumable (prepared_plan p.now) budget g) sheet.old sheet.new result }
 {
-    if !is_holding(plan, table, r, g) {
-        return unfinished(false, g);
+    if !is_holding(p, g) {
+        return DistrictTurn::Stuck;
     }
-    let x = resume(plan, table, r, budget, g);
+    let x = resume(p, budget, g);
     if x.total <= g.tried {
-        return unfinished(false, g);
+        return DistrictTurn::Stuck;
     }
     if x.tried < x.total {
-        let k = usize::from(r.network.components);
-        return unfinished(true, kept(x, k - 1));
+        let k = usize::from(p.parts.network.components);
+        return DistrictTurn::Unfinished(kept(x, k - 1));
     }
-    last(plan, table, weights, r, x, sheet)
+    DistrictTurn::Finished(last(p, weights, x, sheet))
 }
 
 // The same, of a plan that is not refused: it is prepared.
 fn turn_accepted(
-    plan: Plan,
-    table: &[[u32; 64]; 64],
-    weights: &[[u32; 64]; 64],
+    t: &Tabled<'_>,
     net: Network,
     budget: u32,
     g: Reached,
     sheet: &mut [u16],
 ) -> DistrictTurn
-    requires measured { IsMeasured (plan_value plan) table.now net × (network_refusal net.components net.cut_off ≡ none)
+    requires measured { IsNetwork (tabled_plan t.now) net × (network_refusal net.components net.cut_off ≡ none)
         × (g.tried ≤ 1000000) }
-    requires budget_and_sheet { (1 ≤ budget) × (sheet_places ≤ length sheet.old) × AreWeights (plan_value plan) weights.now }
-    ensures { IsDistrictTurn (plan_value plan) budget g (is_resumable (plan_value plan) budget g) sheet.old sheet.new result }
+    requires budget_and_sheet { (1 ≤ budget) × (sheet_places ≤ length sheet.old) }
+    ensures { IsDistrictTurn (tabled_plan t.now) budget g (is_resumable (tabled_plan t.now) budget g) sheet.old sheet.new result }
 {
-    let r = prepare(plan, table, net);
-    turn_prepared(plan, table, weights, r, budget, g, sheet)
-}
-
-// What was held cannot be gone on from: nothing moves.
-pub fn stuck(g: Reached) -> DistrictTurn
-    ensures { (result.good ≡ false) × (result.done ≡ false) }
-{
-    unfinished(false, g)
+    let parts = prepare(t.good, t.table, net);
+    let p = Prepared {
+        good: t.good,
+        table: t.table,
+        parts: &parts,
+    };
+    turn_prepared(&p, t.weights, budget, g, sheet)
 }
 
 // The same, where the network does not refuse.
 fn turn_measured(
-    plan: Plan,
-    table: &[[u32; 64]; 64],
-    weights: &[[u32; 64]; 64],
+    t: &Tabled<'_>,
     net: Network,
     budget: u32,
     g: Reached,
     sheet: &mut [u16],
 ) -> DistrictTurn
-    requires { IsMeasured (plan_value plan) table.now net × (1 ≤ budget) × (sheet_places ≤ length sheet.old)
-        × AreWeights (plan_value plan) weights.now × (g.tried ≤ 1000000) }
-    ensures { IsDistrictTurn (plan_value plan) budget g
-        (is_good (network_refusal net.components net.cut_off) && is_resumable (plan_value plan) budget g) sheet.old
+    requires { IsNetwork (tabled_plan t.now) net × (1 ≤ budget) × (sheet_places ≤ length sheet.old) × (g.tried ≤ 1000000) }
+    ensures { IsDistrictTurn (tabled_plan t.now) budget g
+        (is_good (network_refusal net.components net.cut_off) && is_resumable (tabled_plan t.now) budget g) sheet.old
         sheet.new result }
 {
     match network_verdict(net.components, net.cut_off) {
-        Err(_) => stuck(g),
-        Ok(()) => turn_accepted(plan, table, weights, net, budget, g, sheet),
+        Err(_) => DistrictTurn::Stuck,
+        Ok(()) => turn_accepted(t, net, budget, g, sheet),
     }
 }
 
 // The same, from the tables of the plan's distances and weights.
-fn turn_tabled(
-    plan: Plan,
-    table: &[[u32; 64]; 64],
-    weights: &[[u32; 64]; 64],
-    budget: u32,
-    g: Reached,
-    sheet: &mut [u16],
-) -> DistrictTurn
-    requires tabled { WellFormed (plan_value plan) × (table.now ≡ table_of (plan_value plan)) × AreWeights (plan_value plan) weights.now }
+fn turn_tabled(t: &Tabled<'_>, budget: u32, g: Reached, sheet: &mut [u16]) -> DistrictTurn
     requires budget_and_sheet { (1 ≤ budget) × (sheet_places ≤ length sheet.old) × (g.tried ≤ 1000000) }
-    ensures { IsDistrictTurn (plan_value plan) budget g (can_go_on (plan_value plan) budget g) sheet.old sheet.new result }
+    ensures { IsDistrictTurn (tabled_plan t.now) budget g (can_go_on (tabled_plan t.now) budget g) sheet.old sheet.new result }
 {
-    let net = network::network::network_of(plan, table);
-    turn_measured(plan, table, weights, net, budget, g, sheet)
+    let net = network::network::network_of(t.good, t.table);
+    turn_measured(t, net, budget, g, sheet)
 }
 
 // The same, of a plan that was read: what a turn does again is to prepare it.
-pub fn turn_read(plan: Plan, budget: u32, g: Reached, sheet: &mut [u16]) -> DistrictTurn
-    requires { WellFormed (plan_value plan) × (1 ≤ budget) × (sheet_places ≤ length sheet.old) × (g.tried ≤ 1000000) }
-    ensures { IsDistrictTurn (plan_value plan) budget g (can_go_on (plan_value plan) budget g) sheet.old sheet.new result }
+pub fn turn_read(good: &GoodPlan, budget: u32, g: Reached, sheet: &mut [u16]) -> DistrictTurn
+    requires { (1 ≤ budget) × (sheet_places ≤ length sheet.old) × (g.tried ≤ 1000000) }
+    ensures { IsDistrictTurn (good_plan good.now) budget g (can_go_on (good_plan good.now) budget g) sheet.old sheet.new result }
 {
-    let weights = shortest::weights::table(plan);
+    let weights = shortest::weights::table(good);
     let table = shortest::distance::table_of(&weights);
-    turn_tabled(plan, &table, &weights, budget, g, sheet)
+    turn_tabled(
+        &Tabled {
+            good,
+            table: &table,
+            weights: &weights,
+        },
+        budget,
+        g,
+        sheet,
+    )
 }

@@ -5,9 +5,9 @@ use Rattle.postman.specs.PlanFile.{plan_of}
 use Rattle.postman.specs.PlanCall.{best_cost}
 use Rattle.postman.specs.Districts.{turn_trees, District, finishes}
 use Rattle.solution.specs.Planned.{IsPlanned}
-use Rattle.district_turn.specs.DistrictTurn.{so_far}
 use Rattle.districts.specs.declared.turn.Outcome.TheVariants.{Unfinished, Finished}
 use Rattle.districts.specs.declared.turn.Turned.{Turned}
+use Rattle.districts.specs.Turned.{so_far}
 
 -- "An unfinished one answers the trees so far and their least cost", and the sheet is "written in a district's last turn only"; a finished
 -- one answers as the plan call does. "A turn's answer names its district's" place.

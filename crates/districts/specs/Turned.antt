@@ -1,5 +1,5 @@
 -- A TURN, of any machine, with any sheet: what it meets, and what it makes of that.
-use Rattle.std.specs.Prelude.{◌≡◌, Result, Ok, Bool, true, false, not, cond, ◌&&◌, List, [], ◌∷◌, ◌++◌, map, ℕ, length, leb, ltb}
+use Rattle.std.specs.Prelude.{◌≡◌, Result, Ok, Bool, false, not, cond, ◌&&◌, List, [], ◌∷◌, ◌++◌, map, ℕ, length, replicate, pos, leb, ltb}
 use Rattle.postman.specs.Lists.{occurs}
 use Rattle.postman.specs.Plan.{Plan}
 use Rattle.postman.specs.Refusal.{first_refusal, is_good}
@@ -11,11 +11,12 @@ use Rattle.call_steps.specs.Refused.{refused_with}
 use Rattle.solution.specs.declared.Planned.{Planned}
 use Rattle.tree_search.specs.declared.trees.Reached.{Reached}
 use Rattle.district_turn.specs.declared.plan_turn.DistrictTurn.{DistrictTurn}
-use Rattle.district_turn.specs.DistrictTurn.{is_holding, can_go_on, reached_after, so_far, is_last, last_answer, last_sheet}
+use Rattle.district_turn.specs.declared.plan_turn.DistrictTurn.TheVariants.{Stuck, Unfinished, Finished}
+use Rattle.district_turn.specs.DistrictTurn.{is_holding, can_go_on, reached_after, is_last, last_answer, last_sheet}
 use Rattle.district_machine.specs.declared.machine.District.{District as DistrictRecord}
 use Rattle.district_machine.specs.declared.machine.Machine.{Machine}
 use Rattle.districts.specs.declared.turn.Outcome.{Outcome}
-use Rattle.districts.specs.declared.turn.Outcome.TheVariants.{Empty, ShortSheet, Unfinished, Finished}
+use Rattle.districts.specs.declared.turn.Outcome.TheVariants.{Empty, ShortSheet, Unfinished as UnfinishedAt, Finished as FinishedAt}
 use Rattle.districts.specs.declared.turn.Turned.{Turned}
 use Rattle.postman.specs.Districts.{places}
 use Rattle.district_machine.specs.Machine.{bytes_of, district_of, waiting_in, machine_of}
@@ -78,13 +79,26 @@ after_turn m stuck = m
 after_turn m (goes_on d ds) = machine_of (ds ++ held_now d (reached_now d) ∷ [])
 after_turn m (leaves d ds) = machine_of ds
 
+-- What is answered before the last turn: "the trees so far and their least cost".
+abbrev pub so_far : ℕ → ℕ → Planned
+so_far cost trees =
+    record {
+      places = 0;
+      cost = cost;
+      floor = pos 0;
+      trees = trees;
+      whole = false;
+      parts = 0;
+      multipliers = replicate 64 (pos 0);
+    }
+
 -- What is answered: "an unfinished one answers the trees so far and their least cost".
 abbrev pub outcome_of : Meeting → Outcome
 outcome_of nobody = Empty
 outcome_of short_sheet = ShortSheet
 outcome_of stuck = Empty
-outcome_of (goes_on d ds) = Unfinished d.place
-outcome_of (leaves d ds) = Finished d.place
+outcome_of (goes_on d ds) = UnfinishedAt d.place
+outcome_of (leaves d ds) = FinishedAt d.place
 
 abbrev pub answer_of : Meeting → Result Planned Refusal
 answer_of nobody = Ok (so_far 0 0)
@@ -107,10 +121,9 @@ pub record IsTurned (m : Machine) (old new : List ℕ) (r : Turned) : Type 0 whe
   pub machine : r.machine ≡ after_turn m (meeting m (length old))
   pub sheet : new ≡ sheet_after (meeting m (length old)) old
 
--- A turn that the front district d had, which gave s, where the others are left.
-pub record IsAfter (others : Machine) (d : DistrictRecord) (s : DistrictTurn) (r : Turned) : Type 0 where
-  pub planned : r.planned ≡ Ok s.planned
-  pub last : s.done ≡ true → (r.outcome ≡ Finished d.place) × (r.machine ≡ others)
-  pub going : s.done ≡ false
-      → (r.outcome ≡ Unfinished d.place)
-      × ((ds : List DistrictRecord) → others ≡ machine_of ds → r.machine ≡ machine_of (ds ++ held_now d s.held ∷ []))
+-- What a turn of the front district d makes of the machine, by what it leaves, where ds are the others.
+abbrev pub turned_by : Machine → DistrictRecord → List DistrictRecord → DistrictTurn → Turned
+turned_by m d ds Stuck = record { outcome = Empty; planned = Ok (so_far 0 0); machine = m }
+turned_by m d ds (Unfinished g) =
+    record { outcome = UnfinishedAt d.place; planned = Ok (so_far g.cost g.tried); machine = machine_of (ds ++ held_now d g ∷ []) }
+turned_by m d ds (Finished answer) = record { outcome = FinishedAt d.place; planned = Ok answer; machine = machine_of ds }

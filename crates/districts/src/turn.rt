@@ -4,11 +4,12 @@ ghost use Rattle.postman.specs.PlanCall.{sheet_places};
 ghost use Rattle.district_turn.specs.DistrictTurn.{IsDistrictTurn};
 ghost use Rattle.district_machine.specs.declared.machine.District.{District as DistrictRecord};
 ghost use Rattle.district_machine.specs.Machine.{waiting_in, machine_of};
-ghost use Rattle.districts.specs.Turned.{plan_by, has_own_place, can_be_served, held_now, IsAfter, IsTurned};
+ghost use Rattle.districts.specs.Turned.{so_far, plan_by, has_own_place, can_be_served, held_now, turned_by, IsTurned};
 
 use district_machine::machine::{District, Machine};
 use district_machine::places::{is_taken, lined_up};
-use district_turn::plan_turn::{DistrictTurn, so_far, stuck, turn_read};
+use district_turn::plan_turn::{DistrictTurn, turn_read};
+use plan::good_plan::GoodPlan;
 use refusal::Refusal;
 use solution::Planned;
 use tree_search::trees::Reached;
@@ -30,6 +31,21 @@ pub struct Turned {
     pub machine: Machine,
 }
 
+// The answer before the last turn: the trees so far and their least cost.
+fn so_far(cost: u64, trees: u32) -> Planned
+    ensures { result ≡ so_far cost trees }
+{
+    Planned {
+        places: 0,
+        cost,
+        floor: 0,
+        trees,
+        whole: false,
+        parts: 0,
+        multipliers: [0i64; 64],
+    }
+}
+
 // Whether its place is one of eight, and none of the others has it.
 fn has_own_place(place: u8, others: Machine) -> bool
     requires { others.waiting ≤ 8 }
@@ -43,20 +59,19 @@ fn served(d: District, sheet: &mut [u16]) -> DistrictTurn
     requires { sheet_places ≤ length sheet.old }
     ensures { IsDistrictTurn (plan_by d) d.budget d.held (can_be_served d) sheet.old sheet.new result }
 {
-    let held = d.held;
     let n = d.plan.length;
     if 1475 < n {
-        return stuck(held);
+        return DistrictTurn::Stuck;
     }
     if 1_000_000 < d.budget {
-        return stuck(held);
+        return DistrictTurn::Stuck;
     }
-    if d.budget <= held.tried {
-        return stuck(held);
+    if d.budget <= d.held.tried {
+        return DistrictTurn::Stuck;
     }
     match plan_file::reader::read_plan(&d.plan.file[..n]) {
-        Err(_) => stuck(held),
-        Ok(reading) => turn_read(reading.plan, d.budget, held, sheet),
+        Err(_) => DistrictTurn::Stuck,
+        Ok(reading) => turn_read(&GoodPlan { plan: reading.plan }, d.budget, d.held, sheet),
     }
 }
 
@@ -83,25 +98,6 @@ fn gone_on(others: Machine, d: District, held: Reached) -> Machine
     next
 }
 
-// The front district has had its turn.
-fn after(others: Machine, d: District, s: DistrictTurn) -> Turned
-    requires { others.waiting < 8 }
-    ensures { IsAfter others d s result }
-{
-    if s.done {
-        return Turned {
-            outcome: Outcome::Finished(d.place),
-            planned: Ok(s.planned),
-            machine: others,
-        };
-    }
-    Turned {
-        outcome: Outcome::Unfinished(d.place),
-        planned: Ok(s.planned),
-        machine: gone_on(others, d, s.held),
-    }
-}
-
 // Nothing moves.
 fn still(m: Machine, outcome: Outcome, planned: Result<Planned, Refusal>) -> Turned
     ensures { (result.outcome ≡ outcome) × (result.planned ≡ planned) × (result.machine ≡ m) }
@@ -110,6 +106,26 @@ fn still(m: Machine, outcome: Outcome, planned: Result<Planned, Refusal>) -> Tur
         outcome,
         planned,
         machine: m,
+    }
+}
+
+// The front district was to have its turn.
+fn after(m: Machine, others: Machine, d: District, s: DistrictTurn) -> Turned
+    requires { others.waiting < 8 }
+    ensures { (ds : List DistrictRecord) → others ≡ machine_of ds → result ≡ turned_by m d ds s }
+{
+    match s {
+        DistrictTurn::Stuck => still(m, Outcome::Empty, Ok(so_far(0, 0))),
+        DistrictTurn::Unfinished(held) => Turned {
+            outcome: Outcome::Unfinished(d.place),
+            planned: Ok(so_far(held.cost, held.tried)),
+            machine: gone_on(others, d, held),
+        },
+        DistrictTurn::Finished(planned) => Turned {
+            outcome: Outcome::Finished(d.place),
+            planned: Ok(planned),
+            machine: others,
+        },
     }
 }
 
@@ -133,9 +149,5 @@ pub fn turn(m: Machine, sheet: &mut [u16]) -> Turned
     if !has_own_place(d.place, others) {
         return still(m, Outcome::Empty, nothing);
     }
-    let s = served(d, sheet);
-    if !s.good {
-        return still(m, Outcome::Empty, nothing);
-    }
-    after(others, d, s)
+    after(m, others, d, served(d, sheet))
 }

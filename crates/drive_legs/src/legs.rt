@@ -1,95 +1,135 @@
 // The legs of a drive, side by side: required arcs, links of the arborescence, units of the amounts.
 // Steps for other crates, which ask something of their caller.
-ghost use Rattle.std.specs.Prelude.{◌≡◌, ◌+◌, ◌≤◌, length, replicate};
-ghost use Rattle.postman.specs.Plan.{required_numbers, WellFormed};
-ghost use Rattle.plan.specs.Records.{plan_value};
+ghost use Rattle.std.specs.Prelude.{◌≡◌, ◌+◌, ◌≤◌, ◌<◌, length, replicate, take};
+ghost use Rattle.postman.specs.Plan.{required_numbers};
+ghost use Rattle.plan.specs.GoodPlan.{good_plan};
+ghost use Rattle.plan.specs.Records.{arc_value};
 ghost use Rattle.drive_legs.specs.Legs.{units};
-ghost use Rattle.drive_legs.specs.Filled.{Extends, Added, Noted, Laid, links_of};
+ghost use Rattle.drive_legs.specs.Filled.{LegLists, no_legs, Added, AddedArc, Noted, Laid, links_of};
 
-use plan::Plan;
+use plan::Arc;
+use plan::good_plan::GoodPlan;
+use std::marker::Model;
 
-// `value` into the `times` places from `at` on.
-fn fill(to: &mut [u8; 526], at: usize, value: u8, times: usize)
-    requires { (length to.old ≡ 526) × (at + times ≤ 526) }
-    ensures { Extends to.old at (replicate times value) to.new }
-{
-    to[at..at + times].fill(value);
+// There are `count` legs. The first `required` of them are required arcs, whose numbers are kept too. Contracts see three lists.
+#[derive(Drop)]
+pub struct LaidLegs {
+    numbers: [u16; 256],
+    tails: [u8; 526],
+    heads: [u8; 526],
+    required: usize,
+    count: usize,
 }
 
-// The elements of `from` into the places from `at` on.
-fn copy(to: &mut [u8; 526], at: usize, from: &[u8])
-    requires { (length to.old ≡ 526) × (at + length from.now ≤ 526) }
-    ensures { Extends to.old at from.now to.new }
-{
-    to[at..at + from.len()].copy_from_slice(from);
+impl Model for LaidLegs {
+    ghost Value = { LegLists };
+
+    ghost view = { λ s. record { numbers = take s.required s.numbers; tails = take s.count s.tails; heads = take s.count s.heads } };
+
+    ghost invariant = { λ s. (length s.numbers ≡ 256) × (length s.tails ≡ 526) × (length s.heads ≡ 526)
+        × (s.required ≤ 256) × (s.count ≤ 526) };
 }
 
-// The units of the amounts after the first `at` legs.
-fn add_units(
-    amounts: &[u16; 4096],
-    tails: &mut [u8; 526],
-    heads: &mut [u8; 526],
-    at: usize,
-) -> usize
-    requires { (length tails.old ≡ 526) × (length heads.old ≡ 526) × (at + length (units amounts.now) ≤ 526) }
-    ensures { Added (units amounts.now) at result tails.old tails.new heads.old heads.new }
-{
-    let mut to = at;
-    for (x, amount) in amounts.iter().enumerate() {
-        let n = usize::from(*amount);
-        fill(tails, to, (x / 64) as u8, n);
-        fill(heads, to, (x % 64) as u8, n);
-        to += n;
+impl LaidLegs {
+    // No legs.
+    fn none() -> Self
+        ensures { result ≡ no_legs }
+    {
+        LaidLegs {
+            numbers: [0; 256],
+            tails: [0; 526],
+            heads: [0; 526],
+            required: 0,
+            count: 0,
+        }
     }
-    to
-}
 
-// The required arcs: their numbers, tails and heads, in file order, and how many there are.
-pub fn gather(
-    plan: Plan,
-    numbers: &mut [u16; 256],
-    tails: &mut [u8; 526],
-    heads: &mut [u8; 526],
-) -> usize
-    requires { WellFormed (plan_value plan) × (length numbers.old ≡ 256) × (length tails.old ≡ 526) × (length heads.old ≡ 526) }
-    ensures { Noted (plan_value plan) (required_numbers (plan_value plan)) numbers.new tails.new heads.new result }
-{
-    let mut c = 0;
-    for (k, a) in plan.arcs[..usize::from(plan.m)].iter().enumerate() {
-        numbers[c] = k as u16;
-        tails[c] = a.tail;
-        heads[c] = a.head;
-        c += usize::from(plan::is_required(*a));
+    // The numbers of the required arcs.
+    pub fn numbers(&self) -> &[u16]
+        ensures { result.now ≡ self.now.numbers }
+    {
+        &self.numbers[..self.required]
     }
-    c
+
+    // The tails of all legs.
+    pub fn tails(&self) -> &[u8]
+        ensures { result.now ≡ self.now.tails }
+    {
+        &self.tails[..self.count]
+    }
+
+    // The heads of all legs.
+    pub fn heads(&self) -> &[u8]
+        ensures { result.now ≡ self.now.heads }
+    {
+        &self.heads[..self.count]
+    }
+
+    // A number of legs from tail to head.
+    fn add(&mut self, tail: u8, head: u8, times: usize)
+        requires { length self.old.tails + times ≤ 526 }
+        ensures { Added (replicate times (record { tail = tail; head = head })) self.old self.new }
+    {
+        let end = self.count + times;
+        self.tails[self.count..end].fill(tail);
+        self.heads[self.count..end].fill(head);
+        self.count += times;
+    }
+
+    // Required arc k.
+    fn add_arc(&mut self, k: u16, a: Arc)
+        requires { (length self.old.numbers < 256) × (length self.old.tails < 526) }
+        ensures { AddedArc k (arc_value a) self.old self.new }
+    {
+        self.numbers[self.required] = k;
+        self.required += 1;
+        self.add(a.tail, a.head, 1);
+    }
+
+    // A leg for each link.
+    fn add_links(&mut self, tails: &[u8], heads: &[u8])
+        requires { (length heads.now ≡ length tails.now) × (length self.old.tails + length tails.now ≤ 526) }
+        ensures { Added (links_of tails.now heads.now) self.old self.new }
+    {
+        let end = self.count + tails.len();
+        self.tails[self.count..end].copy_from_slice(tails);
+        self.heads[self.count..end].copy_from_slice(heads);
+        self.count += tails.len();
+    }
+
+    // A leg for each unit of the amounts.
+    fn add_units(&mut self, amounts: &[u16; 4096])
+        requires { length self.old.tails + length (units amounts.now) ≤ 526 }
+        ensures { Added (units amounts.now) self.old self.new }
+    {
+        for (x, amount) in amounts.iter().enumerate() {
+            self.add((x / 64) as u8, (x % 64) as u8, usize::from(*amount));
+        }
+    }
 }
 
-// How many legs are required arcs, and how many there are.
-#[derive(Clone, Copy)]
-pub struct Counts {
-    pub required: usize,
-    pub legs: usize,
+// The required arcs, in file order.
+pub fn gather(good: &GoodPlan) -> LaidLegs
+    ensures { Noted (good_plan good.now) (required_numbers (good_plan good.now)) result }
+{
+    let mut legs = LaidLegs::none();
+    let m = usize::from(good.plan.m);
+    for (k, a) in good.plan.arcs[..m].iter().enumerate() {
+        if plan::is_required(*a) {
+            legs.add_arc(k as u16, *a);
+        }
+    }
+    legs
 }
 
 // All legs: the required arcs, the links, the units of the amounts.
-pub fn lay(
-    plan: Plan,
-    link_tails: &[u8],
-    link_heads: &[u8],
-    amounts: &[u16; 4096],
-    numbers: &mut [u16; 256],
-    tails: &mut [u8; 526],
-    heads: &mut [u8; 526],
-) -> Counts
-    requires well_formed { WellFormed (plan_value plan) × (length numbers.old ≡ 256) × (length tails.old ≡ 526) × (length heads.old ≡ 526) }
-    requires room { (length link_heads.now ≡ length link_tails.now)
-        × (length (required_numbers (plan_value plan)) + length link_tails.now + length (units amounts.now) ≤ 526) }
-    ensures { Laid (plan_value plan) (links_of link_tails.now link_heads.now) amounts.now
-        numbers.new tails.new heads.new result.required result.legs }
+pub fn lay(good: &GoodPlan, link_tails: &[u8], link_heads: &[u8], amounts: &[u16; 4096]) -> LaidLegs
+    requires { (length link_heads.now ≡ length link_tails.now)
+        × (length (required_numbers (good_plan good.now)) + length link_tails.now + length (units amounts.now) ≤ 526) }
+    ensures { Laid (good_plan good.now) (links_of link_tails.now link_heads.now) amounts.now result }
 {
-    let required = gather(plan, numbers, tails, heads);
-    copy(tails, required, link_tails);
-    copy(heads, required, link_heads);
-    let legs = add_units(amounts, tails, heads, required + link_tails.len());
-    Counts { required, legs }
+    let mut legs = gather(good);
+    legs.add_links(link_tails, link_heads);
+    legs.add_units(amounts);
+    legs
 }

@@ -28,14 +28,13 @@ pub fn is_unjoined(arcs: &[[u16; 5]], places: &[u16]) -> bool
     requires { has_foreign (plan_over arcs.now) places.now ≡ false }
     ensures { result ≡ is_unjoined (plan_over arcs.now) places.now }
 {
-    if places.len() == 0 {
+    let Some((first, rest)) = places.split_first() else {
         return false;
-    }
-    let first = places[0] as usize;
-    let start = arcs[first][0];
-    let mut v = arcs[first][1];
-    for i in 1..places.len() {
-        let k = places[i] as usize;
+    };
+    let start = arcs[*first as usize][0];
+    let mut v = arcs[*first as usize][1];
+    for place in rest {
+        let k = *place as usize;
         if v != arcs[k][0] {
             return true;
         }

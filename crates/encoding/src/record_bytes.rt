@@ -8,6 +8,7 @@ ghost use Rattle.plan.specs.Records.{arc_value, record_of, record_at};
 ghost use Rattle.record_writer.specs.Writing.{loaded};
 ghost use Rattle.encoding.specs.RecordBytes.{arc_bytes, number_in, arc_in, arcs_in, with_arc};
 
+use crate::number_bytes::{put_bytes, put_number};
 use plan::Arc;
 use record_writer::writer::{at_most, no_records};
 
@@ -16,9 +17,7 @@ pub fn number_at(lent: &[u8], at: usize) -> u16
     requires { at + 2 ≤ length lent.now }
     ensures { result ≡ number_in lent.now at }
 {
-    let high = lent[at] as u16;
-    let low = lent[at + 1] as u16;
-    high * 256 + low
+    u16::from_be_bytes([lent[at], lent[at + 1]])
 }
 
 // The record whose bytes start at `at`.
@@ -40,13 +39,9 @@ pub(crate) fn put_record(lent: &mut [u8], at: usize, a: Arc)
     requires { at + 7 ≤ length lent.old }
     ensures { lent.new ≡ with_arc lent.old at (arc_value a) }
 {
-    lent[at] = a.tail;
-    lent[at + 1] = a.head;
-    lent[at + 2] = a.standing;
-    lent[at + 3] = (a.cost / 256) as u8;
-    lent[at + 4] = (a.cost % 256) as u8;
-    lent[at + 5] = (a.service / 256) as u8;
-    lent[at + 6] = (a.service % 256) as u8;
+    put_bytes(lent, at, &[a.tail, a.head, a.standing]);
+    put_number(lent, at + 3, a.cost);
+    put_number(lent, at + 5, a.service);
 }
 
 // The first m records become those of the first m arcs.

@@ -1,17 +1,16 @@
 // A tree that costs less than a drive that is known, among so many trees of a plan of which the first have none; and the floor.
 // Steps for other crates, which ask something of their caller.
+ghost use Rattle.call_steps.specs.Tabled.{measured_plan};
 ghost use Rattle.std.specs.Prelude.{◌≡◌};
 ghost use Rattle.std.proofs.Math.Option.{none};
-ghost use Rattle.postman.specs.Plan.{WellFormed};
-ghost use Rattle.plan.specs.Records.{plan_value};
-ghost use Rattle.multipliers.specs.Drive.{table_of};
 ghost use Rattle.call_steps.specs.Refusals.{plan_refusal};
-ghost use Rattle.preparation.specs.Preparation.{IsPreparation};
+ghost use Rattle.preparation.specs.Prepared.{prepared_plan};
 ghost use Rattle.tree_search.specs.Improved.{CanImprove};
 ghost use Rattle.held_tree.specs.Cheaper.{IsCheaper};
 
-use plan::Plan;
-use preparation::prepare::{Preparation, prepare};
+use call_steps::measured::Measured;
+use preparation::prepare::prepare;
+use preparation::prepared::Prepared;
 use solution::solve::floor_found;
 use tree_search::begin::begin;
 use tree_search::improve::improve;
@@ -27,21 +26,14 @@ pub struct Found {
 }
 
 // Of a plan that is prepared.
-fn cheaper_prepared(
-    plan: Plan,
-    table: &[[u32; 64]; 64],
-    r: Preparation,
-    cost: u64,
-    before: u32,
-    tries: u32,
-) -> Found
-    requires { IsPreparation (plan_value plan) table.now r × CanImprove (plan_value plan) cost before tries }
-    ensures { IsCheaper (plan_value plan) cost tries result }
+fn cheaper_prepared(p: &Prepared<'_>, cost: u64, before: u32, tries: u32) -> Found
+    requires { CanImprove (prepared_plan p.now) cost before tries }
+    ensures { IsCheaper (prepared_plan p.now) cost tries result }
 {
-    let b = begin(plan, table, r);
-    let s = improve(plan, table, r, b, cost, before, tries);
-    let floor = floor_found(plan, table, r, s.whole, s.cost);
-    let (tails, heads, multipliers) = (s.tails, s.heads, r.multipliers);
+    let b = begin(p);
+    let s = improve(p, &b, cost, before, tries);
+    let floor = floor_found(p, s.whole, s.cost);
+    let (tails, heads, multipliers) = (s.tails, s.heads, p.parts.multipliers);
     Found {
         best: Reached {
             cost: s.cost,
@@ -56,18 +48,17 @@ fn cheaper_prepared(
 }
 
 // The same, from the table of the plan's distances.
-pub fn cheaper_tabled(
-    plan: Plan,
-    table: &[[u32; 64]; 64],
-    cost: u64,
-    before: u32,
-    tries: u32,
-) -> Found
-    requires { WellFormed (plan_value plan) × (table.now ≡ table_of (plan_value plan)) × (plan_refusal (plan_value plan) ≡ none)
-        × CanImprove (plan_value plan) cost before tries }
-    ensures { IsCheaper (plan_value plan) cost tries result }
+pub fn cheaper_tabled(m: &Measured<'_>, cost: u64, before: u32, tries: u32) -> Found
+    requires { (plan_refusal (measured_plan m.now) ≡ none)
+        × CanImprove (measured_plan m.now) cost before tries }
+    ensures { IsCheaper (measured_plan m.now) cost tries result }
 {
-    let net = network::network::network_of(plan, table);
-    let p = prepare(plan, table, net);
-    cheaper_prepared(plan, table, p, cost, before, tries)
+    let net = network::network::network_of(m.good, m.table);
+    let parts = prepare(m.good, m.table, net);
+    let p = Prepared {
+        good: m.good,
+        table: m.table,
+        parts: &parts,
+    };
+    cheaper_prepared(&p, cost, before, tries)
 }

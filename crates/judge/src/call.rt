@@ -1,11 +1,11 @@
 // The judging call: the refusals in document 02's order, and the cost.
 ghost use Rattle.std.specs.Prelude.{◌≡◌, ◌≤◌, ◌<◌, ◌^◌, length};
 ghost use Rattle.std.proofs.Math.Option.{some};
-ghost use Rattle.postman.specs.Plan.{WellFormed, required_numbers};
+ghost use Rattle.postman.specs.Plan.{required_numbers};
 ghost use Rattle.postman.specs.Refusal.{first_refusal};
 ghost use Rattle.postman.specs.Drive.{drive_cost};
 ghost use Rattle.postman.specs.Judge.{highest_places, lent_conditions};
-ghost use Rattle.plan.specs.Records.{plan_value};
+ghost use Rattle.plan.specs.GoodPlan.{good_plan};
 ghost use Rattle.refusal.specs.Verdict.{refusal_number};
 ghost use Rattle.drive_tally.specs.Rows.{plan_over};
 ghost use Rattle.drive_tally.specs.Tally.{AreDue};
@@ -14,7 +14,7 @@ ghost use Rattle.judge.specs.Contract.{judged_answer, list_answer, plan_answer, 
 use crate::Judged;
 use drive_tally::faults::{has_foreign, is_unjoined};
 use drive_tally::tally::{has_flag, priced, required_flags};
-use plan::Plan;
+use plan::good_plan::GoodPlan;
 use plan::rows::rows_of;
 use plan_file::reader::{file_edition, is_edition, read_plan};
 use refusal::Refusal;
@@ -51,12 +51,12 @@ fn judge_arcs(arcs: &[[u16; 5]], places: &[u16]) -> Judged
 }
 
 // The arcs of a plan that the file's rules let through, lent as rows.
-fn judge_plan(plan: Plan, places: &[u16]) -> Judged
-    requires { WellFormed (plan_value plan) × (length places.now ≤ highest_places) }
-    ensures { judged_answer result ≡ plan_answer (plan_value plan) places.now }
+fn judge_plan(good: &GoodPlan, places: &[u16]) -> Judged
+    requires { length places.now ≤ highest_places }
+    ensures { judged_answer result ≡ plan_answer (good_plan good.now) places.now }
 {
-    let rows = rows_of(plan);
-    judge_arcs(&rows[..plan.m as usize], places)
+    let rows = rows_of(good.plan);
+    judge_arcs(&rows[..good.plan.m as usize], places)
 }
 
 // "A list above 65,535 places gets 3": 1 and 2 come before it, and nothing else of the file is looked at.
@@ -81,5 +81,10 @@ pub fn judge(bytes: &[u8], places: &[u16]) -> Judged
     if 65_535 < places.len() {
         return Err(long_list(bytes, places.len()));
     }
-    judge_plan(read_plan(bytes)?.plan, places)
+    judge_plan(
+        &GoodPlan {
+            plan: read_plan(bytes)?.plan,
+        },
+        places,
+    )
 }

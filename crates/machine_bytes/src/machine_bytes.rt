@@ -52,12 +52,7 @@ fn load_line(machine: &[u8]) -> [District; 8]
     requires { districts_bytes ≤ length machine.now }
     ensures { result ≡ map (λ k. district_in machine.now (1516 * k)) (below 8) }
 {
-    let front = load_district(machine, 0);
-    let mut line = [front; 8];
-    for k in 1..8 {
-        line[k] = load_district(machine, 1_516 * k);
-    }
-    line
+    std::array::from_fn(|k| load_district(machine, 1_516 * k))
 }
 
 // The machine that is lent.
@@ -98,9 +93,8 @@ fn store_line(machine: &mut [u8], line: [District; 8])
     requires { districts_bytes ≤ length machine.old }
     ensures { AreSized line × (length line ≡ 8) × (machine.new ≡ put_at machine.old 0 (flat_map district_bytes line)) }
 {
-    for k in 0..8 {
-        let d = line[k];
-        store_district(machine, 1_516 * k, d);
+    for (k, d) in line.iter().enumerate() {
+        store_district(machine, 1_516 * k, *d);
     }
 }
 

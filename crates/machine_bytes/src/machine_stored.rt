@@ -7,7 +7,7 @@ ghost use Rattle.machine_bytes.specs.MachineBytes.{districts_bytes};
 ghost use Rattle.machine_bytes.specs.MachineStored.{IsEntryStored, IsTurnHandedOver};
 
 use crate::machine_bytes::store_machine;
-use answers::answer::{put_multipliers, put_words, words};
+use answers::answer::{put_first, words};
 use answers::number::refused_number;
 use district_entry::enter::Entered;
 use districts::turn::{Outcome, Turned};
@@ -64,13 +64,13 @@ pub fn hand_turn_over(
         Outcome::ShortSheet => refused_number(Refusal::ShortSheet),
         Outcome::Unfinished(place) => {
             store_machine(machine, r.machine);
-            put_words(turn_words(r.planned), words_lent);
+            put_first(&turn_words(r.planned), words_lent);
             i64::from(place)
         }
         Outcome::Finished(place) => {
             store_machine(machine, r.machine);
-            put_words(turn_words(r.planned), words_lent);
-            put_multipliers(turn_multipliers(r.planned), u_lent);
+            put_first(&turn_words(r.planned), words_lent);
+            put_first(&turn_multipliers(r.planned), u_lent);
             8 + i64::from(place)
         }
     }

@@ -3,9 +3,10 @@
 ghost use Rattle.std.specs.Prelude.{◌≡◌, ◌<◌, max, ◌-ℤ◌, length};
 ghost use Rattle.std.specs.Int.Signed.{shr_z};
 ghost use Rattle.integers.specs.Linear.{Within};
-ghost use Rattle.residual_search.specs.Bounds.{AtMost};
 ghost use Rattle.residual_search.specs.Search.{beyond};
 ghost use Rattle.multiplier_steps.specs.Steps.{AreSmall, capped as cappedTo, capped_all, rooted as rootedAt, carried_to, carried_on, span as largest};
+
+use residual_search::vertex_list::VertexList;
 
 // No multiplier lies further from 0: 2 to the 40.
 const BEYOND: i64 = 1_099_511_627_776;
@@ -19,12 +20,11 @@ pub fn capped(a: i64) -> i64
 
 // The multipliers of vs, capped; 0 elsewhere.
 #[tactic(auto, using(crate::specs::Laws::Turns::turn_by_turn), unfolding(crate::specs::Steps::capped_all))]
-pub fn capped_all(x: &[i64; 64], vs: &[u8]) -> [i64; 64]
-    requires { AtMost 63 vs.now }
-    ensures { result ≡ capped_all x.now vs.now }
+pub fn capped_all(x: &[i64; 64], vs: VertexList) -> [i64; 64]
+    ensures { result ≡ capped_all x.now vs.entry.vertices.now }
 {
     let mut u: [i64; 64] = [0; 64];
-    for &v in vs {
+    for &v in vs.vertices {
         let v = usize::from(v);
         u[v] = capped(x[v]);
     }
@@ -33,13 +33,13 @@ pub fn capped_all(x: &[i64; 64], vs: &[u8]) -> [i64; 64]
 
 // The multipliers less that of the first vertex, which is the root; 0 elsewhere.
 #[tactic(auto, using(crate::specs::Laws::Turns::turn_by_turn), unfolding(crate::specs::Steps::rooted))]
-pub fn rooted(x: &[i64; 64], vs: &[u8]) -> [i64; 64]
-    requires { AtMost 63 vs.now × (0 < length vs.now) × AreSmall beyond x.now }
-    ensures { result ≡ rootedAt x.now vs.now }
+pub fn rooted(x: &[i64; 64], vs: VertexList) -> [i64; 64]
+    requires { (0 < length vs.vertices.now) × AreSmall beyond x.now }
+    ensures { result ≡ rootedAt x.now vs.entry.vertices.now }
 {
-    let base = x[usize::from(vs[0])];
+    let base = x[usize::from(vs.vertices[0])];
     let mut u: [i64; 64] = [0; 64];
-    for &v in vs {
+    for &v in vs.vertices {
         let v = usize::from(v);
         u[v] = x[v] - base;
     }
@@ -57,12 +57,12 @@ fn carry(y: i64, x: i64, before: i64) -> i64
 
 // The multipliers y, with half of the change from `before` to x once more.
 #[tactic(auto, using(crate::specs::Laws::Turns::turn_by_turn), unfolding(crate::specs::Steps::carried_on))]
-pub fn carry_on(y: [i64; 64], x: &[i64; 64], before: &[i64; 64], vs: &[u8]) -> [i64; 64]
-    requires { AtMost 63 vs.now × AreSmall beyond x.now × AreSmall beyond before.now }
-    ensures { result ≡ carried_on vs.now y x.now before.now }
+pub fn carry_on(y: [i64; 64], x: &[i64; 64], before: &[i64; 64], vs: VertexList) -> [i64; 64]
+    requires { AreSmall beyond x.now × AreSmall beyond before.now }
+    ensures { result ≡ carried_on vs.entry.vertices.now y x.now before.now }
 {
     let mut z = y;
-    for &v in vs {
+    for &v in vs.vertices {
         let v = usize::from(v);
         z[v] = carry(capped(y[v]), x[v], before[v]);
     }
@@ -71,13 +71,13 @@ pub fn carry_on(y: [i64; 64], x: &[i64; 64], before: &[i64; 64], vs: &[u8]) -> [
 
 // The largest distance to the first vertex.
 #[tactic(auto, using(crate::specs::Laws::Turns::turn_by_turn), unfolding(crate::specs::Steps::span))]
-pub fn span(d: &[[u32; 64]; 64], vs: &[u8]) -> u64
-    requires { AtMost 63 vs.now × (0 < length vs.now) }
-    ensures { result ≡ largest d.now vs.now }
+pub fn span(d: &[[u32; 64]; 64], vs: VertexList) -> u64
+    requires { 0 < length vs.vertices.now }
+    ensures { result ≡ largest d.now vs.entry.vertices.now }
 {
-    let root = usize::from(vs[0]);
+    let root = usize::from(vs.vertices[0]);
     let mut most: u64 = 0;
-    for &v in vs {
+    for &v in vs.vertices {
         let v = usize::from(v);
         most = most.max(u64::from(d[v][root]));
     }

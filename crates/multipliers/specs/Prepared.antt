@@ -48,7 +48,7 @@ pub record IsPrepared (p : Plan) (table : List (List ℕ)) (amounts vs : List �
 
 -- The same, of what an ascent reads.
 abbrev pub IsReady : Plan → Ascent → Type 0
-IsReady p a = IsPrepared p a.table.now a.amounts.now a.vs.now a.setting
+IsReady p a = IsPrepared p a.table.now a.amounts.now a.vs.vertices.now a.setting
 
 -- What L(u) asks.
 abbrev pub IsPricedIn : Plan → List (List ℕ) → Setting → List ℤ → Type 0

@@ -5,7 +5,7 @@ ghost use Rattle.std.specs.Prelude.{◌≡◌, cond};
 ghost use Rattle.std.specs.Int.Signed.{lt_z};
 ghost use Rattle.postman.specs.Plan.{Plan as AnyPlan};
 ghost use Rattle.postman.specs.PlanCall.{root};
-ghost use Rattle.plan.specs.Records.{plan_value};
+ghost use Rattle.plan.specs.GoodPlan.{good_plan};
 ghost use Rattle.residual_search.specs.Search.{beyond};
 ghost use Rattle.multiplier_steps.specs.Steps.{AreSmall};
 ghost use Rattle.postman.specs.Steps.{cell};
@@ -22,7 +22,8 @@ use lagrangian::bound::lagrangian;
 use multiplier_steps::lawful::are_lawful;
 use multiplier_steps::steps::{rooted, span};
 use network::network::Network;
-use plan::Plan;
+use plan::good_plan::GoodPlan;
+use residual_search::vertex_list::VertexList;
 
 // What the steps read of the network: the component of each vertex, whether it is required, the number of components, R and D.
 #[derive(Clone, Copy)]
@@ -70,7 +71,7 @@ impl Stage {
 pub(crate) struct Ascent<'a> {
     table: &'a [[u32; 64]; 64],
     amounts: &'a [u16; 4096],
-    vs: &'a [u8],
+    vs: VertexList<'a>,
     setting: Setting,
 }
 
@@ -191,16 +192,17 @@ impl<'a> Ascent<'a> {
 
 // The same, of a network.
 pub fn multipliers_for<'a>(
-    plan: Plan,
+    good: &GoodPlan,
     table: &'a [[u32; 64]; 64],
     vs: &'a [u8],
     net: &Network,
     base: &'a Balance,
     u: [i64; 64],
 ) -> Best
-    requires { IsBase (plan_value plan) table.now vs.now (state_of base.now) × IsNetwork (plan_value plan) net.now
-        × (u ≡ multipliers (cell table.now) vs.now (state_of base.now) (root (plan_value plan))) }
-    ensures { (result.multipliers ≡ multipliers_for (plan_value plan)) × (result.bound ≡ bound_of (plan_value plan) result.multipliers) }
+    requires { IsBase (good_plan good.now) table.now vs.now (state_of base.now) × IsNetwork (good_plan good.now) net.now
+        × (u ≡ multipliers (cell table.now) vs.now (state_of base.now) (root (good_plan good.now))) }
+    ensures { (result.multipliers ≡ multipliers_for (good_plan good.now))
+        × (result.bound ≡ bound_of (good_plan good.now) result.multipliers) }
 {
     let setting = Setting {
         component: net.component,
@@ -212,7 +214,7 @@ pub fn multipliers_for<'a>(
     let ascent = Ascent {
         table,
         amounts: &base.amounts,
-        vs,
+        vs: VertexList { vertices: vs },
         setting,
     };
     ascent.ascend(u)

@@ -1,14 +1,13 @@
 // The network of a plan.
 // Steps for other crates, which ask something of their caller.
-ghost use Rattle.postman.specs.Plan.{WellFormed};
-ghost use Rattle.plan.specs.Records.{plan_value};
+ghost use Rattle.plan.specs.GoodPlan.{good_plan};
 ghost use Rattle.shortest.specs.StepContracts.{IsTable};
 ghost use Rattle.network.specs.Network.{IsNetwork};
 
 use crate::cut_off::is_cut_off;
 use crate::thinning::{pairs, thin};
 use components::components::components_of;
-use plan::Plan;
+use plan::good_plan::GoodPlan;
 use required::required_sum::{imbalance, required_cost};
 use required::required_vertex::required;
 
@@ -29,22 +28,22 @@ pub struct Network {
     pub cut_off: bool,
 }
 
-pub fn network_of(plan: Plan, table: &[[u32; 64]; 64]) -> Network
-    requires { WellFormed (plan_value plan) × IsTable (plan_value plan) table.now }
-    ensures { IsNetwork (plan_value plan) result }
+pub fn network_of(good: &GoodPlan, table: &[[u32; 64]; 64]) -> Network
+    requires { IsTable (good_plan good.now) table.now }
+    ensures { IsNetwork (good_plan good.now) result }
 {
-    let required = required(plan);
-    let parts = components_of(plan, required);
+    let required = required(good);
+    let parts = components_of(good, required);
     let component = parts.of;
     let links = thin(table, pairs(required));
-    let imbalance = imbalance(plan);
+    let imbalance = imbalance(good);
     Network {
         required,
         component,
         components: parts.count,
         links,
         imbalance,
-        required_cost: required_cost(plan),
+        required_cost: required_cost(good),
         cut_off: is_cut_off(table, required),
     }
 }

@@ -64,8 +64,8 @@ fn ways(row: &[u32; 64], columns: &[u32; 4096], j: usize, a: u32) -> u32
     ensures { result ≡ ways_of row.now columns.now j a }
 {
     let mut n: u32 = 0;
-    for k in 0..64 {
-        n += u32::from(row[k] + columns[j * 64 + k] == a);
+    for (&b, &c) in row.iter().zip(&columns[j * 64..j * 64 + 64]) {
+        n += u32::from(b + c == a);
     }
     n
 }

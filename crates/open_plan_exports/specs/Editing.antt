@@ -7,7 +7,10 @@ use Rattle.postman.specs.OpenPlan.{Call}
 use Rattle.postman.specs.Windows.{Departure}
 use Rattle.refusal.specs.Verdict.{or_else}
 use Rattle.held_file.specs.Held.{file_in, held_of}
+use Rattle.open_plan.specs.declared.OpenPlan.{OpenPlan}
+use Rattle.open_plan.specs.declared.Moved.{Moved}
 use Rattle.open_plan.specs.State.{fresh_state, refusal_of, next}
+use Rattle.open_plan.specs.Contract.{IsMoved}
 use Rattle.answers.specs.Number.{one_number}
 use Rattle.exports.specs.Call.{IsExportedCallAt}
 use Rattle.open_plan_bytes.specs.StateBytes.{open_bytes, open_in, state_bytes}
@@ -31,6 +34,11 @@ move_refusal c bytes = short_state bytes (refusal_of (open_in bytes) c)
 pub record IsExportedMove (c : Call) (bytes bytes' : List ℕ) (number : ℤ) : Type 0 where
   pub number_is : number ≡ one_number (answer (move_refusal c bytes) 0)
   pub state_is : bytes' ≡ unless (move_refusal c bytes) (state_bytes (next (open_in bytes) c) ++ drop open_bytes bytes) bytes
+
+-- What a call leaves that answers the lent state by `post`: what the move c leaves, where `post` is what c answers.
+abbrev pub IsMovedBy : (OpenPlan → Moved → Type 0) → List ℕ → List ℕ → ℤ → Type 0
+IsMovedBy post bytes bytes' number =
+    (c : Call) → ((r : Moved) → post (open_in bytes) r → IsMoved (open_in bytes) c r) → IsExportedMove c bytes bytes' number
 
 -- Asking: what the plan call at a departure answers for the file that is held; a slice below the state is refused, and nothing is changed.
 pub record IsExportedAsk (bytes : List ℕ) (budget : ℕ) (windows : List ℕ) (d : Departure) (sheet sheet' words words' : List ℕ)

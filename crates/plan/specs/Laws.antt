@@ -1,6 +1,5 @@
 -- What is proved about the definitions.
 pub mod Prefix
-pub mod Arrays
 pub mod Records
 pub mod Rows
 pub mod Made

@@ -1,6 +1,7 @@
 // The plan by value: what every layer above the plan file works on.
 #![tactic(auto)]
 
+pub mod good_plan; // a plan as a good file holds it
 pub mod rows; // the arcs as rows of numbers, which can be lent
 
 ghost use Rattle.std.specs.Prelude.{◌≡◌};

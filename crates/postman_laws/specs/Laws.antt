@@ -4,6 +4,7 @@ pub mod Below
 pub mod WellFormed
 pub mod Selection
 pub mod Lists
+pub mod Arrays
 pub mod Minimum
 pub mod Pick
 pub mod Occurrences

@@ -1,6 +1,6 @@
 // What the trees are tried from: the state of the required arcs.
 ghost use Rattle.std.specs.Prelude.{◌≡◌, []};
-ghost use Rattle.plan.specs.Records.{plan_value};
+ghost use Rattle.plan.specs.GoodPlan.{good_plan};
 ghost use Rattle.balance.specs.Records.{state_of};
 ghost use Rattle.postman.specs.Steps.{cell};
 ghost use Rattle.balance.specs.Balance.{balance as balanceOf};
@@ -10,29 +10,32 @@ ghost use Rattle.postman.specs.PlanCall.{root};
 ghost use Rattle.multipliers.specs.Prepared.{IsKnown, IsBase};
 
 use balance::state::Balance;
-use plan::Plan;
+use plan::good_plan::GoodPlan;
 
 // The balancing of the required arcs, added one by one in file order.
-pub(crate) fn base_state(plan: Plan, table: &[[u32; 64]; 64], vs: &[u8]) -> Balance
-    requires { IsKnown (plan_value plan) table.now vs.now }
-    ensures { state_of result ≡ balanceOf (cell (table_of (plan_value plan))) (plan_value plan) [] }
+pub(crate) fn base_state(good: &GoodPlan, table: &[[u32; 64]; 64], vs: &[u8]) -> Balance
+    requires { IsKnown (good_plan good.now) table.now vs.now }
+    ensures { state_of result ≡ balanceOf (cell (table_of (good_plan good.now))) (good_plan good.now) [] }
 {
-    let mut numbers = [0u16; 256];
-    let mut tails = [0u8; 526];
-    let mut heads = [0u8; 526];
-    let c = drive_legs::legs::gather(plan, &mut numbers, &mut tails, &mut heads);
-    balance::state::add_all(balance::state::empty(), table, vs, &tails[..c], &heads[..c])
+    let arcs = drive_legs::legs::gather(good);
+    balance::state::add_all(
+        balance::state::empty(),
+        table,
+        vs,
+        arcs.tails(),
+        arcs.heads(),
+    )
 }
 
 // The greatest multipliers that are 0 at the lowest required vertex.
 pub(crate) fn multipliers_of(
-    plan: Plan,
+    good: &GoodPlan,
     table: &[[u32; 64]; 64],
     vs: &[u8],
     base: Balance,
 ) -> [i64; 64]
-    requires { IsBase (plan_value plan) table.now vs.now (state_of base) }
-    ensures { result ≡ multipliers (cell table.now) vs.now (state_of base) (root (plan_value plan)) }
+    requires { IsBase (good_plan good.now) table.now vs.now (state_of base) }
+    ensures { result ≡ multipliers (cell table.now) vs.now (state_of base) (root (good_plan good.now)) }
 {
     balance::multipliers::multipliers(base, table, vs, vs[0])
 }

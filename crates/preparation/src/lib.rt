@@ -3,4 +3,5 @@
 
 mod base; // the state of the required arcs
 pub mod prepare; // the preparation, by value
+pub mod prepared; // the preparation with what it is of
 pub mod links; // the state once the links of a tree are added

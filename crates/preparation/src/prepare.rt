@@ -1,7 +1,7 @@
 // The preparation of a plan that is not refused: what its trees are tried from, its drives laid and its floor computed.
 // Steps for other crates, which ask something of their caller.
+ghost use Rattle.plan.specs.GoodPlan.{good_plan};
 ghost use Rattle.postman.specs.Required.{required};
-ghost use Rattle.plan.specs.Records.{plan_value};
 ghost use Rattle.network.specs.Network.{IsNetwork};
 ghost use Rattle.multipliers.specs.Prepared.{IsKnown};
 ghost use Rattle.preparation.specs.Preparation.{IsPreparation};
@@ -11,7 +11,7 @@ use balance::state::Balance;
 use candidates::Vertices;
 use multipliers::ascend::{Best, multipliers_for};
 use network::network::Network;
-use plan::Plan;
+use plan::good_plan::GoodPlan;
 
 // The required vertices, the network, the state of the required arcs, and the multipliers that are answered with L(u).
 #[derive(Clone, Copy)]
@@ -23,15 +23,15 @@ pub struct Preparation {
     pub bound: i64,
 }
 
-pub fn prepare(plan: Plan, table: &[[u32; 64]; 64], net: Network) -> Preparation
-    requires { IsKnown (plan_value plan) table.now (required (plan_value plan)) × IsNetwork (plan_value plan) net }
-    ensures { IsPreparation (plan_value plan) table.now result }
+pub fn prepare(good: &GoodPlan, table: &[[u32; 64]; 64], net: Network) -> Preparation
+    requires { IsKnown (good_plan good.now) table.now (required (good_plan good.now)) × IsNetwork (good_plan good.now) net }
+    ensures { IsPreparation (good_plan good.now) table.now result }
 {
     let vertices = candidates::vertices_of(net.required);
     let vs = &vertices.list[..vertices.count];
-    let base = base_state(plan, table, vs);
-    let greatest = multipliers_of(plan, table, vs, base);
-    let Best { multipliers, bound } = multipliers_for(plan, table, vs, &net, &base, greatest);
+    let base = base_state(good, table, vs);
+    let greatest = multipliers_of(good, table, vs, base);
+    let Best { multipliers, bound } = multipliers_for(good, table, vs, &net, &base, greatest);
     Preparation {
         vertices,
         network: net,

@@ -1,11 +1,12 @@
 // What a plan call is made with under a numbering: the plan, its tables of distances and weights; and the multipliers carried back.
 // Steps for other crates, which ask something of their caller.
-ghost use Rattle.std.specs.Prelude.{◌≡◌, ℕ, ◌<◌, get_or, length};
-ghost use Rattle.postman.specs.Plan.{WellFormed};
+ghost use Rattle.std.specs.Prelude.{◌≡◌, [], ℕ, ◌<◌, get_or, length};
+ghost use Rattle.plan.specs.GoodPlan.{good_plan};
 ghost use Rattle.plan.specs.Records.{plan_value, arc_value, record_of};
 ghost use Rattle.postman.specs.Renumbering.{number_in, renumbered_arc, renumbered};
-ghost use Rattle.renumbering.specs.Renumbered.{Inside, IsRenumberedTable, carried_in};
+ghost use Rattle.renumbering.specs.Renumbered.{Inside, IsRenumberedRow, IsRenumberedTable, carried_in};
 
+use plan::good_plan::GoodPlan;
 use plan::{Arc, Plan};
 
 // An arc between the new numbers of its ends.
@@ -21,15 +22,18 @@ fn renumber_arc(a: Arc, to: &[u8; 64]) -> Arc
 }
 
 // The plan under a numbering.
-pub fn renumber(plan: Plan, to: &[u8; 64]) -> Plan
-    requires { WellFormed (plan_value plan) × (length to.now ≡ 64) }
-    ensures { plan_value result ≡ renumbered (plan_value plan) (number_in to.now) }
+pub fn renumber(good: &GoodPlan, to: &[u8; 64]) -> Plan
+    requires { length to.now ≡ 64 }
+    ensures { plan_value result ≡ renumbered (good_plan good.now) (number_in to.now) }
 {
     let mut arcs = [Arc::ZERO; 256];
-    for (k, a) in plan.arcs[..usize::from(plan.m)].iter().enumerate() {
+    for (k, a) in good.plan.arcs[..usize::from(good.plan.m)]
+        .iter()
+        .enumerate()
+    {
         arcs[k] = renumber_arc(*a, to);
     }
-    Plan { arcs, ..plan }
+    Plan { arcs, ..good.plan }
 }
 
 // What stands in the places that the numbers say.
@@ -37,11 +41,12 @@ fn entries<T: Copy>(xs: &[T; 64], numbers: &[u8; 64]) -> [T; 64]
     requires { Inside numbers.now }
     ensures { (k : ℕ) (d : T) → k < 64 → get_or result k d ≡ get_or xs.now (number_in numbers.now k) d }
 {
-    let mut found = *xs;
-    for (k, number) in numbers.iter().enumerate() {
-        found[k] = xs[usize::from(*number)];
-    }
-    found
+    std::array::from_fn(
+        |k| -> T
+            requires { (k < 64) × Inside numbers.now }
+            ensures { (d : T) → result ≡ get_or xs.entry.now (number_in numbers.entry.now k) d }
+        { xs[usize::from(numbers[k])] },
+    )
 }
 
 // A table of distances or of weights by new numbers: it is not computed again.
@@ -49,11 +54,12 @@ pub fn renumber_table(table: &[[u32; 64]; 64], from: &[u8; 64]) -> [[u32; 64]; 6
     requires { Inside from.now }
     ensures { IsRenumberedTable from.now table.now result }
 {
-    let mut rows = entries(table, from);
-    for i in 0..64usize {
-        rows[i] = entries(&rows[i], from);
-    }
-    rows
+    std::array::from_fn(
+        |i|
+            requires { (i < 64) × Inside from.now }
+            ensures { IsRenumberedRow from.entry.now (get_or table.entry.now (number_in from.entry.now i) []) result }
+        { entries(&table[usize::from(from[i])], from) },
+    )
 }
 
 // Multipliers carried back: what those of the renumbered plan give to each vertex by its new number.

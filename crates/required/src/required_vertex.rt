@@ -1,12 +1,14 @@
 // The vertices at the ends of required arcs.
 // Steps for other crates, which ask something of their caller.
 ghost use Rattle.std.specs.Prelude.{◌≡◌, ◌&&◌, ◌||◌, eqb};
-ghost use Rattle.postman.specs.Plan.{WellFormed, is_required_arc};
+ghost use Rattle.postman.specs.Plan.{is_required_arc};
 ghost use Rattle.postman.specs.Required.{is_required};
-ghost use Rattle.plan.specs.Records.{plan_value, arc_value};
+ghost use Rattle.plan.specs.GoodPlan.{good_plan};
+ghost use Rattle.plan.specs.Records.{arc_value};
 ghost use Rattle.required.specs.StepContracts.{IsRequiredFlags};
 
-use plan::{Arc, Plan};
+use plan::Arc;
+use plan::good_plan::GoodPlan;
 
 // Whether v is an end of the arc, and the arc required.
 fn touches(a: Arc, v: usize) -> bool
@@ -16,18 +18,16 @@ fn touches(a: Arc, v: usize) -> bool
 }
 
 // "Required vertices: tails and heads of must arcs."
-fn is_required(plan: Plan, v: usize) -> bool
-    requires { WellFormed (plan_value plan) }
-    ensures { result ≡ is_required (plan_value plan) v }
+fn is_required(good: &GoodPlan, v: usize) -> bool
+    ensures { result ≡ is_required (good_plan good.now) v }
 {
-    plan.arcs[..usize::from(plan.m)]
+    good.plan.arcs[..usize::from(good.plan.m)]
         .iter()
         .any(|a| touches(*a, v))
 }
 
-pub fn required(plan: Plan) -> [bool; 64]
-    requires { WellFormed (plan_value plan) }
-    ensures { IsRequiredFlags (plan_value plan) result }
+pub fn required(good: &GoodPlan) -> [bool; 64]
+    ensures { IsRequiredFlags (good_plan good.now) result }
 {
-    std::array::from_fn(|v| is_required(plan, v))
+    std::array::from_fn(|v| is_required(good, v))
 }

@@ -2,13 +2,13 @@
 // Steps for other crates, which ask something of their caller.
 ghost use Rattle.std.specs.Prelude.{◌≡◌, cond, ◌<◌, ◌≤◌, min, get_or, set, eqb, ltb};
 ghost use mathlib.Core.List.{Memᴰ};
-ghost use Rattle.residual_search.specs.Bounds.{AtMost};
 ghost use Rattle.residual_search.specs.Search.{beyond, relax, nearest};
 ghost use Rattle.residual_search.specs.Until.{until, settled_by};
 ghost use Rattle.residual_search.specs.Lengths.{length_in};
 ghost use Rattle.residual_search.specs.Found.{found_of};
 
 use crate::lengths::Lengths;
+use crate::vertex_list::VertexList;
 
 // Further than every distance.
 const BEYOND: u64 = 1099511627776;
@@ -46,12 +46,12 @@ impl Found {
 
     // Every vertex may go by w, which is `base` away from the target. The nearest then of the
     // vertices that are not settled, as each is relaxed.
-    fn relax(&mut self, lengths: Lengths, vs: &[u8], w: u8, base: u64, goal: u8) -> u8
-        requires { (w < 64) × (base ≤ beyond) × (goal < 64) × Memᴰ goal vs.now × AtMost 63 vs.now }
+    fn relax(&mut self, lengths: Lengths, vs: VertexList, w: u8, base: u64, goal: u8) -> u8
+        requires { (w < 64) × (base ≤ beyond) × (goal < 64) × Memᴰ goal vs.vertices.now }
         ensures relaxed { (self.new.distance, self.new.next)
-            ≡ relax (length_in lengths.entry) vs.now w base (self.old.distance, self.old.next) }
+            ≡ relax (length_in lengths.entry) vs.entry.vertices.now w base (self.old.distance, self.old.next) }
         ensures rank { self.new.rank ≡ self.old.rank }
-        ensures nearest { result ≡ nearest vs.now goal self.new.distance self.new.rank }
+        ensures nearest { result ≡ nearest vs.entry.vertices.now goal self.new.distance self.new.rank }
         ensures in_range { result < 64 }
     {
         let by = usize::from(w);
@@ -59,7 +59,7 @@ impl Found {
         let last = (base + lengths.length(end, by)).min(self.distance[end]);
         let mut best = goal;
         let mut low = open_distance(self.rank[end], last);
-        for &v in vs {
+        for &v in vs.vertices {
             let i = usize::from(v);
             let c = base + lengths.length(i, by);
             let y = self.relax_at(i, c, w);
@@ -81,10 +81,10 @@ pub fn settled_by(t: u8, goal: u8, n: usize) -> usize
 }
 
 // The search towards t, until the goal is the nearest, or `most` vertices are settled.
-pub fn search_towards(lengths: Lengths, vs: &[u8], t: u8, goal: u8, most: usize) -> Found
-    requires { (t < 64) × (goal < 64) × Memᴰ goal vs.now × AtMost 63 vs.now × (most ≤ 64) }
+pub fn search_towards(lengths: Lengths, vs: VertexList, t: u8, goal: u8, most: usize) -> Found
+    requires { (t < 64) × (goal < 64) × Memᴰ goal vs.vertices.now × (most ≤ 64) }
     ensures { found_of result
-        ≡ until (length_in lengths.entry) vs.now t goal most }
+        ≡ until (length_in lengths.entry) vs.entry.vertices.now t goal most }
 {
     let mut found = Found {
         distance: [BEYOND; 64],

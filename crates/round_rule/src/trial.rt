@@ -1,13 +1,12 @@
 // What a round is made with.
 // Steps for other crates, which ask something of their caller.
 ghost use Rattle.std.specs.Prelude.{◌≡◌, ◌≤◌};
-ghost use Rattle.postman.specs.Plan.{WellFormed};
-ghost use Rattle.plan.specs.Records.{plan_value};
+ghost use Rattle.plan.specs.GoodPlan.{good_plan};
 ghost use Rattle.round_rule.specs.Rounds.{is_gone_on, gone_on, numbers_of, exchanged_by, next_round};
 ghost use Rattle.round_rule.specs.Trial.{GoesOn};
 
 use crate::kept::Kept;
-use plan::Plan;
+use plan::good_plan::GoodPlan;
 use renumbering::numbering::Numbering;
 use renumbering::shuffle::{Drawn, shuffle};
 
@@ -64,15 +63,15 @@ fn numbers_of(k: Kept) -> Numbering
 }
 
 // Any other: that numbering, with two exchanges.
-fn exchanges(plan: Plan, budget: u32, k: Kept) -> Chosen
-    requires { WellFormed (plan_value plan) × GoesOn (plan_value plan) k }
-    ensures { result ≡ exchanged_by (plan_value plan) budget k }
+fn exchanges(good: &GoodPlan, budget: u32, k: Kept) -> Chosen
+    requires { GoesOn (good_plan good.now) k }
+    ensures { result ≡ exchanged_by (good_plan good.now) budget k }
 {
     let before = Drawn {
         numbering: numbers_of(k),
         random: k.random,
     };
-    let d = shuffle(before, u64::from(plan.n), 2);
+    let d = shuffle(before, u64::from(good.plan.n), 2);
     Chosen {
         trial: Trial {
             numbering: d.numbering,
@@ -83,13 +82,13 @@ fn exchanges(plan: Plan, budget: u32, k: Kept) -> Chosen
 }
 
 // The next round.
-pub fn choose(plan: Plan, budget: u32, round: u32, k: Kept) -> Chosen
-    requires { WellFormed (plan_value plan) × GoesOn (plan_value plan) k × (budget ≤ 1000000) }
-    ensures { result ≡ next_round (plan_value plan) budget round k }
+pub fn choose(good: &GoodPlan, budget: u32, round: u32, k: Kept) -> Chosen
+    requires { GoesOn (good_plan good.now) k × (budget ≤ 1000000) }
+    ensures { result ≡ next_round (good_plan good.now) budget round k }
 {
     if goes_on(round, k.left) {
         further(budget, k)
     } else {
-        exchanges(plan, budget, k)
+        exchanges(good, budget, k)
     }
 }

@@ -1,5 +1,4 @@
 -- What the rounds are made over, and what is held.
-pub mod Tabled
 pub mod Held
 -- What is proved about them.
 pub mod Laws

@@ -1,17 +1,16 @@
 // One round after another.
 // Steps for other crates, which ask something of their caller.
+ghost use Rattle.call_steps.specs.Tabled.{measured_plan};
 ghost use Rattle.std.specs.Prelude.{◌≡◌, cond, ◌-◌, ◌≤◌, ltb};
 ghost use Rattle.std.proofs.Math.Option.{none};
-ghost use Rattle.plan.specs.Records.{plan_value};
 ghost use Rattle.call_steps.specs.Refusals.{plan_refusal};
 ghost use Rattle.round_rule.specs.Rounds.{next_kept, kept_after};
 ghost use Rattle.round_rule.specs.Trial.{GoesOn};
-ghost use Rattle.rounds.specs.Tabled.{HasTable};
 ghost use Rattle.rounds.specs.Held.{IsHeld};
 
 use crate::under::cheaper_under;
+use call_steps::measured::Measured;
 use held_tree::cheaper::cheaper_tabled;
-use plan::Plan;
 use round_rule::kept::{Kept, begin, have_met, kept_of};
 use round_rule::trial::choose;
 use tree_search::begin::tried_count;
@@ -32,17 +31,17 @@ fn chosen_of(a: u64, b: u64, new: Reached, old: Reached) -> Reached
 }
 
 // The next round: a tree that is cheaper than the drive that is kept, among those that were not tried under its numbering.
-fn next_round(plan: Plan, table: &[[u32; 64]; 64], budget: u32, round: u32, d: Deep) -> Deep
-    requires has_table { HasTable (plan_value plan) table.now × (plan_refusal (plan_value plan) ≡ none) × GoesOn (plan_value plan) d.kept
-        × IsHeld (plan_value plan) d }
+fn next_round(m: &Measured<'_>, budget: u32, round: u32, d: Deep) -> Deep
+    requires has_table { (plan_refusal (measured_plan m.now) ≡ none) × GoesOn (measured_plan m.now) d.kept
+        × IsHeld (measured_plan m.now) d }
     requires within_limits { (1 ≤ budget) × (budget ≤ 1000000) }
-    ensures { (result.kept ≡ next_kept (plan_value plan) budget round d.kept) × IsHeld (plan_value plan) result }
+    ensures { (result.kept ≡ next_kept (measured_plan m.now) budget round d.kept) × IsHeld (measured_plan m.now) result }
 {
     let k = d.kept;
-    let c = choose(plan, budget, round, k);
+    let c = choose(m.good, budget, round, k);
     let x = c.trial;
     let before = x.tries - budget;
-    let a = cheaper_under(plan, table, x, k.cost, before);
+    let a = cheaper_under(m, x, k.cost, before);
     let old = tried_count(a.number, before);
     Deep {
         kept: kept_of(k, c, a, a.best.tried - old),
@@ -51,11 +50,11 @@ fn next_round(plan: Plan, table: &[[u32; 64]; 64], budget: u32, round: u32, d: D
 }
 
 // The first round, which is the plan call's but for its drive. No tree costs as much as 4,000,000,000,000.
-pub fn first_round(plan: Plan, table: &[[u32; 64]; 64], budget: u32) -> Deep
-    requires { HasTable (plan_value plan) table.now × (plan_refusal (plan_value plan) ≡ none) × (1 ≤ budget) × (budget ≤ 1000000) }
-    ensures { (result.kept ≡ kept_after (plan_value plan) budget 0) × IsHeld (plan_value plan) result }
+pub fn first_round(m: &Measured<'_>, budget: u32) -> Deep
+    requires { (plan_refusal (measured_plan m.now) ≡ none) × (1 ≤ budget) × (budget ≤ 1000000) }
+    ensures { (result.kept ≡ kept_after (measured_plan m.now) budget 0) × IsHeld (measured_plan m.now) result }
 {
-    let a = cheaper_tabled(plan, table, 4_000_000_000_000, 0, budget);
+    let a = cheaper_tabled(m, 4_000_000_000_000, 0, budget);
     Deep {
         kept: begin(a, budget),
         drive: a.best,
@@ -63,18 +62,18 @@ pub fn first_round(plan: Plan, table: &[[u32; 64]; 64], budget: u32) -> Deep
 }
 
 // The rounds after the first, until floor and cost meet.
-pub fn deepen(plan: Plan, table: &[[u32; 64]; 64], budget: u32, rounds: u32, first: Deep) -> Deep
-    requires has_table { HasTable (plan_value plan) table.now × (plan_refusal (plan_value plan) ≡ none)
-        × (first.kept ≡ kept_after (plan_value plan) budget 0) × IsHeld (plan_value plan) first }
+pub fn deepen(m: &Measured<'_>, budget: u32, rounds: u32, first: Deep) -> Deep
+    requires has_table { (plan_refusal (measured_plan m.now) ≡ none)
+        × (first.kept ≡ kept_after (measured_plan m.now) budget 0) × IsHeld (measured_plan m.now) first }
     requires within_limits { (1 ≤ budget) × (budget ≤ 1000000) × (1 ≤ rounds) × (rounds ≤ 1000) }
-    ensures { (result.kept ≡ kept_after (plan_value plan) budget (rounds - 1)) × IsHeld (plan_value plan) result }
+    ensures { (result.kept ≡ kept_after (measured_plan m.now) budget (rounds - 1)) × IsHeld (measured_plan m.now) result }
 {
     let mut d = first;
     for i in 1..rounds {
         if have_met(d.kept.cost, d.kept.floor) {
             return d;
         }
-        d = next_round(plan, table, budget, i + 1, d);
+        d = next_round(m, budget, i + 1, d);
     }
     d
 }

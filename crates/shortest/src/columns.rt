@@ -1,15 +1,14 @@
 // Least weights from all vertices at once: in place 64 v + i stands what is known of the weight from i to v, so that an
 // arc is relaxed for all sources side by side.
 ghost use Rattle.std.specs.Prelude.{◌≡◌, ℕ, ◌<◌, length};
-ghost use Rattle.postman.specs.Plan.{WellFormed};
-ghost use Rattle.plan.specs.Records.{plan_value};
+ghost use Rattle.plan.specs.GoodPlan.{good_plan};
 ghost use Rattle.shortest.specs.Weight.{weighted};
 ghost use Rattle.shortest.specs.Relaxation.{relax_arcs, start_row};
 ghost use Rattle.shortest.specs.Columns.{row_from, relax_by};
 ghost use Rattle.shortest.specs.StepContracts.{IsRow};
 
 use crate::weights::{NO_PATH, arc_weight, shorter};
-use plan::Plan;
+use plan::good_plan::GoodPlan;
 
 // An arc of weight w from t to h relaxed, for every source.
 fn relax_all(c: &mut [u32; 4096], t: usize, h: usize, w: u32)
@@ -22,12 +21,12 @@ fn relax_all(c: &mut [u32; 4096], t: usize, h: usize, w: u32)
 }
 
 // Each arc of the plan relaxed once, for every source.
-fn round_all(plan: Plan, c: &mut [u32; 4096])
-    requires { WellFormed (plan_value plan) × (length c.old ≡ 4096) }
+fn round_all(good: &GoodPlan, c: &mut [u32; 4096])
+    requires { length c.old ≡ 4096 }
     ensures { (length c.new ≡ 4096)
-        × ((i : ℕ) → i < 64 → row_from c.new i ≡ relax_arcs (weighted (plan_value plan)).arcs (row_from c.old i)) }
+        × ((i : ℕ) → i < 64 → row_from c.new i ≡ relax_arcs (weighted (good_plan good.now)).arcs (row_from c.old i)) }
 {
-    for a in &plan.arcs[..usize::from(plan.m)] {
+    for a in &good.plan.arcs[..usize::from(good.plan.m)] {
         relax_all(c, usize::from(a.tail), usize::from(a.head), arc_weight(*a));
     }
 }
@@ -44,14 +43,13 @@ fn start() -> [u32; 4096]
 }
 
 // The least weights. Rounds of relaxing every arc, until one changes nothing; n − 1 are enough.
-pub(crate) fn settled(plan: Plan) -> [u32; 4096]
-    requires { WellFormed (plan_value plan) }
-    ensures { (i : ℕ) → i < 64 → IsRow (weighted (plan_value plan)) i (row_from result i) }
+pub(crate) fn settled(good: &GoodPlan) -> [u32; 4096]
+    ensures { (i : ℕ) → i < 64 → IsRow (weighted (good_plan good.now)) i (row_from result i) }
 {
     let mut c = start();
-    for _ in 1..plan.n {
+    for _ in 1..good.plan.n {
         let before = c;
-        round_all(plan, &mut c);
+        round_all(good, &mut c);
         if c == before {
             return before;
         }

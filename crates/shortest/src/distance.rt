@@ -1,14 +1,13 @@
 // Distances of a plan: a 64th of the least weights, rounded down.
 // Steps for other crates, which ask something of their caller.
 ghost use Rattle.std.specs.Prelude.{◌≡◌, ◌<◌};
-ghost use Rattle.postman.specs.Plan.{WellFormed};
-ghost use Rattle.plan.specs.Records.{plan_value};
+ghost use Rattle.plan.specs.GoodPlan.{good_plan};
 ghost use Rattle.shortest.specs.Weight.{unweighted};
 ghost use Rattle.shortest.specs.StepContracts.{IsRow, IsTable, AreCosts, AreTableCosts};
 
 use crate::weights;
 use crate::weights::NO_PATH;
-use plan::Plan;
+use plan::good_plan::GoodPlan;
 
 // The cost of a lightest path, by its weight.
 #[tactic(auto, unfolding(crate::specs::Weight::unweighted, postman::specs::Distance::no_path))]
@@ -30,11 +29,11 @@ fn row_of(weights: [u32; 64]) -> [u32; 64]
 }
 
 // The distances from one vertex.
-pub fn row(plan: Plan, source: usize) -> [u32; 64]
-    requires { WellFormed (plan_value plan) × (source < 64) }
-    ensures { IsRow (plan_value plan) source result }
+pub fn row(good: &GoodPlan, source: usize) -> [u32; 64]
+    requires { source < 64 }
+    ensures { IsRow (good_plan good.now) source result }
 {
-    row_of(weights::row(plan, source))
+    row_of(weights::row(good, source))
 }
 
 // "The table is 64 rows of 64", by the table of weights.
@@ -45,9 +44,8 @@ pub fn table_of(weights: &[[u32; 64]; 64]) -> [[u32; 64]; 64]
 }
 
 // The same, of a plan.
-pub fn table(plan: Plan) -> [[u32; 64]; 64]
-    requires { WellFormed (plan_value plan) }
-    ensures { IsTable (plan_value plan) result }
+pub fn table(good: &GoodPlan) -> [[u32; 64]; 64]
+    ensures { IsTable (good_plan good.now) result }
 {
-    table_of(&weights::table(plan))
+    table_of(&weights::table(good))
 }

@@ -2,15 +2,16 @@
 // lightest path is a cheapest one, of the fewest arcs.
 // Steps for other crates, which ask something of their caller.
 ghost use Rattle.std.specs.Prelude.{◌≡◌, true, ℕ, ◌<◌, get_or};
-ghost use Rattle.postman.specs.Plan.{WellFormed};
-ghost use Rattle.plan.specs.Records.{plan_value, arc_value};
+ghost use Rattle.plan.specs.GoodPlan.{good_plan};
+ghost use Rattle.plan.specs.Records.{arc_value};
 ghost use Rattle.shortest.specs.Weight.{heavy, weighted};
 ghost use Rattle.shortest.specs.Relaxation.{weight, shorter as capped_sum, relax_arcs};
 ghost use Rattle.shortest.specs.Columns.{row_from as row_from_table};
 ghost use Rattle.shortest.specs.StepContracts.{IsRow, AreWeights};
 
 use crate::columns::{row_from, settled};
-use plan::{Arc, Plan};
+use plan::Arc;
+use plan::good_plan::GoodPlan;
 
 // "4,294,967,295 stands for no path".
 pub(crate) const NO_PATH: u32 = u32::MAX;
@@ -36,12 +37,11 @@ pub(crate) fn shorter(a: u32, b: u32, c: u32) -> u32
 }
 
 // Each arc of the plan relaxed once.
-fn round(plan: Plan, row: [u32; 64]) -> [u32; 64]
-    requires { WellFormed (plan_value plan) }
-    ensures { result ≡ relax_arcs (weighted (plan_value plan)).arcs row }
+fn round(good: &GoodPlan, row: [u32; 64]) -> [u32; 64]
+    ensures { result ≡ relax_arcs (weighted (good_plan good.now)).arcs row }
 {
     let mut next = row;
-    for a in &plan.arcs[..usize::from(plan.m)] {
+    for a in &good.plan.arcs[..usize::from(good.plan.m)] {
         let t = usize::from(a.tail);
         let h = usize::from(a.head);
         next[h] = shorter(next[t], arc_weight(*a), next[h]);
@@ -50,14 +50,14 @@ fn round(plan: Plan, row: [u32; 64]) -> [u32; 64]
 }
 
 // The least weights from one vertex. Rounds of relaxing every arc, until one changes nothing; n − 1 are enough.
-pub(crate) fn row(plan: Plan, source: usize) -> [u32; 64]
-    requires { WellFormed (plan_value plan) × (source < 64) }
-    ensures { IsRow (weighted (plan_value plan)) source result }
+pub(crate) fn row(good: &GoodPlan, source: usize) -> [u32; 64]
+    requires { source < 64 }
+    ensures { IsRow (weighted (good_plan good.now)) source result }
 {
     let mut now = [NO_PATH; 64];
     now[source] = 0;
-    for _ in 1..plan.n {
-        let next = round(plan, now);
+    for _ in 1..good.plan.n {
+        let next = round(good, now);
         if next == now {
             return now;
         }
@@ -67,11 +67,10 @@ pub(crate) fn row(plan: Plan, source: usize) -> [u32; 64]
 }
 
 // The least weights between all vertices.
-pub fn table(plan: Plan) -> [[u32; 64]; 64]
-    requires { WellFormed (plan_value plan) }
-    ensures { AreWeights (plan_value plan) result }
+pub fn table(good: &GoodPlan) -> [[u32; 64]; 64]
+    ensures { AreWeights (good_plan good.now) result }
 {
-    let c = settled(plan);
+    let c = settled(good);
     std::array::from_fn(
         |i|
             requires { i < 64 }

@@ -1,17 +1,15 @@
 // The cost of a tree: "R, plus the d of its links, plus the least balancing once the links are counted in D as arcs".
 // Steps for other crates, which ask something of their caller.
-ghost use Rattle.std.specs.Prelude.{◌≡◌, map, ℕ, ◌≤◌, ◌<◌, length, get_or};
+ghost use Rattle.std.specs.Prelude.{◌≡◌, ◌≤◌, ◌<◌, length};
 ghost use Rattle.postman.specs.Balancing.{completion_cost};
-ghost use Rattle.plan.specs.Records.{plan_value};
 ghost use Rattle.postman.specs.Steps.{cell};
 ghost use Rattle.drive_legs.specs.Filled.{links_of};
 ghost use Rattle.multipliers.specs.Prepared.{IsTree};
-ghost use Rattle.preparation.specs.Preparation.{IsPreparation};
+ghost use Rattle.preparation.specs.Prepared.{prepared_plan};
 ghost use Rattle.tree_check.specs.Cost.{table_cost, AreVertices};
 
-use plan::Plan;
 use preparation::links::with_links;
-use preparation::prepare::Preparation;
+use preparation::prepared::Prepared;
 
 fn distance_at(d: &[[u32; 64]; 64], tail: u8, head: u8) -> u64
     requires { (tail < 64) × (head < 64) }
@@ -27,23 +25,17 @@ fn link_cost(d: &[[u32; 64]; 64], tails: &[u8], heads: &[u8]) -> u64
     ensures { result ≡ table_cost d.now (links_of tails.now heads.now) }
 {
     let mut cost = 0u64;
-    for i in 0..tails.len() {
-        cost += distance_at(d, tails[i], heads[i]);
+    for (&tail, &head) in tails.iter().zip(heads) {
+        cost += distance_at(d, tail, head);
     }
     cost
 }
 
-pub fn tree_cost(
-    plan: Plan,
-    table: &[[u32; 64]; 64],
-    r: Preparation,
-    tails: &[u8],
-    heads: &[u8],
-) -> u64
-    requires { IsPreparation (plan_value plan) table.now r × IsTree (plan_value plan) tails.now heads.now }
-    ensures { result ≡ completion_cost (plan_value plan) (links_of tails.now heads.now) }
+pub fn tree_cost(p: &Prepared<'_>, tails: &[u8], heads: &[u8]) -> u64
+    requires { IsTree (prepared_plan p.now) tails.now heads.now }
+    ensures { result ≡ completion_cost (prepared_plan p.now) (links_of tails.now heads.now) }
 {
-    let full = with_links(plan, table, r, tails, heads);
-    let links = link_cost(table, tails, heads);
-    r.network.required_cost + links + full.cost
+    let full = with_links(p, tails, heads);
+    let links = link_cost(p.table, tails, heads);
+    p.parts.network.required_cost + links + full.cost
 }

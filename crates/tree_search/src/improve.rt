@@ -1,14 +1,12 @@
 // A tree that costs less than what is known: branches that cannot have one are pruned from the first tree on.
 // Steps for other crates, which ask something of their caller.
-ghost use Rattle.plan.specs.Records.{plan_value};
-ghost use Rattle.preparation.specs.Preparation.{IsPreparation};
+ghost use Rattle.preparation.specs.Prepared.{prepared_plan};
 ghost use Rattle.tree_search.specs.Begun.{IsBegun};
 ghost use Rattle.tree_search.specs.Improved.{CanImprove, IsImproved};
 
 use crate::begin::{Begun, explored, total_of};
 use branches::progress::Progress;
-use plan::Plan;
-use preparation::prepare::Preparation;
+use preparation::prepared::Prepared;
 
 // The first tree of least cost among those tried, how many were, and whether these are all.
 #[derive(Clone, Copy)]
@@ -21,21 +19,13 @@ pub struct Searched {
 }
 
 // A tree that costs less than `cost`, among so many trees, of which the first `before` have none.
-pub fn improve(
-    plan: Plan,
-    table: &[[u32; 64]; 64],
-    r: Preparation,
-    s: Begun,
-    cost: u64,
-    before: u32,
-    tries: u32,
-) -> Searched
-    requires { IsPreparation (plan_value plan) table.now r × IsBegun (plan_value plan) table.now r s
-        × CanImprove (plan_value plan) cost before tries }
-    ensures { IsImproved (plan_value plan) cost tries result }
+pub fn improve(p: &Prepared<'_>, s: &Begun, cost: u64, before: u32, tries: u32) -> Searched
+    requires { IsBegun (prepared_plan p.now) p.now.table.now p.now.parts.now s.now
+        × CanImprove (prepared_plan p.now) cost before tries }
+    ensures { IsImproved (prepared_plan p.now) cost tries result }
 {
-    let first = total_of(plan, s.number, before);
-    let total = total_of(plan, s.number, tries);
+    let first = total_of(p.good, s.number, before);
+    let total = total_of(p.good, s.number, tries);
     let from = Progress {
         cost,
         tails: [0; 8],
@@ -43,7 +33,7 @@ pub fn improve(
         skip: u64::from(first.trees),
         left: u64::from(total.trees - first.trees),
     };
-    let found = explored(plan, table, r, s, from);
+    let found = explored(p, s, from);
     let Progress { tails, heads, .. } = found;
     Searched {
         cost: found.cost,

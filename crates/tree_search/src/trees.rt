@@ -1,9 +1,8 @@
 // The trees of a plan that is not refused, in order, at most as many as the budget.
 // Steps for other crates, which ask something of their caller.
 ghost use Rattle.std.specs.Prelude.{◌≡◌, ◌≤◌, ◌+◌};
-ghost use Rattle.plan.specs.Records.{plan_value};
 ghost use Rattle.postman.specs.PlanCall.{best_cost, best_arborescence};
-ghost use Rattle.preparation.specs.Preparation.{IsPreparation};
+ghost use Rattle.preparation.specs.Prepared.{prepared_plan};
 ghost use Rattle.tree_search.specs.Begun.{IsBegun};
 ghost use Rattle.tree_search.specs.Improved.{IsSearched};
 ghost use Rattle.tree_search.specs.Resumed.{nothing_held, turn_of, tried_on, links_by, IsResumed};
@@ -11,8 +10,7 @@ ghost use Rattle.tree_search.specs.Resumed.{nothing_held, turn_of, tried_on, lin
 use crate::begin::{Begun, begin, explored, total_of};
 use crate::improve::{Searched, improve};
 use branches::progress::Progress;
-use plan::Plan;
-use preparation::prepare::Preparation;
+use preparation::prepared::Prepared;
 
 // How far a search is: the best so far, and how many trees were tried.
 #[derive(Clone, Copy)]
@@ -47,20 +45,20 @@ pub fn nothing_held() -> Reached
 }
 
 // The first trees, at most as many as the budget. No tree costs as much as 4,000,000,000,000.
-fn searched(plan: Plan, table: &[[u32; 64]; 64], r: Preparation, s: Begun, budget: u32) -> Searched
-    requires { IsPreparation (plan_value plan) table.now r × IsBegun (plan_value plan) table.now r s × (1 ≤ budget) }
-    ensures { IsSearched (plan_value plan) budget result }
+fn searched(p: &Prepared<'_>, s: &Begun, budget: u32) -> Searched
+    requires { IsBegun (prepared_plan p.now) p.now.table.now p.now.parts.now s.now × (1 ≤ budget) }
+    ensures { IsSearched (prepared_plan p.now) budget result }
 {
-    improve(plan, table, r, s, 4_000_000_000_000, 0, budget)
+    improve(p, s, 4_000_000_000_000, 0, budget)
 }
 
 // The first tree of least cost among those tried.
-pub fn best(plan: Plan, table: &[[u32; 64]; 64], r: Preparation, budget: u32) -> Searched
-    requires { IsPreparation (plan_value plan) table.now r × (1 ≤ budget) }
-    ensures { IsSearched (plan_value plan) budget result }
+pub fn best(p: &Prepared<'_>, budget: u32) -> Searched
+    requires { 1 ≤ budget }
+    ensures { IsSearched (prepared_plan p.now) budget result }
 {
-    let s = begin(plan, table, r);
-    searched(plan, table, r, s, budget)
+    let s = begin(p);
+    searched(p, &s, budget)
 }
 
 // "takes 1,000 trees or the rest of T"
@@ -71,17 +69,17 @@ fn turn_of(total: u32, tried: u32) -> u32
 }
 
 // The first trees.
-fn first_tried(plan: Plan, table: &[[u32; 64]; 64], r: Preparation, s: Begun, n: u32) -> Reached
-    requires { IsPreparation (plan_value plan) table.now r × IsBegun (plan_value plan) table.now r s × (1 ≤ n) }
-    ensures { (result.tried ≡ n) × (result.cost ≡ best_cost (plan_value plan) n)
-        × (links_by (plan_value plan) result ≡ best_arborescence (plan_value plan) n) }
+fn first_tried(p: &Prepared<'_>, s: &Begun, n: u32) -> Reached
+    requires { IsBegun (prepared_plan p.now) p.now.table.now p.now.parts.now s.now × (1 ≤ n) }
+    ensures { (result.tried ≡ n) × (result.cost ≡ best_cost (prepared_plan p.now) n)
+        × (links_by (prepared_plan p.now) result ≡ best_arborescence (prepared_plan p.now) n) }
 {
     let Searched {
         cost,
         tails,
         heads,
         ..
-    } = searched(plan, table, r, s, n);
+    } = searched(p, s, n);
     Reached {
         cost,
         tails,
@@ -91,22 +89,16 @@ fn first_tried(plan: Plan, table: &[[u32; 64]; 64], r: Preparation, s: Begun, n:
 }
 
 // More trees after those that were tried. None of them is tried again.
-fn tried_on(
-    plan: Plan,
-    table: &[[u32; 64]; 64],
-    r: Preparation,
-    s: Begun,
-    g: Reached,
-    more: u32,
-) -> Reached
-    requires begun { IsPreparation (plan_value plan) table.now r × IsBegun (plan_value plan) table.now r s }
+fn tried_on(p: &Prepared<'_>, s: &Begun, g: Reached, more: u32) -> Reached
+    requires begun { IsBegun (prepared_plan p.now) p.now.table.now p.now.parts.now s.now }
     requires within_limits { (1 ≤ g.tried + more) × (g.tried ≤ 1000000000) × (more ≤ 1000000000) }
     ensures { (result.tried ≡ g.tried + more) × (result.cost ≡
-        (tried_on (plan_value plan) g.cost (links_by (plan_value plan) g) g.tried more).cost)
-        × (links_by (plan_value plan) result ≡ (tried_on (plan_value plan) g.cost (links_by (plan_value plan) g) g.tried more).links) }
+        (tried_on (prepared_plan p.now) g.cost (links_by (prepared_plan p.now) g) g.tried more).cost)
+        × (links_by (prepared_plan p.now) result
+        ≡ (tried_on (prepared_plan p.now) g.cost (links_by (prepared_plan p.now) g) g.tried more).links) }
 {
     if g.tried == 0 {
-        return first_tried(plan, table, r, s, more);
+        return first_tried(p, s, more);
     }
     let Reached {
         cost,
@@ -126,7 +118,7 @@ fn tried_on(
         tails,
         heads,
         ..
-    } = explored(plan, table, r, s, from);
+    } = explored(p, s, from);
     Reached {
         cost,
         tails,
@@ -136,25 +128,19 @@ fn tried_on(
 }
 
 // One turn.
-pub fn resume(
-    plan: Plan,
-    table: &[[u32; 64]; 64],
-    r: Preparation,
-    budget: u32,
-    g: Reached,
-) -> Resumed
-    requires { IsPreparation (plan_value plan) table.now r × (1 ≤ budget) × (g.tried ≤ 1000000) }
-    ensures { IsResumed (plan_value plan) budget g result }
+pub fn resume(p: &Prepared<'_>, budget: u32, g: Reached) -> Resumed
+    requires { (1 ≤ budget) × (g.tried ≤ 1000000) }
+    ensures { IsResumed (prepared_plan p.now) budget g result }
 {
-    let s = begin(plan, table, r);
-    let total = total_of(plan, s.number, budget);
+    let s = begin(p);
+    let total = total_of(p.good, s.number, budget);
     let more = turn_of(total.trees, g.tried);
     let Reached {
         cost,
         tails,
         heads,
         tried,
-    } = tried_on(plan, table, r, s, g, more);
+    } = tried_on(p, &s, g, more);
     Resumed {
         cost,
         tails,

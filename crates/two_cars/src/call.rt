@@ -1,62 +1,65 @@
 // The call for two cars: the file's refusals reach both; the table of distances is built once, from the file's plan, and lent to both.
+ghost use Rattle.call_steps.specs.Tabled.{tabled_plan};
 ghost use Rattle.std.specs.Prelude.{◌≡◌, ◌++◌, ◌≤◌, length};
-ghost use Rattle.postman.specs.Plan.{WellFormed};
 ghost use Rattle.postman.specs.Refusal.{first_refusal};
 ghost use Rattle.postman.specs.PlanCall.{sheet_places, call_conditions, last_conditions};
 ghost use Rattle.postman.specs.Marks.{car_plan, mark_conditions};
-ghost use Rattle.plan.specs.Records.{plan_value};
-ghost use Rattle.shortest.specs.StepContracts.{AreWeights};
-ghost use Rattle.multipliers.specs.Drive.{table_of};
 ghost use Rattle.solution.specs.Planned.{IsPlanned};
 ghost use Rattle.two_cars.specs.Contract.{IsTwoCars};
 
 use crate::TwoPlanned;
 use call_steps::steps::{lent_verdict, plan_tabled};
+use call_steps::tabled::Tabled;
 use car_marks::marks::{car_plan, has_bad_mark};
-use plan::Plan;
+use plan::good_plan::GoodPlan;
 use plan_file::reader::read_plan;
 use refusal::Refusal;
 use solution::Planned;
 
 // From 18 on: from 10 on the plan is the car's, over the table of the file's.
 fn plan_marked(
-    plan: Plan,
-    table: &[[u32; 64]; 64],
-    weights: &[[u32; 64]; 64],
+    t: &Tabled<'_>,
     marks: &[u8],
     budget: u32,
     sheet: &mut [u16],
 ) -> Result<Planned, Refusal>
-    requires tabled { WellFormed (plan_value plan) × (table.now ≡ table_of (plan_value plan)) × AreWeights (plan_value plan) weights.now }
     requires budget_and_sheet { (1 ≤ budget) × (sheet_places ≤ length sheet.old) }
-    ensures { IsPlanned (car_plan (plan_value plan) marks.now) budget
+    ensures { IsPlanned (car_plan (tabled_plan t.now) marks.now) budget
         (first_refusal
-        (mark_conditions (plan_value plan) marks.now ++ last_conditions (car_plan (plan_value plan) marks.now)))
+        (mark_conditions (tabled_plan t.now) marks.now ++ last_conditions (car_plan (tabled_plan t.now) marks.now)))
         sheet.old sheet.new result }
 {
+    let plan = t.good.plan;
     if has_bad_mark(plan, marks) {
         return Err(Refusal::BadMarks);
     }
-    plan_tabled(car_plan(plan, marks), table, weights, budget, sheet)
+    plan_tabled(
+        &Tabled {
+            good: &GoodPlan {
+                plan: car_plan(plan, marks),
+            },
+            table: t.table,
+            weights: t.weights,
+        },
+        budget,
+        sheet,
+    )
 }
 
 // One car, from 8 on.
 fn plan_car(
-    plan: Plan,
-    table: &[[u32; 64]; 64],
-    weights: &[[u32; 64]; 64],
+    t: &Tabled<'_>,
     marks: &[u8],
     budget: u64,
     sheet: &mut [u16],
 ) -> Result<Planned, Refusal>
-    requires { WellFormed (plan_value plan) × (table.now ≡ table_of (plan_value plan)) × AreWeights (plan_value plan) weights.now }
-    ensures { IsPlanned (car_plan (plan_value plan) marks.now) budget
+    ensures { IsPlanned (car_plan (tabled_plan t.now) marks.now) budget
         (first_refusal (call_conditions budget (length sheet.old)
-        ++ (mark_conditions (plan_value plan) marks.now ++ last_conditions (car_plan (plan_value plan) marks.now))))
+        ++ (mark_conditions (tabled_plan t.now) marks.now ++ last_conditions (car_plan (tabled_plan t.now) marks.now))))
         sheet.old sheet.new result }
 {
     lent_verdict(budget, sheet.len())?;
-    plan_marked(plan, table, weights, marks, budget as u32, sheet)
+    plan_marked(t, marks, budget as u32, sheet)
 }
 
 // THE CALL FOR TWO CARS, for any bytes, and for each car any marks, any budget and any sheet.
@@ -78,11 +81,16 @@ pub fn two_cars(
             second: Err(r),
         },
         Ok(reading) => {
-            let plan = reading.plan;
-            let weights = shortest::weights::table(plan);
+            let good = &GoodPlan { plan: reading.plan };
+            let weights = shortest::weights::table(good);
             let table = shortest::distance::table_of(&weights);
-            let first = plan_car(plan, &table, &weights, marks_1, budget_1, sheet_1);
-            let second = plan_car(plan, &table, &weights, marks_2, budget_2, sheet_2);
+            let t = Tabled {
+                good,
+                table: &table,
+                weights: &weights,
+            };
+            let first = plan_car(&t, marks_1, budget_1, sheet_1);
+            let second = plan_car(&t, marks_2, budget_2, sheet_2);
             TwoPlanned { first, second }
         }
     }

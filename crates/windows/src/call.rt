@@ -1,9 +1,9 @@
 // The plan call at a departure: the refusals in their order, then the answer of the plan with the shut arcs closed.
 ghost use Rattle.std.specs.Prelude.{◌≡◌, ◌++◌, ◌≤◌, length};
-ghost use Rattle.postman.specs.Plan.{WellFormed};
 ghost use Rattle.postman.specs.Refusal.{first_refusal};
 ghost use Rattle.postman.specs.PlanCall.{sheet_places, call_conditions, last_conditions};
 ghost use Rattle.postman.specs.Windows.{windows_in, plan_at, window_conditions};
+ghost use Rattle.plan.specs.GoodPlan.{good_plan};
 ghost use Rattle.plan.specs.Records.{plan_value};
 ghost use Rattle.refusal.specs.Verdict.{verdict_number};
 ghost use Rattle.solution.specs.Planned.{IsPlanned};
@@ -12,6 +12,7 @@ ghost use Rattle.windows.specs.Contract.{IsPlanCallAt};
 
 use call_steps::steps::{lent_verdict, plan_read};
 use plan::Plan;
+use plan::good_plan::GoodPlan;
 use plan_file::reader::read_plan;
 use refusal::{Refusal, Verdict};
 use shut_arcs::limits::has_bad_window;
@@ -34,41 +35,46 @@ fn windows_verdict(plan: Plan, windows: &[u16], weekday: u32, minute: u32) -> Ve
 
 // From 19 on: from 10 on the plan is that of the departure.
 fn plan_departing(
-    plan: Plan,
+    good: &GoodPlan,
     budget: u32,
     windows: &[u16],
     weekday: u32,
     minute: u32,
     sheet: &mut [u16],
 ) -> Result<Planned, Refusal>
-    requires { WellFormed (plan_value plan) × (1 ≤ budget) × (sheet_places ≤ length sheet.old) }
-    ensures { IsPlanned (plan_at (plan_value plan) (windows_in windows.now) (departure weekday minute)) budget
-        (first_refusal (window_conditions (plan_value plan) windows.now (departure weekday minute)
-        ++ last_conditions (plan_at (plan_value plan) (windows_in windows.now) (departure weekday minute))))
+    requires { (1 ≤ budget) × (sheet_places ≤ length sheet.old) }
+    ensures { IsPlanned (plan_at (good_plan good.now) (windows_in windows.now) (departure weekday minute)) budget
+        (first_refusal (window_conditions (good_plan good.now) windows.now (departure weekday minute)
+        ++ last_conditions (plan_at (good_plan good.now) (windows_in windows.now) (departure weekday minute))))
         sheet.old sheet.new result }
 {
-    windows_verdict(plan, windows, weekday, minute)?;
-    plan_read(plan_at(plan, windows, weekday, minute), budget, sheet)
+    windows_verdict(good.plan, windows, weekday, minute)?;
+    plan_read(
+        &GoodPlan {
+            plan: plan_at(good.plan, windows, weekday, minute),
+        },
+        budget,
+        sheet,
+    )
 }
 
 // From 8 on.
 fn plan_lent(
-    plan: Plan,
+    good: &GoodPlan,
     budget: u64,
     windows: &[u16],
     weekday: u32,
     minute: u32,
     sheet: &mut [u16],
 ) -> Result<Planned, Refusal>
-    requires { WellFormed (plan_value plan) }
-    ensures { IsPlanned (plan_at (plan_value plan) (windows_in windows.now) (departure weekday minute)) budget
+    ensures { IsPlanned (plan_at (good_plan good.now) (windows_in windows.now) (departure weekday minute)) budget
         (first_refusal (call_conditions budget (length sheet.old)
-        ++ (window_conditions (plan_value plan) windows.now (departure weekday minute)
-        ++ last_conditions (plan_at (plan_value plan) (windows_in windows.now) (departure weekday minute)))))
+        ++ (window_conditions (good_plan good.now) windows.now (departure weekday minute)
+        ++ last_conditions (plan_at (good_plan good.now) (windows_in windows.now) (departure weekday minute)))))
         sheet.old sheet.new result }
 {
     lent_verdict(budget, sheet.len())?;
-    plan_departing(plan, budget as u32, windows, weekday, minute, sheet)
+    plan_departing(good, budget as u32, windows, weekday, minute, sheet)
 }
 
 // THE PLAN CALL AT A DEPARTURE, for any bytes, any budget, any list of numbers for the windows, any departure and any sheet.
@@ -84,7 +90,9 @@ pub fn plan_call_at(
         sheet.new result }
 {
     plan_lent(
-        read_plan(bytes)?.plan,
+        &GoodPlan {
+            plan: read_plan(bytes)?.plan,
+        },
         budget,
         windows,
         weekday,

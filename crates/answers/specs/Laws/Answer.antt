@@ -1,6 +1,6 @@
--- Copying from the start, as far as there is room. After i turns the first i elements are the new ones, and the rest is as it was.
-use Rattle.std.specs.Prelude.{◌≡◌, Result, Ok, Err, refl, Bool, true, false, cond, List, [], ◌∷◌, ℕ, ◌+◌, ◌^◌, ◌≤◌, ◌<◌, ltb, ℤ, pos, neg_ℤ, nat_abs, length, get_or, set, take, drop, Result}
-use Rattle.std.proofs.Common.{sym, ap, ◌∙◌, arith, add-one, ltb-true, ltb-false, length-set, length-take, get_or-take}
+-- What was put from the start, as far as there is room; and an answer that is handed over.
+use Rattle.std.specs.Prelude.{◌≡◌, Result, Ok, Err, refl, Bool, true, false, cond, List, [], ◌∷◌, ℕ, ◌+◌, ◌^◌, ◌<◌, ltb, ℤ, pos, neg_ℤ, nat_abs, length, get_or, take, drop, Result}
+use Rattle.std.proofs.Common.{sym, ap, ◌∙◌, arith, length-take, get_or-take}
 use Rattle.std.proofs.Math.Path.{subst⁻¹}
 use Rattle.std.proofs.Math.Option.{Option, none, some}
 use mir.Val.{bool_byte, to_z, of_z}
@@ -8,7 +8,6 @@ use Rattle.std.specs.Int.{w64}
 use Rattle.std.specs.Int.Signed.{mag}
 use Rattle.integers.specs.Linear.{back64, abs_neg}
 use Rattle.std.proofs.Math.ListN.{get_or-append}
-use Rattle.std.proofs.Math.Seq.{paste, paste-zero, paste-suc}
 use Rattle.record_writer.specs.Writing.{at_most}
 use Rattle.postman.specs.Refusal.{answer, unless}
 use Rattle.refusal.specs.declared.Refusal.{Refusal}
@@ -20,68 +19,12 @@ use Rattle.refusal.specs.Laws.{some_number}
 use Rattle.answers.specs.Answer.{words_of, put_first, IsHandedOver}
 use Rattle.answers.specs.Number.{one_number}
 
-at_most_le : (a b : ℕ) → (at_most a b ≤ a) × (at_most a b ≤ b)
-at_most_le a b = at (ltb a b) refl
-  where
-    at : (x : Bool) → ltb a b ≡ x → (cond x a b ≤ a) × (cond x a b ≤ b)
-    at true e = let l = ltb-true a b e in (omega arith, omega arith)
-    at false e = let l = ltb-false a b e in (omega arith, omega arith)
-
 at_most_above : (a b k : ℕ) → k < a → k < b → k < at_most a b
 at_most_above a b k l m = at (ltb a b)
   where
     at : (x : Bool) → k < cond x a b
     at true = l
     at false = m
-
--- m elements are new, and n of them have room
-module _ {A : Type 0} (new old : List A) (m : ℕ) where
-  pub record IsPut (lent : List A) (n i : ℕ) : Type 0 where
-    pub turns : i ≤ n
-    pub new_size : length new ≡ m
-    pub count : n ≡ at_most (length old) m
-    pub within : n ≤ m
-    pub room : n ≤ length lent
-    pub same : length lent ≡ length old
-    pub content : lent ≡ paste old 0 new i
-
-  pub put_start : (n : ℕ) → length new ≡ m → n ≡ at_most (length old) m → IsPut old n 0
-  put_start n w e =
-      let a = at_most_le (length old) m in
-      let b = a.0 in
-      let c = a.1 in
-      record {
-        turns = omega arith;
-        new_size = w;
-        count = e;
-        within = omega arith;
-        room = omega arith;
-        same = refl;
-        content = paste-zero old 0 new;
-      }
-
-  put_next : (z : A) (lent : List A) (n i : ℕ) → IsPut lent n i → i < n → IsPut (set lent i (get_or new i z)) n (i + 1)
-  put_next z lent n i h l =
-      let w = h.new_size in
-      let t = h.within in
-      let r = h.room in
-      let s = h.same in
-      let k = length-set lent i (get_or new i z) in
-      let at : 0 + i ≡ i = omega arith in
-      record {
-        turns = omega arith;
-        new_size = w;
-        count = h.count;
-        within = t;
-        room = omega arith;
-        same = k ∙ s;
-        content = ap (λ (x : List A). set x i (get_or new i z)) h.content
-            ∙ ap (λ (k : ℕ). set (paste old 0 new i) k (get_or new i z)) (sym at)
-            ∙ paste-suc old 0 new i z (omega arith) (omega arith) ∙ ap (paste old 0 new) (sym (add-one i));
-      }
-
-  pub put_more : (z x : A) (lent : List A) (n i : ℕ) → x ≡ get_or new i z → IsPut lent n i → i < n → IsPut (set lent i x) n (i + 1)
-  put_more z x lent n i e h l = subst⁻¹ (λ (x : A). IsPut (set lent i x) n (i + 1)) e (put_next z lent n i h l)
 
 -- what was put can be read there
 pub put_at : {A : Type 0} (new old : List A) (z : A) (k : ℕ) → k < length old → k < length new

@@ -1,6 +1,6 @@
 -- The drive that is written completes the arborescence: its paths are those of fewest arcs, at most n − 1, and there is one for each leg.
 -- One pass of each required arc is exchanged for the one that checks it.
-use Rattle.std.specs.Prelude.{◌≡◌, refl, ℕ, ◌+◌, ◌≤◌, ◌<◌, length, take, T}
+use Rattle.std.specs.Prelude.{◌≡◌, refl, ℕ, ◌+◌, ◌≤◌, ◌<◌, length, T}
 use Rattle.std.proofs.Common.{sym, ◌∙◌, arith}
 use Rattle.std.proofs.Math.Path.{ap, subst⁻¹, subst₃}
 use Rattle.std.proofs.Math.Bool.{not}
@@ -26,9 +26,8 @@ use Rattle.drive_legs.specs.Legs.{units, leg_tails, leg_heads, Completes}
 use Rattle.drive_legs.specs.Drive.{places_of, drive_by, drive, ArePaths, HavePaths, IsCompletion}
 use Rattle.hierholzer.specs.Circuit.{circuit}
 use Rattle.hierholzer.specs.Eulerian.{Eulerian}
-use Rattle.drive_legs.specs.Filled.{Laid}
+use Rattle.drive_legs.specs.Filled.{LegLists, Laid}
 use Rattle.drive_legs.specs.Laws.Legs.{leg_at, leg_ends, eulerian}
-use Rattle.drive_legs.specs.Laws.Laid.{prefix_length}
 use Rattle.drive_legs.specs.Laws.Few.{few_others, few_numbers}
 use Rattle.circuit.specs.Laws.Description.{is_laid}
 use Rattle.drive_legs.specs.Laws.Drive.{legs_count, is_drive, plain_cost, drive_length, drive_first}
@@ -101,10 +100,6 @@ module _ (p : Plan) (ok : WellFormed p) (t : List Link) (amounts : List ℕ) (h 
         written = refl;
       }
 
-  -- the parts of the arrays that hold the legs
-  module _ {numbers tails heads : List ℕ} {c n : ℕ} (l : Laid p t amounts numbers tails heads c n) where
-    pub laid_ready : Ready (take c numbers) (take n tails) (take n heads)
-    laid_ready = ready _ _ _ l.numbers_are l.tails_are l.heads_are
-
-    pub tails_number : n ≡ length (take n tails)
-    tails_number = prefix_length n tails _ l.tails_are l.number
+  -- the legs that were laid
+  pub laid_ready : {s : LegLists} {ns ts hs : List ℕ} → Laid p t amounts s → ns ≡ s.numbers → ts ≡ s.tails → hs ≡ s.heads → Ready ns ts hs
+  laid_ready l e f g = ready _ _ _ (e ∙ l.numbers_are) (f ∙ l.tails_are) (g ∙ l.heads_are)

@@ -1,19 +1,14 @@
 -- A file that is refused refuses the call; one that is not gives its plan, and 10 to 12 are looked at.
 use Rattle.std.proofs.Common.{sym, ap, ◌∙◌}
-use Rattle.std.proofs.Math.Path.{subst⁻¹}
-use Rattle.postman.specs.Plan.{WellFormed}
 use Rattle.postman_laws.specs.Laws.Acceptance.{file_accepted}
-use Rattle.plan_file.specs.Laws.Reading.{accepted_value}
+use Rattle.plan_file.specs.Laws.Reading.{accepted_value, read_good}
 use Rattle.call_steps.specs.Laws.Refused.{stopped}
 use Rattle.count_call.specs.Contract.{count_answer}
 use Rattle.count_call.specs.Laws.Call.{file_refused, file_good, call_refused, call_given}
 use Rattle.count_call.proofs.count_call.Goals as goal
 
-pub count_read-requires : goal.count_read-requires
-count_read-requires c =
-    let r = c.in_ok-read_plan.ensures in
-    let e = sym r.verdict in
-    subst⁻¹ WellFormed (accepted_value _ _ r e) (file_accepted _ e)
+pub invariant_of-count_read-clause-well_formed : goal.invariant_of-count_read-clause-well_formed
+invariant_of-count_read-clause-well_formed c = read_good c.in_ok-read_plan.ensures
 
 pub returns-in_err-read_plan : goal.returns-in_err-read_plan
 returns-in_err-read_plan c =

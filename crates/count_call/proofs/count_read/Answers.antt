@@ -11,5 +11,5 @@ use Rattle.count_call.proofs.count_read.Goals as goal
 pub returns : goal.returns
 returns c =
     let n = c.network_of-net in
-    c.count_measured.ensures _ c.requires n.ensures
-    ∙ ap (λ (o : Option ℕ). answer o (tree_count (plan_value c.args.plan))) (measured_refusal _ n.result n.ensures)
+    c.count_measured.ensures _ c.args.good.now.well_formed n.ensures
+    ∙ ap (λ (o : Option ℕ). answer o (tree_count (plan_value c.args.good.now.plan))) (measured_refusal _ n.result n.ensures)

@@ -1,11 +1,10 @@
--- A turn, by its three kinds: what is held cannot be gone on from; it can, and trees are left; none is left. The
--- test for a tree is by the list of all trees.
+-- A turn, where what is held cannot be gone on from, and where it can and trees are left. The test for a tree is by the list of all trees.
 use Rattle.std.specs.Prelude.{◌≡◌, refl, Bool, ◌&&◌, List, [], ◌∷◌, map, ℕ, ◌+◌, ◌-◌, ◌≤◌, ◌<◌, min, length, take, replicate, T, ltb}
 use Rattle.std.proofs.Common.{sym, ap, ap₂, ◌∙◌, subst, arith, length-take, eqb→eq}
 use Rattle.std.proofs.Math.Path.{subst⁻¹}
 use Rattle.std.proofs.Math.Bool.{true, false}
 use Rattle.std.proofs.Math.Option.{Option, none}
-use borrow.Author.Tests.{eq-eqb, ne_eqb, lt-ltb, le-ltb, lt-leb}
+use borrow.Author.Tests.{eq-eqb, ne_eqb, lt-ltb, lt-leb}
 use Rattle.std.proofs.lemmas.List.{length-map}
 use Rattle.std.proofs.Math.Seq.{take-append_seam}
 use Rattle.residual_search.specs.Step.{arcs_of}
@@ -24,8 +23,9 @@ use Rattle.tree_search.specs.declared.trees.Reached.{Reached}
 use Rattle.tree_search.specs.declared.trees.Resumed.{Resumed}
 use Rattle.tree_search.specs.Resumed.{links_by, held_after, IsResumed, HoldsTree}
 use Rattle.postman.specs.Refusal.{is_good}
-use Rattle.district_turn.specs.DistrictTurn.{same_links, is_tree, is_holding, is_resumable, reached_after, is_last, so_far, IsDistrictTurn}
+use Rattle.district_turn.specs.DistrictTurn.{same_links, is_tree, is_holding, is_resumable, reached_after, is_last, turn_given, sheet_given, IsDistrictTurn}
 use Rattle.district_turn.specs.declared.plan_turn.DistrictTurn.{DistrictTurn}
+use Rattle.district_turn.specs.declared.plan_turn.DistrictTurn.TheVariants.{Stuck, Unfinished}
 use Rattle.postman.specs.Steps.{Plannable}
 use Rattle.required.specs.StepContracts.{IsLinks, IsComponents}
 use Rattle.drive_legs.specs.Filled.{links_of}
@@ -36,7 +36,6 @@ use Rattle.tree_search.specs.Laws.BestTree.{tree_small}
 use Rattle.tree_search.specs.Laws.Resumed.{HoldsCost, on_priced}
 use Rattle.tree_check.specs.Tree.{IsHeldTree}
 use Rattle.held_file.specs.Padded.{padded}
-use Rattle.district_turn.specs.Laws.Clash.{clash}
 use Rattle.tree_check.specs.Laws.Tree.{Says}
 use Rattle.district_turn.specs.Laws.HeldTree.{sound, passes}
 
@@ -112,31 +111,20 @@ and_first b c e = ap (λ (x : Bool). x && c) e
 pub and_yes : (b c : Bool) → b ≡ true → c ≡ true → (b && c) ≡ true
 and_yes b c e f = ap (λ (x : Bool). x && c) e ∙ f
 
--- ---- the three kinds of turn
+-- ---- a turn that is not the last
 
-module _ (p : Plan) (budget : ℕ) (g : Reached) (can : Bool) (old : List ℕ) (r : DistrictTurn) where
-  pub is_stuck : can ≡ false → r.good ≡ false → r.done ≡ false → IsDistrictTurn p budget g can old old r
-  is_stuck c a d = record {
-    good = a ∙ sym c;
-    done = d ∙ sym (and_first can (is_last p budget g) c);
-    held = λ x. absurd (clash r.good x a);
-    going = λ x. absurd (clash r.good x a);
-    last = λ x. absurd (clash r.done x d);
-    unwritten = λ x. refl;
-    sheet = λ x. absurd (clash r.done x d);
+module _ (p : Plan) (budget : ℕ) (g : Reached) (can : Bool) (old : List ℕ) where
+  pub is_stuck : can ≡ false → IsDistrictTurn p budget g can old old Stuck
+  is_stuck c = record {
+    turned = ap (λ (b : Bool). turn_given p budget g b (is_last p budget g)) (sym c);
+    sheet = ap (λ (b : Bool). sheet_given p budget g b (is_last p budget g) old) (sym c);
   }
 
-  pub is_going : can ≡ true → is_last p budget g ≡ false → r.good ≡ true → r.done ≡ false → r.held ≡ reached_after p budget g
-      → r.planned ≡ so_far r.held.cost r.held.tried
-      → IsDistrictTurn p budget g can old old r
-  is_going c l a d h s = record {
-    good = a ∙ sym c;
-    done = d ∙ sym (and_no can (is_last p budget g) l);
-    held = λ x y. h;
-    going = λ x y. s ∙ ap (λ (x : Reached). so_far x.cost x.tried) h;
-    last = λ x. absurd (clash r.done x d);
-    unwritten = λ x. refl;
-    sheet = λ x. absurd (clash r.done x d);
+  pub is_going : can ≡ true → is_last p budget g ≡ false → (x : Reached) → x ≡ reached_after p budget g
+      → IsDistrictTurn p budget g can old old (Unfinished x)
+  is_going c l x e = record {
+    turned = ap Unfinished e ∙ ap₂ (turn_given p budget g) (sym c) (sym l);
+    sheet = ap₂ (λ (b d : Bool). sheet_given p budget g b d old) (sym c) (sym l);
   }
 
 -- a plan that is not refused
@@ -149,10 +137,6 @@ as_good p budget g o can old new r e h = subst⁻¹ (λ (o : Option ℕ). IsDist
 
 module _ (p : Plan) (ok : Plannable p) (few : component_count p ≤ 8) (budget : ℕ) (one : 1 ≤ budget) (g : Reached) (r : Resumed)
     (h : IsResumed p budget g r) where
-  pub none_left : r.total ≤ g.tried → is_resumable p budget g ≡ false
-  none_left l = let e = h.total in
-      and_no (is_holding p g) (ltb g.tried (tried_count p budget)) (le-ltb g.tried (tried_count p budget) (omega arith))
-
   pub some_left : is_holding p g ≡ true → g.tried < r.total → is_resumable p budget g ≡ true
   some_left i l = let e = h.total in
       and_yes (is_holding p g) (ltb g.tried (tried_count p budget)) i (lt-ltb g.tried (tried_count p budget) (omega arith))

@@ -1,6 +1,6 @@
 -- A district that has its turn. It is under way, so that the plan call on its plan and budget is not
 -- refused; and these are what it entered with.
-use Rattle.std.specs.Prelude.{◌≡◌, refl, ℕ, ◌≤◌, length, get_or, Result, Ok}
+use Rattle.std.specs.Prelude.{◌≡◌, refl, Bool, true, false, T, ℕ, ◌≤◌, length, get_or, Result, Ok}
 use Rattle.std.proofs.Common.{sym, ap, ◌∙◌, subst, arith}
 use Rattle.std.proofs.Math.Path.{subst⁻¹}
 use mathlib.Core.List.{List, [], ◌∷◌, map, Memᴰ}
@@ -17,14 +17,12 @@ use Rattle.solution.specs.SameAnswer.{SameAnswer}
 use Rattle.call_steps.specs.Laws.Call.{sheet_long, budget_good, planned_as}
 use Rattle.planner.specs.Laws.Whole.{file_good}
 use Rattle.solution.specs.Laws.SameAnswer.{same_answer}
-use Rattle.district_turn.specs.DistrictTurn.{so_far}
-use Rattle.district_turn.specs.Laws.Clash.{clash}
 use Rattle.district_machine.specs.declared.machine.District.{District as DistrictRecord}
 use Rattle.district_machine.specs.declared.machine.Machine.{Machine}
 use Rattle.districts.specs.declared.turn.Turned.{Turned}
 use Rattle.postman.specs.Districts.{District, Line, finishes}
 use Rattle.district_machine.specs.Machine.{bytes_of, district_of, waiting_in, line_of}
-use Rattle.districts.specs.Turned.{Meeting, outcome_of, answer_of, sheet_after, IsTurned}
+use Rattle.districts.specs.Turned.{so_far, Meeting, outcome_of, answer_of, sheet_after, IsTurned}
 use Rattle.districts.specs.Served.{IsServed}
 use Rattle.districts.specs.Laws.Sound.{IsUnderWay, IsSound, cost_now, tried_now, last_planned, Met, no_one, too_short, going, last}
 
@@ -36,6 +34,10 @@ call_accepted x u places s =
     ∙ sheet_long (plan_of (bytes_of x)) x.budget places s
     ∙ budget_good (plan_of (bytes_of x)) x.budget _ (sym (within x.budget u.some_budget u.most_budget))
     ∙ u.plan
+
+-- a truth value is not both
+clash : (b : Bool) → b ≡ true → b ≡ false → ⊥
+clash b p q = subst T (sym p ∙ q) tt
 
 -- the district at the front, as it is held
 held_front : (xs : List DistrictRecord) (d : District) (l : Line) → map district_of xs ≡ d ∷ l

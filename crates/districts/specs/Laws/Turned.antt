@@ -1,5 +1,5 @@
 -- A turn, by what it meets. Each test that the program makes decides one of the cases.
-use Rattle.std.specs.Prelude.{◌≡◌, Bool, cond, ◌&&◌, List, [], ◌∷◌, ◌++◌, map, ℕ, ◌≤◌, ◌<◌, length, get_or, drop, leb, Ok}
+use Rattle.std.specs.Prelude.{◌≡◌, Bool, cond, ◌&&◌, List, [], ◌∷◌, map, ℕ, ◌≤◌, ◌<◌, length, get_or, drop, leb}
 use Rattle.std.proofs.Math.Path.{refl}
 use Rattle.std.proofs.Common.{sym, ap, ◌∙◌, subst, arith, length-drop, length-take-le, ltb→lt}
 use Rattle.std.proofs.Math.Bool.{true, false, not, or-true}
@@ -12,9 +12,8 @@ use Rattle.postman.specs.Refusal.{first_refusal, is_good}
 use Rattle.postman.specs.PlanFile.{file_conditions, is_outside}
 use Rattle.postman.specs.PlanCall.{sheet_places, highest_budget, tried_count}
 use Rattle.call_steps.specs.Refusals.{plan_refusal}
-use Rattle.tree_search.specs.declared.trees.Reached.{Reached}
 use Rattle.district_turn.specs.declared.plan_turn.DistrictTurn.{DistrictTurn}
-use Rattle.district_turn.specs.DistrictTurn.{is_holding, is_resumable, can_go_on, is_last, IsDistrictTurn}
+use Rattle.district_turn.specs.DistrictTurn.{is_holding, is_resumable, can_go_on, is_last, turn_given, sheet_given, IsDistrictTurn}
 use Rattle.district_turn.specs.Laws.DistrictTurn.{and_no, and_first, and_yes}
 use Rattle.district_machine.specs.declared.machine.District.{District as DistrictRecord}
 use Rattle.district_machine.specs.declared.machine.Machine.{Machine}
@@ -24,7 +23,7 @@ use Rattle.district_machine.specs.Machine.{bytes_of, district_of, line_of, waiti
 use Rattle.district_machine.specs.Laws.Held.{front, waiting_are}
 use Rattle.districts.specs.Number.{HasPlace}
 use Rattle.postman.specs.Laws.Tests.{and_parts, of_true}
-use Rattle.districts.specs.Turned.{plan_by, has_own_place, is_readable, can_be_served, Meeting, nobody, short_sheet, stuck, goes_on, leaves, meeting_in, meeting, held_now, after_turn, outcome_of, answer_of, sheet_after, IsAfter, IsTurned}
+use Rattle.districts.specs.Turned.{plan_by, has_own_place, is_readable, can_be_served, Meeting, nobody, short_sheet, stuck, goes_on, leaves, meeting_in, meeting, after_turn, outcome_of, answer_of, sheet_after, turned_by, IsTurned}
 
 -- from what is met to what is promised
 pub turned_as : (m : Machine) (old new : List ℕ) (r : Turned) (k : Meeting) → meeting m (length old) ≡ k → r.outcome ≡ outcome_of k
@@ -87,25 +86,26 @@ and_of b c e = ap (λ (x : Bool). x && c) e
 
 module _ (m : Machine) (f : DistrictRecord) (ds : List DistrictRecord) (ahead : waiting_in m ≡ f ∷ ds) (few : m.waiting ≤ 8)
     (old new : List ℕ) (enough : sheet_places ≤ length old) where
-  pub served_turned : (s : DistrictTurn) (others : Machine) (r : Turned) → has_own_place f ds ≡ true
-      → IsDistrictTurn (plan_by f) f.budget f.held (can_be_served f) old new s → s.good ≡ true
-      → others ≡ machine_of ds → IsAfter others f s r → IsTurned m old new r
-  served_turned s others r own st g e a = at s.done refl
+  pub served_turned : (s : DistrictTurn) (r : Turned) → has_own_place f ds ≡ true
+      → IsDistrictTurn (plan_by f) f.budget f.held (can_be_served f) old new s → r ≡ turned_by m f ds s → IsTurned m old new r
+  served_turned s r own st e = at (can_be_served f) (is_last (plan_by f) f.budget f.held) refl refl st.turned st.sheet
     where
-      can : can_be_served f ≡ true
-      can = sym st.good ∙ g
+      as_met : (k : Meeting) → meeting m (length old) ≡ k → (t : DistrictTurn) → s ≡ t → (turned_by m f ds t).outcome ≡ outcome_of k
+          → (turned_by m f ds t).planned ≡ answer_of k → (turned_by m f ds t).machine ≡ after_turn m k → new ≡ sheet_after k old
+          → IsTurned m old new r
+      as_met k met t is o a n w =
+          let q = e ∙ ap (turned_by m f ds) is in
+          turned_as m old new r k met (ap (λ (x : Turned). x.outcome) q ∙ o) (ap (λ (x : Turned). x.planned) q ∙ a)
+          (ap (λ (x : Turned). x.machine) q ∙ n) w
 
-      whether : s.done ≡ is_last (plan_by f) f.budget f.held
-      whether = st.done ∙ and_of (can_be_served f) (is_last (plan_by f) f.budget f.held) can
-
-      at : (b : Bool) → s.done ≡ b → IsTurned m old new r
-      at true d =
-          turned_as m old new r (leaves f ds) (last_met m f ds ahead (length old) enough few own can (sym whether ∙ d))
-          (a.last d).0 (a.planned ∙ ap Ok (st.last d)) ((a.last d).1 ∙ e) (st.sheet d)
-      at false d =
-          turned_as m old new r (goes_on f ds) (going_met m f ds ahead (length old) enough few own can (sym whether ∙ d))
-          (a.going d).0 (a.planned ∙ ap Ok (st.going g d))
-          ((a.going d).1 ds e ∙ ap (λ (x : Reached). machine_of (ds ++ held_now f x ∷ [])) (st.held g d)) (st.unwritten d)
+      at : (c l : Bool) → can_be_served f ≡ c → is_last (plan_by f) f.budget f.held ≡ l
+          → s ≡ turn_given (plan_by f) f.budget f.held c l → new ≡ sheet_given (plan_by f) f.budget f.held c l old
+          → IsTurned m old new r
+      at false l can last is w = as_met stuck (unserved_met m f ds ahead (length old) enough can) _ is refl refl refl w
+      at true true can last is w =
+          as_met (leaves f ds) (last_met m f ds ahead (length old) enough few own can last) _ is refl refl refl w
+      at true false can last is w =
+          as_met (goes_on f ds) (going_met m f ds ahead (length old) enough few own can last) _ is refl refl refl w
 
 -- ---- its place
 
@@ -190,12 +190,6 @@ others_few m others long one most e =
 pub own_as : (d : DistrictRecord) (others : Machine) (ds : List DistrictRecord) → others ≡ machine_of ds
     → has_own_place d (waiting_in others) ≡ has_own_place d ds
 own_as d others ds e = ap (λ (x : Machine). has_own_place d (waiting_in x)) e ∙ ap (has_own_place d) (waiting_are ds)
-
--- a turn that could not be taken
-pub not_taken : {p : Plan} {budget : ℕ} {g : Reached} {can : Bool} {old new : List ℕ} {s : DistrictTurn}
-    → IsDistrictTurn p budget g can old new s
-    → s.good ≡ false → (can ≡ false) × (new ≡ old)
-not_taken {p} {budget} {g} {can} st b = let c = sym st.good ∙ b in (c, st.unwritten (st.done ∙ and_first can (is_last p budget g) c))
 
 -- ---- the places that a turn answers
 

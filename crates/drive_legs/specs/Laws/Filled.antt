@@ -1,6 +1,6 @@
--- Stores at the end of the part that is filled.
-use Rattle.std.specs.Prelude.{◌≡◌, refl, ℕ, ◌+◌, ◌-◌, ◌/◌, ◌%◌, ◌≤◌, ◌<◌, length, get_or, take, drop, replicate}
-use Rattle.std.proofs.Common.{sym, ap, ◌∙◌, subst, add-zero, zero-add, arith, length-append, length-drop, length-take-le}
+-- Legs added after others.
+use Rattle.std.specs.Prelude.{◌≡◌, refl, ℕ, ◌+◌, ◌-◌, ◌≤◌, ◌<◌, length, get_or, take, drop, replicate}
+use Rattle.std.proofs.Common.{sym, ap, ◌∙◌, zero-add, arith, length-append, length-take-le}
 use Rattle.std.proofs.Math.Path.{subst⁻¹}
 use Rattle.std.proofs.Math.Seq.{take-append_seam}
 use mathlib.Core.List.{List, [], ◌∷◌, ◌++◌, map, flat_map, append_assoc, map-append, append-nil}
@@ -11,69 +11,50 @@ use Rattle.postman_laws.specs.Laws.Lists.{flat_map_append}
 use Rattle.postman_laws.specs.Laws.Selection.{up_from_append}
 use Rattle.postman.specs.Steps.{pair_at}
 use Rattle.drive_legs.specs.Legs.{units_below, units}
-use Rattle.drive_legs.specs.Filled.{Extends, Added}
+use Rattle.drive_legs.specs.Filled.{LegLists, Added}
 use Rattle.hierholzer.specs.Laws.Lists.{map_replicate}
 
-pub extends_none : (old : List ℕ) (n : ℕ) → take (n + 0) old ≡ take n old ++ []
-extends_none old n = ap (λ z. take z old) (add-zero n) ∙ sym (append-nil (take n old))
+-- what is written after the first `at` elements is there
+pub part_there : (old new : List ℕ) (at k : ℕ) → k ≡ length new → at + k ≤ length old
+    → take (at + k) (take at old ++ (new ++ drop k (drop at old))) ≡ take at old ++ new
+part_there old new at k m l =
+    let rest = drop k (drop at old) in
+    let e : at + k ≡ length (take at old ++ new) = omega (arith, length-append (take at old) new, length-take-le at old) in
+    rw (e, ← append_assoc (take at old) new rest) (take-append_seam (take at old ++ new) rest)
 
--- a part that is filled with one value
-pub extends_part : (old : List ℕ) (at times value : ℕ) → at + times ≤ length old
-    → Extends old at (replicate times value) (take at old ++ (replicate times value ++ drop times (drop at old)))
-extends_part old at times value l =
-    let r = length-replicate times value in
-    let mid = replicate times value in
-    let rest = drop times (drop at old) in
-    let a : length (take at old) ≡ at = omega (arith, length-take-le at old) in
-    let e : at + length mid ≡ length (take at old ++ mid) = omega (arith, length-append (take at old) mid) in
+-- the same leg, so many times
+pub added_same : (times tail head n : ℕ) (ns ts ts' hs hs' : List ℕ) → take (n + times) ts' ≡ take n ts ++ replicate times tail
+    → take (n + times) hs' ≡ take n hs ++ replicate times head
+    → Added (replicate times (record { tail = tail; head = head })) (record { numbers = ns; tails = take n ts; heads = take n hs })
+    (record { numbers = ns; tails = take (n + times) ts'; heads = take (n + times) hs' })
+added_same times tail head n ns ts ts' hs hs' a b =
+    let l : Link = record { tail = tail; head = head } in
     record {
-      same = omega (
-        arith,
-        length-append (take at old) (mid ++ rest),
-        length-append mid rest,
-        length-drop times (drop at old),
-        length-drop at old,
-      );
-      filled = rw (e, ← append_assoc (take at old) mid rest) (take-append_seam (take at old ++ mid) rest);
+      numbers_are = refl;
+      tails_are = a ∙ ap (λ z. take n ts ++ z) (sym (map_replicate (λ (l : Link). l.tail) times l));
+      heads_are = b ∙ ap (λ z. take n hs ++ z) (sym (map_replicate (λ (l : Link). l.head) times l));
     }
 
 -- ---- one part after another
 
-pub extends_more : (old new new' xs ys : List ℕ) (n : ℕ) → Extends old n new xs → Extends xs (n + length new) new' ys
-    → Extends old n (new ++ new') ys
-extends_more old new new' xs ys n a b =
-    let l = length-append new new' in
-    let e : n + length (new ++ new') ≡ n + length new + length new' = omega arith in
-    record {
-      same = b.same ∙ a.same;
-      filled = ap (λ z. take z ys) e ∙ b.filled ∙ ap (λ z. z ++ new') a.filled ∙ append_assoc (take n old) new new';
-    }
+pub added_none : (s : LegLists) → Added [] s s
+added_none s = record { numbers_are = refl; tails_are = sym (append-nil s.tails); heads_are = sym (append-nil s.heads) }
 
-pub added_none : (n : ℕ) (tails heads : List ℕ) → Added [] n n tails tails heads heads
-added_none n tails heads =
+pub added_more : (ls ms : List Link) (s s' s'' : LegLists) → Added ls s s' → Added ms s' s'' → Added (ls ++ ms) s s''
+added_more ls ms s s' s'' a b =
     record {
-      end = sym (add-zero n);
-      tails_are = record { same = refl; filled = extends_none tails n };
-      heads_are = record { same = refl; filled = extends_none heads n };
+      numbers_are = b.numbers_are ∙ a.numbers_are;
+      tails_are = one (λ l. l.tail) s.tails s'.tails s''.tails a.tails_are b.tails_are;
+      heads_are = one (λ l. l.head) s.heads s'.heads s''.heads a.heads_are b.heads_are;
     }
+  where
+    one : (f : Link → ℕ) (xs ys zs : List ℕ) → ys ≡ xs ++ map f ls → zs ≡ ys ++ map f ms → zs ≡ xs ++ map f (ls ++ ms)
+    one f xs ys zs e g =
+        g ∙ ap (λ z. z ++ map f ms) e ∙ append_assoc xs (map f ls) (map f ms) ∙ ap (λ z. xs ++ z) (sym (map-append f ls ms))
 
-pub added_more : (ls ms : List Link) (n m : ℕ) (ts ts' ts'' hs hs' hs'' : List ℕ) → Added ls n m ts ts' hs hs'
-    → Extends ts' m (map (λ l. l.tail) ms) ts'' → Extends hs' m (map (λ l. l.head) ms) hs''
-    → Added (ls ++ ms) n (m + length ms) ts ts'' hs hs''
-added_more ls ms n m ts ts' ts'' hs hs' hs'' a b c =
-    let tail : Link → ℕ = λ l. l.tail in
-    let head : Link → ℕ = λ l. l.head in
-    let e = a.end in
-    let l = length-append ls ms in
-    let i : m ≡ n + length (map tail ls) = e ∙ ap (λ z. n + z) (sym (length-map ls tail)) in
-    let j : m ≡ n + length (map head ls) = e ∙ ap (λ z. n + z) (sym (length-map ls head)) in
-    record {
-      end = omega arith;
-      tails_are = subst⁻¹ (λ z. Extends ts n z ts'') (map-append tail ls ms)
-          (extends_more ts (map tail ls) (map tail ms) ts' ts'' n a.tails_are (subst (λ z. Extends ts' z (map tail ms) ts'') i b));
-      heads_are = subst⁻¹ (λ z. Extends hs n z hs'') (map-append head ls ms)
-          (extends_more hs (map head ls) (map head ms) hs' hs'' n a.heads_are (subst (λ z. Extends hs' z (map head ms) hs'') j c));
-    }
+pub added_length : (ls : List Link) (s s' : LegLists) → Added ls s s' → length s'.tails ≡ length s.tails + length ls
+added_length ls s s' a =
+    ap length a.tails_are ∙ length-append s.tails (map (λ l. l.tail) ls) ∙ ap (λ z. length s.tails + z) (length-map ls (λ l. l.tail))
 
 -- ---- the units, place by place
 
@@ -104,14 +85,8 @@ units_fit amounts x l =
     let e = ap (λ z. length (units_below z amounts)) i in
     omega arith
 
-pub added_units : (amounts : List ℕ) (x k n m : ℕ) (ts ts' ts'' hs hs' hs'' : List ℕ) → k ≡ get_or amounts x 0
-    → Added (units_below x amounts) n m ts ts' hs hs'
-    → Extends ts' m (replicate k (x / 64)) ts'' → Extends hs' m (replicate k (x % 64)) hs''
-    → Added (units_below (x + 1) amounts) n (m + k) ts ts'' hs hs''
-added_units amounts x k n m ts ts' ts'' hs hs' hs'' e a b c =
-    subst⁻¹ (λ z. Added z n (m + k) ts ts'' hs hs'') (units_more amounts x ∙ ap (λ z. units_below x amounts ++ replicate z (pair_at x))
-    (sym e))
-    (subst (λ z. Added (units_below x amounts ++ replicate k (pair_at x)) n (m + z) ts ts'' hs hs'') (length-replicate k (pair_at x))
-    (added_more (units_below x amounts) (replicate k (pair_at x)) n m ts ts' ts'' hs hs' hs'' a
-    (subst⁻¹ (λ z. Extends ts' m z ts'') (map_replicate (λ l. l.tail) k (pair_at x)) b)
-    (subst⁻¹ (λ z. Extends hs' m z hs'') (map_replicate (λ l. l.head) k (pair_at x)) c)))
+pub added_units : (amounts : List ℕ) (x k : ℕ) (s s' s'' : LegLists) → k ≡ get_or amounts x 0
+    → Added (units_below x amounts) s s' → Added (replicate k (pair_at x)) s' s'' → Added (units_below (x + 1) amounts) s s''
+added_units amounts x k s s' s'' e a b =
+    subst⁻¹ (λ z. Added z s s'') (units_more amounts x ∙ ap (λ z. units_below x amounts ++ replicate z (pair_at x)) (sym e))
+    (added_more (units_below x amounts) (replicate k (pair_at x)) s s' s'' a b)

@@ -1,12 +1,13 @@
--- The required arcs, noted one by one: an arc is stored in any case, and counted if it is required.
-use Rattle.std.specs.Prelude.{◌≡◌, refl, Bool, true, false, cond, List, [], ◌∷◌, ◌++◌, map, ℕ, ◌+◌, ◌≤◌, ◌<◌, length, take, set}
-use Rattle.std.proofs.Common.{sym, ap, ◌∙◌, subst, append-nil, add-zero, zero-add, add-one, arith, length-set, length-append, take-suc-set}
+-- The required arcs, noted one by one.
+use Rattle.std.specs.Prelude.{◌≡◌, refl, Bool, true, false, cond, List, [], ◌∷◌, ◌++◌, map, ℕ, ◌+◌, ◌≤◌, length}
+use Rattle.std.proofs.Common.{sym, ap, ◌∙◌, append-nil, zero-add, arith}
 use Rattle.std.proofs.Math.Path.{subst⁻¹}
-use Rattle.std.proofs.lemmas.List.{map-append, take-set-le}
+use Rattle.std.proofs.lemmas.List.{map-append, length-map}
 use Rattle.postman.specs.Lists.{select, up_from, below}
 use Rattle.postman.specs.Plan.{Arc, Plan, is_required_arc, arc_at, required_numbers}
-use Rattle.postman_laws.specs.Laws.Selection.{select_append, up_from_append}
-use Rattle.drive_legs.specs.Filled.{Noted, numbers_below}
+use Rattle.postman.specs.Laws.Membership.{length_below}
+use Rattle.postman_laws.specs.Laws.Selection.{select_append, select_length, up_from_append}
+use Rattle.drive_legs.specs.Filled.{LegLists, no_legs, AddedArc, Noted, numbers_below}
 
 abbrev kept : Bool → ℕ → List ℕ
 kept true k = k ∷ []
@@ -27,60 +28,43 @@ numbers_more p k =
     ap (select f) (up_from_append 0 k 1 ∙ ap (λ z. up_from 0 k ++ z ∷ []) (zero-add k)) ∙ select_append f (up_from 0 k) (k ∷ [])
     ∙ ap (λ z. select f (up_from 0 k) ++ z) (select_one f k)
 
-take_kept : (b : Bool) (xs ns : List ℕ) (c v : ℕ) → take c xs ≡ ns → c < length xs → take (c + cond b 1 0) (set xs c v) ≡ ns ++ kept b v
-take_kept true xs ns c v h l = ap (λ z. take z (set xs c v)) (add-one c) ∙ take-suc-set xs c v l ∙ ap (λ z. z ++ v ∷ []) h
-take_kept false xs ns c v h l = ap (λ z. take z (set xs c v)) (add-zero c) ∙ take-set-le c xs c v (omega arith) ∙ h ∙ sym (append-nil ns)
-
-map_kept : (b : Bool) (f : ℕ → ℕ) (ns : List ℕ) (k : ℕ) → map f (ns ++ kept b k) ≡ map f ns ++ kept b (f k)
-map_kept true f ns k = map-append f ns (k ∷ [])
-map_kept false f ns k = map-append f ns []
-
-length_kept : (b : Bool) (k : ℕ) → length (kept b k) ≡ cond b 1 0
-length_kept true k = refl
-length_kept false k = refl
-
-pub noted_more : (p : Plan) (numbers tails heads : List ℕ) (c k : ℕ) → c < 256 → Noted p (numbers_below p k) numbers tails heads c
-    → Noted p (numbers_below p (k + 1)) (set numbers c k) (set tails c (arc_at p.arcs k).tail) (set heads c (arc_at p.arcs k).head)
-    (c + cond (is_required_arc (arc_at p.arcs k)) 1 0)
-noted_more p numbers tails heads c k l h =
-    let a = arc_at p.arcs k in
-    let b = is_required_arc a in
-    let ns = numbers_below p k in
-    let s = h.sizes in
-    let s₀ = s.0 in
-    let s₁ = s.1 in
-    let s₂ = s.2 in
-    subst⁻¹ (λ z. Noted p z (set numbers c k) (set tails c a.tail) (set heads c a.head) (c + cond b 1 0)) (numbers_more p k)
-    record {
-      count = (let e = length-append ns (kept b k) in let d = length_kept b k in let g = h.count in omega arith);
-      numbers_are = take_kept b numbers ns c k h.numbers_are (omega arith);
-      tails_are = take_kept b tails (map (λ k. (arc_at p.arcs k).tail) ns) c a.tail h.tails_are (omega arith)
-          ∙ sym (map_kept b (λ k. (arc_at p.arcs k).tail) ns k);
-      heads_are = take_kept b heads (map (λ k. (arc_at p.arcs k).head) ns) c a.head h.heads_are (omega arith)
-          ∙ sym (map_kept b (λ k. (arc_at p.arcs k).head) ns k);
-      sizes = (length-set numbers c k ∙ s.0, length-set tails c a.tail ∙ s.1, length-set heads c a.head ∙ s.2);
-    }
-
 pub noted_all : (p : Plan) → numbers_below p (length p.arcs) ≡ required_numbers p
 unfolding numbers_below required_numbers
 noted_all p = refl
 
--- the same, at an arc that was read
-pub noted_arc : (p : Plan) (numbers tails heads : List ℕ) (c k n : ℕ) (a : Arc) → arc_at p.arcs k ≡ a → n ≡ cond (is_required_arc a) 1 0
-    → c < 256
-    → Noted p (numbers_below p k) numbers tails heads c
-    → Noted p (numbers_below p (k + 1)) (set numbers c k) (set tails c a.tail) (set heads c a.head) (c + n)
-noted_arc p numbers tails heads c k n a e f l h =
-    subst⁻¹ (λ z. Noted p (numbers_below p (k + 1)) (set numbers c k) (set tails c a.tail) (set heads c a.head) (c + z)) f
-    (subst (λ (b : Arc). Noted p (numbers_below p (k + 1)) (set numbers c k) (set tails c b.tail) (set heads c b.head)
-    (c + cond (is_required_arc b) 1 0)) e
-    (noted_more p numbers tails heads c k l h))
+-- an arc that was read: it is counted if it is required
+pub noted_more : (p : Plan) (k : ℕ) (a : Arc) (s s' : LegLists) → arc_at p.arcs k ≡ a → is_required_arc a ≡ true
+    → Noted p (numbers_below p k) s → AddedArc k a s s' → Noted p (numbers_below p (k + 1)) s'
+noted_more p k a s s' e r h d =
+    let ns = numbers_below p k in
+    let m : numbers_below p (k + 1) ≡ ns ++ k ∷ [] = numbers_more p k ∙ ap (λ b. ns ++ kept b k) (ap is_required_arc e ∙ r) in
+    subst⁻¹ (λ z. Noted p z s') m
+    record {
+      numbers_are = d.numbers_are ∙ ap (λ z. z ++ k ∷ []) h.numbers_are;
+      tails_are = field (λ a. a.tail) s.tails s'.tails h.tails_are d.tails_are;
+      heads_are = field (λ a. a.head) s.heads s'.heads h.heads_are d.heads_are;
+    }
+  where
+    field : (f : Arc → ℕ) (xs ys : List ℕ) → xs ≡ map (λ k. f (arc_at p.arcs k)) (numbers_below p k) → ys ≡ xs ++ f a ∷ []
+        → ys ≡ map (λ k. f (arc_at p.arcs k)) (numbers_below p k ++ k ∷ [])
+    field f xs ys u v =
+        v ∙ ap (λ z. z ++ f a ∷ []) u ∙ ap (λ (b : Arc). map (λ k. f (arc_at p.arcs k)) (numbers_below p k) ++ f b ∷ []) (sym e)
+        ∙ sym (map-append (λ k. f (arc_at p.arcs k)) (numbers_below p k) (k ∷ []))
 
-pub counted_le : (b : Bool) → cond b 1 0 ≤ 1
-counted_le true = omega arith
-counted_le false = omega arith
+pub noted_same : (p : Plan) (k : ℕ) (a : Arc) (s : LegLists) → arc_at p.arcs k ≡ a → is_required_arc a ≡ false
+    → Noted p (numbers_below p k) s → Noted p (numbers_below p (k + 1)) s
+noted_same p k a s e r h =
+    let ns = numbers_below p k in
+    subst⁻¹ (λ z. Noted p z s) (numbers_more p k ∙ ap (λ b. ns ++ kept b k) (ap is_required_arc e ∙ r) ∙ append-nil ns) h
 
-pub noted_none : (p : Plan) (numbers tails heads : List ℕ) → length numbers ≡ 256 → length tails ≡ 526 → length heads ≡ 526
-    → Noted p (numbers_below p 0) numbers tails heads 0
+pub noted_none : (p : Plan) → Noted p (numbers_below p 0) no_legs
 unfolding numbers_below below select
-noted_none p numbers tails heads a b c = record { count = refl; numbers_are = refl; tails_are = refl; heads_are = refl; sizes = (a, b, c) }
+noted_none p = record { numbers_are = refl; tails_are = refl; heads_are = refl }
+
+-- as many tails as numbers, and no more numbers than arcs
+pub noted_length : (p : Plan) (ns : List ℕ) (s : LegLists) → Noted p ns s → (length s.numbers ≡ length ns) × (length s.tails ≡ length ns)
+noted_length p ns s h = (ap length h.numbers_are, ap length h.tails_are ∙ length-map ns (λ k. (arc_at p.arcs k).tail))
+
+pub few_below : (p : Plan) (k : ℕ) → length (numbers_below p k) ≤ k
+unfolding numbers_below
+few_below p k = omega (arith, select_length (λ k. is_required_arc (arc_at p.arcs k)) (below k), length_below k)

@@ -8,10 +8,13 @@ use borrow.Author.Tests.{le-leb, lt-leb, lt-ltb, le-ltb, eq-eqb, ne_eqb}
 use Rattle.std.proofs.Math.Decide.{dec_le}
 use Rattle.std.proofs.Math.ListN.{length}
 use Rattle.postman.specs.Plan.{Arc, Plan, arc_at}
-use Rattle.postman.specs.Judge.{is_foreign, is_broken, is_unjoined}
+use Rattle.std.proofs.lemmas.Bool.{or_parts}
+use Rattle.postman.specs.Lists.{any_of}
+use Rattle.postman.specs.Judge.{is_foreign, has_foreign, is_broken, is_unjoined}
+use Rattle.plan.specs.Rows.{arc_in}
 use Rattle.plan.specs.Laws.Rows.{rows_length, row_arc}
 use Rattle.drive_tally.specs.Rows.{plan_over}
-use Rattle.drive_tally.specs.Laws.Places.{places_from, no_places}
+use Rattle.drive_tally.specs.Laws.Places.{places_from, no_places, place_row, place_arc}
 
 -- ---- 14
 
@@ -34,44 +37,53 @@ module _ (rows : List (List ℕ)) (k : ℕ) where
 
 -- ---- 15
 
-module _ (p : Plan) (w : List ℕ) where
+-- The list w is a first place and a rest, and j is the vertex that the last arc has to lead to.
+module _ (p : Plan) (w rest : List ℕ) (j : ℕ) where
   abbrev arc : ℕ → Arc
-  arc i = arc_at p.arcs (get_or w i 0)
+  arc i = arc_at p.arcs (get_or rest i 0)
 
-  -- no gap before place i, where the car is at v
+  -- no gap before place i of the rest, where the car is at v
   abbrev pub NoGapBefore : ℕ → ℕ → Type 0
-  NoGapBefore v i = is_unjoined p w ≡ is_broken p.arcs v (drop i w) (arc 0).tail
+  NoGapBefore v i = is_unjoined p w ≡ is_broken p.arcs v (drop i rest) j
 
-  pub no_gap_none : length w ≡ 0 → false ≡ is_unjoined p w
-  unfolding is_unjoined
-  no_gap_none = at w
-    where
-      at : (w : List ℕ) → length w ≡ 0 → false ≡ is_unjoined p w
-      at [] e = refl
-      at (k ∷ w) e = absurd (omega arith)
-
-  pub no_gap_start : 0 < length w → NoGapBefore (arc 0).head 1
-  unfolding is_unjoined
-  no_gap_start = at w
-    where
-      at : (w : List ℕ) → 0 < length w
-          → is_unjoined p w ≡ is_broken p.arcs (arc_at p.arcs (get_or w 0 0)).head (drop 1 w) (arc_at p.arcs (get_or w 0 0)).tail
-      at [] l = absurd (omega arith)
-      at (k ∷ w) l = refl
-
-  joint : (v i : ℕ) → i < length w → NoGapBefore v i
-      → is_unjoined p w ≡ (not (eqb v (arc i).tail) || is_broken p.arcs (arc i).head (drop (i + 1) w) (arc 0).tail)
+  joint : (v i : ℕ) → i < length rest → NoGapBefore v i
+      → is_unjoined p w ≡ (not (eqb v (arc i).tail) || is_broken p.arcs (arc i).head (drop (i + 1) rest) j)
   unfolding is_broken
-  joint v i l h = h ∙ ap (λ (u : List ℕ). is_broken p.arcs v u (arc 0).tail) (places_from w i l)
+  joint v i l h = h ∙ ap (λ (u : List ℕ). is_broken p.arcs v u j) (places_from rest i l)
 
-  pub no_gap_next : (v i : ℕ) → i < length w → NoGapBefore v i → v ≡ (arc i).tail → NoGapBefore (arc i).head (i + 1)
-  no_gap_next v i l h e =
-      joint v i l h ∙ ap (λ b. not b || is_broken p.arcs (arc i).head (drop (i + 1) w) (arc 0).tail) (eq-eqb v (arc i).tail e)
+  pub no_gap_next : (v i v' : ℕ) → i < length rest → NoGapBefore v i → v ≡ (arc i).tail → (arc i).head ≡ v' → NoGapBefore v' (i + 1)
+  no_gap_next v i v' l h e f =
+      joint v i l h ∙ ap (λ b. not b || is_broken p.arcs (arc i).head (drop (i + 1) rest) j) (eq-eqb v (arc i).tail e)
+      ∙ ap (λ (x : ℕ). is_broken p.arcs x (drop (i + 1) rest) j) f
 
-  pub gap_here : (v i : ℕ) → i < length w → NoGapBefore v i → (v ≡ (arc i).tail → ⊥) → true ≡ is_unjoined p w
+  pub gap_here : (v i : ℕ) → i < length rest → NoGapBefore v i → (v ≡ (arc i).tail → ⊥) → true ≡ is_unjoined p w
   gap_here v i l h e =
-      sym (joint v i l h ∙ ap (λ b. not b || is_broken p.arcs (arc i).head (drop (i + 1) w) (arc 0).tail) (ne_eqb v (arc i).tail e))
+      sym (joint v i l h ∙ ap (λ b. not b || is_broken p.arcs (arc i).head (drop (i + 1) rest) j) (ne_eqb v (arc i).tail e))
 
-  pub last_joint : (v i : ℕ) → length w ≤ i → NoGapBefore v i → not (eqb v (arc 0).tail) ≡ is_unjoined p w
+  pub last_joint : (v i : ℕ) → length rest ≤ i → NoGapBefore v i → not (eqb v j) ≡ is_unjoined p w
   unfolding is_broken
-  last_joint v i l h = sym (h ∙ ap (λ (u : List ℕ). is_broken p.arcs v u (arc 0).tail) (no_places w i l))
+  last_joint v i l h = sym (h ∙ ap (λ (u : List ℕ). is_broken p.arcs v u j) (no_places rest i l))
+
+pub no_gap_none : (p : Plan) (w : List ℕ) → length w ≡ 0 → false ≡ is_unjoined p w
+unfolding is_unjoined
+no_gap_none p [] e = refl
+no_gap_none p (k ∷ w) e = absurd (omega arith)
+
+-- The first place, and what is known of it and of the rest.
+module _ (rows : List (List ℕ)) (w rest : List ℕ) (k : ℕ) (e : w ≡ k ∷ rest) (known : has_foreign (plan_over rows) w ≡ false) where
+  first_known : has_foreign (plan_over rows) (k ∷ rest) ≡ false
+  first_known = ap (has_foreign (plan_over rows)) (sym e) ∙ known
+
+  pub first_row : k < length rows
+  first_row = place_row rows (k ∷ rest) first_known 0 (omega arith)
+
+  first_arc : arc_at (plan_over rows).arcs k ≡ arc_in (get_or rows k [])
+  first_arc = place_arc rows (k ∷ rest) first_known 0 (omega arith)
+
+  pub rest_known : has_foreign (plan_over rows) rest ≡ false
+  unfolding has_foreign any_of
+  rest_known = (or_parts (is_foreign (plan_over rows) k) (any_of (is_foreign (plan_over rows)) rest) first_known).1
+
+  pub no_gap_start : NoGapBefore (plan_over rows) w rest (get_or (get_or rows k []) 0 0) (get_or (get_or rows k []) 1 0) 0
+  unfolding is_unjoined
+  no_gap_start = ap (is_unjoined (plan_over rows)) e ∙ ap (λ (a : Arc). is_broken (plan_over rows).arcs a.head rest a.tail) first_arc

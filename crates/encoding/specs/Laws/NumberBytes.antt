@@ -1,10 +1,11 @@
 -- Bytes that are put one after the other are put together, since each begins where the one before it ended; and what was put is read from
 -- there, since what stands before it has that length.
-use Rattle.std.specs.Prelude.{◌≡◌, refl, List, [], ◌∷◌, ◌++◌, ℕ, zero, suc, ◌+◌, ◌*◌, ◌/◌, ◌%◌, ◌≤◌, length, get_or, take, drop, set}
-use Rattle.std.proofs.Common.{sym, ap, ap₂, ◌∙◌, append_assoc, div-add-mod', arith, length-append, take_at, drop_at, drop-drop, drop-cons, length-take-le}
+use Rattle.std.specs.Prelude.{◌≡◌, refl, List, [], ◌∷◌, ◌++◌, ℕ, ◌+◌, ◌*◌, ◌/◌, ◌%◌, ◌^◌, ◌<◌, ◌≤◌, length, get_or, take, drop, set}
+use Rattle.std.proofs.Common.{sym, ap, ap₂, ◌∙◌, append_assoc, div-add-mod', arith, length-append, take_at, drop_at, drop-drop, length-take-le}
 use Rattle.std.proofs.Math.Seq.{drop-append-add, append_snoc}
 use Rattle.std.proofs.lemmas.List.Edits.{sets-eq}
-use Rattle.std.proofs.lemmas.List.{get_or_at}
+use Rattle.std.proofs.lemmas.List.{get_or_at, get_or-take, get_or-drop}
+use Rattle.std.specs.Int.{w16, w32, w64, to_be_bytes, from_be_bytes}
 use Rattle.encoding.specs.RecordBytes.{number_in}
 use Rattle.encoding.specs.NumberBytes.{put_at, number_bytes, word_in, word_bytes, long_in, long_bytes}
 
@@ -16,16 +17,55 @@ pub length_long : (k : ℕ) → length (long_bytes k) ≡ 8
 unfolding long_bytes word_bytes
 length_long k = refl
 
+-- ---- the bytes of a number are those of the library, and its number is
+
+pub number_is : (k : ℕ) → k < 2 ^ 16 → to_be_bytes w16 k ≡ number_bytes k
+number_is k h = let high : k / 256 ^ 1 % 256 ≡ k / 256 = omega arith in ap (λ (x : ℕ). x ∷ k % 256 ∷ []) high
+
+pub word_is : (k : ℕ) → k < 2 ^ 32 → to_be_bytes w32 k ≡ word_bytes k
+unfolding word_bytes
+word_is k h =
+    let a : k / 256 ^ 3 % 256 ≡ k / 65536 / 256 = omega arith in
+    let b : k / 256 ^ 2 % 256 ≡ k / 65536 % 256 = omega arith in
+    let c : k / 256 ^ 1 % 256 ≡ k % 65536 / 256 = omega arith in
+    let d : k % 256 ≡ k % 65536 % 256 = omega arith in
+    λ j. a j ∷ b j ∷ c j ∷ d j ∷ []
+
+pub long_is : (k : ℕ) → k < 2 ^ 64 → to_be_bytes w64 k ≡ long_bytes k
+unfolding long_bytes word_bytes
+long_is k h =
+    let a : k / 256 ^ 7 % 256 ≡ k / 4294967296 / 65536 / 256 = omega arith in
+    let b : k / 256 ^ 6 % 256 ≡ k / 4294967296 / 65536 % 256 = omega arith in
+    let c : k / 256 ^ 5 % 256 ≡ k / 4294967296 % 65536 / 256 = omega arith in
+    let d : k / 256 ^ 4 % 256 ≡ k / 4294967296 % 65536 % 256 = omega arith in
+    let e : k / 256 ^ 3 % 256 ≡ k % 4294967296 / 65536 / 256 = omega arith in
+    let f : k / 256 ^ 2 % 256 ≡ k % 4294967296 / 65536 % 256 = omega arith in
+    let g : k / 256 ^ 1 % 256 ≡ k % 4294967296 % 65536 / 256 = omega arith in
+    let i : k % 256 ≡ k % 4294967296 % 65536 % 256 = omega arith in
+    λ j. a j ∷ b j ∷ c j ∷ d j ∷ e j ∷ f j ∷ g j ∷ i j ∷ []
+
+-- what stands at a place of n bytes from byte i on
+byte_from : (l : List ℕ) (i n j k : ℕ) → j < n → i + j ≡ k → get_or (take n (drop i l)) j 0 ≡ get_or l k 0
+byte_from l i n j k h e = get_or-take n (drop i l) j 0 h ∙ get_or-drop i l j 0 ∙ ap (λ (m : ℕ). get_or l m 0) e
+
+pub long_read : (l : List ℕ) (i : ℕ) → from_be_bytes w64 (take 8 (drop i l)) ≡ long_in l i
+long_read l i =
+    let a = byte_from l i 8 0 i (omega arith) (omega arith) in
+    let b = byte_from l i 8 1 (i + 1) (omega arith) refl in
+    let c = byte_from l i 8 2 (i + 2) (omega arith) refl in
+    let d = byte_from l i 8 3 (i + 2 + 1) (omega arith) (omega arith) in
+    let e = byte_from l i 8 4 (i + 4) (omega arith) refl in
+    let f = byte_from l i 8 5 (i + 4 + 1) (omega arith) (omega arith) in
+    let g = byte_from l i 8 6 (i + 4 + 2) (omega arith) (omega arith) in
+    let h = byte_from l i 8 7 (i + 4 + 2 + 1) (omega arith) (omega arith) in
+    omega arith
+
 -- ---- bytes that are put
 
--- one store, and two
+-- one store
 pub put_byte : (l : List ℕ) (i x : ℕ) → i + 1 ≤ length l → set l i x ≡ put_at l i (x ∷ [])
 unfolding put_at
 put_byte l i x room = sets-eq (x ∷ []) l i room
-
-pub put_two : (l : List ℕ) (i x y : ℕ) → i + 2 ≤ length l → set (set l i x) (i + 1) y ≡ put_at l i (x ∷ y ∷ [])
-unfolding put_at
-put_two l i x y room = let e : i + 1 ≡ suc i = omega arith in rw e (sets-eq (x ∷ y ∷ []) l i room)
 
 -- one after the other
 pub put_more : (l : List ℕ) (i : ℕ) (a : List ℕ) (j : ℕ) (b : List ℕ) → j ≡ i + length a → j + length b ≤ length l
@@ -48,39 +88,12 @@ pub put_next : (l : List ℕ) (i : ℕ) (a b : List ℕ) (n m : ℕ) → length 
 put_next l i a b n m e f h x x' p q =
     q ∙ ap (λ (y : List ℕ). put_at y (i + n) b) p ∙ put_more l i a (i + n) b (ap (λ (k : ℕ). i + k) (sym e)) (omega arith)
 
--- a number's bytes
-pub put_word : (l : List ℕ) (i k : ℕ) → i + 4 ≤ length l → (x y : List ℕ) → x ≡ put_at l i (number_bytes (k / 65536))
-    → y ≡ put_at x (i + 2) (number_bytes (k % 65536)) → y ≡ put_at l i (word_bytes k)
-unfolding word_bytes
-put_word l i k room x y e f =
-    f ∙ ap (λ (t : List ℕ). put_at t (i + 2) (number_bytes (k % 65536))) e
-    ∙ put_more l i (number_bytes (k / 65536)) (i + 2) (number_bytes (k % 65536)) refl (omega arith)
-
-pub put_long : (l : List ℕ) (i k : ℕ) → i + 8 ≤ length l → (x y : List ℕ) → x ≡ put_at l i (word_bytes (k / 4294967296))
-    → y ≡ put_at x (i + 4) (word_bytes (k % 4294967296)) → y ≡ put_at l i (long_bytes k)
-unfolding long_bytes
-put_long l i k room x y e f =
-    let a = length_word (k / 4294967296) in
-    let b = length_word (k % 4294967296) in
-    f ∙ ap (λ (t : List ℕ). put_at t (i + 4) (word_bytes (k % 4294967296))) e
-    ∙ put_more l i (word_bytes (k / 4294967296)) (i + 4) (word_bytes (k % 4294967296)) (omega arith) (omega arith)
-
 -- from the start
 pub put_start : (l new : List ℕ) (n : ℕ) → length new ≡ n → put_at l 0 new ≡ new ++ drop n l
 unfolding put_at
 put_start l new n e = ap (λ (k : ℕ). new ++ drop k l) (let f : 0 + length new ≡ n = omega arith in f)
 
 -- ---- bytes that are read
-
--- n of them, from byte i on
-abbrev listed : List ℕ → ℕ → ℕ → List ℕ
-listed l zero i = []
-listed l (suc n) i = get_or l i 0 ∷ listed l n (suc i)
-
-reads : (l : List ℕ) (n i : ℕ) → i + n ≤ length l → listed l n i ≡ take n (drop i l)
-reads l zero i h = refl
-reads l (suc n) i h =
-    ap (λ (x : List ℕ). get_or l i 0 ∷ x) (reads l n (suc i) (omega arith)) ∙ ap (take (suc n)) (sym (drop-cons l i 0 (omega arith)))
 
 -- `new` is at byte i.
 pub record IsAt (all : List ℕ) (i : ℕ) (new : List ℕ) : Type 0 where

@@ -1,11 +1,10 @@
--- Records as bytes: seven stores make one, and stores one after another make a list of them, since each record takes seven bytes.
-use Rattle.std.specs.Prelude.{◌≡◌, refl, ℕ, zero, suc, ◌+◌, ◌*◌, ◌/◌, ◌%◌, ◌<◌, ◌≤◌, set, replicate}
+-- Records as bytes: the fields that are put make one, and one after another make a list of them, since each record takes seven bytes.
+use Rattle.std.specs.Prelude.{◌≡◌, refl, ℕ, zero, suc, ◌+◌, ◌*◌, ◌/◌, ◌<◌, ◌≤◌, replicate}
 use Rattle.std.proofs.Common.{sym, ◌∙◌, arith, take_at, drop-drop}
 use Rattle.std.proofs.Math.Path.{ap}
 use mathlib.Core.List.{List, [], ◌∷◌, ◌++◌, map, flat_map, append_assoc, append-nil}
 use Rattle.std.proofs.Math.ListN.{length, get_or, drop, get_or-map}
 use Rattle.std.proofs.lemmas.List.{length-map}
-use Rattle.std.proofs.lemmas.List.Edits.{sets-eq}
 use Rattle.std.proofs.Math.Seq.{drop-append-add}
 use Rattle.postman.specs.Lists.{below}
 use Rattle.postman.specs.Plan.{Arc}
@@ -16,24 +15,22 @@ use Rattle.record_writer.specs.Stored.{stored_to}
 use Rattle.record_writer.specs.Writing.{at_most, loaded}
 use Rattle.record_writer.specs.Laws.Writing.{at_most_fits}
 use Rattle.encoding.specs.RecordBytes.{arc_bytes, arc_in, arcs_in, with_arc}
+use Rattle.encoding.specs.NumberBytes.{put_at, number_bytes}
+use Rattle.encoding.specs.Laws.NumberBytes.{put_next}
 
 -- ---- a record
 
-pub seven-stores
-    : (l : List ℕ) (i : ℕ) (a : Arc)
-    → i + 7 ≤ length l
-    → set (set (set (set (set (set (set l i a.tail) (i + 1) a.head) (i + 2) a.standing) (i + 3) (a.cost / 256)) (i + 4)
-    (a.cost % 256)) (i + 5) (a.service / 256)) (i + 6) (a.service % 256)
-    ≡ with_arc l i a
-unfolding with_arc arc_bytes
-seven-stores l i a h =
-    let e₁ : i + 1 ≡ suc i = omega arith in
-    let e₂ : i + 2 ≡ suc (suc i) = omega arith in
-    let e₃ : i + 3 ≡ suc (suc (suc i)) = omega arith in
-    let e₄ : i + 4 ≡ suc (suc (suc (suc i))) = omega arith in
-    let e₅ : i + 5 ≡ suc (suc (suc (suc (suc i)))) = omega arith in
-    let e₆ : i + 6 ≡ suc (suc (suc (suc (suc (suc i))))) = omega arith in
-    rw (e₁, e₂, e₃, e₄, e₅, e₆) (sets-eq (arc_bytes a) l i h)
+-- put field by field
+pub record_put : (l : List ℕ) (i : ℕ) (a : Arc) → i + 7 ≤ length l → (x y z : List ℕ)
+    → x ≡ put_at l i (a.tail ∷ a.head ∷ a.standing ∷ [])
+    → y ≡ put_at x (i + 3) (number_bytes a.cost)
+    → z ≡ put_at y (i + 5) (number_bytes a.service)
+    → z ≡ with_arc l i a
+unfolding with_arc arc_bytes put_at
+record_put l i a h x y z e f g =
+    let ends = a.tail ∷ a.head ∷ a.standing ∷ [] in
+    let p = put_next l i ends (number_bytes a.cost) 3 2 refl refl (omega arith) x y e f in
+    put_next l i (ends ++ number_bytes a.cost) (number_bytes a.service) 5 2 refl refl (omega arith) y z p g
 
 length_arcs : (arcs : List Arc) → length (flat_map arc_bytes arcs) ≡ 7 * length arcs
 unfolding flat_map arc_bytes

@@ -1,15 +1,13 @@
 -- A file that is held, and read to be changed.
 use Rattle.std.specs.Prelude.{◌≡◌, List, ℕ, ◌≤◌, Result, Ok, Err, IsErrAnd}
-use Rattle.std.proofs.Common.{sym, subst}
-use Rattle.postman.specs.Plan.{WellFormed}
+use Rattle.std.proofs.Common.{sym}
 use Rattle.postman.specs.PlanFile.{file_of}
 use Rattle.postman.specs.OpenPlan.{Change, changed_plan, change_refusal}
 use Rattle.plan.specs.Records.{plan_value}
 use Rattle.plan.specs.Laws.Records.{record_arcs}
-use Rattle.postman_laws.specs.Laws.Acceptance.{file_accepted}
 use Rattle.plan_file.specs.declared.Reading.{Reading}
 use Rattle.plan_file.specs.Reading.{IsReading}
-use Rattle.plan_file.specs.Laws.Reading.{accepted_edition, accepted_value}
+use Rattle.plan_file.specs.Laws.Reading.{accepted_edition, accepted_value, read_good}
 use Rattle.refusal.specs.declared.Refusal.{Refusal}
 use Rattle.refusal.specs.Verdict.{refusal_number}
 use Rattle.held_file.specs.declared.Held.{Held}
@@ -20,9 +18,7 @@ use Rattle.held_file.specs.Laws.Change.{unread, read_on, changed_file_lem}
 
 -- A plan that was read has at most 256 arcs.
 pub few_records : (bytes : List ℕ) (r : Reading) → IsReading bytes (Ok r) → r.plan.m ≤ 256
-few_records bytes r i =
-    let e = sym i.verdict in
-    record_arcs r.plan (subst WellFormed (sym (accepted_value bytes (Ok r) i e)) (file_accepted bytes e))
+few_records bytes r i = record_arcs r.plan (read_good i)
 
 module _ (bytes : List ℕ) (c : Change) where
   pub stopped_unread : (q : Refusal) (w : Result Held Refusal) → IsReading bytes (Err q) → IsErrAnd w (λ s. s ≡ q)

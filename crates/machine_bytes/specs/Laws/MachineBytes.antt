@@ -1,6 +1,6 @@
 -- A machine that was stored is lent again as it was. A district's fields are put one after the other, and so are the districts; each is
 -- read from the place where it was put, since what stands before it has the length of what was put before.
-use Rattle.std.specs.Prelude.{◌≡◌, drop, set, replicate}
+use Rattle.std.specs.Prelude.{◌≡◌, drop, set}
 use Rattle.std.proofs.Math.Path.{refl, sym, ap, subst⁻¹}
 use Rattle.std.proofs.Common.{ap₂, ◌∙◌, subst, add-one, length-take-le}
 use Rattle.std.proofs.Math.Logic.{inl, inr}
@@ -9,11 +9,9 @@ use mathlib.Core.List.{List, [], ◌∷◌, ◌++◌, map, flat_map, append_asso
 use Prim.Native.Nat.{ℕ, zero, suc, ◌+◌, ◌*◌, ◌≤◌, ◌<◌}
 use native.Mathlib.Omega.{arith}
 use Rattle.std.proofs.Math.ListN.{length, get_or, take, length-append}
-use Rattle.std.proofs.lemmas.List.{length-replicate}
 use Rattle.std.proofs.Math.Seq.{take-suc, ext_get_or}
 use Rattle.postman.specs.Lists.{below}
 use Rattle.postman_laws.specs.Laws.Below.{length_map_below, get_d_map_below}
-use Rattle.plan.specs.Laws.Prefix.{Prefix, prefix_all}
 use Rattle.held_file.specs.Laws.Held.{file_back}
 use Rattle.tree_search.specs.declared.trees.Reached.{Reached}
 use Rattle.district_machine.specs.declared.machine.District.{District}
@@ -219,19 +217,14 @@ module _ (l : List ℕ) (line : List District) where
             ∙ put_more l 0 done (1516 * k) (district_bytes d) (omega arith) (omega arith) ∙ ap (put_at l 0) (sym new);
       }
 
--- loaded by a loop: the front one, in every place; and then each in its own
-pub first_loaded : (bytes : List ℕ) (z d : District) → d ≡ district_in bytes 0
-    → Prefix 8 z (λ j. district_in bytes (1516 * j)) (replicate 8 d) 1
-first_loaded bytes z d e =
-    record { few = omega arith; long = length-replicate 8 d; before = λ i l. (let q : i ≡ 0 = omega arith in rw q e) }
-
-pub all_loaded : (bytes : List ℕ) (z : District) (line : List District) (k : ℕ) → 8 ≤ k
-    → Prefix 8 z (λ j. district_in bytes (1516 * j)) line k → line ≡ map (λ j. district_in bytes (1516 * j)) (below 8)
-all_loaded bytes z line k m h =
+-- loaded, each from its own place
+pub all_loaded : (bytes : List ℕ) (z : District) (line : List District) → length line ≡ 8
+    → ((k : ℕ) → k < 8 → get_or line k z ≡ district_in bytes (1516 * k))
+    → line ≡ map (λ j. district_in bytes (1516 * j)) (below 8)
+all_loaded bytes z line long each =
     let f : ℕ → District = λ j. district_in bytes (1516 * j) in
-    let long = h.long in
     ext_get_or z line (map f (below 8)) (long ∙ sym (length_map_below f 8))
-    (λ i n. prefix_all 8 z f line k h m i (omega arith) ∙ sym (get_d_map_below f 8 i z (omega arith)))
+    (λ i n. each i (omega arith) ∙ sym (get_d_map_below f 8 i z (omega arith)))
 
 -- ---- the machine
 

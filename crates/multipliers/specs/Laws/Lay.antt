@@ -1,8 +1,8 @@
 -- What laying the drive of an arborescence asks of its steps: the state with the links added is the
 -- balancing of the required arcs and the links.
-use Rattle.std.specs.Prelude.{◌≡◌, refl, ℕ, ◌≤◌, length, get_or, take}
+use Rattle.std.specs.Prelude.{◌≡◌, refl, ℕ, ◌≤◌, length, get_or}
 use Rattle.std.proofs.Math.Path.{sym, ap, subst⁻¹}
-use Rattle.std.proofs.Common.{ap₂, ◌∙◌, subst, arith, length-take}
+use Rattle.std.proofs.Common.{ap₂, ◌∙◌, subst, arith}
 use mathlib.Core.List.Memᴰ
 use mathlib.Core.List.{List, [], ◌∷◌, ◌++◌, map, Memᴰ, append-nil}
 use Rattle.std.proofs.lemmas.List.{length-map}
@@ -22,7 +22,7 @@ use Rattle.direct_amounts.specs.Direct.{direct}
 use Rattle.direct_amounts.specs.Laws.Plan.{table_metric, balance_certified, balance_room}
 use Rattle.shortest.specs.StepContracts.{IsTable}
 use Rattle.drive_legs.specs.Legs.{Completes}
-use Rattle.drive_legs.specs.Filled.{links_of, Noted}
+use Rattle.drive_legs.specs.Filled.{LegLists, links_of, Noted}
 use Rattle.drive_legs.specs.Laws.Few.{few_numbers}
 use Rattle.drive_legs.specs.Laws.Laid.{links_tails, links_heads, links_length}
 use Rattle.multipliers.specs.Drive.{table_of, amounts_of}
@@ -130,16 +130,16 @@ unfolding arcs_of
 arcs_map f g [] = refl
 arcs_map f g (x ∷ xs) = ap (λ (ls : List Link). record { tail = f x; head = g x } ∷ ls) (arcs_map f g xs)
 
-module _ (p : Plan) (table : List (List ℕ)) (vs : List ℕ) (b : IsKnown p table vs) (numbers tails heads : List ℕ) (c : ℕ)
-    (n : Noted p (required_numbers p) numbers tails heads c) where
+module _ (p : Plan) (table : List (List ℕ)) (vs : List ℕ) (b : IsKnown p table vs) (s : LegLists)
+    (n : Noted p (required_numbers p) s) where
   gathered : (f : Arc → ℕ) (us : List ℕ) → us ≡ map (λ k. f (arc_at p.arcs k)) (required_numbers p) → us ≡ map f (required_arcs p)
   gathered f us e = e ∙ numbers_field p f
 
-  tails_are : take c tails ≡ map (λ a. a.tail) (required_arcs p)
-  tails_are = gathered (λ a. a.tail) (take c tails) n.tails_are
+  tails_are : s.tails ≡ map (λ a. a.tail) (required_arcs p)
+  tails_are = gathered (λ a. a.tail) s.tails n.tails_are
 
-  heads_are : take c heads ≡ map (λ a. a.head) (required_arcs p)
-  heads_are = gathered (λ a. a.head) (take c heads) n.heads_are
+  heads_are : s.heads ≡ map (λ a. a.head) (required_arcs p)
+  heads_are = gathered (λ a. a.head) s.heads n.heads_are
 
   arc_in_lem : (f : Arc → ℕ) → ((a : Arc) → Memᴰ a (required_arcs p) → Memᴰ (f a) (required p)) → (us : List ℕ)
       → us ≡ map f (required_arcs p) → AllIn vs us
@@ -148,10 +148,10 @@ module _ (p : Plan) (table : List (List ℕ)) (vs : List ℕ) (b : IsKnown p tab
       subst⁻¹ (λ (v : List ℕ). Memᴰ (get_or us k 0) v) b.vertices (Memᴰ.cast r.2 (h r.0 r.1))
 
   pub record IsGathered : Type 0 where
-    pub same : length (take c tails) ≡ length (take c heads)
-    pub few : length (take c tails) ≤ 256
-    pub tails_in : AllIn vs (take c tails)
-    pub heads_in : AllIn vs (take c heads)
+    pub same : length s.tails ≡ length s.heads
+    pub few : length s.tails ≤ 256
+    pub tails_in : AllIn vs s.tails
+    pub heads_in : AllIn vs s.heads
 
   pub is_gathered : IsGathered
   is_gathered =
@@ -160,21 +160,22 @@ module _ (p : Plan) (table : List (List ℕ)) (vs : List ℕ) (b : IsKnown p tab
         same = ap length tails_are ∙ length-map (required_arcs p) (λ a. a.tail) ∙ sym (length-map (required_arcs p) (λ a. a.head))
             ∙ sym (ap length heads_are);
         few = few_required;
-        tails_in = arc_in_lem (λ a. a.tail) (λ a m. (required_ends_lem p ends m).0) (take c tails) tails_are;
-        heads_in = arc_in_lem (λ a. a.head) (λ a m. (required_ends_lem p ends m).1) (take c heads) heads_are;
+        tails_in = arc_in_lem (λ a. a.tail) (λ a m. (required_ends_lem p ends m).0) s.tails tails_are;
+        heads_in = arc_in_lem (λ a. a.head) (λ a m. (required_ends_lem p ends m).1) s.heads heads_are;
       }
     where
-      few_required : length (take c tails) ≤ 256
-      few_required = let a = length-take c tails in let k = n.count in let e = few_numbers p in
-          let f = b.plannable.well_formed.arc_count_holds in omega arith
+      few_required : length s.tails ≤ 256
+      few_required =
+          let e = ap length n.tails_are ∙ length-map (required_numbers p) (λ k. (arc_at p.arcs k).tail) in
+          omega (arith, e, few_numbers p, b.plannable.well_formed.arc_count_holds)
 
-  pub base_from : {z s : State} → z ≡ empty → s ≡ add_all (cell table) vs z (arcs_of (take c tails) (take c heads))
-      → s ≡ balance (cell (table_of p)) p []
+  pub base_from : {z r : State} → z ≡ empty → r ≡ add_all (cell table) vs z (arcs_of s.tails s.heads)
+      → r ≡ balance (cell (table_of p)) p []
   unfolding balance required_ends
-  base_from {z} {s} f e =
-      e ∙ ap (λ (z : State). add_all (cell table) vs z (arcs_of (take c tails) (take c heads))) f
-      ∙ ap (λ (x : List (List ℕ)). add_all (cell x) vs empty (arcs_of (take c tails) (take c heads))) b.distances
-      ∙ ap (λ (v : List ℕ). add_all (cell (table_of p)) v empty (arcs_of (take c tails) (take c heads))) b.vertices
+  base_from {z} {r} f e =
+      e ∙ ap (λ (z : State). add_all (cell table) vs z (arcs_of s.tails s.heads)) f
+      ∙ ap (λ (x : List (List ℕ)). add_all (cell x) vs empty (arcs_of s.tails s.heads)) b.distances
+      ∙ ap (λ (v : List ℕ). add_all (cell (table_of p)) v empty (arcs_of s.tails s.heads)) b.vertices
       ∙ ap (add_all (cell (table_of p)) (required p) empty)
       (ap₂ arcs_of tails_are heads_are ∙ arcs_map (λ a. a.tail) (λ a. a.head) (required_arcs p)
       ∙ sym (append-nil (map (λ a. record { tail = a.tail; head = a.head }) (required_arcs p))))

@@ -1,6 +1,10 @@
 -- The calls of an open plan over a lent state: a slice that is too short, or the state after the call.
-use Rattle.std.specs.Prelude.{◌≡◌, List, [], ◌++◌, ℕ, ◌≤◌, ◌<◌, ℤ, pos, neg_ℤ, length, Result}
-use Rattle.std.proofs.Math.Path.{refl, ap}
+use Rattle.std.specs.Prelude.{◌≡◌, List, [], ◌++◌, ℕ, ◌^◌, ◌≤◌, ◌<◌, ℤ, pos, neg_ℤ, length, Result}
+use mir.Val.{to_z, of_z}
+use Rattle.std.specs.Int.{w64}
+use Rattle.std.specs.Int.Signed.{mag}
+use Rattle.integers.specs.Linear.{back64}
+use Rattle.std.proofs.Math.Path.{refl, ap, subst⁻¹}
 use Rattle.std.proofs.Common.{sym, ◌∙◌, subst, lt-ltb, le-ltb}
 use Rattle.std.proofs.Math.Option.{Option, none, some}
 use Rattle.std.proofs.Math.ListN.{drop}
@@ -62,6 +66,11 @@ module _ (c : Call) (bytes : List ℕ) where
             (m'.state ∙ ap (λ (o : Option ℕ). unless_refused o (next (open_in bytes) c) (open_in bytes))
             (sym (has_room bytes (refusal_of (open_in bytes) c) h)));
       }
+
+-- The number is the same once it has been a word of 64 bits.
+pub move_back : {c : Call} {bytes bytes' : List ℕ} {n : ℤ} → mag n < 2 ^ 63 → IsExportedMove c bytes bytes' n
+    → IsExportedMove c bytes bytes' (to_z w64 (of_z w64 n))
+move_back {c} {bytes} {bytes'} {n} small h = subst⁻¹ (IsExportedMove c bytes bytes') (back64 n small) h
 
 module _ (file bytes : List ℕ) (n : ℤ) (r : Moved) (i : IsOpened file r) where
   abbrev first : Option ℕ

@@ -1,6 +1,6 @@
 -- The refusal of a file by the fields of its header, and what a caller goes by once a plan was read.
 use Rattle.std.specs.Prelude.{◌≡◌, cond, not, ◌||◌, List, ◌++◌, map, ℕ, ◌≤◌, length, ltb, Result, Ok, Err}
-use Rattle.std.proofs.Math.Path.{refl, sym, ap, ap₂}
+use Rattle.std.proofs.Math.Path.{refl, sym, ap, ap₂, subst⁻¹}
 use Rattle.std.proofs.Common.{◌∙◌}
 use Rattle.std.proofs.Math.Option.{none, some}
 use native.Mathlib.Omega.{arith}
@@ -15,14 +15,14 @@ use Rattle.plan_file.specs.declared.Reading.{Reading}
 use Rattle.postman.specs.Laws.Tests.{not_or}
 use Rattle.postman_laws.specs.Laws.Below.{length_map_below}
 use Rattle.postman_laws.specs.Laws.Refusal.{accepted_cons, accepted_append, first_on, first_stop}
-use Rattle.postman_laws.specs.Laws.Acceptance.{extent_accepted, arcs_read_lem}
+use Rattle.postman_laws.specs.Laws.Acceptance.{extent_accepted, arcs_read_lem, file_accepted}
 use Rattle.plan_file.specs.Reading.{IsReading, edition_unless, plan_unless, edition_in, plan_in, margin_conditions, extent_on, frame_conditions}
 use Rattle.plan_file.specs.Laws.Records.{value_record}
 use Rattle.arc_rules.specs.Arcs.{plan_from}
 use Rattle.plan.specs.Records.{record_at, plan_value, records_of, plan_record}
 use Rattle.refusal.specs.declared.Refusal.{Refusal}
 use Rattle.refusal.specs.Verdict.{refusal_number}
-use Rattle.postman.specs.Plan.{Plan}
+use Rattle.postman.specs.Plan.{Plan, WellFormed}
 
 -- The refusal of the frame, by the fields of the header.
 pub frame-refusal
@@ -116,3 +116,9 @@ pub accepted_value : (bytes : List ℕ) (r : Result Reading Refusal) → IsReadi
     → plan_value (plan_in r) ≡ plan_of bytes
 unfolding plan_unless
 accepted_value bytes r read e = ap plan_value (rw e at read.plan) ∙ value_record (plan_of bytes)
+
+-- A reading that is not a refusal holds a plan that is well formed.
+pub read_good : {bytes : List ℕ} {r : Reading} → IsReading bytes (Ok r) → WellFormed (plan_value r.plan)
+read_good {bytes} {r} read =
+    let e = sym read.verdict in
+    subst⁻¹ WellFormed (accepted_value bytes (Ok r) read e) (file_accepted bytes e)

@@ -13,8 +13,8 @@ use Rattle.answers.proofs.answer.hand_over.Goals as goal
 pub returns-in-Ok : goal.returns-in-Ok
 returns-in-Ok c =
     let e = sym c.in-Ok.is in
-    handed _ _ _ _ _ _ (ap verdict_number c.in-Ok.is) (c.words.ensures ∙ ap words_of e) c.put_words.ensures
-    (c.put_multipliers.ensures ∙ ap (λ (x : Result Planned Refusal). put_first (u_list x) c.args.u_lent.now) e)
+    handed _ _ _ _ _ _ (ap verdict_number c.in-Ok.is) (c.words.ensures ∙ ap words_of e) c.put_first.ensures
+    (c.put_first-in-Ok.ensures ∙ ap (λ (x : Result Planned Refusal). put_first (u_list x) c.args.u_lent.now) e)
 
 pub returns-in-Err : goal.returns-in-Err
 returns-in-Err c = kept _ _ _ _ _ (ap verdict_number c.in-Err.is) (back64 _ c.refused_number.type_inv ∙ c.refused_number.ensures)

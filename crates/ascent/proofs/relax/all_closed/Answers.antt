@@ -13,12 +13,12 @@ use Rattle.ascent.proofs.relax.all_closed.Goals as goal
 
 pub all-requires-clause-callable : goal.all-requires-clause-callable
 all-requires-clause-callable c =
-    serves_from_places (YieldsList-from_slice c.args.vs.now c.iter.ensures.rest) (λ x q r. search rules)
-    (λ x k l e. let m = item_below c.args.vs.now k x.now c.requires l e in search rules)
+    serves_from_places (YieldsList-from_slice c.args.vs.vertices.now c.iter.ensures.rest) (λ x q r. search rules)
+    (λ x k l e. let m = item_below c.args.vs.vertices.now k x.now c.args.vs.below_64 l e in search rules)
 
 pub returns : goal.returns
 unfolding are_closed
 returns c =
     let closed = λ (v : ℕ). eqb (get_or c.args.marks.now v 0) 0 in
-    all_turns closed c.args.vs.now
-    (all_from_yields_List closed _ _ _ c.all.ensures.ran (YieldsList-from_slice c.args.vs.now c.iter.ensures.rest) (λ x b q k. search (rules, tests)))
+    all_turns closed c.args.vs.vertices.now
+    (all_from_yields_List closed _ _ _ c.all.ensures.ran (YieldsList-from_slice c.args.vs.vertices.now c.iter.ensures.rest) (λ x b q k. search (rules, tests)))

@@ -8,4 +8,4 @@ use Rattle.multiplier_steps.specs.Turns.{turns}
 use Rattle.ascent_tree.proofs.offers.offers.Given as goal
 
 abbrev pub invariant-loop-v : goal.invariant-loop-v
-invariant-loop-v l = ((l.m, l.at) ≡ turns (λ r a'. offers_from l.d l.x l.component l.vs r (get_or l.vs a' 0)) (replicate 64 (pos beyond), replicate 64 0) l.v-index)
+invariant-loop-v l = ((l.m, l.at) ≡ turns (λ r a'. offers_from l.d l.x l.component l.vs.vertices.now r (get_or l.vs.vertices.now a' 0)) (replicate 64 (pos beyond), replicate 64 0) l.v-index)

@@ -11,7 +11,7 @@ loop-v-init c = refl
 
 pub loop-v-preserved : goal.loop-v-preserved
 loop-v-preserved c =
-    fill_more (λ v. get_or c.args.u.now v 0 + min (get_or c.args.x.now v 0) c.args.most) c.args.vs.now c.args.u.now c.loop-v.v-index
+    fill_more (λ v. get_or c.args.u.now v 0 + min (get_or c.args.x.now v 0) c.args.most) c.args.vs.vertices.now c.args.u.now c.loop-v.v-index
     c.loop-v.invariant
     c.loop-v-test.true
     c.from-i.ensures

@@ -17,10 +17,13 @@ invariant_of-lengths c = record {
   low = levels_small (cell c.args.d.now) c.args.vs.now c.requires.0 (state_of c.args.s) c.requires.1 c.requires.2;
 }
 
+pub invariant_of-list : goal.invariant_of-list
+invariant_of-list c = record { below_64 = vertices_small (cell c.args.d.now) c.args.vs.now c.requires.0 }
+
 pub search_towards-found-requires : goal.search_towards-found-requires
 search_towards-found-requires c =
     let r = c.requires.0.small c.args.root c.requires.3 in
-    (r, r, c.requires.3, vertices_small (cell c.args.d.now) c.args.vs.now c.requires.0, c.requires.0.size)
+    (r, r, c.requires.3, c.requires.0.size)
 
 pub true_costs-requires : goal.true_costs-requires
 true_costs-requires c =
@@ -29,7 +32,6 @@ true_costs-requires c =
       omega (arith, c.from.ensures),
       subst⁻¹ (AtMost beyond) e (search_low _ _ _ _ _),
       levels_small (cell c.args.d.now) c.args.vs.now c.requires.0 (state_of c.args.s) c.requires.1 c.requires.2,
-      vertices_small (cell c.args.d.now) c.args.vs.now c.requires.0,
     )
 
 pub returns : goal.returns

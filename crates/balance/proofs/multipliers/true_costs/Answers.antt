@@ -13,7 +13,7 @@ loop-v-init c = refl
 
 pub loop-v-preserved : goal.loop-v-preserved
 loop-v-preserved c =
-    fill_more (λ v. pos (get_or c.args.x.now v 0 + get_or c.args.u.now v 0) -ℤ pos (get_or c.args.u.now c.args.root 0)) c.args.vs.now
+    fill_more (λ v. pos (get_or c.args.x.now v 0 + get_or c.args.u.now v 0) -ℤ pos (get_or c.args.u.now c.args.root 0)) c.args.vs.vertices.now
     (replicate 64 (pos 0)) c.loop-v.v-index
     c.loop-v.invariant
     c.loop-v-test.true

@@ -16,12 +16,14 @@ invariant_of-search_towards c = record {
   low = levels_small (cell c.args.d.now) c.args.vs.now c.requires.0 (state_in c.args.f.now c.args.u.now c.args.cost c.args.count) c.requires.1 c.requires.2;
 }
 
+pub invariant_of-list : goal.invariant_of-list
+invariant_of-list c = record { below_64 = vertices_small (cell c.args.d.now) c.args.vs.now c.requires.0 }
+
 pub search_towards-found-requires : goal.search_towards-found-requires
 search_towards-found-requires c = (
   c.requires.0.small c.args.tail c.requires.3,
   c.requires.0.small c.args.head c.requires.4,
   c.requires.4,
-  vertices_small (cell c.args.d.now) c.args.vs.now c.requires.0,
   subst⁻¹ (λ n. n ≤ 64) c.settled_by-last.ensures (cond_ind (eqb c.args.tail c.args.head) 1 (length c.args.vs.now) (λ n. n ≤ 64) (λ y. omega arith) (λ y. c.requires.0.size)),
 )
 
@@ -29,7 +31,6 @@ pub raise_by-potentials-requires : goal.raise_by-potentials-requires
 raise_by-potentials-requires c = (
   most_small (cell c.args.d.now) c.args.vs.now c.requires.0 (state_in c.args.f.now c.args.u.now c.args.cost c.args.count) c.requires.1 c.requires.2 c.args.tail c.args.head c.requires.3 c.requires.4 (way_found (cell c.args.d.now) c.args.vs.now c.requires.0 (state_in c.args.f.now c.args.u.now c.args.cost c.args.count) c.requires.1 c.requires.2 c.args.tail c.args.head c.requires.3 c.requires.4 c.search_towards-found.ensures c.settled_by-last.ensures) c.from-h.ensures,
   levels_small (cell c.args.d.now) c.args.vs.now c.requires.0 (state_in c.args.f.now c.args.u.now c.args.cost c.args.count) c.requires.1 c.requires.2,
-  vertices_small (cell c.args.d.now) c.args.vs.now c.requires.0,
 )
 
 pub overflow_add-cost : goal.overflow_add-cost

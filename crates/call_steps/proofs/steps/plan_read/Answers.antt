@@ -6,13 +6,10 @@ use Rattle.shortest.specs.Laws.Weight.{table_costs}
 use Rattle.multipliers.specs.Laws.Table.{table_is, rows}
 use Rattle.call_steps.proofs.steps.plan_read.Goals as goal
 
-pub plan_tabled-requires : goal.plan_tabled-requires
-plan_tabled-requires c =
+pub invariant_of-plan_tabled-clause-has_table : goal.invariant_of-plan_tabled-clause-has_table
+invariant_of-plan_tabled-clause-has_table c =
     let w = c.table-weights in
     let t = c.table_of-table in
-    let d = table_costs _ c.requires.0 w.result t.result w.ensures t.ensures in
+    let d = table_costs _ c.args.good.now.well_formed w.result t.result w.ensures t.ensures in
     let long : length t.result ≡ 64 = t.type_inv.1.0.1 in
-    record {
-      tabled = (c.requires.0, table_is _ t.result long (λ i l. rows t.result t.type_inv.0 t.type_inv.1.1 i (omega arith)) d, w.ensures);
-      budget_and_sheet = (c.requires.1, c.requires.2);
-    }
+    table_is _ t.result long (λ i l. rows t.result t.type_inv.0 t.type_inv.1.1 i (omega arith)) d

@@ -5,7 +5,7 @@ use Rattle.call_steps.specs.Laws.Call.{measured_refusal, planned_as}
 use Rattle.call_steps.proofs.steps.plan_tabled.Goals as goal
 
 pub network_of-net-requires : goal.network_of-net-requires
-network_of-net-requires c = (c.requires.tabled.0, is_table _ _ c.requires.tabled.1)
+network_of-net-requires c = is_table _ _ c.args.t.now.has_table
 
 pub returns : goal.returns
 returns c =

@@ -2,7 +2,7 @@
 use Rattle.std.proofs.Common.{rules, ◌≡◌, ◌/◌, ◌%◌, ℕ, get_or}
 use Rattle.std.specs.Prelude.{pos}
 use Rattle.cheapest_tree.specs.CostMatrix.{IsPlace}
-use Rattle.cheapest_tree.specs.Laws.Arrays.{from_fn_each}
+use Rattle.postman_laws.specs.Laws.Arrays.{from_fn_each}
 use Rattle.cheapest_tree.proofs.cheapest.contracted.Goals as goal
 
 pub returns : goal.returns

@@ -1,7 +1,7 @@
 -- Each entry is that of its component.
 use Rattle.std.proofs.Common.{rules, refl, arith, ◌≡◌, ◌≤◌, ◌<◌, get_or, set, true, false}
 use Rattle.cheapest_tree.specs.CostMatrix.{line_of, IsBest}
-use Rattle.cheapest_tree.specs.Laws.Arrays.{from_fn_each}
+use Rattle.postman_laws.specs.Laws.Arrays.{from_fn_each}
 use Rattle.cheapest_tree.proofs.cheapest.entries.Goals as goal
 
 pub returns : goal.returns

@@ -2,7 +2,7 @@
 use Rattle.std.proofs.Common.{rules, ◌≡◌, ◌%◌, get_or}
 use Rattle.std.specs.Prelude.{pos}
 use Rattle.cheapest_tree.specs.CostMatrix.{less, pay_of}
-use Rattle.cheapest_tree.specs.Laws.Arrays.{from_fn_each}
+use Rattle.postman_laws.specs.Laws.Arrays.{from_fn_each}
 use Rattle.cheapest_tree.proofs.cheapest.reduced.Goals as goal
 
 pub returns : goal.returns

@@ -1,7 +1,7 @@
 -- Each flag is that of its component.
 use Rattle.std.proofs.Common.{rules, ◌≡◌, false}
 use Rattle.cheapest_tree.specs.CostMatrix.{kept_of}
-use Rattle.cheapest_tree.specs.Laws.Arrays.{from_fn_each}
+use Rattle.postman_laws.specs.Laws.Arrays.{from_fn_each}
 use Rattle.cheapest_tree.proofs.cheapest.remaining.Goals as goal
 
 pub returns : goal.returns

@@ -19,16 +19,16 @@ use Rattle.plan.specs.Laws.Rows.{made_long, made_value}
 use Rattle.circuit.proofs.drive.write_circuit.Goals as goal
 
 pub rows_of-arcs-requires : goal.rows_of-arcs-requires
-rows_of-arcs-requires c = record_arcs c.args.plan c.requires.well_formed.0
+rows_of-arcs-requires c = record_arcs c.args.good.now.plan c.args.good.now.well_formed
 
 pub slice_bounds-arcs-end : goal.slice_bounds-arcs-end
-slice_bounds-arcs-end c = let m = record_arcs c.args.plan c.requires.well_formed.0 in let l = made_long _ _ c.rows_of-arcs.ensures in omega arith
+slice_bounds-arcs-end c = let m = record_arcs c.args.good.now.plan c.args.good.now.well_formed in let l = made_long _ _ c.rows_of-arcs.ensures in omega arith
 
 pub slice_bounds-write-end : goal.slice_bounds-write-end
-slice_bounds-write-end c = let l = made_long _ _ c.rows_of-arcs.ensures in let m = record_arcs c.args.plan c.requires.well_formed.0 in sym (length-take-le _ _ (omega arith))
+slice_bounds-write-end c = let l = made_long _ _ c.rows_of-arcs.ensures in let m = record_arcs c.args.good.now.plan c.args.good.now.well_formed in sym (length-take-le _ _ (omega arith))
 
 pub slice_bounds-write-end-2 : goal.slice_bounds-write-end-2
-slice_bounds-write-end-2 c = let l : length c.args.weights.now ≡ 64 = c.rows-1.given in let n = (record_vertices c.args.plan c.requires.well_formed.0).1 in sym (length-take-le _ _ (omega arith))
+slice_bounds-write-end-2 c = let l : length c.args.weights.now ≡ 64 = c.rows-1.given in let n = (record_vertices c.args.good.now.plan c.args.good.now.well_formed).1 in sym (length-take-le _ _ (omega arith))
 
 pub write-requires : goal.write-requires
 write-requires c =
@@ -38,10 +38,10 @@ write-requires c =
     let h = a.legs.now.heads.now in
     let u = c.requires.has_circuit.2 in
     let q = plan_in (length (take c.from-2.result a.weights.now)) (take c.from.result c.rows_of-arcs.result) in
-    let same : q ≡ plan_value a.plan =
+    let same : q ≡ plan_value a.good.now.plan =
     rw (c.from.ensures, c.from-2.ensures)
-    (lent_plan_lem a.plan c.requires.well_formed.0 _ (made_value a.plan _ c.rows_of-arcs.ensures (record_arcs a.plan c.requires.well_formed.0)) a.weights.now c.rows-1.given) in record {
-      well_formed = (subst⁻¹ WellFormed same c.requires.well_formed.0, subst⁻¹ (λ (p : Plan). AreRows p (take c.from-2.result a.weights.now)) same (rw c.from-2.ensures (lent_rows a.plan c.requires.well_formed.0 a.weights.now c.requires.well_formed.1)));
+    (lent_plan_lem a.good.now.plan c.args.good.now.well_formed _ (made_value a.good.now.plan _ c.rows_of-arcs.ensures (record_arcs a.good.now.plan c.args.good.now.well_formed)) a.weights.now c.rows-1.given) in record {
+      well_formed = (subst⁻¹ WellFormed same c.args.good.now.well_formed, subst⁻¹ (λ (p : Plan). AreRows p (take c.from-2.result a.weights.now)) same (rw c.from-2.ensures (lent_rows a.good.now.plan c.args.good.now.well_formed a.weights.now c.requires.weighed)));
       in_range = subst⁻¹ (λ (z : List ℕ). (x : ℕ) → x < length z → get_or z x 0 < length t) e (circuit_below t h u);
       have_paths = (u.ends, subst⁻¹ (λ (p : Plan). HavePaths p a.legs.now.numbers.now t h) same c.requires.have_paths);
       room = subst⁻¹ (λ (z : List ℕ). length (places_of (shortest_path q) a.legs.now.numbers.now t h z) ≤ length a.places.now) e
@@ -54,9 +54,9 @@ returns c =
     let e = c.arrange.ensures in
     let w = c.write.ensures in
     let q = plan_in (length (take c.from-2.result a.weights.now)) (take c.from.result c.rows_of-arcs.result) in
-    let same : q ≡ plan_value a.plan =
+    let same : q ≡ plan_value a.good.now.plan =
     rw (c.from.ensures, c.from-2.ensures)
-    (lent_plan_lem a.plan c.requires.well_formed.0 _ (made_value a.plan _ c.rows_of-arcs.ensures (record_arcs a.plan c.requires.well_formed.0)) a.weights.now c.rows-1.given) in
+    (lent_plan_lem a.good.now.plan c.args.good.now.well_formed _ (made_value a.good.now.plan _ c.rows_of-arcs.ensures (record_arcs a.good.now.plan c.args.good.now.well_formed)) a.weights.now c.rows-1.given) in
     let f : Plan → List ℕ → List ℕ = λ p. places_of (shortest_path p) a.legs.now.numbers.now a.legs.now.tails.now a.legs.now.heads.now in
     let g = ap (f q) e ∙ ap (λ (p : Plan). f p (circuit a.legs.now.tails.now a.legs.now.heads.now)) same in
     record {

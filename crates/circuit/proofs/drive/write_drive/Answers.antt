@@ -1,4 +1,4 @@
--- The arrays hold the legs, so what is written is the drive.
+-- What is laid are the legs, so what is written is the drive.
 use Prim.Native.Nat.{ℕ}
 use mathlib.Core.Path.{ap, ◌∙◌}
 use native.Mathlib.Omega.{arith}
@@ -8,41 +8,39 @@ use Rattle.plan.specs.Records.{plan_value}
 use Rattle.drive_legs.specs.Filled.{links_of}
 use Rattle.drive_legs.specs.Drive.{written}
 use Rattle.drive_legs.specs.Laws.Laid.{links_length}
-use Rattle.circuit.specs.Laws.Completion.{completion, few_legs, tails_number, laid_ready}
+use Rattle.circuit.specs.Laws.Completion.{completion, few_legs, laid_ready}
 use Rattle.circuit.proofs.drive.write_drive.Goals as goal
 
-pub lay-counts-requires : goal.lay-counts-requires
-lay-counts-requires c =
+pub lay-laid-requires : goal.lay-laid-requires
+lay-laid-requires c =
     let a = c.args in
-    let p = plan_value a.plan in
-    let t = links_of a.link_tails.now a.link_heads.now in
-    let f = few_legs p c.requires.well_formed.0 t a.amounts.now c.requires.completing.1 in
-    let n = links_length a.link_tails.now a.link_heads.now c.requires.completing.0 in
-    record {
-      well_formed = (c.requires.well_formed.0, length-replicate {A = ℕ} 256 0, length-replicate {A = ℕ} 526 0, length-replicate {A = ℕ} 526 0);
-      room = (c.requires.completing.0, omega arith);
-    }
+    let t = links_of a.link_tails.now a.link_heads.now in (
+      c.requires.completing.0,
+      omega (
+        arith,
+        few_legs (plan_value a.good.now.plan) a.good.now.well_formed t a.amounts.now c.requires.completing.1,
+        links_length a.link_tails.now a.link_heads.now c.requires.completing.0,
+      ),
+    )
 
 pub write_circuit-requires : goal.write_circuit-requires
 write_circuit-requires c =
-    let l = c.lay-counts.ensures in
-    let r = laid_ready _ c.requires.well_formed.0 _ _ c.requires.completing.1 l in
-    let n = tails_number _ c.requires.well_formed.0 _ _ c.requires.completing.1 l in
+    let r = laid_ready _ c.args.good.now.well_formed _ _ c.requires.completing.1 c.lay-laid.ensures
+    c.numbers.ensures c.tails.ensures c.heads.ensures in
+    let z = (completion _ c.args.good.now.well_formed _ _ c.requires.completing.1).short in
     let m = length-replicate {A = ℕ} 526 0 in
     let f = r.few in
-    let z = (completion _ c.requires.well_formed.0 _ _ c.requires.completing.1).short in
-    let w = ap length r.written in
-    let q = c.requires.room in
     record {
-      well_formed = c.requires.well_formed;
-      has_circuit = (f, length-take-le _ (replicate {A = ℕ} 526 0) (omega arith) ∙ n, r.eulerian);
+      weighed = c.requires.weighed;
+      has_circuit = (f, length-take-le _ (replicate {A = ℕ} 526 0) (omega arith), r.eulerian);
       have_paths = r.have_paths;
-      room = omega arith;
+      room = omega (arith, z, ap length r.written, c.requires.room);
     }
 
 pub returns : goal.returns
 returns c =
-    let r = laid_ready _ c.requires.well_formed.0 _ _ c.requires.completing.1 c.lay-counts.ensures in
+    let r = laid_ready _ c.args.good.now.well_formed _ _ c.requires.completing.1 c.lay-laid.ensures
+    c.numbers.ensures c.tails.ensures c.heads.ensures in
     let e = c.write_circuit.ensures in
     record {
       places_written = e.places_written ∙ ap (λ z. written z c.args.places.now) r.written;

@@ -21,6 +21,6 @@ returns c =
     record {
       each = λ v g.
           numbered c.args.required c.labels_of-labels.result c.ranks_of-ranks.result.below c.ranks_of-ranks.result.all v _ (let e = l.low v g in omega arith) k.1 k.0 (c.numbers.ensures v g)
-          ∙ number_component (plan_value c.args.plan) c.requires.0 c.args.required c.requires.1 c.labels_of-labels.result l v g;
-      all = k.0 ∙ roots_count (plan_value c.args.plan) c.requires.0 c.args.required c.requires.1 c.labels_of-labels.result l;
+          ∙ number_component (plan_value c.args.good.now.plan) c.args.good.now.well_formed c.args.required c.requires c.labels_of-labels.result l v g;
+      all = k.0 ∙ roots_count (plan_value c.args.good.now.plan) c.args.good.now.well_formed c.args.required c.requires c.labels_of-labels.result l;
     }

@@ -1,6 +1,6 @@
 -- Each vertex has the number of its component.
 use Rattle.std.proofs.Common.{rules, ◌≡◌, cond, get_or, false}
-use Rattle.plan.specs.Laws.Arrays.{from_fn_each}
+use Rattle.postman_laws.specs.Laws.Arrays.{from_fn_each}
 use Rattle.components.proofs.components.numbers.Goals as goal
 
 pub returns : goal.returns

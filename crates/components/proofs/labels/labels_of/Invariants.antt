@@ -4,4 +4,4 @@ use Rattle.components.specs.Labels.{Labelled}
 use Rattle.components.proofs.labels.labels_of.Given as goal
 
 abbrev pub invariant-loop-a : goal.invariant-loop-a
-invariant-loop-a l = Labelled (plan_value l.fn.plan) l.a-index l.labels
+invariant-loop-a l = Labelled (plan_value l.fn.good.plan) l.a-index l.labels

@@ -1,6 +1,6 @@
 -- Each label is its vertex.
 use Rattle.std.proofs.Common.{rules, ◌≡◌}
-use Rattle.plan.specs.Laws.Arrays.{from_fn_each}
+use Rattle.postman_laws.specs.Laws.Arrays.{from_fn_each}
 use Rattle.components.proofs.labels.own_labels.Goals as goal
 
 pub returns : goal.returns

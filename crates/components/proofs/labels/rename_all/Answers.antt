@@ -1,6 +1,6 @@
 -- Each label is renamed.
 use Rattle.std.proofs.Common.{rules, ◌≡◌}
-use Rattle.plan.specs.Laws.Arrays.{map_each}
+use Rattle.postman_laws.specs.Laws.Arrays.{map_each}
 use Rattle.components.specs.Labels.{rename}
 use Rattle.components.proofs.labels.rename_all.Goals as goal
 

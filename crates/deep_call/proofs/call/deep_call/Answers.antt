@@ -1,18 +1,12 @@
 -- A file that is refused refuses the call; one that is not gives its plan, and the rest of the conditions are looked at in their order.
 use Rattle.std.proofs.Common.{refl, sym}
-use Rattle.std.proofs.Math.Path.{subst⁻¹}
-use Rattle.postman.specs.Plan.{WellFormed}
-use Rattle.postman_laws.specs.Laws.Acceptance.{file_accepted}
-use Rattle.plan_file.specs.Laws.Reading.{accepted_value}
+use Rattle.plan_file.specs.Laws.Reading.{read_good}
 use Rattle.call_steps.specs.Laws.Refused.{stopped}
 use Rattle.deep_call.specs.Laws.Call.{is_deep_call, file_refused_deep, read_deep}
 use Rattle.deep_call.proofs.call.deep_call.Goals as goal
 
-pub deep_lent-requires : goal.deep_lent-requires
-deep_lent-requires c =
-    let r = c.in_ok-read_plan.ensures in
-    let e = sym r.verdict in
-    subst⁻¹ WellFormed (accepted_value _ _ r e) (file_accepted _ e)
+pub invariant_of-deep_lent-clause-well_formed : goal.invariant_of-deep_lent-clause-well_formed
+invariant_of-deep_lent-clause-well_formed c = read_good c.in_ok-read_plan.ensures
 
 pub returns-in_err-read_plan : goal.returns-in_err-read_plan
 returns-in_err-read_plan c =

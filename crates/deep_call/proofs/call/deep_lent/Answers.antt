@@ -13,7 +13,7 @@ pub deep_within-requires : goal.deep_within-requires
 deep_within-requires c =
     let e = sym c.in_ok-lent_verdict.ensures in
     let l = call_limits _ _ e in
-    (c.requires, l.1, small_budget _ _ e, l.0)
+    (l.1, small_budget _ _ e, l.0)
 
 pub returns-in_err-lent_verdict : goal.returns-in_err-lent_verdict
 returns-in_err-lent_verdict c =

@@ -12,16 +12,16 @@ returns-then-bad_rounds c = step_refused _ _ _ _ _ _ _ _ refl (rounds_refused _ 
 
 pub plan_deep-requires : goal.plan_deep-requires
 plan_deep-requires c =
+    let r = rounds_in _ (sym c.bad_rounds.ensures ∙ c.if-bad_rounds.false) in
+    record { room = c.requires.2; within_limits = (c.requires.0, c.requires.1, r.0, r.1) }
+
+pub invariant_of-plan_deep-clause-has_table : goal.invariant_of-plan_deep-clause-has_table
+invariant_of-plan_deep-clause-has_table c =
     let w = c.table-weights in
     let t = c.table_of-table in
-    let d = table_costs _ c.requires.0 w.result t.result w.ensures t.ensures in
+    let d = table_costs _ c.args.good.now.well_formed w.result t.result w.ensures t.ensures in
     let long : length t.result ≡ 64 = t.type_inv.1.0.1 in
-    let r = rounds_in _ (sym c.bad_rounds.ensures ∙ c.if-bad_rounds.false) in
-    let e = table_is _ t.result long (λ i l. rows t.result t.type_inv.0 t.type_inv.1.1 i (omega arith)) d in
-    record {
-      tabled = (record { well_formed = c.requires.0; distances = e; weights_are = w.ensures }, c.requires.3);
-      within_limits = (c.requires.1, c.requires.2, r.0, r.1);
-    }
+    table_is _ t.result long (λ i l. rows t.result t.type_inv.0 t.type_inv.1.1 i (omega arith)) d
 
 pub returns : goal.returns
-returns c = step_on _ _ _ _ _ _ _ _ (rounds_good _ (sym c.bad_rounds.ensures ∙ c.if-bad_rounds.false)) (last_deep _ _ _ _ _ _ c.requires.0 c.plan_deep.ensures)
+returns c = step_on _ _ _ _ _ _ _ _ (rounds_good _ (sym c.bad_rounds.ensures ∙ c.if-bad_rounds.false)) (last_deep _ _ _ _ _ _ c.args.good.now.well_formed c.plan_deep.ensures)

@@ -1,18 +1,12 @@
 -- A file that is refused refuses the call; one that is not gives its plan, and the rest of the conditions are looked at in their order.
 use Rattle.std.proofs.Common.{◌≡◌, ◌∙◌, sym, ap, rules, Err}
-use Rattle.std.proofs.Math.Path.{subst⁻¹}
-use Rattle.postman.specs.Plan.{WellFormed}
-use Rattle.postman_laws.specs.Laws.Acceptance.{file_accepted}
-use Rattle.plan_file.specs.Laws.Reading.{accepted_value}
+use Rattle.plan_file.specs.Laws.Reading.{read_good}
 use Rattle.distances.specs.Answer.{searched_answer}
 use Rattle.distances.specs.Laws.Answer.{refused_call, read_call}
 use Rattle.distances.proofs.call.distance_call.Goals as goal
 
-pub plan_distances-requires : goal.plan_distances-requires
-plan_distances-requires c =
-    let read = c.in_ok-read_plan.ensures in
-    let e = sym read.verdict in
-    subst⁻¹ WellFormed (accepted_value _ _ read e) (file_accepted _ e)
+pub invariant_of-plan_distances-clause-well_formed : goal.invariant_of-plan_distances-clause-well_formed
+invariant_of-plan_distances-clause-well_formed c = read_good c.in_ok-read_plan.ensures
 
 pub returns-in_err-read_plan : goal.returns-in_err-read_plan
 returns-in_err-read_plan c =

@@ -4,4 +4,4 @@ use Rattle.distances.specs.Laws.Filling.{IsFilled}
 use Rattle.distances.proofs.entries.put_entries.Given as goal
 
 abbrev pub invariant-loop-x : goal.invariant-loop-x
-invariant-loop-x l = IsFilled (plan_value l.plan) l.pairs l.initial.distances l.distances l.searched l.searches l.x-index
+invariant-loop-x l = IsFilled (plan_value l.good.plan) l.pairs l.initial.distances l.distances l.searched l.searches l.x-index

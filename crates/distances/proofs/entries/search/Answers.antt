@@ -5,4 +5,4 @@ use Rattle.distances.proofs.entries.search.Goals as goal
 pub returns : goal.returns
 returns c =
     let row = c.row-row in
-    row_put _ _ row.result _ _ _ c.requires.0.vertices c.requires.1 row.ensures c.put_row.ensures
+    row_put _ _ row.result _ _ _ c.args.good.now.well_formed.vertices c.requires.0 row.ensures c.put_row.ensures

@@ -1,19 +1,14 @@
 -- A file that is refused refuses the entry; one that is not gives its plan.
 use Rattle.std.proofs.Common.{sym, ap, ◌∙◌}
-use Rattle.std.proofs.Math.Path.{subst⁻¹}
-use Rattle.postman.specs.Plan.{Plan, WellFormed}
-use Rattle.postman_laws.specs.Laws.Acceptance.{file_accepted}
-use Rattle.plan_file.specs.Laws.Reading.{accepted_value}
+use Rattle.postman.specs.Plan.{Plan}
+use Rattle.plan_file.specs.Laws.Reading.{accepted_value, read_good}
 use Rattle.call_steps.specs.Refusals.{budget_refusal}
 use Rattle.call_steps.specs.Laws.Refused.{stopped}
 use Rattle.district_entry.specs.Laws.Entered.{part_file, part_good}
 use Rattle.district_entry.proofs.enter.call_verdict.Goals as goal
 
-pub budget_verdict-requires : goal.budget_verdict-requires
-budget_verdict-requires c =
-    let i = c.in_ok-reading.ensures in
-    let e = sym i.verdict in
-    subst⁻¹ WellFormed (accepted_value _ _ i e) (file_accepted _ e)
+pub invariant_of-budget_verdict-clause-well_formed : goal.invariant_of-budget_verdict-clause-well_formed
+invariant_of-budget_verdict-clause-well_formed c = read_good c.in_ok-reading.ensures
 
 pub returns-in_err-reading : goal.returns-in_err-reading
 returns-in_err-reading c = rw (stopped _ _ c.from_residual.ensures.1) (sym (part_file _ _ _ (sym c.in_err-reading.ensures.verdict)))

@@ -8,7 +8,7 @@ pub network_of-net-requires : goal.network_of-net-requires
 network_of-net-requires c =
     let t = c.table_of-table in
     let w = c.table-weights in
-    (c.requires, table_costs _ c.requires w.result t.result w.ensures t.ensures)
+    table_costs _ c.args.good.now.well_formed w.result t.result w.ensures t.ensures
 
 pub returns : goal.returns
 returns c = let n = c.network_of-net in c.network_verdict.ensures ∙ measured_refusal _ n.result n.ensures

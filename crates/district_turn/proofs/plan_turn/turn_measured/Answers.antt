@@ -7,7 +7,7 @@ use Rattle.district_turn.proofs.plan_turn.turn_measured.Goals as goal
 pub returns-in-Err : goal.returns-in-Err
 unfolding is_good
 returns-in-Err c =
-    is_stuck _ _ _ _ _ _ (and_first _ _ (ap is_good (sym c.in-Err.ensures))) c.stuck.ensures.0 c.stuck.ensures.1
+    is_stuck _ _ _ _ _ (and_first _ _ (ap is_good (sym c.in-Err.ensures)))
 
 pub returns-in-Ok : goal.returns-in-Ok
 returns-in-Ok c =

@@ -5,11 +5,9 @@ use Prim.Native.Nat.{◌≤◌}
 use native.Mathlib.Omega.{arith}
 use lib.ListN.{length, get_or, drop}
 use Rattle.postman.specs.PlanCall.{sheet_places}
-use Rattle.district_turn.specs.Laws.Clash.{was_false}
-use Rattle.tree_check.specs.Laws.Tree.{plain}
 use Rattle.district_machine.specs.Machine.{waiting_in, no_district}
 use Rattle.districts.specs.Turned.{nobody, short_sheet, stuck}
-use Rattle.districts.specs.Laws.Turned.{turned_as, none_met, short_met, crowd_met, other_met, unserved_met, ahead_is, others_few, own_as, not_taken, served_turned}
+use Rattle.districts.specs.Laws.Turned.{turned_as, none_met, short_met, crowd_met, other_met, ahead_is, others_few, own_as, served_turned}
 use borrow.Author.Rules.{rules}
 use Rattle.districts.proofs.turn.turn.Goals as goal
 
@@ -17,7 +15,8 @@ pub returns-then-n-eq0 : goal.returns-then-n-eq0
 returns-then-n-eq0 c =
     let m = c.args.m in
     let long : length c.args.m.line ≡ 8 = search (rules, c.well_formed) in
-    turned_as m _ _ c.still.result nobody (none_met m _ c.if-n-eq0.true) c.still.ensures.0 (c.still.ensures.1 ∙ ap Ok c.so_far.ensures) c.still.ensures.2 refl
+    let e = c.still.ensures in
+    turned_as m _ _ c.still.result nobody (none_met m _ c.if-n-eq0.true) e.0 (e.1 ∙ ap Ok c.so_far.ensures) e.2 refl
 
 pub returns-then-sheet-lt17266 : goal.returns-then-sheet-lt17266
 unfolding sheet_places
@@ -28,7 +27,9 @@ returns-then-sheet-lt17266 c =
     let f = get_or m.line 0 no_district in
     let ds = drop 1 (waiting_in m) in
     let ahead = ahead_is m long some in
-    turned_as m _ _ c.still-then-sheet-lt17266.result short_sheet (short_met m f ds ahead _ c.if-sheet-lt17266.true) c.still-then-sheet-lt17266.ensures.0 c.still-then-sheet-lt17266.ensures.1 c.still-then-sheet-lt17266.ensures.2 refl
+    let t = c.still-then-sheet-lt17266 in
+    let e = t.ensures in
+    turned_as m _ _ t.result short_sheet (short_met m f ds ahead _ c.if-sheet-lt17266.true) e.0 e.1 e.2 refl
 
 pub returns-then-n-gt8 : goal.returns-then-n-gt8
 unfolding sheet_places
@@ -39,7 +40,10 @@ returns-then-n-gt8 c =
     let f = get_or m.line 0 no_district in
     let ds = drop 1 (waiting_in m) in
     let ahead = ahead_is m long some in
-    turned_as m _ _ c.still-then-n-gt8.result stuck (crowd_met m f ds ahead _ c.if-sheet-lt17266.false c.if-n-gt8.true) c.still-then-n-gt8.ensures.0 (c.still-then-n-gt8.ensures.1 ∙ ap Ok c.so_far.ensures) c.still-then-n-gt8.ensures.2 refl
+    let t = c.still-then-n-gt8 in
+    let e = t.ensures in
+    turned_as m _ _ t.result stuck (crowd_met m f ds ahead _ c.if-sheet-lt17266.false c.if-n-gt8.true) e.0
+    (e.1 ∙ ap Ok c.so_far.ensures) e.2 refl
 
 pub returns-then-not-has_own_place : goal.returns-then-not-has_own_place
 unfolding sheet_places
@@ -52,24 +56,13 @@ returns-then-not-has_own_place c =
     let ahead = ahead_is m long some in
     let t = c.has_own_place in
     let own = sym (t.ensures f refl ∙ own_as f c.left-others.result ds c.left-others.ensures) ∙ c.if-not-has_own_place.true in
-    turned_as m _ _ c.still-then-not-has_own_place.result stuck (other_met m f ds ahead _ c.if-sheet-lt17266.false own) c.still-then-not-has_own_place.ensures.0 (c.still-then-not-has_own_place.ensures.1 ∙ ap Ok c.so_far.ensures) c.still-then-not-has_own_place.ensures.2 refl
+    let s = c.still-then-not-has_own_place in
+    let e = s.ensures in
+    turned_as m _ _ s.result stuck (other_met m f ds ahead _ c.if-sheet-lt17266.false own) e.0 (e.1 ∙ ap Ok c.so_far.ensures) e.2 refl
 
-pub served-s-requires : goal.served-s-requires
+pub served-requires : goal.served-requires
 unfolding sheet_places
-served-s-requires c = c.if-sheet-lt17266.false
-
-pub returns-then-not-s : goal.returns-then-not-s
-unfolding sheet_places
-returns-then-not-s c =
-    let m = c.args.m in
-    let long : length c.args.m.line ≡ 8 = search (rules, c.well_formed) in
-    let some : 1 ≤ m.waiting = (let n = c.if-n-eq0.false in omega arith) in
-    let f = get_or m.line 0 no_district in
-    let ds = drop 1 (waiting_in m) in
-    let ahead = ahead_is m long some in
-    let x = c.served-s in
-    let bad = not_taken x.ensures (was_false x.result.good c.if-not-s.true) in
-    turned_as m _ _ c.still-then-not-s.result stuck (unserved_met m f ds ahead _ c.if-sheet-lt17266.false bad.0) c.still-then-not-s.ensures.0 (c.still-then-not-s.ensures.1 ∙ ap Ok c.so_far.ensures) c.still-then-not-s.ensures.2 bad.1
+served-requires c = c.if-sheet-lt17266.false
 
 pub after-requires : goal.after-requires
 after-requires c =
@@ -89,8 +82,8 @@ returns c =
     let ds = drop 1 (waiting_in m) in
     let ahead = ahead_is m long some in
     let most : m.waiting ≤ 8 = c.if-n-gt8.false in
-    let x = c.served-s in
+    let x = c.served in
     let t = c.has_own_place in
     let l = c.left-others in
     let own = sym (t.ensures f refl ∙ own_as f l.result ds l.ensures) ∙ c.if-not-has_own_place.false in
-    served_turned m f ds ahead most _ _ c.if-sheet-lt17266.false x.result l.result c.after.result own x.ensures (plain x.result.good c.if-not-s.false) l.ensures c.after.ensures
+    served_turned m f ds ahead most _ _ c.if-sheet-lt17266.false x.result c.after.result own x.ensures (c.after.ensures ds l.ensures)

@@ -1,6 +1,8 @@
--- Two stores.
-use Rattle.encoding.specs.Laws.NumberBytes.{put_two}
+-- The library's bytes are those of the definition.
+use Rattle.std.proofs.Common.{ap, ◌∙◌}
+use Rattle.encoding.specs.NumberBytes.{put_at}
+use Rattle.encoding.specs.Laws.NumberBytes.{number_is}
 use Rattle.encoding.proofs.number_bytes.put_number.Goals as goal
 
 pub returns : goal.returns
-returns c = put_two _ _ _ _ c.requires
+returns c = c.put_bytes.ensures ∙ ap (put_at c.args.lent.now c.args.at) (c.to_be_bytes.ensures ∙ number_is c.args.k c.ranges.k.fits)

@@ -1,6 +1,8 @@
--- The high number, then the low one.
-use Rattle.encoding.specs.Laws.NumberBytes.{put_word}
+-- The library's bytes are those of the definition.
+use Rattle.std.proofs.Common.{ap, ◌∙◌}
+use Rattle.encoding.specs.NumberBytes.{put_at}
+use Rattle.encoding.specs.Laws.NumberBytes.{word_is}
 use Rattle.encoding.proofs.number_bytes.put_word.Goals as goal
 
 pub returns : goal.returns
-returns c = put_word _ _ c.args.k c.requires _ _ c.put_number.ensures c.put_number-2.ensures
+returns c = c.put_bytes.ensures ∙ ap (put_at c.args.lent.now c.args.at) (c.to_be_bytes.ensures ∙ word_is c.args.k c.ranges.k.fits)

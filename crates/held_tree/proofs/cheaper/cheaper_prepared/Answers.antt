@@ -11,7 +11,7 @@ returns c =
       tried_is = g.ensures.tried;
       cheaper = λ l. (let b = g.ensures.cheaper l in record { tried_is = g.ensures.tried; cost_is = b.0; links_are = b.1 });
       none_cheaper = g.ensures.none_cheaper;
-      floor_is = back64 _ c.floor_found-floor.type_inv ∙ c.floor_found-floor.ensures ∙ floor_as _ _ _ g.result g.ensures c.requires.1.whole_least;
-      multipliers_are = c.requires.0.multipliers_are;
+      floor_is = back64 _ c.floor_found-floor.type_inv ∙ c.floor_found-floor.ensures ∙ floor_as _ _ _ g.result g.ensures c.requires.whole_least;
+      multipliers_are = c.args.p.now.prepared.multipliers_are;
       number_is = c.begin-b.ensures.number;
     }

@@ -4,8 +4,8 @@ use Rattle.call_steps.specs.Laws.Call.{known_tabled}
 use Rattle.held_tree.proofs.cheaper.cheaper_tabled.Goals as goal
 
 pub network_of-net-requires : goal.network_of-net-requires
-network_of-net-requires c = (c.requires.0, is_table _ _ c.requires.1)
+network_of-net-requires c = is_table _ _ c.args.m.now.has_table
 
-pub prepare-p-requires : goal.prepare-p-requires
-prepare-p-requires c =
-    (known_tabled _ _ c.requires.0 c.requires.1 c.requires.2 _ c.network_of-net.ensures, c.network_of-net.ensures)
+pub prepare-parts-requires : goal.prepare-parts-requires
+prepare-parts-requires c =
+    (known_tabled _ _ c.args.m.now.good.now.well_formed c.args.m.now.has_table c.requires.0 _ c.network_of-net.ensures, c.network_of-net.ensures)

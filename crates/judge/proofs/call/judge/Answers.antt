@@ -1,10 +1,8 @@
 -- A list that is too long, or a file that is refused, is refused for that; else the plan that was read is judged.
 use Rattle.std.proofs.Common.{◌≡◌, ◌∙◌, sym, ap, rules, Err}
-use Rattle.std.proofs.Math.Path.{subst⁻¹}
-use Rattle.postman.specs.Plan.{Plan, WellFormed}
+use Rattle.postman.specs.Plan.{Plan}
 use Rattle.postman.specs.Judge.{highest_places}
-use Rattle.postman_laws.specs.Laws.Acceptance.{file_accepted}
-use Rattle.plan_file.specs.Laws.Reading.{accepted_value}
+use Rattle.plan_file.specs.Laws.Reading.{accepted_value, read_good}
 use Rattle.judge.specs.Contract.{plan_answer, judged_answer}
 use Rattle.judge.specs.Laws.Call.{long_answer, file_answer, good_answer, is_judged}
 use Rattle.judge.proofs.call.judge.Goals as goal
@@ -18,10 +16,10 @@ returns-then-places-gt65535 c = is_judged _ _ _ (long_answer _ _ _ c.long_list.e
 
 pub judge_plan-requires : goal.judge_plan-requires
 unfolding highest_places
-judge_plan-requires c =
-    let read = c.in_ok-read_plan.ensures in
-    let e = sym read.verdict in
-    (subst⁻¹ WellFormed (accepted_value _ _ read e) (file_accepted _ e), c.if-places-gt65535.false)
+judge_plan-requires c = c.if-places-gt65535.false
+
+pub invariant_of-judge_plan-clause-well_formed : goal.invariant_of-judge_plan-clause-well_formed
+invariant_of-judge_plan-clause-well_formed c = read_good c.in_ok-read_plan.ensures
 
 pub returns-in_err-read_plan : goal.returns-in_err-read_plan
 unfolding highest_places

@@ -10,11 +10,11 @@ use Rattle.multiplier_steps.proofs.lawful.vertex_lawful.Goals as goal
 
 pub all-requires-clause-callable : goal.all-requires-clause-callable
 all-requires-clause-callable c =
-    serves_from_places (YieldsList-from_slice c.args.vs.now c.iter.ensures.rest) (λ x q r. search rules)
-    (λ x k l e. let m = item_below c.args.vs.now k x.now c.requires.1 l e in search rules)
+    serves_from_places (YieldsList-from_slice c.args.vs.vertices.now c.iter.ensures.rest) (λ x q r. search rules)
+    (λ x k l e. let m = item_below c.args.vs.vertices.now k x.now c.args.vs.below_64 l e in search rules)
 
 pub returns : goal.returns
 unfolding is_vertex_lawful
 returns c =
-    all_turns (is_pair_lawful c.args.d.now c.args.f.now c.args.x.now c.args.i) c.args.vs.now
-    (all_from_yields_List (is_pair_lawful c.args.d.now c.args.f.now c.args.x.now c.args.i) _ _ _ c.all.ensures.ran (YieldsList-from_slice c.args.vs.now c.iter.ensures.rest) (λ x b q k. search (rules, tests)))
+    all_turns (is_pair_lawful c.args.d.now c.args.f.now c.args.x.now c.args.i) c.args.vs.vertices.now
+    (all_from_yields_List (is_pair_lawful c.args.d.now c.args.f.now c.args.x.now c.args.i) _ _ _ c.all.ensures.ran (YieldsList-from_slice c.args.vs.vertices.now c.iter.ensures.rest) (λ x b q k. search (rules, tests)))

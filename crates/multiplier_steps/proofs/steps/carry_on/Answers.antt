@@ -16,6 +16,6 @@ loop-v-preserved c =
     let k = c.capped in
     let e = simp (back64, k.type_inv, c.carry-arg-1.given, c.carry-arg-in-loop-v-1.given) at c.carry.ensures in
     let one = simp (back64, c.capped-arg-1.given) at k.ensures.0 in
-    turn_at (λ r v. set r v (carried_to (capped (get_or y v (pos 0))) (get_or x v (pos 0)) (get_or before v (pos 0)))) c.args.vs.now y
+    turn_at (λ r v. set r v (carried_to (capped (get_or y v (pos 0))) (get_or x v (pos 0)) (get_or before v (pos 0)))) c.args.vs.vertices.now y
     c.loop-v.v-index c.loop-v.invariant c.from-v.ensures
     (ap (set c.loop-v.z v) (back64 _ c.carry.type_inv ∙ e ∙ ap (λ (p : ℤ). carried_to p (get_or x v (pos 0)) (get_or before v (pos 0))) one))

@@ -6,4 +6,4 @@ use Rattle.multiplier_steps.specs.Turns.{turns}
 use Rattle.multiplier_steps.proofs.steps.rooted.Given as goal
 
 abbrev pub invariant-loop-v : goal.invariant-loop-v
-invariant-loop-v l = (l.base ≡ get_or l.x (get_or l.vs 0 0) (pos 0)) × (l.u ≡ turns (λ r a'. set r (get_or l.vs a' 0) (get_or l.x (get_or l.vs a' 0) (pos 0) -ℤ get_or l.x (get_or l.vs 0 0) (pos 0))) (replicate 64 (pos 0)) l.v-index)
+invariant-loop-v l = (l.base ≡ get_or l.x (get_or l.vs.vertices.now 0 0) (pos 0)) × (l.u ≡ turns (λ r a'. set r (get_or l.vs.vertices.now a' 0) (get_or l.x (get_or l.vs.vertices.now a' 0) (pos 0) -ℤ get_or l.x (get_or l.vs.vertices.now 0 0) (pos 0))) (replicate 64 (pos 0)) l.v-index)

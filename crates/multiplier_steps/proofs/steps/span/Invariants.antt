@@ -7,4 +7,4 @@ use Rattle.postman.specs.Steps.{cell}
 use Rattle.multiplier_steps.proofs.steps.span.Given as goal
 
 abbrev pub invariant-loop-v : goal.invariant-loop-v
-invariant-loop-v l = (l.root ≡ get_or l.vs 0 0) × (l.most ≡ turns (λ r a'. max r (cell l.d (get_or l.vs a' 0) (get_or l.vs 0 0))) 0 l.v-index)
+invariant-loop-v l = (l.root ≡ get_or l.vs.vertices.now 0 0) × (l.most ≡ turns (λ r a'. max r (cell l.d (get_or l.vs.vertices.now a' 0) (get_or l.vs.vertices.now 0 0))) 0 l.v-index)

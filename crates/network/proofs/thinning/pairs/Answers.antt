@@ -1,6 +1,6 @@
 -- The flags, one by one.
 use Rattle.std.proofs.Common.{rules, arith, ◌≡◌, ◌/◌, ◌%◌, ◌*◌, ◌+◌, get_or, false, ap₂, ◌∙◌, ℕ}
-use Rattle.plan.specs.Laws.Arrays.{from_fn_each}
+use Rattle.postman_laws.specs.Laws.Arrays.{from_fn_each}
 use Rattle.network.specs.Thinning.{is_pair}
 use Rattle.network.proofs.thinning.pairs.Goals as goal
 

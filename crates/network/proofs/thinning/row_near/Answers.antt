@@ -1,6 +1,6 @@
 -- The entries, one by one.
 use Rattle.std.proofs.Common.{rules, ◌≡◌}
-use Rattle.plan.specs.Laws.Arrays.{from_fn_each}
+use Rattle.postman_laws.specs.Laws.Arrays.{from_fn_each}
 use Rattle.postman.specs.Steps.{cell}
 use Rattle.network.specs.Thinning.{flag, nearby}
 use Rattle.network.proofs.thinning.row_near.Goals as goal

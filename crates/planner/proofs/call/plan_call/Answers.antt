@@ -1,19 +1,13 @@
 -- A file that is refused refuses the call; one that is not gives its plan, and the rest of the conditions are looked at in their order.
 use Rattle.std.proofs.Common.{sym}
-use Rattle.std.proofs.Math.Path.{subst⁻¹}
-use Rattle.postman.specs.Plan.{WellFormed}
-use Rattle.postman_laws.specs.Laws.Acceptance.{file_accepted}
-use Rattle.plan_file.specs.Laws.Reading.{accepted_value}
+use Rattle.plan_file.specs.Laws.Reading.{read_good}
 use Rattle.call_steps.specs.Laws.Call.{refused_planned}
 use Rattle.call_steps.specs.Laws.Refused.{stopped}
 use Rattle.planner.specs.Laws.Whole.{file_refused, read_planned, is_call}
 use Rattle.planner.proofs.call.plan_call.Goals as goal
 
-pub plan_lent-requires : goal.plan_lent-requires
-plan_lent-requires c =
-    let r = c.in_ok-read_plan.ensures in
-    let e = sym r.verdict in
-    subst⁻¹ WellFormed (accepted_value _ _ r e) (file_accepted _ e)
+pub invariant_of-plan_lent-clause-well_formed : goal.invariant_of-plan_lent-clause-well_formed
+invariant_of-plan_lent-clause-well_formed c = read_good c.in_ok-read_plan.ensures
 
 pub returns-in_err-read_plan : goal.returns-in_err-read_plan
 returns-in_err-read_plan c =

@@ -9,11 +9,11 @@ pub overflow_cast-budget : goal.overflow_cast-budget
 overflow_cast-budget c = let h = small_budget _ _ (sym c.in_ok-lent_verdict.ensures) in search rules
 
 pub plan_read-requires : goal.plan_read-requires
-plan_read-requires c = let l = call_limits _ _ (sym c.in_ok-lent_verdict.ensures) in (c.requires, l.1, l.0)
+plan_read-requires c = let l = call_limits _ _ (sym c.in_ok-lent_verdict.ensures) in (l.1, l.0)
 
 pub returns-in_err-lent_verdict : goal.returns-in_err-lent_verdict
 returns-in_err-lent_verdict c =
     step_refused _ _ _ _ _ _ _ (stopped _ _ c.from_residual.ensures.1) (sym c.in_err-lent_verdict.ensures)
 
 pub returns : goal.returns
-returns c = made_planned _ _ _ _ _ _ _ refl c.requires (sym c.in_ok-lent_verdict.ensures) c.plan_read.ensures
+returns c = made_planned _ _ _ _ _ _ _ refl c.args.good.now.well_formed (sym c.in_ok-lent_verdict.ensures) c.plan_read.ensures

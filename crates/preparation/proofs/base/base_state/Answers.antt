@@ -1,4 +1,4 @@
--- The arrays hold the ends of the required arcs, so adding them to the empty state gives the balancing of the plan.
+-- The legs are the required arcs, so adding them to the empty state gives the balancing of the plan.
 use mathlib.Core.Path.{◌≡◌, subst⁻¹}
 use Prim.Native.Nat.{ℕ, ◌+◌, ◌≤◌}
 use native.Mathlib.Omega.{arith}
@@ -16,11 +16,12 @@ room {n = n} e l = subst⁻¹ (λ (s : State). s.count + n ≤ 1000) e (omega ar
 pub add_all-requires : goal.add_all-requires
 add_all-requires c =
     let b = c.requires in
-    let g = is_gathered _ _ _ b _ _ _ _ c.gather-c.ensures in
+    let g = is_gathered _ _ _ b _ c.gather-arcs.ensures in
     let e = c.empty.ensures in
     let f = g.few in
+    rw (c.tails.ensures, c.heads.ensures)
     (base_metric _ _ _ b, subst⁻¹ (Certified _ _) e (empty_certified _ _), g.same, room e (omega arith), g.tails_in, g.heads_in)
 
 pub returns : goal.returns
 returns c =
-    base_from _ _ _ c.requires _ _ _ _ c.gather-c.ensures c.empty.ensures c.add_all.ensures.0
+    base_from _ _ _ c.requires _ c.gather-arcs.ensures c.empty.ensures (rw (c.tails.ensures, c.heads.ensures) at c.add_all.ensures.0)

@@ -8,12 +8,12 @@ use Rattle.preparation.proofs.links.with_links.Goals as goal
 
 pub add_all-requires : goal.add_all-requires
 add_all-requires c =
-    let b = c.requires.0.base in
-    let t = c.requires.1 in
+    let b = c.args.p.now.prepared.base in
+    let t = c.requires in
     let r = state_room _ _ _ b.known [] (λ l m. elim m [ ]) (omega arith) _ b.base_is in
     let n = tree_length _ _ _ _ b _ _ t in
     (base_metric _ _ _ b.known, state_certified _ _ _ b.known [] (λ l m. elim m [ ]) (omega arith) _ b.base_is, sym t.same, omega arith, tails_in _ _ _ _ b _ _ t, heads_in _ _ _ _ b _ _ t)
 
 pub returns : goal.returns
 returns c =
-    full_is _ _ _ _ c.requires.0.base _ _ c.requires.1 (state_of c.add_all.result) c.add_all.ensures.0
+    full_is _ _ _ _ c.args.p.now.prepared.base _ _ c.requires (state_of c.add_all.result) c.add_all.ensures.0

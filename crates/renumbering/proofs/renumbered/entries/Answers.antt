@@ -1,27 +1,10 @@
--- Each number is the place of an entry.
-use Rattle.std.proofs.Common.{◌<◌, arith, rules}
-use Rattle.renumbering.specs.Laws.Numbering.{in_place}
+-- The entries, one by one.
+use Rattle.std.proofs.Common.{rules, ◌≡◌, get_or}
+use Rattle.postman.specs.Renumbering.{number_in}
+use Rattle.postman_laws.specs.Laws.Arrays.{from_fn_each}
 use Rattle.renumbering.proofs.renumbered.entries.Goals as goal
 
-pub offset_bounds-xs-from : goal.offset_bounds-xs-from
-offset_bounds-xs-from g c =
-    let numbers = c.args.numbers.now in
-    let k = c.loop-k.k in
-    let e = in_place numbers k 0 k (omega arith) in
-    let h : c.from.result < 64 = omega (arith, e, c.requires.1 k (omega arith)) in
-    search rules
-
-pub listed : goal.listed
-listed g c =
-    let numbers = c.args.numbers.now in
-    let k = c.loop-k.k in
-    let e = in_place numbers k 0 k (omega arith) in
-    let h : c.from.result < 64 = omega (arith, e, c.requires.1 k (omega arith)) in
-    search rules
-
-pub bounds-xs-from : goal.bounds-xs-from
-bounds-xs-from g c =
-    let numbers = c.args.numbers.now in
-    let k = c.loop-k.k in
-    let e = in_place numbers k 0 k (omega arith) in
-    omega (arith, e, c.requires.1 k (omega arith))
+pub returns : goal.returns
+returns g c = λ k d l.
+    from_fn_each _ (λ k y. (d : _) → y ≡ get_or c.args.xs.now (number_in c.args.numbers.now k) d) _
+    (λ k y q h. search rules) _ _ c.from_fn.ensures.items k d l d

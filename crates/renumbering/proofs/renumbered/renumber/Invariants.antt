@@ -5,4 +5,4 @@ use Rattle.plan.specs.Laws.Made.{HoldMade}
 use Rattle.renumbering.proofs.renumbered.renumber.Given as goal
 
 abbrev pub invariant-loop-k : goal.invariant-loop-k
-invariant-loop-k l = (l.k ≤ l.fn.plan.m) × HoldMade l.fn.plan (λ k. renumbered_arc (number_in l.to)) l.arcs l.k
+invariant-loop-k l = (l.k ≤ l.fn.good.plan.m) × HoldMade l.fn.good.plan (λ k. renumbered_arc (number_in l.to)) l.arcs l.k

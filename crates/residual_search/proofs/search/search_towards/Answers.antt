@@ -20,9 +20,9 @@ loop-k-init c =
       low = subst⁻¹ (AtMost beyond) x (relax_low _ _ _ _ _ beyond (replicate_low 64 beyond));
       is_nearest = w.nearest;
       in_range = w.in_range;
-      left = ap (rounds_until ℓ c.args.vs.now c.args.t c.args.goal (c.args.most - 1) 1)
+      left = ap (rounds_until ℓ c.args.vs.vertices.now c.args.t c.args.goal (c.args.most - 1) 1)
           (found_same refl refl (w.rank ∙ ap (λ i. set (replicate 64 0) i 1) c.from.ensures))
-          ∙ until_start ℓ c.args.vs.now c.args.t c.args.goal c.args.most refl x next;
+          ∙ until_start ℓ c.args.vs.vertices.now c.args.t c.args.goal c.args.most refl x next;
     }
 
 pub loop-k-preserved : goal.loop-k-preserved
@@ -34,13 +34,13 @@ loop-k-preserved c =
     let next = ap (λ (r : List ℕ × List ℕ). r.1) w.relaxed in
     record {
       from_one = omega arith;
-      to_64 = omega (arith, c.requires.4);
+      to_64 = omega (arith, c.requires.3);
       low = subst⁻¹ (AtMost beyond) x (relax_low _ _ _ _ _ beyond v.invariant.low);
       is_nearest = w.nearest;
       in_range = w.in_range;
-      left = ap (rounds_until ℓ c.args.vs.now c.args.t c.args.goal (c.args.most - (v.k + 1)) (v.k + 1))
+      left = ap (rounds_until ℓ c.args.vs.vertices.now c.args.t c.args.goal (c.args.most - (v.k + 1)) (v.k + 1))
           (found_same refl refl (w.rank ∙ ap (λ i. set v.found.rank i (v.k + 1)) c.from-in-loop-k-2.ensures))
-          ∙ until_more ℓ c.args.vs.now c.args.t c.args.goal c.args.most v.k v.found.distance v.found.next v.found.rank
+          ∙ until_more ℓ c.args.vs.vertices.now c.args.t c.args.goal c.args.most v.k v.found.distance v.found.next v.found.rank
           v.invariant.left
           (omega arith)
           v.invariant.is_nearest

@@ -14,9 +14,9 @@ invariant-loop-k l =
       from_one : 1 ≤ l.k;
       to_64 : l.k ≤ 64;
       low : AtMost beyond l.found.distance;
-      is_nearest : l.w ≡ nearest l.vs l.goal l.found.distance l.found.rank;
+      is_nearest : l.w ≡ nearest l.vs.vertices.now l.goal l.found.distance l.found.rank;
       in_range : l.w < 64;
-      left : rounds_until ℓ l.vs l.t l.goal (l.most - l.k) l.k (found_of l.found) ≡ until ℓ l.vs l.t l.goal l.most;
+      left : rounds_until ℓ l.vs.vertices.now l.t l.goal (l.most - l.k) l.k (found_of l.found) ≡ until ℓ l.vs.vertices.now l.t l.goal l.most;
     }
 
 abbrev pub decreases-loop-k : goal.decreases-loop-k

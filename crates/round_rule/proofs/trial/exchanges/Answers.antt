@@ -8,9 +8,9 @@ use Rattle.round_rule.proofs.trial.exchanges.Goals as goal
 
 pub shuffle-d-requires : goal.shuffle-d-requires
 shuffle-d-requires c =
-    let n = record_vertices _ c.requires.0 in
-    let h = subst⁻¹ (IsNumberingOf _) c.numbers_of.ensures (numbers_kept _ c.args.k c.requires.1.numbering c.requires.1.drive.numbers) in
-    rw c.from.ensures (subst (λ n. IsNumberingOf n c.numbers_of.result) (plan_vertices _) h, n.0, n.1, c.requires.1.random_in)
+    let n = record_vertices _ c.args.good.now.well_formed in
+    let h = subst⁻¹ (IsNumberingOf _) c.numbers_of.ensures (numbers_kept _ c.args.k c.requires.numbering c.requires.drive.numbers) in
+    rw c.from.ensures (subst (λ n. IsNumberingOf n c.numbers_of.result) (plan_vertices _) h, n.0, n.1, c.requires.random_in)
 
 pub returns : goal.returns
 returns c = exchanged_as _ _ c.args.k _ _ c.numbers_of.ensures (rw c.from.ensures at c.shuffle-d.ensures)

@@ -14,7 +14,7 @@ use Rattle.rounds.proofs.round.deepen.Goals as goal
 pub have_met-requires : goal.have_met-requires
 have_met-requires c =
     let b = c.requires.within_limits in
-    cost_fits _ c.requires.has_table.0.well_formed c.requires.has_table.1 _ b.0 b.1 _ _ (omega arith) c.loop-i.invariant.2
+    cost_fits _ c.args.m.now.good.now.well_formed c.requires.has_table.0 _ b.0 b.1 _ _ (omega arith) c.loop-i.invariant.2
 
 pub returns-then-have_met : goal.returns-then-have_met
 returns-then-have_met c = let l = c.loop-i in
@@ -25,8 +25,8 @@ pub next_round-d-requires : goal.next_round-d-requires
 next_round-d-requires c =
     let l = c.loop-i in
     let b = c.requires.within_limits in
-    let a = plan_accepted _ c.requires.has_table.0.well_formed c.requires.has_table.1 in record {
-      has_table = (c.requires.has_table.0, c.requires.has_table.1, subst⁻¹ (GoesOn _) l.invariant.2 (goes_on _ a.0 a.1 _ b.0 b.1 (l.i - 1) (omega arith)), l.invariant.3);
+    let a = plan_accepted _ c.args.m.now.good.now.well_formed c.requires.has_table.0 in record {
+      has_table = (c.requires.has_table.0, subst⁻¹ (GoesOn _) l.invariant.2 (goes_on _ a.0 a.1 _ b.0 b.1 (l.i - 1) (omega arith)), l.invariant.3);
       within_limits = (b.0, b.1);
     }
 

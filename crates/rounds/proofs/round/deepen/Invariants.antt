@@ -7,7 +7,7 @@ use Rattle.round_rule.specs.Rounds.{kept_after}
 use Rattle.rounds.proofs.round.deepen.Given as goal
 
 abbrev pub invariant-loop-i : goal.invariant-loop-i
-invariant-loop-i l = (1 ≤ l.i) × (l.i ≤ l.rounds) × (l.d.kept ≡ kept_after (plan_value l.plan) l.budget (l.i - 1)) × IsHeld (plan_value l.plan) l.d
+invariant-loop-i l = (1 ≤ l.i) × (l.i ≤ l.rounds) × (l.d.kept ≡ kept_after (plan_value l.m.good.now.plan) l.budget (l.i - 1)) × IsHeld (plan_value l.m.good.now.plan) l.d
 
 abbrev pub decreases-loop-i : goal.decreases-loop-i
 decreases-loop-i l = l.rounds - l.i

@@ -10,24 +10,24 @@ pub overflow_sub-before : goal.overflow_sub-before
 overflow_sub-before c =
     let t = c.requires.has_table in
     let b = c.requires.within_limits in
-    let a = plan_accepted _ t.0.well_formed t.1 in
-    (round_asks _ a.0 a.1 _ c.args.round b.0 b.1 c.args.d.kept t.2 _ c.choose-c.ensures).0
+    let a = plan_accepted _ c.args.m.now.good.now.well_formed t.0 in
+    (round_asks _ a.0 a.1 _ c.args.round b.0 b.1 c.args.d.kept t.1 _ c.choose-c.ensures).0
 
 pub cheaper_under-a-requires : goal.cheaper_under-a-requires
 cheaper_under-a-requires c =
     let t = c.requires.has_table in
     let b = c.requires.within_limits in
-    let a = plan_accepted _ t.0.well_formed t.1 in
-    let g = round_asks _ a.0 a.1 _ c.args.round b.0 b.1 c.args.d.kept t.2 _ c.choose-c.ensures in
-    (t.0, t.1, g.1, g.2)
+    let a = plan_accepted _ c.args.m.now.good.now.well_formed t.0 in
+    let g = round_asks _ a.0 a.1 _ c.args.round b.0 b.1 c.args.d.kept t.1 _ c.choose-c.ensures in
+    (t.0, g.1, g.2)
 
 pub overflow_sub-a : goal.overflow_sub-a
 overflow_sub-a c =
     let t = c.requires.has_table in
     let b = c.requires.within_limits in
-    let a = plan_accepted _ t.0.well_formed t.1 in
+    let a = plan_accepted _ c.args.m.now.good.now.well_formed t.0 in
     let h = c.choose-c in
-    let g = round_asks _ a.0 a.1 _ c.args.round b.0 b.1 c.args.d.kept t.2 _ h.ensures in
+    let g = round_asks _ a.0 a.1 _ c.args.round b.0 b.1 c.args.d.kept t.1 _ h.ensures in
     let f = c.cheaper_under-a in
     old_fewer _ _ _ _ f.result f.ensures g.2.within g.1.few_tries _ c.tried_count-old.ensures
 
@@ -35,25 +35,25 @@ pub kept_of-requires : goal.kept_of-requires
 kept_of-requires c =
     let t = c.requires.has_table in
     let b = c.requires.within_limits in
-    let a = plan_accepted _ t.0.well_formed t.1 in
+    let a = plan_accepted _ c.args.m.now.good.now.well_formed t.0 in
     let h = c.choose-c in
-    let g = round_asks _ a.0 a.1 _ c.args.round b.0 b.1 c.args.d.kept t.2 _ h.ensures in
+    let g = round_asks _ a.0 a.1 _ c.args.round b.0 b.1 c.args.d.kept t.1 _ h.ensures in
     let f = c.cheaper_under-a in
     let l = few_tried _ _ _ f.result g.1.few_tries f.ensures in
-    (t.2.few_trees, omega arith, inside_to _ t.0.well_formed _ g.1.numbers)
+    (t.1.few_trees, omega arith, inside_to _ c.args.m.now.good.now.well_formed _ g.1.numbers)
 
 pub returns : goal.returns
 returns c =
     let t = c.requires.has_table in
     let b = c.requires.within_limits in
-    let a = plan_accepted _ t.0.well_formed t.1 in
+    let a = plan_accepted _ c.args.m.now.good.now.well_formed t.0 in
     let h = c.choose-c in
-    let g = round_asks _ a.0 a.1 _ c.args.round b.0 b.1 c.args.d.kept t.2 _ h.ensures in
+    let g = round_asks _ a.0 a.1 _ c.args.round b.0 b.1 c.args.d.kept t.1 _ h.ensures in
     let d = c.args.d in
     let f = c.cheaper_under-a in
     let o = c.tried_count-old in
     let k = c.kept_of in
     let e = old_tried _ _ _ _ f.result f.ensures g.2.within g.1.few_tries _ o.ensures in (
       next_as _ _ _ d.kept h.result f.result o.result k.result h.ensures f.ensures e k.ensures,
-      next_held (plan_value c.args.plan) d _ h.result.trial f.result _ _ _ _ _ t.3 f.ensures k.ensures c.chosen_of.ensures,
+      next_held (plan_value c.args.m.now.good.now.plan) d _ h.result.trial f.result _ _ _ _ _ t.2 f.ensures k.ensures c.chosen_of.ensures,
     )

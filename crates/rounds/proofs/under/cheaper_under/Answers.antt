@@ -10,16 +10,26 @@ use Rattle.tree_search.specs.Improved.{CanImprove}
 use Rattle.round_rule.specs.Laws.Tables.{under_well_formed, under_refusal, under_table}
 use Rattle.rounds.proofs.under.cheaper_under.Goals as goal
 
-pub cheaper_tabled-requires : goal.cheaper_tabled-requires
-cheaper_tabled-requires c =
-    let ok = c.requires.0.well_formed in
-    let x = c.requires.2.numbers in
-    let v = c.renumber-q.ensures in
+pub invariant_of-under-clause-well_formed : goal.invariant_of-under-clause-well_formed
+invariant_of-under-clause-well_formed c =
+    subst⁻¹ WellFormed c.renumber-q.ensures (under_well_formed _ c.args.m.now.good.now.well_formed _ c.requires.1.numbers)
+
+pub invariant_of-under-2 : goal.invariant_of-under-2
+invariant_of-under-2 c =
+    let ok = c.args.m.now.good.now.well_formed in
+    let x = c.requires.1.numbers in
     let t = c.renumber_table-d in
     let long : length t.result ≡ 64 = t.type_inv.1.0.1 in
-    let d = under_table _ ok _ x _ t.result c.requires.0.distances long (λ i l. rows t.result t.type_inv.0 t.type_inv.1.1 i (omega arith)) t.ensures in (
-      subst⁻¹ WellFormed v (under_well_formed _ ok _ x),
-      subst⁻¹ (λ (r : Plan). t.result ≡ table_of r) v d,
-      ap plan_refusal v ∙ under_refusal _ ok _ x ∙ c.requires.1,
-      subst⁻¹ (λ (r : Plan). CanImprove r c.args.cost c.args.before c.args.x.tries) v c.requires.3,
+    record {
+      has_table = subst⁻¹ (λ (r : Plan). t.result ≡ table_of r) c.renumber-q.ensures
+          (under_table _ ok _ x _ t.result c.args.m.now.has_table long (λ i l. rows t.result t.type_inv.0 t.type_inv.1.1 i (omega arith)) t.ensures);
+    }
+
+pub cheaper_tabled-requires : goal.cheaper_tabled-requires
+cheaper_tabled-requires c =
+    let ok = c.args.m.now.good.now.well_formed in
+    let x = c.requires.1.numbers in
+    let v = c.renumber-q.ensures in (
+      ap plan_refusal v ∙ under_refusal _ ok _ x ∙ c.requires.0,
+      subst⁻¹ (λ (r : Plan). CanImprove r c.args.cost c.args.before c.args.x.tries) v c.requires.2,
     )

@@ -1,6 +1,6 @@
 -- Each entry is that of the row.
 use Rattle.std.proofs.Common.{rules, sym, ◌≡◌, ◌+◌, ◌*◌, get_or}
-use Rattle.plan.specs.Laws.Arrays.{from_fn_each}
+use Rattle.postman_laws.specs.Laws.Arrays.{from_fn_each}
 use Rattle.shortest.specs.Laws.Columns.{row_by}
 use Rattle.shortest.proofs.columns.row_from.Goals as goal
 

@@ -13,13 +13,13 @@ use Rattle.shortest.proofs.columns.settled.Goals as goal
 
 pub loop-init : goal.loop-init
 loop-init c =
-    let n = record_vertices c.args.plan c.requires in
-    let w = weighted (plan_value c.args.plan) in
-    (omega arith, omega arith, c.start-c.ensures.0, λ i l. subst⁻¹ (Rounds w i 0) (c.start-c.ensures.1 i l) (rounds_none w (is_weighted (plan_value c.args.plan) c.requires) i l))
+    let n = record_vertices c.args.good.now.plan c.args.good.now.well_formed in
+    let w = weighted (plan_value c.args.good.now.plan) in
+    (omega arith, omega arith, c.start-c.ensures.0, λ i l. subst⁻¹ (Rounds w i 0) (c.start-c.ensures.1 i l) (rounds_none w (is_weighted (plan_value c.args.good.now.plan) c.args.good.now.well_formed) i l))
 
 pub returns-then-eq : goal.returns-then-eq
 returns-then-eq c =
-    λ i l. settled_row (weighted (plan_value c.args.plan)) (is_weighted (plan_value c.args.plan) c.requires) i (c.loop.counter - 1) (row_from c.loop.c i) _ (c.loop.invariant.3 i l) (c.round_all.ensures.1 i l)
+    λ i l. settled_row (weighted (plan_value c.args.good.now.plan)) (is_weighted (plan_value c.args.good.now.plan) c.args.good.now.well_formed) i (c.loop.counter - 1) (row_from c.loop.c i) _ (c.loop.invariant.3 i l) (c.round_all.ensures.1 i l)
     (λ v m. ap (λ (x : List ℕ). get_or (row_from x i) v 0) (search rules))
 
 pub loop-preserved : goal.loop-preserved
@@ -27,11 +27,11 @@ loop-preserved c = (
   omega arith,
   omega arith,
   c.round_all.ensures.0,
-  λ i l. rounds_next (weighted (plan_value c.args.plan)) (is_weighted (plan_value c.args.plan) c.requires) i c.loop.counter (row_from c.loop.c i) _ c.loop.invariant.0 (c.loop.invariant.3 i l) (c.round_all.ensures.1 i l),
+  λ i l. rounds_next (weighted (plan_value c.args.good.now.plan)) (is_weighted (plan_value c.args.good.now.plan) c.args.good.now.well_formed) i c.loop.counter (row_from c.loop.c i) _ c.loop.invariant.0 (c.loop.invariant.3 i l) (c.round_all.ensures.1 i l),
 )
 
 pub returns : goal.returns
 returns c =
-    let n = plan_vertices c.args.plan in
-    let e : c.loop.counter - 1 ≡ (plan_value c.args.plan).n - 1 = omega arith in
-    λ i l. rounds_row (weighted (plan_value c.args.plan)) (is_weighted (plan_value c.args.plan) c.requires) i (row_from c.loop.c i) (rw e at (c.loop.invariant.3 i l))
+    let n = plan_vertices c.args.good.now.plan in
+    let e : c.loop.counter - 1 ≡ (plan_value c.args.good.now.plan).n - 1 = omega arith in
+    λ i l. rounds_row (weighted (plan_value c.args.good.now.plan)) (is_weighted (plan_value c.args.good.now.plan) c.args.good.now.well_formed) i (row_from c.loop.c i) (rw e at (c.loop.invariant.3 i l))

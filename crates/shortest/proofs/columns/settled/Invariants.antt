@@ -9,4 +9,4 @@ use Rattle.shortest.specs.Laws.Relaxation.{Rounds}
 use Rattle.shortest.proofs.columns.settled.Given as goal
 
 abbrev pub invariant-loop : goal.invariant-loop
-invariant-loop l = (1 ≤ l.counter) × (l.counter ≤ l.plan.n) × (length l.c ≡ 4096) × ((i : ℕ) → i < 64 → Rounds (weighted (plan_value l.plan)) i (l.counter - 1) (row_from l.c i))
+invariant-loop l = (1 ≤ l.counter) × (l.counter ≤ l.good.plan.n) × (length l.c ≡ 4096) × ((i : ℕ) → i < 64 → Rounds (weighted (plan_value l.good.plan)) i (l.counter - 1) (row_from l.c i))

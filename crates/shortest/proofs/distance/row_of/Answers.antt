@@ -1,6 +1,6 @@
 -- Each cost is that of its weight.
 use Rattle.std.proofs.Common.{rules, ◌≡◌}
-use Rattle.plan.specs.Laws.Arrays.{map_each}
+use Rattle.postman_laws.specs.Laws.Arrays.{map_each}
 use Rattle.shortest.specs.Weight.{unweighted}
 use Rattle.shortest.proofs.distance.row_of.Goals as goal
 

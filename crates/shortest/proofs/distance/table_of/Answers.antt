@@ -1,6 +1,6 @@
 -- Each row of costs is that of its row of weights.
 use Rattle.std.proofs.Common.{rules, []}
-use Rattle.plan.specs.Laws.Arrays.{map_each}
+use Rattle.postman_laws.specs.Laws.Arrays.{map_each}
 use Rattle.shortest.specs.StepContracts.{AreCosts}
 use Rattle.shortest.proofs.distance.table_of.Goals as goal
 

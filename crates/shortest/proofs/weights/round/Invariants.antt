@@ -8,4 +8,4 @@ use Rattle.shortest.specs.Relaxation.{relax_arcs}
 use Rattle.shortest.proofs.weights.round.Given as goal
 
 abbrev pub invariant-loop-a : goal.invariant-loop-a
-invariant-loop-a l = l.next ≡ relax_arcs (map heavy (take l.a-index (plan_value l.fn.plan).arcs)) l.initial.next
+invariant-loop-a l = l.next ≡ relax_arcs (map heavy (take l.a-index (plan_value l.fn.good.plan).arcs)) l.initial.next

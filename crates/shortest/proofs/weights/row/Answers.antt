@@ -13,22 +13,22 @@ use Rattle.shortest.proofs.weights.row.Goals as goal
 
 pub loop-init : goal.loop-init
 unfolding start_row no_path
-loop-init c = let n = record_vertices c.args.plan c.requires.0 in (omega arith, omega arith, rounds_none (weighted (plan_value c.args.plan)) (is_weighted (plan_value c.args.plan) c.requires.0) c.args.source c.requires.1)
+loop-init c = let n = record_vertices c.args.good.now.plan c.args.good.now.well_formed in (omega arith, omega arith, rounds_none (weighted (plan_value c.args.good.now.plan)) (is_weighted (plan_value c.args.good.now.plan) c.args.good.now.well_formed) c.args.source c.requires)
 
 pub returns-then-eq : goal.returns-then-eq
 returns-then-eq c =
-    settled_row (weighted (plan_value c.args.plan)) (is_weighted (plan_value c.args.plan) c.requires.0) c.args.source (c.loop.counter - 1) c.loop.now _ c.loop.invariant.2 c.round-next.ensures
+    settled_row (weighted (plan_value c.args.good.now.plan)) (is_weighted (plan_value c.args.good.now.plan) c.args.good.now.well_formed) c.args.source (c.loop.counter - 1) c.loop.now _ c.loop.invariant.2 c.round-next.ensures
     (λ j l. ap (λ (x : List ℕ). get_or x j 0) (search rules))
 
 pub loop-preserved : goal.loop-preserved
 loop-preserved c = (
   omega arith,
   omega arith,
-  rounds_next (weighted (plan_value c.args.plan)) (is_weighted (plan_value c.args.plan) c.requires.0) c.args.source c.loop.counter c.loop.now _ c.loop.invariant.0 c.loop.invariant.2 c.round-next.ensures,
+  rounds_next (weighted (plan_value c.args.good.now.plan)) (is_weighted (plan_value c.args.good.now.plan) c.args.good.now.well_formed) c.args.source c.loop.counter c.loop.now _ c.loop.invariant.0 c.loop.invariant.2 c.round-next.ensures,
 )
 
 pub returns : goal.returns
 returns c =
-    let n = plan_vertices c.args.plan in
-    let e : c.loop.counter - 1 ≡ (plan_value c.args.plan).n - 1 = omega arith in
-    rounds_row (weighted (plan_value c.args.plan)) (is_weighted (plan_value c.args.plan) c.requires.0) c.args.source c.loop.now (rw e at c.loop.invariant.2)
+    let n = plan_vertices c.args.good.now.plan in
+    let e : c.loop.counter - 1 ≡ (plan_value c.args.good.now.plan).n - 1 = omega arith in
+    rounds_row (weighted (plan_value c.args.good.now.plan)) (is_weighted (plan_value c.args.good.now.plan) c.args.good.now.well_formed) c.args.source c.loop.now (rw e at c.loop.invariant.2)

@@ -6,4 +6,4 @@ use Rattle.shortest.specs.Laws.Relaxation.{Rounds}
 use Rattle.shortest.proofs.weights.row.Given as goal
 
 abbrev pub invariant-loop : goal.invariant-loop
-invariant-loop l = (1 ≤ l.counter) × (l.counter ≤ l.plan.n) × Rounds (weighted (plan_value l.plan)) l.source (l.counter - 1) l.now
+invariant-loop l = (1 ≤ l.counter) × (l.counter ≤ l.good.plan.n) × Rounds (weighted (plan_value l.good.plan)) l.source (l.counter - 1) l.now

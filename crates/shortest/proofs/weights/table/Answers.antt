@@ -1,6 +1,6 @@
 -- Each row is that of its source.
 use Rattle.std.proofs.Common.{rules, ◌≡◌, []}
-use Rattle.plan.specs.Laws.Arrays.{from_fn_each}
+use Rattle.postman_laws.specs.Laws.Arrays.{from_fn_each}
 use Rattle.shortest.specs.Columns.{row_from}
 use Rattle.shortest.proofs.weights.table.Goals as goal
 

@@ -6,8 +6,8 @@ use Rattle.solution.proofs.lay.lay.Goals as goal
 
 pub direct_amounts-amounts-requires : goal.direct_amounts-amounts-requires
 direct_amounts-amounts-requires c =
-    let b = c.requires.0.base in
-    let t = c.requires.1 in
+    let b = c.args.p.now.prepared.base in
+    let t = c.requires.0 in
     let e = c.with_links-full.ensures in
     let j = tree_joined _ _ _ _ b _ _ t in
     let l = tree_short _ _ _ _ b _ _ t in
@@ -16,15 +16,15 @@ direct_amounts-amounts-requires c =
 
 pub write_drive-requires : goal.write_drive-requires
 write_drive-requires c =
-    let b = c.requires.0.base in
-    let t = c.requires.1 in
+    let b = c.args.p.now.prepared.base in
+    let t = c.requires.0 in
     let full = c.with_links-full in
     let laid = c.direct_amounts-amounts in
     let a = amounts_are _ _ _ _ b _ _ t (state_of full.result) full.ensures laid.result laid.ensures in
     record {
-      well_formed = (b.known.plannable.well_formed, c.requires.3);
+      weighed = c.requires.2;
       completing = (t.same, amounts_complete _ _ _ _ b _ _ t _ a);
-      room = c.requires.2;
+      room = c.requires.1;
     }
 
 pub returns : goal.returns
@@ -32,7 +32,7 @@ returns c =
     let full = c.with_links-full in
     let laid = c.direct_amounts-amounts in
     let w = c.write_drive in
-    let a = amounts_are _ _ _ _ c.requires.0.base _ _ c.requires.1 (state_of full.result) full.ensures laid.result laid.ensures in
+    let a = amounts_are _ _ _ _ c.args.p.now.prepared.base _ _ c.requires.0 (state_of full.result) full.ensures laid.result laid.ensures in
     record {
       sheet_written = rw a at w.ensures.places_written;
       place_count = rw a at w.ensures.place_count;

@@ -14,12 +14,12 @@ use Rattle.preparation.specs.Laws.Preparation.{component_range}
 use Rattle.solution.proofs.lay.lay_held.Goals as goal
 
 pub overflow_sub-n : goal.overflow_sub-n
-overflow_sub-n c = rw c.from-n.ensures (component_range _ _ _ c.requires.0).0
+overflow_sub-n c = rw c.from-n.ensures (component_range _ _ _ c.args.p.now.prepared).0
 
 pub returns : goal.returns
 returns c =
-    let p = plan_value c.args.plan in
-    let m : c.from-n.result - 1 ≡ component_count p - 1 = ap (λ n. n - 1) (c.from-n.ensures ∙ c.requires.0.network.components.all) in
+    let p = plan_value c.args.p.now.good.now.plan in
+    let m : c.from-n.result - 1 ≡ component_count p - 1 = ap (λ n. n - 1) (c.from-n.ensures ∙ c.args.p.now.prepared.network.components.all) in
     let l = c.lay in
     let t = ap (λ n. links_of (take n c.args.tails) (take n c.args.heads)) m ∙ sym (arcs_links (take (component_count p - 1) c.args.tails) (take (component_count p - 1) c.args.heads)) in
     record {

@@ -1,35 +1,51 @@
--- The invariant: the cost of the first i links. The whole sum is small, so that each part is.
-use mathlib.Core.Path.{◌≡◌, refl, sym, ap, ap₂, ◌∙◌}
-use Prim.Native.Nat.{suc, ◌+◌, ◌≤◌}
-use native.Mathlib.Omega.{arith}
-use lib.ListN.{take}
+-- The invariant: the cost of the links before the next one's. The whole sum is small, so that each part is.
+use Rattle.std.proofs.Common.{◌≡◌, sym, ap, ap₂, ◌∙◌, rules, arith, [], ◌∷◌, ◌++◌, ◌≤◌, ◌+◌, suc, List, ℕ, length, get_or, take, take_all, length-append}
+use Rattle.std.proofs.lemmas.Slice.Zip.{zip_turn, zip_end}
+use Rattle.postman.specs.Steps.{cell}
 use Rattle.drive_legs.specs.Filled.{links_of}
 use Rattle.tree_check.specs.Cost.{table_cost}
 use Rattle.tree_check.specs.Laws.Cost.{cost_none, cost_more, cost_part}
-use borrow.Author.Rules.{rules}
 use Rattle.tree_check.proofs.cost.link_cost.Goals as goal
 
-pub loop-i-init : goal.loop-i-init
-loop-i-init c = (refl, omega arith, c.requires.2, c.requires.0, c.requires.1, c.requires.3, sym (cost_none c.args.d.now c.args.tails.now c.args.heads.now))
+pub loop-tail-init : goal.loop-tail-init
+loop-tail-init c = sym (cost_none c.args.d.now c.args.tails.now c.args.heads.now)
+
+pub distance_at-cost-requires : goal.distance_at-cost-requires
+distance_at-cost-requires c =
+    let a = c.args in
+    let v = c.loop-tail in
+    let turn = zip_turn a.tails.now a.heads.now v.yielded c.into_iter-tail-iterator.result v.tail-iterator c.next.new.self c.next.result (search rules) (search rules) v.yielded_by _ c.in-Some.is c.next.ensures.steps in
+    (rw (turn.2 0) (c.requires.0 (length v.yielded) turn.0), rw (turn.3 0) (c.requires.1 (length v.yielded) turn.1))
 
 pub overflow_add-cost : goal.overflow_add-cost
 overflow_add-cost c =
-    let i = c.loop-i.invariant in
-    let t = c.loop-i-test.true in
-    let e = i.2 in
-    let f = cost_more c.args.d.now c.loop-i.i c.args.tails.now c.args.heads.now t (omega arith) in
-    let g = cost_part c.args.d.now (suc c.loop-i.i) c.args.tails.now c.args.heads.now in
-    let k = i.6 in
-    let o = i.5 in
-    let x = c.distance_at-cost.ensures in
-    let l : c.loop-i.cost + c.distance_at-cost.result ≤ 1131527310 = omega arith in
+    let a = c.args in
+    let v = c.loop-tail in
+    let k = length v.yielded in
+    let turn = zip_turn a.tails.now a.heads.now v.yielded c.into_iter-tail-iterator.result v.tail-iterator c.next.new.self c.next.result (search rules) (search rules) v.yielded_by _ c.in-Some.is c.next.ensures.steps in
+    let y : c.distance_at-cost.result ≡ cell a.d.now (get_or a.tails.now k 0) (get_or a.heads.now k 0)
+    = c.distance_at-cost.ensures ∙ ap₂ (cell a.d.now) (turn.2 0) (turn.3 0) in
+    let f = cost_more a.d.now k a.tails.now a.heads.now turn.0 turn.1 in
+    let g = cost_part a.d.now (suc k) a.tails.now a.heads.now in
+    let l : v.cost + c.distance_at-cost.result ≤ 1131527310 = omega (arith, v.invariant, c.requires.3, f, g, y) in
     search rules
 
-pub loop-i-preserved : goal.loop-i-preserved
-loop-i-preserved c =
-    let i = c.loop-i.invariant in
-    let t = c.loop-i-test.true in
-    let e = i.2 in
-    let f = cost_more c.args.d.now c.loop-i.i c.args.tails.now c.args.heads.now t (omega arith) in
-    let n : suc c.loop-i.i ≡ c.loop-i.i + 1 = omega arith in
-    (i.0, omega arith, i.2, i.3, i.4, i.5, ap₂ ◌+◌ i.6 c.distance_at-cost.ensures ∙ sym f ∙ ap (λ k. table_cost c.args.d.now (links_of (take k c.args.tails.now) (take k c.args.heads.now))) n)
+pub loop-tail-preserved : goal.loop-tail-preserved
+loop-tail-preserved c =
+    let a = c.args in
+    let v = c.loop-tail in
+    let k = length v.yielded in
+    let turn = zip_turn a.tails.now a.heads.now v.yielded c.into_iter-tail-iterator.result v.tail-iterator c.next.new.self c.next.result (search rules) (search rules) v.yielded_by _ c.in-Some.is c.next.ensures.steps in
+    let y : c.distance_at-cost.result ≡ cell a.d.now (get_or a.tails.now k 0) (get_or a.heads.now k 0)
+    = c.distance_at-cost.ensures ∙ ap₂ (cell a.d.now) (turn.2 0) (turn.3 0) in
+    let n : suc k ≡ length (v.yielded ++ (c.in-Some.field-0-0, c.in-Some.field-0-1) ∷ []) = omega (arith, length-append v.yielded ((c.in-Some.field-0-0, c.in-Some.field-0-1) ∷ [])) in
+    ap₂ ◌+◌ v.invariant y ∙ sym (cost_more a.d.now k a.tails.now a.heads.now turn.0 turn.1)
+    ∙ ap (λ k. table_cost a.d.now (links_of (take k a.tails.now) (take k a.heads.now))) n
+
+pub returns : goal.returns
+returns c =
+    let a = c.args in
+    let v = c.loop-tail in
+    let ended = zip_end a.tails.now a.heads.now v.yielded c.into_iter-tail-iterator.result v.tail-iterator c.next.new.self c.next.result (search rules) (search rules) v.yielded_by c.in-None.is c.next.ensures.steps in
+    v.invariant
+    ∙ ap₂ (λ (t h : List ℕ). table_cost a.d.now (links_of t h)) (take_all _ a.tails.now (omega (arith, ended, c.requires.2))) (take_all _ a.heads.now (omega (arith, ended, c.requires.2)))

@@ -12,37 +12,37 @@ use Rattle.tree_search.specs.Laws.Begun.{search_prepared, search_given}
 use Rattle.tree_search.proofs.begin.begin.Goals as goal
 
 pub of_network-candidates-requires : goal.of_network-candidates-requires
-of_network-candidates-requires c = component_range _ _ _ c.requires
+of_network-candidates-requires c = component_range _ _ _ c.args.p.now.prepared
 
 pub root-root-requires : goal.root-root-requires
 root-root-requires c =
     let o = c.of_network-candidates.result in
     let i = c.entries_of-entries in
-    let p = plan_value c.args.plan in
-    let r = c.args.r in
-    let h = search_prepared p _ _ c.requires o (c.of_network-candidates.ensures _ c.requires.base.known.plannable.well_formed c.requires.network) in
-    let known = subst⁻¹ (Prepared p c.args.table.now (vertices_in r) o.start o.source o.tails o.heads) c.from-k.ensures h in
-    (p, c.args.table.now, o.start, o.source, o.tails, o.heads, known, search_given p _ _ c.requires i.result i.ensures)
+    let p = plan_value c.args.p.now.good.now.plan in
+    let r = c.args.p.now.parts.now in
+    let h = search_prepared p _ _ c.args.p.now.prepared o (c.of_network-candidates.ensures _ c.args.p.now.prepared.base.known.plannable.well_formed c.args.p.now.prepared.network) in
+    let known = subst⁻¹ (Prepared p c.args.p.now.table.now (vertices_in r) o.start o.source o.tails o.heads) c.from-k.ensures h in
+    (p, c.args.p.now.table.now, o.start, o.source, o.tails, o.heads, known, search_given p _ _ c.args.p.now.prepared i.result i.ensures)
 
 pub number-requires : goal.number-requires
 number-requires c =
     let o = c.of_network-candidates.result in
     let i = c.entries_of-entries in
-    let p = plan_value c.args.plan in
-    let r = c.args.r in
-    let h = search_prepared p _ _ c.requires o (c.of_network-candidates.ensures _ c.requires.base.known.plannable.well_formed c.requires.network) in
-    let known = subst⁻¹ (Prepared p c.args.table.now (vertices_in r) o.start o.source o.tails o.heads) c.from-k.ensures h in
+    let p = plan_value c.args.p.now.good.now.plan in
+    let r = c.args.p.now.parts.now in
+    let h = search_prepared p _ _ c.args.p.now.prepared o (c.of_network-candidates.ensures _ c.args.p.now.prepared.base.known.plannable.well_formed c.args.p.now.prepared.network) in
+    let known = subst⁻¹ (Prepared p c.args.p.now.table.now (vertices_in r) o.start o.source o.tails o.heads) c.from-k.ensures h in
     let b = c.root-root in
-    countable known b.result (b.ensures _ _ _ _ _ _ known (search_given p _ _ c.requires i.result i.ensures))
+    countable known b.result (b.ensures _ _ _ _ _ _ known (search_given p _ _ c.args.p.now.prepared i.result i.ensures))
 
 pub returns : goal.returns
 returns c =
     let o = c.of_network-candidates.result in
     let i = c.entries_of-entries in
-    let p = plan_value c.args.plan in
-    let r = c.args.r in
-    let h = search_prepared p _ _ c.requires o (c.of_network-candidates.ensures _ c.requires.base.known.plannable.well_formed c.requires.network) in
-    let known = subst⁻¹ (Prepared p c.args.table.now (vertices_in r) o.start o.source o.tails o.heads) c.from-k.ensures h in
+    let p = plan_value c.args.p.now.good.now.plan in
+    let r = c.args.p.now.parts.now in
+    let h = search_prepared p _ _ c.args.p.now.prepared o (c.of_network-candidates.ensures _ c.args.p.now.prepared.base.known.plannable.well_formed c.args.p.now.prepared.network) in
+    let known = subst⁻¹ (Prepared p c.args.p.now.table.now (vertices_in r) o.start o.source o.tails o.heads) c.from-k.ensures h in
     let b = c.root-root in
-    let is = b.ensures _ _ _ _ _ _ known (search_given p _ _ c.requires i.result i.ensures) in
+    let is = b.ensures _ _ _ _ _ _ known (search_given p _ _ c.args.p.now.prepared i.result i.ensures) in
     record { prepared = h; root = is; number = c.number.ensures ∙ ap (λ x. min x cap) (root_count known b.result is) }

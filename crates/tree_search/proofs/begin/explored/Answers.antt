@@ -14,9 +14,9 @@ use Rattle.tree_search.proofs.begin.explored.Goals as goal
 
 pub returns : goal.returns
 returns c =
-    let b = c.requires.1 in
-    let p = plan_value c.args.plan in
-    let s = c.args.s.candidates in
-    let known = subst⁻¹ (Prepared p c.args.table.now (vertices_in c.args.r) s.start s.source s.tails s.heads) c.from.ensures b.prepared in
+    let b = c.requires.0 in
+    let p = plan_value c.args.p.now.good.now.plan in
+    let s = c.args.s.now.candidates in
+    let known = subst⁻¹ (Prepared p c.args.p.now.table.now (vertices_in c.args.p.now.parts.now) s.start s.source s.tails s.heads) c.from.ensures b.prepared in
     c.advance.ensures _ known b.root.branch
-    ∙ ap (advance (completion_cost p) (held_in (component_count p - 1) c.args.g)) (root_trees b.prepared c.args.s.root b.root)
+    ∙ ap (advance (completion_cost p) (held_in (component_count p - 1) c.args.g)) (root_trees b.prepared c.args.s.now.root b.root)

@@ -11,6 +11,6 @@ use Rattle.tree_search.proofs.begin.total_of.Goals as goal
 
 pub returns : goal.returns
 returns c =
-    let p = plan_value c.args.plan in
+    let p = plan_value c.args.good.now.plan in
     let small : c.args.budget < cap = (let l = c.ranges.budget in omega (arith, l.fits)) in
     (total_is p c.args.budget c.args.number small c.requires _ c.tried_count.ensures, subst⁻¹ (λ n. leb c.args.number n ≡ is_whole p c.args.budget) c.from.ensures (whole_is p c.args.budget c.args.number small c.requires))

@@ -9,14 +9,14 @@ pub overflow_sub-total : goal.overflow_sub-total
 overflow_sub-total c =
     let a = c.total_of-first.ensures.0 in
     let b = c.total_of-total.ensures.0 in
-    let g = tried_grows (plan_value c.args.plan) c.args.before c.args.tries c.requires.2.within in
+    let g = tried_grows (plan_value c.args.p.now.good.now.plan) c.args.before c.args.tries c.requires.1.within in
     omega arith
 
 pub returns : goal.returns
 returns c =
-    let b = c.requires.0.base.known in
-    let p = plan_value c.args.plan in
-    let can = c.requires.2 in
+    let b = c.args.p.now.prepared.base.known in
+    let p = plan_value c.args.p.now.good.now.plan in
+    let can = c.requires.1 in
     let e = c.total_of-first.ensures.0 in
     let g = c.total_of-total.ensures in
     let t = g.0 in

@@ -6,12 +6,12 @@ use Rattle.tree_search.proofs.trees.resume.Goals as goal
 
 pub tried_on-cost-requires : goal.tried_on-cost-requires
 tried_on-cost-requires c =
-    let p = plan_value c.args.plan in
+    let p = plan_value c.args.p.now.good.now.plan in
     let t = c.total_of-total.ensures.0 in
-    let o = some_tried p c.requires.0.base.known.plannable c.args.budget c.requires.1 in
+    let o = some_tried p c.args.p.now.prepared.base.known.plannable c.args.budget c.requires.0 in
     let e = c.turn_of-more.ensures in
-    let g = c.requires.2 in
+    let g = c.requires.1 in
     record {
-      begun = (c.requires.0, c.begin-s.ensures);
+      begun = c.begin-s.ensures;
       within_limits = (omega arith, omega arith, omega arith);
     }

@@ -7,11 +7,11 @@ use Rattle.tree_search.proofs.trees.searched.Goals as goal
 
 pub improve-requires : goal.improve-requires
 improve-requires c =
-    let k = c.requires.0.base.known in
+    let k = c.args.p.now.prepared.base.known in
     let small : c.args.budget < cap = (let l = c.ranges.budget in omega (arith, l.fits)) in
-    (c.requires.0, c.requires.1, can_begin _ k.plannable k.few _ c.requires.2 small)
+    (c.requires.0, can_begin _ k.plannable k.few _ c.requires.1 small)
 
 pub returns : goal.returns
 returns c =
-    let k = c.requires.0.base.known in
-    first_searched _ k.plannable k.few _ c.requires.2 _ c.improve.ensures
+    let k = c.args.p.now.prepared.base.known in
+    first_searched _ k.plannable k.few _ c.requires.1 _ c.improve.ensures

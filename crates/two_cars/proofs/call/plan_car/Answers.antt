@@ -10,7 +10,7 @@ overflow_cast-budget c = let h = small_budget _ _ (sym c.in_ok-lent_verdict.ensu
 
 pub plan_marked-requires : goal.plan_marked-requires
 plan_marked-requires c =
-    let l = call_limits _ _ (sym c.in_ok-lent_verdict.ensures) in record { tabled = c.requires; budget_and_sheet = (l.1, l.0) }
+    let l = call_limits _ _ (sym c.in_ok-lent_verdict.ensures) in record { budget_and_sheet = (l.1, l.0) }
 
 pub returns-in_err-lent_verdict : goal.returns-in_err-lent_verdict
 returns-in_err-lent_verdict c =

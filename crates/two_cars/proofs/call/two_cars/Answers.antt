@@ -1,41 +1,21 @@
 -- A file that is refused refuses both cars; one that is not gives its plan and its tables, and each car is answered over them.
 use Rattle.std.proofs.Common.{◌≡◌, refl, sym, length, arith}
-use Rattle.std.proofs.Math.Path.{subst⁻¹}
-use Rattle.postman.specs.Plan.{WellFormed}
-use Rattle.postman_laws.specs.Laws.Acceptance.{file_accepted}
-use Rattle.plan_file.specs.Laws.Reading.{accepted_value}
+use Rattle.plan_file.specs.Laws.Reading.{read_good}
 use Rattle.shortest.specs.Laws.Weight.{table_costs}
 use Rattle.multipliers.specs.Laws.Table.{table_is, rows}
 use Rattle.two_cars.specs.Laws.Call.{is_car, file_refused_for, read_planned_for}
 use Rattle.two_cars.proofs.call.two_cars.Goals as goal
 
-pub table-weights-requires : goal.table-weights-requires
-table-weights-requires c =
-    let r = c.in-Ok.ensures in
-    let e = sym r.verdict in
-    subst⁻¹ WellFormed (accepted_value _ _ r e) (file_accepted _ e)
+pub invariant_of-good-clause-well_formed : goal.invariant_of-good-clause-well_formed
+invariant_of-good-clause-well_formed c = read_good c.in-Ok.ensures
 
-pub plan_car-first-requires : goal.plan_car-first-requires
-plan_car-first-requires c =
+pub invariant_of-t-clause-has_table : goal.invariant_of-t-clause-has_table
+invariant_of-t-clause-has_table c =
     let t = c.table_of-table in
     let w = c.table-weights in
-    let r = c.in-Ok.ensures in
-    let e = sym r.verdict in
-    let ok = subst⁻¹ WellFormed (accepted_value _ _ r e) (file_accepted _ e) in
-    let d = table_costs _ ok w.result t.result w.ensures t.ensures in
+    let d = table_costs _ (read_good c.in-Ok.ensures) w.result t.result w.ensures t.ensures in
     let long : length t.result ≡ 64 = t.type_inv.1.0.1 in
-    (ok, table_is _ t.result long (λ i l. rows t.result t.type_inv.0 t.type_inv.1.1 i (omega arith)) d, w.ensures)
-
-pub plan_car-second-requires : goal.plan_car-second-requires
-plan_car-second-requires c =
-    let t = c.table_of-table in
-    let w = c.table-weights in
-    let r = c.in-Ok.ensures in
-    let e = sym r.verdict in
-    let ok = subst⁻¹ WellFormed (accepted_value _ _ r e) (file_accepted _ e) in
-    let d = table_costs _ ok w.result t.result w.ensures t.ensures in
-    let long : length t.result ≡ 64 = t.type_inv.1.0.1 in
-    (ok, table_is _ t.result long (λ i l. rows t.result t.type_inv.0 t.type_inv.1.1 i (omega arith)) d, w.ensures)
+    table_is _ t.result long (λ i l. rows t.result t.type_inv.0 t.type_inv.1.1 i (omega arith)) d
 
 pub returns-in-Err : goal.returns-in-Err
 returns-in-Err c =

@@ -9,13 +9,13 @@ use Rattle.call_steps.specs.Laws.Refused.{stopped}
 use Rattle.windows.proofs.call.plan_departing.Goals as goal
 
 pub windows_verdict-requires : goal.windows_verdict-requires
-windows_verdict-requires c = record_arcs _ c.requires.0
+windows_verdict-requires c = record_arcs _ c.args.good.now.well_formed
 
 pub plan_at-requires : goal.plan_at-requires
-plan_at-requires c = record_arcs _ c.requires.0
+plan_at-requires c = record_arcs _ c.args.good.now.well_formed
 
-pub plan_read-requires : goal.plan_read-requires
-plan_read-requires c = (subst⁻¹ WellFormed c.plan_at.ensures (at_well_formed _ _ _ c.requires.0), c.requires.1, c.requires.2)
+pub invariant_of-plan_read-clause-well_formed : goal.invariant_of-plan_read-clause-well_formed
+invariant_of-plan_read-clause-well_formed c = subst⁻¹ WellFormed c.plan_at.ensures (at_well_formed _ _ _ c.args.good.now.well_formed)
 
 pub returns-in_err-windows_verdict : goal.returns-in_err-windows_verdict
 returns-in_err-windows_verdict c =
@@ -23,4 +23,4 @@ returns-in_err-windows_verdict c =
 
 pub returns : goal.returns
 returns c =
-    made_planned _ _ _ _ _ _ _ c.plan_at.ensures (at_well_formed _ _ _ c.requires.0) (sym c.in_ok-windows_verdict.ensures) c.plan_read.ensures
+    made_planned _ _ _ _ _ _ _ c.plan_at.ensures (at_well_formed _ _ _ c.args.good.now.well_formed) (sym c.in_ok-windows_verdict.ensures) c.plan_read.ensures

@@ -9,7 +9,7 @@ pub overflow_cast-budget : goal.overflow_cast-budget
 overflow_cast-budget c = let h = small_budget _ _ (sym c.in_ok-lent_verdict.ensures) in search rules
 
 pub plan_departing-requires : goal.plan_departing-requires
-plan_departing-requires c = let l = call_limits _ _ (sym c.in_ok-lent_verdict.ensures) in (c.requires, l.1, l.0)
+plan_departing-requires c = let l = call_limits _ _ (sym c.in_ok-lent_verdict.ensures) in (l.1, l.0)
 
 pub returns-in_err-lent_verdict : goal.returns-in_err-lent_verdict
 returns-in_err-lent_verdict c =

@@ -16,7 +16,7 @@ loop-preserved c =
 
 pub returns : goal.returns
 returns c =
-    let vs = c.args.self.now.vs.now in
+    let vs = c.args.self.now.vs.vertices.now in
     let capped : List ℤ → List ℤ = λ x. capped_all x vs in
     c.capped_all.ensures
     ∙ elim c.loop-test.branch [

@@ -6,4 +6,4 @@ use Rattle.ascent.specs.Relax.{sweeps, settled}
 use Rattle.ascent.proofs.relax.Pairs.settle.Given as goal
 
 abbrev pub invariant-loop : goal.invariant-loop
-invariant-loop l = capped_all (sweeps l.self.d.now l.self.f.now l.self.up l.self.vs.now (64 - l.counter) (l.y, l.marks)).0 l.self.vs.now ≡ settled l.self.d.now l.self.f.now l.self.up l.self.vs.now l.initial.y
+invariant-loop l = capped_all (sweeps l.self.d.now l.self.f.now l.self.up l.self.vs.vertices.now (64 - l.counter) (l.y, l.marks)).0 l.self.vs.vertices.now ≡ settled l.self.d.now l.self.f.now l.self.up l.self.vs.vertices.now l.initial.y

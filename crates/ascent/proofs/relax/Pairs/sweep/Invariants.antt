@@ -7,4 +7,4 @@ use Rattle.ascent.proofs.relax.Pairs.sweep.Given as goal
 
 abbrev pub invariant-loop-w : goal.invariant-loop-w
 invariant-loop-w l =
-    ((l.x, l.marks) ≡ turns (λ r a'. ask l.self.d.now l.self.f.now l.self.up l.self.vs.now r (get_or l.self.vs.now a' 0)) (l.initial.x, l.initial.marks) l.w-index)
+    ((l.x, l.marks) ≡ turns (λ r a'. ask l.self.d.now l.self.f.now l.self.up l.self.vs.vertices.now r (get_or l.self.vs.vertices.now a' 0)) (l.initial.x, l.initial.marks) l.w-index)

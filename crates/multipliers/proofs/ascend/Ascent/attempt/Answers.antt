@@ -4,16 +4,13 @@ use mir.Syntax.{w64}
 use mir.Val.{SFits}
 use Rattle.std.proofs.Common.{rules}
 use Rattle.integers.specs.Linear.{back64}
-use Rattle.multipliers.specs.Laws.Ascent.{vertices_low, some_vertices, lawful_priced, lawful_as, rooted_as}
+use Rattle.multipliers.specs.Laws.Ascent.{some_vertices, lawful_priced, lawful_as, rooted_as}
 use Rattle.multipliers.specs.Laws.Climb.{attempt_more, attempt_low, attempt_none, held_as}
 use Rattle.multipliers.proofs.ascend.Ascent.attempt.Goals as goal
 use Rattle.multipliers.proofs.ascend.Ascent.attempt.Goals.{then-are_lawful+else-c-bound, else-are_lawful}
 
-pub are_lawful-requires : goal.are_lawful-requires
-are_lawful-requires c = (vertices_low c.requires.0.1, c.requires.1)
-
 pub rooted-multipliers-requires : goal.rooted-multipliers-requires
-rooted-multipliers-requires c = (vertices_low c.requires.0.1, some_vertices c.requires.0.1, c.requires.1)
+rooted-multipliers-requires c = (some_vertices c.requires.0.1, c.requires.1)
 
 pub bound_at-bound-requires : goal.bound_at-bound-requires
 bound_at-bound-requires c =

@@ -2,12 +2,12 @@
 use mathlib.Core.Path.{◌∙◌}
 use native.Mathlib.Omega.{arith}
 use Rattle.integers.specs.Linear.{back64}
-use Rattle.multipliers.specs.Laws.Ascent.{vertices_low, some_vertices, greatest_priced, greatest_small, span_as}
+use Rattle.multipliers.specs.Laws.Ascent.{some_vertices, greatest_priced, greatest_small, span_as}
 use Rattle.multipliers.specs.Laws.Climb.{begin_is}
 use Rattle.multipliers.proofs.ascend.Ascent.begun.Goals as goal
 
 pub span-far-requires : goal.span-far-requires
-span-far-requires c = (vertices_low c.requires.1, some_vertices c.requires.1)
+span-far-requires c = some_vertices c.requires.1
 
 pub bound_at-requires : goal.bound_at-requires
 bound_at-requires c = (c.requires.0, greatest_priced c.requires.1 _ c.requires.2)

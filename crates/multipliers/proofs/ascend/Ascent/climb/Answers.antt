@@ -7,7 +7,7 @@ use Rattle.std.proofs.Common.{rules}
 use Rattle.integers.specs.Linear.{back64}
 use Rattle.lagrangian.specs.Laws.Price.{max_is}
 use Rattle.multipliers.specs.Climbs.{climb_of}
-use Rattle.multipliers.specs.Laws.Ascent.{vertices_low, component_range, stepped_small, step_as}
+use Rattle.multipliers.specs.Laws.Ascent.{component_range, stepped_small, step_as}
 use Rattle.multipliers.specs.Laws.Climb.{climb_done, climb_more}
 use Rattle.multipliers.proofs.ascend.Ascent.climb.Goals as goal
 
@@ -19,7 +19,7 @@ step-value-requires c =
     let h = c.requires.0.1 in
     let k = component_range h in
     let can = c.requires.1 in
-    (vertices_low h, k.0, k.1, can.stride, can.multipliers, can.before)
+    (k.0, k.1, can.stride, can.multipliers, can.before)
 
 pub returns : goal.returns
 returns c =

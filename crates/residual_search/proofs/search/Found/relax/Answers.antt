@@ -18,7 +18,7 @@ loop-v-init c =
       relaxes = refl;
       ranks = refl;
       nears = ap (λ low. (a.goal, low))
-          (goal_low (λ v. length_in l v a.w) a.w a.base a.vs.now (a.self.now.distance, a.self.now.next) a.self.now.rank c.requires.3
+          (goal_low (λ v. length_in l v a.w) a.w a.base a.vs.vertices.now (a.self.now.distance, a.self.now.next) a.self.now.rank c.requires.3
           c.from-end.ensures
           (ap (λ n. a.base + n) (c.length.ensures.0 ∙ ap (length_in l c.from-end.result) c.from-by.ensures))
           c.min-last.ensures
@@ -31,7 +31,7 @@ loop-v-preserved c =
     let l = a.lengths in
     let v = c.loop-v in
     let len : ℕ → ℕ = λ v. length_in l v a.w in
-    let vs = a.vs.now in
+    let vs = a.vs.vertices.now in
     let s : List ℕ × List ℕ = (a.self.now.distance, a.self.now.next) in
     let last = fold (relaxed len a.w a.base) s vs in
     let more = c.loop-v-test.true in
@@ -70,8 +70,8 @@ returns-clause-nearest c =
     let all = take_all _ _ c.loop-v-test.false in
     let x = ap (λ (r : List ℕ × List ℕ). r.0) (c.loop-v.invariant.relaxes ∙ ap (fold _ _) all) in
     ap (λ (r : ℕ × ℕ). r.0) (c.loop-v.invariant.nears ∙ ap (fold _ _) all)
-    ∙ sym (ap₂ (λ (x rank : List ℕ). nearest a.vs.now a.goal x rank) x c.loop-v.invariant.ranks)
+    ∙ sym (ap₂ (λ (x rank : List ℕ). nearest a.vs.vertices.now a.goal x rank) x c.loop-v.invariant.ranks)
 
 pub returns-clause-in_range : goal.returns-clause-in_range
 returns-clause-in_range c =
-    omega (arith, returns-clause-nearest c, nearest_small c.args.vs.now c.args.goal c.loop-v.self.distance c.loop-v.self.rank c.requires.2 c.requires.4)
+    omega (arith, returns-clause-nearest c, nearest_small c.args.vs.vertices.now c.args.goal c.loop-v.self.distance c.loop-v.self.rank c.requires.2 c.args.vs.below_64)

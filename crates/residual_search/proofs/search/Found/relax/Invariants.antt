@@ -12,9 +12,9 @@ abbrev pub invariant-loop-v : goal.invariant-loop-v
 invariant-loop-v l =
     let len : ℕ → ℕ = λ v. length_in l.lengths v l.w in
     let s = l.initial.self in
-    let last = fold (relaxed len l.w l.base) (s.distance, s.next) l.vs in
+    let last = fold (relaxed len l.w l.base) (s.distance, s.next) l.vs.vertices.now in
     record {
-      relaxes : (l.self.distance, l.self.next) ≡ fold (relaxed len l.w l.base) (s.distance, s.next) (take l.v-index l.vs);
+      relaxes : (l.self.distance, l.self.next) ≡ fold (relaxed len l.w l.base) (s.distance, s.next) (take l.v-index l.vs.vertices.now);
       ranks : l.self.rank ≡ s.rank;
-      nears : (l.best, l.low) ≡ nearests last.0 s.rank l.goal (take l.v-index l.vs);
+      nears : (l.best, l.low) ≡ nearests last.0 s.rank l.goal (take l.v-index l.vs.vertices.now);
     }
