@@ -119,7 +119,8 @@ unfolding are_same
 one_differs a b x l h = sym (is_false (λ t. h (eqb→eq _ _ (all_of_at (λ x. eqb (get_or a x 0) (get_or b x 0)) (mem_below l) t))))
 
 -- the library's test of two lists
-pub same_test : (a b : List ℕ) → length a ≡ 4096 → length b ≡ 4096 → (x : Bool) → x ≡ pointwise nat_eq a b → (x ≡ true → a ≡ b) → x ≡ are_same a b
+pub same_test : (a b : List ℕ) → length a ≡ 4096 → length b ≡ 4096 → (x : Bool) → x ≡ pointwise nat_eq a b
+    → (x ≡ true → a ≡ b) → x ≡ are_same a b
 unfolding are_same
 same_test a b m n true e h = all_same a b (λ x l. ap (λ (xs : List ℕ). get_or xs x 0) (h refl))
 same_test a b m n false e h =
