@@ -37,8 +37,8 @@ extern "C" {
 /*
  * The bytes of stack that a thread needs for any of the calls. With less a call may end the process; on 128 KiB the plan
  * call does. Measured on x86-64 as the least stack of a thread on which the call works, in KiB: postman_deep_call 304,
- * postman_turn 296, postman_ask 240, postman_plan_call_at and postman_two_cars 236, postman_plan_call and
- * postman_short_call 232, postman_enter 164, postman_tree_count 144, and all others at most 32.
+ * postman_turn 296, postman_two_cars 252, postman_ask 240, postman_plan_call_at 236, postman_plan_call and
+ * postman_short_call 232, postman_enter 160, postman_tree_count 132, and all others at most 32.
  */
 #define POSTMAN_STACK_BYTES 524288
 

@@ -3,6 +3,8 @@
 #[cfg(feature = "proved")]
 mod proved;
 
+pub mod asked;
+
 pub use reference::{instances, mutants, oracle, plan, properties, random, suite, yardstick};
 
 /// What a planner is, and the library as one, if it is linked.

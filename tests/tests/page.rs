@@ -1,6 +1,7 @@
 //! What the page of promises, `crates/promises/specs`, is held to: its statement files hold types and nothing else, and import nothing of laws or theorems; each statement has its proof;
 //! each call that the page names asks nothing of its caller; and no contract and no definition cites anything of a `Laws` folder.
 
+use postman_tests::asked::{asks, types_with_invariant};
 use std::collections::{BTreeMap, BTreeSet};
 use std::fs;
 use std::path::{Path, PathBuf};
@@ -172,6 +173,14 @@ fn the_calls_of_the_page_ask_nothing() {
     for other in ["file_exports", "open_plan_exports", "district_exports"] {
         exported.extend(functions(other));
     }
+    let mut sources = Vec::new();
+    files(&crates(), &mut sources);
+    let sources: Vec<String> =
+        sources.iter().filter(|path| path.extension().is_some_and(|x| x == "rt")).map(|path| read(path)).collect();
+    let types = types_with_invariant(sources.iter().map(String::as_str));
+    for of in ["GoodPlan", "Measured", "Tabled", "Prepared", "VertexList", "Lengths", "LaidLegs"] {
+        assert!(types.iter().any(|name| name == of), "{of} is a type with an invariant");
+    }
     let mut named = BTreeSet::new();
     for name in PAGE {
         let text = page(name);
@@ -181,7 +190,7 @@ fn the_calls_of_the_page_ask_nothing() {
                 of = functions(word);
             }
             if let Some(clauses) = exported.get(word).or_else(|| of.get(word)) {
-                assert!(clauses.contains("ensures") && !clauses.contains("requires"), "{name}: {word}");
+                assert!(clauses.contains("ensures") && !asks(clauses, &types), "{name}: {word}");
                 named.insert(word.to_owned());
             }
         }

@@ -2,6 +2,7 @@
 //! plan's records; about tables: for two cars they are computed once; and about what is public: which functions are calls, which ask nothing of their caller,
 //! which are steps for other crates, and that every function says what it gives back. And that every must-fail edit says which wrong program it makes.
 
+use postman_tests::asked::{asks, types_with_invariant};
 use std::collections::BTreeMap;
 use std::path::Path;
 
@@ -75,6 +76,7 @@ const TABLE: usize = 64 * 64;
 
 /// Whether a signature takes or gives as much as a table, or a plan, by value: an array, or a struct that holds one.
 fn copies(signature: &str, structs: &BTreeMap<String, usize>) -> bool {
+    let plan = structs.get("Plan").copied().unwrap_or(TABLE);
     let flat: String = signature.chars().filter(|c| !c.is_whitespace()).collect();
     let (parameters, result) = flat.rsplit_once("->").unwrap_or((flat.as_str(), ""));
     let parameters = parameters.split_once('(').map_or("", |(_, rest)| rest).trim_end_matches(')');
@@ -83,7 +85,7 @@ fn copies(signature: &str, structs: &BTreeMap<String, usize>) -> bool {
     types.push(result);
     types
         .iter()
-        .any(|of| !of.starts_with('&') && (of.rsplit("::").next() == Some("Plan") || TABLE <= elements(of, structs)))
+        .any(|of| !of.starts_with('&') && (of.rsplit("::").next() == Some("Plan") || plan <= elements(of, structs)))
 }
 
 /// A crate and all crates that it rests on, by crates.txt.
@@ -256,13 +258,14 @@ fn unlike(path: &str, function: &Declared, modules: &[(String, String, String)],
 /// back by its contract; a step in a module that does not say so.
 fn faults(modules: &[(String, String, String)], calls: &[String]) -> Vec<String> {
     let mut faults = Vec::new();
+    let types = types_with_invariant(modules.iter().map(|(_, _, source)| source.as_str()));
     let mut seen: BTreeMap<String, bool> = BTreeMap::new();
     for (_, module, source) in modules {
         let comment: String =
             source.lines().take_while(|line| line.starts_with("//")).collect::<Vec<_>>().join(" ").to_lowercase();
         for function in declared(source) {
             let path = format!("{module}::{}", function.name);
-            let asks = function.clauses.contains("requires");
+            let asks = asks(&function.clauses, &types);
             let gives = function.clauses.contains("->") || function.clauses.contains("&mut");
             if gives && !function.clauses.contains("ensures") {
                 faults.push(format!("{path} does not say what it gives back"));
@@ -323,6 +326,10 @@ fn a_call_that_asks_is_seen() {
         good.replace("    ensures { result ≡ x }\n", ""),
         good.replace("    ensures { result ≡ x }\n", "    requires { x < 2 }\n    ensures { result ≡ x }\n"),
         good.replace("pub fn f(x: u8) -> u8\n", "fn f(x: u8) -> u8\n"),
+        good.replace(
+            "pub fn f(x: u8)",
+            "pub struct Low {\n    pub x: u8,\n    pub ghost low: { x < 2 },\n}\npub fn f(x: &Low)",
+        ),
         good.replace("impl", &format!("{step}impl")),
         good.replace("impl", &format!("{}impl", step.replace("pub fn h", "pub extern \"C\" fn h"))),
         good.replace("pub fn g() -> u8\n        ensures { result ≡ 0 }\n    {", "pub fn g() -> u8 {"),
@@ -380,13 +387,21 @@ fn a_copy_is_seen() {
     let taken = "fn write(t: &[[u32; 64]; 64]) { leg(*t) } // a copy\nfn leg(t: [[u32; 64]; 64]) -> u32 { t[0][0] }";
     let given = "fn write() { leg() }\nfn leg() -> [[u32; 64]; 64]\n    requires { x }\n{ table }";
     let plan = "fn write(p: &Rows) { leg(p) }\nfn leg(\n    plan: Plan,\n    v: usize,\n) -> usize { v }";
+    let good = "struct Plan { n: u8, arcs: [u8; 256] }\nstruct GoodPlan { plan: Plan }\nfn write(p: &GoodPlan) { leg(*p) }\nfn leg(p: GoodPlan) -> u8 { p.n }";
     let flat = "fn write(t: &[u32; 4096]) { leg(*t) }\nfn leg(t: [u32; 4096]) -> u32 { t[0] }";
     let held = "struct Tables { d: [[u32; 64]; 64], n: usize }\nstruct Both { t: Tables }\nfn write(b: &Rows) { leg(b) }\nfn leg(b: crate::Both) -> u32 { 0 }";
     let row =
         "struct Row { d: [u32; 64] }\nfn write(r: &Row) { leg(r) }\nfn leg(r: Row, c: [u16; 320]) -> [u32; 64] { r.d }";
-    for (source, expected) in
-        [(lent, false), (taken, true), (given, true), (plan, true), (flat, true), (held, true), (row, false)]
-    {
+    for (source, expected) in [
+        (lent, false),
+        (taken, true),
+        (given, true),
+        (plan, true),
+        (good, true),
+        (flat, true),
+        (held, true),
+        (row, false),
+    ] {
         let (all, structs) = (functions(source), structs(source));
         let way = reached(&all, "write");
         assert_eq!(way, ["write", "leg"]);

@@ -1,3 +1,2 @@
--- What a call of `any` over two lists says, and what one of `from_fn` makes.
+-- What a call of `any` over two lists says.
 pub mod Some
-pub mod Made

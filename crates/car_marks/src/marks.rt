@@ -1,8 +1,8 @@
 // 18, and the plan of a car.
 // Steps for other crates, which ask something of their caller.
-ghost use Rattle.std.specs.Prelude.{◌≡◌, ℕ, ◌<◌, ◌≤◌, get_or, length};
+ghost use Rattle.std.specs.Prelude.{◌≡◌, ◌≤◌, length};
 ghost use Rattle.postman.specs.Marks.{is_bad_mark, has_bad_mark, marked_service, marked as marked_arc, car_plan};
-ghost use Rattle.plan.specs.Records.{arc_value, record_of, record_at, zero_record, plan_value};
+ghost use Rattle.plan.specs.Records.{arc_value, record_of, plan_value};
 
 use plan::{Arc, Plan};
 
@@ -55,21 +55,14 @@ fn marked(mark: u8, a: Arc) -> Arc
     }
 }
 
-// The records with the marks; an arc for which there is none counts as unmarked.
-fn marked_arcs(arcs: &[Arc; 256], marks: &[u8]) -> [Arc; 256]
-    ensures { (k : ℕ) → k < 256
-        → get_or result k zero_record ≡ record_of (marked_arc (get_or marks.now k 0) (record_at arcs.now k)) }
-{
-    std::array::from_fn(|k| marked(marks.get(k).copied().unwrap_or(0), arcs[k]))
-}
-
-// The plan of a car.
+// The plan of a car. The records behind its arcs are zeros.
 pub fn car_plan(plan: Plan, marks: &[u8]) -> Plan
     requires { (plan.m ≤ 256) × (length marks.now ≡ plan.m) }
     ensures { plan_value result ≡ car_plan (plan_value plan) marks.now }
 {
-    Plan {
-        arcs: marked_arcs(&plan.arcs, marks),
-        ..plan
+    let mut arcs = [Arc::ZERO; 256];
+    for (k, a) in plan.arcs[..usize::from(plan.m)].iter().enumerate() {
+        arcs[k] = marked(marks[k], *a);
     }
+    Plan { arcs, ..plan }
 }

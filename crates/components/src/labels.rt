@@ -18,7 +18,7 @@ fn renamed(label: u8, from: u8, to: u8) -> u8
 fn rename_all(labels: [u8; 64], from: u8, to: u8) -> [u8; 64]
     ensures { (length result ≡ 64) × ((v : ℕ) → v < 64 → get_or result v 0 ≡ rename from to (get_or labels v 0)) }
 {
-    labels.map(|label| renamed(label, from, to))
+    std::array::from_fn(|v| renamed(labels[v], from, to))
 }
 
 // The labels once the arc is counted: a required arc merges the labels of its ends.

@@ -6,6 +6,7 @@
 -- `omega` applies to a hypothesis the first rule of z that fits, and no other. Assumes nothing.
 use Rattle.std.specs.Prelude.{◌≡◌, refl, ◌↔◌, List, [], ◌∷◌, Bool, true, false, not, cond, ℕ, zero, suc, ◌+◌, ◌*◌, ◌-◌, ◌^◌, ◌<◌, ◌≤◌, T, ltb, ℤ, pos, negsuc, neg_ℤ, nat_abs, ◌+ℤ◌, ◌-ℤ◌, ◌*ℤ◌, ◌≤ℤ◌, ◌<ℤ◌}
 use Rattle.std.proofs.Common.{ap, arith, mul-le-mul, to_z-of_z, ltb→lt, nltb→le, le→leb, leb→le, lt→ltb}
+use Rattle.std.proofs.Math.Path.{subst⁻¹}
 use Rattle.std.specs.Int.{Width, w8, w16, w32, w64}
 use mir.Val.{Fits, SFits, hbits, to_z, of_z}
 use Rattle.std.proofs.Math.Facts.{to_z_pos}
@@ -93,6 +94,10 @@ back w a h = eq_pn (to_z w (of_z w a)) a (to_z-of_z h)
 pub back64 : (a : ℤ) → mag a < 2 ^ 63 → to_z w64 (of_z w64 a) ≡ a
 back64 a h = to_z-of_z {w = w64} (record { sfits = h })
 
+-- a u64 or a usize below 2 ^ 63 cast to an i64, for `simp`: the premise is a `let` in scope, or is listed
+pub plain64 : (n : ℕ) → n < 2 ^ 63 → to_z w64 n ≡ pos n
+plain64 n h = to_z_pos w64 h
+
 -- the number that a cast of a value that is not negative gives
 pub pos_abs : {a : ℤ} → pos 0 ≤ℤ a → pos (nat_abs a) ≡ a
 pos_abs {a} h = pos-nat_abs a (yes_non_neg h)
@@ -115,6 +120,24 @@ u16_b d h = omega (arith, eq_pn (to_z w64 d) (pos d) (u16_z d h))
 
 pub u8_b : (d : ℕ) → Fits w8 d → P (to_z w64 d) ≡ d + N (to_z w64 d)
 u8_b d h = omega (arith, eq_pn (to_z w64 d) (pos d) (u8_z d h))
+
+-- all that a signed value's fit tells, to list: `omega (arith, z, sf c.fits.a)`
+pub record Sf (w : Width) (a : ℤ) : Type 0 where
+  pub back_p : P (to_z w (of_z w a)) ≡ P a
+  pub back_n : N (to_z w (of_z w a)) ≡ N a
+  pub high : P a < 2 ^ hbits w
+  pub low : N a ≤ 2 ^ hbits w
+
+sf_high : (w : Width) (a : ℤ) → SFits w a → P a < 2 ^ hbits w
+sf_high w (pos n) h = h.sfits
+sf_high w (negsuc n) h = omega (arith, h.sfits)
+
+sf_low : (w : Width) (a : ℤ) → SFits w a → N a ≤ 2 ^ hbits w
+sf_low w (pos n) h = omega arith
+sf_low w (negsuc n) h = omega (arith, h.sfits)
+
+pub sf : {w : Width} {a : ℤ} → SFits w a → Sf w a
+sf {w} {a} h = record { back_p = ap P (to_z-of_z h); back_n = ap N (to_z-of_z h); high = sf_high w a h; low = sf_low w a h }
 
 -- ---- what a branch's test says
 pub lt_yes : (a b : ℤ) → lt_z a b ≡ true → P a + N b < P b + N a
@@ -352,3 +375,17 @@ mul_abs a b m k h l = rw abs_mul (mul-le-mul h l)
 -- ---- differences and casts
 pub minus_eq : (a b c e : ℕ) → pos a -ℤ pos b ≡ pos c -ℤ pos e → a + e ≡ c + b
 minus_eq a b c e = simp zz (omega arith)
+
+-- what a cast to a u64 asks
+pub nonneg_cast : (a : ℤ) → mag a < 2 ^ 63 → pos 0 ≤ℤ a → T (non_neg (to_z w64 (of_z w64 a))) × Fits w64 (nat_abs (to_z w64 (of_z w64 a)))
+nonneg_cast a s l = subst⁻¹ (λ (x : ℤ). T (non_neg x) × Fits w64 (nat_abs x)) (back64 a s) (at a s l)
+  where
+    at : (a : ℤ) → mag a < 2 ^ 63 → pos 0 ≤ℤ a → T (non_neg a) × Fits w64 (nat_abs a)
+    at (pos n) s l = (tt, record { fits = omega arith })
+    at (negsuc n) s l = absurd l.le
+
+-- the size of -(a + 1)
+pub turned_size : (a b : ℤ) → P a < N a → P b + P a + 1 ≡ N b + N a → nat_abs b + 1 ≡ nat_abs a
+turned_size (pos m) b l e = absurd (omega arith)
+turned_size (negsuc m) (pos n) l e = omega arith
+turned_size (negsuc m) (negsuc n) l e = absurd (omega arith)

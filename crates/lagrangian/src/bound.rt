@@ -10,6 +10,14 @@ ghost use Rattle.multiplier_steps.specs.Steps.{AreSmall};
 ghost use Rattle.lagrangian.specs.Price.{price_of};
 ghost use Rattle.lagrangian.specs.Priced.{IsPriced};
 
+// "the larger of L(0) and L(u)"
+#[tactic(auto, using(crate::specs::Laws::Price::max_is))]
+fn larger(a: i64, b: i64) -> i64
+    ensures { result ≡ maxℤ a b }
+{
+    a.max(b)
+}
+
 // A sum, and u(i) × D(i).
 fn plus(sum: i64, u: i64, d: i64) -> i64
     requires { Within 67644702720 sum × Within 4128705 u × Within 256 d }
@@ -87,5 +95,5 @@ pub fn floor_of(
         required_cost,
         imbalance,
     );
-    without.max(bound) // "the larger of L(0) and L(u)"
+    larger(without, bound)
 }

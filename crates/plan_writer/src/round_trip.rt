@@ -13,6 +13,8 @@ pub fn reread(edition: u8, p: Plan) -> Result<Reading, Refusal>
     ensures { IsReread edition p result }
 {
     let mut bytes = [0u8; 1475];
-    let n = write_plan(edition, p, &mut bytes)?;
-    read_plan(&bytes[..n])
+    match write_plan(edition, p, &mut bytes) {
+        Ok(n) => read_plan(&bytes[..n]),
+        Err(r) => Err(r), // by a match and no `?`, so that an edit of the refusal leaves all else
+    }
 }

@@ -4,7 +4,7 @@ ghost use Rattle.std.specs.Prelude.{◌≡◌, ℕ, ◌<◌, length};
 ghost use Rattle.plan.specs.GoodPlan.{good_plan};
 ghost use Rattle.shortest.specs.Weight.{weighted};
 ghost use Rattle.shortest.specs.Relaxation.{relax_arcs, start_row};
-ghost use Rattle.shortest.specs.Columns.{row_from, relax_by};
+ghost use Rattle.shortest.specs.Columns.{row_from, are_same, relax_by};
 ghost use Rattle.shortest.specs.StepContracts.{IsRow};
 
 use crate::weights::{NO_PATH, arc_weight, shorter};
@@ -42,6 +42,13 @@ fn start() -> [u32; 4096]
     c
 }
 
+// Whether two arrays are the same.
+fn same_all(a: &[u32; 4096], b: &[u32; 4096]) -> bool
+    ensures { result ≡ are_same a.now b.now }
+{
+    a == b
+}
+
 // The least weights. Rounds of relaxing every arc, until one changes nothing; n − 1 are enough.
 pub(crate) fn settled(good: &GoodPlan) -> [u32; 4096]
     ensures { (i : ℕ) → i < 64 → IsRow (weighted (good_plan good.now)) i (row_from result i) }
@@ -50,7 +57,7 @@ pub(crate) fn settled(good: &GoodPlan) -> [u32; 4096]
     for _ in 1..good.plan.n {
         let before = c;
         round_all(good, &mut c);
-        if c == before {
+        if same_all(&c, &before) {
             return before;
         }
     }

@@ -1,6 +1,6 @@
 // Distances of a plan: a 64th of the least weights, rounded down.
 // Steps for other crates, which ask something of their caller.
-ghost use Rattle.std.specs.Prelude.{◌≡◌, ◌<◌};
+ghost use Rattle.std.specs.Prelude.{◌≡◌, ◌<◌, [], get_or};
 ghost use Rattle.plan.specs.GoodPlan.{good_plan};
 ghost use Rattle.shortest.specs.Weight.{unweighted};
 ghost use Rattle.shortest.specs.StepContracts.{IsRow, IsTable, AreCosts, AreTableCosts};
@@ -22,10 +22,10 @@ fn cost_of(weight: u32) -> u32
 }
 
 // The costs by a row of weights.
-fn row_of(weights: [u32; 64]) -> [u32; 64]
-    ensures { AreCosts weights result }
+fn row_of(weights: &[u32; 64]) -> [u32; 64]
+    ensures { AreCosts weights.now result }
 {
-    weights.map(cost_of)
+    std::array::from_fn(|j| cost_of(weights[j]))
 }
 
 // The distances from one vertex.
@@ -33,14 +33,19 @@ pub fn row(good: &GoodPlan, source: usize) -> [u32; 64]
     requires { source < 64 }
     ensures { IsRow (good_plan good.now) source result }
 {
-    row_of(weights::row(good, source))
+    row_of(&weights::row(good, source))
 }
 
 // "The table is 64 rows of 64", by the table of weights.
 pub fn table_of(weights: &[[u32; 64]; 64]) -> [[u32; 64]; 64]
     ensures { AreTableCosts weights.now result }
 {
-    weights.map(row_of)
+    std::array::from_fn(
+        |i|
+            requires { i < 64 }
+            ensures { AreCosts (get_or weights.entry.now i []) result }
+        { row_of(&weights[i]) },
+    )
 }
 
 // The same, of a plan.

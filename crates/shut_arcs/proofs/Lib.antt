@@ -1,3 +1,2 @@
--- What a call of `any` says, and what one of `from_fn` makes.
+-- What a call of `any` says.
 pub mod Some
-pub mod Made

@@ -1,8 +1,8 @@
 // The arcs that are shut at a departure, and the plan with these arcs closed.
 // Steps for other crates, which ask something of their caller.
-ghost use Rattle.std.specs.Prelude.{◌≡◌, ℕ, ◌<◌, ◌≤◌, get_or};
+ghost use Rattle.std.specs.Prelude.{◌≡◌, ◌≤◌};
 ghost use Rattle.postman.specs.Windows.{windows_in, shuts as shuts_arc, is_shut, closed_if, plan_at, is_must_shut};
-ghost use Rattle.plan.specs.Records.{arc_value, record_of, record_at, zero_record, plan_value};
+ghost use Rattle.plan.specs.Records.{arc_value, record_of, plan_value};
 ghost use Rattle.shut_arcs.specs.Fields.{window_value, departure_value, departure};
 
 use crate::window::{Departure, Window};
@@ -48,22 +48,15 @@ fn arc_at(a: Arc, windows: &[u16], departure: Departure, k: usize) -> Arc
     }
 }
 
-// The records at a departure.
-fn arcs_at(arcs: &[Arc; 256], windows: &[u16], departure: Departure) -> [Arc; 256]
-    ensures { (k : ℕ) → k < 256
-        → get_or result k zero_record
-        ≡ record_of (closed_if (is_shut (windows_in windows.now) (departure_value departure) k) (record_at arcs.now k)) }
-{
-    std::array::from_fn(|k| arc_at(arcs[k], windows, departure, k))
-}
-
-// The plan at a departure.
+// The plan at a departure: the records behind its arcs are zeros, and no window is looked at for them.
 pub fn plan_at(plan: Plan, windows: &[u16], weekday: u32, minute: u32) -> Plan
     requires { plan.m ≤ 256 }
     ensures { plan_value result ≡ plan_at (plan_value plan) (windows_in windows.now) (departure weekday minute) }
 {
-    Plan {
-        arcs: arcs_at(&plan.arcs, windows, Departure { weekday, minute }),
-        ..plan
+    let departure = Departure { weekday, minute };
+    let mut arcs = [Arc::ZERO; 256];
+    for (k, a) in plan.arcs[..usize::from(plan.m)].iter().enumerate() {
+        arcs[k] = arc_at(*a, windows, departure, k);
     }
+    Plan { arcs, ..plan }
 }

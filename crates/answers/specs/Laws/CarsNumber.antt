@@ -17,6 +17,13 @@ module _ (first second : Option ℕ) (b : ℕ) (e : b ≡ own_number second) whe
       f ∙ sym (ap (λ (o : Option ℕ). cars_number o second) h ∙ ap
       (λ (c : Bool). cond c (neg_ℤ (pos k)) (pos (256 * k + own_number second))) t)
 
+  pub own_refused : (k : ℕ) → first ≡ some k → reaches_both k ≡ false → (n : ℤ) → n ≡ pos (256 * k + b) → n ≡ cars_number first second
+  own_refused k h t n f =
+      f
+      ∙ ap (λ (x : ℕ). pos (256 * k + x)) e
+      ∙ sym (ap (λ (o : Option ℕ). cars_number o second) h ∙ ap (λ (c : Bool). cond c (neg_ℤ (pos k)) (pos (256 * k + own_number second)))
+      t)
+
 -- ---- what the number tells
 
 is_negative : ℤ → Bool

@@ -287,6 +287,9 @@ module _ (d : ℕ → ℕ → ℕ) (vs : List ℕ) (metric : Metric d vs) (s : S
   pub levels_small : AtMost beyond s.potentials
   levels_small k = let a = certified.numbers.low k in omega arith
 
+  pub amounts_small : AtMost limit s.amounts
+  amounts_small k = let a = certified.numbers.few k in omega arith
+
 abbrev made : ℕ → List ℕ → List ℕ → ℕ → State
 made n f u c = record { amounts = f; potentials = u; cost = c; count = n }
 

@@ -1,6 +1,6 @@
 -- An array that a loop fills from the start on: nothing, one entry more, and the entry at a place.
 use Rattle.std.specs.Prelude.{◌≡◌, refl, Bool, true, false, List, [], ◌∷◌, ◌++◌, ℕ, ◌+◌, ◌≤◌, ◌<◌, length, get_or, set, take, replicate}
-use Rattle.std.proofs.Common.{sym, ap, ◌∙◌, append_assoc, append-nil, add-one, arith, length-set, length-append, take-suc-set, length-take-le, get_or-take}
+use Rattle.std.proofs.Common.{sym, ap, ◌∙◌, subst, append_assoc, append-nil, add-one, arith, length-set, length-append, take-suc-set, length-take-le, get_or-take}
 use Rattle.std.proofs.lemmas.List.{length-replicate}
 use Rattle.postman.specs.Lists.{select, below}
 use Rattle.candidates.specs.Holds.{Holds}
@@ -33,6 +33,10 @@ holds_as h e = rw e at h
 
 pub holds_by : {n : ℕ} {array a : List ℕ} {count c : ℕ} {xs : List ℕ} → array ≡ a → count ≡ c → Holds n a c xs → Holds n array count xs
 holds_by e f h = rw (← e, ← f) at h
+
+pub holds_whole : {n : ℕ} {array : List ℕ} {count : ℕ} {xs : List ℕ} (ys : List ℕ) → Holds n array count xs → xs ≡ ys
+    → Holds n array (length ys) ys
+holds_whole {n} {array} ys h e = subst (λ c. Holds n array c ys) (holds_length h ∙ ap length e) (holds_as h e)
 
 pub holds_start : (n : ℕ) (array : List ℕ) (count : ℕ) (f : ℕ → Bool) → length array ≡ n → count ≤ n
     → Holds n array count (take count array ++ select f (below 0))

@@ -15,6 +15,9 @@ use Rattle.postman.specs.Laws.Tests.{cond_ind, test, is_true, is_false}
 use Rattle.cheapest_tree.specs.Cheapest.{tree_cost}
 use Rattle.cheapest_tree.specs.CostMatrix.{matrix_of, others_in, highest, IsCostMatrix, less, line_of, IsBest, HasEntries, entry_of, pay_of, IsMarked}
 
+pub lt_le : (a b : ℤ) → lt_z a b ≡ true → a ≤ℤ b
+lt_le a b e = omega (arith, z)
+
 pub nlt_le : (a b : ℤ) → lt_z a b ≡ false → b ≤ℤ a
 nlt_le a b e = omega (arith, z)
 

@@ -103,3 +103,6 @@ module _ (p : Plan) (ok : WellFormed p) (t : List Link) (amounts : List ℕ) (h 
   -- the legs that were laid
   pub laid_ready : {s : LegLists} {ns ts hs : List ℕ} → Laid p t amounts s → ns ≡ s.numbers → ts ≡ s.tails → hs ≡ s.heads → Ready ns ts hs
   laid_ready l e f g = ready _ _ _ (e ∙ l.numbers_are) (f ∙ l.tails_are) (g ∙ l.heads_are)
+
+  pub laid_few : {s : LegLists} → Laid p t amounts s → length s.tails ≤ 526
+  laid_few l = (laid_ready l refl refl refl).few

@@ -1,10 +1,10 @@
 -- The chain of refusals, and the whole call: as the plan call's, with 23 between 9 and 10.
-use Rattle.std.specs.Prelude.{◌≡◌, true, false, List, [], ◌∷◌, ◌++◌, ℕ, ◌≤◌, ◌<◌, length, Result}
+use Rattle.std.specs.Prelude.{◌≡◌, true, false, List, [], ◌∷◌, ◌++◌, ℕ, ◌≤◌, ◌<◌, length, ltb, Result}
 use Rattle.std.proofs.Math.Path.{refl, sym, ap}
 use Rattle.std.proofs.Common.{◌∙◌, subst}
 use Rattle.std.proofs.Math.Option.{Option, none, some, some-ne-none}
 use native.Mathlib.Omega.{arith}
-use borrow.Author.Tests.{lt-ltb}
+use borrow.Author.Tests.{lt-ltb, le-ltb}
 use Rattle.postman.specs.Plan.{Plan, WellFormed}
 use Rattle.postman.specs.Refusal.{Conditions, first_refusal, answer, unless}
 use Rattle.postman.specs.PlanFile.{file_conditions, is_outside, plan_of}
@@ -68,6 +68,10 @@ module _ (rounds : ℕ) where
   pub few_rounds : rounds < 1 → true ≡ is_outside rounds 1 highest_rounds
   unfolding is_outside
   few_rounds l = let e = lt-ltb rounds 1 l in rw e refl
+
+  pub by_highest : 1 ≤ rounds → ltb 1000 rounds ≡ is_outside rounds 1 highest_rounds
+  unfolding is_outside highest_rounds
+  by_highest l = let e = le-ltb rounds 1 l in rw e refl
 
   pub rounds_refused : is_outside rounds 1 highest_rounds ≡ true → first_refusal (round_conditions rounds) ≡ some 23
   unfolding first_refusal round_conditions

@@ -58,6 +58,10 @@ module _ (new : ℕ → ℕ → ℕ) (pairs old : List ℕ) where
 
 -- ---- search by search
 
+pub pairs_within : (n m : ℕ) (pairs : List ℕ) → n ≤ m → ArePairs n pairs → ArePairs m pairs
+pairs_within n m pairs l h =
+    record { few = h.few; inside = λ k i. let a = (h.inside k i).0 in let b = (h.inside k i).1 in (omega arith, omega arith) }
+
 pub row_put : (p : Plan) (source : ℕ) (row pairs old now : List ℕ) → p.n ≤ 64 → ArePairs p.n pairs → IsRow p source row
     → IsRowPut source row pairs old now
     → IsSearchPut p source pairs old now

@@ -1,10 +1,11 @@
--- A turn, where what is held cannot be gone on from, and where it can and trees are left. The test for a tree is by the list of all trees.
+-- A turn, by its three kinds: what is held cannot be gone on from; it can, and trees are left; none is left. The
+-- test for a tree is by the list of all trees.
 use Rattle.std.specs.Prelude.{◌≡◌, refl, Bool, ◌&&◌, List, [], ◌∷◌, map, ℕ, ◌+◌, ◌-◌, ◌≤◌, ◌<◌, min, length, take, replicate, T, ltb}
 use Rattle.std.proofs.Common.{sym, ap, ap₂, ◌∙◌, subst, arith, length-take, eqb→eq}
 use Rattle.std.proofs.Math.Path.{subst⁻¹}
 use Rattle.std.proofs.Math.Bool.{true, false}
 use Rattle.std.proofs.Math.Option.{Option, none}
-use borrow.Author.Tests.{eq-eqb, ne_eqb, lt-ltb, lt-leb}
+use borrow.Author.Tests.{eq-eqb, ne_eqb, lt-ltb, le-ltb, le-leb, lt-leb}
 use Rattle.std.proofs.lemmas.List.{length-map}
 use Rattle.std.proofs.Math.Seq.{take-append_seam}
 use Rattle.residual_search.specs.Step.{arcs_of}
@@ -23,15 +24,19 @@ use Rattle.tree_search.specs.declared.trees.Reached.{Reached}
 use Rattle.tree_search.specs.declared.trees.Resumed.{Resumed}
 use Rattle.tree_search.specs.Resumed.{links_by, held_after, IsResumed, HoldsTree}
 use Rattle.postman.specs.Refusal.{is_good}
-use Rattle.district_turn.specs.DistrictTurn.{same_links, is_tree, is_holding, is_resumable, reached_after, is_last, turn_given, sheet_given, IsDistrictTurn}
+use Rattle.district_turn.specs.DistrictTurn.{same_links, is_tree, is_holding, is_resumable, reached_after, is_last, last_answer, last_sheet, turn_given, sheet_given, IsDistrictTurn}
 use Rattle.district_turn.specs.declared.plan_turn.DistrictTurn.{DistrictTurn}
-use Rattle.district_turn.specs.declared.plan_turn.DistrictTurn.TheVariants.{Stuck, Unfinished}
+use Rattle.district_turn.specs.declared.plan_turn.DistrictTurn.TheVariants.{Stuck, Unfinished, Finished}
 use Rattle.postman.specs.Steps.{Plannable}
 use Rattle.required.specs.StepContracts.{IsLinks, IsComponents}
 use Rattle.drive_legs.specs.Filled.{links_of}
 use Rattle.drive_legs.specs.Laws.Laid.{links_tails, links_heads}
 use Rattle.branches.specs.Links.{links_in}
 use Rattle.multipliers.specs.Laws.Lay.{arcs_links}
+use Rattle.drive_legs.specs.Drive.{written}
+use Rattle.multipliers.specs.Drive.{tree_drive}
+use Rattle.solution.specs.declared.Planned.{Planned}
+use Rattle.solution.specs.Concluded.{concluded}
 use Rattle.tree_search.specs.Laws.BestTree.{tree_small}
 use Rattle.tree_search.specs.Laws.Resumed.{HoldsCost, on_priced}
 use Rattle.tree_check.specs.Tree.{IsHeldTree}
@@ -111,7 +116,7 @@ and_first b c e = ap (λ (x : Bool). x && c) e
 pub and_yes : (b c : Bool) → b ≡ true → c ≡ true → (b && c) ≡ true
 and_yes b c e f = ap (λ (x : Bool). x && c) e ∙ f
 
--- ---- a turn that is not the last
+-- ---- the three kinds of turn
 
 module _ (p : Plan) (budget : ℕ) (g : Reached) (can : Bool) (old : List ℕ) where
   pub is_stuck : can ≡ false → IsDistrictTurn p budget g can old old Stuck
@@ -127,6 +132,14 @@ module _ (p : Plan) (budget : ℕ) (g : Reached) (can : Bool) (old : List ℕ) w
     sheet = ap₂ (λ (b d : Bool). sheet_given p budget g b d old) (sym c) (sym l);
   }
 
+  pub is_last_lem : can ≡ true → is_last p budget g ≡ true → (x : Planned) → x ≡ last_answer p budget g
+      → (new : List ℕ) → new ≡ last_sheet p budget g old
+      → IsDistrictTurn p budget g can old new (Finished x)
+  is_last_lem c l x s new w = record {
+    turned = ap Finished s ∙ ap₂ (turn_given p budget g) (sym c) (sym l);
+    sheet = w ∙ ap₂ (λ (b d : Bool). sheet_given p budget g b d old) (sym c) (sym l);
+  }
+
 -- a plan that is not refused
 pub as_good : (p : Plan) (budget : ℕ) (g : Reached) (o : Option ℕ) (can : Bool) (old new : List ℕ) (r : DistrictTurn) → o ≡ none
     → IsDistrictTurn p budget g can old new r → IsDistrictTurn p budget g (is_good o && can) old new r
@@ -137,12 +150,19 @@ as_good p budget g o can old new r e h = subst⁻¹ (λ (o : Option ℕ). IsDist
 
 module _ (p : Plan) (ok : Plannable p) (few : component_count p ≤ 8) (budget : ℕ) (one : 1 ≤ budget) (g : Reached) (r : Resumed)
     (h : IsResumed p budget g r) where
+  pub none_left : r.total ≤ g.tried → is_resumable p budget g ≡ false
+  none_left l = let e = h.total in
+      and_no (is_holding p g) (ltb g.tried (tried_count p budget)) (le-ltb g.tried (tried_count p budget) (omega arith))
+
   pub some_left : is_holding p g ≡ true → g.tried < r.total → is_resumable p budget g ≡ true
   some_left i l = let e = h.total in
       and_yes (is_holding p g) (ltb g.tried (tried_count p budget)) i (lt-ltb g.tried (tried_count p budget) (omega arith))
 
   pub going_on : g.tried < r.total → r.tried < r.total → is_last p budget g ≡ false
   going_on l m = let a = h.total in let b = h.tried in lt-leb (tried_count p budget) (g.tried + 1000) (omega arith)
+
+  pub at_end : g.tried < r.total → r.total ≤ r.tried → is_last p budget g ≡ true
+  at_end l m = let a = h.total in let b = h.tried in le-leb (tried_count p budget) (g.tried + 1000) (omega arith)
 
   -- a tree and its cost
   pub priced_after : is_holding p g ≡ true → g.tried < r.total → HoldsCost p ok (held_after p budget g)
@@ -192,6 +212,13 @@ module _ (p : Plan) (ok : Plannable p) (few : component_count p ≤ 8) (budget :
         (sym (links_heads (take m r.tails) (take m r.heads) same_size) ∙ ap (map (λ (l : Link). l.head)) links_of_lem) in
         let en = k.3 ∙ h.tried in
         λ i. record { cost = ec i; tails = et i; heads = eh i; tried = en i }
+
+  -- what is answered, and what is written
+  pub answered_after : concluded p (links_in m r.tails r.heads) r.cost r.total r.whole ≡ last_answer p budget g
+  answered_after = λ i. concluded p (h.links_are i) (h.cost_is i) (h.total i) (h.whole i)
+
+  pub written_after : (old : List ℕ) → written (tree_drive p (links_in m r.tails r.heads)) old ≡ last_sheet p budget g old
+  written_after old = ap (λ (t : List Link). written (tree_drive p t) old) h.links_are
 
 -- ---- links that are kept are held
 

@@ -69,6 +69,13 @@ unfolding is_unjoined
 no_gap_none p [] e = refl
 no_gap_none p (k ∷ w) e = absurd (omega arith)
 
+-- from the first place on
+pub no_gap_start : (p : Plan) (w : List ℕ) → 0 < length w
+    → NoGapBefore p w w (arc_at p.arcs (get_or w 0 0)).tail (arc_at p.arcs (get_or w 0 0)).head 1
+unfolding is_unjoined
+no_gap_start p [] l = absurd (omega arith)
+no_gap_start p (k ∷ w) l = refl
+
 -- The first place, and what is known of it and of the rest.
 module _ (rows : List (List ℕ)) (w rest : List ℕ) (k : ℕ) (e : w ≡ k ∷ rest) (known : has_foreign (plan_over rows) w ≡ false) where
   first_known : has_foreign (plan_over rows) (k ∷ rest) ≡ false
@@ -84,6 +91,7 @@ module _ (rows : List (List ℕ)) (w rest : List ℕ) (k : ℕ) (e : w ≡ k ∷
   unfolding has_foreign any_of
   rest_known = (or_parts (is_foreign (plan_over rows) k) (any_of (is_foreign (plan_over rows)) rest) first_known).1
 
-  pub no_gap_start : NoGapBefore (plan_over rows) w rest (get_or (get_or rows k []) 0 0) (get_or (get_or rows k []) 1 0) 0
-  unfolding is_unjoined
-  no_gap_start = ap (is_unjoined (plan_over rows)) e ∙ ap (λ (a : Arc). is_broken (plan_over rows).arcs a.head rest a.tail) first_arc
+  pub no_gap_start_known : NoGapBefore (plan_over rows) w rest (get_or (get_or rows k []) 0 0) (get_or (get_or rows k []) 1 0) 0
+  no_gap_start_known =
+      ap (is_unjoined (plan_over rows)) e ∙ no_gap_start (plan_over rows) (k ∷ rest) (omega arith)
+      ∙ ap (λ (a : Arc). is_broken (plan_over rows).arcs a.head rest a.tail) first_arc

@@ -65,6 +65,17 @@ module _ (rows : List (List ℕ)) where
     ];
   }
 
+  pub more_flagged : (flags : List Bool) (i : ℕ) (b : Bool) → i < 256 → b ≡ is_must i → AreFlagged flags i
+      → AreFlagged (set flags i b) (i + 1)
+  more_flagged flags i b l e h = record {
+    long = length-set flags i b ∙ h.long;
+    before = λ k g. elim (ℕ_discrete k i) [
+      | yes q ↦ let s = h.long in rw q (get_or-set_same flags i b false (omega arith) ∙ e)
+      | no q ↦ get_or-set_other flags i k b false q ∙ h.before k (omega arith)
+    ];
+    after = λ k g. get_or-set_other flags i k b false (omega arith) ∙ h.after k (omega arith);
+  }
+
   pub all_flagged : (flags : List Bool) (i : ℕ) → i ≡ length rows → AreFlagged flags i → AreDue flags (required_numbers (plan_over rows))
   all_flagged flags i e h = record {
     long = h.long;

@@ -1,8 +1,11 @@
 -- The number and the machine of an entry and of a turn, by what they answer.
-use Rattle.std.specs.Prelude.{◌≡◌, Result, Ok, Bool, true, false, cond, List, ◌++◌, ℕ, T, ℤ, pos, drop}
-use Rattle.std.proofs.Common.{sym, ◌∙◌, subst}
-use Rattle.std.proofs.Math.Path.{ap}
+use Rattle.std.specs.Prelude.{◌≡◌, Result, Ok, Bool, true, false, cond, List, ◌++◌, ℕ, ◌^◌, ◌<◌, T, ℤ, pos, drop}
+use Rattle.std.proofs.Common.{sym, ◌∙◌, subst, to_z, of_z}
+use Rattle.std.proofs.Math.Path.{ap, subst⁻¹}
 use Rattle.std.proofs.Math.Option.{Option, some, some-ne-none}
+use Rattle.std.specs.Int.{w64}
+use Rattle.std.specs.Int.Signed.{mag}
+use Rattle.integers.specs.Linear.{back64}
 use Rattle.postman.specs.Refusal.{unless}
 use Rattle.refusal.specs.declared.Refusal.{Refusal}
 use Rattle.district_entry.specs.declared.enter.Entered.{Entered}
@@ -40,6 +43,11 @@ module _ (r : Entered) (bytes : List ℕ) where
         sized = λ g. absurd (some-ne-none k (sym f ∙ g));
       }
 
+-- The number is the same once it has been a word of 64 bits.
+pub entry_back : {r : Entered} {bytes bytes' : List ℕ} {n : ℤ} → mag n < 2 ^ 63 → IsEntryStored r bytes bytes' n
+    → IsEntryStored r bytes bytes' (to_z w64 (of_z w64 n))
+entry_back {r} {bytes} {bytes'} {n} small h = subst⁻¹ (IsEntryStored r bytes bytes') (back64 n small) h
+
 module _ (r : Turned) (bytes words : List ℕ) (u : List ℤ) where
   abbrev moved : List ℕ
   moved = machine_bytes r.machine ++ drop districts_bytes bytes
@@ -70,6 +78,15 @@ module _ (r : Turned) (bytes words : List ℕ) (u : List ℤ) where
     machine_put : bytes' ≡ cond (had_turn r.outcome) moved bytes
     machine_put = b ∙ ap (λ (b : Bool). cond b moved bytes) (sym had)
 
+    pub one_turn : had_last o ≡ false → IsTurnHandedOver r bytes bytes' words words' u u n
+    one_turn l = record {
+      number_is = e ∙ ap (λ (x : Outcome). one_number (outcome_number x)) (sym a);
+      machine_is = machine_put;
+      sized = λ h. z;
+      words_are = words_put;
+      multipliers_are = ap (λ (b : Bool). cond b (put_first (u_list r.planned) u) u) (sym (ap had_last a ∙ l));
+    }
+
     pub last_turn : had_last o ≡ true → (u' : List ℤ) → u' ≡ put_first (u_list r.planned) u
         → IsTurnHandedOver r bytes bytes' words words' u u' n
     last_turn l u' h = record {
@@ -79,3 +96,9 @@ module _ (r : Turned) (bytes words : List ℕ) (u : List ℤ) where
       words_are = words_put;
       multipliers_are = h ∙ ap (λ (b : Bool). cond b (put_first (u_list r.planned) u) u) (sym (ap had_last a ∙ l));
     }
+
+pub turn_back : {r : Turned} {bytes bytes' words words' : List ℕ} {u u' : List ℤ} {n : ℤ} → mag n < 2 ^ 63
+    → IsTurnHandedOver r bytes bytes' words words' u u' n
+    → IsTurnHandedOver r bytes bytes' words words' u u' (to_z w64 (of_z w64 n))
+turn_back {r} {bytes} {bytes'} {words} {words'} {u} {u'} {n} small h =
+    subst⁻¹ (IsTurnHandedOver r bytes bytes' words words' u u') (back64 n small) h

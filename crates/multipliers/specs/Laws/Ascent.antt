@@ -17,6 +17,8 @@ use Rattle.postman.specs.Steps.{Plannable, cell}
 use Rattle.postman_laws.specs.Laws.Required.{required_below}
 use Rattle.residual_search.specs.Search.{beyond}
 use Rattle.balance.specs.Balance.{balance}
+use Rattle.residual_search.specs.Bounds.{AtMost}
+use Rattle.balance.specs.Laws.Step.{vertices_small}
 use Rattle.pair_costs.specs.PairCosts.{multipliers_in}
 use Rattle.ascent.specs.Step.{Step, step}
 use Rattle.ascent.specs.Laws.Bodies.{step_small}
@@ -151,6 +153,9 @@ module _ {p : Plan} {table : List (List ℕ)} {f vs : List ℕ} {s : Setting} (h
   step_as c i = rw (k.distances, h.amounts_are, k.vertices, components_are, h.components.all)
 
   -- what the functions of the ascent ask
+  pub vertices_low : AtMost 63 vs
+  vertices_low = vertices_small (cell table) vs (base_metric p table vs k)
+
   pub some_vertices : 0 < length vs
   some_vertices = some_place p table vs (balance (cell (table_of p)) p []) (record { known = k; base_is = refl })
 

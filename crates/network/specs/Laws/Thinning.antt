@@ -45,6 +45,15 @@ module _ (d : List (List ℕ)) (held : List Bool) (i j : ℕ) where
         → between d held i j k ≡ true
     via_found a b e = both (both a b) e
 
+    pub via_first : flag held i k ≡ false → between d held i j k ≡ false
+    via_first e = no_left _ (no_left _ e)
+
+    pub via_second : flag held k j ≡ false → between d held i j k ≡ false
+    via_second e = no_left _ (no_right (flag held i k) e)
+
+    pub via_long : eqb (cell d i j) (cell d i k + cell d k j) ≡ false → between d held i j k ≡ false
+    via_long e = no_right (flag held i k && flag held k j) e
+
 -- what is held is among the pairs
 abbrev pub Fewer : List Bool → List Bool → Type 0
 Fewer pairs held = (x : ℕ) → get_or held x false ≡ true → get_or pairs x false ≡ true

@@ -1,11 +1,11 @@
 -- What each call answers, by the verdict that it came to.
-use Rattle.std.specs.Prelude.{◌≡◌, refl, Ok, ◌≢◌, List, [], ℕ, ◌≤◌}
+use Rattle.std.specs.Prelude.{◌≡◌, refl, Ok, ◌≢◌, List, [], ℕ, ◌≤◌, ◌<◌}
 use Rattle.std.proofs.Math.Path.{sym}
-use Rattle.std.proofs.Common.{◌∙◌, le-ltb, ne_eqb}
+use Rattle.std.proofs.Common.{◌∙◌, lt-ltb, le-ltb, eq-eqb, ne_eqb}
 use Rattle.std.proofs.Math.Option.{Option, none, some}
 use Rattle.postman.specs.Refusal.{first_refusal, unless}
 use Rattle.postman.specs.PlanFile.{file_conditions}
-use Rattle.postman.specs.OpenPlan.{Change, Call, return}
+use Rattle.postman.specs.OpenPlan.{Change, Call, mark, return}
 use Rattle.open_plan.specs.declared.OpenPlan.{OpenPlan}
 use Rattle.open_plan.specs.declared.Moved.{Moved}
 use Rattle.held_file.specs.declared.Held.{Held}
@@ -30,6 +30,18 @@ answer_of o s t r e a = record { verdict = a.verdict; state = a.state ∙ e }
 
 -- 21, by the tests of a mark's number and of what the mark holds
 module _ (s : OpenPlan) (k : ℕ) where
+  pub mark_above : 3 < k → refusal_of s (mark k) ≡ some 21
+  mark_above h = rw (lt-ltb 3 k h) refl
+
+  pub mark_good : k ≤ 3 → refusal_of s (mark k) ≡ none
+  mark_good h = rw (le-ltb 3 k h) refl
+
+  pub return_above : 3 < k → refusal_of s (return k) ≡ some 21
+  return_above h = rw (lt-ltb 3 k h) refl
+
+  pub return_unset : k ≤ 3 → (mark_in s k).length ≡ 0 → refusal_of s (return k) ≡ some 21
+  return_unset h z = rw (le-ltb 3 k h, eq-eqb _ _ z) refl
+
   pub return_set : k ≤ 3 → (mark_in s k).length ≢ 0 → refusal_of s (return k) ≡ none
   return_set h z = rw (le-ltb 3 k h, ne_eqb _ _ z) refl
 

@@ -28,7 +28,7 @@ use Rattle.postman_laws.specs.Laws.Component.{component_at}
 use Rattle.postman_laws.specs.Laws.SignedSum.{≤ℤ-trans, ≤ℤ-antisym}
 use Rattle.cheapest_tree.specs.Cheapest.{IsCheapest}
 use Rattle.pair_costs.specs.Pairs.{IsPair, IsPairMatrix, others_of}
-use Rattle.cheapest_tree.specs.CostMatrix.{matrix_of, others_in, highest}
+use Rattle.cheapest_tree.specs.CostMatrix.{matrix_of, others_in, highest, IsCostMatrix}
 use Rattle.pair_costs.specs.PairCosts.{cost_of, are_required, offer_of, entry_for, ArePairCosts, IsLesser, AreLeastOffers, HoldsNetwork, multipliers_in}
 use Rattle.pair_costs.specs.Laws.Pairs.{pairs_links}
 
@@ -243,6 +243,10 @@ module _ (d : List (List ℕ)) (u : List ℤ) (c : List ℕ) (r : List Bool) (ok
       answer a f q = let n = net.components in
           pairs_links p wf (omega arith) (multipliers_in u) (matrix_of m) pair_matrix f a
           (subst (λ (x : List ℕ). IsCheapest x (matrix_of m) a) others_same q)
+
+  pub first_matrix : (k : ℕ) → 1 ≤ k → (m : List ℤ) → AreLeastOffers d u c r 4096 m → (left : List Bool)
+      → ((q : ℕ) → q < 8 → get_or left q false ≡ ltb q k) → IsCostMatrix m left
+  first_matrix k some m h left all = record { low = h.low; high = h.high; root = all 0 (omega arith) ∙ lt-ltb 0 k some }
 
 -- before any pair nothing is offered
 pub offers_none : (d : List (List ℕ)) (u : List ℤ) (c : List ℕ) (r : List Bool) → AreLeastOffers d u c r 0 (replicate 64 (pos highest))

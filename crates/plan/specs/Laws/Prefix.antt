@@ -22,3 +22,6 @@ module _ {A : Type 0} (size : ℕ) (z : A) (f : ℕ → A) where
       | no q ↦ get_or-set_other xs n i x z q ∙ h.before i (omega arith)
     ];
   }
+
+  pub prefix_all : (xs : List A) (n : ℕ) → Prefix size z f xs n → size ≤ n → (i : ℕ) → i < size → get_or xs i z ≡ f i
+  prefix_all xs n h g i l = h.before i (omega arith)

@@ -1,6 +1,6 @@
 -- The whole call: where the file is refused, so is the call; where it is not, the first condition that applies is among the rest.
 use Rattle.std.specs.Prelude.{◌≡◌, ℕ, length, Result}
-use Rattle.std.proofs.Common.{sym, ◌∙◌}
+use Rattle.std.proofs.Common.{sym, ◌∙◌, subst}
 use Rattle.std.proofs.Math.Path.{ap}
 use mathlib.Core.List.{List, [], ◌∷◌, ◌++◌}
 use Rattle.std.proofs.Math.Option.{none, some}
@@ -67,3 +67,7 @@ pub is_call : (bytes : List ℕ) (budget : ℕ) (old new : List ℕ) (r : Result
 is_call bytes budget old new r i =
     let c = cut_off bytes budget (length old) in
     record { planned = i; cut_off = ((λ e. c.0 (sym i.verdict ∙ e)), (λ h. i.verdict ∙ c.1 h)) }
+
+pub call_as : (bytes : List ℕ) (b c : ℕ) (old new : List ℕ) (r : Result Planned Refusal) → b ≡ c → IsPlanCall bytes b old new r
+    → IsPlanCall bytes c old new r
+call_as bytes b c old new r e i = subst (λ (b : ℕ). IsPlanCall bytes b old new r) e i

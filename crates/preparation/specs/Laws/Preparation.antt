@@ -1,6 +1,6 @@
 -- A preparation: the vertices that are flagged are the required ones, which are a part of their array; its components are one to eight.
-use Rattle.std.specs.Prelude.{Bool, false, List, ℕ, ◌≤◌, get_or, take}
-use Rattle.std.proofs.Common.{◌∙◌, arith}
+use Rattle.std.specs.Prelude.{◌≡◌, Bool, false, List, ℕ, ◌≤◌, length, get_or, take}
+use Rattle.std.proofs.Common.{◌∙◌, arith, length-take}
 use Rattle.postman.specs.Lists.{select, below}
 use Rattle.postman.specs.Plan.{Plan}
 use Rattle.postman.specs.Required.{required}
@@ -10,7 +10,7 @@ use Rattle.candidates.specs.Holds.{Holds}
 use Rattle.multipliers.specs.Prepared.{IsKnown}
 use Rattle.multipliers.specs.Laws.Solve.{some_component}
 use Rattle.preparation.specs.declared.prepare.Preparation.{Preparation}
-use Rattle.preparation.specs.Preparation.{IsPreparation}
+use Rattle.preparation.specs.Preparation.{vertices_in, IsPreparation}
 
 -- ---- the vertices that are flagged
 
@@ -30,6 +30,12 @@ module _ (p : Plan) (table : List (List ℕ)) (k : IsKnown p table (required p))
 -- ---- what is read off
 
 module _ (p : Plan) (table : List (List ℕ)) (r : Preparation) (h : IsPreparation p table r) where
+  pub vertices_fit : r.vertices.count ≤ length r.vertices.list
+  vertices_fit = let a = h.vertices.size in let b = h.vertices.fits in omega arith
+
+  pub vertices_length : r.vertices.count ≡ length (vertices_in r)
+  vertices_length = let a = length-take r.vertices.count r.vertices.list in let b = vertices_fit in omega arith
+
   pub component_range : (1 ≤ r.network.components) × (r.network.components ≤ 8)
   component_range =
       let k = h.base.known in

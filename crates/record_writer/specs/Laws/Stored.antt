@@ -1,6 +1,6 @@
 -- What k stores leave, by induction on k.
 use Rattle.std.specs.Prelude.{◌≡◌, refl, List, [], ◌∷◌, ◌++◌, map, ℕ, zero, suc, ◌≤◌, length, get_or, set, take, drop}
-use Rattle.std.proofs.Common.{sym, ap, ◌∙◌, add-one, arith, length-take-le, drop-cons}
+use Rattle.std.proofs.Common.{sym, ap, ◌∙◌, add-one, arith, length-set, length-take-le, drop-cons}
 use Rattle.std.proofs.lemmas.List.{set_at}
 use Rattle.std.proofs.Math.Seq.{append_snoc}
 use Rattle.std.proofs.lemmas.Grind.{common_steps}
@@ -8,6 +8,10 @@ use Rattle.postman.specs.Lists.{below}
 use Rattle.plan.specs.declared.Arc.{Arc}
 use Rattle.postman_laws.specs.Laws.Below.{length_map_below, map_below_more}
 use Rattle.record_writer.specs.Stored.{stored_to}
+
+pub length_stored : (new : ℕ → Arc) (records : List Arc) (k : ℕ) → length (stored_to new records k) ≡ length records
+length_stored new records zero = refl
+length_stored new records (suc k) = length-set (stored_to new records k) k (new k) ∙ length_stored new records k
 
 -- k stores leave the new records before those from k on.
 pub stored_is : (new : ℕ → Arc) (records : List Arc) (k : ℕ) → k ≤ length records

@@ -1,6 +1,6 @@
 -- Writing from a lent list: its plan by value is refused as the list is, and is the same plan where it is not.
-use Rattle.std.specs.Prelude.{◌≡◌, refl, drop}
-use Rattle.std.proofs.Common.{sym, ap, ◌∙◌, arith, ext_get_or, lt-ltb, le-ltb}
+use Rattle.std.specs.Prelude.{◌≡◌, refl, take, drop}
+use Rattle.std.proofs.Common.{sym, ap, ◌∙◌, arith, drop_of_length-le, ext_get_or, take_all, lt-ltb, le-ltb}
 use mathlib.Core.List.{List, map}
 use Rattle.std.proofs.Math.Option.{some}
 use Prim.Native.Nat.{ℕ, ◌<◌, ◌≤◌}
@@ -34,6 +34,21 @@ pub at_most_limit : (n limit : ℕ) → limit ≤ n → at_most n limit ≡ limi
 at_most_limit n limit h = rw (le-ltb n limit h) refl
 
 -- as many of a list's elements as a number says, or all of them
+module _ {A : Type 0} (xs : List A) (n limit : ℕ) (long : length xs ≡ limit) where
+  pub take_at_most : take (at_most n limit) xs ≡ take n xs
+  take_at_most = elim (dec_lt n limit) [
+    | yes l ↦ ap (λ (k : ℕ). take k xs) (at_most_same n limit (omega arith))
+    | no l ↦ ap (λ (k : ℕ). take k xs) (at_most_limit n limit (omega arith)) ∙ take_all limit xs (omega arith)
+        ∙ sym (take_all n xs (omega arith))
+  ]
+
+  pub drop_at_most : drop (at_most n limit) xs ≡ drop n xs
+  drop_at_most = elim (dec_lt n limit) [
+    | yes l ↦ ap (λ (k : ℕ). drop k xs) (at_most_same n limit (omega arith))
+    | no l ↦ ap (λ (k : ℕ). drop k xs) (at_most_limit n limit (omega arith)) ∙ drop_of_length-le xs {i = limit} (omega arith)
+        ∙ sym (drop_of_length-le xs {i = n} (omega arith))
+  ]
+
 -- ---- a list of at most 256 records
 
 module _ (n : ℕ) (records : List ArcRecord) where

@@ -34,6 +34,10 @@ module _ (n : ℕ) (π σ : ℕ → ℕ) (h : IsNumbering n π σ) where
   from_inside few v l =
       elim (dec_le n v) [ yes g ↦ let o = outside_back v g in omega arith | no g ↦ let o = inside_back v (omega arith) in omega arith ]
 
+  -- a numbering of fewer vertices is one of 64
+  pub of_all : n ≤ 64 → IsNumbering 64 π σ
+  of_all few = record { inside = to_inside few; outside = λ v l. h.outside v (omega arith); back = h.back; forth = h.forth }
+
 -- ---- exchanges
 
 -- g is f, but for what it gives to a and to b
@@ -102,6 +106,9 @@ module _ (n : ℕ) (few : n ≤ 64) (x : Numbering) (h : IsNumberingOf n x) wher
 
   pub vertex_in : (v : ℕ) → v < 64 → get_or x.from v 0 < 64
   vertex_in v l = let e = entry_from v l in let f = from_inside n _ _ h.numbers few v l in omega arith
+
+  pub as_all : IsNumberingOf 64 x
+  as_all = record { long_to = h.long_to; long_from = h.long_from; numbers = of_all n _ _ h.numbers few }
 
   pub exchanged_numbering : (i j : ℕ) → i < n → j < n → IsNumberingOf n (exchanged i j x)
   unfolding exchanged

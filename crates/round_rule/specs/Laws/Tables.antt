@@ -25,7 +25,7 @@ use Rattle.call_steps.specs.Laws.Call.{parts_refusal}
 use Rattle.renumbering.specs.declared.numbering.Numbering.{Numbering}
 use Rattle.renumbering.specs.Numbering.{IsNumberingOf}
 use Rattle.renumbering.specs.Renumbered.{Inside, IsRenumberedTable}
-use Rattle.renumbering.specs.Laws.Numbering.{to_inside}
+use Rattle.renumbering.specs.Laws.Numbering.{to_inside, from_inside}
 use Rattle.round_rule.specs.Rounds.{under}
 
 -- ---- a plan that is not refused
@@ -43,6 +43,9 @@ plan_accepted p w e =
 -- ---- under a numbering
 
 module _ (p : Plan) (ok : WellFormed p) (x : Numbering) (h : IsNumberingOf p.n x) where
+  pub inside_from : Inside x.from
+  inside_from = (h.long_from, from_inside p.n _ _ h.numbers ok.vertices)
+
   pub inside_to : Inside x.to
   inside_to = (h.long_to, to_inside p.n _ _ h.numbers ok.vertices)
 

@@ -237,6 +237,9 @@ module _ {p : Plan} {table : List (List ℕ)} {vs start source tails heads : Lis
         (entered p (names_in b) b.a l))
         ∙ advance_append f (held_in m g) (branches (take i c)) (behind (entered p (names_in b) b.a l)))
 
+  pub more_left : b.a ≢ k → b.a < k
+  more_left o = elim (ℕ_discrete b.a k) [ yes e ↦ absurd (o e) | no d ↦ (let m = is.most in let e = h.count in omega arith) ]
+
   pub explored_start : (n : ℕ) → n ≡ 0 → (g : Progress) → IsExplored p (branches (take n (candidates p b.a))) g g
   explored_start n e g =
       subst⁻¹ (λ (ls : List Link). IsExplored p (branches ls) g g)

@@ -1,12 +1,15 @@
 -- Rows of costs from all sources side by side: place 64 v + i is in the row from i alone, so that a store changes one row, in one entry.
-use Rattle.std.specs.Prelude.{◌≡◌, refl, List, [], ◌∷◌, ◌++◌, map, ℕ, ◌+◌, ◌*◌, ◌≤◌, ◌<◌, length, set, take, replicate}
-use Rattle.std.proofs.Common.{sym, ap₂, ◌∙◌, zero-add, arith, length-set, get_or-set_same, get_or-set_other, ext_get_or}
-use Rattle.std.proofs.Math.Path.{ap}
+use Rattle.std.specs.Prelude.{◌≡◌, refl, Bool, true, false, nat_eq, List, [], ◌∷◌, ◌++◌, map, ℕ, ◌+◌, ◌*◌, ◌≤◌, ◌<◌, T, eqb, length, set, take, replicate}
+use Rattle.std.proofs.Common.{sym, ap₂, ◌∙◌, zero-add, arith, eq-eqb, eqb→eq, length-set, get_or-set_same, get_or-set_other, ext_get_or}
+use Rattle.std.proofs.Math.Path.{ap, subst⁻¹}
 use Rattle.std.proofs.Math.Decide.{ℕ_discrete}
 use Rattle.std.proofs.Math.ListN.{get_or, length-map}
 use Rattle.std.proofs.lemmas.List.{length-replicate, get_or-replicate}
+use Rattle.std.proofs.lemmas.Cmp.{nat_list_eq_equiv}
+use lib.Pointwise.{pointwise}
 use Rattle.postman.specs.Lists.{below}
-use Rattle.postman.specs.Laws.Membership.{length_below, get_d_map_up_from}
+use Rattle.postman.specs.Laws.Membership.{length_below, get_d_map_up_from, all_of_mem, all_of_at, mem_below, below_mem}
+use Rattle.postman.specs.Laws.Tests.{is_true, is_false}
 use Rattle.postman.specs.Plan.{Arc, WellFormed}
 use Rattle.postman.specs.Distance.{no_path}
 use Rattle.plan.specs.declared.Plan.{Plan as PlanRecord}
@@ -14,7 +17,7 @@ use Rattle.plan.specs.Records.{plan_value, arc_value, record_at, zero_record}
 use Rattle.plan.specs.Laws.Records.{arcs_more, walked_below, walked_record}
 use Rattle.shortest.specs.Weight.{heavy}
 use Rattle.shortest.specs.Relaxation.{weight, shorter, relax_arc, relax_arcs}
-use Rattle.shortest.specs.Columns.{row_from, relax_by}
+use Rattle.shortest.specs.Columns.{row_from, relax_by, are_same}
 use Rattle.shortest.specs.Laws.Relaxation.{relax_arcs_snoc}
 
 module _ (c : List ℕ) (i : ℕ) where
@@ -99,6 +102,37 @@ pub relaxed_walk : (r : PlanRecord) (ok : WellFormed (plan_value r)) (n : ℕ) �
 relaxed_walk r ok n e k l row t h w p q s f g =
     let a = walked_record r ok n e k l in
     relaxed_more r ok k (walked_below r ok n e k l) row w f (rw a at s) (rw (p, q, a) at g)
+
+-- rows all of whose entries are the same
+same_rows : (a b : List ℕ) → ((x : ℕ) → x < 4096 → get_or a x 0 ≡ get_or b x 0) → (i : ℕ) → i < 64 → (v : ℕ) → v < 64
+    → get_or (row_from a i) v 0 ≡ get_or (row_from b i) v 0
+same_rows a b h i l v m = row_at a i v m ∙ h (v * 64 + i) (omega arith) ∙ sym (row_at b i v m)
+
+-- arrays that are the same, and the first entry that differs
+pub all_same : (a b : List ℕ) → ((x : ℕ) → x < 4096 → get_or a x 0 ≡ get_or b x 0) → true ≡ are_same a b
+unfolding are_same
+all_same a b h =
+    sym (is_true (all_of_mem (λ x. eqb (get_or a x 0) (get_or b x 0)) (below 4096) (λ x m. subst⁻¹ T (eq-eqb _ _ (h x (below_mem m))) tt)))
+
+pub one_differs : (a b : List ℕ) (x : ℕ) → x < 4096 → (get_or a x 0 ≡ get_or b x 0 → ⊥) → false ≡ are_same a b
+unfolding are_same
+one_differs a b x l h = sym (is_false (λ t. h (eqb→eq _ _ (all_of_at (λ x. eqb (get_or a x 0) (get_or b x 0)) (mem_below l) t))))
+
+-- the library's test of two lists
+pub same_test : (a b : List ℕ) → length a ≡ 4096 → length b ≡ 4096 → (x : Bool) → x ≡ pointwise nat_eq a b
+    → (x ≡ true → a ≡ b) → x ≡ are_same a b
+unfolding are_same
+same_test a b m n true e h = all_same a b (λ x l. ap (λ (xs : List ℕ). get_or xs x 0) (h refl))
+same_test a b m n false e h =
+    sym (is_false (λ t.
+    let f = ext_get_or 0 a b (m ∙ sym n)
+    (λ i l. let k : i < 4096 = omega arith in eqb→eq _ _ (all_of_at (λ x. eqb (get_or a x 0) (get_or b x 0)) (mem_below k) t)) in
+    subst⁻¹ T (e ∙ ap (pointwise nat_eq a) (sym f) ∙ nat_list_eq_equiv.refl a) tt))
+
+pub same_entries : (a b : List ℕ) → are_same a b ≡ true → (i : ℕ) → i < 64 → (v : ℕ) → v < 64
+    → get_or (row_from a i) v 0 ≡ get_or (row_from b i) v 0
+unfolding are_same
+same_entries a b e = same_rows a b (λ x l. eqb→eq _ _ (all_of_at (λ x. eqb (get_or a x 0) (get_or b x 0)) (mem_below l) (subst⁻¹ T e tt)))
 
 -- ---- the paths of no arc
 pub start_none : (j : ℕ) → j < 64 → row_from (replicate 4096 no_path) j ≡ replicate 64 no_path

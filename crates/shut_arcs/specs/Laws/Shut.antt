@@ -2,7 +2,7 @@
 -- hold the arcs of the plan at a departure stand for that plan.
 use Rattle.std.specs.Prelude.{◌≡◌, Bool, ◌&&◌, ◌≢◌, List, ℕ, ◌<◌, ◌≤◌, ltb}
 use Rattle.std.proofs.Math.Path.{refl, subst}
-use Rattle.std.proofs.Common.{sym, ap}
+use Rattle.std.proofs.Common.{sym, ap, ◌∙◌}
 use Rattle.std.proofs.Math.Bool.{true, false}
 use native.Mathlib.Omega.{arith}
 use borrow.Author.Tests.{le-leb, lt-leb, eq-eqb, ne_eqb}
@@ -16,7 +16,7 @@ use Rattle.postman_laws.specs.Laws.Required.{numbers_mem, mem_numbers}
 use Rattle.postman_laws.specs.Laws.Windows.{at_length, at_arc}
 use Rattle.plan.specs.declared.Arc.{Arc as ArcRecord}
 use Rattle.plan.specs.declared.Plan.{Plan as PlanRecord}
-use Rattle.plan.specs.Records.{record_at, plan_value}
+use Rattle.plan.specs.Records.{record_of, record_at, plan_value}
 use Rattle.plan.specs.Laws.Made.{HoldMade, made_plan}
 use Rattle.plan.specs.Laws.Records.{plan_length, plan_arc}
 
@@ -44,6 +44,11 @@ module _ (d : Departure) (k : ℕ) (w : Window) where
           rw (x, y, e) refl
 
 pub ruleset of_window = (other_arc, other_day, too_early, by_end)
+
+-- ---- one arc of the plan at a departure
+
+pub closed_as : (a : Arc) (b c : Bool) (x : ArcRecord) → x ≡ record_of (closed_if b a) → b ≡ c → x ≡ record_of (closed_if c a)
+closed_as a b c x e f = e ∙ ap (λ (b : Bool). record_of (closed_if b a)) f
 
 -- ---- must arcs that are shut
 

@@ -2,8 +2,9 @@
 -- sum is large, since the tree's drive is short.
 use Rattle.std.specs.Prelude.{◌≡◌, ℕ, zero, suc, ◌+◌, ◌≤◌, ◌<◌, length, get_or, take}
 use Rattle.std.proofs.Math.Path.{refl, ap}
-use Rattle.std.proofs.Common.{ap₂, ◌∙◌, arith}
+use Rattle.std.proofs.Common.{sym, ap₂, ◌∙◌, arith}
 use mathlib.Core.List.{List, [], ◌∷◌, map, Memᴰ}
+use Rattle.std.proofs.Math.Seq.{take-length}
 use Rattle.postman.specs.Lists.{sum_of}
 use Rattle.postman.specs.Plan.{Plan}
 use Rattle.postman.specs.Link.{Link}
@@ -45,6 +46,12 @@ cost_part d zero ts hs = omega arith
 cost_part d (suc n) [] hs = omega arith
 cost_part d (suc n) (t ∷ ts) [] = omega arith
 cost_part d (suc n) (t ∷ ts) (h ∷ hs) = let i = cost_part d n ts hs in omega arith
+
+pub cost_all : (d : List (List ℕ)) (n : ℕ) (ts hs : List ℕ) → n ≡ length ts → length hs ≡ length ts
+    → table_cost d (links_of (take n ts) (take n hs)) ≡ table_cost d (links_of ts hs)
+cost_all d n ts hs e f =
+    ap (λ k. table_cost d (links_of (take k ts) (take k hs))) e
+    ∙ ap₂ (λ (a b : List ℕ). table_cost d (links_of a b)) (take-length ts) (ap (λ k. take k hs) (sym f) ∙ take-length hs)
 
 -- ---- a tree
 

@@ -3,7 +3,7 @@ use Rattle.std.proofs.Common.{rules, arith, sym, ap, ◌∙◌}
 use Rattle.postman.specs.Plan.{Arc}
 use Rattle.drive_tally.specs.Rows.{plan_over}
 use Rattle.drive_tally.specs.Laws.Places.{place_row, place_arc}
-use Rattle.drive_tally.specs.Laws.Faults.{no_gap_none, first_row, rest_known, no_gap_start, no_gap_next, gap_here, last_joint}
+use Rattle.drive_tally.specs.Laws.Faults.{no_gap_none, first_row, rest_known, no_gap_start_known, no_gap_next, gap_here, last_joint}
 use Rattle.drive_tally.proofs.faults.is_unjoined.Goals as goal
 
 pub returns-in_default : goal.returns-in_default
@@ -16,7 +16,7 @@ pub bounds-arcs-first-in-Some : goal.bounds-arcs-first-in-Some
 bounds-arcs-first-in-Some c = first_row c.args.arcs.now c.args.places.now _ _ c.in-Some.ensures.cases.0 c.requires
 
 pub loop-place-init : goal.loop-place-init
-loop-place-init c = no_gap_start c.args.arcs.now c.args.places.now _ _ c.in-Some.ensures.cases.0 c.requires
+loop-place-init c = no_gap_start_known c.args.arcs.now c.args.places.now _ _ c.in-Some.ensures.cases.0 c.requires
 
 pub bounds-arcs-k : goal.bounds-arcs-k
 bounds-arcs-k c =

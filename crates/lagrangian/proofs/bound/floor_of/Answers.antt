@@ -3,7 +3,6 @@ use mathlib.Core.Path.{◌≡◌, ap₂, ◌∙◌}
 use mathlib.Core.Bool.{false}
 use Rattle.integers.specs.Linear.{back64}
 use Rattle.postman.specs.Lists.{maxℤ}
-use Rattle.lagrangian.specs.Laws.Price.{max_is}
 use Rattle.lagrangian.specs.Laws.Bound.{zero_bound}
 use Rattle.lagrangian.proofs.bound.floor_of.Goals as goal
 
@@ -11,5 +10,4 @@ pub returns : goal.returns
 returns c =
     let e : c.args.whole ≡ false = c.if-whole.false in
     let l = c.lagrangian-without in
-    let m = c.max in
-    λ p h. rw e (back64 _ m.type_inv ∙ m.ensures.value ∙ max_is _ _ ∙ ap₂ maxℤ (back64 _ l.type_inv ∙ l.ensures p h ∙ zero_bound p) (back64 _ c.ranges.bound.sfits))
+    λ p h. rw e (back64 _ c.larger.type_inv ∙ c.larger.ensures ∙ ap₂ maxℤ (back64 _ l.type_inv ∙ l.ensures p h ∙ zero_bound p) (back64 _ c.ranges.bound.sfits))
